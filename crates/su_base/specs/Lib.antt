@@ -1,0 +1,4 @@
+pub mod BitSet
+pub mod Name
+pub mod Value
+pub mod formers

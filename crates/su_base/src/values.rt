@@ -1,0 +1,79 @@
+//! Values, rows and columns.
+ghost use Rattle.std.specs.Prelude.{◌≡◌, IfOk};
+ghost use Rattle.su_base.specs.Value.{compare_values, compare_lists, kind_of};
+
+use crate::lists::{List, NoMemory};
+use crate::texts::Str;
+use std::alloc::Global;
+use std::cmp::Ordering;
+
+/// The kind of a value.
+#[derive(Clone, Copy, PartialEq, Eq, Debug)]
+pub enum Kind {
+    Int,
+    Text,
+}
+
+/// A whole number or a text. Whole numbers stand before texts.
+#[derive(PartialEq, Eq, PartialOrd, Ord, Hash, Debug, Drop)]
+pub enum Value {
+    Int(i64),
+    Text(Str),
+}
+
+impl Value {
+    /// Whether it is a number or a text.
+    pub fn kind(&self) -> Kind
+        ensures { result ≡ kind_of self.now }
+    {
+        match self {
+            Value::Int(_) => Kind::Int,
+            Value::Text(_) => Kind::Text,
+        }
+    }
+
+    /// An equal value of its own.
+    pub fn copy(&self, alloc: Global) -> Result<Value, NoMemory>
+        ensures { IfOk result (λ v. v ≡ self.now) }
+    {
+        match self {
+            Value::Int(n) => Ok(Value::Int(*n)),
+            Value::Text(text) => Ok(Value::Text(text.copy(alloc)?)),
+        }
+    }
+
+    /// Whole numbers before texts, numbers as numbers, texts by their bytes.
+    pub fn compare(&self, other: &Value) -> Ordering
+        ensures { result ≡ compare_values self.now other.now }
+    {
+        self.cmp(other)
+    }
+}
+
+/// One value per column.
+pub type Row = List<Value>;
+
+/// A column of a stored relation.
+#[derive(Debug, Drop)]
+pub struct Column {
+    pub name: Str,
+    pub kind: Kind,
+}
+
+/// Value by value; a row that another begins with stands before it.
+pub fn compare_rows(a: &Row, b: &Row) -> Ordering
+    ensures { result ≡ compare_lists a.now b.now }
+{
+    a.cmp(b)
+}
+
+/// An equal row of its own.
+pub fn copy_row(alloc: Global, row: &Row) -> Result<Row, NoMemory>
+    ensures { IfOk result (λ r. r ≡ row.now) }
+{
+    let mut copied = List::new(alloc);
+    for value in row.as_slice() {
+        copied.push(value.copy(alloc)?)?;
+    }
+    Ok(copied)
+}
