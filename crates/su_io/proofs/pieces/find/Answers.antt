@@ -1,0 +1,6 @@
+use Rattle.std.proofs.Common.{sym, ◌∙◌, arith, rules}
+use Rattle.su_io.proofs.Reading.{front}
+use Rattle.su_io.proofs.pieces.find.Goals as goal
+
+pub returns-then-eq-clause-found : goal.returns-then-eq-clause-found
+returns-then-eq-clause-found c = front c.args.files.now c.loop-place.place c.args.name.now c.index-files-place.result (omega arith) c.index-files-place.is (search rules) ∙ sym c.loop-place.invariant.bytes

@@ -1,0 +1,35 @@
+//! The outside: a shelf of files, a sink of bytes, and whole reads and writes over them.
+//!
+//! Each object counts its faults, and a call answers `Failed` only where that count rose in the
+//! call. What was read and written is told by the objects in memory, and by no real file or stream:
+//! `FileShelf` and `StreamSink` are the trusted edge, a few lines each. A whole read takes memory
+//! for the file alone; a whole write takes none.
+#![tactic(auto)]
+
+mod ends;
+mod file_shelf;
+mod files;
+mod memory_shelf;
+mod memory_sink;
+mod pieces;
+mod shelf;
+mod sink;
+mod steady_shelf;
+mod steady_sink;
+mod stream_sink;
+mod whole;
+
+pub use ends::{Failed, ReadEnd};
+pub use file_shelf::FileShelf;
+pub use files::File;
+pub use memory_shelf::MemoryShelf;
+pub use memory_sink::MemorySink;
+pub use shelf::Shelf;
+pub use sink::Sink;
+pub use steady_shelf::SteadyShelf;
+pub use steady_sink::SteadySink;
+pub use stream_sink::StreamSink;
+pub use whole::{read_all, write_all};
+
+#[cfg(test)]
+mod tests;

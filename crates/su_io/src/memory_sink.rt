@@ -1,0 +1,85 @@
+//! A sink in memory, some of whose calls fail.
+ghost use Rattle.std.specs.Prelude.{◌^◌, min, ◌-◌, ◌≡◌, ◌≤◌, ◌<◌, ◌+◌, ◌↔◌, IsErr, OnErr, Contains, take, length, cond, [], Some, None, true, IfOk, vec_len, vec_capacity};
+ghost use Rattle.su_io.specs.Causes.{HasCause};
+ghost use Rattle.su_io.specs.Ends.{Grew};
+
+use crate::{Failed, Sink};
+use std::alloc::Global;
+use su_base::{List, NoMemory};
+
+/// Bytes in memory, up to a room that is taken when it is made. Calls are numbered from 0, and those
+/// whose numbers were given fail. Past its room it tells nothing of what was written.
+#[derive(Drop)]
+pub struct MemorySink {
+    bytes: Vec<u8>,
+    told: bool,
+    room: usize,
+    fails: List<u64>,
+    piece: usize,
+    calls: u64,
+    faults: u64,
+    ghost positive: { 1 ≤ piece },
+    ghost within: { vec_len bytes ≤ room },
+    ghost roomy: { room ≤ vec_capacity bytes },
+}
+
+impl MemorySink {
+    /// The calls whose numbers, from 0, are in `fails` fail. A write takes at most `piece` bytes.
+    pub fn new(
+        alloc: Global,
+        fails: List<u64>,
+        piece: usize,
+        room: usize,
+    ) -> Result<MemorySink, NoMemory>
+        requires { 1 ≤ piece }
+        ensures empty { IfOk result (λ sink. (sink.bytes.items ≡ []) × (sink.told ≡ true)) }
+        ensures made { IfOk result (λ sink. (sink.fails ≡ fails) × (sink.piece ≡ piece) × (sink.room ≡ room) × (sink.calls ≡ 0) × (sink.faults ≡ 0)) }
+    {
+        Ok(MemorySink {
+            bytes: Vec::with_capacity(alloc, room)?,
+            told: true,
+            room,
+            fails,
+            piece,
+            calls: 0,
+            faults: 0,
+        })
+    }
+
+    /// What was written, up to the room.
+    pub fn written(&self) -> &[u8]
+        ensures { result.now ≡ self.now.bytes.items }
+    {
+        self.bytes.as_slice()
+    }
+}
+
+impl Sink for MemorySink {
+    ghost written = { λ s. cond s.told (Some s.bytes.items) None };
+
+    ghost faults = { λ s. s.faults };
+
+    // The trait's clauses, when the call fails, and how much it takes.
+    fn write(&mut self, bytes: &[u8]) -> Result<usize, Failed>
+        ensures bound { IfOk result (λ count. count ≤ length bytes.now) }
+        ensures progress { IfOk result (λ count. 0 < length bytes.now → 0 < count) }
+        ensures grew { IfOk result (λ count. Grew (cond self.old.told (Some self.old.bytes.items) None) (cond self.new.told (Some self.new.bytes.items) None) (take count bytes.now)) }
+        ensures kept { OnErr result ((self.new.bytes ≡ self.old.bytes) × (self.new.told ≡ self.old.told)) }
+        ensures cause { HasCause self.old.faults self.new.faults result }
+        ensures when { IsErr result ↔ Contains self.old.fails self.old.calls }
+        ensures counted { self.new.calls ≡ min (self.old.calls + 1) (2 ^ 64 - 1) }
+        ensures piece { IfOk result (λ count. count ≤ self.old.piece) }
+    {
+        let due = self.fails.as_slice().contains(&self.calls);
+        self.calls = self.calls.saturating_add(1);
+        if due {
+            self.faults = self.faults.saturating_add(1);
+            return Err(Failed);
+        }
+        let count = bytes.len().min(self.piece);
+        let kept = count.min(self.room - self.bytes.len());
+        let stored = self.bytes.extend_from_slice(&bytes[..kept]).is_ok();
+        self.told = self.told && stored && kept == count;
+        Ok(count)
+    }
+}

@@ -1,0 +1,64 @@
+//! A shelf in memory whose calls never fail.
+ghost use Rattle.std.specs.Prelude.{◌≡◌, ◌≤◌, drop, length, Some, false};
+ghost use Rattle.su_io.specs.Files.{bytes_at};
+
+use crate::pieces::{find, rest_of, take_front};
+use crate::{Failed, File, Shelf};
+use su_base::{List, Str};
+
+/// Files in memory whose reads never fail: a name that no file has is an empty file.
+#[derive(Drop)]
+pub struct SteadyShelf {
+    files: List<File>,
+    place: usize,
+    taken: usize,
+    begun: Option<Str>,
+    ghost within: { taken ≤ length (bytes_at files place) },
+}
+
+impl SteadyShelf {
+    /// A shelf on which no file is begun.
+    pub fn new(files: List<File>) -> SteadyShelf
+        ensures files { result.files ≡ files }
+    {
+        let place = files.len();
+        SteadyShelf {
+            files,
+            place,
+            taken: 0,
+            begun: None,
+        }
+    }
+}
+
+impl Shelf for SteadyShelf {
+    ghost files = { λ s. Some s.files };
+
+    ghost rest = { λ s. Some (drop s.taken (bytes_at s.files s.place)) };
+
+    ghost taken = { λ s. s.taken };
+
+    ghost begun = { λ s. s.begun };
+
+    ghost failed = { λ s. false };
+
+    ghost faults = { λ s. 0 };
+
+    fn begin(&mut self, name: Str) -> Result<(), Failed> {
+        let found = find(self.files.as_slice(), &name);
+        self.begun = Some(name);
+        self.place = match found {
+            Some(place) => place,
+            None => self.files.len(),
+        };
+        self.taken = 0;
+        Ok(())
+    }
+
+    fn read(&mut self, buf: &mut [u8]) -> Result<usize, Failed> {
+        let rest = rest_of(self.files.as_slice(), self.place, self.taken);
+        let count = take_front(rest, buf, usize::MAX);
+        self.taken += count;
+        Ok(count)
+    }
+}
