@@ -1,0 +1,5 @@
+use Rattle.su_fd.proofs.Closing.{closed_equals}
+use Rattle.su_fd.proofs.laws.a_set_is_closed_where_it_equals_its_closure.Goals as goal
+
+pub returns : goal.returns
+returns c = closed_equals

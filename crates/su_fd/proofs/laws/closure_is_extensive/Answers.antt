@@ -1,0 +1,5 @@
+use Rattle.su_fd.proofs.Closing.{extensive}
+use Rattle.su_fd.proofs.laws.closure_is_extensive.Goals as goal
+
+pub returns : goal.returns
+returns c = extensive

@@ -1,0 +1,5 @@
+use Rattle.su_fd.proofs.Closing.{idempotent}
+use Rattle.su_fd.proofs.laws.closure_is_idempotent.Goals as goal
+
+pub returns : goal.returns
+returns c = idempotent

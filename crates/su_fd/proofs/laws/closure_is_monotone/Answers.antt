@@ -1,0 +1,5 @@
+use Rattle.su_fd.proofs.Closing.{monotone}
+use Rattle.su_fd.proofs.laws.closure_is_monotone.Goals as goal
+
+pub returns : goal.returns
+returns c = monotone

@@ -1,0 +1,5 @@
+use Rattle.su_fd.proofs.Closing.{reflexive}
+use Rattle.su_fd.proofs.laws.determines_is_reflexive.Goals as goal
+
+pub returns : goal.returns
+returns c = reflexive
