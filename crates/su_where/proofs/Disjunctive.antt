@@ -1,0 +1,198 @@
+-- The disjuncts of a condition from those of its parts, how many there are, and which one stands where.
+use Rattle.std.proofs.Common.{◌≡◌, ℕ, ◌+◌, ◌*◌, ◌/◌, ◌%◌, ◌<◌, ◌≤◌, nat_le, ◌⊎◌, inl, inr, min, zero, suc, Bool, true, false, not, if◌then◌else◌, List, [], ◌∷◌, ◌++◌, map, length, get_or, take, drop, refl, sym, ap, subst, add-one, drop-cons, append_assoc, ◌∙◌, arith}
+use Rattle.std.proofs.lemmas.Bool.Decides.{nat_tests}
+use Rattle.std.proofs.lemmas.Nat.{div-add-mod'}
+use Rattle.std.proofs.Math.Seq.{take-suc}
+use Rattle.std.proofs.lemmas.List.{get_or_append_left, get_or-append-add, length-append, length-map, get_or-map}
+use Rattle.std.proofs.Math.Nat.{mul_assoc, mul_comm, mul-zero, zero-mul, mul-div_cancel_left, div-lt_iff_lt-mul, mod-lt, le-mul_of_pos_right}
+use Rattle.su_where.specs.declared.literals.Literal.{Literal}
+use Rattle.su_where.specs.declared.conditions.Cond.{Cond}
+use Rattle.su_where.specs.declared.conditions.Cond.TheOpen as open'
+use Rattle.su_where.specs.declared.conditions.Cond.TheVariants.{Compare, Not, All, Any, rolls-Compare, rolls-Not, rolls-All, rolls-Any}
+use Rattle.su_where.specs.declared.conditions.Cond.TheFolds.{fold-roll-Cond}
+use Rattle.su_where.specs.Disjunct.{opposite_of, pairs_of, combinations_of, joined, form_of, form_step}
+
+-- the disjuncts of each of several conditions
+abbrev pub forms : Bool → List Cond → List (List (List Literal))
+forms b cs = map (λ c. form_of c b) cs
+
+forms-map : (b : Bool) (cs : List Cond) → map (λ p. p b) (map form_of cs) ≡ forms b cs
+forms-map b [] = refl
+forms-map b (c ∷ cs) = ap (λ fs. form_of c b ∷ fs) (forms-map b cs)
+
+pub form_of-Compare : (l : Literal) (b : Bool) → form_of (Compare l) b ≡ ((if b then opposite_of l else l) ∷ []) ∷ []
+form_of-Compare l b = ap (λ d. form_of d b) (sym (rolls-Compare l)) ∙ ap (λ f. f b) (fold-roll-Cond (Bool → List (List Literal)) form_step (open'.Compare l))
+
+pub form_of-Not : (part : Cond) (b : Bool) → form_of (Not part) b ≡ form_of part (not b)
+form_of-Not part b = ap (λ d. form_of d b) (sym (rolls-Not part)) ∙ ap (λ f. f b) (fold-roll-Cond (Bool → List (List Literal)) form_step (open'.Not part))
+
+pub form_of-All : (parts : List Cond) (b : Bool) → form_of (All parts) b ≡ (if b then joined (forms b parts) else combinations_of (forms b parts))
+form_of-All parts b =
+    ap (λ d. form_of d b) (sym (rolls-All parts)) ∙ ap (λ f. f b) (fold-roll-Cond (Bool → List (List Literal)) form_step (open'.All parts))
+    ∙ ap (λ fs. if b then joined fs else combinations_of fs) (forms-map b parts)
+
+pub form_of-Any : (parts : List Cond) (b : Bool) → form_of (Any parts) b ≡ (if b then combinations_of (forms b parts) else joined (forms b parts))
+form_of-Any parts b =
+    ap (λ d. form_of d b) (sym (rolls-Any parts)) ∙ ap (λ f. f b) (fold-roll-Cond (Bool → List (List Literal)) form_step (open'.Any parts))
+    ∙ ap (λ fs. if b then combinations_of fs else joined fs) (forms-map b parts)
+
+pub length-pairs : (a b : List (List Literal)) → length (pairs_of a b) ≡ length a * length b
+length-pairs [] b = grind arith
+length-pairs (d ∷ ds) b = grind (arith, length-append, length-map, length-pairs ds b)
+
+pub length-combinations_push : (fs : List (List (List Literal))) (f : List (List Literal)) → length (combinations_of (fs ++ f ∷ [])) ≡ length (combinations_of fs) * length f
+length-combinations_push [] f = length-pairs f ([] ∷ []) ∙ grind arith
+length-combinations_push (g ∷ gs) f =
+    length-pairs g (combinations_of (gs ++ f ∷ [])) ∙ ap (λ n. length g * n) (length-combinations_push gs f)
+    ∙ sym (mul_assoc (length g) (length (combinations_of gs)) (length f)) ∙ ap (λ n. n * length f) (sym (length-pairs g (combinations_of gs)))
+
+pub length-joined_push : (fs : List (List (List Literal))) (f : List (List Literal)) → length (joined (fs ++ f ∷ [])) ≡ length (joined fs) + length f
+length-joined_push [] f = grind (arith, length-append)
+length-joined_push (g ∷ gs) f = grind (arith, length-append, length-joined_push gs f)
+
+-- counts that stop at 65 add and multiply as the counts do
+pub min-add : (a b m n : ℕ) → a ≡ min m 65 → b ≡ min n 65 → min 65 (a + b) ≡ min (m + n) 65
+min-add a b m n e f = omega arith
+
+same_or_many : (a m : ℕ) → a ≡ min m 65 → (a ≡ m) ⊎ ((a ≡ 65) × (65 ≤ m))
+same_or_many a m e = elim (nat_le m 65) as (λ v. nat_le m 65 ≡ v → (a ≡ m) ⊎ ((a ≡ 65) × (65 ≤ m))) [
+  | true ↦ λ t. inl (grind (arith, nat_tests, t, e))
+  | false ↦ λ t. inr (grind (arith, nat_tests, t, e), grind (arith, nat_tests, t))
+] refl
+
+zero_or_more : (n : ℕ) → (n ≡ 0) ⊎ (0 < n)
+zero_or_more zero = inl refl
+zero_or_more (suc n) = inr (omega arith)
+
+both_many : (x y : ℕ) → 65 ≤ x → 65 ≤ y → min 65 x ≡ min y 65
+both_many x y h k = omega arith
+
+both_same : (x y : ℕ) → x ≡ y → min 65 x ≡ min y 65
+both_same x y e = omega arith
+
+many_times : (m n : ℕ) → 65 ≤ m → 0 < n → 65 ≤ m * n
+many_times m n h k = omega (arith, le-mul_of_pos_right {m = n} m k)
+
+times_many : (m n : ℕ) → 0 < m → 65 ≤ n → 65 ≤ m * n
+times_many m n h k = subst (λ (x : ℕ). 65 ≤ x) (mul_comm n m) (many_times n m k h)
+
+pub min-mul : (a b m n : ℕ) → a ≡ min m 65 → b ≡ min n 65 → min 65 (a * b) ≡ min (m * n) 65
+min-mul a b m n e f =
+    elim (same_or_many a m e) [
+      | inl p ↦ elim (same_or_many b n f) [
+        | inl q ↦ both_same _ _ (ap (λ x. x * b) p ∙ ap (λ x. m * x) q)
+        | inr q ↦ elim (zero_or_more m) [
+          | inl z ↦ both_same _ _ (ap (λ x. x * b) (p ∙ z) ∙ grind arith ∙ ap (λ x. x * n) (sym z))
+          | inr more ↦ both_many _ _ (times_many a b (omega arith) (omega (arith, q.0))) (times_many m n more q.1)
+        ]
+      ]
+      | inr p ↦ elim (zero_or_more n) [
+        | inl z ↦ both_same _ _ (ap (λ x. a * x) (f ∙ ap (λ x. min x 65) z) ∙ grind arith ∙ ap (λ x. m * x) (sym z))
+        | inr more ↦ both_many _ _ (many_times a b (omega (arith, p.0)) (omega arith)) (many_times m n p.1 more)
+      ]
+    ]
+
+-- the disjunct at a place of all pairs
+pub pairs-at : (a b : List (List Literal)) (q r : ℕ) → q < length a → r < length b → get_or (pairs_of a b) (q * length b + r) [] ≡ get_or a q [] ++ get_or b r []
+pairs-at [] b q r h k = absurd (omega arith)
+pairs-at (d ∷ ds) b zero r h k = grind (arith, get_or_append_left (map (λ e. d ++ e) b) (pairs_of ds b) [] r, get_or-map, length-map)
+pairs-at (d ∷ ds) b (suc q) r h k =
+    let e : suc q * length b + r ≡ length (map (λ x. d ++ x) b) + (q * length b + r) = grind (arith, length-map) in
+    ap (λ i. get_or (pairs_of (d ∷ ds) b) i []) e ∙ get_or-append-add (map (λ x. d ++ x) b) (pairs_of ds b) (q * length b + r) [] ∙ pairs-at ds b q r (omega arith) k
+
+-- the quotient and the rest that lead to a disjunct of combined parts
+pub record Split (n m count total left : ℕ) : Type 0 where
+  pub exact : count ≡ n
+  pub some : 0 < n
+  pub others : 0 < m
+  pub behind : total / count ≡ m
+  pub fewer : m ≤ total
+  pub own : n ≤ total
+  pub place : left / m < n
+  pub rest : left % m < m
+  pub whole : left / m * m + left % m ≡ left
+
+pub split : (n m count total left : ℕ) → count ≡ min n 65 → total ≡ n * m → left < total → total ≤ 64 → Split n m count total left
+split n zero count total left c t below few = absurd (omega (arith, t ∙ mul-zero n))
+split zero (suc m) count total left c t below few = absurd (omega (arith, t ∙ zero-mul (suc m)))
+split (suc n) (suc m) count total left c t below few =
+    let up : suc n ≤ suc n * suc m = le-mul_of_pos_right {m = suc m} (suc n) (omega arith) in
+    let exact : count ≡ suc n = omega arith in
+    let whole : left / suc m * suc m + left % suc m ≡ left = div-add-mod' left (suc m) in
+    record {
+      exact = exact;
+      some = omega arith;
+      others = omega arith;
+      behind = ap (λ x. x / count) t ∙ ap (λ x. suc n * suc m / x) exact ∙ mul-div_cancel_left (suc m) (omega arith);
+      own = subst (λ (x : ℕ). suc n ≤ x) (sym t) up;
+      fewer = subst (λ (x : ℕ). suc m ≤ x) (mul_comm (suc m) (suc n) ∙ sym t) (le-mul_of_pos_right {m = suc n} (suc m) (omega arith));
+      place = (div-lt_iff_lt-mul {k = suc m} (omega arith)).1 (subst (λ (x : ℕ). left < x) t below);
+      rest = mod-lt left (omega arith);
+      whole = whole;
+    }
+
+pub combined-at : (f : List (List Literal)) (fs : List (List (List Literal))) (count total left : ℕ) → Split (length f) (length (combinations_of fs)) count total left
+    → get_or (combinations_of (f ∷ fs)) left [] ≡ get_or f (left / length (combinations_of fs)) [] ++ get_or (combinations_of fs) (left % length (combinations_of fs)) []
+combined-at f fs count total left s =
+    let m = length (combinations_of fs) in
+    ap (λ i. get_or (combinations_of (f ∷ fs)) i []) (sym s.whole) ∙ pairs-at f (combinations_of fs) (left / m) (left % m) s.place s.rest
+
+forms_push : (b : Bool) (cs : List Cond) (c : Cond) → forms b (cs ++ c ∷ []) ≡ forms b cs ++ form_of c b ∷ []
+forms_push b [] c = refl
+forms_push b (d ∷ ds) c = ap (λ fs. form_of d b ∷ fs) (forms_push b ds c)
+
+pub forms_take : (b : Bool) (cs : List Cond) (i : ℕ) (c : Cond) → i < length cs → c ≡ get_or cs i c → forms b (take i cs) ++ form_of c b ∷ [] ≡ forms b (take (i + 1) cs)
+forms_take b cs i c h e =
+    sym (forms_push b (take i cs) c) ∙ ap (λ x. forms b (take i cs ++ x ∷ [])) e ∙ ap (forms b) (sym (take-suc cs i c h) ∙ ap (λ n. take n cs) (sym (add-one i)))
+
+-- one turn of going through combined parts, at the part number i
+pub forms_drop : (b : Bool) (cs : List Cond) (i : ℕ) (c : Cond) → i < length cs → c ≡ get_or cs i c → forms b (drop i cs) ≡ form_of c b ∷ forms b (drop (i + 1) cs)
+forms_drop b cs i c h e =
+    ap (forms b) (drop-cons cs i c h) ∙ ap (λ x. form_of x b ∷ forms b (drop (suc i) cs)) (sym e) ∙ ap (λ n. form_of c b ∷ forms b (drop n cs)) (sym (add-one i))
+
+pub combined_split : (b : Bool) (cs : List Cond) (i : ℕ) (c : Cond) (count total left : ℕ) → i < length cs → c ≡ get_or cs i c → count ≡ min (length (form_of c b)) 65
+    → total ≡ length (combinations_of (forms b (drop i cs))) → left < total → total ≤ 64
+    → Split (length (form_of c b)) (length (combinations_of (forms b (drop (i + 1) cs)))) count total left
+combined_split b cs i c count total left h e k t below few =
+    split _ _ count total left k
+    (t ∙ ap (λ fs. length (combinations_of fs)) (forms_drop b cs i c h e) ∙ length-pairs (form_of c b) (combinations_of (forms b (drop (i + 1) cs)))) below few
+
+pub combined_whole : (b : Bool) (cs : List Cond) (i : ℕ) (c : Cond) (count total left : ℕ) (out next whole : List Literal) → i < length cs → c ≡ get_or cs i c
+    → Split (length (form_of c b)) (length (combinations_of (forms b (drop (i + 1) cs)))) count total left
+    → out ++ get_or (combinations_of (forms b (drop i cs))) left [] ≡ whole → next ≡ out ++ get_or (form_of c b) (left / (total / count)) []
+    → next ++ get_or (combinations_of (forms b (drop (i + 1) cs))) (left % (total / count)) [] ≡ whole
+combined_whole b cs i c count total left out next whole h e s w n =
+    let f = form_of c b in
+    let fs = forms b (drop (i + 1) cs) in
+    let m = length (combinations_of fs) in
+    ap (λ x. x ++ get_or (combinations_of fs) (left % (total / count)) []) n
+    ∙ ap (λ q. (out ++ get_or f (left / q) []) ++ get_or (combinations_of fs) (left % q) []) s.behind
+    ∙ append_assoc out (get_or f (left / m) []) (get_or (combinations_of fs) (left % m) [])
+    ∙ ap (λ x. out ++ x) (sym (combined-at f fs count total left s))
+    ∙ ap (λ x. out ++ get_or (combinations_of x) left []) (sym (forms_drop b cs i c h e)) ∙ w
+
+pub counted_more : (b : Bool) (cs : List Cond) (i : ℕ) (c : Cond) (total count : ℕ) → i < length cs → c ≡ get_or cs i c → count ≡ min (length (form_of c b)) 65
+    → total ≡ min (length (combinations_of (forms b (take i cs)))) 65 → min 65 (total * count) ≡ min (length (combinations_of (forms b (take (i + 1) cs)))) 65
+counted_more b cs i c total count h e k t =
+    min-mul total count (length (combinations_of (forms b (take i cs)))) (length (form_of c b)) t k
+    ∙ ap (λ n. min n 65) (sym (length-combinations_push (forms b (take i cs)) (form_of c b)))
+    ∙ ap (λ fs. min (length (combinations_of fs)) 65) (forms_take b cs i c h e)
+
+-- which list of disjuncts a condition of parts has
+pub all_plain : (c : Cond) (parts ps : List Cond) (b : Bool) → c ≡ All parts → ps ≡ parts → b ≡ false → form_of c b ≡ combinations_of (forms b ps)
+all_plain c parts ps b e p n = ap (λ d. form_of d b) (e ∙ ap All (sym p)) ∙ form_of-All ps b ∙ ap (λ v. if v then joined (forms b ps) else combinations_of (forms b ps)) n
+
+pub all_negated : (c : Cond) (parts ps : List Cond) (b : Bool) → c ≡ All parts → ps ≡ parts → b ≡ true → form_of c b ≡ joined (forms b ps)
+all_negated c parts ps b e p n = ap (λ d. form_of d b) (e ∙ ap All (sym p)) ∙ form_of-All ps b ∙ ap (λ v. if v then joined (forms b ps) else combinations_of (forms b ps)) n
+
+pub any_plain : (c : Cond) (parts ps : List Cond) (b : Bool) → c ≡ Any parts → ps ≡ parts → b ≡ false → form_of c b ≡ joined (forms b ps)
+any_plain c parts ps b e p n = ap (λ d. form_of d b) (e ∙ ap Any (sym p)) ∙ form_of-Any ps b ∙ ap (λ v. if v then combinations_of (forms b ps) else joined (forms b ps)) n
+
+pub any_negated : (c : Cond) (parts ps : List Cond) (b : Bool) → c ≡ Any parts → ps ≡ parts → b ≡ true → form_of c b ≡ combinations_of (forms b ps)
+any_negated c parts ps b e p n = ap (λ d. form_of d b) (e ∙ ap Any (sym p)) ∙ form_of-Any ps b ∙ ap (λ v. if v then combinations_of (forms b ps) else joined (forms b ps)) n
+
+pub carried : (x y : List (List Literal)) (k : ℕ) → x ≡ y → k < length x → length x ≤ 64 → (k < length y) × (length y ≤ 64)
+carried x y k e place few = (subst (λ (z : List (List Literal)). k < length z) e place, subst (λ (z : List (List Literal)). length z ≤ 64) e few)
+
+-- for `grind`: the disjuncts of a condition from those of its parts
+pub ruleset layers = (form_of-Compare, form_of-Not, form_of-All, form_of-Any)

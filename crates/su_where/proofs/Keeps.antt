@@ -1,0 +1,168 @@
+-- A condition is true exactly where all comparisons of some of its disjuncts hold.
+use Rattle.std.proofs.Common.{◌≡◌, Bool, true, false, not, ◌&&◌, ◌||◌, List, [], ◌∷◌, ◌++◌, map, refl, sym, ap, subst, ◌∙◌}
+use Rattle.std.specs.List.{list_all, list_any}
+use Rattle.std.proofs.lemmas.List.Folds.{list_all-append, list_any-append}
+use Rattle.std.specs.declared.cmp.Ordering.{Ordering}
+use Rattle.std.specs.declared.cmp.Ordering.TheVariants.{Less as Before, Equal as Same, Greater as After}
+use Rattle.su_base.specs.declared.values.Value.{Value}
+use Rattle.su_base.specs.Value.{compare_values}
+use Rattle.su_where.specs.declared.operators.Op.{Op}
+use Rattle.su_where.specs.declared.operators.Op.TheVariants.{Equal, NotEqual, Less, LessEqual, Greater, GreaterEqual}
+use Rattle.su_where.specs.declared.literals.Literal.{Literal}
+use Rattle.su_where.specs.declared.conditions.Cond.{Cond, roll-Cond}
+use Rattle.su_where.specs.declared.conditions.Cond.TheOpen as open'
+use Rattle.su_where.specs.declared.conditions.Cond.TheVariants.{Compare, Not, All, Any, rolls-Compare, rolls-Not, rolls-All, rolls-Any}
+use Rattle.su_where.specs.declared.conditions.Cond.TheFolds.{map-Cond, ind-Cond}
+use Rattle.su_where.specs.Operator.{holds_in, complement_of}
+use Rattle.su_where.specs.Truth.{value_of, holds, truth_of}
+use Rattle.su_where.specs.Disjunct.{opposite_of, pairs_of, combinations_of, joined, form_of, all_hold, some_holds, KeepsTruth}
+use Rattle.su_where.proofs.Layers.{truth_of-Compare, truth_of-Not, truth_of-All, truth_of-Any}
+use Rattle.su_where.proofs.Disjunctive.{forms, form_of-Compare, form_of-Not, form_of-All, form_of-Any}
+
+complement-holds : (op : Op) (o : Ordering) → holds_in (complement_of op) o ≡ not (holds_in op o)
+complement-holds Equal Before = refl
+complement-holds Equal Same = refl
+complement-holds Equal After = refl
+complement-holds NotEqual Before = refl
+complement-holds NotEqual Same = refl
+complement-holds NotEqual After = refl
+complement-holds Less Before = refl
+complement-holds Less Same = refl
+complement-holds Less After = refl
+complement-holds LessEqual Before = refl
+complement-holds LessEqual Same = refl
+complement-holds LessEqual After = refl
+complement-holds Greater Before = refl
+complement-holds Greater Same = refl
+complement-holds Greater After = refl
+complement-holds GreaterEqual Before = refl
+complement-holds GreaterEqual Same = refl
+complement-holds GreaterEqual After = refl
+
+-- the truth of a condition, or of its negation
+abbrev under : Bool → Bool → Bool
+under true v = not v
+under false v = v
+
+some-append : (vs : List Value) (xs ys : List (List Literal)) → some_holds (xs ++ ys) vs ≡ (some_holds xs vs || some_holds ys vs)
+some-append vs xs ys = list_any-append (λ d. all_hold d vs) xs ys
+
+some-joined : (vs : List Value) (fs : List (List (List Literal))) → some_holds (joined fs) vs ≡ list_any (λ f. some_holds f vs) fs
+some-joined vs [] = refl
+some-joined vs (f ∷ fs) = some-append vs f (joined fs) ∙ ap (λ v. some_holds f vs || v) (some-joined vs fs)
+
+and-or : (a b c : Bool) → ((a && b) || (a && c)) ≡ (a && (b || c))
+and-or true b c = refl
+and-or false b c = refl
+
+or-and : (a b c : Bool) → ((a && c) || (b && c)) ≡ ((a || b) && c)
+or-and true true true = refl
+or-and true true false = refl
+or-and true false true = refl
+or-and true false false = refl
+or-and false b c = refl
+
+and-false : (a : Bool) → false ≡ (a && false)
+and-false true = refl
+and-false false = refl
+
+some-each : (vs : List Value) (d : List Literal) (es : List (List Literal)) → some_holds (map (λ e. d ++ e) es) vs ≡ (all_hold d vs && some_holds es vs)
+some-each vs d [] = and-false (all_hold d vs)
+some-each vs d (e ∷ es) =
+    ap (λ v. all_hold (d ++ e) vs || v) (some-each vs d es) ∙ ap (λ v. v || (all_hold d vs && some_holds es vs)) (list_all-append (λ l. holds l vs) d e)
+    ∙ and-or (all_hold d vs) (all_hold e vs) (some_holds es vs)
+
+some-pairs : (vs : List Value) (ds es : List (List Literal)) → some_holds (pairs_of ds es) vs ≡ (some_holds ds vs && some_holds es vs)
+some-pairs vs [] es = refl
+some-pairs vs (d ∷ ds) es =
+    some-append vs (map (λ e. d ++ e) es) (pairs_of ds es) ∙ ap (λ v. v || some_holds (pairs_of ds es) vs) (some-each vs d es)
+    ∙ ap (λ v. (all_hold d vs && some_holds es vs) || v) (some-pairs vs ds es) ∙ or-and (all_hold d vs) (some_holds ds vs) (some_holds es vs)
+
+some-combinations : (vs : List Value) (fs : List (List (List Literal))) → some_holds (combinations_of fs) vs ≡ list_all (λ f. some_holds f vs) fs
+some-combinations vs [] = refl
+some-combinations vs (f ∷ fs) = some-pairs vs f (combinations_of fs) ∙ ap (λ v. some_holds f vs && v) (some-combinations vs fs)
+
+not-and : (a b : Bool) → (not a || not b) ≡ not (a && b)
+not-and true b = refl
+not-and false b = refl
+
+not-or : (a b : Bool) → (not a && not b) ≡ not (a || b)
+not-or true b = refl
+not-or false b = refl
+
+-- the disjuncts of a condition and of its negation say what these say
+abbrev IsKept : Cond → Type 0
+IsKept c = (b : Bool) (vs : List Value) → some_holds (form_of c b) vs ≡ under b (truth_of c vs)
+
+abbrev parts : List ((c : Cond) × IsKept c) → List Cond
+parts es = map (λ e. e.0) es
+
+kept_all : (vs : List Value) (es : List ((c : Cond) × IsKept c)) → list_all (λ f. some_holds f vs) (forms false (parts es)) ≡ list_all (λ c. truth_of c vs) (parts es)
+kept_all vs [] = refl
+kept_all vs (e ∷ es) = ap (λ v. v && list_all (λ f. some_holds f vs) (forms false (parts es))) (e.1 false vs) ∙ ap (λ v. truth_of e.0 vs && v) (kept_all vs es)
+
+kept_any : (vs : List Value) (es : List ((c : Cond) × IsKept c)) → list_any (λ f. some_holds f vs) (forms false (parts es)) ≡ list_any (λ c. truth_of c vs) (parts es)
+kept_any vs [] = refl
+kept_any vs (e ∷ es) = ap (λ v. v || list_any (λ f. some_holds f vs) (forms false (parts es))) (e.1 false vs) ∙ ap (λ v. truth_of e.0 vs || v) (kept_any vs es)
+
+kept_not_all : (vs : List Value) (es : List ((c : Cond) × IsKept c)) → list_any (λ f. some_holds f vs) (forms true (parts es)) ≡ not (list_all (λ c. truth_of c vs) (parts es))
+kept_not_all vs [] = refl
+kept_not_all vs (e ∷ es) =
+    ap (λ v. v || list_any (λ f. some_holds f vs) (forms true (parts es))) (e.1 true vs) ∙ ap (λ v. not (truth_of e.0 vs) || v) (kept_not_all vs es)
+    ∙ not-and (truth_of e.0 vs) (list_all (λ c. truth_of c vs) (parts es))
+
+kept_not_any : (vs : List Value) (es : List ((c : Cond) × IsKept c)) → list_all (λ f. some_holds f vs) (forms true (parts es)) ≡ not (list_any (λ c. truth_of c vs) (parts es))
+kept_not_any vs [] = refl
+kept_not_any vs (e ∷ es) =
+    ap (λ v. v && list_all (λ f. some_holds f vs) (forms true (parts es))) (e.1 true vs) ∙ ap (λ v. not (truth_of e.0 vs) && v) (kept_not_any vs es)
+    ∙ not-or (truth_of e.0 vs) (list_any (λ c. truth_of c vs) (parts es))
+
+not-not : (v : Bool) → not (not v) ≡ v
+not-not true = refl
+not-not false = refl
+
+or-false : (v : Bool) → (v || false) ≡ v
+or-false true = refl
+or-false false = refl
+
+and-true : (v : Bool) → (v && true) ≡ v
+and-true true = refl
+and-true false = refl
+
+one : (l : Literal) (vs : List Value) → some_holds ((l ∷ []) ∷ []) vs ≡ holds l vs
+one l vs = or-false (holds l vs && true) ∙ and-true (holds l vs)
+
+-- the same for one layer, from its parts
+kept_compare : (l : Literal) → IsKept (Compare l)
+kept_compare l true vs =
+    ap (λ ds. some_holds ds vs) (form_of-Compare l true) ∙ one (opposite_of l) vs ∙ complement-holds l.op (compare_values (value_of l.left vs) (value_of l.right vs))
+    ∙ ap not (sym (truth_of-Compare l vs))
+kept_compare l false vs = ap (λ ds. some_holds ds vs) (form_of-Compare l false) ∙ one l vs ∙ sym (truth_of-Compare l vs)
+
+kept_not : (c : Cond) → IsKept c → IsKept (Not c)
+kept_not c kept true vs = ap (λ ds. some_holds ds vs) (form_of-Not c true) ∙ kept false vs ∙ sym (not-not (truth_of c vs)) ∙ ap not (sym (truth_of-Not c vs))
+kept_not c kept false vs = ap (λ ds. some_holds ds vs) (form_of-Not c false) ∙ kept true vs ∙ sym (truth_of-Not c vs)
+
+kept_All : (es : List ((c : Cond) × IsKept c)) → IsKept (All (parts es))
+kept_All es true vs =
+    ap (λ ds. some_holds ds vs) (form_of-All (parts es) true) ∙ some-joined vs (forms true (parts es)) ∙ kept_not_all vs es ∙ ap not (sym (truth_of-All (parts es) vs))
+kept_All es false vs =
+    ap (λ ds. some_holds ds vs) (form_of-All (parts es) false) ∙ some-combinations vs (forms false (parts es)) ∙ kept_all vs es ∙ sym (truth_of-All (parts es) vs)
+
+kept_Any : (es : List ((c : Cond) × IsKept c)) → IsKept (Any (parts es))
+kept_Any es true vs =
+    ap (λ ds. some_holds ds vs) (form_of-Any (parts es) true) ∙ some-combinations vs (forms true (parts es)) ∙ kept_not_any vs es ∙ ap not (sym (truth_of-Any (parts es) vs))
+kept_Any es false vs =
+    ap (λ ds. some_holds ds vs) (form_of-Any (parts es) false) ∙ some-joined vs (forms false (parts es)) ∙ kept_any vs es ∙ sym (truth_of-Any (parts es) vs)
+
+kept_layer : (y : open'.Cond-F ((c : Cond) × IsKept c)) → IsKept (roll-Cond (map-Cond ((c : Cond) × IsKept c) Cond (λ e. e.0) y))
+kept_layer (open'.Compare l) = subst IsKept (sym (rolls-Compare l)) (kept_compare l)
+kept_layer (open'.Not e) = subst IsKept (sym (rolls-Not e.0)) (kept_not e.0 e.1)
+kept_layer (open'.All es) = subst IsKept (sym (rolls-All (parts es))) (kept_All es)
+kept_layer (open'.Any es) = subst IsKept (sym (rolls-Any (parts es))) (kept_Any es)
+
+kept : (c : Cond) → IsKept c
+kept = ind-Cond IsKept (λ x y is. subst (λ z. IsKept (roll-Cond z)) is (kept_layer y))
+
+pub keeps_truth : (c : Cond) → KeepsTruth c
+keeps_truth c vs = sym (kept c false vs)

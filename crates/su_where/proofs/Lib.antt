@@ -1,0 +1,3 @@
+pub mod Disjunctive
+pub mod Keeps
+pub mod Layers

@@ -1,0 +1,5 @@
+use Rattle.su_where.proofs.Keeps.{keeps_truth}
+use Rattle.su_where.proofs.laws.disjuncts_keep_truth.Goals as goal
+
+pub returns : goal.returns
+returns c = keeps_truth c.args.cond.now

@@ -1,0 +1,55 @@
+-- The disjunctive form of a condition.
+-- disjunct: a list of comparisons, all of which are to hold; disjuncts: a list of them, one of which is to hold
+use Rattle.std.specs.Prelude.{◌≡◌, Bool, false, not, if◌then◌else◌, List, [], ◌∷◌, ◌++◌, map, flat_map}
+use Rattle.std.specs.List.{list_all, list_any}
+use Rattle.su_base.specs.declared.values.Value.{Value}
+use Rattle.su_where.specs.declared.literals.Literal.{Literal}
+use Rattle.su_where.specs.declared.conditions.Cond.{Cond}
+use Rattle.su_where.specs.declared.conditions.Cond.TheOpen.{Cond-F, Compare, Not, All, Any}
+use Rattle.su_where.specs.declared.conditions.Cond.TheFolds.{fold-Cond}
+use Rattle.su_where.specs.Operator.{complement_of}
+use Rattle.su_where.specs.Truth.{holds, truth_of}
+
+-- the comparison that holds exactly where this one doesn't
+abbrev pub opposite_of : Literal → Literal
+opposite_of l = record l { op = complement_of l.op }
+
+-- each of the first disjuncts joined with each of the second, the first slowest
+abbrev pub pairs_of : List (List Literal) → List (List Literal) → List (List Literal)
+pairs_of firsts seconds = flat_map (λ d. map (λ e. d ++ e) seconds) firsts
+
+-- all combinations of one disjunct of each part, the first part slowest
+abbrev pub combinations_of : List (List (List Literal)) → List (List Literal)
+combinations_of [] = [] ∷ []
+combinations_of (part ∷ parts) = pairs_of part (combinations_of parts)
+
+-- the disjuncts of the parts, one part after the other
+abbrev pub joined : List (List (List Literal)) → List (List Literal)
+joined parts = flat_map (λ p. p) parts
+
+-- the disjuncts of a condition or, if negated, of its negation, where these are those of its parts
+abbrev pub form_step : Cond-F (Bool → List (List Literal)) → Bool → List (List Literal)
+form_step (Compare l) negated = ((if negated then opposite_of l else l) ∷ []) ∷ []
+form_step (Not part) negated = part (not negated)
+form_step (All parts) negated = if negated then joined (map (λ p. p negated) parts) else combinations_of (map (λ p. p negated) parts)
+form_step (Any parts) negated = if negated then combinations_of (map (λ p. p negated) parts) else joined (map (λ p. p negated) parts)
+
+-- the disjuncts of a condition or, if negated, of its negation
+abbrev pub form_of : Cond → Bool → List (List Literal)
+form_of = fold-Cond (Bool → List (List Literal)) form_step
+
+-- the disjuncts of a condition, in their order
+abbrev pub disjuncts_of : Cond → List (List Literal)
+disjuncts_of c = form_of c false
+
+-- whether all comparisons of a disjunct hold
+abbrev pub all_hold : List Literal → List Value → Bool
+all_hold d values = list_all (λ l. holds l values) d
+
+-- whether all comparisons of some disjunct hold
+abbrev pub some_holds : List (List Literal) → List Value → Bool
+some_holds ds values = list_any (λ d. all_hold d values) ds
+
+-- a condition is true exactly where all comparisons of some of its disjuncts hold
+abbrev pub KeepsTruth : Cond → Type 0
+KeepsTruth c = (values : List Value) → truth_of c values ≡ some_holds (disjuncts_of c) values

@@ -1,0 +1,3 @@
+pub mod Disjunct
+pub mod Operator
+pub mod Truth
