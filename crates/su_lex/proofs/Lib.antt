@@ -1,0 +1,10 @@
+pub mod Cuts
+pub mod Fronts
+pub mod Gaps
+pub mod Listed
+pub mod Lists
+pub mod Numerals
+pub mod Printed
+pub mod Quotes
+pub mod Runs
+pub mod Written

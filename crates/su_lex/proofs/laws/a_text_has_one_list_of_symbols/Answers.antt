@@ -1,0 +1,5 @@
+use Rattle.su_lex.proofs.Written.{one_list_of_symbols}
+use Rattle.su_lex.proofs.laws.a_text_has_one_list_of_symbols.Goals as goal
+
+pub returns : goal.returns
+returns c = one_list_of_symbols

@@ -1,0 +1,26 @@
+use Rattle.std.proofs.Common.{◌≡◌, ◌∷◌, ◌++◌, [], sym, refl, ap, ◌∙◌, arith, length, List, Err, codes, ℕ}
+use Rattle.std.proofs.lemmas.Bool.Decides.{nat_tests}
+use Rattle.std.proofs.lemmas.Result.{err_from_is_err_and}
+use Rattle.su_lex.specs.declared.ends.LexEnd.TheVariants.{Syntax}
+use Rattle.su_lex.specs.declared.signs.Sign.TheVariants as sign
+use Rattle.su_lex.specs.declared.meaning.Symbol.TheVariants.{Sign}
+use Rattle.su_lex.proofs.Listed.{names_push, are_push, no_name}
+use Rattle.su_lex.proofs.readers.Reader.names.Goals as goal
+
+pub returns-in_err-name-2-clause-syntax : goal.returns-in_err-name-2-clause-syntax
+returns-in_err-name-2-clause-syntax c =
+    let p = err_from_is_err_and c.from_residual-in_err-name-2.result c.from_residual-in_err-name-2.ensures.1 in
+    rw (p.1, p.2) (λ s ns r are none e.
+    let h : c.in_err-name-2.field-0.0 ≡ Syntax = cc in
+    no_name c.loop-names.names ns _ c.loop-names.self.rest.now c.takes_sign.new.self.rest.now r none c.loop-names.invariant.are are c.loop-names.invariant.whole
+    (c.loop-names-test.ensures.yes refl) (c.in_err-name-2.ensures.syntax (ap Err h)) e)
+
+pub loop-names-preserved : goal.loop-names-preserved
+loop-names-preserved c =
+    let n = c.in_ok-name-2.field-0 in
+    let here = c.loop-names-test.ensures.yes refl in
+    record {
+      whole = rw c.in_ok-push-2.ensures.ok (c.loop-names.invariant.whole ∙ names_push c.loop-names.names n _ _ c.loop-names.invariant.are
+          (here ∙ ap (λ x. Sign sign.Comma ∷ x) c.in_ok-name-2.ensures.found.0));
+      are = rw c.in_ok-push-2.ensures.ok (are_push c.loop-names.names n c.loop-names.invariant.are c.in_ok-name-2.ensures.found.1);
+    }

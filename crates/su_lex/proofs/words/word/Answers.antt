@@ -1,0 +1,15 @@
+use Rattle.std.proofs.Common.{arith, ◌<◌, ◌≤◌}
+use Rattle.std.specs.List.{prefix_len}
+use Rattle.su_base.specs.Name.{is_letter_or_digit}
+use Rattle.su_lex.proofs.Fronts.{word_found, word_none}
+use Rattle.su_lex.proofs.words.word.Goals as goal
+
+pub returns-then-n-gt64-clause-none : goal.returns-then-n-gt64-clause-none
+returns-then-n-gt64-clause-none c =
+    let long : 64 < prefix_len is_letter_or_digit c.args.text.now = omega arith in
+    λ _. word_none _ c.requires long
+
+pub returns-clause-found : goal.returns-clause-found
+returns-clause-found c =
+    let short : prefix_len is_letter_or_digit c.args.text.now ≤ 64 = omega arith in
+    rw c.word_bytes-n.ensures.count (word_found _ c.requires short)

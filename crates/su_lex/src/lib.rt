@@ -1,0 +1,42 @@
+//! The statements of a file and the tokens of a statement.
+//!
+//! `cut` finds the pieces of a file that stand between its `;`, `tokens` the tokens of a piece. Both
+//! go over their bytes once, from the left. A token carries where it stands; of the text only the
+//! contents of quoted texts are copied. `symbols` gives the tokens with the bytes of their words, which
+//! a `Reader` goes through from the left and `push_spaced` writes. None of it knows the statements.
+#![tactic(auto)]
+
+mod bytes;
+mod comments;
+mod crossing;
+mod cutter;
+mod ends;
+mod firsts;
+mod kinds;
+mod laws;
+mod lexer;
+mod meaning;
+mod numbers;
+mod quoting;
+mod readers;
+mod signs;
+mod spans;
+mod spelling;
+mod words;
+
+pub use cutter::cut;
+pub use ends::LexEnd;
+pub use kinds::{Token, TokenKind};
+pub use laws::{
+    a_file_has_one_list_of_pieces, a_text_has_one_list_of_symbols, a_text_has_one_list_of_tokens,
+    spaced_symbols_are_read_again,
+};
+pub use lexer::tokens;
+pub use meaning::{Symbol, symbols};
+pub use readers::Reader;
+pub use signs::Sign;
+pub use spans::Span;
+pub use spelling::{push_spaced, push_symbol};
+
+#[cfg(test)]
+mod tests;

@@ -1,0 +1,66 @@
+//! The text in quotes at the front of a text.
+ghost use Rattle.std.specs.Prelude.{◌≡◌, length, IfOk, IsErrOf};
+ghost use Rattle.su_lex.specs.Tokens.{IsFirst, HasNoFirst, twice};
+ghost use Rattle.su_lex.specs.Classes.{class_at, place_at};
+ghost use Rattle.su_lex.specs.declared.firsts.Class.TheVariants.{Text as OfText};
+
+use crate::ends::LexEnd;
+use crate::kinds::TokenKind;
+use std::alloc::Global;
+use su_base::Str;
+
+/// What stands at a place within a text.
+#[derive(Clone, Copy, PartialEq, Eq, Debug)]
+enum Place {
+    Content(u8),
+    Close,
+    Missing,
+}
+
+fn place_of(rest: &[u8]) -> Place
+    ensures { result ≡ place_at rest.now }
+{
+    match rest {
+        [b'\'', b'\'', ..] => Place::Content(b'\''),
+        [b'\'', ..] => Place::Close,
+        [b, ..] => Place::Content(*b),
+        [] => Place::Missing,
+    }
+}
+
+/// How many bytes stand for a byte of the content.
+fn width(b: u8) -> usize
+    ensures { result ≡ length (twice b) }
+{
+    if b == b'\'' { 2 } else { 1 }
+}
+
+/// The text at the front, which begins with a quote, and how many bytes it takes.
+pub fn quoted_text(alloc: Global, text: &[u8]) -> Result<(TokenKind, usize), LexEnd>
+    requires { class_at text.now ≡ OfText }
+    ensures found { IfOk result (λ t. IsFirst text.now t.0 t.1) }
+    ensures none { IsErrOf result LexEnd.Syntax → HasNoFirst text.now }
+{
+    let mut content = Vec::new(alloc);
+    let mut rest = &text[1..];
+    loop {
+        match place_of(rest) {
+            Place::Content(b) => {
+                content.push(b)?;
+                rest = &rest[width(b)..];
+            }
+            Place::Close => break,
+            Place::Missing => return Err(LexEnd::Syntax),
+        }
+    }
+    if content.len() > 4096 {
+        return Err(LexEnd::Syntax);
+    }
+    match String::from_utf8(content) {
+        Ok(content) => Ok((
+            TokenKind::Text(Str::from_string(content)),
+            text.len() - rest.len() + 1,
+        )),
+        Err(_) => Err(LexEnd::Syntax),
+    }
+}
