@@ -1,0 +1,5 @@
+use Rattle.su_rel.proofs.Rows.{found}
+use Rattle.su_rel.proofs.relations.Relation.position.Goals as goal
+
+pub returns : goal.returns
+returns c = rw (← c.self.view_is) (found c.self.inside.rows.keys c.args.row.now _ c.get_index_of.ensures.index)

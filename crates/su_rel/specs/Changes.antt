@@ -1,0 +1,17 @@
+-- How a set of rows changes.
+-- put in: the row is last unless it was there; taken out: the row is gone, every other row is there
+use Rattle.std.specs.Prelude.{◌≡◌, ◌⊎◌, List, [], ◌∷◌, ◌++◌, Contains, ◌↔◌}
+use Rattle.su_base.specs.declared.values.Value.{Value}
+
+-- one row is put in
+abbrev pub PutIn : List (List Value) → List Value → List (List Value) → Type 0
+PutIn old row new = (Contains old row × (new ≡ old)) ⊎ ((¬ Contains old row) × (new ≡ old ++ row ∷ []))
+
+-- rows are put in one after another
+abbrev pub PutInAll : List (List Value) → List (List Value) → List (List Value) → Type 0
+PutInAll old [] new = new ≡ old
+PutInAll old (row ∷ rows) new = (between : List (List Value)) × PutIn old row between × PutInAll between rows new
+
+-- a row is taken out; positions may change
+abbrev pub TakenOut : List (List Value) → List Value → List (List Value) → Type 0
+TakenOut old row new = (other : List Value) → Contains new other ↔ (Contains old other × ¬ (other ≡ row))
