@@ -1,0 +1,11 @@
+use Rattle.std.proofs.Common.{ap, Some}
+use Rattle.su_csv.proofs.Texts.{is-text, not-utf8}
+use Rattle.su_csv.proofs.fields.text_of.Goals as goal
+
+pub returns-in-Ok : goal.returns-in-Ok
+returns-in-Ok c =
+    let cases = c.in-Ok.ensures.cases in
+    rw (is-text c.args.field.now c.if-field-gt-TEXT_LIMIT.false cases.1) (ap Some cases.0)
+
+pub returns-in-Err : goal.returns-in-Err
+returns-in-Err c = rw (not-utf8 c.args.field.now c.if-field-gt-TEXT_LIMIT.false (λ h. c.in-Err.ensures.cases.0 h))

@@ -1,0 +1,11 @@
+use Rattle.csv.specs.Records.{fields_of}
+use Rattle.su_csv.proofs.Remaining.{advanced}
+use Rattle.su_csv.proofs.records.advance.Goals as goal
+
+pub returns-clause-stands : goal.returns-clause-stands
+returns-clause-stands c =
+    (advanced c.args.reader.now c.read_byte_record.new.self (fields_of c.read_byte_record.new.row) c.in-Ok.found c.requires (c.in-Ok.ensures.ready c.requires.trim) (c.in-Ok.ensures.reads c.requires.trim c.requires.ready)).0
+
+pub returns-clause-took : goal.returns-clause-took
+returns-clause-took c =
+    (advanced c.args.reader.now c.read_byte_record.new.self (fields_of c.read_byte_record.new.row) c.in-Ok.found c.requires (c.in-Ok.ensures.ready c.requires.trim) (c.in-Ok.ensures.reads c.requires.trim c.requires.ready)).1

@@ -1,0 +1,9 @@
+use Rattle.std.proofs.Common.{◌∙◌, sym}
+use Rattle.su_csv.proofs.Filling.{field-at, present}
+use Rattle.su_csv.proofs.rows.field_at.Goals as goal
+
+pub unreachable-requires : goal.unreachable-requires
+unreachable-requires c = present _ _ c.requires (sym (c.in-None.ensures.value ∙ field-at _ _))
+
+pub returns : goal.returns
+returns c = sym (c.in-Some.ensures.value ∙ field-at _ _)

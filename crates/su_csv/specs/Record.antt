@@ -1,0 +1,53 @@
+-- The row of a record, or its fault.
+--   record   the fields of one line
+--   number   which record it is, from 1 after the header
+--   place    which column it is, from 0
+use Rattle.std.specs.Prelude.{◌≡◌, ◌⊎◌, MatchResult, ℕ, suc, ◌&&◌, ◌==◌, nat_lt, Bool, true, false, if◌then◌else◌, List, [], ◌∷◌, ◌++◌, length, Option, Some, None, is_none, option_to_list, Result, Ok, Err}
+use Rattle.su_base.specs.declared.values.Value.{Value}
+use Rattle.su_base.specs.declared.values.Column.{Column}
+use Rattle.su_base.specs.declared.values.Kind.{Kind}
+use Rattle.su_base.specs.declared.values.Kind.TheVariants.{Int as IntKind, Text as TextKind}
+use Rattle.su_csv.specs.declared.faults.CsvFault.{CsvFault}
+use Rattle.su_csv.specs.declared.faults.CsvFault.TheVariants.{TooMany, Width, NotInt, NotText, NoMemory}
+use Rattle.su_csv.specs.Field.{value_of}
+
+-- the most records after the header
+abbrev pub record_limit : ℕ
+record_limit = 1000000
+
+-- the values of the fields, each in its column's kind
+abbrev pub row_of : List Column → List (List ℕ) → List Value
+row_of [] fields = []
+row_of (column ∷ columns) [] = []
+row_of (column ∷ columns) (field ∷ fields) = option_to_list (value_of column.kind field) ++ row_of columns fields
+
+abbrev pub same_kind : Kind → Kind → Bool
+same_kind IntKind IntKind = true
+same_kind IntKind TextKind = false
+same_kind TextKind IntKind = false
+same_kind TextKind TextKind = true
+
+-- the first place, from the left, of a column of this kind whose field has no value; the columns begin at `place`
+abbrev pub place_without : Kind → ℕ → List Column → List (List ℕ) → Option ℕ
+place_without kind place [] fields = None
+place_without kind place (column ∷ columns) [] = None
+place_without kind place (column ∷ columns) (field ∷ fields) =
+    if same_kind kind column.kind && is_none (value_of kind field) then Some place else place_without kind (suc place) columns fields
+
+-- the row where each field has a value; else a field of a number column comes before one of a text column
+abbrev pub unless_without : ℕ → Option ℕ → Option ℕ → List Value → Result (List Value) CsvFault
+unless_without number (Some place) text row = Err (NotInt number place)
+unless_without number None (Some place) row = Err (NotText number place)
+unless_without number None None row = Ok row
+
+-- the row of the record of this number, or the first fault that it shows
+abbrev pub row_or_fault : List Column → ℕ → List (List ℕ) → Result (List Value) CsvFault
+row_or_fault columns number fields =
+    if nat_lt record_limit number then Err TooMany
+    else if length fields == length columns
+    then unless_without number (place_without IntKind 0 columns fields) (place_without TextKind 0 columns fields) (row_of columns fields)
+    else Err (Width number)
+
+-- the result is this answer, unless memory is wanting
+abbrev pub Answers : {A : Type 0} → Result A CsvFault → Result A CsvFault → Type 0
+Answers result answer = MatchResult result (λ value. answer ≡ Ok value) (λ fault. (fault ≡ NoMemory) ⊎ (answer ≡ Err fault))

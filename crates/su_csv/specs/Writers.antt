@@ -1,0 +1,15 @@
+-- What a writer holds.
+use Rattle.std.specs.Prelude.{◌≡◌, ◌++◌, ℕ, true, false, List, Vec}
+use Rattle.std.specs.declared.alloc.Global.{Global}
+use Rattle.csv.specs.Writing.{default_writer, fields_written, has_written, with_flexible, writer_pending, writer_setup, writer_under}
+use Rattle.csv.specs.declared.writer.Writer.{Writer}
+
+-- the text so far
+abbrev pub text_so_far : Writer (Vec ℕ Global) → List ℕ
+text_so_far writer = (writer_under writer).items ++ writer_pending writer
+
+-- the writer stands between records, and writes as `csv` does at its default settings, in any width
+pub record IsIdle (writer : Writer (Vec ℕ Global)) : Type 0 where
+  pub setup : writer_setup writer ≡ with_flexible default_writer true
+  pub fields : fields_written writer ≡ 0
+  pub wrote : has_written writer ≡ false

@@ -1,0 +1,92 @@
+//! What a field stands for.
+ghost use Rattle.std.specs.Prelude.{◌≡◌, ◌<◌, ◌^◌, IfOk, option_map, if◌then◌else◌, Some, None, slice_index, ◌==◌, IfSome, pos, true};
+ghost use Rattle.su_csv.specs.Field.{is_digits, number_of, is_text, value_of};
+ghost use Rattle.std.specs.Str.Parse.{digits_value};
+
+use std::alloc::Global;
+use su_base::{Kind, NoMemory, Str, Value};
+
+const TEXT_LIMIT: usize = 4096;
+
+fn starts_with_plus(field: &[u8]) -> bool
+    ensures { result ≡ (slice_index field.now 0 == 43) }
+{
+    matches!(field, [b'+', ..])
+}
+
+fn starts_with_minus(field: &[u8]) -> bool
+    ensures { result ≡ (slice_index field.now 0 == 45) }
+{
+    matches!(field, [b'-', ..])
+}
+
+// The number that the digits write, where that is soon told.
+fn digits_of(digits: &[u8]) -> Option<i64>
+    ensures { IfSome result (λ value. (is_digits digits.now ≡ true) × (value ≡ pos (digits_value 10 digits.now))) }
+{
+    let mut value = 0u64;
+    for digit in digits {
+        if !digit.is_ascii_digit() {
+            return None;
+        }
+        value = value
+            .checked_mul(10)?
+            .checked_add(u64::from(*digit - b'0'))?;
+    }
+    if digits.is_empty() || value > i64::MAX as u64 {
+        return None;
+    }
+    Some(value as i64)
+}
+
+// The number that the field writes, where that is soon told.
+fn short_number(field: &[u8]) -> Option<i64>
+    ensures { IfSome result (λ value. number_of field.now ≡ Some value) }
+{
+    if starts_with_minus(field) {
+        return Some(-digits_of(&field[1..])?);
+    }
+    digits_of(field)
+}
+
+// The number that the field writes. Unlike `parse`, it takes no `+`.
+pub(crate) fn number_of(field: &[u8]) -> Option<i64>
+    ensures { result ≡ number_of field.now }
+{
+    if let Some(value) = short_number(field) {
+        return Some(value);
+    }
+    if starts_with_plus(field) {
+        return None;
+    }
+    match str::from_utf8(field) {
+        Ok(text) => text.parse().ok(),
+        Err(_) => None,
+    }
+}
+
+// The text that the field is.
+fn text_of(field: &[u8]) -> Option<&str>
+    ensures { option_map (λ text. text.now) result ≡ (if is_text field.now then Some field.now else None) }
+{
+    if field.len() > TEXT_LIMIT {
+        return None;
+    }
+    match str::from_utf8(field) {
+        Ok(text) => Some(text),
+        Err(_) => None,
+    }
+}
+
+// The value of the field in a column of this kind.
+pub(crate) fn value_of(alloc: Global, kind: Kind, field: &[u8]) -> Result<Option<Value>, NoMemory>
+    ensures { IfOk result (λ value. value ≡ value_of kind field.now) }
+{
+    match kind {
+        Kind::Int => Ok(number_of(field).map(Value::Int)),
+        Kind::Text => match text_of(field) {
+            Some(text) => Ok(Some(Value::Text(Str::new(alloc, text)?))),
+            None => Ok(None),
+        },
+    }
+}

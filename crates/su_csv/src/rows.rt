@@ -1,0 +1,82 @@
+//! The row of a record, or its fault.
+ghost use Rattle.std.specs.Prelude.{◌≡◌, ◌<◌, ◌≤◌, ◌&&◌, Some, is_none, length, slice_get, MatchOption};
+ghost use Rattle.csv.specs.Records.{fields_of};
+ghost use Rattle.su_csv.specs.Record.{Answers, place_without, record_limit, row_or_fault, same_kind};
+ghost use Rattle.su_csv.specs.Field.{value_of};
+
+use crate::faults::CsvFault;
+use crate::fields::{number_of, value_of};
+use csv::ByteRecord;
+use std::alloc::Global;
+use su_base::{Column, Kind, List, Row};
+
+pub(crate) fn field_at(fields: &ByteRecord, place: usize) -> &[u8]
+    requires { place < length (fields_of fields.now) }
+    ensures { slice_get (fields_of fields.now) place ≡ Some result.now }
+{
+    match fields.get(place) {
+        Some(field) => field,
+        None => unreachable!(),
+    }
+}
+
+// The first column of numbers, from the left, whose field writes none.
+fn first_without_number(columns: &[Column], fields: &ByteRecord) -> Option<u8>
+    requires width { length (fields_of fields.now) ≡ length columns.now }
+    requires few { length columns.now ≤ 32 }
+    ensures { result ≡ place_without Kind.Int 0 columns.now (fields_of fields.now) }
+{
+    for (place, column) in columns.iter().enumerate() {
+        if lacks_number(column, field_at(fields, place)) {
+            return Some(place as u8);
+        }
+    }
+    None
+}
+
+fn lacks_number(column: &Column, field: &[u8]) -> bool
+    ensures { result ≡ (same_kind Kind.Int column.now.kind && is_none (value_of Kind.Int field.now)) }
+{
+    matches!(column.kind, Kind::Int) && number_of(field).is_none()
+}
+
+// The fault of a record whose field at this place is the first without a value: numbers come
+// before texts.
+fn fault_at(columns: &[Column], fields: &ByteRecord, number: u64, place: usize) -> CsvFault
+    requires width { length (fields_of fields.now) ≡ length columns.now }
+    requires few { length columns.now ≤ 32 }
+    requires within { place < length columns.now }
+    ensures { MatchOption (place_without Kind.Int 0 columns.now (fields_of fields.now)) (result ≡ CsvFault.NotText number place) (λ column. result ≡ CsvFault.NotInt number column) }
+{
+    match first_without_number(columns, fields) {
+        Some(column) => CsvFault::NotInt { number, column },
+        None => CsvFault::NotText {
+            number,
+            column: place as u8,
+        },
+    }
+}
+
+// The row of the record of this number.
+pub(crate) fn row_of(
+    alloc: Global,
+    columns: &[Column],
+    fields: &ByteRecord,
+    number: u64,
+) -> Result<Row, CsvFault>
+    requires few { length columns.now ≤ 32 }
+    requires number { number ≤ record_limit }
+    ensures { Answers result (row_or_fault columns.now number (fields_of fields.now)) }
+{
+    if fields.len() != columns.len() {
+        return Err(CsvFault::Width { number });
+    }
+    let mut row = List::from_vec(Vec::with_capacity(alloc, columns.len())?);
+    for (place, column) in columns.iter().enumerate() {
+        match value_of(alloc, column.kind, field_at(fields, place))? {
+            Some(value) => row.push(value)?,
+            None => return Err(fault_at(columns, fields, number, place)),
+        }
+    }
+    Ok(row)
+}
