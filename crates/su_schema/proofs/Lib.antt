@@ -1,0 +1,12 @@
+pub mod Accepted
+pub mod Ascending
+pub mod ColumnsSoFar
+pub mod Copied
+pub mod Entries
+pub mod Extending
+pub mod NamesGiven
+pub mod NamesSoFar
+pub mod Numbers
+pub mod ObjectValid
+pub mod PairsSoFar
+pub mod Validity

@@ -1,0 +1,6 @@
+use Rattle.std.proofs.Common.{◌≡◌}
+use Rattle.su_schema.specs.Defining.{ascending}
+use Rattle.su_schema.proofs.links.in_order.Given as goal
+
+abbrev pub invariant-loop-attribute : goal.invariant-loop-attribute
+invariant-loop-attribute l = l.ordered ≡ ascending l.attribute l.links

@@ -1,0 +1,10 @@
+use Rattle.std.proofs.Common.{Some, ap, sym}
+use Rattle.std.proofs.lemmas.Option.{slice_get-map}
+use Rattle.su_schema.specs.Shown.{HasItsSet}
+use Rattle.su_schema.proofs.Entries.{All-at}
+use Rattle.su_schema.proofs.schemas.Schema.object_attributes.Goals as goal
+
+pub returns : goal.returns
+returns c =
+    rw (← c.self.view_is)
+    (simp slice_get-map (rw (← c.in-Some.ensures.entry) (ap Some (sym (All-at HasItsSet _ _ _ c.self.invariant.attribute_sets (sym c.in-Some.ensures.entry))))))

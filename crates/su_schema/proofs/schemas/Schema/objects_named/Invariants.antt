@@ -1,0 +1,6 @@
+use Rattle.su_schema.specs.SchemaValue.{object_names}
+use Rattle.su_schema.proofs.NamesSoFar.{NamesSoFar}
+use Rattle.su_schema.proofs.schemas.Schema.objects_named.Given as goal
+
+abbrev pub invariant-loop-name : goal.invariant-loop-name
+invariant-loop-name l = NamesSoFar (object_names l.self) l.names l.name-index l.set

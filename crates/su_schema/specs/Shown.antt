@@ -1,0 +1,22 @@
+-- What contracts see of the entries of the maps that a schema is kept in: a name beside what it names.
+use Rattle.std.specs.Prelude.{◌≡◌, List, map, string_bytes}
+use Rattle.std.specs.FinSet.{from_list}
+use Rattle.std.specs.declared.alloc.Global.{Global}
+use Rattle.std.specs.declared.string.String.{String}
+use Rattle.su_base.specs.declared.values.Kind.{Kind}
+use Rattle.su_base.specs.declared.values.Column.{Column}
+use Rattle.su_schema.specs.declared.links.Object.{Object}
+use Rattle.su_schema.specs.SchemaValue.{AttributeEntry, RelationEntry, ObjectEntry}
+
+abbrev pub shown_attribute : String Global × Kind → AttributeEntry
+shown_attribute entry = record { name = string_bytes entry.0; kind = entry.1 }
+
+abbrev pub shown_relation : String Global × List Column → RelationEntry
+shown_relation entry = record { name = string_bytes entry.0; columns = entry.1 }
+
+abbrev pub shown_object : String Global × Object → ObjectEntry
+shown_object entry = record { name = string_bytes entry.0; relation = entry.1.relation; links = entry.1.links }
+
+-- the set beside an object's links is that of their attributes
+abbrev pub HasItsSet : String Global × Object → Type 0
+HasItsSet entry = entry.1.attributes ≡ from_list (map (λ l. l.attribute) entry.1.links)

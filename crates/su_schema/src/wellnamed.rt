@@ -1,0 +1,92 @@
+//! Whether the texts of a definition are names.
+ghost use Rattle.std.specs.Prelude.{◌↔◌, IsTrue, map};
+ghost use Rattle.su_schema.specs.SchemaValue.{column_names};
+ghost use Rattle.su_schema.specs.Defining.{AreGiven, IsWellNamed};
+
+use crate::definitions::{Definition, Pair};
+use su_base::{Column, Str, is_name};
+
+fn are_names(names: &[Str]) -> bool
+    ensures { IsTrue result ↔ AreGiven names.now }
+{
+    if names.is_empty() {
+        return false;
+    }
+    for name in names {
+        if !is_name(name.as_str()) {
+            return false;
+        }
+    }
+    true
+}
+
+fn have_names(columns: &[Column]) -> bool
+    ensures { IsTrue result ↔ AreGiven (column_names columns.now) }
+{
+    if columns.is_empty() {
+        return false;
+    }
+    for column in columns {
+        if !is_name(column.name.as_str()) {
+            return false;
+        }
+    }
+    true
+}
+
+fn name_attributes(pairs: &[Pair]) -> bool
+    ensures { IsTrue result ↔ AreGiven (map (λ p. p.attribute) pairs.now) }
+{
+    if pairs.is_empty() {
+        return false;
+    }
+    for pair in pairs {
+        if !is_name(pair.attribute.as_str()) {
+            return false;
+        }
+    }
+    true
+}
+
+fn name_columns(pairs: &[Pair]) -> bool
+    ensures { IsTrue result ↔ AreGiven (map (λ p. p.column) pairs.now) }
+{
+    if pairs.is_empty() {
+        return false;
+    }
+    for pair in pairs {
+        if !is_name(pair.column.as_str()) {
+            return false;
+        }
+    }
+    true
+}
+
+impl Definition {
+    /// Whether its texts are names and its lists are not empty, as each call that adds a
+    /// definition asks. A definition that was read from a text is.
+    pub fn is_well_named(&self) -> bool
+        ensures { IsTrue result ↔ IsWellNamed self.now }
+    {
+        match self {
+            Definition::Attribute { name, .. } => is_name(name.as_str()),
+            Definition::Relation { name, columns } => {
+                is_name(name.as_str()) && have_names(columns.as_slice())
+            }
+            Definition::Object {
+                name,
+                relation,
+                pairs,
+            } => {
+                is_name(name.as_str())
+                    && is_name(relation.as_str())
+                    && name_attributes(pairs.as_slice())
+                    && name_columns(pairs.as_slice())
+            }
+            Definition::Fd { left, right } => {
+                are_names(left.as_slice()) && are_names(right.as_slice())
+            }
+            Definition::Maximal { objects } => are_names(objects.as_slice()),
+        }
+    }
+}
