@@ -1,0 +1,292 @@
+-- What an insert and a remove in a list of positions in order leave.
+use Rattle.std.proofs.Common.{◌≡◌, ◌<◌, ◌≤◌, ◌+◌, ◌-◌, ◌^◌, ℕ, zero, suc, Bool, true, false, not, cond, List, [], ◌∷◌, ◌++◌, length, get_or, take, drop, ap, refl, sym, ◌∙◌, arith, inl, inr, ◌⊎◌, Contains, count_by, nat_lt, nat_le, nat_eq, add-one, add-zero}
+use Rattle.std.specs.List.{AllByRecursion, insert, remove}
+use Rattle.std.specs.List.Sorted.{IsStrictlySortedBy}
+use Rattle.std.specs.Ordering.{nat_cmp, ordering_then, ordering_reverse, is_lt}
+use Rattle.std.specs.declared.cmp.Ordering.{Ordering}
+use Rattle.std.specs.declared.cmp.Ordering.TheVariants.{Less, Equal, Greater}
+use Rattle.std.proofs.lemmas.Cmp.{tied_itself}
+use Rattle.std.proofs.lemmas.Bool.{false≢true, cases_eq}
+use Rattle.std.proofs.lemmas.Bool.Decides.{nat_tests}
+use Rattle.std.proofs.lemmas.List.{take-append-drop, get_or-take, get_or-drop, length-take-le, length-drop, get_or_default, drop_more, nil_from_length}
+use Rattle.std.proofs.lemmas.List.Elements.{recursion_from_All}
+use Rattle.std.proofs.lemmas.Map.Keys.{Less-from_sorted, sorted_from_all_adjacent, sorted_tail}
+use Rattle.su_base.specs.declared.values.Value.{Value}
+use Rattle.su_base.specs.Value.{compare_values}
+use Rattle.su_index.specs.Order.{ArePositions, compare_places, comes_before, count_below, with_value, IsRun, IsIndex}
+use Rattle.su_index.proofs.Runs.{places_total, count_below-suc, count_by-cons, count_by-append, count_by-none, sorted_nil, Before, AllBefore, sorted-append, sorted-append_left, sorted-append_right, sorted-append_before, sorted_cons}
+use Rattle.su_index.proofs.Search.{is_less}
+use Rattle.su_index.proofs.Spans.{settled_positions, recent_positions, run_positions, run_from, count_by_zero}
+
+le_or_lt : (a b : ℕ) → (a ≤ b) ⊎ (b < a)
+le_or_lt a b = elim (nat_le a b) as (λ t. nat_le a b ≡ t → (a ≤ b) ⊎ (b < a)) [
+  | true ↦ λ e. inl (grind (arith, nat_tests, e))
+  | false ↦ λ e. inr (grind (arith, nat_tests, e))
+] refl
+
+-- ---- values that agree
+
+-- the order of the positions is that of other values which agree at them
+pub ordered-same : (at other : ℕ → Value) (run : List ℕ) → ((k : ℕ) → k < length run → at (get_or run k 0) ≡ other (get_or run k 0)) → IsStrictlySortedBy (compare_places at) run → IsStrictlySortedBy (compare_places other) run
+ordered-same at other run same sorted =
+    sorted_from_all_adjacent (places_total other) run 0 (λ k h.
+    rw (← same k (omega arith), ← same (k + 1) h) (Less-from_sorted (compare_places at) run k (k + 1) 0 sorted (omega arith) h))
+
+pub run-same : (at other : ℕ → Value) (from : ℕ) (run : List ℕ) → ((p : ℕ) → p < from + length run → at p ≡ other p) → IsRun at from run → IsRun other from run
+run-same at other from run same r = record {
+  each = r.each;
+  ordered = ordered-same at other run (λ k h. same (get_or run k 0) (run_positions at from run r k 0 h)) r.ordered;
+}
+
+pub index-same : (at other : ℕ → Value) (n : ℕ) (settled recent : List ℕ) → ((p : ℕ) → p < n → at p ≡ other p) → IsIndex at n settled recent → IsIndex other n settled recent
+index-same at other n settled recent same i = record {
+  settled = run-same at other 0 settled (λ p h. same p (omega (arith, i.whole))) i.settled;
+  recent = run-same at other (length settled) recent (λ p h. same p (omega (arith, i.whole))) i.recent;
+  whole = i.whole;
+  small = i.small;
+}
+
+pub with_value-itself : (at : ℕ → Value) (v : Value) (p : ℕ) → with_value at p v p ≡ v
+with_value-itself at v p = grind (arith, nat_tests)
+
+pub with_value-other : (at : ℕ → Value) (v : Value) (p q : ℕ) → (q ≡ p → ⊥) → with_value at p v q ≡ at q
+with_value-other at v p q apart = grind (arith, nat_tests, apart)
+
+pub with_value-same : (at : ℕ → Value) (p q : ℕ) → with_value at p (at p) q ≡ at q
+with_value-same at p q =
+    elim (cases_eq q p) [
+      | inl e ↦ rw e (with_value-itself at (at p) p)
+      | inr apart ↦ with_value-other at (at p) p q apart
+    ]
+
+-- ---- an insert
+
+AllBefore-cons : {K : Type 0} (c : K → K → Ordering) (y : K) (xs ys : List K) → AllByRecursion (λ x. c x y ≡ Less) xs → AllBefore c xs ys → AllBefore c xs (y ∷ ys)
+AllBefore-cons c y [] ys a b = tt
+AllBefore-cons c y (x ∷ xs) ys a b = ((a.0, b.0), AllBefore-cons c y xs ys a.1 b.1)
+
+-- a position that does not come before another one comes after it
+pub after : (o : Ordering) (q p : ℕ) → (q ≡ p → ⊥) → is_lt (ordering_then o (nat_cmp q p)) ≡ false → ordering_then o (nat_cmp q p) ≡ Greater
+after Less q p apart e = absurd (false≢true (sym e))
+after Equal q p apart e = grind (arith, nat_tests, apart, e)
+after Greater q p apart e = refl
+
+pub ordered-insert : (at : ℕ → Value) (run : List ℕ) (q p : ℕ) → IsStrictlySortedBy (compare_places at) run → q ≤ length run
+    → ((k : ℕ) → k < length run → get_or run k 0 ≡ p → ⊥)
+    → ((k : ℕ) → k < q → comes_before at (at p) p (get_or run k 0) ≡ true)
+    → ((k : ℕ) → q ≤ k → k < length run → comes_before at (at p) p (get_or run k 0) ≡ false)
+    → IsStrictlySortedBy (compare_places at) (insert run q p)
+ordered-insert at run q p sorted within apart below above =
+    let c : ℕ → ℕ → Ordering = compare_places at in
+    let parts : IsStrictlySortedBy c (take q run ++ drop q run) = rw take-append-drop sorted in
+    let front : AllByRecursion (λ x. c x p ≡ Less) (take q run) = recursion_from_All (λ x. c x p ≡ Less) (take q run) (λ k d h.
+    let l : length (take q run) ≡ q = length-take-le q run within in
+    let e : get_or (take q run) k d ≡ get_or run k 0 = get_or-take q run k d (omega arith) ∙ get_or_default run k d 0 (omega arith) in
+    rw e (is_less (c (get_or run k 0) p) (below k (omega arith)))) in
+    let back : Before c p (drop q run) = recursion_from_All (λ y. c p y ≡ Less) (drop q run) (λ k d h.
+    let l : length (drop q run) ≡ length run - q = length-drop q run in
+    let e : get_or (drop q run) k d ≡ get_or run (q + k) 0 = get_or-drop q run k d ∙ get_or_default run (q + k) d 0 (omega arith) in
+    let g : c (get_or run (q + k) 0) p ≡ Greater = after (compare_values (at (get_or run (q + k) 0)) (at p)) (get_or run (q + k) 0) p (apart (q + k) (omega arith)) (above (q + k) (omega arith) (omega arith)) in
+    rw e ((places_total at).antisymm p (get_or run (q + k) 0) ∙ ap ordering_reverse g)) in
+    sorted-append c (take q run) (p ∷ drop q run)
+    (sorted-append_left c (take q run) (drop q run) parts)
+    (sorted_cons c p (drop q run) back (sorted-append_right c (take q run) (drop q run) parts))
+    (AllBefore-cons c p (take q run) (drop q run) front (sorted-append_before c (take q run) (drop q run) parts))
+
+pub count_by-insert : (test : ℕ → Bool) (run : List ℕ) (q p : ℕ) → count_by test (insert run q p) ≡ count_by test run + cond (test p) 1 0
+count_by-insert test run q p =
+    let e : count_by test (take q run ++ drop q run) ≡ count_by test run = ap (count_by test) (take-append-drop q run) in
+    omega (arith, e, count_by-append test (take q run) (p ∷ drop q run), count_by-append test (take q run) (drop q run), count_by-cons test p (drop q run))
+
+-- ---- a remove
+
+tail_before : {K : Type 0} (c : K → K → Ordering) (y : K) (xs ys : List K) → AllBefore c xs (y ∷ ys) → AllBefore c xs ys
+tail_before c y [] ys a = tt
+tail_before c y (x ∷ xs) ys a = (a.0.1, tail_before c y xs ys a.1)
+
+pub ordered-remove : (at : ℕ → Value) (run : List ℕ) (q : ℕ) → q < length run → IsStrictlySortedBy (compare_places at) run → IsStrictlySortedBy (compare_places at) (remove run q)
+ordered-remove at run q within sorted =
+    let c : ℕ → ℕ → Ordering = compare_places at in
+    let split : run ≡ take q run ++ (get_or run q 0 ∷ drop (q + 1) run) = sym (take-append-drop q run) ∙ ap (λ s. take q run ++ s) (drop_more run q 0 within) in
+    let parts : IsStrictlySortedBy c (take q run ++ (get_or run q 0 ∷ drop (q + 1) run)) = rw (← split) sorted in
+    rw (← add-one q)
+    (sorted-append c (take q run) (drop (q + 1) run)
+    (sorted-append_left c (take q run) (get_or run q 0 ∷ drop (q + 1) run) parts)
+    (sorted_tail c (get_or run q 0) (drop (q + 1) run) (sorted-append_right c (take q run) (get_or run q 0 ∷ drop (q + 1) run) parts))
+    (tail_before c (get_or run q 0) (take q run) (drop (q + 1) run) (sorted-append_before c (take q run) (get_or run q 0 ∷ drop (q + 1) run) parts)))
+
+pub count_by-remove : (test : ℕ → Bool) (run : List ℕ) (q p : ℕ) → q < length run → get_or run q 0 ≡ p → count_by test (remove run q) + cond (test p) 1 0 ≡ count_by test run
+count_by-remove test run q p within e =
+    let split : count_by test (take q run ++ (p ∷ drop (q + 1) run)) ≡ count_by test run = ap (count_by test) (sym (sym (take-append-drop q run) ∙ ap (λ s. take q run ++ s) (drop_more run q 0 within ∙ ap (λ x. x ∷ drop (q + 1) run) e))) in
+    let same : count_by test (remove run q) ≡ count_by test (take q run ++ drop (q + 1) run) = ap (λ k. count_by test (take q run ++ drop k run)) (sym (add-one q)) in
+    omega (arith, split, same, count_by-append test (take q run) (p ∷ drop (q + 1) run), count_by-append test (take q run) (drop (q + 1) run), count_by-cons test p (drop (q + 1) run))
+
+-- the place that a search for a position of the run finds is its own
+pub place_found : (at : ℕ → Value) (run : List ℕ) (q p : ℕ) → IsStrictlySortedBy (compare_places at) run → q ≤ length run → Contains run p
+    → ((k : ℕ) → k < q → comes_before at (at p) p (get_or run k 0) ≡ true)
+    → ((k : ℕ) → q ≤ k → k < length run → comes_before at (at p) p (get_or run k 0) ≡ false)
+    → (q < length run) × (get_or run q 0 ≡ p)
+place_found at run q p sorted within there below above =
+    let j : ℕ = there.0 in
+    let is : get_or run j 0 ≡ p = get_or_default run j 0 p there.1 ∙ there.2 in
+    let itself : comes_before at (at p) p p ≡ false = ap is_lt (tied_itself (places_total at) p) in
+    elim (le_or_lt q j) [
+      | inr less ↦ absurd (false≢true (sym itself ∙ rw is at (below j less)))
+      | inl le ↦ elim (cases_eq q j) [
+        | inl e ↦ (rw e there.1, rw e is)
+        | inr apart ↦
+            let first : compare_places at (get_or run q 0) (get_or run j 0) ≡ Less = Less-from_sorted (compare_places at) run q j 0 sorted (omega (arith, apart)) there.1 in
+            absurd (false≢true (sym (above q (omega arith) (omega (arith, there.1))) ∙ ap is_lt (rw is at first)))
+      ]
+    ]
+
+-- the same insert, where the row at p has come to have the value v
+pub ordered-insert_with : (at : ℕ → Value) (v : Value) (run : List ℕ) (q p : ℕ) → IsStrictlySortedBy (compare_places at) run → q ≤ length run → ¬ Contains run p
+    → ((k : ℕ) → k < q → comes_before at v p (get_or run k 0) ≡ true)
+    → ((k : ℕ) → q ≤ k → k < length run → comes_before at v p (get_or run k 0) ≡ false)
+    → IsStrictlySortedBy (compare_places (with_value at p v)) (insert run q p)
+ordered-insert_with at v run q p sorted within out below above =
+    let other : ℕ → Value = with_value at p v in
+    let apart : (k : ℕ) → k < length run → get_or run k 0 ≡ p → ⊥ = λ k h e. out (k, h, get_or_default run k p 0 h ∙ e) in
+    let same : (k : ℕ) → k < length run → at (get_or run k 0) ≡ other (get_or run k 0) = λ k h. sym (with_value-other at v p (get_or run k 0) (apart k h)) in
+    let itself : other p ≡ v = with_value-itself at v p in
+    ordered-insert other run q p (ordered-same at other run same sorted) within apart
+    (λ k h. rw (itself, ← same k (omega arith)) (below k h))
+    (λ k h l. rw (itself, ← same k l) (above k h l))
+
+-- ---- which positions a run has
+
+pub count_below_one : (p n : ℕ) → count_below (λ q. nat_eq q p) n ≡ cond (nat_lt p n) 1 0
+count_below_one p zero = grind (arith, nat_tests)
+count_below_one p (suc n) = grind (arith, nat_tests, count_below_one p n)
+
+pub run_once : (at : ℕ → Value) (from : ℕ) (run : List ℕ) (p : ℕ) → IsRun at from run → from ≤ p → p < from + length run → count_by (λ q. nat_eq q p) run ≡ 1
+run_once at from run p r low high =
+    let below : ◌≡◌ {A = ℕ} (cond (nat_lt p from) 1 0) 0 = grind (arith, nat_tests) in
+    let upto : ◌≡◌ {A = ℕ} (cond (nat_lt p (from + length run)) 1 0) 1 = grind (arith, nat_tests) in
+    omega (arith, r.each (λ q. nat_eq q p), count_below_one p from, count_below_one p (from + length run), below, upto)
+
+pub there_once : (xs : List ℕ) (p : ℕ) → 0 < count_by (λ q. nat_eq q p) xs → Contains xs p
+there_once [] p some = absurd (omega arith)
+there_once (x ∷ xs) p some =
+    elim (cases_eq x p) [
+      | inl e ↦ (0, omega arith, e)
+      | inr apart ↦
+          let no : ◌≡◌ {A = ℕ} (cond (nat_eq x p) 1 0) 0 = grind (arith, nat_tests, apart) in
+          let rest = there_once xs p (omega (arith, some, no, count_by-cons (λ q. nat_eq q p) x xs)) in
+          (suc (rest.0), omega (arith, rest.1), rest.2)
+    ]
+
+pub absent : (xs : List ℕ) (p : ℕ) → count_by (λ q. nat_eq q p) xs ≡ 0 → ¬ Contains xs p
+absent xs p none (k, within, is) = let e : nat_eq (get_or xs k p) p ≡ false = count_by_zero (λ q. nat_eq q p) xs k p none within in grind (arith, nat_tests, e, is)
+
+pub run_apart : (at : ℕ → Value) (from : ℕ) (run : List ℕ) (p : ℕ) → IsRun at from run → from + length run ≤ p → ¬ Contains run p
+run_apart at from run p r h (k, within, is) = let l = run_positions at from run r k p within in omega (arith, l, is)
+
+-- ---- runs that change
+
+pub run_forget : (at : ℕ → Value) (from : ℕ) (run new : List ℕ) (p : ℕ) → IsRun at from run → IsStrictlySortedBy (compare_places at) new → ((test : ℕ → Bool) → count_by test new + cond (test p) 1 0 ≡ count_by test run) → length new + 1 ≡ length run → p ≡ from + length new → IsRun at from new
+run_forget at from run new p r sorted counted len last = record {
+  each = λ test.
+      let one : count_below test (from + length run) ≡ count_below test (from + length new) + cond (test p) 1 0 = ap (count_below test) (omega arith) ∙ count_below-suc test (from + length new) ∙ ap (λ q. count_below test (from + length new) + cond (test q) 1 0) (sym last) in
+      omega (arith, r.each test, counted test, one);
+  ordered = sorted;
+}
+
+pub run_moved : (at other : ℕ → Value) (from : ℕ) (run new : List ℕ) → IsRun at from run → IsStrictlySortedBy (compare_places other) new → ((test : ℕ → Bool) → count_by test new ≡ count_by test run) → length new ≡ length run → IsRun other from new
+run_moved at other from run new r sorted counted len = record {
+  each = λ test. rw (counted test, len) (r.each test);
+  ordered = sorted;
+}
+
+-- values that agree at the members of a run
+pub run_other : (at other : ℕ → Value) (from : ℕ) (run : List ℕ) → IsRun at from run → ((p : ℕ) → from ≤ p → p < from + length run → at p ≡ other p) → IsRun other from run
+run_other at other from run r same = record {
+  each = r.each;
+  ordered = ordered-same at other run (λ k h. same (get_or run k 0) (run_from at from run r k 0 h) (run_positions at from run r k 0 h)) r.ordered;
+}
+
+pub index_add : (at : ℕ → Value) (n : ℕ) (settled recent new : List ℕ) → IsIndex at n settled recent → n + 1 < 2 ^ 32 → IsStrictlySortedBy (compare_places (with_value at n (at n))) new → ((test : ℕ → Bool) → count_by test new ≡ count_by test recent + cond (test n) 1 0) → length new ≡ length recent + 1 → IsIndex at (n + 1) settled new
+index_add at n settled recent new i small sorted counted len = record {
+  settled = i.settled;
+  recent = record {
+    each = λ test.
+        let one : count_below test (length settled + length new) ≡ count_below test n + cond (test n) 1 0 = ap (count_below test) (omega (arith, i.whole)) ∙ count_below-suc test n in
+        let two : count_below test (length settled + length recent) ≡ count_below test n = ap (count_below test) i.whole in
+        omega (arith, i.recent.each test, counted test, one, two);
+    ordered = ordered-same (with_value at n (at n)) at new (λ k h. with_value-same at n (get_or new k 0)) sorted;
+  };
+  whole = omega (arith, i.whole);
+  small = small;
+}
+
+pub index_moved-settled : (at : ℕ → Value) (v : Value) (n p : ℕ) (settled recent new : List ℕ) → IsIndex at n settled recent → p < length settled → IsStrictlySortedBy (compare_places (with_value at p v)) new → ((test : ℕ → Bool) → count_by test new ≡ count_by test settled) → length new ≡ length settled → IsIndex (with_value at p v) n new recent
+index_moved-settled at v n p settled recent new i within sorted counted len = record {
+  settled = run_moved at (with_value at p v) 0 settled new i.settled sorted counted len;
+  recent = rw len (run_other at (with_value at p v) (length settled) recent i.recent (λ q low high. sym (with_value-other at v p q (λ e. omega arith))));
+  whole = omega (arith, i.whole);
+  small = i.small;
+}
+
+pub index_moved-recent : (at : ℕ → Value) (v : Value) (n p : ℕ) (settled recent new : List ℕ) → IsIndex at n settled recent → length settled ≤ p → IsStrictlySortedBy (compare_places (with_value at p v)) new → ((test : ℕ → Bool) → count_by test new ≡ count_by test recent) → length new ≡ length recent → IsIndex (with_value at p v) n settled new
+index_moved-recent at v n p settled recent new i within sorted counted len = record {
+  settled = run_other at (with_value at p v) 0 settled i.settled (λ q low high. sym (with_value-other at v p q (λ e. omega arith)));
+  recent = run_moved at (with_value at p v) (length settled) recent new i.recent sorted counted len;
+  whole = omega (arith, i.whole);
+  small = i.small;
+}
+
+-- what is left of a run has no position that the run had not
+pub positions_left : (n p : ℕ) (run new : List ℕ) → ((test : ℕ → Bool) → count_by test new + cond (test p) 1 0 ≡ count_by test run) → ArePositions n run → ArePositions n new
+positions_left n p run new counted positions k d h =
+    let test : ℕ → Bool = λ q. not (nat_lt q n) in
+    let none : count_by test run ≡ 0 = count_by-none test run (λ j e l. let small = positions j e l in grind (arith, nat_tests, small)) in
+    let out : test (get_or new k d) ≡ false = count_by_zero test new k d (omega (arith, counted test, none)) h in
+    grind (arith, nat_tests, out)
+
+pub absent_left : (p : ℕ) (run new : List ℕ) → ((test : ℕ → Bool) → count_by test new + cond (test p) 1 0 ≡ count_by test run) → count_by (λ q. nat_eq q p) run ≡ 1 → ¬ Contains new p
+absent_left p run new counted once =
+    let one : ◌≡◌ {A = ℕ} (cond (nat_eq p p) 1 0) 1 = grind (arith, nat_tests) in
+    absent new p (omega (arith, counted (λ q. nat_eq q p), once, one))
+
+module _ (at : ℕ → Value) (n : ℕ) (settled recent : List ℕ) (i : IsIndex at n settled recent) where
+  pub settled_once : (p : ℕ) → p < length settled → count_by (λ q. nat_eq q p) settled ≡ 1
+  settled_once p h = run_once at 0 settled p i.settled (omega arith) (omega arith)
+
+  pub recent_once : (p : ℕ) → length settled ≤ p → p < n → count_by (λ q. nat_eq q p) recent ≡ 1
+  recent_once p low h = run_once at (length settled) recent p i.recent low (omega (arith, i.whole))
+
+  pub recent_apart : (p : ℕ) → n ≤ p → ¬ Contains recent p
+  recent_apart p h = run_apart at (length settled) recent p i.recent (omega (arith, i.whole))
+
+  pub positions_more : (m : ℕ) → n ≤ m → ArePositions m settled × ArePositions m recent
+  positions_more m h = (λ k d l. let q = settled_positions at n settled recent i k d l in omega (arith, q), λ k d l. let q = recent_positions at n settled recent i k d l in omega (arith, q))
+
+  -- the index without its last position
+  pub index_forget-settled : (new : List ℕ) → length recent ≡ 0 → IsStrictlySortedBy (compare_places at) new → ((test : ℕ → Bool) → count_by test new + cond (test (n - 1)) 1 0 ≡ count_by test settled) → length new + 1 ≡ length settled → IsIndex at (n - 1) new recent
+  index_forget-settled new none sorted counted len = record {
+    settled = run_forget at 0 settled new (n - 1) i.settled sorted counted len (omega (arith, i.whole));
+    recent = rw (nil_from_length recent none) (record { each = λ test. rw add-zero (rw add-zero refl); ordered = sorted_nil (compare_places at) });
+    whole = omega (arith, i.whole);
+    small = omega (arith, i.small);
+  }
+
+  pub index_forget-recent : (new : List ℕ) → IsStrictlySortedBy (compare_places at) new → ((test : ℕ → Bool) → count_by test new + cond (test (n - 1)) 1 0 ≡ count_by test recent) → length new + 1 ≡ length recent → IsIndex at (n - 1) settled new
+  index_forget-recent new sorted counted len = record {
+    settled = i.settled;
+    recent = run_forget at (length settled) recent new (n - 1) i.recent sorted counted len (omega (arith, i.whole));
+    whole = omega (arith, i.whole);
+    small = omega (arith, i.small);
+  }
+
+-- an index whose positions are all settled
+pub index_settled : (at : ℕ → Value) (n : ℕ) (run : List ℕ) → IsRun at 0 run → length run ≡ n → n < 2 ^ 32 → IsIndex at n run []
+index_settled at n run r len small = record {
+  settled = r;
+  recent = record { each = λ test. rw add-zero (rw add-zero refl); ordered = sorted_nil (compare_places at) };
+  whole = rw add-zero len;
+  small = small;
+}
+
+pub empty_run : (at : ℕ → Value) → IsRun at 0 []
+empty_run at = record { each = λ test. refl; ordered = sorted_nil (compare_places at) }

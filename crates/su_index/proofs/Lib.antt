@@ -1,0 +1,10 @@
+pub mod Changed
+pub mod Keys
+pub mod Leads
+pub mod Matched
+pub mod Merging
+pub mod Ranks
+pub mod Runs
+pub mod Search
+pub mod Spans
+pub mod Whole

@@ -1,0 +1,235 @@
+-- The places of a value in a list of positions in order, and how many they are.
+use Rattle.std.proofs.Common.{◌≡◌, ◌<◌, ◌≤◌, ◌+◌, ◌-◌, ◌&&◌, ℕ, zero, suc, Bool, true, false, cond, List, [], ◌∷◌, length, get_or, take, slice_index, ap, refl, sym, ◌∙◌, arith, inl, inr, ◌⊎◌, count_by, nat_lt, nat_le, not, pos, add-one}
+use Rattle.std.specs.List.Sorted.{IsStrictlySortedBy}
+use Rattle.std.specs.Ordering.{nat_cmp, ordering_then, ordering_reverse, is_lt, is_eq}
+use Rattle.std.specs.declared.cmp.Ordering.{Ordering}
+use Rattle.std.specs.declared.cmp.Ordering.TheVariants.{Less, Equal, Greater}
+use Rattle.std.proofs.lemmas.Bool.{false≢true, cases_eq}
+use Rattle.std.proofs.lemmas.Bool.Decides.{nat_tests}
+use Rattle.std.proofs.lemmas.List.{take_all, get_or_default}
+use Rattle.std.proofs.lemmas.List.Sums.{sum_by_more}
+use Rattle.std.proofs.lemmas.Option.{slice_get-get_or}
+use Rattle.std.proofs.lemmas.Map.Keys.{Less-from_sorted}
+use Rattle.su_base.specs.declared.values.Value.{Value}
+use Rattle.su_base.specs.declared.values.Value.TheVariants.{Int}
+use Rattle.su_base.specs.Value.{compare_values}
+use Rattle.su_index.specs.Matches.{has_value, matches, IsMatch}
+use Rattle.su_index.specs.Order.{compare_places, comes_before, has_at, value_at, count_below, HaveColumn, ArePositions, IsSpan, IsRun, IsIndex}
+use Rattle.su_index.proofs.Runs.{values_total, count_below-same, count_below-upto, count_by-cons, count_by-block}
+
+pub le_or : (a b : ℕ) → (a ≤ b) ⊎ (b < a)
+le_or a b = elim (nat_le a b) as (λ t. nat_le a b ≡ t → (a ≤ b) ⊎ (b < a)) [
+  | true ↦ λ e. inl (grind (arith, nat_tests, e))
+  | false ↦ λ e. inr (grind (arith, nat_tests, e))
+] refl
+
+at_default : (xs : List ℕ) (k d e : ℕ) → k < length xs → get_or xs k d ≡ get_or xs k e
+at_default xs k d e h = get_or_default xs k d e h
+
+and_false : (a b : Bool) → b ≡ false → (a && b) ≡ false
+and_false true b e = e
+and_false false b e = refl
+
+-- ---- one comparison
+
+eq_below : (o : Ordering) (q : ℕ) → is_lt (ordering_then o (nat_cmp q 0)) ≡ true → is_eq o ≡ false
+eq_below Less q e = refl
+eq_below Equal q e = grind (arith, nat_tests, e)
+eq_below Greater q e = refl
+
+eq_among : (o : Ordering) (q top : ℕ) → is_lt (ordering_then o (nat_cmp q 0)) ≡ false → is_lt (ordering_then o (nat_cmp q top)) ≡ true → is_eq o ≡ true
+eq_among Less q top e f = absurd (false≢true (sym e))
+eq_among Equal q top e f = refl
+eq_among Greater q top e f = absurd (false≢true f)
+
+eq_above : (o : Ordering) (q top : ℕ) → q < top → is_lt (ordering_then o (nat_cmp q top)) ≡ false → is_eq o ≡ false
+eq_above Less q top h e = absurd (false≢true (sym e))
+eq_above Equal q top h e = grind (arith, nat_tests, h, e)
+eq_above Greater q top h e = refl
+
+later_too : (o : Ordering) (q top : ℕ) → is_lt (ordering_then o (nat_cmp q 0)) ≡ true → is_lt (ordering_then o (nat_cmp q top)) ≡ true
+later_too Less q top e = refl
+later_too Equal q top e = grind (arith, nat_tests, e)
+later_too Greater q top e = absurd (false≢true e)
+
+pub is_equal : (o : Ordering) → is_eq o ≡ true → o ≡ Equal
+is_equal Less e = absurd (false≢true e)
+is_equal Equal e = refl
+is_equal Greater e = absurd (false≢true e)
+
+then_less : (o : Ordering) (q r : ℕ) → ordering_then o (nat_cmp q r) ≡ Less → o ≡ Equal → q < r
+then_less Less q r e f = absurd (cc)
+then_less Equal q r e f = grind (arith, nat_tests, e)
+then_less Greater q r e f = absurd (cc)
+
+-- two positions with one value are in order as numbers
+less_with_value : (at : ℕ → Value) (v : Value) (q r : ℕ) → has_at at v q ≡ true → has_at at v r ≡ true → compare_places at q r ≡ Less → q < r
+less_with_value at v q r a b less =
+    let e : compare_values (at q) v ≡ Equal = is_equal _ a in
+    let f : compare_values (at r) v ≡ Equal = is_equal _ b in
+    let g : compare_values v (at r) ≡ Equal = values_total.antisymm v (at r) ∙ ap ordering_reverse f in
+    then_less (compare_values (at q) (at r)) q r less (values_total.congr (at q) v (at r) e ∙ g)
+
+-- ---- the places that two searches find
+
+pub IsSpan-search : (at : ℕ → Value) (v : Value) (run : List ℕ) (top first past : ℕ) → ArePositions top run → first ≤ length run → past ≤ length run
+    → ((k : ℕ) → k < first → comes_before at v 0 (slice_index run k) ≡ true)
+    → ((k : ℕ) → first ≤ k → k < length run → comes_before at v 0 (slice_index run k) ≡ false)
+    → ((k : ℕ) → k < past → comes_before at v top (slice_index run k) ≡ true)
+    → ((k : ℕ) → past ≤ k → k < length run → comes_before at v top (slice_index run k) ≡ false)
+    → IsSpan at v run first past
+IsSpan-search at v run top first past positions a b below above below' above' = record {
+  start = elim (le_or first past) [
+    | inl le ↦ le
+    | inr less ↦ absurd (false≢true (sym (above' past (omega arith) (omega arith)) ∙ later_too (compare_values (at (slice_index run past)) v) (slice_index run past) top (below past less)))
+  ];
+  end = b;
+  below = λ k h. eq_below (compare_values (at (slice_index run k)) v) (slice_index run k) (below k h);
+  among = λ k h l. eq_among (compare_values (at (slice_index run k)) v) (slice_index run k) top (above k h (omega arith)) (below' k l);
+  above = λ k h l. eq_above (compare_values (at (slice_index run k)) v) (slice_index run k) top (positions k 0 l) (above' k h l);
+}
+
+-- ---- how many positions have the value
+
+pub span_count : (at : ℕ → Value) (v : Value) (run : List ℕ) (first past : ℕ) → IsSpan at v run first past → count_by (has_at at v) run + first ≡ past
+span_count at v run first past s =
+    count_by-block (has_at at v) run first past s.start s.end
+    (λ k d h. rw (at_default run k d 0 (omega (arith, s.start, s.end))) (s.below k h))
+    (λ k d h l. rw (at_default run k d 0 (omega (arith, s.end))) (s.among k h l))
+    (λ k d h l. rw (at_default run k d 0 l) (s.above k h l))
+
+-- how many of them are less than the k-th
+pub span_rank : (at : ℕ → Value) (v : Value) (run : List ℕ) (first past k r : ℕ) → IsStrictlySortedBy (compare_places at) run → IsSpan at v run first past → first + k < past → r ≡ slice_index run (first + k)
+    → count_by (λ p. nat_lt p r && has_at at v p) run ≡ k
+span_rank at v run first past k r sorted s h e =
+    let has : has_at at v r ≡ true = rw e (s.among (first + k) (omega arith) h) in
+    let counted : count_by (λ p. nat_lt p r && has_at at v p) run + first ≡ first + k =
+    count_by-block (λ p. nat_lt p r && has_at at v p) run first (first + k) (omega arith) (omega (arith, s.end))
+    (λ j d l. rw (at_default run j d 0 (omega (arith, s.end))) (and_false _ _ (s.below j l)))
+    (λ j d l m.
+    let one : has_at at v (get_or run j 0) ≡ true = s.among j l (omega arith) in
+    let less : get_or run j 0 < r = less_with_value at v (get_or run j 0) r one has (rw e (Less-from_sorted (compare_places at) run j (first + k) 0 sorted m (omega (arith, s.end)))) in
+    rw (at_default run j d 0 (omega (arith, s.end))) (grind (arith, nat_tests, one, less)))
+    (λ j d l m. rw (at_default run j d 0 m) (
+    elim (le_or past j) [
+      | inl out ↦ and_false _ _ (s.above j out m)
+      | inr in' ↦
+          let one : has_at at v (get_or run j 0) ≡ true = s.among j (omega arith) in' in
+          elim (cases_eq (first + k) j) [
+            | inl same ↦ let f : get_or run j 0 ≡ r = ap (λ i. get_or run i 0) (sym same) ∙ sym e in grind (arith, nat_tests, f)
+            | inr apart ↦
+                let more : r < get_or run j 0 = less_with_value at v r (get_or run j 0) has one (rw e (Less-from_sorted (compare_places at) run (first + k) j 0 sorted (omega (arith, apart)) m)) in
+                grind (arith, nat_tests, more)
+          ]
+    ])) in
+    omega arith
+
+-- ---- positions of a run
+
+pub count_by_zero : (test : ℕ → Bool) (xs : List ℕ) (k d : ℕ) → count_by test xs ≡ 0 → k < length xs → test (get_or xs k d) ≡ false
+count_by_zero test [] k d none h = absurd (omega arith)
+count_by_zero test (x ∷ xs) zero d none h = grind (arith, count_by-cons test x xs, none)
+count_by_zero test (x ∷ xs) (suc k) d none h = count_by_zero test xs k d (grind (arith, count_by-cons test x xs, none)) (omega arith)
+
+count_below_none : (test : ℕ → Bool) (n : ℕ) → ((k : ℕ) → k < n → test k ≡ false) → count_below test n ≡ 0
+count_below_none test zero none = refl
+count_below_none test (suc n) none = rw (count_below_none test n (λ k h. none k (omega arith)), none n (omega arith)) refl
+
+pub run_positions : (at : ℕ → Value) (from : ℕ) (run : List ℕ) → IsRun at from run → (k d : ℕ) → k < length run → get_or run k d < from + length run
+run_positions at from run r k d h =
+    let test : ℕ → Bool = λ p. not (nat_lt p (from + length run)) in
+    let all : count_below test (from + length run) ≡ 0 = count_below_none test _ (λ j l. grind (arith, nat_tests)) in
+    let none : count_by test run ≡ 0 = omega (arith, r.each test, all) in
+    let out : test (get_or run k d) ≡ false = count_by_zero test run k d none h in
+    grind (arith, nat_tests, out)
+
+upto' : (from n : ℕ) → from ≤ n → count_below (λ p. nat_lt p from) n ≡ count_below (λ p. nat_lt p from) from
+upto' from n h =
+    count_below-same (λ p. nat_lt p from) (λ p. nat_lt p from && true) n (λ k l. grind (arith, nat_tests))
+    ∙ count_below-upto (λ p. true) from n h
+    ∙ count_below-same (λ p. true) (λ p. nat_lt p from) from (λ k l. grind (arith, nat_tests))
+
+pub run_from : (at : ℕ → Value) (from : ℕ) (run : List ℕ) → IsRun at from run → (k d : ℕ) → k < length run → from ≤ get_or run k d
+run_from at from run r k d h =
+    let test : ℕ → Bool = λ p. nat_lt p from in
+    let upto : count_below test from ≡ count_below test (from + length run) = sym (upto' from (from + length run) (omega arith)) in
+    let none : count_by test run ≡ 0 = omega (arith, r.each test, upto) in
+    let out : test (get_or run k d) ≡ false = count_by_zero test run k d none h in
+    grind (arith, nat_tests, out)
+
+-- ---- rows
+
+pub count_rows : (test : List Value → Bool) (rows : List (List Value)) (n : ℕ) → n ≤ length rows → count_by test (take n rows) ≡ count_below (λ p. test (get_or rows p [])) n
+count_rows test rows zero h = refl
+count_rows test rows (suc n) h = rw (← add-one n) (sum_by_more (λ row. cond (test row) 1 0) rows n [] (omega arith) ∙ ap (λ c. c + cond (test (get_or rows n [])) 1 0) (count_rows test rows n (omega arith)))
+
+pub has_value-at : (rows : List (List Value)) (column : ℕ) (v : Value) (p : ℕ) → HaveColumn column rows → p < length rows → has_value column v (get_or rows p []) ≡ has_at (value_at rows column) v p
+has_value-at rows column v p columns h = rw (slice_get-get_or (get_or rows p []) column (Int (pos 0)) (columns p [] h)) refl
+
+pub matches-below : (rows : List (List Value)) (column : ℕ) (v : Value) (n : ℕ) → HaveColumn column rows → n ≤ length rows → matches column v (take n rows) ≡ count_below (has_at (value_at rows column) v) n
+matches-below rows column v n columns h = count_rows (has_value column v) rows n h ∙ count_below-same _ _ n (λ k l. has_value-at rows column v k columns (omega arith))
+
+-- ---- an index
+
+module _ (at : ℕ → Value) (n : ℕ) (settled recent : List ℕ) (index : IsIndex at n settled recent) where
+  pub settled_positions : ArePositions n settled
+  settled_positions k d h = let l = run_positions at 0 settled index.settled k d h in omega (arith, index.whole, l)
+
+  pub recent_positions : ArePositions n recent
+  recent_positions k d h = let l = run_positions at (length settled) recent index.recent k d h in omega (arith, index.whole, l)
+
+  pub spans_count : (v : Value) (a b c d : ℕ) → IsSpan at v settled a b → IsSpan at v recent c d → (b - a) + (d - c) ≡ count_below (has_at at v) n
+  spans_count v a b c d s r =
+      let one : count_below (has_at at v) 0 + count_by (has_at at v) settled ≡ count_below (has_at at v) (0 + length settled) = index.settled.each (has_at at v) in
+      let two : count_below (has_at at v) (length settled) + count_by (has_at at v) recent ≡ count_below (has_at at v) (length settled + length recent) = index.recent.each (has_at at v) in
+      let e : count_below (has_at at v) (length settled + length recent) ≡ count_below (has_at at v) n = ap (count_below (has_at at v)) index.whole in
+      let f : count_below (has_at at v) (0 + length settled) ≡ count_below (has_at at v) (length settled) = ap (count_below (has_at at v)) (omega arith) in
+      let z : count_below (has_at at v) 0 ≡ 0 = refl in
+      omega (arith, span_count at v settled a b s, span_count at v recent c d r, one, two, e, f, z, s.start, r.start)
+
+  -- the rank of a settled position
+  pub settled_rank : (v : Value) (a b k r : ℕ) → IsSpan at v settled a b → a + k < b → r ≡ slice_index settled (a + k) → count_below (has_at at v) r ≡ k
+  settled_rank v a b k r s h e =
+      let test : ℕ → Bool = λ p. nat_lt p r && has_at at v p in
+      let within : r < 0 + length settled = rw e (run_positions at 0 settled index.settled (a + k) 0 (omega (arith, s.end))) in
+      let one : count_below test 0 + count_by test settled ≡ count_below test (0 + length settled) = index.settled.each test in
+      let f : count_below test (0 + length settled) ≡ count_below (has_at at v) r = count_below-upto (has_at at v) r (0 + length settled) (omega arith) in
+      let z : count_below test 0 ≡ 0 = refl in
+      omega (arith, span_rank at v settled a b k r index.settled.ordered s h e, one, f, z)
+
+  -- and of a recent one
+  pub recent_rank : (v : Value) (a b c d k r : ℕ) → IsSpan at v settled a b → IsSpan at v recent c d → c + k < d → r ≡ slice_index recent (c + k) → count_below (has_at at v) r ≡ (b - a) + k
+  recent_rank v a b c d k r s t h e =
+      let test : ℕ → Bool = λ p. nat_lt p r && has_at at v p in
+      let within : r < length settled + length recent = rw e (run_positions at (length settled) recent index.recent (c + k) 0 (omega (arith, t.end))) in
+      let from : length settled ≤ r = rw e (run_from at (length settled) recent index.recent (c + k) 0 (omega (arith, t.end))) in
+      let one : count_below (has_at at v) 0 + count_by (has_at at v) settled ≡ count_below (has_at at v) (0 + length settled) = index.settled.each (has_at at v) in
+      let f : count_below (has_at at v) (0 + length settled) ≡ count_below (has_at at v) (length settled) = ap (count_below (has_at at v)) (omega arith) in
+      let z : count_below (has_at at v) 0 ≡ 0 = refl in
+      let two : count_below test (length settled) + count_by test recent ≡ count_below test (length settled + length recent) = index.recent.each test in
+      let g : count_below test (length settled + length recent) ≡ count_below (has_at at v) r = count_below-upto (has_at at v) r (length settled + length recent) (omega arith) in
+      let same : count_below test (length settled) ≡ count_below (has_at at v) (length settled) = count_below-same test (has_at at v) (length settled) (λ j l. grind (arith, nat_tests, l, from)) in
+      omega (arith, span_count at v settled a b s, span_rank at v recent c d k r index.recent.ordered t h e, one, two, f, g, z, same, s.start)
+
+-- the matches of a table's rows
+module _ (rows : List (List Value)) (column : ℕ) (settled recent : List ℕ) (columns : HaveColumn column rows) (index : IsIndex (value_at rows column) (length rows) settled recent) (v : Value) where
+  pub matches-all : matches column v rows ≡ count_below (has_at (value_at rows column) v) (length rows)
+  matches-all = ap (matches column v) (sym (take_all (length rows) rows (omega arith))) ∙ matches-below rows column v (length rows) columns (omega arith)
+
+  pub matches-spans : (a b c d : ℕ) → IsSpan (value_at rows column) v settled a b → IsSpan (value_at rows column) v recent c d → (b - a) + (d - c) ≡ matches column v rows
+  matches-spans a b c d s r = spans_count (value_at rows column) (length rows) settled recent index v a b c d s r ∙ sym matches-all
+
+  match_at : (k r : ℕ) → r < length rows → has_at (value_at rows column) v r ≡ true → count_below (has_at (value_at rows column) v) r ≡ k → IsMatch column v rows k r
+  match_at k r h has rank = record {
+    within = h;
+    has = has_value-at rows column v r columns h ∙ has;
+    rank = matches-below rows column v r columns (omega arith) ∙ rank;
+  }
+
+  pub IsMatch-settled : (a b k r : ℕ) → IsSpan (value_at rows column) v settled a b → a + k < b → r ≡ slice_index settled (a + k) → IsMatch column v rows k r
+  IsMatch-settled a b k r s h e =
+      match_at k r (rw e (settled_positions _ _ settled recent index (a + k) 0 (omega (arith, s.end)))) (rw e (s.among (a + k) (omega arith) h)) (settled_rank _ _ settled recent index v a b k r s h e)
+
+  pub IsMatch-recent : (a b c d j k r : ℕ) → IsSpan (value_at rows column) v settled a b → IsSpan (value_at rows column) v recent c d → c + j < d → k ≡ (b - a) + j → r ≡ slice_index recent (c + j) → IsMatch column v rows k r
+  IsMatch-recent a b c d j k r s t h e f =
+      match_at k r (rw f (recent_positions _ _ settled recent index (c + j) 0 (omega (arith, t.end)))) (rw f (t.among (c + j) (omega arith) h)) (recent_rank _ _ settled recent index v a b c d j r s t h f ∙ sym e)

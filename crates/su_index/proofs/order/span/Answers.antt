@@ -1,0 +1,8 @@
+use Rattle.std.proofs.Common.{length}
+use Rattle.su_index.proofs.Spans.{IsSpan-search}
+use Rattle.su_index.specs.Order.{value_at}
+use Rattle.su_index.proofs.order.span.Goals as goal
+
+pub returns : goal.returns
+returns c =
+    IsSpan-search (value_at c.args.rows.now c.args.column) c.args.wanted.now c.args.run.now (length c.args.rows.now) _ _ c.requires.positions c.place-first.ensures.within c.place-past.ensures.within c.place-first.ensures.below c.place-first.ensures.above c.place-past.ensures.below c.place-past.ensures.above

@@ -1,0 +1,44 @@
+-- What an index is of.
+use Rattle.std.specs.Prelude.{◌≡◌, ◌<◌, ◌^◌, ℕ, List, length, slice_index_or, All, Bool, map, filter}
+use Rattle.std.specs.Vec.{vec_len, vec_capacity}
+use Rattle.su_base.specs.declared.values.Value.{Value}
+use Rattle.su_rel.specs.Stored.{Stored}
+use Rattle.su_index.specs.declared.index.Index.{Index}
+use Rattle.su_index.specs.Order.{value_at, is_kept, rank_of, ArePositions, IsIndex}
+
+-- the index of the column, over the rows before the n-th
+abbrev pub IsIndexBelow : List (List Value) → ℕ → ℕ → Index → Type 0
+IsIndexBelow rows column n index = IsIndex (value_at rows column) n index.settled.items index.recent.items
+
+-- the index of the column, over all rows
+abbrev pub IsIndexOf : List (List Value) → ℕ → Index → Type 0
+IsIndexOf rows column index = IsIndexBelow rows column (length rows) index
+
+-- an index for each column, over the rows before the n-th
+abbrev pub AreIndexesBelow : List (List Value) → ℕ → List Index → Type 0
+AreIndexesBelow rows n indexes = (column : ℕ) (d : Index) → column < length indexes → IsIndexBelow rows column n (slice_index_or indexes column d)
+
+-- each index can take one more position without memory
+abbrev pub HaveRoom : List Index → Type 0
+HaveRoom indexes = All (λ index. vec_len index.recent < vec_capacity index.recent) indexes
+
+-- a relation with an index for each column
+pub record IsIndexed (stored : Stored) (all : List Index) : Type 0 where
+  pub count : length all ≡ stored.width
+  pub small : length stored.rows < 2 ^ 32
+  pub indexes : AreIndexesBelow stored.rows (length stored.rows) all
+
+-- the positions of the kept rows, in the same order
+abbrev pub kept_positions : List Bool → List ℕ → List ℕ
+kept_positions kept run = map (rank_of kept) (filter (is_kept kept) run)
+
+-- each index has these alone
+abbrev pub AreKept : List Bool → List Index → List Index → Type 0
+AreKept kept old new =
+    (column : ℕ) (d : Index) → column < length new
+    → ((slice_index_or new column d).settled.items ≡ kept_positions kept (slice_index_or old column d).settled.items)
+    × ((slice_index_or new column d).recent.items ≡ kept_positions kept (slice_index_or old column d).recent.items)
+
+-- the positions of each index are below n
+abbrev pub HavePositions : ℕ → List Index → Type 0
+HavePositions n indexes = All (λ index. ArePositions n index.settled.items × ArePositions n index.recent.items) indexes

@@ -1,0 +1,5 @@
+pub mod Indexed
+pub mod Lead
+pub mod Matches
+pub mod Order
+pub mod Tables

@@ -1,0 +1,21 @@
+-- Which rows have a value in a column.
+-- matches: how many rows have it; match: one of these rows, by its position and by how many come before it
+use Rattle.std.specs.Prelude.{◌≡◌, ◌<◌, ℕ, Bool, false, IsTrue, List, [], length, take, slice_get, slice_index_or, count_by}
+use Rattle.std.specs.Option.{option_map_or}
+use Rattle.std.specs.Ordering.{is_eq}
+use Rattle.su_base.specs.declared.values.Value.{Value}
+use Rattle.su_base.specs.Value.{compare_values}
+
+-- the row has the value in the column
+abbrev pub has_value : ℕ → Value → List Value → Bool
+has_value column value row = option_map_or (λ found. is_eq (compare_values found value)) (slice_get row column) false
+
+-- how many rows have the value in the column
+abbrev pub matches : ℕ → Value → List (List Value) → ℕ
+matches column value rows = count_by (has_value column value) rows
+
+-- position p is that of the k-th such row, counted from 0 by ascending position
+pub record IsMatch (column : ℕ) (value : Value) (rows : List (List Value)) (k p : ℕ) : Type 0 where
+  pub within : p < length rows
+  pub has : IsTrue (has_value column value (slice_index_or rows p []))
+  pub rank : matches column value (take p rows) ≡ k

@@ -1,0 +1,7 @@
+-- The tables that an executor reads.
+use Rattle.std.specs.Prelude.{ℕ, List, [], slice_index_or}
+use Rattle.su_rel.specs.Stored.{Stored}
+
+-- the table with the number; past the last one a table without rows
+abbrev pub table_at : List Stored → ℕ → Stored
+table_at tables table = slice_index_or tables table (record { width = 0; rows = [] })

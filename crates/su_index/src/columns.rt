@@ -1,0 +1,75 @@
+//! The indexes of all columns.
+ghost use Rattle.std.specs.Prelude.{◌≡◌, ◌<◌, ◌≤◌, ◌+◌, ◌-◌, ◌^◌, ℕ, length, slice_index_or, IfOk, OnOk};
+ghost use Rattle.su_rel.specs.Stored.{HaveWidth};
+ghost use Rattle.su_index.specs.Indexed.{AreIndexesBelow, HaveRoom};
+ghost use Rattle.su_index.specs.declared.index.Index.{Index as Indexed};
+ghost use Rattle.su_index.specs.Order.{value_at, with_value, IsRun, IsIndex};
+
+use crate::index::Index;
+use std::alloc::Global;
+use su_base::{NoMemory, Row};
+
+/// Makes room for one more row in each index.
+pub(crate) fn make_room(
+    alloc: Global,
+    rows: &[Row],
+    indexes: &mut Vec<Index>,
+) -> Result<(), NoMemory>
+    requires columns { HaveWidth (length indexes.old.items) rows.now }
+    requires indexes { AreIndexesBelow rows.now (length rows.now) indexes.old.items }
+    ensures len { length indexes.new.items ≡ length indexes.old.items }
+    ensures indexes { AreIndexesBelow rows.now (length rows.now) indexes.new.items }
+    ensures room { OnOk result (HaveRoom indexes.new.items) }
+{
+    for column in 0..indexes.len() {
+        indexes[column].make_room(alloc, rows, column)?;
+    }
+    Ok(())
+}
+
+/// Takes the last row, at the position, into each index.
+pub(crate) fn add(rows: &[Row], position: u32, indexes: &mut Vec<Index>)
+    requires columns { HaveWidth (length indexes.old.items) rows.now }
+    requires small { length rows.now < 2 ^ 32 }
+    requires last { position + 1 ≡ length rows.now }
+    requires indexes { AreIndexesBelow rows.now position indexes.old.items }
+    requires room { HaveRoom indexes.old.items }
+    ensures len { length indexes.new.items ≡ length indexes.old.items }
+    ensures indexes { AreIndexesBelow rows.now (length rows.now) indexes.new.items }
+{
+    for column in 0..indexes.len() {
+        indexes[column].add(rows, column, position);
+    }
+}
+
+/// Leaves the last row out of each index, and lets the row at the position have its values.
+pub(crate) fn take_out(rows: &[Row], position: u32, indexes: &mut Vec<Index>)
+    requires columns { HaveWidth (length indexes.old.items) rows.now }
+    requires within { position < length rows.now }
+    requires indexes { AreIndexesBelow rows.now (length rows.now) indexes.old.items }
+    ensures len { length indexes.new.items ≡ length indexes.old.items }
+    ensures indexes { (column : ℕ) (d : Indexed) → column < length indexes.new.items → IsIndex (with_value (value_at rows.now column) position (value_at rows.now column (length rows.now - 1))) (length rows.now - 1) (slice_index_or indexes.new.items column d).settled.items (slice_index_or indexes.new.items column d).recent.items }
+{
+    for column in 0..indexes.len() {
+        indexes[column].take_out(rows, column, position);
+    }
+}
+
+/// The indexes with all rows taken in, of which each has the first ones.
+pub(crate) fn grown(alloc: Global, rows: &[Row], indexes: &[Index]) -> Result<Vec<Index>, NoMemory>
+    requires columns { HaveWidth (length indexes.now) rows.now }
+    requires small { length rows.now < 2 ^ 32 }
+    requires settled { (column : ℕ) (d : Indexed) → column < length indexes.now → IsRun (value_at rows.now column) 0 (slice_index_or indexes.now column d).settled.items }
+    requires within { (column : ℕ) (d : Indexed) → column < length indexes.now → length (slice_index_or indexes.now column d).settled.items ≤ length rows.now }
+    ensures len { IfOk result (λ grown. length grown.items ≡ length indexes.now) }
+    ensures indexes { IfOk result (λ grown. AreIndexesBelow rows.now (length rows.now) grown.items) }
+{
+    let mut grown = Vec::with_capacity(alloc, indexes.len())?;
+    for column in 0..indexes.len() {
+        let index = indexes[column].grown(alloc, rows, column)?;
+        if grown.push(index).is_err() {
+            return Err(NoMemory);
+        }
+    }
+    Ok(grown)
+}

@@ -1,0 +1,72 @@
+//! Runs of the rows that are kept.
+ghost use Rattle.std.specs.Prelude.{◌≡◌, ◌<◌, ◌^◌, ℕ, cond, length, slice_index, map, filter, IfOk};
+ghost use Rattle.su_index.specs.Indexed.{HavePositions, AreKept};
+ghost use Rattle.su_index.specs.Order.{is_kept, rank_of, ArePositions};
+
+use crate::index::Index;
+use std::alloc::Global;
+use su_base::NoMemory;
+
+fn one_if(mark: bool) -> u32
+    ensures { result ≡ cond mark 1 0 }
+{
+    if mark { 1 } else { 0 }
+}
+
+/// The position that each row comes to, if it is kept.
+pub(crate) fn ranks(alloc: Global, kept: &[bool]) -> Result<Vec<u32>, NoMemory>
+    requires { length kept.now < 2 ^ 32 }
+    ensures len { IfOk result (λ ranks. length ranks.items ≡ length kept.now) }
+    ensures ranks { IfOk result (λ ranks. (p : ℕ) → p < length kept.now → slice_index ranks.items p ≡ rank_of kept.now p) }
+{
+    let mut ranks = Vec::with_capacity(alloc, kept.len())?;
+    let mut rank = 0;
+    for mark in kept {
+        if ranks.push(rank).is_err() {
+            return Err(NoMemory);
+        }
+        rank += one_if(*mark);
+    }
+    Ok(ranks)
+}
+
+/// The positions of the run that are kept, as what they come to.
+fn kept_run(alloc: Global, run: &[u32], kept: &[bool], ranks: &[u32]) -> Result<Vec<u32>, NoMemory>
+    requires positions { ArePositions (length kept.now) run.now }
+    requires len { length ranks.now ≡ length kept.now }
+    requires ranks { (p : ℕ) → p < length kept.now → slice_index ranks.now p ≡ rank_of kept.now p }
+    ensures { IfOk result (λ new. new.items ≡ map (rank_of kept.now) (filter (is_kept kept.now) run.now)) }
+{
+    let mut new = Vec::with_capacity(alloc, run.len())?;
+    for position in run {
+        let place = *position as usize;
+        if kept[place] && new.push(ranks[place]).is_err() {
+            return Err(NoMemory);
+        }
+    }
+    Ok(new)
+}
+
+/// The indexes of the rows that are kept.
+pub(crate) fn kept_indexes(
+    alloc: Global,
+    kept: &[bool],
+    ranks: &[u32],
+    indexes: &[Index],
+) -> Result<Vec<Index>, NoMemory>
+    requires positions { HavePositions (length kept.now) indexes.now }
+    requires len { length ranks.now ≡ length kept.now }
+    requires ranks { (p : ℕ) → p < length kept.now → slice_index ranks.now p ≡ rank_of kept.now p }
+    ensures len { IfOk result (λ new. length new.items ≡ length indexes.now) }
+    ensures kept { IfOk result (λ new. AreKept kept.now indexes.now new.items) }
+{
+    let mut new = Vec::with_capacity(alloc, indexes.len())?;
+    for index in indexes {
+        let settled = kept_run(alloc, index.settled.as_slice(), kept, ranks)?;
+        let recent = kept_run(alloc, index.recent.as_slice(), kept, ranks)?;
+        if new.push(Index { settled, recent }).is_err() {
+            return Err(NoMemory);
+        }
+    }
+    Ok(new)
+}

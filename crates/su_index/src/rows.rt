@@ -1,0 +1,90 @@
+//! Rows as an executor reads them: counted.
+ghost use Rattle.std.specs.Prelude.{◌≡◌, ◌<◌, ◌+◌, ℕ, List, length, slice_get, map};
+ghost use Rattle.std.specs.Borrow.{sem};
+ghost use Rattle.std.specs.Io.BufRead.{Rests};
+ghost use Rattle.su_rel.specs.Stored.{Stored, IsRelation};
+ghost use Rattle.su_index.specs.Matches.{matches, IsMatch};
+ghost use Rattle.su_index.specs.Tables.{table_at};
+
+use crate::tables::Table;
+use std::sync::ledger::{Blank, Ledger};
+use su_base::{Row, Steps, Value};
+
+/// Numbered tables whose rows are looked up and fetched. Contracts see the tables, and how many rows
+/// were fetched.
+pub trait Rows {
+    ghost tables: { Self → List Stored };
+
+    ghost fetches: { Self → ℕ };
+
+    /// How many rows the table has.
+    fn len(&self, table: u8) -> usize
+        requires { table < length (tables self.now) }
+        ensures rows { result ≡ length (table_at (tables self.now) table).rows }
+        ensures relation { IsRelation (table_at (tables self.now) table) };
+
+    /// How many of its rows have the value in the column.
+    fn matching(&self, table: u8, column: u8, value: &Value) -> usize
+        requires table { table < length (tables self.now) }
+        requires column { column < (table_at (tables self.now) table).width }
+        ensures { result ≡ matches column value.now (table_at (tables self.now) table).rows };
+
+    /// The position of the k-th of these rows, from 0 by ascending position.
+    fn matched(&self, table: u8, column: u8, value: &Value, k: usize) -> usize
+        requires table { table < length (tables self.now) }
+        requires column { column < (table_at (tables self.now) table).width }
+        requires within { k < matches column value.now (table_at (tables self.now) table).rows }
+        ensures { IsMatch column value.now (table_at (tables self.now) table).rows k result };
+
+    /// The row at the position; it counts as fetched.
+    fn fetch(&mut self, table: u8, i: usize) -> &Row
+        requires table { table < length (tables self.old) }
+        requires within { i < length (table_at (tables self.old) table).rows }
+        ensures row { slice_get (table_at (tables self.old) table).rows i ≡ Some result.now }
+        ensures* counted { sem 𝓛 (Rests Self.row self.entry (λ after. (tables after ≡ tables self.old) × (fetches after ≡ fetches self.old + 1))) };
+}
+
+/// Tables with a counter of the rows that were fetched from them.
+#[derive(Drop)]
+pub struct TableRows<'a, L: Ledger> {
+    tables: &'a [Table],
+    steps: Steps<L>,
+}
+
+impl<'a, L: Ledger> TableRows<'a, L> {
+    /// The tables, nothing fetched so far. The counter is that of the blank's ledger.
+    pub fn new(tables: &'a [Table], blank: Blank) -> TableRows<'a, L>
+        requires name { blank.name ≡ L.name }
+        requires parts { blank.parts ≡ L.parts }
+        requires some { 0 < blank.parts }
+        ensures tables { result.tables.now ≡ tables.now }
+        ensures fetches { result.steps ≡ 0 }
+    {
+        TableRows {
+            tables,
+            steps: Steps::new(blank),
+        }
+    }
+}
+
+impl<'a, L: Ledger> Rows for TableRows<'a, L> {
+    ghost tables = { λ rows. rows.tables.now };
+
+    ghost fetches = { λ rows. rows.steps };
+
+    fn len(&self, table: u8) -> usize {
+        self.tables[table as usize].as_slice().len()
+    }
+
+    fn matching(&self, table: u8, column: u8, value: &Value) -> usize {
+        self.tables[table as usize].matching(column, value)
+    }
+
+    fn matched(&self, table: u8, column: u8, value: &Value, k: usize) -> usize {
+        self.tables[table as usize].matched(column, value, k)
+    }
+
+    fn fetch(&mut self, table: u8, i: usize) -> &Row {
+        self.tables[table as usize].fetch(i, &mut self.steps)
+    }
+}

@@ -1,0 +1,102 @@
+//! Runs made at once: by a sort, and of two runs.
+ghost use Rattle.std.specs.Prelude.{◌≡◌, ◌<◌, ◌≤◌, ◌+◌, ◌^◌, ℕ, Bool, length, map, All, count_by, IfOk};
+ghost use Rattle.su_index.specs.Lead.{IsLead};
+ghost use Rattle.su_index.specs.Order.{value_at, count_below, HaveColumn, IsRun};
+
+use crate::lead::lead;
+use crate::order::{place, value};
+use std::alloc::Global;
+use su_base::{NoMemory, Row, Value};
+
+/// Both runs as one.
+pub(crate) fn merged(
+    alloc: Global,
+    rows: &[Row],
+    column: usize,
+    early: &[u32],
+    late: &[u32],
+) -> Result<Vec<u32>, NoMemory>
+    requires columns { HaveColumn column rows.now }
+    requires whole { length early.now + length late.now ≤ length rows.now }
+    requires early { IsRun (value_at rows.now column) 0 early.now }
+    requires late { IsRun (value_at rows.now column) (length early.now) late.now }
+    ensures run { IfOk result (λ run. IsRun (value_at rows.now column) 0 run.items) }
+    ensures len { IfOk result (λ run. length run.items ≡ length early.now + length late.now) }
+{
+    let mut run = Vec::with_capacity(alloc, early.len() + late.len())?;
+    let mut from = 0;
+    for position in late {
+        let rest = &early[from..];
+        let count = place(
+            rows,
+            column,
+            rest,
+            value(rows, column, *position),
+            *position,
+        );
+        run.extend_from_slice(&rest[..count])?;
+        if run.push(*position).is_err() {
+            return Err(NoMemory);
+        }
+        from += count;
+    }
+    run.extend_from_slice(&early[from..])?;
+    Ok(run)
+}
+
+/// The values in the column from the row at `from` on, each with its lead and its position.
+fn keys_of<'a>(
+    alloc: Global,
+    rows: &'a [Row],
+    column: usize,
+    from: usize,
+) -> Result<Vec<(u64, &'a Value, u32)>, NoMemory>
+    requires columns { HaveColumn column rows.now }
+    requires small { length rows.now < 2 ^ 32 }
+    requires from { from ≤ length rows.now }
+    ensures values { IfOk result (λ keys. All (λ key. IsLead key.0 key.1.now × (key.1.now ≡ value_at rows.now column key.2)) keys.items) }
+    ensures each { IfOk result (λ keys. (test : ℕ → Bool) → count_below test from + count_by (λ key. test key.2) keys.items ≡ count_below test (length rows.now)) }
+    ensures len { IfOk result (λ keys. from + length keys.items ≡ length rows.now) }
+{
+    let mut keys = Vec::with_capacity(alloc, rows.len() - from)?;
+    for position in from..rows.len() {
+        let found = value(rows, column, position as u32);
+        let key = (lead(found), found, position as u32);
+        if keys.push(key).is_err() {
+            return Err(NoMemory);
+        }
+    }
+    Ok(keys)
+}
+
+/// The positions of the keys.
+fn positions_of(alloc: Global, keys: &[(u64, &Value, u32)]) -> Result<Vec<u32>, NoMemory>
+    ensures { IfOk result (λ run. run.items ≡ map (λ key. key.2) keys.now) }
+{
+    let mut run = Vec::with_capacity(alloc, keys.len())?;
+    for key in keys {
+        if run.push(key.2).is_err() {
+            return Err(NoMemory);
+        }
+    }
+    Ok(run)
+}
+
+/// The positions from `from` on as a run.
+pub(crate) fn sorted(
+    alloc: Global,
+    rows: &[Row],
+    column: usize,
+    from: usize,
+) -> Result<Vec<u32>, NoMemory>
+    requires columns { HaveColumn column rows.now }
+    requires small { length rows.now < 2 ^ 32 }
+    requires from { from ≤ length rows.now }
+    ensures run { IfOk result (λ run. IsRun (value_at rows.now column) from run.items) }
+    ensures len { IfOk result (λ run. from + length run.items ≡ length rows.now) }
+{
+    let mut keys = keys_of(alloc, rows, column, from)?;
+    keys.sort_unstable();
+    let run = positions_of(alloc, keys.as_slice())?;
+    Ok(run)
+}

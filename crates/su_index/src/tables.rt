@@ -1,0 +1,211 @@
+//! A relation with an index for each column.
+ghost use Rattle.std.specs.Prelude.{◌≡◌, ◌<◌, ◌+◌, ◌↔◌, [], ◌∷◌, ◌++◌, length, Contains, IsTrue, IfOk, IfErr, OnOk, OnErr, MatchBool, slice_get, if◌then◌else◌};
+ghost use Rattle.std.specs.Bool.{OnFalse};
+ghost use Rattle.std.specs.List.{items_where_true};
+ghost use Rattle.su_rel.specs.Changes.{PutInAll, TakenOut};
+ghost use Rattle.su_rel.specs.Stored.{HaveWidth, IsRelation};
+ghost use Rattle.su_index.specs.Matches.{matches, IsMatch};
+
+use crate::columns::{add, grown, make_room, take_out};
+use crate::index::Index;
+use crate::keeping::{kept_indexes, ranks};
+use std::alloc::Global;
+use std::marker::Model;
+use std::sync::ledger::Ledger;
+use su_base::{List, NoMemory, Row, Steps, Value};
+use su_rel::Relation;
+
+/// A set of rows of one width, with an ordered index for each column.
+#[derive(Drop)]
+pub struct Table {
+    alloc: Global,
+    rows: Relation,
+    indexes: Vec<Index>,
+}
+
+/// There are at most so many rows, since an index keeps positions in 32 bits.
+const MOST: usize = 4294967294;
+
+impl Model for Table {
+    ghost use Rattle.su_rel.specs.Stored.{Stored};
+
+    ghost Value = { Stored };
+
+    ghost use Rattle.su_index.specs.Indexed.{IsIndexed};
+
+    ghost view = { λ t. t.rows };
+
+    ghost invariant = { λ t. IsIndexed t.rows t.indexes.items };
+}
+
+impl Table {
+    /// A table without rows.
+    pub fn new(alloc: Global, width: u8) -> Result<Table, NoMemory>
+        ensures width { IfOk result (λ table. table.width ≡ width) }
+        ensures empty { IfOk result (λ table. table.rows ≡ []) }
+    {
+        let mut indexes = Vec::new(alloc);
+        for _ in 0..width {
+            if indexes.push(Index::new(alloc)).is_err() {
+                return Err(NoMemory);
+            }
+        }
+        Ok(Table {
+            alloc,
+            rows: Relation::new(alloc, width),
+            indexes,
+        })
+    }
+
+    /// How many values each row has.
+    pub fn width(&self) -> u8
+        ensures { result ≡ self.now.width }
+    {
+        self.rows.width()
+    }
+
+    /// How many rows there are.
+    pub fn len(&self) -> usize
+        ensures { result ≡ length self.now.rows }
+    {
+        self.rows.len()
+    }
+
+    /// Whether there is no row.
+    pub fn is_empty(&self) -> bool
+        ensures { IsTrue result ↔ (length self.now.rows ≡ 0) }
+    {
+        self.rows.is_empty()
+    }
+
+    /// The rows by position.
+    pub fn as_slice(&self) -> &[Row]
+        ensures rows { result.now ≡ self.now.rows }
+        ensures relation { IsRelation self.now }
+    {
+        self.rows.as_slice()
+    }
+
+    /// The row at position `i`, from 0, counted nowhere.
+    pub fn row(&self, i: usize) -> &Row
+        requires { i < length self.now.rows }
+        ensures { slice_get self.now.rows i ≡ Some result.now }
+    {
+        self.rows.row(i)
+    }
+
+    /// Whether the row is there.
+    pub fn has(&self, row: &Row) -> bool
+        ensures { IsTrue result ↔ Contains self.now.rows row.now }
+    {
+        self.rows.has(row)
+    }
+
+    /// Puts the row in, and answers whether it is new; a refused row comes back.
+    pub fn insert(&mut self, row: Row) -> Result<bool, (Row, NoMemory)>
+        requires { length row ≡ self.old.width }
+        ensures width { self.new.width ≡ self.old.width }
+        ensures ok { IfOk result (λ new. MatchBool new ((¬ Contains self.old.rows row) × (self.new.rows ≡ self.old.rows ++ row ∷ [])) (Contains self.old.rows row × (self.new ≡ self.old))) }
+        ensures unchanged { OnErr result (self.new ≡ self.old) }
+        ensures handed_back { IfErr result (λ e. e.0 ≡ row) }
+    {
+        if self.rows.len() >= MOST {
+            return Err((row, NoMemory));
+        }
+        if make_room(self.alloc, self.rows.as_slice(), &mut self.indexes).is_err() {
+            return Err((row, NoMemory));
+        }
+        let position = self.rows.len() as u32;
+        match self.rows.insert(row) {
+            Ok(true) => {
+                add(self.rows.as_slice(), position, &mut self.indexes);
+                Ok(true)
+            }
+            Ok(false) => Ok(false),
+            Err(refused) => Err(refused),
+        }
+    }
+
+    /// Puts the rows in one after another, and answers how many were new; the indexes are sorted once.
+    /// Where memory is wanting, none is put in, and they are dropped.
+    pub fn insert_all(&mut self, rows: List<Row>) -> Result<usize, NoMemory>
+        requires { HaveWidth self.old.width rows }
+        ensures width { self.new.width ≡ self.old.width }
+        ensures rows { IfOk result (λ _. PutInAll self.old.rows rows self.new.rows) }
+        ensures count { IfOk result (λ new. length self.new.rows ≡ length self.old.rows + new) }
+        ensures unchanged { OnErr result (self.new ≡ self.old) }
+    {
+        let before = self.rows.len();
+        let new = self.rows.insert_all(rows)?;
+        if self.rows.len() > MOST {
+            self.rows.truncate(before);
+            return Err(NoMemory);
+        }
+        let Ok(indexes) = grown(self.alloc, self.rows.as_slice(), self.indexes.as_slice()) else {
+            self.rows.truncate(before);
+            return Err(NoMemory);
+        };
+        self.indexes = indexes;
+        Ok(new)
+    }
+
+    /// Takes the row out, and answers whether it was there. It takes no memory.
+    pub fn remove(&mut self, row: &Row) -> bool
+        ensures width { self.new.width ≡ self.old.width }
+        ensures there { IsTrue result ↔ Contains self.old.rows row.now }
+        ensures out { TakenOut self.old.rows row.now self.new.rows }
+        ensures count { length self.new.rows + (if result then 1 else 0) ≡ length self.old.rows }
+        ensures unchanged { OnFalse result (self.new ≡ self.old) }
+    {
+        let Some(position) = self.rows.position(row) else {
+            return false;
+        };
+        take_out(self.rows.as_slice(), position as u32, &mut self.indexes);
+        let _row = self.rows.remove_at(position);
+        true
+    }
+
+    /// Keeps the rows whose mark is set, in their order; the marks stand by position. One pass over
+    /// rows and indexes, without a sort.
+    pub fn keep(&mut self, kept: &[bool]) -> Result<(), NoMemory>
+        requires { length kept.now ≡ length self.old.rows }
+        ensures width { self.new.width ≡ self.old.width }
+        ensures rows { OnOk result (self.new.rows ≡ items_where_true kept.now self.old.rows) }
+        ensures unchanged { OnErr result (self.new ≡ self.old) }
+    {
+        let ranks = ranks(self.alloc, kept)?;
+        let indexes = kept_indexes(self.alloc, kept, ranks.as_slice(), self.indexes.as_slice())?;
+        self.rows.keep(kept);
+        self.indexes = indexes;
+        Ok(())
+    }
+
+    /// How many rows have the value in the column.
+    pub fn matching(&self, column: u8, value: &Value) -> usize
+        requires { column < self.now.width }
+        ensures { result ≡ matches column value.now self.now.rows }
+    {
+        let column = column as usize;
+        self.indexes[column].matching(self.rows.as_slice(), column, value)
+    }
+
+    /// The position of the k-th row that has the value in the column, from 0 by ascending position.
+    pub fn matched(&self, column: u8, value: &Value, k: usize) -> usize
+        requires column { column < self.now.width }
+        requires within { k < matches column value.now self.now.rows }
+        ensures { IsMatch column value.now self.now.rows k result }
+    {
+        let column = column as usize;
+        self.indexes[column].matched(self.rows.as_slice(), column, value, k)
+    }
+
+    /// The row at position `i`, from 0; one step is counted.
+    pub fn fetch<L: Ledger>(&self, i: usize, steps: &mut Steps<L>) -> &Row
+        requires { i < length self.now.rows }
+        ensures row { slice_get self.now.rows i ≡ Some result.now }
+        ensures counted { steps.new ≡ steps.old + 1 }
+    {
+        steps.tick();
+        self.rows.row(i)
+    }
+}
