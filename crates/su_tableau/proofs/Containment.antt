@@ -1,0 +1,44 @@
+-- Mappings are containment.
+use Rattle.std.proofs.Common.{◌≡◌, ℕ, List, [], ◌∷◌, map, get_or, Contains, refl, sym, ap, ◌∙◌, subst}
+use Rattle.std.proofs.lemmas.List.Elements.{All-contains}
+use Rattle.su_base.specs.declared.values.Value.{Value}
+use Rattle.su_tableau.specs.declared.symbols.Sym.{Sym}
+use Rattle.su_tableau.specs.declared.symbols.Sym.TheVariants.{Const, Var}
+use Rattle.su_tableau.specs.Tableaux.{Tab, value_of, values_of}
+use Rattle.su_tableau.specs.Kinds.{Kinds}
+use Rattle.su_tableau.specs.Mapping.{image_of, images_of, Maps}
+use Rattle.su_tableau.specs.Equivalent.{IsWithin}
+use Rattle.su_tableau.proofs.Listing.{by_list, from_list}
+
+-- ---- composing
+
+-- a map after a map, where one map at each element does both
+pub map_twice : {A B C : Type 0} (f : A → B) (g : B → C) (h : A → C) → ((x : A) → g (f x) ≡ h x) → (xs : List A) → map g (map f xs) ≡ map h xs
+map_twice f g h e [] = refl
+map_twice f g h e (x ∷ xs) = let i = map_twice f g h e xs in let j = e x in cc
+
+values_after : (v : ℕ → Value) (s : ℕ → Sym) (xs : List Sym) → values_of v (images_of s xs) ≡ values_of (λ k. value_of v (s k)) xs
+values_after v s xs = map_twice (image_of s) (value_of v) (value_of (λ k. value_of v (s k))) (elim [ Const c ↦ refl | Var k ↦ refl ]) xs
+
+images_after : (s t : ℕ → Sym) (xs : List Sym) → images_of t (images_of s xs) ≡ images_of (λ k. image_of t (s k)) xs
+images_after s t xs = map_twice (image_of s) (image_of t) (image_of (λ k. image_of t (s k))) (elim [ Const c ↦ refl | Var k ↦ refl ]) xs
+
+pub maps_compose : (r s t : Tab) → Maps r s → Maps s t → Maps r t
+maps_compose r s t f g = record {
+  symbols = λ k. image_of g.symbols (f.symbols k);
+  head = sym (images_after f.symbols g.symbols r.head) ∙ ap (images_of g.symbols) f.head ∙ g.head;
+  rows = λ k d h.
+      let c = All-contains (λ row. Contains t.rows (images_of g.symbols row)) s.rows (images_of f.symbols (get_or r.rows k d)) g.rows (f.rows k d h) in
+      subst (Contains t.rows) (images_after f.symbols g.symbols (get_or r.rows k d)) c;
+}
+
+pub maps_within : (kinds : Kinds) (s t : Tab) → Maps s t → IsWithin kinds t s
+maps_within kinds s t f universe h typed ext =
+    let e = from_list t universe h ext in
+    by_list s universe h (record {
+      valuation = λ k. value_of e.valuation (f.symbols k);
+      sends = λ k d l.
+          let c = All-contains (λ row. Contains universe (values_of e.valuation row)) t.rows (images_of f.symbols (get_or s.rows k d)) e.sends (f.rows k d l) in
+          subst (Contains universe) (values_after e.valuation f.symbols (get_or s.rows k d)) c;
+      gives = sym (values_after e.valuation f.symbols s.head) ∙ ap (values_of e.valuation) f.head ∙ e.gives;
+    })

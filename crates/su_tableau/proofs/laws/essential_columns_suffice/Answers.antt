@@ -1,0 +1,5 @@
+use Rattle.su_tableau.proofs.Changing.{essential_ext, ext_essential}
+use Rattle.su_tableau.proofs.laws.essential_columns_suffice.Goals as goal
+
+pub returns : goal.returns
+returns c = λ t m universe h valid widths wide. (essential_ext t m universe h valid widths wide, ext_essential t m universe h)

@@ -1,0 +1,5 @@
+use Rattle.su_tableau.proofs.Freezing.{frozen_typed, frozen_answer, frozen_maps}
+use Rattle.su_tableau.proofs.laws.freezing.Goals as goal
+
+pub returns : goal.returns
+returns c = record { typed = frozen_typed; answer = frozen_answer; thawed = frozen_maps }

@@ -1,0 +1,17 @@
+-- Inclusion and equivalence over every universal relation, and least tableaux.
+use Rattle.std.specs.Prelude.{◌≤◌, ◌↔◌, List, length}
+use Rattle.su_base.specs.declared.values.Value.{Value}
+use Rattle.su_tableau.specs.Tableaux.{Tab, IsValid, Ext}
+use Rattle.su_tableau.specs.Kinds.{Kinds, IsUniverse, IsTyped}
+
+-- over every universal relation of these kinds each answer of s is one of t
+abbrev pub IsWithin : Kinds → Tab → Tab → Type 0
+IsWithin kinds s t = (universe : List (List Value)) (h : List Value) → IsUniverse kinds universe → Ext s universe h → Ext t universe h
+
+-- over every universal relation of these kinds the two have the same answers
+abbrev pub IsEquivalent : Kinds → Tab → Tab → Type 0
+IsEquivalent kinds s t = (universe : List (List Value)) (h : List Value) → IsUniverse kinds universe → (Ext s universe h ↔ Ext t universe h)
+
+-- no valid, well typed tableau that is equivalent has fewer rows
+abbrev pub IsLeast : Kinds → Tab → Type 0
+IsLeast kinds t = (s : Tab) → IsValid s → IsTyped kinds s → IsEquivalent kinds s t → length t.rows ≤ length s.rows

@@ -1,0 +1,27 @@
+//! Sets of row numbers in the bits of a machine word.
+ghost use Rattle.std.specs.Prelude.{◌≡◌, ◌+◌, ◌^◌, ◌<◌, ◌≤◌, ◌↔◌, IsTrue};
+ghost use Rattle.std.specs.Int.{bit_at};
+
+/// Whether the number is in the set.
+pub fn has(mask: u64, i: usize) -> bool
+    requires { i < 64 }
+    ensures { IsTrue result ↔ (bit_at mask i ≡ 1) }
+{
+    mask >> i & 1 == 1
+}
+
+/// The set of one number.
+pub fn bit(i: usize) -> u64
+    requires { i < 64 }
+    ensures { result ≡ 2 ^ i }
+{
+    1 << i
+}
+
+/// The set of the numbers below n.
+pub fn full(n: usize) -> u64
+    requires { n ≤ 64 }
+    ensures { result + 1 ≡ 2 ^ n }
+{
+    if n == 64 { u64::MAX } else { (1 << n) - 1 }
+}
