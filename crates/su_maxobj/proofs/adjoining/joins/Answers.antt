@@ -1,0 +1,8 @@
+use Rattle.std.proofs.Common.{sym}
+use Rattle.su_maxobj.proofs.Members.{object_at_read}
+use Rattle.su_maxobj.proofs.Joining.{joins_by}
+use Rattle.su_maxobj.proofs.adjoining.joins.Goals as goal
+
+pub returns : goal.returns
+returns c =
+    joins_by _ _ _ _ _ _ c.requires.members (object_at_read _ _ _ c.requires.in_range c.index-objects-object.is) (sym c.if-contains.ensures) _ c.hang_together.ensures

@@ -1,0 +1,5 @@
+use Rattle.su_maxobj.proofs.Listed.{one_list}
+use Rattle.su_maxobj.proofs.laws.a_schema_has_one_list_of_maximal_objects.Goals as goal
+
+pub returns : goal.returns
+returns c = one_list
