@@ -1,0 +1,4 @@
+pub mod Files
+pub mod Formed
+pub mod Lines
+pub mod Listing

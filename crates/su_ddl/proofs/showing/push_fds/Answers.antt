@@ -1,0 +1,18 @@
+use Rattle.std.proofs.Common.{◌≡◌, ◌∷◌, ◌++◌, [], ◌≤◌, ◌<◌, sym, refl, ap, ◌∙◌, arith, length, map, slice_get, Some, None, List, ℕ, Option, subst, codes}
+use Rattle.std.proofs.lemmas.Bool.Decides.{nat_tests}
+use Rattle.std.proofs.lemmas.Option.{get_or_from_slice_get}
+use Rattle.std.proofs.lemmas.Result.{IfOk-weaker}
+use Rattle.su_lex.specs.declared.meaning.Symbol.TheVariants.{Word, Sign}
+use Rattle.su_schema.specs.SchemaValue.{ObjectEntry, attribute_names, relation_columns, column_names, column_of}
+use Rattle.su_ddl.specs.Grammar.{kind_symbol}
+use Rattle.su_ddl.specs.Shown.{name_at, columns_at, fd_definition, maximal_definition}
+use Rattle.su_ddl.proofs.Lines.{chain, two_fields, pair_on, column_within, column_past, listed_at, one_line}
+use Rattle.su_ddl.proofs.showing.push_fds.Goals as goal
+
+pub loop-fd-preserved : goal.loop-fd-preserved
+loop-fd-preserved c =
+    let schema = c.args.schema.now in
+    let at = listed_at (fd_definition schema) schema.fds c.fds-fd-items.result.now c.loop-fd.fd-index c.fd-item.result c.in_ok-definition.definition c.fds-fd-items.ensures c.loop-fd-test.true
+    (c.in_ok-definition.ensures ∙ ap (fd_definition schema) c.fd-item.is) in
+    one_line (map (fd_definition schema) schema.fds) c.loop-fd.fd-index c.in_ok-definition.definition c.args.out.now.items c.loop-fd.out.items c.push_line.new.out.items at
+    c.loop-fd.invariant c.in_ok-push_line.ensures
