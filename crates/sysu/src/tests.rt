@@ -103,7 +103,8 @@ fn each_failing_write_ends_the_run_with_a_front(rt: HostRuntime) -> Result<(), F
             &mut out,
         );
         assert_eq!(rt; got, Status::WriteFault, "call {k}");
-        assert_eq!(rt; out.written(), &OUTPUT.as_bytes()[..front], "call {k}");
+        assert!(rt; OUTPUT.as_bytes().starts_with(out.written()), "call {k}");
+        assert_eq!(rt; out.written().len(), front, "call {k}");
     }
     Ok(())
 }
