@@ -1,0 +1,12 @@
+pub mod Cells
+pub mod Members
+pub mod Ranks
+pub mod Joining
+pub mod Telling
+pub mod Narrowing
+pub mod Costing
+pub mod Searching
+pub mod Settling
+pub mod Answering
+pub mod Roomy
+pub mod Containing

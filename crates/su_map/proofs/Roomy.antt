@@ -1,0 +1,27 @@
+-- The parts of a room.
+use Rattle.std.proofs.Common.{◌≡◌, ◌≤◌, ◌*◌, ℕ, List, Vec, length, sym, subst, ◌∙◌, arith}
+use Rattle.std.specs.Vec.{with_items}
+use Rattle.su_map.specs.Nets.{Netted}
+use Rattle.su_map.specs.Rooms.{IsSound}
+
+pub refill_length : {X Z : Type 0} (v : Vec X Z) (ws : List X) → length (with_items v ws).items ≡ length v.items
+refill_length v ws = sym (with_items v ws).ok.0 ∙ v.ok.0
+
+pub square_le : (a b : ℕ) → a ≤ b → a * a ≤ b * b
+square_le a b h = grind arith
+
+pub levels_in : (n rows room : ℕ) → n ≤ rows → rows * rows ≤ room → n * n ≤ room
+levels_in n rows room h l = let s = square_le n rows h in omega arith
+
+pub sound_same : (net : Netted) (room r r' c d d' l l' ch ch' k k' : ℕ) → IsSound net room r c d l ch k → r' ≡ r → d' ≡ d → l' ≡ l → ch' ≡ ch → k' ≤ r → IsSound net room r' c d' l' ch' k'
+sound_same net room r r' c d d' l l' ch ch' k k' s er ed el ech low =
+    subst (λ r. IsSound net room r c d' l' ch' k') (sym er) (record {
+      small = s.small;
+      enough = s.enough;
+      net_room = s.net_room;
+      columns_room = s.columns_room;
+      domains_room = let x = s.domains_room in omega arith;
+      levels_room = subst (λ l. r * r ≤ l) (sym el) s.levels_room;
+      choice_room = let x = s.choice_room in omega arith;
+      count_in = low;
+    })

@@ -1,0 +1,128 @@
+-- The search from the start.
+use Rattle.std.proofs.Common.{◌≡◌, ◌≢◌, ℕ, zero, suc, ◌+◌, ◌*◌, ◌^◌, ◌<◌, ◌≤◌, ◌⊎◌, ◌↔◌, Bool, true, List, [], ◌∷◌, ◌++◌, map, length, get_or, inl, inr, refl, sym, ap, subst, ◌∙◌, ⊎_elim, arith}
+use Rattle.std.specs.Int.{bit_at}
+use Rattle.std.proofs.lemmas.Bool.{cases_lt, cases_eq}
+use Rattle.std.proofs.lemmas.List.{length-append, length-map, get_or-map}
+use Rattle.std.proofs.lemmas.Nat.Bits.{bit_at-lt}
+use Rattle.su_tableau.specs.Parts.{keep_if}
+use Rattle.su_map.specs.Lists.{numbers_of, IsBefore}
+use Rattle.su_map.specs.Candidates.{count_below, sum_of_products}
+use Rattle.su_map.specs.Nets.{Netted, base_of}
+use Rattle.su_map.specs.Choices.{AreFit, IsChoice, IsChoiceInto, Shrinks, AreSame, IsLess, Stands, IsInOrder, choice_of, tries, ArePassed}
+use Rattle.su_map.proofs.Ranks.{numbers_same, map_at, map_same, rank, rank_in, ranked_at, rank_less}
+
+-- the rows of a mask that are below n
+abbrev pub AreBoth : ℕ → ℕ → ℕ → Type 0
+AreBoth n mask rows = (r : ℕ) → (bit_at rows r ≡ 1) ↔ ((bit_at mask r ≡ 1) × (r < n))
+
+abbrev pub Begins : Netted → ℕ → ℕ → ℕ → List ℕ → Type 0
+Begins net n rows k domains = (r : ℕ) → r < n → bit_at rows r ≡ 1 → (x : ℕ) → (bit_at (get_or domains r 0) x ≡ 1) ↔ ((bit_at (base_of net r) x ≡ 1) × (bit_at k x ≡ 1))
+
+pub both_rows : (n mask all rows : ℕ) → ((j : ℕ) → (bit_at all j ≡ 1) ↔ (j < n)) → ((j : ℕ) → (bit_at rows j ≡ 1) ↔ ((bit_at mask j ≡ 1) × (bit_at all j ≡ 1))) → AreBoth n mask rows
+both_rows n mask all rows f g r = (λ h. let p = (g r).0 h in (p.0, (f r).0 p.1), λ h. (g r).1 (h.0, (f r).1 h.1))
+
+pub into_choice : (net : Netted) (n mask rows k : ℕ) (domains : List ℕ) (a : ℕ → ℕ) → AreBoth n mask rows → Begins net n rows k domains → IsChoiceInto net n mask k a → IsChoice net n rows domains a
+into_choice net n mask rows k domains a both begins c = record {
+  within = λ r hr br. (begins r hr br (a r)).1 (c.within r hr ((both r).0 br).0);
+  fit = λ r q hr hq br bq. c.fit r q hr hq ((both r).0 br).0 ((both q).0 bq).0;
+}
+
+pub choice_into : (net : Netted) (n mask rows k : ℕ) (domains : List ℕ) (a : ℕ → ℕ) → AreBoth n mask rows → Begins net n rows k domains → IsChoice net n rows domains a → IsChoiceInto net n mask k a
+choice_into net n mask rows k domains a both begins c = record {
+  within = λ r hr br. let b = (both r).1 (br, hr) in (begins r hr b (a r)).0 (c.within r hr b);
+  fit = λ r q hr hq br bq. c.fit r q hr hq ((both r).1 (br, hr)) ((both q).1 (bq, hq));
+}
+
+pub none_begin : (net : Netted) (n mask rows k : ℕ) (a : ℕ → ℕ) → AreBoth n mask rows → (r : ℕ) → r < n → bit_at rows r ≡ 1 → ((x : ℕ) → bit_at (base_of net r) x ≡ 1 → bit_at k x ≡ 1 → ⊥) → IsChoiceInto net n mask k a → ⊥
+none_begin net n mask rows k a both r hr br none c = let w = c.within r hr ((both r).0 br).0 in none (a r) w.0 w.1
+
+pub same_rows : (n mask rows : ℕ) (a b : ℕ → ℕ) → AreBoth n mask rows → AreSame n rows a b ⊎ IsLess n rows b a → AreSame n mask a b ⊎ IsLess n mask b a
+same_rows n mask rows a b both =
+    ⊎_elim
+    (λ (s : AreSame n rows a b). inl (λ r hr br. s r hr ((both r).1 (br, hr))))
+    (λ (l : IsLess n rows b a).
+    let low = l.row_in in
+    inr (record { row = l.row; row_in = low; in_set = ((both l.row).0 l.in_set).0; same = λ r hr br. l.same r hr ((both r).1 (br, omega arith)); less = l.less }))
+
+pub stands_start : (net : Netted) (n mask rows k : ℕ) (begun domains : List ℕ) (choice : ℕ → ℕ) → AreBoth n mask rows → Begins net n rows k begun → Shrinks n begun domains → Stands net n rows rows domains choice
+stands_start net n mask rows k begun domains choice both begins shrinks = record {
+  todo_in = λ r h. (((both r).0 h).1, h);
+  based = λ r x hr br h. ((begins r hr br x).0 (shrinks r x hr h)).0;
+  chosen = λ r hr br z. absurd (omega arith);
+  only = λ r x hr br z h. absurd (omega arith);
+  fits = λ r q x hr hq br bq z h. absurd (omega arith);
+}
+
+pub order_start : (n rows : ℕ) → IsInOrder n rows rows
+order_start n rows r q hr br z h = absurd (omega arith)
+
+length-keep_if : (b n : ℕ) → b < 2 → length (keep_if b n []) ≡ b
+length-keep_if zero n h = refl
+length-keep_if (suc b) n h = let e : b ≡ 0 = omega arith in omega arith
+
+numbers_few : (m n : ℕ) → length (numbers_of m n) ≤ n
+numbers_few m zero = omega arith
+numbers_few m (suc n) =
+    let i = numbers_few m n in
+    let e = length-append (numbers_of m n) (keep_if (bit_at m n) n []) in
+    let b = bit_at-lt m n in
+    let l = length-keep_if (bit_at m n) n b in
+    omega arith
+
+scaled : (a b k : ℕ) → a ≤ b → a * k ≤ b * k
+scaled a b k h = grind arith
+
+pub levels_enough : (m n room : ℕ) → n * n ≤ room → length (numbers_of m n) * n ≤ room
+levels_enough m n room h = let s = scaled (length (numbers_of m n)) n n (numbers_few m n) in omega arith
+
+pub rows_numbers : (n mask rows : ℕ) → AreBoth n mask rows → numbers_of rows n ≡ numbers_of mask n
+rows_numbers n mask rows both =
+    numbers_same rows mask n (λ i l.
+    let a = bit_at-lt rows i in let b = bit_at-lt mask i in
+    ⊎_elim
+    (λ (one : bit_at mask i ≡ 1). (both i).1 (one, l) ∙ sym one)
+    (λ (none : bit_at mask i ≢ 1).
+    let other : bit_at rows i ≢ 1 = λ o. none ((both i).0 o).0 in
+    let e : bit_at rows i ≡ bit_at mask i = omega arith in e)
+    (cases_eq (bit_at mask i) 1))
+
+pub rows_tries : (passes : ℕ → ℕ → Bool) (targets n mask rows : ℕ) → AreBoth n mask rows → tries passes targets n rows ≡ tries passes targets n mask
+rows_tries passes targets n mask rows both = ap (λ ns. sum_of_products (map (λ r. count_below (passes r) targets) ns)) (rows_numbers n mask rows both)
+
+pub rows_passed : (net : Netted) (n mask rows : ℕ) (passes : ℕ → ℕ → Bool) → AreBoth n mask rows → ArePassed net n mask passes → ArePassed net n rows passes
+rows_passed net n mask rows passes both all r x hr br h = all r x hr ((both r).0 br).0 h
+
+pub map-append : (f : ℕ → ℕ) (xs ys : List ℕ) → map f (xs ++ ys) ≡ map f xs ++ map f ys
+map-append f [] ys = refl
+map-append f (x ∷ xs) ys = ap (λ zs. f x ∷ zs) (map-append f xs ys)
+
+-- ---- from choices to lists
+
+pub lists_before : (n m : ℕ) (a b : ℕ → ℕ) → IsLess n m a b → IsBefore (map a (numbers_of m n)) (map b (numbers_of m n))
+lists_before n m a b l =
+    let la = length-map (numbers_of m n) a in let lb = length-map (numbers_of m n) b in
+    let r = rank_in m n l.row l.row_in l.in_set in
+    record {
+      place = rank m l.row;
+      in_both = (omega arith, omega arith);
+      same = λ i h.
+          let low : i < length (numbers_of m n) = omega arith in
+          let at = ranked_at m n i low in
+          let below : at.number < l.row =
+          ⊎_elim
+          (λ (lt : at.number < l.row). lt)
+          (λ (le : l.row ≤ at.number).
+          ⊎_elim
+          (λ (lt : l.row < at.number). absurd (let s = rank_less m l.row at.number lt l.in_set in let e = at.ranked in omega arith))
+          (λ (ge : at.number ≤ l.row). absurd (let e : at.number ≡ l.row = omega arith in let s = ap (rank m) e in let t = at.ranked in omega arith))
+          (cases_lt l.row at.number))
+          (cases_lt at.number l.row) in
+          get_or-map a (numbers_of m n) i 0 0 low ∙ ap a at.is ∙ l.same at.number below at.member ∙ ap b (sym at.is) ∙ sym (get_or-map b (numbers_of m n) i 0 0 low);
+      less = let x = map_at m n a l.row l.row_in l.in_set in let y = map_at m n b l.row l.row_in l.in_set in let z = l.less in omega arith;
+    }
+
+pub lists_first : (n m : ℕ) (a other : ℕ → ℕ) → AreSame n m other a ⊎ IsLess n m a other → (map other (numbers_of m n) ≡ map a (numbers_of m n)) ⊎ IsBefore (map a (numbers_of m n)) (map other (numbers_of m n))
+lists_first n m a other =
+    ⊎_elim
+    (λ (s : AreSame n m other a). inl (map_same m n other a s))
+    (λ (l : IsLess n m a other). inr (lists_before n m a other l))

@@ -1,0 +1,35 @@
+-- The table of the targets that agree.
+use Rattle.std.proofs.Common.{◌≡◌, ◌≢◌, ◌<◌, ◌≤◌, ◌+◌, ◌*◌, ◌∙◌, ◌↔◌, ℕ, [], List, length, get_or, sym, ap, subst, Option, Some, None, All, arith}
+use Rattle.std.specs.Int.{bit_at}
+use Rattle.su_tableau.specs.declared.symbols.Sym.{Sym}
+use Rattle.su_tableau.specs.Tableaux.{Tab}
+use Rattle.su_map.specs.Lists.{row_of}
+use Rattle.su_map.specs.Candidates.{Agree}
+use Rattle.su_map.specs.Nets.{IsTarget, AgreesAt}
+use Rattle.su_map.specs.Targets.{AreTold, IsTold, AreShared}
+use Rattle.su_map.proofs.Cells.{Fits, told_agree}
+
+pub told_row : (t : Tab) (columns : List (Option ℕ)) (p others set : ℕ) (row : List Sym) → row ≡ row_of t p → ((j : ℕ) → (bit_at set j ≡ 1) ↔ ((bit_at others j ≡ 1) × ((e c : ℕ) (d : Sym) → e < t.width → get_or columns e None ≡ Some c → get_or row c d ≡ get_or (row_of t j) e d))) → AreTold t columns p others set
+told_row t columns p others set row is f = subst (λ row. (j : ℕ) → (bit_at set j ≡ 1) ↔ ((bit_at others j ≡ 1) × ((e c : ℕ) (d : Sym) → e < t.width → get_or columns e None ≡ Some c → get_or row c d ≡ get_or (row_of t j) e d))) is f
+
+-- what is told of a pair stays where only later entries are written
+pub told_kept : (s t : Tab) (base : List ℕ) (i q : ℕ) (old new : List ℕ) (bound : ℕ) → ((x : ℕ) → x < bound → get_or new x 0 ≡ get_or old x 0) → i * 4096 + q * 64 + 64 ≤ bound → length t.rows ≤ 64 → IsTold s t base i q old → IsTold s t base i q new
+told_kept s t base i q old new bound same low small told = record {
+  columns = told.columns;
+  shared = told.shared;
+  told = λ p l one. subst (AreTold t told.columns p (get_or base q 0)) (sym (same (i * 4096 + q * 64 + p) (omega arith))) (told.told p l one);
+}
+
+target_fits : (s t : Tab) (i j : ℕ) → IsTarget s t i j → Fits s.head t.head (row_of s i) (row_of t j)
+target_fits s t i j f = record { constants = f.constants; head_symbols = f.head_symbols; itself = f.itself }
+
+-- what is told of a pair are the targets that agree
+pub told_agrees : (s t : Tab) (base : List ℕ) (i q p : ℕ) (agree : List ℕ) → length (row_of s q) ≡ t.width → ((j : ℕ) → bit_at (get_or base q 0) j ≡ 1 → IsTarget s t q j) → IsTarget s t i p → p < length t.rows → bit_at (get_or base i 0) p ≡ 1 → IsTold s t base i q agree → AgreesAt s t i q p (get_or base q 0) (get_or agree (i * 4096 + q * 64 + p) 0)
+told_agrees s t base i q p agree wide targets target low one told j other =
+    let a = told_agree s.head t.head (row_of s i) (row_of t p) (row_of s q) (row_of t j) told.columns t.width wide told.shared (target_fits s t i p target) (target_fits s t q j (targets j other)) in
+    let b = told.told p low one j in
+    (λ h. a.0 (b.0 h).1, λ h. b.1 (other, a.1 h))
+
+pub shared_is : (head head' xs xs' ys ys' : List Sym) (columns : List (Option ℕ)) → head ≡ head' → xs ≡ xs' → ys ≡ ys' → AreShared head xs ys columns → AreShared head' xs' ys' columns
+shared_is head head' xs xs' ys ys' columns e f g h =
+    subst (λ head. AreShared head xs' ys' columns) e (subst (λ xs. AreShared head xs ys' columns) f (subst (λ ys. AreShared head xs ys columns) g h))

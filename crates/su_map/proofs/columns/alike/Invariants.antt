@@ -1,0 +1,7 @@
+use Rattle.std.proofs.Common.{◌≡◌, ℕ, ◌<◌, ◌↔◌}
+use Rattle.std.specs.Int.{bit_at}
+use Rattle.su_map.specs.Targets.{AlikeAt}
+use Rattle.su_map.proofs.columns.alike.Given as goal
+
+abbrev pub invariant-loop-j : goal.invariant-loop-j
+invariant-loop-j l = (i : ℕ) → (bit_at l.left i ≡ 1) ↔ ((i < l.j) × (bit_at l.set i ≡ 1) × AlikeAt l.to l.first l.column i)

@@ -1,0 +1,5 @@
+use Rattle.su_map.proofs.Containing.{containment}
+use Rattle.su_map.proofs.laws.mappings_are_containment.Goals as goal
+
+pub returns : goal.returns
+returns c = containment

@@ -1,0 +1,5 @@
+use Rattle.su_map.proofs.Containing.{list_maps, maps_list}
+use Rattle.su_map.proofs.laws.row_lists_are_mappings.Goals as goal
+
+pub returns : goal.returns
+returns c = record { to = λ s t m k. list_maps s t m k; from = λ s t m k. maps_list s t m k }

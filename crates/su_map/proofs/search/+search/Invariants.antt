@@ -1,0 +1,15 @@
+use Rattle.std.proofs.Common.{◌≡◌, ℕ, suc, ◌+◌, ◌*◌, ◌≤◌, Bool, length}
+use Rattle.su_map.specs.declared.search.Order.TheVariants.{Ascending}
+use Rattle.su_map.specs.Candidates.{count_below}
+use Rattle.su_map.specs.Choices.{IsChoice, choice_of, AreKept, tries, ArePassed}
+use Rattle.su_map.proofs.search.+search.Given as goal
+
+abbrev pub decreases-search : goal.decreases-search
+decreases-search g l = l.todo
+
+abbrev pub invariant-loop-target : goal.invariant-loop-target
+invariant-loop-target g l = record {
+  kept : AreKept (length l.domains) l.mask l.todo (choice_of l.initial.choice) (choice_of l.choice);
+  passed : (other : ℕ → ℕ) → IsChoice l.net (length l.domains) l.mask l.domains other → l.target ≤ other l.row;
+  cost : (passes : ℕ → ℕ → Bool) → ArePassed l.net (length l.domains) l.mask passes → l.order ≡ Ascending → l.steps ≤ l.initial.steps + count_below (passes l.row) l.target * suc (tries passes l.net.targets (length l.domains) l.rest);
+}

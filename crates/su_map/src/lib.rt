@@ -1,0 +1,24 @@
+//! Containment mappings: the first one between two tableaux, or that there is none.
+//!
+//! A mapping sends symbols to symbols, constants to themselves, the head to the head and each row to
+//! a row. Before a search each row gets the set of its targets by constants, head symbols and its own
+//! repeated symbols, and each two rows that share a variable a table of the targets that agree. The
+//! search takes from the sets what no longer fits; a row without a target ends the branch. It takes
+//! no memory: all is in a room of 32 KiB per row. `first` is in order, `exists` takes the row with
+//! the fewest targets next. Minimising is in the crate above.
+#![tactic(auto)]
+
+mod bits;
+mod columns;
+mod crossing;
+mod domains;
+pub mod laws;
+mod mappings;
+mod nets;
+mod rooms;
+mod search;
+mod tables;
+mod targets;
+
+pub use mappings::Mapping;
+pub use rooms::{Room, certify, exists, exists_prepared, first, prepare};

@@ -1,0 +1,151 @@
+//! What a search reads.
+ghost use Rattle.std.specs.Prelude.{◌≡◌, ◌<◌, ◌≤◌, ◌+◌, ◌*◌, ℕ, List as Items, length, IfOk, IsTrue, IsFalse};
+ghost use Rattle.std.specs.Int.{bit_at};
+ghost use Rattle.su_tableau.specs.Tableaux.{AreVarsBelow};
+ghost use Rattle.su_map.specs.Lists.{IsMapping};
+ghost use Rattle.su_map.specs.Nets.{Netted, HasRoom, IsNet, base_of, near_of, agree_of};
+
+use crate::columns::line_fits;
+use crate::tables::{fill_agree, fill_near};
+use crate::targets::fill_base;
+use std::alloc::{AllocError, Global};
+use std::marker::Model;
+use su_base::NoMemory;
+use su_tableau::Tableau;
+
+/// For each row its targets and the rows that share a variable with it, and for each of these and
+/// each target the targets that agree.
+#[derive(Drop)]
+pub struct Net {
+    base: Vec<u64>,
+    near: Vec<u64>,
+    agree: Vec<u64>,
+    targets: usize,
+}
+
+impl Model for Net {
+    ghost use Rattle.std.specs.Prelude.{◌≤◌};
+    ghost use Rattle.su_map.specs.Nets.{Netted};
+
+    ghost Value = { Netted };
+
+    ghost view = { λ n. record { base = n.base.items; near = n.near.items; agree = n.agree.items; targets = n.targets } };
+
+    ghost invariant = { λ n. n.targets ≤ 64 };
+}
+
+impl Net {
+    /// Room for a net of so many rows.
+    pub fn new(alloc: Global, rows: usize) -> Result<Net, NoMemory>
+        requires { rows ≤ 64 }
+        ensures { IfOk result (λ net. HasRoom rows net) }
+    {
+        Ok(Net {
+            base: vec![in alloc; 0; rows].map_err(AllocError::from)?,
+            near: vec![in alloc; 0; rows].map_err(AllocError::from)?,
+            agree: vec![in alloc; 0; rows * 4096].map_err(AllocError::from)?,
+            targets: 0,
+        })
+    }
+
+    /// How many targets there are.
+    pub fn targets(&self) -> usize
+        ensures is { result ≡ self.now.targets }
+        ensures small { result ≤ 64 }
+    {
+        self.targets
+    }
+
+    /// The targets of a row by itself.
+    pub fn base(&self, row: usize) -> u64
+        requires { row < length self.now.base }
+        ensures { result ≡ base_of self.now row }
+    {
+        self.base[row]
+    }
+
+    /// The rows that share a variable with a row.
+    pub fn near(&self, row: usize) -> u64
+        requires { row < length self.now.near }
+        ensures { result ≡ near_of self.now row }
+    {
+        self.near[row]
+    }
+
+    /// The targets of the other row that agree with the target of the row.
+    pub fn agree(&self, row: usize, other: usize, target: usize) -> u64
+        requires row { (row + 1) * 4096 ≤ length self.now.agree }
+        requires other { other < 64 }
+        requires target { target < 64 }
+        ensures { result ≡ agree_of self.now row other target }
+    {
+        self.agree[row * 4096 + other * 64 + target]
+    }
+
+    /// Fills the net for the masked rows of both tableaux. False: there is no mapping.
+    pub fn fill(
+        &mut self,
+        rows_of: &mut [u64],
+        columns: &mut [Option<usize>],
+        from: &Tableau,
+        from_mask: u64,
+        to: &Tableau,
+        to_mask: u64,
+    ) -> bool
+        requires room { HasRoom (length from.now.rows) self.old }
+        requires symbols { AreVarsBelow (length rows_of.old) from.now }
+        requires columns { from.now.width ≤ length columns.old }
+        requires width { from.now.width ≡ to.now.width }
+        requires heads { length from.now.head ≡ length to.now.head }
+        ensures net { IsTrue result → IsNet from.now from_mask to.now to_mask self.new }
+        ensures none { IsFalse result → (list : Items ℕ) → IsMapping from.now from_mask to.now to_mask list → ⊥ }
+        ensures room { (n : ℕ) → HasRoom n self.old → HasRoom n self.new }
+    {
+        self.targets = to.row_count();
+        fill_tables(
+            &mut self.base,
+            &mut self.near,
+            &mut self.agree,
+            rows_of,
+            columns,
+            from,
+            from_mask,
+            to,
+            to_mask,
+        )
+    }
+}
+
+fn fill_tables(
+    base: &mut [u64],
+    near: &mut [u64],
+    agree: &mut [u64],
+    rows_of: &mut [u64],
+    columns: &mut [Option<usize>],
+    from: &Tableau,
+    from_mask: u64,
+    to: &Tableau,
+    to_mask: u64,
+) -> bool
+    requires base { length from.now.rows ≤ length base.old }
+    requires near { length from.now.rows ≤ length near.old }
+    requires agree { length from.now.rows * 4096 ≤ length agree.old }
+    requires symbols { AreVarsBelow (length rows_of.old) from.now }
+    requires columns { from.now.width ≤ length columns.old }
+    requires width { from.now.width ≡ to.now.width }
+    requires heads { length from.now.head ≡ length to.now.head }
+    ensures net { IsTrue result → IsNet from.now from_mask to.now to_mask (record { base = base.new; near = near.new; agree = agree.new; targets = length to.now.rows }) }
+    ensures none { IsFalse result → (list : Items ℕ) → IsMapping from.now from_mask to.now to_mask list → ⊥ }
+{
+    from.keeps_its_rules();
+    to.keeps_its_rules();
+    if !line_fits(from.head(), to.head()) {
+        return false;
+    }
+    if !fill_base(base, from, from_mask, to, to_mask) {
+        return false;
+    }
+    fill_near(near, rows_of, from, from_mask);
+    fill_agree(agree, columns, from, from_mask, to, base, near);
+    true
+}

@@ -1,0 +1,368 @@
+//! The room of a search, and the searches in it.
+ghost use Rattle.std.specs.Prelude.{◌≡◌, ◌≤◌, ◌<◌, ◌+◌, ◌*◌, ◌↔◌, ◌⊎◌, ℕ, Bool, IsTrue, IsFalse, IfOk, List as Items, length, get_or, take, map};
+ghost use Rattle.std.specs.Int.{bit_at};
+ghost use Rattle.su_map.specs.declared.search.Order.TheVariants.{Ascending};
+ghost use Rattle.su_map.specs.Lists.{IsMapping, IsFirst, numbers_of};
+ghost use Rattle.su_map.specs.Candidates.{IsWithinProducts};
+ghost use Rattle.su_map.specs.Nets.{HasRoom, IsNet, IsNetFor, base_of};
+ghost use Rattle.su_map.specs.Choices.{IsChoiceInto, AreSame, IsLess, choice_of, tries, ArePassed, IsFound, IsFirstOf};
+ghost use Rattle.su_map.specs.Rooms.{IsRoomFor, HasSizesOf};
+
+use crate::bits::both;
+use crate::domains::propagate;
+use crate::mappings::Mapping;
+use crate::nets::Net;
+use crate::search::{Order, search};
+use std::alloc::{AllocError, Global};
+use std::marker::Model;
+use std::sync::ledger::Ledger;
+use su_base::{List, NoMemory, Steps};
+use su_tableau::{Tableau, full, has};
+
+/// What a search reads and writes, so that it takes no memory: 32 KiB per row.
+#[derive(Drop)]
+pub struct Room {
+    rows: usize,
+    net: Net,
+    rows_of: Vec<u64>,
+    columns: Vec<Option<usize>>,
+    domains: Vec<u64>,
+    levels: Vec<u64>,
+    choice: Vec<u8>,
+    list: Vec<u8>,
+    count: usize,
+}
+
+impl Model for Room {
+    ghost use Rattle.std.specs.Prelude.{◌≡◌, ◌≤◌, ◌*◌, length, take};
+    ghost use Rattle.su_map.specs.Nets.{HasRoom};
+    ghost use Rattle.su_map.specs.Rooms.{Space, IsSound};
+
+    ghost Value = { Space };
+
+    ghost view = { λ r. record { rows = r.rows; symbols = length r.rows_of.items; list = take r.count r.list.items; net = r.net } };
+
+    ghost invariant = { λ r. IsSound r.net r.rows (length r.list.items) (length r.columns.items) (length r.domains.items) (length r.levels.items) (length r.choice.items) r.count };
+}
+
+impl Room {
+    /// Room for tableaux of so many rows and variables; no tableau has more than 64 rows.
+    pub fn new(alloc: Global, rows: usize, symbols: usize) -> Result<Room, NoMemory>
+        ensures { IfOk result (λ room. (room.rows ≡ rows) × (room.symbols ≡ symbols)) }
+    {
+        let tables = rows.min(64);
+        Ok(Room {
+            rows,
+            net: Net::new(alloc, tables)?,
+            rows_of: vec![in alloc; 0; symbols].map_err(AllocError::from)?,
+            columns: vec![in alloc; None; 128].map_err(AllocError::from)?,
+            domains: vec![in alloc; 0; tables].map_err(AllocError::from)?,
+            levels: vec![in alloc; 0; tables * tables].map_err(AllocError::from)?,
+            choice: vec![in alloc; 0; tables].map_err(AllocError::from)?,
+            list: vec![in alloc; 0; tables].map_err(AllocError::from)?,
+            count: 0,
+        })
+    }
+
+    /// The row list that the last search found.
+    pub fn list(&self) -> &[u8]
+        ensures { result.now ≡ self.now.list }
+    {
+        &self.list[..self.count]
+    }
+}
+
+/// Fills the room's net for the masked rows of both tableaux, for `exists_prepared`. False: no list
+/// is a mapping.
+pub fn prepare(room: &mut Room, from: &Tableau, from_mask: u64, to: &Tableau, to_mask: u64) -> bool
+    requires room { IsRoomFor from.now room.old }
+    requires width { from.now.width ≡ to.now.width }
+    requires heads { length from.now.head ≡ length to.now.head }
+    ensures prepared { IsTrue result → IsNet from.now from_mask to.now to_mask room.new.net }
+    ensures none { IsFalse result → (list : Items ℕ) → IsMapping from.now from_mask to.now to_mask list → ⊥ }
+    ensures sizes { HasSizesOf room.old room.new }
+{
+    from.keeps_its_rules();
+    room.net.fill(
+        &mut room.rows_of,
+        &mut room.columns,
+        from,
+        from_mask,
+        to,
+        to_mask,
+    )
+}
+
+/// Whether some choice sends the masked rows into the masked targets; the choice is then that
+/// choice, and in order the first one.
+fn settle<L: Ledger>(
+    net: &Net,
+    mask: u64,
+    to_mask: u64,
+    order: Order,
+    domains: &mut [u64],
+    levels: &mut [u64],
+    choice: &mut [u8],
+    steps: &mut Steps<L>,
+) -> bool
+    requires room { HasRoom (length domains.old) net.now }
+    requires rows { length domains.old ≤ 64 }
+    requires choice { length choice.old ≡ length domains.old }
+    requires levels { length domains.old * length domains.old ≤ length levels.old }
+    requires targets { (r x : ℕ) → r < length domains.old → bit_at mask r ≡ 1 → bit_at (base_of net.now r) x ≡ 1 → x < net.now.targets }
+    ensures found { IsTrue result → IsChoiceInto net.now (length domains.old) mask to_mask (choice_of choice.new) }
+    ensures first { IsTrue result → order ≡ Ascending → (other : ℕ → ℕ) → IsChoiceInto net.now (length domains.old) mask to_mask other → AreSame (length domains.old) mask other (choice_of choice.new) ⊎ IsLess (length domains.old) mask (choice_of choice.new) other }
+    ensures none { IsFalse result → (other : ℕ → ℕ) → IsChoiceInto net.now (length domains.old) mask to_mask other → ⊥ }
+    ensures cost { (passes : ℕ → ℕ → Bool) → ArePassed net.now (length domains.old) mask passes → order ≡ Ascending → steps.new ≤ steps.old + tries passes net.now.targets (length domains.old) mask }
+{
+    let rows = both(mask, full(domains.len()));
+    if !begin(net, rows, to_mask, domains) {
+        return false;
+    }
+    if !propagate(net, rows, rows, domains) {
+        return false;
+    }
+    search(net, rows, order, rows, domains, levels, choice, steps)
+}
+
+/// The domains at the start, and whether each row has a target.
+fn begin(net: &Net, rows: u64, to_mask: u64, domains: &mut [u64]) -> bool
+    requires room { HasRoom (length domains.old) net.now }
+    requires rows { length domains.old ≤ 64 }
+    ensures domains { IsTrue result → (r : ℕ) → r < length domains.old → bit_at rows r ≡ 1 → (x : ℕ) → (bit_at (get_or domains.new r 0) x ≡ 1) ↔ ((bit_at (base_of net.now r) x ≡ 1) × (bit_at to_mask x ≡ 1)) }
+    ensures none { IsFalse result → (r : ℕ) × (r < length domains.old) × (bit_at rows r ≡ 1) × ((x : ℕ) → bit_at (base_of net.now r) x ≡ 1 → bit_at to_mask x ≡ 1 → ⊥) }
+{
+    for r in 0..domains.len() {
+        if has(rows, r) {
+            let left = both(net.base(r), to_mask);
+            if left == 0 {
+                return false;
+            }
+            domains[r] = left;
+        }
+    }
+    true
+}
+
+/// Moves the targets of the rows in the mask to the front of the list; how many these are.
+fn gather(list: &mut [u8], choice: &[u8], mask: u64) -> usize
+    requires rows { length choice.now ≤ 64 }
+    requires room { length choice.now ≤ length list.old }
+    ensures within { result ≤ length choice.now }
+    ensures is { take result list.new ≡ map (choice_of choice.now) (numbers_of mask (length choice.now)) }
+{
+    let mut count = 0;
+    for r in 0..choice.len() {
+        if has(mask, r) {
+            list[count] = choice[r];
+            count += 1;
+        }
+    }
+    count
+}
+
+/// The search, and the targets that it chose as a list; how many these are.
+fn settle_list<L: Ledger>(
+    net: &Net,
+    rows: usize,
+    mask: u64,
+    to_mask: u64,
+    order: Order,
+    domains: &mut [u64],
+    levels: &mut [u64],
+    choice: &mut [u8],
+    list: &mut [u8],
+    steps: &mut Steps<L>,
+) -> (bool, usize)
+    requires net { HasRoom rows net.now }
+    requires rows { rows ≤ 64 }
+    requires domains { length domains.old ≡ rows }
+    requires choice { length choice.old ≡ rows }
+    requires list { rows ≤ length list.old }
+    requires levels { rows * rows ≤ length levels.old }
+    requires targets { (r x : ℕ) → r < rows → bit_at mask r ≡ 1 → bit_at (base_of net.now r) x ≡ 1 → x < net.now.targets }
+    ensures within { result.1 ≤ rows }
+    ensures found { IsTrue result.0 → IsFound net.now rows mask to_mask (take result.1 list.new) }
+    ensures first { IsTrue result.0 → order ≡ Ascending → IsFirstOf net.now rows mask to_mask (take result.1 list.new) }
+    ensures none { IsFalse result.0 → (other : ℕ → ℕ) → IsChoiceInto net.now rows mask to_mask other → ⊥ }
+    ensures cost { (passes : ℕ → ℕ → Bool) → ArePassed net.now rows mask passes → order ≡ Ascending → steps.new ≤ steps.old + tries passes net.now.targets rows mask }
+{
+    let found = settle(net, mask, to_mask, order, domains, levels, choice, steps);
+    let count = gather(list, choice, mask);
+    (found, count)
+}
+
+/// The search in the parts of the room that the rows need.
+fn run<L: Ledger>(
+    net: &Net,
+    rows: usize,
+    mask: u64,
+    to_mask: u64,
+    order: Order,
+    domains: &mut [u64],
+    levels: &mut [u64],
+    choice: &mut [u8],
+    list: &mut [u8],
+    steps: &mut Steps<L>,
+) -> (bool, usize)
+    requires net { HasRoom rows net.now }
+    requires rows { rows ≤ 64 }
+    requires domains { rows ≤ length domains.old }
+    requires choice { rows ≤ length choice.old }
+    requires list { rows ≤ length list.old }
+    requires levels { rows * rows ≤ length levels.old }
+    requires targets { (r x : ℕ) → r < rows → bit_at mask r ≡ 1 → bit_at (base_of net.now r) x ≡ 1 → x < net.now.targets }
+    ensures within { result.1 ≤ rows }
+    ensures found { IsTrue result.0 → IsFound net.now rows mask to_mask (take result.1 list.new) }
+    ensures first { IsTrue result.0 → order ≡ Ascending → IsFirstOf net.now rows mask to_mask (take result.1 list.new) }
+    ensures none { IsFalse result.0 → (other : ℕ → ℕ) → IsChoiceInto net.now rows mask to_mask other → ⊥ }
+    ensures cost { (passes : ℕ → ℕ → Bool) → ArePassed net.now rows mask passes → order ≡ Ascending → steps.new ≤ steps.old + tries passes net.now.targets rows mask }
+{
+    settle_list(
+        net,
+        rows,
+        mask,
+        to_mask,
+        order,
+        &mut domains[..rows],
+        levels,
+        &mut choice[..rows],
+        list,
+        steps,
+    )
+}
+
+/// The search over the net that was prepared.
+fn search_in<L: Ledger>(
+    room: &mut Room,
+    from: &Tableau,
+    from_mask: u64,
+    to: &Tableau,
+    to_mask: u64,
+    order: Order,
+    steps: &mut Steps<L>,
+) -> bool
+    requires room { IsRoomFor from.now room.old }
+    requires width { from.now.width ≡ to.now.width }
+    requires heads { length from.now.head ≡ length to.now.head }
+    requires prepared { IsNetFor from.now from_mask to.now to_mask room.old.net }
+    ensures found { IsTrue result → IsMapping from.now from_mask to.now to_mask room.new.list }
+    ensures first { IsTrue result → order ≡ Ascending → IsFirst from.now from_mask to.now to_mask room.new.list }
+    ensures none { IsFalse result → (list : Items ℕ) → IsMapping from.now from_mask to.now to_mask list → ⊥ }
+    ensures cost { order ≡ Ascending → IsNet from.now from_mask to.now to_mask room.old.net → IsWithinProducts from.now from_mask to.now to_mask steps.old steps.new }
+    ensures sizes { HasSizesOf room.old room.new }
+    ensures prepared { room.new.net ≡ room.old.net }
+{
+    from.keeps_its_rules();
+    to.keeps_its_rules();
+    let (found, count) = run(
+        &room.net,
+        from.row_count(),
+        from_mask,
+        to_mask,
+        order,
+        &mut room.domains,
+        &mut room.levels,
+        &mut room.choice,
+        &mut room.list,
+        steps,
+    );
+    room.count = count;
+    found
+}
+
+/// Whether the masked rows of one tableau have a mapping into the masked rows of the other; the
+/// room's list is then the first row list of a mapping, in lexicographic order. One step is counted
+/// per row and candidate tried.
+pub fn first<L: Ledger>(
+    room: &mut Room,
+    from: &Tableau,
+    from_mask: u64,
+    to: &Tableau,
+    to_mask: u64,
+    steps: &mut Steps<L>,
+) -> bool
+    requires room { IsRoomFor from.now room.old }
+    requires width { from.now.width ≡ to.now.width }
+    requires heads { length from.now.head ≡ length to.now.head }
+    ensures found { IsTrue result → IsFirst from.now from_mask to.now to_mask room.new.list }
+    ensures none { IsFalse result ↔ ((list : Items ℕ) → IsMapping from.now from_mask to.now to_mask list → ⊥) }
+    ensures cost { IsWithinProducts from.now from_mask to.now to_mask steps.old steps.new }
+    ensures sizes { HasSizesOf room.old room.new }
+{
+    prepare(room, from, from_mask, to, to_mask)
+        && search_in(room, from, from_mask, to, to_mask, Order::Ascending, steps)
+}
+
+/// Whether there is any mapping, by the net that `prepare` filled for these rows or for more. The
+/// rows are taken in any order, those with the fewest targets first, so that hard cases end sooner
+/// than by `first`. The room's list is then the row list of a mapping.
+pub fn exists_prepared<L: Ledger>(
+    room: &mut Room,
+    from: &Tableau,
+    from_mask: u64,
+    to: &Tableau,
+    to_mask: u64,
+    steps: &mut Steps<L>,
+) -> bool
+    requires room { IsRoomFor from.now room.old }
+    requires width { from.now.width ≡ to.now.width }
+    requires heads { length from.now.head ≡ length to.now.head }
+    requires prepared { IsNetFor from.now from_mask to.now to_mask room.old.net }
+    ensures found { IsTrue result → IsMapping from.now from_mask to.now to_mask room.new.list }
+    ensures none { IsFalse result ↔ ((list : Items ℕ) → IsMapping from.now from_mask to.now to_mask list → ⊥) }
+    ensures sizes { HasSizesOf room.old room.new }
+    ensures prepared { room.new.net ≡ room.old.net }
+{
+    search_in(
+        room,
+        from,
+        from_mask,
+        to,
+        to_mask,
+        Order::FewestFirst,
+        steps,
+    )
+}
+
+/// Whether the masked rows of one tableau have any mapping into the masked rows of the other.
+pub fn exists<L: Ledger>(
+    room: &mut Room,
+    from: &Tableau,
+    from_mask: u64,
+    to: &Tableau,
+    to_mask: u64,
+    steps: &mut Steps<L>,
+) -> bool
+    requires room { IsRoomFor from.now room.old }
+    requires width { from.now.width ≡ to.now.width }
+    requires heads { length from.now.head ≡ length to.now.head }
+    ensures found { IsTrue result → IsMapping from.now from_mask to.now to_mask room.new.list }
+    ensures none { IsFalse result ↔ ((list : Items ℕ) → IsMapping from.now from_mask to.now to_mask list → ⊥) }
+    ensures sizes { HasSizesOf room.old room.new }
+{
+    prepare(room, from, from_mask, to, to_mask)
+        && exists_prepared(room, from, from_mask, to, to_mask, steps)
+}
+
+/// The mapping by the room's list, with copies of both tableaux.
+pub fn certify(
+    alloc: Global,
+    room: &Room,
+    from: &Tableau,
+    from_mask: u64,
+    to: &Tableau,
+    to_mask: u64,
+) -> Result<Mapping, NoMemory>
+    requires { IsMapping from.now from_mask to.now to_mask room.now.list }
+    ensures { IfOk result (λ m. m ≡ record { from = from.now; from_mask = from_mask; to = to.now; to_mask = to_mask; list = room.now.list }) }
+{
+    let list = List::from_vec(
+        room.list()
+            .iter()
+            .copied()
+            .collect(alloc)
+            .map_err(AllocError::from)?,
+    );
+    Ok(Mapping::new(from.copy(alloc)?, from_mask, to.copy(alloc)?, to_mask, list))
+}

@@ -1,0 +1,98 @@
+//! The search.
+ghost use Rattle.std.specs.Prelude.{◌≡◌, ◌≤◌, ◌<◌, ◌+◌, ◌*◌, ◌⊎◌, ℕ, Bool, IsTrue, IsFalse, length, get_or};
+ghost use Rattle.std.specs.Int.{bit_at};
+ghost use Rattle.su_map.specs.declared.search.Order.TheVariants.{Ascending};
+ghost use Rattle.su_map.specs.Lists.{numbers_of};
+ghost use Rattle.su_map.specs.Nets.{HasRoom};
+ghost use Rattle.su_map.specs.Choices.{IsChoice, AreSame, IsLess, choice_of, Stands, IsInOrder, AreKept, tries, ArePassed};
+
+use crate::bits::{lowest, without};
+use crate::domains::descend;
+use crate::nets::Net;
+use std::sync::ledger::Ledger;
+use su_base::Steps;
+use su_tableau::has;
+
+/// Which row is next.
+#[derive(Clone, Copy)]
+pub enum Order {
+    /// The rows in order, so that the first choice is found.
+    Ascending,
+    /// The row with the fewest targets.
+    FewestFirst,
+}
+
+/// The row of the set with the fewest targets.
+fn fewest(todo: u64, domains: &[u64]) -> usize
+    requires some { 0 < todo }
+    requires within { (r : ℕ) → bit_at todo r ≡ 1 → r < length domains.now }
+    requires rows { length domains.now ≤ 64 }
+    ensures { bit_at todo result ≡ 1 }
+{
+    let mut row = lowest(todo);
+    for r in 0..domains.len() {
+        if has(todo, r) && domains[r].count_ones() < domains[row].count_ones() {
+            row = r;
+        }
+    }
+    row
+}
+
+fn next_row(order: Order, todo: u64, domains: &[u64]) -> usize
+    requires some { 0 < todo }
+    requires within { (r : ℕ) → bit_at todo r ≡ 1 → r < length domains.now }
+    requires rows { length domains.now ≤ 64 }
+    ensures member { bit_at todo result ≡ 1 }
+    ensures least { order ≡ Ascending → (r : ℕ) → bit_at todo r ≡ 1 → result ≤ r }
+{
+    match order {
+        Order::Ascending => lowest(todo),
+        Order::FewestFirst => fewest(todo, domains),
+    }
+}
+
+/// Whether some choice within the domains goes on from how the search stands; the choice is then
+/// that choice, and in order the first of these.
+pub fn search<L: Ledger>(
+    net: &Net,
+    mask: u64,
+    order: Order,
+    todo: u64,
+    domains: &[u64],
+    room: &mut [u64],
+    choice: &mut [u8],
+    steps: &mut Steps<L>,
+) -> bool
+    requires room { HasRoom (length domains.now) net.now }
+    requires rows { length domains.now ≤ 64 }
+    requires choice { length choice.old ≡ length domains.now }
+    requires levels { length (numbers_of todo (length domains.now)) * length domains.now ≤ length room.old }
+    requires mask { (q : ℕ) → bit_at mask q ≡ 1 → q < length domains.now }
+    requires stands { Stands net.now (length domains.now) mask todo domains.now (choice_of choice.old) }
+    requires in_order { order ≡ Ascending → IsInOrder (length domains.now) mask todo }
+    requires targets { (r x : ℕ) → r < length domains.now → bit_at mask r ≡ 1 → bit_at (get_or domains.now r 0) x ≡ 1 → x < net.now.targets }
+    ensures kept { AreKept (length domains.now) mask todo (choice_of choice.old) (choice_of choice.new) }
+    ensures found { IsTrue result → IsChoice net.now (length domains.now) mask domains.now (choice_of choice.new) }
+    ensures first { IsTrue result → order ≡ Ascending → (other : ℕ → ℕ) → IsChoice net.now (length domains.now) mask domains.now other → AreSame (length domains.now) mask other (choice_of choice.new) ⊎ IsLess (length domains.now) mask (choice_of choice.new) other }
+    ensures none { IsFalse result → (other : ℕ → ℕ) → IsChoice net.now (length domains.now) mask domains.now other → ⊥ }
+    ensures cost { (passes : ℕ → ℕ → Bool) → ArePassed net.now (length domains.now) mask passes → order ≡ Ascending → steps.new ≤ steps.old + tries passes net.now.targets (length domains.now) todo }
+{
+    if todo == 0 {
+        return true;
+    }
+    let row = next_row(order, todo, domains);
+    let rest = without(todo, row);
+    for target in 0..net.targets() {
+        if has(domains[row], target) {
+            steps.tick();
+            choice[row] = target as u8;
+            let (next, more) = room.split_at_mut(domains.len());
+            if descend(net, mask, row, target, domains, next)
+                && search(net, mask, order, rest, next, more, choice, steps)
+            {
+                return true;
+            }
+        }
+    }
+    false
+}

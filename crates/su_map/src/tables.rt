@@ -1,0 +1,216 @@
+//! Which rows share a variable, and which of their targets agree.
+ghost use Rattle.std.specs.Prelude.{◌≡◌, ◌≢◌, ◌≤◌, ◌<◌, ◌+◌, ◌*◌, ◌↔◌, ℕ, IfSome, length, get_or, Contains, Some, None};
+ghost use Rattle.std.specs.Int.{bit_at};
+ghost use Rattle.su_tableau.specs.declared.symbols.Sym.{Sym as ASym};
+ghost use Rattle.su_tableau.specs.declared.symbols.Sym.TheVariants.{Var};
+ghost use Rattle.su_tableau.specs.Tableaux.{AreBelow, AreVarsBelow};
+ghost use Rattle.su_map.specs.Lists.{row_of};
+ghost use Rattle.su_map.specs.Nets.{HasNear};
+ghost use Rattle.su_map.specs.Candidates.{Cell};
+ghost use Rattle.su_map.specs.Targets.{AreShared, AreTold, IsTold};
+
+use crate::bits::{either, with};
+use crate::columns::{column_of, holding};
+use su_tableau::{Sym, Tableau, has};
+
+/// Notes the row at the symbol's variable.
+fn note(rows_of: &mut [u64], x: &Sym, i: usize)
+    requires below { (k : ℕ) → x.now ≡ Var k → k < length rows_of.old }
+    requires small { i < 64 }
+    ensures kept { (k q : ℕ) → bit_at (get_or rows_of.old k 0) q ≡ 1 → bit_at (get_or rows_of.new k 0) q ≡ 1 }
+    ensures noted { (k : ℕ) → x.now ≡ Var k → bit_at (get_or rows_of.new k 0) i ≡ 1 }
+{
+    if let Sym::Var(k) = x {
+        let noted = with(rows_of[*k as usize], i);
+        rows_of[*k as usize] = noted;
+    }
+}
+
+/// Notes the row at each of its variables.
+fn note_row(rows_of: &mut [u64], row: &[Sym], i: usize)
+    requires below { AreBelow (length rows_of.old) row.now }
+    requires small { i < 64 }
+    ensures kept { (k q : ℕ) → bit_at (get_or rows_of.old k 0) q ≡ 1 → bit_at (get_or rows_of.new k 0) q ≡ 1 }
+    ensures noted { (k : ℕ) → Contains row.now (Var k) → bit_at (get_or rows_of.new k 0) i ≡ 1 }
+{
+    for x in row {
+        note(rows_of, x, i);
+    }
+}
+
+/// The rows noted at the symbol's variable if it is not in the head.
+fn rows_at(rows_of: &[u64], head: &[Sym], x: &Sym) -> u64
+    requires below { (k : ℕ) → x.now ≡ Var k → k < length rows_of.now }
+    ensures { (k q : ℕ) → x.now ≡ Var k → (Contains head.now (Var k) → ⊥) → bit_at (get_or rows_of.now k 0) q ≡ 1 → bit_at result q ≡ 1 }
+{
+    match x {
+        Sym::Var(k) => match column_of(head, *k) {
+            Some(_) => 0,
+            None => rows_of[*k as usize],
+        },
+        Sym::Const(_) => 0,
+    }
+}
+
+/// The rows that were noted at the row's variables which are not in the head.
+fn rows_near(rows_of: &[u64], head: &[Sym], row: &[Sym]) -> u64
+    requires below { AreBelow (length rows_of.now) row.now }
+    ensures { (k q : ℕ) → Contains row.now (Var k) → (Contains head.now (Var k) → ⊥) → bit_at (get_or rows_of.now k 0) q ≡ 1 → bit_at result q ≡ 1 }
+{
+    let mut rows = 0;
+    for x in row {
+        rows = either(rows, rows_at(rows_of, head, x));
+    }
+    rows
+}
+
+/// For each masked row the masked rows that share a variable with it.
+pub fn fill_near(near: &mut [u64], rows_of: &mut [u64], from: &Tableau, mask: u64)
+    requires room { length from.now.rows ≤ length near.old }
+    requires symbols { AreVarsBelow (length rows_of.old) from.now }
+    ensures { HasNear from.now mask near.new }
+{
+    rows_of.fill(0);
+    for i in 0..from.row_count() {
+        if has(mask, i) {
+            note_row(rows_of, from.row(i), i);
+        }
+    }
+    for i in 0..from.row_count() {
+        let nearby = rows_near(rows_of, from.head(), from.row(i));
+        near[i] = nearby;
+    }
+}
+
+/// The symbol's column in the other row; none for a constant and a head variable.
+fn shared_at(head: &[Sym], other: &[Sym], x: &Sym) -> Option<usize>
+    ensures some { IfSome result (λ c. (k : ℕ) × (x.now ≡ Var k) × Cell other.now c (Var k)) }
+    ensures none { result ≡ None → (k : ℕ) → x.now ≡ Var k → Contains other.now (Var k) → Contains head.now (Var k) }
+{
+    match x {
+        Sym::Var(k) => match column_of(head, *k) {
+            Some(_) => None,
+            None => column_of(other, *k),
+        },
+        Sym::Const(_) => None,
+    }
+}
+
+/// For each column of the row its variable's column in the other row.
+fn fill_shared(columns: &mut [Option<usize>], head: &[Sym], other: &[Sym], row: &[Sym])
+    requires { length row.now ≤ length columns.old }
+    ensures { AreShared head.now other.now row.now columns.new }
+{
+    for c in 0..row.len() {
+        let at = shared_at(head, other, &row[c]);
+        columns[c] = at;
+    }
+}
+
+/// The targets in the set that hold at the column what the target line holds at the column shared.
+fn agreeing_at(shared: Option<usize>, column: usize, target: &[Sym], to: &Tableau, set: u64) -> u64
+    requires width { length target.now ≡ to.now.width }
+    requires column { column < to.now.width }
+    requires shared { (c : ℕ) → shared ≡ Some c → c < to.now.width }
+    requires within { (j : ℕ) → bit_at set j ≡ 1 → j < length to.now.rows }
+    ensures { (j : ℕ) → (bit_at result j ≡ 1) ↔ ((bit_at set j ≡ 1) × ((c : ℕ) (d : ASym) → shared ≡ Some c → get_or target.now c d ≡ get_or (row_of to.now j) column d)) }
+{
+    match shared {
+        Some(c) => holding(to, column, &target[c], set),
+        None => set,
+    }
+}
+
+/// The targets in the set that hold what the target line holds at the columns shared.
+fn agreeing(columns: &[Option<usize>], target: &[Sym], to: &Tableau, set: u64) -> u64
+    requires width { length target.now ≡ to.now.width }
+    requires columns { (e c : ℕ) → e < to.now.width → get_or columns.now e None ≡ Some c → c < to.now.width }
+    requires room { to.now.width ≤ length columns.now }
+    requires within { (j : ℕ) → bit_at set j ≡ 1 → j < length to.now.rows }
+    ensures { (j : ℕ) → (bit_at result j ≡ 1) ↔ ((bit_at set j ≡ 1) × ((e c : ℕ) (d : ASym) → e < to.now.width → get_or columns.now e None ≡ Some c → get_or target.now c d ≡ get_or (row_of to.now j) e d)) }
+{
+    let mut left = set;
+    for e in 0..target.len() {
+        left = agreeing_at(columns[e], e, target, to, left);
+    }
+    left
+}
+
+/// For each target of row i the targets of row q that agree with it.
+fn fill_pair(
+    agree: &mut [u64],
+    columns: &[Option<usize>],
+    to: &Tableau,
+    start: usize,
+    targets: u64,
+    others: u64,
+)
+    requires room { start + 64 ≤ length agree.old }
+    requires columns { (e c : ℕ) → e < to.now.width → get_or columns.now e None ≡ Some c → c < to.now.width }
+    requires width { to.now.width ≤ length columns.now }
+    requires within { (j : ℕ) → bit_at others j ≡ 1 → j < length to.now.rows }
+    ensures before { (x : ℕ) → x < start → get_or agree.new x 0 ≡ get_or agree.old x 0 }
+    ensures filled { (p : ℕ) → p < length to.now.rows → bit_at targets p ≡ 1 → AreTold to.now columns.now p others (get_or agree.new (start + p) 0) }
+{
+    for p in 0..to.row_count() {
+        if has(targets, p) {
+            let told = agreeing(columns, to.row(p), to, others);
+            agree[start + p] = told;
+        }
+    }
+}
+
+/// For each pair of masked rows that share a variable the targets that agree.
+fn fill_row(
+    agree: &mut [u64],
+    columns: &mut [Option<usize>],
+    from: &Tableau,
+    mask: u64,
+    to: &Tableau,
+    base: &[u64],
+    near: u64,
+    i: usize,
+)
+    requires room { (i + 1) * 4096 ≤ length agree.old }
+    requires columns { from.now.width ≤ length columns.old }
+    requires row { i < length from.now.rows }
+    requires small { length to.now.rows ≤ 64 }
+    requires base { length from.now.rows ≤ length base.now }
+    requires width { from.now.width ≡ to.now.width }
+    requires within { (q j : ℕ) → q < length from.now.rows → bit_at mask q ≡ 1 → bit_at (get_or base.now q 0) j ≡ 1 → j < length to.now.rows }
+    ensures before { (x : ℕ) → x < i * 4096 → get_or agree.new x 0 ≡ get_or agree.old x 0 }
+    ensures filled { (q : ℕ) → q < length from.now.rows → i ≢ q → bit_at mask q ≡ 1 → bit_at near q ≡ 1 → IsTold from.now to.now base.now i q agree.new }
+{
+    for q in 0..from.row_count() {
+        if q != i && has(mask, q) && has(near, q) {
+            fill_shared(columns, from.head(), from.row(i), from.row(q));
+            fill_pair(agree, columns, to, i * 4096 + q * 64, base[i], base[q]);
+        }
+    }
+}
+
+/// For each pair of masked rows that share a variable the targets that agree.
+pub fn fill_agree(
+    agree: &mut [u64],
+    columns: &mut [Option<usize>],
+    from: &Tableau,
+    mask: u64,
+    to: &Tableau,
+    base: &[u64],
+    near: &[u64],
+)
+    requires room { length from.now.rows * 4096 ≤ length agree.old }
+    requires columns { from.now.width ≤ length columns.old }
+    requires small { length to.now.rows ≤ 64 }
+    requires base { length from.now.rows ≤ length base.now }
+    requires near { length from.now.rows ≤ length near.now }
+    requires width { from.now.width ≡ to.now.width }
+    requires within { (q j : ℕ) → q < length from.now.rows → bit_at mask q ≡ 1 → bit_at (get_or base.now q 0) j ≡ 1 → j < length to.now.rows }
+    ensures { (i q : ℕ) → i < length from.now.rows → q < length from.now.rows → i ≢ q → bit_at mask i ≡ 1 → bit_at mask q ≡ 1 → bit_at (get_or near.now i 0) q ≡ 1 → IsTold from.now to.now base.now i q agree.new }
+{
+    for i in 0..from.row_count() {
+        if has(mask, i) {
+            fill_row(agree, columns, from, mask, to, base, near[i], i);
+        }
+    }
+}
