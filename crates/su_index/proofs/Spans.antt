@@ -47,7 +47,7 @@ eq_above Less q top h e = absurd (false≢true (sym e))
 eq_above Equal q top h e = grind (arith, nat_tests, h, e)
 eq_above Greater q top h e = refl
 
-later_too : (o : Ordering) (q top : ℕ) → is_lt (ordering_then o (nat_cmp q 0)) ≡ true → is_lt (ordering_then o (nat_cmp q top)) ≡ true
+pub later_too : (o : Ordering) (q top : ℕ) → is_lt (ordering_then o (nat_cmp q 0)) ≡ true → is_lt (ordering_then o (nat_cmp q top)) ≡ true
 later_too Less q top e = refl
 later_too Equal q top e = grind (arith, nat_tests, e)
 later_too Greater q top e = absurd (false≢true e)

@@ -60,6 +60,35 @@ pub(crate) fn place(
     low
 }
 
+/// How many positions of the run come before those past the value, where `first` come before the
+/// value itself. Most values stand in one row or in none: then it asks no more than two rows.
+fn past(rows: &[Row], column: usize, run: &[u32], wanted: &Value, first: usize) -> usize
+    requires columns { HaveColumn column rows.now }
+    requires small { length rows.now < 2 ^ 32 }
+    requires positions { ArePositions (length rows.now) run.now }
+    requires ordered { IsStrictlySortedBy (compare_places (value_at rows.now column)) run.now }
+    requires within { first ≤ length run.now }
+    requires below { (k : ℕ) → k < first → comes_before (value_at rows.now column) wanted.now 0 (slice_index run.now k) ≡ true }
+    ensures within { result ≤ length run.now }
+    ensures below { (k : ℕ) → k < result → comes_before (value_at rows.now column) wanted.now (length rows.now) (slice_index run.now k) ≡ true }
+    ensures above { (k : ℕ) → result ≤ k → k < length run.now → comes_before (value_at rows.now column) wanted.now (length rows.now) (slice_index run.now k) ≡ false }
+{
+    let top = rows.len() as u32;
+    if first == run.len() {
+        return first;
+    }
+    if !is_before(rows, column, run[first], wanted, top) {
+        return first;
+    }
+    if first + 1 == run.len() {
+        return first + 1;
+    }
+    if !is_before(rows, column, run[first + 1], wanted, top) {
+        return first + 1;
+    }
+    place(rows, column, run, wanted, top)
+}
+
 /// Where the positions of the value stand in the run: the first place, and the one past the last.
 pub(crate) fn span(rows: &[Row], column: usize, run: &[u32], wanted: &Value) -> (usize, usize)
     requires columns { HaveColumn column rows.now }
@@ -69,6 +98,6 @@ pub(crate) fn span(rows: &[Row], column: usize, run: &[u32], wanted: &Value) -> 
     ensures { IsSpan (value_at rows.now column) wanted.now run.now result.0 result.1 }
 {
     let first = place(rows, column, run, wanted, 0);
-    let past = place(rows, column, run, wanted, rows.len() as u32);
+    let past = past(rows, column, run, wanted, first);
     (first, past)
 }
