@@ -22,6 +22,3 @@ mod wellnamed;
 pub use definitions::{Definition, Pair};
 pub use faults::{SchemaFault, SchemaLimit};
 pub use schemas::Schema;
-
-#[cfg(test)]
-mod tests;

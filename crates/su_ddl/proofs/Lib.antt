@@ -1,4 +1,0 @@
-pub mod Files
-pub mod Formed
-pub mod Lines
-pub mod Listing

@@ -1,5 +1,0 @@
-pub mod Columns
-pub mod Grammar
-pub mod Laws
-pub mod Reading
-pub mod Shown
