@@ -17,6 +17,8 @@ mod links;
 mod naming;
 mod readers;
 mod schemas;
+#[cfg(test)]
+mod tests;
 mod wellnamed;
 
 pub use definitions::{Definition, Pair};
