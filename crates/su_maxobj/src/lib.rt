@@ -13,8 +13,10 @@ mod growing;
 pub mod laws;
 mod listing;
 mod ordering;
+#[cfg(test)]
+mod schema_tests;
 mod spreading;
 #[cfg(test)]
 mod tests;
 
-pub use calls::{adjoinable, grown, maximal_objects};
+pub use calls::{adjoinable, attributes_covered, grown, maximal_objects};
