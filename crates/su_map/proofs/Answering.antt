@@ -1,10 +1,10 @@
 -- From choices to mappings.
-use Rattle.std.proofs.Common.{◌≡◌, ◌⊎◌, ◌<◌, ◌≤◌, ◌+◌, ◌∙◌, ◌↔◌, ℕ, Bool, true, false, IsTrue, ⊎_elim, List, [], map, length, sym, ap, subst, All, arith}
+use Rattle.std.proofs.Common.{◌≡◌, ◌⊎◌, ◌<◌, ◌≤◌, ◌+◌, ◌↔◌, ℕ, Bool, true, false, ⊎_elim, List, length, sym, subst, All, arith}
 use Rattle.std.specs.Int.{bit_at}
 use Rattle.std.proofs.lemmas.Bool.{cases_Bool}
 use Rattle.su_tableau.specs.Tableaux.{Tab}
-use Rattle.su_map.specs.Lists.{IsMapping, IsFirst, IsBefore, rows_in, numbers_of, row_of}
-use Rattle.su_map.specs.Candidates.{IsCandidate, IsWithinProducts, candidate_counts, count_below, sum_of_products}
+use Rattle.su_map.specs.Lists.{IsMapping, IsFirst, IsBefore}
+use Rattle.su_map.specs.Candidates.{IsWithinProducts}
 use Rattle.su_map.specs.Nets.{Netted, IsNet, IsNetFor, base_of}
 use Rattle.su_map.specs.Choices.{IsChoiceInto, IsFound, IsFirstOf, tries, ArePassed}
 use Rattle.su_map.proofs.Ranks.{choice_by, list_by}

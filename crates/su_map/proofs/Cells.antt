@@ -1,5 +1,5 @@
 -- Cells of rows, and when a row goes to a target by itself.
-use Rattle.std.proofs.Common.{◌≡◌, ◌≢◌, ℕ, zero, suc, ◌+◌, ◌<◌, ◌≤◌, ◌⊎◌, ◌↔◌, List, [], ◌∷◌, length, get_or, Contains, Option, Some, None, inl, inr, ⊎_elim, refl, sym, ap, subst, ◌∙◌, arith}
+use Rattle.std.proofs.Common.{◌≡◌, ◌≢◌, ℕ, zero, suc, ◌<◌, ◌≤◌, ◌⊎◌, ◌↔◌, List, [], ◌∷◌, length, get_or, Contains, Option, Some, None, inl, inr, ⊎_elim, refl, sym, ap, subst, ◌∙◌, arith}
 use Rattle.std.proofs.lemmas.Bool.{cases_lt, cases_eq}
 use Rattle.std.proofs.lemmas.List.{get_or_default}
 use Rattle.su_base.specs.declared.values.Value.{Value}
@@ -8,7 +8,7 @@ use Rattle.su_tableau.specs.declared.symbols.Sym.TheVariants.{Const, Var}
 use Rattle.su_tableau.specs.Tableaux.{Tab}
 use Rattle.su_map.specs.Lists.{row_of}
 use Rattle.su_map.specs.Candidates.{Cell, KeepsConstants, Agree}
-use Rattle.su_map.specs.Targets.{IsFirstAt, HoldsAt, AlikeAt, CellFits, AreShared}
+use Rattle.su_map.specs.Targets.{IsFirstAt, CellFits, AreShared}
 
 pub cell_from : (row : List Sym) (c : ℕ) (d x : Sym) → c < length row → get_or row c d ≡ x → Cell row c x
 cell_from row c d x h e = record { below = h; is = λ d'. get_or_default row c d' d h ∙ e }

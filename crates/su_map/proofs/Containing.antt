@@ -1,7 +1,7 @@
 -- Row lists are mappings of the parts, and mappings are containment.
-use Rattle.std.proofs.Common.{◌≡◌, ◌≤◌, ◌<◌, ◌+◌, ◌^◌, ◌∙◌, ◌↔◌, ℕ, List, [], map, length, get_or, All, Contains, refl, sym, ap, subst, arith}
+use Rattle.std.proofs.Common.{◌≡◌, ◌<◌, ◌+◌, ◌^◌, ◌∙◌, ◌↔◌, ℕ, List, [], length, get_or, All, Contains, sym, ap, subst, arith}
 use Rattle.std.specs.Int.{bit_at}
-use Rattle.std.proofs.lemmas.List.{get_or_default, length-map, get_or-map}
+use Rattle.std.proofs.lemmas.List.{get_or_default}
 use Rattle.std.proofs.lemmas.List.Elements.{All-contains, recursion_from_All}
 use Rattle.su_tableau.specs.declared.symbols.Sym.{Sym}
 use Rattle.su_tableau.specs.Tableaux.{Tab, IsValid}
@@ -12,10 +12,10 @@ use Rattle.su_tableau.specs.Equivalent.{IsWithin}
 use Rattle.su_tableau.proofs.Containment.{maps_within}
 use Rattle.su_tableau.proofs.Freezing.{within_maps}
 use Rattle.su_tableau.proofs.Sets.{select-has, select-from, choose, zip-length, zip-at}
-use Rattle.su_map.specs.Lists.{numbers_of, rows_in, row_of, IsMapping}
+use Rattle.su_map.specs.Lists.{rows_in, row_of, IsMapping}
 use Rattle.su_map.proofs.Members.{full_member}
-use Rattle.su_map.proofs.Ranks.{rank, ranked_at, choice_by}
-use Rattle.su_map.proofs.Joining.{MapsBy, mapping_by}
+use Rattle.su_map.proofs.Ranks.{ranked_at, choice_by}
+use Rattle.su_map.proofs.Joining.{mapping_by}
 
 pub list_maps : (s t : Tab) (m k : ℕ) (list : List ℕ) → IsMapping s m t k list → Maps (part s m) (part t k)
 list_maps s t m k list f =

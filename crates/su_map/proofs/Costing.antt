@@ -1,7 +1,6 @@
 -- How many steps a search counts.
-use Rattle.std.proofs.Common.{◌≡◌, ◌≢◌, ℕ, zero, suc, ◌+◌, ◌*◌, ◌-◌, ◌<◌, ◌≤◌, Bool, true, cond, List, [], ◌∷◌, map, length, sym, ap, ◌∙◌, subst, arith, add-one}
+use Rattle.std.proofs.Common.{◌≡◌, ◌≢◌, ℕ, zero, suc, ◌+◌, ◌*◌, ◌-◌, ◌<◌, ◌≤◌, Bool, true, cond, map, sym, ap, ◌∙◌, subst, arith, add-one}
 use Rattle.std.specs.Int.{bit_at}
-use Rattle.su_map.specs.Lists.{numbers_of}
 use Rattle.su_map.specs.Candidates.{count_below, sum_of_products}
 use Rattle.su_map.specs.Choices.{tries}
 use Rattle.su_map.proofs.Ranks.{numbers_first}

@@ -1,9 +1,8 @@
 -- A row list is a mapping exactly where each row goes to its target by itself and each two rows agree.
-use Rattle.std.proofs.Common.{◌≡◌, ◌≢◌, ℕ, zero, suc, ◌+◌, ◌<◌, ◌≤◌, ◌⊎◌, List, [], ◌∷◌, map, length, get_or, All, Contains, inl, inr, refl, sym, ap, subst, ◌∙◌, ⊎_elim, arith}
+use Rattle.std.proofs.Common.{◌≡◌, ◌≢◌, ℕ, ◌<◌, ◌⊎◌, List, [], map, length, get_or, All, Contains, inl, inr, refl, sym, ap, subst, ◌∙◌, ⊎_elim, arith}
 use Rattle.std.specs.Int.{bit_at}
 use Rattle.std.proofs.lemmas.Bool.{cases_eq}
 use Rattle.std.proofs.lemmas.List.{length-map, get_or-map, get_or_default, same_lists}
-use Rattle.su_base.specs.declared.values.Value.{Value}
 use Rattle.su_tableau.specs.declared.symbols.Sym.{Sym}
 use Rattle.su_tableau.specs.declared.symbols.Sym.TheVariants.{Const, Var}
 use Rattle.su_tableau.specs.Tableaux.{Tab}
@@ -11,8 +10,8 @@ use Rattle.su_tableau.specs.Mapping.{image_of, images_of}
 use Rattle.su_tableau.proofs.Changing.{InRow, in_row, Stands, stands}
 use Rattle.su_map.specs.Lists.{rows_in, row_of, IsMapping}
 use Rattle.su_map.specs.Candidates.{Cell, KeepsConstants, Agree}
-use Rattle.su_map.specs.Nets.{Netted, IsTarget, Share, IsNet, IsNetFor}
-use Rattle.su_map.specs.Choices.{AreFit, IsChoiceInto}
+use Rattle.su_map.specs.Nets.{Netted, IsTarget, IsNetFor}
+use Rattle.su_map.specs.Choices.{IsChoiceInto}
 use Rattle.su_map.proofs.Cells.{cell_from, cell_contains}
 use Rattle.su_map.proofs.Ranks.{rank, choice_by, rank_in, rank_at, ranked_at}
 

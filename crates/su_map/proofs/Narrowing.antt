@@ -1,10 +1,10 @@
 -- Domains that shrink and lose no choice.
-use Rattle.std.proofs.Common.{◌≡◌, ◌≢◌, ℕ, ◌+◌, ◌*◌, ◌^◌, ◌<◌, ◌≤◌, ◌⊎◌, ◌↔◌, List, length, get_or, set, inl, inr, sym, ap, subst, ◌∙◌, ⊎_elim, arith, get_or-set_other, get_or-set_same}
+use Rattle.std.proofs.Common.{◌≡◌, ◌≢◌, ℕ, ◌^◌, ◌<◌, ◌≤◌, ◌↔◌, List, length, get_or, set, inl, inr, sym, ap, subst, ◌∙◌, ⊎_elim, arith, get_or-set_other, get_or-set_same}
 use Rattle.std.specs.Int.{bit_at}
 use Rattle.std.proofs.lemmas.Bool.{cases_eq}
 use Rattle.std.proofs.lemmas.Nat.Bits.{bit_at-pow_same, bit_at-pow_other, bit_at-lt, bit_at-zero, same_from_bits}
-use Rattle.su_map.specs.Nets.{Netted, HasRoom, base_of, near_of, agree_of}
-use Rattle.su_map.specs.Choices.{AreFit, IsChoice, Shrinks, IsLeft}
+use Rattle.su_map.specs.Nets.{Netted, HasRoom, near_of, agree_of}
+use Rattle.su_map.specs.Choices.{IsChoice, Shrinks, IsLeft}
 
 pub pow_member : (m k x : ℕ) → m ≡ 2 ^ k → (bit_at m x ≡ 1) ↔ (x ≡ k)
 pow_member m k x e = (

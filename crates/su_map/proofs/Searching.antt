@@ -1,12 +1,12 @@
 -- How a search stands, and what it finds.
-use Rattle.std.proofs.Common.{◌≡◌, ◌≢◌, ℕ, suc, ◌+◌, ◌-◌, ◌*◌, ◌<◌, ◌≤◌, ◌⊎◌, ◌↔◌, List, length, get_or, set, inl, inr, refl, sym, ap, subst, ◌∙◌, ⊎_elim, arith, get_or-set_other, get_or-set_same}
+use Rattle.std.proofs.Common.{◌≡◌, ◌≢◌, ℕ, ◌+◌, ◌*◌, ◌<◌, ◌≤◌, ◌⊎◌, List, length, get_or, set, inr, sym, ap, subst, ◌∙◌, ⊎_elim, arith, get_or-set_other, get_or-set_same}
 use Rattle.std.specs.Int.{bit_at}
 use Rattle.std.proofs.lemmas.Bool.{cases_eq, cases_lt}
 use Rattle.std.proofs.lemmas.Nat.Bits.{bit_at-lt, bit_at-zero}
 use Rattle.su_tableau.proofs.Sets.{IsSub, sub_le}
-use Rattle.su_map.specs.Nets.{Netted, base_of, near_of, agree_of}
+use Rattle.su_map.specs.Nets.{Netted, near_of, agree_of}
 use Rattle.su_map.specs.Lists.{numbers_of}
-use Rattle.su_map.specs.Choices.{AreFit, IsChoice, Shrinks, AreSame, IsLess, choice_of, Stands, IsInOrder, AreKept}
+use Rattle.su_map.specs.Choices.{IsChoice, Shrinks, AreSame, IsLess, choice_of, Stands, IsInOrder, AreKept}
 use Rattle.su_map.proofs.Narrowing.{positive_has}
 use Rattle.su_map.proofs.Ranks.{numbers_without}
 

@@ -1,5 +1,5 @@
 -- The search from the start.
-use Rattle.std.proofs.Common.{◌≡◌, ◌≢◌, ℕ, zero, suc, ◌+◌, ◌*◌, ◌^◌, ◌<◌, ◌≤◌, ◌⊎◌, ◌↔◌, Bool, true, List, [], ◌∷◌, ◌++◌, map, length, get_or, inl, inr, refl, sym, ap, subst, ◌∙◌, ⊎_elim, arith}
+use Rattle.std.proofs.Common.{◌≡◌, ◌≢◌, ℕ, zero, suc, ◌*◌, ◌<◌, ◌≤◌, ◌⊎◌, ◌↔◌, Bool, List, [], ◌∷◌, ◌++◌, map, length, get_or, inl, inr, refl, sym, ap, ◌∙◌, ⊎_elim, arith}
 use Rattle.std.specs.Int.{bit_at}
 use Rattle.std.proofs.lemmas.Bool.{cases_lt, cases_eq}
 use Rattle.std.proofs.lemmas.List.{length-append, length-map, get_or-map}
@@ -8,7 +8,7 @@ use Rattle.su_tableau.specs.Parts.{keep_if}
 use Rattle.su_map.specs.Lists.{numbers_of, IsBefore}
 use Rattle.su_map.specs.Candidates.{count_below, sum_of_products}
 use Rattle.su_map.specs.Nets.{Netted, base_of}
-use Rattle.su_map.specs.Choices.{AreFit, IsChoice, IsChoiceInto, Shrinks, AreSame, IsLess, Stands, IsInOrder, choice_of, tries, ArePassed}
+use Rattle.su_map.specs.Choices.{IsChoice, IsChoiceInto, Shrinks, AreSame, IsLess, Stands, IsInOrder, tries, ArePassed}
 use Rattle.su_map.proofs.Ranks.{numbers_same, map_at, map_same, rank, rank_in, ranked_at, rank_less}
 
 -- the rows of a mask that are below n

@@ -1,10 +1,9 @@
 -- The table of the targets that agree.
-use Rattle.std.proofs.Common.{◌≡◌, ◌≢◌, ◌<◌, ◌≤◌, ◌+◌, ◌*◌, ◌∙◌, ◌↔◌, ℕ, [], List, length, get_or, sym, ap, subst, Option, Some, None, All, arith}
+use Rattle.std.proofs.Common.{◌≡◌, ◌<◌, ◌≤◌, ◌+◌, ◌*◌, ◌↔◌, ℕ, List, length, get_or, sym, subst, Option, Some, None, arith}
 use Rattle.std.specs.Int.{bit_at}
 use Rattle.su_tableau.specs.declared.symbols.Sym.{Sym}
 use Rattle.su_tableau.specs.Tableaux.{Tab}
 use Rattle.su_map.specs.Lists.{row_of}
-use Rattle.su_map.specs.Candidates.{Agree}
 use Rattle.su_map.specs.Nets.{IsTarget, AgreesAt}
 use Rattle.su_map.specs.Targets.{AreTold, IsTold, AreShared}
 use Rattle.su_map.proofs.Cells.{Fits, told_agree}

@@ -7,8 +7,8 @@ ghost use Rattle.su_map.specs.Lists.{row_of};
 ghost use Rattle.su_map.specs.Candidates.{Cell, KeepsConstants, Agree};
 ghost use Rattle.su_map.specs.Targets.{IsFirstAt, HoldsAt, AlikeAt, CellFits};
 
-use crate::bits::with;
-use su_tableau::{Sym, Tableau, has};
+use crate::bits::{both, with};
+use su_tableau::{Sym, Tableau, full, has};
 
 /// The first column of the row that holds the variable.
 pub fn column_of(row: &[Sym], k: u32) -> Option<usize>
@@ -45,6 +45,9 @@ pub fn alike(to: &Tableau, first: usize, column: usize, set: u64) -> u64
     requires column { column < to.now.width }
     ensures { (j : ℕ) → (bit_at result j ≡ 1) ↔ ((j < length to.now.rows) × (bit_at set j ≡ 1) × AlikeAt to.now first column j) }
 {
+    if first == column {
+        return both(set, full(to.row_count()));
+    }
     let mut left = 0;
     for j in 0..to.row_count() {
         if has(set, j) && to.row(j)[column].same(&to.row(j)[first]) {

@@ -140,6 +140,21 @@ pub fn propagate(net: &Net, mask: u64, start: u64, domains: &mut [u64]) -> bool
     true
 }
 
+/// The rows of the mask whose domains are not as before.
+fn shrunk(mask: u64, before: &[u64], after: &[u64]) -> u64
+    requires rows { length before.now ≤ 64 }
+    requires same_length { length after.now ≡ length before.now }
+    ensures { (q : ℕ) → bit_at result q ≡ 1 → bit_at mask q ≡ 1 }
+{
+    let mut rows = 0;
+    for q in 0..before.len() {
+        if has(mask, q) && after[q] != before[q] {
+            rows = with(rows, q);
+        }
+    }
+    rows
+}
+
 /// The domains where the row goes to the target, after `assign` and `propagate`; false where no
 /// choice sends it there.
 pub fn descend(
@@ -167,5 +182,6 @@ pub fn descend(
     if !assign(net, mask, row, target, domains, next) {
         return false;
     }
-    propagate(net, mask, bit(row), next)
+    let changed = shrunk(mask, domains, next);
+    propagate(net, mask, changed, next)
 }

@@ -22,3 +22,6 @@ mod targets;
 
 pub use mappings::Mapping;
 pub use rooms::{Room, certify, exists, exists_prepared, first, prepare};
+
+#[cfg(test)]
+mod tests;

@@ -64,6 +64,19 @@ fn rows_near(rows_of: &[u64], head: &[Sym], row: &[Sym]) -> u64
     rows
 }
 
+/// The rows that were noted at the variables of a masked row which are not in the head.
+fn nearby(rows_of: &[u64], from: &Tableau, mask: u64, i: usize) -> u64
+    requires row { i < length from.now.rows }
+    requires symbols { AreVarsBelow (length rows_of.now) from.now }
+    ensures { bit_at mask i ≡ 1 → (k q : ℕ) → Contains (row_of from.now i) (Var k) → (Contains from.now.head (Var k) → ⊥) → bit_at (get_or rows_of.now k 0) q ≡ 1 → bit_at result q ≡ 1 }
+{
+    from.keeps_its_rules();
+    if !has(mask, i) {
+        return 0;
+    }
+    rows_near(rows_of, from.head(), from.row(i))
+}
+
 /// For each masked row the masked rows that share a variable with it.
 pub fn fill_near(near: &mut [u64], rows_of: &mut [u64], from: &Tableau, mask: u64)
     requires room { length from.now.rows ≤ length near.old }
@@ -77,8 +90,8 @@ pub fn fill_near(near: &mut [u64], rows_of: &mut [u64], from: &Tableau, mask: u6
         }
     }
     for i in 0..from.row_count() {
-        let nearby = rows_near(rows_of, from.head(), from.row(i));
-        near[i] = nearby;
+        let rows = nearby(rows_of, from, mask, i);
+        near[i] = rows;
     }
 }
 

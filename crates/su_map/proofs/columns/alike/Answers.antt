@@ -1,10 +1,20 @@
-use Rattle.std.proofs.Common.{◌≡◌, ◌<◌, length, sym, ap, ◌∙◌, ℕ, true≢false, arith}
+use Rattle.std.proofs.Common.{◌≡◌, ◌+◌, ◌^◌, length, get_or, sym, ap, ◌∙◌, ℕ, true≢false, arith}
 use Rattle.std.specs.Int.{bit_at}
+use Rattle.su_map.specs.Lists.{row_of}
 use Rattle.su_map.specs.Targets.{AlikeAt}
 use Rattle.su_map.proofs.Cells.{read_holds}
-use Rattle.su_map.proofs.Members.{collect_none, collect_more, collect_same}
+use Rattle.su_map.proofs.Members.{collect_more, collect_same, full_member}
 use Rattle.su_map.proofs.columns.alike.Goals as goal
 use Rattle.su_map.proofs.columns.alike.Goals.{then-has+then-same, else-has, else-has-via-then-has+else-same, else-has-via-else-has}
+
+pub returns-then-first-column : goal.returns-then-first-column
+returns-then-first-column c = λ j.
+    let in_both = c.both.ensures j in
+    let e : c.full.result + 1 ≡ 2 ^ length c.args.to.now.rows = c.full.ensures ∙ ap (λ n. 2 ^ n) c.row_count.ensures.is in
+    let in_rows = full_member c.full.result (length c.args.to.now.rows) j e in (
+      λ one. let m = in_both.0 one in (in_rows.0 m.1, m.0, λ d. ap (λ c'. get_or (row_of c.args.to.now j) c' d) c.if-first-column.true),
+      λ h. in_both.1 (h.1, in_rows.1 h.0),
+    )
 
 pub loop-j-preserved : goal.loop-j-preserved
 loop-j-preserved c =

@@ -1,4 +1,4 @@
-use Rattle.std.proofs.Common.{◌≡◌, ◌<◌, ℕ, length, sym, ap, ◌∙◌, true≢false, arith}
+use Rattle.std.proofs.Common.{◌≡◌, ℕ, sym, ap, ◌∙◌, true≢false, arith}
 use Rattle.std.specs.Int.{bit_at}
 use Rattle.su_map.specs.Targets.{HoldsAt}
 use Rattle.su_map.proofs.Cells.{read_holds}

@@ -1,4 +1,4 @@
-use Rattle.std.proofs.Common.{◌≡◌, ◌<◌, [], length, refl, sym, ap, ◌∙◌, true≢false, arith}
+use Rattle.std.proofs.Common.{[], refl, sym, ◌∙◌, true≢false, arith}
 use Rattle.su_map.specs.Targets.{CellFits}
 use Rattle.su_map.proofs.Cells.{cells_fit, fits_cells, no_head, no_head_itself}
 use Rattle.su_map.proofs.Members.{below_more}

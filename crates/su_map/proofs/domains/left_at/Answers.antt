@@ -1,5 +1,4 @@
-use Rattle.std.proofs.Common.{◌≡◌, ◌<◌, ◌∙◌, sym, true≢false}
-use Rattle.std.specs.Int.{bit_at}
+use Rattle.std.proofs.Common.{◌∙◌, sym, true≢false}
 use Rattle.su_map.proofs.Narrowing.{left_row, left_near, left_far}
 use Rattle.su_map.proofs.domains.left_at.Goals as goal
 

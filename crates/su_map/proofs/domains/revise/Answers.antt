@@ -1,4 +1,4 @@
-use Rattle.std.proofs.Common.{◌≡◌, ◌≢◌, ◌<◌, ◌∙◌, ℕ, length, get_or, sym, ap, arith}
+use Rattle.std.proofs.Common.{◌≡◌, ◌∙◌, ℕ, length, sym, ap, arith}
 use Rattle.std.specs.Int.{bit_at}
 use Rattle.su_map.specs.Choices.{IsChoice}
 use Rattle.su_map.proofs.Members.{no_member, without_in, with_in}

@@ -1,4 +1,4 @@
-use Rattle.std.proofs.Common.{◌≡◌, ℕ, ◌<◌, ◌⊎◌}
+use Rattle.std.proofs.Common.{◌≡◌, ℕ, ◌⊎◌}
 use Rattle.std.specs.Int.{bit_at}
 use Rattle.su_map.specs.Nets.{agree_of}
 use Rattle.su_map.proofs.domains.supported.Given as goal

@@ -1,7 +1,4 @@
-use Rattle.std.proofs.Common.{◌≡◌, ◌<◌, ◌∙◌, [], List, get_or, refl, sym, ap, subst, true≢false, arith}
-use Rattle.std.specs.Int.{bit_at}
-use Rattle.su_map.specs.Candidates.{KeepsConstants, Agree}
-use Rattle.su_map.specs.Targets.{IsTold}
+use Rattle.std.proofs.Common.{◌∙◌, [], refl, sym, true≢false, arith}
 use Rattle.su_map.proofs.Joining.{heads_are, mapping_head, mapping_target}
 use Rattle.su_map.proofs.Telling.{told_agrees}
 use Rattle.su_map.proofs.nets.fill_tables.Goals as goal

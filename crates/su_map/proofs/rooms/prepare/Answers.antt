@@ -1,4 +1,4 @@
-use Rattle.std.proofs.Common.{◌≡◌, ◌≤◌, ◌*◌, ℕ, length, sym, ap, subst, arith}
+use Rattle.std.proofs.Common.{◌≤◌, length, sym, ap, subst, arith}
 use Rattle.su_map.specs.Rooms.{Space}
 use Rattle.su_map.proofs.Narrowing.{less_room}
 use Rattle.su_map.proofs.Roomy.{refill_length}

@@ -1,11 +1,8 @@
-use Rattle.std.proofs.Common.{◌≡◌, ◌⊎◌, ◌+◌, ◌*◌, ◌≤◌, ◌<◌, ◌^◌, ◌∙◌, ℕ, Bool, List, length, sym, ap, subst, arith}
-use Rattle.std.specs.Int.{bit_at}
+use Rattle.std.proofs.Common.{◌≡◌, ◌⊎◌, ◌+◌, ◌*◌, ◌≤◌, ◌∙◌, ℕ, length, sym, subst, arith}
 use Rattle.su_map.specs.Lists.{numbers_of}
-use Rattle.su_map.specs.Nets.{Netted}
 use Rattle.su_map.specs.Choices.{IsChoice, IsChoiceInto, AreSame, IsLess, Shrinks, choice_of, Stands, tries, ArePassed}
 use Rattle.su_map.proofs.Members.{full_member}
 use Rattle.su_map.proofs.Narrowing.{widen}
-use Rattle.su_map.proofs.Costing.{le_at}
 use Rattle.su_map.proofs.Settling.{AreBoth, both_rows, into_choice, choice_into, same_rows, stands_start, levels_enough, rows_tries, rows_passed}
 use Rattle.su_map.proofs.rooms.settle.Goals as goal
 

@@ -1,4 +1,4 @@
-use Rattle.std.proofs.Common.{◌≡◌, ◌⊎◌, ◌≤◌, ◌+◌, ◌∙◌, ℕ, Bool, length, take, map, sym, ap, subst, arith}
+use Rattle.std.proofs.Common.{◌≡◌, ◌⊎◌, ◌≤◌, ◌+◌, ◌∙◌, length, map, sym, ap, subst, arith}
 use Rattle.su_map.specs.Lists.{numbers_of, IsBefore}
 use Rattle.su_map.specs.Choices.{IsChoiceInto, AreSame, IsLess, choice_of, tries, ArePassed}
 use Rattle.su_map.proofs.Settling.{lists_first}

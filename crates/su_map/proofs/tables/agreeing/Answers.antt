@@ -1,4 +1,4 @@
-use Rattle.std.proofs.Common.{◌≡◌, ◌<◌, ◌∙◌, ℕ, get_or, sym, ap, Some, None, arith}
+use Rattle.std.proofs.Common.{◌≡◌, ℕ, get_or, Some, None, arith}
 use Rattle.su_tableau.specs.declared.symbols.Sym.{Sym}
 use Rattle.su_map.specs.Lists.{row_of}
 use Rattle.su_map.proofs.Members.{below_more}

@@ -1,5 +1,4 @@
-use Rattle.std.proofs.Common.{◌≡◌, ◌<◌, ◌∙◌, ℕ, get_or, sym, ap, Some, None, arith}
-use Rattle.std.specs.Int.{bit_at}
+use Rattle.std.proofs.Common.{◌∙◌, get_or, sym, ap, arith}
 use Rattle.su_map.proofs.Cells.{line_holds, same_some}
 use Rattle.su_map.proofs.tables.agreeing_at.Goals as goal
 

@@ -1,4 +1,4 @@
-use Rattle.std.proofs.Common.{◌≡◌, ◌<◌, ◌∙◌, ℕ, [], length, get_or, sym, ap, subst, Contains, true≢false, arith}
+use Rattle.std.proofs.Common.{◌≡◌, ◌∙◌, ℕ, [], get_or, sym, ap, subst, Contains, true≢false, arith}
 use Rattle.std.specs.Int.{bit_at}
 use Rattle.su_tableau.specs.declared.symbols.Sym.TheVariants.{Var}
 use Rattle.su_map.specs.Lists.{row_of}
@@ -8,9 +8,6 @@ use Rattle.su_map.proofs.tables.fill_near.Goals.{then-has, else-has}
 
 pub note_row-requires-clause-below : goal.note_row-requires-clause-below
 note_row-requires-clause-below c = λ k has. let l = c.requires.symbols.rows c.loop-i.i [] (omega arith) k (subst (λ r. Contains r (Var k)) c.row.ensures.is has) in omega arith
-
-pub rows_near-nearby-requires : goal.rows_near-nearby-requires
-rows_near-nearby-requires c = record { below = λ k has. let l = c.requires.symbols.rows c.loop-i-2.i [] (omega arith) k (subst (λ r. Contains r (Var k)) c.row-in-loop-i-2.ensures.is has) in omega arith }
 
 pub loop-i-preserved : goal.loop-i-preserved
 loop-i-preserved c =
@@ -26,11 +23,9 @@ loop-i-preserved c =
 
 pub loop-i-2-preserved : goal.loop-i-2-preserved
 loop-i-2-preserved c = λ p low.
-    let P : ℕ → ℕ → Type 0 = λ p v. (k q : ℕ) → Contains (row_of c.args.from.now p) (Var k) → (Contains c.args.from.now.head (Var k) → ⊥) → bit_at (get_or c.loop-i.rows_of k 0) q ≡ 1 → bit_at v q ≡ 1 in
-    set_entries P c.loop-i-2.near c.loop-i-2.i c.rows_near-nearby.result (omega arith) c.loop-i-2.invariant
-    (λ k q has free b. c.rows_near-nearby.ensures k q (subst (λ r. Contains r (Var k)) (sym c.row-in-loop-i-2.ensures.is) has) (λ in'. free (subst (λ r. Contains r (Var k)) c.head.ensures in')) b)
-    p low
+    let P : ℕ → ℕ → Type 0 = λ p v. bit_at c.args.mask p ≡ 1 → (k q : ℕ) → Contains (row_of c.args.from.now p) (Var k) → (Contains c.args.from.now.head (Var k) → ⊥) → bit_at (get_or c.loop-i.rows_of k 0) q ≡ 1 → bit_at v q ≡ 1 in
+    set_entries P c.loop-i-2.near c.loop-i-2.i c.nearby-rows.result (omega arith) c.loop-i-2.invariant c.nearby-rows.ensures p low
 
 pub returns : goal.returns
 returns c = λ i q low_i low_q one_i one_q ne share.
-    c.loop-i-2.invariant i (omega arith) share.variable q share.in_one share.free (c.loop-i.invariant q (omega arith) one_q share.variable share.in_other)
+    c.loop-i-2.invariant i (omega arith) one_i share.variable q share.in_one share.free (c.loop-i.invariant q (omega arith) one_q share.variable share.in_other)

@@ -1,4 +1,4 @@
-use Rattle.std.proofs.Common.{◌≡◌, ◌≢◌, ◌<◌, ◌+◌, ◌∙◌, ℕ, [], length, get_or, set, sym, ap, subst, true≢false, arith, get_or-set_other, get_or-set_same}
+use Rattle.std.proofs.Common.{◌≡◌, ◌+◌, ◌∙◌, ℕ, get_or, sym, ap, subst, true≢false, arith, get_or-set_other, get_or-set_same}
 use Rattle.std.specs.Int.{bit_at}
 use Rattle.su_map.specs.Targets.{AreTold}
 use Rattle.su_map.proofs.Members.{below_more}

@@ -1,8 +1,6 @@
-use Rattle.std.proofs.Common.{◌≡◌, ◌<◌, ℕ, List, length, sym, ap, ◌∙◌, ◌^◌, subst, arith}
+use Rattle.std.proofs.Common.{ℕ, List, length, sym, ap, ◌∙◌, ◌^◌, subst, arith}
 use Rattle.su_tableau.specs.declared.symbols.Sym.{Sym}
-use Rattle.std.specs.Int.{bit_at}
 use Rattle.su_map.specs.Lists.{row_of}
-use Rattle.su_map.specs.Nets.{IsTarget}
 use Rattle.su_map.specs.Targets.{CellFits}
 use Rattle.su_map.proofs.Members.{full_member, below_more}
 use Rattle.su_map.proofs.Cells.{Fits, cells_fit, fits_cells}
