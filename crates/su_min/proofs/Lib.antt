@@ -1,0 +1,13 @@
+pub mod Parts
+pub mod Greedy
+pub mod Least
+pub mod Keeping
+pub mod Covering
+pub mod Picking
+pub mod Telling
+pub mod Numbering
+pub mod Holes
+pub mod Spared
+pub mod Likeness
+pub mod Rowing
+pub mod Stepping

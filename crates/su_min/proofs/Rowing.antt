@@ -1,0 +1,61 @@
+-- A row of the matrix, one entry more at a time, and the rows as a matrix.
+use Rattle.std.proofs.Common.{◌≡◌, ◌<◌, ◌+◌, ◌↔◌, ◌∙◌, ℕ, Bool, true, false, List, [], ◌∷◌, ◌++◌, map, length, get_or, Result, Ok, Err, sym, ap, subst, arith}
+use Rattle.std.specs.Prelude.{MatchResult, IfOk}
+use Rattle.std.specs.List.{AllZip}
+use Rattle.std.proofs.lemmas.List.{get_or_append_left, get_or_default}
+use Rattle.std.proofs.Math.Seq.{get_or-append_seam}
+use Rattle.su_tableau.specs.Tableaux.{Tab, AreVarsBelow}
+use Rattle.su_tableau.proofs.Sets.{zip-length, zip-at}
+use Rattle.su_map.specs.Rooms.{Space, IsRoomFor, HasSizesOf}
+use Rattle.su_map.proofs.Members.{below_more}
+use Rattle.su_min.specs.Kept.{Minimised}
+use Rattle.su_min.specs.Cover.{Covers}
+use Rattle.su_min.specs.Reduction.{term_at}
+use Rattle.su_min.specs.Matrix.{IsRowOf, IsMatrix}
+
+pub room_same : (t : Tab) (old new : Space) → IsRoomFor t old → HasSizesOf old new → IsRoomFor t new
+room_same t old new r s = record {
+  rows = let l = r.rows in let e = s.rows in omega arith;
+  symbols = subst (λ n. AreVarsBelow n t) (sym s.symbols) r.symbols;
+}
+
+abbrev pub Tells : Minimised → List Minimised → List Bool → ℕ → Type 0
+Tells term terms row n = (i : ℕ) → i < n → (get_or row i false ≡ true) ↔ Covers term (term_at terms i)
+
+pub row_more : (term : Minimised) (terms : List Minimised) (row new : List Bool) (n : ℕ) (b : Bool) (x : Minimised)
+    → n < length terms → length row ≡ n → new ≡ row ++ b ∷ [] → x ≡ get_or terms n x
+    → (b ≡ true) ↔ Covers term x
+    → Tells term terms row n
+    → Tells term terms new (n + 1)
+row_more term terms row new n b x low len is at here before =
+    let last : get_or new n false ≡ b = ap (λ l. get_or l n false) is ∙ ap (λ k. get_or (row ++ b ∷ []) k false) (sym len) ∙ get_or-append_seam row b [] false in
+    let item : x ≡ term_at terms n = at ∙ get_or_default terms n x (term_at [] 0) low in
+    below_more (λ i. (get_or new i false ≡ true) ↔ Covers term (term_at terms i)) n
+    (λ i l.
+    let early : get_or new i false ≡ get_or row i false = ap (λ l. get_or l i false) is ∙ get_or_append_left row (b ∷ []) false i (omega arith) in
+    (λ e. (before i l).0 (sym early ∙ e), λ c. early ∙ (before i l).1 c))
+    (λ e. subst (Covers term) item (here.0 (sym last ∙ e)), λ c. last ∙ here.1 (subst (Covers term) (sym item) c))
+
+pub rows_matrix : (terms : List Minimised) (rows : List (List Bool)) → AllZip (λ term row. IsRowOf term terms row) terms rows → IsMatrix terms rows
+rows_matrix terms rows zip =
+    let R = λ (term : Minimised) (row : List Bool). IsRowOf term terms row in
+    record {
+      rows = sym (zip-length R terms rows zip);
+      row = λ j h. zip-at R terms rows j (term_at [] 0) [] zip h;
+    }
+
+-- ---- what collecting into a result gives
+
+zip_ok : (E : Type 0) {A B : Type 0} (R : A → B → Type 0) (xs : List A) (ys : List B) → AllZip (λ x (r : Result B E). IfOk r (R x)) xs (map Ok ys) → AllZip R xs ys
+zip_ok E R [] [] all = tt
+zip_ok E R [] (y ∷ ys) all = absurd all
+zip_ok E R (x ∷ xs) [] all = absurd all
+zip_ok E R (x ∷ xs) (y ∷ ys) all = (all.0, zip_ok E R xs ys all.1)
+
+pub collected : (E : Type 0) {A B V : Type 0} (R : A → B → Type 0) (items : V → List B) (Q : E → Type 0) (xs : List A) (rs : List (Result B E)) (r : Result V E) (P : List B → Type 0)
+    → ((ys : List B) → AllZip R xs ys → P ys)
+    → AllZip (λ x (o : Result B E). IfOk o (R x)) xs rs
+    → MatchResult r (λ v. (ys : List B) × (rs ≡ map Ok ys) × (items v ≡ ys)) Q
+    → IfOk r (λ v. P (items v))
+collected E R items Q xs rs (Ok v) P use_it zip got = subst P (sym got.2) (use_it got.0 (zip_ok E R xs got.0 (subst (λ l. AllZip (λ x (o : Result _ E). IfOk o (R x)) xs l) got.1 zip)))
+collected E R items Q xs rs (Err e) P use_it zip got = tt

@@ -1,0 +1,30 @@
+-- Terms that are alike, and which of them cover which.
+-- alike: as many columns and outputs, the same operators in order, and at each compared place both a variable or both the same constant
+-- covers: the two are alike, and the kept rows of the one map into the kept rows of the other; each answer of the other is then one of the one
+use Rattle.std.specs.Prelude.{◌≡◌, ℕ, List, map, drop, Option, Some, None}
+use Rattle.su_base.specs.declared.values.Value.{Value}
+use Rattle.su_tableau.specs.declared.symbols.Sym.{Sym}
+use Rattle.su_tableau.specs.declared.symbols.Sym.TheVariants.{Const, Var}
+use Rattle.su_tableau.specs.Tableaux.{Tab}
+use Rattle.su_map.specs.Lists.{IsMapping}
+use Rattle.su_min.specs.Kept.{Minimised}
+
+-- the constant, or none for a variable
+abbrev pub constant_of : Sym → Option Value
+constant_of (Const c) = Some c
+constant_of (Var k) = None
+
+-- what stands at the compared places, which follow the outputs
+abbrev pub compared : Tab → List (Option Value)
+compared t = map constant_of (drop t.outputs t.head)
+
+pub record AreAlike (s t : Tab) : Type 0 where
+  pub width : s.width ≡ t.width
+  pub outputs : s.outputs ≡ t.outputs
+  pub operators : s.operators ≡ t.operators
+  pub constants : compared s ≡ compared t
+
+pub record Covers (one other : Minimised) : Type 0 where
+  pub alike : AreAlike one.tableau other.tableau
+  pub list : List ℕ
+  pub maps : IsMapping one.tableau one.mask other.tableau other.mask list

@@ -1,0 +1,43 @@
+-- The least set of rows that a tableau maps into, and the first mapping into it.
+-- maps into: some list is a containment mapping from all rows of the tableau into the set
+-- kept: of all sets that the tableau maps into, the one with the least sum of 2 to the row number; that sum is the set's number
+-- fold: the lexicographically first list of a mapping from all rows into the kept ones
+use Rattle.std.specs.Prelude.{ℕ, ◌-◌, ◌^◌, ◌≤◌, List, length}
+use Rattle.su_tableau.specs.Tableaux.{Tab, IsValid}
+use Rattle.su_tableau.specs.Kinds.{Kinds}
+use Rattle.su_tableau.specs.Parts.{part}
+use Rattle.su_tableau.specs.Equivalent.{IsEquivalent, IsLeast}
+use Rattle.su_map.specs.Lists.{IsMapping, IsFirst}
+
+-- all row numbers of the tableau
+abbrev pub all_rows : Tab → ℕ
+all_rows t = 2 ^ length t.rows - 1
+
+-- some list is a mapping from all rows into the set
+abbrev pub MapsInto : Tab → ℕ → Type 0
+MapsInto t m = (list : List ℕ) × IsMapping t (all_rows t) t m list
+
+-- of all sets that the tableau maps into, the least
+pub record IsKept (t : Tab) (m : ℕ) : Type 0 where
+  pub maps : MapsInto t m
+  pub least : (n : ℕ) → MapsInto t n → m ≤ n
+
+-- the first mapping from all rows into the set
+abbrev pub IsFold : Tab → ℕ → List ℕ → Type 0
+IsFold t m list = IsFirst t (all_rows t) t m list
+
+-- a tableau with its kept set and its fold
+pub record Minimised : Type 0 where
+  pub tableau : Tab
+  pub mask : ℕ
+  pub fold : List ℕ
+
+pub record IsMinimised (m : Minimised) : Type 0 where
+  pub kept : IsKept m.tableau m.mask
+  pub fold : IsFold m.tableau m.mask m.fold
+
+-- over every universal relation of these kinds the part has the answers of the whole, and no valid, well typed tableau that does has fewer rows
+pub record IsLeastPart (kinds : Kinds) (t : Tab) (m : ℕ) : Type 0 where
+  pub valid : IsValid (part t m)
+  pub equivalent : IsEquivalent kinds (part t m) t
+  pub least : IsLeast kinds (part t m)

@@ -1,0 +1,5 @@
+pub mod Kept
+pub mod Cover
+pub mod Reduction
+pub mod Matrix
+pub mod Needed

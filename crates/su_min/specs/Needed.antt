@@ -1,0 +1,43 @@
+-- No kept term can be spared, whatever other tableaux one takes.
+-- class of term c: the terms that are alike to it
+-- a list has the answers of a class: over every universal relation each answer of some term of the class is one of some tableau of the list, and each of these is one of those
+use Rattle.std.specs.Prelude.{◌≡◌, ◌<◌, ◌≤◌, ◌↔◌, ℕ, List, length, Contains}
+use Rattle.su_base.specs.declared.values.Value.{Value}
+use Rattle.su_tableau.specs.Tableaux.{Tab, Ext}
+use Rattle.su_tableau.specs.Kinds.{Kinds, IsUniverse}
+use Rattle.su_tableau.specs.Equivalent.{IsEquivalent}
+use Rattle.su_min.specs.Kept.{Minimised}
+use Rattle.su_min.specs.Cover.{AreAlike}
+use Rattle.su_min.specs.Reduction.{term_at, IsListOf}
+
+abbrev pub tableau_at : List Minimised → ℕ → Tab
+tableau_at terms i = (term_at terms i).tableau
+
+pub record IsInClass (terms : List Minimised) (c i : ℕ) : Type 0 where
+  pub below : i < length terms
+  pub alike : AreAlike (tableau_at terms c) (tableau_at terms i)
+
+pub record IsClassAnswer (terms : List Minimised) (c : ℕ) (universe : List (List Value)) (h : List Value) : Type 0 where
+  pub term : ℕ
+  pub in_class : IsInClass terms c term
+  pub answer : Ext (tableau_at terms term) universe h
+
+pub record IsListAnswer (tableaux : List Tab) (universe : List (List Value)) (h : List Value) : Type 0 where
+  pub tableau : Tab
+  pub member : Contains tableaux tableau
+  pub answer : Ext tableau universe h
+
+abbrev pub HasAnswersOf : Kinds → List Minimised → ℕ → List Tab → Type 0
+HasAnswersOf kinds terms c tableaux = (universe : List (List Value)) (h : List Value) → IsUniverse kinds universe → (IsClassAnswer terms c universe h ↔ IsListAnswer tableaux universe h)
+
+-- a member of the list that is equivalent to term i
+pub record HasMember (kinds : Kinds) (terms : List Minimised) (tableaux : List Tab) (i : ℕ) : Type 0 where
+  pub tableau : Tab
+  pub member : Contains tableaux tableau
+  pub same : IsEquivalent kinds (tableau_at terms i) tableau
+
+-- each kept term of the class is equivalent to a member of the list, no two of them are equivalent, and so they are no more than it has members
+pub record AreNeeded (kinds : Kinds) (terms : List Minimised) (kept : List ℕ) (c : ℕ) (tableaux : List Tab) : Type 0 where
+  pub members : (i : ℕ) → Contains kept i → IsInClass terms c i → HasMember kinds terms tableaux i
+  pub apart : (i j : ℕ) → Contains kept i → Contains kept j → IsInClass terms c i → IsInClass terms c j → IsEquivalent kinds (tableau_at terms i) (tableau_at terms j) → i ≡ j
+  pub count : (numbers : List ℕ) → IsListOf (λ i. Contains kept i × IsInClass terms c i) (length terms) numbers → length numbers ≤ length tableaux

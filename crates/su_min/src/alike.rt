@@ -1,0 +1,56 @@
+//! Whether two terms are alike.
+ghost use Rattle.std.specs.Prelude.{◌≡◌, ◌↔◌, IsTrue, length, map, drop};
+ghost use Rattle.su_min.specs.Cover.{constant_of, AreAlike};
+
+use su_tableau::{Sym, Tableau};
+use su_where::Op;
+
+/// Whether both are variables, or both are the same constant.
+fn is_alike(x: &Sym, y: &Sym) -> bool
+    ensures { IsTrue result ↔ (constant_of x.now ≡ constant_of y.now) }
+{
+    match (x, y) {
+        (Sym::Const(a), Sym::Const(b)) => a == b,
+        (Sym::Var(_), Sym::Var(_)) => true,
+        _ => false,
+    }
+}
+
+/// Whether the symbols from the place on are alike, one by one.
+fn ends_are_alike(xs: &[Sym], ys: &[Sym], start: usize) -> bool
+    requires { length xs.now ≡ length ys.now }
+    ensures { IsTrue result ↔ (map constant_of (drop start xs.now) ≡ map constant_of (drop start ys.now)) }
+{
+    for i in start..xs.len() {
+        if !is_alike(&xs[i], &ys[i]) {
+            return false;
+        }
+    }
+    true
+}
+
+/// Whether the two are the same operators in order.
+fn are_same(xs: &[Op], ys: &[Op]) -> bool
+    ensures { IsTrue result ↔ (xs.now ≡ ys.now) }
+{
+    xs == ys
+}
+
+/// Whether the two have as many columns and outputs, the same operators, and at each compared place
+/// both a variable or both the same constant.
+pub fn are_alike(s: &Tableau, t: &Tableau) -> bool
+    ensures { IsTrue result ↔ AreAlike s.now t.now }
+{
+    s.keeps_its_rules();
+    t.keeps_its_rules();
+    if s.width() != t.width() {
+        return false;
+    }
+    if s.outputs() != t.outputs() {
+        return false;
+    }
+    if !are_same(s.operators(), t.operators()) {
+        return false;
+    }
+    ends_are_alike(s.head(), t.head(), s.outputs() as usize)
+}

@@ -1,0 +1,26 @@
+//! The least rows of a tableau, and the terms of a union that no other term covers.
+//!
+//! `kept_mask` drops row after row from the last, each where the rows that still stand map into the
+//! others: what is left has the least number of all sets that the tableau maps into, and so the
+//! fewest rows of all tableaux with its answers. `minimise` keeps that with its fold in a type.
+//! `reduce` compares the alike terms of a union pair by pair, and keeps the first of those that cover
+//! each other. Each is a search at most, exponential at worst; a row that goes nowhere else and a pair
+//! whose constants or heads don't fit need none. A thread takes the room of one search, 32 KiB per
+//! row. Dependencies and the order of values play no part.
+#![tactic(auto)]
+
+mod alike;
+mod crossing;
+mod kept;
+mod matrix;
+mod minimal;
+mod reduced;
+mod reducing;
+
+pub use kept::kept_mask;
+pub use minimal::{Minimal, minimise};
+pub use reduced::{Cover, Reduced};
+pub use reducing::reduce;
+
+#[cfg(test)]
+mod tests;

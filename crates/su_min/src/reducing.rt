@@ -1,0 +1,131 @@
+//! Which terms of a union are kept.
+ghost use Rattle.std.specs.Prelude.{◌≡◌, ◌<◌, ◌≤◌, ◌↔◌, ℕ, IsTrue, IfOk, List as Items, length, All};
+ghost use Rattle.su_tableau.specs.Tableaux.{Tab, IsValid};
+ghost use Rattle.su_tableau.specs.Kinds.{Kinds, IsTyped};
+ghost use Rattle.su_min.specs.Reduction.{term_at, IsFirstMapping, IsReduced};
+ghost use Rattle.su_min.specs.Cover.{Covers};
+ghost use Rattle.su_min.specs.Needed.{HasAnswersOf, AreNeeded};
+ghost use Rattle.su_min.specs.Matrix.{entry, IsSquare, IsDroppedIn, IsPreorder, IsFirstCover};
+
+use crate::matrix::coverings;
+use crate::minimal::Minimal;
+use crate::reduced::{Cover, Reduced};
+use std::alloc::Global;
+use std::marker::Brand;
+use std::sync::ledger::{Blank, Ledger};
+use std::thread::Threads;
+use su_base::{List, NoMemory, Steps};
+use su_map::{Mapping, Room, certify, first};
+
+/// Whether term j covers term i.
+fn has_entry(matrix: &[List<bool>], j: usize, i: usize) -> bool
+    requires square { IsSquare matrix.now }
+    requires row { j < length matrix.now }
+    requires column { i < length matrix.now }
+    ensures { result ≡ entry matrix.now j i }
+{
+    *matrix[j].get(i)
+}
+
+/// Whether some term covers term i that it does not cover, or some earlier term covers it.
+fn is_dropped(matrix: &[List<bool>], i: usize) -> bool
+    requires square { IsSquare matrix.now }
+    requires term { i < length matrix.now }
+    ensures { IsTrue result ↔ IsDroppedIn (entry matrix.now) (length matrix.now) i }
+{
+    for j in 0..matrix.len() {
+        if has_entry(matrix, j, i) && (j < i || !has_entry(matrix, i, j)) {
+            return true;
+        }
+    }
+    false
+}
+
+/// The first kept term that covers term i.
+fn first_cover(matrix: &[List<bool>], i: usize) -> usize
+    requires square { IsSquare matrix.now }
+    requires preorder { IsPreorder (entry matrix.now) (length matrix.now) }
+    requires term { i < length matrix.now }
+    ensures { IsFirstCover (entry matrix.now) (length matrix.now) i result }
+{
+    for k in 0..matrix.len() {
+        if has_entry(matrix, k, i) && !is_dropped(matrix, k) {
+            return k;
+        }
+    }
+    unreachable!()
+}
+
+/// The first mapping of the kept rows of the one term into those of the other, which it covers.
+fn mapping_counted<L: Ledger>(
+    alloc: Global,
+    one: &Minimal,
+    other: &Minimal,
+    blank: Blank,
+) -> Result<Mapping, NoMemory>
+    requires name { blank.name ≡ L.name }
+    requires parts { blank.parts ≡ L.parts }
+    requires some { 0 < blank.parts }
+    requires covers { Covers one.now other.now }
+    ensures { IfOk result (IsFirstMapping one.now other.now) }
+{
+    let (from, to) = (one.tableau(), other.tableau());
+    from.keeps_its_rules();
+    to.keeps_its_rules();
+    let mut room = Room::new(alloc, from.row_count(), from.symbols())?;
+    let mut steps = Steps::<L>::new(blank);
+    // Never false, where the one covers the other.
+    first(&mut room, from, one.mask(), to, other.mask(), &mut steps);
+    certify(alloc, &room, from, one.mask(), to, other.mask())
+}
+
+/// The first mapping of the kept rows of the one term into those of the other, which it covers.
+fn first_mapping(alloc: Global, one: &Minimal, other: &Minimal) -> Result<Mapping, NoMemory>
+    requires { Covers one.now other.now }
+    ensures { IfOk result (IsFirstMapping one.now other.now) }
+{
+    mapping_counted::<Brand>(alloc, one, other, Blank::new(1))
+}
+
+/// The cover of a term by another one.
+fn cover_of(alloc: Global, terms: &[Minimal], i: usize, k: usize) -> Result<Cover, NoMemory>
+    requires few { length terms.now ≤ 256 }
+    requires dropped { i < length terms.now }
+    requires by { k < length terms.now }
+    requires covers { Covers (term_at terms.now k) (term_at terms.now i) }
+    ensures dropped { IfOk result (λ c. c.dropped ≡ i) }
+    ensures by { IfOk result (λ c. c.by ≡ k) }
+    ensures mapping { IfOk result (λ c. IsFirstMapping (term_at terms.now k) (term_at terms.now i) c.mapping) }
+{
+    Ok(Cover {
+        dropped: i as u16,
+        by: k as u16,
+        mapping: first_mapping(alloc, &terms[k], &terms[i])?,
+    })
+}
+
+/// Which terms are kept, and by which of these each dropped one is covered. All pairs of alike terms
+/// are compared, in as many threads as there are processors.
+pub fn reduce<R: Threads + Sync>(
+    rt: &R,
+    alloc: Global,
+    terms: &[Minimal],
+) -> Result<Reduced, NoMemory>
+    requires { length terms.now ≤ 256 }
+    ensures reduced { IfOk result (IsReduced terms.now) }
+    ensures needed { IfOk result (λ r. (kinds : Kinds) (c : ℕ) (tableaux : Items Tab) → All (λ m. IsTyped kinds m.tableau) terms.now → All (λ t. IsValid t × IsTyped kinds t) tableaux → HasAnswersOf kinds terms.now c tableaux → AreNeeded kinds terms.now r.kept c tableaux) }
+{
+    let matrix = coverings(rt, alloc, terms)?;
+    let matrix = matrix.as_slice();
+    let mut kept = List::new(alloc);
+    let mut covers = List::new(alloc);
+    for i in 0..terms.len() {
+        if is_dropped(matrix, i) {
+            let by = first_cover(matrix, i);
+            covers.push(cover_of(alloc, terms, i, by)?)?;
+        } else {
+            kept.push(i as u16)?;
+        }
+    }
+    Ok(Reduced { kept, covers })
+}
