@@ -1,0 +1,153 @@
+-- A file is read in one way.
+use Rattle.std.proofs.Common.{◌≡◌, ◌⊎◌, inl, inr, ◌<◌, ◌≤◌, ◌+◌, ℕ, List, [], ◌∷◌, length, map, get_or, drop, Result, Ok, Err, Option, Some, None, refl, ap, sym, ◌∙◌, arith, subst, zero, suc, add-one}
+use Rattle.std.specs.Prelude.{IfOk, IfErr}
+use Rattle.su_lex.specs.Pieces.{Parts, Statement, added as listed, PiecesAt, Pieces, after_mark}
+use Rattle.su_lex.specs.Pieces as p
+use Rattle.su_lex.specs.Pieces.{mark}
+use Rattle.std.specs.List.{starts_with}
+use Rattle.std.proofs.Common.{nat_eq, cond, true, false}
+use Rattle.std.proofs.lemmas.List.{length-drop}
+use Rattle.su_lex.specs.Blanks as b
+use Rattle.su_lex.specs.declared.spans.Span.{Span}
+use Rattle.su_lex.proofs.Cuts.{one_list_of_pieces, parts_within}
+use Rattle.su_schema.specs.declared.definitions.Definition.{Definition}
+use Rattle.su_schema.specs.SchemaValue.{SchemaValue}
+use Rattle.su_schema.specs.Defining.{applied}
+use Rattle.su_ddl.specs.declared.faults.DdlFault.{DdlFault}
+use Rattle.su_ddl.specs.declared.faults.DdlFault.TheVariants.{Refused, NoMemory}
+use Rattle.su_ddl.specs.Grammar.{IsDefinition}
+use Rattle.su_ddl.specs.Reading.{IsAtFault, ReadsFrom, Reads, statement_of, no_definitions}
+use Rattle.su_ddl.specs.Reading as r
+use Rattle.su_ddl.proofs.Formed.{one_definition}
+
+same_applied : {A : Type 0} (s : SchemaValue) (d e : Definition) (x y : Result SchemaValue A) → (f : SchemaValue → Definition → Result SchemaValue A) → d ≡ e → f s d ≡ x → f s e ≡ y → x ≡ y
+same_applied s d e x y f same a c = sym a ∙ ap (f s) same ∙ c
+
+-- one fault of a statement
+fault_same : (n : ℕ) (s : SchemaValue) (t : List ℕ) (f g : DdlFault) → IsAtFault n s t f → IsAtFault n s t g → f ≡ g
+fault_same n s t f g (r.no_form _ _ _ _ none e) (r.no_form _ _ _ _ none' e') = e ∙ sym e'
+fault_same n s t f g (r.no_form _ _ _ _ none e) (r.refused _ _ _ _ d why is a e') = absurd (none d is)
+fault_same n s t f g (r.refused _ _ _ _ d why is a e) (r.no_form _ _ _ _ none e') = absurd (none d is)
+fault_same n s t f g (r.refused _ _ _ _ d why is a e) (r.refused _ _ _ _ d' why' is' a' e') =
+    let same = one_definition t d d' is is' in
+    let h : Err why ≡ Err why' = same_applied s d d' (Err why) (Err why') applied same a a' in
+    let k : why ≡ why' = cc in
+    e ∙ ap (Refused n) k ∙ sym e'
+
+-- a statement at fault is not added
+not_both : (n : ℕ) (s next : SchemaValue) (t : List ℕ) (f : DdlFault) (d : Definition) → IsAtFault n s t f → IsDefinition t d → applied s d ≡ Ok next → ⊥
+not_both n s next t f d (r.no_form _ _ _ _ none e) is a = none d is
+not_both n s next t f d (r.refused _ _ _ _ d' why is' a' e) is a =
+    let same = one_definition t d d' is is' in
+    let h : Ok next ≡ Err why = same_applied s d d' (Ok next) (Err why) applied same a a' in
+    cc
+
+reads_same : (n : ℕ) (s : SchemaValue) (ts : List (List ℕ)) (o q : Result SchemaValue DdlFault) → ReadsFrom n s ts o → ReadsFrom n s ts q → o ≡ q
+reads_same n s ts o q (r.none _ _ _ _ e x) (r.none _ _ _ _ e' y) = x ∙ sym y
+reads_same n s ts o q (r.none _ _ _ _ e x) (r.fault _ _ t later _ why _ e' f y) = absurd (cc)
+reads_same n s ts o q (r.none _ _ _ _ e x) (r.added _ _ next d t later _ _ e' is a more) = absurd (cc)
+reads_same n s ts o q (r.fault _ _ t later _ why _ e f x) (r.none _ _ _ _ e' y) = absurd (cc)
+reads_same n s ts o q (r.added _ _ next d t later _ _ e is a more) (r.none _ _ _ _ e' y) = absurd (cc)
+reads_same n s ts o q (r.fault _ _ t later _ why _ e f x) (r.fault _ _ t' later' _ why' _ e' f' y) =
+    let text : t' ≡ t = cc in
+    x ∙ ap Err (fault_same n s t why why' f (subst (λ (v : List ℕ). IsAtFault n s v why') text f')) ∙ sym y
+reads_same n s ts o q (r.fault _ _ t later _ why _ e f x) (r.added _ _ next d t' later' _ _ e' is a more) =
+    let text : t' ≡ t = cc in
+    absurd (not_both n s next t why d f (subst (λ (v : List ℕ). IsDefinition v d) text is) a)
+reads_same n s ts o q (r.added _ _ next d t later _ _ e is a more) (r.fault _ _ t' later' _ why _ e' f y) =
+    let text : t ≡ t' = cc in
+    absurd (not_both n s next t' why d f (subst (λ (v : List ℕ). IsDefinition v d) text is) a)
+reads_same n s ts o q (r.added _ _ next d t later _ _ e is a more) (r.added _ _ next' d' t' later' _ _ e' is' a' more') =
+    let text : t' ≡ t = cc in
+    let behind : later' ≡ later = cc in
+    let same = one_definition t d d' is (subst (λ (v : List ℕ). IsDefinition v d') text is') in
+    let h : Ok next ≡ Ok next' = same_applied s d d' (Ok next) (Ok next') applied same a a' in
+    let k : next' ≡ next = cc in
+    reads_same (n + 1) next later o q more (subst (λ (v : SchemaValue). ReadsFrom (n + 1) v later q) k (subst (λ (v : List (List ℕ)). ReadsFrom (n + 1) next' v q) behind more'))
+
+pub one_outcome : (file : List ℕ) (o q : Result SchemaValue DdlFault) → Reads file o → Reads file q → o ≡ q
+one_outcome file o q h k =
+    let same = one_list_of_pieces file k.0 h.0 k.1 h.1 in
+    reads_same 1 no_definitions (map (statement_of file) h.0) o q h.2 (subst (λ (v : List Span). ReadsFrom 1 no_definitions (map (statement_of file) v) q) same k.2)
+
+pub only_outcome : (file : List ℕ) (x : Result SchemaValue DdlFault) → IfOk x (λ s. Reads file (Ok s)) → IfErr x (λ f. (f ≡ NoMemory) ⊎ Reads file (Err f))
+    → (o : Result SchemaValue DdlFault) → Reads file o → (x ≡ o) ⊎ (x ≡ Err NoMemory)
+only_outcome file (Ok s) a c o h = inl (one_outcome file (Ok s) o a h)
+only_outcome file (Err f) a c o h = elim c [ inl m ↦ inr (ap Err m) | inr k ↦ inl (one_outcome file (Err f) o k h) ]
+
+-- ---- one statement more
+
+texts_suc : (file : List ℕ) (spans : List Span) (i : ℕ) (x none : Span) → i < length spans → x ≡ get_or spans i none
+    → map (statement_of file) (drop i spans) ≡ statement_of file x ∷ map (statement_of file) (drop (suc i) spans)
+texts_suc file [] i x none l e = absurd (omega arith)
+texts_suc file (y ∷ ys) zero x none l e = ap (λ v. statement_of file v ∷ map (statement_of file) ys) (sym e)
+texts_suc file (y ∷ ys) (suc i) x none l e = texts_suc file ys i x none (omega arith) e
+
+texts_at : (file : List ℕ) (spans : List Span) (i : ℕ) (x none : Span) → i < length spans → x ≡ get_or spans i none
+    → map (statement_of file) (drop i spans) ≡ statement_of file x ∷ map (statement_of file) (drop (i + 1) spans)
+texts_at file spans i x none l e =
+    subst (λ (k : ℕ). map (statement_of file) (drop i spans) ≡ statement_of file x ∷ map (statement_of file) (drop k spans)) (sym (add-one i)) (texts_suc file spans i x none l e)
+
+pub record SoFar (file : List ℕ) (spans : List Span) (i number : ℕ) (schema : SchemaValue) : Type 0 where
+  pub count : number ≡ i
+  pub before : (o : Result SchemaValue DdlFault) → ReadsFrom (i + 1) schema (map (statement_of file) (drop i spans)) o → ReadsFrom 1 no_definitions (map (statement_of file) spans) o
+
+pub begun : (file : List ℕ) (spans : List Span) → SoFar file spans 0 0 no_definitions
+begun file spans = record { count = refl; before = λ o h. h }
+
+pub one_added : (file : List ℕ) (spans : List Span) (i number : ℕ) (s next : SchemaValue) (x none : Span) (d : Definition) → i < length spans → x ≡ get_or spans i none → SoFar file spans i number s
+    → IsDefinition (statement_of file x) d → applied s d ≡ Ok next → SoFar file spans (i + 1) (number + 1) next
+one_added file spans i number s next x none d l e so is a = record {
+  count = ap (λ k. k + 1) so.count;
+  before = λ o h. so.before o (r.added (i + 1) s next d (statement_of file x) (map (statement_of file) (drop (i + 1) spans)) (map (statement_of file) (drop i spans)) o (texts_at file spans i x none l e) is a h);
+}
+
+pub at_fault : (file : List ℕ) (spans : List Span) (i number : ℕ) (s : SchemaValue) (x none : Span) (f : DdlFault) → Pieces file spans → i < length spans → x ≡ get_or spans i none → SoFar file spans i number s
+    → (f ≡ NoMemory) ⊎ IsAtFault (number + 1) s (statement_of file x) f → (f ≡ NoMemory) ⊎ Reads file (Err f)
+at_fault file spans i number s x none f pieces l e so told = elim told [
+  | inl m ↦ inl m
+  | inr h ↦
+      let here = subst (λ (k : ℕ). IsAtFault (k + 1) s (statement_of file x) f) so.count h in
+      inr (
+        spans,
+        pieces,
+        so.before (Err f) (r.fault (i + 1) s (statement_of file x) (map (statement_of file) (drop (i + 1) spans)) (map (statement_of file) (drop i spans)) f (Err f)
+            (texts_at file spans i x none l e) here refl),
+      )
+]
+
+drop_all : {A : Type 0} (xs : List A) (i : ℕ) → length xs ≤ i → drop i xs ≡ []
+drop_all [] zero l = refl
+drop_all [] (suc i) l = refl
+drop_all (x ∷ xs) zero l = absurd (omega arith)
+drop_all (x ∷ xs) (suc i) l = drop_all xs i (omega arith)
+
+pub all_added : (file : List ℕ) (spans : List Span) (i number : ℕ) (s : SchemaValue) → Pieces file spans → length spans ≤ i → SoFar file spans i number s → Reads file (Ok s)
+all_added file spans i number s pieces l so = (spans, pieces, so.before (Ok s) (r.none (i + 1) s (map (statement_of file) (drop i spans)) (Ok s) (ap (map (statement_of file)) (drop_all spans i l)) refl))
+
+-- ---- a file has no more statements than bytes
+
+some_byte : (total : ℕ) (s : List ℕ) (x : Span) → Statement total s [] (Some x) → 1 ≤ length s
+some_byte total [] x st = absurd (st.0 (b.none [] [] refl))
+some_byte total (y ∷ s) x st = omega arith
+
+last_count : (total : ℕ) (s : List ℕ) (here : Option Span) → Statement total s [] here → length (listed here []) ≤ length s
+last_count total s None st = omega arith
+last_count total s (Some x) st = omega (arith, some_byte total s x st)
+
+added_count : (here : Option Span) (more : List Span) → length (listed here more) ≤ length more + 1
+added_count None more = omega arith
+added_count (Some x) more = omega arith
+
+count_at : (total : ℕ) (s : List ℕ) (spans : List Span) → PiecesAt total s spans → length spans ≤ length s
+count_at total s spans (p.last _ _ here _ x st e) = subst (λ (v : List Span). length v ≤ length s) (sym e) (last_count total s here st)
+count_at total s spans (p.cut _ _ t here more _ x st m e) =
+    let inside = parts_within s (59 ∷ t) x in
+    let fewer = count_at total t more m in
+    subst (λ (v : List Span). length v ≤ length s) (sym e) (omega (arith, inside, fewer, added_count here more))
+
+mark_within : (file : List ℕ) → length (after_mark file) ≤ length file
+mark_within file = elim (starts_with nat_eq file mark) as (λ v. length (cond v (drop 3 file) file) ≤ length file) [ true ↦ omega (arith, length-drop 3 file) | false ↦ omega arith ]
+
+pub pieces_count : (file : List ℕ) (spans : List Span) → Pieces file spans → length spans ≤ length file
+pieces_count file spans h = omega (arith, count_at (length file) (after_mark file) spans h, mark_within file)

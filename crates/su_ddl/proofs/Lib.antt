@@ -1,0 +1,12 @@
+pub mod Again
+pub mod Causes
+pub mod Files
+pub mod Formed
+pub mod Lines
+pub mod Linked
+pub mod Listing
+pub mod Named
+pub mod Pieced
+pub mod Quiet
+pub mod Short
+pub mod Steps

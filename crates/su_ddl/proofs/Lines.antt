@@ -1,0 +1,190 @@
+-- Lines and lists, one more at a time.
+use Rattle.std.proofs.Common.{Option, Some, None, ◌≡◌, ◌<◌, ◌≤◌, ◌+◌, ℕ, Bool, true, false, cond, List, [], ◌∷◌, ◌++◌, length, map, filter, take, get_or, slice_get, refl, ap, sym, ◌∙◌, arith, subst, zero, suc, add-one, append_assoc, append-nil}
+use Rattle.std.specs.List.{range_with_len, filter_map}
+use Rattle.std.proofs.lemmas.List.{take_more}
+use Rattle.std.proofs.lemmas.List.Elements.{filter_map-append}
+use Rattle.std.proofs.lemmas.Option.{get_or_from_slice_get, slice_get_within, slice_get-map, slice_get-get_or, slice_get_past}
+use Rattle.std.proofs.Common.{option_map}
+use Rattle.su_base.specs.declared.values.Column.{Column}
+use Rattle.su_lex.specs.declared.meaning.Symbol.{Symbol}
+use Rattle.su_lex.specs.declared.meaning.Symbol.TheVariants.{Word, Sign}
+use Rattle.su_lex.specs.declared.signs.Sign.TheVariants as sign
+use Rattle.su_lex.specs.Names.{more_names}
+use Rattle.su_schema.specs.declared.definitions.Definition.{Definition}
+use Rattle.su_ddl.specs.Grammar.{kind_symbol, more_columns}
+use Rattle.su_ddl.specs.Shown.{line_of, lines_of, name_at, pair_of, listed, columns_at}
+use Rattle.su_schema.specs.declared.definitions.Pair.{Pair}
+use Rattle.su_schema.specs.SchemaValue.{SchemaValue, ObjectEntry, IsObject, IsValid, column_names, attribute_names}
+use Rattle.std.specs.List.{AllByRecursion, cons_option}
+use Rattle.std.proofs.lemmas.List.Elements.{recursion_from_All}
+
+-- ---- two pieces behind one another
+
+pub chain : {A : Type 0} (o o1 o2 x y : List A) → o1 ≡ o ++ x → o2 ≡ o1 ++ y → o2 ≡ o ++ (x ++ y)
+chain o o1 o2 x y e f = f ∙ ap (λ v. v ++ y) e ∙ append_assoc o x y
+
+-- ---- lists of names and columns
+
+more_names_push : (ns : List (List ℕ)) (n : List ℕ) → more_names (ns ++ n ∷ []) ≡ more_names ns ++ Sign sign.Comma ∷ Word n ∷ []
+more_names_push [] n = refl
+more_names_push (m ∷ ns) n = ap (λ x. Sign sign.Comma ∷ Word m ∷ x) (more_names_push ns n)
+
+pub one_name : (ns : List (List ℕ)) (i : ℕ) (n none : List ℕ) (start out o1 o2 : List Symbol) → i < length ns → n ≡ get_or ns i none → out ≡ start ++ more_names (take i ns)
+    → o1 ≡ out ++ Sign sign.Comma ∷ [] → o2 ≡ o1 ++ Word n ∷ [] → o2 ≡ start ++ more_names (take (i + 1) ns)
+one_name ns i n none start out o1 o2 l at so e f =
+    let more : take (i + 1) ns ≡ take i ns ++ n ∷ [] = take_more ns i none l ∙ ap (λ x. take i ns ++ x ∷ []) (sym at) in
+    chain start out o2 (more_names (take i ns)) (Sign sign.Comma ∷ Word n ∷ []) so (chain out o1 o2 (Sign sign.Comma ∷ []) (Word n ∷ []) e f)
+    ∙ ap (λ x. start ++ x) (sym (more_names_push (take i ns) n) ∙ ap more_names (sym more))
+
+more_columns_push : (cs : List Column) (c : Column) → more_columns (cs ++ c ∷ []) ≡ more_columns cs ++ Sign sign.Comma ∷ Word c.name ∷ kind_symbol c.kind ∷ []
+more_columns_push [] c = refl
+more_columns_push (d ∷ cs) c = ap (λ x. Sign sign.Comma ∷ Word d.name ∷ kind_symbol d.kind ∷ x) (more_columns_push cs c)
+
+pub one_column : (cs : List Column) (i : ℕ) (c none : Column) (start out o1 o2 : List Symbol) → i < length cs → c ≡ get_or cs i none → out ≡ start ++ more_columns (take i cs)
+    → o1 ≡ out ++ Sign sign.Comma ∷ [] → o2 ≡ o1 ++ Word c.name ∷ kind_symbol c.kind ∷ [] → o2 ≡ start ++ more_columns (take (i + 1) cs)
+one_column cs i c none start out o1 o2 l at so e f =
+    let more : take (i + 1) cs ≡ take i cs ++ c ∷ [] = take_more cs i none l ∙ ap (λ x. take i cs ++ x ∷ []) (sym at) in
+    chain start out o2 (more_columns (take i cs)) (Sign sign.Comma ∷ Word c.name ∷ kind_symbol c.kind ∷ []) so (chain out o1 o2 (Sign sign.Comma ∷ []) (Word c.name ∷ kind_symbol c.kind ∷ []) e f)
+    ∙ ap (λ x. start ++ x) (sym (more_columns_push (take i cs) c) ∙ ap more_columns (sym more))
+
+-- ---- lines
+
+lines_push : (ds : List Definition) (d : Definition) → lines_of (ds ++ d ∷ []) ≡ lines_of ds ++ line_of d
+lines_push [] d = append-nil (line_of d)
+lines_push (e ∷ ds) d = ap (λ x. line_of e ++ x) (lines_push ds d) ∙ sym (append_assoc (line_of e) (lines_of ds) (line_of d))
+
+pub one_line : (ds : List Definition) (i : ℕ) (d : Definition) (start out next : List ℕ) → slice_get ds i ≡ Some d → out ≡ start ++ lines_of (take i ds) → next ≡ out ++ line_of d
+    → next ≡ start ++ lines_of (take (i + 1) ds)
+one_line ds i d start out next at so e =
+    let more : take (i + 1) ds ≡ take i ds ++ d ∷ [] = take_more ds i d (slice_get_within ds i d at) ∙ ap (λ x. take i ds ++ x ∷ []) (get_or_from_slice_get ds i d d at) in
+    chain start out next (lines_of (take i ds)) (line_of d) so e ∙ ap (λ x. start ++ x) (sym (lines_push (take i ds) d) ∙ ap lines_of (sym more))
+
+pub lines_append : (ds es : List Definition) → lines_of (ds ++ es) ≡ lines_of ds ++ lines_of es
+lines_append [] es = refl
+lines_append (d ∷ ds) es = ap (λ x. line_of d ++ x) (lines_append ds es) ∙ sym (append_assoc (line_of d) (lines_of ds) (lines_of es))
+
+take_whole : {A : Type 0} (xs : List A) (i : ℕ) → length xs ≤ i → take i xs ≡ xs
+take_whole [] zero l = refl
+take_whole [] (suc i) l = refl
+take_whole (x ∷ xs) zero l = absurd (omega arith)
+take_whole (x ∷ xs) (suc i) l = ap (λ v. x ∷ v) (take_whole xs i (omega arith))
+
+pub all_lines : (ds : List Definition) (i : ℕ) (start out : List ℕ) → length ds ≤ i → out ≡ start ++ lines_of (take i ds) → out ≡ start ++ lines_of ds
+all_lines ds i start out l so = so ∙ ap (λ x. start ++ lines_of x) (take_whole ds i l)
+
+pub five_kinds : (a r o f m : List Definition) (x0 x1 x2 x3 x4 x5 : List ℕ) → x0 ≡ [] → x1 ≡ x0 ++ lines_of a → x2 ≡ x1 ++ lines_of r → x3 ≡ x2 ++ lines_of o → x4 ≡ x3 ++ lines_of f
+    → x5 ≡ x4 ++ lines_of m → x5 ≡ lines_of (a ++ r ++ o ++ f ++ m)
+five_kinds a r o f m x0 x1 x2 x3 x4 x5 e0 e1 e2 e3 e4 e5 =
+    let h1 : x1 ≡ lines_of a = e1 ∙ ap (λ v. v ++ lines_of a) e0 in
+    let h2 : x2 ≡ lines_of (a ++ r) = e2 ∙ ap (λ v. v ++ lines_of r) h1 ∙ sym (lines_append a r) in
+    let h3 : x3 ≡ lines_of (a ++ r ++ o) = e3 ∙ ap (λ v. v ++ lines_of o) h2 ∙ sym (lines_append (a ++ r) o) in
+    let h4 : x4 ≡ lines_of (a ++ r ++ o ++ f) = e4 ∙ ap (λ v. v ++ lines_of f) h3 ∙ sym (lines_append (a ++ r ++ o) f) in
+    e5 ∙ ap (λ v. v ++ lines_of m) h4 ∙ sym (lines_append (a ++ r ++ o ++ f) m)
+
+-- ---- entries by their number
+
+pub two_fields : {A B C D : Type 0} (f : A → B) (g : A → C) (h : B → C → D) (xs : List A) (i : ℕ) (u : B) (v : C) → slice_get (map f xs) i ≡ Some u → slice_get (map g xs) i ≡ Some v
+    → slice_get (map (λ x. h (f x) (g x)) xs) i ≡ Some (h u v)
+two_fields f g h [] i u v e k = absurd (cc)
+two_fields f g h (x ∷ xs) zero u v e k =
+    let a : f x ≡ u = cc in
+    let b : g x ≡ v = cc in
+    ap (λ y. Some (h y (g x))) a ∙ ap (λ y. Some (h u y)) b
+two_fields f g h (x ∷ xs) (suc i) u v e k = two_fields f g h xs i u v e k
+
+-- ---- ranges
+
+range_last : (a n j : ℕ) → a + n ≡ j → range_with_len a (suc n) ≡ range_with_len a n ++ j ∷ []
+range_last a zero j e = ap (λ k. k ∷ []) (omega arith)
+range_last a (suc n) j e = ap (λ ks. a ∷ ks) (range_last (a + 1) n j (omega arith))
+
+pub range_more : (n : ℕ) → range_with_len 0 (n + 1) ≡ range_with_len 0 n ++ n ∷ []
+range_more n = rw add-one (range_last 0 n n (omega arith))
+
+filter_push : {A : Type 0} (p : A → Bool) (xs : List A) (x : A) → filter p (xs ++ x ∷ []) ≡ filter p xs ++ cond (p x) (x ∷ []) []
+filter_push p [] x = elim (p x) as (λ v. cond v (x ∷ []) [] ≡ cond v (x ∷ []) []) [ true ↦ refl | false ↦ refl ]
+filter_push p (y ∷ xs) x = elim (p y) as (λ v. p y ≡ v → filter p (y ∷ xs ++ x ∷ []) ≡ filter p (y ∷ xs) ++ cond (p x) (x ∷ []) []) [
+  | true ↦ λ e. rw e (ap (λ v. y ∷ v) (filter_push p xs x))
+  | false ↦ λ e. rw e (filter_push p xs x)
+] refl
+
+map_push : {A B : Type 0} (f : A → B) (xs ys : List A) → map f (xs ++ ys) ≡ map f xs ++ map f ys
+map_push f [] ys = refl
+map_push f (x ∷ xs) ys = ap (λ v. f x ∷ v) (map_push f xs ys)
+
+pub one_wanted : {B : Type 0} (p : ℕ → Bool) (f : ℕ → B) (n : ℕ) (x : B) (names next : List B) → f n ≡ x → names ≡ map f (filter p (range_with_len 0 n)) → next ≡ names ++ cond (p n) (x ∷ []) []
+    → next ≡ map f (filter p (range_with_len 0 (n + 1)))
+one_wanted p f n x names next at so e =
+    let one : cond (p n) (x ∷ []) [] ≡ map f (cond (p n) (n ∷ []) []) = elim (p n) as (λ v. cond v (x ∷ []) [] ≡ map f (cond v (n ∷ []) [])) [ true ↦ ap (λ y. y ∷ []) (sym at) | false ↦ refl ] in
+    e ∙ ap (λ v. v ++ cond (p n) (x ∷ []) []) so ∙ ap (λ v. map f (filter p (range_with_len 0 n)) ++ v) one ∙ sym (map_push f (filter p (range_with_len 0 n)) (cond (p n) (n ∷ []) []))
+    ∙ ap (map f) (sym (filter_push p (range_with_len 0 n) n) ∙ ap (filter p) (sym (range_more n)))
+
+-- ---- entries of a schema
+
+pub three_fields : {A B C D E : Type 0} (f : A → B) (g : A → C) (k : A → D) (h : B → C → D → E) (xs : List A) (i : ℕ) (u : B) (v : C) (w : D)
+    → slice_get (map f xs) i ≡ Some u → slice_get (map g xs) i ≡ Some v → slice_get (map k xs) i ≡ Some w → slice_get (map (λ x. h (f x) (g x) (k x)) xs) i ≡ Some (h u v w)
+three_fields f g k h [] i u v w e e' e'' = absurd (cc)
+three_fields f g k h (x ∷ xs) zero u v w e e' e'' =
+    let a : f x ≡ u = cc in
+    let b : g x ≡ v = cc in
+    let c : k x ≡ w = cc in
+    ap (λ y. Some (h y (g x) (k x))) a ∙ ap (λ y. Some (h u y (k x))) b ∙ ap (λ y. Some (h u v y)) c
+three_fields f g k h (x ∷ xs) (suc i) u v w e e' e'' = three_fields f g k h xs i u v w e e' e''
+
+pub column_there : (cs : List Column) (i : ℕ) (c : Column) → slice_get cs i ≡ Some c → name_at (column_names cs) i ≡ c.name
+column_there [] i c e = absurd (cc)
+column_there (d ∷ cs) zero c e = let h : d ≡ c = cc in ap (λ x. x.name) h
+column_there (d ∷ cs) (suc i) c e = column_there cs i c e
+
+pub no_column_there : (cs : List Column) (i : ℕ) → slice_get cs i ≡ None → name_at (column_names cs) i ≡ []
+no_column_there [] i e = refl
+no_column_there (d ∷ cs) zero e = absurd (cc)
+no_column_there (d ∷ cs) (suc i) e = no_column_there cs i e
+
+stored_at : (schema : SchemaValue) (xs : List ObjectEntry) (i r : ℕ) → AllByRecursion (IsObject schema) xs → slice_get (map (λ x. x.relation) xs) i ≡ Some r → r < length schema.relations
+stored_at schema [] i r all e = absurd (cc)
+stored_at schema (x ∷ xs) zero r all e =
+    let same : x.relation ≡ r = cc in
+    subst (λ (k : ℕ). k < length schema.relations) same (slice_get_within schema.relations x.relation all.0.relation all.0.stored)
+stored_at schema (x ∷ xs) (suc i) r all e = stored_at schema xs i r all.1 e
+
+pub stored : (schema : SchemaValue) (i r : ℕ) → IsValid schema → slice_get (map (λ x. x.relation) schema.objects) i ≡ Some r → r < length schema.relations
+stored schema i r valid e = stored_at schema schema.objects i r (recursion_from_All (IsObject schema) schema.objects valid.objects) e
+
+map_same : {A B : Type 0} (f g : A → B) (xs : List A) → ((x : A) → f x ≡ g x) → map f xs ≡ map g xs
+map_same f g [] same = refl
+map_same f g (x ∷ xs) same = ap (λ v. v ∷ map f xs) (same x) ∙ ap (λ v. g x ∷ v) (map_same f g xs same)
+
+listed_is : (p : Option Pair) → listed p ≡ cons_option p []
+listed_is None = refl
+listed_is (Some pair) = refl
+
+pub one_pair : (schema : SchemaValue) (i a : ℕ) (pairs : List Pair) (p : Option Pair)
+    → slice_get (map (λ x. filter_map (pair_of schema x) (range_with_len 0 a)) schema.objects) i ≡ Some pairs → slice_get (map (λ x. pair_of schema x a) schema.objects) i ≡ Some p
+    → slice_get (map (λ x. filter_map (pair_of schema x) (range_with_len 0 (a + 1))) schema.objects) i ≡ Some (pairs ++ listed p)
+one_pair schema i a pairs p so at =
+    let both = two_fields (λ (x : ObjectEntry). filter_map (pair_of schema x) (range_with_len 0 a)) (λ (x : ObjectEntry). pair_of schema x a) (λ ps q. ps ++ listed q) schema.objects i pairs p so at in
+    let same : (x : ObjectEntry) → filter_map (pair_of schema x) (range_with_len 0 (a + 1)) ≡ filter_map (pair_of schema x) (range_with_len 0 a) ++ listed (pair_of schema x a) =
+    λ x. ap (filter_map (pair_of schema x)) (range_more a) ∙ filter_map-append (pair_of schema x) (range_with_len 0 a) (a ∷ [])
+    ∙ ap (λ v. filter_map (pair_of schema x) (range_with_len 0 a) ++ v) (sym (listed_is (pair_of schema x a))) in
+    ap (λ v. slice_get v i) (map_same (λ x. filter_map (pair_of schema x) (range_with_len 0 (a + 1))) (λ x. filter_map (pair_of schema x) (range_with_len 0 a) ++ listed (pair_of schema x a)) schema.objects same) ∙ both
+
+pub none_yet : {A B : Type 0} (y : B) (xs : List A) (i : ℕ) → i < length xs → slice_get (map (λ x. y) xs) i ≡ Some y
+none_yet y [] i l = absurd (omega arith)
+none_yet y (x ∷ xs) zero l = refl
+none_yet y (x ∷ xs) (suc i) l = none_yet y xs i (omega arith)
+
+pub listed_at : {A B : Type 0} (f : A → B) (xs ys : List A) (i : ℕ) (none : A) (d : B) → ys ≡ xs → i < length ys → d ≡ f (get_or ys i none) → slice_get (map f xs) i ≡ Some d
+listed_at {A = A} f xs ys i none d e l h =
+    subst (λ (zs : List A). slice_get (map f zs) i ≡ Some d) e
+    (slice_get-map f ys i ∙ ap (option_map f) (slice_get-get_or ys i none l) ∙ ap Some (sym h))
+
+-- the pair of an attribute that is taken from this column, on this relation
+abbrev pub pair_on : SchemaValue → ℕ → Option ℕ → ℕ → Option Pair
+pair_on schema a c r = option_map (λ k. record { attribute = name_at (attribute_names schema) a; column = name_at (column_names (columns_at schema r)) k }) c
+
+pub column_within : (cs : List Column) (i : ℕ) (c none : Column) → i < length cs → c ≡ get_or cs i none → name_at (column_names cs) i ≡ c.name
+column_within cs i c none l e = column_there cs i (get_or cs i none) (slice_get-get_or cs i none l) ∙ ap (λ x. x.name) (sym e)
+
+pub column_past : (cs : List Column) (i : ℕ) → length cs ≤ i → name_at (column_names cs) i ≡ []
+column_past cs i l = no_column_there cs i (slice_get_past cs i l)

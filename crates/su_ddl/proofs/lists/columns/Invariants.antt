@@ -1,0 +1,13 @@
+use Rattle.std.proofs.Common.{◌≡◌, ◌++◌, length}
+use Rattle.su_ddl.specs.Grammar.{columns_symbols}
+use Rattle.su_ddl.specs.Columns.{AreColumns}
+use Rattle.su_ddl.proofs.lists.columns.Given as goal
+
+abbrev pub invariant-loop-columns : goal.invariant-loop-columns
+invariant-loop-columns l = record {
+  whole : l.fn.reader.rest.now ≡ columns_symbols l.columns ++ l.reader.rest.now;
+  are : AreColumns l.columns;
+}
+
+abbrev pub decreases-loop-columns : goal.decreases-loop-columns
+decreases-loop-columns l = length l.reader.rest.now

@@ -1,0 +1,6 @@
+use Rattle.std.proofs.Common.{◌≡◌, ◌++◌, map, take}
+use Rattle.su_ddl.specs.Shown.{lines_of, relation_definition}
+use Rattle.su_ddl.proofs.showing.push_relations.Given as goal
+
+abbrev pub invariant-loop-r : goal.invariant-loop-r
+invariant-loop-r l = l.out.items ≡ l.fn.out.items ++ lines_of (take l.r (map relation_definition l.schema.relations))

@@ -1,0 +1,70 @@
+-- How a schema is shown: its definitions, one a line, each with its names in the order of declaration.
+use Rattle.std.specs.Prelude.{ℕ, List, [], ◌∷◌, ◌++◌, length, map, filter, filter_map, option_map, Option, Some, None, slice_index_or}
+use Rattle.std.specs.List.{range_with_len}
+use Rattle.std.specs.Ordering.{nat_cmp}
+use Rattle.std.specs.FinSet.{FinSet, contains}
+use Rattle.su_base.specs.declared.values.Column.{Column}
+use Rattle.su_fd.specs.declared.Fd.{Fd as Dependency}
+use Rattle.su_lex.specs.Symbols.{spaced}
+use Rattle.su_schema.specs.declared.definitions.Pair.{Pair}
+use Rattle.su_schema.specs.declared.definitions.Definition.{Definition}
+use Rattle.su_schema.specs.declared.definitions.Definition.TheVariants.{Attribute, Relation, Object, Fd, Maximal}
+use Rattle.su_schema.specs.SchemaValue.{SchemaValue, AttributeEntry, RelationEntry, ObjectEntry, attribute_names, relation_names, relation_columns, column_names, object_names, column_of}
+use Rattle.su_ddl.specs.Grammar.{definition_symbols}
+
+-- the name with this number
+abbrev pub name_at : List (List ℕ) → ℕ → List ℕ
+name_at names k = slice_index_or names k []
+
+-- the names of a set of numbers, in ascending order
+abbrev pub names_in : List (List ℕ) → FinSet nat_cmp → List (List ℕ)
+names_in names set = map (name_at names) (filter (contains set) (range_with_len 0 (length names)))
+
+abbrev pub attribute_definition : AttributeEntry → Definition
+attribute_definition a = Attribute a.name a.kind
+
+abbrev pub relation_definition : RelationEntry → Definition
+relation_definition r = Relation r.name r.columns
+
+-- the columns of the relation with this number
+abbrev pub columns_at : SchemaValue → ℕ → List Column
+columns_at schema r = slice_index_or (relation_columns schema) r []
+
+abbrev pub listed : Option Pair → List Pair
+listed None = []
+listed (Some pair) = pair ∷ []
+
+-- the pair of an attribute, if it is the object's
+abbrev pub pair_of : SchemaValue → ObjectEntry → ℕ → Option Pair
+pair_of schema o a = option_map (λ c. record { attribute = name_at (attribute_names schema) a; column = name_at (column_names (columns_at schema o.relation)) c }) (column_of o a)
+
+abbrev pub object_definition : SchemaValue → ObjectEntry → Definition
+object_definition schema o =
+    Object o.name (name_at (relation_names schema) o.relation) (filter_map (pair_of schema o) (range_with_len 0 (length schema.attributes)))
+
+abbrev pub fd_definition : SchemaValue → Dependency → Definition
+fd_definition schema f = Fd (names_in (attribute_names schema) f.left) (names_in (attribute_names schema) f.right)
+
+abbrev pub maximal_definition : SchemaValue → FinSet nat_cmp → Definition
+maximal_definition schema set = Maximal (names_in (object_names schema) set)
+
+-- attributes, relations, objects, dependencies and declared maximal objects, each in the order of declaration
+abbrev pub definitions_of : SchemaValue → List Definition
+definitions_of schema =
+    map attribute_definition schema.attributes
+    ++ map relation_definition schema.relations
+    ++ map (object_definition schema) schema.objects
+    ++ map (fd_definition schema) schema.fds
+    ++ map (maximal_definition schema) schema.declared
+
+-- a line: the definition, `;` and a line feed
+abbrev pub line_of : Definition → List ℕ
+line_of definition = spaced (definition_symbols definition) ++ 59 ∷ 10 ∷ []
+
+abbrev pub lines_of : List Definition → List ℕ
+lines_of [] = []
+lines_of (d ∷ ds) = line_of d ++ lines_of ds
+
+-- the text of a schema
+abbrev pub schema_text : SchemaValue → List ℕ
+schema_text schema = lines_of (definitions_of schema)
