@@ -1,0 +1,127 @@
+-- The comparisons of a condition over numbers are those of the condition over names.
+use Rattle.std.proofs.Common.{◌≡◌, ◌≤◌, ◌<◌, ℕ, Bool, true, false, not, None, List, [], ◌∷◌, ◌++◌, map, length, refl, sym, ap, subst, ◌∙◌, All as Each, arith}
+use Rattle.std.specs.Prelude.{slice_index_or}
+use Rattle.std.specs.List.{flat_map}
+use Rattle.std.proofs.lemmas.List.{map-append, length-map}
+use Rattle.std.proofs.lemmas.List.Elements.{All-nil, All-cons, All-head, All-tail, All-map}
+use Rattle.su_base.specs.declared.values.Kind.{Kind}
+use Rattle.su_base.specs.declared.values.Kind.TheVariants.{Int as IntKind, Text as TextKind}
+use Rattle.su_where.specs.declared.operators.Op.{Op}
+use Rattle.su_where.specs.declared.literals.Literal.{Literal}
+use Rattle.su_where.specs.Truth as where'
+use Rattle.su_where.specs.Truth.{IsBelow, HasPlacesBelow}
+use Rattle.su_where.proofs.Layers as layers'
+use Rattle.su_schema.specs.SchemaValue.{SchemaValue}
+use Rattle.su_schema.specs.Checks.{same_kind}
+use Rattle.su_query.specs.declared.refs.Ref.{Ref as ARef}
+use Rattle.su_query.specs.declared.refs.NamedOperand.{NamedOperand}
+use Rattle.su_query.specs.declared.refs.NamedOperand.TheVariants.{Ref, Const}
+use Rattle.su_query.specs.declared.conditions.NamedCond.{NamedCond, roll-NamedCond}
+use Rattle.su_query.specs.declared.conditions.NamedCond.TheOpen as open'
+use Rattle.su_query.specs.declared.conditions.NamedCond.TheVariants.{Compare, Not, All, Any, rolls-Compare, rolls-Not, rolls-All, rolls-Any}
+use Rattle.su_query.specs.declared.conditions.NamedCond.TheFolds.{map-NamedCond, ind-NamedCond}
+use Rattle.su_query.specs.declared.scopes.Scope.{Scope}
+use Rattle.su_query.specs.Mentions.{Comparison, comparisons_of, refs_in, refs_beside, refs_of}
+use Rattle.su_query.specs.Lookup.{kind_in, differs, differing_kinds, numbered, numbered_operand}
+use Rattle.su_query.specs.Ranges.{operand_kind, IsOfOneKind, IsTyped}
+use Rattle.su_query.proofs.Layers.{comparisons_of-Compare, comparisons_of-Not, comparisons_of-All, comparisons_of-Any}
+use Rattle.su_query.proofs.Found.{numbered-Compare, numbered-Not, numbered-All, numbered-Any}
+use Rattle.su_query.proofs.Hits.{none_found, all_front, all_back}
+
+-- a comparison with a number in place of each ref
+abbrev pub literal_of : (ARef → ℕ) → Comparison → Literal
+literal_of f k = record { left = numbered_operand f k.left; op = k.op; right = numbered_operand f k.right }
+
+abbrev IsSame : (ARef → ℕ) → NamedCond → Type 0
+IsSame f c = where'.comparisons_of (numbered f c) ≡ map (literal_of f) (comparisons_of c)
+
+abbrev parts : (f : ARef → ℕ) → List ((c : NamedCond) × IsSame f c) → List NamedCond
+parts f es = map (λ e. e.0) es
+
+flat : (f : ARef → ℕ) (es : List ((c : NamedCond) × IsSame f c)) → flat_map where'.comparisons_of (map (numbered f) (parts f es)) ≡ map (literal_of f) (flat_map comparisons_of (parts f es))
+flat f [] = refl
+flat f (e ∷ es) =
+    ap (λ x. x ++ flat_map where'.comparisons_of (map (numbered f) (parts f es))) e.1 ∙ ap (λ x. map (literal_of f) (comparisons_of e.0) ++ x) (flat f es)
+    ∙ sym (map-append (literal_of f) (comparisons_of e.0) (flat_map comparisons_of (parts f es)))
+
+same_compare : (f : ARef → ℕ) (a : NamedOperand) (o : Op) (b : NamedOperand) → IsSame f (Compare a o b)
+same_compare f a o b =
+    ap where'.comparisons_of (numbered-Compare f a o b) ∙ layers'.comparisons_of-Compare (record { left = numbered_operand f a; op = o; right = numbered_operand f b })
+    ∙ sym (ap (map (literal_of f)) (comparisons_of-Compare a o b))
+
+same_not : (f : ARef → ℕ) (c : NamedCond) → IsSame f c → IsSame f (Not c)
+same_not f c h = ap where'.comparisons_of (numbered-Not f c) ∙ layers'.comparisons_of-Not (numbered f c) ∙ h ∙ sym (ap (map (literal_of f)) (comparisons_of-Not c))
+
+same_all : (f : ARef → ℕ) (es : List ((c : NamedCond) × IsSame f c)) → IsSame f (All (parts f es))
+same_all f es =
+    ap where'.comparisons_of (numbered-All f (parts f es)) ∙ layers'.comparisons_of-All (map (numbered f) (parts f es)) ∙ flat f es
+    ∙ sym (ap (map (literal_of f)) (comparisons_of-All (parts f es)))
+
+same_any : (f : ARef → ℕ) (es : List ((c : NamedCond) × IsSame f c)) → IsSame f (Any (parts f es))
+same_any f es =
+    ap where'.comparisons_of (numbered-Any f (parts f es)) ∙ layers'.comparisons_of-Any (map (numbered f) (parts f es)) ∙ flat f es
+    ∙ sym (ap (map (literal_of f)) (comparisons_of-Any (parts f es)))
+
+same_layer : (f : ARef → ℕ) (y : open'.NamedCond-F ((c : NamedCond) × IsSame f c)) → IsSame f (roll-NamedCond (map-NamedCond ((c : NamedCond) × IsSame f c) NamedCond (λ e. e.0) y))
+same_layer f (open'.Compare a o b) = subst (IsSame f) (sym (rolls-Compare a o b)) (same_compare f a o b)
+same_layer f (open'.Not e) = subst (IsSame f) (sym (rolls-Not e.0)) (same_not f e.0 e.1)
+same_layer f (open'.All es) = subst (IsSame f) (sym (rolls-All (parts f es))) (same_all f es)
+same_layer f (open'.Any es) = subst (IsSame f) (sym (rolls-Any (parts f es))) (same_any f es)
+
+pub comparisons_of-numbered : (f : ARef → ℕ) (c : NamedCond) → where'.comparisons_of (numbered f c) ≡ map (literal_of f) (comparisons_of c)
+comparisons_of-numbered f = ind-NamedCond (IsSame f) (λ x y is. subst (λ z. IsSame f (roll-NamedCond z)) is (same_layer f y))
+
+-- a ref's number is in range and of the kind of its name
+pub record IsNumbered (schema : SchemaValue) (scope : Scope) (kinds : List Kind) (f : ARef → ℕ) (r : ARef) : Type 0 where
+  pub below : f r < length kinds
+  pub kind : slice_index_or kinds (f r) IntKind ≡ kind_in schema scope (Ref r)
+
+module _ (schema : SchemaValue) (scope : Scope) (kinds : List Kind) (f : ARef → ℕ) where
+  operand_below : (a : NamedOperand) → Each (IsNumbered schema scope kinds f) (refs_in a) → IsBelow (length kinds) (numbered_operand f a)
+  operand_below (Ref r) h = (All-head (IsNumbered schema scope kinds f) r [] h).below
+  operand_below (Const v) h = tt
+
+  operand_typed : (a : NamedOperand) → Each (IsNumbered schema scope kinds f) (refs_in a) → operand_kind kinds (numbered_operand f a) ≡ kind_in schema scope a
+  operand_typed (Ref r) h = (All-head (IsNumbered schema scope kinds f) r [] h).kind
+  operand_typed (Const v) h = refl
+
+  all_below : (ks : List Comparison) → Each (IsNumbered schema scope kinds f) (flat_map refs_beside ks) → Each (λ k. HasPlacesBelow (length kinds) (literal_of f k)) ks
+  all_below [] h = All-nil (λ k. HasPlacesBelow (length kinds) (literal_of f k))
+  all_below (k ∷ ks) h =
+      let here = all_front (IsNumbered schema scope kinds f) (refs_beside k) (flat_map refs_beside ks) h in
+      let left = all_front (IsNumbered schema scope kinds f) (refs_in k.left) (refs_in k.right) here in
+      let right = all_back (IsNumbered schema scope kinds f) (refs_in k.left) (refs_in k.right) here in
+      All-cons (λ k. HasPlacesBelow (length kinds) (literal_of f k)) k ks (operand_below k.left left, operand_below k.right right)
+      (all_below ks (all_back (IsNumbered schema scope kinds f) (refs_beside k) (flat_map refs_beside ks) h))
+
+  not_false : (b : Bool) → not b ≡ false → b ≡ true
+  not_false true e = refl
+  not_false false e = sym e
+
+  kinds_same : (a b : Kind) → same_kind a b ≡ true → a ≡ b
+  kinds_same IntKind IntKind e = refl
+  kinds_same IntKind TextKind e = absurd (cc)
+  kinds_same TextKind IntKind e = absurd (cc)
+  kinds_same TextKind TextKind e = refl
+
+  all_typed : (ks : List Comparison) → Each (IsNumbered schema scope kinds f) (flat_map refs_beside ks) → Each (λ k. differs schema scope k ≡ false) ks → Each (λ k. IsOfOneKind kinds (literal_of f k)) ks
+  all_typed [] h e = All-nil (λ k. IsOfOneKind kinds (literal_of f k))
+  all_typed (k ∷ ks) h e =
+      let here = all_front (IsNumbered schema scope kinds f) (refs_beside k) (flat_map refs_beside ks) h in
+      let left = all_front (IsNumbered schema scope kinds f) (refs_in k.left) (refs_in k.right) here in
+      let right = all_back (IsNumbered schema scope kinds f) (refs_in k.left) (refs_in k.right) here in
+      let same = kinds_same (kind_in schema scope k.left) (kind_in schema scope k.right)
+      (not_false (same_kind (kind_in schema scope k.left) (kind_in schema scope k.right)) (All-head (λ k. differs schema scope k ≡ false) k ks e)) in
+      All-cons (λ k. IsOfOneKind kinds (literal_of f k)) k ks (operand_typed k.left left ∙ same ∙ sym (operand_typed k.right right))
+      (all_typed ks (all_back (IsNumbered schema scope kinds f) (refs_beside k) (flat_map refs_beside ks) h) (All-tail (λ k. differs schema scope k ≡ false) k ks e))
+
+  -- a condition whose refs are so numbered, without a comparison of two kinds
+  pub typed : (c : NamedCond) → length (comparisons_of c) ≤ 256 → Each (IsNumbered schema scope kinds f) (refs_of c) → differing_kinds schema scope (comparisons_of c) ≡ None → IsTyped kinds (numbered f c)
+  typed c few h e =
+      let ks = comparisons_of c in
+      let same = sym (comparisons_of-numbered f c) in
+      record {
+        fits = subst (Each (HasPlacesBelow (length kinds))) same (All-map (HasPlacesBelow (length kinds)) (literal_of f) ks (all_below ks h));
+        few = subst (λ (x : List Literal). length x ≤ 256) same (omega (arith, length-map ks (literal_of f), few));
+        typed = subst (Each (IsOfOneKind kinds)) same (All-map (IsOfOneKind kinds) (literal_of f) ks (all_typed ks h (none_found (λ k. (kind_in schema scope k.left, kind_in schema scope k.right)) (differs schema scope) ks e)));
+      }

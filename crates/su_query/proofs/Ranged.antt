@@ -1,0 +1,169 @@
+-- The numbers that names resolve to are in range.
+use Rattle.std.proofs.Common.{◌≡◌, ◌<◌, ◌≤◌, ℕ, Bool, true, false, cond, Option, Some, None, List, [], ◌∷◌, ◌++◌, length, get_or, refl, sym, ap, subst, ◌∙◌, arith, All as Each}
+use Rattle.std.specs.Prelude.{option_map, unwrap_or, slice_index_or, position}
+use Rattle.std.specs.List.{list_any}
+use Rattle.std.specs.Str.{bytes_eq}
+use Rattle.std.proofs.lemmas.Bool.Decides.{nat_tests}
+use Rattle.std.proofs.lemmas.List.{length-map, get_or-map}
+use Rattle.std.proofs.lemmas.List.Elements.{All-nil, All-cons, All-head, All-tail, All-map, All-push}
+use Rattle.std.proofs.lemmas.Slice.Eq.{bytes_eq-Decides}
+use Rattle.su_base.specs.declared.values.Kind.TheVariants.{Int as IntKind}
+use Rattle.su_schema.specs.SchemaValue.{SchemaValue, attribute_names, attribute_kinds}
+use Rattle.su_schema.specs.Checks.{columns_at}
+use Rattle.su_query.specs.declared.refs.Ref.{Ref as ARef}
+use Rattle.su_query.specs.declared.refs.NamedOperand.TheVariants.{Ref}
+use Rattle.su_query.specs.declared.conditions.NamedCond.{NamedCond}
+use Rattle.su_query.specs.declared.places.Place.{Place}
+use Rattle.su_query.specs.declared.scopes.Scope.{Scope}
+use Rattle.su_query.specs.declared.scopes.Scope.TheVariants.{Attributes, Columns}
+use Rattle.su_query.specs.declared.statements.Query.{Query}
+use Rattle.su_query.specs.Mentions.{comparisons_of, refs_of, same_variable, mentions, variables_of, all_refs}
+use Rattle.su_query.specs.Reading.{AreFew}
+use Rattle.su_query.specs.Lookup.{names_in, kinds_in, is_unknown, first_unknown, number_among, kind_in, place_in, same_place, places_of, number_in, places_in, resolved_of, IsKnownQuery, IsColumnCondition, with_columns}
+use Rattle.su_query.specs.Ranges.{IsPlaceAmong, place_kinds, IsResolved, IsOnColumns}
+use Rattle.su_query.proofs.Hits.{Hit, hit_any, hit_some, any-push, any-last, none_found, all_front, all_back}
+use Rattle.su_query.proofs.Placed.{few_variables, few_places}
+use Rattle.su_query.proofs.Literals.{IsNumbered, typed}
+
+-- ---- each variable and each place that was mentioned is among them
+
+same_variable-refl : (v : Option (List ℕ)) → same_variable v v ≡ true
+same_variable-refl None = refl
+same_variable-refl (Some v) = (bytes_eq-Decides v v).1 refl
+
+mentions-keep : (p : Option (List ℕ) → Bool) (seen : List (Option (List ℕ))) (xs : List ARef) → list_any p seen ≡ true → list_any p (mentions seen xs) ≡ true
+mentions-keep p seen [] h = h
+mentions-keep p seen (x ∷ xs) h =
+    elim (list_any (same_variable x.variable) seen) as (λ b. list_any p (cond b (mentions seen xs) (mentions (seen ++ x.variable ∷ []) xs)) ≡ true) [
+      | true ↦ mentions-keep p seen xs h
+      | false ↦ mentions-keep p (seen ++ x.variable ∷ []) xs (any-push p seen x.variable h)
+    ]
+
+mentions-has : (seen : List (Option (List ℕ))) (xs : List ARef) → Each (λ x. list_any (same_variable x.variable) (mentions seen xs) ≡ true) xs
+mentions-has seen [] = All-nil (λ x. list_any (same_variable x.variable) seen ≡ true)
+mentions-has seen (x ∷ xs) =
+    elim (list_any (same_variable x.variable) seen)
+    as (λ b. list_any (same_variable x.variable) seen ≡ b → Each (λ y. list_any (same_variable y.variable) (cond b (mentions seen xs) (mentions (seen ++ x.variable ∷ []) xs)) ≡ true) (x ∷ xs)) [
+      | true ↦ λ e. All-cons (λ y. list_any (same_variable y.variable) (mentions seen xs) ≡ true) x xs (mentions-keep (same_variable x.variable) seen xs e) (mentions-has seen xs)
+      | false ↦ λ e.
+          All-cons (λ y. list_any (same_variable y.variable) (mentions (seen ++ x.variable ∷ []) xs) ≡ true) x xs
+          (mentions-keep (same_variable x.variable) (seen ++ x.variable ∷ []) xs (any-last (same_variable x.variable) seen x.variable (same_variable-refl x.variable)))
+          (mentions-has (seen ++ x.variable ∷ []) xs)
+    ] refl
+
+same_place-refl : (p : Place) → same_place p p ≡ true
+same_place-refl p = grind (arith, nat_tests)
+
+module _ (schema : SchemaValue) (vs : List (Option (List ℕ))) where
+  places-keep : (p : Place → Bool) (seen : List Place) (xs : List ARef) → list_any p seen ≡ true → list_any p (places_of schema vs seen xs) ≡ true
+  places-keep p seen [] h = h
+  places-keep p seen (x ∷ xs) h =
+      elim (list_any (same_place (place_in schema vs x)) seen) as (λ b. list_any p (cond b (places_of schema vs seen xs) (places_of schema vs (seen ++ place_in schema vs x ∷ []) xs)) ≡ true) [
+        | true ↦ places-keep p seen xs h
+        | false ↦ places-keep p (seen ++ place_in schema vs x ∷ []) xs (any-push p seen (place_in schema vs x) h)
+      ]
+
+  places-has : (seen : List Place) (xs : List ARef) → Each (λ x. list_any (same_place (place_in schema vs x)) (places_of schema vs seen xs) ≡ true) xs
+  places-has seen [] = All-nil (λ x. list_any (same_place (place_in schema vs x)) seen ≡ true)
+  places-has seen (x ∷ xs) =
+      elim (list_any (same_place (place_in schema vs x)) seen)
+      as (λ b. list_any (same_place (place_in schema vs x)) seen ≡ b → Each (λ y. list_any (same_place (place_in schema vs y)) (cond b (places_of schema vs seen xs) (places_of schema vs (seen ++ place_in schema vs x ∷ []) xs)) ≡ true) (x ∷ xs)) [
+        | true ↦ λ e.
+            All-cons (λ y. list_any (same_place (place_in schema vs y)) (places_of schema vs seen xs) ≡ true) x xs (places-keep (same_place (place_in schema vs x)) seen xs e) (places-has seen xs)
+        | false ↦ λ e.
+            All-cons (λ y. list_any (same_place (place_in schema vs y)) (places_of schema vs (seen ++ place_in schema vs x ∷ []) xs) ≡ true) x xs
+            (places-keep (same_place (place_in schema vs x)) (seen ++ place_in schema vs x ∷ []) xs (any-last (same_place (place_in schema vs x)) seen (place_in schema vs x) (same_place-refl (place_in schema vs x))))
+            (places-has (seen ++ place_in schema vs x ∷ []) xs)
+      ] refl
+
+  places-among : (seen : List Place) (xs : List ARef) → Each (IsPlaceAmong schema vs) seen → Each (λ x. IsPlaceAmong schema vs (place_in schema vs x)) xs → Each (IsPlaceAmong schema vs) (places_of schema vs seen xs)
+  places-among seen [] h k = h
+  places-among seen (x ∷ xs) h k =
+      let rest = All-tail (λ y. IsPlaceAmong schema vs (place_in schema vs y)) x xs k in
+      elim (list_any (same_place (place_in schema vs x)) seen) as (λ b. Each (IsPlaceAmong schema vs) (cond b (places_of schema vs seen xs) (places_of schema vs (seen ++ place_in schema vs x ∷ []) xs))) [
+        | true ↦ places-among seen xs h rest
+        | false ↦
+            places-among (seen ++ place_in schema vs x ∷ []) xs
+            (All-push (IsPlaceAmong schema vs) seen (place_in schema vs x) h (All-head (λ y. IsPlaceAmong schema vs (place_in schema vs y)) x xs k)) rest
+      ]
+
+-- ---- names that are known
+
+hit_number : {X : Type 0} (p : X → Bool) (xs : List X) → Hit p xs → unwrap_or (position p xs) 0 < length xs
+hit_number p xs h = subst (λ (n : ℕ). n < length xs) (sym (ap (λ o. unwrap_or o 0) h.is)) h.below
+
+pub known_hit : (names : List (List ℕ)) (r : ARef) → is_unknown names r ≡ false → Hit (λ n. bytes_eq r.attribute n) names
+known_hit names r e = hit_some (λ n. bytes_eq r.attribute n) names e
+
+all_known : (names : List (List ℕ)) (refs : List ARef) → first_unknown names refs ≡ None → Each (λ r. is_unknown names r ≡ false) refs
+all_known names refs e = none_found (λ r. r.attribute) (is_unknown names) refs e
+
+-- the kind of a known name is that of its number
+known_kind : (schema : SchemaValue) (scope : Scope) (r : ARef) → is_unknown (names_in schema scope) r ≡ false
+    → slice_index_or (kinds_in schema scope) (number_among (names_in schema scope) r.attribute) IntKind ≡ kind_in schema scope (Ref r)
+known_kind schema scope r e =
+    let h = known_hit (names_in schema scope) r e in
+    ap (λ o. slice_index_or (kinds_in schema scope) (unwrap_or o 0) IntKind) h.is ∙ sym (ap (λ o. unwrap_or (option_map (λ n. slice_index_or (kinds_in schema scope) n IntKind) o) IntKind) h.is)
+
+-- ---- a query
+
+module _ (schema : SchemaValue) (vs : List (Option (List ℕ))) where
+  place_among : (r : ARef) → list_any (same_variable r.variable) vs ≡ true → is_unknown (attribute_names schema) r ≡ false → IsPlaceAmong schema vs (place_in schema vs r)
+  place_among r h k = record {
+    variable = hit_number (same_variable r.variable) vs (hit_any (same_variable r.variable) vs h);
+    attribute = subst (λ (n : ℕ). number_among (attribute_names schema) r.attribute < n) (length-map schema.attributes (λ a. a.name))
+        (hit_number (λ n. bytes_eq r.attribute n) (attribute_names schema) (known_hit (attribute_names schema) r k));
+  }
+
+  ref_numbered : (places : List Place) (r : ARef) → list_any (same_place (place_in schema vs r)) places ≡ true → is_unknown (attribute_names schema) r ≡ false
+      → IsNumbered schema Attributes (place_kinds schema places) (number_in schema Attributes vs places) r
+  ref_numbered places r h k =
+      let p = same_place (place_in schema vs r) in
+      let hit = hit_any p places h in
+      let kind = λ (x : Place). slice_index_or (attribute_kinds schema) x.attribute IntKind in
+      let d = place_in schema vs r in
+      let e : number_among (attribute_names schema) r.attribute ≡ (get_or places hit.at d).attribute = grind (arith, nat_tests, hit.passes d) in
+      record {
+        below = subst (λ (n : ℕ). number_in schema Attributes vs places r < n) (sym (length-map places kind)) (hit_number p places hit);
+        kind = ap (λ o. slice_index_or (place_kinds schema places) (unwrap_or o 0) IntKind) hit.is ∙ get_or-map kind places hit.at d IntKind hit.below
+            ∙ ap (λ n. slice_index_or (attribute_kinds schema) n IntKind) (sym e) ∙ known_kind schema Attributes r k;
+      }
+
+pub query_resolved : (schema : SchemaValue) (q : Query) → AreFew q.outputs q.cond → IsKnownQuery schema q → IsResolved schema (resolved_of schema q)
+query_resolved schema q few known =
+    let vs = variables_of q in
+    let places = places_in schema q in
+    let kinds = place_kinds schema places in
+    let f = number_in schema Attributes vs places in
+    let refs = all_refs q in
+    let all = all_known (attribute_names schema) refs known.known in
+    let among : Each (λ r. IsPlaceAmong schema vs (place_in schema vs r)) refs = λ k d l. place_among schema vs (get_or refs k d) (mentions-has [] refs k d l) (all k d l) in
+    let numbers : Each (IsNumbered schema Attributes kinds f) refs = λ k d l. ref_numbered schema vs places (get_or refs k d) (places-has schema vs [] refs k d l) (all k d l) in
+    let outputs = all_front (IsNumbered schema Attributes kinds f) q.outputs (refs_of q.cond) numbers in
+    let count : length kinds ≡ length places = length-map places (λ p. slice_index_or (attribute_kinds schema) p.attribute IntKind) in
+    record {
+      few_variables = few_variables q few;
+      few_outputs = subst (λ (n : ℕ). n ≤ 128) (sym (length-map q.outputs f)) few.few_outputs;
+      few_places = few_places schema vs q few;
+      places = places-among schema vs [] refs (All-nil (IsPlaceAmong schema vs)) among;
+      outputs = All-map (λ (o : ℕ). o < length places) f q.outputs (λ k d l. subst (λ (n : ℕ). f (get_or q.outputs k d) < n) count (outputs k d l).below);
+      cond = typed schema Attributes kinds f q.cond few.few_comparisons (all_back (IsNumbered schema Attributes kinds f) q.outputs (refs_of q.cond) numbers) known.kinds;
+    }
+
+-- ---- a condition on a relation
+
+pub columns_typed : (schema : SchemaValue) (r : ℕ) (c : NamedCond) → length (comparisons_of c) ≤ 256 → IsColumnCondition schema r c → IsOnColumns schema r (with_columns schema r c)
+columns_typed schema r c few known =
+    let names = names_in schema (Columns r) in
+    let kinds = kinds_in schema (Columns r) in
+    let f = λ (ref : ARef). number_among names ref.attribute in
+    let all = all_known names (refs_of c) known.known in
+    let count : length names ≡ length kinds = length-map (columns_at schema r) (λ x. x.name) ∙ sym (length-map (columns_at schema r) (λ x. x.kind)) in
+    typed schema (Columns r) kinds f c few
+    (λ k d l.
+    let ref = get_or (refs_of c) k d in
+    let known_ref = all k d l in
+    record {
+      below = subst (λ (n : ℕ). number_among names ref.attribute < n) count (hit_number (λ n. bytes_eq ref.attribute n) names (known_hit names ref known_ref));
+      kind = known_kind schema (Columns r) ref known_ref;
+    }) known.kinds

@@ -1,0 +1,95 @@
+-- The grammar of names, values, refs and conditions. "From s to r": the symbols s are that, and then r.
+-- ref: A or t.A; operand: a ref or a value; cond: conj { "or" conj }; conj: factor { "and" factor };
+-- factor: [ "not" ] primary; primary: "(" cond ")" or operand op operand
+use Rattle.std.specs.Prelude.{◌≡◌, ℕ, codes, List, [], ◌∷◌, Option, Some, None}
+use Rattle.su_base.specs.declared.values.Value.{Value}
+use Rattle.su_base.specs.declared.values.Value.TheVariants as value
+use Rattle.su_base.specs.Name.{IsName}
+use Rattle.su_lex.specs.declared.signs.Sign.TheVariants as sign
+use Rattle.su_where.specs.declared.operators.Op.{Op}
+use Rattle.su_where.specs.declared.operators.Op.TheVariants as op
+use Rattle.su_lex.specs.declared.meaning.Symbol.{Symbol}
+use Rattle.su_lex.specs.declared.meaning.Symbol.TheVariants.{Word, Int, Text, Sign}
+use Rattle.su_query.specs.declared.refs.Ref.{Ref as ARef}
+use Rattle.su_query.specs.declared.refs.NamedOperand.{NamedOperand}
+use Rattle.su_query.specs.declared.refs.NamedOperand.TheVariants.{Ref, Const}
+use Rattle.su_query.specs.declared.conditions.NamedCond.{NamedCond}
+use Rattle.su_query.specs.declared.conditions.NamedCond.TheVariants.{Compare, Not, All, Any}
+use Rattle.su_query.specs.Lists.{Begins}
+
+-- the symbol of a value
+abbrev pub value_sym : Value → Symbol
+value_sym (value.Int n) = Int n
+value_sym (value.Text content) = Text content
+
+-- the symbol of an operator
+abbrev pub op_sym : Op → Symbol
+op_sym op.Equal = Sign sign.Equal
+op_sym op.NotEqual = Sign sign.NotEqual
+op_sym op.Less = Sign sign.Less
+op_sym op.LessEqual = Sign sign.LessEqual
+op_sym op.Greater = Sign sign.Greater
+op_sym op.GreaterEqual = Sign sign.GreaterEqual
+
+-- a variable and a dot, if there is one, before s
+abbrev pub qualified : Option (List ℕ) → List Symbol → List Symbol
+qualified None s = s
+qualified (Some variable) s = Word variable ∷ Sign sign.Dot ∷ s
+
+abbrev pub IsVariable : Option (List ℕ) → Type 0
+IsVariable None = Unit {0}
+IsVariable (Some variable) = IsName variable
+
+abbrev pub ReadsName : List ℕ → List Symbol → List Symbol → Type 0
+ReadsName name s r = (s ≡ Word name ∷ r) × IsName name
+
+abbrev pub ReadsValue : Value → List Symbol → List Symbol → Type 0
+ReadsValue v s r = s ≡ value_sym v ∷ r
+
+abbrev pub ReadsRef : ARef → List Symbol → List Symbol → Type 0
+ReadsRef ref s r = (s ≡ qualified ref.variable (Word ref.attribute ∷ r)) × IsVariable ref.variable × IsName ref.attribute × ¬ (Begins (Sign sign.Dot) r)
+
+abbrev pub ReadsOperand : NamedOperand → List Symbol → List Symbol → Type 0
+ReadsOperand (Ref ref) s r = ReadsRef ref s r
+ReadsOperand (Const v) s r = ReadsValue v s r
+
+-- operand op operand
+abbrev pub ReadsComparison : NamedCond → List Symbol → List Symbol → Type 0
+ReadsComparison c s r = (a : NamedOperand) × (o : Op) × (b : NamedOperand) × (t : List Symbol) × (u : List Symbol)
+    × ReadsOperand a s t × (t ≡ op_sym o ∷ u) × ReadsOperand b u r × (c ≡ Compare a o b)
+
+-- parts make a node only where they are several
+abbrev pub any_of : List NamedCond → NamedCond
+any_of (c ∷ []) = c
+any_of cs = Any cs
+
+abbrev pub all_of : List NamedCond → NamedCond
+all_of (c ∷ []) = c
+all_of cs = All cs
+
+mutual
+  -- conj { "or" conj }
+  pub data ReadsCond : NamedCond → List Symbol → List Symbol → Type 0 where
+    cond : (c d : NamedCond) (ds : List NamedCond) (s t r : List Symbol) → c ≡ any_of (d ∷ ds) → ReadsConj d s t → ReadsOrs ds t r → ReadsCond c s r
+
+  pub data ReadsOrs : List NamedCond → List Symbol → List Symbol → Type 0 where
+    no_or : (cs : List NamedCond) (s r : List Symbol) → cs ≡ [] → s ≡ r → ¬ (Begins (Word (codes "or")) s) → ReadsOrs cs s r
+    one_or : (cs : List NamedCond) (d : NamedCond) (ds : List NamedCond) (s t u r : List Symbol) → cs ≡ d ∷ ds → s ≡ Word (codes "or") ∷ t → ReadsConj d t u → ReadsOrs ds u r → ReadsOrs cs s r
+
+  -- factor { "and" factor }
+  pub data ReadsConj : NamedCond → List Symbol → List Symbol → Type 0 where
+    conj : (c d : NamedCond) (ds : List NamedCond) (s t r : List Symbol) → c ≡ all_of (d ∷ ds) → ReadsFactor d s t → ReadsAnds ds t r → ReadsConj c s r
+
+  pub data ReadsAnds : List NamedCond → List Symbol → List Symbol → Type 0 where
+    no_and : (cs : List NamedCond) (s r : List Symbol) → cs ≡ [] → s ≡ r → ¬ (Begins (Word (codes "and")) s) → ReadsAnds cs s r
+    one_and : (cs : List NamedCond) (d : NamedCond) (ds : List NamedCond) (s t u r : List Symbol) → cs ≡ d ∷ ds → s ≡ Word (codes "and") ∷ t → ReadsFactor d t u → ReadsAnds ds u r → ReadsAnds cs s r
+
+  -- [ "not" ] primary
+  pub data ReadsFactor : NamedCond → List Symbol → List Symbol → Type 0 where
+    plain : (c : NamedCond) (s r : List Symbol) → ReadsPrimary c s r → ReadsFactor c s r
+    negated : (c d : NamedCond) (s t r : List Symbol) → c ≡ Not d → s ≡ Word (codes "not") ∷ t → ReadsPrimary d t r → ReadsFactor c s r
+
+  -- "(" cond ")", or a comparison
+  pub data ReadsPrimary : NamedCond → List Symbol → List Symbol → Type 0 where
+    nested : (c : NamedCond) (s t u r : List Symbol) → s ≡ Sign sign.Open ∷ t → ReadsCond c t u → u ≡ Sign sign.Close ∷ r → ReadsPrimary c s r
+    compare : (c : NamedCond) (s r : List Symbol) → ReadsComparison c s r → ReadsPrimary c s r

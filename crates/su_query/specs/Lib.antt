@@ -1,0 +1,10 @@
+pub mod Forms
+pub mod Grammar
+pub mod Lists
+pub mod Lookup
+pub mod Mentions
+pub mod Nesting
+pub mod Ranges
+pub mod Reading
+pub mod Sets
+pub mod Shown

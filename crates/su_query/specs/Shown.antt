@@ -1,0 +1,103 @@
+-- How a statement is shown: its symbols, with one space between two, but for parentheses, commas and dots.
+-- part: what stands under `and` or `or`; inner: what stands behind `not`
+use Rattle.std.specs.Prelude.{ℕ, Bool, true, false, ◌==◌, if◌then◌else◌, codes, List, [], ◌∷◌, ◌++◌, length, flat_map}
+use Rattle.su_base.specs.declared.values.Value.{Value}
+use Rattle.su_lex.specs.declared.signs.Sign.TheVariants as sign
+use Rattle.su_lex.specs.declared.meaning.Symbol.{Symbol}
+use Rattle.su_lex.specs.declared.meaning.Symbol.TheVariants.{Word, Text, Sign}
+use Rattle.su_lex.specs.Symbols.{spaced}
+use Rattle.su_query.specs.declared.refs.Ref.{Ref as ARef}
+use Rattle.su_query.specs.declared.refs.NamedOperand.{NamedOperand}
+use Rattle.su_query.specs.declared.refs.NamedOperand.TheVariants.{Ref, Const}
+use Rattle.su_query.specs.declared.conditions.NamedCond.{NamedCond}
+use Rattle.su_query.specs.declared.conditions.NamedCond.TheOpen.{NamedCond-F, Compare, Not, All, Any}
+use Rattle.su_query.specs.declared.conditions.NamedCond.TheFolds.{fold-NamedCond}
+use Rattle.su_query.specs.declared.statements.Query.{Query}
+use Rattle.su_query.specs.declared.statements.Statement.{Statement}
+use Rattle.su_query.specs.declared.statements.Statement.TheVariants.{Insert, Delete, DeleteWhere, Load, Print, Schema, Closure, Retrieve, Explain}
+use Rattle.su_query.specs.Grammar.{value_sym, op_sym, qualified}
+
+abbrev pub name_symbols : List ℕ → List Symbol
+name_symbols name = Word name ∷ []
+
+abbrev pub value_symbols : Value → List Symbol
+value_symbols v = value_sym v ∷ []
+
+abbrev pub ref_symbols : ARef → List Symbol
+ref_symbols ref = qualified ref.variable (Word ref.attribute ∷ [])
+
+abbrev pub operand_symbols : NamedOperand → List Symbol
+operand_symbols (Ref ref) = ref_symbols ref
+operand_symbols (Const v) = value_symbols v
+
+-- with a comma between two
+abbrev pub listed : {A : Type 0} → (A → List Symbol) → List A → List Symbol
+listed f [] = []
+listed f (x ∷ xs) = f x ++ flat_map (λ y. Sign sign.Comma ∷ f y) xs
+
+abbrev pub in_parens : List Symbol → List Symbol
+in_parens s = Sign sign.Open ∷ (s ++ Sign sign.Close ∷ [])
+
+-- a condition's symbols, and what decides on the parentheses round them: whether it is all or any of parts, or a comparison
+pub record ShownCond : Type 0 where
+  pub many : Bool
+  pub compare : Bool
+  pub symbols : List Symbol
+
+abbrev pub part : ShownCond → List Symbol
+part x = if x.many then in_parens x.symbols else x.symbols
+
+abbrev pub inner : ShownCond → List Symbol
+inner x = if x.compare then x.symbols else in_parens x.symbols
+
+-- parts with a word between two
+abbrev pub joined : Symbol → List ShownCond → List Symbol
+joined w [] = []
+joined w (x ∷ []) = part x
+joined w (x ∷ y ∷ ys) = part x ++ w ∷ joined w (y ∷ ys)
+
+abbrev pub shown_step : NamedCond-F ShownCond → ShownCond
+shown_step (Compare a o b) = record { many = false; compare = true; symbols = operand_symbols a ++ op_sym o ∷ operand_symbols b }
+shown_step (Not x) = record { many = false; compare = false; symbols = Word (codes "not") ∷ inner x }
+shown_step (All xs) = record { many = true; compare = false; symbols = joined (Word (codes "and")) xs }
+shown_step (Any xs) = record { many = true; compare = false; symbols = joined (Word (codes "or")) xs }
+
+abbrev pub shown_cond : NamedCond → ShownCond
+shown_cond = fold-NamedCond ShownCond shown_step
+
+abbrev pub cond_symbols : NamedCond → List Symbol
+cond_symbols c = (shown_cond c).symbols
+
+abbrev pub nothing_step : NamedCond-F Bool → Bool
+nothing_step (Compare a o b) = false
+nothing_step (Not x) = false
+nothing_step (All xs) = length xs == 0
+nothing_step (Any xs) = false
+
+-- whether a condition is all of nothing
+abbrev pub is_nothing : NamedCond → Bool
+is_nothing = fold-NamedCond Bool nothing_step
+
+-- all of nothing has no `where`
+abbrev pub where_symbols : NamedCond → List Symbol
+where_symbols c = if is_nothing c then [] else Word (codes "where") ∷ cond_symbols c
+
+abbrev pub query_symbols : Query → List Symbol
+query_symbols q = Word (codes "retrieve") ∷ (in_parens (listed ref_symbols q.outputs) ++ where_symbols q.cond)
+
+abbrev pub statement_symbols : Statement → List Symbol
+statement_symbols (Insert relation row) = Word (codes "insert") ∷ Word relation ∷ in_parens (listed value_symbols row)
+statement_symbols (Delete relation row) = Word (codes "delete") ∷ Word relation ∷ in_parens (listed value_symbols row)
+statement_symbols (DeleteWhere relation cond) = Word (codes "delete") ∷ Word relation ∷ Word (codes "where") ∷ cond_symbols cond
+statement_symbols (Load relation file) = Word (codes "load") ∷ Word relation ∷ Word (codes "from") ∷ Text file ∷ []
+statement_symbols (Print relation) = Word (codes "print") ∷ Word relation ∷ []
+statement_symbols Schema = Word (codes "schema") ∷ []
+statement_symbols (Closure attributes) = Word (codes "closure") ∷ in_parens (listed name_symbols attributes)
+statement_symbols (Retrieve q) = query_symbols q
+statement_symbols (Explain q) = Word (codes "explain") ∷ query_symbols q
+
+abbrev pub query_text : Query → List ℕ
+query_text q = spaced (query_symbols q)
+
+abbrev pub statement_text : Statement → List ℕ
+statement_text st = spaced (statement_symbols st)

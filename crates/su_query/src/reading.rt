@@ -1,0 +1,54 @@
+//! One statement from its text.
+ghost use Rattle.std.specs.Prelude.{◌≡◌, IfOk, IfErr};
+ghost use Rattle.su_query.specs.Reading.{IsStatement, AreFew, IsReady, IsRefusal, outputs_of, condition_of};
+ghost use Rattle.su_query.specs.declared.statements.Statement.{Statement as AStatement};
+
+use crate::faults::{QueryFault, QueryLimit, ReadEnd};
+use crate::limits::check_limits;
+use crate::nesting::nests_too_deep;
+use crate::reader::Reader;
+use crate::statements::Statement;
+use std::alloc::Global;
+use su_lex::LexEnd;
+
+fn read_form(alloc: Global, text: &[u8]) -> Result<Statement, QueryFault>
+    ensures found { IfOk result (IsStatement text.now) }
+    ensures refused { IfErr result (IsRefusal text.now) }
+{
+    let symbols = match su_lex::symbols(alloc, text) {
+        Ok(symbols) => symbols,
+        Err(LexEnd::Syntax) => return Err(QueryFault::Syntax),
+        Err(LexEnd::NoMemory) => return Err(QueryFault::NoMemory),
+    };
+    if nests_too_deep(symbols.as_slice()) {
+        return Err(QueryFault::Limit(QueryLimit::Nesting));
+    }
+    let mut reader = Reader {
+        alloc,
+        rest: symbols.as_slice(),
+    };
+    match reader.statement() {
+        Ok(statement) => Ok(statement),
+        Err(ReadEnd::Syntax) => Err(QueryFault::Syntax),
+        Err(ReadEnd::NoMemory) => Err(QueryFault::NoMemory),
+    }
+}
+
+/// The statement that the text is. Linear in the length of the text.
+///
+/// The causes of a refusal are tried in this order: no tokens, parentheses more than 64 deep, no
+/// form, more than 8 variables, 128 outputs, 256 comparisons. `Unknown`, `UnknownColumn` and `Kinds`
+/// never come here: names are looked up by the `resolve` calls.
+pub fn read(alloc: Global, text: &[u8]) -> Result<Statement, QueryFault>
+    ensures found { IfOk result (IsStatement text.now) }
+    ensures few { IfOk result (λ st. AreFew (outputs_of st) (condition_of st)) }
+    ensures ready { IfOk result IsReady }
+    ensures only { IfOk result (λ st. (other : AStatement) → IsStatement text.now other → other ≡ st) }
+    ensures refused { IfErr result (IsRefusal text.now) }
+{
+    let statement = read_form(alloc, text)?;
+    match check_limits(alloc, &statement) {
+        Ok(()) => Ok(statement),
+        Err(fault) => Err(fault),
+    }
+}

@@ -1,0 +1,226 @@
+//! Queries over numbers.
+ghost use Rattle.su_query.specs.Lookup.{resolved_of, IsKnownQuery, IsQueryRefusal};
+ghost use Rattle.std.specs.Prelude.{◌≡◌, ◌≤◌, [], length, map, IfOk, IfErr, OnOk};
+ghost use Rattle.su_query.specs.Mentions.{variables_of, all_refs};
+ghost use Rattle.su_query.specs.Reading.{AreFew};
+ghost use Rattle.su_query.specs.Lookup.{number_in, numbered, numbered_operand, places_of};
+ghost use Rattle.su_query.specs.Ranges.{IsResolved};
+
+use crate::conditions::NamedCond;
+use crate::faults::QueryFault;
+use crate::lookups::{differing_in, unknown_among, unknown_in};
+use crate::places::{Place, find_place, place_of};
+use crate::refs::{NamedOperand, Ref};
+use crate::scopes::Scope;
+use crate::statements::Query;
+use crate::{mentions, places};
+use std::alloc::Global;
+use su_base::{Boxed, List, NoMemory, Str};
+use su_schema::Schema;
+use su_where::{Cond, Literal, Operand};
+
+/// A query whose names are numbers. Variables and places stand in the order of their first mention,
+/// the outputs first; an output and a `Place` of the condition are the number of a place.
+#[derive(Debug, Drop)]
+pub struct Resolved {
+    pub variables: List<Option<Str>>,
+    pub places: List<Place>,
+    pub outputs: List<u16>,
+    pub cond: Cond,
+}
+
+fn number(schema: &Schema, variables: &[Option<Str>], places: &[Place], reference: &Ref) -> u16
+    requires variables { length variables.now ≤ 8 }
+    requires places { length places.now ≤ 640 }
+    ensures { result ≡ number_in schema.now Scope.Attributes variables.now places.now reference.now }
+{
+    match find_place(places, &place_of(schema, variables, reference)) {
+        Some(i) => i as u16,
+        None => 0,
+    }
+}
+
+fn numbers(
+    alloc: Global,
+    schema: &Schema,
+    variables: &[Option<Str>],
+    places: &[Place],
+    references: &[Ref],
+) -> Result<List<u16>, NoMemory>
+    requires variables { length variables.now ≤ 8 }
+    requires places { length places.now ≤ 640 }
+    ensures { IfOk result (λ ns. ns ≡ map (number_in schema.now Scope.Attributes variables.now places.now) references.now) }
+{
+    let mut numbers = List::new(alloc);
+    for reference in references {
+        numbers.push(number(schema, variables, places, reference))?;
+    }
+    Ok(numbers)
+}
+
+fn numbered_operand(
+    alloc: Global,
+    schema: &Schema,
+    variables: &[Option<Str>],
+    places: &[Place],
+    operand: &NamedOperand,
+) -> Result<Operand, NoMemory>
+    requires variables { length variables.now ≤ 8 }
+    requires places { length places.now ≤ 640 }
+    ensures { IfOk result (λ o. o ≡ numbered_operand (number_in schema.now Scope.Attributes variables.now places.now) operand.now) }
+{
+    match operand {
+        NamedOperand::Ref(reference) => Ok(Operand::Place(number(
+            schema, variables, places, reference,
+        ))),
+        NamedOperand::Const(value) => Ok(Operand::Const(value.copy(alloc)?)),
+    }
+}
+
+#[cycle(numbered)]
+#[tactic(auto, using(crate::proofs::Found::layers))]
+fn numbered(
+    alloc: Global,
+    schema: &Schema,
+    variables: &[Option<Str>],
+    places: &[Place],
+    cond: &NamedCond,
+) -> Result<Cond, NoMemory>
+    requires variables { length variables.now ≤ 8 }
+    requires places { length places.now ≤ 640 }
+    ensures { IfOk result (λ c. c ≡ numbered (number_in schema.now Scope.Attributes variables.now places.now) cond.now) }
+{
+    match cond {
+        NamedCond::Compare { left, op, right } => {
+            let left = numbered_operand(alloc, schema, variables, places, left)?;
+            let right = numbered_operand(alloc, schema, variables, places, right)?;
+            Ok(Cond::Compare(Literal {
+                left,
+                op: *op,
+                right,
+            }))
+        }
+        NamedCond::Not(part) => Ok(Cond::Not(Boxed::new(
+            alloc,
+            numbered(alloc, schema, variables, places, part.get())?,
+        )?)),
+        NamedCond::All(parts) => Ok(Cond::All(numbered_all(
+            alloc,
+            schema,
+            variables,
+            places,
+            parts.as_slice(),
+        )?)),
+        NamedCond::Any(parts) => Ok(Cond::Any(numbered_all(
+            alloc,
+            schema,
+            variables,
+            places,
+            parts.as_slice(),
+        )?)),
+    }
+}
+
+#[cycle(numbered)]
+fn numbered_all(
+    alloc: Global,
+    schema: &Schema,
+    variables: &[Option<Str>],
+    places: &[Place],
+    parts: &[NamedCond],
+) -> Result<List<Cond>, NoMemory>
+    requires variables { length variables.now ≤ 8 }
+    requires places { length places.now ≤ 640 }
+    ensures { IfOk result (λ cs. cs ≡ map (numbered (number_in schema.now Scope.Attributes variables.now places.now)) parts.now) }
+{
+    let mut conds = List::new(alloc);
+    for part in parts {
+        conds.push(numbered(alloc, schema, variables, places, part)?)?;
+    }
+    Ok(conds)
+}
+
+/// The query over numbers.
+///
+/// A name that is no attribute comes before a comparison of two kinds, and of each the first by
+/// place, the outputs before the condition.
+pub fn resolve(alloc: Global, schema: &Schema, query: &Query) -> Result<Resolved, QueryFault>
+    requires { AreFew query.now.outputs query.now.cond }
+    ensures resolved { IfOk result (λ r. r ≡ resolved_of schema.now query.now) }
+    ensures known { OnOk result (IsKnownQuery schema.now query.now) }
+    ensures in_range { IfOk result (λ r. IsResolved schema.now r) }
+    ensures refused { IfErr result (IsQueryRefusal schema.now query.now) }
+{
+    match unknown_among(alloc, schema, Scope::Attributes, query.outputs.as_slice())? {
+        Some(name) => return Err(QueryFault::Unknown(name)),
+        None => {}
+    }
+    match unknown_in(alloc, schema, Scope::Attributes, &query.cond)? {
+        Some(name) => return Err(QueryFault::Unknown(name)),
+        None => {}
+    }
+    match differing_in(schema, Scope::Attributes, &query.cond) {
+        Some((left, right)) => return Err(QueryFault::Kinds { left, right }),
+        None => {}
+    }
+    Ok(made(alloc, schema, query)?)
+}
+
+/// The variables of the query, which are at most 8.
+fn variables(alloc: Global, query: &Query) -> Result<List<Option<Str>>, NoMemory>
+    requires { length (variables_of query.now) ≤ 8 }
+    ensures { IfOk result (λ vs. vs ≡ variables_of query.now) }
+{
+    let mut seen = List::new(alloc);
+    if !mentions::note_refs(alloc, &mut seen, query.outputs.as_slice())? {
+        unreachable!();
+    }
+    if !mentions::note_cond(alloc, &mut seen, &query.cond)? {
+        unreachable!();
+    }
+    Ok(seen)
+}
+
+/// The places of the query.
+fn places_of(
+    alloc: Global,
+    schema: &Schema,
+    variables: &[Option<Str>],
+    query: &Query,
+) -> Result<List<Place>, NoMemory>
+    requires { length variables.now ≤ 8 }
+    ensures { IfOk result (λ ps. ps ≡ places_of schema.now variables.now [] (all_refs query.now)) }
+{
+    let mut seen = List::new(alloc);
+    places::note_refs(schema, variables, &mut seen, query.outputs.as_slice())?;
+    places::note_cond(schema, variables, &mut seen, &query.cond)?;
+    Ok(seen)
+}
+
+fn made(alloc: Global, schema: &Schema, query: &Query) -> Result<Resolved, NoMemory>
+    requires { AreFew query.now.outputs query.now.cond }
+    ensures { IfOk result (λ r. r ≡ resolved_of schema.now query.now) }
+{
+    let variables = variables(alloc, query)?;
+    let places = places_of(alloc, schema, variables.as_slice(), query)?;
+    let outputs = numbers(
+        alloc,
+        schema,
+        variables.as_slice(),
+        places.as_slice(),
+        query.outputs.as_slice(),
+    )?;
+    let cond = numbered(
+        alloc,
+        schema,
+        variables.as_slice(),
+        places.as_slice(),
+        &query.cond,
+    )?;
+    Ok(Resolved {
+        variables,
+        places,
+        outputs,
+        cond,
+    })
+}

@@ -1,0 +1,223 @@
+//! Statements as text.
+ghost use Rattle.std.specs.Prelude.{◌≡◌, [], ◌∷◌, ◌++◌, map, IfOk, OnOk};
+ghost use Rattle.su_lex.specs.Symbols.{spaced};
+ghost use Rattle.su_query.specs.Reading.{ReadsAgain};
+ghost use Rattle.su_query.specs.Shown.{cond_symbols, in_parens, is_nothing, joined, listed, query_symbols, query_text, shown_cond, statement_symbols, statement_text, value_symbols, where_symbols};
+
+use crate::conditions::NamedCond;
+use crate::pushing::{
+    push_names, push_op, push_operand, push_refs, push_sign, push_sign_if, push_values, push_word,
+    push_word_if,
+};
+use crate::statements::{Query, Statement};
+use std::alloc::Global;
+use su_base::{List, NoMemory, Str, Value};
+use su_lex::{Sign, Symbol, push_spaced};
+
+fn is_many(cond: &NamedCond) -> bool
+    ensures { result ≡ (shown_cond cond.now).many }
+{
+    match cond {
+        NamedCond::All(_) | NamedCond::Any(_) => true,
+        NamedCond::Not(_) | NamedCond::Compare { .. } => false,
+    }
+}
+
+fn is_compare(cond: &NamedCond) -> bool
+    ensures { result ≡ (shown_cond cond.now).compare }
+{
+    match cond {
+        NamedCond::Compare { .. } => true,
+        NamedCond::Not(_) | NamedCond::All(_) | NamedCond::Any(_) => false,
+    }
+}
+
+fn is_nothing(cond: &NamedCond) -> bool
+    ensures { result ≡ is_nothing cond.now }
+{
+    match cond {
+        NamedCond::All(parts) => parts.is_empty(),
+        NamedCond::Compare { .. } | NamedCond::Not(_) | NamedCond::Any(_) => false,
+    }
+}
+
+/// Parentheses stand round parts that are themselves all or any of parts, and behind `not` round
+/// all but a comparison.
+#[cycle(show)]
+fn push_cond(alloc: Global, out: &mut List<Symbol>, cond: &NamedCond) -> Result<(), NoMemory>
+    ensures { OnOk result (out.new ≡ out.old ++ cond_symbols cond.now) }
+{
+    match cond {
+        NamedCond::Compare { left, op, right } => {
+            push_operand(alloc, out, left)?;
+            push_op(out, *op)?;
+            push_operand(alloc, out, right)
+        }
+        NamedCond::Not(part) => {
+            push_word(alloc, out, "not")?;
+            let wrapped = !is_compare(part.get());
+            push_sign_if(out, wrapped, Sign::Open)?;
+            push_cond(alloc, out, part.get())?;
+            push_sign_if(out, wrapped, Sign::Close)
+        }
+        NamedCond::All(parts) => push_parts(alloc, out, "and", parts.as_slice()),
+        NamedCond::Any(parts) => push_parts(alloc, out, "or", parts.as_slice()),
+    }
+}
+
+#[cycle(show)]
+fn push_parts(
+    alloc: Global,
+    out: &mut List<Symbol>,
+    word: &str,
+    parts: &[NamedCond],
+) -> Result<(), NoMemory>
+    ensures { OnOk result (out.new ≡ out.old ++ joined (Symbol.Word word.now) (map shown_cond parts.now)) }
+{
+    for (i, part) in parts.iter().enumerate() {
+        push_word_if(alloc, out, i > 0, word)?;
+        let wrapped = is_many(part);
+        push_sign_if(out, wrapped, Sign::Open)?;
+        push_cond(alloc, out, part)?;
+        push_sign_if(out, wrapped, Sign::Close)?;
+    }
+    Ok(())
+}
+
+/// Adds "(" value { "," value } ")" at the end of `out`.
+pub fn push_row(alloc: Global, out: &mut List<Symbol>, values: &[Value]) -> Result<(), NoMemory>
+    ensures { OnOk result (out.new ≡ out.old ++ in_parens (listed value_symbols values.now)) }
+{
+    push_sign(out, Sign::Open)?;
+    push_values(alloc, out, values)?;
+    push_sign(out, Sign::Close)
+}
+
+fn push_where(alloc: Global, out: &mut List<Symbol>, cond: &NamedCond) -> Result<(), NoMemory>
+    ensures { OnOk result (out.new ≡ out.old ++ where_symbols cond.now) }
+{
+    if is_nothing(cond) {
+        return Ok(());
+    }
+    push_word(alloc, out, "where")?;
+    push_cond(alloc, out, cond)
+}
+
+fn push_query(alloc: Global, out: &mut List<Symbol>, query: &Query) -> Result<(), NoMemory>
+    ensures { OnOk result (out.new ≡ out.old ++ query_symbols query.now) }
+{
+    push_word(alloc, out, "retrieve")?;
+    push_sign(out, Sign::Open)?;
+    push_refs(alloc, out, query.outputs.as_slice())?;
+    push_sign(out, Sign::Close)?;
+    push_where(alloc, out, &query.cond)
+}
+
+/// Two words.
+fn push_head(
+    alloc: Global,
+    out: &mut List<Symbol>,
+    word: &str,
+    relation: &Str,
+) -> Result<(), NoMemory>
+    ensures { OnOk result (out.new ≡ out.old ++ Symbol.Word word.now ∷ Symbol.Word relation.now ∷ []) }
+{
+    push_word(alloc, out, word)?;
+    push_word(alloc, out, relation.as_str())
+}
+
+fn push_delete_where(
+    alloc: Global,
+    out: &mut List<Symbol>,
+    relation: &Str,
+    cond: &NamedCond,
+) -> Result<(), NoMemory>
+    ensures { OnOk result (out.new ≡ out.old ++ statement_symbols (Statement.DeleteWhere relation.now cond.now)) }
+{
+    push_head(alloc, out, "delete", relation)?;
+    push_word(alloc, out, "where")?;
+    push_cond(alloc, out, cond)
+}
+
+fn push_load(
+    alloc: Global,
+    out: &mut List<Symbol>,
+    relation: &Str,
+    file: &Str,
+) -> Result<(), NoMemory>
+    ensures { OnOk result (out.new ≡ out.old ++ statement_symbols (Statement.Load relation.now file.now)) }
+{
+    push_head(alloc, out, "load", relation)?;
+    push_word(alloc, out, "from")?;
+    out.push(Symbol::Text(file.copy(alloc)?))?;
+    Ok(())
+}
+
+fn push_closure(alloc: Global, out: &mut List<Symbol>, names: &[Str]) -> Result<(), NoMemory>
+    ensures { OnOk result (out.new ≡ out.old ++ statement_symbols (Statement.Closure names.now)) }
+{
+    push_word(alloc, out, "closure")?;
+    push_sign(out, Sign::Open)?;
+    push_names(alloc, out, names)?;
+    push_sign(out, Sign::Close)
+}
+
+fn push_statement(
+    alloc: Global,
+    out: &mut List<Symbol>,
+    statement: &Statement,
+) -> Result<(), NoMemory>
+    ensures { OnOk result (out.new ≡ out.old ++ statement_symbols statement.now) }
+{
+    match statement {
+        Statement::Insert { relation, row } => {
+            push_head(alloc, out, "insert", relation)?;
+            push_row(alloc, out, row.as_slice())
+        }
+        Statement::Delete { relation, row } => {
+            push_head(alloc, out, "delete", relation)?;
+            push_row(alloc, out, row.as_slice())
+        }
+        Statement::DeleteWhere { relation, cond } => push_delete_where(alloc, out, relation, cond),
+        Statement::Load { relation, file } => push_load(alloc, out, relation, file),
+        Statement::Print { relation } => push_head(alloc, out, "print", relation),
+        Statement::Schema => push_word(alloc, out, "schema"),
+        Statement::Closure { attributes } => push_closure(alloc, out, attributes.as_slice()),
+        Statement::Retrieve(query) => push_query(alloc, out, query),
+        Statement::Explain(query) => {
+            push_word(alloc, out, "explain")?;
+            push_query(alloc, out, query)
+        }
+    }
+}
+
+fn text_of(alloc: Global, symbols: &[Symbol]) -> Result<List<u8>, NoMemory>
+    ensures { IfOk result (λ text. text ≡ spaced symbols.now) }
+{
+    let mut text = Vec::new(alloc);
+    push_spaced(alloc, &mut text, symbols)?;
+    Ok(List::from_vec(text))
+}
+
+/// The text of the query, as `show` gives it for the statement that it is.
+pub fn show_query(alloc: Global, query: &Query) -> Result<List<u8>, NoMemory>
+    ensures { IfOk result (λ text. text ≡ query_text query.now) }
+{
+    let mut symbols = List::new(alloc);
+    push_query(alloc, &mut symbols, query)?;
+    text_of(alloc, symbols.as_slice())
+}
+
+/// The text of the statement, with one space between tokens and the fewest parentheses that the
+/// rules of shown conditions give.
+///
+/// It may nest deeper than the text that the statement was read from, since parts that `and` and
+/// `or` grouped by themselves are shown in parentheses.
+pub fn show(alloc: Global, statement: &Statement) -> Result<List<u8>, NoMemory>
+    ensures text { IfOk result (λ text. text ≡ statement_text statement.now) }
+    ensures read_again { ReadsAgain statement.now }
+{
+    let mut symbols = List::new(alloc);
+    push_statement(alloc, &mut symbols, statement)?;
+    text_of(alloc, symbols.as_slice())
+}

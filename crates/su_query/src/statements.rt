@@ -1,0 +1,26 @@
+//! The statements of a script.
+use crate::conditions::NamedCond;
+use crate::refs::Ref;
+use su_base::{List, Row, Str};
+
+/// `retrieve (outputs)` and its condition, which is all of nothing where there is none.
+#[derive(Debug, Drop)]
+pub struct Query {
+    pub outputs: List<Ref>,
+    pub cond: NamedCond,
+}
+
+/// One statement of a script.
+#[derive(Debug, Drop)]
+pub enum Statement {
+    Insert { relation: Str, row: Row },
+    Delete { relation: Str, row: Row },
+    /// The refs of the condition are columns: none has a variable.
+    DeleteWhere { relation: Str, cond: NamedCond },
+    Load { relation: Str, file: Str },
+    Print { relation: Str },
+    Schema,
+    Closure { attributes: List<Str> },
+    Retrieve(Query),
+    Explain(Query),
+}
