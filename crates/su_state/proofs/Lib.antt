@@ -1,0 +1,11 @@
+pub mod Added
+pub mod Breaking
+pub mod Columns
+pub mod Copying
+pub mod Empty
+pub mod Kept
+pub mod Least
+pub mod Loading
+pub mod Paired
+pub mod Staying
+pub mod Typed

@@ -1,0 +1,43 @@
+use Rattle.std.proofs.Common.{Bool, Ok, subst, ◌≡◌, ◌++◌, ◌∷◌, [], length, sym, ap, ◌∙◌, append_assoc, add-zero, ◌+◌, true, false, arith}
+use Rattle.std.proofs.lemmas.List.{length_push}
+use Rattle.std.specs.Vec.Iter.{into_iter_items}
+use Rattle.su_state.specs.Changes.{Inserts}
+use Rattle.su_state.proofs.Loading.{changes_by_insert, inserts_push, refused_at}
+use Rattle.su_state.proofs.databases.Database.insert_each.Goals as goal
+
+pub loop-row-preserved-in-Ok-true : goal.loop-row-preserved-in-Ok-true
+loop-row-preserved-in-Ok-true c =
+    let old = c.loop-row.invariant in
+    let whole : c.args.rows ≡ c.loop-row.yielded ++ (c.in-Some.row ∷ into_iter_items c.next.new.self) = old.rest ∙ ap (λ xs. c.loop-row.yielded ++ xs) c.in-Some.ensures.steps.0 in
+    let done : Inserts c.loop-row.self c.args.relation c.in-Some.row (Ok true) c.insert.new.self = subst (λ (b : Bool). Inserts c.loop-row.self c.args.relation c.in-Some.row (Ok b) c.insert.new.self) c.in-Ok-true.field-0-test c.in-Ok-true.ensures in
+    record {
+      can_next = tt;
+      finite = tt;
+      rest = whole ∙ sym (append_assoc c.loop-row.yielded (c.in-Some.row ∷ []) (into_iter_items c.next.new.self));
+      number = omega (arith, old.number, length_push c.loop-row.yielded c.in-Some.row);
+      few = omega (arith, old.few);
+      schema = ap (λ s. length s.relations) (changes_by_insert c.loop-row.self c.insert.new.self c.args.relation c.in-Some.row true done).schema ∙ old.schema;
+      inserts = inserts_push c.loop-row.yielded c.args.self.now c.loop-row.self c.insert.new.self c.args.relation c.in-Some.row c.loop-row.new true old.inserts done;
+    }
+
+pub loop-row-preserved : goal.loop-row-preserved
+loop-row-preserved c =
+    let old = c.loop-row.invariant in
+    let whole : c.args.rows ≡ c.loop-row.yielded ++ (c.in-Some.row ∷ into_iter_items c.next.new.self) = old.rest ∙ ap (λ xs. c.loop-row.yielded ++ xs) c.in-Some.ensures.steps.0 in
+    let done : Inserts c.loop-row.self c.args.relation c.in-Some.row (Ok false) c.insert.new.self = subst (λ (b : Bool). Inserts c.loop-row.self c.args.relation c.in-Some.row (Ok b) c.insert.new.self) c.in-Ok-false.field-0-test c.in-Ok-false.ensures in
+    let all = inserts_push c.loop-row.yielded c.args.self.now c.loop-row.self c.insert.new.self c.args.relation c.in-Some.row c.loop-row.new false old.inserts done in
+    record {
+      can_next = tt;
+      finite = tt;
+      rest = whole ∙ sym (append_assoc c.loop-row.yielded (c.in-Some.row ∷ []) (into_iter_items c.next.new.self));
+      number = omega (arith, old.number, length_push c.loop-row.yielded c.in-Some.row);
+      few = omega (arith, old.few);
+      schema = ap (λ s. length s.relations) (changes_by_insert c.loop-row.self c.insert.new.self c.args.relation c.in-Some.row false done).schema ∙ old.schema;
+      inserts = rw add-zero at all;
+    }
+
+pub returns-in-Err : goal.returns-in-Err
+returns-in-Err c =
+    let old = c.loop-row.invariant in
+    let whole : c.args.rows ≡ c.loop-row.yielded ++ (c.in-Some.row ∷ into_iter_items c.next.new.self) = old.rest ∙ ap (λ xs. c.loop-row.yielded ++ xs) c.in-Some.ensures.steps.0 in
+    refused_at c.args.self.now c.loop-row.self c.insert.new.self c.args.relation c.args.rows c.loop-row.yielded (into_iter_items c.next.new.self) c.in-Some.row c.loop-row.new (c.loop-row.number + 1) c.in-Err.fault c.end_of.result old.inserts c.in-Err.ensures whole (ap (λ n. n + 1) old.number) c.end_of.ensures

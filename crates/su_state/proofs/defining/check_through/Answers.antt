@@ -1,0 +1,61 @@
+use Rattle.std.proofs.Common.{◌≡◌, ◌<◌, ℕ, List, length, slice_get, get_or, Some, refl, sym, ap, subst, ◌∙◌, arith}
+use Rattle.std.proofs.lemmas.Option.{slice_get-get_or, slice_get_read}
+use Rattle.su_base.specs.declared.values.Value.{Value}
+use Rattle.su_schema.specs.SchemaValue.{ObjectEntry}
+use Rattle.su_schema.specs.Checks.{columns_at}
+use Rattle.su_state.specs.Pairs.{IsLeastPair}
+use Rattle.su_state.specs.Sides.{row_at}
+use Rattle.su_state.proofs.Columns.{columns_few, some_left, blank_object, object_on}
+use Rattle.su_state.proofs.Least.{row_there}
+use Rattle.su_state.proofs.Breaking.{of_object, own_width, breaks_through, holds_through}
+use Rattle.su_state.proofs.defining.check_through.Goals as goal
+
+pub bounds-tables-object_relation : goal.bounds-tables-object_relation
+bounds-tables-object_relation c =
+    let entry : ObjectEntry = get_or c.args.schema.now.objects c.args.object blank_object in
+    let placed : slice_get c.args.schema.now.objects c.args.object ≡ Some entry = slice_get-get_or c.args.schema.now.objects c.args.object blank_object c.requires.object in
+    let on : entry.relation ≡ c.object_relation.result = of_object (λ e. e.relation) c.args.schema.now.objects c.args.object entry c.object_relation.result placed c.object_relation.ensures in
+    subst (λ (r : ℕ). r < length c.args.tables.now) on (c.requires.tables c.args.object entry placed).0
+
+pub least_pair-requires-clause-few : goal.least_pair-requires-clause-few
+least_pair-requires-clause-few c =
+    let entry : ObjectEntry = get_or c.args.schema.now.objects c.args.object blank_object in
+    let placed : slice_get c.args.schema.now.objects c.args.object ≡ Some entry = slice_get-get_or c.args.schema.now.objects c.args.object blank_object c.requires.object in
+    let on : entry.relation ≡ c.object_relation.result = of_object (λ e. e.relation) c.args.schema.now.objects c.args.object entry c.object_relation.result placed c.object_relation.ensures in
+    let numbered : slice_get c.args.schema.now.fds c.args.fd ≡ Some c.index-fds-fd.result = slice_get_read c.args.schema.now.fds (length c.args.schema.now.fds) c.args.fd c.index-fds-fd.result refl c.requires.fd (c.index-fds-fd.is ∙ ap (λ fds. get_or fds c.args.fd c.index-fds-fd.result) c.fds.ensures) in
+    let width : c.index-tables-object_relation.result.width ≡ length (columns_at c.args.schema.now entry.relation) = own_width c.args.schema.now c.args.tables.now c.args.fd c.args.object c.object_relation.result c.index-fds-fd.result entry c.index-tables-object_relation.result numbered placed c.requires.tables on c.index-tables-object_relation.is in
+    omega (arith, width, columns_few c.args.schema.now entry.relation c.keeps_its_rules.ensures (object_on c.args.schema.now c.args.object entry c.keeps_its_rules.ensures placed))
+
+pub least_pair-requires-clause-some : goal.least_pair-requires-clause-some
+least_pair-requires-clause-some c =
+    let entry : ObjectEntry = get_or c.args.schema.now.objects c.args.object blank_object in
+    let placed : slice_get c.args.schema.now.objects c.args.object ≡ Some entry = slice_get-get_or c.args.schema.now.objects c.args.object blank_object c.requires.object in
+    let on : entry.relation ≡ c.object_relation.result = of_object (λ e. e.relation) c.args.schema.now.objects c.args.object entry c.object_relation.result placed c.object_relation.ensures in
+    let numbered : slice_get c.args.schema.now.fds c.args.fd ≡ Some c.index-fds-fd.result = slice_get_read c.args.schema.now.fds (length c.args.schema.now.fds) c.args.fd c.index-fds-fd.result refl c.requires.fd (c.index-fds-fd.is ∙ ap (λ fds. get_or fds c.args.fd c.index-fds-fd.result) c.fds.ensures) in
+    let width : c.index-tables-object_relation.result.width ≡ length (columns_at c.args.schema.now entry.relation) = own_width c.args.schema.now c.args.tables.now c.args.fd c.args.object c.object_relation.result c.index-fds-fd.result entry c.index-tables-object_relation.result numbered placed c.requires.tables on c.index-tables-object_relation.is in
+    let some = some_left c.args.schema.now c.args.object c.args.fd entry c.index-fds-fd.result c.in-Some.sides c.keeps_its_rules.ensures placed numbered (c.in-Some.ensures entry placed) in
+    (some.0, some.1, omega (arith, some.2, width))
+
+pub returns-in_ok-copy_row-in-Some-least_pair-2-clause-refused :
+    goal.returns-in_ok-copy_row-in-Some-least_pair-2-clause-refused
+returns-in_ok-copy_row-in-Some-least_pair-2-clause-refused c =
+    let entry : ObjectEntry = get_or c.args.schema.now.objects c.args.object blank_object in
+    let placed : slice_get c.args.schema.now.objects c.args.object ≡ Some entry = slice_get-get_or c.args.schema.now.objects c.args.object blank_object c.requires.object in
+    let on : entry.relation ≡ c.object_relation.result = of_object (λ e. e.relation) c.args.schema.now.objects c.args.object entry c.object_relation.result placed c.object_relation.ensures in
+    let numbered : slice_get c.args.schema.now.fds c.args.fd ≡ Some c.index-fds-fd.result = slice_get_read c.args.schema.now.fds (length c.args.schema.now.fds) c.args.fd c.index-fds-fd.result refl c.requires.fd (c.index-fds-fd.is ∙ ap (λ fds. get_or fds c.args.fd c.index-fds-fd.result) c.fds.ensures) in
+    let named = c.in_ok-new-in-Some-least_pair.ensures ∙ sym (of_object (λ e. e.name) c.args.schema.now.objects c.args.object entry c.object_name.result.now placed c.object_name.ensures) in
+    let rows = c.index-tables-object_relation.result.rows in
+    let first = row_there c.index-tables-object_relation.result.rows c.in-Some-least_pair.pair.first c.row.result.now c.row.ensures ∙ sym c.in_ok-copy_row-in-Some-least_pair.ensures in
+    let second = row_there c.index-tables-object_relation.result.rows c.in-Some-least_pair.pair.second c.row-in-Some-least_pair.result.now c.row-in-Some-least_pair.ensures ∙ sym c.in_ok-copy_row-in-Some-least_pair-2.ensures in
+    let pair : IsLeastPair c.in-Some.sides rows c.in_ok-copy_row-in-Some-least_pair.field-0 c.in_ok-copy_row-in-Some-least_pair-2.field-0 =
+    subst (λ (row : List Value). IsLeastPair c.in-Some.sides rows row c.in_ok-copy_row-in-Some-least_pair-2.field-0) first
+    (subst (λ (row : List Value). IsLeastPair c.in-Some.sides rows (row_at rows c.in-Some-least_pair.pair.first) row) second c.in-Some-least_pair.ensures.2) in
+    breaks_through c.args.schema.now c.args.tables.now c.args.fd c.args.object c.object_relation.result c.index-fds-fd.result entry c.index-tables-object_relation.result numbered placed c.requires.tables on c.index-tables-object_relation.is c.in-Some.sides c.in_ok-new-in-Some-least_pair.field-0 c.in_ok-copy_row-in-Some-least_pair.field-0 c.in_ok-copy_row-in-Some-least_pair-2.field-0 (c.in-Some.ensures entry placed) named pair
+
+pub returns-in-None-clause-holds : goal.returns-in-None-clause-holds
+returns-in-None-clause-holds c =
+    let entry : ObjectEntry = get_or c.args.schema.now.objects c.args.object blank_object in
+    let placed : slice_get c.args.schema.now.objects c.args.object ≡ Some entry = slice_get-get_or c.args.schema.now.objects c.args.object blank_object c.requires.object in
+    let on : entry.relation ≡ c.object_relation.result = of_object (λ e. e.relation) c.args.schema.now.objects c.args.object entry c.object_relation.result placed c.object_relation.ensures in
+    let numbered : slice_get c.args.schema.now.fds c.args.fd ≡ Some c.index-fds-fd.result = slice_get_read c.args.schema.now.fds (length c.args.schema.now.fds) c.args.fd c.index-fds-fd.result refl c.requires.fd (c.index-fds-fd.is ∙ ap (λ fds. get_or fds c.args.fd c.index-fds-fd.result) c.fds.ensures) in
+    holds_through c.args.schema.now c.args.tables.now c.args.fd c.args.object c.object_relation.result c.index-fds-fd.result entry c.index-tables-object_relation.result numbered placed c.requires.tables on c.index-tables-object_relation.is c.in-Some.sides (c.in-Some.ensures entry placed) c.in-None.ensures

@@ -1,0 +1,92 @@
+//! The first dependency that a new row would break.
+ghost use Rattle.std.specs.Prelude.{◌≡◌, ◌<◌, ℕ, List, length, MatchOption};
+ghost use Rattle.su_base.specs.declared.values.Value.{Value};
+ghost use Rattle.su_schema.specs.Checks.{columns_at};
+ghost use Rattle.su_state.specs.Changes.{IsBreach, IsLeastBreach, IsFirstBreach, NoBreach};
+ghost use Rattle.su_state.specs.Sides.{row_at};
+
+use crate::clashes::least_clash;
+use crate::sides::sides_through;
+use su_base::Row;
+use su_index::Table;
+use su_schema::Schema;
+
+/// An object, and the position of the least stored row with which a row breaks a dependency through it.
+#[derive(Drop)]
+pub struct Through {
+    pub object: u8,
+    pub position: usize,
+}
+
+/// The first dependency that a row would break, the first object through which it would, and the
+/// position of the least stored row with which it would.
+#[derive(Drop)]
+pub struct Breach {
+    pub fd: u16,
+    pub object: u8,
+    pub position: usize,
+}
+
+/// The position of the least stored row with which the row breaks the dependency through the object.
+fn breach_through(
+    schema: &Schema,
+    table: &Table,
+    relation: u8,
+    row: &Row,
+    fd: u16,
+    object: u8,
+) -> Option<usize>
+    requires relation { relation < length schema.now.relations }
+    requires width { table.now.width ≡ length (columns_at schema.now relation) }
+    requires row { length row.now ≡ table.now.width }
+    requires fd { fd < length schema.now.fds }
+    requires object { object < length schema.now.objects }
+    ensures { MatchOption result ((other : List Value) → ¬ IsBreach schema.now relation table.now.rows row.now fd object other) (λ p. (p < length table.now.rows) × IsLeastBreach schema.now relation table.now.rows row.now fd object (row_at table.now.rows p)) }
+{
+    schema.keeps_its_rules();
+    if schema.object_relation(object) != relation {
+        return None;
+    }
+    match sides_through(schema, &schema.fds()[fd as usize], object) {
+        Some(sides) => least_clash(table, &sides, row),
+        None => None,
+    }
+}
+
+/// The first object of the relation through which the row would break the dependency.
+fn breach_of(schema: &Schema, table: &Table, relation: u8, row: &Row, fd: u16) -> Option<Through>
+    requires relation { relation < length schema.now.relations }
+    requires width { table.now.width ≡ length (columns_at schema.now relation) }
+    requires row { length row.now ≡ table.now.width }
+    requires fd { fd < length schema.now.fds }
+    ensures { MatchOption result ((o : ℕ) (other : List Value) → ¬ IsBreach schema.now relation table.now.rows row.now fd o other) (λ b. (b.position < length table.now.rows) × IsLeastBreach schema.now relation table.now.rows row.now fd b.object (row_at table.now.rows b.position) × ((o : ℕ) (other : List Value) → o < b.object → ¬ IsBreach schema.now relation table.now.rows row.now fd o other)) }
+{
+    schema.keeps_its_rules();
+    for object in 0..schema.objects() as u8 {
+        if let Some(position) = breach_through(schema, table, relation, row, fd, object) {
+            return Some(Through { object, position });
+        }
+    }
+    None
+}
+
+/// The first breach of an enforced dependency. Only the rows are looked at that have the row's value
+/// in one left column of the dependency, that in which the fewest have it.
+pub fn first_breach(schema: &Schema, table: &Table, relation: u8, row: &Row) -> Option<Breach>
+    requires relation { relation < length schema.now.relations }
+    requires width { table.now.width ≡ length (columns_at schema.now relation) }
+    requires row { length row.now ≡ table.now.width }
+    ensures { MatchOption result (NoBreach schema.now relation table.now.rows row.now) (λ b. (b.position < length table.now.rows) × IsFirstBreach schema.now relation table.now.rows row.now b.fd b.object (row_at table.now.rows b.position)) }
+{
+    schema.keeps_its_rules();
+    for fd in 0..schema.fds().len() as u16 {
+        if let Some(through) = breach_of(schema, table, relation, row, fd) {
+            return Some(Breach {
+                fd,
+                object: through.object,
+                position: through.position,
+            });
+        }
+    }
+    None
+}

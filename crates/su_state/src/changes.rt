@@ -1,0 +1,64 @@
+//! Inserts and deletes of single rows.
+ghost use Rattle.std.specs.Prelude.{◌≡◌, ◌<◌, length};
+ghost use Rattle.su_state.specs.Changes.{InsertAnswers, Inserts, Deletes};
+
+use crate::breaches::first_breach;
+use crate::checks::check_row;
+use crate::databases::Database;
+use crate::faults::StateFault;
+use su_base::{Row, copy_row};
+
+/// A relation has at most so many rows.
+const MOST: usize = 1_000_000;
+
+impl Database {
+    /// What an insert of the row answers.
+    fn insert_answer(&self, relation: u8, row: &Row) -> Result<bool, StateFault>
+        requires { relation < length self.now.schema.relations }
+        ensures { InsertAnswers self.now relation row.now result }
+    {
+        self.schema.keeps_its_rules();
+        check_row(relation, self.schema.columns(relation), row)?;
+        let table = &self.tables[relation as usize];
+        if table.has(row) {
+            return Ok(false);
+        }
+        if let Some(breach) = first_breach(&self.schema, table, relation, row) {
+            let row = copy_row(self.alloc, table.row(breach.position))?;
+            return Err(StateFault::Breaks {
+                relation,
+                fd: breach.fd,
+                object: breach.object,
+                row,
+            });
+        }
+        if table.len() >= MOST {
+            return Err(StateFault::Limit { relation });
+        }
+        Ok(true)
+    }
+
+    /// Puts the row in, and answers whether it is new. Under each enforced dependency only the rows
+    /// are looked at that have the row's value in one of its left columns.
+    pub fn insert(&mut self, relation: u8, row: Row) -> Result<bool, StateFault>
+        requires { relation < length self.old.schema.relations }
+        ensures { Inserts self.old relation row result self.new }
+    {
+        if !self.insert_answer(relation, &row)? {
+            return Ok(false);
+        }
+        match self.tables[relation as usize].insert(row) {
+            Ok(_) => Ok(true),
+            Err(_) => Err(StateFault::NoMemory),
+        }
+    }
+
+    /// Takes the row out, and answers whether it was there. It takes no memory.
+    pub fn delete(&mut self, relation: u8, row: &Row) -> Result<bool, StateFault>
+        requires { relation < length self.old.schema.relations }
+        ensures { Deletes self.old relation row.now result self.new }
+    {
+        check_row(relation, self.schema.columns(relation), row)?;
+        Ok(self.tables[relation as usize].remove(row))
+    }
+}

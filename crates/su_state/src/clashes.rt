@@ -1,0 +1,92 @@
+//! The least row of a table with which a row clashes.
+ghost use Rattle.std.specs.Prelude.{◌≡◌, ◌<◌, ◌≤◌, ℕ, List, length, slice_get, Some, IsTrue, MatchOption, Contains};
+ghost use Rattle.std.specs.Ordering.{is_lt};
+ghost use Rattle.std.specs.FinSet as set;
+ghost use Rattle.su_base.specs.Value.{compare_lists};
+ghost use Rattle.su_base.specs.declared.values.Value.{Value as Stored};
+ghost use Rattle.su_state.specs.Sides.{Clash, IsLeastClash, IsLesser, row_at};
+
+use crate::sides::{Sides, clash};
+use std::cmp::Ordering;
+use su_base::{AttrSet, Row, compare_rows};
+use su_index::Table;
+
+/// Whether the row comes before the other.
+pub fn is_before(a: &Row, b: &Row) -> bool
+    ensures { result ≡ is_lt (compare_lists a.now b.now) }
+{
+    compare_rows(a, b) == Ordering::Less
+}
+
+/// One of the columns: that in which the fewest rows have the row's value.
+fn fewest(table: &Table, columns: AttrSet, row: &Row) -> u8
+    requires width { length row.now ≡ table.now.width }
+    requires some { (c : ℕ) × IsTrue (set.contains columns c) × (c < table.now.width) }
+    ensures column { IsTrue (set.contains columns result) }
+    ensures within { result < table.now.width }
+{
+    let mut best = None;
+    let mut least = usize::MAX;
+    for c in 0..table.width() {
+        if columns.contains(c) {
+            let count = table.matching(c, row.get(c as usize));
+            if count <= least {
+                best = Some(c);
+                least = count;
+            }
+        }
+    }
+    match best {
+        Some(c) => c,
+        None => unreachable!(),
+    }
+}
+
+/// The position of the lesser of two rows with which the row clashes.
+fn lesser(
+    table: &Table,
+    sides: &Sides,
+    row: &Row,
+    least: Option<usize>,
+    position: usize,
+) -> Option<usize>
+    requires width { length row.now ≡ table.now.width }
+    requires few { table.now.width ≤ 32 }
+    requires within { position < length table.now.rows }
+    requires least { MatchOption least (0 ≤ 0) (λ q. q < length table.now.rows) }
+    ensures { IsLesser sides.now table.now.rows row.now least position result }
+{
+    let _rows = table.as_slice();
+    let other = table.row(position);
+    if !clash(sides, row, other) {
+        return least;
+    }
+    match least {
+        Some(q) => {
+            if is_before(other, table.row(q)) {
+                Some(position)
+            } else {
+                Some(q)
+            }
+        }
+        None => Some(position),
+    }
+}
+
+/// The position of the least row with which the row clashes. Only the rows that have the row's value
+/// in one column of the left side are looked at.
+pub fn least_clash(table: &Table, sides: &Sides, row: &Row) -> Option<usize>
+    requires width { length row.now ≡ table.now.width }
+    requires few { table.now.width ≤ 32 }
+    requires some { (c : ℕ) × IsTrue (set.contains sides.now.left c) × (c < table.now.width) }
+    ensures { MatchOption result ((other : List Stored) → Contains table.now.rows other → ¬ Clash sides.now row.now other) (λ p. (p < length table.now.rows) × IsLeastClash sides.now table.now.rows row.now (row_at table.now.rows p)) }
+{
+    let column = fewest(table, sides.left, row);
+    let value = row.get(column as usize);
+    let mut least = None;
+    for k in 0..table.matching(column, value) {
+        let position = table.matched(column, value, k);
+        least = lesser(table, sides, row, least, position);
+    }
+    least
+}

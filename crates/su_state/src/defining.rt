@@ -1,0 +1,159 @@
+//! Definitions in a database.
+ghost use Rattle.std.specs.Prelude.{◌≡◌, ◌<◌, ℕ, length, IfOk, OnOk, IfErr, OnErr};
+ghost use Rattle.su_schema.specs.Defining.{IsWellNamed, applied};
+ghost use Rattle.su_state.specs.Definitions.{HoldsThrough, Defines, tables_with};
+ghost use Rattle.su_state.specs.Adding.{HaveTables, HasAdded, IsNarrow, AddedHolds, IsThroughFault, IsFdFault, IsObjectFault, IsAddedFault, IsSchemaFault};
+
+use crate::databases::Database;
+use crate::faults::DefineFault;
+use crate::pairs::least_pair;
+use crate::sides::sides_through;
+use std::alloc::Global;
+use su_base::{NoMemory, Str, copy_row};
+use su_fd::Fd;
+use su_index::Table;
+use su_schema::{Definition, Schema, SchemaFault};
+
+/// Refuses rows that break the dependency through the object.
+fn check_through(
+    alloc: Global,
+    schema: &Schema,
+    tables: &[Table],
+    fd: u16,
+    object: u8,
+) -> Result<(), DefineFault>
+    requires tables { HaveTables schema.now tables.now }
+    requires fd { fd < length schema.now.fds }
+    requires object { object < length schema.now.objects }
+    ensures holds { OnOk result (HoldsThrough schema.now tables.now fd object) }
+    ensures refused { IfErr result (IsThroughFault schema.now tables.now fd object) }
+{
+    schema.keeps_its_rules();
+    let dependency = &schema.fds()[fd as usize];
+    let Some(sides) = sides_through(schema, dependency, object) else {
+        return Ok(());
+    };
+    let table = &tables[schema.object_relation(object) as usize];
+    match least_pair(table, &sides) {
+        Some(pair) => Err(DefineFault::Breaks {
+            fd: Fd {
+                left: dependency.left,
+                right: dependency.right,
+            },
+            object: Str::new(alloc, schema.object_name(object))?,
+            first: copy_row(alloc, table.row(pair.first))?,
+            second: copy_row(alloc, table.row(pair.second))?,
+        }),
+        None => Ok(()),
+    }
+}
+
+/// Refuses rows that break the dependency through an object; the first such object is named.
+fn check_fd(alloc: Global, schema: &Schema, tables: &[Table], fd: u16) -> Result<(), DefineFault>
+    requires tables { HaveTables schema.now tables.now }
+    requires fd { fd < length schema.now.fds }
+    ensures holds { OnOk result ((o : ℕ) → HoldsThrough schema.now tables.now fd o) }
+    ensures refused { IfErr result (IsFdFault schema.now tables.now fd) }
+{
+    schema.keeps_its_rules();
+    for object in 0..schema.objects() as u8 {
+        check_through(alloc, schema, tables, fd, object)?;
+    }
+    Ok(())
+}
+
+/// Refuses rows that break a dependency through the object; the first such dependency is named.
+fn check_object(
+    alloc: Global,
+    schema: &Schema,
+    tables: &[Table],
+    object: u8,
+) -> Result<(), DefineFault>
+    requires tables { HaveTables schema.now tables.now }
+    requires object { object < length schema.now.objects }
+    ensures holds { OnOk result ((f : ℕ) → HoldsThrough schema.now tables.now f object) }
+    ensures refused { IfErr result (IsObjectFault schema.now tables.now object) }
+{
+    schema.keeps_its_rules();
+    for fd in 0..schema.fds().len() as u16 {
+        check_through(alloc, schema, tables, fd, object)?;
+    }
+    Ok(())
+}
+
+/// Refuses rows that break the dependency or the object that the definition has added.
+fn check_added(
+    alloc: Global,
+    schema: &Schema,
+    tables: &[Table],
+    definition: &Definition,
+) -> Result<(), DefineFault>
+    requires tables { HaveTables schema.now tables.now }
+    requires added { HasAdded schema.now definition.now }
+    ensures holds { OnOk result (AddedHolds schema.now tables.now definition.now) }
+    ensures refused { IfErr result (IsAddedFault schema.now tables.now definition.now) }
+{
+    schema.keeps_its_rules();
+    match definition {
+        Definition::Fd { .. } => {
+            check_fd(alloc, schema, tables, (schema.fds().len() - 1) as u16)
+        }
+        Definition::Object { .. } => {
+            check_object(alloc, schema, tables, (schema.objects() - 1) as u8)
+        }
+        _ => Ok(()),
+    }
+}
+
+/// The schema with the definition.
+fn extended(schema: &Schema, definition: &Definition) -> Result<Schema, DefineFault>
+    requires { IsWellNamed definition.now }
+    ensures ok { IfOk result (λ extended. applied schema.now definition.now ≡ Ok extended) }
+    ensures refused { IfErr result (IsSchemaFault schema.now definition.now) }
+{
+    let mut copy = schema.copy()?;
+    match copy.define(definition) {
+        Ok(()) => Ok(copy),
+        Err(SchemaFault::NoMemory) => Err(DefineFault::NoMemory),
+        Err(fault) => Err(DefineFault::Schema(fault)),
+    }
+}
+
+/// Adds a table without rows for a new relation.
+fn add_table(
+    alloc: Global,
+    tables: &mut Vec<Table>,
+    definition: &Definition,
+) -> Result<(), NoMemory>
+    requires { IsNarrow definition.now }
+    ensures ok { OnOk result (tables.new.items ≡ tables_with definition.now tables.old.items) }
+    ensures unchanged { OnErr result (tables.new.items ≡ tables.old.items) }
+{
+    match definition {
+        Definition::Relation { columns, .. } => {
+            let table = Table::new(alloc, columns.len() as u8)?;
+            match tables.push(table) {
+                Ok(()) => Ok(()),
+                Err(_) => Err(NoMemory),
+            }
+        }
+        _ => Ok(()),
+    }
+}
+
+impl Database {
+    /// Adds the definition at the end of its list; a relation has no rows yet, and all rows stay.
+    /// A dependency or an object that doesn't hold on the stored rows is refused: each row of the
+    /// relations that it is about is looked at once, with those that have its value in one left
+    /// column.
+    pub fn define(&mut self, definition: &Definition) -> Result<(), DefineFault>
+        requires { IsWellNamed definition.now }
+        ensures { Defines self.old definition.now result self.new }
+    {
+        let schema = extended(&self.schema, definition)?;
+        check_added(self.alloc, &schema, self.tables.as_slice(), definition)?;
+        add_table(self.alloc, &mut self.tables, definition)?;
+        self.schema = schema;
+        Ok(())
+    }
+}

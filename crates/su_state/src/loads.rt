@@ -1,0 +1,60 @@
+//! Loads of many rows.
+ghost use Rattle.std.specs.Prelude.{◌<◌, length};
+ghost use Rattle.su_state.specs.Loads.{Loads, InsertsSome, IsEnd};
+
+use crate::copies::copy_table;
+use crate::databases::Database;
+use crate::faults::{LoadEnd, LoadFault, StateFault};
+use std::mem::replace;
+use su_base::{List, Row};
+
+/// How a load ends where the insert of the row with this number is refused.
+fn end_of(number: u64, fault: StateFault) -> LoadEnd
+    ensures { IsEnd number fault result }
+{
+    match fault {
+        StateFault::NoMemory => LoadEnd::NoMemory,
+        fault => LoadEnd::Refused(LoadFault { number, fault }),
+    }
+}
+
+impl Database {
+    /// Inserts the rows one after another until one is refused, and answers how many were new.
+    fn insert_each(&mut self, relation: u8, rows: List<Row>) -> Result<u64, LoadEnd>
+        requires { relation < length self.old.schema.relations }
+        ensures { InsertsSome self.old relation rows result self.new }
+    {
+        let mut number = 0;
+        let mut new = 0;
+        for row in rows.into_vec() {
+            number += 1;
+            match self.insert(relation, row) {
+                Ok(true) => new += 1,
+                Ok(false) => {}
+                Err(fault) => return Err(end_of(number, fault)),
+            }
+        }
+        Ok(new)
+    }
+
+    /// Inserts the rows one after another, and answers how many were new. The first row that is
+    /// refused refuses them all, and none is put in.
+    ///
+    /// The rows go into a copy of the table, so beside its inserts a load takes the time and the
+    /// memory of a copy of the rows that are there.
+    pub fn load(&mut self, relation: u8, rows: List<Row>) -> Result<u64, LoadEnd>
+        requires { relation < length self.old.schema.relations }
+        ensures { Loads self.old relation rows result self.new }
+    {
+        let place = relation as usize;
+        let copy = copy_table(self.alloc, &self.tables[place])?;
+        let before = replace(&mut self.tables[place], copy);
+        match self.insert_each(relation, rows) {
+            Ok(new) => Ok(new),
+            Err(end) => {
+                self.tables[place] = before;
+                Err(end)
+            }
+        }
+    }
+}
