@@ -1,0 +1,4 @@
+pub mod Refusals
+pub mod Refusing
+pub mod Replies
+pub mod Values

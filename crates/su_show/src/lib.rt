@@ -1,0 +1,28 @@
+//! The texts of replies, byte for byte.
+//!
+//! Each text is made in one buffer, in time linear in its length. A number that is none of the schema's
+//! is shown as an empty name; want of memory is no text and is handed on.
+#![tactic(auto)]
+
+mod closures;
+mod columns;
+mod crossing;
+mod parts;
+mod refusals;
+mod refusing;
+mod row_lists;
+mod schemas;
+mod statement_refusal;
+mod values;
+
+pub use closures::closure;
+pub use refusals::{cause, ddl_fault};
+pub use refusing::refusal;
+pub use row_lists::rows;
+pub use schemas::schema;
+pub use statement_refusal::Refusal;
+
+#[cfg(test)]
+mod statement_tests;
+#[cfg(test)]
+mod tests;

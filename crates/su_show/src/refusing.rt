@@ -1,0 +1,223 @@
+//! The line of a refused statement.
+ghost use Rattle.std.specs.Prelude.{◌≡◌, ◌++◌, codes, decimal, flat_map, IfOk, OnOk};
+ghost use Rattle.su_show.specs.Refusing.{kind_text, query_limit_text, query_text, column_text, state_text, record_text, csv_text, variable_text, define_text, refusal_text, refusal_line, IsQueryMemory, IsStateMemory, IsCsvMemory, IsDefineMemory, IsNoMemory};
+ghost use Rattle.su_show.specs.Values.{attributes_text};
+ghost use Rattle.su_show.specs.Refusals.{cause_text};
+
+use crate::closures::fd_at;
+use crate::columns::{column_name, width};
+use crate::parts::{push, push_all, push_number};
+use crate::refusals::cause;
+use crate::statement_refusal::Refusal;
+use crate::values::{push_attributes, push_fd, push_row};
+use std::alloc::Global;
+use su_base::{AttrSet, Kind, List, NoMemory, Str};
+use su_csv::CsvFault;
+use su_query::{QueryFault, QueryLimit};
+use su_schema::{Schema, SchemaFault};
+use su_state::{DefineFault, LoadFault, StateFault};
+
+fn kind(kind: Kind) -> &'static str
+    ensures { result.now ≡ kind_text kind }
+{
+    match kind {
+        Kind::Int => "int",
+        Kind::Text => "text",
+    }
+}
+
+fn query_limit(limit: QueryLimit) -> &'static str
+    ensures { result.now ≡ query_limit_text limit }
+{
+    match limit {
+        QueryLimit::Nesting => "limit nesting 64",
+        QueryLimit::Variables => "limit variables 8",
+        QueryLimit::Outputs => "limit outputs 128",
+        QueryLimit::Comparisons => "limit comparisons 256",
+    }
+}
+
+fn push_query(out: &mut Vec<u8>, fault: &QueryFault) -> Result<(), NoMemory>
+    ensures text { OnOk result (out.new.items ≡ out.old.items ++ query_text fault.now) }
+    ensures told { OnOk result (¬ IsQueryMemory fault.now) }
+{
+    match fault {
+        QueryFault::Syntax => push(out, "syntax"),
+        QueryFault::Limit(limit) => push(out, query_limit(*limit)),
+        QueryFault::NoMemory => Err(NoMemory),
+        QueryFault::Unknown(name) => push_all(out, &["unknown attribute ", name.as_str()]),
+        QueryFault::Kinds { left, right } => {
+            push_all(out, &["kinds ", kind(*left), " and ", kind(*right)])
+        }
+        QueryFault::UnknownColumn(name) => push_all(out, &["unknown column ", name.as_str()]),
+    }
+}
+
+fn push_kind_of(out: &mut Vec<u8>, column: &str) -> Result<(), NoMemory>
+    ensures { OnOk result (out.new.items ≡ out.old.items ++ (codes "kind of column " ++ column.now)) }
+{
+    push_all(out, &["kind of column ", column])
+}
+
+fn push_not_covered(
+    alloc: Global,
+    out: &mut Vec<u8>,
+    schema: &Schema,
+    name: &Option<Str>,
+    mentioned: AttrSet,
+) -> Result<(), NoMemory>
+    ensures { OnOk result (out.new.items ≡ out.old.items ++ codes "no maximal object covers " ++ variable_text name.now ++ codes ":" ++ attributes_text schema.now mentioned) }
+{
+    push(out, "no maximal object covers ")?;
+    push(out, variable(name))?;
+    push(out, ":")?;
+    push_attributes(alloc, out, schema, mentioned)
+}
+
+fn push_width(alloc: Global, out: &mut Vec<u8>, given: u64, wanted: u64) -> Result<(), NoMemory>
+    ensures { OnOk result (out.new.items ≡ out.old.items ++ codes "width " ++ decimal given ++ codes ", relation has " ++ decimal wanted) }
+{
+    let given = given.to_string(alloc)?;
+    let wanted = wanted.to_string(alloc)?;
+    let parts = ["width ", given.as_str(), ", relation has ", wanted.as_str()];
+    push_all(out, &parts)
+}
+
+fn push_state(
+    alloc: Global,
+    out: &mut Vec<u8>,
+    schema: &Schema,
+    fault: &StateFault,
+) -> Result<(), NoMemory>
+    ensures text { OnOk result (out.new.items ≡ out.old.items ++ state_text schema.now fault.now) }
+    ensures told { OnOk result (¬ IsStateMemory fault.now) }
+{
+    match fault {
+        StateFault::UnknownRelation(name) => push_all(out, &["unknown relation ", name.as_str()]),
+        StateFault::Width { relation, given } => {
+            push_width(alloc, out, *given, width(schema, *relation) as u64)
+        }
+        StateFault::Kind { relation, column } => {
+            push_kind_of(out, column_name(schema, *relation, *column))
+        }
+        StateFault::Breaks { fd, row, .. } => {
+            push(out, "breaks ")?;
+            push_fd(alloc, out, schema, &fd_at(schema, *fd))?;
+            push(out, " with row ")?;
+            push_row(alloc, out, row)
+        }
+        StateFault::Limit { .. } => push(out, "limit relation 1000000"),
+        StateFault::NoMemory => Err(NoMemory),
+    }
+}
+
+fn push_record(alloc: Global, out: &mut Vec<u8>, number: u64, said: &[&str]) -> Result<(), NoMemory>
+    ensures { OnOk result (out.new.items ≡ out.old.items ++ record_text number (flat_map (λ part. part.now) said.now)) }
+{
+    push(out, "record ")?;
+    push_number(alloc, out, number)?;
+    push(out, ": ")?;
+    push_all(out, said)
+}
+
+fn push_csv(
+    alloc: Global,
+    out: &mut Vec<u8>,
+    schema: &Schema,
+    relation: u8,
+    fault: CsvFault,
+) -> Result<(), NoMemory>
+    ensures text { OnOk result (out.new.items ≡ out.old.items ++ csv_text schema.now relation fault) }
+    ensures told { OnOk result (¬ IsCsvMemory fault) }
+{
+    match fault {
+        CsvFault::Header => push(out, "header"),
+        CsvFault::TooMany => push(out, "limit records 1000000"),
+        CsvFault::Width { number } => push_record(alloc, out, number, &["width"]),
+        CsvFault::NotInt { number, column } => {
+            let name = column_name(schema, relation, column);
+            push_record(alloc, out, number, &["column ", name, " is no number"])
+        }
+        CsvFault::NotText { number, column } => {
+            let name = column_name(schema, relation, column);
+            push_record(alloc, out, number, &["column ", name, " is no text"])
+        }
+        CsvFault::NoMemory => Err(NoMemory),
+    }
+}
+
+fn variable(variable: &Option<Str>) -> &str
+    ensures { result.now ≡ variable_text variable.now }
+{
+    match variable {
+        Some(name) => name.as_str(),
+        None => "-",
+    }
+}
+
+fn push_define(
+    alloc: Global,
+    out: &mut Vec<u8>,
+    schema: &Schema,
+    fault: &DefineFault,
+) -> Result<(), NoMemory>
+    ensures text { OnOk result (out.new.items ≡ out.old.items ++ define_text schema.now fault.now) }
+    ensures told { OnOk result (¬ IsDefineMemory fault.now) }
+{
+    match fault {
+        DefineFault::Schema(SchemaFault::NoMemory) => Err(NoMemory),
+        DefineFault::Schema(fault) => push(out, cause(alloc, fault)?.as_str()),
+        DefineFault::Breaks {
+            fd,
+            first,
+            second,
+            ..
+        } => {
+            push(out, "breaks ")?;
+            push_fd(alloc, out, schema, fd)?;
+            push(out, " with rows ")?;
+            push_row(alloc, out, first)?;
+            push(out, " and ")?;
+            push_row(alloc, out, second)
+        }
+        DefineFault::NoMemory => Err(NoMemory),
+    }
+}
+
+fn push_refusal(
+    alloc: Global,
+    out: &mut Vec<u8>,
+    schema: &Schema,
+    refusal: &Refusal,
+) -> Result<(), NoMemory>
+    ensures text { OnOk result (out.new.items ≡ out.old.items ++ refusal_text schema.now refusal.now) }
+    ensures told { OnOk result (¬ IsNoMemory refusal.now) }
+{
+    match refusal {
+        Refusal::Query(fault) => push_query(out, fault),
+        Refusal::State(fault) => push_state(alloc, out, schema, fault),
+        Refusal::Record(LoadFault { number, fault }) => {
+            push_record(alloc, out, *number, &[])?;
+            push_state(alloc, out, schema, fault)
+        }
+        Refusal::Csv(relation, fault) => push_csv(alloc, out, schema, *relation, *fault),
+        Refusal::NotCovered {
+            variable,
+            mentioned,
+        } => push_not_covered(alloc, out, schema, variable, *mentioned),
+        Refusal::Define(fault) => push_define(alloc, out, schema, fault),
+        Refusal::Later => push(out, "later"),
+    }
+}
+
+/// The line of a refused statement, with its line feed. Want of memory is no refusal and is handed on.
+pub fn refusal(alloc: Global, schema: &Schema, refusal: &Refusal) -> Result<List<u8>, NoMemory>
+    ensures line { IfOk result (λ text. text ≡ refusal_line schema.now refusal.now) }
+    ensures of_text { OnOk result (¬ IsNoMemory refusal.now) }
+{
+    let mut out = Vec::new(alloc);
+    push(&mut out, "refused: ")?;
+    push_refusal(alloc, &mut out, schema, refusal)?;
+    push(&mut out, "\n")?;
+    Ok(List::from_vec(out))
+}

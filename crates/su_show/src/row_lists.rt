@@ -1,0 +1,22 @@
+//! Rows under a header.
+ghost use Rattle.std.specs.Prelude.{◌≡◌, ◌<◌, length, All, IfOk};
+ghost use Rattle.su_show.specs.Replies.{rows_text};
+
+use crate::parts::{push, push_number};
+use std::alloc::Global;
+use su_base::{List, NoMemory, Row, Str};
+use su_csv::write;
+
+/// The number of the rows, then the CSV text of the header and the rows. Each row has the header's
+/// length.
+pub fn rows(alloc: Global, header: &[Str], rows: &[Row]) -> Result<List<u8>, NoMemory>
+    ensures { IfOk result (λ text. text ≡ rows_text header.now rows.now) }
+{
+    let mut out = Vec::new(alloc);
+    push(&mut out, "rows ")?;
+    push_number(alloc, &mut out, rows.len() as u64)?;
+    push(&mut out, "\n")?;
+    let table = write(alloc, header, rows)?;
+    out.extend_from_slice(table.as_slice())?;
+    Ok(List::from_vec(out))
+}
