@@ -11,67 +11,91 @@ pub struct Reply {
     pub bytes: List<u8>,
 }
 
+// The text of a reply as it grows.
+#[derive(Drop)]
+pub(crate) struct Text {
+    bytes: Vec<u8>,
+}
+
+impl Text {
+    pub(crate) fn new(alloc: Global) -> Text {
+        Text {
+            bytes: Vec::new(alloc),
+        }
+    }
+
+    pub(crate) fn push(&mut self, part: &str) -> Result<(), NoMemory> {
+        self.push_bytes(part.as_bytes())
+    }
+
+    pub(crate) fn push_bytes(&mut self, part: &[u8]) -> Result<(), NoMemory> {
+        self.bytes.extend_from_slice(part)?;
+        Ok(())
+    }
+
+    pub(crate) fn into_reply(self, refused: bool) -> Reply
+        ensures { result.refused ≡ refused }
+    {
+        Reply {
+            refused,
+            bytes: List::from_vec(self.bytes),
+        }
+    }
+}
+
 pub(crate) fn refusal(alloc: Global, parts: &[&str]) -> Result<Reply, NoMemory>
     ensures { IfOk result (λ reply. reply.refused ≡ true) }
 {
-    let mut text = Vec::new(alloc);
-    text.extend_from_slice(b"refused: ")?;
+    let mut text = Text::new(alloc);
+    text.push("refused: ")?;
     for part in parts {
-        text.extend_from_slice(part.as_bytes())?;
+        text.push(part)?;
     }
-    text.extend_from_slice(b"\n")?;
-    Ok(Reply {
-        refused: true,
-        bytes: List::from_vec(text),
-    })
+    text.push("\n")?;
+    Ok(text.into_reply(true))
+}
+
+pub(crate) fn later(alloc: Global) -> Result<Reply, NoMemory>
+    ensures { IfOk result (λ reply. reply.refused ≡ true) }
+{
+    refusal(alloc, &["later"])
 }
 
 pub(crate) fn accepted(alloc: Global, line: &str) -> Result<Reply, NoMemory>
     ensures { IfOk result (λ reply. reply.refused ≡ false) }
 {
-    let mut text = Vec::new(alloc);
-    text.extend_from_slice(line.as_bytes())?;
-    text.extend_from_slice(b"\n")?;
-    Ok(Reply {
-        refused: false,
-        bytes: List::from_vec(text),
-    })
+    let mut text = Text::new(alloc);
+    text.push(line)?;
+    text.push("\n")?;
+    Ok(text.into_reply(false))
 }
 
 // The number of the rows, the names and the rows.
 pub(crate) fn rows(alloc: Global, names: &[Str], rows: &[Row]) -> Result<Reply, NoMemory> {
-    let mut text = Vec::new(alloc);
-    let count = format!(in alloc; "rows {}\n", rows.len())?;
-    text.extend_from_slice(count.as_bytes())?;
+    let mut text = Text::new(alloc);
+    text.push(format!(in alloc; "rows {}\n", rows.len())?.as_str())?;
     for (i, name) in names.iter().enumerate() {
         if i > 0 {
-            text.extend_from_slice(b",")?;
+            text.push(",")?;
         }
-        text.extend_from_slice(name.as_str().as_bytes())?;
+        text.push(name.as_str())?;
     }
-    text.extend_from_slice(b"\n")?;
+    text.push("\n")?;
     for row in rows {
         push_row(alloc, &mut text, row)?;
     }
-    Ok(Reply {
-        refused: false,
-        bytes: List::from_vec(text),
-    })
+    Ok(text.into_reply(false))
 }
 
-fn push_row(alloc: Global, text: &mut Vec<u8>, row: &Row) -> Result<(), NoMemory> {
+fn push_row(alloc: Global, text: &mut Text, row: &Row) -> Result<(), NoMemory> {
     for (i, value) in row.as_slice().iter().enumerate() {
         if i > 0 {
-            text.extend_from_slice(b",")?;
+            text.push(",")?;
         }
         match value {
-            Value::Int(number) => {
-                let number = format!(in alloc; "{number}")?;
-                text.extend_from_slice(number.as_bytes())?;
-            }
-            Value::Text(field) => text.extend_from_slice(field.as_str().as_bytes())?,
+            Value::Int(number) => text.push(format!(in alloc; "{number}")?.as_str())?,
+            Value::Text(field) => text.push(field.as_str())?,
         }
     }
-    text.extend_from_slice(b"\n")?;
-    Ok(())
+    text.push("\n")
 }

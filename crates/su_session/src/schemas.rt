@@ -1,65 +1,49 @@
-//! The schema of the first path.
-use su_base::{Column, List, Str};
+//! The statement `schema`, and names of attributes.
+use crate::replies::{Reply, Text};
+use crate::sessions::Session;
+use su_base::{AttrSet, NoMemory};
+use su_ddl::show;
+use su_schema::Schema;
 
-/// A stored relation.
-#[derive(Drop)]
-pub struct StoredRelation {
-    pub name: Str,
-    pub columns: List<Column>,
-}
-
-/// Attributes of one relation, each under the name of its column: pairs of an attribute's number and
-/// a column's place.
-#[derive(Drop)]
-pub struct Object {
-    pub name: Str,
-    pub relation: usize,
-    pub pairs: List<(usize, usize)>,
-}
-
-/// Attributes, relations and objects in declaration order. No attribute is in two objects.
-#[derive(Drop)]
-pub struct Schema {
-    pub attributes: List<Column>,
-    pub relations: List<StoredRelation>,
-    pub objects: List<Object>,
-}
-
-// The place of a name among columns.
-pub(crate) fn find_column(columns: &[Column], name: &str) -> Option<usize> {
-    columns
-        .iter()
-        .position(|column| column.name.as_str() == name)
-}
-
-impl Schema {
-    pub(crate) fn find_relation(&self, name: &str) -> Option<usize> {
-        self.relations
-            .as_slice()
-            .iter()
-            .position(|relation| relation.name.as_str() == name)
-    }
-
-    pub(crate) fn has_object(&self, name: &str) -> bool {
-        self.objects
-            .as_slice()
-            .iter()
-            .any(|object| object.name.as_str() == name)
-    }
-
-    // Whether an object has the attribute.
-    pub(crate) fn is_taken(&self, attribute: usize) -> bool {
-        self.objects
-            .as_slice()
-            .iter()
-            .any(|object| has_attribute(object, attribute))
+impl Session {
+    // The schema as it is written, and its maximal objects.
+    pub(crate) fn show(&self) -> Result<Reply, NoMemory> {
+        let mut text = Text::new(self.alloc);
+        text.push_bytes(show(self.alloc, &self.schema)?.as_slice())?;
+        self.schema.keeps_its_rules();
+        let declared = self.schema.declared().len();
+        for (k, objects) in self.maximal.as_slice().iter().enumerate() {
+            let kind = if k < declared { "declared" } else { "computed" };
+            let line = format!(in self.alloc; "-- maximal object {k} {kind}")?;
+            text.push(line.as_str())?;
+            for o in 0..self.schema.objects() as u8 {
+                if objects.contains(o) {
+                    text.push(" ")?;
+                    text.push(self.schema.object_name(o))?;
+                }
+            }
+            text.push("\n")?;
+        }
+        Ok(text.into_reply(false))
     }
 }
 
-pub(crate) fn has_attribute(object: &Object, attribute: usize) -> bool {
-    object
-        .pairs
-        .as_slice()
-        .iter()
-        .any(|pair| pair.0 == attribute)
+// The names of the attributes in declaration order, the first behind `before` and each other behind `between`.
+pub(crate) fn push_attributes(
+    text: &mut Text,
+    schema: &Schema,
+    attributes: AttrSet,
+    before: &str,
+    between: &str,
+) -> Result<(), NoMemory> {
+    schema.keeps_its_rules();
+    let mut gap = before;
+    for a in 0..schema.attributes() as u8 {
+        if attributes.contains(a) {
+            text.push(gap)?;
+            text.push(schema.attribute_name(a))?;
+            gap = between;
+        }
+    }
+    Ok(())
 }

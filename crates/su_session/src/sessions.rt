@@ -1,45 +1,56 @@
-//! The session: a schema, its rows, and one statement after another.
-ghost use Rattle.std.specs.Prelude.{◌≡◌, true, None, IfOk, OnErr};
+//! The session: a schema, its maximal objects, its rows, and one statement after another.
+ghost use Rattle.std.specs.Prelude.{◌≡◌, IfOk, OnErr};
 
-use crate::readers::{Reader, is_sign};
-use crate::replies::{Reply, accepted, refusal, rows};
-use crate::schemas::{Object, Schema, find_column, has_attribute};
+use crate::replies::{Reply, later};
 use std::alloc::Global;
 use std::marker::Model;
-use su_base::{Column, Kind, List, NoMemory, Row, Str, Value};
-use su_lex::{LexEnd, Sign, TokenKind, tokens};
+use su_base::{List, NoMemory, ObjSet};
+use su_lex::{LexEnd, Reader, symbols};
+use su_maxobj::maximal_objects;
 use su_rel::Relation;
+use su_schema::Schema;
 
 /// A schema and the rows of its relations.
 #[derive(Drop)]
 pub struct Session {
-    alloc: Global,
-    schema: Schema,
-    relations: Vec<Relation>,
+    pub(crate) alloc: Global,
+    pub(crate) schema: Schema,
+    pub(crate) maximal: List<ObjSet>,
+    pub(crate) relations: Vec<Relation>,
 }
 
 impl Model for Session {
     ghost use Rattle.su_session.specs.State.{State};
+    ghost use Rattle.std.specs.Coded.{codes, coded_ℕ};
+    ghost use Rattle.std.specs.Ordering.{nat_cmp};
+    ghost use Rattle.std.specs.FinSet as set;
+    ghost use Rattle.su_base.specs.contracts.attr_sets.AttrSet as attr_set;
 
     ghost Value = { State };
 
-    ghost view = { λ s. record { schema = s.schema; relations = s.relations.items } };
+    ghost coded = { Prim.hlevel (codes, attr_set.the_row.coded, set.code {R = nat_cmp} coded_ℕ) };
+
+    ghost view = { λ s. record { schema = s.schema; maximal = s.maximal; relations = s.relations.items } };
 }
 
 impl Session {
     ghost use Rattle.su_session.specs.Reply.{Replied};
+    ghost use Rattle.su_session.specs.State.{Opened};
 
-    /// A session on a schema whose relations are empty.
+    /// A session on a schema whose relations are empty. Its maximal objects are found once.
     pub fn open(alloc: Global, schema: Schema) -> Result<Session, NoMemory>
-        ensures { IfOk result (λ session. session.schema ≡ schema) }
+        ensures { IfOk result (Opened schema) }
     {
+        let maximal = maximal_objects(alloc, &schema)?;
         let mut relations = List::new(alloc);
-        for relation in schema.relations.as_slice() {
-            relations.push(Relation::new(alloc, relation.columns.len().min(32) as u8))?;
+        for r in 0..schema.relations() {
+            let width = schema.columns(r as u8).len();
+            relations.push(Relation::new(alloc, width as u8))?;
         }
         Ok(Session {
             alloc,
             schema,
+            maximal,
             relations: relations.into_vec(),
         })
     }
@@ -50,185 +61,50 @@ impl Session {
         ensures replied { IfOk result (λ reply. Replied self.old text.now reply self.new) }
         ensures unchanged { OnErr result (self.new ≡ self.old) }
     {
-        let tokens = match tokens(self.alloc, text) {
-            Ok(tokens) => tokens,
+        let symbols = match symbols(self.alloc, text) {
+            Ok(symbols) => symbols,
             Err(LexEnd::Syntax) => return later(self.alloc),
             Err(LexEnd::NoMemory) => return Err(NoMemory),
         };
-        let mut reader = Reader::new(text, tokens.as_slice());
-        let reply = match reader.word() {
-            Some("insert") => self.insert(&mut reader)?,
-            Some("retrieve") => self.retrieve(&mut reader)?,
-            _ => later(self.alloc)?,
+        let mut reader = Reader {
+            alloc: self.alloc,
+            rest: symbols.as_slice(),
         };
-        Ok(reply)
-    }
-
-    fn insert(&mut self, reader: &mut Reader) -> Result<Reply, NoMemory>
-        ensures refused { IfOk result (λ reply. reply.refused ≡ true → self.new ≡ self.old) }
-        ensures unchanged { OnErr result (self.new ≡ self.old) }
-    {
-        let alloc = self.alloc;
-        let Some(name) = reader.name() else {
-            return later(alloc);
-        };
-        let Some(relation) = self.schema.find_relation(name) else {
-            return later(alloc);
-        };
-        let Some(row) = self.row(reader, relation)? else {
-            return later(alloc);
-        };
-        let added = accepted(alloc, "inserted 1")?;
-        let known = accepted(alloc, "inserted 0")?;
-        match put(self.relations.as_mut_slice(), relation, row)? {
-            Some(true) => Ok(added),
-            Some(false) => Ok(known),
-            None => later(alloc),
+        if reader.takes_word("insert") {
+            return self.insert(&mut reader);
         }
-    }
-
-    // A row in parentheses, of the relation's width and kinds, that there is room for.
-    fn row(&self, reader: &mut Reader, relation: usize) -> Result<Option<Row>, NoMemory> {
-        let Some(relation) = self.schema.relations.as_slice().get(relation) else {
-            return Ok(None);
-        };
-        let columns = relation.columns.as_slice();
-        let mut row = List::new(self.alloc);
-        if !reader.sign(Sign::Open) {
-            return Ok(None);
+        if reader.takes_word("retrieve") {
+            return self.retrieve(&mut reader);
         }
-        for (i, column) in columns.iter().enumerate() {
-            let Some(value) = value(self.alloc, reader, column)? else {
-                return Ok(None);
-            };
-            row.push(value)?;
-            let sign = if i + 1 < columns.len() {
-                Sign::Comma
-            } else {
-                Sign::Close
-            };
-            if !reader.sign(sign) {
-                return Ok(None);
-            }
+        if reader.takes_word("closure") {
+            return self.closure(&mut reader);
         }
-        if !reader.is_done() {
-            return Ok(None);
+        if reader.takes_word("schema") && reader.rest.is_empty() {
+            return self.show();
         }
-        Ok(Some(row))
-    }
-
-    fn retrieve(&self, reader: &mut Reader) -> Result<Reply, NoMemory> {
-        let Some(names) = reader.names(self.alloc)? else {
-            return later(self.alloc);
-        };
-        if !reader.is_done() || names.len() > 128 {
-            return later(self.alloc);
-        }
-        let mut wanted = List::new(self.alloc);
-        for name in names.as_slice() {
-            match find_column(self.schema.attributes.as_slice(), name.as_str()) {
-                Some(a) => wanted.push(a)?,
-                None => return refusal(self.alloc, &["unknown attribute ", name.as_str()]),
-            }
-        }
-        let wanted = wanted.as_slice();
-        let object = self
-            .schema
-            .objects
-            .as_slice()
-            .iter()
-            .find(|object| wanted.iter().all(|a| has_attribute(object, *a)));
-        match object {
-            Some(object) => self.answer(object, names.as_slice(), wanted),
-            None => self.not_covered(wanted),
-        }
-    }
-
-    // The refusal that names the wanted attributes in declaration order.
-    fn not_covered(&self, wanted: &[usize]) -> Result<Reply, NoMemory> {
-        let mut parts = List::new(self.alloc);
-        parts.push("no maximal object covers -:")?;
-        for (a, attribute) in self.schema.attributes.as_slice().iter().enumerate() {
-            if wanted.contains(&a) {
-                parts.push(" ")?;
-                parts.push(attribute.name.as_str())?;
-            }
-        }
-        refusal(self.alloc, parts.as_slice())
-    }
-
-    // The projection of the object's relation, each row once, in ascending order.
-    fn answer(&self, object: &Object, names: &[Str], wanted: &[usize]) -> Result<Reply, NoMemory> {
-        let mut found = List::new(self.alloc);
-        if let Some(relation) = self.relations.get(object.relation) {
-            for row in relation.as_slice() {
-                found.push(cut_row(self.alloc, row, object, wanted)?)?;
-            }
-        }
-        let mut found = found.into_vec();
-        found.sort()?;
-        let mut distinct: List<Row> = List::new(self.alloc);
-        for row in found {
-            if distinct.as_slice().last() != Some(&row) {
-                distinct.push(row)?;
-            }
-        }
-        rows(self.alloc, names, distinct.as_slice())
+        later(self.alloc)
     }
 }
 
-// Puts a row into the relation at a place, and answers whether it is new; none where it doesn't fit.
-fn put(relations: &mut [Relation], place: usize, row: Row) -> Result<Option<bool>, NoMemory>
-    ensures unfit { IfOk result (λ new. new ≡ None → relations.new ≡ relations.old) }
-    ensures unchanged { OnErr result (relations.new ≡ relations.old) }
-{
-    if place >= relations.len() || row.len() != relations[place].width() as usize {
+// What a text of the wrong form gives: nothing, unless memory was wanting.
+pub(crate) fn read<T: Drop>(read: Result<T, LexEnd>) -> Result<Option<T>, NoMemory> {
+    match read {
+        Ok(value) => Ok(Some(value)),
+        Err(LexEnd::Syntax) => Ok(None),
+        Err(LexEnd::NoMemory) => Err(NoMemory),
+    }
+}
+
+// Names in parentheses, to the end.
+pub(crate) fn read_names(reader: &mut Reader) -> Result<Option<List<su_base::Str>>, NoMemory> {
+    if !reader.takes_sign(su_lex::Sign::Open) {
         return Ok(None);
     }
-    match relations[place].insert(row) {
-        Ok(new) => Ok(Some(new)),
-        Err((_, NoMemory)) => Err(NoMemory),
+    let Some(names) = read(reader.names())? else {
+        return Ok(None);
+    };
+    if !reader.takes_sign(su_lex::Sign::Close) || !reader.rest.is_empty() {
+        return Ok(None);
     }
-}
-
-fn later(alloc: Global) -> Result<Reply, NoMemory> {
-    refusal(alloc, &["later"])
-}
-
-// The value that comes next, where it is of the column's kind and a plain text.
-fn value(alloc: Global, reader: &mut Reader, column: &Column) -> Result<Option<Value>, NoMemory> {
-    match reader.next() {
-        Some(token) => match (&token.kind, column.kind) {
-            (TokenKind::Int(number), Kind::Int) => Ok(Some(Value::Int(*number))),
-            (TokenKind::Text(text), Kind::Text) if is_plain(text.as_str()) => {
-                Ok(Some(Value::Text(text.copy(alloc)?)))
-            }
-            _ => Ok(None),
-        },
-        None => Ok(None),
-    }
-}
-
-// Letters, digits, spaces and `_`, at least one.
-fn is_plain(text: &str) -> bool {
-    let bytes = text.as_bytes();
-    !bytes.is_empty()
-        && bytes
-            .iter()
-            .all(|b| b.is_ascii_alphanumeric() || *b == b' ' || *b == b'_')
-}
-
-// The row's values at the wanted attributes.
-fn cut_row(alloc: Global, row: &Row, object: &Object, wanted: &[usize]) -> Result<Row, NoMemory> {
-    let mut values = List::new(alloc);
-    for a in wanted {
-        for pair in object.pairs.as_slice() {
-            if pair.0 == *a {
-                if let Some(value) = row.as_slice().get(pair.1) {
-                    values.push(value.copy(alloc)?)?;
-                }
-            }
-        }
-    }
-    Ok(values)
+    Ok(Some(names))
 }

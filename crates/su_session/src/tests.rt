@@ -1,7 +1,8 @@
-use crate::{SchemaEnd, Session, read_schema};
+use crate::Session;
 use std::alloc::Global;
 use std::test::Fail;
 use su_base::NoMemory;
+use su_ddl::read;
 
 const SCHEMA: &str =
     "attribute A int; attribute B text; attribute C int; relation P (A int, B text); relation Q (C int); object AB (A, B) from P (A, B); object CC (C) from Q (C);";
@@ -9,7 +10,7 @@ const SCHEMA: &str =
 #[test]
 fn statements_are_answered_one_by_one(rt: HostRuntime) -> Result<(), Fail> {
     let alloc = rt.alloc();
-    let mut session = match read_schema(alloc, SCHEMA.as_bytes()) {
+    let mut session = match read(alloc, SCHEMA.as_bytes()) {
         Ok(schema) => Session::open(alloc, schema)?,
         Err(end) => panic!(rt; "{end:?}"),
     };

@@ -10,7 +10,8 @@ use Rattle.su_lex.specs.declared.spans.Span.{Span}
 use Rattle.su_lex.specs.Tokens.{slice_of}
 use Rattle.su_lex.specs.Pieces.{Pieces}
 use Rattle.su_session.specs.declared.replies.Reply.{Reply}
-use Rattle.su_session.specs.State.{State}
+use Rattle.su_session.specs.State.{State, Opened}
+use Rattle.su_schema.specs.SchemaValue.{SchemaValue}
 use Rattle.su_session.specs.Reply.{Replied}
 use Rattle.sysu.specs.Output.{Answered, AnswersFirst, output_of, some_refused, texts_of}
 use Rattle.sysu.specs.Statements.{WroteFrontOf}
@@ -61,10 +62,10 @@ module _ (script : List ℕ) (spans : List Span) (i : ℕ) (d : Span) (first mid
   }
 
   -- the sink failed behind n bytes of the reply
-  pub front_more : Pieces script spans → (new : Option (List ℕ)) (n : ℕ) → n ≤ length reply.bytes → Grew between new (take n reply.bytes) → WroteFrontOf script old new
-  front_more pieces new n short grew = record {
+  pub front_more : (schema : SchemaValue) → Opened schema first → Pieces script spans → (new : Option (List ℕ)) (n : ℕ) → n ≤ length reply.bytes → Grew between new (take n reply.bytes) → WroteFrontOf schema script old new
+  front_more schema opened pieces new n short grew = record {
     replies = so_far.replies ++ reply ∷ [];
-    answers = record { spans = spans; pieces = pieces; count = i + 1; first = first; last = last; answered = answered_more };
+    answers = record { spans = spans; pieces = pieces; count = i + 1; first = first; opened = opened; last = last; answered = answered_more };
     count = length (output_of so_far.replies) + n;
     bound = rw (output_of-push so_far.replies reply) (let long = length-append (output_of so_far.replies) reply.bytes in omega arith);
     wrote = rw (output_of-push so_far.replies reply, take-append-add (output_of so_far.replies) reply.bytes n) (Grew-trans old between new (output_of so_far.replies) (take n reply.bytes) so_far.wrote grew);

@@ -1,5 +1,5 @@
 -- How a run ends: each status with its cause, and what was written.
-use Rattle.std.specs.Prelude.{◌≡◌, ◌<◌, ◌≤◌, ◌^◌, ◌⊎◌, ℕ, List, [], Option, Some, None, Bool, true, false, length, take}
+use Rattle.std.specs.Prelude.{◌≡◌, ◌<◌, ◌≤◌, ◌^◌, ◌⊎◌, ℕ, List, [], Option, Some, None, Bool, true, false, Ok, Err, length, take}
 use Rattle.su_io.specs.Causes.{Rose}
 use Rattle.su_io.specs.Ends.{Grew}
 use Rattle.su_session.specs.declared.replies.Reply.{Reply}
@@ -7,7 +7,11 @@ use Rattle.sysu.specs.declared.status.Status.{Status}
 use Rattle.sysu.specs.declared.status.Status.TheVariants.{Done, SomeRefused, Usage, BadSchema, ReadFault, WriteFault, TooLong, NoMemory}
 use Rattle.sysu.specs.Moments.{Moment, NoFault, Wrote, WroteFront}
 use Rattle.sysu.specs.Words.{Named, named, usage_line}
-use Rattle.sysu.specs.Output.{IsFile, refused_schema}
+use Rattle.su_ddl.specs.declared.faults.DdlFault.{DdlFault}
+use Rattle.su_ddl.specs.Reading.{Reads}
+use Rattle.su_schema.specs.SchemaValue.{SchemaValue}
+use Rattle.su_show.specs.Refusals.{schema_line, IsOfText}
+use Rattle.sysu.specs.Output.{IsFile}
 use Rattle.sysu.specs.Statements.{WroteAll, WroteFirst, WroteFrontOf}
 
 -- 1 MiB
@@ -18,39 +22,58 @@ schema_limit = 2 ^ 20
 abbrev pub script_limit : ℕ
 script_limit = 2 ^ 24
 
--- a fact of the bytes of the script file
-abbrev pub OfScript : Named → Moment → (List ℕ → Type 0) → Type 0
-OfScript names old P = (script : List ℕ) × IsFile old.files names.script script × P script
+-- the schema file is accepted, and a fact of the schema and of the bytes of the script
+pub record OfFiles (names : Named) (old : Moment) (P : SchemaValue → List ℕ → Type 0) : Type 0 where
+  pub bytes : List ℕ
+  pub is_schema : IsFile old.files names.schema bytes
+  pub schema : SchemaValue
+  pub accepted : Reads bytes (Ok schema)
+  pub script : List ℕ
+  pub is_script : IsFile old.files names.script script
+  pub holds : P schema script
 
--- the name last begun is that of a file of the run
-abbrev pub BeganOwn : Named → Moment → Type 0
-BeganOwn names new = (new.begun ≡ Some names.schema) ⊎ (new.begun ≡ Some names.script)
+-- the schema file is refused with this fault
+pub record IsRefused (names : Named) (old : Moment) (fault : DdlFault) : Type 0 where
+  pub bytes : List ℕ
+  pub is_schema : IsFile old.files names.schema bytes
+  pub refused : Reads bytes (Err fault)
 
--- more than its limit was taken of the file begun
-abbrev pub TookTooMuch : Named → Moment → Type 0
-TookTooMuch names new = ((new.begun ≡ Some names.schema) × (schema_limit < new.taken)) ⊎ ((new.begun ≡ Some names.script) × (script_limit < new.taken))
+-- the schema file is accepted
+pub record AcceptsSchema (names : Named) (old : Moment) : Type 0 where
+  pub bytes : List ℕ
+  pub is_schema : IsFile old.files names.schema bytes
+  pub schema : SchemaValue
+  pub accepted : Reads bytes (Ok schema)
+
+-- the name last begun is that of the file due: the schema's, and the script's once the schema is accepted
+abbrev pub BeganDue : Named → Moment → Moment → Type 0
+BeganDue names old new = (new.begun ≡ Some names.schema) ⊎ ((new.begun ≡ Some names.script) × AcceptsSchema names old)
+
+-- more than its limit was taken of the file due
+abbrev pub TookTooMuch : Named → Moment → Moment → Type 0
+TookTooMuch names old new = ((new.begun ≡ Some names.schema) × (schema_limit < new.taken)) ⊎ ((new.begun ≡ Some names.script) × (script_limit < new.taken) × AcceptsSchema names old)
 
 -- no more than its limit was taken of the file begun, if one was begun at all
 abbrev pub TookWithin : Named → Moment → Moment → Type 0
 TookWithin names old new = ((new.begun ≡ old.begun) × (new.taken ≡ old.taken)) ⊎ (((new.begun ≡ Some names.schema) × (new.taken ≤ schema_limit)) ⊎ ((new.begun ≡ Some names.script) × (new.taken ≤ script_limit)))
 
 -- how the line for a refused schema ends: what was written, and the sink's count of faults before and after
-abbrev pub RefusalEnds : ℕ → Option (List ℕ) → ℕ → Option (List ℕ) → ℕ → Status → Type 0
-RefusalEnds number old before new after BadSchema = (after ≡ before) × Grew old new (refused_schema number)
-RefusalEnds number old before new after WriteFault = Rose before after × ((count : ℕ) × (count ≤ length (refused_schema number)) × Grew old new (take count (refused_schema number)))
-RefusalEnds number old before new after NoMemory = (after ≡ before) × (new ≡ old)
-RefusalEnds number old before new after _ = ⊥
+abbrev pub RefusalEnds : DdlFault → Option (List ℕ) → ℕ → Option (List ℕ) → ℕ → Status → Type 0
+RefusalEnds fault old before new after BadSchema = IsOfText fault × (after ≡ before) × Grew old new (schema_line fault)
+RefusalEnds fault old before new after WriteFault = IsOfText fault × Rose before after × ((count : ℕ) × (count ≤ length (schema_line fault)) × Grew old new (take count (schema_line fault)))
+RefusalEnds fault old before new after NoMemory = (after ≡ before) × (new ≡ old)
+RefusalEnds fault old before new after _ = ⊥
 
 -- how a run on these two files ends
 abbrev pub RunEnds : Named → Moment → Moment → Status → Type 0
-RunEnds names old new Done = NoFault old new × TookWithin names old new × OfScript names old (λ script. WroteAll script old.written new.written false)
-RunEnds names old new SomeRefused = NoFault old new × TookWithin names old new × OfScript names old (λ script. WroteAll script old.written new.written true)
+RunEnds names old new Done = NoFault old new × TookWithin names old new × OfFiles names old (λ schema script. WroteAll schema script old.written new.written false)
+RunEnds names old new SomeRefused = NoFault old new × TookWithin names old new × OfFiles names old (λ schema script. WroteAll schema script old.written new.written true)
 RunEnds names old new Usage = ⊥
-RunEnds names old new BadSchema = NoFault old new × TookWithin names old new × ((number : ℕ) × Wrote old new (refused_schema number))
-RunEnds names old new ReadFault = Rose old.reads new.reads × (new.writes ≡ old.writes) × (new.failed ≡ true) × BeganOwn names new × (new.written ≡ old.written)
-RunEnds names old new WriteFault = (new.reads ≡ old.reads) × Rose old.writes new.writes × TookWithin names old new × (((number : ℕ) × WroteFront old new (refused_schema number)) ⊎ OfScript names old (λ script. WroteFrontOf script old.written new.written))
-RunEnds names old new TooLong = NoFault old new × TookTooMuch names new × (new.written ≡ old.written)
-RunEnds names old new NoMemory = NoFault old new × TookWithin names old new × ((new.written ≡ old.written) ⊎ OfScript names old (λ script. WroteFirst script old.written new.written))
+RunEnds names old new BadSchema = NoFault old new × TookWithin names old new × ((fault : DdlFault) × IsRefused names old fault × Wrote old new (schema_line fault))
+RunEnds names old new ReadFault = Rose old.reads new.reads × (new.writes ≡ old.writes) × (new.failed ≡ true) × BeganDue names old new × (new.written ≡ old.written)
+RunEnds names old new WriteFault = (new.reads ≡ old.reads) × Rose old.writes new.writes × TookWithin names old new × (((fault : DdlFault) × IsRefused names old fault × WroteFront old new (schema_line fault)) ⊎ OfFiles names old (λ schema script. WroteFrontOf schema script old.written new.written))
+RunEnds names old new TooLong = NoFault old new × TookTooMuch names old new × (new.written ≡ old.written)
+RunEnds names old new NoMemory = NoFault old new × TookWithin names old new × ((new.written ≡ old.written) ⊎ OfFiles names old (λ schema script. WroteFirst schema script old.written new.written))
 
 -- how the usage line ends: what was written, and the sink's count of faults before and after
 abbrev pub UsageEnds : Option (List ℕ) → ℕ → Option (List ℕ) → ℕ → Status → Type 0

@@ -1,5 +1,7 @@
 //! The statements of a script, answered one after another.
 ghost use Rattle.std.specs.Prelude.{◌≡◌};
+ghost use Rattle.su_schema.specs.SchemaValue.{SchemaValue};
+ghost use Rattle.su_session.specs.State.{Opened};
 ghost use Rattle.sysu.specs.Statements.{ScriptEnds};
 
 use crate::status::Status;
@@ -15,7 +17,7 @@ pub(crate) fn answer_all<K: Sink>(
     script: &[u8],
     out: &mut K,
 ) -> Status
-    ensures { ScriptEnds script.now (K.written out.old) (K.faults out.old) (K.written out.new) (K.faults out.new) result }
+    ensures { (schema : SchemaValue) → Opened schema session → ScriptEnds schema script.now (K.written out.old) (K.faults out.old) (K.written out.new) (K.faults out.new) result }
 {
     let mut session = session;
     let Ok(spans) = cut(alloc, script) else {

@@ -52,7 +52,7 @@ fn a_run_ends_with_its_status_and_output(rt: HostRuntime) -> Result<(), Fail> {
             "attribute A int; attribute A text;",
             "",
             Status::BadSchema,
-            "schema refused: statement 2: later\n",
+            "schema refused: statement 2: twice A\n",
         ),
         (&["run", "s"], SCHEMA, SCRIPT, Status::Usage, USAGE),
         (&["walk", "s", "t"], SCHEMA, SCRIPT, Status::Usage, USAGE),

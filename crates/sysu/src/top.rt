@@ -1,17 +1,18 @@
 //! The run of the program over any shelf and sink.
 ghost use Rattle.std.specs.Prelude.{◌≡◌, Some, ◌<◌, ◌^◌, ◌++◌, ◌∷◌, [], IfOk, option_map, string_bytes};
 ghost use Rattle.sysu.specs.Moments.{Moment};
-ghost use Rattle.sysu.specs.Output.{refused_schema};
 ghost use Rattle.sysu.specs.Reads.{FileEnds};
 ghost use Rattle.sysu.specs.Statuses.{Ends, RefusalEnds, RunEnds, UsageEnds};
 ghost use Rattle.sysu.specs.Words.{named};
 
 use crate::statements::answer_all;
 use crate::status::Status;
-use std::alloc::{AllocError, Global};
+use std::alloc::Global;
 use su_base::{List, Str};
+use su_ddl::{DdlFault, read};
 use su_io::{ReadEnd, Shelf, Sink, read_all, write_all};
-use su_session::{SchemaEnd, Session, read_schema};
+use su_session::Session;
+use su_show::ddl_fault;
 
 const USAGE: &str = "usage: sysu run SCHEMA SCRIPT [--workers N] | sysu generate N\n";
 
@@ -30,20 +31,14 @@ fn named_files(words: &[Str]) -> Option<(&Str, &Str)>
     }
 }
 
-fn refusal(alloc: Global, number: u32) -> Result<String, AllocError>
-    ensures { IfOk result (λ text. string_bytes text ≡ refused_schema number) }
-{
-    format!(in alloc; "schema refused: statement {number}: later\n")
-}
-
 // Writes the line for a refused schema.
-fn tell_refusal<K: Sink>(alloc: Global, number: u32, out: &mut K) -> Status
-    ensures { RefusalEnds number (K.written out.old) (K.faults out.old) (K.written out.new) (K.faults out.new) result }
+fn tell_refusal<K: Sink>(alloc: Global, fault: &DdlFault, out: &mut K) -> Status
+    ensures { RefusalEnds fault.now (K.written out.old) (K.faults out.old) (K.written out.new) (K.faults out.new) result }
 {
-    let Ok(line) = refusal(alloc, number) else {
+    let Ok(line) = ddl_fault(alloc, fault) else {
         return Status::NoMemory;
     };
-    match write_all(out, line.as_bytes()) {
+    match write_all(out, line.as_slice()) {
         Ok(()) => Status::BadSchema,
         Err(_) => Status::WriteFault,
     }
@@ -97,10 +92,9 @@ fn run_files<H: Shelf, K: Sink>(
         Ok(bytes) => bytes,
         Err(status) => return status,
     };
-    let schema = match read_schema(alloc, bytes.as_slice()) {
+    let schema = match read(alloc, bytes.as_slice()) {
         Ok(schema) => schema,
-        Err(SchemaEnd::Later(number)) => return tell_refusal(alloc, number, out),
-        Err(SchemaEnd::NoMemory) => return Status::NoMemory,
+        Err(fault) => return tell_refusal(alloc, &fault, out),
     };
     let Ok(session) = Session::open(alloc, schema) else {
         return Status::NoMemory;

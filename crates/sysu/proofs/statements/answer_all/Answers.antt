@@ -13,12 +13,12 @@ loop-span-preserved g c =
     }
 
 pub returns-in_default-write_all : goal.returns-in_default-write_all
-returns-in_default-write_all g c =
+returns-in_default-write_all g c schema opened =
     let replied = c.in-Ok-step.ensures.replied in
     let err = rw c.as_slice.ensures at c.in_default-write_all.ensures.err in
     let cause = c.in_default-write_all.ensures.cause in
     let rose = cause.failed in (
       rw (← c.loop-span.invariant.faults) rose,
       front_more c.args.script.now c.as_slice-span-items.result.now c.loop-span.span-index _ c.args.session c.loop-span.session c.step.new.self c.loop-span.refused c.in-Ok-step.reply _ _
-          c.loop-span-test.true c.loop-span.invariant.so_far replied (rw c.as_slice-span-items.ensures (c.in-Ok.ensures.pieces)) _ err.0 err.1 err.2,
+          c.loop-span-test.true c.loop-span.invariant.so_far replied schema opened (rw c.as_slice-span-items.ensures (c.in-Ok.ensures.pieces)) _ err.0 err.1 err.2,
     )

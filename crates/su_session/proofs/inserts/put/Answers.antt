@@ -1,7 +1,7 @@
 use Rattle.std.proofs.Common.{arith}
 use Rattle.std.proofs.lemmas.List.{set-get_or}
-use Rattle.su_session.proofs.sessions.put.Goals as goal
-use Rattle.su_session.proofs.sessions.put.Goals.{in-Ok, in-Err}
+use Rattle.su_session.proofs.inserts.put.Goals as goal
+use Rattle.su_session.proofs.inserts.put.Goals.{in-Ok, in-Err}
 
 pub returns-clause-unchanged : goal.returns-clause-unchanged
 returns-clause-unchanged c = elim c.match-insert.branch [

@@ -1,0 +1,21 @@
+use Rattle.std.proofs.Common.{◌∙◌, refl}
+use Rattle.sysu.proofs.Ending.{script_fails, script_answered}
+use Rattle.sysu.proofs.top.run_files.Goals as goal
+
+pub returns-in-Ok-read_file-clause-ends : goal.returns-in-Ok-read_file-clause-ends
+returns-in-Ok-read_file-clause-ends g c =
+    let first = c.in-Ok.ensures.ends in
+    let second = c.in-Ok-read_file.ensures.ends in
+    script_answered (record { schema = c.args.schema; script = c.args.script }) _ _ c.as_slice.result.now c.in-Ok-read.schema c.as_slice-in-Ok-read_file.result.now
+    (rw c.as_slice.ensures first.1) c.in-Ok-read.ensures.schema
+    (rw c.as_slice-in-Ok-read_file.ensures (rw c.in-Ok.ensures.files at second.1))
+    (second.0 ∙ first.0) c.in-Ok-read_file.ensures.begun second.2
+    c.answer_all.result (c.answer_all.ensures c.in-Ok-read.schema c.in-Ok-open.ensures)
+
+pub returns-clause-ends : goal.returns-clause-ends
+returns-clause-ends g c =
+    let first = c.in-Ok.ensures.ends in
+    script_fails (record { schema = c.args.schema; script = c.args.script }) _ _ (g.H.Shelf.files c.read_file.new.shelf) _
+    (record { bytes = c.as_slice.result.now; is_schema = rw c.as_slice.ensures first.1; schema = c.in-Ok-read.schema; accepted = c.in-Ok-read.ensures.schema })
+    first.0 c.in-Err-read_file.ensures.begun refl refl
+    c.in-Err-read_file.status c.in-Err-read_file.ensures.ends
