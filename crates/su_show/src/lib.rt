@@ -23,6 +23,4 @@ pub use schemas::schema;
 pub use statement_refusal::Refusal;
 
 #[cfg(test)]
-mod statement_tests;
-#[cfg(test)]
 mod tests;
