@@ -1,6 +1,6 @@
 -- The line for a schema that is refused.
 -- cause: what stands behind the number of the statement
-use Rattle.std.specs.Prelude.{ℕ, List, [], ◌∷◌, ◌++◌, codes, decimal}
+use Rattle.std.specs.Prelude.{ℕ, List, [], ◌++◌, codes, decimal}
 use Rattle.su_schema.specs.declared.faults.SchemaFault.{SchemaFault}
 use Rattle.su_schema.specs.declared.faults.SchemaFault.TheVariants.{Twice, Unknown, KindDiffers, Limit, NoMemory}
 use Rattle.su_schema.specs.declared.faults.SchemaLimit.{SchemaLimit}

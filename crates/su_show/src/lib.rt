@@ -23,4 +23,12 @@ pub use schemas::schema;
 pub use statement_refusal::Refusal;
 
 #[cfg(test)]
+mod definition_tests;
+#[cfg(test)]
+mod examples;
+#[cfg(test)]
+mod reply_tests;
+#[cfg(test)]
+mod statement_tests;
+#[cfg(test)]
 mod tests;
