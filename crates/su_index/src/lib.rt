@@ -11,6 +11,7 @@
 mod columns;
 mod crossing;
 mod edits;
+mod entry;
 mod index;
 mod keeping;
 pub mod laws;
