@@ -1,12 +1,12 @@
 -- Entries: their positions, and their leads where runs and values change.
-use Rattle.std.proofs.Common.{◌≡◌, ◌<◌, ◌≤◌, ◌+◌, ◌-◌, ◌^◌, ℕ, suc, Bool, true, false, cond, nat_lt, List, [], ◌∷◌, ◌++◌, map, filter, length, get_or, take, drop, ap, subst, refl, sym, ◌∙◌, arith, inl, inr, All, Contains, count_by, length-append}
+use Rattle.std.proofs.Common.{◌≡◌, ◌<◌, ◌≤◌, ◌+◌, ◌-◌, ◌^◌, ℕ, suc, Bool, true, false, cond, nat_lt, List, [], ◌∷◌, ◌++◌, map, filter, length, get_or, take, drop, ap, subst, refl, sym, ◌∙◌, arith, inl, inr, All, Contains, count_by}
 use Rattle.std.specs.List.{insert, remove}
 use Rattle.std.specs.List.Sorted.{IsStrictlySortedBy, IsPermutation, IsSorted}
 use Rattle.std.specs.Ordering.{nat_cmp, ordering_then, is_lt}
 use Rattle.std.specs.declared.cmp.Ordering.{Ordering}
 use Rattle.std.proofs.lemmas.Bool.{cases_eq}
 use Rattle.std.proofs.lemmas.Bool.Decides.{nat_tests}
-use Rattle.std.proofs.lemmas.List.{length-map, get_or-map, map-append, take-map, drop-map, length-drop, get_or_default}
+use Rattle.std.proofs.lemmas.List.{length-map, get_or-map, map-append, take-map, drop-map, get_or_default}
 use Rattle.std.proofs.lemmas.List.Elements.{All-nil, All-cons, All-append, All-push, All-take, All-drop, All-head, All-tail, All-map}
 use Rattle.std.proofs.lemmas.List.Sorted.{All-permutation}
 use Rattle.su_base.specs.declared.values.Value.{Value}
@@ -14,7 +14,7 @@ use Rattle.su_base.specs.Value.{compare_values}
 use Rattle.su_index.specs.declared.entry.Entry.{Entry}
 use Rattle.su_index.specs.Entries.{positions, HaveLeads, IsRunWithLeads, IsIndexWithLeads, kept_entry, kept_entries}
 use Rattle.su_index.specs.Lead.{IsLead}
-use Rattle.su_index.specs.Order.{ArePositions, compare_places, comes_before, with_value, is_kept, rank_of, count_below, IsRun, IsIndex}
+use Rattle.su_index.specs.Order.{ArePositions, compare_places, comes_before, with_value, is_kept, rank_of, count_below, IsRun}
 use Rattle.su_index.proofs.Changed.{index-same, index_add, index_settled, index_forget-settled, index_forget-recent, index_moved-settled, index_moved-recent, with_value-itself, with_value-other, with_value-same, empty_run}
 use Rattle.su_index.proofs.Keys.{Key, key_cmp, IsRun-sorted}
 use Rattle.su_index.proofs.Leads.{lead_first}

@@ -1,4 +1,4 @@
--- A number for each value that never falls as the values rise, so that a sort compares it first.
+-- A number for each value that never falls as the values rise, so that a sort and a search compare it first.
 -- lead: of a whole number the number itself, held to 63 bits; of a text its first seven bytes, above all numbers'
 use Rattle.std.specs.Prelude.{◌≡◌, ◌<◌, ◌+◌, ◌-◌, ◌*◌, ◌^◌, ℕ, ℤ, pos, negsuc, List, [], ◌∷◌, All, min}
 use Rattle.std.proofs.Common.{zero, suc}

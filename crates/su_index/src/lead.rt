@@ -1,5 +1,5 @@
-//! A number for each value that never falls as the values rise. A sort compares it first, and
-//! values only where it is the same.
+//! A number for each value that never falls as the values rise. A sort and a search compare it
+//! first, and values only where it is the same.
 ghost use Rattle.std.specs.Prelude.{◌≡◌, ◌<◌, ◌^◌, slice_index, All};
 ghost use Rattle.su_index.specs.Lead.{lead_of_number, lead_of_bytes, IsLead};
 
