@@ -10,26 +10,15 @@ use Rattle.std.proofs.lemmas.List.{length-map, get_or-map, map-append, take-map,
 use Rattle.std.proofs.lemmas.List.Elements.{All-nil, All-cons, All-append, All-push, All-take, All-drop, All-head, All-tail, All-map}
 use Rattle.std.proofs.lemmas.List.Sorted.{All-permutation}
 use Rattle.su_base.specs.declared.values.Value.{Value}
-use Rattle.su_base.specs.Value.{compare_values}
 use Rattle.su_index.specs.declared.entry.Entry.{Entry}
 use Rattle.su_index.specs.Entries.{positions, HaveLeads, IsRunWithLeads, IsIndexWithLeads, kept_entry, kept_entries}
 use Rattle.su_index.specs.Lead.{IsLead}
-use Rattle.su_index.specs.Order.{ArePositions, compare_places, comes_before, with_value, is_kept, rank_of, count_below, IsRun}
+use Rattle.su_index.specs.Order.{compare_keys, ArePositions, compare_places, comes_before, with_value, is_kept, rank_of, count_below, IsRun}
 use Rattle.su_index.proofs.Changed.{index-same, index_add, index_settled, index_forget-settled, index_forget-recent, index_moved-settled, index_moved-recent, with_value-itself, with_value-other, with_value-same, empty_run}
 use Rattle.su_index.proofs.Keys.{Key, key_cmp, IsRun-sorted}
-use Rattle.su_index.proofs.Leads.{lead_first}
 use Rattle.su_index.proofs.Merging.{Merging, merge_none, merge_step, merge_end}
 use Rattle.su_index.proofs.Ranks.{new_run, kept_index}
 use Rattle.su_index.proofs.Spans.{later_too, settled_positions, recent_positions, run_positions, run_from}
-
--- ---- a comparison by leads
-
-differ : (m n : ℕ) (o : Ordering) → (m ≡ n → ⊥) → is_lt (ordering_then (nat_cmp m n) o) ≡ nat_lt m n
-differ m n o apart = grind (arith, nat_tests, apart)
-
--- where the leads differ they tell the order
-pub lead_tells : (m n : ℕ) (v w : Value) (o : Ordering) → IsLead m v → IsLead n w → (m ≡ n → ⊥) → is_lt (ordering_then (compare_values v w) o) ≡ nat_lt m n
-lead_tells m n v w o a b apart = ap is_lt (sym (lead_first m n v w o a b)) ∙ differ m n (ordering_then (compare_values v w) o) apart
 
 -- ---- positions of entries
 
@@ -53,7 +42,7 @@ pub below_more : (at : ℕ → Value) (v : Value) (top : ℕ) (run : List ℕ) (
 below_more at v top run first below more k h =
     elim (cases_eq k first) [
       | inl e ↦ rw e more
-      | inr apart ↦ later_too (compare_values (at (get_or run k 0)) v) (get_or run k 0) top (below k (omega (arith, apart)))
+      | inr apart ↦ later_too (compare_keys (at (get_or run k 0)) v) (get_or run k 0) top (below k (omega (arith, apart)))
     ]
 
 pub positions-append : (xs ys : List Entry) → positions (xs ++ ys) ≡ positions xs ++ positions ys

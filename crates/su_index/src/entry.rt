@@ -4,6 +4,6 @@
 /// row only where the lead is that of the value it looks for.
 #[derive(Clone, Copy)]
 pub(crate) struct Entry {
-    pub(crate) lead: u64,
+    pub(crate) lead: u32,
     pub(crate) position: u32,
 }

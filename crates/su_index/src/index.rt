@@ -13,7 +13,7 @@ use crate::sorting::{merged, sorted};
 use std::alloc::Global;
 use su_base::{NoMemory, Row, Value};
 
-/// An entry for each row in order of (value, position): in one run the settled ones, in another the
+/// An entry for each row in order of (lead, value, position): in one run the settled ones, in another the
 /// recent ones, which are of the later positions.
 #[derive(Drop)]
 pub(crate) struct Index {

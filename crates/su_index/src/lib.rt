@@ -2,13 +2,13 @@
 //!
 //! A table decides how many rows have a value in a column, and which is the k-th of them by position.
 //! Contracts see it as they see a relation, a width and the rows by position; the indexes appear in
-//! none. An index holds an entry for each row in order of (value, position): most in one long run, the
-//! latest in a short one, which is merged into the long one when it is full. An entry is the position
-//! and the lead of the value, 16 bytes in all; a look-up is a few binary searches by lead, which read
-//! a row only where the leads are equal. So values that differ within their first seven bytes, and
-//! whole numbers below 2^62, are found at about the time of one row read. An insert moves some ten
-//! thousand bytes; a remove moves up to sixteen bytes a row and column and takes no memory. It keeps
-//! no more than 2^32 - 2 rows, and ranges of values aren't asked for.
+//! none. An index holds an entry for each row in order of (lead, value, position): most in one long
+//! run, the latest in a short one, which is merged into the long one when it is full. An entry is the
+//! position and the lead of the value, a number made of all of it: eight bytes. A look-up is a few
+//! binary searches by lead, which read a row only where the leads are equal, as they seldom are where
+//! the values differ. An insert moves some ten thousand bytes; a remove moves up to eight bytes a row
+//! and column, twice or three times, and takes no memory. It keeps no more than 2^32 - 2 rows, and
+//! ranges of values aren't asked for.
 #![tactic(auto)]
 
 mod columns;

@@ -1,6 +1,8 @@
 //! The order of an index.
 ghost use Rattle.std.specs.Prelude.{◌≡◌, ◌<◌, ◌≤◌, ◌^◌, ℕ, true, false, length, slice_index};
 ghost use Rattle.std.specs.List.Sorted.{IsStrictlySortedBy};
+ghost use Rattle.std.specs.Ordering.{nat_cmp, ordering_then, is_lt};
+ghost use Rattle.su_base.specs.Value.{compare_values};
 ghost use Rattle.su_index.specs.Entries.{positions, HaveLeads};
 ghost use Rattle.su_index.specs.Lead.{IsLead};
 ghost use Rattle.su_index.specs.Order.{value_at, compare_places, comes_before, IsSpan, HaveColumn, ArePositions};
@@ -18,13 +20,31 @@ pub(crate) fn value(rows: &[Row], column: usize, position: u32) -> &Value
     rows[position as usize].get(column)
 }
 
+// Whether the row at `found` comes before one with the value at `position`, where the leads are equal.
+fn is_before_by_value(
+    rows: &[Row],
+    column: usize,
+    found: u32,
+    wanted: &Value,
+    position: u32,
+) -> bool
+    requires columns { HaveColumn column rows.now }
+    requires within { found < length rows.now }
+    ensures { result ≡ is_lt (ordering_then (compare_values (value_at rows.now column found) wanted.now) (nat_cmp found position)) }
+{
+    value(rows, column, found)
+        .compare(wanted)
+        .then(found.cmp(&position))
+        .is_lt()
+}
+
 /// Whether the row of the entry comes before one with the value at `position`. The leads tell where
 /// they differ, and then the row is not read.
 fn is_before(
     rows: &[Row],
     column: usize,
     found: Entry,
-    lead: u64,
+    lead: u32,
     wanted: &Value,
     position: u32,
 ) -> bool
@@ -37,10 +57,7 @@ fn is_before(
     if found.lead != lead {
         return found.lead < lead;
     }
-    value(rows, column, found.position)
-        .compare(wanted)
-        .then(found.position.cmp(&position))
-        .is_lt()
+    is_before_by_value(rows, column, found.position, wanted, position)
 }
 
 /// How many entries of the run come before the value at `position`: they are its first ones.
@@ -48,7 +65,7 @@ pub(crate) fn place(
     rows: &[Row],
     column: usize,
     run: &[Entry],
-    lead: u64,
+    lead: u32,
     wanted: &Value,
     position: u32,
 ) -> usize
@@ -80,7 +97,7 @@ fn past(
     rows: &[Row],
     column: usize,
     run: &[Entry],
-    lead: u64,
+    lead: u32,
     wanted: &Value,
     first: usize,
 ) -> usize

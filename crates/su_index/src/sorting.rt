@@ -53,7 +53,7 @@ fn keys_of<'a>(
     rows: &'a [Row],
     column: usize,
     from: usize,
-) -> Result<Vec<(u64, &'a Value, u32)>, NoMemory>
+) -> Result<Vec<(u32, &'a Value, u32)>, NoMemory>
     requires columns { HaveColumn column rows.now }
     requires small { length rows.now < 2 ^ 32 }
     requires from { from ≤ length rows.now }
@@ -73,7 +73,7 @@ fn keys_of<'a>(
 }
 
 /// The entries of the keys.
-fn entries_of(alloc: Global, keys: &[(u64, &Value, u32)]) -> Result<Vec<Entry>, NoMemory>
+fn entries_of(alloc: Global, keys: &[(u32, &Value, u32)]) -> Result<Vec<Entry>, NoMemory>
     ensures { IfOk result (λ run. run.items ≡ map (λ key. record { lead = key.0; position = key.2 }) keys.now) }
 {
     let mut run = Vec::with_capacity(alloc, keys.len())?;

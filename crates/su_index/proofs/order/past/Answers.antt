@@ -1,8 +1,7 @@
 use Rattle.std.proofs.Common.{◌≡◌, ◌<◌, ◌+◌, true, false, length, slice_index, arith}
 use Rattle.std.proofs.lemmas.Bool.Decides.{nat_tests}
-use Rattle.su_base.specs.Value.{compare_values}
 use Rattle.su_index.specs.Entries.{positions}
-use Rattle.su_index.specs.Order.{value_at}
+use Rattle.su_index.specs.Order.{compare_keys, value_at}
 use Rattle.su_index.proofs.Entries.{positions_length, position_within, before_at, below_more}
 use Rattle.su_index.proofs.Search.{comes_before-above}
 use Rattle.su_index.proofs.Spans.{later_too}
@@ -15,7 +14,7 @@ is_before-requires-clause-within c =
 
 pub returns-then-not-is_before-clause-below : goal.returns-then-not-is_before-clause-below
 returns-then-not-is_before-clause-below c =
-    λ k h. later_too (compare_values (value_at c.args.rows.now c.args.column (slice_index (positions c.args.run.now) k)) c.args.wanted.now) (slice_index (positions c.args.run.now) k) (length c.args.rows.now) (c.requires.below k h)
+    λ k h. later_too (compare_keys (value_at c.args.rows.now c.args.column (slice_index (positions c.args.run.now) k)) c.args.wanted.now) (slice_index (positions c.args.run.now) k) (length c.args.rows.now) (c.requires.below k h)
 
 pub returns-then-not-is_before-clause-above : goal.returns-then-not-is_before-clause-above
 returns-then-not-is_before-clause-above c =
