@@ -1,5 +1,5 @@
 -- Equal values have one lead: to compare it first changes nothing where values are equal.
-use Rattle.std.proofs.Common.{◌≡◌, ℕ, false, ap, refl, sym, ◌∙◌, arith, nat_lt}
+use Rattle.std.proofs.Common.{◌≡◌, ℕ, false, ap, refl, ◌∙◌, arith, nat_lt}
 use Rattle.std.specs.Ordering.{nat_cmp, ordering_then, is_lt, is_eq}
 use Rattle.std.specs.declared.cmp.Ordering.{Ordering}
 use Rattle.std.specs.declared.cmp.Ordering.TheVariants.{Less, Equal, Greater}

@@ -1,5 +1,5 @@
 -- A number for each value, the same for equal values, so that a sort and a search compare it first.
--- lead: of a whole number its size, of a text a number made of all its bytes; both as they are below 2 ^ 32
+-- lead: of a whole number its size, of a text a number made of all its bytes, each modulo 2 ^ 32
 use Rattle.std.specs.Prelude.{◌≡◌, ◌+◌, ◌*◌, ◌%◌, ◌^◌, ℕ, ℤ, List, fold, unsigned_abs}
 use Rattle.su_base.specs.declared.values.Value.{Value}
 use Rattle.su_base.specs.declared.values.Value.TheVariants.{Int, Text}

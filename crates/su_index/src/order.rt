@@ -20,7 +20,8 @@ pub(crate) fn value(rows: &[Row], column: usize, position: u32) -> &Value
     rows[position as usize].get(column)
 }
 
-// Whether the row at `found` comes before one with the value at `position`, where the leads are equal.
+/// Whether the row at `found` comes before one with the value at `position`, where their leads are
+/// equal.
 fn is_before_by_value(
     rows: &[Row],
     column: usize,
