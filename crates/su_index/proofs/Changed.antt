@@ -12,8 +12,7 @@ use Rattle.std.proofs.lemmas.List.{take-append-drop, get_or-take, get_or-drop, l
 use Rattle.std.proofs.lemmas.List.Elements.{recursion_from_All}
 use Rattle.std.proofs.lemmas.Map.Keys.{Less-from_sorted, sorted_from_all_adjacent, sorted_tail}
 use Rattle.su_base.specs.declared.values.Value.{Value}
-use Rattle.su_base.specs.Value.{compare_values}
-use Rattle.su_index.specs.Order.{ArePositions, compare_places, comes_before, count_below, with_value, IsRun, IsIndex}
+use Rattle.su_index.specs.Order.{compare_keys, ArePositions, compare_places, comes_before, count_below, with_value, IsRun, IsIndex}
 use Rattle.su_index.proofs.Runs.{places_total, count_below-suc, count_by-cons, count_by-append, count_by-none, sorted_nil, Before, AllBefore, sorted-append, sorted-append_left, sorted-append_right, sorted-append_before, sorted_cons}
 use Rattle.su_index.proofs.Search.{is_less}
 use Rattle.su_index.proofs.Spans.{settled_positions, recent_positions, run_positions, run_from, count_by_zero}
@@ -86,7 +85,7 @@ ordered-insert at run q p sorted within apart below above =
     let back : Before c p (drop q run) = recursion_from_All (λ y. c p y ≡ Less) (drop q run) (λ k d h.
     let l : length (drop q run) ≡ length run - q = length-drop q run in
     let e : get_or (drop q run) k d ≡ get_or run (q + k) 0 = get_or-drop q run k d ∙ get_or_default run (q + k) d 0 (omega arith) in
-    let g : c (get_or run (q + k) 0) p ≡ Greater = after (compare_values (at (get_or run (q + k) 0)) (at p)) (get_or run (q + k) 0) p (apart (q + k) (omega arith)) (above (q + k) (omega arith) (omega arith)) in
+    let g : c (get_or run (q + k) 0) p ≡ Greater = after (compare_keys (at (get_or run (q + k) 0)) (at p)) (get_or run (q + k) 0) p (apart (q + k) (omega arith)) (above (q + k) (omega arith) (omega arith)) in
     rw e ((places_total at).antisymm p (get_or run (q + k) 0) ∙ ap ordering_reverse g)) in
     sorted-append c (take q run) (p ∷ drop q run)
     (sorted-append_left c (take q run) (drop q run) parts)

@@ -3,7 +3,7 @@ use Rattle.std.proofs.Common.{◌≡◌, ◌<◌, ◌≤◌, ◌+◌, ℕ, zero,
 use Rattle.std.specs.List.Sorted.{IsPermutation, IsSorted}
 use Rattle.std.specs.Ordering.{nat_cmp, ordering_then, ordering_reverse, is_lt}
 use Rattle.std.specs.declared.cmp.Ordering.{Ordering}
-use Rattle.std.specs.declared.cmp.Ordering.TheVariants.{Less, Equal, Greater}
+use Rattle.std.specs.declared.cmp.Ordering.TheVariants.{Less, Greater}
 use Rattle.std.proofs.lemmas.Bool.Decides.{nat_tests}
 use Rattle.std.proofs.lemmas.List.{length-map}
 use Rattle.std.proofs.lemmas.List.Folds.{fold-map}
@@ -13,9 +13,8 @@ use Rattle.std.proofs.lemmas.Map.Keys.{sorted_from_all_adjacent}
 use Rattle.su_base.specs.declared.values.Value.{Value}
 use Rattle.su_base.specs.contracts.values.ValueOrd.TheImpl.{ghosts}
 use Rattle.su_base.specs.Value.{compare_values}
-use Rattle.su_index.specs.Lead.{IsLead}
-use Rattle.su_index.specs.Order.{compare_places, count_below, IsRun}
-use Rattle.su_index.proofs.Leads.{lead_first}
+use Rattle.su_index.specs.Lead.{lead_of, IsLead}
+use Rattle.su_index.specs.Order.{compare_keys, compare_places, count_below, IsRun}
 use Rattle.su_index.proofs.Runs.{places_total, same_order, count_by-cons, count_below-suc}
 use Rattle.su_index.proofs.Changed.{after, count_below_one}
 
@@ -55,18 +54,14 @@ some_key (key ∷ keys) h = key
 abbrev pub key_cmp : Key → Key → Ordering
 key_cmp a b = ordering_then (ordering_then (nat_cmp a.0 b.0) (ghosts.cmp a.1.now b.1.now)) (nat_cmp a.2 b.2)
 
-then_assoc : (o p q : Ordering) → ordering_then (ordering_then o p) q ≡ ordering_then o (ordering_then p q)
-then_assoc Less p q = refl
-then_assoc Equal p q = refl
-then_assoc Greater p q = refl
-
 -- the order of two keys is that of their positions
 same_key : (at : ℕ → Value) (a b : Key) → IsLead a.0 a.1.now × (a.1.now ≡ at a.2) → IsLead b.0 b.1.now × (b.1.now ≡ at b.2) → compare_places at b.2 a.2 ≡ key_cmp b a
 same_key at a b e f =
-    ap (λ o. ordering_then o (nat_cmp b.2 a.2)) (ap (λ v. compare_values v (at a.2)) (sym f.1) ∙ ap (λ v. compare_values b.1.now v) (sym e.1))
-    ∙ sym (lead_first b.0 a.0 b.1.now a.1.now (nat_cmp b.2 a.2) f.0 e.0)
-    ∙ ap (λ o. ordering_then (nat_cmp b.0 a.0) (ordering_then o (nat_cmp b.2 a.2))) (sym (same_order b.1.now a.1.now))
-    ∙ sym (then_assoc (nat_cmp b.0 a.0) (ghosts.cmp b.1.now a.1.now) (nat_cmp b.2 a.2))
+    ap (λ v. ordering_then (compare_keys v (at a.2)) (nat_cmp b.2 a.2)) (sym f.1)
+    ∙ ap (λ v. ordering_then (compare_keys b.1.now v) (nat_cmp b.2 a.2)) (sym e.1)
+    ∙ ap (λ m. ordering_then (ordering_then (nat_cmp m (lead_of a.1.now)) (compare_values b.1.now a.1.now)) (nat_cmp b.2 a.2)) (sym f.0)
+    ∙ ap (λ m. ordering_then (ordering_then (nat_cmp b.0 m) (compare_values b.1.now a.1.now)) (nat_cmp b.2 a.2)) (sym e.0)
+    ∙ ap (λ o. ordering_then (ordering_then (nat_cmp b.0 a.0) o) (nat_cmp b.2 a.2)) (sym (same_order b.1.now a.1.now))
 
 module _ (at : ℕ → Value) (from n : ℕ) (keys sorted : List Key) (perm : IsPermutation keys sorted)
     (values : All (λ key. IsLead key.0 key.1.now × (key.1.now ≡ at key.2)) keys)
@@ -102,7 +97,7 @@ module _ (at : ℕ → Value) (from n : ℕ) (keys sorted : List Key) (perm : Is
       let is_q : q ≡ b.2 = get_or-map sorted (k + 1) d 0 (omega arith) in
       let e : compare_places at b.2 a.2 ≡ key_cmp b a = same_key at a b (all k d (omega arith)) (all (k + 1) d (omega arith)) in
       let f : is_lt (compare_places at b.2 a.2) ≡ false = ap is_lt e ∙ order k d (omega arith) (omega arith) in
-      let g : compare_places at b.2 a.2 ≡ Greater = after (compare_values (at b.2) (at a.2)) b.2 a.2 (λ same. apart (is_q ∙ same ∙ sym is_p)) f in
+      let g : compare_places at b.2 a.2 ≡ Greater = after (compare_keys (at b.2) (at a.2)) b.2 a.2 (λ same. apart (is_q ∙ same ∙ sym is_p)) f in
       rw (is_p, is_q) ((places_total at).antisymm a.2 b.2 ∙ ap ordering_reverse g)
 
   pub IsRun-sorted : IsRun at from run

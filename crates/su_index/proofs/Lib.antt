@@ -1,4 +1,5 @@
 pub mod Changed
+pub mod Entries
 pub mod Keys
 pub mod Leads
 pub mod Matched

@@ -11,8 +11,7 @@ use Rattle.std.proofs.lemmas.List.Sums.{sum_by_more}
 use Rattle.std.proofs.lemmas.List.Elements.{recursion_from_All}
 use Rattle.std.proofs.lemmas.Map.Keys.{sorted_head}
 use Rattle.su_base.specs.declared.values.Value.{Value}
-use Rattle.su_base.specs.Value.{compare_values}
-use Rattle.su_index.specs.Order.{compare_places, comes_before, count_below, IsRun}
+use Rattle.su_index.specs.Order.{compare_keys, compare_places, comes_before, count_below, IsRun}
 use Rattle.su_index.proofs.Runs.{places_total, count_by-cons, count_by-append, Before, AllBefore, Before-append_left, Before-append_right, sorted-append, sorted-append_left, sorted-append_before, sorted_one, sorted_nil, sorted-drop}
 use Rattle.su_index.proofs.Search.{is_less}
 use Rattle.su_index.proofs.Spans.{run_positions, run_from}
@@ -104,7 +103,7 @@ module _ (at : ℕ → Value) (early late run : List ℕ) (from j p count : ℕ)
       let w : length rest ≡ length early - from = length-drop from early in
       let small : get_or early (from + (count + k)) 0 < 0 + length early = run_positions at 0 early e (from + (count + k)) 0 (omega arith) in
       let apart : get_or rest (count + k) 0 ≡ p → ⊥ = λ same. omega (arith, late_from, small, f, same) in
-      let o : c (get_or rest (count + k) 0) p ≡ Greater = after (compare_values (at (get_or rest (count + k) 0)) (at p)) (get_or rest (count + k) 0) p apart (above (count + k) (omega arith) (omega arith)) in
+      let o : c (get_or rest (count + k) 0) p ≡ Greater = after (compare_keys (at (get_or rest (count + k) 0)) (at p)) (get_or rest (count + k) 0) p apart (above (count + k) (omega arith) (omega arith)) in
       rw g ((places_total at).antisymm p (get_or rest (count + k) 0) ∙ ap ordering_reverse o))
 
   run_before_rest : AllBefore c run (take count rest ++ drop count rest)

@@ -8,8 +8,7 @@ use Rattle.std.specs.declared.cmp.Ordering.TheVariants.{Less, Equal, Greater}
 use Rattle.std.proofs.lemmas.Bool.Decides.{nat_tests}
 use Rattle.std.proofs.lemmas.Map.Keys.{sorted_head, sorted_tail}
 use Rattle.su_base.specs.declared.values.Value.{Value}
-use Rattle.su_base.specs.Value.{compare_values}
-use Rattle.su_index.specs.Order.{compare_places, count_below, is_kept, rank_of, IsRun, IsIndex}
+use Rattle.su_index.specs.Order.{compare_keys, compare_places, count_below, is_kept, rank_of, IsRun, IsIndex}
 use Rattle.su_index.proofs.Runs.{count_below-suc, count_by-cons, Before, sorted_cons, sorted_nil}
 
 pub count_below-le : (test : ℕ → Bool) (m n : ℕ) → m ≤ n → count_below test m ≤ count_below test n
@@ -84,7 +83,7 @@ module _ (kept : List Bool) where
     kept_before p [] k b = tt
     kept_before p (q ∷ run) k b =
         elim (is_kept kept q) as (λ t. is_kept kept q ≡ t → Before (compare_places other) (rank_of kept p) (map (rank_of kept) (cond t (q ∷ filter (is_kept kept) run) (filter (is_kept kept) run)))) [
-          | true ↦ λ j. (rw (same p k, same q j) (kept_less (compare_values (at p) (at q)) p q k b.0), kept_before p run k b.1)
+          | true ↦ λ j. (rw (same p k, same q j) (kept_less (compare_keys (at p) (at q)) p q k b.0), kept_before p run k b.1)
           | false ↦ λ j. kept_before p run k b.1
         ] refl
 

@@ -13,7 +13,8 @@ use Rattle.su_base.specs.declared.values.Value.TheVariants.{Int, Text}
 use Rattle.su_base.specs.Value.{compare_values}
 use Rattle.su_base.specs.contracts.values.ValueOrd.TheImpl.{ghosts}
 use Rattle.su_base.specs.contracts.values.ValueOrd.TheImpl.Laws.{total-law}
-use Rattle.su_index.specs.Order.{compare_places, count_below}
+use Rattle.su_index.specs.Lead.{lead_of}
+use Rattle.su_index.specs.Order.{compare_keys, compare_places, count_below}
 
 -- the order of values is that of their derived `cmp`
 pub same_order : (v w : Value) → ghosts.cmp v w ≡ compare_values v w
@@ -29,8 +30,11 @@ values_total = record {
   congr = λ v w x p. rw (← same_order v x, ← same_order w x) (total-law.congr v w x (same_order v w ∙ p));
 }
 
+pub keys_total : IsTotalOrder compare_keys
+keys_total = then_total (on_total lead_of nat_cmp_total) values_total
+
 pub places_total : (at : ℕ → Value) → IsTotalOrder (compare_places at)
-places_total at = then_total (on_total at values_total) nat_cmp_total
+places_total at = then_total (on_total at keys_total) nat_cmp_total
 
 -- ---- lists in order
 

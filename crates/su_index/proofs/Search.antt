@@ -9,10 +9,10 @@ use Rattle.std.proofs.lemmas.Bool.{false≢true, cases_eq}
 use Rattle.std.proofs.lemmas.Map.Keys.{Less-from_sorted}
 use Rattle.su_base.specs.declared.values.Value.{Value}
 use Rattle.su_index.specs.Order.{compare_places, compare_entries, comes_before}
-use Rattle.su_index.proofs.Runs.{values_total}
+use Rattle.su_index.proofs.Runs.{keys_total}
 
 pub entries_total : IsTotalOrder (λ (a b : Value × ℕ). compare_entries a.0 a.1 b.0 b.1)
-entries_total = then_total (on_total (λ (a : Value × ℕ). a.0) values_total) (on_total (λ (a : Value × ℕ). a.1) nat_cmp_total)
+entries_total = then_total (on_total (λ (a : Value × ℕ). a.0) keys_total) (on_total (λ (a : Value × ℕ). a.1) nat_cmp_total)
 
 pub is_less : (o : Ordering) → is_lt o ≡ true → o ≡ Less
 is_less Less e = refl

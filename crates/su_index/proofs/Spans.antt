@@ -12,10 +12,10 @@ use Rattle.std.proofs.lemmas.Option.{slice_get-get_or}
 use Rattle.std.proofs.lemmas.Map.Keys.{Less-from_sorted}
 use Rattle.su_base.specs.declared.values.Value.{Value}
 use Rattle.su_base.specs.declared.values.Value.TheVariants.{Int}
-use Rattle.su_base.specs.Value.{compare_values}
 use Rattle.su_index.specs.Matches.{has_value, matches, IsMatch}
-use Rattle.su_index.specs.Order.{compare_places, comes_before, has_at, value_at, count_below, HaveColumn, ArePositions, IsSpan, IsRun, IsIndex}
-use Rattle.su_index.proofs.Runs.{values_total, count_below-same, count_below-upto, count_by-cons, count_by-block}
+use Rattle.su_index.specs.Order.{compare_keys, compare_places, comes_before, has_at, value_at, count_below, HaveColumn, ArePositions, IsSpan, IsRun, IsIndex}
+use Rattle.su_index.proofs.Leads.{same_values}
+use Rattle.su_index.proofs.Runs.{keys_total, count_below-same, count_below-upto, count_by-cons, count_by-block}
 
 pub le_or : (a b : ℕ) → (a ≤ b) ⊎ (b < a)
 le_or a b = elim (nat_le a b) as (λ t. nat_le a b ≡ t → (a ≤ b) ⊎ (b < a)) [
@@ -65,10 +65,10 @@ then_less Greater q r e f = absurd (cc)
 -- two positions with one value are in order as numbers
 less_with_value : (at : ℕ → Value) (v : Value) (q r : ℕ) → has_at at v q ≡ true → has_at at v r ≡ true → compare_places at q r ≡ Less → q < r
 less_with_value at v q r a b less =
-    let e : compare_values (at q) v ≡ Equal = is_equal _ a in
-    let f : compare_values (at r) v ≡ Equal = is_equal _ b in
-    let g : compare_values v (at r) ≡ Equal = values_total.antisymm v (at r) ∙ ap ordering_reverse f in
-    then_less (compare_values (at q) (at r)) q r less (values_total.congr (at q) v (at r) e ∙ g)
+    let e : compare_keys (at q) v ≡ Equal = is_equal _ a in
+    let f : compare_keys (at r) v ≡ Equal = is_equal _ b in
+    let g : compare_keys v (at r) ≡ Equal = keys_total.antisymm v (at r) ∙ ap ordering_reverse f in
+    then_less (compare_keys (at q) (at r)) q r less (keys_total.congr (at q) v (at r) e ∙ g)
 
 -- ---- the places that two searches find
 
@@ -81,12 +81,12 @@ pub IsSpan-search : (at : ℕ → Value) (v : Value) (run : List ℕ) (top first
 IsSpan-search at v run top first past positions a b below above below' above' = record {
   start = elim (le_or first past) [
     | inl le ↦ le
-    | inr less ↦ absurd (false≢true (sym (above' past (omega arith) (omega arith)) ∙ later_too (compare_values (at (slice_index run past)) v) (slice_index run past) top (below past less)))
+    | inr less ↦ absurd (false≢true (sym (above' past (omega arith) (omega arith)) ∙ later_too (compare_keys (at (slice_index run past)) v) (slice_index run past) top (below past less)))
   ];
   end = b;
-  below = λ k h. eq_below (compare_values (at (slice_index run k)) v) (slice_index run k) (below k h);
-  among = λ k h l. eq_among (compare_values (at (slice_index run k)) v) (slice_index run k) top (above k h (omega arith)) (below' k l);
-  above = λ k h l. eq_above (compare_values (at (slice_index run k)) v) (slice_index run k) top (positions k 0 l) (above' k h l);
+  below = λ k h. eq_below (compare_keys (at (slice_index run k)) v) (slice_index run k) (below k h);
+  among = λ k h l. eq_among (compare_keys (at (slice_index run k)) v) (slice_index run k) top (above k h (omega arith)) (below' k l);
+  above = λ k h l. eq_above (compare_keys (at (slice_index run k)) v) (slice_index run k) top (positions k 0 l) (above' k h l);
 }
 
 -- ---- how many positions have the value
@@ -164,7 +164,7 @@ count_rows test rows zero h = refl
 count_rows test rows (suc n) h = rw (← add-one n) (sum_by_more (λ row. cond (test row) 1 0) rows n [] (omega arith) ∙ ap (λ c. c + cond (test (get_or rows n [])) 1 0) (count_rows test rows n (omega arith)))
 
 pub has_value-at : (rows : List (List Value)) (column : ℕ) (v : Value) (p : ℕ) → HaveColumn column rows → p < length rows → has_value column v (get_or rows p []) ≡ has_at (value_at rows column) v p
-has_value-at rows column v p columns h = rw (slice_get-get_or (get_or rows p []) column (Int (pos 0)) (columns p [] h)) refl
+has_value-at rows column v p columns h = rw (slice_get-get_or (get_or rows p []) column (Int (pos 0)) (columns p [] h)) (sym (same_values (value_at rows column p) v))
 
 pub matches-below : (rows : List (List Value)) (column : ℕ) (v : Value) (n : ℕ) → HaveColumn column rows → n ≤ length rows → matches column v (take n rows) ≡ count_below (has_at (value_at rows column) v) n
 matches-below rows column v n columns h = count_rows (has_value column v) rows n h ∙ count_below-same _ _ n (λ k l. has_value-at rows column v k columns (omega arith))

@@ -1,14 +1,15 @@
 -- What an index is of.
-use Rattle.std.specs.Prelude.{◌≡◌, ◌<◌, ◌^◌, ℕ, List, length, slice_index_or, All, Bool, map, filter}
+use Rattle.std.specs.Prelude.{◌≡◌, ◌<◌, ◌^◌, ℕ, List, length, slice_index_or, All, Bool}
 use Rattle.std.specs.Vec.{vec_len, vec_capacity}
 use Rattle.su_base.specs.declared.values.Value.{Value}
 use Rattle.su_rel.specs.Stored.{Stored}
 use Rattle.su_index.specs.declared.index.Index.{Index}
-use Rattle.su_index.specs.Order.{value_at, is_kept, rank_of, ArePositions, IsIndex}
+use Rattle.su_index.specs.Entries.{positions, kept_entries, IsIndexWithLeads}
+use Rattle.su_index.specs.Order.{value_at, ArePositions}
 
 -- the index of the column, over the rows before the n-th
 abbrev pub IsIndexBelow : List (List Value) → ℕ → ℕ → Index → Type 0
-IsIndexBelow rows column n index = IsIndex (value_at rows column) n index.settled.items index.recent.items
+IsIndexBelow rows column n index = IsIndexWithLeads (value_at rows column) n index.settled.items index.recent.items
 
 -- the index of the column, over all rows
 abbrev pub IsIndexOf : List (List Value) → ℕ → Index → Type 0
@@ -28,17 +29,13 @@ pub record IsIndexed (stored : Stored) (all : List Index) : Type 0 where
   pub small : length stored.rows < 2 ^ 32
   pub indexes : AreIndexesBelow stored.rows (length stored.rows) all
 
--- the positions of the kept rows, in the same order
-abbrev pub kept_positions : List Bool → List ℕ → List ℕ
-kept_positions kept run = map (rank_of kept) (filter (is_kept kept) run)
-
--- each index has these alone
+-- each index has the entries of the kept rows alone
 abbrev pub AreKept : List Bool → List Index → List Index → Type 0
 AreKept kept old new =
     (column : ℕ) (d : Index) → column < length new
-    → ((slice_index_or new column d).settled.items ≡ kept_positions kept (slice_index_or old column d).settled.items)
-    × ((slice_index_or new column d).recent.items ≡ kept_positions kept (slice_index_or old column d).recent.items)
+    → ((slice_index_or new column d).settled.items ≡ kept_entries kept (slice_index_or old column d).settled.items)
+    × ((slice_index_or new column d).recent.items ≡ kept_entries kept (slice_index_or old column d).recent.items)
 
 -- the positions of each index are below n
 abbrev pub HavePositions : ℕ → List Index → Type 0
-HavePositions n indexes = All (λ index. ArePositions n index.settled.items × ArePositions n index.recent.items) indexes
+HavePositions n indexes = All (λ index. ArePositions n (positions index.settled.items) × ArePositions n (positions index.recent.items)) indexes

@@ -1,22 +1,20 @@
--- A number for each value that never falls as the values rise, so that a sort compares it first.
--- lead: of a whole number the number itself, held to 63 bits; of a text its first seven bytes, above all numbers'
-use Rattle.std.specs.Prelude.{◌≡◌, ◌<◌, ◌+◌, ◌-◌, ◌*◌, ◌^◌, ℕ, ℤ, pos, negsuc, List, [], ◌∷◌, All, min}
-use Rattle.std.proofs.Common.{zero, suc}
+-- A number for each value, the same for equal values, so that a sort and a search compare it first.
+-- lead: of a whole number its size, of a text a number made of all its bytes, each modulo 2 ^ 32
+use Rattle.std.specs.Prelude.{◌≡◌, ◌+◌, ◌*◌, ◌%◌, ◌^◌, ℕ, ℤ, List, fold, unsigned_abs}
 use Rattle.su_base.specs.declared.values.Value.{Value}
 use Rattle.su_base.specs.declared.values.Value.TheVariants.{Int, Text}
 
--- from 0 to 2 ^ 63 - 1
 abbrev pub lead_of_number : ℤ → ℕ
-lead_of_number (pos n) = 2 ^ 62 + min n (2 ^ 62 - 1)
-lead_of_number (negsuc n) = 2 ^ 62 - min (n + 1) (2 ^ 62)
+lead_of_number z = unsigned_abs z % 2 ^ 32
 
--- the first k bytes as one number, the first byte most
-abbrev pub lead_of_bytes : ℕ → List ℕ → ℕ
-lead_of_bytes zero bytes = 0
-lead_of_bytes (suc k) [] = 0
-lead_of_bytes (suc k) (b ∷ bytes) = b * 256 ^ k + lead_of_bytes k bytes
+-- the bytes as the digits of a number to the base 65599
+abbrev pub lead_of_bytes : List ℕ → ℕ
+lead_of_bytes bytes = fold (λ lead b. (lead * 65599 + b) % 2 ^ 32) 0 bytes
+
+abbrev pub lead_of : Value → ℕ
+lead_of (Int z) = lead_of_number z
+lead_of (Text bytes) = lead_of_bytes bytes
 
 -- the number is the value's lead
 abbrev pub IsLead : ℕ → Value → Type 0
-IsLead lead (Int z) = lead ≡ lead_of_number z
-IsLead lead (Text bytes) = (lead ≡ 2 ^ 63 + lead_of_bytes 7 bytes) × All (λ b. b < 256) bytes
+IsLead lead value = lead ≡ lead_of value

@@ -1,4 +1,4 @@
--- How an index orders the positions of the rows: by the value in its column, and where that is the same by position.
+-- How an index orders the positions of the rows: by the lead of the value in its column, then by the value, then by position.
 -- run: a list of positions in this order; settled and recent: the two runs of an index, of the earlier and of the later positions
 use Rattle.std.specs.Prelude.{◌≡◌, ◌<◌, ◌+◌, ◌^◌, ◌≤◌, ℕ, Bool, true, false, slice_index, cond, nat_eq, List, [], length, slice_index_or, count_by, All}
 use Rattle.std.proofs.Common.{zero, suc}
@@ -8,15 +8,20 @@ use Rattle.std.specs.declared.cmp.Ordering.{Ordering}
 use Rattle.su_base.specs.declared.values.Value.{Value}
 use Rattle.su_base.specs.declared.values.Value.TheVariants.{Int}
 use Rattle.su_base.specs.Value.{compare_values}
+use Rattle.su_index.specs.Lead.{lead_of}
 use Rattle.std.specs.Prelude.{pos}
 
 -- the value in the column of the row at a position
 abbrev pub value_at : List (List Value) → ℕ → ℕ → Value
 value_at rows column p = slice_index_or (slice_index_or rows p []) column (Int (pos 0))
 
+-- values by their leads, and as values where these are the same
+abbrev pub compare_keys : Value → Value → Ordering
+compare_keys v w = ordering_then (nat_cmp (lead_of v) (lead_of w)) (compare_values v w)
+
 -- how value v at position p stands to value w at position q
 abbrev pub compare_entries : Value → ℕ → Value → ℕ → Ordering
-compare_entries v p w q = ordering_then (compare_values v w) (nat_cmp p q)
+compare_entries v p w q = ordering_then (compare_keys v w) (nat_cmp p q)
 
 -- the same of two positions, where `at` gives the value at each
 abbrev pub compare_places : (ℕ → Value) → ℕ → ℕ → Ordering
@@ -28,7 +33,7 @@ comes_before at v p q = is_lt (compare_entries (at q) q v p)
 
 -- the row at position p has the value v
 abbrev pub has_at : (ℕ → Value) → Value → ℕ → Bool
-has_at at v p = is_eq (compare_values (at p) v)
+has_at at v p = is_eq (compare_keys (at p) v)
 
 -- the positions in the run whose row has the value stand from `first` up to `past`
 pub record IsSpan (at : ℕ → Value) (v : Value) (run : List ℕ) (first past : ℕ) : Type 0 where

@@ -3,7 +3,8 @@ ghost use Rattle.std.specs.Prelude.{◌≡◌, ◌<◌, ◌≤◌, ◌+◌, ◌-
 ghost use Rattle.su_rel.specs.Stored.{HaveWidth};
 ghost use Rattle.su_index.specs.Indexed.{AreIndexesBelow, HaveRoom};
 ghost use Rattle.su_index.specs.declared.index.Index.{Index as Indexed};
-ghost use Rattle.su_index.specs.Order.{value_at, with_value, IsRun, IsIndex};
+ghost use Rattle.su_index.specs.Entries.{IsRunWithLeads, IsIndexWithLeads};
+ghost use Rattle.su_index.specs.Order.{value_at, with_value};
 
 use crate::index::Index;
 use std::alloc::Global;
@@ -48,7 +49,7 @@ pub(crate) fn take_out(rows: &[Row], position: u32, indexes: &mut Vec<Index>)
     requires within { position < length rows.now }
     requires indexes { AreIndexesBelow rows.now (length rows.now) indexes.old.items }
     ensures len { length indexes.new.items ≡ length indexes.old.items }
-    ensures indexes { (column : ℕ) (d : Indexed) → column < length indexes.new.items → IsIndex (with_value (value_at rows.now column) position (value_at rows.now column (length rows.now - 1))) (length rows.now - 1) (slice_index_or indexes.new.items column d).settled.items (slice_index_or indexes.new.items column d).recent.items }
+    ensures indexes { (column : ℕ) (d : Indexed) → column < length indexes.new.items → IsIndexWithLeads (with_value (value_at rows.now column) position (value_at rows.now column (length rows.now - 1))) (length rows.now - 1) (slice_index_or indexes.new.items column d).settled.items (slice_index_or indexes.new.items column d).recent.items }
 {
     for column in 0..indexes.len() {
         indexes[column].take_out(rows, column, position);
@@ -59,7 +60,7 @@ pub(crate) fn take_out(rows: &[Row], position: u32, indexes: &mut Vec<Index>)
 pub(crate) fn grown(alloc: Global, rows: &[Row], indexes: &[Index]) -> Result<Vec<Index>, NoMemory>
     requires columns { HaveWidth (length indexes.now) rows.now }
     requires small { length rows.now < 2 ^ 32 }
-    requires settled { (column : ℕ) (d : Indexed) → column < length indexes.now → IsRun (value_at rows.now column) 0 (slice_index_or indexes.now column d).settled.items }
+    requires settled { (column : ℕ) (d : Indexed) → column < length indexes.now → IsRunWithLeads (value_at rows.now column) 0 (slice_index_or indexes.now column d).settled.items }
     requires within { (column : ℕ) (d : Indexed) → column < length indexes.now → length (slice_index_or indexes.now column d).settled.items ≤ length rows.now }
     ensures len { IfOk result (λ grown. length grown.items ≡ length indexes.now) }
     ensures indexes { IfOk result (λ grown. AreIndexesBelow rows.now (length rows.now) grown.items) }

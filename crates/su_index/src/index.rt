@@ -2,24 +2,26 @@
 ghost use Rattle.std.specs.Prelude.{◌≡◌, ◌<◌, ◌≤◌, ◌+◌, ◌-◌, ◌^◌, [], length, IfOk, OnOk};
 ghost use Rattle.std.specs.Vec.{vec_len, vec_capacity};
 ghost use Rattle.su_index.specs.Indexed.{IsIndexOf, IsIndexBelow};
+ghost use Rattle.su_index.specs.Entries.{IsRunWithLeads, IsIndexWithLeads};
 ghost use Rattle.su_index.specs.Matches.{matches, IsMatch};
-ghost use Rattle.su_index.specs.Order.{HaveColumn, value_at, with_value, IsRun, IsIndex};
+ghost use Rattle.su_index.specs.Order.{HaveColumn, value_at, with_value};
 
 use crate::edits::{move_within, put_in, take_out};
+use crate::entry::Entry;
 use crate::order::{span, value};
 use crate::sorting::{merged, sorted};
 use std::alloc::Global;
 use su_base::{NoMemory, Row, Value};
 
-/// The positions of the rows in order of (value, position): in one run the settled ones, in
-/// another the recent ones, which are the later positions.
+/// An entry for each row in order of (lead, value, position): in one run the settled ones, in another the
+/// recent ones, which are of the later positions.
 #[derive(Drop)]
 pub(crate) struct Index {
-    pub(crate) settled: Vec<u32>,
-    pub(crate) recent: Vec<u32>,
+    pub(crate) settled: Vec<Entry>,
+    pub(crate) recent: Vec<Entry>,
 }
 
-/// How many recent positions there may be before they are settled, however few are settled.
+/// How many recent entries there may be before they are settled, however few are settled.
 const FEW: usize = 1024;
 
 impl Index {
@@ -43,7 +45,7 @@ impl Index {
     ) -> Result<Index, NoMemory>
         requires columns { HaveColumn column rows.now }
         requires small { length rows.now < 2 ^ 32 }
-        requires settled { IsRun (value_at rows.now column) 0 self.now.settled.items }
+        requires settled { IsRunWithLeads (value_at rows.now column) 0 self.now.settled.items }
         requires within { length self.now.settled.items ≤ length rows.now }
         ensures { IfOk result (IsIndexOf rows.now column) }
     {
@@ -61,7 +63,7 @@ impl Index {
         })
     }
 
-    /// Makes room for one more position. Where there are many recent ones, they are settled.
+    /// Makes room for one more entry. Where there are many recent ones, they are settled.
     pub(crate) fn make_room(
         &mut self,
         alloc: Global,
@@ -113,10 +115,10 @@ impl Index {
     {
         let (first, past) = span(rows, column, self.settled.as_slice(), wanted);
         if k < past - first {
-            return self.settled[first + k] as usize;
+            return self.settled[first + k].position as usize;
         }
         let (later, _end) = span(rows, column, self.recent.as_slice(), wanted);
-        self.recent[later + (k - (past - first))] as usize
+        self.recent[later + (k - (past - first))].position as usize
     }
 
     /// Takes in the last row.
@@ -157,7 +159,7 @@ impl Index {
         requires columns { HaveColumn column rows.now }
         requires index { IsIndexBelow rows.now column (length rows.now - 1) self.old }
         requires within { position + 1 < length rows.now }
-        ensures { IsIndex (with_value (value_at rows.now column) position moved.now) (length rows.now - 1) self.new.settled.items self.new.recent.items }
+        ensures { IsIndexWithLeads (with_value (value_at rows.now column) position moved.now) (length rows.now - 1) self.new.settled.items self.new.recent.items }
     {
         if (position as usize) < self.settled.len() {
             move_within(rows, column, &mut self.settled, moved, position);
@@ -171,7 +173,7 @@ impl Index {
         requires columns { HaveColumn column rows.now }
         requires index { IsIndexOf rows.now column self.old }
         requires within { position < length rows.now }
-        ensures { IsIndex (with_value (value_at rows.now column) position (value_at rows.now column (length rows.now - 1))) (length rows.now - 1) self.new.settled.items self.new.recent.items }
+        ensures { IsIndexWithLeads (with_value (value_at rows.now column) position (value_at rows.now column (length rows.now - 1))) (length rows.now - 1) self.new.settled.items self.new.recent.items }
     {
         self.forget_last(rows, column);
         let last = (rows.len() - 1) as u32;

@@ -1,8 +1,10 @@
 //! Runs of the rows that are kept.
-ghost use Rattle.std.specs.Prelude.{◌≡◌, ◌<◌, ◌^◌, ℕ, cond, length, slice_index, map, filter, IfOk};
+ghost use Rattle.std.specs.Prelude.{◌≡◌, ◌<◌, ◌^◌, ℕ, cond, length, slice_index, IfOk};
+ghost use Rattle.su_index.specs.Entries.{positions, kept_entries};
 ghost use Rattle.su_index.specs.Indexed.{HavePositions, AreKept};
-ghost use Rattle.su_index.specs.Order.{is_kept, rank_of, ArePositions};
+ghost use Rattle.su_index.specs.Order.{rank_of, ArePositions};
 
+use crate::entry::Entry;
 use crate::index::Index;
 use std::alloc::Global;
 use su_base::NoMemory;
@@ -30,17 +32,24 @@ pub(crate) fn ranks(alloc: Global, kept: &[bool]) -> Result<Vec<u32>, NoMemory>
     Ok(ranks)
 }
 
-/// The positions of the run that are kept, as what they come to.
-fn kept_run(alloc: Global, run: &[u32], kept: &[bool], ranks: &[u32]) -> Result<Vec<u32>, NoMemory>
-    requires positions { ArePositions (length kept.now) run.now }
+/// The entries of the rows that are kept, each with the position that it comes to.
+fn kept_run(
+    alloc: Global,
+    run: &[Entry],
+    kept: &[bool],
+    ranks: &[u32],
+) -> Result<Vec<Entry>, NoMemory>
+    requires positions { ArePositions (length kept.now) (positions run.now) }
     requires len { length ranks.now ≡ length kept.now }
     requires ranks { (p : ℕ) → p < length kept.now → slice_index ranks.now p ≡ rank_of kept.now p }
-    ensures { IfOk result (λ new. new.items ≡ map (rank_of kept.now) (filter (is_kept kept.now) run.now)) }
+    ensures { IfOk result (λ new. new.items ≡ kept_entries kept.now run.now) }
 {
     let mut new = Vec::with_capacity(alloc, run.len())?;
-    for position in run {
-        let place = *position as usize;
-        if kept[place] && new.push(ranks[place]).is_err() {
+    for entry in run {
+        let place = entry.position as usize;
+        let lead = entry.lead;
+        let position = ranks[place];
+        if kept[place] && new.push(Entry { lead, position }).is_err() {
             return Err(NoMemory);
         }
     }

@@ -2,15 +2,19 @@
 //!
 //! A table decides how many rows have a value in a column, and which is the k-th of them by position.
 //! Contracts see it as they see a relation, a width and the rows by position; the indexes appear in
-//! none. An index holds the positions in order of (value, position): most in one long run, the latest
-//! in a short one, which is merged into the long one when it is full. A look-up is a few binary
-//! searches; an insert moves some thousand bytes; a remove moves up to four bytes a row and column
-//! and takes no memory. It keeps no more than 2^32 - 2 rows, and ranges of values aren't asked for.
+//! none. An index holds an entry for each row in order of (lead, value, position): most in one long
+//! run, the latest in a short one, which is merged into the long one when it is full. An entry is the
+//! position and the lead of the value, a number made of all of it: eight bytes. A look-up is a few
+//! binary searches by lead, which read a row only where the leads are equal, as they seldom are where
+//! the values differ. An insert moves some ten thousand bytes; a remove moves up to eight bytes a row
+//! and column, twice or three times, and takes no memory. It keeps no more than 2^32 - 2 rows, and
+//! ranges of values aren't asked for.
 #![tactic(auto)]
 
 mod columns;
 mod crossing;
 mod edits;
+mod entry;
 mod index;
 mod keeping;
 pub mod laws;

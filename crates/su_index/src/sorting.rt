@@ -1,8 +1,10 @@
 //! Runs made at once: by a sort, and of two runs.
 ghost use Rattle.std.specs.Prelude.{◌≡◌, ◌<◌, ◌≤◌, ◌+◌, ◌^◌, ℕ, Bool, length, map, All, count_by, IfOk};
+ghost use Rattle.su_index.specs.Entries.{IsRunWithLeads};
 ghost use Rattle.su_index.specs.Lead.{IsLead};
-ghost use Rattle.su_index.specs.Order.{value_at, count_below, HaveColumn, IsRun};
+ghost use Rattle.su_index.specs.Order.{value_at, count_below, HaveColumn};
 
+use crate::entry::Entry;
 use crate::lead::lead;
 use crate::order::{place, value};
 use std::alloc::Global;
@@ -13,29 +15,30 @@ pub(crate) fn merged(
     alloc: Global,
     rows: &[Row],
     column: usize,
-    early: &[u32],
-    late: &[u32],
-) -> Result<Vec<u32>, NoMemory>
+    early: &[Entry],
+    late: &[Entry],
+) -> Result<Vec<Entry>, NoMemory>
     requires columns { HaveColumn column rows.now }
     requires whole { length early.now + length late.now ≤ length rows.now }
-    requires early { IsRun (value_at rows.now column) 0 early.now }
-    requires late { IsRun (value_at rows.now column) (length early.now) late.now }
-    ensures run { IfOk result (λ run. IsRun (value_at rows.now column) 0 run.items) }
+    requires early { IsRunWithLeads (value_at rows.now column) 0 early.now }
+    requires late { IsRunWithLeads (value_at rows.now column) (length early.now) late.now }
+    ensures run { IfOk result (λ run. IsRunWithLeads (value_at rows.now column) 0 run.items) }
     ensures len { IfOk result (λ run. length run.items ≡ length early.now + length late.now) }
 {
     let mut run = Vec::with_capacity(alloc, early.len() + late.len())?;
     let mut from = 0;
-    for position in late {
+    for entry in late {
         let rest = &early[from..];
         let count = place(
             rows,
             column,
             rest,
-            value(rows, column, *position),
-            *position,
+            entry.lead,
+            value(rows, column, entry.position),
+            entry.position,
         );
         run.extend_from_slice(&rest[..count])?;
-        if run.push(*position).is_err() {
+        if run.push(*entry).is_err() {
             return Err(NoMemory);
         }
         from += count;
@@ -50,7 +53,7 @@ fn keys_of<'a>(
     rows: &'a [Row],
     column: usize,
     from: usize,
-) -> Result<Vec<(u64, &'a Value, u32)>, NoMemory>
+) -> Result<Vec<(u32, &'a Value, u32)>, NoMemory>
     requires columns { HaveColumn column rows.now }
     requires small { length rows.now < 2 ^ 32 }
     requires from { from ≤ length rows.now }
@@ -69,34 +72,38 @@ fn keys_of<'a>(
     Ok(keys)
 }
 
-/// The positions of the keys.
-fn positions_of(alloc: Global, keys: &[(u64, &Value, u32)]) -> Result<Vec<u32>, NoMemory>
-    ensures { IfOk result (λ run. run.items ≡ map (λ key. key.2) keys.now) }
+/// The entries of the keys.
+fn entries_of(alloc: Global, keys: &[(u32, &Value, u32)]) -> Result<Vec<Entry>, NoMemory>
+    ensures { IfOk result (λ run. run.items ≡ map (λ key. record { lead = key.0; position = key.2 }) keys.now) }
 {
     let mut run = Vec::with_capacity(alloc, keys.len())?;
     for key in keys {
-        if run.push(key.2).is_err() {
+        let entry = Entry {
+            lead: key.0,
+            position: key.2,
+        };
+        if run.push(entry).is_err() {
             return Err(NoMemory);
         }
     }
     Ok(run)
 }
 
-/// The positions from `from` on as a run.
+/// The rows from `from` on as a run.
 pub(crate) fn sorted(
     alloc: Global,
     rows: &[Row],
     column: usize,
     from: usize,
-) -> Result<Vec<u32>, NoMemory>
+) -> Result<Vec<Entry>, NoMemory>
     requires columns { HaveColumn column rows.now }
     requires small { length rows.now < 2 ^ 32 }
     requires from { from ≤ length rows.now }
-    ensures run { IfOk result (λ run. IsRun (value_at rows.now column) from run.items) }
+    ensures run { IfOk result (λ run. IsRunWithLeads (value_at rows.now column) from run.items) }
     ensures len { IfOk result (λ run. from + length run.items ≡ length rows.now) }
 {
     let mut keys = keys_of(alloc, rows, column, from)?;
     keys.sort_unstable();
-    let run = positions_of(alloc, keys.as_slice())?;
+    let run = entries_of(alloc, keys.as_slice())?;
     Ok(run)
 }

@@ -60,6 +60,20 @@ fn a_value_in_many_rows_is_found_by_position(rt: HostRuntime) -> Result<(), Fail
 }
 
 #[test]
+fn a_number_and_its_opposite_are_told_apart(rt: HostRuntime) -> Result<(), Fail> {
+    let alloc = rt.alloc();
+    let mut table = Table::new(alloc, 2)?;
+    for (number, text) in [(5, "a"), (-5, "a"), (5, "b")] {
+        let _new = put(&rt, &mut table, row(alloc, number, text)?)?;
+    }
+    assert_eq!(rt; count(&rt, &table, 0, &Value::Int(-5)), 1);
+    for (k, place) in [(0, 0), (1, 2)] {
+        assert_eq!(rt; position(&rt, &table, 0, &Value::Int(5), k), place);
+    }
+    Ok(())
+}
+
+#[test]
 fn a_row_that_is_taken_out_is_in_no_index(rt: HostRuntime) -> Result<(), Fail> {
     let alloc = rt.alloc();
     let mut table = Table::new(alloc, 2)?;

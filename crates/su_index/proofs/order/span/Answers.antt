@@ -1,8 +1,14 @@
-use Rattle.std.proofs.Common.{length}
-use Rattle.su_index.proofs.Spans.{IsSpan-search}
+use Rattle.std.proofs.Common.{arith, length}
+use Rattle.su_index.specs.Entries.{positions}
 use Rattle.su_index.specs.Order.{value_at}
+use Rattle.su_index.proofs.Entries.{positions_length}
+use Rattle.su_index.proofs.Spans.{IsSpan-search}
 use Rattle.su_index.proofs.order.span.Goals as goal
 
 pub returns : goal.returns
 returns c =
-    IsSpan-search (value_at c.args.rows.now c.args.column) c.args.wanted.now c.args.run.now (length c.args.rows.now) _ _ c.requires.positions c.place-first.ensures.within c.past-past.ensures.within c.place-first.ensures.below c.place-first.ensures.above c.past-past.ensures.below c.past-past.ensures.above
+    let len = positions_length c.args.run.now in
+    let first = c.place-first.ensures in
+    let past = c.past-past.ensures in
+    IsSpan-search (value_at c.args.rows.now c.args.column) c.args.wanted.now (positions c.args.run.now) (length c.args.rows.now) _ _ c.requires.positions (omega (arith, first.within, len)) (omega (arith, past.within, len)) first.below
+    (λ k h l. first.above k h (omega (arith, l, len))) past.below (λ k h l. past.above k h (omega (arith, l, len)))

@@ -1,6 +1,6 @@
 use Rattle.su_index.specs.Order.{value_at}
-use Rattle.su_index.proofs.Merging.{Merging}
+use Rattle.su_index.proofs.Entries.{MergingEntries}
 use Rattle.su_index.proofs.sorting.merged.Given as goal
 
-abbrev pub invariant-loop-position : goal.invariant-loop-position
-invariant-loop-position l = Merging (value_at l.rows l.column) l.early l.late l.run.items l.from l.position-index
+abbrev pub invariant-loop-entry : goal.invariant-loop-entry
+invariant-loop-entry l = MergingEntries (value_at l.rows l.column) l.early l.late l.run.items l.from l.entry-index
