@@ -84,7 +84,7 @@ holds_added schema r rows row f o fd object numbered placed on none holds x y in
       ]
     ]
 
-holds_fewer : (fd : Fd) (object : ObjectEntry) (rows fewer : List (List Value)) → ((x : List Value) → Contains fewer x → Contains rows x) → HoldsOn fd object rows → HoldsOn fd object fewer
+pub holds_fewer : (fd : Fd) (object : ObjectEntry) (rows fewer : List (List Value)) → ((x : List Value) → Contains fewer x → Contains rows x) → HoldsOn fd object rows → HoldsOn fd object fewer
 holds_fewer fd object rows fewer among holds x y in_x in_y = holds x y (among x in_x) (among y in_y)
 
 module _ (db : DatabaseValue) (r : ℕ) (kept : IsWellKept db) (within : r < length db.tables) where
