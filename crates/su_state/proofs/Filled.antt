@@ -1,8 +1,11 @@
 -- Rows that may all be put in are inserted one after another.
-use Rattle.std.proofs.Common.{◌≡◌, ◌≢◌, ◌<◌, ◌≤◌, ◌+◌, ℕ, Bool, true, false, Ok, Err, List, [], ◌∷◌, ◌++◌, length, slice_get, get_or, set, Some, zero, suc, refl, sym, ap, subst, ◌∙◌, All, Contains, inl, inr, append_assoc, append-nil, arith}
+use Rattle.std.proofs.Common.{◌≡◌, ◌≢◌, ◌<◌, ◌≤◌, ◌+◌, ℕ, Bool, true, false, Ok, Err, List, [], ◌∷◌, ◌++◌, length, slice_get, get_or, set, None, Some, zero, suc, refl, sym, ap, subst, ◌∙◌, All, Contains, inl, inr, append_assoc, append-nil, arith}
 use Rattle.std.proofs.lemmas.List.{length-set, length-map, length_push, set-set}
 use Rattle.std.proofs.lemmas.List.Elements.{All-append, All-contains, All-head, All-tail, Contains-get_or, Contains-append_left, Contains-append_right, Contains-append_cases, Contains-push_cases}
 use Rattle.su_base.specs.declared.values.Value.{Value}
+use Rattle.std.specs.Option.{is_some}
+use Rattle.std.specs.Prelude.{MatchOption, Option}
+use Rattle.std.proofs.lemmas.Bool.{false≢true}
 use Rattle.su_base.specs.declared.values.Column.{Column}
 use Rattle.su_base.specs.Value.{kind_of}
 use Rattle.su_fd.specs.declared.dependencies.Fd.{Fd}
@@ -16,8 +19,8 @@ use Rattle.su_state.specs.Changes.{IsBreach, NoBreach, InsertAnswers, Inserts}
 use Rattle.su_state.specs.Loads.{InsertsAll}
 use Rattle.su_state.specs.Parts.{HaveOneWidth}
 use Rattle.su_state.specs.Filling.{KeepThrough, MayTake}
-use Rattle.su_state.proofs.Columns.{clash_from_break}
-use Rattle.su_state.proofs.Kept.{with_table, MayHave, table_here, holds_fewer, kept_with, added_with, unchanged_with, table_read}
+use Rattle.su_state.proofs.Columns.{clash_from_break, columns_few}
+use Rattle.su_state.proofs.Kept.{with_table, MayHave, flipped, holds_at, table_here, holds_fewer, kept_with, added_with, unchanged_with, table_read}
 
 Contains-first : (row : List Value) (rows : List (List Value)) → Contains (row ∷ rows) row
 Contains-first row rows = (0, omega arith, refl)
@@ -65,6 +68,28 @@ module _ (schema : SchemaValue) (relation : ℕ) (rows : List (List Value)) (f o
 
   pub keeps_unclashing : (sides : Sides) → AreSidesOf entry fd sides → ((row other : List Value) → Contains rows row → Contains rows other → ¬ Clash sides row other) → KeepThrough schema relation rows f o
   keeps_unclashing sides are none = keeps (λ row other here there broken. none row other here there (clash_from_break entry fd sides row other are broken))
+
+-- where nothing is found
+pub none_found : {X : Type 0} (found : Option X) (P : Type 0) (Q : X → Type 0) → is_some found ≡ false → MatchOption found P Q → P
+none_found None P Q none given = given
+none_found (Some x) P Q some given = absurd (false≢true (sym some))
+
+-- rows of which none breaks anything with a row that is there, nor with one another
+pub keeps_few : (db : DatabaseValue) (r : ℕ) (rows : List (List Value)) → IsWellKept db → r < length db.tables → All (NoBreach db.schema r (rows_of db r)) rows
+    → ((f o : ℕ) → KeepThrough db.schema r rows f o) → (f o : ℕ) → KeepThrough db.schema r (rows_of db r ++ rows) f o
+keeps_few db r rows kept within none among f o fd object numbered placed on row other here there broken =
+    let breach : (x y : List Value) → Contains rows x → Contains (rows_of db r) y → Break fd object x y → ⊥ =
+    λ x y given stored bad. All-contains (NoBreach db.schema r (rows_of db r)) rows x none given f o y (record { dependency = fd; through = object; numbered = numbered; placed = placed; on = on; stored = stored; broken = bad }) in
+    elim (Contains-append_cases (rows_of db r) rows row here) [
+      | inl one ↦ elim (Contains-append_cases (rows_of db r) rows other there) [
+        | inl two ↦ holds_at db r kept within f o fd object numbered placed on row other one two broken
+        | inr two ↦ breach other row two one (flipped fd object row other broken)
+      ]
+      | inr one ↦ elim (Contains-append_cases (rows_of db r) rows other there) [
+        | inl two ↦ breach row other one two broken
+        | inr two ↦ among f o fd object numbered placed on row other one two broken
+      ]
+    ]
 
 -- once the first is there or was there, the others may be put in
 may_take_more : (db new : DatabaseValue) (r : ℕ) (row : List Value) (rows : List (List Value)) → MayTake db r (row ∷ rows) → new.schema ≡ db.schema
@@ -123,6 +148,11 @@ short rows width few all k d less = omega (arith, few, all k d less)
 pub wide : (db : DatabaseValue) (r : ℕ) (rows : List (List Value)) (old : Stored) → IsWellKept db → r < length db.tables → old ≡ get_or db.tables r old → All (IsTyped (columns_of db r)) rows → HaveWidth old.width rows
 wide db r rows old kept within is typed k d less =
     typed_width (columns_of db r) (get_or rows k d) (typed k d less) ∙ sym (ap (λ t. t.width) (table_read db r old within is) ∙ kept.widths r within)
+
+pub narrow : (db : DatabaseValue) (r : ℕ) (old : Stored) → IsWellKept db → r < length db.tables → old ≡ get_or db.tables r old → old.width ≤ 32
+narrow db r old kept within is =
+    let width : old.width ≡ length (columns_of db r) = ap (λ t. t.width) (table_read db r old within is) ∙ kept.widths r within in
+    omega (arith, width, columns_few db.schema r kept.valid (omega (arith, within, kept.tables)))
 
 -- a table of the database, and what it is once the rows are put in
 module _ (db : DatabaseValue) (r : ℕ) (rows : List (List Value)) (old new : Stored) (kept : IsWellKept db) (within : r < length db.tables) (is : old ≡ get_or db.tables r old) (may : MayTake db r rows) (width : new.width ≡ old.width) where

@@ -4,6 +4,7 @@ pub mod Columns
 pub mod Copying
 pub mod Empty
 pub mod Filled
+pub mod Fitting
 pub mod Kept
 pub mod Least
 pub mod Loading

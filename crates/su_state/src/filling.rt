@@ -1,10 +1,14 @@
 //! Whether rows may all be put into a relation at once.
 ghost use Rattle.std.specs.Prelude.{◌≡◌, ◌<◌, ◌≤◌, ◌++◌, ℕ, length, All, IfOk};
 ghost use Rattle.std.specs.Bool.{OnTrue};
-ghost use Rattle.su_state.specs.DatabaseValue.{IsTyped};
+ghost use Rattle.su_rel.specs.Stored.{HaveWidth};
+ghost use Rattle.su_schema.specs.Checks.{columns_at};
+ghost use Rattle.su_state.specs.DatabaseValue.{IsTyped, columns_of, rows_of};
+ghost use Rattle.su_state.specs.Changes.{NoBreach};
 ghost use Rattle.su_state.specs.Parts.{HaveOneWidth};
 ghost use Rattle.su_state.specs.Filling.{KeepThrough, MayTake};
 
+use crate::breaches::first_breach;
 use crate::changes::MOST;
 use crate::checks::check_row;
 use crate::databases::Database;
@@ -12,6 +16,7 @@ use crate::parts::none_clash;
 use crate::sides::sides_through;
 use std::alloc::Global;
 use su_base::{Column, NoMemory, Row};
+use su_index::Table;
 use su_schema::Schema;
 
 /// Whether every row fits its relation's columns.
@@ -93,7 +98,57 @@ fn keep_all(alloc: Global, schema: &Schema, both: &Both) -> Result<bool, NoMemor
     Ok(true)
 }
 
+/// Whether none of the rows breaks a dependency with a row that is there.
+fn none_breaks(schema: &Schema, table: &Table, relation: u8, rows: &[Row]) -> bool
+    requires relation { relation < length schema.now.relations }
+    requires width { table.now.width ≡ length (columns_at schema.now relation) }
+    requires rows { HaveWidth table.now.width rows.now }
+    ensures { OnTrue result (All (NoBreach schema.now relation table.now.rows) rows.now) }
+{
+    for row in rows {
+        if first_breach(schema, table, relation, row).is_some() {
+            return false;
+        }
+    }
+    true
+}
+
 impl Database {
+    /// Whether every enforced dependency still holds with the rows, where they are few: each is held
+    /// against the rows there by the indexes, and all of them against one another.
+    fn keep_few(&self, relation: u8, rows: &[Row]) -> Result<bool, NoMemory>
+        requires relation { relation < length self.now.schema.relations }
+        requires typed { All (IsTyped (columns_of self.now relation)) rows.now }
+        ensures { IfOk result (λ kept. OnTrue kept ((f o : ℕ) → KeepThrough self.now.schema relation (rows_of self.now relation ++ rows.now) f o)) }
+    {
+        self.schema.keeps_its_rules();
+        let table = &self.tables[relation as usize];
+        if !none_breaks(&self.schema, table, relation, rows) {
+            return Ok(false);
+        }
+        let both = Both {
+            relation,
+            stored: &[],
+            more: rows,
+        };
+        keep_all(self.alloc, &self.schema, &both)
+    }
+
+    /// The same where they are many: in one pass over the rows there and these.
+    fn keep_many(&self, relation: u8, rows: &[Row]) -> Result<bool, NoMemory>
+        requires relation { relation < length self.now.schema.relations }
+        requires typed { All (IsTyped (columns_of self.now relation)) rows.now }
+        ensures { IfOk result (λ kept. OnTrue kept ((f o : ℕ) → KeepThrough self.now.schema relation (rows_of self.now relation ++ rows.now) f o)) }
+    {
+        self.schema.keeps_its_rules();
+        let both = Both {
+            relation,
+            stored: self.tables[relation as usize].as_slice(),
+            more: rows,
+        };
+        keep_all(self.alloc, &self.schema, &both)
+    }
+
     /// Whether the rows may all be put in at once: then no insert of them is refused. No clause says
     /// when they may not; their inserts one after another tell.
     pub(crate) fn may_take(&self, relation: u8, rows: &[Row]) -> Result<bool, NoMemory>
@@ -104,15 +159,13 @@ impl Database {
         if !are_typed(relation, self.schema.columns(relation), rows) {
             return Ok(false);
         }
-        let stored = self.tables[relation as usize].as_slice();
-        if stored.len() + rows.len() > MOST {
+        let there = self.tables[relation as usize].len();
+        if there + rows.len() > MOST {
             return Ok(false);
         }
-        let both = Both {
-            relation,
-            stored,
-            more: rows,
-        };
-        keep_all(self.alloc, &self.schema, &both)
+        if rows.len() < there / 8 {
+            return self.keep_few(relation, rows);
+        }
+        self.keep_many(relation, rows)
     }
 }

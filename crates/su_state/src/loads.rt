@@ -49,7 +49,7 @@ impl Database {
     }
 
     /// Inserts the rows one after another into a copy of the table, which a refused row drops.
-    fn load_each(&mut self, relation: u8, rows: List<Row>) -> Result<u64, LoadEnd>
+    pub(crate) fn load_each(&mut self, relation: u8, rows: List<Row>) -> Result<u64, LoadEnd>
         requires { relation < length self.old.schema.relations }
         ensures { Loads self.old relation rows result self.new }
     {
@@ -68,9 +68,11 @@ impl Database {
     /// Inserts the rows one after another, and answers how many were new. The first row that is
     /// refused refuses them all, and none is put in.
     ///
-    /// Where no row is refused they go in at once: one pass over the rows there and the rows given
-    /// for each enforced dependency, and one sort per column. Else they go one by one into a copy of
-    /// the table, until the row is met that is refused.
+    /// Where no row is refused they go in at once: for each enforced dependency one pass over the
+    /// rows there and the rows given, in memory for their values on both sides, and one sort per
+    /// column; few rows are held against those there by the indexes. Else they go one by one into a
+    /// copy of the table, until the row is met that is refused, or that would be one too many if all
+    /// were new.
     pub fn load(&mut self, relation: u8, rows: List<Row>) -> Result<u64, LoadEnd>
         requires { relation < length self.old.schema.relations }
         ensures { Loads self.old relation rows result self.new }

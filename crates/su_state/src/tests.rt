@@ -252,6 +252,87 @@ fn load(alloc: Global, db: &mut Database, text: &str) -> Result<String, NoMemory
     load_told(alloc, &db.load(0, rows))
 }
 
+fn load_each(alloc: Global, db: &mut Database, text: &str) -> Result<String, NoMemory> {
+    let rows = rows(alloc, text)?;
+    if db.schema().relations() == 0 {
+        return words(alloc, "no relation", &[]);
+    }
+    load_told(alloc, &db.load_each(0, rows))
+}
+
+fn number(alloc: Global, number: i64) -> Result<Row, NoMemory> {
+    let mut row = List::new(alloc);
+    row.push(Value::Int(number))?;
+    Ok(row)
+}
+
+fn million(alloc: Global) -> Result<List<Row>, NoMemory> {
+    let mut rows = List::new(alloc);
+    for n in 0..1000000 {
+        rows.push(number(alloc, n)?)?;
+    }
+    Ok(rows)
+}
+
+fn load_million(alloc: Global, db: &mut Database) -> Result<String, NoMemory> {
+    let rows = million(alloc)?;
+    if db.schema().relations() == 0 {
+        return words(alloc, "no relation", &[]);
+    }
+    load_told(alloc, &db.load(0, rows))
+}
+
+fn find(alloc: Global, db: &Database, name: &str) -> Result<String, NoMemory> {
+    match db.relation(name) {
+        Ok(relation) => words(alloc, "relation", &[relation as i64]),
+        Err(fault) => fault_told(alloc, &fault),
+    }
+}
+
+fn first_is_at_most_second() -> Cond
+    ensures { Fits 2 result }
+{
+    Cond::Compare(Literal {
+        left: Operand::Place(0),
+        op: Op::LessEqual,
+        right: Operand::Place(1),
+    })
+}
+
+fn second_is_not_2() -> Cond
+    ensures { Fits 2 result }
+{
+    Cond::Compare(Literal {
+        left: Operand::Place(1),
+        op: Op::NotEqual,
+        right: Operand::Const(Value::Int(2)),
+    })
+}
+
+fn both(alloc: Global, first: Cond, second: Cond) -> Result<Cond, NoMemory>
+    requires first { Fits 2 first }
+    requires second { Fits 2 second }
+    ensures { IfOk result (Fits 2) }
+{
+    let mut parts = List::new(alloc);
+    parts.push(first)?;
+    parts.push(second)?;
+    Ok(Cond::All(parts))
+}
+
+// Deletes the rows whose first value is at most the second, which isn't 2.
+fn delete_some(alloc: Global, db: &mut Database) -> Result<String, NoMemory> {
+    let condition = both(alloc, first_is_at_most_second(), second_is_not_2())?;
+    if db.schema().relations() == 0 {
+        return words(alloc, "no relation", &[]);
+    }
+    if db.schema().columns(0).len() != 2 {
+        return words(alloc, "no pairs", &[]);
+    }
+    let count = db.delete_where(0, &condition)?;
+    words(alloc, "deleted", &[(count % 1000) as i64])
+}
+
 // The rows in order, each with a `;` behind it.
 fn print(alloc: Global, db: &Database) -> Result<String, NoMemory> {
     let mut text = String::new(alloc);
@@ -271,6 +352,10 @@ fn answer(alloc: Global, db: &mut Database, line: &str) -> Result<String, NoMemo
         b"insert" => insert(alloc, db, field(line, 1)),
         b"delete" => delete(alloc, db, field(line, 1)),
         b"load" => load(alloc, db, field(line, 1)),
+        b"load each" => load_each(alloc, db, field(line, 1)),
+        b"load million" => load_million(alloc, db),
+        b"delete some" => delete_some(alloc, db),
+        b"find" => find(alloc, db, field(line, 1)),
         b"print" => print(alloc, db),
         _ => define(alloc, db, line),
     }
@@ -421,6 +506,85 @@ delete|1 1|true
 delete|2 2|true
 o|AB|P|A=A B=B|defined
 insert|1 1|breaks 0 0 0 1 2";
+    assert!(rt; meets(rt.alloc(), lines)?);
+    Ok(())
+}
+
+#[test]
+fn rows_of_which_a_condition_is_true_are_deleted(rt: HostRuntime) -> Result<(), Fail> {
+    let lines = "i|A|defined
+i|B|defined
+r|P|A B|defined
+o|AB|P|A=A B=B|defined
+load|1 1;1 2;3 3|loaded 3
+delete some|deleted 2
+print| 1 2;
+delete some|deleted 0";
+    assert!(rt; meets(rt.alloc(), lines)?);
+    Ok(())
+}
+
+#[test]
+fn a_relation_takes_a_million_rows_and_no_more(rt: HostRuntime) -> Result<(), Fail> {
+    let lines = "r|R|A|defined
+load million|loaded 1000000
+insert|7|false
+insert|1000000|limit 0
+delete|7|true
+insert|1000000|true";
+    assert!(rt; meets(rt.alloc(), lines)?);
+    Ok(())
+}
+
+#[test]
+fn a_relation_is_found_by_its_name(rt: HostRuntime) -> Result<(), Fail> {
+    let lines = "find|R|unknown
+r|R|A|defined
+r|P|A|defined
+find|R|relation 0
+find|P|relation 1
+find|Q|unknown";
+    assert!(rt; meets(rt.alloc(), lines)?);
+    Ok(())
+}
+
+#[test]
+fn few_rows_are_held_against_many(rt: HostRuntime) -> Result<(), Fail> {
+    let lines = "i|A|defined
+i|B|defined
+r|P|A B|defined
+o|AB|P|A=A B=B|defined
+f|A|B|defined
+load|9 1;8 2;7 3;6 4;5 5;4 6;3 7;2 8;1 9;0 0;10 0;11 0;12 0;13 0;14 0;15 0;16 0|loaded 17
+load|4 6|loaded 0
+load|20 6|loaded 1
+load|4 7|refused 1 breaks 0 0 0 4 6
+load|21 1;21 2|refused 2 breaks 0 0 0 21 1
+load|21 1;21 1|loaded 1
+load each|22 1;22 2|refused 2 breaks 0 0 0 22 1
+load each|22 1;4 6|loaded 1
+insert|22 2|breaks 0 0 0 22 1
+insert|21 2|breaks 0 0 0 21 1";
+    assert!(rt; meets(rt.alloc(), lines)?);
+    Ok(())
+}
+
+// The loads of `a_load_may_break_by_itself`, row by row.
+#[test]
+fn rows_loaded_one_by_one_answer_the_same(rt: HostRuntime) -> Result<(), Fail> {
+    let lines = "i|A|defined
+i|B|defined
+r|P|A B|defined
+o|AB|P|A=A B=B|defined
+f|A|B|defined
+load each|1 1;1 2|refused 2 breaks 0 0 0 1 1
+print|
+load each|2 5;1 1;2 5|loaded 2
+load each|1 1;2 5;1 1|loaded 0
+load each|4 4;2 6;5 5|refused 2 breaks 0 0 0 2 5
+load each|4 4;5 5;4 5|refused 3 breaks 0 0 0 4 4
+load each|3 5;2 5;4 1|loaded 2
+print| 1 1; 2 5; 3 5; 4 1;";
     assert!(rt; meets(rt.alloc(), lines)?);
     Ok(())
 }
