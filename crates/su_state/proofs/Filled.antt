@@ -1,7 +1,7 @@
 -- Rows that may all be put in are inserted one after another.
-use Rattle.std.proofs.Common.{◌≡◌, ◌≢◌, ◌<◌, ◌≤◌, ◌+◌, ℕ, Bool, true, false, Ok, Err, List, [], ◌∷◌, ◌++◌, length, slice_get, get_or, set, None, Some, zero, suc, refl, sym, ap, subst, ◌∙◌, All, Contains, inl, inr, append_assoc, append-nil, arith}
+use Rattle.std.proofs.Common.{◌≡◌, ◌<◌, ◌≤◌, ◌+◌, ℕ, true, false, Ok, List, [], ◌∷◌, ◌++◌, length, slice_get, get_or, None, Some, suc, refl, sym, ap, subst, ◌∙◌, All, Contains, inl, inr, append_assoc, append-nil, arith}
 use Rattle.std.proofs.lemmas.List.{length-set, length-map, length_push, set-set}
-use Rattle.std.proofs.lemmas.List.Elements.{All-append, All-contains, All-head, All-tail, Contains-get_or, Contains-append_left, Contains-append_right, Contains-append_cases, Contains-push_cases}
+use Rattle.std.proofs.lemmas.List.Elements.{All-append, All-contains, All-head, All-tail, Contains-get_or, Contains-append_left, Contains-append_right, Contains-append_cases}
 use Rattle.su_base.specs.declared.values.Value.{Value}
 use Rattle.std.specs.Option.{is_some}
 use Rattle.std.specs.Prelude.{MatchOption, Option}
@@ -9,13 +9,13 @@ use Rattle.std.proofs.lemmas.Bool.{false≢true}
 use Rattle.su_base.specs.declared.values.Column.{Column}
 use Rattle.su_base.specs.Value.{kind_of}
 use Rattle.su_fd.specs.declared.dependencies.Fd.{Fd}
-use Rattle.su_rel.specs.Changes.{PutIn, PutInAll}
+use Rattle.su_rel.specs.Changes.{PutInAll}
 use Rattle.su_rel.specs.Stored.{Stored, HaveWidth}
 use Rattle.su_schema.specs.SchemaValue.{SchemaValue, ObjectEntry}
 use Rattle.su_state.specs.DatabaseValue.{DatabaseValue, table_of, rows_of, columns_of, IsTyped, LiesIn, Break, HoldsOn, IsWellKept}
 use Rattle.su_state.specs.declared.sides.Sides.{Sides}
 use Rattle.su_state.specs.Sides.{AreSidesOf, Clash}
-use Rattle.su_state.specs.Changes.{IsBreach, NoBreach, InsertAnswers, Inserts}
+use Rattle.su_state.specs.Changes.{NoBreach, InsertAnswers, Inserts}
 use Rattle.su_state.specs.Loads.{InsertsAll}
 use Rattle.su_state.specs.Parts.{HaveOneWidth}
 use Rattle.su_state.specs.Filling.{KeepThrough, MayTake}

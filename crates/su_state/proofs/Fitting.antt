@@ -1,8 +1,7 @@
 -- All of two conditions fits where both do.
-use Rattle.std.proofs.Common.{List, [], ◌∷◌, ℕ, subst, sym, All as Each}
+use Rattle.std.proofs.Common.{[], ◌∷◌, ℕ, subst, sym, All as Each}
 use Rattle.std.specs.List.{flat_map}
 use Rattle.std.proofs.lemmas.List.Elements.{All-nil, All-append}
-use Rattle.su_where.specs.declared.literals.Literal.{Literal}
 use Rattle.su_where.specs.declared.conditions.Cond.{Cond}
 use Rattle.su_where.specs.declared.conditions.Cond.TheVariants.{All}
 use Rattle.su_where.specs.Truth.{comparisons_of, HasPlacesBelow, Fits}

@@ -1,19 +1,18 @@
 -- Rows have one part exactly where they agree at its columns; notes of rows that all stand show that none clash.
-use Rattle.std.proofs.Common.{◌≡◌, ◌+◌, ◌++◌, ℕ, Bool, true, false, cond, zero, suc, List, [], ◌∷◌, length, take, slice_get, get_or, ◌<◌, Option, None, Some, refl, sym, ap, subst, ◌∙◌, append-nil, Contains, All, arith}
+use Rattle.std.proofs.Common.{◌≡◌, ◌+◌, ◌++◌, ℕ, true, false, cond, zero, suc, List, [], ◌∷◌, length, take, slice_get, get_or, ◌<◌, Option, None, Some, refl, sym, ap, subst, ◌∙◌, append-nil, Contains, All, arith}
 use Rattle.std.specs.Prelude.{IsTrue, pos}
 use Rattle.std.specs.Ordering.{nat_cmp}
 use Rattle.std.specs.FinSet.{FinSet, contains}
-use Rattle.std.specs.HashMap.{HashMap, get, Updates}
+use Rattle.std.specs.HashMap.{HashMap, Updates}
 use Rattle.std.specs.Cmp.Lexicographic.{pointwise}
-use Rattle.std.proofs.lemmas.Bool.{false≢true}
 use Rattle.std.proofs.lemmas.Option.{none-some, slice_get-get_or}
-use Rattle.std.proofs.lemmas.List.Elements.{All-contains, All-append}
+use Rattle.std.proofs.lemmas.List.Elements.{All-contains}
 use Rattle.su_base.proofs.Same.{row_eq-Decides}
 use Rattle.su_base.specs.declared.values.Value.{Value}
 use Rattle.su_base.specs.declared.values.Value.TheVariants.{Int}
 use Rattle.su_base.specs.contracts.values.ValuePartialEq.TheImpl.{ghosts}
 use Rattle.su_state.specs.declared.sides.Sides.{Sides}
-use Rattle.su_state.specs.Sides.{AgreeAt, Clash}
+use Rattle.su_state.specs.Sides.{Clash}
 use Rattle.su_state.specs.Parts.{part_from, part_of, noted_in, KeepsNotes, IsNoted, HaveOneWidth}
 
 -- the part of the first rows' values, with one value more

@@ -1,7 +1,7 @@
 -- The parts of a row on the two sides of a dependency, and what is noted of the rows that were met.
 -- part: the values of a row in some columns, in the order of the columns
 -- noted: the right part that stands under a left part
-use Rattle.std.specs.Prelude.{◌≡◌, ℕ, ◌+◌, List, [], ◌∷◌, All, Contains, cond, length, Option, Some}
+use Rattle.std.specs.Prelude.{◌≡◌, ℕ, ◌+◌, List, [], ◌∷◌, Contains, cond, length, Option, Some}
 use Rattle.std.specs.Ordering.{nat_cmp}
 use Rattle.std.specs.FinSet.{FinSet, contains}
 use Rattle.std.specs.HashMap.{HashMap, get}
