@@ -61,7 +61,7 @@ kept_with db r table kept within may =
       few = λ q. by_relation (λ t q. length t.rows ≤ 1000000) db r table within may.few (λ q. kept.few q) q;
     }
 
-flipped : (fd : Fd) (object : ObjectEntry) (row other : List Value) → Break fd object row other → Break fd object other row
+pub flipped : (fd : Fd) (object : ObjectEntry) (row other : List Value) → Break fd object row other → Break fd object other row
 flipped fd object row other broken = record {
   lies = broken.lies;
   agree = λ a there. sym (broken.agree a there);
@@ -84,11 +84,11 @@ holds_added schema r rows row f o fd object numbered placed on none holds x y in
       ]
     ]
 
-holds_fewer : (fd : Fd) (object : ObjectEntry) (rows fewer : List (List Value)) → ((x : List Value) → Contains fewer x → Contains rows x) → HoldsOn fd object rows → HoldsOn fd object fewer
+pub holds_fewer : (fd : Fd) (object : ObjectEntry) (rows fewer : List (List Value)) → ((x : List Value) → Contains fewer x → Contains rows x) → HoldsOn fd object rows → HoldsOn fd object fewer
 holds_fewer fd object rows fewer among holds x y in_x in_y = holds x y (among x in_x) (among y in_y)
 
 module _ (db : DatabaseValue) (r : ℕ) (kept : IsWellKept db) (within : r < length db.tables) where
-  holds_at : (f o : ℕ) (fd : Fd) (object : ObjectEntry) → slice_get db.schema.fds f ≡ Some fd → slice_get db.schema.objects o ≡ Some object → object.relation ≡ r → HoldsOn fd object (rows_of db r)
+  pub holds_at : (f o : ℕ) (fd : Fd) (object : ObjectEntry) → slice_get db.schema.fds f ≡ Some fd → slice_get db.schema.objects o ≡ Some object → object.relation ≡ r → HoldsOn fd object (rows_of db r)
   holds_at f o fd object numbered placed on =
       let is_fd = get_or_from_slice_get db.schema.fds f fd fd numbered in
       let is_object = get_or_from_slice_get db.schema.objects o object object placed in

@@ -3,9 +3,12 @@ pub mod Breaking
 pub mod Columns
 pub mod Copying
 pub mod Empty
+pub mod Filled
+pub mod Fitting
 pub mod Kept
 pub mod Least
 pub mod Loading
 pub mod Paired
+pub mod Noted
 pub mod Staying
 pub mod Typed

@@ -5,3 +5,5 @@ pub mod Definitions
 pub mod Adding
 pub mod Sides
 pub mod Pairs
+pub mod Parts
+pub mod Filling

@@ -9,7 +9,7 @@ use crate::faults::StateFault;
 use su_base::{Row, copy_row};
 
 /// A relation has at most so many rows.
-const MOST: usize = 1_000_000;
+pub const MOST: usize = 1_000_000;
 
 impl Database {
     /// What an insert of the row answers.

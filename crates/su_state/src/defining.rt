@@ -7,6 +7,7 @@ ghost use Rattle.su_state.specs.Adding.{HaveTables, HasAdded, IsNarrow, AddedHol
 use crate::databases::Database;
 use crate::faults::DefineFault;
 use crate::pairs::least_pair;
+use crate::parts::none_clash;
 use crate::sides::sides_through;
 use std::alloc::Global;
 use su_base::{NoMemory, Str, copy_row};
@@ -34,6 +35,9 @@ fn check_through(
         return Ok(());
     };
     let table = &tables[schema.object_relation(object) as usize];
+    if none_clash(alloc, &sides, table.as_slice(), &[])? {
+        return Ok(());
+    }
     match least_pair(table, &sides) {
         Some(pair) => Err(DefineFault::Breaks {
             fd: Fd {
@@ -143,9 +147,10 @@ fn add_table(
 
 impl Database {
     /// Adds the definition at the end of its list; a relation has no rows yet, and all rows stay.
-    /// A dependency or an object that doesn't hold on the stored rows is refused: each row of the
-    /// relations that it is about is looked at once, with those that have its value in one left
-    /// column.
+    /// A dependency or an object that doesn't hold on the stored rows is refused. That it holds takes
+    /// one pass over the rows of the relations that it is about, in memory for their values on both
+    /// sides; where it doesn't, the least pair is looked for row by row, each with those that have
+    /// its value in one left column.
     pub fn define(&mut self, definition: &Definition) -> Result<(), DefineFault>
         requires { IsWellNamed definition.now }
         ensures { Defines self.old definition.now result self.new }

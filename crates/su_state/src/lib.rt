@@ -18,9 +18,14 @@ mod crossing;
 mod databases;
 mod defining;
 mod faults;
+mod filling;
 mod loads;
 mod pairs;
+mod parts;
 mod sides;
 
 pub use databases::Database;
 pub use faults::{DefineFault, LoadEnd, LoadFault, StateFault};
+
+#[cfg(test)]
+mod tests;

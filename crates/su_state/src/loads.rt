@@ -1,6 +1,7 @@
 //! Loads of many rows.
 ghost use Rattle.std.specs.Prelude.{◌<◌, length};
 ghost use Rattle.su_state.specs.Loads.{Loads, InsertsSome, IsEnd};
+ghost use Rattle.su_state.specs.Filling.{MayTake};
 
 use crate::copies::copy_table;
 use crate::databases::Database;
@@ -37,12 +38,18 @@ impl Database {
         Ok(new)
     }
 
-    /// Inserts the rows one after another, and answers how many were new. The first row that is
-    /// refused refuses them all, and none is put in.
-    ///
-    /// The rows go into a copy of the table, so beside its inserts a load takes the time and the
-    /// memory of a copy of the rows that are there.
-    pub fn load(&mut self, relation: u8, rows: List<Row>) -> Result<u64, LoadEnd>
+    /// Puts in rows that may all be put in, and answers how many were new.
+    fn put_all(&mut self, relation: u8, rows: List<Row>) -> Result<u64, LoadEnd>
+        requires relation { relation < length self.old.schema.relations }
+        requires may { MayTake self.old relation rows }
+        ensures { Loads self.old relation rows result self.new }
+    {
+        let new = self.tables[relation as usize].insert_all(rows)?;
+        Ok(new as u64)
+    }
+
+    /// Inserts the rows one after another into a copy of the table, which a refused row drops.
+    pub(crate) fn load_each(&mut self, relation: u8, rows: List<Row>) -> Result<u64, LoadEnd>
         requires { relation < length self.old.schema.relations }
         ensures { Loads self.old relation rows result self.new }
     {
@@ -55,6 +62,25 @@ impl Database {
                 self.tables[place] = before;
                 Err(end)
             }
+        }
+    }
+
+    /// Inserts the rows one after another, and answers how many were new. The first row that is
+    /// refused refuses them all, and none is put in.
+    ///
+    /// Where no row is refused they go in at once: for each enforced dependency one pass over the
+    /// rows there and the rows given, in memory for their values on both sides, and one sort per
+    /// column; few rows are held against those there by the indexes. Else they go one by one into a
+    /// copy of the table, until the row is met that is refused, or that would be one too many if all
+    /// were new.
+    pub fn load(&mut self, relation: u8, rows: List<Row>) -> Result<u64, LoadEnd>
+        requires { relation < length self.old.schema.relations }
+        ensures { Loads self.old relation rows result self.new }
+    {
+        if self.may_take(relation, rows.as_slice())? {
+            self.put_all(relation, rows)
+        } else {
+            self.load_each(relation, rows)
         }
     }
 }

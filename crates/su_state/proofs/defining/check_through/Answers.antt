@@ -1,11 +1,13 @@
-use Rattle.std.proofs.Common.{◌≡◌, ◌<◌, ℕ, List, length, slice_get, get_or, Some, refl, sym, ap, subst, ◌∙◌, arith}
+use Rattle.std.proofs.Common.{◌≡◌, ◌<◌, ℕ, List, length, slice_get, get_or, Some, refl, sym, ap, subst, ◌∙◌, ◌++◌, [], append-nil, Contains, arith}
+use Rattle.std.proofs.lemmas.Bool.{OnTrue_at}
 use Rattle.std.proofs.lemmas.Option.{slice_get-get_or, slice_get_read}
 use Rattle.su_base.specs.declared.values.Value.{Value}
 use Rattle.su_schema.specs.SchemaValue.{ObjectEntry}
 use Rattle.su_schema.specs.Checks.{columns_at}
 use Rattle.su_state.specs.Pairs.{IsLeastPair}
-use Rattle.su_state.specs.Sides.{row_at}
+use Rattle.su_state.specs.Sides.{Clash, row_at}
 use Rattle.su_state.proofs.Columns.{columns_few, some_left, blank_object, object_on}
+use Rattle.su_state.proofs.Filled.{short}
 use Rattle.su_state.proofs.Least.{row_there}
 use Rattle.su_state.proofs.Breaking.{of_object, own_width, breaks_through, holds_through}
 use Rattle.su_state.proofs.defining.check_through.Goals as goal
@@ -59,3 +61,24 @@ returns-in-None-clause-holds c =
     let on : entry.relation ≡ c.object_relation.result = of_object (λ e. e.relation) c.args.schema.now.objects c.args.object entry c.object_relation.result placed c.object_relation.ensures in
     let numbered : slice_get c.args.schema.now.fds c.args.fd ≡ Some c.index-fds-fd.result = slice_get_read c.args.schema.now.fds (length c.args.schema.now.fds) c.args.fd c.index-fds-fd.result refl c.requires.fd (c.index-fds-fd.is ∙ ap (λ fds. get_or fds c.args.fd c.index-fds-fd.result) c.fds.ensures) in
     holds_through c.args.schema.now c.args.tables.now c.args.fd c.args.object c.object_relation.result c.index-fds-fd.result entry c.index-tables-object_relation.result numbered placed c.requires.tables on c.index-tables-object_relation.is c.in-Some.sides (c.in-Some.ensures entry placed) c.in-None.ensures
+
+pub none_clash-requires-clause-stored : goal.none_clash-requires-clause-stored
+none_clash-requires-clause-stored c =
+    let entry : ObjectEntry = get_or c.args.schema.now.objects c.args.object blank_object in
+    let placed : slice_get c.args.schema.now.objects c.args.object ≡ Some entry = slice_get-get_or c.args.schema.now.objects c.args.object blank_object c.requires.object in
+    let on : entry.relation ≡ c.object_relation.result = of_object (λ e. e.relation) c.args.schema.now.objects c.args.object entry c.object_relation.result placed c.object_relation.ensures in
+    let numbered : slice_get c.args.schema.now.fds c.args.fd ≡ Some c.index-fds-fd.result = slice_get_read c.args.schema.now.fds (length c.args.schema.now.fds) c.args.fd c.index-fds-fd.result refl c.requires.fd (c.index-fds-fd.is ∙ ap (λ fds. get_or fds c.args.fd c.index-fds-fd.result) c.fds.ensures) in
+    let width : c.index-tables-object_relation.result.width ≡ length (columns_at c.args.schema.now entry.relation) = own_width c.args.schema.now c.args.tables.now c.args.fd c.args.object c.object_relation.result c.index-fds-fd.result entry c.index-tables-object_relation.result numbered placed c.requires.tables on c.index-tables-object_relation.is in
+    rw c.as_slice.ensures.rows (short c.index-tables-object_relation.result.rows c.index-tables-object_relation.result.width (omega (arith, width, columns_few c.args.schema.now entry.relation c.keeps_its_rules.ensures (object_on c.args.schema.now c.args.object entry c.keeps_its_rules.ensures placed))) c.as_slice.ensures.relation.width)
+
+pub returns-then-branch-clause-holds : goal.returns-then-branch-clause-holds
+returns-then-branch-clause-holds c =
+    let entry : ObjectEntry = get_or c.args.schema.now.objects c.args.object blank_object in
+    let placed : slice_get c.args.schema.now.objects c.args.object ≡ Some entry = slice_get-get_or c.args.schema.now.objects c.args.object blank_object c.requires.object in
+    let on : entry.relation ≡ c.object_relation.result = of_object (λ e. e.relation) c.args.schema.now.objects c.args.object entry c.object_relation.result placed c.object_relation.ensures in
+    let numbered : slice_get c.args.schema.now.fds c.args.fd ≡ Some c.index-fds-fd.result = slice_get_read c.args.schema.now.fds (length c.args.schema.now.fds) c.args.fd c.index-fds-fd.result refl c.requires.fd (c.index-fds-fd.is ∙ ap (λ fds. get_or fds c.args.fd c.index-fds-fd.result) c.fds.ensures) in
+    let rows : c.as_slice.result.now ++ [] ≡ c.index-tables-object_relation.result.rows = append-nil c.as_slice.result.now ∙ c.as_slice.ensures.rows in
+    let all : (row other : List Value) → Contains (c.as_slice.result.now ++ []) row → Contains (c.as_slice.result.now ++ []) other → ¬ Clash c.in-Some.sides row other = OnTrue_at c.if-branch.true c.in_ok-none_clash.ensures in
+    let none : (row other : List Value) → Contains c.index-tables-object_relation.result.rows row → Contains c.index-tables-object_relation.result.rows other → ¬ Clash c.in-Some.sides row other =
+    subst (λ (rs : List (List Value)). (row other : List Value) → Contains rs row → Contains rs other → ¬ Clash c.in-Some.sides row other) rows all in
+    holds_through c.args.schema.now c.args.tables.now c.args.fd c.args.object c.object_relation.result c.index-fds-fd.result entry c.index-tables-object_relation.result numbered placed c.requires.tables on c.index-tables-object_relation.is c.in-Some.sides (c.in-Some.ensures entry placed) none
