@@ -22,7 +22,10 @@ text-push : (rows : List (List Value)) (row : List Value) → flat_map (row_text
 text-push [] row = append-nil (row_text default_writer (map field_of row))
 text-push (r ∷ rows) row = rw (text-push rows row) (sym (append_assoc (row_text default_writer (map field_of r)) (flat_map (row_text default_writer) (map (map field_of) rows)) (row_text default_writer (map field_of row))))
 
-pub text-one : (header : List (List ℕ)) (rows : List (List Value)) (i : ℕ) (row : List Value) (text : List ℕ) → i < length rows → row ≡ get_or rows i row
-    → text ≡ text_of header (take i rows) → text ++ row_text default_writer (map field_of row) ≡ text_of header (take (i + 1) rows)
-text-one header rows i row text lt is so =
-    rw (take-one rows i row lt is, text-push (take i rows) row, so) (append_assoc (row_text default_writer header) (flat_map (row_text default_writer) (map (map field_of) (take i rows))) (row_text default_writer (map field_of row)))
+pub text-one : (start : List ℕ) (header : List (List ℕ)) (rows : List (List Value)) (i : ℕ) (row : List Value) (text : List ℕ) → i < length rows → row ≡ get_or rows i row
+    → text ≡ start ++ text_of header (take i rows) → text ++ row_text default_writer (map field_of row) ≡ start ++ text_of header (take (i + 1) rows)
+text-one start header rows i row text lt is so =
+    let more = row_text default_writer (map field_of row) in
+    let before = flat_map (row_text default_writer) (map (map field_of) (take i rows)) in
+    rw (take-one rows i row lt is, text-push (take i rows) row, so)
+    (append_assoc start (text_of header (take i rows)) more ∙ ap (λ (t : List ℕ). start ++ t) (append_assoc (row_text default_writer header) before more))

@@ -17,7 +17,7 @@ mod writing;
 
 pub use faults::CsvFault;
 pub use reading::read;
-pub use writing::write;
+pub use writing::{write, write_behind};
 
 #[cfg(test)]
 mod tests;

@@ -1,6 +1,6 @@
 ghost use Rattle.std.specs.Prelude.{◌≡◌, IfOk, length};
 
-use crate::{CsvFault, read, write};
+use crate::{CsvFault, read, write, write_behind};
 use std::alloc::Global;
 use std::test::Fail;
 use su_base::{Column, Kind, List, NoMemory, Row, Str, Value};
@@ -154,5 +154,27 @@ fn one_empty_text_reads_back(rt: HostRuntime) -> Result<(), Fail> {
     rows.push(row)?;
     let text = write(alloc, names.as_slice(), rows.as_slice())?;
     assert_eq!(rt; read(alloc, text.as_slice(), columns.as_slice())?, rows);
+    Ok(())
+}
+
+#[test]
+fn rows_stand_behind_any_front(rt: HostRuntime) -> Result<(), Fail> {
+    let alloc = rt.alloc();
+    let columns = text_and_number(alloc)?;
+    let names = names(alloc, columns.as_slice())?;
+    let mut rows = List::new(alloc);
+    rows.push(row(alloc, "a,b", 5)?)?;
+    let cases: [(&[u8], &[u8]); 3] = [
+        (b"", b"T,N\n\"a,b\",5\n"),
+        (b"rows 1\n", b"rows 1\nT,N\n\"a,b\",5\n"),
+        (b"x,\"\xff", b"x,\"\xffT,N\n\"a,b\",5\n"),
+    ];
+    for (front, want) in cases {
+        let mut bytes = Vec::new(alloc);
+        bytes.extend_from_slice(front)?;
+        let front = List::from_vec(bytes);
+        let text = write_behind(alloc, front, names.as_slice(), rows.as_slice())?;
+        assert_eq!(rt; text.as_slice(), want);
+    }
     Ok(())
 }

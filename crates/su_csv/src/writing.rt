@@ -65,6 +65,49 @@ fn put(writer: &mut Writer<Vec<u8>>, fields: &ByteRecord) -> Result<(), NoMemory
     Ok(())
 }
 
+// Writes the header and then the rows behind what the writer holds.
+fn put_all(
+    alloc: Global,
+    writer: &mut Writer<Vec<u8>>,
+    header: &[Str],
+    rows: &[Row],
+) -> Result<(), NoMemory>
+    requires { IsIdle writer.old }
+    ensures text { OnOk result (text_so_far writer.new ≡ text_so_far writer.old ++ text_of header.now rows.now) }
+    ensures stored { OnOk result (All (All IsStored) rows.now) }
+{
+    let mut fields = ByteRecord::new(alloc);
+    let mut digits = String::new(alloc);
+    set_header(&mut fields, header)?;
+    put(writer, &fields)?;
+    for row in rows {
+        set_row(&mut fields, &mut digits, row)?;
+        put(writer, &fields)?;
+    }
+    Ok(())
+}
+
+/// The front, and behind it the text that `write` gives. The text grows in the front's own buffer,
+/// and one record's fields are held beside it.
+pub fn write_behind(
+    alloc: Global,
+    front: List<u8>,
+    header: &[Str],
+    rows: &[Row],
+) -> Result<List<u8>, NoMemory>
+    ensures text { IfOk result (λ text. text ≡ front ++ text_of header.now rows.now) }
+    ensures reads_back { (columns : List Column) → map (λ column. column.name) columns ≡ header.now → CanBeRead columns rows.now → OnOk result (reading columns (text_of header.now rows.now) ≡ Ok rows.now) }
+{
+    let mut writer = WriterBuilder::new()
+        .flexible(true)
+        .from_writer(front.into_vec());
+    put_all(alloc, &mut writer, header, rows)?;
+    match writer.into_inner() {
+        Ok(text) => Ok(List::from_vec(text)),
+        Err(_) => Err(NoMemory),
+    }
+}
+
 /// The CSV text of the rows under the header, as the `csv` crate writes it at its default
 /// settings: a field with a comma, a quote or a line break stands in quotes, and its quotes are
 /// doubled. Numbers are written in decimal. The text grows in one buffer, and one record's fields
@@ -73,19 +116,5 @@ pub fn write(alloc: Global, header: &[Str], rows: &[Row]) -> Result<List<u8>, No
     ensures text { IfOk result (λ text. text ≡ text_of header.now rows.now) }
     ensures reads_back { (columns : List Column) → map (λ column. column.name) columns ≡ header.now → CanBeRead columns rows.now → IfOk result (λ text. reading columns text ≡ Ok rows.now) }
 {
-    let mut writer = WriterBuilder::new()
-        .flexible(true)
-        .from_writer(Vec::new(alloc));
-    let mut fields = ByteRecord::new(alloc);
-    let mut digits = String::new(alloc);
-    set_header(&mut fields, header)?;
-    put(&mut writer, &fields)?;
-    for row in rows {
-        set_row(&mut fields, &mut digits, row)?;
-        put(&mut writer, &fields)?;
-    }
-    match writer.into_inner() {
-        Ok(text) => Ok(List::from_vec(text)),
-        Err(_) => Err(NoMemory),
-    }
+    write_behind(alloc, List::new(alloc), header, rows)
 }

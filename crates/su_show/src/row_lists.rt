@@ -5,10 +5,10 @@ ghost use Rattle.su_show.specs.Replies.{rows_text};
 use crate::parts::{push, push_number};
 use std::alloc::Global;
 use su_base::{List, NoMemory, Row, Str};
-use su_csv::write;
+use su_csv::write_behind;
 
 /// The number of the rows, then the CSV text of the header and the rows. Each row has the header's
-/// length.
+/// length. The line and the CSV text are written into one buffer.
 pub fn rows(alloc: Global, header: &[Str], rows: &[Row]) -> Result<List<u8>, NoMemory>
     ensures { IfOk result (λ text. text ≡ rows_text header.now rows.now) }
 {
@@ -16,7 +16,5 @@ pub fn rows(alloc: Global, header: &[Str], rows: &[Row]) -> Result<List<u8>, NoM
     push(&mut out, "rows ")?;
     push_number(alloc, &mut out, rows.len() as u64)?;
     push(&mut out, "\n")?;
-    let table = write(alloc, header, rows)?;
-    out.extend_from_slice(table.as_slice())?;
-    Ok(List::from_vec(out))
+    write_behind(alloc, List::from_vec(out), header, rows)
 }
