@@ -1,0 +1,10 @@
+pub mod Answering
+pub mod Changing
+pub mod Covers
+pub mod Defining
+pub mod Objects
+pub mod Relations
+pub mod Taking
+pub mod Texts
+pub mod Viewed
+pub mod Wanting

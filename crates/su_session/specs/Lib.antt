@@ -1,2 +1,6 @@
+pub mod Covering
+pub mod Opening
 pub mod Reply
-pub mod State
+pub mod Retrieving
+pub mod Statements
+pub mod Telling

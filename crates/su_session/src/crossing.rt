@@ -1,7 +1,9 @@
 //! A reply may be moved to another thread and shared between threads.
 use crate::replies::Reply;
+use crate::wants::Want;
 use su_base::crosses_threads;
 
 fn types_cross_threads() {
     crosses_threads::<Reply>();
+    crosses_threads::<Want>();
 }

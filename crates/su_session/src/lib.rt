@@ -1,20 +1,27 @@
 //! One statement at a time: its reply, and what it changes.
 //!
-//! The session holds the schema, its maximal objects and the stored rows. So far the statements are
-//! `insert` into relations without dependencies, `schema`, `closure`, and `retrieve` where one object
-//! gives the answer; every other statement is refused as `later`. A refused statement changes nothing.
+//! A `Session` is a database with the maximal objects of its schema, which are found once for each
+//! definition and never for a statement. A refused statement, and one that finds no memory, changes
+//! nothing: the room for the reply is taken before the change is made. Queries that more than one object
+//! has to answer, and explanations, are refused as `later`.
 #![tactic(auto)]
 
-mod closures;
+mod changes;
+mod covering;
 mod crossing;
-mod inserts;
+mod definitions;
+mod outputs;
+mod projecting;
 mod replies;
-mod retrieves;
-mod schemas;
+mod retrieving;
+mod roomy;
 mod sessions;
+mod showing;
+mod wants;
 
 pub use replies::Reply;
 pub use sessions::Session;
+pub use wants::Want;
 
 #[cfg(test)]
 mod tests;

@@ -1,8 +1,13 @@
 //! The reply to a statement.
-ghost use Rattle.std.specs.Prelude.{◌≡◌, true, false, IfOk};
+ghost use Rattle.std.specs.Prelude.{◌≡◌, ◌++◌, IfOk, decimal, codes};
+ghost use Rattle.su_show.specs.Refusing.{refusal_line, IsNoMemory};
+ghost use Rattle.su_session.specs.Telling.{Accepts, Refuses};
 
 use std::alloc::Global;
-use su_base::{List, NoMemory, Row, Str, Value};
+use su_base::{List, NoMemory};
+use su_schema::Schema;
+use su_show::{Refusal, refusal};
+use su_state::Database;
 
 /// The text of a reply, each line with its line feed, and whether it is a refusal.
 #[derive(Drop)]
@@ -11,91 +16,32 @@ pub struct Reply {
     pub bytes: List<u8>,
 }
 
-// The text of a reply as it grows.
-#[derive(Drop)]
-pub(crate) struct Text {
-    bytes: Vec<u8>,
-}
-
-impl Text {
-    pub(crate) fn new(alloc: Global) -> Text {
-        Text {
-            bytes: Vec::new(alloc),
-        }
-    }
-
-    pub(crate) fn push(&mut self, part: &str) -> Result<(), NoMemory> {
-        self.push_bytes(part.as_bytes())
-    }
-
-    pub(crate) fn push_bytes(&mut self, part: &[u8]) -> Result<(), NoMemory> {
-        self.bytes.extend_from_slice(part)?;
-        Ok(())
-    }
-
-    pub(crate) fn into_reply(self, refused: bool) -> Reply
-        ensures { result.refused ≡ refused }
-    {
-        Reply {
-            refused,
-            bytes: List::from_vec(self.bytes),
-        }
-    }
-}
-
-pub(crate) fn refusal(alloc: Global, parts: &[&str]) -> Result<Reply, NoMemory>
-    ensures { IfOk result (λ reply. reply.refused ≡ true) }
+// The reply to an accepted statement.
+pub(crate) fn accepted(bytes: List<u8>) -> Reply
+    ensures { Accepts bytes result }
 {
-    let mut text = Text::new(alloc);
-    text.push("refused: ")?;
-    for part in parts {
-        text.push(part)?;
+    Reply {
+        refused: false,
+        bytes,
     }
-    text.push("\n")?;
-    Ok(text.into_reply(true))
 }
 
-pub(crate) fn later(alloc: Global) -> Result<Reply, NoMemory>
-    ensures { IfOk result (λ reply. reply.refused ≡ true) }
+// The reply to an accepted statement, of these words.
+pub(crate) fn accepted_line(alloc: Global, line: &str) -> Result<Reply, NoMemory>
+    ensures { IfOk result (Accepts line.now) }
 {
-    refusal(alloc, &["later"])
+    let mut text = Vec::new(alloc);
+    text.extend_from_slice(line.as_bytes())?;
+    Ok(accepted(List::from_vec(text)))
 }
 
-pub(crate) fn accepted(alloc: Global, line: &str) -> Result<Reply, NoMemory>
-    ensures { IfOk result (λ reply. reply.refused ≡ false) }
+// The reply to a refused statement. Want of memory is handed on.
+pub(crate) fn refused(alloc: Global, db: &Database, why: Refusal) -> Result<Reply, NoMemory>
+    ensures { IfOk result (λ reply. Refuses db.now why reply db.now) }
 {
-    let mut text = Text::new(alloc);
-    text.push(line)?;
-    text.push("\n")?;
-    Ok(text.into_reply(false))
-}
-
-// The number of the rows, the names and the rows.
-pub(crate) fn rows(alloc: Global, names: &[Str], rows: &[Row]) -> Result<Reply, NoMemory> {
-    let mut text = Text::new(alloc);
-    text.push(format!(in alloc; "rows {}\n", rows.len())?.as_str())?;
-    for (i, name) in names.iter().enumerate() {
-        if i > 0 {
-            text.push(",")?;
-        }
-        text.push(name.as_str())?;
-    }
-    text.push("\n")?;
-    for row in rows {
-        push_row(alloc, &mut text, row)?;
-    }
-    Ok(text.into_reply(false))
-}
-
-fn push_row(alloc: Global, text: &mut Text, row: &Row) -> Result<(), NoMemory> {
-    for (i, value) in row.as_slice().iter().enumerate() {
-        if i > 0 {
-            text.push(",")?;
-        }
-        match value {
-            Value::Int(number) => text.push(format!(in alloc; "{number}")?.as_str())?,
-            Value::Text(field) => text.push(field.as_str())?,
-        }
-    }
-    text.push("\n")
+    let bytes = refusal(alloc, db.schema(), &why)?;
+    Ok(Reply {
+        refused: true,
+        bytes,
+    })
 }

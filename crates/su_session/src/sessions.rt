@@ -1,110 +1,199 @@
-//! The session: a schema, its maximal objects, its rows, and one statement after another.
-ghost use Rattle.std.specs.Prelude.{◌≡◌, IfOk, OnErr};
+//! The session: a database, its maximal objects, and one statement after another.
+ghost use Rattle.std.specs.Prelude.{◌≡◌, ◌≢◌, ◌↔◌, ℕ, List as Items, IsTrue, IfOk, OnErr, MatchOption, option_map, unwrap_or, []};
+ghost use Rattle.su_session.specs.Reply.{is_definition_word, begins_definition, IsDefining};
 
-use crate::replies::{Reply, later};
+use crate::changes::{delete, delete_where, insert, load};
+use crate::replies::{Reply, refused};
+use crate::retrieving::{explain, retrieve};
+use crate::showing::{closure, print, show_schema};
+use crate::wants::Want;
 use std::alloc::Global;
 use std::marker::Model;
-use su_base::{List, NoMemory, ObjSet};
-use su_lex::{LexEnd, Reader, symbols};
+use su_base::{List, NoMemory, ObjSet, Str};
+use su_lex::{LexEnd, Symbol, symbols};
 use su_maxobj::maximal_objects;
-use su_rel::Relation;
+use su_query::{QueryFault, Statement, read};
 use su_schema::Schema;
+use su_show::Refusal;
+use su_state::Database;
 
-/// A schema and the rows of its relations.
+/// A database with the maximal objects of its schema.
 #[derive(Drop)]
 pub struct Session {
     pub(crate) alloc: Global,
-    pub(crate) schema: Schema,
+    pub(crate) db: Database,
     pub(crate) maximal: List<ObjSet>,
-    pub(crate) relations: Vec<Relation>,
 }
 
 impl Model for Session {
-    ghost use Rattle.su_session.specs.State.{State};
     ghost use Rattle.std.specs.Coded.{codes, coded_ℕ};
     ghost use Rattle.std.specs.Ordering.{nat_cmp};
     ghost use Rattle.std.specs.FinSet as set;
     ghost use Rattle.su_base.specs.contracts.attr_sets.AttrSet as attr_set;
+    ghost use Rattle.su_schema.specs.contracts.schemas.Schema as schemas;
+    ghost use Rattle.su_state.specs.contracts.databases.Database as databases;
+    ghost use Rattle.su_state.specs.DatabaseValue.{DatabaseValue};
+    ghost use Rattle.su_maxobj.specs.MaximalObjects.{AreMaximalObjects};
 
-    ghost Value = { State };
+    ghost Value = { DatabaseValue };
 
-    ghost coded = { Prim.hlevel (codes, attr_set.the_row.coded, set.code {R = nat_cmp} coded_ℕ) };
+    ghost coded = { Prim.hlevel (codes, databases.the_row.coded, schemas.the_row.coded, attr_set.the_row.coded, set.code {R = nat_cmp} coded_ℕ) };
 
-    ghost view = { λ s. record { schema = s.schema; maximal = s.maximal; relations = s.relations.items } };
+    ghost view = { λ s. s.db };
+
+    ghost invariant = { λ s. AreMaximalObjects s.db.schema s.maximal };
 }
 
-impl Session {
-    ghost use Rattle.su_session.specs.Reply.{Replied};
-    ghost use Rattle.su_session.specs.State.{Opened};
-
-    /// A session on a schema whose relations are empty. Its maximal objects are found once.
-    pub fn open(alloc: Global, schema: Schema) -> Result<Session, NoMemory>
-        ensures { IfOk result (Opened schema) }
-    {
-        let maximal = maximal_objects(alloc, &schema)?;
-        let mut relations = List::new(alloc);
-        for r in 0..schema.relations() {
-            let width = schema.columns(r as u8).len();
-            relations.push(Relation::new(alloc, width as u8))?;
-        }
-        Ok(Session {
-            alloc,
-            schema,
-            maximal,
-            relations: relations.into_vec(),
-        })
-    }
-
-    /// Takes one statement and gives its reply. A refused statement, and one that found no memory,
-    /// changes nothing.
-    pub fn step(&mut self, text: &[u8]) -> Result<Reply, NoMemory>
-        ensures replied { IfOk result (λ reply. Replied self.old text.now reply self.new) }
-        ensures unchanged { OnErr result (self.new ≡ self.old) }
-    {
-        let symbols = match symbols(self.alloc, text) {
-            Ok(symbols) => symbols,
-            Err(LexEnd::Syntax) => return later(self.alloc),
-            Err(LexEnd::NoMemory) => return Err(NoMemory),
-        };
-        let mut reader = Reader {
-            alloc: self.alloc,
-            rest: symbols.as_slice(),
-        };
-        if reader.takes_word("insert") {
-            return self.insert(&mut reader);
-        }
-        if reader.takes_word("retrieve") {
-            return self.retrieve(&mut reader);
-        }
-        if reader.takes_word("closure") {
-            return self.closure(&mut reader);
-        }
-        if reader.takes_word("schema") && reader.rest.is_empty() {
-            return self.show();
-        }
-        later(self.alloc)
+// Whether the symbols begin a definition.
+fn begins_definition(symbols: &[Symbol]) -> bool
+    ensures { result ≡ begins_definition symbols.now }
+{
+    match symbols {
+        [Symbol::Word(word), ..] => is_definition_word(word.as_str()),
+        _ => false,
     }
 }
 
-// What a text of the wrong form gives: nothing, unless memory was wanting.
-pub(crate) fn read<T: Drop>(read: Result<T, LexEnd>) -> Result<Option<T>, NoMemory> {
-    match read {
-        Ok(value) => Ok(Some(value)),
-        Err(LexEnd::Syntax) => Ok(None),
+// Whether the words of a text begin a definition; a text without symbols doesn't.
+fn is_defining(alloc: Global, text: &[u8]) -> Result<bool, NoMemory>
+    ensures { IfOk result (λ yes. IsTrue yes ↔ IsDefining text.now) }
+{
+    match symbols(alloc, text) {
+        Ok(symbols) => Ok(begins_definition(symbols.as_slice())),
+        Err(LexEnd::Syntax) => Ok(false),
         Err(LexEnd::NoMemory) => Err(NoMemory),
     }
 }
 
-// Names in parentheses, to the end.
-pub(crate) fn read_names(reader: &mut Reader) -> Result<Option<List<su_base::Str>>, NoMemory> {
-    if !reader.takes_sign(su_lex::Sign::Open) {
-        return Ok(None);
+fn is_definition_word(word: &str) -> bool
+    ensures { result ≡ is_definition_word word.now }
+{
+    word == "attribute"
+        || word == "relation"
+        || word == "object"
+        || word == "fd"
+        || word == "maximal"
+}
+
+// The relation and the file of a load.
+fn load_of(statement: Statement) -> Option<(Str, Str)>
+    ensures { MatchOption result ((name path : Items ℕ) → statement ≢ Statement.Load name path) (λ load. statement ≡ Statement.Load load.0 load.1) }
+{
+    match statement {
+        Statement::Load { relation, file } => Some((relation, file)),
+        _ => None,
     }
-    let Some(names) = read(reader.names())? else {
-        return Ok(None);
-    };
-    if !reader.takes_sign(su_lex::Sign::Close) || !reader.rest.is_empty() {
-        return Ok(None);
+}
+
+// A refused text wants nothing. Want of memory is handed on.
+fn nothing_wanted(fault: QueryFault) -> Result<Want, NoMemory>
+    ensures { IfOk result (λ want. (want ≡ Want.Nothing) × (fault ≢ QueryFault.NoMemory)) }
+{
+    match fault {
+        QueryFault::NoMemory => Err(NoMemory),
+        _ => Ok(Want::Nothing),
     }
-    Ok(Some(names))
+}
+
+// The content of a file; nothing without one.
+fn content<'a>(file: Option<&'a [u8]>) -> &'a [u8]
+    ensures { result.now ≡ unwrap_or (option_map (λ bytes. bytes.now) file.entry) [] }
+{
+    match file {
+        Some(bytes) => bytes,
+        None => &[],
+    }
+}
+
+impl Session {
+    ghost use Rattle.su_session.specs.Opening.{empty_database};
+    ghost use Rattle.su_session.specs.Reply.{Replied, Wants, RepliesStatement};
+    ghost use Rattle.su_session.specs.Statements.{Answers};
+    ghost use Rattle.su_query.specs.Reading.{AreFew, IsReady, outputs_of, condition_of};
+
+    /// A session on a schema whose relations are empty.
+    pub fn open(alloc: Global, schema: Schema) -> Result<Session, NoMemory>
+        ensures { IfOk result (λ session. session ≡ empty_database schema) }
+    {
+        let maximal = maximal_objects(alloc, &schema)?;
+        let db = Database::new(alloc, schema)?;
+        Ok(Session { alloc, db, maximal })
+    }
+
+    /// The database as the accepted statements left it.
+    pub fn database(&self) -> &Database
+        ensures { result.now ≡ self.now }
+    {
+        &self.db
+    }
+
+    /// The file that the statement wants, to be handed to `step`: that of a load of a known relation.
+    pub fn wants(&self, text: &[u8]) -> Result<Want, NoMemory>
+        ensures { IfOk result (Wants self.now text.now) }
+    {
+        let statement = match read(self.alloc, text) {
+            Ok(statement) => statement,
+            Err(fault) => return nothing_wanted(fault),
+        };
+        match load_of(statement) {
+            Some((relation, file)) => match self.db.schema().find_relation(relation.as_str()) {
+                Some(_) => Ok(Want::File(file)),
+                None => Ok(Want::Nothing),
+            },
+            None => Ok(Want::Nothing),
+        }
+    }
+
+    /// Takes one statement and gives its reply. `file` is the content of the file that it wants; without
+    /// one a load reads an empty file. A refused statement, and one that found no memory, changes nothing.
+    pub fn step(&mut self, text: &[u8], file: Option<&[u8]>) -> Result<Reply, NoMemory>
+        ensures replied { IfOk result (λ reply. Replied self.old text.now (option_map (λ bytes. bytes.now) file.entry) reply self.new) }
+        ensures unchanged { OnErr result (self.new ≡ self.old) }
+    {
+        let defining = is_defining(self.alloc, text)?;
+        if defining {
+            return self.define(text);
+        }
+        self.statement(text, content(file))
+    }
+
+    // A text that is no definition.
+    fn statement(&mut self, text: &[u8], file: &[u8]) -> Result<Reply, NoMemory>
+        ensures replied { IfOk result (λ reply. RepliesStatement self.old text.now file.now reply self.new) }
+        ensures unchanged { OnErr result (self.new ≡ self.old) }
+    {
+        match read(self.alloc, text) {
+            Ok(statement) => self.answer(statement, file),
+            Err(fault) => refused(self.alloc, &self.db, Refusal::Query(fault)),
+        }
+    }
+
+    fn answer(&mut self, statement: Statement, file: &[u8]) -> Result<Reply, NoMemory>
+        requires few { AreFew (outputs_of statement) (condition_of statement) }
+        requires ready { IsReady statement }
+        ensures replied { IfOk result (λ reply. Answers self.old file.now statement reply self.new) }
+        ensures unchanged { OnErr result (self.new ≡ self.old) }
+    {
+        match statement {
+            Statement::Insert { relation, row } => insert(self.alloc, &mut self.db, &relation, row),
+            Statement::Delete { relation, row } => {
+                delete(self.alloc, &mut self.db, &relation, &row)
+            }
+            Statement::DeleteWhere { relation, cond } => {
+                delete_where(self.alloc, &mut self.db, &relation, &cond)
+            }
+            Statement::Load { relation, .. } => load(self.alloc, &mut self.db, &relation, file),
+            Statement::Print { relation } => print(self.alloc, &self.db, &relation),
+            Statement::Schema => show_schema(self.alloc, &self.db, self.maximal.as_slice()),
+            Statement::Closure { attributes } => {
+                closure(self.alloc, &self.db, attributes.as_slice())
+            }
+            Statement::Retrieve(query) => {
+                retrieve(self.alloc, &self.db, self.maximal.as_slice(), &query)
+            }
+            Statement::Explain(query) => {
+                explain(self.alloc, &self.db, self.maximal.as_slice(), &query)
+            }
+        }
+    }
 }

@@ -1,2 +1,5 @@
 pub mod Answering
+pub mod Turning
+pub mod Stopping
 pub mod Ending
+pub mod Running

@@ -1,8 +1,7 @@
 -- How a run ends: each status with its cause, and what was written.
-use Rattle.std.specs.Prelude.{◌≡◌, ◌<◌, ◌≤◌, ◌^◌, ◌⊎◌, ℕ, List, [], Option, Some, None, Bool, true, false, Ok, Err, length, take}
+use Rattle.std.specs.Prelude.{◌≡◌, ◌<◌, ◌≤◌, ◌^◌, ◌⊎◌, ℕ, List, Option, Some, None, true, false, Ok, Err, length, take}
 use Rattle.su_io.specs.Causes.{Rose}
 use Rattle.su_io.specs.Ends.{Grew}
-use Rattle.su_session.specs.declared.replies.Reply.{Reply}
 use Rattle.sysu.specs.declared.status.Status.{Status}
 use Rattle.sysu.specs.declared.status.Status.TheVariants.{Done, SomeRefused, Usage, BadSchema, ReadFault, WriteFault, TooLong, NoMemory}
 use Rattle.sysu.specs.Moments.{Moment, NoFault, Wrote, WroteFront}
@@ -11,8 +10,8 @@ use Rattle.su_ddl.specs.declared.faults.DdlFault.{DdlFault}
 use Rattle.su_ddl.specs.Reading.{Reads}
 use Rattle.su_schema.specs.SchemaValue.{SchemaValue}
 use Rattle.su_show.specs.Refusals.{schema_line, IsOfText}
-use Rattle.sysu.specs.Output.{IsFile}
-use Rattle.sysu.specs.Statements.{WroteAll, WroteFirst, WroteFrontOf}
+use Rattle.sysu.specs.Output.{IsFile, IsOver, LoadsFrom, load_limit}
+use Rattle.sysu.specs.Statements.{BeganOver, StoppedAtLoad, WroteAll, WroteFirst, WroteFrontOf}
 
 -- 1 MiB
 abbrev pub schema_limit : ℕ
@@ -22,26 +21,30 @@ schema_limit = 2 ^ 20
 abbrev pub script_limit : ℕ
 script_limit = 2 ^ 24
 
--- the schema file is accepted, and a fact of the schema and of the bytes of the script
+-- the schema file is accepted, and a fact of the schema and of the bytes of the script; neither file is past its limit
 pub record OfFiles (names : Named) (old : Moment) (P : SchemaValue → List ℕ → Type 0) : Type 0 where
   pub bytes : List ℕ
   pub is_schema : IsFile old.files names.schema bytes
+  pub schema_fits : length bytes ≤ schema_limit
   pub schema : SchemaValue
   pub accepted : Reads bytes (Ok schema)
   pub script : List ℕ
   pub is_script : IsFile old.files names.script script
+  pub script_fits : length script ≤ script_limit
   pub holds : P schema script
 
 -- the schema file is refused with this fault
 pub record IsRefused (names : Named) (old : Moment) (fault : DdlFault) : Type 0 where
   pub bytes : List ℕ
   pub is_schema : IsFile old.files names.schema bytes
+  pub fits : length bytes ≤ schema_limit
   pub refused : Reads bytes (Err fault)
 
 -- the schema file is accepted
 pub record AcceptsSchema (names : Named) (old : Moment) : Type 0 where
   pub bytes : List ℕ
   pub is_schema : IsFile old.files names.schema bytes
+  pub fits : length bytes ≤ schema_limit
   pub schema : SchemaValue
   pub accepted : Reads bytes (Ok schema)
 
@@ -49,13 +52,19 @@ pub record AcceptsSchema (names : Named) (old : Moment) : Type 0 where
 abbrev pub BeganDue : Named → Moment → Moment → Type 0
 BeganDue names old new = (new.begun ≡ Some names.schema) ⊎ ((new.begun ≡ Some names.script) × AcceptsSchema names old)
 
--- more than its limit was taken of the file due
+-- the file due is past its limit, and more than that was taken of it
 abbrev pub TookTooMuch : Named → Moment → Moment → Type 0
-TookTooMuch names old new = ((new.begun ≡ Some names.schema) × (schema_limit < new.taken)) ⊎ ((new.begun ≡ Some names.script) × (script_limit < new.taken) × AcceptsSchema names old)
+TookTooMuch names old new =
+    ((new.begun ≡ Some names.schema) × (schema_limit < new.taken) × IsOver old.files names.schema schema_limit)
+    ⊎ ((new.begun ≡ Some names.script) × (script_limit < new.taken) × IsOver old.files names.script script_limit × AcceptsSchema names old)
 
--- no more than its limit was taken of the file begun, if one was begun at all
+-- no more than its limit was taken of the file begun last, if one was begun at all
 abbrev pub TookWithin : Named → Moment → Moment → Type 0
-TookWithin names old new = ((new.begun ≡ old.begun) × (new.taken ≡ old.taken)) ⊎ (((new.begun ≡ Some names.schema) × (new.taken ≤ schema_limit)) ⊎ ((new.begun ≡ Some names.script) × (new.taken ≤ script_limit)))
+TookWithin names old new =
+    ((new.begun ≡ old.begun) × (new.taken ≡ old.taken))
+    ⊎ (((new.begun ≡ Some names.schema) × (new.taken ≤ schema_limit))
+    ⊎ (((new.begun ≡ Some names.script) × (new.taken ≤ script_limit))
+    ⊎ OfFiles names old (λ schema script. (path : List ℕ) × LoadsFrom script path × (new.begun ≡ Some path) × (new.taken ≤ load_limit))))
 
 -- how the line for a refused schema ends: what was written, and the sink's count of faults before and after
 abbrev pub RefusalEnds : DdlFault → Option (List ℕ) → ℕ → Option (List ℕ) → ℕ → Status → Type 0
@@ -66,14 +75,17 @@ RefusalEnds fault old before new after _ = ⊥
 
 -- how a run on these two files ends
 abbrev pub RunEnds : Named → Moment → Moment → Status → Type 0
-RunEnds names old new Done = NoFault old new × TookWithin names old new × OfFiles names old (λ schema script. WroteAll schema script old.written new.written false)
-RunEnds names old new SomeRefused = NoFault old new × TookWithin names old new × OfFiles names old (λ schema script. WroteAll schema script old.written new.written true)
+RunEnds names old new Done = NoFault old new × TookWithin names old new × OfFiles names old (λ schema script. WroteAll old.files schema script old.written new.written false)
+RunEnds names old new SomeRefused = NoFault old new × TookWithin names old new × OfFiles names old (λ schema script. WroteAll old.files schema script old.written new.written true)
 RunEnds names old new Usage = ⊥
-RunEnds names old new BadSchema = NoFault old new × TookWithin names old new × ((fault : DdlFault) × IsRefused names old fault × Wrote old new (schema_line fault))
-RunEnds names old new ReadFault = Rose old.reads new.reads × (new.writes ≡ old.writes) × (new.failed ≡ true) × BeganDue names old new × (new.written ≡ old.written)
-RunEnds names old new WriteFault = (new.reads ≡ old.reads) × Rose old.writes new.writes × TookWithin names old new × (((fault : DdlFault) × IsRefused names old fault × WroteFront old new (schema_line fault)) ⊎ OfFiles names old (λ schema script. WroteFrontOf schema script old.written new.written))
-RunEnds names old new TooLong = NoFault old new × TookTooMuch names old new × (new.written ≡ old.written)
-RunEnds names old new NoMemory = NoFault old new × TookWithin names old new × ((new.written ≡ old.written) ⊎ OfFiles names old (λ schema script. WroteFirst schema script old.written new.written))
+RunEnds names old new BadSchema = NoFault old new × (new.begun ≡ Some names.schema) × (new.taken ≤ schema_limit) × ((fault : DdlFault) × IsRefused names old fault × Wrote old new (schema_line fault))
+RunEnds names old new ReadFault = Rose old.reads new.reads × (new.writes ≡ old.writes) × (new.failed ≡ true)
+    × ((BeganDue names old new × (new.written ≡ old.written)) ⊎ OfFiles names old (λ schema script. StoppedAtLoad old.files schema script new.begun old.written new.written))
+RunEnds names old new WriteFault = (new.reads ≡ old.reads) × Rose old.writes new.writes × TookWithin names old new
+    × (((fault : DdlFault) × IsRefused names old fault × WroteFront old new (schema_line fault)) ⊎ OfFiles names old (λ schema script. WroteFrontOf old.files schema script old.written new.written))
+RunEnds names old new TooLong = NoFault old new
+    × ((TookTooMuch names old new × (new.written ≡ old.written)) ⊎ OfFiles names old (λ schema script. StoppedAtLoad old.files schema script new.begun old.written new.written × (load_limit < new.taken) × BeganOver old.files new.begun load_limit))
+RunEnds names old new NoMemory = NoFault old new × TookWithin names old new × ((new.written ≡ old.written) ⊎ OfFiles names old (λ schema script. WroteFirst old.files schema script old.written new.written))
 
 -- how the usage line ends: what was written, and the sink's count of faults before and after
 abbrev pub UsageEnds : Option (List ℕ) → ℕ → Option (List ℕ) → ℕ → Status → Type 0

@@ -4,6 +4,7 @@
 //! and standard output, and ends with the status as its exit code. Nothing goes to standard error.
 #![tactic(auto)]
 
+mod reading;
 mod statements;
 mod status;
 mod top;
@@ -42,5 +43,7 @@ fn main(rt: HostRuntime) -> ExitCode {
     ExitCode::from(status as u8)
 }
 
+#[cfg(test)]
+mod refusal_tests;
 #[cfg(test)]
 mod tests;

@@ -1,23 +1,94 @@
 //! The statements of a script, answered one after another.
-ghost use Rattle.std.specs.Prelude.{◌≡◌};
+ghost use Rattle.std.specs.Prelude.{◌≡◌, option_map};
 ghost use Rattle.su_schema.specs.SchemaValue.{SchemaValue};
-ghost use Rattle.su_session.specs.State.{Opened};
+ghost use Rattle.su_session.specs.Opening.{empty_database};
+ghost use Rattle.sysu.specs.Handing.{HandingEnds};
+ghost use Rattle.sysu.specs.Moments.{Moment};
 ghost use Rattle.sysu.specs.Statements.{ScriptEnds};
+ghost use Rattle.sysu.specs.Turns.{TurnEnds};
 
+use crate::reading::read_file;
 use crate::status::Status;
 use std::alloc::Global;
-use su_io::{Sink, write_all};
+use su_base::List;
+use su_io::{Shelf, Sink, write_all};
 use su_lex::cut;
-use su_session::Session;
+use su_session::{Session, Want};
 
-/// Writes the replies to a script's statements in order, each by one whole write.
-pub(crate) fn answer_all<K: Sink>(
+const LOAD_LIMIT: u64 = 1 << 26;
+
+// The bytes of the file that the statement wants.
+fn handed<H: Shelf>(
+    alloc: Global,
+    session: &Session,
+    text: &[u8],
+    shelf: &mut H,
+) -> Result<Option<List<u8>>, Status>
+    ensures files { H.files shelf.new ≡ H.files shelf.old }
+    ensures ends { HandingEnds session.now text.now (H.files shelf.old)
+        (record { begun = H.begun shelf.old; taken = H.taken shelf.old; failed = H.failed shelf.old; faults = H.faults shelf.old })
+        (record { begun = H.begun shelf.new; taken = H.taken shelf.new; failed = H.failed shelf.new; faults = H.faults shelf.new })
+        result }
+{
+    match session.wants(text) {
+        Ok(Want::Nothing) => Ok(None),
+        Ok(Want::File(path)) => {
+            let bytes = read_file(alloc, shelf, path, LOAD_LIMIT)?;
+            Ok(Some(bytes))
+        }
+        Err(_) => Err(Status::NoMemory),
+    }
+}
+
+fn bytes_of(file: &Option<List<u8>>) -> Option<&[u8]>
+    ensures { option_map (λ bytes. bytes.now) result ≡ file.now }
+{
+    match file {
+        Some(bytes) => Some(bytes.as_slice()),
+        None => None,
+    }
+}
+
+// Answers one statement and writes its reply; whether it was refused, or how the run ends.
+fn answer_one<H: Shelf, K: Sink>(
+    alloc: Global,
+    session: &mut Session,
+    text: &[u8],
+    shelf: &mut H,
+    out: &mut K,
+) -> Result<bool, Status>
+    ensures files { H.files shelf.new ≡ H.files shelf.old }
+    ensures ends { TurnEnds (H.files shelf.old) session.old text.now session.new
+        (record { begun = H.begun shelf.old; taken = H.taken shelf.old; failed = H.failed shelf.old; faults = H.faults shelf.old })
+        (record { begun = H.begun shelf.new; taken = H.taken shelf.new; failed = H.failed shelf.new; faults = H.faults shelf.new })
+        (record { written = K.written out.old; faults = K.faults out.old })
+        (record { written = K.written out.new; faults = K.faults out.new })
+        result }
+{
+    let file = handed(alloc, session, text, shelf)?;
+    let Ok(reply) = session.step(text, bytes_of(&file)) else {
+        return Err(Status::NoMemory);
+    };
+    match write_all(out, reply.bytes.as_slice()) {
+        Ok(()) => Ok(reply.refused),
+        Err(_) => Err(Status::WriteFault),
+    }
+}
+
+/// Writes the replies to a script's statements in order, each by one whole write. The file of a load
+/// is read when its statement is reached.
+pub(crate) fn answer_all<H: Shelf, K: Sink>(
     alloc: Global,
     session: Session,
     script: &[u8],
+    shelf: &mut H,
     out: &mut K,
 ) -> Status
-    ensures { (schema : SchemaValue) → Opened schema session → ScriptEnds schema script.now (K.written out.old) (K.faults out.old) (K.written out.new) (K.faults out.new) result }
+    ensures files { H.files shelf.new ≡ H.files shelf.old }
+    ensures ends { (schema : SchemaValue) → session ≡ empty_database schema → ScriptEnds schema script.now
+        (record { files = H.files shelf.old; begun = H.begun shelf.old; taken = H.taken shelf.old; failed = H.failed shelf.old; reads = H.faults shelf.old; written = K.written out.old; writes = K.faults out.old })
+        (record { files = H.files shelf.new; begun = H.begun shelf.new; taken = H.taken shelf.new; failed = H.failed shelf.new; reads = H.faults shelf.new; written = K.written out.new; writes = K.faults out.new })
+        result }
 {
     let mut session = session;
     let Ok(spans) = cut(alloc, script) else {
@@ -25,13 +96,16 @@ pub(crate) fn answer_all<K: Sink>(
     };
     let mut refused = false;
     for span in spans.as_slice() {
-        let Ok(reply) = session.step(&script[span.start..span.end]) else {
-            return Status::NoMemory;
-        };
-        let Ok(()) = write_all(out, reply.bytes.as_slice()) else {
-            return Status::WriteFault;
-        };
-        refused |= reply.refused;
+        match answer_one(
+            alloc,
+            &mut session,
+            &script[span.start..span.end],
+            shelf,
+            out,
+        ) {
+            Ok(told) => refused |= told,
+            Err(status) => return status,
+        }
     }
     if refused {
         return Status::SomeRefused;

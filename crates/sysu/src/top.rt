@@ -1,16 +1,16 @@
 //! The run of the program over any shelf and sink.
 ghost use Rattle.std.specs.Prelude.{◌≡◌, Some, ◌<◌, ◌^◌, ◌++◌, ◌∷◌, [], IfOk, option_map, string_bytes};
 ghost use Rattle.sysu.specs.Moments.{Moment};
-ghost use Rattle.sysu.specs.Reads.{FileEnds};
 ghost use Rattle.sysu.specs.Statuses.{Ends, RefusalEnds, RunEnds, UsageEnds};
 ghost use Rattle.sysu.specs.Words.{named};
 
+use crate::reading::read_file;
 use crate::statements::answer_all;
 use crate::status::Status;
 use std::alloc::Global;
-use su_base::{List, Str};
+use su_base::Str;
 use su_ddl::{DdlFault, read};
-use su_io::{ReadEnd, Shelf, Sink, read_all, write_all};
+use su_io::{Shelf, Sink, write_all};
 use su_session::Session;
 use su_show::ddl_fault;
 
@@ -54,26 +54,6 @@ fn tell_usage<K: Sink>(out: &mut K) -> Status
     }
 }
 
-// Reads a file of the run whole.
-fn read_file<H: Shelf>(
-    alloc: Global,
-    shelf: &mut H,
-    name: Str,
-    limit: u64,
-) -> Result<List<u8>, Status>
-    requires { limit < 2 ^ 40 }
-    ensures files { H.files shelf.new ≡ H.files shelf.old }
-    ensures begun { H.begun shelf.new ≡ Some name }
-    ensures ends { FileEnds (H.files shelf.old) name limit (H.faults shelf.old) (H.faults shelf.new) (H.taken shelf.new) (H.failed shelf.new) result }
-{
-    match read_all(alloc, shelf, name, limit) {
-        Ok(bytes) => Ok(bytes),
-        Err(ReadEnd::Failed) => Err(Status::ReadFault),
-        Err(ReadEnd::TooLong) => Err(Status::TooLong),
-        Err(ReadEnd::NoMemory) => Err(Status::NoMemory),
-    }
-}
-
 // Runs the script on the schema.
 fn run_files<H: Shelf, K: Sink>(
     alloc: Global,
@@ -100,7 +80,7 @@ fn run_files<H: Shelf, K: Sink>(
         return Status::NoMemory;
     };
     match read_file(alloc, shelf, script, SCRIPT_LIMIT) {
-        Ok(bytes) => answer_all(alloc, session, bytes.as_slice(), out),
+        Ok(bytes) => answer_all(alloc, session, bytes.as_slice(), shelf, out),
         Err(status) => status,
     }
 }

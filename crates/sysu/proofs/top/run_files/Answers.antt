@@ -6,16 +6,16 @@ pub returns-in-Ok-read_file-clause-ends : goal.returns-in-Ok-read_file-clause-en
 returns-in-Ok-read_file-clause-ends g c =
     let first = c.in-Ok.ensures.ends in
     let second = c.in-Ok-read_file.ensures.ends in
-    script_answered (record { schema = c.args.schema; script = c.args.script }) _ _ c.as_slice.result.now c.in-Ok-read.schema c.as_slice-in-Ok-read_file.result.now
-    (rw c.as_slice.ensures first.1) c.in-Ok-read.ensures.schema
-    (rw c.as_slice-in-Ok-read_file.ensures (rw c.in-Ok.ensures.files at second.1))
-    (second.0 ∙ first.0) c.in-Ok-read_file.ensures.begun second.2
-    c.answer_all.result (c.answer_all.ensures c.in-Ok-read.schema c.in-Ok-open.ensures)
+    script_answered (record { schema = c.args.schema; script = c.args.script }) _ _ _ c.as_slice.result.now c.in-Ok-read.schema c.as_slice-in-Ok-read_file.result.now
+    (rw c.as_slice.ensures first.1) (rw c.as_slice.ensures first.3) c.in-Ok-read.ensures.schema
+    (rw c.as_slice-in-Ok-read_file.ensures (rw c.in-Ok.ensures.files at second.1)) (rw c.as_slice-in-Ok-read_file.ensures second.3)
+    (c.in-Ok-read_file.ensures.files ∙ c.in-Ok.ensures.files) (second.0 ∙ first.0) refl refl c.in-Ok-read_file.ensures.begun second.2
+    c.answer_all.result (c.answer_all.ensures.ends c.in-Ok-read.schema c.in-Ok-open.ensures)
 
 pub returns-clause-ends : goal.returns-clause-ends
 returns-clause-ends g c =
     let first = c.in-Ok.ensures.ends in
-    script_fails (record { schema = c.args.schema; script = c.args.script }) _ _ (g.H.Shelf.files c.read_file.new.shelf) _
-    (record { bytes = c.as_slice.result.now; is_schema = rw c.as_slice.ensures first.1; schema = c.in-Ok-read.schema; accepted = c.in-Ok-read.ensures.schema })
+    script_fails (record { schema = c.args.schema; script = c.args.script }) _ _ (g.H.Shelf.files c.read_file.new.shelf) _ c.in-Ok.ensures.files
+    (record { bytes = c.as_slice.result.now; is_schema = rw c.as_slice.ensures first.1; fits = rw c.as_slice.ensures first.3; schema = c.in-Ok-read.schema; accepted = c.in-Ok-read.ensures.schema })
     first.0 c.in-Err-read_file.ensures.begun refl refl
     c.in-Err-read_file.status c.in-Err-read_file.ensures.ends

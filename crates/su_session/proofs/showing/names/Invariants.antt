@@ -1,0 +1,6 @@
+use Rattle.std.proofs.Common.{◌≡◌, map, take}
+use Rattle.su_schema.specs.SchemaValue.{column_names}
+use Rattle.su_session.proofs.showing.names.Given as goal
+
+abbrev pub invariant-loop-column : goal.invariant-loop-column
+invariant-loop-column l = l.names ≡ column_names (take l.column-index l.columns)

@@ -1,0 +1,6 @@
+-- The database that a session begins with: every relation is there, without rows.
+use Rattle.su_schema.specs.SchemaValue.{SchemaValue}
+use Rattle.su_state.specs.DatabaseValue.{DatabaseValue, empty_tables}
+
+abbrev pub empty_database : SchemaValue → DatabaseValue
+empty_database schema = record { schema = schema; tables = empty_tables schema }

@@ -1,0 +1,111 @@
+//! The statements that change rows.
+ghost use Rattle.std.specs.Prelude.{◌≡◌, ◌≤◌, true, length, IfOk, OnErr};
+ghost use Rattle.su_query.specs.Mentions.{are_columns, comparisons_of};
+ghost use Rattle.su_session.specs.Statements.{InRelation, InsertsRow, DeletesRow, DeletesRows, LoadsRows};
+
+use crate::replies::{Reply, accepted_line, refused};
+use crate::roomy::{deleted, loaded, room};
+use std::alloc::Global;
+use su_base::{NoMemory, Row, Str};
+use su_csv::read;
+use su_query::{NamedCond, resolve_columns};
+use su_show::Refusal;
+use su_state::{Database, LoadEnd};
+
+pub(crate) fn insert(
+    alloc: Global,
+    db: &mut Database,
+    name: &Str,
+    row: Row,
+) -> Result<Reply, NoMemory>
+    ensures replied { IfOk result (λ reply. InRelation db.old name.now reply db.new (InsertsRow db.old row reply db.new)) }
+    ensures schema { db.new.schema ≡ db.old.schema }
+    ensures unchanged { OnErr result (db.new ≡ db.old) }
+{
+    let relation = match db.relation(name.as_str()) {
+        Ok(relation) => relation,
+        Err(fault) => return refused(alloc, db, Refusal::State(fault)),
+    };
+    let added = accepted_line(alloc, "inserted 1\n")?;
+    let known = accepted_line(alloc, "inserted 0\n")?;
+    match db.insert(relation, row) {
+        Ok(true) => Ok(added),
+        Ok(false) => Ok(known),
+        Err(fault) => refused(alloc, db, Refusal::State(fault)),
+    }
+}
+
+pub(crate) fn delete(
+    alloc: Global,
+    db: &mut Database,
+    name: &Str,
+    row: &Row,
+) -> Result<Reply, NoMemory>
+    ensures replied { IfOk result (λ reply. InRelation db.old name.now reply db.new (DeletesRow db.old row.now reply db.new)) }
+    ensures schema { db.new.schema ≡ db.old.schema }
+    ensures unchanged { OnErr result (db.new ≡ db.old) }
+{
+    let relation = match db.relation(name.as_str()) {
+        Ok(relation) => relation,
+        Err(fault) => return refused(alloc, db, Refusal::State(fault)),
+    };
+    let gone = accepted_line(alloc, "deleted 1\n")?;
+    let none = accepted_line(alloc, "deleted 0\n")?;
+    match db.delete(relation, row) {
+        Ok(true) => Ok(gone),
+        Ok(false) => Ok(none),
+        Err(fault) => refused(alloc, db, Refusal::State(fault)),
+    }
+}
+
+pub(crate) fn delete_where(
+    alloc: Global,
+    db: &mut Database,
+    name: &Str,
+    cond: &NamedCond,
+) -> Result<Reply, NoMemory>
+    requires few { length (comparisons_of cond.now) ≤ 256 }
+    requires columns { are_columns cond.now ≡ true }
+    ensures replied { IfOk result (λ reply. InRelation db.old name.now reply db.new (DeletesRows db.old cond.now reply db.new)) }
+    ensures schema { db.new.schema ≡ db.old.schema }
+    ensures unchanged { OnErr result (db.new ≡ db.old) }
+{
+    let relation = match db.relation(name.as_str()) {
+        Ok(relation) => relation,
+        Err(fault) => return refused(alloc, db, Refusal::State(fault)),
+    };
+    let cond = match resolve_columns(alloc, db.schema(), relation, cond) {
+        Ok(cond) => cond,
+        Err(fault) => return refused(alloc, db, Refusal::Query(fault)),
+    };
+    let room = room(alloc)?;
+    let count = db.delete_where(relation, &cond)?;
+    Ok(deleted(room, count))
+}
+
+pub(crate) fn load(
+    alloc: Global,
+    db: &mut Database,
+    name: &Str,
+    file: &[u8],
+) -> Result<Reply, NoMemory>
+    ensures replied { IfOk result (λ reply. InRelation db.old name.now reply db.new (LoadsRows db.old file.now reply db.new)) }
+    ensures schema { db.new.schema ≡ db.old.schema }
+    ensures unchanged { OnErr result (db.new ≡ db.old) }
+{
+    let relation = match db.relation(name.as_str()) {
+        Ok(relation) => relation,
+        Err(fault) => return refused(alloc, db, Refusal::State(fault)),
+    };
+    let rows = match read(alloc, file, db.schema().columns(relation)) {
+        Ok(rows) => rows,
+        Err(fault) => return refused(alloc, db, Refusal::Csv(relation, fault)),
+    };
+    let records = rows.len() as u64;
+    let room = room(alloc)?;
+    match db.load(relation, rows) {
+        Ok(count) => Ok(loaded(room, count, records)),
+        Err(LoadEnd::Refused(fault)) => refused(alloc, db, Refusal::Record(fault)),
+        Err(LoadEnd::NoMemory) => Err(NoMemory),
+    }
+}

@@ -1,0 +1,37 @@
+-- How one statement of a script ends.
+use Rattle.std.specs.Prelude.{◌≡◌, ◌<◌, ◌≤◌, ℕ, List, Option, Bool, true, Result, Ok, Err, length, take}
+use Rattle.su_io.specs.Causes.{Rose}
+use Rattle.su_io.specs.Ends.{Grew}
+use Rattle.su_io.specs.declared.files.File.{File}
+use Rattle.su_session.specs.declared.replies.Reply.{Reply}
+use Rattle.su_session.specs.Reply.{Replied}
+use Rattle.su_state.specs.DatabaseValue.{DatabaseValue}
+use Rattle.sysu.specs.declared.status.Status.{Status}
+use Rattle.sysu.specs.declared.status.Status.TheVariants.{ReadFault, WriteFault, TooLong, NoMemory}
+use Rattle.sysu.specs.Handing.{Place, Began, TookOne}
+use Rattle.sysu.specs.Output.{IsHanded, IsOver, load_limit}
+
+-- the statement was handed what it wants and answered
+pub record AnsweredOne (files : Option (List File)) (old : DatabaseValue) (text : List ℕ) (new : DatabaseValue) (reply : Reply) : Type 0 where
+  pub file : Option (List ℕ)
+  pub handed : IsHanded files old text file
+  pub replied : Replied old text file reply new
+
+-- what the sink tells before and after, and its counts of faults
+pub record Sunk : Type 0 where
+  pub written : Option (List ℕ)
+  pub faults : ℕ
+
+abbrev pub TurnEnds : Option (List File) → DatabaseValue → List ℕ → DatabaseValue → Place → Place → Sunk → Sunk → Result Bool Status → Type 0
+TurnEnds files old text new before after from to (Ok refused) =
+    (after.faults ≡ before.faults) × (to.faults ≡ from.faults) × TookOne old text before after
+    × ((reply : Reply) × AnsweredOne files old text new reply × (reply.refused ≡ refused) × Grew from.written to.written reply.bytes)
+TurnEnds files old text new before after from to (Err ReadFault) =
+    ((path : List ℕ) × Began old text path after × Rose before.faults after.faults × (after.failed ≡ true)) × (to ≡ from)
+TurnEnds files old text new before after from to (Err TooLong) =
+    ((path : List ℕ) × Began old text path after × (after.faults ≡ before.faults) × (load_limit < after.taken) × IsOver files path load_limit) × (to ≡ from)
+TurnEnds files old text new before after from to (Err WriteFault) =
+    (after.faults ≡ before.faults) × Rose from.faults to.faults × TookOne old text before after
+    × ((reply : Reply) × AnsweredOne files old text new reply × ((count : ℕ) × (count ≤ length reply.bytes) × Grew from.written to.written (take count reply.bytes)))
+TurnEnds files old text new before after from to (Err NoMemory) = (after.faults ≡ before.faults) × TookOne old text before after × (to ≡ from)
+TurnEnds files old text new before after from to (Err _) = ⊥
