@@ -146,9 +146,21 @@ pub(crate) fn gives(
     file: &str,
     want: &str,
 ) -> Result<bool, NoMemory> {
+    gives_from(alloc, schema, script, "f", file, want)
+}
+
+// The same with a file of this path.
+pub(crate) fn gives_from(
+    alloc: Global,
+    schema: &str,
+    script: &str,
+    path: &str,
+    file: &str,
+    want: &str,
+) -> Result<bool, NoMemory> {
     let mut files = files(alloc, schema, script)?;
     files.push(File {
-        name: Str::new(alloc, "f")?,
+        name: Str::new(alloc, path)?,
         bytes: List::from_vec(file.as_bytes().to_vec(alloc)?),
     })?;
     let mut shelf = SteadyShelf::new(files);
