@@ -23,7 +23,7 @@ put_all (row ∷ rows) old new differ (between, inr (out, is), rest) =
     put_all rows (old ++ row ∷ []) new (subst AllDiffer (sym assoc) differ) (subst (λ (b : List (List Value)). PutInAll b rows new) is rest) ∙ assoc
 
 -- rows are compared as their values are
-same_rows : (xs ys : List Value) → slice_cmp ghosts.cmp xs ys ≡ compare_lists xs ys
+pub same_rows : (xs ys : List Value) → slice_cmp ghosts.cmp xs ys ≡ compare_lists xs ys
 same_rows [] [] = refl
 same_rows [] (y ∷ ys) = refl
 same_rows (x ∷ xs) [] = refl

@@ -12,3 +12,5 @@ pub mod Paired
 pub mod Noted
 pub mod Staying
 pub mod Typed
+pub mod Leading
+pub mod Keyed

@@ -7,3 +7,4 @@ pub mod Sides
 pub mod Pairs
 pub mod Parts
 pub mod Filling
+pub mod Leads

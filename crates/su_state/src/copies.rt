@@ -4,6 +4,7 @@ ghost use Rattle.su_state.specs.DatabaseValue.{rows_of};
 ghost use Rattle.su_state.specs.Changes.{AreInOrder};
 
 use crate::databases::Database;
+use crate::ordering::in_order;
 use std::alloc::Global;
 use su_base::{List, NoMemory, Row, copy_row};
 use su_index::Table;
@@ -35,9 +36,6 @@ impl Database {
         requires { relation < length self.now.schema.relations }
         ensures { IfOk result (AreInOrder (rows_of self.now relation)) }
     {
-        let rows = copy_rows(self.alloc, self.tables[relation as usize].as_slice())?;
-        let mut sorted = rows.into_vec();
-        sorted.sort()?;
-        Ok(List::from_vec(sorted))
+        in_order(self.alloc, self.tables[relation as usize].as_slice())
     }
 }

@@ -20,6 +20,7 @@ mod defining;
 mod faults;
 mod filling;
 mod loads;
+mod ordering;
 mod pairs;
 mod parts;
 mod sides;
