@@ -1,24 +1,61 @@
 //! Standard output: the trusted edge, which tells nothing of content.
 ghost use Rattle.std.specs.Prelude.{◌≡◌, None};
+ghost use Rattle.su_io.specs.Causes.{HasCause};
 
 use crate::{Failed, Sink};
 use std::io::{Print, Stdout};
 
-/// Standard output. A write that takes nothing of a piece that isn't empty is a failure.
+// How many bytes are held before they are handed over.
+const LARGE: usize = 1 << 16;
+
+/// Standard output, written in large pieces: short ones are held until there are 64 KiB of them, or
+/// until `flush`. What is held when the sink is let go is lost.
 #[derive(Drop)]
 pub struct StreamSink {
     out: Stdout,
+    held: Vec<u8>,
     faults: u64,
 }
 
 impl StreamSink {
-    /// A sink that has counted no fault.
+    /// A sink that holds nothing and has counted no fault.
     pub fn new(rt: HostRuntime) -> StreamSink
         ensures { result.faults ≡ 0 }
     {
         StreamSink {
             out: rt.stdout(),
+            held: Vec::new(rt.alloc()),
             faults: 0,
+        }
+    }
+
+    // Hands the bytes over whole.
+    fn hand_over(&mut self, bytes: &[u8]) -> Result<(), Failed>
+        ensures cause { HasCause self.old.faults self.new.faults result }
+    {
+        match self.out.write_all(bytes) {
+            Ok(()) => Ok(()),
+            Err(_) => {
+                self.faults = self.faults.saturating_add(1);
+                Err(Failed)
+            }
+        }
+    }
+
+    /// Hands over what is held. After a failure nothing is held.
+    pub fn flush(&mut self) -> Result<(), Failed>
+        ensures cause { HasCause self.old.faults self.new.faults result }
+    {
+        match self.out.write_all(self.held.as_slice()) {
+            Ok(()) => {
+                self.held.clear();
+                Ok(())
+            }
+            Err(_) => {
+                self.held.clear();
+                self.faults = self.faults.saturating_add(1);
+                Err(Failed)
+            }
         }
     }
 }
@@ -29,12 +66,14 @@ impl Sink for StreamSink {
     ghost faults = { λ s. s.faults };
 
     fn write(&mut self, bytes: &[u8]) -> Result<usize, Failed> {
-        match self.out.write_some(bytes) {
-            Ok(count) if count > 0 || bytes.is_empty() => Ok(count),
-            _ => {
-                self.faults = self.faults.saturating_add(1);
-                Err(Failed)
-            }
+        if bytes.len() >= LARGE || self.held.extend_from_slice(bytes).is_err() {
+            self.flush()?;
+            self.hand_over(bytes)?;
+            return Ok(bytes.len());
         }
+        if self.held.len() >= LARGE {
+            self.flush()?;
+        }
+        Ok(bytes.len())
     }
 }

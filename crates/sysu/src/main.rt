@@ -1,7 +1,8 @@
 //! `sysu run SCHEMA SCRIPT`: reads a schema and a script, and writes one reply per statement.
 //!
 //! `top::run` is the whole program over any shelf and sink; `main` hands it the files of the system
-//! and standard output, and ends with the status as its exit code. Nothing goes to standard error.
+//! and standard output, which is written in large pieces, and ends with the status as its exit code.
+//! Nothing goes to standard error.
 #![tactic(auto)]
 
 mod reading;
@@ -39,6 +40,11 @@ fn main(rt: HostRuntime) -> ExitCode {
     let status = match words(&rt) {
         Ok(words) => run(rt.alloc(), words.as_slice(), &mut shelf, &mut out),
         Err(NoMemory) => Status::NoMemory,
+    };
+    // what the sink holds goes out at the end
+    let status = match out.flush() {
+        Ok(()) => status,
+        Err(_) => Status::WriteFault,
     };
     ExitCode::from(status as u8)
 }
