@@ -124,3 +124,18 @@ fn loads_text(alloc: Global, length: usize, want: &str) -> Result<bool, NoMemory
     }
     gives(alloc, SCHEMA, "load S from 'f'", file.as_str(), want)
 }
+
+#[test]
+fn a_file_has_at_most_a_million_records(rt: HostRuntime) -> Result<(), Fail> {
+    assert!(rt; loads_records(rt.alloc(), 1000001, "refused: limit records 1000000\n")?);
+    Ok(())
+}
+
+// Whether the load of so many equal records has this reply.
+fn loads_records(alloc: Global, count: usize, want: &str) -> Result<bool, NoMemory> {
+    let mut file = String::from_str(alloc, "T\n")?;
+    for _ in 0..count {
+        file.push_str("x\n")?;
+    }
+    gives(alloc, SCHEMA, "load S from 'f'", file.as_str(), want)
+}
