@@ -5,8 +5,8 @@ use crate::lists::NoMemory;
 use std::alloc::{AllocError, Global};
 use std::marker::Model;
 
-/// A value on the heap, through which a recursive type may hold itself. Unlike a `Box`, it is
-/// equal to another exactly where the values are, so a copy of a tree equals the tree.
+/// A value on the heap, through which a recursive type may hold itself. Contracts see it as the value
+/// in it, so a copy of a tree equals the tree, as it would not with a `Box`.
 #[derive(Debug, Drop)]
 pub struct Boxed<T> {
     inner: Box<T>,

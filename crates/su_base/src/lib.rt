@@ -20,7 +20,7 @@ pub use attr_sets::AttrSet;
 pub use boxes::Boxed;
 pub use crossing::crosses_threads;
 pub use lists::{List, NoMemory};
-pub use names::is_name;
+pub use names::{is_name, letter, letter_or_digit};
 pub use obj_sets::ObjSet;
 pub use steps::Steps;
 pub use texts::Str;

@@ -30,13 +30,15 @@ const RESERVED: [&str; 23] = [
     "window",
 ];
 
-fn letter(b: u8) -> bool
+/// Whether the byte is an ASCII letter or `_`.
+pub fn letter(b: u8) -> bool
     ensures { result ≡ is_letter b }
 {
     b.is_ascii_alphabetic() || b == b'_'
 }
 
-fn letter_or_digit(b: u8) -> bool
+/// Whether the byte is an ASCII letter, a digit or `_`.
+pub fn letter_or_digit(b: u8) -> bool
     ensures { result ≡ is_letter_or_digit b }
 {
     letter(b) || b.is_ascii_digit()

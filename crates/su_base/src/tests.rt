@@ -91,3 +91,23 @@ fn a_list_gives_back_what_was_pushed(rt: HostRuntime) -> Result<(), Fail> {
     assert_eq!(rt; again.len(), 1);
     Ok(())
 }
+
+// Texts of at most 14 bytes lie in the value, longer ones on the heap: 13, 14, 15 and 16 bytes.
+#[test]
+fn texts_on_both_sides_of_the_limit_are_texts(rt: HostRuntime) -> Result<(), Fail> {
+    let alloc = rt.alloc();
+    let mut before = Str::new(alloc, "")?;
+    for text in [
+        "Main Street 7",
+        "Main Street 77",
+        "Main Street 77a",
+        "Main Street 77é",
+    ] {
+        let kept = Str::new(alloc, text)?;
+        assert_eq!(rt; kept.as_str(), text);
+        assert!(rt; kept.copy(alloc)? == kept);
+        assert!(rt; before < kept);
+        before = kept;
+    }
+    Ok(())
+}

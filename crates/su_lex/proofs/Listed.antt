@@ -1,9 +1,9 @@
 -- Lists of names.
-use Rattle.std.proofs.Common.{◌≡◌, ◌<◌, ◌≤◌, ◌+◌, ℕ, Some, None, Bool, true, false, List, [], ◌∷◌, ◌++◌, length, refl, ap, sym, ◌∙◌, cond, arith, zero, suc, subst, codes}
+use Rattle.std.proofs.Common.{◌≡◌, ℕ, List, [], ◌∷◌, ◌++◌, refl, ap, sym, ◌∙◌}
 use Rattle.su_lex.specs.declared.signs.Sign.TheVariants as sign
 use Rattle.su_lex.specs.declared.meaning.Symbol.{Symbol}
-use Rattle.su_lex.specs.declared.meaning.Symbol.TheVariants.{Word, Int, Text, Sign}
-use Rattle.std.proofs.Common.{append_assoc, append-nil}
+use Rattle.su_lex.specs.declared.meaning.Symbol.TheVariants.{Word, Sign}
+use Rattle.std.proofs.Common.{append-nil}
 use Rattle.std.specs.List.{AllByRecursion}
 use Rattle.su_lex.specs.Names.{Begins}
 use Rattle.su_lex.specs.Names.{AreNames, more_names, names_symbols}

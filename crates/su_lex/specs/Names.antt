@@ -1,5 +1,5 @@
 -- Names among the symbols of a text.
-use Rattle.std.specs.Prelude.{◌≡◌, ℕ, List, [], ◌∷◌, ◌++◌}
+use Rattle.std.specs.Prelude.{◌≡◌, ℕ, List, [], ◌∷◌}
 use Rattle.std.specs.List.{AllByRecursion}
 use Rattle.su_base.specs.Name.{IsName}
 use Rattle.su_lex.specs.declared.meaning.Symbol.{Symbol}

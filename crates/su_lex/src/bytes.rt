@@ -1,20 +1,10 @@
 //! Which bytes words and white space are made of.
 ghost use Rattle.std.specs.Prelude.{◌≡◌, ◌≤◌, length, position, not, ◌==◌};
 ghost use Rattle.std.specs.List.{prefix_len};
-ghost use Rattle.su_base.specs.Name.{is_letter, is_letter_or_digit};
+ghost use Rattle.su_base.specs.Name.{is_letter_or_digit};
 ghost use Rattle.su_lex.specs.Blanks.{is_space};
 
-pub fn letter(b: u8) -> bool
-    ensures { result ≡ is_letter b }
-{
-    b.is_ascii_alphabetic() || b == b'_'
-}
-
-pub fn letter_or_digit(b: u8) -> bool
-    ensures { result ≡ is_letter_or_digit b }
-{
-    letter(b) || b.is_ascii_digit()
-}
+use su_base::letter_or_digit;
 
 pub fn space(b: u8) -> bool
     ensures { result ≡ is_space b }

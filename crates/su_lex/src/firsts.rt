@@ -3,7 +3,6 @@ ghost use Rattle.std.specs.Prelude.{◌≡◌, IfOk, IsErrOf};
 ghost use Rattle.su_lex.specs.Tokens.{IsFirst, HasNoFirst};
 ghost use Rattle.su_lex.specs.Classes.{class_at};
 
-use crate::bytes::letter;
 use crate::ends::LexEnd;
 use crate::kinds::TokenKind;
 use crate::numbers::number;
@@ -11,6 +10,7 @@ use crate::quoting::quoted_text;
 use crate::signs::{sign_len, sign_of};
 use crate::words::word;
 use std::alloc::Global;
+use su_base::letter;
 
 /// What the first bytes tell of a token.
 #[derive(Clone, Copy, PartialEq, Eq, Debug)]

@@ -56,9 +56,9 @@ pub fn quoted_text(alloc: Global, text: &[u8]) -> Result<(TokenKind, usize), Lex
     if content.len() > 4096 {
         return Err(LexEnd::Syntax);
     }
-    match String::from_utf8(content) {
+    match str::from_utf8(content.as_slice()) {
         Ok(content) => Ok((
-            TokenKind::Text(Str::from_string(content)),
+            TokenKind::Text(Str::new(alloc, content)?),
             text.len() - rest.len() + 1,
         )),
         Err(_) => Err(LexEnd::Syntax),

@@ -1,4 +1,3 @@
-use Rattle.std.proofs.Common.{◌≡◌, refl, sym}
 use Rattle.su_lex.proofs.Numerals.{word_utf8}
 use Rattle.su_lex.proofs.meaning.symbol_at.Goals as goal
 

@@ -4,8 +4,6 @@ use Rattle.std.specs.Str.{IsUtf8}
 use Rattle.std.proofs.Common.{◌+◌, length-append}
 use Rattle.su_lex.specs.Tokens.{doubled}
 use Rattle.su_lex.proofs.Quotes.{grows, piece_content, piece_close, piece_missing, text_no_end, text_refused, text_found}
-use Rattle.std.proofs.lemmas.Bool.{false≢true}
-use Rattle.std.proofs.lemmas.Str.{IsUtf8-string_bytes}
 use Rattle.su_lex.proofs.quoting.quoted_text.Goals as goal
 
 pub loop-b-preserved : goal.loop-b-preserved
@@ -25,13 +23,13 @@ returns-then-len-gt4096-clause-none c =
 pub returns-clause-none : goal.returns-clause-none
 returns-clause-none c =
     let e = piece_close c.loop-b.rest.now (sym c.in-Close.ensures) in
-    λ _. text_refused c.args.text.now c.loop-b.content.items c.loop-b.rest.now (drop 1 c.loop-b.rest.now) c.requires c.loop-b.invariant e.0 e.1 (λ ok. absurd (false≢true (c.in-Err.ensures.succeeds ok.0)))
+    λ _. text_refused c.args.text.now c.loop-b.content.items c.loop-b.rest.now (drop 1 c.loop-b.rest.now) c.requires c.loop-b.invariant e.0 e.1 (λ ok. absurd (c.in-Err.ensures.cases.0 (subst IsUtf8 (sym c.as_slice.ensures.value) ok.0)))
 
 pub returns-in-Ok-clause-found : goal.returns-in-Ok-clause-found
 returns-in-Ok-clause-found c =
     let e = piece_close c.loop-b.rest.now (sym c.in-Close.ensures) in
-    let same : c.from_string.result ≡ c.loop-b.content.items = c.from_string.ensures ∙ ap (λ v. v.items) c.in-Ok.ensures.ok in
-    let utf8 : IsUtf8 c.loop-b.content.items = subst IsUtf8 (ap (λ v. v.items) c.in-Ok.ensures.ok) (IsUtf8-string_bytes c.in-Ok.content) in
+    let same : c.in_ok-new-in-Ok.field-0 ≡ c.loop-b.content.items = c.in_ok-new-in-Ok.ensures ∙ c.in-Ok.ensures.cases.0 ∙ c.as_slice.ensures.value in
+    let utf8 : IsUtf8 c.loop-b.content.items = subst IsUtf8 c.as_slice.ensures.value c.in-Ok.ensures.cases.1 in
     let short : length c.loop-b.content.items ≤ 4096 = omega arith in
     let count : (length c.args.text.now - length c.loop-b.rest.now + 1) + length c.loop-b.rest.now ≡ length c.args.text.now + 1 =
     omega (arith, ap length c.loop-b.invariant, length-append (doubled c.loop-b.content.items) c.loop-b.rest.now) in

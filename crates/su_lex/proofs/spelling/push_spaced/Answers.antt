@@ -1,4 +1,3 @@
-use Rattle.std.proofs.Common.{◌≡◌, sym}
 use Rattle.su_lex.proofs.Printed.{one_behind}
 use Rattle.su_lex.proofs.spelling.push_spaced.Goals as goal
 

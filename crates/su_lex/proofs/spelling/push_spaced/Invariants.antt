@@ -1,4 +1,3 @@
-use Rattle.std.proofs.Common.{◌≡◌, take}
 use Rattle.su_lex.proofs.Printed.{MoreBehind}
 use Rattle.su_lex.proofs.spelling.push_spaced.Given as goal
 
