@@ -84,7 +84,7 @@ fn run_all<R: Threads + Sync, J: Job, G: Gate>(
 ///
 /// `gate.pass(k)` is called in the thread of job k before it runs. With 1 worker the jobs run one
 /// after another in the caller's thread, else at most `workers` run at a time, by fork and join:
-/// each worker has a run of neighbours, of equal lengths but for the last. Want of memory in one
+/// at most one run of neighbours a worker, of equal lengths but for the last. Want of memory in one
 /// job is want of memory of the call, given once every job has run, so no thread is left.
 pub fn each<R: Threads + Sync, J: Job, G: Gate>(
     rt: &R,
