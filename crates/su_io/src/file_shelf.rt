@@ -22,6 +22,8 @@ impl FileShelf {
     /// A shelf on which no file is begun.
     pub fn new(rt: HostRuntime) -> FileShelf
         ensures begun { result.begun ≡ None }
+        ensures taken { result.taken ≡ 0 }
+        ensures failed { result.failed ≡ false }
         ensures faults { result.faults ≡ 0 }
     {
         FileShelf {

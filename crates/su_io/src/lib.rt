@@ -12,6 +12,7 @@ mod files;
 mod memory_shelf;
 mod memory_sink;
 mod pieces;
+mod rooms;
 mod shelf;
 mod sink;
 mod steady_shelf;

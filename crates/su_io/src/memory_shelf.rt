@@ -35,6 +35,10 @@ impl MemoryShelf {
         ensures piece { result.piece ≡ piece }
         ensures calls { result.calls ≡ 0 }
         ensures faults { result.faults ≡ 0 }
+        ensures begun { result.begun ≡ None }
+        ensures taken { result.taken ≡ 0 }
+        ensures rest { bytes_at files result.place ≡ [] }
+        ensures failed { result.failed ≡ false }
     {
         let place = files.len();
         MemoryShelf {
@@ -88,6 +92,7 @@ impl Shelf for MemoryShelf {
         ensures cause { HasCause self.old.faults self.new.faults result }
         ensures when { IsErr result ↔ Contains self.old.fails self.old.calls ⊎ (has_file self.old.files name ≡ false) }
         ensures counted { self.new.calls ≡ min (self.old.calls + 1) (2 ^ 64 - 1) }
+        ensures settings { (self.new.fails ≡ self.old.fails) × (self.new.piece ≡ self.old.piece) }
     {
         let due = self.fails.as_slice().contains(&self.calls);
         let found = find(self.files.as_slice(), &name);
@@ -120,6 +125,7 @@ impl Shelf for MemoryShelf {
         ensures when { IsErr result ↔ Contains self.old.fails self.old.calls }
         ensures counted { self.new.calls ≡ min (self.old.calls + 1) (2 ^ 64 - 1) }
         ensures piece { IfOk result (λ count. count ≤ self.old.piece) }
+        ensures settings { (self.new.fails ≡ self.old.fails) × (self.new.piece ≡ self.old.piece) }
     {
         let due = self.fails.as_slice().contains(&self.calls);
         self.calls = self.calls.saturating_add(1);

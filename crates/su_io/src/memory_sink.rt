@@ -1,8 +1,9 @@
 //! A sink in memory, some of whose calls fail.
-ghost use Rattle.std.specs.Prelude.{◌^◌, min, ◌-◌, ◌≡◌, ◌≤◌, ◌<◌, ◌+◌, ◌↔◌, IsErr, OnErr, Contains, take, length, cond, [], Some, None, true, IfOk, vec_len, vec_capacity};
+ghost use Rattle.std.specs.Prelude.{◌++◌, ◌&&◌, nat_le, ◌^◌, min, ◌-◌, ◌≡◌, ◌≤◌, ◌<◌, ◌+◌, ◌↔◌, IsErr, OnErr, Contains, take, length, cond, [], Some, None, true, IfOk, vec_len, vec_capacity};
 ghost use Rattle.su_io.specs.Causes.{HasCause};
 ghost use Rattle.su_io.specs.Ends.{Grew};
 
+use crate::rooms::keep;
 use crate::{Failed, Sink};
 use std::alloc::Global;
 use su_base::{List, NoMemory};
@@ -59,7 +60,7 @@ impl Sink for MemorySink {
 
     ghost faults = { λ s. s.faults };
 
-    // The trait's clauses, when the call fails, and how much it takes.
+    // The trait's clauses, when the call fails, how much it takes, and what it stores and tells of that.
     fn write(&mut self, bytes: &[u8]) -> Result<usize, Failed>
         ensures bound { IfOk result (λ count. count ≤ length bytes.now) }
         ensures progress { IfOk result (λ count. 0 < length bytes.now → 0 < count) }
@@ -69,6 +70,10 @@ impl Sink for MemorySink {
         ensures when { IsErr result ↔ Contains self.old.fails self.old.calls }
         ensures counted { self.new.calls ≡ min (self.old.calls + 1) (2 ^ 64 - 1) }
         ensures piece { IfOk result (λ count. count ≤ self.old.piece) }
+        ensures stored { IfOk result (λ count. self.new.bytes.items ≡ take self.old.room (self.old.bytes.items ++ take count bytes.now)) }
+        ensures told { IfOk result (λ count. self.new.told ≡ (self.old.told && nat_le (length self.old.bytes.items + count) self.old.room)) }
+        ensures room { self.new.room ≡ self.old.room }
+        ensures settings { (self.new.fails ≡ self.old.fails) × (self.new.piece ≡ self.old.piece) }
     {
         let due = self.fails.as_slice().contains(&self.calls);
         self.calls = self.calls.saturating_add(1);
@@ -77,9 +82,8 @@ impl Sink for MemorySink {
             return Err(Failed);
         }
         let count = bytes.len().min(self.piece);
-        let kept = count.min(self.room - self.bytes.len());
-        let stored = self.bytes.extend_from_slice(&bytes[..kept]).is_ok();
-        self.told = self.told && stored && kept == count;
+        let all = keep(&mut self.bytes, self.room, &bytes[..count]);
+        self.told = self.told && all;
         Ok(count)
     }
 }

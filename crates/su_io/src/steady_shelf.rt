@@ -1,5 +1,5 @@
 //! A shelf in memory whose calls never fail.
-ghost use Rattle.std.specs.Prelude.{◌≡◌, ◌≤◌, drop, length, Some, false};
+ghost use Rattle.std.specs.Prelude.{◌≡◌, ◌≤◌, [], drop, length, Some, None, false};
 ghost use Rattle.su_io.specs.Files.{bytes_at};
 
 use crate::pieces::{find, rest_of, take_front};
@@ -20,6 +20,9 @@ impl SteadyShelf {
     /// A shelf on which no file is begun.
     pub fn new(files: List<File>) -> SteadyShelf
         ensures files { result.files ≡ files }
+        ensures begun { result.begun ≡ None }
+        ensures taken { result.taken ≡ 0 }
+        ensures rest { bytes_at files result.place ≡ [] }
     {
         let place = files.len();
         SteadyShelf {

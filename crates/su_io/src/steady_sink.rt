@@ -1,6 +1,9 @@
 //! A sink in memory whose calls never fail.
-ghost use Rattle.std.specs.Prelude.{◌≡◌, ◌≤◌, [], cond, Some, None, true, IfOk, vec_len, vec_capacity};
+ghost use Rattle.std.specs.Prelude.{◌≡◌, ◌≤◌, ◌<◌, ◌+◌, ◌++◌, ◌&&◌, nat_le, take, length, OnErr, [], cond, Some, None, true, IfOk, vec_len, vec_capacity};
+ghost use Rattle.su_io.specs.Causes.{HasCause};
+ghost use Rattle.su_io.specs.Ends.{Grew};
 
+use crate::rooms::keep;
 use crate::{Failed, Sink};
 use std::alloc::Global;
 use su_base::NoMemory;
@@ -41,10 +44,20 @@ impl Sink for SteadySink {
 
     ghost faults = { λ s. 0 };
 
-    fn write(&mut self, bytes: &[u8]) -> Result<usize, Failed> {
-        let kept = bytes.len().min(self.room - self.bytes.len());
-        let stored = self.bytes.extend_from_slice(&bytes[..kept]).is_ok();
-        self.told = self.told && stored && kept == bytes.len();
+    // The trait's clauses, and what it stores and tells of the bytes, all of which it takes.
+    fn write(&mut self, bytes: &[u8]) -> Result<usize, Failed>
+        ensures bound { IfOk result (λ count. count ≤ length bytes.now) }
+        ensures progress { IfOk result (λ count. 0 < length bytes.now → 0 < count) }
+        ensures grew { IfOk result (λ count. Grew (cond self.old.told (Some self.old.bytes.items) None) (cond self.new.told (Some self.new.bytes.items) None) (take count bytes.now)) }
+        ensures kept { OnErr result ((self.new.bytes ≡ self.old.bytes) × (self.new.told ≡ self.old.told)) }
+        ensures cause { HasCause 0 0 result }
+        ensures whole { IfOk result (λ count. count ≡ length bytes.now) }
+        ensures stored { IfOk result (λ count. self.new.bytes.items ≡ take self.old.room (self.old.bytes.items ++ take count bytes.now)) }
+        ensures told { IfOk result (λ count. self.new.told ≡ (self.old.told && nat_le (length self.old.bytes.items + count) self.old.room)) }
+        ensures room { self.new.room ≡ self.old.room }
+    {
+        let all = keep(&mut self.bytes, self.room, bytes);
+        self.told = self.told && all;
         Ok(bytes.len())
     }
 }

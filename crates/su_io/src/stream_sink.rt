@@ -29,11 +29,11 @@ impl StreamSink {
         }
     }
 
-    // Hands the bytes over whole.
-    fn hand_over(&mut self, bytes: &[u8]) -> Result<(), Failed>
+    // Counts a fault where a call of the outside failed.
+    fn counted(&mut self, ended: std::io::Result<()>) -> Result<(), Failed>
         ensures cause { HasCause self.old.faults self.new.faults result }
     {
-        match self.out.write_all(bytes) {
+        match ended {
             Ok(()) => Ok(()),
             Err(_) => {
                 self.faults = self.faults.saturating_add(1);
@@ -42,21 +42,21 @@ impl StreamSink {
         }
     }
 
+    // Hands the bytes over whole.
+    fn hand_over(&mut self, bytes: &[u8]) -> Result<(), Failed>
+        ensures cause { HasCause self.old.faults self.new.faults result }
+    {
+        let ended = self.out.write_all(bytes);
+        self.counted(ended)
+    }
+
     /// Hands over what is held. After a failure nothing is held.
     pub fn flush(&mut self) -> Result<(), Failed>
         ensures cause { HasCause self.old.faults self.new.faults result }
     {
-        match self.out.write_all(self.held.as_slice()) {
-            Ok(()) => {
-                self.held.clear();
-                Ok(())
-            }
-            Err(_) => {
-                self.held.clear();
-                self.faults = self.faults.saturating_add(1);
-                Err(Failed)
-            }
-        }
+        let ended = self.out.write_all(self.held.as_slice());
+        self.held.clear();
+        self.counted(ended)
     }
 }
 

@@ -11,7 +11,9 @@ use su_base::{List, Str};
 const PIECE: usize = 4096;
 
 /// Reads a file whole, where it has at most `limit` bytes. A longer one is read up to the first piece
-/// past the limit. Each turn takes at least one byte or ends.
+/// past the limit. Each turn takes at least one byte or ends. It answers `Failed` where a call of the
+/// shelf has failed, so exactly where the shelf's count of faults has risen (one at its type's end
+/// stays there).
 pub fn read_all<H: Shelf>(
     alloc: Global,
     shelf: &mut H,
@@ -49,7 +51,8 @@ pub fn read_all<H: Shelf>(
 }
 
 /// Writes all the bytes, in as few calls as the sink allows. After a failure a front of them is
-/// written. It takes no memory.
+/// written. It takes no memory. It answers `Failed` where a call of the sink has failed, so exactly
+/// where the sink's count of faults has risen (one at its type's end stays there).
 pub fn write_all<K: Sink>(sink: &mut K, bytes: &[u8]) -> Result<(), Failed>
     ensures ok { OnOk result (Grew (K.written sink.old) (K.written sink.new) bytes.now) }
     ensures err { OnErr result ((count : ℕ) × (count ≤ length bytes.now) × Grew (K.written sink.old) (K.written sink.new) (take count bytes.now)) }
