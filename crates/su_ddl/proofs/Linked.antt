@@ -13,7 +13,8 @@ use Rattle.su_base.specs.declared.values.Column.{Column}
 use Rattle.su_schema.specs.declared.definitions.Pair.{Pair}
 use Rattle.su_schema.specs.declared.links.Link.{Link}
 use Rattle.su_schema.specs.SchemaValue.{SchemaValue, AreNames, IsLink, attribute_names, attribute_kinds, column_names}
-use Rattle.su_schema.specs.Checks.{first_failing, is_known, number_of, pair_checks, attribute_kind, column_kind, same_kind}
+use Rattle.su_base.specs.Value.{same_kind}
+use Rattle.su_schema.specs.Checks.{first_failing, is_known, number_of, pair_checks, attribute_kind, column_kind}
 use Rattle.su_schema.specs.Defining.{link_of, links_of, ascending, AreGiven}
 use Rattle.su_ddl.specs.Shown.{name_at}
 use Rattle.su_ddl.proofs.Named.{middle, before, weaker, step, not_unknown, number_at, other_names}

@@ -12,7 +12,7 @@ use Rattle.su_where.specs.Truth as where'
 use Rattle.su_where.specs.Truth.{IsBelow, HasPlacesBelow}
 use Rattle.su_where.proofs.Layers as layers'
 use Rattle.su_schema.specs.SchemaValue.{SchemaValue}
-use Rattle.su_schema.specs.Checks.{same_kind}
+use Rattle.su_base.specs.Value.{same_kind}
 use Rattle.su_query.specs.declared.refs.Ref.{Ref as ARef}
 use Rattle.su_query.specs.declared.refs.NamedOperand.{NamedOperand}
 use Rattle.su_query.specs.declared.refs.NamedOperand.TheVariants.{Ref, Const}

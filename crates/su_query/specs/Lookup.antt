@@ -5,13 +5,13 @@ use Rattle.std.specs.Prelude.{◌≡◌, ◌<◌, ℕ, ◌==◌, Bool, not, ◌&
 use Rattle.std.specs.List.{list_any}
 use Rattle.su_base.specs.declared.values.Kind.{Kind}
 use Rattle.su_base.specs.declared.values.Kind.TheVariants.{Int as IntKind}
-use Rattle.su_base.specs.Value.{kind_of}
+use Rattle.su_base.specs.Value.{kind_of, same_kind}
 use Rattle.su_where.specs.declared.literals.Operand.{Operand}
 use Rattle.su_where.specs.declared.literals.Operand.TheVariants as operand
 use Rattle.su_where.specs.declared.conditions.Cond.{Cond}
 use Rattle.su_where.specs.declared.conditions.Cond.TheVariants as cond
 use Rattle.su_schema.specs.SchemaValue.{SchemaValue, attribute_names, attribute_kinds, column_names, place_of}
-use Rattle.su_schema.specs.Checks.{same_kind, columns_at}
+use Rattle.su_schema.specs.Checks.{columns_at}
 use Rattle.su_query.specs.declared.refs.Ref.{Ref as ARef}
 use Rattle.su_query.specs.declared.refs.NamedOperand.{NamedOperand}
 use Rattle.su_query.specs.declared.refs.NamedOperand.TheVariants.{Ref, Const}

@@ -1,6 +1,6 @@
 //! The first unknown name of a condition, and its first comparison of two kinds.
 ghost use Rattle.std.specs.Prelude.{◌≡◌, Some, None, IfOk, flat_map, if◌then◌else◌};
-ghost use Rattle.su_schema.specs.Checks.{same_kind};
+ghost use Rattle.su_base.specs.Value.{same_kind};
 ghost use Rattle.su_query.specs.Mentions.{Comparison, comparisons_of, refs_in, refs_of};
 ghost use Rattle.su_query.specs.Lookup.{IsScope, names_in, first_unknown, differing_kinds};
 
