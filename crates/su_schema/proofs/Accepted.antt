@@ -1,22 +1,19 @@
 -- A definition whose checks pass is accepted, and leaves a valid schema valid; one whose checks fail is refused.
-use Rattle.std.proofs.Common.{◌≡◌, ◌≢◌, ◌+◌, ◌<◌, ◌≤◌, ℕ, Bool, true, false, not, List, [], ◌∷◌, ◌++◌, length, map, Option, Some, None, refl, sym, ap, subst, ◌∙◌, All, AllPairs, nat_le, nat_lt, length-append, arith}
-use Rattle.std.specs.Prelude.{Result, Ok, Err}
+use Rattle.std.proofs.Common.{◌≡◌, ◌<◌, ◌≤◌, ℕ, false, not, List, [], ◌∷◌, ◌++◌, length, Some, None, refl, sym, ap, subst, nat_le, nat_lt, length-append, arith}
+use Rattle.std.specs.Prelude.{Ok, Err}
 use lib.ListN.{length-map}
-use Rattle.std.specs.FinSet.{FinSet}
-use Rattle.std.specs.Ordering.{nat_cmp}
 use Rattle.std.proofs.lemmas.Bool.Decides.{nat_tests}
 use Rattle.std.proofs.lemmas.List.{map-append}
 use Rattle.std.proofs.lemmas.List.Elements.{All-push}
 use Rattle.su_base.specs.declared.values.Kind.{Kind}
 use Rattle.su_base.specs.declared.values.Column.{Column}
 use Rattle.su_base.specs.Name.{IsName}
-use Rattle.su_fd.specs.declared.Fd.{Fd as Dependency}
 use Rattle.su_schema.specs.declared.faults.SchemaFault.{SchemaFault}
 use Rattle.su_schema.specs.declared.definitions.Pair.{Pair}
 use Rattle.su_schema.specs.declared.definitions.Definition.{Definition}
 use Rattle.su_schema.specs.declared.definitions.Definition.TheVariants.{Attribute, Relation, Object, Fd, Maximal}
-use Rattle.su_schema.specs.SchemaValue.{SchemaValue, AttributeEntry, RelationEntry, ObjectEntry, IsValid, IsRelation, IsObject, IsDependency, IsSomeBelow, AreNames, attribute_names, relation_names, object_names, column_names}
-use Rattle.su_schema.specs.Checks.{Check, first_failing, is_known, number_of, name_checks, apart_checks, checks, columns_at}
+use Rattle.su_schema.specs.SchemaValue.{SchemaValue, AttributeEntry, RelationEntry, ObjectEntry, IsValid, IsRelation, IsObject, IsDependency, IsSomeBelow, attribute_names, relation_names, object_names, column_names}
+use Rattle.su_schema.specs.Checks.{first_failing, is_known, number_of, name_checks, checks, columns_at}
 use Rattle.su_schema.specs.Defining.{applied, extended, IsWellNamed, numbers_of, links_of}
 use Rattle.su_schema.proofs.Validity.{pass, passed_both, slice_get-grows, names_more, apart_names, object_more, below_more, dependency_more, numbers_some, not_false}
 use Rattle.su_schema.proofs.ObjectValid.{relation_there, joined, ordered, some_links}

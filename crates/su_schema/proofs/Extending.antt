@@ -1,5 +1,5 @@
 -- What the maps and lists show after one more is put in.
-use Rattle.std.proofs.Common.{◌≡◌, ◌<◌, ℕ, Bool, true, false, List, [], ◌∷◌, ◌++◌, length, map, Option, Some, None, refl, sym, ap, subst, ◌∙◌, All, arith}
+use Rattle.std.proofs.Common.{◌≡◌, ℕ, false, List, [], ◌∷◌, ◌++◌, map, None, refl, sym, subst, All}
 use Rattle.std.specs.String.{string_bytes, string_eq}
 use Rattle.std.specs.declared.alloc.Global.{Global}
 use Rattle.std.specs.declared.string.String.{String}
@@ -14,7 +14,7 @@ use Rattle.su_schema.specs.declared.definitions.Definition.{Definition}
 use Rattle.su_schema.specs.declared.definitions.Definition.TheVariants.{Attribute, Relation, Object, Fd, Maximal}
 use Rattle.su_schema.specs.declared.links.Object.{Object as KeptObject}
 use Rattle.su_schema.specs.declared.schemas.Schema.TheInside.{Inside}
-use Rattle.su_schema.specs.SchemaValue.{SchemaValue, AttributeEntry, RelationEntry, ObjectEntry, IsValid, attribute_names, relation_names, object_names}
+use Rattle.su_schema.specs.SchemaValue.{SchemaValue, IsValid, attribute_names, relation_names, object_names}
 use Rattle.su_schema.specs.Checks.{first_failing, is_known, number_of, checks, columns_at}
 use Rattle.su_schema.specs.Defining.{extended, numbers_of, links_of, IsWellNamed}
 use Rattle.su_schema.specs.Inside.{shown}

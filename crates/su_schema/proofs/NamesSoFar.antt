@@ -1,14 +1,13 @@
 -- A list of names that is read name by name: what has been found when i names are read.
-use Rattle.std.proofs.Common.{◌≡◌, ◌+◌, ◌<◌, ℕ, Bool, true, false, List, [], ◌∷◌, ◌++◌, length, map, take, drop, get_or, Option, Some, None, refl, sym, ap, ◌∙◌, All, add-one, append_assoc, suc, arith}
+use Rattle.std.proofs.Common.{◌≡◌, ◌+◌, ◌<◌, ℕ, true, false, List, [], ◌∷◌, ◌++◌, length, take, drop, get_or, Some, None, refl, sym, ap, ◌∙◌, All, add-one, suc, arith}
 use Rattle.std.proofs.Math.Seq.{drop-cons}
 use Rattle.std.proofs.lemmas.List.{take_more, map-append}
 use Rattle.std.proofs.lemmas.List.Elements.{All-push}
 use Rattle.std.specs.Ordering.{nat_cmp}
-use Rattle.std.specs.FinSet.{FinSet, empty, contains, insert, from_list}
-use Rattle.su_schema.specs.declared.faults.SchemaFault.{SchemaFault}
+use Rattle.std.specs.FinSet.{FinSet, empty, contains, insert}
 use Rattle.su_schema.specs.declared.faults.SchemaFault.TheVariants.{Twice, Unknown}
 use Rattle.su_schema.specs.SchemaValue.{place_of}
-use Rattle.su_schema.specs.Checks.{Check, first_failing, is_known, number_of, name_checks, old_name, new_name}
+use Rattle.su_schema.specs.Checks.{first_failing, is_known, number_of, name_checks, old_name, new_name}
 use Rattle.su_schema.specs.Defining.{numbers_of}
 use Rattle.su_schema.proofs.Numbers.{known-Some, known-None, contains-numbers_of, from_list-push}
 

@@ -1,23 +1,20 @@
 -- The object that pairs make whose checks pass.
-use Rattle.std.proofs.Common.{◌≡◌, ◌≢◌, ◌+◌, ◌<◌, ◌≤◌, ℕ, Bool, true, false, not, ◌==◌, List, [], ◌∷◌, ◌++◌, length, map, slice_get, find, Option, Some, None, refl, sym, ap, subst, ◌∙◌, All, AllPairs, Contains, get_or, nat_eq, nat_lt, slice_index_or, arith}
-use Rattle.std.specs.Prelude.{if◌then◌else◌}
+use Rattle.std.proofs.Common.{◌≡◌, ◌≢◌, ◌<◌, ℕ, true, List, [], ◌∷◌, length, map, slice_get, Some, None, refl, sym, ap, ◌∙◌, All, AllPairs, get_or, nat_eq, arith}
 use lib.ListN.{length-map}
 use Rattle.std.specs.Str.{bytes_eq}
-use Rattle.std.proofs.lemmas.Bool.{false≢true}
 use Rattle.std.proofs.lemmas.Bool.Decides.{nat_tests}
 use Rattle.std.proofs.lemmas.Option.{slice_get-get_or}
 use Rattle.std.proofs.lemmas.List.{get_or-map}
 use Rattle.std.proofs.lemmas.List.Elements.{All-head, All-map, All-contains}
 use Rattle.std.proofs.lemmas.Slice.Eq.{bytes_eq-Decides}
-use Rattle.su_base.specs.declared.values.Kind.{Kind}
-use Rattle.su_base.specs.declared.values.Kind.TheVariants.{Int, Text}
+use Rattle.su_base.specs.declared.values.Kind.TheVariants.{Int}
 use Rattle.su_base.specs.declared.values.Column.{Column}
 use Rattle.su_schema.specs.declared.definitions.Pair.{Pair}
 use Rattle.su_schema.specs.declared.links.Link.{Link}
-use Rattle.su_schema.specs.SchemaValue.{SchemaValue, AttributeEntry, RelationEntry, ObjectEntry, IsObject, IsLink, attribute_names, attribute_kinds, relation_names, relation_columns, column_names}
-use Rattle.su_schema.specs.Checks.{first_failing, is_known, number_of, pair_checks, columns_at, attribute_kind, column_kind, same_kind}
-use Rattle.su_schema.specs.Defining.{link_of, links_of, ascending}
-use Rattle.su_schema.proofs.Ascending.{IsBelow, ascending-IsBelow, ascending-holds, Ordered, ascending-AllPairs}
+use Rattle.su_schema.specs.SchemaValue.{SchemaValue, AttributeEntry, RelationEntry, IsLink, attribute_names, relation_names, column_names}
+use Rattle.su_schema.specs.Checks.{first_failing, is_known, number_of, pair_checks, columns_at, attribute_kind, column_kind}
+use Rattle.su_schema.specs.Defining.{link_of, links_of}
+use Rattle.su_schema.proofs.Ascending.{ascending-IsBelow, ascending-holds, Ordered, ascending-AllPairs}
 use Rattle.su_schema.proofs.Numbers.{same_number}
 use Rattle.su_schema.proofs.Validity.{IsPassed, passed_pairs, apart_columns, number_below, same_kinds}
 

@@ -1,14 +1,12 @@
 -- A definition whose checks pass leaves a valid schema valid.
-use Rattle.std.proofs.Common.{◌≡◌, ◌≢◌, ◌+◌, ◌<◌, ◌≤◌, ℕ, Bool, true, false, not, ◌==◌, ◌||◌, cond, List, [], ◌∷◌, ◌++◌, length, map, slice_get, Option, Some, None, refl, sym, ap, subst, ◌∙◌, All, AllPairs, Contains, get_or, zero, suc, append-nil, append_assoc, nat_eq, nat_lt, nat_le, arith}
-use Rattle.std.specs.Prelude.{if◌then◌else◌, IsTrue}
-use lib.ListN.{length-map}
+use Rattle.std.proofs.Common.{◌≡◌, ◌≢◌, ◌<◌, ◌≤◌, ℕ, Bool, true, false, not, ◌||◌, List, [], ◌∷◌, ◌++◌, length, map, slice_get, Option, Some, None, refl, sym, ◌∙◌, All, AllPairs, get_or, zero, suc, append-nil, append_assoc, nat_eq, arith}
+use Rattle.std.specs.Prelude.{if◌then◌else◌}
 use Rattle.std.specs.List.{list_any}
 use Rattle.std.specs.Str.{bytes_eq}
 use Rattle.std.specs.Ordering.{nat_cmp}
-use Rattle.std.specs.FinSet.{FinSet, empty, contains, from_list, contains-from_list_nat, contains-empty}
+use Rattle.std.specs.FinSet.{FinSet, contains, contains-from_list_nat, contains-empty}
 use Rattle.std.proofs.lemmas.Bool.{false≢true}
 use Rattle.std.proofs.lemmas.Bool.Decides.{nat_tests}
-use Rattle.std.proofs.lemmas.Grind.{common_steps}
 use Rattle.std.proofs.lemmas.List.{map-append}
 use Rattle.std.proofs.lemmas.List.Elements.{All-push, All-cons, All-head, All-tail}
 use Rattle.std.proofs.lemmas.List.Folds.{list_any_at}
@@ -21,10 +19,10 @@ use Rattle.su_base.specs.declared.values.Kind.TheVariants.{Int, Text}
 use Rattle.su_fd.specs.declared.Fd.{Fd}
 use Rattle.su_schema.specs.declared.faults.SchemaFault.{SchemaFault}
 use Rattle.su_schema.specs.declared.definitions.Pair.{Pair}
-use Rattle.su_schema.specs.declared.links.Link.{Link}
-use Rattle.su_schema.specs.SchemaValue.{SchemaValue, AttributeEntry, RelationEntry, ObjectEntry, IsValid, IsRelation, IsObject, IsLink, IsDependency, IsSomeBelow, AreNames, attribute_names, relation_names, object_names, column_names}
-use Rattle.su_schema.specs.Checks.{Check, first_failing, is_known, number_of, name_checks, apart_checks, pair_checks, same_kind, attribute_kind, column_kind}
-use Rattle.su_schema.specs.Defining.{numbers_of, link_of, AreGiven}
+use Rattle.su_schema.specs.SchemaValue.{SchemaValue, AttributeEntry, RelationEntry, ObjectEntry, IsObject, IsLink, IsDependency, IsSomeBelow, AreNames, attribute_names, column_names}
+use Rattle.su_base.specs.Value.{same_kind}
+use Rattle.su_schema.specs.Checks.{Check, first_failing, is_known, number_of, name_checks, apart_checks, pair_checks, attribute_kind, column_kind}
+use Rattle.su_schema.specs.Defining.{numbers_of}
 use Rattle.su_schema.proofs.Numbers.{any_within}
 
 -- a first check that passes

@@ -1,11 +1,12 @@
 -- The checks that a definition passes before it is added, in their order; the first that fails gives the refusal.
 -- check: whether it fails and what is then answered; known: a name among names; before: the names that were read already
-use Rattle.std.specs.Prelude.{ℕ, ◌+◌, Bool, true, false, not, ◌&&◌, ◌==◌, nat_le, nat_lt, List, [], ◌∷◌, ◌++◌, length, map, slice_index_or, Option, Some, None, if◌then◌else◌}
+use Rattle.std.specs.Prelude.{ℕ, Bool, not, nat_le, nat_lt, List, [], ◌∷◌, ◌++◌, length, map, slice_index_or, Option, Some, None, if◌then◌else◌}
 use Rattle.std.specs.List.{list_any, position_or_len}
 use Rattle.std.specs.Str.{bytes_eq}
 use Rattle.su_base.specs.declared.values.Kind.{Kind}
-use Rattle.su_base.specs.declared.values.Kind.TheVariants.{Int, Text}
+use Rattle.su_base.specs.declared.values.Kind.TheVariants.{Int}
 use Rattle.su_base.specs.declared.values.Column.{Column}
+use Rattle.su_base.specs.Value.{same_kind}
 use Rattle.su_schema.specs.declared.faults.SchemaFault.{SchemaFault}
 use Rattle.su_schema.specs.declared.faults.SchemaFault.TheVariants.{Twice, Unknown, KindDiffers, Limit}
 use Rattle.su_schema.specs.declared.faults.SchemaLimit.{SchemaLimit}
@@ -45,12 +46,6 @@ old_name names name = record { fails = not (is_known names name); fault = Unknow
 -- one more, where at most n may be there
 abbrev pub room_for_one : {A : Type 0} → List A → ℕ → SchemaLimit → Check
 room_for_one there n limit = record { fails = nat_le n (length there); fault = Limit limit }
-
-abbrev pub same_kind : Kind → Kind → Bool
-same_kind Int Int = true
-same_kind Int Text = false
-same_kind Text Int = false
-same_kind Text Text = true
 
 abbrev pub attribute_kind : SchemaValue → List ℕ → Kind
 attribute_kind schema name = slice_index_or (attribute_kinds schema) (number_of (attribute_names schema) name) Int

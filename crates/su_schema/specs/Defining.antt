@@ -5,14 +5,13 @@ use Rattle.std.specs.Ordering.{nat_cmp}
 use Rattle.std.specs.FinSet.{FinSet, from_list}
 use Rattle.su_base.specs.declared.values.Column.{Column}
 use Rattle.su_base.specs.Name.{IsName}
-use Rattle.su_fd.specs.declared.Fd.{Fd as Dependency}
 use Rattle.su_schema.specs.declared.faults.SchemaFault.{SchemaFault}
 use Rattle.su_schema.specs.declared.faults.SchemaFault.TheVariants.{NoMemory}
 use Rattle.su_schema.specs.declared.definitions.Pair.{Pair}
 use Rattle.su_schema.specs.declared.definitions.Definition.{Definition}
 use Rattle.su_schema.specs.declared.definitions.Definition.TheVariants.{Attribute, Relation, Object, Fd, Maximal}
 use Rattle.su_schema.specs.declared.links.Link.{Link}
-use Rattle.su_schema.specs.SchemaValue.{SchemaValue, AttributeEntry, RelationEntry, ObjectEntry, attribute_names, relation_names, column_names, object_names}
+use Rattle.su_schema.specs.SchemaValue.{SchemaValue, attribute_names, relation_names, column_names, object_names}
 use Rattle.su_schema.specs.Checks.{checks, first_failing, number_of, columns_at}
 
 -- the set of the numbers of these names

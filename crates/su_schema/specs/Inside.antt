@@ -1,5 +1,5 @@
 -- What contracts see of a schema, and what is true of its maps and lists at every moment.
-use Rattle.std.specs.Prelude.{◌≡◌, List, All, map}
+use Rattle.std.specs.Prelude.{All, map}
 use Rattle.su_schema.specs.declared.schemas.Schema.TheInside.{Inside}
 use Rattle.su_schema.specs.SchemaValue.{SchemaValue, IsValid}
 use Rattle.su_schema.specs.Shown.{shown_attribute, shown_relation, shown_object, HasItsSet}

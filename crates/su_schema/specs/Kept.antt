@@ -1,5 +1,5 @@
 -- An object as it is kept: beside its links stands the set of their attributes.
-use Rattle.std.specs.Prelude.{◌≡◌, ℕ, List, map}
+use Rattle.std.specs.Prelude.{ℕ, List, map}
 use Rattle.std.specs.FinSet.{from_list}
 use Rattle.su_schema.specs.declared.links.Link.{Link}
 use Rattle.su_schema.specs.declared.links.Object.{Object}

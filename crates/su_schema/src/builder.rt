@@ -5,6 +5,7 @@ ghost use Rattle.su_schema.specs.SchemaValue.{column_names};
 ghost use Rattle.su_schema.specs.Checks.{first_failing, apart_checks};
 ghost use Rattle.su_schema.specs.Defining.{applied, IsRefusal, IsWellNamed};
 
+use crate::copying::copy_columns;
 use crate::definitions::{Definition, Pair};
 use crate::faults::{SchemaFault, SchemaLimit};
 use crate::readers::place_among;
@@ -13,28 +14,23 @@ use std::alloc::Global;
 use su_base::{Column, Kind, List, Str};
 use su_fd::Fd;
 
-/// Copies of the columns, whose names must differ.
-fn copy_columns(alloc: Global, columns: &[Column]) -> Result<List<Column>, SchemaFault>
+/// Refuses the first column whose name stands before it.
+fn check_names(alloc: Global, columns: &[Column]) -> Result<(), SchemaFault>
     ensures passed { OnOk result (first_failing (apart_checks [] (column_names columns.now)) ≡ None) }
-    ensures copied { IfOk result (λ copied. copied ≡ columns.now) }
     ensures refused { IfErr result (λ fault. (fault ≡ SchemaFault.NoMemory) ⊎ (first_failing (apart_checks [] (column_names columns.now)) ≡ Some fault)) }
 {
-    let mut copied: List<Column> = List::new(alloc);
-    for column in columns {
-        let name = column.name.copy(alloc)?;
-        if place_among(copied.as_slice(), column.name.as_str()).is_some() {
+    for (c, column) in columns.iter().enumerate() {
+        if place_among(&columns[..c], column.name.as_str()).is_some() {
+            let name = column.name.copy(alloc)?;
             return Err(SchemaFault::Twice(name));
         }
-        copied.push(Column {
-            name,
-            kind: column.kind,
-        })?;
     }
-    Ok(copied)
+    Ok(())
 }
 
 impl Schema {
-    /// Adds an attribute of the universal relation.
+    /// Adds an attribute of the universal relation. `Twice` where one has the name, then `Limit` where
+    /// 128 are there.
     pub fn attribute(&mut self, name: &str, kind: Kind) -> Result<(), SchemaFault>
         requires { IsWellNamed (Definition.Attribute name.now kind) }
         ensures ok { OnOk result (applied self.old (Definition.Attribute name.now kind) ≡ Ok self.new) }
@@ -52,7 +48,9 @@ impl Schema {
         Ok(())
     }
 
-    /// Adds a stored relation, with copies of the columns.
+    /// Adds a stored relation, with copies of the columns. `Twice` where one has the name, `Limit` where
+    /// 64 are there, `Limit` where there are over 32 columns, then `Twice` for the first column whose
+    /// name stands before it.
     pub fn relation(&mut self, name: &str, columns: &[Column]) -> Result<(), SchemaFault>
         requires { IsWellNamed (Definition.Relation name.now columns.now) }
         ensures ok { OnOk result (applied self.old (Definition.Relation name.now columns.now) ≡ Ok self.new) }
@@ -68,13 +66,17 @@ impl Schema {
         if columns.len() > 32 {
             return Err(SchemaFault::Limit(SchemaLimit::Columns));
         }
+        check_names(self.alloc, columns)?;
         let columns = copy_columns(self.alloc, columns)?;
         let name = String::from_str(self.alloc, name)?;
         self.relations.insert(name, columns)?;
         Ok(())
     }
 
-    /// Adds an object: each pair takes an attribute from a column of the relation.
+    /// Adds an object: each pair takes an attribute from a column of the relation. `Twice` where one has
+    /// the name, `Limit` where 64 are there, `Unknown` for the relation, and then pair by pair: `Unknown`
+    /// for the attribute and for the column, `Twice` for each that stands in a pair before, and
+    /// `KindDiffers`.
     pub fn object(&mut self, name: &str, relation: &str, pairs: &[Pair]) -> Result<(), SchemaFault>
         requires { IsWellNamed (Definition.Object name.now relation.now pairs.now) }
         ensures ok { OnOk result (applied self.old (Definition.Object name.now relation.now pairs.now) ≡ Ok self.new) }
@@ -97,7 +99,8 @@ impl Schema {
         Ok(())
     }
 
-    /// Adds a functional dependency.
+    /// Adds a functional dependency. `Limit` where 256 are there; then name by name, the left side first,
+    /// `Unknown`, and `Twice` within its side.
     pub fn fd(&mut self, left: &[Str], right: &[Str]) -> Result<(), SchemaFault>
         requires { IsWellNamed (Definition.Fd left.now right.now) }
         ensures ok { OnOk result (applied self.old (Definition.Fd left.now right.now) ≡ Ok self.new) }
@@ -113,7 +116,8 @@ impl Schema {
         Ok(())
     }
 
-    /// Declares a set of objects to be a maximal object.
+    /// Declares a set of objects to be a maximal object. `Limit` where 64 are there; then name by name
+    /// `Unknown`, and `Twice`.
     pub fn maximal(&mut self, objects: &[Str]) -> Result<(), SchemaFault>
         requires { IsWellNamed (Definition.Maximal objects.now) }
         ensures ok { OnOk result (applied self.old (Definition.Maximal objects.now) ≡ Ok self.new) }
@@ -128,7 +132,7 @@ impl Schema {
         Ok(())
     }
 
-    /// Does and answers what the call of the definition's form does.
+    /// Does and answers what the call of the definition's form does, with its faults in their order.
     pub fn define(&mut self, definition: &Definition) -> Result<(), SchemaFault>
         requires { IsWellNamed definition.now }
         ensures ok { OnOk result (applied self.old definition.now ≡ Ok self.new) }

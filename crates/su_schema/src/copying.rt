@@ -11,7 +11,8 @@ use std::alloc::Global;
 use su_base::{Column, Kind, List, NoMemory, ObjSet};
 use su_fd::Fd;
 
-fn copy_columns(alloc: Global, columns: &[Column]) -> Result<List<Column>, NoMemory>
+/// Equal columns of their own.
+pub fn copy_columns(alloc: Global, columns: &[Column]) -> Result<List<Column>, NoMemory>
     ensures { IfOk result (λ copied. copied ≡ columns.now) }
 {
     let mut copied = List::new(alloc);

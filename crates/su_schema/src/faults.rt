@@ -18,7 +18,7 @@ pub enum SchemaFault {
     /// An attribute is to be taken from a column of the other kind.
     #[error("the kinds of an attribute and its column differ")]
     KindDiffers { attribute: Str, column: Str },
-    /// There are as many as there may be.
+    /// There are as many as there may be, or more columns are given than a relation may have.
     #[error("a limit is met")]
     Limit(SchemaLimit),
     #[error("memory could not be had")]

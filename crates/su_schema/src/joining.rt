@@ -1,7 +1,8 @@
 //! The pairs of an object as links, each checked in its turn.
 ghost use Rattle.std.specs.Prelude.{◌≡◌, ◌<◌, ◌==◌, [], ◌∷◌, ◌⊎◌, map, length, IfOk, IfErr, OnOk};
 ghost use Rattle.std.specs.List.{list_any};
-ghost use Rattle.su_schema.specs.Checks.{first_failing, known_checks, pair_checks, one_kind, same_kind, columns_at};
+ghost use Rattle.su_base.specs.Value.{same_kind};
+ghost use Rattle.su_schema.specs.Checks.{first_failing, known_checks, pair_checks, one_kind, columns_at};
 ghost use Rattle.su_schema.specs.Kept.{object_on};
 ghost use Rattle.su_schema.specs.Defining.{link_of, links_of};
 

@@ -21,6 +21,7 @@ mod schemas;
 mod tests;
 mod wellnamed;
 
+pub use copying::copy_columns;
 pub use definitions::{Definition, Pair};
 pub use faults::{SchemaFault, SchemaLimit};
 pub use schemas::Schema;

@@ -9,57 +9,25 @@ use su_base::{Column, Str, is_name};
 fn are_names(names: &[Str]) -> bool
     ensures { IsTrue result ↔ AreGiven names.now }
 {
-    if names.is_empty() {
-        return false;
-    }
-    for name in names {
-        if !is_name(name.as_str()) {
-            return false;
-        }
-    }
-    true
+    !names.is_empty() && names.iter().all(|n| is_name(n.as_str()))
 }
 
 fn have_names(columns: &[Column]) -> bool
     ensures { IsTrue result ↔ AreGiven (column_names columns.now) }
 {
-    if columns.is_empty() {
-        return false;
-    }
-    for column in columns {
-        if !is_name(column.name.as_str()) {
-            return false;
-        }
-    }
-    true
+    !columns.is_empty() && columns.iter().all(|c| is_name(c.name.as_str()))
 }
 
 fn name_attributes(pairs: &[Pair]) -> bool
     ensures { IsTrue result ↔ AreGiven (map (λ p. p.attribute) pairs.now) }
 {
-    if pairs.is_empty() {
-        return false;
-    }
-    for pair in pairs {
-        if !is_name(pair.attribute.as_str()) {
-            return false;
-        }
-    }
-    true
+    !pairs.is_empty() && pairs.iter().all(|p| is_name(p.attribute.as_str()))
 }
 
 fn name_columns(pairs: &[Pair]) -> bool
     ensures { IsTrue result ↔ AreGiven (map (λ p. p.column) pairs.now) }
 {
-    if pairs.is_empty() {
-        return false;
-    }
-    for pair in pairs {
-        if !is_name(pair.column.as_str()) {
-            return false;
-        }
-    }
-    true
+    !pairs.is_empty() && pairs.iter().all(|p| is_name(p.column.as_str()))
 }
 
 impl Definition {

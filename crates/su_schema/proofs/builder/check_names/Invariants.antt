@@ -1,5 +1,5 @@
 use Rattle.su_schema.proofs.ColumnsSoFar.{ColumnsSoFar}
-use Rattle.su_schema.proofs.builder.copy_columns.Given as goal
+use Rattle.su_schema.proofs.builder.check_names.Given as goal
 
-abbrev pub invariant-loop-column : goal.invariant-loop-column
-invariant-loop-column l = ColumnsSoFar l.columns l.column-index l.copied
+abbrev pub invariant-loop-c : goal.invariant-loop-c
+invariant-loop-c l = ColumnsSoFar l.columns l.c

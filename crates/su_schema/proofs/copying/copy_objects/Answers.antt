@@ -1,4 +1,4 @@
-use Rattle.std.proofs.Common.{◌≡◌, ◌+◌, Some, map, take, slice_get, refl, sym, ap, ◌∙◌}
+use Rattle.std.proofs.Common.{◌≡◌, ◌+◌, Some, map, take, slice_get, refl, sym, ◌∙◌}
 use Rattle.std.proofs.lemmas.Option.{slice_get-map}
 use Rattle.su_schema.specs.Shown.{shown_object, HasItsSet}
 use Rattle.std.proofs.lemmas.List.Elements.{All-push}

@@ -1,4 +1,4 @@
-use Rattle.std.proofs.Common.{◌≡◌, ◌+◌, map, take, ap, sym, ◌∙◌}
+use Rattle.std.proofs.Common.{◌≡◌, ◌+◌, map, take, sym}
 use Rattle.std.specs.FinSet.{from_list}
 use Rattle.su_schema.proofs.Numbers.{from_list-more}
 use Rattle.su_schema.proofs.links.attributes_of.Goals as goal

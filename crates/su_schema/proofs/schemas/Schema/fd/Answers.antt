@@ -1,13 +1,12 @@
-use Rattle.std.proofs.Common.{◌≡◌, ◌<◌, ◌≤◌, ◌⊎◌, Some, None, true, false, inl, inr, nat_le, nat_lt, [], length, is_some, refl, sym, ap, ◌∙◌, arith}
+use Rattle.std.proofs.Common.{◌≡◌, ◌<◌, None, false, inl, inr, nat_le, [], length, ◌∙◌, arith}
 use Rattle.std.proofs.lemmas.Bool.Decides.{nat_tests}
 use Rattle.std.proofs.lemmas.Result.{err_from_is_err_and}
-use Rattle.su_schema.specs.declared.definitions.Definition.TheVariants.{Attribute, Relation, Object, Fd, Maximal}
-use Rattle.su_schema.specs.SchemaValue.{attribute_names, relation_names, object_names, column_names, place_of}
-use Rattle.su_schema.specs.Checks.{first_failing, checks, is_known, name_checks, columns_at, number_of}
-use Rattle.su_schema.proofs.Numbers.{is_known-place_of, known-None, known-Some}
+use Rattle.su_schema.specs.declared.definitions.Definition.TheVariants.{Fd}
+use Rattle.su_schema.specs.SchemaValue.{attribute_names}
+use Rattle.su_schema.specs.Checks.{first_failing, checks, name_checks}
 use Rattle.su_schema.proofs.Accepted.{accepted, is_refused}
 use Rattle.su_schema.proofs.PairsSoFar.{first_failing-append, first_failing-passed}
-use Rattle.su_schema.proofs.Extending.{stays_valid, attribute_shape, relation_shape, object_shape, fd_shape, maximal_shape}
+use Rattle.su_schema.proofs.Extending.{stays_valid, fd_shape}
 use Rattle.su_schema.proofs.schemas.Schema.fd.Goals as goal
 
 pub returns-in_err-left-clause-refused : goal.returns-in_err-left-clause-refused

@@ -1,4 +1,4 @@
-use Rattle.std.proofs.Common.{◌≡◌, ◌<◌, ◌≤◌, All, length, get_or, arith}
+use Rattle.std.proofs.Common.{◌<◌, ◌≤◌, All, length, get_or, arith}
 use lib.ListN.{length-map}
 use Rattle.su_schema.specs.Defining.{ascending}
 use Rattle.su_schema.proofs.Ascending.{IsBelow, ascending-IsBelow}

@@ -1,4 +1,4 @@
-use Rattle.std.proofs.Common.{◌≡◌, ◌<◌, length, map, Some, None, inr, sym, ◌∙◌, ap}
+use Rattle.std.proofs.Common.{◌≡◌, ◌<◌, length, Some, None, inr, sym}
 use lib.ListN.{length-map}
 use Rattle.su_schema.specs.SchemaValue.{attribute_names, column_names, relation_columns, place_of}
 use Rattle.su_schema.specs.Checks.{columns_at}

@@ -1,4 +1,4 @@
-use Rattle.std.proofs.Common.{◌≡◌, ◌⊎◌, inl, inr, sym, ap, ◌∙◌, true, false, ◌==◌}
+use Rattle.std.proofs.Common.{◌≡◌, inl, inr, sym, ap, true, false, ◌==◌}
 use Rattle.std.specs.List.{list_any}
 use Rattle.std.proofs.lemmas.Result.{err_from_is_err_and}
 use Rattle.su_schema.specs.Checks.{columns_at}

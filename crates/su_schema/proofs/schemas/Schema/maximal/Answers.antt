@@ -1,13 +1,8 @@
-use Rattle.std.proofs.Common.{◌≡◌, ◌<◌, ◌≤◌, ◌⊎◌, Some, None, true, false, inl, inr, nat_le, nat_lt, length, is_some, refl, sym, ap, ◌∙◌, arith}
+use Rattle.std.proofs.Common.{◌≡◌, ◌<◌, None, false, nat_le, length, refl, arith}
 use Rattle.std.proofs.lemmas.Bool.Decides.{nat_tests}
-use Rattle.std.proofs.lemmas.Result.{err_from_is_err_and}
-use Rattle.su_schema.specs.declared.definitions.Definition.TheVariants.{Attribute, Relation, Object, Fd, Maximal}
-use Rattle.su_schema.specs.SchemaValue.{attribute_names, relation_names, object_names, column_names, place_of}
-use Rattle.su_schema.specs.Checks.{first_failing, checks, is_known, name_checks, columns_at, number_of}
-use Rattle.su_schema.proofs.Numbers.{is_known-place_of, known-None, known-Some}
-use Rattle.su_schema.proofs.Accepted.{accepted, is_refused}
-use Rattle.su_schema.proofs.PairsSoFar.{first_failing-append, first_failing-passed}
-use Rattle.su_schema.proofs.Extending.{stays_valid, attribute_shape, relation_shape, object_shape, fd_shape, maximal_shape}
+use Rattle.su_schema.specs.declared.definitions.Definition.TheVariants.{Maximal}
+use Rattle.su_schema.specs.Checks.{first_failing, checks}
+use Rattle.su_schema.proofs.Extending.{stays_valid, maximal_shape}
 use Rattle.su_schema.proofs.schemas.Schema.maximal.Goals as goal
 
 pub invariant_of-self-2 : goal.invariant_of-self-2

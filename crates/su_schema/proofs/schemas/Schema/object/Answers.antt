@@ -1,13 +1,12 @@
-use Rattle.std.proofs.Common.{◌≡◌, ◌<◌, ◌≤◌, ◌⊎◌, Some, None, true, false, inl, inr, nat_le, nat_lt, [], ℕ, subst, length, is_some, refl, sym, ap, ◌∙◌, arith}
+use Rattle.std.proofs.Common.{◌≡◌, ◌<◌, ◌≤◌, Some, None, true, false, inl, inr, nat_le, [], ℕ, subst, length, is_some, refl, sym, ap, ◌∙◌, arith}
 use Rattle.std.proofs.lemmas.Bool.Decides.{nat_tests}
 use Rattle.std.proofs.lemmas.Result.{err_from_is_err_and}
-use Rattle.su_schema.specs.declared.definitions.Definition.TheVariants.{Attribute, Relation, Object, Fd, Maximal}
-use Rattle.su_schema.specs.SchemaValue.{attribute_names, relation_names, object_names, column_names, place_of}
-use Rattle.su_schema.specs.Checks.{first_failing, checks, pair_checks, is_known, name_checks, columns_at, number_of}
+use Rattle.su_schema.specs.declared.definitions.Definition.TheVariants.{Object}
+use Rattle.su_schema.specs.SchemaValue.{relation_names, object_names}
+use Rattle.su_schema.specs.Checks.{first_failing, checks, pair_checks, is_known, columns_at, number_of}
 use Rattle.su_schema.proofs.Numbers.{is_known-place_of, known-None, known-Some}
 use Rattle.su_schema.proofs.Accepted.{accepted, is_refused}
-use Rattle.su_schema.proofs.PairsSoFar.{first_failing-append, first_failing-passed}
-use Rattle.su_schema.proofs.Extending.{stays_valid, attribute_shape, relation_shape, object_shape, sets_kept, fd_shape, maximal_shape}
+use Rattle.su_schema.proofs.Extending.{stays_valid, object_shape, sets_kept}
 use Rattle.su_schema.specs.Kept.{object_on}
 use Rattle.su_schema.specs.Defining.{links_of}
 use Rattle.su_schema.proofs.schemas.Schema.object.Goals as goal

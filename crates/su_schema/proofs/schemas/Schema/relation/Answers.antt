@@ -1,13 +1,12 @@
-use Rattle.std.proofs.Common.{◌≡◌, ◌<◌, ◌≤◌, ◌⊎◌, Some, None, true, false, inl, inr, nat_le, nat_lt, length, is_some, refl, sym, ap, ◌∙◌, arith}
+use Rattle.std.proofs.Common.{◌≡◌, ◌<◌, ◌≤◌, None, true, false, inl, inr, nat_le, nat_lt, length, is_some, refl, sym, ap, ◌∙◌, arith}
 use Rattle.std.proofs.lemmas.Bool.Decides.{nat_tests}
 use Rattle.std.proofs.lemmas.Result.{err_from_is_err_and}
-use Rattle.su_schema.specs.declared.definitions.Definition.TheVariants.{Attribute, Relation, Object, Fd, Maximal}
-use Rattle.su_schema.specs.SchemaValue.{attribute_names, relation_names, object_names, column_names, place_of}
-use Rattle.su_schema.specs.Checks.{first_failing, checks, is_known, name_checks, columns_at, number_of}
-use Rattle.su_schema.proofs.Numbers.{is_known-place_of, known-None, known-Some}
+use Rattle.su_schema.specs.declared.definitions.Definition.TheVariants.{Relation}
+use Rattle.su_schema.specs.SchemaValue.{relation_names}
+use Rattle.su_schema.specs.Checks.{first_failing, checks, is_known}
+use Rattle.su_schema.proofs.Numbers.{is_known-place_of}
 use Rattle.su_schema.proofs.Accepted.{accepted, is_refused}
-use Rattle.su_schema.proofs.PairsSoFar.{first_failing-append, first_failing-passed}
-use Rattle.su_schema.proofs.Extending.{stays_valid, attribute_shape, relation_shape, object_shape, fd_shape, maximal_shape}
+use Rattle.su_schema.proofs.Extending.{stays_valid, relation_shape}
 use Rattle.su_schema.proofs.schemas.Schema.relation.Goals as goal
 
 pub returns-then-is_some-clause-refused : goal.returns-then-is_some-clause-refused
@@ -30,15 +29,15 @@ returns-then-columns-gt32-clause-refused c =
     let many : nat_lt 32 (length c.args.columns.now) ≡ true = grind (arith, nat_tests, c.if-columns-gt32.true) in
     inr (is_refused c.args.self.now (Relation c.args.name.now c.args.columns.now) _ (rw (new, room, many) refl))
 
-pub returns-in_err-columns-clause-refused : goal.returns-in_err-columns-clause-refused
-returns-in_err-columns-clause-refused c =
-    let p = err_from_is_err_and c.from_residual-in_err-columns.result c.from_residual-in_err-columns.ensures.1 in
+pub returns-in_err-check_names-clause-refused : goal.returns-in_err-check_names-clause-refused
+returns-in_err-check_names-clause-refused c =
+    let p = err_from_is_err_and c.from_residual-in_err-check_names.result c.from_residual-in_err-check_names.ensures.1 in
     let new : is_known (relation_names c.args.self.now) c.args.name.now ≡ false = is_known-place_of (relation_names c.args.self.now) c.args.name.now ∙ ap is_some (sym c.find_relation.ensures) ∙ sym c.if-is_some.ensures in
     let less : length c.args.self.now.relations < 64 = rw (← c.relations.ensures) c.if-relations-ge64.false in
     let room : nat_le 64 (length c.args.self.now.relations) ≡ false = grind (arith, nat_tests, less) in
     let few : nat_lt 32 (length c.args.columns.now) ≡ false = grind (arith, nat_tests, c.if-columns-gt32.false) in
     rw (p.1, p.2)
-    (elim c.in_err-columns.ensures.refused [
+    (elim c.in_err-check_names.ensures.refused [
       | inl none ↦ inl none
       | inr fails ↦ inr (is_refused c.args.self.now (Relation c.args.name.now c.args.columns.now) _ (rw (new, room, few) fails))
     ])
@@ -49,8 +48,8 @@ invariant_of-self-2 c =
     let less : length c.args.self.now.relations < 64 = rw (← c.relations.ensures) c.if-relations-ge64.false in
     let room : nat_le 64 (length c.args.self.now.relations) ≡ false = grind (arith, nat_tests, less) in
     let few : nat_lt 32 (length c.args.columns.now) ≡ false = grind (arith, nat_tests, c.if-columns-gt32.false) in
-    let none : first_failing (checks c.args.self.now (Relation c.args.name.now c.args.columns.now)) ≡ None = rw (new, room, few) c.in_ok-columns.ensures.passed in
-    let shape = relation_shape c.self.inside c.args.self.now c.self.view_is _ _ _ c.args.columns.now c.args.name.now c.in_ok-columns.ensures.copied c.in_ok-name.ensures.ok new c.in_ok-insert.ensures.entries in
+    let none : first_failing (checks c.args.self.now (Relation c.args.name.now c.args.columns.now)) ≡ None = rw (new, room, few) c.in_ok-check_names.ensures.passed in
+    let shape = relation_shape c.self.inside c.args.self.now c.self.view_is _ _ _ c.args.columns.now c.args.name.now c.in_ok-columns.ensures c.in_ok-name.ensures.ok new c.in_ok-insert.ensures.entries in
     record {
       valid = stays_valid c.self.inside c.args.self.now _ (Relation c.args.name.now c.args.columns.now) c.self.view_is c.self.invariant.valid c.requires none shape;
       attribute_sets = c.self.invariant.attribute_sets;
@@ -62,6 +61,6 @@ returns-clause-ok c =
     let less : length c.args.self.now.relations < 64 = rw (← c.relations.ensures) c.if-relations-ge64.false in
     let room : nat_le 64 (length c.args.self.now.relations) ≡ false = grind (arith, nat_tests, less) in
     let few : nat_lt 32 (length c.args.columns.now) ≡ false = grind (arith, nat_tests, c.if-columns-gt32.false) in
-    let none : first_failing (checks c.args.self.now (Relation c.args.name.now c.args.columns.now)) ≡ None = rw (new, room, few) c.in_ok-columns.ensures.passed in
-    let shape = relation_shape c.self.inside c.args.self.now c.self.view_is _ _ _ c.args.columns.now c.args.name.now c.in_ok-columns.ensures.copied c.in_ok-name.ensures.ok new c.in_ok-insert.ensures.entries in
+    let none : first_failing (checks c.args.self.now (Relation c.args.name.now c.args.columns.now)) ≡ None = rw (new, room, few) c.in_ok-check_names.ensures.passed in
+    let shape = relation_shape c.self.inside c.args.self.now c.self.view_is _ _ _ c.args.columns.now c.args.name.now c.in_ok-columns.ensures c.in_ok-name.ensures.ok new c.in_ok-insert.ensures.entries in
     accepted c.args.self.now _ (Relation c.args.name.now c.args.columns.now) none shape
