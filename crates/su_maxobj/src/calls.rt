@@ -74,8 +74,8 @@ pub fn grown(schema: &Schema, seed: u8) -> ObjSet
 /// what a seed grows to, where that is in no declared one, properly in no grown one, and not what
 /// an earlier seed grows to.
 ///
-/// Each object is tried against each growth, a time that grows with the third power of the number
-/// of objects at most; see the crate's head for a figure.
+/// At most n³ tries for n objects, each of one closure and one spreading; see the crate's head for a
+/// figure.
 pub fn maximal_objects(alloc: Global, schema: &Schema) -> Result<List<ObjSet>, NoMemory>
     ensures list { IfOk result (AreMaximalObjects schema.now) }
     ensures declared_first { IfOk result (λ sets. take (length schema.now.declared) sets ≡ schema.now.declared) }
