@@ -16,15 +16,14 @@ use Rattle.su_schema.specs.declared.definitions.Pair.{Pair}
 use Rattle.su_schema.specs.declared.definitions.Definition.TheVariants.{Object}
 use Rattle.su_schema.specs.declared.links.Link.{Link}
 use Rattle.su_schema.specs.SchemaValue.{SchemaValue, AttributeEntry, RelationEntry, ObjectEntry, IsValid, IsRelation, IsObject, IsLink, IsDependency, IsSomeBelow, AreNames, attribute_names, relation_names, object_names, column_names}
-use Rattle.su_schema.specs.Checks.{first_failing, is_known, number_of, name_checks, pair_checks, checks, apart_checks}
-use Rattle.su_schema.specs.Checks as checked
+use Rattle.su_schema.specs.Checks.{first_failing, is_known, number_of, name_checks, pair_checks, checks, columns_at}
 use Rattle.su_schema.specs.Defining.{applied, extended, IsWellNamed, numbers_of, links_of}
 use Rattle.su_schema.proofs.Accepted.{accepted}
 use Rattle.su_schema.proofs.Ascending.{found}
 use Rattle.su_schema.proofs.Entries.{All-at}
 use Rattle.su_schema.proofs.PairsSoFar.{columns_there, first_failing-passed}
 use Rattle.su_ddl.specs.Reading.{Reads, no_definitions}
-use Rattle.su_ddl.specs.Shown.{name_at, names_in, columns_at, pair_of, attribute_definition, relation_definition, object_definition, fd_definition, maximal_definition, definitions_of, schema_text}
+use Rattle.su_ddl.specs.Shown.{name_at, names_in, pair_of, attribute_definition, relation_definition, object_definition, fd_definition, maximal_definition, definitions_of, schema_text}
 use Rattle.su_ddl.proofs.Named.{middle, weaker, step, fresh, apart_pass, not_unknown, number_at, IsSide, side}
 use Rattle.su_ddl.proofs.Linked.{pair_at, all_pass, links_are, attributes_given, columns_given, ascending_again}
 use Rattle.su_ddl.proofs.Steps.{Builds, builds_append, builds_all, lines_read}
@@ -136,13 +135,13 @@ module _ (s : SchemaValue) (valid : IsValid s) where
       let new : is_known (object_names t) x.name ≡ false = new_entry (λ (a : ObjectEntry). a.name) s.objects done rest x valid.object_names e in
       let few : nat_le 64 (length done) ≡ false = room 64 s.objects done rest x valid.few_objects e in
       let all = all_pass t columns valid.attribute_names columns_are x.links joined is.ascending is.apart in
-      let passed : first_failing (pair_checks t (checked.columns_at t (number_of (relation_names s) name)) [] pairs) ≡ None =
-      ap (λ k. first_failing (pair_checks t (checked.columns_at t k) [] pairs)) number ∙ all in
+      let passed : first_failing (pair_checks t (columns_at t (number_of (relation_names s) name)) [] pairs) ≡ None =
+      ap (λ k. first_failing (pair_checks t (columns_at t k) [] pairs)) number ∙ all in
       let none : first_failing (checks t (Object x.name name pairs)) ≡ None = step _ _ _ new (step _ _ _ few (step _ _ _ (not_unknown (relation_names s) x.relation within) passed)) in
       let links = links_are t columns valid.attribute_names columns_are x.links joined is.ascending is.apart in
       let put : ℕ → List Link → ObjectEntry = λ k ls. record { name = x.name; relation = k; links = ls } in
-      let entry : put (number_of (relation_names s) name) (links_of t (checked.columns_at t (number_of (relation_names s) name)) pairs) ≡ x =
-      ap (λ k. put k (links_of t (checked.columns_at t k) pairs)) number ∙ ap (put x.relation) links in
+      let entry : put (number_of (relation_names s) name) (links_of t (columns_at t (number_of (relation_names s) name)) pairs) ≡ x =
+      ap (λ k. put k (links_of t (columns_at t k) pairs)) number ∙ ap (put x.relation) links in
       let is_next : with_objects (done ++ x ∷ []) ≡ extended t (Object x.name name pairs) = ap (λ (v : ObjectEntry). with_objects (done ++ v ∷ [])) (sym entry) in
       let well : IsWellNamed (Object x.name name pairs) = (
         named_entry (λ (a : ObjectEntry). a.name) s.objects done rest x IsName valid.object_names.named e,

@@ -12,7 +12,8 @@ use Rattle.su_lex.specs.declared.signs.Sign.TheVariants as sign
 use Rattle.su_lex.specs.Names.{more_names}
 use Rattle.su_schema.specs.declared.definitions.Definition.{Definition}
 use Rattle.su_ddl.specs.Grammar.{kind_symbol, more_columns}
-use Rattle.su_ddl.specs.Shown.{line_of, lines_of, name_at, pair_of, listed, columns_at}
+use Rattle.su_schema.specs.Checks.{columns_at}
+use Rattle.su_ddl.specs.Shown.{line_of, lines_of, name_at, pair_of, listed}
 use Rattle.su_schema.specs.declared.definitions.Pair.{Pair}
 use Rattle.su_schema.specs.SchemaValue.{SchemaValue, ObjectEntry, IsObject, IsValid, column_names, attribute_names}
 use Rattle.std.specs.List.{AllByRecursion, cons_option}

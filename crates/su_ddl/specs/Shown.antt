@@ -3,13 +3,13 @@ use Rattle.std.specs.Prelude.{ℕ, List, [], ◌∷◌, ◌++◌, length, map, f
 use Rattle.std.specs.List.{range_with_len}
 use Rattle.std.specs.Ordering.{nat_cmp}
 use Rattle.std.specs.FinSet.{FinSet, contains}
-use Rattle.su_base.specs.declared.values.Column.{Column}
 use Rattle.su_fd.specs.declared.Fd.{Fd as Dependency}
 use Rattle.su_lex.specs.Symbols.{spaced}
 use Rattle.su_schema.specs.declared.definitions.Pair.{Pair}
 use Rattle.su_schema.specs.declared.definitions.Definition.{Definition}
 use Rattle.su_schema.specs.declared.definitions.Definition.TheVariants.{Attribute, Relation, Object, Fd, Maximal}
-use Rattle.su_schema.specs.SchemaValue.{SchemaValue, AttributeEntry, RelationEntry, ObjectEntry, attribute_names, relation_names, relation_columns, column_names, object_names, column_of}
+use Rattle.su_schema.specs.SchemaValue.{SchemaValue, AttributeEntry, RelationEntry, ObjectEntry, attribute_names, relation_names, column_names, object_names, column_of}
+use Rattle.su_schema.specs.Checks.{columns_at}
 use Rattle.su_ddl.specs.Grammar.{definition_symbols}
 
 -- the name with this number
@@ -25,10 +25,6 @@ attribute_definition a = Attribute a.name a.kind
 
 abbrev pub relation_definition : RelationEntry → Definition
 relation_definition r = Relation r.name r.columns
-
--- the columns of the relation with this number
-abbrev pub columns_at : SchemaValue → ℕ → List Column
-columns_at schema r = slice_index_or (relation_columns schema) r []
 
 abbrev pub listed : Option Pair → List Pair
 listed None = []

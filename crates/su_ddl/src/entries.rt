@@ -2,12 +2,13 @@
 ghost use Rattle.std.specs.Prelude.{◌≡◌, ◌<◌, ◌++◌, ◌∷◌, [], length, map, slice_get, slice_index_or, filter_map, IfOk, OnOk, if◌then◌else◌};
 ghost use Rattle.std.specs.List.{range_with_len};
 ghost use Rattle.su_schema.specs.SchemaValue.{attribute_names, object_names, column_names};
-ghost use Rattle.su_ddl.specs.Shown.{names_in, attribute_definition, relation_definition, object_definition, fd_definition, maximal_definition, pair_of, listed, name_at, columns_at};
+ghost use Rattle.su_ddl.specs.Shown.{names_in, attribute_definition, relation_definition, object_definition, fd_definition, maximal_definition, pair_of, listed, name_at};
+ghost use Rattle.su_schema.specs.Checks.{columns_at};
 
 use std::alloc::Global;
-use su_base::{AttrSet, Column, List, NoMemory, ObjSet, Str};
+use su_base::{AttrSet, List, NoMemory, ObjSet, Str};
 use su_fd::Fd;
-use su_schema::{Definition, Pair, Schema};
+use su_schema::{Definition, Pair, Schema, copy_columns};
 
 fn push_name_if(
     alloc: Global,
@@ -54,19 +55,6 @@ pub fn attribute_at(alloc: Global, schema: &Schema, a: u8) -> Result<Definition,
     let name = Str::new(alloc, schema.attribute_name(a))?;
     let kind = schema.attribute_kind(a);
     Ok(Definition::Attribute { name, kind })
-}
-
-fn copy_columns(alloc: Global, columns: &[Column]) -> Result<List<Column>, NoMemory>
-    ensures { IfOk result (λ copied. copied ≡ columns.now) }
-{
-    let mut copied = List::new(alloc);
-    for column in columns {
-        copied.push(Column {
-            name: column.name.copy(alloc)?,
-            kind: column.kind,
-        })?;
-    }
-    Ok(copied)
 }
 
 pub fn relation_at(alloc: Global, schema: &Schema, r: u8) -> Result<Definition, NoMemory>

@@ -104,7 +104,7 @@ fn form(alloc: Global, symbols: &[Symbol]) -> Result<Definition, LexEnd>
     Err(LexEnd::Syntax)
 }
 
-/// The definition that a text is.
+/// The definition that a text is. `Syntax` comes exactly where it is none, unless memory is wanting.
 pub fn definition(alloc: Global, text: &[u8]) -> Result<Definition, LexEnd>
     ensures definition { IfOk result (λ d. IsDefinition text.now d) }
     ensures only { IfOk result (λ d. (other : ADefinition) → IsDefinition text.now other → other ≡ d) }

@@ -1,9 +1,9 @@
 //! Definitions of a schema as text: a file of them is read, and a schema is shown.
 //!
 //! A text is at most one definition, whose names are names of the language and whose lists are not
-//! empty. Reading goes over the file once and stops at the first statement that is no definition or
-//! is refused; it takes memory for the words of one statement at a time. Whether a definition may
-//! be added is decided in `su_schema`, and how a refusal is printed elsewhere.
+//! empty. The whole file is cut first, with memory for one span a statement; then each statement is
+//! read, up to the first at fault, with memory for its own words. Whether a definition may be added
+//! is decided in `su_schema`, and how a refusal is printed elsewhere.
 #![tactic(auto)]
 
 mod crossing;

@@ -56,7 +56,9 @@ fn read_statements(alloc: Global, bytes: &[u8]) -> Result<Schema, DdlFault>
     Ok(schema)
 }
 
-/// The schema that a file of definitions makes.
+/// The schema that a file of definitions makes. Its statements are taken in order: `Syntax` comes with
+/// the first at fault where that is no definition, and `Refused` where it is one that the schema of
+/// those before it refuses.
 pub fn read(alloc: Global, bytes: &[u8]) -> Result<Schema, DdlFault>
     requires { length bytes.now < 2 ^ 32 }
     ensures schema { IfOk result (λ schema. Reads bytes.now (OkOf schema)) }

@@ -3,7 +3,8 @@ use Rattle.std.proofs.lemmas.Bool.Decides.{nat_tests}
 use Rattle.std.proofs.lemmas.Option.{get_or_from_slice_get}
 use Rattle.std.proofs.lemmas.Result.{IfOk-weaker}
 use Rattle.su_schema.specs.SchemaValue.{relation_columns, column_names}
-use Rattle.su_ddl.specs.Shown.{name_at, columns_at}
+use Rattle.su_schema.specs.Checks.{columns_at}
+use Rattle.su_ddl.specs.Shown.{name_at}
 use Rattle.su_ddl.proofs.Lines.{column_within, column_past}
 use Rattle.su_ddl.proofs.entries.column_name.Goals as goal
 
