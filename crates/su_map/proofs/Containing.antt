@@ -1,11 +1,12 @@
 -- Row lists are mappings of the parts, and mappings are containment.
-use Rattle.std.proofs.Common.{◌≡◌, ◌<◌, ◌+◌, ◌^◌, ◌∙◌, ◌↔◌, ℕ, List, [], length, get_or, All, Contains, sym, ap, subst, arith}
+use Rattle.std.proofs.Common.{◌≡◌, ◌<◌, ◌+◌, ◌^◌, ◌∙◌, ◌↔◌, ℕ, Bool, true, false, ⊎_elim, List, [], map, length, get_or, All, Contains, sym, ap, subst, arith}
 use Rattle.std.specs.Int.{bit_at}
+use Rattle.std.proofs.lemmas.Bool.{cases_Bool}
 use Rattle.std.proofs.lemmas.List.{get_or_default}
 use Rattle.std.proofs.lemmas.List.Elements.{All-contains, recursion_from_All}
 use Rattle.su_tableau.specs.declared.symbols.Sym.{Sym}
 use Rattle.su_tableau.specs.Tableaux.{Tab, IsValid}
-use Rattle.su_tableau.specs.Kinds.{Kinds, IsTyped}
+use Rattle.su_tableau.specs.Kinds.{Kinds, IsTyped, sym_kind}
 use Rattle.su_tableau.specs.Parts.{part, select}
 use Rattle.su_tableau.specs.Mapping.{images_of, Maps}
 use Rattle.su_tableau.specs.Equivalent.{IsWithin}
@@ -57,6 +58,38 @@ maps_list s t m k f =
         targets = λ p h. let r = zip-at R ns c.0 p 0 0 c.1 (omega arith) in (r.0, r.1);
       },
     )
+
+-- ---- parts of tableaux
+
+pub part_typed : (kinds : Kinds) (t : Tab) (m : ℕ) → IsTyped kinds t → IsTyped kinds (part t m)
+part_typed kinds t m typed = record {
+  width = typed.width;
+  var_kind = typed.var_kind;
+  fits = λ k d h.
+      let row = get_or (select m t.rows) k d in
+      let r = select-from m t.rows row (k, h, get_or_default (select m t.rows) k row d h) in
+      subst (λ row. map (sym_kind typed.var_kind) row ≡ kinds) (r.is []) (typed.fits r.place [] r.below);
+}
+
+pub mapping_within : (kinds : Kinds) (s t : Tab) (m k : ℕ) (list : List ℕ) → IsMapping s m t k list → IsWithin kinds (part t k) (part s m)
+mapping_within kinds s t m k list f = maps_within kinds (part s m) (part t k) (list_maps s t m k list f)
+
+pub within_mapping : (kinds : Kinds) (s t : Tab) (m k : ℕ) → IsTyped kinds s → IsTyped kinds t → IsWithin kinds (part t k) (part s m) → (list : List ℕ) × IsMapping s m t k list
+within_mapping kinds s t m k typed_s typed_t w = maps_list s t m k (within_maps kinds (part s m) (part t k) (part_typed kinds s m typed_s) (part_typed kinds t k typed_t) w)
+
+-- what tells whether there is a mapping tells whether the answers of one part are answers of the other
+pub tells_within : (s t : Tab) (m k : ℕ) (b : Bool) → (b ≡ true → (list : List ℕ) × IsMapping s m t k list) → (b ≡ false → (list : List ℕ) → IsMapping s m t k list → ⊥) → (kinds : Kinds) → IsTyped kinds s → IsTyped kinds t → (b ≡ true) ↔ IsWithin kinds (part t k) (part s m)
+tells_within s t m k b found none kinds typed_s typed_t = (
+  λ yes'. let f = found yes' in mapping_within kinds s t m k f.0 f.1,
+  λ w.
+      let f = within_mapping kinds s t m k typed_s typed_t w in
+      ⊎_elim
+      (λ (yes' : b ≡ true). yes')
+      (λ (no' : b ≡ false). absurd (none no' f.0 f.1))
+      (cases_Bool b),
+)
+
+-- ---- whole tableaux
 
 -- all rows of a tableau are in the part of all its numbers
 whole : (t : Tab) (all : ℕ) → all + 1 ≡ 2 ^ length t.rows → (i : ℕ) (d : List Sym) → i < length t.rows → Contains (select all t.rows) (get_or t.rows i d)

@@ -28,7 +28,13 @@ impl Model for Mapping {
 }
 
 impl Mapping {
-    pub fn new(from: Tableau, from_mask: u64, to: Tableau, to_mask: u64, list: List<u8>) -> Mapping
+    pub(crate) fn new(
+        from: Tableau,
+        from_mask: u64,
+        to: Tableau,
+        to_mask: u64,
+        list: List<u8>,
+    ) -> Mapping
         requires { IsCertified (record { from = from; from_mask = from_mask; to = to; to_mask = to_mask; list = list }) }
         ensures { result ≡ record { from = from; from_mask = from_mask; to = to; to_mask = to_mask; list = list } }
     {

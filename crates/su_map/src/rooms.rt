@@ -1,6 +1,9 @@
 //! The room of a search, and the searches in it.
 ghost use Rattle.std.specs.Prelude.{◌≡◌, ◌≤◌, ◌<◌, ◌+◌, ◌*◌, ◌↔◌, ◌⊎◌, ℕ, Bool, IsTrue, IsFalse, IfOk, List as Items, length, get_or, take, map};
 ghost use Rattle.std.specs.Int.{bit_at};
+ghost use Rattle.su_tableau.specs.Kinds.{Kinds, IsTyped};
+ghost use Rattle.su_tableau.specs.Parts.{part};
+ghost use Rattle.su_tableau.specs.Equivalent.{IsWithin};
 ghost use Rattle.su_map.specs.declared.search.Order.TheVariants.{Ascending};
 ghost use Rattle.su_map.specs.Lists.{IsMapping, IsFirst, numbers_of};
 ghost use Rattle.su_map.specs.Candidates.{IsWithinProducts};
@@ -64,7 +67,7 @@ impl Room {
         })
     }
 
-    /// The row list that the last search found.
+    /// The row list that the last search found. It means nothing after an answer false.
     pub fn list(&self) -> &[u8]
         ensures { result.now ≡ self.now.list }
     {
@@ -273,7 +276,7 @@ fn search_in<L: Ledger>(
 
 /// Whether the masked rows of one tableau have a mapping into the masked rows of the other; the
 /// room's list is then the first row list of a mapping, in lexicographic order. One step is counted
-/// per row and candidate tried.
+/// per row and candidate tried: exponential in the rows at worst.
 pub fn first<L: Ledger>(
     room: &mut Room,
     from: &Tableau,
@@ -287,6 +290,7 @@ pub fn first<L: Ledger>(
     requires heads { length from.now.head ≡ length to.now.head }
     ensures found { IsTrue result → IsFirst from.now from_mask to.now to_mask room.new.list }
     ensures none { IsFalse result ↔ ((list : Items ℕ) → IsMapping from.now from_mask to.now to_mask list → ⊥) }
+    ensures contains { (kinds : Kinds) → IsTyped kinds from.now → IsTyped kinds to.now → IsTrue result ↔ IsWithin kinds (part to.now to_mask) (part from.now from_mask) }
     ensures cost { IsWithinProducts from.now from_mask to.now to_mask steps.old steps.new }
     ensures sizes { HasSizesOf room.old room.new }
 {
@@ -296,7 +300,8 @@ pub fn first<L: Ledger>(
 
 /// Whether there is any mapping, by the net that `prepare` filled for these rows or for more. The
 /// rows are taken in any order, those with the fewest targets first, so that hard cases end sooner
-/// than by `first`. The room's list is then the row list of a mapping.
+/// than by `first`; still exponential in the rows at worst. The room's list is then the row list of
+/// a mapping.
 pub fn exists_prepared<L: Ledger>(
     room: &mut Room,
     from: &Tableau,
@@ -326,6 +331,7 @@ pub fn exists_prepared<L: Ledger>(
 }
 
 /// Whether the masked rows of one tableau have any mapping into the masked rows of the other.
+/// Exponential in the rows at worst.
 pub fn exists<L: Ledger>(
     room: &mut Room,
     from: &Tableau,
@@ -355,7 +361,8 @@ pub fn certify(
     to_mask: u64,
 ) -> Result<Mapping, NoMemory>
     requires { IsMapping from.now from_mask to.now to_mask room.now.list }
-    ensures { IfOk result (λ m. m ≡ record { from = from.now; from_mask = from_mask; to = to.now; to_mask = to_mask; list = room.now.list }) }
+    ensures is { IfOk result (λ m. m ≡ record { from = from.now; from_mask = from_mask; to = to.now; to_mask = to_mask; list = room.now.list }) }
+    ensures contains { IfOk result (λ m. (kinds : Kinds) → IsWithin kinds (part m.to m.to_mask) (part m.from m.from_mask)) }
 {
     let list = List::from_vec(
         room.list()

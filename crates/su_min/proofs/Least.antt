@@ -1,18 +1,19 @@
 -- The kept part is valid, has the answers of the whole, and has the fewest rows.
-use Rattle.std.proofs.Common.{◌≡◌, ◌∙◌, ◌<◌, ◌≤◌, ℕ, List, [], map, length, get_or, All, Contains, sym, ap, subst, arith}
+use Rattle.std.proofs.Common.{◌≡◌, ◌∙◌, ◌<◌, ◌≤◌, ℕ, List, [], length, get_or, All, Contains, sym, ap, subst, arith}
 use Rattle.std.specs.Int.{bit_at}
 use Rattle.std.proofs.lemmas.List.Elements.{recursion_from_All}
 use Rattle.std.proofs.lemmas.List.{get_or-map, length-map, get_or_default}
 use Rattle.su_tableau.specs.declared.symbols.Sym.{Sym}
 use Rattle.su_tableau.specs.declared.symbols.Sym.TheVariants.{Var}
 use Rattle.su_tableau.specs.Tableaux.{Tab, IsValid, Occurs}
-use Rattle.su_tableau.specs.Kinds.{Kinds, IsTyped, sym_kind}
+use Rattle.su_tableau.specs.Kinds.{Kinds, IsTyped}
 use Rattle.su_tableau.specs.Parts.{part, select}
 use Rattle.su_tableau.specs.Mapping.{image_of, images_of, Maps}
 use Rattle.su_tableau.specs.Equivalent.{IsLeast}
 use Rattle.su_tableau.proofs.Containment.{maps_compose, maps_within}
 use Rattle.su_tableau.proofs.Freezing.{within_maps}
 use Rattle.su_tableau.proofs.Sets.{sub_le, mark, mark-has, mark-sub, select-mark, select-has, select-from, choose, all_chosen, zip-length, zip-at}
+use Rattle.su_map.proofs.Containing.{part_typed}
 use Rattle.su_min.specs.Kept.{IsKept, IsLeastPart}
 use Rattle.su_min.proofs.Parts.{into_maps, maps_into, part_maps}
 
@@ -43,16 +44,6 @@ least_rows t s m kept f g =
     let few : length (select m t.rows) ≤ length c.0 = subst (λ i. length (select i t.rows) ≤ length c.0) same (select-mark c.0 t.rows) in
     let e = zip-length R s.rows c.0 c.1 in
     omega arith
-
-part_typed : (kinds : Kinds) (t : Tab) (m : ℕ) → IsTyped kinds t → IsTyped kinds (part t m)
-part_typed kinds t m typed = record {
-  width = typed.width;
-  var_kind = typed.var_kind;
-  fits = λ k d h.
-      let row = get_or (select m t.rows) k d in
-      let r = select-from m t.rows row (k, h, get_or_default (select m t.rows) k row d h) in
-      subst (λ row. map (sym_kind typed.var_kind) row ≡ kinds) (r.is []) (typed.fits r.place [] r.below);
-}
 
 kept_least : (kinds : Kinds) (t : Tab) (m : ℕ) → IsTyped kinds t → IsKept t m → IsLeast kinds (part t m)
 kept_least kinds t m typed kept s valid typed_s same =

@@ -2,7 +2,7 @@
 use Rattle.std.proofs.Common.{◌≡◌, ◌<◌, ◌+◌, ◌↔◌, ◌∙◌, ℕ, Bool, true, false, List, [], ◌∷◌, ◌++◌, map, length, get_or, Result, Ok, Err, sym, ap, subst, arith}
 use Rattle.std.specs.Prelude.{MatchResult, IfOk}
 use Rattle.std.specs.List.{AllZip}
-use Rattle.std.proofs.lemmas.List.{get_or_append_left, get_or_default}
+use Rattle.std.proofs.lemmas.List.{get_or_append_left, get_or_default, length-append}
 use Rattle.std.proofs.Math.Seq.{get_or-append_seam}
 use Rattle.su_tableau.specs.Tableaux.{Tab, AreVarsBelow}
 use Rattle.su_tableau.proofs.Sets.{zip-length, zip-at}
@@ -11,7 +11,7 @@ use Rattle.su_map.proofs.Members.{below_more}
 use Rattle.su_min.specs.Kept.{Minimised}
 use Rattle.su_min.specs.Cover.{Covers}
 use Rattle.su_min.specs.Reduction.{term_at}
-use Rattle.su_min.specs.Matrix.{IsRowOf, IsMatrix}
+use Rattle.su_min.specs.Matrix.{IsRowOf, IsMatrix, AreMarks}
 
 pub room_same : (t : Tab) (old new : Space) → IsRoomFor t old → HasSizesOf old new → IsRoomFor t new
 room_same t old new r s = record {
@@ -35,6 +35,20 @@ row_more term terms row new n b x low len is at here before =
     let early : get_or new i false ≡ get_or row i false = ap (λ l. get_or l i false) is ∙ get_or_append_left row (b ∷ []) false i (omega arith) in
     (λ e. (before i l).0 (sym early ∙ e), λ c. early ∙ (before i l).1 c))
     (λ e. subst (Covers term) item (here.0 (sym last ∙ e)), λ c. last ∙ here.1 (subst (Covers term) (sym item) c))
+
+pub marks_more : (P : ℕ → Type 0) (n : ℕ) (marks new : List Bool) (b : Bool) → new ≡ marks ++ b ∷ [] → (b ≡ true) ↔ P n → AreMarks P n marks → AreMarks P (n + 1) new
+marks_more P n marks new b is here m =
+    let all = m.all in
+    let len = ap length is ∙ length-append marks (b ∷ []) in
+    let last : get_or new n false ≡ b = ap (λ l. get_or l n false) is ∙ ap (λ k. get_or (marks ++ b ∷ []) k false) (sym all) ∙ get_or-append_seam marks b [] false in
+    record {
+      all = omega arith;
+      tells = below_more (λ i. (get_or new i false ≡ true) ↔ P i) n
+          (λ i l.
+          let early : get_or new i false ≡ get_or marks i false = ap (λ l. get_or l i false) is ∙ get_or_append_left marks (b ∷ []) false i (omega arith) in
+          (λ e. (m.tells i l).0 (sym early ∙ e), λ p. early ∙ (m.tells i l).1 p))
+          (λ e. here.0 (sym last ∙ e), λ p. last ∙ here.1 p);
+    }
 
 pub rows_matrix : (terms : List Minimised) (rows : List (List Bool)) → AllZip (λ term row. IsRowOf term terms row) terms rows → IsMatrix terms rows
 rows_matrix terms rows zip =

@@ -28,6 +28,11 @@ pub record IsDroppedIn (covers : ℕ → ℕ → Bool) (n i : ℕ) : Type 0 wher
   pub covers_it : covers other i ≡ true
   pub why : (covers i other ≡ false) ⊎ (other < i)
 
+-- one mark for each number below n, which tells whether the number has the property
+pub record AreMarks (P : ℕ → Type 0) (n : ℕ) (marks : List Bool) : Type 0 where
+  pub all : length marks ≡ n
+  pub tells : (i : ℕ) → i < n → (get_or marks i false ≡ true) ↔ P i
+
 -- each term covers itself, and what covers a term covers what that covers
 pub record IsPreorder (covers : ℕ → ℕ → Bool) (n : ℕ) : Type 0 where
   pub itself : (i : ℕ) → i < n → covers i i ≡ true

@@ -66,6 +66,7 @@ pub fn coverings<R: Threads + Sync>(
 {
     terms
         .par_iter()
+        .with_min_len(1)
         .map(
             |term: &Minimal| -> Result<List<bool>, NoMemory>
                 ensures { IfOk result (λ row. IsRowOf term.now terms.entry.now row) }

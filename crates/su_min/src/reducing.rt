@@ -5,7 +5,7 @@ ghost use Rattle.su_tableau.specs.Kinds.{Kinds, IsTyped};
 ghost use Rattle.su_min.specs.Reduction.{term_at, IsFirstMapping, IsReduced};
 ghost use Rattle.su_min.specs.Cover.{Covers};
 ghost use Rattle.su_min.specs.Needed.{HasAnswersOf, AreNeeded};
-ghost use Rattle.su_min.specs.Matrix.{entry, IsSquare, IsDroppedIn, IsPreorder, IsFirstCover};
+ghost use Rattle.su_min.specs.Matrix.{entry, IsSquare, IsDroppedIn, IsPreorder, IsFirstCover, AreMarks};
 
 use crate::matrix::coverings;
 use crate::minimal::Minimal;
@@ -41,15 +41,28 @@ fn is_dropped(matrix: &[List<bool>], i: usize) -> bool
     false
 }
 
+/// For each term whether it is dropped.
+fn dropped_terms(alloc: Global, matrix: &[List<bool>]) -> Result<List<bool>, NoMemory>
+    requires square { IsSquare matrix.now }
+    ensures { IfOk result (AreMarks (IsDroppedIn (entry matrix.now) (length matrix.now)) (length matrix.now)) }
+{
+    let mut dropped = List::from_vec(Vec::with_capacity(alloc, matrix.len())?);
+    for i in 0..matrix.len() {
+        dropped.push(is_dropped(matrix, i))?;
+    }
+    Ok(dropped)
+}
+
 /// The first kept term that covers term i.
-fn first_cover(matrix: &[List<bool>], i: usize) -> usize
+fn first_cover(matrix: &[List<bool>], dropped: &[bool], i: usize) -> usize
     requires square { IsSquare matrix.now }
     requires preorder { IsPreorder (entry matrix.now) (length matrix.now) }
+    requires dropped { AreMarks (IsDroppedIn (entry matrix.now) (length matrix.now)) (length matrix.now) dropped.now }
     requires term { i < length matrix.now }
     ensures { IsFirstCover (entry matrix.now) (length matrix.now) i result }
 {
     for k in 0..matrix.len() {
-        if has_entry(matrix, k, i) && !is_dropped(matrix, k) {
+        if has_entry(matrix, k, i) && !dropped[k] {
             return k;
         }
     }
@@ -105,7 +118,7 @@ fn cover_of(alloc: Global, terms: &[Minimal], i: usize, k: usize) -> Result<Cove
 }
 
 /// Which terms are kept, and by which of these each dropped one is covered. All pairs of alike terms
-/// are compared, in as many threads as there are processors.
+/// are compared, in up to two pieces for each processor. Each cover holds copies of two tableaux.
 pub fn reduce<R: Threads + Sync>(
     rt: &R,
     alloc: Global,
@@ -117,11 +130,13 @@ pub fn reduce<R: Threads + Sync>(
 {
     let matrix = coverings(rt, alloc, terms)?;
     let matrix = matrix.as_slice();
+    let dropped = dropped_terms(alloc, matrix)?;
+    let dropped = dropped.as_slice();
     let mut kept = List::new(alloc);
     let mut covers = List::new(alloc);
     for i in 0..terms.len() {
-        if is_dropped(matrix, i) {
-            let by = first_cover(matrix, i);
+        if dropped[i] {
+            let by = first_cover(matrix, dropped, i);
             covers.push(cover_of(alloc, terms, i, by)?)?;
         } else {
             kept.push(i as u16)?;

@@ -72,8 +72,8 @@ fn count_combined(parts: &[Cond], negated: bool) -> u32
     total
 }
 
-/// The disjuncts of the condition, in their order. Takes memory and time for what is made: each
-/// comparison is copied once for each disjunct that it stands in.
+/// The disjuncts of the condition, in their order. Takes memory for what is made. For each disjunct
+/// the parts are counted again at each level: at most 64 times the condition's size times its depth.
 pub fn disjuncts(alloc: Global, cond: &Cond) -> Result<List<Disjunct>, NoMemory>
     requires { length (disjuncts_of cond.now) ≤ 64 }
     ensures exact { IfOk result (λ ds. ds ≡ disjuncts_of cond.now) }

@@ -57,22 +57,6 @@ impl Literal {
             .compares(self.left.value(values), self.right.value(values))
     }
 
-    /// A copy or, if `negated`, the comparison that holds exactly where this one doesn't.
-    pub(crate) fn under(&self, alloc: Global, negated: bool) -> Result<Literal, NoMemory>
-        ensures { IfOk result (λ l. l ≡ (if negated then opposite_of self.now else self.now)) }
-    {
-        let op = if negated {
-            self.op.complement()
-        } else {
-            self.op
-        };
-        Ok(Literal {
-            left: self.left.copy(alloc)?,
-            op,
-            right: self.right.copy(alloc)?,
-        })
-    }
-
     /// An equal comparison of its own.
     pub fn copy(&self, alloc: Global) -> Result<Literal, NoMemory>
         ensures { IfOk result (λ l. l ≡ self.now) }
@@ -82,5 +66,16 @@ impl Literal {
             op: self.op,
             right: self.right.copy(alloc)?,
         })
+    }
+
+    /// A copy or, if `negated`, the comparison that holds exactly where this one doesn't.
+    pub(crate) fn under(&self, alloc: Global, negated: bool) -> Result<Literal, NoMemory>
+        ensures { IfOk result (λ l. l ≡ (if negated then opposite_of self.now else self.now)) }
+    {
+        let mut made = self.copy(alloc)?;
+        if negated {
+            made.op = made.op.complement();
+        }
+        Ok(made)
     }
 }

@@ -9,7 +9,7 @@ pub returns : goal.returns
 returns g c =
     let terms = c.args.terms.now in
     let h = c.in_ok-collect.ensures in
-    let slice = ap (λ it. it.slice.now) c.map.ensures.base ∙ c.par_iter.ensures in
+    let slice = ap (λ it. it.base.slice.now) c.map.ensures.base ∙ ap (λ it. it.slice.now) c.with_min_len.ensures.base ∙ c.par_iter.ensures in
     let chain = rw (c.map.ensures.f) at h.1 in
     let zip = slice-AllZip chain.0 terms (chain.1 ∙ slice) (λ x o. IfOk o (λ row. IsRowOf x terms row)) h.0 chain.2 in
     collected _ (λ x row. IsRowOf x terms row) (λ v. v.items) _ terms h.0 c.in_ok-collect.field-0 (IsMatrix terms) (rows_matrix terms) zip h.2

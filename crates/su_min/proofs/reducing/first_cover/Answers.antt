@@ -1,7 +1,21 @@
-use Rattle.std.proofs.Common.{length, arith}
-use Rattle.su_min.specs.Matrix.{entry}
+use Rattle.std.proofs.Common.{◌≡◌, ◌∙◌, length, get_or, true, false, below_more, true≢false, rules, sym, arith}
+use Rattle.su_min.specs.Matrix.{entry, IsDroppedIn}
 use Rattle.su_min.proofs.Picking.{has_cover}
 use Rattle.su_min.proofs.reducing.first_cover.Goals as goal
+use Rattle.su_min.proofs.reducing.first_cover.Goals.{else-has_entry-via-then-has_entry+else-not-dropped-k, else-has_entry-via-else-has_entry}
+
+pub loop-k-preserved : goal.loop-k-preserved
+loop-k-preserved c =
+    let n = length c.args.matrix.now in
+    let covers = entry c.args.matrix.now in
+    below_more (λ j. covers j c.args.i ≡ true → (IsDroppedIn covers n j → ⊥) → ⊥) c.loop-k.k c.loop-k.invariant
+    (λ one stays.
+    elim c.else-has_entry.branch [
+      | else-has_entry-via-then-has_entry+else-not-dropped-k w ↦
+          let marked : get_or c.args.dropped.now c.loop-k.k false ≡ true = search rules in
+          stays ((c.requires.dropped.tells c.loop-k.k c.loop-k-test.true).0 marked)
+      | else-has_entry-via-else-has_entry w ↦ true≢false (sym one ∙ sym c.has_entry.ensures ∙ w.if-has_entry.false)
+    ])
 
 pub unreachable-requires : goal.unreachable-requires
 unreachable-requires c =

@@ -20,7 +20,7 @@ returns g c =
     let f =
     first_found one other c.tableau-from.result.now c.tableau-to.result.now c.mask.result c.mask-2.result c.first.result c.first.new.room.list
     c.tableau-from.ensures c.tableau-to.ensures c.mask.ensures.is c.mask-2.ensures.is c.requires.covers c.first.ensures.found c.first.ensures.none.0 in
-    IfOk-then c.certify.result _ (IsFirstMapping one other) c.certify.ensures (λ m e. record {
+    IfOk-then c.certify.result _ (IsFirstMapping one other) c.certify.ensures.is (λ m e. record {
       from = ap (λ m. m.from) e ∙ c.tableau-from.ensures;
       from_mask = ap (λ m. m.from_mask) e ∙ c.mask-3.ensures.is;
       to = ap (λ m. m.to) e ∙ c.tableau-to.ensures;

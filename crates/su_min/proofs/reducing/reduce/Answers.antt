@@ -1,10 +1,10 @@
-use Rattle.std.proofs.Common.{◌∙◌, ◌+◌, length, true≢false, sym, subst, arith}
-use Rattle.su_min.specs.Matrix.{entry, IsMatrix, IsDroppedIn}
+use Rattle.std.proofs.Common.{◌∙◌, ◌+◌, ◌<◌, length, true≢false, sym, subst, arith}
+use Rattle.su_min.specs.Matrix.{entry, IsMatrix, IsDroppedIn, AreMarks}
 use Rattle.su_min.proofs.Telling.{is_preorder, dropped_from, kept_from, least_cover}
 use Rattle.su_min.proofs.Spared.{needed}
 use Rattle.su_min.proofs.Stepping.{AreReduced, one_kept, one_dropped, all_reduced}
 use Rattle.su_min.proofs.reducing.reduce.Goals as goal
-use Rattle.su_min.proofs.reducing.reduce.Goals.{then-is_dropped+in_ok-cover_of+in_ok-push, else-is_dropped+in_ok-push-2}
+use Rattle.su_min.proofs.reducing.reduce.Goals.{then-dropped-i+in_ok-cover_of+in_ok-push, else-dropped-i+in_ok-push-2}
 
 pub first_cover-by-requires-clause-preorder : goal.first_cover-by-requires-clause-preorder
 first_cover-by-requires-clause-preorder g c =
@@ -17,17 +17,20 @@ loop-i-preserved g c =
     let m : IsMatrix terms matrix = subst (IsMatrix terms) (sym c.as_slice-matrix.ensures.value) c.in_ok-matrix.ensures in
     let i = c.loop-i.i in
     let low = c.loop-i-test.true in
-    elim c.if-is_dropped.branch [
-      | then-is_dropped+in_ok-cover_of+in_ok-push w ↦
+    let IsMarked = IsDroppedIn (entry matrix) (length matrix) in
+    let marks : AreMarks IsMarked (length matrix) c.as_slice-dropped.result.now = subst (AreMarks IsMarked (length matrix)) (sym c.as_slice-dropped.ensures) c.in_ok-dropped.ensures in
+    let in_matrix : i < length matrix = let r = m.rows in omega arith in
+    elim c.if-dropped-i.branch [
+      | then-dropped-i+in_ok-cover_of+in_ok-push w ↦
           let e = w.in_ok-cover_of.ensures in
           let by = w.first_cover-by.result in
-          let r = one_dropped terms i by c.loop-i.kept c.loop-i.covers c.if-is_dropped.covers w.in_ok-cover_of.field-0 (w.covers-is ∙ w.in_ok-push.ensures.ok) e.dropped e.by
-          (dropped_from terms matrix m i low (c.is_dropped.ensures.0 w.if-is_dropped.true)) (least_cover terms matrix m i by low w.first_cover-by.ensures) e.mapping c.loop-i.invariant in
-          subst (λ kept. AreReduced terms (i + 1) kept c.if-is_dropped.covers) (sym w.kept-is) r
-      | else-is_dropped+in_ok-push-2 w ↦
-          let stays : IsDroppedIn (entry matrix) (length matrix) i → ⊥ = λ d. true≢false (sym (c.is_dropped.ensures.1 d) ∙ w.if-is_dropped.false) in
-          let r = one_kept terms i c.loop-i.kept c.if-is_dropped.kept c.loop-i.covers (w.kept-is ∙ w.in_ok-push-2.ensures.ok) (kept_from terms matrix m i low stays) c.loop-i.invariant in
-          subst (AreReduced terms (i + 1) c.if-is_dropped.kept) (sym w.covers-is) r
+          let r = one_dropped terms i by c.loop-i.kept c.loop-i.covers c.if-dropped-i.covers w.in_ok-cover_of.field-0 (w.covers-is ∙ w.in_ok-push.ensures.ok) e.dropped e.by
+          (dropped_from terms matrix m i low ((marks.tells i in_matrix).0 w.if-dropped-i.true)) (least_cover terms matrix m i by low w.first_cover-by.ensures) e.mapping c.loop-i.invariant in
+          subst (λ kept. AreReduced terms (i + 1) kept c.if-dropped-i.covers) (sym w.kept-is) r
+      | else-dropped-i+in_ok-push-2 w ↦
+          let stays : IsMarked i → ⊥ = λ d. true≢false (sym ((marks.tells i in_matrix).1 d) ∙ w.if-dropped-i.false) in
+          let r = one_kept terms i c.loop-i.kept c.if-dropped-i.kept c.loop-i.covers (w.kept-is ∙ w.in_ok-push-2.ensures.ok) (kept_from terms matrix m i low stays) c.loop-i.invariant in
+          subst (AreReduced terms (i + 1) c.if-dropped-i.kept) (sym w.covers-is) r
     ]
 
 pub returns-clause-reduced : goal.returns-clause-reduced
