@@ -1,4 +1,5 @@
 pub mod Added
+pub mod Alike
 pub mod Breaking
 pub mod Columns
 pub mod Copying

@@ -4,7 +4,7 @@ pub mod Loads
 pub mod Definitions
 pub mod Adding
 pub mod Sides
-pub mod Pairs
 pub mod Parts
+pub mod Pairs
 pub mod Filling
 pub mod Leads

@@ -3,9 +3,10 @@ ghost use Rattle.std.specs.Prelude.{◌≡◌, ◌<◌, ℕ, List, length, Match
 ghost use Rattle.su_base.specs.declared.values.Value.{Value};
 ghost use Rattle.su_schema.specs.Checks.{columns_at};
 ghost use Rattle.su_state.specs.Changes.{IsBreach, IsLeastBreach, IsFirstBreach, NoBreach};
+ghost use Rattle.su_state.specs.Filling.{KeepThrough};
 ghost use Rattle.su_state.specs.Sides.{row_at};
 
-use crate::clashes::least_clash;
+use crate::clashes::least_breach;
 use crate::sides::sides_through;
 use su_base::Row;
 use su_index::Table;
@@ -27,7 +28,8 @@ pub struct Breach {
     pub position: usize,
 }
 
-/// The position of the least stored row with which the row breaks the dependency through the object.
+/// The position of the least stored row with which the row breaks the dependency through the object,
+/// which the stored rows keep.
 fn breach_through(
     schema: &Schema,
     table: &Table,
@@ -41,6 +43,7 @@ fn breach_through(
     requires row { length row.now ≡ table.now.width }
     requires fd { fd < length schema.now.fds }
     requires object { object < length schema.now.objects }
+    requires keeps { KeepThrough schema.now relation table.now.rows fd object }
     ensures { MatchOption result ((other : List Value) → ¬ IsBreach schema.now relation table.now.rows row.now fd object other) (λ p. (p < length table.now.rows) × IsLeastBreach schema.now relation table.now.rows row.now fd object (row_at table.now.rows p)) }
 {
     schema.keeps_its_rules();
@@ -48,7 +51,7 @@ fn breach_through(
         return None;
     }
     match sides_through(schema, &schema.fds()[fd as usize], object) {
-        Some(sides) => least_clash(table, &sides, row),
+        Some(sides) => least_breach(table, &sides, row),
         None => None,
     }
 }
@@ -59,6 +62,7 @@ fn breach_of(schema: &Schema, table: &Table, relation: u8, row: &Row, fd: u16) -
     requires width { table.now.width ≡ length (columns_at schema.now relation) }
     requires row { length row.now ≡ table.now.width }
     requires fd { fd < length schema.now.fds }
+    requires keeps { (o : ℕ) → KeepThrough schema.now relation table.now.rows fd o }
     ensures { MatchOption result ((o : ℕ) (other : List Value) → ¬ IsBreach schema.now relation table.now.rows row.now fd o other) (λ b. (b.position < length table.now.rows) × IsLeastBreach schema.now relation table.now.rows row.now fd b.object (row_at table.now.rows b.position) × ((o : ℕ) (other : List Value) → o < b.object → ¬ IsBreach schema.now relation table.now.rows row.now fd o other)) }
 {
     schema.keeps_its_rules();
@@ -70,12 +74,12 @@ fn breach_of(schema: &Schema, table: &Table, relation: u8, row: &Row, fd: u16) -
     None
 }
 
-/// The first breach of an enforced dependency. Only the rows are looked at that have the row's value
-/// in one left column of the dependency, that in which the fewest have it.
+/// The first breach of an enforced dependency, where the stored rows keep them all.
 pub fn first_breach(schema: &Schema, table: &Table, relation: u8, row: &Row) -> Option<Breach>
     requires relation { relation < length schema.now.relations }
     requires width { table.now.width ≡ length (columns_at schema.now relation) }
     requires row { length row.now ≡ table.now.width }
+    requires keeps { (f o : ℕ) → KeepThrough schema.now relation table.now.rows f o }
     ensures { MatchOption result (NoBreach schema.now relation table.now.rows row.now) (λ b. (b.position < length table.now.rows) × IsFirstBreach schema.now relation table.now.rows row.now b.fd b.object (row_at table.now.rows b.position)) }
 {
     schema.keeps_its_rules();

@@ -38,8 +38,9 @@ impl Database {
         Ok(true)
     }
 
-    /// Puts the row in, and answers whether it is new. Under each enforced dependency only the rows
-    /// are looked at that have the row's value in one of its left columns.
+    /// Puts the row in, and answers whether it is new. For each enforced dependency the rows that have
+    /// its value in one left column are looked at, up to the first with its whole left side; all of
+    /// them only where it breaks the dependency.
     pub fn insert(&mut self, relation: u8, row: Row) -> Result<bool, StateFault>
         requires { relation < length self.old.schema.relations }
         ensures { Inserts self.old relation row result self.new }

@@ -4,9 +4,9 @@ ghost use Rattle.std.specs.Ordering.{is_lt};
 ghost use Rattle.std.specs.FinSet as set;
 ghost use Rattle.su_base.specs.Value.{compare_lists};
 ghost use Rattle.su_base.specs.declared.values.Value.{Value as Stored};
-ghost use Rattle.su_state.specs.Sides.{Clash, IsLeastClash, IsLesser, row_at};
+ghost use Rattle.su_state.specs.Sides.{AgreeAt, Clash, IsLeastClash, IsLesser, row_at};
 
-use crate::sides::{Sides, clash};
+use crate::sides::{Sides, agree, clash};
 use std::cmp::Ordering;
 use su_base::{AttrSet, Row, compare_rows};
 use su_index::Table;
@@ -89,4 +89,46 @@ pub fn least_clash(table: &Table, sides: &Sides, row: &Row) -> Option<usize>
         least = lesser(table, sides, row, least, position);
     }
     least
+}
+
+/// The position of a row that has the row's values in the columns.
+fn alike(table: &Table, columns: AttrSet, row: &Row) -> Option<usize>
+    requires width { length row.now ≡ table.now.width }
+    requires few { table.now.width ≤ 32 }
+    requires some { (c : ℕ) × IsTrue (set.contains columns c) × (c < table.now.width) }
+    ensures { MatchOption result ((other : List Stored) → Contains table.now.rows other → ¬ AgreeAt columns row.now other) (λ p. (p < length table.now.rows) × AgreeAt columns row.now (row_at table.now.rows p)) }
+{
+    let _rows = table.as_slice();
+    let column = fewest(table, columns, row);
+    let value = row.get(column as usize);
+    for k in 0..table.matching(column, value) {
+        let position = table.matched(column, value, k);
+        if agree(columns, row, table.row(position)) {
+            return Some(position);
+        }
+    }
+    None
+}
+
+/// The position of the least row with which a new row clashes, where no two rows of the table clash.
+/// The rows that agree with the new one on the left side then agree on the right one too, so that the
+/// first of them tells for all; only where the new row clashes are they all looked at.
+pub fn least_breach(table: &Table, sides: &Sides, row: &Row) -> Option<usize>
+    requires width { length row.now ≡ table.now.width }
+    requires few { table.now.width ≤ 32 }
+    requires some { (c : ℕ) × IsTrue (set.contains sides.now.left c) × (c < table.now.width) }
+    requires keeps { (one other : List Stored) → Contains table.now.rows one → Contains table.now.rows other → ¬ Clash sides.now one other }
+    ensures { MatchOption result ((other : List Stored) → Contains table.now.rows other → ¬ Clash sides.now row.now other) (λ p. (p < length table.now.rows) × IsLeastClash sides.now table.now.rows row.now (row_at table.now.rows p)) }
+{
+    let _rows = table.as_slice();
+    match alike(table, sides.left, row) {
+        Some(position) => {
+            if agree(sides.right, row, table.row(position)) {
+                None
+            } else {
+                least_clash(table, sides, row)
+            }
+        }
+        None => None,
+    }
 }

@@ -38,7 +38,8 @@ fn check_through(
     if none_clash(alloc, &sides, table.as_slice(), &[])? {
         return Ok(());
     }
-    match least_pair(table, &sides) {
+    let least = least_pair(alloc, table, &sides)?;
+    match least {
         Some(pair) => Err(DefineFault::Breaks {
             fd: Fd {
                 left: dependency.left,
@@ -148,9 +149,8 @@ fn add_table(
 impl Database {
     /// Adds the definition at the end of its list; a relation has no rows yet, and all rows stay.
     /// A dependency or an object that doesn't hold on the stored rows is refused. That it holds takes
-    /// one pass over the rows of the relations that it is about, in memory for their values on both
-    /// sides; where it doesn't, the least pair is looked for row by row, each with those that have
-    /// its value in one left column.
+    /// one pass over the rows of the relations that it is about, in memory for their values on the
+    /// left side; where it doesn't, three more passes over one relation's rows find the least pair.
     pub fn define(&mut self, definition: &Definition) -> Result<(), DefineFault>
         requires { IsWellNamed definition.now }
         ensures { Defines self.old definition.now result self.new }

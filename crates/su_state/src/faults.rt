@@ -7,29 +7,24 @@ ghost use Rattle.su_state.specs.declared.faults.DefineFault.TheVariants.{NoMemor
 use su_base::{NoMemory, Row, Str};
 use su_fd::Fd;
 use su_schema::SchemaFault;
-use thiserror::Error;
 
 /// Why a change of rows is refused. Relations, columns, dependencies and objects are numbers from 0.
-#[derive(Debug, Drop, Error)]
+#[derive(Debug, Drop)]
 pub enum StateFault {
     /// No relation has the name.
-    #[error("the relation is not known")]
     UnknownRelation(Str),
     /// The row has not as many values as the relation has columns.
-    #[error("the row has another width")]
     Width {
         relation: u8,
         given: u64,
     },
     /// The first column whose value is of another kind.
-    #[error("a value has another kind")]
     Kind {
         relation: u8,
         column: u8,
     },
     /// The first dependency that the row would break, the first object through which it would, and
     /// the least stored row that agrees on the left side and differs on the right.
-    #[error("a dependency would be broken")]
     Breaks {
         relation: u8,
         fd: u16,
@@ -37,28 +32,23 @@ pub enum StateFault {
         row: Row,
     },
     /// The relation has 1,000,000 rows.
-    #[error("the relation is full")]
     Limit {
         relation: u8,
     },
-    #[error("memory could not be had")]
     NoMemory,
 }
 
 /// The first refused row of a load, with its number from 1.
-#[derive(Debug, Drop, Error)]
-#[error("a row is refused")]
+#[derive(Debug, Drop)]
 pub struct LoadFault {
     pub number: u64,
     pub fault: StateFault,
 }
 
 /// Why a load is refused. `Refused` never holds want of memory.
-#[derive(Debug, Drop, Error)]
+#[derive(Debug, Drop)]
 pub enum LoadEnd {
-    #[error("a row is refused")]
     Refused(LoadFault),
-    #[error("memory could not be had")]
     NoMemory,
 }
 

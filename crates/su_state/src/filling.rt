@@ -103,6 +103,7 @@ fn none_breaks(schema: &Schema, table: &Table, relation: u8, rows: &[Row]) -> bo
     requires relation { relation < length schema.now.relations }
     requires width { table.now.width ≡ length (columns_at schema.now relation) }
     requires rows { HaveWidth table.now.width rows.now }
+    requires keeps { (f o : ℕ) → KeepThrough schema.now relation table.now.rows f o }
     ensures { OnTrue result (All (NoBreach schema.now relation table.now.rows) rows.now) }
 {
     for row in rows {

@@ -69,7 +69,7 @@ impl Database {
     /// refused refuses them all, and none is put in.
     ///
     /// Where no row is refused they go in at once: for each enforced dependency one pass over the
-    /// rows there and the rows given, in memory for their values on both sides, and one sort per
+    /// rows there and the rows given, in memory for their values on its left side, and one sort per
     /// column; few rows are held against those there by the indexes. Else they go one by one into a
     /// copy of the table, until the row is met that is refused, or that would be one too many if all
     /// were new.

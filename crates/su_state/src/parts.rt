@@ -1,11 +1,11 @@
 //! Whether a dependency holds on many rows, in one pass.
-ghost use Rattle.std.specs.Prelude.{◌≡◌, ◌≤◌, ◌++◌, ◌↔◌, List, length, All, Contains, IsTrue, IfOk};
+ghost use Rattle.std.specs.Prelude.{◌≡◌, ◌<◌, ◌≤◌, ◌++◌, List, length, All, Contains, IfOk};
 ghost use Rattle.std.specs.Bool.{OnTrue};
 ghost use Rattle.su_base.specs.declared.values.Value.{Value};
-ghost use Rattle.su_state.specs.Sides.{Clash};
-ghost use Rattle.su_state.specs.Parts.{part_of, noted_in, KeepsNotes, IsNoted, HaveOneWidth};
+ghost use Rattle.su_state.specs.Sides.{Clash, row_at};
+ghost use Rattle.su_state.specs.Parts.{part_of, noted_in, Notes, HaveOneWidth};
 
-use crate::sides::Sides;
+use crate::sides::{Sides, agree};
 use std::alloc::Global;
 use std::collections::HashMap;
 use su_base::{AttrSet, List, NoMemory, Row};
@@ -24,53 +24,41 @@ fn part(alloc: Global, columns: AttrSet, row: &Row) -> Result<Row, NoMemory>
     Ok(part)
 }
 
-fn is_one(a: &Row, b: &Row) -> bool
-    ensures { IsTrue result ↔ (a.now ≡ b.now) }
-{
-    a == b
-}
-
-/// Notes the row's right part under its left part, and answers whether no other is noted there.
-fn note(
+/// The position that is noted under the row's left part; where none is, this one is noted.
+pub fn first_with(
     alloc: Global,
-    sides: &Sides,
-    notes: &mut HashMap<Row, Row>,
+    left: AttrSet,
+    notes: &mut HashMap<Row, usize>,
     row: &Row,
-) -> Result<bool, NoMemory>
+    position: usize,
+) -> Result<usize, NoMemory>
     requires { length row.now ≤ 32 }
-    ensures { IfOk result (λ alike. OnTrue alike (KeepsNotes (noted_in notes.old) (noted_in notes.new) × IsNoted sides.now (noted_in notes.new) row.now)) }
+    ensures { IfOk result (Notes left (noted_in notes.old) (noted_in notes.new) row.now position) }
 {
-    let left = part(alloc, sides.left, row)?;
-    let right = part(alloc, sides.right, row)?;
-    if let Some(noted) = notes.get(&left) {
-        return Ok(is_one(noted, &right));
+    let values = part(alloc, left, row)?;
+    if let Some(first) = notes.get(&values) {
+        return Ok(*first);
     }
-    match notes.insert(left, right) {
-        Ok(_) => Ok(true),
+    match notes.insert(values, position) {
+        Ok(_) => Ok(position),
         Err(_) => Err(NoMemory),
     }
 }
 
-/// Notes the rows until one has another right part than is noted, and answers whether none has.
-fn note_all(
-    alloc: Global,
-    sides: &Sides,
-    notes: &mut HashMap<Row, Row>,
-    rows: &[Row],
-) -> Result<bool, NoMemory>
-    requires { All (λ row. length row ≤ 32) rows.now }
-    ensures { IfOk result (λ alike. OnTrue alike (KeepsNotes (noted_in notes.old) (noted_in notes.new) × All (IsNoted sides.now (noted_in notes.new)) rows.now)) }
+/// The row at the position, where the second list goes on behind the first.
+fn row_of<'a>(stored: &'a [Row], more: &'a [Row], position: usize) -> &'a Row
+    requires { position < length (stored.now ++ more.now) }
+    ensures { result.now ≡ row_at (stored.now ++ more.now) position }
 {
-    for row in rows {
-        if !note(alloc, sides, notes, row)? {
-            return Ok(false);
-        }
+    if position < stored.len() {
+        &stored[position]
+    } else {
+        &more[position - stored.len()]
     }
-    Ok(true)
 }
 
-/// Whether no two of the rows clash, those of both lists taken together. Each is looked at once, in
-/// memory for the values of both sides.
+/// Whether no two of the rows clash, those of both lists taken together. Each is held once against the
+/// first one with its left part, in memory for the values of the left sides.
 pub fn none_clash(
     alloc: Global,
     sides: &Sides,
@@ -83,8 +71,12 @@ pub fn none_clash(
     ensures { IfOk result (λ none. OnTrue none ((row other : List Value) → Contains (stored.now ++ more.now) row → Contains (stored.now ++ more.now) other → ¬ Clash sides.now row other)) }
 {
     let mut notes = HashMap::new(alloc);
-    if !note_all(alloc, sides, &mut notes, stored)? {
-        return Ok(false);
+    for position in 0..stored.len() + more.len() {
+        let row = row_of(stored, more, position);
+        let first = first_with(alloc, sides.left, &mut notes, row, position)?;
+        if !agree(sides.right, row, row_of(stored, more, first)) {
+            return Ok(false);
+        }
     }
-    Ok(note_all(alloc, sides, &mut notes, more)?)
+    Ok(true)
 }

@@ -71,7 +71,7 @@ fn is_one(a: &Value, b: &Value) -> bool
 }
 
 /// Whether the rows, of one width, have one value in each of the columns.
-fn agree(columns: AttrSet, a: &Row, b: &Row) -> bool
+pub fn agree(columns: AttrSet, a: &Row, b: &Row) -> bool
     requires same { length a.now ≡ length b.now }
     requires few { length a.now ≤ 32 }
     ensures { IsTrue result ↔ AgreeAt columns a.now b.now }

@@ -13,3 +13,6 @@ pub returns : goal.returns
 returns c = λ o other breach.
     let within : o < length c.args.schema.now.objects = slice_get_within c.args.schema.now.objects o breach.through breach.placed in
     c.loop-object.invariant o (omega (arith, within, c.objects-object-end.ensures)) other breach
+
+pub breach_through-requires-clause-keeps : goal.breach_through-requires-clause-keeps
+breach_through-requires-clause-keeps c = c.requires.keeps c.loop-object.object

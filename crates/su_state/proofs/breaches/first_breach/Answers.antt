@@ -13,3 +13,6 @@ pub returns : goal.returns
 returns c = λ f o other breach.
     let within : f < length c.args.schema.now.fds = slice_get_within c.args.schema.now.fds f breach.dependency breach.numbered in
     c.loop-fd.invariant f (omega (arith, within, ap length c.fds.ensures)) o other breach
+
+pub breach_of-requires-clause-keeps : goal.breach_of-requires-clause-keeps
+breach_of-requires-clause-keeps c = c.requires.keeps c.loop-fd.fd

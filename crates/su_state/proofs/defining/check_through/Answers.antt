@@ -38,21 +38,22 @@ least_pair-requires-clause-some c =
     let some = some_left c.args.schema.now c.args.object c.args.fd entry c.index-fds-fd.result c.in-Some.sides c.keeps_its_rules.ensures placed numbered (c.in-Some.ensures entry placed) in
     (some.0, some.1, omega (arith, some.2, width))
 
-pub returns-in_ok-copy_row-in-Some-least_pair-2-clause-refused :
-    goal.returns-in_ok-copy_row-in-Some-least_pair-2-clause-refused
-returns-in_ok-copy_row-in-Some-least_pair-2-clause-refused c =
+pub returns-in_ok-copy_row-in-Some-least-2-clause-refused :
+    goal.returns-in_ok-copy_row-in-Some-least-2-clause-refused
+returns-in_ok-copy_row-in-Some-least-2-clause-refused c =
     let entry : ObjectEntry = get_or c.args.schema.now.objects c.args.object blank_object in
     let placed : slice_get c.args.schema.now.objects c.args.object ≡ Some entry = slice_get-get_or c.args.schema.now.objects c.args.object blank_object c.requires.object in
     let on : entry.relation ≡ c.object_relation.result = of_object (λ e. e.relation) c.args.schema.now.objects c.args.object entry c.object_relation.result placed c.object_relation.ensures in
     let numbered : slice_get c.args.schema.now.fds c.args.fd ≡ Some c.index-fds-fd.result = slice_get_read c.args.schema.now.fds (length c.args.schema.now.fds) c.args.fd c.index-fds-fd.result refl c.requires.fd (c.index-fds-fd.is ∙ ap (λ fds. get_or fds c.args.fd c.index-fds-fd.result) c.fds.ensures) in
-    let named = c.in_ok-new-in-Some-least_pair.ensures ∙ sym (of_object (λ e. e.name) c.args.schema.now.objects c.args.object entry c.object_name.result.now placed c.object_name.ensures) in
+    let named = c.in_ok-new-in-Some-least.ensures ∙ sym (of_object (λ e. e.name) c.args.schema.now.objects c.args.object entry c.object_name.result.now placed c.object_name.ensures) in
     let rows = c.index-tables-object_relation.result.rows in
-    let first = row_there c.index-tables-object_relation.result.rows c.in-Some-least_pair.pair.first c.row.result.now c.row.ensures ∙ sym c.in_ok-copy_row-in-Some-least_pair.ensures in
-    let second = row_there c.index-tables-object_relation.result.rows c.in-Some-least_pair.pair.second c.row-in-Some-least_pair.result.now c.row-in-Some-least_pair.ensures ∙ sym c.in_ok-copy_row-in-Some-least_pair-2.ensures in
-    let pair : IsLeastPair c.in-Some.sides rows c.in_ok-copy_row-in-Some-least_pair.field-0 c.in_ok-copy_row-in-Some-least_pair-2.field-0 =
-    subst (λ (row : List Value). IsLeastPair c.in-Some.sides rows row c.in_ok-copy_row-in-Some-least_pair-2.field-0) first
-    (subst (λ (row : List Value). IsLeastPair c.in-Some.sides rows (row_at rows c.in-Some-least_pair.pair.first) row) second c.in-Some-least_pair.ensures.2) in
-    breaks_through c.args.schema.now c.args.tables.now c.args.fd c.args.object c.object_relation.result c.index-fds-fd.result entry c.index-tables-object_relation.result numbered placed c.requires.tables on c.index-tables-object_relation.is c.in-Some.sides c.in_ok-new-in-Some-least_pair.field-0 c.in_ok-copy_row-in-Some-least_pair.field-0 c.in_ok-copy_row-in-Some-least_pair-2.field-0 (c.in-Some.ensures entry placed) named pair
+    let first = row_there c.index-tables-object_relation.result.rows c.in-Some-least.pair.first c.row.result.now c.row.ensures ∙ sym c.in_ok-copy_row-in-Some-least.ensures in
+    let second = row_there c.index-tables-object_relation.result.rows c.in-Some-least.pair.second c.row-in-Some-least.result.now c.row-in-Some-least.ensures ∙ sym c.in_ok-copy_row-in-Some-least-2.ensures in
+    let found = rw c.in-Some-least.is at c.in_ok-least.ensures in
+    let pair : IsLeastPair c.in-Some.sides rows c.in_ok-copy_row-in-Some-least.field-0 c.in_ok-copy_row-in-Some-least-2.field-0 =
+    subst (λ (row : List Value). IsLeastPair c.in-Some.sides rows row c.in_ok-copy_row-in-Some-least-2.field-0) first
+    (subst (λ (row : List Value). IsLeastPair c.in-Some.sides rows (row_at rows c.in-Some-least.pair.first) row) second found.2) in
+    breaks_through c.args.schema.now c.args.tables.now c.args.fd c.args.object c.object_relation.result c.index-fds-fd.result entry c.index-tables-object_relation.result numbered placed c.requires.tables on c.index-tables-object_relation.is c.in-Some.sides c.in_ok-new-in-Some-least.field-0 c.in_ok-copy_row-in-Some-least.field-0 c.in_ok-copy_row-in-Some-least-2.field-0 (c.in-Some.ensures entry placed) named pair
 
 pub returns-in-None-clause-holds : goal.returns-in-None-clause-holds
 returns-in-None-clause-holds c =
@@ -60,7 +61,8 @@ returns-in-None-clause-holds c =
     let placed : slice_get c.args.schema.now.objects c.args.object ≡ Some entry = slice_get-get_or c.args.schema.now.objects c.args.object blank_object c.requires.object in
     let on : entry.relation ≡ c.object_relation.result = of_object (λ e. e.relation) c.args.schema.now.objects c.args.object entry c.object_relation.result placed c.object_relation.ensures in
     let numbered : slice_get c.args.schema.now.fds c.args.fd ≡ Some c.index-fds-fd.result = slice_get_read c.args.schema.now.fds (length c.args.schema.now.fds) c.args.fd c.index-fds-fd.result refl c.requires.fd (c.index-fds-fd.is ∙ ap (λ fds. get_or fds c.args.fd c.index-fds-fd.result) c.fds.ensures) in
-    holds_through c.args.schema.now c.args.tables.now c.args.fd c.args.object c.object_relation.result c.index-fds-fd.result entry c.index-tables-object_relation.result numbered placed c.requires.tables on c.index-tables-object_relation.is c.in-Some.sides (c.in-Some.ensures entry placed) c.in-None.ensures
+    let none = rw c.in-None.is at c.in_ok-least.ensures in
+    holds_through c.args.schema.now c.args.tables.now c.args.fd c.args.object c.object_relation.result c.index-fds-fd.result entry c.index-tables-object_relation.result numbered placed c.requires.tables on c.index-tables-object_relation.is c.in-Some.sides (c.in-Some.ensures entry placed) none
 
 pub none_clash-requires-clause-stored : goal.none_clash-requires-clause-stored
 none_clash-requires-clause-stored c =
