@@ -9,6 +9,9 @@ use Rattle.su_base.specs.declared.values.Column.{Column}
 use Rattle.su_lex.specs.declared.meaning.Symbol.{Symbol}
 use Rattle.su_lex.specs.declared.meaning.Symbol.TheVariants.{Word, Sign}
 use Rattle.su_lex.specs.declared.signs.Sign.TheVariants as sign
+use Rattle.std.proofs.Common.{drop}
+use Rattle.std.proofs.lemmas.List.{take-append-drop}
+use Rattle.su_lex.specs.Adding.{AddsFront}
 use Rattle.su_lex.specs.Names.{more_names}
 use Rattle.su_schema.specs.declared.definitions.Definition.{Definition}
 use Rattle.su_ddl.specs.Grammar.{kind_symbol, more_columns}
@@ -36,6 +39,32 @@ one_name ns i n none start out o1 o2 l at so e f =
     let more : take (i + 1) ns ≡ take i ns ++ n ∷ [] = take_more ns i none l ∙ ap (λ x. take i ns ++ x ∷ []) (sym at) in
     chain start out o2 (more_names (take i ns)) (Sign sign.Comma ∷ Word n ∷ []) so (chain out o1 o2 (Sign sign.Comma ∷ []) (Word n ∷ []) e f)
     ∙ ap (λ x. start ++ x) (sym (more_names_push (take i ns) n) ∙ ap more_names (sym more))
+
+more_names_append : (ms ns : List (List ℕ)) → more_names (ms ++ ns) ≡ more_names ms ++ more_names ns
+more_names_append [] ns = refl
+more_names_append (m ∷ ms) ns = ap (λ x. Sign sign.Comma ∷ Word m ∷ x) (more_names_append ms ns)
+
+more_names_parts : (ns : List (List ℕ)) (i : ℕ) → more_names ns ≡ more_names (take i ns) ++ more_names (drop i ns)
+more_names_parts ns i = ap more_names (sym (take-append-drop i ns)) ∙ more_names_append (take i ns) (drop i ns)
+
+-- so many names are a front
+pub names_front : (ns : List (List ℕ)) (i : ℕ) (start out new : List Symbol) → out ≡ start ++ more_names (take i ns) → new ≡ out → AddsFront start new (more_names ns)
+names_front ns i start out new so e = record { front = more_names (take i ns); rest = more_names (drop i ns); whole = more_names_parts ns i; added = e ∙ so }
+
+-- and so they are with the comma behind them
+pub comma_front : (ns : List (List ℕ)) (i : ℕ) (n none : List ℕ) (start out o1 new : List Symbol) → i < length ns → n ≡ get_or ns i none → out ≡ start ++ more_names (take i ns)
+    → o1 ≡ out ++ Sign sign.Comma ∷ [] → new ≡ o1 → AddsFront start new (more_names ns)
+comma_front ns i n none start out o1 new l at so e same =
+    let more : take (i + 1) ns ≡ take i ns ++ n ∷ [] = take_more ns i none l ∙ ap (λ x. take i ns ++ x ∷ []) (sym at) in
+    let next : more_names (take (i + 1) ns) ≡ (more_names (take i ns) ++ Sign sign.Comma ∷ []) ++ Word n ∷ [] =
+    ap more_names more ∙ more_names_push (take i ns) n ∙ sym (append_assoc (more_names (take i ns)) (Sign sign.Comma ∷ []) (Word n ∷ [])) in
+    record {
+      front = more_names (take i ns) ++ Sign sign.Comma ∷ [];
+      rest = Word n ∷ more_names (drop (i + 1) ns);
+      whole = more_names_parts ns (i + 1) ∙ ap (λ x. x ++ more_names (drop (i + 1) ns)) next
+          ∙ append_assoc (more_names (take i ns) ++ Sign sign.Comma ∷ []) (Word n ∷ []) (more_names (drop (i + 1) ns));
+      added = same ∙ chain start out o1 (more_names (take i ns)) (Sign sign.Comma ∷ []) so e;
+    }
 
 more_columns_push : (cs : List Column) (c : Column) → more_columns (cs ++ c ∷ []) ≡ more_columns cs ++ Sign sign.Comma ∷ Word c.name ∷ kind_symbol c.kind ∷ []
 more_columns_push [] c = refl

@@ -1,27 +1,14 @@
 //! A definition as its symbols, and as a line of text.
-ghost use Rattle.std.specs.Prelude.{◌≡◌, ◌∷◌, ◌++◌, [], map, IfOk, OnOk};
+ghost use Rattle.std.specs.Prelude.{◌≡◌, ◌∷◌, ◌++◌, [], map, IfOk, OnErr, OnOk};
+ghost use Rattle.su_lex.specs.Adding.{AddsFront};
 ghost use Rattle.su_lex.specs.Names.{names_symbols, more_names};
 ghost use Rattle.su_ddl.specs.Grammar.{definition_symbols, kind_symbol, columns_symbols, more_columns, in_parens};
 ghost use Rattle.su_ddl.specs.Shown.{line_of};
 
 use std::alloc::Global;
 use su_base::{Column, Kind, List, NoMemory, Str};
-use su_lex::{Sign, Symbol, push_spaced};
+use su_lex::{Sign, Symbol, push_sign, push_spaced, push_word};
 use su_schema::{Definition, Pair};
-
-fn push_word(alloc: Global, out: &mut List<Symbol>, word: &str) -> Result<(), NoMemory>
-    ensures { OnOk result (out.new ≡ out.old ++ Symbol.Word word.now ∷ []) }
-{
-    out.push(Symbol::Word(Str::new(alloc, word)?))?;
-    Ok(())
-}
-
-fn push_sign(out: &mut List<Symbol>, sign: Sign) -> Result<(), NoMemory>
-    ensures { OnOk result (out.new ≡ out.old ++ Symbol.Sign sign ∷ []) }
-{
-    out.push(Symbol::Sign(sign))?;
-    Ok(())
-}
 
 fn push_kind(alloc: Global, out: &mut List<Symbol>, kind: Kind) -> Result<(), NoMemory>
     ensures { OnOk result (out.new ≡ out.old ++ kind_symbol kind ∷ []) }
@@ -34,7 +21,8 @@ fn push_kind(alloc: Global, out: &mut List<Symbol>, kind: Kind) -> Result<(), No
 
 /// { "," NAME }
 fn push_more_names(alloc: Global, out: &mut List<Symbol>, names: &[Str]) -> Result<(), NoMemory>
-    ensures { OnOk result (out.new ≡ out.old ++ more_names names.now) }
+    ensures ok { OnOk result (out.new ≡ out.old ++ more_names names.now) }
+    ensures front { OnErr result (AddsFront out.old out.new (more_names names.now)) }
 {
     for name in names {
         push_sign(out, Sign::Comma)?;
@@ -45,7 +33,8 @@ fn push_more_names(alloc: Global, out: &mut List<Symbol>, names: &[Str]) -> Resu
 
 /// Adds NAME { "," NAME } at the end of `out`.
 pub fn push_names(alloc: Global, out: &mut List<Symbol>, names: &[Str]) -> Result<(), NoMemory>
-    ensures { OnOk result (out.new ≡ out.old ++ names_symbols names.now) }
+    ensures ok { OnOk result (out.new ≡ out.old ++ names_symbols names.now) }
+    ensures front { OnErr result (AddsFront out.old out.new (names_symbols names.now)) }
 {
     match names {
         [first, others @ ..] => {
@@ -214,7 +203,8 @@ fn push_definition(
 
 /// Adds the definition as it is shown, `;` and a line feed, at the end of `out`.
 pub fn push_line(alloc: Global, out: &mut Vec<u8>, definition: &Definition) -> Result<(), NoMemory>
-    ensures { OnOk result (out.new.items ≡ out.old.items ++ line_of definition.now) }
+    ensures ok { OnOk result (out.new.items ≡ out.old.items ++ line_of definition.now) }
+    ensures front { OnErr result (AddsFront out.old.items out.new.items (line_of definition.now)) }
 {
     let mut symbols = List::new(alloc);
     push_definition(alloc, &mut symbols, definition)?;

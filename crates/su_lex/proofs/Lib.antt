@@ -1,3 +1,4 @@
+pub mod Adding
 pub mod Cuts
 pub mod Fronts
 pub mod Gaps

@@ -1,5 +1,5 @@
 -- Lists of names.
-use Rattle.std.proofs.Common.{◌≡◌, ℕ, List, [], ◌∷◌, ◌++◌, refl, ap, sym, ◌∙◌}
+use Rattle.std.proofs.Common.{◌≡◌, ℕ, List, [], ◌∷◌, ◌++◌, refl, ap, sym, ◌∙◌, append_assoc}
 use Rattle.su_lex.specs.declared.signs.Sign.TheVariants as sign
 use Rattle.su_lex.specs.declared.meaning.Symbol.{Symbol}
 use Rattle.su_lex.specs.declared.meaning.Symbol.TheVariants.{Word, Sign}
@@ -16,6 +16,10 @@ names_push (m ∷ ns) n s r are e = ap (λ x. Word m ∷ x) (more ns e)
     more : (ns : List (List ℕ)) → s ≡ Sign sign.Comma ∷ Word n ∷ r → more_names ns ++ s ≡ more_names (ns ++ n ∷ []) ++ r
     more [] e = e
     more (m ∷ ns) e = ap (λ x. Sign sign.Comma ∷ Word m ∷ x) (more ns e)
+
+-- what was read, and a little more
+pub further : (done more e s r : List Symbol) → e ≡ done ++ s → s ≡ more ++ r → (front : List Symbol) × (e ≡ front ++ r)
+further done more e s r w h = (done ++ more, w ∙ ap (λ x. done ++ x) h ∙ sym (append_assoc done more r))
 
 all_push : (ns : List (List ℕ)) (n : List ℕ) → AllByRecursion IsName ns → IsName n → AllByRecursion IsName (ns ++ n ∷ [])
 all_push [] n are is = (is, tt)

@@ -1,8 +1,11 @@
 -- One more symbol of a text.
 use Rattle.std.proofs.Common.{◌≡◌, ◌<◌, ◌+◌, ℕ, Bool, true, false, not, ◌||◌, List, [], ◌∷◌, ◌++◌, length, refl, ap, sym, ◌∙◌, append_assoc, append-nil, take, get_or}
 use Rattle.std.specs.Prelude.{if◌then◌else◌}
-use Rattle.std.proofs.lemmas.List.{take_more}
-use Rattle.su_lex.specs.Tokens.{doubled, twice}
+use Rattle.std.proofs.Common.{drop}
+use Rattle.std.proofs.lemmas.List.{take_more, take-append-drop}
+use Rattle.su_lex.specs.Adding.{AddsFront}
+use Rattle.su_lex.proofs.Adding.{adds_first, adds_later}
+use Rattle.su_lex.specs.Tokens.{doubled, quoted, twice}
 use Rattle.su_lex.specs.declared.meaning.Symbol.{Symbol}
 use Rattle.su_lex.specs.Symbols.{closes, opens, spaced, spelled, after}
 
@@ -71,3 +74,65 @@ one_behind symbols i z start out o1 o2 tight tight' l at before e1 e2 t =
           ∙ ap (λ s. start ++ s) h.text;
       tight_is = h.tight_is;
     }
+
+-- what is written is written from its front on
+pub record Further (now all : List ℕ) : Type 0 where
+  pub rest : List ℕ
+  pub whole : all ≡ now ++ rest
+
+doubled-append : (xs ys : List ℕ) → doubled (xs ++ ys) ≡ doubled xs ++ doubled ys
+doubled-append [] ys = refl
+doubled-append (x ∷ xs) ys = ap (λ s. twice x ++ s) (doubled-append xs ys) ∙ sym (append_assoc (twice x) (doubled xs) (doubled ys))
+
+-- a text up to some byte of its content is a front of the text
+pub quoted_front : (content old new : List ℕ) (i : ℕ) → new ≡ old ++ 39 ∷ doubled (take i content) → AddsFront old new (quoted content)
+quoted_front content old new i e =
+    let parts : doubled content ≡ doubled (take i content) ++ doubled (drop i content) = ap doubled (sym (take-append-drop i content)) ∙ doubled-append (take i content) (drop i content) in
+    record {
+      front = 39 ∷ doubled (take i content);
+      rest = doubled (drop i content) ++ 39 ∷ [];
+      whole = ap (λ s. 39 ∷ (s ++ 39 ∷ [])) parts ∙ ap (λ s. 39 ∷ s) (append_assoc (doubled (take i content)) (doubled (drop i content)) (39 ∷ []));
+      added = e;
+    }
+
+spelled_further : (tight : Bool) (s t u r : List ℕ) → t ≡ u ++ r → (if tight then s ++ t else 32 ∷ (s ++ t)) ≡ (if tight then s ++ u else 32 ∷ (s ++ u)) ++ r
+spelled_further true s t u r e = ap (λ x. s ++ x) e ∙ sym (append_assoc s u r)
+spelled_further false s t u r e = ap (λ x. 32 ∷ (s ++ x)) e ∙ ap (λ x. 32 ∷ x) (sym (append_assoc s u r))
+
+after_further : (x : Symbol) (ys zs : List Symbol) → Further (after x ys) (after x (ys ++ zs))
+after_further x [] zs = record { rest = after x zs; whole = refl }
+after_further x (y ∷ ys) zs =
+    let f = after_further y ys zs in
+    record { rest = f.rest; whole = spelled_further (opens x || closes y) (spelled y) (after y (ys ++ zs)) (after y ys) f.rest f.whole }
+
+spaced_further : (xs ys : List Symbol) → Further (spaced xs) (spaced (xs ++ ys))
+spaced_further [] ys = record { rest = spaced ys; whole = refl }
+spaced_further (x ∷ xs) ys =
+    let f = after_further x xs ys in
+    record { rest = f.rest; whole = ap (λ s. spelled x ++ s) f.whole ∙ sym (append_assoc (spelled x) (after x xs) f.rest) }
+
+-- so many symbols are a front of what is written
+pub spaced_take : (symbols : List Symbol) (i : ℕ) → Further (spaced (take i symbols)) (spaced symbols)
+spaced_take symbols i =
+    let f = spaced_further (take i symbols) (drop i symbols) in
+    record { rest = f.rest; whole = ap spaced (sym (take-append-drop i symbols)) ∙ f.whole }
+
+pub spaced_front : (symbols : List Symbol) (i : ℕ) (start out new : List ℕ) (tight : Bool) → MoreBehind symbols i start out tight → new ≡ out → AddsFront start new (spaced symbols)
+spaced_front symbols i start out new tight before e =
+    let f = spaced_take symbols i in
+    record { front = spaced (take i symbols); rest = f.rest; whole = f.whole; added = e ∙ before.text }
+
+-- with a space and a front of the next symbol
+pub symbol_front : (symbols : List Symbol) (i : ℕ) (z : Symbol) (start out o1 o2 : List ℕ) (tight : Bool) → i < length symbols → z ≡ get_or symbols i z → MoreBehind symbols i start out tight
+    → o1 ≡ out ++ (if not (tight || closes z) then 32 ∷ [] else []) → AddsFront o1 o2 (spelled z) → AddsFront start o2 (spaced symbols)
+symbol_front symbols i z start out o1 o2 tight l at before e1 a =
+    let space : List ℕ = if not (tight || closes z) then 32 ∷ [] else [] in
+    let written = spaced (take i symbols) in
+    let more : take (i + 1) symbols ≡ take i symbols ++ z ∷ [] = take_more symbols i z l ∙ ap (λ x. take i symbols ++ x ∷ []) (sym at) in
+    let next : spaced (take (i + 1) symbols) ≡ written ++ (space ++ spelled z) =
+    ap spaced more ∙ spaced_push (take i symbols) z ∙ ap (λ (b : Bool). written ++ ((if not (b || closes z) then 32 ∷ [] else []) ++ spelled z)) (sym before.tight_is) in
+    let f = spaced_take symbols (i + 1) in
+    let whole : spaced symbols ≡ ((written ++ space) ++ spelled z) ++ f.rest = f.whole ∙ ap (λ s. s ++ f.rest) (next ∙ sym (append_assoc written space (spelled z))) in
+    let mid : o1 ≡ start ++ (written ++ space) = e1 ∙ ap (λ s. s ++ space) before.text ∙ append_assoc start written space in
+    let h = adds_first start o2 ((written ++ space) ++ spelled z) f.rest (adds_later start o1 o2 (written ++ space) (spelled z) mid a) in
+    record { front = h.front; rest = h.rest; whole = whole ∙ h.whole; added = h.added }

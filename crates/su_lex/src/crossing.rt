@@ -2,6 +2,7 @@
 use crate::ends::LexEnd;
 use crate::kinds::{Token, TokenKind};
 use crate::meaning::Symbol;
+use crate::readers::Reader;
 use crate::signs::Sign;
 use crate::spans::Span;
 use su_base::crosses_threads;
@@ -13,4 +14,8 @@ fn types_cross_threads() {
     crosses_threads::<Token>();
     crosses_threads::<Symbol>();
     crosses_threads::<LexEnd>();
+}
+
+fn readers_cross_threads<'a>() {
+    crosses_threads::<Reader<'a>>();
 }

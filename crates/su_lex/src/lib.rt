@@ -3,7 +3,8 @@
 //! `cut` finds the pieces of a file that stand between its `;`, `tokens` the tokens of a piece. Both
 //! go over their bytes once, from the left. A token carries where it stands; of the text only the
 //! contents of quoted texts are copied. `symbols` gives the tokens with the bytes of their words, which
-//! a `Reader` goes through from the left and `push_spaced` writes. None of it knows the statements.
+//! a `Reader` goes through from the left, `push_word` and `push_sign` make, and `push_spaced` writes. None
+//! of it knows the statements.
 #![tactic(auto)]
 
 mod bytes;
@@ -17,6 +18,7 @@ mod laws;
 mod lexer;
 mod meaning;
 mod numbers;
+mod pushing;
 mod quoting;
 mod readers;
 mod signs;
@@ -33,6 +35,7 @@ pub use laws::{
 };
 pub use lexer::tokens;
 pub use meaning::{Symbol, symbols};
+pub use pushing::{push_sign, push_word};
 pub use readers::Reader;
 pub use signs::Sign;
 pub use spans::Span;

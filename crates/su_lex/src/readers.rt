@@ -1,5 +1,5 @@
 //! A reader over symbols: what grammars of statements are read with.
-ghost use Rattle.std.specs.Prelude.{◌≡◌, ℕ, ◌∷◌, ◌++◌, ◌<◌, ◌==◌, ◌↔◌, length, false, IfOk, IsTrue, IsErrOf, List as Items};
+ghost use Rattle.std.specs.Prelude.{◌≡◌, ℕ, ◌∷◌, ◌++◌, ◌<◌, ◌==◌, ◌↔◌, length, false, IfErr, IfOk, IsTrue, IsErrOf, OnErr, List as Items};
 ghost use Rattle.su_base.specs.Name.{IsName};
 ghost use Rattle.su_lex.specs.Names.{Begins, AreNames, names_symbols};
 ghost use Rattle.su_lex.specs.declared.meaning.Symbol.{Symbol as ASymbol};
@@ -56,6 +56,8 @@ impl<'a> Reader<'a> {
     pub fn expect_word(&mut self, word: &str) -> Result<(), LexEnd>
         ensures found { IfOk result (λ _. self.old.rest.now ≡ Symbol.Word word.now ∷ self.new.rest.now) }
         ensures syntax { IsErrOf result LexEnd.Syntax → ¬ (Begins (Symbol.Word word.now) self.old.rest.now) }
+        ensures refused { IfErr result (λ e. e ≡ LexEnd.Syntax) }
+        ensures unchanged { OnErr result (self.new.rest.now ≡ self.old.rest.now) }
     {
         if self.takes_word(word) {
             return Ok(());
@@ -67,6 +69,8 @@ impl<'a> Reader<'a> {
     pub fn expect_sign(&mut self, sign: Sign) -> Result<(), LexEnd>
         ensures found { IfOk result (λ _. self.old.rest.now ≡ Symbol.Sign sign ∷ self.new.rest.now) }
         ensures syntax { IsErrOf result LexEnd.Syntax → ¬ (Begins (Symbol.Sign sign) self.old.rest.now) }
+        ensures refused { IfErr result (λ e. e ≡ LexEnd.Syntax) }
+        ensures unchanged { OnErr result (self.new.rest.now ≡ self.old.rest.now) }
     {
         if self.takes_sign(sign) {
             return Ok(());
@@ -78,11 +82,13 @@ impl<'a> Reader<'a> {
     pub fn name(&mut self) -> Result<Str, LexEnd>
         ensures found { IfOk result (λ n. (self.old.rest.now ≡ Symbol.Word n ∷ self.new.rest.now) × IsName n) }
         ensures syntax { IsErrOf result LexEnd.Syntax → (n : Items ℕ) → IsName n → ¬ (Begins (Symbol.Word n) self.old.rest.now) }
+        ensures unchanged { OnErr result (self.new.rest.now ≡ self.old.rest.now) }
     {
         match self.rest {
             [Symbol::Word(w), behind @ ..] if is_name(w.as_str()) => {
+                let name = w.copy(self.alloc)?;
                 self.rest = behind;
-                Ok(w.copy(self.alloc)?)
+                Ok(name)
             }
             _ => Err(LexEnd::Syntax),
         }
@@ -94,6 +100,7 @@ impl<'a> Reader<'a> {
         ensures ends { IfOk result (λ _. ¬ (Begins (Symbol.Sign Sign.Comma) self.new.rest.now)) }
         ensures syntax { IsErrOf result LexEnd.Syntax → (ns : Items (Items ℕ)) (r : Items ASymbol) → AreNames ns → ¬ (Begins (Symbol.Sign Sign.Comma) r)
             → ¬ (self.old.rest.now ≡ names_symbols ns ++ r) }
+        ensures behind { OnErr result ((front : Items ASymbol) × (self.old.rest.now ≡ front ++ self.new.rest.now)) }
     {
         let mut names = List::new(self.alloc);
         names.push(self.name()?)?;
@@ -107,6 +114,7 @@ impl<'a> Reader<'a> {
     pub fn end(&self) -> Result<(), LexEnd>
         ensures found { IfOk result (λ _. length self.now.rest.now ≡ 0) }
         ensures syntax { IsErrOf result LexEnd.Syntax → 0 < length self.now.rest.now }
+        ensures refused { IfErr result (λ e. e ≡ LexEnd.Syntax) }
     {
         if self.rest.is_empty() {
             return Ok(());

@@ -1,5 +1,6 @@
 //! How symbols are written: one space between two, but for parentheses, commas and dots.
-ghost use Rattle.std.specs.Prelude.{◌≡◌, [], ◌∷◌, ◌++◌, ◌||◌, OnOk, not, if◌then◌else◌};
+ghost use Rattle.std.specs.Prelude.{◌≡◌, [], ◌∷◌, ◌++◌, ◌||◌, OnErr, OnOk, not, if◌then◌else◌};
+ghost use Rattle.su_lex.specs.Adding.{AddsFront};
 ghost use Rattle.su_lex.specs.Tokens.{quoted, sign_bytes, twice};
 ghost use Rattle.su_lex.specs.Symbols.{closes, opens, spaced, spelled};
 
@@ -27,14 +28,16 @@ fn closes(symbol: &Symbol) -> bool
 }
 
 fn push_bytes(out: &mut Vec<u8>, bytes: &[u8]) -> Result<(), NoMemory>
-    ensures { OnOk result (out.new.items ≡ out.old.items ++ bytes.now) }
+    ensures ok { OnOk result (out.new.items ≡ out.old.items ++ bytes.now) }
+    ensures unchanged { OnErr result (out.new.items ≡ out.old.items) }
 {
     out.extend_from_slice(bytes)?;
     Ok(())
 }
 
 fn push_twice(out: &mut Vec<u8>, b: u8) -> Result<(), NoMemory>
-    ensures { OnOk result (out.new.items ≡ out.old.items ++ twice b) }
+    ensures ok { OnOk result (out.new.items ≡ out.old.items ++ twice b) }
+    ensures unchanged { OnErr result (out.new.items ≡ out.old.items) }
 {
     if b == b'\'' {
         return push_bytes(out, b"''");
@@ -43,7 +46,8 @@ fn push_twice(out: &mut Vec<u8>, b: u8) -> Result<(), NoMemory>
 }
 
 fn push_quoted(out: &mut Vec<u8>, content: &[u8]) -> Result<(), NoMemory>
-    ensures { OnOk result (out.new.items ≡ out.old.items ++ quoted content.now) }
+    ensures ok { OnOk result (out.new.items ≡ out.old.items ++ quoted content.now) }
+    ensures front { OnErr result (AddsFront out.old.items out.new.items (quoted content.now)) }
 {
     push_bytes(out, b"'")?;
     for b in content {
@@ -72,7 +76,8 @@ fn bytes_of(sign: Sign) -> &'static [u8]
 
 /// Adds one symbol as it is written, at the end of `out`.
 pub fn push_symbol(alloc: Global, out: &mut Vec<u8>, symbol: &Symbol) -> Result<(), NoMemory>
-    ensures { OnOk result (out.new.items ≡ out.old.items ++ spelled symbol.now) }
+    ensures ok { OnOk result (out.new.items ≡ out.old.items ++ spelled symbol.now) }
+    ensures front { OnErr result (AddsFront out.old.items out.new.items (spelled symbol.now)) }
 {
     match symbol {
         Symbol::Word(word) => push_bytes(out, word.as_str().as_bytes()),
@@ -86,7 +91,8 @@ pub fn push_symbol(alloc: Global, out: &mut Vec<u8>, symbol: &Symbol) -> Result<
 }
 
 fn push_space_if(out: &mut Vec<u8>, wanted: bool) -> Result<(), NoMemory>
-    ensures { OnOk result (out.new.items ≡ out.old.items ++ (if wanted then 32 ∷ [] else [])) }
+    ensures ok { OnOk result (out.new.items ≡ out.old.items ++ (if wanted then 32 ∷ [] else [])) }
+    ensures unchanged { OnErr result (out.new.items ≡ out.old.items) }
 {
     if wanted {
         return push_bytes(out, b" ");
@@ -102,7 +108,8 @@ fn wants_space(tight: bool, symbol: &Symbol) -> bool
 
 /// Adds the symbols as they are written in shown statements, at the end of `out`.
 pub fn push_spaced(alloc: Global, out: &mut Vec<u8>, symbols: &[Symbol]) -> Result<(), NoMemory>
-    ensures { OnOk result (out.new.items ≡ out.old.items ++ spaced symbols.now) }
+    ensures ok { OnOk result (out.new.items ≡ out.old.items ++ spaced symbols.now) }
+    ensures front { OnErr result (AddsFront out.old.items out.new.items (spaced symbols.now)) }
 {
     let mut tight = true;
     for symbol in symbols {

@@ -11,7 +11,8 @@ use Rattle.su_query.specs.declared.conditions.NamedCond.{NamedCond}
 use Rattle.su_query.specs.declared.statements.Query.{Query as AQuery}
 use Rattle.su_query.specs.declared.statements.Statement.{Statement}
 use Rattle.su_query.specs.declared.statements.Statement.TheVariants.{Insert, Delete, DeleteWhere, Load, Print, Schema, Closure, Retrieve, Explain}
-use Rattle.su_query.specs.Lists.{Begins, Several, opens_second}
+use Rattle.su_lex.specs.Names.{Begins}
+use Rattle.su_query.specs.Lists.{Several, opens_second}
 use Rattle.su_query.specs.Grammar.{ReadsName, ReadsValue, ReadsRef, ReadsCond}
 use Rattle.su_query.specs.Mentions.{are_columns}
 use Rattle.su_query.specs.Forms as g

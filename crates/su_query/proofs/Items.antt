@@ -13,7 +13,7 @@ use Rattle.su_query.specs.declared.refs.NamedOperand.{NamedOperand}
 use Rattle.su_query.specs.declared.refs.NamedOperand.TheVariants.{Ref, Const}
 use Rattle.su_query.specs.declared.conditions.NamedCond.{NamedCond}
 use Rattle.su_query.specs.declared.conditions.NamedCond.TheVariants.{Compare}
-use Rattle.su_query.specs.Lists.{Begins}
+use Rattle.su_lex.specs.Names.{Begins}
 use Rattle.su_query.specs.Grammar.{value_sym, op_sym, qualified, IsVariable, ReadsName, ReadsValue, ReadsRef, ReadsOperand, ReadsComparison}
 
 pub record SameItem {A : Type 0} (a b : A) (r q : List Symbol) : Type 0 where
@@ -148,3 +148,7 @@ comparison_no_right s t u a o k e bad c r h =
     let f : (op_sym o ∷ u) ≡ (op_sym h.1 ∷ h.4) = sym e ∙ l.rest ∙ h.6 in
     let g : h.4 ≡ u = cc in
     bad h.2 r (subst (λ (x : List Symbol). ReadsOperand h.2 x r) g h.7)
+
+-- a name that doesn't begin the symbols isn't read from them
+pub no_name : (s : List Symbol) → ((n : List ℕ) → IsName n → ¬ (Begins (Word n) s)) → (n : List ℕ) (r : List Symbol) → ¬ (ReadsName n s r)
+no_name s bad n r h = bad n h.1 (r, h.0)

@@ -1,10 +1,14 @@
 -- Lists with commas: one item more, and the ways in which there is none.
-use Rattle.std.proofs.Common.{◌≡◌, List, [], ◌∷◌, ◌++◌, refl, ap, sym, ◌∙◌, subst, append-nil}
+use Rattle.std.proofs.Common.{◌≡◌, ℕ, List, [], ◌∷◌, ◌++◌, refl, ap, sym, ◌∙◌, subst, append-nil}
 use Rattle.su_lex.specs.declared.signs.Sign.TheVariants as sign
 use Rattle.su_lex.specs.declared.meaning.Symbol.{Symbol}
-use Rattle.su_lex.specs.declared.meaning.Symbol.TheVariants.{Sign}
+use Rattle.su_lex.specs.declared.meaning.Symbol.TheVariants.{Sign, Word}
 use Rattle.su_query.specs.Lists as g
-use Rattle.su_query.specs.Lists.{Begins, More, Several}
+use Rattle.std.specs.List.{AllByRecursion}
+use Rattle.su_base.specs.Name.{IsName}
+use Rattle.su_lex.specs.Names.{AreNames, Begins, more_names, names_symbols}
+use Rattle.su_query.specs.Grammar.{ReadsName}
+use Rattle.su_query.specs.Lists.{More, Several}
 use Rattle.su_query.proofs.Items.{SameItem}
 
 -- an item is read in one way
@@ -58,3 +62,36 @@ several_unique Item unique xs ys s r q h k =
     let p = unique h.0 k.0 s h.2 k.2 h.4 k.4 in
     let m = more_unique Item unique h.1 k.1 h.2 r q h.5 (subst (λ (x : List Symbol). More Item k.1 x q) (sym p.rest) k.5) in
     record { item = h.3 ∙ ap (λ x. x ∷ h.1) p.item ∙ ap (λ x. k.0 ∷ x) m.item ∙ sym k.3; rest = m.rest }
+
+-- ---- names, read by the reader of symbols
+
+more_of : (names : List (List ℕ)) (s r : List Symbol) → s ≡ more_names names ++ r → AllByRecursion IsName names → ¬ (Begins (Sign sign.Comma) r) → More ReadsName names s r
+more_of [] s r e are none = g.none [] s r refl e (subst (λ (x : List Symbol). ¬ (Begins (Sign sign.Comma) x)) (sym e) none)
+more_of (n ∷ names) s r e are none = g.more (n ∷ names) n names s (Word n ∷ (more_names names ++ r)) (more_names names ++ r) r refl e (refl, are.0) (more_of names (more_names names ++ r) r refl are.1 none)
+
+pub several_names : (names : List (List ℕ)) (s r : List Symbol) → (s ≡ names_symbols names ++ r) × AreNames names → ¬ (Begins (Sign sign.Comma) r) → Several ReadsName names s r
+several_names [] s r found none = absurd found.1
+several_names (n ∷ names) s r found none = (n, names, more_names names ++ r, refl, (found.0, found.1.0), more_of names (more_names names ++ r) r refl found.1.1 none)
+
+record AreMore (names : List (List ℕ)) (s r : List Symbol) : Type 0 where
+  whole : s ≡ more_names names ++ r
+  are : AllByRecursion IsName names
+  none : ¬ (Begins (Sign sign.Comma) r)
+
+are_more : (names : List (List ℕ)) (s r : List Symbol) → More ReadsName names s r → AreMore names s r
+are_more names s r (g.none _ _ _ e same none) =
+    record { whole = same ∙ ap (λ x. more_names x ++ r) (sym e); are = subst (AllByRecursion IsName) (sym e) tt; none = subst (λ (x : List Symbol). ¬ (Begins (Sign sign.Comma) x)) same none }
+are_more names s r (g.more _ n ns _ t u _ e w h hs) =
+    let m = are_more ns u r hs in
+    record {
+      whole = w ∙ ap (λ x. Sign sign.Comma ∷ x) (h.0 ∙ ap (λ x. Word n ∷ x) m.whole) ∙ ap (λ x. more_names x ++ r) (sym e);
+      are = subst (AllByRecursion IsName) (sym e) (h.1, m.are);
+      none = m.none;
+    }
+
+-- names that don't begin the symbols aren't read from them
+pub no_names : (s : List Symbol) → ((names : List (List ℕ)) (r : List Symbol) → AreNames names → ¬ (Begins (Sign sign.Comma) r) → ¬ (s ≡ names_symbols names ++ r)) → (names : List (List ℕ)) (r : List Symbol)
+    → ¬ (Several ReadsName names s r)
+no_names s bad names r h =
+    let m = are_more h.1 h.2 r h.5 in
+    bad (h.0 ∷ h.1) r (h.4.1, m.are) m.none (h.4.0 ∙ ap (λ x. Word h.0 ∷ x) m.whole)

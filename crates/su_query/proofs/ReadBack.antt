@@ -14,7 +14,8 @@ use Rattle.su_query.specs.declared.conditions.NamedCond.TheVariants.{All}
 use Rattle.su_query.specs.declared.statements.Query.{Query as AQuery}
 use Rattle.su_query.specs.declared.statements.Statement.{Statement}
 use Rattle.su_query.specs.Lists as l
-use Rattle.su_query.specs.Lists.{Begins, More, Several}
+use Rattle.su_lex.specs.Names.{Begins}
+use Rattle.su_query.specs.Lists.{More, Several}
 use Rattle.su_query.specs.Grammar.{ReadsName, ReadsValue, ReadsRef}
 use Rattle.su_query.specs.Forms as g
 use Rattle.su_query.specs.Forms.{RowForm, ConditionForm, FileForm, NamesForm, WhereForm, QueryForm, IsForm}

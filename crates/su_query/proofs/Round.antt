@@ -14,7 +14,7 @@ use Rattle.su_query.specs.declared.refs.NamedOperand.{NamedOperand}
 use Rattle.su_query.specs.declared.refs.NamedOperand.TheVariants.{Ref, Const}
 use Rattle.su_query.specs.declared.conditions.NamedCond.{NamedCond}
 use Rattle.su_query.specs.declared.conditions.NamedCond.TheVariants.{Compare, Not, All, Any}
-use Rattle.su_query.specs.Lists.{Begins}
+use Rattle.su_lex.specs.Names.{Begins}
 use Rattle.su_query.specs.Grammar as g
 use Rattle.su_query.specs.Grammar.{ReadsCond, ReadsOrs, ReadsConj, ReadsAnds, ReadsFactor, ReadsPrimary, ReadsComparison, ReadsOperand, ReadsRef, IsVariable, any_of, all_of, op_sym, qualified}
 use Rattle.su_query.specs.Shown.{ShownCond, shown_cond, cond_symbols, part, inner, in_parens, joined, ref_symbols, operand_symbols, is_nothing}

@@ -6,7 +6,7 @@ use Rattle.su_lex.specs.declared.meaning.Symbol.TheVariants.{Word, Sign}
 use Rattle.su_query.specs.declared.conditions.NamedCond.{NamedCond}
 use Rattle.su_query.specs.Grammar as g
 use Rattle.su_query.specs.Grammar.{ReadsCond, ReadsOrs, ReadsConj, ReadsAnds, ReadsFactor, ReadsPrimary, any_of, all_of}
-use Rattle.su_query.specs.Lists.{Begins}
+use Rattle.su_lex.specs.Names.{Begins}
 use Rattle.std.proofs.Common.{append-nil}
 use Rattle.su_query.specs.Grammar.{ReadsComparison}
 use Rattle.su_query.proofs.Items.{comparison_open}

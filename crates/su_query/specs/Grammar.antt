@@ -15,7 +15,7 @@ use Rattle.su_query.specs.declared.refs.NamedOperand.{NamedOperand}
 use Rattle.su_query.specs.declared.refs.NamedOperand.TheVariants.{Ref, Const}
 use Rattle.su_query.specs.declared.conditions.NamedCond.{NamedCond}
 use Rattle.su_query.specs.declared.conditions.NamedCond.TheVariants.{Compare, Not, All, Any}
-use Rattle.su_query.specs.Lists.{Begins}
+use Rattle.su_lex.specs.Names.{Begins}
 
 -- the symbol of a value
 abbrev pub value_sym : Value → Symbol

@@ -1,11 +1,9 @@
 -- Lists with commas: item { "," item }. "From s to r": the symbols s are that, and then r.
 use Rattle.std.specs.Prelude.{◌≡◌, Bool, true, false, List, [], ◌∷◌}
+use Rattle.su_lex.specs.Names.{Begins}
 use Rattle.su_lex.specs.declared.signs.Sign.TheVariants as sign
 use Rattle.su_lex.specs.declared.meaning.Symbol.{Symbol}
 use Rattle.su_lex.specs.declared.meaning.Symbol.TheVariants.{Word, Sign}
-
-abbrev pub Begins : Symbol → List Symbol → Type 0
-Begins x s = (t : List Symbol) × (s ≡ x ∷ t)
 
 -- { "," item }, as many as there are
 pub data More {A : Type 0} (Item : A → List Symbol → List Symbol → Type 0) : List A → List Symbol → List Symbol → Type 0 where

@@ -96,10 +96,6 @@ pub record IsColumnCondition (schema : SchemaValue) (r : ℕ) (c : NamedCond) : 
   pub known : first_unknown (names_in schema (Columns r)) (refs_of c) ≡ None
   pub kinds : differing_kinds schema (Columns r) (comparisons_of c) ≡ None
 
--- the condition with the numbers of the columns
-abbrev pub with_columns : SchemaValue → ℕ → NamedCond → Cond
-with_columns schema r c = numbered (λ ref. number_among (names_in schema (Columns r)) ref.attribute) c
-
 -- the first of these names that is not known
 abbrev pub first_unknown_name : List (List ℕ) → List (List ℕ) → Option (List ℕ)
 first_unknown_name known names = find (λ name. is_none (place_of known name)) names
@@ -125,6 +121,10 @@ places_of schema variables seen (ref ∷ refs) =
 abbrev pub number_in : SchemaValue → Scope → List (Option (List ℕ)) → List Place → ARef → ℕ
 number_in schema Attributes variables places ref = unwrap_or (position (same_place (place_in schema variables ref)) places) 0
 number_in schema (Columns r) variables places ref = number_among (names_in schema (Columns r)) ref.attribute
+
+-- the condition with the numbers of the columns
+abbrev pub with_columns : SchemaValue → ℕ → NamedCond → Cond
+with_columns schema r c = numbered (number_in schema (Columns r) [] []) c
 
 -- the places of a query, in the order of their first mention
 abbrev pub places_in : SchemaValue → Query → List Place

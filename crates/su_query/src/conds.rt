@@ -8,11 +8,10 @@ ghost use Rattle.su_query.specs.declared.refs.NamedOperand.{NamedOperand as AnOp
 ghost use Rattle.su_query.specs.declared.conditions.NamedCond.{NamedCond as ACond};
 
 use crate::conditions::NamedCond;
-use crate::faults::ReadEnd;
-use crate::reader::Reader;
+use crate::lists::{reference, value};
 use crate::refs::NamedOperand;
 use su_base::{Boxed, List};
-use su_lex::{Sign, Symbol};
+use su_lex::{LexEnd, Reader, Sign, Symbol};
 use su_where::Op;
 
 fn op_of(sign: Sign) -> Option<Op>
@@ -54,112 +53,110 @@ fn all_of(mut parts: List<NamedCond>) -> NamedCond
     }
 }
 
-impl<'a> Reader<'a> {
-    /// conj { "or" conj }
-    #[cycle(reader)]
-    pub(crate) fn cond(&mut self) -> Result<NamedCond, ReadEnd>
-        ensures found { IfOk result (λ c. ReadsCond c self.old.rest.now self.new.rest.now) }
-        ensures shorter { IfOk result (λ c. length self.new.rest.now < length self.old.rest.now) }
-        ensures syntax { IsErrOf result ReadEnd.Syntax → (c : ACond) (r : Items ASymbol) → ReadsCond c self.old.rest.now r → ⊥ }
-    {
-        let mut parts = List::new(self.alloc);
-        parts.push(self.conj()?)?;
-        while self.takes_word("or") {
-            parts.push(self.conj()?)?;
-        }
-        Ok(any_of(parts))
+/// conj { "or" conj }
+#[cycle(reader)]
+pub(crate) fn cond(reader: &mut Reader) -> Result<NamedCond, LexEnd>
+    ensures found { IfOk result (λ c. ReadsCond c reader.old.rest.now reader.new.rest.now) }
+    ensures shorter { IfOk result (λ c. length reader.new.rest.now < length reader.old.rest.now) }
+    ensures syntax { IsErrOf result LexEnd.Syntax → (c : ACond) (r : Items ASymbol) → ReadsCond c reader.old.rest.now r → ⊥ }
+{
+    let mut parts = List::new(reader.alloc);
+    parts.push(conj(reader)?)?;
+    while reader.takes_word("or") {
+        parts.push(conj(reader)?)?;
     }
+    Ok(any_of(parts))
+}
 
-    /// factor { "and" factor }
-    #[cycle(reader)]
-    fn conj(&mut self) -> Result<NamedCond, ReadEnd>
-        ensures found { IfOk result (λ c. ReadsConj c self.old.rest.now self.new.rest.now) }
-        ensures shorter { IfOk result (λ c. length self.new.rest.now < length self.old.rest.now) }
-        ensures syntax { IsErrOf result ReadEnd.Syntax → (c : ACond) (r : Items ASymbol) → ReadsConj c self.old.rest.now r → ⊥ }
-    {
-        let mut parts = List::new(self.alloc);
-        parts.push(self.factor()?)?;
-        while self.takes_word("and") {
-            parts.push(self.factor()?)?;
-        }
-        Ok(all_of(parts))
+/// factor { "and" factor }
+#[cycle(reader)]
+fn conj(reader: &mut Reader) -> Result<NamedCond, LexEnd>
+    ensures found { IfOk result (λ c. ReadsConj c reader.old.rest.now reader.new.rest.now) }
+    ensures shorter { IfOk result (λ c. length reader.new.rest.now < length reader.old.rest.now) }
+    ensures syntax { IsErrOf result LexEnd.Syntax → (c : ACond) (r : Items ASymbol) → ReadsConj c reader.old.rest.now r → ⊥ }
+{
+    let mut parts = List::new(reader.alloc);
+    parts.push(factor(reader)?)?;
+    while reader.takes_word("and") {
+        parts.push(factor(reader)?)?;
     }
+    Ok(all_of(parts))
+}
 
-    /// [ "not" ] primary
-    #[cycle(reader)]
-    fn factor(&mut self) -> Result<NamedCond, ReadEnd>
-        ensures found { IfOk result (λ c. ReadsFactor c self.old.rest.now self.new.rest.now) }
-        ensures shorter { IfOk result (λ c. length self.new.rest.now < length self.old.rest.now) }
-        ensures syntax { IsErrOf result ReadEnd.Syntax → (c : ACond) (r : Items ASymbol) → ReadsFactor c self.old.rest.now r → ⊥ }
-    {
-        if self.takes_word("not") {
-            let inner = self.primary()?;
-            return Ok(NamedCond::Not(Boxed::new(self.alloc, inner)?));
-        }
-        self.primary()
+/// [ "not" ] primary
+#[cycle(reader)]
+fn factor(reader: &mut Reader) -> Result<NamedCond, LexEnd>
+    ensures found { IfOk result (λ c. ReadsFactor c reader.old.rest.now reader.new.rest.now) }
+    ensures shorter { IfOk result (λ c. length reader.new.rest.now < length reader.old.rest.now) }
+    ensures syntax { IsErrOf result LexEnd.Syntax → (c : ACond) (r : Items ASymbol) → ReadsFactor c reader.old.rest.now r → ⊥ }
+{
+    if reader.takes_word("not") {
+        let inner = primary(reader)?;
+        return Ok(NamedCond::Not(Boxed::new(reader.alloc, inner)?));
     }
+    primary(reader)
+}
 
-    /// "(" cond ")", or a comparison
-    #[cycle(reader)]
-    fn primary(&mut self) -> Result<NamedCond, ReadEnd>
-        ensures found { IfOk result (λ c. ReadsPrimary c self.old.rest.now self.new.rest.now) }
-        ensures shorter { IfOk result (λ c. length self.new.rest.now < length self.old.rest.now) }
-        ensures syntax { IsErrOf result ReadEnd.Syntax → (c : ACond) (r : Items ASymbol) → ReadsPrimary c self.old.rest.now r → ⊥ }
-    {
-        if self.takes_sign(Sign::Open) {
-            let inner = self.cond()?;
-            if self.takes_sign(Sign::Close) {
-                return Ok(inner);
+/// "(" cond ")", or a comparison
+#[cycle(reader)]
+fn primary(reader: &mut Reader) -> Result<NamedCond, LexEnd>
+    ensures found { IfOk result (λ c. ReadsPrimary c reader.old.rest.now reader.new.rest.now) }
+    ensures shorter { IfOk result (λ c. length reader.new.rest.now < length reader.old.rest.now) }
+    ensures syntax { IsErrOf result LexEnd.Syntax → (c : ACond) (r : Items ASymbol) → ReadsPrimary c reader.old.rest.now r → ⊥ }
+{
+    if reader.takes_sign(Sign::Open) {
+        let inner = cond(reader)?;
+        if reader.takes_sign(Sign::Close) {
+            return Ok(inner);
+        }
+        return Err(LexEnd::Syntax);
+    }
+    comparison(reader)
+}
+
+/// operand op operand
+fn comparison(reader: &mut Reader) -> Result<NamedCond, LexEnd>
+    ensures found { IfOk result (λ c. ReadsComparison c reader.old.rest.now reader.new.rest.now) }
+    ensures shorter { IfOk result (λ c. length reader.new.rest.now < length reader.old.rest.now) }
+    ensures syntax { IsErrOf result LexEnd.Syntax → (c : ACond) (r : Items ASymbol) → ReadsComparison c reader.old.rest.now r → ⊥ }
+{
+    let left = operand(reader)?;
+    let op = operator(reader)?;
+    let right = operand(reader)?;
+    Ok(NamedCond::Compare { left, op, right })
+}
+
+fn operator(reader: &mut Reader) -> Result<Op, LexEnd>
+    ensures found { IfOk result (λ o. reader.old.rest.now ≡ op_sym o ∷ reader.new.rest.now) }
+    ensures syntax { IsErrOf result LexEnd.Syntax → (o : AnOp) (r : Items ASymbol) → ¬ (reader.old.rest.now ≡ op_sym o ∷ r) }
+{
+    match reader.rest {
+        [Symbol::Sign(sign), behind @ ..] => match op_of(*sign) {
+            Some(op) => {
+                reader.rest = behind;
+                Ok(op)
             }
-            return Err(ReadEnd::Syntax);
-        }
-        self.comparison()
+            None => Err(LexEnd::Syntax),
+        },
+        _ => Err(LexEnd::Syntax),
     }
+}
 
-    /// operand op operand
-    fn comparison(&mut self) -> Result<NamedCond, ReadEnd>
-        ensures found { IfOk result (λ c. ReadsComparison c self.old.rest.now self.new.rest.now) }
-        ensures shorter { IfOk result (λ c. length self.new.rest.now < length self.old.rest.now) }
-        ensures syntax { IsErrOf result ReadEnd.Syntax → (c : ACond) (r : Items ASymbol) → ReadsComparison c self.old.rest.now r → ⊥ }
-    {
-        let left = self.operand()?;
-        let op = self.operator()?;
-        let right = self.operand()?;
-        Ok(NamedCond::Compare { left, op, right })
+fn is_at_word(reader: &Reader) -> bool
+    ensures { result ≡ begins_word reader.now.rest.now }
+{
+    match reader.rest {
+        [Symbol::Word(_), ..] => true,
+        _ => false,
     }
+}
 
-    fn operator(&mut self) -> Result<Op, ReadEnd>
-        ensures found { IfOk result (λ o. self.old.rest.now ≡ op_sym o ∷ self.new.rest.now) }
-        ensures syntax { IsErrOf result ReadEnd.Syntax → (o : AnOp) (r : Items ASymbol) → ¬ (self.old.rest.now ≡ op_sym o ∷ r) }
-    {
-        match self.rest {
-            [Symbol::Sign(sign), behind @ ..] => match op_of(*sign) {
-                Some(op) => {
-                    self.rest = behind;
-                    Ok(op)
-                }
-                None => Err(ReadEnd::Syntax),
-            },
-            _ => Err(ReadEnd::Syntax),
-        }
+fn operand(reader: &mut Reader) -> Result<NamedOperand, LexEnd>
+    ensures found { IfOk result (λ a. ReadsOperand a reader.old.rest.now reader.new.rest.now) }
+    ensures syntax { IsErrOf result LexEnd.Syntax → (a : AnOperand) (r : Items ASymbol) → ¬ (ReadsOperand a reader.old.rest.now r) }
+{
+    if is_at_word(reader) {
+        return Ok(NamedOperand::Ref(reference(reader)?));
     }
-
-    fn is_at_word(&self) -> bool
-        ensures { result ≡ begins_word self.now.rest.now }
-    {
-        match self.rest {
-            [Symbol::Word(_), ..] => true,
-            _ => false,
-        }
-    }
-
-    fn operand(&mut self) -> Result<NamedOperand, ReadEnd>
-        ensures found { IfOk result (λ a. ReadsOperand a self.old.rest.now self.new.rest.now) }
-        ensures syntax { IsErrOf result ReadEnd.Syntax → (a : AnOperand) (r : Items ASymbol) → ¬ (ReadsOperand a self.old.rest.now r) }
-    {
-        if self.is_at_word() {
-            return Ok(NamedOperand::Ref(self.reference()?));
-        }
-        Ok(NamedOperand::Const(self.value()?))
-    }
+    Ok(NamedOperand::Const(value(reader)?))
 }

@@ -1,7 +1,6 @@
 //! Why a text is no statement, or a statement's names are not found.
 ghost use Rattle.std.specs.Prelude.{◌≡◌};
 ghost use Rattle.su_query.specs.declared.faults.QueryFault.TheVariants.{NoMemory as OutOfMemory};
-ghost use Rattle.su_query.specs.declared.faults.ReadEnd.TheVariants.{NoMemory as NoMoreMemory};
 
 use std::alloc::{AllocError, AllocFailed};
 use su_base::{Kind, NoMemory, Str};
@@ -32,7 +31,8 @@ pub enum QueryFault {
 /// Of what there may not be more.
 #[derive(Clone, Copy, PartialEq, Eq, Debug)]
 pub enum QueryLimit {
-    /// 64 open parentheses.
+    /// 64: in some front of the statement there are over 64 more `(` than `)`. A `)` without a partner
+    /// counts too.
     Nesting,
     /// 8 tuple variables, the blank one among them where it occurs.
     Variables,
@@ -63,28 +63,5 @@ impl<T: Drop> From<(T, NoMemory)> for QueryFault {
 
     fn from(_: (T, NoMemory)) -> QueryFault {
         QueryFault::NoMemory
-    }
-}
-
-/// Why symbols are of no form.
-#[derive(Clone, Copy, PartialEq, Eq, Debug)]
-pub(crate) enum ReadEnd {
-    Syntax,
-    NoMemory,
-}
-
-impl From<NoMemory> for ReadEnd {
-    ghost from_gives = { λ _ e. e ≡ NoMoreMemory };
-
-    fn from(_: NoMemory) -> ReadEnd {
-        ReadEnd::NoMemory
-    }
-}
-
-impl<T: Drop> From<(T, NoMemory)> for ReadEnd {
-    ghost from_gives = { λ _ e. e ≡ NoMoreMemory };
-
-    fn from(_: (T, NoMemory)) -> ReadEnd {
-        ReadEnd::NoMemory
     }
 }

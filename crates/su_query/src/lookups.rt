@@ -8,6 +8,7 @@ use crate::conditions::NamedCond;
 use crate::refs::{NamedOperand, Ref};
 use crate::scopes::{Scope, find, kind};
 use std::alloc::Global;
+use std::slice;
 use su_base::{Kind, NoMemory, Str};
 use su_schema::Schema;
 
@@ -40,10 +41,7 @@ fn unknown_operand(
 {
     match operand {
         NamedOperand::Ref(reference) => {
-            if find(schema, scope, reference.attribute.as_str()).is_none() {
-                return Ok(Some(reference.attribute.copy(alloc)?));
-            }
-            Ok(None)
+            unknown_among(alloc, schema, scope, slice::from_ref(reference))
         }
         NamedOperand::Const(_) => Ok(None),
     }
@@ -97,9 +95,10 @@ fn unknown_in_all(
 fn differing(left: Kind, right: Kind) -> Option<(Kind, Kind)>
     ensures { result ≡ (if same_kind left right then None else Some (left, right)) }
 {
-    match (left, right) {
-        (Kind::Int, Kind::Int) | (Kind::Text, Kind::Text) => None,
-        _ => Some((left, right)),
+    if left == right {
+        None
+    } else {
+        Some((left, right))
     }
 }
 

@@ -6,7 +6,7 @@ ghost use Rattle.su_query.specs.Shown.{name_symbols, value_symbols, ref_symbols,
 use crate::refs::{NamedOperand, Ref};
 use std::alloc::Global;
 use su_base::{List, NoMemory, Str, Value};
-use su_lex::{Sign, Symbol};
+use su_lex::{Sign, Symbol, push_sign, push_word};
 use su_where::Op;
 
 fn op_symbol(op: Op) -> Symbol
@@ -31,13 +31,6 @@ fn value_symbol(alloc: Global, value: &Value) -> Result<Symbol, NoMemory>
     }
 }
 
-pub(crate) fn push_word(alloc: Global, out: &mut List<Symbol>, word: &str) -> Result<(), NoMemory>
-    ensures { OnOk result (out.new ≡ out.old ++ Symbol.Word word.now ∷ []) }
-{
-    out.push(Symbol::Word(Str::new(alloc, word)?))?;
-    Ok(())
-}
-
 pub(crate) fn push_word_if(
     alloc: Global,
     out: &mut List<Symbol>,
@@ -49,13 +42,6 @@ pub(crate) fn push_word_if(
     if wanted {
         return push_word(alloc, out, word);
     }
-    Ok(())
-}
-
-pub(crate) fn push_sign(out: &mut List<Symbol>, sign: Sign) -> Result<(), NoMemory>
-    ensures { OnOk result (out.new ≡ out.old ++ Symbol.Sign sign ∷ []) }
-{
-    out.push(Symbol::Sign(sign))?;
     Ok(())
 }
 
@@ -83,7 +69,11 @@ fn push_value(alloc: Global, out: &mut List<Symbol>, value: &Value) -> Result<()
 }
 
 /// Adds a ref, its variable and a dot before it where it has one, at the end of `out`.
-pub fn push_ref(alloc: Global, out: &mut List<Symbol>, reference: &Ref) -> Result<(), NoMemory>
+pub(crate) fn push_ref(
+    alloc: Global,
+    out: &mut List<Symbol>,
+    reference: &Ref,
+) -> Result<(), NoMemory>
     ensures { OnOk result (out.new ≡ out.old ++ ref_symbols reference.now) }
 {
     match &reference.variable {

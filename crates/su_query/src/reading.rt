@@ -3,13 +3,13 @@ ghost use Rattle.std.specs.Prelude.{◌≡◌, IfOk, IfErr};
 ghost use Rattle.su_query.specs.Reading.{IsStatement, AreFew, IsReady, IsRefusal, outputs_of, condition_of};
 ghost use Rattle.su_query.specs.declared.statements.Statement.{Statement as AStatement};
 
-use crate::faults::{QueryFault, QueryLimit, ReadEnd};
+use crate::faults::{QueryFault, QueryLimit};
+use crate::forms::statement;
 use crate::limits::check_limits;
 use crate::nesting::nests_too_deep;
-use crate::reader::Reader;
 use crate::statements::Statement;
 use std::alloc::Global;
-use su_lex::LexEnd;
+use su_lex::{LexEnd, Reader};
 
 fn read_form(alloc: Global, text: &[u8]) -> Result<Statement, QueryFault>
     ensures found { IfOk result (IsStatement text.now) }
@@ -27,17 +27,17 @@ fn read_form(alloc: Global, text: &[u8]) -> Result<Statement, QueryFault>
         alloc,
         rest: symbols.as_slice(),
     };
-    match reader.statement() {
+    match statement(&mut reader) {
         Ok(statement) => Ok(statement),
-        Err(ReadEnd::Syntax) => Err(QueryFault::Syntax),
-        Err(ReadEnd::NoMemory) => Err(QueryFault::NoMemory),
+        Err(LexEnd::Syntax) => Err(QueryFault::Syntax),
+        Err(LexEnd::NoMemory) => Err(QueryFault::NoMemory),
     }
 }
 
 /// The statement that the text is. Linear in the length of the text.
 ///
-/// The causes of a refusal are tried in this order: no tokens, parentheses more than 64 deep, no
-/// form, more than 8 variables, 128 outputs, 256 comparisons. `Unknown`, `UnknownColumn` and `Kinds`
+/// The causes of a refusal are tried in this order: no tokens, over 64 more `(` than `)` in some front
+/// of the statement, no form, more than 8 variables, 128 outputs, 256 comparisons. `Unknown`, `UnknownColumn` and `Kinds`
 /// never come here: names are looked up by the `resolve` calls.
 pub fn read(alloc: Global, text: &[u8]) -> Result<Statement, QueryFault>
     ensures found { IfOk result (IsStatement text.now) }

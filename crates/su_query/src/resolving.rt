@@ -3,21 +3,21 @@ ghost use Rattle.su_query.specs.Lookup.{resolved_of, IsKnownQuery, IsQueryRefusa
 ghost use Rattle.std.specs.Prelude.{◌≡◌, ◌≤◌, [], length, map, IfOk, IfErr, OnOk};
 ghost use Rattle.su_query.specs.Mentions.{variables_of, all_refs};
 ghost use Rattle.su_query.specs.Reading.{AreFew};
-ghost use Rattle.su_query.specs.Lookup.{number_in, numbered, numbered_operand, places_of};
+ghost use Rattle.su_query.specs.Lookup.{number_in, places_of};
 ghost use Rattle.su_query.specs.Ranges.{IsResolved};
 
-use crate::conditions::NamedCond;
 use crate::faults::QueryFault;
 use crate::lookups::{differing_in, unknown_among, unknown_in};
-use crate::places::{Place, find_place, place_of};
-use crate::refs::{NamedOperand, Ref};
+use crate::numbering::{number, numbered};
+use crate::places::Place;
+use crate::refs::Ref;
 use crate::scopes::Scope;
 use crate::statements::Query;
 use crate::{mentions, places};
 use std::alloc::Global;
-use su_base::{Boxed, List, NoMemory, Str};
+use su_base::{List, NoMemory, Str};
 use su_schema::Schema;
-use su_where::{Cond, Literal, Operand};
+use su_where::Cond;
 
 /// A query whose names are numbers. Variables and places stand in the order of their first mention,
 /// the outputs first; an output and a `Place` of the condition are the number of a place.
@@ -27,17 +27,6 @@ pub struct Resolved {
     pub places: List<Place>,
     pub outputs: List<u16>,
     pub cond: Cond,
-}
-
-fn number(schema: &Schema, variables: &[Option<Str>], places: &[Place], reference: &Ref) -> u16
-    requires variables { length variables.now ≤ 8 }
-    requires places { length places.now ≤ 640 }
-    ensures { result ≡ number_in schema.now Scope.Attributes variables.now places.now reference.now }
-{
-    match find_place(places, &place_of(schema, variables, reference)) {
-        Some(i) => i as u16,
-        None => 0,
-    }
 }
 
 fn numbers(
@@ -53,91 +42,9 @@ fn numbers(
 {
     let mut numbers = List::new(alloc);
     for reference in references {
-        numbers.push(number(schema, variables, places, reference))?;
+        numbers.push(number(schema, Scope::Attributes, variables, places, reference))?;
     }
     Ok(numbers)
-}
-
-fn numbered_operand(
-    alloc: Global,
-    schema: &Schema,
-    variables: &[Option<Str>],
-    places: &[Place],
-    operand: &NamedOperand,
-) -> Result<Operand, NoMemory>
-    requires variables { length variables.now ≤ 8 }
-    requires places { length places.now ≤ 640 }
-    ensures { IfOk result (λ o. o ≡ numbered_operand (number_in schema.now Scope.Attributes variables.now places.now) operand.now) }
-{
-    match operand {
-        NamedOperand::Ref(reference) => Ok(Operand::Place(number(
-            schema, variables, places, reference,
-        ))),
-        NamedOperand::Const(value) => Ok(Operand::Const(value.copy(alloc)?)),
-    }
-}
-
-#[cycle(numbered)]
-#[tactic(auto, using(crate::proofs::Found::layers))]
-fn numbered(
-    alloc: Global,
-    schema: &Schema,
-    variables: &[Option<Str>],
-    places: &[Place],
-    cond: &NamedCond,
-) -> Result<Cond, NoMemory>
-    requires variables { length variables.now ≤ 8 }
-    requires places { length places.now ≤ 640 }
-    ensures { IfOk result (λ c. c ≡ numbered (number_in schema.now Scope.Attributes variables.now places.now) cond.now) }
-{
-    match cond {
-        NamedCond::Compare { left, op, right } => {
-            let left = numbered_operand(alloc, schema, variables, places, left)?;
-            let right = numbered_operand(alloc, schema, variables, places, right)?;
-            Ok(Cond::Compare(Literal {
-                left,
-                op: *op,
-                right,
-            }))
-        }
-        NamedCond::Not(part) => Ok(Cond::Not(Boxed::new(
-            alloc,
-            numbered(alloc, schema, variables, places, part.get())?,
-        )?)),
-        NamedCond::All(parts) => Ok(Cond::All(numbered_all(
-            alloc,
-            schema,
-            variables,
-            places,
-            parts.as_slice(),
-        )?)),
-        NamedCond::Any(parts) => Ok(Cond::Any(numbered_all(
-            alloc,
-            schema,
-            variables,
-            places,
-            parts.as_slice(),
-        )?)),
-    }
-}
-
-#[cycle(numbered)]
-fn numbered_all(
-    alloc: Global,
-    schema: &Schema,
-    variables: &[Option<Str>],
-    places: &[Place],
-    parts: &[NamedCond],
-) -> Result<List<Cond>, NoMemory>
-    requires variables { length variables.now ≤ 8 }
-    requires places { length places.now ≤ 640 }
-    ensures { IfOk result (λ cs. cs ≡ map (numbered (number_in schema.now Scope.Attributes variables.now places.now)) parts.now) }
-{
-    let mut conds = List::new(alloc);
-    for part in parts {
-        conds.push(numbered(alloc, schema, variables, places, part)?)?;
-    }
-    Ok(conds)
 }
 
 /// The query over numbers.
@@ -213,6 +120,7 @@ fn made(alloc: Global, schema: &Schema, query: &Query) -> Result<Resolved, NoMem
     let cond = numbered(
         alloc,
         schema,
+        Scope::Attributes,
         variables.as_slice(),
         places.as_slice(),
         &query.cond,

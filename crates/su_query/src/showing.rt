@@ -6,13 +6,12 @@ ghost use Rattle.su_query.specs.Shown.{cond_symbols, in_parens, is_nothing, join
 
 use crate::conditions::NamedCond;
 use crate::pushing::{
-    push_names, push_op, push_operand, push_refs, push_sign, push_sign_if, push_values, push_word,
-    push_word_if,
+    push_names, push_op, push_operand, push_refs, push_sign_if, push_values, push_word_if,
 };
 use crate::statements::{Query, Statement};
 use std::alloc::Global;
 use su_base::{List, NoMemory, Str, Value};
-use su_lex::{Sign, Symbol, push_spaced};
+use su_lex::{Sign, Symbol, push_sign, push_spaced, push_word};
 
 fn is_many(cond: &NamedCond) -> bool
     ensures { result ≡ (shown_cond cond.now).many }
@@ -208,8 +207,8 @@ pub fn show_query(alloc: Global, query: &Query) -> Result<List<u8>, NoMemory>
     text_of(alloc, symbols.as_slice())
 }
 
-/// The text of the statement, with one space between tokens and the fewest parentheses that the
-/// rules of shown conditions give.
+/// The text of the statement, with one space between two tokens, but none behind `(`, before `)` or a
+/// comma, or beside a dot, and with the fewest parentheses that the rules of shown conditions give.
 ///
 /// It may nest deeper than the text that the statement was read from, since parts that `and` and
 /// `or` grouped by themselves are shown in parentheses.

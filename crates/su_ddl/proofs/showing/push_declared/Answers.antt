@@ -9,4 +9,4 @@ loop-set-preserved c =
     let at = listed_at (maximal_definition schema) schema.declared c.declared-set-items.result.now c.loop-set.set-index c.set-item.result c.in_ok-definition.definition c.declared-set-items.ensures c.loop-set-test.true
     (c.in_ok-definition.ensures ∙ ap (maximal_definition schema) c.set-item.is) in
     one_line (map (maximal_definition schema) schema.declared) c.loop-set.set-index c.in_ok-definition.definition c.args.out.now.items c.loop-set.out.items c.push_line.new.out.items at
-    c.loop-set.invariant c.in_ok-push_line.ensures
+    c.loop-set.invariant c.in_ok-push_line.ensures.ok

@@ -4,4 +4,4 @@ use Rattle.su_ddl.proofs.spelling.push_more_columns.Goals as goal
 pub loop-column-preserved : goal.loop-column-preserved
 loop-column-preserved c =
     one_column c.args.columns.now c.loop-column.column-index c.column-item.result c.column-item.result c.args.out.now c.loop-column.out c.push_sign.new.out c.push_column.new.out c.loop-column-test.true
-    c.column-item.is c.loop-column.invariant c.in_ok-push_sign.ensures c.in_ok-push_column.ensures
+    c.column-item.is c.loop-column.invariant c.in_ok-push_sign.ensures.ok c.in_ok-push_column.ensures

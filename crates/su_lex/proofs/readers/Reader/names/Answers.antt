@@ -1,9 +1,10 @@
-use Rattle.std.proofs.Common.{◌≡◌, ◌∷◌, refl, ap, ◌∙◌, Err}
+use Rattle.std.proofs.Common.{◌≡◌, ◌∷◌, [], refl, ap, sym, ◌∙◌, Err}
 use Rattle.std.proofs.lemmas.Result.{err_from_is_err_and}
+use Rattle.su_lex.specs.Names.{names_symbols}
 use Rattle.su_lex.specs.declared.ends.LexEnd.TheVariants.{Syntax}
 use Rattle.su_lex.specs.declared.signs.Sign.TheVariants as sign
-use Rattle.su_lex.specs.declared.meaning.Symbol.TheVariants.{Sign}
-use Rattle.su_lex.proofs.Listed.{names_push, are_push, no_name}
+use Rattle.su_lex.specs.declared.meaning.Symbol.TheVariants.{Sign, Word}
+use Rattle.su_lex.proofs.Listed.{names_push, are_push, further, no_name}
 use Rattle.su_lex.proofs.readers.Reader.names.Goals as goal
 
 pub returns-in_err-name-2-clause-syntax : goal.returns-in_err-name-2-clause-syntax
@@ -23,3 +24,21 @@ loop-names-preserved c =
           (here ∙ ap (λ x. Sign sign.Comma ∷ x) c.in_ok-name-2.ensures.found.0));
       are = rw c.in_ok-push-2.ensures.ok (are_push c.loop-names.names n c.loop-names.invariant.are c.in_ok-name-2.ensures.found.1);
     }
+
+pub returns-in_err-push-clause-behind : goal.returns-in_err-push-clause-behind
+returns-in_err-push-clause-behind c =
+    let p = err_from_is_err_and c.from_residual-in_err-push.result c.from_residual-in_err-push.ensures.1 in
+    rw p.1 (Word c.in_ok-name.field-0 ∷ [], c.in_ok-name.ensures.found.0)
+
+pub returns-in_err-name-2-clause-behind : goal.returns-in_err-name-2-clause-behind
+returns-in_err-name-2-clause-behind c =
+    let p = err_from_is_err_and c.from_residual-in_err-name-2.result c.from_residual-in_err-name-2.ensures.1 in
+    let here = c.loop-names-test.ensures.yes refl ∙ ap (λ x. Sign sign.Comma ∷ x) (sym c.in_err-name-2.ensures.unchanged) in
+    rw p.1 (further (names_symbols c.loop-names.names) (Sign sign.Comma ∷ []) c.args.self.now.rest.now c.loop-names.self.rest.now c.name-in-loop-names.new.self.rest.now c.loop-names.invariant.whole here)
+
+pub returns-in_err-push-2-clause-behind : goal.returns-in_err-push-2-clause-behind
+returns-in_err-push-2-clause-behind c =
+    let p = err_from_is_err_and c.from_residual-in_err-push-2.result c.from_residual-in_err-push-2.ensures.1 in
+    let n = c.in_ok-name-2.field-0 in
+    let here = c.loop-names-test.ensures.yes refl ∙ ap (λ x. Sign sign.Comma ∷ x) c.in_ok-name-2.ensures.found.0 in
+    rw p.1 (further (names_symbols c.loop-names.names) (Sign sign.Comma ∷ Word n ∷ []) c.args.self.now.rest.now c.loop-names.self.rest.now c.name-in-loop-names.new.self.rest.now c.loop-names.invariant.whole here)

@@ -1,0 +1,17 @@
+use Rattle.std.proofs.Common.{◌≡◌, sym, ap, Err}
+use Rattle.std.proofs.lemmas.Result.{err_from_is_err_and}
+use Rattle.su_lex.specs.declared.ends.LexEnd.TheVariants.{Syntax}
+use Rattle.su_query.proofs.Exits.{condition_no_end, condition_no_columns}
+use Rattle.su_query.proofs.forms.condition_form.Goals as goal
+
+pub returns-in_err-expect_end-clause-syntax : goal.returns-in_err-expect_end-clause-syntax
+returns-in_err-expect_end-clause-syntax c =
+    let p = err_from_is_err_and c.from_residual-in_err-expect_end.result c.from_residual-in_err-expect_end.ensures.1 in
+    rw (p.1, p.2) (λ s relation cond f.
+    let h : c.in_err-expect_end.field-0.0 ≡ Syntax = cc in
+    let bad = c.in_err-expect_end.ensures.syntax (ap Err h) in
+    condition_no_end c.args.reader.now.rest.now c.name.new.self.rest.now c.expect_word.new.self.rest.now c.cond.new.reader.rest.now c.in_ok-relation.relation c.in_ok-cond.cond c.in_ok-relation.ensures.found.0 c.in_ok-expect_word.ensures.found c.in_ok-cond.ensures.found bad relation cond f)
+
+pub returns-then-not-are_columns-clause-syntax : goal.returns-then-not-are_columns-clause-syntax
+returns-then-not-are_columns-clause-syntax c =
+    λ s relation cond f. condition_no_columns c.args.reader.now.rest.now c.name.new.self.rest.now c.expect_word.new.self.rest.now c.cond.new.reader.rest.now c.in_ok-relation.relation c.in_ok-cond.cond c.in_ok-relation.ensures.found.0 c.in_ok-expect_word.ensures.found c.in_ok-cond.ensures.found (sym c.if-not-are_columns.ensures) relation cond f

@@ -1,0 +1,15 @@
+use Rattle.std.proofs.Common.{◌≡◌, ◌++◌, length, List}
+use Rattle.su_lex.specs.declared.meaning.Symbol.{Symbol}
+use Rattle.su_query.specs.declared.refs.Ref.{Ref}
+use Rattle.su_query.specs.Lists.{More, Several}
+use Rattle.su_query.specs.Grammar.{ReadsRef}
+use Rattle.su_query.proofs.lists.references.Given as goal
+
+abbrev pub invariant-loop-references : goal.invariant-loop-references
+invariant-loop-references l = record {
+  before : (more : List Ref) (r : List Symbol) → More ReadsRef more l.reader.rest.now r → Several ReadsRef (l.references ++ more) l.fn.reader.rest.now r;
+  only : (all : List Ref) (r : List Symbol) → Several ReadsRef all l.fn.reader.rest.now r → (more : List Ref) × (all ≡ l.references ++ more) × More ReadsRef more l.reader.rest.now r;
+}
+
+abbrev pub decreases-loop-references : goal.decreases-loop-references
+decreases-loop-references l = length l.reader.rest.now

@@ -1,9 +1,0 @@
-use Rattle.std.proofs.Common.{◌∷◌, refl, ap, codes}
-use Rattle.su_lex.specs.declared.meaning.Symbol.TheVariants.{Word}
-use Rattle.su_query.specs.Forms as g
-use Rattle.su_query.specs.Forms.{QueryForm}
-use Rattle.su_query.proofs.reader.Reader.schema.Goals as goal
-
-pub returns-clause-found : goal.returns-clause-found
-returns-clause-found c =
-    g.schema _ _ refl (ap (λ x. Word (codes "schema") ∷ x) c.in_ok-expect_end.ensures.found)

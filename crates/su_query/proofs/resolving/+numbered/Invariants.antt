@@ -1,7 +1,0 @@
-use Rattle.std.proofs.Common.{◌≡◌, map, take}
-use Rattle.su_query.specs.declared.scopes.Scope.TheVariants.{Attributes}
-use Rattle.su_query.specs.Lookup.{number_in, numbered}
-use Rattle.su_query.proofs.resolving.+numbered.Given as goal
-
-abbrev pub invariant-numbered_all-loop-part : goal.invariant-numbered_all-loop-part
-invariant-numbered_all-loop-part l = l.conds ≡ map (numbered (number_in l.schema Attributes l.variables l.places)) (take l.part-index l.parts)

@@ -1,0 +1,109 @@
+//! Values, texts and refs, lists of them, and the end of a statement.
+ghost use Rattle.std.specs.Prelude.{◌≡◌, ℕ, ◌∷◌, [], false, IfOk, OnOk, IsTrue, IsErrOf, List as Items};
+ghost use Rattle.su_base.specs.declared.values.Value.{Value as AValue};
+ghost use Rattle.su_query.specs.Lists.{Several};
+ghost use Rattle.su_query.specs.Grammar.{ReadsValue, ReadsRef};
+ghost use Rattle.su_lex.specs.declared.meaning.Symbol.{Symbol as ASymbol};
+ghost use Rattle.su_query.specs.declared.refs.Ref.{Ref as ARef};
+
+use crate::refs::Ref;
+use su_base::{List, Str, Value};
+use su_lex::{LexEnd, Reader, Sign, Symbol};
+
+pub(crate) fn is_at_end(reader: &Reader) -> bool
+    ensures yes { IsTrue result → reader.now.rest.now ≡ [] }
+    ensures no { result ≡ false → ¬ (reader.now.rest.now ≡ []) }
+{
+    match reader.rest {
+        [] => true,
+        [_, ..] => false,
+    }
+}
+
+/// Nothing is left.
+pub(crate) fn expect_end(reader: &Reader) -> Result<(), LexEnd>
+    ensures found { OnOk result (reader.now.rest.now ≡ []) }
+    ensures syntax { IsErrOf result LexEnd.Syntax → ¬ (reader.now.rest.now ≡ []) }
+{
+    reader.end()
+}
+
+pub(crate) fn value(reader: &mut Reader) -> Result<Value, LexEnd>
+    ensures found { IfOk result (λ v. ReadsValue v reader.old.rest.now reader.new.rest.now) }
+    ensures syntax { IsErrOf result LexEnd.Syntax → (v : AValue) (r : Items ASymbol) → ¬ (ReadsValue v reader.old.rest.now r) }
+{
+    match reader.rest {
+        [Symbol::Int(n), behind @ ..] => {
+            reader.rest = behind;
+            Ok(Value::Int(*n))
+        }
+        [Symbol::Text(content), behind @ ..] => {
+            let content = content.copy(reader.alloc)?;
+            reader.rest = behind;
+            Ok(Value::Text(content))
+        }
+        _ => Err(LexEnd::Syntax),
+    }
+}
+
+pub(crate) fn text(reader: &mut Reader) -> Result<Str, LexEnd>
+    ensures found { IfOk result (λ content. reader.old.rest.now ≡ Symbol.Text content ∷ reader.new.rest.now) }
+    ensures syntax { IsErrOf result LexEnd.Syntax → (content : Items ℕ) (r : Items ASymbol) → ¬ (reader.old.rest.now ≡ Symbol.Text content ∷ r) }
+{
+    match reader.rest {
+        [Symbol::Text(content), behind @ ..] => {
+            let content = content.copy(reader.alloc)?;
+            reader.rest = behind;
+            Ok(content)
+        }
+        _ => Err(LexEnd::Syntax),
+    }
+}
+
+/// `A` or `t.A`
+pub(crate) fn reference(reader: &mut Reader) -> Result<Ref, LexEnd>
+    ensures found { IfOk result (λ ref. ReadsRef ref reader.old.rest.now reader.new.rest.now) }
+    ensures syntax { IsErrOf result LexEnd.Syntax → (ref : ARef) (r : Items ASymbol) → ¬ (ReadsRef ref reader.old.rest.now r) }
+{
+    let first = reader.name()?;
+    if !reader.takes_sign(Sign::Dot) {
+        return Ok(Ref {
+            variable: None,
+            attribute: first,
+        });
+    }
+    let attribute = reader.name()?;
+    if reader.takes_sign(Sign::Dot) {
+        return Err(LexEnd::Syntax);
+    }
+    Ok(Ref {
+        variable: Some(first),
+        attribute,
+    })
+}
+
+/// value { "," value }
+pub(crate) fn values(reader: &mut Reader) -> Result<List<Value>, LexEnd>
+    ensures found { IfOk result (λ vs. Several ReadsValue vs reader.old.rest.now reader.new.rest.now) }
+    ensures syntax { IsErrOf result LexEnd.Syntax → (vs : Items AValue) (r : Items ASymbol) → ¬ (Several ReadsValue vs reader.old.rest.now r) }
+{
+    let mut values = List::new(reader.alloc);
+    values.push(value(reader)?)?;
+    while reader.takes_sign(Sign::Comma) {
+        values.push(value(reader)?)?;
+    }
+    Ok(values)
+}
+
+/// ref { "," ref }
+pub(crate) fn references(reader: &mut Reader) -> Result<List<Ref>, LexEnd>
+    ensures found { IfOk result (λ refs. Several ReadsRef refs reader.old.rest.now reader.new.rest.now) }
+    ensures syntax { IsErrOf result LexEnd.Syntax → (refs : Items ARef) (r : Items ASymbol) → ¬ (Several ReadsRef refs reader.old.rest.now r) }
+{
+    let mut references = List::new(reader.alloc);
+    references.push(reference(reader)?)?;
+    while reader.takes_sign(Sign::Comma) {
+        references.push(reference(reader)?)?;
+    }
+    Ok(references)
+}
