@@ -11,7 +11,8 @@ use Rattle.su_base.specs.declared.values.Kind.TheVariants.{Int as IntKind, Text 
 use Rattle.su_csv.specs.declared.faults.CsvFault.{CsvFault}
 use Rattle.su_csv.specs.declared.faults.CsvFault.TheVariants.{Width, NotInt, NotText}
 use Rattle.su_csv.specs.Field.{value_of}
-use Rattle.su_csv.specs.Record.{place_without, record_limit, row_of, row_or_fault, same_kind, unless_without}
+use Rattle.su_csv.specs.Record.{place_without, record_limit, row_of, row_or_fault, unless_without}
+use Rattle.su_base.specs.Value.{same_kind}
 
 -- `csv`'s word for the field at a place
 pub field-at : (fields : List (List ℕ)) (i : ℕ) → field_at fields i ≡ slice_get fields i

@@ -2,13 +2,14 @@
 --   record   the fields of one line
 --   number   which record it is, from 1 after the header
 --   place    which column it is, from 0
-use Rattle.std.specs.Prelude.{◌≡◌, ◌⊎◌, MatchResult, ℕ, suc, ◌&&◌, ◌==◌, nat_lt, Bool, true, false, if◌then◌else◌, List, [], ◌∷◌, ◌++◌, length, Option, Some, None, is_none, option_to_list, Result, Ok, Err}
+use Rattle.std.specs.Prelude.{◌≡◌, ◌⊎◌, MatchResult, ℕ, suc, ◌&&◌, ◌==◌, nat_lt, if◌then◌else◌, List, [], ◌∷◌, ◌++◌, length, Option, Some, None, is_none, option_to_list, Result, Ok, Err}
 use Rattle.su_base.specs.declared.values.Value.{Value}
 use Rattle.su_base.specs.declared.values.Column.{Column}
 use Rattle.su_base.specs.declared.values.Kind.{Kind}
 use Rattle.su_base.specs.declared.values.Kind.TheVariants.{Int as IntKind, Text as TextKind}
 use Rattle.su_csv.specs.declared.faults.CsvFault.{CsvFault}
 use Rattle.su_csv.specs.declared.faults.CsvFault.TheVariants.{TooMany, Width, NotInt, NotText, NoMemory}
+use Rattle.su_base.specs.Value.{same_kind}
 use Rattle.su_csv.specs.Field.{value_of}
 
 -- the most records after the header
@@ -20,12 +21,6 @@ abbrev pub row_of : List Column → List (List ℕ) → List Value
 row_of [] fields = []
 row_of (column ∷ columns) [] = []
 row_of (column ∷ columns) (field ∷ fields) = option_to_list (value_of column.kind field) ++ row_of columns fields
-
-abbrev pub same_kind : Kind → Kind → Bool
-same_kind IntKind IntKind = true
-same_kind IntKind TextKind = false
-same_kind TextKind IntKind = false
-same_kind TextKind TextKind = true
 
 -- the first place, from the left, of a column of this kind whose field has no value; the columns begin at `place`
 abbrev pub place_without : Kind → ℕ → List Column → List (List ℕ) → Option ℕ

@@ -8,6 +8,9 @@ use su_base::{Kind, NoMemory, Str, Value};
 
 const TEXT_LIMIT: usize = 4096;
 
+// Any number of so many digits is within 64 bits.
+const FEW_DIGITS: usize = 18;
+
 fn starts_with_plus(field: &[u8]) -> bool
     ensures { result ≡ (slice_index field.now 0 == 43) }
 {
@@ -20,21 +23,19 @@ fn starts_with_minus(field: &[u8]) -> bool
     matches!(field, [b'-', ..])
 }
 
-// The number that the digits write, where that is soon told.
+// The number that the digits write, where they are few enough that no sum is past the range.
 fn digits_of(digits: &[u8]) -> Option<i64>
     ensures { IfSome result (λ value. (is_digits digits.now ≡ true) × (value ≡ pos (digits_value 10 digits.now))) }
 {
+    if digits.is_empty() || digits.len() > FEW_DIGITS {
+        return None;
+    }
     let mut value = 0u64;
     for digit in digits {
         if !digit.is_ascii_digit() {
             return None;
         }
-        value = value
-            .checked_mul(10)?
-            .checked_add(u64::from(*digit - b'0'))?;
-    }
-    if digits.is_empty() || value > i64::MAX as u64 {
-        return None;
+        value = value * 10 + u64::from(*digit - b'0');
     }
     Some(value as i64)
 }

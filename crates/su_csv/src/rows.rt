@@ -1,7 +1,8 @@
 //! The row of a record, or its fault.
 ghost use Rattle.std.specs.Prelude.{◌≡◌, ◌<◌, ◌≤◌, ◌&&◌, Some, is_none, length, slice_get, MatchOption};
 ghost use Rattle.csv.specs.Records.{fields_of};
-ghost use Rattle.su_csv.specs.Record.{Answers, place_without, record_limit, row_or_fault, same_kind};
+ghost use Rattle.su_csv.specs.Record.{Answers, place_without, record_limit, row_or_fault};
+ghost use Rattle.su_base.specs.Value.{same_kind};
 ghost use Rattle.su_csv.specs.Field.{value_of};
 
 use crate::faults::CsvFault;

@@ -6,9 +6,10 @@
 //! run, the latest in a short one, which is merged into the long one when it is full. An entry is the
 //! position and the lead of the value, a number made of all of it: eight bytes. A look-up is a few
 //! binary searches by lead, which read a row only where the leads are equal, as they seldom are where
-//! the values differ. An insert moves some ten thousand bytes; a remove moves up to eight bytes a row
-//! and column, twice or three times, and takes no memory. It keeps no more than 2^32 - 2 rows, and
-//! ranges of values aren't asked for.
+//! the values differ. An insert moves up to an eighth of a byte for each row and column, a quarter
+//! where the room of the short run has doubled; a remove moves up to eight bytes a row and column, twice
+//! or three times, and takes no memory. A table keeps no more than 2^32 - 2 rows, and ranges of values
+//! aren't asked for.
 #![tactic(auto)]
 
 mod columns;

@@ -1,7 +1,7 @@
 //! The texts of replies, byte for byte.
 //!
-//! Each text is made in one buffer, in time linear in its length. A number that is none of the schema's
-//! is shown as an empty name; want of memory is no text and is handed on.
+//! Each text grows in one buffer; lists of names and of symbols are made beside it. A number that is
+//! none of the schema's is shown as an empty name; want of memory is no text and is handed on.
 #![tactic(auto)]
 
 mod closures;
@@ -16,7 +16,7 @@ mod statement_refusal;
 mod values;
 
 pub use closures::closure;
-pub use refusals::{cause, ddl_fault};
+pub use refusals::ddl_fault;
 pub use refusing::refusal;
 pub use row_lists::rows;
 pub use schemas::schema;

@@ -1,22 +1,12 @@
 //! The line for a schema that is refused.
-ghost use Rattle.std.specs.Prelude.{◌≡◌, IfOk, OnOk, string_bytes, flat_map};
-ghost use Rattle.su_show.specs.Refusals.{limit_text, cause_text, refused_line, schema_line, IsOfText};
+ghost use Rattle.std.specs.Prelude.{◌≡◌, ◌++◌, IfOk, OnOk, codes, decimal};
+ghost use Rattle.su_show.specs.Refusals.{limit_text, cause_text, schema_line, IsOfText};
 
-use std::alloc::{AllocError, Global};
+use crate::parts::{push, push_all, push_number};
+use std::alloc::Global;
 use su_base::{List, NoMemory};
 use su_ddl::DdlFault;
 use su_schema::{SchemaFault, SchemaLimit};
-
-// The parts one after another.
-fn joined(alloc: Global, parts: &[&str]) -> Result<String, AllocError>
-    ensures { IfOk result (λ text. string_bytes text ≡ flat_map (λ part. part.now) parts.now) }
-{
-    let mut text = String::new(alloc);
-    for part in parts {
-        text.push_str(part)?;
-    }
-    Ok(text)
-}
 
 fn limit(limit: SchemaLimit) -> &'static str
     ensures { result.now ≡ limit_text limit }
@@ -31,35 +21,28 @@ fn limit(limit: SchemaLimit) -> &'static str
     }
 }
 
-/// Why a definition is refused, as a refused schema and a refused definition of a script tell it.
-pub fn cause(alloc: Global, fault: &SchemaFault) -> Result<String, AllocError>
-    ensures { IfOk result (λ text. string_bytes text ≡ cause_text fault.now) }
+// Why a definition is refused, as a refused schema and a refused definition of a script tell it.
+pub(crate) fn push_cause(out: &mut Vec<u8>, fault: &SchemaFault) -> Result<(), NoMemory>
+    ensures { OnOk result (out.new.items ≡ out.old.items ++ cause_text fault.now) }
 {
     match fault {
-        SchemaFault::Twice(name) => format!(in alloc; "twice {}", name.as_str()),
-        SchemaFault::Unknown(name) => format!(in alloc; "unknown {}", name.as_str()),
+        SchemaFault::Twice(name) => push_all(out, &["twice ", name.as_str()]),
+        SchemaFault::Unknown(name) => push_all(out, &["unknown ", name.as_str()]),
         SchemaFault::KindDiffers { attribute, column } => {
             let (attribute, column) = (attribute.as_str(), column.as_str());
-            joined(alloc, &["kinds of ", attribute, " and ", column, " differ"])
+            push_all(out, &["kinds of ", attribute, " and ", column, " differ"])
         }
-        SchemaFault::Limit(which) => format!(in alloc; "limit {}", limit(*which)),
-        SchemaFault::NoMemory => Ok(String::new(alloc)),
+        SchemaFault::Limit(which) => push_all(out, &["limit ", limit(*which)]),
+        SchemaFault::NoMemory => Err(NoMemory),
     }
 }
 
-fn line(alloc: Global, number: u32, cause: &str) -> Result<List<u8>, NoMemory>
-    ensures { IfOk result (λ bytes. bytes ≡ refused_line number cause.now) }
+fn push_number_of_statement(alloc: Global, out: &mut Vec<u8>, number: u32) -> Result<(), NoMemory>
+    ensures { OnOk result (out.new.items ≡ out.old.items ++ codes "schema refused: statement " ++ decimal number ++ codes ": ") }
 {
-    let number = format!(in alloc; "{number}")?;
-    let parts = [
-        "schema refused: statement ",
-        number.as_str(),
-        ": ",
-        cause,
-        "\n",
-    ];
-    let text = joined(alloc, &parts)?;
-    Ok(List::from_vec(text.into_bytes()))
+    push(out, "schema refused: statement ")?;
+    push_number(alloc, out, u64::from(number))?;
+    push(out, ": ")
 }
 
 /// The line for a refused schema file, with its line feed. A fault that is want of memory is handed on.
@@ -67,13 +50,19 @@ pub fn ddl_fault(alloc: Global, fault: &DdlFault) -> Result<List<u8>, NoMemory>
     ensures line { IfOk result (λ bytes. bytes ≡ schema_line fault.now) }
     ensures of_text { OnOk result (IsOfText fault.now) }
 {
+    let mut out = Vec::new(alloc);
     match fault {
-        DdlFault::Syntax(number) => line(alloc, *number, "syntax"),
-        DdlFault::Refused(_, SchemaFault::NoMemory) => Err(NoMemory),
-        DdlFault::Refused(number, fault) => {
-            let cause = cause(alloc, fault)?;
-            line(alloc, *number, cause.as_str())
+        DdlFault::Syntax(number) => {
+            push_number_of_statement(alloc, &mut out, *number)?;
+            push(&mut out, "syntax\n")?;
         }
-        DdlFault::NoMemory => Err(NoMemory),
+        DdlFault::Refused(_, SchemaFault::NoMemory) => return Err(NoMemory),
+        DdlFault::Refused(number, fault) => {
+            push_number_of_statement(alloc, &mut out, *number)?;
+            push_cause(&mut out, fault)?;
+            push(&mut out, "\n")?;
+        }
+        DdlFault::NoMemory => return Err(NoMemory),
     }
+    Ok(List::from_vec(out))
 }

@@ -7,7 +7,7 @@ ghost use Rattle.su_show.specs.Refusals.{cause_text};
 use crate::closures::fd_at;
 use crate::columns::{column_name, width};
 use crate::parts::{push, push_all, push_number};
-use crate::refusals::cause;
+use crate::refusals::push_cause;
 use crate::statement_refusal::Refusal;
 use crate::values::{push_attributes, push_fd, push_row};
 use std::alloc::Global;
@@ -166,7 +166,7 @@ fn push_define(
 {
     match fault {
         DefineFault::Schema(SchemaFault::NoMemory) => Err(NoMemory),
-        DefineFault::Schema(fault) => push(out, cause(alloc, fault)?.as_str()),
+        DefineFault::Schema(fault) => push_cause(out, fault),
         DefineFault::Breaks {
             fd,
             first,

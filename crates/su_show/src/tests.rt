@@ -1,4 +1,4 @@
-use crate::{cause, ddl_fault};
+use crate::ddl_fault;
 use std::alloc::Global;
 use std::test::Fail;
 use su_base::{NoMemory, Str};
@@ -55,29 +55,17 @@ fn named(alloc: Global, which: u32, name: &str, column: &str) -> Result<SchemaFa
 
 #[test]
 fn a_refused_definition_is_told_by_its_number_and_names(rt: HostRuntime) -> Result<(), Fail> {
-    let cases: [(u32, u32, &[u8], &str); 3] = [
-        (
-            0,
-            2,
-            b"schema refused: statement 2: twice ACCT\n",
-            "twice ACCT",
-        ),
-        (
-            1,
-            10,
-            b"schema refused: statement 10: unknown ACCT\n",
-            "unknown ACCT",
-        ),
+    let cases: [(u32, u32, &[u8]); 3] = [
+        (0, 2, b"schema refused: statement 2: twice ACCT\n"),
+        (1, 10, b"schema refused: statement 10: unknown ACCT\n"),
         (
             2,
             4294967295,
             b"schema refused: statement 4294967295: kinds of ACCT and NO differ\n",
-            "kinds of ACCT and NO differ",
         ),
     ];
-    for (which, number, line, text) in cases {
+    for (which, number, line) in cases {
         let why = named(rt.alloc(), which, "ACCT", "NO")?;
-        assert_eq!(rt; cause(rt.alloc(), &why)?.as_str(), text);
         let fault = DdlFault::Refused(number, why);
         assert_eq!(rt; ddl_fault(rt.alloc(), &fault)?.as_slice(), line);
     }
