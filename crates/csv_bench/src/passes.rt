@@ -1,0 +1,50 @@
+//! The four ways through a text, each with the number of what it came by.
+use csv::{ByteRecord, Reader, ReaderBuilder};
+use std::alloc::{AllocError, Global};
+use su_base::Column;
+
+fn reader<'a>(alloc: Global, bytes: &'a [u8]) -> Reader<&'a [u8]> {
+    ReaderBuilder::new()
+        .has_headers(false)
+        .flexible(true)
+        .from_reader(alloc, bytes)
+}
+
+/// The records, one after another in one buffer.
+pub fn pass(alloc: Global, bytes: &[u8]) -> usize {
+    let mut records = reader(alloc, bytes);
+    let mut record = ByteRecord::new(alloc);
+    for count in 0..bytes.len() {
+        if !matches!(records.read_byte_record(&mut record), Ok(true)) {
+            return count;
+        }
+    }
+    bytes.len()
+}
+
+/// The records, each in a buffer of its own and let go.
+pub fn give(alloc: Global, bytes: &[u8]) -> usize {
+    reader(alloc, bytes).into_byte_records().count()
+}
+
+/// The records, all of them kept.
+pub fn keep(alloc: Global, bytes: &[u8]) -> Result<usize, AllocError> {
+    let mut kept = Vec::new(alloc);
+    for record in reader(alloc, bytes).into_byte_records() {
+        if let Ok(record) = record {
+            kept.push(record)?;
+        }
+    }
+    Ok(kept.len())
+}
+
+/// The rows, all of them kept; none where there are over 32 columns.
+pub fn read(alloc: Global, bytes: &[u8], columns: &[Column]) -> usize {
+    if columns.len() > 32 {
+        return 0;
+    }
+    match su_csv::read(alloc, bytes, columns) {
+        Ok(rows) => rows.len(),
+        Err(_) => 0,
+    }
+}
