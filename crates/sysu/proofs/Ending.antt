@@ -1,7 +1,10 @@
--- How a run ends once its schema is accepted.
-use Rattle.std.proofs.Common.{◌≡◌, ◌≤◌, ◌∙◌, ℕ, List, Option, Some, Ok, Err, length, inl, inr}
+-- How a run ends once its schema is read.
+use Rattle.std.proofs.Common.{◌≡◌, ◌≤◌, ◌∙◌, ◌⊎◌, ℕ, List, Option, Some, Ok, Err, length, inl, inr, subst}
 use Rattle.su_io.specs.declared.files.File.{File}
 use Rattle.su_ddl.specs.Reading.{Reads}
+use Rattle.su_ddl.specs.declared.faults.DdlFault.{DdlFault}
+use Rattle.su_ddl.specs.declared.faults.DdlFault.TheVariants.{NoMemory as OutOfMemory}
+use Rattle.su_show.specs.Refusals.{IsOfText}
 use Rattle.su_schema.specs.SchemaValue.{SchemaValue}
 use Rattle.sysu.specs.declared.status.Status.{Status}
 use Rattle.sysu.specs.declared.status.Status.TheVariants.{Done, SomeRefused, Usage, BadSchema, ReadFault, WriteFault, TooLong, NoMemory}
@@ -9,8 +12,32 @@ use Rattle.sysu.specs.Moments.{Moment, NoFault}
 use Rattle.sysu.specs.Output.{IsFile}
 use Rattle.sysu.specs.Reads.{FileEnds}
 use Rattle.sysu.specs.Statements.{ScriptEnds, TookLoads}
-use Rattle.sysu.specs.Statuses.{AcceptsSchema, OfFiles, RunEnds, TookWithin, schema_limit, script_limit}
+use Rattle.sysu.specs.Statuses.{AcceptsSchema, IsRefused, OfFiles, RefusalEnds, RunEnds, TookWithin, schema_limit, script_limit}
 use Rattle.sysu.specs.Words.{Named}
+
+-- the schema file was read, and is refused
+module _ (names : Named) (old new : Moment) (bytes : List ℕ) (fault : DdlFault) (is_schema : IsFile old.files names.schema bytes) (fits : length bytes ≤ schema_limit)
+    (at_fault : (fault ≡ OutOfMemory) ⊎ Reads bytes (Err fault)) (reads : new.reads ≡ old.reads) (begun : new.begun ≡ Some names.schema) (taken : new.taken ≤ schema_limit) where
+  refused : IsOfText fault → IsRefused names old fault
+  refused text = record {
+    bytes = bytes;
+    is_schema = is_schema;
+    fits = fits;
+    refused = elim at_fault [
+      | inl none ↦ absurd (subst IsOfText none text)
+      | inr read ↦ read
+    ];
+  }
+
+  pub schema_refused : (status : Status) → RefusalEnds fault old.written old.writes new.written new.writes status → RunEnds names old new status
+  schema_refused BadSchema ends = (record { reads = reads; writes = ends.1 }, begun, taken, (fault, refused ends.0, ends.2))
+  schema_refused WriteFault ends = (reads, ends.1, inr (inl (begun, taken)), inl (fault, refused ends.0, ends.2))
+  schema_refused NoMemory ends = (record { reads = reads; writes = ends.0 }, inr (inl (begun, taken)), inl ends.1)
+  schema_refused Done ends = absurd ends
+  schema_refused SomeRefused ends = absurd ends
+  schema_refused Usage ends = absurd ends
+  schema_refused ReadFault ends = absurd ends
+  schema_refused TooLong ends = absurd ends
 
 -- the script was not read
 pub script_fails : (names : Named) (old new : Moment) (files : Option (List File)) (between : ℕ) → files ≡ old.files → AcceptsSchema names old → between ≡ old.reads → new.begun ≡ Some names.script

@@ -1,5 +1,5 @@
 use Rattle.std.proofs.Common.{◌∙◌, refl}
-use Rattle.sysu.proofs.Ending.{script_fails, script_answered}
+use Rattle.sysu.proofs.Ending.{schema_refused, script_fails, script_answered}
 use Rattle.sysu.proofs.top.run_files.Goals as goal
 
 pub returns-in-Ok-read_file-clause-ends : goal.returns-in-Ok-read_file-clause-ends
@@ -19,3 +19,10 @@ returns-clause-ends g c =
     (record { bytes = c.as_slice.result.now; is_schema = rw c.as_slice.ensures first.1; fits = rw c.as_slice.ensures first.3; schema = c.in-Ok-read.schema; accepted = c.in-Ok-read.ensures.schema })
     first.0 c.in-Err-read_file.ensures.begun refl refl
     c.in-Err-read_file.status c.in-Err-read_file.ensures.ends
+
+pub returns-in-Err-read-clause-ends : goal.returns-in-Err-read-clause-ends
+returns-in-Err-read-clause-ends g c =
+    let first = c.in-Ok.ensures.ends in
+    schema_refused (record { schema = c.args.schema; script = c.args.script }) _ _ c.as_slice.result.now c.in-Err-read.fault
+    (rw c.as_slice.ensures first.1) (rw c.as_slice.ensures first.3) c.in-Err-read.ensures.fault first.0 c.in-Ok.ensures.begun first.2
+    c.tell_refusal.result c.tell_refusal.ensures
