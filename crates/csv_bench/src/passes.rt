@@ -11,7 +11,7 @@ fn reader<'a>(alloc: Global, bytes: &'a [u8]) -> Reader<&'a [u8]> {
 }
 
 /// The records, one after another in one buffer.
-pub fn pass(alloc: Global, bytes: &[u8]) -> usize {
+pub(crate) fn pass(alloc: Global, bytes: &[u8]) -> usize {
     let mut records = reader(alloc, bytes);
     let mut record = ByteRecord::new(alloc);
     for count in 0..bytes.len() {
@@ -23,12 +23,12 @@ pub fn pass(alloc: Global, bytes: &[u8]) -> usize {
 }
 
 /// The records, each in a buffer of its own and let go.
-pub fn give(alloc: Global, bytes: &[u8]) -> usize {
+pub(crate) fn give(alloc: Global, bytes: &[u8]) -> usize {
     reader(alloc, bytes).into_byte_records().count()
 }
 
 /// The records, all of them kept.
-pub fn keep(alloc: Global, bytes: &[u8]) -> Result<usize, AllocError> {
+pub(crate) fn keep(alloc: Global, bytes: &[u8]) -> Result<usize, AllocError> {
     let mut kept = Vec::new(alloc);
     for record in reader(alloc, bytes).into_byte_records() {
         if let Ok(record) = record {
@@ -39,7 +39,7 @@ pub fn keep(alloc: Global, bytes: &[u8]) -> Result<usize, AllocError> {
 }
 
 /// The rows, all of them kept; none where there are over 32 columns.
-pub fn read(alloc: Global, bytes: &[u8], columns: &[Column]) -> usize {
+pub(crate) fn read(alloc: Global, bytes: &[u8], columns: &[Column]) -> usize {
     if columns.len() > 32 {
         return 0;
     }

@@ -4,7 +4,7 @@ use su_base::{Column, Kind, List, NoMemory, Str};
 
 /// How many columns and records there are, and how many bytes a text has at least.
 #[derive(Clone, Copy)]
-pub struct Shape {
+pub(crate) struct Shape {
     columns: u32,
     width: u32,
     records: u32,
@@ -13,7 +13,7 @@ pub struct Shape {
 impl Shape {
     /// The shape of these numbers, where a file of it may be read: 1 to 32 columns, texts of at most
     /// 4,096 bytes, at most 1,000,000 records.
-    pub fn new(columns: u32, width: u32, records: u32) -> Option<Shape> {
+    pub(crate) fn new(columns: u32, width: u32, records: u32) -> Option<Shape> {
         if columns == 0 || columns > 32 || width > 4096 || records > 1_000_000 {
             return None;
         }
@@ -30,7 +30,7 @@ fn is_number(column: u32) -> bool {
 }
 
 /// The columns, named by their numbers.
-pub fn columns(alloc: Global, shape: Shape) -> Result<List<Column>, NoMemory> {
+pub(crate) fn columns(alloc: Global, shape: Shape) -> Result<List<Column>, NoMemory> {
     let mut columns = List::new(alloc);
     for column in 0..shape.columns {
         columns.push(Column {
@@ -75,7 +75,7 @@ fn push_record(
 }
 
 /// The header and the records.
-pub fn text(alloc: Global, shape: Shape) -> Result<String, AllocError> {
+pub(crate) fn text(alloc: Global, shape: Shape) -> Result<String, AllocError> {
     let mut text = String::new(alloc);
     for column in 0..shape.columns {
         text.push_str(if column == 0 { "c" } else { ",c" })?;
