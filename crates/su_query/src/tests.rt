@@ -2,7 +2,7 @@ ghost use Rattle.su_query.specs.Reading.{AreFew, IsReady, outputs_of, condition_
 
 use crate::{
     NamedCond, NamedOperand, Place, QueryFault, QueryLimit, Resolved, Statement, mentioned, read,
-    resolve, resolve_attributes, resolve_columns, show, show_query,
+    resolve, resolve_attributes, resolve_columns, show,
 };
 use std::alloc::{AllocError, Global};
 use std::process::Abort;
@@ -305,30 +305,6 @@ fn statements_are_shown_with_one_space_between_tokens(rt: HostRuntime) -> Result
     ];
     for (text, want) in cases {
         assert_eq!(rt; shown(rt.alloc(), text)?.as_slice(), want);
-    }
-    Ok(())
-}
-
-fn query_shown(alloc: Global, text: &[u8]) -> Result<List<u8>, Fail> {
-    let statement = read(alloc, text)?;
-    match &statement {
-        Statement::Retrieve(query) => Ok(show_query(alloc, query)?),
-        _ => Err(Fail::from("no query")),
-    }
-}
-
-#[test]
-fn a_query_is_shown_as_its_retrieval(rt: HostRuntime) -> Result<(), Fail> {
-    let cases: [&[u8]; 3] = [
-        b"retrieve(A,t . B)",
-        b"retrieve (A) where A<=-1",
-        b"retrieve (A) where not (A = 1 or t.B = 'x')",
-    ];
-    for text in cases {
-        assert_eq!(rt;
-            query_shown(rt.alloc(), text)?,
-            shown_once(rt.alloc(), text)?
-        );
     }
     Ok(())
 }
