@@ -2,8 +2,8 @@
 //!
 //! A text of so many records is made in memory, whose columns are numbers and texts of WIDTH bytes in
 //! turn. It is then gone through four times, and the processor time of each is printed: the records
-//! passed through one buffer, each given in a buffer of its own and let go, all of them kept, and the
-//! rows read. Only times of one run compare.
+//! passed through one buffer, each given in a buffer of its own and let go, the rows read, and all
+//! records kept. What is kept is let go after the time is taken. Only times of one run compare.
 #![tactic(auto)]
 
 mod passes;
@@ -27,13 +27,13 @@ fn shape(rt: &HostRuntime) -> io::Result<Option<Shape>> {
     })
 }
 
-// Prints the time that one of the four takes, and what it counted.
+// Prints the time that one of the four takes, and how many records or rows it came by.
 macro_rules! timed {
-    ($rt:ident, $what:literal, $count:expr) => {{
+    ($rt:ident, $what:literal, $way:expr, $found:ident => $count:expr) => {{
         let start = $rt.thread_cpu_time()?;
-        let count = $count;
+        let $found = $way;
         let time = $rt.thread_cpu_time()?.saturating_sub(start).as_millis();
-        println!($rt; "{}: {} in {} ms", $what, count, time)?;
+        println!($rt; "{}: {} in {} ms", $what, $count, time)?;
     }};
 }
 
@@ -45,10 +45,10 @@ fn run(rt: HostRuntime, shape: Shape) -> io::Result<()> {
         return Err(io::ErrorKind::OutOfMemory.into());
     };
     println!(rt; "bytes: {}", bytes.len())?;
-    timed!(rt, "records passed", pass(alloc, bytes));
-    timed!(rt, "records given", give(alloc, bytes));
-    timed!(rt, "records kept", keep(alloc, bytes)?);
-    timed!(rt, "rows read", read(alloc, bytes, columns.as_slice()));
+    timed!(rt, "records passed", pass(alloc, bytes), count => count);
+    timed!(rt, "records given", give(alloc, bytes), count => count);
+    timed!(rt, "rows read", read(alloc, bytes, columns.as_slice()), rows => rows.len());
+    timed!(rt, "records kept", keep(alloc, bytes)?, records => records.len());
     Ok(())
 }
 

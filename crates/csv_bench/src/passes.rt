@@ -1,7 +1,7 @@
-//! The four ways through a text, each with the number of what it came by.
+//! The four ways through a text, each with what it came by.
 use csv::{ByteRecord, Reader, ReaderBuilder};
 use std::alloc::{AllocError, Global};
-use su_base::Column;
+use su_base::{Column, List, Row};
 
 fn reader<'a>(alloc: Global, bytes: &'a [u8]) -> Reader<&'a [u8]> {
     ReaderBuilder::new()
@@ -28,23 +28,23 @@ pub(crate) fn give(alloc: Global, bytes: &[u8]) -> usize {
 }
 
 /// The records, all of them kept.
-pub(crate) fn keep(alloc: Global, bytes: &[u8]) -> Result<usize, AllocError> {
+pub(crate) fn keep(alloc: Global, bytes: &[u8]) -> Result<Vec<ByteRecord>, AllocError> {
     let mut kept = Vec::new(alloc);
     for record in reader(alloc, bytes).into_byte_records() {
         if let Ok(record) = record {
             kept.push(record)?;
         }
     }
-    Ok(kept.len())
+    Ok(kept)
 }
 
 /// The rows, all of them kept; none where there are over 32 columns.
-pub(crate) fn read(alloc: Global, bytes: &[u8], columns: &[Column]) -> usize {
+pub(crate) fn read(alloc: Global, bytes: &[u8], columns: &[Column]) -> List<Row> {
     if columns.len() > 32 {
-        return 0;
+        return List::new(alloc);
     }
     match su_csv::read(alloc, bytes, columns) {
-        Ok(rows) => rows.len(),
-        Err(_) => 0,
+        Ok(rows) => rows,
+        Err(_) => List::new(alloc),
     }
 }

@@ -48,7 +48,7 @@ pub(crate) fn columns(alloc: Global, shape: Shape) -> Result<List<Column>, NoMem
 fn push_text(text: &mut String, number: &str, width: u32) -> Result<(), AllocError> {
     text.push_str("t")?;
     text.push_str(number)?;
-    for _ in number.len()..width as usize {
+    for _ in number.len()..(width as usize).saturating_sub(1) {
         text.push_str("x")?;
     }
     Ok(())

@@ -85,6 +85,7 @@ fn long(alloc: Global, text: &str) -> Result<Form, NoMemory>
 
 impl Str {
     /// A copy of the text.
+    #[inline(always)]
     pub fn new(alloc: Global, text: &str) -> Result<Str, NoMemory>
         ensures { IfOk result (λ s. s ≡ text.now) }
     {

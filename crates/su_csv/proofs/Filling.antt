@@ -1,9 +1,11 @@
 -- The row of a record, one column after another.
-use Rattle.std.proofs.Common.{◌≡◌, ◌+◌, ◌<◌, ◌≤◌, ◌&&◌, ◌==◌, ℕ, zero, suc, true, false, List, [], ◌∷◌, ◌++◌, length, drop, get_or, Option, Some, None, Ok, Err, refl, sym, ap, arith, append_assoc, add-one, eq-eqb}
+use Rattle.std.proofs.Common.{◌≡◌, ◌+◌, ◌-◌, ◌<◌, ◌≤◌, ◌&&◌, ◌==◌, ℕ, zero, suc, true, false, List, [], ◌∷◌, ◌++◌, length, drop, get_or, Option, Some, None, Ok, Err, refl, sym, ap, arith, append_assoc, add-one, eq-eqb}
 use Rattle.std.proofs.lemmas.List.{append-nil, drop_all}
 use Rattle.std.proofs.lemmas.Bool.{le-ltb}
 use Rattle.std.specs.Prelude.{slice_get, is_none, MatchOption}
-use Rattle.csv.specs.Records.{field_at}
+use Rattle.csv.specs.Records.{AllText, cut_from, field_at}
+use Rattle.std.specs.Str.{IsAscii}
+use Rattle.std.proofs.lemmas.Str.{IsAscii-drop, IsAscii-take, IsUtf8-from_ascii}
 use Rattle.su_base.specs.declared.values.Value.{Value}
 use Rattle.su_base.specs.declared.values.Column.{Column}
 use Rattle.su_base.specs.declared.values.Kind.{Kind}
@@ -98,3 +100,9 @@ at-end columns fields n number numbers texts row all long at-numbers at-texts bu
 
 pub other-width : (columns : List Column) (fields : List (List ℕ)) (number : ℕ) → number ≤ record_limit → (length fields == length columns) ≡ false → row_or_fault columns number fields ≡ Err (Width number)
 other-width columns fields number low other = rw (le-ltb record_limit number low, other) refl
+
+-- each part of a text of ASCII is text
+pub ascii-fields : (start : ℕ) (ends bytes : List ℕ) → IsAscii bytes → AllText (cut_from start ends bytes)
+unfolding AllText cut_from
+ascii-fields start [] bytes h = tt
+ascii-fields start (end ∷ ends) bytes h = (IsUtf8-from_ascii _ (IsAscii-take (drop start bytes) (end - start) (IsAscii-drop bytes start h)), ascii-fields end ends bytes h)

@@ -1,5 +1,5 @@
 //! What a field stands for.
-ghost use Rattle.std.specs.Prelude.{◌≡◌, ◌<◌, ◌^◌, IfOk, option_map, if◌then◌else◌, Some, None, slice_index, ◌==◌, IfSome, pos, true};
+ghost use Rattle.std.specs.Prelude.{◌≡◌, ◌<◌, ◌^◌, IfOk, option_map, IsUtf8, if◌then◌else◌, Some, None, slice_index, ◌==◌, IfSome, pos, true};
 ghost use Rattle.su_csv.specs.Field.{is_digits, number_of, is_text, value_of};
 ghost use Rattle.std.specs.Str.Parse.{digits_value};
 
@@ -51,6 +51,7 @@ fn short_number(field: &[u8]) -> Option<i64>
 }
 
 // The number that the field writes. Unlike `parse`, it takes no `+`.
+#[inline(always)]
 pub(crate) fn number_of(field: &[u8]) -> Option<i64>
     ensures { result ≡ number_of field.now }
 {
@@ -66,12 +67,16 @@ pub(crate) fn number_of(field: &[u8]) -> Option<i64>
     }
 }
 
-// The text that the field is.
-fn text_of(field: &[u8]) -> Option<&str>
+// The text that the field is. UTF-8 is tested only where it isn't known before.
+fn text_of(field: &[u8], known: bool) -> Option<&str>
+    requires { known ≡ true → IsUtf8 field.now }
     ensures { option_map (λ text. text.now) result ≡ (if is_text field.now then Some field.now else None) }
 {
     if field.len() > TEXT_LIMIT {
         return None;
+    }
+    if known {
+        return Some(unsafe { str::from_utf8_unchecked(field) });
     }
     match str::from_utf8(field) {
         Ok(text) => Some(text),
@@ -79,13 +84,19 @@ fn text_of(field: &[u8]) -> Option<&str>
     }
 }
 
-// The value of the field in a column of this kind.
-pub(crate) fn value_of(alloc: Global, kind: Kind, field: &[u8]) -> Result<Option<Value>, NoMemory>
+// The value of the field in a column of this kind; the field may be known to be UTF-8.
+pub(crate) fn value_of(
+    alloc: Global,
+    kind: Kind,
+    field: &[u8],
+    known: bool,
+) -> Result<Option<Value>, NoMemory>
+    requires { known ≡ true → IsUtf8 field.now }
     ensures { IfOk result (λ value. value ≡ value_of kind field.now) }
 {
     match kind {
         Kind::Int => Ok(number_of(field).map(Value::Int)),
-        Kind::Text => match text_of(field) {
+        Kind::Text => match text_of(field, known) {
             Some(text) => Ok(Some(Value::Text(Str::new(alloc, text)?))),
             None => Ok(None),
         },

@@ -1,6 +1,6 @@
 //! The row of a record, or its fault.
-ghost use Rattle.std.specs.Prelude.{◌≡◌, ◌<◌, ◌≤◌, ◌&&◌, Some, is_none, length, slice_get, MatchOption};
-ghost use Rattle.csv.specs.Records.{fields_of};
+ghost use Rattle.std.specs.Prelude.{◌≡◌, ◌<◌, ◌≤◌, ◌&&◌, Some, is_none, length, slice_get, MatchOption, true};
+ghost use Rattle.csv.specs.Records.{AllText, fields_of};
 ghost use Rattle.su_csv.specs.Record.{Answers, place_without, record_limit, row_or_fault};
 ghost use Rattle.su_base.specs.Value.{same_kind};
 ghost use Rattle.su_csv.specs.Field.{value_of};
@@ -19,6 +19,13 @@ pub(crate) fn field_at(fields: &ByteRecord, place: usize) -> &[u8]
         Some(field) => field,
         None => unreachable!(),
     }
+}
+
+// Whether all fields are ASCII, by which each is a text.
+fn is_ascii(fields: &ByteRecord) -> bool
+    ensures { result ≡ true → AllText (fields_of fields.now) }
+{
+    fields.as_slice().is_ascii()
 }
 
 // The first column of numbers, from the left, whose field writes none.
@@ -72,9 +79,10 @@ pub(crate) fn row_of(
     if fields.len() != columns.len() {
         return Err(CsvFault::Width { number });
     }
+    let ascii = is_ascii(fields);
     let mut row = List::from_vec(Vec::with_capacity(alloc, columns.len())?);
     for (place, column) in columns.iter().enumerate() {
-        match value_of(alloc, column.kind, field_at(fields, place))? {
+        match value_of(alloc, column.kind, field_at(fields, place), ascii)? {
             Some(value) => row.push(value)?,
             None => return Err(fault_at(columns, fields, number, place)),
         }

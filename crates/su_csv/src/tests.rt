@@ -43,7 +43,7 @@ fn files_read_as_rows_or_their_first_fault(rt: HostRuntime) -> Result<(), Fail> 
     let width = |number| Err(CsvFault::Width { number });
     let no_number = |number| Err(CsvFault::NotInt { number, column: 1 });
     let no_text = |number| Err(CsvFault::NotText { number, column: 0 });
-    let cases: [(&[u8], Result<&[u8], CsvFault>); 27] = [
+    let cases: [(&[u8], Result<&[u8], CsvFault>); 28] = [
         (b"T,N\na,1\n", Ok(b"T,N\na,1\n")),
         (b"T,N\r\na,1\r\nb,2\r\n", Ok(b"T,N\na,1\nb,2\n")),
         (b"\xef\xbb\xbfT,N\na,1", Ok(b"T,N\na,1\n")),
@@ -55,6 +55,7 @@ fn files_read_as_rows_or_their_first_fault(rt: HostRuntime) -> Result<(), Fail> 
         ),
         (b"T,N\n\"a\nb\r\",1\n", Ok(b"T,N\n\"a\nb\r\",1\n")),
         (b"\"T\",\"N\"\n\"\",\"1\"\n", Ok(b"T,N\n,1\n")),
+        (b"T,N\n\xc3\xa9,1\n", Ok(b"T,N\n\xc3\xa9,1\n")),
         (b"T,N\n\"a,1\n", width(1)),
         (b"T,N\n,0007\n,-0\n", Ok(b"T,N\n,7\n,0\n")),
         (

@@ -9,3 +9,6 @@ returns-in-Ok c =
 
 pub returns-in-Err : goal.returns-in-Err
 returns-in-Err c = rw (not-utf8 c.args.field.now c.if-field-gt-TEXT_LIMIT.false (λ h. c.in-Err.ensures.cases.0 h))
+
+pub returns-then-known : goal.returns-then-known
+returns-then-known c = rw (is-text c.args.field.now c.if-field-gt-TEXT_LIMIT.false (c.requires c.if-known.true)) (ap Some c.from_utf8_unchecked.ensures)

@@ -1,0 +1,5 @@
+use Rattle.su_csv.proofs.Filling.{ascii-fields}
+use Rattle.su_csv.proofs.rows.is_ascii.Goals as goal
+
+pub returns : goal.returns
+returns c is = ascii-fields 0 c.args.fields.now.ends c.args.fields.now.bytes (rw (is, c.as_slice.ensures) at c.is_ascii.ensures.cases)
