@@ -3,7 +3,8 @@
 //! A text of so many records is made in memory, whose columns are numbers and texts of WIDTH bytes in
 //! turn. It is then gone through four times, and the processor time of each is printed: the records
 //! passed through one buffer, each given in a buffer of its own and let go, the rows read, and all
-//! records kept. What is kept is let go after the time is taken. Only times of one run compare.
+//! records kept. What is kept is let go after the time is taken. Only times of one run compare. Of
+//! 1,000,001 records no rows are read, and the fault is printed.
 #![tactic(auto)]
 
 mod passes;
@@ -27,13 +28,13 @@ fn shape(rt: &HostRuntime) -> io::Result<Option<Shape>> {
     })
 }
 
-// Prints the time that one of the four takes, and how many records or rows it came by.
+// What one of the four comes by, and the milliseconds of processor time that it takes.
 macro_rules! timed {
-    ($rt:ident, $what:literal, $way:expr, $found:ident => $count:expr) => {{
+    ($rt:ident, $way:expr) => {{
         let start = $rt.thread_cpu_time()?;
-        let $found = $way;
+        let found = $way;
         let time = $rt.thread_cpu_time()?.saturating_sub(start).as_millis();
-        println!($rt; "{}: {} in {} ms", $what, $count, time)?;
+        (found, time)
     }};
 }
 
@@ -45,10 +46,17 @@ fn run(rt: HostRuntime, shape: Shape) -> io::Result<()> {
         return Err(io::ErrorKind::OutOfMemory.into());
     };
     println!(rt; "bytes: {}", bytes.len())?;
-    timed!(rt, "records passed", pass(alloc, bytes), count => count);
-    timed!(rt, "records given", give(alloc, bytes), count => count);
-    timed!(rt, "rows read", read(alloc, bytes, columns.as_slice()), rows => rows.len());
-    timed!(rt, "records kept", keep(alloc, bytes)?, records => records.len());
+    let (count, time) = timed!(rt, pass(alloc, bytes));
+    println!(rt; "records passed: {count} in {time} ms")?;
+    let (count, time) = timed!(rt, give(alloc, bytes));
+    println!(rt; "records given: {count} in {time} ms")?;
+    let (rows, time) = timed!(rt, read(alloc, bytes, columns.as_slice()));
+    match rows {
+        Ok(rows) => println!(rt; "rows read: {} in {time} ms", rows.len())?,
+        Err(fault) => println!(rt; "no rows read: {fault}")?,
+    }
+    let (records, time) = timed!(rt, keep(alloc, bytes)?);
+    println!(rt; "records kept: {} in {time} ms", records.len())?;
     Ok(())
 }
 

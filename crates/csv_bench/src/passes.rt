@@ -2,6 +2,7 @@
 use csv::{ByteRecord, Reader, ReaderBuilder};
 use std::alloc::{AllocError, Global};
 use su_base::{Column, List, Row};
+use su_csv::CsvFault;
 
 fn reader<'a>(alloc: Global, bytes: &'a [u8]) -> Reader<&'a [u8]> {
     ReaderBuilder::new()
@@ -38,13 +39,7 @@ pub(crate) fn keep(alloc: Global, bytes: &[u8]) -> Result<Vec<ByteRecord>, Alloc
     Ok(kept)
 }
 
-/// The rows, all of them kept; none where there are over 32 columns.
-pub(crate) fn read(alloc: Global, bytes: &[u8], columns: &[Column]) -> List<Row> {
-    if columns.len() > 32 {
-        return List::new(alloc);
-    }
-    match su_csv::read(alloc, bytes, columns) {
-        Ok(rows) => rows,
-        Err(_) => List::new(alloc),
-    }
+/// The rows, all of them kept, or why there are none. There are at most 32 columns.
+pub(crate) fn read(alloc: Global, bytes: &[u8], columns: &[Column]) -> Result<List<Row>, CsvFault> {
+    su_csv::read(alloc, bytes, &columns[..columns.len().min(32)])
 }

@@ -2,7 +2,7 @@
 use std::alloc::{AllocError, Global};
 use su_base::{Column, Kind, List, NoMemory, Str};
 
-/// How many columns and records there are, and how many bytes a text has at least.
+/// How many columns and records there are, and how many bytes a text has, if its number leaves room.
 #[derive(Clone, Copy)]
 pub(crate) struct Shape {
     columns: u32,
@@ -11,10 +11,10 @@ pub(crate) struct Shape {
 }
 
 impl Shape {
-    /// The shape of these numbers, where a file of it may be read: 1 to 32 columns, texts of at most
-    /// 4,096 bytes, at most 1,000,000 records.
+    /// The shape of these numbers: 1 to 32 columns, texts of at most 4,096 bytes, at most 1,000,001
+    /// records, one more than are read.
     pub(crate) fn new(columns: u32, width: u32, records: u32) -> Option<Shape> {
-        if columns == 0 || columns > 32 || width > 4096 || records > 1_000_000 {
+        if columns == 0 || columns > 32 || width > 4096 || records > 1_000_001 {
             return None;
         }
         Some(Shape {
