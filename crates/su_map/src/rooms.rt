@@ -1,5 +1,5 @@
 //! The room of a search, and the searches in it.
-ghost use Rattle.std.specs.Prelude.{◌≡◌, ◌≤◌, ◌<◌, ◌+◌, ◌*◌, ◌↔◌, ◌⊎◌, ℕ, Bool, IsTrue, IsFalse, IfOk, List as Items, length, get_or, take, map};
+ghost use Rattle.std.specs.Prelude.{◌≡◌, ◌≤◌, ◌<◌, ◌+◌, ◌*◌, ◌↔◌, ◌⊎◌, ℕ, Bool, IsTrue, IsFalse, IfOk, IfSome, None, List as Items, length, get_or, take, map};
 ghost use Rattle.std.specs.Int.{bit_at};
 ghost use Rattle.su_tableau.specs.Kinds.{Kinds, IsTyped};
 ghost use Rattle.su_tableau.specs.Parts.{part};
@@ -164,7 +164,8 @@ fn gather(list: &mut [u8], choice: &[u8], mask: u64) -> usize
     count
 }
 
-/// The search, and the targets that it chose as a list; how many these are.
+/// The search, and the targets that it chose as a list: how many these are, or none where there is
+/// no choice.
 fn settle_list<L: Ledger>(
     net: &Net,
     rows: usize,
@@ -176,7 +177,7 @@ fn settle_list<L: Ledger>(
     choice: &mut [u8],
     list: &mut [u8],
     steps: &mut Steps<L>,
-) -> (bool, usize)
+) -> Option<usize>
     requires net { HasRoom rows net.now }
     requires rows { rows ≤ 64 }
     requires domains { length domains.old ≡ rows }
@@ -184,15 +185,16 @@ fn settle_list<L: Ledger>(
     requires list { rows ≤ length list.old }
     requires levels { rows * rows ≤ length levels.old }
     requires targets { (r x : ℕ) → r < rows → bit_at mask r ≡ 1 → bit_at (base_of net.now r) x ≡ 1 → x < net.now.targets }
-    ensures within { result.1 ≤ rows }
-    ensures found { IsTrue result.0 → IsFound net.now rows mask to_mask (take result.1 list.new) }
-    ensures first { IsTrue result.0 → order ≡ Ascending → IsFirstOf net.now rows mask to_mask (take result.1 list.new) }
-    ensures none { IsFalse result.0 → (other : ℕ → ℕ) → IsChoiceInto net.now rows mask to_mask other → ⊥ }
+    ensures within { IfSome result (λ count. count ≤ rows) }
+    ensures found { IfSome result (λ count. IsFound net.now rows mask to_mask (take count list.new)) }
+    ensures first { IfSome result (λ count. order ≡ Ascending → IsFirstOf net.now rows mask to_mask (take count list.new)) }
+    ensures none { result ≡ None → (other : ℕ → ℕ) → IsChoiceInto net.now rows mask to_mask other → ⊥ }
     ensures cost { (passes : ℕ → ℕ → Bool) → ArePassed net.now rows mask passes → order ≡ Ascending → steps.new ≤ steps.old + tries passes net.now.targets rows mask }
 {
-    let found = settle(net, mask, to_mask, order, domains, levels, choice, steps);
-    let count = gather(list, choice, mask);
-    (found, count)
+    if !settle(net, mask, to_mask, order, domains, levels, choice, steps) {
+        return None;
+    }
+    Some(gather(list, choice, mask))
 }
 
 /// The search in the parts of the room that the rows need.
@@ -207,7 +209,7 @@ fn run<L: Ledger>(
     choice: &mut [u8],
     list: &mut [u8],
     steps: &mut Steps<L>,
-) -> (bool, usize)
+) -> Option<usize>
     requires net { HasRoom rows net.now }
     requires rows { rows ≤ 64 }
     requires domains { rows ≤ length domains.old }
@@ -215,10 +217,10 @@ fn run<L: Ledger>(
     requires list { rows ≤ length list.old }
     requires levels { rows * rows ≤ length levels.old }
     requires targets { (r x : ℕ) → r < rows → bit_at mask r ≡ 1 → bit_at (base_of net.now r) x ≡ 1 → x < net.now.targets }
-    ensures within { result.1 ≤ rows }
-    ensures found { IsTrue result.0 → IsFound net.now rows mask to_mask (take result.1 list.new) }
-    ensures first { IsTrue result.0 → order ≡ Ascending → IsFirstOf net.now rows mask to_mask (take result.1 list.new) }
-    ensures none { IsFalse result.0 → (other : ℕ → ℕ) → IsChoiceInto net.now rows mask to_mask other → ⊥ }
+    ensures within { IfSome result (λ count. count ≤ rows) }
+    ensures found { IfSome result (λ count. IsFound net.now rows mask to_mask (take count list.new)) }
+    ensures first { IfSome result (λ count. order ≡ Ascending → IsFirstOf net.now rows mask to_mask (take count list.new)) }
+    ensures none { result ≡ None → (other : ℕ → ℕ) → IsChoiceInto net.now rows mask to_mask other → ⊥ }
     ensures cost { (passes : ℕ → ℕ → Bool) → ArePassed net.now rows mask passes → order ≡ Ascending → steps.new ≤ steps.old + tries passes net.now.targets rows mask }
 {
     settle_list(
@@ -258,7 +260,7 @@ fn search_in<L: Ledger>(
 {
     from.keeps_its_rules();
     to.keeps_its_rules();
-    let (found, count) = run(
+    let Some(count) = run(
         &room.net,
         from.row_count(),
         from_mask,
@@ -269,9 +271,11 @@ fn search_in<L: Ledger>(
         &mut room.choice,
         &mut room.list,
         steps,
-    );
+    ) else {
+        return false;
+    };
     room.count = count;
-    found
+    true
 }
 
 /// Whether the masked rows of one tableau have a mapping into the masked rows of the other; the

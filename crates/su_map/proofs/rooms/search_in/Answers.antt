@@ -8,8 +8,8 @@ use Rattle.su_map.proofs.Answering.{AreLike, found_mapping, found_first, none_ma
 use Rattle.su_map.proofs.Roomy.{refill_length, levels_in, sound_same}
 use Rattle.su_map.proofs.rooms.search_in.Goals as goal
 
-pub run-found-requires-clause-domains : goal.run-found-requires-clause-domains
-run-found-requires-clause-domains g c =
+pub run-requires-clause-domains : goal.run-requires-clause-domains
+run-requires-clause-domains g c =
     let v = ap (λ (s : Space). s.rows) c.room.view_is in
     let r = c.requires.room.rows in
     let is = c.row_count.ensures.is in
@@ -18,8 +18,8 @@ run-found-requires-clause-domains g c =
     let enough = c.room.invariant.enough n rows_in c.row_count.ensures.small in
     let d = c.room.invariant.domains_room in let e = ap length c.deref_mut.ensures.value in omega arith
 
-pub run-found-requires-clause-choice : goal.run-found-requires-clause-choice
-run-found-requires-clause-choice g c =
+pub run-requires-clause-choice : goal.run-requires-clause-choice
+run-requires-clause-choice g c =
     let v = ap (λ (s : Space). s.rows) c.room.view_is in
     let r = c.requires.room.rows in
     let is = c.row_count.ensures.is in
@@ -28,8 +28,8 @@ run-found-requires-clause-choice g c =
     let enough = c.room.invariant.enough n rows_in c.row_count.ensures.small in
     let d = c.room.invariant.choice_room in let e = ap length c.deref_mut-3.ensures.value in omega arith
 
-pub run-found-requires-clause-list : goal.run-found-requires-clause-list
-run-found-requires-clause-list g c =
+pub run-requires-clause-list : goal.run-requires-clause-list
+run-requires-clause-list g c =
     let v = ap (λ (s : Space). s.rows) c.room.view_is in
     let r = c.requires.room.rows in
     let is = c.row_count.ensures.is in
@@ -38,8 +38,8 @@ run-found-requires-clause-list g c =
     let enough = c.room.invariant.enough n rows_in c.row_count.ensures.small in
     let e = ap length c.deref_mut-4.ensures.value in omega arith
 
-pub run-found-requires-clause-levels : goal.run-found-requires-clause-levels
-run-found-requires-clause-levels g c =
+pub run-requires-clause-levels : goal.run-requires-clause-levels
+run-requires-clause-levels g c =
     let v = ap (λ (s : Space). s.rows) c.room.view_is in
     let r = c.requires.room.rows in
     let is = c.row_count.ensures.is in
@@ -50,6 +50,13 @@ run-found-requires-clause-levels g c =
 
 pub invariant_of-room : goal.invariant_of-room
 invariant_of-room g c =
+    let inside = c.room.inside in
+    sound_same inside.net inside.rows (length inside.list.items) _ (length inside.columns.items) (length inside.domains.items) _ (length inside.levels.items) _ (length inside.choice.items) _ inside.count inside.count c.room.invariant
+    (refill_length inside.list c.run.new.list) (refill_length inside.domains c.run.new.domains) (refill_length inside.levels c.run.new.levels) (refill_length inside.choice c.run.new.choice)
+    c.room.invariant.count_in
+
+pub invariant_of-room-2 : goal.invariant_of-room-2
+invariant_of-room-2 g c =
     let v = ap (λ (s : Space). s.rows) c.room.view_is in
     let r = c.requires.room.rows in
     let is = c.row_count.ensures.is in
@@ -57,9 +64,9 @@ invariant_of-room g c =
     let rows_in : n ≤ c.room.inside.rows = omega arith in
     let enough = c.room.invariant.enough n rows_in c.row_count.ensures.small in
     let inside = c.room.inside in
-    sound_same inside.net inside.rows (length inside.list.items) _ (length inside.columns.items) (length inside.domains.items) _ (length inside.levels.items) _ (length inside.choice.items) _ inside.count c.run-found.result.1 c.room.invariant
-    (refill_length inside.list c.run-found.new.list) (refill_length inside.domains c.run-found.new.domains) (refill_length inside.levels c.run-found.new.levels) (refill_length inside.choice c.run-found.new.choice)
-    (let w = c.run-found.ensures.within in omega arith)
+    sound_same inside.net inside.rows (length inside.list.items) _ (length inside.columns.items) (length inside.domains.items) _ (length inside.levels.items) _ (length inside.choice.items) _ inside.count c.in-Some.count c.room.invariant
+    (refill_length inside.list c.run.new.list) (refill_length inside.domains c.run.new.domains) (refill_length inside.levels c.run.new.levels) (refill_length inside.choice c.run.new.choice)
+    (let w = c.in-Some.ensures.within in omega arith)
 
 pub returns-clause-found : goal.returns-clause-found
 returns-clause-found g c =
@@ -68,10 +75,10 @@ returns-clause-found g c =
     let net = c.room.inside.net in
     let for : IsNetFor from m to k net = subst (IsNetFor from m to k) (sym (ap (λ (s : Space). s.net) c.room.view_is)) c.requires.prepared in
     let like : AreLike from to = record { heads = c.requires.heads; width = c.requires.width; from_widths = c.keeps_its_rules.ensures.valid.widths; to_widths = c.keeps_its_rules-2.ensures.valid.widths } in
-    let count = c.run-found.result.1 in
-    let whole = with_items_is c.room.inside.list c.run-found.new.list (c.run-found.auto.list ∙ c.deref_mut-4.ensures.len) in
-    let list = take count c.run-found.new.list in
-    λ yes. subst (λ l. IsMapping from m to k (take count l)) (sym whole) (found_mapping from to m k net list for like (subst (λ n. IsFound net n m k list) is (c.run-found.ensures.found yes)))
+    let count = c.in-Some.count in
+    let whole = with_items_is c.room.inside.list c.run.new.list (c.run.auto.list ∙ c.deref_mut-4.ensures.len) in
+    let list = take count c.run.new.list in
+    λ _. subst (λ l. IsMapping from m to k (take count l)) (sym whole) (found_mapping from to m k net list for like (subst (λ n. IsFound net n m k list) is c.in-Some.ensures.found))
 
 pub returns-clause-first : goal.returns-clause-first
 returns-clause-first g c =
@@ -80,19 +87,18 @@ returns-clause-first g c =
     let net = c.room.inside.net in
     let for : IsNetFor from m to k net = subst (IsNetFor from m to k) (sym (ap (λ (s : Space). s.net) c.room.view_is)) c.requires.prepared in
     let like : AreLike from to = record { heads = c.requires.heads; width = c.requires.width; from_widths = c.keeps_its_rules.ensures.valid.widths; to_widths = c.keeps_its_rules-2.ensures.valid.widths } in
-    let count = c.run-found.result.1 in
-    let whole = with_items_is c.room.inside.list c.run-found.new.list (c.run-found.auto.list ∙ c.deref_mut-4.ensures.len) in
-    let list = take count c.run-found.new.list in
-    λ yes asc. subst (λ l. IsFirst from m to k (take count l)) (sym whole) (found_first from to m k net list for like (subst (λ n. IsFound net n m k list) is (c.run-found.ensures.found yes)) (subst (λ n. IsFirstOf net n m k list) is (c.run-found.ensures.first yes asc)))
+    let count = c.in-Some.count in
+    let whole = with_items_is c.room.inside.list c.run.new.list (c.run.auto.list ∙ c.deref_mut-4.ensures.len) in
+    let list = take count c.run.new.list in
+    λ _ asc. subst (λ l. IsFirst from m to k (take count l)) (sym whole) (found_first from to m k net list for like (subst (λ n. IsFound net n m k list) is c.in-Some.ensures.found) (subst (λ n. IsFirstOf net n m k list) is (c.in-Some.ensures.first asc)))
 
-pub returns-clause-none : goal.returns-clause-none
-returns-clause-none g c =
+pub returns-in_default-clause-none : goal.returns-in_default-clause-none
+returns-in_default-clause-none g c =
     let from = c.args.from.now in let to = c.args.to.now in let m = c.args.from_mask in let k = c.args.to_mask in
     let is = c.row_count.ensures.is in
     let net = c.room.inside.net in
     let for : IsNetFor from m to k net = subst (IsNetFor from m to k) (sym (ap (λ (s : Space). s.net) c.room.view_is)) c.requires.prepared in
-    let like : AreLike from to = record { heads = c.requires.heads; width = c.requires.width; from_widths = c.keeps_its_rules.ensures.valid.widths; to_widths = c.keeps_its_rules-2.ensures.valid.widths } in
-    λ no'. none_mapping from to m k net for (subst (λ n. (other : ℕ → ℕ) → IsChoiceInto net n m k other → ⊥) is (c.run-found.ensures.none no'))
+    λ _. none_mapping from to m k net for (subst (λ n. (other : ℕ → ℕ) → IsChoiceInto net n m k other → ⊥) is (c.run.ensures.none c.in_default.is))
 
 pub returns-clause-cost : goal.returns-clause-cost
 returns-clause-cost g c =
@@ -100,5 +106,12 @@ returns-clause-cost g c =
     let is = c.row_count.ensures.is in
     let net = c.room.inside.net in
     let for : IsNetFor from m to k net = subst (IsNetFor from m to k) (sym (ap (λ (s : Space). s.net) c.room.view_is)) c.requires.prepared in
-    let like : AreLike from to = record { heads = c.requires.heads; width = c.requires.width; from_widths = c.keeps_its_rules.ensures.valid.widths; to_widths = c.keeps_its_rules-2.ensures.valid.widths } in
-    λ asc own. within_products from to m k net c.args.steps.now c.run-found.new.steps (subst (IsNet from m to k) (sym (ap (λ (s : Space). s.net) c.room.view_is)) own) (λ passes all. subst (λ n. c.run-found.new.steps ≤ c.args.steps.now + tries passes net.targets n m) is (c.run-found.ensures.cost passes (subst (λ n. ArePassed net n m passes) (sym is) all) asc))
+    λ asc own. within_products from to m k net c.args.steps.now c.run.new.steps (subst (IsNet from m to k) (sym (ap (λ (s : Space). s.net) c.room.view_is)) own) (λ passes all. subst (λ n. c.run.new.steps ≤ c.args.steps.now + tries passes net.targets n m) is (c.run.ensures.cost passes (subst (λ n. ArePassed net n m passes) (sym is) all) asc))
+
+pub returns-in_default-clause-cost : goal.returns-in_default-clause-cost
+returns-in_default-clause-cost g c =
+    let from = c.args.from.now in let to = c.args.to.now in let m = c.args.from_mask in let k = c.args.to_mask in
+    let is = c.row_count.ensures.is in
+    let net = c.room.inside.net in
+    let for : IsNetFor from m to k net = subst (IsNetFor from m to k) (sym (ap (λ (s : Space). s.net) c.room.view_is)) c.requires.prepared in
+    λ asc own. within_products from to m k net c.args.steps.now c.run.new.steps (subst (IsNet from m to k) (sym (ap (λ (s : Space). s.net) c.room.view_is)) own) (λ passes all. subst (λ n. c.run.new.steps ≤ c.args.steps.now + tries passes net.targets n m) is (c.run.ensures.cost passes (subst (λ n. ArePassed net n m passes) (sym is) all) asc))

@@ -1,4 +1,4 @@
-use Rattle.std.proofs.Common.{◌≡◌, ◌∙◌, [], sym, subst, Contains, true≢false, arith}
+use Rattle.std.proofs.Common.{[], sym, subst, Contains}
 use Rattle.su_tableau.specs.declared.symbols.Sym.TheVariants.{Var}
 use Rattle.su_map.proofs.tables.nearby.Goals as goal
 

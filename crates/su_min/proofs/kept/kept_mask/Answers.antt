@@ -46,6 +46,7 @@ pub loop-i-preserved : goal.loop-i-preserved
 loop-i-preserved g c =
     let t = c.args.t.now in let all = c.full-all.result in
     let kept = c.loop-i.kept in
+    let small = c.loop-i.invariant.small in
     let s = c.exists_prepared.ensures.sizes in
     let r = c.loop-i.invariant.sizes in
     let e : c.loop-i.i ≡ suc (c.loop-i.i - 1) = omega arith in
@@ -53,7 +54,7 @@ loop-i-preserved g c =
     record {
       sizes = record { rows = s.rows ∙ r.rows; symbols = s.symbols ∙ r.symbols };
       prepared = subst (IsNet t all t all) (sym c.exists_prepared.ensures.prepared) c.loop-i.invariant.prepared;
-      small = c.loop-i.invariant.small;
+      small = omega arith;
       greedy = greedy_keep (Fits t) (maps_sub t) (c.loop-i.i - 1) kept (subst (λ i. IsGreedy (Fits t) i kept) e c.loop-i.invariant.greedy)
           (λ f. none_fewer t kept (kept - c.bit.result) (c.exists_prepared.ensures.none.0 c.if-exists_prepared.false) (subst (Fits t) w f));
     }
