@@ -2,7 +2,7 @@ ghost use Rattle.su_query.specs.Reading.{AreFew, IsReady, outputs_of, condition_
 
 use crate::{
     NamedCond, NamedOperand, Place, QueryFault, QueryLimit, Resolved, Statement, mentioned, read,
-    resolve, resolve_attributes, resolve_columns, show,
+    resolve, resolve_attributes, resolve_columns, show, show_query,
 };
 use std::alloc::{AllocError, Global};
 use std::process::Abort;
@@ -305,6 +305,35 @@ fn statements_are_shown_with_one_space_between_tokens(rt: HostRuntime) -> Result
     ];
     for (text, want) in cases {
         assert_eq!(rt; shown(rt.alloc(), text)?.as_slice(), want);
+    }
+    Ok(())
+}
+
+/// The text of the query of a retrieval or an explanation.
+fn query_shown_of(alloc: Global, statement: &Statement) -> Result<List<u8>, Fail> {
+    match statement {
+        Statement::Retrieve(query) | Statement::Explain(query) => Ok(show_query(alloc, query)?),
+        _ => Err(Fail::from("no query")),
+    }
+}
+
+fn query_shown(alloc: Global, text: &[u8]) -> Result<List<u8>, Fail> {
+    let statement = read(alloc, text)?;
+    query_shown_of(alloc, &statement)
+}
+
+#[test]
+fn a_query_is_shown_without_explain(rt: HostRuntime) -> Result<(), Fail> {
+    let cases: [(&[u8], &[u8]); 3] = [
+        (b"retrieve(A,t . B)", b"retrieve (A, t.B)"),
+        (b"explain retrieve( CUST )", b"retrieve (CUST)"),
+        (
+            b"explain retrieve (t.C) where (S='Jones') and R=t.R",
+            b"retrieve (t.C) where S = 'Jones' and R = t.R",
+        ),
+    ];
+    for (text, want) in cases {
+        assert_eq!(rt; query_shown(rt.alloc(), text)?.as_slice(), want);
     }
     Ok(())
 }
