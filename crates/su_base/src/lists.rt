@@ -22,7 +22,7 @@ impl From<AllocError> for NoMemory {
 /// A list of items over a `Vec`, which keeps the allocator that it was made with.
 #[derive(Debug, Drop)]
 pub struct List<T> {
-    items: Vec<T>,
+    pub(crate) items: Vec<T>,
 }
 
 impl<T> Model for List<T> {

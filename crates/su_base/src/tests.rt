@@ -111,3 +111,21 @@ fn texts_on_both_sides_of_the_limit_are_texts(rt: HostRuntime) -> Result<(), Fai
     }
     Ok(())
 }
+
+// Places on the heap hold 55 or 119 bytes, and strings what is longer.
+#[test]
+fn a_row_takes_texts_of_any_length(rt: HostRuntime) -> Result<(), Fail> {
+    let alloc = rt.alloc();
+    let mut text = String::new(alloc);
+    let mut row = List::new(alloc);
+    let mut pushed = List::new(alloc);
+    for length in 0..122u8 {
+        row.push_text(alloc, text.as_str())?;
+        pushed.push(Value::Text(Str::new(alloc, text.as_str())?))?;
+        text.push((b'a' + length % 26) as char)?;
+    }
+    assert_eq!(rt; row.len(), 122);
+    assert!(rt; row == pushed);
+    assert!(rt; matches!(row.pop(), Some(Value::Text(last)) if last.as_str().len() == 121));
+    Ok(())
+}

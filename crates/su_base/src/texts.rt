@@ -1,12 +1,12 @@
 //! A text of UTF-8 that contracts see as its bytes.
-ghost use Rattle.std.specs.Prelude.{◌≡◌, ◌≤◌, IfOk, ◌==◌, length, take};
+ghost use Rattle.std.specs.Prelude.{◌≡◌, ◌≤◌, [], IfOk, ◌==◌, true, length};
 ghost use Rattle.std.proofs.Common.{rules};
 ghost use Rattle.std.specs.Cmp.{partial_order_from_own_ties};
 ghost use Rattle.std.specs.Cmp.Rules.{comparing, hashing};
 ghost use Rattle.std.specs.Cmp.Lexicographic.{pointwise, slice_cmp};
 ghost use Rattle.std.specs.Ordering.{nat_cmp, as_partial_cmp};
 ghost use Rattle.std.specs.Hash as fed;
-ghost use Rattle.su_base.specs.Text.{text_of, IsSound};
+ghost use Rattle.su_base.specs.Text.{text_of};
 
 use crate::lists::NoMemory;
 use std::alloc::{AllocError, Global};
@@ -15,17 +15,62 @@ use std::fmt;
 use std::hash::{Hash, Hasher};
 use std::marker::Model;
 
-/// Where the bytes lie: the first `length` of `bytes` in the value itself or in one small place on
-/// the heap, or a string.
+/// A text of at most `N` bytes: the first `count` of `bytes`.
+#[derive(Drop)]
+struct Held<const N: usize> {
+    count: u8,
+    bytes: [u8; N],
+}
+
+impl<const N: usize> Model for Held<N> {
+    ghost use Rattle.std.specs.Prelude.{List, ℕ, ◌≤◌, length, take, IsUtf8};
+
+    ghost Value = { List ℕ };
+
+    ghost view = { λ h. take h.count h.bytes };
+
+    ghost invariant = { λ h. (h.count ≤ length h.bytes) × ∥ IsUtf8 (take h.count h.bytes) ∥₁ };
+}
+
+impl<const N: usize> Held<N> {
+    fn empty() -> Held<N>
+        ensures { result ≡ [] }
+    {
+        Held {
+            count: 0,
+            bytes: [0; N],
+        }
+    }
+
+    // Makes it this text. Each byte is written once, where it stays.
+    #[inline(always)]
+    fn fill(&mut self, text: &str)
+        requires few { length text.now ≤ 255 }
+        requires fits { length text.now ≤ N }
+        ensures { self.new ≡ text.now }
+    {
+        self.count = text.len() as u8;
+        self.bytes[..text.len()].copy_from_slice(text.as_bytes());
+    }
+
+    fn as_str(&self) -> &str
+        ensures { result.now ≡ self.now }
+    {
+        unsafe { str::from_utf8_unchecked(&self.bytes[..self.count as usize]) }
+    }
+}
+
+/// Where the bytes lie: in the value itself, in one place on the heap, or in a string.
 #[derive(Drop)]
 enum Form {
-    Short { length: u8, bytes: [u8; 14] },
-    Middle { length: u8, bytes: Box<[u8; 56]> },
+    Short(Held<14>),
+    Middle(Box<Held<55>>),
+    Wide(Box<Held<119>>),
     Long(Box<String>),
 }
 
 /// A text of UTF-8 that it owns, ordered by its bytes. It is two machine words: at most 14 bytes lie
-/// in them, at most 56 in one place on the heap, and more in a string on the heap.
+/// in them, at most 119 in one place on the heap, and more in a string on the heap.
 #[derive(Drop)]
 pub struct Str {
     form: Form,
@@ -33,65 +78,75 @@ pub struct Str {
 
 impl Model for Str {
     ghost use Rattle.std.specs.Prelude.{List, ℕ};
-    ghost use Rattle.su_base.specs.Text.{text_of, IsSound};
+    ghost use Rattle.su_base.specs.Text.{text_of};
 
     ghost Value = { List ℕ };
 
     ghost view = { λ s. text_of s.form };
-
-    ghost invariant = { λ s. IsSound s.form };
 }
 
-// The text's bytes and then zeroes.
-fn padded<const N: usize>(text: &str) -> [u8; N]
-    requires { length text.now ≤ N }
-    ensures { take (length text.now) result ≡ text.now }
+// The text in one place on the heap.
+fn placed<const N: usize>(alloc: Global, text: &str) -> Result<Box<Held<N>>, NoMemory>
+    requires few { length text.now ≤ 255 }
+    requires fits { length text.now ≤ N }
+    ensures { IfOk result (λ place. place.value ≡ text.now) }
 {
-    let source = text.as_bytes();
-    let mut bytes = [0; N];
-    bytes[..source.len()].copy_from_slice(source);
-    bytes
-}
-
-fn short(text: &str) -> Form
-    requires { length text.now ≤ 14 }
-    ensures text { text_of result ≡ text.now }
-    ensures sound { IsSound result }
-{
-    Form::Short {
-        length: text.len() as u8,
-        bytes: padded(text),
-    }
-}
-
-fn middle(alloc: Global, text: &str) -> Result<Form, NoMemory>
-    requires { length text.now ≤ 56 }
-    ensures text { IfOk result (λ form. text_of form ≡ text.now) }
-    ensures sound { IfOk result IsSound }
-{
-    Ok(Form::Middle {
-        length: text.len() as u8,
-        bytes: Box::new(alloc, padded(text)).map_err(AllocError::from)?,
-    })
+    let mut place = Box::new(alloc, Held::empty()).map_err(AllocError::from)?;
+    place.fill(text);
+    Ok(place)
 }
 
 fn long(alloc: Global, text: &str) -> Result<Form, NoMemory>
-    ensures text { IfOk result (λ form. text_of form ≡ text.now) }
-    ensures sound { IfOk result IsSound }
+    ensures { IfOk result (λ form. text_of form ≡ text.now) }
 {
     let text = String::from_str(alloc, text)?;
     Ok(Form::Long(Box::new(alloc, text).map_err(AllocError::from)?))
 }
 
 impl Str {
-    /// A copy of the text.
+    // Whether the text lies in the value itself.
+    pub(crate) fn is_short(text: &str) -> bool
+        ensures { result ≡ true → length text.now ≤ 14 }
+    {
+        text.len() <= 14
+    }
+
+    // The text, which lies in the value itself.
+    pub(crate) fn short(text: &str) -> Str
+        requires { length text.now ≤ 14 }
+        ensures { result ≡ text.now }
+    {
+        let mut held = Held::empty();
+        held.fill(text);
+        Str {
+            form: Form::Short(held),
+        }
+    }
+
+    // Makes it a text that lies in the value itself.
+    #[inline(always)]
+    pub(crate) fn fill(&mut self, text: &str)
+        requires { length text.now ≤ 14 }
+        ensures { self.new ≡ text.now }
+    {
+        if let Form::Short(held) = &mut self.form {
+            held.fill(text);
+        } else {
+            *self = Str::short(text);
+        }
+    }
+
+    /// A copy of the text. It is inlined, so that it is made where it is kept.
     #[inline(always)]
     pub fn new(alloc: Global, text: &str) -> Result<Str, NoMemory>
         ensures { IfOk result (λ s. s ≡ text.now) }
     {
+        if Str::is_short(text) {
+            return Ok(Str::short(text));
+        }
         let form = match text.len() {
-            ..=14 => short(text),
-            ..=56 => middle(alloc, text)?,
+            ..=55 => Form::Middle(placed(alloc, text)?),
+            ..=119 => Form::Wide(placed(alloc, text)?),
             _ => long(alloc, text)?,
         };
         Ok(Str { form })
@@ -102,12 +157,9 @@ impl Str {
         ensures { result.now ≡ self.now }
     {
         match &self.form {
-            Form::Short { length, bytes } => unsafe {
-                str::from_utf8_unchecked(&bytes[..*length as usize])
-            },
-            Form::Middle { length, bytes } => unsafe {
-                str::from_utf8_unchecked(&bytes[..*length as usize])
-            },
+            Form::Short(held) => held.as_str(),
+            Form::Middle(held) => held.as_str(),
+            Form::Wide(held) => held.as_str(),
             Form::Long(text) => text.as_str(),
         }
     }

@@ -1,5 +1,5 @@
 //! Values, rows and columns.
-ghost use Rattle.std.specs.Prelude.{◌≡◌, IfOk};
+ghost use Rattle.std.specs.Prelude.{◌≡◌, [], ◌∷◌, ◌++◌, ◌≤◌, length, IfOk, OnOk, OnErr};
 ghost use Rattle.su_base.specs.Value.{compare_values, compare_lists, kind_of};
 
 use crate::lists::{List, NoMemory};
@@ -42,6 +42,19 @@ impl Value {
         }
     }
 
+    // Makes it a text that lies in the value itself.
+    #[inline(always)]
+    fn fill(&mut self, text: &str)
+        requires { length text.now ≤ 14 }
+        ensures { self.new ≡ Value.Text text.now }
+    {
+        if let Value::Text(held) = self {
+            held.fill(text);
+        } else {
+            *self = Value::Text(Str::short(text));
+        }
+    }
+
     /// Whole numbers before texts, numbers as numbers, texts by their bytes.
     pub fn compare(&self, other: &Value) -> Ordering
         ensures { result ≡ compare_values self.now other.now }
@@ -52,6 +65,24 @@ impl Value {
 
 /// One value per column.
 pub type Row = List<Value>;
+
+impl List<Value> {
+    /// Adds a copy of the text at the end. One that lies in the value itself is written once, where it
+    /// stays. Where memory is wanting, the row stays as it was.
+    #[inline(always)]
+    pub fn push_text(&mut self, alloc: Global, text: &str) -> Result<(), NoMemory>
+        ensures ok { OnOk result (self.new ≡ self.old ++ Value.Text text.now ∷ []) }
+        ensures unchanged { OnErr result (self.new ≡ self.old) }
+    {
+        if !Str::is_short(text) {
+            return Ok(self.push(Value::Text(Str::new(alloc, text)?))?);
+        }
+        let place = self.len();
+        self.push(Value::Text(Str::short("")))?;
+        self.items[place].fill(text);
+        Ok(())
+    }
+}
 
 /// A column of a stored relation.
 #[derive(Debug, Drop)]

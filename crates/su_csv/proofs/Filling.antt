@@ -1,5 +1,5 @@
 -- The row of a record, one column after another.
-use Rattle.std.proofs.Common.{◌≡◌, ◌+◌, ◌-◌, ◌<◌, ◌≤◌, ◌&&◌, ◌==◌, ℕ, zero, suc, true, false, List, [], ◌∷◌, ◌++◌, length, drop, get_or, Option, Some, None, Ok, Err, refl, sym, ap, arith, append_assoc, add-one, eq-eqb}
+use Rattle.std.proofs.Common.{◌≡◌, ◌+◌, ◌-◌, ◌<◌, ◌≤◌, ◌&&◌, ◌==◌, ℕ, zero, suc, Bool, true, false, List, [], ◌∷◌, ◌++◌, length, drop, get_or, Option, Some, None, Ok, Err, refl, sym, ap, arith, append_assoc, add-one, eq-eqb}
 use Rattle.std.proofs.lemmas.List.{append-nil, drop_all}
 use Rattle.std.proofs.lemmas.Bool.{le-ltb}
 use Rattle.std.specs.Prelude.{slice_get, is_none, MatchOption}
@@ -40,6 +40,17 @@ pub get-at : {A : Type 0} (xs : List A) (i : ℕ) (x : A) → i < length xs → 
 get-at [] i x lt is = absurd (omega arith)
 get-at (y ∷ xs) zero x lt is = ap Some (sym is)
 get-at (y ∷ xs) (suc i) x lt is = get-at xs i x (omega arith) is
+
+-- the value that a row got at its end, where one was found
+pub got : (sought : Option Value) (found : Bool) (old new : List Value) → MatchOption sought (found ≡ false) (λ value. (found ≡ true) × (new ≡ old ++ value ∷ []))
+    → found ≡ true → (value : Value) × ((sought ≡ Some value) × (new ≡ old ++ value ∷ []))
+got None found old new is has-one = absurd (cc (is, has-one))
+got (Some value) found old new is has-one = (value, (refl, is.1))
+
+pub got-none : (sought : Option Value) (found : Bool) (old new : List Value) → MatchOption sought (found ≡ false) (λ value. (found ≡ true) × (new ≡ old ++ value ∷ []))
+    → found ≡ false → sought ≡ None
+got-none None found old new is other = refl
+got-none (Some value) found old new is other = absurd (cc (is.0, other))
 
 -- a field with a value is not the place that is sought
 pub has : (kind other : Kind) (field : List ℕ) (value : Value) → value_of other field ≡ Some value → (same_kind kind other && is_none (value_of kind field)) ≡ false

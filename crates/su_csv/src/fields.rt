@@ -1,10 +1,10 @@
 //! What a field stands for.
-ghost use Rattle.std.specs.Prelude.{◌≡◌, ◌<◌, ◌^◌, IfOk, option_map, IsUtf8, if◌then◌else◌, Some, None, slice_index, ◌==◌, IfSome, pos, true};
+ghost use Rattle.std.specs.Prelude.{◌≡◌, ◌<◌, ◌^◌, ◌∷◌, ◌++◌, [], IfOk, MatchOption, option_map, IsUtf8, if◌then◌else◌, Some, None, slice_index, ◌==◌, IfSome, pos, true, false};
 ghost use Rattle.su_csv.specs.Field.{is_digits, number_of, is_text, value_of};
 ghost use Rattle.std.specs.Str.Parse.{digits_value};
 
 use std::alloc::Global;
-use su_base::{Kind, NoMemory, Str, Value};
+use su_base::{Kind, NoMemory, Row, Value};
 
 const TEXT_LIMIT: usize = 4096;
 
@@ -84,21 +84,31 @@ fn text_of(field: &[u8], known: bool) -> Option<&str>
     }
 }
 
-// The value of the field in a column of this kind; the field may be known to be UTF-8.
-pub(crate) fn value_of(
+// Adds the value of the field in a column of this kind to the row, and says whether it has one. The
+// field may be known to be UTF-8.
+pub(crate) fn push_value(
+    row: &mut Row,
     alloc: Global,
     kind: Kind,
     field: &[u8],
     known: bool,
-) -> Result<Option<Value>, NoMemory>
+) -> Result<bool, NoMemory>
     requires { known ≡ true → IsUtf8 field.now }
-    ensures { IfOk result (λ value. value ≡ value_of kind field.now) }
+    ensures { IfOk result (λ found. MatchOption (value_of kind field.now) (found ≡ false) (λ value. (found ≡ true) × (row.new ≡ row.old ++ value ∷ []))) }
 {
     match kind {
-        Kind::Int => Ok(number_of(field).map(Value::Int)),
-        Kind::Text => match text_of(field, known) {
-            Some(text) => Ok(Some(Value::Text(Str::new(alloc, text)?))),
-            None => Ok(None),
-        },
+        Kind::Int => {
+            let Some(number) = number_of(field) else {
+                return Ok(false);
+            };
+            row.push(Value::Int(number))?;
+        }
+        Kind::Text => {
+            let Some(text) = text_of(field, known) else {
+                return Ok(false);
+            };
+            row.push_text(alloc, text)?;
+        }
     }
+    Ok(true)
 }

@@ -6,7 +6,7 @@ ghost use Rattle.su_base.specs.Value.{same_kind};
 ghost use Rattle.su_csv.specs.Field.{value_of};
 
 use crate::faults::CsvFault;
-use crate::fields::{number_of, value_of};
+use crate::fields::{number_of, push_value};
 use csv::ByteRecord;
 use std::alloc::Global;
 use su_base::{Column, Kind, List, Row};
@@ -82,9 +82,9 @@ pub(crate) fn row_of(
     let ascii = is_ascii(fields);
     let mut row = List::from_vec(Vec::with_capacity(alloc, columns.len())?);
     for (place, column) in columns.iter().enumerate() {
-        match value_of(alloc, column.kind, field_at(fields, place), ascii)? {
-            Some(value) => row.push(value)?,
-            None => return Err(fault_at(columns, fields, number, place)),
+        let field = field_at(fields, place);
+        if !push_value(&mut row, alloc, column.kind, field, ascii)? {
+            return Err(fault_at(columns, fields, number, place));
         }
     }
     Ok(row)

@@ -1,26 +1,26 @@
-use Rattle.std.proofs.Common.{◌∙◌, sym, inr, arith}
+use Rattle.std.proofs.Common.{◌∙◌, inr, arith}
 use Rattle.csv.specs.Records.{fields_of}
 use Rattle.su_base.specs.declared.values.Kind.TheVariants.{Int, Text}
 use Rattle.su_csv.specs.Record.{row_of}
 use Rattle.csv.proofs.RecordFacts.{text-of}
-use Rattle.su_csv.proofs.Filling.{field-at, fault-here, get-at, in-full, one-value, still-sought}
+use Rattle.su_csv.proofs.Filling.{field-at, fault-here, get-at, got, got-none, in-full, one-value, still-sought}
 use Rattle.su_csv.proofs.rows.row_of.Goals as goal
 
 pub loop-place-preserved : goal.loop-place-preserved
 loop-place-preserved c =
     let at-column = get-at c.args.columns.now c.loop-place.place c.index-columns-place.result c.loop-place-test.true c.index-columns-place.is in
-    let is = sym c.in_ok-value.ensures ∙ c.in-Some.is in record {
-      numbers = still-sought c.args.columns.now (fields_of c.args.fields.now) c.loop-place.place c.index-columns-place.result c.field_at.result.now at-column c.field_at.ensures Int c.in-Some.value _ is c.loop-place.invariant.numbers;
-      texts = still-sought c.args.columns.now (fields_of c.args.fields.now) c.loop-place.place c.index-columns-place.result c.field_at.result.now at-column c.field_at.ensures Text c.in-Some.value _ is c.loop-place.invariant.texts;
-      built = rw c.in_ok-push-in-Some.ensures.ok (one-value c.args.columns.now (fields_of c.args.fields.now) c.loop-place.place c.index-columns-place.result c.field_at.result.now at-column c.field_at.ensures c.in-Some.value c.loop-place.row _ is c.loop-place.invariant.built);
+    let value = got _ _ _ _ c.in_ok-push_value.ensures c.if-not-branch.false in record {
+      numbers = still-sought c.args.columns.now (fields_of c.args.fields.now) c.loop-place.place c.index-columns-place.result c.field_at-field.result.now at-column c.field_at-field.ensures Int value.0 _ value.1.0 c.loop-place.invariant.numbers;
+      texts = still-sought c.args.columns.now (fields_of c.args.fields.now) c.loop-place.place c.index-columns-place.result c.field_at-field.result.now at-column c.field_at-field.ensures Text value.0 _ value.1.0 c.loop-place.invariant.texts;
+      built = rw value.1.1 (one-value c.args.columns.now (fields_of c.args.fields.now) c.loop-place.place c.index-columns-place.result c.field_at-field.result.now at-column c.field_at-field.ensures value.0 c.loop-place.row _ value.1.0 c.loop-place.invariant.built);
     }
 
-pub returns-in-None : goal.returns-in-None
-returns-in-None c =
+pub returns-then-not-branch : goal.returns-then-not-branch
+returns-then-not-branch c =
     let at-column = get-at c.args.columns.now c.loop-place.place c.index-columns-place.result c.loop-place-test.true c.index-columns-place.is in
     inr (in-full c.args.columns.now (fields_of c.args.fields.now) c.args.number c.requires.number (omega arith)
-    ∙ fault-here c.args.columns.now (fields_of c.args.fields.now) c.loop-place.place c.index-columns-place.result c.field_at.result.now at-column c.field_at.ensures
-    c.args.number _ _ (row_of c.args.columns.now (fields_of c.args.fields.now)) c.fault_at.result (sym c.in_ok-value.ensures ∙ c.in-None.is) c.loop-place.invariant.numbers c.loop-place.invariant.texts c.fault_at.ensures)
+    ∙ fault-here c.args.columns.now (fields_of c.args.fields.now) c.loop-place.place c.index-columns-place.result c.field_at-field.result.now at-column c.field_at-field.ensures
+    c.args.number _ _ (row_of c.args.columns.now (fields_of c.args.fields.now)) c.fault_at.result (got-none _ _ _ _ c.in_ok-push_value.ensures c.if-not-branch.true) c.loop-place.invariant.numbers c.loop-place.invariant.texts c.fault_at.ensures)
 
-pub value_of-requires : goal.value_of-requires
-value_of-requires c is = text-of (fields_of c.args.fields.now) c.loop-place.place c.field_at.result.now (c.is_ascii-ascii.ensures is) (field-at (fields_of c.args.fields.now) c.loop-place.place ∙ c.field_at.ensures)
+pub push_value-requires : goal.push_value-requires
+push_value-requires c is = text-of (fields_of c.args.fields.now) c.loop-place.place c.field_at-field.result.now (c.is_ascii-ascii.ensures is) (field-at (fields_of c.args.fields.now) c.loop-place.place ∙ c.field_at-field.ensures)

@@ -1,0 +1,10 @@
+use Rattle.std.proofs.Common.{◌≡◌, List, [], ◌∷◌, ◌++◌, length, slice_set, refl, ap}
+use Rattle.su_base.proofs.values.List+Value.push_text.Goals as goal
+
+-- the item at the end is another
+set-last : {A : Type 0} (xs : List A) (old new : A) → slice_set (xs ++ old ∷ []) (length xs) new ≡ xs ++ new ∷ []
+set-last [] old new = refl
+set-last (x ∷ xs) old new = ap (λ more. x ∷ more) (set-last xs old new)
+
+pub returns-clause-ok : goal.returns-clause-ok
+returns-clause-ok c = rw (c.self.view_is, c.in_ok-push-2.ensures.ok, c.len-place.ensures, c.fill.ensures) (set-last c.args.self.now _ _)
