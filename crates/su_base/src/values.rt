@@ -75,12 +75,22 @@ impl List<Value> {
         ensures unchanged { OnErr result (self.new ≡ self.old) }
     {
         if !Str::is_short(text) {
-            return Ok(self.push(Value::Text(Str::new(alloc, text)?))?);
+            return self.push_placed(alloc, text);
         }
         let place = self.len();
         self.push(Value::Text(Str::short("")))?;
         self.items[place].fill(text);
         Ok(())
+    }
+
+    // Adds a copy of the text at the end, of any length. It is not inlined, so that rows of short texts
+    // are filled in few registers.
+    #[inline(never)]
+    fn push_placed(&mut self, alloc: Global, text: &str) -> Result<(), NoMemory>
+        ensures ok { OnOk result (self.new ≡ self.old ++ Value.Text text.now ∷ []) }
+        ensures unchanged { OnErr result (self.new ≡ self.old) }
+    {
+        Ok(self.push(Value::Text(Str::new(alloc, text)?))?)
     }
 }
 
@@ -102,7 +112,7 @@ pub fn compare_rows(a: &Row, b: &Row) -> Ordering
 pub fn copy_row(alloc: Global, row: &Row) -> Result<Row, NoMemory>
     ensures { IfOk result (λ r. r ≡ row.now) }
 {
-    let mut copied = List::new(alloc);
+    let mut copied = List::from_vec(Vec::with_capacity(alloc, row.len())?);
     for value in row.as_slice() {
         copied.push(value.copy(alloc)?)?;
     }

@@ -55,9 +55,18 @@ fn short_number(field: &[u8]) -> Option<i64>
 pub(crate) fn number_of(field: &[u8]) -> Option<i64>
     ensures { result ≡ number_of field.now }
 {
-    if let Some(value) = short_number(field) {
-        return Some(value);
+    match short_number(field) {
+        Some(value) => Some(value),
+        None => long_number(field),
     }
+}
+
+// The same where it isn't soon told: of 19 digits and more, and where there is none.
+#[cold]
+#[inline(never)]
+fn long_number(field: &[u8]) -> Option<i64>
+    ensures { result ≡ number_of field.now }
+{
     if starts_with_plus(field) {
         return None;
     }

@@ -7,4 +7,4 @@ set-last [] old new = refl
 set-last (x ∷ xs) old new = ap (λ more. x ∷ more) (set-last xs old new)
 
 pub returns-clause-ok : goal.returns-clause-ok
-returns-clause-ok c = rw (c.self.view_is, c.in_ok-push-2.ensures.ok, c.len-place.ensures, c.fill.ensures) (set-last c.args.self.now _ _)
+returns-clause-ok c = rw (c.self.view_is, c.in_ok-push.ensures.ok, c.len-place.ensures, c.fill.ensures) (set-last c.args.self.now _ _)

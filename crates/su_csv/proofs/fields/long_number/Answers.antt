@@ -1,6 +1,6 @@
 use Rattle.std.proofs.Common.{◌∙◌, sym}
 use Rattle.su_csv.proofs.Numbers.{parsed, not-text}
-use Rattle.su_csv.proofs.fields.number_of.Goals as goal
+use Rattle.su_csv.proofs.fields.long_number.Goals as goal
 
 pub returns-in-Ok : goal.returns-in-Ok
 returns-in-Ok c =
