@@ -9,7 +9,6 @@ use su_base::{Column, Kind, List, ObjSet};
 use su_fd::Fd;
 
 /// Attributes, relations, objects, dependencies and declared maximal objects.
-#[derive(Drop)]
 pub struct Schema {
     pub(crate) alloc: Global,
     pub(crate) attributes: IndexMap<String, Kind>,
@@ -17,6 +16,20 @@ pub struct Schema {
     pub(crate) objects: IndexMap<String, Object>,
     pub(crate) fds: List<Fd>,
     pub(crate) declared: List<ObjSet>,
+}
+
+// Not derived, so that it is a single call wherever a schema goes out of scope above.
+impl Drop for Schema {
+    fn drop(self) {
+        let Schema {
+            alloc: _,
+            attributes: _,
+            relations: _,
+            objects: _,
+            fds: _,
+            declared: _,
+        } = self;
+    }
 }
 
 impl Model for Schema {

@@ -18,11 +18,21 @@ use su_show::Refusal;
 use su_state::Database;
 
 /// A database with the maximal objects of its schema.
-#[derive(Drop)]
 pub struct Session {
     pub(crate) alloc: Global,
     pub(crate) db: Database,
     pub(crate) maximal: List<ObjSet>,
+}
+
+// Not derived, so that it is a single call wherever a session goes out of scope above.
+impl Drop for Session {
+    fn drop(self) {
+        let Session {
+            alloc: _,
+            db: _,
+            maximal: _,
+        } = self;
+    }
 }
 
 impl Model for Session {

@@ -11,11 +11,21 @@ use su_index::Table;
 use su_schema::Schema;
 
 /// A schema and the rows of its relations.
-#[derive(Drop)]
 pub struct Database {
     pub(crate) alloc: Global,
     pub(crate) schema: Schema,
     pub(crate) tables: Vec<Table>,
+}
+
+// Not derived, so that it is a single call wherever a database goes out of scope above.
+impl Drop for Database {
+    fn drop(self) {
+        let Database {
+            alloc: _,
+            schema: _,
+            tables: _,
+        } = self;
+    }
 }
 
 impl Model for Database {

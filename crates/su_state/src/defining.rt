@@ -156,6 +156,7 @@ impl Database {
         ensures { Defines self.old definition.now result self.new }
     {
         let schema = extended(&self.schema, definition)?;
+        schema.keeps_its_rules();
         check_added(self.alloc, &schema, self.tables.as_slice(), definition)?;
         add_table(self.alloc, &mut self.tables, definition)?;
         self.schema = schema;

@@ -69,7 +69,7 @@ returns-in_err-columns-clause-syntax c =
     let r = u.rest in
     let k = c.in_ok-expect_word.ensures.found in
     let m = c.in_ok-relation.ensures.found.0 in
-    let last : c.name-3.new.self.rest.now ≡ columns = cc in
+    let last : c.name-2.new.self.rest.now ≡ columns = cc in
     c.in_err-columns.ensures.syntax (ap Err h) _ [] f.columns last
     )
 
@@ -88,7 +88,7 @@ returns-in_err-end-clause-syntax c =
     let r = u.rest in
     let k = c.in_ok-expect_word.ensures.found in
     let m = c.in_ok-relation.ensures.found.0 in
-    let last : c.name-3.new.self.rest.now ≡ columns = cc in
+    let last : c.name-2.new.self.rest.now ≡ columns = cc in
     let o = c.in_ok-columns.ensures.found in
     let v = parens_unique c.in_ok-columns.columns _ _ [] o.1 f.columns (sym o.0 ∙ last) in
     let some = c.in_err-end.ensures.syntax (ap Err h) in
@@ -107,7 +107,7 @@ returns-then-len-clause-syntax c = λ s d is.
     let r = u.rest in
     let k = c.in_ok-expect_word.ensures.found in
     let m = c.in_ok-relation.ensures.found.0 in
-    let last : c.name-3.new.self.rest.now ≡ columns = cc in
+    let last : c.name-2.new.self.rest.now ≡ columns = cc in
     let o = c.in_ok-columns.ensures.found in
     let v = parens_unique c.in_ok-columns.columns _ _ [] o.1 f.columns (sym o.0 ∙ last) in
     c.if-len.true (c.len.ensures ∙ ap length u.names ∙ pairs_lengths f.pairs ∙ sym (ap length v.names) ∙ sym c.len-2.ensures)

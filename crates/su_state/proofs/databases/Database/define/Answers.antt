@@ -13,7 +13,7 @@ use Rattle.su_state.proofs.databases.Database.define.Goals as goal
 pub check_added-requires-clause-tables : goal.check_added-requires-clause-tables
 check_added-requires-clause-tables c =
     let db : DatabaseValue = record { schema = c.self.inside.schema; tables = c.self.inside.tables.items } in
-    let valid : IsValid c.in_ok-schema.schema = subst IsValid c.schema.view_is c.schema.invariant.valid in
+    let valid : IsValid c.in_ok-schema.schema = c.keeps_its_rules.ensures in
     rw c.as_slice.ensures.value (tables_there db c.in_ok-schema.schema c.args.definition.now c.self.invariant valid c.in_ok-schema.ensures.ok)
 
 pub check_added-requires-clause-added : goal.check_added-requires-clause-added
@@ -21,7 +21,7 @@ check_added-requires-clause-added c = added_there c.self.inside.schema c.in_ok-s
 
 pub add_table-requires : goal.add_table-requires
 add_table-requires c =
-    let valid : IsValid c.in_ok-schema.schema = subst IsValid c.schema.view_is c.schema.invariant.valid in
+    let valid : IsValid c.in_ok-schema.schema = c.keeps_its_rules.ensures in
     narrow c.self.inside.schema c.in_ok-schema.schema c.args.definition.now c.in_ok-schema.ensures.ok valid
 
 pub returns-in_err-check_added : goal.returns-in_err-check_added
@@ -48,7 +48,7 @@ returns-in_err-add_table c =
 pub invariant_of-self-2 : goal.invariant_of-self-2
 invariant_of-self-2 c =
     let db : DatabaseValue = record { schema = c.self.inside.schema; tables = c.self.inside.tables.items } in
-    let valid : IsValid c.in_ok-schema.schema = subst IsValid c.schema.view_is c.schema.invariant.valid in
+    let valid : IsValid c.in_ok-schema.schema = c.keeps_its_rules.ensures in
     let holds : AddedHolds c.in_ok-schema.schema c.self.inside.tables.items c.args.definition.now = subst (λ (tables : List Stored). AddedHolds c.in_ok-schema.schema tables c.args.definition.now) c.as_slice.ensures.value c.in_ok-check_added.ensures.holds in
     subst (λ (tables : List Stored). IsWellKept (record { schema = c.in_ok-schema.schema; tables = tables })) (sym c.in_ok-add_table.ensures.ok)
     (kept_added db c.in_ok-schema.schema c.args.definition.now c.self.invariant valid c.in_ok-schema.ensures.ok holds)
