@@ -1,0 +1,92 @@
+-- Rows of lists that are taken from the end, one after another.
+use Rattle.std.proofs.Common.{◌≡◌, ◌↔◌, ◌⊎◌, inl, inr, ⊎_elim, List, [], ◌∷◌, ◌++◌, Contains, Option, Some, All, refl, sym, ap, subst, ◌∙◌, arith}
+use Rattle.std.specs.Prelude.{IsSome}
+use Rattle.std.proofs.lemmas.List.Elements.{Contains-append_left, Contains-append_right, Contains-append_cases, All-from_recursion}
+use Rattle.std.proofs.lemmas.Option.{same_Some}
+use Rattle.su_base.specs.declared.values.Value.{Value}
+use Rattle.su_steps.proofs.Lists.{contains_cases, contains_none, all_by}
+use Rattle.su_answer.specs.declared.found.Found.{Found}
+use Rattle.su_answer.specs.Executed.{IsInSome}
+
+-- how far the lists are gone through: what is left, and the rows of the others
+pub record AreGathered (lists left : List Found) (all : List (List Value)) : Type 0 where
+  pub rows : (h : List Value) → (Contains all h ⊎ IsInSome left h) ↔ IsInSome lists h
+  pub some : (f : Found) → Contains lists f → Contains left f ⊎ IsSome f.rows
+  pub of_lists : (f : Found) → Contains left f → Contains lists f
+
+pub begun : (lists : List Found) → AreGathered lists lists []
+begun lists = record {
+  rows = λ h. (λ s. ⊎_elim (λ (c : Contains [] h). absurd (contains_none h c)) (λ (i : IsInSome lists h). i) s, λ i. inr i);
+  some = λ f c. inl c;
+  of_lists = λ f c. c;
+}
+
+-- a row of the lists in front, or of the last one
+in_front : (left : List Found) (f : Found) (h : List Value) → IsInSome left h → IsInSome (left ++ f ∷ []) h
+in_front left f h s = record { found = s.found; member = Contains-append_left left (f ∷ []) s.found s.member; rows = s.rows; is = s.is; has = s.has }
+
+last_or_front : (left : List Found) (f : Found) (rows : List (List Value)) (h : List Value) → f.rows ≡ Some rows → IsInSome (left ++ f ∷ []) h → Contains rows h ⊎ IsInSome left h
+last_or_front left f rows h is s =
+    ⊎_elim
+    (λ (l : Contains left s.found). inr (record { found = s.found; member = l; rows = s.rows; is = s.is; has = s.has }))
+    (λ (r : Contains (f ∷ []) s.found).
+    ⊎_elim
+    (λ (e : f ≡ s.found). inl (subst (λ (xs : List (List Value)). Contains xs h) (same_Some s.rows rows (sym s.is ∙ ap (λ (g : Found). g.rows) (sym e) ∙ is)) s.has))
+    (λ (n : Contains [] s.found). absurd (contains_none s.found n))
+    (contains_cases f [] s.found r))
+    (Contains-append_cases left (f ∷ []) s.found s.member)
+
+pub one_list : (lists before left : List Found) (f : Found) (rows all more : List (List Value)) → AreGathered lists before all → before ≡ left ++ f ∷ [] → f.rows ≡ Some rows → more ≡ all ++ rows → AreGathered lists left more
+one_list lists before left f rows all more g e is m = record {
+  rows = λ h. (
+    λ s. ⊎_elim
+        (λ (c : Contains more h).
+        ⊎_elim
+        (λ (a : Contains all h). (g.rows h).0 (inl a))
+        (λ (r : Contains rows h). (g.rows h).0 (inr (subst (λ (ls : List Found). IsInSome ls h) (sym e) (record { found = f; member = Contains-append_right left (f ∷ []) f (0, omega arith, refl); rows = rows; is = is; has = r }))))
+        (Contains-append_cases all rows h (subst (λ (xs : List (List Value)). Contains xs h) m c)))
+        (λ (i : IsInSome left h). (g.rows h).0 (inr (subst (λ (ls : List Found). IsInSome ls h) (sym e) (in_front left f h i))))
+        s,
+    λ i. ⊎_elim
+        (λ (a : Contains all h). inl (subst (λ (xs : List (List Value)). Contains xs h) (sym m) (Contains-append_left all rows h a)))
+        (λ (b : IsInSome before h).
+        ⊎_elim
+        (λ (r : Contains rows h). inl (subst (λ (xs : List (List Value)). Contains xs h) (sym m) (Contains-append_right all rows h r)))
+        (λ (l : IsInSome left h). inr l)
+        (last_or_front left f rows h is (subst (λ (ls : List Found). IsInSome ls h) e b)))
+        ((g.rows h).1 i),
+  );
+  some = λ k c.
+      ⊎_elim
+      (λ (b : Contains before k).
+      ⊎_elim
+      (λ (l : Contains left k). inl l)
+      (λ (r : Contains (f ∷ []) k).
+      ⊎_elim
+      (λ (same : f ≡ k). inr (subst (λ (o : Option (List (List Value))). IsSome o) (sym is ∙ ap (λ (q : Found). q.rows) same) refl))
+      (λ (n : Contains [] k). absurd (contains_none k n))
+      (contains_cases f [] k r))
+      (Contains-append_cases left (f ∷ []) k (subst (λ (ls : List Found). Contains ls k) e b)))
+      (λ (s : IsSome k.rows). inr s)
+      (g.some k c);
+  of_lists = λ k c. g.of_lists k (subst (λ (ls : List Found). Contains ls k) (sym e) (Contains-append_left left (f ∷ []) k c));
+}
+
+pub all_rows : (lists left : List Found) (all : List (List Value)) → AreGathered lists left all → left ≡ [] → (h : List Value) → Contains all h ↔ IsInSome lists h
+all_rows lists left all g e h = (
+  λ c. (g.rows h).0 (inl c),
+  λ i. ⊎_elim
+      (λ (c : Contains all h). c)
+      (λ (s : IsInSome left h). absurd (contains_none s.found (subst (λ (ls : List Found). Contains ls s.found) e s.member)))
+      ((g.rows h).1 i),
+)
+
+pub all_some : (lists left : List Found) (all : List (List Value)) → AreGathered lists left all → left ≡ [] → All (λ (f : Found). IsSome f.rows) lists
+all_some lists left all g e = All-from_recursion (λ (f : Found). IsSome f.rows) lists (all_by (λ (f : Found). IsSome f.rows) lists (λ f c.
+    ⊎_elim
+    (λ (l : Contains left f). absurd (contains_none f (subst (λ (ls : List Found). Contains ls f) e l)))
+    (λ (s : IsSome f.rows). s)
+    (g.some f c)))
+
+pub last_in : (lists before left : List Found) (f : Found) (all : List (List Value)) → AreGathered lists before all → before ≡ left ++ f ∷ [] → Contains lists f
+last_in lists before left f all g e = g.of_lists f (subst (λ (ls : List Found). Contains ls f) (sym e) (Contains-append_right left (f ∷ []) f (0, omega arith, refl)))

@@ -1,0 +1,117 @@
+-- The outputs of a join are the stored answers whose comparisons hold.
+use Rattle.std.proofs.Common.{◌≡◌, ℕ, ◌+◌, ◌*◌, ◌<◌, ◌↔◌, List, [], map, length, get_or, Contains, Some, All, sym, ap, ◌∙◌, subst, pos, arith}
+use Rattle.std.specs.Prelude.{IsTrue, take}
+use Rattle.std.specs.Int.{bit_at}
+use Rattle.std.specs.List.{range_with_len}
+use Rattle.std.proofs.lemmas.List.{get_or-map, get_or_default, take-map}
+use Rattle.std.proofs.lemmas.List.Elements.{All-contains, All-from_recursion}
+use Rattle.su_base.specs.declared.values.Value.{Value}
+use Rattle.su_base.specs.declared.values.Value.TheVariants.{Int}
+use Rattle.su_where.specs.declared.operators.Op.TheVariants.{Equal}
+use Rattle.su_where.specs.Operator.{compares}
+use Rattle.su_tableau.specs.declared.symbols.Sym.TheVariants.{Var}
+use Rattle.su_tableau.specs.Tableaux.{Tab, IsValid, nth, value_of, values_of, AreCompared, Cut}
+use Rattle.su_tableau.proofs.Listing.{listed}
+use Rattle.su_map.specs.Lists.{rows_in}
+use Rattle.su_map.proofs.Ranks.{rank, rank_in, rank_at, ranked_at}
+use Rattle.su_state.specs.DatabaseValue.{DatabaseValue, IsWellKept}
+use Rattle.su_exec.specs.declared.tasks.Task.{Task}
+use Rattle.su_exec.specs.Tasks.{HasSources, IsTask}
+use Rattle.su_exec.specs.Outputs.{Agrees, Holds as HoldsFor, IsOutput}
+use Rattle.su_answer.specs.Answers.{IsRead, StoredAnswer}
+use Rattle.su_answer.specs.Joined.{IsTaskRowOf, comparison_at, IsTaskOf}
+use Rattle.su_steps.proofs.Lists.{all_by, contains_map, of_map}
+use Rattle.su_answer.proofs.Zipping.{zip_first, zip_second}
+use Rattle.su_answer.proofs.Rowing.{range_has, range_low, row_read, read_row}
+
+-- ---- rows of a set
+
+pub in_rows : (t : Tab) (m i : ℕ) → i < length t.rows → bit_at m i ≡ 1 → Contains (rows_in t m) i
+in_rows t m i l b = (rank m i, rank_in m (length t.rows) i l b, get_or_default (rows_in t m) (rank m i) i 0 (rank_in m (length t.rows) i l b) ∙ rank_at m (length t.rows) i l b)
+
+pub of_rows : (t : Tab) (m i : ℕ) → Contains (rows_in t m) i → (i < length t.rows) × (bit_at m i ≡ 1)
+of_rows t m i c =
+    let r = ranked_at m (length t.rows) c.0 c.1 in
+    let same : r.number ≡ i = sym r.is ∙ get_or_default (rows_in t m) c.0 0 i c.1 ∙ c.2 in
+    (subst (λ k. k < length t.rows) same r.below, subst (λ k. bit_at m k ≡ 1) same r.member)
+
+-- ---- a read row under a valuation with the same values
+
+read_under : (db : DatabaseValue) (t : Tab) (m i : ℕ) (v w : ℕ → Value) → values_of w (get_or t.rows i []) ≡ values_of v (get_or t.rows i []) → IsRead db t m v i → IsRead db t m w i
+read_under db t m i v w same r = record {
+  source = r.source;
+  is_source = r.is_source;
+  object = r.object;
+  is = r.is;
+  row = r.row;
+  stored = r.stored;
+  agrees = λ c x h e.
+      let row = get_or t.rows i [] in
+      let value : value_of w x ≡ value_of v x =
+      ap (value_of w) (sym (h.is x)) ∙ sym (get_or-map (value_of w) row c x (Int (pos 0)) h.column_in) ∙ ap (λ xs. get_or xs c (Int (pos 0))) same ∙ get_or-map (value_of v) row c x (Int (pos 0)) h.column_in ∙ ap (value_of v) (h.is x) in
+      r.agrees c x h e ∙ ap Some (sym value);
+}
+
+-- ---- comparisons
+
+head_value : (t : Tab) (v : ℕ → Value) (k : ℕ) → k < length t.head → get_or (values_of v t.head) k (Int (pos 0)) ≡ value_of v (get_or t.head k (Var 0))
+head_value t v k l = get_or-map (value_of v) t.head k (Var 0) (Int (pos 0)) l
+
+compared_same : (t : Tab) (v : ℕ → Value) (i : ℕ) → IsValid t → i < length t.operators
+    → compares (get_or t.operators i Equal) (get_or (values_of v t.head) (t.outputs + 2 * i) (Int (pos 0))) (get_or (values_of v t.head) (t.outputs + 2 * i + 1) (Int (pos 0)))
+    ≡ compares (comparison_at t i).op (value_of v (comparison_at t i).left) (value_of v (comparison_at t i).right)
+compared_same t v i valid l =
+    let n = valid.head_length in
+    let left = head_value t v (t.outputs + 2 * i) (omega arith) in
+    let right = head_value t v (t.outputs + 2 * i + 1) (omega arith) in
+    ap (λ x. compares (get_or t.operators i Equal) x (get_or (values_of v t.head) (t.outputs + 2 * i + 1) (Int (pos 0)))) left ∙ ap (compares (get_or t.operators i Equal) (value_of v (get_or t.head (t.outputs + 2 * i) (Var 0)))) right
+
+module _ (db : DatabaseValue) (t : Tab) (m : ℕ) (task : Task) (kept : IsWellKept db) (valid : IsValid t) (fits : IsTask db.tables task) (is : IsTaskOf db.schema t m task) where
+  holds_all : (v : ℕ → Value) → AreCompared t (values_of v t.head) → All (HoldsFor v) task.comparisons
+  holds_all v h =
+      subst (λ cs. All (HoldsFor v) cs) (sym is.comparisons)
+      (All-from_recursion (HoldsFor v) (map (comparison_at t) (range_with_len 0 (length t.operators))) (all_by (HoldsFor v) (map (comparison_at t) (range_with_len 0 (length t.operators))) (λ c k.
+      let w = of_map (comparison_at t) (range_with_len 0 (length t.operators)) c k in
+      let low = range_low (length t.operators) w.0 w.1 in
+      subst (HoldsFor v) w.2 (subst IsTrue (compared_same t v w.0 valid low) (h w.0 low)))))
+
+  all_hold : (v : ℕ → Value) → All (HoldsFor v) task.comparisons → AreCompared t (values_of v t.head)
+  all_hold v h = λ i low.
+      let there = contains_map (comparison_at t) (range_with_len 0 (length t.operators)) i (range_has (length t.operators) i low) in
+      subst IsTrue (sym (compared_same t v i valid low)) (All-contains (HoldsFor v) (map (comparison_at t) (range_with_len 0 (length t.operators))) (comparison_at t i) (subst (λ cs. All (HoldsFor v) cs) is.comparisons h) there)
+
+  agrees_all : (v : ℕ → Value) → ((i : ℕ) → i < length t.rows → bit_at m i ≡ 1 → IsRead db t m v i) → All (Agrees db.tables v) task.rows
+  agrees_all v h = All-from_recursion (Agrees db.tables v) task.rows (all_by (Agrees db.tables v) task.rows (λ r c.
+      let w = zip_second (IsTaskRowOf db.schema t m) (rows_in t m) task.rows r is.rows c in
+      let n = of_rows t m w.0 w.1 in
+      read_row db t m w.0 r v kept valid n.0 n.1 w.2 (h w.0 n.0 n.1)))
+
+  all_read : (v : ℕ → Value) → All (Agrees db.tables v) task.rows → (i : ℕ) → i < length t.rows → bit_at m i ≡ 1 → IsRead db t m v i
+  all_read v h i low set =
+      let w = zip_first (IsTaskRowOf db.schema t m) (rows_in t m) task.rows i is.rows (in_rows t m i low set) in
+      row_read db t m i w.0 v kept valid low set w.2 (All-contains (HasSources db.tables) task.rows w.0 fits.sources w.1) (All-contains (Agrees db.tables v) task.rows w.0 h w.1)
+
+  pub outputs_are_answers : (h : List Value) → IsOutput db.tables task h ↔ Cut t (StoredAnswer db t m) h
+  outputs_are_answers h = (
+    λ o.
+        let l = listed t o.valuation in
+        record {
+          head = values_of o.valuation t.head;
+          member = record {
+            values = l.0;
+            valuation = l.1.below;
+            reads = λ i low set. read_under db t m i o.valuation (nth l.0) (l.1.rows i [] low) (all_read o.valuation o.agrees i low set);
+            gives = l.1.head;
+          };
+          compared = all_hold o.valuation o.holds;
+          outputs = take-map (value_of o.valuation) t.outputs t.head ∙ ap (values_of o.valuation) (sym is.outputs) ∙ o.gives;
+        },
+    λ c.
+        let v = nth c.member.values in
+        record {
+          valuation = v;
+          agrees = agrees_all v c.member.reads;
+          holds = holds_all v (subst (AreCompared t) (sym c.member.gives) c.compared);
+          gives = ap (values_of v) is.outputs ∙ sym (take-map (value_of v) t.outputs t.head) ∙ ap (take t.outputs) c.member.gives ∙ c.outputs;
+        },
+  )

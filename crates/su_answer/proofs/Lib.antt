@@ -1,0 +1,13 @@
+pub mod Columns
+pub mod Counting
+pub mod Covered
+pub mod Expressing
+pub mod Fits
+pub mod Gathering
+pub mod Joined
+pub mod Reading
+pub mod Rowing
+pub mod Tasking
+pub mod Union
+pub mod Viewing
+pub mod Zipping

@@ -1,0 +1,17 @@
+use Rattle.std.proofs.Common.{◌∙◌, ℕ, [], subst, get_or}
+use Rattle.std.proofs.lemmas.List.{get_or_default}
+use Rattle.su_min.specs.Kept.{Minimised}
+use Rattle.su_min.specs.Reduction.{term_at}
+use Rattle.su_answer.specs.Executed.{IsJoinOf}
+use Rattle.su_answer.proofs.Zipping.{zip_more}
+use Rattle.su_answer.proofs.executing.jobs.Goals as goal
+
+pub loop-k-preserved : goal.loop-k-preserved
+loop-k-preserved c =
+    let minimals = c.args.minimals.now in
+    let kept = c.args.kept.now in
+    let i = c.loop-k.k-index in
+    let k : ℕ = get_or kept i 0 in
+    let none : Minimised = record { tableau = record { width = 0; rows = []; head = []; outputs = 0; operators = [] }; mask = 0; fold = [] } in
+    let is : IsJoinOf c.args.db.now (term_at minimals k) c.in_ok-job.job = subst (λ (m : Minimised). IsJoinOf c.args.db.now m c.in_ok-job.job) (c.index-minimals-k.is ∙ get_or_default minimals k c.index-minimals-k.result none (c.requires.within i 0 c.loop-k-test.true)) c.in_ok-job.ensures in
+    zip_more (λ k job. IsJoinOf c.args.db.now (term_at minimals k) job) kept c.loop-k.jobs c.push.new.self i k c.in_ok-job.job c.loop-k-test.true (get_or_default kept i 0 k c.loop-k-test.true) c.loop-k.invariant is c.in_ok-push.ensures.ok

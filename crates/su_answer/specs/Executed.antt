@@ -1,0 +1,46 @@
+-- What the jobs of kept terms give, one after another.
+use Rattle.std.specs.Prelude.{◌≡◌, ◌↔◌, List, Contains, MatchOption, Some}
+use Rattle.std.specs.List.Sorted.{IsStrictlySortedBy}
+use Rattle.su_base.specs.declared.values.Value.{Value}
+use Rattle.su_base.specs.Value.{compare_lists}
+use Rattle.su_rel.specs.Stored.{Stored}
+use Rattle.su_exec.specs.declared.tasks.Task.{Task}
+use Rattle.su_exec.specs.Tasks.{IsTask}
+use Rattle.su_exec.specs.Outputs.{AreOutputs, AreMore}
+use Rattle.su_state.specs.DatabaseValue.{DatabaseValue}
+use Rattle.su_min.specs.Kept.{Minimised}
+use Rattle.su_answer.specs.declared.found.Found.{Found}
+use Rattle.su_answer.specs.Joined.{IsTaskOf}
+use Rattle.su_answer.specs.Answers.{IsTermAnswer, AreMoreThan}
+
+-- a task and the tables over which it is joined
+pub record Join : Type 0 where
+  pub tables : List Stored
+  pub task : Task
+
+-- the outputs of the task, or there are more than there may be
+abbrev pub IsFound : Join → Found → Type 0
+IsFound join found = MatchOption found.rows (AreMore join.tables join.task 1000000) (AreOutputs join.tables join.task)
+
+-- the join is that of the kept rows
+pub record IsJoinOf (db : DatabaseValue) (m : Minimised) (join : Join) : Type 0 where
+  pub tables : join.tables ≡ db.tables
+  pub task : IsTaskOf db.schema m.tableau m.mask join.task
+  pub fits : IsTask db.tables join.task
+
+-- exactly the term's answers, ascending
+pub record AreTermAnswers (db : DatabaseValue) (m : Minimised) (rows : List (List Value)) : Type 0 where
+  pub exact : (h : List Value) → Contains rows h ↔ IsTermAnswer db m h
+  pub ascending : IsStrictlySortedBy compare_lists rows
+
+-- the answers of a term, or there are more than there may be
+abbrev pub IsFoundFor : DatabaseValue → Minimised → Found → Type 0
+IsFoundFor db m found = MatchOption found.rows (AreMoreThan 1000000 (IsTermAnswer db m)) (AreTermAnswers db m)
+
+-- one of the lists has the row
+pub record IsInSome (lists : List Found) (h : List Value) : Type 0 where
+  pub found : Found
+  pub member : Contains lists found
+  pub rows : List (List Value)
+  pub is : found.rows ≡ Some rows
+  pub has : Contains rows h

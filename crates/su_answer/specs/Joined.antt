@@ -1,0 +1,64 @@
+-- What is joined for the kept rows of a tableau: the essential cells of each, with the columns of its sources.
+use Rattle.std.specs.Int.{bit_at}
+use Rattle.std.specs.Prelude.{◌≡◌, ◌↔◌, ◌<◌, ℕ, ◌+◌, ◌*◌, IsTrue, Bool, true, false, List, [], ◌∷◌, ◌++◌, map, filter, take, length, get_or, slice_get, Contains, Some}
+use Rattle.std.specs.List.{AllZip, range_with_len}
+use Rattle.std.specs.Ordering.{nat_cmp}
+use Rattle.std.specs.FinSet.{FinSet, contains}
+use Rattle.su_where.specs.declared.operators.Op.TheVariants.{Equal}
+use Rattle.su_tableau.specs.declared.symbols.Sym.{Sym}
+use Rattle.su_tableau.specs.declared.symbols.Sym.TheVariants.{Var}
+use Rattle.su_tableau.specs.Tableaux.{Tab}
+use Rattle.su_tableau.specs.Essential.{IsEssential}
+use Rattle.su_schema.specs.SchemaValue.{SchemaValue, ObjectEntry, column_of}
+use Rattle.su_map.specs.Lists.{rows_in}
+use Rattle.su_steps.specs.Sources.{IsSource}
+use Rattle.su_exec.specs.declared.tasks.Source.{Source}
+use Rattle.su_exec.specs.declared.tasks.TaskRow.{TaskRow}
+use Rattle.su_exec.specs.declared.tasks.Compared.{Compared}
+use Rattle.su_exec.specs.declared.tasks.Task.{Task}
+
+-- the members of the set below n, ascending
+abbrev pub numbers_in : FinSet nat_cmp → ℕ → List ℕ
+numbers_in s n = filter (contains s) (range_with_len 0 n)
+
+-- the symbol of row i in column c
+abbrev pub cell : Tab → ℕ → ℕ → Sym
+cell t i c = get_or (get_or t.rows i []) c (Var 0)
+
+-- the source is the object's relation, with its columns for these attributes
+pub record IsSourceOf (schema : SchemaValue) (attributes : List ℕ) (o : ℕ) (s : Source) : Type 0 where
+  pub object : ObjectEntry
+  pub is : slice_get schema.objects o ≡ Some object
+  pub relation : s.relation ≡ object.relation
+  pub columns : map (column_of object) attributes ≡ map Some s.columns
+
+-- a source of the object stands behind the others, where it is wanted
+abbrev pub IsPushedIf : SchemaValue → List ℕ → ℕ → Bool → List Source → List Source → Type 0
+IsPushedIf schema attributes o true before after = (s : Source) × IsSourceOf schema attributes o s × (after ≡ before ++ s ∷ [])
+IsPushedIf schema attributes o false before after = after ≡ before
+
+-- the sources are those of the objects of the set below n
+pub record AreSourcesOf (schema : SchemaValue) (attributes : List ℕ) (n : ℕ) (objects : FinSet nat_cmp) (sources : List Source) : Type 0 where
+  pub from : (s : Source) → Contains sources s → (o : ℕ) × (o < n) × IsTrue (contains objects o) × IsSourceOf schema attributes o s
+  pub all : (o : ℕ) → o < n → IsTrue (contains objects o) → (s : Source) × Contains sources s × IsSourceOf schema attributes o s
+
+-- the task's row is row i, among the rows of m
+pub record IsTaskRowOf (schema : SchemaValue) (t : Tab) (m i : ℕ) (r : TaskRow) : Type 0 where
+  pub attributes : FinSet nat_cmp
+  pub essential : (c : ℕ) → IsTrue (contains attributes c) ↔ IsEssential t m i c
+  pub cells : r.cells ≡ map (cell t i) (numbers_in attributes t.width)
+  pub from : (s : Source) → Contains r.sources s → (o : ℕ) × IsSource schema t m i o × IsSourceOf schema (numbers_in attributes t.width) o s
+  pub all : (o : ℕ) → IsSource schema t m i o → (s : Source) × Contains r.sources s × IsSourceOf schema (numbers_in attributes t.width) o s
+
+abbrev pub comparison_at : Tab → ℕ → Compared
+comparison_at t i = record { left = get_or t.head (t.outputs + 2 * i) (Var 0); op = get_or t.operators i Equal; right = get_or t.head (t.outputs + 2 * i + 1) (Var 0) }
+
+-- the task joins the rows of m and gives the tableau's outputs
+pub record IsTaskOf (schema : SchemaValue) (t : Tab) (m : ℕ) (task : Task) : Type 0 where
+  pub rows : AllZip (IsTaskRowOf schema t m) (rows_in t m) task.rows
+  pub outputs : task.outputs ≡ take t.outputs t.head
+  pub comparisons : task.comparisons ≡ map (comparison_at t) (range_with_len 0 (length t.operators))
+
+-- every row of the set has a source
+abbrev pub HaveSources : SchemaValue → Tab → ℕ → Type 0
+HaveSources schema t m = (i : ℕ) → i < length t.rows → bit_at m i ≡ 1 → (o : ℕ) × IsSource schema t m i o

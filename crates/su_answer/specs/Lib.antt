@@ -1,0 +1,5 @@
+pub mod Answers
+pub mod Executed
+pub mod Joined
+pub mod Prepared
+pub mod Projections

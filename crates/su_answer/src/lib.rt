@@ -1,0 +1,28 @@
+//! From a resolved query to its answer over a database.
+//!
+//! `prepare` makes the terms, minimises each, and finds which of them no other covers; the stored
+//! rows play no part. `answer` joins the kept rows of each kept term over the stored rows, each row
+//! through all objects that have its essential columns, and unites the answers of the terms. Terms are
+//! minimised and executed side by side; how many at a time changes no answer. An answer of more than
+//! 1,000,000 rows is refused. Beside the answers of all kept terms, the memory is that of the joins
+//! that run at a time.
+#![tactic(auto)]
+
+mod answering;
+mod crossing;
+mod executing;
+mod faults;
+mod found;
+mod making;
+mod preparing;
+mod rules;
+mod tasks;
+mod uniting;
+
+pub use answering::answer;
+pub use faults::AnswerFault;
+pub use making::prepare;
+pub use preparing::Prepared;
+
+#[cfg(test)]
+mod tests;

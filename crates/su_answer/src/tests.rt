@@ -1,0 +1,294 @@
+ghost use Rattle.std.specs.Prelude.{◌≤◌, IfOk};
+ghost use Rattle.su_query.specs.Ranges.{IsResolved};
+ghost use Rattle.su_query.specs.Reading.{AreFew, outputs_of, condition_of};
+ghost use Rattle.su_answer.specs.Prepared.{IsPreparedFor};
+
+use crate::{Prepared, answer, prepare};
+use std::alloc::{AllocError, Global};
+use std::test::Fail;
+use std::thread::Threads;
+use su_base::{Row, Value};
+use su_maxobj::maximal_objects;
+use su_par::OpenGate;
+use su_query::{Resolved, Statement, read, resolve};
+use su_state::Database;
+
+const BANK: &str =
+    "attribute BANK text; attribute ACCT int; attribute CUST text; attribute BAL int; attribute LOAN int; attribute AMT int; attribute ADDR text; relation BA (BANK text, ACCT int); relation AC (ACCT int, CUST text); relation AB (ACCT int, BAL int); relation BL (BANK text, LOAN int); relation LC (LOAN int, CUST text); relation LA (LOAN int, AMT int); relation CA (CUST text, ADDR text); object BANK_ACCT (BANK, ACCT) from BA (BANK, ACCT); object ACCT_CUST (ACCT, CUST) from AC (ACCT, CUST); object ACCT_BAL (ACCT, BAL) from AB (ACCT, BAL); object BANK_LOAN (BANK, LOAN) from BL (BANK, LOAN); object LOAN_CUST (LOAN, CUST) from LC (LOAN, CUST); object LOAN_AMT (LOAN, AMT) from LA (LOAN, AMT); object CUST_ADDR (CUST, ADDR) from CA (CUST, ADDR); fd ACCT -> BANK; fd ACCT -> BAL; fd LOAN -> BANK; fd LOAN -> AMT; fd CUST -> ADDR;";
+
+const BANK_ROWS: [&str; 14] = [
+    "insert BA ('B1', 1)",
+    "insert BA ('B2', 2)",
+    "insert AC (1, 'Jones')",
+    "insert AC (2, 'Smith')",
+    "insert AB (1, 100)",
+    "insert AB (2, 250)",
+    "insert BL ('B3', 7)",
+    "insert BL ('B1', 8)",
+    "insert LC (7, 'Jones')",
+    "insert LC (8, 'Smith')",
+    "insert LA (7, 500)",
+    "insert LA (8, 900)",
+    "insert CA ('Jones', 'Main')",
+    "insert CA ('Smith', 'Oak')",
+];
+
+const COOP: &str =
+    "attribute MEMBER text; attribute ADDR text; attribute BALANCE int; attribute ORDERNO int; attribute ITEM text; attribute QTY int; relation MEMBERS (MEMBER text, ADDR text, BALANCE int); relation ORDERS (ORDERNO int, MEMBER text, ITEM text, QTY int); object MEMBER_ADDR (MEMBER, ADDR) from MEMBERS (MEMBER, ADDR); object MEMBER_BAL (MEMBER, BALANCE) from MEMBERS (MEMBER, BALANCE); object ORDER_LINE (ORDERNO, MEMBER, ITEM, QTY) from ORDERS (ORDERNO, MEMBER, ITEM, QTY); fd MEMBER -> ADDR; fd MEMBER -> BALANCE; fd ORDERNO -> MEMBER, ITEM, QTY;";
+
+const GENEALOGY: &str =
+    "attribute PERSON text; attribute PARENT text; attribute GRANDPARENT text; attribute GGPARENT text; relation CP (CHILD text, PARENT text); object PERSON_PARENT (PERSON, PARENT) from CP (CHILD, PARENT); object PARENT_GRAND (PARENT, GRANDPARENT) from CP (CHILD, PARENT); object GRAND_GREAT (GRANDPARENT, GGPARENT) from CP (CHILD, PARENT);";
+
+const COURSES: &str =
+    "attribute C text; attribute T text; attribute H text; attribute R text; attribute S text; attribute G text; relation RCT (C text, T text); relation RCHR (C text, H text, R text); relation RCSG (C text, S text, G text); object CT (C, T) from RCT (C, T); object CHR (C, H, R) from RCHR (C, H, R); object CSG (C, S, G) from RCSG (C, S, G); fd C -> T; fd C, S -> G;";
+
+const PAIR: &str =
+    "attribute A int; attribute B int; relation P (A int, B int); object AB (A, B) from P (A, B);";
+
+fn add(db: &mut Database, statement: Statement) -> Result<(), Fail> {
+    match statement {
+        Statement::Insert { relation, row } => {
+            let number = db.relation(relation.as_str())?;
+            if number as usize >= db.schema().relations() {
+                return Err(Fail::from("no relation"));
+            }
+            db.insert(number, row)?;
+            Ok(())
+        }
+        _ => Err(Fail::from("no insert")),
+    }
+}
+
+fn insert(alloc: Global, db: &mut Database, text: &str) -> Result<(), Fail> {
+    let statement = read(alloc, text.as_bytes())?;
+    add(db, statement)
+}
+
+fn insert_all(alloc: Global, db: &mut Database, rows: &[&str]) -> Result<(), Fail> {
+    for row in rows {
+        insert(alloc, db, row)?;
+    }
+    Ok(())
+}
+
+/// The empty database of the schema.
+fn opened(alloc: Global, schema: &str) -> Result<Database, Fail> {
+    if schema.len() > 2000 {
+        return Err(Fail::from("too long"));
+    }
+    let schema = su_ddl::read(alloc, schema.as_bytes())?;
+    Ok(Database::new(alloc, schema)?)
+}
+
+/// A database of this schema with these rows.
+fn stored(alloc: Global, schema: &str, rows: &[&str]) -> Result<Database, Fail> {
+    let mut db = opened(alloc, schema)?;
+    insert_all(alloc, &mut db, rows)?;
+    Ok(db)
+}
+
+fn push_value(alloc: Global, out: &mut String, value: &Value) -> Result<(), AllocError> {
+    match value {
+        Value::Int(n) => {
+            let digits = n.to_string(alloc)?;
+            out.push_str(digits.as_str())
+        }
+        Value::Text(text) => out.push_str(text.as_str()),
+    }
+}
+
+/// The values of each row, and a stroke behind each row.
+fn shown(alloc: Global, rows: &[Row]) -> Result<String, AllocError> {
+    let mut out = String::new(alloc);
+    for row in rows {
+        for value in row.as_slice() {
+            push_value(alloc, &mut out, value)?;
+            out.push_str(" ")?;
+        }
+        out.push_str("/")?;
+    }
+    Ok(out)
+}
+
+/// The numbers of terms and of kept terms, and the rows of the answer.
+fn told<R: Threads + Sync>(
+    rt: &R,
+    alloc: Global,
+    db: &Database,
+    prepared: &Prepared,
+    workers: u8,
+) -> Result<String, Fail>
+    requires prepared { IsPreparedFor db.now.schema prepared.now }
+    requires least { 1 ≤ workers }
+    requires most { workers ≤ 16 }
+{
+    let rows = answer(rt, alloc, db, prepared, workers, &OpenGate)?;
+    let shown = shown(alloc, rows.as_slice())?;
+    let terms = prepared.terms.len();
+    let kept = prepared.reduced.kept.len();
+    Ok(format!(in alloc; "{terms} {kept}: {}", shown.as_str())?)
+}
+
+fn answered_for<R: Threads + Sync>(
+    rt: &R,
+    alloc: Global,
+    db: &Database,
+    resolved: &Resolved,
+    workers: u8,
+) -> Result<String, Fail>
+    requires resolved { IsResolved db.now.schema resolved.now }
+    requires least { 1 ≤ workers }
+    requires most { workers ≤ 16 }
+{
+    let maximal = maximal_objects(alloc, db.schema())?;
+    if maximal.len() > 128 {
+        return Err(Fail::from("too many maximal objects"));
+    }
+    match prepare(
+        rt,
+        alloc,
+        db,
+        maximal.as_slice(),
+        resolved,
+        workers,
+        &OpenGate,
+    ) {
+        Ok(prepared) => told(rt, alloc, db, &prepared, workers),
+        Err(_) => Err(Fail::from("no terms")),
+    }
+}
+
+fn resolved_of(alloc: Global, db: &Database, statement: &Statement) -> Result<Resolved, Fail>
+    requires { AreFew (outputs_of statement.now) (condition_of statement.now) }
+    ensures { IfOk result (IsResolved db.now.schema) }
+{
+    match statement {
+        Statement::Retrieve(query) => Ok(resolve(alloc, db.schema(), query)?),
+        _ => Err(Fail::from("no query")),
+    }
+}
+
+/// What the query of the text is answered.
+fn answered<R: Threads + Sync>(
+    rt: &R,
+    alloc: Global,
+    db: &Database,
+    text: &str,
+    workers: u8,
+) -> Result<String, Fail>
+    requires least { 1 ≤ workers }
+    requires most { workers ≤ 16 }
+{
+    let statement = read(alloc, text.as_bytes())?;
+    let resolved = resolved_of(alloc, db, &statement)?;
+    answered_for(rt, alloc, db, &resolved, workers)
+}
+
+#[test]
+fn the_rows_of_the_kept_terms_are_united(rt: HostRuntime) -> Result<(), Fail> {
+    let a = rt.alloc();
+    let db = stored(a, BANK, &BANK_ROWS)?;
+    let cases = [
+        ("retrieve (BANK) where CUST = 'Jones'", "2 2: B1 /B3 /"),
+        ("retrieve (CUST)", "2 1: Jones /Smith /"),
+        (
+            "retrieve (t.CUST) where t.BAL > BAL and ACCT = 1",
+            "1 1: Smith /",
+        ),
+        (
+            "retrieve (t.ADDR, ADDR) where t.CUST = CUST",
+            "4 1: Main Main /Oak Oak /",
+        ),
+        (
+            "retrieve (t.CUST) where ACCT = 1 and t.ACCT = 1 and BANK = 'B1' and t.BANK = 'B2'",
+            "0 0: ",
+        ),
+        (
+            "retrieve (t.ACCT) where t.ACCT = ACCT and t.BAL >= BAL",
+            "1 1: 1 /2 /",
+        ),
+    ];
+    for (text, want) in cases {
+        assert_eq!(rt; answered(&rt, a, &db, text, 1)?.as_str(), want);
+        assert_eq!(rt; answered(&rt, a, &db, text, 8)?.as_str(), want);
+    }
+    Ok(())
+}
+
+#[test]
+fn an_empty_database_has_no_rows(rt: HostRuntime) -> Result<(), Fail> {
+    let a = rt.alloc();
+    let db = stored(a, BANK, &[])?;
+    let text = "retrieve (BANK) where CUST = 'Jones'";
+    assert_eq!(rt; answered(&rt, a, &db, text, 2)?.as_str(), "2 2: ");
+    Ok(())
+}
+
+#[test]
+fn a_member_without_orders_has_an_address(rt: HostRuntime) -> Result<(), Fail> {
+    let a = rt.alloc();
+    let rows = [
+        "insert MEMBERS ('Robin', '12 Elm', 50)",
+        "insert MEMBERS ('Kim', '3 Ash', 0)",
+        "insert ORDERS (1, 'Kim', 'Granola', 2)",
+    ];
+    let mut db = stored(a, COOP, &rows)?;
+    let text = "retrieve (ADDR) where MEMBER = 'Robin'";
+    assert_eq!(rt; answered(&rt, a, &db, text, 1)?.as_str(), "1 1: 12 Elm /");
+    insert(a, &mut db, "insert ORDERS (2, 'Robin', 'Rice', 1)")?;
+    assert_eq!(rt; answered(&rt, a, &db, text, 1)?.as_str(), "1 1: 12 Elm /");
+    Ok(())
+}
+
+#[test]
+fn objects_on_one_relation_are_joined(rt: HostRuntime) -> Result<(), Fail> {
+    let a = rt.alloc();
+    let rows = [
+        "insert CP ('Jones', 'Ann')",
+        "insert CP ('Ann', 'Bo')",
+        "insert CP ('Bo', 'Cy')",
+        "insert CP ('Jones', 'Dan')",
+        "insert CP ('Dan', 'Eve')",
+    ];
+    let db = stored(a, GENEALOGY, &rows)?;
+    let text = "retrieve (GGPARENT) where PERSON = 'Jones'";
+    assert_eq!(rt; answered(&rt, a, &db, text, 1)?.as_str(), "1 1: Cy /");
+    Ok(())
+}
+
+#[test]
+fn two_variables_share_a_room(rt: HostRuntime) -> Result<(), Fail> {
+    let a = rt.alloc();
+    let rows = [
+        "insert RCT ('CS101', 'Deadwood')",
+        "insert RCHR ('CS101', 'M9', 'R1')",
+        "insert RCHR ('MA2', 'T9', 'R1')",
+        "insert RCHR ('PH3', 'M9', 'R2')",
+        "insert RCSG ('CS101', 'Jones', 'A')",
+    ];
+    let db = stored(a, COURSES, &rows)?;
+    let text = "retrieve (t.C) where S = 'Jones' and R = t.R";
+    assert_eq!(rt;
+        answered(&rt, a, &db, text, 1)?.as_str(),
+        "1 1: CS101 /MA2 /"
+    );
+    Ok(())
+}
+
+#[test]
+fn comparisons_are_kept_in_the_joins(rt: HostRuntime) -> Result<(), Fail> {
+    let a = rt.alloc();
+    let rows = ["insert P (1, 1)", "insert P (1, 2)", "insert P (3, 3)"];
+    let db = stored(a, PAIR, &rows)?;
+    let cases = [
+        ("retrieve (A) where A = 1 and A = 2", "0 0: "),
+        ("retrieve (A) where A = B and A < B", "0 0: "),
+        ("retrieve (A) where A = B and A <= B", "1 1: 1 /3 /"),
+        ("retrieve (A, B) where A < B or A > B", "2 2: 1 2 /"),
+        ("retrieve (A) where A != B or A = B", "2 2: 1 /3 /"),
+    ];
+    for (text, want) in cases {
+        assert_eq!(rt; answered(&rt, a, &db, text, 1)?.as_str(), want);
+    }
+    Ok(())
+}

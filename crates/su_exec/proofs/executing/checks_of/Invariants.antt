@@ -1,0 +1,10 @@
+use Rattle.std.proofs.Common.{take}
+use Rattle.su_exec.specs.Coded.{Extends}
+use Rattle.su_exec.specs.Shown.{AreChecksOf}
+use Rattle.su_exec.proofs.executing.checks_of.Given as goal
+
+abbrev pub invariant-loop-i : goal.invariant-loop-i
+invariant-loop-i l = record {
+  codes : Extends l.fn.codes l.codes;
+  checks : AreChecksOf l.codes (take l.i l.task.comparisons) l.checks.items;
+}

@@ -1,0 +1,10 @@
+use Rattle.std.proofs.Common.{take}
+use Rattle.su_exec.specs.Coded.{Extends}
+use Rattle.su_exec.specs.Shown.{AreTermsOf}
+use Rattle.su_exec.proofs.executing.terms_of.Given as goal
+
+abbrev pub invariant-loop-i : goal.invariant-loop-i
+invariant-loop-i l = record {
+  codes : Extends l.fn.codes l.codes;
+  terms : AreTermsOf l.codes (take l.i l.symbols) l.terms.items;
+}

@@ -1,0 +1,13 @@
+use Rattle.std.proofs.Common.{◌≡◌, ◌≤◌, ◌+◌}
+use Rattle.su_index.specs.Tables.{table_at}
+use Rattle.su_exec.specs.Coded.{IsGathered}
+use Rattle.su_exec.specs.Ways.{IsFrom}
+use Rattle.su_exec.proofs.fetching.fetch_all.Given as goal
+
+abbrev pub invariant-loop-i : goal.invariant-loop-i
+invariant-loop-i g l = record {
+  tables : g.R.Rows.tables l.rows ≡ g.R.Rows.tables l.fn.rows;
+  fetches : g.R.Rows.fetches l.rows ≤ g.R.Rows.fetches l.fn.rows + l.i;
+  width : l.out.width ≡ l.fn.out.width;
+  gathered : IsGathered (IsFrom l.row.cells l.shape.firsts.items l.source.columns (table_at (g.R.Rows.tables l.fn.rows) l.source.relation).rows l.i) (IsFrom l.row.cells l.shape.firsts.items l.source.columns (table_at (g.R.Rows.tables l.fn.rows) l.source.relation).rows l.i) l.fn.codes l.fn.out.rows l.codes l.out.rows;
+}

@@ -1,0 +1,12 @@
+use Rattle.std.proofs.Common.{◌≡◌, length}
+use Rattle.su_exec.specs.Bodies.{AreThere}
+use Rattle.su_exec.specs.Checks.{all_hold}
+use Rattle.su_exec.specs.Edges.{Keeps}
+use Rattle.su_exec.proofs.merging.shrink_all.Given as goal
+
+abbrev pub invariant-loop : goal.invariant-loop
+invariant-loop l = record {
+  len : length l.body.edges.items ≡ length l.initial.body.edges.items;
+  there : AreThere l.needed l.body.checks.items l.body.edges.items;
+  keeps : Keeps l.needed l.initial.body.edges.items (all_hold l.codes l.initial.body.checks.items) l.body.edges.items (all_hold l.codes l.body.checks.items);
+}

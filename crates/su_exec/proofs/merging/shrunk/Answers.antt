@@ -1,0 +1,66 @@
+use Rattle.std.proofs.Common.{◌≡◌, ◌∷◌, ◌&&◌, ◌||◌, [], List, ℕ, map, refl, sym, ap, ◌∙◌}
+use Rattle.su_base.specs.declared.values.Value.{Value}
+use Rattle.su_exec.specs.declared.checks.Check.{Check}
+use Rattle.su_exec.specs.declared.checks.Test.{Test}
+use Rattle.su_exec.specs.Bodies.{AreThere}
+use Rattle.su_exec.specs.Checks.{all_hold, all_pass}
+use Rattle.su_exec.specs.Edges.{Edge, has}
+use Rattle.su_exec.proofs.Uniting.{all_of_one, shrunk_keeps, shrunk_there, stays_keeps, stays_there}
+use Rattle.su_exec.proofs.merging.shrunk.Goals as goal
+use Rattle.su_exec.proofs.merging.shrunk.Goals.{In_ok-tests}
+
+-- what both ways out share: which checks were taken
+module _ (c : In_ok-tests) where
+  abbrev a : Edge ℕ
+  a = c.args.a
+
+  abbrev rest : List (Edge ℕ)
+  rest = c.args.rest.now.edges.items
+
+  abbrev olds : List Check
+  olds = c.args.rest.now.checks.items
+
+  abbrev news : List Check
+  news = c.take_tests.new.checks.items
+
+  abbrev tests : List Test
+  tests = c.in_ok-tests.tests.items
+
+  same : (values : List Value) (v : ℕ → ℕ) → all_hold values olds v ≡ (all_pass values tests (map v a.vars) (map v a.vars) && all_hold values news v)
+  same values v =
+      c.in_ok-tests.ensures.same values v ∙ ap (λ xs. all_pass values tests (map v xs) (map v c.vars-2.result.now) && all_hold values news v) c.vars.ensures
+      ∙ ap (λ ys. all_pass values tests (map v a.vars) (map v ys) && all_hold values news v) c.vars-2.ensures
+
+  settled : AreThere c.args.needed.now olds (a ∷ []) → news ≡ []
+  settled there = c.in_ok-tests.ensures.all (λ k h.
+      ap (λ xs. has xs k || has c.vars-2.result.now k) c.vars.ensures ∙ ap (λ ys. has a.vars k || has ys k) c.vars-2.ensures ∙ all_of_one c.args.needed.now olds a there k h)
+
+pub returns-then-is_whole-clause-keeps : goal.returns-then-is_whole-clause-keeps
+returns-then-is_whole-clause-keeps c =
+    let d = (goal.at.returns-then-is_whole-clause-keeps c).In_ok-tests in
+    stays_keeps c.args.codes.now c.args.needed.now (olds d) (news d) (tests d) (a d) (rest d) (rest d) refl (same d) c.in_ok-tests.ensures.vars (sym c.deref.ensures.value ∙ c.is_whole.ensures c.if-is_whole.true)
+
+pub returns-then-is_whole-clause-there : goal.returns-then-is_whole-clause-there
+returns-then-is_whole-clause-there c =
+    let d = (goal.at.returns-then-is_whole-clause-there c).In_ok-tests in
+    stays_there c.args.codes.now c.args.needed.now (olds d) (news d) (tests d) (a d) (rest d) (rest d) refl (same d) c.in_ok-tests.ensures.vars
+
+pub returns-then-is_whole-clause-settled : goal.returns-then-is_whole-clause-settled
+returns-then-is_whole-clause-settled c = λ none there. settled (goal.at.returns-then-is_whole-clause-settled c).In_ok-tests there
+
+pub returns-clause-keeps : goal.returns-clause-keeps
+returns-clause-keeps c =
+    let d = (goal.at.returns-clause-keeps c).In_ok-tests in
+    shrunk_keeps c.args.codes.now c.args.needed.now (olds d) (news d) (tests d) (a d) (rest d) (rest d) refl (same d) c.in_ok-tests.ensures.vars
+    c.in_ok-wanted.wanted.items c.in_ok-joined.joined c.in_ok-wanted.ensures.needed c.in_ok-wanted.ensures.edges c.in_ok-wanted.ensures.checks c.in_ok-joined.ensures.joined
+    (λ k h w. c.in_ok-joined.ensures.wanted k h (ap (λ ks. has ks k) c.deref-3.ensures.value ∙ w))
+
+pub returns-clause-there : goal.returns-clause-there
+returns-clause-there c =
+    let d = (goal.at.returns-clause-there c).In_ok-tests in
+    shrunk_there c.args.codes.now c.args.needed.now (olds d) (news d) (tests d) (a d) (rest d) (rest d) refl (same d) c.in_ok-tests.ensures.vars
+    c.in_ok-wanted.wanted.items c.in_ok-joined.joined c.in_ok-wanted.ensures.needed c.in_ok-wanted.ensures.edges c.in_ok-wanted.ensures.checks c.in_ok-joined.ensures.joined
+    (λ k h w. c.in_ok-joined.ensures.wanted k h (ap (λ ks. has ks k) c.deref-3.ensures.value ∙ w))
+
+pub returns-clause-settled : goal.returns-clause-settled
+returns-clause-settled c = λ none there. settled (goal.at.returns-clause-settled c).In_ok-tests there

@@ -1,0 +1,10 @@
+use Rattle.std.proofs.Common.{◌≡◌, ℕ, true, length}
+use Rattle.su_exec.specs.Edges.{Same, among}
+use Rattle.su_exec.proofs.reducing.reduce.Given as goal
+
+abbrev pub invariant-loop-i : goal.invariant-loop-i
+invariant-loop-i l = record {
+  same : Same l.initial.edges.items l.edges.items;
+  len : length l.edges.items ≡ length l.initial.edges.items;
+  vars : (k : ℕ) → among l.initial.edges.items k ≡ true → among l.edges.items k ≡ true;
+}

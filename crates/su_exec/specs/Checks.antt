@@ -1,0 +1,70 @@
+-- Comparisons of codes, and where pairs of rows have what they compare.
+-- code: a value's position in a list of values; term: a code, or a variable; check: a comparison of two terms
+-- spot: where a pair of rows has a term; test: a comparison of two spots
+use Rattle.std.specs.Prelude.{◌≡◌, ◌<◌, ℕ, pos, Bool, List, [], ◌∷◌, ◌++◌, map, length, slice_index_or}
+use Rattle.std.specs.List.{list_all}
+use Rattle.su_base.specs.declared.values.Value.{Value}
+use Rattle.su_base.specs.declared.values.Value.TheVariants.{Int}
+use Rattle.su_where.specs.Operator.{compares}
+use Rattle.su_exec.specs.declared.checks.Term.{Term}
+use Rattle.su_exec.specs.declared.checks.Term.TheVariants.{Code, Variable}
+use Rattle.su_exec.specs.declared.checks.Check.{Check}
+use Rattle.su_exec.specs.declared.checks.Spot.{Spot}
+use Rattle.su_exec.specs.declared.checks.Spot.TheVariants.{Code as Given, Left, Right}
+use Rattle.su_exec.specs.declared.checks.Test.{Test}
+
+-- the value of a code; 0 where no value has it
+abbrev pub decode : List Value → ℕ → Value
+decode values code = slice_index_or values code (Int (pos 0))
+
+-- no value has two codes
+abbrev pub AreApart : List Value → Type 0
+AreApart values = (i j : ℕ) → i < j → j < length values → ¬ (decode values i ≡ decode values j)
+
+-- the code of a term
+abbrev pub code_of : (ℕ → ℕ) → Term → ℕ
+code_of v (Code c) = c
+code_of v (Variable k) = v k
+
+-- whether the check holds of the values that the codes stand for
+abbrev pub check_holds : List Value → (ℕ → ℕ) → Check → Bool
+check_holds values v c = compares c.op (decode values (code_of v c.left)) (decode values (code_of v c.right))
+
+abbrev pub all_hold : List Value → List Check → (ℕ → ℕ) → Bool
+all_hold values checks v = list_all (check_holds values v) checks
+
+-- the variable of the term, if it is one
+abbrev pub vars_of : Term → List ℕ
+vars_of (Code c) = []
+vars_of (Variable k) = k ∷ []
+
+-- the variables of the checks
+abbrev pub check_vars : List Check → List ℕ
+check_vars [] = []
+check_vars (c ∷ cs) = vars_of c.left ++ (vars_of c.right ++ check_vars cs)
+
+-- the code at a spot of two rows
+abbrev pub spot_code : Spot → List ℕ → List ℕ → ℕ
+spot_code (Given c) row other = c
+spot_code (Left p) row other = slice_index_or row p 0
+spot_code (Right p) row other = slice_index_or other p 0
+
+-- the spot's place is in rows of these widths
+abbrev pub IsSpotIn : ℕ → ℕ → Spot → Type 0
+IsSpotIn left right (Given c) = Unit {0}
+IsSpotIn left right (Left p) = p < left
+IsSpotIn left right (Right p) = p < right
+
+abbrev pub IsTestIn : ℕ → ℕ → Test → Type 0
+IsTestIn left right test = IsSpotIn left right test.left × IsSpotIn left right test.right
+
+-- whether the two rows pass the test, by the values that the codes stand for
+abbrev pub test_passes : List Value → List ℕ → List ℕ → Test → Bool
+test_passes values row other test = compares test.op (decode values (spot_code test.left row other)) (decode values (spot_code test.right row other))
+
+abbrev pub all_pass : List Value → List Test → List ℕ → List ℕ → Bool
+all_pass values tests row other = list_all (test_passes values row other) tests
+
+-- where each valuation has the term, in what it gives these variables
+abbrev pub HasTerm : List ℕ → List ℕ → Term → Spot → Type 0
+HasTerm xs ys term spot = (v : ℕ → ℕ) → spot_code spot (map v xs) (map v ys) ≡ code_of v term

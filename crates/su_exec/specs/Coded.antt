@@ -1,0 +1,107 @@
+-- Candidates as values: what their codes stand for.
+use Rattle.std.specs.Prelude.{◌≡◌, ◌<◌, ◌≤◌, ◌⊎◌, ◌↔◌, ℕ, pos, true, cond, nat_eq, Some, List, [], ◌∷◌, map, sum, length, slice_get, slice_index_or, All, Contains}
+use Rattle.su_base.specs.declared.values.Value.{Value}
+use Rattle.su_base.specs.declared.values.Value.TheVariants.{Int}
+use Rattle.su_rel.specs.Stored.{Stored}
+use Rattle.su_tableau.specs.declared.symbols.Sym.{Sym}
+use Rattle.su_tableau.specs.declared.symbols.Sym.TheVariants.{Var}
+use Rattle.su_tableau.specs.Tableaux.{value_of, values_of}
+use Rattle.su_exec.specs.declared.tasks.TaskRow.{TaskRow}
+use Rattle.su_exec.specs.declared.tasks.Task.{Task}
+use Rattle.su_exec.specs.Checks.{decode}
+use Rattle.su_exec.specs.Edges.{Edge, Fits, FitsAll, among, has}
+use Rattle.su_exec.specs.Joins.{AreBelow, IsApart}
+use Rattle.su_exec.specs.Outputs.{Agrees, values_at}
+use Rattle.su_exec.specs.Shares.{row_share}
+use Rattle.su_exec.specs.Tasks.{StandsIn}
+
+-- the edge of the values that the codes stand for
+abbrev pub meaning : List Value → Edge ℕ → Edge Value
+meaning values e = record { vars = e.vars; rows = map (map (decode values)) e.rows }
+
+abbrev pub meanings : List Value → List (Edge ℕ) → List (Edge Value)
+meanings values es = map (meaning values) es
+
+-- each code of the rows stands for a value
+abbrev pub AreCoded : List Value → List (List ℕ) → Type 0
+AreCoded values rows = All (λ r. AreBelow r (length values)) rows
+
+abbrev pub IsCoded : List Value → Edge ℕ → Type 0
+IsCoded values e = AreCoded values e.rows
+
+-- the codes so far stand for the same values
+pub record Extends (old new : List Value) : Type 0 where
+  pub longer : length old ≤ length new
+  pub same : (code : ℕ) → code < length old → decode new code ≡ decode old code
+
+-- ---- the cells of a row
+
+-- the values of a row at these places
+abbrev pub picked : List ℕ → List Value → List Value
+picked places values = map (λ p. slice_index_or values p (Int (pos 0))) places
+
+-- the variables of the first n cells, each once, with its first place
+pub record IsShape (cells : List Sym) (n : ℕ) (vars firsts : List ℕ) : Type 0 where
+  pub apart : IsApart vars
+  pub below : AreBelow firsts (length cells)
+  pub read : (v : ℕ → Value) → picked firsts (values_of v cells) ≡ map v vars
+  pub all : (k i : ℕ) → i < n → slice_index_or cells i (Var k) ≡ Var k → has vars k ≡ true
+
+-- the valuation that gives these variables these values
+abbrev pub assigned : List ℕ → List Value → ℕ → Value
+assigned [] ys k = Int (pos 0)
+assigned (x ∷ xs) [] k = Int (pos 0)
+assigned (x ∷ xs) (y ∷ ys) k = cond (nat_eq x k) y (assigned xs ys k)
+
+-- the value at place p is what the cell asks for, where variables have the values at their first places
+abbrev pub FitsAt : List Sym → List ℕ → List ℕ → List Value → ℕ → Type 0
+FitsAt cells vars firsts xs p = slice_index_or xs p (Int (pos 0)) ≡ value_of (assigned vars (picked firsts xs)) (slice_index_or cells p (Var 0))
+
+-- the values of the variables that a stored row gives which fits the cells
+pub record IsTaken (cells : List Sym) (firsts columns : List ℕ) (stored h : List Value) : Type 0 where
+  pub valuation : ℕ → Value
+  pub fits : values_at columns stored ≡ values_of valuation cells
+  pub is : picked firsts (values_at columns stored) ≡ h
+
+-- ---- rows that are gathered
+
+-- rows of codes that were added: only such as P says, and all that Q says
+pub record IsGathered (P Q : List Value → Type 0) (old : List Value) (rows : List (List ℕ)) (new : List Value) (more : List (List ℕ)) : Type 0 where
+  pub codes : Extends old new
+  pub coded : AreCoded new more
+  pub kept : (r : List ℕ) → Contains rows r → Contains more r
+  pub only : (r : List ℕ) → Contains more r → Contains rows r ⊎ P (map (decode new) r)
+  pub had : (h : List Value) → Q h → Contains (map (map (decode new)) more) h
+
+-- ---- rows of a task
+
+-- beside the candidates so far the edge says that the row agrees with a stored row
+pub record IsRowEdge (tables : List Stored) (values : List Value) (es : List (Edge ℕ)) (row : TaskRow) (g : Edge ℕ) : Type 0 where
+  pub exact : (v : ℕ → Value) → FitsAll v (meanings values es) → Agrees tables v row ↔ Fits v (meaning values g)
+  pub coded : IsCoded values g
+  pub all : (k : ℕ) → Contains row.cells (Var k) → has g.vars k ≡ true
+
+-- row i agrees with a stored row
+abbrev pub AgreesAt : List Stored → (ℕ → Value) → Task → ℕ → Type 0
+AgreesAt tables v task i = (row : TaskRow) → slice_get task.rows i ≡ Some row → Agrees tables v row
+
+-- the edges say that each row that isn't left agrees with a stored row
+pub record AreSoFar (tables : List Stored) (values : List Value) (task : Task) (es : List (Edge ℕ)) (left : List ℕ) : Type 0 where
+  pub exact : (v : ℕ → Value) → All (Agrees tables v) task.rows ↔ (FitsAll v (meanings values es) × All (AgreesAt tables v task) left)
+  pub coded : All (IsCoded values) es
+  pub all : (k i : ℕ) → StandsIn task k i → (among es k ≡ true) ⊎ Contains left i
+  pub within : All (λ i. i < length task.rows) left
+
+-- the edges say that each row agrees with a stored row
+pub record AreRowEdges (tables : List Stored) (values : List Value) (task : Task) (es : List (Edge ℕ)) : Type 0 where
+  pub exact : (v : ℕ → Value) → All (Agrees tables v) task.rows ↔ FitsAll v (meanings values es)
+  pub coded : All (IsCoded values) es
+  pub all : (k i : ℕ) → StandsIn task k i → among es k ≡ true
+
+-- no valuation gives each row a stored row
+abbrev pub NoneAgrees : List Stored → Task → Type 0
+NoneAgrees tables task = (v : ℕ → Value) → ¬ All (Agrees tables v) task.rows
+
+-- the shares of the rows that are left
+abbrev pub left_share : List Stored → Task → List ℕ → ℕ
+left_share tables task left = sum (map (λ i. row_share tables (slice_index_or task.rows i (record { cells = []; sources = [] }))) left)

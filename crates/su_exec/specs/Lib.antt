@@ -1,0 +1,15 @@
+pub mod Tasks
+pub mod Outputs
+pub mod Shares
+pub mod Components
+pub mod Sheets
+pub mod Edges
+pub mod Joins
+pub mod Chains
+pub mod Checks
+pub mod Plans
+pub mod Labels
+pub mod Bodies
+pub mod Coded
+pub mod Ways
+pub mod Shown

@@ -1,0 +1,32 @@
+-- Plans: how two lists of rows are joined.
+use Rattle.std.specs.Prelude.{◌≡◌, ℕ, Bool, true, List, ◌++◌, length, All}
+use Rattle.su_base.specs.declared.values.Value.{Value}
+use Rattle.su_exec.specs.declared.joins.Plan.{Plan}
+use Rattle.su_exec.specs.Joins.{pick, AreBelow, Columns}
+use Rattle.su_exec.specs.Checks.{IsTestIn, all_pass}
+
+abbrev pub columns_of : Plan → Columns
+columns_of plan = record { left_key = plan.left_key.items; right_key = plan.right_key.items; left_out = plan.left_out.items; right_out = plan.right_out.items }
+
+-- whether a pair of rows passes the plan's tests
+abbrev pub passes_of : List Value → Plan → List ℕ → List ℕ → Bool
+passes_of values plan = all_pass values plan.tests.items
+
+-- the places are in rows of these widths
+pub record FitsPlan (plan : Plan) (left right : ℕ) : Type 0 where
+  pub left_key : AreBelow plan.left_key.items left
+  pub right_key : AreBelow plan.right_key.items right
+  pub left_out : AreBelow plan.left_out.items left
+  pub right_out : AreBelow plan.right_out.items right
+  pub keys : length plan.left_key.items ≡ length plan.right_key.items
+  pub tests : All (IsTestIn left right) plan.tests.items
+
+-- the row that the plan makes of two rows
+abbrev pub made_of : Plan → List ℕ → List ℕ → List ℕ
+made_of plan row other = pick plan.left_out.items row ++ pick plan.right_out.items other
+
+-- the two rows have one key, pass the tests, and make the row
+pub record IsMade (values : List Value) (plan : Plan) (row other r : List ℕ) : Type 0 where
+  pub keys : pick plan.left_key.items row ≡ pick plan.right_key.items other
+  pub passes : passes_of values plan row other ≡ true
+  pub is : made_of plan row other ≡ r

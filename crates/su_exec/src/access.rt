@@ -1,0 +1,270 @@
+//! How the rows of a source are reached with few fetches.
+ghost use Rattle.std.specs.Prelude.{◌≡◌, ◌<◌, ◌≤◌, ℕ, Some, List, [], ◌∷◌, length, All, Contains, IfOk, IfSome, slice_get, slice_index_or};
+ghost use Rattle.su_base.specs.declared.values.Value.{Value as AValue};
+ghost use Rattle.su_tableau.specs.declared.symbols.Sym.TheVariants.{Const};
+ghost use Rattle.su_index.specs.Matches.{matches};
+ghost use Rattle.su_index.specs.Tables.{table_at};
+ghost use Rattle.su_exec.specs.Coded.{AreCoded, Extends, IsCoded};
+ghost use Rattle.su_exec.specs.Shares.{share};
+ghost use Rattle.su_exec.specs.Tasks.{FitsTables, HasSources};
+ghost use Rattle.su_exec.specs.Ways.{IsCheapest, IsWay, matches_all};
+
+use crate::candidates::Candidates;
+use crate::codes::Codes;
+use crate::distinct::Distinct;
+use crate::places::place_of;
+use crate::shapes::variable_of;
+use crate::sheets::Sheet;
+use crate::tasks::{Source, TaskRow};
+use std::alloc::{AllocError, Global};
+use su_base::Value;
+use su_index::Rows;
+use su_tableau::Sym;
+
+/// How the rows of a source are reached, and how many are fetched.
+#[derive(Drop)]
+pub struct Access {
+    pub way: Way,
+    pub cost: usize,
+}
+
+/// All rows, or those with one of these codes' values in a column.
+#[derive(Drop)]
+pub enum Way {
+    All,
+    Values { column: u8, codes: Sheet },
+}
+
+/// The place of the constant that the fewest rows have, if there is one, and how many these are.
+#[derive(Clone, Copy)]
+pub struct Cheapest {
+    pub place: Option<usize>,
+    pub cost: usize,
+}
+
+/// The code alone.
+fn one_code(alloc: Global, code: u32) -> Result<Sheet, AllocError>
+    ensures width { IfOk result (λ codes. codes.width ≡ 1) }
+    ensures rows { IfOk result (λ codes. codes.rows ≡ (code ∷ []) ∷ []) }
+{
+    let mut codes = Sheet::new(alloc, 1);
+    codes.push(&[code])?;
+    Ok(codes)
+}
+
+/// The codes at a place of the candidates, each once.
+fn codes_at(alloc: Global, edge: &Candidates, place: usize) -> Result<Sheet, AllocError>
+    requires { place < length edge.now.vars }
+    ensures width { IfOk result (λ codes. codes.width ≡ 1) }
+    ensures all { IfOk result (λ codes. (i : ℕ) → i < length edge.now.rows → Contains codes.rows (slice_index_or (slice_index_or edge.now.rows i []) place 0 ∷ [])) }
+    ensures only { IfOk result (λ codes. All (λ r. (i : ℕ) × (i < length edge.now.rows) × (place < length (slice_index_or edge.now.rows i [])) × (r ≡ slice_index_or (slice_index_or edge.now.rows i []) place 0 ∷ [])) codes.rows) }
+{
+    let mut codes = Distinct::new(alloc, 1)?;
+    for i in 0..edge.len() {
+        let code = edge.rows().row(i)[place];
+        codes.add(alloc, &[code])?;
+    }
+    Ok(codes.into_rows())
+}
+
+/// How many rows have one of the codes' values in the column; some number from `most` on where there
+/// are so many.
+fn matching_all<R: Rows>(
+    rows: &R,
+    table: u8,
+    column: u8,
+    codes: &Codes,
+    values: &Sheet,
+    most: usize,
+) -> usize
+    requires table { table < length (R.tables rows.now) }
+    requires column { column < (table_at (R.tables rows.now) table).width }
+    requires one { values.now.width ≡ 1 }
+    ensures { result < most → matches_all codes.now column (table_at (R.tables rows.now) table).rows values.now.rows ≤ result }
+{
+    let mut count = 0usize;
+    for i in 0..values.len() {
+        if count >= most {
+            return count;
+        }
+        count = count.saturating_add(rows.matching(table, column, codes.value(values.row(i)[0])));
+    }
+    count
+}
+
+/// The candidates with the variable that have the fewest rows, and the variable's place.
+fn fewest(edges: &[Candidates], k: u32) -> Option<(usize, usize)>
+    ensures { IfSome result (λ r. (r.0 < length edges.now) × (r.1 < length (slice_index_or edges.now r.0 (record { vars = []; rows = [] })).vars) × (slice_index_or (slice_index_or edges.now r.0 (record { vars = []; rows = [] })).vars r.1 0 ≡ k)) }
+{
+    let mut best = None;
+    let mut least = usize::MAX;
+    for e in 0..edges.len() {
+        if let Some(place) = place_of(edges[e].vars(), k) {
+            if edges[e].len() < least {
+                least = edges[e].len();
+                best = Some((e, place));
+            }
+        }
+    }
+    best
+}
+
+/// The cheaper of the one so far and the constant at the place.
+fn cheaper<R: Rows>(rows: &R, row: &TaskRow, source: &Source, p: usize, best: Cheapest) -> Cheapest
+    requires source { FitsTables (R.tables rows.now) (length row.now.cells) source.now }
+    requires place { p < length row.now.cells }
+    requires so_far { IsCheapest (R.tables rows.now) row.now source.now best }
+    ensures way { IsCheapest (R.tables rows.now) row.now source.now result }
+    ensures less { result.cost ≤ best.cost }
+    ensures here { (value : AValue) (column : ℕ) → slice_get row.now.cells p ≡ Some (Const value) → slice_get source.now.columns p ≡ Some column → result.cost ≤ matches column value (table_at (R.tables rows.now) source.now.relation).rows }
+{
+    let Sym::Const(value) = row.cells.get(p) else {
+        return best;
+    };
+    let cost = rows.matching(source.relation, *source.columns.get(p), value);
+    if best.cost <= cost {
+        return best;
+    }
+    Cheapest {
+        place: Some(p),
+        cost,
+    }
+}
+
+/// The cheapest of all rows and the constants of the row.
+fn cheapest_of<R: Rows>(rows: &R, row: &TaskRow, source: &Source) -> Cheapest
+    requires source { FitsTables (R.tables rows.now) (length row.now.cells) source.now }
+    ensures way { IsCheapest (R.tables rows.now) row.now source.now result }
+    ensures share { result.cost ≤ share (R.tables rows.now) row.now.cells source.now }
+{
+    let mut best = Cheapest {
+        place: None,
+        cost: rows.len(source.relation),
+    };
+    for p in 0..row.cells.len() {
+        best = cheaper(rows, row, source, p, best);
+    }
+    best
+}
+
+/// The constant, which the cell is.
+fn constant_of(cell: &Sym) -> &Value
+    requires { (value : AValue) × (cell.now ≡ Const value) }
+    ensures { cell.now ≡ Const result.now }
+{
+    match cell {
+        Sym::Const(value) => value,
+        Sym::Var(_) => unreachable!(),
+    }
+}
+
+/// The way by the cheapest of the row's constants.
+fn by_constants<R: Rows>(
+    alloc: Global,
+    rows: &R,
+    row: &TaskRow,
+    source: &Source,
+    codes: &mut Codes,
+    edges: &[Candidates],
+) -> Result<Access, AllocError>
+    requires source { FitsTables (R.tables rows.now) (length row.now.cells) source.now }
+    ensures way { IfOk result (λ access. IsWay (R.tables rows.now) codes.new edges.now row.now source.now access.way access.cost) }
+    ensures share { IfOk result (λ access. access.cost ≤ share (R.tables rows.now) row.now.cells source.now) }
+    ensures codes { IfOk result (λ _. Extends codes.old codes.new) }
+{
+    let best = cheapest_of(rows, row, source);
+    let Some(p) = best.place else {
+        return Ok(Access {
+            way: Way::All,
+            cost: best.cost,
+        });
+    };
+    let code = codes.code(alloc, constant_of(row.cells.get(p)))?;
+    let alone = one_code(alloc, code)?;
+    Ok(Access {
+        way: Way::Values {
+            column: *source.columns.get(p),
+            codes: alone,
+        },
+        cost: best.cost,
+    })
+}
+
+/// An index is asked for at most one value for so many rows that it may save.
+const WORTH: usize = 8;
+
+/// The better of the way so far and the one by what is known of the variable at the place.
+fn by_variable<R: Rows>(
+    alloc: Global,
+    rows: &R,
+    row: &TaskRow,
+    source: &Source,
+    codes: &Codes,
+    edges: &[Candidates],
+    p: usize,
+    best: Access,
+) -> Result<Access, AllocError>
+    requires source { FitsTables (R.tables rows.now) (length row.now.cells) source.now }
+    requires coded { All (IsCoded codes.now) edges.now }
+    requires place { p < length row.now.cells }
+    requires so_far { IsWay (R.tables rows.now) codes.now edges.now row.now source.now best.way best.cost }
+    ensures way { IfOk result (λ access. IsWay (R.tables rows.now) codes.now edges.now row.now source.now access.way access.cost) }
+    ensures less { IfOk result (λ access. access.cost ≤ best.cost) }
+{
+    let Some(k) = variable_of(row.cells.get(p)) else {
+        return Ok(best);
+    };
+    let Some((e, place)) = fewest(edges, k) else {
+        return Ok(best);
+    };
+    let edge = &edges[e];
+    if edge.len() >= best.cost / WORTH {
+        return Ok(best);
+    }
+    let column = *source.columns.get(p);
+    let values = codes_at(alloc, edge, place)?;
+    let cost = matching_all(rows, source.relation, column, codes, &values, best.cost);
+    if cost >= best.cost {
+        return Ok(best);
+    }
+    Ok(Access {
+        way: Way::Values {
+            column,
+            codes: values,
+        },
+        cost,
+    })
+}
+
+/// A way to the rows of the source that fit the row, at the cost of its share or less.
+pub fn access_of<R: Rows>(
+    alloc: Global,
+    rows: &R,
+    row: &TaskRow,
+    source: &Source,
+    codes: &mut Codes,
+    edges: &[Candidates],
+) -> Result<Access, AllocError>
+    requires source { FitsTables (R.tables rows.now) (length row.now.cells) source.now }
+    requires coded { All (IsCoded codes.old) edges.now }
+    ensures way { IfOk result (λ access. IsWay (R.tables rows.now) codes.new edges.now row.now source.now access.way access.cost) }
+    ensures share { IfOk result (λ access. access.cost ≤ share (R.tables rows.now) row.now.cells source.now) }
+    ensures codes { IfOk result (λ _. Extends codes.old codes.new) }
+{
+    let mut best = by_constants(alloc, rows, row, source, codes, edges)?;
+    for p in 0..row.cells.len() {
+        best = by_variable(alloc, rows, row, source, codes, edges, p, best)?;
+    }
+    Ok(best)
+}
+
+/// The least number of stored rows that agree with one constant of the row, over its sources together.
+pub fn share_of<R: Rows>(rows: &R, row: &TaskRow) -> usize
+    requires { HasSources (R.tables rows.now) row.now }
+{
+    let mut share = 0usize;
+    for s in 0..row.sources.len() {
+        share = share.saturating_add(cheapest_of(rows, row, row.sources.get(s)).cost);
+    }
+    share
+}

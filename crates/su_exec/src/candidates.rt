@@ -1,0 +1,159 @@
+//! Candidates: variables, and the values that they may have together.
+ghost use Rattle.std.specs.Prelude.{◌≡◌, ℕ, true, [], ◌∷◌, ◌++◌, length, All, IfOk};
+ghost use Rattle.su_exec.specs.Checks.{IsTestIn, all_pass};
+ghost use Rattle.su_exec.specs.Edges.{has, among};
+ghost use Rattle.su_exec.specs.Joins.{pick, AreBelow, FitColumns, IsApart, IsJoinOf, IsReal, out_vars};
+ghost use Rattle.su_exec.specs.Plans.{FitsPlan, columns_of, passes_of};
+
+use crate::checks::Test;
+use crate::codes::Codes;
+use crate::joins::{Plan, join};
+use crate::places::{shared_places, wanted_places};
+use crate::sheets::Sheet;
+use std::alloc::{AllocError, Global};
+use std::marker::Model;
+
+/// Variables, and the lists of codes that they may have together.
+#[derive(Drop)]
+pub struct Candidates {
+    vars: Vec<u32>,
+    rows: Sheet,
+}
+
+impl Model for Candidates {
+    ghost use Rattle.std.specs.Prelude.{◌≡◌, ℕ, length};
+    ghost use Rattle.su_exec.specs.Edges.{Edge};
+    ghost use Rattle.su_exec.specs.Joins.{IsReal};
+
+    ghost Value = { Edge ℕ };
+
+    ghost view = { λ e. record { vars = e.vars.items; rows = e.rows.rows } };
+
+    ghost invariant = { λ e. (e.rows.width ≡ length e.vars.items) × IsReal (record { vars = e.vars.items; rows = e.rows.rows }) };
+}
+
+impl Candidates {
+    /// These rows.
+    fn new(vars: Vec<u32>, rows: Sheet) -> Candidates
+        requires width { rows.width ≡ length vars.items }
+        requires real { IsReal (record { vars = vars.items; rows = rows.rows }) }
+        ensures { result ≡ record { vars = vars.items; rows = rows.rows } }
+    {
+        Candidates { vars, rows }
+    }
+
+    /// These rows, over variables that differ.
+    pub fn apart(vars: Vec<u32>, rows: Sheet) -> Candidates
+        requires width { rows.width ≡ length vars.items }
+        requires apart { IsApart vars.items }
+        ensures { result ≡ record { vars = vars.items; rows = rows.rows } }
+    {
+        rows.widths();
+        Candidates::new(vars, rows)
+    }
+
+    /// No variables, and the list of no values.
+    pub fn unit(alloc: Global) -> Result<Candidates, AllocError>
+        ensures { IfOk result (λ e. e ≡ record { vars = []; rows = [] ∷ [] }) }
+    {
+        let mut rows = Sheet::new(alloc, 0);
+        rows.push(&[])?;
+        Ok(Candidates::apart(Vec::new(alloc), rows))
+    }
+
+    /// The variables.
+    pub fn vars(&self) -> &[u32]
+        ensures { result.now ≡ self.now.vars }
+    {
+        &self.vars
+    }
+
+    /// How many rows there are.
+    pub fn len(&self) -> usize
+        ensures { result ≡ length self.now.rows }
+    {
+        self.rows.len()
+    }
+
+    /// The rows.
+    pub fn rows(&self) -> &Sheet
+        ensures rows { result.now.rows ≡ self.now.rows }
+        ensures width { result.now.width ≡ length self.now.vars }
+        ensures real { IsReal self.now }
+    {
+        &self.rows
+    }
+}
+
+/// Puts the variables at these places after what is there.
+fn add_vars(out: &mut Vec<u32>, vars: &[u32], places: &[usize]) -> Result<(), AllocError>
+    requires { AreBelow places.now (length vars.now) }
+    ensures { IfOk result (λ _. out.new.items ≡ out.old.items ++ pick places.now vars.now) }
+{
+    for p in places {
+        out.push(vars[*p])?;
+    }
+    Ok(())
+}
+
+/// The variables of the join by the plan.
+fn vars_by(alloc: Global, plan: &Plan, a: &[u32], b: &[u32]) -> Result<Vec<u32>, AllocError>
+    requires { FitColumns (columns_of plan.now) a.now b.now }
+    ensures { IfOk result (λ vars. vars.items ≡ out_vars (columns_of plan.now) a.now b.now) }
+{
+    let mut vars = Vec::new(alloc);
+    add_vars(&mut vars, a, &plan.left_out)?;
+    add_vars(&mut vars, b, &plan.right_out)?;
+    Ok(vars)
+}
+
+/// The join by the plan.
+fn join_by(
+    alloc: Global,
+    codes: &Codes,
+    plan: &Plan,
+    a: &Candidates,
+    b: &Candidates,
+    most: Option<usize>,
+) -> Result<Candidates, AllocError>
+    requires fit { FitColumns (columns_of plan.now) a.now.vars b.now.vars }
+    requires plan { FitsPlan plan.now (length a.now.vars) (length b.now.vars) }
+    ensures vars { IfOk result (λ g. g.vars ≡ out_vars (columns_of plan.now) a.now.vars b.now.vars) }
+    ensures joined { IfOk result (IsJoinOf a.now b.now (passes_of codes.now plan.now) most) }
+{
+    let vars = vars_by(alloc, plan, a.vars(), b.vars())?;
+    let rows = join(alloc, codes, plan, a.rows(), b.rows(), most)?;
+    Ok(Candidates::new(vars, rows))
+}
+
+/// The join of the pairs that pass the tests, of which only wanted variables are kept. Where there
+/// are more than the bound, only some of them, but more than the bound.
+pub fn join_all(
+    alloc: Global,
+    codes: &Codes,
+    a: &Candidates,
+    b: &Candidates,
+    tests: Vec<Test>,
+    wanted: &[u32],
+    most: Option<usize>,
+) -> Result<Candidates, AllocError>
+    requires { All (IsTestIn (length a.now.vars) (length b.now.vars)) tests.items }
+    ensures joined { IfOk result (IsJoinOf a.now b.now (all_pass codes.now tests.items) most) }
+    ensures wanted { IfOk result (λ g. (k : ℕ) → among (a.now ∷ b.now ∷ []) k ≡ true → has wanted.now k ≡ true → has g.vars k ≡ true) }
+    ensures only { IfOk result (λ g. (k : ℕ) → has g.vars k ≡ true → (has wanted.now k ≡ true) × (among (a.now ∷ b.now ∷ []) k ≡ true)) }
+{
+    let mut left_key = Vec::new(alloc);
+    let mut right_key = Vec::new(alloc);
+    shared_places(a.vars(), b.vars(), &mut left_key, &mut right_key)?;
+    let left_out = wanted_places(alloc, a.vars(), &[], wanted)?;
+    let right_out = wanted_places(alloc, b.vars(), a.vars(), wanted)?;
+    let plan = Plan {
+        left_key,
+        right_key,
+        left_out,
+        right_out,
+        tests,
+    };
+    let joined = join_by(alloc, codes, &plan, a, b, most)?;
+    Ok(joined)
+}

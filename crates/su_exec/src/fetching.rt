@@ -1,0 +1,343 @@
+//! The candidates of each row, fetched once.
+ghost use Rattle.std.specs.Prelude.{◌≡◌, ◌<◌, ◌≤◌, ◌+◌, ℕ, Some, List, [], map, length, slice_get, All, IfOk, MatchOption};
+ghost use Rattle.su_base.specs.declared.values.Value.{Value as AValue};
+ghost use Rattle.su_rel.specs.Stored.{IsRelation};
+ghost use Rattle.su_index.specs.Matches.{matches};
+ghost use Rattle.su_index.specs.Tables.{table_at};
+ghost use Rattle.su_exec.specs.Checks.{decode};
+ghost use Rattle.su_exec.specs.Coded.{AreCoded, AreRowEdges, AreSoFar, Extends, IsCoded, IsGathered, IsRowEdge, IsShape, IsTaken, NoneAgrees, picked};
+ghost use Rattle.su_exec.specs.Joins.{AreBelow};
+ghost use Rattle.su_exec.specs.Outputs.{values_at};
+ghost use Rattle.su_exec.specs.Shares.{row_share, share, task_share};
+ghost use Rattle.su_exec.specs.Tasks.{FitsTables, HasSources};
+ghost use Rattle.su_exec.specs.Ways.{AreValues, IsAgreed, IsFrom, IsFromCodes, IsFromValue, matches_all};
+
+use crate::access::{Way, access_of, share_of};
+use crate::candidates::Candidates;
+use crate::codes::Codes;
+use crate::connecting::own_labels;
+use crate::distinct::Distinct;
+use crate::places::is_in;
+use crate::shapes::{Shape, fits, shape_of, value_at};
+use crate::sheets::Sheet;
+use crate::tasks::{Source, Task, TaskRow};
+use std::alloc::{AllocError, Global};
+use su_base::{List, Row, Value};
+use su_index::Rows;
+use su_tableau::Sym;
+
+/// Puts in the codes of the stored row's values at these places.
+fn code_row(
+    alloc: Global,
+    codes: &mut Codes,
+    firsts: &[usize],
+    columns: &List<u8>,
+    stored: &Row,
+    cells: &mut Vec<u32>,
+) -> Result<(), AllocError>
+    requires firsts { AreBelow firsts.now (length columns.now) }
+    requires within { All (λ column. column < length stored.now) columns.now }
+    requires empty { cells.old.items ≡ [] }
+    ensures codes { IfOk result (λ _. Extends codes.old codes.new) }
+    ensures coded { IfOk result (λ _. AreBelow cells.new.items (length codes.new)) }
+    ensures values { IfOk result (λ _. map (decode codes.new) cells.new.items ≡ picked firsts.now (values_at columns.now stored.now)) }
+{
+    for first in firsts {
+        let code = codes.code(alloc, value_at(columns, stored, *first))?;
+        cells.push(code)?;
+    }
+    Ok(())
+}
+
+/// Puts in the codes of the stored row's values at the variables, where it fits the cells.
+fn select(
+    alloc: Global,
+    codes: &mut Codes,
+    row: &TaskRow,
+    shape: &Shape,
+    columns: &List<u8>,
+    stored: &Row,
+    cells: &mut Vec<u32>,
+    out: &mut Distinct,
+) -> Result<(), AllocError>
+    requires shape { IsShape row.now.cells (length row.now.cells) shape.now.vars.items shape.now.firsts.items }
+    requires columns { length columns.now ≡ length row.now.cells }
+    requires within { All (λ column. column < length stored.now) columns.now }
+    requires width { out.old.width ≡ length shape.now.firsts.items }
+    requires coded { AreCoded codes.old out.old.rows }
+    ensures width { IfOk result (λ _. out.new.width ≡ out.old.width) }
+    ensures gathered { IfOk result (λ _. IsGathered (IsTaken row.now.cells shape.now.firsts.items columns.now stored.now) (IsTaken row.now.cells shape.now.firsts.items columns.now stored.now) codes.old out.old.rows codes.new out.new.rows) }
+{
+    if !fits(&row.cells, shape, columns, stored) {
+        return Ok(());
+    }
+    cells.clear();
+    code_row(alloc, codes, &shape.firsts, columns, stored, cells)?;
+    out.add(alloc, cells)?;
+    Ok(())
+}
+
+/// Selects from one row of the source's table.
+fn fetch_one<R: Rows>(
+    alloc: Global,
+    rows: &mut R,
+    codes: &mut Codes,
+    row: &TaskRow,
+    shape: &Shape,
+    source: &Source,
+    position: usize,
+    cells: &mut Vec<u32>,
+    out: &mut Distinct,
+) -> Result<(), AllocError>
+    requires source { FitsTables (R.tables rows.old) (length row.now.cells) source.now }
+    requires relation { IsRelation (table_at (R.tables rows.old) source.now.relation) }
+    requires position { position < length (table_at (R.tables rows.old) source.now.relation).rows }
+    requires shape { IsShape row.now.cells (length row.now.cells) shape.now.vars.items shape.now.firsts.items }
+    requires width { out.old.width ≡ length shape.now.firsts.items }
+    requires coded { AreCoded codes.old out.old.rows }
+    ensures width { IfOk result (λ _. out.new.width ≡ out.old.width) }
+    ensures gathered { IfOk result (λ _. (stored : List AValue) → slice_get (table_at (R.tables rows.old) source.now.relation).rows position ≡ Some stored → IsGathered (IsTaken row.now.cells shape.now.firsts.items source.now.columns stored) (IsTaken row.now.cells shape.now.firsts.items source.now.columns stored) codes.old out.old.rows codes.new out.new.rows) }
+    ensures tables { R.tables rows.new ≡ R.tables rows.old }
+    ensures fetches { R.fetches rows.new ≤ R.fetches rows.old + 1 }
+{
+    let stored = rows.fetch(source.relation, position);
+    select(
+        alloc,
+        codes,
+        row,
+        shape,
+        &source.columns,
+        stored,
+        cells,
+        out,
+    )?;
+    Ok(())
+}
+
+/// Selects from all rows of the source's table.
+fn fetch_all<R: Rows>(
+    alloc: Global,
+    rows: &mut R,
+    codes: &mut Codes,
+    row: &TaskRow,
+    shape: &Shape,
+    source: &Source,
+    cells: &mut Vec<u32>,
+    out: &mut Distinct,
+) -> Result<(), AllocError>
+    requires source { FitsTables (R.tables rows.old) (length row.now.cells) source.now }
+    requires shape { IsShape row.now.cells (length row.now.cells) shape.now.vars.items shape.now.firsts.items }
+    requires width { out.old.width ≡ length shape.now.firsts.items }
+    requires coded { AreCoded codes.old out.old.rows }
+    ensures width { IfOk result (λ _. out.new.width ≡ out.old.width) }
+    ensures gathered { IfOk result (λ _. let stored = (table_at (R.tables rows.old) source.now.relation).rows in IsGathered (IsFrom row.now.cells shape.now.firsts.items source.now.columns stored (length stored)) (IsFrom row.now.cells shape.now.firsts.items source.now.columns stored (length stored)) codes.old out.old.rows codes.new out.new.rows) }
+    ensures tables { R.tables rows.new ≡ R.tables rows.old }
+    ensures fetches { R.fetches rows.new ≤ R.fetches rows.old + length (table_at (R.tables rows.old) source.now.relation).rows }
+{
+    for i in 0..rows.len(source.relation) {
+        fetch_one(alloc, rows, codes, row, shape, source, i, cells, out)?;
+    }
+    Ok(())
+}
+
+/// Selects from the rows of the source's table with the value in the column.
+fn fetch_matching<R: Rows>(
+    alloc: Global,
+    rows: &mut R,
+    codes: &mut Codes,
+    row: &TaskRow,
+    shape: &Shape,
+    source: &Source,
+    column: u8,
+    value: &Value,
+    cells: &mut Vec<u32>,
+    out: &mut Distinct,
+) -> Result<(), AllocError>
+    requires source { FitsTables (R.tables rows.old) (length row.now.cells) source.now }
+    requires column { column < (table_at (R.tables rows.old) source.now.relation).width }
+    requires shape { IsShape row.now.cells (length row.now.cells) shape.now.vars.items shape.now.firsts.items }
+    requires width { out.old.width ≡ length shape.now.firsts.items }
+    requires coded { AreCoded codes.old out.old.rows }
+    ensures width { IfOk result (λ _. out.new.width ≡ out.old.width) }
+    ensures gathered { IfOk result (λ _. let stored = (table_at (R.tables rows.old) source.now.relation).rows in IsGathered (IsFromValue row.now.cells shape.now.firsts.items source.now.columns stored column value.now) (IsFromValue row.now.cells shape.now.firsts.items source.now.columns stored column value.now) codes.old out.old.rows codes.new out.new.rows) }
+    ensures tables { R.tables rows.new ≡ R.tables rows.old }
+    ensures fetches { R.fetches rows.new ≤ R.fetches rows.old + matches column value.now (table_at (R.tables rows.old) source.now.relation).rows }
+{
+    let _all = rows.len(source.relation);
+    for k in 0..rows.matching(source.relation, column, value) {
+        let position = rows.matched(source.relation, column, value, k);
+        fetch_one(alloc, rows, codes, row, shape, source, position, cells, out)?;
+    }
+    Ok(())
+}
+
+/// Selects from the rows of the source's table with one of the values in the column.
+fn fetch_values<R: Rows>(
+    alloc: Global,
+    rows: &mut R,
+    codes: &mut Codes,
+    row: &TaskRow,
+    shape: &Shape,
+    source: &Source,
+    column: u8,
+    values: &Sheet,
+    cells: &mut Vec<u32>,
+    out: &mut Distinct,
+) -> Result<(), AllocError>
+    requires source { FitsTables (R.tables rows.old) (length row.now.cells) source.now }
+    requires column { column < (table_at (R.tables rows.old) source.now.relation).width }
+    requires one { values.now.width ≡ 1 }
+    requires values { AreCoded codes.old values.now.rows }
+    requires shape { IsShape row.now.cells (length row.now.cells) shape.now.vars.items shape.now.firsts.items }
+    requires width { out.old.width ≡ length shape.now.firsts.items }
+    requires coded { AreCoded codes.old out.old.rows }
+    ensures width { IfOk result (λ _. out.new.width ≡ out.old.width) }
+    ensures gathered { IfOk result (λ _. let stored = (table_at (R.tables rows.old) source.now.relation).rows in IsGathered (IsFromCodes row.now.cells shape.now.firsts.items source.now.columns stored column codes.old values.now.rows (length values.now.rows)) (IsFromCodes row.now.cells shape.now.firsts.items source.now.columns stored column codes.old values.now.rows (length values.now.rows)) codes.old out.old.rows codes.new out.new.rows) }
+    ensures tables { R.tables rows.new ≡ R.tables rows.old }
+    ensures fetches { R.fetches rows.new ≤ R.fetches rows.old + matches_all codes.old column (table_at (R.tables rows.old) source.now.relation).rows values.now.rows }
+{
+    for i in 0..values.len() {
+        let Ok(value) = codes.value(values.row(i)[0]).copy(alloc) else {
+            return Err(AllocError);
+        };
+        fetch_matching(
+            alloc, rows, codes, row, shape, source, column, &value, cells, out,
+        )?;
+    }
+    Ok(())
+}
+
+/// Selects from the rows of the source's table that the candidates so far leave.
+fn fetch_source<R: Rows>(
+    alloc: Global,
+    rows: &mut R,
+    codes: &mut Codes,
+    row: &TaskRow,
+    shape: &Shape,
+    source: &Source,
+    edges: &[Candidates],
+    cells: &mut Vec<u32>,
+    out: &mut Distinct,
+) -> Result<(), AllocError>
+    requires source { FitsTables (R.tables rows.old) (length row.now.cells) source.now }
+    requires edges { All (IsCoded codes.old) edges.now }
+    requires shape { IsShape row.now.cells (length row.now.cells) shape.now.vars.items shape.now.firsts.items }
+    requires width { out.old.width ≡ length shape.now.firsts.items }
+    requires coded { AreCoded codes.old out.old.rows }
+    ensures width { IfOk result (λ _. out.new.width ≡ out.old.width) }
+    ensures gathered { IfOk result (λ _. let stored = (table_at (R.tables rows.old) source.now.relation).rows in IsGathered (IsFrom row.now.cells shape.now.firsts.items source.now.columns stored (length stored)) (IsAgreed (R.tables rows.old) codes.old edges.now row.now.cells shape.now.firsts.items source.now) codes.old out.old.rows codes.new out.new.rows) }
+    ensures tables { R.tables rows.new ≡ R.tables rows.old }
+    ensures fetches { R.fetches rows.new ≤ R.fetches rows.old + share (R.tables rows.old) row.now.cells source.now }
+{
+    let _all = rows.len(source.relation);
+    let access = access_of(alloc, rows, row, source, codes, edges)?;
+    match &access.way {
+        Way::All => {
+            fetch_all(alloc, rows, codes, row, shape, source, cells, out)?;
+            Ok(())
+        }
+        Way::Values {
+            column,
+            codes: values,
+        } => {
+            fetch_values(
+                alloc, rows, codes, row, shape, source, *column, values, cells, out,
+            )?;
+            Ok(())
+        }
+    }
+}
+
+/// The candidates of the row that those so far leave.
+fn candidates_of<R: Rows>(
+    alloc: Global,
+    rows: &mut R,
+    codes: &mut Codes,
+    row: &TaskRow,
+    edges: &[Candidates],
+) -> Result<Candidates, AllocError>
+    requires sources { HasSources (R.tables rows.old) row.now }
+    requires coded { All (IsCoded codes.old) edges.now }
+    ensures edge { IfOk result (IsRowEdge (R.tables rows.old) codes.new edges.now row.now) }
+    ensures codes { IfOk result (λ _. Extends codes.old codes.new) }
+    ensures tables { R.tables rows.new ≡ R.tables rows.old }
+    ensures fetches { R.fetches rows.new ≤ R.fetches rows.old + row_share (R.tables rows.old) row.now }
+{
+    let shape = shape_of(alloc, &row.cells)?;
+    let mut out = Distinct::new(alloc, shape.firsts.len())?;
+    let mut cells = Vec::new(alloc);
+    for s in 0..row.sources.len() {
+        let source = row.sources.get(s);
+        fetch_source(
+            alloc, rows, codes, row, &shape, source, edges, &mut cells, &mut out,
+        )?;
+    }
+    Ok(Candidates::apart(shape.vars, out.into_rows()))
+}
+
+/// Whether a variable of the row is in one of the candidates.
+fn is_reached(row: &TaskRow, edges: &[Candidates]) -> bool {
+    row.cells.as_slice().iter().any(|cell| match cell {
+        Sym::Const(_) => false,
+        Sym::Var(k) => edges.iter().any(|edge| is_in(edge.vars(), *k)),
+    })
+}
+
+/// Where the row to take next stands among those left: of those that are reached, or else of all, the
+/// one with the smallest share.
+fn next_row(task: &Task, shares: &[usize], left: &[usize], edges: &[Candidates]) -> usize
+    requires { 0 < length left.now }
+    ensures { result < length left.now }
+{
+    let mut best = 0;
+    let mut least = (true, usize::MAX);
+    for p in 0..left.len() {
+        let i = left[p];
+        if i < shares.len() && i < task.rows.len() {
+            let rank = (!is_reached(task.rows.get(i), edges), shares[i]);
+            if rank < least {
+                least = rank;
+                best = p;
+            }
+        }
+    }
+    best
+}
+
+/// The share of each row.
+fn shares_of<R: Rows>(alloc: Global, task: &Task, rows: &R) -> Result<Vec<usize>, AllocError>
+    requires { All (HasSources (R.tables rows.now)) task.now.rows }
+{
+    let mut shares = Vec::new(alloc);
+    for i in 0..task.rows.len() {
+        shares.push(share_of(rows, task.rows.get(i)))?;
+    }
+    Ok(shares)
+}
+
+/// The candidates of all rows, or none where some row has no candidates.
+pub fn fetch_rows<R: Rows>(
+    alloc: Global,
+    task: &Task,
+    rows: &mut R,
+    codes: &mut Codes,
+) -> Result<Option<Vec<Candidates>>, AllocError>
+    requires { All (HasSources (R.tables rows.old)) task.now.rows }
+    ensures edges { IfOk result (λ found. MatchOption found (NoneAgrees (R.tables rows.old) task.now) (λ edges. AreRowEdges (R.tables rows.old) codes.new task.now edges.items)) }
+    ensures tables { R.tables rows.new ≡ R.tables rows.old }
+    ensures fetches { R.fetches rows.new ≤ R.fetches rows.old + task_share (R.tables rows.old) task.now }
+{
+    let shares = shares_of(alloc, task, rows)?;
+    let mut left = own_labels(alloc, task.rows.len())?;
+    let mut edges = Vec::new(alloc);
+    while left.len() > 0 {
+        let p = next_row(task, &shares, &left, &edges);
+        let i = left.remove(p);
+        let edge = candidates_of(alloc, rows, codes, task.rows.get(i), &edges)?;
+        if edge.len() == 0 {
+            return Ok(None);
+        }
+        edges.push(edge)?;
+    }
+    Ok(Some(edges))
+}

@@ -1,0 +1,286 @@
+//! A body: candidates that are to agree, and checks that are to hold. It is merged to one.
+ghost use Rattle.std.specs.Prelude.{◌≡◌, ◌<◌, ◌+◌, ◌++◌, ◌⊎◌, ℕ, true, [], ◌∷◌, length, None, IfOk, IsTrue, MatchBool};
+ghost use Rattle.su_exec.specs.Bodies.{AreAlone, AreThere, IsEmpty, IsGiven, IsMerged, IsOver, IsTold, IsWanted};
+ghost use Rattle.su_exec.specs.Checks.{all_hold, check_vars, vars_of};
+ghost use Rattle.su_exec.specs.Edges.{Fits, Keeps, always, among, has};
+
+use crate::candidates::{Candidates, join_all};
+use crate::checks::{Check, Term, Test, take_tests};
+use crate::codes::Codes;
+use crate::joins::is_past;
+use crate::order::choose;
+use crate::places::is_in;
+use crate::reducing::reduce;
+use std::alloc::{AllocError, Global};
+
+/// Candidates that are to agree, and checks that are to hold.
+#[derive(Drop)]
+pub struct Body {
+    pub edges: Vec<Candidates>,
+    pub checks: Vec<Check>,
+}
+
+/// What a body comes to.
+#[derive(Drop)]
+pub enum Merged {
+    /// What it gives the needed variables.
+    Whole(Candidates),
+    /// It gives them more lists of values than were asked for.
+    Over,
+    /// It gives nothing.
+    Nothing,
+}
+
+/// Puts the term's variable after what is there.
+pub fn add_variable(vars: &mut Vec<u32>, term: Term) -> Result<(), AllocError>
+    ensures { IfOk result (λ _. vars.new.items ≡ vars.old.items ++ vars_of term) }
+{
+    if let Term::Variable(k) = term {
+        vars.push(k)?;
+    }
+    Ok(())
+}
+
+/// The needed variables and those of the body.
+#[tactic(auto, using(crate::proofs::Testing::check_steps))]
+fn wanted_by(alloc: Global, body: &Body, needed: &[u32]) -> Result<Vec<u32>, AllocError>
+    ensures needed { IfOk result (λ wanted. (k : ℕ) → has needed.now k ≡ true → has wanted.items k ≡ true) }
+    ensures edges { IfOk result (λ wanted. (k : ℕ) → among body.now.edges.items k ≡ true → has wanted.items k ≡ true) }
+    ensures checks { IfOk result (λ wanted. (k : ℕ) → has (check_vars body.now.checks.items) k ≡ true → has wanted.items k ≡ true) }
+    ensures only { IfOk result (λ wanted. (k : ℕ) → has wanted.items k ≡ true → IsWanted needed.now body.now.edges.items body.now.checks.items k) }
+{
+    let mut wanted = Vec::from_slice(alloc, needed)?;
+    for edge in &body.edges {
+        wanted.extend_from_slice(edge.vars())?;
+    }
+    for check in &body.checks {
+        add_variable(&mut wanted, check.left)?;
+        add_variable(&mut wanted, check.right)?;
+    }
+    Ok(wanted)
+}
+
+/// The pairs of variables that checks compare.
+fn compared_by(alloc: Global, checks: &[Check]) -> Result<Vec<(u32, u32)>, AllocError> {
+    let mut compared = Vec::new(alloc);
+    for check in checks {
+        if let (Term::Variable(x), Term::Variable(y)) = (check.left, check.right) {
+            compared.push((x, y))?;
+        }
+    }
+    Ok(compared)
+}
+
+/// Whether none of the variables is another's.
+fn are_alone(vars: &[u32], others: &[u32]) -> bool
+    ensures { IsTrue result → AreAlone vars.now others.now }
+{
+    for x in vars {
+        if is_in(others, *x) {
+            return false;
+        }
+    }
+    true
+}
+
+/// The bound, where none of the variables is another's; else none.
+fn bound_of(left: &[u32], right: &[u32], others: &[u32], most: Option<usize>) -> Option<usize>
+    ensures { (result ≡ None) ⊎ ((result ≡ most) × AreAlone left.now others.now × AreAlone right.now others.now) }
+{
+    if are_alone(left, others) && are_alone(right, others) {
+        return most;
+    }
+    None
+}
+
+/// Whether there is nothing to test and nothing to leave out.
+fn is_whole(tests: &[Test], vars: &[u32], wanted: &[u32]) -> bool
+    ensures { IsTrue result → tests.now ≡ [] }
+{
+    if !tests.is_empty() {
+        return false;
+    }
+    vars.iter().all(|x| is_in(wanted, *x))
+}
+
+/// The candidates that meet the checks on them alone, without the columns that nothing needs.
+fn shrunk(
+    alloc: Global,
+    codes: &Codes,
+    a: Candidates,
+    rest: &mut Body,
+    needed: &[u32],
+) -> Result<Candidates, AllocError>
+    ensures keeps { IfOk result (λ g. Keeps needed.now (a ∷ rest.old.edges.items) (all_hold codes.now rest.old.checks.items) (rest.new.edges.items ++ g ∷ []) (all_hold codes.now rest.new.checks.items)) }
+    ensures edges { rest.new.edges.items ≡ rest.old.edges.items }
+    ensures there { IfOk result (λ g. AreThere needed.now rest.old.checks.items (a ∷ rest.old.edges.items) → AreThere needed.now rest.new.checks.items (rest.new.edges.items ++ g ∷ [])) }
+    ensures settled { IfOk result (λ _. rest.old.edges.items ≡ [] → AreThere needed.now rest.old.checks.items (a ∷ []) → rest.new.checks.items ≡ []) }
+{
+    let tests = take_tests(alloc, &mut rest.checks, a.vars(), a.vars())?;
+    let wanted = wanted_by(alloc, rest, needed)?;
+    if is_whole(&tests, a.vars(), &wanted) {
+        return Ok(a);
+    }
+    let joined = join_all(alloc, codes, &a, &a, tests, &wanted, None)?;
+    Ok(joined)
+}
+
+/// Each checked and shrunk by itself.
+fn shrink_all(
+    alloc: Global,
+    codes: &Codes,
+    body: &mut Body,
+    needed: &[u32],
+) -> Result<(), AllocError>
+    requires { AreThere needed.now body.old.checks.items body.old.edges.items }
+    ensures keeps { IfOk result (λ _. Keeps needed.now body.old.edges.items (all_hold codes.now body.old.checks.items) body.new.edges.items (all_hold codes.now body.new.checks.items)) }
+    ensures there { IfOk result (λ _. AreThere needed.now body.new.checks.items body.new.edges.items) }
+    ensures length { IfOk result (λ _. length body.new.edges.items ≡ length body.old.edges.items) }
+{
+    for _ in 0..body.edges.len() {
+        let a = body.edges.remove(0);
+        let joined = shrunk(alloc, codes, a, body, needed)?;
+        body.edges.push(joined)?;
+    }
+    Ok(())
+}
+
+/// Merges two into one, and answers false; or takes them out and answers true, where they have
+/// nothing to do with the rest, and give more lists than the bound of needed values.
+fn merge_next(
+    alloc: Global,
+    codes: &Codes,
+    body: &mut Body,
+    needed: &[u32],
+    most: Option<usize>,
+) -> Result<bool, AllocError>
+    requires some { 1 < length body.old.edges.items }
+    requires there { AreThere needed.now body.old.checks.items body.old.edges.items }
+    ensures merged { IfOk result (λ over. MatchBool over (IsOver needed.now most body.old.edges.items (all_hold codes.now body.old.checks.items) body.new.edges.items (all_hold codes.now body.new.checks.items)) (Keeps needed.now body.old.edges.items (all_hold codes.now body.old.checks.items) body.new.edges.items (all_hold codes.now body.new.checks.items))) }
+    ensures there { IfOk result (λ over. MatchBool over (AreThere [] body.new.checks.items body.new.edges.items) (AreThere needed.now body.new.checks.items body.new.edges.items)) }
+    ensures length { IfOk result (λ over. MatchBool over (length body.new.edges.items + 2 ≡ length body.old.edges.items) (length body.new.edges.items + 1 ≡ length body.old.edges.items)) }
+    ensures last { IfOk result (λ over. body.new.edges.items ≡ [] → body.new.checks.items ≡ []) }
+{
+    let compared = compared_by(alloc, &body.checks)?;
+    let (i, j) = choose(alloc, &body.edges, &compared)?;
+    let b = body.edges.remove(j);
+    let a = body.edges.remove(i);
+    let tests = take_tests(alloc, &mut body.checks, a.vars(), b.vars())?;
+    let others = wanted_by(alloc, body, &[])?;
+    let bound = bound_of(a.vars(), b.vars(), &others, most);
+    let wanted = wanted_by(alloc, body, needed)?;
+    let joined = join_all(alloc, codes, &a, &b, tests, &wanted, bound)?;
+    if is_past(joined.rows().len(), bound) {
+        return Ok(true);
+    }
+    body.edges.push(joined)?;
+    Ok(false)
+}
+
+/// What the body gives the needed variables.
+fn merge_fully(
+    alloc: Global,
+    codes: &Codes,
+    body: Body,
+    needed: &[u32],
+) -> Result<Candidates, AllocError>
+    requires some { 0 < length body.edges.items }
+    requires there { AreThere needed.now body.checks.items body.edges.items }
+    ensures { IfOk result (λ g. Keeps needed.now body.edges.items (all_hold codes.now body.checks.items) (g ∷ []) always) }
+{
+    let mut body = body;
+    while body.edges.len() > 1 {
+        let over = merge_next(alloc, codes, &mut body, needed, None)?;
+        if over {
+            return Err(AllocError);
+        }
+    }
+    let last = body.edges.remove(0);
+    let whole = shrunk(alloc, codes, last, &mut body, needed)?;
+    Ok(whole)
+}
+
+/// Whether there are candidates.
+fn has_rows(edge: &Candidates) -> bool
+    ensures { MatchBool result ((v : ℕ → ℕ) × Fits v edge.now) ((v : ℕ → ℕ) → ¬ Fits v edge.now) }
+{
+    edge.rows().len() > 0
+}
+
+/// Whether the body gives anything.
+fn exists(alloc: Global, codes: &Codes, body: Body) -> Result<bool, AllocError>
+    requires there { AreThere [] body.checks.items body.edges.items }
+    requires last { body.edges.items ≡ [] → body.checks.items ≡ [] }
+    ensures { IfOk result (λ some. MatchBool some (IsGiven [] body.edges.items (all_hold codes.now body.checks.items) []) (IsEmpty body.edges.items (all_hold codes.now body.checks.items))) }
+{
+    if body.edges.is_empty() {
+        return Ok(true);
+    }
+    let last = merge_fully(alloc, codes, body, &[])?;
+    if has_rows(&last) {
+        return Ok(true);
+    }
+    Ok(false)
+}
+
+/// What is said of a body where a part of it is past the bound, by whether the rest gives anything.
+fn told(alloc: Global, codes: &Codes, rest: Body) -> Result<Merged, AllocError>
+    requires there { AreThere [] rest.checks.items rest.edges.items }
+    requires last { rest.edges.items ≡ [] → rest.checks.items ≡ [] }
+    ensures { IfOk result (IsTold rest.edges.items (all_hold codes.now rest.checks.items)) }
+{
+    let some = exists(alloc, codes, rest)?;
+    if some {
+        return Ok(Merged::Over);
+    }
+    Ok(Merged::Nothing)
+}
+
+/// What the body gives the needed variables, or that it gives them more lists than the bound of values.
+fn merge_all(
+    alloc: Global,
+    codes: &Codes,
+    body: Body,
+    needed: &[u32],
+    most: Option<usize>,
+) -> Result<Merged, AllocError>
+    requires some { 0 < length body.edges.items }
+    requires there { AreThere needed.now body.checks.items body.edges.items }
+    ensures { IfOk result (IsMerged needed.now most body.edges.items (all_hold codes.now body.checks.items)) }
+{
+    let mut body = body;
+    while body.edges.len() > 1 {
+        let over = merge_next(alloc, codes, &mut body, needed, most)?;
+        if over {
+            let merged = told(alloc, codes, body)?;
+            return Ok(merged);
+        }
+    }
+    let last = body.edges.remove(0);
+    let whole = shrunk(alloc, codes, last, &mut body, needed)?;
+    Ok(Merged::Whole(whole))
+}
+
+/// What the body gives the needed variables, or that it gives them more lists than the bound of values.
+pub fn run(
+    alloc: Global,
+    codes: &Codes,
+    body: Body,
+    needed: &[u32],
+    most: Option<usize>,
+) -> Result<Merged, AllocError>
+    requires some { 0 < length body.edges.items }
+    requires there { AreThere needed.now body.checks.items body.edges.items }
+    ensures { IfOk result (IsMerged needed.now most body.edges.items (all_hold codes.now body.checks.items)) }
+{
+    let mut body = body;
+    shrink_all(alloc, codes, &mut body, needed)?;
+    let Body { edges, checks } = body;
+    let reduced = reduce(alloc, codes, edges)?;
+    let rest = Body {
+        edges: reduced,
+        checks,
+    };
+    let merged = merge_all(alloc, codes, rest, needed, most)?;
+    Ok(merged)
+}

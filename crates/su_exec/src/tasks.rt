@@ -1,0 +1,65 @@
+//! What is to be joined, and why it is not answered.
+ghost use Rattle.std.specs.Prelude.{◌≡◌};
+ghost use Rattle.su_exec.specs.declared.tasks.ExecFault.TheVariants.{NoMemory as OutOfMemory};
+
+use std::alloc::AllocError;
+use su_base::{List, NoMemory};
+use su_tableau::Sym;
+use su_where::Op;
+use thiserror::Error;
+
+/// Where rows are stored: a table's number, and the column of each cell.
+#[derive(Debug, Drop)]
+pub struct Source {
+    pub relation: u8,
+    pub columns: List<u8>,
+}
+
+/// Symbols that stand for a stored row, and the sources that it may come from.
+#[derive(Debug, Drop)]
+pub struct TaskRow {
+    pub cells: List<Sym>,
+    pub sources: List<Source>,
+}
+
+/// A comparison of two symbols.
+#[derive(Debug, Drop)]
+pub struct Compared {
+    pub left: Sym,
+    pub op: Op,
+    pub right: Sym,
+}
+
+/// Rows to be joined, the symbols to be answered, and the comparisons that are to hold.
+#[derive(Debug, Drop)]
+pub struct Task {
+    pub rows: List<TaskRow>,
+    pub outputs: List<Sym>,
+    pub comparisons: List<Compared>,
+}
+
+/// Why a task is not answered.
+#[derive(Debug, Drop, Error)]
+pub enum ExecFault {
+    /// There are more answers than the cap.
+    #[error("there are more answers than asked for")]
+    More,
+    #[error("memory could not be had")]
+    NoMemory,
+}
+
+impl From<NoMemory> for ExecFault {
+    ghost from_gives = { λ _ fault. fault ≡ OutOfMemory };
+
+    fn from(_: NoMemory) -> ExecFault {
+        ExecFault::NoMemory
+    }
+}
+
+impl From<AllocError> for ExecFault {
+    ghost from_gives = { λ _ fault. fault ≡ OutOfMemory };
+
+    fn from(_: AllocError) -> ExecFault {
+        ExecFault::NoMemory
+    }
+}

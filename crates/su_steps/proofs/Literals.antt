@@ -1,0 +1,72 @@
+-- What holds of each comparison of a condition, and of its opposite, holds of each comparison of a disjunct.
+use Rattle.std.proofs.Common.{Bool, true, false, not, List, [], ◌∷◌, ◌++◌, map, sym, subst}
+use Rattle.std.specs.List.{AllByRecursion, flat_map}
+use Rattle.su_where.specs.declared.literals.Literal.{Literal}
+use Rattle.su_where.specs.declared.conditions.Cond.{Cond, roll-Cond}
+use Rattle.su_where.specs.declared.conditions.Cond.TheOpen as open'
+use Rattle.su_where.specs.declared.conditions.Cond.TheVariants.{Compare, Not, All, Any, rolls-Compare, rolls-Not, rolls-All, rolls-Any}
+use Rattle.su_where.specs.declared.conditions.Cond.TheFolds.{map-Cond, ind-Cond}
+use Rattle.su_where.specs.Truth.{comparisons_of}
+use Rattle.su_where.specs.Disjunct.{opposite_of, pairs_of, combinations_of, joined, form_of, disjuncts_of}
+use Rattle.su_where.proofs.Layers.{comparisons_of-Compare, comparisons_of-Not, comparisons_of-All, comparisons_of-Any}
+use Rattle.su_where.proofs.Disjunctive.{forms, form_of-Compare, form_of-Not, form_of-All, form_of-Any}
+use Rattle.su_steps.proofs.Lists.{all_append, all_front, all_back}
+
+module _ (P : Literal → Type 0) (turned : (l : Literal) → P l → P (opposite_of l)) where
+  -- each comparison of each disjunct
+  abbrev AllIn : List (List Literal) → Type 0
+  AllIn ds = AllByRecursion (AllByRecursion P) ds
+
+  all_each : (d : List Literal) (es : List (List Literal)) → AllByRecursion P d → AllIn es → AllIn (map (λ e. d ++ e) es)
+  all_each d [] h k = tt
+  all_each d (e ∷ es) h k = (all_append P d e h k.0, all_each d es h k.1)
+
+  all_pairs : (ds es : List (List Literal)) → AllIn ds → AllIn es → AllIn (pairs_of ds es)
+  all_pairs [] es h k = tt
+  all_pairs (d ∷ ds) es h k = all_append (AllByRecursion P) (map (λ e. d ++ e) es) (pairs_of ds es) (all_each d es h.0 k) (all_pairs ds es h.1 k)
+
+  all_combinations : (fs : List (List (List Literal))) → AllByRecursion AllIn fs → AllIn (combinations_of fs)
+  all_combinations [] h = (tt, tt)
+  all_combinations (f ∷ fs) h = all_pairs f (combinations_of fs) h.0 (all_combinations fs h.1)
+
+  all_joined : (fs : List (List (List Literal))) → AllByRecursion AllIn fs → AllIn (joined fs)
+  all_joined [] h = tt
+  all_joined (f ∷ fs) h = all_append (AllByRecursion P) f (joined fs) h.0 (all_joined fs h.1)
+
+  abbrev IsKept : Cond → Type 0
+  IsKept c = (b : Bool) → AllByRecursion P (comparisons_of c) → AllIn (form_of c b)
+
+  abbrev parts : List ((c : Cond) × IsKept c) → List Cond
+  parts es = map (λ e. e.0) es
+
+  kept_parts : (b : Bool) (es : List ((c : Cond) × IsKept c)) → AllByRecursion P (flat_map comparisons_of (parts es)) → AllByRecursion AllIn (forms b (parts es))
+  kept_parts b [] h = tt
+  kept_parts b (e ∷ es) h =
+      (e.1 b (all_front P (comparisons_of e.0) (flat_map comparisons_of (parts es)) h), kept_parts b es (all_back P (comparisons_of e.0) (flat_map comparisons_of (parts es)) h))
+
+  kept_compare : (l : Literal) → IsKept (Compare l)
+  kept_compare l true h = subst AllIn (sym (form_of-Compare l true)) ((turned l (subst (AllByRecursion P) (comparisons_of-Compare l) h).0, tt), tt)
+  kept_compare l false h = subst AllIn (sym (form_of-Compare l false)) (((subst (AllByRecursion P) (comparisons_of-Compare l) h).0, tt), tt)
+
+  kept_not : (c : Cond) → IsKept c → IsKept (Not c)
+  kept_not c kept b h = subst AllIn (sym (form_of-Not c b)) (kept (not b) (subst (AllByRecursion P) (comparisons_of-Not c) h))
+
+  kept_All : (es : List ((c : Cond) × IsKept c)) → IsKept (All (parts es))
+  kept_All es true h = subst AllIn (sym (form_of-All (parts es) true)) (all_joined (forms true (parts es)) (kept_parts true es (subst (AllByRecursion P) (comparisons_of-All (parts es)) h)))
+  kept_All es false h = subst AllIn (sym (form_of-All (parts es) false)) (all_combinations (forms false (parts es)) (kept_parts false es (subst (AllByRecursion P) (comparisons_of-All (parts es)) h)))
+
+  kept_Any : (es : List ((c : Cond) × IsKept c)) → IsKept (Any (parts es))
+  kept_Any es true h = subst AllIn (sym (form_of-Any (parts es) true)) (all_combinations (forms true (parts es)) (kept_parts true es (subst (AllByRecursion P) (comparisons_of-Any (parts es)) h)))
+  kept_Any es false h = subst AllIn (sym (form_of-Any (parts es) false)) (all_joined (forms false (parts es)) (kept_parts false es (subst (AllByRecursion P) (comparisons_of-Any (parts es)) h)))
+
+  kept_layer : (y : open'.Cond-F ((c : Cond) × IsKept c)) → IsKept (roll-Cond (map-Cond ((c : Cond) × IsKept c) Cond (λ e. e.0) y))
+  kept_layer (open'.Compare l) = subst IsKept (sym (rolls-Compare l)) (kept_compare l)
+  kept_layer (open'.Not e) = subst IsKept (sym (rolls-Not e.0)) (kept_not e.0 e.1)
+  kept_layer (open'.All es) = subst IsKept (sym (rolls-All (parts es))) (kept_All es)
+  kept_layer (open'.Any es) = subst IsKept (sym (rolls-Any (parts es))) (kept_Any es)
+
+  kept : (c : Cond) → IsKept c
+  kept = ind-Cond IsKept (λ x y is. subst (λ z. IsKept (roll-Cond z)) is (kept_layer y))
+
+  pub literals_of : (c : Cond) → AllByRecursion P (comparisons_of c) → AllByRecursion (AllByRecursion P) (disjuncts_of c)
+  literals_of c h = kept c false h

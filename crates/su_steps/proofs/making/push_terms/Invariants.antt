@@ -1,0 +1,12 @@
+use Rattle.std.proofs.Common.{◌++◌, List, map, take}
+use Rattle.su_steps.specs.Objects.{width}
+use Rattle.su_steps.specs.Choices.{choices}
+use Rattle.su_steps.specs.Terms.{Case, case_of, AreTermsOf}
+use Rattle.su_steps.specs.Ready.{IsReady}
+use Rattle.su_steps.proofs.making.push_terms.Given as goal
+
+abbrev pub invariant-loop-k : goal.invariant-loop-k
+invariant-loop-k l = record {
+  ready : IsReady (width l.schema) l.resolved l.literals l.classes;
+  are : (cs : List Case) → AreTermsOf l.schema l.maximal l.resolved cs l.fn.terms → AreTermsOf l.schema l.maximal l.resolved (cs ++ map (case_of l.disjunct) (take l.k (choices l.schema l.maximal l.resolved))) l.terms;
+}

@@ -1,0 +1,12 @@
+pub mod Objects
+pub mod Expression
+pub mod Choices
+pub mod Classes
+pub mod Terms
+pub mod Refusals
+pub mod Sources
+pub mod Counting
+pub mod Tables
+pub mod Numbers
+pub mod Heads
+pub mod Ready

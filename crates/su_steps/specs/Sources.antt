@@ -1,0 +1,12 @@
+-- The sources of a row: the objects that may answer for it.
+use Rattle.std.specs.Prelude.{ℕ, ◌<◌, IsTrue, length}
+use Rattle.std.specs.FinSet.{contains}
+use Rattle.su_tableau.specs.Tableaux.{Tab}
+use Rattle.su_tableau.specs.Essential.{IsEssential}
+use Rattle.su_schema.specs.SchemaValue.{SchemaValue}
+use Rattle.su_steps.specs.Objects.{attributes_at}
+
+-- o is an object of the schema whose attributes include the essential columns of row r among the rows of m
+pub record IsSource (schema : SchemaValue) (t : Tab) (m r o : ℕ) : Type 0 where
+  pub object : o < length schema.objects
+  pub has_columns : (c : ℕ) → IsEssential t m r c → IsTrue (contains (attributes_at schema o) c)

@@ -1,0 +1,30 @@
+//! Steps 1 to 5 of the interpretation of a query: from a resolved query to its terms.
+//!
+//! A term stands for one disjunct and one choice of a covering maximal object per variable. It has a
+//! row for each variable and each object of its maximal object, and it is closed under the
+//! functional dependencies that lie in objects: where two rows have to agree, they have one symbol.
+//! Classes are merged in a table of representatives; a term takes a pass over its rows for each
+//! dependency, and sweeps over pairs of variables until nothing is left to merge. Terms aren't
+//! minimised here.
+#![tactic(auto)]
+
+mod building;
+mod choosing;
+mod classes;
+mod constants;
+mod crossing;
+mod faults;
+pub mod laws;
+mod making;
+mod objects;
+mod results;
+mod rows;
+mod sourcing;
+mod tables;
+#[cfg(test)]
+mod tests;
+
+pub use faults::{StepFault, StepLimit};
+pub use making::terms;
+pub use results::{Origin, Term};
+pub use sourcing::sources;

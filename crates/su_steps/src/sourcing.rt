@@ -1,0 +1,28 @@
+//! The sources of a row.
+ghost use Rattle.std.specs.Prelude.{◌≡◌, ◌<◌, ◌↔◌, ℕ, IsTrue, length};
+ghost use Rattle.std.specs.Int.{bit_at};
+ghost use Rattle.std.specs.FinSet as set;
+ghost use Rattle.su_steps.specs.Sources.{IsSource};
+
+use crate::objects::object_attributes;
+use su_base::ObjSet;
+use su_schema::Schema;
+use su_tableau::{Tableau, essential};
+
+/// The objects whose attributes include the essential columns of the row, among the rows of the
+/// mask: each of them may answer for the row. Takes no memory.
+pub fn sources(schema: &Schema, t: &Tableau, mask: u64, row: usize) -> ObjSet
+    requires row { row < length t.now.rows }
+    requires in_mask { bit_at mask row ≡ 1 }
+    ensures { (o : ℕ) → IsTrue (set.contains result o) ↔ IsSource schema.now t.now mask row o }
+{
+    schema.keeps_its_rules();
+    let columns = essential(t, mask, row);
+    let mut found = ObjSet::empty();
+    for o in 0..schema.objects() as u8 {
+        if columns.within(object_attributes(schema, o)) {
+            found = found.insert(o);
+        }
+    }
+    found
+}
