@@ -7,16 +7,21 @@ use Rattle.std.proofs.lemmas.List.{length-map, length-append}
 use Rattle.std.proofs.lemmas.List.Elements.{All-contains, All-from_recursion}
 use Rattle.std.proofs.lemmas.List.FromFn.{length-range_with_len}
 use Rattle.su_where.specs.Disjunct.{disjuncts_of}
-use Rattle.su_tableau.specs.Kinds.{Kinds, IsTyped}
-use Rattle.su_schema.specs.SchemaValue.{SchemaValue}
+use Rattle.su_tableau.specs.Tableaux.{Tab, IsValid}
+use Rattle.su_tableau.specs.Kinds.{IsTyped}
+use Rattle.su_schema.specs.SchemaValue.{SchemaValue, attribute_kinds}
+use Rattle.su_schema.specs.SchemaValue as schemas
+use Rattle.su_query.specs.Ranges.{IsResolved}
 use Rattle.su_query.specs.declared.resolving.Resolved.{Resolved}
-use Rattle.su_min.specs.Kept.{Minimised}
+use Rattle.su_min.specs.Kept.{Minimised, IsMinimised}
 use Rattle.su_steps.specs.declared.results.Term.{Term}
 use Rattle.su_steps.specs.Choices.{choices}
 use Rattle.su_steps.specs.Terms.{Case, case_of, cases, GivesNone, Gives, AreTermsOf, AreTerms}
 use Rattle.su_steps.specs.Refusals.{IsAccepted}
+use Rattle.su_steps.specs.Laws.{TermsAreValidAndTyped}
 use Rattle.su_steps.proofs.Lists.{all_by}
-use Rattle.su_answer.specs.Prepared.{IsLeastOf}
+use Rattle.su_answer.specs.declared.preparing.Prepared.{Prepared}
+use Rattle.su_answer.specs.Prepared.{IsMinimisedOf, IsPrepared}
 use Rattle.su_answer.proofs.Zipping.{zip_second}
 
 terms_count : (schema : SchemaValue) (maximal : List (FinSet nat_cmp)) (q : Resolved) (cs : List Case) (ts : List Term) → AreTermsOf schema maximal q cs ts → length ts ≤ length cs
@@ -47,19 +52,28 @@ few_terms schema maximal q ts terms accepted =
     let few = accepted.few_terms in
     omega (arith, count, product, few)
 
-pub same_count : (ts : List Term) (ms : List Minimised) → AllZip (λ t m. IsLeastOf t.tableau m) ts ms → length ts ≡ length ms
+pub same_count : (ts : List Term) (ms : List Minimised) → AllZip (λ t m. IsMinimisedOf t.tableau m) ts ms → length ts ≡ length ms
 same_count [] [] h = refl
 same_count [] (m ∷ ms) h = absurd h
 same_count (t ∷ ts) [] h = absurd h
 same_count (t ∷ ts) (m ∷ ms) h = let i = same_count ts ms h.1 in omega arith
 
-pub same_tableaux : (ts : List Term) (ms : List Minimised) → AllZip (λ t m. IsLeastOf t.tableau m) ts ms → map (λ (m : Minimised). m.tableau) ms ≡ map (λ (t : Term). t.tableau) ts
+pub same_tableaux : (ts : List Term) (ms : List Minimised) → AllZip (λ t m. IsMinimisedOf t.tableau m) ts ms → map (λ (m : Minimised). m.tableau) ms ≡ map (λ (t : Term). t.tableau) ts
 same_tableaux [] [] h = refl
 same_tableaux [] (m ∷ ms) h = absurd h
 same_tableaux (t ∷ ts) [] h = absurd h
 same_tableaux (t ∷ ts) (m ∷ ms) h = let i = same_tableaux ts ms h.1 in let j = h.0.tableau in cc
 
-pub typed_minimals : (kinds : Kinds) (ts : List Term) (ms : List Minimised) → AllZip (λ t m. IsLeastOf t.tableau m) ts ms → All (λ (t : Term). IsTyped kinds t.tableau) ts → All (λ (m : Minimised). IsTyped kinds m.tableau) ms
-typed_minimals kinds ts ms zip typed = All-from_recursion (λ (m : Minimised). IsTyped kinds m.tableau) ms (all_by (λ (m : Minimised). IsTyped kinds m.tableau) ms (λ m c.
-    let w = zip_second (λ t m. IsLeastOf t.tableau m) ts ms m zip c in
-    subst (IsTyped kinds) (sym w.2.tableau) (All-contains (λ (t : Term). IsTyped kinds t.tableau) ts w.0 typed w.1)))
+-- what holds of the terms' tableaux holds of the minimised ones
+pub of_minimals : (P : Tab → Type 0) (ts : List Term) (ms : List Minimised) → AllZip (λ t m. IsMinimisedOf t.tableau m) ts ms → All (λ (t : Term). P t.tableau) ts → All (λ (m : Minimised). P m.tableau) ms
+of_minimals P ts ms zip all = All-from_recursion (λ (m : Minimised). P m.tableau) ms (all_by (λ (m : Minimised). P m.tableau) ms (λ m c.
+    let w = zip_second (λ t m. IsMinimisedOf t.tableau m) ts ms m zip c in
+    subst P (sym w.2.tableau) (All-contains (λ (t : Term). P t.tableau) ts w.0 all w.1)))
+
+pub all_minimised : (ts : List Term) (ms : List Minimised) → AllZip (λ t m. IsMinimisedOf t.tableau m) ts ms → All IsMinimised ms
+all_minimised ts ms zip = All-from_recursion IsMinimised ms (all_by IsMinimised ms (λ m c. (zip_second (λ t m. IsMinimisedOf t.tableau m) ts ms m zip c).2.minimised))
+
+-- the minimised tableaux of a prepared query are valid and well typed
+pub minimals_fit : TermsAreValidAndTyped → (schema : SchemaValue) (maximal : List (FinSet nat_cmp)) (q : Resolved) (p : Prepared) → schemas.IsValid schema → IsResolved schema q → IsPrepared schema maximal q p
+    → All (λ (m : Minimised). IsValid m.tableau × IsTyped (attribute_kinds schema) m.tableau) p.minimals
+minimals_fit law schema maximal q p valid resolved is = of_minimals (λ t. IsValid t × IsTyped (attribute_kinds schema) t) p.terms p.minimals is.minimals (law schema maximal q p.terms valid resolved is.terms)

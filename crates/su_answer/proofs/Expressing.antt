@@ -1,5 +1,5 @@
 -- Where the relations are projections of a universal relation, the answers are those of the query's expression.
-use Rattle.std.proofs.Common.{◌≡◌, ◌↔◌, ℕ, ◌<◌, List, [], map, length, get_or, Contains, All, sym, ap, ◌∙◌, subst, arith}
+use Rattle.std.proofs.Common.{◌≡◌, ◌↔◌, ◌⊎◌, ℕ, ◌<◌, List, [], map, length, get_or, Contains, All, sym, ap, ◌∙◌, subst, arith}
 use Rattle.std.specs.Ordering.{nat_cmp}
 use Rattle.std.specs.FinSet.{FinSet}
 use Rattle.std.proofs.lemmas.List.{length-map, get_or-map}
@@ -7,46 +7,62 @@ use Rattle.std.proofs.lemmas.List.Elements.{All-contains, All-from_recursion, Co
 use Rattle.su_base.specs.declared.values.Kind.{Kind}
 use Rattle.su_base.specs.declared.values.Value.{Value}
 use Rattle.su_base.specs.Value.{kind_of}
-use Rattle.su_tableau.specs.Tableaux.{Tab, Ext, Cut}
+use Rattle.su_tableau.specs.Tableaux.{Tab, IsValid, Ext, Cut}
 use Rattle.su_tableau.specs.Kinds.{IsUniverse, IsTyped}
 use Rattle.su_tableau.specs.Parts.{part}
-use Rattle.su_tableau.proofs.Changing.{essential_ext, ext_essential}
+use Rattle.su_tableau.specs.Mapping.{Maps}
+use Rattle.su_tableau.specs.Essential.{ExtByEssential}
+use Rattle.su_tableau.proofs.Containment.{maps_within}
+use Rattle.su_map.specs.Lists.{IsMapping}
 use Rattle.su_schema.specs.SchemaValue.{attribute_kinds}
 use Rattle.su_query.specs.declared.resolving.Resolved.{Resolved}
 use Rattle.su_query.specs.Ranges.{IsResolved}
 use Rattle.su_state.specs.DatabaseValue.{DatabaseValue, IsWellKept}
-use Rattle.su_min.specs.Kept.{Minimised, IsLeastPart}
+use Rattle.su_min.specs.Kept.{Minimised, IsMinimised, IsLeastPart}
+use Rattle.su_min.specs.Cover.{Covers}
 use Rattle.su_min.specs.Reduction.{term_at}
-use Rattle.su_min.proofs.Least.{kept_least_part}
-use Rattle.su_min.proofs.Spared.{covers_whole}
+use Rattle.su_min.specs.Laws.{KeptRowsAreLeast, TermsAreKeptOrCovered, HasCover}
 use Rattle.su_steps.specs.declared.results.Term.{Term}
 use Rattle.su_steps.specs.Expression.{Meets, cut, cuts, InExpression}
-use Rattle.su_steps.specs.Terms.{AreTerms, InUnion}
+use Rattle.su_steps.specs.Terms.{InUnion}
+use Rattle.su_steps.specs.Laws.{TermsAreValidAndTyped, TermsAreTheExpression, RowsHaveSources}
 use Rattle.su_steps.specs.Objects.{attributes_at, width}
 use Rattle.su_steps.proofs.Lists.{all_by}
-use Rattle.su_steps.proofs.Origins.{rows_have_sources}
-use Rattle.su_steps.proofs.Whole.{whole}
 use Rattle.su_answer.specs.declared.preparing.Prepared.{Prepared}
-use Rattle.su_answer.specs.Prepared.{IsPreparedFor, IsRuled}
+use Rattle.su_answer.specs.Prepared.{IsPrepared}
 use Rattle.su_answer.specs.Joined.{HaveSources}
 use Rattle.su_answer.specs.Answers.{StoredAnswer, IsAnswer}
 use Rattle.su_answer.specs.Projections.{view_of, AreProjections}
+use Rattle.su_answer.proofs.Counting.{same_tableaux, all_minimised, minimals_fit}
 use Rattle.su_answer.proofs.Covered.{OfKept, OfTerm, kept_give_all}
 use Rattle.su_answer.proofs.Viewing.{stored_is_ext}
 
 abbrev no_minimised : Minimised
 no_minimised = record { tableau = record { width = 0; rows = []; head = []; outputs = 0; operators = [] }; mask = 0; fold = [] }
 
+-- the laws of the layers below
+pub record Laws : Type 0 where
+  pub typed : TermsAreValidAndTyped
+  pub union : TermsAreTheExpression
+  pub sources : RowsHaveSources
+  pub least : KeptRowsAreLeast
+  pub covered : TermsAreKeptOrCovered
+  pub lists : (s t : Tab) (m k : ℕ) (list : List ℕ) → IsMapping s m t k list → Maps (part s m) (part t k)
+  pub essential : (t : Tab) (m : ℕ) (universe : List (List Value)) (h : List Value) → IsValid (part t m) → All (λ row. length row ≡ t.width) t.rows → All (λ u. length u ≡ t.width) universe
+      → (ExtByEssential t m universe h ↔ Ext (part t m) universe h)
+
 module _
-    (db : DatabaseValue) (p : Prepared) (maximal : List (FinSet nat_cmp)) (q : Resolved) (universe : List (List Value))
-    (kept : IsWellKept db) (prepared : IsPreparedFor db.schema p) (rules : All IsRuled p.minimals)
-    (resolved : IsResolved db.schema q) (terms : AreTerms db.schema maximal q p.terms)
+    (laws : Laws) (db : DatabaseValue) (p : Prepared) (maximal : List (FinSet nat_cmp)) (q : Resolved) (universe : List (List Value))
+    (kept : IsWellKept db) (resolved : IsResolved db.schema q) (prepared : IsPrepared db.schema maximal q p)
     (kinds : IsUniverse (attribute_kinds db.schema) universe) (meets : Meets db.schema.fds universe) (projections : AreProjections db universe) where
+  tableaux : map (λ (m : Minimised). m.tableau) p.minimals ≡ map (λ (t : Term). t.tableau) p.terms
+  tableaux = same_tableaux p.terms p.minimals prepared.minimals
+
   count : length p.minimals ≡ length p.terms
   count =
       let a = length-map p.minimals (λ (m : Minimised). m.tableau) in
       let b = length-map p.terms (λ (t : Term). t.tableau) in
-      let e : length (map (λ (m : Minimised). m.tableau) p.minimals) ≡ length (map (λ (t : Term). t.tableau) p.terms) = ap (λ (ts : List Tab). length ts) prepared.tableaux in
+      let e : length (map (λ (m : Minimised). m.tableau) p.minimals) ≡ length (map (λ (t : Term). t.tableau) p.terms) = ap (λ (ts : List Tab). length ts) tableaux in
       omega arith
 
   -- the term of a number, and its tableau
@@ -57,58 +73,68 @@ module _
       let t = get_or p.terms k (record { disjunct = 0; choice = []; origins = []; tableau = no_minimised.tableau }) in
       let same : t.tableau ≡ (term_at p.minimals k).tableau =
       sym (get_or-map (λ (t : Term). t.tableau) p.terms k (record { disjunct = 0; choice = []; origins = []; tableau = no_minimised.tableau }) no_minimised.tableau low)
-      ∙ ap (λ (ts : List Tab). get_or ts k no_minimised.tableau) (sym prepared.tableaux) ∙ get_or-map (λ (m : Minimised). m.tableau) p.minimals k no_minimised no_minimised.tableau l in
+      ∙ ap (λ (ts : List Tab). get_or ts k no_minimised.tableau) (sym tableaux) ∙ get_or-map (λ (m : Minimised). m.tableau) p.minimals k no_minimised no_minimised.tableau l in
       (t, Contains-get_or p.terms k (record { disjunct = 0; choice = []; origins = []; tableau = no_minimised.tableau }) low, same)
 
-  ruled : (k : ℕ) → k < length p.minimals → IsRuled (term_at p.minimals k)
-  ruled k l = rules k no_minimised l
+  minimised : (k : ℕ) → k < length p.minimals → IsMinimised (term_at p.minimals k)
+  minimised k l = all_minimised p.terms p.minimals prepared.minimals k no_minimised l
 
-  typed : (k : ℕ) → k < length p.minimals → IsTyped (attribute_kinds db.schema) (term_at p.minimals k).tableau
-  typed k l = prepared.typed k no_minimised l
+  fit : (k : ℕ) → k < length p.minimals → IsValid (term_at p.minimals k).tableau × IsTyped (attribute_kinds db.schema) (term_at p.minimals k).tableau
+  fit k l = minimals_fit laws.typed db.schema maximal q p kept.valid resolved prepared k no_minimised l
 
   least : (k : ℕ) (l : k < length p.minimals) → IsLeastPart (attribute_kinds db.schema) (term_at p.minimals k).tableau (term_at p.minimals k).mask
-  least k l = kept_least_part (attribute_kinds db.schema) (term_at p.minimals k).tableau (term_at p.minimals k).mask (ruled k l).valid (ruled k l).minimised.kept (typed k l)
+  least k l = laws.least (attribute_kinds db.schema) (term_at p.minimals k).tableau (term_at p.minimals k).mask (fit k l).0 (fit k l).1 (minimised k l).kept
 
   have_sources : (k : ℕ) → k < length p.minimals → HaveSources db.schema (term_at p.minimals k).tableau (term_at p.minimals k).mask
   have_sources k l =
       let t = term_of k l in
-      subst (λ (u : Tab). HaveSources db.schema u (term_at p.minimals k).mask) t.2 (λ i low set. rows_have_sources db.schema maximal q kept.valid resolved p.terms terms t.0 (term_at p.minimals k).mask i t.1 low)
+      subst (λ (u : Tab). HaveSources db.schema u (term_at p.minimals k).mask) t.2 (λ i low set. laws.sources db.schema maximal q p.terms kept.valid resolved prepared.terms t.0 (term_at p.minimals k).mask i t.1 low)
 
   stored_same : (k : ℕ) → k < length p.minimals → (h : List Value) → StoredAnswer db (term_at p.minimals k).tableau (term_at p.minimals k).mask h ↔ Ext (part (term_at p.minimals k).tableau (term_at p.minimals k).mask) universe h
   stored_same k l h =
       let t = (term_at p.minimals k).tableau in
       let m = (term_at p.minimals k).mask in
-      let valid = (ruled k l).valid in
-      let wide : t.width ≡ width db.schema = (typed k l).width in
+      let valid = (fit k l).0 in
+      let wide : t.width ≡ width db.schema = (fit k l).1.width in
       let rows_wide : All (λ u. length u ≡ t.width) universe = All-from_recursion (λ u. length u ≡ t.width) universe (all_by (λ u. length u ≡ t.width) universe (λ u c.
       let one : map kind_of u ≡ attribute_kinds db.schema = All-contains (λ row. map kind_of row ≡ attribute_kinds db.schema) universe u kinds c in
       sym (length-map u kind_of) ∙ ap (λ (ks : List Kind). length ks) one ∙ sym wide)) in
       let s = stored_is_ext db t m universe kept wide valid.widths kinds projections (have_sources k l) h in
-      (λ a. essential_ext t m universe h (least k l).valid valid.widths rows_wide (s.0 a), λ e. s.1 (ext_essential t m universe h e))
+      let e = laws.essential t m universe h (least k l).valid valid.widths rows_wide in
+      (λ a. e.0 (s.0 a), λ x. s.1 (e.1 x))
 
   whole_same : (k : ℕ) → k < length p.minimals → (h : List Value) → Ext (part (term_at p.minimals k).tableau (term_at p.minimals k).mask) universe h ↔ Ext (term_at p.minimals k).tableau universe h
   whole_same k l h = (least k l).equivalent universe h kinds
 
-  kept_all : (h : List Value) → OfKept (attribute_kinds db.schema) p.minimals p.reduced universe prepared.reduced kinds whole_same (λ i j li lj c. covers_whole (term_at p.minimals i) (term_at p.minimals j) (ruled i li).minimised c) h
-      ↔ OfTerm (attribute_kinds db.schema) p.minimals p.reduced universe prepared.reduced kinds whole_same (λ i j li lj c. covers_whole (term_at p.minimals i) (term_at p.minimals j) (ruled i li).minimised c) h
-  kept_all h = kept_give_all (attribute_kinds db.schema) p.minimals p.reduced universe prepared.reduced kinds whole_same (λ i j li lj c. covers_whole (term_at p.minimals i) (term_at p.minimals j) (ruled i li).minimised c) h
+  kept_or_covered : (i : ℕ) → i < length p.minimals → Contains p.reduced.kept i ⊎ HasCover p.minimals p.reduced.kept i
+  kept_or_covered = laws.covered p.minimals p.reduced prepared.reduced
+
+  covers_within : (i j : ℕ) → i < length p.minimals → j < length p.minimals → Covers (term_at p.minimals i) (term_at p.minimals j) → (h : List Value)
+      → Ext (part (term_at p.minimals j).tableau (term_at p.minimals j).mask) universe h → Ext (part (term_at p.minimals i).tableau (term_at p.minimals i).mask) universe h
+  covers_within i j li lj c h e =
+      let one = term_at p.minimals i in let other = term_at p.minimals j in
+      maps_within (attribute_kinds db.schema) (part one.tableau one.mask) (part other.tableau other.mask) (laws.lists one.tableau other.tableau one.mask other.mask c.list c.maps) universe h kinds e
+
+  kept_all : (h : List Value) → OfKept p.minimals p.reduced universe prepared.reduced kept_or_covered whole_same covers_within h
+      ↔ OfTerm p.minimals p.reduced universe prepared.reduced kept_or_covered whole_same covers_within h
+  kept_all h = kept_give_all p.minimals p.reduced universe prepared.reduced kept_or_covered whole_same covers_within h
 
   low_of : (k : ℕ) → Contains p.reduced.kept k → k < length p.minimals
   low_of k c = ((prepared.reduced.kept.members k).0 c).0
 
   -- ---- terms and their tableaux
 
-  of_union : (h : List Value) → InUnion p.terms universe h → OfTerm (attribute_kinds db.schema) p.minimals p.reduced universe prepared.reduced kinds whole_same (λ i j li lj c. covers_whole (term_at p.minimals i) (term_at p.minimals j) (ruled i li).minimised c) h
+  of_union : (h : List Value) → InUnion p.terms universe h → OfTerm p.minimals p.reduced universe prepared.reduced kept_or_covered whole_same covers_within h
   of_union h u =
       let n = count in
       let at = u.1 in
       let low : at.0 < length p.minimals = let l = at.1 in omega arith in
       let same : u.0.tableau ≡ (term_at p.minimals at.0).tableau =
       ap (λ (t : Term). t.tableau) (sym at.2) ∙ sym (get_or-map (λ (t : Term). t.tableau) p.terms at.0 u.0 no_minimised.tableau at.1)
-      ∙ ap (λ (ts : List Tab). get_or ts at.0 no_minimised.tableau) (sym prepared.tableaux) ∙ get_or-map (λ (m : Minimised). m.tableau) p.minimals at.0 no_minimised no_minimised.tableau low in
+      ∙ ap (λ (ts : List Tab). get_or ts at.0 no_minimised.tableau) (sym tableaux) ∙ get_or-map (λ (m : Minimised). m.tableau) p.minimals at.0 no_minimised no_minimised.tableau low in
       record { term = at.0; below = low; answer = subst (λ (t : Tab). Cut t (Ext t universe) h) same u.2 }
 
-  to_union : (h : List Value) → OfTerm (attribute_kinds db.schema) p.minimals p.reduced universe prepared.reduced kinds whole_same (λ i j li lj c. covers_whole (term_at p.minimals i) (term_at p.minimals j) (ruled i li).minimised c) h → InUnion p.terms universe h
+  to_union : (h : List Value) → OfTerm p.minimals p.reduced universe prepared.reduced kept_or_covered whole_same covers_within h → InUnion p.terms universe h
   to_union h o = let t = term_of o.term o.below in (t.0, t.1, subst (λ (u : Tab). Cut u (Ext u universe) h) (sym t.2) o.answer)
 
   -- ---- views and cuts
@@ -139,7 +165,7 @@ module _
 
   pub answers_are_the_expression : (h : List Value) → IsAnswer db p h ↔ InExpression db.schema maximal q (view_of db) h
   answers_are_the_expression h =
-      let law = whole db.schema maximal q kept.valid resolved p.terms terms universe h kinds meets in (
+      let law = laws.union db.schema maximal q p.terms kept.valid resolved prepared.terms universe h kinds meets in (
         λ a.
             let l = low_of a.term a.kept in
             to_views h (law.0 (to_union h ((kept_all h).0 (record {

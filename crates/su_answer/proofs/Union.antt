@@ -21,7 +21,6 @@ use Rattle.su_min.specs.Kept.{Minimised}
 use Rattle.su_min.specs.Reduction.{term_at, IsReduced}
 use Rattle.su_answer.specs.declared.found.Found.{Found}
 use Rattle.su_answer.specs.declared.preparing.Prepared.{Prepared}
-use Rattle.su_answer.specs.Prepared.{IsRuled}
 use Rattle.su_answer.specs.Joined.{IsTaskOf}
 use Rattle.su_answer.specs.Answers.{IsTermAnswer, IsAnswer, AreMoreThan}
 use Rattle.su_answer.specs.Executed.{Join, IsFound, IsJoinOf, AreTermAnswers, IsFoundFor, IsInSome}
@@ -111,9 +110,9 @@ zip_through R S T (x ∷ xs) [] zs f r s = absurd r
 zip_through R S T (x ∷ xs) (y ∷ ys) [] f r s = absurd s
 zip_through R S T (x ∷ xs) (y ∷ ys) (z ∷ zs) f r s = (f x y z (0, omega arith, refl) r.0 s.0, zip_through R S T xs ys zs (λ a b c m. f a b c (contains_later x xs a m)) r.1 s.1)
 
--- the rules of a term that is named
-pub minimal_ruled : (minimals : List Minimised) (kept : List ℕ) (k : ℕ) → All IsRuled minimals → All (λ j. j < length minimals) kept → Contains kept k → IsRuled (term_at minimals k)
-minimal_ruled minimals kept k rules low has = rules k (record { tableau = record { width = 0; rows = []; head = []; outputs = 0; operators = [] }; mask = 0; fold = [] }) (All-contains (λ j. j < length minimals) kept k low has)
+-- a term that is named is valid
+pub minimal_valid : (minimals : List Minimised) (kept : List ℕ) (k : ℕ) → All (λ (m : Minimised). IsValid m.tableau) minimals → All (λ j. j < length minimals) kept → Contains kept k → IsValid (term_at minimals k).tableau
+minimal_valid minimals kept k valid low has = valid k (record { tableau = record { width = 0; rows = []; head = []; outputs = 0; operators = [] }; mask = 0; fold = [] }) (All-contains (λ j. j < length minimals) kept k low has)
 
 -- ---- the answers of a prepared query
 

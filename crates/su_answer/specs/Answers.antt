@@ -4,17 +4,21 @@
 use Rattle.std.specs.Prelude.{◌≡◌, ◌↔◌, ◌<◌, ◌≤◌, ℕ, List, length, slice_get, Contains, Some}
 use Rattle.std.specs.Int.{bit_at}
 use Rattle.std.specs.List.Sorted.{IsStrictlySortedBy}
+use Rattle.std.specs.Ordering.{nat_cmp}
+use Rattle.std.specs.FinSet.{FinSet}
 use Rattle.su_base.specs.declared.values.Value.{Value}
 use Rattle.su_base.specs.Value.{compare_lists}
 use Rattle.su_tableau.specs.declared.symbols.Sym.{Sym}
 use Rattle.su_tableau.specs.Tableaux.{Tab, AreVarsBelow, nth, value_of, values_of, Cut}
 use Rattle.su_tableau.specs.Essential.{Holds, IsEssential}
 use Rattle.su_schema.specs.SchemaValue.{ObjectEntry}
+use Rattle.su_query.specs.declared.resolving.Resolved.{Resolved}
 use Rattle.su_state.specs.DatabaseValue.{DatabaseValue, rows_of, read}
 use Rattle.su_min.specs.Kept.{Minimised}
 use Rattle.su_min.specs.Reduction.{term_at}
 use Rattle.su_steps.specs.Sources.{IsSource}
 use Rattle.su_answer.specs.declared.preparing.Prepared.{Prepared}
+use Rattle.su_answer.specs.Prepared.{IsPrepared}
 
 -- under the valuation row i, among the rows of m, is read
 pub record IsRead (db : DatabaseValue) (t : Tab) (m : ℕ) (v : ℕ → Value) (i : ℕ) : Type 0 where
@@ -53,3 +57,15 @@ pub record AreMoreThan (n : ℕ) (P : List Value → Type 0) : Type 0 where
   pub list : ℕ → List Value
   pub each : (i : ℕ) → i ≤ n → P (list i)
   pub differ : (i j : ℕ) → i < j → j ≤ n → ¬ (list i ≡ list j)
+
+-- the rows are the answer of the query
+pub record IsAnswerOf (db : DatabaseValue) (maximal : List (FinSet nat_cmp)) (q : Resolved) (rows : List (List Value)) : Type 0 where
+  pub prepared : Prepared
+  pub is_prepared : IsPrepared db.schema maximal q prepared
+  pub answers : AreAnswers db prepared rows
+
+-- the answer of the query has more rows than it may have
+pub record IsTooLong (db : DatabaseValue) (maximal : List (FinSet nat_cmp)) (q : Resolved) : Type 0 where
+  pub prepared : Prepared
+  pub is_prepared : IsPrepared db.schema maximal q prepared
+  pub many : AreMoreThan 1000000 (IsAnswer db prepared)

@@ -3,3 +3,4 @@ pub mod Executed
 pub mod Joined
 pub mod Prepared
 pub mod Projections
+pub mod Laws

@@ -1,28 +1,31 @@
--- A query that is ready to be answered: its terms, each with its kept rows, and which of the terms are kept.
--- least: over every universal relation the kept rows have the tableau's answers, and no tableau that does has fewer rows
-use Rattle.std.specs.Prelude.{◌≡◌, ◌≤◌, map, length, All}
-use Rattle.su_tableau.specs.Tableaux.{Tab, IsValid, IsSmall}
-use Rattle.su_tableau.specs.Kinds.{Kinds, IsTyped}
-use Rattle.su_schema.specs.SchemaValue.{SchemaValue, attribute_kinds}
-use Rattle.su_min.specs.Kept.{Minimised, IsMinimised, IsLeastPart}
+-- What a prepared query is: its terms, each with its least rows and its fold, and which of the terms are kept.
+use Rattle.std.specs.Prelude.{◌≡◌, List}
+use Rattle.std.specs.List.{AllZip}
+use Rattle.std.specs.Ordering.{nat_cmp}
+use Rattle.std.specs.FinSet.{FinSet}
+use Rattle.su_tableau.specs.Tableaux.{Tab}
+use Rattle.su_schema.specs.SchemaValue.{SchemaValue}
+use Rattle.su_query.specs.declared.resolving.Resolved.{Resolved}
+use Rattle.su_query.specs.Ranges.{IsResolved}
+use Rattle.su_steps.specs.Terms.{AreTerms}
+use Rattle.su_min.specs.Kept.{Minimised, IsMinimised}
 use Rattle.su_min.specs.Reduction.{IsReduced}
 use Rattle.su_answer.specs.declared.preparing.Prepared.{Prepared}
 
--- m is the tableau t with its kept rows and its fold, and the kept rows are least
-pub record IsLeastOf (t : Tab) (m : Minimised) : Type 0 where
+-- m is the tableau t with its least rows and its fold
+pub record IsMinimisedOf (t : Tab) (m : Minimised) : Type 0 where
   pub tableau : m.tableau ≡ t
   pub minimised : IsMinimised m
-  pub least : (kinds : Kinds) → IsTyped kinds t → IsLeastPart kinds t m.mask
 
--- it is prepared for this schema
-pub record IsPreparedFor (schema : SchemaValue) (p : Prepared) : Type 0 where
-  pub few : length p.minimals ≤ 256
-  pub tableaux : map (λ m. m.tableau) p.minimals ≡ map (λ t. t.tableau) p.terms
-  pub typed : All (λ m. IsTyped (attribute_kinds schema) m.tableau) p.minimals
+-- the terms of the query, each minimised, and what became of their union
+pub record IsPrepared (schema : SchemaValue) (maximal : List (FinSet nat_cmp)) (q : Resolved) (p : Prepared) : Type 0 where
+  pub terms : AreTerms schema maximal q p.terms
+  pub minimals : AllZip (λ term m. IsMinimisedOf term.tableau m) p.terms p.minimals
   pub reduced : IsReduced p.minimals p.reduced
 
--- what the types keep of a minimised tableau
-pub record IsRuled (m : Minimised) : Type 0 where
-  pub minimised : IsMinimised m
-  pub valid : IsValid m.tableau
-  pub small : IsSmall m.tableau
+-- prepared from some query of the schema
+pub record IsPreparedFor (schema : SchemaValue) (p : Prepared) : Type 0 where
+  pub maximal : List (FinSet nat_cmp)
+  pub query : Resolved
+  pub resolved : IsResolved schema query
+  pub is : IsPrepared schema maximal query p

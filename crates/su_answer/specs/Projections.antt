@@ -2,12 +2,16 @@
 -- view of an object: the lists of values that it takes from the rows of its relation, one value per attribute, ascending
 use Rattle.std.specs.Prelude.{◌↔◌, ◌<◌, ℕ, pos, List, [], map, length, slice_get, Contains, Option, Some, None, unwrap_or}
 use Rattle.std.specs.List.{range_with_len}
+use Rattle.std.specs.Ordering.{nat_cmp}
+use Rattle.std.specs.FinSet.{FinSet}
 use Rattle.su_base.specs.declared.values.Value.{Value}
 use Rattle.su_base.specs.declared.values.Value.TheVariants.{Int}
-use Rattle.su_schema.specs.SchemaValue.{SchemaValue, ObjectEntry, attributes_of}
+use Rattle.su_tableau.specs.Kinds.{IsUniverse}
+use Rattle.su_query.specs.declared.resolving.Resolved.{Resolved}
+use Rattle.su_schema.specs.SchemaValue.{SchemaValue, ObjectEntry, attribute_kinds, attributes_of}
 use Rattle.su_state.specs.DatabaseValue.{DatabaseValue, rows_of, read}
 use Rattle.su_steps.specs.Objects.{width}
-use Rattle.su_steps.specs.Expression.{cut, cuts}
+use Rattle.su_steps.specs.Expression.{Meets, cut, cuts, InExpression}
 
 -- the value that the object takes for an attribute from a row
 abbrev pub value_for : ObjectEntry → List Value → ℕ → Value
@@ -28,3 +32,8 @@ view_of db o = view_through db (slice_get db.schema.objects o)
 -- the view of each object is the universal relation, cut to the object
 abbrev pub AreProjections : DatabaseValue → List (List Value) → Type 0
 AreProjections db universe = (o : ℕ) → o < length db.schema.objects → (x : List Value) → Contains (view_of db o) x ↔ Contains (cuts db.schema universe o) x
+
+-- where the relations are the projections of one universal relation that meets the dependencies, the rows are those of the query's expression
+abbrev pub AreOfExpression : DatabaseValue → List (FinSet nat_cmp) → Resolved → List (List Value) → Type 0
+AreOfExpression db maximal q rows = (universe : List (List Value)) (h : List Value) → IsUniverse (attribute_kinds db.schema) universe → Meets db.schema.fds universe → AreProjections db universe
+    → (Contains rows h ↔ InExpression db.schema maximal q (view_of db) h)

@@ -1,11 +1,11 @@
 //! Joins that are executed side by side.
 ghost use Rattle.std.specs.Prelude.{◌≡◌, ◌≤◌, ◌<◌, length, All, IfOk};
 ghost use Rattle.std.specs.List.{AllZip};
+ghost use Rattle.su_tableau.specs.Tableaux.{IsValid};
 ghost use Rattle.su_tableau.specs.Kinds.{IsTyped};
 ghost use Rattle.su_schema.specs.SchemaValue.{attribute_kinds};
 ghost use Rattle.su_exec.specs.Tasks.{IsTask};
 ghost use Rattle.su_min.specs.Reduction.{term_at};
-ghost use Rattle.su_answer.specs.Prepared.{IsRuled};
 ghost use Rattle.su_answer.specs.Executed.{IsFound, IsJoinOf, IsFoundFor};
 
 use crate::found::Found;
@@ -18,6 +18,7 @@ use su_base::{List, NoMemory};
 use su_exec::{ExecFault, Task, execute};
 use su_index::{Table, TableRows};
 use su_min::Minimal;
+use su_min::laws::kept_rows_are_least;
 use su_par::{Gate, Job, each};
 use su_state::Database;
 
@@ -82,6 +83,7 @@ fn job_of<'a>(alloc: Global, db: &'a Database, minimal: &Minimal) -> Result<Exec
     minimal.keeps_its_rules();
     let t = minimal.tableau();
     t.keeps_its_rules();
+    kept_rows_are_least();
     let task = task_of(alloc, db.schema(), t, minimal.mask())?;
     Ok(Executing {
         tables: db.tables(),
@@ -119,7 +121,7 @@ pub fn found<R: Threads + Sync, G: Gate>(
     gate: &G,
 ) -> Result<List<Found>, NoMemory>
     requires typed { All (λ m. IsTyped (attribute_kinds db.now.schema) m.tableau) minimals.now }
-    requires ruled { All IsRuled minimals.now }
+    requires valid { All (λ m. IsValid m.tableau) minimals.now }
     requires within { All (λ k. k < length minimals.now) kept.now }
     requires least { 1 ≤ workers }
     requires most { workers ≤ 16 }

@@ -13,9 +13,9 @@ mod crossing;
 mod executing;
 mod faults;
 mod found;
+pub mod laws;
 mod making;
 mod preparing;
-mod rules;
 mod tasks;
 mod uniting;
 

@@ -1,16 +1,9 @@
 //! Terms that are minimised and compared.
-ghost use Rattle.std.specs.Prelude.{◌≡◌, ℕ, ◌≤◌, ◌↔◌, List as Items, length, map, All, IfOk, IfErr, OnOk};
+ghost use Rattle.std.specs.Prelude.{◌≡◌, ◌≤◌, length, IfOk, IfErr, OnOk};
 ghost use Rattle.std.specs.List.{AllZip};
-ghost use Rattle.su_base.specs.declared.values.Value.{Value as AValue};
-ghost use Rattle.su_tableau.specs.Tableaux.{Tab, IsValid};
-ghost use Rattle.su_tableau.specs.Kinds.{Kinds, IsUniverse, IsTyped};
-ghost use Rattle.su_schema.specs.SchemaValue.{attribute_kinds};
 ghost use Rattle.su_query.specs.Ranges.{IsResolved};
-ghost use Rattle.su_steps.specs.Expression.{Meets, cuts, InExpression};
-ghost use Rattle.su_steps.specs.Terms.{AreTerms, InUnion};
 ghost use Rattle.su_steps.specs.Refusals.{IsAccepted, IsRefusal};
-ghost use Rattle.su_min.specs.Needed.{HasAnswersOf, AreNeeded};
-ghost use Rattle.su_answer.specs.Prepared.{IsLeastOf, IsPreparedFor};
+ghost use Rattle.su_answer.specs.Prepared.{IsMinimisedOf, IsPrepared};
 
 use crate::preparing::Prepared;
 use std::alloc::Global;
@@ -32,7 +25,7 @@ struct Minimising {
 impl Job for Minimising {
     type Out = Minimal;
 
-    ghost gives = { λ job m. IsLeastOf job.tableau m };
+    ghost gives = { λ job m. IsMinimisedOf job.tableau m };
 
     fn run(self, alloc: Global) -> Result<Minimal, NoMemory> {
         match minimise(alloc, self.tableau) {
@@ -64,7 +57,7 @@ fn minimals<R: Threads + Sync, G: Gate>(
 ) -> Result<List<Minimal>, NoMemory>
     requires least { 1 ≤ workers }
     requires most { workers ≤ 16 }
-    ensures { IfOk result (AllZip (λ term m. IsLeastOf term.tableau m) terms.now) }
+    ensures { IfOk result (AllZip (λ term m. IsMinimisedOf term.tableau m) terms.now) }
 {
     let jobs = jobs(alloc, terms)?;
     let minimals = each(rt, alloc, jobs, workers, gate)?;
@@ -89,13 +82,9 @@ pub fn prepare<R: Threads + Sync, G: Gate>(
     requires resolved { IsResolved db.now.schema resolved.now }
     requires least { 1 ≤ workers }
     requires most { workers ≤ 16 }
-    ensures terms { IfOk result (λ p. AreTerms db.now.schema maximal.now resolved.now p.terms) }
+    ensures prepared { IfOk result (IsPrepared db.now.schema maximal.now resolved.now) }
     ensures accepted { OnOk result (IsAccepted db.now.schema maximal.now resolved.now) }
     ensures refused { IfErr result (IsRefusal db.now.schema maximal.now resolved.now) }
-    ensures minimised { IfOk result (λ p. AllZip (λ term m. IsLeastOf term.tableau m) p.terms p.minimals) }
-    ensures prepared { IfOk result (IsPreparedFor db.now.schema) }
-    ensures needed { IfOk result (λ p. (kinds : Kinds) (c : ℕ) (tableaux : Items Tab) → All (λ m. IsTyped kinds m.tableau) p.minimals → All (λ t. IsValid t × IsTyped kinds t) tableaux → HasAnswersOf kinds p.minimals c tableaux → AreNeeded kinds p.minimals p.reduced.kept c tableaux) }
-    ensures expression { IfOk result (λ p. (universe : Items (Items AValue)) (h : Items AValue) → IsUniverse (attribute_kinds db.now.schema) universe → Meets db.now.schema.fds universe → (InUnion p.terms universe h ↔ InExpression db.now.schema maximal.now resolved.now (cuts db.now.schema universe) h)) }
 {
     let terms = terms(alloc, db.schema(), maximal, resolved)?;
     let minimals = minimals(rt, alloc, terms.as_slice(), workers, gate)?;

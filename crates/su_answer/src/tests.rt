@@ -5,11 +5,12 @@ ghost use Rattle.su_answer.specs.Prepared.{IsPreparedFor};
 
 use crate::{Prepared, answer, prepare};
 use std::alloc::{AllocError, Global};
+use std::sync::atomic::{AtomicU64, Ordering};
 use std::test::Fail;
 use std::thread::Threads;
 use su_base::{Row, Value};
 use su_maxobj::maximal_objects;
-use su_par::OpenGate;
+use su_par::{Gate, OpenGate};
 use su_query::{Resolved, Statement, read, resolve};
 use su_state::Database;
 
@@ -111,30 +112,32 @@ fn shown(alloc: Global, rows: &[Row]) -> Result<String, AllocError> {
 }
 
 /// The numbers of terms and of kept terms, and the rows of the answer.
-fn told<R: Threads + Sync>(
+fn told<R: Threads + Sync, G: Gate>(
     rt: &R,
     alloc: Global,
     db: &Database,
     prepared: &Prepared,
     workers: u8,
+    gate: &G,
 ) -> Result<String, Fail>
     requires prepared { IsPreparedFor db.now.schema prepared.now }
     requires least { 1 ≤ workers }
     requires most { workers ≤ 16 }
 {
-    let rows = answer(rt, alloc, db, prepared, workers, &OpenGate)?;
+    let rows = answer(rt, alloc, db, prepared, workers, gate)?;
     let shown = shown(alloc, rows.as_slice())?;
     let terms = prepared.terms.len();
     let kept = prepared.reduced.kept.len();
     Ok(format!(in alloc; "{terms} {kept}: {}", shown.as_str())?)
 }
 
-fn answered_for<R: Threads + Sync>(
+fn answered_for<R: Threads + Sync, F: Gate, G: Gate>(
     rt: &R,
     alloc: Global,
     db: &Database,
     resolved: &Resolved,
     workers: u8,
+    gates: (&F, &G),
 ) -> Result<String, Fail>
     requires resolved { IsResolved db.now.schema resolved.now }
     requires least { 1 ≤ workers }
@@ -151,9 +154,9 @@ fn answered_for<R: Threads + Sync>(
         maximal.as_slice(),
         resolved,
         workers,
-        &OpenGate,
+        gates.0,
     ) {
-        Ok(prepared) => told(rt, alloc, db, &prepared, workers),
+        Ok(prepared) => told(rt, alloc, db, &prepared, workers, gates.1),
         Err(_) => Err(Fail::from("no terms")),
     }
 }
@@ -168,7 +171,24 @@ fn resolved_of(alloc: Global, db: &Database, statement: &Statement) -> Result<Re
     }
 }
 
-/// What the query of the text is answered.
+/// What the query of the text is answered; one gate is for its terms, and one for the kept ones.
+fn answered_through<R: Threads + Sync, F: Gate, G: Gate>(
+    rt: &R,
+    alloc: Global,
+    db: &Database,
+    text: &str,
+    workers: u8,
+    gates: (&F, &G),
+) -> Result<String, Fail>
+    requires least { 1 ≤ workers }
+    requires most { workers ≤ 16 }
+{
+    let statement = read(alloc, text.as_bytes())?;
+    let resolved = resolved_of(alloc, db, &statement)?;
+    answered_for(rt, alloc, db, &resolved, workers, gates)
+}
+
+/// The same through open gates.
 fn answered<R: Threads + Sync>(
     rt: &R,
     alloc: Global,
@@ -179,9 +199,7 @@ fn answered<R: Threads + Sync>(
     requires least { 1 ≤ workers }
     requires most { workers ≤ 16 }
 {
-    let statement = read(alloc, text.as_bytes())?;
-    let resolved = resolved_of(alloc, db, &statement)?;
-    answered_for(rt, alloc, db, &resolved, workers)
+    answered_through(rt, alloc, db, text, workers, (&OpenGate, &OpenGate))
 }
 
 #[test]
@@ -290,5 +308,108 @@ fn comparisons_are_kept_in_the_joins(rt: HostRuntime) -> Result<(), Fail> {
     for (text, want) in cases {
         assert_eq!(rt; answered(&rt, a, &db, text, 1)?.as_str(), want);
     }
+    Ok(())
+}
+
+/// A gate at which two jobs wait for each other, for a bounded number of turns.
+#[derive(Drop)]
+struct Meeting {
+    first: AtomicU64,
+    second: AtomicU64,
+    missed: AtomicU64,
+}
+
+impl Meeting {
+    fn new() -> Meeting {
+        Meeting {
+            first: AtomicU64::new(0),
+            second: AtomicU64::new(0),
+            missed: AtomicU64::new(0),
+        }
+    }
+
+    /// How often each job passed, and how often one did not meet the other.
+    fn passes(&self) -> (u64, u64, u64) {
+        (
+            self.first.load(Ordering::SeqCst),
+            self.second.load(Ordering::SeqCst),
+            self.missed.load(Ordering::SeqCst),
+        )
+    }
+}
+
+impl Gate for Meeting {
+    fn pass(&self, job: usize) {
+        let (own, other) = if job == 0 {
+            (&self.first, &self.second)
+        } else {
+            (&self.second, &self.first)
+        };
+        let passes = own.fetch_add(1, Ordering::SeqCst).wrapping_add(1);
+        for _ in 0..500_000_000u32 {
+            if other.load(Ordering::SeqCst) >= passes {
+                return;
+            }
+        }
+        self.missed.fetch_add(1, Ordering::SeqCst);
+    }
+}
+
+/// A gate that notes whether a job is passed out of turn.
+#[derive(Drop)]
+struct InTurn {
+    next: AtomicU64,
+    late: AtomicU64,
+}
+
+impl InTurn {
+    fn new() -> InTurn {
+        InTurn {
+            next: AtomicU64::new(0),
+            late: AtomicU64::new(0),
+        }
+    }
+
+    /// How many jobs passed, and how many of them out of turn.
+    fn passes(&self) -> (u64, u64) {
+        (
+            self.next.load(Ordering::SeqCst),
+            self.late.load(Ordering::SeqCst),
+        )
+    }
+}
+
+impl Gate for InTurn {
+    fn pass(&self, job: usize) {
+        if self.next.fetch_add(1, Ordering::SeqCst) != job as u64 {
+            self.late.fetch_add(1, Ordering::SeqCst);
+        }
+    }
+}
+
+// Jones' banks take two terms, of which both are kept.
+#[test]
+fn two_terms_are_minimised_and_executed_side_by_side(rt: HostRuntime) -> Result<(), Fail> {
+    let a = rt.alloc();
+    let db = stored(a, BANK, &BANK_ROWS)?;
+    let text = "retrieve (BANK) where CUST = 'Jones'";
+    let (minimised, executed) = (Meeting::new(), Meeting::new());
+    let told = answered_through(&rt, a, &db, text, 2, (&minimised, &executed))?;
+    assert_eq!(rt; told.as_str(), "2 2: B1 /B3 /");
+    assert_eq!(rt; minimised.passes(), (1, 1, 0));
+    assert_eq!(rt; executed.passes(), (1, 1, 0));
+    Ok(())
+}
+
+#[test]
+fn one_worker_takes_the_terms_in_turn(rt: HostRuntime) -> Result<(), Fail> {
+    let a = rt.alloc();
+    let db = stored(a, BANK, &BANK_ROWS)?;
+    let text = "retrieve (BANK) where CUST = 'Jones'";
+    let (minimised, executed) = (InTurn::new(), InTurn::new());
+    let told = answered_through(&rt, a, &db, text, 1, (&minimised, &executed))?;
+    assert_eq!(rt; told.as_str(), "2 2: B1 /B3 /");
+    assert_eq!(rt; minimised.passes(), (2, 0));
+    assert_eq!(rt; executed.passes(), (2, 0));
     Ok(())
 }

@@ -1,5 +1,5 @@
 -- The reply to a change, by how it ends.
-use Rattle.std.proofs.Common.{◌≡◌, ℕ, Bool, true, false, List, [], ◌∷◌, slice_get, Some, None, Ok, Err, Result, inl, inr, ◌⊎◌, sym, ap, ◌∙◌, subst, refl, length}
+use Rattle.std.proofs.Common.{◌≡◌, ℕ, Bool, true, false, List, [], ◌∷◌, slice_get, Some, None, Ok, Err, inl, inr, ◌⊎◌, ap, ◌∙◌, subst, length}
 use Rattle.su_base.specs.declared.values.Value.{Value}
 use Rattle.su_base.specs.declared.values.Column.{Column}
 use Rattle.su_where.specs.declared.conditions.Cond.{Cond}
@@ -12,7 +12,6 @@ use Rattle.su_query.specs.Lookup.{IsColumnCondition, with_columns}
 use Rattle.su_state.specs.declared.faults.StateFault.{StateFault}
 use Rattle.su_state.specs.declared.faults.StateFault.TheVariants.{NoMemory, UnknownRelation}
 use Rattle.su_state.specs.declared.faults.LoadFault.{LoadFault}
-use Rattle.su_state.specs.declared.faults.LoadEnd.{LoadEnd}
 use Rattle.su_state.specs.declared.faults.LoadEnd.TheVariants as load
 use Rattle.su_state.specs.DatabaseValue.{DatabaseValue, columns_of}
 use Rattle.su_state.specs.Changes.{Inserts, Deletes, DeletesWhere}

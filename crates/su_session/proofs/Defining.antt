@@ -1,12 +1,11 @@
 -- The reply to a definition, by how it ends.
-use Rattle.std.proofs.Common.{◌≡◌, ℕ, Bool, List, codes, Ok, Err, Result, inl, inr, sym, ap, ◌∙◌, subst, refl}
+use Rattle.std.proofs.Common.{◌≡◌, List, Ok, Err, Result, inl, inr, sym, ◌∙◌, subst}
 use Rattle.std.specs.Ordering.{nat_cmp}
 use Rattle.std.specs.FinSet.{FinSet}
 use Rattle.su_schema.specs.SchemaValue.{SchemaValue}
 use Rattle.su_schema.specs.Defining.{applied, IsRefusal}
 use Rattle.su_schema.specs.declared.definitions.Definition.{Definition}
 use Rattle.su_schema.specs.declared.faults.SchemaFault.{SchemaFault}
-use Rattle.su_schema.specs.declared.faults.SchemaFault.TheVariants.{NoMemory as OutOfMemory}
 use Rattle.su_maxobj.specs.MaximalObjects.{AreMaximalObjects}
 use Rattle.su_state.specs.declared.faults.DefineFault.{DefineFault}
 use Rattle.su_state.specs.declared.faults.DefineFault.TheVariants.{Schema, Breaks, NoMemory}

@@ -1,10 +1,7 @@
-pub mod Answering
 pub mod Changing
-pub mod Covers
+pub mod Counts
 pub mod Defining
-pub mod Objects
 pub mod Relations
-pub mod Taking
+pub mod Retrieved
 pub mod Texts
-pub mod Viewed
 pub mod Wanting

@@ -1,5 +1,5 @@
 -- A load is no other statement, and no text that is refused.
-use Rattle.std.proofs.Common.{◌≡◌, ◌≢◌, ◌<◌, ◌≤◌, ℕ, List, [], length, Option, Some, None, inl, inr, refl, sym, ap, ◌∙◌, subst, arith}
+use Rattle.std.proofs.Common.{◌≡◌, ◌≢◌, ◌<◌, ℕ, List, [], length, None, inl, inr, refl, sym, ap, ◌∙◌, subst, arith}
 use Rattle.su_lex.specs.declared.meaning.Symbol.{Symbol}
 use Rattle.su_lex.proofs.Written.{one_list_of_symbols}
 use Rattle.su_query.specs.declared.conditions.NamedCond.TheVariants.{All}
@@ -8,7 +8,7 @@ use Rattle.su_query.specs.declared.faults.QueryFault.TheVariants.{Syntax, Limit,
 use Rattle.su_query.specs.declared.faults.QueryLimit.TheVariants.{Nesting, Variables, Outputs, Comparisons}
 use Rattle.su_query.specs.declared.statements.Statement.{Statement}
 use Rattle.su_query.specs.declared.statements.Statement.TheVariants.{Load}
-use Rattle.su_query.specs.Mentions.{comparisons_of, refs_of, mentions}
+use Rattle.su_query.specs.Mentions.{comparisons_of, mentions}
 use Rattle.su_query.specs.Nesting.{IsDeep}
 use Rattle.su_query.specs.Forms.{IsForm}
 use Rattle.su_query.specs.Reading.{IsStatement, IsRefusal, Passes, outputs_of, condition_of, variable_count}

@@ -1,6 +1,6 @@
-pub mod Covering
 pub mod Opening
 pub mod Reply
 pub mod Retrieving
 pub mod Statements
 pub mod Telling
+pub mod Laws

@@ -1,6 +1,6 @@
 -- The reply to a text: what is said, whether it is a refusal, and the database after it.
 -- definition: a text whose first symbol is a word that begins a definition
-use Rattle.std.specs.Prelude.{◌≡◌, ◌⊎◌, ℕ, ◌||◌, Bool, true, false, List, [], ◌∷◌, Option, Some, unwrap_or, IsTrue, codes, Result}
+use Rattle.std.specs.Prelude.{◌≡◌, ◌⊎◌, ℕ, ◌||◌, Bool, false, List, [], ◌∷◌, Option, Some, unwrap_or, IsTrue, codes, Result}
 use Rattle.std.specs.Str.{bytes_eq}
 use Rattle.su_lex.specs.declared.meaning.Symbol.{Symbol}
 use Rattle.su_lex.specs.declared.meaning.Symbol.TheVariants.{Word}

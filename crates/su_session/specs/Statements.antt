@@ -3,7 +3,7 @@ use Rattle.std.specs.Prelude.{◌≡◌, ◌⊎◌, ℕ, Bool, List, length, Opt
 use Rattle.std.specs.Ordering.{nat_cmp}
 use Rattle.std.specs.FinSet.{FinSet}
 use Rattle.su_base.specs.declared.values.Value.{Value}
-use Rattle.su_schema.specs.SchemaValue.{SchemaValue, attribute_names, relation_names, column_names, place_of}
+use Rattle.su_schema.specs.SchemaValue.{attribute_names, relation_names, column_names, place_of}
 use Rattle.su_csv.specs.declared.faults.CsvFault.{CsvFault}
 use Rattle.su_csv.specs.File.{reading}
 use Rattle.su_query.specs.declared.conditions.NamedCond.{NamedCond}

@@ -2,16 +2,14 @@
 //!
 //! A `Session` is a database with the maximal objects of its schema, which are found once for each
 //! definition and never for a statement. A refused statement, and one that finds no memory, changes
-//! nothing: the room for the reply is taken before the change is made. Queries that more than one object
-//! has to answer, and explanations, are refused as `later`.
+//! nothing: the room for the reply is taken before the change is made. The terms of a query are
+//! minimised and executed side by side; how many at a time changes no reply.
 #![tactic(auto)]
 
 mod changes;
-mod covering;
 mod crossing;
 mod definitions;
-mod outputs;
-mod projecting;
+pub mod laws;
 mod replies;
 mod retrieving;
 mod roomy;

@@ -1,156 +1,123 @@
 //! Queries over the universal relation.
-ghost use Rattle.std.specs.Prelude.{◌≡◌, ◌<◌, length, IfOk, MatchOption};
+ghost use Rattle.std.specs.Prelude.{◌≡◌, ◌≤◌, IfOk, IfErr};
 ghost use Rattle.su_maxobj.specs.MaximalObjects.{AreMaximalObjects};
 ghost use Rattle.su_query.specs.Lookup.{resolved_of};
-ghost use Rattle.su_query.specs.Ranges.{IsResolved};
 ghost use Rattle.su_query.specs.Reading.{AreFew};
-ghost use Rattle.su_query.specs.Sets.{mentioned_with};
-ghost use Rattle.su_session.specs.Retrieving.{Retrieves, Explains, IsFirstUncovered, AreCovered, RefusesUncovered, AnswersAlone, NeedsMore, ShowsView, RetrievesCovered};
+ghost use Rattle.su_answer.specs.Prepared.{IsPrepared};
+ghost use Rattle.su_session.specs.Retrieving.{IsRefusalOf, HasTerms, Retrieves, Explains};
 
-use crate::covering::{is_covered, sole_object};
-use crate::outputs::{attributes, header, is_unconditional};
-use crate::projecting::view;
 use crate::replies::{Reply, accepted, refused};
 use std::alloc::Global;
-use su_base::{AttrSet, NoMemory, ObjSet, Str};
-use su_query::{Query, Resolved, mentioned, resolve};
-use su_schema::Schema;
-use su_show::{Refusal, rows};
+use std::thread::Threads;
+use su_answer::{AnswerFault, Prepared, answer, prepare};
+use su_base::{NoMemory, ObjSet};
+use su_maxobj::laws::a_schema_has_few_maximal_objects;
+use su_par::Gate;
+use su_query::{Query, Resolved, resolve};
+use su_show::{Refusal, explanation, header, rows};
 use su_state::Database;
 
-// What the variable is mentioned with.
-fn mentioned_with(schema: &Schema, resolved: &Resolved, variable: u8) -> AttrSet
-    requires { IsResolved schema.now resolved.now }
-    ensures { result ≡ mentioned_with resolved.now.places variable }
-{
-    schema.keeps_its_rules();
-    mentioned(resolved, variable)
+/// A query over numbers, ready to be answered.
+#[derive(Drop)]
+struct Ready {
+    resolved: Resolved,
+    prepared: Prepared,
 }
 
-// The first variable that no maximal object covers.
-fn first_uncovered(schema: &Schema, maximal: &[ObjSet], resolved: &Resolved) -> Option<u8>
-    requires { IsResolved schema.now resolved.now }
-    ensures { MatchOption result (AreCovered schema.now maximal.now resolved.now) (IsFirstUncovered schema.now maximal.now resolved.now) }
-{
-    for v in 0..resolved.variables.len() as u8 {
-        if !is_covered(schema, maximal, mentioned_with(schema, resolved, v)) {
-            return Some(v);
-        }
-    }
-    None
-}
-
-fn copy_name(alloc: Global, name: &Option<Str>) -> Result<Option<Str>, NoMemory>
-    ensures { IfOk result (λ copied. copied ≡ name.now) }
-{
-    match name {
-        Some(name) => Ok(Some(name.copy(alloc)?)),
-        None => Ok(None),
-    }
-}
-
-fn not_covered(
+// The terms of the query, minimised, or why it has none.
+fn make_ready<R: Threads + Sync, G: Gate>(
+    rt: &R,
     alloc: Global,
     db: &Database,
-    resolved: &Resolved,
-    variable: u8,
-) -> Result<Reply, NoMemory>
-    requires resolved { IsResolved db.now.schema resolved.now }
-    requires variable { variable < length resolved.now.variables }
-    ensures { IfOk result (λ reply. RefusesUncovered db.now resolved.now variable reply db.now) }
+    maximal: &[ObjSet],
+    query: &Query,
+    workers: u8,
+    gate: &G,
+) -> Result<Ready, Refusal>
+    requires few { AreFew query.now.outputs query.now.cond }
+    requires maximal { AreMaximalObjects db.now.schema maximal.now }
+    requires least { 1 ≤ workers }
+    requires most { workers ≤ 16 }
+    ensures resolved { IfOk result (λ ready. ready.resolved ≡ resolved_of db.now.schema query.now) }
+    ensures prepared { IfOk result (λ ready. IsPrepared db.now.schema maximal.now ready.resolved ready.prepared) }
+    ensures terms { IfOk result (λ ready. HasTerms db.now.schema maximal.now query.now) }
+    ensures refused { IfErr result (IsRefusalOf db.now.schema maximal.now query.now) }
 {
-    let mentioned = mentioned_with(db.schema(), resolved, variable);
-    let name = copy_name(alloc, resolved.variables.get(variable as usize))?;
-    let why = Refusal::NotCovered {
-        variable: name,
-        mentioned,
+    db.keeps_its_rules();
+    a_schema_has_few_maximal_objects();
+    let resolved = match resolve(alloc, db.schema(), query) {
+        Ok(resolved) => resolved,
+        Err(fault) => return Err(Refusal::Query(fault)),
     };
-    refused(alloc, db, why)
-}
-
-// The object that alone answers the query.
-fn sole(
-    alloc: Global,
-    schema: &Schema,
-    maximal: &[ObjSet],
-    query: &Query,
-    resolved: &Resolved,
-) -> Result<Option<u8>, NoMemory>
-    requires { IsResolved schema.now resolved.now }
-    ensures { IfOk result (λ found. MatchOption found (NeedsMore schema.now maximal.now query.now resolved.now) (AnswersAlone schema.now maximal.now query.now resolved.now)) }
-{
-    if resolved.variables.len() != 1 {
-        return Ok(None);
+    match prepare(rt, alloc, db, maximal, &resolved, workers, gate) {
+        Ok(prepared) => Ok(Ready { resolved, prepared }),
+        Err(fault) => Err(Refusal::Steps(fault)),
     }
-    if !is_unconditional(query) {
-        return Ok(None);
-    }
-    sole_object(alloc, schema, maximal, mentioned_with(schema, resolved, 0))
 }
 
-fn from_one(alloc: Global, db: &Database, query: &Query, object: u8) -> Result<Reply, NoMemory>
-    requires { object < length db.now.schema.objects }
-    ensures { IfOk result (ShowsView db.now query.now object) }
-{
-    let attributes = attributes(alloc, db.schema(), query)?;
-    let found = view(alloc, db, object, attributes.as_slice())?;
-    let header = header(alloc, query)?;
-    Ok(accepted(rows(alloc, header.as_slice(), found.as_slice())?))
-}
-
-// The reply to a query whose variables are covered.
-fn covered(
+// The answer of a query, or why it is refused. Want of memory is handed on.
+pub(crate) fn retrieve<R: Threads + Sync, G: Gate>(
+    rt: &R,
     alloc: Global,
     db: &Database,
     maximal: &[ObjSet],
     query: &Query,
-    resolved: &Resolved,
-) -> Result<Reply, NoMemory>
-    requires { IsResolved db.now.schema resolved.now }
-    ensures { IfOk result (λ reply. RetrievesCovered db.now maximal.now query.now resolved.now reply db.now) }
-{
-    match sole(alloc, db.schema(), maximal, query, resolved)? {
-        Some(object) => from_one(alloc, db, query, object),
-        None => refused(alloc, db, Refusal::Later),
-    }
-}
-
-pub(crate) fn retrieve(
-    alloc: Global,
-    db: &Database,
-    maximal: &[ObjSet],
-    query: &Query,
+    workers: u8,
+    gate: &G,
 ) -> Result<Reply, NoMemory>
     requires few { AreFew query.now.outputs query.now.cond }
     requires maximal { AreMaximalObjects db.now.schema maximal.now }
+    requires least { 1 ≤ workers }
+    requires most { workers ≤ 16 }
     ensures { IfOk result (λ reply. Retrieves db.now query.now reply db.now) }
 {
-    let resolved = match resolve(alloc, db.schema(), query) {
-        Ok(resolved) => resolved,
-        Err(fault) => return refused(alloc, db, Refusal::Query(fault)),
+    let ready = match make_ready(rt, alloc, db, maximal, query, workers, gate) {
+        Ok(ready) => ready,
+        Err(why) => return refused(alloc, db, why),
     };
-    match first_uncovered(db.schema(), maximal, &resolved) {
-        Some(variable) => not_covered(alloc, db, &resolved, variable),
-        None => covered(alloc, db, maximal, query, &resolved),
+    match answer(rt, alloc, db, &ready.prepared, workers, gate) {
+        Ok(found) => {
+            let header = header(alloc, query)?;
+            Ok(accepted(rows(alloc, header.as_slice(), found.as_slice())?))
+        }
+        Err(AnswerFault::Limit) => refused(alloc, db, Refusal::Answer),
+        Err(AnswerFault::NoMemory) => Err(NoMemory),
     }
 }
 
-pub(crate) fn explain(
+// How a query is prepared, or why it is refused. Want of memory is handed on.
+pub(crate) fn explain<R: Threads + Sync, G: Gate>(
+    rt: &R,
     alloc: Global,
     db: &Database,
     maximal: &[ObjSet],
     query: &Query,
+    workers: u8,
+    gate: &G,
 ) -> Result<Reply, NoMemory>
     requires few { AreFew query.now.outputs query.now.cond }
     requires maximal { AreMaximalObjects db.now.schema maximal.now }
+    requires least { 1 ≤ workers }
+    requires most { workers ≤ 16 }
     ensures { IfOk result (λ reply. Explains db.now query.now reply db.now) }
 {
-    let resolved = match resolve(alloc, db.schema(), query) {
-        Ok(resolved) => resolved,
-        Err(fault) => return refused(alloc, db, Refusal::Query(fault)),
+    let ready = match make_ready(rt, alloc, db, maximal, query, workers, gate) {
+        Ok(ready) => ready,
+        Err(why) => return refused(alloc, db, why),
     };
-    match first_uncovered(db.schema(), maximal, &resolved) {
-        Some(variable) => not_covered(alloc, db, &resolved, variable),
-        None => refused(alloc, db, Refusal::Later),
-    }
+    let Prepared {
+        terms,
+        minimals,
+        reduced,
+    } = &ready.prepared;
+    let text = explanation(
+        alloc,
+        db.schema(),
+        query,
+        &ready.resolved,
+        terms.as_slice(),
+        minimals.as_slice(),
+        reduced,
+    )?;
+    Ok(accepted(text))
 }

@@ -1,5 +1,5 @@
 //! The session: a database, its maximal objects, and one statement after another.
-ghost use Rattle.std.specs.Prelude.{◌≡◌, ◌≢◌, ◌↔◌, ℕ, List as Items, IsTrue, IfOk, OnErr, MatchOption, option_map, unwrap_or, []};
+ghost use Rattle.std.specs.Prelude.{◌≡◌, ◌≢◌, ◌≤◌, ◌↔◌, ℕ, List as Items, IsTrue, IfOk, OnErr, MatchOption, option_map, unwrap_or, []};
 ghost use Rattle.su_session.specs.Reply.{is_definition_word, begins_definition, IsDefining};
 
 use crate::changes::{delete, delete_where, insert, load};
@@ -9,9 +9,11 @@ use crate::showing::{closure, print, show_schema};
 use crate::wants::Want;
 use std::alloc::Global;
 use std::marker::Model;
+use std::thread::Threads;
 use su_base::{List, NoMemory, ObjSet, Str};
 use su_lex::{LexEnd, Symbol, symbols};
 use su_maxobj::maximal_objects;
+use su_par::Gate;
 use su_query::{QueryFault, Statement, read};
 use su_schema::Schema;
 use su_show::Refusal;
@@ -119,6 +121,7 @@ impl Session {
     ghost use Rattle.su_session.specs.Opening.{empty_database};
     ghost use Rattle.su_session.specs.Reply.{Replied, Wants, RepliesStatement};
     ghost use Rattle.su_session.specs.Statements.{Answers};
+    ghost use Rattle.su_state.specs.DatabaseValue.{IsWellKept};
     ghost use Rattle.su_query.specs.Reading.{AreFew, IsReady, outputs_of, condition_of};
 
     /// A session on a schema whose relations are empty.
@@ -156,29 +159,61 @@ impl Session {
 
     /// Takes one statement and gives its reply. `file` is the content of the file that it wants; without
     /// one a load reads an empty file. A refused statement, and one that found no memory, changes nothing.
-    pub fn step(&mut self, text: &[u8], file: Option<&[u8]>) -> Result<Reply, NoMemory>
+    ///
+    /// The terms of a query are minimised and executed by at most `workers` threads at a time, and the
+    /// gate is passed before each. Neither changes the reply.
+    pub fn step<R: Threads + Sync, G: Gate>(
+        &mut self,
+        rt: &R,
+        text: &[u8],
+        file: Option<&[u8]>,
+        workers: u8,
+        gate: &G,
+    ) -> Result<Reply, NoMemory>
+        requires least { 1 ≤ workers }
+        requires most { workers ≤ 16 }
         ensures replied { IfOk result (λ reply. Replied self.old text.now (option_map (λ bytes. bytes.now) file.entry) reply self.new) }
         ensures unchanged { OnErr result (self.new ≡ self.old) }
+        ensures kept { IsWellKept self.old }
     {
+        self.db.keeps_its_rules();
         let defining = is_defining(self.alloc, text)?;
         if defining {
             return self.define(text);
         }
-        self.statement(text, content(file))
+        self.statement(rt, text, content(file), workers, gate)
     }
 
     // A text that is no definition.
-    fn statement(&mut self, text: &[u8], file: &[u8]) -> Result<Reply, NoMemory>
+    fn statement<R: Threads + Sync, G: Gate>(
+        &mut self,
+        rt: &R,
+        text: &[u8],
+        file: &[u8],
+        workers: u8,
+        gate: &G,
+    ) -> Result<Reply, NoMemory>
+        requires least { 1 ≤ workers }
+        requires most { workers ≤ 16 }
         ensures replied { IfOk result (λ reply. RepliesStatement self.old text.now file.now reply self.new) }
         ensures unchanged { OnErr result (self.new ≡ self.old) }
     {
         match read(self.alloc, text) {
-            Ok(statement) => self.answer(statement, file),
+            Ok(statement) => self.answer(rt, statement, file, workers, gate),
             Err(fault) => refused(self.alloc, &self.db, Refusal::Query(fault)),
         }
     }
 
-    fn answer(&mut self, statement: Statement, file: &[u8]) -> Result<Reply, NoMemory>
+    fn answer<R: Threads + Sync, G: Gate>(
+        &mut self,
+        rt: &R,
+        statement: Statement,
+        file: &[u8],
+        workers: u8,
+        gate: &G,
+    ) -> Result<Reply, NoMemory>
+        requires least { 1 ≤ workers }
+        requires most { workers ≤ 16 }
         requires few { AreFew (outputs_of statement) (condition_of statement) }
         requires ready { IsReady statement }
         ensures replied { IfOk result (λ reply. Answers self.old file.now statement reply self.new) }
@@ -199,10 +234,26 @@ impl Session {
                 closure(self.alloc, &self.db, attributes.as_slice())
             }
             Statement::Retrieve(query) => {
-                retrieve(self.alloc, &self.db, self.maximal.as_slice(), &query)
+                retrieve(
+                    rt,
+                    self.alloc,
+                    &self.db,
+                    self.maximal.as_slice(),
+                    &query,
+                    workers,
+                    gate,
+                )
             }
             Statement::Explain(query) => {
-                explain(self.alloc, &self.db, self.maximal.as_slice(), &query)
+                explain(
+                    rt,
+                    self.alloc,
+                    &self.db,
+                    self.maximal.as_slice(),
+                    &query,
+                    workers,
+                    gate,
+                )
             }
         }
     }

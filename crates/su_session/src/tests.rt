@@ -1,8 +1,10 @@
 use crate::{Session, Want};
 use std::alloc::Global;
 use std::test::Fail;
+use std::thread::Threads;
 use su_base::NoMemory;
 use su_ddl::read;
+use su_par::OpenGate;
 
 const PAIR: &str =
     "attribute A int; attribute B int; relation P (A int, B int); object AB (A, B) from P (A, B);";
@@ -18,12 +20,17 @@ fn opened(alloc: Global, schema: &str) -> Result<Option<Session>, NoMemory> {
 }
 
 // Whether each statement has its reply, in order.
-fn replies(alloc: Global, schema: &str, cases: &[(&str, &str)]) -> Result<bool, NoMemory> {
+fn replies<R: Threads + Sync>(
+    rt: &R,
+    alloc: Global,
+    schema: &str,
+    cases: &[(&str, &str)],
+) -> Result<bool, NoMemory> {
     let Some(mut session) = opened(alloc, schema)? else {
         return Ok(false);
     };
     for (text, want) in cases {
-        let reply = session.step(text.as_bytes(), None)?;
+        let reply = session.step(rt, text.as_bytes(), None, 1, &OpenGate)?;
         if reply.bytes.as_slice() != want.as_bytes() {
             return Ok(false);
         }
@@ -51,7 +58,7 @@ fn a_definition_counts_at_once(rt: HostRuntime) -> Result<(), Fail> {
             "refused: breaks A -> B with row (3, 3)\n",
         ),
     ];
-    assert!(rt; replies(rt.alloc(), PAIR, &cases)?);
+    assert!(rt; replies(&rt, rt.alloc(), PAIR, &cases)?);
     Ok(())
 }
 

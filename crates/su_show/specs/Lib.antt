@@ -1,4 +1,7 @@
+pub mod Explaining
+pub mod Lines
 pub mod Refusals
 pub mod Refusing
 pub mod Replies
+pub mod Symbols
 pub mod Values

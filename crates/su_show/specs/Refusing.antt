@@ -15,8 +15,12 @@ use Rattle.su_state.specs.declared.faults.StateFault.{StateFault}
 use Rattle.su_state.specs.declared.faults.StateFault.TheVariants as state
 use Rattle.su_state.specs.declared.faults.DefineFault.{DefineFault}
 use Rattle.su_state.specs.declared.faults.DefineFault.TheVariants as define
+use Rattle.su_steps.specs.declared.faults.StepFault.{StepFault}
+use Rattle.su_steps.specs.declared.faults.StepFault.TheVariants as step
+use Rattle.su_steps.specs.declared.faults.StepLimit.{StepLimit}
+use Rattle.su_steps.specs.declared.faults.StepLimit.TheVariants as step_limit
 use Rattle.su_show.specs.declared.statement_refusal.Refusal.{Refusal}
-use Rattle.su_show.specs.declared.statement_refusal.Refusal.TheVariants.{Query, State, Record, Csv, NotCovered, Define, Later}
+use Rattle.su_show.specs.declared.statement_refusal.Refusal.TheVariants.{Query, State, Record, Csv, Steps, Answer, Define}
 use Rattle.su_show.specs.Refusals.{cause_text}
 use Rattle.su_show.specs.Replies.{fd_at}
 use Rattle.su_show.specs.Values.{attributes_text, fd_text, row_text}
@@ -68,6 +72,17 @@ abbrev pub variable_text : Option (List ℕ) → List ℕ
 variable_text None = codes "-"
 variable_text (Some name) = name
 
+abbrev pub step_limit_text : StepLimit → List ℕ
+step_limit_text step_limit.Disjuncts = codes "limit disjuncts 64"
+step_limit_text step_limit.Rows = codes "limit rows 64"
+step_limit_text step_limit.Terms = codes "limit terms 256"
+
+-- why a query has no terms
+abbrev pub step_text : SchemaValue → StepFault → List ℕ
+step_text schema (step.NotCovered variable mentioned) = codes "no maximal object covers " ++ variable_text variable ++ codes ":" ++ attributes_text schema mentioned
+step_text schema (step.Limit which) = step_limit_text which
+step_text schema step.NoMemory = []
+
 abbrev pub define_text : SchemaValue → DefineFault → List ℕ
 define_text schema (define.Schema fault) = cause_text fault
 define_text schema (define.Breaks fd object first second) = codes "breaks " ++ fd_text schema fd ++ codes " with rows " ++ row_text first ++ codes " and " ++ row_text second
@@ -78,9 +93,9 @@ refusal_text schema (Query fault) = query_text fault
 refusal_text schema (State fault) = state_text schema fault
 refusal_text schema (Record fault) = record_text fault.number (state_text schema fault.fault)
 refusal_text schema (Csv relation fault) = csv_text schema relation fault
-refusal_text schema (NotCovered variable mentioned) = codes "no maximal object covers " ++ variable_text variable ++ codes ":" ++ attributes_text schema mentioned
+refusal_text schema (Steps fault) = step_text schema fault
+refusal_text schema Answer = codes "limit answer 1000000"
 refusal_text schema (Define fault) = define_text schema fault
-refusal_text schema Later = codes "later"
 
 -- the line of a refused statement
 abbrev pub refusal_line : SchemaValue → Refusal → List ℕ
@@ -99,6 +114,10 @@ abbrev pub IsCsvMemory : CsvFault → Type 0
 IsCsvMemory csv.NoMemory = Unit {0}
 IsCsvMemory _ = ⊥
 
+abbrev pub IsStepMemory : StepFault → Type 0
+IsStepMemory step.NoMemory = Unit {0}
+IsStepMemory _ = ⊥
+
 abbrev pub IsDefineMemory : DefineFault → Type 0
 IsDefineMemory define.NoMemory = Unit {0}
 IsDefineMemory (define.Schema schema.NoMemory) = Unit {0}
@@ -109,5 +128,6 @@ IsNoMemory (Query fault) = IsQueryMemory fault
 IsNoMemory (State fault) = IsStateMemory fault
 IsNoMemory (Record fault) = IsStateMemory fault.fault
 IsNoMemory (Csv relation fault) = IsCsvMemory fault
+IsNoMemory (Steps fault) = IsStepMemory fault
 IsNoMemory (Define fault) = IsDefineMemory fault
 IsNoMemory _ = ⊥

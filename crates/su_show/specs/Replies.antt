@@ -1,5 +1,5 @@
 -- The replies to statements that are accepted. Each line ends with a line feed.
-use Rattle.std.specs.Prelude.{◌≡◌, ℕ, ◌+◌, List, [], ◌∷◌, ◌++◌, length, flat_map, codes, decimal, nat_lt, if◌then◌else◌, slice_index_or}
+use Rattle.std.specs.Prelude.{◌≡◌, ℕ, ◌+◌, List, [], ◌∷◌, ◌++◌, length, map, flat_map, codes, decimal, nat_lt, if◌then◌else◌, slice_index_or}
 use Rattle.std.specs.Ordering.{nat_cmp}
 use Rattle.std.specs.FinSet.{FinSet, empty}
 use Rattle.su_base.specs.declared.values.Value.{Value}
@@ -7,9 +7,16 @@ use Rattle.su_fd.specs.declared.dependencies.Fd.{Fd}
 use Rattle.su_fd.specs.Closure.{IsClosureOf}
 use Rattle.su_fd.specs.Derivation.{IsDerivation}
 use Rattle.su_csv.specs.Written.{text_of}
+use Rattle.su_lex.specs.Symbols.{spaced}
 use Rattle.su_schema.specs.SchemaValue.{SchemaValue}
 use Rattle.su_ddl.specs.Shown.{schema_text}
+use Rattle.su_query.specs.declared.statements.Query.{Query}
+use Rattle.su_query.specs.Shown.{ref_symbols}
 use Rattle.su_show.specs.Values.{attributes_text, objects_text, fd_text}
+
+-- the outputs of a query as they are shown
+abbrev pub header_of : Query → List (List ℕ)
+header_of q = map (λ ref. spaced (ref_symbols ref)) q.outputs
 
 -- the number of the rows, then the CSV text of the header and the rows
 abbrev pub rows_text : List (List ℕ) → List (List Value) → List ℕ

@@ -1,6 +1,6 @@
 //! Schemas that the tests of replies stand on.
 use std::alloc::Global;
-use su_base::{AttrSet, NoMemory, Row, Str, Value};
+use su_base::{AttrSet, NoMemory, ObjSet, Row, Str, Value};
 use su_ddl::read;
 use su_schema::Schema;
 
@@ -53,6 +53,17 @@ pub(crate) fn attributes(numbers: &[u8]) -> AttrSet {
     let mut all = AttrSet::empty();
     for number in numbers {
         if *number < 128 {
+            all = all.insert(*number);
+        }
+    }
+    all
+}
+
+/// The objects with these numbers.
+pub(crate) fn objects(numbers: &[u8]) -> ObjSet {
+    let mut all = ObjSet::empty();
+    for number in numbers {
+        if *number < 64 {
             all = all.insert(*number);
         }
     }

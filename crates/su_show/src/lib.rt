@@ -7,15 +7,22 @@
 mod closures;
 mod columns;
 mod crossing;
+mod explaining;
+mod headers;
+mod minimal_lines;
 mod parts;
 mod refusals;
 mod refusing;
 mod row_lists;
 mod schemas;
 mod statement_refusal;
+mod symbols;
+mod tableau_lines;
 mod values;
 
 pub use closures::closure;
+pub use explaining::explanation;
+pub use headers::header;
 pub use refusals::ddl_fault;
 pub use refusing::refusal;
 pub use row_lists::rows;
@@ -26,6 +33,8 @@ pub use statement_refusal::Refusal;
 mod definition_tests;
 #[cfg(test)]
 mod examples;
+#[cfg(test)]
+mod explanation_tests;
 #[cfg(test)]
 mod reply_tests;
 #[cfg(test)]

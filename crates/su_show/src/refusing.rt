@@ -1,6 +1,6 @@
 //! The line of a refused statement.
 ghost use Rattle.std.specs.Prelude.{◌≡◌, ◌++◌, codes, decimal, flat_map, IfOk, OnOk};
-ghost use Rattle.su_show.specs.Refusing.{kind_text, query_limit_text, query_text, column_text, state_text, record_text, csv_text, variable_text, define_text, refusal_text, refusal_line, IsQueryMemory, IsStateMemory, IsCsvMemory, IsDefineMemory, IsNoMemory};
+ghost use Rattle.su_show.specs.Refusing.{kind_text, query_limit_text, query_text, column_text, state_text, record_text, csv_text, variable_text, step_limit_text, step_text, define_text, refusal_text, refusal_line, IsQueryMemory, IsStateMemory, IsCsvMemory, IsStepMemory, IsDefineMemory, IsNoMemory};
 ghost use Rattle.su_show.specs.Values.{attributes_text};
 ghost use Rattle.su_show.specs.Refusals.{cause_text};
 
@@ -9,6 +9,7 @@ use crate::columns::{column_name, width};
 use crate::parts::{push, push_all, push_number};
 use crate::refusals::push_cause;
 use crate::statement_refusal::Refusal;
+use crate::symbols::variable;
 use crate::values::{push_attributes, push_fd, push_row};
 use std::alloc::Global;
 use su_base::{AttrSet, Kind, List, NoMemory, Str};
@@ -16,6 +17,7 @@ use su_csv::CsvFault;
 use su_query::{QueryFault, QueryLimit};
 use su_schema::{Schema, SchemaFault};
 use su_state::{DefineFault, LoadFault, StateFault};
+use su_steps::{StepFault, StepLimit};
 
 fn kind(kind: Kind) -> &'static str
     ensures { result.now ≡ kind_text kind }
@@ -146,12 +148,32 @@ fn push_csv(
     }
 }
 
-fn variable(variable: &Option<Str>) -> &str
-    ensures { result.now ≡ variable_text variable.now }
+fn step_limit(limit: StepLimit) -> &'static str
+    ensures { result.now ≡ step_limit_text limit }
 {
-    match variable {
-        Some(name) => name.as_str(),
-        None => "-",
+    match limit {
+        StepLimit::Disjuncts => "limit disjuncts 64",
+        StepLimit::Rows => "limit rows 64",
+        StepLimit::Terms => "limit terms 256",
+    }
+}
+
+fn push_step(
+    alloc: Global,
+    out: &mut Vec<u8>,
+    schema: &Schema,
+    fault: &StepFault,
+) -> Result<(), NoMemory>
+    ensures text { OnOk result (out.new.items ≡ out.old.items ++ step_text schema.now fault.now) }
+    ensures told { OnOk result (¬ IsStepMemory fault.now) }
+{
+    match fault {
+        StepFault::NotCovered {
+            variable,
+            mentioned,
+        } => push_not_covered(alloc, out, schema, variable, *mentioned),
+        StepFault::Limit(limit) => push(out, step_limit(*limit)),
+        StepFault::NoMemory => Err(NoMemory),
     }
 }
 
@@ -201,12 +223,9 @@ fn push_refusal(
             push_state(alloc, out, schema, fault)
         }
         Refusal::Csv(relation, fault) => push_csv(alloc, out, schema, *relation, *fault),
-        Refusal::NotCovered {
-            variable,
-            mentioned,
-        } => push_not_covered(alloc, out, schema, variable, *mentioned),
+        Refusal::Steps(fault) => push_step(alloc, out, schema, fault),
+        Refusal::Answer => push(out, "limit answer 1000000"),
         Refusal::Define(fault) => push_define(alloc, out, schema, fault),
-        Refusal::Later => push(out, "later"),
     }
 }
 

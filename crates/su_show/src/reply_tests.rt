@@ -1,4 +1,4 @@
-use crate::examples::{BANK, attributes, push_text, schema_of};
+use crate::examples::{BANK, attributes, objects, push_text, schema_of};
 use crate::{closure, rows, schema};
 use std::alloc::Global;
 use su_base::{List, NoMemory, ObjSet, Row, Str, Value};
@@ -99,16 +99,6 @@ fn many_rows_have_a_line_each(rt: HostRuntime) {
         Err(_) => false,
     };
     assert!(rt; right);
-}
-
-fn objects(numbers: &[u8]) -> ObjSet {
-    let mut all = ObjSet::empty();
-    for number in numbers {
-        if *number < 64 {
-            all = all.insert(*number);
-        }
-    }
-    all
 }
 
 /// Whether this is the reply of the schema of a file, with these maximal objects.

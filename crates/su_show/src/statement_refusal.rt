@@ -1,8 +1,8 @@
 //! Why a statement is refused.
-use su_base::{AttrSet, Str};
 use su_csv::CsvFault;
 use su_query::QueryFault;
 use su_state::{DefineFault, LoadFault, StateFault};
+use su_steps::StepFault;
 
 /// Why a statement is refused. Relations, columns, dependencies and objects are numbers from 0.
 #[derive(Drop)]
@@ -15,13 +15,10 @@ pub enum Refusal {
     Record(LoadFault),
     /// The file of a load into the relation with this number is at fault.
     Csv(u8, CsvFault),
-    /// No maximal object has all that is mentioned with the variable; the blank variable is none.
-    NotCovered {
-        variable: Option<Str>,
-        mentioned: AttrSet,
-    },
+    /// A query gets no terms.
+    Steps(StepFault),
+    /// The answer of a query has more than 1,000,000 rows.
+    Answer,
     /// A definition is refused.
     Define(DefineFault),
-    /// The statement is not answered yet.
-    Later,
 }

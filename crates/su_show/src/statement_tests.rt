@@ -5,6 +5,7 @@ use su_base::{Kind, List, NoMemory, Row, Str, Value};
 use su_csv::CsvFault;
 use su_query::{QueryFault, QueryLimit};
 use su_state::{LoadFault, StateFault};
+use su_steps::{StepFault, StepLimit};
 
 /// Whether this line tells the refusal, in the schema of this file.
 fn says_in(alloc: Global, file: &str, why: Refusal, want: &str) -> bool {
@@ -40,7 +41,27 @@ fn a_text_in_no_form_or_past_a_limit(rt: HostRuntime) {
         let why = Refusal::Query(QueryFault::Limit(limit));
         assert!(rt; says(alloc, Ok(why), want), "{want}");
     }
-    assert!(rt; says(alloc, Ok(Refusal::Later), "refused: later\n"));
+}
+
+#[test]
+fn a_query_that_is_too_large(rt: HostRuntime) {
+    let alloc = rt.alloc();
+    let cases = [
+        (StepLimit::Disjuncts, "refused: limit disjuncts 64\n"),
+        (StepLimit::Rows, "refused: limit rows 64\n"),
+        (StepLimit::Terms, "refused: limit terms 256\n"),
+    ];
+    for (limit, want) in cases {
+        let why = Refusal::Steps(StepFault::Limit(limit));
+        assert!(rt; says(alloc, Ok(why), want), "{want}");
+    }
+    assert!(rt;
+        says(
+            alloc,
+            Ok(Refusal::Answer),
+            "refused: limit answer 1000000\n"
+        )
+    );
 }
 
 fn unknown_attribute(alloc: Global, name: &str) -> Result<Refusal, NoMemory> {
@@ -106,10 +127,10 @@ fn not_covered(
         Some(name) => Some(Str::new(alloc, name)?),
         None => None,
     };
-    Ok(Refusal::NotCovered {
+    Ok(Refusal::Steps(StepFault::NotCovered {
         variable,
         mentioned: attributes(mentioned),
-    })
+    }))
 }
 
 #[test]

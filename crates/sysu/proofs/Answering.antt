@@ -9,7 +9,7 @@ use Rattle.su_lex.specs.Pieces.{Pieces}
 use Rattle.su_session.specs.declared.replies.Reply.{Reply}
 use Rattle.su_io.specs.declared.files.File.{File}
 use Rattle.su_schema.specs.SchemaValue.{SchemaValue}
-use Rattle.su_state.specs.DatabaseValue.{DatabaseValue}
+use Rattle.su_state.specs.DatabaseValue.{DatabaseValue, IsWellKept}
 use Rattle.su_session.specs.Opening.{empty_database}
 use Rattle.su_session.specs.Reply.{Replied}
 use Rattle.sysu.specs.Output.{Answered, IsHanded, output_of, some_refused, texts_of, text_at}
@@ -24,13 +24,14 @@ pub record SoFar (files : Option (List File)) (script : List ℕ) (spans : List 
 
 -- one more statement is answered
 pub Answered-push : (files : Option (List File)) (texts : List (List ℕ)) (replies : List Reply) (old mid new : DatabaseValue) (text : List ℕ) (file : Option (List ℕ)) (reply : Reply)
-    → Answered files old texts replies mid → IsHanded files mid text file → Replied mid text file reply new
+    → Answered files old texts replies mid → IsWellKept mid → IsHanded files mid text file → Replied mid text file reply new
     → Answered files old (texts ++ text ∷ []) (replies ++ reply ∷ []) new
-Answered-push files [] [] old mid new text file reply same handed replied = (file, rw (← same) handed, (new, rw (← same) replied, refl))
-Answered-push files [] (r ∷ rs) old mid new text file reply none handed replied = absurd none
-Answered-push files (t ∷ ts) [] old mid new text file reply none handed replied = absurd none
-Answered-push files (t ∷ ts) (r ∷ rs) old mid new text file reply answered handed replied =
-    (answered.0, answered.1, (answered.2.0, answered.2.1, Answered-push files ts rs answered.2.0 mid new text file reply answered.2.2 handed replied))
+Answered-push files [] [] old mid new text file reply same kept handed replied = (rw (← same) kept, (file, rw (← same) handed, (new, rw (← same) replied, refl)))
+Answered-push files [] (r ∷ rs) old mid new text file reply none kept handed replied = absurd none
+Answered-push files (t ∷ ts) [] old mid new text file reply none kept handed replied = absurd none
+Answered-push files (t ∷ ts) (r ∷ rs) old mid new text file reply answered kept handed replied =
+    let rest = answered.1 in
+    (answered.0, (rest.0, rest.1, (rest.2.0, rest.2.1, Answered-push files ts rs rest.2.0 mid new text file reply rest.2.2 kept handed replied)))
 
 output_of-push : (replies : List Reply) (reply : Reply) → output_of (replies ++ reply ∷ []) ≡ output_of replies ++ reply.bytes
 output_of-push replies reply = flat_map-append (λ (r : Reply). r.bytes) replies (reply ∷ []) ∙ ap (λ more. output_of replies ++ more) (append-nil reply.bytes)
@@ -46,14 +47,14 @@ some_refused-push (r ∷ rs) reply = let rest = some_refused-push rs reply in gr
 -- a turn: the statement at place i is answered
 module _ (files : Option (List File)) (script : List ℕ) (spans : List Span) (i : ℕ) (d : Span) (first mid last : DatabaseValue) (refused : Bool) (file : Option (List ℕ)) (reply : Reply)
     (old between : Option (List ℕ)) (within : i < length spans) (so_far : SoFar files script (take i spans) first mid refused old between)
-    (handed : IsHanded files mid (text_at script (get_or spans i d)) file) (replied : Replied mid (text_at script (get_or spans i d)) file reply last) where
+    (kept : IsWellKept mid) (handed : IsHanded files mid (text_at script (get_or spans i d)) file) (replied : Replied mid (text_at script (get_or spans i d)) file reply last) where
   texts_more : texts_of script (take (i + 1) spans) ≡ texts_of script (take i spans) ++ text_at script (get_or spans i d) ∷ []
   texts_more =
       let next : i + 1 ≡ suc i = omega arith in
       ap (λ k. texts_of script (take k spans)) next ∙ ap (texts_of script) (take-suc spans i d within) ∙ texts_of-push script (take i spans) (get_or spans i d)
 
   answered_more : Answered files first (texts_of script (take (i + 1) spans)) (so_far.replies ++ reply ∷ []) last
-  answered_more = rw texts_more (Answered-push files (texts_of script (take i spans)) so_far.replies first mid last _ file reply so_far.answered handed replied)
+  answered_more = rw texts_more (Answered-push files (texts_of script (take i spans)) so_far.replies first mid last _ file reply so_far.answered kept handed replied)
 
   pub one_more : (new : Option (List ℕ)) → Grew between new reply.bytes → SoFar files script (take (i + 1) spans) first last (refused || reply.refused) old new
   one_more new grew = record {

@@ -3,3 +3,4 @@ pub mod Turning
 pub mod Stopping
 pub mod Ending
 pub mod Running
+pub mod Promised

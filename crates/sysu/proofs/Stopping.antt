@@ -67,7 +67,7 @@ module _ (script : List ℕ) (spans : List Span) (i : ℕ) (d : Span) (first mid
     ends.0 ∙ reads,
     rw (← writes) ends.1,
     took_here ends.2,
-    front_more old.files script spans i d first mid last refused ends.3.1.file ends.3.0 old.written between.written within so_far (rw (← files) ends.3.1.handed) ends.3.1.replied schema opened pieces new.written
+    front_more old.files script spans i d first mid last refused ends.3.1.file ends.3.0 old.written between.written within so_far ends.3.1.kept (rw (← files) ends.3.1.handed) ends.3.1.replied schema opened pieces new.written
         ends.3.2.0 ends.3.2.1 ends.3.2.2,
   )
   script_stops NoMemory ends = (

@@ -6,3 +6,4 @@ pub mod Statements
 pub mod Statuses
 pub mod Words
 pub mod Turns
+pub mod Headline

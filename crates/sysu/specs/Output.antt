@@ -8,7 +8,7 @@ use Rattle.su_lex.specs.declared.spans.Span.{Span}
 use Rattle.su_lex.specs.Pieces.{Pieces}
 use Rattle.su_lex.specs.Tokens.{slice_of}
 use Rattle.su_schema.specs.SchemaValue.{SchemaValue}
-use Rattle.su_state.specs.DatabaseValue.{DatabaseValue}
+use Rattle.su_state.specs.DatabaseValue.{DatabaseValue, IsWellKept}
 use Rattle.su_session.specs.Opening.{empty_database}
 use Rattle.su_session.specs.declared.replies.Reply.{Reply}
 use Rattle.su_session.specs.declared.wants.Want.TheVariants.{Nothing, File}
@@ -31,13 +31,13 @@ abbrev pub IsHanded : Option (List AFile) → DatabaseValue → List ℕ → Opt
 IsHanded files db text None = Wants db text Nothing
 IsHanded files db text (Some bytes) = (path : List ℕ) × Wants db text (File path) × IsFile files path bytes × (length bytes ≤ load_limit)
 
--- each statement is answered on the database that the ones before it left
+-- each statement is answered on the database that the ones before it left, which is well kept
 abbrev pub Answered : Option (List AFile) → DatabaseValue → List (List ℕ) → List Reply → DatabaseValue → Type 0
 Answered files old [] [] new = new ≡ old
 Answered files old [] (reply ∷ replies) new = ⊥
 Answered files old (text ∷ texts) [] new = ⊥
 Answered files old (text ∷ texts) (reply ∷ replies) new =
-    (file : Option (List ℕ)) × IsHanded files old text file × ((next : DatabaseValue) × Replied old text file reply next × Answered files next texts replies new)
+    IsWellKept old × ((file : Option (List ℕ)) × IsHanded files old text file × ((next : DatabaseValue) × Replied old text file reply next × Answered files next texts replies new))
 
 -- the replies one after another
 abbrev pub output_of : List Reply → List ℕ

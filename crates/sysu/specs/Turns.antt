@@ -5,17 +5,18 @@ use Rattle.su_io.specs.Ends.{Grew}
 use Rattle.su_io.specs.declared.files.File.{File}
 use Rattle.su_session.specs.declared.replies.Reply.{Reply}
 use Rattle.su_session.specs.Reply.{Replied}
-use Rattle.su_state.specs.DatabaseValue.{DatabaseValue}
+use Rattle.su_state.specs.DatabaseValue.{DatabaseValue, IsWellKept}
 use Rattle.sysu.specs.declared.status.Status.{Status}
 use Rattle.sysu.specs.declared.status.Status.TheVariants.{ReadFault, WriteFault, TooLong, NoMemory}
 use Rattle.sysu.specs.Handing.{Place, Began, TookOne}
 use Rattle.sysu.specs.Output.{IsHanded, IsOver, load_limit}
 
--- the statement was handed what it wants and answered
+-- the statement was handed what it wants and answered, on a well kept database
 pub record AnsweredOne (files : Option (List File)) (old : DatabaseValue) (text : List ℕ) (new : DatabaseValue) (reply : Reply) : Type 0 where
   pub file : Option (List ℕ)
   pub handed : IsHanded files old text file
   pub replied : Replied old text file reply new
+  pub kept : IsWellKept old
 
 -- what the sink tells before and after, and its counts of faults
 pub record Sunk : Type 0 where

@@ -1,10 +1,12 @@
-//! `sysu run SCHEMA SCRIPT`: reads a schema and a script, and writes one reply per statement.
+//! `sysu run SCHEMA SCRIPT [--workers N]`: reads a schema and a script, and writes one reply per
+//! statement.
 //!
 //! `top::run` is the whole program over any shelf and sink; `main` hands it the files of the system
 //! and standard output, which is written in large pieces, and ends with the status as its exit code.
 //! Nothing goes to standard error.
 #![tactic(auto)]
 
+mod headline;
 mod reading;
 mod statements;
 mod status;
@@ -15,6 +17,7 @@ use std::process::ExitCode;
 use std::{env, io};
 use su_base::{List, NoMemory, Str};
 use su_io::{FileShelf, StreamSink};
+use su_par::OpenGate;
 use top::run;
 
 // The words after the program's name; none where one is no text.
@@ -38,7 +41,14 @@ fn main(rt: HostRuntime) -> ExitCode {
     let mut shelf = FileShelf::new(rt);
     let mut out = StreamSink::new(rt);
     let status = match words(&rt) {
-        Ok(words) => run(rt.alloc(), words.as_slice(), &mut shelf, &mut out),
+        Ok(words) => run(
+            &rt,
+            rt.alloc(),
+            words.as_slice(),
+            &mut shelf,
+            &mut out,
+            &OpenGate,
+        ),
         Err(NoMemory) => Status::NoMemory,
     };
     // what the sink holds goes out at the end
@@ -50,7 +60,7 @@ fn main(rt: HostRuntime) -> ExitCode {
 }
 
 #[cfg(test)]
-mod example_tests;
+mod query_tests;
 #[cfg(test)]
 mod refusal_tests;
 #[cfg(test)]

@@ -1,5 +1,5 @@
 //! The statements of a script, answered one after another.
-ghost use Rattle.std.specs.Prelude.{◌≡◌, option_map};
+ghost use Rattle.std.specs.Prelude.{◌≡◌, ◌≤◌, option_map};
 ghost use Rattle.su_schema.specs.SchemaValue.{SchemaValue};
 ghost use Rattle.su_session.specs.Opening.{empty_database};
 ghost use Rattle.sysu.specs.Handing.{HandingEnds};
@@ -10,9 +10,11 @@ ghost use Rattle.sysu.specs.Turns.{TurnEnds};
 use crate::reading::read_file;
 use crate::status::Status;
 use std::alloc::Global;
+use std::thread::Threads;
 use su_base::List;
 use su_io::{Shelf, Sink, write_all};
 use su_lex::cut;
+use su_par::Gate;
 use su_session::{Session, Want};
 
 const LOAD_LIMIT: u64 = 1 << 26;
@@ -50,13 +52,18 @@ fn bytes_of(file: &Option<List<u8>>) -> Option<&[u8]>
 }
 
 // Answers one statement and writes its reply; whether it was refused, or how the run ends.
-fn answer_one<H: Shelf, K: Sink>(
+fn answer_one<R: Threads + Sync, H: Shelf, K: Sink, G: Gate>(
+    rt: &R,
     alloc: Global,
     session: &mut Session,
     text: &[u8],
+    workers: u8,
     shelf: &mut H,
     out: &mut K,
+    gate: &G,
 ) -> Result<bool, Status>
+    requires least { 1 ≤ workers }
+    requires most { workers ≤ 16 }
     ensures files { H.files shelf.new ≡ H.files shelf.old }
     ensures ends { TurnEnds (H.files shelf.old) session.old text.now session.new
         (record { begun = H.begun shelf.old; taken = H.taken shelf.old; failed = H.failed shelf.old; faults = H.faults shelf.old })
@@ -66,7 +73,7 @@ fn answer_one<H: Shelf, K: Sink>(
         result }
 {
     let file = handed(alloc, session, text, shelf)?;
-    let Ok(reply) = session.step(text, bytes_of(&file)) else {
+    let Ok(reply) = session.step(rt, text, bytes_of(&file), workers, gate) else {
         return Err(Status::NoMemory);
     };
     match write_all(out, reply.bytes.as_slice()) {
@@ -77,13 +84,18 @@ fn answer_one<H: Shelf, K: Sink>(
 
 /// Writes the replies to a script's statements in order, each by one whole write. The file of a load
 /// is read when its statement is reached.
-pub(crate) fn answer_all<H: Shelf, K: Sink>(
+pub(crate) fn answer_all<R: Threads + Sync, H: Shelf, K: Sink, G: Gate>(
+    rt: &R,
     alloc: Global,
     session: Session,
     script: &[u8],
+    workers: u8,
     shelf: &mut H,
     out: &mut K,
+    gate: &G,
 ) -> Status
+    requires least { 1 ≤ workers }
+    requires most { workers ≤ 16 }
     ensures files { H.files shelf.new ≡ H.files shelf.old }
     ensures ends { (schema : SchemaValue) → session ≡ empty_database schema → ScriptEnds schema script.now
         (record { files = H.files shelf.old; begun = H.begun shelf.old; taken = H.taken shelf.old; failed = H.failed shelf.old; reads = H.faults shelf.old; written = K.written out.old; writes = K.faults out.old })
@@ -97,11 +109,14 @@ pub(crate) fn answer_all<H: Shelf, K: Sink>(
     let mut refused = false;
     for span in spans.as_slice() {
         match answer_one(
+            rt,
             alloc,
             &mut session,
             &script[span.start..span.end],
+            workers,
             shelf,
             out,
+            gate,
         ) {
             Ok(told) => refused |= told,
             Err(status) => return status,

@@ -2,8 +2,10 @@ use crate::status::Status;
 use crate::top::run;
 use std::alloc::Global;
 use std::test::Fail;
+use std::thread::Threads;
 use su_base::{List, NoMemory, Str};
 use su_io::{File, MemoryShelf, MemorySink, SteadyShelf, SteadySink};
+use su_par::OpenGate;
 
 const SCHEMA: &str =
     "attribute A int; attribute B text; attribute C int; relation P (A int, B text); relation Q (C int); object AB (A, B) from P (A, B); object CC (C) from Q (C);";
@@ -54,6 +56,34 @@ fn a_run_ends_with_its_status_and_output(rt: HostRuntime) -> Result<(), Fail> {
             Status::BadSchema,
             "schema refused: statement 2: twice A\n",
         ),
+        (
+            &["run", "s", "t", "--workers", "16"],
+            SCHEMA,
+            SCRIPT,
+            Status::SomeRefused,
+            OUTPUT,
+        ),
+        (
+            &["run", "s", "t", "--workers", "17"],
+            SCHEMA,
+            SCRIPT,
+            Status::Usage,
+            USAGE,
+        ),
+        (
+            &["run", "s", "t", "--workers", "0"],
+            SCHEMA,
+            SCRIPT,
+            Status::Usage,
+            USAGE,
+        ),
+        (
+            &["run", "s", "t", "--workers", "08"],
+            SCHEMA,
+            SCRIPT,
+            Status::Usage,
+            USAGE,
+        ),
         (&["run", "s"], SCHEMA, SCRIPT, Status::Usage, USAGE),
         (&["walk", "s", "t"], SCHEMA, SCRIPT, Status::Usage, USAGE),
         (&[], SCHEMA, SCRIPT, Status::Usage, USAGE),
@@ -61,7 +91,14 @@ fn a_run_ends_with_its_status_and_output(rt: HostRuntime) -> Result<(), Fail> {
     for (all, schema, script, status, want) in cases {
         let mut shelf = SteadyShelf::new(files(alloc, schema, script)?);
         let mut out = SteadySink::new(alloc, 1000)?;
-        let got = run(alloc, words(alloc, all)?.as_slice(), &mut shelf, &mut out);
+        let got = run(
+            &rt,
+            alloc,
+            words(alloc, all)?.as_slice(),
+            &mut shelf,
+            &mut out,
+            &OpenGate,
+        );
         assert_eq!(rt; got, status, "{want}");
         assert_eq!(rt; out.written(), want.as_bytes(), "{want}");
     }
@@ -77,10 +114,12 @@ fn each_failing_read_ends_the_run(rt: HostRuntime) -> Result<(), Fail> {
         let mut shelf = MemoryShelf::new(files(alloc, SCHEMA, SCRIPT)?, fails, 100);
         let mut out = SteadySink::new(alloc, 1000)?;
         let got = run(
+            &rt,
             alloc,
             words(alloc, &["run", "s", "t"])?.as_slice(),
             &mut shelf,
             &mut out,
+            &OpenGate,
         );
         assert_eq!(rt; got, Status::ReadFault, "call {k}");
         assert!(rt; out.written().is_empty(), "call {k}");
@@ -97,10 +136,12 @@ fn each_failing_write_ends_the_run_with_a_front(rt: HostRuntime) -> Result<(), F
         let mut shelf = SteadyShelf::new(files(alloc, SCHEMA, SCRIPT)?);
         let mut out = MemorySink::new(alloc, fails, 4, 1000)?;
         let got = run(
+            &rt,
             alloc,
             words(alloc, &["run", "s", "t"])?.as_slice(),
             &mut shelf,
             &mut out,
+            &OpenGate,
         );
         assert_eq!(rt; got, Status::WriteFault, "call {k}");
         assert!(rt; OUTPUT.as_bytes().starts_with(out.written()), "call {k}");
@@ -128,10 +169,12 @@ fn a_file_past_its_limit_is_too_long(rt: HostRuntime) -> Result<(), Fail> {
         let mut shelf = SteadyShelf::new(blanks(alloc, schema, script)?);
         let mut out = SteadySink::new(alloc, 10)?;
         let got = run(
+            &rt,
             alloc,
             words(alloc, &["run", "s", "t"])?.as_slice(),
             &mut shelf,
             &mut out,
+            &OpenGate,
         );
         assert_eq!(rt; got, Status::TooLong);
     }
@@ -139,18 +182,20 @@ fn a_file_past_its_limit_is_too_long(rt: HostRuntime) -> Result<(), Fail> {
 }
 
 // A schema, a script, a file `f` that it may load, and the output.
-pub(crate) fn gives(
+pub(crate) fn gives<R: Threads + Sync>(
+    rt: &R,
     alloc: Global,
     schema: &str,
     script: &str,
     file: &str,
     want: &str,
 ) -> Result<bool, NoMemory> {
-    gives_from(alloc, schema, script, "f", file, want)
+    gives_from(rt, alloc, schema, script, "f", file, want)
 }
 
 // The same with a file of this path.
-pub(crate) fn gives_from(
+pub(crate) fn gives_from<R: Threads + Sync>(
+    rt: &R,
     alloc: Global,
     schema: &str,
     script: &str,
@@ -164,12 +209,14 @@ pub(crate) fn gives_from(
         bytes: List::from_vec(file.as_bytes().to_vec(alloc)?),
     })?;
     let mut shelf = SteadyShelf::new(files);
-    let mut out = SteadySink::new(alloc, 2000)?;
+    let mut out = SteadySink::new(alloc, 4000)?;
     let status = run(
+        rt,
         alloc,
         words(alloc, &["run", "s", "t"])?.as_slice(),
         &mut shelf,
         &mut out,
+        &OpenGate,
     );
     let refused = want.starts_with("refused") || want.contains("\nrefused");
     let due = if refused {
@@ -189,7 +236,7 @@ fn a_row_that_breaks_a_dependency_is_refused(rt: HostRuntime) -> Result<(), Fail
         "insert BA ('B1', 1); insert BA ('B2', 2); insert BA ('B1', 1); delete BA ('B9', 9); insert BA ('B2', 1); delete BA ('B1', 1); insert BA ('B2', 1); print BA";
     let want =
         "inserted 1\ninserted 1\ninserted 0\ndeleted 0\nrefused: breaks ACCT -> BANK with row ('B1', 1)\ndeleted 1\ninserted 1\nrows 2\nBANK,ACCT\nB2,1\nB2,2\n";
-    assert!(rt; gives(rt.alloc(), BANK, script, "", want)?);
+    assert!(rt; gives(&rt, rt.alloc(), BANK, script, "", want)?);
     Ok(())
 }
 
@@ -198,7 +245,7 @@ fn a_refused_record_refuses_the_whole_load(rt: HostRuntime) -> Result<(), Fail> 
     let script = "load AB from 'f'; print AB";
     let file = "ACCT,BAL\n1,100\n2,250\n3,x\n";
     let want = "refused: record 3: column BAL is no number\nrows 0\nACCT,BAL\n";
-    assert!(rt; gives(rt.alloc(), BANK, script, file, want)?);
+    assert!(rt; gives(&rt, rt.alloc(), BANK, script, file, want)?);
     Ok(())
 }
 
@@ -208,17 +255,17 @@ fn a_load_counts_new_rows_and_records(rt: HostRuntime) -> Result<(), Fail> {
         "load AB from 'f'; load AB from 'f'; delete AB where BAL < 200 or ACCT = 9; print AB";
     let file = "ACCT,BAL\r\n1,100\r\n2,250\r\n3,40\r\n";
     let want = "loaded 3 of 3\nloaded 0 of 3\ndeleted 2\nrows 1\nACCT,BAL\n2,250\n";
-    assert!(rt; gives(rt.alloc(), BANK, script, file, want)?);
+    assert!(rt; gives(&rt, rt.alloc(), BANK, script, file, want)?);
     Ok(())
 }
 
 #[test]
 fn a_refused_query_names_the_first_cause(rt: HostRuntime) -> Result<(), Fail> {
     let script =
-        "retrieve (NOPE) where BAL = 'x'; retrieve (BANK) where BAL = 'x'; retrive (BANK); explain retrieve (BANK)";
+        "retrieve (NOPE) where BAL = 'x'; retrieve (BANK) where BAL = 'x'; retrive (BANK); explain retrieve (BANK, X)";
     let want =
-        "refused: unknown attribute NOPE\nrefused: kinds int and text\nrefused: syntax\nrefused: later\n";
-    assert!(rt; gives(rt.alloc(), BANK, script, "", want)?);
+        "refused: unknown attribute NOPE\nrefused: kinds int and text\nrefused: syntax\nrefused: unknown attribute X\n";
+    assert!(rt; gives(&rt, rt.alloc(), BANK, script, "", want)?);
     Ok(())
 }
 
@@ -231,12 +278,17 @@ fn definitions_in_a_script_count_at_once(rt: HostRuntime) -> Result<(), Fail> {
         "object BD (B, D) from P (X, Y); object AB (A, B) from P (X, Y); object BC (B, C) from P (X, Y); object CA (C, A) from P (X, Y); schema";
     let want =
         "defined\ndefined\ndefined\ndefined\nattribute A int;\nattribute B int;\nattribute C int;\nattribute D int;\nrelation P (X int, Y int);\nobject BD (B, D) from P (X, Y);\nobject AB (A, B) from P (X, Y);\nobject BC (B, C) from P (X, Y);\nobject CA (A, C) from P (Y, X);\n-- maximal object 0 computed BD AB\n-- maximal object 1 computed BD BC\n-- maximal object 2 computed CA\n";
-    assert!(rt; gives(rt.alloc(), CIRCLE, script, "", want)?);
+    assert!(rt; gives(&rt, rt.alloc(), CIRCLE, script, "", want)?);
     Ok(())
 }
 
 // Whether a fault at this call, or a missing file, leaves just the reply before the load.
-fn stops_at_the_load(alloc: Global, call: u64, file: &str) -> Result<bool, NoMemory> {
+fn stops_at_the_load<R: Threads + Sync>(
+    rt: &R,
+    alloc: Global,
+    call: u64,
+    file: &str,
+) -> Result<bool, NoMemory> {
     let mut files = files(alloc, BANK, "print BA; load AB from 'f'; print AB")?;
     files.push(File {
         name: Str::new(alloc, file)?,
@@ -246,10 +298,12 @@ fn stops_at_the_load(alloc: Global, call: u64, file: &str) -> Result<bool, NoMem
     let mut shelf = MemoryShelf::new(files, fails, 100);
     let mut out = SteadySink::new(alloc, 1000)?;
     let status = run(
+        rt,
         alloc,
         words(alloc, &["run", "s", "t"])?.as_slice(),
         &mut shelf,
         &mut out,
+        &OpenGate,
     );
     Ok(status == Status::ReadFault && out.written() == "rows 0\nBANK,ACCT\n".as_bytes())
 }
@@ -258,9 +312,12 @@ fn stops_at_the_load(alloc: Global, call: u64, file: &str) -> Result<bool, NoMem
 #[test]
 fn a_failing_read_of_a_load_leaves_the_replies_before_it(rt: HostRuntime) -> Result<(), Fail> {
     for call in 8..11u64 {
-        assert!(rt; stops_at_the_load(rt.alloc(), call, "f")?, "call {call}");
+        assert!(rt;
+            stops_at_the_load(&rt, rt.alloc(), call, "f")?,
+            "call {call}"
+        );
     }
-    assert!(rt; stops_at_the_load(rt.alloc(), 99, "another")?);
+    assert!(rt; stops_at_the_load(&rt, rt.alloc(), 99, "another")?);
     Ok(())
 }
 
@@ -271,10 +328,12 @@ fn a_failing_write_leaves_whole_pieces(rt: HostRuntime) -> Result<(), Fail> {
     let mut shelf = SteadyShelf::new(files(alloc, BANK, "print BA;")?);
     let mut out = MemorySink::new(alloc, fails, 4, 1000)?;
     let got = run(
+        &rt,
         alloc,
         words(alloc, &["run", "s", "t"])?.as_slice(),
         &mut shelf,
         &mut out,
+        &OpenGate,
     );
     assert_eq!(rt; got, Status::WriteFault);
     assert_eq!(rt; out.written(), "rows 0\nB".as_bytes());
@@ -290,7 +349,7 @@ fn a_dependency_that_rows_break_is_not_defined(rt: HostRuntime) -> Result<(), Fa
         "insert P (1, 1); insert P (1, 2); insert P (3, 3); fd A -> B; delete P (1, 2); fd A -> B; insert P (3, 4)";
     let want =
         "inserted 1\ninserted 1\ninserted 1\nrefused: breaks A -> B with rows (1, 1) and (1, 2)\ndeleted 1\ndefined\nrefused: breaks A -> B with row (3, 3)\n";
-    assert!(rt; gives(rt.alloc(), PAIR, script, "", want)?);
+    assert!(rt; gives(&rt, rt.alloc(), PAIR, script, "", want)?);
     Ok(())
 }
 
@@ -299,7 +358,7 @@ fn the_rows_of_a_condition_are_deleted(rt: HostRuntime) -> Result<(), Fail> {
     let script =
         "insert P (1, 1); insert P (1, 2); insert P (3, 3); delete P where A <= B and not B = 2; print P";
     let want = "inserted 1\ninserted 1\ninserted 1\ndeleted 2\nrows 1\nA,B\n1,2\n";
-    assert!(rt; gives(rt.alloc(), PAIR, script, "", want)?);
+    assert!(rt; gives(&rt, rt.alloc(), PAIR, script, "", want)?);
     Ok(())
 }
 
@@ -309,7 +368,7 @@ fn a_change_is_refused_for_its_first_cause(rt: HostRuntime) -> Result<(), Fail> 
         "insert P (3); insert P ('x', 'y', 1); insert P (3, 'x'); delete ZZ where A = 1; delete P where NOPE = 'x'; delete P where B < 'x'; print ZZ";
     let want =
         "refused: width 1, relation has 2\nrefused: width 3, relation has 2\nrefused: kind of column B\nrefused: unknown relation ZZ\nrefused: unknown column NOPE\nrefused: kinds int and text\nrefused: unknown relation ZZ\n";
-    assert!(rt; gives(rt.alloc(), PAIR, script, "", want)?);
+    assert!(rt; gives(&rt, rt.alloc(), PAIR, script, "", want)?);
     Ok(())
 }
 
@@ -318,7 +377,7 @@ fn a_load_may_break_a_dependency_by_itself(rt: HostRuntime) -> Result<(), Fail> 
     let script = "fd A -> B; load P from 'f'; print P";
     let file = "A,B\n1,1\n1,2\n";
     let want = "defined\nrefused: record 2: breaks A -> B with row (1, 1)\nrows 0\nA,B\n";
-    assert!(rt; gives(rt.alloc(), PAIR, script, file, want)?);
+    assert!(rt; gives(&rt, rt.alloc(), PAIR, script, file, want)?);
     Ok(())
 }
 
@@ -328,7 +387,7 @@ fn the_first_of_two_broken_dependencies_is_told(rt: HostRuntime) -> Result<(), F
         "relation Q (A int, B int, C int); object ABC (A, B, C) from Q (A, B, C); fd A -> C; fd A -> B; insert Q (1, 1, 1); insert Q (1, 2, 2)";
     let want =
         "defined\ndefined\ndefined\ndefined\ninserted 1\nrefused: breaks A -> C with row (1, 1, 1)\n";
-    assert!(rt; gives(rt.alloc(), PAIR, script, "", want)?);
+    assert!(rt; gives(&rt, rt.alloc(), PAIR, script, "", want)?);
     Ok(())
 }
 
@@ -336,7 +395,7 @@ fn the_first_of_two_broken_dependencies_is_told(rt: HostRuntime) -> Result<(), F
 fn a_relation_keeps_the_dependencies_of_both_its_objects(rt: HostRuntime) -> Result<(), Fail> {
     let script = "object AC (A, C) from P (A, B); fd A -> C; insert P (1, 1); insert P (1, 2)";
     let want = "defined\ndefined\ninserted 1\nrefused: breaks A -> C with row (1, 1)\n";
-    assert!(rt; gives(rt.alloc(), PAIR, script, "", want)?);
+    assert!(rt; gives(&rt, rt.alloc(), PAIR, script, "", want)?);
     Ok(())
 }
 
@@ -349,7 +408,7 @@ fn what_is_printed_is_read_again(rt: HostRuntime) -> Result<(), Fail> {
         "T,N\n,5\n\"a,b\",-9223372036854775808\n\"line\nbreak\",0\n\"say \"\"hi\"\"\",9223372036854775807\n";
     let want =
         "loaded 4 of 4\nrows 4\nT,N\n,5\n\"a,b\",-9223372036854775808\n\"line\nbreak\",0\n\"say \"\"hi\"\"\",9223372036854775807\nrefused: syntax\n";
-    assert!(rt; gives(rt.alloc(), schema, script, file, want)?);
+    assert!(rt; gives(&rt, rt.alloc(), schema, script, file, want)?);
     Ok(())
 }
 
@@ -359,7 +418,7 @@ fn a_schema_may_be_defined_in_the_script(rt: HostRuntime) -> Result<(), Fail> {
         "attribute A int; relation R (A int); object O (A) from R (A); insert R (1); retrieve (A); attribute A text; object O2 (A from R";
     let want =
         "defined\ndefined\ndefined\ninserted 1\nrows 1\nA\n1\nrefused: twice A\nrefused: syntax\n";
-    assert!(rt; gives(rt.alloc(), "", script, "", want)?);
+    assert!(rt; gives(&rt, rt.alloc(), "", script, "", want)?);
     Ok(())
 }
 
@@ -372,7 +431,7 @@ fn a_query_is_covered_once_the_dependency_is_there(rt: HostRuntime) -> Result<()
     let script =
         "retrieve (CUST) where LOAN = 8 and BANK = 'B1'; fd LOAN -> BANK; retrieve (CUST) where LOAN = 8 and BANK = 'B1'; retrieve (CUST) where BAL > 200 or AMT > 600";
     let want =
-        "refused: no maximal object covers -: BANK CUST LOAN\ndefined\nrefused: later\nrefused: no maximal object covers -: CUST BAL AMT\n";
-    assert!(rt; gives(rt.alloc(), LOANS, script, "", want)?);
+        "refused: no maximal object covers -: BANK CUST LOAN\ndefined\nrows 0\nCUST\nrefused: no maximal object covers -: CUST BAL AMT\n";
+    assert!(rt; gives(&rt, rt.alloc(), LOANS, script, "", want)?);
     Ok(())
 }

@@ -1,16 +1,20 @@
 //! The run of the program over any shelf and sink.
-ghost use Rattle.std.specs.Prelude.{◌≡◌, Some, ◌<◌, ◌^◌, ◌++◌, ◌∷◌, [], IfOk, option_map, string_bytes};
+ghost use Rattle.std.specs.Prelude.{◌≡◌, ◌≤◌, ◌&&◌, nat_eq, nat_lt, true, false, Some, ◌<◌, ◌^◌, ◌++◌, ◌∷◌, [], IfOk, IfSome, MatchOption, option_map, string_bytes};
 ghost use Rattle.sysu.specs.Moments.{Moment};
 ghost use Rattle.sysu.specs.Statuses.{Ends, RefusalEnds, RunEnds, UsageEnds};
-ghost use Rattle.sysu.specs.Words.{named};
+ghost use Rattle.sysu.specs.Words.{named, is_count};
+ghost use Rattle.sysu.specs.Headline.{Headline};
 
+use crate::headline::queries_are_answered;
 use crate::reading::read_file;
 use crate::statements::answer_all;
 use crate::status::Status;
 use std::alloc::Global;
+use std::thread::Threads;
 use su_base::Str;
 use su_ddl::{DdlFault, read};
 use su_io::{Shelf, Sink, write_all};
+use su_par::Gate;
 use su_session::Session;
 use su_show::ddl_fault;
 
@@ -21,12 +25,65 @@ const SCHEMA_LIMIT: u64 = 1 << 20;
 
 const SCRIPT_LIMIT: u64 = 1 << 24;
 
-// The files that the words name: the schema's and the script's.
-fn named_files(words: &[Str]) -> Option<(&Str, &Str)>
-    ensures { option_map (λ names. record { schema = names.0.now; script = names.1.now }) result ≡ named words.now }
+// The digit, from 1 to 9.
+fn digit(d: u8) -> Option<u8>
+    ensures { MatchOption result ((nat_lt 48 d && nat_lt d 58) ≡ false) (λ n. ((nat_lt 48 d && nat_lt d 58) ≡ true) × (1 ≤ n) × (n ≤ 16)) }
+{
+    if b'0' < d && d <= b'9' {
+        return Some(d - b'0');
+    }
+    None
+}
+
+// The number of a 1 and a digit, from 10 to 16.
+fn two_digits(one: u8, d: u8) -> Option<u8>
+    ensures { MatchOption result ((nat_eq one 49 && (nat_lt 47 d && nat_lt d 55)) ≡ false) (λ n. ((nat_eq one 49 && (nat_lt 47 d && nat_lt d 55)) ≡ true) × (1 ≤ n) × (n ≤ 16)) }
+{
+    if one == b'1' && b'0' <= d && d <= b'6' {
+        return Some(d - b'0' + 10);
+    }
+    None
+}
+
+// The number of workers, from 1 to 16, where the digits are its decimal.
+fn worker_count(digits: &[u8]) -> Option<u8>
+    ensures { MatchOption result (is_count digits.now ≡ false) (λ n. (is_count digits.now ≡ true) × (1 ≤ n) × (n ≤ 16)) }
+{
+    match digits {
+        [d] => digit(*d),
+        [one, d] => two_digits(*one, *d),
+        _ => None,
+    }
+}
+
+// A run that is asked for: the names of the schema's and of the script's file, and the workers.
+#[derive(Clone, Copy)]
+struct Asked<'a> {
+    schema: &'a Str,
+    script: &'a Str,
+    workers: u8,
+}
+
+// What the words ask for.
+fn command_of(words: &[Str]) -> Option<Asked>
+    ensures names { option_map (λ asked. record { schema = asked.schema.now; script = asked.script.now }) result ≡ named words.now }
+    ensures workers { IfSome result (λ asked. (1 ≤ asked.workers) × (asked.workers ≤ 16)) }
 {
     match words {
-        [word, schema, script] if word.as_str() == "run" => Some((schema, script)),
+        [word, schema, script] if word.as_str() == "run" => Some(Asked {
+            schema,
+            script,
+            workers: 1,
+        }),
+        [word, schema, script, option, digits]
+            if word.as_str() == "run" && option.as_str() == "--workers" => {
+            let workers = worker_count(digits.as_str().as_bytes())?;
+            Some(Asked {
+                schema,
+                script,
+                workers,
+            })
+        }
         _ => None,
     }
 }
@@ -55,13 +112,18 @@ fn tell_usage<K: Sink>(out: &mut K) -> Status
 }
 
 // Runs the script on the schema.
-fn run_files<H: Shelf, K: Sink>(
+fn run_files<R: Threads + Sync, H: Shelf, K: Sink, G: Gate>(
+    rt: &R,
     alloc: Global,
     schema: Str,
     script: Str,
+    workers: u8,
     shelf: &mut H,
     out: &mut K,
+    gate: &G,
 ) -> Status
+    requires least { 1 ≤ workers }
+    requires most { workers ≤ 16 }
     ensures files { H.files shelf.new ≡ H.files shelf.old }
     ensures ends { RunEnds (record { schema = schema; script = script })
         (record { files = H.files shelf.old; begun = H.begun shelf.old; taken = H.taken shelf.old; failed = H.failed shelf.old; reads = H.faults shelf.old; written = K.written out.old; writes = K.faults out.old })
@@ -80,26 +142,51 @@ fn run_files<H: Shelf, K: Sink>(
         return Status::NoMemory;
     };
     match read_file(alloc, shelf, script, SCRIPT_LIMIT) {
-        Ok(bytes) => answer_all(alloc, session, bytes.as_slice(), shelf, out),
+        Ok(bytes) => answer_all(
+            rt,
+            alloc,
+            session,
+            bytes.as_slice(),
+            workers,
+            shelf,
+            out,
+            gate,
+        ),
         Err(status) => status,
     }
 }
 
 /// The whole program over any shelf and sink. The words, without the program's name, are
-/// `run SCHEMA SCRIPT`; for any others the usage line is written. The schema file is read first, then
-/// the script, whose statements are answered one by one; each reply is written whole.
-pub fn run<H: Shelf, K: Sink>(alloc: Global, words: &[Str], shelf: &mut H, out: &mut K) -> Status
+/// `run SCHEMA SCRIPT`, and may end with `--workers N` for a number from 1 to 16; for any others the
+/// usage line is written. The schema file is read first, then the script, whose statements are
+/// answered one by one; each reply is written whole.
+///
+/// At most N terms of a query are minimised or executed at a time (1 without the option), and the
+/// gate is passed before each; neither is in any clause.
+pub fn run<R: Threads + Sync, H: Shelf, K: Sink, G: Gate>(
+    rt: &R,
+    alloc: Global,
+    words: &[Str],
+    shelf: &mut H,
+    out: &mut K,
+    gate: &G,
+) -> Status
     ensures files { H.files shelf.new ≡ H.files shelf.old }
     ensures ends { Ends words.now
         (record { files = H.files shelf.old; begun = H.begun shelf.old; taken = H.taken shelf.old; failed = H.failed shelf.old; reads = H.faults shelf.old; written = K.written out.old; writes = K.faults out.old })
         (record { files = H.files shelf.new; begun = H.begun shelf.new; taken = H.taken shelf.new; failed = H.failed shelf.new; reads = H.faults shelf.new; written = K.written out.new; writes = K.faults out.new })
         result }
+    ensures headline { Headline words.now
+        (record { files = H.files shelf.old; begun = H.begun shelf.old; taken = H.taken shelf.old; failed = H.failed shelf.old; reads = H.faults shelf.old; written = K.written out.old; writes = K.faults out.old })
+        (record { files = H.files shelf.new; begun = H.begun shelf.new; taken = H.taken shelf.new; failed = H.failed shelf.new; reads = H.faults shelf.new; written = K.written out.new; writes = K.faults out.new })
+        result }
 {
-    let Some((schema, script)) = named_files(words) else {
+    queries_are_answered();
+    let Some(asked) = command_of(words) else {
         return tell_usage(out);
     };
-    let (Ok(schema), Ok(script)) = (schema.copy(alloc), script.copy(alloc)) else {
+    let (Ok(schema), Ok(script)) = (asked.schema.copy(alloc), asked.script.copy(alloc)) else {
         return Status::NoMemory;
     };
-    run_files(alloc, schema, script, shelf, out)
+    run_files(rt, alloc, schema, script, asked.workers, shelf, out, gate)
 }

@@ -3,21 +3,35 @@ use Rattle.std.specs.Prelude.{IfErr}
 use Rattle.std.specs.List.{AllZip}
 use Rattle.std.proofs.lemmas.Result.{err_from_is_err_and}
 use Rattle.su_base.specs.declared.values.Value.{Value}
+use Rattle.su_tableau.specs.Tableaux.{IsValid}
+use Rattle.su_tableau.specs.Kinds.{IsTyped}
+use Rattle.su_schema.specs.SchemaValue.{attribute_kinds}
 use Rattle.su_min.specs.Kept.{Minimised}
 use Rattle.su_min.specs.Reduction.{term_at}
 use Rattle.su_answer.specs.declared.faults.AnswerFault.{AnswerFault}
 use Rattle.su_answer.specs.declared.faults.AnswerFault.TheVariants.{Limit}
-use Rattle.su_answer.specs.Prepared.{IsRuled}
 use Rattle.su_answer.specs.Answers.{IsAnswer, AreAnswers, AreMoreThan}
 use Rattle.su_answer.specs.Executed.{IsFoundFor}
-use Rattle.su_answer.proofs.Expressing.{answers_are_the_expression}
+use Rattle.su_answer.proofs.Counting.{minimals_fit}
 use Rattle.su_answer.proofs.Union.{AreFound, kept_low, is_more, are_answers, rows_more}
 use Rattle.su_answer.proofs.answering.answer.Goals as goal
+
+pub found-requires-clause-typed : goal.found-requires-clause-typed
+found-requires-clause-typed g c κs within =
+    let p = c.requires.prepared in
+    let fit = minimals_fit c.terms_are_valid_and_typed.ensures c.args.db.now.schema p.maximal p.query c.args.prepared.now c.keeps_its_rules.ensures.valid p.resolved p.is in
+    subst (λ (ms : List Minimised). All (λ (m : Minimised). IsTyped (attribute_kinds c.args.db.now.schema) m.tableau) ms) (sym c.as_slice-minimals.ensures) (λ k d l. (fit k d l).1)
+
+pub found-requires-clause-valid : goal.found-requires-clause-valid
+found-requires-clause-valid g c κs within =
+    let p = c.requires.prepared in
+    let fit = minimals_fit c.terms_are_valid_and_typed.ensures c.args.db.now.schema p.maximal p.query c.args.prepared.now c.keeps_its_rules.ensures.valid p.resolved p.is in
+    subst (λ (ms : List Minimised). All (λ (m : Minimised). IsValid m.tableau) ms) (sym c.as_slice-minimals.ensures) (λ k d l. (fit k d l).0)
 
 pub found-requires-clause-within : goal.found-requires-clause-within
 found-requires-clause-within g c κs within =
     subst (λ (ks : List ℕ). All (λ k. k < length c.as_slice-minimals.result.now) ks) (sym c.as_slice-kept.ensures)
-    (subst (λ (ms : List Minimised). All (λ k. k < length ms) c.args.prepared.now.reduced.kept) (sym c.as_slice-minimals.ensures) (kept_low c.args.prepared.now c.requires.prepared.reduced))
+    (subst (λ (ms : List Minimised). All (λ k. k < length ms) c.args.prepared.now.reduced.kept) (sym c.as_slice-minimals.ensures) (kept_low c.args.prepared.now c.requires.prepared.is.reduced))
 
 pub returns-in_err-gathered-clause-limit : goal.returns-in_err-gathered-clause-limit
 returns-in_err-gathered-clause-limit g c =
@@ -62,10 +76,3 @@ returns-clause-answers g c =
     let same = c.into_vec.ensures in
     (λ x. a.0 (g.0 (subst (λ (xs : List (List Value)). Contains xs h) same (m.0 x))), λ y. m.1 (subst (λ (xs : List (List Value)). Contains xs h) (sym same) (g.1 (a.1 y)))) in
     subst (λ (xs : List (List Value)). AreAnswers db p xs) (sym c.from_vec.ensures) (record { exact = exact; ascending = c.sorted-rows.ensures.ascending })
-
-pub returns-clause-expression : goal.returns-clause-expression
-returns-clause-expression g c = λ maximal q universe h resolved terms kinds meets projections.
-    let rules : All IsRuled c.args.prepared.now.minimals = subst (λ (ms : List Minimised). All IsRuled ms) c.as_slice-minimals.ensures c.are_ruled.ensures in
-    let e = answers_are_the_expression c.args.db.now c.args.prepared.now maximal q universe c.keeps_its_rules.ensures c.requires.prepared rules resolved terms kinds meets projections h in
-    let are : AreAnswers c.args.db.now c.args.prepared.now c.from_vec.result = returns-clause-answers g c in
-    (λ x. e.0 ((are.exact h).0 x), λ y. (are.exact h).1 (e.1 y))

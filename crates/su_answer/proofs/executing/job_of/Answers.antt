@@ -3,7 +3,6 @@ use Rattle.su_rel.specs.Stored.{Stored}
 use Rattle.su_schema.specs.SchemaValue.{SchemaValue, attribute_kinds}
 use Rattle.su_tableau.specs.Tableaux.{Tab, IsValid, IsSmall}
 use Rattle.su_exec.specs.Tasks.{IsTask}
-use Rattle.su_min.proofs.Least.{kept_least_part}
 use Rattle.su_answer.specs.Joined.{IsTaskOf}
 use Rattle.su_answer.proofs.Fits.{task_fits}
 use Rattle.su_answer.proofs.executing.job_of.Goals as goal
@@ -18,7 +17,7 @@ fits_is : (c : goal.After-tables) → IsTask c.args.db.now.tables c.in_ok-task.t
 fits_is c =
     let valid : IsValid c.args.minimal.now.tableau = subst IsValid c.tableau-t.ensures c.keeps_its_rules-3.ensures.valid in
     let small : IsSmall c.args.minimal.now.tableau = subst IsSmall c.tableau-t.ensures c.keeps_its_rules-3.ensures.small in
-    let least = kept_least_part (attribute_kinds c.args.db.now.schema) c.args.minimal.now.tableau c.args.minimal.now.mask valid c.keeps_its_rules-2.ensures.kept c.requires in
+    let least = c.kept_rows_are_least.ensures (attribute_kinds c.args.db.now.schema) c.args.minimal.now.tableau c.args.minimal.now.mask valid c.requires c.keeps_its_rules-2.ensures.kept in
     task_fits c.args.db.now c.args.minimal.now.tableau c.args.minimal.now.mask c.in_ok-task.task c.keeps_its_rules.ensures small valid least.valid (task_is c)
 
 pub invariant_of-result : goal.invariant_of-result

@@ -1,10 +1,10 @@
 use Rattle.std.proofs.Common.{◌≡◌, subst}
 use Rattle.su_tableau.specs.Tableaux.{Tab}
-use Rattle.su_answer.specs.Prepared.{IsLeastOf}
+use Rattle.su_answer.specs.Prepared.{IsMinimisedOf}
 use Rattle.su_answer.proofs.Union.{zip_through}
 use Rattle.su_answer.proofs.making.minimals.Goals as goal
 
 pub returns : goal.returns
 returns g c =
-    zip_through (λ term job. job.tableau ≡ term.tableau) (λ job m. IsLeastOf job.tableau m) (λ term m. IsLeastOf term.tableau m) c.args.terms.now c.in_ok-jobs.jobs c.in_ok-minimals.minimals
-    (λ term job m has e l. subst (λ (t : Tab). IsLeastOf t m) e l) c.in_ok-jobs.ensures c.in_ok-minimals.ensures
+    zip_through (λ term job. job.tableau ≡ term.tableau) (λ job m. IsMinimisedOf job.tableau m) (λ term m. IsMinimisedOf term.tableau m) c.args.terms.now c.in_ok-jobs.jobs c.in_ok-minimals.minimals
+    (λ term job m has e l. subst (λ (t : Tab). IsMinimisedOf t m) e l) c.in_ok-jobs.ensures c.in_ok-minimals.ensures

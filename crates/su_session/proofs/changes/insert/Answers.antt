@@ -1,4 +1,4 @@
-use Rattle.std.proofs.Common.{inr, ◌∙◌}
+use Rattle.std.proofs.Common.{inr}
 use Rattle.std.proofs.lemmas.Result.{IfOk-weaker}
 use Rattle.su_show.specs.declared.statement_refusal.Refusal.TheVariants.{State}
 use Rattle.su_session.specs.Telling.{Refuses}

@@ -1,4 +1,4 @@
-use Rattle.std.proofs.Common.{◌≡◌, map, take}
+use Rattle.std.proofs.Common.{◌≡◌, take}
 use Rattle.su_schema.specs.SchemaValue.{column_names}
 use Rattle.su_session.proofs.showing.names.Given as goal
 

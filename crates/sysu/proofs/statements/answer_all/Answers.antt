@@ -17,7 +17,7 @@ loop-span-preserved g c =
       took = took_more c.args.script.now c.as_slice-span-items.result.now _ c.loop-span.session _ _ _ _ pieces
           (Contains-get_or c.as_slice-span-items.result.now c.loop-span.span-index _ c.loop-span-test.true) inv.took ends.2;
       so_far = rw (← ends.3.2) (one_more _ c.args.script.now c.as_slice-span-items.result.now c.loop-span.span-index _ c.args.session c.loop-span.session c.answer_one.new.session c.loop-span.refused ends.3.1.file ends.3.0 _ _
-          c.loop-span-test.true inv.so_far ends.3.1.handed ends.3.1.replied _ ends.3.3);
+          c.loop-span-test.true inv.so_far ends.3.1.kept ends.3.1.handed ends.3.1.replied _ ends.3.3);
     }
 
 pub returns-in-Err-clause-ends : goal.returns-in-Err-clause-ends

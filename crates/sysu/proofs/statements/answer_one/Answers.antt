@@ -10,7 +10,7 @@ returns-in-Ok-write_all-clause-ends g c =
       h.1,
       (
         c.in-Ok.reply,
-        record { file = c.in_ok-file.file; handed = h.2; replied = rw c.bytes_of.ensures at c.in-Ok.ensures.replied },
+        record { file = c.in_ok-file.file; handed = h.2; replied = rw c.bytes_of.ensures at c.in-Ok.ensures.replied; kept = c.step.ensures.kept },
         refl,
         rw c.as_slice.ensures at c.in-Ok-write_all.ensures.ok,
       ),
@@ -24,7 +24,7 @@ returns-clause-ends g c =
       h.1,
       (
         c.in-Ok.reply,
-        record { file = c.in_ok-file.file; handed = h.2; replied = rw c.bytes_of.ensures at c.in-Ok.ensures.replied },
+        record { file = c.in_ok-file.file; handed = h.2; replied = rw c.bytes_of.ensures at c.in-Ok.ensures.replied; kept = c.step.ensures.kept },
         rw c.as_slice.ensures at c.in-Err.ensures.err,
       ),
     )

@@ -1,4 +1,4 @@
-use Rattle.std.proofs.Common.{◌≡◌, IfOk, Err, inl, inr, ap, sym, subst}
+use Rattle.std.proofs.Common.{IfOk, Err, inl, inr, ap, subst}
 use Rattle.std.proofs.lemmas.Result.{IfOk-weaker}
 use Rattle.su_query.specs.declared.faults.QueryFault.TheVariants.{Syntax}
 use Rattle.su_state.specs.DatabaseValue.{DatabaseValue}

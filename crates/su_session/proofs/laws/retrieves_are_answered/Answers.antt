@@ -1,0 +1,5 @@
+use Rattle.su_session.proofs.Retrieved.{retrieves_answered}
+use Rattle.su_session.proofs.laws.retrieves_are_answered.Goals as goal
+
+pub returns : goal.returns
+returns c = retrieves_answered

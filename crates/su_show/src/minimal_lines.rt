@@ -1,0 +1,168 @@
+//! The lines of what is kept of a term.
+ghost use Rattle.std.specs.Prelude.{◌≡◌, ◌++◌, ◌<◌, ◌↔◌, [], IsTrue, length, Contains, OnOk, codes, decimal};
+ghost use Rattle.std.specs.Int.{bit_at};
+ghost use Rattle.su_tableau.specs.Parts.{keep_if};
+ghost use Rattle.su_map.specs.Lists.{rows_in};
+ghost use Rattle.su_show.specs.Lines.{Adds, AreLines};
+ghost use Rattle.su_show.specs.Explaining.{numbers_text, minimal_lines, cover_line, cover_of, cover_text, sources_line, IsSourcesLine, IsEnd};
+
+use crate::parts::{push, push_number};
+use crate::tableau_lines::push_numbers;
+use crate::values::push_objects;
+use std::alloc::Global;
+use su_base::{NoMemory, ObjSet};
+use su_min::{Cover, Minimal, Reduced};
+use su_schema::Schema;
+use su_steps::sources;
+use su_tableau::has;
+
+// A row behind a space, if it is in the mask.
+fn push_row_in(alloc: Global, out: &mut Vec<u8>, mask: u64, row: usize) -> Result<(), NoMemory>
+    requires { row < 64 }
+    ensures { OnOk result (out.new.items ≡ out.old.items ++ numbers_text (keep_if (bit_at mask row) row [])) }
+{
+    if has(mask, row) {
+        push(out, " ")?;
+        push_number(alloc, out, row as u64)?;
+    }
+    Ok(())
+}
+
+// The kept rows, each behind a space.
+fn push_kept_rows(alloc: Global, out: &mut Vec<u8>, minimal: &Minimal) -> Result<(), NoMemory>
+    ensures { OnOk result (out.new.items ≡ out.old.items ++ numbers_text (rows_in minimal.now.tableau minimal.now.mask)) }
+{
+    for row in 0..minimal.tableau().row_count() {
+        push_row_in(alloc, out, minimal.mask(), row)?;
+    }
+    Ok(())
+}
+
+// The kept rows, and the row to which each goes.
+pub(crate) fn push_minimal(
+    alloc: Global,
+    out: &mut Vec<u8>,
+    minimal: &Minimal,
+) -> Result<(), NoMemory>
+    ensures { OnOk result (out.new.items ≡ out.old.items ++ minimal_lines minimal.now) }
+{
+    push(out, "  kept")?;
+    push_kept_rows(alloc, out, minimal)?;
+    push(out, "\n  fold")?;
+    push_numbers(alloc, out, minimal.fold())?;
+    push(out, "\n")
+}
+
+// The line of a row's sources.
+fn push_sources_line(
+    alloc: Global,
+    out: &mut Vec<u8>,
+    schema: &Schema,
+    row: usize,
+    found: ObjSet,
+) -> Result<(), NoMemory>
+    ensures { OnOk result (out.new.items ≡ out.old.items ++ sources_line schema.now row found) }
+{
+    push(out, "  sources ")?;
+    push_number(alloc, out, row as u64)?;
+    push_objects(alloc, out, schema, found)?;
+    push(out, "\n")
+}
+
+// The sources of a kept row.
+fn push_sources(
+    alloc: Global,
+    out: &mut Vec<u8>,
+    schema: &Schema,
+    minimal: &Minimal,
+    row: usize,
+) -> Result<(), NoMemory>
+    requires row { row < length minimal.now.tableau.rows }
+    requires kept { bit_at minimal.now.mask row ≡ 1 }
+    ensures { OnOk result (Adds (IsSourcesLine schema.now minimal.now row) out.old.items out.new.items) }
+{
+    let found = sources(schema, minimal.tableau(), minimal.mask(), row);
+    push_sources_line(alloc, out, schema, row, found)
+}
+
+// The sources of each kept row.
+fn push_all_sources(
+    alloc: Global,
+    out: &mut Vec<u8>,
+    schema: &Schema,
+    minimal: &Minimal,
+) -> Result<(), NoMemory>
+    ensures { OnOk result (Adds (AreLines (IsSourcesLine schema.now minimal.now) (rows_in minimal.now.tableau minimal.now.mask)) out.old.items out.new.items) }
+{
+    let rows = minimal.tableau().row_count();
+    for row in 0..rows {
+        if has(minimal.mask(), row) {
+            push_sources(alloc, out, schema, minimal, row)?;
+        }
+    }
+    Ok(())
+}
+
+// The number of the term that covers another.
+fn push_covering(alloc: Global, out: &mut Vec<u8>, by: u16) -> Result<(), NoMemory>
+    ensures { OnOk result (out.new.items ≡ out.old.items ++ codes "  covered by term " ++ decimal by) }
+{
+    push(out, "  covered by term ")?;
+    push_number(alloc, out, by as u64)
+}
+
+fn push_cover(alloc: Global, out: &mut Vec<u8>, cover: &Cover) -> Result<(), NoMemory>
+    ensures { OnOk result (out.new.items ≡ out.old.items ++ cover_line cover.now) }
+{
+    push_covering(alloc, out, cover.by)?;
+    push(out, " rows")?;
+    push_numbers(alloc, out, cover.mapping.list())?;
+    push(out, "\n")
+}
+
+// The cover of the term with this number; nothing where it has none.
+fn push_cover_of(
+    alloc: Global,
+    out: &mut Vec<u8>,
+    reduced: &Reduced,
+    number: usize,
+) -> Result<(), NoMemory>
+    ensures { OnOk result (out.new.items ≡ out.old.items ++ cover_text (cover_of reduced.now number)) }
+{
+    for cover in reduced.covers.as_slice() {
+        if cover.dropped as usize == number {
+            return push_cover(alloc, out, cover);
+        }
+    }
+    Ok(())
+}
+
+// Whether the term with this number is kept.
+fn is_kept(reduced: &Reduced, number: usize) -> bool
+    ensures { IsTrue result ↔ Contains reduced.now.kept number }
+{
+    for kept in reduced.kept.as_slice() {
+        if *kept as usize == number {
+            return true;
+        }
+    }
+    false
+}
+
+// The sources of the kept rows of a kept term, or the cover of a dropped one.
+pub(crate) fn push_end(
+    alloc: Global,
+    out: &mut Vec<u8>,
+    schema: &Schema,
+    reduced: &Reduced,
+    number: usize,
+    minimal: &Minimal,
+) -> Result<(), NoMemory>
+    ensures { OnOk result (Adds (IsEnd schema.now reduced.now number minimal.now) out.old.items out.new.items) }
+{
+    if is_kept(reduced, number) {
+        push_all_sources(alloc, out, schema, minimal)
+    } else {
+        push_cover_of(alloc, out, reduced, number)
+    }
+}
