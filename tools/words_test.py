@@ -10,7 +10,7 @@ WORD = re.compile(r"[a-z]+")
 def reserved():
     with open("docs/GRAMMAR.md", encoding="utf-8") as file:
         text = file.read()
-    return sorted(WORD.findall(text.split("Reserved are\n\n")[1].split("\n\n")[1]))
+    return sorted(WORD.findall(text.split("Reserved are\n\n")[1].split("\n\n")[0]))
 
 
 def of_vim():
