@@ -1,9 +1,9 @@
 -- Laws of growths and maximal objects, for any dependencies and any objects.
-use Rattle.std.specs.Prelude.{◌≡◌, ℕ, List}
+use Rattle.std.specs.Prelude.{◌≡◌, ◌≤◌, ℕ, List, length}
 use Rattle.std.specs.Ordering.{nat_cmp}
 use Rattle.std.specs.FinSet.{FinSet}
 use Rattle.su_fd.specs.declared.Fd.{Fd}
-use Rattle.su_schema.specs.SchemaValue.{SchemaValue}
+use Rattle.su_schema.specs.SchemaValue.{SchemaValue, IsValid}
 use Rattle.su_maxobj.specs.Growth.{IsFull, IsGrowth}
 use Rattle.su_maxobj.specs.MaximalObjects.{AreMaximalObjects}
 
@@ -15,3 +15,7 @@ GrowthIsUnique =
 
 abbrev pub MaximalObjectsAreUnique : Type 0
 MaximalObjectsAreUnique = (schema : SchemaValue) (sets other : List (FinSet nat_cmp)) → AreMaximalObjects schema sets → AreMaximalObjects schema other → other ≡ sets
+
+-- a valid schema has at most 64 declared sets and 64 seeds
+abbrev pub MaximalObjectsAreFew : Type 0
+MaximalObjectsAreFew = (schema : SchemaValue) (sets : List (FinSet nat_cmp)) → IsValid schema → AreMaximalObjects schema sets → length sets ≤ 128

@@ -79,6 +79,7 @@ pub fn grown(schema: &Schema, seed: u8) -> ObjSet
 pub fn maximal_objects(alloc: Global, schema: &Schema) -> Result<List<ObjSet>, NoMemory>
     ensures list { IfOk result (AreMaximalObjects schema.now) }
     ensures declared_first { IfOk result (λ sets. take (length schema.now.declared) sets ≡ schema.now.declared) }
+    ensures few { IfOk result (λ sets. length sets ≤ 128) }
 {
     schema.keeps_its_rules();
     let mut sets = [AttrSet::empty(); 64];

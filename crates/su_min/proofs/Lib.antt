@@ -7,6 +7,7 @@ pub mod Picking
 pub mod Telling
 pub mod Numbering
 pub mod Holes
+pub mod KeptTerms
 pub mod Spared
 pub mod Likeness
 pub mod Rowing

@@ -1,6 +1,5 @@
 -- No kept term of a class can be spared: freeze it, find the tableau of the list that gives its head, freeze that one, and find the term of the class that gives its head.
-use Rattle.std.proofs.Common.{◌≡◌, ◌<◌, ◌≤◌, ◌+◌, ◌∙◌, ℕ, zero, suc, Bool, true, false, List, [], ◌∷◌, length, get_or, All, Contains, sym, subst, inl, inr, ⊎_elim, arith, true≢false}
-use Rattle.std.proofs.lemmas.Bool.{cases_Bool, cases_lt}
+use Rattle.std.proofs.Common.{◌≡◌, ◌<◌, ◌≤◌, ◌+◌, ◌∙◌, ℕ, zero, suc, List, [], ◌∷◌, length, get_or, All, Contains, sym, subst, arith}
 use Rattle.std.proofs.lemmas.List.{get_or_default}
 use Rattle.std.proofs.lemmas.List.Elements.{All-contains, recursion_from_All}
 use Rattle.su_tableau.specs.Tableaux.{Tab, IsValid}
@@ -15,12 +14,12 @@ use Rattle.su_tableau.proofs.Sets.{choose, zip-at}
 use Rattle.su_map.proofs.Containing.{list_maps, maps_list}
 use Rattle.su_min.specs.Kept.{Minimised, IsMinimised}
 use Rattle.su_min.specs.Cover.{AreAlike, Covers}
-use Rattle.su_min.specs.Reduction.{term_at, IsKeptTerm, IsListOf}
-use Rattle.su_min.specs.Matrix.{entry, IsMatrix}
+use Rattle.su_min.specs.Reduction.{term_at, IsKeptTerm, IsListOf, IsReduced}
+use Rattle.su_min.specs.declared.reduced.Reduced.{Reduced}
 use Rattle.su_min.specs.Needed.{tableau_at, IsInClass, HasAnswersOf, HasMember, AreNeeded}
 use Rattle.su_min.proofs.Parts.{part_maps, into_maps}
 use Rattle.su_min.proofs.Covering.{alike_back, alike_through}
-use Rattle.su_min.proofs.Telling.{tells}
+use Rattle.su_min.proofs.KeptTerms.{kept_back}
 use Rattle.su_min.proofs.Holes.{pigeonhole}
 
 -- ---- a bound on all constants
@@ -56,21 +55,7 @@ whole_covers one other is alike f =
 both_ways : (kinds : Kinds) (s t : Tab) → Maps s t → Maps t s → IsEquivalent kinds s t
 both_ways kinds s t f g universe h is = (maps_within kinds t s g universe h is, maps_within kinds s t f universe h is)
 
-module _ (terms : List Minimised) (matrix : List (List Bool)) (m : IsMatrix terms matrix) where
-  -- what covers a kept term is covered by it, and is no earlier
-  kept_back : (i : ℕ) → IsKeptTerm terms i → (j : ℕ) → j < length terms → Covers (term_at terms j) (term_at terms i) → Covers (term_at terms i) (term_at terms j) × (i ≤ j)
-  kept_back i kept j h c = (
-    ⊎_elim
-        (λ (one : entry matrix i j ≡ true). (tells terms matrix m i j kept.below h).0 one)
-        (λ (other : entry matrix i j ≡ false).
-        absurd (kept.stays (record { other = j; below = h; covers = c; why = inl (λ d. let one = (tells terms matrix m i j kept.below h).1 d in true≢false (sym one ∙ other)) })))
-        (cases_Bool (entry matrix i j)),
-    ⊎_elim
-        (λ (lt : j < i). absurd (kept.stays (record { other = j; below = h; covers = c; why = inr lt })))
-        (λ (le : i ≤ j). le)
-        (cases_lt j i),
-  )
-
+module _ (terms : List Minimised) (all_minimised : All IsMinimised terms) (r : Reduced) (reduced : IsReduced terms r) where
   module _ (kinds : Kinds) (typed : All (λ x. IsTyped kinds x.tableau) terms) (c : ℕ) where
     typed_at : (i : ℕ) → i < length terms → IsTyped kinds (tableau_at terms i)
     typed_at i h = typed i (term_at [] 0) h
@@ -79,13 +64,13 @@ module _ (terms : List Minimised) (matrix : List (List Bool)) (m : IsMatrix term
     class_alike i j a b = alike_through (tableau_at terms i) (tableau_at terms c) (tableau_at terms j) (alike_back (tableau_at terms c) (tableau_at terms i) a.alike) b.alike
 
     minimised : (i : ℕ) → i < length terms → IsMinimised (term_at terms i)
-    minimised i h = (m.row i h).minimised
+    minimised i h = all_minimised i (term_at [] 0) h
 
     -- mappings of a term of the class to a kept one go back
     back : (i j : ℕ) → IsKeptTerm terms i → IsInClass terms c i → IsInClass terms c j → Maps (tableau_at terms j) (tableau_at terms i) → Maps (tableau_at terms i) (tableau_at terms j) × (i ≤ j)
     back i j kept ci cj f =
         let covers = whole_covers (term_at terms j) (term_at terms i) (minimised i ci.below) (class_alike j i cj ci) f in
-        let b = kept_back i kept j cj.below covers in
+        let b = kept_back terms r reduced i kept j cj.below covers in
         (covers_whole (term_at terms i) (term_at terms j) (minimised i ci.below) b.0, b.1)
 
     kept_apart : (i j : ℕ) → IsKeptTerm terms i → IsKeptTerm terms j → IsInClass terms c i → IsInClass terms c j → IsEquivalent kinds (tableau_at terms i) (tableau_at terms j) → i ≡ j
@@ -162,8 +147,8 @@ module _ (terms : List Minimised) (matrix : List (List Bool)) (m : IsMatrix term
           absurd (omega arith))
 
       -- what the list of the kept terms says of the class
-      pub needed : (kept : List ℕ) → IsListOf (IsKeptTerm terms) (length terms) kept → AreNeeded kinds terms kept c tableaux
-      needed kept list = record {
+      pub needed : AreNeeded kinds terms r.kept c tableaux
+      needed = let list = reduced.kept in record {
         members = λ i h ci. kept_member i ((list.members i).0 h).1 ci;
         apart = λ i j hi hj ci cj same. kept_apart i j ((list.members i).0 hi).1 ((list.members j).0 hj).1 ci cj same;
         count = λ numbers l. kept_count numbers (record {

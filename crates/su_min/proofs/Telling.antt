@@ -1,7 +1,8 @@
 -- What the matrix tells of the terms.
-use Rattle.std.proofs.Common.{◌≡◌, ◌<◌, ◌≤◌, ◌↔◌, ◌∙◌, ℕ, Bool, true, false, List, length, sym, inl, inr, ⊎_elim, arith, true≢false}
+use Rattle.std.proofs.Common.{◌≡◌, ◌<◌, ◌≤◌, ◌↔◌, ◌∙◌, ℕ, Bool, true, false, List, [], length, All, sym, subst, inl, inr, ⊎_elim, arith, true≢false}
 use Rattle.std.proofs.lemmas.Bool.{cases_Bool, cases_lt}
-use Rattle.su_min.specs.Kept.{Minimised}
+use Rattle.std.proofs.lemmas.List.{get_or_default}
+use Rattle.su_min.specs.Kept.{Minimised, IsMinimised}
 use Rattle.su_min.specs.Cover.{Covers}
 use Rattle.su_min.specs.Reduction.{term_at, IsDropped, IsKeptTerm, IsLeastCover}
 use Rattle.su_min.specs.Matrix.{entry, IsSquare, IsMatrix, IsDroppedIn, IsPreorder, IsFirstCover}
@@ -10,6 +11,9 @@ use Rattle.su_min.proofs.Covering.{covers_itself, covers_through}
 module _ (terms : List Minimised) (matrix : List (List Bool)) (m : IsMatrix terms matrix) where
   pub tells : (j i : ℕ) → j < length terms → i < length terms → (entry matrix j i ≡ true) ↔ Covers (term_at terms j) (term_at terms i)
   tells j i hj hi = (m.row j hj).tells i hi
+
+  pub all_minimised : All IsMinimised terms
+  all_minimised = λ i d h. subst IsMinimised (get_or_default terms i (term_at [] 0) d h) (m.row i h).minimised
 
   pub is_square : IsSquare matrix
   is_square = record { columns = λ j h. let e = m.rows in (m.row j (omega arith)).columns ∙ sym m.rows }

@@ -3,3 +3,4 @@ pub mod Cover
 pub mod Reduction
 pub mod Matrix
 pub mod Needed
+pub mod Laws

@@ -12,6 +12,7 @@
 mod alike;
 mod crossing;
 mod kept;
+pub mod laws;
 mod matrix;
 mod minimal;
 mod reduced;

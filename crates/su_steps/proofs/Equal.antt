@@ -9,7 +9,7 @@ use Rattle.su_query.specs.declared.places.Place.{Place}
 use Rattle.su_steps.specs.declared.building.Head.{Head}
 use Rattle.su_steps.specs.declared.classes.Together.{Together}
 use Rattle.su_steps.specs.Classes.{Compared, compared, comparisons}
-use Rattle.su_steps.specs.Terms.{is_evaluated, left_over, sides, IsFalse}
+use Rattle.su_steps.specs.Terms.{is_evaluated, left_over, sides, EvaluatesFalse}
 use Rattle.su_steps.specs.Heads.{with_compared, head_of, IsSomeFalse, IsNoneFalse}
 use Rattle.su_steps.specs.Numbers.{number_of, is_equality, equals}
 use Rattle.su_steps.proofs.Lists.{contains_map, of_map}
@@ -70,22 +70,22 @@ head_more name outputs n places ls i l before next h is so e =
 
 -- ---- comparisons that are evaluated and false
 
-pub some_false : (name : Sym → Sym) (n : ℕ) (places : List Place) (ls : List Literal) (i : ℕ) (l : Literal) → i < length ls → l ≡ get_or ls i l → IsFalse name (compared n places l) → IsSomeFalse name (comparisons n places ls)
+pub some_false : (name : Sym → Sym) (n : ℕ) (places : List Place) (ls : List Literal) (i : ℕ) (l : Literal) → i < length ls → l ≡ get_or ls i l → EvaluatesFalse name (compared n places l) → IsSomeFalse name (comparisons n places ls)
 some_false name n places ls i l h is f = (compared n places l, contains_map (compared n places) ls l (i, h, sym is), f)
 
-pub none_more : (name : Sym → Sym) (n : ℕ) (places : List Place) (ls : List Literal) (i : ℕ) (l : Literal) → i < length ls → l ≡ get_or ls i l → ((k : ℕ) (d : Literal) → k < i → ¬ IsFalse name (compared n places (get_or ls k d))) → ¬ IsFalse name (compared n places l)
-    → (k : ℕ) (d : Literal) → k < i + 1 → ¬ IsFalse name (compared n places (get_or ls k d))
+pub none_more : (name : Sym → Sym) (n : ℕ) (places : List Place) (ls : List Literal) (i : ℕ) (l : Literal) → i < length ls → l ≡ get_or ls i l → ((k : ℕ) (d : Literal) → k < i → ¬ EvaluatesFalse name (compared n places (get_or ls k d))) → ¬ EvaluatesFalse name (compared n places l)
+    → (k : ℕ) (d : Literal) → k < i + 1 → ¬ EvaluatesFalse name (compared n places (get_or ls k d))
 none_more name n places ls i l h is before here k d below =
     ⊎_elim
     (λ (lt : k < i). before k d lt)
-    (λ (ge : i ≤ k). let e : i ≡ k = omega arith in subst (λ (x : Literal). ¬ IsFalse name (compared n places x)) (is ∙ get_or_default ls i l d h ∙ ap (λ j. get_or ls j d) e) here)
+    (λ (ge : i ≤ k). let e : i ≡ k = omega arith in subst (λ (x : Literal). ¬ EvaluatesFalse name (compared n places x)) (is ∙ get_or_default ls i l d h ∙ ap (λ j. get_or ls j d) e) here)
     (cases_lt k i)
 
-pub none_all : (name : Sym → Sym) (n : ℕ) (places : List Place) (ls : List Literal) (i : ℕ) → length ls ≤ i → ((k : ℕ) (d : Literal) → k < i → ¬ IsFalse name (compared n places (get_or ls k d))) → IsNoneFalse name (comparisons n places ls)
+pub none_all : (name : Sym → Sym) (n : ℕ) (places : List Place) (ls : List Literal) (i : ℕ) → length ls ≤ i → ((k : ℕ) (d : Literal) → k < i → ¬ EvaluatesFalse name (compared n places (get_or ls k d))) → IsNoneFalse name (comparisons n places ls)
 none_all name n places ls i l before c has =
     let w = of_map (compared n places) ls c has in
-    let at : ¬ IsFalse name (compared n places w.0) = subst (λ (x : Literal). ¬ IsFalse name (compared n places x)) w.1.2 (before w.1.0 w.0 (let k = w.1.1 in omega arith)) in
-    subst (λ (c : Compared). ¬ IsFalse name c) w.2 at
+    let at : ¬ EvaluatesFalse name (compared n places w.0) = subst (λ (x : Literal). ¬ EvaluatesFalse name (compared n places x)) w.1.2 (before w.1.0 w.0 (let k = w.1.1 in omega arith)) in
+    subst (λ (c : Compared). ¬ EvaluatesFalse name c) w.2 at
 
 pub head_all : (name : Sym → Sym) (outputs : List Sym) (n : ℕ) (places : List Place) (ls : List Literal) (i : ℕ) (head : Head) → length ls ≤ i → head ≡ head_of name outputs (comparisons n places (take i ls)) → head ≡ head_of name outputs (comparisons n places ls)
 head_all name outputs n places ls i head l e = e ∙ ap (λ xs. head_of name outputs (comparisons n places xs)) (take_all i ls l)

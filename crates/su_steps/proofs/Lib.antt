@@ -32,3 +32,4 @@ pub mod Built
 pub mod Closed
 pub mod Termed
 pub mod Origins
+pub mod Validity

@@ -14,7 +14,7 @@ use Rattle.su_steps.specs.declared.rows.Binding.{Binding}
 use Rattle.su_steps.specs.declared.classes.Together.{Together}
 use Rattle.su_steps.specs.Objects.{width, attributes_at, LiesIn}
 use Rattle.su_steps.specs.Classes.{Compared, SameLabels, IsClosed, InClass, IsFrom, IsNaming}
-use Rattle.su_steps.specs.Terms.{IsFalse, IsContradictory}
+use Rattle.su_steps.specs.Terms.{EvaluatesFalse, IsContradictory}
 use Rattle.su_steps.specs.Tables.{IsBoundBy, AreBindings, Layout, layout, item, SameAt, KeepsAll, IsKept, rep, IsTable, IsLeast}
 use Rattle.su_steps.proofs.Lists.{of_map, contains_map}
 use Rattle.su_steps.proofs.Raw.{AreWithin}
@@ -164,9 +164,9 @@ same_const a b h = cc
 
 module _ (schema : SchemaValue) (os : List Origin) (d : List Compared) (name : Sym → Sym) (naming : IsNaming schema os d name) where
   -- two constants with different names of their own are in different classes
-  pub no_clash : ((a : Value) → name (Const a) ≡ Const a) → ((c : Compared) → Contains d c → ¬ IsFalse name c) → ¬ IsContradictory schema os d name
+  pub no_clash : ((a : Value) → name (Const a) ≡ Const a) → ((c : Compared) → Contains d c → ¬ EvaluatesFalse name c) → ¬ IsContradictory schema os d name
   no_clash own none bad =
       ⊎_elim
       (λ (b : (a : Value) × (c : Value) × (a ≢ c) × InClass schema os d (Const a) (Const c)). b.2 (same_const b.0 b.1 (sym (own b.0) ∙ naming.one_name (Const b.0) (Const b.1) b.3 ∙ own b.1)))
-      (λ (b : (c : Compared) × Contains d c × IsFalse name c). none b.0 b.1 b.2)
+      (λ (b : (c : Compared) × Contains d c × EvaluatesFalse name c). none b.0 b.1 b.2)
       bad

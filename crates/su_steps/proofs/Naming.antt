@@ -22,7 +22,7 @@ use Rattle.su_steps.specs.Objects.{width, attributes_at}
 use Rattle.su_steps.specs.Expression.{Agree, Meets}
 use Rattle.su_steps.specs.Choices.{origins_from}
 use Rattle.su_steps.specs.Classes.{Compared, IsClosed, InClass, IsNaming}
-use Rattle.su_steps.specs.Terms.{is_evaluated, outcome, left_over, sides, IsFalse, IsContradictory}
+use Rattle.su_steps.specs.Terms.{is_evaluated, outcome, left_over, sides, EvaluatesFalse, IsContradictory}
 use Rattle.su_steps.proofs.Comparing.{compare_itself, compare_same, same_or}
 use Rattle.su_steps.proofs.Lists.{map_twice, all_at, all_by, all_map, all_of_map, all_weaker}
 use Rattle.su_steps.proofs.Cells.{raw_rows, Sent, IsAt, rows_at}
@@ -182,7 +182,7 @@ module _ (schema : SchemaValue) (universe : List (List Value)) (choice : List (L
       let same = one_value schema universe choice d meets fit w r.sends r.holds in
       ⊎_elim
       (λ (b : (a : Value) × (c : Value) × (a ≢ c) × InClass schema (origins_from 0 choice) d (Const a) (Const c)). b.2 (same (Const b.0) (Const b.1) b.3))
-      (λ (b : (c : Compared) × Contains d c × IsFalse name c).
+      (λ (b : (c : Compared) × Contains d c × EvaluatesFalse name c).
       let c = b.0 in
       let t = all_at (λ c. compares c.op (value_of w c.left) (value_of w c.right) ≡ true) d c r.holds b.1 in
       let o = outcome_is w c.op (name c.left) (name c.right) b.2.0 in

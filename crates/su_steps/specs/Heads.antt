@@ -3,7 +3,7 @@ use Rattle.std.specs.Prelude.{List, [], ◌++◌, map, Contains}
 use Rattle.su_tableau.specs.declared.symbols.Sym.{Sym}
 use Rattle.su_steps.specs.declared.building.Head.{Head}
 use Rattle.su_steps.specs.Classes.{Compared}
-use Rattle.su_steps.specs.Terms.{left_over, sides, IsFalse}
+use Rattle.su_steps.specs.Terms.{left_over, sides, EvaluatesFalse}
 
 -- the head with the comparisons that are left
 abbrev pub with_compared : (Sym → Sym) → Head → List Compared → Head
@@ -15,8 +15,8 @@ head_of name outputs cs = with_compared name (record { symbols = outputs; operat
 
 -- some comparison is evaluated and false
 abbrev pub IsSomeFalse : (Sym → Sym) → List Compared → Type 0
-IsSomeFalse name cs = (c : Compared) × Contains cs c × IsFalse name c
+IsSomeFalse name cs = (c : Compared) × Contains cs c × EvaluatesFalse name c
 
 -- no comparison is evaluated and false
 abbrev pub IsNoneFalse : (Sym → Sym) → List Compared → Type 0
-IsNoneFalse name cs = (c : Compared) → Contains cs c → ¬ IsFalse name c
+IsNoneFalse name cs = (c : Compared) → Contains cs c → ¬ EvaluatesFalse name c

@@ -10,3 +10,4 @@ pub mod Tables
 pub mod Numbers
 pub mod Heads
 pub mod Ready
+pub mod Laws

@@ -46,8 +46,8 @@ sides [] = []
 sides (c ∷ cs) = c.left ∷ c.right ∷ sides cs
 
 -- the comparison is evaluated and false
-abbrev pub IsFalse : (Sym → Sym) → Compared → Type 0
-IsFalse name c = IsTrue (is_evaluated (name c.left) (name c.right)) × (outcome c.op (name c.left) (name c.right) ≡ false)
+abbrev pub EvaluatesFalse : (Sym → Sym) → Compared → Type 0
+EvaluatesFalse name c = IsTrue (is_evaluated (name c.left) (name c.right)) × (outcome c.op (name c.left) (name c.right) ≡ false)
 
 -- ---- the tableau
 
@@ -86,7 +86,7 @@ comparisons_of schema q i = comparisons (width schema) q.places (get_or (disjunc
 
 -- two different constants are in one class, or a comparison is evaluated and false
 abbrev pub IsContradictory : SchemaValue → List Origin → List Compared → (Sym → Sym) → Type 0
-IsContradictory schema os d name = ((a : Value) × (b : Value) × (a ≢ b) × InClass schema os d (Const a) (Const b)) ⊎ ((c : Compared) × Contains d c × IsFalse name c)
+IsContradictory schema os d name = ((a : Value) × (b : Value) × (a ≢ b) × InClass schema os d (Const a) (Const b)) ⊎ ((c : Compared) × Contains d c × EvaluatesFalse name c)
 
 -- rows of these origins with these comparisons have no tableau
 pub record HaveNone (schema : SchemaValue) (os : List Origin) (d : List Compared) : Type 0 where

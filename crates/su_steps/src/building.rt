@@ -6,7 +6,7 @@ ghost use Rattle.su_tableau.specs.declared.symbols.Sym.TheVariants.{Var};
 ghost use Rattle.su_steps.specs.declared.building.Head.{Head as AHead};
 ghost use Rattle.su_steps.specs.Objects.{width, attributes_at};
 ghost use Rattle.su_steps.specs.Classes.{pair, place_symbol, compared, comparisons};
-ghost use Rattle.su_steps.specs.Terms.{is_evaluated, outcome, left_over, sides, row_of, rows_of, IsFalse};
+ghost use Rattle.su_steps.specs.Terms.{is_evaluated, outcome, left_over, sides, row_of, rows_of, EvaluatesFalse};
 ghost use Rattle.su_steps.specs.Numbers.{class_name, AreClasses};
 ghost use Rattle.su_steps.specs.Heads.{with_compared, head_of, IsSomeFalse, IsNoneFalse};
 
@@ -130,8 +130,8 @@ fn push_compared(
     requires classes { AreClasses variables classes.now }
     requires places { HasPlacesBelow (length places.now) literal.now }
     requires pairs { All (λ p. (p.variable < variables) × (p.attribute < classes.now.width)) places.now }
-    ensures is_false { IfOk result (λ b. b ≡ false → IsFalse (class_name (variables * classes.now.width) classes.now) (compared classes.now.width places.now literal.now)) }
-    ensures not_false { IfOk result (λ b. b ≡ true → ¬ IsFalse (class_name (variables * classes.now.width) classes.now) (compared classes.now.width places.now literal.now)) }
+    ensures is_false { IfOk result (λ b. b ≡ false → EvaluatesFalse (class_name (variables * classes.now.width) classes.now) (compared classes.now.width places.now literal.now)) }
+    ensures not_false { IfOk result (λ b. b ≡ true → ¬ EvaluatesFalse (class_name (variables * classes.now.width) classes.now) (compared classes.now.width places.now literal.now)) }
     ensures pushed { IfOk result (λ b. b ≡ true → head.new ≡ with_compared (class_name (variables * classes.now.width) classes.now) head.old (comparisons classes.now.width places.now (literal.now ∷ []))) }
 {
     let left = classes.operand_name(alloc, variables, places, &literal.left)?;

@@ -1,6 +1,6 @@
 use Rattle.std.proofs.Common.{◌∙◌, ◌+◌, ◌<◌, length, true≢false, sym, subst, arith}
 use Rattle.su_min.specs.Matrix.{entry, IsMatrix, IsDroppedIn, AreMarks}
-use Rattle.su_min.proofs.Telling.{is_preorder, dropped_from, kept_from, least_cover}
+use Rattle.su_min.proofs.Telling.{all_minimised, is_preorder, dropped_from, kept_from, least_cover}
 use Rattle.su_min.proofs.Spared.{needed}
 use Rattle.su_min.proofs.Stepping.{AreReduced, one_kept, one_dropped, all_reduced}
 use Rattle.su_min.proofs.reducing.reduce.Goals as goal
@@ -41,4 +41,4 @@ returns-clause-needed g c = λ kinds k tableaux typed typed_list answers.
     let terms = c.args.terms.now in let matrix = c.as_slice-matrix.result.now in
     let m : IsMatrix terms matrix = subst (IsMatrix terms) (sym c.as_slice-matrix.ensures.value) c.in_ok-matrix.ensures in
     let r = all_reduced terms c.loop-i.i c.loop-i.kept c.loop-i.covers (omega arith) c.loop-i.invariant in
-    needed terms matrix m kinds typed k tableaux typed_list answers c.loop-i.kept r.kept
+    needed terms (all_minimised terms matrix m) _ r kinds typed k tableaux typed_list answers

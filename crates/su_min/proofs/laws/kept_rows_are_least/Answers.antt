@@ -1,0 +1,5 @@
+use Rattle.su_min.proofs.Least.{kept_least_part}
+use Rattle.su_min.proofs.laws.kept_rows_are_least.Goals as goal
+
+pub returns : goal.returns
+returns c = λ kinds t m valid typed kept. kept_least_part kinds t m valid kept typed

@@ -1,0 +1,5 @@
+use Rattle.su_min.proofs.KeptTerms.{kept_or_covered}
+use Rattle.su_min.proofs.laws.terms_are_kept_or_covered.Goals as goal
+
+pub returns : goal.returns
+returns c = λ terms r reduced i low. kept_or_covered terms r reduced i low
