@@ -294,9 +294,9 @@ def is_adjoinable(schema, members, o):
 
 def grown(schema, seed):
     """From a seed the first adjoinable object in declaration order is adjoined, until there is none."""
-    members = {seed}
-    while found := [o for o in range(len(schema.objects)) if is_adjoinable(schema, members, o)]:
-        members = members | {found[0]}
+    members, objects = {seed}, range(len(schema.objects))
+    while (o := next((o for o in objects if is_adjoinable(schema, members, o)), None)) is not None:
+        members = members | {o}
     return members
 
 def maximal_objects(schema):
