@@ -213,7 +213,7 @@ def is_small(schema, maximal, text):
     for mentioned in found.mentioned:
         sizes = [len(members) for members in maximal if mentioned <= model.attributes_of(schema, members)]
         rows, choices = rows + max(sizes, default=0), choices * len(sizes)
-    return choices == 0 or choices <= 16 and rows <= 8
+    return choices <= 16 and choices << rows <= 2048
 
 
 def csv_file(draw, columns):
@@ -262,8 +262,8 @@ def hostile(draw, statement):
         elif what < 0.75:
             data[at:at] = draw.choice([
                 b"'", b"''", b"--", b";", b"\0", b"\xff", b"\xef\xbb\xbf", b"(", b")", b",", b".", b"-", b"->", b"=",
-                b"!", b"<>", b"0", b"a", b" ", b"\t", b"\r", b"\x0b", b"\xc2\xa0", b"'\xff'", b"--\xff\n", b"+1", b"9" * 20,
-                b"not ", b"where "])
+                b"!", b"<>", b"0", b"a", b" ", b"\t", b"\r", b"\x0b", b"\xc2\xa0", b"'\xff'", b"--\xff\n", b"+1",
+                b"9" * 20, b"not ", b"where "])
         else:
             words = bytes(data).split(b" ")
             draw.shuffle(words)
