@@ -9,7 +9,9 @@ use Rattle.su_steps.specs.declared.results.Term.{Term}
 use Rattle.su_min.specs.declared.reduced.Reduced.{Reduced}
 use Rattle.su_min.specs.Kept.{Minimised}
 use Rattle.su_show.specs.Lines.{AreLines, Adds}
-use Rattle.su_show.specs.Explaining.{query_line, variables_line, tableau_lines, minimal_lines, last_line, IsEnd, IsTermText, IsExplanation}
+use Rattle.su_show.specs.Explaining.{query_line, variables_line, last_line, IsTermText, IsExplanation}
+use Rattle.su_show.specs.TableauLines.{tableau_lines}
+use Rattle.su_show.specs.MinimalLines.{minimal_lines, IsEnd}
 
 -- the element at a place
 pub slice_get-at : {A : Type 0} (xs : List A) (i : ℕ) (x : A) → i < length xs → x ≡ get_or xs i x → slice_get xs i ≡ Some x
@@ -30,10 +32,4 @@ module _ (schema : SchemaValue) (q : Resolved) (terms : List Term) (minimals : L
   -- the first line, the variables and the last line round the terms
   pub explained : (query : Query) (out new : List ℕ) → Adds (AreLines (IsTermText schema q terms minimals reduced) (range_with_len 0 (length terms))) (query_line query ++ variables_line q) out → new ≡ out ++ last_line terms reduced
       → IsExplanation schema query q terms minimals reduced new
-  explained query out new added e =
-      let last = last_line terms reduced in
-      record {
-        body = added.0;
-        terms_are = added.2;
-        is = e ∙ ap (λ s. s ++ last) added.1;
-      }
+  explained query out new added e = record { body = added.0; terms_are = added.2; is = e ∙ ap (λ s. s ++ last_line terms reduced) added.1 }

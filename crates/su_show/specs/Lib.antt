@@ -1,7 +1,9 @@
 pub mod Explaining
 pub mod Lines
+pub mod MinimalLines
 pub mod Refusals
 pub mod Refusing
 pub mod Replies
 pub mod Symbols
+pub mod TableauLines
 pub mod Values

@@ -1,5 +1,5 @@
 -- Names, values and dependencies as they stand in replies.
-use Rattle.std.specs.Prelude.{ℕ, List, ◌∷◌, ◌++◌, flat_map}
+use Rattle.std.specs.Prelude.{ℕ, List, ◌∷◌, ◌++◌, flat_map, decimal}
 use Rattle.std.specs.Ordering.{nat_cmp}
 use Rattle.std.specs.FinSet.{FinSet}
 use Rattle.su_base.specs.declared.values.Value.{Value}
@@ -15,6 +15,10 @@ use Rattle.su_query.specs.Shown.{in_parens, listed, value_symbols}
 -- each name behind a space
 abbrev pub behind_spaces : List (List ℕ) → List ℕ
 behind_spaces names = flat_map (λ name. 32 ∷ name) names
+
+-- each number behind a space
+abbrev pub numbers_text : List ℕ → List ℕ
+numbers_text numbers = flat_map (λ n. 32 ∷ decimal n) numbers
 
 -- the names of a set of attributes in the order of declaration, each behind a space
 abbrev pub attributes_text : SchemaValue → FinSet nat_cmp → List ℕ

@@ -1,5 +1,5 @@
 //! Explanations of queries, whole.
-ghost use Rattle.std.specs.Prelude.{◌≡◌, ◌≤◌, length, IfOk};
+ghost use Rattle.std.specs.Prelude.{◌≤◌, length};
 ghost use Rattle.su_query.specs.Ranges.{IsResolved};
 ghost use Rattle.su_query.specs.Reading.{AreFew, outputs_of, condition_of};
 
@@ -15,9 +15,7 @@ use su_schema::Schema;
 use su_steps::{Term, terms};
 
 /// Each term's tableau with its least rows.
-fn minimals(alloc: Global, terms: &[Term]) -> Result<List<Minimal>, Fail>
-    ensures { IfOk result (λ ms. length ms ≡ length terms.now) }
-{
+fn minimals(alloc: Global, terms: &[Term]) -> Result<List<Minimal>, Fail> {
     let mut all = List::new(alloc);
     for term in terms {
         match minimise(alloc, term.tableau.copy(alloc)?) {
@@ -47,6 +45,9 @@ fn explained_for<R: Threads + Sync>(
     let minimals = minimals.as_slice();
     if minimals.len() > 256 {
         return Err(Fail::from("too many terms"));
+    }
+    if minimals.len() != terms.len() {
+        return Err(Fail::from("not one for each term"));
     }
     let reduced = reduce(rt, alloc, minimals)?;
     Ok(explanation(alloc, schema, query, resolved, terms, minimals, &reduced)?)
@@ -172,6 +173,27 @@ term 0 disjunct 0 choice 0 0
 terms 1 kept 1
 ";
 
+const TWO_KEPT: &str = "\
+query: retrieve (A) where A = B or N = 'x'
+variables -
+term 0 disjunct 0 choice 0
+  row 0 - AB A=A B=A
+  row 1 - BN B=A N=N
+  head A
+  kept 0
+  fold 0 0
+  sources 0 AB
+term 1 disjunct 1 choice 0
+  row 0 - AB A=A B=B
+  row 1 - BN B=B N='x'
+  head A
+  kept 0 1
+  fold 0 1
+  sources 0 AB
+  sources 1 BN
+terms 2 kept 2
+";
+
 const NOTHING: &str = "\
 query: retrieve (A) where A = 1 and A = 2
 variables -
@@ -186,6 +208,7 @@ fn comparisons_are_left_or_leave_no_term(rt: HostRuntime) -> Result<(), Fail> {
             "explain retrieve (A, t.N) where A < t.B and t.A != -5 and N = 'it''s'",
             COMPARED,
         ),
+        ("explain retrieve (A) where A = B or N = 'x'", TWO_KEPT),
         ("explain retrieve (A) where A = 1 and A = 2", NOTHING),
     ];
     for (query, want) in cases {

@@ -1,16 +1,18 @@
 //! The lines of what is kept of a term.
-ghost use Rattle.std.specs.Prelude.{◌≡◌, ◌++◌, ◌<◌, ◌↔◌, [], IsTrue, length, Contains, OnOk, codes, decimal};
+ghost use Rattle.std.specs.Prelude.{◌≡◌, ◌++◌, ◌<◌, ◌↔◌, [], IsTrue, length, Contains, codes, decimal, OnOk};
 ghost use Rattle.std.specs.Int.{bit_at};
 ghost use Rattle.su_tableau.specs.Parts.{keep_if};
 ghost use Rattle.su_map.specs.Lists.{rows_in};
 ghost use Rattle.su_show.specs.Lines.{Adds, AreLines};
-ghost use Rattle.su_show.specs.Explaining.{numbers_text, minimal_lines, cover_line, cover_of, cover_text, sources_line, IsSourcesLine, IsEnd};
+ghost use Rattle.su_show.specs.Values.{numbers_text};
+ghost use Rattle.su_show.specs.MinimalLines.{minimal_lines, cover_line, cover_of, cover_text, sources_line, IsSourcesLine, IsEnd};
 
 use crate::parts::{push, push_number};
 use crate::tableau_lines::push_numbers;
 use crate::values::push_objects;
 use std::alloc::Global;
 use su_base::{NoMemory, ObjSet};
+use su_map::Mapping;
 use su_min::{Cover, Minimal, Reduced};
 use su_schema::Schema;
 use su_steps::sources;
@@ -53,19 +55,19 @@ pub(crate) fn push_minimal(
     push(out, "\n")
 }
 
-// The line of a row's sources.
-fn push_sources_line(
+// A row and its sources.
+fn push_source_line(
     alloc: Global,
     out: &mut Vec<u8>,
     schema: &Schema,
     row: usize,
-    found: ObjSet,
+    set: ObjSet,
 ) -> Result<(), NoMemory>
-    ensures { OnOk result (out.new.items ≡ out.old.items ++ sources_line schema.now row found) }
+    ensures { OnOk result (out.new.items ≡ out.old.items ++ sources_line schema.now row set) }
 {
     push(out, "  sources ")?;
     push_number(alloc, out, row as u64)?;
-    push_objects(alloc, out, schema, found)?;
+    push_objects(alloc, out, schema, set)?;
     push(out, "\n")
 }
 
@@ -82,7 +84,7 @@ fn push_sources(
     ensures { OnOk result (Adds (IsSourcesLine schema.now minimal.now row) out.old.items out.new.items) }
 {
     let found = sources(schema, minimal.tableau(), minimal.mask(), row);
-    push_sources_line(alloc, out, schema, row, found)
+    push_source_line(alloc, out, schema, row, found)
 }
 
 // The sources of each kept row.
@@ -103,20 +105,27 @@ fn push_all_sources(
     Ok(())
 }
 
-// The number of the term that covers another.
-fn push_covering(alloc: Global, out: &mut Vec<u8>, by: u16) -> Result<(), NoMemory>
-    ensures { OnOk result (out.new.items ≡ out.old.items ++ codes "  covered by term " ++ decimal by) }
+// The rows to which the rows of a cover go.
+fn push_targets(alloc: Global, out: &mut Vec<u8>, mapping: &Mapping) -> Result<(), NoMemory>
+    ensures { OnOk result (out.new.items ≡ out.old.items ++ numbers_text mapping.now.list) }
+{
+    push_numbers(alloc, out, mapping.list())
+}
+
+// By which term another one is covered.
+fn push_by(alloc: Global, out: &mut Vec<u8>, term: u16) -> Result<(), NoMemory>
+    ensures { OnOk result (out.new.items ≡ out.old.items ++ codes "  covered by term " ++ decimal term) }
 {
     push(out, "  covered by term ")?;
-    push_number(alloc, out, by as u64)
+    push_number(alloc, out, term as u64)
 }
 
 fn push_cover(alloc: Global, out: &mut Vec<u8>, cover: &Cover) -> Result<(), NoMemory>
     ensures { OnOk result (out.new.items ≡ out.old.items ++ cover_line cover.now) }
 {
-    push_covering(alloc, out, cover.by)?;
+    push_by(alloc, out, cover.by)?;
     push(out, " rows")?;
-    push_numbers(alloc, out, cover.mapping.list())?;
+    push_targets(alloc, out, &cover.mapping)?;
     push(out, "\n")
 }
 

@@ -8,7 +8,8 @@ ghost use Rattle.su_ddl.specs.Shown.{name_at};
 ghost use Rattle.su_query.specs.Grammar.{op_sym};
 ghost use Rattle.su_show.specs.Refusing.{variable_text};
 ghost use Rattle.su_show.specs.Symbols.{variable_at};
-ghost use Rattle.su_show.specs.Explaining.{numbers_text, symbols_text, term_line, cell_text, row_lines, head_line, operator_at, compare_line, compare_lines, tableau_lines};
+ghost use Rattle.su_show.specs.Values.{numbers_text};
+ghost use Rattle.su_show.specs.TableauLines.{symbols_text, term_line, cell_text, row_lines, head_line, operator_at, compare_line, compare_lines, tableau_lines};
 
 use crate::parts::{push, push_number};
 use crate::symbols::{

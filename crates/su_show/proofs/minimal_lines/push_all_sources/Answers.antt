@@ -1,6 +1,6 @@
 use Rattle.std.proofs.Common.{ap, sym, ◌∙◌}
 use Rattle.std.proofs.lemmas.Bool.{true≢false}
-use Rattle.su_show.specs.Explaining.{IsSourcesLine}
+use Rattle.su_show.specs.MinimalLines.{IsSourcesLine}
 use Rattle.su_show.proofs.Lines.{adds_in, adds_out}
 use Rattle.su_show.proofs.minimal_lines.push_all_sources.Goals as goal
 use Rattle.su_show.proofs.minimal_lines.push_all_sources.Goals.{then-has+in_ok-push_sources, else-has}

@@ -1,6 +1,6 @@
 use Rattle.su_map.specs.Lists.{numbers_of}
 use Rattle.su_show.specs.Lines.{AreLines, Adds}
-use Rattle.su_show.specs.Explaining.{IsSourcesLine}
+use Rattle.su_show.specs.MinimalLines.{IsSourcesLine}
 use Rattle.su_show.proofs.minimal_lines.push_all_sources.Given as goal
 
 abbrev pub invariant-loop-row : goal.invariant-loop-row

@@ -1,5 +1,5 @@
 use Rattle.std.proofs.Common.{◌≡◌, ◌==◌, drop, find}
-use Rattle.su_show.specs.Explaining.{cover_of}
+use Rattle.su_show.specs.MinimalLines.{cover_of}
 use Rattle.su_show.proofs.minimal_lines.push_cover_of.Given as goal
 
 abbrev pub invariant-loop-cover : goal.invariant-loop-cover

@@ -1,7 +1,7 @@
 use Rattle.std.proofs.Common.{inr, refl, sym, ◌∙◌}
 use Rattle.std.proofs.lemmas.Bool.{true≢false}
 use Rattle.std.proofs.lemmas.Result.{on_ok_weaker}
-use Rattle.su_show.specs.Explaining.{cover_of, cover_text}
+use Rattle.su_show.specs.MinimalLines.{cover_of, cover_text}
 use Rattle.su_show.proofs.minimal_lines.push_end.Goals as goal
 
 pub returns-else-is_kept : goal.returns-else-is_kept

@@ -1,4 +1,4 @@
-use Rattle.su_show.specs.Explaining.{compare_line}
+use Rattle.su_show.specs.TableauLines.{compare_line}
 use Rattle.su_show.proofs.Numbers.{text-next}
 use Rattle.su_show.proofs.tableau_lines.push_compares.Goals as goal
 

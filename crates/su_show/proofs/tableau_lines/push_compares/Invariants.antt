@@ -1,6 +1,6 @@
 use Rattle.std.proofs.Common.{◌≡◌, ◌++◌, flat_map}
 use Rattle.std.specs.List.{range_with_len}
-use Rattle.su_show.specs.Explaining.{compare_line}
+use Rattle.su_show.specs.TableauLines.{compare_line}
 use Rattle.su_show.proofs.tableau_lines.push_compares.Given as goal
 
 abbrev pub invariant-loop-number : goal.invariant-loop-number
