@@ -131,32 +131,22 @@ fn told<R: Threads + Sync, G: Gate>(
     Ok(format!(in alloc; "{terms} {kept}: {}", shown.as_str())?)
 }
 
-fn answered_for<R: Threads + Sync, F: Gate, G: Gate>(
+fn prepared_for<R: Threads + Sync, G: Gate>(
     rt: &R,
     alloc: Global,
     db: &Database,
     resolved: &Resolved,
     workers: u8,
-    gates: (&F, &G),
-) -> Result<String, Fail>
+    gate: &G,
+) -> Result<Prepared, Fail>
     requires resolved { IsResolved db.now.schema resolved.now }
     requires least { 1 ≤ workers }
     requires most { workers ≤ 16 }
+    ensures { IfOk result (IsPreparedFor db.now.schema) }
 {
     let maximal = maximal_objects(alloc, db.schema())?;
-    if maximal.len() > 128 {
-        return Err(Fail::from("too many maximal objects"));
-    }
-    match prepare(
-        rt,
-        alloc,
-        db,
-        maximal.as_slice(),
-        resolved,
-        workers,
-        gates.0,
-    ) {
-        Ok(prepared) => told(rt, alloc, db, &prepared, workers, gates.1),
+    match prepare(rt, alloc, db, maximal.as_slice(), resolved, workers, gate) {
+        Ok(prepared) => Ok(prepared),
         Err(_) => Err(Fail::from("no terms")),
     }
 }
@@ -185,7 +175,8 @@ fn answered_through<R: Threads + Sync, F: Gate, G: Gate>(
 {
     let statement = read(alloc, text.as_bytes())?;
     let resolved = resolved_of(alloc, db, &statement)?;
-    answered_for(rt, alloc, db, &resolved, workers, gates)
+    let prepared = prepared_for(rt, alloc, db, &resolved, workers, gates.0)?;
+    told(rt, alloc, db, &prepared, workers, gates.1)
 }
 
 /// The same through open gates.
