@@ -11,7 +11,7 @@ use std::marker::Brand;
 use std::process::Abort;
 use std::sync::ledger::{Blank, Ledger};
 use std::test::Fail;
-use su_base::{List, Row, Str, Value};
+use su_base::{List, Row, Steps, Str, Value};
 use su_index::{Rows, Table, TableRows};
 use su_tableau::Sym;
 use su_where::Op;
@@ -284,6 +284,69 @@ fn answer(
     answer_of::<Brand>(alloc, tables, task, cap, Blank::new(1))
 }
 
+/// Tables with a count of the rows that were fetched from them, which a test can read.
+#[derive(Drop)]
+struct CountedRows<'a, L: Ledger> {
+    tables: &'a [Table],
+    steps: Steps<L>,
+    fetched: u64,
+}
+
+impl<'a, L: Ledger> Rows for CountedRows<'a, L> {
+    ghost tables = { λ rows. rows.tables.now };
+
+    ghost fetches = { λ rows. rows.steps };
+
+    fn len(&self, table: u8) -> usize {
+        self.tables[table as usize].as_slice().len()
+    }
+
+    fn matching(&self, table: u8, column: u8, value: &Value) -> usize {
+        self.tables[table as usize].matching(column, value)
+    }
+
+    fn matched(&self, table: u8, column: u8, value: &Value, k: usize) -> usize {
+        self.tables[table as usize].matched(column, value, k)
+    }
+
+    fn fetch(&mut self, table: u8, i: usize) -> &Row {
+        self.fetched = self.fetched.saturating_add(1);
+        self.tables[table as usize].fetch(i, &mut self.steps)
+    }
+}
+
+/// The answer to the task, and how many rows were fetched for it.
+fn counted_of<L: Ledger>(
+    alloc: Global,
+    tables: &[Table],
+    task: &Task,
+    blank: Blank,
+) -> Result<(List<Row>, u64), ExecFault>
+    requires task { IsTask tables.now task.now }
+    requires name { blank.name ≡ L.name }
+    requires parts { blank.parts ≡ L.parts }
+    requires some { 0 < blank.parts }
+{
+    let mut rows = CountedRows::<L> {
+        tables,
+        steps: Steps::new(blank),
+        fetched: 0,
+    };
+    let found = execute(alloc, task, &mut rows, 9)?;
+    Ok((found, rows.fetched))
+}
+
+/// The answer to the task, which is to be one over the tables, and how many rows were fetched for it.
+fn counted(
+    rt: &impl Abort,
+    alloc: Global,
+    tables: &[Table],
+    task: &Task,
+) -> Result<(List<Row>, u64), ExecFault> {
+    assert!(rt; fits(tables, task));
+    counted_of::<Brand>(alloc, tables, task, Blank::new(1))
+}
+
 /// Bank and account, account and balance, account and customer, bank and loan, loan and customer.
 fn bank(rt: &impl Abort, alloc: Global) -> Result<Vec<Table>, Fail> {
     let mut tables = Vec::new(alloc);
@@ -346,6 +409,18 @@ fn rows_are_joined_over_their_sources(rt: HostRuntime) -> Result<(), Fail> {
         let found = answer(&rt, alloc, tables.as_slice(), &asked, 9)?;
         assert_eq!(rt; words(alloc, &found)?.as_str(), wanted);
     }
+    Ok(())
+}
+
+/// The bank of Jones' account: of bank and account both rows, of account and customer that of Jones.
+#[test]
+fn a_row_with_a_constant_is_fetched_by_it(rt: HostRuntime) -> Result<(), Fail> {
+    let alloc = rt.alloc();
+    let tables = bank(&rt, alloc)?;
+    let asked = task(alloc, "B A : 001; A Jones : 201", "B", "")?;
+    let (found, fetched) = counted(&rt, alloc, tables.as_slice(), &asked)?;
+    assert_eq!(rt; words(alloc, &found)?.as_str(), "B1");
+    assert!(rt; fetched <= 3);
     Ok(())
 }
 
