@@ -1,5 +1,5 @@
 -- What an insert and a remove in a list of positions in order leave.
-use Rattle.std.proofs.Common.{◌≡◌, ◌<◌, ◌≤◌, ◌+◌, ◌-◌, ◌^◌, ℕ, zero, suc, Bool, true, false, not, cond, List, [], ◌∷◌, ◌++◌, length, get_or, take, drop, ap, refl, sym, ◌∙◌, arith, inl, inr, ◌⊎◌, Contains, count_by, nat_lt, nat_le, nat_eq, add-one, add-zero}
+use Rattle.std.proofs.Common.{◌≡◌, ◌<◌, ◌≤◌, ◌+◌, ◌-◌, ◌^◌, ℕ, zero, suc, Bool, true, false, not, cond, List, [], ◌∷◌, ◌++◌, length, get_or, take, drop, ap, refl, sym, ◌∙◌, arith, inl, inr, ◌⊎◌, Contains, count_by, nat_lt, nat_le, nat_eq, add-one}
 use Rattle.std.specs.List.{AllByRecursion, insert, remove}
 use Rattle.std.specs.List.Sorted.{IsStrictlySortedBy}
 use Rattle.std.specs.Ordering.{nat_cmp, ordering_then, ordering_reverse, is_lt}
@@ -8,14 +8,15 @@ use Rattle.std.specs.declared.cmp.Ordering.TheVariants.{Less, Equal, Greater}
 use Rattle.std.proofs.lemmas.Cmp.{tied_itself}
 use Rattle.std.proofs.lemmas.Bool.{false≢true, cases_eq}
 use Rattle.std.proofs.lemmas.Bool.Decides.{nat_tests}
-use Rattle.std.proofs.lemmas.List.{take-append-drop, get_or-take, get_or-drop, length-take-le, length-drop, get_or_default, drop_more, nil_from_length}
+use Rattle.std.proofs.lemmas.List.{take-append-drop, get_or-take, get_or-drop, length-take-le, length-drop, get_or_default, drop_more}
 use Rattle.std.proofs.lemmas.List.Elements.{recursion_from_All}
+use Rattle.std.proofs.lemmas.List.Edits.{length-remove, get_or-remove_below, get_or-remove_above}
 use Rattle.std.proofs.lemmas.Map.Keys.{Less-from_sorted, sorted_from_all_adjacent, sorted_tail}
 use Rattle.su_base.specs.declared.values.Value.{Value}
 use Rattle.su_index.specs.Order.{compare_keys, ArePositions, compare_places, comes_before, count_below, with_value, IsRun, IsIndex}
-use Rattle.su_index.proofs.Runs.{places_total, count_below-suc, count_by-cons, count_by-append, count_by-none, sorted_nil, Before, AllBefore, sorted-append, sorted-append_left, sorted-append_right, sorted-append_before, sorted_cons}
+use Rattle.su_index.proofs.Runs.{keys_total, places_total, count_below-suc, count_by-cons, count_by-append, count_by-none, sorted_nil, Before, AllBefore, sorted-append, sorted-append_left, sorted-append_right, sorted-append_before, sorted_cons}
 use Rattle.su_index.proofs.Search.{is_less}
-use Rattle.su_index.proofs.Spans.{settled_positions, recent_positions, run_positions, run_from, count_by_zero}
+use Rattle.su_index.proofs.Spans.{index_positions, run_positions, count_by_zero}
 
 le_or_lt : (a b : ℕ) → (a ≤ b) ⊎ (b < a)
 le_or_lt a b = elim (nat_le a b) as (λ t. nat_le a b ≡ t → (a ≤ b) ⊎ (b < a)) [
@@ -37,10 +38,9 @@ run-same at other from run same r = record {
   ordered = ordered-same at other run (λ k h. same (get_or run k 0) (run_positions at from run r k 0 h)) r.ordered;
 }
 
-pub index-same : (at other : ℕ → Value) (n : ℕ) (settled recent : List ℕ) → ((p : ℕ) → p < n → at p ≡ other p) → IsIndex at n settled recent → IsIndex other n settled recent
-index-same at other n settled recent same i = record {
-  settled = run-same at other 0 settled (λ p h. same p (omega (arith, i.whole))) i.settled;
-  recent = run-same at other (length settled) recent (λ p h. same p (omega (arith, i.whole))) i.recent;
+pub index-same : (at other : ℕ → Value) (n : ℕ) (run : List ℕ) → ((p : ℕ) → p < n → at p ≡ other p) → IsIndex at n run → IsIndex other n run
+index-same at other n run same i = record {
+  run = run-same at other 0 run (λ p h. same p (omega (arith, i.whole))) i.run;
   whole = i.whole;
   small = i.small;
 }
@@ -184,55 +184,33 @@ run_apart at from run p r h (k, within, is) = let l = run_positions at from run 
 
 -- ---- runs that change
 
-pub run_forget : (at : ℕ → Value) (from : ℕ) (run new : List ℕ) (p : ℕ) → IsRun at from run → IsStrictlySortedBy (compare_places at) new → ((test : ℕ → Bool) → count_by test new + cond (test p) 1 0 ≡ count_by test run) → length new + 1 ≡ length run → p ≡ from + length new → IsRun at from new
-run_forget at from run new p r sorted counted len last = record {
+-- a run without its last position, at values that may be others
+pub run_forget : (at other : ℕ → Value) (from : ℕ) (run new : List ℕ) (p : ℕ) → IsRun at from run → IsStrictlySortedBy (compare_places other) new → ((test : ℕ → Bool) → count_by test new + cond (test p) 1 0 ≡ count_by test run) → length new + 1 ≡ length run → p ≡ from + length new → IsRun other from new
+run_forget at other from run new p r sorted counted len last = record {
   each = λ test.
       let one : count_below test (from + length run) ≡ count_below test (from + length new) + cond (test p) 1 0 = ap (count_below test) (omega arith) ∙ count_below-suc test (from + length new) ∙ ap (λ q. count_below test (from + length new) + cond (test q) 1 0) (sym last) in
       omega (arith, r.each test, counted test, one);
   ordered = sorted;
 }
 
-pub run_moved : (at other : ℕ → Value) (from : ℕ) (run new : List ℕ) → IsRun at from run → IsStrictlySortedBy (compare_places other) new → ((test : ℕ → Bool) → count_by test new ≡ count_by test run) → length new ≡ length run → IsRun other from new
-run_moved at other from run new r sorted counted len = record {
-  each = λ test. rw (counted test, len) (r.each test);
-  ordered = sorted;
-}
-
--- values that agree at the members of a run
-pub run_other : (at other : ℕ → Value) (from : ℕ) (run : List ℕ) → IsRun at from run → ((p : ℕ) → from ≤ p → p < from + length run → at p ≡ other p) → IsRun other from run
-run_other at other from run r same = record {
-  each = r.each;
-  ordered = ordered-same at other run (λ k h. same (get_or run k 0) (run_from at from run r k 0 h) (run_positions at from run r k 0 h)) r.ordered;
-}
-
-pub index_add : (at : ℕ → Value) (n : ℕ) (settled recent new : List ℕ) → IsIndex at n settled recent → n + 1 < 2 ^ 32 → IsStrictlySortedBy (compare_places (with_value at n (at n))) new → ((test : ℕ → Bool) → count_by test new ≡ count_by test recent + cond (test n) 1 0) → length new ≡ length recent + 1 → IsIndex at (n + 1) settled new
-index_add at n settled recent new i small sorted counted len = record {
-  settled = i.settled;
-  recent = record {
+pub index_add : (at : ℕ → Value) (n : ℕ) (run new : List ℕ) → IsIndex at n run → n + 1 < 2 ^ 32 → IsStrictlySortedBy (compare_places (with_value at n (at n))) new → ((test : ℕ → Bool) → count_by test new ≡ count_by test run + cond (test n) 1 0) → length new ≡ length run + 1 → IsIndex at (n + 1) new
+index_add at n run new i small sorted counted len = record {
+  run = record {
     each = λ test.
-        let one : count_below test (length settled + length new) ≡ count_below test n + cond (test n) 1 0 = ap (count_below test) (omega (arith, i.whole)) ∙ count_below-suc test n in
-        let two : count_below test (length settled + length recent) ≡ count_below test n = ap (count_below test) i.whole in
-        omega (arith, i.recent.each test, counted test, one, two);
+        let one : count_below test (0 + length new) ≡ count_below test n + cond (test n) 1 0 = ap (count_below test) (omega (arith, i.whole)) ∙ count_below-suc test n in
+        let two : count_below test (0 + length run) ≡ count_below test n = ap (count_below test) (omega (arith, i.whole)) in
+        omega (arith, i.run.each test, counted test, one, two);
     ordered = ordered-same (with_value at n (at n)) at new (λ k h. with_value-same at n (get_or new k 0)) sorted;
   };
   whole = omega (arith, i.whole);
   small = small;
 }
 
-pub index_moved-settled : (at : ℕ → Value) (v : Value) (n p : ℕ) (settled recent new : List ℕ) → IsIndex at n settled recent → p < length settled → IsStrictlySortedBy (compare_places (with_value at p v)) new → ((test : ℕ → Bool) → count_by test new ≡ count_by test settled) → length new ≡ length settled → IsIndex (with_value at p v) n new recent
-index_moved-settled at v n p settled recent new i within sorted counted len = record {
-  settled = run_moved at (with_value at p v) 0 settled new i.settled sorted counted len;
-  recent = rw len (run_other at (with_value at p v) (length settled) recent i.recent (λ q low high. sym (with_value-other at v p q (λ e. omega arith))));
+pub index_removed : (at other : ℕ → Value) (n : ℕ) (run new : List ℕ) → IsIndex at n run → IsStrictlySortedBy (compare_places other) new → ((test : ℕ → Bool) → count_by test new + cond (test (n - 1)) 1 0 ≡ count_by test run) → length new + 1 ≡ length run → IsIndex other (n - 1) new
+index_removed at other n run new i sorted counted len = record {
+  run = run_forget at other 0 run new (n - 1) i.run sorted counted len (omega (arith, i.whole));
   whole = omega (arith, i.whole);
-  small = i.small;
-}
-
-pub index_moved-recent : (at : ℕ → Value) (v : Value) (n p : ℕ) (settled recent new : List ℕ) → IsIndex at n settled recent → length settled ≤ p → IsStrictlySortedBy (compare_places (with_value at p v)) new → ((test : ℕ → Bool) → count_by test new ≡ count_by test recent) → length new ≡ length recent → IsIndex (with_value at p v) n settled new
-index_moved-recent at v n p settled recent new i within sorted counted len = record {
-  settled = run_other at (with_value at p v) 0 settled i.settled (λ q low high. sym (with_value-other at v p q (λ e. omega arith)));
-  recent = run_moved at (with_value at p v) (length settled) recent new i.recent sorted counted len;
-  whole = omega (arith, i.whole);
-  small = i.small;
+  small = omega (arith, i.small);
 }
 
 -- what is left of a run has no position that the run had not
@@ -248,44 +226,65 @@ absent_left p run new counted once =
     let one : ◌≡◌ {A = ℕ} (cond (nat_eq p p) 1 0) 1 = grind (arith, nat_tests) in
     absent new p (omega (arith, counted (λ q. nat_eq q p), once, one))
 
-module _ (at : ℕ → Value) (n : ℕ) (settled recent : List ℕ) (i : IsIndex at n settled recent) where
-  pub settled_once : (p : ℕ) → p < length settled → count_by (λ q. nat_eq q p) settled ≡ 1
-  settled_once p h = run_once at 0 settled p i.settled (omega arith) (omega arith)
+-- another position stays in what is left
+pub there_left : (p q : ℕ) (run new : List ℕ) → ((test : ℕ → Bool) → count_by test new + cond (test p) 1 0 ≡ count_by test run) → count_by (λ r. nat_eq r q) run ≡ 1 → (p ≡ q → ⊥) → Contains new q
+there_left p q run new counted once apart =
+    let none : ◌≡◌ {A = ℕ} (cond (nat_eq p q) 1 0) 0 = grind (arith, nat_tests, apart) in
+    there_once new q (omega (arith, counted (λ r. nat_eq r q), once, none))
 
-  pub recent_once : (p : ℕ) → length settled ≤ p → p < n → count_by (λ q. nat_eq q p) recent ≡ 1
-  recent_once p low h = run_once at (length settled) recent p i.recent low (omega (arith, i.whole))
+module _ (at : ℕ → Value) (n : ℕ) (run : List ℕ) (i : IsIndex at n run) where
+  pub index_once : (p : ℕ) → p < n → count_by (λ q. nat_eq q p) run ≡ 1
+  index_once p h = run_once at 0 run p i.run (omega arith) (omega (arith, i.whole))
 
-  pub recent_apart : (p : ℕ) → n ≤ p → ¬ Contains recent p
-  recent_apart p h = run_apart at (length settled) recent p i.recent (omega (arith, i.whole))
+  pub index_apart : (p : ℕ) → n ≤ p → ¬ Contains run p
+  index_apart p h = run_apart at 0 run p i.run (omega (arith, i.whole))
 
-  pub positions_more : (m : ℕ) → n ≤ m → ArePositions m settled × ArePositions m recent
-  positions_more m h = (λ k d l. let q = settled_positions at n settled recent i k d l in omega (arith, q), λ k d l. let q = recent_positions at n settled recent i k d l in omega (arith, q))
+  pub positions_more : (m : ℕ) → n ≤ m → ArePositions m run
+  positions_more m h k d l = let q = index_positions at n run i k d l in omega (arith, q)
 
-  -- the index without its last position
-  pub index_forget-settled : (new : List ℕ) → length recent ≡ 0 → IsStrictlySortedBy (compare_places at) new → ((test : ℕ → Bool) → count_by test new + cond (test (n - 1)) 1 0 ≡ count_by test settled) → length new + 1 ≡ length settled → IsIndex at (n - 1) new recent
-  index_forget-settled new none sorted counted len = record {
-    settled = run_forget at 0 settled new (n - 1) i.settled sorted counted len (omega (arith, i.whole));
-    recent = rw (nil_from_length recent none) (record { each = λ test. rw add-zero (rw add-zero refl); ordered = sorted_nil (compare_places at) });
-    whole = omega (arith, i.whole);
-    small = omega (arith, i.small);
-  }
-
-  pub index_forget-recent : (new : List ℕ) → IsStrictlySortedBy (compare_places at) new → ((test : ℕ → Bool) → count_by test new + cond (test (n - 1)) 1 0 ≡ count_by test recent) → length new + 1 ≡ length recent → IsIndex at (n - 1) settled new
-  index_forget-recent new sorted counted len = record {
-    settled = i.settled;
-    recent = run_forget at (length settled) recent new (n - 1) i.recent sorted counted len (omega (arith, i.whole));
-    whole = omega (arith, i.whole);
-    small = omega (arith, i.small);
-  }
-
--- an index whose positions are all settled
-pub index_settled : (at : ℕ → Value) (n : ℕ) (run : List ℕ) → IsRun at 0 run → length run ≡ n → n < 2 ^ 32 → IsIndex at n run []
-index_settled at n run r len small = record {
-  settled = r;
-  recent = record { each = λ test. rw add-zero (rw add-zero refl); ordered = sorted_nil (compare_places at) };
-  whole = rw add-zero len;
-  small = small;
-}
+-- an index of a run
+pub index_of_run : (at : ℕ → Value) (n : ℕ) (run : List ℕ) → IsRun at 0 run → length run ≡ n → n < 2 ^ 32 → IsIndex at n run
+index_of_run at n run r len small = record { run = r; whole = len; small = small }
 
 pub empty_run : (at : ℕ → Value) → IsRun at 0 []
 empty_run at = record { each = λ test. refl; ordered = sorted_nil (compare_places at) }
+
+-- ---- a position that takes the place of a greater one with its value
+
+-- a place that comes before a later one with the same value stands no later in the run
+pub renamed_order : (at : ℕ → Value) (run : List ℕ) (s t from to : ℕ) → to < from → s < length run → get_or run s 0 ≡ from
+    → ((k : ℕ) → k < t → comes_before at (at from) to (get_or run k 0) ≡ true) → t ≤ s
+renamed_order at run s t from to less within is below =
+    elim (le_or_lt t s) [
+      | inl le ↦ le
+      | inr more ↦
+          let one : comes_before at (at from) to from ≡ true = rw is at (below s more) in
+          let same : compare_keys (at from) (at from) ≡ Equal = tied_itself keys_total (at from) in
+          absurd (grind (arith, nat_tests, less, rw same at one))
+    ]
+
+pub absent_removed : (run : List ℕ) (s p : ℕ) → s < length run → ¬ Contains run p → ¬ Contains (remove run s) p
+absent_removed run s p within out there =
+    let left : List ℕ = remove run s in
+    let len : length left + 1 ≡ length run = length-remove run s within in
+    elim (le_or_lt s there.0) [
+      | inl le ↦ out (there.0 + 1, omega (arith, len, there.1), sym (get_or-remove_above run s p there.0 le within) ∙ there.2)
+      | inr less ↦ out (there.0, omega (arith, len, there.1), sym (get_or-remove_below run s p there.0 less within) ∙ there.2)
+    ]
+
+pub ordered-renamed : (at : ℕ → Value) (run : List ℕ) (s t from to : ℕ) → IsStrictlySortedBy (compare_places at) run → s < length run → t ≤ s → ¬ Contains run to
+    → ((k : ℕ) → k < t → comes_before at (at from) to (get_or run k 0) ≡ true)
+    → ((k : ℕ) → t ≤ k → k < length run → comes_before at (at from) to (get_or run k 0) ≡ false)
+    → IsStrictlySortedBy (compare_places (with_value at to (at from))) (insert (remove run s) t to)
+ordered-renamed at run s t from to sorted within order out below above =
+    let left : List ℕ = remove run s in
+    let len : length left + 1 ≡ length run = length-remove run s within in
+    let first : (k : ℕ) → k < s → get_or left k 0 ≡ get_or run k 0 = λ k h. get_or-remove_below run s 0 k h within in
+    let later : (k : ℕ) → s ≤ k → get_or left k 0 ≡ get_or run (k + 1) 0 = λ k h. get_or-remove_above run s 0 k h within in
+    let apart : ¬ Contains left to = absent_removed run s to within out in
+    ordered-insert_with at (at from) left t to (ordered-remove at run s within sorted) (omega (arith, len)) apart
+    (λ k h. rw (first k (omega arith)) (below k h))
+    (λ k h l. elim (le_or_lt s k) [
+      | inl le ↦ rw (later k le) (above (k + 1) (omega arith) (omega (arith, len, l)))
+      | inr less ↦ rw (first k less) (above k h (omega (arith, len, l)))
+    ])

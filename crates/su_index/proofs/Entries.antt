@@ -11,11 +11,11 @@ use Rattle.su_index.specs.declared.entry.Entry.{Entry}
 use Rattle.su_index.specs.Entries.{positions, HaveLeads, IsRunWithLeads, IsIndexWithLeads, kept_entry, kept_entries}
 use Rattle.su_index.specs.Lead.{IsLead}
 use Rattle.su_index.specs.Order.{compare_keys, ArePositions, compare_places, comes_before, with_value, is_kept, rank_of, count_below, IsRun}
-use Rattle.su_index.proofs.Changed.{index-same, index_add, index_settled, index_forget-settled, index_forget-recent, index_moved-settled, index_moved-recent, with_value-itself, with_value-other, with_value-same, empty_run}
+use Rattle.su_index.proofs.Changed.{index-same, index_add, index_of_run, index_removed, with_value-itself, with_value-other, with_value-same, empty_run}
 use Rattle.su_index.proofs.Keys.{Key, key_cmp, IsRun-sorted}
 use Rattle.su_index.proofs.Merging.{Merging, merge_none, merge_step, merge_end}
 use Rattle.su_index.proofs.Ranks.{new_run, kept_index}
-use Rattle.su_index.proofs.Spans.{later_too, settled_positions, recent_positions, run_positions, run_from}
+use Rattle.su_index.proofs.Spans.{later_too, index_positions}
 
 -- ---- positions of entries
 
@@ -92,60 +92,34 @@ leads-insert_with at v run q e leads out lead =
 
 -- ---- an index whose rows change
 
-pub index_with-same : (at other : ℕ → Value) (n : ℕ) (settled recent : List Entry) → ((p : ℕ) → p < n → at p ≡ other p) → IsIndexWithLeads at n settled recent → IsIndexWithLeads other n settled recent
-index_with-same at other n settled recent same i = record {
-  order = index-same at other n (positions settled) (positions recent) same i.order;
-  settled = leads-same at other settled (λ k h. same (get_or (positions settled) k 0) (settled_positions at n (positions settled) (positions recent) i.order k 0 h)) i.settled;
-  recent = leads-same at other recent (λ k h. same (get_or (positions recent) k 0) (recent_positions at n (positions settled) (positions recent) i.order k 0 h)) i.recent;
+pub index_with-same : (at other : ℕ → Value) (n : ℕ) (run : List Entry) → ((p : ℕ) → p < n → at p ≡ other p) → IsIndexWithLeads at n run → IsIndexWithLeads other n run
+index_with-same at other n run same i = record {
+  order = index-same at other n (positions run) same i.order;
+  leads = leads-same at other run (λ k h. same (get_or (positions run) k 0) (index_positions at n (positions run) i.order k 0 h)) i.leads;
 }
 
-pub index_with-settled : (at : ℕ → Value) (n : ℕ) (run : List Entry) → IsRunWithLeads at 0 run → length run ≡ n → n < 2 ^ 32 → IsIndexWithLeads at n run []
-index_with-settled at n run r len small = record {
-  order = index_settled at n (positions run) r.order (positions_length run ∙ len) small;
-  settled = r.leads;
-  recent = All-nil (λ (e : Entry). IsLead e.lead (at e.position));
+pub index_with-run : (at : ℕ → Value) (n : ℕ) (run : List Entry) → IsRunWithLeads at 0 run → length run ≡ n → n < 2 ^ 32 → IsIndexWithLeads at n run
+index_with-run at n run r len small = record {
+  order = index_of_run at n (positions run) r.order (positions_length run ∙ len) small;
+  leads = r.leads;
 }
+
+pub index_length : (at : ℕ → Value) (n : ℕ) (run : List Entry) → IsIndexWithLeads at n run → n ≡ length run
+index_length at n run i = omega (arith, i.order.whole, positions_length run)
 
 pub empty_run_with : (at : ℕ → Value) → IsRunWithLeads at 0 []
 empty_run_with at = record { order = empty_run at; leads = All-nil (λ (e : Entry). IsLead e.lead (at e.position)) }
 
-pub index_with-add : (at : ℕ → Value) (n : ℕ) (settled recent new : List Entry) → IsIndexWithLeads at n settled recent → n + 1 < 2 ^ 32 → IsStrictlySortedBy (compare_places (with_value at n (at n))) (positions new) → ((test : ℕ → Bool) → count_by test (positions new) ≡ count_by test (positions recent) + cond (test n) 1 0) → length new ≡ length recent + 1 → HaveLeads (with_value at n (at n)) new → IsIndexWithLeads at (n + 1) settled new
-index_with-add at n settled recent new i small sorted counted len leads = record {
-  order = index_add at n (positions settled) (positions recent) (positions new) i.order small sorted counted (omega (arith, len, positions_length new, positions_length recent));
-  settled = i.settled;
-  recent = leads-same (with_value at n (at n)) at new (λ k h. with_value-same at n (get_or (positions new) k 0)) leads;
+pub index_with-add : (at : ℕ → Value) (n : ℕ) (run new : List Entry) → IsIndexWithLeads at n run → n + 1 < 2 ^ 32 → IsStrictlySortedBy (compare_places (with_value at n (at n))) (positions new) → ((test : ℕ → Bool) → count_by test (positions new) ≡ count_by test (positions run) + cond (test n) 1 0) → length new ≡ length run + 1 → HaveLeads (with_value at n (at n)) new → IsIndexWithLeads at (n + 1) new
+index_with-add at n run new i small sorted counted len leads = record {
+  order = index_add at n (positions run) (positions new) i.order small sorted counted (omega (arith, len, positions_length new, positions_length run));
+  leads = leads-same (with_value at n (at n)) at new (λ k h. with_value-same at n (get_or (positions new) k 0)) leads;
 }
 
-pub index_with-forget_settled : (at : ℕ → Value) (n : ℕ) (settled recent new : List Entry) → IsIndexWithLeads at n settled recent → length recent ≡ 0 → IsStrictlySortedBy (compare_places at) (positions new) → ((test : ℕ → Bool) → count_by test (positions new) + cond (test (n - 1)) 1 0 ≡ count_by test (positions settled)) → length new + 1 ≡ length settled → HaveLeads at new → IsIndexWithLeads at (n - 1) new recent
-index_with-forget_settled at n settled recent new i none sorted counted len leads = record {
-  order = index_forget-settled at n (positions settled) (positions recent) i.order (positions new) (omega (arith, none, positions_length recent)) sorted counted (omega (arith, len, positions_length new, positions_length settled));
-  settled = leads;
-  recent = i.recent;
-}
-
-pub index_with-forget_recent : (at : ℕ → Value) (n : ℕ) (settled recent new : List Entry) → IsIndexWithLeads at n settled recent → IsStrictlySortedBy (compare_places at) (positions new) → ((test : ℕ → Bool) → count_by test (positions new) + cond (test (n - 1)) 1 0 ≡ count_by test (positions recent)) → length new + 1 ≡ length recent → HaveLeads at new → IsIndexWithLeads at (n - 1) settled new
-index_with-forget_recent at n settled recent new i sorted counted len leads = record {
-  order = index_forget-recent at n (positions settled) (positions recent) i.order (positions new) sorted counted (omega (arith, len, positions_length new, positions_length recent));
-  settled = i.settled;
-  recent = leads;
-}
-
-pub index_with-moved_settled : (at : ℕ → Value) (v : Value) (n p : ℕ) (settled recent new : List Entry) → IsIndexWithLeads at n settled recent → p < length settled → IsStrictlySortedBy (compare_places (with_value at p v)) (positions new) → ((test : ℕ → Bool) → count_by test (positions new) ≡ count_by test (positions settled)) → length new ≡ length settled → HaveLeads (with_value at p v) new → IsIndexWithLeads (with_value at p v) n new recent
-index_with-moved_settled at v n p settled recent new i within sorted counted len leads = record {
-  order = index_moved-settled at v n p (positions settled) (positions recent) (positions new) i.order (omega (arith, within, positions_length settled)) sorted counted (omega (arith, len, positions_length new, positions_length settled));
-  settled = leads;
-  recent = leads-same at (with_value at p v) recent (λ k h. sym (with_value-other at v p (get_or (positions recent) k 0) (λ is.
-      let low = run_from at (length (positions settled)) (positions recent) i.order.recent k 0 h in
-      omega (arith, low, is, within, positions_length settled)))) i.recent;
-}
-
-pub index_with-moved_recent : (at : ℕ → Value) (v : Value) (n p : ℕ) (settled recent new : List Entry) → IsIndexWithLeads at n settled recent → length settled ≤ p → IsStrictlySortedBy (compare_places (with_value at p v)) (positions new) → ((test : ℕ → Bool) → count_by test (positions new) ≡ count_by test (positions recent)) → length new ≡ length recent → HaveLeads (with_value at p v) new → IsIndexWithLeads (with_value at p v) n settled new
-index_with-moved_recent at v n p settled recent new i within sorted counted len leads = record {
-  order = index_moved-recent at v n p (positions settled) (positions recent) (positions new) i.order (omega (arith, within, positions_length settled)) sorted counted (omega (arith, len, positions_length new, positions_length recent));
-  settled = leads-same at (with_value at p v) settled (λ k h. sym (with_value-other at v p (get_or (positions settled) k 0) (λ is.
-      let high = run_positions at 0 (positions settled) i.order.settled k 0 h in
-      omega (arith, high, is, within, positions_length settled)))) i.settled;
-  recent = leads;
+pub index_with-removed : (at other : ℕ → Value) (n : ℕ) (run new : List Entry) → IsIndexWithLeads at n run → IsStrictlySortedBy (compare_places other) (positions new) → ((test : ℕ → Bool) → count_by test (positions new) + cond (test (n - 1)) 1 0 ≡ count_by test (positions run)) → length new + 1 ≡ length run → HaveLeads other new → IsIndexWithLeads other (n - 1) new
+index_with-removed at other n run new i sorted counted len leads = record {
+  order = index_removed at other n (positions run) (positions new) i.order sorted counted (omega (arith, len, positions_length new, positions_length run));
+  leads = leads;
 }
 
 -- ---- two runs that are made one
@@ -217,11 +191,10 @@ module _ (kept : List Bool) where
           | false ↦ λ k. rest
         ] refl
 
-    pub index_with-kept : (n : ℕ) (settled recent : List Entry) → IsIndexWithLeads at n settled recent → IsIndexWithLeads other (rank_of kept n) (kept_entries kept settled) (kept_entries kept recent)
-    index_with-kept n settled recent i = record {
-      order = rw (positions-kept settled, positions-kept recent) (kept_index kept at other same n (positions settled) (positions recent) i.order);
-      settled = leads-kept settled i.settled;
-      recent = leads-kept recent i.recent;
+    pub index_with-kept : (n : ℕ) (run : List Entry) → IsIndexWithLeads at n run → IsIndexWithLeads other (rank_of kept n) (kept_entries kept run)
+    index_with-kept n run i = record {
+      order = rw (positions-kept run) (kept_index kept at other same n (positions run) i.order);
+      leads = leads-kept run i.leads;
     }
 
 -- ---- a sort

@@ -1,4 +1,6 @@
 pub mod Changed
+pub mod Chunked
+pub mod Digests
 pub mod Entries
 pub mod Keys
 pub mod Leads

@@ -101,20 +101,14 @@ module _ (kept : List Bool) where
       ordered = kept_ordered run r.ordered;
     }
 
-    pub kept_index : (n : ℕ) (settled recent : List ℕ) → IsIndex at n settled recent → IsIndex other (rank_of kept n) (new_run settled) (new_run recent)
-    kept_index n settled recent i =
-        let len : length (new_run settled) ≡ rank_of kept (length settled) =
-        let l : rank_of kept 0 + length (new_run settled) ≡ rank_of kept (0 + length settled) = kept_length at 0 settled i.settled in
+    pub kept_index : (n : ℕ) (run : List ℕ) → IsIndex at n run → IsIndex other (rank_of kept n) (new_run run)
+    kept_index n run i =
+        let l : rank_of kept 0 + length (new_run run) ≡ rank_of kept (0 + length run) = kept_length at 0 run i.run in
         let z : rank_of kept 0 ≡ 0 = refl in
-        let e : rank_of kept (0 + length settled) ≡ rank_of kept (length settled) = ap (rank_of kept) (omega arith) in
-        omega (arith, l, z, e) in
+        let e : rank_of kept (0 + length run) ≡ rank_of kept n = ap (rank_of kept) (omega (arith, i.whole)) in
         record {
-          settled = kept_is_run 0 settled i.settled;
-          recent = rw len (kept_is_run (length settled) recent i.recent);
-          whole =
-              let l : rank_of kept (length settled) + length (new_run recent) ≡ rank_of kept (length settled + length recent) = kept_length at (length settled) recent i.recent in
-              let e : rank_of kept (length settled + length recent) ≡ rank_of kept n = ap (rank_of kept) i.whole in
-              omega (arith, l, e, len);
+          run = kept_is_run 0 run i.run;
+          whole = omega (arith, l, z, e);
           small = omega (arith, i.small, count_below-most (is_kept kept) n);
         }
 

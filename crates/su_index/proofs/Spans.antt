@@ -171,53 +171,34 @@ matches-below rows column v n columns h = count_rows (has_value column v) rows n
 
 -- ---- an index
 
-module _ (at : ℕ → Value) (n : ℕ) (settled recent : List ℕ) (index : IsIndex at n settled recent) where
-  pub settled_positions : ArePositions n settled
-  settled_positions k d h = let l = run_positions at 0 settled index.settled k d h in omega (arith, index.whole, l)
+module _ (at : ℕ → Value) (n : ℕ) (run : List ℕ) (index : IsIndex at n run) where
+  pub index_positions : ArePositions n run
+  index_positions k d h = let l = run_positions at 0 run index.run k d h in omega (arith, index.whole, l)
 
-  pub recent_positions : ArePositions n recent
-  recent_positions k d h = let l = run_positions at (length settled) recent index.recent k d h in omega (arith, index.whole, l)
-
-  pub spans_count : (v : Value) (a b c d : ℕ) → IsSpan at v settled a b → IsSpan at v recent c d → (b - a) + (d - c) ≡ count_below (has_at at v) n
-  spans_count v a b c d s r =
-      let one : count_below (has_at at v) 0 + count_by (has_at at v) settled ≡ count_below (has_at at v) (0 + length settled) = index.settled.each (has_at at v) in
-      let two : count_below (has_at at v) (length settled) + count_by (has_at at v) recent ≡ count_below (has_at at v) (length settled + length recent) = index.recent.each (has_at at v) in
-      let e : count_below (has_at at v) (length settled + length recent) ≡ count_below (has_at at v) n = ap (count_below (has_at at v)) index.whole in
-      let f : count_below (has_at at v) (0 + length settled) ≡ count_below (has_at at v) (length settled) = ap (count_below (has_at at v)) (omega arith) in
+  pub span-below : (v : Value) (a b : ℕ) → IsSpan at v run a b → b - a ≡ count_below (has_at at v) n
+  span-below v a b s =
+      let one : count_below (has_at at v) 0 + count_by (has_at at v) run ≡ count_below (has_at at v) (0 + length run) = index.run.each (has_at at v) in
+      let e : count_below (has_at at v) (0 + length run) ≡ count_below (has_at at v) n = ap (count_below (has_at at v)) (omega (arith, index.whole)) in
       let z : count_below (has_at at v) 0 ≡ 0 = refl in
-      omega (arith, span_count at v settled a b s, span_count at v recent c d r, one, two, e, f, z, s.start, r.start)
+      omega (arith, span_count at v run a b s, one, e, z, s.start)
 
-  -- the rank of a settled position
-  pub settled_rank : (v : Value) (a b k r : ℕ) → IsSpan at v settled a b → a + k < b → r ≡ slice_index settled (a + k) → count_below (has_at at v) r ≡ k
-  settled_rank v a b k r s h e =
+  -- the rank of a position
+  pub rank_at : (v : Value) (a b k r : ℕ) → IsSpan at v run a b → a + k < b → r ≡ slice_index run (a + k) → count_below (has_at at v) r ≡ k
+  rank_at v a b k r s h e =
       let test : ℕ → Bool = λ p. nat_lt p r && has_at at v p in
-      let within : r < 0 + length settled = rw e (run_positions at 0 settled index.settled (a + k) 0 (omega (arith, s.end))) in
-      let one : count_below test 0 + count_by test settled ≡ count_below test (0 + length settled) = index.settled.each test in
-      let f : count_below test (0 + length settled) ≡ count_below (has_at at v) r = count_below-upto (has_at at v) r (0 + length settled) (omega arith) in
+      let within : r < 0 + length run = rw e (run_positions at 0 run index.run (a + k) 0 (omega (arith, s.end))) in
+      let one : count_below test 0 + count_by test run ≡ count_below test (0 + length run) = index.run.each test in
+      let f : count_below test (0 + length run) ≡ count_below (has_at at v) r = count_below-upto (has_at at v) r (0 + length run) (omega arith) in
       let z : count_below test 0 ≡ 0 = refl in
-      omega (arith, span_rank at v settled a b k r index.settled.ordered s h e, one, f, z)
-
-  -- and of a recent one
-  pub recent_rank : (v : Value) (a b c d k r : ℕ) → IsSpan at v settled a b → IsSpan at v recent c d → c + k < d → r ≡ slice_index recent (c + k) → count_below (has_at at v) r ≡ (b - a) + k
-  recent_rank v a b c d k r s t h e =
-      let test : ℕ → Bool = λ p. nat_lt p r && has_at at v p in
-      let within : r < length settled + length recent = rw e (run_positions at (length settled) recent index.recent (c + k) 0 (omega (arith, t.end))) in
-      let from : length settled ≤ r = rw e (run_from at (length settled) recent index.recent (c + k) 0 (omega (arith, t.end))) in
-      let one : count_below (has_at at v) 0 + count_by (has_at at v) settled ≡ count_below (has_at at v) (0 + length settled) = index.settled.each (has_at at v) in
-      let f : count_below (has_at at v) (0 + length settled) ≡ count_below (has_at at v) (length settled) = ap (count_below (has_at at v)) (omega arith) in
-      let z : count_below (has_at at v) 0 ≡ 0 = refl in
-      let two : count_below test (length settled) + count_by test recent ≡ count_below test (length settled + length recent) = index.recent.each test in
-      let g : count_below test (length settled + length recent) ≡ count_below (has_at at v) r = count_below-upto (has_at at v) r (length settled + length recent) (omega arith) in
-      let same : count_below test (length settled) ≡ count_below (has_at at v) (length settled) = count_below-same test (has_at at v) (length settled) (λ j l. grind (arith, nat_tests, l, from)) in
-      omega (arith, span_count at v settled a b s, span_rank at v recent c d k r index.recent.ordered t h e, one, two, f, g, z, same, s.start)
+      omega (arith, span_rank at v run a b k r index.run.ordered s h e, one, f, z)
 
 -- the matches of a table's rows
-module _ (rows : List (List Value)) (column : ℕ) (settled recent : List ℕ) (columns : HaveColumn column rows) (index : IsIndex (value_at rows column) (length rows) settled recent) (v : Value) where
+module _ (rows : List (List Value)) (column : ℕ) (run : List ℕ) (columns : HaveColumn column rows) (index : IsIndex (value_at rows column) (length rows) run) (v : Value) where
   pub matches-all : matches column v rows ≡ count_below (has_at (value_at rows column) v) (length rows)
   matches-all = ap (matches column v) (sym (take_all (length rows) rows (omega arith))) ∙ matches-below rows column v (length rows) columns (omega arith)
 
-  pub matches-spans : (a b c d : ℕ) → IsSpan (value_at rows column) v settled a b → IsSpan (value_at rows column) v recent c d → (b - a) + (d - c) ≡ matches column v rows
-  matches-spans a b c d s r = spans_count (value_at rows column) (length rows) settled recent index v a b c d s r ∙ sym matches-all
+  pub matches-span : (a b : ℕ) → IsSpan (value_at rows column) v run a b → b - a ≡ matches column v rows
+  matches-span a b s = span-below (value_at rows column) (length rows) run index v a b s ∙ sym matches-all
 
   match_at : (k r : ℕ) → r < length rows → has_at (value_at rows column) v r ≡ true → count_below (has_at (value_at rows column) v) r ≡ k → IsMatch column v rows k r
   match_at k r h has rank = record {
@@ -226,10 +207,6 @@ module _ (rows : List (List Value)) (column : ℕ) (settled recent : List ℕ) (
     rank = matches-below rows column v r columns (omega arith) ∙ rank;
   }
 
-  pub IsMatch-settled : (a b k r : ℕ) → IsSpan (value_at rows column) v settled a b → a + k < b → r ≡ slice_index settled (a + k) → IsMatch column v rows k r
-  IsMatch-settled a b k r s h e =
-      match_at k r (rw e (settled_positions _ _ settled recent index (a + k) 0 (omega (arith, s.end)))) (rw e (s.among (a + k) (omega arith) h)) (settled_rank _ _ settled recent index v a b k r s h e)
-
-  pub IsMatch-recent : (a b c d j k r : ℕ) → IsSpan (value_at rows column) v settled a b → IsSpan (value_at rows column) v recent c d → c + j < d → k ≡ (b - a) + j → r ≡ slice_index recent (c + j) → IsMatch column v rows k r
-  IsMatch-recent a b c d j k r s t h e f =
-      match_at k r (rw f (recent_positions _ _ settled recent index (c + j) 0 (omega (arith, t.end)))) (rw f (t.among (c + j) (omega arith) h)) (recent_rank _ _ settled recent index v a b c d j r s t h f ∙ sym e)
+  pub IsMatch-span : (a b k r : ℕ) → IsSpan (value_at rows column) v run a b → a + k < b → r ≡ slice_index run (a + k) → IsMatch column v rows k r
+  IsMatch-span a b k r s h e =
+      match_at k r (rw e (index_positions _ _ run index (a + k) 0 (omega (arith, s.end)))) (rw e (s.among (a + k) (omega arith) h)) (rank_at _ _ run index v a b k r s h e)

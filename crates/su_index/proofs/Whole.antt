@@ -9,12 +9,12 @@ use Rattle.su_base.specs.declared.values.Value.TheVariants.{Int}
 use Rattle.su_rel.specs.Changes.{PutInAll}
 use Rattle.su_rel.specs.Stored.{Stored}
 use Rattle.su_index.specs.declared.index.Index.{Index}
-use Rattle.su_index.specs.Indexed.{AreIndexesBelow, IsIndexed, HavePositions, AreKept}
-use Rattle.su_index.specs.Entries.{IsRunWithLeads, IsIndexWithLeads}
+use Rattle.su_index.specs.Indexed.{AreIndexesBelow, IsIndexAt, IsIndexed, HavePositions, AreKept, entries_in}
+use Rattle.su_index.specs.Entries.{IsRunWithLeads}
 use Rattle.su_index.specs.Order.{rank_of, value_at, with_value}
 use Rattle.su_index.proofs.Ranks.{kept_row, kept_rows_length, rank-le}
 use Rattle.su_index.proofs.Changed.{positions_more, with_value-itself, with_value-other}
-use Rattle.su_index.proofs.Entries.{positions_length, index_with-same, index_with-settled, index_with-kept, empty_run_with}
+use Rattle.su_index.proofs.Entries.{index_length, index_with-same, index_with-run, index_with-kept, empty_run_with}
 
 -- the rows that were there are the first ones of more
 pub value_at-first : (rows more : List (List Value)) (column p : ℕ) → p < length rows → value_at rows column p ≡ value_at (rows ++ more) column p
@@ -22,7 +22,10 @@ value_at-first rows more column p h = ap (λ row. get_or row column (Int (pos 0)
 
 pub indexes_first : (rows more new : List (List Value)) (n : ℕ) (indexes : List Index) → n ≤ length rows → new ≡ rows ++ more → AreIndexesBelow rows n indexes → AreIndexesBelow new n indexes
 indexes_first rows more new n indexes le e all column d h =
-    rw e (index_with-same (value_at rows column) (value_at (rows ++ more) column) n _ _ (λ p l. value_at-first rows more column p (omega arith)) (all column d h))
+    rw e (record {
+      entries = index_with-same (value_at rows column) (value_at (rows ++ more) column) n _ (λ p l. value_at-first rows more column p (omega arith)) (all column d h).entries;
+      full = (all column d h).full;
+    })
 
 -- the last row moved to position i
 pub get_or-swap_remove : (rows : List (List Value)) (i p : ℕ) (row : List Value) → i < length rows → p + 1 < length rows → get_or (swap_remove rows i row) p [] ≡ get_or (set rows i (get_or rows (length rows - 1) row)) p []
@@ -45,24 +48,28 @@ length-swap_remove rows i row h =
     length-take-le (length rows - 1) (set rows i (get_or rows (length rows - 1) row)) (omega (arith, length-set rows i (get_or rows (length rows - 1) row)))
 
 pub indexed_removed : (old new : Stored) (i : ℕ) (row : List Value) (indexes : List Index) → i < length old.rows → length old.rows < 2 ^ 32 → new.rows ≡ swap_remove old.rows i row → length indexes ≡ new.width
-    → ((column : ℕ) (d : Index) → column < length indexes → IsIndexWithLeads (with_value (value_at old.rows column) i (value_at old.rows column (length old.rows - 1))) (length old.rows - 1) (get_or indexes column d).settled.items (get_or indexes column d).recent.items)
+    → ((column : ℕ) (d : Index) → column < length indexes → IsIndexAt (with_value (value_at old.rows column) i (value_at old.rows column (length old.rows - 1))) (length old.rows - 1) (get_or indexes column d))
     → IsIndexed new indexes
 indexed_removed old new i row indexes h small e count all =
     let len : length new.rows ≡ length old.rows - 1 = ap length e ∙ length-swap_remove old.rows i row (omega arith) in
     record {
       count = count;
       small = omega arith;
-      indexes = λ column d l. rw (len, e) (index_with-same _ (value_at (swap_remove old.rows i row) column) (length old.rows - 1) _ _ (λ p m. value_at-swap_remove old.rows i row column p h (omega arith)) (all column d l));
+      indexes = λ column d l. rw (len, e) (record {
+        entries = index_with-same _ (value_at (swap_remove old.rows i row) column) (length old.rows - 1) _ (λ p m. value_at-swap_remove old.rows i row column p h (omega arith)) (all column d l).entries;
+        full = (all column d l).full;
+      });
     }
 
 -- a table without rows
-pub indexed_none : (new : Stored) (indexes : List Index) → new.rows ≡ [] → length indexes ≡ new.width → All (λ (index : Index). (index.settled.items ≡ []) × (index.recent.items ≡ [])) indexes → IsIndexed new indexes
+pub indexed_none : (new : Stored) (indexes : List Index) → new.rows ≡ [] → length indexes ≡ new.width → All (λ (index : Index). index.chunks.items ≡ []) indexes → IsIndexed new indexes
 indexed_none new indexes e count none = record {
   count = count;
   small = rw e (omega arith);
-  indexes = λ column d l.
-      let both = none column d l in
-      rw (e, both.0, both.1) (index_with-settled (value_at [] column) 0 [] (empty_run_with (value_at [] column)) refl (omega arith));
+  indexes = λ column d l. rw e (record {
+    entries = rw (none column d l) (index_with-run (value_at [] column) 0 [] (empty_run_with (value_at [] column)) refl (omega arith));
+    full = rw (none column d l) (record { full = λ k f h. absurd (omega arith); most = λ k f h. absurd (omega arith) });
+  });
 }
 
 -- a row that stands at a position is there
@@ -91,21 +98,24 @@ stored_same a b p q = λ i. record { width = p i; rows = q i }
 pub restored : (old between new : Stored) (rows : List (List Value)) (n : ℕ) → PutInAll old.rows rows between.rows → n ≡ length old.rows → between.width ≡ old.width → new.width ≡ between.width → new.rows ≡ take n between.rows → new ≡ old
 restored old between new rows n put e w v t = stored_same new old (v ∙ w) (t ∙ taken_back old.rows rows between.rows n put e)
 
--- the settled runs of rows that are the first ones of more
-pub settled_first : (old new : Stored) (rows : List (List Value)) (indexes : List Index) → PutInAll old.rows rows new.rows → IsIndexed old indexes → (column : ℕ) (d : Index) → column < length indexes → IsRunWithLeads (value_at new.rows column) 0 (get_or indexes column d).settled.items
-settled_first old new rows indexes put i column d h =
+-- the indexes of rows that are the first ones of more
+pub run_first : (old new : Stored) (rows : List (List Value)) (indexes : List Index) → PutInAll old.rows rows new.rows → IsIndexed old indexes → (column : ℕ) (d : Index) → column < length indexes → IsRunWithLeads (value_at new.rows column) 0 (entries_in (get_or indexes column d))
+run_first old new rows indexes put i column d h =
     let after = put_in_after old.rows rows new.rows put in
     let index = indexes_first old.rows after.0 new.rows (length old.rows) indexes (omega arith) after.1 i.indexes column d h in
-    record { order = index.order.settled; leads = index.settled }
+    record { order = index.entries.order.run; leads = index.entries.leads }
 
-pub settled_within : (old new : Stored) (rows : List (List Value)) (indexes : List Index) → PutInAll old.rows rows new.rows → IsIndexed old indexes → (column : ℕ) (d : Index) → column < length indexes → length (get_or indexes column d).settled.items ≤ length new.rows
-settled_within old new rows indexes put i column d h =
+pub run_length : (old : Stored) (indexes : List Index) → IsIndexed old indexes → (column : ℕ) (d : Index) → column < length indexes → length old.rows ≡ length (entries_in (get_or indexes column d))
+run_length old indexes i column d h = index_length _ (length old.rows) _ (i.indexes column d h).entries
+
+pub run_within : (old new : Stored) (rows : List (List Value)) → PutInAll old.rows rows new.rows → length old.rows ≤ length new.rows
+run_within old new rows put =
     let after = put_in_after old.rows rows new.rows put in
-    omega (arith, (i.indexes column d h).order.whole, positions_length (get_or indexes column d).settled.items, ap length after.1, length-append old.rows after.0)
+    omega (arith, ap length after.1, length-append old.rows after.0)
 
 -- the rows that are kept
 pub indexed_positions : (old : Stored) (indexes : List Index) (n : ℕ) → IsIndexed old indexes → n ≡ length old.rows → HavePositions n indexes
-indexed_positions old indexes n i e k d h = positions_more (value_at old.rows k) (length old.rows) _ _ (i.indexes k d h).order n (omega arith)
+indexed_positions old indexes n i e k d h = positions_more (value_at old.rows k) (length old.rows) _ (i.indexes k d h).entries.order n (omega arith)
 
 pub indexed_kept : (old new : Stored) (kept : List Bool) (indexes news : List Index) → IsIndexed old indexes → length kept ≡ length old.rows → new.rows ≡ items_where_true kept old.rows → new.width ≡ old.width → length news ≡ length indexes → AreKept kept indexes news → IsIndexed new news
 indexed_kept old new kept indexes news i e rows width count all =
@@ -115,6 +125,8 @@ indexed_kept old new kept indexes news i e rows width count all =
       small = omega (arith, len, i.small, rank-le kept (length old.rows));
       indexes = λ column d h.
           let both = all column d h in
-          rw (both.0, both.1, len, rows)
-          (index_with-kept kept (value_at old.rows column) (value_at (items_where_true kept old.rows) column) (λ p k. ap (λ row. get_or row column (Int (pos 0))) (kept_row kept old.rows p [] e k)) (length old.rows) _ _ (i.indexes column d (omega arith)));
+          rw (len, rows) (record {
+            entries = rw both.0 (index_with-kept kept (value_at old.rows column) (value_at (items_where_true kept old.rows) column) (λ p k. ap (λ row. get_or row column (Int (pos 0))) (kept_row kept old.rows p [] e k)) (length old.rows) _ (i.indexes column d (omega arith)).entries);
+            full = both.1;
+          });
     }

@@ -19,10 +19,9 @@ pub record IsRunWithLeads (at : ℕ → Value) (from : ℕ) (run : List Entry) :
   pub leads : HaveLeads at run
 
 -- an index of entries
-pub record IsIndexWithLeads (at : ℕ → Value) (n : ℕ) (early late : List Entry) : Type 0 where
-  pub order : IsIndex at n (positions early) (positions late)
-  pub settled : HaveLeads at early
-  pub recent : HaveLeads at late
+pub record IsIndexWithLeads (at : ℕ → Value) (n : ℕ) (run : List Entry) : Type 0 where
+  pub order : IsIndex at n (positions run)
+  pub leads : HaveLeads at run
 
 -- the entry of a kept row, at the position that it comes to
 abbrev pub kept_entry : List Bool → Entry → Entry

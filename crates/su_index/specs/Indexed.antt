@@ -1,15 +1,25 @@
 -- What an index is of.
 use Rattle.std.specs.Prelude.{◌≡◌, ◌<◌, ◌^◌, ℕ, List, length, slice_index_or, All, Bool}
-use Rattle.std.specs.Vec.{vec_len, vec_capacity}
 use Rattle.su_base.specs.declared.values.Value.{Value}
 use Rattle.su_rel.specs.Stored.{Stored}
+use Rattle.su_index.specs.declared.entry.Entry.{Entry}
 use Rattle.su_index.specs.declared.index.Index.{Index}
+use Rattle.su_index.specs.Chunks.{entries_of, AreFull, HasRoom}
 use Rattle.su_index.specs.Entries.{positions, kept_entries, IsIndexWithLeads}
 use Rattle.su_index.specs.Order.{value_at, ArePositions}
 
+-- the entries of the index
+abbrev pub entries_in : Index → List Entry
+entries_in index = entries_of index.chunks.items
+
+-- an index where `at` gives the value at each position
+pub record IsIndexAt (at : ℕ → Value) (n : ℕ) (index : Index) : Type 0 where
+  pub entries : IsIndexWithLeads at n (entries_in index)
+  pub full : AreFull index.chunks.items
+
 -- the index of the column, over the rows before the n-th
 abbrev pub IsIndexBelow : List (List Value) → ℕ → ℕ → Index → Type 0
-IsIndexBelow rows column n index = IsIndexWithLeads (value_at rows column) n index.settled.items index.recent.items
+IsIndexBelow rows column n index = IsIndexAt (value_at rows column) n index
 
 -- the index of the column, over all rows
 abbrev pub IsIndexOf : List (List Value) → ℕ → Index → Type 0
@@ -21,7 +31,7 @@ AreIndexesBelow rows n indexes = (column : ℕ) (d : Index) → column < length 
 
 -- each index can take one more position without memory
 abbrev pub HaveRoom : List Index → Type 0
-HaveRoom indexes = All (λ index. vec_len index.recent < vec_capacity index.recent) indexes
+HaveRoom indexes = All (λ index. HasRoom index.chunks.items) indexes
 
 -- a relation with an index for each column
 pub record IsIndexed (stored : Stored) (all : List Index) : Type 0 where
@@ -33,9 +43,9 @@ pub record IsIndexed (stored : Stored) (all : List Index) : Type 0 where
 abbrev pub AreKept : List Bool → List Index → List Index → Type 0
 AreKept kept old new =
     (column : ℕ) (d : Index) → column < length new
-    → ((slice_index_or new column d).settled.items ≡ kept_entries kept (slice_index_or old column d).settled.items)
-    × ((slice_index_or new column d).recent.items ≡ kept_entries kept (slice_index_or old column d).recent.items)
+    → (entries_in (slice_index_or new column d) ≡ kept_entries kept (entries_in (slice_index_or old column d)))
+    × AreFull (slice_index_or new column d).chunks.items
 
 -- the positions of each index are below n
 abbrev pub HavePositions : ℕ → List Index → Type 0
-HavePositions n indexes = All (λ index. ArePositions n (positions index.settled.items) × ArePositions n (positions index.recent.items)) indexes
+HavePositions n indexes = All (λ index. ArePositions n (positions (entries_in index))) indexes

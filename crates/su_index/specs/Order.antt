@@ -1,5 +1,5 @@
 -- How an index orders the positions of the rows: by the lead of the value in its column, then by the value, then by position.
--- run: a list of positions in this order; settled and recent: the two runs of an index, of the earlier and of the later positions
+-- run: a list of positions in this order
 use Rattle.std.specs.Prelude.{◌≡◌, ◌<◌, ◌+◌, ◌^◌, ◌≤◌, ℕ, Bool, true, false, slice_index, cond, nat_eq, List, [], length, slice_index_or, count_by, All}
 use Rattle.std.proofs.Common.{zero, suc}
 use Rattle.std.specs.List.Sorted.{IsStrictlySortedBy}
@@ -61,11 +61,10 @@ pub record IsRun (at : ℕ → Value) (from : ℕ) (run : List ℕ) : Type 0 whe
   pub each : (test : ℕ → Bool) → count_below test from + count_by test run ≡ count_below test (from + length run)
   pub ordered : IsStrictlySortedBy (compare_places at) run
 
--- the positions below n, in two runs
-pub record IsIndex (at : ℕ → Value) (n : ℕ) (early late : List ℕ) : Type 0 where
-  pub settled : IsRun at 0 early
-  pub recent : IsRun at (length early) late
-  pub whole : length early + length late ≡ n
+-- the positions below n
+pub record IsIndex (at : ℕ → Value) (n : ℕ) (held : List ℕ) : Type 0 where
+  pub run : IsRun at 0 held
+  pub whole : length held ≡ n
   pub small : n < 2 ^ 32
 
 -- the values where the row at position p has come to have the value v

@@ -1,9 +1,9 @@
 //! The indexes of all columns.
 ghost use Rattle.std.specs.Prelude.{◌≡◌, ◌<◌, ◌≤◌, ◌+◌, ◌-◌, ◌^◌, ℕ, length, slice_index_or, IfOk, OnOk};
 ghost use Rattle.su_rel.specs.Stored.{HaveWidth};
-ghost use Rattle.su_index.specs.Indexed.{AreIndexesBelow, HaveRoom};
+ghost use Rattle.su_index.specs.Indexed.{AreIndexesBelow, HaveRoom, IsIndexAt, entries_in};
 ghost use Rattle.su_index.specs.declared.index.Index.{Index as Indexed};
-ghost use Rattle.su_index.specs.Entries.{IsRunWithLeads, IsIndexWithLeads};
+ghost use Rattle.su_index.specs.Entries.{IsRunWithLeads};
 ghost use Rattle.su_index.specs.Order.{value_at, with_value};
 
 use crate::index::Index;
@@ -43,31 +43,37 @@ pub(crate) fn add(rows: &[Row], position: u32, indexes: &mut Vec<Index>)
     }
 }
 
-/// Leaves the last row out of each index, and lets the row at the position have its values.
+/// Leaves the row at the position out of each index, and lets the last row be there.
 pub(crate) fn take_out(rows: &[Row], position: u32, indexes: &mut Vec<Index>)
     requires columns { HaveWidth (length indexes.old.items) rows.now }
     requires within { position < length rows.now }
     requires indexes { AreIndexesBelow rows.now (length rows.now) indexes.old.items }
     ensures len { length indexes.new.items ≡ length indexes.old.items }
-    ensures indexes { (column : ℕ) (d : Indexed) → column < length indexes.new.items → IsIndexWithLeads (with_value (value_at rows.now column) position (value_at rows.now column (length rows.now - 1))) (length rows.now - 1) (slice_index_or indexes.new.items column d).settled.items (slice_index_or indexes.new.items column d).recent.items }
+    ensures indexes { (column : ℕ) (d : Indexed) → column < length indexes.new.items → IsIndexAt (with_value (value_at rows.now column) position (value_at rows.now column (length rows.now - 1))) (length rows.now - 1) (slice_index_or indexes.new.items column d) }
 {
     for column in 0..indexes.len() {
         indexes[column].take_out(rows, column, position);
     }
 }
 
-/// The indexes with all rows taken in, of which each has the first ones.
-pub(crate) fn grown(alloc: Global, rows: &[Row], indexes: &[Index]) -> Result<Vec<Index>, NoMemory>
+/// The indexes of the first `before` rows, with the later ones taken in.
+pub(crate) fn grown(
+    alloc: Global,
+    rows: &[Row],
+    indexes: &[Index],
+    before: usize,
+) -> Result<Vec<Index>, NoMemory>
     requires columns { HaveWidth (length indexes.now) rows.now }
     requires small { length rows.now < 2 ^ 32 }
-    requires settled { (column : ℕ) (d : Indexed) → column < length indexes.now → IsRunWithLeads (value_at rows.now column) 0 (slice_index_or indexes.now column d).settled.items }
-    requires within { (column : ℕ) (d : Indexed) → column < length indexes.now → length (slice_index_or indexes.now column d).settled.items ≤ length rows.now }
+    requires runs { (column : ℕ) (d : Indexed) → column < length indexes.now → IsRunWithLeads (value_at rows.now column) 0 (entries_in (slice_index_or indexes.now column d)) }
+    requires before { (column : ℕ) (d : Indexed) → column < length indexes.now → before ≡ length (entries_in (slice_index_or indexes.now column d)) }
+    requires within { before ≤ length rows.now }
     ensures len { IfOk result (λ grown. length grown.items ≡ length indexes.now) }
     ensures indexes { IfOk result (λ grown. AreIndexesBelow rows.now (length rows.now) grown.items) }
 {
     let mut grown = Vec::with_capacity(alloc, indexes.len())?;
     for column in 0..indexes.len() {
-        let index = indexes[column].grown(alloc, rows, column)?;
+        let index = indexes[column].grown(alloc, rows, column, before)?;
         if grown.push(index).is_err() {
             return Err(NoMemory);
         }

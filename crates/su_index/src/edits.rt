@@ -1,77 +1,118 @@
-//! One entry into a run, or out of it.
-ghost use Rattle.std.specs.Prelude.{◌≡◌, ◌<◌, ◌+◌, ℕ, Bool, cond, nat_eq, length, Contains, count_by};
+//! One entry into an index, or out of it.
+ghost use Rattle.std.specs.Prelude.{◌≡◌, ◌<◌, ◌+◌, ℕ, Bool, cond, length, Contains, count_by};
 ghost use Rattle.std.specs.List.Sorted.{IsStrictlySortedBy};
-ghost use Rattle.std.specs.Vec.{vec_len, vec_capacity};
+ghost use Rattle.su_index.specs.Chunks.{entries_of, AreFull, HasRoom};
 ghost use Rattle.su_index.specs.Entries.{positions, HaveLeads};
 ghost use Rattle.su_index.specs.Order.{value_at, with_value, compare_places, HaveColumn, ArePositions};
 
+use crate::chunk::Chunk;
+use crate::chunks::{put_at, shift, take_at};
 use crate::entry::Entry;
+use crate::finding::find;
 use crate::lead::lead;
-use crate::order::{place, value};
+use crate::order::value;
 use su_base::{Row, Value};
 
-/// Takes the entry of the position out of the run, where it stands.
-pub(crate) fn take_out(rows: &[Row], column: usize, run: &mut Vec<Entry>, position: u32)
+/// Takes the entry of the position out of the `count` entries, among which it is.
+pub(crate) fn take_out(
+    rows: &[Row],
+    column: usize,
+    chunks: &mut Vec<Chunk>,
+    count: usize,
+    position: u32,
+)
     requires columns { HaveColumn column rows.now }
-    requires positions { ArePositions (length rows.now) (positions run.old.items) }
-    requires ordered { IsStrictlySortedBy (compare_places (value_at rows.now column)) (positions run.old.items) }
-    requires leads { HaveLeads (value_at rows.now column) run.old.items }
-    requires there { Contains (positions run.old.items) position }
-    ensures ordered { IsStrictlySortedBy (compare_places (value_at rows.now column)) (positions run.new.items) }
-    ensures count { (test : ℕ → Bool) → count_by test (positions run.new.items) + cond (test position) 1 0 ≡ count_by test (positions run.old.items) }
-    ensures len { length run.new.items + 1 ≡ length run.old.items }
-    ensures leads { HaveLeads (value_at rows.now column) run.new.items }
-    ensures room { vec_capacity run.new ≡ vec_capacity run.old }
+    requires full { AreFull chunks.old.items }
+    requires count { count ≡ length (entries_of chunks.old.items) }
+    requires positions { ArePositions (length rows.now) (positions (entries_of chunks.old.items)) }
+    requires ordered { IsStrictlySortedBy (compare_places (value_at rows.now column)) (positions (entries_of chunks.old.items)) }
+    requires leads { HaveLeads (value_at rows.now column) (entries_of chunks.old.items) }
+    requires there { Contains (positions (entries_of chunks.old.items)) position }
+    ensures full { AreFull chunks.new.items }
+    ensures ordered { IsStrictlySortedBy (compare_places (value_at rows.now column)) (positions (entries_of chunks.new.items)) }
+    ensures count { (test : ℕ → Bool) → count_by test (positions (entries_of chunks.new.items)) + cond (test position) 1 0 ≡ count_by test (positions (entries_of chunks.old.items)) }
+    ensures len { length (entries_of chunks.new.items) + 1 ≡ length (entries_of chunks.old.items) }
+    ensures leads { HaveLeads (value_at rows.now column) (entries_of chunks.new.items) }
 {
     let wanted = value(rows, column, position);
-    let place = place(rows, column, run.as_slice(), lead(wanted), wanted, position);
-    let _entry = run.remove(place);
+    let lead = lead(wanted);
+    let place = find(
+        rows,
+        column,
+        chunks.as_slice(),
+        count,
+        lead,
+        wanted,
+        position,
+    );
+    take_at(chunks, place);
 }
 
-/// Puts an entry of the position into the run, as one whose row has come to have the value.
+/// Puts an entry of the position among the `count` entries, as one whose row has come to have the value.
 pub(crate) fn put_in(
     rows: &[Row],
     column: usize,
-    run: &mut Vec<Entry>,
+    chunks: &mut Vec<Chunk>,
+    count: usize,
     wanted: &Value,
     position: u32,
 )
     requires columns { HaveColumn column rows.now }
-    requires positions { ArePositions (length rows.now) (positions run.old.items) }
-    requires ordered { IsStrictlySortedBy (compare_places (value_at rows.now column)) (positions run.old.items) }
-    requires leads { HaveLeads (value_at rows.now column) run.old.items }
-    requires apart { ¬ Contains (positions run.old.items) position }
-    requires room { vec_len run.old < vec_capacity run.old }
-    ensures ordered { IsStrictlySortedBy (compare_places (with_value (value_at rows.now column) position wanted.now)) (positions run.new.items) }
-    ensures count { (test : ℕ → Bool) → count_by test (positions run.new.items) ≡ count_by test (positions run.old.items) + cond (test position) 1 0 }
-    ensures len { length run.new.items ≡ length run.old.items + 1 }
-    ensures leads { HaveLeads (with_value (value_at rows.now column) position wanted.now) run.new.items }
+    requires full { AreFull chunks.old.items }
+    requires count { count ≡ length (entries_of chunks.old.items) }
+    requires positions { ArePositions (length rows.now) (positions (entries_of chunks.old.items)) }
+    requires ordered { IsStrictlySortedBy (compare_places (value_at rows.now column)) (positions (entries_of chunks.old.items)) }
+    requires leads { HaveLeads (value_at rows.now column) (entries_of chunks.old.items) }
+    requires apart { ¬ Contains (positions (entries_of chunks.old.items)) position }
+    requires room { HasRoom chunks.old.items }
+    ensures full { AreFull chunks.new.items }
+    ensures ordered { IsStrictlySortedBy (compare_places (with_value (value_at rows.now column) position wanted.now)) (positions (entries_of chunks.new.items)) }
+    ensures count { (test : ℕ → Bool) → count_by test (positions (entries_of chunks.new.items)) ≡ count_by test (positions (entries_of chunks.old.items)) + cond (test position) 1 0 }
+    ensures len { length (entries_of chunks.new.items) ≡ length (entries_of chunks.old.items) + 1 }
+    ensures leads { HaveLeads (with_value (value_at rows.now column) position wanted.now) (entries_of chunks.new.items) }
 {
     let lead = lead(wanted);
-    let place = place(rows, column, run.as_slice(), lead, wanted, position);
-    if run.insert(place, Entry { lead, position }).is_err() {
-        unreachable!();
-    }
+    let place = find(
+        rows,
+        column,
+        chunks.as_slice(),
+        count,
+        lead,
+        wanted,
+        position,
+    );
+    put_at(chunks, place, Entry { lead, position });
 }
 
-/// Moves the entry of the position to where it belongs in the run once its row has the value.
-pub(crate) fn move_within(
+/// Lets the entry of the position `from` be one of the position `to`, whose row has come to have the
+/// same value.
+pub(crate) fn rename(
     rows: &[Row],
     column: usize,
-    run: &mut Vec<Entry>,
-    moved: &Value,
-    position: u32,
+    chunks: &mut Vec<Chunk>,
+    count: usize,
+    from: u32,
+    to: u32,
 )
     requires columns { HaveColumn column rows.now }
-    requires positions { ArePositions (length rows.now) (positions run.old.items) }
-    requires ordered { IsStrictlySortedBy (compare_places (value_at rows.now column)) (positions run.old.items) }
-    requires leads { HaveLeads (value_at rows.now column) run.old.items }
-    requires once { count_by (λ q. nat_eq q position) (positions run.old.items) ≡ 1 }
-    ensures ordered { IsStrictlySortedBy (compare_places (with_value (value_at rows.now column) position moved.now)) (positions run.new.items) }
-    ensures count { (test : ℕ → Bool) → count_by test (positions run.new.items) ≡ count_by test (positions run.old.items) }
-    ensures len { length run.new.items ≡ length run.old.items }
-    ensures leads { HaveLeads (with_value (value_at rows.now column) position moved.now) run.new.items }
+    requires full { AreFull chunks.old.items }
+    requires count { count ≡ length (entries_of chunks.old.items) }
+    requires positions { ArePositions (length rows.now) (positions (entries_of chunks.old.items)) }
+    requires ordered { IsStrictlySortedBy (compare_places (value_at rows.now column)) (positions (entries_of chunks.old.items)) }
+    requires leads { HaveLeads (value_at rows.now column) (entries_of chunks.old.items) }
+    requires there { Contains (positions (entries_of chunks.old.items)) from }
+    requires apart { ¬ Contains (positions (entries_of chunks.old.items)) to }
+    requires earlier { to < from }
+    ensures full { AreFull chunks.new.items }
+    ensures ordered { IsStrictlySortedBy (compare_places (with_value (value_at rows.now column) to (value_at rows.now column from))) (positions (entries_of chunks.new.items)) }
+    ensures count { (test : ℕ → Bool) → count_by test (positions (entries_of chunks.new.items)) + cond (test from) 1 0 ≡ count_by test (positions (entries_of chunks.old.items)) + cond (test to) 1 0 }
+    ensures len { length (entries_of chunks.new.items) ≡ length (entries_of chunks.old.items) }
+    ensures leads { HaveLeads (with_value (value_at rows.now column) to (value_at rows.now column from)) (entries_of chunks.new.items) }
 {
-    take_out(rows, column, run, position);
-    put_in(rows, column, run, moved, position);
+    let wanted = value(rows, column, from);
+    let lead = lead(wanted);
+    let old = find(rows, column, chunks.as_slice(), count, lead, wanted, from);
+    let new = find(rows, column, chunks.as_slice(), count, lead, wanted, to);
+    let position = to;
+    shift(chunks, old, new, Entry { lead, position });
 }

@@ -4,6 +4,7 @@ ghost use Rattle.su_index.specs.Entries.{positions, kept_entries};
 ghost use Rattle.su_index.specs.Indexed.{HavePositions, AreKept};
 ghost use Rattle.su_index.specs.Order.{rank_of, ArePositions};
 
+use crate::chunks::{chunks_of, flat};
 use crate::entry::Entry;
 use crate::index::Index;
 use std::alloc::Global;
@@ -71,9 +72,10 @@ pub(crate) fn kept_indexes(
 {
     let mut new = Vec::with_capacity(alloc, indexes.len())?;
     for index in indexes {
-        let settled = kept_run(alloc, index.settled.as_slice(), kept, ranks)?;
-        let recent = kept_run(alloc, index.recent.as_slice(), kept, ranks)?;
-        if new.push(Index { settled, recent }).is_err() {
+        let run = flat(alloc, index.chunks.as_slice(), kept.len())?;
+        let left = kept_run(alloc, run.as_slice(), kept, ranks)?;
+        let chunks = chunks_of(alloc, left.as_slice())?;
+        if new.push(Index { chunks }).is_err() {
             return Err(NoMemory);
         }
     }

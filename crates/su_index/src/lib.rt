@@ -2,29 +2,34 @@
 //!
 //! A table decides how many rows have a value in a column, and which is the k-th of them by position.
 //! Contracts see it as they see a relation, a width and the rows by position; the indexes appear in
-//! none. An index holds an entry for each row in order of (lead, value, position): most in one long
-//! run, the latest in a short one, which is merged into the long one when it is full. An entry is the
-//! position and the lead of the value, a number made of all of it: eight bytes. A look-up is a few
-//! binary searches by lead, which read a row only where the leads are equal, as they seldom are where
-//! the values differ. An insert moves up to an eighth of a byte for each row and column, a quarter
-//! where the room of the short run has doubled; a remove moves up to eight bytes a row and column, twice
-//! or three times, and takes no memory. A table keeps no more than 2^32 - 2 rows, and ranges of values
-//! aren't asked for.
+//! none. An index holds an entry for each row in order of (lead, value, position), in chunks of 4096, of
+//! which only the last may have fewer. An entry is the position and the lead of the value, a number made
+//! of all of it: eight bytes. A look-up is a few binary searches by lead, which read a row only where the
+//! leads are equal, as they seldom are where the values differ. An insert and a remove move the entries of
+//! one chunk and one entry of each chunk behind it, so their time grows by two entries for each 4096 rows;
+//! a remove takes no memory. A table keeps no more than 2^32 - 2 rows, and ranges of values aren't asked
+//! for.
 #![tactic(auto)]
 
+mod alike;
+mod chunk;
+mod chunks;
 mod columns;
 mod crossing;
 mod edits;
 mod entry;
+mod finding;
 mod index;
 mod keeping;
 pub mod laws;
 mod lead;
+mod notes;
 mod order;
 mod rows;
 mod sorting;
 mod tables;
 
+pub use alike::Alike;
 pub use rows::{Rows, TableRows};
 pub use tables::Table;
 

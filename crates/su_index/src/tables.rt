@@ -4,15 +4,18 @@ ghost use Rattle.std.specs.Bool.{OnFalse};
 ghost use Rattle.std.specs.List.{items_where_true};
 ghost use Rattle.su_rel.specs.Changes.{PutInAll, TakenOut};
 ghost use Rattle.su_rel.specs.Stored.{HaveWidth, IsRelation};
+ghost use Rattle.su_index.specs.Notes.{Tells};
 ghost use Rattle.su_index.specs.Matches.{matches, IsMatch};
 
+use crate::alike::Alike;
 use crate::columns::{add, grown, make_room, take_out};
 use crate::index::Index;
 use crate::keeping::{kept_indexes, ranks};
+use crate::notes::{Notes, add_notes, forget, take_in, told};
 use std::alloc::Global;
 use std::marker::Model;
 use std::sync::ledger::Ledger;
-use su_base::{List, NoMemory, Row, Steps, Value};
+use su_base::{AttrSet, List, NoMemory, Row, Steps, Value};
 use su_rel::Relation;
 
 /// A set of rows of one width, with an ordered index for each column.
@@ -21,6 +24,7 @@ pub struct Table {
     alloc: Global,
     rows: Relation,
     indexes: Vec<Index>,
+    notes: Vec<Notes>,
 }
 
 /// There are at most so many rows, since an index keeps positions in 32 bits.
@@ -32,10 +36,11 @@ impl Model for Table {
     ghost Value = { Stored };
 
     ghost use Rattle.su_index.specs.Indexed.{IsIndexed};
+    ghost use Rattle.su_index.specs.Notes.{AllAreNotes};
 
     ghost view = { λ t. t.rows };
 
-    ghost invariant = { λ t. IsIndexed t.rows t.indexes.items };
+    ghost invariant = { λ t. IsIndexed t.rows t.indexes.items × AllAreNotes t.rows.rows t.notes.items };
 }
 
 impl Table {
@@ -54,6 +59,7 @@ impl Table {
             alloc,
             rows: Relation::new(alloc, width),
             indexes,
+            notes: Vec::new(alloc),
         })
     }
 
@@ -109,10 +115,14 @@ impl Table {
         ensures unchanged { OnErr result (self.new ≡ self.old) }
         ensures handed_back { IfErr result (λ e. e.0 ≡ row) }
     {
+        let _width = self.rows.width();
         if self.rows.len() >= MOST {
             return Err((row, NoMemory));
         }
         if make_room(self.alloc, self.rows.as_slice(), &mut self.indexes).is_err() {
+            return Err((row, NoMemory));
+        }
+        if take_in(self.alloc, self.rows.as_slice(), &row, &mut self.notes).is_err() {
             return Err((row, NoMemory));
         }
         let position = self.rows.len() as u32;
@@ -141,11 +151,17 @@ impl Table {
             self.rows.truncate(before);
             return Err(NoMemory);
         }
-        let Ok(indexes) = grown(self.alloc, self.rows.as_slice(), self.indexes.as_slice()) else {
+        let Ok(indexes) = grown(
+            self.alloc,
+            self.rows.as_slice(),
+            self.indexes.as_slice(),
+            before,
+        ) else {
             self.rows.truncate(before);
             return Err(NoMemory);
         };
         self.indexes = indexes;
+        forget(&mut self.notes);
         Ok(new)
     }
 
@@ -177,6 +193,7 @@ impl Table {
         let indexes = kept_indexes(self.alloc, kept, ranks.as_slice(), self.indexes.as_slice())?;
         self.rows.keep(kept);
         self.indexes = indexes;
+        forget(&mut self.notes);
         Ok(())
     }
 
@@ -197,6 +214,24 @@ impl Table {
     {
         let column = column as usize;
         self.indexes[column].matched(self.rows.as_slice(), column, value, k)
+    }
+
+    /// From now on rows are noted by their values in the columns, so that `alike` tells of them. A note
+    /// takes some 20 bytes a row; the next insert makes those of the rows that are there.
+    pub fn note(&mut self, columns: AttrSet) -> Result<(), NoMemory>
+        ensures { self.new ≡ self.old }
+    {
+        add_notes(self.alloc, columns, &mut self.notes)
+    }
+
+    /// What the notes tell of the rows that have the row's values in the columns: an optimisation, for
+    /// it may always answer that they don't tell. It costs one look into a hash table.
+    pub fn alike(&self, columns: AttrSet, row: &Row) -> Alike
+        requires { length row.now ≡ self.now.width }
+        ensures { Tells columns self.now.rows row.now result }
+    {
+        let _width = self.rows.width();
+        told(columns, self.rows.as_slice(), row, self.notes.as_slice())
     }
 
     /// The row at position `i`, from 0; one step is counted.

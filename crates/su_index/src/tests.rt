@@ -2,11 +2,11 @@ ghost use Rattle.std.specs.Prelude.{◌≡◌, ◌<◌, ◌+◌, IfOk, length};
 ghost use Rattle.su_rel.specs.Stored.{HaveWidth};
 ghost use Rattle.su_index.specs.Tables.{table_at};
 
-use crate::{Rows, Table};
+use crate::{Alike, Rows, Table};
 use std::alloc::Global;
 use std::process::Abort;
 use std::test::Fail;
-use su_base::{List, Row, Str, Value};
+use su_base::{AttrSet, List, Row, Str, Value};
 
 fn row(alloc: Global, number: i64, text: &str) -> Result<Row, Fail>
     ensures { IfOk result (λ row. length row ≡ 2) }
@@ -124,6 +124,51 @@ fn many_rows_go_in_at_once_and_out_again(rt: HostRuntime) -> Result<(), Fail> {
     table.keep(kept.as_slice())?;
     assert_eq!(rt; table.len(), 500);
     assert_eq!(rt; count(&rt, &table, 1, &a), 0);
+    Ok(())
+}
+
+#[test]
+fn rows_of_many_chunks_go_in_and_out_one_by_one(rt: HostRuntime) -> Result<(), Fail> {
+    let alloc = rt.alloc();
+    let mut table = Table::new(alloc, 2)?;
+    for number in 0..10000 {
+        let _new = put(
+            &rt,
+            &mut table,
+            row(alloc, number % 5000, if number < 5000 { "a" } else { "b" })?,
+        )?;
+    }
+    for number in 0..3000 {
+        let _there = table.remove(&row(alloc, number, "a")?);
+    }
+    assert_eq!(rt; table.len(), 7000);
+    for (number, left) in [(0, 1), (2999, 1), (3000, 2), (4999, 2), (5000, 0)] {
+        assert_eq!(rt; count(&rt, &table, 0, &Value::Int(number)), left);
+    }
+    assert_eq!(rt;
+        count(&rt, &table, 1, &Value::Text(Str::new(alloc, "b")?)),
+        5000
+    );
+    Ok(())
+}
+
+fn told(rt: &impl Abort, table: &Table, row: &Row) -> Alike {
+    assert_eq!(rt; row.len(), table.width() as usize);
+    table.alike(AttrSet::empty().insert(0).insert(1), row)
+}
+
+#[test]
+fn a_noted_row_is_found_by_all_its_values(rt: HostRuntime) -> Result<(), Fail> {
+    let alloc = rt.alloc();
+    let mut table = Table::new(alloc, 2)?;
+    let row_of_one = row(alloc, 1, "a")?;
+    let _new = put(&rt, &mut table, row(alloc, 1, "b")?)?;
+    table.note(AttrSet::empty().insert(0).insert(1))?;
+    assert!(rt; matches!(told(&rt, &table, &row_of_one), Alike::Unknown));
+    let _new = put(&rt, &mut table, row(alloc, 2, "a")?)?;
+    assert!(rt; matches!(told(&rt, &table, &row_of_one), Alike::Nowhere));
+    let _new = put(&rt, &mut table, row(alloc, 1, "a")?)?;
+    assert!(rt; matches!(told(&rt, &table, &row_of_one), Alike::MaybeAt(2)));
     Ok(())
 }
 

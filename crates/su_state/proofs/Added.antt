@@ -123,7 +123,7 @@ same_tables : (db : DatabaseValue) (schema : SchemaValue) → IsWellKept db → 
     → IsWellKept (record { schema = schema; tables = db.tables })
 same_tables db schema kept valid relations each = subst (λ (tables : List Stored). IsWellKept (record { schema = schema; tables = tables })) (append-nil db.tables) (kept_more db schema [] kept valid relations each)
 
-same_relations : (db : DatabaseValue) (schema : SchemaValue) → IsWellKept db → IsValid schema → schema.relations ≡ db.schema.relations → HaveTables schema db.tables
+pub same_relations : (db : DatabaseValue) (schema : SchemaValue) → IsWellKept db → IsValid schema → schema.relations ≡ db.schema.relations → HaveTables schema db.tables
 same_relations db schema kept valid same =
     have_tables db schema [] kept valid (ap (map (λ r. r.columns)) same ∙ sym (append-nil (relation_columns db.schema)))
     (λ o object placed. omega (arith, object_on schema o object valid placed, kept.tables, ap length same))

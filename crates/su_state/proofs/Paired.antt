@@ -1,5 +1,5 @@
 -- The least pair of rows that clash: the least row whose first one is marked has a partner, and no lesser row has.
-use Rattle.std.proofs.Common.{◌≡◌, ◌≢◌, ◌<◌, ◌≤◌, ◌+◌, ◌++◌, ℕ, Bool, true, false, List, [], ◌∷◌, length, get_or, set, Option, Some, None, MatchOption, sym, ap, subst, ◌∙◌, Contains, inl, inr, arith}
+use Rattle.std.proofs.Common.{◌≡◌, ◌<◌, ◌≤◌, ◌+◌, ◌++◌, ℕ, Bool, true, false, List, [], ◌∷◌, length, set, Option, Some, None, MatchOption, sym, ap, subst, ◌∙◌, Contains, inl, inr, arith}
 use borrow.Author.Count.{below_more}
 use Rattle.std.specs.Ordering.{nat_cmp}
 use Rattle.std.specs.FinSet.{FinSet}
@@ -7,8 +7,6 @@ use Rattle.std.proofs.lemmas.Bool.{cases_Bool, cases_eq, false≢true}
 use Rattle.std.proofs.lemmas.List.{get_or_default, get_or_push, get_or_append_left, length_push, get_or-set_same, get_or-set_other, length-set}
 use Rattle.std.proofs.lemmas.List.Elements.{Contains-get_or}
 use Rattle.su_base.specs.declared.values.Value.{Value}
-use Rattle.su_base.specs.Value.{compare_lists}
-use Rattle.su_state.specs.declared.pairs.Pair.{Pair}
 use Rattle.su_state.specs.declared.sides.Sides.{Sides}
 use Rattle.su_state.specs.DatabaseValue.{IsAtMost}
 use Rattle.su_state.specs.Sides.{AgreeAt, Clash, IsLeastClash, TakesLesser, row_at}

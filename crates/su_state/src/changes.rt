@@ -38,9 +38,10 @@ impl Database {
         Ok(true)
     }
 
-    /// Puts the row in, and answers whether it is new. For each enforced dependency the rows that have
-    /// its value in one left column are looked at, up to the first with its whole left side; all of
-    /// them only where it breaks the dependency.
+    /// Puts the row in, and answers whether it is new. For each enforced dependency a row with its whole
+    /// left side is looked up in the notes. Where such a row has gone or moved since it was noted, the rows
+    /// that have the new one's value in one left column are looked at up to the first; all of them only
+    /// where it breaks the dependency. The first insert after a load notes all rows.
     pub fn insert(&mut self, relation: u8, row: Row) -> Result<bool, StateFault>
         requires { relation < length self.old.schema.relations }
         ensures { Inserts self.old relation row result self.new }

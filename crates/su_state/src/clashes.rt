@@ -9,7 +9,7 @@ ghost use Rattle.su_state.specs.Sides.{AgreeAt, Clash, IsLeastClash, IsLesser, r
 use crate::sides::{Sides, agree, clash};
 use std::cmp::Ordering;
 use su_base::{AttrSet, Row, compare_rows};
-use su_index::Table;
+use su_index::{Alike, Table};
 
 /// Whether the row comes before the other.
 pub fn is_before(a: &Row, b: &Row) -> bool
@@ -91,8 +91,9 @@ pub fn least_clash(table: &Table, sides: &Sides, row: &Row) -> Option<usize>
     least
 }
 
-/// The position of a row that has the row's values in the columns.
-fn alike(table: &Table, columns: AttrSet, row: &Row) -> Option<usize>
+/// The position of a row that has the row's values in the columns. The rows that have its value in one
+/// of them are looked at, up to the first.
+fn alike_by_column(table: &Table, columns: AttrSet, row: &Row) -> Option<usize>
     requires width { length row.now ≡ table.now.width }
     requires few { table.now.width ≤ 32 }
     requires some { (c : ℕ) × IsTrue (set.contains columns c) × (c < table.now.width) }
@@ -108,6 +109,26 @@ fn alike(table: &Table, columns: AttrSet, row: &Row) -> Option<usize>
         }
     }
     None
+}
+
+/// The same: the table's notes tell it first, and mostly at once.
+fn alike(table: &Table, columns: AttrSet, row: &Row) -> Option<usize>
+    requires width { length row.now ≡ table.now.width }
+    requires few { table.now.width ≤ 32 }
+    requires some { (c : ℕ) × IsTrue (set.contains columns c) × (c < table.now.width) }
+    ensures { MatchOption result ((other : List Stored) → Contains table.now.rows other → ¬ AgreeAt columns row.now other) (λ p. (p < length table.now.rows) × AgreeAt columns row.now (row_at table.now.rows p)) }
+{
+    let _rows = table.as_slice();
+    match table.alike(columns, row) {
+        Alike::Nowhere => return None,
+        Alike::MaybeAt(position) => {
+            if agree(columns, row, table.row(position)) {
+                return Some(position);
+            }
+        }
+        Alike::Unknown => {}
+    }
+    alike_by_column(table, columns, row)
 }
 
 /// The position of the least row with which a new row clashes, where no two rows of the table clash.

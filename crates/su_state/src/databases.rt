@@ -57,11 +57,13 @@ impl Database {
             let table = Table::new(alloc, schema.columns(r).len() as u8)?;
             tables.push(table)?;
         }
-        Ok(Database {
+        let mut db = Database {
             alloc,
             schema,
             tables: tables.into_vec(),
-        })
+        };
+        db.note_sides();
+        Ok(db)
     }
 
     /// A call of it tells a proof that the database is well kept. It does nothing.

@@ -147,11 +147,8 @@ fn add_table(
 }
 
 impl Database {
-    /// Adds the definition at the end of its list; a relation has no rows yet, and all rows stay.
-    /// A dependency or an object that doesn't hold on the stored rows is refused. That it holds takes
-    /// one pass over the rows of the relations that it is about, in memory for their values on the
-    /// left side; where it doesn't, three more passes over one relation's rows find the least pair.
-    pub fn define(&mut self, definition: &Definition) -> Result<(), DefineFault>
+    /// Adds the definition where the stored rows keep it.
+    fn add_definition(&mut self, definition: &Definition) -> Result<(), DefineFault>
         requires { IsWellNamed definition.now }
         ensures { Defines self.old definition.now result self.new }
     {
@@ -160,6 +157,19 @@ impl Database {
         check_added(self.alloc, &schema, self.tables.as_slice(), definition)?;
         add_table(self.alloc, &mut self.tables, definition)?;
         self.schema = schema;
+        Ok(())
+    }
+
+    /// Adds the definition at the end of its list; a relation has no rows yet, and all rows stay.
+    /// A dependency or an object that doesn't hold on the stored rows is refused. That it holds takes
+    /// one pass over the rows of the relations that it is about, in memory for their values on the
+    /// left side; where it doesn't, three more passes over one relation's rows find the least pair.
+    pub fn define(&mut self, definition: &Definition) -> Result<(), DefineFault>
+        requires { IsWellNamed definition.now }
+        ensures { Defines self.old definition.now result self.new }
+    {
+        self.add_definition(definition)?;
+        self.note_sides();
         Ok(())
     }
 }

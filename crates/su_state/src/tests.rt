@@ -462,6 +462,27 @@ insert|5 9 1|breaks 0 2 0 2 1 1";
 }
 
 #[test]
+fn a_row_that_moved_still_breaks_a_dependency(rt: HostRuntime) -> Result<(), Fail> {
+    let lines = "i|A|defined
+i|B|defined
+i|C|defined
+r|R|A B C|defined
+o|O|R|A=A B=B C=C|defined
+f|A B|C|defined
+insert|1 1 1|true
+insert|1 2 2|true
+insert|2 1 3|true
+delete|1 1 1|true
+insert|2 1 4|breaks 0 0 0 2 1 3
+insert|1 1 9|true
+insert|1 1 1|breaks 0 0 0 1 1 9
+load|3 3 3;4 4 4|loaded 2
+insert|3 3 4|breaks 0 0 0 3 3 3";
+    assert!(rt; meets(rt.alloc(), lines)?);
+    Ok(())
+}
+
+#[test]
 fn a_relation_may_stand_under_two_objects(rt: HostRuntime) -> Result<(), Fail> {
     let lines = "t|PERSON|defined
 t|PARENT|defined

@@ -1,12 +1,12 @@
 use Rattle.std.proofs.Common.{◌≡◌, ◌<◌, ◌≤◌, ◌-◌, ℕ, length, slice_index_or}
 use Rattle.su_index.specs.declared.index.Index.{Index}
-use Rattle.su_index.specs.Entries.{IsIndexWithLeads}
+use Rattle.su_index.specs.Indexed.{IsIndexAt}
 use Rattle.su_index.specs.Order.{value_at, with_value}
 use Rattle.su_index.proofs.columns.take_out.Given as goal
 
 abbrev pub invariant-loop-column : goal.invariant-loop-column
 invariant-loop-column l = record {
   len : length l.indexes.items ≡ length l.fn.indexes.items;
-  done : (k : ℕ) (d : Index) → k < l.column → IsIndexWithLeads (with_value (value_at l.rows k) l.position (value_at l.rows k (length l.rows - 1))) (length l.rows - 1) (slice_index_or l.indexes.items k d).settled.items (slice_index_or l.indexes.items k d).recent.items;
+  done : (k : ℕ) (d : Index) → k < l.column → IsIndexAt (with_value (value_at l.rows k) l.position (value_at l.rows k (length l.rows - 1))) (length l.rows - 1) (slice_index_or l.indexes.items k d);
   left : (k : ℕ) (d : Index) → l.column ≤ k → k < length l.indexes.items → slice_index_or l.indexes.items k d ≡ slice_index_or l.fn.indexes.items k d;
 }

@@ -1,33 +1,29 @@
-use Rattle.std.proofs.Common.{◌+◌, ◌-◌, ◌∙◌, ap, sym, arith}
+use Rattle.std.proofs.Common.{◌+◌, ◌<◌, ◌∙◌, ap, sym, length, arith}
 use Rattle.su_index.specs.Entries.{positions}
+use Rattle.su_index.specs.Indexed.{entries_in}
 use Rattle.su_index.specs.Order.{value_at, IsSpan}
-use Rattle.su_index.proofs.Entries.{positions_length, at_position}
-use Rattle.su_index.proofs.Spans.{settled_positions, recent_positions, matches-spans, IsMatch-settled, IsMatch-recent}
+use Rattle.su_index.proofs.Entries.{index_length, positions_length, at_position}
+use Rattle.su_index.proofs.Spans.{index_positions, matches-span, IsMatch-span}
 use Rattle.su_index.proofs.index.Index.matched.Goals as goal
 
+pub span-first-requires-clause-count : goal.span-first-requires-clause-count
+span-first-requires-clause-count c = rw c.as_slice.ensures.value (index_length _ _ _ c.requires.index.entries)
+
 pub span-first-requires-clause-positions : goal.span-first-requires-clause-positions
-span-first-requires-clause-positions c = rw c.as_slice.ensures.value (settled_positions _ _ _ _ c.requires.index.order)
+span-first-requires-clause-positions c = rw c.as_slice.ensures.value (index_positions _ _ _ c.requires.index.entries.order)
 
-pub span-later-requires-clause-positions : goal.span-later-requires-clause-positions
-span-later-requires-clause-positions c = rw c.as_slice-2.ensures.value (recent_positions _ _ _ _ c.requires.index.order)
-
-pub returns-then-k-past : goal.returns-then-k-past
-returns-then-k-past c =
-    let s : IsSpan (value_at c.args.rows.now c.args.column) c.args.wanted.now (positions c.args.self.now.settled.items) c.span-first.result.0 c.span-first.result.1 = rw c.as_slice.ensures.value at c.span-first.ensures in
-    IsMatch-settled c.args.rows.now c.args.column (positions c.args.self.now.settled.items) (positions c.args.self.now.recent.items) c.requires.columns c.requires.index.order c.args.wanted.now _ _ _ _ s (omega arith)
-    (ap (λ e. e.position) c.index.ensures ∙ sym (at_position c.args.self.now.settled.items (c.span-first.result.0 + c.args.k) c.index.result.now (omega (arith, s.end, positions_length c.args.self.now.settled.items))))
-
-pub index-requires-2 : goal.index-requires-2
-index-requires-2 c =
-    let s : IsSpan (value_at c.args.rows.now c.args.column) c.args.wanted.now (positions c.args.self.now.settled.items) c.span-first.result.0 c.span-first.result.1 = rw c.as_slice.ensures.value at c.span-first.ensures in
-    let t : IsSpan (value_at c.args.rows.now c.args.column) c.args.wanted.now (positions c.args.self.now.recent.items) c.span-later.result.0 c.span-later.result.1 = rw c.as_slice-2.ensures.value at c.span-later.ensures in
-    let all = matches-spans c.args.rows.now c.args.column (positions c.args.self.now.settled.items) (positions c.args.self.now.recent.items) c.requires.columns c.requires.index.order c.args.wanted.now _ _ _ _ s t in
-    omega (arith, all, t.end, c.requires.within, positions_length c.args.self.now.recent.items)
+pub entry-requires-clause-within : goal.entry-requires-clause-within
+entry-requires-clause-within c =
+    let s : IsSpan (value_at c.args.rows.now c.args.column) c.args.wanted.now (positions (entries_in c.args.self.now)) c.span-first.result.0 c.span-first.result.1 = rw c.as_slice.ensures.value at c.span-first.ensures in
+    let all = matches-span c.args.rows.now c.args.column (positions (entries_in c.args.self.now)) c.requires.columns c.requires.index.entries.order c.args.wanted.now _ _ s in
+    rw c.as_slice-2.ensures.value (omega (arith, all, s.end, c.requires.within, positions_length (entries_in c.args.self.now)))
 
 pub returns : goal.returns
 returns c =
-    let s : IsSpan (value_at c.args.rows.now c.args.column) c.args.wanted.now (positions c.args.self.now.settled.items) c.span-first.result.0 c.span-first.result.1 = rw c.as_slice.ensures.value at c.span-first.ensures in
-    let t : IsSpan (value_at c.args.rows.now c.args.column) c.args.wanted.now (positions c.args.self.now.recent.items) c.span-later.result.0 c.span-later.result.1 = rw c.as_slice-2.ensures.value at c.span-later.ensures in
-    let all = matches-spans c.args.rows.now c.args.column (positions c.args.self.now.settled.items) (positions c.args.self.now.recent.items) c.requires.columns c.requires.index.order c.args.wanted.now _ _ _ _ s t in
-    IsMatch-recent c.args.rows.now c.args.column (positions c.args.self.now.settled.items) (positions c.args.self.now.recent.items) c.requires.columns c.requires.index.order c.args.wanted.now _ _ _ _ (c.args.k - (c.span-first.result.1 - c.span-first.result.0)) _ _ s t (omega (arith, all, c.requires.within)) (omega arith)
-    (ap (λ e. e.position) c.index-2.ensures ∙ sym (at_position c.args.self.now.recent.items (c.span-later.result.0 + (c.args.k - (c.span-first.result.1 - c.span-first.result.0))) c.index-2.result.now (omega (arith, all, t.end, c.requires.within, positions_length c.args.self.now.recent.items))))
+    let run = entries_in c.args.self.now in
+    let s : IsSpan (value_at c.args.rows.now c.args.column) c.args.wanted.now (positions run) c.span-first.result.0 c.span-first.result.1 = rw c.as_slice.ensures.value at c.span-first.ensures in
+    let all = matches-span c.args.rows.now c.args.column (positions run) c.requires.columns c.requires.index.entries.order c.args.wanted.now _ _ s in
+    let within : c.span-first.result.0 + c.args.k < length run = omega (arith, all, s.end, c.requires.within, positions_length run) in
+    let is = rw c.as_slice-2.ensures.value at c.entry.ensures in
+    IsMatch-span c.args.rows.now c.args.column (positions run) c.requires.columns c.requires.index.entries.order c.args.wanted.now _ _ _ _ s (omega (arith, all, c.requires.within))
+    (ap (λ e. e.position) is ∙ sym (at_position run (c.span-first.result.0 + c.args.k) c.entry.result within))

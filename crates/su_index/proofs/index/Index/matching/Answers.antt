@@ -1,13 +1,14 @@
 use Rattle.su_index.specs.Entries.{positions}
-use Rattle.su_index.proofs.Spans.{settled_positions, recent_positions, matches-spans}
+use Rattle.su_index.specs.Indexed.{entries_in}
+use Rattle.su_index.proofs.Entries.{index_length}
+use Rattle.su_index.proofs.Spans.{index_positions, matches-span}
 use Rattle.su_index.proofs.index.Index.matching.Goals as goal
 
-pub span-first-requires-clause-positions : goal.span-first-requires-clause-positions
-span-first-requires-clause-positions c = rw c.as_slice.ensures.value (settled_positions _ _ _ _ c.requires.index.order)
+pub span-first-requires-clause-count : goal.span-first-requires-clause-count
+span-first-requires-clause-count c = rw c.as_slice.ensures.value (index_length _ _ _ c.requires.index.entries)
 
-pub span-later-requires-clause-positions : goal.span-later-requires-clause-positions
-span-later-requires-clause-positions c = rw c.as_slice-2.ensures.value (recent_positions _ _ _ _ c.requires.index.order)
+pub span-first-requires-clause-positions : goal.span-first-requires-clause-positions
+span-first-requires-clause-positions c = rw c.as_slice.ensures.value (index_positions _ _ _ c.requires.index.entries.order)
 
 pub returns : goal.returns
-returns c =
-    matches-spans c.args.rows.now c.args.column (positions c.args.self.now.settled.items) (positions c.args.self.now.recent.items) c.requires.columns c.requires.index.order c.args.wanted.now _ _ _ _ (rw c.as_slice.ensures.value at c.span-first.ensures) (rw c.as_slice-2.ensures.value at c.span-later.ensures)
+returns c = matches-span c.args.rows.now c.args.column (positions (entries_in c.args.self.now)) c.requires.columns c.requires.index.entries.order c.args.wanted.now _ _ (rw c.as_slice.ensures.value at c.span-first.ensures)

@@ -6,8 +6,8 @@ use Rattle.su_state.specs.DatabaseValue.{empty_tables}
 use Rattle.su_state.proofs.Empty.{empty_table, empty_kept, empty_more, table_is}
 use Rattle.su_state.proofs.databases.Database.new.Goals as goal
 
-pub invariant_of-result : goal.invariant_of-result
-invariant_of-result c =
+pub invariant_of-db : goal.invariant_of-db
+invariant_of-db c =
     let many : length (empty_tables c.args.schema) ≡ length c.args.schema.relations = length-map (relation_columns c.args.schema) empty_table ∙ length-map c.args.schema.relations (λ r. r.columns) in
     let end : c.loop-r.r ≡ length (empty_tables c.args.schema) = omega arith in
     let all : c.loop-r.tables ≡ empty_tables c.args.schema = c.loop-r.invariant ∙ ap (λ (r : ℕ). take r (empty_tables c.args.schema)) end ∙ take-length (empty_tables c.args.schema) in
@@ -25,4 +25,4 @@ pub returns-clause-empty : goal.returns-clause-empty
 returns-clause-empty c =
     let many : length (empty_tables c.args.schema) ≡ length c.args.schema.relations = length-map (relation_columns c.args.schema) empty_table ∙ length-map c.args.schema.relations (λ r. r.columns) in
     let end : c.loop-r.r ≡ length (empty_tables c.args.schema) = omega arith in
-    c.into_vec.ensures ∙ c.loop-r.invariant ∙ ap (λ (r : ℕ). take r (empty_tables c.args.schema)) end ∙ take-length (empty_tables c.args.schema)
+    ap (λ d. d.tables) c.note_sides.ensures ∙ c.into_vec.ensures ∙ c.loop-r.invariant ∙ ap (λ (r : ℕ). take r (empty_tables c.args.schema)) end ∙ take-length (empty_tables c.args.schema)
