@@ -1,0 +1,17 @@
+pub mod Covering
+pub mod Boarded
+pub mod Counted
+pub mod TermSymbols
+pub mod NodeSymbols
+pub mod Spelled
+pub mod Runs
+pub mod Steps
+pub mod Joining
+pub mod Typing
+pub mod Exactly
+pub mod Branches
+pub mod Holes
+pub mod Least
+pub mod Good
+pub mod Folding
+pub mod Treeing

@@ -1,0 +1,12 @@
+use Rattle.std.proofs.Common.{◌≡◌, ◌++◌, length, map, All}
+use Rattle.su_check.specs.Grammar.{number, IsByte}
+use Rattle.su_check.proofs.items.bytes.Given as goal
+
+abbrev pub invariant-loop-n : goal.invariant-loop-n
+invariant-loop-n l = record {
+  whole : l.fn.reader.rest.now ≡ map number l.numbers ++ l.reader.rest.now;
+  are : All IsByte l.numbers;
+}
+
+abbrev pub decreases-loop-n : goal.decreases-loop-n
+decreases-loop-n l = length l.reader.rest.now

@@ -1,0 +1,5 @@
+use Rattle.std.proofs.Common.{refl}
+use Rattle.su_check.proofs.items.expect_number.Goals as goal
+
+pub returns-in-None-clause-only : goal.returns-in-None-clause-only
+returns-in-None-clause-only c = λ n r h e. c.in-None.ensures.none refl n h (r, e)

@@ -1,0 +1,11 @@
+use Rattle.std.proofs.Common.{◌≡◌, ◌++◌, length, map}
+use Rattle.su_check.specs.Grammar.{kind_symbol}
+use Rattle.su_check.proofs.items.kinds.Given as goal
+
+abbrev pub invariant-loop-kind : goal.invariant-loop-kind
+invariant-loop-kind l = record {
+  whole : l.fn.reader.rest.now ≡ map kind_symbol l.kinds ++ l.reader.rest.now;
+}
+
+abbrev pub decreases-loop-kind : goal.decreases-loop-kind
+decreases-loop-kind l = length l.reader.rest.now

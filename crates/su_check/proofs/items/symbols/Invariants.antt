@@ -1,0 +1,12 @@
+use Rattle.std.proofs.Common.{◌≡◌, ◌++◌, length, map, All}
+use Rattle.su_check.specs.Grammar.{sym_symbol, IsNamed}
+use Rattle.su_check.proofs.items.symbols.Given as goal
+
+abbrev pub invariant-loop-symbols : goal.invariant-loop-symbols
+invariant-loop-symbols l = record {
+  whole : l.fn.reader.rest.now ≡ map sym_symbol l.symbols ++ l.reader.rest.now;
+  are : All IsNamed l.symbols;
+}
+
+abbrev pub decreases-loop-symbols : goal.decreases-loop-symbols
+decreases-loop-symbols l = length l.reader.rest.now

@@ -1,0 +1,5 @@
+use Rattle.su_check.proofs.Good.{good_least}
+use Rattle.su_check.proofs.laws.a_good_term_is_least.Goals as goal
+
+pub returns : goal.returns
+returns c = good_least

@@ -1,0 +1,23 @@
+use Rattle.std.proofs.Common.{◌≡◌, ◌∷◌, ◌++◌, List, length, flat_map, All}
+use Rattle.su_lex.specs.declared.meaning.Symbol.{Symbol}
+use Rattle.su_lex.specs.declared.meaning.Symbol.TheVariants.{Sign}
+use Rattle.su_lex.specs.declared.signs.Sign.TheVariants as sign
+use Rattle.su_check.specs.declared.nodes.Node.{Node}
+use Rattle.su_check.specs.Refuting.{row_named, branches_of}
+use Rattle.su_check.specs.Grammar.{number, node_symbols, IsByteNode}
+use Rattle.su_check.proofs.NodeSymbols.{branch_symbols, IsByteBranch}
+use Rattle.su_check.proofs.Runs.{Left}
+use Rattle.su_check.proofs.lines.+node.Given as goal
+
+abbrev pub decreases-node : goal.decreases-node
+decreases-node l = length l.reader.now.rest.now
+
+abbrev pub invariant-loop-target : goal.invariant-loop-target
+invariant-loop-target l = record {
+  whole : l.fn.reader.rest.now ≡ Sign sign.Open ∷ number l.row ∷ (flat_map branch_symbols l.next ++ l.reader.rest.now);
+  are : All IsByteBranch l.next;
+  left : (n : Node) (r : List Symbol) → IsByteNode n → l.fn.reader.rest.now ≡ node_symbols n ++ r → (row_named n ≡ l.row) × Left branch_symbols IsByteBranch (branches_of n) l.next l.reader.rest.now (Sign sign.Close ∷ r);
+}
+
+abbrev pub decreases-loop-target : goal.decreases-loop-target
+decreases-loop-target l = length l.reader.rest.now

@@ -1,0 +1,16 @@
+use Rattle.std.proofs.Common.{◌≡◌, ◌++◌, List, [], length, flat_map, All}
+use Rattle.su_check.specs.declared.certificates.Term.{Term}
+use Rattle.su_check.specs.Grammar.{IsTermInRange}
+use Rattle.su_check.specs.Reading.{term_symbols}
+use Rattle.su_check.proofs.Runs.{Left}
+use Rattle.su_check.proofs.lines.terms.Given as goal
+
+abbrev pub invariant-loop-terms : goal.invariant-loop-terms
+invariant-loop-terms l = record {
+  whole : l.fn.reader.rest.now ≡ flat_map term_symbols l.terms ++ l.reader.rest.now;
+  are : All (IsTermInRange l.width) l.terms;
+  left : (all : List Term) → All (IsTermInRange l.width) all → l.fn.reader.rest.now ≡ flat_map term_symbols all ++ [] → Left term_symbols (IsTermInRange l.width) all l.terms l.reader.rest.now [];
+}
+
+abbrev pub decreases-loop-terms : goal.decreases-loop-terms
+decreases-loop-terms l = length l.reader.rest.now

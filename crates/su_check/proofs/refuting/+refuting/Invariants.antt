@@ -1,0 +1,22 @@
+use Rattle.std.proofs.Common.{◌≡◌, ℕ, ◌<◌, map, get_or}
+use Rattle.su_check.specs.declared.nodes.Branch.{Branch}
+use Rattle.su_check.specs.Certificate.{lines_of}
+use Rattle.su_check.specs.Fitting.{sent_too}
+use Rattle.su_check.specs.Boards.{Keeps}
+use Rattle.su_check.specs.Refuting.{IsFitting, Refutes, row_named, branches_of, target_of, node_of}
+use Rattle.su_check.proofs.Exactly.{Front}
+use Rattle.su_check.proofs.refuting.+refuting.Given as goal
+
+abbrev pub decreases-branch_refutes : goal.decreases-branch_refutes
+decreases-branch_refutes l = goal.size-branch_refutes l
+
+abbrev pub decreases-refutes : goal.decreases-refutes
+decreases-refutes l = goal.size-refutes l
+
+abbrev pub invariant-refutes-loop-i : goal.invariant-refutes-loop-i
+invariant-refutes-loop-i l = record {
+  same : l.sent ≡ l.fn.sent;
+  keeps : Keeps (lines_of l.term) l.board l.fn.sent l.fn.places l.places;
+  front : Front (IsFitting (lines_of l.term) l.left_out l.fn.sent (row_named l.node)) l.term.kept (map target_of (branches_of l.node)) l.i l.passed;
+  good : (a : ℕ) (d : Branch) → a < l.passed → Refutes (lines_of l.term) l.left_out (node_of (get_or (branches_of l.node) a d)) (sent_too l.fn.sent (row_named l.node) (target_of (get_or (branches_of l.node) a d)));
+}

@@ -1,0 +1,10 @@
+pub mod Cells
+pub mod Agreeing
+pub mod Fitting
+pub mod Refuting
+pub mod Boards
+pub mod Certificate
+pub mod Nesting
+pub mod Grammar
+pub mod Reading
+pub mod Verdict

@@ -1,0 +1,48 @@
+//! Whether a term is good in form.
+ghost use Rattle.std.specs.Prelude.{◌≡◌, ◌↔◌, IsTrue, IfOk, MatchOption, length, All};
+ghost use Rattle.su_check.specs.Boards.{IsBoard};
+ghost use Rattle.su_check.specs.Certificate.{lines_of, IsGoodForm};
+
+use crate::boards::{Board, board_of, variables_in};
+use crate::certificates::Term;
+use crate::kinds::are_typed;
+use crate::numbers::{are_below, is_ascending};
+use std::alloc::Global;
+use su_base::{Kind, List, NoMemory};
+use su_tableau::Sym;
+
+/// Whether each row has the width.
+fn are_wide(rows: &[List<Sym>], width: usize) -> bool
+    ensures { IsTrue result ↔ All (λ r. length r ≡ width) rows.now }
+{
+    for row in rows {
+        if row.len() != width {
+            return false;
+        }
+    }
+    true
+}
+
+/// The board of the term at this place, if the term is good in form.
+pub fn board_of_form(
+    alloc: Global,
+    kinds: &[Kind],
+    place: u32,
+    term: &Term,
+) -> Result<Option<Board>, NoMemory>
+    ensures { IfOk result (λ o. MatchOption o (¬ (IsGoodForm kinds.now place term.now)) (λ b. IsGoodForm kinds.now place term.now × IsBoard (lines_of term.now) b)) }
+{
+    let rows = term.rows.as_slice();
+    if term.number != place || rows.len() > 64 || !are_wide(rows, kinds.len()) {
+        return Ok(None);
+    }
+    let kept = term.kept.as_slice();
+    if !is_ascending(kept) || !are_below(kept, rows.len()) {
+        return Ok(None);
+    }
+    let variables = variables_in(alloc, rows)?;
+    if !are_typed(alloc, kinds, rows, variables.as_slice())? {
+        return Ok(None);
+    }
+    board_of(alloc, term, variables)
+}

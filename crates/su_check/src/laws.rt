@@ -1,0 +1,11 @@
+//! A theorem on certificates: the contract of a function that does nothing.
+ghost use Rattle.std.specs.Prelude.{ℕ};
+ghost use Rattle.su_tableau.specs.Kinds.{Kinds};
+ghost use Rattle.su_check.specs.declared.certificates.Term.{Term};
+ghost use Rattle.su_check.specs.Certificate.{tableau_of, IsGood, IsLeastPart};
+
+/// The part of the kept rows of a good term is valid, has the answers of the whole, and has the
+/// fewest rows of all tableaux that have them.
+pub fn a_good_term_is_least()
+    ensures { (kinds : Kinds) (i : ℕ) (x : Term) → IsGood kinds i x → IsLeastPart kinds (tableau_of kinds x) x.kept }
+{}

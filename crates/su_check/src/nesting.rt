@@ -1,0 +1,43 @@
+//! How deep parentheses stand.
+ghost use Rattle.std.specs.Prelude.{◌≡◌, ◌↔◌, IsTrue};
+ghost use Rattle.su_check.specs.Nesting.{is_open, is_close, IsDeep};
+
+use su_lex::{Sign, Symbol};
+
+fn is_open(symbol: &Symbol) -> bool
+    ensures { result ≡ is_open symbol.now }
+{
+    match symbol {
+        Symbol::Sign(Sign::Open) => true,
+        _ => false,
+    }
+}
+
+fn is_close(symbol: &Symbol) -> bool
+    ensures { result ≡ is_close symbol.now }
+{
+    match symbol {
+        Symbol::Sign(Sign::Close) => true,
+        _ => false,
+    }
+}
+
+/// Whether some front has over 64 more opening parentheses than closing ones.
+pub fn nests_too_deep(symbols: &[Symbol]) -> bool
+    ensures { IsTrue result ↔ IsDeep symbols.now }
+{
+    let mut opened = 0usize;
+    let mut closed = 0usize;
+    for symbol in symbols {
+        if is_open(symbol) {
+            opened += 1;
+        }
+        if is_close(symbol) {
+            closed += 1;
+        }
+        if opened > closed && opened - closed > 64 {
+            return true;
+        }
+    }
+    false
+}

@@ -1,0 +1,126 @@
+//! Whether a tree shows that a row can't be left out.
+ghost use Rattle.std.specs.Prelude.{◌≡◌, ◌≢◌, ◌↔◌, IsTrue, IfOk, All, Contains};
+ghost use Rattle.su_check.specs.Certificate.{lines_of};
+ghost use Rattle.su_check.specs.Fitting.{sent_too};
+ghost use Rattle.su_check.specs.Boards.{Keeps, IsReady};
+ghost use Rattle.su_check.specs.Refuting.{IsOpen, IsFitting, Refutes, target_of, node_of};
+
+use crate::boards::Board;
+use crate::certificates::Term;
+use crate::fitting::fits;
+use crate::nodes::{Branch, Node};
+use crate::numbers::contains;
+use crate::sending::{Place, Sent};
+use su_base::{List, NoMemory};
+
+/// Whether the row has no target.
+fn is_free(sent: &[Sent], row: u8) -> bool
+    ensures { IsTrue result ↔ All (λ x. x.row ≢ row) sent.now }
+{
+    for one in sent {
+        if one.row == row {
+            return false;
+        }
+    }
+    true
+}
+
+/// Whether the row is kept and has no target.
+fn is_open(term: &Term, sent: &[Sent], row: u8) -> bool
+    ensures { IsTrue result ↔ IsOpen (lines_of term.now) sent.now row }
+{
+    if !contains(term.kept.as_slice(), row) {
+        return false;
+    }
+    is_free(sent, row)
+}
+
+/// Whether the row can go to the target, which is kept, and not the row that is left out.
+fn is_fitting(
+    term: &Term,
+    board: &Board,
+    left_out: u8,
+    sent: &mut List<Sent>,
+    places: &mut [Place],
+    row: u8,
+    target: u8,
+) -> Result<bool, NoMemory>
+    requires ready { IsReady (lines_of term.now) board.now sent.old places.old }
+    requires row { Contains term.now.kept row }
+    requires target { Contains term.now.kept target }
+    ensures same { IfOk result (λ _. sent.new ≡ sent.old) }
+    ensures fits { IfOk result (λ b. IsTrue b ↔ IsFitting (lines_of term.now) left_out sent.old row target) }
+    ensures ready { IfOk result (λ b. IsTrue b → IsReady (lines_of term.now) board.now (sent_too sent.old row target) places.new) }
+    ensures keeps { IfOk result (λ _. Keeps (lines_of term.now) board.now sent.old places.old places.new) }
+{
+    if target == left_out {
+        return Ok(false);
+    }
+    fits(term, board, sent, places, row, target)
+}
+
+/// Whether the node refutes the partial list.
+#[cycle(refuting)]
+pub fn refutes(
+    term: &Term,
+    board: &Board,
+    left_out: u8,
+    node: &Node,
+    sent: &mut List<Sent>,
+    places: &mut [Place],
+) -> Result<bool, NoMemory>
+    requires ready { IsReady (lines_of term.now) board.now sent.old places.old }
+    ensures same { IfOk result (λ _. sent.new ≡ sent.old) }
+    ensures tells { IfOk result (λ b. IsTrue b ↔ Refutes (lines_of term.now) left_out node.now sent.old) }
+    ensures keeps { IfOk result (λ _. Keeps (lines_of term.now) board.now sent.old places.old places.new) }
+{
+    if !is_open(term, sent.as_slice(), node.row) {
+        return Ok(false);
+    }
+    let mut passed = 0;
+    for i in 0..term.kept.len() {
+        let target = term.kept.as_slice()[i];
+        if is_fitting(term, board, left_out, sent, places, node.row, target)? {
+            if passed == node.next.len() {
+                return Ok(false);
+            }
+            let branch = &node.next.as_slice()[passed];
+            if !branch_refutes(
+                term, board, left_out, node.row, target, branch, sent, places,
+            )? {
+                return Ok(false);
+            }
+            passed += 1;
+        }
+    }
+    if passed != node.next.len() {
+        return Ok(false);
+    }
+    Ok(true)
+}
+
+/// Whether the branch is that of the target, and its node refutes the list in which the row goes there.
+#[cycle(refuting)]
+fn branch_refutes(
+    term: &Term,
+    board: &Board,
+    left_out: u8,
+    row: u8,
+    target: u8,
+    branch: &Branch,
+    sent: &mut List<Sent>,
+    places: &mut [Place],
+) -> Result<bool, NoMemory>
+    requires ready { IsReady (lines_of term.now) board.now (sent_too sent.old row target) places.old }
+    ensures same { IfOk result (λ _. sent.new ≡ sent.old) }
+    ensures tells { IfOk result (λ b. IsTrue b ↔ ((target_of branch.now ≡ target) × Refutes (lines_of term.now) left_out (node_of branch.now) (sent_too sent.old row target))) }
+    ensures keeps { IfOk result (λ _. Keeps (lines_of term.now) board.now sent.old places.old places.new) }
+{
+    if branch.target != target {
+        return Ok(false);
+    }
+    sent.push(Sent { row, target })?;
+    let refuted = refutes(term, board, left_out, &branch.node, sent, places)?;
+    sent.pop();
+    Ok(refuted)
+}

@@ -1,0 +1,57 @@
+//! Whether each kept row has a tree.
+ghost use Rattle.std.specs.Prelude.{◌≡◌, ◌<◌, ◌↔◌, ℕ, IsTrue, IfOk, MatchOption, [], length};
+ghost use Rattle.su_check.specs.Boards.{IsReady};
+ghost use Rattle.su_check.specs.Certificate.{lines_of, IsGoodTree};
+ghost use Rattle.su_check.specs.Verdict.{HasGoodTrees, IsTreeFault};
+
+use crate::boards::Board;
+use crate::certificates::Term;
+use crate::refuting::refutes;
+use crate::sending::Place;
+use std::alloc::Global;
+use su_base::{List, NoMemory};
+
+/// Whether the tree at this place is that of the kept row at this place, and refutes.
+fn is_good_tree(
+    alloc: Global,
+    term: &Term,
+    board: &Board,
+    places: &mut [Place],
+    k: usize,
+) -> Result<bool, NoMemory>
+    requires ready { IsReady (lines_of term.now) board.now [] places.old }
+    requires place { k < length term.now.kept }
+    ensures tells { IfOk result (λ b. IsTrue b ↔ IsGoodTree term.now k) }
+    ensures ready { IfOk result (λ _. IsReady (lines_of term.now) board.now [] places.new) }
+{
+    if k >= term.trees.len() {
+        return Ok(false);
+    }
+    let tree = term.trees.get(k);
+    if tree.row != term.kept.as_slice()[k] {
+        return Ok(false);
+    }
+    let mut sent = List::new(alloc);
+    refutes(term, board, tree.row, &tree.node, &mut sent, places)
+}
+
+/// The row whose tree is at fault, if there is one.
+pub fn tree_fault(
+    alloc: Global,
+    term: &Term,
+    board: &Board,
+    places: &mut [Place],
+) -> Result<Option<u8>, NoMemory>
+    requires ready { IsReady (lines_of term.now) board.now [] places.old }
+    ensures { IfOk result (λ f. MatchOption f (HasGoodTrees term.now) (IsTreeFault term.now)) }
+{
+    for k in 0..term.kept.len() {
+        if !is_good_tree(alloc, term, board, places, k)? {
+            return Ok(Some(term.kept.as_slice()[k]));
+        }
+    }
+    if term.trees.len() > term.kept.len() {
+        return Ok(Some(term.trees.get(term.kept.len()).row));
+    }
+    Ok(None)
+}

@@ -1,0 +1,49 @@
+-- Which targets fit, where one row more has its target.
+use Rattle.std.proofs.Common.{◌≡◌, ◌≢◌, ℕ, ◌<◌, ◌↔◌, List, [], ◌∷◌, length, Contains, refl, arith}
+use Rattle.std.proofs.lemmas.List.Elements.{All-push}
+use Rattle.su_tableau.specs.declared.symbols.Sym.{Sym}
+use Rattle.su_tableau.specs.declared.symbols.Sym.TheVariants.{Const, Var}
+use Rattle.su_tableau.specs.Mapping.{image_of, images_of}
+use Rattle.su_check.specs.declared.sending.Sent.{Sent}
+use Rattle.su_check.specs.Agreeing.{Agree}
+use Rattle.su_check.specs.Fitting.{Lines, row_of, AreSent, AreWide, sent_too}
+use Rattle.su_check.specs.Agreeing.{Goes, AgreesWith}
+use Rattle.su_check.specs.Refuting.{IsFitting}
+use Rattle.su_refute.specs.Positions.{IsReady}
+use Rattle.su_check.proofs.Joining.{all_front, all_last, sent_more, sent_less}
+
+same_symbol : (x : Sym) → image_of Var x ≡ x
+same_symbol (Const c) = refl
+same_symbol (Var k) = refl
+
+same_row : (xs : List Sym) → images_of Var xs ≡ xs
+same_row [] = refl
+same_row (x ∷ xs) = let i = same_row xs in let j = same_symbol x in cc
+
+-- the empty list is sent
+pub none_sent : (t : Lines) → AreSent t []
+none_sent t = record { symbols = Var; head = same_row t.head; rows = λ k d h. absurd (omega arith) }
+
+-- where no row has a target yet
+pub fits_first : (t : Lines) (r q i : ℕ) → AreWide t.rows → q < length t.rows → i < length t.rows → IsFitting t r [] q i ↔ (Contains t.kept i × (i ≢ r) × Goes t.head (row_of t q) (row_of t i))
+fits_first t r q i wide hq hi = (
+  λ fit. (fit.member, fit.other, (sent_less t [] q i fit.sent).0),
+  λ h. record { member = h.0; other = h.1; sent = sent_more t [] q i (wide q i hq hi) (none_sent t) h.2 (λ k d l. absurd (omega arith)) },
+)
+
+-- where row s has its target j too
+pub fits_next : (t : Lines) (r : ℕ) (p : List Sent) (s j q i : ℕ) → IsReady t p → IsFitting t r p s j → q < length t.rows → i < length t.rows
+    → (IsFitting t r p q i × Agree (row_of t s) (row_of t j) (row_of t q) (row_of t i)) ↔ IsFitting t r (sent_too p s j) q i
+fits_next t r p s j q i ready fit hq hi =
+    let wide = ready.wide q i hq hi in
+    let R : Sent → Type 0 = AgreesWith t (row_of t q) (row_of t i) in
+    let new : Sent = record { row = s; target = j } in (
+      λ h.
+          let less = sent_less t p q i h.0.sent in
+          record { member = h.0.member; other = h.0.other; sent = sent_more t (sent_too p s j) q i wide fit.sent less.0 (All-push R p new less.1 h.1) },
+      λ h.
+          let less = sent_less t (sent_too p s j) q i h.sent in (
+            record { member = h.member; other = h.other; sent = sent_more t p q i wide ready.sent less.0 (all_front R p new less.1) },
+            all_last R p new less.1,
+          ),
+    )

@@ -1,0 +1,5 @@
+use Rattle.su_map.proofs.Members.{and_both}
+use Rattle.su_refute.proofs.bits.both.Goals as goal
+
+pub returns : goal.returns
+returns c = and_both c.args.a c.args.b

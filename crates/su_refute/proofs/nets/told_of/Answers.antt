@@ -1,0 +1,15 @@
+use Rattle.std.proofs.Common.{[]}
+use Rattle.su_refute.specs.Nets.{AreTold}
+use Rattle.su_refute.proofs.Sharing.{push_entries, push_length}
+use Rattle.su_refute.proofs.nets.told_of.Goals as goal
+
+pub told-requires-clause-shared : goal.told-requires-clause-shared
+told-requires-clause-shared c = rw c.as_slice.ensures c.in_ok-shared.ensures.shared
+
+pub loop-target-preserved : goal.loop-target-preserved
+loop-target-preserved c =
+    let t = c.args.t.now in let n = c.loop-target.target in
+    record {
+      one_each = push_length c.loop-target.lists c.push.new.self n c.in_ok-told.field-0 c.in_ok-push.ensures.ok c.loop-target.invariant.one_each;
+      told = push_entries (λ j. AreTold t c.args.mask c.args.row j) c.loop-target.lists c.push.new.self n c.in_ok-told.field-0 [] c.in_ok-push.ensures.ok c.loop-target.invariant.one_each c.loop-target.invariant.told c.in_ok-told.ensures;
+    }

@@ -1,0 +1,7 @@
+use Rattle.std.proofs.Common.{◌≡◌, ℕ, ◌<◌, get_or}
+use Rattle.su_check.specs.Cells.{cell}
+use Rattle.su_refute.specs.declared.places.Places.{Places}
+use Rattle.su_refute.proofs.places.agree_at.Given as goal
+
+abbrev pub invariant-loop-at : goal.invariant-loop-at
+invariant-loop-at l = (i : ℕ) (d : Places) → i < l.at-index → cell l.us (get_or l.places i d).first ≡ cell l.vs (get_or l.places i d).second

@@ -1,0 +1,46 @@
+-- How certificates are written: a term for each tableau, and a line feed behind each line.
+use Rattle.std.specs.Prelude.{ℕ, suc, List, [], ◌∷◌, ◌++◌, flat_map}
+use Rattle.su_base.specs.declared.values.Kind.{Kind}
+use Rattle.su_lex.specs.declared.meaning.Symbol.{Symbol}
+use Rattle.su_lex.specs.Symbols.{spaced}
+use Rattle.su_map.specs.Lists.{rows_in}
+use Rattle.su_min.specs.Kept.{Minimised}
+use Rattle.su_check.specs.declared.nodes.Node.{Node}
+use Rattle.su_check.specs.declared.certificates.RowTree.{RowTree}
+use Rattle.su_check.specs.declared.certificates.Term.{Term}
+use Rattle.su_check.specs.declared.certificates.Certificate.{Certificate}
+use Rattle.su_check.specs.Grammar.{certificate_lines}
+
+-- each row with its tree, up to the end of the shorter list
+abbrev pub row_trees : List ℕ → List Node → List RowTree
+row_trees [] trees = []
+row_trees (r ∷ rows) [] = []
+row_trees (r ∷ rows) (n ∷ trees) = record { row = r; node = n } ∷ row_trees rows trees
+
+abbrev pub term_of : ℕ → Minimised → List Node → Term
+term_of i m trees = record {
+  number = i;
+  head = m.tableau.head;
+  rows = m.tableau.rows;
+  kept = rows_in m.tableau m.mask;
+  fold = m.fold;
+  trees = row_trees (rows_in m.tableau m.mask) trees;
+}
+
+-- the terms from number i on; a tableau without a list has no trees
+abbrev pub terms_from : ℕ → List Minimised → List (List Node) → List Term
+terms_from i [] lists = []
+terms_from i (m ∷ minimals) [] = term_of i m [] ∷ terms_from (suc i) minimals []
+terms_from i (m ∷ minimals) (trees ∷ lists) = term_of i m trees ∷ terms_from (suc i) minimals lists
+
+abbrev pub certificate_of : List Kind → List Minimised → List (List Node) → Certificate
+certificate_of kinds minimals lists = record { kinds = kinds; terms = terms_from 0 minimals lists }
+
+abbrev pub line_text : List Symbol → List ℕ
+line_text line = spaced line ++ 10 ∷ []
+
+abbrev pub lines_text : List (List Symbol) → List ℕ
+lines_text lines = flat_map line_text lines
+
+abbrev pub certificate_text : Certificate → List ℕ
+certificate_text c = lines_text (certificate_lines c)

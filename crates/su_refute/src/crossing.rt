@@ -1,0 +1,9 @@
+//! Every public type may be moved to another thread and shared between threads.
+use crate::faults::RefuteFault;
+use crate::refuting::Refuted;
+use su_base::crosses_threads;
+
+fn types_cross_threads() {
+    crosses_threads::<Refuted>();
+    crosses_threads::<RefuteFault>();
+}
