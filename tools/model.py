@@ -19,7 +19,11 @@ import re
 import sys
 from operator import eq, ge, gt, le, lt, ne
 
-USAGE = "usage: sysu run SCHEMA SCRIPT [--workers N] | sysu generate N\n"
+import certificates
+import check
+import csv_records
+
+USAGE = "usage: sysu run SCHEMA SCRIPT [--workers N] | sysu generate N | sysu check FILE\n"
 MARK = b"\xef\xbb\xbf"
 MEBIBYTE = 1 << 20
 
@@ -377,6 +381,7 @@ def read_statement(found):
     elif word == "closure":
         parts.append(reader.listed(reader.name))
     elif word in ["retrieve", "explain"]:
+        word = "explain with" if word == "explain" and reader.has("with") else word
         reader.at -= word == "retrieve"
         outputs, condition = parts = read_query(reader)
     reader.take("end")
@@ -662,8 +667,6 @@ def explanation(schema, written, query, reduced):
     return lines + [f"terms {len(reduced.terms)} kept {len(reduced.kept)}"]
 
 # The stored relations and their changes
-FIELD = re.compile(rb'(?:"((?:[^"]+|"")*)(?:"|\Z))?([^,\r\n]*)(,|\r|\n|\Z)')
-
 class Database:
     """A schema, and one set of rows per relation."""
     def __init__(self, schema):
@@ -705,27 +708,10 @@ def insert(database, relation, row):
     stored.add(row)
     return 1
 
-def records(data):
-    """The records of a CSV file: fields parted by commas, records by line feeds, carriage returns or both; blank lines
-    are none. A field that begins with a quote goes on to the next single quote, a doubled one in it being one quote,
-    and what stands between that quote and the field's end belongs to it too."""
-    found, record, at = [], [], 0
-    while at < len(data):
-        if not record and data[at] in b"\r\n":
-            at += 1
-            continue
-        match = FIELD.match(data, at)
-        record.append((match[1] or b"").replace(b'""', b'"') + match[2])
-        if match[3] != b",":
-            found.append(record)
-            record = []
-        at = match.end()
-    return found + [record + [b""]] if record else found
-
 def read_rows(data, columns):
     """The rows of a CSV file whose first record is the column names; the first record at fault refuses it, in the
     order: past 1,000,000 records, width, a field that is no number, a field that is no text."""
-    found = records(data[3:] if data.startswith(MARK) else data)
+    found = csv_records.records(data[3:] if data.startswith(MARK) else data)
     if found[:1] != [[name.encode("ascii") for name, _ in columns]]:
         raise Refused("header")
     rows = []
@@ -815,11 +801,16 @@ def replied(database, piece, files):
         used, reached = derivation(schema.fds, {find(schema.attributes, name) for name in parts[0]})
         names = " ".join(names_of(schema.attributes, reached))
         return ["closure " + names] + ["  by " + shown_fd(schema, fd) for fd in used]
-    if word in ["retrieve", "explain"]:
+    if word in ["retrieve", "explain", "explain with"]:
         query = Query(schema, *parts)
         reduced = Reduced(terms(schema, maximal_objects(schema), query))
         if word == "explain":
             return explanation(schema, parts, query, reduced)
+        if word == "explain with":
+            lines, nodes = certificates.written(schema, reduced, head, shown_value)
+            if nodes > 200000:
+                raise Refused("limit nodes 200000")
+            return lines
         return table([shown_ref(ref) for ref in parts[0]], answer(database, reduced))
     relation = find(schema.relations, parts[0])
     if relation is None:
@@ -861,6 +852,12 @@ def output(words, files):
     """The status and the text of a run over files, a function that gives so many bytes of a named file at most, or None
     where it can't be read. Statements are taken in order, each on the database so far; the status is 1 where some
     reply is a refusal, else 0; other words give the usage line and 2."""
+    if words[:1] == ["check"] and len(words) == 2:
+        try:
+            line = check.verdict(read_file(files, words[1], 16 * MEBIBYTE))
+            return int(line.startswith("no")), line + "\n"
+        except Ended as end:
+            return end.args[0], ""
     options = [[]] + [["--workers", str(count)] for count in range(1, 17)]
     if words[:1] != ["run"] or len(words) < 3 or words[3:] not in options:
         return 2, USAGE

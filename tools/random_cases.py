@@ -285,7 +285,7 @@ def statement(draw, database, files):
     schema = database.schema
     choice = draw.random()
     if choice < 0.5 or not schema.relations:
-        word = draw.choice(["", "", "explain "])
+        word = draw.choice(["", "", "explain ", "explain with "])
         return word + query(draw, database)
     name, columns = draw.choice(schema.relations)
     if choice < 0.58:
@@ -309,7 +309,7 @@ def statement(draw, database, files):
     if choice < 0.91:
         return draw.choice(["print NOPE", "insert NOPE (1)", "delete NOPE where A = 1", "load NOPE from 'none.csv'",
                             "closure (NOPE)", "generate 1", "compare (retrieve (A)) with (retrieve (A))", "window (A)",
-                            "explain from retrieve (A)", "explain with retrieve (A)",
+                            "explain from retrieve (A)", "explain with with retrieve (A)",
                             "retrieve (A) where not not A = 1",
                             f"print {'L' * 65}", f"insert NOPE ('{'t' * 4097}')", f"insert NOPE ('{'t' * 4096}')",
                             f"insert {name} ({', '.join(repr('t' * 4096) for _ in columns)})",
@@ -385,19 +385,56 @@ def words_of(draw):
         [], ["run"], ["run", "schema"], ["run", "schema", "script", "--workers"], ["run", "schema", "script", "more"],
         ["run", "schema", "script", "--workers", "0"], ["run", "schema", "script", "--workers", "17"],
         ["run", "schema", "script", "--workers", "01"], ["run", "schema", "script", "--workers", "+1"],
-        ["run", "schema", "script", "--workers", "8", "9"], ["generate", "1"], ["check", "schema"],
+        ["run", "schema", "script", "--workers", "8", "9"], ["generate", "1"], ["check"], ["check", "schema"], ["check", "none"],
+        ["check", "schema", "script"],
         ["Run", "schema", "script"],
         ["run", "schema", "script", "--workers=2"], ["run", "script", "schema"], ["run", "", "script"],
         *([["run", "schema", "script", "--workers", str(n)] for n in (1, 2, 8, 16)] * 3)])
 
 
+# Certificates
+
+
+def changed(draw, certificate):
+    """A certificate, mostly with one token left out, doubled, or put in another's place."""
+    parts = re.findall(rb"'(?:[^']|'')*'|\w+|-\d+|[()]|\s+", certificate)
+    places = [i for i, part in enumerate(parts) if part.strip()]
+    at, other = draw.choice(places), draw.choice(places)
+    what = draw.random()
+    if what < 0.25:
+        parts[at] = b""
+    elif what < 0.4:
+        parts[at] = parts[at] + b" " + parts[at]
+    elif what < 0.75:
+        parts[at] = parts[draw.choice([max(at - 2, 0), min(at + 2, len(parts) - 1), other])]
+    elif what < 0.85:
+        parts[at] = draw.choice([b"0", b"1", b"2", b"64", b"255", b"256", b"v0", b"v01", b"v4294967296", b"-1", b"tree",
+                                 b"()", b"--c\n", b";", b"''", b"int", b"4294967296", b"term", b"(" * 65])
+    elif what < 0.92:
+        del parts[at:]
+    return b"".join(parts)
+
+
+def certificate_case(draw, database):
+    """The check of a certificate of a query."""
+    text = b"explain with " + query(draw, database).encode()
+    try:
+        lines = model.replied(database, text, None)
+    except model.Refused:
+        lines = ["certificate 1", "kinds int"]
+    certificate = "".join(line + "\n" for line in lines).encode("utf-8")
+    return Case([], [], {"certificate": [changed(draw, certificate)]}, ["check", "certificate"])
+
+
 def random_case(draw, number):
-    """A random case; every tenth is one at a limit."""
+    """A random case; every tenth is one at a limit, and every tenth the check of a certificate."""
     if number % 10 == 9:
         found = limited(draw, number // 10)
         return Case([s.encode() for s in found.schema], [s.encode() for s in found.script])
     schema = [s.encode() for s in schema_statements(draw)]
     database = model.Database(model.read_schema(b";".join(schema)))
+    if number % 10 == 4:
+        return certificate_case(draw, database)
     files, script = {}, []
     for name, columns in database.schema.relations:
         for _ in range(draw.choice([0, 2, 3, 4, 5])):

@@ -10,7 +10,7 @@ use Rattle.su_query.specs.declared.refs.Ref.{Ref as ARef}
 use Rattle.su_query.specs.declared.conditions.NamedCond.{NamedCond}
 use Rattle.su_query.specs.declared.statements.Query.{Query as AQuery}
 use Rattle.su_query.specs.declared.statements.Statement.{Statement}
-use Rattle.su_query.specs.declared.statements.Statement.TheVariants.{Insert, Delete, DeleteWhere, Load, Print, Schema, Closure, Retrieve, Explain}
+use Rattle.su_query.specs.declared.statements.Statement.TheVariants.{Insert, Delete, DeleteWhere, Load, Print, Schema, Closure, Retrieve, Explain, Certify}
 use Rattle.su_lex.specs.Names.{Begins}
 use Rattle.su_query.specs.Lists.{Several, opens_second}
 use Rattle.su_query.specs.Grammar.{ReadsName, ReadsValue, ReadsRef, ReadsCond}
@@ -42,6 +42,7 @@ insert_inv st s t w (g.schema _ _ e e') = absurd (apart (codes "insert") (codes 
 insert_inv st s t w (g.closure _ names _ t' e e' h) = absurd (apart (codes "insert") (codes "closure") s t t' w e' refl)
 insert_inv st s t w (g.retrieve _ q _ e h) = absurd (apart (codes "insert") (codes "retrieve") s t (Sign sign.Open ∷ h.refs) w h.begins refl)
 insert_inv st s t w (g.explain _ q _ t' e e' h) = absurd (apart (codes "insert") (codes "explain") s t t' w e' refl)
+insert_inv st s t w (g.certify _ q _ t' e e' h) = absurd (apart (codes "insert") (codes "explain") s t (Word (codes "with") ∷ t') w e' refl)
 
 pub delete_inv : (st : Statement) (s t : List Symbol) → s ≡ Word (codes "delete") ∷ t → IsForm st s → ((relation : List ℕ) × (row : List Value) × (st ≡ Delete relation row) × RowForm relation row t) ⊎ ((relation : List ℕ) × (cond : NamedCond) × (st ≡ DeleteWhere relation cond) × ConditionForm relation cond t)
 delete_inv st s t w (g.insert _ relation row _ t' e e' h) = absurd (apart (codes "delete") (codes "insert") s t t' w e' refl)
@@ -53,6 +54,7 @@ delete_inv st s t w (g.schema _ _ e e') = absurd (apart (codes "delete") (codes 
 delete_inv st s t w (g.closure _ names _ t' e e' h) = absurd (apart (codes "delete") (codes "closure") s t t' w e' refl)
 delete_inv st s t w (g.retrieve _ q _ e h) = absurd (apart (codes "delete") (codes "retrieve") s t (Sign sign.Open ∷ h.refs) w h.begins refl)
 delete_inv st s t w (g.explain _ q _ t' e e' h) = absurd (apart (codes "delete") (codes "explain") s t t' w e' refl)
+delete_inv st s t w (g.certify _ q _ t' e e' h) = absurd (apart (codes "delete") (codes "explain") s t (Word (codes "with") ∷ t') w e' refl)
 
 pub load_inv : (st : Statement) (s t : List Symbol) → s ≡ Word (codes "load") ∷ t → IsForm st s → (relation : List ℕ) × (file : List ℕ) × (st ≡ Load relation file) × FileForm relation file t
 load_inv st s t w (g.insert _ relation row _ t' e e' h) = absurd (apart (codes "load") (codes "insert") s t t' w e' refl)
@@ -64,6 +66,7 @@ load_inv st s t w (g.schema _ _ e e') = absurd (apart (codes "load") (codes "sch
 load_inv st s t w (g.closure _ names _ t' e e' h) = absurd (apart (codes "load") (codes "closure") s t t' w e' refl)
 load_inv st s t w (g.retrieve _ q _ e h) = absurd (apart (codes "load") (codes "retrieve") s t (Sign sign.Open ∷ h.refs) w h.begins refl)
 load_inv st s t w (g.explain _ q _ t' e e' h) = absurd (apart (codes "load") (codes "explain") s t t' w e' refl)
+load_inv st s t w (g.certify _ q _ t' e e' h) = absurd (apart (codes "load") (codes "explain") s t (Word (codes "with") ∷ t') w e' refl)
 
 pub print_inv : (st : Statement) (s t : List Symbol) → s ≡ Word (codes "print") ∷ t → IsForm st s → (relation : List ℕ) × (st ≡ Print relation) × (t ≡ Word relation ∷ []) × IsName relation
 print_inv st s t w (g.insert _ relation row _ t' e e' h) = absurd (apart (codes "print") (codes "insert") s t t' w e' refl)
@@ -75,6 +78,7 @@ print_inv st s t w (g.schema _ _ e e') = absurd (apart (codes "print") (codes "s
 print_inv st s t w (g.closure _ names _ t' e e' h) = absurd (apart (codes "print") (codes "closure") s t t' w e' refl)
 print_inv st s t w (g.retrieve _ q _ e h) = absurd (apart (codes "print") (codes "retrieve") s t (Sign sign.Open ∷ h.refs) w h.begins refl)
 print_inv st s t w (g.explain _ q _ t' e e' h) = absurd (apart (codes "print") (codes "explain") s t t' w e' refl)
+print_inv st s t w (g.certify _ q _ t' e e' h) = absurd (apart (codes "print") (codes "explain") s t (Word (codes "with") ∷ t') w e' refl)
 
 pub schema_inv : (st : Statement) (s t : List Symbol) → s ≡ Word (codes "schema") ∷ t → IsForm st s → (st ≡ Schema) × (t ≡ [])
 schema_inv st s t w (g.insert _ relation row _ t' e e' h) = absurd (apart (codes "schema") (codes "insert") s t t' w e' refl)
@@ -86,6 +90,7 @@ schema_inv st s t w (g.schema _ _ e e') = let at : t ≡ [] = cc in (e, at)
 schema_inv st s t w (g.closure _ names _ t' e e' h) = absurd (apart (codes "schema") (codes "closure") s t t' w e' refl)
 schema_inv st s t w (g.retrieve _ q _ e h) = absurd (apart (codes "schema") (codes "retrieve") s t (Sign sign.Open ∷ h.refs) w h.begins refl)
 schema_inv st s t w (g.explain _ q _ t' e e' h) = absurd (apart (codes "schema") (codes "explain") s t t' w e' refl)
+schema_inv st s t w (g.certify _ q _ t' e e' h) = absurd (apart (codes "schema") (codes "explain") s t (Word (codes "with") ∷ t') w e' refl)
 
 pub closure_inv : (st : Statement) (s t : List Symbol) → s ≡ Word (codes "closure") ∷ t → IsForm st s → (names : List (List ℕ)) × (st ≡ Closure names) × NamesForm names t
 closure_inv st s t w (g.insert _ relation row _ t' e e' h) = absurd (apart (codes "closure") (codes "insert") s t t' w e' refl)
@@ -97,8 +102,9 @@ closure_inv st s t w (g.schema _ _ e e') = absurd (apart (codes "closure") (code
 closure_inv st s t w (g.closure _ names _ t' e e' h) = let at : t' ≡ t = cc in (names, e, subst (λ (x : List Symbol). NamesForm names x) at h)
 closure_inv st s t w (g.retrieve _ q _ e h) = absurd (apart (codes "closure") (codes "retrieve") s t (Sign sign.Open ∷ h.refs) w h.begins refl)
 closure_inv st s t w (g.explain _ q _ t' e e' h) = absurd (apart (codes "closure") (codes "explain") s t t' w e' refl)
+closure_inv st s t w (g.certify _ q _ t' e e' h) = absurd (apart (codes "closure") (codes "explain") s t (Word (codes "with") ∷ t') w e' refl)
 
-pub explain_inv : (st : Statement) (s t : List Symbol) → s ≡ Word (codes "explain") ∷ t → IsForm st s → (q : AQuery) × (st ≡ Explain q) × QueryForm q t
+pub explain_inv : (st : Statement) (s t : List Symbol) → s ≡ Word (codes "explain") ∷ t → IsForm st s → ((q : AQuery) × (st ≡ Explain q) × QueryForm q t) ⊎ ((q : AQuery) × (u : List Symbol) × (st ≡ Certify q) × (t ≡ Word (codes "with") ∷ u) × QueryForm q u)
 explain_inv st s t w (g.insert _ relation row _ t' e e' h) = absurd (apart (codes "explain") (codes "insert") s t t' w e' refl)
 explain_inv st s t w (g.delete _ relation row _ t' e e' h) = absurd (apart (codes "explain") (codes "delete") s t t' w e' refl)
 explain_inv st s t w (g.delete_where _ relation cond _ t' e e' h) = absurd (apart (codes "explain") (codes "delete") s t t' w e' refl)
@@ -107,7 +113,18 @@ explain_inv st s t w (g.print _ relation _ e e' named) = absurd (apart (codes "e
 explain_inv st s t w (g.schema _ _ e e') = absurd (apart (codes "explain") (codes "schema") s t [] w e' refl)
 explain_inv st s t w (g.closure _ names _ t' e e' h) = absurd (apart (codes "explain") (codes "closure") s t t' w e' refl)
 explain_inv st s t w (g.retrieve _ q _ e h) = absurd (apart (codes "explain") (codes "retrieve") s t (Sign sign.Open ∷ h.refs) w h.begins refl)
-explain_inv st s t w (g.explain _ q _ t' e e' h) = let at : t' ≡ t = cc in (q, e, subst (λ (x : List Symbol). QueryForm q x) at h)
+explain_inv st s t w (g.explain _ q _ t' e e' h) = let at : t' ≡ t = cc in inl (q, e, subst (λ (x : List Symbol). QueryForm q x) at h)
+explain_inv st s t w (g.certify _ q _ t' e e' h) = let at : t ≡ Word (codes "with") ∷ t' = cc in inr (q, t', e, at, h)
+
+-- what begins with `with` is no query
+pub no_query_with : (q : AQuery) (s t : List Symbol) → s ≡ Word (codes "with") ∷ t → QueryForm q s → ⊥
+no_query_with q s t w h = apart (codes "with") (codes "retrieve") s t (Sign sign.Open ∷ h.refs) w h.begins refl
+
+pub certify_inv : (st : Statement) (s t : List Symbol) → s ≡ Word (codes "explain") ∷ Word (codes "with") ∷ t → IsForm st s → (q : AQuery) × (st ≡ Certify q) × QueryForm q t
+certify_inv st s t w h = elim (explain_inv st s (Word (codes "with") ∷ t) w h) [
+  | inl i ↦ absurd (no_query_with i.0 (Word (codes "with") ∷ t) t refl i.2)
+  | inr i ↦ let e = i.3 in let at : i.1 ≡ t = cc in (i.0, i.2, subst (λ (x : List Symbol). QueryForm i.0 x) at i.4)
+]
 
 pub retrieve_inv : (st : Statement) (s t : List Symbol) → s ≡ Word (codes "retrieve") ∷ t → IsForm st s → (q : AQuery) × (st ≡ Retrieve q) × QueryForm q s
 retrieve_inv st s t w (g.insert _ relation row _ t' e e' h) = absurd (apart (codes "retrieve") (codes "insert") s t t' w e' refl)
@@ -119,6 +136,7 @@ retrieve_inv st s t w (g.schema _ _ e e') = absurd (apart (codes "retrieve") (co
 retrieve_inv st s t w (g.closure _ names _ t' e e' h) = absurd (apart (codes "retrieve") (codes "closure") s t t' w e' refl)
 retrieve_inv st s t w (g.retrieve _ q _ e h) = (q, e, h)
 retrieve_inv st s t w (g.explain _ q _ t' e e' h) = absurd (apart (codes "retrieve") (codes "explain") s t t' w e' refl)
+retrieve_inv st s t w (g.certify _ q _ t' e e' h) = absurd (apart (codes "retrieve") (codes "explain") s t (Word (codes "with") ∷ t') w e' refl)
 
 -- where the first word is of no other form, a statement is a query
 pub none_left : (s : List Symbol) → ¬ (Begins (Word (codes "insert")) s) → ¬ (Begins (Word (codes "delete")) s) → ¬ (Begins (Word (codes "load")) s) → ¬ (Begins (Word (codes "print")) s) → ¬ (Begins (Word (codes "schema")) s) → ¬ (Begins (Word (codes "closure")) s) → ¬ (Begins (Word (codes "explain")) s) → ((q : AQuery) → QueryForm q s → ⊥) → (st : Statement) → IsForm st s → ⊥
@@ -131,6 +149,7 @@ none_left s n1 n2 n3 n4 n5 n6 n7 bad st (g.schema _ _ e e') = n5 ([], e')
 none_left s n1 n2 n3 n4 n5 n6 n7 bad st (g.closure _ names _ t' e e' h) = n6 (t', e')
 none_left s n1 n2 n3 n4 n5 n6 n7 bad st (g.retrieve _ q _ e h) = bad q h
 none_left s n1 n2 n3 n4 n5 n6 n7 bad st (g.explain _ q _ t' e e' h) = n7 (t', e')
+none_left s n1 n2 n3 n4 n5 n6 n7 bad st (g.certify _ q _ t' e e' h) = n7 (Word (codes "with") ∷ t', e')
 
 pub condition_not_row : (relation : List ℕ) (cond : NamedCond) (s : List Symbol) → ConditionForm relation cond s → opens_second s ≡ true → ⊥
 condition_not_row relation cond s h e = let f : opens_second s ≡ false = ap opens_second h.begins in cc

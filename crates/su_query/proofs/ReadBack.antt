@@ -146,6 +146,7 @@ form_shown st s (g.schema _ _ e w) = g.schema st (statement_symbols st) e (ap st
 form_shown st s (g.closure _ names _ t e w h) = g.closure st names (statement_symbols st) (in_parens (listed name_symbols names)) e (ap statement_symbols e) (names_shown names t h)
 form_shown st s (g.retrieve _ q _ e h) = g.retrieve st q (statement_symbols st) e (subst (λ (x : List Symbol). QueryForm q x) (sym (ap statement_symbols e)) (query_shown q s h))
 form_shown st s (g.explain _ q _ t e w h) = g.explain st q (statement_symbols st) (query_symbols q) e (ap statement_symbols e) (query_shown q t h)
+form_shown st s (g.certify _ q _ t e w h) = g.certify st q (statement_symbols st) (query_symbols q) e (ap statement_symbols e) (query_shown q t h)
 
 -- ---- and a text can have them
 
@@ -182,6 +183,7 @@ form_kept st s (g.schema _ _ e w) v = subst AreSymbols (w ∙ sym (ap statement_
 form_kept st s (g.closure _ names _ t e w h) v = let x = subst AreSymbols w v in subst AreSymbols (sym (ap statement_symbols e)) (x.0, names_kept names t h x.1)
 form_kept st s (g.retrieve _ q _ e h) v = subst AreSymbols (sym (ap statement_symbols e)) (query_kept q s h v)
 form_kept st s (g.explain _ q _ t e w h) v = let x = subst AreSymbols w v in subst AreSymbols (sym (ap statement_symbols e)) (x.0, query_kept q t h x.1)
+form_kept st s (g.certify _ q _ t e w h) v = let x = subst AreSymbols w v in subst AreSymbols (sym (ap statement_symbols e)) (x.0, (x.1.0, query_kept q t h x.1.1))
 
 pub reads_again : (st : Statement) → ReadsAgain st
 reads_again st text h shallow =

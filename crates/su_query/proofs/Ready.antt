@@ -21,3 +21,4 @@ form_ready st s (g.schema _ _ e w) = subst IsReady (sym e) tt
 form_ready st s (g.closure _ names _ t e w h) = subst IsReady (sym e) tt
 form_ready st s (g.retrieve _ q _ e h) = subst IsReady (sym e) (some_outputs q s h)
 form_ready st s (g.explain _ q _ t e w h) = subst IsReady (sym e) (some_outputs q t h)
+form_ready st s (g.certify _ q _ t e w h) = subst IsReady (sym e) (some_outputs q t h)

@@ -8,7 +8,7 @@ use Rattle.su_lex.specs.declared.meaning.Symbol.TheVariants.{Word, Sign}
 use Rattle.su_query.specs.declared.conditions.NamedCond.{NamedCond}
 use Rattle.su_query.specs.declared.statements.Query.{Query as AQuery}
 use Rattle.su_query.specs.declared.statements.Statement.{Statement}
-use Rattle.su_query.specs.declared.statements.Statement.TheVariants.{Insert, Delete, DeleteWhere, Load, Print, Closure, Retrieve, Explain}
+use Rattle.su_query.specs.declared.statements.Statement.TheVariants.{Insert, Delete, DeleteWhere, Load, Print, Closure, Retrieve, Explain, Certify}
 use Rattle.su_query.specs.Lists.{opens_second, Several}
 use Rattle.su_query.specs.Grammar.{ReadsName, ReadsValue, ReadsRef, ReadsCond}
 use Rattle.su_query.specs.Forms as g
@@ -20,7 +20,7 @@ use Rattle.su_query.specs.Reading.{IsStatement, IsRefusal, Passes, outputs_of, c
 use Rattle.su_query.proofs.Items.{name_unique, value_unique, ref_unique}
 use Rattle.su_query.proofs.Listed.{several_unique}
 use Rattle.su_query.proofs.Unique.{same_cond}
-use Rattle.su_query.proofs.Exits.{insert_inv, delete_inv, load_inv, print_inv, schema_inv, closure_inv, retrieve_inv, explain_inv, condition_not_row}
+use Rattle.su_query.proofs.Exits.{insert_inv, delete_inv, load_inv, print_inv, schema_inv, closure_inv, retrieve_inv, explain_inv, certify_inv, no_query_with, condition_not_row}
 
 row_unique : (n m : List ℕ) (v w : List Value) (s : List Symbol) → RowForm n v s → RowForm m w s → (n ≡ m) × (v ≡ w)
 row_unique n m v w s h k =
@@ -103,8 +103,13 @@ form_unique st other s (g.retrieve _ q _ e h) k =
     let i = retrieve_inv other s (Sign sign.Open ∷ h.refs) h.begins k in
     i.1 ∙ ap Retrieve (sym (query_unique q i.0 s h i.2)) ∙ sym e
 form_unique st other s (g.explain _ q _ t e w h) k =
-    let i = explain_inv other s t w k in
-    i.1 ∙ ap Explain (sym (query_unique q i.0 t h i.2)) ∙ sym e
+    elim (explain_inv other s t w k) [
+      | inl i ↦ i.1 ∙ ap Explain (sym (query_unique q i.0 t h i.2)) ∙ sym e
+      | inr i ↦ absurd (no_query_with q t i.1 i.3 h)
+    ]
+form_unique st other s (g.certify _ q _ t e w h) k =
+    let i = certify_inv other s t w k in
+    i.1 ∙ ap Certify (sym (query_unique q i.0 t h i.2)) ∙ sym e
 
 pub statement_unique : (text : List ℕ) (st other : Statement) → IsStatement text st → IsStatement text other → other ≡ st
 statement_unique text st other h k =

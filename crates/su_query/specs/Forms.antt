@@ -9,7 +9,7 @@ use Rattle.su_query.specs.declared.conditions.NamedCond.{NamedCond}
 use Rattle.su_query.specs.declared.conditions.NamedCond.TheVariants.{All}
 use Rattle.su_query.specs.declared.statements.Query.{Query as AQuery}
 use Rattle.su_query.specs.declared.statements.Statement.{Statement}
-use Rattle.su_query.specs.declared.statements.Statement.TheVariants.{Insert, Delete, DeleteWhere, Load, Print, Schema, Closure, Retrieve, Explain}
+use Rattle.su_query.specs.declared.statements.Statement.TheVariants.{Insert, Delete, DeleteWhere, Load, Print, Schema, Closure, Retrieve, Explain, Certify}
 use Rattle.su_query.specs.Lists.{Several}
 use Rattle.su_query.specs.Grammar.{ReadsName, ReadsValue, ReadsRef, ReadsCond}
 use Rattle.su_query.specs.Mentions.{are_columns}
@@ -64,3 +64,4 @@ pub data IsForm : Statement → List Symbol → Type 0 where
   closure : (st : Statement) (names : List (List ℕ)) (s t : List Symbol) → st ≡ Closure names → s ≡ Word (codes "closure") ∷ t → NamesForm names t → IsForm st s
   retrieve : (st : Statement) (q : AQuery) (s : List Symbol) → st ≡ Retrieve q → QueryForm q s → IsForm st s
   explain : (st : Statement) (q : AQuery) (s t : List Symbol) → st ≡ Explain q → s ≡ Word (codes "explain") ∷ t → QueryForm q t → IsForm st s
+  certify : (st : Statement) (q : AQuery) (s t : List Symbol) → st ≡ Certify q → s ≡ Word (codes "explain") ∷ Word (codes "with") ∷ t → QueryForm q t → IsForm st s

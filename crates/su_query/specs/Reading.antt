@@ -5,7 +5,7 @@ use Rattle.su_query.specs.declared.conditions.NamedCond.{NamedCond}
 use Rattle.su_query.specs.declared.conditions.NamedCond.TheVariants.{All}
 use Rattle.su_query.specs.declared.refs.Ref.{Ref}
 use Rattle.su_query.specs.declared.statements.Statement.{Statement}
-use Rattle.su_query.specs.declared.statements.Statement.TheVariants.{DeleteWhere, Retrieve, Explain}
+use Rattle.su_query.specs.declared.statements.Statement.TheVariants.{DeleteWhere, Retrieve, Explain, Certify}
 use Rattle.su_query.specs.declared.faults.QueryFault.{QueryFault}
 use Rattle.su_query.specs.declared.faults.QueryFault.TheVariants.{Syntax, Limit, NoMemory}
 use Rattle.su_query.specs.declared.faults.QueryLimit.TheVariants.{Nesting, Variables, Outputs, Comparisons}
@@ -19,6 +19,7 @@ use Rattle.su_query.specs.Shown.{statement_text}
 abbrev pub outputs_of : Statement → List Ref
 outputs_of (Retrieve q) = q.outputs
 outputs_of (Explain q) = q.outputs
+outputs_of (Certify q) = q.outputs
 outputs_of _ = []
 
 -- the condition of a statement; all of nothing, if it has none
@@ -26,6 +27,7 @@ abbrev pub condition_of : Statement → NamedCond
 condition_of (DeleteWhere relation cond) = cond
 condition_of (Retrieve q) = q.cond
 condition_of (Explain q) = q.cond
+condition_of (Certify q) = q.cond
 condition_of _ = All []
 
 -- how many variables outputs and a condition mention
@@ -43,6 +45,7 @@ abbrev pub IsReady : Statement → Type 0
 IsReady (DeleteWhere relation cond) = are_columns cond ≡ true
 IsReady (Retrieve q) = 0 < length q.outputs
 IsReady (Explain q) = 0 < length q.outputs
+IsReady (Certify q) = 0 < length q.outputs
 IsReady _ = Unit {0}
 
 -- the text is this statement of the grammar, and its parentheses nest at most 64 deep

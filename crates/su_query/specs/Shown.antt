@@ -14,7 +14,7 @@ use Rattle.su_query.specs.declared.conditions.NamedCond.TheOpen.{NamedCond-F, Co
 use Rattle.su_query.specs.declared.conditions.NamedCond.TheFolds.{fold-NamedCond}
 use Rattle.su_query.specs.declared.statements.Query.{Query}
 use Rattle.su_query.specs.declared.statements.Statement.{Statement}
-use Rattle.su_query.specs.declared.statements.Statement.TheVariants.{Insert, Delete, DeleteWhere, Load, Print, Schema, Closure, Retrieve, Explain}
+use Rattle.su_query.specs.declared.statements.Statement.TheVariants.{Insert, Delete, DeleteWhere, Load, Print, Schema, Closure, Retrieve, Explain, Certify}
 use Rattle.su_query.specs.Grammar.{value_sym, op_sym, qualified}
 
 abbrev pub name_symbols : List ℕ → List Symbol
@@ -95,6 +95,7 @@ statement_symbols Schema = Word (codes "schema") ∷ []
 statement_symbols (Closure attributes) = Word (codes "closure") ∷ in_parens (listed name_symbols attributes)
 statement_symbols (Retrieve q) = query_symbols q
 statement_symbols (Explain q) = Word (codes "explain") ∷ query_symbols q
+statement_symbols (Certify q) = Word (codes "explain") ∷ Word (codes "with") ∷ query_symbols q
 
 abbrev pub query_text : Query → List ℕ
 query_text q = spaced (query_symbols q)

@@ -156,10 +156,21 @@ fn closure(reader: &mut Reader) -> Result<Statement, LexEnd>
     Ok(Statement::Closure { attributes })
 }
 
+fn certify(reader: &mut Reader) -> Result<Statement, LexEnd>
+    ensures found { IfOk result (λ st. IsForm st (Symbol.Word (codes "explain") ∷ Symbol.Word (codes "with") ∷ reader.old.rest.now)) }
+    ensures syntax { IsErrOf result LexEnd.Syntax → (st : AStatement) → IsForm st (Symbol.Word (codes "explain") ∷ Symbol.Word (codes "with") ∷ reader.old.rest.now) → ⊥ }
+{
+    let query = query_form(reader)?;
+    Ok(Statement::Certify(query))
+}
+
 fn explain(reader: &mut Reader) -> Result<Statement, LexEnd>
     ensures found { IfOk result (λ st. IsForm st (Symbol.Word (codes "explain") ∷ reader.old.rest.now)) }
     ensures syntax { IsErrOf result LexEnd.Syntax → (st : AStatement) → IsForm st (Symbol.Word (codes "explain") ∷ reader.old.rest.now) → ⊥ }
 {
+    if reader.takes_word("with") {
+        return certify(reader);
+    }
     let query = query_form(reader)?;
     Ok(Statement::Explain(query))
 }

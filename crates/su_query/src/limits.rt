@@ -45,6 +45,7 @@ pub(crate) fn check_limits(alloc: Global, statement: &Statement) -> Result<(), Q
     match statement {
         Statement::Retrieve(query) => check(alloc, query.outputs.as_slice(), &query.cond),
         Statement::Explain(query) => check(alloc, query.outputs.as_slice(), &query.cond),
+        Statement::Certify(query) => check(alloc, query.outputs.as_slice(), &query.cond),
         Statement::DeleteWhere { relation: _, cond } => check(alloc, &[], cond),
         _ => check(alloc, &[], &NamedCond::All(List::new(alloc))),
     }

@@ -187,6 +187,11 @@ fn push_statement(
             push_word(alloc, out, "explain")?;
             push_query(alloc, out, query)
         }
+        Statement::Certify(query) => {
+            push_word(alloc, out, "explain")?;
+            push_word(alloc, out, "with")?;
+            push_query(alloc, out, query)
+        }
     }
 }
 

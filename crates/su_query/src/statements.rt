@@ -23,4 +23,6 @@ pub enum Statement {
     Closure { attributes: List<Str> },
     Retrieve(Query),
     Explain(Query),
+    /// `explain with` and the query: a certificate is wanted.
+    Certify(Query),
 }

@@ -22,6 +22,7 @@ fn form(statement: &Statement) -> &'static str {
         Statement::Closure { .. } => "closure",
         Statement::Retrieve(_) => "retrieve",
         Statement::Explain(_) => "explain",
+        Statement::Certify(_) => "explain with",
     }
 }
 
@@ -76,7 +77,7 @@ fn updates_and_their_neighbours(rt: HostRuntime) {
 
 #[test]
 fn questions_and_their_neighbours(rt: HostRuntime) {
-    let cases: [(&[u8], &str); 18] = [
+    let cases: [(&[u8], &str); 21] = [
         (b"print P", "print"),
         (b"print P, Q", "syntax"),
         (b"print print", "syntax"),
@@ -91,6 +92,9 @@ fn questions_and_their_neighbours(rt: HostRuntime) {
         (b"retrieve (t.)", "syntax"),
         (b"retrieve A", "syntax"),
         (b"explain retrieve (A)", "explain"),
+        (b"explain with retrieve (A)", "explain with"),
+        (b"explain with with retrieve (A)", "syntax"),
+        (b"with retrieve (A)", "syntax"),
         (b"explain explain retrieve (A)", "syntax"),
         (b"explain print P", "syntax"),
         (b"", "syntax"),
@@ -291,7 +295,7 @@ fn shown(alloc: Global, text: &[u8]) -> Result<List<u8>, Fail> {
 
 #[test]
 fn statements_are_shown_with_one_space_between_tokens(rt: HostRuntime) -> Result<(), Fail> {
-    let cases: [(&[u8], &[u8]); 10] = [
+    let cases: [(&[u8], &[u8]); 11] = [
         (b"insert P(007,-0 ,'it''s')", b"insert P (7, 0, 'it''s')"),
         (b"delete  P( 'a' )", b"delete P ('a')"),
         (b"delete P where((A!=1))", b"delete P where A != 1"),
@@ -302,6 +306,7 @@ fn statements_are_shown_with_one_space_between_tokens(rt: HostRuntime) -> Result
         (b"retrieve(A,t . B)", b"retrieve (A, t.B)"),
         (b"retrieve (A)where A<=-1", b"retrieve (A) where A <= -1"),
         (b"explain retrieve (A)", b"explain retrieve (A)"),
+        (b"explain  with\nretrieve(A)", b"explain with retrieve (A)"),
     ];
     for (text, want) in cases {
         assert_eq!(rt; shown(rt.alloc(), text)?.as_slice(), want);
@@ -312,7 +317,9 @@ fn statements_are_shown_with_one_space_between_tokens(rt: HostRuntime) -> Result
 /// The text of the query of a retrieval or an explanation.
 fn query_shown_of(alloc: Global, statement: &Statement) -> Result<List<u8>, Fail> {
     match statement {
-        Statement::Retrieve(query) | Statement::Explain(query) => Ok(show_query(alloc, query)?),
+        Statement::Retrieve(query) | Statement::Explain(query) | Statement::Certify(query) => {
+            Ok(show_query(alloc, query)?)
+        }
         _ => Err(Fail::from("no query")),
     }
 }
@@ -324,9 +331,10 @@ fn query_shown(alloc: Global, text: &[u8]) -> Result<List<u8>, Fail> {
 
 #[test]
 fn a_query_is_shown_without_explain(rt: HostRuntime) -> Result<(), Fail> {
-    let cases: [(&[u8], &[u8]); 3] = [
+    let cases: [(&[u8], &[u8]); 4] = [
         (b"retrieve(A,t . B)", b"retrieve (A, t.B)"),
         (b"explain retrieve( CUST )", b"retrieve (CUST)"),
+        (b"explain with retrieve (A)", b"retrieve (A)"),
         (
             b"explain retrieve (t.C) where (S='Jones') and R=t.R",
             b"retrieve (t.C) where S = 'Jones' and R = t.R",

@@ -1,3 +1,4 @@
+pub mod Certified
 pub mod Changing
 pub mod Counts
 pub mod Defining

@@ -10,7 +10,7 @@ use Rattle.su_query.specs.declared.conditions.NamedCond.{NamedCond}
 use Rattle.su_query.specs.declared.faults.QueryFault.{QueryFault}
 use Rattle.su_query.specs.declared.faults.QueryFault.TheVariants.{Unknown}
 use Rattle.su_query.specs.declared.statements.Statement.{Statement}
-use Rattle.su_query.specs.declared.statements.Statement.TheVariants.{Insert, Delete, DeleteWhere, Load, Print, Schema, Closure, Retrieve, Explain}
+use Rattle.su_query.specs.declared.statements.Statement.TheVariants.{Insert, Delete, DeleteWhere, Load, Print, Schema, Closure, Retrieve, Explain, Certify}
 use Rattle.su_query.specs.Lookup.{IsColumnCondition, IsColumnRefusal, with_columns, first_unknown_name}
 use Rattle.su_query.specs.Sets.{attributes_named}
 use Rattle.su_maxobj.specs.MaximalObjects.{AreMaximalObjects}
@@ -25,6 +25,7 @@ use Rattle.su_show.specs.Replies.{rows_text, schema_reply, IsClosureReply}
 use Rattle.su_session.specs.declared.replies.Reply.{Reply}
 use Rattle.su_session.specs.Telling.{Accepts, Refuses, TellsInsert, TellsDelete, TellsLoad, deleted_text}
 use Rattle.su_session.specs.Retrieving.{Retrieves, Explains}
+use Rattle.su_session.specs.Certifying.{Certifies}
 
 -- the number of the relation with this name
 abbrev pub relation_number : DatabaseValue → List ℕ → Option ℕ
@@ -80,3 +81,4 @@ Answers db file Schema reply new = ShowsSchema db reply new
 Answers db file (Closure names) reply new = ShowsClosure db names reply new
 Answers db file (Retrieve q) reply new = Retrieves db q reply new
 Answers db file (Explain q) reply new = Explains db q reply new
+Answers db file (Certify q) reply new = Certifies db q reply new

@@ -6,6 +6,7 @@
 //! minimised and executed side by side; how many at a time changes no reply.
 #![tactic(auto)]
 
+mod certifying;
 mod changes;
 mod crossing;
 mod definitions;

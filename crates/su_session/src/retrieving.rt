@@ -19,13 +19,13 @@ use su_state::Database;
 
 /// A query over numbers, ready to be answered.
 #[derive(Drop)]
-struct Ready {
-    resolved: Resolved,
-    prepared: Prepared,
+pub(crate) struct Ready {
+    pub(crate) resolved: Resolved,
+    pub(crate) prepared: Prepared,
 }
 
 // The terms of the query, minimised, or why it has none.
-fn make_ready<R: Threads + Sync, G: Gate>(
+pub(crate) fn make_ready<R: Threads + Sync, G: Gate>(
     rt: &R,
     alloc: Global,
     db: &Database,

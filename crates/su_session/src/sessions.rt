@@ -2,6 +2,7 @@
 ghost use Rattle.std.specs.Prelude.{◌≡◌, ◌≢◌, ◌≤◌, ◌↔◌, ℕ, List as Items, IsTrue, IfOk, OnErr, MatchOption, option_map, unwrap_or, []};
 ghost use Rattle.su_session.specs.Reply.{is_definition_word, begins_definition, IsDefining};
 
+use crate::certifying::certify;
 use crate::changes::{delete, delete_where, insert, load};
 use crate::replies::{Reply, refused};
 use crate::retrieving::{explain, retrieve};
@@ -235,6 +236,17 @@ impl Session {
             }
             Statement::Retrieve(query) => {
                 retrieve(
+                    rt,
+                    self.alloc,
+                    &self.db,
+                    self.maximal.as_slice(),
+                    &query,
+                    workers,
+                    gate,
+                )
+            }
+            Statement::Certify(query) => {
+                certify(
                     rt,
                     self.alloc,
                     &self.db,

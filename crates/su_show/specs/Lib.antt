@@ -7,3 +7,4 @@ pub mod Replies
 pub mod Symbols
 pub mod TableauLines
 pub mod Values
+pub mod Verdicts

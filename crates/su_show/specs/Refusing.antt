@@ -20,7 +20,7 @@ use Rattle.su_steps.specs.declared.faults.StepFault.TheVariants as step
 use Rattle.su_steps.specs.declared.faults.StepLimit.{StepLimit}
 use Rattle.su_steps.specs.declared.faults.StepLimit.TheVariants as step_limit
 use Rattle.su_show.specs.declared.statement_refusal.Refusal.{Refusal}
-use Rattle.su_show.specs.declared.statement_refusal.Refusal.TheVariants.{Query, State, Record, Csv, Steps, Answer, Define}
+use Rattle.su_show.specs.declared.statement_refusal.Refusal.TheVariants.{Query, State, Record, Csv, Steps, Answer, Nodes, Define}
 use Rattle.su_show.specs.Refusals.{cause_text}
 use Rattle.su_show.specs.Replies.{fd_at}
 use Rattle.su_show.specs.Values.{attributes_text, fd_text, row_text}
@@ -95,6 +95,7 @@ refusal_text schema (Record fault) = record_text fault.number (state_text schema
 refusal_text schema (Csv relation fault) = csv_text schema relation fault
 refusal_text schema (Steps fault) = step_text schema fault
 refusal_text schema Answer = codes "limit answer 1000000"
+refusal_text schema Nodes = codes "limit nodes 200000"
 refusal_text schema (Define fault) = define_text schema fault
 
 -- the line of a refused statement

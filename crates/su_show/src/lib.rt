@@ -19,6 +19,7 @@ mod statement_refusal;
 mod symbols;
 mod tableau_lines;
 mod values;
+mod verdicts;
 
 pub use closures::closure;
 pub use explaining::explanation;
@@ -28,6 +29,7 @@ pub use refusing::refusal;
 pub use row_lists::rows;
 pub use schemas::schema;
 pub use statement_refusal::Refusal;
+pub use verdicts::verdict;
 
 #[cfg(test)]
 mod definition_tests;

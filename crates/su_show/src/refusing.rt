@@ -225,6 +225,7 @@ fn push_refusal(
         Refusal::Csv(relation, fault) => push_csv(alloc, out, schema, *relation, *fault),
         Refusal::Steps(fault) => push_step(alloc, out, schema, fault),
         Refusal::Answer => push(out, "limit answer 1000000"),
+        Refusal::Nodes => push(out, "limit nodes 200000"),
         Refusal::Define(fault) => push_define(alloc, out, schema, fault),
     }
 }

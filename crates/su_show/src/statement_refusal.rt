@@ -19,6 +19,8 @@ pub enum Refusal {
     Steps(StepFault),
     /// The answer of a query has more than 1,000,000 rows.
     Answer,
+    /// The trees of a query's certificate have more than 200,000 nodes.
+    Nodes,
     /// A definition is refused.
     Define(DefineFault),
 }

@@ -1,7 +1,9 @@
 use crate::examples::{BANK, COURSES, attributes, push_text, schema_of};
-use crate::{Refusal, refusal};
+use crate::{Refusal, refusal, verdict};
 use std::alloc::Global;
+use std::test::Fail;
 use su_base::{Kind, List, NoMemory, Row, Str, Value};
+use su_check::{Checked, Fault};
 use su_csv::CsvFault;
 use su_query::{QueryFault, QueryLimit};
 use su_state::{LoadFault, StateFault};
@@ -62,6 +64,7 @@ fn a_query_that_is_too_large(rt: HostRuntime) {
             "refused: limit answer 1000000\n"
         )
     );
+    assert!(rt; says(alloc, Ok(Refusal::Nodes), "refused: limit nodes 200000\n"));
 }
 
 fn unknown_attribute(alloc: Global, name: &str) -> Result<Refusal, NoMemory> {
@@ -290,4 +293,22 @@ fn a_row_of_a_file_that_is_refused(rt: HostRuntime) {
     let broken = broken_record(alloc, 2, "B1", 1);
     let want = "refused: record 2: breaks ACCT -> BANK with row ('B1', 1)\n";
     assert!(rt; says(alloc, broken, want));
+}
+
+#[test]
+fn the_line_of_a_verdict(rt: HostRuntime) -> Result<(), Fail> {
+    let cases = [
+        (Checked::Yes { terms: 2 }, "yes terms 2\n"),
+        (Checked::No(Fault::Syntax), "no: syntax\n"),
+        (Checked::No(Fault::Form(0)), "no: term 0 form\n"),
+        (Checked::No(Fault::Fold(10)), "no: term 10 fold\n"),
+        (
+            Checked::No(Fault::Tree { term: 0, row: 63 }),
+            "no: term 0 tree 63\n",
+        ),
+    ];
+    for (checked, want) in cases {
+        assert_eq!(rt; verdict(rt.alloc(), checked)?.as_slice(), want.as_bytes());
+    }
+    Ok(())
 }

@@ -4,3 +4,4 @@ pub mod Stopping
 pub mod Ending
 pub mod Running
 pub mod Promised
+pub mod Verdicts

@@ -1,3 +1,4 @@
+pub mod Checks
 pub mod Handing
 pub mod Moments
 pub mod Output

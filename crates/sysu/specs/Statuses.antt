@@ -5,12 +5,13 @@ use Rattle.su_io.specs.Ends.{Grew}
 use Rattle.sysu.specs.declared.status.Status.{Status}
 use Rattle.sysu.specs.declared.status.Status.TheVariants.{Done, SomeRefused, Usage, BadSchema, ReadFault, WriteFault, TooLong, NoMemory}
 use Rattle.sysu.specs.Moments.{Moment, NoFault, Wrote, WroteFront}
-use Rattle.sysu.specs.Words.{Named, named, usage_line}
+use Rattle.sysu.specs.Words.{Named, named, checks, usage_line}
 use Rattle.su_ddl.specs.declared.faults.DdlFault.{DdlFault}
 use Rattle.su_ddl.specs.Reading.{Reads}
 use Rattle.su_schema.specs.SchemaValue.{SchemaValue}
 use Rattle.su_show.specs.Refusals.{schema_line, IsOfText}
 use Rattle.sysu.specs.Output.{IsFile, IsOver, LoadsFrom, load_limit}
+use Rattle.sysu.specs.Checks.{CheckEnds}
 use Rattle.sysu.specs.Statements.{BeganOver, StoppedAtLoad, WroteAll, WroteFirst, WroteFrontOf}
 
 -- 1 MiB
@@ -93,7 +94,8 @@ UsageEnds old before new after Usage = (after ≡ before) × Grew old new usage_
 UsageEnds old before new after WriteFault = Rose before after × ((count : ℕ) × (count ≤ length usage_line) × Grew old new (take count usage_line))
 UsageEnds old before new after _ = ⊥
 
--- how a run ends, by its words
+-- how a run or a check ends, by its words
 pub record Ends (words : List (List ℕ)) (old new : Moment) (status : Status) : Type 0 where
-  pub usage : named words ≡ None → (new.reads ≡ old.reads) × (new.begun ≡ old.begun) × (new.taken ≡ old.taken) × UsageEnds old.written old.writes new.written new.writes status
+  pub usage : named words ≡ None → checks words ≡ None → (new.reads ≡ old.reads) × (new.begun ≡ old.begun) × (new.taken ≡ old.taken) × UsageEnds old.written old.writes new.written new.writes status
   pub ran : (names : Named) → named words ≡ Some names → RunEnds names old new status
+  pub checked : (file : List ℕ) → checks words ≡ Some file → CheckEnds file old new status

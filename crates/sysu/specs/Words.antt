@@ -19,6 +19,11 @@ named (word ∷ schema ∷ script ∷ option ∷ number ∷ []) =
     cond (bytes_eq word (codes "run") && bytes_eq option (codes "--workers") && is_count number) (Some (record { schema = schema; script = script })) None
 named words = None
 
+-- the certificate's file, where the words are `check FILE`
+abbrev pub checks : List (List ℕ) → Option (List ℕ)
+checks (word ∷ file ∷ []) = cond (bytes_eq word (codes "check")) (Some file) None
+checks words = None
+
 -- what is written for words of any other form
 abbrev pub usage_line : List ℕ
-usage_line = codes "usage: sysu run SCHEMA SCRIPT [--workers N] | sysu generate N" ++ 10 ∷ []
+usage_line = codes "usage: sysu run SCHEMA SCRIPT [--workers N] | sysu generate N | sysu check FILE" ++ 10 ∷ []

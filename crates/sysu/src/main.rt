@@ -1,11 +1,12 @@
 //! `sysu run SCHEMA SCRIPT [--workers N]`: reads a schema and a script, and writes one reply per
-//! statement.
+//! statement. `sysu check FILE`: tells the verdict on a certificate.
 //!
 //! `top::run` is the whole program over any shelf and sink; `main` hands it the files of the system
 //! and standard output, which is written in large pieces, and ends with the status as its exit code.
 //! Nothing goes to standard error.
 #![tactic(auto)]
 
+mod checking;
 mod headline;
 mod reading;
 mod statements;

@@ -23,7 +23,10 @@ const PAIR: &str =
 const BANK_AGAIN: &str =
     "attribute BANK text; attribute ACCT int; attribute CUST text; attribute BAL int; attribute LOAN int; attribute AMT int; attribute ADDR text; relation BA (BANK text, ACCT int); relation AC (ACCT int, CUST text); relation AB (ACCT int, BAL int); relation BL (BANK text, LOAN int); relation LC (LOAN int, CUST text); relation LA (LOAN int, AMT int); relation CA (CUST text, ADDR text); object BANK_ACCT (BANK, ACCT) from BA (BANK, ACCT); object ACCT_CUST (ACCT, CUST) from AC (ACCT, CUST); object ACCT_BAL (ACCT, BAL) from AB (ACCT, BAL); object BANK_LOAN (BANK, LOAN) from BL (BANK, LOAN); object LOAN_CUST (LOAN, CUST) from LC (LOAN, CUST); object LOAN_AMT (LOAN, AMT) from LA (LOAN, AMT); object CUST_ADDR (CUST, ADDR) from CA (CUST, ADDR); fd ACCT -> BANK; fd ACCT -> BAL; fd LOAN -> AMT; fd CUST -> ADDR;";
 
-const CASES: [(&str, &str, &str); 13] = [
+pub(crate) const CUSTOMERS: &str =
+    "certificate 7\nkinds text int text int int int text\nterm 0\nhead v2\nrows\n(v0 v1 v9 v10 v11 v12 v13)\n(v14 v1 v2 v17 v18 v19 v20)\n(v21 v1 v23 v3 v25 v26 v27)\n(v28 v29 v2 v31 v32 v33 v6)\nkept 1\nfold 1 1 1 1\ntree 1 (1)\nterm 1\nhead v2\nrows\n(v0 v8 v9 v10 v4 v12 v13)\n(v14 v15 v2 v17 v4 v19 v20)\n(v21 v22 v23 v24 v4 v5 v27)\n(v28 v29 v2 v31 v32 v33 v6)\nkept 1\nfold 1 1 1 1\ntree 1 (1)\n";
+
+const CASES: [(&str, &str, &str); 14] = [
     // two maximal objects give two banks
     (
         BANK,
@@ -36,6 +39,8 @@ const CASES: [(&str, &str, &str); 13] = [
         "explain retrieve (CUST)",
         "query: retrieve (CUST)\nvariables -\nterm 0 disjunct 0 choice 0\n  row 0 - BANK_ACCT BANK=BANK ACCT=ACCT\n  row 1 - ACCT_CUST ACCT=ACCT CUST=CUST\n  row 2 - ACCT_BAL ACCT=ACCT BAL=BAL\n  row 3 - CUST_ADDR CUST=CUST ADDR=ADDR\n  head CUST\n  kept 1\n  fold 1 1 1 1\n  sources 1 ACCT_CUST LOAN_CUST CUST_ADDR\nterm 1 disjunct 0 choice 1\n  row 0 - BANK_LOAN BANK=BANK LOAN=LOAN\n  row 1 - LOAN_CUST CUST=CUST LOAN=LOAN\n  row 2 - LOAN_AMT LOAN=LOAN AMT=AMT\n  row 3 - CUST_ADDR CUST=CUST ADDR=ADDR\n  head CUST\n  kept 1\n  fold 1 1 1 1\n  covered by term 0 rows 1\nterms 2 kept 1\n",
     ),
+    // the certificate of all customers
+    (BANK, "explain with retrieve (CUST)", CUSTOMERS),
     // courses that meet in a room of jones
     (
         COURSES,

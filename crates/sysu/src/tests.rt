@@ -1,3 +1,4 @@
+use crate::query_tests::CUSTOMERS;
 use crate::status::Status;
 use crate::top::run;
 use std::alloc::Global;
@@ -16,7 +17,8 @@ const SCRIPT: &str =
 const OUTPUT: &str =
     "inserted 1\ninserted 1\ninserted 0\nrows 1\nB\nx\nrows 2\nB,A\nx,1\nx,2\nrefused: no maximal object covers -: A C\nrefused: unknown attribute D\nrows 2\nA,B\n1,x\n2,x\n";
 
-const USAGE: &str = "usage: sysu run SCHEMA SCRIPT [--workers N] | sysu generate N\n";
+const USAGE: &str =
+    "usage: sysu run SCHEMA SCRIPT [--workers N] | sysu generate N | sysu check FILE\n";
 
 fn words(alloc: Global, all: &[&str]) -> Result<List<Str>, NoMemory> {
     let mut words = List::new(alloc);
@@ -86,6 +88,8 @@ fn a_run_ends_with_its_status_and_output(rt: HostRuntime) -> Result<(), Fail> {
         ),
         (&["run", "s"], SCHEMA, SCRIPT, Status::Usage, USAGE),
         (&["walk", "s", "t"], SCHEMA, SCRIPT, Status::Usage, USAGE),
+        (&["check"], SCHEMA, SCRIPT, Status::Usage, USAGE),
+        (&["check", "s", "t"], SCHEMA, SCRIPT, Status::Usage, USAGE),
         (&[], SCHEMA, SCRIPT, Status::Usage, USAGE),
     ];
     for (all, schema, script, status, want) in cases {
@@ -433,5 +437,84 @@ fn a_query_is_covered_once_the_dependency_is_there(rt: HostRuntime) -> Result<()
     let want =
         "refused: no maximal object covers -: BANK CUST LOAN\ndefined\nrows 0\nCUST\nrefused: no maximal object covers -: CUST BAL AMT\n";
     assert!(rt; gives(&rt, rt.alloc(), LOANS, script, "", want)?);
+    Ok(())
+}
+
+const NO_TARGET_FOR_ROW_3: &str =
+    "certificate 7 kinds text int text int int int text term 0 head v2 rows (v0 v1 v9 v10 v11 v12 v13) (v14 v1 v2 v17 v18 v19 v20) (v21 v1 v23 v3 v25 v26 v27) (v28 v29 v2 v31 v32 v33 v6) kept 1 fold 1 1 1 0 tree 1 (1)";
+
+const TOO_MANY_KEPT: &str =
+    "certificate 7 kinds text int text int int int text term 0 head v2 rows (v0 v1 v9 v10 v11 v12 v13) (v14 v1 v2 v17 v18 v19 v20) (v21 v1 v23 v3 v25 v26 v27) (v28 v29 v2 v31 v32 v33 v6) kept 1 3 fold 1 1 1 3 tree 1 (1) tree 3 (3)";
+
+#[test]
+fn a_certificate_is_checked(rt: HostRuntime) -> Result<(), Fail> {
+    let alloc = rt.alloc();
+    let cases = [
+        (CUSTOMERS, Status::Done, "yes terms 2\n"),
+        ("certificate 1 kinds int", Status::Done, "yes terms 0\n"),
+        (
+            NO_TARGET_FOR_ROW_3,
+            Status::SomeRefused,
+            "no: term 0 fold\n",
+        ),
+        (TOO_MANY_KEPT, Status::SomeRefused, "no: term 0 tree 1\n"),
+        (
+            "certificate 1 kinds int term 1 head 1 rows kept fold",
+            Status::SomeRefused,
+            "no: term 0 form\n",
+        ),
+        ("", Status::SomeRefused, "no: syntax\n"),
+    ];
+    for (certificate, status, want) in cases {
+        let mut shelf = SteadyShelf::new(files(alloc, certificate, "")?);
+        let mut out = SteadySink::new(alloc, 100)?;
+        let got = run(
+            &rt,
+            alloc,
+            words(alloc, &["check", "s"])?.as_slice(),
+            &mut shelf,
+            &mut out,
+            &OpenGate,
+        );
+        assert_eq!(rt; got, status, "{want}");
+        assert_eq!(rt; out.written(), want.as_bytes());
+    }
+    Ok(())
+}
+
+// The file is begun by call 0 and read by the other two; the line is written in three pieces.
+#[test]
+fn each_fault_ends_the_check(rt: HostRuntime) -> Result<(), Fail> {
+    let alloc = rt.alloc();
+    for k in 0..3u64 {
+        let fails = List::from_vec([k].as_slice().to_vec(alloc)?);
+        let certificate = files(alloc, "certificate 1 kinds int", "")?;
+        let mut shelf = MemoryShelf::new(certificate, fails, 100);
+        let mut out = SteadySink::new(alloc, 100)?;
+        let got = run(
+            &rt,
+            alloc,
+            words(alloc, &["check", "s"])?.as_slice(),
+            &mut shelf,
+            &mut out,
+            &OpenGate,
+        );
+        assert_eq!(rt; got, Status::ReadFault, "call {k}");
+        assert!(rt; out.written().is_empty(), "call {k}");
+        let fails = List::from_vec([k].as_slice().to_vec(alloc)?);
+        let mut shelf = SteadyShelf::new(files(alloc, "certificate 1 kinds int", "")?);
+        let mut out = MemorySink::new(alloc, fails, 4, 100)?;
+        let got = run(
+            &rt,
+            alloc,
+            words(alloc, &["check", "s"])?.as_slice(),
+            &mut shelf,
+            &mut out,
+            &OpenGate,
+        );
+        assert_eq!(rt; got, Status::WriteFault, "call {k}");
+        let front = "yes terms 0\n".as_bytes().split_at(4 * k as usize).0;
+        assert_eq!(rt; out.written(), front, "call {k}");
+    }
     Ok(())
 }

@@ -2,9 +2,10 @@
 ghost use Rattle.std.specs.Prelude.{◌≡◌, ◌≤◌, ◌&&◌, nat_eq, nat_lt, true, false, Some, ◌<◌, ◌^◌, ◌++◌, ◌∷◌, [], IfOk, IfSome, MatchOption, option_map, string_bytes};
 ghost use Rattle.sysu.specs.Moments.{Moment};
 ghost use Rattle.sysu.specs.Statuses.{Ends, RefusalEnds, RunEnds, UsageEnds};
-ghost use Rattle.sysu.specs.Words.{named, is_count};
+ghost use Rattle.sysu.specs.Words.{named, checks, is_count};
 ghost use Rattle.sysu.specs.Headline.{Headline};
 
+use crate::checking::check_file;
 use crate::headline::queries_are_answered;
 use crate::reading::read_file;
 use crate::statements::answer_all;
@@ -18,7 +19,8 @@ use su_par::Gate;
 use su_session::Session;
 use su_show::ddl_fault;
 
-const USAGE: &str = "usage: sysu run SCHEMA SCRIPT [--workers N] | sysu generate N\n";
+const USAGE: &str =
+    "usage: sysu run SCHEMA SCRIPT [--workers N] | sysu generate N | sysu check FILE\n";
 
 // How many bytes a schema and a script may have.
 const SCHEMA_LIMIT: u64 = 1 << 20;
@@ -84,6 +86,16 @@ fn command_of(words: &[Str]) -> Option<Asked>
                 workers,
             })
         }
+        _ => None,
+    }
+}
+
+// The file whose certificate the words ask to check.
+fn check_of(words: &[Str]) -> Option<&Str>
+    ensures { option_map (λ file. file.now) result ≡ checks words.now }
+{
+    match words {
+        [word, file] if word.as_str() == "check" => Some(file),
         _ => None,
     }
 }
@@ -157,12 +169,13 @@ fn run_files<R: Threads + Sync, H: Shelf, K: Sink, G: Gate>(
 }
 
 /// The whole program over any shelf and sink. The words, without the program's name, are
-/// `run SCHEMA SCRIPT`, and may end with `--workers N` for a number from 1 to 16; for any others the
-/// usage line is written. The schema file is read first, then the script, whose statements are
+/// `run SCHEMA SCRIPT`, and may end with `--workers N` for a number from 1 to 16, or `check FILE`; for
+/// any others the usage line is written. The schema file is read first, then the script, whose statements are
 /// answered one by one; each reply is written whole.
 ///
 /// At most N terms of a query are minimised or executed at a time (1 without the option), and the
-/// gate is passed before each; neither is in any clause.
+/// gate is passed before each; neither is in any clause. For `check FILE` the verdict on the
+/// certificate in the file is written: status 0 for a yes, 1 for a no.
 pub fn run<R: Threads + Sync, H: Shelf, K: Sink, G: Gate>(
     rt: &R,
     alloc: Global,
@@ -182,6 +195,9 @@ pub fn run<R: Threads + Sync, H: Shelf, K: Sink, G: Gate>(
         result }
 {
     queries_are_answered();
+    if let Some(file) = check_of(words) {
+        return check_file(alloc, file, shelf, out);
+    }
     let Some(asked) = command_of(words) else {
         return tell_usage(out);
     };

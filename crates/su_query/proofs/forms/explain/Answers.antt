@@ -1,6 +1,7 @@
-use Rattle.std.proofs.Common.{◌≡◌, refl, ap, Err}
+use Rattle.std.proofs.Common.{◌≡◌, refl, ap, sym, subst, Err, List, inl, inr}
 use Rattle.std.proofs.lemmas.Result.{err_from_is_err_and}
 use Rattle.su_lex.specs.declared.ends.LexEnd.TheVariants.{Syntax}
+use Rattle.su_lex.specs.declared.meaning.Symbol.{Symbol}
 use Rattle.su_query.specs.Forms as g
 use Rattle.su_query.specs.Forms.{QueryForm}
 use Rattle.su_query.proofs.Exits.{explain_inv}
@@ -12,8 +13,13 @@ returns-in_err-query-clause-syntax c =
     rw (p.1, p.2) (λ s st f.
     let h : c.in_err-query.field-0.0 ≡ Syntax = cc in
     let bad = c.in_err-query.ensures.syntax (ap Err h) in
-    let i = explain_inv st _ c.args.reader.now.rest.now refl f in bad i.0 i.2)
+    let n = c.if-takes_word.ensures.no refl in
+    elim (explain_inv st _ c.args.reader.now.rest.now refl f) [
+      | inl i ↦ bad i.0 (subst (λ (x : List Symbol). QueryForm i.0 x) (sym n.0) i.2)
+      | inr i ↦ n.1 (i.1, i.3)
+    ])
 
 pub returns-clause-found : goal.returns-clause-found
 returns-clause-found c =
-    g.explain _ _ _ _ refl refl c.in_ok-query.ensures.found
+    let n = c.if-takes_word.ensures.no refl in
+    g.explain _ _ _ _ refl refl (subst (λ (x : List Symbol). QueryForm c.in_ok-query.query x) n.0 c.in_ok-query.ensures.found)

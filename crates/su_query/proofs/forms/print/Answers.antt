@@ -19,3 +19,13 @@ returns-in_err-relation-clause-syntax c =
 pub returns-clause-found : goal.returns-clause-found
 returns-clause-found c =
     g.print _ _ _ refl (ap (λ x. Word (codes "print") ∷ x) (c.in_ok-relation.ensures.found.0 ∙ ap (λ x. Word c.in_ok-relation.relation ∷ x) c.in_ok-expect_end.ensures.found)) c.in_ok-relation.ensures.found.1
+
+pub returns-in_err-expect_end-clause-syntax : goal.returns-in_err-expect_end-clause-syntax
+returns-in_err-expect_end-clause-syntax c =
+    let p = err_from_is_err_and c.from_residual-in_err-expect_end.result c.from_residual-in_err-expect_end.ensures.1 in
+    rw (p.1, p.2) (λ s st f.
+    let h : c.in_err-expect_end.field-0.0 ≡ Syntax = cc in
+    let bad = c.in_err-expect_end.ensures.syntax (ap Err h) in
+    let whole = (print_inv st _ c.args.reader.now.rest.now refl f).2 in
+    let named = c.in_ok-relation.ensures.found.0 in
+    bad cc)

@@ -3,6 +3,7 @@ use Rattle.su_query.specs.declared.statements.Statement.{Statement}
 use Rattle.su_state.specs.DatabaseValue.{DatabaseValue}
 use Rattle.su_session.specs.Statements.{Answers, InRelation, DeletesRows}
 use Rattle.su_session.specs.Retrieving.{Retrieves, Explains}
+use Rattle.su_session.specs.Certifying.{Certifies}
 use Rattle.su_session.proofs.sessions.Session.answer.Goals as goal
 
 pub returns-in-DeleteWhere-clause-replied : goal.returns-in-DeleteWhere-clause-replied
@@ -17,6 +18,12 @@ returns-in-Retrieve-clause-replied g c =
     let old : DatabaseValue = c.args.self.now in
     subst (λ (st : Statement). IfOk c.retrieve.result (λ reply. Answers old c.args.file.now st reply old)) (sym c.in-Retrieve.is)
     (subst (λ (db : DatabaseValue). IfOk c.retrieve.result (λ reply. Retrieves db c.in-Retrieve.query reply db)) c.self.view_is c.retrieve.ensures)
+
+pub returns-in-Certify-clause-replied : goal.returns-in-Certify-clause-replied
+returns-in-Certify-clause-replied g c =
+    let old : DatabaseValue = c.args.self.now in
+    subst (λ (st : Statement). IfOk c.certify.result (λ reply. Answers old c.args.file.now st reply old)) (sym c.in-Certify.is)
+    (subst (λ (db : DatabaseValue). IfOk c.certify.result (λ reply. Certifies db c.in-Certify.query reply db)) c.self.view_is c.certify.ensures)
 
 pub returns-clause-replied : goal.returns-clause-replied
 returns-clause-replied g c =
