@@ -1,0 +1,10 @@
+use Rattle.std.proofs.Common.{◌≡◌, ◌++◌}
+use Rattle.std.specs.Vec.Iter.{into_iter_items}
+use Rattle.su_draw.specs.Once.{things_in_shapes}
+use Rattle.su_draw.proofs.drawing.shapes_of.Given as goal
+
+abbrev pub invariant-loop-thing : goal.invariant-loop-thing
+invariant-loop-thing l = record {
+  rest : l.fn.things ≡ l.yielded ++ into_iter_items l.thing-iterator;
+  placed : things_in_shapes l.shapes ≡ l.yielded;
+}

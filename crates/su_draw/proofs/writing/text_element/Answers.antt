@@ -1,0 +1,18 @@
+use Rattle.std.proofs.Common.{◌≡◌, ◌++◌, List, ℕ, ap, ◌∙◌}
+use Rattle.std.specs.Prelude.{codes}
+use Rattle.su_draw.specs.Xml.{Attribute}
+use Rattle.su_draw.specs.Escaping.{escaped}
+use Rattle.su_draw.specs.Svg.{text_attributes, text_pairs, element_line, colour_of, opacity_of, weight_of}
+use Rattle.su_draw.proofs.Assembled.{on_ok, same_pairs}
+use Rattle.su_draw.proofs.writing.text_element.Goals as goal
+
+pub returns : goal.returns
+returns c =
+    let s = c.args.shape.now in
+    let old = c.args.out.now.items in
+    let same : text_pairs s.place c.colour.result.now c.opacity.result.now c.weight.result.now ≡ text_attributes s.thing.what s.place = same_pairs s.place _ _ _ _ _ _ c.colour.ensures c.opacity.ensures c.weight.ensures in
+    on_ok c.element.result
+    (λ (h : c.element.new.out.items ≡ old ++ element_line (codes "text") (text_pairs s.place c.colour.result.now c.opacity.result.now c.weight.result.now) (escaped c.as_slice.result.now)).
+    h ∙ ap (λ (pairs : List Attribute). old ++ element_line (codes "text") pairs (escaped c.as_slice.result.now)) same
+    ∙ ap (λ (text : List ℕ). old ++ element_line (codes "text") (text_attributes s.thing.what s.place) (escaped text)) c.as_slice.ensures)
+    c.element.ensures

@@ -1,0 +1,14 @@
+pub mod Checks
+pub mod Escaping
+pub mod Kinds
+pub mod Lines
+pub mod Numbers
+pub mod Once
+pub mod Order
+pub mod Pairs
+pub mod Pictures
+pub mod Pieces
+pub mod Reading
+pub mod Svg
+pub mod Things
+pub mod Xml

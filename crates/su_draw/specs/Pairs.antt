@@ -1,0 +1,13 @@
+-- Attributes of XML as they are handed to a writer.
+use Rattle.std.specs.Prelude.{ℕ, List, map}
+use Rattle.su_draw.specs.declared.elements.Pair.{Pair}
+use Rattle.su_draw.specs.declared.elements.Pair.TheVariants.{Number, Word}
+use Rattle.su_draw.specs.Xml.{Attribute}
+use Rattle.su_draw.specs.Svg.{number_of, word_of}
+
+abbrev pub attribute_of : Pair → Attribute
+attribute_of (Number name n) = number_of name.now n
+attribute_of (Word name value) = word_of name.now value.now
+
+abbrev pub attributes_of : List Pair → List Attribute
+attributes_of pairs = map attribute_of pairs

@@ -1,0 +1,17 @@
+-- The picture of a text: what stands in it, and how it is written.
+use Rattle.std.specs.Prelude.{◌≡◌, ℕ, List}
+use Rattle.su_draw.specs.declared.reading.Line.{Line}
+use Rattle.su_draw.specs.declared.shapes.Picture.{Picture}
+use Rattle.su_draw.specs.Reading.{AreLinesOf}
+use Rattle.su_draw.specs.Once.{StandOnce, things_in_shapes}
+use Rattle.su_draw.specs.Svg.{svg_text}
+use Rattle.su_draw.specs.Xml.{IsDocument}
+
+-- the text is read as lines, each word of which that is drawn stands in a picture once; the document is that picture's, and well-formed
+pub record IsPictureOf (text document : List ℕ) : Type 0 where
+  pub lines : List Line
+  pub are_lines : AreLinesOf text lines
+  pub picture : Picture
+  pub once : StandOnce lines (things_in_shapes picture.shapes)
+  pub is : document ≡ svg_text picture
+  pub is_document : IsDocument document

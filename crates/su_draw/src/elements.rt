@@ -1,0 +1,88 @@
+//! Elements of XML, at the end of what stands there.
+ghost use Rattle.std.specs.Prelude.{◌≡◌, ◌++◌, [], flat_map, codes, OnOk};
+ghost use Rattle.su_draw.specs.Xml.{attribute_text};
+ghost use Rattle.su_draw.specs.Escaping.{escaped};
+ghost use Rattle.su_draw.specs.Svg.{word_of, number_of, element_line};
+ghost use Rattle.su_draw.specs.Pairs.{attribute_of, attributes_of};
+
+use crate::escaping::escape;
+use crate::parts::{push, push_number};
+use std::alloc::Global;
+use su_base::NoMemory;
+
+/// An attribute: its name and its value.
+#[derive(Clone, Copy)]
+pub enum Pair<'a> {
+    Number(&'a str, u32),
+    Word(&'a str, &'a str),
+}
+
+fn number(alloc: Global, out: &mut Vec<u8>, name: &str, value: u32) -> Result<(), NoMemory>
+    ensures { OnOk result (out.new.items ≡ out.old.items ++ attribute_text (number_of name.now value)) }
+{
+    push(out, " ")?;
+    push(out, name)?;
+    push(out, "=\"")?;
+    push_number(alloc, out, value)?;
+    push(out, "\"")
+}
+
+fn word(out: &mut Vec<u8>, name: &str, value: &str) -> Result<(), NoMemory>
+    ensures { OnOk result (out.new.items ≡ out.old.items ++ attribute_text (word_of name.now value.now)) }
+{
+    push(out, " ")?;
+    push(out, name)?;
+    push(out, "=\"")?;
+    push(out, value)?;
+    push(out, "\"")
+}
+
+fn attribute(alloc: Global, out: &mut Vec<u8>, pair: Pair) -> Result<(), NoMemory>
+    ensures { OnOk result (out.new.items ≡ out.old.items ++ attribute_text (attribute_of pair.entry)) }
+{
+    match pair {
+        Pair::Number(name, value) => number(alloc, out, name, value),
+        Pair::Word(name, value) => word(out, name, value),
+    }
+}
+
+// The beginning of an element, up to what is inside.
+pub(crate) fn open(
+    alloc: Global,
+    out: &mut Vec<u8>,
+    name: &str,
+    pairs: &[Pair],
+) -> Result<(), NoMemory>
+    ensures { OnOk result (out.new.items ≡ out.old.items ++ (codes "<" ++ name.now ++ flat_map attribute_text (attributes_of pairs.now) ++ codes ">")) }
+{
+    push(out, "<")?;
+    push(out, name)?;
+    for one in pairs {
+        attribute(alloc, out, *one)?;
+    }
+    push(out, ">")
+}
+
+// The end of an element, and of its line.
+pub(crate) fn close(out: &mut Vec<u8>, name: &str) -> Result<(), NoMemory>
+    ensures { OnOk result (out.new.items ≡ out.old.items ++ (codes "</" ++ name.now ++ codes ">\n")) }
+{
+    push(out, "</")?;
+    push(out, name)?;
+    push(out, ">\n")
+}
+
+// An element with a text inside.
+pub(crate) fn element(
+    alloc: Global,
+    out: &mut Vec<u8>,
+    name: &str,
+    pairs: &[Pair],
+    text: &[u8],
+) -> Result<(), NoMemory>
+    ensures { OnOk result (out.new.items ≡ out.old.items ++ element_line name.now (attributes_of pairs.now) (escaped text.now)) }
+{
+    open(alloc, out, name, pairs)?;
+    escape(alloc, out, text)?;
+    close(out, name)
+}

@@ -1,0 +1,220 @@
+//! Where the things of a schema are drawn: the attributes are columns, the objects lines with a dot at
+//! each of their attributes, and the maximal objects columns with a square at each of their objects.
+
+use crate::checks::are_same;
+use crate::kinds::Kind;
+use crate::measures::{HIGH, WIDE, width_of, word_at};
+use crate::reading::Line;
+use crate::shapes::{Help, Place};
+use crate::things::{Thing, What, name_in};
+use std::alloc::{AllocError, Global};
+
+// Where the first line of objects is, and how far apart they are.
+const TOP: u32 = 80;
+
+/// What is laid out: the attributes, the objects and the maximal objects, each with where it is.
+#[derive(Drop)]
+pub(crate) struct Grid<'a> {
+    lines: &'a [Line],
+    left: u32,
+    attributes: Vec<Spot<'a>>,
+    objects: Vec<Spot<'a>>,
+    maximal: Vec<Spot<'a>>,
+}
+
+// A name and where it is: how far from the left end or from the top, and how wide it is.
+#[derive(Drop)]
+struct Spot<'a> {
+    name: &'a [u8],
+    at: u32,
+    width: u32,
+}
+
+// Where the named one is.
+fn spot_of<'s, 'a>(spots: &'s [Spot<'a>], name: &[u8]) -> Option<&'s Spot<'a>> {
+    spots.iter().find(|spot| are_same(spot.name, name))
+}
+
+// Where the middle of the named one is.
+fn middle_of(spots: &[Spot], name: &[u8]) -> u32 {
+    match spot_of(spots, name) {
+        Some(spot) => spot.at.saturating_add(spot.width / 2),
+        None => 0,
+    }
+}
+
+impl<'a> Grid<'a> {
+    // The names of the objects, from the top down.
+    fn add_objects(&mut self) -> Result<(), AllocError> {
+        let mut at = TOP;
+        for line in self.lines.iter() {
+            if line.kind == Kind::Object {
+                let name = word_at(line.words.as_slice(), 1);
+                let width = width_of(name);
+                self.objects.push(Spot { name, at, width })?;
+                self.left = self.left.max(width.saturating_add(40));
+                at = at.saturating_add(HIGH + 4);
+            }
+        }
+        Ok(())
+    }
+
+    // The names of the attributes, and behind them the numbers of the maximal objects.
+    fn add_columns(&mut self) -> Result<(), AllocError> {
+        let mut at = self.left;
+        for line in self.lines.iter() {
+            let words = line.words.as_slice();
+            if line.kind == Kind::Attribute {
+                let name = word_at(words, 1);
+                let width = width_of(name);
+                self.attributes.push(Spot { name, at, width })?;
+                at = at.saturating_add(width).saturating_add(2 * WIDE);
+            }
+            if line.kind == Kind::Maximal {
+                let name = word_at(words, 3);
+                let width = 8 * WIDE;
+                let left = at.saturating_add(2 * WIDE);
+                self.maximal.push(Spot {
+                    name,
+                    at: left,
+                    width,
+                })?;
+                at = left.saturating_add(width);
+            }
+        }
+        Ok(())
+    }
+
+    pub(crate) fn new(alloc: Global, lines: &'a [Line]) -> Result<Grid<'a>, AllocError> {
+        let mut grid = Grid {
+            lines,
+            left: 40,
+            attributes: Vec::new(alloc),
+            objects: Vec::new(alloc),
+            maximal: Vec::new(alloc),
+        };
+        grid.add_objects()?;
+        grid.add_columns()?;
+        Ok(grid)
+    }
+
+    fn words(&self, line: usize) -> &[su_base::List<u8>] {
+        match self.lines.get(line) {
+            Some(line) => line.words.as_slice(),
+            None => &[],
+        }
+    }
+
+    // Where the named object is.
+    fn height_of(&self, name: &[u8]) -> u32 {
+        match spot_of(self.objects.as_slice(), name) {
+            Some(spot) => spot.at,
+            None => 0,
+        }
+    }
+
+    /// Where a thing is drawn.
+    pub(crate) fn place(&self, thing: &Thing) -> Place {
+        let words = self.words(thing.line);
+        let word = word_at(words, thing.word);
+        let column = match thing.what {
+            What::Attribute => spot_of(self.attributes.as_slice(), word),
+            _ => spot_of(self.maximal.as_slice(), word_at(words, 3)),
+        };
+        let left = match column {
+            Some(spot) => spot.at,
+            None => 0,
+        };
+        let (x, y) = match (thing.what, thing.word) {
+            (What::Attribute, _) => (left, TOP - HIGH - 4),
+            (What::Object, _) => (20, self.height_of(word)),
+            (What::Member, _) => (
+                middle_of(self.attributes.as_slice(), name_in(word)),
+                self.height_of(word_at(words, 1)).saturating_sub(4),
+            ),
+            (What::Part, _) => (
+                left.saturating_add(4 * WIDE - 6),
+                self.height_of(word).saturating_sub(10),
+            ),
+            (_, 3) => (left.saturating_add(4 * WIDE - 4), TOP - 2 * HIGH - 8),
+            _ => (left, TOP - HIGH - 8),
+        };
+        Place {
+            x,
+            y,
+            edge: 0,
+            lane: 0,
+            to: 0,
+            colour: 0,
+            light: false,
+        }
+    }
+
+    // The line of an object, from its first dot to its last one.
+    fn object_rule(&self, line: &Line) -> Help {
+        let words = line.words.as_slice();
+        let y = self.height_of(word_at(words, 1)).saturating_sub(4);
+        let (mut first, mut last) = (u32::MAX, 0);
+        for word in words
+            .iter()
+            .skip(2)
+            .take(crate::schemas::attribute_count(words.len()))
+        {
+            let x = middle_of(self.attributes.as_slice(), name_in(word.as_slice()));
+            first = first.min(x);
+            last = last.max(x);
+        }
+        Help::Rule {
+            x: first,
+            y,
+            to_x: last,
+            to_y: y,
+        }
+    }
+
+    // The line of a maximal object, from its first square to its last one.
+    fn maximal_rule(&self, line: &Line) -> Help {
+        let words = line.words.as_slice();
+        let x = middle_of(self.maximal.as_slice(), word_at(words, 3));
+        let (mut first, mut last) = (u32::MAX, 0);
+        for word in words.iter().skip(5) {
+            let y = self.height_of(word.as_slice()).saturating_sub(4);
+            first = first.min(y);
+            last = last.max(y);
+        }
+        Help::Rule {
+            x,
+            y: first,
+            to_x: x,
+            to_y: last,
+        }
+    }
+
+    /// What stands for no word.
+    pub(crate) fn helps(&self, alloc: Global) -> Result<Vec<Help>, AllocError> {
+        let mut helps = Vec::new(alloc);
+        for line in self.lines.iter() {
+            match line.kind {
+                Kind::Object => helps.push(self.object_rule(line))?,
+                Kind::Maximal => helps.push(self.maximal_rule(line))?,
+                _ => {}
+            }
+        }
+        if let Some(spot) = self.maximal.first() {
+            helps.push(Help::Heading {
+                x: spot.at,
+                y: TOP - 3 * HIGH - 4,
+                text: su_base::List::from_vec(b"maximal objects".to_vec(alloc)?),
+            })?;
+        }
+        Ok(helps)
+    }
+
+    /// How high the picture is.
+    pub(crate) fn bottom(&self) -> u32 {
+        match self.objects.last() {
+            Some(spot) => spot.at,
+            None => TOP,
+        }
+    }
+}
