@@ -3,8 +3,8 @@
 
     check.py FILE
 
-writes the line that `sysu check FILE` writes, and ends with 0 for a yes and 1 for a no. A symbol is ("v", number) or
-("const", value), a value an `int` or a `str`; a node is (row, branches), a branch (target, node).
+writes what `sysu check FILE` writes, and ends with 0 for a yes and 1 for a no. A symbol is ("v", number) or ("const",
+value), a value an `int` or a `str`; a node is (row, branches), a branch (target, node).
 """
 import re
 import sys
@@ -20,8 +20,7 @@ class Syntax(ValueError):
 def token_of(sort, data):
     """A token: a number of 64 bits, a word of at most 64 bytes, a text of UTF-8 of at most 4,096 bytes, or a sign."""
     if sort == "number":
-        digits = data.lstrip(b"-").lstrip(b"0") or b"0"
-        value = int(digits[:20]) * (-1 if data.startswith(b"-") else 1)
+        value = int((data.lstrip(b"-0") or b"0")[:20]) * (-1 if data.startswith(b"-") else 1)
         if not -(1 << 63) <= value < 1 << 63:
             raise Syntax
         return sort, value
@@ -181,7 +180,7 @@ def verdict(data):
     """The line of the verdict."""
     try:
         kinds, terms = read(data)
-    except ValueError:  # bytes that are no UTF-8 included
+    except ValueError:  # also bytes that are no UTF-8
         return "no: syntax"
     for place, term in enumerate(terms):
         if not is_good_form(kinds, place, term):
