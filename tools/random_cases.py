@@ -2,9 +2,11 @@
 model, and drawn so that rare things come up. Statements are drawn for the database as the model has it by then."""
 import re
 
+import certificates
 import model
 
 KINDS = 14
+MOST_CALLS = 20000
 VARIABLES = [None, None, "t", "u"]
 NAMES = ["A", "B", "C", "D", "E", "F", "G"]
 INTS = [0, 1, 2, 3]
@@ -216,6 +218,45 @@ def is_small(schema, maximal, text):
     return choices <= 16 and choices << rows <= 2048
 
 
+class TooMuch(Exception):
+    """A query takes the model too long."""
+
+
+def is_quick(database, text):
+    """Whether the model does a query with few comparisons of rows, those for the trees of a certificate with them."""
+    calls, parts = 0, [(model, "agreeing", model.agreeing), (certificates, "fits", certificates.fits)]
+
+    def counted(call):
+        def counting(*given):
+            nonlocal calls
+            calls += 1
+            if calls > MOST_CALLS:
+                raise TooMuch
+            return call(*given)
+        return counting
+
+    for module, name, call in parts:
+        setattr(module, name, counted(call))
+    try:
+        model.replied(database, text.encode(), None)
+    except TooMuch:
+        return False
+    except model.Refused:
+        pass
+    finally:
+        for module, name, call in parts:
+            setattr(module, name, call)
+    return True
+
+
+def quick_query(draw, database):
+    """A query behind its word, if any, that the model does in little time."""
+    while True:
+        text = draw.choice(["", "", "explain ", "explain with "]) + query(draw, database)
+        if is_quick(database, text):
+            return text
+
+
 def csv_file(draw, columns):
     """The lines of a CSV file for these columns, now and then with a fault."""
     end = draw.choice([b"\n", b"\n", b"\r\n", b"\r"])
@@ -285,8 +326,7 @@ def statement(draw, database, files):
     schema = database.schema
     choice = draw.random()
     if choice < 0.5 or not schema.relations:
-        word = draw.choice(["", "", "explain ", "explain with "])
-        return word + query(draw, database)
+        return quick_query(draw, database)
     name, columns = draw.choice(schema.relations)
     if choice < 0.58:
         return f"insert {name} ({row_of(draw, columns)})"
@@ -417,7 +457,10 @@ def changed(draw, certificate):
 
 def certificate_case(draw, database):
     """The check of a certificate of a query."""
-    text = b"explain with " + query(draw, database).encode()
+    asked = query(draw, database)
+    while not is_quick(database, "explain with " + asked):
+        asked = query(draw, database)
+    text = b"explain with " + asked.encode()
     try:
         lines = model.replied(database, text, None)
     except model.Refused:
