@@ -17,6 +17,8 @@ def rows():
             cells = [cell.strip() for cell in line.strip().strip("|").split(" | ")]
             if len(cells) == 3 and cells[0] != "promise":
                 yield cells
+            elif len(cells) == 4 and cells[0].isdigit():
+                yield [cells[2], cells[1], ""]
 
 
 def text_of(path):
