@@ -1,24 +1,34 @@
 -- Rows of lists that are taken from the end, one after another.
-use Rattle.std.proofs.Common.{◌≡◌, ◌↔◌, ◌⊎◌, inl, inr, ⊎_elim, List, [], ◌∷◌, ◌++◌, Contains, Option, Some, All, refl, sym, ap, subst, ◌∙◌, arith}
+use Rattle.std.proofs.Common.{◌≡◌, ◌↔◌, ◌⊎◌, ◌≤◌, ◌<◌, inl, inr, ⊎_elim, List, [], ◌∷◌, ◌++◌, length, Contains, Option, Some, All, refl, sym, ap, subst, ◌∙◌, arith}
 use Rattle.std.specs.Prelude.{IsSome}
 use Rattle.std.proofs.lemmas.List.Elements.{Contains-append_left, Contains-append_right, Contains-append_cases, All-from_recursion}
 use Rattle.std.proofs.lemmas.Option.{same_Some}
+use Rattle.std.specs.List.Sorted.{IsStrictlySortedBy}
 use Rattle.su_base.specs.declared.values.Value.{Value}
+use Rattle.su_base.specs.Value.{compare_lists}
 use Rattle.su_steps.proofs.Lists.{contains_cases, contains_none, all_by}
 use Rattle.su_answer.specs.declared.found.Found.{Found}
+use Rattle.su_answer.specs.Answers.{AreMoreThan}
 use Rattle.su_answer.specs.Executed.{IsInSome}
+use Rattle.su_answer.proofs.Union.{rows_more}
 
--- how far the lists are gone through: what is left, and the rows of the others
-pub record AreGathered (lists left : List Found) (all : List (List Value)) : Type 0 where
-  pub rows : (h : List Value) → (Contains all h ⊎ IsInSome left h) ↔ IsInSome lists h
+-- how far the lists are gone through: what is left, and the rows so far with those of the others
+pub record AreGathered (lists left : List Found) (so_far all : List (List Value)) : Type 0 where
+  pub rows : (h : List Value) → (Contains all h ⊎ IsInSome left h) ↔ (Contains so_far h ⊎ IsInSome lists h)
   pub some : (f : Found) → Contains lists f → Contains left f ⊎ IsSome f.rows
   pub of_lists : (f : Found) → Contains left f → Contains lists f
 
-pub begun : (lists : List Found) → AreGathered lists lists []
-begun lists = record {
-  rows = λ h. (λ s. ⊎_elim (λ (c : Contains [] h). absurd (contains_none h c)) (λ (i : IsInSome lists h). i) s, λ i. inr i);
-  some = λ f c. inl c;
-  of_lists = λ f c. c;
+-- the rows are in order, and not too many
+pub record AreInOrder (lists left : List Found) (so_far all : List (List Value)) : Type 0 where
+  pub gathered : AreGathered lists left so_far all
+  pub ascending : IsStrictlySortedBy compare_lists all
+  pub few : length all ≤ 1000000
+
+pub begun : (lists : List Found) (so_far : List (List Value)) → IsStrictlySortedBy compare_lists so_far → length so_far ≤ 1000000 → AreInOrder lists lists so_far so_far
+begun lists so_far ascending few = record {
+  gathered = record { rows = λ h. (λ s. s, λ s. s); some = λ f c. inl c; of_lists = λ f c. c };
+  ascending = ascending;
+  few = few;
 }
 
 -- a row of the lists in front, or of the last one
@@ -36,22 +46,22 @@ last_or_front left f rows h is s =
     (contains_cases f [] s.found r))
     (Contains-append_cases left (f ∷ []) s.found s.member)
 
-pub one_list : (lists before left : List Found) (f : Found) (rows all more : List (List Value)) → AreGathered lists before all → before ≡ left ++ f ∷ [] → f.rows ≡ Some rows → more ≡ all ++ rows → AreGathered lists left more
-one_list lists before left f rows all more g e is m = record {
+pub one_list : (lists before left : List Found) (f : Found) (so_far rows all more : List (List Value)) → AreGathered lists before so_far all → before ≡ left ++ f ∷ [] → f.rows ≡ Some rows → ((h : List Value) → Contains more h ↔ (Contains all h ⊎ Contains rows h)) → AreGathered lists left so_far more
+one_list lists before left f so_far rows all more g e is m = record {
   rows = λ h. (
     λ s. ⊎_elim
         (λ (c : Contains more h).
         ⊎_elim
         (λ (a : Contains all h). (g.rows h).0 (inl a))
         (λ (r : Contains rows h). (g.rows h).0 (inr (subst (λ (ls : List Found). IsInSome ls h) (sym e) (record { found = f; member = Contains-append_right left (f ∷ []) f (0, omega arith, refl); rows = rows; is = is; has = r }))))
-        (Contains-append_cases all rows h (subst (λ (xs : List (List Value)). Contains xs h) m c)))
+        ((m h).0 c))
         (λ (i : IsInSome left h). (g.rows h).0 (inr (subst (λ (ls : List Found). IsInSome ls h) (sym e) (in_front left f h i))))
         s,
     λ i. ⊎_elim
-        (λ (a : Contains all h). inl (subst (λ (xs : List (List Value)). Contains xs h) (sym m) (Contains-append_left all rows h a)))
+        (λ (a : Contains all h). inl ((m h).1 (inl a)))
         (λ (b : IsInSome before h).
         ⊎_elim
-        (λ (r : Contains rows h). inl (subst (λ (xs : List (List Value)). Contains xs h) (sym m) (Contains-append_right all rows h r)))
+        (λ (r : Contains rows h). inl ((m h).1 (inr r)))
         (λ (l : IsInSome left h). inr l)
         (last_or_front left f rows h is (subst (λ (ls : List Found). IsInSome ls h) e b)))
         ((g.rows h).1 i),
@@ -72,8 +82,8 @@ one_list lists before left f rows all more g e is m = record {
   of_lists = λ k c. g.of_lists k (subst (λ (ls : List Found). Contains ls k) (sym e) (Contains-append_left left (f ∷ []) k c));
 }
 
-pub all_rows : (lists left : List Found) (all : List (List Value)) → AreGathered lists left all → left ≡ [] → (h : List Value) → Contains all h ↔ IsInSome lists h
-all_rows lists left all g e h = (
+pub all_rows : (lists left : List Found) (so_far all : List (List Value)) → AreGathered lists left so_far all → left ≡ [] → (h : List Value) → Contains all h ↔ (Contains so_far h ⊎ IsInSome lists h)
+all_rows lists left so_far all g e h = (
   λ c. (g.rows h).0 (inl c),
   λ i. ⊎_elim
       (λ (c : Contains all h). c)
@@ -81,12 +91,16 @@ all_rows lists left all g e h = (
       ((g.rows h).1 i),
 )
 
-pub all_some : (lists left : List Found) (all : List (List Value)) → AreGathered lists left all → left ≡ [] → All (λ (f : Found). IsSome f.rows) lists
-all_some lists left all g e = All-from_recursion (λ (f : Found). IsSome f.rows) lists (all_by (λ (f : Found). IsSome f.rows) lists (λ f c.
+pub all_some : (lists left : List Found) (so_far all : List (List Value)) → AreGathered lists left so_far all → left ≡ [] → All (λ (f : Found). IsSome f.rows) lists
+all_some lists left so_far all g e = All-from_recursion (λ (f : Found). IsSome f.rows) lists (all_by (λ (f : Found). IsSome f.rows) lists (λ f c.
     ⊎_elim
     (λ (l : Contains left f). absurd (contains_none f (subst (λ (ls : List Found). Contains ls f) e l)))
     (λ (s : IsSome f.rows). s)
     (g.some f c)))
 
-pub last_in : (lists before left : List Found) (f : Found) (all : List (List Value)) → AreGathered lists before all → before ≡ left ++ f ∷ [] → Contains lists f
-last_in lists before left f all g e = g.of_lists f (subst (λ (ls : List Found). Contains ls f) (sym e) (Contains-append_right left (f ∷ []) f (0, omega arith, refl)))
+pub last_in : (lists before left : List Found) (f : Found) (so_far all : List (List Value)) → AreGathered lists before so_far all → before ≡ left ++ f ∷ [] → Contains lists f
+last_in lists before left f so_far all g e = g.of_lists f (subst (λ (ls : List Found). Contains ls f) (sym e) (Contains-append_right left (f ∷ []) f (0, omega arith, refl)))
+
+-- rows that ascend and are too many
+pub too_many : (lists left : List Found) (so_far more : List (List Value)) → AreGathered lists left so_far more → IsStrictlySortedBy compare_lists more → 1000000 < length more → AreMoreThan 1000000 (λ h. Contains so_far h ⊎ IsInSome lists h)
+too_many lists left so_far more g ascending many = rows_more 1000000 (λ h. Contains so_far h ⊎ IsInSome lists h) more ascending (λ h c. (g.rows h).0 (inl c)) many

@@ -1,12 +1,13 @@
 -- The answers of the kept terms, one after another, are the answers of the query.
-use Rattle.std.proofs.Common.{◌≡◌, ◌↔◌, ℕ, zero, suc, ◌<◌, List, [], ◌∷◌, length, get_or, Contains, All, Option, Some, None, refl, sym, ap, subst, ◌∙◌, arith}
+use Rattle.std.proofs.Common.{◌≡◌, ◌↔◌, ◌⊎◌, inl, inr, ⊎_elim, ℕ, zero, suc, ◌+◌, ◌<◌, ◌≤◌, List, [], ◌∷◌, ◌++◌, take, drop, length, get_or, Contains, All, Option, Some, None, refl, sym, ap, subst, ◌∙◌, arith}
 use Rattle.std.specs.Prelude.{MatchOption, IsSome}
 use Rattle.std.specs.List.{AllZip}
 use Rattle.std.specs.List.Sorted.{IsStrictlySortedBy}
 use Rattle.std.specs.declared.cmp.Ordering.TheVariants.{Less, Equal}
 use Rattle.std.proofs.lemmas.Bool.{false≢true}
 use Rattle.std.proofs.lemmas.Cmp.{tied_itself}
-use Rattle.std.proofs.lemmas.List.Elements.{All-contains, All-from_recursion, Contains-get_or}
+use Rattle.std.proofs.lemmas.List.Elements.{All-contains, All-from_recursion, Contains-get_or, Contains-append_left, Contains-append_right, Contains-append_cases}
+use Rattle.std.proofs.lemmas.List.{length-append, take-append-drop}
 use Rattle.std.proofs.lemmas.Map.Keys.{sorted_head, sorted_tail}
 use Rattle.su_base.specs.declared.values.Value.{Value}
 use Rattle.su_base.specs.Value.{compare_lists}
@@ -22,10 +23,10 @@ use Rattle.su_min.specs.Reduction.{term_at, IsReduced}
 use Rattle.su_answer.specs.declared.found.Found.{Found}
 use Rattle.su_answer.specs.declared.preparing.Prepared.{Prepared}
 use Rattle.su_answer.specs.Joined.{IsTaskOf}
-use Rattle.su_answer.specs.Answers.{IsTermAnswer, IsAnswer, AreMoreThan}
+use Rattle.su_answer.specs.Answers.{IsTermAnswer, IsAnswer, AreAnswers, AreMoreThan}
 use Rattle.su_answer.specs.Executed.{Join, IsFound, IsJoinOf, AreTermAnswers, IsFoundFor, IsInSome}
 use Rattle.su_answer.proofs.Joined.{outputs_are_answers}
-use Rattle.su_steps.proofs.Lists.{contains_later, all_by}
+use Rattle.su_steps.proofs.Lists.{contains_later, contains_none, all_by}
 use Rattle.su_answer.proofs.Zipping.{zip_first, zip_second}
 
 -- ---- what a job gives
@@ -62,17 +63,17 @@ module _ (db : DatabaseValue) (minimals : List Minimised) (kept : List ℕ) (lis
     pub is_kept : Contains kept term
     pub answer : IsTermAnswer db (term_at minimals term) h
 
-  pub in_some : All (λ (f : Found). IsSome f.rows) lists → (h : List Value) → IsInSome lists h ↔ OfSome h
-  in_some all h = (
-    λ s.
-        let w = zip_second (λ k f. IsFoundFor db (term_at minimals k) f) kept lists s.found found s.member in
-        let are : AreTermAnswers db (term_at minimals w.0) s.rows = subst (λ (o : Option (List (List Value))). MatchOption o (AreMoreThan 1000000 (IsTermAnswer db (term_at minimals w.0))) (AreTermAnswers db (term_at minimals w.0))) s.is w.2 in
-        record { term = w.0; is_kept = w.1; answer = (are.exact h).0 s.has },
-    λ o.
-        let w = zip_first (λ k f. IsFoundFor db (term_at minimals k) f) kept lists o.term found o.is_kept in
-        let r = some_rows db (term_at minimals o.term) w.0.rows (All-contains (λ (f : Found). IsSome f.rows) lists w.0 all w.1) w.2 in
-        record { found = w.0; member = w.1; rows = r.0; is = r.1; has = (r.2.exact h).1 o.answer },
-  )
+  pub some_answers : (h : List Value) → IsInSome lists h → OfSome h
+  some_answers h s =
+      let w = zip_second (λ k f. IsFoundFor db (term_at minimals k) f) kept lists s.found found s.member in
+      let are : AreTermAnswers db (term_at minimals w.0) s.rows = subst (λ (o : Option (List (List Value))). MatchOption o (AreMoreThan 1000000 (IsTermAnswer db (term_at minimals w.0))) (AreTermAnswers db (term_at minimals w.0))) s.is w.2 in
+      record { term = w.0; is_kept = w.1; answer = (are.exact h).0 s.has }
+
+  pub answers_some : All (λ (f : Found). IsSome f.rows) lists → (h : List Value) → OfSome h → IsInSome lists h
+  answers_some all h o =
+      let w = zip_first (λ k f. IsFoundFor db (term_at minimals k) f) kept lists o.term found o.is_kept in
+      let r = some_rows db (term_at minimals o.term) w.0.rows (All-contains (λ (f : Found). IsSome f.rows) lists w.0 all w.1) w.2 in
+      record { found = w.0; member = w.1; rows = r.0; is = r.1; has = (r.2.exact h).1 o.answer }
 
   -- a term alone has more answers than there may be
   pub one_more : (f : Found) → Contains lists f → f.rows ≡ None → (P : List Value → Type 0) → ((k : ℕ) (h : List Value) → Contains kept k → IsTermAnswer db (term_at minimals k) h → P h) → AreMoreThan 1000000 P
@@ -114,18 +115,107 @@ zip_through R S T (x ∷ xs) (y ∷ ys) (z ∷ zs) f r s = (f x y z (0, omega ar
 pub minimal_valid : (minimals : List Minimised) (kept : List ℕ) (k : ℕ) → All (λ (m : Minimised). IsValid m.tableau) minimals → All (λ j. j < length minimals) kept → Contains kept k → IsValid (term_at minimals k).tableau
 minimal_valid minimals kept k valid low has = valid k (record { tableau = record { width = 0; rows = []; head = []; outputs = 0; operators = [] }; mask = 0; fold = [] }) (All-contains (λ j. j < length minimals) kept k low has)
 
--- ---- the answers of a prepared query
-
-abbrev pub AreFound : DatabaseValue → Prepared → List Found → Type 0
-AreFound db p lists = AllZip (λ k f. IsFoundFor db (term_at p.minimals k) f) p.reduced.kept lists
+-- ---- terms, some at a time
 
 pub kept_low : (p : Prepared) → IsReduced p.minimals p.reduced → All (λ k. k < length p.minimals) p.reduced.kept
 kept_low p reduced = All-from_recursion (λ k. k < length p.minimals) p.reduced.kept (all_by (λ k. k < length p.minimals) p.reduced.kept (λ k c. ((reduced.kept.members k).0 c).0))
 
-pub is_more : (db : DatabaseValue) (p : Prepared) (lists : List Found) (f : Found) → AreFound db p lists → Contains lists f → f.rows ≡ None → AreMoreThan 1000000 (IsAnswer db p)
-is_more db p lists f found member none = one_more db p.minimals p.reduced.kept lists found f member none (IsAnswer db p) (λ k h c a. record { term = k; kept = c; answer = a })
+-- an answer of one of these terms
+pub record OfTerms (db : DatabaseValue) (minimals : List Minimised) (ks : List ℕ) (h : List Value) : Type 0 where
+  pub term : ℕ
+  pub member : Contains ks term
+  pub answer : IsTermAnswer db (term_at minimals term) h
 
-pub are_answers : (db : DatabaseValue) (p : Prepared) (lists : List Found) → AreFound db p lists → All (λ (f : Found). IsSome f.rows) lists → (h : List Value) → IsInSome lists h ↔ IsAnswer db p h
-are_answers db p lists found all h =
-    let s = in_some db p.minimals p.reduced.kept lists found all h in
-    (λ i. let o = s.0 i in record { term = o.term; kept = o.is_kept; answer = o.answer }, λ a. s.1 (record { term = a.term; is_kept = a.kept; answer = a.answer }))
+of_later : (db : DatabaseValue) (minimals : List Minimised) (ks js : List ℕ) (h : List Value) → ((k : ℕ) → Contains ks k → Contains js k) → OfTerms db minimals ks h → OfTerms db minimals js h
+of_later db minimals ks js h f o = record { term = o.term; member = f o.term o.member; answer = o.answer }
+
+-- how far the terms are gone through: which are left, and the rows of the others
+pub record AreUnited (db : DatabaseValue) (minimals : List Minimised) (kept left : List ℕ) (rows : List (List Value)) : Type 0 where
+  pub exact : (h : List Value) → (Contains rows h ⊎ OfTerms db minimals left h) ↔ OfTerms db minimals kept h
+  pub ascending : IsStrictlySortedBy compare_lists rows
+  pub few : length rows ≤ 1000000
+  pub of_kept : (k : ℕ) → Contains left k → Contains kept k
+  pub shorter : length left ≤ length kept
+
+no_rows : IsStrictlySortedBy compare_lists []
+unfolding IsStrictlySortedBy
+no_rows = tt
+
+pub all_left : (db : DatabaseValue) (minimals : List Minimised) (kept : List ℕ) → AreUnited db minimals kept kept []
+all_left db minimals kept = record {
+  exact = λ h. (λ s. ⊎_elim (λ (c : Contains [] h). absurd (contains_none h c)) (λ (o : OfTerms db minimals kept h). o) s, λ o. inr o);
+  ascending = no_rows;
+  few = omega arith;
+  of_kept = λ k c. c;
+  shorter = omega arith;
+}
+
+pub wave_low : (db : DatabaseValue) (minimals : List Minimised) (kept left now later : List ℕ) (rows : List (List Value)) (n : ℕ) → AreUnited db minimals kept left rows → left ≡ now ++ later → All (λ k. k < n) kept → All (λ k. k < n) now
+wave_low db minimals kept left now later rows n before parts low =
+    All-from_recursion (λ k. k < n) now (all_by (λ k. k < n) now (λ k c. All-contains (λ k. k < n) kept k low (before.of_kept k (subst (λ ks. Contains ks k) (sym parts) (Contains-append_left now later k c)))))
+
+pub halves : (m : ℕ) (left now later : List ℕ) → now ≡ take m left → later ≡ drop m left → left ≡ now ++ later
+halves m left now later front back = sym (subst (λ xs. xs ++ later ≡ left) (sym front) (subst (λ ys. take m left ++ ys ≡ left) (sym back) (take-append-drop m left)))
+
+module _ (db : DatabaseValue) (minimals : List Minimised) (kept left now later : List ℕ) (rows : List (List Value)) (lists : List Found) (before : AreUnited db minimals kept left rows) (parts : left ≡ now ++ later) (found : AllZip (λ k f. IsFoundFor db (term_at minimals k) f) now lists) where
+  now_left : (k : ℕ) → Contains now k → Contains left k
+  now_left k c = subst (λ ks. Contains ks k) (sym parts) (Contains-append_left now later k c)
+
+  later_left : (k : ℕ) → Contains later k → Contains left k
+  later_left k c = subst (λ ks. Contains ks k) (sym parts) (Contains-append_right now later k c)
+
+  -- what there is so far, and what the lists have, are answers
+  of_either : (h : List Value) → Contains rows h ⊎ IsInSome lists h → OfTerms db minimals kept h
+  of_either h s = ⊎_elim
+      (λ (c : Contains rows h). (before.exact h).0 (inl c))
+      (λ (i : IsInSome lists h). let o = some_answers db minimals now lists found h i in (before.exact h).0 (inr (record { term = o.term; member = now_left o.term o.is_kept; answer = o.answer })))
+      s
+
+  pub wave_united : (more : List (List Value)) → ((h : List Value) → Contains more h ↔ (Contains rows h ⊎ IsInSome lists h)) → All (λ (f : Found). IsSome f.rows) lists → IsStrictlySortedBy compare_lists more → length more ≤ 1000000 → AreUnited db minimals kept later more
+  wave_united more are all ascending few = record {
+    exact = λ h. (
+      λ s. ⊎_elim
+          (λ (c : Contains more h). of_either h ((are h).0 c))
+          (λ (o : OfTerms db minimals later h). (before.exact h).0 (inr (of_later db minimals later left h later_left o)))
+          s,
+      λ o. ⊎_elim
+          (λ (c : Contains rows h). inl ((are h).1 (inl c)))
+          (λ (l : OfTerms db minimals left h).
+          ⊎_elim
+          (λ (n : Contains now l.term). inl ((are h).1 (inr (answers_some db minimals now lists found all h (record { term = l.term; is_kept = n; answer = l.answer })))))
+          (λ (n : Contains later l.term). inr (record { term = l.term; member = n; answer = l.answer }))
+          (Contains-append_cases now later l.term (subst (λ ks. Contains ks l.term) parts l.member)))
+          ((before.exact h).1 o),
+    );
+    ascending = ascending;
+    few = few;
+    of_kept = λ k c. before.of_kept k (later_left k c);
+    shorter =
+        let e : length left ≡ length now + length later = ap (λ (ks : List ℕ). length ks) parts ∙ length-append now later in
+        let s = before.shorter in
+        omega arith;
+  }
+
+  -- a list is missing, or there are too many rows
+  pub wave_more : ((f : Found) × Contains lists f × (f.rows ≡ None)) ⊎ AreMoreThan 1000000 (λ h. Contains rows h ⊎ IsInSome lists h) → AreMoreThan 1000000 (OfTerms db minimals kept)
+  wave_more s = ⊎_elim
+      (λ (m : (f : Found) × Contains lists f × (f.rows ≡ None)). one_more db minimals now lists found m.0 m.1 m.2 (OfTerms db minimals kept) (λ k h c a. (before.exact h).0 (inr (record { term = k; member = now_left k c; answer = a }))))
+      (λ (m : AreMoreThan 1000000 (λ h. Contains rows h ⊎ IsInSome lists h)). record { list = m.list; each = λ i l. of_either (m.list i) (m.each i l); differ = m.differ })
+      s
+
+-- ---- the answers of a prepared query
+
+pub more_answers : (db : DatabaseValue) (p : Prepared) → AreMoreThan 1000000 (OfTerms db p.minimals p.reduced.kept) → AreMoreThan 1000000 (IsAnswer db p)
+more_answers db p m = record { list = m.list; each = λ i l. let o = m.each i l in record { term = o.term; kept = o.member; answer = o.answer }; differ = m.differ }
+
+pub are_answers : (db : DatabaseValue) (p : Prepared) (left : List ℕ) (rows : List (List Value)) → AreUnited db p.minimals p.reduced.kept left rows → left ≡ [] → AreAnswers db p rows
+are_answers db p left rows united none = record {
+  exact = λ h. (
+    λ c. let o = (united.exact h).0 (inl c) in record { term = o.term; kept = o.member; answer = o.answer },
+    λ a. ⊎_elim
+        (λ (c : Contains rows h). c)
+        (λ (o : OfTerms db p.minimals left h). absurd (contains_none o.term (subst (λ ks. Contains ks o.term) none o.member)))
+        ((united.exact h).1 (record { term = a.term; member = a.kept; answer = a.answer })),
+  );
+  ascending = united.ascending;
+}

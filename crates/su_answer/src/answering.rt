@@ -4,10 +4,11 @@ ghost use Rattle.su_answer.specs.declared.faults.AnswerFault.TheVariants.{Limit}
 ghost use Rattle.su_answer.specs.Prepared.{IsPreparedFor};
 ghost use Rattle.su_answer.specs.Answers.{IsAnswer, AreAnswers, AreMoreThan};
 
-use crate::executing::{MOST, found};
+use crate::executing::found;
 use crate::faults::AnswerFault;
+use crate::later::Later;
 use crate::preparing::Prepared;
-use crate::uniting::{gathered, sorted};
+use crate::uniting::gathered;
 use std::alloc::Global;
 use std::thread::Threads;
 use su_base::{List, Row};
@@ -16,12 +17,13 @@ use su_state::Database;
 use su_steps::laws::terms_are_valid_and_typed;
 
 /// The rows of the kept terms over the stored rows, ascending, each once; `Limit` where there are more
-/// than 1,000,000. At most `workers` terms are executed at a time, and the gate is passed for each,
-/// with its place among the kept ones.
+/// than 1,000,000. `workers` terms are executed at a time, and the gate is passed for each, with its
+/// place among the kept ones. What they give is merged with the rows so far before the next ones
+/// begin: beside the answer no more lists are held than there are workers.
 ///
 /// Where the relations are the projections of one universal relation that meets the dependencies, they
 /// are those of the query's expression (`laws::answers_are_the_expression`). Beside the joins, the
-/// time is that of sorting the rows of all kept terms.
+/// time is that of one pass over the rows so far for each kept term.
 pub fn answer<R: Threads + Sync, G: Gate>(
     rt: &R,
     alloc: Global,
@@ -41,10 +43,15 @@ pub fn answer<R: Threads + Sync, G: Gate>(
     let minimals = prepared.minimals.as_slice();
     let kept = prepared.reduced.kept.as_slice();
     terms_are_valid_and_typed();
-    let lists = found(rt, alloc, db, minimals, kept, workers, gate)?;
-    let rows = sorted(gathered(alloc, lists)?.into_vec());
-    if rows.len() as u64 > MOST {
-        return Err(AnswerFault::Limit);
+    let mut rows = List::new(alloc);
+    let mut left = kept;
+    while !left.is_empty() {
+        let (now, later) = left.split_at(left.len().min(workers as usize));
+        let first = kept.len() - left.len();
+        let later_gate = Later { gate, first };
+        let lists = found(rt, alloc, db, minimals, now, workers, &later_gate)?;
+        rows = gathered(rows, lists)?;
+        left = later;
     }
-    Ok(List::from_vec(rows))
+    Ok(rows)
 }

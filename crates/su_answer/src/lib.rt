@@ -13,6 +13,7 @@ mod crossing;
 mod executing;
 mod faults;
 mod found;
+mod later;
 pub mod laws;
 mod making;
 mod preparing;

@@ -1,6 +1,8 @@
-use Rattle.std.proofs.Common.{◌≡◌, ◌↔◌, ℕ, ◌<◌, List, length, Contains, All, Result, sym, subst, arith}
+use Rattle.std.proofs.Common.{◌≡◌, ℕ, ◌<◌, List, [], length, All, Result, sym, subst, arith}
 use Rattle.std.specs.Prelude.{IfErr}
 use Rattle.std.specs.List.{AllZip}
+use Rattle.std.proofs.lemmas.Bool.Decides.{nat_tests}
+use Rattle.std.proofs.lemmas.List.{nil_from_length}
 use Rattle.std.proofs.lemmas.Result.{err_from_is_err_and}
 use Rattle.su_base.specs.declared.values.Value.{Value}
 use Rattle.su_tableau.specs.Tableaux.{IsValid}
@@ -10,11 +12,18 @@ use Rattle.su_min.specs.Kept.{Minimised}
 use Rattle.su_min.specs.Reduction.{term_at}
 use Rattle.su_answer.specs.declared.faults.AnswerFault.{AnswerFault}
 use Rattle.su_answer.specs.declared.faults.AnswerFault.TheVariants.{Limit}
-use Rattle.su_answer.specs.Answers.{IsAnswer, AreAnswers, AreMoreThan}
+use Rattle.su_answer.specs.Answers.{IsAnswer, AreMoreThan}
 use Rattle.su_answer.specs.Executed.{IsFoundFor}
 use Rattle.su_answer.proofs.Counting.{minimals_fit}
-use Rattle.su_answer.proofs.Union.{AreFound, kept_low, is_more, are_answers, rows_more}
+use Rattle.su_answer.proofs.Union.{AreUnited, kept_low, all_left, halves, wave_low, wave_united, wave_more, more_answers, are_answers}
 use Rattle.su_answer.proofs.answering.answer.Goals as goal
+
+pub loop-minimals-init : goal.loop-minimals-init
+loop-minimals-init g c =
+    let db = c.args.db.now in
+    let p = c.args.prepared.now in
+    subst (λ (ks : List ℕ). AreUnited db p.minimals p.reduced.kept ks c.new-rows.result) (sym c.as_slice-kept.ensures)
+    (subst (λ (rs : List (List Value)). AreUnited db p.minimals p.reduced.kept p.reduced.kept rs) (sym c.new-rows.ensures) (all_left db p.minimals p.reduced.kept))
 
 pub found-requires-clause-typed : goal.found-requires-clause-typed
 found-requires-clause-typed g c κs within =
@@ -30,49 +39,37 @@ found-requires-clause-valid g c κs within =
 
 pub found-requires-clause-within : goal.found-requires-clause-within
 found-requires-clause-within g c κs within =
-    subst (λ (ks : List ℕ). All (λ k. k < length c.as_slice-minimals.result.now) ks) (sym c.as_slice-kept.ensures)
-    (subst (λ (ms : List Minimised). All (λ k. k < length ms) c.args.prepared.now.reduced.kept) (sym c.as_slice-minimals.ensures) (kept_low c.args.prepared.now c.requires.prepared.is.reduced))
+    let p = c.args.prepared.now in
+    let now : List ℕ = c.split_at.result.0.now in
+    let parts = halves c.min.result c.loop-minimals.left.now now c.split_at.result.1.now c.split_at.ensures.front c.split_at.ensures.back in
+    subst (λ (ms : List Minimised). All (λ k. k < length ms) now) (sym c.as_slice-minimals.ensures)
+    (wave_low c.args.db.now p.minimals p.reduced.kept c.loop-minimals.left.now now c.split_at.result.1.now c.loop-minimals.rows (length p.minimals) c.loop-minimals.invariant parts (kept_low p c.requires.prepared.is.reduced))
 
-pub returns-in_err-gathered-clause-limit : goal.returns-in_err-gathered-clause-limit
-returns-in_err-gathered-clause-limit g c =
+pub returns-in_err-rows-clause-limit : goal.returns-in_err-rows-clause-limit
+returns-in_err-rows-clause-limit g c =
     let db = c.args.db.now in
     let p = c.args.prepared.now in
-    let e = err_from_is_err_and c.from_residual-in_err-gathered.result c.from_residual-in_err-gathered.ensures.1 in
-    let found : AreFound db p c.in_ok-lists.lists =
-    subst (λ (ks : List ℕ). AllZip (λ k f. IsFoundFor db (term_at p.minimals k) f) ks c.in_ok-lists.lists) c.as_slice-kept.ensures
-    (subst (λ (ms : List Minimised). AllZip (λ k f. IsFoundFor db (term_at ms k) f) c.as_slice-kept.result.now c.in_ok-lists.lists) c.as_slice-minimals.ensures c.in_ok-lists.ensures) in
+    let now : List ℕ = c.split_at.result.0.now in
+    let e = err_from_is_err_and c.from_residual-in_err-rows.result c.from_residual-in_err-rows.ensures.1 in
+    let parts = halves c.min.result c.loop-minimals.left.now now c.split_at.result.1.now c.split_at.ensures.front c.split_at.ensures.back in
+    let found : AllZip (λ k f. IsFoundFor db (term_at p.minimals k) f) now c.in_ok-lists.lists =
+    subst (λ (ms : List Minimised). AllZip (λ k f. IsFoundFor db (term_at ms k) f) now c.in_ok-lists.lists) c.as_slice-minimals.ensures c.in_ok-lists.ensures in
     subst (λ (r : Result (List (List Value)) AnswerFault). IfErr r (λ fault. fault ≡ Limit → AreMoreThan 1000000 (IsAnswer db p))) (sym e.1)
-    (subst (λ (f : AnswerFault). f ≡ Limit → AreMoreThan 1000000 (IsAnswer db p)) (sym e.2) (λ is. let w = c.in_err-gathered.ensures.limit is in is_more db p c.in_ok-lists.lists w.0 found w.1 w.2))
+    (subst (λ (f : AnswerFault). f ≡ Limit → AreMoreThan 1000000 (IsAnswer db p)) (sym e.2)
+    (λ is. more_answers db p (wave_more db p.minimals p.reduced.kept c.loop-minimals.left.now now c.split_at.result.1.now c.loop-minimals.rows c.in_ok-lists.lists c.loop-minimals.invariant parts found (c.in_err-rows.ensures.limit is))))
 
-pub returns-then-len-gt-MOST-clause-limit : goal.returns-then-len-gt-MOST-clause-limit
-returns-then-len-gt-MOST-clause-limit g c = λ _.
+pub loop-minimals-preserved : goal.loop-minimals-preserved
+loop-minimals-preserved g c =
     let db = c.args.db.now in
     let p = c.args.prepared.now in
-    let found : AreFound db p c.in_ok-lists.lists =
-    subst (λ (ks : List ℕ). AllZip (λ k f. IsFoundFor db (term_at p.minimals k) f) ks c.in_ok-lists.lists) c.as_slice-kept.ensures
-    (subst (λ (ms : List Minimised). AllZip (λ k f. IsFoundFor db (term_at ms k) f) c.as_slice-kept.result.now c.in_ok-lists.lists) c.as_slice-minimals.ensures c.in_ok-lists.ensures) in
-    let rows : List (List Value) = c.sorted-rows.result.items in
-    let many = c.if-len-gt-MOST.true in
-    let len : c.len.result ≡ length rows = search (c.len.ensures) in
-    rows_more 1000000 (IsAnswer db p) rows c.sorted-rows.ensures.ascending
-    (λ h x.
-    let g = c.in_ok-gathered.ensures.rows h in
-    let a = are_answers db p c.in_ok-lists.lists found c.in_ok-gathered.ensures.all h in
-    a.0 (g.0 (subst (λ (xs : List (List Value)). Contains xs h) c.into_vec.ensures ((c.sorted-rows.ensures.members h).0 x))))
-    (omega arith)
+    let now : List ℕ = c.split_at.result.0.now in
+    let parts = halves c.min.result c.loop-minimals.left.now now c.split_at.result.1.now c.split_at.ensures.front c.split_at.ensures.back in
+    let found : AllZip (λ k f. IsFoundFor db (term_at p.minimals k) f) now c.in_ok-lists.lists =
+    subst (λ (ms : List Minimised). AllZip (λ k f. IsFoundFor db (term_at ms k) f) now c.in_ok-lists.lists) c.as_slice-minimals.ensures c.in_ok-lists.ensures in
+    let e = c.in_ok-rows.ensures in
+    wave_united db p.minimals p.reduced.kept c.loop-minimals.left.now now c.split_at.result.1.now c.loop-minimals.rows c.in_ok-lists.lists c.loop-minimals.invariant parts found c.in_ok-rows.rows e.rows e.all e.ascending e.few
 
 pub returns-clause-answers : goal.returns-clause-answers
 returns-clause-answers g c =
-    let db = c.args.db.now in
-    let p = c.args.prepared.now in
-    let found : AreFound db p c.in_ok-lists.lists =
-    subst (λ (ks : List ℕ). AllZip (λ k f. IsFoundFor db (term_at p.minimals k) f) ks c.in_ok-lists.lists) c.as_slice-kept.ensures
-    (subst (λ (ms : List Minimised). AllZip (λ k f. IsFoundFor db (term_at ms k) f) c.as_slice-kept.result.now c.in_ok-lists.lists) c.as_slice-minimals.ensures c.in_ok-lists.ensures) in
-    let rows : List (List Value) = c.sorted-rows.result.items in
-    let exact : (h : List Value) → Contains rows h ↔ IsAnswer db p h = λ h.
-    let m = c.sorted-rows.ensures.members h in
-    let g = c.in_ok-gathered.ensures.rows h in
-    let a = are_answers db p c.in_ok-lists.lists found c.in_ok-gathered.ensures.all h in
-    let same = c.into_vec.ensures in
-    (λ x. a.0 (g.0 (subst (λ (xs : List (List Value)). Contains xs h) same (m.0 x))), λ y. m.1 (subst (λ (xs : List (List Value)). Contains xs h) (sym same) (g.1 (a.1 y)))) in
-    subst (λ (xs : List (List Value)). AreAnswers db p xs) (sym c.from_vec.ensures) (record { exact = exact; ascending = c.sorted-rows.ensures.ascending })
+    let none : c.loop-minimals.left.now ≡ [] = nil_from_length c.loop-minimals.left.now (grind (arith, nat_tests, c.loop-minimals-test.ensures)) in
+    are_answers c.args.db.now c.args.prepared.now c.loop-minimals.left.now c.loop-minimals.rows c.loop-minimals.invariant none
