@@ -9,10 +9,11 @@ ghost use Rattle.su_index.specs.Order.{value_at, compare_places, comes_before, I
 use crate::chunk::Chunk;
 use crate::chunks::entry;
 use crate::lead::lead;
-use crate::order::is_before;
+use crate::order::{is_before, order_at};
 use su_base::{Row, Value};
 
-/// How many entries come before the value at `position`: they are the first ones.
+/// How many entries come before the value at `position`: they are the first ones. Once an entry before
+/// the place and one behind it have the value, no row between them is read.
 pub(crate) fn find(
     rows: &[Row],
     column: usize,
@@ -35,12 +36,18 @@ pub(crate) fn find(
 {
     let mut low = 0;
     let mut high = count;
+    let mut low_has = false;
+    let mut high_has = false;
     while low < high {
         let middle = low + (high - low) / 2;
-        if is_before(rows, column, entry(chunks, middle), lead, wanted, position) {
+        let found = entry(chunks, middle);
+        let order = order_at(rows, column, found, lead, wanted, low_has && high_has);
+        if order.then(found.position.cmp(&position)).is_lt() {
             low = middle + 1;
+            low_has = order.is_eq();
         } else {
             high = middle;
+            high_has = order.is_eq();
         }
     }
     low

@@ -1,13 +1,14 @@
 //! The order of an index.
-ghost use Rattle.std.specs.Prelude.{◌≡◌, ◌<◌, ◌≤◌, ℕ, true, false, length, slice_index};
+ghost use Rattle.std.specs.Prelude.{◌≡◌, ◌<◌, ◌≤◌, ℕ, true, false, IsTrue, length, slice_index};
 ghost use Rattle.std.specs.List.Sorted.{IsStrictlySortedBy};
 ghost use Rattle.std.specs.Ordering.{nat_cmp, ordering_then, is_lt};
 ghost use Rattle.su_base.specs.Value.{compare_values};
 ghost use Rattle.su_index.specs.Entries.{positions, HaveLeads};
 ghost use Rattle.su_index.specs.Lead.{IsLead};
-ghost use Rattle.su_index.specs.Order.{value_at, compare_places, comes_before, HaveColumn, ArePositions};
+ghost use Rattle.su_index.specs.Order.{value_at, compare_keys, compare_places, comes_before, has_at, HaveColumn, ArePositions};
 
 use crate::entry::Entry;
+use std::cmp::Ordering;
 use su_base::{Row, Value};
 
 /// The value in the column of the row at the position.
@@ -58,6 +59,32 @@ pub(crate) fn is_before(
         return found.lead < lead;
     }
     is_before_by_value(rows, column, found.position, wanted, position)
+}
+
+/// How the value in the row of the entry stands to the value. The row isn't read where the leads
+/// differ, nor where it is known that it has the value.
+pub(crate) fn order_at(
+    rows: &[Row],
+    column: usize,
+    found: Entry,
+    lead: u32,
+    wanted: &Value,
+    has: bool,
+) -> Ordering
+    requires columns { HaveColumn column rows.now }
+    requires within { found.position < length rows.now }
+    requires found { IsLead found.lead (value_at rows.now column found.position) }
+    requires lead { IsLead lead wanted.now }
+    requires known { IsTrue has → has_at (value_at rows.now column) wanted.now found.position ≡ true }
+    ensures { result ≡ compare_keys (value_at rows.now column found.position) wanted.now }
+{
+    if has {
+        return Ordering::Equal;
+    }
+    if found.lead != lead {
+        return found.lead.cmp(&lead);
+    }
+    value(rows, column, found.position).compare(wanted)
 }
 
 /// How many entries of the run come before the value at `position`: they are its first ones.

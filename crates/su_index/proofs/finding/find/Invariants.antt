@@ -1,7 +1,7 @@
 use Rattle.std.proofs.Common.{◌≡◌, ◌<◌, ◌≤◌, ◌-◌, ℕ, true, false, length, slice_index}
 use Rattle.su_index.specs.Chunks.{entries_of}
 use Rattle.su_index.specs.Entries.{positions}
-use Rattle.su_index.specs.Order.{value_at, comes_before}
+use Rattle.su_index.specs.Order.{value_at, comes_before, has_at}
 use Rattle.su_index.proofs.finding.find.Given as goal
 
 abbrev pub invariant-loop-low : goal.invariant-loop-low
@@ -10,6 +10,8 @@ invariant-loop-low l = record {
   top : l.high ≤ length (entries_of l.chunks);
   below : (k : ℕ) → k < l.low → comes_before (value_at l.rows l.column) l.wanted l.position (slice_index (positions (entries_of l.chunks)) k) ≡ true;
   above : (k : ℕ) → l.high ≤ k → k < length (entries_of l.chunks) → comes_before (value_at l.rows l.column) l.wanted l.position (slice_index (positions (entries_of l.chunks)) k) ≡ false;
+  low_has : l.low_has ≡ true → (j : ℕ) × (j < l.low) × (has_at (value_at l.rows l.column) l.wanted (slice_index (positions (entries_of l.chunks)) j) ≡ true);
+  high_has : l.high_has ≡ true → (k : ℕ) × (l.high ≤ k) × (k < length (entries_of l.chunks)) × (has_at (value_at l.rows l.column) l.wanted (slice_index (positions (entries_of l.chunks)) k) ≡ true);
 }
 
 abbrev pub decreases-loop-low : goal.decreases-loop-low
