@@ -15,3 +15,6 @@ pub mod Least
 pub mod Good
 pub mod Folding
 pub mod Treeing
+pub mod Guiding
+pub mod OneCertificate
+pub mod OneVerdict

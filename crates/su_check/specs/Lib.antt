@@ -3,6 +3,7 @@ pub mod Agreeing
 pub mod Fitting
 pub mod Refuting
 pub mod Boards
+pub mod Guides
 pub mod Certificate
 pub mod Nesting
 pub mod Grammar

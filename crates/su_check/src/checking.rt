@@ -52,8 +52,8 @@ fn verdict_of(alloc: Global, kinds: &[Kind], terms: &[Term]) -> Result<Checked, 
     })
 }
 
-/// The verdict on the bytes of a certificate. A node of a tree costs a test of each kept row; a test
-/// compares the row with each row that has a target, cell by cell, up to the first that differs.
+/// The verdict on the bytes of a certificate. A term costs the square of its rows times its columns once,
+/// a node of a tree a step for each column and kept row, and a branch a step for each column.
 pub fn check(alloc: Global, bytes: &[u8]) -> Result<Checked, NoMemory>
     requires short { length bytes.now < 2 ^ 32 }
     ensures verdict { IfOk result (λ v. IsVerdict bytes.now v) }

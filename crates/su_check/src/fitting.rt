@@ -14,7 +14,7 @@ use su_base::{List, NoMemory};
 use su_tableau::Sym;
 
 /// The image that the place gives the symbol, if it gives one.
-fn image<'a>(term: &'a Term, sent: &[Sent], place: Place, x: &Sym) -> Option<&'a Sym>
+pub fn image<'a>(term: &'a Term, sent: &[Sent], place: Place, x: &Sym) -> Option<&'a Sym>
     requires wide { AreWide term.now.rows }
     requires within { All (IsWithin (lines_of term.now)) sent.now }
     ensures { MatchOption result ((y : ASym) → ¬ (IsImage (lines_of term.now) sent.now place x.now y)) (λ y. IsImage (lines_of term.now) sent.now place x.now y.now) }
@@ -93,7 +93,8 @@ fn last_goes(
     true
 }
 
-/// Whether the row can go to the target, beside the rows that have theirs. It takes a time as the width.
+/// Whether the row can go to the target, beside the rows that have theirs. It takes a step for each column, up to the first
+/// that speaks against it.
 pub fn fits(
     term: &Term,
     board: &Board,

@@ -2,10 +2,11 @@
 //!
 //! A certificate gives for each term its tableau, its kept rows, a fold of all rows into them, and for
 //! each kept row a tree that tries all targets of one row after another, and so shows that no mapping
-//! leaves the row out. `verdict` follows the trees and searches for nothing. The rows that have a target
-//! go there under one list of symbols; a row joins them exactly where it agrees, cell by cell, with the
-//! head, with itself and with each of them. A node costs a test of each kept row, and each test at most
-//! the square of the width for each row that has a target. How a certificate is made plays no part.
+//! leaves the row out. `check` follows the trees and searches for nothing. The rows that have a target
+//! go there under one list of symbols: of each variable that has an image the place of it is known, a
+//! pair of rows and a column, and a row joins them exactly where no cell of it speaks against it. Which
+//! targets come into question is looked up in sets of rows, made once for each term. So a node costs a
+//! step for each column, and as many for each branch. How a certificate is made plays no part.
 #![tactic(auto)]
 
 mod boards;
@@ -15,6 +16,7 @@ mod checking;
 mod fitting;
 mod folds;
 mod forms;
+mod guides;
 mod items;
 mod kinds;
 pub mod laws;
@@ -25,6 +27,7 @@ mod numbers;
 mod reading;
 mod refuting;
 mod sending;
+mod sets;
 mod trees;
 mod variables;
 mod verdicts;

@@ -1,17 +1,20 @@
 //! Whether a tree shows that a row can't be left out.
-ghost use Rattle.std.specs.Prelude.{◌≡◌, ◌≢◌, ◌↔◌, IsTrue, IfOk, All, Contains};
+ghost use Rattle.std.specs.Prelude.{◌≡◌, ◌≢◌, ◌≤◌, ◌↔◌, IsTrue, IfOk, All, Contains, length};
 ghost use Rattle.su_check.specs.Certificate.{lines_of};
 ghost use Rattle.su_check.specs.Fitting.{sent_too};
 ghost use Rattle.su_check.specs.Boards.{Keeps, IsReady};
+ghost use Rattle.su_check.specs.Guides.{HasTargets, IsGuide};
 ghost use Rattle.su_check.specs.Refuting.{IsOpen, IsFitting, Refutes, target_of, node_of};
 
 use crate::boards::Board;
 use crate::certificates::Term;
 use crate::fitting::fits;
+use crate::guides::{Guide, candidates};
 use crate::nodes::{Branch, Node};
 use crate::numbers::contains;
 use crate::sending::{Place, Sent};
 use su_base::{List, NoMemory};
+use su_tableau::has;
 
 /// Whether the row has no target.
 fn is_free(sent: &[Sent], row: u8) -> bool
@@ -35,17 +38,21 @@ fn is_open(term: &Term, sent: &[Sent], row: u8) -> bool
     is_free(sent, row)
 }
 
-/// Whether the row can go to the target, which is kept, and not the row that is left out.
+/// Whether the row can go to the target, which is kept, and not the row that is left out. A target that
+/// is not in the set doesn't come into question.
 fn is_fitting(
     term: &Term,
     board: &Board,
     left_out: u8,
+    set: u64,
     sent: &mut List<Sent>,
     places: &mut [Place],
     row: u8,
     target: u8,
 ) -> Result<bool, NoMemory>
     requires ready { IsReady (lines_of term.now) board.now sent.old places.old }
+    requires few { length term.now.rows ≤ 64 }
+    requires set { HasTargets (lines_of term.now) sent.old row set }
     requires row { Contains term.now.kept row }
     requires target { Contains term.now.kept target }
     ensures same { IfOk result (λ _. sent.new ≡ sent.old) }
@@ -53,7 +60,7 @@ fn is_fitting(
     ensures ready { IfOk result (λ b. IsTrue b → IsReady (lines_of term.now) board.now (sent_too sent.old row target) places.new) }
     ensures keeps { IfOk result (λ _. Keeps (lines_of term.now) board.now sent.old places.old places.new) }
 {
-    if target == left_out {
+    if target == left_out || !has(set, target as usize) {
         return Ok(false);
     }
     fits(term, board, sent, places, row, target)
@@ -64,12 +71,14 @@ fn is_fitting(
 pub fn refutes(
     term: &Term,
     board: &Board,
+    guide: &Guide,
     left_out: u8,
     node: &Node,
     sent: &mut List<Sent>,
     places: &mut [Place],
 ) -> Result<bool, NoMemory>
     requires ready { IsReady (lines_of term.now) board.now sent.old places.old }
+    requires guide { IsGuide (lines_of term.now) guide.now }
     ensures same { IfOk result (λ _. sent.new ≡ sent.old) }
     ensures tells { IfOk result (λ b. IsTrue b ↔ Refutes (lines_of term.now) left_out node.now sent.old) }
     ensures keeps { IfOk result (λ _. Keeps (lines_of term.now) board.now sent.old places.old places.new) }
@@ -77,16 +86,17 @@ pub fn refutes(
     if !is_open(term, sent.as_slice(), node.row) {
         return Ok(false);
     }
+    let set = candidates(term, board, guide, sent.as_slice(), places, node.row);
     let mut passed = 0;
     for i in 0..term.kept.len() {
         let target = term.kept.as_slice()[i];
-        if is_fitting(term, board, left_out, sent, places, node.row, target)? {
+        if is_fitting(term, board, left_out, set, sent, places, node.row, target)? {
             if passed == node.next.len() {
                 return Ok(false);
             }
             let branch = &node.next.as_slice()[passed];
             if !branch_refutes(
-                term, board, left_out, node.row, target, branch, sent, places,
+                term, board, guide, left_out, node.row, target, branch, sent, places,
             )? {
                 return Ok(false);
             }
@@ -104,6 +114,7 @@ pub fn refutes(
 fn branch_refutes(
     term: &Term,
     board: &Board,
+    guide: &Guide,
     left_out: u8,
     row: u8,
     target: u8,
@@ -112,6 +123,7 @@ fn branch_refutes(
     places: &mut [Place],
 ) -> Result<bool, NoMemory>
     requires ready { IsReady (lines_of term.now) board.now (sent_too sent.old row target) places.old }
+    requires guide { IsGuide (lines_of term.now) guide.now }
     ensures same { IfOk result (λ _. sent.new ≡ sent.old) }
     ensures tells { IfOk result (λ b. IsTrue b ↔ ((target_of branch.now ≡ target) × Refutes (lines_of term.now) left_out (node_of branch.now) (sent_too sent.old row target))) }
     ensures keeps { IfOk result (λ _. Keeps (lines_of term.now) board.now sent.old places.old places.new) }
@@ -120,7 +132,7 @@ fn branch_refutes(
         return Ok(false);
     }
     sent.push(Sent { row, target })?;
-    let refuted = refutes(term, board, left_out, &branch.node, sent, places)?;
+    let refuted = refutes(term, board, guide, left_out, &branch.node, sent, places)?;
     sent.pop();
     Ok(refuted)
 }

@@ -1,11 +1,13 @@
 //! Whether each kept row has a tree.
-ghost use Rattle.std.specs.Prelude.{◌≡◌, ◌<◌, ◌↔◌, ℕ, IsTrue, IfOk, MatchOption, [], length};
+ghost use Rattle.std.specs.Prelude.{◌≡◌, ◌<◌, ◌≤◌, ◌↔◌, ℕ, IsTrue, IfOk, MatchOption, [], length};
 ghost use Rattle.su_check.specs.Boards.{IsReady};
 ghost use Rattle.su_check.specs.Certificate.{lines_of, IsGoodTree};
+ghost use Rattle.su_check.specs.Guides.{IsGuide};
 ghost use Rattle.su_check.specs.Verdict.{HasGoodTrees, IsTreeFault};
 
 use crate::boards::Board;
 use crate::certificates::Term;
+use crate::guides::{Guide, guide_of};
 use crate::refuting::refutes;
 use crate::sending::Place;
 use std::alloc::Global;
@@ -16,10 +18,12 @@ fn is_good_tree(
     alloc: Global,
     term: &Term,
     board: &Board,
+    guide: &Guide,
     places: &mut [Place],
     k: usize,
 ) -> Result<bool, NoMemory>
     requires ready { IsReady (lines_of term.now) board.now [] places.old }
+    requires guide { IsGuide (lines_of term.now) guide.now }
     requires place { k < length term.now.kept }
     ensures tells { IfOk result (λ b. IsTrue b ↔ IsGoodTree term.now k) }
     ensures ready { IfOk result (λ _. IsReady (lines_of term.now) board.now [] places.new) }
@@ -32,7 +36,7 @@ fn is_good_tree(
         return Ok(false);
     }
     let mut sent = List::new(alloc);
-    refutes(term, board, tree.row, &tree.node, &mut sent, places)
+    refutes(term, board, guide, tree.row, &tree.node, &mut sent, places)
 }
 
 /// The row whose tree is at fault, if there is one.
@@ -43,10 +47,12 @@ pub fn tree_fault(
     places: &mut [Place],
 ) -> Result<Option<u8>, NoMemory>
     requires ready { IsReady (lines_of term.now) board.now [] places.old }
+    requires few { length term.now.rows ≤ 64 }
     ensures { IfOk result (λ f. MatchOption f (HasGoodTrees term.now) (IsTreeFault term.now)) }
 {
+    let guide = guide_of(alloc, term, board, places)?;
     for k in 0..term.kept.len() {
-        if !is_good_tree(alloc, term, board, places, k)? {
+        if !is_good_tree(alloc, term, board, &guide, places, k)? {
             return Ok(Some(term.kept.as_slice()[k]));
         }
     }

@@ -9,7 +9,7 @@ use Rattle.su_check.specs.declared.nodes.Branch.{Branch}
 use Rattle.su_check.specs.Fitting.{Lines, IsWithin, sent_too}
 use Rattle.su_check.specs.Refuting.{AreExactly, IsOpen, IsFitting, target_of, node_of}
 use Rattle.su_refute.specs.Positions.{IsReady}
-use Rattle.su_check.proofs.Holes.{pigeonhole}
+use Rattle.su_min.proofs.Holes.{pigeonhole}
 use Rattle.su_refute.proofs.Ready.{ready_more}
 use Rattle.su_refute.specs.Trees.{IsFewest, IsTreeAt}
 use Rattle.su_refute.specs.Positions.{IsFree, IsNeeded}

@@ -8,7 +8,7 @@ use Rattle.su_check.proofs.Covering.{ready_none, ready_kept, ready_as}
 use Rattle.su_check.proofs.trees.is_good_tree.Goals as goal
 
 pub refutes-requires : goal.refutes-requires
-refutes-requires c = record { ready = ready_as (lines_of c.args.term.now) c.args.board.now _ c.new-sent.result c.args.places.now (sym c.new-sent.ensures) c.requires.ready }
+refutes-requires c = record { ready = ready_as (lines_of c.args.term.now) c.args.board.now _ c.new-sent.result c.args.places.now (sym c.new-sent.ensures) c.requires.ready; guide = c.requires.guide }
 
 pub returns-clause-tells : goal.returns-clause-tells
 returns-clause-tells c =
