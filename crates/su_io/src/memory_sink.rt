@@ -8,8 +8,8 @@ use crate::{Failed, Sink};
 use std::alloc::Global;
 use su_base::{List, NoMemory};
 
-/// Bytes in memory, up to a room that is taken when it is made. Calls are numbered from 0, and those
-/// whose numbers were given fail. Past its room it tells nothing of what was written.
+/// Bytes in memory, up to a room that is taken when it is made. Calls, the hand-over at the end among
+/// them, are numbered from 0, and those whose numbers were given fail. Past its room it tells nothing of what was written.
 #[derive(Drop)]
 pub struct MemorySink {
     bytes: Vec<u8>,
@@ -47,6 +47,22 @@ impl MemorySink {
         })
     }
 
+    // Counts a call, and its fault where it is one of those that fail.
+    fn next_call(&mut self) -> Result<(), Failed>
+        ensures rest { self.new ≡ record self.old { calls = self.new.calls; faults = self.new.faults } }
+        ensures when { IsErr result ↔ Contains self.old.fails self.old.calls }
+        ensures counted { self.new.calls ≡ min (self.old.calls + 1) (2 ^ 64 - 1) }
+        ensures cause { HasCause self.old.faults self.new.faults result }
+    {
+        let due = self.fails.as_slice().contains(&self.calls);
+        self.calls = self.calls.saturating_add(1);
+        if due {
+            self.faults = self.faults.saturating_add(1);
+            return Err(Failed);
+        }
+        Ok(())
+    }
+
     /// What was written, up to the room.
     pub fn written(&self) -> &[u8]
         ensures { result.now ≡ self.now.bytes.items }
@@ -57,6 +73,8 @@ impl MemorySink {
 
 impl Sink for MemorySink {
     ghost written = { λ s. cond s.told (Some s.bytes.items) None };
+
+    ghost handed = { λ s. None };
 
     ghost faults = { λ s. s.faults };
 
@@ -75,15 +93,22 @@ impl Sink for MemorySink {
         ensures room { self.new.room ≡ self.old.room }
         ensures settings { (self.new.fails ≡ self.old.fails) × (self.new.piece ≡ self.old.piece) }
     {
-        let due = self.fails.as_slice().contains(&self.calls);
-        self.calls = self.calls.saturating_add(1);
-        if due {
-            self.faults = self.faults.saturating_add(1);
-            return Err(Failed);
-        }
+        self.next_call()?;
         let count = bytes.len().min(self.piece);
         let all = keep(&mut self.bytes, self.room, &bytes[..count]);
         self.told = self.told && all;
         Ok(count)
+    }
+
+    // The trait's clauses, and when the call fails.
+    fn flush(&mut self) -> Result<(), Failed>
+        ensures written { (self.new.bytes ≡ self.old.bytes) × (self.new.told ≡ self.old.told) }
+        ensures cause { HasCause self.old.faults self.new.faults result }
+        ensures when { IsErr result ↔ Contains self.old.fails self.old.calls }
+        ensures counted { self.new.calls ≡ min (self.old.calls + 1) (2 ^ 64 - 1) }
+        ensures room { self.new.room ≡ self.old.room }
+        ensures settings { (self.new.fails ≡ self.old.fails) × (self.new.piece ≡ self.old.piece) }
+    {
+        self.next_call()
     }
 }

@@ -1,7 +1,7 @@
 //! Where bytes are written to.
-ghost use Rattle.std.specs.Prelude.{◌≡◌, ◌<◌, ◌≤◌, ℕ, List, Option, take, length, OnErr, IfOk};
+ghost use Rattle.std.specs.Prelude.{◌≡◌, ◌<◌, ◌≤◌, ℕ, List, [], ◌∷◌, Option, take, length, OnErr, IfOk};
 ghost use Rattle.su_io.specs.Causes.{HasCause};
-ghost use Rattle.su_io.specs.Ends.{Grew};
+ghost use Rattle.su_io.specs.Ends.{Grew, WasHanded};
 
 use crate::Failed;
 
@@ -10,6 +10,9 @@ use crate::Failed;
 pub trait Sink {
     /// What was written, where it is told.
     ghost written: { Self → Option (List ℕ) };
+
+    /// The pieces that its calls were handed, where they are told.
+    ghost handed: { Self → Option (List (List ℕ)) };
 
     /// How often the sink has failed.
     ghost faults: { Self → ℕ };
@@ -20,5 +23,12 @@ pub trait Sink {
         ensures progress { IfOk result (λ count. 0 < length bytes.now → 0 < count) }
         ensures grew { IfOk result (λ count. Grew (written self.old) (written self.new) (take count bytes.now)) }
         ensures kept { OnErr result (written self.new ≡ written self.old) }
+        ensures handed { WasHanded (handed self.old) (handed self.new) (bytes.now ∷ []) }
+        ensures cause { HasCause (faults self.old) (faults self.new) result };
+
+    /// Hands over what the sink holds back, if it does: the last call, behind which nothing is held.
+    fn flush(&mut self) -> Result<(), Failed>
+        ensures written { written self.new ≡ written self.old }
+        ensures handed { handed self.new ≡ handed self.old }
         ensures cause { HasCause (faults self.old) (faults self.new) result };
 }

@@ -42,6 +42,8 @@ impl SteadySink {
 impl Sink for SteadySink {
     ghost written = { λ s. cond s.told (Some s.bytes.items) None };
 
+    ghost handed = { λ s. None };
+
     ghost faults = { λ s. 0 };
 
     // The trait's clauses, and what it stores and tells of the bytes, all of which it takes.
@@ -59,5 +61,9 @@ impl Sink for SteadySink {
         let all = keep(&mut self.bytes, self.room, bytes);
         self.told = self.told && all;
         Ok(bytes.len())
+    }
+
+    fn flush(&mut self) -> Result<(), Failed> {
+        Ok(())
     }
 }

@@ -50,8 +50,8 @@ impl StreamSink {
         self.counted(ended)
     }
 
-    /// Hands over what is held. After a failure nothing is held.
-    pub fn flush(&mut self) -> Result<(), Failed>
+    // Hands over what is held. After a failure nothing is held.
+    fn hand_held_over(&mut self) -> Result<(), Failed>
         ensures cause { HasCause self.old.faults self.new.faults result }
     {
         let ended = self.out.write_all(self.held.as_slice());
@@ -63,17 +63,23 @@ impl StreamSink {
 impl Sink for StreamSink {
     ghost written = { λ s. None };
 
+    ghost handed = { λ s. None };
+
     ghost faults = { λ s. s.faults };
 
     fn write(&mut self, bytes: &[u8]) -> Result<usize, Failed> {
         if bytes.len() >= LARGE || self.held.extend_from_slice(bytes).is_err() {
-            self.flush()?;
+            self.hand_held_over()?;
             self.hand_over(bytes)?;
             return Ok(bytes.len());
         }
         if self.held.len() >= LARGE {
-            self.flush()?;
+            self.hand_held_over()?;
         }
         Ok(bytes.len())
+    }
+
+    fn flush(&mut self) -> Result<(), Failed> {
+        self.hand_held_over()
     }
 }
