@@ -5,3 +5,5 @@ pub mod Ending
 pub mod Running
 pub mod Promised
 pub mod Verdicts
+pub mod Closing
+pub mod Completing

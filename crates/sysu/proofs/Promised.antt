@@ -10,8 +10,9 @@ use Rattle.su_session.specs.Laws.{RetrieveIsAnswered, RetrievesAreAnswered}
 use Rattle.sysu.specs.declared.status.Status.{Status}
 use Rattle.sysu.specs.declared.status.Status.TheVariants.{Done, SomeRefused}
 use Rattle.sysu.specs.Moments.{Moment}
+use Rattle.sysu.specs.Closing.{HandsOver}
 use Rattle.sysu.specs.Statements.{WroteAll}
-use Rattle.sysu.specs.Statuses.{OfFiles, RunEnds, Ends}
+use Rattle.sysu.specs.Statuses.{OfFiles, RunEnds, Comes}
 use Rattle.sysu.specs.Headline.{IsReplyTo, QueriesAreAnswered, IsAnsweredRun, Headline}
 use Rattle.sysu.specs.Words.{Named}
 
@@ -46,7 +47,7 @@ module _ (answered : RetrievesAreAnswered) (least : PreparedRowsAreLeast) (expre
       (later.0, record { answered = (chain.0, (rest.0, rest.1, (rest.2.0, rest.2.1, later.1.answered))); well_kept = later.1.well_kept }, later.2)
 
 module _ (law : QueriesAreAnswered) (names : Named) (old new : Moment) where
-  of_all : (refused : Bool) → OfFiles names old (λ schema script. WroteAll old.files schema script old.written new.written refused) → OfFiles names old (λ schema script. IsAnsweredRun schema script old new)
+  of_all : (refused : Bool) → OfFiles names old (λ schema script. WroteAll old.files schema script old.told new.told refused) → OfFiles names old (λ schema script. IsAnsweredRun schema script old new)
   of_all refused files = record {
     bytes = files.bytes;
     is_schema = files.is_schema;
@@ -63,6 +64,7 @@ module _ (law : QueriesAreAnswered) (names : Named) (old new : Moment) where
       last = files.holds.answers.last;
       answered = files.holds.answers.answered;
       wrote = files.holds.wrote;
+      handed = files.holds.handed;
       queries = law old.files _ files.holds.answers.last _ files.holds.replies files.holds.answers.answered;
     };
   }
@@ -71,5 +73,6 @@ module _ (law : QueriesAreAnswered) (names : Named) (old new : Moment) where
   of_run status (inl done) ends = of_all false (subst (RunEnds names old new) done ends).2
   of_run status (inr some) ends = of_all _ (subst (RunEnds names old new) some ends).2
 
-pub headline_of : QueriesAreAnswered → (words : List (List ℕ)) (old new : Moment) (status : Status) → Ends words old new status → Headline words old new status
-headline_of law words old new status ends names known came = of_run law names old new status came (ends.ran names known)
+pub headline_of : QueriesAreAnswered → (words : List (List ℕ)) (old new : Moment) (status : Status) → HandsOver (Comes words old) new status → Headline words old new status
+headline_of law words old new status ends names known (inl done) = of_run law names old new Done (inl refl) ((subst (HandsOver (Comes words old) new) done ends).ran names known)
+headline_of law words old new status ends names known (inr some) = of_run law names old new SomeRefused (inr refl) ((subst (HandsOver (Comes words old) new) some ends).ran names known)

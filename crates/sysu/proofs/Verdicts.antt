@@ -13,7 +13,7 @@ module _ (file : List ℕ) (old new : Moment) (bytes : List ℕ) (verdict : Chec
   of_verdict : {P : Checked → Type 0} → P verdict → OfVerdict file old P
   of_verdict holds = record { bytes = bytes; is_file = is_file; fits = fits; verdict = verdict; is_verdict = is_verdict; holds = holds }
 
-  pub verdict_told : (status : Status) → LineEnds verdict old.written old.writes new.written new.writes status → CheckEnds file old new status
+  pub verdict_told : (status : Status) → LineEnds verdict old.told old.writes new.told new.writes status → CheckEnds file old new status
   verdict_told Done ends = (record { reads = reads; writes = ends.1 }, (begun, taken), of_verdict (ends.0, ends.2))
   verdict_told SomeRefused ends = (record { reads = reads; writes = ends.1 }, (begun, taken), of_verdict (ends.0, ends.2))
   verdict_told WriteFault ends = (reads, ends.0, (begun, taken), of_verdict ends.1)

@@ -1,7 +1,7 @@
 -- What is promised of the queries of a run.
 -- statements are counted from 0; database before a statement: the one that the statements before it left
 -- kept rows of a term: the least set of rows that it maps into; kept terms: those that no other term covers
-use Rattle.std.specs.Prelude.{◌≡◌, ◌⊎◌, ℕ, false, List, take, slice_get, Option, Some, All}
+use Rattle.std.specs.Prelude.{◌≡◌, ◌⊎◌, ℕ, false, List, map, take, slice_get, Option, Some, All}
 use Rattle.std.specs.Ordering.{nat_cmp}
 use Rattle.std.specs.FinSet.{FinSet}
 use Rattle.su_base.specs.declared.values.Value.{Value}
@@ -24,7 +24,7 @@ use Rattle.su_session.specs.Opening.{empty_database}
 use Rattle.su_session.specs.declared.replies.Reply.{Reply}
 use Rattle.sysu.specs.declared.status.Status.{Status}
 use Rattle.sysu.specs.declared.status.Status.TheVariants.{Done, SomeRefused}
-use Rattle.sysu.specs.Moments.{Moment}
+use Rattle.sysu.specs.Moments.{Moment, HandedEach}
 use Rattle.sysu.specs.Output.{Answered, output_of, texts_of}
 use Rattle.sysu.specs.Statuses.{OfFiles}
 use Rattle.sysu.specs.Words.{Named, named}
@@ -53,14 +53,15 @@ AreQueriesAnswered files first texts replies = (k : ℕ) (text : List ℕ) (q : 
     → slice_get texts k ≡ Some text → slice_get replies k ≡ Some reply → IsStatement text (Retrieve q) → reply.refused ≡ false
     → (db : DatabaseValue) × IsBefore files first texts replies k db × IsReplyTo db q reply.bytes
 
--- the replies to the statements of a script are written in order, and its queries are answered
+-- the replies to the statements of a script are written in order, each by one whole write, and its queries are answered
 pub record IsAnsweredRun (schema : SchemaValue) (script : List ℕ) (old new : Moment) : Type 0 where
   pub spans : List Span
   pub pieces : Pieces script spans
   pub replies : List Reply
   pub last : DatabaseValue
   pub answered : Answered old.files (empty_database schema) (texts_of script spans) replies last
-  pub wrote : Grew old.written new.written (output_of replies)
+  pub wrote : Grew old.told.written new.told.written (output_of replies)
+  pub handed : HandedEach old.told new.told (map (λ reply. reply.bytes) replies)
   pub queries : AreQueriesAnswered old.files (empty_database schema) (texts_of script spans) replies
 
 -- a run that came to its end

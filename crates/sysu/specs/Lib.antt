@@ -1,4 +1,7 @@
+pub mod Causes
 pub mod Checks
+pub mod Closing
+pub mod Complete
 pub mod Handing
 pub mod Moments
 pub mod Output

@@ -1,6 +1,6 @@
 -- What a run of a script writes: the replies to its statements, in order.
 -- file: the bytes that a statement is handed: those of the file that it wants, none where it wants none
-use Rattle.std.specs.Prelude.{◌≡◌, ◌<◌, ◌≤◌, ◌^◌, ℕ, List, [], ◌∷◌, Option, Some, None, Bool, Contains, map, take, length, slice_get}
+use Rattle.std.specs.Prelude.{◌≡◌, ◌<◌, ◌≤◌, ◌^◌, ℕ, List, [], ◌∷◌, Option, Some, None, Bool, map, take, length, slice_get}
 use Rattle.std.specs.List.{list_any, flat_map}
 use Rattle.su_io.specs.declared.files.File.{File as AFile}
 use Rattle.su_io.specs.Ends.{OfFile}
@@ -80,11 +80,14 @@ pub record AnswersBefore (files : Option (List AFile)) (schema : SchemaValue) (s
   pub answered : Answered files (empty_database schema) (texts_of script (take count spans)) replies last
   pub wanted : Wants last (text_at script span) (File path)
 
--- some statement of the script is a load from this file
-pub record LoadsFrom (script path : List ℕ) : Type 0 where
+-- some statement of the script is a load from this file, on the database that the statements before it left
+pub record LoadsFrom (files : Option (List AFile)) (first : DatabaseValue) (script path : List ℕ) : Type 0 where
   pub spans : List Span
   pub pieces : Pieces script spans
+  pub count : ℕ
   pub span : Span
-  pub among : Contains spans span
+  pub next : slice_get spans count ≡ Some span
+  pub replies : List Reply
   pub db : DatabaseValue
+  pub answered : Answered files first (texts_of script (take count spans)) replies db
   pub wanted : Wants db (text_at script span) (File path)

@@ -4,11 +4,12 @@ use Rattle.su_io.specs.Causes.{Rose}
 use Rattle.su_io.specs.Ends.{Grew}
 use Rattle.sysu.specs.declared.status.Status.{Status}
 use Rattle.sysu.specs.declared.status.Status.TheVariants.{Done, SomeRefused, Usage, BadSchema, ReadFault, WriteFault, TooLong, NoMemory}
-use Rattle.sysu.specs.Moments.{Moment, NoFault, Wrote, WroteFront}
+use Rattle.sysu.specs.Moments.{Told, Moment, NoFault, Wrote, WroteFront, WroteWhole}
 use Rattle.sysu.specs.Words.{Named, named, checks, usage_line}
 use Rattle.su_ddl.specs.declared.faults.DdlFault.{DdlFault}
 use Rattle.su_ddl.specs.Reading.{Reads}
 use Rattle.su_schema.specs.SchemaValue.{SchemaValue}
+use Rattle.su_session.specs.Opening.{empty_database}
 use Rattle.su_show.specs.Refusals.{schema_line, IsOfText}
 use Rattle.sysu.specs.Output.{IsFile, IsOver, LoadsFrom, load_limit}
 use Rattle.sysu.specs.Checks.{CheckEnds}
@@ -65,37 +66,37 @@ TookWithin names old new =
     ((new.begun ≡ old.begun) × (new.taken ≡ old.taken))
     ⊎ (((new.begun ≡ Some names.schema) × (new.taken ≤ schema_limit))
     ⊎ (((new.begun ≡ Some names.script) × (new.taken ≤ script_limit))
-    ⊎ OfFiles names old (λ schema script. (path : List ℕ) × LoadsFrom script path × (new.begun ≡ Some path) × (new.taken ≤ load_limit))))
+    ⊎ OfFiles names old (λ schema script. (path : List ℕ) × LoadsFrom old.files (empty_database schema) script path × (new.begun ≡ Some path) × (new.taken ≤ load_limit))))
 
 -- how the line for a refused schema ends: what was written, and the sink's count of faults before and after
-abbrev pub RefusalEnds : DdlFault → Option (List ℕ) → ℕ → Option (List ℕ) → ℕ → Status → Type 0
-RefusalEnds fault old before new after BadSchema = IsOfText fault × (after ≡ before) × Grew old new (schema_line fault)
-RefusalEnds fault old before new after WriteFault = IsOfText fault × Rose before after × ((count : ℕ) × (count ≤ length (schema_line fault)) × Grew old new (take count (schema_line fault)))
+abbrev pub RefusalEnds : DdlFault → Told → ℕ → Told → ℕ → Status → Type 0
+RefusalEnds fault old before new after BadSchema = IsOfText fault × (after ≡ before) × WroteWhole old new (schema_line fault)
+RefusalEnds fault old before new after WriteFault = IsOfText fault × Rose before after × ((count : ℕ) × (count ≤ length (schema_line fault)) × Grew old.written new.written (take count (schema_line fault)))
 RefusalEnds fault old before new after NoMemory = (after ≡ before) × (new ≡ old)
 RefusalEnds fault old before new after _ = ⊥
 
 -- how a run on these two files ends
 abbrev pub RunEnds : Named → Moment → Moment → Status → Type 0
-RunEnds names old new Done = NoFault old new × TookWithin names old new × OfFiles names old (λ schema script. WroteAll old.files schema script old.written new.written false)
-RunEnds names old new SomeRefused = NoFault old new × TookWithin names old new × OfFiles names old (λ schema script. WroteAll old.files schema script old.written new.written true)
+RunEnds names old new Done = NoFault old new × TookWithin names old new × OfFiles names old (λ schema script. WroteAll old.files schema script old.told new.told false)
+RunEnds names old new SomeRefused = NoFault old new × TookWithin names old new × OfFiles names old (λ schema script. WroteAll old.files schema script old.told new.told true)
 RunEnds names old new Usage = ⊥
 RunEnds names old new BadSchema = NoFault old new × (new.begun ≡ Some names.schema) × (new.taken ≤ schema_limit) × ((fault : DdlFault) × IsRefused names old fault × Wrote old new (schema_line fault))
 RunEnds names old new ReadFault = Rose old.reads new.reads × (new.writes ≡ old.writes) × (new.failed ≡ true)
-    × ((BeganDue names old new × (new.written ≡ old.written)) ⊎ OfFiles names old (λ schema script. StoppedAtLoad old.files schema script new.begun old.written new.written))
+    × ((BeganDue names old new × (new.told ≡ old.told)) ⊎ OfFiles names old (λ schema script. StoppedAtLoad old.files schema script new.begun old.told new.told))
 RunEnds names old new WriteFault = (new.reads ≡ old.reads) × Rose old.writes new.writes × TookWithin names old new
-    × (((fault : DdlFault) × IsRefused names old fault × WroteFront old new (schema_line fault)) ⊎ OfFiles names old (λ schema script. WroteFrontOf old.files schema script old.written new.written))
+    × (((fault : DdlFault) × IsRefused names old fault × WroteFront old new (schema_line fault)) ⊎ OfFiles names old (λ schema script. WroteFrontOf old.files schema script old.told new.told))
 RunEnds names old new TooLong = NoFault old new
-    × ((TookTooMuch names old new × (new.written ≡ old.written)) ⊎ OfFiles names old (λ schema script. StoppedAtLoad old.files schema script new.begun old.written new.written × (load_limit < new.taken) × BeganOver old.files new.begun load_limit))
-RunEnds names old new NoMemory = NoFault old new × TookWithin names old new × ((new.written ≡ old.written) ⊎ OfFiles names old (λ schema script. WroteFirst old.files schema script old.written new.written))
+    × ((TookTooMuch names old new × (new.told ≡ old.told)) ⊎ OfFiles names old (λ schema script. StoppedAtLoad old.files schema script new.begun old.told new.told × (load_limit < new.taken) × BeganOver old.files new.begun load_limit))
+RunEnds names old new NoMemory = NoFault old new × TookWithin names old new × ((new.told ≡ old.told) ⊎ OfFiles names old (λ schema script. WroteFirst old.files schema script old.told new.told))
 
 -- how the usage line ends: what was written, and the sink's count of faults before and after
-abbrev pub UsageEnds : Option (List ℕ) → ℕ → Option (List ℕ) → ℕ → Status → Type 0
-UsageEnds old before new after Usage = (after ≡ before) × Grew old new usage_line
-UsageEnds old before new after WriteFault = Rose before after × ((count : ℕ) × (count ≤ length usage_line) × Grew old new (take count usage_line))
+abbrev pub UsageEnds : Told → ℕ → Told → ℕ → Status → Type 0
+UsageEnds old before new after Usage = (after ≡ before) × WroteWhole old new usage_line
+UsageEnds old before new after WriteFault = Rose before after × ((count : ℕ) × (count ≤ length usage_line) × Grew old.written new.written (take count usage_line))
 UsageEnds old before new after _ = ⊥
 
--- how a run or a check ends, by its words
-pub record Ends (words : List (List ℕ)) (old new : Moment) (status : Status) : Type 0 where
-  pub usage : named words ≡ None → checks words ≡ None → (new.reads ≡ old.reads) × (new.begun ≡ old.begun) × (new.taken ≡ old.taken) × UsageEnds old.written old.writes new.written new.writes status
+-- how a run or a check comes to its end, by its words
+pub record Comes (words : List (List ℕ)) (old new : Moment) (status : Status) : Type 0 where
+  pub usage : named words ≡ None → checks words ≡ None → (new.reads ≡ old.reads) × (new.begun ≡ old.begun) × (new.taken ≡ old.taken) × UsageEnds old.told old.writes new.told new.writes status
   pub ran : (names : Named) → named words ≡ Some names → RunEnds names old new status
   pub checked : (file : List ℕ) → checks words ≡ Some file → CheckEnds file old new status

@@ -9,6 +9,7 @@ use Rattle.su_state.specs.DatabaseValue.{DatabaseValue, IsWellKept}
 use Rattle.sysu.specs.declared.status.Status.{Status}
 use Rattle.sysu.specs.declared.status.Status.TheVariants.{ReadFault, WriteFault, TooLong, NoMemory}
 use Rattle.sysu.specs.Handing.{Place, Began, TookOne}
+use Rattle.sysu.specs.Moments.{Told, WroteWhole}
 use Rattle.sysu.specs.Output.{IsHanded, IsOver, load_limit}
 
 -- the statement was handed what it wants and answered, on a well kept database
@@ -18,21 +19,21 @@ pub record AnsweredOne (files : Option (List File)) (old : DatabaseValue) (text 
   pub replied : Replied old text file reply new
   pub kept : IsWellKept old
 
--- what the sink tells before and after, and its counts of faults
+-- of the sink: what it tells, and its count of faults
 pub record Sunk : Type 0 where
-  pub written : Option (List ℕ)
+  pub told : Told
   pub faults : ℕ
 
 abbrev pub TurnEnds : Option (List File) → DatabaseValue → List ℕ → DatabaseValue → Place → Place → Sunk → Sunk → Result Bool Status → Type 0
 TurnEnds files old text new before after from to (Ok refused) =
     (after.faults ≡ before.faults) × (to.faults ≡ from.faults) × TookOne old text before after
-    × ((reply : Reply) × AnsweredOne files old text new reply × (reply.refused ≡ refused) × Grew from.written to.written reply.bytes)
+    × ((reply : Reply) × AnsweredOne files old text new reply × (reply.refused ≡ refused) × WroteWhole from.told to.told reply.bytes)
 TurnEnds files old text new before after from to (Err ReadFault) =
     ((path : List ℕ) × Began old text path after × Rose before.faults after.faults × (after.failed ≡ true)) × (to ≡ from)
 TurnEnds files old text new before after from to (Err TooLong) =
     ((path : List ℕ) × Began old text path after × (after.faults ≡ before.faults) × (load_limit < after.taken) × IsOver files path load_limit) × (to ≡ from)
 TurnEnds files old text new before after from to (Err WriteFault) =
     (after.faults ≡ before.faults) × Rose from.faults to.faults × TookOne old text before after
-    × ((reply : Reply) × AnsweredOne files old text new reply × ((count : ℕ) × (count ≤ length reply.bytes) × Grew from.written to.written (take count reply.bytes)))
+    × ((reply : Reply) × AnsweredOne files old text new reply × ((count : ℕ) × (count ≤ length reply.bytes) × Grew from.told.written to.told.written (take count reply.bytes)))
 TurnEnds files old text new before after from to (Err NoMemory) = (after.faults ≡ before.faults) × TookOne old text before after × (to ≡ from)
 TurnEnds files old text new before after from to (Err _) = ⊥

@@ -16,7 +16,7 @@ const CHECK_LIMIT: u64 = 1 << 24;
 
 // Writes the line of a verdict.
 fn tell_verdict<K: Sink>(alloc: Global, checked: Checked, out: &mut K) -> Status
-    ensures { LineEnds checked (K.written out.old) (K.faults out.old) (K.written out.new) (K.faults out.new) result }
+    ensures { LineEnds checked (record { written = K.written out.old; handed = K.handed out.old }) (K.faults out.old) (record { written = K.written out.new; handed = K.handed out.new }) (K.faults out.new) result }
 {
     let Ok(line) = verdict(alloc, checked) else {
         return Status::NoMemory;
@@ -34,8 +34,8 @@ fn tell_verdict<K: Sink>(alloc: Global, checked: Checked, out: &mut K) -> Status
 fn check_named<H: Shelf, K: Sink>(alloc: Global, file: Str, shelf: &mut H, out: &mut K) -> Status
     ensures files { H.files shelf.new ≡ H.files shelf.old }
     ensures ends { CheckEnds file
-        (record { files = H.files shelf.old; begun = H.begun shelf.old; taken = H.taken shelf.old; failed = H.failed shelf.old; reads = H.faults shelf.old; written = K.written out.old; writes = K.faults out.old })
-        (record { files = H.files shelf.new; begun = H.begun shelf.new; taken = H.taken shelf.new; failed = H.failed shelf.new; reads = H.faults shelf.new; written = K.written out.new; writes = K.faults out.new })
+        (record { files = H.files shelf.old; begun = H.begun shelf.old; taken = H.taken shelf.old; failed = H.failed shelf.old; reads = H.faults shelf.old; told = record { written = K.written out.old; handed = K.handed out.old }; writes = K.faults out.old })
+        (record { files = H.files shelf.new; begun = H.begun shelf.new; taken = H.taken shelf.new; failed = H.failed shelf.new; reads = H.faults shelf.new; told = record { written = K.written out.new; handed = K.handed out.new }; writes = K.faults out.new })
         result }
 {
     let bytes = match read_file(alloc, shelf, file, CHECK_LIMIT) {
@@ -57,8 +57,8 @@ pub(crate) fn check_file<H: Shelf, K: Sink>(
 ) -> Status
     ensures files { H.files shelf.new ≡ H.files shelf.old }
     ensures ends { CheckEnds file.now
-        (record { files = H.files shelf.old; begun = H.begun shelf.old; taken = H.taken shelf.old; failed = H.failed shelf.old; reads = H.faults shelf.old; written = K.written out.old; writes = K.faults out.old })
-        (record { files = H.files shelf.new; begun = H.begun shelf.new; taken = H.taken shelf.new; failed = H.failed shelf.new; reads = H.faults shelf.new; written = K.written out.new; writes = K.faults out.new })
+        (record { files = H.files shelf.old; begun = H.begun shelf.old; taken = H.taken shelf.old; failed = H.failed shelf.old; reads = H.faults shelf.old; told = record { written = K.written out.old; handed = K.handed out.old }; writes = K.faults out.old })
+        (record { files = H.files shelf.new; begun = H.begun shelf.new; taken = H.taken shelf.new; failed = H.failed shelf.new; reads = H.faults shelf.new; told = record { written = K.written out.new; handed = K.handed out.new }; writes = K.faults out.new })
         result }
 {
     match file.copy(alloc) {

@@ -2,7 +2,7 @@
 //! statement. `sysu check FILE`: tells the verdict on a certificate.
 //!
 //! `top::run` is the whole program over any shelf and sink; `main` hands it the files of the system
-//! and standard output, which is written in large pieces, and ends with the status as its exit code.
+//! and standard output, which is written in large pieces, and ends with its status as exit code.
 //! Nothing goes to standard error.
 #![tactic(auto)]
 
@@ -52,14 +52,11 @@ fn main(rt: HostRuntime) -> ExitCode {
         ),
         Err(NoMemory) => Status::NoMemory,
     };
-    // what the sink holds goes out at the end
-    let status = match out.flush() {
-        Ok(()) => status,
-        Err(_) => Status::WriteFault,
-    };
     ExitCode::from(status as u8)
 }
 
+#[cfg(test)]
+mod fault_tests;
 #[cfg(test)]
 mod query_tests;
 #[cfg(test)]

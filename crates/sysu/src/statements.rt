@@ -68,8 +68,8 @@ fn answer_one<R: Threads + Sync, H: Shelf, K: Sink, G: Gate>(
     ensures ends { TurnEnds (H.files shelf.old) session.old text.now session.new
         (record { begun = H.begun shelf.old; taken = H.taken shelf.old; failed = H.failed shelf.old; faults = H.faults shelf.old })
         (record { begun = H.begun shelf.new; taken = H.taken shelf.new; failed = H.failed shelf.new; faults = H.faults shelf.new })
-        (record { written = K.written out.old; faults = K.faults out.old })
-        (record { written = K.written out.new; faults = K.faults out.new })
+        (record { told = record { written = K.written out.old; handed = K.handed out.old }; faults = K.faults out.old })
+        (record { told = record { written = K.written out.new; handed = K.handed out.new }; faults = K.faults out.new })
         result }
 {
     let file = handed(alloc, session, text, shelf)?;
@@ -98,8 +98,8 @@ pub(crate) fn answer_all<R: Threads + Sync, H: Shelf, K: Sink, G: Gate>(
     requires most { workers ≤ 16 }
     ensures files { H.files shelf.new ≡ H.files shelf.old }
     ensures ends { (schema : SchemaValue) → session ≡ empty_database schema → ScriptEnds schema script.now
-        (record { files = H.files shelf.old; begun = H.begun shelf.old; taken = H.taken shelf.old; failed = H.failed shelf.old; reads = H.faults shelf.old; written = K.written out.old; writes = K.faults out.old })
-        (record { files = H.files shelf.new; begun = H.begun shelf.new; taken = H.taken shelf.new; failed = H.failed shelf.new; reads = H.faults shelf.new; written = K.written out.new; writes = K.faults out.new })
+        (record { files = H.files shelf.old; begun = H.begun shelf.old; taken = H.taken shelf.old; failed = H.failed shelf.old; reads = H.faults shelf.old; told = record { written = K.written out.old; handed = K.handed out.old }; writes = K.faults out.old })
+        (record { files = H.files shelf.new; begun = H.begun shelf.new; taken = H.taken shelf.new; failed = H.failed shelf.new; reads = H.faults shelf.new; told = record { written = K.written out.new; handed = K.handed out.new }; writes = K.faults out.new })
         result }
 {
     let mut session = session;

@@ -20,7 +20,7 @@ const OUTPUT: &str =
 const USAGE: &str =
     "usage: sysu run SCHEMA SCRIPT [--workers N] | sysu generate N | sysu check FILE\n";
 
-fn words(alloc: Global, all: &[&str]) -> Result<List<Str>, NoMemory> {
+pub(crate) fn words(alloc: Global, all: &[&str]) -> Result<List<Str>, NoMemory> {
     let mut words = List::new(alloc);
     for word in all {
         words.push(Str::new(alloc, word)?)?;
@@ -105,51 +105,6 @@ fn a_run_ends_with_its_status_and_output(rt: HostRuntime) -> Result<(), Fail> {
         );
         assert_eq!(rt; got, status, "{want}");
         assert_eq!(rt; out.written(), want.as_bytes(), "{want}");
-    }
-    Ok(())
-}
-
-// Call 0 begins the schema, calls 1 to 3 read it in pieces of 100, and calls 4 to 7 are the script's.
-#[test]
-fn each_failing_read_ends_the_run(rt: HostRuntime) -> Result<(), Fail> {
-    let alloc = rt.alloc();
-    for k in 0..8u64 {
-        let fails = List::from_vec([k].as_slice().to_vec(alloc)?);
-        let mut shelf = MemoryShelf::new(files(alloc, SCHEMA, SCRIPT)?, fails, 100);
-        let mut out = SteadySink::new(alloc, 1000)?;
-        let got = run(
-            &rt,
-            alloc,
-            words(alloc, &["run", "s", "t"])?.as_slice(),
-            &mut shelf,
-            &mut out,
-            &OpenGate,
-        );
-        assert_eq!(rt; got, Status::ReadFault, "call {k}");
-        assert!(rt; out.written().is_empty(), "call {k}");
-    }
-    Ok(())
-}
-
-// The replies take 41 pieces of at most four bytes.
-#[test]
-fn each_failing_write_ends_the_run_with_a_front(rt: HostRuntime) -> Result<(), Fail> {
-    let alloc = rt.alloc();
-    for k in 0..41u64 {
-        let fails = List::from_vec([k].as_slice().to_vec(alloc)?);
-        let mut shelf = SteadyShelf::new(files(alloc, SCHEMA, SCRIPT)?);
-        let mut out = MemorySink::new(alloc, fails, 4, 1000)?;
-        let got = run(
-            &rt,
-            alloc,
-            words(alloc, &["run", "s", "t"])?.as_slice(),
-            &mut shelf,
-            &mut out,
-            &OpenGate,
-        );
-        assert_eq!(rt; got, Status::WriteFault, "call {k}");
-        assert!(rt; OUTPUT.as_bytes().starts_with(out.written()), "call {k}");
-        assert!(rt; out.written().len() < OUTPUT.len(), "call {k}");
     }
     Ok(())
 }
@@ -283,64 +238,6 @@ fn definitions_in_a_script_count_at_once(rt: HostRuntime) -> Result<(), Fail> {
     let want =
         "defined\ndefined\ndefined\ndefined\nattribute A int;\nattribute B int;\nattribute C int;\nattribute D int;\nrelation P (X int, Y int);\nobject BD (B, D) from P (X, Y);\nobject AB (A, B) from P (X, Y);\nobject BC (B, C) from P (X, Y);\nobject CA (A, C) from P (Y, X);\n-- maximal object 0 computed BD AB\n-- maximal object 1 computed BD BC\n-- maximal object 2 computed CA\n";
     assert!(rt; gives(&rt, rt.alloc(), CIRCLE, script, "", want)?);
-    Ok(())
-}
-
-// Whether a fault at this call, or a missing file, leaves just the reply before the load.
-fn stops_at_the_load<R: Threads + Sync>(
-    rt: &R,
-    alloc: Global,
-    call: u64,
-    file: &str,
-) -> Result<bool, NoMemory> {
-    let mut files = files(alloc, BANK, "print BA; load AB from 'f'; print AB")?;
-    files.push(File {
-        name: Str::new(alloc, file)?,
-        bytes: List::from_vec("ACCT,BAL\n".as_bytes().to_vec(alloc)?),
-    })?;
-    let fails = List::from_vec([call].as_slice().to_vec(alloc)?);
-    let mut shelf = MemoryShelf::new(files, fails, 100);
-    let mut out = SteadySink::new(alloc, 1000)?;
-    let status = run(
-        rt,
-        alloc,
-        words(alloc, &["run", "s", "t"])?.as_slice(),
-        &mut shelf,
-        &mut out,
-        &OpenGate,
-    );
-    Ok(status == Status::ReadFault && out.written() == "rows 0\nBANK,ACCT\n".as_bytes())
-}
-
-// The schema takes calls 0 to 4, the script 5 to 7, and the load 8 to 10; call 99 is never made.
-#[test]
-fn a_failing_read_of_a_load_leaves_the_replies_before_it(rt: HostRuntime) -> Result<(), Fail> {
-    for call in 8..11u64 {
-        assert!(rt;
-            stops_at_the_load(&rt, rt.alloc(), call, "f")?,
-            "call {call}"
-        );
-    }
-    assert!(rt; stops_at_the_load(&rt, rt.alloc(), 99, "another")?);
-    Ok(())
-}
-
-#[test]
-fn a_failing_write_leaves_whole_pieces(rt: HostRuntime) -> Result<(), Fail> {
-    let alloc = rt.alloc();
-    let fails = List::from_vec([2u64].as_slice().to_vec(alloc)?);
-    let mut shelf = SteadyShelf::new(files(alloc, BANK, "print BA;")?);
-    let mut out = MemorySink::new(alloc, fails, 4, 1000)?;
-    let got = run(
-        &rt,
-        alloc,
-        words(alloc, &["run", "s", "t"])?.as_slice(),
-        &mut shelf,
-        &mut out,
-        &OpenGate,
-    );
-    assert_eq!(rt; got, Status::WriteFault);
-    assert_eq!(rt; out.written(), "rows 0\nB".as_bytes());
     Ok(())
 }
 

@@ -1,7 +1,10 @@
 //! The run of the program over any shelf and sink.
 ghost use Rattle.std.specs.Prelude.{◌≡◌, ◌≤◌, ◌&&◌, nat_eq, nat_lt, true, false, Some, ◌<◌, ◌^◌, ◌++◌, ◌∷◌, [], IfOk, IfSome, MatchOption, option_map, string_bytes};
 ghost use Rattle.sysu.specs.Moments.{Moment};
-ghost use Rattle.sysu.specs.Statuses.{Ends, RefusalEnds, RunEnds, UsageEnds};
+ghost use Rattle.sysu.specs.Causes.{Caused};
+ghost use Rattle.sysu.specs.Closing.{Closes, HandsOver};
+ghost use Rattle.sysu.specs.Complete.{IsComplete};
+ghost use Rattle.sysu.specs.Statuses.{Comes, RefusalEnds, RunEnds, UsageEnds};
 ghost use Rattle.sysu.specs.Words.{named, checks, is_count};
 ghost use Rattle.sysu.specs.Headline.{Headline};
 
@@ -102,7 +105,7 @@ fn check_of(words: &[Str]) -> Option<&Str>
 
 // Writes the line for a refused schema.
 fn tell_refusal<K: Sink>(alloc: Global, fault: &DdlFault, out: &mut K) -> Status
-    ensures { RefusalEnds fault.now (K.written out.old) (K.faults out.old) (K.written out.new) (K.faults out.new) result }
+    ensures { RefusalEnds fault.now (record { written = K.written out.old; handed = K.handed out.old }) (K.faults out.old) (record { written = K.written out.new; handed = K.handed out.new }) (K.faults out.new) result }
 {
     let Ok(line) = ddl_fault(alloc, fault) else {
         return Status::NoMemory;
@@ -115,7 +118,7 @@ fn tell_refusal<K: Sink>(alloc: Global, fault: &DdlFault, out: &mut K) -> Status
 
 // Writes the usage line.
 fn tell_usage<K: Sink>(out: &mut K) -> Status
-    ensures { UsageEnds (K.written out.old) (K.faults out.old) (K.written out.new) (K.faults out.new) result }
+    ensures { UsageEnds (record { written = K.written out.old; handed = K.handed out.old }) (K.faults out.old) (record { written = K.written out.new; handed = K.handed out.new }) (K.faults out.new) result }
 {
     match write_all(out, USAGE.as_bytes()) {
         Ok(()) => Status::Usage,
@@ -138,8 +141,8 @@ fn run_files<R: Threads + Sync, H: Shelf, K: Sink, G: Gate>(
     requires most { workers ≤ 16 }
     ensures files { H.files shelf.new ≡ H.files shelf.old }
     ensures ends { RunEnds (record { schema = schema; script = script })
-        (record { files = H.files shelf.old; begun = H.begun shelf.old; taken = H.taken shelf.old; failed = H.failed shelf.old; reads = H.faults shelf.old; written = K.written out.old; writes = K.faults out.old })
-        (record { files = H.files shelf.new; begun = H.begun shelf.new; taken = H.taken shelf.new; failed = H.failed shelf.new; reads = H.faults shelf.new; written = K.written out.new; writes = K.faults out.new })
+        (record { files = H.files shelf.old; begun = H.begun shelf.old; taken = H.taken shelf.old; failed = H.failed shelf.old; reads = H.faults shelf.old; told = record { written = K.written out.old; handed = K.handed out.old }; writes = K.faults out.old })
+        (record { files = H.files shelf.new; begun = H.begun shelf.new; taken = H.taken shelf.new; failed = H.failed shelf.new; reads = H.faults shelf.new; told = record { written = K.written out.new; handed = K.handed out.new }; writes = K.faults out.new })
         result }
 {
     let bytes = match read_file(alloc, shelf, schema, SCHEMA_LIMIT) {
@@ -168,10 +171,55 @@ fn run_files<R: Threads + Sync, H: Shelf, K: Sink, G: Gate>(
     }
 }
 
+// What the words ask for, up to the hand-over at the end.
+fn run_words<R: Threads + Sync, H: Shelf, K: Sink, G: Gate>(
+    rt: &R,
+    alloc: Global,
+    words: &[Str],
+    shelf: &mut H,
+    out: &mut K,
+    gate: &G,
+) -> Status
+    ensures files { H.files shelf.new ≡ H.files shelf.old }
+    ensures comes { Comes words.now
+        (record { files = H.files shelf.old; begun = H.begun shelf.old; taken = H.taken shelf.old; failed = H.failed shelf.old; reads = H.faults shelf.old; told = record { written = K.written out.old; handed = K.handed out.old }; writes = K.faults out.old })
+        (record { files = H.files shelf.new; begun = H.begun shelf.new; taken = H.taken shelf.new; failed = H.failed shelf.new; reads = H.faults shelf.new; told = record { written = K.written out.new; handed = K.handed out.new }; writes = K.faults out.new })
+        result }
+    ensures caused { Caused (H.faults shelf.old) (H.faults shelf.new) (K.faults out.old) (K.faults out.new) result }
+{
+    if let Some(file) = check_of(words) {
+        return check_file(alloc, file, shelf, out);
+    }
+    let Some(asked) = command_of(words) else {
+        return tell_usage(out);
+    };
+    let (Ok(schema), Ok(script)) = (asked.schema.copy(alloc), asked.script.copy(alloc)) else {
+        return Status::NoMemory;
+    };
+    run_files(rt, alloc, schema, script, asked.workers, shelf, out, gate)
+}
+
+// Hands over what the sink holds back, and gives the status of the whole run. After a failed write
+// nothing more is handed over.
+fn hand_over<K: Sink>(out: &mut K, came: Status) -> Status
+    ensures written { K.written out.new ≡ K.written out.old }
+    ensures handed { K.handed out.new ≡ K.handed out.old }
+    ensures closes { Closes came (K.faults out.old) (K.faults out.new) result }
+{
+    if came == Status::WriteFault {
+        return came;
+    }
+    match out.flush() {
+        Ok(()) => came,
+        Err(_) => Status::WriteFault,
+    }
+}
+
 /// The whole program over any shelf and sink. The words, without the program's name, are
 /// `run SCHEMA SCRIPT`, and may end with `--workers N` for a number from 1 to 16, or `check FILE`; for
-/// any others the usage line is written. The schema file is read first, then the script, whose statements are
-/// answered one by one; each reply is written whole.
+/// any others the usage line is written. The schema file is read first, then the script, whose statements
+/// are answered one by one; each reply is written whole. In the end the sink hands over what it holds
+/// back; where that fails the status is 5, whatever the run came to.
 ///
 /// At most N terms of a query are minimised or executed at a time (1 without the option), and the
 /// gate is passed before each; neither is in any clause. For `check FILE` the verdict on the
@@ -185,24 +233,21 @@ pub fn run<R: Threads + Sync, H: Shelf, K: Sink, G: Gate>(
     gate: &G,
 ) -> Status
     ensures files { H.files shelf.new ≡ H.files shelf.old }
-    ensures ends { Ends words.now
-        (record { files = H.files shelf.old; begun = H.begun shelf.old; taken = H.taken shelf.old; failed = H.failed shelf.old; reads = H.faults shelf.old; written = K.written out.old; writes = K.faults out.old })
-        (record { files = H.files shelf.new; begun = H.begun shelf.new; taken = H.taken shelf.new; failed = H.failed shelf.new; reads = H.faults shelf.new; written = K.written out.new; writes = K.faults out.new })
+    ensures ends { HandsOver (Comes words.now
+        (record { files = H.files shelf.old; begun = H.begun shelf.old; taken = H.taken shelf.old; failed = H.failed shelf.old; reads = H.faults shelf.old; told = record { written = K.written out.old; handed = K.handed out.old }; writes = K.faults out.old }))
+        (record { files = H.files shelf.new; begun = H.begun shelf.new; taken = H.taken shelf.new; failed = H.failed shelf.new; reads = H.faults shelf.new; told = record { written = K.written out.new; handed = K.handed out.new }; writes = K.faults out.new })
+        result }
+    ensures caused { Caused (H.faults shelf.old) (H.faults shelf.new) (K.faults out.old) (K.faults out.new) result }
+    ensures complete { IsComplete words.now
+        (record { files = H.files shelf.old; begun = H.begun shelf.old; taken = H.taken shelf.old; failed = H.failed shelf.old; reads = H.faults shelf.old; told = record { written = K.written out.old; handed = K.handed out.old }; writes = K.faults out.old })
+        (record { files = H.files shelf.new; begun = H.begun shelf.new; taken = H.taken shelf.new; failed = H.failed shelf.new; reads = H.faults shelf.new; told = record { written = K.written out.new; handed = K.handed out.new }; writes = K.faults out.new })
         result }
     ensures headline { Headline words.now
-        (record { files = H.files shelf.old; begun = H.begun shelf.old; taken = H.taken shelf.old; failed = H.failed shelf.old; reads = H.faults shelf.old; written = K.written out.old; writes = K.faults out.old })
-        (record { files = H.files shelf.new; begun = H.begun shelf.new; taken = H.taken shelf.new; failed = H.failed shelf.new; reads = H.faults shelf.new; written = K.written out.new; writes = K.faults out.new })
+        (record { files = H.files shelf.old; begun = H.begun shelf.old; taken = H.taken shelf.old; failed = H.failed shelf.old; reads = H.faults shelf.old; told = record { written = K.written out.old; handed = K.handed out.old }; writes = K.faults out.old })
+        (record { files = H.files shelf.new; begun = H.begun shelf.new; taken = H.taken shelf.new; failed = H.failed shelf.new; reads = H.faults shelf.new; told = record { written = K.written out.new; handed = K.handed out.new }; writes = K.faults out.new })
         result }
 {
     queries_are_answered();
-    if let Some(file) = check_of(words) {
-        return check_file(alloc, file, shelf, out);
-    }
-    let Some(asked) = command_of(words) else {
-        return tell_usage(out);
-    };
-    let (Ok(schema), Ok(script)) = (asked.schema.copy(alloc), asked.script.copy(alloc)) else {
-        return Status::NoMemory;
-    };
-    run_files(rt, alloc, schema, script, asked.workers, shelf, out, gate)
+    let came = run_words(rt, alloc, words, shelf, out, gate);
+    hand_over(out, came)
 }

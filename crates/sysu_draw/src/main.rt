@@ -39,10 +39,5 @@ fn main(rt: HostRuntime) -> ExitCode {
         Ok(words) => run(rt.alloc(), words.as_slice(), &mut shelf, &mut out),
         Err(NoMemory) => Status::NoMemory,
     };
-    // what the sink holds goes out at the end
-    let status = match out.flush() {
-        Ok(()) => status,
-        Err(_) => Status::WriteFault,
-    };
     ExitCode::from(status as u8)
 }

@@ -12,7 +12,7 @@ returns-in-Ok-write_all-clause-ends g c =
         c.in-Ok.reply,
         record { file = c.in_ok-file.file; handed = h.2; replied = rw c.bytes_of.ensures at c.in-Ok.ensures.replied; kept = c.step.ensures.kept },
         refl,
-        rw c.as_slice.ensures at c.in-Ok-write_all.ensures.ok,
+        (rw c.as_slice.ensures at c.in-Ok-write_all.ensures.ok, rw c.as_slice.ensures at c.in-Ok-write_all.ensures.whole),
       ),
     )
 

@@ -1,19 +1,20 @@
-use Rattle.std.proofs.Common.{sym}
+use Rattle.std.proofs.Common.{refl}
+use Rattle.sysu.specs.Statuses.{Comes}
+use Rattle.sysu.proofs.Closing.{handed_over}
+use Rattle.sysu.proofs.Completing.{caused_over, complete}
 use Rattle.sysu.proofs.Promised.{headline_of}
-use Rattle.sysu.proofs.Running.{run_is, check_is}
 use Rattle.sysu.proofs.top.run.Goals as goal
-
-pub returns-in-Some-clause-ends : goal.returns-in-Some-clause-ends
-returns-in-Some-clause-ends g c = check_is c.args.words.now c.in-Some.file.now _ _ c.check_file.result (sym c.in-Some.ensures) c.check_file.ensures.ends
-
-pub returns-in-Some-clause-headline : goal.returns-in-Some-clause-headline
-returns-in-Some-clause-headline g c = headline_of c.queries_are_answered.ensures c.args.words.now _ _ c.check_file.result (returns-in-Some-clause-ends g c)
 
 pub returns-clause-ends : goal.returns-clause-ends
 returns-clause-ends g c =
-    run_is c.args.words.now (record { schema = c.in-Some-command_of.asked.schema.now; script = c.in-Some-command_of.asked.script.now }) _ _ c.run_files.result
-    (sym c.in-Some-command_of.ensures.names)
-    (rw (← c.in-Ok-Ok.ensures, ← c.in-Ok-Ok.ensures') c.run_files.ensures.ends)
+    handed_over (Comes c.args.words.now _) _ _ (rw (c.hand_over.ensures.written, c.hand_over.ensures.handed) refl) c.run_words-came.result c.run_words-came.ensures.comes
+    c.hand_over.result c.hand_over.ensures.closes
 
 pub returns-clause-headline : goal.returns-clause-headline
-returns-clause-headline g c = headline_of c.queries_are_answered.ensures c.args.words.now _ _ c.run_files.result (returns-clause-ends g c)
+returns-clause-headline g c = headline_of c.queries_are_answered.ensures c.args.words.now _ _ c.hand_over.result (returns-clause-ends g c)
+
+pub returns-clause-caused : goal.returns-clause-caused
+returns-clause-caused g c = caused_over _ _ _ _ _ c.run_words-came.result c.run_words-came.ensures.caused c.hand_over.result c.hand_over.ensures.closes
+
+pub returns-clause-complete : goal.returns-clause-complete
+returns-clause-complete g c = complete c.args.words.now _ _ c.hand_over.result (returns-clause-ends g c) (returns-clause-caused g c)

@@ -1,0 +1,19 @@
+use Rattle.std.proofs.Common.{sym}
+use Rattle.sysu.proofs.Completing.{run_caused, check_caused}
+use Rattle.sysu.proofs.Running.{run_is, check_is}
+use Rattle.sysu.proofs.top.run_words.Goals as goal
+
+pub returns-in-Some-clause-comes : goal.returns-in-Some-clause-comes
+returns-in-Some-clause-comes g c = check_is c.args.words.now c.in-Some.file.now _ _ c.check_file.result (sym c.in-Some.ensures) c.check_file.ensures.ends
+
+pub returns-in-Some-clause-caused : goal.returns-in-Some-clause-caused
+returns-in-Some-clause-caused g c = check_caused c.in-Some.file.now _ _ c.check_file.result c.check_file.ensures.ends
+
+pub returns-clause-comes : goal.returns-clause-comes
+returns-clause-comes g c =
+    run_is c.args.words.now (record { schema = c.in-Some-command_of.asked.schema.now; script = c.in-Some-command_of.asked.script.now }) _ _ c.run_files.result
+    (sym c.in-Some-command_of.ensures.names)
+    (rw (← c.in-Ok-Ok.ensures, ← c.in-Ok-Ok.ensures') c.run_files.ensures.ends)
+
+pub returns-clause-caused : goal.returns-clause-caused
+returns-clause-caused g c = run_caused _ _ _ c.run_files.result c.run_files.ensures.ends

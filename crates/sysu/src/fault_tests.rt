@@ -1,0 +1,97 @@
+// Runs over an outside that fails at one call. The bank has a print before a load and one behind it.
+use crate::query_tests::BANK;
+use crate::status::Status;
+use crate::tests::words;
+use crate::top::run;
+use std::alloc::Global;
+use std::test::Fail;
+use su_base::{List, NoMemory, Str};
+use su_io::{File, MemoryShelf, MemorySink, SteadyShelf, SteadySink};
+use su_par::OpenGate;
+
+const SCRIPT: &str = "print BA; load AB from 'g.csv'; print AB;";
+
+const LOADED: &str = "ACCT,BAL\n1,100\n2,250\n";
+
+const REPLIES: [&str; 3] = [
+    "rows 0\nBANK,ACCT\n",
+    "loaded 2 of 2\n",
+    "rows 2\nACCT,BAL\n1,100\n2,250\n",
+];
+
+fn bank_files(alloc: Global) -> Result<List<File>, NoMemory> {
+    let mut files = List::new(alloc);
+    for (name, text) in [("s", BANK), ("t", SCRIPT), ("g.csv", LOADED)] {
+        files.push(File {
+            name: Str::new(alloc, name)?,
+            bytes: List::from_vec(text.as_bytes().to_vec(alloc)?),
+        })?;
+    }
+    Ok(files)
+}
+
+// How many calls a file takes in pieces of 100: one to begin it, one a piece, and one to find its end.
+fn calls(text: &str) -> u64 {
+    2 + (text.len() as u64).div_ceil(100)
+}
+
+#[test]
+fn each_failing_call_of_the_shelf_leaves_the_replies_before_it(
+    rt: HostRuntime,
+) -> Result<(), Fail> {
+    let alloc = rt.alloc();
+    let before = calls(BANK) + calls(SCRIPT);
+    let all = before + calls(LOADED);
+    for k in 0..all + 1 {
+        let fails = List::from_vec([k].as_slice().to_vec(alloc)?);
+        let mut shelf = MemoryShelf::new(bank_files(alloc)?, fails, 100);
+        let mut out = SteadySink::new(alloc, 1000)?;
+        let got = run(
+            &rt,
+            alloc,
+            words(alloc, &["run", "s", "t"])?.as_slice(),
+            &mut shelf,
+            &mut out,
+            &OpenGate,
+        );
+        if k == all {
+            assert_eq!(rt; got, Status::Done);
+        } else {
+            let left = if k < before { "" } else { REPLIES[0] };
+            assert_eq!(rt; got, Status::ReadFault, "call {k}");
+            assert_eq!(rt; out.written(), left.as_bytes(), "call {k}");
+        }
+    }
+    Ok(())
+}
+
+// The sink takes pieces of 4; behind the last piece comes the hand-over.
+#[test]
+fn each_failing_call_of_the_sink_leaves_a_front(rt: HostRuntime) -> Result<(), Fail> {
+    let alloc = rt.alloc();
+    let mut fronts = Vec::new(alloc);
+    let mut front = Vec::new(alloc);
+    for reply in REPLIES {
+        for piece in reply.as_bytes().chunks(4) {
+            fronts.push(front.as_slice().to_vec(alloc)?)?;
+            front.extend_from_slice(piece)?;
+        }
+    }
+    fronts.push(front)?;
+    for (k, front) in fronts.as_slice().iter().enumerate() {
+        let fails = List::from_vec([k as u64].as_slice().to_vec(alloc)?);
+        let mut shelf = SteadyShelf::new(bank_files(alloc)?);
+        let mut out = MemorySink::new(alloc, fails, 4, 1000)?;
+        let got = run(
+            &rt,
+            alloc,
+            words(alloc, &["run", "s", "t"])?.as_slice(),
+            &mut shelf,
+            &mut out,
+            &OpenGate,
+        );
+        assert_eq!(rt; got, Status::WriteFault, "call {k}");
+        assert_eq!(rt; out.written(), front.as_slice(), "call {k}");
+    }
+    Ok(())
+}
