@@ -104,6 +104,7 @@ module _ (db : DatabaseValue) (schema : SchemaValue) (more : List (List Column))
               | inr holds ↦ holds
             ]);
         few = λ r. rw (rows_more db.tables more r) (kept.few r);
+        differ = λ r. rw (rows_more db.tables more r) (kept.differ r);
       }
 
   pub have_tables : ((o : ℕ) (object : ObjectEntry) → slice_get schema.objects o ≡ Some object → object.relation < length db.tables) → HaveTables schema db.tables

@@ -8,6 +8,7 @@ use Rattle.su_base.specs.declared.values.Column.{Column}
 use Rattle.su_rel.specs.Stored.{Stored}
 use Rattle.su_schema.specs.SchemaValue.{SchemaValue, IsValid, relation_columns}
 use Rattle.su_state.specs.DatabaseValue.{DatabaseValue, IsWellKept, rows_of, empty_tables}
+use Rattle.su_state.proofs.Differing.{differ_none}
 
 -- a table without rows
 abbrev pub empty_table : List Column → Stored
@@ -34,6 +35,7 @@ empty_kept schema valid =
       typed = λ r within. rw (none r) (λ k d h. absurd (omega arith));
       enforced = λ k d h i o w row other stored. let gone : Contains [] row = subst (λ (rows : List (List Value)). Contains rows row) (none _) stored in absurd (let bad : gone.0 < 0 = gone.1 in omega arith);
       few = λ r. rw (none r) (omega arith);
+      differ = λ r. rw (none r) differ_none;
     }
 
 -- one more table without rows

@@ -20,6 +20,7 @@ use Rattle.su_state.specs.Loads.{InsertsAll}
 use Rattle.su_state.specs.Parts.{HaveOneWidth}
 use Rattle.su_state.specs.Filling.{KeepThrough, MayTake}
 use Rattle.su_state.proofs.Columns.{clash_from_break, columns_few}
+use Rattle.su_state.proofs.Differing.{differ_put}
 use Rattle.su_state.proofs.Kept.{with_table, MayHave, flipped, holds_at, table_here, holds_fewer, kept_with, added_with, unchanged_with, table_read}
 
 Contains-first : (row : List Value) (rows : List (List Value)) → Contains (row ∷ rows) row
@@ -168,6 +169,7 @@ module _ (db : DatabaseValue) (r : ℕ) (rows : List (List Value)) (old new : St
         typed = λ k d less. All-contains (IsTyped (columns_of db r)) (rows_of db r ++ rows) (get_or new.rows k d) typed (put_among rows (rows_of db r) new.rows own (get_or new.rows k d) (Contains-get_or new.rows k d less));
         enforced = λ f o fd object numbered placed on. holds_fewer fd object (rows_of db r ++ rows) new.rows (put_among rows (rows_of db r) new.rows own) (may.enforced f o fd object numbered placed on);
         few = omega (arith, put_length rows (rows_of db r) new.rows own, may.few);
+        differ = differ_put rows (rows_of db r) new.rows (kept.differ r) own;
       }
 
   pub kept_filled : PutInAll old.rows rows new.rows → IsWellKept (with_table db r new)

@@ -10,11 +10,12 @@ use Rattle.su_base.specs.declared.values.Value.{Value}
 use Rattle.su_base.specs.declared.values.Column.{Column}
 use Rattle.su_fd.specs.declared.dependencies.Fd.{Fd}
 use Rattle.su_rel.specs.Changes.{TakenOut}
-use Rattle.su_rel.specs.Stored.{Stored}
+use Rattle.su_rel.specs.Stored.{Stored, AllDiffer}
 use Rattle.su_schema.specs.SchemaValue.{SchemaValue, ObjectEntry, relation_columns}
 use Rattle.su_state.specs.DatabaseValue.{DatabaseValue, table_of, rows_of, columns_of, read, IsTyped, Break, HoldsOn, IsWellKept}
 use Rattle.su_state.specs.Changes.{ChangesOnly, NoBreach, Added, Removed, Deletes, InsertAnswers, Inserts}
 use Rattle.su_state.specs.declared.faults.StateFault.TheVariants.{NoMemory}
+use Rattle.su_state.proofs.Differing.{differ_push}
 
 abbrev pub blank : Stored
 blank = record { width = 0; rows = [] }
@@ -29,6 +30,7 @@ pub record MayHave (db : DatabaseValue) (r : ℕ) (table : Stored) : Type 0 wher
   pub typed : All (IsTyped (columns_of db r)) table.rows
   pub enforced : (f o : ℕ) (fd : Fd) (object : ObjectEntry) → slice_get db.schema.fds f ≡ Some fd → slice_get db.schema.objects o ≡ Some object → object.relation ≡ r → HoldsOn fd object table.rows
   pub few : length table.rows ≤ 1000000
+  pub differ : AllDiffer table.rows
 
 pub table_here : (db : DatabaseValue) (r : ℕ) (table : Stored) → r < length db.tables → table_of (with_table db r table) r ≡ table
 table_here db r table within = get_or-set_same db.tables r table blank within
@@ -59,6 +61,7 @@ kept_with db r table kept within may =
           (λ q on. subst (λ (k : ℕ). HoldsOn fd object (rows_of db k)) on (kept.enforced f df hf o do' ho))
           object.relation refl;
       few = λ q. by_relation (λ t q. length t.rows ≤ 1000000) db r table within may.few (λ q. kept.few q) q;
+      differ = λ q. by_relation (λ t q. AllDiffer t.rows) db r table within may.differ (λ q. kept.differ q) q;
     }
 
 pub flipped : (fd : Fd) (object : ObjectEntry) (row other : List Value) → Break fd object row other → Break fd object other row
@@ -95,21 +98,23 @@ module _ (db : DatabaseValue) (r : ℕ) (kept : IsWellKept db) (within : r < len
       let old = kept.enforced f fd (slice_get_within db.schema.fds f fd numbered) o object (slice_get_within db.schema.objects o object placed) in
       subst (λ (k : ℕ). HoldsOn fd object (rows_of db k)) on (rw (is_fd, is_object) at old)
 
-  pub may_add : (row : List Value) (table : Stored) → IsTyped (columns_of db r) row → NoBreach db.schema r (rows_of db r) row → length (rows_of db r) < 1000000
+  pub may_add : (row : List Value) (table : Stored) → IsTyped (columns_of db r) row → (¬ Contains (rows_of db r) row) → NoBreach db.schema r (rows_of db r) row → length (rows_of db r) < 1000000
       → table.width ≡ (table_of db r).width → table.rows ≡ rows_of db r ++ row ∷ [] → MayHave db r table
-  may_add row table typed none few width rows = record {
+  may_add row table typed out none few width rows = record {
     width = width ∙ kept.widths r within;
     typed = rw rows (All-push (IsTyped (columns_of db r)) (rows_of db r) row (kept.typed r within) typed);
     enforced = λ f o fd object numbered placed on. rw rows (holds_added db.schema r (rows_of db r) row f o fd object numbered placed on none (holds_at f o fd object numbered placed on));
     few = rw rows (omega (arith, length_push (rows_of db r) row));
+    differ = rw rows (differ_push (rows_of db r) row (kept.differ r) out);
   }
 
-  pub may_lose : (table : Stored) → table.width ≡ (table_of db r).width → ((x : List Value) → Contains table.rows x → Contains (rows_of db r) x) → length table.rows ≤ length (rows_of db r) → MayHave db r table
-  may_lose table width among fewer = record {
+  pub may_lose : (table : Stored) → table.width ≡ (table_of db r).width → ((x : List Value) → Contains table.rows x → Contains (rows_of db r) x) → length table.rows ≤ length (rows_of db r) → AllDiffer table.rows → MayHave db r table
+  may_lose table width among fewer differ = record {
     width = width ∙ kept.widths r within;
     typed = λ k d less. All-contains (IsTyped (columns_of db r)) (rows_of db r) (get_or table.rows k d) (kept.typed r within) (among (get_or table.rows k d) (Contains-get_or table.rows k d less));
     enforced = λ f o fd object numbered placed on. holds_fewer fd object (rows_of db r) table.rows among (holds_at f o fd object numbered placed on);
     few = omega (arith, fewer, kept.few r);
+    differ = differ;
   }
 
 slice_get-set_other : {X : Type 0} (xs : List X) (r q : ℕ) (x : X) → q ≢ r → slice_get (set xs r x) q ≡ slice_get xs q
@@ -169,12 +174,12 @@ module _ (db : DatabaseValue) (r : ℕ) (row : List Value) (old new : Stored) (k
   taken_from : old ≡ table_of db r
   taken_from = table_read db r old within is
 
-  pub kept_without : length new.rows ≤ length old.rows → IsWellKept (with_table db r new)
-  kept_without count =
+  pub kept_without : length new.rows ≤ length old.rows → AllDiffer new.rows → IsWellKept (with_table db r new)
+  kept_without count differ =
       kept_with db r new kept within
       (may_lose db r kept within new (width ∙ ap (λ t. t.width) taken_from)
       (λ x there. subst (λ (t : Stored). Contains t.rows x) taken_from ((out x).0 there).0)
-      (omega (arith, count, ap (λ t. length t.rows) taken_from)))
+      (omega (arith, count, ap (λ t. length t.rows) taken_from)) differ)
 
   pub deleted : (b : Bool) → length new.rows + (if b then 1 else 0) ≡ length old.rows → IsTyped (columns_of db r) row → (IsTrue b ↔ Contains old.rows row) → OnFalse b (new ≡ old) → Deletes db r row (Ok b) (with_table db r new)
   deleted true count typed there same = (
@@ -199,7 +204,7 @@ module _ (db : DatabaseValue) (r : ℕ) (row : List Value) (old new : Stored) (k
   pub kept_inserted : {E : Type 0} (result : Result Bool E) → IfOk result (λ b. MatchBool b ((¬ Contains old.rows row) × (new.rows ≡ old.rows ++ row ∷ [])) (Contains old.rows row × (new ≡ old))) → OnErr result (new ≡ old) → IsWellKept (with_table db r new)
   kept_inserted (Ok true) (out, rows) unchanged =
       kept_with db r new kept within
-      (may_add db r kept within row new answers.0 answers.2 answers.3 (width ∙ ap (λ t. t.width) put_into) (rows ∙ ap (λ t. t.rows ++ row ∷ []) put_into))
+      (may_add db r kept within row new answers.0 answers.1 answers.2 answers.3 (width ∙ ap (λ t. t.width) put_into) (rows ∙ ap (λ t. t.rows ++ row ∷ []) put_into))
   kept_inserted (Ok false) (there, same) unchanged = kept_same same
   kept_inserted (Err e) ok unchanged = kept_same unchanged
 

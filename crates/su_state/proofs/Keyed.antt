@@ -11,6 +11,8 @@ use Rattle.su_base.specs.contracts.values.ValueOrd.TheImpl.{ghosts}
 use Rattle.su_base.specs.Value.{compare_lists}
 use Rattle.su_state.specs.Changes.{AreInOrder}
 use Rattle.su_state.specs.Leads.{IsRowLead}
+use Rattle.su_rel.specs.Stored.{AllDiffer}
+use Rattle.su_state.proofs.Differing.{differ_moved}
 use Rattle.su_state.proofs.Copying.{same_rows}
 use Rattle.su_state.proofs.Leading.{lead_of_row_first}
 
@@ -46,8 +48,11 @@ rows_sorted keys leads order k d low h =
 
 -- what a sort makes of rows with their leads
 pub in_order_by_keys : (rows : List (List Value)) (keys sorted : List Key) → rows_of_keys keys ≡ rows → All (λ key. IsRowLead key.0 key.1.now) keys → IsPermutation keys sorted → IsSorted key_cmp sorted
-    → AreInOrder rows (rows_of_keys sorted)
-in_order_by_keys rows keys sorted same leads perm order = record {
-  same = rw (← same) (IsPermutation-map (λ (k : Key). k.1.now) keys sorted perm);
-  ascending = rows_sorted sorted (All-permutation (λ (key : Key). IsRowLead key.0 key.1.now) keys sorted perm leads) order;
-}
+    → AllDiffer rows → AreInOrder rows (rows_of_keys sorted)
+in_order_by_keys rows keys sorted same leads perm order differ =
+    let moved : IsPermutation rows (rows_of_keys sorted) = rw (← same) (IsPermutation-map (λ (k : Key). k.1.now) keys sorted perm) in
+    record {
+      same = moved;
+      ascending = rows_sorted sorted (All-permutation (λ (key : Key). IsRowLead key.0 key.1.now) keys sorted perm leads) order;
+      once = differ_moved rows (rows_of_keys sorted) moved differ;
+    }

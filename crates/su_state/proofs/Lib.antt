@@ -3,6 +3,7 @@ pub mod Alike
 pub mod Breaking
 pub mod Columns
 pub mod Copying
+pub mod Differing
 pub mod Empty
 pub mod Filled
 pub mod Fitting

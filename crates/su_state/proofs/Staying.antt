@@ -1,10 +1,10 @@
 -- The rows that a delete by a condition leaves.
-use Rattle.std.proofs.Common.{◌≡◌, ◌<◌, ◌≤◌, ◌-◌, ℕ, Bool, true, false, not, List, [], ◌∷◌, ◌++◌, length, map, refl, sym, ap, subst, ◌∙◌, All, Contains, inl, inr, ◌⊎◌, zero, suc, arith}
+use Rattle.std.proofs.Common.{◌≡◌, ◌<◌, ◌≤◌, ◌+◌, ◌-◌, ℕ, Bool, true, false, not, List, [], ◌∷◌, ◌++◌, length, map, refl, sym, ap, subst, ◌∙◌, All, Contains, inl, inr, ◌⊎◌, zero, suc, arith}
 use Rattle.std.specs.Prelude.{◌↔◌}
-use Rattle.std.specs.List.{items_where_true}
+use Rattle.std.specs.List.{items_where_true, count_by}
 use Rattle.su_base.specs.declared.values.Value.{Value}
 use Rattle.su_where.specs.declared.conditions.Cond.{Cond}
-use Rattle.std.specs.Prelude.{flat_map}
+use Rattle.std.specs.Prelude.{flat_map, cond}
 use Rattle.std.proofs.lemmas.List.Elements.{All-append, All-nil}
 use Rattle.su_where.specs.declared.conditions.Cond.TheVariants.{All as AllOf}
 use Rattle.su_where.specs.Truth.{truth_of, comparisons_of, HasPlacesBelow, Fits}
@@ -12,6 +12,8 @@ use Rattle.su_where.proofs.Layers.{comparisons_of-All}
 use Rattle.su_rel.specs.Stored.{Stored, HaveWidth}
 use Rattle.su_state.specs.DatabaseValue.{DatabaseValue, table_of, rows_of, IsWellKept}
 use Rattle.su_state.specs.Changes.{DeletesWhere}
+use Rattle.su_index.proofs.Runs.{count_by-cons}
+use Rattle.su_state.proofs.Differing.{differ_marked}
 use Rattle.su_state.proofs.Kept.{with_table, kept_with, may_lose, table_here, changes_with}
 use Rattle.std.proofs.lemmas.Bool.{false≢true}
 
@@ -54,6 +56,19 @@ module _ {X : Type 0} (p : X → Bool) where
       let rest = passing_fewer xs in
       elim (p x) as (λ b. length (items_where_true (b ∷ map p xs) (x ∷ xs)) ≤ length (x ∷ xs)) [ true ↦ omega (arith, rest) | false ↦ omega (arith, rest) ]
 
+abbrev one_or_none : Bool → ℕ
+one_or_none b = cond b 1 0
+
+-- those that pass and those that don't are all
+passing_counted : {X : Type 0} (p : X → Bool) (xs : List X) → length (items_where_true (map (λ x. not (p x)) xs) xs) + count_by p xs ≡ length xs
+passing_counted p [] = refl
+passing_counted p (x ∷ xs) =
+    let rest = passing_counted p xs in
+    elim (p x) as (λ b. p x ≡ b → length (items_where_true (not b ∷ map (λ x. not (p x)) xs) (x ∷ xs)) + count_by p (x ∷ xs) ≡ length (x ∷ xs)) [
+      | true ↦ λ one. omega (arith, rest, count_by-cons p x xs, ap one_or_none one)
+      | false ↦ λ out. omega (arith, rest, count_by-cons p x xs, ap one_or_none out)
+    ] refl
+
 pub not_true : (b : Bool) → (not b ≡ true → b ≡ false) × (b ≡ false → not b ≡ true)
 not_true true = (λ e. cc, λ e. cc)
 not_true false = (λ _. refl, λ _. refl)
@@ -78,8 +93,11 @@ module _ (db : DatabaseValue) (r : ℕ) (condition : Cond) (old new : Stored) (m
   pub fewer_stay : length new.rows ≤ length (rows_of db r)
   fewer_stay = rw rest (passing_fewer (λ row. not (truth_of condition row)) (rows_of db r))
 
+  gone : length (items_where_true (map (λ row. not (truth_of condition row)) (rows_of db r)) (rows_of db r)) + count_by (λ row. truth_of condition row) (rows_of db r) ≡ length (rows_of db r)
+  gone = passing_counted (λ row. truth_of condition row) (rows_of db r)
+
   pub kept_staying : IsWellKept (with_table db r new)
-  kept_staying = kept_with db r new kept within (may_lose db r kept within new (width ∙ ap (λ t. t.width) is) (λ x there. ((stay_or_go x).0 there).0) fewer_stay)
+  kept_staying = kept_with db r new kept within (may_lose db r kept within new (width ∙ ap (λ t. t.width) is) (λ x there. ((stay_or_go x).0 there).0) fewer_stay (rw rest (differ_marked _ (rows_of db r) (kept.differ r))))
 
   pub deletes_where : (before after : ℕ) → before ≡ length (rows_of db r) → after ≡ length new.rows → DeletesWhere db r condition (before - after) (with_table db r new)
   deletes_where before after b a =
@@ -87,7 +105,8 @@ module _ (db : DatabaseValue) (r : ℕ) (condition : Cond) (old new : Stored) (m
       record {
         only = changes_with db r new within (width ∙ ap (λ t. t.width) is);
         rows = λ other. rw here (stay_or_go other);
-        counted = rw here (omega (arith, fewer_stay));
+        counted = omega (arith, gone, ap length rest);
+        left = rw here (omega (arith, fewer_stay));
       }
 
 -- two conditions that fit fit together

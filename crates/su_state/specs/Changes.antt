@@ -1,7 +1,9 @@
 -- The changes of single rows, and what they answer: each answer comes exactly in its case, and the cases exclude one another.
 -- breach: a dependency and an object of the relation through which a new row would break it with one of the rows there
 use Rattle.std.specs.Prelude.{◌≡◌, ◌≢◌, ◌⊎◌, ◌↔◌, ℕ, ◌+◌, ◌<◌, ◌≤◌, Bool, true, false, List, length, slice_get, Contains, Some, Result, Ok, Err}
+use Rattle.std.specs.List.{count_by}
 use Rattle.std.specs.List.Sorted.{IsPermutation, IsSorted}
+use Rattle.su_rel.specs.Stored.{AllDiffer}
 use Rattle.su_base.specs.declared.values.Value.{Value}
 use Rattle.su_base.specs.declared.values.Column.{Column}
 use Rattle.su_base.specs.Value.{kind_of, compare_lists}
@@ -106,9 +108,11 @@ Deletes db relation row (Err fault) new = DeleteAnswers db relation row (Err fau
 pub record DeletesWhere (db : DatabaseValue) (relation : ℕ) (condition : Cond) (count : ℕ) (new : DatabaseValue) : Type 0 where
   pub only : ChangesOnly relation db new
   pub rows : (other : List Value) → Contains (rows_of new relation) other ↔ (Contains (rows_of db relation) other × (truth_of condition other ≡ false))
-  pub counted : length (rows_of new relation) + count ≡ length (rows_of db relation)
+  pub counted : count ≡ count_by (λ row. truth_of condition row) (rows_of db relation)
+  pub left : length (rows_of new relation) + count ≡ length (rows_of db relation)
 
 -- the rows of a relation in ascending order, each once
 pub record AreInOrder (rows sorted : List (List Value)) : Type 0 where
   pub same : IsPermutation rows sorted
   pub ascending : IsSorted compare_lists sorted
+  pub once : AllDiffer sorted

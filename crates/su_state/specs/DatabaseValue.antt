@@ -10,7 +10,7 @@ use Rattle.su_base.specs.declared.values.Value.{Value}
 use Rattle.su_base.specs.declared.values.Column.{Column}
 use Rattle.su_base.specs.Value.{kind_of, compare_lists}
 use Rattle.su_fd.specs.declared.dependencies.Fd.{Fd}
-use Rattle.su_rel.specs.Stored.{Stored}
+use Rattle.su_rel.specs.Stored.{Stored, AllDiffer}
 use Rattle.su_schema.specs.SchemaValue.{SchemaValue, ObjectEntry, IsValid, attributes_of, column_of, relation_columns}
 use Rattle.su_schema.specs.Checks.{columns_at}
 
@@ -71,11 +71,12 @@ HoldsOn fd object rows = (row other : List Value) → Contains rows row → Cont
 abbrev pub IsAtMost : List Value → List Value → Type 0
 IsAtMost row other = compare_lists row other ≢ Greater
 
--- widths and kinds, every enforced dependency, and at most 1,000,000 rows a relation; that the rows of a table all differ is a rule of its own type
+-- widths and kinds, rows that all differ, every enforced dependency, and at most 1,000,000 rows a relation
 pub record IsWellKept (db : DatabaseValue) : Type 0 where
   pub valid : IsValid db.schema
   pub tables : length db.tables ≡ length db.schema.relations
   pub widths : (relation : ℕ) → relation < length db.tables → (table_of db relation).width ≡ length (columns_of db relation)
   pub typed : (relation : ℕ) → relation < length db.tables → All (IsTyped (columns_of db relation)) (rows_of db relation)
+  pub differ : (relation : ℕ) → AllDiffer (rows_of db relation)
   pub enforced : All (λ fd. All (λ object. HoldsOn fd object (rows_of db object.relation)) db.schema.objects) db.schema.fds
   pub few : (relation : ℕ) → length (rows_of db relation) ≤ 1000000

@@ -61,6 +61,9 @@ impl Database {
         ensures { Deletes self.old relation row.now result self.new }
     {
         check_row(relation, self.schema.columns(relation), row)?;
-        Ok(self.tables[relation as usize].remove(row))
+        let was_there = self.tables[relation as usize].remove(row);
+        // it tells a proof that the rows that are left differ
+        let _rows = self.tables[relation as usize].as_slice();
+        Ok(was_there)
     }
 }

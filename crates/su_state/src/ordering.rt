@@ -1,6 +1,7 @@
 //! Rows in ascending order. A sort compares a number that never falls as the rows rise, the lead,
 //! and rows only where it is the same.
 ghost use Rattle.std.specs.Prelude.{◌≡◌, ◌<◌, ◌^◌, slice_index, All, map, IfOk};
+ghost use Rattle.su_rel.specs.Stored.{AllDiffer};
 ghost use Rattle.su_state.specs.Changes.{AreInOrder};
 ghost use Rattle.su_state.specs.Leads.{lead_of_number, lead_of_bytes, IsLead, IsRowLead};
 
@@ -89,7 +90,7 @@ fn copies_of(alloc: Global, keys: &[(u64, &Row)]) -> Result<List<Row>, NoMemory>
 
 /// Copies of the rows in ascending order: whole numbers before texts, value by value.
 pub fn in_order(alloc: Global, rows: &[Row]) -> Result<List<Row>, NoMemory>
-    ensures { IfOk result (AreInOrder rows.now) }
+    ensures { IfOk result (λ sorted. AllDiffer rows.now → AreInOrder rows.now sorted) }
 {
     let mut keys = keys_of(alloc, rows)?;
     keys.sort_unstable();
