@@ -24,6 +24,7 @@ pub use answering::answer;
 pub use faults::AnswerFault;
 pub use making::prepare;
 pub use preparing::Prepared;
+pub use tasks::task_of;
 
 #[cfg(test)]
 mod tests;
