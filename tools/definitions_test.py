@@ -8,7 +8,7 @@ import re
 import sys
 
 TOP = sys.argv[1] if len(sys.argv) > 1 else os.path.dirname(os.path.dirname(os.path.abspath(__file__)))
-PLACE = re.compile(r"(?:(su_\w+|sysu(?:_draw)?) )?([A-Z]\w*)$")
+PLACE = re.compile(r"(?:(su_\w+|sysu(?:_draw|_sql)?) )?([A-Z]\w*)$")
 
 
 def rows():

@@ -1,0 +1,185 @@
+-- Over any stored rows the outputs of a kept term's join are the term's answers.
+use Rattle.std.proofs.Common.{◌≡◌, ◌↔◌, ℕ, ◌+◌, ◌*◌, ◌<◌, List, [], map, length, get_or, Contains, Option, Some, All, sym, ap, ◌∙◌, subst, pos, arith}
+use Rattle.std.specs.Prelude.{IsTrue, take}
+use Rattle.std.specs.Int.{bit_at}
+use Rattle.std.specs.List.{range_with_len}
+use Rattle.std.specs.FinSet.{contains}
+use Rattle.std.proofs.lemmas.List.{get_or-map, get_or_default, take-map, length-map}
+use Rattle.std.proofs.lemmas.List.Elements.{All-contains, All-from_recursion}
+use Rattle.std.proofs.lemmas.Option.{same_Some}
+use Rattle.su_base.specs.declared.values.Kind.{Kind}
+use Rattle.su_base.specs.declared.values.Column.{Column}
+use Rattle.su_base.specs.declared.values.Value.{Value}
+use Rattle.su_base.specs.declared.values.Value.TheVariants.{Int}
+use Rattle.su_base.specs.Value.{kind_of}
+use Rattle.su_where.specs.declared.operators.Op.TheVariants.{Equal}
+use Rattle.su_where.specs.Operator.{compares}
+use Rattle.su_tableau.specs.declared.symbols.Sym.{Sym}
+use Rattle.su_tableau.specs.declared.symbols.Sym.TheVariants.{Var}
+use Rattle.su_tableau.specs.Tableaux.{Tab, IsValid, nth, value_of, values_of, AreCompared, Cut}
+use Rattle.su_tableau.specs.Essential.{Holds, IsEssential}
+use Rattle.su_tableau.proofs.Listing.{listed}
+use Rattle.su_schema.specs.SchemaValue.{column_of}
+use Rattle.su_schema.specs.SchemaValue as schemas
+use Rattle.su_map.specs.Lists.{rows_in}
+use Rattle.su_state.specs.DatabaseValue.{DatabaseValue, IsTyped, rows_of, columns_of, read}
+use Rattle.su_state.proofs.Columns.{column_within}
+use Rattle.su_exec.specs.declared.tasks.TaskRow.{TaskRow}
+use Rattle.su_exec.specs.declared.tasks.Compared.{Compared}
+use Rattle.su_exec.specs.declared.tasks.Task.{Task}
+use Rattle.su_exec.specs.Outputs.{Agrees, Holds as HoldsFor, IsOutput}
+use Rattle.su_steps.proofs.Lists.{all_by, contains_map, of_map, contains_filter, of_filter}
+use Rattle.su_answer.specs.Answers.{IsRead, StoredAnswer}
+use Rattle.su_answer.specs.Joined.{numbers_in, cell, IsTaskRowOf, comparison_at, IsTaskOf}
+use Rattle.su_answer.proofs.Joined.{in_rows, of_rows}
+use Rattle.su_answer.proofs.Reading.{reads_each, each_read}
+use Rattle.su_answer.proofs.Rowing.{range_has, range_low}
+use Rattle.su_answer.proofs.Zipping.{zip_first, zip_second}
+use Rattle.su_sql.specs.Stored.{AreStored}
+
+-- a stored row is as wide as its relation
+stored_wide : (db : DatabaseValue) (relation : ℕ) (row : List Value) → AreStored db → Contains (rows_of db relation) row → length row ≡ length (columns_of db relation)
+stored_wide db relation row stored c =
+    let typed : map kind_of row ≡ map (λ (o : Column). o.kind) (columns_of db relation) = All-contains (IsTyped (columns_of db relation)) (rows_of db relation) row (stored relation) c in
+    sym (length-map row kind_of) ∙ ap (λ (ks : List Kind). length ks) typed ∙ length-map (columns_of db relation) (λ (o : Column). o.kind)
+
+module _ (db : DatabaseValue) (t : Tab) (m : ℕ) (task : Task) (schema_valid : schemas.IsValid db.schema) (stored : AreStored db) (valid : IsValid t) (is : IsTaskOf db.schema t m task) where
+  -- ---- a row of the task
+
+  module _ (i : ℕ) (r : TaskRow) (v : ℕ → Value) (row_in : i < length t.rows) (in_set : bit_at m i ≡ 1) (of' : IsTaskRowOf db.schema t m i r) where
+    row_wide : length (get_or t.rows i []) ≡ t.width
+    row_wide = valid.widths i [] row_in
+
+    essential_has : (c : ℕ) (x : Sym) → Holds t m i c x → IsEssential t m i c → Contains (numbers_in of'.attributes t.width) c
+    essential_has c x h e =
+        let l = h.column_in in
+        let w = row_wide in
+        contains_filter (contains of'.attributes) (range_with_len 0 t.width) c (range_has t.width c (omega (arith, l, w))) ((of'.essential c).1 e)
+
+    holds_cell : (c : ℕ) → c < t.width → Holds t m i c (cell t i c)
+    holds_cell c low =
+        let w = row_wide in
+        let l : c < length (get_or t.rows i []) = omega (arith, low, w) in
+        record { row_in = row_in; in_set = in_set; column_in = l; is = λ d. get_or_default (get_or t.rows i []) c d (Var 0) l }
+
+    row_read : Agrees db.tables v r → IsRead db t m v i
+    row_read a =
+        let s = of'.from a.source a.of_row in
+        let object = s.2.object in
+        let in_table : Contains (rows_of db object.relation) a.stored = subst (λ n. Contains (rows_of db n) a.stored) s.2.relation a.in_table in
+        let wide = stored_wide db object.relation a.stored stored in_table in
+        let reads = reads_each object a.stored v (cell t i) (numbers_in of'.attributes t.width) a.source.columns s.2.columns
+        (λ k c.
+        let w = of_map (column_of object) (numbers_in of'.attributes t.width) (Some k) (subst (λ (xs : List (Option ℕ)). Contains xs (Some k)) (sym s.2.columns) (contains_map (λ (j : ℕ). Some j) a.source.columns k c)) in
+        let within = column_within db.schema s.0 object w.0 k schema_valid s.2.is w.2 in
+        omega (arith, wide, within))
+        (a.same ∙ ap (values_of v) of'.cells) in
+        record {
+          source = s.0;
+          is_source = s.1;
+          object = object;
+          is = s.2.is;
+          row = a.stored;
+          stored = in_table;
+          agrees = λ c x h e. reads c (essential_has c x h e) ∙ ap (λ y. Some (value_of v y)) (h.is (Var 0));
+        }
+
+    read_row : IsRead db t m v i → Agrees db.tables v r
+    read_row k =
+        let s = of'.all k.source k.is_source in
+        let one : k.object ≡ s.2.object = same_Some k.object s.2.object (sym k.is ∙ s.2.is) in
+        let reads : (c : ℕ) → Contains (numbers_in of'.attributes t.width) c → read s.2.object c k.row ≡ Some (value_of v (cell t i c)) = λ c n.
+        let f = of_filter (contains of'.attributes) (range_with_len 0 t.width) c n in
+        ap (λ o. read o c k.row) (sym one) ∙ k.agrees c (cell t i c) (holds_cell c (range_low t.width c f.0)) ((of'.essential c).0 f.1) in
+        record {
+          source = s.0;
+          of_row = s.1;
+          stored = k.row;
+          in_table = subst (λ n. Contains (rows_of db n) k.row) (ap (λ o. o.relation) one ∙ sym s.2.relation) k.stored;
+          same = each_read s.2.object k.row v (cell t i) (numbers_in of'.attributes t.width) s.0.columns s.2.columns reads ∙ ap (values_of v) (sym of'.cells);
+        }
+
+  -- ---- a read row under a valuation with the same values
+
+  read_under : (i : ℕ) (v w : ℕ → Value) → values_of w (get_or t.rows i []) ≡ values_of v (get_or t.rows i []) → IsRead db t m v i → IsRead db t m w i
+  read_under i v w same r = record {
+    source = r.source;
+    is_source = r.is_source;
+    object = r.object;
+    is = r.is;
+    row = r.row;
+    stored = r.stored;
+    agrees = λ c x h e.
+        let row = get_or t.rows i [] in
+        let value : value_of w x ≡ value_of v x =
+        ap (value_of w) (sym (h.is x)) ∙ sym (get_or-map (value_of w) row c x (Int (pos 0)) h.column_in) ∙ ap (λ xs. get_or xs c (Int (pos 0))) same ∙ get_or-map (value_of v) row c x (Int (pos 0)) h.column_in ∙ ap (value_of v) (h.is x) in
+        r.agrees c x h e ∙ ap Some (sym value);
+  }
+
+  -- ---- comparisons
+
+  head_value : (v : ℕ → Value) (k : ℕ) → k < length t.head → get_or (values_of v t.head) k (Int (pos 0)) ≡ value_of v (get_or t.head k (Var 0))
+  head_value v k l = get_or-map (value_of v) t.head k (Var 0) (Int (pos 0)) l
+
+  compared_same : (v : ℕ → Value) (i : ℕ) → i < length t.operators
+      → compares (get_or t.operators i Equal) (get_or (values_of v t.head) (t.outputs + 2 * i) (Int (pos 0))) (get_or (values_of v t.head) (t.outputs + 2 * i + 1) (Int (pos 0)))
+      ≡ compares (comparison_at t i).op (value_of v (comparison_at t i).left) (value_of v (comparison_at t i).right)
+  compared_same v i l =
+      let n = valid.head_length in
+      let left = head_value v (t.outputs + 2 * i) (omega (arith, n, l)) in
+      let right = head_value v (t.outputs + 2 * i + 1) (omega (arith, n, l)) in
+      ap (λ x. compares (get_or t.operators i Equal) x (get_or (values_of v t.head) (t.outputs + 2 * i + 1) (Int (pos 0)))) left ∙ ap (compares (get_or t.operators i Equal) (value_of v (get_or t.head (t.outputs + 2 * i) (Var 0)))) right
+
+  abbrev comparisons : List Compared
+  comparisons = map (comparison_at t) (range_with_len 0 (length t.operators))
+
+  holds_all : (v : ℕ → Value) → AreCompared t (values_of v t.head) → All (HoldsFor v) task.comparisons
+  holds_all v h =
+      subst (λ cs. All (HoldsFor v) cs) (sym is.comparisons)
+      (All-from_recursion (HoldsFor v) comparisons (all_by (HoldsFor v) comparisons (λ c k.
+      let w = of_map (comparison_at t) (range_with_len 0 (length t.operators)) c k in
+      let low = range_low (length t.operators) w.0 w.1 in
+      subst (HoldsFor v) w.2 (subst IsTrue (compared_same v w.0 low) (h w.0 low)))))
+
+  all_hold : (v : ℕ → Value) → All (HoldsFor v) task.comparisons → AreCompared t (values_of v t.head)
+  all_hold v h = λ i low.
+      let there = contains_map (comparison_at t) (range_with_len 0 (length t.operators)) i (range_has (length t.operators) i low) in
+      subst IsTrue (sym (compared_same v i low)) (All-contains (HoldsFor v) comparisons (comparison_at t i) (subst (λ cs. All (HoldsFor v) cs) is.comparisons h) there)
+
+  -- ---- all rows
+
+  agrees_all : (v : ℕ → Value) → ((i : ℕ) → i < length t.rows → bit_at m i ≡ 1 → IsRead db t m v i) → All (Agrees db.tables v) task.rows
+  agrees_all v h = All-from_recursion (Agrees db.tables v) task.rows (all_by (Agrees db.tables v) task.rows (λ r c.
+      let w = zip_second (IsTaskRowOf db.schema t m) (rows_in t m) task.rows r is.rows c in
+      let n = of_rows t m w.0 w.1 in
+      read_row w.0 r v n.0 n.1 w.2 (h w.0 n.0 n.1)))
+
+  all_read : (v : ℕ → Value) → All (Agrees db.tables v) task.rows → (i : ℕ) → i < length t.rows → bit_at m i ≡ 1 → IsRead db t m v i
+  all_read v h i low set =
+      let w = zip_first (IsTaskRowOf db.schema t m) (rows_in t m) task.rows i is.rows (in_rows t m i low set) in
+      row_read i w.0 v low set w.2 (All-contains (Agrees db.tables v) task.rows w.0 h w.1)
+
+  pub outputs_are_answers : (h : List Value) → IsOutput db.tables task h ↔ Cut t (StoredAnswer db t m) h
+  outputs_are_answers h = (
+    λ o.
+        let l = listed t o.valuation in
+        record {
+          head = values_of o.valuation t.head;
+          member = record {
+            values = l.0;
+            valuation = l.1.below;
+            reads = λ i low set. read_under i o.valuation (nth l.0) (l.1.rows i [] low) (all_read o.valuation o.agrees i low set);
+            gives = l.1.head;
+          };
+          compared = all_hold o.valuation o.holds;
+          outputs = take-map (value_of o.valuation) t.outputs t.head ∙ ap (values_of o.valuation) (sym is.outputs) ∙ o.gives;
+        },
+    λ c.
+        let v = nth c.member.values in
+        record {
+          valuation = v;
+          agrees = agrees_all v c.member.reads;
+          holds = holds_all v (subst (AreCompared t) (sym c.member.gives) c.compared);
+          gives = ap (values_of v) is.outputs ∙ sym (take-map (value_of v) t.outputs t.head) ∙ ap (take t.outputs) c.member.gives ∙ c.outputs;
+        },
+  )

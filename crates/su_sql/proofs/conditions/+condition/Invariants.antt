@@ -1,0 +1,6 @@
+use Rattle.std.proofs.Common.{◌≡◌, map, take}
+use Rattle.su_sql.specs.Changes.{condition_text}
+use Rattle.su_sql.proofs.conditions.+condition.Given as goal
+
+abbrev pub invariant-condition_parts-loop-cond : goal.invariant-condition_parts-loop-cond
+invariant-condition_parts-loop-cond l = l.parts ≡ map (condition_text l.dialect l.schema l.relation) (take l.cond-index l.conds)

@@ -1,0 +1,6 @@
+use Rattle.su_sql.specs.Queries.{source_column}
+use Rattle.su_sql.proofs.Listing.{images_next}
+use Rattle.su_sql.proofs.sources.source_columns.Goals as goal
+
+pub loop-value-preserved : goal.loop-value-preserved
+loop-value-preserved c = images_next (source_column c.args.dialect c.args.schema.now c.args.source.now) c.loop-value.value _ _ _ c.loop-value.invariant c.in_ok-push.ensures.ok c.in_ok-source_column.ensures

@@ -1,0 +1,6 @@
+use Rattle.su_sql.specs.Queries.{table_text}
+use Rattle.su_sql.proofs.Listing.{images_next}
+use Rattle.su_sql.proofs.sources.table_parts.Goals as goal
+
+pub loop-number-preserved : goal.loop-number-preserved
+loop-number-preserved c = images_next (table_text c.args.dialect c.args.schema.now c.args.tables.now) c.loop-number.number _ _ _ c.loop-number.invariant c.in_ok-push.ensures.ok c.in_ok-table_part.ensures

@@ -1,0 +1,6 @@
+use Rattle.su_sql.specs.Queries.{place_number}
+use Rattle.su_sql.proofs.Listing.{images_next}
+use Rattle.su_sql.proofs.writing.number_parts.Goals as goal
+
+pub loop-i-preserved : goal.loop-i-preserved
+loop-i-preserved c = images_next place_number c.loop-i.i _ _ _ c.loop-i.invariant c.in_ok-push.ensures.ok c.in_ok-number_part.ensures

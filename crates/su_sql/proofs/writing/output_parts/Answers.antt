@@ -1,0 +1,6 @@
+use Rattle.su_sql.specs.Queries.{output_text}
+use Rattle.su_sql.proofs.Listing.{images_next}
+use Rattle.su_sql.proofs.writing.output_parts.Goals as goal
+
+pub loop-i-preserved : goal.loop-i-preserved
+loop-i-preserved c = images_next (output_text c.args.dialect c.args.schema.now c.args.header.now c.args.select.now) c.loop-i.i _ _ _ c.loop-i.invariant c.in_ok-push.ensures.ok c.in_ok-output_part.ensures

@@ -1,0 +1,6 @@
+use Rattle.std.proofs.Common.{◌≡◌, map, take}
+use Rattle.su_sql.specs.Queries.{select_text}
+use Rattle.su_sql.proofs.writing.select_parts.Given as goal
+
+abbrev pub invariant-loop-select : goal.invariant-loop-select
+invariant-loop-select l = l.parts ≡ map (select_text l.dialect l.schema l.header) (take l.select-index l.selects)

@@ -1,0 +1,68 @@
+//! Relations and their columns, by number. What is none of the schema's has an empty name.
+ghost use Rattle.std.specs.Prelude.{◌≡◌, ◌++◌, OnOk};
+ghost use Rattle.su_schema.specs.Checks.{columns_at};
+ghost use Rattle.su_sql.specs.Texts.{relation_name, column_name, column_kind, relation_text, column_text};
+
+use crate::dialects::Dialect;
+use crate::words::push_name;
+use su_base::{Column, Kind, NoMemory};
+use su_schema::Schema;
+
+fn relation_name(schema: &Schema, relation: u8) -> &str
+    ensures { result.now ≡ relation_name schema.now relation }
+{
+    if relation as usize >= schema.relations() {
+        return "";
+    }
+    schema.relation_name(relation)
+}
+
+pub(crate) fn columns(schema: &Schema, relation: u8) -> &[Column]
+    ensures { result.now ≡ columns_at schema.now relation }
+{
+    if relation as usize >= schema.relations() {
+        return &[];
+    }
+    schema.columns(relation)
+}
+
+fn column_name(schema: &Schema, relation: u8, column: usize) -> &str
+    ensures { result.now ≡ column_name schema.now relation column }
+{
+    match columns(schema, relation).get(column) {
+        Some(column) => column.name.as_str(),
+        None => "",
+    }
+}
+
+pub(crate) fn column_kind(schema: &Schema, relation: u8, column: usize) -> Kind
+    ensures { result ≡ column_kind schema.now relation column }
+{
+    match columns(schema, relation).get(column) {
+        Some(column) => column.kind,
+        None => Kind::Int,
+    }
+}
+
+pub(crate) fn push_relation(
+    out: &mut Vec<u8>,
+    dialect: Dialect,
+    schema: &Schema,
+    relation: u8,
+) -> Result<(), NoMemory>
+    ensures { OnOk result (out.new.items ≡ out.old.items ++ relation_text dialect schema.now relation) }
+{
+    push_name(out, dialect, relation_name(schema, relation))
+}
+
+pub(crate) fn push_column(
+    out: &mut Vec<u8>,
+    dialect: Dialect,
+    schema: &Schema,
+    relation: u8,
+    column: usize,
+) -> Result<(), NoMemory>
+    ensures { OnOk result (out.new.items ≡ out.old.items ++ column_text dialect schema.now relation column) }
+{
+    push_name(out, dialect, column_name(schema, relation, column))
+}

@@ -1,0 +1,4 @@
+pub mod Words
+pub mod Moments
+pub mod Reads
+pub mod Ends
