@@ -32,7 +32,7 @@ fn bank_files(alloc: Global) -> Result<List<File>, NoMemory> {
 
 // How many calls a file takes in pieces of 100: one to begin it, one a piece, and one to find its end.
 fn calls(text: &str) -> u64 {
-    2 + (text.len() as u64).div_ceil(100)
+    (text.len() as u64).div_ceil(100).wrapping_add(2)
 }
 
 #[test]
@@ -40,9 +40,9 @@ fn each_failing_call_of_the_shelf_leaves_the_replies_before_it(
     rt: HostRuntime,
 ) -> Result<(), Fail> {
     let alloc = rt.alloc();
-    let before = calls(BANK) + calls(SCRIPT);
-    let all = before + calls(LOADED);
-    for k in 0..all + 1 {
+    let before = calls(BANK).wrapping_add(calls(SCRIPT));
+    let all = before.wrapping_add(calls(LOADED));
+    for k in 0..all.wrapping_add(1) {
         let fails = List::from_vec([k].as_slice().to_vec(alloc)?);
         let mut shelf = MemoryShelf::new(bank_files(alloc)?, fails, 100);
         let mut out = SteadySink::new(alloc, 1000)?;
