@@ -64,10 +64,7 @@ pub fn number_of(variables: &[u32], k: u32) -> Option<usize>
             high = middle;
         }
     }
-    if low < variables.len() && variables[low] == k {
-        return Some(low);
-    }
-    None
+    (low < variables.len() && variables[low] == k).then_some(low)
 }
 
 /// Which variables the head has, if the rows have all of them.

@@ -15,12 +15,7 @@ use su_tableau::Sym;
 fn are_wide(rows: &[List<Sym>], width: usize) -> bool
     ensures { IsTrue result ↔ All (λ r. length r ≡ width) rows.now }
 {
-    for row in rows {
-        if row.len() != width {
-            return false;
-        }
-    }
-    true
+    rows.iter().all(|row| row.len() == width)
 }
 
 /// The board of the term at this place, if the term is good in form.

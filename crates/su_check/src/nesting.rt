@@ -7,19 +7,13 @@ use su_lex::{Sign, Symbol};
 fn is_open(symbol: &Symbol) -> bool
     ensures { result ≡ is_open symbol.now }
 {
-    match symbol {
-        Symbol::Sign(Sign::Open) => true,
-        _ => false,
-    }
+    matches!(symbol, Symbol::Sign(Sign::Open))
 }
 
 fn is_close(symbol: &Symbol) -> bool
     ensures { result ≡ is_close symbol.now }
 {
-    match symbol {
-        Symbol::Sign(Sign::Close) => true,
-        _ => false,
-    }
+    matches!(symbol, Symbol::Sign(Sign::Close))
 }
 
 /// Whether some front has over 64 more opening parentheses than closing ones.

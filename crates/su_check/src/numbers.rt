@@ -6,12 +6,7 @@ ghost use Rattle.su_check.specs.Refuting.{IsAscending};
 pub fn contains(numbers: &[u8], n: u8) -> bool
     ensures { IsTrue result ↔ Contains numbers.now n }
 {
-    for m in numbers {
-        if *m == n {
-            return true;
-        }
-    }
-    false
+    numbers.contains(&n)
 }
 
 /// Whether the numbers ascend.
@@ -30,10 +25,5 @@ pub fn is_ascending(numbers: &[u8]) -> bool
 pub fn are_below(numbers: &[u8], n: usize) -> bool
     ensures { IsTrue result ↔ All (λ k. k < n) numbers.now }
 {
-    for k in numbers {
-        if *k as usize >= n {
-            return false;
-        }
-    }
-    true
+    numbers.iter().all(|k| (*k as usize) < n)
 }

@@ -16,26 +16,11 @@ use crate::sending::{Place, Sent};
 use su_base::{List, NoMemory};
 use su_tableau::has;
 
-/// Whether the row has no target.
-fn is_free(sent: &[Sent], row: u8) -> bool
-    ensures { IsTrue result ↔ All (λ x. x.row ≢ row) sent.now }
-{
-    for one in sent {
-        if one.row == row {
-            return false;
-        }
-    }
-    true
-}
-
 /// Whether the row is kept and has no target.
 fn is_open(term: &Term, sent: &[Sent], row: u8) -> bool
     ensures { IsTrue result ↔ IsOpen (lines_of term.now) sent.now row }
 {
-    if !contains(term.kept.as_slice(), row) {
-        return false;
-    }
-    is_free(sent, row)
+    contains(term.kept.as_slice(), row) && sent.iter().all(|one| one.row != row)
 }
 
 /// Whether the row can go to the target, which is kept, and not the row that is left out. A target that
