@@ -12,19 +12,42 @@ def fits(rows, head, sent):
                for row, target in sent.items() for cell, goal in zip(rows[row], rows[target]))
 
 
-def tree(rows, head, kept, left_out, sent):
-    """The node that refutes a partial list names, of the kept rows that have no target, the one that the fewest fit,
-    the least such row; its branches are all that fit, ascending, each with the node that refutes the longer list. A
-    target is a kept row other than the one that is left out."""
+def named(rows, head, kept, left_out, sent):
+    """The row that the node for a partial list names: of the kept rows that have no target the one that the fewest fit,
+    the least such row; and all that fit it, ascending. A target is a kept row other than the one that is left out."""
     fitting = {row: [goal for goal in kept if goal != left_out and fits(rows, head, {**sent, row: goal})]
                for row in kept if row not in sent}
     row = min(fitting, key=lambda row: (len(fitting[row]), row))
-    return row, [(goal, tree(rows, head, kept, left_out, {**sent, row: goal})) for goal in fitting[row]]
+    return row, fitting[row]
 
 
-def count(node):
-    """The number of nodes of a tree."""
-    return 1 + sum(count(inner) for _, inner in node[1])
+def tree(rows, head, kept, left_out, sent):
+    """The node that refutes a partial list has a branch for each target of the row that it names, with the node that
+    refutes the list with that pair more."""
+    row, goals = named(rows, head, kept, left_out, sent)
+    return row, [(goal, tree(rows, head, kept, left_out, {**sent, row: goal})) for goal in goals]
+
+
+def tree_nodes(rows, head, kept, left_out, sent):
+    """The number of nodes of that tree, which is not made: the node itself and those below its branches."""
+    row, goals = named(rows, head, kept, left_out, sent)
+    return 1 + sum(tree_nodes(rows, head, kept, left_out, {**sent, row: goal}) for goal in goals)
+
+
+def each_once(done, reduced, head_of):
+    """What is done with the rows, the head and the kept rows of each term; once for all terms that have the same."""
+    known = {}
+    for term, kept in zip(reduced.terms, reduced.rows):
+        same = repr((term.rows, head_of(term), kept))
+        if same not in known:
+            known[same] = done(term.rows, head_of(term), kept)
+        yield known[same]
+
+
+def node_count(reduced, head_of):
+    """The number of nodes of the trees of all terms together."""
+    nodes_of = lambda rows, head, kept: sum(tree_nodes(rows, head, kept, row, {}) for row in kept)
+    return sum(each_once(nodes_of, reduced, head_of))
 
 
 def shown(node):
@@ -33,17 +56,16 @@ def shown(node):
 
 
 def written(schema, reduced, head_of, shown_value):
-    """The lines of the certificate of a query's terms, and how many nodes all its trees have."""
+    """The lines of the certificate of a query's terms."""
     symbols = lambda cells: [shown_value(cell[1]) if cell[0] == "const" else f"v{cell[1]}" for cell in cells]
     line = lambda *items: " ".join(map(str, items))
     kinds = [kind for _, kind in schema.attributes]
-    lines, nodes = [line("certificate", len(kinds)), line("kinds", *kinds)], 0
-    for number, (term, kept, fold) in enumerate(zip(reduced.terms, reduced.rows, reduced.folds)):
+    lines = [line("certificate", len(kinds)), line("kinds", *kinds)]
+    trees_of = lambda rows, head, kept: [line("tree", row, shown(tree(rows, head, kept, row, {}))) for row in kept]
+    trees = each_once(trees_of, reduced, head_of)
+    for number, (term, kept, fold, refuting) in enumerate(zip(reduced.terms, reduced.rows, reduced.folds, trees)):
         head, rows = head_of(term), term.rows
-        trees = [tree(rows, head, kept, row, {}) for row in kept]
-        nodes += sum(map(count, trees))
         lines += [line("term", number), line("head", *symbols(head)), "rows"]
         lines += ["(" + line(*symbols(row)) + ")" for row in rows]
-        lines += [line("kept", *kept), line("fold", *fold)]
-        lines += [line("tree", row, shown(node)) for row, node in zip(kept, trees)]
-    return lines, nodes
+        lines += [line("kept", *kept), line("fold", *fold), *refuting]
+    return lines

@@ -807,10 +807,9 @@ def replied(database, piece, files):
         if word == "explain":
             return explanation(schema, parts, query, reduced)
         if word == "explain with":
-            lines, nodes = certificates.written(schema, reduced, head, shown_value)
-            if nodes > 200000:
+            if certificates.node_count(reduced, head) > 200000:
                 raise Refused("limit nodes 200000")
-            return lines
+            return certificates.written(schema, reduced, head, shown_value)
         return table([shown_ref(ref) for ref in parts[0]], answer(database, reduced))
     relation = find(schema.relations, parts[0])
     if relation is None:

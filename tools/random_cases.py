@@ -3,6 +3,7 @@ model, and drawn so that rare things come up. Statements are drawn for the datab
 import re
 
 import certificates
+import large_cases
 import model
 
 KINDS = 14
@@ -470,7 +471,10 @@ def certificate_case(draw, database):
 
 
 def random_case(draw, number):
-    """A random case; every tenth is one at a limit, and every tenth the check of a certificate."""
+    """A random case; every tenth is one at a limit, and every tenth the check of a certificate; some few are large."""
+    large = large_cases.large_case(draw, number)
+    if large:
+        return Case(*large)
     if number % 10 == 9:
         found = limited(draw, number // 10)
         return Case([s.encode() for s in found.schema], [s.encode() for s in found.script])
