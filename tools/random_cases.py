@@ -437,9 +437,13 @@ def words_of(draw):
 
 
 def changed(draw, certificate):
-    """A certificate, mostly with one token left out, doubled, or put in another's place."""
+    """A certificate, mostly with one token left out, doubled, or put in another's place, or a number in a tree changed."""
     parts = re.findall(rb"'(?:[^']|'')*'|\w+|-\d+|[()]|\s+", certificate)
     places = [i for i, part in enumerate(parts) if part.strip()]
+    if b"tree" in parts and draw.random() < 0.3:
+        numbers = [i for i in places if i > parts.index(b"tree") and parts[i].isdigit()]
+        parts[draw.choice(numbers)] = str(draw.randrange(4)).encode()
+        return b"".join(parts)
     at, other = draw.choice(places), draw.choice(places)
     what = draw.random()
     if what < 0.25:
