@@ -1,59 +1,52 @@
 -- Entries in chunks: where they stand, and what edits of one chunk do to the whole.
-use Rattle.std.proofs.Common.{Result, Ok, Err, OnOk, is_ok, true, length-set, length-take-le, ◌≡◌, ◌<◌, ◌≤◌, ◌+◌, ◌-◌, ◌*◌, ◌/◌, ◌%◌, ℕ, zero, suc, List, [], ◌∷◌, ◌++◌, length, get_or, take, set, ap, refl, sym, ◌∙◌, arith, inl, inr}
+use Rattle.std.proofs.Common.{Result, Ok, Err, OnOk, is_ok, true, add-one, ◌≡◌, ◌<◌, ◌≤◌, ◌+◌, ◌-◌, ℕ, zero, suc, List, [], ◌∷◌, ◌++◌, length, get_or, take, set, ap, subst, refl, sym, ◌∙◌, arith, inl, inr}
 use Rattle.std.specs.List.{insert, remove}
-use Rattle.std.specs.VecDeque.{deque_len, deque_capacity}
 use Rattle.std.proofs.lemmas.Bool.{cases_eq, false≢true}
-use Rattle.std.proofs.lemmas.Bool.Decides.{nat_tests}
-use Rattle.std.proofs.lemmas.List.{append_assoc, append-nil, length-append, nil_from_length, get_or-take, get_or_append_left, get_or-append-add, length_push, get_or-set_same, get_or-set_other}
+use Rattle.std.proofs.lemmas.List.{append_assoc, append-nil, length-append, nil_from_length, get_or_append_left, get_or-append-add, length_push}
 use Rattle.std.proofs.lemmas.List.Concat.{get_or-flat_map, flat_map-append}
 use Rattle.std.proofs.lemmas.List.Edits.{insert-append_left, insert-append_right, remove-append_left, remove-append_right}
+use Rattle.su_index.proofs.Spans.{le_or}
 use Rattle.su_index.specs.declared.entry.Entry.{Entry}
 use Rattle.su_index.specs.declared.chunk.Chunk.{Chunk}
-use Rattle.su_index.specs.Chunks.{entries_of, len_at, lens_of, AreFull, HasRoom, HasGap}
+use Rattle.su_index.specs.declared.place.Place.{Place}
+use Rattle.su_index.specs.Chunks.{entries_of, len_at, capacity_at, before_chunk, rank_in, HaveEntries, IsGap, IsPlace, HasRoomFrom}
 
 -- ---- where an entry stands
 
-pub length-before : (chunks : List Chunk) (c : ℕ) → ((k : ℕ) (d : Chunk) → k < c → len_at chunks k d ≡ 4096) → c ≤ length chunks → length (entries_of (take c chunks)) ≡ c * 4096
-length-before chunks zero full h = refl
-length-before [] (suc c) full h = absurd (omega arith)
-length-before (x ∷ chunks) (suc c) full h =
-    let one : length x.entries.items ≡ 4096 = sym x.entries.ok.0 ∙ full 0 x (omega arith) in
-    let rest = length-before chunks c (λ k d l. full (suc k) d (omega arith)) (omega arith) in
-    omega (arith, length-append x.entries.items (entries_of (take c chunks)), one, rest)
+pub before-suc : (chunks : List Chunk) (c : ℕ) (d : Chunk) → c < length chunks → before_chunk chunks (suc c) ≡ before_chunk chunks c + len_at chunks c d
+before-suc [] c d h = absurd (omega arith)
+before-suc (x ∷ chunks) zero d h = omega (arith, length-append x.entries.items [], x.entries.ok.0)
+before-suc (x ∷ chunks) (suc c) d h = omega (arith, length-append x.entries.items (entries_of (take (suc c) chunks)), length-append x.entries.items (entries_of (take c chunks)), before-suc chunks c d (omega arith))
 
-pub length-all : (chunks : List Chunk) (c : ℕ) (d : Chunk) → ((k : ℕ) (d : Chunk) → k < c → len_at chunks k d ≡ 4096) → c + 1 ≡ length chunks → length (entries_of chunks) ≡ c * 4096 + len_at chunks c d
-length-all [] c d full h = absurd (omega arith)
-length-all (x ∷ []) zero d full h = omega (arith, length-append x.entries.items [], x.entries.ok.0)
-length-all (x ∷ y ∷ chunks) zero d full h = absurd (omega arith)
-length-all (x ∷ chunks) (suc c) d full h =
-    let one : length x.entries.items ≡ 4096 = sym x.entries.ok.0 ∙ full 0 x (omega arith) in
-    let rest = length-all chunks c d (λ k e l. full (suc k) e (omega arith)) (omega arith) in
-    omega (arith, length-append x.entries.items (entries_of chunks), one, rest)
+pub before-next : (chunks : List Chunk) (c : ℕ) (d : Chunk) → c < length chunks → before_chunk chunks (c + 1) ≡ before_chunk chunks c + len_at chunks c d
+before-next chunks c d h = ap (before_chunk chunks) (add-one c) ∙ before-suc chunks c d h
 
-pub place_within : (chunks : List Chunk) (i : ℕ) → AreFull chunks → i < length (entries_of chunks) → (i / 4096 < length chunks) × ((d : Chunk) → i % 4096 < len_at chunks (i / 4096) d)
-place_within [] i full h = absurd (omega arith)
-place_within (x ∷ chunks) i full h =
-    let all : length (entries_of (x ∷ chunks)) ≡ length chunks * 4096 + len_at (x ∷ chunks) (length chunks) x = length-all (x ∷ chunks) (length chunks) x (λ k d l. full.full k d (omega arith)) (omega arith) in
-    let most : len_at (x ∷ chunks) (length chunks) x ≤ 4096 = full.most (length chunks) x (omega arith) in
-    let within : i / 4096 < length (x ∷ chunks) = omega (arith, all, most, h) in (
-      within,
-      λ d. elim (cases_eq (i / 4096) (length chunks)) [
-        | inl e ↦
-            let same : length (entries_of (x ∷ chunks)) ≡ length chunks * 4096 + len_at (x ∷ chunks) (length chunks) d = length-all (x ∷ chunks) (length chunks) d (λ k e l. full.full k e (omega arith)) (omega arith) in
-            rw e (omega (arith, same, e, h))
-        | inr apart ↦
-            let one : len_at (x ∷ chunks) (i / 4096) d ≡ 4096 = full.full (i / 4096) d (omega (arith, within, apart)) in
-            omega (arith, one)
-      ],
-    )
+pub before-most : (chunks : List Chunk) (c : ℕ) → before_chunk chunks c ≤ length (entries_of chunks)
+before-most chunks zero = omega arith
+before-most [] (suc c) = omega arith
+before-most (x ∷ chunks) (suc c) = omega (arith, length-append x.entries.items (entries_of (take c chunks)), length-append x.entries.items (entries_of chunks), before-most chunks c)
 
-pub entry-at : (chunks : List Chunk) (i : ℕ) (c : Chunk) (d : Entry) → AreFull chunks → i < length (entries_of chunks) → get_or (entries_of chunks) i d ≡ get_or (get_or chunks (i / 4096) c).entries.items (i % 4096) d
-entry-at chunks i c d full h =
-    let w = place_within chunks i full h in
-    let before : length (entries_of (take (i / 4096) chunks)) ≡ (i / 4096) * 4096 = length-before chunks (i / 4096) (λ k e l. full.full k e (omega (arith, w.0))) (omega (arith, w.0)) in
-    let at : length (entries_of (take (i / 4096) chunks)) + i % 4096 ≡ i = omega (arith, before) in
-    let inside : i % 4096 < length (get_or chunks (i / 4096) c).entries.items = omega (arith, w.1 c, (get_or chunks (i / 4096) c).entries.ok.0) in
-    ap (λ k. get_or (entries_of chunks) k d) (sym at) ∙ get_or-flat_map (λ chunk. chunk.entries.items) chunks (i / 4096) (i % 4096) c d w.0 inside
+pub before-all : (chunks : List Chunk) (c : ℕ) → length chunks ≤ c → before_chunk chunks c ≡ length (entries_of chunks)
+before-all [] zero h = refl
+before-all [] (suc c) h = refl
+before-all (x ∷ chunks) zero h = absurd (omega arith)
+before-all (x ∷ chunks) (suc c) h = omega (arith, length-append x.entries.items (entries_of (take c chunks)), length-append x.entries.items (entries_of chunks), before-all chunks c (omega arith))
+
+pub before-later : (chunks : List Chunk) (b c : ℕ) → b ≤ c → before_chunk chunks b ≤ before_chunk chunks c
+before-later chunks zero c h = omega arith
+before-later chunks (suc b) zero h = absurd (omega arith)
+before-later [] (suc b) (suc c) h = omega arith
+before-later (x ∷ chunks) (suc b) (suc c) h = omega (arith, length-append x.entries.items (entries_of (take b chunks)), length-append x.entries.items (entries_of (take c chunks)), before-later chunks b c (omega arith))
+
+-- a change of a chunk changes nothing before it
+pub before-set : (chunks : List Chunk) (c k : ℕ) (x : Chunk) → k ≤ c → before_chunk (set chunks c x) k ≡ before_chunk chunks k
+before-set chunks c zero x h = refl
+before-set [] c (suc k) x h = refl
+before-set (y ∷ chunks) zero (suc k) x h = absurd (omega arith)
+before-set (y ∷ chunks) (suc c) (suc k) x h = omega (arith, length-append y.entries.items (entries_of (take k (set chunks c x))), length-append y.entries.items (entries_of (take k chunks)), before-set chunks c k x (omega arith))
+
+pub entry-at : (chunks : List Chunk) (c j : ℕ) (d : Chunk) (e : Entry) → c < length chunks → j < len_at chunks c d → get_or (entries_of chunks) (before_chunk chunks c + j) e ≡ get_or (get_or chunks c d).entries.items j e
+entry-at chunks c j d e h l = get_or-flat_map (λ chunk. chunk.entries.items) chunks c j d e h (omega (arith, l, (get_or chunks c d).entries.ok.0))
 
 -- ---- edits of one chunk
 
@@ -89,172 +82,46 @@ remove-entries (y ∷ chunks) (suc c) j x d h l is =
     ∙ ap (λ k. y.entries.items ++ remove (entries_of chunks) k) at
     ∙ sym back
 
--- ---- an entry that goes from one chunk to the next, or back
-
-pub carried : (chunks : List Chunk) (k m : ℕ) (a b d : Chunk) → m ≡ suc k → m < length chunks → a.entries.items ++ b.entries.items ≡ (get_or chunks k d).entries.items ++ (get_or chunks m d).entries.items → entries_of (set (set chunks m b) k a) ≡ entries_of chunks
-carried [] k m a b d next h e = absurd (omega arith)
-carried (x ∷ []) zero m a b d next h e = absurd (omega (arith, next))
-carried (x ∷ y ∷ chunks) zero m a b d next h e = rw next (
-    sym (append_assoc a.entries.items b.entries.items (entries_of chunks)) ∙ ap (λ s. s ++ entries_of chunks) (rw next at e) ∙ append_assoc x.entries.items y.entries.items (entries_of chunks))
-carried (x ∷ chunks) (suc k) m a b d next h e =
-    rw next (ap (λ s. x.entries.items ++ s) (carried chunks k (suc k) a b d refl (omega (arith, next)) (rw next at e)))
-
-pub carried_up : (chunks : List Chunk) (k m : ℕ) (a b d : Chunk) → m ≡ suc k → m < length chunks → a.entries.items ++ b.entries.items ≡ (get_or chunks k d).entries.items ++ (get_or chunks m d).entries.items → entries_of (set (set chunks k a) m b) ≡ entries_of chunks
-carried_up [] k m a b d next h e = absurd (omega arith)
-carried_up (x ∷ []) zero m a b d next h e = absurd (omega (arith, next))
-carried_up (x ∷ y ∷ chunks) zero m a b d next h e = rw next (
-    sym (append_assoc a.entries.items b.entries.items (entries_of chunks)) ∙ ap (λ s. s ++ entries_of chunks) (rw next at e) ∙ append_assoc x.entries.items y.entries.items (entries_of chunks))
-carried_up (x ∷ chunks) (suc k) m a b d next h e =
-    rw next (ap (λ s. x.entries.items ++ s) (carried_up chunks k (suc k) a b d refl (omega (arith, next)) (rw next at e)))
-
 pub same-entries : (chunks : List Chunk) (k : ℕ) (x d : Chunk) → k < length chunks → x.entries.items ≡ (get_or chunks k d).entries.items → entries_of (set chunks k x) ≡ entries_of chunks
 same-entries [] k x d h e = absurd (omega arith)
 same-entries (y ∷ chunks) zero x d h e = ap (λ s. s ++ entries_of chunks) e
 same-entries (y ∷ chunks) (suc k) x d h e = ap (λ s. y.entries.items ++ s) (same-entries chunks k x d (omega arith) e)
 
--- ---- the last chunk
+-- ---- an entry that pushes the last one of its chunk out
 
-pub trimmed-entries : (chunks : List Chunk) (n : ℕ) (d : Chunk) → n + 1 ≡ length chunks → len_at chunks n d ≡ 0 → entries_of (take n chunks) ≡ entries_of chunks
-trimmed-entries [] n d h none = absurd (omega arith)
-trimmed-entries (x ∷ []) zero d h none = rw (nil_from_length x.entries.items (omega (arith, x.entries.ok.0, none))) refl
-trimmed-entries (x ∷ y ∷ chunks) zero d h none = absurd (omega arith)
-trimmed-entries (x ∷ chunks) (suc n) d h none = ap (λ s. x.entries.items ++ s) (trimmed-entries chunks n d (omega arith) none)
+pub displaced-entries : (chunks : List Chunk) (c at : ℕ) (x d : Chunk) (e last : Entry) → c < length chunks → at ≤ length (get_or chunks c d).entries.items → x.entries.items ++ last ∷ [] ≡ insert (get_or chunks c d).entries.items at e
+    → insert (entries_of (set chunks c x)) (before_chunk (set chunks c x) (suc c)) last ≡ insert (entries_of chunks) (before_chunk chunks c + at) e
+displaced-entries [] c at x d e last h l is = absurd (omega arith)
+displaced-entries (y ∷ chunks) zero at x d e last h l is =
+    let n : ℕ = length x.entries.items in
+    let here : length (x.entries.items ++ []) ≡ n + 0 = length-append x.entries.items [] in
+    let back : insert (x.entries.items ++ entries_of chunks) (length (x.entries.items ++ [])) last ≡ x.entries.items ++ insert (entries_of chunks) (length (x.entries.items ++ []) - n) last = insert-append_right x.entries.items (entries_of chunks) n (length (x.entries.items ++ [])) last refl (omega (arith, here)) in
+    let none : length (x.entries.items ++ []) - n ≡ 0 = omega (arith, here) in
+    let first : insert (y.entries.items ++ entries_of chunks) at e ≡ insert y.entries.items at e ++ entries_of chunks = insert-append_left y.entries.items (entries_of chunks) at e l in
+    let zeroth : at ≡ 0 + at = omega arith in
+    back ∙ ap (λ k. x.entries.items ++ insert (entries_of chunks) k last) none
+    ∙ sym (append_assoc x.entries.items (last ∷ []) (entries_of chunks))
+    ∙ ap (λ s. s ++ entries_of chunks) is ∙ sym first ∙ ap (λ k. insert (entries_of (y ∷ chunks)) k e) zeroth
+displaced-entries (y ∷ chunks) (suc c) at x d e last h l is =
+    let n : ℕ = length y.entries.items in
+    let i : ℕ = before_chunk (y ∷ set chunks c x) (suc (suc c)) in
+    let j : ℕ = before_chunk (y ∷ chunks) (suc c) + at in
+    let long : i ≡ n + before_chunk (set chunks c x) (suc c) = length-append y.entries.items (entries_of (take (suc c) (set chunks c x))) in
+    let short : before_chunk (y ∷ chunks) (suc c) ≡ n + before_chunk chunks c = length-append y.entries.items (entries_of (take c chunks)) in
+    let one : insert (y.entries.items ++ entries_of (set chunks c x)) i last ≡ y.entries.items ++ insert (entries_of (set chunks c x)) (i - n) last = insert-append_right y.entries.items (entries_of (set chunks c x)) n i last refl (omega (arith, long)) in
+    let two : insert (y.entries.items ++ entries_of chunks) j e ≡ y.entries.items ++ insert (entries_of chunks) (j - n) e = insert-append_right y.entries.items (entries_of chunks) n j e refl (omega (arith, short)) in
+    let a : i - n ≡ before_chunk (set chunks c x) (suc c) = omega (arith, long) in
+    let b : before_chunk chunks c + at ≡ j - n = omega (arith, short) in
+    one ∙ ap (λ k. y.entries.items ++ insert (entries_of (set chunks c x)) k last) a
+    ∙ ap (λ s. y.entries.items ++ s) (displaced-entries chunks c at x d e last (omega arith) l is)
+    ∙ ap (λ k. y.entries.items ++ insert (entries_of chunks) k e) b ∙ sym two
 
-pub trimmed-full : (chunks : List Chunk) (n : ℕ) → n + 1 ≡ length chunks → AreFull chunks → AreFull (take n chunks)
-trimmed-full chunks n h full =
-    let len : length (take n chunks) ≡ n = length-take-le n chunks (omega arith) in
-    record {
-      full = λ k d l. rw (get_or-take n chunks k d (omega (arith, len, l))) (full.full k d (omega (arith, len, l)));
-      most = λ k d l. rw (get_or-take n chunks k d (omega (arith, len, l))) (full.most k d (omega (arith, len, l)));
-    }
+-- ---- a chunk without entries
 
-pub trimmed-some : (chunks : List Chunk) (n : ℕ) → n + 1 ≡ length chunks → AreFull chunks → (k : ℕ) (d : Chunk) → k < length (take n chunks) → 0 < len_at (take n chunks) k d
-trimmed-some chunks n h full k d l =
-    let len : length (take n chunks) ≡ n = length-take-le n chunks (omega arith) in
-    rw (get_or-take n chunks k d (omega (arith, len, l))) (omega (arith, full.full k d (omega (arith, len, l))))
-
-pub full-push : (chunks : List Chunk) (x : Chunk) → ((k : ℕ) (d : Chunk) → k < length chunks → len_at chunks k d ≡ 4096) → deque_len x.entries ≤ 4096 → AreFull (chunks ++ x ∷ [])
-full-push chunks x all most =
-    let len : length (chunks ++ x ∷ []) ≡ length chunks + 1 = length_push chunks x in
-    record {
-      full = λ k d l. rw (get_or_append_left chunks (x ∷ []) d k (omega (arith, len, l))) (all k d (omega (arith, len, l)));
-      most = λ k d l. elim (cases_eq k (length chunks)) [
-        | inl e ↦
-            let at : get_or (chunks ++ x ∷ []) k d ≡ x = ap (λ j. get_or (chunks ++ x ∷ []) j d) (omega (arith, e)) ∙ get_or-append-add chunks (x ∷ []) 0 d in
-            rw at most
-        | inr apart ↦ rw (get_or_append_left chunks (x ∷ []) d k (omega (arith, len, l, apart))) (omega (arith, all k d (omega (arith, len, l, apart))))
-      ];
-    }
-
--- how many entries the last chunk has
-abbrev pub last_of : List Chunk → ℕ
-last_of chunks = length (entries_of chunks) - (length chunks - 1) * 4096
-
-pub last-len : (chunks : List Chunk) (k : ℕ) (d : Chunk) → AreFull chunks → k + 1 ≡ length chunks → len_at chunks k d ≡ last_of chunks
-last-len chunks k d full h =
-    let all = length-all chunks k d (λ j e l. full.full j e (omega arith)) h in
-    let same : (length chunks - 1) * 4096 ≡ k * 4096 = ap (λ n. n * 4096) (omega (arith, h)) in
-    omega (arith, all, same)
-
-pub last-most : (chunks : List Chunk) → AreFull chunks → last_of chunks ≤ 4096
-last-most [] full = omega arith
-last-most (x ∷ chunks) full = omega (arith, last-len (x ∷ chunks) (length chunks) x full (omega arith), full.most (length chunks) x (omega arith))
-
-pub last-some : (chunks : List Chunk) → AreFull chunks → 0 < length chunks → ((k : ℕ) (d : Chunk) → k < length chunks → 0 < len_at chunks k d) → 0 < last_of chunks
-last-some [] full some all = absurd (omega arith)
-last-some (x ∷ chunks) full some all = omega (arith, last-len (x ∷ chunks) (length chunks) x full (omega arith), all (length chunks) x (omega arith))
-
-pub some-chunks : (chunks : List Chunk) (i : ℕ) → i < length (entries_of chunks) → 0 < length chunks
-some-chunks [] i h = absurd (omega arith)
-some-chunks (x ∷ chunks) i h = omega arith
-
--- ---- gaps
-
-lens-last : (count last k : ℕ) → k + 1 ≡ count → lens_of count last k ≡ last
-lens-last count last k e = grind (arith, nat_tests, e)
-
-lens-full : (count last k : ℕ) → (k + 1 ≡ count → ⊥) → lens_of count last k ≡ 4096
-lens-full count last k apart = grind (arith, nat_tests, apart)
-
-pub lens-some : (count last : ℕ) → 0 < last → (k : ℕ) → 0 < lens_of count last k
-lens-some count last h k =
-    elim (cases_eq (k + 1) count) [
-      | inl e ↦ omega (arith, lens-last count last k e)
-      | inr apart ↦ omega (arith, lens-full count last k apart)
-    ]
-
-pub lens-all : (chunks : List Chunk) (k : ℕ) (d : Chunk) → AreFull chunks → k < length chunks → len_at chunks k d ≡ lens_of (length chunks) (last_of chunks) k
-lens-all chunks k d full h =
-    elim (cases_eq (k + 1) (length chunks)) [
-      | inl e ↦ omega (arith, lens-last (length chunks) (last_of chunks) k e, last-len chunks k d full e)
-      | inr apart ↦ omega (arith, lens-full (length chunks) (last_of chunks) k apart, full.full k d (omega (arith, apart)))
-    ]
-
--- an entry that goes out of a chunk leaves a gap
-pub gap-out : (chunks : List Chunk) (c : ℕ) (x d : Chunk) → AreFull chunks → c < length chunks → deque_len x.entries + 1 ≡ len_at chunks c d → deque_capacity x.entries ≡ deque_capacity (get_or chunks c d).entries → HasGap (lens_of (length chunks) (last_of chunks)) c (set chunks c x)
-gap-out chunks c x d full h less cap =
-    let lens : ℕ → ℕ = lens_of (length chunks) (last_of chunks) in
-    let len : length (set chunks c x) ≡ length chunks = length-set chunks c x in
-    record {
-      within = omega (arith, len);
-      less = λ e. rw (get_or-set_same chunks c x e h) (omega (arith, less, lens-all chunks c d full h));
-      others = λ k e apart l. rw (get_or-set_other chunks c k x e apart) (lens-all chunks k e full (omega (arith, len, l)));
-      room = λ k e l. elim (cases_eq k c) [
-        | inl is ↦ rw (is, get_or-set_same chunks c x e h) (omega (arith, cap, lens-all chunks c d full h, (get_or chunks c d).entries.small.1))
-        | inr apart ↦ rw (get_or-set_other chunks c k x e apart) (omega (arith, lens-all chunks k e full (omega (arith, len, l)), (get_or chunks k e).entries.small.1))
-      ];
-    }
-
--- room for one more entry is a gap
-pub gap-room : (chunks : List Chunk) (c : ℕ) → AreFull chunks → HasRoom chunks → c + 1 ≡ length chunks → HasGap (lens_of (length chunks) (last_of chunks + 1)) c chunks
-gap-room chunks c full room h = record {
-  within = omega arith;
-  less = λ d. omega (arith, last-len chunks c d full h, lens-last (length chunks) (last_of chunks + 1) c h);
-  others = λ k d apart l. omega (arith, full.full k d (omega (arith, apart)), lens-full (length chunks) (last_of chunks + 1) k (λ e. apart (omega (arith, e, h))));
-  room = λ k d l. elim (cases_eq (k + 1) (length chunks)) [
-    | inl e ↦ omega (arith, last-len chunks k d full e, lens-last (length chunks) (last_of chunks + 1) k e, room.room k d e)
-    | inr apart ↦ omega (arith, full.full k d (omega (arith, apart)), lens-full (length chunks) (last_of chunks + 1) k apart, (get_or chunks k d).entries.small.1)
-  ];
-}
-
-pub room-last : (chunks : List Chunk) → AreFull chunks → HasRoom chunks → last_of chunks < 4096
-room-last [] full room = absurd (omega (arith, room.some))
-room-last (x ∷ chunks) full room = omega (arith, last-len (x ∷ chunks) (length chunks) x full (omega arith), room.few (length chunks) x (omega arith))
-
--- chunks whose gap is in the last one are full
-pub full-gap : (chunks : List Chunk) (count last gap : ℕ) → HasGap (lens_of count last) gap chunks → length chunks ≡ count → gap + 1 ≡ count → last ≤ 4096 → AreFull chunks
-full-gap chunks count last gap g len h most = record {
-  full = λ k d l. omega (arith, g.others k d (λ e. omega (arith, e, len, h, l)) (omega arith), lens-full count last k (λ e. omega (arith, e, len, l)));
-  most = λ k d l. elim (cases_eq k gap) [
-    | inl e ↦ rw e (omega (arith, g.less d, lens-last count last gap h, most))
-    | inr apart ↦ omega (arith, g.others k d apart l, lens-full count last k (λ e. apart (omega (arith, e, h))))
-  ];
-}
-
-gap-before : (chunks : List Chunk) (last c : ℕ) → HasGap (lens_of (length chunks) last) c chunks → (k : ℕ) (d : Chunk) → k < c → len_at chunks k d ≡ 4096
-gap-before chunks last c g k d l = omega (arith, g.within, g.others k d (λ e. omega (arith, e)) (omega (arith, g.within)), lens-full (length chunks) last k (λ e. omega (arith, e, g.within)))
-
-pub gap-place : (chunks : List Chunk) (last i : ℕ) (d : Chunk) → HasGap (lens_of (length chunks) last) (i / 4096) chunks → i ≤ length (entries_of chunks) → i % 4096 ≤ len_at chunks (i / 4096) d
-gap-place chunks last i d g h =
-    elim (cases_eq (i / 4096 + 1) (length chunks)) [
-      | inl e ↦ omega (arith, h, length-all chunks (i / 4096) d (gap-before chunks last (i / 4096) g) e)
-      | inr apart ↦ omega (arith, g.less d, lens-full (length chunks) last (i / 4096) apart)
-    ]
-
-pub filled-entries : (chunks : List Chunk) (last i : ℕ) (x d : Chunk) (e : Entry) → HasGap (lens_of (length chunks) last) (i / 4096) chunks → i ≤ length (entries_of chunks) → x.entries.items ≡ insert (get_or chunks (i / 4096) d).entries.items (i % 4096) e → entries_of (set chunks (i / 4096) x) ≡ insert (entries_of chunks) i e
-filled-entries chunks last i x d e g h is =
-    let before : length (entries_of (take (i / 4096) chunks)) ≡ (i / 4096) * 4096 = length-before chunks (i / 4096) (gap-before chunks last (i / 4096) g) (omega (arith, g.within)) in
-    let at : length (entries_of (take (i / 4096) chunks)) + i % 4096 ≡ i = omega (arith, before) in
-    insert-entries chunks (i / 4096) (i % 4096) x d e g.within (omega (arith, gap-place chunks last i d g h, (get_or chunks (i / 4096) d).entries.ok.0)) is
-    ∙ ap (λ k. insert (entries_of chunks) k e) at
-
-pub dug-entries : (chunks : List Chunk) (i : ℕ) (x d : Chunk) → AreFull chunks → i < length (entries_of chunks) → x.entries.items ≡ remove (get_or chunks (i / 4096) d).entries.items (i % 4096) → entries_of (set chunks (i / 4096) x) ≡ remove (entries_of chunks) i
-dug-entries chunks i x d full h is =
-    let w = place_within chunks i full h in
-    let before : length (entries_of (take (i / 4096) chunks)) ≡ (i / 4096) * 4096 = length-before chunks (i / 4096) (λ k e l. full.full k e (omega (arith, w.0))) (omega (arith, w.0)) in
-    let at : length (entries_of (take (i / 4096) chunks)) + i % 4096 ≡ i = omega (arith, before) in
-    remove-entries chunks (i / 4096) (i % 4096) x d w.0 (omega (arith, w.1 d, (get_or chunks (i / 4096) d).entries.ok.0)) is
-    ∙ ap (λ k. remove (entries_of chunks) k) at
+pub dropped-entries : (chunks : List Chunk) (c : ℕ) (d : Chunk) → c < length chunks → len_at chunks c d ≡ 0 → entries_of (remove chunks c) ≡ entries_of chunks
+dropped-entries [] c d h none = absurd (omega arith)
+dropped-entries (x ∷ chunks) zero d h none = rw (nil_from_length x.entries.items (omega (arith, x.entries.ok.0, none))) refl
+dropped-entries (x ∷ chunks) (suc c) d h none = ap (λ s. x.entries.items ++ s) (dropped-entries chunks c d (omega arith) none)
 
 pub ok_holds : {A E : Type 0} (P : Type 0) (r : Result A E) → is_ok r ≡ true → OnOk r P → P
 ok_holds P (Ok a) e h = h
@@ -268,12 +135,80 @@ pushed-entries chunks x part left rest is whole =
     ∙ append_assoc (entries_of chunks) (x.entries.items ++ []) left
     ∙ ap (λ s. entries_of chunks ++ s) (ap (λ s. s ++ left) (append-nil x.entries.items ∙ is) ∙ whole)
 
-pub pushed-full : (chunks : List Chunk) (x : Chunk) → ((k : ℕ) (d : Chunk) → k < length chunks → len_at chunks k d ≡ 4096) → length x.entries.items ≡ 4096 → (k : ℕ) (d : Chunk) → k < length (chunks ++ x ∷ []) → len_at (chunks ++ x ∷ []) k d ≡ 4096
-pushed-full chunks x all one k d l =
+pub pushed-some : (chunks : List Chunk) (x : Chunk) → ((k : ℕ) (d : Chunk) → k < length chunks → 0 < len_at chunks k d) → HaveEntries (chunks ++ x ∷ [])
+pushed-some chunks x all k d l =
+    let len : length (chunks ++ x ∷ []) ≡ length chunks + 1 = length_push chunks x in
+    rw (get_or_append_left chunks (x ∷ []) d k (omega (arith, len, l))) (all k d (omega (arith, len, l)))
+
+pub pushed-all : (chunks : List Chunk) (x : Chunk) → ((k : ℕ) (d : Chunk) → k < length chunks → 0 < len_at chunks k d) → 0 < length x.entries.items → (k : ℕ) (d : Chunk) → k < length (chunks ++ x ∷ []) → 0 < len_at (chunks ++ x ∷ []) k d
+pushed-all chunks x all one k d l =
     let len : length (chunks ++ x ∷ []) ≡ length chunks + 1 = length_push chunks x in
     elim (cases_eq k (length chunks)) [
       | inl e ↦
           let at : get_or (chunks ++ x ∷ []) k d ≡ x = ap (λ j. get_or (chunks ++ x ∷ []) j d) (omega (arith, e)) ∙ get_or-append-add chunks (x ∷ []) 0 d in
-          rw at (x.entries.ok.0 ∙ one)
+          rw at (omega (arith, x.entries.ok.0, one))
       | inr apart ↦ rw (get_or_append_left chunks (x ∷ []) d k (omega (arith, len, l, apart))) (all k d (omega (arith, len, l, apart)))
     ]
+
+-- ---- places
+
+pub chunk-within : (chunks : List Chunk) (c j : ℕ) → before_chunk chunks c + j < length (entries_of chunks) → c < length chunks
+chunk-within [] c j h = absurd (omega arith)
+chunk-within (x ∷ chunks) zero j h = omega arith
+chunk-within (x ∷ chunks) (suc c) j h = omega (arith, chunk-within chunks c j (omega (arith, h, length-append x.entries.items (entries_of (take c chunks)), length-append x.entries.items (entries_of chunks))))
+
+pub chunk-order : (chunks : List Chunk) (a b : Place) → IsPlace chunks a → IsPlace chunks b → rank_in chunks b ≤ rank_in chunks a → b.chunk ≤ a.chunk
+chunk-order [] a b p q order = absurd (omega (arith, p.gap.within))
+chunk-order (x ∷ chunks) a b p q order = elim (le_or b.chunk a.chunk) [
+  | inl le ↦ le
+  | inr less ↦ absurd (omega (arith, order, p.inner x (omega (arith, less, q.gap.within)), before-next (x ∷ chunks) a.chunk x p.gap.within, before-later (x ∷ chunks) (a.chunk + 1) b.chunk (omega (arith, less))))
+]
+
+-- a chunk without room is not the one that has it
+pub room-later : (chunks : List Chunk) (k : ℕ) (r : HasRoomFrom k chunks) → ((d : Chunk) → capacity_at chunks k d ≤ len_at chunks k d) → k + 1 ≤ r.at
+room-later [] k r full = absurd (omega (arith, r.within))
+room-later (x ∷ chunks) k r full = elim (cases_eq k r.at) [
+  | inl e ↦ absurd (omega (arith, full x, subst (λ j. len_at (x ∷ chunks) j x < capacity_at (x ∷ chunks) j x) (sym e) (r.room x)))
+  | inr apart ↦ omega (arith, apart, r.behind)
+]
+
+-- ---- the last entry of a chunk
+
+pub len-some : (chunks : List Chunk) (c n : ℕ) → HaveEntries chunks → c + 1 < length chunks → ((d : Chunk) → n ≡ len_at chunks c d) → 0 < n
+len-some [] c n some h is = absurd (omega arith)
+len-some (x ∷ chunks) c n some h is = omega (arith, some c x h, is x)
+
+pub before-len : (chunks : List Chunk) (c n : ℕ) → c < length chunks → ((d : Chunk) → n ≡ len_at chunks c d) → before_chunk chunks (c + 1) ≡ before_chunk chunks c + n
+before-len [] c n h is = absurd (omega arith)
+before-len (x ∷ chunks) c n h is = omega (arith, before-next (x ∷ chunks) c x h, is x)
+
+-- ---- the rank of an entry, and that of the place past all entries
+
+pub rank-within : (chunks : List Chunk) (c at : ℕ) → c < length chunks → ((d : Chunk) → at < len_at chunks c d) → before_chunk chunks c + at < length (entries_of chunks)
+rank-within [] c at h less = absurd (omega arith)
+rank-within (x ∷ chunks) c at h less = omega (arith, before-next (x ∷ chunks) c x h, before-most (x ∷ chunks) (c + 1), less x)
+
+pub rank-end : (chunks : List Chunk) (c n : ℕ) → c < length chunks → ((d : Chunk) → n ≡ len_at chunks c d) → length chunks ≤ c + 1 → before_chunk chunks c + n ≡ length (entries_of chunks)
+rank-end chunks c n h is last = sym (before-len chunks c n h is) ∙ before-all chunks (c + 1) last
+
+pub place-end : (chunks : List Chunk) (p : Place) (n : ℕ) → IsPlace chunks p → ((d : Chunk) → n ≡ len_at chunks p.chunk d) → p.at ≡ n → rank_in chunks p ≡ length (entries_of chunks)
+place-end [] p n place is e = absurd (omega (arith, place.gap.within))
+place-end (x ∷ chunks) p n place is e = elim (le_or (length (x ∷ chunks)) (p.chunk + 1)) [
+  | inl last ↦ ap (λ k. before_chunk (x ∷ chunks) p.chunk + k) e ∙ rank-end (x ∷ chunks) p.chunk n place.gap.within is last
+  | inr less ↦ absurd (omega (arith, place.inner x less, is x, e))
+]
+
+pub rank-most : (chunks : List Chunk) (p : Place) → IsGap chunks p → rank_in chunks p ≤ length (entries_of chunks)
+rank-most [] p gap = absurd (omega (arith, gap.within))
+rank-most (x ∷ chunks) p gap = omega (arith, before-next (x ∷ chunks) p.chunk x gap.within, before-most (x ∷ chunks) (p.chunk + 1), gap.most x)
+
+pub at-most : (chunks : List Chunk) (p : Place) (n : ℕ) → IsGap chunks p → ((d : Chunk) → n ≡ len_at chunks p.chunk d) → p.at ≤ n
+at-most [] p n gap is = absurd (omega (arith, gap.within))
+at-most (x ∷ chunks) p n gap is = omega (arith, gap.most x, is x)
+
+-- a place before the end is that of an entry
+pub place-there : (chunks : List Chunk) (p : Place) → IsPlace chunks p → rank_in chunks p < length (entries_of chunks) → (d : Chunk) → p.at < len_at chunks p.chunk d
+place-there chunks p place h d = elim (le_or (length chunks) (p.chunk + 1)) [
+  | inl last ↦ omega (arith, h, before-next chunks p.chunk d place.gap.within, before-all chunks (p.chunk + 1) last)
+  | inr less ↦ place.inner d less
+]

@@ -32,6 +32,16 @@ position_within n run k d all h = omega (arith, at_position run k d h, all k 0 (
 pub before_at : (at : ℕ → Value) (v : Value) (p : ℕ) (run : List Entry) (k : ℕ) (d : Entry) (b t : Bool) → k < length run → b ≡ comes_before at v p (get_or run k d).position → b ≡ t → comes_before at v p (get_or (positions run) k 0) ≡ t
 before_at at v p run k d b t h e f = ap (λ q. comes_before at v p q) (at_position run k d h) ∙ sym e ∙ f
 
+-- an entry that stands in the run
+pub entry_within : (n : ℕ) (run : List Entry) (k : ℕ) (e : Entry) → ArePositions n (positions run) → k < length run → e ≡ get_or run k e → e.position < n
+entry_within n run k e all h is = subst (λ (x : Entry). x.position < n) (sym is) (position_within n run k e all h)
+
+pub entry_lead : (at : ℕ → Value) (run : List Entry) (k : ℕ) (e : Entry) → HaveLeads at run → k < length run → e ≡ get_or run k e → IsLead e.lead (at e.position)
+entry_lead at run k e leads h is = subst (λ (x : Entry). IsLead x.lead (at x.position)) (sym is) (leads k e h)
+
+pub entry_before : (at : ℕ → Value) (v : Value) (p : ℕ) (run : List Entry) (k : ℕ) (e : Entry) (b t : Bool) → k < length run → e ≡ get_or run k e → b ≡ comes_before at v p e.position → b ≡ t → comes_before at v p (get_or (positions run) k 0) ≡ t
+entry_before at v p run k e b t h is one two = before_at at v p run k e b t h (one ∙ ap (λ (x : Entry). comes_before at v p x.position) is) two
+
 -- the first ones and one more
 pub below_more : (at : ℕ → Value) (v : Value) (top : ℕ) (run : List ℕ) (first : ℕ)
     → ((k : ℕ) → k < first → comes_before at v 0 (get_or run k 0) ≡ true) → comes_before at v top (get_or run first 0) ≡ true

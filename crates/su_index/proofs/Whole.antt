@@ -24,7 +24,7 @@ pub indexes_first : (rows more new : List (List Value)) (n : ℕ) (indexes : Lis
 indexes_first rows more new n indexes le e all column d h =
     rw e (record {
       entries = index_with-same (value_at rows column) (value_at (rows ++ more) column) n _ (λ p l. value_at-first rows more column p (omega arith)) (all column d h).entries;
-      full = (all column d h).full;
+      some = (all column d h).some;
     })
 
 -- the last row moved to position i
@@ -57,7 +57,7 @@ indexed_removed old new i row indexes h small e count all =
       small = omega arith;
       indexes = λ column d l. rw (len, e) (record {
         entries = index_with-same _ (value_at (swap_remove old.rows i row) column) (length old.rows - 1) _ (λ p m. value_at-swap_remove old.rows i row column p h (omega arith)) (all column d l).entries;
-        full = (all column d l).full;
+        some = (all column d l).some;
       });
     }
 
@@ -68,7 +68,7 @@ indexed_none new indexes e count none = record {
   small = rw e (omega arith);
   indexes = λ column d l. rw e (record {
     entries = rw (none column d l) (index_with-run (value_at [] column) 0 [] (empty_run_with (value_at [] column)) refl (omega arith));
-    full = rw (none column d l) (record { full = λ k f h. absurd (omega arith); most = λ k f h. absurd (omega arith) });
+    some = rw (none column d l) (λ k e h. absurd (omega arith));
   });
 }
 
@@ -127,6 +127,6 @@ indexed_kept old new kept indexes news i e rows width count all =
           let both = all column d h in
           rw (len, rows) (record {
             entries = rw both.0 (index_with-kept kept (value_at old.rows column) (value_at (items_where_true kept old.rows) column) (λ p k. ap (λ row. get_or row column (Int (pos 0))) (kept_row kept old.rows p [] e k)) (length old.rows) _ (i.indexes column d (omega arith)).entries);
-            full = both.1;
+            some = both.1;
           });
     }

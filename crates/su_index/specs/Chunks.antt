@@ -1,11 +1,11 @@
--- How an index keeps its entries: in chunks of 4096, of which only the last may have fewer.
--- entries of chunks: those of one chunk after another
--- gap: the one chunk that has an entry less than it is to have
-use Rattle.std.specs.Prelude.{◌≡◌, ◌≢◌, ◌<◌, ◌≤◌, ◌+◌, ℕ, List, length, slice_index_or, cond, nat_eq}
-use Rattle.std.specs.List.{flat_map}
+-- How an index is cut into chunks.
+-- chunk: entries that follow one another, as many as it has memory for at most
+-- place: where an entry stands, or past the last one of a chunk; rank: how many entries stand before it
+use Rattle.std.specs.Prelude.{◌<◌, ◌≤◌, ◌+◌, ◌-◌, ℕ, List, length, take, slice_index_or, flat_map}
 use Rattle.std.specs.VecDeque.{deque_len, deque_capacity}
 use Rattle.su_index.specs.declared.entry.Entry.{Entry}
 use Rattle.su_index.specs.declared.chunk.Chunk.{Chunk}
+use Rattle.su_index.specs.declared.place.Place.{Place}
 
 -- the entries of the chunks
 abbrev pub entries_of : List Chunk → List Entry
@@ -18,24 +18,35 @@ len_at chunks k d = deque_len (slice_index_or chunks k d).entries
 abbrev pub capacity_at : List Chunk → ℕ → Chunk → ℕ
 capacity_at chunks k d = deque_capacity (slice_index_or chunks k d).entries
 
--- each chunk but the last is full
-pub record AreFull (chunks : List Chunk) : Type 0 where
-  pub full : (k : ℕ) (d : Chunk) → k + 1 < length chunks → len_at chunks k d ≡ 4096
-  pub most : (k : ℕ) (d : Chunk) → k < length chunks → len_at chunks k d ≤ 4096
+-- how many entries stand before the k-th chunk
+abbrev pub before_chunk : List Chunk → ℕ → ℕ
+before_chunk chunks k = length (entries_of (take k chunks))
 
--- the last chunk can take one more entry without memory
-pub record HasRoom (chunks : List Chunk) : Type 0 where
-  pub some : 0 < length chunks
-  pub few : (k : ℕ) (d : Chunk) → k + 1 ≡ length chunks → len_at chunks k d < 4096
-  pub room : (k : ℕ) (d : Chunk) → k + 1 ≡ length chunks → len_at chunks k d < capacity_at chunks k d
+-- how many entries stand before the place
+abbrev pub rank_in : List Chunk → Place → ℕ
+rank_in chunks p = before_chunk chunks p.chunk + p.at
 
--- of `count` chunks each but the last has 4096 entries
-abbrev pub lens_of : ℕ → ℕ → ℕ → ℕ
-lens_of count last k = cond (nat_eq (k + 1) count) last 4096
+-- each chunk but the last has an entry
+abbrev pub HaveEntries : List Chunk → Type 0
+HaveEntries chunks = (k : ℕ) (d : Chunk) → k + 1 < length chunks → 0 < len_at chunks k d
 
--- each chunk has as many entries as it is to have, but for the gap, and memory for all of them
-pub record HasGap (lens : ℕ → ℕ) (gap : ℕ) (chunks : List Chunk) : Type 0 where
-  pub within : gap < length chunks
-  pub less : (d : Chunk) → len_at chunks gap d + 1 ≡ lens gap
-  pub others : (k : ℕ) (d : Chunk) → k ≢ gap → k < length chunks → len_at chunks k d ≡ lens k
-  pub room : (k : ℕ) (d : Chunk) → k < length chunks → lens k ≤ capacity_at chunks k d
+-- an entry can be put in at the place
+pub record IsGap (chunks : List Chunk) (p : Place) : Type 0 where
+  pub within : p.chunk < length chunks
+  pub most : (d : Chunk) → p.at ≤ len_at chunks p.chunk d
+
+-- the same, where the place past the last entry of a chunk is named as the first of the next one
+pub record IsPlace (chunks : List Chunk) (p : Place) : Type 0 where
+  pub gap : IsGap chunks p
+  pub inner : (d : Chunk) → p.chunk + 1 < length chunks → p.at < len_at chunks p.chunk d
+
+-- a chunk from the k-th on can take one more entry without memory
+pub record HasRoomFrom (k : ℕ) (chunks : List Chunk) : Type 0 where
+  pub at : ℕ
+  pub behind : k ≤ at
+  pub within : at < length chunks
+  pub room : (d : Chunk) → len_at chunks at d < capacity_at chunks at d
+
+-- the last chunk can
+abbrev pub HasRoom : List Chunk → Type 0
+HasRoom chunks = HasRoomFrom (length chunks - 1) chunks

@@ -4,7 +4,7 @@ use Rattle.su_base.specs.declared.values.Value.{Value}
 use Rattle.su_rel.specs.Stored.{Stored}
 use Rattle.su_index.specs.declared.entry.Entry.{Entry}
 use Rattle.su_index.specs.declared.index.Index.{Index}
-use Rattle.su_index.specs.Chunks.{entries_of, AreFull, HasRoom}
+use Rattle.su_index.specs.Chunks.{entries_of, HaveEntries, HasRoom}
 use Rattle.su_index.specs.Entries.{positions, kept_entries, IsIndexWithLeads}
 use Rattle.su_index.specs.Order.{value_at, ArePositions}
 
@@ -15,7 +15,7 @@ entries_in index = entries_of index.chunks.items
 -- an index where `at` gives the value at each position
 pub record IsIndexAt (at : ℕ → Value) (n : ℕ) (index : Index) : Type 0 where
   pub entries : IsIndexWithLeads at n (entries_in index)
-  pub full : AreFull index.chunks.items
+  pub some : HaveEntries index.chunks.items
 
 -- the index of the column, over the rows before the n-th
 abbrev pub IsIndexBelow : List (List Value) → ℕ → ℕ → Index → Type 0
@@ -44,7 +44,7 @@ abbrev pub AreKept : List Bool → List Index → List Index → Type 0
 AreKept kept old new =
     (column : ℕ) (d : Index) → column < length new
     → (entries_in (slice_index_or new column d) ≡ kept_entries kept (entries_in (slice_index_or old column d)))
-    × AreFull (slice_index_or new column d).chunks.items
+    × HaveEntries (slice_index_or new column d).chunks.items
 
 -- the positions of each index are below n
 abbrev pub HavePositions : ℕ → List Index → Type 0

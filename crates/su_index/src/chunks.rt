@@ -1,27 +1,38 @@
-//! The entries of an index in chunks of one size. The i-th entry is found by a division; one that goes in
-//! or out moves the entries of its own chunk, and one entry of each chunk behind it.
-ghost use Rattle.std.specs.Prelude.{◌≡◌, ◌<◌, ◌≤◌, ◌+◌, ◌++◌, ◌-◌, ◌*◌, ◌/◌, ℕ, length, slice_index_or, IfOk, OnOk};
+//! The entries of an index in chunks. An entry that goes out moves entries of its own chunk alone. One
+//! that goes into a chunk without room sends the last entry of that chunk on to the next one, and so on
+//! up to the first chunk with room.
+ghost use Rattle.std.specs.Prelude.{◌≡◌, ◌≢◌, ◌<◌, ◌≤◌, ◌+◌, ◌++◌, ◌-◌, ◌^◌, ◌∷◌, [], ℕ, length, slice_index_or, IfOk, OnOk};
 ghost use Rattle.std.specs.Bool.{OnTrue, OnFalse};
 ghost use Rattle.std.specs.List.{insert, remove};
-ghost use Rattle.su_index.specs.Chunks.{entries_of, len_at, capacity_at, AreFull, HasRoom, HasGap, lens_of};
+ghost use Rattle.std.specs.VecDeque.{deque_len, deque_capacity};
+ghost use Rattle.su_index.specs.Chunks.{entries_of, len_at, capacity_at, before_chunk, rank_in, HaveEntries, IsGap, IsPlace, HasRoom, HasRoomFrom};
 ghost use Rattle.su_index.specs.declared.chunk.Chunk.{Chunk as Piece};
 
 use crate::chunk::Chunk;
 use crate::entry::Entry;
+use crate::place::Place;
 use std::alloc::Global;
 use std::collections::VecDeque;
 use su_base::NoMemory;
 
-/// How many entries a full chunk has.
-const FULL: usize = 4096;
+/// How many entries a chunk has at most.
+const FULL: usize = 2048;
 
-/// The i-th entry.
-pub(crate) fn entry(chunks: &[Chunk], i: usize) -> Entry
-    requires full { AreFull chunks.now }
-    requires within { i < length (entries_of chunks.now) }
-    ensures { result ≡ slice_index_or (entries_of chunks.now) i result }
+/// The entry at the place.
+pub(crate) fn entry(chunks: &[Chunk], place: Place) -> Entry
+    requires within { place.chunk < length chunks.now }
+    requires there { (d : Piece) → place.at < len_at chunks.now place.chunk d }
+    ensures { result ≡ slice_index_or (entries_of chunks.now) (rank_in chunks.now place) result }
 {
-    chunks[i / FULL].entries[i % FULL]
+    chunks[place.chunk].entries[place.at]
+}
+
+/// How many entries the chunk has.
+pub(crate) fn len_of(chunks: &[Chunk], chunk: usize) -> usize
+    requires { chunk < length chunks.now }
+    ensures { (d : Piece) → result ≡ len_at chunks.now chunk d }
+{
+    chunks[chunk].entries.len()
 }
 
 /// A chunk of the entries.
@@ -37,9 +48,9 @@ fn chunk_of(alloc: Global, entries: &[Entry]) -> Result<Chunk, NoMemory>
 
 /// The entries of a full chunk, and those behind them.
 fn parted(entries: &[Entry]) -> (&[Entry], &[Entry])
-    requires { 4096 < length entries.now }
+    requires { 2048 < length entries.now }
     ensures parts { result.0.now ++ result.1.now ≡ entries.now }
-    ensures len { length result.0.now ≡ 4096 }
+    ensures len { length result.0.now ≡ 2048 }
     ensures fewer { length result.1.now < length entries.now }
 {
     entries.split_at(FULL)
@@ -48,7 +59,7 @@ fn parted(entries: &[Entry]) -> (&[Entry], &[Entry])
 /// The entries in chunks.
 pub(crate) fn chunks_of(alloc: Global, entries: &[Entry]) -> Result<Vec<Chunk>, NoMemory>
     ensures entries { IfOk result (λ chunks. entries_of chunks.items ≡ entries.now) }
-    ensures full { IfOk result (λ chunks. AreFull chunks.items) }
+    ensures some { IfOk result (λ chunks. HaveEntries chunks.items) }
 {
     let mut chunks = Vec::with_capacity(alloc, entries.len() / FULL + 1)?;
     let mut rest = entries;
@@ -82,9 +93,9 @@ pub(crate) fn flat(alloc: Global, chunks: &[Chunk], count: usize) -> Result<Vec<
 
 /// Whether the last chunk may have more entries.
 fn is_open(chunks: &[Chunk]) -> bool
-    requires full { AreFull chunks.now }
-    ensures open { OnTrue result ((0 < length chunks.now) × ((k : ℕ) (d : Piece) → k + 1 ≡ length chunks.now → len_at chunks.now k d < 4096)) }
-    ensures full { OnFalse result ((k : ℕ) (d : Piece) → k < length chunks.now → len_at chunks.now k d ≡ 4096) }
+    requires some { HaveEntries chunks.now }
+    ensures open { OnTrue result (0 < length chunks.now) }
+    ensures some { OnFalse result ((k : ℕ) (d : Piece) → k < length chunks.now → 0 < len_at chunks.now k d) }
 {
     let count = chunks.len();
     if count == 0 {
@@ -95,9 +106,9 @@ fn is_open(chunks: &[Chunk]) -> bool
 
 /// Makes room for one more entry.
 pub(crate) fn make_room(alloc: Global, chunks: &mut Vec<Chunk>) -> Result<(), NoMemory>
-    requires full { AreFull chunks.old.items }
+    requires some { HaveEntries chunks.old.items }
     ensures entries { entries_of chunks.new.items ≡ entries_of chunks.old.items }
-    ensures full { AreFull chunks.new.items }
+    ensures some { HaveEntries chunks.new.items }
     ensures room { OnOk result (HasRoom chunks.new.items) }
 {
     if is_open(chunks.as_slice()) {
@@ -112,138 +123,166 @@ pub(crate) fn make_room(alloc: Global, chunks: &mut Vec<Chunk>) -> Result<(), No
     Ok(())
 }
 
-/// Moves the gap to the next chunk, whose first entry comes into this one.
-fn carry_back(chunks: &mut Vec<Chunk>, k: usize)
-    requires within { k + 1 < length chunks.old.items }
-    requires some { (d : Piece) → 0 < len_at chunks.old.items (k + 1) d }
-    requires room { (d : Piece) → len_at chunks.old.items k d < capacity_at chunks.old.items k d }
-    ensures count { length chunks.new.items ≡ length chunks.old.items }
-    ensures entries { entries_of chunks.new.items ≡ entries_of chunks.old.items }
-    ensures gap { (lens : ℕ → ℕ) → HasGap lens k chunks.old.items → HasGap lens (k + 1) chunks.new.items }
+/// Whether the entries need less than a quarter of the chunks.
+pub(crate) fn is_sparse(chunks: &[Chunk], count: usize) -> bool {
+    chunks.len() / 4 > count / FULL + 1
+}
+
+/// Puts the entry in, and takes the last one out, which may be the entry itself.
+fn push_through(held: &mut VecDeque<Entry>, at: usize, entry: Entry) -> Entry
+    requires { at ≤ deque_len held.old }
+    ensures items { held.new.items ++ result ∷ [] ≡ insert held.old.items at entry }
+    ensures len { deque_len held.new ≡ deque_len held.old }
+    ensures capacity { deque_capacity held.old ≤ deque_capacity held.new }
 {
-    match chunks[k + 1].entries.pop_front() {
-        Some(entry) => chunks[k].entries.push_back_reserved(entry),
+    if at == held.len() {
+        return entry;
+    }
+    match held.pop_back() {
+        Some(last) => {
+            if held.insert(at, entry).is_err() {
+                unreachable!();
+            }
+            last
+        }
         None => unreachable!(),
     }
 }
 
-/// Moves the gap from the next chunk to this one, whose last entry goes into the next.
-fn carry_on(chunks: &mut Vec<Chunk>, k: usize)
-    requires within { k + 1 < length chunks.old.items }
-    requires some { (d : Piece) → 0 < len_at chunks.old.items k d }
-    requires room { (d : Piece) → len_at chunks.old.items (k + 1) d < capacity_at chunks.old.items (k + 1) d }
+/// Puts the entry in at the place, and takes the last one of the chunk out: it is to come first in the
+/// next chunk.
+fn displace(chunks: &mut Vec<Chunk>, place: Place, entry: Entry) -> Entry
+    requires place { IsGap chunks.old.items place }
     ensures count { length chunks.new.items ≡ length chunks.old.items }
-    ensures entries { entries_of chunks.new.items ≡ entries_of chunks.old.items }
-    ensures gap { (lens : ℕ → ℕ) → HasGap lens (k + 1) chunks.old.items → HasGap lens k chunks.new.items }
+    ensures entries { insert (entries_of chunks.new.items) (before_chunk chunks.new.items (place.chunk + 1)) result ≡ insert (entries_of chunks.old.items) (rank_in chunks.old.items place) entry }
+    ensures lens { (k : ℕ) (d : Piece) → len_at chunks.new.items k d ≡ len_at chunks.old.items k d }
+    ensures capacities { (k : ℕ) (d : Piece) → capacity_at chunks.old.items k d ≤ capacity_at chunks.new.items k d }
 {
-    match chunks[k].entries.pop_back() {
-        Some(entry) => chunks[k + 1].entries.push_front_reserved(entry),
-        None => unreachable!(),
-    }
+    push_through(&mut chunks[place.chunk].entries, place.at, entry)
 }
 
-/// Moves the gap to the last chunk.
-fn carry_to_end(chunks: &mut Vec<Chunk>, from: usize)
-    requires gap { (lens : ℕ → ℕ) × HasGap lens from chunks.old.items × ((k : ℕ) → 0 < lens k) }
+/// Whether the chunk can take no entry without memory.
+fn is_full(chunks: &[Chunk], chunk: usize) -> bool
+    requires { chunk < length chunks.now }
+    ensures full { OnTrue result ((d : Piece) → capacity_at chunks.now chunk d ≤ len_at chunks.now chunk d) }
+    ensures room { OnFalse result ((d : Piece) → len_at chunks.now chunk d < capacity_at chunks.now chunk d) }
+{
+    chunks[chunk].entries.len() >= chunks[chunk].entries.capacity()
+}
+
+/// Puts an entry in at the place, in a chunk that has room.
+fn fill(chunks: &mut Vec<Chunk>, place: Place, entry: Entry)
+    requires place { IsGap chunks.old.items place }
+    requires room { (d : Piece) → len_at chunks.old.items place.chunk d < capacity_at chunks.old.items place.chunk d }
     ensures count { length chunks.new.items ≡ length chunks.old.items }
-    ensures entries { entries_of chunks.new.items ≡ entries_of chunks.old.items }
-    ensures gap { (lens : ℕ → ℕ) → HasGap lens from chunks.old.items → HasGap lens (length chunks.old.items - 1) chunks.new.items }
+    ensures entries { entries_of chunks.new.items ≡ insert (entries_of chunks.old.items) (rank_in chunks.old.items place) entry }
+    ensures lens { (k : ℕ) (d : Piece) → len_at chunks.old.items k d ≤ len_at chunks.new.items k d }
 {
-    let end = chunks.len() - 1;
-    let mut k = from;
-    while k < end {
-        carry_back(chunks, k);
-        k += 1;
-    }
-}
-
-/// Moves the gap to an earlier chunk.
-fn carry_down(chunks: &mut Vec<Chunk>, from: usize, to: usize)
-    requires order { to ≤ from }
-    requires gap { (lens : ℕ → ℕ) × HasGap lens from chunks.old.items × ((k : ℕ) → 0 < lens k) }
-    ensures count { length chunks.new.items ≡ length chunks.old.items }
-    ensures entries { entries_of chunks.new.items ≡ entries_of chunks.old.items }
-    ensures gap { (lens : ℕ → ℕ) → HasGap lens from chunks.old.items → HasGap lens to chunks.new.items }
-{
-    let mut k = from;
-    while k > to {
-        k -= 1;
-        carry_on(chunks, k);
-    }
-}
-
-/// Leaves an empty last chunk out.
-fn trim(chunks: &mut Vec<Chunk>)
-    requires full { AreFull chunks.old.items }
-    ensures entries { entries_of chunks.new.items ≡ entries_of chunks.old.items }
-    ensures full { AreFull chunks.new.items }
-    ensures some { (k : ℕ) (d : Piece) → k < length chunks.new.items → 0 < len_at chunks.new.items k d }
-{
-    let count = chunks.len();
-    if count > 0 && chunks[count - 1].entries.is_empty() {
-        let _chunk = chunks.pop();
-    }
-}
-
-/// Takes the entry at the place out of its chunk.
-fn dig(chunks: &mut Vec<Chunk>, i: usize)
-    requires full { AreFull chunks.old.items }
-    requires some { (k : ℕ) (d : Piece) → k < length chunks.old.items → 0 < len_at chunks.old.items k d }
-    requires within { i < length (entries_of chunks.old.items) }
-    ensures count { length chunks.new.items ≡ length chunks.old.items }
-    ensures entries { entries_of chunks.new.items ≡ remove (entries_of chunks.old.items) i }
-    ensures gap { HasGap (lens_of (length chunks.old.items) (length (entries_of chunks.old.items) - (length chunks.old.items - 1) * 4096)) (i / 4096) chunks.new.items }
-{
-    let _entry = chunks[i / FULL].entries.remove(i % FULL);
-}
-
-/// Puts an entry where the gap is.
-fn fill(chunks: &mut Vec<Chunk>, i: usize, entry: Entry)
-    requires gap { (last : ℕ) × HasGap (lens_of (length chunks.old.items) last) (i / 4096) chunks.old.items × (last ≤ 4096) }
-    requires within { i ≤ length (entries_of chunks.old.items) }
-    ensures entries { entries_of chunks.new.items ≡ insert (entries_of chunks.old.items) i entry }
-    ensures full { AreFull chunks.new.items }
-{
-    if chunks[i / FULL].entries.insert(i % FULL, entry).is_err() {
+    if chunks[place.chunk].entries.insert(place.at, entry).is_err() {
         unreachable!();
     }
 }
 
-/// Takes the i-th entry out.
-pub(crate) fn take_at(chunks: &mut Vec<Chunk>, i: usize)
-    requires full { AreFull chunks.old.items }
-    requires within { i < length (entries_of chunks.old.items) }
-    ensures entries { entries_of chunks.new.items ≡ remove (entries_of chunks.old.items) i }
-    ensures full { AreFull chunks.new.items }
+/// Puts an entry in at the place.
+pub(crate) fn put_at(chunks: &mut Vec<Chunk>, place: Place, entry: Entry)
+    requires place { IsGap chunks.old.items place }
+    requires room { HasRoomFrom place.chunk chunks.old.items }
+    ensures count { length chunks.new.items ≡ length chunks.old.items }
+    ensures entries { entries_of chunks.new.items ≡ insert (entries_of chunks.old.items) (rank_in chunks.old.items place) entry }
+    ensures lens { (k : ℕ) (d : Piece) → len_at chunks.old.items k d ≤ len_at chunks.new.items k d }
 {
-    trim(chunks);
-    dig(chunks, i);
-    carry_to_end(chunks, i / FULL);
+    let mut place = place;
+    let mut entry = entry;
+    while is_full(chunks.as_slice(), place.chunk) {
+        entry = displace(chunks, place, entry);
+        place = Place {
+            chunk: place.chunk + 1,
+            at: 0,
+        };
+    }
+    fill(chunks, place, entry);
 }
 
-/// Puts an entry in as the i-th one.
-pub(crate) fn put_at(chunks: &mut Vec<Chunk>, i: usize, entry: Entry)
-    requires full { AreFull chunks.old.items }
-    requires room { HasRoom chunks.old.items }
-    requires within { i ≤ length (entries_of chunks.old.items) }
-    ensures entries { entries_of chunks.new.items ≡ insert (entries_of chunks.old.items) i entry }
-    ensures full { AreFull chunks.new.items }
+/// Takes the entry at the place out of its chunk.
+fn dig(chunks: &mut Vec<Chunk>, place: Place)
+    requires within { place.chunk < length chunks.old.items }
+    requires there { (d : Piece) → place.at < len_at chunks.old.items place.chunk d }
+    ensures count { length chunks.new.items ≡ length chunks.old.items }
+    ensures entries { entries_of chunks.new.items ≡ remove (entries_of chunks.old.items) (rank_in chunks.old.items place) }
+    ensures before { (k : ℕ) → k ≤ place.chunk → before_chunk chunks.new.items k ≡ before_chunk chunks.old.items k }
+    ensures len { (d : Piece) → len_at chunks.new.items place.chunk d + 1 ≡ len_at chunks.old.items place.chunk d }
+    ensures lens { (k : ℕ) (d : Piece) → k ≢ place.chunk → len_at chunks.new.items k d ≡ len_at chunks.old.items k d }
+    ensures room { (d : Piece) → len_at chunks.new.items place.chunk d < capacity_at chunks.new.items place.chunk d }
 {
-    let end = chunks.len() - 1;
-    carry_down(chunks, end, i / FULL);
-    fill(chunks, i, entry);
+    let _entry = chunks[place.chunk].entries.remove(place.at);
 }
 
-/// Takes the entry at `from` out, and puts one in as the `to`-th, which is no later.
-pub(crate) fn shift(chunks: &mut Vec<Chunk>, from: usize, to: usize, entry: Entry)
-    requires full { AreFull chunks.old.items }
-    requires within { from < length (entries_of chunks.old.items) }
-    requires order { to ≤ from }
-    ensures entries { entries_of chunks.new.items ≡ insert (remove (entries_of chunks.old.items) from) to entry }
-    ensures full { AreFull chunks.new.items }
+/// Lets the chunk go, if it has no entry.
+fn drop_empty(chunks: &mut Vec<Chunk>, chunk: usize)
+    requires within { chunk < length chunks.old.items }
+    requires others { (k : ℕ) (d : Piece) → k ≢ chunk → k + 1 < length chunks.old.items → 0 < len_at chunks.old.items k d }
+    ensures entries { entries_of chunks.new.items ≡ entries_of chunks.old.items }
+    ensures some { HaveEntries chunks.new.items }
 {
-    trim(chunks);
+    if chunks[chunk].entries.is_empty() {
+        let _chunk = chunks.remove(chunk);
+    }
+}
+
+/// Takes the entry at the place out.
+pub(crate) fn take_at(chunks: &mut Vec<Chunk>, place: Place)
+    requires some { HaveEntries chunks.old.items }
+    requires within { place.chunk < length chunks.old.items }
+    requires there { (d : Piece) → place.at < len_at chunks.old.items place.chunk d }
+    ensures entries { entries_of chunks.new.items ≡ remove (entries_of chunks.old.items) (rank_in chunks.old.items place) }
+    ensures some { HaveEntries chunks.new.items }
+{
+    dig(chunks, place);
+    drop_empty(chunks, place.chunk);
+}
+
+/// Takes the entry at `from` out, and puts one in at `to`, which is no later.
+pub(crate) fn shift(chunks: &mut Vec<Chunk>, from: Place, to: Place, entry: Entry)
+    requires some { HaveEntries chunks.old.items }
+    requires within { from.chunk < length chunks.old.items }
+    requires there { (d : Piece) → from.at < len_at chunks.old.items from.chunk d }
+    requires place { IsPlace chunks.old.items to }
+    requires order { rank_in chunks.old.items to ≤ rank_in chunks.old.items from }
+    ensures entries { entries_of chunks.new.items ≡ insert (remove (entries_of chunks.old.items) (rank_in chunks.old.items from)) (rank_in chunks.old.items to) entry }
+    ensures some { HaveEntries chunks.new.items }
+{
     dig(chunks, from);
-    carry_down(chunks, from / FULL, to / FULL);
-    fill(chunks, to, entry);
+    put_at(chunks, to, entry);
+    drop_empty(chunks, from.chunk);
+}
+
+/// How many entries stand from one place up to another.
+pub(crate) fn between(chunks: &[Chunk], first: Place, past: Place) -> usize
+    requires first { IsPlace chunks.now first }
+    requires past { IsPlace chunks.now past }
+    requires order { rank_in chunks.now first ≤ rank_in chunks.now past }
+    requires small { length (entries_of chunks.now) < 2 ^ 32 }
+    ensures { result + rank_in chunks.now first ≡ rank_in chunks.now past }
+{
+    let mut count = past.at;
+    for k in first.chunk..past.chunk {
+        count += chunks[k].entries.len();
+    }
+    count - first.at
+}
+
+/// The entry that stands `k` behind the place.
+pub(crate) fn entry_behind(chunks: &[Chunk], place: Place, k: usize) -> Entry
+    requires place { IsGap chunks.now place }
+    requires within { rank_in chunks.now place + k < length (entries_of chunks.now) }
+    requires small { length (entries_of chunks.now) < 2 ^ 32 }
+    ensures { result ≡ slice_index_or (entries_of chunks.now) (rank_in chunks.now place + k) result }
+{
+    let mut chunk = place.chunk;
+    let mut at = place.at + k;
+    while at >= chunks[chunk].entries.len() {
+        at -= chunks[chunk].entries.len();
+        chunk += 1;
+    }
+    entry(chunks, Place { chunk, at })
 }

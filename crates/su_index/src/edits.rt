@@ -1,7 +1,7 @@
 //! One entry into an index, or out of it.
 ghost use Rattle.std.specs.Prelude.{◌≡◌, ◌<◌, ◌+◌, ℕ, Bool, cond, length, Contains, count_by};
 ghost use Rattle.std.specs.List.Sorted.{IsStrictlySortedBy};
-ghost use Rattle.su_index.specs.Chunks.{entries_of, AreFull, HasRoom};
+ghost use Rattle.su_index.specs.Chunks.{entries_of, HaveEntries, HasRoom};
 ghost use Rattle.su_index.specs.Entries.{positions, HaveLeads};
 ghost use Rattle.su_index.specs.Order.{value_at, with_value, compare_places, HaveColumn, ArePositions};
 
@@ -13,22 +13,15 @@ use crate::lead::lead;
 use crate::order::value;
 use su_base::{Row, Value};
 
-/// Takes the entry of the position out of the `count` entries, among which it is.
-pub(crate) fn take_out(
-    rows: &[Row],
-    column: usize,
-    chunks: &mut Vec<Chunk>,
-    count: usize,
-    position: u32,
-)
+/// Takes the entry of the position out of the entries, among which it is.
+pub(crate) fn take_out(rows: &[Row], column: usize, chunks: &mut Vec<Chunk>, position: u32)
     requires columns { HaveColumn column rows.now }
-    requires full { AreFull chunks.old.items }
-    requires count { count ≡ length (entries_of chunks.old.items) }
+    requires some { HaveEntries chunks.old.items }
     requires positions { ArePositions (length rows.now) (positions (entries_of chunks.old.items)) }
     requires ordered { IsStrictlySortedBy (compare_places (value_at rows.now column)) (positions (entries_of chunks.old.items)) }
     requires leads { HaveLeads (value_at rows.now column) (entries_of chunks.old.items) }
     requires there { Contains (positions (entries_of chunks.old.items)) position }
-    ensures full { AreFull chunks.new.items }
+    ensures some { HaveEntries chunks.new.items }
     ensures ordered { IsStrictlySortedBy (compare_places (value_at rows.now column)) (positions (entries_of chunks.new.items)) }
     ensures count { (test : ℕ → Bool) → count_by test (positions (entries_of chunks.new.items)) + cond (test position) 1 0 ≡ count_by test (positions (entries_of chunks.old.items)) }
     ensures len { length (entries_of chunks.new.items) + 1 ≡ length (entries_of chunks.old.items) }
@@ -36,74 +29,48 @@ pub(crate) fn take_out(
 {
     let wanted = value(rows, column, position);
     let lead = lead(wanted);
-    let place = find(
-        rows,
-        column,
-        chunks.as_slice(),
-        count,
-        lead,
-        wanted,
-        position,
-    );
+    let place = find(rows, column, chunks.as_slice(), lead, wanted, position);
     take_at(chunks, place);
 }
 
-/// Puts an entry of the position among the `count` entries, as one whose row has come to have the value.
+/// Puts an entry of the position among the entries, as one whose row has come to have the value.
 pub(crate) fn put_in(
     rows: &[Row],
     column: usize,
     chunks: &mut Vec<Chunk>,
-    count: usize,
     wanted: &Value,
     position: u32,
 )
     requires columns { HaveColumn column rows.now }
-    requires full { AreFull chunks.old.items }
-    requires count { count ≡ length (entries_of chunks.old.items) }
+    requires some { HaveEntries chunks.old.items }
     requires positions { ArePositions (length rows.now) (positions (entries_of chunks.old.items)) }
     requires ordered { IsStrictlySortedBy (compare_places (value_at rows.now column)) (positions (entries_of chunks.old.items)) }
     requires leads { HaveLeads (value_at rows.now column) (entries_of chunks.old.items) }
     requires apart { ¬ Contains (positions (entries_of chunks.old.items)) position }
     requires room { HasRoom chunks.old.items }
-    ensures full { AreFull chunks.new.items }
+    ensures some { HaveEntries chunks.new.items }
     ensures ordered { IsStrictlySortedBy (compare_places (with_value (value_at rows.now column) position wanted.now)) (positions (entries_of chunks.new.items)) }
     ensures count { (test : ℕ → Bool) → count_by test (positions (entries_of chunks.new.items)) ≡ count_by test (positions (entries_of chunks.old.items)) + cond (test position) 1 0 }
     ensures len { length (entries_of chunks.new.items) ≡ length (entries_of chunks.old.items) + 1 }
     ensures leads { HaveLeads (with_value (value_at rows.now column) position wanted.now) (entries_of chunks.new.items) }
 {
     let lead = lead(wanted);
-    let place = find(
-        rows,
-        column,
-        chunks.as_slice(),
-        count,
-        lead,
-        wanted,
-        position,
-    );
+    let place = find(rows, column, chunks.as_slice(), lead, wanted, position);
     put_at(chunks, place, Entry { lead, position });
 }
 
 /// Lets the entry of the position `from` be one of the position `to`, whose row has come to have the
 /// same value.
-pub(crate) fn rename(
-    rows: &[Row],
-    column: usize,
-    chunks: &mut Vec<Chunk>,
-    count: usize,
-    from: u32,
-    to: u32,
-)
+pub(crate) fn rename(rows: &[Row], column: usize, chunks: &mut Vec<Chunk>, from: u32, to: u32)
     requires columns { HaveColumn column rows.now }
-    requires full { AreFull chunks.old.items }
-    requires count { count ≡ length (entries_of chunks.old.items) }
+    requires some { HaveEntries chunks.old.items }
     requires positions { ArePositions (length rows.now) (positions (entries_of chunks.old.items)) }
     requires ordered { IsStrictlySortedBy (compare_places (value_at rows.now column)) (positions (entries_of chunks.old.items)) }
     requires leads { HaveLeads (value_at rows.now column) (entries_of chunks.old.items) }
     requires there { Contains (positions (entries_of chunks.old.items)) from }
     requires apart { ¬ Contains (positions (entries_of chunks.old.items)) to }
     requires earlier { to < from }
-    ensures full { AreFull chunks.new.items }
+    ensures some { HaveEntries chunks.new.items }
     ensures ordered { IsStrictlySortedBy (compare_places (with_value (value_at rows.now column) to (value_at rows.now column from))) (positions (entries_of chunks.new.items)) }
     ensures count { (test : ℕ → Bool) → count_by test (positions (entries_of chunks.new.items)) + cond (test from) 1 0 ≡ count_by test (positions (entries_of chunks.old.items)) + cond (test to) 1 0 }
     ensures len { length (entries_of chunks.new.items) ≡ length (entries_of chunks.old.items) }
@@ -111,8 +78,8 @@ pub(crate) fn rename(
 {
     let wanted = value(rows, column, from);
     let lead = lead(wanted);
-    let old = find(rows, column, chunks.as_slice(), count, lead, wanted, from);
-    let new = find(rows, column, chunks.as_slice(), count, lead, wanted, to);
+    let old = find(rows, column, chunks.as_slice(), lead, wanted, from);
+    let new = find(rows, column, chunks.as_slice(), lead, wanted, to);
     let position = to;
     shift(chunks, old, new, Entry { lead, position });
 }

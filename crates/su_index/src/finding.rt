@@ -1,46 +1,97 @@
 //! Searches in the chunks of an index.
-ghost use Rattle.std.specs.Prelude.{◌≡◌, ◌<◌, ◌≤◌, ◌^◌, ℕ, true, false, length, slice_index};
+ghost use Rattle.std.specs.Prelude.{◌≡◌, ◌<◌, ◌≤◌, ◌+◌, ◌-◌, ◌^◌, ℕ, true, false, length, slice_index, slice_index_or};
 ghost use Rattle.std.specs.List.Sorted.{IsStrictlySortedBy};
-ghost use Rattle.su_index.specs.Chunks.{entries_of, AreFull};
+ghost use Rattle.su_index.specs.Chunks.{entries_of, len_at, before_chunk, rank_in, HaveEntries, IsGap, IsPlace};
 ghost use Rattle.su_index.specs.Entries.{positions, HaveLeads};
 ghost use Rattle.su_index.specs.Lead.{IsLead};
 ghost use Rattle.su_index.specs.Order.{value_at, compare_places, comes_before, IsSpan, HaveColumn, ArePositions};
+ghost use Rattle.su_index.specs.declared.chunk.Chunk.{Chunk as Piece};
 
 use crate::chunk::Chunk;
-use crate::chunks::entry;
+use crate::chunks::{entry, len_of};
+use crate::entry::Entry;
 use crate::lead::lead;
 use crate::order::{is_before, order_at};
+use crate::place::Place;
 use su_base::{Row, Value};
 
-/// How many entries come before the value at `position`: they are the first ones. Once an entry before
-/// the place and one behind it have the value, no row between them is read.
-pub(crate) fn find(
+/// The last entry of a chunk.
+fn last_of(chunks: &[Chunk], chunk: usize) -> Entry
+    requires some { HaveEntries chunks.now }
+    requires within { chunk + 1 < length chunks.now }
+    ensures there { before_chunk chunks.now (chunk + 1) ≤ length (entries_of chunks.now) }
+    ensures some { 0 < before_chunk chunks.now (chunk + 1) }
+    ensures last { result ≡ slice_index_or (entries_of chunks.now) (before_chunk chunks.now (chunk + 1) - 1) result }
+{
+    let at = len_of(chunks, chunk) - 1;
+    entry(chunks, Place { chunk, at })
+}
+
+/// The chunk in which the value at `position` is to be looked for: the entries of those before it come
+/// before the value, and the last one of it does not, unless it is the last chunk.
+fn chunk_for(
     rows: &[Row],
     column: usize,
     chunks: &[Chunk],
-    count: usize,
     lead: u32,
     wanted: &Value,
     position: u32,
 ) -> usize
     requires columns { HaveColumn column rows.now }
-    requires full { AreFull chunks.now }
-    requires count { count ≡ length (entries_of chunks.now) }
     requires positions { ArePositions (length rows.now) (positions (entries_of chunks.now)) }
     requires ordered { IsStrictlySortedBy (compare_places (value_at rows.now column)) (positions (entries_of chunks.now)) }
     requires leads { HaveLeads (value_at rows.now column) (entries_of chunks.now) }
     requires lead { IsLead lead wanted.now }
-    ensures within { result ≤ length (entries_of chunks.now) }
-    ensures below { (k : ℕ) → k < result → comes_before (value_at rows.now column) wanted.now position (slice_index (positions (entries_of chunks.now)) k) ≡ true }
-    ensures above { (k : ℕ) → result ≤ k → k < length (entries_of chunks.now) → comes_before (value_at rows.now column) wanted.now position (slice_index (positions (entries_of chunks.now)) k) ≡ false }
+    requires some { HaveEntries chunks.now }
+    requires chunks { 0 < length chunks.now }
+    ensures within { result < length chunks.now }
+    ensures below { (k : ℕ) → k < before_chunk chunks.now result → comes_before (value_at rows.now column) wanted.now position (slice_index (positions (entries_of chunks.now)) k) ≡ true }
+    ensures above { (k : ℕ) → result + 1 < length chunks.now → before_chunk chunks.now (result + 1) ≤ k + 1 → k < length (entries_of chunks.now) → comes_before (value_at rows.now column) wanted.now position (slice_index (positions (entries_of chunks.now)) k) ≡ false }
 {
     let mut low = 0;
-    let mut high = count;
+    let mut high = chunks.len() - 1;
+    while low < high {
+        let middle = low + (high - low) / 2;
+        let found = last_of(chunks, middle);
+        if is_before(rows, column, found, lead, wanted, position) {
+            low = middle + 1;
+        } else {
+            high = middle;
+        }
+    }
+    low
+}
+
+/// How many entries of the chunk come before the value at `position`. Once one before the place and one
+/// behind it have the value, no row between them is read.
+fn place_in(
+    rows: &[Row],
+    column: usize,
+    chunks: &[Chunk],
+    chunk: usize,
+    lead: u32,
+    wanted: &Value,
+    position: u32,
+) -> usize
+    requires columns { HaveColumn column rows.now }
+    requires positions { ArePositions (length rows.now) (positions (entries_of chunks.now)) }
+    requires ordered { IsStrictlySortedBy (compare_places (value_at rows.now column)) (positions (entries_of chunks.now)) }
+    requires leads { HaveLeads (value_at rows.now column) (entries_of chunks.now) }
+    requires lead { IsLead lead wanted.now }
+    requires within { chunk < length chunks.now }
+    requires below { (k : ℕ) → k < before_chunk chunks.now chunk → comes_before (value_at rows.now column) wanted.now position (slice_index (positions (entries_of chunks.now)) k) ≡ true }
+    requires above { (k : ℕ) → chunk + 1 < length chunks.now → before_chunk chunks.now (chunk + 1) ≤ k + 1 → k < length (entries_of chunks.now) → comes_before (value_at rows.now column) wanted.now position (slice_index (positions (entries_of chunks.now)) k) ≡ false }
+    ensures most { (d : Piece) → result ≤ len_at chunks.now chunk d }
+    ensures below { (k : ℕ) → k < before_chunk chunks.now chunk + result → comes_before (value_at rows.now column) wanted.now position (slice_index (positions (entries_of chunks.now)) k) ≡ true }
+    ensures above { (k : ℕ) → before_chunk chunks.now chunk + result ≤ k → k < length (entries_of chunks.now) → comes_before (value_at rows.now column) wanted.now position (slice_index (positions (entries_of chunks.now)) k) ≡ false }
+{
+    let mut low = 0;
+    let mut high = len_of(chunks, chunk);
     let mut low_has = false;
     let mut high_has = false;
     while low < high {
         let middle = low + (high - low) / 2;
-        let found = entry(chunks, middle);
+        let found = entry(chunks, Place { chunk, at: middle });
         let order = order_at(rows, column, found, lead, wanted, low_has && high_has);
         if order.then(found.position.cmp(&position)).is_lt() {
             low = middle + 1;
@@ -53,66 +104,94 @@ pub(crate) fn find(
     low
 }
 
-/// How many entries come before those past the value, where `first` come before the
-/// value itself. Most values stand in one row or in none: then it asks no more than two entries.
-fn past(
+/// The place of the value at `position`: the entries that come before it are those before the place.
+pub(crate) fn find(
     rows: &[Row],
     column: usize,
     chunks: &[Chunk],
-    count: usize,
     lead: u32,
     wanted: &Value,
-    first: usize,
-) -> usize
+    position: u32,
+) -> Place
     requires columns { HaveColumn column rows.now }
-    requires small { length rows.now < 2 ^ 32 }
-    requires full { AreFull chunks.now }
-    requires count { count ≡ length (entries_of chunks.now) }
     requires positions { ArePositions (length rows.now) (positions (entries_of chunks.now)) }
     requires ordered { IsStrictlySortedBy (compare_places (value_at rows.now column)) (positions (entries_of chunks.now)) }
     requires leads { HaveLeads (value_at rows.now column) (entries_of chunks.now) }
     requires lead { IsLead lead wanted.now }
-    requires within { first ≤ length (entries_of chunks.now) }
-    requires below { (k : ℕ) → k < first → comes_before (value_at rows.now column) wanted.now 0 (slice_index (positions (entries_of chunks.now)) k) ≡ true }
-    ensures within { result ≤ length (entries_of chunks.now) }
-    ensures below { (k : ℕ) → k < result → comes_before (value_at rows.now column) wanted.now (length rows.now) (slice_index (positions (entries_of chunks.now)) k) ≡ true }
-    ensures above { (k : ℕ) → result ≤ k → k < length (entries_of chunks.now) → comes_before (value_at rows.now column) wanted.now (length rows.now) (slice_index (positions (entries_of chunks.now)) k) ≡ false }
+    requires some { HaveEntries chunks.now }
+    requires chunks { 0 < length chunks.now }
+    ensures place { IsPlace chunks.now result }
+    ensures below { (k : ℕ) → k < rank_in chunks.now result → comes_before (value_at rows.now column) wanted.now position (slice_index (positions (entries_of chunks.now)) k) ≡ true }
+    ensures above { (k : ℕ) → rank_in chunks.now result ≤ k → k < length (entries_of chunks.now) → comes_before (value_at rows.now column) wanted.now position (slice_index (positions (entries_of chunks.now)) k) ≡ false }
+{
+    let chunk = chunk_for(rows, column, chunks, lead, wanted, position);
+    let at = place_in(rows, column, chunks, chunk, lead, wanted, position);
+    Place { chunk, at }
+}
+
+/// The place past the value, where `first` is that of the value itself. Most values stand in one row or
+/// in none: then it asks no more than two entries.
+fn past(
+    rows: &[Row],
+    column: usize,
+    chunks: &[Chunk],
+    lead: u32,
+    wanted: &Value,
+    first: Place,
+) -> Place
+    requires small { length rows.now < 2 ^ 32 }
+    requires columns { HaveColumn column rows.now }
+    requires positions { ArePositions (length rows.now) (positions (entries_of chunks.now)) }
+    requires ordered { IsStrictlySortedBy (compare_places (value_at rows.now column)) (positions (entries_of chunks.now)) }
+    requires leads { HaveLeads (value_at rows.now column) (entries_of chunks.now) }
+    requires lead { IsLead lead wanted.now }
+    requires some { HaveEntries chunks.now }
+    requires first { IsPlace chunks.now first }
+    requires below { (k : ℕ) → k < rank_in chunks.now first → comes_before (value_at rows.now column) wanted.now 0 (slice_index (positions (entries_of chunks.now)) k) ≡ true }
+    ensures place { IsPlace chunks.now result }
+    ensures below { (k : ℕ) → k < rank_in chunks.now result → comes_before (value_at rows.now column) wanted.now (length rows.now) (slice_index (positions (entries_of chunks.now)) k) ≡ true }
+    ensures above { (k : ℕ) → rank_in chunks.now result ≤ k → k < length (entries_of chunks.now) → comes_before (value_at rows.now column) wanted.now (length rows.now) (slice_index (positions (entries_of chunks.now)) k) ≡ false }
 {
     let top = rows.len() as u32;
-    if first == count {
+    let len = len_of(chunks, first.chunk);
+    if first.at == len {
         return first;
     }
     if !is_before(rows, column, entry(chunks, first), lead, wanted, top) {
         return first;
     }
-    if first + 1 == count {
-        return first + 1;
+    let chunk = first.chunk;
+    let at = first.at + 1;
+    if at < len
+        && !is_before(
+            rows,
+            column,
+            entry(chunks, Place { chunk, at }),
+            lead,
+            wanted,
+            top,
+        )
+    {
+        return Place { chunk, at };
     }
-    if !is_before(rows, column, entry(chunks, first + 1), lead, wanted, top) {
-        return first + 1;
-    }
-    find(rows, column, chunks, count, lead, wanted, top)
+    find(rows, column, chunks, lead, wanted, top)
 }
 
 /// Where the entries of the value stand: the first place, and the one past the last.
-pub(crate) fn span(
-    rows: &[Row],
-    column: usize,
-    chunks: &[Chunk],
-    count: usize,
-    wanted: &Value,
-) -> (usize, usize)
-    requires columns { HaveColumn column rows.now }
+pub(crate) fn span(rows: &[Row], column: usize, chunks: &[Chunk], wanted: &Value) -> (Place, Place)
     requires small { length rows.now < 2 ^ 32 }
-    requires full { AreFull chunks.now }
-    requires count { count ≡ length (entries_of chunks.now) }
+    requires columns { HaveColumn column rows.now }
     requires positions { ArePositions (length rows.now) (positions (entries_of chunks.now)) }
     requires ordered { IsStrictlySortedBy (compare_places (value_at rows.now column)) (positions (entries_of chunks.now)) }
     requires leads { HaveLeads (value_at rows.now column) (entries_of chunks.now) }
-    ensures { IsSpan (value_at rows.now column) wanted.now (positions (entries_of chunks.now)) result.0 result.1 }
+    requires some { HaveEntries chunks.now }
+    requires chunks { 0 < length chunks.now }
+    ensures first { IsPlace chunks.now result.0 }
+    ensures past { IsPlace chunks.now result.1 }
+    ensures span { IsSpan (value_at rows.now column) wanted.now (positions (entries_of chunks.now)) (rank_in chunks.now result.0) (rank_in chunks.now result.1) }
 {
     let lead = lead(wanted);
-    let first = find(rows, column, chunks, count, lead, wanted, 0);
-    let past = past(rows, column, chunks, count, lead, wanted, first);
+    let first = find(rows, column, chunks, lead, wanted, 0);
+    let past = past(rows, column, chunks, lead, wanted, first);
     (first, past)
 }

@@ -7,7 +7,7 @@ ghost use Rattle.su_index.specs.Matches.{matches, IsMatch};
 ghost use Rattle.su_index.specs.Order.{HaveColumn, value_at, with_value};
 
 use crate::chunk::Chunk;
-use crate::chunks::{chunks_of, entry, flat, make_room};
+use crate::chunks::{between, chunks_of, entry_behind, flat, is_sparse, make_room};
 use crate::edits::{put_in, rename, take_out};
 use crate::finding::span;
 use crate::order::value;
@@ -53,7 +53,7 @@ impl Index {
         Ok(Index { chunks })
     }
 
-    /// Makes room for one more entry.
+    /// Makes room for one more entry. Chunks that are mostly empty are put together first.
     pub(crate) fn make_room(
         &mut self,
         alloc: Global,
@@ -64,6 +64,10 @@ impl Index {
         ensures index { IsIndexOf rows.now column self.new }
         ensures room { OnOk result (HasRoom self.new.chunks.items) }
     {
+        if is_sparse(self.chunks.as_slice(), rows.len()) {
+            let run = flat(alloc, self.chunks.as_slice(), rows.len())?;
+            self.chunks = chunks_of(alloc, run.as_slice())?;
+        }
         make_room(alloc, &mut self.chunks)
     }
 
@@ -73,8 +77,11 @@ impl Index {
         requires index { IsIndexOf rows.now column self.now }
         ensures { result ≡ matches column wanted.now rows.now }
     {
-        let (first, past) = span(rows, column, self.chunks.as_slice(), rows.len(), wanted);
-        past - first
+        if self.chunks.is_empty() {
+            return 0;
+        }
+        let (first, past) = span(rows, column, self.chunks.as_slice(), wanted);
+        between(self.chunks.as_slice(), first, past)
     }
 
     /// The position of the k-th row that has the value.
@@ -84,8 +91,8 @@ impl Index {
         requires within { k < matches column wanted.now rows.now }
         ensures { IsMatch column wanted.now rows.now k result }
     {
-        let (first, _past) = span(rows, column, self.chunks.as_slice(), rows.len(), wanted);
-        entry(self.chunks.as_slice(), first + k).position as usize
+        let (first, _past) = span(rows, column, self.chunks.as_slice(), wanted);
+        entry_behind(self.chunks.as_slice(), first, k).position as usize
     }
 
     /// Takes in the last row.
@@ -98,14 +105,7 @@ impl Index {
         ensures { IsIndexOf rows.now column self.new }
     {
         let wanted = value(rows, column, position);
-        put_in(
-            rows,
-            column,
-            &mut self.chunks,
-            position as usize,
-            wanted,
-            position,
-        );
+        put_in(rows, column, &mut self.chunks, wanted, position);
     }
 
     /// Leaves the row at the position out, and lets the last row be at the position.
@@ -115,11 +115,10 @@ impl Index {
         requires within { position < length rows.now }
         ensures { IsIndexAt (with_value (value_at rows.now column) position (value_at rows.now column (length rows.now - 1))) (length rows.now - 1) self.new }
     {
-        let count = rows.len();
-        take_out(rows, column, &mut self.chunks, count, position);
-        let last = (count - 1) as u32;
+        take_out(rows, column, &mut self.chunks, position);
+        let last = (rows.len() - 1) as u32;
         if position < last {
-            rename(rows, column, &mut self.chunks, count - 1, last, position);
+            rename(rows, column, &mut self.chunks, last, position);
         }
     }
 }

@@ -2,18 +2,27 @@
 //!
 //! A table decides how many rows have a value in a column, and which is the k-th of them by position.
 //! Contracts see it as they see a relation, a width and the rows by position; the indexes appear in
-//! none. An index holds an entry for each row in order of (lead, value, position), in chunks of 4096, of
-//! which only the last may have fewer. An entry is the position and the lead of the value, a number made
-//! of all of it: eight bytes. A look-up is a few binary searches by lead, which read a row only where the
-//! leads are equal, and no more once rows on both sides of the place are known to have the value. An
-//! insert and a remove move the entries of one chunk and one entry of each chunk behind it, so their time
-//! grows by two entries for each 4096 rows; a remove takes no memory. A table keeps no more than 2^32 - 2
-//! rows, and ranges of values aren't asked for.
+//! none. A table keeps no more than 2^32 - 2 rows, and ranges of values aren't asked for.
 //!
-//! Where a caller asks for it, rows are also noted by their values in several columns at once: one look
-//! into a hash table then mostly tells whether there is a row with all of these values, and where. A row
-//! that is taken out stays noted, and one that moves stays noted where it stood; such a note costs the
-//! caller a search in one column, and is gone when all rows are noted anew.
+//! An index holds an entry for each row in order of (lead, value, position). An entry is the position
+//! and the lead of the value, a number made of all of it: eight bytes. The entries are cut into chunks
+//! of any length, of which only the last may have none; a load fills 2048 entries into each. A place is
+//! a chunk and an offset in it. A look-up is a binary search among the last entries of the chunks and
+//! one within a chunk, by lead: they read a row only where the leads are equal, and the second no more
+//! once rows on both sides of the place are known to have the value. A count of matches, and the k-th of
+//! them, add up the lengths of the chunks between.
+//!
+//! A remove moves the entries of one chunk and takes no memory; a chunk that it empties is let go. An
+//! insert moves the entries of one chunk and, where that has no room, one entry of each chunk behind it
+//! up to the first with room: after a load an entry for each 2048 rows behind the place. Chunks are put
+//! together again by an insert, once they are four times as many as the rows need.
+//!
+//! Where a caller asks for it, as for the left side of a dependency, rows are also noted by their values
+//! in several columns at once, some 20 bytes a row: one look into a hash table then mostly tells whether
+//! there is a row with all of these values, and where. A row that is taken out stays noted, and one that
+//! moves stays noted where it stood; such a note costs the caller a search in one column, and is gone
+//! when all rows are noted anew: by the first insert after a load or a `keep`, and once there are more
+//! than twice as many notes as rows. What is put in and taken out in turn is so noted in passing.
 #![tactic(auto)]
 
 mod alike;
@@ -30,6 +39,7 @@ pub mod laws;
 mod lead;
 mod notes;
 mod order;
+mod place;
 mod rows;
 mod sorting;
 mod tables;

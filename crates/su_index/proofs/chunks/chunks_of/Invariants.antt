@@ -6,7 +6,7 @@ use Rattle.su_index.proofs.chunks.chunks_of.Given as goal
 abbrev pub invariant-loop-rest : goal.invariant-loop-rest
 invariant-loop-rest l = record {
   whole : entries_of l.chunks.items ++ l.rest ≡ l.entries;
-  full : (k : ℕ) (d : Chunk) → k < length l.chunks.items → len_at l.chunks.items k d ≡ 4096;
+  some : (k : ℕ) (d : Chunk) → k < length l.chunks.items → 0 < len_at l.chunks.items k d;
 }
 
 abbrev pub decreases-loop-rest : goal.decreases-loop-rest

@@ -1,21 +1,15 @@
 use Rattle.std.proofs.Common.{◌<◌, ◌-◌, ◌∙◌, ap, length, arith}
-use Rattle.su_index.proofs.Chunked.{same-entries, full-push}
+use Rattle.su_index.proofs.Chunked.{same-entries}
 use Rattle.su_index.proofs.chunks.make_room.Goals as goal
 
 pub returns-in_err-reserve-clause-entries : goal.returns-in_err-reserve-clause-entries
 returns-in_err-reserve-clause-entries c =
     let open' = rw (c.if-is_open.true, c.as_slice.ensures.value) at c.is_open.ensures.open in
-    let within : c.len-last.result - 1 < length c.args.chunks.now.items = omega (arith, open'.0, c.len-last.ensures, c.args.chunks.now.ok) in
+    let within : c.len-last.result - 1 < length c.args.chunks.now.items = omega (arith, open', c.len-last.ensures, c.args.chunks.now.ok) in
     same-entries c.args.chunks.now.items (c.len-last.result - 1) (record { entries = c.reserve.new.self }) c.index_mut.result.now within (c.reserve.ensures.items ∙ ap (λ x. x.entries.items) c.index_mut.ensures.value)
 
 pub returns-then-is_open-clause-entries : goal.returns-then-is_open-clause-entries
 returns-then-is_open-clause-entries c =
     let open' = rw (c.if-is_open.true, c.as_slice.ensures.value) at c.is_open.ensures.open in
-    let within : c.len-last.result - 1 < length c.args.chunks.now.items = omega (arith, open'.0, c.len-last.ensures, c.args.chunks.now.ok) in
+    let within : c.len-last.result - 1 < length c.args.chunks.now.items = omega (arith, open', c.len-last.ensures, c.args.chunks.now.ok) in
     same-entries c.args.chunks.now.items (c.len-last.result - 1) (record { entries = c.reserve.new.self }) c.index_mut.result.now within (c.reserve.ensures.items ∙ ap (λ x. x.entries.items) c.index_mut.ensures.value)
-
-pub returns-clause-full : goal.returns-clause-full
-returns-clause-full c =
-    let all = rw (c.if-is_open.false, c.as_slice.ensures.value) at c.is_open.ensures.full in
-    let items = rw (c.is_err.ensures.negation, c.if-is_err.false) at c.push.ensures.items in
-    rw items (full-push c.args.chunks.now.items (record { entries = c.in_ok-entries.entries }) all (omega (arith, c.in_ok-entries.ensures.len)))

@@ -1,27 +1,25 @@
-use Rattle.std.proofs.Common.{◌≡◌, ◌+◌, ◌-◌, ◌/◌, ◌∙◌, ap, sym, subst, length, arith, ℕ}
+use Rattle.std.proofs.Common.{◌≡◌, ◌≤◌, ◌+◌, ◌∙◌, ap, arith}
 use Rattle.std.specs.List.{insert}
-use Rattle.su_index.specs.Chunks.{lens_of, HasGap}
-use Rattle.su_index.proofs.Chunked.{last_of, room-last, lens-some, gap-room}
+use Rattle.su_index.specs.Chunks.{entries_of, before_chunk}
+use Rattle.su_index.proofs.Chunked.{room-later}
 use Rattle.su_index.proofs.chunks.put_at.Goals as goal
 
-pub carry_down-requires-clause-order : goal.carry_down-requires-clause-order
-carry_down-requires-clause-order c = omega (arith, c.requires.within, room-last c.args.chunks.now.items c.requires.full c.requires.room, c.requires.room.some, c.len-end.ensures, c.args.chunks.now.ok)
-
-pub carry_down-requires-clause-gap : goal.carry_down-requires-clause-gap
-carry_down-requires-clause-gap c =
-    let chunks = c.args.chunks.now.items in
-    let last : c.len-end.result - 1 + 1 ≡ length chunks = omega (arith, c.requires.room.some, c.len-end.ensures, c.args.chunks.now.ok) in
-    (lens_of (length chunks) (last_of chunks + 1), gap-room chunks (c.len-end.result - 1) c.requires.full c.requires.room last, lens-some (length chunks) (last_of chunks + 1) (omega arith))
-
-pub fill-requires-clause-gap : goal.fill-requires-clause-gap
-fill-requires-clause-gap c =
-    let chunks = c.args.chunks.now.items in
-    let last : c.len-end.result - 1 + 1 ≡ length chunks = omega (arith, c.requires.room.some, c.len-end.ensures, c.args.chunks.now.ok) in
-    let gap = c.carry_down.ensures.gap (lens_of (length chunks) (last_of chunks + 1)) (gap-room chunks (c.len-end.result - 1) c.requires.full c.requires.room last) in
-    (last_of chunks + 1, subst (λ (n : ℕ). HasGap (lens_of n (last_of chunks + 1)) (c.args.i / 4096) c.carry_down.new.chunks.items) (sym c.carry_down.ensures.count) gap, omega (arith, room-last chunks c.requires.full c.requires.room))
-
-pub fill-requires-clause-within : goal.fill-requires-clause-within
-fill-requires-clause-within c = rw c.carry_down.ensures.entries c.requires.within
-
-pub returns-clause-entries : goal.returns-clause-entries
-returns-clause-entries c = c.fill.ensures.entries ∙ ap (λ s. insert s c.args.i c.args.entry) c.carry_down.ensures.entries
+pub loop-chunks-preserved : goal.loop-chunks-preserved
+loop-chunks-preserved c =
+    let i = c.loop-chunks.invariant in
+    let new = c.displace-entry.new.chunks.items in
+    let chunk = c.loop-chunks.place.chunk in
+    let later : chunk + 1 ≤ i.room.at = room-later c.loop-chunks.chunks.items chunk i.room (rw (c.loop-chunks-test.true, c.as_slice.ensures.value) at c.is_full.ensures.full) in
+    let first : before_chunk new (chunk + 1) + 0 ≡ before_chunk new (chunk + 1) = omega arith in
+    record {
+      place = record { within = omega (arith, later, i.room.within, c.displace-entry.ensures.count); most = λ d. omega arith };
+      room = record {
+        at = i.room.at;
+        behind = later;
+        within = omega (arith, i.room.within, c.displace-entry.ensures.count);
+        room = λ d. omega (arith, i.room.room d, c.displace-entry.ensures.lens i.room.at d, c.displace-entry.ensures.capacities i.room.at d);
+      };
+      count = c.displace-entry.ensures.count ∙ i.count;
+      entries = ap (λ k. insert (entries_of new) k c.displace-entry.result) first ∙ c.displace-entry.ensures.entries ∙ i.entries;
+      lens = λ k d. omega (arith, i.lens k d, c.displace-entry.ensures.lens k d);
+    }

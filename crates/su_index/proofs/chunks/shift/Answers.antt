@@ -1,33 +1,21 @@
-use Rattle.std.proofs.Common.{◌≡◌, ◌<◌, ◌/◌, ◌∙◌, ap, sym, subst, length, arith, ℕ}
-use Rattle.std.specs.List.{insert, remove}
-use Rattle.std.proofs.lemmas.List.Edits.{length-remove}
-use Rattle.su_index.specs.Chunks.{entries_of, lens_of, HasGap}
-use Rattle.su_index.proofs.Chunked.{last_of, last-most, last-some, lens-some, some-chunks}
+use Rattle.std.proofs.Common.{◌≡◌, ◌≤◌, ◌+◌, ◌∙◌, ap, arith}
+use Rattle.std.specs.List.{insert}
+use Rattle.su_index.specs.Chunks.{entries_of, before_chunk}
+use Rattle.su_index.proofs.Chunked.{chunk-order}
 use Rattle.su_index.proofs.chunks.shift.Goals as goal
 
-pub dig-requires-clause-within : goal.dig-requires-clause-within
-dig-requires-clause-within c = rw c.trim.ensures.entries c.requires.within
-
-pub carry_down-requires-clause-order : goal.carry_down-requires-clause-order
-carry_down-requires-clause-order c = omega (arith, c.requires.order)
-
-pub carry_down-requires-clause-gap : goal.carry_down-requires-clause-gap
-carry_down-requires-clause-gap c =
-    let chunks = c.trim.new.chunks.items in
-    let some : 0 < length chunks = some-chunks chunks c.args.from (rw c.trim.ensures.entries c.requires.within) in
-    (lens_of (length chunks) (last_of chunks), c.dig.ensures.gap, lens-some (length chunks) (last_of chunks) (last-some chunks c.trim.ensures.full some c.trim.ensures.some))
-
-pub fill-requires-clause-gap : goal.fill-requires-clause-gap
-fill-requires-clause-gap c =
-    let chunks = c.trim.new.chunks.items in
-    let gap = c.carry_down.ensures.gap (lens_of (length chunks) (last_of chunks)) c.dig.ensures.gap in
-    (last_of chunks, subst (λ (n : ℕ). HasGap (lens_of n (last_of chunks)) (c.args.to / 4096) c.carry_down.new.chunks.items) (sym (c.carry_down.ensures.count ∙ c.dig.ensures.count)) gap, last-most chunks c.trim.ensures.full)
-
-pub fill-requires-clause-within : goal.fill-requires-clause-within
-fill-requires-clause-within c =
-    let short = length-remove (entries_of c.args.chunks.now.items) c.args.from c.requires.within in
-    let is : entries_of c.carry_down.new.chunks.items ≡ remove (entries_of c.args.chunks.now.items) c.args.from = c.carry_down.ensures.entries ∙ c.dig.ensures.entries ∙ ap (λ s. remove s c.args.from) c.trim.ensures.entries in
-    rw is (omega (arith, short, c.requires.order, c.requires.within))
+pub put_at-requires-clause-room : goal.put_at-requires-clause-room
+put_at-requires-clause-room c = record {
+  at = c.args.from.chunk;
+  behind = chunk-order c.args.chunks.now.items c.args.from c.args.to (record { gap = record { within = c.requires.within; most = λ d. omega (arith, c.requires.there d) }; inner = λ d h. c.requires.there d }) c.requires.place c.requires.order;
+  within = omega (arith, c.requires.within, c.dig.ensures.count);
+  room = c.dig.ensures.room;
+}
 
 pub returns-clause-entries : goal.returns-clause-entries
-returns-clause-entries c = c.fill.ensures.entries ∙ ap (λ s. insert s c.args.to c.args.entry) (c.carry_down.ensures.entries ∙ c.dig.ensures.entries ∙ ap (λ s. remove s c.args.from) c.trim.ensures.entries)
+returns-clause-entries c =
+    let before : c.args.to.chunk ≤ c.args.from.chunk = chunk-order c.args.chunks.now.items c.args.from c.args.to (record { gap = record { within = c.requires.within; most = λ d. omega (arith, c.requires.there d) }; inner = λ d h. c.requires.there d }) c.requires.place c.requires.order in
+    let rank : before_chunk c.dig.new.chunks.items c.args.to.chunk ≡ before_chunk c.args.chunks.now.items c.args.to.chunk = c.dig.ensures.before c.args.to.chunk before in
+    c.drop_empty.ensures.entries ∙ c.put_at.ensures.entries
+    ∙ ap (λ k. insert (entries_of c.dig.new.chunks.items) (k + c.args.to.at) c.args.entry) rank
+    ∙ ap (λ s. insert s (before_chunk c.args.chunks.now.items c.args.to.chunk + c.args.to.at) c.args.entry) c.dig.ensures.entries

@@ -2,11 +2,8 @@ use Rattle.std.proofs.Common.{arith, length, sym}
 use Rattle.su_index.specs.Indexed.{entries_in}
 use Rattle.su_index.specs.Order.{value_at}
 use Rattle.su_index.proofs.Changed.{positions_more, index_apart}
-use Rattle.su_index.proofs.Entries.{index_length, index_with-add}
+use Rattle.su_index.proofs.Entries.{index_with-add}
 use Rattle.su_index.proofs.index.Index.add.Goals as goal
-
-pub put_in-requires-clause-count : goal.put_in-requires-clause-count
-put_in-requires-clause-count c = index_length _ _ _ c.requires.index.entries
 
 pub put_in-requires-clause-positions : goal.put_in-requires-clause-positions
 put_in-requires-clause-positions c = positions_more _ _ _ c.requires.index.entries.order (length c.args.rows.now) (omega (arith, c.requires.last))
@@ -18,5 +15,5 @@ pub returns : goal.returns
 returns c = record {
   entries = rw (sym c.requires.last)
       (index_with-add (value_at c.args.rows.now c.args.column) c.args.position (entries_in c.args.self.now) _ c.requires.index.entries (omega (arith, c.requires.last, c.requires.small)) (rw c.value-wanted.ensures at c.put_in.ensures.ordered) c.put_in.ensures.count c.put_in.ensures.len (rw c.value-wanted.ensures at c.put_in.ensures.leads));
-  full = c.put_in.ensures.full;
+  some = c.put_in.ensures.some;
 }

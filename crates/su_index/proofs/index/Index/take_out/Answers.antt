@@ -4,11 +4,8 @@ use Rattle.su_index.specs.Entries.{positions}
 use Rattle.su_index.specs.Indexed.{entries_in}
 use Rattle.su_index.specs.Order.{value_at}
 use Rattle.su_index.proofs.Changed.{positions_more, positions_left, absent_left, there_left, there_once, index_once, with_value-other}
-use Rattle.su_index.proofs.Entries.{index_length, index_with-removed, index_with-same}
+use Rattle.su_index.proofs.Entries.{index_with-removed, index_with-same}
 use Rattle.su_index.proofs.index.Index.take_out.Goals as goal
-
-pub take_out-requires-clause-count : goal.take_out-requires-clause-count
-take_out-requires-clause-count c = index_length _ _ _ c.requires.index.entries
 
 pub take_out-requires-clause-positions : goal.take_out-requires-clause-positions
 take_out-requires-clause-positions c = positions_more _ _ _ c.requires.index.entries.order (length c.args.rows.now) (omega arith)
@@ -31,5 +28,5 @@ returns-else-position-last c =
     record {
       entries = index_with-same (value_at c.args.rows.now c.args.column) _ (length c.args.rows.now - 1) _ (λ p h. sym (with_value-other (value_at c.args.rows.now c.args.column) _ c.args.position p (λ is. omega (arith, is, e, h))))
           (index_with-removed (value_at c.args.rows.now c.args.column) (value_at c.args.rows.now c.args.column) (length c.args.rows.now) (entries_in c.args.self.now) _ c.requires.index.entries c.take_out.ensures.ordered (rw (← e) c.take_out.ensures.count) c.take_out.ensures.len c.take_out.ensures.leads);
-      full = c.take_out.ensures.full;
+      some = c.take_out.ensures.some;
     }
