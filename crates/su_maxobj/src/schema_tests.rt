@@ -42,21 +42,32 @@ fn object(alloc: Global, name: &str, first: &str, second: &str) -> Result<Defini
     })
 }
 
-fn add(schema: &mut Schema, definition: &Definition) -> bool {
-    definition.is_well_named() && schema.define(definition).is_ok()
+fn add(schema: &mut Schema, definition: &Definition) -> Result<(), Fail> {
+    if definition.is_well_named() && schema.define(definition).is_ok() {
+        return Ok(());
+    }
+    Err(Fail::from("a definition is refused"))
 }
 
 // Attributes A, B and C, and the objects AB, BC and CA.
-fn circle(alloc: Global) -> Result<Schema, NoMemory> {
+fn circle(alloc: Global) -> Result<Schema, Fail> {
     let mut schema = Schema::new(alloc);
     for name in ["A", "B", "C"] {
-        add(&mut schema, &attribute(alloc, name)?);
+        add(&mut schema, &attribute(alloc, name)?)?;
     }
-    add(&mut schema, &relation(alloc, "R")?);
-    add(&mut schema, &object(alloc, "AB", "A", "B")?);
-    add(&mut schema, &object(alloc, "BC", "B", "C")?);
-    add(&mut schema, &object(alloc, "CA", "C", "A")?);
+    add(&mut schema, &relation(alloc, "R")?)?;
+    add(&mut schema, &object(alloc, "AB", "A", "B")?)?;
+    add(&mut schema, &object(alloc, "BC", "B", "C")?)?;
+    add(&mut schema, &object(alloc, "CA", "C", "A")?)?;
     Ok(schema)
+}
+
+// Whether the set has this object and no other one.
+fn is_alone(set: ObjSet, object: u8) -> bool
+    requires { object < 64 }
+{
+    let alone = ObjSet::empty().insert(object);
+    set.within(alone) && alone.within(set)
 }
 
 #[test]
@@ -64,11 +75,15 @@ fn in_a_circle_each_object_is_maximal(rt: HostRuntime) -> Result<(), Fail> {
     let alloc = rt.alloc();
     let schema = circle(alloc)?;
     let sets = maximal_objects(alloc, &schema)?;
-    assert_eq!(rt; sets.len(), 3);
-    for (o, set) in sets.as_slice().iter().enumerate() {
-        assert!(rt; set.contains(o as u8));
+    match sets.as_slice() {
+        [first, second, third] => {
+            assert!(rt; is_alone(*first, 0));
+            assert!(rt; is_alone(*second, 1));
+            assert!(rt; is_alone(*third, 2));
+            Ok(())
+        }
+        _ => Err(Fail::from("not three")),
     }
-    Ok(())
 }
 
 #[test]
@@ -78,9 +93,8 @@ fn in_a_circle_no_object_joins_another(rt: HostRuntime) -> Result<(), Fail> {
     let first = ObjSet::empty().insert(0);
     assert!(rt; attributes_covered(&schema, first).contains(1));
     assert!(rt; !attributes_covered(&schema, first).contains(2));
-    if schema.objects() == 3 {
-        assert!(rt; !adjoinable(&schema, first, 1));
-        assert!(rt; !grown(&schema, 0).contains(1));
-    }
+    assert!(rt; schema.objects() == 3);
+    assert!(rt; !adjoinable(&schema, first, 1));
+    assert!(rt; is_alone(grown(&schema, 0), 0));
     Ok(())
 }

@@ -7,7 +7,7 @@ use crate::{
 use std::alloc::{AllocError, Global};
 use std::process::Abort;
 use std::test::Fail;
-use su_base::{AttrSet, Column, Kind, List, NoMemory, Str};
+use su_base::{AttrSet, Column, Kind, List, NoMemory, Str, Value};
 use su_schema::{Definition, Schema};
 use su_where::{Cond, Op, Operand};
 
@@ -467,12 +467,73 @@ fn push_outputs(alloc: Global, out: &mut String, outputs: &[u16]) -> Result<(), 
     Ok(())
 }
 
-/// The variables, `-` for the blank one, the places and the outputs.
+fn sign(op: Op) -> &'static str {
+    match op {
+        Op::Equal => "=",
+        Op::NotEqual => "!=",
+        Op::Less => "<",
+        Op::LessEqual => "<=",
+        Op::Greater => ">",
+        Op::GreaterEqual => ">=",
+    }
+}
+
+/// A constant, or the number of a place in brackets.
+fn push_operand(alloc: Global, out: &mut String, operand: &Operand) -> Result<(), AllocError> {
+    match operand {
+        Operand::Place(place) => {
+            out.push_str("[")?;
+            push_number(alloc, out, *place, "]")
+        }
+        Operand::Const(Value::Int(number)) => {
+            let digits = number.to_string(alloc)?;
+            out.push_str(digits.as_str())
+        }
+        Operand::Const(Value::Text(text)) => {
+            out.push_str("'")?;
+            out.push_str(text.as_str())?;
+            out.push_str("'")
+        }
+    }
+}
+
+/// The condition with `&`, `|` and `!` for the nodes, and a space behind each comparison.
+fn push_cond(alloc: Global, out: &mut String, cond: &Cond) -> Result<(), AllocError> {
+    match cond {
+        Cond::Compare(literal) => {
+            push_operand(alloc, out, &literal.left)?;
+            out.push_str(sign(literal.op))?;
+            push_operand(alloc, out, &literal.right)?;
+            out.push_str(" ")
+        }
+        Cond::Not(part) => {
+            out.push_str("!")?;
+            push_cond(alloc, out, part.get())
+        }
+        Cond::All(parts) => {
+            out.push_str("&(")?;
+            for part in parts.as_slice() {
+                push_cond(alloc, out, part)?;
+            }
+            out.push_str(")")
+        }
+        Cond::Any(parts) => {
+            out.push_str("|(")?;
+            for part in parts.as_slice() {
+                push_cond(alloc, out, part)?;
+            }
+            out.push_str(")")
+        }
+    }
+}
+
+/// The variables, `-` for the blank one, the places, the outputs and the condition.
 fn numbers(alloc: Global, resolved: &Resolved) -> Result<String, AllocError> {
     let mut out = String::new(alloc);
     push_variables(&mut out, resolved.variables.as_slice())?;
     push_places(alloc, &mut out, resolved.places.as_slice())?;
     push_outputs(alloc, &mut out, resolved.outputs.as_slice())?;
+    push_cond(alloc, &mut out, &resolved.cond)?;
     Ok(out)
 }
 
@@ -506,15 +567,19 @@ fn resolved(alloc: Global, schema: &Schema, text: &[u8]) -> Result<String, Fail>
 }
 
 fn check_queries(rt: &impl Abort, alloc: Global, schema: &Schema) -> Result<(), Fail> {
-    let cases: [(&[u8], &str); 7] = [
+    let cases: [(&[u8], &str); 8] = [
         (
             b"retrieve (t.A, B) where C = 'x' and t.A < B",
-            "t - 0.0 1.1 1.2 0 1 ",
+            "t - 0.0 1.1 1.2 0 1 &([2]='x' [0]<[1] )",
         ),
-        (b"retrieve (A, A, t.A)", "- t 0.0 1.0 0 0 1 "),
+        (b"retrieve (A, A, t.A)", "- t 0.0 1.0 0 0 1 &()"),
         (
             b"retrieve (A) where B = 1 or t.C = C",
-            "- t 0.0 0.1 1.2 0.2 0 ",
+            "- t 0.0 0.1 1.2 0.2 0 |([1]=1 [2]=[3] )",
+        ),
+        (
+            b"retrieve (A) where not (A >= 5 and -7 != t.A)",
+            "- t 0.0 1.0 0 !&([0]>=5 -7!=[1] )",
         ),
         (b"retrieve (D, E) where F = 1", "unknown D"),
         (b"retrieve (A) where A = C and E = 1", "unknown E"),
@@ -587,14 +652,14 @@ fn a_variable_is_mentioned_in_the_whole_query(rt: HostRuntime) -> Result<(), Fai
     check_mentions(&rt, rt.alloc(), &schema)
 }
 
-/// The place on the left of the comparison that the condition is, or the refusal.
-fn left_place(alloc: Global, outcome: &Result<Cond, QueryFault>) -> Result<String, AllocError> {
+/// The condition, or the refusal.
+fn condition(alloc: Global, outcome: &Result<Cond, QueryFault>) -> Result<String, AllocError> {
     match outcome {
-        Ok(Cond::Compare(literal)) => match &literal.left {
-            Operand::Place(place) => format!(in alloc; "place {place}"),
-            Operand::Const(_) => String::from_str(alloc, "constant"),
-        },
-        Ok(_) => String::from_str(alloc, "several"),
+        Ok(cond) => {
+            let mut out = String::new(alloc);
+            push_cond(alloc, &mut out, cond)?;
+            Ok(out)
+        }
         Err(fault) => refusal(alloc, fault),
     }
 }
@@ -606,7 +671,7 @@ fn deletion(alloc: Global, schema: &Schema, statement: &Statement) -> Result<Str
     match statement {
         Statement::DeleteWhere { relation: _, cond } if schema.relations() > 0 => {
             let outcome = resolve_columns(alloc, schema, 0, cond);
-            left_place(alloc, &outcome)
+            condition(alloc, &outcome)
         }
         _ => String::from_str(alloc, "no deletion"),
     }
@@ -620,8 +685,8 @@ fn resolved_deletion(alloc: Global, schema: &Schema, text: &[u8]) -> Result<Stri
 
 fn check_deletions(rt: &impl Abort, alloc: Global, schema: &Schema) -> Result<(), Fail> {
     let cases: [(&[u8], &str); 5] = [
-        (b"delete P where Y = 'a'", "place 1"),
-        (b"delete P where X = 1 and 2 = X", "several"),
+        (b"delete P where Y = 'a'", "[1]='a' "),
+        (b"delete P where X = 1 or not (2 <= X)", "|([0]=1 !2<=[0] )"),
         (b"delete P where A = 1", "unknown column A"),
         (b"delete P where X = Y and Z = 1", "unknown column Z"),
         (b"delete P where X = Y", "kinds int text"),

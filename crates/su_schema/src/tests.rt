@@ -193,13 +193,15 @@ fn each_definition_is_refused_by_its_first_failing_check(rt: HostRuntime) -> Res
     Ok(())
 }
 
-// Whether so many definitions of a form are taken, numbered by their names, and one more is not.
+// Whether so many definitions of a form are taken, numbered by their names, and one more is refused for
+// this limit.
 fn takes(
     alloc: Global,
     schema: &mut Schema,
     form: &str,
     more: &str,
     most: u16,
+    limit: &str,
 ) -> Result<bool, NoMemory> {
     for i in 0..most {
         let name = format!(in alloc; "N{i}")?;
@@ -209,11 +211,7 @@ fn takes(
         }
     }
     let definition = definition(alloc, form, "Last", more)?;
-    Ok(
-        answer(schema, alloc, &definition)?
-            .as_str()
-            .starts_with("limit"),
-    )
+    Ok(answer(schema, alloc, &definition)?.as_str() == limit)
 }
 
 #[test]
@@ -222,32 +220,34 @@ fn one_past_the_attributes_the_relations_and_the_objects_is_refused(
 ) -> Result<(), Fail> {
     let alloc = rt.alloc();
     let mut schema = Schema::new(alloc);
-    assert!(rt; takes(alloc, &mut schema, "a", "", 128)?);
-    assert!(rt; takes(alloc, &mut schema, "r", "N0", 64)?);
-    assert!(rt; takes(alloc, &mut schema, "n", "N0=N0", 64)?);
+    assert!(rt; takes(alloc, &mut schema, "a", "", 128, "limit attributes")?);
+    assert!(rt; takes(alloc, &mut schema, "r", "N0", 64, "limit relations")?);
+    assert!(rt; takes(alloc, &mut schema, "n", "N0=N0", 64, "limit objects")?);
     Ok(())
 }
 
-// Whether the definition of a line is taken so many times, and then no more.
-fn repeats(alloc: Global, schema: &mut Schema, line: &str, times: u16) -> Result<bool, NoMemory> {
+// Whether the definition of a line is taken so many times, and then refused for this limit.
+fn repeats(
+    alloc: Global,
+    schema: &mut Schema,
+    line: &str,
+    times: u16,
+    limit: &str,
+) -> Result<bool, NoMemory> {
     for _ in 0..times {
         if answer_of_line(schema, alloc, line)?.as_str() != "ok" {
             return Ok(false);
         }
     }
-    Ok(
-        answer_of_line(schema, alloc, line)?
-            .as_str()
-            .starts_with("limit"),
-    )
+    Ok(answer_of_line(schema, alloc, line)?.as_str() == limit)
 }
 
 #[test]
 fn one_past_the_dependencies_and_the_declared_is_refused(rt: HostRuntime) -> Result<(), Fail> {
     let alloc = rt.alloc();
     let mut schema = cased(alloc)?;
-    assert!(rt; repeats(alloc, &mut schema, "f|A|B", 255)?);
-    assert!(rt; repeats(alloc, &mut schema, "m|O", 62)?);
+    assert!(rt; repeats(alloc, &mut schema, "f|A|B", 255, "limit fds")?);
+    assert!(rt; repeats(alloc, &mut schema, "m|O", 62, "limit maximal")?);
     Ok(())
 }
 

@@ -153,24 +153,34 @@ fn query(alloc: Global, schema: &Schema, text: &str) -> Result<Option<Resolved>,
     }
 }
 
-// How many rows each term of a query of banks has; none where it is no query.
+// The query, or a failure where the text is none over the schema.
+fn asked(alloc: Global, schema: &Schema, text: &str) -> Result<Resolved, Fail>
+    ensures { IfOk result (IsResolved schema.now) }
+{
+    match query(alloc, schema, text)? {
+        Some(resolved) => Ok(resolved),
+        None => Err(Fail::from("no query")),
+    }
+}
+
+// How many rows each term has.
+fn row_counts(alloc: Global, terms: &[Term]) -> Result<List<usize>, NoMemory> {
+    let mut rows = List::new(alloc);
+    for term in terms {
+        rows.push(term.tableau.row_count())?;
+    }
+    Ok(rows)
+}
+
+// How many rows each term of a query of banks has.
 fn counts(
     alloc: Global,
     schema: &Schema,
     text: &str,
-) -> Result<Result<List<usize>, StepFault>, NoMemory> {
-    let resolved = match query(alloc, schema, text)? {
-        Some(resolved) => resolved,
-        None => return Ok(Ok(List::new(alloc))),
-    };
+) -> Result<Result<List<usize>, StepFault>, Fail> {
+    let resolved = asked(alloc, schema, text)?;
     match bank_terms(alloc, schema, &resolved) {
-        Ok(terms) => {
-            let mut rows = List::new(alloc);
-            for term in terms.as_slice() {
-                rows.push(term.tableau.row_count())?;
-            }
-            Ok(Ok(rows))
-        }
+        Ok(terms) => Ok(Ok(row_counts(alloc, terms.as_slice())?)),
         Err(fault) => Ok(Err(fault)),
     }
 }
@@ -182,7 +192,7 @@ fn has_terms(
     text: &str,
     count: usize,
     rows: usize,
-) -> Result<bool, NoMemory> {
+) -> Result<bool, Fail> {
     match counts(alloc, schema, text)? {
         Ok(found) => Ok(found.len() == count && found.as_slice().iter().all(|n| *n == rows)),
         Err(_) => Ok(false),
@@ -194,7 +204,7 @@ fn have_terms(
     alloc: Global,
     schema: &Schema,
     cases: &[(&str, usize, usize)],
-) -> Result<bool, NoMemory> {
+) -> Result<bool, Fail> {
     for (text, count, rows) in cases {
         if !has_terms(alloc, schema, text, *count, *rows)? {
             return Ok(false);
@@ -240,8 +250,8 @@ fn each_choice_of_each_disjunct_gives_a_term_unless_it_is_contradictory(
     Ok(())
 }
 
-// What a query of banks is answered: a word.
-fn answer(alloc: Global, schema: &Schema, text: &str) -> Result<&'static str, NoMemory> {
+// What a query of banks is answered, in words.
+fn answer(alloc: Global, schema: &Schema, text: &str) -> Result<&'static str, Fail> {
     match counts(alloc, schema, text)? {
         Ok(found) => {
             if found.len() == 256 {
@@ -253,49 +263,98 @@ fn answer(alloc: Global, schema: &Schema, text: &str) -> Result<&'static str, No
     }
 }
 
+// Of the variables, the blank one and q are told by their names.
 fn told(fault: &StepFault) -> &'static str {
     match fault {
         StepFault::NotCovered {
-            variable: None,
+            variable,
             mentioned,
         } => {
-            if mentioned.contains(1) && mentioned.contains(4) && !mentioned.contains(2) {
-                return "no maximal object covers -: ACCT LOAN";
+            if !mentioned.contains(1) || !mentioned.contains(4) || mentioned.contains(2) {
+                return "other attributes";
             }
-            "covered"
+            match variable {
+                None => "no maximal object covers -: ACCT LOAN",
+                Some(name) if name.as_str() == "q" => "no maximal object covers q: ACCT LOAN",
+                Some(_) => "another variable",
+            }
         }
         StepFault::Limit(limit) => limit_word(*limit),
-        _ => "something else",
+        StepFault::NoMemory => "no memory",
     }
 }
 
 fn limit_word(limit: StepLimit) -> &'static str {
     match limit {
-        StepLimit::Disjuncts => "disjuncts",
-        StepLimit::Rows => "rows",
+        StepLimit::Disjuncts => "more than 64 disjuncts",
+        StepLimit::Rows => "more than 64 rows",
         StepLimit::Terms => "more than 256 terms",
     }
 }
+
+// Seven times over, one of two constants.
+const DISJUNCTS: &str = "retrieve (CUST) where (CUST = 'a' or CUST = 'b') \
+    and (CUST = 'a' or CUST = 'b') and (CUST = 'a' or CUST = 'b') and (CUST = 'a' or CUST = 'b') \
+    and (CUST = 'a' or CUST = 'b') and (CUST = 'a' or CUST = 'b') and (CUST = 'a' or CUST = 'b')";
 
 #[test]
 fn a_query_is_refused_for_its_first_cause(rt: HostRuntime) -> Result<(), Fail> {
     let alloc = rt.alloc();
     let schema = bank(alloc)?;
-    let uncovered = answer(alloc, &schema, "retrieve (ACCT, LOAN)")?;
-    assert_eq!(rt; uncovered, "no maximal object covers -: ACCT LOAN");
-    let most = answer(
-        alloc,
-        &schema,
-        "retrieve (a.CUST, b.CUST, c.CUST, d.CUST, e.CUST, f.CUST, g.CUST, h.CUST)",
-    )?;
-    assert_eq!(rt; most, "256 terms");
-    let more = answer(
-        alloc,
-        &schema,
-        "retrieve (a.CUST, b.CUST, c.CUST, d.CUST, e.CUST, f.CUST, g.CUST, h.CUST) \
-         where a.CUST = 'Jones' or a.CUST = 'Smith'",
-    )?;
-    assert_eq!(rt; more, "more than 256 terms");
+    let cases = [
+        (
+            "retrieve (ACCT, LOAN)",
+            "no maximal object covers -: ACCT LOAN",
+        ),
+        (
+            "retrieve (CUST, q.ACCT) where q.LOAN = 1",
+            "no maximal object covers q: ACCT LOAN",
+        ),
+        (DISJUNCTS, "more than 64 disjuncts"),
+        (
+            "retrieve (a.CUST, b.CUST, c.CUST, d.CUST, e.CUST, f.CUST, g.CUST, h.CUST)",
+            "256 terms",
+        ),
+        (
+            "retrieve (a.CUST, b.CUST, c.CUST, d.CUST, e.CUST, f.CUST, g.CUST, h.CUST) \
+             where a.CUST = 'Jones' or a.CUST = 'Smith'",
+            "more than 256 terms",
+        ),
+    ];
+    for (text, wanted) in cases {
+        assert_eq!(rt; answer(alloc, &schema, text)?, wanted);
+    }
+    Ok(())
+}
+
+// Nine objects, each of the one attribute A.
+fn nine(alloc: Global) -> Result<Schema, NoMemory> {
+    let mut schema = Schema::new(alloc);
+    add_attribute(alloc, &mut schema, "A", Kind::Int)?;
+    for name in ["R", "S", "T", "U", "V", "W", "X", "Y", "Z"] {
+        add_object(alloc, &mut schema, name, &[("A", Kind::Int)])?;
+    }
+    Ok(schema)
+}
+
+// What the query is answered where all nine objects are one maximal object.
+fn answer_of_nine(alloc: Global, text: &str) -> Result<&'static str, Fail> {
+    let schema = nine(alloc)?;
+    let resolved = asked(alloc, &schema, text)?;
+    let maximal = [objects(&[0, 1, 2, 3, 4, 5, 6, 7, 8])];
+    match terms(alloc, &schema, &maximal, &resolved) {
+        Ok(_) => Ok("terms"),
+        Err(fault) => Ok(told(&fault)),
+    }
+}
+
+#[test]
+fn a_term_has_at_most_64_rows(rt: HostRuntime) -> Result<(), Fail> {
+    let alloc = rt.alloc();
+    let seven = answer_of_nine(alloc, "retrieve (a.A, b.A, c.A, d.A, e.A, f.A, g.A)")?;
+    assert_eq!(rt; seven, "terms");
+    let eight = answer_of_nine(alloc, "retrieve (a.A, b.A, c.A, d.A, e.A, f.A, g.A, h.A)")?;
+    assert_eq!(rt; eight, "more than 64 rows");
     Ok(())
 }
 

@@ -148,7 +148,7 @@ fn first_is_seven() -> Cond
 }
 
 #[test]
-fn a_condition_is_true_of_a_row_and_its_copy_is_equal(rt: HostRuntime) -> Result<(), Fail> {
+fn a_condition_is_true_of_some_rows_and_its_copy_is_equal(rt: HostRuntime) -> Result<(), Fail> {
     let a = rt.alloc();
     let cond = first_is_seven();
     let again = copy(a, &cond)?;
@@ -156,5 +156,8 @@ fn a_condition_is_true_of_a_row_and_its_copy_is_equal(rt: HostRuntime) -> Result
     let mut row = List::new(a);
     row.push(Value::Int(7))?;
     assert!(rt; truth(&cond, &row));
+    let mut other = List::new(a);
+    other.push(Value::Int(8))?;
+    assert!(rt; !truth(&cond, &other));
     Ok(())
 }
