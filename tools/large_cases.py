@@ -70,7 +70,7 @@ def large_trees(draw, past):
     return schema, [f"explain with retrieve ({names[0]}.C) where {' and '.join(ones + same)}".encode()], {}
 
 
-# The cases of every 2,000, by their numbers.
+# The cases by their numbers.
 PLACES = {113: (long_script, 1), 213: (long_script, 0), 313: (long_file, 1), 617: (large_trees, 1),
           717: (records, 1), 817: (full_relation, 1), 917: (large_answer, 1), 1113: (long_file, 0),
           1217: (large_trees, 0), 1317: (records, 0), 1417: (full_relation, 0), 1517: (large_answer, 0)}
@@ -78,8 +78,8 @@ PLACES = {113: (long_script, 1), 213: (long_script, 0), 313: (long_file, 1), 617
 
 def large_case(draw, number):
     """The schema, the script and the files of the large case of this number, or None."""
-    if number % 2000 not in PLACES:
+    if number not in PLACES:
         return None
-    drawn, past = PLACES[number % 2000]
+    drawn, past = PLACES[number]
     schema, script, files = drawn(draw, past)
     return [text.encode() for text in schema], script, files
