@@ -13,6 +13,7 @@ use su_maxobj::maximal_objects;
 use su_par::{Gate, OpenGate};
 use su_query::{Resolved, Statement, read, resolve};
 use su_state::Database;
+use su_steps::{StepFault, StepLimit};
 
 const BANK: &str =
     "attribute BANK text; attribute ACCT int; attribute CUST text; attribute BAL int; attribute LOAN int; attribute AMT int; attribute ADDR text; relation BA (BANK text, ACCT int); relation AC (ACCT int, CUST text); relation AB (ACCT int, BAL int); relation BL (BANK text, LOAN int); relation LC (LOAN int, CUST text); relation LA (LOAN int, AMT int); relation CA (CUST text, ADDR text); object BANK_ACCT (BANK, ACCT) from BA (BANK, ACCT); object ACCT_CUST (ACCT, CUST) from AC (ACCT, CUST); object ACCT_BAL (ACCT, BAL) from AB (ACCT, BAL); object BANK_LOAN (BANK, LOAN) from BL (BANK, LOAN); object LOAN_CUST (LOAN, CUST) from LC (LOAN, CUST); object LOAN_AMT (LOAN, AMT) from LA (LOAN, AMT); object CUST_ADDR (CUST, ADDR) from CA (CUST, ADDR); fd ACCT -> BANK; fd ACCT -> BAL; fd LOAN -> BANK; fd LOAN -> AMT; fd CUST -> ADDR;";
@@ -298,6 +299,54 @@ fn comparisons_are_kept_in_the_joins(rt: HostRuntime) -> Result<(), Fail> {
     ];
     for (text, want) in cases {
         assert_eq!(rt; answered(&rt, a, &db, text, 1)?.as_str(), want);
+    }
+    Ok(())
+}
+
+fn cause(fault: &StepFault) -> &'static str {
+    match fault {
+        StepFault::NotCovered { .. } => "not covered",
+        StepFault::Limit(StepLimit::Disjuncts) => "disjuncts",
+        StepFault::Limit(StepLimit::Rows) => "rows",
+        StepFault::Limit(StepLimit::Terms) => "terms",
+        StepFault::NoMemory => "no memory",
+    }
+}
+
+/// Why the query is not prepared, in a word.
+fn refused_for<R: Threads + Sync>(
+    rt: &R,
+    alloc: Global,
+    db: &Database,
+    text: &str,
+) -> Result<&'static str, Fail> {
+    let statement = read(alloc, text.as_bytes())?;
+    let resolved = resolved_of(alloc, db, &statement)?;
+    let maximal = maximal_objects(alloc, db.schema())?;
+    match prepare(rt, alloc, db, maximal.as_slice(), &resolved, 1, &OpenGate) {
+        Ok(_) => Ok("prepared"),
+        Err(fault) => Ok(cause(&fault)),
+    }
+}
+
+#[test]
+fn a_query_is_not_prepared_for_its_first_cause(rt: HostRuntime) -> Result<(), Fail> {
+    let a = rt.alloc();
+    let db = stored(a, BANK, &[])?;
+    let cases = [
+        ("retrieve (BAL, AMT)", "not covered"),
+        ("retrieve (CUST, t.BAL, t.AMT)", "not covered"),
+        (
+            "retrieve (CUST) where (BAL = 1 or BAL = 2) and (BAL = 1 or BAL = 2) and (BAL = 1 or BAL = 2) and (BAL = 1 or BAL = 2) and (BAL = 1 or BAL = 2) and (BAL = 1 or BAL = 2) and (BAL = 1 or BAL = 2)",
+            "disjuncts",
+        ),
+        (
+            "retrieve (a.CUST, b.CUST, c.CUST, d.CUST, e.CUST, f.CUST, g.CUST, h.CUST) where a.CUST = 'Jones' or a.CUST = 'Smith'",
+            "terms",
+        ),
+    ];
+    for (text, want) in cases {
+        assert_eq!(rt; refused_for(&rt, a, &db, text)?, want);
     }
     Ok(())
 }
