@@ -1,7 +1,7 @@
 #!/usr/bin/env python3
 """The language of sysu as a program that anyone can read: short, slow and by the definitions.
 
-    model.py run SCHEMA SCRIPT [--workers N]
+    model.py run SCHEMA SCRIPT [--workers N] | generate N | check FILE
 
 writes what the program writes and ends with its status. It is made from the documents in docs/ alone and shares nothing
 with the program. It tries all sets of rows, all lists of targets and all valuations, so it is for small cases. It goes
@@ -22,6 +22,7 @@ from operator import eq, ge, gt, le, lt, ne
 import certificates
 import check
 import csv_records
+import model_bank
 
 USAGE = "usage: sysu run SCHEMA SCRIPT [--workers N] | sysu generate N | sysu check FILE\n"
 MARK = b"\xef\xbb\xbf"
@@ -857,6 +858,8 @@ def output(words, files):
             return int(line.startswith("no")), line + "\n"
         except Ended as end:
             return end.args[0], ""
+    if words[:1] == ["generate"] and words[1:] in [[str(count)] for count in range(1, 1001)]:
+        return 0, model_bank.told(int(words[1]), Database(read_schema(model_bank.SCHEMA)), replied)
     options = [[]] + [["--workers", str(count)] for count in range(1, 17)]
     if words[:1] != ["run"] or len(words) < 3 or words[3:] not in options:
         return 2, USAGE

@@ -11,6 +11,7 @@ use Rattle.su_schema.specs.SchemaValue.{SchemaValue}
 use Rattle.su_session.specs.Opening.{empty_database}
 use Rattle.sysu.specs.declared.status.Status.{Status}
 use Rattle.sysu.specs.declared.status.Status.TheVariants.{Done, SomeRefused, Usage, BadSchema, ReadFault, WriteFault, TooLong, NoMemory}
+use Rattle.sysu.specs.Banks.{BankEnds, WroteBank}
 use Rattle.sysu.specs.Causes.{Caused}
 use Rattle.sysu.specs.Checks.{CheckEnds}
 use Rattle.sysu.specs.Closing.{Closes, HandsOver, FailedToHandOver}
@@ -19,7 +20,7 @@ use Rattle.sysu.specs.Moments.{Moment, Told}
 use Rattle.sysu.specs.Output.{AnswersBefore, LoadsFrom, load_limit}
 use Rattle.sysu.specs.Statements.{StoppedAtLoad}
 use Rattle.sysu.specs.Statuses.{Comes, RunEnds, UsageEnds}
-use Rattle.sysu.specs.Words.{Named, named}
+use Rattle.sysu.specs.Words.{Named, named, Generates}
 
 pub run_caused : (names : Named) (old new : Moment) (status : Status) → RunEnds names old new status → Caused old.reads new.reads old.writes new.writes status
 run_caused names old new Done ends = ends.0.writes
@@ -134,13 +135,35 @@ module _ (names : Named) (files : List AFile) (old new : Moment) (is : IsUntroub
   ]
   untroubled NoMemory caused ends = inr refl
 
--- how a run ends, by its causes
-pub complete : (words : List (List ℕ)) (old new : Moment) (status : Status) → HandsOver (Comes words old) new status → Caused old.reads new.reads old.writes new.writes status → IsComplete words old new status
-complete words old new Done ends caused names files known is = untroubled names files old new is Done caused (ends.ran names known)
-complete words old new SomeRefused ends caused names files known is = untroubled names files old new is SomeRefused caused (ends.ran names known)
-complete words old new Usage ends caused names files known is = untroubled names files old new is Usage caused (ends.ran names known)
-complete words old new BadSchema ends caused names files known is = untroubled names files old new is BadSchema caused (ends.ran names known)
-complete words old new ReadFault ends caused names files known is = untroubled names files old new is ReadFault caused (ends.ran names known)
-complete words old new WriteFault ends caused names files known is = absurd (is.no_write_fault caused)
-complete words old new TooLong ends caused names files known is = untroubled names files old new is TooLong caused (ends.ran names known)
-complete words old new NoMemory ends caused names files known is = inr refl
+-- the making of a bank ends so, and no write failed
+bank_untroubled : (n : ℕ) (old new : Moment) → ¬ Rose old.writes new.writes → (status : Status) → BankEnds n old.told old.writes new.told new.writes status → ((status ≡ Done) × WroteBank n old.told new.told) ⊎ (status ≡ NoMemory)
+bank_untroubled n old new no_fault Done ends = inl (refl, ends.1)
+bank_untroubled n old new no_fault WriteFault ends = absurd (no_fault ends.0)
+bank_untroubled n old new no_fault NoMemory ends = inr refl
+bank_untroubled n old new no_fault SomeRefused ends = absurd ends
+bank_untroubled n old new no_fault Usage ends = absurd ends
+bank_untroubled n old new no_fault BadSchema ends = absurd ends
+bank_untroubled n old new no_fault ReadFault ends = absurd ends
+bank_untroubled n old new no_fault TooLong ends = absurd ends
+
+module _ (words : List (List ℕ)) (old new : Moment) where
+  -- it came to its end without a fault of the hand-over
+  came : (status : Status) → Comes words old new status → Caused old.reads new.reads old.writes new.writes status → IsComplete words old new status
+  came status comes caused = record {
+    ran = λ names files known is. untroubled names files old new is status caused (comes.ran names known);
+    generated = λ n asked no_fault. bank_untroubled n old new no_fault status (comes.generated n asked).3;
+  }
+
+  -- how a run ends, by its causes
+  pub complete : (status : Status) → HandsOver (Comes words old) new status → Caused old.reads new.reads old.writes new.writes status → IsComplete words old new status
+  complete Done ends caused = came Done ends caused
+  complete SomeRefused ends caused = came SomeRefused ends caused
+  complete Usage ends caused = came Usage ends caused
+  complete BadSchema ends caused = came BadSchema ends caused
+  complete ReadFault ends caused = came ReadFault ends caused
+  complete TooLong ends caused = came TooLong ends caused
+  complete WriteFault ends caused = record {
+    ran = λ names files known is. absurd (is.no_write_fault caused);
+    generated = λ n asked no_fault. absurd (no_fault caused);
+  }
+  complete NoMemory ends caused = record { ran = λ names files known is. inr refl; generated = λ n asked no_fault. inr refl }

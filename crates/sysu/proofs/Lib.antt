@@ -7,3 +7,4 @@ pub mod Promised
 pub mod Verdicts
 pub mod Closing
 pub mod Completing
+pub mod Asking

@@ -1,4 +1,4 @@
--- What a run comes to where nothing of the outside stands in its way.
+-- What a run, or the making of a bank, comes to where nothing of the outside stands in its way.
 use Rattle.std.specs.Prelude.{◌≡◌, ◌≤◌, ◌⊎◌, ℕ, List, Bool, true, false, Some, Ok, length}
 use Rattle.su_io.specs.Causes.{Rose}
 use Rattle.su_io.specs.declared.files.File.{File as AFile}
@@ -8,11 +8,12 @@ use Rattle.su_schema.specs.SchemaValue.{SchemaValue}
 use Rattle.su_session.specs.Opening.{empty_database}
 use Rattle.sysu.specs.declared.status.Status.{Status}
 use Rattle.sysu.specs.declared.status.Status.TheVariants.{Done, SomeRefused, NoMemory}
+use Rattle.sysu.specs.Banks.{WroteBank}
 use Rattle.sysu.specs.Moments.{Moment}
 use Rattle.sysu.specs.Output.{LoadsFrom, load_limit}
 use Rattle.sysu.specs.Statements.{WroteAll}
 use Rattle.sysu.specs.Statuses.{OfFiles, schema_limit, script_limit}
-use Rattle.sysu.specs.Words.{Named, named}
+use Rattle.sysu.specs.Words.{Named, named, Generates}
 
 -- the shelf tells its files, the schema is accepted, no count of faults rose, and no file is past its limit
 pub record IsUntroubled (names : Named) (files : List AFile) (old new : Moment) : Type 0 where
@@ -31,6 +32,7 @@ Finished names old new Done = OfFiles names old (λ schema script. WroteAll old.
 Finished names old new SomeRefused = OfFiles names old (λ schema script. WroteAll old.files schema script old.told new.told true)
 Finished names old new status = ⊥
 
--- such a run finishes, or ends for want of memory
-abbrev pub IsComplete : List (List ℕ) → Moment → Moment → Status → Type 0
-IsComplete words old new status = (names : Named) (files : List AFile) → named words ≡ Some names → IsUntroubled names files old new → Finished names old new status ⊎ (status ≡ NoMemory)
+-- such a run finishes, or ends for want of memory; where no write fails, the bank's text is written, or there is want of memory
+pub record IsComplete (words : List (List ℕ)) (old new : Moment) (status : Status) : Type 0 where
+  pub ran : (names : Named) (files : List AFile) → named words ≡ Some names → IsUntroubled names files old new → Finished names old new status ⊎ (status ≡ NoMemory)
+  pub generated : (n : ℕ) → Generates words n → ¬ Rose old.writes new.writes → ((status ≡ Done) × WroteBank n old.told new.told) ⊎ (status ≡ NoMemory)

@@ -1,13 +1,14 @@
+pub mod Banks
 pub mod Causes
 pub mod Checks
 pub mod Closing
 pub mod Complete
 pub mod Handing
+pub mod Headline
 pub mod Moments
 pub mod Output
 pub mod Reads
 pub mod Statements
 pub mod Statuses
-pub mod Words
 pub mod Turns
-pub mod Headline
+pub mod Words

@@ -5,7 +5,7 @@ use Rattle.su_io.specs.Ends.{Grew}
 use Rattle.sysu.specs.declared.status.Status.{Status}
 use Rattle.sysu.specs.declared.status.Status.TheVariants.{Done, SomeRefused, Usage, BadSchema, ReadFault, WriteFault, TooLong, NoMemory}
 use Rattle.sysu.specs.Moments.{Told, Moment, NoFault, Wrote, WroteFront, WroteWhole}
-use Rattle.sysu.specs.Words.{Named, named, checks, usage_line}
+use Rattle.sysu.specs.Words.{Named, named, checks, Generates, usage_line}
 use Rattle.su_ddl.specs.declared.faults.DdlFault.{DdlFault}
 use Rattle.su_ddl.specs.Reading.{Reads}
 use Rattle.su_schema.specs.SchemaValue.{SchemaValue}
@@ -13,6 +13,7 @@ use Rattle.su_session.specs.Opening.{empty_database}
 use Rattle.su_show.specs.Refusals.{schema_line, IsOfText}
 use Rattle.sysu.specs.Output.{IsFile, IsOver, LoadsFrom, load_limit}
 use Rattle.sysu.specs.Checks.{CheckEnds}
+use Rattle.sysu.specs.Banks.{GenerateEnds}
 use Rattle.sysu.specs.Statements.{BeganOver, StoppedAtLoad, WroteAll, WroteFirst, WroteFrontOf}
 
 -- 1 MiB
@@ -95,8 +96,9 @@ UsageEnds old before new after Usage = (after ≡ before) × WroteWhole old new 
 UsageEnds old before new after WriteFault = Rose before after × ((count : ℕ) × (count ≤ length usage_line) × Grew old.written new.written (take count usage_line))
 UsageEnds old before new after _ = ⊥
 
--- how a run or a check comes to its end, by its words
+-- how a run, a check or the making of a bank comes to its end, by its words
 pub record Comes (words : List (List ℕ)) (old new : Moment) (status : Status) : Type 0 where
-  pub usage : named words ≡ None → checks words ≡ None → (new.reads ≡ old.reads) × (new.begun ≡ old.begun) × (new.taken ≡ old.taken) × UsageEnds old.told old.writes new.told new.writes status
+  pub usage : named words ≡ None → checks words ≡ None → ((n : ℕ) → ¬ Generates words n) → (new.reads ≡ old.reads) × (new.begun ≡ old.begun) × (new.taken ≡ old.taken) × UsageEnds old.told old.writes new.told new.writes status
   pub ran : (names : Named) → named words ≡ Some names → RunEnds names old new status
   pub checked : (file : List ℕ) → checks words ≡ Some file → CheckEnds file old new status
+  pub generated : (n : ℕ) → Generates words n → GenerateEnds n old new status

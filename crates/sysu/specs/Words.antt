@@ -1,5 +1,5 @@
 -- What the words of the command line ask for.
-use Rattle.std.specs.Prelude.{ℕ, ◌&&◌, Bool, false, List, [], ◌∷◌, ◌++◌, Option, Some, None, cond, codes, bytes_eq, nat_eq, nat_lt}
+use Rattle.std.specs.Prelude.{◌≡◌, ◌≤◌, ℕ, decimal, ◌&&◌, Bool, false, List, [], ◌∷◌, ◌++◌, Option, Some, None, cond, codes, bytes_eq, nat_eq, nat_lt}
 
 -- the two files that a run reads
 pub record Named : Type 0 where
@@ -23,6 +23,10 @@ named words = None
 abbrev pub checks : List (List ℕ) → Option (List ℕ)
 checks (word ∷ file ∷ []) = cond (bytes_eq word (codes "check")) (Some file) None
 checks words = None
+
+-- the words ask for a bank with n rows in each relation: `generate N`, N the decimal of a number from 1 to 1,000
+abbrev pub Generates : List (List ℕ) → ℕ → Type 0
+Generates words n = (1 ≤ n) × (n ≤ 1000) × (words ≡ codes "generate" ∷ decimal n ∷ [])
 
 -- what is written for words of any other form
 abbrev pub usage_line : List ℕ

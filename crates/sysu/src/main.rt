@@ -1,5 +1,6 @@
 //! `sysu run SCHEMA SCRIPT [--workers N]`: reads a schema and a script, and writes one reply per
-//! statement. `sysu check FILE`: tells the verdict on a certificate.
+//! statement. `sysu generate N`: makes a bank with N rows in each relation, and tells what four queries
+//! find in it. `sysu check FILE`: tells the verdict on a certificate.
 //!
 //! `top::run` is the whole program over any shelf and sink; `main` hands it the files of the system
 //! and standard output, which is written in large pieces, and ends with its status as exit code.
@@ -7,6 +8,7 @@
 #![tactic(auto)]
 
 mod checking;
+mod generating;
 mod headline;
 mod reading;
 mod statements;

@@ -20,6 +20,11 @@ const OUTPUT: &str =
 const USAGE: &str =
     "usage: sysu run SCHEMA SCRIPT [--workers N] | sysu generate N | sysu check FILE\n";
 
+// Of seven rows a relation, account 7 of C7 is in bank B2 and his loan 7 in B1, whose other accounts and
+// loans are those of C1, C2, C4, C5 and C6.
+const BANK_OF_SEVEN: &str =
+    "bank 7\nquery 1: terms 2 kept 2 rows 2\nquery 2: terms 2 kept 1 rows 7\nquery 3: terms 4 kept 4 rows 6\nquery 4: terms 1 kept 1 rows 0\n";
+
 pub(crate) fn words(alloc: Global, all: &[&str]) -> Result<List<Str>, NoMemory> {
     let mut words = List::new(alloc);
     for word in all {
@@ -90,6 +95,19 @@ fn a_run_ends_with_its_status_and_output(rt: HostRuntime) -> Result<(), Fail> {
         (&["walk", "s", "t"], SCHEMA, SCRIPT, Status::Usage, USAGE),
         (&["check"], SCHEMA, SCRIPT, Status::Usage, USAGE),
         (&["check", "s", "t"], SCHEMA, SCRIPT, Status::Usage, USAGE),
+        (&["generate"], SCHEMA, SCRIPT, Status::Usage, USAGE),
+        (&["generate", "0"], SCHEMA, SCRIPT, Status::Usage, USAGE),
+        (&["generate", "07"], SCHEMA, SCRIPT, Status::Usage, USAGE),
+        (&["generate", "+7"], SCHEMA, SCRIPT, Status::Usage, USAGE),
+        (&["generate", "1001"], SCHEMA, SCRIPT, Status::Usage, USAGE),
+        (
+            &["generate", "7", "7"],
+            SCHEMA,
+            SCRIPT,
+            Status::Usage,
+            USAGE,
+        ),
+        (&["generate", "7"], "", "", Status::Done, BANK_OF_SEVEN),
         (&[], SCHEMA, SCRIPT, Status::Usage, USAGE),
     ];
     for (all, schema, script, status, want) in cases {

@@ -9,6 +9,7 @@ ghost use Rattle.sysu.specs.Words.{named, checks, is_count};
 ghost use Rattle.sysu.specs.Headline.{Headline};
 
 use crate::checking::check_file;
+use crate::generating::{generate, rows_asked};
 use crate::headline::queries_are_answered;
 use crate::reading::read_file;
 use crate::statements::answer_all;
@@ -190,6 +191,9 @@ fn run_words<R: Threads + Sync, H: Shelf, K: Sink, G: Gate>(
     if let Some(file) = check_of(words) {
         return check_file(alloc, file, shelf, out);
     }
+    if let Some(n) = rows_asked(words) {
+        return generate(rt, alloc, n, out, gate);
+    }
     let Some(asked) = command_of(words) else {
         return tell_usage(out);
     };
@@ -216,14 +220,16 @@ fn hand_over<K: Sink>(out: &mut K, came: Status) -> Status
 }
 
 /// The whole program over any shelf and sink. The words, without the program's name, are
-/// `run SCHEMA SCRIPT`, and may end with `--workers N` for a number from 1 to 16, or `check FILE`; for
-/// any others the usage line is written. The schema file is read first, then the script, whose statements
-/// are answered one by one; each reply is written whole. In the end the sink hands over what it holds
-/// back; where that fails the status is 5, whatever the run came to.
+/// `run SCHEMA SCRIPT`, and may end with `--workers N` for a number from 1 to 16, `generate N` for a
+/// number from 1 to 1,000, or `check FILE`; for any others the usage line is written. The schema file is
+/// read first, then the script, whose statements are answered one by one; each reply is written whole. In
+/// the end the sink hands over what it holds back; where that fails the status is 5, whatever the run came
+/// to.
 ///
 /// At most N terms of a query are minimised or executed at a time (1 without the option), and the
 /// gate is passed before each; neither is in any clause. For `check FILE` the verdict on the
-/// certificate in the file is written: status 0 for a yes, 1 for a no.
+/// certificate in the file is written: status 0 for a yes, 1 for a no. For `generate N` a bank with N
+/// rows in each relation is made, by one worker, and what four queries find in it is written.
 pub fn run<R: Threads + Sync, H: Shelf, K: Sink, G: Gate>(
     rt: &R,
     alloc: Global,

@@ -1,6 +1,6 @@
-use Rattle.std.proofs.Common.{sym}
+use Rattle.std.proofs.Common.{refl, sym}
 use Rattle.sysu.proofs.Completing.{run_caused, check_caused}
-use Rattle.sysu.proofs.Running.{run_is, check_is}
+use Rattle.sysu.proofs.Running.{run_is, check_is, generate_is}
 use Rattle.sysu.proofs.top.run_words.Goals as goal
 
 pub returns-in-Some-clause-comes : goal.returns-in-Some-clause-comes
@@ -8,6 +8,10 @@ returns-in-Some-clause-comes g c = check_is c.args.words.now c.in-Some.file.now 
 
 pub returns-in-Some-clause-caused : goal.returns-in-Some-clause-caused
 returns-in-Some-clause-caused g c = check_caused c.in-Some.file.now _ _ c.check_file.result c.check_file.ensures.ends
+
+pub returns-in-Some-rows_asked-clause-comes : goal.returns-in-Some-rows_asked-clause-comes
+returns-in-Some-rows_asked-clause-comes g c =
+    generate_is c.args.words.now c.in-Some-rows_asked.n _ _ c.generate.result c.in-Some-rows_asked.ensures (refl, refl, refl, c.generate.ensures)
 
 pub returns-clause-comes : goal.returns-clause-comes
 returns-clause-comes g c =

@@ -1,0 +1,4 @@
+pub mod Finding
+pub mod Lining
+pub mod Scripting
+pub mod Taking

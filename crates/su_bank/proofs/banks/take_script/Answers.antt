@@ -1,0 +1,15 @@
+use Rattle.std.proofs.Common.{arith}
+use Rattle.su_bank.proofs.Taking.{takes_more, takes_all}
+use Rattle.su_bank.proofs.banks.take_script.Goals as goal
+
+pub loop-span-preserved : goal.loop-span-preserved
+loop-span-preserved g c =
+    takes_more c.args.script.now c.as_slice-span-items.result.now c.loop-span.span-index _ c.args.session.now c.loop-span.session c.step.new.self _
+    c.loop-span-test.true c.loop-span.invariant c.in_ok-step.ensures.replied
+
+pub returns : goal.returns
+returns g c = (
+  c.as_slice-span-items.result.now,
+  rw c.as_slice-span-items.ensures c.in_ok-spans.ensures.pieces,
+  takes_all c.args.script.now c.as_slice-span-items.result.now c.loop-span.span-index c.args.session.now c.loop-span.session (omega (arith, c.loop-span-test.false)) c.loop-span.invariant,
+)
