@@ -5,27 +5,29 @@ use Rattle.std.specs.Prelude.{◌≡◌, ◌+◌, ℕ, List, [], ◌∷◌, ◌+
 use Rattle.su_lex.specs.declared.spans.Span.{Span}
 use Rattle.su_lex.specs.Pieces.{Pieces}
 use Rattle.su_ddl.specs.Reading.{no_definitions, statement_of}
-use Rattle.su_state.specs.DatabaseValue.{DatabaseValue}
+use Rattle.su_state.specs.DatabaseValue.{DatabaseValue, IsWellKept}
 use Rattle.su_session.specs.Opening.{empty_database}
 use Rattle.su_session.specs.declared.replies.Reply.{Reply}
 use Rattle.su_session.specs.Reply.{Replied}
 use Rattle.su_bank.specs.Lines.{found_line}
 use Rattle.su_bank.specs.Scripts.{bank_script}
 
--- each statement is answered on the database that the ones before it left; none is handed a file
+-- each statement is answered on the database that the ones before it left, which is well kept; none is handed a file
 abbrev pub Takes : DatabaseValue → List (List ℕ) → DatabaseValue → Type 0
 Takes old [] new = new ≡ old
-Takes old (text ∷ texts) new = (reply : Reply) × (next : DatabaseValue) × Replied old text None reply next × Takes next texts new
+Takes old (text ∷ texts) new = IsWellKept old × ((reply : Reply) × (next : DatabaseValue) × Replied old text None reply next × Takes next texts new)
 
 -- what the statements of a script leave
 abbrev pub TakesScript : DatabaseValue → List ℕ → DatabaseValue → Type 0
 TakesScript old script new = (spans : List Span) × Pieces script spans × Takes old (map (statement_of script) spans) new
 
--- the query is explained and answered, one after the other, and has this line
+-- the query is explained and answered, one after the other, on databases that are well kept, and has this line
 pub record Finds (old : DatabaseValue) (number : ℕ) (query line : List ℕ) (new : DatabaseValue) : Type 0 where
+  pub kept : IsWellKept old
   pub explained : Reply
   pub between : DatabaseValue
   pub explains : Replied old (codes "explain " ++ query) None explained between
+  pub still_kept : IsWellKept between
   pub answered : Reply
   pub answers : Replied between query None answered new
   pub line_is : line ≡ found_line number explained.bytes answered.bytes

@@ -8,3 +8,5 @@ pub mod Verdicts
 pub mod Closing
 pub mod Completing
 pub mod Asking
+pub mod OneBank
+pub mod TwoRuns

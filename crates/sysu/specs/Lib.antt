@@ -1,3 +1,4 @@
+pub mod Agreeing
 pub mod Banks
 pub mod Causes
 pub mod Checks

@@ -7,6 +7,7 @@
 //! Nothing goes to standard error.
 #![tactic(auto)]
 
+mod agreeing;
 mod checking;
 mod generating;
 mod headline;

@@ -5,7 +5,7 @@ use Rattle.su_bank.proofs.banks.take_script.Goals as goal
 pub loop-span-preserved : goal.loop-span-preserved
 loop-span-preserved g c =
     takes_more c.args.script.now c.as_slice-span-items.result.now c.loop-span.span-index _ c.args.session.now c.loop-span.session c.step.new.self _
-    c.loop-span-test.true c.loop-span.invariant c.in_ok-step.ensures.replied
+    c.loop-span-test.true c.loop-span.invariant c.step.ensures.kept c.in_ok-step.ensures.replied
 
 pub returns : goal.returns
 returns g c = (

@@ -1,0 +1,16 @@
+pub mod Lists
+pub mod Closed
+pub mod Mapped
+pub mod Counted
+pub mod Rows
+pub mod Breached
+pub mod Changed
+pub mod Loaded
+pub mod Defined
+pub mod Named
+pub mod Refused
+pub mod OneReading
+pub mod Answered
+pub mod Explained
+pub mod Told
+pub mod Replied

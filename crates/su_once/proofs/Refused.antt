@@ -1,0 +1,67 @@
+-- A query that has no terms is refused for one cause.
+use Rattle.std.proofs.Common.{◌≡◌, ◌≢◌, ◌≤◌, ℕ, List, slice_get, Option, Some, None, refl, ap, sym, ◌∙◌, subst, arith}
+use Rattle.std.specs.Ordering.{nat_cmp}
+use Rattle.std.specs.FinSet.{FinSet}
+use Rattle.std.proofs.lemmas.List.Elements.{All-contains}
+use Rattle.su_schema.specs.SchemaValue.{SchemaValue}
+use Rattle.su_query.specs.declared.resolving.Resolved.{Resolved}
+use Rattle.su_query.specs.Sets.{mentioned_with}
+use Rattle.su_steps.specs.declared.faults.StepFault.{StepFault}
+use Rattle.su_steps.specs.declared.faults.StepFault.TheVariants.{NotCovered, Limit, NoMemory}
+use Rattle.su_steps.specs.declared.faults.StepLimit.{StepLimit}
+use Rattle.su_steps.specs.declared.faults.StepLimit.TheVariants.{Disjuncts, Rows, Terms}
+use Rattle.su_steps.specs.Choices.{choices}
+use Rattle.su_steps.specs.Refusals.{first_uncovered, row_count, HasFewRows, HasManyRows, IsLimitPassed, IsRefusal, IsAccepted}
+use Rattle.su_once.specs.Terms.{OneStepRefusal, RefusedOrAccepted}
+
+same_some : {X : Type 0} (x y : X) (o : Option X) → o ≡ Some x → o ≡ Some y → x ≡ y
+same_some x y o e f = let both : Some x ≡ Some y = sym e ∙ f in cc
+
+none_or_some : {X : Type 0} (x : X) (o : Option X) → o ≡ None → o ≡ Some x → ⊥
+none_or_some x o e f = let both : None ≡ Some x = sym e ∙ f in absurd (cc)
+
+module _ (schema : SchemaValue) (maximal : List (FinSet nat_cmp)) (q : Resolved) where
+  many_or_few : HasManyRows schema maximal q → HasFewRows schema maximal q → ⊥
+  many_or_few (choice, there, many) few =
+      let upto : row_count schema maximal choice ≤ 64 = All-contains (λ c. row_count schema maximal c ≤ 64) (choices schema maximal q) choice few there in
+      absurd (omega (arith, many, upto))
+
+  one_limit : (x y : StepLimit) → IsLimitPassed schema maximal q x → IsLimitPassed schema maximal q y → x ≡ y
+  one_limit Disjuncts Disjuncts h k = refl
+  one_limit Disjuncts Rows h k = absurd (let few = k.0 in omega (arith, h, few))
+  one_limit Disjuncts Terms h k = absurd (let few = k.0 in omega (arith, h, few))
+  one_limit Rows Disjuncts h k = absurd (let few = h.0 in omega (arith, k, few))
+  one_limit Rows Rows h k = refl
+  one_limit Rows Terms h k = absurd (many_or_few h.1 k.1)
+  one_limit Terms Disjuncts h k = absurd (let few = h.0 in omega (arith, k, few))
+  one_limit Terms Rows h k = absurd (many_or_few k.1 h.1)
+  one_limit Terms Terms h k = refl
+
+  not_passed : (x : StepLimit) → IsLimitPassed schema maximal q x → IsAccepted schema maximal q → ⊥
+  not_passed Disjuncts h ok = absurd (let few = ok.few_disjuncts in omega (arith, h, few))
+  not_passed Rows h ok = many_or_few h.1 ok.few_rows
+  not_passed Terms h ok = absurd (let many = h.2 in let few = ok.few_terms in omega (arith, many, few))
+
+  one_cause : (x y : StepFault) → x ≢ NoMemory → y ≢ NoMemory → IsRefusal schema maximal q x → IsRefusal schema maximal q y → x ≡ y
+  one_cause (NotCovered variable mentioned) (NotCovered other also) m n (v, first, named, is) (w, too, called, same) =
+      let at : v ≡ w = same_some v w (first_uncovered schema maximal q) first too in
+      let who : variable ≡ other = same_some variable other (slice_get q.variables v) named (subst (λ (k : ℕ). slice_get q.variables k ≡ Some other) (sym at) called) in
+      let with : mentioned ≡ also = is ∙ ap (λ k. mentioned_with q.places k) at ∙ sym same in
+      λ i. NotCovered (who i) (with i)
+  one_cause (NotCovered variable mentioned) (Limit limit) m n h k = absurd (none_or_some h.0 (first_uncovered schema maximal q) k.0 h.1)
+  one_cause (Limit limit) (NotCovered variable mentioned) m n h k = absurd (none_or_some k.0 (first_uncovered schema maximal q) h.0 k.1)
+  one_cause (Limit limit) (Limit other) m n h k = ap Limit (one_limit limit other h.1 k.1)
+  one_cause NoMemory y m n h k = absurd (m refl)
+  one_cause (NotCovered variable mentioned) NoMemory m n h k = absurd (n refl)
+  one_cause (Limit limit) NoMemory m n h k = absurd (n refl)
+
+  refused_or_accepted : (x : StepFault) → x ≢ NoMemory → IsRefusal schema maximal q x → IsAccepted schema maximal q → ⊥
+  refused_or_accepted (NotCovered variable mentioned) m h ok = none_or_some h.0 (first_uncovered schema maximal q) ok.covered h.1
+  refused_or_accepted (Limit limit) m h ok = not_passed limit h.1 ok
+  refused_or_accepted NoMemory m h ok = absurd (m refl)
+
+pub one_step_refusal : OneStepRefusal
+one_step_refusal schema maximal q why other m n h k = one_cause schema maximal q why other m n h k
+
+pub not_refused : RefusedOrAccepted
+not_refused schema maximal q why m h ok = refused_or_accepted schema maximal q why m h ok

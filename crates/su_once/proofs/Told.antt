@@ -1,0 +1,95 @@
+-- Replies that tell the same are equal.
+use Rattle.std.proofs.Common.{◌≡◌, ◌≢◌, ℕ, Bool, true, false, List, Option, Some, None, Result, Ok, Err, refl, ap, sym, ◌∙◌, subst}
+use Rattle.su_rel.specs.Stored.{Stored}
+use Rattle.su_query.specs.declared.faults.QueryFault.{QueryFault}
+use Rattle.su_query.specs.declared.faults.QueryFault.TheVariants as query
+use Rattle.su_steps.specs.declared.faults.StepFault.{StepFault}
+use Rattle.su_steps.specs.declared.faults.StepFault.TheVariants as step
+use Rattle.su_state.specs.declared.faults.StateFault.{StateFault}
+use Rattle.su_state.specs.declared.faults.StateFault.TheVariants as state
+use Rattle.su_state.specs.declared.faults.LoadEnd.{LoadEnd}
+use Rattle.su_state.specs.declared.faults.LoadEnd.TheVariants as load
+use Rattle.su_state.specs.declared.faults.DefineFault.{DefineFault}
+use Rattle.su_state.specs.declared.faults.DefineFault.TheVariants as define
+use Rattle.su_state.specs.DatabaseValue.{DatabaseValue}
+use Rattle.su_show.specs.declared.statement_refusal.Refusal.{Refusal}
+use Rattle.su_show.specs.declared.statement_refusal.Refusal.TheVariants.{Query, State, Record, Steps, Define}
+use Rattle.su_show.specs.Refusing.{refusal_line, IsNoMemory, IsQueryMemory, IsStateMemory, IsStepMemory, IsDefineMemory}
+use Rattle.su_session.specs.declared.replies.Reply.{Reply}
+use Rattle.su_session.specs.Telling.{Accepts, Refuses, TellsInsert, TellsDelete, TellsLoad, TellsDefine}
+use Rattle.su_once.specs.States.{AreAlike}
+
+pub same_some : {X : Type 0} (x y : X) (o : Option X) → o ≡ Some x → o ≡ Some y → x ≡ y
+same_some x y o e f = let both : Some x ≡ Some y = sym e ∙ f in cc
+
+pub none_or_some : {X : Type 0} (x : X) (o : Option X) → o ≡ None → o ≡ Some x → ⊥
+none_or_some x o e f = let both : None ≡ Some x = sym e ∙ f in absurd (cc)
+
+pub accept : (r s : Reply) (text other : List ℕ) → Accepts text r → Accepts other s → text ≡ other → r ≡ s
+accept r s text other h k same =
+    let refused = h.accepted ∙ sym k.accepted in
+    let bytes = h.text_is ∙ same ∙ sym k.text_is in
+    λ i. record { refused = refused i; bytes = bytes i }
+
+-- want of memory is never told
+pub query_told : (fault : QueryFault) → ¬ IsNoMemory (Query fault) → fault ≢ query.NoMemory
+query_told fault told is = told (subst IsQueryMemory (sym is) tt)
+
+pub state_told : (fault : StateFault) → ¬ IsNoMemory (State fault) → fault ≢ state.NoMemory
+state_told fault told is = told (subst IsStateMemory (sym is) tt)
+
+pub step_told : (fault : StepFault) → ¬ IsNoMemory (Steps fault) → fault ≢ step.NoMemory
+step_told fault told is = told (subst IsStepMemory (sym is) tt)
+
+pub define_told : (fault : DefineFault) → ¬ IsNoMemory (Define fault) → fault ≢ define.NoMemory
+define_told fault told is = told (subst IsDefineMemory (sym is) tt)
+
+-- over two databases of one schema
+module _ (a : DatabaseValue) (tables : List Stored) (r s : Reply) (c d : DatabaseValue) where
+  abbrev b : DatabaseValue
+  b = record { schema = a.schema; tables = tables }
+
+  pub one_line : (why other : Refusal) → Refuses a why r c → Refuses b other s d → why ≡ other → r ≡ s
+  one_line why other h k same =
+      let refused = h.refused ∙ sym k.refused in
+      let bytes = h.line ∙ ap (refusal_line a.schema) same ∙ sym k.line in
+      λ i. record { refused = refused i; bytes = bytes i }
+
+  pub still : AreAlike a b → c ≡ a → d ≡ b → AreAlike c d
+  still alike one other = subst (λ (v : DatabaseValue). AreAlike v d) (sym one) (subst (λ (v : DatabaseValue). AreAlike a v) (sym other) alike)
+
+  pub refuse : AreAlike a b → (why other : Refusal) → Refuses a why r c → Refuses b other s d → why ≡ other → (r ≡ s) × AreAlike c d
+  refuse alike why other h k same = (one_line why other h k same, still alike h.same k.same)
+
+  pub insert_told : (db new : DatabaseValue) (reply : Reply) (x : Result Bool StateFault) → TellsInsert db x reply new → x ≢ Err state.NoMemory
+  insert_told db new reply (Ok true) h is = absurd (cc)
+  insert_told db new reply (Ok false) h is = absurd (cc)
+  insert_told db new reply (Err fault) h is = state_told fault h.told (let e : fault ≡ state.NoMemory = cc in e)
+
+  pub one_insert_told : (x : Result Bool StateFault) → TellsInsert a x r c → TellsInsert b x s d → r ≡ s
+  one_insert_told (Ok true) h k = accept r s _ _ h k refl
+  one_insert_told (Ok false) h k = accept r s _ _ h k refl
+  one_insert_told (Err fault) h k = one_line (State fault) (State fault) h k refl
+
+  pub one_delete_told : (x : Result Bool StateFault) → TellsDelete a x r c → TellsDelete b x s d → r ≡ s
+  one_delete_told (Ok true) h k = accept r s _ _ h k refl
+  one_delete_told (Ok false) h k = accept r s _ _ h k refl
+  one_delete_told (Err fault) h k = one_line (State fault) (State fault) h k refl
+
+  pub load_told : (db new : DatabaseValue) (reply : Reply) (records : ℕ) (x : Result ℕ LoadEnd) → TellsLoad db records x reply new → x ≢ Err load.NoMemory
+  load_told db new reply records (Ok count) h is = absurd (cc)
+  load_told db new reply records (Err (load.Refused fault)) h is = absurd (cc)
+  load_told db new reply records (Err load.NoMemory) h is = h
+
+  pub one_load_told : (records : ℕ) (x : Result ℕ LoadEnd) → TellsLoad a records x r c → TellsLoad b records x s d → r ≡ s
+  one_load_told records (Ok count) h k = accept r s _ _ h k refl
+  one_load_told records (Err (load.Refused fault)) h k = one_line (Record fault) (Record fault) h k refl
+  one_load_told records (Err load.NoMemory) h k = absurd h
+
+  pub definition_told : (db new : DatabaseValue) (reply : Reply) (x : Result (Unit {0}) DefineFault) → TellsDefine db x reply new → x ≢ Err define.NoMemory
+  definition_told db new reply (Ok i) h is = absurd (cc)
+  definition_told db new reply (Err fault) h is = define_told fault h.told (let e : fault ≡ define.NoMemory = cc in e)
+
+  pub one_definition_told : (x : Result (Unit {0}) DefineFault) → TellsDefine a x r c → TellsDefine b x s d → r ≡ s
+  one_definition_told (Ok i) h k = accept r s _ _ h k refl
+  one_definition_told (Err fault) h k = one_line (Define fault) (Define fault) h k refl

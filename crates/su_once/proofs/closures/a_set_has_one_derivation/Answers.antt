@@ -1,0 +1,5 @@
+use Rattle.su_once.proofs.Closed.{one_derivation}
+use Rattle.su_once.proofs.closures.a_set_has_one_derivation.Goals as goal
+
+pub returns : goal.returns
+returns c = one_derivation

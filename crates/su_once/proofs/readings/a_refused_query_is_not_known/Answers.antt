@@ -1,0 +1,5 @@
+use Rattle.su_once.proofs.OneReading.{query_not_refused}
+use Rattle.su_once.proofs.readings.a_refused_query_is_not_known.Goals as goal
+
+pub returns : goal.returns
+returns c = query_not_refused

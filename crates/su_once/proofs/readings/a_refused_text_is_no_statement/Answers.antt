@@ -1,0 +1,5 @@
+use Rattle.su_once.proofs.OneReading.{not_refused}
+use Rattle.su_once.proofs.readings.a_refused_text_is_no_statement.Goals as goal
+
+pub returns : goal.returns
+returns c = not_refused

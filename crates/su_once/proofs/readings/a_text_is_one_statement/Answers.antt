@@ -1,0 +1,5 @@
+use Rattle.su_once.proofs.OneReading.{one_statement}
+use Rattle.su_once.proofs.readings.a_text_is_one_statement.Goals as goal
+
+pub returns : goal.returns
+returns c = one_statement

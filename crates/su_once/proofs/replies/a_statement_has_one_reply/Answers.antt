@@ -1,0 +1,5 @@
+use Rattle.su_once.proofs.Replied.{one_reply}
+use Rattle.su_once.proofs.replies.a_statement_has_one_reply.Goals as goal
+
+pub returns : goal.returns
+returns c = one_reply

@@ -1,0 +1,5 @@
+use Rattle.su_once.proofs.Replied.{one_want}
+use Rattle.su_once.proofs.replies.a_statement_wants_one_file.Goals as goal
+
+pub returns : goal.returns
+returns c = one_want

@@ -1,0 +1,5 @@
+use Rattle.su_once.proofs.Loaded.{one_load}
+use Rattle.su_once.proofs.states.a_load_has_one_answer.Goals as goal
+
+pub returns : goal.returns
+returns c = one_load

@@ -1,0 +1,5 @@
+use Rattle.su_once.proofs.Changed.{one_insert}
+use Rattle.su_once.proofs.states.an_insert_has_one_answer.Goals as goal
+
+pub returns : goal.returns
+returns c = one_insert

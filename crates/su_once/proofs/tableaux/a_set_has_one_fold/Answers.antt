@@ -1,0 +1,5 @@
+use Rattle.su_once.proofs.Mapped.{one_fold}
+use Rattle.su_once.proofs.tableaux.a_set_has_one_fold.Goals as goal
+
+pub returns : goal.returns
+returns c = one_fold

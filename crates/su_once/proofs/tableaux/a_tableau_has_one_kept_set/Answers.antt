@@ -1,0 +1,5 @@
+use Rattle.su_once.proofs.Mapped.{one_kept}
+use Rattle.su_once.proofs.tableaux.a_tableau_has_one_kept_set.Goals as goal
+
+pub returns : goal.returns
+returns c = one_kept

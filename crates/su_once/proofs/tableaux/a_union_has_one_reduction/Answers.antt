@@ -1,0 +1,5 @@
+use Rattle.su_once.proofs.Mapped.{one_reduced}
+use Rattle.su_once.proofs.tableaux.a_union_has_one_reduction.Goals as goal
+
+pub returns : goal.returns
+returns c = one_reduced

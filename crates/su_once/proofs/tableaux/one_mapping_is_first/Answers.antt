@@ -1,0 +1,5 @@
+use Rattle.su_once.proofs.Mapped.{one_first}
+use Rattle.su_once.proofs.tableaux.one_mapping_is_first.Goals as goal
+
+pub returns : goal.returns
+returns c = one_first

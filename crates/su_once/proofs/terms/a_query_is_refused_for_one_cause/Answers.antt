@@ -1,0 +1,5 @@
+use Rattle.su_once.proofs.Refused.{one_step_refusal}
+use Rattle.su_once.proofs.terms.a_query_is_refused_for_one_cause.Goals as goal
+
+pub returns : goal.returns
+returns c = one_step_refusal

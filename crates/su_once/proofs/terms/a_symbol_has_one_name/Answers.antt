@@ -1,0 +1,5 @@
+use Rattle.su_once.proofs.Named.{one_name}
+use Rattle.su_once.proofs.terms.a_symbol_has_one_name.Goals as goal
+
+pub returns : goal.returns
+returns c = one_name

@@ -1,0 +1,41 @@
+-- A text is read in one way, or refused for one cause.
+use Rattle.std.specs.Prelude.{◌≡◌, ◌≢◌, ℕ, List, Result}
+use Rattle.su_schema.specs.SchemaValue.{SchemaValue}
+use Rattle.su_ddl.specs.declared.faults.DdlFault.{DdlFault}
+use Rattle.su_ddl.specs.Reading.{Reads}
+use Rattle.su_query.specs.declared.conditions.NamedCond.{NamedCond}
+use Rattle.su_query.specs.declared.faults.QueryFault.{QueryFault}
+use Rattle.su_query.specs.declared.faults.QueryFault.TheVariants.{NoMemory}
+use Rattle.su_query.specs.declared.statements.Query.{Query}
+use Rattle.su_query.specs.declared.statements.Statement.{Statement}
+use Rattle.su_query.specs.Lookup.{IsQueryRefusal, IsKnownQuery, IsColumnRefusal, IsColumnCondition}
+use Rattle.su_query.specs.Reading.{IsStatement, IsRefusal, AreFew, outputs_of, condition_of}
+
+-- a file of definitions is read as one schema, or is at fault in one way
+abbrev pub OneOutcome : Type 0
+OneOutcome = (file : List ℕ) (outcome other : Result SchemaValue DdlFault) → Reads file outcome → Reads file other → outcome ≡ other
+
+abbrev pub OneStatement : Type 0
+OneStatement = (text : List ℕ) (st other : Statement) → IsStatement text st → IsStatement text other → st ≡ other
+
+-- a text has one refusal
+abbrev pub OneRefusal : Type 0
+OneRefusal = (text : List ℕ) (why other : QueryFault) → why ≢ NoMemory → other ≢ NoMemory → IsRefusal text why → IsRefusal text other → why ≡ other
+
+-- and none, where it is a statement within the limits
+abbrev pub RefusedOrRead : Type 0
+RefusedOrRead = (text : List ℕ) (why : QueryFault) (st : Statement) → why ≢ NoMemory → IsRefusal text why → IsStatement text st → ¬ AreFew (outputs_of st) (condition_of st)
+
+-- the names of a query are refused for one cause, or all are known
+abbrev pub OneQueryRefusal : Type 0
+OneQueryRefusal = (schema : SchemaValue) (q : Query) (why other : QueryFault) → why ≢ NoMemory → other ≢ NoMemory → IsQueryRefusal schema q why → IsQueryRefusal schema q other → why ≡ other
+
+abbrev pub QueryIsRefusedOrKnown : Type 0
+QueryIsRefusedOrKnown = (schema : SchemaValue) (q : Query) (why : QueryFault) → why ≢ NoMemory → IsQueryRefusal schema q why → ¬ IsKnownQuery schema q
+
+-- so are those of a deletion's condition
+abbrev pub OneColumnRefusal : Type 0
+OneColumnRefusal = (schema : SchemaValue) (r : ℕ) (c : NamedCond) (why other : QueryFault) → why ≢ NoMemory → other ≢ NoMemory → IsColumnRefusal schema r c why → IsColumnRefusal schema r c other → why ≡ other
+
+abbrev pub ConditionIsRefusedOrKnown : Type 0
+ConditionIsRefusedOrKnown = (schema : SchemaValue) (r : ℕ) (c : NamedCond) (why : QueryFault) → why ≢ NoMemory → IsColumnRefusal schema r c why → ¬ IsColumnCondition schema r c

@@ -1,0 +1,46 @@
+-- Databases that are alike stay so under equal changes, which have equal answers.
+-- alike: the same schema, and in each relation the same set of rows, in whichever order
+use Rattle.std.specs.Prelude.{◌≡◌, ◌≢◌, ◌↔◌, ℕ, Bool, List, length, Contains, Result, Err}
+use Rattle.su_base.specs.declared.values.Value.{Value}
+use Rattle.su_where.specs.declared.conditions.Cond.{Cond}
+use Rattle.su_schema.specs.declared.definitions.Definition.{Definition}
+use Rattle.su_state.specs.declared.faults.StateFault.{StateFault}
+use Rattle.su_state.specs.declared.faults.StateFault.TheVariants.{NoMemory}
+use Rattle.su_state.specs.declared.faults.LoadEnd.{LoadEnd}
+use Rattle.su_state.specs.declared.faults.LoadEnd.TheVariants as load
+use Rattle.su_state.specs.declared.faults.DefineFault.{DefineFault}
+use Rattle.su_state.specs.declared.faults.DefineFault.TheVariants as define
+use Rattle.su_state.specs.DatabaseValue.{DatabaseValue, rows_of, IsWellKept}
+use Rattle.su_state.specs.Changes.{AreInOrder, Inserts, Deletes, DeletesWhere}
+use Rattle.su_state.specs.Loads.{Loads}
+use Rattle.su_state.specs.Definitions.{Defines}
+
+pub record AreAlike (a b : DatabaseValue) : Type 0 where
+  pub schema : a.schema ≡ b.schema
+  pub tables : length a.tables ≡ length b.tables
+  pub rows : (r : ℕ) (row : List Value) → Contains (rows_of a r) row ↔ Contains (rows_of b r) row
+  pub counts : (r : ℕ) → length (rows_of a r) ≡ length (rows_of b r)
+
+-- the rows of a relation have one order
+abbrev pub OneOrder : Type 0
+OneOrder = (a b : DatabaseValue) (r : ℕ) (rows others : List (List Value)) → AreAlike a b → AreInOrder (rows_of a r) rows → AreInOrder (rows_of b r) others → rows ≡ others
+
+abbrev pub OneInsert : Type 0
+OneInsert = (a b c d : DatabaseValue) (r : ℕ) (row : List Value) (x y : Result Bool StateFault) → AreAlike a b → x ≢ Err NoMemory → y ≢ Err NoMemory
+    → Inserts a r row x c → Inserts b r row y d → (x ≡ y) × AreAlike c d
+
+abbrev pub OneDelete : Type 0
+OneDelete = (a b c d : DatabaseValue) (r : ℕ) (row : List Value) (x y : Result Bool StateFault) → AreAlike a b
+    → Deletes a r row x c → Deletes b r row y d → (x ≡ y) × AreAlike c d
+
+abbrev pub OneDeleteWhere : Type 0
+OneDeleteWhere = (a b c d : DatabaseValue) (r : ℕ) (condition : Cond) (m n : ℕ) → AreAlike a b → IsWellKept a → IsWellKept b
+    → DeletesWhere a r condition m c → DeletesWhere b r condition n d → (m ≡ n) × AreAlike c d
+
+abbrev pub OneLoad : Type 0
+OneLoad = (a b c d : DatabaseValue) (r : ℕ) (rows : List (List Value)) (x y : Result ℕ LoadEnd) → AreAlike a b → x ≢ Err load.NoMemory → y ≢ Err load.NoMemory
+    → Loads a r rows x c → Loads b r rows y d → (x ≡ y) × AreAlike c d
+
+abbrev pub OneDefinition : Type 0
+OneDefinition = (a b c d : DatabaseValue) (definition : Definition) (x y : Result (Unit {0}) DefineFault) → AreAlike a b → x ≢ Err define.NoMemory → y ≢ Err define.NoMemory
+    → Defines a definition x c → Defines b definition y d → (x ≡ y) × AreAlike c d

@@ -1,0 +1,9 @@
+//! Two runs agree.
+ghost use Rattle.sysu.specs.Agreeing.{TwoRunsAgree};
+
+/// Two runs on equal words but for the number of workers, over shelves that tell equal files and sinks
+/// that tell their bytes, append equal bytes and answer equal statuses, where no count of faults rises,
+/// no file is too long and memory is not wanting.
+pub fn two_runs_agree()
+    ensures { TwoRunsAgree }
+{}
