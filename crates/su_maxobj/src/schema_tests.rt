@@ -62,12 +62,8 @@ fn circle(alloc: Global) -> Result<Schema, Fail> {
     Ok(schema)
 }
 
-// Whether the set has this object and no other one.
-fn is_alone(set: ObjSet, object: u8) -> bool
-    requires { object < 64 }
-{
-    let alone = ObjSet::empty().insert(object);
-    set.within(alone) && alone.within(set)
+fn same(one: ObjSet, other: ObjSet) -> bool {
+    one.within(other) && other.within(one)
 }
 
 #[test]
@@ -77,9 +73,9 @@ fn in_a_circle_each_object_is_maximal(rt: HostRuntime) -> Result<(), Fail> {
     let sets = maximal_objects(alloc, &schema)?;
     match sets.as_slice() {
         [first, second, third] => {
-            assert!(rt; is_alone(*first, 0));
-            assert!(rt; is_alone(*second, 1));
-            assert!(rt; is_alone(*third, 2));
+            assert!(rt; same(*first, ObjSet::empty().insert(0)));
+            assert!(rt; same(*second, ObjSet::empty().insert(1)));
+            assert!(rt; same(*third, ObjSet::empty().insert(2)));
             Ok(())
         }
         _ => Err(Fail::from("not three")),
@@ -95,6 +91,6 @@ fn in_a_circle_no_object_joins_another(rt: HostRuntime) -> Result<(), Fail> {
     assert!(rt; !attributes_covered(&schema, first).contains(2));
     assert!(rt; schema.objects() == 3);
     assert!(rt; !adjoinable(&schema, first, 1));
-    assert!(rt; is_alone(grown(&schema, 0), 0));
+    assert!(rt; same(grown(&schema, 0), first));
     Ok(())
 }
