@@ -9,4 +9,5 @@ pub mod Closing
 pub mod Completing
 pub mod Asking
 pub mod OneBank
+pub mod OneList
 pub mod TwoRuns

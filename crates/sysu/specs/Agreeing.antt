@@ -4,14 +4,14 @@ use Rattle.std.specs.Prelude.{◌≡◌, ◌≢◌, ◌↔◌, ℕ, List, ◌++�
 use Rattle.su_io.specs.declared.files.File.{File as AFile}
 use Rattle.su_io.specs.Causes.{Rose}
 use Rattle.sysu.specs.declared.status.Status.{Status}
-use Rattle.sysu.specs.declared.status.Status.TheVariants.{TooLong, NoMemory}
+use Rattle.sysu.specs.declared.status.Status.TheVariants.{NoMemory}
 use Rattle.sysu.specs.Causes.{Caused}
 use Rattle.sysu.specs.Closing.{HandsOver}
 use Rattle.sysu.specs.Moments.{Moment}
 use Rattle.sysu.specs.Statuses.{Comes}
 use Rattle.sysu.specs.Words.{named, checks, Generates}
 
--- a run over these files, whose sink tells what it appended: no count of faults rose, no file was too long and memory was not wanting
+-- a run over these files, whose sink tells what it appended: no count of faults rose, and memory was not wanting
 pub record Ran (files : List AFile) (words : List (List ℕ)) (appended : List ℕ) (status : Status) : Type 0 where
   pub old : Moment
   pub new : Moment
@@ -23,7 +23,6 @@ pub record Ran (files : List AFile) (words : List (List ℕ)) (appended : List �
   pub wrote : new.told.written ≡ Some (before ++ appended)
   pub no_read_fault : ¬ Rose old.reads new.reads
   pub no_write_fault : ¬ Rose old.writes new.writes
-  pub fits : status ≢ TooLong
   pub has_memory : status ≢ NoMemory
 
 pub record AreEqualButForWorkers (words others : List (List ℕ)) : Type 0 where

@@ -2,8 +2,8 @@
 ghost use Rattle.sysu.specs.Agreeing.{TwoRunsAgree};
 
 /// Two runs on equal words but for the number of workers, over shelves that tell equal files and sinks
-/// that tell their bytes, append equal bytes and answer equal statuses, where no count of faults rises,
-/// no file is too long and memory is not wanting.
+/// that tell their bytes, append equal bytes and answer equal statuses, where no count of faults rises
+/// and neither ends for want of memory.
 pub fn two_runs_agree()
     ensures { TwoRunsAgree }
 {}
