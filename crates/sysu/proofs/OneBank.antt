@@ -1,5 +1,5 @@
 -- Words ask for a bank of one number of rows or for none, and of it one text is told.
-use Rattle.std.proofs.Common.{◌≡◌, ◌≤◌, ◌<◌, ◌+◌, ◌⊎◌, ◌^◌, ℕ, Bool, true, false, List, [], ◌∷◌, ◌++◌, Option, None, map, length, get_or, refl, ap, sym, ◌∙◌, subst, inl, inr, arith, true≢false}
+use Rattle.std.proofs.Common.{◌≡◌, ◌+◌, ◌⊎◌, ℕ, Bool, true, false, List, [], ◌∷◌, ◌++◌, None, map, get_or, refl, ap, sym, ◌∙◌, subst, inl, inr, arith, true≢false}
 use Rattle.std.specs.Prelude.{bytes_eq, codes, decimal}
 use Rattle.std.specs.Str.Parse.{digits_value}
 use Rattle.std.proofs.Math.Dec.{leb}
@@ -21,7 +21,7 @@ use Rattle.sysu.specs.Words.{Generates}
 
 -- ---- words
 
-number_in : List (List ℕ) → ℕ
+abbrev number_in : List (List ℕ) → ℕ
 number_in words = digits_value 10 (get_or words 1 [])
 
 its_number : (words : List (List ℕ)) (n : ℕ) → Generates words n → n ≡ number_in words
