@@ -1,0 +1,3 @@
+pub mod OnlyEqual
+pub mod Lists
+pub mod Comparable

@@ -1,0 +1,136 @@
+-- The disjuncts of a condition that asks for equalities alone have only equalities.
+use Rattle.std.proofs.Common.{◌≡◌, Bool, true, false, not, ◌&&◌, List, [], ◌∷◌, ◌++◌, map, refl, sym, ap, subst, ◌∙◌}
+use Rattle.std.specs.List.{list_all}
+use Rattle.std.proofs.lemmas.List.Folds.{list_all-append}
+use Rattle.su_where.specs.declared.operators.Op.{Op}
+use Rattle.su_where.specs.declared.operators.Op.TheVariants.{Equal, NotEqual, Less, LessEqual, Greater, GreaterEqual}
+use Rattle.su_where.specs.declared.literals.Literal.{Literal}
+use Rattle.su_where.specs.declared.conditions.Cond.{Cond, roll-Cond}
+use Rattle.su_where.specs.declared.conditions.Cond.TheOpen as open'
+use Rattle.su_where.specs.declared.conditions.Cond.TheVariants.{Compare, Not, All, Any, rolls-Compare, rolls-Not, rolls-All, rolls-Any}
+use Rattle.su_where.specs.declared.conditions.Cond.TheFolds.{map-Cond, ind-Cond, fold-roll-Cond}
+use Rattle.su_where.specs.Operator.{complement_of}
+use Rattle.su_where.specs.Disjunct.{opposite_of, pairs_of, combinations_of, joined, form_of}
+use Rattle.su_where.proofs.Disjunctive.{forms, form_of-Compare, form_of-Not, form_of-All, form_of-Any}
+use Rattle.su_compare.specs.Equalities.{asks_equality, equalities_step, asks_equalities}
+
+each-map : (b : Bool) (cs : List Cond) → list_all (λ p. p b) (map asks_equalities cs) ≡ list_all (λ c. asks_equalities c b) cs
+each-map b [] = refl
+each-map b (c ∷ cs) = ap (λ v. asks_equalities c b && v) (each-map b cs)
+
+pub asks-Compare : (l : Literal) (b : Bool) → asks_equalities (Compare l) b ≡ asks_equality l.op b
+asks-Compare l b = ap (λ d. asks_equalities d b) (sym (rolls-Compare l)) ∙ ap (λ f. f b) (fold-roll-Cond (Bool → Bool) equalities_step (open'.Compare l))
+
+pub asks-Not : (part : Cond) (b : Bool) → asks_equalities (Not part) b ≡ asks_equalities part (not b)
+asks-Not part b = ap (λ d. asks_equalities d b) (sym (rolls-Not part)) ∙ ap (λ f. f b) (fold-roll-Cond (Bool → Bool) equalities_step (open'.Not part))
+
+pub asks-All : (parts : List Cond) (b : Bool) → asks_equalities (All parts) b ≡ list_all (λ c. asks_equalities c b) parts
+asks-All parts b =
+    ap (λ d. asks_equalities d b) (sym (rolls-All parts)) ∙ ap (λ f. f b) (fold-roll-Cond (Bool → Bool) equalities_step (open'.All parts)) ∙ each-map b parts
+
+pub asks-Any : (parts : List Cond) (b : Bool) → asks_equalities (Any parts) b ≡ list_all (λ c. asks_equalities c b) parts
+asks-Any parts b =
+    ap (λ d. asks_equalities d b) (sym (rolls-Any parts)) ∙ ap (λ f. f b) (fold-roll-Cond (Bool → Bool) equalities_step (open'.Any parts)) ∙ each-map b parts
+
+-- for `grind`: what a condition asks for, from what its parts ask for
+pub ruleset layers = (asks-Compare, asks-Not, asks-All, asks-Any)
+
+-- ---- disjuncts of equalities alone
+
+-- whether each comparison is an equality
+abbrev pub are_equalities : List Literal → Bool
+are_equalities d = list_all (λ l. asks_equality l.op false) d
+
+abbrev pub all_equalities : List (List Literal) → Bool
+all_equalities ds = list_all are_equalities ds
+
+and-true : (a b : Bool) → a ≡ true → b ≡ true → (a && b) ≡ true
+and-true a b e f = ap (λ x. x && b) e ∙ f
+
+pub and-left : (a b : Bool) → (a && b) ≡ true → a ≡ true
+and-left true b e = refl
+and-left false b e = e
+
+pub and-right : (a b : Bool) → (a && b) ≡ true → b ≡ true
+and-right true b e = e
+and-right false b e = absurd (cc)
+
+all-append : (xs ys : List (List Literal)) → all_equalities xs ≡ true → all_equalities ys ≡ true → all_equalities (xs ++ ys) ≡ true
+all-append xs ys e f = list_all-append are_equalities xs ys ∙ and-true (all_equalities xs) (all_equalities ys) e f
+
+all-joined : (fs : List (List (List Literal))) → list_all all_equalities fs ≡ true → all_equalities (joined fs) ≡ true
+all-joined [] e = refl
+all-joined (f ∷ fs) e =
+    all-append f (joined fs) (and-left (all_equalities f) (list_all all_equalities fs) e) (all-joined fs (and-right (all_equalities f) (list_all all_equalities fs) e))
+
+all-each : (d : List Literal) (es : List (List Literal)) → are_equalities d ≡ true → all_equalities es ≡ true → all_equalities (map (λ e. d ++ e) es) ≡ true
+all-each d [] h k = refl
+all-each d (e ∷ es) h k =
+    and-true (are_equalities (d ++ e)) (all_equalities (map (λ e. d ++ e) es))
+    (list_all-append (λ l. asks_equality l.op false) d e ∙ and-true (are_equalities d) (are_equalities e) h (and-left (are_equalities e) (all_equalities es) k))
+    (all-each d es h (and-right (are_equalities e) (all_equalities es) k))
+
+all-pairs : (ds es : List (List Literal)) → all_equalities ds ≡ true → all_equalities es ≡ true → all_equalities (pairs_of ds es) ≡ true
+all-pairs [] es h k = refl
+all-pairs (d ∷ ds) es h k =
+    all-append (map (λ e. d ++ e) es) (pairs_of ds es) (all-each d es (and-left (are_equalities d) (all_equalities ds) h) k)
+    (all-pairs ds es (and-right (are_equalities d) (all_equalities ds) h) k)
+
+all-combinations : (fs : List (List (List Literal))) → list_all all_equalities fs ≡ true → all_equalities (combinations_of fs) ≡ true
+all-combinations [] e = refl
+all-combinations (f ∷ fs) e =
+    all-pairs f (combinations_of fs) (and-left (all_equalities f) (list_all all_equalities fs) e) (all-combinations fs (and-right (all_equalities f) (list_all all_equalities fs) e))
+
+-- ---- layer by layer
+
+-- the disjuncts of a condition, or of its negation, have only equalities where it asks for these alone
+abbrev IsKept : Cond → Type 0
+IsKept c = (b : Bool) → asks_equalities c b ≡ true → all_equalities (form_of c b) ≡ true
+
+abbrev parts : List ((c : Cond) × IsKept c) → List Cond
+parts es = map (λ e. e.0) es
+
+kept_parts : (b : Bool) (es : List ((c : Cond) × IsKept c)) → list_all (λ c. asks_equalities c b) (parts es) ≡ true → list_all all_equalities (forms b (parts es)) ≡ true
+kept_parts b [] h = refl
+kept_parts b (e ∷ es) h =
+    and-true (all_equalities (form_of e.0 b)) (list_all all_equalities (forms b (parts es)))
+    (e.1 b (and-left (asks_equalities e.0 b) (list_all (λ c. asks_equalities c b) (parts es)) h))
+    (kept_parts b es (and-right (asks_equalities e.0 b) (list_all (λ c. asks_equalities c b) (parts es)) h))
+
+asked : (op : Op) → asks_equality op true ≡ true → asks_equality (complement_of op) false ≡ true
+asked Equal h = absurd (cc)
+asked NotEqual h = refl
+asked Less h = absurd (cc)
+asked LessEqual h = absurd (cc)
+asked Greater h = absurd (cc)
+asked GreaterEqual h = absurd (cc)
+
+one : (l : Literal) → asks_equality l.op false ≡ true → all_equalities ((l ∷ []) ∷ []) ≡ true
+one l h = and-true (asks_equality l.op false && true) true (and-true (asks_equality l.op false) true h refl) refl
+
+kept_compare : (l : Literal) → IsKept (Compare l)
+kept_compare l true h = ap all_equalities (form_of-Compare l true) ∙ one (opposite_of l) (asked l.op (sym (asks-Compare l true) ∙ h))
+kept_compare l false h = ap all_equalities (form_of-Compare l false) ∙ one l (sym (asks-Compare l false) ∙ h)
+
+kept_not : (c : Cond) → IsKept c → IsKept (Not c)
+kept_not c kept b h = ap all_equalities (form_of-Not c b) ∙ kept (not b) (sym (asks-Not c b) ∙ h)
+
+kept_All : (es : List ((c : Cond) × IsKept c)) → IsKept (All (parts es))
+kept_All es true h = ap all_equalities (form_of-All (parts es) true) ∙ all-joined (forms true (parts es)) (kept_parts true es (sym (asks-All (parts es) true) ∙ h))
+kept_All es false h = ap all_equalities (form_of-All (parts es) false) ∙ all-combinations (forms false (parts es)) (kept_parts false es (sym (asks-All (parts es) false) ∙ h))
+
+kept_Any : (es : List ((c : Cond) × IsKept c)) → IsKept (Any (parts es))
+kept_Any es true h = ap all_equalities (form_of-Any (parts es) true) ∙ all-combinations (forms true (parts es)) (kept_parts true es (sym (asks-Any (parts es) true) ∙ h))
+kept_Any es false h = ap all_equalities (form_of-Any (parts es) false) ∙ all-joined (forms false (parts es)) (kept_parts false es (sym (asks-Any (parts es) false) ∙ h))
+
+kept_layer : (y : open'.Cond-F ((c : Cond) × IsKept c)) → IsKept (roll-Cond (map-Cond ((c : Cond) × IsKept c) Cond (λ e. e.0) y))
+kept_layer (open'.Compare l) = subst IsKept (sym (rolls-Compare l)) (kept_compare l)
+kept_layer (open'.Not e) = subst IsKept (sym (rolls-Not e.0)) (kept_not e.0 e.1)
+kept_layer (open'.All es) = subst IsKept (sym (rolls-All (parts es))) (kept_All es)
+kept_layer (open'.Any es) = subst IsKept (sym (rolls-Any (parts es))) (kept_Any es)
+
+kept : (c : Cond) → IsKept c
+kept = ind-Cond IsKept (λ x y is. subst (λ z. IsKept (roll-Cond z)) is (kept_layer y))
+
+pub only_equalities : (c : Cond) → asks_equalities c false ≡ true → all_equalities (form_of c false) ≡ true
+only_equalities c h = kept c false h
