@@ -1,0 +1,16 @@
+use Rattle.std.proofs.Common.{List, length, subst, sym}
+use Rattle.std.specs.Prelude.{All}
+use Rattle.su_tableau.specs.declared.symbols.Sym.{Sym}
+use Rattle.su_tableau.specs.Tableaux.{AreBelow}
+use Rattle.su_chase.proofs.Answering.{valid, head_below}
+use Rattle.su_chase.proofs.chasing.named_tableau.Goals as goal
+
+pub named-requires : goal.named-requires
+named-requires c =
+    let n = length c.args.names.now in
+    subst (AreBelow n) (sym c.head.ensures)
+    (head_below c.args.t.now c.args.names.now c.keeps_its_rules.ensures.valid n (subst (λ (rows : List (List Sym)). All (AreBelow n) rows) c.requires.rows c.requires.all))
+
+pub new-requires-clause-valid : goal.new-requires-clause-valid
+new-requires-clause-valid c =
+    rw (c.width.ensures, c.in_ok-rows.ensures, c.in_ok-head.ensures, c.outputs.ensures, c.in_ok-operators.ensures, c.requires.rows, c.head.ensures, c.operators.ensures) (valid c.args.t.now c.args.names.now c.keeps_its_rules.ensures.valid)

@@ -1,0 +1,5 @@
+use Rattle.su_chase.specs.Rows.{IsFirstClash}
+use Rattle.su_chase.proofs.naming.first_clash.Given as goal
+
+abbrev pub invariant-loop-i : goal.invariant-loop-i
+invariant-loop-i l = IsFirstClash l.i l.table l.found

@@ -1,0 +1,4 @@
+pub mod Chase
+pub mod Meeting
+pub mod Chased
+pub mod Rows

@@ -1,0 +1,9 @@
+//! Every public type may be moved to another thread and shared between threads.
+use crate::chasing::Chased;
+use crate::naming::Closed;
+use su_base::crosses_threads;
+
+fn types_cross_threads() {
+    crosses_threads::<Closed>();
+    crosses_threads::<Chased>();
+}

@@ -1,0 +1,339 @@
+ghost use Rattle.std.specs.Prelude.{◌≡◌, ◌≤◌, IsTrue, All, length};
+ghost use Rattle.su_chase.specs.Chased.{IsFdBelow};
+
+use crate::numbering::attributes_below;
+use crate::{Chased, Closed, chase, close};
+use std::alloc::Global;
+use std::test::Fail;
+use su_base::{AttrSet, List, NoMemory, Str, Value};
+use su_fd::Fd;
+use su_tableau::{Sym, Tableau};
+
+/// A symbol of a table.
+#[derive(Clone, Copy)]
+enum Cell {
+    V(u32),
+    I(i64),
+    T(&'static str),
+}
+
+use Cell::{I, T, V};
+
+/// A dependency: its left and its right side.
+type Sides = (&'static [u8], &'static [u8]);
+
+fn set_of(members: &[u8]) -> AttrSet {
+    let mut all = AttrSet::empty();
+    for member in members {
+        if *member < 128 {
+            all = all.insert(*member);
+        }
+    }
+    all
+}
+
+fn fds_of(alloc: Global, sides: &[Sides]) -> Result<List<Fd>, NoMemory> {
+    let mut fds = List::new(alloc);
+    for (left, right) in sides {
+        fds.push(Fd {
+            left: set_of(left),
+            right: set_of(right),
+        })?;
+    }
+    Ok(fds)
+}
+
+fn value(alloc: Global, cell: Cell) -> Result<Value, NoMemory> {
+    match cell {
+        V(_) => Ok(Value::Int(0)),
+        I(n) => Ok(Value::Int(n)),
+        T(text) => Ok(Value::Text(Str::new(alloc, text)?)),
+    }
+}
+
+fn symbol(alloc: Global, cell: Cell) -> Result<Sym, NoMemory> {
+    match cell {
+        V(k) => Ok(Sym::Var(k)),
+        _ => Ok(Sym::Const(value(alloc, cell)?)),
+    }
+}
+
+fn row_of(alloc: Global, cells: &[Cell]) -> Result<List<Sym>, NoMemory> {
+    let mut row = List::new(alloc);
+    for cell in cells {
+        row.push(symbol(alloc, *cell)?)?;
+    }
+    Ok(row)
+}
+
+fn rows_of(alloc: Global, cells: &[&[Cell]]) -> Result<List<List<Sym>>, NoMemory> {
+    let mut rows = List::new(alloc);
+    for row in cells {
+        rows.push(row_of(alloc, row)?)?;
+    }
+    Ok(rows)
+}
+
+fn is_below(fd: &Fd, width: u8) -> bool
+    requires { width ≤ 128 }
+    ensures { IsTrue result → IsFdBelow width fd.now }
+{
+    let all = attributes_below(width);
+    if !fd.left.within(all) {
+        return false;
+    }
+    if !fd.right.within(all) {
+        return false;
+    }
+    true
+}
+
+fn are_below(fds: &[Fd], width: u8) -> bool
+    requires { width ≤ 128 }
+    ensures { IsTrue result → All (IsFdBelow width) fds.now }
+{
+    for fd in fds {
+        if !is_below(fd, width) {
+            return false;
+        }
+    }
+    true
+}
+
+fn are_wide(rows: &[List<Sym>], width: u8) -> bool
+    ensures { IsTrue result → All (λ row. length row ≡ width) rows.now }
+{
+    for row in rows {
+        if row.len() != width as usize {
+            return false;
+        }
+    }
+    true
+}
+
+/// The classes, if the rows are of this width, and the dependencies below it.
+fn closed(
+    alloc: Global,
+    fds: &[Fd],
+    rows: &[List<Sym>],
+    width: u8,
+) -> Result<Option<Closed>, NoMemory> {
+    if width > 128 {
+        return Ok(None);
+    }
+    if rows.len() > 20000 {
+        return Ok(None);
+    }
+    if !are_wide(rows, width) {
+        return Ok(None);
+    }
+    if !are_below(fds, width) {
+        return Ok(None);
+    }
+    Ok(Some(close(alloc, fds, rows)?))
+}
+
+/// The chased tableau, if the dependencies are below its width.
+fn chased(alloc: Global, fds: &[Fd], t: &Tableau) -> Result<Option<Chased>, NoMemory> {
+    t.keeps_its_rules();
+    if !are_below(fds, t.width()) {
+        return Ok(None);
+    }
+    Ok(Some(chase(alloc, fds, t)?))
+}
+
+struct Case {
+    width: u8,
+    rows: &'static [&'static [Cell]],
+    fds: &'static [Sides],
+    names: &'static [Cell],
+    clash: Option<(i64, i64)>,
+}
+
+// The name of each variable, and the constants that clash.
+const CASES: [Case; 7] = [
+    // nothing is asked
+    Case {
+        width: 2,
+        rows: &[&[V(0), V(1)], &[V(0), V(2)]],
+        fds: &[],
+        names: &[V(0), V(1), V(2)],
+        clash: None,
+    },
+    // the least variable names a class
+    Case {
+        width: 2,
+        rows: &[&[V(0), V(2)], &[V(0), V(1)]],
+        fds: &[(&[0], &[1])],
+        names: &[V(0), V(1), V(1)],
+        clash: None,
+    },
+    // a constant names its class
+    Case {
+        width: 2,
+        rows: &[&[V(0), V(1)], &[V(0), I(5)]],
+        fds: &[(&[0], &[1])],
+        names: &[V(0), I(5)],
+        clash: None,
+    },
+    // each dependency frees the one before it
+    Case {
+        width: 4,
+        rows: &[&[I(1), V(0), V(1), V(2)], &[I(1), V(3), V(4), I(7)]],
+        fds: &[(&[2], &[3]), (&[1], &[2]), (&[0], &[1])],
+        names: &[V(0), V(1), I(7), V(0), V(1)],
+        clash: None,
+    },
+    // two ways to a value are inconsistent
+    Case {
+        width: 3,
+        rows: &[
+            &[I(1), I(2), V(0)],
+            &[V(1), I(2), I(3)],
+            &[I(1), V(2), I(4)],
+        ],
+        fds: &[(&[0], &[1]), (&[1], &[2])],
+        names: &[I(3), V(1), I(2)],
+        clash: Some((3, 4)),
+    },
+    // of three constants in one class the two least are told, and not those of a later class
+    Case {
+        width: 2,
+        rows: &[
+            &[I(1), I(9)],
+            &[I(1), I(8)],
+            &[I(1), I(7)],
+            &[I(2), I(5)],
+            &[I(2), I(20)],
+        ],
+        fds: &[(&[0], &[1])],
+        names: &[],
+        clash: Some((5, 20)),
+    },
+    // a left side of two attributes: one is not enough
+    Case {
+        width: 3,
+        rows: &[
+            &[V(0), V(1), V(2)],
+            &[V(0), V(3), V(4)],
+            &[V(0), V(1), V(5)],
+        ],
+        fds: &[(&[0, 1], &[2])],
+        names: &[V(0), V(1), V(2), V(3), V(4), V(2)],
+        clash: None,
+    },
+];
+
+fn same(a: &[Sym], b: &[Sym]) -> bool {
+    if a.len() != b.len() {
+        return false;
+    }
+    for (i, x) in a.iter().enumerate() {
+        if !x.same(&b[i]) {
+            return false;
+        }
+    }
+    true
+}
+
+fn clashes(found: &Option<(Value, Value)>, wanted: Option<(i64, i64)>) -> bool {
+    match (found, wanted) {
+        (Some((less, greater)), Some((a, b))) => {
+            *less == Value::Int(a) && *greater == Value::Int(b)
+        }
+        (None, None) => true,
+        _ => false,
+    }
+}
+
+#[test]
+fn classes_have_their_first_symbols_for_names(rt: HostRuntime) -> Result<(), Fail> {
+    let alloc = rt.alloc();
+    for (i, case) in CASES.iter().enumerate() {
+        let rows = rows_of(alloc, case.rows)?;
+        let fds = fds_of(alloc, case.fds)?;
+        let found = closed(alloc, fds.as_slice(), rows.as_slice(), case.width)?;
+        let Closed { names, clash } = found.expect(&rt, "rows of the width");
+        let wanted = row_of(alloc, case.names)?;
+        assert!(rt;
+            same(names.as_slice(), wanted.as_slice()),
+            "names of case {i}"
+        );
+        assert!(rt; clashes(&clash, case.clash), "clash of case {i}");
+    }
+    Ok(())
+}
+
+// Attributes BANK, ACCT, CUST, BAL, LOAN, AMT, ADDR.
+const BANK_FDS: [Sides; 5] = [
+    (&[1], &[0]),
+    (&[1], &[3]),
+    (&[2], &[6]),
+    (&[4], &[0]),
+    (&[4], &[5]),
+];
+
+// The banks: rows of the objects BANK ACCT, ACCT CUST, ACCT BAL and CUST ADDR.
+const BANKS: [&[Cell]; 4] = [
+    &[V(0), V(1), V(9), V(10), V(11), V(12), V(13)],
+    &[V(14), V(1), V(2), V(17), V(18), V(19), V(20)],
+    &[V(21), V(1), V(23), V(3), V(25), V(26), V(27)],
+    &[V(28), V(29), V(2), V(31), V(32), V(33), V(6)],
+];
+
+// The same rows by their names.
+const CHASED: [&[Cell]; 4] = [
+    &[V(0), V(1), V(9), V(3), V(11), V(12), V(13)],
+    &[V(0), V(1), V(2), V(3), V(18), V(19), V(6)],
+    &[V(0), V(1), V(23), V(3), V(25), V(26), V(27)],
+    &[V(28), V(29), V(2), V(31), V(32), V(33), V(6)],
+];
+
+fn tableau_of(
+    alloc: Global,
+    width: u8,
+    rows: &[&[Cell]],
+    head: &[Cell],
+) -> Result<Option<Tableau>, NoMemory> {
+    let rows = rows_of(alloc, rows)?;
+    let head = row_of(alloc, head)?;
+    Ok(Tableau::checked(width, rows, head, 1, List::new(alloc)))
+}
+
+#[test]
+fn banks_are_chased(rt: HostRuntime) -> Result<(), Fail> {
+    let alloc = rt.alloc();
+    let t = tableau_of(alloc, 7, &BANKS, &[V(14)])?.expect(&rt, "valid parts");
+    let fds = fds_of(alloc, &BANK_FDS)?;
+    let found = chased(alloc, fds.as_slice(), &t)?.expect(&rt, "dependencies below the width");
+    let Chased::Closed(c) = found else {
+        return Err(Fail::from("a clash"));
+    };
+    assert_eq!(rt; c.row_count(), 4);
+    for (i, cells) in CHASED.iter().enumerate() {
+        let wanted = row_of(alloc, cells)?;
+        assert!(rt; i < c.row_count());
+        assert!(rt; same(c.row(i), wanted.as_slice()), "row {i}");
+    }
+    let head = row_of(alloc, &[V(0)])?;
+    assert!(rt; same(c.head(), head.as_slice()));
+    Ok(())
+}
+
+#[test]
+fn two_ways_to_a_value_clash(rt: HostRuntime) -> Result<(), Fail> {
+    let alloc = rt.alloc();
+    let rows: [&[Cell]; 3] = [
+        &[I(1), I(2), V(0)],
+        &[V(1), I(2), I(3)],
+        &[I(1), V(2), I(4)],
+    ];
+    let t = tableau_of(alloc, 3, &rows, &[V(0)])?.expect(&rt, "valid parts");
+    let fds = fds_of(alloc, &[(&[0], &[1]), (&[1], &[2])])?;
+    let found = chased(alloc, fds.as_slice(), &t)?.expect(&rt, "dependencies below the width");
+    let Chased::Clash { less, greater } = found else {
+        return Err(Fail::from("no clash"));
+    };
+    assert!(rt; less == Value::Int(3) && greater == Value::Int(4));
+    Ok(())
+}

@@ -1,0 +1,5 @@
+use Rattle.su_classes.specs.Firsts.{AreMembersBelow}
+use Rattle.su_classes.proofs.firsts.members.Given as goal
+
+abbrev pub invariant-loop-a : goal.invariant-loop-a
+invariant-loop-a l = AreMembersBelow l.a l.set l.list

@@ -1,0 +1,9 @@
+use Rattle.std.proofs.Common.{◌≡◌, ◌≤◌, length, arith}
+use Rattle.su_classes.proofs.Merging.{joining_at, joining_all}
+use Rattle.su_classes.proofs.tables.join_all.Goals as goal
+
+pub loop-e-preserved : goal.loop-e-preserved
+loop-e-preserved c = joining_at (λ label e. label e.left ≡ label e.right) c.args.equal.now c.loop-e.e-index _ c.args.table.now c.loop-e.table c.join.new.table c.loop-e-test.true c.loop-e.invariant c.join.ensures.joining
+
+pub returns : goal.returns
+returns c = joining_all (λ label e. label e.left ≡ label e.right) c.args.equal.now c.loop-e.e-index c.args.table.now c.loop-e.table (omega arith) (omega arith) c.loop-e.invariant

@@ -1,0 +1,37 @@
+-- Rows of numbered items, and labels that keep dependencies on them.
+-- placed row: an item at each attribute of its set; a dependency lies in a row that has all its attributes
+-- kept: equal items have one label; rows in which a dependency lies and that agree on its left side agree on its right side
+use Rattle.std.specs.Prelude.{◌≡◌, ℕ, ◌<◌, ◌≤◌, IsTrue, List, length, get_or, All, Contains}
+use Rattle.std.specs.Ordering.{nat_cmp}
+use Rattle.std.specs.FinSet.{FinSet, contains, is_subset}
+use Rattle.su_fd.specs.declared.dependencies.Fd.{Fd}
+use Rattle.su_classes.specs.declared.items.Placed.{Placed}
+use Rattle.su_classes.specs.declared.items.Together.{Together}
+
+-- the item of a row at an attribute
+abbrev pub cell : Placed → ℕ → ℕ
+cell r a = get_or r.cells a 0
+
+-- all attributes of a dependency are the row's
+pub record LiesIn (f : Fd) (has : FinSet nat_cmp) : Type 0 where
+  pub left : IsTrue (is_subset f.left has)
+  pub right : IsTrue (is_subset f.right has)
+
+-- the two rows have the same labels at the attributes of the set
+abbrev pub SameAt : {L : Type 0} → (ℕ → L) → FinSet nat_cmp → Placed → Placed → Type 0
+SameAt label s r q = (a : ℕ) → IsTrue (contains s a) → label (cell r a) ≡ label (cell q a)
+
+-- the labels keep a dependency
+abbrev pub Keeps : {L : Type 0} → (ℕ → L) → List Placed → Fd → Type 0
+Keeps label rows f = (r q : Placed) → Contains rows r → Contains rows q → LiesIn f r.has → LiesIn f q.has → SameAt label f.left r q → SameAt label f.right r q
+
+-- equal items have one label, and the dependencies are kept
+pub record IsKept {L : Type 0} (fds : List Fd) (rows : List Placed) (equal : List Together) (label : ℕ → L) : Type 0 where
+  pub equalities : All (λ e. label e.left ≡ label e.right) equal
+  pub dependencies : All (Keeps label rows) fds
+
+-- at most 128 cells, and at each attribute of the set one with an item below n
+pub record IsPlacedBelow (n : ℕ) (r : Placed) : Type 0 where
+  pub narrow : length r.cells ≤ 128
+  pub wide : (a : ℕ) → IsTrue (contains r.has a) → a < length r.cells
+  pub below : (a : ℕ) → IsTrue (contains r.has a) → cell r a < n

@@ -1,0 +1,5 @@
+pub mod Items
+pub mod Tables
+pub mod Firsts
+pub mod Naming
+pub mod Symbols
