@@ -125,7 +125,7 @@ fn items_of(alloc: Global, constants: &[Value], row: &[Sym]) -> Result<List<usiz
 }
 
 /// The attributes below the width.
-fn attributes_below(width: u8) -> AttrSet
+pub fn attributes_below(width: u8) -> AttrSet
     requires { width ≤ 128 }
     ensures { (a : ℕ) → IsTrue (contains result a) ↔ (a < width) }
 {
