@@ -61,7 +61,7 @@ of_flat f (x ∷ xs) y c =
     (λ (r : Contains (flat_map f xs) y). let w = of_flat f xs y r in (w.0, contains_later x xs w.0 w.1, w.2))
     (Contains-append_cases (f x) (flat_map f xs) y c)
 
-take_all : {X : Type 0} (xs : List X) (n : ℕ) → length xs ≤ n → take n xs ≡ xs
+pub take_all : {X : Type 0} (xs : List X) (n : ℕ) → length xs ≤ n → take n xs ≡ xs
 take_all [] zero l = refl
 take_all [] (suc n) l = refl
 take_all (x ∷ xs) zero l = absurd (omega arith)

@@ -5,3 +5,6 @@ pub mod Clashing
 pub mod Sorting
 pub mod Tabled
 pub mod Answering
+pub mod Giving
+pub mod Searching
+pub mod Thawing

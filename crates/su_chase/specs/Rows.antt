@@ -1,16 +1,20 @@
 -- Rows of symbols as rows of items, and variables with their new values. No public clause cites this module.
 -- numbered: the constants of the rows, ascending, each once, are the first items, and the variables follow
-use Rattle.std.specs.Prelude.{◌≡◌, ◌≢◌, ◌⊎◌, ◌↔◌, ℕ, ◌+◌, ◌<◌, ◌≤◌, cond, nat_eq, pos, IsTrue, Option, Some, None, List, [], ◌∷◌, map, flat_map, length, get_or, All}
+use Rattle.std.specs.Prelude.{◌≡◌, ◌≢◌, ◌⊎◌, ◌↔◌, ℕ, ◌+◌, ◌<◌, ◌≤◌, cond, nat_eq, pos, IsTrue, Option, Some, None, List, [], ◌∷◌, map, flat_map, length, get_or, All, Contains}
 use Rattle.std.specs.FinSet.{contains}
+use Rattle.su_base.specs.declared.values.Kind.{Kind}
+use Rattle.su_base.specs.declared.values.Kind.TheVariants.{Int as IntKind, Text as TextKind}
 use Rattle.su_base.specs.declared.values.Value.{Value}
 use Rattle.su_base.specs.declared.values.Value.TheVariants.{Int, Text}
 use Rattle.su_fd.specs.declared.dependencies.Fd.{Fd}
 use Rattle.su_tableau.specs.declared.symbols.Sym.{Sym}
 use Rattle.su_tableau.specs.declared.symbols.Sym.TheVariants.{Const, Var}
-use Rattle.su_tableau.specs.Tableaux.{Tab}
+use Rattle.su_tableau.specs.Tableaux.{Tab, nth}
 use Rattle.su_classes.specs.declared.items.Placed.{Placed}
 use Rattle.su_classes.specs.Symbols.{number_of}
 use Rattle.su_classes.specs.Tables.{rep, IsLeast}
+use Rattle.su_chase.specs.declared.candidates.Next.{Next}
+use Rattle.su_chase.specs.Frozen.{candidate}
 
 -- ---- symbols as items
 
@@ -74,3 +78,21 @@ abbrev pub value_in : List ℕ → List Value → ℕ → Value
 value_in [] vs k = Int (pos 0)
 value_in (j ∷ js) [] k = Int (pos 0)
 value_in (j ∷ js) (v ∷ vs) k = cond (nat_eq j k) v (value_in js vs k)
+
+-- at place p of the values: the first candidate of the kind that is neither avoided nor at an earlier place
+pub record IsFreeAt (avoid : List Value) (kind : Kind) (values : List Value) (p : ℕ) : Type 0 where
+  pub number : ℕ
+  pub is : nth values p ≡ candidate kind number
+  pub free : ¬ Contains avoid (candidate kind number)
+  pub new : (q : ℕ) → q < p → nth values q ≢ candidate kind number
+  pub least : (i : ℕ) → i < number → Contains avoid (candidate kind i) ⊎ ((q : ℕ) × (q < p) × (nth values q ≡ candidate kind i))
+
+-- the counter of a kind
+abbrev pub count_of : Next → Kind → ℕ
+count_of next IntKind = next.int
+count_of next TextKind = next.text
+
+-- the counter of the kind is past the number, and that of no other kind moved
+pub record IsPast (next : Next) (kind : Kind) (number : ℕ) (new : Next) : Type 0 where
+  pub here : count_of new kind ≡ number + 1
+  pub others : (k : Kind) → k ≢ kind → count_of new k ≡ count_of next k

@@ -33,7 +33,7 @@ fn copy_symbols(alloc: Global, symbols: &[Sym]) -> Result<List<Sym>, NoMemory>
 }
 
 /// Copies of the tableau's rows.
-fn rows_of(alloc: Global, t: &Tableau) -> Result<List<List<Sym>>, NoMemory>
+pub fn rows_of(alloc: Global, t: &Tableau) -> Result<List<List<Sym>>, NoMemory>
     ensures { IfOk result (λ rows. rows ≡ t.now.rows) }
 {
     let mut rows = List::new(alloc);

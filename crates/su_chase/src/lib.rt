@@ -5,15 +5,19 @@
 //! rows and the head of a tableau: over every universal relation that meets the dependencies it answers
 //! what the tableau does, and nothing where it clashes. Constants and variables are numbered as items,
 //! the constants in their order, so that su_classes closes them and the least item of a class is its
-//! name; memory goes with the greatest variable. Nothing is minimised here.
+//! name; memory goes with the greatest variable. Nothing is minimised here. `freeze` reads the variables
+//! of a tableau as new values, so that its rows are a universal relation.
 #![tactic(auto)]
 
+mod candidates;
 mod chasing;
 mod crossing;
+mod freezing;
 mod naming;
 mod numbering;
 
 pub use chasing::{Chased, chase};
+pub use freezing::{Frozen, freeze};
 pub use naming::{Closed, close};
 
 #[cfg(test)]

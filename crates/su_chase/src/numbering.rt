@@ -37,7 +37,7 @@ fn push_constants(alloc: Global, row: &[Sym], constants: &mut List<Value>) -> Re
 }
 
 /// The values, ascending, each once.
-fn sorted(values: Vec<Value>) -> Vec<Value>
+pub fn sorted(values: Vec<Value>) -> Vec<Value>
     ensures members { (c : AValue) → Contains result.items c ↔ Contains values.items c }
     ensures ascending { IsStrictlySortedBy compare_values result.items }
 {

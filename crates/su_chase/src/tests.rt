@@ -1,11 +1,13 @@
-ghost use Rattle.std.specs.Prelude.{◌≡◌, ◌≤◌, IsTrue, All, length};
+ghost use Rattle.std.specs.Prelude.{◌≡◌, ◌≤◌, IsTrue, All, length, map, get_or};
+ghost use Rattle.su_base.specs.declared.values.Kind.TheVariants.{Int as IntKind};
+ghost use Rattle.su_tableau.specs.Kinds.{IsTyped, sym_kind};
 ghost use Rattle.su_chase.specs.Chased.{IsFdBelow};
 
 use crate::numbering::attributes_below;
-use crate::{Chased, Closed, chase, close};
+use crate::{Chased, Closed, Frozen, chase, close, freeze};
 use std::alloc::Global;
 use std::test::Fail;
-use su_base::{AttrSet, List, NoMemory, Str, Value};
+use su_base::{AttrSet, Kind, List, NoMemory, Str, Value};
 use su_fd::Fd;
 use su_tableau::{Sym, Tableau};
 
@@ -335,5 +337,176 @@ fn two_ways_to_a_value_clash(rt: HostRuntime) -> Result<(), Fail> {
         return Err(Fail::from("no clash"));
     };
     assert!(rt; less == Value::Int(3) && greater == Value::Int(4));
+    Ok(())
+}
+
+/// The kind of a variable, where the kinds stand in the order of the numbers; past the last a whole
+/// number.
+fn kind_of_number(of: &[Kind], k: u32) -> Kind
+    ensures { result ≡ get_or of.now k IntKind }
+{
+    if (k as usize) < of.len() {
+        of[k as usize]
+    } else {
+        Kind::Int
+    }
+}
+
+fn has_kind(of: &[Kind], x: &Sym, kind: Kind) -> bool
+    ensures { IsTrue result → sym_kind (λ k. get_or of.now k IntKind) x.now ≡ kind }
+{
+    match x {
+        Sym::Const(value) => value.kind() == kind,
+        Sym::Var(k) => kind_of_number(of, *k) == kind,
+    }
+}
+
+fn have_kinds(of: &[Kind], row: &[Sym], kinds: &[Kind]) -> bool
+    ensures { IsTrue result → map (sym_kind (λ k. get_or of.now k IntKind)) row.now ≡ kinds.now }
+{
+    if row.len() != kinds.len() {
+        return false;
+    }
+    for i in 0..row.len() {
+        if !has_kind(of, &row[i], kinds[i]) {
+            return false;
+        }
+    }
+    true
+}
+
+fn is_typed(of: &[Kind], kinds: &[Kind], t: &Tableau) -> bool
+    ensures { IsTrue result → IsTyped kinds.now t.now }
+{
+    if t.width() as usize != kinds.len() {
+        return false;
+    }
+    for i in 0..t.row_count() {
+        if !have_kinds(of, t.row(i), kinds) {
+            return false;
+        }
+    }
+    true
+}
+
+/// The frozen tableau, if it is well typed by these kinds of the variables.
+fn frozen(
+    alloc: Global,
+    of: &[Kind],
+    kinds: &[Kind],
+    t: &Tableau,
+    avoid: &[Value],
+) -> Result<Option<Frozen>, NoMemory> {
+    if !is_typed(of, kinds, t) {
+        return Ok(None);
+    }
+    Ok(Some(freeze(alloc, kinds, t, avoid)?))
+}
+
+fn values_of(alloc: Global, cells: &[Cell]) -> Result<List<Value>, NoMemory> {
+    let mut values = List::new(alloc);
+    for cell in cells {
+        values.push(value(alloc, *cell)?)?;
+    }
+    Ok(values)
+}
+
+const INT: Kind = Kind::Int;
+
+const TEXT: Kind = Kind::Text;
+
+struct Freezing {
+    width: u8,
+    // of the columns, and of the variables by their numbers
+    kinds: &'static [Kind],
+    of: &'static [Kind],
+    rows: &'static [&'static [Cell]],
+    head: &'static [Cell],
+    avoid: &'static [Cell],
+    universe: &'static [&'static [Cell]],
+    frozen_head: &'static [Cell],
+}
+
+const FREEZINGS: [Freezing; 4] = [
+    // the chased banks
+    Freezing {
+        width: 7,
+        kinds: &[TEXT, INT, TEXT, INT, INT, INT, TEXT],
+        of: &[
+            TEXT, INT, TEXT, INT, INT, INT, TEXT, INT, INT, TEXT, INT, INT, INT, TEXT, INT, INT,
+            INT, INT, INT, INT, INT, INT, INT, TEXT, INT, INT, INT, TEXT, TEXT,
+        ],
+        rows: &CHASED,
+        head: &[V(0)],
+        avoid: &[],
+        universe: &[
+            &[T("v0"), I(0), T("v3"), I(1), I(2), I(3), T("v4")],
+            &[T("v0"), I(0), T("v1"), I(1), I(4), I(5), T("v2")],
+            &[T("v0"), I(0), T("v5"), I(1), I(6), I(7), T("v6")],
+            &[T("v7"), I(8), T("v1"), I(9), I(10), I(11), T("v2")],
+        ],
+        frozen_head: &[T("v0")],
+    },
+    // avoided values are passed over, in whatever order they are given
+    Freezing {
+        width: 2,
+        kinds: &[INT, TEXT],
+        of: &[INT, TEXT, INT, TEXT],
+        rows: &[&[V(2), V(3)], &[V(0), V(1)]],
+        head: &[V(3)],
+        avoid: &[I(2), T("v1"), I(0), I(2), T("v")],
+        universe: &[&[I(3), T("v2")], &[I(1), T("v0")]],
+        frozen_head: &[T("v2")],
+    },
+    // constants stay
+    Freezing {
+        width: 1,
+        kinds: &[INT],
+        of: &[],
+        rows: &[&[I(0)], &[V(7)]],
+        head: &[I(0)],
+        avoid: &[I(0)],
+        universe: &[&[I(0)], &[I(1)]],
+        frozen_head: &[I(0)],
+    },
+    // what is not avoided may be given
+    Freezing {
+        width: 1,
+        kinds: &[INT],
+        of: &[],
+        rows: &[&[I(0)], &[V(7)]],
+        head: &[V(7)],
+        avoid: &[],
+        universe: &[&[I(0)], &[I(0)]],
+        frozen_head: &[I(0)],
+    },
+];
+
+#[test]
+fn variables_get_the_first_free_values(rt: HostRuntime) -> Result<(), Fail> {
+    let alloc = rt.alloc();
+    for (i, case) in FREEZINGS.iter().enumerate() {
+        let t = tableau_of(alloc, case.width, case.rows, case.head)?.expect(&rt, "valid parts");
+        let avoid = values_of(alloc, case.avoid)?;
+        let Frozen { universe, head } = frozen(
+            alloc,
+            case.of,
+            case.kinds,
+            &t,
+            avoid.as_slice(),
+        )?.expect(&rt, "typed");
+        assert!(rt; universe.len() == case.universe.len(), "rows of case {i}");
+        for (k, cells) in case.universe.iter().enumerate() {
+            assert!(rt; k < universe.len());
+            assert!(rt;
+                *universe.get(k) == values_of(alloc, cells)?,
+                "row {k} of case {i}"
+            );
+        }
+        assert!(rt;
+            head == values_of(alloc, case.frozen_head)?,
+            "head of case {i}"
+        );
+    }
     Ok(())
 }

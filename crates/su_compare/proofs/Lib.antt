@@ -1,3 +1,10 @@
 pub mod OnlyEqual
 pub mod Lists
+pub mod Members
+pub mod Constants
+pub mod Settled
+pub mod Sorted
+pub mod Gathered
+pub mod Apart
+pub mod Deciding
 pub mod Comparable

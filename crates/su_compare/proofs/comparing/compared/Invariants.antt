@@ -1,0 +1,9 @@
+use Rattle.su_compare.specs.Settling.{HasRoomFor}
+use Rattle.su_compare.proofs.Deciding.{AreSettled}
+use Rattle.su_compare.proofs.comparing.compared.Given as goal
+
+abbrev pub invariant-loop-i : goal.invariant-loop-i
+invariant-loop-i l = record {
+  room_for : HasRoomFor l.second l.room;
+  settled : AreSettled l.schema l.first l.second l.i l.reasons;
+}
