@@ -8,25 +8,16 @@ use Rattle.su_schema.specs.SchemaValue as schemas
 use Rattle.su_query.specs.declared.places.Place.{Place}
 use Rattle.su_query.specs.declared.resolving.Resolved.{Resolved}
 use Rattle.su_steps.specs.declared.results.Origin.{Origin}
-use Rattle.su_steps.specs.declared.rows.Binding.{Binding}
 use Rattle.su_steps.specs.declared.classes.Classes.{Classes}
 use Rattle.su_steps.specs.declared.building.Head.{Head}
 use Rattle.su_steps.specs.Objects.{width}
 use Rattle.su_steps.specs.Classes.{place_symbol, comparisons}
 use Rattle.su_steps.specs.Terms.{rows_of, tableau_of}
-use Rattle.su_steps.specs.Tables.{layout, IsLeast}
 use Rattle.su_steps.specs.Numbers.{class_name}
 use Rattle.su_steps.specs.Heads.{head_of, IsSomeFalse, IsNoneFalse}
 use Rattle.su_steps.specs.Ready.{FitOrigins}
 use Rattle.su_steps.proofs.Fitting.{width_is}
 use Rattle.su_steps.proofs.Valid.{length-rows}
-
-pub least_after : (n : ℕ) (bs made : List Binding) (old new : Classes) → new.constants ≡ old.constants → new.equal ≡ old.equal → old.width ≡ n → made ≡ bs → IsLeast (layout (length old.constants) old.width) made old.equal new.table.items → IsLeast (layout (length new.constants) n) bs new.equal new.table.items
-least_after n bs made old new constants equal width same least =
-    subst (λ b. IsLeast (layout (length new.constants) n) b new.equal new.table.items) same
-    (subst (λ e. IsLeast (layout (length new.constants) n) made e new.table.items) (sym equal)
-    (subst (λ vs. IsLeast (layout (length vs) n) made old.equal new.table.items) (sym constants)
-    (subst (λ k. IsLeast (layout (length old.constants) k) made old.equal new.table.items) width least)))
 
 abbrev pub tab_of : ℕ → List (List Sym) → Head → ℕ → Tab
 tab_of n rows head outputs = record { width = n; rows = rows; head = head.symbols; outputs = outputs; operators = head.operators }

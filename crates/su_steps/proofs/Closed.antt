@@ -5,56 +5,26 @@ use Rattle.su_where.specs.declared.literals.Literal.{Literal}
 use Rattle.su_where.specs.Truth.{HasPlacesBelow}
 use Rattle.su_tableau.specs.declared.symbols.Sym.{Sym}
 use Rattle.su_tableau.specs.Tableaux.{Tab, IsValid, IsSmall}
+use Rattle.su_classes.specs.Tables.{rep}
 use Rattle.su_schema.specs.SchemaValue.{SchemaValue}
 use Rattle.su_schema.specs.SchemaValue as schemas
 use Rattle.su_query.specs.declared.places.Place.{Place}
 use Rattle.su_query.specs.declared.resolving.Resolved.{Resolved}
 use Rattle.su_query.specs.Ranges.{IsResolved}
 use Rattle.su_steps.specs.declared.results.Origin.{Origin}
-use Rattle.su_steps.specs.declared.rows.Binding.{Binding}
 use Rattle.su_steps.specs.declared.classes.Classes.{Classes}
 use Rattle.su_steps.specs.declared.building.Head.{Head}
 use Rattle.su_steps.specs.Objects.{width}
 use Rattle.su_steps.specs.Classes.{place_symbol, comparisons}
 use Rattle.su_steps.specs.Terms.{rows_of, tableau_of, HaveNone, HaveTableau}
-use Rattle.su_steps.specs.Tables.{AreBindings, layout, rep, IsLeast, IsBindingBelow}
 use Rattle.su_steps.specs.Numbers.{class_name, AreClasses}
 use Rattle.su_steps.specs.Heads.{head_of, IsSomeFalse, IsNoneFalse}
-use Rattle.su_steps.specs.Ready.{IsReady, FitLiterals, FitOrigins, IsShown}
+use Rattle.su_steps.specs.Ready.{IsReady, AreClosed, FitLiterals, FitOrigins, IsShown}
 use Rattle.su_steps.proofs.Fitting.{width_is}
-use Rattle.su_steps.proofs.Tabled.{ready_after, are_classes, bindings_below, none_by_clash, none_by_false, made, valid_of}
-use Rattle.su_steps.proofs.Built.{tab_of, least_after, some_false_at, none_false_at, built, small_of}
-
--- ---- before the classes are closed
-
-pub variables_few : (schema : SchemaValue) (q : Resolved) (os : List Origin) → IsResolved schema q → FitOrigins schema q os → All (λ o. (o.variable < 64) × (o.object < length schema.objects)) os
-variables_few schema q os resolved fit k d l = let r = fit.in_range k d l in let few = resolved.few_variables in (omega (arith, r.0, few), r.1)
-
-pub size_before : (n : ℕ) (q : Resolved) (ls : List Literal) (c : Classes) (v : ℕ) → IsReady n q ls c → v ≡ length q.variables → length c.table.items ≡ length c.constants + v * c.width
-size_before n q ls c v ready e = ready.size ∙ ap (λ k. length c.constants + k * n) (sym e) ∙ ap (λ k. length c.constants + v * k) (sym ready.width)
-
-pub below_before : (schema : SchemaValue) (q : Resolved) (ls : List Literal) (os : List Origin) (bs made : List Binding) (c : Classes) (v : ℕ) → schemas.IsValid schema → FitOrigins schema q os → AreBindings schema os bs → made ≡ bs → IsReady (width schema) q ls c → v ≡ length q.variables → All (IsBindingBelow c.width v) made
-below_before schema q ls os bs made c v valid fit bound same ready e =
-    subst (All (IsBindingBelow c.width v)) (sym same)
-    (subst (λ k. All (IsBindingBelow c.width k) bs) (sym e)
-    (subst (λ n. All (IsBindingBelow n (length q.variables)) bs) (sym ready.width) (bindings_below schema q os bs valid fit bound)))
+use Rattle.su_steps.proofs.Tabled.{are_classes, none_by_clash, none_by_false, made, valid_of}
+use Rattle.su_steps.proofs.Built.{tab_of, some_false_at, none_false_at, built, small_of}
 
 -- ---- the closed classes
-
-pub record AreClosed (schema : SchemaValue) (q : Resolved) (ls : List Literal) (os : List Origin) (c : Classes) : Type 0 where
-  pub bindings : List Binding
-  pub bound : AreBindings schema os bindings
-  pub ready : IsReady (width schema) q ls c
-  pub least : IsLeast (layout (length c.constants) (width schema)) bindings c.equal c.table.items
-
-pub closed_of : (schema : SchemaValue) (q : Resolved) (ls : List Literal) (os : List Origin) (bs made : List Binding) (old new : Classes) → IsReady (width schema) q ls old → new.constants ≡ old.constants → new.equal ≡ old.equal → new.width ≡ old.width → length new.table.items ≡ length old.table.items
-    → AreBindings schema os bs → made ≡ bs → IsLeast (layout (length old.constants) old.width) made old.equal new.table.items → AreClosed schema q ls os new
-closed_of schema q ls os bs made old new ready constants equal width' len bound same least = record {
-  bindings = bs;
-  bound = bound;
-  ready = ready_after (width schema) q ls old new ready constants equal width' len;
-  least = least_after (width schema) bs made old new constants equal ready.width same least;
-}
 
 module _ (schema : SchemaValue) (q : Resolved) (ls : List Literal) (os : List Origin) (c : Classes) (valid : schemas.IsValid schema) (resolved : IsResolved schema q) (fits : FitLiterals schema q ls) (fit : FitOrigins schema q os) (closed : AreClosed schema q ls os c) (v : ℕ) (ps : List Place) (outs : List ℕ)
     (variables : v ≡ length q.variables) (places : ps ≡ q.places) (outputs : outs ≡ q.outputs) where
@@ -87,10 +57,10 @@ module _ (schema : SchemaValue) (q : Resolved) (ls : List Literal) (os : List Or
   origins_in = subst (λ k. All (λ (o : Origin). (o.variable < k) × (o.object < length schema.objects)) os) (sym variables) fit.in_range
 
   pub closed_clash : (i : ℕ) × (i < length c.constants) × (rep c.table.items i < i) → HaveNone schema os (comparisons (width schema) q.places ls)
-  closed_clash w = none_by_clash schema q ls os closed.bindings c valid resolved fits fit closed.ready closed.bound closed.least w
+  closed_clash w = none_by_clash schema q ls os c valid resolved fits fit closed w
 
   pub closed_false : IsSomeFalse (class_name (v * c.width) c) (comparisons c.width ps ls) → HaveNone schema os (comparisons (width schema) q.places ls)
-  closed_false h = none_by_false schema q ls os closed.bindings c valid resolved fits fit closed.ready closed.bound closed.least (some_false_at schema q ls c v ps variables closed.ready.width places h)
+  closed_false h = none_by_false schema q ls os c valid resolved fits fit closed (some_false_at schema q ls c v ps variables closed.ready.width places h)
 
   module _ (rows : List (List Sym)) (head : Head) (count : ℕ) (rows_are : rows ≡ rows_of schema (class_name (v * c.width) c) (v * c.width) os)
       (head_is : head ≡ head_of (class_name (v * c.width) c) (map (λ i. class_name (v * c.width) c (place_symbol c.width ps i)) outs) (comparisons c.width ps ls)) (many : count ≡ length outs) where
@@ -99,10 +69,10 @@ module _ (schema : SchemaValue) (q : Resolved) (ls : List Literal) (os : List Or
 
     pub closed_made : ((i : ℕ) × (i < length c.constants) × (rep c.table.items i < i) → ⊥) → IsNoneFalse (class_name (v * c.width) c) (comparisons c.width ps ls) → (t : Tab) → t ≡ tab_of c.width rows head count → HaveTableau schema q os (comparisons (width schema) q.places ls) t
     closed_made clash none t is =
-        made schema q ls os closed.bindings c valid resolved fits fit closed.ready closed.bound closed.least clash (none_false_at schema q ls c v ps variables closed.ready.width places none) t (is ∙ is_built)
+        made schema q ls os c valid resolved fits fit closed clash (none_false_at schema q ls c v ps variables closed.ready.width places none) t (is ∙ is_built)
 
     pub closed_valid : IsShown schema q os → IsValid (tab_of c.width rows head count)
-    closed_valid shown = subst IsValid (sym is_built) (valid_of schema q ls os closed.bindings c valid resolved fits fit closed.ready closed.bound closed.least shown)
+    closed_valid shown = subst IsValid (sym is_built) (valid_of schema q ls os c valid resolved fits fit closed shown)
 
     pub closed_small : IsSmall (tab_of c.width rows head count)
     closed_small = subst IsSmall (sym is_built) (small_of schema q ls c v ps variables closed.ready.width places os valid fit)

@@ -1,5 +1,4 @@
 pub mod Lists
-pub mod Comparing
 pub mod Cutting
 pub mod Cells
 pub mod Raw
@@ -12,17 +11,14 @@ pub mod Valid
 pub mod Fitting
 pub mod Chosen
 pub mod Union
-pub mod Merging
 pub mod Passing
 pub mod Counting
-pub mod Places
-pub mod Named
+pub mod Noting
+pub mod Placing
 pub mod Pushing
 pub mod Whole
 pub mod Equal
 pub mod Made
-pub mod Bound
-pub mod Sweeping
 pub mod Sourced
 pub mod Covered
 pub mod Tabled

@@ -16,6 +16,7 @@ use Rattle.su_where.specs.Operator.{compares, holds_in}
 use Rattle.su_tableau.specs.declared.symbols.Sym.{Sym}
 use Rattle.su_tableau.specs.declared.symbols.Sym.TheVariants.{Const, Var}
 use Rattle.su_tableau.specs.Tableaux.{value_of, values_of}
+use Rattle.su_classes.proofs.Comparing.{compare_itself, compare_same, same_or}
 use Rattle.su_schema.specs.SchemaValue.{SchemaValue}
 use Rattle.su_steps.specs.declared.results.Origin.{Origin}
 use Rattle.su_steps.specs.Objects.{width, attributes_at}
@@ -23,7 +24,6 @@ use Rattle.su_steps.specs.Expression.{Agree, Meets}
 use Rattle.su_steps.specs.Choices.{origins_from}
 use Rattle.su_steps.specs.Classes.{Compared, IsClosed, InClass, IsNaming}
 use Rattle.su_steps.specs.Terms.{is_evaluated, outcome, left_over, sides, EvaluatesFalse, IsContradictory}
-use Rattle.su_steps.proofs.Comparing.{compare_itself, compare_same, same_or}
 use Rattle.su_steps.proofs.Lists.{map_twice, all_at, all_by, all_map, all_of_map, all_weaker}
 use Rattle.su_steps.proofs.Cells.{raw_rows, Sent, IsAt, rows_at}
 use Rattle.su_steps.proofs.Raw.{AreWithin, AllTrue, RawAnswer}

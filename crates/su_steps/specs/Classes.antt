@@ -3,7 +3,7 @@
 -- partition: a label for each symbol; symbols with one label are together
 -- closed: the sides of each equality are together, and rows that agree on a dependency's left side agree on its right side
 -- class: symbols that every closed partition puts together; its name is its constant, or else its least pair
-use Rattle.std.specs.Prelude.{◌≡◌, ℕ, ◌+◌, ◌*◌, ◌≤◌, IsTrue, List, map, get_or, Contains}
+use Rattle.std.specs.Prelude.{◌≡◌, ℕ, ◌+◌, ◌*◌, IsTrue, List, map, get_or, Contains}
 use Rattle.std.specs.Ordering.{nat_cmp}
 use Rattle.std.specs.FinSet.{FinSet, contains}
 use Rattle.su_fd.specs.declared.dependencies.Fd.{Fd}
@@ -14,6 +14,7 @@ use Rattle.su_where.specs.declared.literals.Operand.TheVariants as operand
 use Rattle.su_where.specs.declared.literals.Literal.{Literal}
 use Rattle.su_tableau.specs.declared.symbols.Sym.{Sym}
 use Rattle.su_tableau.specs.declared.symbols.Sym.TheVariants.{Const, Var}
+use Rattle.su_classes.specs.Naming as naming
 use Rattle.su_schema.specs.SchemaValue.{SchemaValue}
 use Rattle.su_query.specs.declared.places.Place.{Place}
 use Rattle.su_steps.specs.declared.results.Origin.{Origin}
@@ -55,15 +56,8 @@ pub record IsClosed (schema : SchemaValue) (os : List Origin) (d : List Compared
 
 -- every closed partition puts x and y together
 abbrev pub InClass : SchemaValue → List Origin → List Compared → Sym → Sym → Type 0
-InClass schema os d x y = (label : Sym → Sym) → IsClosed schema os d label → label x ≡ label y
-
--- the symbol is a variable of no less a number
-abbrev pub IsFrom : ℕ → Sym → Type 0
-IsFrom k (Const c) = ⊥
-IsFrom k (Var j) = k ≤ j
+InClass schema os d x y = naming.InClass (IsClosed schema os d) x y
 
 -- the name of each symbol is a constant of its class or, where the class has none, its least variable
-pub record IsNaming (schema : SchemaValue) (os : List Origin) (d : List Compared) (name : Sym → Sym) : Type 0 where
-  pub member : (x : Sym) → InClass schema os d x (name x)
-  pub one_name : (x y : Sym) → InClass schema os d x y → name x ≡ name y
-  pub least : (x : Sym) (k : ℕ) → name x ≡ Var k → (y : Sym) → InClass schema os d x y → IsFrom k y
+abbrev pub IsNaming : SchemaValue → List Origin → List Compared → (Sym → Sym) → Type 0
+IsNaming schema os d name = naming.IsNaming (IsClosed schema os d) name

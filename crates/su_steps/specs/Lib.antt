@@ -6,7 +6,6 @@ pub mod Terms
 pub mod Refusals
 pub mod Sources
 pub mod Counting
-pub mod Tables
 pub mod Numbers
 pub mod Heads
 pub mod Ready

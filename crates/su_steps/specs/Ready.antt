@@ -1,18 +1,20 @@
 -- What the parts of a term rest on. No public clause cites this module.
-use Rattle.std.specs.Prelude.{◌≡◌, ℕ, ◌+◌, ◌*◌, ◌<◌, ◌≤◌, IsTrue, List, length, get_or, All, Contains}
+use Rattle.std.specs.Prelude.{◌≡◌, ℕ, ◌+◌, ◌*◌, ◌<◌, ◌≤◌, IsTrue, List, length, map, get_or, All, Contains}
 use Rattle.std.specs.Ordering.{nat_cmp}
 use Rattle.std.specs.FinSet.{FinSet, contains, empty}
 use Rattle.su_where.specs.declared.literals.Literal.{Literal}
 use Rattle.su_where.specs.Truth.{HasPlacesBelow}
+use Rattle.su_classes.specs.Tables.{IsLeast}
+use Rattle.su_classes.specs.Symbols.{AreDistinct}
 use Rattle.su_schema.specs.SchemaValue.{SchemaValue}
 use Rattle.su_query.specs.declared.resolving.Resolved.{Resolved}
 use Rattle.su_query.specs.Ranges.{IsOfOneKind, place_kinds}
 use Rattle.su_steps.specs.declared.results.Origin.{Origin}
 use Rattle.su_steps.specs.declared.classes.Classes.{Classes}
 use Rattle.su_query.specs.Sets.{mentioned_with}
-use Rattle.su_steps.specs.Objects.{attributes_at, covers}
+use Rattle.su_steps.specs.Objects.{width, attributes_at, covers}
 use Rattle.su_steps.specs.Classes.{comparisons}
-use Rattle.su_steps.specs.Numbers.{AreDistinct, AreNoted, equals}
+use Rattle.su_steps.specs.Numbers.{AreNoted, equals, placed_of}
 
 -- the classes are of the constants and equalities of a disjunct, and of the pairs of the query's variables
 pub record IsReady (n : ℕ) (q : Resolved) (literals : List Literal) (c : Classes) : Type 0 where
@@ -21,6 +23,11 @@ pub record IsReady (n : ℕ) (q : Resolved) (literals : List Literal) (c : Class
   pub distinct : AreDistinct c.constants
   pub noted : All (AreNoted c.constants) literals
   pub equal : c.equal ≡ equals c.constants (comparisons n q.places literals)
+
+-- the classes are the least in which equal items are together and the dependencies are kept on the rows of these origins
+pub record AreClosed (schema : SchemaValue) (q : Resolved) (literals : List Literal) (os : List Origin) (c : Classes) : Type 0 where
+  pub ready : IsReady (width schema) q literals c
+  pub least : IsLeast schema.fds (map (placed_of schema c.constants) os) c.equal c.table.items
 
 -- the comparisons of a disjunct have places of the query, and sides of one kind
 pub record FitLiterals (schema : SchemaValue) (q : Resolved) (literals : List Literal) : Type 0 where

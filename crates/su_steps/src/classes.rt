@@ -1,27 +1,22 @@
 //! The classes of a disjunct's constants and of the pairs of variables and attributes.
-ghost use Rattle.std.specs.Prelude.{◌≡◌, ◌↔◌, ℕ, ◌+◌, ◌*◌, ◌<◌, ◌≤◌, ◌^◌, IsTrue, All, length, IfOk};
+ghost use Rattle.std.specs.Prelude.{◌≡◌, ◌↔◌, ℕ, ◌+◌, ◌*◌, ◌<◌, ◌≤◌, ◌^◌, IsTrue, All, length, IfOk, OnOk};
 ghost use Rattle.su_where.specs.Truth.{IsBelow as IsPlaceBelow};
 ghost use Rattle.su_tableau.specs.declared.symbols.Sym.TheVariants.{Var, Const};
 ghost use Rattle.su_query.specs.declared.places.Place.{Place as APlace};
+ghost use Rattle.su_classes.specs.Items.{IsPlacedBelow};
+ghost use Rattle.su_classes.specs.Tables.{rep, IsLeast};
+ghost use Rattle.su_classes.specs.Symbols.{symbol_at as symbol_numbered};
 ghost use Rattle.su_steps.specs.Classes.{pair, place_symbol, operand_symbol};
-ghost use Rattle.su_steps.specs.Tables.{layout, rep, IsLeast, IsBindingBelow};
-ghost use Rattle.su_steps.specs.Numbers.{symbol_at as symbol_numbered, class_name, AreClasses};
+ghost use Rattle.su_steps.specs.Numbers.{class_name, AreClasses};
 
 use crate::constants::place;
-use crate::rows::Binding;
-use crate::tables;
 use std::alloc::Global;
 use su_base::{List, NoMemory, Value};
+use su_classes::{Placed, Together};
+use su_fd::Fd;
 use su_query::Place;
 use su_tableau::Sym;
 use su_where::Operand;
-
-/// Two items that are in one class.
-#[derive(Clone, Copy)]
-pub struct Together {
-    pub left: usize,
-    pub right: usize,
-}
 
 /// The constants of a disjunct's equalities, its equalities, and a table of representatives: the
 /// constants are the first items, the pairs follow by variable and attribute. The table is used again
@@ -47,26 +42,18 @@ fn symbol_at(alloc: Global, constants: &[Value], item: usize) -> Result<Sym, NoM
 }
 
 impl Classes {
-    /// Makes the least classes in which the sides of each equality are together and the bindings are
-    /// kept.
-    pub fn close(&mut self, bindings: &[Binding], variables: u8)
-        requires size { length self.old.table.items ≡ length self.old.constants + variables * self.old.width }
+    /// Makes the least classes in which the sides of each equality are together and the dependencies
+    /// are kept on the rows.
+    pub fn close(&mut self, alloc: Global, fds: &[Fd], rows: &[Placed]) -> Result<(), NoMemory>
         requires within { All (λ e. (e.left < length self.old.table.items) × (e.right < length self.old.table.items)) self.old.equal }
-        requires below { All (IsBindingBelow self.old.width variables) bindings.now }
-        ensures constants { self.new.constants ≡ self.old.constants }
-        ensures equal { self.new.equal ≡ self.old.equal }
-        ensures width { self.new.width ≡ self.old.width }
-        ensures length { length self.new.table.items ≡ length self.old.table.items }
-        ensures least { IsLeast (layout (length self.old.constants) self.old.width) bindings.now self.old.equal self.new.table.items }
+        requires cells { All (IsPlacedBelow (length self.old.table.items)) rows.now }
+        ensures constants { OnOk result (self.new.constants ≡ self.old.constants) }
+        ensures equal { OnOk result (self.new.equal ≡ self.old.equal) }
+        ensures width { OnOk result (self.new.width ≡ self.old.width) }
+        ensures length { OnOk result (length self.new.table.items ≡ length self.old.table.items) }
+        ensures least { OnOk result (IsLeast fds.now rows.now self.old.equal self.new.table.items) }
     {
-        tables::close(
-            &mut self.table,
-            self.equal.as_slice(),
-            bindings,
-            variables,
-            self.constants.len(),
-            self.width,
-        );
+        su_classes::close(alloc, &mut self.table, self.equal.as_slice(), fds, rows)
     }
 
     /// Whether two constants are in one class.

@@ -4,11 +4,12 @@ ghost use Rattle.su_base.specs.declared.values.Value.{Value as AValue};
 ghost use Rattle.su_where.specs.declared.literals.Operand.TheVariants as operand;
 ghost use Rattle.su_where.specs.Truth.{HasPlacesBelow, IsBelow};
 ghost use Rattle.su_steps.specs.Classes.{operand_symbol, comparisons};
-ghost use Rattle.su_steps.specs.Numbers.{place_of, number_of, has_constant, AreDistinct, IsNoted, AreNoted, equals};
+ghost use Rattle.su_classes.specs.Symbols.{place_of, number_of, has_constant, AreDistinct};
+ghost use Rattle.su_steps.specs.Numbers.{IsNoted, AreNoted, equals};
 
-use crate::classes::Together;
 use std::alloc::Global;
 use su_base::{List, NoMemory, Value};
+use su_classes::Together;
 use su_query::Place;
 use su_where::{Literal, Op, Operand};
 

@@ -3,8 +3,8 @@
 //! A term stands for one disjunct and one choice of a covering maximal object per variable. It has a
 //! row for each variable and each object of its maximal object, and it is closed under the
 //! functional dependencies that lie in objects: where two rows have to agree, they have one symbol.
-//! Classes are merged in a table of representatives; a term takes a pass over its rows for each
-//! dependency, and sweeps over pairs of variables until nothing is left to merge. Terms aren't
+//! Its symbols are numbered, the constants of the equalities before the pairs of variables and
+//! attributes, so that su_classes closes them and the least item of a class is its name. Terms aren't
 //! minimised here.
 #![tactic(auto)]
 
@@ -20,7 +20,6 @@ mod objects;
 mod results;
 mod rows;
 mod sourcing;
-mod tables;
 #[cfg(test)]
 mod tests;
 

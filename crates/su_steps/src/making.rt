@@ -14,7 +14,7 @@ ghost use Rattle.su_steps.specs.Objects.{width};
 ghost use Rattle.su_steps.specs.Classes.{comparisons};
 ghost use Rattle.su_steps.specs.Terms.{Case, case_of, HaveNone, HaveTableau, GivesNone, Gives, AreTermsOf, AreTerms, InUnion};
 ghost use Rattle.su_steps.specs.Refusals.{row_count, IsAccepted, IsRefusal};
-ghost use Rattle.su_steps.specs.Ready.{IsReady, FitLiterals, FitOrigins, IsShown, IsChoice};
+ghost use Rattle.su_steps.specs.Ready.{IsReady, AreClosed, FitLiterals, FitOrigins, IsShown, IsChoice};
 
 use crate::building::{build_head, rows};
 use crate::choosing::{choice_at, choice_count, coverings, first_empty, most_rows};
@@ -23,7 +23,7 @@ use crate::constants::{constants_of, equalities};
 use crate::faults::{StepFault, StepLimit};
 use crate::objects::width_of;
 use crate::results::{Origin, Term};
-use crate::rows::{bindings, origins};
+use crate::rows::{origins, placed_rows};
 use std::alloc::Global;
 use su_base::{List, NoMemory, ObjSet, Str};
 use su_query::{Resolved, mentioned};
@@ -61,6 +61,27 @@ fn open_classes(
     })
 }
 
+/// Makes the least classes in which the sides of the disjunct's equalities are together and the
+/// dependencies are kept on the rows of these origins.
+fn close_on(
+    alloc: Global,
+    schema: &Schema,
+    resolved: &Resolved,
+    classes: &mut Classes,
+    literals: &[Literal],
+    origins: &[Origin],
+) -> Result<(), NoMemory>
+    requires resolved { IsResolved schema.now resolved.now }
+    requires literals { FitLiterals schema.now resolved.now literals.now }
+    requires origins { FitOrigins schema.now resolved.now origins.now }
+    requires ready { IsReady (width schema.now) resolved.now literals.now classes.old }
+    ensures { OnOk result (AreClosed schema.now resolved.now literals.now origins.now classes.new) }
+{
+    schema.keeps_its_rules();
+    let placed = placed_rows(alloc, schema, classes.constants.as_slice(), origins)?;
+    classes.close(alloc, schema.fds(), placed.as_slice())
+}
+
 /// The tableau of rows of these origins with these comparisons, unless they contradict one another.
 fn tableau(
     alloc: Global,
@@ -80,8 +101,7 @@ fn tableau(
 {
     schema.keeps_its_rules();
     let variables = resolved.variables.len() as u8;
-    let bindings = bindings(alloc, schema, origins)?;
-    classes.close(bindings.as_slice(), variables);
+    close_on(alloc, schema, resolved, classes, literals, origins)?;
     if classes.clash() {
         return Ok(None);
     }
@@ -250,7 +270,8 @@ fn not_covered(alloc: Global, resolved: &Resolved, v: u8) -> Result<StepFault, N
 /// disjuncts come in their order, each with the choices in lexicographic order.
 ///
 /// A variable that isn't covered comes first, then too many disjuncts, rows and terms. Takes memory
-/// for the terms and, disjunct by disjunct, for a table of representatives.
+/// for the terms, disjunct by disjunct for a table of representatives, and choice by choice for the
+/// rows' items.
 pub fn terms(
     alloc: Global,
     schema: &Schema,

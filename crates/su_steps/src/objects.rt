@@ -1,9 +1,8 @@
 //! What objects have.
-ghost use Rattle.std.specs.Prelude.{◌≡◌, ◌<◌, ◌≤◌, ◌↔◌, IsTrue, length};
-ghost use Rattle.su_steps.specs.Objects.{width, attributes_at, objects_of, attributes_of_all, LiesIn};
+ghost use Rattle.std.specs.Prelude.{◌≡◌, ◌<◌, ◌≤◌, length};
+ghost use Rattle.su_steps.specs.Objects.{width, attributes_at, objects_of, attributes_of_all};
 
 use su_base::{AttrSet, ObjSet};
-use su_fd::Fd;
 use su_schema::Schema;
 
 /// How many attributes there are.
@@ -50,16 +49,4 @@ pub fn object_count(schema: &Schema, set: ObjSet) -> usize
         }
     }
     count
-}
-
-/// Whether all attributes of the dependency are the object's.
-pub fn lies_in(schema: &Schema, fd: &Fd, o: u8) -> bool
-    requires { o < length schema.now.objects }
-    ensures { IsTrue result ↔ LiesIn schema.now fd.now o }
-{
-    let attributes = object_attributes(schema, o);
-    if !fd.left.within(attributes) {
-        return false;
-    }
-    fd.right.within(attributes)
 }

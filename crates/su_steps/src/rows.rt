@@ -1,25 +1,15 @@
-//! The rows of a choice, and the dependencies that bind them.
-ghost use Rattle.std.specs.Prelude.{◌≡◌, ℕ, ◌<◌, ◌≤◌, ◌++◌, ◌∷◌, [], if◌then◌else◌, ◌↔◌, IsTrue, length, map, All, IfOk, OnOk};
-ghost use Rattle.std.specs.FinSet as set;
+//! The rows of a choice, and their items.
+ghost use Rattle.std.specs.Prelude.{◌≡◌, ◌<◌, ◌≤◌, ◌++◌, ◌∷◌, [], if◌then◌else◌, length, map, All, IfOk, OnOk};
 ghost use Rattle.su_steps.specs.Objects.{objects_of};
 ghost use Rattle.su_steps.specs.Choices.{origin, origins_of};
-ghost use Rattle.su_steps.specs.Tables.{IsBoundBy, AreBindings};
+ghost use Rattle.su_steps.specs.Numbers.{placed_of};
 
-use crate::objects::lies_in;
+use crate::objects::{object_attributes, width_of};
 use crate::results::Origin;
 use std::alloc::Global;
-use su_base::{List, NoMemory, ObjSet};
-use su_fd::Fd;
+use su_base::{List, NoMemory, ObjSet, Value};
+use su_classes::Placed;
 use su_schema::Schema;
-
-/// A dependency, and the variables of which some row's object includes all its attributes. Two such
-/// rows have one symbol at each right attribute where they have one at each left attribute; rows of
-/// one variable have the same symbols anyway.
-#[derive(Clone, Copy)]
-pub struct Binding {
-    pub fd: Fd,
-    pub variables: ObjSet,
-}
 
 fn push_if(origins: &mut List<Origin>, wanted: bool, origin: Origin) -> Result<(), NoMemory>
     ensures { OnOk result (origins.new ≡ origins.old ++ (if wanted then origin ∷ [] else [])) }
@@ -68,33 +58,39 @@ pub fn origins(
     Ok(origins)
 }
 
-/// The variables of the rows whose objects include all attributes of the dependency.
-fn variables_bound(schema: &Schema, origins: &[Origin], fd: &Fd) -> ObjSet
-    requires { All (λ o. (o.variable < 64) × (o.object < length schema.now.objects)) origins.now }
-    ensures { IsBoundBy schema.now origins.now fd.now result }
-{
-    let mut variables = ObjSet::empty();
-    for origin in origins {
-        if lies_in(schema, fd, origin.object) {
-            variables = variables.insert(origin.variable);
-        }
-    }
-    variables
-}
-
-/// Each dependency with the variables that it binds.
-pub fn bindings(
+/// The row of items of an origin: those of its variable's pairs, at the attributes of its object.
+fn placed_row(
     alloc: Global,
     schema: &Schema,
-    origins: &[Origin],
-) -> Result<List<Binding>, NoMemory>
-    requires { All (λ o. (o.variable < 64) × (o.object < length schema.now.objects)) origins.now }
-    ensures { IfOk result (λ bs. AreBindings schema.now origins.now bs) }
+    constants: &[Value],
+    origin: &Origin,
+) -> Result<Placed, NoMemory>
+    requires { origin.now.object < length schema.now.objects }
+    ensures { IfOk result (λ r. r ≡ placed_of schema.now constants.now origin.now) }
 {
-    let mut bindings = List::new(alloc);
-    for fd in schema.fds() {
-        let variables = variables_bound(schema, origins, fd);
-        bindings.push(Binding { fd: *fd, variables })?;
+    let width = width_of(schema);
+    let first = constants.len() + origin.variable as usize * width as usize;
+    let mut cells = List::new(alloc);
+    for a in 0..width {
+        cells.push(first + a as usize)?;
     }
-    Ok(bindings)
+    let has = object_attributes(schema, origin.object);
+    Ok(Placed { has, cells })
+}
+
+/// The rows of items of these origins.
+pub fn placed_rows(
+    alloc: Global,
+    schema: &Schema,
+    constants: &[Value],
+    origins: &[Origin],
+) -> Result<List<Placed>, NoMemory>
+    requires { All (λ o. o.object < length schema.now.objects) origins.now }
+    ensures { IfOk result (λ rows. rows ≡ map (placed_of schema.now constants.now) origins.now) }
+{
+    let mut rows = List::new(alloc);
+    for origin in origins {
+        rows.push(placed_row(alloc, schema, constants, origin)?)?;
+    }
+    Ok(rows)
 }

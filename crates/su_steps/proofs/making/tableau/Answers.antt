@@ -8,8 +8,7 @@ use Rattle.su_steps.specs.Objects.{width}
 use Rattle.su_steps.specs.Classes.{place_symbol, comparisons}
 use Rattle.su_steps.specs.Numbers.{class_name}
 use Rattle.su_steps.specs.Heads.{head_of, IsSomeFalse, IsNoneFalse}
-use Rattle.su_steps.proofs.Tabled.{equal_in}
-use Rattle.su_steps.proofs.Closed.{closed_of, variables_few, size_before, below_before, closed_classes, constants_in, pairs_in, outputs_in, literals_in, origins_in, closed_clash, closed_false, closed_made, closed_valid, closed_small}
+use Rattle.su_steps.proofs.Closed.{closed_classes, constants_in, pairs_in, outputs_in, literals_in, origins_in, closed_clash, closed_false, closed_made, closed_valid, closed_small}
 use Rattle.su_steps.proofs.making.tableau.Goals as goal
 
 -- what the head's making gives
@@ -18,116 +17,72 @@ Outcome v c ps outs ls o =
     MatchOption o (IsSomeFalse (class_name (v * c.width) c) (comparisons c.width ps ls))
     (λ h. IsNoneFalse (class_name (v * c.width) c) (comparisons c.width ps ls) × (h ≡ head_of (class_name (v * c.width) c) (map (λ i. class_name (v * c.width) c (place_symbol c.width ps i)) outs) (comparisons c.width ps ls)))
 
-pub bindings-requires : goal.bindings-requires
-bindings-requires c = variables_few c.args.schema.now c.args.resolved.now c.args.origins.now c.requires.resolved c.requires.origins
-
-pub close-requires-clause-size : goal.close-requires-clause-size
-close-requires-clause-size c = size_before (width c.args.schema.now) c.args.resolved.now c.args.literals.now c.args.classes.now c.len-variables.result c.requires.ready c.len-variables.ensures
-
-pub close-requires-clause-within : goal.close-requires-clause-within
-close-requires-clause-within c = equal_in c.args.schema.now c.args.resolved.now c.requires.resolved c.args.literals.now c.requires.literals c.args.classes.now c.requires.ready
-
-pub close-requires-clause-below : goal.close-requires-clause-below
-close-requires-clause-below c = below_before c.args.schema.now c.args.resolved.now c.args.literals.now c.args.origins.now c.in_ok-bindings.bindings c.as_slice.result.now c.args.classes.now c.len-variables.result c.keeps_its_rules.ensures c.requires.origins c.in_ok-bindings.ensures c.as_slice.ensures c.requires.ready c.len-variables.ensures
-
 pub clash-requires : goal.clash-requires
 clash-requires c =
-    let k = c.close.ensures in
-    let closed = closed_of c.args.schema.now c.args.resolved.now c.args.literals.now c.args.origins.now c.in_ok-bindings.bindings c.as_slice.result.now c.args.classes.now c.close.new.self c.requires.ready k.constants k.equal k.width k.length c.in_ok-bindings.ensures c.as_slice.ensures k.least in
-    constants_in c.args.schema.now c.args.resolved.now c.args.literals.now c.args.origins.now c.close.new.self c.keeps_its_rules.ensures c.requires.resolved c.requires.literals c.requires.origins closed c.len-variables.result c.args.resolved.now.places c.args.resolved.now.outputs c.len-variables.ensures refl refl
+    constants_in c.args.schema.now c.args.resolved.now c.args.literals.now c.args.origins.now c.close_on.new.classes c.keeps_its_rules.ensures c.requires.resolved c.requires.literals c.requires.origins c.in_ok-close_on.ensures c.len-variables.result c.args.resolved.now.places c.args.resolved.now.outputs c.len-variables.ensures refl refl
 
 pub returns-then-clash-clause-ready : goal.returns-then-clash-clause-ready
 returns-then-clash-clause-ready c =
-    let k = c.close.ensures in
-    let closed = closed_of c.args.schema.now c.args.resolved.now c.args.literals.now c.args.origins.now c.in_ok-bindings.bindings c.as_slice.result.now c.args.classes.now c.close.new.self c.requires.ready k.constants k.equal k.width k.length c.in_ok-bindings.ensures c.as_slice.ensures k.least in
-    closed.ready
+    c.in_ok-close_on.ensures.ready
 
 pub returns-then-clash-clause-tableau : goal.returns-then-clash-clause-tableau
 returns-then-clash-clause-tableau c =
-    let k = c.close.ensures in
-    let closed = closed_of c.args.schema.now c.args.resolved.now c.args.literals.now c.args.origins.now c.in_ok-bindings.bindings c.as_slice.result.now c.args.classes.now c.close.new.self c.requires.ready k.constants k.equal k.width k.length c.in_ok-bindings.ensures c.as_slice.ensures k.least in
-    closed_clash c.args.schema.now c.args.resolved.now c.args.literals.now c.args.origins.now c.close.new.self c.keeps_its_rules.ensures c.requires.resolved c.requires.literals c.requires.origins closed c.len-variables.result c.args.resolved.now.places c.args.resolved.now.outputs c.len-variables.ensures refl refl (c.clash.ensures.0 c.if-clash.true)
+    closed_clash c.args.schema.now c.args.resolved.now c.args.literals.now c.args.origins.now c.close_on.new.classes c.keeps_its_rules.ensures c.requires.resolved c.requires.literals c.requires.origins c.in_ok-close_on.ensures c.len-variables.result c.args.resolved.now.places c.args.resolved.now.outputs c.len-variables.ensures refl refl (c.clash.ensures.0 c.if-clash.true)
 
 pub build_head-requires-clause-classes : goal.build_head-requires-clause-classes
 build_head-requires-clause-classes c =
-    let k = c.close.ensures in
-    let closed = closed_of c.args.schema.now c.args.resolved.now c.args.literals.now c.args.origins.now c.in_ok-bindings.bindings c.as_slice.result.now c.args.classes.now c.close.new.self c.requires.ready k.constants k.equal k.width k.length c.in_ok-bindings.ensures c.as_slice.ensures k.least in
-    closed_classes c.args.schema.now c.args.resolved.now c.args.literals.now c.args.origins.now c.close.new.self c.keeps_its_rules.ensures c.requires.resolved c.requires.literals c.requires.origins closed c.len-variables.result c.as_slice-places.result.now c.as_slice-outputs.result.now c.len-variables.ensures c.as_slice-places.ensures c.as_slice-outputs.ensures
+    closed_classes c.args.schema.now c.args.resolved.now c.args.literals.now c.args.origins.now c.close_on.new.classes c.keeps_its_rules.ensures c.requires.resolved c.requires.literals c.requires.origins c.in_ok-close_on.ensures c.len-variables.result c.as_slice-places.result.now c.as_slice-outputs.result.now c.len-variables.ensures c.as_slice-places.ensures c.as_slice-outputs.ensures
 
 pub build_head-requires-clause-outputs : goal.build_head-requires-clause-outputs
 build_head-requires-clause-outputs c =
-    let k = c.close.ensures in
-    let closed = closed_of c.args.schema.now c.args.resolved.now c.args.literals.now c.args.origins.now c.in_ok-bindings.bindings c.as_slice.result.now c.args.classes.now c.close.new.self c.requires.ready k.constants k.equal k.width k.length c.in_ok-bindings.ensures c.as_slice.ensures k.least in
-    outputs_in c.args.schema.now c.args.resolved.now c.args.literals.now c.args.origins.now c.close.new.self c.keeps_its_rules.ensures c.requires.resolved c.requires.literals c.requires.origins closed c.len-variables.result c.as_slice-places.result.now c.as_slice-outputs.result.now c.len-variables.ensures c.as_slice-places.ensures c.as_slice-outputs.ensures
+    outputs_in c.args.schema.now c.args.resolved.now c.args.literals.now c.args.origins.now c.close_on.new.classes c.keeps_its_rules.ensures c.requires.resolved c.requires.literals c.requires.origins c.in_ok-close_on.ensures c.len-variables.result c.as_slice-places.result.now c.as_slice-outputs.result.now c.len-variables.ensures c.as_slice-places.ensures c.as_slice-outputs.ensures
 
 pub build_head-requires-clause-places : goal.build_head-requires-clause-places
 build_head-requires-clause-places c =
-    let k = c.close.ensures in
-    let closed = closed_of c.args.schema.now c.args.resolved.now c.args.literals.now c.args.origins.now c.in_ok-bindings.bindings c.as_slice.result.now c.args.classes.now c.close.new.self c.requires.ready k.constants k.equal k.width k.length c.in_ok-bindings.ensures c.as_slice.ensures k.least in
-    literals_in c.args.schema.now c.args.resolved.now c.args.literals.now c.args.origins.now c.close.new.self c.keeps_its_rules.ensures c.requires.resolved c.requires.literals c.requires.origins closed c.len-variables.result c.as_slice-places.result.now c.as_slice-outputs.result.now c.len-variables.ensures c.as_slice-places.ensures c.as_slice-outputs.ensures
+    literals_in c.args.schema.now c.args.resolved.now c.args.literals.now c.args.origins.now c.close_on.new.classes c.keeps_its_rules.ensures c.requires.resolved c.requires.literals c.requires.origins c.in_ok-close_on.ensures c.len-variables.result c.as_slice-places.result.now c.as_slice-outputs.result.now c.len-variables.ensures c.as_slice-places.ensures c.as_slice-outputs.ensures
 
 pub build_head-requires-clause-pairs : goal.build_head-requires-clause-pairs
 build_head-requires-clause-pairs c =
-    let k = c.close.ensures in
-    let closed = closed_of c.args.schema.now c.args.resolved.now c.args.literals.now c.args.origins.now c.in_ok-bindings.bindings c.as_slice.result.now c.args.classes.now c.close.new.self c.requires.ready k.constants k.equal k.width k.length c.in_ok-bindings.ensures c.as_slice.ensures k.least in
-    pairs_in c.args.schema.now c.args.resolved.now c.args.literals.now c.args.origins.now c.close.new.self c.keeps_its_rules.ensures c.requires.resolved c.requires.literals c.requires.origins closed c.len-variables.result c.as_slice-places.result.now c.as_slice-outputs.result.now c.len-variables.ensures c.as_slice-places.ensures c.as_slice-outputs.ensures
+    pairs_in c.args.schema.now c.args.resolved.now c.args.literals.now c.args.origins.now c.close_on.new.classes c.keeps_its_rules.ensures c.requires.resolved c.requires.literals c.requires.origins c.in_ok-close_on.ensures c.len-variables.result c.as_slice-places.result.now c.as_slice-outputs.result.now c.len-variables.ensures c.as_slice-places.ensures c.as_slice-outputs.ensures
 
 pub returns-in-None-clause-ready : goal.returns-in-None-clause-ready
 returns-in-None-clause-ready c =
-    let k = c.close.ensures in
-    let closed = closed_of c.args.schema.now c.args.resolved.now c.args.literals.now c.args.origins.now c.in_ok-bindings.bindings c.as_slice.result.now c.args.classes.now c.close.new.self c.requires.ready k.constants k.equal k.width k.length c.in_ok-bindings.ensures c.as_slice.ensures k.least in
-    closed.ready
+    c.in_ok-close_on.ensures.ready
 
 pub returns-in-None-clause-tableau : goal.returns-in-None-clause-tableau
 returns-in-None-clause-tableau c =
-    let k = c.close.ensures in
-    let closed = closed_of c.args.schema.now c.args.resolved.now c.args.literals.now c.args.origins.now c.in_ok-bindings.bindings c.as_slice.result.now c.args.classes.now c.close.new.self c.requires.ready k.constants k.equal k.width k.length c.in_ok-bindings.ensures c.as_slice.ensures k.least in
-    closed_false c.args.schema.now c.args.resolved.now c.args.literals.now c.args.origins.now c.close.new.self c.keeps_its_rules.ensures c.requires.resolved c.requires.literals c.requires.origins closed c.len-variables.result c.as_slice-places.result.now c.as_slice-outputs.result.now c.len-variables.ensures c.as_slice-places.ensures c.as_slice-outputs.ensures (subst (Outcome c.len-variables.result c.close.new.self c.as_slice-places.result.now c.as_slice-outputs.result.now c.args.literals.now) c.in-None.is c.in_ok-head.ensures)
+    closed_false c.args.schema.now c.args.resolved.now c.args.literals.now c.args.origins.now c.close_on.new.classes c.keeps_its_rules.ensures c.requires.resolved c.requires.literals c.requires.origins c.in_ok-close_on.ensures c.len-variables.result c.as_slice-places.result.now c.as_slice-outputs.result.now c.len-variables.ensures c.as_slice-places.ensures c.as_slice-outputs.ensures (subst (Outcome c.len-variables.result c.close_on.new.classes c.as_slice-places.result.now c.as_slice-outputs.result.now c.args.literals.now) c.in-None.is c.in_ok-head.ensures)
 
 pub rows-requires-clause-classes : goal.rows-requires-clause-classes
 rows-requires-clause-classes c =
-    let k = c.close.ensures in
-    let closed = closed_of c.args.schema.now c.args.resolved.now c.args.literals.now c.args.origins.now c.in_ok-bindings.bindings c.as_slice.result.now c.args.classes.now c.close.new.self c.requires.ready k.constants k.equal k.width k.length c.in_ok-bindings.ensures c.as_slice.ensures k.least in
-    closed_classes c.args.schema.now c.args.resolved.now c.args.literals.now c.args.origins.now c.close.new.self c.keeps_its_rules.ensures c.requires.resolved c.requires.literals c.requires.origins closed c.len-variables.result c.as_slice-places.result.now c.as_slice-outputs.result.now c.len-variables.ensures c.as_slice-places.ensures c.as_slice-outputs.ensures
+    closed_classes c.args.schema.now c.args.resolved.now c.args.literals.now c.args.origins.now c.close_on.new.classes c.keeps_its_rules.ensures c.requires.resolved c.requires.literals c.requires.origins c.in_ok-close_on.ensures c.len-variables.result c.as_slice-places.result.now c.as_slice-outputs.result.now c.len-variables.ensures c.as_slice-places.ensures c.as_slice-outputs.ensures
 
 pub rows-requires-clause-width : goal.rows-requires-clause-width
 rows-requires-clause-width c =
-    let k = c.close.ensures in
-    let closed = closed_of c.args.schema.now c.args.resolved.now c.args.literals.now c.args.origins.now c.in_ok-bindings.bindings c.as_slice.result.now c.args.classes.now c.close.new.self c.requires.ready k.constants k.equal k.width k.length c.in_ok-bindings.ensures c.as_slice.ensures k.least in
-    closed.ready.width
+    c.in_ok-close_on.ensures.ready.width
 
 pub rows-requires-clause-origins : goal.rows-requires-clause-origins
 rows-requires-clause-origins c =
-    let k = c.close.ensures in
-    let closed = closed_of c.args.schema.now c.args.resolved.now c.args.literals.now c.args.origins.now c.in_ok-bindings.bindings c.as_slice.result.now c.args.classes.now c.close.new.self c.requires.ready k.constants k.equal k.width k.length c.in_ok-bindings.ensures c.as_slice.ensures k.least in
-    origins_in c.args.schema.now c.args.resolved.now c.args.literals.now c.args.origins.now c.close.new.self c.keeps_its_rules.ensures c.requires.resolved c.requires.literals c.requires.origins closed c.len-variables.result c.as_slice-places.result.now c.as_slice-outputs.result.now c.len-variables.ensures c.as_slice-places.ensures c.as_slice-outputs.ensures
+    origins_in c.args.schema.now c.args.resolved.now c.args.literals.now c.args.origins.now c.close_on.new.classes c.keeps_its_rules.ensures c.requires.resolved c.requires.literals c.requires.origins c.in_ok-close_on.ensures c.len-variables.result c.as_slice-places.result.now c.as_slice-outputs.result.now c.len-variables.ensures c.as_slice-places.ensures c.as_slice-outputs.ensures
 
 pub rows-requires-clause-few : goal.rows-requires-clause-few
 rows-requires-clause-few c = c.requires.origins.few
 
 pub new-requires-clause-valid : goal.new-requires-clause-valid
 new-requires-clause-valid c =
-    let k = c.close.ensures in
-    let closed = closed_of c.args.schema.now c.args.resolved.now c.args.literals.now c.args.origins.now c.in_ok-bindings.bindings c.as_slice.result.now c.args.classes.now c.close.new.self c.requires.ready k.constants k.equal k.width k.length c.in_ok-bindings.ensures c.as_slice.ensures k.least in
-    let h = subst (Outcome c.len-variables.result c.close.new.self c.as_slice-places.result.now c.as_slice-outputs.result.now c.args.literals.now) c.in-Some.is c.in_ok-head.ensures in
-    closed_valid c.args.schema.now c.args.resolved.now c.args.literals.now c.args.origins.now c.close.new.self c.keeps_its_rules.ensures c.requires.resolved c.requires.literals c.requires.origins closed c.len-variables.result c.as_slice-places.result.now c.as_slice-outputs.result.now c.len-variables.ensures c.as_slice-places.ensures c.as_slice-outputs.ensures c.in_ok-rows.rows c.in-Some.head (length c.as_slice-outputs.result.now) c.in_ok-rows.ensures h.1 refl c.requires.covered
+    let h = subst (Outcome c.len-variables.result c.close_on.new.classes c.as_slice-places.result.now c.as_slice-outputs.result.now c.args.literals.now) c.in-Some.is c.in_ok-head.ensures in
+    closed_valid c.args.schema.now c.args.resolved.now c.args.literals.now c.args.origins.now c.close_on.new.classes c.keeps_its_rules.ensures c.requires.resolved c.requires.literals c.requires.origins c.in_ok-close_on.ensures c.len-variables.result c.as_slice-places.result.now c.as_slice-outputs.result.now c.len-variables.ensures c.as_slice-places.ensures c.as_slice-outputs.ensures c.in_ok-rows.rows c.in-Some.head (length c.as_slice-outputs.result.now) c.in_ok-rows.ensures h.1 refl c.requires.covered
 
 pub new-requires-clause-small : goal.new-requires-clause-small
 new-requires-clause-small c =
-    let k = c.close.ensures in
-    let closed = closed_of c.args.schema.now c.args.resolved.now c.args.literals.now c.args.origins.now c.in_ok-bindings.bindings c.as_slice.result.now c.args.classes.now c.close.new.self c.requires.ready k.constants k.equal k.width k.length c.in_ok-bindings.ensures c.as_slice.ensures k.least in
-    let h = subst (Outcome c.len-variables.result c.close.new.self c.as_slice-places.result.now c.as_slice-outputs.result.now c.args.literals.now) c.in-Some.is c.in_ok-head.ensures in
-    closed_small c.args.schema.now c.args.resolved.now c.args.literals.now c.args.origins.now c.close.new.self c.keeps_its_rules.ensures c.requires.resolved c.requires.literals c.requires.origins closed c.len-variables.result c.as_slice-places.result.now c.as_slice-outputs.result.now c.len-variables.ensures c.as_slice-places.ensures c.as_slice-outputs.ensures c.in_ok-rows.rows c.in-Some.head (length c.as_slice-outputs.result.now) c.in_ok-rows.ensures h.1 refl
+    let h = subst (Outcome c.len-variables.result c.close_on.new.classes c.as_slice-places.result.now c.as_slice-outputs.result.now c.args.literals.now) c.in-Some.is c.in_ok-head.ensures in
+    closed_small c.args.schema.now c.args.resolved.now c.args.literals.now c.args.origins.now c.close_on.new.classes c.keeps_its_rules.ensures c.requires.resolved c.requires.literals c.requires.origins c.in_ok-close_on.ensures c.len-variables.result c.as_slice-places.result.now c.as_slice-outputs.result.now c.len-variables.ensures c.as_slice-places.ensures c.as_slice-outputs.ensures c.in_ok-rows.rows c.in-Some.head (length c.as_slice-outputs.result.now) c.in_ok-rows.ensures h.1 refl
 
 pub returns-clause-ready : goal.returns-clause-ready
 returns-clause-ready c =
-    let k = c.close.ensures in
-    let closed = closed_of c.args.schema.now c.args.resolved.now c.args.literals.now c.args.origins.now c.in_ok-bindings.bindings c.as_slice.result.now c.args.classes.now c.close.new.self c.requires.ready k.constants k.equal k.width k.length c.in_ok-bindings.ensures c.as_slice.ensures k.least in
-    closed.ready
+    c.in_ok-close_on.ensures.ready
 
 pub returns-clause-tableau : goal.returns-clause-tableau
 returns-clause-tableau c =
-    let k = c.close.ensures in
-    let closed = closed_of c.args.schema.now c.args.resolved.now c.args.literals.now c.args.origins.now c.in_ok-bindings.bindings c.as_slice.result.now c.args.classes.now c.close.new.self c.requires.ready k.constants k.equal k.width k.length c.in_ok-bindings.ensures c.as_slice.ensures k.least in
-    let h = subst (Outcome c.len-variables.result c.close.new.self c.as_slice-places.result.now c.as_slice-outputs.result.now c.args.literals.now) c.in-Some.is c.in_ok-head.ensures in
-    closed_made c.args.schema.now c.args.resolved.now c.args.literals.now c.args.origins.now c.close.new.self c.keeps_its_rules.ensures c.requires.resolved c.requires.literals c.requires.origins closed c.len-variables.result c.as_slice-places.result.now c.as_slice-outputs.result.now c.len-variables.ensures c.as_slice-places.ensures c.as_slice-outputs.ensures c.in_ok-rows.rows c.in-Some.head (length c.as_slice-outputs.result.now) c.in_ok-rows.ensures h.1 refl (λ w. true≢false (sym (c.clash.ensures.1 w) ∙ c.if-clash.false)) h.0 c.new.result c.new.ensures
+    let h = subst (Outcome c.len-variables.result c.close_on.new.classes c.as_slice-places.result.now c.as_slice-outputs.result.now c.args.literals.now) c.in-Some.is c.in_ok-head.ensures in
+    closed_made c.args.schema.now c.args.resolved.now c.args.literals.now c.args.origins.now c.close_on.new.classes c.keeps_its_rules.ensures c.requires.resolved c.requires.literals c.requires.origins c.in_ok-close_on.ensures c.len-variables.result c.as_slice-places.result.now c.as_slice-outputs.result.now c.len-variables.ensures c.as_slice-places.ensures c.as_slice-outputs.ensures c.in_ok-rows.rows c.in-Some.head (length c.as_slice-outputs.result.now) c.in_ok-rows.ensures h.1 refl (λ w. true≢false (sym (c.clash.ensures.1 w) ∙ c.if-clash.false)) h.0 c.new.result c.new.ensures

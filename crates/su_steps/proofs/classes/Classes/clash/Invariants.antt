@@ -1,5 +1,5 @@
 use Rattle.std.proofs.Common.{ℕ, ◌<◌, ◌≤◌}
-use Rattle.su_steps.specs.Tables.{rep}
+use Rattle.su_classes.specs.Tables.{rep}
 use Rattle.su_steps.proofs.classes.Classes.clash.Given as goal
 
 abbrev pub invariant-loop-i : goal.invariant-loop-i
