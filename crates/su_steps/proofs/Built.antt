@@ -1,5 +1,5 @@
 -- From what the parts of a term were made of to the tableau of its names.
-use Rattle.std.proofs.Common.{◌≡◌, ℕ, ◌*◌, List, length, map, sym, ap, ◌∙◌, subst, arith}
+use Rattle.std.proofs.Common.{◌≡◌, ℕ, ◌*◌, List, length, map, ap, ◌∙◌, subst, arith}
 use Rattle.su_where.specs.declared.literals.Literal.{Literal}
 use Rattle.su_tableau.specs.declared.symbols.Sym.{Sym}
 use Rattle.su_tableau.specs.Tableaux.{Tab, IsSmall}

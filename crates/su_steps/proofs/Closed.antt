@@ -1,5 +1,5 @@
 -- What the closed classes of a disjunct and a choice give, in the words of the code that closes them.
-use Rattle.std.proofs.Common.{◌≡◌, ℕ, ◌+◌, ◌*◌, ◌<◌, ◌≤◌, List, length, map, sym, ap, ◌∙◌, subst, arith}
+use Rattle.std.proofs.Common.{◌≡◌, ℕ, ◌*◌, ◌<◌, ◌≤◌, List, length, map, sym, ◌∙◌, subst, arith}
 use Rattle.std.specs.Prelude.{All}
 use Rattle.su_where.specs.declared.literals.Literal.{Literal}
 use Rattle.su_where.specs.Truth.{HasPlacesBelow}
@@ -19,7 +19,7 @@ use Rattle.su_steps.specs.Classes.{place_symbol, comparisons}
 use Rattle.su_steps.specs.Terms.{rows_of, tableau_of, HaveNone, HaveTableau}
 use Rattle.su_steps.specs.Numbers.{class_name, AreClasses}
 use Rattle.su_steps.specs.Heads.{head_of, IsSomeFalse, IsNoneFalse}
-use Rattle.su_steps.specs.Ready.{IsReady, AreClosed, FitLiterals, FitOrigins, IsShown}
+use Rattle.su_steps.specs.Ready.{AreClosed, FitLiterals, FitOrigins, IsShown}
 use Rattle.su_steps.proofs.Fitting.{width_is}
 use Rattle.su_steps.proofs.Tabled.{are_classes, none_by_clash, none_by_false, made, valid_of}
 use Rattle.su_steps.proofs.Built.{tab_of, some_false_at, none_false_at, built, small_of}

@@ -1,15 +1,12 @@
 -- Each row of a term has a source, among whichever rows: the object that it is for, since its other cells are the row's own.
-use Rattle.std.proofs.Common.{◌≡◌, ◌≢◌, ◌⊎◌, ⊎_elim, ℕ, zero, suc, ◌+◌, ◌*◌, ◌/◌, ◌%◌, ◌<◌, ◌≤◌, Bool, true, false, cond, List, [], ◌∷◌, ◌++◌, map, length, get_or, Contains, refl, sym, ap, ◌∙◌, subst, arith}
-use Rattle.std.specs.Prelude.{All, IsTrue}
-use Rattle.std.specs.List.{range_with_len}
+use Rattle.std.proofs.Common.{◌≡◌, ⊎_elim, ℕ, zero, suc, ◌+◌, ◌*◌, ◌/◌, ◌%◌, ◌<◌, true, false, cond, List, [], ◌∷◌, map, length, get_or, Contains, refl, sym, ap, ◌∙◌, subst, arith}
+use Rattle.std.specs.Prelude.{IsTrue}
 use Rattle.std.specs.Ordering.{nat_cmp}
 use Rattle.std.specs.FinSet.{FinSet, contains}
 use Rattle.std.proofs.lemmas.Bool.{cases_Bool, false≢true}
 use Rattle.std.proofs.lemmas.Nat.{div-mul-add, mod-mul-add}
-use Rattle.std.proofs.lemmas.List.{length-map, get_or_default}
 use Rattle.std.proofs.lemmas.List.FromFn.{length-map-range_with_len}
 use Rattle.std.proofs.lemmas.List.Elements.{All-contains, Contains-append_cases, Contains-get_or}
-use Rattle.su_base.specs.declared.values.Value.{Value}
 use Rattle.su_tableau.specs.declared.symbols.Sym.{Sym}
 use Rattle.su_tableau.specs.declared.symbols.Sym.TheVariants.{Const, Var}
 use Rattle.su_tableau.specs.Tableaux.{Tab}
@@ -20,9 +17,9 @@ use Rattle.su_query.specs.Ranges.{IsResolved}
 use Rattle.su_steps.specs.declared.results.Origin.{Origin}
 use Rattle.su_steps.specs.declared.results.Term.{Term}
 use Rattle.su_steps.specs.Objects.{width, attributes_at}
-use Rattle.su_steps.specs.Choices.{origin, origins_of}
+use Rattle.su_steps.specs.Choices.{origins_of}
 use Rattle.su_steps.specs.Classes.{Compared, pair, place_symbol, IsNaming}
-use Rattle.su_steps.specs.Terms.{left_over, sides, cell_of, row_of, rows_of, tableau_of, HaveTableau, Case, cases, comparisons_of, GivesNone, Gives, AreTermsOf, AreTerms}
+use Rattle.su_steps.specs.Terms.{left_over, sides, cell_of, row_of, rows_of, tableau_of, Case, cases, comparisons_of, GivesNone, Gives, AreTermsOf, AreTerms}
 use Rattle.su_steps.specs.Sources.{IsSource}
 use Rattle.std.specs.List.{AllByRecursion}
 use Rattle.su_schema.specs.SchemaValue as schemas
@@ -33,7 +30,7 @@ use Rattle.su_steps.proofs.Fitting.{no_place, place_at, place_in, literals_fit, 
 use Rattle.su_steps.proofs.Chosen.{origin_in, pairs_below}
 use Rattle.su_steps.proofs.Union.{IsCase, of_cases}
 use Rattle.su_steps.proofs.Shape.{AreBelow, IsPairBelow}
-use Rattle.su_steps.proofs.Valid.{length-rows, of_sides, IsSide}
+use Rattle.su_steps.proofs.Valid.{length-rows, of_sides}
 
 -- ---- symbols of classes
 

@@ -15,7 +15,7 @@ use Rattle.su_tableau.specs.Tableaux.{Tab, IsValid}
 use Rattle.su_classes.specs.declared.items.Together.{Together}
 use Rattle.su_classes.specs.Items.{IsPlacedBelow}
 use Rattle.su_classes.specs.Tables.{rep, IsTable, IsLeast}
-use Rattle.su_classes.specs.Symbols.{AreDistinct, is_known, symbol_at}
+use Rattle.su_classes.specs.Symbols.{is_known}
 use Rattle.su_classes.proofs.Places.{numbering, own_constant, symbol_low}
 use Rattle.su_schema.specs.SchemaValue.{SchemaValue}
 use Rattle.su_schema.specs.SchemaValue as schemas

@@ -4,7 +4,6 @@ use Rattle.su_where.specs.declared.literals.Literal.{Literal}
 use Rattle.su_query.specs.declared.places.Place.{Place}
 use Rattle.su_steps.specs.declared.classes.Classes.{Classes}
 use Rattle.su_steps.specs.declared.building.Head.{Head}
-use Rattle.su_steps.specs.Objects.{width}
 use Rattle.su_steps.specs.Classes.{place_symbol, comparisons}
 use Rattle.su_steps.specs.Numbers.{class_name}
 use Rattle.su_steps.specs.Heads.{head_of, IsSomeFalse, IsNoneFalse}
