@@ -53,6 +53,13 @@ impl MemoryShelf {
             failed: false,
         }
     }
+
+    /// The name that was begun last, whether or not it was accepted.
+    pub fn begun(&self) -> Option<&Str>
+        ensures { option_map (λ name. name.now) result ≡ self.now.begun }
+    {
+        self.begun.as_ref()
+    }
 }
 
 impl MemoryShelf {

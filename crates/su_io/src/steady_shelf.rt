@@ -1,5 +1,5 @@
 //! A shelf in memory whose calls never fail.
-ghost use Rattle.std.specs.Prelude.{◌≡◌, ◌≤◌, [], drop, length, Some, None, false};
+ghost use Rattle.std.specs.Prelude.{option_map, ◌≡◌, ◌≤◌, [], drop, length, Some, None, false};
 ghost use Rattle.su_io.specs.Files.{bytes_at};
 
 use crate::pieces::{find, rest_of, take_front};
@@ -31,6 +31,13 @@ impl SteadyShelf {
             taken: 0,
             begun: None,
         }
+    }
+
+    /// The name that was begun last, whether or not it was accepted.
+    pub fn begun(&self) -> Option<&Str>
+        ensures { option_map (λ name. name.now) result ≡ self.now.begun }
+    {
+        self.begun.as_ref()
     }
 }
 

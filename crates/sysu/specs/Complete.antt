@@ -15,16 +15,20 @@ use Rattle.sysu.specs.Statements.{WroteAll}
 use Rattle.sysu.specs.Statuses.{OfFiles, schema_limit, script_limit}
 use Rattle.sysu.specs.Words.{Named, named, Generates}
 
--- the shelf tells its files, the schema is accepted, no count of faults rose, and no file is past its limit
+-- the schema is accepted, and no file is past its limit
+pub record AreAccepted (names : Named) (files : List AFile) : Type 0 where
+  pub schema : SchemaValue
+  pub reads : Reads (contents files names.schema) (Ok schema)
+  pub schema_fits : length (contents files names.schema) ≤ schema_limit
+  pub script_fits : length (contents files names.script) ≤ script_limit
+  pub loads_fit : (path : List ℕ) → LoadsFrom (Some files) (empty_database schema) (contents files names.script) path → length (contents files path) ≤ load_limit
+
+-- the shelf tells its files, which are accepted, and no count of faults rose
 pub record IsUntroubled (names : Named) (files : List AFile) (old new : Moment) : Type 0 where
   pub told : old.files ≡ Some files
   pub no_read_fault : ¬ Rose old.reads new.reads
   pub no_write_fault : ¬ Rose old.writes new.writes
-  pub schema : SchemaValue
-  pub accepted : Reads (contents files names.schema) (Ok schema)
-  pub schema_fits : length (contents files names.schema) ≤ schema_limit
-  pub script_fits : length (contents files names.script) ≤ script_limit
-  pub loads_fit : (path : List ℕ) → LoadsFrom (Some files) (empty_database schema) (contents files names.script) path → length (contents files path) ≤ load_limit
+  pub accepted : AreAccepted names files
 
 -- all statements were answered, and all replies written: status 1 where some was refused, else 0
 abbrev pub Finished : Named → Moment → Moment → Status → Type 0

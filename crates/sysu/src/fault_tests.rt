@@ -19,15 +19,25 @@ const REPLIES: [&str; 3] = [
     "rows 2\nACCT,BAL\n1,100\n2,250\n",
 ];
 
-fn bank_files(alloc: Global) -> Result<List<File>, NoMemory> {
+// The bank's files. One of them is a text of so many spaces where there are any.
+fn files_of(alloc: Global, long: &str, spaces: usize) -> Result<List<File>, NoMemory> {
     let mut files = List::new(alloc);
     for (name, text) in [("s", BANK), ("t", SCRIPT), ("g.csv", LOADED)] {
+        let bytes = if name == long {
+            vec![in alloc; b' '; spaces]?
+        } else {
+            text.as_bytes().to_vec(alloc)?
+        };
         files.push(File {
             name: Str::new(alloc, name)?,
-            bytes: List::from_vec(text.as_bytes().to_vec(alloc)?),
+            bytes: List::from_vec(bytes),
         })?;
     }
     Ok(files)
+}
+
+fn bank_files(alloc: Global) -> Result<List<File>, NoMemory> {
+    files_of(alloc, "", 0)
 }
 
 // How many calls a file takes in pieces of 100: one to begin it, one a piece, and one to find its end.
@@ -57,9 +67,16 @@ fn each_failing_call_of_the_shelf_leaves_the_replies_before_it(
         if k == all {
             assert_eq!(rt; got, Status::Done);
         } else {
-            let left = if k < before { "" } else { REPLIES[0] };
+            let (left, begun) = if k < calls(BANK) {
+                ("", "s")
+            } else if k < before {
+                ("", "t")
+            } else {
+                (REPLIES[0], "g.csv")
+            };
             assert_eq!(rt; got, Status::ReadFault, "call {k}");
             assert_eq!(rt; out.written(), left.as_bytes(), "call {k}");
+            assert_eq!(rt; shelf.begun().map(Str::as_str), Some(begun), "call {k}");
         }
     }
     Ok(())
@@ -92,6 +109,32 @@ fn each_failing_call_of_the_sink_leaves_a_front(rt: HostRuntime) -> Result<(), F
         );
         assert_eq!(rt; got, Status::WriteFault, "call {k}");
         assert_eq!(rt; out.written(), front.as_slice(), "call {k}");
+    }
+    Ok(())
+}
+
+#[test]
+fn a_file_past_its_limit_is_the_last_begun(rt: HostRuntime) -> Result<(), Fail> {
+    let alloc = rt.alloc();
+    let cases = [
+        ("s", 1048577usize, ""),
+        ("t", 16777217, ""),
+        ("g.csv", 67108865, REPLIES[0]),
+    ];
+    for (long, spaces, left) in cases {
+        let mut shelf = SteadyShelf::new(files_of(alloc, long, spaces)?);
+        let mut out = SteadySink::new(alloc, 1000)?;
+        let got = run(
+            &rt,
+            alloc,
+            words(alloc, &["run", "s", "t"])?.as_slice(),
+            &mut shelf,
+            &mut out,
+            &OpenGate,
+        );
+        assert_eq!(rt; got, Status::TooLong, "{long}");
+        assert_eq!(rt; out.written(), left.as_bytes(), "{long}");
+        assert_eq!(rt; shelf.begun().map(Str::as_str), Some(long), "{long}");
     }
     Ok(())
 }

@@ -14,6 +14,7 @@ mod headline;
 mod reading;
 mod statements;
 mod status;
+mod steady;
 mod top;
 
 use status::Status;
@@ -60,6 +61,8 @@ fn main(rt: HostRuntime) -> ExitCode {
 
 #[cfg(test)]
 mod fault_tests;
+#[cfg(test)]
+mod handing_tests;
 #[cfg(test)]
 mod query_tests;
 #[cfg(test)]

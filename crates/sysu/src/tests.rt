@@ -33,7 +33,7 @@ pub(crate) fn words(alloc: Global, all: &[&str]) -> Result<List<Str>, NoMemory> 
     Ok(words)
 }
 
-fn files(alloc: Global, schema: &str, script: &str) -> Result<List<File>, NoMemory> {
+pub(crate) fn files(alloc: Global, schema: &str, script: &str) -> Result<List<File>, NoMemory> {
     let mut files = List::new(alloc);
     for (name, text) in [("s", schema), ("t", script)] {
         files.push(File {
@@ -123,37 +123,6 @@ fn a_run_ends_with_its_status_and_output(rt: HostRuntime) -> Result<(), Fail> {
         );
         assert_eq!(rt; got, status, "{want}");
         assert_eq!(rt; out.written(), want.as_bytes(), "{want}");
-    }
-    Ok(())
-}
-
-// Two files of as many spaces.
-fn blanks(alloc: Global, schema: usize, script: usize) -> Result<List<File>, NoMemory> {
-    let mut files = List::new(alloc);
-    for (name, length) in [("s", schema), ("t", script)] {
-        files.push(File {
-            name: Str::new(alloc, name)?,
-            bytes: List::from_vec(vec![in alloc; b' '; length]?),
-        })?;
-    }
-    Ok(files)
-}
-
-#[test]
-fn a_file_past_its_limit_is_too_long(rt: HostRuntime) -> Result<(), Fail> {
-    let alloc = rt.alloc();
-    for (schema, script) in [(1048577usize, 0usize), (0, 16777217)] {
-        let mut shelf = SteadyShelf::new(blanks(alloc, schema, script)?);
-        let mut out = SteadySink::new(alloc, 10)?;
-        let got = run(
-            &rt,
-            alloc,
-            words(alloc, &["run", "s", "t"])?.as_slice(),
-            &mut shelf,
-            &mut out,
-            &OpenGate,
-        );
-        assert_eq!(rt; got, Status::TooLong);
     }
     Ok(())
 }
