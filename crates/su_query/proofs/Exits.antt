@@ -6,18 +6,17 @@ use Rattle.su_base.specs.Name.{IsName}
 use Rattle.su_lex.specs.declared.signs.Sign.TheVariants as sign
 use Rattle.su_lex.specs.declared.meaning.Symbol.{Symbol}
 use Rattle.su_lex.specs.declared.meaning.Symbol.TheVariants.{Word, Sign}
-use Rattle.su_query.specs.declared.refs.Ref.{Ref as ARef}
 use Rattle.su_query.specs.declared.conditions.NamedCond.{NamedCond}
 use Rattle.su_query.specs.declared.statements.Query.{Query as AQuery}
 use Rattle.su_query.specs.declared.statements.Statement.{Statement}
-use Rattle.su_query.specs.declared.statements.Statement.TheVariants.{Insert, Delete, DeleteWhere, Load, Print, Schema, Closure, Retrieve, Explain, Certify}
+use Rattle.su_query.specs.declared.statements.Statement.TheVariants.{Insert, Delete, DeleteWhere, Load, Print, Schema, Closure, Retrieve, Explain, Certify, Compare, Window}
 use Rattle.su_lex.specs.Names.{Begins}
 use Rattle.su_query.specs.Lists.{Several, opens_second}
-use Rattle.su_query.specs.Grammar.{ReadsName, ReadsValue, ReadsRef, ReadsCond}
+use Rattle.su_query.specs.Grammar.{ReadsName, ReadsValue, ReadsCond}
 use Rattle.su_query.specs.Mentions.{are_columns}
 use Rattle.su_query.specs.Forms as g
-use Rattle.su_query.specs.Forms.{RowForm, ConditionForm, FileForm, NamesForm, WhereForm, QueryForm, IsForm}
-use Rattle.su_query.proofs.Items.{name_unique, value_unique, ref_unique}
+use Rattle.su_query.specs.Forms.{RowForm, ConditionForm, FileForm, NamesForm, PairForm, QueryForm, IsForm}
+use Rattle.su_query.proofs.Items.{name_unique, value_unique}
 use Rattle.su_query.proofs.Listed.{several_unique}
 use Rattle.su_query.proofs.Unique.{same_cond}
 
@@ -32,6 +31,17 @@ apart v w s t u e e' d =
     let k : first_byte v ≡ first_byte w = ap first_byte h in
     absurd (grind (arith, nat_tests, k, d))
 
+second_byte : List ℕ → ℕ
+second_byte [] = 0
+second_byte (b ∷ bs) = first_byte bs
+
+-- or go on differently
+apart_behind : (v w : List ℕ) (s t u : List Symbol) → s ≡ Word v ∷ t → s ≡ Word w ∷ u → nat_eq (second_byte v) (second_byte w) ≡ false → ⊥
+apart_behind v w s t u e e' d =
+    let h : v ≡ w = cc in
+    let k : second_byte v ≡ second_byte w = ap second_byte h in
+    absurd (grind (arith, nat_tests, k, d))
+
 pub insert_inv : (st : Statement) (s t : List Symbol) → s ≡ Word (codes "insert") ∷ t → IsForm st s → (relation : List ℕ) × (row : List Value) × (st ≡ Insert relation row) × RowForm relation row t
 insert_inv st s t w (g.insert _ relation row _ t' e e' h) = let at : t' ≡ t = cc in (relation, row, e, subst (λ (x : List Symbol). RowForm relation row x) at h)
 insert_inv st s t w (g.delete _ relation row _ t' e e' h) = absurd (apart (codes "insert") (codes "delete") s t t' w e' refl)
@@ -43,6 +53,8 @@ insert_inv st s t w (g.closure _ names _ t' e e' h) = absurd (apart (codes "inse
 insert_inv st s t w (g.retrieve _ q _ e h) = absurd (apart (codes "insert") (codes "retrieve") s t (Sign sign.Open ∷ h.refs) w h.begins refl)
 insert_inv st s t w (g.explain _ q _ t' e e' h) = absurd (apart (codes "insert") (codes "explain") s t t' w e' refl)
 insert_inv st s t w (g.certify _ q _ t' e e' h) = absurd (apart (codes "insert") (codes "explain") s t (Word (codes "with") ∷ t') w e' refl)
+insert_inv st s t w (g.compare _ p q _ t' e e' h) = absurd (apart (codes "insert") (codes "compare") s t t' w e' refl)
+insert_inv st s t w (g.window _ names _ t' e e' h) = absurd (apart (codes "insert") (codes "window") s t t' w e' refl)
 
 pub delete_inv : (st : Statement) (s t : List Symbol) → s ≡ Word (codes "delete") ∷ t → IsForm st s → ((relation : List ℕ) × (row : List Value) × (st ≡ Delete relation row) × RowForm relation row t) ⊎ ((relation : List ℕ) × (cond : NamedCond) × (st ≡ DeleteWhere relation cond) × ConditionForm relation cond t)
 delete_inv st s t w (g.insert _ relation row _ t' e e' h) = absurd (apart (codes "delete") (codes "insert") s t t' w e' refl)
@@ -55,6 +67,8 @@ delete_inv st s t w (g.closure _ names _ t' e e' h) = absurd (apart (codes "dele
 delete_inv st s t w (g.retrieve _ q _ e h) = absurd (apart (codes "delete") (codes "retrieve") s t (Sign sign.Open ∷ h.refs) w h.begins refl)
 delete_inv st s t w (g.explain _ q _ t' e e' h) = absurd (apart (codes "delete") (codes "explain") s t t' w e' refl)
 delete_inv st s t w (g.certify _ q _ t' e e' h) = absurd (apart (codes "delete") (codes "explain") s t (Word (codes "with") ∷ t') w e' refl)
+delete_inv st s t w (g.compare _ p q _ t' e e' h) = absurd (apart (codes "delete") (codes "compare") s t t' w e' refl)
+delete_inv st s t w (g.window _ names _ t' e e' h) = absurd (apart (codes "delete") (codes "window") s t t' w e' refl)
 
 pub load_inv : (st : Statement) (s t : List Symbol) → s ≡ Word (codes "load") ∷ t → IsForm st s → (relation : List ℕ) × (file : List ℕ) × (st ≡ Load relation file) × FileForm relation file t
 load_inv st s t w (g.insert _ relation row _ t' e e' h) = absurd (apart (codes "load") (codes "insert") s t t' w e' refl)
@@ -67,6 +81,8 @@ load_inv st s t w (g.closure _ names _ t' e e' h) = absurd (apart (codes "load")
 load_inv st s t w (g.retrieve _ q _ e h) = absurd (apart (codes "load") (codes "retrieve") s t (Sign sign.Open ∷ h.refs) w h.begins refl)
 load_inv st s t w (g.explain _ q _ t' e e' h) = absurd (apart (codes "load") (codes "explain") s t t' w e' refl)
 load_inv st s t w (g.certify _ q _ t' e e' h) = absurd (apart (codes "load") (codes "explain") s t (Word (codes "with") ∷ t') w e' refl)
+load_inv st s t w (g.compare _ p q _ t' e e' h) = absurd (apart (codes "load") (codes "compare") s t t' w e' refl)
+load_inv st s t w (g.window _ names _ t' e e' h) = absurd (apart (codes "load") (codes "window") s t t' w e' refl)
 
 pub print_inv : (st : Statement) (s t : List Symbol) → s ≡ Word (codes "print") ∷ t → IsForm st s → (relation : List ℕ) × (st ≡ Print relation) × (t ≡ Word relation ∷ []) × IsName relation
 print_inv st s t w (g.insert _ relation row _ t' e e' h) = absurd (apart (codes "print") (codes "insert") s t t' w e' refl)
@@ -79,6 +95,8 @@ print_inv st s t w (g.closure _ names _ t' e e' h) = absurd (apart (codes "print
 print_inv st s t w (g.retrieve _ q _ e h) = absurd (apart (codes "print") (codes "retrieve") s t (Sign sign.Open ∷ h.refs) w h.begins refl)
 print_inv st s t w (g.explain _ q _ t' e e' h) = absurd (apart (codes "print") (codes "explain") s t t' w e' refl)
 print_inv st s t w (g.certify _ q _ t' e e' h) = absurd (apart (codes "print") (codes "explain") s t (Word (codes "with") ∷ t') w e' refl)
+print_inv st s t w (g.compare _ p q _ t' e e' h) = absurd (apart (codes "print") (codes "compare") s t t' w e' refl)
+print_inv st s t w (g.window _ names _ t' e e' h) = absurd (apart (codes "print") (codes "window") s t t' w e' refl)
 
 pub schema_inv : (st : Statement) (s t : List Symbol) → s ≡ Word (codes "schema") ∷ t → IsForm st s → (st ≡ Schema) × (t ≡ [])
 schema_inv st s t w (g.insert _ relation row _ t' e e' h) = absurd (apart (codes "schema") (codes "insert") s t t' w e' refl)
@@ -91,6 +109,8 @@ schema_inv st s t w (g.closure _ names _ t' e e' h) = absurd (apart (codes "sche
 schema_inv st s t w (g.retrieve _ q _ e h) = absurd (apart (codes "schema") (codes "retrieve") s t (Sign sign.Open ∷ h.refs) w h.begins refl)
 schema_inv st s t w (g.explain _ q _ t' e e' h) = absurd (apart (codes "schema") (codes "explain") s t t' w e' refl)
 schema_inv st s t w (g.certify _ q _ t' e e' h) = absurd (apart (codes "schema") (codes "explain") s t (Word (codes "with") ∷ t') w e' refl)
+schema_inv st s t w (g.compare _ p q _ t' e e' h) = absurd (apart (codes "schema") (codes "compare") s t t' w e' refl)
+schema_inv st s t w (g.window _ names _ t' e e' h) = absurd (apart (codes "schema") (codes "window") s t t' w e' refl)
 
 pub closure_inv : (st : Statement) (s t : List Symbol) → s ≡ Word (codes "closure") ∷ t → IsForm st s → (names : List (List ℕ)) × (st ≡ Closure names) × NamesForm names t
 closure_inv st s t w (g.insert _ relation row _ t' e e' h) = absurd (apart (codes "closure") (codes "insert") s t t' w e' refl)
@@ -103,6 +123,8 @@ closure_inv st s t w (g.closure _ names _ t' e e' h) = let at : t' ≡ t = cc in
 closure_inv st s t w (g.retrieve _ q _ e h) = absurd (apart (codes "closure") (codes "retrieve") s t (Sign sign.Open ∷ h.refs) w h.begins refl)
 closure_inv st s t w (g.explain _ q _ t' e e' h) = absurd (apart (codes "closure") (codes "explain") s t t' w e' refl)
 closure_inv st s t w (g.certify _ q _ t' e e' h) = absurd (apart (codes "closure") (codes "explain") s t (Word (codes "with") ∷ t') w e' refl)
+closure_inv st s t w (g.compare _ p q _ t' e e' h) = absurd (apart_behind (codes "closure") (codes "compare") s t t' w e' refl)
+closure_inv st s t w (g.window _ names _ t' e e' h) = absurd (apart (codes "closure") (codes "window") s t t' w e' refl)
 
 pub explain_inv : (st : Statement) (s t : List Symbol) → s ≡ Word (codes "explain") ∷ t → IsForm st s → ((q : AQuery) × (st ≡ Explain q) × QueryForm q t) ⊎ ((q : AQuery) × (u : List Symbol) × (st ≡ Certify q) × (t ≡ Word (codes "with") ∷ u) × QueryForm q u)
 explain_inv st s t w (g.insert _ relation row _ t' e e' h) = absurd (apart (codes "explain") (codes "insert") s t t' w e' refl)
@@ -115,6 +137,8 @@ explain_inv st s t w (g.closure _ names _ t' e e' h) = absurd (apart (codes "exp
 explain_inv st s t w (g.retrieve _ q _ e h) = absurd (apart (codes "explain") (codes "retrieve") s t (Sign sign.Open ∷ h.refs) w h.begins refl)
 explain_inv st s t w (g.explain _ q _ t' e e' h) = let at : t' ≡ t = cc in inl (q, e, subst (λ (x : List Symbol). QueryForm q x) at h)
 explain_inv st s t w (g.certify _ q _ t' e e' h) = let at : t ≡ Word (codes "with") ∷ t' = cc in inr (q, t', e, at, h)
+explain_inv st s t w (g.compare _ p q _ t' e e' h) = absurd (apart (codes "explain") (codes "compare") s t t' w e' refl)
+explain_inv st s t w (g.window _ names _ t' e e' h) = absurd (apart (codes "explain") (codes "window") s t t' w e' refl)
 
 -- what begins with `with` is no query
 pub no_query_with : (q : AQuery) (s t : List Symbol) → s ≡ Word (codes "with") ∷ t → QueryForm q s → ⊥
@@ -137,19 +161,51 @@ retrieve_inv st s t w (g.closure _ names _ t' e e' h) = absurd (apart (codes "re
 retrieve_inv st s t w (g.retrieve _ q _ e h) = (q, e, h)
 retrieve_inv st s t w (g.explain _ q _ t' e e' h) = absurd (apart (codes "retrieve") (codes "explain") s t t' w e' refl)
 retrieve_inv st s t w (g.certify _ q _ t' e e' h) = absurd (apart (codes "retrieve") (codes "explain") s t (Word (codes "with") ∷ t') w e' refl)
+retrieve_inv st s t w (g.compare _ p q _ t' e e' h) = absurd (apart (codes "retrieve") (codes "compare") s t t' w e' refl)
+retrieve_inv st s t w (g.window _ names _ t' e e' h) = absurd (apart (codes "retrieve") (codes "window") s t t' w e' refl)
+
+pub compare_inv : (st : Statement) (s t : List Symbol) → s ≡ Word (codes "compare") ∷ t → IsForm st s → (first : AQuery) × (second : AQuery) × (st ≡ Compare first second) × PairForm first second t
+compare_inv st s t w (g.insert _ relation row _ t' e e' h) = absurd (apart (codes "compare") (codes "insert") s t t' w e' refl)
+compare_inv st s t w (g.delete _ relation row _ t' e e' h) = absurd (apart (codes "compare") (codes "delete") s t t' w e' refl)
+compare_inv st s t w (g.delete_where _ relation cond _ t' e e' h) = absurd (apart (codes "compare") (codes "delete") s t t' w e' refl)
+compare_inv st s t w (g.load _ relation file _ t' e e' h) = absurd (apart (codes "compare") (codes "load") s t t' w e' refl)
+compare_inv st s t w (g.print _ relation _ e e' named) = absurd (apart (codes "compare") (codes "print") s t (Word relation ∷ []) w e' refl)
+compare_inv st s t w (g.schema _ _ e e') = absurd (apart (codes "compare") (codes "schema") s t [] w e' refl)
+compare_inv st s t w (g.closure _ names _ t' e e' h) = absurd (apart_behind (codes "compare") (codes "closure") s t t' w e' refl)
+compare_inv st s t w (g.retrieve _ q _ e h) = absurd (apart (codes "compare") (codes "retrieve") s t (Sign sign.Open ∷ h.refs) w h.begins refl)
+compare_inv st s t w (g.explain _ q _ t' e e' h) = absurd (apart (codes "compare") (codes "explain") s t t' w e' refl)
+compare_inv st s t w (g.certify _ q _ t' e e' h) = absurd (apart (codes "compare") (codes "explain") s t (Word (codes "with") ∷ t') w e' refl)
+compare_inv st s t w (g.compare _ p q _ t' e e' h) = let at : t' ≡ t = cc in (p, q, e, subst (λ (x : List Symbol). PairForm p q x) at h)
+compare_inv st s t w (g.window _ names _ t' e e' h) = absurd (apart (codes "compare") (codes "window") s t t' w e' refl)
+
+pub window_inv : (st : Statement) (s t : List Symbol) → s ≡ Word (codes "window") ∷ t → IsForm st s → (names : List (List ℕ)) × (st ≡ Window names) × NamesForm names t
+window_inv st s t w (g.insert _ relation row _ t' e e' h) = absurd (apart (codes "window") (codes "insert") s t t' w e' refl)
+window_inv st s t w (g.delete _ relation row _ t' e e' h) = absurd (apart (codes "window") (codes "delete") s t t' w e' refl)
+window_inv st s t w (g.delete_where _ relation cond _ t' e e' h) = absurd (apart (codes "window") (codes "delete") s t t' w e' refl)
+window_inv st s t w (g.load _ relation file _ t' e e' h) = absurd (apart (codes "window") (codes "load") s t t' w e' refl)
+window_inv st s t w (g.print _ relation _ e e' named) = absurd (apart (codes "window") (codes "print") s t (Word relation ∷ []) w e' refl)
+window_inv st s t w (g.schema _ _ e e') = absurd (apart (codes "window") (codes "schema") s t [] w e' refl)
+window_inv st s t w (g.closure _ names _ t' e e' h) = absurd (apart (codes "window") (codes "closure") s t t' w e' refl)
+window_inv st s t w (g.retrieve _ q _ e h) = absurd (apart (codes "window") (codes "retrieve") s t (Sign sign.Open ∷ h.refs) w h.begins refl)
+window_inv st s t w (g.explain _ q _ t' e e' h) = absurd (apart (codes "window") (codes "explain") s t t' w e' refl)
+window_inv st s t w (g.certify _ q _ t' e e' h) = absurd (apart (codes "window") (codes "explain") s t (Word (codes "with") ∷ t') w e' refl)
+window_inv st s t w (g.compare _ p q _ t' e e' h) = absurd (apart (codes "window") (codes "compare") s t t' w e' refl)
+window_inv st s t w (g.window _ names _ t' e e' h) = let at : t' ≡ t = cc in (names, e, subst (λ (x : List Symbol). NamesForm names x) at h)
 
 -- where the first word is of no other form, a statement is a query
-pub none_left : (s : List Symbol) → ¬ (Begins (Word (codes "insert")) s) → ¬ (Begins (Word (codes "delete")) s) → ¬ (Begins (Word (codes "load")) s) → ¬ (Begins (Word (codes "print")) s) → ¬ (Begins (Word (codes "schema")) s) → ¬ (Begins (Word (codes "closure")) s) → ¬ (Begins (Word (codes "explain")) s) → ((q : AQuery) → QueryForm q s → ⊥) → (st : Statement) → IsForm st s → ⊥
-none_left s n1 n2 n3 n4 n5 n6 n7 bad st (g.insert _ relation row _ t' e e' h) = n1 (t', e')
-none_left s n1 n2 n3 n4 n5 n6 n7 bad st (g.delete _ relation row _ t' e e' h) = n2 (t', e')
-none_left s n1 n2 n3 n4 n5 n6 n7 bad st (g.delete_where _ relation cond _ t' e e' h) = n2 (t', e')
-none_left s n1 n2 n3 n4 n5 n6 n7 bad st (g.load _ relation file _ t' e e' h) = n3 (t', e')
-none_left s n1 n2 n3 n4 n5 n6 n7 bad st (g.print _ relation _ e e' named) = n4 (Word relation ∷ [], e')
-none_left s n1 n2 n3 n4 n5 n6 n7 bad st (g.schema _ _ e e') = n5 ([], e')
-none_left s n1 n2 n3 n4 n5 n6 n7 bad st (g.closure _ names _ t' e e' h) = n6 (t', e')
-none_left s n1 n2 n3 n4 n5 n6 n7 bad st (g.retrieve _ q _ e h) = bad q h
-none_left s n1 n2 n3 n4 n5 n6 n7 bad st (g.explain _ q _ t' e e' h) = n7 (t', e')
-none_left s n1 n2 n3 n4 n5 n6 n7 bad st (g.certify _ q _ t' e e' h) = n7 (Word (codes "with") ∷ t', e')
+pub none_left : (s : List Symbol) → ¬ (Begins (Word (codes "insert")) s) → ¬ (Begins (Word (codes "delete")) s) → ¬ (Begins (Word (codes "load")) s) → ¬ (Begins (Word (codes "print")) s) → ¬ (Begins (Word (codes "schema")) s) → ¬ (Begins (Word (codes "closure")) s) → ¬ (Begins (Word (codes "explain")) s) → ¬ (Begins (Word (codes "compare")) s) → ¬ (Begins (Word (codes "window")) s) → ((q : AQuery) → QueryForm q s → ⊥) → (st : Statement) → IsForm st s → ⊥
+none_left s n1 n2 n3 n4 n5 n6 n7 n8 n9 bad st (g.insert _ relation row _ t' e e' h) = n1 (t', e')
+none_left s n1 n2 n3 n4 n5 n6 n7 n8 n9 bad st (g.delete _ relation row _ t' e e' h) = n2 (t', e')
+none_left s n1 n2 n3 n4 n5 n6 n7 n8 n9 bad st (g.delete_where _ relation cond _ t' e e' h) = n2 (t', e')
+none_left s n1 n2 n3 n4 n5 n6 n7 n8 n9 bad st (g.load _ relation file _ t' e e' h) = n3 (t', e')
+none_left s n1 n2 n3 n4 n5 n6 n7 n8 n9 bad st (g.print _ relation _ e e' named) = n4 (Word relation ∷ [], e')
+none_left s n1 n2 n3 n4 n5 n6 n7 n8 n9 bad st (g.schema _ _ e e') = n5 ([], e')
+none_left s n1 n2 n3 n4 n5 n6 n7 n8 n9 bad st (g.closure _ names _ t' e e' h) = n6 (t', e')
+none_left s n1 n2 n3 n4 n5 n6 n7 n8 n9 bad st (g.retrieve _ q _ e h) = bad q h
+none_left s n1 n2 n3 n4 n5 n6 n7 n8 n9 bad st (g.explain _ q _ t' e e' h) = n7 (t', e')
+none_left s n1 n2 n3 n4 n5 n6 n7 n8 n9 bad st (g.certify _ q _ t' e e' h) = n7 (Word (codes "with") ∷ t', e')
+none_left s n1 n2 n3 n4 n5 n6 n7 n8 n9 bad st (g.compare _ p q _ t' e e' h) = n8 (t', e')
+none_left s n1 n2 n3 n4 n5 n6 n7 n8 n9 bad st (g.window _ names _ t' e e' h) = n9 (t', e')
 
 pub condition_not_row : (relation : List ℕ) (cond : NamedCond) (s : List Symbol) → ConditionForm relation cond s → opens_second s ≡ true → ⊥
 condition_not_row relation cond s h e = let f : opens_second s ≡ false = ap opens_second h.begins in cc
@@ -193,12 +249,6 @@ names_no_close s t u ns e found bad names h = bad ([], names_left s t u ns e fou
 pub names_no_end : (s t u w : List Symbol) (ns : List (List ℕ)) → s ≡ Sign sign.Open ∷ t → Several ReadsName ns t u → u ≡ Sign sign.Close ∷ w → ¬ (w ≡ []) → (names : List (List ℕ)) → NamesForm names s → ⊥
 names_no_end s t u w ns e found c bad names h = let l = names_left s t u ns e found names h in bad (cc)
 
-pub where_no_end : (s t u : List Symbol) (d : NamedCond) → s ≡ Word (codes "where") ∷ t → ReadsCond d t u → ¬ (u ≡ []) → (c : NamedCond) → WhereForm c s → ⊥
-where_no_end s t u d e found bad c (g.nothing _ _ e' k) = cc
-where_no_end s t u d e found bad c (g.condition _ _ t' e' h) =
-    let at : t' ≡ t = cc in
-    bad (same_cond d t u found c [] (subst (λ (x : List Symbol). ReadsCond c x []) at h)).rest
-
 pub condition_no_end : (s a t u : List Symbol) (n : List ℕ) (d : NamedCond) → s ≡ Word n ∷ a → a ≡ Word (codes "where") ∷ t → ReadsCond d t u → ¬ (u ≡ []) → (relation : List ℕ) (cond : NamedCond) → ConditionForm relation cond s → ⊥
 condition_no_end s a t u n d e f found bad relation cond h =
     let b = h.begins in
@@ -213,24 +263,3 @@ condition_no_columns s a t u n d e f found bad relation cond h =
     let one : are_columns cond ≡ false = ap are_columns (sym same) ∙ bad in
     let other : are_columns cond ≡ true = h.columns in
     cc
-
-pub query_no_refs : (s a t : List Symbol) → s ≡ Word (codes "retrieve") ∷ a → a ≡ Sign sign.Open ∷ t → ((rs : List ARef) (r : List Symbol) → ¬ (Several ReadsRef rs t r)) → (q : AQuery) → QueryForm q s → ⊥
-query_no_refs s a t e f bad q h =
-    let b = h.begins in
-    let at : h.refs ≡ t = cc in
-    bad q.outputs (Sign sign.Close ∷ h.rest) (subst (λ (x : List Symbol). Several ReadsRef q.outputs x (Sign sign.Close ∷ h.rest)) at h.reads)
-
-query_left : (s a t u : List Symbol) (rs : List ARef) → s ≡ Word (codes "retrieve") ∷ a → a ≡ Sign sign.Open ∷ t → Several ReadsRef rs t u → (q : AQuery) (h : QueryForm q s) → u ≡ Sign sign.Close ∷ h.rest
-query_left s a t u rs e f found q h =
-    let b = h.begins in
-    let at : h.refs ≡ t = cc in
-    (several_unique ReadsRef ref_unique rs q.outputs t u (Sign sign.Close ∷ h.rest) found (subst (λ (x : List Symbol). Several ReadsRef q.outputs x (Sign sign.Close ∷ h.rest)) at h.reads)).rest
-
-pub query_no_close : (s a t u : List Symbol) (rs : List ARef) → s ≡ Word (codes "retrieve") ∷ a → a ≡ Sign sign.Open ∷ t → Several ReadsRef rs t u → ¬ (Begins (Sign sign.Close) u) → (q : AQuery) → QueryForm q s → ⊥
-query_no_close s a t u rs e f found bad q h = bad (h.rest, query_left s a t u rs e f found q h)
-
-pub query_no_where : (s a t u w : List Symbol) (rs : List ARef) → s ≡ Word (codes "retrieve") ∷ a → a ≡ Sign sign.Open ∷ t → Several ReadsRef rs t u → u ≡ Sign sign.Close ∷ w → ((c : NamedCond) → WhereForm c w → ⊥) → (q : AQuery) → QueryForm q s → ⊥
-query_no_where s a t u w rs e f found c bad q h =
-    let l = query_left s a t u rs e f found q h in
-    let at : h.rest ≡ w = cc in
-    bad q.cond (subst (λ (x : List Symbol). WhereForm q.cond x) at h.wanted)

@@ -1,5 +1,6 @@
 pub mod AttributeSets
 pub mod CondShown
+pub mod Counted
 pub mod Exits
 pub mod Found
 pub mod Genuine
@@ -11,6 +12,7 @@ pub mod Listed
 pub mod Literals
 pub mod Placed
 pub mod Ranged
+pub mod Queries
 pub mod ReadBack
 pub mod Ready
 pub mod Round

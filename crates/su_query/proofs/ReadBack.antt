@@ -1,5 +1,5 @@
 -- A statement that was read is shown in a text that reads as it.
-use Rattle.std.proofs.Common.{◌≡◌, ℕ, false, List, [], ◌∷◌, ◌++◌, refl, ap, sym, ◌∙◌, subst, codes, append_assoc}
+use Rattle.std.proofs.Common.{◌≡◌, ℕ, false, List, [], ◌∷◌, ◌++◌, refl, ap, sym, ◌∙◌, subst, codes, append_assoc, append-nil}
 use Rattle.std.specs.Prelude.{if◌then◌else◌}
 use Rattle.std.specs.List.{flat_map}
 use Rattle.std.proofs.lemmas.List.Elements.{All-from_recursion, recursion_from_All}
@@ -18,11 +18,11 @@ use Rattle.su_lex.specs.Names.{Begins}
 use Rattle.su_query.specs.Lists.{More, Several}
 use Rattle.su_query.specs.Grammar.{ReadsName, ReadsValue, ReadsRef}
 use Rattle.su_query.specs.Forms as g
-use Rattle.su_query.specs.Forms.{RowForm, ConditionForm, FileForm, NamesForm, WhereForm, QueryForm, IsForm}
+use Rattle.su_query.specs.Forms.{RowForm, ConditionForm, FileForm, NamesForm, ReadsWhere, ReadsQuery, ReadsEnclosed, PairForm, IsForm}
 use Rattle.su_query.specs.Reading.{ReadsAgain}
 use Rattle.su_query.specs.Shown.{name_symbols, value_symbols, ref_symbols, listed, in_parens, cond_symbols, is_nothing, where_symbols, query_symbols, statement_symbols}
 use Rattle.su_query.proofs.CondShown.{nothing-All}
-use Rattle.su_query.proofs.Round.{good_cond, cond_shown, ref_shown}
+use Rattle.su_query.proofs.Round.{Ends, nothing_ends, close_ends, good_cond, cond_shown, ref_shown}
 use Rattle.su_query.proofs.Genuine.{AreSymbols, Both, both-append, parens_are, name_both, value_both, ref_both, cond_both}
 
 -- ---- lists with commas
@@ -118,22 +118,56 @@ where_nothing c e = ap where_symbols e ∙ ap (λ b. if b then [] else Word (cod
 where_some : (c : NamedCond) → is_nothing c ≡ false → where_symbols c ≡ Word (codes "where") ∷ cond_symbols c
 where_some c e = ap (λ b. if b then [] else Word (codes "where") ∷ cond_symbols c) e
 
-where_shown : (c : NamedCond) (s : List Symbol) → WhereForm c s → WhereForm c (where_symbols c)
-where_shown c s (g.nothing _ _ e k) = g.nothing c (where_symbols c) (where_nothing c k) k
-where_shown c s (g.condition _ _ t e h) = g.condition c (where_symbols c) (cond_symbols c) (where_some c (good_cond c t [] h).some) (cond_shown c t h)
+-- what may follow a query: neither `where`, nor what a condition goes on with
+record Follows (r : List Symbol) : Type 0 where
+  no_where : ¬ (Begins (Word (codes "where")) r)
+  ends : Ends r
 
-query_shown : (q : AQuery) (s : List Symbol) → QueryForm q s → QueryForm q (query_symbols q)
-query_shown q s h =
+nothing_follows : Follows []
+nothing_follows = record { no_where = λ h. let e = h.1 in cc; ends = nothing_ends }
+
+close_follows : (r : List Symbol) → Follows (Sign sign.Close ∷ r)
+close_follows r = record { no_where = λ h. let e = h.1 in cc; ends = close_ends r }
+
+where_shown : (c : NamedCond) (s r : List Symbol) → ReadsWhere c s r → (u : List Symbol) → Follows u → ReadsWhere c (where_symbols c ++ u) u
+where_shown c s r (g.nothing _ _ _ e k none) u follows = g.nothing c (where_symbols c ++ u) u (ap (λ x. x ++ u) (where_nothing c k)) k (subst (λ (x : List Symbol). ¬ (Begins (Word (codes "where")) (x ++ u))) (sym (where_nothing c k)) follows.no_where)
+where_shown c s r (g.condition _ _ t _ e h) u follows =
+    let good = good_cond c t r h in
+    g.condition c (where_symbols c ++ u) (cond_symbols c ++ u) u (ap (λ x. x ++ u) (where_some c good.some)) (good.bare u follows.ends)
+
+query_shown : (q : AQuery) (s r : List Symbol) → ReadsQuery q s r → (u : List Symbol) → Follows u → ReadsQuery q (query_symbols q ++ u) u
+query_shown q s r h u follows =
     let outputs = listed ref_symbols q.outputs in
-    let rest = where_symbols q.cond in
+    let rest = where_symbols q.cond ++ u in
+    let close = Sign sign.Close ∷ [] in
     record {
-      refs = (outputs ++ Sign sign.Close ∷ []) ++ rest;
+      refs = ((outputs ++ close) ++ where_symbols q.cond) ++ u;
       rest = rest;
       begins = refl;
-      reads = subst (λ (x : List Symbol). Several ReadsRef q.outputs x (Sign sign.Close ∷ rest)) (sym (append_assoc outputs (Sign sign.Close ∷ []) rest))
+      reads = subst (λ (x : List Symbol). Several ReadsRef q.outputs x (Sign sign.Close ∷ rest)) (sym (append_assoc (outputs ++ close) (where_symbols q.cond) u ∙ append_assoc outputs close rest))
           (several_shown ReadsRef ref_symbols shows_ref q.outputs h.refs (Sign sign.Close ∷ h.rest) h.reads (Sign sign.Close ∷ rest) (close_stops rest));
-      wanted = where_shown q.cond h.rest h.wanted;
+      wanted = where_shown q.cond h.rest r h.wanted u follows;
     }
+
+query_alone : (q : AQuery) (s : List Symbol) → ReadsQuery q s [] → ReadsQuery q (query_symbols q) []
+query_alone q s h = subst (λ (x : List Symbol). ReadsQuery q x []) (append-nil (query_symbols q)) (query_shown q s [] h [] nothing_follows)
+
+enclosed_shown : (q : AQuery) (s r : List Symbol) → ReadsEnclosed q s r → (u : List Symbol) → ReadsEnclosed q (in_parens (query_symbols q) ++ u) u
+enclosed_shown q s r h u =
+    let inside = query_symbols q in
+    record {
+      rest = (inside ++ Sign sign.Close ∷ []) ++ u;
+      begins = refl;
+      reads = subst (λ (x : List Symbol). ReadsQuery q x (Sign sign.Close ∷ u)) (sym (append_assoc inside (Sign sign.Close ∷ []) u))
+          (query_shown q h.rest (Sign sign.Close ∷ r) h.reads (Sign sign.Close ∷ u) (close_follows u));
+    }
+
+pair_shown : (first second : AQuery) (s : List Symbol) → PairForm first second s → PairForm first second (in_parens (query_symbols first) ++ Word (codes "with") ∷ in_parens (query_symbols second))
+pair_shown first second s h = record {
+  rest = in_parens (query_symbols second);
+  before = enclosed_shown first s (Word (codes "with") ∷ h.rest) h.before (Word (codes "with") ∷ in_parens (query_symbols second));
+  behind = subst (λ (x : List Symbol). ReadsEnclosed second x []) (append-nil (in_parens (query_symbols second))) (enclosed_shown second h.rest [] h.behind []);
+}
 
 form_shown : (st : Statement) (s : List Symbol) → IsForm st s → IsForm st (statement_symbols st)
 form_shown st s (g.insert _ relation row _ t e w h) = g.insert st relation row (statement_symbols st) (Word relation ∷ in_parens (listed value_symbols row)) e (ap statement_symbols e) (row_shown relation row t h)
@@ -144,9 +178,12 @@ form_shown st s (g.load _ relation file _ t e w h) = g.load st relation file (st
 form_shown st s (g.print _ relation _ e w named) = g.print st relation (statement_symbols st) e (ap statement_symbols e) named
 form_shown st s (g.schema _ _ e w) = g.schema st (statement_symbols st) e (ap statement_symbols e)
 form_shown st s (g.closure _ names _ t e w h) = g.closure st names (statement_symbols st) (in_parens (listed name_symbols names)) e (ap statement_symbols e) (names_shown names t h)
-form_shown st s (g.retrieve _ q _ e h) = g.retrieve st q (statement_symbols st) e (subst (λ (x : List Symbol). QueryForm q x) (sym (ap statement_symbols e)) (query_shown q s h))
-form_shown st s (g.explain _ q _ t e w h) = g.explain st q (statement_symbols st) (query_symbols q) e (ap statement_symbols e) (query_shown q t h)
-form_shown st s (g.certify _ q _ t e w h) = g.certify st q (statement_symbols st) (query_symbols q) e (ap statement_symbols e) (query_shown q t h)
+form_shown st s (g.retrieve _ q _ e h) = g.retrieve st q (statement_symbols st) e (subst (λ (x : List Symbol). QueryForm q x) (sym (ap statement_symbols e)) (query_alone q s h))
+form_shown st s (g.explain _ q _ t e w h) = g.explain st q (statement_symbols st) (query_symbols q) e (ap statement_symbols e) (query_alone q t h)
+form_shown st s (g.certify _ q _ t e w h) = g.certify st q (statement_symbols st) (query_symbols q) e (ap statement_symbols e) (query_alone q t h)
+form_shown st s (g.compare _ first second _ t e w h) =
+    g.compare st first second (statement_symbols st) (in_parens (query_symbols first) ++ Word (codes "with") ∷ in_parens (query_symbols second)) e (ap statement_symbols e) (pair_shown first second t h)
+form_shown st s (g.window _ names _ t e w h) = g.window st names (statement_symbols st) (in_parens (listed name_symbols names)) e (ap statement_symbols e) (names_shown names t h)
 
 -- ---- and a text can have them
 
@@ -163,15 +200,31 @@ names_kept names s h v =
     let w = subst AreSymbols h.begins v in
     parens_are (listed name_symbols names) (several_kept ReadsName name_symbols name_both names h.rest (Sign sign.Close ∷ []) h.reads w.1).shown
 
-where_kept : (c : NamedCond) (s : List Symbol) → WhereForm c s → AreSymbols s → AreSymbols (where_symbols c)
-where_kept c s (g.nothing _ _ e k) v = subst AreSymbols (sym (where_nothing c k)) tt
-where_kept c s (g.condition _ _ t e h) v = let w = subst AreSymbols e v in subst AreSymbols (sym (where_some c (good_cond c t [] h).some)) (w.0, (cond_both c t [] h w.1).shown)
+where_kept : (c : NamedCond) (s r : List Symbol) → ReadsWhere c s r → AreSymbols s → Both (where_symbols c) r
+where_kept c s r (g.nothing _ _ _ e k none) v = record { shown = subst AreSymbols (sym (where_nothing c k)) tt; left = subst AreSymbols e v }
+where_kept c s r (g.condition _ _ t _ e h) v =
+    let w = subst AreSymbols e v in
+    let p = cond_both c t r h w.1 in
+    record { shown = subst AreSymbols (sym (where_some c (good_cond c t r h).some)) (w.0, p.shown); left = p.left }
 
-query_kept : (q : AQuery) (s : List Symbol) → QueryForm q s → AreSymbols s → AreSymbols (query_symbols q)
-query_kept q s h v =
+query_kept : (q : AQuery) (s r : List Symbol) → ReadsQuery q s r → AreSymbols s → Both (query_symbols q) r
+query_kept q s r h v =
     let w = subst AreSymbols h.begins v in
     let p = several_kept ReadsRef ref_symbols ref_both q.outputs h.refs (Sign sign.Close ∷ h.rest) h.reads w.1.1 in
-    (w.0, both-append (in_parens (listed ref_symbols q.outputs)) (where_symbols q.cond) (parens_are (listed ref_symbols q.outputs) p.shown) (where_kept q.cond h.rest h.wanted p.left.1))
+    let b = where_kept q.cond h.rest r h.wanted p.left.1 in
+    record { shown = (w.0, both-append (in_parens (listed ref_symbols q.outputs)) (where_symbols q.cond) (parens_are (listed ref_symbols q.outputs) p.shown) b.shown); left = b.left }
+
+enclosed_kept : (q : AQuery) (s r : List Symbol) → ReadsEnclosed q s r → AreSymbols s → Both (in_parens (query_symbols q)) r
+enclosed_kept q s r h v =
+    let w = subst AreSymbols h.begins v in
+    let p = query_kept q h.rest (Sign sign.Close ∷ r) h.reads w.1 in
+    record { shown = parens_are (query_symbols q) p.shown; left = p.left.1 }
+
+pair_kept : (first second : AQuery) (s : List Symbol) → PairForm first second s → AreSymbols s → AreSymbols (in_parens (query_symbols first) ++ Word (codes "with") ∷ in_parens (query_symbols second))
+pair_kept first second s h v =
+    let p = enclosed_kept first s (Word (codes "with") ∷ h.rest) h.before v in
+    let q = enclosed_kept second h.rest [] h.behind p.left.1 in
+    both-append (in_parens (query_symbols first)) (Word (codes "with") ∷ in_parens (query_symbols second)) p.shown (p.left.0, q.shown)
 
 form_kept : (st : Statement) (s : List Symbol) → IsForm st s → AreSymbols s → AreSymbols (statement_symbols st)
 form_kept st s (g.insert _ relation row _ t e w h) v = let x = subst AreSymbols w v in subst AreSymbols (sym (ap statement_symbols e)) (x.0, row_kept relation row t h x.1)
@@ -181,9 +234,11 @@ form_kept st s (g.load _ relation file _ t e w h) v = let x = subst AreSymbols w
 form_kept st s (g.print _ relation _ e w named) v = subst AreSymbols (w ∙ sym (ap statement_symbols e)) v
 form_kept st s (g.schema _ _ e w) v = subst AreSymbols (w ∙ sym (ap statement_symbols e)) v
 form_kept st s (g.closure _ names _ t e w h) v = let x = subst AreSymbols w v in subst AreSymbols (sym (ap statement_symbols e)) (x.0, names_kept names t h x.1)
-form_kept st s (g.retrieve _ q _ e h) v = subst AreSymbols (sym (ap statement_symbols e)) (query_kept q s h v)
-form_kept st s (g.explain _ q _ t e w h) v = let x = subst AreSymbols w v in subst AreSymbols (sym (ap statement_symbols e)) (x.0, query_kept q t h x.1)
-form_kept st s (g.certify _ q _ t e w h) v = let x = subst AreSymbols w v in subst AreSymbols (sym (ap statement_symbols e)) (x.0, (x.1.0, query_kept q t h x.1.1))
+form_kept st s (g.retrieve _ q _ e h) v = subst AreSymbols (sym (ap statement_symbols e)) (query_kept q s [] h v).shown
+form_kept st s (g.explain _ q _ t e w h) v = let x = subst AreSymbols w v in subst AreSymbols (sym (ap statement_symbols e)) (x.0, (query_kept q t [] h x.1).shown)
+form_kept st s (g.certify _ q _ t e w h) v = let x = subst AreSymbols w v in subst AreSymbols (sym (ap statement_symbols e)) (x.0, (x.1.0, (query_kept q t [] h x.1.1).shown))
+form_kept st s (g.compare _ first second _ t e w h) v = let x = subst AreSymbols w v in subst AreSymbols (sym (ap statement_symbols e)) (x.0, pair_kept first second t h x.1)
+form_kept st s (g.window _ names _ t e w h) v = let x = subst AreSymbols w v in subst AreSymbols (sym (ap statement_symbols e)) (x.0, names_kept names t h x.1)
 
 pub reads_again : (st : Statement) → ReadsAgain st
 reads_again st text h shallow =

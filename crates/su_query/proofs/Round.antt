@@ -29,7 +29,7 @@ pub record Ends (r : List Symbol) : Type 0 where
 pub nothing_ends : Ends []
 nothing_ends = record { no_or = λ h. let e = h.1 in cc; no_and = λ h. let e = h.1 in cc; no_dot = λ h. let e = h.1 in cc }
 
-close_ends : (r : List Symbol) → Ends (Sign sign.Close ∷ r)
+pub close_ends : (r : List Symbol) → Ends (Sign sign.Close ∷ r)
 close_ends r = record { no_or = λ h. let e = h.1 in cc; no_and = λ h. let e = h.1 in cc; no_dot = λ h. let e = h.1 in cc }
 
 -- how a condition's symbols read, alone, as a part and behind `not`

@@ -6,21 +6,22 @@ use Rattle.su_lex.specs.declared.signs.Sign.TheVariants as sign
 use Rattle.su_lex.specs.declared.meaning.Symbol.{Symbol}
 use Rattle.su_lex.specs.declared.meaning.Symbol.TheVariants.{Word, Sign}
 use Rattle.su_query.specs.declared.conditions.NamedCond.{NamedCond}
-use Rattle.su_query.specs.declared.statements.Query.{Query as AQuery}
+use Rattle.su_query.specs.declared.statements.Query.{Query}
 use Rattle.su_query.specs.declared.statements.Statement.{Statement}
-use Rattle.su_query.specs.declared.statements.Statement.TheVariants.{Insert, Delete, DeleteWhere, Load, Print, Closure, Retrieve, Explain, Certify}
+use Rattle.su_query.specs.declared.statements.Statement.TheVariants.{Insert, Delete, DeleteWhere, Load, Print, Closure, Retrieve, Explain, Certify, Compare, Window}
 use Rattle.su_query.specs.Lists.{opens_second, Several}
-use Rattle.su_query.specs.Grammar.{ReadsName, ReadsValue, ReadsRef, ReadsCond}
+use Rattle.su_query.specs.Grammar.{ReadsName, ReadsValue, ReadsCond}
 use Rattle.su_query.specs.Forms as g
-use Rattle.su_query.specs.Forms.{RowForm, ConditionForm, FileForm, NamesForm, WhereForm, QueryForm, IsForm}
+use Rattle.su_query.specs.Forms.{RowForm, ConditionForm, FileForm, NamesForm, IsForm}
 use Rattle.su_query.specs.declared.faults.QueryFault.{QueryFault}
 use Rattle.su_query.specs.declared.faults.QueryFault.TheVariants.{Syntax, Limit, NoMemory, Unknown, Kinds, UnknownColumn}
 use Rattle.su_query.specs.declared.faults.QueryLimit.TheVariants.{Nesting, Variables, Outputs, Comparisons}
-use Rattle.su_query.specs.Reading.{IsStatement, IsRefusal, Passes, outputs_of, condition_of}
-use Rattle.su_query.proofs.Items.{name_unique, value_unique, ref_unique}
+use Rattle.su_query.specs.Reading.{IsStatement, IsRefusal, Passes, PartsPass, parts_of}
+use Rattle.su_query.proofs.Items.{name_unique, value_unique}
 use Rattle.su_query.proofs.Listed.{several_unique}
+use Rattle.su_query.proofs.Queries.{query_unique, pair_unique}
 use Rattle.su_query.proofs.Unique.{same_cond}
-use Rattle.su_query.proofs.Exits.{insert_inv, delete_inv, load_inv, print_inv, schema_inv, closure_inv, retrieve_inv, explain_inv, certify_inv, no_query_with, condition_not_row}
+use Rattle.su_query.proofs.Exits.{insert_inv, delete_inv, load_inv, print_inv, schema_inv, closure_inv, retrieve_inv, explain_inv, certify_inv, compare_inv, window_inv, no_query_with, condition_not_row}
 
 row_unique : (n m : List ℕ) (v w : List Value) (s : List Symbol) → RowForm n v s → RowForm m w s → (n ≡ m) × (v ≡ w)
 row_unique n m v w s h k =
@@ -53,26 +54,6 @@ names_unique ns ms s h k =
     let at : k.rest ≡ h.rest = cc in
     (several_unique ReadsName name_unique ns ms h.rest _ _ h.reads (subst (λ (x : List Symbol). Several ReadsName ms x (Sign sign.Close ∷ [])) at k.reads)).item
 
-where_unique : (c d : NamedCond) (s : List Symbol) → WhereForm c s → WhereForm d s → c ≡ d
-where_unique c d s (g.nothing _ _ e k) (g.nothing _ _ e' k') = k ∙ sym k'
-where_unique c d s (g.nothing _ _ e k) (g.condition _ _ t e' h') = absurd (cc)
-where_unique c d s (g.condition _ _ t e h) (g.nothing _ _ e' k') = absurd (cc)
-where_unique c d s (g.condition _ _ t e h) (g.condition _ _ t' e' h') =
-    let at : t' ≡ t = cc in
-    (same_cond c t [] h d [] (subst (λ (x : List Symbol). ReadsCond d x []) at h')).cond
-
-query_unique : (p q : AQuery) (s : List Symbol) → QueryForm p s → QueryForm q s → p ≡ q
-query_unique p q s h k =
-    let a = h.begins in
-    let b = k.begins in
-    let at : k.refs ≡ h.refs = cc in
-    let l = several_unique ReadsRef ref_unique p.outputs q.outputs h.refs (Sign sign.Close ∷ h.rest) (Sign sign.Close ∷ k.rest) h.reads
-    (subst (λ (x : List Symbol). Several ReadsRef q.outputs x (Sign sign.Close ∷ k.rest)) at k.reads) in
-    let r = l.rest in
-    let rest : k.rest ≡ h.rest = cc in
-    let w = where_unique p.cond q.cond h.rest h.wanted (subst (λ (x : List Symbol). WhereForm q.cond x) rest k.wanted) in
-    λ i. record { outputs = l.item i; cond = w i }
-
 pub form_unique : (st other : Statement) (s : List Symbol) → IsForm st s → IsForm other s → other ≡ st
 form_unique st other s (g.insert _ relation row _ t e w h) k =
     let i = insert_inv other s t w k in
@@ -101,28 +82,41 @@ form_unique st other s (g.closure _ names _ t e w h) k =
     i.1 ∙ ap Closure (sym (names_unique names i.0 t h i.2)) ∙ sym e
 form_unique st other s (g.retrieve _ q _ e h) k =
     let i = retrieve_inv other s (Sign sign.Open ∷ h.refs) h.begins k in
-    i.1 ∙ ap Retrieve (sym (query_unique q i.0 s h i.2)) ∙ sym e
+    i.1 ∙ ap Retrieve (sym (query_unique q i.0 s [] [] h i.2).item) ∙ sym e
 form_unique st other s (g.explain _ q _ t e w h) k =
     elim (explain_inv other s t w k) [
-      | inl i ↦ i.1 ∙ ap Explain (sym (query_unique q i.0 t h i.2)) ∙ sym e
+      | inl i ↦ i.1 ∙ ap Explain (sym (query_unique q i.0 t [] [] h i.2).item) ∙ sym e
       | inr i ↦ absurd (no_query_with q t i.1 i.3 h)
     ]
 form_unique st other s (g.certify _ q _ t e w h) k =
     let i = certify_inv other s t w k in
-    i.1 ∙ ap Certify (sym (query_unique q i.0 t h i.2)) ∙ sym e
+    i.1 ∙ ap Certify (sym (query_unique q i.0 t [] [] h i.2).item) ∙ sym e
+form_unique st other s (g.compare _ first second _ t e w h) k =
+    let i = compare_inv other s t w k in
+    let p = pair_unique first second i.0 i.1 t h i.3 in
+    i.2 ∙ ap (λ x. Compare x i.1) (sym p.0) ∙ ap (λ x. Compare first x) (sym p.1) ∙ sym e
+form_unique st other s (g.window _ names _ t e w h) k =
+    let i = window_inv other s t w k in
+    i.1 ∙ ap Window (sym (names_unique names i.0 t h i.2)) ∙ sym e
 
 pub statement_unique : (text : List ℕ) (st other : Statement) → IsStatement text st → IsStatement text other → other ≡ st
 statement_unique text st other h k =
     form_unique st other h.symbols h.form (subst (IsForm other) (one_list_of_symbols text k.symbols h.symbols k.spelled h.spelled).0 k.form)
 
+-- no limit has another cause
+parts_pass_none : (fault : QueryFault) → ((q : Query) → Passes q.outputs q.cond fault → ⊥) → (qs : List Query) → PartsPass qs fault → ⊥
+parts_pass_none fault bad [] p = p
+parts_pass_none fault bad (q ∷ qs) (inl p) = bad q p
+parts_pass_none fault bad (q ∷ qs) (inr (few, p)) = parts_pass_none fault bad qs p
+
 -- a limit that is passed refuses the text
-pub limit_refusal : (text : List ℕ) (st : Statement) (fault : QueryFault) → IsStatement text st → Passes (outputs_of st) (condition_of st) fault → IsRefusal text fault
-limit_refusal text st Syntax h p = absurd p
-limit_refusal text st (Limit Nesting) h p = absurd p
+pub limit_refusal : (text : List ℕ) (st : Statement) (fault : QueryFault) → IsStatement text st → PartsPass (parts_of st) fault → IsRefusal text fault
+limit_refusal text st Syntax h p = absurd (parts_pass_none Syntax (λ q passed. passed) (parts_of st) p)
+limit_refusal text st (Limit Nesting) h p = absurd (parts_pass_none (Limit Nesting) (λ q passed. passed) (parts_of st) p)
 limit_refusal text st (Limit Variables) h p = (st, h, p)
 limit_refusal text st (Limit Outputs) h p = (st, h, p)
 limit_refusal text st (Limit Comparisons) h p = (st, h, p)
 limit_refusal text st NoMemory h p = tt
-limit_refusal text st (Unknown name) h p = p
-limit_refusal text st (Kinds left right) h p = p
-limit_refusal text st (UnknownColumn name) h p = p
+limit_refusal text st (Unknown name) h p = parts_pass_none (Unknown name) (λ q passed. passed) (parts_of st) p
+limit_refusal text st (Kinds left right) h p = parts_pass_none (Kinds left right) (λ q passed. passed) (parts_of st) p
+limit_refusal text st (UnknownColumn name) h p = parts_pass_none (UnknownColumn name) (λ q passed. passed) (parts_of st) p

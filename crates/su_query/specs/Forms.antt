@@ -1,4 +1,4 @@
--- The forms of statements, over their symbols.
+-- The forms of statements, over their symbols. "From s to r": the symbols s are that, and then r.
 use Rattle.std.specs.Prelude.{◌≡◌, true, ℕ, codes, List, [], ◌∷◌}
 use Rattle.su_base.specs.declared.values.Value.{Value}
 use Rattle.su_base.specs.Name.{IsName}
@@ -9,7 +9,8 @@ use Rattle.su_query.specs.declared.conditions.NamedCond.{NamedCond}
 use Rattle.su_query.specs.declared.conditions.NamedCond.TheVariants.{All}
 use Rattle.su_query.specs.declared.statements.Query.{Query as AQuery}
 use Rattle.su_query.specs.declared.statements.Statement.{Statement}
-use Rattle.su_query.specs.declared.statements.Statement.TheVariants.{Insert, Delete, DeleteWhere, Load, Print, Schema, Closure, Retrieve, Explain, Certify}
+use Rattle.su_query.specs.declared.statements.Statement.TheVariants.{Insert, Delete, DeleteWhere, Load, Print, Schema, Closure, Retrieve, Explain, Certify, Compare, Window}
+use Rattle.su_lex.specs.Names.{Begins}
 use Rattle.su_query.specs.Lists.{Several}
 use Rattle.su_query.specs.Grammar.{ReadsName, ReadsValue, ReadsRef, ReadsCond}
 use Rattle.su_query.specs.Mentions.{are_columns}
@@ -40,18 +41,34 @@ pub record NamesForm (names : List (List ℕ)) (s : List Symbol) : Type 0 where
   pub begins : s ≡ Sign sign.Open ∷ rest
   pub reads : Several ReadsName names rest (Sign sign.Close ∷ [])
 
--- [ "where" cond ]
-pub data WhereForm : NamedCond → List Symbol → Type 0 where
-  nothing : (c : NamedCond) (s : List Symbol) → s ≡ [] → c ≡ All [] → WhereForm c s
-  condition : (c : NamedCond) (s t : List Symbol) → s ≡ Word (codes "where") ∷ t → ReadsCond c t [] → WhereForm c s
+-- [ "where" cond ], from s to r
+pub data ReadsWhere : NamedCond → List Symbol → List Symbol → Type 0 where
+  nothing : (c : NamedCond) (s r : List Symbol) → s ≡ r → c ≡ All [] → ¬ (Begins (Word (codes "where")) s) → ReadsWhere c s r
+  condition : (c : NamedCond) (s t r : List Symbol) → s ≡ Word (codes "where") ∷ t → ReadsCond c t r → ReadsWhere c s r
 
--- "retrieve" "(" ref { "," ref } ")" [ "where" cond ]
-pub record QueryForm (q : AQuery) (s : List Symbol) : Type 0 where
+-- "retrieve" "(" ref { "," ref } ")" [ "where" cond ], from s to r
+pub record ReadsQuery (q : AQuery) (s r : List Symbol) : Type 0 where
   pub refs : List Symbol
   pub rest : List Symbol
   pub begins : s ≡ Word (codes "retrieve") ∷ Sign sign.Open ∷ refs
   pub reads : Several ReadsRef q.outputs refs (Sign sign.Close ∷ rest)
-  pub wanted : WhereForm q.cond rest
+  pub wanted : ReadsWhere q.cond rest r
+
+-- a query alone
+abbrev pub QueryForm : AQuery → List Symbol → Type 0
+QueryForm q s = ReadsQuery q s []
+
+-- "(" query ")", from s to r
+pub record ReadsEnclosed (q : AQuery) (s r : List Symbol) : Type 0 where
+  pub rest : List Symbol
+  pub begins : s ≡ Sign sign.Open ∷ rest
+  pub reads : ReadsQuery q rest (Sign sign.Close ∷ r)
+
+-- "(" query ")" "with" "(" query ")"
+pub record PairForm (first second : AQuery) (s : List Symbol) : Type 0 where
+  pub rest : List Symbol
+  pub before : ReadsEnclosed first s (Word (codes "with") ∷ rest)
+  pub behind : ReadsEnclosed second rest []
 
 -- the symbols are this statement
 pub data IsForm : Statement → List Symbol → Type 0 where
@@ -65,3 +82,5 @@ pub data IsForm : Statement → List Symbol → Type 0 where
   retrieve : (st : Statement) (q : AQuery) (s : List Symbol) → st ≡ Retrieve q → QueryForm q s → IsForm st s
   explain : (st : Statement) (q : AQuery) (s t : List Symbol) → st ≡ Explain q → s ≡ Word (codes "explain") ∷ t → QueryForm q t → IsForm st s
   certify : (st : Statement) (q : AQuery) (s t : List Symbol) → st ≡ Certify q → s ≡ Word (codes "explain") ∷ Word (codes "with") ∷ t → QueryForm q t → IsForm st s
+  compare : (st : Statement) (first second : AQuery) (s t : List Symbol) → st ≡ Compare first second → s ≡ Word (codes "compare") ∷ t → PairForm first second t → IsForm st s
+  window : (st : Statement) (names : List (List ℕ)) (s t : List Symbol) → st ≡ Window names → s ≡ Word (codes "window") ∷ t → NamesForm names t → IsForm st s

@@ -14,7 +14,7 @@ use Rattle.su_query.specs.declared.conditions.NamedCond.TheOpen.{NamedCond-F, Co
 use Rattle.su_query.specs.declared.conditions.NamedCond.TheFolds.{fold-NamedCond}
 use Rattle.su_query.specs.declared.statements.Query.{Query}
 use Rattle.su_query.specs.declared.statements.Statement.{Statement}
-use Rattle.su_query.specs.declared.statements.Statement.TheVariants.{Insert, Delete, DeleteWhere, Load, Print, Schema, Closure, Retrieve, Explain, Certify}
+use Rattle.su_query.specs.declared.statements.Statement.TheVariants.{Insert, Delete, DeleteWhere, Load, Print, Schema, Closure, Retrieve, Explain, Certify, Compare as Comparing, Window}
 use Rattle.su_query.specs.Grammar.{value_sym, op_sym, qualified}
 
 abbrev pub name_symbols : List ℕ → List Symbol
@@ -96,6 +96,8 @@ statement_symbols (Closure attributes) = Word (codes "closure") ∷ in_parens (l
 statement_symbols (Retrieve q) = query_symbols q
 statement_symbols (Explain q) = Word (codes "explain") ∷ query_symbols q
 statement_symbols (Certify q) = Word (codes "explain") ∷ Word (codes "with") ∷ query_symbols q
+statement_symbols (Comparing first second) = Word (codes "compare") ∷ (in_parens (query_symbols first) ++ Word (codes "with") ∷ in_parens (query_symbols second))
+statement_symbols (Window attributes) = Word (codes "window") ∷ in_parens (listed name_symbols attributes)
 
 abbrev pub query_text : Query → List ℕ
 query_text q = spaced (query_symbols q)

@@ -1,15 +1,16 @@
 //! The forms of statements. Each reads to the end of the symbols.
 ghost use Rattle.std.specs.Prelude.{◌≡◌, ℕ, ◌∷◌, codes, IfOk, IsErrOf, List as Items};
 ghost use Rattle.su_base.specs.declared.values.Value.{Value as AValue};
+ghost use Rattle.su_lex.specs.declared.meaning.Symbol.{Symbol as ASymbol};
 ghost use Rattle.su_query.specs.Lists.{opens_second};
-ghost use Rattle.su_query.specs.Forms.{RowForm, ConditionForm, FileForm, NamesForm, WhereForm, QueryForm, IsForm};
+ghost use Rattle.su_query.specs.Forms.{RowForm, ConditionForm, FileForm, NamesForm, ReadsWhere, ReadsQuery, ReadsEnclosed, PairForm, QueryForm, IsForm};
 ghost use Rattle.su_query.specs.declared.conditions.NamedCond.{NamedCond as ACond};
 ghost use Rattle.su_query.specs.declared.statements.Query.{Query as AQuery};
 ghost use Rattle.su_query.specs.declared.statements.Statement.{Statement as AStatement};
 
 use crate::conditions::NamedCond;
 use crate::conds::cond;
-use crate::lists::{expect_end, is_at_end, references, text, values};
+use crate::lists::{expect_end, references, text, values};
 use crate::mentions::are_columns;
 use crate::statements::{Query, Statement};
 use su_base::{List, Row, Str};
@@ -68,30 +69,60 @@ fn names_form(reader: &mut Reader) -> Result<List<Str>, LexEnd>
 }
 
 /// [ "where" cond ]
-fn where_form(reader: &mut Reader) -> Result<NamedCond, LexEnd>
-    ensures found { IfOk result (λ cond. WhereForm cond reader.old.rest.now) }
-    ensures syntax { IsErrOf result LexEnd.Syntax → (cond : ACond) → WhereForm cond reader.old.rest.now → ⊥ }
+fn wanted(reader: &mut Reader) -> Result<NamedCond, LexEnd>
+    ensures found { IfOk result (λ cond. ReadsWhere cond reader.old.rest.now reader.new.rest.now) }
+    ensures syntax { IsErrOf result LexEnd.Syntax → (cond : ACond) (r : Items ASymbol) → ReadsWhere cond reader.old.rest.now r → ⊥ }
 {
-    if is_at_end(reader) {
+    if !reader.takes_word("where") {
         return Ok(NamedCond::All(List::new(reader.alloc)));
     }
-    reader.expect_word("where")?;
-    let cond = cond(reader)?;
-    expect_end(reader)?;
-    Ok(cond)
+    cond(reader)
 }
 
 /// "retrieve" "(" refs ")" [ "where" cond ]
-fn query_form(reader: &mut Reader) -> Result<Query, LexEnd>
-    ensures found { IfOk result (λ q. QueryForm q reader.old.rest.now) }
-    ensures syntax { IsErrOf result LexEnd.Syntax → (q : AQuery) → QueryForm q reader.old.rest.now → ⊥ }
+fn query(reader: &mut Reader) -> Result<Query, LexEnd>
+    ensures found { IfOk result (λ q. ReadsQuery q reader.old.rest.now reader.new.rest.now) }
+    ensures syntax { IsErrOf result LexEnd.Syntax → (q : AQuery) (r : Items ASymbol) → ReadsQuery q reader.old.rest.now r → ⊥ }
 {
     reader.expect_word("retrieve")?;
     reader.expect_sign(Sign::Open)?;
     let outputs = references(reader)?;
     reader.expect_sign(Sign::Close)?;
-    let cond = where_form(reader)?;
+    let cond = wanted(reader)?;
     Ok(Query { outputs, cond })
+}
+
+/// A query alone
+fn query_form(reader: &mut Reader) -> Result<Query, LexEnd>
+    ensures found { IfOk result (λ q. QueryForm q reader.old.rest.now) }
+    ensures syntax { IsErrOf result LexEnd.Syntax → (q : AQuery) → QueryForm q reader.old.rest.now → ⊥ }
+{
+    let query = query(reader)?;
+    expect_end(reader)?;
+    Ok(query)
+}
+
+/// "(" query ")"
+fn enclosed(reader: &mut Reader) -> Result<Query, LexEnd>
+    ensures found { IfOk result (λ q. ReadsEnclosed q reader.old.rest.now reader.new.rest.now) }
+    ensures syntax { IsErrOf result LexEnd.Syntax → (q : AQuery) (r : Items ASymbol) → ReadsEnclosed q reader.old.rest.now r → ⊥ }
+{
+    reader.expect_sign(Sign::Open)?;
+    let query = query(reader)?;
+    reader.expect_sign(Sign::Close)?;
+    Ok(query)
+}
+
+/// "(" query ")" "with" "(" query ")"
+fn pair_form(reader: &mut Reader) -> Result<(Query, Query), LexEnd>
+    ensures found { IfOk result (λ p. PairForm p.0 p.1 reader.old.rest.now) }
+    ensures syntax { IsErrOf result LexEnd.Syntax → (first second : AQuery) → PairForm first second reader.old.rest.now → ⊥ }
+{
+    let first = enclosed(reader)?;
+    reader.expect_word("with")?;
+    let second = enclosed(reader)?;
+    expect_end(reader)?;
+    Ok((first, second))
 }
 
 fn opens_second(reader: &Reader) -> bool
@@ -175,6 +206,22 @@ fn explain(reader: &mut Reader) -> Result<Statement, LexEnd>
     Ok(Statement::Explain(query))
 }
 
+fn compare(reader: &mut Reader) -> Result<Statement, LexEnd>
+    ensures found { IfOk result (λ st. IsForm st (Symbol.Word (codes "compare") ∷ reader.old.rest.now)) }
+    ensures syntax { IsErrOf result LexEnd.Syntax → (st : AStatement) → IsForm st (Symbol.Word (codes "compare") ∷ reader.old.rest.now) → ⊥ }
+{
+    let (first, second) = pair_form(reader)?;
+    Ok(Statement::Compare { first, second })
+}
+
+fn window(reader: &mut Reader) -> Result<Statement, LexEnd>
+    ensures found { IfOk result (λ st. IsForm st (Symbol.Word (codes "window") ∷ reader.old.rest.now)) }
+    ensures syntax { IsErrOf result LexEnd.Syntax → (st : AStatement) → IsForm st (Symbol.Word (codes "window") ∷ reader.old.rest.now) → ⊥ }
+{
+    let attributes = names_form(reader)?;
+    Ok(Statement::Window { attributes })
+}
+
 /// The statement that the symbols are.
 pub(crate) fn statement(reader: &mut Reader) -> Result<Statement, LexEnd>
     ensures found { IfOk result (λ st. IsForm st reader.old.rest.now) }
@@ -200,6 +247,12 @@ pub(crate) fn statement(reader: &mut Reader) -> Result<Statement, LexEnd>
     }
     if reader.takes_word("explain") {
         return explain(reader);
+    }
+    if reader.takes_word("compare") {
+        return compare(reader);
+    }
+    if reader.takes_word("window") {
+        return window(reader);
     }
     let query = query_form(reader)?;
     Ok(Statement::Retrieve(query))

@@ -41,4 +41,6 @@ pub use showing::{push_row, show, show_query};
 pub use statements::{Query, Statement};
 
 #[cfg(test)]
+mod pair_tests;
+#[cfg(test)]
 mod tests;

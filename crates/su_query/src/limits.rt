@@ -1,14 +1,15 @@
 //! The limits of a statement: 8 variables, 128 outputs, 256 comparisons, tried in this order.
-ghost use Rattle.std.specs.Prelude.{◌≡◌, ◌<◌, ◌≤◌, true, false, OnOk, IfOk, IfErr};
-ghost use Rattle.su_query.specs.Reading.{AreFew, Passes, variable_count, outputs_of, condition_of};
+ghost use Rattle.std.specs.Prelude.{◌≡◌, ◌<◌, ◌≤◌, true, false, [], map, OnOk, IfOk, IfErr};
+ghost use Rattle.su_query.specs.declared.conditions.NamedCond.TheVariants.{All};
+ghost use Rattle.su_query.specs.Reading.{AreFew, HasFew, Passes, PartsPass, plain_ref, variable_count, parts_of};
 
 use crate::conditions::NamedCond;
 use crate::faults::{QueryFault, QueryLimit};
 use crate::mentions::{comparison_count, note_cond, note_refs};
 use crate::refs::Ref;
-use crate::statements::Statement;
+use crate::statements::{Query, Statement};
 use std::alloc::Global;
-use su_base::{List, NoMemory};
+use su_base::{List, NoMemory, Str};
 
 fn has_few_variables(alloc: Global, outputs: &[Ref], cond: &NamedCond) -> Result<bool, NoMemory>
     ensures few { IfOk result (λ few. few ≡ true → variable_count outputs.now cond.now ≤ 8) }
@@ -37,16 +38,39 @@ fn check(alloc: Global, outputs: &[Ref], cond: &NamedCond) -> Result<(), QueryFa
     Ok(())
 }
 
-/// Whether the statement keeps the limits, and if not, the first that it passes.
+fn check_query(alloc: Global, query: &Query) -> Result<(), QueryFault>
+    ensures few { OnOk result (AreFew query.now.outputs query.now.cond) }
+    ensures passed { IfErr result (Passes query.now.outputs query.now.cond) }
+{
+    check(alloc, query.outputs.as_slice(), &query.cond)
+}
+
+/// A window's names have no variables, and nothing is compared.
+fn check_names(names: &[Str]) -> Result<(), QueryFault>
+    ensures few { OnOk result (AreFew (map plain_ref names.now) (All [])) }
+    ensures passed { IfErr result (Passes (map plain_ref names.now) (All [])) }
+{
+    if names.len() > 128 {
+        return Err(QueryFault::Limit(QueryLimit::Outputs));
+    }
+    Ok(())
+}
+
+/// Whether each part of the statement keeps the limits, and if not, the first that the first such part passes.
 pub(crate) fn check_limits(alloc: Global, statement: &Statement) -> Result<(), QueryFault>
-    ensures few { OnOk result (AreFew (outputs_of statement.now) (condition_of statement.now)) }
-    ensures passed { IfErr result (Passes (outputs_of statement.now) (condition_of statement.now)) }
+    ensures few { OnOk result (HasFew statement.now) }
+    ensures passed { IfErr result (PartsPass (parts_of statement.now)) }
 {
     match statement {
-        Statement::Retrieve(query) => check(alloc, query.outputs.as_slice(), &query.cond),
-        Statement::Explain(query) => check(alloc, query.outputs.as_slice(), &query.cond),
-        Statement::Certify(query) => check(alloc, query.outputs.as_slice(), &query.cond),
+        Statement::Retrieve(query) => check_query(alloc, query),
+        Statement::Explain(query) => check_query(alloc, query),
+        Statement::Certify(query) => check_query(alloc, query),
         Statement::DeleteWhere { relation: _, cond } => check(alloc, &[], cond),
-        _ => check(alloc, &[], &NamedCond::All(List::new(alloc))),
+        Statement::Compare { first, second } => {
+            check_query(alloc, first)?;
+            check_query(alloc, second)
+        }
+        Statement::Window { attributes } => check_names(attributes.as_slice()),
+        _ => Ok(()),
     }
 }

@@ -1,5 +1,5 @@
 //! Values, texts and refs, lists of them, and the end of a statement.
-ghost use Rattle.std.specs.Prelude.{◌≡◌, ℕ, ◌∷◌, [], false, IfOk, OnOk, IsTrue, IsErrOf, List as Items};
+ghost use Rattle.std.specs.Prelude.{◌≡◌, ℕ, ◌∷◌, [], IfOk, OnOk, IsErrOf, List as Items};
 ghost use Rattle.su_base.specs.declared.values.Value.{Value as AValue};
 ghost use Rattle.su_query.specs.Lists.{Several};
 ghost use Rattle.su_query.specs.Grammar.{ReadsValue, ReadsRef};
@@ -9,16 +9,6 @@ ghost use Rattle.su_query.specs.declared.refs.Ref.{Ref as ARef};
 use crate::refs::Ref;
 use su_base::{List, Str, Value};
 use su_lex::{LexEnd, Reader, Sign, Symbol};
-
-pub(crate) fn is_at_end(reader: &Reader) -> bool
-    ensures yes { IsTrue result → reader.now.rest.now ≡ [] }
-    ensures no { result ≡ false → ¬ (reader.now.rest.now ≡ []) }
-{
-    match reader.rest {
-        [] => true,
-        [_, ..] => false,
-    }
-}
 
 /// Nothing is left.
 pub(crate) fn expect_end(reader: &Reader) -> Result<(), LexEnd>

@@ -1,6 +1,6 @@
 //! One statement from its text.
 ghost use Rattle.std.specs.Prelude.{◌≡◌, IfOk, IfErr};
-ghost use Rattle.su_query.specs.Reading.{IsStatement, AreFew, IsReady, IsRefusal, outputs_of, condition_of};
+ghost use Rattle.su_query.specs.Reading.{IsStatement, HasFew, IsReady, IsRefusal};
 ghost use Rattle.su_query.specs.declared.statements.Statement.{Statement as AStatement};
 
 use crate::faults::{QueryFault, QueryLimit};
@@ -37,11 +37,13 @@ fn read_form(alloc: Global, text: &[u8]) -> Result<Statement, QueryFault>
 /// The statement that the text is. Linear in the length of the text.
 ///
 /// The causes of a refusal are tried in this order: no tokens, over 64 more `(` than `)` in some front
-/// of the statement, no form, more than 8 variables, 128 outputs, 256 comparisons. `Unknown`, `UnknownColumn` and `Kinds`
-/// never come here: names are looked up by the `resolve` calls.
+/// of the statement, no form, more than 8 variables, 128 outputs, 256 comparisons. The last three are
+/// those of one query: where two are compared, all of the first come before those of the second. The
+/// names of a window count as outputs. `Unknown`, `UnknownColumn` and `Kinds` never come here: names
+/// are looked up by the `resolve` calls.
 pub fn read(alloc: Global, text: &[u8]) -> Result<Statement, QueryFault>
     ensures found { IfOk result (IsStatement text.now) }
-    ensures few { IfOk result (λ st. AreFew (outputs_of st) (condition_of st)) }
+    ensures few { IfOk result HasFew }
     ensures ready { IfOk result IsReady }
     ensures only { IfOk result (λ st. (other : AStatement) → IsStatement text.now other → other ≡ st) }
     ensures refused { IfErr result (IsRefusal text.now) }

@@ -2,7 +2,7 @@
 ghost use Rattle.std.specs.Prelude.{◌≡◌, [], ◌∷◌, ◌++◌, map, IfOk, OnOk};
 ghost use Rattle.su_lex.specs.Symbols.{spaced};
 ghost use Rattle.su_query.specs.Reading.{ReadsAgain};
-ghost use Rattle.su_query.specs.Shown.{cond_symbols, in_parens, is_nothing, joined, listed, query_symbols, query_text, shown_cond, statement_symbols, statement_text, value_symbols, where_symbols};
+ghost use Rattle.su_query.specs.Shown.{cond_symbols, in_parens, is_nothing, joined, listed, name_symbols, query_symbols, query_text, shown_cond, statement_symbols, statement_text, value_symbols, where_symbols};
 
 use crate::conditions::NamedCond;
 use crate::pushing::{
@@ -152,13 +152,41 @@ fn push_load(
     Ok(())
 }
 
-fn push_closure(alloc: Global, out: &mut List<Symbol>, names: &[Str]) -> Result<(), NoMemory>
-    ensures { OnOk result (out.new ≡ out.old ++ statement_symbols (Statement.Closure names.now)) }
+/// A word, and names in parentheses.
+fn push_named(
+    alloc: Global,
+    out: &mut List<Symbol>,
+    word: &str,
+    names: &[Str],
+) -> Result<(), NoMemory>
+    ensures { OnOk result (out.new ≡ out.old ++ Symbol.Word word.now ∷ in_parens (listed name_symbols names.now)) }
 {
-    push_word(alloc, out, "closure")?;
+    push_word(alloc, out, word)?;
     push_sign(out, Sign::Open)?;
     push_names(alloc, out, names)?;
     push_sign(out, Sign::Close)
+}
+
+fn push_enclosed(alloc: Global, out: &mut List<Symbol>, query: &Query) -> Result<(), NoMemory>
+    ensures { OnOk result (out.new ≡ out.old ++ in_parens (query_symbols query.now)) }
+{
+    push_sign(out, Sign::Open)?;
+    push_query(alloc, out, query)?;
+    push_sign(out, Sign::Close)
+}
+
+fn push_compare(
+    alloc: Global,
+    out: &mut List<Symbol>,
+    first: &Query,
+    second: &Query,
+) -> Result<(), NoMemory>
+    ensures { OnOk result (out.new ≡ out.old ++ statement_symbols (Statement.Compare first.now second.now)) }
+{
+    push_word(alloc, out, "compare")?;
+    push_enclosed(alloc, out, first)?;
+    push_word(alloc, out, "with")?;
+    push_enclosed(alloc, out, second)
 }
 
 fn push_statement(
@@ -181,7 +209,9 @@ fn push_statement(
         Statement::Load { relation, file } => push_load(alloc, out, relation, file),
         Statement::Print { relation } => push_head(alloc, out, "print", relation),
         Statement::Schema => push_word(alloc, out, "schema"),
-        Statement::Closure { attributes } => push_closure(alloc, out, attributes.as_slice()),
+        Statement::Closure { attributes } => {
+            push_named(alloc, out, "closure", attributes.as_slice())
+        }
         Statement::Retrieve(query) => push_query(alloc, out, query),
         Statement::Explain(query) => {
             push_word(alloc, out, "explain")?;
@@ -192,6 +222,8 @@ fn push_statement(
             push_word(alloc, out, "with")?;
             push_query(alloc, out, query)
         }
+        Statement::Compare { first, second } => push_compare(alloc, out, first, second),
+        Statement::Window { attributes } => push_named(alloc, out, "window", attributes.as_slice()),
     }
 }
 
