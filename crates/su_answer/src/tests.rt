@@ -1,6 +1,6 @@
 ghost use Rattle.std.specs.Prelude.{◌≤◌, IfOk};
 ghost use Rattle.su_query.specs.Ranges.{IsResolved};
-ghost use Rattle.su_query.specs.Reading.{AreFew, outputs_of, condition_of};
+ghost use Rattle.su_query.specs.Reading.{HasFew};
 ghost use Rattle.su_answer.specs.Prepared.{IsPreparedFor};
 
 use crate::{Prepared, answer, prepare};
@@ -153,7 +153,7 @@ fn prepared_for<R: Threads + Sync, G: Gate>(
 }
 
 fn resolved_of(alloc: Global, db: &Database, statement: &Statement) -> Result<Resolved, Fail>
-    requires { AreFew (outputs_of statement.now) (condition_of statement.now) }
+    requires { HasFew statement.now }
     ensures { IfOk result (IsResolved db.now.schema) }
 {
     match statement {

@@ -31,7 +31,7 @@ apart v w s t u e e' d =
     let k : first_byte v ≡ first_byte w = ap first_byte h in
     absurd (grind (arith, nat_tests, k, d))
 
-second_byte : List ℕ → ℕ
+abbrev second_byte : List ℕ → ℕ
 second_byte [] = 0
 second_byte (b ∷ bs) = first_byte bs
 

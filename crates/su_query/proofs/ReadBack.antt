@@ -18,7 +18,7 @@ use Rattle.su_lex.specs.Names.{Begins}
 use Rattle.su_query.specs.Lists.{More, Several}
 use Rattle.su_query.specs.Grammar.{ReadsName, ReadsValue, ReadsRef}
 use Rattle.su_query.specs.Forms as g
-use Rattle.su_query.specs.Forms.{RowForm, ConditionForm, FileForm, NamesForm, ReadsWhere, ReadsQuery, ReadsEnclosed, PairForm, IsForm}
+use Rattle.su_query.specs.Forms.{RowForm, ConditionForm, FileForm, NamesForm, ReadsWhere, ReadsQuery, ReadsEnclosed, PairForm, QueryForm, IsForm}
 use Rattle.su_query.specs.Reading.{ReadsAgain}
 use Rattle.su_query.specs.Shown.{name_symbols, value_symbols, ref_symbols, listed, in_parens, cond_symbols, is_nothing, where_symbols, query_symbols, statement_symbols}
 use Rattle.su_query.proofs.CondShown.{nothing-All}

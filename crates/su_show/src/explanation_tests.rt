@@ -1,7 +1,7 @@
 //! Explanations of queries, whole.
 ghost use Rattle.std.specs.Prelude.{◌≤◌, length};
 ghost use Rattle.su_query.specs.Ranges.{IsResolved};
-ghost use Rattle.su_query.specs.Reading.{AreFew, outputs_of, condition_of};
+ghost use Rattle.su_query.specs.Reading.{AreFew};
 
 use crate::examples::{BANK, COURSES, objects, schema_of};
 use crate::{explanation, header};

@@ -2,7 +2,7 @@
 ghost use Rattle.std.specs.Prelude.{◌≡◌, ◌≤◌, if◌then◌else◌, nat_lt, length, IfOk, IfErr, OnOk};
 ghost use Rattle.su_maxobj.specs.MaximalObjects.{AreMaximalObjects};
 ghost use Rattle.su_query.specs.Lookup.{resolved_of};
-ghost use Rattle.su_query.specs.Reading.{AreFew, outputs_of, condition_of};
+ghost use Rattle.su_query.specs.Reading.{AreFew, HasFew};
 ghost use Rattle.su_sql.specs.Changes.{comment_text, create_text};
 ghost use Rattle.su_sql.specs.Statements.{RefusesWith, WritesQuery, accepted_text, WritesReply, WritesLoad, WritesStatement, WritesDefinition, Writes};
 ghost use Rattle.su_show.specs.Refusing.{refusal_line, IsNoMemory};
@@ -201,7 +201,7 @@ fn written<R: Threads + Sync, G: Gate>(
     statement: &Statement,
     gate: &G,
 ) -> Result<Reply, NoMemory>
-    requires few { AreFew (outputs_of statement.now) (condition_of statement.now) }
+    requires few { HasFew statement.now }
     ensures { IfOk result (λ reply. WritesStatement dialect session.old text.now statement.now reply session.new) }
 {
     match statement {

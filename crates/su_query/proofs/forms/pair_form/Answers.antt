@@ -1,6 +1,7 @@
-use Rattle.std.proofs.Common.{◌≡◌, ap, Err}
+use Rattle.std.proofs.Common.{◌≡◌, ◌∷◌, codes, ap, Err}
 use Rattle.std.proofs.lemmas.Result.{err_from_is_err_and}
 use Rattle.su_lex.specs.declared.ends.LexEnd.TheVariants.{Syntax}
+use Rattle.su_lex.specs.declared.meaning.Symbol.TheVariants.{Word}
 use Rattle.su_query.proofs.Queries.{pair_no_with, pair_no_second, pair_no_end}
 use Rattle.su_query.proofs.forms.pair_form.Goals as goal
 
@@ -27,3 +28,11 @@ returns-in_err-expect_end-clause-syntax c =
     let h : c.in_err-expect_end.field-0.0 ≡ Syntax = cc in
     let bad = c.in_err-expect_end.ensures.syntax (ap Err h) in
     pair_no_end c.in_ok-first.first c.in_ok-second.second c.args.reader.now.rest.now c.enclosed.new.reader.rest.now c.expect_word.new.self.rest.now c.enclosed-2.new.reader.rest.now c.in_ok-first.ensures.found c.in_ok-expect_word.ensures.found c.in_ok-second.ensures.found bad first second f)
+
+pub returns-in_err-first-clause-syntax : goal.returns-in_err-first-clause-syntax
+returns-in_err-first-clause-syntax c =
+    let p = err_from_is_err_and c.from_residual.result c.from_residual.ensures.1 in
+    rw (p.1, p.2) (λ s first second f.
+    let h : c.in_err-first.field-0.0 ≡ Syntax = cc in
+    let bad = c.in_err-first.ensures.syntax (ap Err h) in
+    bad first (Word (codes "with") ∷ f.rest) f.before)
