@@ -1,5 +1,5 @@
 -- Names have at most one variable, the blank one, and compare nothing.
-use Rattle.std.proofs.Common.{◌≡◌, ◌≤◌, ℕ, None, List, [], ◌∷◌, map, length, refl, ap, ◌∙◌, subst, sym, arith}
+use Rattle.std.proofs.Common.{◌≡◌, ◌≤◌, ℕ, None, List, [], ◌∷◌, map, length, refl, ap, arith}
 use Rattle.su_query.specs.declared.conditions.NamedCond.TheVariants.{All}
 use Rattle.su_query.specs.Mentions.{mentions, comparisons_of}
 use Rattle.su_query.specs.Reading.{plain_ref, variable_count}

@@ -4,7 +4,6 @@ use Rattle.su_query.specs.declared.conditions.NamedCond.TheVariants.{All}
 use Rattle.su_query.specs.Grammar.{ReadsCond}
 use Rattle.su_query.specs.Forms as g
 use Rattle.su_query.specs.Forms.{ReadsWhere}
-use Rattle.su_query.proofs.Queries.{where_no_cond}
 use Rattle.su_query.proofs.forms.wanted.Goals as goal
 
 pub returns-then-not-takes_word-clause-found : goal.returns-then-not-takes_word-clause-found
