@@ -1,5 +1,5 @@
 -- Merging for a dependency: each row with its first at the right side; and for all dependencies, one after the other.
-use Rattle.std.proofs.Common.{◌≡◌, ◌≢◌, ◌↔◌, ℕ, ◌+◌, ◌<◌, ◌≤◌, ⊎_elim, Bool, true, false, ◌||◌, List, [], length, get_or, Contains, refl, sym, ap, ◌∙◌, subst, arith}
+use Rattle.std.proofs.Common.{◌≡◌, ℕ, ◌+◌, ◌<◌, ◌≤◌, ⊎_elim, Bool, true, false, ◌||◌, List, [], length, get_or, Contains, refl, sym, ap, ◌∙◌, subst, arith}
 use Rattle.std.specs.Prelude.{All}
 use borrow.Author.Count.{below_more}
 use Rattle.std.specs.FinSet.{contains, empty}
@@ -11,8 +11,8 @@ use Rattle.su_tableau.specs.declared.symbols.Sym.{Sym}
 use Rattle.su_tableau.specs.declared.symbols.Sym.TheVariants.{Var}
 use Rattle.su_classes.specs.declared.items.Placed.{Placed}
 use Rattle.su_classes.specs.declared.items.Together.{Together}
-use Rattle.su_classes.specs.Items.{cell, LiesIn, SameAt, Keeps, IsKept, IsPlacedBelow}
-use Rattle.su_classes.specs.Tables.{rep, IsForest, IsTable, IsSound, class_count, IsJoining, IsShortened, IsMerging, IsProgress, IsLeast}
+use Rattle.su_classes.specs.Items.{cell, LiesIn, SameAt, Keeps, IsPlacedBelow}
+use Rattle.su_classes.specs.Tables.{rep, IsForest, IsTable, IsSound, IsJoining, IsShortened, IsMerging, IsProgress}
 use Rattle.su_classes.specs.Firsts.{row_at, first_at, AreMembersBelow, AreFirsts}
 use Rattle.su_classes.proofs.Listed.{right_low}
 use Rattle.su_base.proofs.Subsets.{subset_at}

@@ -6,3 +6,5 @@ pub mod Binding
 pub mod Comparing
 pub mod Places
 pub mod Named
+pub mod Rings
+pub mod Rushed

@@ -1,12 +1,11 @@
 -- One merge after another: what is joined, and how much progress it is.
-use Rattle.std.proofs.Common.{◌≡◌, ◌≢◌, ◌↔◌, ℕ, suc, ◌+◌, ◌<◌, ◌≤◌, inl, inr, ⊎_elim, Bool, true, false, ◌||◌, List, length, get_or, set, refl, sym, ap, ◌∙◌, subst, arith}
+use Rattle.std.proofs.Common.{◌≡◌, ◌↔◌, ℕ, ◌+◌, ◌<◌, ◌≤◌, inl, inr, ⊎_elim, Bool, true, false, ◌||◌, List, length, get_or, set, refl, sym, ap, ◌∙◌, subst, arith}
 use Rattle.std.specs.Prelude.{All}
 use Rattle.std.proofs.lemmas.Bool.{cases_lt, true≢false}
 use Rattle.std.proofs.lemmas.List.{get_or_default}
 use Rattle.su_tableau.specs.declared.symbols.Sym.{Sym}
 use Rattle.su_tableau.specs.declared.symbols.Sym.TheVariants.{Var}
-use Rattle.su_classes.specs.declared.items.Together.{Together}
-use Rattle.su_classes.specs.Tables.{rep, IsForest, IsTable, IsSound, class_count, IsJoining, IsShortened, IsMerging, IsProgress}
+use Rattle.su_classes.specs.Tables.{rep, IsForest, IsTable, IsSound, class_count, IsJoining, IsShortened, IsProgress}
 use Rattle.su_classes.proofs.Trees.{shortened_count, link_joining, link_fewer}
 
 -- ---- joining

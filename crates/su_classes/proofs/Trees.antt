@@ -1,11 +1,11 @@
 -- Trees in a table: shorter paths leave the classes as they are, and a link of two roots joins two classes.
-use Rattle.std.proofs.Common.{◌≡◌, ◌≢◌, ◌↔◌, ℕ, zero, suc, ◌+◌, ◌<◌, ◌≤◌, inl, inr, ⊎_elim, Bool, true, false, cond, List, length, set, refl, sym, ap, ◌∙◌, subst, arith}
+use Rattle.std.proofs.Common.{◌≡◌, ◌≢◌, ◌↔◌, ℕ, zero, suc, ◌+◌, ◌<◌, ◌≤◌, ⊎_elim, cond, List, length, set, refl, sym, ap, ◌∙◌, subst, arith}
 use Rattle.std.specs.Prelude.{nat_eq}
-use Rattle.std.proofs.lemmas.Bool.{cases_eq, cases_lt, eq-eqb, ne_eqb, cond-true, cond-false}
+use Rattle.std.proofs.lemmas.Bool.{cases_eq, eq-eqb, ne_eqb, cond-true, cond-false}
 use Rattle.std.proofs.lemmas.Bool.Decides.{nat_tests}
 use Rattle.std.proofs.lemmas.List.{get_or-set_same, get_or-set_other, length-set, set-get_or}
 use Rattle.su_tableau.specs.declared.symbols.Sym.{Sym}
-use Rattle.su_classes.specs.Tables.{rep, IsForest, IsTable, IsSound, roots, class_count, IsJoining, IsShortened, IsProgress}
+use Rattle.su_classes.specs.Tables.{rep, IsForest, IsTable, IsSound, roots, class_count, IsJoining, IsShortened}
 
 -- ---- counting roots
 

@@ -3,3 +3,4 @@ pub mod Tables
 pub mod Firsts
 pub mod Naming
 pub mod Symbols
+pub mod Rushing

@@ -4,6 +4,7 @@ ghost use Rattle.su_classes.specs.Items.{IsPlacedBelow};
 ghost use Rattle.su_classes.specs.Tables.{IsLeast};
 
 use crate::items::{Placed, Together};
+use crate::rushing::rush;
 use crate::sweeping::sweep;
 use crate::tables::{flatten, join_all, number};
 use std::alloc::Global;
@@ -29,6 +30,7 @@ pub fn close(
 {
     number(table);
     join_all(table, equal);
+    rush(alloc, table, fds, rows)?;
     flatten(table);
     'sweeps: loop {
         let changed = sweep(alloc, table, fds, rows)?;

@@ -16,7 +16,7 @@ pub fn number(table: &mut [usize])
 }
 
 /// The root of the item's tree. Each item on the way to it gets its parent's parent for its own.
-fn root(table: &mut [usize], item: usize) -> usize
+pub fn root(table: &mut [usize], item: usize) -> usize
     requires ordered { IsForest table.old }
     requires item { item < length table.old }
     ensures shortened { IsShortened table.old table.new }

@@ -224,3 +224,94 @@ fn the_classes_are_the_least(rt: HostRuntime) -> Result<(), Fail> {
     }
     Ok(())
 }
+
+/// A dependency in a list of them.
+fn push_fd(list: &mut List<Fd>, left: &[u8], right: &[u8]) -> Result<(), NoMemory> {
+    list.push(fd(left, right))?;
+    Ok(())
+}
+
+/// 64 rows of six cells. All agree on attribute 5, and on attribute 0 each two rows.
+fn paired_rows(alloc: Global) -> Result<List<Placed>, NoMemory> {
+    let mut rows = List::new(alloc);
+    for r in 0..64usize {
+        let own = 6 * r;
+        let first = if r % 2 == 1 { own - 6 } else { own };
+        let cells = [first, own + 1, own + 2, own + 3, own + 4, 5];
+        rows.push(placed(alloc, &[0, 1, 2, 3, 4, 5], &cells)?)?;
+    }
+    Ok(rows)
+}
+
+/// From attribute 0 and 5 to 4, each step declared before the one that frees it.
+fn steps_last_first(alloc: Global) -> Result<List<Fd>, NoMemory> {
+    let mut fds = List::new(alloc);
+    push_fd(&mut fds, &[3], &[4])?;
+    push_fd(&mut fds, &[2, 5], &[3])?;
+    push_fd(&mut fds, &[1], &[2])?;
+    push_fd(&mut fds, &[0, 5], &[1])?;
+    Ok(fds)
+}
+
+/// The second row of each two has the classes of the first one, at attributes 1 to 4.
+fn paired_classes(alloc: Global) -> Result<List<usize>, NoMemory> {
+    let mut classes = List::new(alloc);
+    for r in 0..64usize {
+        for a in 0..6usize {
+            let own = 6 * r + a;
+            let is_first = r % 2 == 0 || a == 0 || a == 5;
+            classes.push(if is_first { own } else { own - 6 })?;
+        }
+    }
+    Ok(classes)
+}
+
+#[test]
+fn a_chain_declared_last_first_is_closed(rt: HostRuntime) -> Result<(), Fail> {
+    let alloc = rt.alloc();
+    let rows = paired_rows(alloc)?;
+    let fds = steps_last_first(alloc)?;
+    let table = closed(alloc, &[], fds.as_slice(), rows.as_slice(), 384)?;
+    assert_eq!(rt;
+        table.expect(&rt, "items below the bound").as_slice(),
+        paired_classes(alloc)?.as_slice()
+    );
+    Ok(())
+}
+
+/// Two rows a step, the last steps first: the rows of step i have the items 2i and 2i + 1 on the left and
+/// 2i + 2 and 2i + 3 on the right; those of step 0 agree on the left.
+fn ladder(alloc: Global) -> Result<List<Placed>, NoMemory> {
+    let mut rows = List::new(alloc);
+    for k in 0..40usize {
+        let even = 2 * (39 - k);
+        let odd = if even == 0 { 0 } else { even + 1 };
+        rows.push(placed(alloc, &[0, 1], &[even, even + 2])?)?;
+        rows.push(placed(alloc, &[0, 1], &[odd, even + 3])?)?;
+    }
+    Ok(rows)
+}
+
+/// Each step frees the next: 2i + 1 is with 2i, but for 1, which stands nowhere.
+fn ladder_classes(alloc: Global) -> Result<List<usize>, NoMemory> {
+    let mut classes = List::new(alloc);
+    for i in 0..41usize {
+        classes.push(2 * i)?;
+        classes.push(if i == 0 { 1 } else { 2 * i })?;
+    }
+    Ok(classes)
+}
+
+#[test]
+fn each_step_of_a_ladder_frees_the_next(rt: HostRuntime) -> Result<(), Fail> {
+    let alloc = rt.alloc();
+    let rows = ladder(alloc)?;
+    let mut fds = List::new(alloc);
+    push_fd(&mut fds, &[0], &[1])?;
+    let table = closed(alloc, &[], fds.as_slice(), rows.as_slice(), 82)?;
+    assert_eq!(rt;
+        table.expect(&rt, "items below the bound").as_slice(),
+        ladder_classes(alloc)?.as_slice()
+    );
+    Ok(())
+}

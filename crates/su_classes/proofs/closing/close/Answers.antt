@@ -8,12 +8,13 @@ sweeps-init c =
     let start = c.number.new.table in
     let own : (i : ℕ) → i < length start → rep start i ≡ i = λ i l. c.number.ensures.own i (let e = c.number.ensures.length in omega arith) in
     let j = c.join_all.ensures in
+    let m = c.in_ok-rush.ensures in
     let s = c.flatten.ensures.shortened in
     record {
-      same_length = s.same_length ∙ j.same_length ∙ c.number.ensures.length;
+      same_length = s.same_length ∙ m.same_length ∙ j.same_length ∙ c.number.ensures.length;
       flat = c.flatten.ensures.flat;
-      within = λ label k. (s.exact label).1 ((j.exact label).1 (own_sound start label own, k.equalities));
-      equal = λ label m. ((j.exact label).0 ((s.exact label).0 m)).1;
+      within = λ label k. (s.exact label).1 (m.sound label ((j.exact label).1 (own_sound start label own, k.equalities)) k.dependencies);
+      equal = λ label x. ((j.exact label).0 (m.finer label ((s.exact label).0 x))).1;
     }
 
 pub sweeps-preserved : goal.sweeps-preserved

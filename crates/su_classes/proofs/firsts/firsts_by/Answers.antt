@@ -1,4 +1,4 @@
-use Rattle.std.proofs.Common.{◌≡◌, List, [], length, subst, sym, arith}
+use Rattle.std.proofs.Common.{◌≡◌, [], length, subst, sym, arith}
 use Rattle.std.specs.FinSet.{empty}
 use Rattle.std.proofs.lemmas.List.{get_or_read}
 use Rattle.su_classes.specs.declared.items.Placed.{Placed}

@@ -1,4 +1,4 @@
-use Rattle.std.proofs.Common.{◌≡◌, ◌≤◌, length, arith}
+use Rattle.std.proofs.Common.{◌≡◌, arith}
 use Rattle.su_classes.specs.Items.{cell}
 use Rattle.su_classes.proofs.Merging.{joining_cells, joining_all, progress_then}
 use Rattle.su_classes.proofs.sweeping.join_at.Goals as goal

@@ -1,4 +1,4 @@
-use Rattle.std.proofs.Common.{◌<◌, arith}
+use Rattle.std.proofs.Common.{arith}
 use Rattle.su_classes.proofs.Merging.{joined_same, progress_same_roots, joined_left, progress_left, joined_right, progress_right}
 use Rattle.su_classes.proofs.tables.join.Goals as goal
 

@@ -1,4 +1,4 @@
-use Rattle.std.proofs.Common.{◌≡◌, ◌≤◌, length, arith}
+use Rattle.std.proofs.Common.{◌≡◌, arith}
 use Rattle.su_classes.proofs.Merging.{joining_at, joining_all}
 use Rattle.su_classes.proofs.tables.join_all.Goals as goal
 

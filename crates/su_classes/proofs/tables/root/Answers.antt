@@ -1,6 +1,5 @@
-use Rattle.std.proofs.Common.{ℕ, ◌≡◌, ◌<◌, ◌≤◌, length, ap, ◌∙◌, sym, arith}
-use Rattle.std.proofs.lemmas.List.{length-set}
-use Rattle.su_classes.specs.Tables.{rep, IsShortened}
+use Rattle.std.proofs.Common.{◌≤◌, ◌∙◌, arith}
+use Rattle.su_classes.specs.Tables.{rep}
 use Rattle.su_classes.proofs.Trees.{shortened_then, shortened_step}
 use Rattle.su_classes.proofs.tables.root.Goals as goal
 

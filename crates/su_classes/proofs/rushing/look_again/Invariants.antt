@@ -1,0 +1,13 @@
+use Rattle.std.proofs.Common.{◌≡◌, length}
+use Rattle.std.specs.Prelude.{All}
+use Rattle.su_classes.specs.Items.{Keeps}
+use Rattle.su_classes.specs.Tables.{IsMerging}
+use Rattle.su_classes.specs.Rushing.{IsSame}
+use Rattle.su_classes.proofs.rushing.look_again.Given as goal
+
+abbrev pub invariant-loop-spot : goal.invariant-loop-spot
+invariant-loop-spot l = record {
+  merging : IsMerging (λ label. All (λ r. Keeps label l.rows r.fd) l.rules) l.fn.table l.table;
+  same : IsSame l.fn.work l.work;
+  notes : length l.notes ≡ length l.rules;
+}

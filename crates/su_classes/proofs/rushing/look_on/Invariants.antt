@@ -1,0 +1,13 @@
+use Rattle.std.proofs.Common.{◌≡◌, length}
+use Rattle.std.specs.Prelude.{All}
+use Rattle.su_classes.specs.Items.{Keeps}
+use Rattle.su_classes.specs.Tables.{IsMerging}
+use Rattle.su_classes.specs.Rushing.{IsFor}
+use Rattle.su_classes.proofs.rushing.look_on.Given as goal
+
+abbrev pub invariant-loop : goal.invariant-loop
+invariant-loop l = record {
+  merging : IsMerging (λ label. All (λ r. Keeps label l.rows r.fd) l.rules) l.fn.table l.table;
+  work : IsFor (length l.fn.table) (length l.rows) l.work;
+  notes : length l.notes ≡ length l.rules;
+}
