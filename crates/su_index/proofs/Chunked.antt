@@ -1,11 +1,12 @@
 -- Entries in chunks: where they stand, and what edits of one chunk do to the whole.
-use Rattle.std.proofs.Common.{Result, Ok, Err, OnOk, is_ok, true, add-one, ◌≡◌, ◌<◌, ◌≤◌, ◌+◌, ◌-◌, ℕ, zero, suc, List, [], ◌∷◌, ◌++◌, length, get_or, take, set, ap, subst, refl, sym, ◌∙◌, arith, inl, inr}
+use Rattle.std.proofs.Common.{Result, Ok, Err, OnOk, is_ok, true, add-one, ◌≡◌, ◌<◌, ◌≤◌, ◌+◌, ◌-◌, ℕ, zero, suc, List, [], ◌∷◌, ◌++◌, length, get_or, take, drop, set, ap, subst, refl, sym, ◌∙◌, arith, inl, inr}
 use Rattle.std.specs.List.{insert, remove}
 use Rattle.std.proofs.lemmas.Bool.{cases_eq, false≢true}
-use Rattle.std.proofs.lemmas.List.{append_assoc, append-nil, length-append, nil_from_length, get_or_append_left, get_or-append-add, length_push}
+use Rattle.std.proofs.lemmas.List.{append_assoc, append-nil, nil_from_length, length-append, length-take-le, length-drop, take-append-drop, get_or_default, get_or_append_left, get_or-append-add, length_push}
 use Rattle.std.proofs.lemmas.List.Concat.{get_or-flat_map, flat_map-append}
-use Rattle.std.proofs.lemmas.List.Edits.{insert-append_left, insert-append_right, remove-append_left, remove-append_right}
+use Rattle.std.proofs.lemmas.List.Edits.{get_or-insert_below, insert-append_left, insert-append_right, remove-append_left, remove-append_right}
 use Rattle.su_index.proofs.Spans.{le_or}
+use Rattle.std.specs.VecDeque.{deque_len}
 use Rattle.su_index.specs.declared.entry.Entry.{Entry}
 use Rattle.su_index.specs.declared.chunk.Chunk.{Chunk}
 use Rattle.su_index.specs.declared.place.Place.{Place}
@@ -122,6 +123,42 @@ pub dropped-entries : (chunks : List Chunk) (c : ℕ) (d : Chunk) → c < length
 dropped-entries [] c d h none = absurd (omega arith)
 dropped-entries (x ∷ chunks) zero d h none = rw (nil_from_length x.entries.items (omega (arith, x.entries.ok.0, none))) refl
 dropped-entries (x ∷ chunks) (suc c) d h none = ap (λ s. x.entries.items ++ s) (dropped-entries chunks c d (omega arith) none)
+
+-- ---- a chunk that is split
+
+pub split-entries : (chunks : List Chunk) (k : ℕ) (x y d : Chunk) → k < length chunks → x.entries.items ++ y.entries.items ≡ (get_or chunks k d).entries.items → entries_of (set (insert chunks (suc k) y) k x) ≡ entries_of chunks
+split-entries [] k x y d h is = absurd (omega arith)
+split-entries (c ∷ chunks) zero x y d h is = sym (append_assoc x.entries.items y.entries.items (entries_of chunks)) ∙ ap (λ s. s ++ entries_of chunks) is
+split-entries (c ∷ chunks) (suc k) x y d h is = ap (λ s. c.entries.items ++ s) (split-entries chunks k x y d (omega arith) is)
+
+pub split-some : (chunks : List Chunk) (k : ℕ) (x y : Chunk) → HaveEntries chunks → k < length chunks → 0 < deque_len x.entries → 0 < deque_len y.entries
+    → (j : ℕ) (d : Chunk) → j + 1 < length (set (insert chunks (suc k) y) k x) → 0 < len_at (set (insert chunks (suc k) y) k x) j d
+split-some [] k x y some h p q j d l = absurd (omega arith)
+split-some (c ∷ chunks) zero x y some h p q zero d l = p
+split-some (c ∷ chunks) zero x y some h p q (suc zero) d l = q
+split-some (c ∷ chunks) zero x y some h p q (suc (suc j)) d l = some (suc j) d (omega arith)
+split-some (c ∷ chunks) (suc k) x y some h p q zero d l = some zero d (omega arith)
+split-some (c ∷ chunks) (suc k) x y some h p q (suc j) d l = split-some chunks k x y (λ i e m. some (suc i) e (omega arith)) (omega arith) p q j d (omega arith)
+
+-- what is read of the chunk after the later half is put in is what was read before
+pub split-same : (chunks : List Chunk) (k : ℕ) (y r s : Chunk) → k < length chunks → r ≡ get_or (insert chunks (k + 1) y) k r → s ≡ get_or chunks k s → r ≡ s
+split-same chunks k y r s h after before = after ∙ get_or-insert_below chunks (k + 1) y r k (omega arith) (omega arith) ∙ get_or_default chunks k r s h ∙ sym before
+
+pub split-parts : (half : ℕ) (x y r s : Chunk) → r ≡ s → x.entries.items ≡ take half r.entries.items → y.entries.items ≡ drop half s.entries.items → x.entries.items ++ y.entries.items ≡ s.entries.items
+split-parts half x y r s same early late =
+    ap (λ e. e ++ y.entries.items) (early ∙ ap (λ c. take half c.entries.items) same)
+    ∙ ap (λ e. take half s.entries.items ++ e) late
+    ∙ take-append-drop half s.entries.items
+
+pub split-first : (half : ℕ) (x s : Chunk) → x.entries.items ≡ take half s.entries.items → 0 < half → half < deque_len s.entries → 0 < deque_len x.entries
+split-first half x s early some less =
+    let long : length x.entries.items ≡ half = ap length early ∙ length-take-le half s.entries.items (omega (arith, less, s.entries.ok.0)) in
+    omega (arith, long, x.entries.ok.0, some)
+
+pub split-second : (half : ℕ) (y s : Chunk) → y.entries.items ≡ drop half s.entries.items → half < deque_len s.entries → 0 < deque_len y.entries
+split-second half y s late less =
+    let long : length y.entries.items ≡ length s.entries.items - half = ap length late ∙ length-drop half s.entries.items in
+    omega (arith, long, y.entries.ok.0, s.entries.ok.0, less)
 
 pub ok_holds : {A E : Type 0} (P : Type 0) (r : Result A E) → is_ok r ≡ true → OnOk r P → P
 ok_holds P (Ok a) e h = h

@@ -1,7 +1,7 @@
-//! The entries of an index in chunks. An entry that goes out moves entries of its own chunk alone. One
-//! that goes into a chunk without room sends the last entry of that chunk on to the next one, and so on
-//! up to the first chunk with room.
-ghost use Rattle.std.specs.Prelude.{◌≡◌, ◌≢◌, ◌<◌, ◌≤◌, ◌+◌, ◌++◌, ◌-◌, ◌^◌, ◌∷◌, [], ℕ, length, slice_index_or, IfOk, OnOk};
+//! The entries of an index in chunks. An entry that goes out or in moves entries of its own chunk alone.
+//! Only where that has no room, the last entry of it goes on to the next chunk, and so on up to the first
+//! one with room; before the next entry comes, the full chunk is split.
+ghost use Rattle.std.specs.Prelude.{◌≡◌, ◌≢◌, ◌<◌, ◌≤◌, ◌+◌, ◌++◌, ◌-◌, ◌^◌, ◌∷◌, [], ℕ, length, drop, slice_index_or, IfOk, OnOk};
 ghost use Rattle.std.specs.Bool.{OnTrue, OnFalse};
 ghost use Rattle.std.specs.List.{insert, remove};
 ghost use Rattle.std.specs.VecDeque.{deque_len, deque_capacity};
@@ -17,6 +17,9 @@ use su_base::NoMemory;
 
 /// How many entries a chunk has at most.
 const FULL: usize = 2048;
+
+/// How many of them stay where a chunk is split.
+const HALF: usize = 1024;
 
 /// The entry at the place.
 pub(crate) fn entry(chunks: &[Chunk], place: Place) -> Entry
@@ -35,11 +38,11 @@ pub(crate) fn len_of(chunks: &[Chunk], chunk: usize) -> usize
     chunks[chunk].entries.len()
 }
 
-/// A chunk of the entries.
-fn chunk_of(alloc: Global, entries: &[Entry]) -> Result<Chunk, NoMemory>
+/// A chunk of the entries, with memory for `room` of them at least.
+fn chunk_of(alloc: Global, entries: &[Entry], room: usize) -> Result<Chunk, NoMemory>
     ensures { IfOk result (λ chunk. chunk.entries.items ≡ entries.now) }
 {
-    let mut held = Vec::with_capacity(alloc, entries.len())?;
+    let mut held = Vec::with_capacity(alloc, room)?;
     held.extend_from_slice(entries)?;
     Ok(Chunk {
         entries: VecDeque::from_vec(held),
@@ -65,13 +68,13 @@ pub(crate) fn chunks_of(alloc: Global, entries: &[Entry]) -> Result<Vec<Chunk>, 
     let mut rest = entries;
     while rest.len() > FULL {
         let (front, back) = parted(rest);
-        let chunk = chunk_of(alloc, front)?;
+        let chunk = chunk_of(alloc, front, front.len())?;
         if chunks.push(chunk).is_err() {
             return Err(NoMemory);
         }
         rest = back;
     }
-    let chunk = chunk_of(alloc, rest)?;
+    let chunk = chunk_of(alloc, rest, rest.len())?;
     if chunks.push(chunk).is_err() {
         return Err(NoMemory);
     }
@@ -91,6 +94,57 @@ pub(crate) fn flat(alloc: Global, chunks: &[Chunk], count: usize) -> Result<Vec<
     Ok(entries)
 }
 
+/// The entries of the chunk from the place on, as a chunk of their own that may grow.
+fn later_part(alloc: Global, chunk: &Chunk, at: usize) -> Result<Chunk, NoMemory>
+    requires { at ≤ deque_len chunk.now.entries }
+    ensures { IfOk result (λ later. later.entries.items ≡ drop at chunk.now.entries.items) }
+{
+    let mut entries = Vec::with_capacity(alloc, chunk.entries.len())?;
+    let (front, back) = chunk.entries.as_slices();
+    entries.extend_from_slice(front)?;
+    entries.extend_from_slice(back)?;
+    let (_early, late) = entries.as_slice().split_at(at);
+    chunk_of(alloc, late, FULL)
+}
+
+/// Whether the chunk is full and isn't the last one.
+fn is_crowded(chunks: &[Chunk], chunk: usize) -> bool
+    ensures within { OnTrue result (chunk + 1 < length chunks.now) }
+    ensures len { OnTrue result ((d : Piece) → 2048 ≤ len_at chunks.now chunk d) }
+{
+    let count = chunks.len();
+    count > 0 && chunk < count - 1 && chunks[chunk].entries.len() >= FULL
+}
+
+/// Splits the chunk into two: its entries before the place stay.
+fn split(alloc: Global, chunks: &mut Vec<Chunk>, chunk: usize, at: usize) -> Result<(), NoMemory>
+    requires some { HaveEntries chunks.old.items }
+    requires within { chunk < length chunks.old.items }
+    requires first { 0 < at }
+    requires second { (d : Piece) → at < len_at chunks.old.items chunk d }
+    ensures entries { entries_of chunks.new.items ≡ entries_of chunks.old.items }
+    ensures some { HaveEntries chunks.new.items }
+{
+    let later = later_part(alloc, &chunks[chunk], at)?;
+    if chunks.insert(chunk + 1, later).is_err() {
+        return Err(NoMemory);
+    }
+    chunks[chunk].entries.truncate(at);
+    Ok(())
+}
+
+/// Splits the chunk, if it is full and isn't the last one.
+fn relieve(alloc: Global, chunks: &mut Vec<Chunk>, chunk: usize) -> Result<(), NoMemory>
+    requires some { HaveEntries chunks.old.items }
+    ensures entries { entries_of chunks.new.items ≡ entries_of chunks.old.items }
+    ensures some { HaveEntries chunks.new.items }
+{
+    if is_crowded(chunks.as_slice(), chunk) {
+        return split(alloc, chunks, chunk, HALF);
+    }
+    Ok(())
+}
+
 /// Whether the last chunk may have more entries.
 fn is_open(chunks: &[Chunk]) -> bool
     requires some { HaveEntries chunks.now }
@@ -104,8 +158,8 @@ fn is_open(chunks: &[Chunk]) -> bool
     chunks[count - 1].entries.len() < FULL
 }
 
-/// Makes room for one more entry.
-pub(crate) fn make_room(alloc: Global, chunks: &mut Vec<Chunk>) -> Result<(), NoMemory>
+/// Makes room for one more entry in the last chunk, or in a new one behind it.
+fn open_last(alloc: Global, chunks: &mut Vec<Chunk>) -> Result<(), NoMemory>
     requires some { HaveEntries chunks.old.items }
     ensures entries { entries_of chunks.new.items ≡ entries_of chunks.old.items }
     ensures some { HaveEntries chunks.new.items }
@@ -121,6 +175,22 @@ pub(crate) fn make_room(alloc: Global, chunks: &mut Vec<Chunk>) -> Result<(), No
         return Err(NoMemory);
     }
     Ok(())
+}
+
+/// Makes room for one more entry. The chunk to which the last one went is split, if it is full and isn't
+/// the last one.
+pub(crate) fn make_room(
+    alloc: Global,
+    chunks: &mut Vec<Chunk>,
+    latest: usize,
+) -> Result<(), NoMemory>
+    requires some { HaveEntries chunks.old.items }
+    ensures entries { entries_of chunks.new.items ≡ entries_of chunks.old.items }
+    ensures some { HaveEntries chunks.new.items }
+    ensures room { OnOk result (HasRoom chunks.new.items) }
+{
+    relieve(alloc, chunks, latest)?;
+    open_last(alloc, chunks)
 }
 
 /// Whether the entries need less than a quarter of the chunks.

@@ -33,14 +33,15 @@ pub(crate) fn take_out(rows: &[Row], column: usize, chunks: &mut Vec<Chunk>, pos
     take_at(chunks, place);
 }
 
-/// Puts an entry of the position among the entries, as one whose row has come to have the value.
+/// Puts an entry of the position among the entries, as one whose row has come to have the value, and
+/// answers to which chunk it was to go.
 pub(crate) fn put_in(
     rows: &[Row],
     column: usize,
     chunks: &mut Vec<Chunk>,
     wanted: &Value,
     position: u32,
-)
+) -> usize
     requires columns { HaveColumn column rows.now }
     requires some { HaveEntries chunks.old.items }
     requires positions { ArePositions (length rows.now) (positions (entries_of chunks.old.items)) }
@@ -57,6 +58,7 @@ pub(crate) fn put_in(
     let lead = lead(wanted);
     let place = find(rows, column, chunks.as_slice(), lead, wanted, position);
     put_at(chunks, place, Entry { lead, position });
+    place.chunk
 }
 
 /// Lets the entry of the position `from` be one of the position `to`, whose row has come to have the

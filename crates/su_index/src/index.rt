@@ -19,6 +19,8 @@ use su_base::{NoMemory, Row, Value};
 #[derive(Drop)]
 pub(crate) struct Index {
     pub(crate) chunks: Vec<Chunk>,
+    /// The chunk to which the entry went that was added last, or any other.
+    pub(crate) latest: usize,
 }
 
 impl Index {
@@ -28,6 +30,7 @@ impl Index {
     {
         Index {
             chunks: Vec::new(alloc),
+            latest: 0,
         }
     }
 
@@ -50,10 +53,11 @@ impl Index {
         let early = flat(alloc, self.chunks.as_slice(), before)?;
         let run = merged(alloc, rows, column, early.as_slice(), late.as_slice())?;
         let chunks = chunks_of(alloc, run.as_slice())?;
-        Ok(Index { chunks })
+        Ok(Index { chunks, latest: 0 })
     }
 
-    /// Makes room for one more entry. Chunks that are mostly empty are put together first.
+    /// Makes room for one more entry. Chunks that are mostly empty are put together first, and a full one
+    /// to which the last entry went is split.
     pub(crate) fn make_room(
         &mut self,
         alloc: Global,
@@ -68,7 +72,7 @@ impl Index {
             let run = flat(alloc, self.chunks.as_slice(), rows.len())?;
             self.chunks = chunks_of(alloc, run.as_slice())?;
         }
-        make_room(alloc, &mut self.chunks)
+        make_room(alloc, &mut self.chunks, self.latest)
     }
 
     /// How many rows have the value.
@@ -105,7 +109,7 @@ impl Index {
         ensures { IsIndexOf rows.now column self.new }
     {
         let wanted = value(rows, column, position);
-        put_in(rows, column, &mut self.chunks, wanted, position);
+        self.latest = put_in(rows, column, &mut self.chunks, wanted, position);
     }
 
     /// Leaves the row at the position out, and lets the last row be at the position.

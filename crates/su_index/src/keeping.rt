@@ -75,7 +75,7 @@ pub(crate) fn kept_indexes(
         let run = flat(alloc, index.chunks.as_slice(), kept.len())?;
         let left = kept_run(alloc, run.as_slice(), kept, ranks)?;
         let chunks = chunks_of(alloc, left.as_slice())?;
-        if new.push(Index { chunks }).is_err() {
+        if new.push(Index { chunks, latest: 0 }).is_err() {
             return Err(NoMemory);
         }
     }

@@ -13,9 +13,10 @@
 //! them, add up the lengths of the chunks between.
 //!
 //! A remove moves the entries of one chunk and takes no memory; a chunk that it empties is let go. An
-//! insert moves the entries of one chunk and, where that has no room, one entry of each chunk behind it
-//! up to the first with room: after a load an entry for each 2048 rows behind the place. Chunks are put
-//! together again by an insert, once they are four times as many as the rows need.
+//! insert moves the entries of one chunk. One that fills a chunk lets the next insert split it into two
+//! halves, unless it is the last chunk; so an insert meets a full chunk only after a load or a remove, and
+//! then also moves one entry of each chunk behind it up to the first with room, once for each full chunk.
+//! Chunks are put together again by an insert, once they are four times as many as the rows need.
 //!
 //! Where a caller asks for it, as for the left side of a dependency, rows are also noted by their values
 //! in several columns at once, some 20 bytes a row: one look into a hash table then mostly tells whether

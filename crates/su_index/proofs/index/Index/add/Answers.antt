@@ -5,15 +5,15 @@ use Rattle.su_index.proofs.Changed.{positions_more, index_apart}
 use Rattle.su_index.proofs.Entries.{index_with-add}
 use Rattle.su_index.proofs.index.Index.add.Goals as goal
 
-pub put_in-requires-clause-positions : goal.put_in-requires-clause-positions
-put_in-requires-clause-positions c = positions_more _ _ _ c.requires.index.entries.order (length c.args.rows.now) (omega (arith, c.requires.last))
+pub put_in-self-requires-clause-positions : goal.put_in-self-requires-clause-positions
+put_in-self-requires-clause-positions c = positions_more _ _ _ c.requires.index.entries.order (length c.args.rows.now) (omega (arith, c.requires.last))
 
-pub put_in-requires-clause-apart : goal.put_in-requires-clause-apart
-put_in-requires-clause-apart c = index_apart _ _ _ c.requires.index.entries.order c.args.position (omega arith)
+pub put_in-self-requires-clause-apart : goal.put_in-self-requires-clause-apart
+put_in-self-requires-clause-apart c = index_apart _ _ _ c.requires.index.entries.order c.args.position (omega arith)
 
 pub returns : goal.returns
 returns c = record {
   entries = rw (sym c.requires.last)
-      (index_with-add (value_at c.args.rows.now c.args.column) c.args.position (entries_in c.args.self.now) _ c.requires.index.entries (omega (arith, c.requires.last, c.requires.small)) (rw c.value-wanted.ensures at c.put_in.ensures.ordered) c.put_in.ensures.count c.put_in.ensures.len (rw c.value-wanted.ensures at c.put_in.ensures.leads));
-  some = c.put_in.ensures.some;
+      (index_with-add (value_at c.args.rows.now c.args.column) c.args.position (entries_in c.args.self.now) _ c.requires.index.entries (omega (arith, c.requires.last, c.requires.small)) (rw c.value-wanted.ensures at c.put_in-self.ensures.ordered) c.put_in-self.ensures.count c.put_in-self.ensures.len (rw c.value-wanted.ensures at c.put_in-self.ensures.leads));
+  some = c.put_in-self.ensures.some;
 }

@@ -1,6 +1,6 @@
 use Rattle.std.proofs.Common.{◌<◌, ◌-◌, ◌∙◌, ap, length, arith}
 use Rattle.su_index.proofs.Chunked.{same-entries}
-use Rattle.su_index.proofs.chunks.make_room.Goals as goal
+use Rattle.su_index.proofs.chunks.open_last.Goals as goal
 
 pub returns-in_err-reserve-clause-entries : goal.returns-in_err-reserve-clause-entries
 returns-in_err-reserve-clause-entries c =
