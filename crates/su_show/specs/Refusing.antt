@@ -1,5 +1,6 @@
 -- The line of a refused statement, by its refusal. The numbers of relations, columns, dependencies, objects and attributes are those of the schema.
 use Rattle.std.specs.Prelude.{ℕ, List, [], ◌++◌, length, codes, decimal, slice_index_or, Option, Some, None}
+use Rattle.su_base.specs.declared.values.Value.{Value}
 use Rattle.su_base.specs.declared.values.Kind.{Kind}
 use Rattle.su_base.specs.declared.values.Kind.TheVariants as kind
 use Rattle.su_schema.specs.SchemaValue.{SchemaValue, column_names}
@@ -20,10 +21,10 @@ use Rattle.su_steps.specs.declared.faults.StepFault.TheVariants as step
 use Rattle.su_steps.specs.declared.faults.StepLimit.{StepLimit}
 use Rattle.su_steps.specs.declared.faults.StepLimit.TheVariants as step_limit
 use Rattle.su_show.specs.declared.statement_refusal.Refusal.{Refusal}
-use Rattle.su_show.specs.declared.statement_refusal.Refusal.TheVariants.{Query, State, Record, Csv, Steps, Answer, Nodes, Define}
+use Rattle.su_show.specs.declared.statement_refusal.Refusal.TheVariants.{Query, State, Record, Csv, Steps, Answer, Nodes, Define, OnlyEqual, OutputsDiffer, WindowLimit, Inconsistent}
 use Rattle.su_show.specs.Refusals.{cause_text}
 use Rattle.su_show.specs.Replies.{fd_at}
-use Rattle.su_show.specs.Values.{attributes_text, fd_text, row_text}
+use Rattle.su_show.specs.Values.{attributes_text, fd_text, row_text, value_text}
 
 abbrev pub kind_text : Kind → List ℕ
 kind_text kind.Int = codes "int"
@@ -88,6 +89,10 @@ define_text schema (define.Schema fault) = cause_text fault
 define_text schema (define.Breaks fd object first second) = codes "breaks " ++ fd_text schema fd ++ codes " with rows " ++ row_text first ++ codes " and " ++ row_text second
 define_text schema define.NoMemory = []
 
+-- two values that the dependencies make equal
+abbrev pub inconsistent_text : Value → Value → List ℕ
+inconsistent_text less greater = codes "inconsistent " ++ value_text less ++ codes " and " ++ value_text greater
+
 abbrev pub refusal_text : SchemaValue → Refusal → List ℕ
 refusal_text schema (Query fault) = query_text fault
 refusal_text schema (State fault) = state_text schema fault
@@ -97,6 +102,10 @@ refusal_text schema (Steps fault) = step_text schema fault
 refusal_text schema Answer = codes "limit answer 1000000"
 refusal_text schema Nodes = codes "limit nodes 200000"
 refusal_text schema (Define fault) = define_text schema fault
+refusal_text schema OnlyEqual = codes "only equalities"
+refusal_text schema OutputsDiffer = codes "outputs differ"
+refusal_text schema WindowLimit = codes "limit window 20000"
+refusal_text schema (Inconsistent less greater) = inconsistent_text less greater
 
 -- the line of a refused statement
 abbrev pub refusal_line : SchemaValue → Refusal → List ℕ

@@ -5,11 +5,12 @@ use Rattle.std.specs.FinSet.{FinSet}
 use Rattle.su_base.specs.declared.values.Value.{Value}
 use Rattle.su_fd.specs.declared.dependencies.Fd.{Fd}
 use Rattle.su_lex.specs.Names.{names_symbols}
-use Rattle.su_lex.specs.Symbols.{spaced}
+use Rattle.su_lex.specs.Symbols.{spelled, spaced}
 use Rattle.su_lex.specs.declared.meaning.Symbol.TheVariants.{Sign}
 use Rattle.su_lex.specs.declared.signs.Sign.TheVariants as sign
 use Rattle.su_schema.specs.SchemaValue.{SchemaValue, attribute_names, object_names}
 use Rattle.su_ddl.specs.Shown.{names_in}
+use Rattle.su_query.specs.Grammar.{value_sym}
 use Rattle.su_query.specs.Shown.{in_parens, listed, value_symbols}
 
 -- each name behind a space
@@ -31,6 +32,10 @@ objects_text schema set = behind_spaces (names_in (object_names schema) set)
 -- a dependency as it is shown
 abbrev pub fd_text : SchemaValue → Fd → List ℕ
 fd_text schema fd = spaced (names_symbols (names_in (attribute_names schema) fd.left) ++ Sign sign.Arrow ∷ names_symbols (names_in (attribute_names schema) fd.right))
+
+-- a value as it is shown
+abbrev pub value_text : Value → List ℕ
+value_text v = spelled (value_sym v)
 
 -- the values of a row in parentheses, as they are shown
 abbrev pub row_text : List Value → List ℕ

@@ -1,6 +1,6 @@
 //! The line of a refused statement.
 ghost use Rattle.std.specs.Prelude.{◌≡◌, ◌++◌, codes, decimal, flat_map, IfOk, OnOk};
-ghost use Rattle.su_show.specs.Refusing.{kind_text, query_limit_text, query_text, column_text, state_text, record_text, csv_text, variable_text, step_limit_text, step_text, define_text, refusal_text, refusal_line, IsQueryMemory, IsStateMemory, IsCsvMemory, IsStepMemory, IsDefineMemory, IsNoMemory};
+ghost use Rattle.su_show.specs.Refusing.{kind_text, query_limit_text, query_text, column_text, state_text, record_text, csv_text, variable_text, step_limit_text, step_text, define_text, inconsistent_text, refusal_text, refusal_line, IsQueryMemory, IsStateMemory, IsCsvMemory, IsStepMemory, IsDefineMemory, IsNoMemory};
 ghost use Rattle.su_show.specs.Values.{attributes_text};
 ghost use Rattle.su_show.specs.Refusals.{cause_text};
 
@@ -10,9 +10,9 @@ use crate::parts::{push, push_all, push_number};
 use crate::refusals::push_cause;
 use crate::statement_refusal::Refusal;
 use crate::symbols::variable;
-use crate::values::{push_attributes, push_fd, push_row};
+use crate::values::{push_attributes, push_fd, push_row, push_value};
 use std::alloc::Global;
-use su_base::{AttrSet, Kind, List, NoMemory, Str};
+use su_base::{AttrSet, Kind, List, NoMemory, Str, Value};
 use su_csv::CsvFault;
 use su_query::{QueryFault, QueryLimit};
 use su_schema::{Schema, SchemaFault};
@@ -206,6 +206,20 @@ fn push_define(
     }
 }
 
+fn push_inconsistent(
+    alloc: Global,
+    out: &mut Vec<u8>,
+    less: &Value,
+    greater: &Value,
+) -> Result<(), NoMemory>
+    ensures { OnOk result (out.new.items ≡ out.old.items ++ inconsistent_text less.now greater.now) }
+{
+    push(out, "inconsistent ")?;
+    push_value(alloc, out, less)?;
+    push(out, " and ")?;
+    push_value(alloc, out, greater)
+}
+
 fn push_refusal(
     alloc: Global,
     out: &mut Vec<u8>,
@@ -227,6 +241,10 @@ fn push_refusal(
         Refusal::Answer => push(out, "limit answer 1000000"),
         Refusal::Nodes => push(out, "limit nodes 200000"),
         Refusal::Define(fault) => push_define(alloc, out, schema, fault),
+        Refusal::OnlyEqual => push(out, "only equalities"),
+        Refusal::OutputsDiffer => push(out, "outputs differ"),
+        Refusal::WindowLimit => push(out, "limit window 20000"),
+        Refusal::Inconsistent { less, greater } => push_inconsistent(alloc, out, less, greater),
     }
 }
 

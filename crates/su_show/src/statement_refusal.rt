@@ -1,4 +1,5 @@
 //! Why a statement is refused.
+use su_base::Value;
 use su_csv::CsvFault;
 use su_query::QueryFault;
 use su_state::{DefineFault, LoadFault, StateFault};
@@ -23,4 +24,12 @@ pub enum Refusal {
     Nodes,
     /// A definition is refused.
     Define(DefineFault),
+    /// A query that is compared asks for more than equalities.
+    OnlyEqual,
+    /// The outputs of two queries that are compared differ in number or in kind.
+    OutputsDiffer,
+    /// The views of the objects have more than 20,000 members together, too many for a window.
+    WindowLimit,
+    /// No universal relation includes the stored rows: the dependencies make these two values equal.
+    Inconsistent { less: Value, greater: Value },
 }

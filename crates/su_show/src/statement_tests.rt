@@ -67,6 +67,42 @@ fn a_query_that_is_too_large(rt: HostRuntime) {
     assert!(rt; says(alloc, Ok(Refusal::Nodes), "refused: limit nodes 200000\n"));
 }
 
+#[test]
+fn two_queries_that_can_not_be_compared(rt: HostRuntime) {
+    let alloc = rt.alloc();
+    let equalities = Ok(Refusal::OnlyEqual);
+    assert!(rt; says(alloc, equalities, "refused: only equalities\n"));
+    let outputs = Ok(Refusal::OutputsDiffer);
+    assert!(rt; says(alloc, outputs, "refused: outputs differ\n"));
+}
+
+/// That two texts are made equal.
+fn equal_texts(alloc: Global, less: &str, greater: &str) -> Result<Refusal, NoMemory> {
+    let less = Value::Text(Str::new(alloc, less)?);
+    let greater = Value::Text(Str::new(alloc, greater)?);
+    Ok(Refusal::Inconsistent { less, greater })
+}
+
+#[test]
+fn rows_that_have_no_window(rt: HostRuntime) {
+    let alloc = rt.alloc();
+    assert!(rt;
+        says(
+            alloc,
+            Ok(Refusal::WindowLimit),
+            "refused: limit window 20000\n"
+        )
+    );
+    let numbers = Refusal::Inconsistent {
+        less: Value::Int(3),
+        greater: Value::Int(4),
+    };
+    assert!(rt; says(alloc, Ok(numbers), "refused: inconsistent 3 and 4\n"));
+    let texts = equal_texts(alloc, "B1", "the bank's");
+    let want = "refused: inconsistent 'B1' and 'the bank''s'\n";
+    assert!(rt; says(alloc, texts, want));
+}
+
 fn unknown_attribute(alloc: Global, name: &str) -> Result<Refusal, NoMemory> {
     let name = Str::new(alloc, name)?;
     Ok(Refusal::Query(QueryFault::Unknown(name)))

@@ -1,13 +1,13 @@
-//! Dependencies and rows as they are shown.
+//! Dependencies, values and rows as they are shown.
 ghost use Rattle.std.specs.Prelude.{◌≡◌, ◌++◌, ◌∷◌, [], OnOk};
-ghost use Rattle.su_show.specs.Values.{attributes_text, objects_text, fd_text, row_text};
+ghost use Rattle.su_show.specs.Values.{attributes_text, objects_text, fd_text, value_text, row_text};
 
 use crate::parts::push_names;
 use std::alloc::Global;
-use su_base::{AttrSet, List, NoMemory, ObjSet, Row};
+use su_base::{AttrSet, List, NoMemory, ObjSet, Row, Value};
 use su_ddl::{attributes_in, objects_in, push_names as push_name_symbols};
 use su_fd::Fd;
-use su_lex::{Sign, Symbol, push_spaced};
+use su_lex::{Sign, Symbol, push_spaced, push_symbol};
 use su_query::push_row as push_row_symbols;
 use su_schema::Schema;
 
@@ -50,6 +50,16 @@ pub(crate) fn push_fd(
     symbols.push(Symbol::Sign(Sign::Arrow))?;
     push_name_symbols(alloc, &mut symbols, right.as_slice())?;
     push_spaced(alloc, out, symbols.as_slice())
+}
+
+pub(crate) fn push_value(alloc: Global, out: &mut Vec<u8>, value: &Value) -> Result<(), NoMemory>
+    ensures { OnOk result (out.new.items ≡ out.old.items ++ value_text value.now) }
+{
+    let symbol = match value {
+        Value::Int(number) => Symbol::Int(*number),
+        Value::Text(text) => Symbol::Text(text.copy(alloc)?),
+    };
+    push_symbol(alloc, out, &symbol)
 }
 
 pub(crate) fn push_row(alloc: Global, out: &mut Vec<u8>, row: &Row) -> Result<(), NoMemory>
