@@ -1,5 +1,5 @@
 """Rare cases, drawn by their numbers: those that reach the limits of a million rows or records, of 200,000 nodes, and of
-the bytes of a script and of a CSV file, each within its limit and past it."""
+the bytes of a script and of a CSV file, and of a window, each within its limit and past it."""
 MILLION = 1000000
 MEBIBYTE = 1 << 20
 # Eight rows of two columns, none of which can be left out: what their trees have together is under 200,000 nodes in 256
@@ -70,8 +70,17 @@ def large_trees(draw, past):
     return schema, [f"explain with retrieve ({names[0]}.C) where {' and '.join(ones + same)}".encode()], {}
 
 
+def full_window(draw, past):
+    """A window over 20,000 members, of two objects, and perhaps one more."""
+    there = draw.randrange(1, 20000)
+    schema = ["attribute A int", "attribute B int", "relation P (A int)", "relation Q (B int)", "object OA (A) from P (A)",
+              "object OB (B) from Q (B)"]
+    return (schema, [b"load P from 'f.csv'", b"load Q from 'g.csv'", b"window (A)", b"window (A, B)", b"delete P (0)", b"window (B)"],
+            {"f.csv": [b"A\n"] + many(range(there)), "g.csv": [b"B\n"] + many(range(20000 + past - there))})
+
+
 # The cases by their numbers.
-PLACES = {113: (long_script, 1), 213: (long_script, 0), 313: (long_file, 1), 617: (large_trees, 1),
+PLACES = {113: (long_script, 1), 213: (long_script, 0), 313: (long_file, 1), 417: (full_window, 1), 517: (full_window, 0), 617: (large_trees, 1),
           717: (records, 1), 817: (full_relation, 1), 917: (large_answer, 1), 1113: (long_file, 0),
           1217: (large_trees, 0), 1317: (records, 0), 1417: (full_relation, 0), 1517: (large_answer, 0)}
 

@@ -21,128 +21,17 @@ from operator import eq, ge, gt, le, lt, ne
 
 import certificates
 import check
+import comparing
 import csv_records
 import model_bank
+from model_texts import (DEFINITIONS, MARK, OPERATORS, Reader, Refused, kind_of, number, order, pieces, row_order, shown_row,
+                         shown_value, text, tokens)
 
 USAGE = "usage: sysu run SCHEMA SCRIPT [--workers N] | sysu generate N | sysu check FILE\n"
-MARK = b"\xef\xbb\xbf"
 MEBIBYTE = 1 << 20
-
-class Refused(Exception):
-    """A statement is refused: the text of its cause."""
 
 class Ended(Exception):
     """The run ends before its last statement: its status, and perhaps a last line."""
-
-# Values
-def kind_of(value):
-    """A value is a whole number or a text."""
-    return "int" if isinstance(value, int) else "text"
-
-def order(value):
-    """Numbers stand before texts; numbers are ordered as numbers, texts by their bytes (as by their letters)."""
-    return (0, value, "") if isinstance(value, int) else (1, 0, value)
-
-def row_order(row):
-    """Rows are ordered value by value."""
-    return [order(value) for value in row]
-
-def number(digits):
-    """The number of an optional `-` and digits, or None past 64 bits; `-0` is 0 and leading zeros are allowed."""
-    short = digits.lstrip(b"-").lstrip(b"0") or b"0"
-    value = (-1 if digits.startswith(b"-") else 1) * int(short[:20])
-    return value if -(1 << 63) <= value < 1 << 63 else None
-
-def text(content):
-    """The text of these bytes, or None where they aren't UTF-8 or are more than 4,096."""
-    try:
-        return content.decode("utf-8") if len(content) <= 4096 else None
-    except UnicodeDecodeError:
-        return None
-
-def shown_value(value):
-    """A number is shown by its digits, a text in quotes, each quote in it doubled."""
-    return str(value) if isinstance(value, int) else "'" + value.replace("'", "''") + "'"
-
-def shown_row(row):
-    """The values of a row, parted by a comma and a space, in parentheses."""
-    return "(" + ", ".join(map(shown_value, row)) + ")"
-
-# Statements and tokens
-PARTS = re.compile(rb"'[^']*(?:'|\Z)|--[^\n]*|;|[^';-]+|-")
-BLANKS = re.compile(rb"[ \t\r\n]+|--[^\n]*")
-TOKEN = re.compile(rb"(?P<blank>[ \t\r\n]+|--[^\n]*)|(?P<word>[A-Za-z_][A-Za-z0-9_]*)"
-                   rb"|(?P<number>-?[0-9]+)(?![A-Za-z0-9_])|(?P<text>'[^']*'(?:'[^']*')*(?!'))"
-                   rb"|(?P<sign>->|!=|<=|>=|[(),.=<>])")
-RESERVED = """attribute relation object from fd maximal int text insert delete where load print schema closure
-              retrieve explain and or not compare with window""".split()
-DEFINITIONS = ["attribute", "relation", "object", "fd", "maximal"]
-OPERATORS = ["=", "!=", "<", "<=", ">", ">="]
-
-def pieces(data):
-    """One byte order mark in front is dropped, and the rest is cut at each `;` outside texts and comments; a piece
-    of white space and comments alone is no statement, and the last one needs no `;`."""
-    found, piece = [], []
-    for part in PARTS.findall(data[3:] if data.startswith(MARK) else data) + [b";"]:
-        piece.append(part)
-        if part == b";":
-            found.append(b"".join(piece[:-1]))
-            piece = []
-    return [piece for piece in found if BLANKS.sub(b"", piece)]
-
-VALUE = {"word": lambda word: text(word) if len(word) <= 64 else None, "sign": text, "number": number,
-         "text": lambda quoted: text(quoted[1:-1].replace(b"''", b"'"))}
-
-def tokens(piece):
-    """The tokens of a piece, from the left and the longest first, white space and comments between them left out;
-    a byte that begins no token, and a word, number or text past its limit, leave the piece without tokens."""
-    found, at = [], 0
-    while at < len(piece):
-        match = TOKEN.match(piece, at)
-        sort = match and match.lastgroup
-        if not match or sort != "blank" and VALUE[sort](match[0]) is None:
-            raise Refused("syntax")
-        found += [(sort, VALUE[sort](match[0]))] if sort != "blank" else []
-        at = match.end()
-    return found
-
-class Reader:
-    """The tokens of a statement, taken from the left; where they fit no form, the statement is refused."""
-    def __init__(self, found):
-        self.found, self.at = found + [("end", None)], 0
-    def has(self, word_or_sign):
-        """Takes this word or sign where it comes next, and tells whether it did."""
-        here = self.found[self.at] in [("word", word_or_sign), ("sign", word_or_sign)]
-        self.at += here
-        return here
-    def need(self, *words):
-        """Takes one of these words or signs."""
-        for word in words:
-            if self.has(word):
-                return word
-        raise Refused("syntax")
-    def take(self, *sorts):
-        """Takes a token of one of these sorts; a NAME is a word that isn't reserved."""
-        sort, content = self.found[self.at]
-        if sort not in sorts or sort == "word" and content in RESERVED:
-            raise Refused("syntax")
-        self.at += sort != "end"
-        return content
-    def name(self):
-        """NAME."""
-        return self.take("word")
-    def some(self, item):
-        """One or more items, parted by commas."""
-        items = [item()]
-        while self.has(","):
-            items.append(item())
-        return items
-    def listed(self, item):
-        """One or more items, parted by commas, in parentheses."""
-        self.need("(")
-        items = self.some(item)
-        self.need(")")
-        return items
 
 # The schema
 class Schema:
@@ -348,6 +237,13 @@ def read_query(reader):
     outputs = reader.listed(lambda: read_ref(reader))
     return outputs, read_condition(reader) if reader.has("where") else ("all", [])
 
+def read_inner(reader):
+    """A query in parentheses."""
+    reader.need("(")
+    query = read_query(reader)
+    reader.need(")")
+    return query
+
 def comparisons_of(condition):
     """The comparisons of a condition, from the left."""
     if condition[0] == "compare":
@@ -365,13 +261,14 @@ def read_statement(found):
     depth = itertools.accumulate({("sign", "("): 1, ("sign", ")"): -1}.get(token, 0) for token in found)
     if max(depth, default=0) > 64:
         raise Refused("limit nesting 64")
-    reader, outputs, condition = Reader(found), [], ("all", [])
+    reader, queries = Reader(found), []
     values = lambda: reader.listed(lambda: reader.take("number", "text"))
-    word = reader.need("insert", "delete", "load", "print", "schema", "closure", "retrieve", "explain")
+    word = reader.need("insert", "delete", "load", "print", "schema", "closure", "retrieve", "explain", "compare", "window")
     parts = [reader.name()] if word in ["insert", "delete", "load", "print"] else []
     if word == "delete" and reader.has("where"):
         word, condition = "delete where", read_condition(reader)
         parts.append(condition)
+        queries = [([], condition)]
         if any(variable is not None for variable, _ in refs_of(condition)):
             raise Refused("syntax")
     elif word in ["insert", "delete"]:
@@ -379,17 +276,22 @@ def read_statement(found):
     elif word == "load":
         reader.need("from")
         parts.append(reader.take("text"))
-    elif word == "closure":
+    elif word in ["closure", "window"]:
         parts.append(reader.listed(reader.name))
+        queries = [([(None, name) for name in parts[0]], ("all", []))] if word == "window" else []
     elif word in ["retrieve", "explain"]:
         word = "explain with" if word == "explain" and reader.has("with") else word
         reader.at -= word == "retrieve"
-        outputs, condition = parts = read_query(reader)
+        parts = read_query(reader)
+        queries = [parts]
+    elif word == "compare":
+        parts = queries = [read_inner(reader), reader.need("with") and read_inner(reader)]
     reader.take("end")
-    counts = len({v for v, _ in outputs + refs_of(condition)}), len(outputs), len(comparisons_of(condition))
-    for name, count, limit in zip(["variables", "outputs", "comparisons"], counts, [8, 128, 256]):
-        if count > limit:
-            raise Refused(f"limit {name} {limit}")
+    for outputs, condition in queries:
+        counts = len({v for v, _ in outputs + refs_of(condition)}), len(outputs), len(comparisons_of(condition))
+        for name, count, limit in zip(["variables", "outputs", "comparisons"], counts, [8, 128, 256]):
+            if count > limit:
+                raise Refused(f"limit {name} {limit}")
     return word, parts
 
 def shown_ref(ref):
@@ -667,6 +569,22 @@ def explanation(schema, written, query, reduced):
             lines.append(f"  covered by term {reduced.by[i]} rows {numbers(reduced.covers[reduced.by[i], i])}")
     return lines + [f"terms {len(reduced.terms)} kept {len(reduced.kept)}"]
 
+# Two queries compared
+def compared(schema, first, second):
+    """Whether each row of the one query is one of the other over every universal relation that meets the dependencies, in
+    both directions; the causes of a refusal come in turn, each for the first query and then for the second."""
+    queries = [Query(schema, *query) for query in (first, second)]
+    if not all(comparing.has_only_equalities(query.condition) for query in queries):
+        raise Refused("only equalities")
+    if len({tuple(schema.attributes[a][1] for _, a in query.outputs) for query in queries}) > 1:
+        raise Refused("outputs differ")
+    one, other = (terms(schema, maximal_objects(schema), query) for query in queries)
+    lines = []
+    for names, pair in [("first within second: ", (one, other)), ("second within first: ", (other, one))]:
+        told = comparing.Verdict(schema, *pair, order, first_mapping).lines(schema, order, table, shown_row)
+        lines += [names + told[0], *told[1:]]
+    return lines
+
 # The stored relations and their changes
 class Database:
     """A schema, and one set of rows per relation."""
@@ -775,6 +693,24 @@ def add_definition(database, definition):
     new.stored[:len(database.stored)] = database.stored
     database.schema, database.stored = new.schema, new.stored
 
+def window(database, names):
+    """The rows over these attributes that every universal relation has which meets the dependencies and includes what is
+    stored: those of the chased rows that have constants there."""
+    schema = database.schema
+    for name in names:
+        if find(schema.attributes, name) is None:
+            raise Refused(f"unknown attribute {name}")
+    found = comparing.members(schema, database.stored)
+    if len(found) > comparing.MEMBERS:
+        raise Refused(f"limit window {comparing.MEMBERS}")
+    rows = comparing.padded(schema, found)
+    symbol_of, clash = comparing.chased(schema.fds, rows, order)
+    if clash:
+        raise Refused(f"inconsistent {shown_value(clash[0])} and {shown_value(clash[1])}")
+    chosen = [[symbol_of[row[find(schema.attributes, name)]] for name in names] for row in rows]
+    whole = {tuple(content for _, content in row) for row in chosen if all(sort == "const" for sort, _ in row)}
+    return table(names, sorted(whole, key=row_order))
+
 # Replies
 def csv_line(fields):
     """Fields parted by commas; one with a comma, a quote or a line break is quoted, and so is a lone empty one."""
@@ -812,6 +748,10 @@ def replied(database, piece, files):
                 raise Refused("limit nodes 200000")
             return certificates.written(schema, reduced, head, shown_value)
         return table([shown_ref(ref) for ref in parts[0]], answer(database, reduced))
+    if word == "compare":
+        return compared(schema, *parts)
+    if word == "window":
+        return window(database, parts[0])
     relation = find(schema.relations, parts[0])
     if relation is None:
         raise Refused(f"unknown relation {parts[0]}")

@@ -136,15 +136,18 @@ def row_of(draw, columns):
     return ", ".join(spelled(draw, value(draw, kind)) for kind in kinds)
 
 
-def condition(draw, refs, depth=2):
+SIGNS = ["=", "=", "=", "=", "!=", "<", "<=", ">", ">="]
+
+
+def condition(draw, refs, depth=2, signs=tuple(SIGNS)):
     """A condition over references with kinds."""
     shape = draw.random()
     if depth and shape < 0.45:
         word = draw.choice([" and ", " and ", " or "])
-        parts = [condition(draw, refs, depth - 1) for _ in range(draw.choice([2, 2, 3]))]
+        parts = [condition(draw, refs, depth - 1, signs) for _ in range(draw.choice([2, 2, 3]))]
         return word.join(f"({part})" if draw.random() < 0.6 else part for part in parts)
     if depth and shape < 0.55:
-        return f"not ({condition(draw, refs, depth - 1)})"
+        return f"not ({condition(draw, refs, depth - 1, signs)})"
     left, kind = draw.choice(refs)
     same = [ref for ref in refs if ref[1] == kind]
     right = draw.choice(same)[0] if draw.random() < 0.4 else spelled(draw, value(draw, kind))
@@ -154,11 +157,11 @@ def condition(draw, refs, depth=2):
         left = spelled(draw, value(draw, kind))
     if draw.random() < 0.3:
         left, right = right, left
-    operator = draw.choice(["=", "=", "=", "=", "!=", "<", "<=", ">", ">="])
+    operator = draw.choice(signs)
     return f"{'not ' if draw.random() < 0.05 else ''}{left} {operator} {right}"
 
 
-def query(draw, database):
+def query(draw, database, signs=tuple(SIGNS)):
     """A query whose variables are mostly covered, of a size that the model can do."""
     schema = database.schema
     maximal = model.maximal_objects(schema)
@@ -179,15 +182,16 @@ def query(draw, database):
         if draw.random() < 0.03:
             refs.append(("NOPE", "int"))
         outputs = ", ".join(ref for ref, _ in draw.sample(refs, min(len(refs), draw.choice([1, 1, 2, 3]))))
-        where = f" where {condition(draw, refs)}" if draw.random() < 0.75 else ""
+        where = f" where {condition(draw, refs, 2, signs)}" if draw.random() < 0.75 else ""
         if is_small(schema, maximal, f"retrieve ({outputs}){where}"):
             return f"retrieve ({outputs}){where}"
     return f"retrieve ({refs[0][0]})"
 
 
-def over_a_dependency(draw, schema):
-    """A query of two variables that agree on the left side of a dependency, and compares their right sides."""
-    lying = model.lying(schema)
+def over_a_dependency(draw, schema, signs=tuple(model.OPERATORS), anywhere=False):
+    """A query of two variables that agree on the left side of a dependency, and compares their right sides. The dependency
+    lies in an object, or may be any."""
+    lying = [(fd, (None, None, fd[0] | fd[1])) for fd in schema.fds] if anywhere else model.lying(schema)
     if not lying:
         return None
     (left, right), item = draw.choice(lying)
@@ -199,10 +203,10 @@ def over_a_dependency(draw, schema):
         parts.append(draw.choice([f"t.{name(a)} = {name(a)}", f"{name(a)} = t.{name(a)}", joined]))
     last = name(draw.choice(sorted(right)))
     values = [spelled(draw, value(draw, schema.attributes[model.find(schema.attributes, last)][1])) for _ in range(2)]
-    parts.append(draw.choice([f"t.{last} {draw.choice(model.OPERATORS)} {last}",
+    parts.append(draw.choice([f"t.{last} {draw.choice(signs)} {last}",
                               f"{last} = {values[0]} and t.{last} = {values[1]}", f"{last} = {last}"]))
     draw.shuffle(parts)
-    outputs = draw.sample([f"{v}{name(a)}" for v in ("", "t.") for a in sorted(item[2])], 2)
+    outputs = draw.sample([f"{v}{name(a)}" for v in ("", "t.") for a in sorted(item[2])], draw.choice([1, 2]))
     return f"retrieve ({', '.join(outputs)}) where {' and '.join(parts)}"
 
 
@@ -256,6 +260,37 @@ def quick_query(draw, database):
         text = draw.choice(["", "", "explain ", "explain with "]) + query(draw, database)
         if is_quick(database, text):
             return text
+
+
+def comparison(draw, database):
+    """Two queries to compare, mostly of equalities alone, the second often the first with a comparison more or less."""
+    while True:
+        signs = ("=",) if draw.random() < 0.9 else tuple(SIGNS)
+        one, other = query(draw, database, signs), query(draw, database, signs)
+        asked = over_a_dependency(draw, database.schema, signs, True) if draw.random() < 0.3 else None
+        if asked and is_small(database.schema, model.maximal_objects(database.schema), asked):
+            one = asked
+        if draw.random() < 0.6:
+            outputs, where = (one + " where ").split(" where ")[:2]
+            more = (other + " where ").split(" where ")[1]
+            other = draw.choice([outputs, outputs + (f" where {more}" if more else ""),
+                                 outputs + " where " + " and ".join(f"({part})" for part in (where, more) if part)])
+            other = other.removesuffix(" where ")
+        pair = [one, other]
+        draw.shuffle(pair)
+        text = f"compare ({pair[0]}) with ({pair[1]})"
+        if is_quick(database, text):
+            return text
+
+
+def windowed(draw, database):
+    """A window over some attributes, some of them twice."""
+    names, objects = [a for a, _ in database.schema.attributes] or ["A"], database.schema.objects
+    if objects and draw.random() < 0.7:
+        inside = set(draw.choice(objects)[2]) | set(draw.choice(objects)[2])
+        names = model.names_of(database.schema.attributes, inside)
+    chosen = draw.choices(names, k=draw.choice([1, 1, 2, 2, 3, 4]))
+    return f"window ({', '.join(chosen if draw.random() < 0.95 else chosen + ['NOPE'])})"
 
 
 def csv_file(draw, columns):
@@ -326,6 +361,10 @@ def statement(draw, database, files):
     """A statement for a database."""
     schema = database.schema
     choice = draw.random()
+    if choice < 0.1:
+        return comparison(draw, database)
+    if choice < 0.18:
+        return windowed(draw, database)
     if choice < 0.5 or not schema.relations:
         return quick_query(draw, database)
     name, columns = draw.choice(schema.relations)
@@ -349,7 +388,12 @@ def statement(draw, database, files):
         return f"closure ({', '.join(draw.choices([a for a, _ in schema.attributes] or ['A'], k=draw.randint(1, 3)))})"
     if choice < 0.91:
         return draw.choice(["print NOPE", "insert NOPE (1)", "delete NOPE where A = 1", "load NOPE from 'none.csv'",
-                            "closure (NOPE)", "generate 1", "compare (retrieve (A)) with (retrieve (A))", "window (A)",
+                            "closure (NOPE)", "generate 1", "compare (retrieve (A)) with retrieve (A)", "window A",
+                            "compare (retrieve (A) with (retrieve (A))", "window (A, t.A)", "window ()",
+                            "compare (retrieve (NOPE)) with (retrieve (NADA))",
+                            f"window ({', '.join(['A'] * 129)})", f"window ({', '.join(['A'] * 128)})",
+                            f"compare (retrieve ({', '.join(['A'] * 129)})) with (retrieve (A) where t.A = A or "
+                            "u.A = A or v.A = A or w.A = A or x.A = A or y.A = A or z.A = A or s.A = A)",
                             "explain from retrieve (A)", "explain with with retrieve (A)",
                             "retrieve (A) where not not A = 1",
                             f"print {'L' * 65}", f"insert NOPE ('{'t' * 4097}')", f"insert NOPE ('{'t' * 4096}')",
