@@ -1,12 +1,13 @@
 #!/usr/bin/env python3
 """Times changes of rows beside sqlite3.
 
-  python3 bench/changes.py PROGRAM [deletes] [keyed] [mixed]     each workload named, or all three
+  python3 bench/changes.py PROGRAM [inserts] [deletes] [keyed] [mixed]     each workload named, or all four
 
-PROGRAM is the built sysu; sqlite3 must be on the path. A figure is the least wall time of three runs of
-the whole process, output thrown away; where a load comes first, the time of the load alone is taken off.
+PROGRAM is the built sysu; sqlite3 must be on the path. A figure is the least processor time of three runs of
+the whole process, in turn with the peer's, output thrown away; where a load comes first, the time of the
+load alone is taken off.
 """
-import os, random, subprocess, sys, tempfile, time
+import os, random, resource, subprocess, sys, tempfile
 
 RUNS = 3
 SQLITE = "PRAGMA journal_mode=OFF;\nPRAGMA synchronous=OFF;\n"
@@ -17,25 +18,46 @@ def put(folder, name, text):
         f.write(text)
 
 
+def processor_time():
+    used = resource.getrusage(resource.RUSAGE_CHILDREN)
+    return used.ru_utime + used.ru_stime
+
+
 def seconds(folder, argv, stdin=None):
-    least = None
-    for _ in range(RUNS):
-        source = open(os.path.join(folder, stdin)) if stdin else subprocess.DEVNULL
-        start = time.perf_counter()
-        subprocess.run(argv, cwd=folder, stdin=source, stdout=subprocess.DEVNULL, check=False, timeout=900)
-        took = time.perf_counter() - start
-        least = took if least is None else min(least, took)
-    return least
+    source = open(os.path.join(folder, stdin)) if stdin else subprocess.DEVNULL
+    before = processor_time()
+    subprocess.run(argv, cwd=folder, stdin=source, stdout=subprocess.DEVNULL, check=False, timeout=900)
+    return processor_time() - before
 
 
 def both(program, folder, script, sql, schema="schema.su"):
-    ours = seconds(folder, [program, "run", schema, script])
-    peer = seconds(folder, ["sqlite3", ":memory:"], sql) if sql else None
-    return ours, peer
+    ours, peer = [], []
+    for _ in range(RUNS):
+        ours.append(seconds(folder, [program, "run", schema, script]))
+        if sql:
+            peer.append(seconds(folder, ["sqlite3", ":memory:"], sql))
+    return min(ours), min(peer, default=None)
 
 
 def show(name, ours, peer):
     print(f"{name:44}{ours:9.2f} s" + (f"{peer:9.2f} s" if peer is not None else ""), flush=True)
+
+
+def inserts(program, folder):
+    """As many inserts as a script of 16 MiB has room for: numbers in no order, a third of the texts repeated."""
+    put(folder, "schema.su", "attribute A int; attribute B text;\nrelation R (A int, B text);\nobject AB (A, B) from R (A, B);\n")
+    chosen, script, sql, size = random.Random(7), [], [SQLITE + "CREATE TABLE R(A INTEGER, B TEXT, PRIMARY KEY(A, B)) WITHOUT ROWID; CREATE INDEX rb ON R(B); BEGIN;\n"], 0
+    for i in range(1000000):
+        a, b = i * 611953 % 1000003, f"t{chosen.randrange(1500000):x}"
+        line = f"insert R ({a}, '{b}');\n"
+        size += len(line)
+        if size > 16 * 2**20:
+            break
+        script.append(line)
+        sql.append(f"INSERT OR IGNORE INTO R VALUES({a},'{b}');\n")
+    put(folder, "inserts.su", "".join(script))
+    put(folder, "inserts.sql", "".join(sql) + "COMMIT;\n")
+    show(f"{len(script):,} inserts in no order", *both(program, folder, "inserts.su", "inserts.sql"))
 
 
 def deletes(program, folder):
@@ -65,7 +87,7 @@ def keyed(program, folder):
     put(folder, "inserts.sql", SQLITE + "CREATE TABLE R(A INTEGER, B INTEGER, C INTEGER); CREATE UNIQUE INDEX ab ON R(A, B); CREATE INDEX rb ON R(B); CREATE INDEX rc ON R(C); BEGIN;\n"
         + "".join(f"INSERT INTO R VALUES({a},{b},{c});\n" for a, b, c in rows) + "COMMIT;\n")
     show("300,000 inserts under a dependency", *both(program, folder, "inserts.su", "inserts.sql"))
-    show("the same without it", seconds(folder, [program, "run", "plain.su", "inserts.su"]), None)
+    show("the same without it", *both(program, folder, "inserts.su", None, "plain.su"))
 
 
 def mixed(program, folder):
@@ -88,7 +110,7 @@ def mixed(program, folder):
 def main():
     program = os.path.abspath(sys.argv[1])
     print(f"{'':44}{'sysu':>11}{'sqlite3':>11}")
-    for workload in [globals()[name] for name in sys.argv[2:] or ("deletes", "keyed", "mixed")]:
+    for workload in [globals()[name] for name in sys.argv[2:] or ("inserts", "deletes", "keyed", "mixed")]:
         with tempfile.TemporaryDirectory() as folder:
             workload(program, folder)
 
