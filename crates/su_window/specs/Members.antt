@@ -1,0 +1,32 @@
+-- The members of the views of a database.
+-- member: an object, by its number, and a list of its view; a list in the views of two objects is two members
+use Rattle.std.specs.Prelude.{◌≡◌, ◌↔◌, ℕ, ◌<◌, ◌≤◌, List, length, get_or, Contains}
+use Rattle.su_base.specs.declared.values.Value.{Value}
+use Rattle.su_state.specs.DatabaseValue.{DatabaseValue}
+use Rattle.su_window.specs.Views.{view_of}
+
+pub record Member : Type 0 where
+  pub object : ℕ
+  pub values : List Value
+
+abbrev pub IsMember : DatabaseValue → Member → Type 0
+IsMember db m = Contains (view_of db m.object) m.values
+
+-- no two of them are equal
+abbrev pub AllDiffer : List Member → Type 0
+AllDiffer members = (i j : ℕ) (d : Member) → i < j → j < length members → ¬ (get_or members i d ≡ get_or members j d)
+
+-- these are the members, each once
+pub record AreMembers (db : DatabaseValue) (members : List Member) : Type 0 where
+  pub exact : (m : Member) → Contains members m ↔ IsMember db m
+  pub once : AllDiffer members
+
+-- there are at most 20000 members
+abbrev pub HasFew : DatabaseValue → Type 0
+HasFew db = (members : List Member) × AreMembers db members × (length members ≤ 20000)
+
+-- there are more than 20000: those numbered from 0 to 20000, all different
+pub record HasMany (db : DatabaseValue) : Type 0 where
+  pub member : ℕ → Member
+  pub each : (i : ℕ) → i ≤ 20000 → IsMember db (member i)
+  pub differ : (i j : ℕ) → i < j → j ≤ 20000 → ¬ (member i ≡ member j)

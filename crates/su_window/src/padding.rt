@@ -1,0 +1,58 @@
+//! Members as rows, padded with variables of their own.
+ghost use Rattle.std.specs.Prelude.{◌≡◌, ◌+◌, ◌<◌, ◌≤◌, ◌^◌, ℕ, map, length, get_or, All, Some, None, IfOk};
+ghost use Rattle.std.specs.List.{range_with_len};
+ghost use Rattle.su_window.specs.Padded as padding;
+ghost use Rattle.su_window.specs.Reading.{all_columns, AreColumnsBelow, symbol_in};
+
+use crate::columns::rows_under;
+use crate::readings::Reading;
+use std::alloc::Global;
+use su_base::{List, NoMemory, Row};
+use su_state::Database;
+use su_tableau::Sym;
+
+/// The row's values at the object's attributes, and the variables from the number `first` on elsewhere.
+fn padded_row(
+    alloc: Global,
+    columns: &[Option<u8>],
+    row: &Row,
+    first: usize,
+) -> Result<List<Sym>, NoMemory>
+    requires within { AreColumnsBelow (length row.now) columns.now }
+    requires small { first + length columns.now ≤ 2 ^ 32 }
+    ensures { IfOk result (λ cells. cells ≡ map (λ a. symbol_in row.now (get_or columns.now a None) (first + a)) (range_with_len 0 (length columns.now))) }
+{
+    let mut cells = List::from_vec(Vec::with_capacity(alloc, columns.len())?);
+    for a in 0..columns.len() {
+        let cell = match columns[a] {
+            Some(c) => Sym::Const(row.get(c as usize).copy(alloc)?),
+            None => Sym::Var((first + a) as u32),
+        };
+        cells.push(cell)?;
+    }
+    Ok(cells)
+}
+
+/// The padded rows of the readings, in order.
+pub fn padded_rows(
+    alloc: Global,
+    db: &Database,
+    columns: &[List<Option<u8>>],
+    readings: &[Reading],
+) -> Result<List<List<Sym>>, NoMemory>
+    requires columns { columns.now ≡ all_columns db.now.schema }
+    requires each { All (padding.IsReading db.now) readings.now }
+    requires few { length readings.now ≤ 20000 }
+    ensures { IfOk result (λ rows. rows ≡ padding.padded_rows db.now readings.now) }
+{
+    db.keeps_its_rules();
+    let width = db.schema().attributes();
+    let mut rows = List::new(alloc);
+    for i in 0..readings.len() {
+        let reading = readings[i];
+        let columns = columns[reading.object as usize].as_slice();
+        let row = &rows_under(db, reading.object)[reading.position];
+        rows.push(padded_row(alloc, columns, row, i * width)?)?;
+    }
+    Ok(rows)
+}

@@ -1,0 +1,110 @@
+//! The window of a database.
+ghost use Rattle.std.specs.Prelude.{◌≡◌, ◌↔◌, ◌<◌, ℕ, List as Items, length, All, Contains, IfOk, IfErr, MatchOption};
+ghost use Rattle.std.specs.List.Sorted.{IsStrictlySortedBy};
+ghost use Rattle.su_base.specs.declared.values.Value.{Value as AValue};
+ghost use Rattle.su_base.specs.Value.{compare_lists};
+ghost use Rattle.su_tableau.specs.declared.symbols.Sym.{Sym as ASym};
+ghost use Rattle.su_tableau.specs.Tableaux.{AreBelow};
+ghost use Rattle.su_window.specs.Cuts.{width};
+ghost use Rattle.su_window.specs.Window.{Fits, InWindow};
+ghost use Rattle.su_window.specs.Members.{HasFew};
+ghost use Rattle.su_window.specs.Refusals.{IsWindowRefusal};
+ghost use Rattle.su_window.specs.Reading.{AreConstants};
+
+use crate::columns::all_columns;
+use crate::faults::WindowFault;
+use crate::padding::padded_rows;
+use crate::readings::readings_of;
+use std::alloc::Global;
+use su_base::{List, NoMemory, Row, Value};
+use su_chase::{Closed, close};
+use su_state::Database;
+use su_tableau::Sym;
+
+/// The constant that is the symbol's name, if it is one.
+fn constant<'a>(names: &'a [Sym], x: &'a Sym) -> Option<&'a Value> {
+    match x {
+        Sym::Const(value) => Some(value),
+        Sym::Var(k) => match &names[*k as usize] {
+            Sym::Const(value) => Some(value),
+            Sym::Var(_) => None,
+        },
+    }
+}
+
+/// The constants that are the names of the row's symbols at the attributes, if all these are constants.
+fn constants(
+    alloc: Global,
+    names: &[Sym],
+    row: &[Sym],
+    attributes: &[u8],
+) -> Result<Option<Row>, NoMemory>
+    requires below { AreBelow (length names.now) row.now }
+    requires within { All (λ a. a < length row.now) attributes.now }
+    ensures { IfOk result (λ found. MatchOption found ((h : Items AValue) → ¬ AreConstants names.now row.now attributes.now h) (AreConstants names.now row.now attributes.now)) }
+{
+    let mut values = List::new(alloc);
+    for a in attributes {
+        match constant(names, &row[*a as usize]) {
+            Some(value) => values.push(value.copy(alloc)?)?,
+            None => return Ok(None),
+        }
+    }
+    Ok(Some(values))
+}
+
+/// The constants of those rows whose names are constants at all the attributes.
+fn constant_rows(
+    alloc: Global,
+    names: &[Sym],
+    rows: &[List<Sym>],
+    attributes: &[u8],
+) -> Result<List<Row>, NoMemory>
+    requires below { All (AreBelow (length names.now)) rows.now }
+    requires within { All (λ row. All (λ a. a < length row) attributes.now) rows.now }
+    ensures { IfOk result (λ found. (h : Items AValue) → Contains found h ↔ ((row : Items ASym) × Contains rows.now row × AreConstants names.now row attributes.now h)) }
+{
+    let mut found = List::new(alloc);
+    for row in rows {
+        if let Some(values) = constants(alloc, names, row.as_slice(), attributes)? {
+            found.push(values)?;
+        }
+    }
+    Ok(found)
+}
+
+/// The rows, ascending, each once.
+fn sorted(rows: List<Row>) -> Result<List<Row>, NoMemory>
+    ensures members { IfOk result (λ all. (h : Items AValue) → Contains all h ↔ Contains rows h) }
+    ensures ascending { IfOk result (λ all. IsStrictlySortedBy compare_lists all) }
+{
+    let mut all = rows.into_vec();
+    all.sort()?;
+    all.dedup();
+    Ok(List::from_vec(all))
+}
+
+/// The rows over the attributes that every universal relation has which meets the dependencies and
+/// includes the stored rows; an attribute may be given twice. (The windows of Maier, Ullman and Vardi,
+/// by chasing Honeyman's and Mendelzon's representative instance.) The time goes with the stored rows,
+/// and with the chase of at most 20,000 rows of the schema's width.
+pub fn window(alloc: Global, db: &Database, attributes: &[u8]) -> Result<List<Row>, WindowFault>
+    requires attributes { All (λ a. a < width db.now.schema) attributes.now }
+    ensures exact { IfOk result (λ rows. (h : Items AValue) → Contains rows h ↔ InWindow db.now attributes.now h) }
+    ensures ascending { IfOk result (λ rows. IsStrictlySortedBy compare_lists rows) }
+    ensures fits { IfOk result (λ _. HasFew db.now × ((universe : Items (Items AValue)) × Fits db.now universe)) }
+    ensures refused { IfErr result (IsWindowRefusal db.now) }
+{
+    db.keeps_its_rules();
+    let columns = all_columns(alloc, db.schema())?;
+    let readings = readings_of(alloc, db, columns.as_slice())?;
+    let rows = padded_rows(alloc, db, columns.as_slice(), readings.as_slice())?;
+    let Closed { names, clash } = close(alloc, db.schema().fds(), rows.as_slice())?;
+    match clash {
+        Some((less, greater)) => Err(WindowFault::Inconsistent { less, greater }),
+        None => {
+            let found = constant_rows(alloc, names.as_slice(), rows.as_slice(), attributes)?;
+            Ok(sorted(found)?)
+        }
+    }
+}
