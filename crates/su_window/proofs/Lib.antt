@@ -1,0 +1,9 @@
+pub mod Cutting
+pub mod Fitting
+pub mod Made
+pub mod Objects
+pub mod Picked
+pub mod Rows
+pub mod Sorted
+pub mod Taking
+pub mod Whole

@@ -1,5 +1,5 @@
 //! The columns of an object, and the values in them.
-ghost use Rattle.std.specs.Prelude.{◌≡◌, ◌<◌, length, IfOk};
+ghost use Rattle.std.specs.Prelude.{◌≡◌, ◌<◌, ◌++◌, ℕ, Some, length, IfOk, OnOk};
 ghost use Rattle.su_window.specs.Padded.{rows_under};
 ghost use Rattle.su_window.specs.Reading as reading;
 
@@ -33,6 +33,22 @@ pub fn all_columns(alloc: Global, schema: &Schema) -> Result<List<List<Option<u8
     Ok(all)
 }
 
+/// Adds a copy of the row's value in the column, if it is there.
+fn push_value(
+    alloc: Global,
+    column: Option<u8>,
+    row: &Row,
+    values: &mut Row,
+) -> Result<(), NoMemory>
+    requires { (k : ℕ) → column ≡ Some k → k < length row.now }
+    ensures { OnOk result (values.new ≡ values.old ++ reading.value_in row.now column) }
+{
+    if let Some(c) = column {
+        values.push(row.get(c as usize).copy(alloc)?)?;
+    }
+    Ok(())
+}
+
 /// Copies of the row's values in those columns that are there.
 pub fn values_in(alloc: Global, columns: &[Option<u8>], row: &Row) -> Result<Row, NoMemory>
     requires { reading.AreColumnsBelow (length row.now) columns.now }
@@ -40,9 +56,7 @@ pub fn values_in(alloc: Global, columns: &[Option<u8>], row: &Row) -> Result<Row
 {
     let mut values = List::new(alloc);
     for column in columns {
-        if let Some(c) = column {
-            values.push(row.get(*c as usize).copy(alloc)?)?;
-        }
+        push_value(alloc, *column, row, &mut values)?;
     }
     Ok(values)
 }
@@ -53,5 +67,6 @@ pub fn rows_under(db: &Database, object: u8) -> &[Row]
     ensures { result.now ≡ rows_under db.now object }
 {
     db.keeps_its_rules();
-    db.tables()[db.schema().object_relation(object) as usize].as_slice()
+    let relation = db.schema().object_relation(object);
+    db.tables()[relation as usize].as_slice()
 }

@@ -11,6 +11,17 @@ use su_base::{List, NoMemory, Row};
 use su_state::Database;
 use su_tableau::Sym;
 
+/// The row's value in the column, or the variable `k` where there is no column.
+fn cell(alloc: Global, column: Option<u8>, row: &Row, k: u32) -> Result<Sym, NoMemory>
+    requires { (c : ℕ) → column ≡ Some c → c < length row.now }
+    ensures { IfOk result (λ x. x ≡ symbol_in row.now column k) }
+{
+    match column {
+        Some(c) => Ok(Sym::Const(row.get(c as usize).copy(alloc)?)),
+        None => Ok(Sym::Var(k)),
+    }
+}
+
 /// The row's values at the object's attributes, and the variables from the number `first` on elsewhere.
 fn padded_row(
     alloc: Global,
@@ -24,11 +35,7 @@ fn padded_row(
 {
     let mut cells = List::from_vec(Vec::with_capacity(alloc, columns.len())?);
     for a in 0..columns.len() {
-        let cell = match columns[a] {
-            Some(c) => Sym::Const(row.get(c as usize).copy(alloc)?),
-            None => Sym::Var((first + a) as u32),
-        };
-        cells.push(cell)?;
+        cells.push(cell(alloc, columns[a], row, (first + a) as u32)?)?;
     }
     Ok(cells)
 }
@@ -51,7 +58,8 @@ pub fn padded_rows(
     for i in 0..readings.len() {
         let reading = readings[i];
         let columns = columns[reading.object as usize].as_slice();
-        let row = &rows_under(db, reading.object)[reading.position];
+        let stored = rows_under(db, reading.object);
+        let row = &stored[reading.position];
         rows.push(padded_row(alloc, columns, row, i * width)?)?;
     }
     Ok(rows)

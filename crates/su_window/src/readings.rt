@@ -68,8 +68,8 @@ fn read_row(
     ensures few { OnOk result (length readings.new ≤ 20000) }
     ensures refused { IfErr result (IsWindowRefusal db.now) }
 {
-    let row = &rows_under(db, reading.object)[reading.position];
-    let values = values_in(alloc, columns, row)?;
+    let rows = rows_under(db, reading.object);
+    let values = values_in(alloc, columns, &rows[reading.position])?;
     if is_new(seen, values)? {
         add(readings, reading)?;
     }
@@ -93,7 +93,8 @@ fn read_object(
     ensures refused { IfErr result (IsWindowRefusal db.now) }
 {
     let mut seen = HashSet::new(alloc);
-    for position in 0..rows_under(db, object).len() {
+    let rows = rows_under(db, object);
+    for position in 0..rows.len() {
         let reading = Reading { object, position };
         read_row(alloc, db, columns, reading, &mut seen, readings)?;
     }

@@ -1,10 +1,12 @@
 //! The window of a database.
-ghost use Rattle.std.specs.Prelude.{◌≡◌, ◌↔◌, ◌<◌, ℕ, List as Items, length, All, Contains, IfOk, IfErr, MatchOption};
+ghost use Rattle.std.specs.Prelude.{◌≡◌, ◌↔◌, ◌⊎◌, ◌<◌, ℕ, List as Items, length, All, Contains, IfOk, IfErr, OnOk, MatchOption};
 ghost use Rattle.std.specs.List.Sorted.{IsStrictlySortedBy};
 ghost use Rattle.su_base.specs.declared.values.Value.{Value as AValue};
 ghost use Rattle.su_base.specs.Value.{compare_lists};
 ghost use Rattle.su_tableau.specs.declared.symbols.Sym.{Sym as ASym};
+ghost use Rattle.su_tableau.specs.declared.symbols.Sym.TheVariants.{Const, Var};
 ghost use Rattle.su_tableau.specs.Tableaux.{AreBelow};
+ghost use Rattle.su_chase.specs.Rows.{name_by};
 ghost use Rattle.su_window.specs.Cuts.{width};
 ghost use Rattle.su_window.specs.Window.{Fits, InWindow};
 ghost use Rattle.su_window.specs.Members.{HasFew};
@@ -22,13 +24,17 @@ use su_state::Database;
 use su_tableau::Sym;
 
 /// The constant that is the symbol's name, if it is one.
-fn constant<'a>(names: &'a [Sym], x: &'a Sym) -> Option<&'a Value> {
-    match x {
+fn constant<'a>(names: &'a [Sym], x: &'a Sym) -> Option<&'a Value>
+    requires { (k : ℕ) → x.now ≡ Var k → k < length names.now }
+    ensures { MatchOption result ((c : AValue) → ¬ (name_by names.now x.now ≡ Const c)) (λ value. name_by names.now x.now ≡ Const value.now) }
+{
+    let name = match x {
+        Sym::Const(_) => x,
+        Sym::Var(k) => &names[*k as usize],
+    };
+    match name {
         Sym::Const(value) => Some(value),
-        Sym::Var(k) => match &names[*k as usize] {
-            Sym::Const(value) => Some(value),
-            Sym::Var(_) => None,
-        },
+        Sym::Var(_) => None,
     }
 }
 
@@ -53,6 +59,24 @@ fn constants(
     Ok(Some(values))
 }
 
+/// Adds the constants of the row, if its names are constants at all the attributes.
+fn push_constants(
+    alloc: Global,
+    names: &[Sym],
+    row: &[Sym],
+    attributes: &[u8],
+    found: &mut List<Row>,
+) -> Result<(), NoMemory>
+    requires below { AreBelow (length names.now) row.now }
+    requires within { All (λ a. a < length row.now) attributes.now }
+    ensures { OnOk result ((h : Items AValue) → Contains found.new h ↔ (Contains found.old h ⊎ AreConstants names.now row.now attributes.now h)) }
+{
+    if let Some(values) = constants(alloc, names, row, attributes)? {
+        found.push(values)?;
+    }
+    Ok(())
+}
+
 /// The constants of those rows whose names are constants at all the attributes.
 fn constant_rows(
     alloc: Global,
@@ -66,9 +90,7 @@ fn constant_rows(
 {
     let mut found = List::new(alloc);
     for row in rows {
-        if let Some(values) = constants(alloc, names, row.as_slice(), attributes)? {
-            found.push(values)?;
-        }
+        push_constants(alloc, names, row.as_slice(), attributes, &mut found)?;
     }
     Ok(found)
 }
