@@ -1,9 +1,13 @@
+pub mod Constants
+pub mod Counted
 pub mod Cutting
 pub mod Fitting
 pub mod Made
 pub mod Objects
 pub mod Picked
+pub mod RowRead
 pub mod Rows
+pub mod Seen
 pub mod Sorted
 pub mod Taking
 pub mod Whole

@@ -25,7 +25,7 @@ use Rattle.su_window.specs.Cuts.{width, attributes_at}
 use Rattle.su_window.specs.Views.{value_for}
 use Rattle.su_window.specs.Padded.{object_at, rows_under}
 
-blank : ObjectEntry
+abbrev blank : ObjectEntry
 blank = record { name = []; relation = 0; links = [] }
 
 pub placed_at : (schema : SchemaValue) (o : ℕ) → o < length schema.objects → slice_get schema.objects o ≡ Some (object_at schema o)

@@ -50,7 +50,7 @@ value_ties v w = matches_eq-law v w ∙ ap is_eq (same_order v w)
 row_ties : (a b : List Value) → pointwise ghosts.eq a b ≡ eq_by_cmp compare_lists a b
 row_ties = lists_ties compare_values value_ties
 
-rows_equiv : IsEquivalence (pointwise ghosts.eq)
+pub rows_equiv : IsEquivalence (pointwise ghosts.eq)
 rows_equiv = subst (λ (E : List Value → List Value → Bool). IsEquivalence E) (λ i a b. sym (row_ties a b) i) (eq_by_cmp_equiv rows_total)
 
 -- what a sort and a `dedup` leave of rows

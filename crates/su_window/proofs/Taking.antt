@@ -57,13 +57,15 @@ rows_are db kept o low r tables is answered table at rows rows_is =
 taken_from : (object : ObjectEntry) (row : List Value) (i n : ℕ) → flat_map (value_in row) (map (column_of object) (range_with_len i n)) ≡ cut_from i (attributes_of object) (map (value_for object row) (range_with_len i n))
 taken_from object row i zero = refl
 taken_from object row i (suc n) =
-    let rest = taken_from object row (suc i) n in
-    elim (column_of object i) as (λ o. column_of object i ≡ o → value_in row o ++ flat_map (value_in row) (map (column_of object) (range_with_len (suc i) n)) ≡ cond (contains (attributes_of object) i) (value_for object row i ∷ cut_from (suc i) (attributes_of object) (map (value_for object row) (range_with_len (suc i) n))) (cut_from (suc i) (attributes_of object) (map (value_for object row) (range_with_len (suc i) n)))) [
+    let next : i + 1 ≡ suc i = omega arith in
+    let more : List Value = map (value_for object row) (range_with_len (i + 1) n) in
+    let rest : flat_map (value_in row) (map (column_of object) (range_with_len (i + 1) n)) ≡ cut_from (suc i) (attributes_of object) more = taken_from object row (i + 1) n ∙ ap (λ (k : ℕ). cut_from k (attributes_of object) more) next in
+    elim (column_of object i) as (λ o. column_of object i ≡ o → value_in row o ++ flat_map (value_in row) (map (column_of object) (range_with_len (i + 1) n)) ≡ cond (contains (attributes_of object) i) (value_for object row i ∷ cut_from (suc i) (attributes_of object) more) (cut_from (suc i) (attributes_of object) more)) [
       | None ↦ λ e. rest ∙ sym (cond-false (contains (attributes_of object) i) _ _ (no_attribute object i e))
       | Some c ↦ λ e.
           let value = value_is object row i c e in
           ap (λ (xs : List Value). get_or row c (Int (pos 0)) ∷ xs) rest
-          ∙ ap (λ (v : Value). v ∷ cut_from (suc i) (attributes_of object) (map (value_for object row) (range_with_len (suc i) n))) (sym value)
+          ∙ ap (λ (v : Value). v ∷ cut_from (suc i) (attributes_of object) more) (sym value)
           ∙ sym (cond-true (contains (attributes_of object) i) _ _ (own_attribute object i c e))
     ] refl
 

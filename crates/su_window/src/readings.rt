@@ -68,6 +68,7 @@ fn read_row(
     ensures few { OnOk result (length readings.new ≤ 20000) }
     ensures refused { IfErr result (IsWindowRefusal db.now) }
 {
+    db.keeps_its_rules();
     let rows = rows_under(db, reading.object);
     let values = values_in(alloc, columns, &rows[reading.position])?;
     if is_new(seen, values)? {

@@ -1,9 +1,16 @@
-use Rattle.std.proofs.Common.{◌≡◌, ◌∙◌, ap, get_or}
+use Rattle.std.proofs.Common.{◌≡◌, ℕ, map, Some, subst}
+use Rattle.std.specs.Prelude.{slice_get}
+use Rattle.su_schema.specs.SchemaValue.{SchemaValue}
 use Rattle.su_window.proofs.Taking.{relation_within, rows_are}
 use Rattle.su_window.proofs.columns.rows_under.Goals as goal
 
 pub bounds-tables-relation : goal.bounds-tables-relation
-bounds-tables-relation c = relation_within c.args.db.now c.keeps_its_rules.ensures c.args.object c.requires c.object_relation-relation.result c.tables.result.now c.tables.ensures c.object_relation-relation.ensures
+bounds-tables-relation c =
+    relation_within c.args.db.now c.keeps_its_rules.ensures c.args.object c.requires c.object_relation-relation.result c.tables.result.now c.tables.ensures
+    (subst (λ (s : SchemaValue). slice_get (map (λ object. object.relation) s.objects) c.args.object ≡ Some c.object_relation-relation.result) c.schema.ensures c.object_relation-relation.ensures)
 
 pub returns : goal.returns
-returns c = rows_are c.args.db.now c.keeps_its_rules.ensures c.args.object c.requires c.object_relation-relation.result c.tables.result.now c.tables.ensures c.object_relation-relation.ensures c.index-tables-relation.result c.index-tables-relation.is c.as_slice.result.now c.as_slice.ensures.rows
+returns c =
+    rows_are c.args.db.now c.keeps_its_rules.ensures c.args.object c.requires c.object_relation-relation.result c.tables.result.now c.tables.ensures
+    (subst (λ (s : SchemaValue). slice_get (map (λ object. object.relation) s.objects) c.args.object ≡ Some c.object_relation-relation.result) c.schema.ensures c.object_relation-relation.ensures)
+    c.index-tables-relation.result c.index-tables-relation.is c.as_slice.result.now c.as_slice.ensures.rows

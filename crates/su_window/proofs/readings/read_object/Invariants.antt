@@ -1,0 +1,7 @@
+use Rattle.std.proofs.Common.{◌↔◌, ◌≤◌, List, length, Contains}
+use Rattle.su_base.specs.declared.values.Value.{Value}
+use Rattle.su_window.specs.Reading.{lists_before, AreSoFar}
+use Rattle.su_window.proofs.readings.read_object.Given as goal
+
+abbrev pub invariant-loop-position : goal.invariant-loop-position
+invariant-loop-position l = ((x : List Value) → Contains l.seen.keys x ↔ Contains (lists_before l.db l.object l.position) x) × AreSoFar l.db l.object l.position l.readings × (length l.readings ≤ 20000)
