@@ -47,7 +47,7 @@ of_taken (suc p) (y ∷ ys) x c =
     (λ (r : Contains (take p ys) x). contains_later y ys x (of_taken p ys x r))
     (contains_cases y (take p ys) x c)
 
-take_all : {X : Type 0} (xs : List X) → take (length xs) xs ≡ xs
+pub take_all : {X : Type 0} (xs : List X) → take (length xs) xs ≡ xs
 take_all [] = refl
 take_all (x ∷ xs) = ap (λ ys. x ∷ ys) (take_all xs)
 

@@ -8,7 +8,9 @@ use Rattle.su_tableau.specs.declared.symbols.Sym.TheVariants.{Var}
 use Rattle.su_tableau.specs.Tableaux.{AreBelow}
 use Rattle.su_state.specs.DatabaseValue.{DatabaseValue, IsWellKept}
 use Rattle.su_chase.specs.Chase.{IsName, IsConsistent, IsClash}
+use Rattle.su_chase.specs.Chased.{AreRows}
 use Rattle.su_chase.specs.Rows.{name_by}
+use Rattle.su_fd.specs.declared.dependencies.Fd.{Fd}
 use Rattle.su_chase.proofs.Answering.{are_names}
 use Rattle.su_window.specs.declared.readings.Reading.{Reading}
 use Rattle.su_window.specs.Cuts.{width}
@@ -17,7 +19,7 @@ use Rattle.su_window.specs.Members.{HasFew}
 use Rattle.su_window.specs.Padded.{member_read, AreReadings, padded_rows}
 use Rattle.su_window.specs.Refusals.{Clashes}
 use Rattle.su_window.specs.Reading.{AreConstants}
-use Rattle.su_window.proofs.Rows.{rows_long}
+use Rattle.su_window.proofs.Rows.{rows_long, are_rows}
 use Rattle.su_window.proofs.Picked.{no_clash, has_constants}
 use Rattle.su_window.proofs.Fitting.{some_fits, in_window}
 
@@ -40,3 +42,41 @@ module _ (db : DatabaseValue) (kept : IsWellKept db) (readings : List Reading) (
       λ w universe fits. has_constants db kept readings are universe fits names named attributes low w.0 w.1 h w.2,
       in_window db kept readings are names named attributes low h,
     )
+
+-- ---- by what was answered
+
+module _ (db : DatabaseValue) (kept : IsWellKept db) (readings : List Reading) (are : AreReadings db readings) (few : length readings ≤ 20000) (fds : List Fd) (fds_are : fds ≡ db.schema.fds) (rows : List (List Sym)) (rows_are : rows ≡ padded_rows db readings) where
+  at_db : (P : List Fd → List (List Sym) → Type 0) → P fds rows → P db.schema.fds (padded_rows db readings)
+  at_db P p = subst (P db.schema.fds) rows_are (subst (λ (f : List Fd). P f rows) fds_are p)
+
+  pub can_close : AreRows fds rows
+  can_close = subst (λ (f : List Fd). AreRows f rows) (sym fds_are) (subst (AreRows db.schema.fds) (sym rows_are) (are_rows db kept readings few))
+
+  pub refused_told : (less greater : Value) → IsClash fds rows less greater → Clashes db less greater × ((universe : List (List Value)) → ¬ Fits db universe)
+  refused_told less greater clash = refused db kept readings are few less greater (at_db (λ f r. IsClash f r less greater) clash)
+
+  pub attributes_within : (attributes : List ℕ) → All (λ a. a < width db.schema) attributes → All (λ row. All (λ a. a < length row) attributes) rows
+  attributes_within attributes low =
+      subst (λ (r : List (List Sym)). All (λ row. All (λ a. a < length row) attributes) r) (sym rows_are)
+      (λ i d l j e m. subst (λ (n : ℕ). get_or attributes j e < n) (sym (rows_long db readings i d l)) (low j e m))
+
+  module _ (names : List Sym) (all : All (AreBelow (length names)) rows) (each : (k : ℕ) → k < length names → IsName fds rows (Var k) (get_or names k (Var k))) (clash : Option (Value × Value)) (told : MatchOption clash (IsConsistent fds rows) (λ p. IsClash fds rows p.0 p.1)) (none : clash ≡ None) where
+    all_here : All (AreBelow (length names)) (padded_rows db readings)
+    all_here = at_db (λ f r. All (AreBelow (length names)) r) all
+
+    each_here : (k : ℕ) → k < length names → IsName db.schema.fds (padded_rows db readings) (Var k) (get_or names k (Var k))
+    each_here = at_db (λ f r. (k : ℕ) → k < length names → IsName f r (Var k) (get_or names k (Var k))) each
+
+    consistent_here : IsConsistent db.schema.fds (padded_rows db readings)
+    consistent_here = at_db IsConsistent (subst (λ (o : Option (Value × Value)). MatchOption o (IsConsistent fds rows) (λ p. IsClash fds rows p.0 p.1)) none told)
+
+    pub fits_told : HasFew db × ((universe : List (List Value)) × Fits db universe)
+    fits_told = fits db kept readings are few names all_here each_here consistent_here
+
+    pub exact_told : (attributes : List ℕ) → All (λ a. a < width db.schema) attributes → (rows_given : List (List Sym)) → rows_given ≡ rows → (names_given : List Sym) → names_given ≡ names → (found sorted : List (List Value)) → ((h : List Value) → Contains found h ↔ ((row : List Sym) × Contains rows_given row × AreConstants names_given row attributes h)) → ((h : List Value) → Contains sorted h ↔ Contains found h) → (h : List Value) → Contains sorted h ↔ InWindow db attributes h
+    exact_told attributes low rows_given rows_same names_given names_same found sorted finds members h =
+        let window = exact db kept readings are few names all_here each_here consistent_here attributes low h in
+        let finds_here : Contains found h ↔ ((row : List Sym) × Contains (padded_rows db readings) row × AreConstants names row attributes h) =
+        subst (λ (ns : List Sym). Contains found h ↔ ((row : List Sym) × Contains (padded_rows db readings) row × AreConstants ns row attributes h)) names_same
+        (subst (λ (rs : List (List Sym)). Contains found h ↔ ((row : List Sym) × Contains rs row × AreConstants names_given row attributes h)) (rows_same ∙ rows_are) (finds h)) in
+        (λ c. window.0 (finds_here.0 ((members h).0 c)), λ w. (members h).1 (finds_here.1 (window.1 w)))
