@@ -1,8 +1,8 @@
 -- Lists whose elements stay below a bound while they are changed.
 use Rattle.std.proofs.Common.{◌≡◌, ℕ, zero, suc, ◌+◌, ◌<◌, ◌≤◌, List, [], ◌∷◌, ◌++◌, length, get_or, set, Contains, refl, sym, ◌∙◌, subst, arith}
-use Rattle.std.specs.Prelude.{All}
+use Rattle.std.specs.Prelude.{All, MatchOption, Option, Some, None}
 use Rattle.std.proofs.lemmas.List.{length-set, length-append}
-use Rattle.std.proofs.lemmas.List.Elements.{All-set, All-append, All-contains, Contains-append_left}
+use Rattle.std.proofs.lemmas.List.Elements.{All-nil, All-set, All-append, All-contains, Contains-append_left, Contains-get_or}
 use Rattle.su_classes.specs.declared.worklist.Spot.{Spot}
 use Rattle.su_classes.specs.declared.worklist.Worklist.{Worklist}
 use Rattle.su_classes.specs.Rushing.{IsWell, IsSame, IsSpot, IsFor}
@@ -42,5 +42,6 @@ for_same items rows a b f s = record {
   spots = subst (λ (list : List Spot). All (IsSpot rows) list) (sym s.spots) f.spots;
 }
 
-pub spots_of : (rows : ℕ) (spots list : List Spot) → All (IsSpot rows) spots → All (Contains spots) list → All (IsSpot rows) list
-spots_of rows spots list all among i d l = All-contains (IsSpot rows) spots (get_or list i d) all (among i d l)
+pub all_popped : {X : Type 0} (P : X → Type 0) (old new : List X) (r : Option X) → MatchOption r ((old ≡ []) × (new ≡ [])) (λ x. old ≡ new ++ x ∷ []) → All P old → All P new
+all_popped P old new None e all = subst (All P) (sym e.1) (All-nil P)
+all_popped P old new (Some x) e all = λ i d l. All-contains P (new ++ x ∷ []) (get_or new i d) (subst (All P) e all) (Contains-append_left new (x ∷ []) (get_or new i d) (Contains-get_or new i d l))

@@ -3,13 +3,13 @@ ghost use Rattle.std.specs.Prelude.{◌≡◌, ℕ, ◌<◌, ◌≤◌, IsTrue, 
 ghost use Rattle.su_tableau.specs.declared.symbols.Sym.{Sym};
 ghost use Rattle.su_classes.specs.Items.{cell, LiesIn, SameAt, Keeps, IsPlacedBelow};
 ghost use Rattle.su_classes.specs.Tables.{IsForest, IsSound, IsShortened, IsMerging};
-ghost use Rattle.su_classes.specs.Rushing.{IsRule, IsSpot, IsWell, IsSame, IsFor};
+ghost use Rattle.su_classes.specs.Rushing.{IsRule, IsWell, IsSame, IsFor};
 
 use crate::firsts::lies_in;
 use crate::items::{Placed, item_at};
 use crate::rules::{Rule, readers_of, rules_of};
 use crate::tables::{join, root};
-use crate::worklist::{Spot, Worklist, worklist_of};
+use crate::worklist::{Worklist, worklist_of};
 use std::alloc::Global;
 use std::collections::HashMap;
 use su_base::{List, NoMemory};
@@ -136,29 +136,40 @@ fn look(
     Ok(())
 }
 
-/// Looks each row up under the dependency.
-fn look_at_each(
+/// Looks the row up under each dependency.
+fn look_at_row(
     table: &mut [usize],
     work: &mut Worklist,
-    rule: &Rule,
-    notes: &mut HashMap<u64, usize>,
+    rules: &[Rule],
+    notes: &mut [HashMap<u64, usize>],
     rows: &[Placed],
+    position: usize,
 ) -> Result<(), NoMemory>
     requires ordered { IsForest table.old }
     requires well { IsWell work.old }
     requires items { length work.old.marks.items ≡ length table.old }
-    requires rule { IsRule rule.now }
+    requires rules { All IsRule rules.now }
+    requires notes { length notes.old ≡ length rules.now }
     requires cells { All (IsPlacedBelow (length table.old)) rows.now }
-    ensures merging { OnOk result (IsMerging (λ label. Keeps label rows.now rule.now.fd) table.old table.new) }
+    requires position { position < length rows.now }
+    ensures merging { OnOk result (IsMerging (λ label. All (λ r. Keeps label rows.now r.fd) rules.now) table.old table.new) }
     ensures same { OnOk result (IsSame work.old work.new) }
+    ensures notes { length notes.new ≡ length rules.now }
 {
-    for position in 0..rows.len() {
-        look(table, work, rule, notes, rows, position)?;
+    for number in 0..rules.len() {
+        look(
+            table,
+            work,
+            &rules[number],
+            &mut notes[number],
+            rows,
+            position,
+        )?;
     }
     Ok(())
 }
 
-/// Looks each row up under each dependency.
+/// Looks each row up under each dependency, row by row: cells of one row lie together.
 fn look_at_all(
     table: &mut [usize],
     work: &mut Worklist,
@@ -176,8 +187,8 @@ fn look_at_all(
     ensures same { OnOk result (IsSame work.old work.new) }
     ensures notes { length notes.new ≡ length rules.now }
 {
-    for number in 0..rules.len() {
-        look_at_each(table, work, &rules[number], &mut notes[number], rows)?;
+    for position in 0..rows.len() {
+        look_at_row(table, work, rules, notes, rows, position)?;
     }
     Ok(())
 }
@@ -217,36 +228,6 @@ fn look_under(
     Ok(())
 }
 
-/// Looks the row of each spot up under the dependencies that have its attribute on the left.
-fn look_again(
-    table: &mut [usize],
-    work: &mut Worklist,
-    rules: &[Rule],
-    readers: &[List<usize>],
-    notes: &mut [HashMap<u64, usize>],
-    rows: &[Placed],
-    spots: &[Spot],
-) -> Result<(), NoMemory>
-    requires ordered { IsForest table.old }
-    requires well { IsWell work.old }
-    requires items { length work.old.marks.items ≡ length table.old }
-    requires rules { All IsRule rules.now }
-    requires each { length readers.now ≡ 128 }
-    requires readers { All (All (λ r. r < length rules.now)) readers.now }
-    requires notes { length notes.old ≡ length rules.now }
-    requires cells { All (IsPlacedBelow (length table.old)) rows.now }
-    requires spots { All (IsSpot (length rows.now)) spots.now }
-    ensures merging { OnOk result (IsMerging (λ label. All (λ r. Keeps label rows.now r.fd) rules.now) table.old table.new) }
-    ensures same { OnOk result (IsSame work.old work.new) }
-    ensures notes { length notes.new ≡ length rules.now }
-{
-    for spot in spots {
-        let numbers = readers[spot.attribute as usize].as_slice();
-        look_under(table, work, rules, numbers, notes, rows, spot.row)?;
-    }
-    Ok(())
-}
-
 fn notes_of(alloc: Global, count: usize) -> Result<Vec<HashMap<u64, usize>>, NoMemory>
     ensures { IfOk result (λ notes. length notes.items ≡ count) }
 {
@@ -257,10 +238,9 @@ fn notes_of(alloc: Global, count: usize) -> Result<Vec<HashMap<u64, usize>>, NoM
     Ok(notes.into_vec())
 }
 
-/// Looks again as long as something is pending. A round but the first comes of a merge in the one before
-/// it.
+/// Looks the rows of pending spots up under the dependencies that have their attribute on the left, the
+/// last one first. A spot is pending at most as often as its class doubles, so fewer than 64 times.
 fn look_on(
-    alloc: Global,
     table: &mut [usize],
     work: &mut Worklist,
     rules: &[Rule],
@@ -277,12 +257,13 @@ fn look_on(
     requires cells { All (IsPlacedBelow (length table.old)) rows.now }
     ensures { OnOk result (IsMerging (λ label. All (λ r. Keeps label rows.now r.fd) rules.now) table.old table.new) }
 {
-    for _ in 0..table.len() {
-        let spots = work.take(alloc);
-        if spots.is_empty() {
+    let turns = work.spots.len().saturating_mul(64);
+    for _ in 0..turns {
+        let Some(spot) = work.next_pending() else {
             return Ok(());
-        }
-        look_again(table, work, rules, readers, notes, rows, spots.as_slice())?;
+        };
+        let numbers = readers[spot.attribute as usize].as_slice();
+        look_under(table, work, rules, numbers, notes, rows, spot.row)?;
     }
     Ok(())
 }
@@ -305,7 +286,7 @@ fn rush_by(
     let mut tables = notes_of(alloc, rules.len())?;
     let notes = tables.as_mut_slice();
     look_at_all(table, &mut work, rules, notes, rows)?;
-    look_on(alloc, table, &mut work, rules, readers, notes, rows)?;
+    look_on(table, &mut work, rules, readers, notes, rows)?;
     Ok(())
 }
 

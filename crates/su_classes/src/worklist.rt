@@ -1,12 +1,11 @@
 //! The cells that are to be looked at again, and the marks of classes by which rows are found.
-ghost use Rattle.std.specs.Prelude.{◌≡◌, ◌<◌, ◌++◌, ◌∷◌, [], All, Contains, length, IfOk, OnOk};
+ghost use Rattle.std.specs.Prelude.{◌≡◌, ◌<◌, ◌++◌, ◌∷◌, [], All, Contains, length, IfOk, IfSome, OnOk};
 ghost use Rattle.su_classes.specs.Items.{cell, IsPlacedBelow};
 ghost use Rattle.su_classes.specs.Tables.{IsForest};
 ghost use Rattle.su_classes.specs.Rushing.{IsWell, IsSame, IsSpot, IsFor};
 
 use crate::items::{Placed, item_at};
 use std::alloc::Global;
-use std::mem::replace;
 use su_base::{List, NoMemory};
 
 /// A cell: the position of its row, and its attribute.
@@ -83,13 +82,13 @@ impl Worklist {
         Ok(())
     }
 
-    /// The spots whose class got another mark since this was asked last.
-    pub fn take(&mut self, alloc: Global) -> List<Spot>
+    /// Takes the spot whose class got another mark last.
+    pub fn next_pending(&mut self) -> Option<Spot>
         requires { IsWell self.old }
-        ensures spots { All (Contains self.old.spots) result }
+        ensures spot { IfSome result (Contains self.old.spots) }
         ensures same { IsSame self.old self.new }
     {
-        replace(&mut self.pending, List::new(alloc))
+        self.pending.pop()
     }
 
     /// Makes one class of those of the two items.

@@ -1,18 +1,12 @@
-use Rattle.std.proofs.Common.{sym, ◌∙◌}
-use Rattle.std.proofs.lemmas.List.{length-set}
-use Rattle.std.proofs.lemmas.List.Elements.{All-contains}
-use Rattle.su_classes.specs.Rushing.{IsRule}
+use Rattle.std.specs.Prelude.{All}
+use Rattle.su_classes.specs.Items.{Keeps}
+use Rattle.su_classes.proofs.Binding.{merging_then}
 use Rattle.su_classes.proofs.Rings.{same_then}
-use Rattle.su_classes.proofs.Rushed.{rule_more}
 use Rattle.su_classes.proofs.rushing.look_at_all.Goals as goal
 
-pub look_at_each-requires-clause-rule : goal.look_at_each-requires-clause-rule
-look_at_each-requires-clause-rule c = All-contains IsRule c.args.rules.now c.index-rules-number.result c.requires.rules (c.loop-number.number, c.loop-number-test.true, sym c.index-rules-number.is)
-
-pub loop-number-preserved : goal.loop-number-preserved
-loop-number-preserved c = record {
-  merging = rule_more c.args.rows.now c.args.rules.now c.args.table.now c.loop-number.table c.look_at_each.new.table c.index-rules-number.result (c.loop-number.number, c.loop-number-test.true, sym c.index-rules-number.is)
-      c.loop-number.invariant.merging c.in_ok-look_at_each.ensures.merging;
-  same = same_then c.args.work.now c.loop-number.work c.look_at_each.new.work c.loop-number.invariant.same c.in_ok-look_at_each.ensures.same;
-  notes = length-set c.loop-number.notes c.loop-number.number c.look_at_each.new.notes ∙ c.loop-number.invariant.notes;
+pub loop-position-preserved : goal.loop-position-preserved
+loop-position-preserved c = record {
+  merging = merging_then (λ label. All (λ r. Keeps label c.args.rows.now r.fd) c.args.rules.now) c.args.table.now c.loop-position.table c.look_at_row.new.table c.loop-position.invariant.merging c.in_ok-look_at_row.ensures.merging;
+  same = same_then c.args.work.now c.loop-position.work c.look_at_row.new.work c.loop-position.invariant.same c.in_ok-look_at_row.ensures.same;
+  notes = c.in_ok-look_at_row.ensures.notes;
 }

@@ -5,8 +5,8 @@ use Rattle.su_classes.specs.Tables.{IsMerging}
 use Rattle.su_classes.specs.Rushing.{IsSame}
 use Rattle.su_classes.proofs.rushing.look_at_all.Given as goal
 
-abbrev pub invariant-loop-number : goal.invariant-loop-number
-invariant-loop-number l = record {
+abbrev pub invariant-loop-position : goal.invariant-loop-position
+invariant-loop-position l = record {
   merging : IsMerging (λ label. All (λ r. Keeps label l.rows r.fd) l.rules) l.fn.table l.table;
   same : IsSame l.fn.work l.work;
   notes : length l.notes ≡ length l.rules;

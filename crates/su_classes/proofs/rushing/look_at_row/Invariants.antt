@@ -3,10 +3,10 @@ use Rattle.std.specs.Prelude.{All}
 use Rattle.su_classes.specs.Items.{Keeps}
 use Rattle.su_classes.specs.Tables.{IsMerging}
 use Rattle.su_classes.specs.Rushing.{IsSame}
-use Rattle.su_classes.proofs.rushing.look_again.Given as goal
+use Rattle.su_classes.proofs.rushing.look_at_row.Given as goal
 
-abbrev pub invariant-loop-spot : goal.invariant-loop-spot
-invariant-loop-spot l = record {
+abbrev pub invariant-loop-number : goal.invariant-loop-number
+invariant-loop-number l = record {
   merging : IsMerging (λ label. All (λ r. Keeps label l.rows r.fd) l.rules) l.fn.table l.table;
   same : IsSame l.fn.work l.work;
   notes : length l.notes ≡ length l.rules;
