@@ -13,8 +13,8 @@ use Rattle.su_once.proofs.Lists.{Ascends, ascends_from, first_or_rest, contains_
 abbrev Row : Type 0
 Row = List Value
 
--- n different rows of a list: there are no more than its rows
-module _ (n : ℕ) (list : ℕ → Row) (rows : List Row) (there : (i : ℕ) → i < n → Contains rows (list i)) where
+-- n different items of a list: there are no more than its items
+module _ {X : Type 0} (n : ℕ) (list : ℕ → X) (rows : List X) (there : (i : ℕ) → i < n → Contains rows (list i)) where
   place : (i : ℕ) → (i < n) ⊎ (n ≤ i) → ℕ
   place i (inl less) = (there i less).0
   place i (inr past) = 0
@@ -24,16 +24,16 @@ module _ (n : ℕ) (list : ℕ → Row) (rows : List Row) (there : (i : ℕ) →
   below i (inl less) within = (there i less).1
   below i (inr past) within = absurd (omega arith)
 
-  own : (i : ℕ) (s : (i < n) ⊎ (n ≤ i)) → i < n → get_or rows (place i s) [] ≡ list i
+  own : (i : ℕ) (s : (i < n) ⊎ (n ≤ i)) (d : X) → i < n → get_or rows (place i s) d ≡ list i
   unfolding place
-  own i (inl less) within = get_or_default rows (there i less).0 [] (list i) (there i less).1 ∙ (there i less).2
-  own i (inr past) within = absurd (omega arith)
+  own i (inl less) d within = get_or_default rows (there i less).0 d (list i) (there i less).1 ∙ (there i less).2
+  own i (inr past) d within = absurd (omega arith)
 
   pub no_more : ((i j : ℕ) → i < j → j < n → ¬ (list i ≡ list j)) → n ≤ length rows
   no_more differ =
       pigeonhole (length rows) n (λ i. place i (cases_lt i n)) (λ i less. below i (cases_lt i n) less)
       (λ i j less within same.
-      differ i j less within (sym (own i (cases_lt i n) (omega (arith, less, within))) ∙ ap (λ p. get_or rows p []) same ∙ own j (cases_lt j n) within))
+      differ i j less within (sym (own i (cases_lt i n) (list i) (omega (arith, less, within))) ∙ ap (λ p. get_or rows p (list i)) same ∙ own j (cases_lt j n) (list i) within))
 
 abbrev Apart : Row → Row → Type 0
 Apart a b = ¬ (a ≡ b)

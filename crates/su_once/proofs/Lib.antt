@@ -12,5 +12,10 @@ pub mod Refused
 pub mod OneReading
 pub mod Answered
 pub mod Explained
+pub mod Chasing
+pub mod Frozen
+pub mod Compared
+pub mod Windowed
 pub mod Told
+pub mod Paired
 pub mod Replied

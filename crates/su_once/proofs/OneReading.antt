@@ -1,5 +1,6 @@
 -- A text is read in one way, or refused for one cause.
-use Rattle.std.proofs.Common.{◌≡◌, ◌≢◌, ℕ, List, Option, Some, None, refl, ap, sym, ◌∙◌, subst, inl, inr, arith}
+use Rattle.std.proofs.Common.{◌≡◌, ◌≢◌, ℕ, List, [], ◌∷◌, Option, Some, None, refl, ap, sym, ◌∙◌, subst, inl, inr, arith}
+use Rattle.std.specs.List.{AllByRecursion}
 use Rattle.su_base.specs.declared.values.Kind.{Kind}
 use Rattle.su_lex.specs.declared.meaning.Symbol.{Symbol}
 use Rattle.su_lex.proofs.Written.{one_list_of_symbols}
@@ -8,10 +9,11 @@ use Rattle.su_query.specs.declared.faults.QueryFault.{QueryFault}
 use Rattle.su_query.specs.declared.faults.QueryFault.TheVariants.{Syntax, Limit, NoMemory, Unknown, Kinds, UnknownColumn}
 use Rattle.su_query.specs.declared.faults.QueryLimit.{QueryLimit}
 use Rattle.su_query.specs.declared.faults.QueryLimit.TheVariants.{Nesting, Variables, Outputs, Comparisons}
+use Rattle.su_query.specs.declared.statements.Query.{Query}
 use Rattle.su_query.specs.declared.statements.Statement.{Statement}
 use Rattle.su_query.specs.Forms.{IsForm}
 use Rattle.su_query.specs.Nesting.{IsDeep}
-use Rattle.su_query.specs.Reading.{IsStatement, IsFormless, NestsTooDeep, IsRefusal, Passes, AreFew, outputs_of, condition_of}
+use Rattle.su_query.specs.Reading.{IsStatement, IsFormless, NestsTooDeep, IsRefusal, Passes, PartsPass, AreFew, HasFew, parts_of}
 use Rattle.su_query.proofs.Uniqueness.{statement_unique}
 use Rattle.su_once.specs.Readings.{OneOutcome, OneStatement, OneRefusal, RefusedOrRead, OneQueryRefusal, QueryIsRefusedOrKnown, OneColumnRefusal, ConditionIsRefusedOrKnown}
 
@@ -37,11 +39,11 @@ formless_or_read text st (inr (others, read, shallow, none)) h =
 
 -- ---- which limit is passed first
 
-module _ (st : Statement) where
+module _ (q : Query) where
   abbrev IsPassed : QueryFault → Type 0
-  IsPassed fault = Passes (outputs_of st) (condition_of st) fault
+  IsPassed fault = Passes q.outputs q.cond fault
 
-  passed_or_few : (limit : QueryLimit) → IsPassed (Limit limit) → AreFew (outputs_of st) (condition_of st) → ⊥
+  passed_or_few : (limit : QueryLimit) → IsPassed (Limit limit) → AreFew q.outputs q.cond → ⊥
   passed_or_few Variables h few = absurd (let upto = few.few_variables in omega (arith, h, upto))
   passed_or_few Outputs h few = absurd (let many = h.1 in let upto = few.few_outputs in omega (arith, many, upto))
   passed_or_few Comparisons h few = absurd (let many = h.2 in let upto = few.few_comparisons in omega (arith, many, upto))
@@ -62,11 +64,24 @@ module _ (st : Statement) where
   one_limit Outputs Nesting h k = absurd k
   one_limit Comparisons Nesting h k = absurd k
 
+-- of the parts of a statement, the first that passes one
+parts_or_few : (qs : List Query) (limit : QueryLimit) → PartsPass qs (Limit limit) → AllByRecursion (λ q. AreFew q.outputs q.cond) qs → ⊥
+parts_or_few [] limit h few = h
+parts_or_few (q ∷ qs) limit (inl passed) few = passed_or_few q limit passed few.0
+parts_or_few (q ∷ qs) limit (inr (kept, later)) few = parts_or_few qs limit later few.1
+
+one_passed : (qs : List Query) (x y : QueryLimit) → PartsPass qs (Limit x) → PartsPass qs (Limit y) → x ≡ y
+one_passed [] x y h k = absurd h
+one_passed (q ∷ qs) x y (inl h) (inl k) = one_limit q x y h k
+one_passed (q ∷ qs) x y (inl h) (inr (kept, later)) = absurd (passed_or_few q x h kept)
+one_passed (q ∷ qs) x y (inr (kept, later)) (inl k) = absurd (passed_or_few q y k kept)
+one_passed (q ∷ qs) x y (inr (kept, h)) (inr (also, k)) = one_passed qs x y h k
+
 -- what a refusal says: no form, too deep, or a statement past a limit
 pub data Cause (text : List ℕ) (why : QueryFault) : Type 0 where
   formless : IsFormless text → why ≡ Syntax → Cause text why
   deep : NestsTooDeep text → why ≡ Limit Nesting → Cause text why
-  passes : (st : Statement) (limit : QueryLimit) → IsStatement text st → Passes (outputs_of st) (condition_of st) (Limit limit) → why ≡ Limit limit → Cause text why
+  passes : (st : Statement) (limit : QueryLimit) → IsStatement text st → PartsPass (parts_of st) (Limit limit) → why ≡ Limit limit → Cause text why
 
 cause_of : (text : List ℕ) (why : QueryFault) → why ≢ NoMemory → IsRefusal text why → Cause text why
 cause_of text Syntax m h = formless h refl
@@ -90,16 +105,16 @@ one_cause text why other (passes st limit h passed e) (formless k f) = absurd (f
 one_cause text why other (passes st limit h passed e) (deep k f) = absurd (deep_or_read text st k h)
 one_cause text why other (passes st limit h passed e) (passes also more k past f) =
     let same : also ≡ st = statement_unique text st also h k in
-    e ∙ ap Limit (one_limit st limit more passed (subst (λ (x : Statement). Passes (outputs_of x) (condition_of x) (Limit more)) same past)) ∙ sym f
+    e ∙ ap Limit (one_passed (parts_of st) limit more passed (subst (λ (x : Statement). PartsPass (parts_of x) (Limit more)) same past)) ∙ sym f
 
 pub one_refusal : OneRefusal
 one_refusal text why other m n h k = one_cause text why other (cause_of text why m h) (cause_of text other n k)
 
-refused_or_few : (text : List ℕ) (why : QueryFault) (st : Statement) → Cause text why → IsStatement text st → AreFew (outputs_of st) (condition_of st) → ⊥
+refused_or_few : (text : List ℕ) (why : QueryFault) (st : Statement) → Cause text why → IsStatement text st → HasFew st → ⊥
 refused_or_few text why st (formless h e) k few = formless_or_read text st h k
 refused_or_few text why st (deep h e) k few = deep_or_read text st h k
 refused_or_few text why st (passes also limit h passed e) k few =
-    passed_or_few st limit (subst (λ (x : Statement). Passes (outputs_of x) (condition_of x) (Limit limit)) (statement_unique text st also k h) passed) few
+    parts_or_few (parts_of st) limit (subst (λ (x : Statement). PartsPass (parts_of x) (Limit limit)) (statement_unique text st also k h) passed) few
 
 pub not_refused : RefusedOrRead
 not_refused text why st m h k few = refused_or_few text why st (cause_of text why m h) k few

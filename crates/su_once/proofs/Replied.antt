@@ -1,5 +1,5 @@
 -- A statement wants one file, and has one reply on databases that are alike, which it leaves alike.
-use Rattle.std.proofs.Common.{◌≡◌, ◌≤◌, ◌⊎◌, ℕ, Bool, List, [], length, Option, Some, unwrap_or, Result, Ok, Err, refl, ap, sym, ◌∙◌, subst, inl, inr}
+use Rattle.std.proofs.Common.{◌≡◌, ◌≢◌, ◌≤◌, ◌⊎◌, ℕ, Bool, List, [], length, Option, Some, unwrap_or, Result, Ok, Err, refl, ap, sym, ◌∙◌, subst, inl, inr}
 use Rattle.std.specs.Ordering.{nat_cmp}
 use Rattle.std.specs.FinSet.{FinSet}
 use Rattle.su_base.specs.declared.values.Value.{Value}
@@ -12,11 +12,13 @@ use Rattle.su_query.specs.declared.conditions.NamedCond.{NamedCond}
 use Rattle.su_query.specs.declared.faults.QueryFault.{QueryFault}
 use Rattle.su_query.specs.declared.faults.QueryFault.TheVariants as query
 use Rattle.su_query.specs.declared.statements.Query.{Query as AQuery}
+use Rattle.su_query.specs.declared.resolving.Resolved.{Resolved}
 use Rattle.su_query.specs.declared.statements.Statement.{Statement}
-use Rattle.su_query.specs.declared.statements.Statement.TheVariants.{Insert, Delete, DeleteWhere, Load, Print, Schema, Closure, Retrieve, Explain, Certify}
+use Rattle.su_query.specs.declared.statements.Statement.TheVariants.{Insert, Delete, DeleteWhere, Load, Print, Schema, Closure, Retrieve, Explain, Certify, Compare, Window}
 use Rattle.su_query.specs.Lookup.{resolved_of, with_columns}
 use Rattle.su_maxobj.proofs.Listed.{one_list as one_list_of_maximal}
 use Rattle.su_steps.specs.declared.faults.StepFault.{StepFault}
+use Rattle.su_steps.specs.Refusals.{IsAccepted}
 use Rattle.su_state.specs.DatabaseValue.{DatabaseValue, IsWellKept, columns_of}
 use Rattle.su_state.specs.Loads.{Loads}
 use Rattle.su_state.specs.Definitions.{Defines}
@@ -26,6 +28,8 @@ use Rattle.su_check.specs.declared.nodes.Node.{Node}
 use Rattle.su_refute.specs.AllTrees.{AreTrees, HasMoreNodes, all_nodes}
 use Rattle.su_refute.specs.Written.{certificate_of, certificate_text}
 use Rattle.su_refute.proofs.Kept.{one_lists, no_more}
+use Rattle.su_window.specs.declared.faults.WindowFault.{WindowFault}
+use Rattle.su_window.specs.declared.faults.WindowFault.TheVariants as window
 use Rattle.su_show.specs.declared.statement_refusal.Refusal.{Refusal}
 use Rattle.su_show.specs.declared.statement_refusal.Refusal.TheVariants as refusal
 use Rattle.su_show.specs.Refusing.{IsNoMemory}
@@ -36,6 +40,8 @@ use Rattle.su_session.specs.declared.wants.Want.TheVariants.{Nothing, File}
 use Rattle.su_session.specs.Telling.{Accepts, Refuses, TellsInsert, TellsDelete, TellsLoad, TellsDefine, deleted_text}
 use Rattle.su_session.specs.Retrieving.{IsRefusalOf, HasTerms, AfterTerms, Retrieves, Explains}
 use Rattle.su_session.specs.Certifying.{Certifies, node_limit}
+use Rattle.su_session.specs.Comparing.{IsTermsRefusal, ShowsVerdicts, ComparesTerms, Compares}
+use Rattle.su_session.specs.Windowing.{attribute_numbers, TellsWindowFault, ShowsWindow}
 use Rattle.su_session.specs.Statements.{InRelation, InsertsRow, DeletesRow, DeletesRows, LoadsRows, PrintsRows, ShowsSchema, ShowsClosure, Answers, relation_number}
 use Rattle.su_session.specs.Reply.{RepliesDefinition, RepliesStatement, Replied, IsLoad}
 use Rattle.su_once.specs.States.{AreAlike}
@@ -45,6 +51,8 @@ use Rattle.su_once.proofs.Changed.{same_schema, one_insert, one_delete, one_dele
 use Rattle.su_once.proofs.Defined.{one_defined}
 use Rattle.su_once.proofs.Explained.{one_explanation, one_closure_reply}
 use Rattle.su_once.proofs.Loaded.{one_load}
+use Rattle.su_once.proofs.Paired.{one_form_refusal, refused_or_formed, one_terms_refusal, refused_or_accepted, one_verdicts_text}
+use Rattle.su_once.proofs.Windowed.{one_window, one_window_refusal, refused_or_fitting}
 use Rattle.su_once.proofs.OneReading.{one_statement, one_refusal, not_refused, one_query_refusal, query_not_refused, one_column_refusal, condition_not_refused}
 use Rattle.su_once.proofs.Refused.{one_step_refusal, not_refused as has_terms}
 use Rattle.su_once.proofs.Told.{same_some, none_or_some, accept, query_told, step_told, still, refuse, insert_told, one_insert_told, one_delete_told, load_told, one_load_told, definition_told, one_definition_told}
@@ -65,6 +73,10 @@ module _ (schema : SchemaValue) (maximal : List (FinSet nat_cmp)) (q : AQuery) w
   cause_of refusal.Answer told h = absurd h
   cause_of refusal.Nodes told h = absurd h
   cause_of (refusal.Define fault) told h = absurd h
+  cause_of refusal.OnlyEqual told h = absurd h
+  cause_of refusal.OutputsDiffer told h = absurd h
+  cause_of refusal.WindowLimit told h = absurd h
+  cause_of (refusal.Inconsistent less greater) told h = absurd h
 
   one_cause : (why other : Refusal) → Cause schema maximal q why → Cause schema maximal q other → why ≡ other
   one_cause why other (of_names f h t e) (of_names g k u e') = e ∙ ap refusal.Query (one_query_refusal schema q f g (query_told f t) (query_told g u) h k) ∙ sym e'
@@ -190,6 +202,48 @@ module _ (a : DatabaseValue) (tables : List Stored) (alike : AreAlike a (record 
         let same = one_preparation a.schema maximal (resolved_of a.schema q) p other is_p is_other in
         no_more other.minimals node_limit trees are upto (subst (λ (v : Prepared). HasMoreNodes v.minimals node_limit) same many)
 
+  -- of two queries of one form
+  compares_terms : (p q : Resolved) → ComparesTerms a p q r c → ComparesTerms b p q s d → Same
+  compares_terms p q (maximal, are, h) (others, these, k) =
+      let same : others ≡ maximal = one_list_of_maximal a.schema maximal others are these in
+      at h
+      (subst (λ (m : List (FinSet nat_cmp)). ((fault : StepFault) × IsTermsRefusal a.schema m p q fault × Refuses b (refusal.Steps fault) s d) ⊎ (IsAccepted a.schema m p × IsAccepted a.schema m q × ShowsVerdicts a.schema m p q s × (d ≡ b))) same k) where
+        at : ((fault : StepFault) × IsTermsRefusal a.schema maximal p q fault × Refuses a (refusal.Steps fault) r c) ⊎ (IsAccepted a.schema maximal p × IsAccepted a.schema maximal q × ShowsVerdicts a.schema maximal p q r × (c ≡ a))
+            → ((fault : StepFault) × IsTermsRefusal a.schema maximal p q fault × Refuses b (refusal.Steps fault) s d) ⊎ (IsAccepted a.schema maximal p × IsAccepted a.schema maximal q × ShowsVerdicts a.schema maximal p q s × (d ≡ b)) → Same
+        at (inl (f, is, t)) (inl (g, too, u)) = refuse a tables r s c d alike _ _ t u (ap refusal.Steps (one_terms_refusal a.schema maximal p q f g (step_told f t.told) (step_told g u.told) is too))
+        at (inl (f, is, t)) (inr (first, (second, l))) = absurd (refused_or_accepted a.schema maximal p q f (step_told f t.told) is first second)
+        at (inr (first, (second, l))) (inl (g, too, u)) = absurd (refused_or_accepted a.schema maximal p q g (step_told g u.told) too first second)
+        at (inr (first, (second, (x, one)))) (inr (also, (too, (y, two)))) = agree _ _ x.text y.text (one_verdicts_text a.schema maximal p q kept.valid r s x y) one two
+
+  compares : (first second : AQuery) → Compares a first second r c → Compares b first second s d → Same
+  compares first second (inl (why, h, t)) (inl (other, k, u)) = refuse a tables r s c d alike why other t u (one_form_refusal a.schema first second why other t.told u.told h k)
+  compares first second (inl (why, h, t)) (inr (form, k)) = absurd (refused_or_formed a.schema first second why t.told h form)
+  compares first second (inr (form, h)) (inl (why, k, u)) = absurd (refused_or_formed a.schema first second why u.told k form)
+  compares first second (inr (form, h)) (inr (these, k)) = compares_terms (resolved_of a.schema first) (resolved_of a.schema second) h k
+
+  window_told : (db new : DatabaseValue) (reply : Reply) (f : WindowFault) → TellsWindowFault db f reply new → f ≢ window.NoMemory
+  window_told db new reply window.Limit h is = absurd (cc)
+  window_told db new reply (window.Inconsistent less greater) h is = absurd (cc)
+  window_told db new reply window.NoMemory h is = h
+
+  one_window_told : (f : WindowFault) → TellsWindowFault a f r c → TellsWindowFault b f s d → Same
+  one_window_told window.Limit h k = refuse a tables r s c d alike _ _ h k refl
+  one_window_told (window.Inconsistent less greater) h k = refuse a tables r s c d alike _ _ h k refl
+  one_window_told window.NoMemory h k = absurd h
+
+  shows_window : (names : List (List ℕ)) → ShowsWindow a names r c → ShowsWindow b names s d → Same
+  shows_window names (inl (name, h, t)) (inl (other, k, u)) = refuse a tables r s c d alike _ _ t u (ap (λ n. refusal.Query (query.Unknown n)) (same_some name other _ h k))
+  shows_window names (inl (name, h, t)) (inr (none, k)) = absurd (none_or_some name _ none h)
+  shows_window names (inr (none, h)) (inl (name, k, u)) = absurd (none_or_some name _ none k)
+  shows_window names (inr (none, inl (f, h, t))) (inr (gone, inl (g, k, u))) =
+      let same = one_window_refusal a b f g alike (window_told a c r f t) (window_told b d s g u) h k in
+      one_window_told f t (subst (λ (z : WindowFault). TellsWindowFault b z s d) (sym same) u)
+  shows_window names (inr (none, inl (f, h, t))) (inr (gone, inr (y, two))) = absurd (refused_or_fitting a b f y.universe alike (window_told a c r f t) h y.few y.fits)
+  shows_window names (inr (none, inr (x, one))) (inr (gone, inl (g, k, u))) = absurd (refused_or_fitting b a g x.universe (back alike) (window_told b d s g u) k x.few x.fits)
+  shows_window names (inr (none, inr (x, one))) (inr (gone, inr (y, two))) =
+      let same = one_window a b (attribute_numbers a.schema names) x.rows y.rows alike (record { exact = x.exact; ascending = x.ascending }) (record { exact = y.exact; ascending = y.ascending }) in
+      agree _ _ x.text y.text (ap (rows_text names) same) one two
+
   answers : (file : List ℕ) (st : Statement) → Answers a file st r c → Answers b file st s d → Same
   answers file (Insert name row) h k = in_relation name _ _ h k (inserts row)
   answers file (Delete name row) h k = in_relation name _ _ h k (deletes row)
@@ -201,6 +255,8 @@ module _ (a : DatabaseValue) (tables : List Stored) (alike : AreAlike a (record 
   answers file (Retrieve q) h k = retrieves q h k
   answers file (Explain q) h k = explains q h k
   answers file (Certify q) h k = certifies q h k
+  answers file (Compare first second) h k = compares first second h k
+  answers file (Window names) h k = shows_window names h k
 
   definition : (text : List ℕ) → RepliesDefinition a text r c → RepliesDefinition b text s d → Same
   definition text (inl (none, t)) (inl (gone, u)) = refuse a tables r s c d alike _ _ t u refl

@@ -2,6 +2,8 @@ pub mod Closures
 pub mod Tableaux
 pub mod States
 pub mod Terms
+pub mod Verdicts
+pub mod Windows
 pub mod Readings
 pub mod Answers
 pub mod Texts

@@ -9,7 +9,7 @@ use Rattle.su_query.specs.declared.faults.QueryFault.TheVariants.{NoMemory}
 use Rattle.su_query.specs.declared.statements.Query.{Query}
 use Rattle.su_query.specs.declared.statements.Statement.{Statement}
 use Rattle.su_query.specs.Lookup.{IsQueryRefusal, IsKnownQuery, IsColumnRefusal, IsColumnCondition}
-use Rattle.su_query.specs.Reading.{IsStatement, IsRefusal, AreFew, outputs_of, condition_of}
+use Rattle.su_query.specs.Reading.{IsStatement, IsRefusal, HasFew}
 
 -- a file of definitions is read as one schema, or is at fault in one way
 abbrev pub OneOutcome : Type 0
@@ -24,7 +24,7 @@ OneRefusal = (text : List ℕ) (why other : QueryFault) → why ≢ NoMemory →
 
 -- and none, where it is a statement within the limits
 abbrev pub RefusedOrRead : Type 0
-RefusedOrRead = (text : List ℕ) (why : QueryFault) (st : Statement) → why ≢ NoMemory → IsRefusal text why → IsStatement text st → ¬ AreFew (outputs_of st) (condition_of st)
+RefusedOrRead = (text : List ℕ) (why : QueryFault) (st : Statement) → why ≢ NoMemory → IsRefusal text why → IsStatement text st → ¬ HasFew st
 
 -- the names of a query are refused for one cause, or all are known
 abbrev pub OneQueryRefusal : Type 0

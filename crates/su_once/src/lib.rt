@@ -13,3 +13,5 @@ pub mod states;
 pub mod tableaux;
 pub mod terms;
 pub mod texts;
+pub mod verdicts;
+pub mod windows;

@@ -4,4 +4,6 @@ pub mod Retrieving
 pub mod Statements
 pub mod Telling
 pub mod Certifying
+pub mod Comparing
+pub mod Windowing
 pub mod Laws

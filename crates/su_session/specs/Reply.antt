@@ -11,7 +11,7 @@ use Rattle.su_query.specs.declared.statements.Statement.{Statement}
 use Rattle.su_query.specs.declared.statements.Statement.TheVariants.{Load}
 use Rattle.su_query.specs.declared.faults.QueryFault.{QueryFault}
 use Rattle.su_query.specs.declared.faults.QueryFault.TheVariants.{Syntax}
-use Rattle.su_query.specs.Reading.{IsStatement, IsRefusal, AreFew, outputs_of, condition_of}
+use Rattle.su_query.specs.Reading.{IsStatement, IsRefusal, HasFew}
 use Rattle.su_state.specs.declared.faults.DefineFault.{DefineFault}
 use Rattle.su_state.specs.DatabaseValue.{DatabaseValue}
 use Rattle.su_state.specs.Definitions.{Defines}
@@ -47,7 +47,7 @@ RepliesDefinition db text reply new =
 abbrev pub RepliesStatement : DatabaseValue → List ℕ → List ℕ → Reply → DatabaseValue → Type 0
 RepliesStatement db text file reply new =
     ((fault : QueryFault) × IsRefusal text fault × Refuses db (Query fault) reply new)
-    ⊎ ((st : Statement) × IsStatement text st × AreFew (outputs_of st) (condition_of st) × Answers db file st reply new)
+    ⊎ ((st : Statement) × IsStatement text st × HasFew st × Answers db file st reply new)
 
 -- the reply to a text; without a file an empty one is read
 abbrev pub Replied : DatabaseValue → List ℕ → Option (List ℕ) → Reply → DatabaseValue → Type 0

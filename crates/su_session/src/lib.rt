@@ -8,6 +8,7 @@
 
 mod certifying;
 mod changes;
+mod comparing;
 mod crossing;
 mod definitions;
 pub mod laws;
@@ -17,6 +18,7 @@ mod roomy;
 mod sessions;
 mod showing;
 mod wants;
+mod windowing;
 
 pub use replies::Reply;
 pub use sessions::Session;

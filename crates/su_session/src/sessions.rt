@@ -4,10 +4,12 @@ ghost use Rattle.su_session.specs.Reply.{is_definition_word, begins_definition, 
 
 use crate::certifying::certify;
 use crate::changes::{delete, delete_where, insert, load};
+use crate::comparing::compare;
 use crate::replies::{Reply, refused};
 use crate::retrieving::{explain, retrieve};
 use crate::showing::{closure, print, show_schema};
 use crate::wants::Want;
+use crate::windowing::show_window;
 use std::alloc::Global;
 use std::marker::Model;
 use std::thread::Threads;
@@ -15,7 +17,7 @@ use su_base::{List, NoMemory, ObjSet, Str};
 use su_lex::{LexEnd, Symbol, symbols};
 use su_maxobj::maximal_objects;
 use su_par::Gate;
-use su_query::{QueryFault, Statement, read};
+use su_query::{Query, QueryFault, Statement, read};
 use su_schema::Schema;
 use su_show::Refusal;
 use su_state::Database;
@@ -123,7 +125,9 @@ impl Session {
     ghost use Rattle.su_session.specs.Reply.{Replied, Wants, RepliesStatement};
     ghost use Rattle.su_session.specs.Statements.{Answers};
     ghost use Rattle.su_state.specs.DatabaseValue.{IsWellKept};
-    ghost use Rattle.su_query.specs.Reading.{AreFew, IsReady, outputs_of, condition_of};
+    ghost use Rattle.su_query.specs.Reading.{AreFew, HasFew, IsReady};
+    ghost use Rattle.su_session.specs.Retrieving.{Retrieves, Explains};
+    ghost use Rattle.su_session.specs.Certifying.{Certifies};
 
     /// A session on a schema whose relations are empty.
     pub fn open(alloc: Global, schema: Schema) -> Result<Session, NoMemory>
@@ -215,7 +219,7 @@ impl Session {
     ) -> Result<Reply, NoMemory>
         requires least { 1 ≤ workers }
         requires most { workers ≤ 16 }
-        requires few { AreFew (outputs_of statement) (condition_of statement) }
+        requires few { HasFew statement }
         requires ready { IsReady statement }
         ensures replied { IfOk result (λ reply. Answers self.old file.now statement reply self.new) }
         ensures unchanged { OnErr result (self.new ≡ self.old) }
@@ -234,39 +238,69 @@ impl Session {
             Statement::Closure { attributes } => {
                 closure(self.alloc, &self.db, attributes.as_slice())
             }
-            Statement::Retrieve(query) => {
-                retrieve(
-                    rt,
+            Statement::Retrieve(query) => self.retrieve(rt, &query, workers, gate),
+            Statement::Explain(query) => self.explain(rt, &query, workers, gate),
+            Statement::Certify(query) => self.certify(rt, &query, workers, gate),
+            Statement::Compare { first, second } => {
+                compare(
                     self.alloc,
                     &self.db,
                     self.maximal.as_slice(),
-                    &query,
-                    workers,
-                    gate,
+                    &first,
+                    &second,
                 )
             }
-            Statement::Certify(query) => {
-                certify(
-                    rt,
-                    self.alloc,
-                    &self.db,
-                    self.maximal.as_slice(),
-                    &query,
-                    workers,
-                    gate,
-                )
-            }
-            Statement::Explain(query) => {
-                explain(
-                    rt,
-                    self.alloc,
-                    &self.db,
-                    self.maximal.as_slice(),
-                    &query,
-                    workers,
-                    gate,
-                )
+            Statement::Window { attributes } => {
+                show_window(self.alloc, &self.db, attributes.as_slice())
             }
         }
+    }
+
+    fn retrieve<R: Threads + Sync, G: Gate>(
+        &self,
+        rt: &R,
+        query: &Query,
+        workers: u8,
+        gate: &G,
+    ) -> Result<Reply, NoMemory>
+        requires few { AreFew query.now.outputs query.now.cond }
+        requires least { 1 ≤ workers }
+        requires most { workers ≤ 16 }
+        ensures { IfOk result (λ reply. Retrieves self.now query.now reply self.now) }
+    {
+        let maximal = self.maximal.as_slice();
+        retrieve(rt, self.alloc, &self.db, maximal, query, workers, gate)
+    }
+
+    fn explain<R: Threads + Sync, G: Gate>(
+        &self,
+        rt: &R,
+        query: &Query,
+        workers: u8,
+        gate: &G,
+    ) -> Result<Reply, NoMemory>
+        requires few { AreFew query.now.outputs query.now.cond }
+        requires least { 1 ≤ workers }
+        requires most { workers ≤ 16 }
+        ensures { IfOk result (λ reply. Explains self.now query.now reply self.now) }
+    {
+        let maximal = self.maximal.as_slice();
+        explain(rt, self.alloc, &self.db, maximal, query, workers, gate)
+    }
+
+    fn certify<R: Threads + Sync, G: Gate>(
+        &self,
+        rt: &R,
+        query: &Query,
+        workers: u8,
+        gate: &G,
+    ) -> Result<Reply, NoMemory>
+        requires few { AreFew query.now.outputs query.now.cond }
+        requires least { 1 ≤ workers }
+        requires most { workers ≤ 16 }
+        ensures { IfOk result (λ reply. Certifies self.now query.now reply self.now) }
+    {
+        let maximal = self.maximal.as_slice();
+        certify(rt, self.alloc, &self.db, maximal, query, workers, gate)
     }
 }

@@ -1,0 +1,5 @@
+use Rattle.su_once.proofs.Chasing.{one_clash}
+use Rattle.su_once.proofs.verdicts.rows_clash_in_one_way.Goals as goal
+
+pub returns : goal.returns
+returns c = one_clash

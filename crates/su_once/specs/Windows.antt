@@ -1,0 +1,27 @@
+-- Databases that are alike have one window on some attributes, or none for one cause.
+use Rattle.std.specs.Prelude.{◌≡◌, ◌≢◌, ◌↔◌, ℕ, List, Contains}
+use Rattle.std.specs.List.Sorted.{IsStrictlySortedBy}
+use Rattle.su_base.specs.declared.values.Value.{Value}
+use Rattle.su_base.specs.Value.{compare_lists}
+use Rattle.su_state.specs.DatabaseValue.{DatabaseValue}
+use Rattle.su_window.specs.declared.faults.WindowFault.{WindowFault}
+use Rattle.su_window.specs.declared.faults.WindowFault.TheVariants.{NoMemory}
+use Rattle.su_window.specs.Window.{Fits, InWindow}
+use Rattle.su_window.specs.Members.{HasFew}
+use Rattle.su_window.specs.Refusals.{IsWindowRefusal}
+use Rattle.su_once.specs.States.{AreAlike}
+
+-- the rows of the window, ascending, each once
+pub record IsWindow (db : DatabaseValue) (attributes : List ℕ) (rows : List (List Value)) : Type 0 where
+  pub exact : (h : List Value) → Contains rows h ↔ InWindow db attributes h
+  pub ascending : IsStrictlySortedBy compare_lists rows
+
+abbrev pub OneWindow : Type 0
+OneWindow = (a b : DatabaseValue) (attributes : List ℕ) (rows others : List (List Value)) → AreAlike a b → IsWindow a attributes rows → IsWindow b attributes others → rows ≡ others
+
+abbrev pub OneWindowRefusal : Type 0
+OneWindowRefusal = (a b : DatabaseValue) (why other : WindowFault) → AreAlike a b → why ≢ NoMemory → other ≢ NoMemory → IsWindowRefusal a why → IsWindowRefusal b other → why ≡ other
+
+-- a window that is refused has too many members, or no universal relation fits
+abbrev pub RefusedOrFitting : Type 0
+RefusedOrFitting = (a b : DatabaseValue) (why : WindowFault) (universe : List (List Value)) → AreAlike a b → why ≢ NoMemory → IsWindowRefusal a why → HasFew b → ¬ Fits b universe
