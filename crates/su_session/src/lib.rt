@@ -25,4 +25,6 @@ pub use sessions::Session;
 pub use wants::Want;
 
 #[cfg(test)]
+mod bank_tests;
+#[cfg(test)]
 mod tests;
