@@ -70,6 +70,9 @@ module _ (schema : SchemaValue) (left right : List Stored) (rows : (r : ℕ) (ro
 
 -- ---- the padded rows of two databases: constants that meet in the ones meet in the others
 
+abbrev no_object : ObjectEntry
+no_object = record { name = []; relation = 0; links = [] }
+
 abbrev no_reading : Reading
 no_reading = record { object = 0; position = 0 }
 
@@ -78,13 +81,14 @@ in_range : (n i : ℕ) → Contains (range_with_len 0 n) i → i < n
 in_range n i (k, low, is) =
     let far : length (range_with_len 0 n) ≡ n = length-range_with_len 0 n in
     let within : k < n = omega (arith, low, far) in
-    let here : k ≡ i = sym (get_or-range_with_len 0 n k 0 within) ∙ get_or_default (range_with_len 0 n) k 0 i low ∙ is in
+    let here : 0 + k ≡ i = sym (get_or-range_with_len 0 n k 0 within) ∙ get_or_default (range_with_len 0 n) k 0 i low ∙ is in
     omega (arith, within, here)
 
 of_range : (n i : ℕ) → i < n → Contains (range_with_len 0 n) i
 of_range n i low =
     let far : length (range_with_len 0 n) ≡ n = length-range_with_len 0 n in
-    subst (Contains (range_with_len 0 n)) (get_or-range_with_len 0 n i 0 low) (Contains-get_or (range_with_len 0 n) i 0 (omega (arith, low, far)))
+    let same : 0 + i ≡ i = omega arith in
+    subst (Contains (range_with_len 0 n)) (get_or-range_with_len 0 n i 0 low ∙ same) (Contains-get_or (range_with_len 0 n) i 0 (omega (arith, low, far)))
 
 -- the row of another database that reads the same member
 record IsTwin (a b : DatabaseValue) (x : Reading) (others : List Reading) : Type 0 where
@@ -151,9 +155,7 @@ module _ (schema : SchemaValue) (left right : List Stored) (rows : (r : ℕ) (ro
       object = ap (λ (m : Member). m.object) is
 
       own : attributes_at schema x.object ≡ attributes_of (object_at schema x.object)
-      own = get_or-map attributes_of schema.objects x.object no_object empty (are.each i no_reading low).object where
-        abbrev no_object : ObjectEntry
-        no_object = record { name = []; relation = 0; links = [] }
+      own = get_or-map attributes_of schema.objects x.object no_object empty (are.each i no_reading low).object
 
       same_value : (c : ℕ) → c < n → IsTrue (contains (attributes_at schema x.object) c) → value_for (object_at schema x.object) (row_read from x) c ≡ value_for (object_at schema y.object) (row_read to y) c
       same_value c within inside =
@@ -163,7 +165,8 @@ module _ (schema : SchemaValue) (left right : List Stored) (rows : (r : ℕ) (ro
           let values : taken schema entry (row_read from x) ≡ taken schema entry (row_read to y) = ap (λ (m : Member). m.values) is ∙ ap (λ o. taken schema (object_at schema o) (row_read to y)) (sym object) in
           let agree = (cut_agrees (attributes_of entry) (map f (range_with_len 0 n)) (map g (range_with_len 0 n)) (length-map-range_with_len f 0 n ∙ sym (length-map-range_with_len g 0 n))).0 values in
           let here = agree c (f c) (subst (λ s. IsTrue (contains s c)) own inside) in
-          sym (get_or-map-range_with_len f 0 n c c (f c) within refl) ∙ here ∙ get_or-map-range_with_len g 0 n c c (f c) within refl ∙ ap (λ o. value_for (object_at schema o) (row_read to y) c) object
+          let place : 0 + c ≡ c = omega arith in
+          sym (get_or-map-range_with_len f 0 n c c (f c) within place) ∙ here ∙ get_or-map-range_with_len g 0 n c c (f c) within place ∙ ap (λ o. value_for (object_at schema o) (row_read to y) c) object
 
       same_cell : (c : ℕ) → c < n → move (padded from i x c) ≡ padded to (other i) y c
       same_cell c within =
