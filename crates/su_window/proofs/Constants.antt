@@ -1,6 +1,6 @@
 -- Symbols whose names are constants, at attributes of a row and in all rows.
 use Rattle.std.proofs.Common.{◌≡◌, ◌↔◌, ◌⊎◌, ℕ, ◌+◌, ◌<◌, pos, inl, inr, ⊎_elim, List, [], ◌∷◌, ◌++◌, map, take, length, get_or, Contains, refl, sym, ap, ◌∙◌, subst, arith}
-use Rattle.std.proofs.lemmas.List.{length-map, map_push, map_more, take_more, get_or-map, get_or_default}
+use Rattle.std.proofs.lemmas.List.{length-map, take_more, get_or-map, get_or_default}
 use Rattle.su_base.specs.declared.values.Value.{Value}
 use Rattle.su_base.specs.declared.values.Value.TheVariants.{Int}
 use Rattle.su_tableau.specs.declared.symbols.Sym.{Sym}
@@ -12,14 +12,6 @@ use Rattle.su_window.proofs.Counted.{in_pushed, of_pushed}
 
 abbrev name_at : List Sym → List Sym → ℕ → Sym
 name_at names row a = name_by names (get_or row a (Var 0))
-
-pub constants_more : (names row : List Sym) (attributes : List ℕ) (i a : ℕ) (values next : List Value) (x : Sym) (value : Value) → i < length attributes → a ≡ get_or attributes i a → a < length row → x ≡ get_or row a x → name_by names x ≡ Const value → next ≡ values ++ value ∷ [] → AreConstants names row (take i attributes) values → AreConstants names row (take (i + 1) attributes) next
-constants_more names row attributes i a values next x value low at within x_is named push so_far =
-    let same : x ≡ get_or row (get_or attributes i a) (Var 0) = x_is ∙ get_or_default row a x (Var 0) within ∙ ap (λ (k : ℕ). get_or row k (Var 0)) at in
-    map_more (name_at names row) attributes i a low
-    ∙ ap (λ (xs : List Sym). xs ++ name_at names row (get_or attributes i a) ∷ []) so_far
-    ∙ ap (λ (s : Sym). map Const values ++ s ∷ []) (sym (ap (name_by names) same) ∙ named)
-    ∙ sym (map_push Const values value) ∙ ap (map Const) (sym push)
 
 -- a symbol whose name is no constant
 pub no_constants : (names row : List Sym) (attributes : List ℕ) (i a : ℕ) (x : Sym) → i < length attributes → a ≡ get_or attributes i a → a < length row → x ≡ get_or row a x → ((c : Value) → ¬ (name_by names x ≡ Const c)) → (h : List Value) → ¬ AreConstants names row attributes h

@@ -1,21 +1,19 @@
 -- The members that are read, object by object and row by row.
-use Rattle.std.proofs.Common.{◌≡◌, ◌↔◌, ◌⊎◌, ℕ, zero, suc, ◌+◌, ◌<◌, ◌≤◌, inl, inr, ⊎_elim, true, false, List, [], ◌∷◌, ◌++◌, map, take, length, get_or, Contains, Option, Some, None, refl, sym, ap, ◌∙◌, subst, arith}
+use Rattle.std.proofs.Common.{◌≡◌, ◌↔◌, ◌⊎◌, ℕ, zero, suc, ◌+◌, ◌<◌, ◌≤◌, inl, inr, ⊎_elim, List, [], ◌∷◌, ◌++◌, map, take, length, get_or, Contains, Some, None, refl, sym, ap, ◌∙◌, subst, arith}
 use Rattle.std.specs.Prelude.{All, slice_get}
 use Rattle.std.proofs.lemmas.Bool.{cases_lt, cases_eq}
 use Rattle.std.proofs.lemmas.List.{length-map, map_push, map_more, length_push, get_or_append_left, get_or_push, get_or_default}
 use Rattle.std.proofs.lemmas.List.Elements.{Contains-append_left, Contains-append_right, Contains-append_cases, Contains-get_or}
-use Rattle.std.proofs.lemmas.Option.{slice_get_within, none-some}
+use Rattle.std.proofs.lemmas.Option.{slice_get_within}
 use Rattle.su_base.specs.declared.values.Value.{Value}
-use Rattle.su_tableau.proofs.Rows.{below_more}
 use Rattle.su_classes.proofs.Listed.{contains_later, contains_none, contains_cases}
-use Rattle.su_schema.specs.SchemaValue.{ObjectEntry}
 use Rattle.su_state.specs.DatabaseValue.{DatabaseValue}
 use Rattle.su_chase.proofs.Reading.{contains_map, of_map}
 use Rattle.su_window.specs.declared.readings.Reading.{Reading}
 use Rattle.su_window.specs.Views.{taken, view_of, view_through}
 use Rattle.su_window.specs.Members.{Member, IsMember, AllDiffer, HasMany}
-use Rattle.su_window.specs.Padded.{object_at, rows_under, row_read, member_read, IsReading, AreReadings}
-use Rattle.su_window.specs.Reading.{lists_before, IsBefore, AreSoFar, Sees}
+use Rattle.su_window.specs.Padded.{object_at, rows_under, member_read, IsReading, AreReadings}
+use Rattle.su_window.specs.Reading.{lists_before, IsBefore, AreSoFar}
 use Rattle.su_window.proofs.Objects.{placed_at}
 
 -- ---- lists with one element more

@@ -1,11 +1,10 @@
 -- Where no two constants meet, the chased rows with new values for their variables are a universal relation that fits.
-use Rattle.std.proofs.Common.{◌≡◌, ℕ, zero, suc, ◌+◌, ◌-◌, ◌<◌, ◌≤◌, ⊎_elim, true, false, cond, ltb, List, [], ◌∷◌, map, length, get_or, Contains, refl, sym, ap, ◌∙◌, subst, pos, arith, inl, inr}
+use Rattle.std.proofs.Common.{◌≡◌, ℕ, zero, suc, ◌+◌, ◌-◌, ◌<◌, ◌≤◌, ⊎_elim, cond, ltb, List, [], ◌∷◌, map, length, get_or, Contains, refl, sym, ap, ◌∙◌, subst, pos, arith}
 use Rattle.std.specs.Prelude.{All}
 use Rattle.std.specs.List.{range_with_len}
-use Rattle.std.specs.FinSet.{contains}
 use Rattle.std.proofs.lemmas.Bool.{cases_lt, cond-true, cond-false, lt-ltb, le-ltb}
 use Rattle.std.proofs.lemmas.List.{length-map, length-replicate, get_or_default, get_or_past}
-use Rattle.std.proofs.lemmas.List.Elements.{All-contains, Contains-get_or}
+use Rattle.std.proofs.lemmas.List.Elements.{All-contains}
 use Rattle.std.proofs.lemmas.List.FromFn.{length-map-range_with_len}
 use Rattle.su_base.specs.declared.values.Kind.{Kind}
 use Rattle.su_base.specs.declared.values.Kind.TheVariants.{Int as IntKind, Text as TextKind}
@@ -14,26 +13,25 @@ use Rattle.su_base.specs.declared.values.Value.TheVariants.{Int}
 use Rattle.su_fd.specs.declared.dependencies.Fd.{Fd}
 use Rattle.su_tableau.specs.declared.symbols.Sym.{Sym}
 use Rattle.su_tableau.specs.declared.symbols.Sym.TheVariants.{Const, Var}
-use Rattle.su_tableau.specs.Tableaux.{Tab, AreBelow, value_of, values_of}
-use Rattle.su_tableau.specs.Kinds.{Kinds, IsTyped, IsUniverse}
-use Rattle.su_tableau.specs.Freezing.{size, new_value, frozen, frozen_rows, top, row_top, rows_top}
+use Rattle.su_tableau.specs.Tableaux.{value_of, values_of}
+use Rattle.su_tableau.specs.Kinds.{IsTyped}
+use Rattle.su_tableau.specs.Freezing.{size, new_value, frozen, top, row_top, rows_top}
 use Rattle.su_tableau.proofs.Freezing.{frozen_typed}
 use Rattle.su_tableau.proofs.Containment.{map_twice}
 use Rattle.su_classes.proofs.Listed.{map_same}
 use Rattle.su_schema.specs.SchemaValue.{ObjectEntry, attribute_kinds}
 use Rattle.su_state.specs.DatabaseValue.{DatabaseValue, IsWellKept}
-use Rattle.su_chase.specs.Chase.{IsClosed, IsName, IsConsistent}
+use Rattle.su_chase.specs.Chase.{IsClosed, IsName}
 use Rattle.su_chase.specs.Meeting.{Agree, Meets}
-use Rattle.su_chase.specs.Chased.{IsFdBelow}
 use Rattle.su_chase.specs.Rows.{name_by, named_tab}
 use Rattle.su_chase.proofs.Answering as answering
 use Rattle.su_chase.proofs.Answering.{settled}
 use Rattle.su_chase.proofs.Reading.{all_members, contains_map, of_map, map_read}
 use Rattle.su_window.specs.declared.readings.Reading.{Reading}
 use Rattle.su_window.specs.Cuts.{width, attributes_at, cut, cuts}
-use Rattle.su_window.specs.Views.{value_for, taken, view_of}
+use Rattle.su_window.specs.Views.{value_for, taken}
 use Rattle.su_window.specs.Window.{Fits, Includes, values_at, InWindow}
-use Rattle.su_window.specs.Members.{Member, IsMember}
+use Rattle.su_window.specs.Members.{Member}
 use Rattle.su_window.specs.Padded.{object_at, row_read, member_read, IsReading, AreReadings, padded_row, padded_rows}
 use Rattle.su_window.specs.Reading.{AreConstants}
 use Rattle.su_window.proofs.Cutting.{cut_agrees}

@@ -1,7 +1,9 @@
 pub mod Constants
 pub mod Counted
 pub mod Cutting
+pub mod Exact
 pub mod Fitting
+pub mod Holes
 pub mod Made
 pub mod Objects
 pub mod Picked

@@ -1,9 +1,9 @@
 -- The objects of a database: their attributes, their columns, and the rows under them.
-use Rattle.std.proofs.Common.{◌≡◌, ℕ, ◌<◌, ◌≤◌, Bool, true, false, cond, nat_eq, ◌==◌, ◌||◌, List, [], ◌∷◌, map, length, get_or, Contains, Option, Some, None, refl, sym, ap, ◌∙◌, subst, pos, arith, inl, inr}
-use Rattle.std.specs.Prelude.{All, find, option_map, option_and_then, unwrap_or, slice_get}
-use Rattle.std.specs.List.{list_any, range_with_len}
+use Rattle.std.proofs.Common.{◌≡◌, ℕ, ◌<◌, true, false, cond, nat_eq, ◌==◌, ◌||◌, List, [], ◌∷◌, map, length, get_or, Contains, Option, Some, None, refl, sym, ap, ◌∙◌, subst, pos, arith, inl, inr}
+use Rattle.std.specs.Prelude.{find, option_map, option_and_then, unwrap_or, slice_get}
+use Rattle.std.specs.List.{list_any}
 use Rattle.std.specs.FinSet.{contains, empty, contains-from_list_nat}
-use Rattle.std.proofs.lemmas.Bool.{true≢false, eqb-true, cases_Bool}
+use Rattle.std.proofs.lemmas.Bool.{eqb-true, cases_Bool}
 use Rattle.std.proofs.lemmas.List.{length-map}
 use Rattle.std.proofs.lemmas.List.Elements.{All-contains}
 use Rattle.std.proofs.lemmas.Option.{slice_get_within, slice_get-get_or, get_or_from_slice_get, none-some, unwrap_or-slice_get}
@@ -17,10 +17,10 @@ use Rattle.su_base.specs.Value.{kind_of}
 use Rattle.su_schema.specs.declared.links.Link.{Link}
 use Rattle.su_schema.specs.SchemaValue.{SchemaValue, AttributeEntry, ObjectEntry, IsObject, IsLink, attribute_kinds, attributes_of, column_of}
 use Rattle.su_schema.specs.Checks.{columns_at}
-use Rattle.su_state.specs.DatabaseValue.{DatabaseValue, IsWellKept, IsTyped, rows_of, columns_of, read}
+use Rattle.su_state.specs.DatabaseValue.{DatabaseValue, IsWellKept, IsTyped, columns_of}
 use Rattle.su_state.proofs.Columns.{column_within, column_of_attribute, object_on, relation_at}
 use Rattle.su_chase.proofs.Reading.{map_read, map_at}
-use Rattle.su_classes.proofs.Listed.{contains_later, contains_none}
+use Rattle.su_classes.proofs.Listed.{contains_later}
 use Rattle.su_window.specs.Cuts.{width, attributes_at}
 use Rattle.su_window.specs.Views.{value_for}
 use Rattle.su_window.specs.Padded.{object_at, rows_under}

@@ -1,5 +1,5 @@
 -- Each padded row stands for a row of any universal relation that fits, so its classes have one value there.
-use Rattle.std.proofs.Common.{◌≡◌, ◌≢◌, ℕ, ◌+◌, ◌*◌, ◌%◌, ◌/◌, ◌<◌, ◌≤◌, ⊎_elim, true, false, List, [], map, length, get_or, Contains, refl, sym, ap, ◌∙◌, subst, pos, arith, inl, inr}
+use Rattle.std.proofs.Common.{◌≡◌, ℕ, ◌+◌, ◌*◌, ◌%◌, ◌/◌, ◌<◌, ◌≤◌, ⊎_elim, true, List, [], map, length, get_or, Contains, refl, sym, ap, ◌∙◌, subst, pos, arith, inl, inr}
 use Rattle.std.specs.Prelude.{All}
 use Rattle.std.specs.List.{range_with_len}
 use Rattle.std.specs.FinSet.{contains}
@@ -17,24 +17,24 @@ use Rattle.su_tableau.specs.declared.symbols.Sym.TheVariants.{Const, Var}
 use Rattle.su_tableau.specs.Tableaux.{value_of, values_of, Sends}
 use Rattle.su_tableau.proofs.Containment.{map_twice}
 use Rattle.su_classes.proofs.Listed.{map_same}
-use Rattle.su_schema.specs.SchemaValue.{ObjectEntry, attribute_kinds, attributes_of}
-use Rattle.su_state.specs.DatabaseValue.{DatabaseValue, IsWellKept, rows_of}
+use Rattle.su_schema.specs.SchemaValue.{ObjectEntry, attribute_kinds}
+use Rattle.su_state.specs.DatabaseValue.{DatabaseValue, IsWellKept}
 use Rattle.su_chase.specs.Chase.{IsName, IsClash}
 use Rattle.su_chase.specs.Meeting.{Agree}
 use Rattle.su_chase.specs.Rows.{name_by}
 use Rattle.su_chase.proofs.Answering.{one_value}
 use Rattle.su_chase.proofs.Reading.{all_members, contains_map, of_map, map_read}
 use Rattle.su_window.specs.declared.readings.Reading.{Reading}
-use Rattle.su_window.specs.Cuts.{width, attributes_at, cut, cuts}
-use Rattle.su_window.specs.Views.{value_for, taken, view_of, view_through}
-use Rattle.su_window.specs.Window.{Fits, values_at, InWindow}
-use Rattle.su_window.specs.Members.{Member, IsMember}
-use Rattle.su_window.specs.Padded.{object_at, rows_under, row_read, member_read, IsReading, AreReadings, padded, padded_row, padded_rows}
+use Rattle.su_window.specs.Cuts.{width, attributes_at, cut}
+use Rattle.su_window.specs.Views.{value_for, taken}
+use Rattle.su_window.specs.Window.{Fits, values_at}
+use Rattle.su_window.specs.Members.{IsMember}
+use Rattle.su_window.specs.Padded.{object_at, row_read, member_read, IsReading, AreReadings, padded, padded_row, padded_rows}
 use Rattle.su_window.specs.Reading.{AreConstants}
 use Rattle.su_window.proofs.Cutting.{cut_agrees}
 use Rattle.su_window.proofs.Made.{made_at, made_by}
 use Rattle.su_window.proofs.Objects.{attributes_are}
-use Rattle.su_window.proofs.Rows.{none, reading_at, of_rows, cell_is, row_length, constant_cell, variable_cell}
+use Rattle.su_window.proofs.Rows.{none, reading_at, of_rows, row_length, constant_cell, variable_cell}
 
 abbrev zero_value : Value
 zero_value = Int (pos 0)

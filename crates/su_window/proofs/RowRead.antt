@@ -1,7 +1,6 @@
 -- What one row adds to the readings.
-use Rattle.std.proofs.Common.{◌≡◌, ◌↔◌, ◌⊎◌, ℕ, ◌+◌, ◌<◌, ◌≤◌, inl, inr, ⊎_elim, Bool, true, false, List, [], ◌∷◌, ◌++◌, map, length, get_or, Contains, Option, refl, sym, ap, ◌∙◌, subst, arith}
+use Rattle.std.proofs.Common.{◌≡◌, ◌↔◌, ◌⊎◌, ℕ, ◌+◌, ◌<◌, ◌≤◌, inl, inr, ⊎_elim, Bool, false, List, [], ◌∷◌, ◌++◌, length, get_or, Contains, Option, sym, ap, ◌∙◌, subst}
 use Rattle.std.specs.Prelude.{IsTrue}
-use Rattle.std.specs.List.{range_with_len}
 use Rattle.std.proofs.lemmas.List.{get_or_default}
 use Rattle.std.proofs.lemmas.List.FromFn.{length-map-range_with_len}
 use Rattle.su_base.specs.declared.values.Value.{Value}
@@ -10,8 +9,7 @@ use Rattle.su_state.specs.DatabaseValue.{DatabaseValue, IsWellKept}
 use Rattle.su_window.specs.declared.faults.WindowFault.{WindowFault}
 use Rattle.su_window.specs.declared.faults.WindowFault.TheVariants.{Limit, NoMemory}
 use Rattle.su_window.specs.declared.readings.Reading.{Reading}
-use Rattle.su_window.specs.Members.{HasMany}
-use Rattle.su_window.specs.Padded.{object_at, rows_under, row_read, member_read, IsReading}
+use Rattle.su_window.specs.Padded.{rows_under, row_read, member_read, IsReading}
 use Rattle.su_window.specs.Reading.{columns_of, all_columns, AreColumnsBelow, values_in, lists_before, AreSoFar, Sees}
 use Rattle.su_window.specs.Refusals.{IsWindowRefusal}
 use Rattle.su_window.proofs.Made.{made_at}

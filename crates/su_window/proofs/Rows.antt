@@ -1,5 +1,5 @@
 -- The padded rows: their length, their cells, their kinds, and the readings that they come from.
-use Rattle.std.proofs.Common.{◌≡◌, ℕ, ◌+◌, ◌*◌, ◌%◌, ◌<◌, ◌≤◌, true, false, cond, List, [], map, length, get_or, Contains, Option, Some, None, refl, sym, ap, ◌∙◌, subst, pos, arith, inl, inr}
+use Rattle.std.proofs.Common.{◌≡◌, ℕ, ◌+◌, ◌*◌, ◌%◌, ◌<◌, ◌≤◌, true, false, List, [], map, length, get_or, Contains, refl, sym, ap, ◌∙◌, arith, inl, inr}
 use Rattle.std.specs.Prelude.{All}
 use Rattle.std.specs.List.{range_with_len}
 use Rattle.std.specs.FinSet.{contains}
@@ -10,16 +10,13 @@ use Rattle.std.proofs.lemmas.List.FromFn.{length-map-range_with_len}
 use Rattle.std.proofs.lemmas.Nat.{mod-mul-add}
 use Rattle.su_base.specs.declared.values.Kind.{Kind}
 use Rattle.su_base.specs.declared.values.Kind.TheVariants.{Int as IntKind}
-use Rattle.su_base.specs.declared.values.Value.{Value}
-use Rattle.su_base.specs.declared.values.Value.TheVariants.{Int}
 use Rattle.su_base.specs.Value.{kind_of}
 use Rattle.su_tableau.specs.declared.symbols.Sym.{Sym}
 use Rattle.su_tableau.specs.declared.symbols.Sym.TheVariants.{Const, Var}
 use Rattle.su_tableau.specs.Tableaux.{Tab}
 use Rattle.su_tableau.specs.Kinds.{sym_kind, IsTyped}
 use Rattle.su_tableau.proofs.Containment.{map_twice}
-use Rattle.su_schema.specs.SchemaValue.{ObjectEntry, AttributeEntry, IsDependency, attribute_kinds, attributes_of, column_of}
-use Rattle.su_fd.specs.declared.dependencies.Fd.{Fd}
+use Rattle.su_schema.specs.SchemaValue.{AttributeEntry, IsDependency, attribute_kinds, attributes_of}
 use Rattle.su_state.specs.DatabaseValue.{DatabaseValue, IsWellKept}
 use Rattle.su_state.proofs.Columns.{column_of_attribute}
 use Rattle.su_chase.specs.Chased.{IsFdBelow, AreRows}
@@ -28,8 +25,8 @@ use Rattle.su_window.specs.declared.readings.Reading.{Reading}
 use Rattle.su_window.specs.Cuts.{width, attributes_at}
 use Rattle.su_window.specs.Views.{value_for}
 use Rattle.su_window.specs.Padded.{object_at, rows_under, row_read, IsReading, padded, padded_row, padded_rows}
-use Rattle.su_window.proofs.Made.{made_at, made_by, same_made, of_made, in_made}
-use Rattle.su_window.proofs.Objects.{attributes_are, value_is, kind_is, attribute_low}
+use Rattle.su_window.proofs.Made.{made_at, made_by, of_made, in_made}
+use Rattle.su_window.proofs.Objects.{attributes_are, value_is, kind_is}
 
 abbrev pub none : Reading
 none = record { object = 0; position = 0 }

@@ -1,6 +1,6 @@
 -- The columns of an object, and the values that it takes from a row.
-use Rattle.std.proofs.Common.{◌≡◌, ℕ, suc, zero, ◌+◌, ◌*◌, ◌<◌, true, false, cond, List, [], ◌∷◌, ◌++◌, map, take, length, get_or, Contains, Option, Some, None, refl, sym, ap, ◌∙◌, subst, pos, arith, inl, inr}
-use Rattle.std.specs.Prelude.{All, option_map, slice_get}
+use Rattle.std.proofs.Common.{◌≡◌, ℕ, suc, zero, ◌+◌, ◌*◌, ◌<◌, cond, List, [], ◌∷◌, ◌++◌, map, length, get_or, Contains, Option, Some, None, refl, sym, ap, ◌∙◌, pos, arith}
+use Rattle.std.specs.Prelude.{option_map, slice_get}
 use Rattle.std.specs.List.{range_with_len, flat_map}
 use Rattle.std.specs.FinSet.{contains}
 use Rattle.std.proofs.lemmas.Bool.{cond-true, cond-false}
@@ -9,7 +9,6 @@ use Rattle.std.proofs.lemmas.List.FromFn.{length-map-range_with_len}
 use Rattle.std.proofs.lemmas.Option.{slice_get-map}
 use Rattle.su_base.specs.declared.values.Value.{Value}
 use Rattle.su_base.specs.declared.values.Value.TheVariants.{Int}
-use Rattle.su_tableau.specs.declared.symbols.Sym.{Sym}
 use Rattle.su_tableau.specs.declared.symbols.Sym.TheVariants.{Const, Var}
 use Rattle.su_rel.specs.Stored.{Stored}
 use Rattle.su_schema.specs.SchemaValue.{SchemaValue, ObjectEntry, column_of, attributes_of}
@@ -17,10 +16,10 @@ use Rattle.su_state.specs.DatabaseValue.{DatabaseValue, IsWellKept, table_in}
 use Rattle.su_state.proofs.Columns.{column_answered}
 use Rattle.su_chase.proofs.Reading.{all_members}
 use Rattle.su_window.specs.declared.readings.Reading.{Reading}
-use Rattle.su_window.specs.Cuts.{width, attributes_at, cut_from}
+use Rattle.su_window.specs.Cuts.{width, cut_from}
 use Rattle.su_window.specs.Views.{value_for, taken}
-use Rattle.su_window.specs.Padded.{object_at, rows_under, row_read, IsReading, padded, padded_row}
-use Rattle.su_window.specs.Reading.{columns_of, all_columns, AreColumnsBelow, value_in, values_in, symbol_in}
+use Rattle.su_window.specs.Padded.{object_at, rows_under, row_read, padded, padded_row}
+use Rattle.su_window.specs.Reading.{columns_of, AreColumnsBelow, value_in, values_in, symbol_in}
 use Rattle.su_window.proofs.Made.{made_more, made_at, of_made, same_made}
 use Rattle.su_window.proofs.Objects.{placed_at, own_attribute, no_attribute, value_is, attributes_are, relation_low, column_low}
 use Rattle.su_window.proofs.Rows.{constant_cell, variable_cell}

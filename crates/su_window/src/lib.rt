@@ -11,6 +11,7 @@
 mod columns;
 mod crossing;
 mod faults;
+pub mod laws;
 mod padding;
 mod readings;
 mod windows;

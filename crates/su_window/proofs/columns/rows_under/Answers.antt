@@ -1,4 +1,4 @@
-use Rattle.std.proofs.Common.{◌≡◌, ℕ, map, Some, subst}
+use Rattle.std.proofs.Common.{◌≡◌, map, Some, subst}
 use Rattle.std.specs.Prelude.{slice_get}
 use Rattle.su_schema.specs.SchemaValue.{SchemaValue}
 use Rattle.su_window.proofs.Taking.{relation_within, rows_are}

@@ -1,4 +1,4 @@
-use Rattle.std.proofs.Common.{◌≡◌, ◌≤◌, List, length, ap, arith}
+use Rattle.std.proofs.Common.{◌≡◌, List, length, ap, arith}
 use Rattle.su_base.specs.declared.values.Value.{Value}
 use Rattle.su_window.specs.Padded.{rows_under}
 use Rattle.su_window.proofs.Counted.{object_done}

@@ -1,7 +1,6 @@
-use Rattle.std.proofs.Common.{rules, ◌≡◌, ◌+◌, ◌++◌, ◌∷◌, [], List, Result, sym, subst}
+use Rattle.std.proofs.Common.{◌≡◌, ◌+◌, List, Result, sym, subst}
 use Rattle.std.specs.Prelude.{IfErr}
 use Rattle.std.proofs.lemmas.Result.{err_from_is_err_and}
-use Rattle.su_base.specs.declared.values.Value.{Value}
 use Rattle.su_window.specs.declared.faults.WindowFault.{WindowFault}
 use Rattle.su_window.specs.declared.readings.Reading.{Reading}
 use Rattle.su_window.specs.Padded.{row_read, member_read, IsReading}

@@ -1,4 +1,4 @@
-use Rattle.std.proofs.Common.{◌≡◌, ◌<◌, ◌≤◌, ℕ, List, length, ap, arith, ◌∙◌}
+use Rattle.std.proofs.Common.{◌≡◌, length, ap, arith, ◌∙◌}
 use Rattle.su_schema.specs.SchemaValue.{SchemaValue}
 use Rattle.su_window.proofs.RowRead.{columns_length, columns_at}
 use Rattle.su_window.proofs.Counted.{all_read}

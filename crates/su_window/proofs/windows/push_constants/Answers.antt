@@ -1,4 +1,4 @@
-use Rattle.std.proofs.Common.{◌≡◌, List, Option, MatchOption, subst}
+use Rattle.std.proofs.Common.{List, Option, MatchOption, subst}
 use Rattle.su_base.specs.declared.values.Value.{Value}
 use Rattle.su_window.specs.Reading.{AreConstants}
 use Rattle.su_window.proofs.Constants.{added}

@@ -1,6 +1,5 @@
 use Rattle.std.proofs.Common.{rules, ◌≡◌, List, length, ap, subst, sym, ◌∙◌}
 use Rattle.std.specs.Prelude.{All}
-use Rattle.su_fd.specs.declared.dependencies.Fd.{Fd}
 use Rattle.su_schema.specs.SchemaValue.{SchemaValue}
 use Rattle.su_tableau.specs.declared.symbols.Sym.{Sym}
 use Rattle.su_tableau.specs.Tableaux.{AreBelow}
