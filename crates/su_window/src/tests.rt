@@ -1,3 +1,6 @@
+ghost use Rattle.std.specs.Prelude.{◌<◌, All};
+ghost use Rattle.std.specs.Bool.{OnTrue};
+
 use crate::{WindowFault, window};
 use std::alloc::Global;
 use std::test::Fail;
@@ -91,26 +94,25 @@ fn row(alloc: Global, words: &str) -> Result<Row, NoMemory> {
     Ok(row)
 }
 
-fn relation_of(db: &Database, name: &str) -> Option<u8> {
-    match db.relation(name) {
-        Ok(r) if (r as usize) < db.schema().relations() => Some(r),
-        _ => None,
-    }
-}
-
 fn insert(alloc: Global, db: &mut Database, name: &str, words: &str) -> Result<bool, NoMemory> {
     let row = row(alloc, words)?;
-    match relation_of(db, name) {
-        Some(r) => Ok(matches!(db.insert(r, row), Ok(true))),
-        None => Ok(false),
+    match db.relation(name) {
+        Ok(r) if (r as usize) < db.schema().relations() => Ok(matches!(
+            db.insert(r, row),
+            Ok(true)
+        )),
+        _ => Ok(false),
     }
 }
 
 fn delete(alloc: Global, db: &mut Database, name: &str, words: &str) -> Result<bool, NoMemory> {
     let row = row(alloc, words)?;
-    match relation_of(db, name) {
-        Some(r) => Ok(matches!(db.delete(r, &row), Ok(true))),
-        None => Ok(false),
+    match db.relation(name) {
+        Ok(r) if (r as usize) < db.schema().relations() => Ok(matches!(
+            db.delete(r, &row),
+            Ok(true)
+        )),
+        _ => Ok(false),
     }
 }
 
@@ -171,7 +173,9 @@ fn numbers(alloc: Global, db: &Database, words: &str) -> Result<List<u8>, NoMemo
     Ok(numbers)
 }
 
-fn are_below(numbers: &[u8], n: usize) -> bool {
+fn are_below(numbers: &[u8], n: usize) -> bool
+    ensures { OnTrue result (All (λ a. a < n) numbers.now) }
+{
     for a in numbers {
         if *a as usize >= n {
             return false;
