@@ -5,7 +5,7 @@
 //! rows under the dependencies. A row whose names are constants at all given attributes is in the window,
 //! and there are no others. Where two constants meet, no universal relation fits. Memory goes with the
 //! members times the attributes, and with the lists of one object at a time. Nothing is kept between
-//! two windows, and the maximal objects play no part. No statement calls this crate yet.
+//! two windows, and the maximal objects play no part.
 #![tactic(auto)]
 
 mod columns;
