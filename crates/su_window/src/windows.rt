@@ -108,8 +108,8 @@ fn sorted(rows: List<Row>) -> Result<List<Row>, NoMemory>
 
 /// The rows over the attributes that every universal relation has which meets the dependencies and
 /// includes the stored rows; an attribute may be given twice. (The windows of Maier, Ullman and Vardi,
-/// by chasing Honeyman's and Mendelzon's representative instance.) The time goes with the stored rows,
-/// and with the chase of at most 20,000 rows of the schema's width.
+/// read off Sagiv's representative instance; what fits is a weak instance as Honeyman has it.) The time
+/// goes with the stored rows, and with the chase of at most 20,000 rows of the schema's width.
 pub fn window(alloc: Global, db: &Database, attributes: &[u8]) -> Result<List<Row>, WindowFault>
     requires attributes { All (λ a. a < width db.now.schema) attributes.now }
     ensures exact { IfOk result (λ rows. (h : Items AValue) → Contains rows h ↔ InWindow db.now attributes.now h) }
