@@ -1,0 +1,8 @@
+//! Every public type may be moved to another thread and shared between threads.
+use crate::edges::{Ear, Edge};
+use su_base::crosses_threads;
+
+fn types_cross_threads() {
+    crosses_threads::<Ear>();
+    crosses_threads::<Edge>();
+}
