@@ -1,0 +1,4 @@
+pub mod Taking
+pub mod Tables
+pub mod Rounds
+pub mod Meeting

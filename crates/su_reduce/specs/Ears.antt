@@ -5,7 +5,12 @@
 use Rattle.std.specs.Prelude.{ℕ, ◌<◌, ◌↔◌, List, [], ◌∷◌, map, length, get_or, Contains, Option, None, Some}
 use Rattle.su_tableau.specs.declared.symbols.Sym.{Sym}
 use Rattle.su_tableau.specs.declared.symbols.Sym.TheVariants.{Var}
+use Rattle.su_reduce.specs.declared.edges.Edge.{Edge}
 use Rattle.su_reduce.specs.declared.edges.Ear.{Ear}
+
+-- the symbols of each edge
+abbrev pub cells_of : List Edge → List (List Sym)
+cells_of edges = map (λ e. e.cells) edges
 
 -- edge i has variable k
 abbrev pub HasVar : List (List Sym) → ℕ → ℕ → Type 0

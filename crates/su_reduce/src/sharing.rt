@@ -1,7 +1,7 @@
 //! Which edges share the variables of an edge.
 ghost use Rattle.std.specs.Prelude.{◌≡◌, ◌↔◌, ◌<◌, ◌≤◌, ℕ, IsTrue, IfOk, Contains, length, Option, MatchOption};
 ghost use Rattle.su_tableau.specs.declared.symbols.Sym.TheVariants.{Var};
-ghost use Rattle.su_reduce.specs.Left.{cells_of};
+ghost use Rattle.su_reduce.specs.Ears.{cells_of};
 ghost use Rattle.su_reduce.specs.Partners.{In, set_at, AreSets, AreTable, IsParentBy, IsTouched};
 
 use crate::edges::Edge;
@@ -89,6 +89,7 @@ fn has_shared(sets: &[ObjSet], others: ObjSet, p: u8) -> bool
 /// The parent of the edge with these sets beside the others, or that it needs none; none where it is no
 /// ear beside them.
 pub fn parent_of(sets: &[ObjSet], others: ObjSet) -> Option<Option<u8>>
+    requires { (j : ℕ) → In others j → j < 64 }
     ensures { MatchOption result ((parent : Option ℕ) → ¬ IsParentBy sets.now others parent) (IsParentBy sets.now others) }
 {
     if is_alone(sets, others) {

@@ -1,7 +1,6 @@
 //! An ear order.
 ghost use Rattle.std.specs.Prelude.{◌≡◌, ◌↔◌, ◌<◌, ◌≤◌, ℕ, IfOk, length, get_or, [], Option, MatchOption};
-ghost use Rattle.su_reduce.specs.Ears.{IsEarOrder, AreAcyclic};
-ghost use Rattle.su_reduce.specs.Left.{cells_of};
+ghost use Rattle.su_reduce.specs.Ears.{AreAcyclic, IsEarOrder, cells_of};
 ghost use Rattle.su_reduce.specs.Partners.{In, IsParentBy, without};
 
 use crate::edges::{Ear, Edge};

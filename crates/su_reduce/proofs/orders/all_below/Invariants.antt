@@ -1,0 +1,6 @@
+use Rattle.std.proofs.Common.{ℕ, ◌<◌, ◌↔◌}
+use Rattle.su_reduce.specs.Partners.{In}
+use Rattle.su_reduce.proofs.orders.all_below.Given as goal
+
+abbrev pub invariant-loop-j : goal.invariant-loop-j
+invariant-loop-j l = (i : ℕ) → In l.set i ↔ (i < l.j)

@@ -1,0 +1,9 @@
+use Rattle.std.proofs.Common.{true≢false, sym, ◌∙◌, arith}
+use Rattle.su_reduce.proofs.Meeting.{no_parent}
+use Rattle.su_reduce.proofs.sharing.parent_of.Goals as goal
+
+pub returns : goal.returns
+returns c =
+    no_parent c.args.sets.now c.args.others
+    (λ alone. true≢false (sym (c.is_alone.ensures.1 alone) ∙ c.if-is_alone.false))
+    (λ i h. let l = c.requires i h.0 in c.loop-p.invariant i (omega (arith, l)) h)
