@@ -42,7 +42,7 @@ module _ (schema : SchemaValue) (first second : AQuery) where
   cause_of (refusal.Query fault) told (inl h) = of_first fault h (query_told fault told) refl
   cause_of (refusal.Query fault) told (inr (known, h)) = of_second fault known h (query_told fault told) refl
   cause_of refusal.OnlyEqual told (known, more) = asks_more known more refl
-  cause_of refusal.OutputsDiffer told (known, (asks, apart)) = differ known asks apart refl
+  cause_of refusal.OutputsDiffer told (known, asks, apart) = differ known asks apart refl
   cause_of (refusal.Steps fault) told h = absurd h
   cause_of (refusal.State fault) told h = absurd h
   cause_of (refusal.Record fault) told h = absurd h

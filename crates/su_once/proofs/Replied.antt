@@ -211,9 +211,9 @@ module _ (a : DatabaseValue) (tables : List Stored) (alike : AreAlike a (record 
         at : ((fault : StepFault) × IsTermsRefusal a.schema maximal p q fault × Refuses a (refusal.Steps fault) r c) ⊎ (IsAccepted a.schema maximal p × IsAccepted a.schema maximal q × ShowsVerdicts a.schema maximal p q r × (c ≡ a))
             → ((fault : StepFault) × IsTermsRefusal a.schema maximal p q fault × Refuses b (refusal.Steps fault) s d) ⊎ (IsAccepted a.schema maximal p × IsAccepted a.schema maximal q × ShowsVerdicts a.schema maximal p q s × (d ≡ b)) → Same
         at (inl (f, is, t)) (inl (g, too, u)) = refuse a tables r s c d alike _ _ t u (ap refusal.Steps (one_terms_refusal a.schema maximal p q f g (step_told f t.told) (step_told g u.told) is too))
-        at (inl (f, is, t)) (inr (first, (second, l))) = absurd (refused_or_accepted a.schema maximal p q f (step_told f t.told) is first second)
-        at (inr (first, (second, l))) (inl (g, too, u)) = absurd (refused_or_accepted a.schema maximal p q g (step_told g u.told) too first second)
-        at (inr (first, (second, (x, one)))) (inr (also, (too, (y, two)))) = agree _ _ x.text y.text (one_verdicts_text a.schema maximal p q kept.valid r s x y) one two
+        at (inl (f, is, t)) (inr (first, second, l, same')) = absurd (refused_or_accepted a.schema maximal p q f (step_told f t.told) is first second)
+        at (inr (first, second, l, same')) (inl (g, too, u)) = absurd (refused_or_accepted a.schema maximal p q g (step_told g u.told) too first second)
+        at (inr (first, second, x, one)) (inr (also, too, y, two)) = agree _ _ x.text y.text (one_verdicts_text a.schema maximal p q kept.valid r s x y) one two
 
   compares : (first second : AQuery) → Compares a first second r c → Compares b first second s d → Same
   compares first second (inl (why, h, t)) (inl (other, k, u)) = refuse a tables r s c d alike why other t u (one_form_refusal a.schema first second why other t.told u.told h k)

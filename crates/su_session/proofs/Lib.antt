@@ -1,5 +1,6 @@
 pub mod Certified
 pub mod Changing
+pub mod Compared
 pub mod Counts
 pub mod Defining
 pub mod Relations
