@@ -1,0 +1,7 @@
+use Rattle.std.proofs.Common.{IfOk, subst}
+use Rattle.su_state.specs.DatabaseValue.{DatabaseValue}
+use Rattle.su_session.specs.Certifying.{Certifies}
+use Rattle.su_session.proofs.sessions.Session.certify.Goals as goal
+
+pub returns : goal.returns
+returns g c = subst (λ (db : DatabaseValue). IfOk c.certify.result (λ reply. Certifies db c.args.query.now reply db)) c.self.view_is c.certify.ensures

@@ -1,0 +1,7 @@
+use Rattle.std.proofs.Common.{IfOk, subst}
+use Rattle.su_state.specs.DatabaseValue.{DatabaseValue}
+use Rattle.su_session.specs.Retrieving.{Retrieves}
+use Rattle.su_session.proofs.sessions.Session.retrieve.Goals as goal
+
+pub returns : goal.returns
+returns g c = subst (λ (db : DatabaseValue). IfOk c.retrieve.result (λ reply. Retrieves db c.args.query.now reply db)) c.self.view_is c.retrieve.ensures
