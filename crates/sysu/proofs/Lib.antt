@@ -11,4 +11,4 @@ pub mod Asking
 pub mod OneBank
 pub mod OneList
 pub mod TwoRuns
-pub mod Steady
+pub mod Unfailing
