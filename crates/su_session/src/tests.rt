@@ -32,7 +32,7 @@ pub(crate) fn replies<R: Threads + Sync>(
     };
     for text in rows {
         let reply = session.step(rt, text.as_bytes(), None, 1, &OpenGate)?;
-        if reply.bytes.as_slice() != b"inserted 1\n" {
+        if reply.bytes.as_slice() != b"inserted 1\n".as_slice() {
             return Ok(false);
         }
     }
