@@ -7,7 +7,7 @@ use crate::{Prepared, answer, prepare};
 use std::alloc::{AllocError, Global};
 use std::sync::atomic::{AtomicU64, Ordering};
 use std::test::Fail;
-use std::thread::{Threads, join};
+use std::thread::Threads;
 use su_base::{Row, Value};
 use su_maxobj::maximal_objects;
 use su_par::{Gate, OpenGate};
@@ -313,20 +313,39 @@ fn cause(fault: &StepFault) -> &'static str {
     }
 }
 
+/// The query of the text over numbers.
+fn query_of(alloc: Global, db: &Database, text: &str) -> Result<Resolved, Fail>
+    ensures { IfOk result (IsResolved db.now.schema) }
+{
+    let statement = read(alloc, text.as_bytes())?;
+    resolved_of(alloc, db, &statement)
+}
+
 /// Why the query is not prepared, in a word.
+fn fault_of<R: Threads + Sync>(
+    rt: &R,
+    alloc: Global,
+    db: &Database,
+    resolved: &Resolved,
+) -> Result<&'static str, Fail>
+    requires resolved { IsResolved db.now.schema resolved.now }
+{
+    let maximal = maximal_objects(alloc, db.schema())?;
+    match prepare(rt, alloc, db, maximal.as_slice(), resolved, 1, &OpenGate) {
+        Ok(_) => Ok("prepared"),
+        Err(fault) => Ok(cause(&fault)),
+    }
+}
+
+/// The same of the query of the text.
 fn refused_for<R: Threads + Sync>(
     rt: &R,
     alloc: Global,
     db: &Database,
     text: &str,
 ) -> Result<&'static str, Fail> {
-    let statement = read(alloc, text.as_bytes())?;
-    let resolved = resolved_of(alloc, db, &statement)?;
-    let maximal = maximal_objects(alloc, db.schema())?;
-    match prepare(rt, alloc, db, maximal.as_slice(), &resolved, 1, &OpenGate) {
-        Ok(_) => Ok("prepared"),
-        Err(fault) => Ok(cause(&fault)),
-    }
+    let resolved = query_of(alloc, db, text)?;
+    fault_of(rt, alloc, db, &resolved)
 }
 
 #[test]
@@ -451,84 +470,5 @@ fn one_worker_takes_the_terms_in_turn(rt: HostRuntime) -> Result<(), Fail> {
     assert_eq!(rt; told.as_str(), "2 2: B1 /B3 /");
     assert_eq!(rt; minimised.passes(), (2, 0));
     assert_eq!(rt; executed.passes(), (2, 0));
-    Ok(())
-}
-
-/// One of two callers who wait for each other, whatever the number of the job.
-#[derive(Drop)]
-struct Seat<'a> {
-    meeting: &'a Meeting,
-    number: usize,
-}
-
-impl<'a> Gate for Seat<'a> {
-    fn pass(&self, _job: usize) {
-        self.meeting.pass(self.number);
-    }
-}
-
-/// The rows of the query's answer by one worker, through one gate for its terms and for the kept ones.
-fn asked<R: Threads + Sync, G: Gate>(
-    rt: &R,
-    alloc: Global,
-    db: &Database,
-    text: &str,
-    gate: &G,
-) -> Option<String> {
-    let Ok(Statement::Retrieve(query)) = read(alloc, text.as_bytes()) else {
-        return None;
-    };
-    let Ok(resolved) = resolve(alloc, db.schema(), &query) else {
-        return None;
-    };
-    let maximal = maximal_objects(alloc, db.schema()).ok()?;
-    let Ok(prepared) = prepare(rt, alloc, db, maximal.as_slice(), &resolved, 1, gate) else {
-        return None;
-    };
-    let Ok(rows) = answer(rt, alloc, db, &prepared, 1, gate) else {
-        return None;
-    };
-    shown(alloc, rows.as_slice()).ok()
-}
-
-// Two callers in threads of their own ask one database, each while the other does. Each query has one
-// term, so each passes the gate twice.
-#[test]
-fn two_threads_ask_one_database(rt: HostRuntime) -> Result<(), Fail> {
-    let a = rt.alloc();
-    let rows = [
-        "insert MEMBERS ('Robin', '12 Elm', 50)",
-        "insert MEMBERS ('Kim', '3 Ash', 0)",
-    ];
-    let db = stored(a, COOP, &rows)?;
-    let meeting = Meeting::new();
-    let first = Seat {
-        meeting: &meeting,
-        number: 0,
-    };
-    let second = Seat {
-        meeting: &meeting,
-        number: 1,
-    };
-    let (robin, kim) = join(
-        &rt,
-        || asked(
-            &rt,
-            a,
-            &db,
-            "retrieve (ADDR) where MEMBER = 'Robin'",
-            &first,
-        ),
-        || asked(
-            &rt,
-            a,
-            &db,
-            "retrieve (BALANCE) where MEMBER = 'Kim'",
-            &second,
-        ),
-    );
-    assert_eq!(rt; robin.as_deref(), Some("12 Elm /"));
-    assert_eq!(rt; kim.as_deref(), Some("0 /"));
-    assert_eq!(rt; meeting.passes(), (2, 2, 0));
     Ok(())
 }
