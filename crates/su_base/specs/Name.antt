@@ -21,6 +21,7 @@ IsWord (b ∷ bs) = IsTrue (is_letter b) × All (λ c. IsTrue (is_letter_or_digi
 abbrev pub reserved : List (List ℕ)
 reserved = codes "attribute" ∷ codes "relation" ∷ codes "object" ∷ codes "from" ∷ codes "fd" ∷ codes "maximal" ∷ codes "int" ∷ codes "text" ∷ codes "insert" ∷ codes "delete" ∷ codes "where" ∷ codes "load" ∷ codes "print" ∷ codes "schema" ∷ codes "closure" ∷ codes "retrieve" ∷ codes "explain" ∷ codes "and" ∷ codes "or" ∷ codes "not" ∷ codes "compare" ∷ codes "with" ∷ codes "window" ∷ []
 
+-- the bytes are one of the reserved words
 abbrev pub is_reserved_word : List ℕ → Bool
 is_reserved_word bs = list_any (λ word. pointwise ◌==◌ word bs) reserved
 

@@ -1,6 +1,8 @@
 //! A growing list, and the one answer for want of memory.
-ghost use Rattle.std.specs.Prelude.{◌≡◌, [], ◌∷◌, ◌++◌, ◌<◌, length, slice_get, ◌==◌, IfErr, OnOk, OnErr, MatchOption};
+ghost use Rattle.std.specs.Prelude.{◌≡◌, [], ◌∷◌, ◌++◌, ◌<◌, ◌^◌, length, slice_get, ◌==◌, IfErr, OnOk, OnErr, MatchOption, if◌then◌else◌};
 ghost use Rattle.std.specs.Cmp.Lexicographic.{pointwise, slice_cmp, slice_partial_cmp, lists_equiv, lists_agrees, lists_total, lists_ties, lists_po, lists_per};
+ghost use Rattle.std.specs.Slice.Iter.{iter_rest};
+ghost use Rattle.std.specs.Iterator.Adapters.{IterYieldsInOrder, IterYieldsInReverse};
 ghost use Rattle.std.specs.Hash as fed;
 ghost use Rattle.std.specs.Hash.{items_Alike};
 
@@ -8,6 +10,7 @@ use std::alloc::{AllocError, AllocFailed, Global};
 use std::cmp::Ordering;
 use std::hash::{Hash, Hasher};
 use std::marker::Model;
+use std::slice::Iter;
 
 /// Memory could not be had. Each call says what stands then.
 #[derive(Clone, Copy, PartialEq, Eq, Debug)]
@@ -94,6 +97,17 @@ impl<T> List<T> {
         self.items.as_slice()
     }
 
+    /// The items, one after another, from the front or from the back.
+    pub fn iter(&self) -> Iter<'_, T>
+        ensures rest { iter_rest result ≡ self.now }
+        ensures len { length (iter_rest result) ≡ length self.now }
+        ensures bound { length (iter_rest result) < 2 ^ 64 }
+        ensures runs { IterYieldsInOrder T }
+        ensures runs_back { IterYieldsInReverse T }
+    {
+        self.items.iter()
+    }
+
     /// The list of the vector's items. It moves them, takes no memory and keeps the vector's room.
     pub fn from_vec(items: Vec<T>) -> List<T>
         ensures { result ≡ items.items }
@@ -159,6 +173,17 @@ impl<T: Hash> Hash for List<T> {
 }
 
 impl<T: Drop> List<T> {
+    /// Adds the item at the end where it is wanted; else it is dropped, as where memory is wanting.
+    pub fn push_if(&mut self, wanted: bool, item: T) -> Result<(), NoMemory>
+        ensures ok { OnOk result (self.new ≡ self.old ++ (if wanted then item ∷ [] else [])) }
+        ensures unchanged { OnErr result (self.new ≡ self.old) }
+    {
+        if wanted {
+            self.push(item)?;
+        }
+        Ok(())
+    }
+
     /// Moves the items of `more` to the end. Where memory is wanting, those are dropped.
     pub fn append(&mut self, more: List<T>) -> Result<(), NoMemory>
         ensures ok { OnOk result (self.new ≡ self.old ++ more) }

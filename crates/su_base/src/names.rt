@@ -1,8 +1,12 @@
-//! Which texts may name something.
-ghost use Rattle.std.specs.Prelude.{◌≡◌, ◌↔◌, IsTrue, ◌==◌};
+//! Which texts may name something, and names that may be missing.
+ghost use Rattle.std.specs.Prelude.{◌≡◌, ◌↔◌, IsTrue, ◌==◌, IfOk};
 ghost use Rattle.std.specs.List.{list_any};
 ghost use Rattle.std.specs.Cmp.Lexicographic.{pointwise};
 ghost use Rattle.su_base.specs.Name.{is_letter, is_letter_or_digit, IsWord, is_reserved_word, IsName};
+
+use crate::lists::NoMemory;
+use crate::texts::Str;
+use std::alloc::Global;
 
 const RESERVED: [&str; 23] = [
     "attribute",
@@ -72,4 +76,14 @@ pub fn is_name(text: &str) -> bool
     ensures { IsTrue result ↔ IsName text.now }
 {
     is_word(text) && !is_reserved(text)
+}
+
+/// An equal name of its own, where there is one.
+pub fn copy_name(alloc: Global, name: &Option<Str>) -> Result<Option<Str>, NoMemory>
+    ensures { IfOk result (λ n. n ≡ name.now) }
+{
+    match name {
+        Some(text) => Ok(Some(text.copy(alloc)?)),
+        None => Ok(None),
+    }
 }

@@ -1,5 +1,5 @@
 -- The row of a record, one column after another.
-use Rattle.std.proofs.Common.{◌≡◌, ◌+◌, ◌-◌, ◌<◌, ◌≤◌, ◌&&◌, ◌==◌, ℕ, zero, suc, Bool, true, false, List, [], ◌∷◌, ◌++◌, length, drop, get_or, Option, Some, None, Ok, Err, refl, sym, ap, arith, append_assoc, add-one, eq-eqb}
+use Rattle.std.proofs.Common.{◌≡◌, ◌+◌, ◌-◌, ◌<◌, ◌≤◌, ◌&&◌, ◌==◌, ℕ, zero, suc, Bool, true, false, List, [], ◌∷◌, ◌++◌, length, drop, Option, Some, None, Ok, Err, refl, sym, ap, arith, append_assoc, add-one, eq-eqb}
 use Rattle.std.proofs.lemmas.List.{append-nil, drop_all}
 use Rattle.std.proofs.lemmas.Bool.{le-ltb}
 use Rattle.std.specs.Prelude.{slice_get, is_none, MatchOption}
@@ -35,11 +35,6 @@ pub present : {A : Type 0} (xs : List A) (i : ℕ) → i < length xs → slice_g
 present [] i lt none = omega arith
 present (y ∷ xs) zero lt none = cc none
 present (y ∷ xs) (suc i) lt none = present xs i (omega arith) none
-
-pub get-at : {A : Type 0} (xs : List A) (i : ℕ) (x : A) → i < length xs → x ≡ get_or xs i x → slice_get xs i ≡ Some x
-get-at [] i x lt is = absurd (omega arith)
-get-at (y ∷ xs) zero x lt is = ap Some (sym is)
-get-at (y ∷ xs) (suc i) x lt is = get-at xs i x (omega arith) is
 
 -- the value that a row got at its end, where one was found
 pub got : (sought : Option Value) (found : Bool) (old new : List Value) → MatchOption sought (found ≡ false) (λ value. (found ≡ true) × (new ≡ old ++ value ∷ []))

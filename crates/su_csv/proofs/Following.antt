@@ -70,7 +70,3 @@ module _ (columns : List Column) (fields : List (List ℕ)) (i : ℕ) (column : 
 pub not-true : (b : Bool) → not b ≡ true → b ≡ false
 not-true true h = absurd (cc h)
 not-true false h = refl
-
-pub not-false : (b : Bool) → not b ≡ false → b ≡ true
-not-false true h = refl
-not-false false h = absurd (cc h)

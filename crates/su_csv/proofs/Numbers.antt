@@ -1,6 +1,6 @@
 -- The number of a field: what `parse` answers, and what a number is written as.
-use Rattle.std.proofs.Common.{◌≡◌, ◌∙◌, ◌<◌, ◌^◌, ◌&&◌, ◌==◌, ℕ, zero, suc, Bool, true, false, List, [], ◌∷◌, get_or, Some, None, Result, Ok, Err, refl, sym, ap, inl, inr, rules, arith, ℤ, pos, negsuc, lit<, eqb-true, ne_eqb}
-use Rattle.std.proofs.lemmas.Bool.{cases_Bool, both_ways, lt-ltb, ltb-true}
+use Rattle.std.proofs.Common.{◌≡◌, ◌∙◌, ◌<◌, ◌^◌, ◌&&◌, ◌==◌, ℕ, zero, suc, true, false, List, [], ◌∷◌, get_or, Some, None, Result, Ok, Err, refl, sym, ap, inl, inr, rules, arith, ℤ, pos, negsuc, lit<, eqb-true, ne_eqb}
+use Rattle.std.proofs.lemmas.Bool.{cases_Bool, both_ways, lt-ltb, ltb-true, and_parts}
 use Rattle.std.specs.Result.{result_ok}
 use Rattle.std.specs.Str.{IsUtf8, IsAscii, all_ascii_digits}
 use Rattle.std.specs.Str.Parse.{AllDigits, IsNumeral, ParsesSigned, digits_value, digits_value_after, signed_digits_value, without_leading_sign}
@@ -11,10 +11,6 @@ use Rattle.std.proofs.lemmas.Fmt.{IsAscii-from_digits, decimal_is_IsNumeral, par
 use mir.Syntax.{w64}
 use mir.Val.{SFits}
 use Rattle.su_csv.specs.Field.{digits_of, is_digits, signed_value, in_range, number_of}
-
-split-and : (a b : Bool) → (a && b) ≡ true → (a ≡ true) × (b ≡ true)
-split-and true b h = (refl, h)
-split-and false b h = absurd (cc h)
 
 own : IsNumeralModel (λ ds. all_ascii_digits ds ≡ true) (digits_value 10)
 own = numerals_by_fold _ tells_all_ascii_digits (digits_value_after 10) (search rules)
@@ -53,7 +49,7 @@ module _ {E : Type 0} (bs : List ℕ) (plain : (get_or bs 0 0 == 43) ≡ false) 
       rw (numeral-digits (digits_of bs) numeral, fits-range (signed_value bs) fits) (ap Some (h.1 ∙ same-value bs plain))
   parsed (Err e) h = elim (cases_Bool (is_digits (digits_of bs) && in_range (signed_value bs))) [
     | inl test ↦
-        let parts = split-and _ _ test in
+        let parts = and_parts _ _ test in
         absurd (h (rw (no-plus bs plain) (digits-numeral (digits_of bs) parts.0), rw (same-value bs plain) (range-fits (signed_value bs) parts.1)))
     | inr test ↦ rw test refl
   ]
@@ -61,7 +57,7 @@ module _ {E : Type 0} (bs : List ℕ) (plain : (get_or bs 0 0 == 43) ≡ false) 
 -- a field that is no UTF-8 writes no number
 pub not-text : (bs : List ℕ) → (IsUtf8 bs → ⊥) → number_of bs ≡ None
 not-text bs other = elim (cases_Bool (is_digits (digits_of bs) && in_range (signed_value bs))) [
-  | inl test ↦ absurd (other (IsUtf8-from_ascii bs (ascii bs (digits-numeral (digits_of bs) (split-and _ _ test).0).1)))
+  | inl test ↦ absurd (other (IsUtf8-from_ascii bs (ascii bs (digits-numeral (digits_of bs) (and_parts _ _ test).0).1)))
   | inr test ↦ rw test refl
 ]
   where
@@ -82,7 +78,7 @@ not-text bs other = elim (cases_Bool (is_digits (digits_of bs) && in_range (sign
 pub written : (z : ℤ) → SFits w64 z → number_of (signed_decimal z) ≡ Some z
 written z fits = elim (cases_Bool (is_digits (digits_of (signed_decimal z)) && in_range (signed_value (signed_decimal z)))) [
   | inl test ↦
-      let parts = split-and _ _ test in
+      let parts = and_parts _ _ test in
       let back : ◌≡◌ {A = Result ℤ (Unit {0})} (Ok (signed_value (signed_decimal z))) (Ok z) =
       parse-signed_decimal w64 z (signed_decimal z) (Ok (signed_value (signed_decimal z))) fits fits.sfits refl
       ((rw (no-plus (signed_decimal z) (no-plus-written z fits)) (digits-numeral (digits_of (signed_decimal z)) parts.0), rw (same-value (signed_decimal z) (no-plus-written z fits)) (range-fits (signed_value (signed_decimal z)) parts.1)), sym (same-value (signed_decimal z) (no-plus-written z fits))) in

@@ -12,7 +12,7 @@ use Rattle.csv.specs.declared.parser.Terminator.{Terminator}
 use Rattle.csv.specs.declared.parser.Terminator.TheVariants as term
 use Rattle.csv.specs.declared.reader.Reader.{Reader}
 use Rattle.csv.proofs.ReadFacts.{rows-end, rows-more}
-use Rattle.su_csv.specs.Records.{Stands, Took, bytes_left, records_after, records_left}
+use Rattle.su_csv.specs.inside.Records.{Stands, Took, bytes_left, records_after, records_left}
 
 -- a record that ends leaves no part of another
 abbrev Between : State × Action → Type 0

@@ -36,6 +36,7 @@ in_range (negsuc n) = nat_lt n (2 ^ 63)
 abbrev pub number_of : List ℕ → Option ℤ
 number_of field = if is_digits (digits_of field) && in_range (signed_value field) then Some (signed_value field) else None
 
+-- a field that may be a text: short enough, and UTF-8
 abbrev pub is_text : List ℕ → Bool
 is_text field = nat_le (length field) text_limit && is_utf8 field
 

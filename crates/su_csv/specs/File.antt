@@ -19,6 +19,7 @@ abbrev pub row_first : List Value → Result (List (List Value)) CsvFault → Re
 row_first row (Ok rows) = Ok (row ∷ rows)
 row_first row (Err fault) = Err fault
 
+-- a row before others, or its fault
 abbrev pub then_rows : Result (List Value) CsvFault → Result (List (List Value)) CsvFault → Result (List (List Value)) CsvFault
 then_rows (Ok row) others = row_first row others
 then_rows (Err fault) others = Err fault

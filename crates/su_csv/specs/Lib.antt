@@ -1,6 +1,5 @@
 pub mod Field
-pub mod Record
 pub mod File
-pub mod Records
+pub mod inside
+pub mod Record
 pub mod Written
-pub mod Writers

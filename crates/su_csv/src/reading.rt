@@ -4,7 +4,7 @@ ghost use Rattle.csv.specs.Reading.{is_bom, strip_bom};
 ghost use Rattle.csv.specs.Records.{fields_of};
 ghost use Rattle.su_csv.specs.File.{is_header, reading, rows_from};
 ghost use Rattle.su_csv.specs.Record.{Answers};
-ghost use Rattle.su_csv.specs.Records.{Stands, records_left};
+ghost use Rattle.su_csv.specs.inside.Records.{Stands, records_left};
 
 use crate::faults::CsvFault;
 use crate::records::{advance, records_of};

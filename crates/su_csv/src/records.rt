@@ -2,7 +2,7 @@
 ghost use Rattle.std.specs.Prelude.{◌≡◌, IfOk, true};
 ghost use Rattle.csv.specs.Reading.{strip_bom, records, default_config};
 ghost use Rattle.csv.specs.Records.{fields_of};
-ghost use Rattle.su_csv.specs.Records.{Stands, Took, records_left};
+ghost use Rattle.su_csv.specs.inside.Records.{Stands, Took, records_left};
 
 use csv::{ByteRecord, Reader, ReaderBuilder};
 use std::alloc::Global;

@@ -5,7 +5,7 @@ ghost use Rattle.csv.specs.Writing.{default_writer, row_text};
 ghost use Rattle.su_csv.specs.Written.{CanBeRead, IsStored, field_of, text_of};
 ghost use Rattle.su_csv.specs.File.{reading};
 ghost use Rattle.su_base.specs.declared.values.Column.{Column};
-ghost use Rattle.su_csv.specs.Writers.{IsIdle, text_so_far};
+ghost use Rattle.su_csv.specs.inside.Writers.{IsIdle, text_so_far};
 
 use csv::{ByteRecord, Writer, WriterBuilder};
 use std::alloc::Global;

@@ -1,16 +1,15 @@
 -- The disjuncts of a condition from those of its parts, how many there are, and which one stands where.
-use Rattle.std.proofs.Common.{◌≡◌, ℕ, ◌+◌, ◌*◌, ◌/◌, ◌%◌, ◌<◌, ◌≤◌, nat_le, ◌⊎◌, inl, inr, min, zero, suc, Bool, true, false, not, if◌then◌else◌, List, [], ◌∷◌, ◌++◌, map, length, get_or, take, drop, refl, sym, ap, subst, add-one, drop-cons, append_assoc, ◌∙◌, arith}
-use Rattle.std.proofs.lemmas.Bool.Decides.{nat_tests}
-use Rattle.std.proofs.lemmas.Nat.{div-add-mod'}
+use Rattle.std.proofs.Common.{◌≡◌, ℕ, ◌+◌, ◌*◌, ◌/◌, ◌%◌, ◌<◌, ◌≤◌, min, suc, Bool, true, false, not, if◌then◌else◌, List, [], ◌∷◌, ◌++◌, map, length, get_or, take, drop, refl, sym, ap, subst, add-one, drop-cons, append_assoc, ◌∙◌, arith}
 use Rattle.std.proofs.Math.Seq.{take-suc}
-use Rattle.std.proofs.lemmas.List.{get_or_append_left, get_or-append-add, length-append, length-map, get_or-map}
-use Rattle.std.proofs.Math.Nat.{mul_assoc, mul_comm, mul-zero, zero-mul, mul-div_cancel_left, div-lt_iff_lt-mul, mod-lt, le-mul_of_pos_right}
+use Rattle.std.proofs.lemmas.List.{length-append}
+use Rattle.std.proofs.Math.Nat.{mul_assoc}
+use Rattle.su_base.proofs.Combinations.{length-pairs, get_or-pairs, min-mul_both, split as place_of}
 use Rattle.su_where.specs.declared.literals.Literal.{Literal}
 use Rattle.su_where.specs.declared.conditions.Cond.{Cond}
 use Rattle.su_where.specs.declared.conditions.Cond.TheOpen as open'
 use Rattle.su_where.specs.declared.conditions.Cond.TheVariants.{Compare, Not, All, Any, rolls-Compare, rolls-Not, rolls-All, rolls-Any}
 use Rattle.su_where.specs.declared.conditions.Cond.TheFolds.{fold-roll-Cond}
-use Rattle.su_where.specs.Disjunct.{opposite_of, pairs_of, combinations_of, joined, form_of, form_step}
+use Rattle.su_where.specs.Disjunct.{opposite_of, combinations_of, joined, form_of, form_step}
 
 -- the disjuncts of each of several conditions
 abbrev pub forms : Bool → List Cond → List (List (List Literal))
@@ -36,15 +35,15 @@ form_of-Any parts b =
     ap (λ d. form_of d b) (sym (rolls-Any parts)) ∙ ap (λ f. f b) (fold-roll-Cond (Bool → List (List Literal)) form_step (open'.Any parts))
     ∙ ap (λ fs. if b then combinations_of fs else joined fs) (forms-map b parts)
 
-pub length-pairs : (a b : List (List Literal)) → length (pairs_of a b) ≡ length a * length b
-length-pairs [] b = grind arith
-length-pairs (d ∷ ds) b = grind (arith, length-append, length-map, length-pairs ds b)
+-- a disjunct with another behind it
+abbrev both : List Literal → List Literal → List Literal
+both d e = d ++ e
 
 pub length-combinations_push : (fs : List (List (List Literal))) (f : List (List Literal)) → length (combinations_of (fs ++ f ∷ [])) ≡ length (combinations_of fs) * length f
-length-combinations_push [] f = length-pairs f ([] ∷ []) ∙ grind arith
+length-combinations_push [] f = length-pairs both f ([] ∷ []) ∙ grind arith
 length-combinations_push (g ∷ gs) f =
-    length-pairs g (combinations_of (gs ++ f ∷ [])) ∙ ap (λ n. length g * n) (length-combinations_push gs f)
-    ∙ sym (mul_assoc (length g) (length (combinations_of gs)) (length f)) ∙ ap (λ n. n * length f) (sym (length-pairs g (combinations_of gs)))
+    length-pairs both g (combinations_of (gs ++ f ∷ [])) ∙ ap (λ n. length g * n) (length-combinations_push gs f)
+    ∙ sym (mul_assoc (length g) (length (combinations_of gs)) (length f)) ∙ ap (λ n. n * length f) (sym (length-pairs both g (combinations_of gs)))
 
 pub length-joined_push : (fs : List (List (List Literal))) (f : List (List Literal)) → length (joined (fs ++ f ∷ [])) ≡ length (joined fs) + length f
 length-joined_push [] f = grind (arith, length-append)
@@ -53,52 +52,6 @@ length-joined_push (g ∷ gs) f = grind (arith, length-append, length-joined_pus
 -- counts that stop at 65 add and multiply as the counts do
 pub min-add : (a b m n : ℕ) → a ≡ min m 65 → b ≡ min n 65 → min 65 (a + b) ≡ min (m + n) 65
 min-add a b m n e f = omega arith
-
-same_or_many : (a m : ℕ) → a ≡ min m 65 → (a ≡ m) ⊎ ((a ≡ 65) × (65 ≤ m))
-same_or_many a m e = elim (nat_le m 65) as (λ v. nat_le m 65 ≡ v → (a ≡ m) ⊎ ((a ≡ 65) × (65 ≤ m))) [
-  | true ↦ λ t. inl (grind (arith, nat_tests, t, e))
-  | false ↦ λ t. inr (grind (arith, nat_tests, t, e), grind (arith, nat_tests, t))
-] refl
-
-zero_or_more : (n : ℕ) → (n ≡ 0) ⊎ (0 < n)
-zero_or_more zero = inl refl
-zero_or_more (suc n) = inr (omega arith)
-
-both_many : (x y : ℕ) → 65 ≤ x → 65 ≤ y → min 65 x ≡ min y 65
-both_many x y h k = omega arith
-
-both_same : (x y : ℕ) → x ≡ y → min 65 x ≡ min y 65
-both_same x y e = omega arith
-
-many_times : (m n : ℕ) → 65 ≤ m → 0 < n → 65 ≤ m * n
-many_times m n h k = omega (arith, le-mul_of_pos_right {m = n} m k)
-
-times_many : (m n : ℕ) → 0 < m → 65 ≤ n → 65 ≤ m * n
-times_many m n h k = subst (λ (x : ℕ). 65 ≤ x) (mul_comm n m) (many_times n m k h)
-
-pub min-mul : (a b m n : ℕ) → a ≡ min m 65 → b ≡ min n 65 → min 65 (a * b) ≡ min (m * n) 65
-min-mul a b m n e f =
-    elim (same_or_many a m e) [
-      | inl p ↦ elim (same_or_many b n f) [
-        | inl q ↦ both_same _ _ (ap (λ x. x * b) p ∙ ap (λ x. m * x) q)
-        | inr q ↦ elim (zero_or_more m) [
-          | inl z ↦ both_same _ _ (ap (λ x. x * b) (p ∙ z) ∙ grind arith ∙ ap (λ x. x * n) (sym z))
-          | inr more ↦ both_many _ _ (times_many a b (omega arith) (omega (arith, q.0))) (times_many m n more q.1)
-        ]
-      ]
-      | inr p ↦ elim (zero_or_more n) [
-        | inl z ↦ both_same _ _ (ap (λ x. a * x) (f ∙ ap (λ x. min x 65) z) ∙ grind arith ∙ ap (λ x. m * x) (sym z))
-        | inr more ↦ both_many _ _ (many_times a b (omega (arith, p.0)) (omega arith)) (many_times m n p.1 more)
-      ]
-    ]
-
--- the disjunct at a place of all pairs
-pub pairs-at : (a b : List (List Literal)) (q r : ℕ) → q < length a → r < length b → get_or (pairs_of a b) (q * length b + r) [] ≡ get_or a q [] ++ get_or b r []
-pairs-at [] b q r h k = absurd (omega arith)
-pairs-at (d ∷ ds) b zero r h k = grind (arith, get_or_append_left (map (λ e. d ++ e) b) (pairs_of ds b) [] r, get_or-map, length-map)
-pairs-at (d ∷ ds) b (suc q) r h k =
-    let e : suc q * length b + r ≡ length (map (λ x. d ++ x) b) + (q * length b + r) = grind (arith, length-map) in
-    ap (λ i. get_or (pairs_of (d ∷ ds) b) i []) e ∙ get_or-append-add (map (λ x. d ++ x) b) (pairs_of ds b) (q * length b + r) [] ∙ pairs-at ds b q r (omega arith) k
 
 -- the quotient and the rest that lead to a disjunct of combined parts
 pub record Split (n m count total left : ℕ) : Type 0 where
@@ -113,29 +66,27 @@ pub record Split (n m count total left : ℕ) : Type 0 where
   pub whole : left / m * m + left % m ≡ left
 
 pub split : (n m count total left : ℕ) → count ≡ min n 65 → total ≡ n * m → left < total → total ≤ 64 → Split n m count total left
-split n zero count total left c t below few = absurd (omega (arith, t ∙ mul-zero n))
-split zero (suc m) count total left c t below few = absurd (omega (arith, t ∙ zero-mul (suc m)))
-split (suc n) (suc m) count total left c t below few =
-    let up : suc n ≤ suc n * suc m = le-mul_of_pos_right {m = suc m} (suc n) (omega arith) in
-    let exact : count ≡ suc n = omega arith in
-    let whole : left / suc m * suc m + left % suc m ≡ left = div-add-mod' left (suc m) in
+split n m count total left c t below few =
+    let s = place_of n m total left t below in
+    let own : n ≤ total = s.own in
+    let exact : count ≡ n = omega arith in
     record {
       exact = exact;
-      some = omega arith;
-      others = omega arith;
-      behind = ap (λ x. x / count) t ∙ ap (λ x. suc n * suc m / x) exact ∙ mul-div_cancel_left (suc m) (omega arith);
-      own = subst (λ (x : ℕ). suc n ≤ x) (sym t) up;
-      fewer = subst (λ (x : ℕ). suc m ≤ x) (mul_comm (suc m) (suc n) ∙ sym t) (le-mul_of_pos_right {m = suc n} (suc m) (omega arith));
-      place = (div-lt_iff_lt-mul {k = suc m} (omega arith)).1 (subst (λ (x : ℕ). left < x) t below);
-      rest = mod-lt left (omega arith);
-      whole = whole;
+      some = s.some;
+      others = s.others;
+      behind = ap (λ x. total / x) exact ∙ s.behind;
+      fewer = s.fewer;
+      own = own;
+      place = s.place;
+      rest = s.below;
+      whole = s.whole;
     }
 
 pub combined-at : (f : List (List Literal)) (fs : List (List (List Literal))) (count total left : ℕ) → Split (length f) (length (combinations_of fs)) count total left
     → get_or (combinations_of (f ∷ fs)) left [] ≡ get_or f (left / length (combinations_of fs)) [] ++ get_or (combinations_of fs) (left % length (combinations_of fs)) []
 combined-at f fs count total left s =
     let m = length (combinations_of fs) in
-    ap (λ i. get_or (combinations_of (f ∷ fs)) i []) (sym s.whole) ∙ pairs-at f (combinations_of fs) (left / m) (left % m) s.place s.rest
+    ap (λ i. get_or (combinations_of (f ∷ fs)) i []) (sym s.whole) ∙ get_or-pairs both f (combinations_of fs) (left / m) (left % m) [] [] [] s.place s.rest
 
 forms_push : (b : Bool) (cs : List Cond) (c : Cond) → forms b (cs ++ c ∷ []) ≡ forms b cs ++ form_of c b ∷ []
 forms_push b [] c = refl
@@ -155,7 +106,7 @@ pub combined_split : (b : Bool) (cs : List Cond) (i : ℕ) (c : Cond) (count tot
     → Split (length (form_of c b)) (length (combinations_of (forms b (drop (i + 1) cs)))) count total left
 combined_split b cs i c count total left h e k t below few =
     split _ _ count total left k
-    (t ∙ ap (λ fs. length (combinations_of fs)) (forms_drop b cs i c h e) ∙ length-pairs (form_of c b) (combinations_of (forms b (drop (i + 1) cs)))) below few
+    (t ∙ ap (λ fs. length (combinations_of fs)) (forms_drop b cs i c h e) ∙ length-pairs both (form_of c b) (combinations_of (forms b (drop (i + 1) cs)))) below few
 
 pub combined_whole : (b : Bool) (cs : List Cond) (i : ℕ) (c : Cond) (count total left : ℕ) (out next whole : List Literal) → i < length cs → c ≡ get_or cs i c
     → Split (length (form_of c b)) (length (combinations_of (forms b (drop (i + 1) cs)))) count total left
@@ -174,7 +125,7 @@ combined_whole b cs i c count total left out next whole h e s w n =
 pub counted_more : (b : Bool) (cs : List Cond) (i : ℕ) (c : Cond) (total count : ℕ) → i < length cs → c ≡ get_or cs i c → count ≡ min (length (form_of c b)) 65
     → total ≡ min (length (combinations_of (forms b (take i cs)))) 65 → min 65 (total * count) ≡ min (length (combinations_of (forms b (take (i + 1) cs)))) 65
 counted_more b cs i c total count h e k t =
-    min-mul total count (length (combinations_of (forms b (take i cs)))) (length (form_of c b)) t k
+    min-mul_both 65 total count (length (combinations_of (forms b (take i cs)))) (length (form_of c b)) t k
     ∙ ap (λ n. min n 65) (sym (length-combinations_push (forms b (take i cs)) (form_of c b)))
     ∙ ap (λ fs. min (length (combinations_of fs)) 65) (forms_take b cs i c h e)
 

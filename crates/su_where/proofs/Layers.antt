@@ -1,9 +1,9 @@
 -- What a condition says and which comparisons it has, from its parts.
-use Rattle.std.proofs.Common.{◌≡◌, ℕ, ◌+◌, Bool, not, ◌&&◌, ◌||◌, List, [], ◌∷◌, ◌++◌, map, length, refl, sym, ap, subst, ◌∙◌, arith, All as Each}
+use Rattle.std.proofs.Common.{◌≡◌, ℕ, ◌+◌, Bool, not, ◌&&◌, ◌||◌, List, [], ◌∷◌, ◌++◌, map, refl, sym, ap, subst, ◌∙◌, arith, All as Each}
 use Rattle.std.specs.List.{list_all, list_any, flat_map}
-use Rattle.std.proofs.lemmas.List.{get_or_append_left, get_or-append-add, length-append}
 use Rattle.std.proofs.lemmas.List.Elements.{All-nil, All-cons}
 use Rattle.su_base.specs.declared.values.Value.{Value}
+use Rattle.su_base.proofs.Items.{All-append_left, All-append_right}
 use Rattle.su_where.specs.declared.literals.Literal.{Literal}
 use Rattle.su_where.specs.declared.conditions.Cond.{Cond}
 use Rattle.su_where.specs.declared.conditions.Cond.TheOpen as open'
@@ -49,17 +49,11 @@ comparisons_of-All parts = ap comparisons_of (sym (rolls-All parts)) ∙ fold-ro
 pub comparisons_of-Any : (parts : List Cond) → comparisons_of (Any parts) ≡ flat_map comparisons_of parts
 comparisons_of-Any parts = ap comparisons_of (sym (rolls-Any parts)) ∙ fold-roll-Cond (List Literal) comparisons_step (open'.Any parts) ∙ flat-map parts
 
-all_front : {X : Type 0} (P : X → Type 0) (xs ys : List X) → Each P (xs ++ ys) → Each P xs
-all_front P xs ys all k d within = subst P (get_or_append_left xs ys d k within) (all k d (omega (arith, length-append xs ys)))
-
-all_back : {X : Type 0} (P : X → Type 0) (xs ys : List X) → Each P (xs ++ ys) → Each P ys
-all_back P xs ys all k d within = subst P (get_or-append-add xs ys k d) (all (length xs + k) d (omega (arith, length-append xs ys)))
-
 -- what fits as a whole fits part by part
 each_flat : (P : Literal → Type 0) (cs : List Cond) → Each P (flat_map comparisons_of cs) → Each (λ c. Each P (comparisons_of c)) cs
 each_flat P [] all = All-nil (λ c. Each P (comparisons_of c))
 each_flat P (c ∷ cs) all =
-    All-cons (λ d. Each P (comparisons_of d)) c cs (all_front P (comparisons_of c) (flat_map comparisons_of cs) all) (each_flat P cs (all_back P (comparisons_of c) (flat_map comparisons_of cs) all))
+    All-cons (λ d. Each P (comparisons_of d)) c cs (All-append_left P (comparisons_of c) (flat_map comparisons_of cs) all) (each_flat P cs (All-append_right P (comparisons_of c) (flat_map comparisons_of cs) all))
 
 pub fits_compare : (n : ℕ) (c : Cond) (l : Literal) → c ≡ Compare l → Fits n c → HasPlacesBelow n l
 fits_compare n c l e fits = (subst (Each (HasPlacesBelow n)) (ap comparisons_of e ∙ comparisons_of-Compare l) fits) 0 l (omega arith)

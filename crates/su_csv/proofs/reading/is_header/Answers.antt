@@ -1,17 +1,18 @@
-use Rattle.std.proofs.Common.{◌∙◌, sym}
+use Rattle.std.proofs.Common.{◌∙◌, sym, length, refl}
 use Rattle.csv.specs.Records.{fields_of}
-use Rattle.su_csv.proofs.Filling.{get-at}
-use Rattle.su_csv.proofs.Following.{same-name, other-name, not-true, not-false}
+use Rattle.std.proofs.lemmas.Bool.{not-false}
+use Rattle.std.proofs.lemmas.Option.{slice_get_read}
+use Rattle.su_csv.proofs.Following.{same-name, other-name, not-true}
 use Rattle.su_csv.proofs.reading.is_header.Goals as goal
 
 pub returns-then-ne : goal.returns-then-ne
 returns-then-ne c =
-    let at-column = get-at c.args.columns.now c.loop-place.place c.index-columns-place.result c.loop-place-test.true c.index-columns-place.is in
+    let at-column = slice_get_read c.args.columns.now (length c.args.columns.now) c.loop-place.place c.index-columns-place.result refl c.loop-place-test.true c.index-columns-place.is in
     sym (other-name c.args.columns.now (fields_of c.args.fields.now) c.loop-place.place c.index-columns-place.result c.field_at.result.now at-column c.field_at.ensures _
     (not-true _ (rw (c.as_bytes.ensures.value, c.as_str.ensures) at (sym c.ne.ensures ∙ c.if-ne.true))) c.loop-place.invariant)
 
 pub loop-place-preserved : goal.loop-place-preserved
 loop-place-preserved c =
-    let at-column = get-at c.args.columns.now c.loop-place.place c.index-columns-place.result c.loop-place-test.true c.index-columns-place.is in
+    let at-column = slice_get_read c.args.columns.now (length c.args.columns.now) c.loop-place.place c.index-columns-place.result refl c.loop-place-test.true c.index-columns-place.is in
     same-name c.args.columns.now (fields_of c.args.fields.now) c.loop-place.place c.index-columns-place.result c.field_at.result.now at-column c.field_at.ensures _
     (not-false _ (rw (c.as_bytes.ensures.value, c.as_str.ensures) at (sym c.ne.ensures ∙ c.if-ne.false))) c.loop-place.invariant

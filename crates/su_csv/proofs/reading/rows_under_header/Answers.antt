@@ -1,5 +1,5 @@
 use Rattle.csv.specs.Records.{fields_of}
-use Rattle.su_csv.specs.Records.{records_left}
+use Rattle.su_csv.specs.inside.Records.{records_left}
 use Rattle.su_csv.proofs.Following.{more-rows}
 use Rattle.su_csv.proofs.reading.rows_under_header.Goals as goal
 

@@ -1,6 +1,6 @@
 use Rattle.std.proofs.Common.{◌∙◌, All}
 use Rattle.su_csv.specs.Written.{IsStored}
-use Rattle.su_csv.specs.Writers.{text_so_far}
+use Rattle.su_csv.specs.inside.Writers.{text_so_far}
 use Rattle.su_csv.proofs.Taking.{all-one, text-one}
 use Rattle.su_csv.proofs.writing.put_all.Goals as goal
 

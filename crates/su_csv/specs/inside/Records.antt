@@ -1,4 +1,5 @@
 -- The records that a reader has left.
+-- No public contract cites this module.
 use Rattle.std.specs.Prelude.{◌≡◌, ◌+◌, ℕ, Bool, true, false, List, [], ◌∷◌, length, Option, Some, None, IsSome}
 use denote.Ref.{Bor}
 use Rattle.csv.specs.Machine.{ends_at_end}
@@ -15,6 +16,7 @@ bytes_left reader = source_of (λ s. Some s.now) reader
 abbrev pub records_after : State → List ℕ → List (List (List ℕ))
 records_after state text = records_from default_config (length text + 1) state text
 
+-- the records of a text from a state on; none where there is no text
 abbrev pub records_in : State → Option (List ℕ) → List (List (List ℕ))
 records_in state None = []
 records_in state (Some text) = records_after state text

@@ -1,0 +1,161 @@
+-- Lists: their members, what holds of each item, two lists side by side, and lists made from numbers.
+use Rattle.std.proofs.Common.{◌≡◌, ℕ, zero, suc, ◌+◌, ◌<◌, List, [], ◌∷◌, ◌++◌, map, take, length, get_or, Contains, Some, refl, sym, ap, ◌∙◌, subst, arith, ◌⊎◌, inl, inr, ⊎_elim, add-one}
+use Rattle.std.specs.Prelude.{Bool, true, false, cond, All, slice_get}
+use Rattle.std.specs.List.{range_with_len, filter, flat_map, AllZip}
+use Rattle.std.proofs.lemmas.Bool.{true≢false}
+use Rattle.std.proofs.lemmas.List.{length-append, get_or_append_left, get_or-append-add}
+use Rattle.std.proofs.lemmas.List.Elements.{Contains-append_left, Contains-append_right, Contains-append_cases, Contains-get_or}
+use Rattle.std.proofs.lemmas.List.FromFn.{get_or-range_with_len, length-range_with_len, get_or-map-range_with_len, map-range_with_len_more}
+
+-- ---- members
+
+pub Contains-nil : {X : Type 0} (y : X) → Contains [] y → ⊥
+Contains-nil y c = let l = c.1 in omega arith
+
+pub Contains-head : {X : Type 0} (x : X) (xs : List X) → Contains (x ∷ xs) x
+Contains-head x xs = (zero, omega arith, refl)
+
+pub Contains-later : {X : Type 0} (x : X) (xs : List X) (y : X) → Contains xs y → Contains (x ∷ xs) y
+Contains-later x xs y c = (suc c.0, (let l = c.1 in omega arith), c.2)
+
+pub Contains-cases : {X : Type 0} (x : X) (xs : List X) (y : X) → Contains (x ∷ xs) y → (x ≡ y) ⊎ Contains xs y
+Contains-cases x xs y (zero, l, e) = inl e
+Contains-cases x xs y (suc k, l, e) = inr (k, omega arith, e)
+
+pub Contains-map : {X Y : Type 0} (f : X → Y) (xs : List X) (x : X) → Contains xs x → Contains (map f xs) (f x)
+Contains-map f [] x c = absurd (Contains-nil x c)
+Contains-map f (y ∷ ys) x c =
+    ⊎_elim
+    (λ (e : y ≡ x). (0, omega arith, ap f e))
+    (λ (r : Contains ys x). Contains-later (f y) (map f ys) (f x) (Contains-map f ys x r))
+    (Contains-cases y ys x c)
+
+-- what a member of the images is the image of
+pub Contains-map_source : {X Y : Type 0} (f : X → Y) (xs : List X) (y : Y) → Contains (map f xs) y → (x : X) × Contains xs x × (f x ≡ y)
+Contains-map_source f [] y c = absurd (Contains-nil y c)
+Contains-map_source f (x ∷ xs) y c =
+    ⊎_elim
+    (λ (e : f x ≡ y). (x, (0, omega arith, refl), e))
+    (λ (r : Contains (map f xs) y). let w = Contains-map_source f xs y r in (w.0, Contains-later x xs w.0 w.1, w.2))
+    (Contains-cases (f x) (map f xs) y c)
+
+pub Contains-flat_map : {X Y : Type 0} (f : X → List Y) (xs : List X) (x : X) (y : Y) → Contains xs x → Contains (f x) y → Contains (flat_map f xs) y
+Contains-flat_map f [] x y c h = absurd (Contains-nil x c)
+Contains-flat_map f (z ∷ zs) x y c h =
+    ⊎_elim
+    (λ (e : z ≡ x). Contains-append_left (f z) (flat_map f zs) y (subst (λ q. Contains (f q) y) (sym e) h))
+    (λ (r : Contains zs x). Contains-append_right (f z) (flat_map f zs) y (Contains-flat_map f zs x y r h))
+    (Contains-cases z zs x c)
+
+pub Contains-flat_map_source : {X Y : Type 0} (f : X → List Y) (xs : List X) (y : Y) → Contains (flat_map f xs) y → (x : X) × Contains xs x × Contains (f x) y
+Contains-flat_map_source f [] y c = absurd (Contains-nil y c)
+Contains-flat_map_source f (x ∷ xs) y c =
+    ⊎_elim
+    (λ (l : Contains (f x) y). (x, (0, omega arith, refl), l))
+    (λ (r : Contains (flat_map f xs) y). let w = Contains-flat_map_source f xs y r in (w.0, Contains-later x xs w.0 w.1, w.2))
+    (Contains-append_cases (f x) (flat_map f xs) y c)
+
+pub Contains-filter : {X : Type 0} (p : X → Bool) (xs : List X) (x : X) → Contains xs x → p x ≡ true → Contains (filter p xs) x
+Contains-filter p [] x c h = absurd (Contains-nil x c)
+Contains-filter p (y ∷ ys) x c h =
+    elim (p y) as (λ b. p y ≡ b → Contains (cond b (y ∷ filter p ys) (filter p ys)) x) [
+      | true ↦ λ t. ⊎_elim
+          (λ (e : y ≡ x). (0, omega arith, e))
+          (λ (r : Contains ys x). Contains-later y (filter p ys) x (Contains-filter p ys x r h))
+          (Contains-cases y ys x c)
+      | false ↦ λ f. ⊎_elim
+          (λ (e : y ≡ x). absurd (true≢false (sym h ∙ sym (ap p e) ∙ f)))
+          (λ (r : Contains ys x). Contains-filter p ys x r h)
+          (Contains-cases y ys x c)
+    ] refl
+
+pub Contains-filter_source : {X : Type 0} (p : X → Bool) (xs : List X) (x : X) → Contains (filter p xs) x → Contains xs x × (p x ≡ true)
+Contains-filter_source p [] x c = absurd (Contains-nil x c)
+Contains-filter_source p (y ∷ ys) x c =
+    elim (p y) as (λ b. p y ≡ b → Contains (cond b (y ∷ filter p ys) (filter p ys)) x → Contains (y ∷ ys) x × (p x ≡ true)) [
+      | true ↦ λ t k. ⊎_elim
+          (λ (e : y ≡ x). ((0, omega arith, e), sym (ap p e) ∙ t))
+          (λ (r : Contains (filter p ys) x). let w = Contains-filter_source p ys x r in (Contains-later y ys x w.0, w.1))
+          (Contains-cases y (filter p ys) x k)
+      | false ↦ λ f k. let w = Contains-filter_source p ys x k in (Contains-later y ys x w.0, w.1)
+    ] refl c
+
+pub Contains-take : {X : Type 0} (n : ℕ) (xs : List X) (x : X) → Contains (take n xs) x → Contains xs x
+Contains-take zero xs x c = absurd (Contains-nil x c)
+Contains-take (suc n) [] x c = absurd (Contains-nil x c)
+Contains-take (suc n) (y ∷ ys) x c =
+    ⊎_elim
+    (λ (e : y ≡ x). (0, omega arith, e))
+    (λ (r : Contains (take n ys) x). Contains-later y ys x (Contains-take n ys x r))
+    (Contains-cases y (take n ys) x c)
+
+-- ---- what holds of each item
+
+-- of all members
+pub All-members : {X : Type 0} (P : X → Type 0) (xs : List X) → ((x : X) → Contains xs x → P x) → All P xs
+All-members P xs h i d l = h (get_or xs i d) (Contains-get_or xs i d l)
+
+pub All-append_left : {X : Type 0} (P : X → Type 0) (xs ys : List X) → All P (xs ++ ys) → All P xs
+All-append_left P xs ys all k d within = subst P (get_or_append_left xs ys d k within) (all k d (omega (arith, length-append xs ys)))
+
+pub All-append_right : {X : Type 0} (P : X → Type 0) (xs ys : List X) → All P (xs ++ ys) → All P ys
+All-append_right P xs ys all k d within = subst P (get_or-append-add xs ys k d) (all (length xs + k) d (omega (arith, length-append xs ys)))
+
+-- ---- two lists side by side
+
+pub AllZip-push : {A B : Type 0} (R : A → B → Type 0) (xs : List A) (ys : List B) (x : A) (y : B) → AllZip R xs ys → R x y → AllZip R (xs ++ x ∷ []) (ys ++ y ∷ [])
+AllZip-push R [] [] x y all one = (one, tt)
+AllZip-push R [] (w ∷ ws) x y all one = absurd all
+AllZip-push R (v ∷ vs) [] x y all one = absurd all
+AllZip-push R (v ∷ vs) (w ∷ ws) x y all one = (all.0, AllZip-push R vs ws x y all.1 one)
+
+pub AllZip-length : {A B : Type 0} (R : A → B → Type 0) (xs : List A) (ys : List B) → AllZip R xs ys → length xs ≡ length ys
+AllZip-length R [] [] all = refl
+AllZip-length R [] (y ∷ ys) all = absurd all
+AllZip-length R (x ∷ xs) [] all = absurd all
+AllZip-length R (x ∷ xs) (y ∷ ys) all = ap suc (AllZip-length R xs ys all.1)
+
+pub AllZip-get_or : {A B : Type 0} (R : A → B → Type 0) (xs : List A) (ys : List B) (i : ℕ) (d : A) (e : B) → AllZip R xs ys → i < length xs → R (get_or xs i d) (get_or ys i e)
+AllZip-get_or R [] ys i d e all within = absurd (omega arith)
+AllZip-get_or R (x ∷ xs) [] i d e all within = absurd all
+AllZip-get_or R (x ∷ xs) (y ∷ ys) zero d e all within = all.0
+AllZip-get_or R (x ∷ xs) (y ∷ ys) (suc i) d e all within = AllZip-get_or R xs ys i d e all.1 (omega arith)
+
+-- ---- images
+
+pub map-equal : {A B : Type 0} (f g : A → B) (xs : List A) → ((x : A) → f x ≡ g x) → map f xs ≡ map g xs
+map-equal f g [] e = refl
+map-equal f g (x ∷ xs) e = let i = map-equal f g xs e in let j = e x in cc
+
+pub map-map_equal : {A B C : Type 0} (f : A → B) (g : B → C) (h : A → C) → ((x : A) → g (f x) ≡ h x) → (xs : List A) → map g (map f xs) ≡ map h xs
+map-map_equal f g h e [] = refl
+map-map_equal f g h e (x ∷ xs) = let i = map-map_equal f g h e xs in let j = e x in cc
+
+-- ---- numbers in order
+
+pub range-suc : (a n j : ℕ) → a + n ≡ j → range_with_len a (suc n) ≡ range_with_len a n ++ j ∷ []
+range-suc a zero j e = ap (λ k. k ∷ []) (let same : a ≡ j = omega arith in same)
+range-suc a (suc n) j e = ap (λ ks. a ∷ ks) (range-suc (a + 1) n j (omega arith))
+
+pub range-push : (a n j : ℕ) → a + n ≡ j → range_with_len a (n + 1) ≡ range_with_len a n ++ j ∷ []
+range-push a n j e = ap (range_with_len a) (add-one n) ∙ range-suc a n j e
+
+pub range-push_zero : (n : ℕ) → range_with_len 0 (n + 1) ≡ range_with_len 0 n ++ n ∷ []
+range-push_zero n = range-push 0 n n (omega arith)
+
+pub Contains-range : (n c : ℕ) → c < n → Contains (range_with_len 0 n) c
+Contains-range n c h = (c, subst (λ k. c < k) (sym (length-range_with_len 0 n)) h, get_or-range_with_len 0 n c c h ∙ omega arith)
+
+pub Contains-range_below : (n c : ℕ) → Contains (range_with_len 0 n) c → c < n
+Contains-range_below n c there =
+    let within : there.0 < n = subst (λ k. there.0 < k) (length-range_with_len 0 n) there.1 in
+    let is : there.0 ≡ c = sym (get_or-range_with_len 0 n there.0 c within ∙ omega arith) ∙ there.2 in
+    omega (arith, is)
+
+-- what stands at a place of a list that a function makes
+pub get_or-map_range : {X : Type 0} (f : ℕ → X) (n a : ℕ) (d : X) → a < n → get_or (map f (range_with_len 0 n)) a d ≡ f a
+get_or-map_range f n a d h = get_or-map-range_with_len f 0 n a a d h (omega arith)
+
+-- one more item of it
+pub map-range_push : {X : Type 0} (f : ℕ → X) (a : ℕ) (xs ys : List X) (x : X) → ys ≡ xs ++ x ∷ [] → xs ≡ map f (range_with_len 0 a) → x ≡ f a → ys ≡ map f (range_with_len 0 (a + 1))
+map-range_push f a xs ys x pushed before is = pushed ∙ ap (λ zs. zs ++ x ∷ []) before ∙ ap (λ z. map f (range_with_len 0 a) ++ z ∷ []) is ∙ sym (map-range_with_len_more f 0 a a (omega arith))
