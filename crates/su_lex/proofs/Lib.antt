@@ -5,6 +5,7 @@ pub mod Gaps
 pub mod Listed
 pub mod Lists
 pub mod Numerals
+pub mod OneByOne
 pub mod Printed
 pub mod Quotes
 pub mod Runs

@@ -15,7 +15,7 @@ use Rattle.su_lex.proofs.Gaps.{IsSolid, gap_same, gap_solid, gap_trans, gap_suff
 use Rattle.su_lex.specs.Blanks.{Gap, is_space, begins_comment}
 use Rattle.su_lex.specs.Blanks as b
 use Rattle.su_base.specs.Name.{IsWord, is_letter_or_digit}
-use Rattle.su_lex.specs.Classes.{class_at, class_of, sign_at}
+use Rattle.su_lex.specs.inside.Classes.{class_at, class_of, sign_at}
 use Rattle.su_lex.specs.declared.kinds.TokenKind.{TokenKind}
 use Rattle.su_lex.specs.declared.kinds.TokenKind.TheVariants.{Word, Int, Text, Sign as ASign}
 use Rattle.su_lex.specs.declared.signs.Sign.{Sign}
@@ -111,7 +111,7 @@ token_solid (Int n) (x ∷ y ∷ xs) rest t =
 token_solid (Text s) front rest t = rw t.0 (record { no_space = refl; no_comment = refl })
 token_solid (ASign s) front rest t = rw t.0 (sign_solid s rest)
 
-nil_solid : IsSolid []
+pub nil_solid : IsSolid []
 nil_solid = record { no_space = refl; no_comment = refl }
 
 -- ---- tokens before and behind a gap
@@ -209,7 +209,7 @@ sliced whole pre text front rest start end w e a c =
     let q : length front ≡ end - start = omega (arith, ap length w, length-append pre text, ap length e, length-append front rest) in
     ap (λ x. take (end - start) (drop start x)) w ∙ ap (take (end - start)) (drop_at pre text start p ∙ e) ∙ take_at front rest (end - start) q
 
-word_token : (k : TokenKind) (front rest : List ℕ) → IsToken k front rest → k ≡ Word → IsWord front
+pub word_token : (k : TokenKind) (front rest : List ℕ) → IsToken k front rest → k ≡ Word → IsWord front
 word_token Word front rest t e = t.0
 word_token (Int n) front rest t e = absurd (cc)
 word_token (Text s) front rest t e = absurd (cc)

@@ -4,14 +4,14 @@ use Rattle.std.proofs.lemmas.Bool.{false≢true}
 use Rattle.std.proofs.lemmas.Bool.Decides.{nat_tests}
 use Rattle.su_lex.specs.Blanks.{begins}
 use Rattle.su_lex.specs.Tokens.{IsToken, IsFirst, HasNoFirst, quoted, doubled}
-use Rattle.su_lex.specs.Classes.{class_at, class_of}
+use Rattle.su_lex.specs.inside.Classes.{class_at, class_of}
 use Rattle.su_lex.specs.declared.kinds.TokenKind.{TokenKind}
 use Rattle.su_lex.specs.declared.kinds.TokenKind.TheVariants.{Word, Int, Text, Sign as ASign}
 use Rattle.su_lex.specs.declared.firsts.Class.TheVariants.{Text as OfText}
 use Rattle.std.proofs.Common.{append_assoc, append-nil, length-append}
 use Rattle.std.specs.Str.{IsUtf8}
 use Rattle.su_lex.specs.Tokens.{twice}
-use Rattle.su_lex.specs.Classes.{place_at}
+use Rattle.su_lex.specs.inside.Classes.{place_at}
 use Rattle.su_lex.specs.declared.quoting.Place.TheVariants.{Content, Close as AClose, Missing}
 use Rattle.su_lex.proofs.Fronts.{class_at-is}
 

@@ -16,6 +16,7 @@ use Rattle.su_base.specs.Name.{is_letter_or_digit, IsWord}
 use Rattle.su_lex.specs.Blanks.{begins, Gap}
 use Rattle.su_lex.specs.Blanks as b
 use Rattle.su_lex.specs.Tokens.{lengthens, IsNumeral, IsToken, TokensAt}
+use Rattle.su_lex.specs.inside.Firsts.{IsTokenOf}
 use Rattle.su_lex.specs.declared.meaning.Symbol.{Symbol}
 use Rattle.su_lex.specs.declared.meaning.Symbol.TheVariants.{Word, Int, Text, Sign}
 use Rattle.su_lex.specs.Symbols.{symbol_at, symbol_of, Symbols, IsSymbol, spelled, opens, closes, after, spaced}
@@ -26,13 +27,6 @@ use Rattle.su_lex.specs.declared.signs.Sign.TheVariants as sign
 use Rattle.su_lex.proofs.Gaps.{gap_suffix}
 use Rattle.su_lex.proofs.Lists.{sliced, one_list_of_tokens}
 
--- the front is the token of this symbol, and for a word its own bytes
-abbrev pub IsTokenOf : Symbol → List ℕ → List ℕ → Type 0
-IsTokenOf (Word w) front rest = (front ≡ w) × IsToken kind.Word front rest
-IsTokenOf (Int n) front rest = IsToken (kind.Int n) front rest
-IsTokenOf (Text t) front rest = IsToken (kind.Text t) front rest
-IsTokenOf (Sign s) front rest = IsToken (kind.Sign s) front rest
-
 -- the symbols of a text, one after another
 abbrev pub SymbolsAt : List ℕ → List Symbol → Type 0
 SymbolsAt text [] = Gap text []
@@ -40,18 +34,18 @@ SymbolsAt text (x ∷ xs) = (s : List ℕ) × (front : List ℕ) × (rest : List
 
 -- ---- from tokens to symbols and back
 
-is_token_of : (k : TokenKind) (front rest : List ℕ) → IsToken k front rest → IsTokenOf (symbol_at k front) front rest
+pub is_token_of : (k : TokenKind) (front rest : List ℕ) → IsToken k front rest → IsTokenOf (symbol_at k front) front rest
 is_token_of kind.Word front rest t = (refl, t)
 is_token_of (kind.Int n) front rest t = t
 is_token_of (kind.Text s) front rest t = t
 is_token_of (kind.Sign s) front rest t = t
 
-record AToken (x : Symbol) (front rest : List ℕ) : Type 0 where
-  kind : TokenKind
-  is : IsToken kind front rest
-  symbol : symbol_at kind front ≡ x
+pub record AToken (x : Symbol) (front rest : List ℕ) : Type 0 where
+  pub kind : TokenKind
+  pub is : IsToken kind front rest
+  pub symbol : symbol_at kind front ≡ x
 
-a_token : (x : Symbol) (front rest : List ℕ) → IsTokenOf x front rest → AToken x front rest
+pub a_token : (x : Symbol) (front rest : List ℕ) → IsTokenOf x front rest → AToken x front rest
 a_token (Word w) front rest t = record { kind = kind.Word; is = t.1; symbol = ap Word t.0 }
 a_token (Int n) front rest t = record { kind = kind.Int n; is = t; symbol = refl }
 a_token (Text s) front rest t = record { kind = kind.Text s; is = t; symbol = refl }

@@ -9,6 +9,7 @@ abbrev pub begins : (ℕ → Bool) → List ℕ → Bool
 begins p [] = false
 begins p (b ∷ bs) = p b
 
+-- a blank, a tab, a line feed or a carriage return
 abbrev pub is_space : ℕ → Bool
 is_space b = b == 32 || b == 9 || b == 10 || b == 13
 
@@ -21,6 +22,7 @@ pub record IsRun (p : ℕ → Bool) (run rest : List ℕ) : Type 0 where
 abbrev pub Comment : List ℕ → List ℕ → Type 0
 Comment s r = (line : List ℕ) × (s ≡ 45 ∷ 45 ∷ (line ++ r)) × IsRun (λ b. not (b == 10)) line r
 
+-- the text begins with two minus signs
 abbrev pub begins_comment : List ℕ → Bool
 begins_comment [] = false
 begins_comment (b ∷ bs) = b == 45 && begins (λ c. c == 45) bs

@@ -7,9 +7,11 @@ use Rattle.su_lex.specs.Tokens.{Tokens}
 use Rattle.su_lex.specs.declared.spans.Span.{Span}
 use Rattle.su_lex.specs.declared.kinds.Token.{Token}
 
+-- a file has at most one list of statements
 abbrev pub OneListOfPieces : Type 0
 OneListOfPieces = (file : List ℕ) (spans others : List Span) → Pieces file spans → Pieces file others → spans ≡ others
 
+-- a text has at most one list of tokens
 abbrev pub OneListOfTokens : Type 0
 OneListOfTokens = (text : List ℕ) (tokens others : List Token) → Tokens text tokens → Tokens text others → tokens ≡ others
 

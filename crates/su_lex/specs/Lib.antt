@@ -1,6 +1,6 @@
 pub mod Adding
 pub mod Blanks
-pub mod Classes
+pub mod inside
 pub mod Laws
 pub mod Names
 pub mod Pieces

@@ -14,6 +14,7 @@ mark = 239 ∷ 187 ∷ 191 ∷ []
 abbrev pub after_mark : List ℕ → List ℕ
 after_mark file = if starts_with nat_eq file mark then drop 3 file else file
 
+-- no byte is a quote
 abbrev pub has_no_quote : List ℕ → Bool
 has_no_quote = list_all (λ b. not (b == 39))
 
@@ -39,6 +40,7 @@ abbrev pub Statement : ℕ → List ℕ → List ℕ → Option Span → Type 0
 Statement total s r None = Gap s r
 Statement total s r (Some span) = ¬ (Gap s r) × (span.start + length s ≡ total) × (span.end + length r ≡ total)
 
+-- a span before others, if there is one
 abbrev pub added : Option Span → List Span → List Span
 added None spans = spans
 added (Some span) spans = span ∷ spans

@@ -14,6 +14,7 @@ use Rattle.su_lex.specs.declared.meaning.Symbol.{Symbol}
 use Rattle.su_lex.specs.declared.meaning.Symbol.TheVariants.{Word, Int, Text, Sign}
 use Rattle.su_lex.specs.declared.signs.Sign.TheVariants as sign
 
+-- the symbol of a token of this kind with these bytes
 abbrev pub symbol_at : TokenKind → List ℕ → Symbol
 symbol_at kind.Word bytes = Word bytes
 symbol_at (kind.Int n) bytes = Int n
@@ -60,6 +61,7 @@ abbrev pub after : Symbol → List Symbol → List ℕ
 after x [] = []
 after x (y ∷ ys) = if opens x || closes y then spelled y ++ after y ys else 32 ∷ (spelled y ++ after y ys)
 
+-- symbols as they are written, with blanks where one is wanted
 abbrev pub spaced : List Symbol → List ℕ
 spaced [] = []
 spaced (x ∷ xs) = spelled x ++ after x xs

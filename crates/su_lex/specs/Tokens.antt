@@ -24,6 +24,7 @@ IsNumeral (b ∷ bs) = ((is_ascii_digit b || (b == 45 && begins is_ascii_digit b
 abbrev pub twice : ℕ → List ℕ
 twice b = if b == 39 then 39 ∷ 39 ∷ [] else b ∷ []
 
+-- each quote twice
 abbrev pub doubled : List ℕ → List ℕ
 doubled [] = []
 doubled (b ∷ bs) = twice b ++ doubled bs

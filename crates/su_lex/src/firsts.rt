@@ -1,7 +1,7 @@
 //! The first token of a text, told by its first bytes.
 ghost use Rattle.std.specs.Prelude.{◌≡◌, IfOk, IsErrOf};
 ghost use Rattle.su_lex.specs.Tokens.{IsFirst, HasNoFirst};
-ghost use Rattle.su_lex.specs.Classes.{class_at};
+ghost use Rattle.su_lex.specs.inside.Classes.{class_at};
 
 use crate::ends::LexEnd;
 use crate::kinds::TokenKind;

@@ -1,12 +1,15 @@
 //! A text as symbols: its tokens with the bytes of the words, and without their places.
-ghost use Rattle.std.specs.Prelude.{◌≡◌, IfOk, IsErrOf, map, List as Items};
-ghost use Rattle.su_lex.specs.Tokens.{Tokens, InText};
-ghost use Rattle.su_lex.specs.Symbols.{Symbols, symbol_of};
+ghost use Rattle.std.specs.Prelude.{◌≡◌, IfOk, IsErrOf, List as Items};
+ghost use Rattle.su_base.specs.Name.{IsWord};
+ghost use Rattle.su_lex.specs.Tokens.{HasNoFirst};
+ghost use Rattle.su_lex.specs.Symbols.{Symbols, symbol_at};
+ghost use Rattle.su_lex.specs.inside.Firsts.{IsFirstSymbol};
 ghost use Rattle.su_lex.specs.declared.meaning.Symbol.{Symbol as ASymbol};
 
+use crate::comments::after_blanks;
 use crate::ends::LexEnd;
-use crate::kinds::{Token, TokenKind};
-use crate::lexer::tokens;
+use crate::firsts::first;
+use crate::kinds::TokenKind;
 use crate::signs::Sign;
 use std::alloc::Global;
 use su_base::{List, NoMemory, Str};
@@ -21,37 +24,43 @@ pub enum Symbol {
     Sign(Sign),
 }
 
-fn symbol_at(alloc: Global, text: &[u8], token: &Token) -> Result<Symbol, NoMemory>
-    requires { InText text.now token.now }
-    ensures { IfOk result (λ x. x ≡ symbol_of text.now token.now) }
+// What a token says; a word says its bytes.
+fn symbol_at(alloc: Global, kind: TokenKind, front: &[u8]) -> Result<Symbol, NoMemory>
+    requires { kind ≡ TokenKind.Word → IsWord front.now }
+    ensures { IfOk result (λ x. x ≡ symbol_at kind front.now) }
 {
-    match &token.kind {
-        TokenKind::Word => match str::from_utf8(&text[token.span.start..token.span.end]) {
+    match kind {
+        TokenKind::Word => match str::from_utf8(front) {
             Ok(word) => Ok(Symbol::Word(Str::new(alloc, word)?)),
             Err(_) => unreachable!(),
         },
-        TokenKind::Int(n) => Ok(Symbol::Int(*n)),
-        TokenKind::Text(content) => Ok(Symbol::Text(content.copy(alloc)?)),
-        TokenKind::Sign(sign) => Ok(Symbol::Sign(*sign)),
+        TokenKind::Int(n) => Ok(Symbol::Int(n)),
+        TokenKind::Text(content) => Ok(Symbol::Text(content)),
+        TokenKind::Sign(sign) => Ok(Symbol::Sign(sign)),
     }
 }
 
-fn symbols_of(alloc: Global, text: &[u8], tokens: &[Token]) -> Result<List<Symbol>, NoMemory>
-    requires { Tokens text.now tokens.now }
-    ensures { IfOk result (λ xs. xs ≡ map (symbol_of text.now) tokens.now) }
+// The first symbol of a text, and how many bytes it takes.
+fn first_symbol(alloc: Global, text: &[u8]) -> Result<(Symbol, usize), LexEnd>
+    ensures found { IfOk result (λ t. IsFirstSymbol text.now t.0 t.1) }
+    ensures none { IsErrOf result LexEnd.Syntax → HasNoFirst text.now }
 {
-    let mut symbols = List::new(alloc);
-    for token in tokens {
-        symbols.push(symbol_at(alloc, text, token)?)?;
-    }
-    Ok(symbols)
+    let (kind, n) = first(alloc, text)?;
+    let symbol = symbol_at(alloc, kind, &text[..n])?;
+    Ok((symbol, n))
 }
 
-/// The symbols of a text, in order. It takes memory for each word and each text.
+/// The symbols of a text, in order, made as the text is gone through.
 pub fn symbols(alloc: Global, text: &[u8]) -> Result<List<Symbol>, LexEnd>
     ensures symbols { IfOk result (λ xs. Symbols text.now xs) }
     ensures syntax { IsErrOf result LexEnd.Syntax → (xs : Items ASymbol) → ¬ (Symbols text.now xs) }
 {
-    let tokens = tokens(alloc, text)?;
-    Ok(symbols_of(alloc, text, tokens.as_slice())?)
+    let mut symbols = List::new(alloc);
+    let mut rest = after_blanks(text);
+    while !rest.is_empty() {
+        let (symbol, n) = first_symbol(alloc, rest)?;
+        symbols.push(symbol)?;
+        rest = after_blanks(&rest[n..]);
+    }
+    Ok(symbols)
 }

@@ -6,7 +6,7 @@ ghost use Rattle.std.specs.Int.{w64};
 ghost use Rattle.std.specs.Int.RustNames.{FitsSigned};
 ghost use Rattle.std.specs.Str.Parse.{signed_digits_value};
 ghost use Rattle.su_lex.specs.Tokens.{IsFirst, HasNoFirst, IsNumeral};
-ghost use Rattle.su_lex.specs.Classes.{class_at};
+ghost use Rattle.su_lex.specs.inside.Classes.{class_at};
 ghost use Rattle.su_lex.specs.declared.firsts.Class.TheVariants.{Number as OfNumber};
 
 use crate::bytes::word_bytes;

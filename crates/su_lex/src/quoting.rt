@@ -1,7 +1,7 @@
 //! The text in quotes at the front of a text.
 ghost use Rattle.std.specs.Prelude.{◌≡◌, length, IfOk, IsErrOf};
 ghost use Rattle.su_lex.specs.Tokens.{IsFirst, HasNoFirst, twice};
-ghost use Rattle.su_lex.specs.Classes.{class_at, place_at};
+ghost use Rattle.su_lex.specs.inside.Classes.{class_at, place_at};
 ghost use Rattle.su_lex.specs.declared.firsts.Class.TheVariants.{Text as OfText};
 
 use crate::ends::LexEnd;

@@ -1,7 +1,7 @@
 //! The signs of the language.
 ghost use Rattle.std.specs.Prelude.{◌≡◌, length};
 ghost use Rattle.su_lex.specs.Tokens.{sign_bytes};
-ghost use Rattle.su_lex.specs.Classes.{sign_at};
+ghost use Rattle.su_lex.specs.inside.Classes.{sign_at};
 
 /// A sign: `(` `)` `,` `.` `->` `=` `!=` `<` `<=` `>` `>=`, in this order.
 #[derive(Clone, Copy, PartialEq, Eq, Debug)]

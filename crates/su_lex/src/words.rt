@@ -1,7 +1,7 @@
 //! The word at the front of a text.
 ghost use Rattle.std.specs.Prelude.{◌≡◌, IfOk, IsErrOf};
 ghost use Rattle.su_lex.specs.Tokens.{IsFirst, HasNoFirst};
-ghost use Rattle.su_lex.specs.Classes.{class_at};
+ghost use Rattle.su_lex.specs.inside.Classes.{class_at};
 ghost use Rattle.su_lex.specs.declared.firsts.Class.TheVariants.{Word as OfWord};
 
 use crate::bytes::word_bytes;

@@ -2,4 +2,4 @@ use Rattle.su_lex.proofs.Numerals.{word_utf8}
 use Rattle.su_lex.proofs.meaning.symbol_at.Goals as goal
 
 pub unreachable-requires : goal.unreachable-requires
-unreachable-requires c = c.in-Err.ensures.cases.0 (word_utf8 _ (c.requires.word c.in-Word.is))
+unreachable-requires c = c.in-Err.ensures.cases.0 (word_utf8 _ (c.requires c.in-Word.is))

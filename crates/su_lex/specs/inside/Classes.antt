@@ -1,4 +1,5 @@
 -- What the first bytes of a text tell of its first token.
+-- No public contract cites this module.
 use Rattle.std.specs.Prelude.{Option, Some, None, ℕ, ◌&&◌, ◌||◌, if◌then◌else◌, ◌==◌, List, [], ◌∷◌}
 use Rattle.std.specs.Char.{is_ascii_digit}
 use Rattle.su_base.specs.Name.{is_letter}
@@ -12,10 +13,12 @@ use Rattle.su_lex.specs.declared.quoting.Place.TheVariants.{Content, Close as AC
 use Rattle.su_lex.specs.declared.firsts.Class.{Class}
 use Rattle.su_lex.specs.declared.firsts.Class.TheVariants.{Word as OfWord, Number as OfNumber, Text as OfText, Sign as OfSign}
 
+-- what the first one or two bytes begin; none, a sign
 abbrev pub class_at : List ℕ → Class
 class_at [] = OfSign
 class_at (b ∷ bs) = if is_letter b then OfWord else (if is_ascii_digit b || (b == 45 && begins is_ascii_digit bs) then OfNumber else (if b == 39 then OfText else OfSign))
 
+-- the class of a token's kind
 abbrev pub class_of : TokenKind → Class
 class_of Word = OfWord
 class_of (Int n) = OfNumber
