@@ -13,9 +13,9 @@ use Rattle.su_steps.specs.declared.building.Head.{Head}
 use Rattle.su_steps.specs.Objects.{width}
 use Rattle.su_steps.specs.Classes.{place_symbol, comparisons}
 use Rattle.su_steps.specs.Terms.{rows_of, tableau_of}
-use Rattle.su_steps.specs.Numbers.{class_name}
-use Rattle.su_steps.specs.Heads.{head_of, IsSomeFalse, IsNoneFalse}
-use Rattle.su_steps.specs.Ready.{FitOrigins}
+use Rattle.su_steps.specs.inside.Numbers.{class_name}
+use Rattle.su_steps.specs.inside.Heads.{head_of, IsSomeFalse, IsNoneFalse}
+use Rattle.su_steps.specs.inside.Ready.{FitOrigins}
 use Rattle.su_steps.proofs.Fitting.{width_is}
 use Rattle.su_steps.proofs.Valid.{length-rows}
 

@@ -15,7 +15,7 @@ use Rattle.su_steps.specs.Objects.{covers}
 use Rattle.su_steps.specs.Choices.{coverings_of, coverings, choices, origin, origins_of}
 use Rattle.su_steps.specs.Terms.{Case, case_of, GivesNone, Gives, AreTermsOf}
 use Rattle.su_steps.specs.Refusals.{row_count, disjunct_count, HasFewTerms}
-use Rattle.su_steps.specs.Ready.{FitOrigins, IsShown, IsChoice}
+use Rattle.su_steps.specs.inside.Ready.{FitOrigins, IsShown, IsChoice}
 use Rattle.su_steps.proofs.Lists.{of_filter, made_at}
 use Rattle.su_steps.proofs.Fitting.{of_range, place_in}
 use Rattle.su_steps.proofs.Chosen.{coverings_count, choice_of, origin_in, place_object, has_origin}

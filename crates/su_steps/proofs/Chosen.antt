@@ -22,7 +22,7 @@ use Rattle.su_steps.specs.declared.results.Origin.{Origin}
 use Rattle.su_steps.specs.Objects.{width, attributes_at, objects_of, attributes_of_all, covers}
 use Rattle.su_steps.specs.Choices.{coverings_of, coverings, combinations, choices, chosen_objects, origin, origins_of}
 use Rattle.su_steps.specs.Classes.{Compared, pair, place_symbol, operand_symbol, compared, comparisons}
-use Rattle.su_steps.specs.Ready.{FitLiterals, IsChoice}
+use Rattle.su_steps.specs.inside.Ready.{FitLiterals, IsChoice}
 use Rattle.su_steps.proofs.Lists.{contains_cases, contains_none, contains_flat, of_flat, contains_map, of_map, contains_filter, of_filter, made_at, all_by, all_at}
 use Rattle.su_steps.proofs.Cells.{origins_at, origins_by, pair_below}
 use Rattle.su_steps.proofs.Raw.{AreWithin, HasObject, IsShown, AreShown}

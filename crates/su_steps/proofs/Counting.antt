@@ -13,7 +13,7 @@ use Rattle.std.proofs.Math.Nat.{mul_assoc, mul-zero, zero-mul, mul-div_cancel_le
 use Rattle.su_schema.specs.SchemaValue.{SchemaValue}
 use Rattle.su_steps.specs.Objects.{objects_of}
 use Rattle.su_steps.specs.Choices.{combinations, chosen_objects, origin, origins_from, origins_of}
-use Rattle.su_steps.specs.Counting.{object_count, most_objects, objects_in}
+use Rattle.su_steps.specs.inside.Counting.{object_count, most_objects, objects_in}
 use Rattle.su_steps.proofs.Lists.{contains_cases, contains_later, contains_none, of_flat, of_map, contains_flat, contains_map}
 
 -- ---- how many

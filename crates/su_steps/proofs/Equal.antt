@@ -6,13 +6,13 @@ use Rattle.su_base.specs.declared.values.Value.{Value}
 use Rattle.su_where.specs.declared.literals.Literal.{Literal}
 use Rattle.su_tableau.specs.declared.symbols.Sym.{Sym}
 use Rattle.su_classes.specs.declared.items.Together.{Together}
-use Rattle.su_classes.specs.Symbols.{number_of}
+use Rattle.su_classes.specs.inside.Symbols.{number_of}
 use Rattle.su_query.specs.declared.places.Place.{Place}
 use Rattle.su_steps.specs.declared.building.Head.{Head}
 use Rattle.su_steps.specs.Classes.{Compared, compared, comparisons}
 use Rattle.su_steps.specs.Terms.{is_evaluated, left_over, sides, EvaluatesFalse}
-use Rattle.su_steps.specs.Heads.{with_compared, head_of, IsSomeFalse, IsNoneFalse}
-use Rattle.su_steps.specs.Numbers.{is_equality, equals}
+use Rattle.su_steps.specs.inside.Heads.{with_compared, head_of, IsSomeFalse, IsNoneFalse}
+use Rattle.su_steps.specs.inside.Numbers.{is_equality, equals}
 use Rattle.su_steps.proofs.Lists.{contains_map, of_map}
 
 equals-append : (vs : List Value) (xs ys : List Compared) → equals vs (xs ++ ys) ≡ equals vs xs ++ equals vs ys

@@ -25,7 +25,7 @@ use Rattle.su_query.specs.Ranges.{operand_kind, IsOfOneKind, IsPlaceAmong, IsRes
 use Rattle.su_query.specs.Sets.{mentioned_with}
 use Rattle.su_steps.specs.Objects.{width, attributes_at, objects_of, attributes_of_all}
 use Rattle.su_steps.specs.Classes.{Compared, operand_symbol, compared, comparisons}
-use Rattle.su_steps.specs.Ready.{FitLiterals}
+use Rattle.su_steps.specs.inside.Ready.{FitLiterals}
 use Rattle.su_steps.proofs.Lists.{contains_cases, contains_later, contains_none, of_map, of_filter, contains_filter, contains_map, all_at, all_by}
 use Rattle.su_steps.proofs.Literals.{literals_of}
 use Rattle.su_steps.proofs.Raw.{AreWithin}

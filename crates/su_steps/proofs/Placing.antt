@@ -17,7 +17,7 @@ use Rattle.su_classes.specs.declared.items.Together.{Together}
 use Rattle.su_classes.specs.Items.{cell, SameAt, Keeps, IsKept, IsPlacedBelow}
 use Rattle.su_classes.specs.Items as items
 use Rattle.su_classes.specs.Tables.{rep, IsLeast}
-use Rattle.su_classes.specs.Symbols.{AreDistinct, is_known, number_of, symbol_at, name_in}
+use Rattle.su_classes.specs.inside.Symbols.{AreDistinct, is_known, number_of, symbol_at, name_in}
 use Rattle.su_classes.proofs.Places.{IsNumbering, numbering}
 use Rattle.su_classes.proofs.Named.{same_rep, same_name, item_class, table_names}
 use Rattle.su_schema.specs.SchemaValue.{SchemaValue}
@@ -25,7 +25,7 @@ use Rattle.su_steps.specs.declared.results.Origin.{Origin}
 use Rattle.su_steps.specs.Objects.{width, attributes_at, LiesIn}
 use Rattle.su_steps.specs.Classes.{Compared, pair, SameLabels, IsClosed, InClass, IsNaming}
 use Rattle.su_steps.specs.Terms.{EvaluatesFalse, IsContradictory}
-use Rattle.su_steps.specs.Numbers.{is_equality, equals, placed_of}
+use Rattle.su_steps.specs.inside.Numbers.{is_equality, equals, placed_of}
 use Rattle.su_steps.proofs.Lists.{contains_later, contains_cases, of_map, contains_map, made_at}
 use Rattle.su_steps.proofs.Raw.{AreWithin}
 

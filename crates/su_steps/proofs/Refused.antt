@@ -15,7 +15,7 @@ use Rattle.su_query.specs.Sets.{mentioned_with}
 use Rattle.su_steps.specs.declared.faults.StepFault.{StepFault}
 use Rattle.su_steps.specs.declared.faults.StepFault.TheVariants.{NotCovered}
 use Rattle.su_steps.specs.Choices.{coverings, choices}
-use Rattle.su_steps.specs.Counting.{objects_in}
+use Rattle.su_steps.specs.inside.Counting.{objects_in}
 use Rattle.su_steps.specs.Refusals.{disjunct_count, IsCovered, HasFewDisjuncts, HasFewRows, HasFewTerms, HasManyRows, IsRefusal}
 use Rattle.su_steps.proofs.Counting.{row_count_is, total_at, total_of}
 use Rattle.su_steps.proofs.Chosen.{coverings_count}

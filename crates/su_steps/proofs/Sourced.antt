@@ -16,3 +16,7 @@ source_is schema t m r o columns found n essential all so = (
   λ one. let w = (so o).0 one in record { object = subst (λ k. o < k) all w.0; has_columns = λ c e. subset_at columns (attributes_at schema o) c w.1 ((essential c).1 e) },
   λ s. (so o).1 (subst (λ k. o < k) (sym all) s.object, subset_by columns (attributes_at schema o) (λ c h. s.has_columns c ((essential c).0 h))),
 )
+
+pub found_are : (schema : SchemaValue) (columns found : FinSet nat_cmp) (n : ℕ) → n ≡ length schema.objects → ((o : ℕ) → (contains found o ≡ true) ↔ ((o < n) × (is_subset columns (attributes_at schema o) ≡ true)))
+    → (o : ℕ) → IsTrue (contains found o) ↔ ((o < length schema.objects) × IsTrue (is_subset columns (attributes_at schema o)))
+found_are schema columns found n all so o = (λ one. let w = (so o).0 one in (subst (λ k. o < k) all w.0, w.1), λ h. (so o).1 (subst (λ k. o < k) (sym all) h.0, h.1))

@@ -15,7 +15,7 @@ use Rattle.su_tableau.specs.Tableaux.{Tab, IsValid}
 use Rattle.su_classes.specs.declared.items.Together.{Together}
 use Rattle.su_classes.specs.Items.{IsPlacedBelow}
 use Rattle.su_classes.specs.Tables.{rep, IsTable, IsLeast}
-use Rattle.su_classes.specs.Symbols.{is_known}
+use Rattle.su_classes.specs.inside.Symbols.{is_known}
 use Rattle.su_classes.proofs.Places.{numbering, own_constant, symbol_low}
 use Rattle.su_schema.specs.SchemaValue.{SchemaValue}
 use Rattle.su_schema.specs.SchemaValue as schemas
@@ -26,9 +26,9 @@ use Rattle.su_steps.specs.declared.classes.Classes.{Classes}
 use Rattle.su_steps.specs.Objects.{width}
 use Rattle.su_steps.specs.Classes.{Compared, pair, place_symbol, operand_symbol, compared, comparisons, IsNaming}
 use Rattle.su_steps.specs.Terms.{tableau_of, HaveNone, HaveTableau}
-use Rattle.su_steps.specs.Numbers.{IsNoted, AreNoted, equals, placed_of, class_name, AreClasses}
-use Rattle.su_steps.specs.Heads.{IsSomeFalse, IsNoneFalse}
-use Rattle.su_steps.specs.Ready.{IsReady, AreClosed, FitLiterals, FitOrigins, IsShown}
+use Rattle.su_steps.specs.inside.Numbers.{IsNoted, AreNoted, equals, placed_of, class_name, AreClasses}
+use Rattle.su_steps.specs.inside.Heads.{IsSomeFalse, IsNoneFalse}
+use Rattle.su_steps.specs.inside.Ready.{IsReady, AreClosed, FitLiterals, FitOrigins, IsShown}
 use Rattle.su_steps.proofs.Lists.{of_map}
 use Rattle.su_steps.proofs.Cells.{pair_below}
 use Rattle.su_steps.proofs.Fitting.{width_is, within, no_place, place_at, place_in}

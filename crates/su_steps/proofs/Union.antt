@@ -32,7 +32,7 @@ use Rattle.su_steps.specs.Expression.{cut, cuts, Meets, place_values, InExpressi
 use Rattle.su_steps.specs.Choices.{choices, chosen_objects, origins_of}
 use Rattle.su_steps.specs.Classes.{Compared, place_symbol, operand_symbol, comparisons}
 use Rattle.su_steps.specs.Terms.{left_over, sides, rows_of, tableau_of, HaveTableau, Case, case_of, cases, comparisons_of, GivesNone, Gives, AreTermsOf, AreTerms, InUnion}
-use Rattle.su_steps.specs.Ready.{IsChoice}
+use Rattle.su_steps.specs.inside.Ready.{IsChoice}
 use Rattle.su_steps.proofs.Lists.{contains_cases, contains_later, contains_none, contains_flat, of_flat, contains_map, of_map, map_twice, all_at, all_by}
 use Rattle.su_steps.proofs.Cells.{raw_rows}
 use Rattle.su_steps.proofs.Raw.{AreWithin, AllTrue, pair_value, InLists, RawAnswer}

@@ -31,6 +31,7 @@ choices schema maximal q = combinations (coverings schema maximal q)
 abbrev pub chosen_objects : SchemaValue → List (FinSet nat_cmp) → List ℕ → List (List ℕ)
 chosen_objects schema maximal choice = map (λ m. objects_of schema (get_or maximal m empty)) choice
 
+-- the row of variable v for object o
 abbrev pub origin : ℕ → ℕ → Origin
 origin v o = record { variable = v; object = o }
 

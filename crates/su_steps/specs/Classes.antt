@@ -34,10 +34,12 @@ pair n v a = v * n + a
 abbrev pub place_symbol : ℕ → List Place → ℕ → Sym
 place_symbol n places i = let p : Place = get_or places i (record { variable = 0; attribute = 0 }) in Var (pair n p.variable p.attribute)
 
+-- the symbol of a side of a comparison
 abbrev pub operand_symbol : ℕ → List Place → Operand → Sym
 operand_symbol n places (operand.Place i) = place_symbol n places i
 operand_symbol n places (operand.Const c) = Const c
 
+-- the comparison of symbols that a literal makes
 abbrev pub compared : ℕ → List Place → Literal → Compared
 compared n places l = record { left = operand_symbol n places l.left; op = l.op; right = operand_symbol n places l.right }
 
@@ -49,6 +51,7 @@ comparisons n places d = map (compared n places) d
 abbrev pub SameLabels : ℕ → (Sym → Sym) → FinSet nat_cmp → ℕ → ℕ → Type 0
 SameLabels n label s v w = (a : ℕ) → IsTrue (contains s a) → label (Var (pair n v a)) ≡ label (Var (pair n w a))
 
+-- labels that give both sides of each equality one label, and keep each dependency on the rows of objects in which it lies
 pub record IsClosed (schema : SchemaValue) (os : List Origin) (d : List Compared) (label : Sym → Sym) : Type 0 where
   pub equalities : (c : Compared) → Contains d c → c.op ≡ Equal → label c.left ≡ label c.right
   pub dependencies : (f : Fd) (o p : Origin) → Contains schema.fds f → Contains os o → Contains os p → LiesIn schema f o.object → LiesIn schema f p.object

@@ -21,6 +21,7 @@ abbrev pub cut_from : ℕ → FinSet nat_cmp → List Value → List Value
 cut_from i s [] = []
 cut_from i s (x ∷ xs) = if contains s i then x ∷ cut_from (suc i) s xs else cut_from (suc i) s xs
 
+-- the values on a set of columns, in order
 abbrev pub cut : FinSet nat_cmp → List Value → List Value
 cut s xs = cut_from 0 s xs
 
@@ -32,6 +33,7 @@ cuts schema universe o = map (cut (attributes_at schema o)) universe
 abbrev pub Agree : FinSet nat_cmp → List Value → List Value → Type 0
 Agree s x y = (a : ℕ) (d : Value) → IsTrue (contains s a) → get_or x a d ≡ get_or y a d
 
+-- rows that agree on the left side of a dependency agree on its right side
 abbrev pub Meets : List Fd → List (List Value) → Type 0
 Meets fds universe = (f : Fd) (u t : List Value) → Contains fds f → Contains universe u → Contains universe t → Agree f.left u t → Agree f.right u t
 

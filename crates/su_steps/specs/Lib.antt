@@ -1,12 +1,9 @@
-pub mod Objects
-pub mod Expression
 pub mod Choices
 pub mod Classes
-pub mod Terms
+pub mod Expression
+pub mod inside
+pub mod Laws
+pub mod Objects
 pub mod Refusals
 pub mod Sources
-pub mod Counting
-pub mod Numbers
-pub mod Heads
-pub mod Ready
-pub mod Laws
+pub mod Terms

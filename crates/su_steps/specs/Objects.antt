@@ -8,6 +8,7 @@ use Rattle.std.specs.FinSet.{FinSet, contains, union, is_subset, empty}
 use Rattle.su_fd.specs.declared.dependencies.Fd.{Fd}
 use Rattle.su_schema.specs.SchemaValue.{SchemaValue, attribute_kinds, attributes_of}
 
+-- how many attributes there are
 abbrev pub width : SchemaValue → ℕ
 width schema = length (attribute_kinds schema)
 

@@ -51,6 +51,7 @@ pub record IsAccepted (schema : SchemaValue) (maximal : List (FinSet nat_cmp)) (
 abbrev pub HasManyRows : SchemaValue → List (FinSet nat_cmp) → Resolved → Type 0
 HasManyRows schema maximal q = (choice : List ℕ) × Contains (choices schema maximal q) choice × (64 < row_count schema maximal choice)
 
+-- which limit is passed, the earlier ones being kept
 abbrev pub IsLimitPassed : SchemaValue → List (FinSet nat_cmp) → Resolved → StepLimit → Type 0
 IsLimitPassed schema maximal q Disjuncts = 64 < disjunct_count q
 IsLimitPassed schema maximal q Rows = HasFewDisjuncts q × HasManyRows schema maximal q

@@ -23,6 +23,7 @@ use Rattle.su_steps.specs.Classes.{Compared, pair, place_symbol, comparisons, In
 
 -- ---- comparisons
 
+-- both sides are constants, or one variable
 abbrev pub is_evaluated : Sym → Sym → Bool
 is_evaluated (Const a) (Const b) = true
 is_evaluated (Const a) (Var k) = false
@@ -55,6 +56,7 @@ EvaluatesFalse name c = IsTrue (is_evaluated (name c.left) (name c.right)) × (o
 abbrev pub cell_of : SchemaValue → (Sym → Sym) → ℕ → Origin → ℕ → Sym
 cell_of schema name own o a = if contains (attributes_at schema o.object) a then name (Var (pair (width schema) o.variable a)) else Var (own + a)
 
+-- the row of an origin: its object's cells by their names, the others its own
 abbrev pub row_of : SchemaValue → (Sym → Sym) → ℕ → Origin → List Sym
 row_of schema name own o = map (cell_of schema name own o) (range_with_len 0 (width schema))
 
@@ -112,6 +114,7 @@ pub record Gives (schema : SchemaValue) (maximal : List (FinSet nat_cmp)) (q : R
   pub origins : t.origins ≡ origins_of schema maximal case.choice
   pub tableau : HaveTableau schema q (origins_of schema maximal case.choice) (comparisons_of schema q case.disjunct) t.tableau
 
+-- a disjunct with a choice
 abbrev pub case_of : ℕ → List ℕ → Case
 case_of i choice = record { disjunct = i; choice = choice }
 

@@ -7,8 +7,8 @@ ghost use Rattle.su_steps.specs.declared.building.Head.{Head as AHead};
 ghost use Rattle.su_steps.specs.Objects.{width, attributes_at};
 ghost use Rattle.su_steps.specs.Classes.{pair, place_symbol, compared, comparisons};
 ghost use Rattle.su_steps.specs.Terms.{is_evaluated, outcome, left_over, sides, row_of, rows_of, EvaluatesFalse};
-ghost use Rattle.su_steps.specs.Numbers.{class_name, AreClasses};
-ghost use Rattle.su_steps.specs.Heads.{with_compared, head_of, IsSomeFalse, IsNoneFalse};
+ghost use Rattle.su_steps.specs.inside.Numbers.{class_name, AreClasses};
+ghost use Rattle.su_steps.specs.inside.Heads.{with_compared, head_of, IsSomeFalse, IsNoneFalse};
 
 use crate::classes::Classes;
 use crate::objects::object_attributes;

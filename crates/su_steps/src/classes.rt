@@ -5,9 +5,9 @@ ghost use Rattle.su_tableau.specs.declared.symbols.Sym.TheVariants.{Var, Const};
 ghost use Rattle.su_query.specs.declared.places.Place.{Place as APlace};
 ghost use Rattle.su_classes.specs.Items.{IsPlacedBelow};
 ghost use Rattle.su_classes.specs.Tables.{rep, IsLeast};
-ghost use Rattle.su_classes.specs.Symbols.{symbol_at as symbol_numbered};
+ghost use Rattle.su_classes.specs.inside.Symbols.{symbol_at as symbol_numbered};
 ghost use Rattle.su_steps.specs.Classes.{pair, place_symbol, operand_symbol};
-ghost use Rattle.su_steps.specs.Numbers.{class_name, AreClasses};
+ghost use Rattle.su_steps.specs.inside.Numbers.{class_name, AreClasses};
 
 use crate::constants::place;
 use std::alloc::Global;

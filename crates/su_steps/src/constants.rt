@@ -4,8 +4,8 @@ ghost use Rattle.su_base.specs.declared.values.Value.{Value as AValue};
 ghost use Rattle.su_where.specs.declared.literals.Operand.TheVariants as operand;
 ghost use Rattle.su_where.specs.Truth.{HasPlacesBelow, IsBelow};
 ghost use Rattle.su_steps.specs.Classes.{operand_symbol, comparisons};
-ghost use Rattle.su_classes.specs.Symbols.{place_of, number_of, has_constant, AreDistinct};
-ghost use Rattle.su_steps.specs.Numbers.{IsNoted, AreNoted, equals};
+ghost use Rattle.su_classes.specs.inside.Symbols.{place_of, number_of, has_constant, AreDistinct};
+ghost use Rattle.su_steps.specs.inside.Numbers.{IsNoted, AreNoted, equals};
 
 use std::alloc::Global;
 use su_base::{List, NoMemory, Value};

@@ -26,4 +26,4 @@ mod tests;
 pub use faults::{StepFault, StepLimit};
 pub use making::terms;
 pub use results::{Origin, Term};
-pub use sourcing::sources;
+pub use sourcing::{sources, sources_within};

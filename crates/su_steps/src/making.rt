@@ -14,7 +14,7 @@ ghost use Rattle.su_steps.specs.Objects.{width};
 ghost use Rattle.su_steps.specs.Classes.{comparisons};
 ghost use Rattle.su_steps.specs.Terms.{Case, case_of, HaveNone, HaveTableau, GivesNone, Gives, AreTermsOf, AreTerms, InUnion};
 ghost use Rattle.su_steps.specs.Refusals.{row_count, IsAccepted, IsRefusal};
-ghost use Rattle.su_steps.specs.Ready.{IsReady, AreClosed, FitLiterals, FitOrigins, IsShown, IsChoice};
+ghost use Rattle.su_steps.specs.inside.Ready.{IsReady, AreClosed, FitLiterals, FitOrigins, IsShown, IsChoice};
 
 use crate::building::{build_head, rows};
 use crate::choosing::{choice_at, choice_count, coverings, first_empty, most_rows};

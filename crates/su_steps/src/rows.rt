@@ -2,7 +2,7 @@
 ghost use Rattle.std.specs.Prelude.{◌≡◌, ◌<◌, ◌≤◌, ◌++◌, ◌∷◌, [], if◌then◌else◌, length, map, All, IfOk, OnOk};
 ghost use Rattle.su_steps.specs.Objects.{objects_of};
 ghost use Rattle.su_steps.specs.Choices.{origin, origins_of};
-ghost use Rattle.su_steps.specs.Numbers.{placed_of};
+ghost use Rattle.su_steps.specs.inside.Numbers.{placed_of};
 
 use crate::objects::{object_attributes, width_of};
 use crate::results::Origin;

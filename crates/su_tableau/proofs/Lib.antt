@@ -6,3 +6,5 @@ pub mod Same
 pub mod Sets
 pub mod Standing
 pub mod Listing
+mod Bytes
+mod Occurring

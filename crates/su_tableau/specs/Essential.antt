@@ -1,7 +1,9 @@
 -- Essential columns of a row, within a set of the tableau's rows.
 -- cell: a row number and a column; essential: the cell holds a constant, a head variable, or a variable of another cell too
-use Rattle.std.specs.Prelude.{◌≡◌, ◌≢◌, ℕ, ◌<◌, List, [], length, get_or, Contains, Option, Some}
+use Rattle.std.specs.Prelude.{◌≡◌, ◌≢◌, ℕ, ◌<◌, ◌↔◌, IsTrue, List, [], length, get_or, Contains, Option, Some}
 use Rattle.std.specs.Int.{bit_at}
+use Rattle.std.specs.Ordering.{nat_cmp}
+use Rattle.std.specs.FinSet.{FinSet, contains, empty}
 use Rattle.su_base.specs.declared.values.Value.{Value}
 use Rattle.su_tableau.specs.declared.symbols.Sym.{Sym}
 use Rattle.su_tableau.specs.declared.symbols.Sym.TheVariants.{Const, Var}
@@ -26,6 +28,10 @@ pub data IsEssential (t : Tab) (m i c : ℕ) : Type 0 where
   constant : (v : Value) → Holds t m i c (Const v) → IsEssential t m i c
   in_head : (k : ℕ) → Holds t m i c (Var k) → Contains t.head (Var k) → IsEssential t m i c
   twice : (k : ℕ) → Holds t m i c (Var k) → IsElsewhere t m i c k → IsEssential t m i c
+
+-- for each row of the set its essential columns
+abbrev pub AreEssential : Tab → ℕ → List (FinSet nat_cmp) → Type 0
+AreEssential t m columns = (i c : ℕ) → i < length t.rows → bit_at m i ≡ 1 → IsTrue (contains (get_or columns i empty) c) ↔ IsEssential t m i c
 
 -- under the valuation row i has the values of u at its essential columns
 abbrev pub AgreesOn : Tab → ℕ → (ℕ → Value) → ℕ → List Value → Type 0

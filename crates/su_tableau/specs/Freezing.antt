@@ -37,13 +37,16 @@ abbrev pub top : Sym → ℕ
 top (Const c) = suc (size c)
 top (Var k) = 0
 
+-- above the size of each constant of a row
 abbrev pub row_top : List Sym → ℕ
 row_top [] = 0
 row_top (x ∷ xs) = top x + row_top xs
 
+-- above the size of each constant of all rows
 abbrev pub rows_top : List (List Sym) → ℕ
 rows_top [] = 0
 rows_top (x ∷ xs) = row_top x + rows_top xs
 
+-- above the size of each constant of a tableau
 abbrev pub tab_top : Tab → ℕ
 tab_top t = row_top t.head + rows_top t.rows

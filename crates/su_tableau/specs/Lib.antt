@@ -5,3 +5,5 @@ pub mod Mapping
 pub mod Equivalent
 pub mod Freezing
 pub mod Essential
+pub mod Bytes
+pub mod inside

@@ -11,6 +11,7 @@ use Rattle.su_where.specs.Operator.{compares}
 use Rattle.su_tableau.specs.declared.symbols.Sym.{Sym}
 use Rattle.su_tableau.specs.declared.symbols.Sym.TheVariants.{Const, Var}
 
+-- a tableau: rows of symbols of one width, and a head: the outputs, and behind them the two sides of each comparison, by these operators
 pub record Tab : Type 0 where
   pub width : ℕ
   pub rows : List (List Sym)

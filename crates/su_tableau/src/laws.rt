@@ -8,6 +8,7 @@ ghost use Rattle.su_tableau.specs.Parts.{part};
 ghost use Rattle.su_tableau.specs.Mapping.{Maps};
 ghost use Rattle.su_tableau.specs.Freezing.{frozen_head, frozen_rows, tab_top};
 ghost use Rattle.su_tableau.specs.Essential.{ExtByEssential};
+ghost use Rattle.su_tableau.specs.Bytes.{BytesSuffice, LeastOverBytes};
 
 /// A tableau is frozen by reading its variables as new values: its rows are then a universal
 /// relation of its kinds, over which the frozen head is an answer; and where another tableau has
@@ -22,4 +23,12 @@ pub fn freezing()
 /// of a relation give the answers over it.
 pub fn essential_columns_suffice()
     ensures { (t : Tab) (m : ℕ) (universe : List (List Value)) (h : List Value) → IsValid (part t m) → All (λ row. length row ≡ t.width) t.rows → All (λ u. length u ≡ t.width) universe → (ExtByEssential t m universe h ↔ Ext (part t m) universe h) }
+{}
+
+/// Texts of bytes are enough: a tableau whose rows have constants of bytes, and which is within
+/// another over every universal relation of bytes, is so over every one; so a least tableau is least
+/// in this sense too. (A tableau is frozen to bytes.)
+pub fn bytes_suffice()
+    ensures within { BytesSuffice }
+    ensures least { LeastOverBytes }
 {}

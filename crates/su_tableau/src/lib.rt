@@ -11,6 +11,7 @@ mod crossing;
 mod essential_columns;
 pub mod laws;
 mod masks;
+mod occurrences;
 mod rules;
 mod symbols;
 mod tableaux;
@@ -18,6 +19,7 @@ mod valuations;
 
 pub use essential_columns::essential;
 pub use masks::{bit, full, has};
+pub use occurrences::{Times, all_essential, fill_essential};
 pub use symbols::Sym;
 pub use tableaux::Tableau;
 pub use valuations::holds;

@@ -1,4 +1,4 @@
-use crate::{Sym, Tableau, essential, has, holds};
+use crate::{Sym, Tableau, all_essential, essential, has, holds};
 use std::alloc::Global;
 use std::test::Fail;
 use su_base::{AttrSet, List, NoMemory, Row, Str, Value};
@@ -47,6 +47,7 @@ fn courses(alloc: Global) -> Result<Option<Tableau>, NoMemory> {
 fn constants_head_symbols_and_shared_ones_are_essential(rt: HostRuntime) -> Result<(), Fail> {
     let t = courses(rt.alloc())?.expect(&rt, "valid parts");
     let kept = 0b110010;
+    let all = all_essential(rt.alloc(), &t, kept)?;
     for (row, other) in [(1, 3), (4, 3), (5, 4)] {
         assert!(rt; row < t.row_count() && has(kept, row));
         let wanted = AttrSet::empty().insert(0).insert(other);
@@ -55,6 +56,8 @@ fn constants_head_symbols_and_shared_ones_are_essential(rt: HostRuntime) -> Resu
             columns.within(wanted) && wanted.within(columns),
             "row {row}"
         );
+        let told = *all.get(row);
+        assert!(rt; told.within(wanted) && wanted.within(told), "row {row}");
     }
     Ok(())
 }

@@ -1,5 +1,5 @@
 use Rattle.std.proofs.Common.{◌*◌}
-use Rattle.su_steps.specs.Numbers.{class_name}
+use Rattle.su_steps.specs.inside.Numbers.{class_name}
 use Rattle.su_steps.proofs.Made.{cells_more}
 use Rattle.su_steps.proofs.building.row.Goals as goal
 

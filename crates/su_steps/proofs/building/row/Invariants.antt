@@ -1,7 +1,7 @@
 use Rattle.std.proofs.Common.{◌≡◌, ◌*◌, map}
 use Rattle.std.specs.List.{range_with_len}
 use Rattle.su_steps.specs.Terms.{cell_of}
-use Rattle.su_steps.specs.Numbers.{class_name}
+use Rattle.su_steps.specs.inside.Numbers.{class_name}
 use Rattle.su_steps.proofs.building.row.Given as goal
 
 abbrev pub invariant-loop-a : goal.invariant-loop-a

@@ -1,6 +1,6 @@
 use Rattle.std.proofs.Common.{◌≡◌, ◌++◌, ◌+◌, ◌*◌, drop}
 use Rattle.su_steps.specs.Terms.{rows_of}
-use Rattle.su_steps.specs.Numbers.{class_name}
+use Rattle.su_steps.specs.inside.Numbers.{class_name}
 use Rattle.su_steps.proofs.building.rows.Given as goal
 
 abbrev pub invariant-loop-origin : goal.invariant-loop-origin

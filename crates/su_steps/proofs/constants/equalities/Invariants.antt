@@ -1,6 +1,6 @@
 use Rattle.std.proofs.Common.{◌≡◌, take}
 use Rattle.su_steps.specs.Classes.{comparisons}
-use Rattle.su_steps.specs.Numbers.{equals}
+use Rattle.su_steps.specs.inside.Numbers.{equals}
 use Rattle.su_steps.proofs.constants.equalities.Given as goal
 
 abbrev pub invariant-loop-literal : goal.invariant-loop-literal

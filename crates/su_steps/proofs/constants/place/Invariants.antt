@@ -1,5 +1,5 @@
 use Rattle.std.proofs.Common.{◌≡◌, ◌+◌, drop}
-use Rattle.su_classes.specs.Symbols.{place_of}
+use Rattle.su_classes.specs.inside.Symbols.{place_of}
 use Rattle.su_steps.proofs.constants.place.Given as goal
 
 abbrev pub invariant-loop-i : goal.invariant-loop-i

@@ -4,7 +4,7 @@ use Rattle.std.proofs.lemmas.List.{get_or_default}
 use Rattle.su_where.specs.Disjunct.{disjuncts_of}
 use Rattle.su_steps.specs.Choices.{choices}
 use Rattle.su_steps.specs.Terms.{case_of, AreTermsOf}
-use Rattle.su_steps.specs.Ready.{FitLiterals}
+use Rattle.su_steps.specs.inside.Ready.{FitLiterals}
 use Rattle.su_steps.proofs.Fitting.{literals_fit}
 use Rattle.su_steps.proofs.Pushing.{cases_flat}
 use Rattle.su_steps.proofs.making.accepted_terms.Goals as goal

@@ -3,7 +3,7 @@ use Rattle.std.specs.Prelude.{All}
 use Rattle.su_base.specs.declared.values.Value.{Value}
 use Rattle.su_classes.specs.declared.items.Placed.{Placed}
 use Rattle.su_classes.specs.Items.{IsPlacedBelow}
-use Rattle.su_steps.specs.Numbers.{placed_of}
+use Rattle.su_steps.specs.inside.Numbers.{placed_of}
 use Rattle.su_steps.proofs.Tabled.{equal_in, rows_below}
 use Rattle.su_steps.proofs.making.close_on.Goals as goal
 

@@ -4,7 +4,7 @@ use Rattle.std.proofs.lemmas.List.{take_all}
 use Rattle.su_steps.specs.Choices.{combinations, choices}
 use Rattle.su_steps.specs.Terms.{case_of, AreTermsOf}
 use Rattle.su_steps.specs.Refusals.{row_count}
-use Rattle.su_steps.specs.Ready.{IsReady, IsChoice}
+use Rattle.su_steps.specs.inside.Ready.{IsReady, IsChoice}
 use Rattle.su_steps.proofs.Casing.{coverings_few, choice_in, choice_step, count_is}
 use Rattle.su_steps.proofs.making.push_terms.Goals as goal
 

@@ -1,6 +1,6 @@
 use Rattle.std.proofs.Common.{arith}
 use Rattle.su_tableau.specs.declared.symbols.Sym.TheVariants.{Var}
-use Rattle.su_classes.specs.Symbols.{number_of}
+use Rattle.su_classes.specs.inside.Symbols.{number_of}
 use Rattle.su_steps.specs.Classes.{pair}
 use Rattle.su_steps.proofs.Made.{made_more}
 use Rattle.su_steps.proofs.rows.placed_row.Goals as goal

@@ -1,7 +1,7 @@
 use Rattle.std.proofs.Common.{◌≡◌, map}
 use Rattle.std.specs.List.{range_with_len}
 use Rattle.su_tableau.specs.declared.symbols.Sym.TheVariants.{Var}
-use Rattle.su_classes.specs.Symbols.{number_of}
+use Rattle.su_classes.specs.inside.Symbols.{number_of}
 use Rattle.su_steps.specs.Classes.{pair}
 use Rattle.su_steps.proofs.rows.placed_row.Given as goal
 

@@ -1,5 +1,5 @@
 use Rattle.std.proofs.Common.{◌≡◌, map, take}
-use Rattle.su_steps.specs.Numbers.{placed_of}
+use Rattle.su_steps.specs.inside.Numbers.{placed_of}
 use Rattle.su_steps.proofs.rows.placed_rows.Given as goal
 
 abbrev pub invariant-loop-origin : goal.invariant-loop-origin

@@ -13,7 +13,7 @@ use Rattle.su_tableau.specs.declared.symbols.Sym.TheVariants.{Var}
 use Rattle.su_classes.specs.declared.items.Placed.{Placed}
 use Rattle.su_classes.specs.declared.items.Together.{Together}
 use Rattle.su_classes.specs.Tables.{IsTable}
-use Rattle.su_classes.specs.Symbols.{has_constant, number_of, name_in}
+use Rattle.su_classes.specs.inside.Symbols.{has_constant, number_of, name_in}
 use Rattle.su_schema.specs.SchemaValue.{SchemaValue}
 use Rattle.su_steps.specs.declared.results.Origin.{Origin}
 use Rattle.su_steps.specs.declared.classes.Classes.{Classes}
@@ -29,6 +29,7 @@ IsNoted vs (operand.Const c) = has_constant vs c ≡ true
 abbrev pub AreNoted : List Value → Literal → Type 0
 AreNoted vs l = l.op ≡ Equal → IsNoted vs l.left × IsNoted vs l.right
 
+-- the operator is `=`
 abbrev pub is_equality : Op → Bool
 is_equality Equal = true
 is_equality _ = false

@@ -5,7 +5,7 @@ use Rattle.std.specs.FinSet.{FinSet, contains, empty}
 use Rattle.su_where.specs.declared.literals.Literal.{Literal}
 use Rattle.su_where.specs.Truth.{HasPlacesBelow}
 use Rattle.su_classes.specs.Tables.{IsLeast}
-use Rattle.su_classes.specs.Symbols.{AreDistinct}
+use Rattle.su_classes.specs.inside.Symbols.{AreDistinct}
 use Rattle.su_schema.specs.SchemaValue.{SchemaValue}
 use Rattle.su_query.specs.declared.resolving.Resolved.{Resolved}
 use Rattle.su_query.specs.Ranges.{IsOfOneKind, place_kinds}
@@ -14,7 +14,7 @@ use Rattle.su_steps.specs.declared.classes.Classes.{Classes}
 use Rattle.su_query.specs.Sets.{mentioned_with}
 use Rattle.su_steps.specs.Objects.{width, attributes_at, covers}
 use Rattle.su_steps.specs.Classes.{comparisons}
-use Rattle.su_steps.specs.Numbers.{AreNoted, equals, placed_of}
+use Rattle.su_steps.specs.inside.Numbers.{AreNoted, equals, placed_of}
 
 -- the classes are of the constants and equalities of a disjunct, and of the pairs of the query's variables
 pub record IsReady (n : ℕ) (q : Resolved) (literals : List Literal) (c : Classes) : Type 0 where
