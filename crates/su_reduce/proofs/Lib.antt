@@ -2,3 +2,10 @@ pub mod Taking
 pub mod Tables
 pub mod Rounds
 pub mod Meeting
+pub mod Exact
+pub mod Same
+pub mod Placing
+pub mod Reading
+pub mod Alike
+pub mod Keyed
+pub mod Along

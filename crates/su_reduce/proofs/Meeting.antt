@@ -11,7 +11,7 @@ use Rattle.su_tableau.specs.declared.symbols.Sym.{Sym}
 use Rattle.su_tableau.specs.declared.symbols.Sym.TheVariants.{Var}
 use Rattle.su_reduce.specs.declared.edges.Edge.{Edge}
 use Rattle.su_reduce.specs.Ears.{cells_of}
-use Rattle.su_reduce.specs.Partners.{In, Touches, IsParentBy, set_at}
+use Rattle.su_reduce.specs.inside.Partners.{In, Touches, IsParentBy, set_at}
 
 pub apart : (s t : FinSet nat_cmp) → ((j : ℕ) → In t j → In s j → ⊥) → intersection s t ≡ empty
 apart s t none = same_set nat_cmp_total nat_cmp-IsAntisymmetric _ _ (λ q. grind (arith, nat_tests, members, none q))

@@ -1,2 +1,3 @@
 pub mod Ears
-pub mod Partners
+pub mod inside
+pub mod Left

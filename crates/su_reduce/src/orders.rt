@@ -1,7 +1,7 @@
 //! An ear order.
 ghost use Rattle.std.specs.Prelude.{◌≡◌, ◌↔◌, ◌<◌, ◌≤◌, ℕ, IfOk, length, get_or, [], Option, MatchOption};
 ghost use Rattle.su_reduce.specs.Ears.{AreAcyclic, IsEarOrder, cells_of};
-ghost use Rattle.su_reduce.specs.Partners.{In, IsParentBy, without};
+ghost use Rattle.su_reduce.specs.inside.Partners.{In, IsParentBy, without};
 
 use crate::edges::{Ear, Edge};
 use crate::sharing::{parent_of, table_of};

@@ -1,5 +1,5 @@
 use Rattle.std.proofs.Common.{ℕ, ◌<◌, ◌↔◌}
-use Rattle.su_reduce.specs.Partners.{In}
+use Rattle.su_reduce.specs.inside.Partners.{In}
 use Rattle.su_reduce.proofs.orders.all_below.Given as goal
 
 abbrev pub invariant-loop-j : goal.invariant-loop-j

@@ -4,7 +4,7 @@ use Rattle.std.specs.Ordering.{nat_cmp}
 use Rattle.std.specs.FinSet.{FinSet, len}
 use Rattle.su_reduce.specs.declared.edges.Edge.{Edge}
 use Rattle.su_reduce.specs.Ears.{cells_of}
-use Rattle.su_reduce.specs.Partners.{In, without, AreTable}
+use Rattle.su_reduce.specs.inside.Partners.{In, without, AreTable}
 use Rattle.su_reduce.proofs.Rounds.{IsSoFar, Reaches, so_far_first, reaches_first, so_far_next, reaches_next, ear_by, stuck, none_left, in_without, len_without}
 use Rattle.su_reduce.proofs.orders.ears.Goals as goal
 

@@ -1,7 +1,7 @@
 use Rattle.std.proofs.Common.{ℕ, ◌<◌, length}
 use Rattle.std.specs.FinSet.{len}
 use Rattle.su_reduce.specs.Ears.{cells_of}
-use Rattle.su_reduce.specs.Partners.{In}
+use Rattle.su_reduce.specs.inside.Partners.{In}
 use Rattle.su_reduce.proofs.Rounds.{IsSoFar, Reaches}
 use Rattle.su_reduce.proofs.orders.ears.Given as goal
 

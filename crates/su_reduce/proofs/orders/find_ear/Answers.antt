@@ -3,7 +3,7 @@ use Rattle.std.specs.Ordering.{nat_cmp}
 use Rattle.std.specs.FinSet.{FinSet}
 use Rattle.std.proofs.lemmas.List.{get_or_default}
 use Rattle.su_tableau.proofs.Rows.{below_more}
-use Rattle.su_reduce.specs.Partners.{In, IsParentBy, without}
+use Rattle.su_reduce.specs.inside.Partners.{In, IsParentBy, without}
 use Rattle.su_reduce.proofs.Rounds.{in_without}
 use Rattle.su_reduce.proofs.orders.find_ear.Goals as goal
 use Rattle.su_reduce.proofs.orders.find_ear.Goals.{then-contains+in_default, else-contains}

@@ -1,5 +1,5 @@
 use Rattle.std.proofs.Common.{ℕ, ◌<◌, [], get_or, Option}
-use Rattle.su_reduce.specs.Partners.{In, IsParentBy, without}
+use Rattle.su_reduce.specs.inside.Partners.{In, IsParentBy, without}
 use Rattle.su_reduce.proofs.orders.find_ear.Given as goal
 
 abbrev pub invariant-loop-e : goal.invariant-loop-e

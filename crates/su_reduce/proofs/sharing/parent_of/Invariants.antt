@@ -1,5 +1,5 @@
 use Rattle.std.proofs.Common.{ℕ, ◌<◌, Some}
-use Rattle.su_reduce.specs.Partners.{IsParentBy}
+use Rattle.su_reduce.specs.inside.Partners.{IsParentBy}
 use Rattle.su_reduce.proofs.sharing.parent_of.Given as goal
 
 abbrev pub invariant-loop-p : goal.invariant-loop-p

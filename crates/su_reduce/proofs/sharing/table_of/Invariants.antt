@@ -1,6 +1,6 @@
 use Rattle.std.proofs.Common.{◌≡◌, ℕ, ◌<◌, [], length, get_or}
 use Rattle.su_reduce.specs.Ears.{cells_of}
-use Rattle.su_reduce.specs.Partners.{AreSets}
+use Rattle.su_reduce.specs.inside.Partners.{AreSets}
 use Rattle.su_reduce.proofs.sharing.table_of.Given as goal
 
 abbrev pub invariant-loop-edge : goal.invariant-loop-edge

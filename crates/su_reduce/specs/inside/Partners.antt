@@ -15,9 +15,11 @@ In s j = IsTrue (contains s j)
 abbrev pub Touches : List (List Sym) → Sym → ℕ → Type 0
 Touches edges x j = (k : ℕ) × (x ≡ Var k) × HasVar edges j k
 
+-- the edges that have the variable of cell c
 abbrev pub set_at : List (FinSet nat_cmp) → ℕ → FinSet nat_cmp
 set_at sets c = get_or sets c empty
 
+-- cell c of an edge
 abbrev pub cell_at : List Sym → ℕ → Sym
 cell_at cells c = get_or cells c (Var 0)
 

@@ -1,0 +1,59 @@
+-- Places of variables, and keys of rows. No public clause cites this module.
+-- place of a variable: the number of cells before the first one that holds it
+-- key: the values of a row at some places; shared places: a place on either side for each variable of both
+use Rattle.std.specs.Prelude.{◌≡◌, ℕ, suc, ◌<◌, pos, Bool, cond, nat_eq, List, [], ◌∷◌, map, length, get_or, All, Contains, IsTrue}
+use Rattle.su_base.specs.declared.values.Value.{Value}
+use Rattle.su_base.specs.declared.values.Value.TheVariants.{Int}
+use Rattle.su_tableau.specs.declared.symbols.Sym.{Sym}
+use Rattle.su_tableau.specs.declared.symbols.Sym.TheVariants.{Const, Var}
+use Rattle.su_reduce.specs.inside.Partners.{cell_at}
+use Rattle.su_reduce.specs.inside.Marks.{mark, row_at}
+
+-- the place of a variable; their number where no cell holds it
+abbrev pub place_of : List Sym → ℕ → ℕ
+place_of [] k = 0
+place_of (Const c ∷ cells) k = suc (place_of cells k)
+place_of (Var j ∷ cells) k = cond (nat_eq j k) 0 (suc (place_of cells k))
+
+-- the value at a place of a row
+abbrev pub value_at : List Value → ℕ → Value
+value_at row p = get_or row p (Int (pos 0))
+
+-- each variable has the value at its place
+abbrev pub assigned : List Sym → List Value → ℕ → Value
+assigned cells row k = value_at row (place_of cells k)
+
+-- for each cell the place of its variable
+pub record AreFirsts (cells : List Sym) (n : ℕ) (places : List ℕ) : Type 0 where
+  pub same_length : length places ≡ n
+  pub below : (p : ℕ) → p < n → get_or places p 0 < length cells
+  pub is_place : (p k : ℕ) → p < n → cell_at cells p ≡ Var k → get_or places p 0 ≡ place_of cells k
+
+-- the values of a row at these places
+abbrev pub key : List ℕ → List Value → List Value
+key places row = map (λ p. value_at row p) places
+
+-- the row has these places
+abbrev pub LiesWithin : List ℕ → List Value → Type 0
+LiesWithin places row = All (λ p. p < length row) places
+
+-- the places at i hold one variable
+pub record IsPair (left right : List Sym) (ls rs : List ℕ) (i : ℕ) (k : ℕ) : Type 0 where
+  pub below : i < length ls
+  pub left_is : cell_at left (get_or ls i 0) ≡ Var k
+  pub right_is : cell_at right (get_or rs i 0) ≡ Var k
+
+-- shared places, of the variables of the first n cells on the left
+pub record AreShared (left right : List Sym) (n : ℕ) (ls rs : List ℕ) : Type 0 where
+  pub same_length : length ls ≡ length rs
+  pub left_below : (i : ℕ) → i < length ls → get_or ls i 0 < length left
+  pub right_below : (i : ℕ) → i < length ls → get_or rs i 0 < length right
+  pub only : (i : ℕ) → i < length ls → (k : ℕ) × IsPair left right ls rs i k
+  pub all : (p k : ℕ) → p < n → cell_at left p ≡ Var k → Contains right (Var k) → (i : ℕ) × IsPair left right ls rs i k
+
+-- the key of a marked one of the first n rows
+pub record IsKeyOf (rows : List (List Value)) (marks : List Bool) (places : List ℕ) (n : ℕ) (k : List Value) : Type 0 where
+  pub place : ℕ
+  pub below : place < n
+  pub is_marked : IsTrue (mark marks place)
+  pub is : key places (row_at rows place) ≡ k
