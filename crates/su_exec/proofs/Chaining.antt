@@ -4,8 +4,8 @@ use Rattle.std.specs.Prelude.{cond}
 use Rattle.std.proofs.lemmas.Bool.{cases_Bool, cases_lt}
 use Rattle.std.proofs.lemmas.List.{get_or-map, length-map, same_lists}
 use Rattle.std.proofs.lemmas.Bool.Decides.{nat_tests}
-use Rattle.su_exec.specs.Joins.{pick, Columns, Joined, Gives}
-use Rattle.su_exec.specs.Chains.{last, hash_of, in_bucket}
+use Rattle.su_exec.specs.inside.Joins.{pick, Columns, Joined, Gives}
+use Rattle.su_exec.specs.inside.Chains.{last, hash_of, in_bucket}
 
 -- ---- keys
 

@@ -2,7 +2,7 @@
 use Rattle.std.proofs.Common.{◌≡◌, ℕ, zero, suc, ◌+◌, ◌*◌, ◌<◌, ◌≤◌, List, [], ◌∷◌, ◌++◌, length, get_or, take, drop, refl, sym, ap, ◌∙◌, arith, length-drop}
 use Rattle.std.proofs.lemmas.Grind.{common_steps}
 use Rattle.std.proofs.lemmas.List.{take-append-le, drop-append-le, drop-drop, take_all, length-take-le, get_or_default}
-use Rattle.su_exec.specs.Sheets.{cut}
+use Rattle.su_exec.specs.inside.Sheets.{cut}
 
 times_le : (a b k : ℕ) → a ≤ b → a * k ≤ b * k
 times_le a b k h = grind arith

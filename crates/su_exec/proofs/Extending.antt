@@ -6,10 +6,10 @@ use Rattle.std.proofs.lemmas.List.Elements.{All-head, All-tail, All-push, Contai
 use Rattle.std.proofs.lemmas.Option.{slice_get_within, get_or_from_slice_get}
 use Rattle.su_base.specs.declared.values.Value.{Value}
 use Rattle.su_base.specs.declared.values.Value.TheVariants.{Int}
-use Rattle.su_exec.specs.Checks.{decode}
-use Rattle.su_exec.specs.Coded.{AreCoded, Extends, IsCoded, meaning, meanings}
-use Rattle.su_exec.specs.Edges.{Edge}
-use Rattle.su_exec.specs.Joins.{AreBelow}
+use Rattle.su_exec.specs.inside.Checks.{decode}
+use Rattle.su_exec.specs.inside.Coded.{AreCoded, Extends, IsCoded, meaning, meanings}
+use Rattle.su_exec.specs.inside.Edges.{Edge}
+use Rattle.su_exec.specs.inside.Joins.{AreBelow}
 
 pub extends_self : (values : List Value) → Extends values values
 extends_self values = record { longer = omega arith; same = λ code l. refl }

@@ -10,7 +10,7 @@ use Rattle.su_tableau.specs.declared.symbols.Sym.{Sym}
 use Rattle.su_tableau.specs.declared.symbols.Sym.TheVariants.{Const, Var}
 use Rattle.su_exec.specs.declared.tasks.Task.{Task}
 use Rattle.su_exec.specs.declared.tasks.TaskRow.{TaskRow}
-use Rattle.su_exec.specs.Labels.{IsFirst}
+use Rattle.su_exec.specs.inside.Labels.{IsFirst}
 use Rattle.su_exec.specs.Tasks.{StandsIn}
 
 -- the least number below n that passes, or none

@@ -3,9 +3,9 @@ use Rattle.std.proofs.Common.{◌≡◌, ℕ, ◌⊎◌, List, length, get_or, C
 use Rattle.std.specs.Prelude.{map}
 use Rattle.std.proofs.lemmas.List.Elements.{All-contains, Contains-get_or}
 use Rattle.su_base.specs.declared.values.Value.{Value}
-use Rattle.su_exec.specs.Checks.{decode}
-use Rattle.su_exec.specs.Coded.{AreCoded, Extends, IsGathered}
-use Rattle.su_exec.specs.Joins.{AreBelow}
+use Rattle.su_exec.specs.inside.Checks.{decode}
+use Rattle.su_exec.specs.inside.Coded.{AreCoded, Extends, IsGathered}
+use Rattle.su_exec.specs.inside.Joins.{AreBelow}
 use Rattle.su_exec.proofs.Extending.{extends_self, extends_then, below_up, decode_row, contains_map, row_of}
 
 -- nothing is added, where nothing is there to be added

@@ -4,8 +4,8 @@ use Rattle.std.specs.Prelude.{cond, nat_eq}
 use Rattle.std.proofs.lemmas.Bool.{cases_lt, cases_eq}
 use Rattle.std.proofs.lemmas.Bool.Decides.{nat_tests}
 use Rattle.std.proofs.lemmas.List.{get_or-set_same, get_or-set_other, length-set, length-take-le}
-use Rattle.su_exec.specs.Joins.{pick, AllDiffer}
-use Rattle.su_exec.specs.Chains.{last, hash_of, in_bucket, IsHashed}
+use Rattle.su_exec.specs.inside.Joins.{pick, AllDiffer}
+use Rattle.su_exec.specs.inside.Chains.{last, hash_of, in_bucket, IsHashed}
 
 -- tests that are the same below n have the same last number
 last_same : (p q : ℕ → Bool) (n : ℕ) → ((j : ℕ) → j < n → p j ≡ q j) → last p n ≡ last q n

@@ -4,7 +4,7 @@ use Rattle.std.specs.Prelude.{nat_eq, cond, ◌&&◌}
 use Rattle.std.proofs.lemmas.Bool.Decides.{nat_tests}
 use Rattle.std.proofs.lemmas.Bool.{cases_eq, cases_Bool, true≢false}
 use Rattle.std.proofs.lemmas.List.Folds.{list_any_at}
-use Rattle.su_exec.specs.Edges.{Edge, FitsAll, has, among, always, Agree, Goes, Keeps, Splits, Enough, IsWithin, IsTestOf, Same}
+use Rattle.su_exec.specs.inside.Edges.{Edge, FitsAll, has, among, always, Agree, Goes, Keeps, Splits, Enough, IsWithin, IsTestOf, Same}
 
 -- ---- agreeing
 

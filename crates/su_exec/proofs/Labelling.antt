@@ -9,7 +9,7 @@ use Rattle.std.proofs.lemmas.List.FromFn.{length-range_with_len, get_or-range_wi
 use Rattle.su_exec.specs.declared.tasks.Task.{Task}
 use Rattle.su_exec.specs.Tasks.{StandsIn}
 use Rattle.su_exec.specs.Components.{AreCompared, AreConnected, shared, compared, IsLabelling}
-use Rattle.su_exec.specs.Labels.{label_of, relabelled, AreLabels, IsFirst, IsFirstOf, KeepsLabels}
+use Rattle.su_exec.specs.inside.Labels.{label_of, relabelled, AreLabels, IsFirst, IsFirstOf, KeepsLabels}
 use Rattle.su_exec.specs.declared.tasks.TaskRow.{TaskRow}
 use Rattle.su_tableau.specs.declared.symbols.Sym.{Sym}
 use Rattle.su_tableau.specs.declared.symbols.Sym.TheVariants.{Var}

@@ -15,9 +15,9 @@ use Rattle.su_rel.specs.Stored.{Stored}
 use Rattle.su_tableau.specs.declared.symbols.Sym.TheVariants.{Var}
 use Rattle.su_exec.specs.declared.tasks.Task.{Task}
 use Rattle.su_exec.specs.declared.tasks.TaskRow.{TaskRow}
-use Rattle.su_exec.specs.Checks.{decode}
-use Rattle.su_exec.specs.Coded.{AgreesAt, AreRowEdges, AreSoFar, Extends, IsCoded, IsRowEdge, NoneAgrees, left_share, meaning, meanings}
-use Rattle.su_exec.specs.Edges.{Edge, Fits, FitsAll, among}
+use Rattle.su_exec.specs.inside.Checks.{decode}
+use Rattle.su_exec.specs.inside.Coded.{AgreesAt, AreRowEdges, AreSoFar, Extends, IsCoded, IsRowEdge, NoneAgrees, left_share, meaning, meanings}
+use Rattle.su_exec.specs.inside.Edges.{Edge, Fits, FitsAll, among}
 use Rattle.su_exec.specs.Outputs.{Agrees}
 use Rattle.su_exec.specs.Shares.{row_share, task_share}
 use Rattle.su_exec.proofs.Extending.{edges_up, meanings_same}

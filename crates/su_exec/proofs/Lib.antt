@@ -12,6 +12,7 @@ pub mod Reading
 pub mod Testing
 pub mod Labelling
 pub mod Listing
+pub mod Losing
 pub mod Ranging
 pub mod Stepping
 pub mod Over
@@ -19,6 +20,7 @@ pub mod Bridging
 pub mod Extending
 pub mod Gathering
 pub mod Shaping
+pub mod Siding
 pub mod Sorting
 pub mod Accessing
 pub mod Sourcing

@@ -12,7 +12,7 @@ use Rattle.std.proofs.lemmas.List.Kept.{IsStrictlySortedBy-filter}
 use Rattle.std.proofs.lemmas.Map.Keys.{sorted_from_strictly_increasing, below_from_sorted}
 use Rattle.su_exec.specs.declared.tasks.Task.{Task}
 use Rattle.su_exec.specs.Components.{IsLabelling, AreTogether, AreComponents, first_of}
-use Rattle.su_exec.specs.Labels.{label_of, AreLabels, rows_of, own_rows}
+use Rattle.su_exec.specs.inside.Labels.{label_of, AreLabels, rows_of, own_rows}
 
 -- ---- filters
 

@@ -2,8 +2,8 @@
 use Rattle.std.proofs.Common.{◌≡◌, ◌++◌, ℕ, ◌<◌, List, [], length, get_or, sym, ap, ◌∙◌}
 use Rattle.su_base.specs.declared.values.Value.{Value}
 use Rattle.su_exec.specs.declared.joins.Plan.{Plan}
-use Rattle.su_exec.specs.Joins.{pick, Gives}
-use Rattle.su_exec.specs.Plans.{IsMade, columns_of, made_of, passes_of}
+use Rattle.su_exec.specs.inside.Joins.{pick, Gives}
+use Rattle.su_exec.specs.inside.Plans.{IsMade, columns_of, made_of, passes_of}
 
 pub made_gives : (values : List Value) (plan : Plan) (row other r : List ℕ) (rs : List (List ℕ)) (j : ℕ) → j < length rs → other ≡ get_or rs j [] → IsMade values plan row other r → Gives row rs (columns_of plan) (passes_of values plan) r
 made_gives values plan row other r rs j h e m = record {

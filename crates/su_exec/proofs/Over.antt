@@ -4,8 +4,8 @@ use Rattle.std.specs.Prelude.{map}
 use Rattle.std.proofs.lemmas.Bool.{cases_lt}
 use Rattle.su_exec.specs.declared.merging.Merged.{Merged}
 use Rattle.su_exec.specs.declared.merging.Merged.TheVariants.{Whole, Over, Nothing}
-use Rattle.su_exec.specs.Bodies.{HasMore, IsEmpty, IsGiven, IsMerged, IsOver, IsTold}
-use Rattle.su_exec.specs.Edges.{Edge, Keeps, always}
+use Rattle.su_exec.specs.inside.Bodies.{HasMore, IsEmpty, IsGiven, IsMerged, IsOver, IsTold}
+use Rattle.su_exec.specs.inside.Edges.{Edge, Keeps, always}
 use Rattle.su_exec.proofs.Keeping.{agree_at, agree_from, keeps_trans}
 
 module _ (needed : List ℕ) (bound : ℕ) (es rest : List (Edge ℕ)) (s u : (ℕ → ℕ) → Bool) (over : IsOver needed (Some bound) es s rest u) (some : IsGiven [] rest u []) where

@@ -3,7 +3,7 @@ use Rattle.std.proofs.Common.{◌≡◌, ◌≢◌, ℕ, ◌<◌, ◌↔◌, Boo
 use Rattle.std.proofs.lemmas.Bool.{cases_eq}
 use Rattle.std.proofs.lemmas.List.{get_or_default, get_or-set_same, get_or-set_other, length-set}
 use Rattle.std.proofs.lemmas.List.Elements.{All-cons, All-nil, All-head}
-use Rattle.su_exec.specs.Edges.{Edge, Fits, FitsAll, has, always, Agree, Keeps, Same}
+use Rattle.su_exec.specs.inside.Edges.{Edge, Fits, FitsAll, has, always, Agree, Keeps, Same}
 use Rattle.su_exec.proofs.Keeping.{agree_from, agree_at}
 
 pub fits_by : (v w : ℕ → ℕ) (ks : List ℕ) (e : Edge ℕ) → Agree ks v w → ((k : ℕ) → has e.vars k ≡ true → has ks k ≡ true) → Fits w e → Fits v e
@@ -18,15 +18,15 @@ fits_join a b g s all keeps v x y =
     let w = keeps.0 v (pair v a b x y) (all v) in
     fits_by v w.valuation g.vars g w.same (λ k h. h) (All-head (λ e. Fits w.valuation e) g [] w.fits)
 
--- the semijoin of a by the keys of b
+-- the join of a with b, of which all columns of a are kept
 pub semijoin_same :
-    (a b keys g : Edge ℕ) (s t : (ℕ → ℕ) → Bool) → ((v : ℕ → ℕ) → s v ≡ true) → ((v : ℕ → ℕ) → t v ≡ true)
-    → Keeps keys.vars (b ∷ b ∷ []) s (keys ∷ []) always → Keeps g.vars (a ∷ keys ∷ []) t (g ∷ []) always → ((k : ℕ) → has a.vars k ≡ true → has g.vars k ≡ true) → (v : ℕ → ℕ) → (Fits v a × Fits v b) ↔ (Fits v g × Fits v b)
-semijoin_same a b keys g s t all_s all_t project join within v = (
-  λ h. (fits_join a keys g t all_t join v h.0 (fits_join b b keys s all_s project v h.1 h.1), h.1),
+    (a b g : Edge ℕ) (t : (ℕ → ℕ) → Bool) → ((v : ℕ → ℕ) → t v ≡ true)
+    → Keeps g.vars (a ∷ b ∷ []) t (g ∷ []) always → ((k : ℕ) → has a.vars k ≡ true → has g.vars k ≡ true) → (v : ℕ → ℕ) → (Fits v a × Fits v b) ↔ (Fits v g × Fits v b)
+semijoin_same a b g t all join within v = (
+  λ h. (fits_join a b g t all join v h.0 h.1, h.1),
   λ h.
       let w = join.1 v (All-cons (λ e. Fits v e) g [] h.0 (All-nil (λ e. Fits v e))) refl in
-      (fits_by v w.valuation g.vars a w.same within (All-head (λ e. Fits w.valuation e) a (keys ∷ []) w.fits), h.1),
+      (fits_by v w.valuation g.vars a w.same within (All-head (λ e. Fits w.valuation e) a (b ∷ []) w.fits), h.1),
 )
 
 -- one edge is replaced, in the presence of another

@@ -4,8 +4,8 @@ use Rattle.std.specs.Prelude.{map, cond, nat_eq}
 use Rattle.std.specs.List.{All}
 use Rattle.std.proofs.lemmas.Bool.{cases_eq, true≢false}
 use Rattle.std.proofs.lemmas.Bool.Decides.{nat_tests}
-use Rattle.su_exec.specs.Edges.{has}
-use Rattle.su_exec.specs.Joins.{IsReal, IsApart}
+use Rattle.su_exec.specs.inside.Edges.{has}
+use Rattle.su_exec.specs.inside.Joins.{IsReal, IsApart}
 use Rattle.su_exec.proofs.Keeping.{agree_from}
 
 abbrev read : List ℕ → List ℕ → ℕ → ℕ

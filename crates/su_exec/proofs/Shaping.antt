@@ -11,9 +11,9 @@ use Rattle.su_base.specs.declared.values.Value.TheVariants.{Int}
 use Rattle.su_tableau.specs.declared.symbols.Sym.{Sym}
 use Rattle.su_tableau.specs.declared.symbols.Sym.TheVariants.{Const, Var}
 use Rattle.su_tableau.specs.Tableaux.{value_of, values_of}
-use Rattle.su_exec.specs.Coded.{FitsAt, IsShape, assigned, picked}
-use Rattle.su_exec.specs.Edges.{has}
-use Rattle.su_exec.specs.Joins.{IsApart}
+use Rattle.su_exec.specs.inside.Coded.{FitsAt, IsShape, assigned, picked}
+use Rattle.su_exec.specs.inside.Edges.{has}
+use Rattle.su_exec.specs.inside.Joins.{IsApart}
 use Rattle.su_exec.proofs.Stepping.{has_first, has_second}
 
 -- ---- building a shape

@@ -15,12 +15,12 @@ use Rattle.su_index.specs.Tables.{table_at}
 use Rattle.su_index.proofs.Matched.{has_value-decides, match_of, match_unique}
 use Rattle.su_exec.specs.declared.tasks.Source.{Source}
 use Rattle.su_exec.specs.declared.tasks.TaskRow.{TaskRow}
-use Rattle.su_exec.specs.Checks.{decode}
-use Rattle.su_exec.specs.Coded.{Extends, IsCoded, IsGathered, IsRowEdge, IsShape, IsTaken, meanings, picked}
-use Rattle.su_exec.specs.Edges.{Edge, FitsAll}
+use Rattle.su_exec.specs.inside.Checks.{decode}
+use Rattle.su_exec.specs.inside.Coded.{Extends, IsCoded, IsGathered, IsRowEdge, IsShape, IsTaken, meanings, picked}
+use Rattle.su_exec.specs.inside.Edges.{Edge, FitsAll}
 use Rattle.su_exec.specs.Outputs.{values_at}
 use Rattle.su_exec.specs.Tasks.{FitsTables}
-use Rattle.su_exec.specs.Ways.{AgreesBySources, AreValues, IsAgreed, IsFrom, IsFromCodes, IsFromValue, IsOfSources, only_code}
+use Rattle.su_exec.specs.inside.Ways.{AgreesBySources, AreValues, IsAgreed, IsFrom, IsFromCodes, IsFromValue, IsOfSources, only_code}
 use Rattle.su_exec.proofs.Extending.{meanings_same, row_of}
 use Rattle.su_exec.proofs.Gathering.{gathered_as, gathered_from}
 use Rattle.su_exec.proofs.Keeping.{agree_at}

@@ -8,8 +8,8 @@ use Rattle.std.proofs.lemmas.List.Folds.{list_any-append}
 use Rattle.su_base.specs.declared.values.Value.{Value}
 use Rattle.su_exec.specs.declared.checks.Check.{Check}
 use Rattle.su_exec.specs.declared.checks.Test.{Test}
-use Rattle.su_exec.specs.Edges.{has}
-use Rattle.su_exec.specs.Checks.{all_hold, all_pass, check_holds, check_vars, test_passes, vars_of}
+use Rattle.su_exec.specs.inside.Edges.{has}
+use Rattle.su_exec.specs.inside.Checks.{all_hold, all_pass, check_holds, check_vars, test_passes, vars_of}
 
 and_assoc : (a b c : Bool) → ((a && b) && c) ≡ (a && (b && c))
 and_assoc true b c = refl

@@ -10,10 +10,10 @@ use Rattle.std.proofs.lemmas.List.Folds.{Any-from_list_any, list_any_at}
 use Rattle.su_base.specs.declared.values.Value.{Value}
 use Rattle.su_exec.specs.declared.checks.Check.{Check}
 use Rattle.su_exec.specs.declared.checks.Test.{Test}
-use Rattle.su_exec.specs.Bodies.{AreAlone, AreThere, IsGiven, IsOver, IsWanted}
-use Rattle.su_exec.specs.Checks.{all_hold, all_pass, check_vars}
-use Rattle.su_exec.specs.Edges.{Edge, Fits, FitsAll, Keeps, Splits, among, always, has}
-use Rattle.su_exec.specs.Joins.{IsJoinOf, IsReal, IsUpTo, test_at}
+use Rattle.su_exec.specs.inside.Bodies.{AreAlone, AreThere, IsGiven, IsOver, IsWanted}
+use Rattle.su_exec.specs.inside.Checks.{all_hold, all_pass, check_vars}
+use Rattle.su_exec.specs.inside.Edges.{Edge, Fits, FitsAll, Keeps, Splits, among, always, has}
+use Rattle.su_exec.specs.inside.Joins.{IsJoinOf, IsReal, IsUpTo, test_at}
 use Rattle.su_exec.proofs.Joining.{is_test}
 use Rattle.su_exec.proofs.Keeping.{agree_from, and_both, and_second, fits_agree, patched, patched_in, patched_out}
 use Rattle.su_exec.proofs.Parts.{alone, one_of, put_step, shrunk, test_once, twice}

@@ -2,9 +2,9 @@
 use Rattle.std.proofs.Common.{◌≡◌, ℕ, zero, suc, ◌+◌, ◌<◌, true, List, [], ◌∷◌, ◌++◌, length, take, get_or, sym, ap, ◌∙◌, inr, ⊎_elim, arith}
 use Rattle.std.proofs.lemmas.Bool.{true≢false}
 use Rattle.su_exec.specs.declared.checks.Check.{Check}
-use Rattle.su_exec.specs.Bodies.{IsWanted}
-use Rattle.su_exec.specs.Checks.{check_vars, vars_of}
-use Rattle.su_exec.specs.Edges.{Edge, has}
+use Rattle.su_exec.specs.inside.Bodies.{IsWanted}
+use Rattle.su_exec.specs.inside.Checks.{check_vars, vars_of}
+use Rattle.su_exec.specs.inside.Edges.{Edge, has}
 use Rattle.su_exec.proofs.Stepping.{has_either, has_first, has_second}
 use Rattle.su_exec.proofs.Testing.{has_more, or_either}
 

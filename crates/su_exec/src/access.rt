@@ -4,10 +4,10 @@ ghost use Rattle.su_base.specs.declared.values.Value.{Value as AValue};
 ghost use Rattle.su_tableau.specs.declared.symbols.Sym.TheVariants.{Const};
 ghost use Rattle.su_index.specs.Matches.{matches};
 ghost use Rattle.su_index.specs.Tables.{table_at};
-ghost use Rattle.su_exec.specs.Coded.{AreCoded, Extends, IsCoded};
+ghost use Rattle.su_exec.specs.inside.Coded.{AreCoded, Extends, IsCoded};
 ghost use Rattle.su_exec.specs.Shares.{share};
 ghost use Rattle.su_exec.specs.Tasks.{FitsTables, HasSources};
-ghost use Rattle.su_exec.specs.Ways.{IsCheapest, IsWay, matches_all};
+ghost use Rattle.su_exec.specs.inside.Ways.{IsCheapest, IsWay, matches_all};
 
 use crate::candidates::Candidates;
 use crate::codes::Codes;

@@ -3,9 +3,9 @@ ghost use Rattle.std.specs.Prelude.{◌≡◌, ◌≤◌, ◌↔◌, ℕ, true, 
 ghost use Rattle.std.specs.List.Sorted.{IsStrictlySortedBy};
 ghost use Rattle.su_base.specs.declared.values.Value.{Value as AValue};
 ghost use Rattle.su_base.specs.Value.{compare_lists};
-ghost use Rattle.su_exec.specs.Checks.{HasTerm, IsSpotIn, vars_of};
-ghost use Rattle.su_exec.specs.Edges.{has};
-ghost use Rattle.su_exec.specs.Shown.{AreSpotsOf, IsShown, ShowsMore, spot_values, term_vars};
+ghost use Rattle.su_exec.specs.inside.Checks.{HasTerm, IsSpotIn, vars_of};
+ghost use Rattle.su_exec.specs.inside.Edges.{has};
+ghost use Rattle.su_exec.specs.inside.Shown.{AreSpotsOf, IsShown, ShowsMore, spot_values, term_vars};
 ghost use Rattle.su_exec.specs.declared.tasks.ExecFault.TheVariants.{More};
 
 use crate::candidates::Candidates;

@@ -1,9 +1,9 @@
 //! Candidates: variables, and the values that they may have together.
-ghost use Rattle.std.specs.Prelude.{◌≡◌, ℕ, true, [], ◌∷◌, ◌++◌, length, All, IfOk};
-ghost use Rattle.su_exec.specs.Checks.{IsTestIn, all_pass};
-ghost use Rattle.su_exec.specs.Edges.{has, among};
-ghost use Rattle.su_exec.specs.Joins.{pick, AreBelow, FitColumns, IsApart, IsJoinOf, IsReal, out_vars};
-ghost use Rattle.su_exec.specs.Plans.{FitsPlan, columns_of, passes_of};
+ghost use Rattle.std.specs.Prelude.{◌≡◌, ℕ, true, List, [], ◌∷◌, ◌++◌, length, All, Contains, IfOk};
+ghost use Rattle.su_exec.specs.inside.Checks.{IsTestIn, all_pass};
+ghost use Rattle.su_exec.specs.inside.Edges.{has, among};
+ghost use Rattle.su_exec.specs.inside.Joins.{pick, AreBelow, FitColumns, IsApart, IsJoinOf, IsReal, out_vars};
+ghost use Rattle.su_exec.specs.inside.Plans.{FitsPlan, columns_of, passes_of};
 
 use crate::checks::Test;
 use crate::codes::Codes;
@@ -22,8 +22,8 @@ pub struct Candidates {
 
 impl Model for Candidates {
     ghost use Rattle.std.specs.Prelude.{◌≡◌, ℕ, length};
-    ghost use Rattle.su_exec.specs.Edges.{Edge};
-    ghost use Rattle.su_exec.specs.Joins.{IsReal};
+    ghost use Rattle.su_exec.specs.inside.Edges.{Edge};
+    ghost use Rattle.su_exec.specs.inside.Joins.{IsReal};
 
     ghost Value = { Edge ℕ };
 
@@ -59,6 +59,17 @@ impl Candidates {
         let mut rows = Sheet::new(alloc, 0);
         rows.push(&[])?;
         Ok(Candidates::apart(Vec::new(alloc), rows))
+    }
+
+    /// Some of these rows, over the same variables.
+    pub fn with_rows(&self, alloc: Global, rows: Sheet) -> Result<Candidates, AllocError>
+        requires width { rows.width ≡ length self.now.vars }
+        requires some { (r : List ℕ) → Contains rows.rows r → Contains self.now.rows r }
+        ensures { IfOk result (λ e. e ≡ record { vars = self.now.vars; rows = rows.rows }) }
+    {
+        self.rows();
+        let vars = Vec::from_slice(alloc, &self.vars)?;
+        Ok(Candidates::new(vars, rows))
     }
 
     /// The variables.

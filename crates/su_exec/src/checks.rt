@@ -1,8 +1,8 @@
 //! Comparisons of codes, and where a pair of rows has what they compare.
 ghost use Rattle.std.specs.Prelude.{◌≡◌, ◌&&◌, ◌||◌, ℕ, true, false, List, [], ◌∷◌, map, length, All, IfSome, IfNone, IfOk};
 ghost use Rattle.su_base.specs.declared.values.Value.{Value as AValue};
-ghost use Rattle.su_exec.specs.Edges.{has};
-ghost use Rattle.su_exec.specs.Checks.{all_hold, all_pass, check_holds, check_vars, vars_of, spot_code, test_passes, HasTerm, IsSpotIn, IsTestIn};
+ghost use Rattle.su_exec.specs.inside.Edges.{has};
+ghost use Rattle.su_exec.specs.inside.Checks.{all_hold, all_pass, check_holds, check_vars, vars_of, spot_code, test_passes, HasTerm, IsSpotIn, IsTestIn};
 
 use crate::codes::Codes;
 use crate::places::place_of;
@@ -132,7 +132,7 @@ pub fn code_at(spot: Spot, row: &[u32], other: &[u32]) -> u32
 }
 
 /// Whether the pair of rows passes the test.
-fn passes_one(codes: &Codes, test: Test, row: &[u32], other: &[u32]) -> bool
+pub fn passes_one(codes: &Codes, test: Test, row: &[u32], other: &[u32]) -> bool
     requires { IsTestIn (length row.now) (length other.now) test }
     ensures { result ≡ test_passes codes.now row.now other.now test }
 {

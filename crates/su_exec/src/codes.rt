@@ -1,7 +1,7 @@
 //! Values by number, so that rows are lists of numbers while they are joined.
 ghost use Rattle.std.specs.Prelude.{◌≡◌, ◌⊎◌, [], ◌∷◌, ◌++◌, pos, get_or, IfOk, slice_get};
 ghost use Rattle.su_base.specs.declared.values.Value.TheVariants.{Int};
-ghost use Rattle.su_exec.specs.Checks.{AreApart};
+ghost use Rattle.su_exec.specs.inside.Checks.{AreApart};
 
 use indexmap::IndexSet;
 use std::alloc::{AllocError, Global};

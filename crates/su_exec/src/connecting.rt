@@ -4,7 +4,7 @@ ghost use Rattle.std.specs.List.{range_with_len};
 ghost use Rattle.su_exec.specs.Tasks.{StandsIn};
 ghost use Rattle.su_tableau.specs.declared.symbols.Sym.TheVariants.{Var};
 ghost use Rattle.su_exec.specs.Components.{AreComponents, AreConnected, IsLabelling};
-ghost use Rattle.su_exec.specs.Labels.{AreLabels, IsFirst, IsFirstOf, KeepsLabels, label_of, relabelled, rows_of};
+ghost use Rattle.su_exec.specs.inside.Labels.{AreLabels, IsFirst, IsFirstOf, KeepsLabels, label_of, relabelled, rows_of};
 
 use crate::shapes::variable_of;
 use crate::tasks::{Compared, Task};

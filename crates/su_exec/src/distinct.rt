@@ -1,7 +1,7 @@
 //! Rows of codes, each once.
 ghost use Rattle.std.specs.Prelude.{◌≡◌, ◌↔◌, ◌⊎◌, ℕ, ◌%◌, List, [], length, Contains, IsTrue, IfOk, OnOk};
-ghost use Rattle.su_exec.specs.Chains.{IsHashed, hash_of};
-ghost use Rattle.su_exec.specs.Joins.{AllDiffer, pick};
+ghost use Rattle.su_exec.specs.inside.Chains.{IsHashed, hash_of};
+ghost use Rattle.su_exec.specs.inside.Joins.{AllDiffer, pick};
 
 use crate::hashes::{bucket, fill};
 use crate::sheets::Sheet;
@@ -18,8 +18,8 @@ pub struct Distinct {
 }
 
 impl Model for Distinct {
-    ghost use Rattle.su_exec.specs.Sheets.{Rows};
-    ghost use Rattle.su_exec.specs.Chains.{IsHashed};
+    ghost use Rattle.su_exec.specs.inside.Sheets.{Rows};
+    ghost use Rattle.su_exec.specs.inside.Chains.{IsHashed};
 
     ghost Value = { Rows };
 

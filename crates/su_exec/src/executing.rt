@@ -1,7 +1,7 @@
 //! The outputs of all valuations.
 ghost use Rattle.std.specs.Prelude.{◌≡◌, ◌≤◌, ◌+◌, length, IfOk, IfErr};
-ghost use Rattle.su_exec.specs.Coded.{Extends};
-ghost use Rattle.su_exec.specs.Shown.{AreChecksOf, AreTermsOf, HasSomeEdge, HasVars, IsCheckOf, IsMoreBy, IsShownBy, IsTermOf, term_vars};
+ghost use Rattle.su_exec.specs.inside.Coded.{Extends};
+ghost use Rattle.su_exec.specs.inside.Shown.{AreChecksOf, AreTermsOf, HasSomeEdge, HasVars, IsCheckOf, IsMoreBy, IsShownBy, IsTermOf, term_vars};
 ghost use Rattle.su_exec.specs.Tasks.{IsTask};
 ghost use Rattle.su_exec.specs.Outputs.{AreOutputs, AreMore};
 ghost use Rattle.su_exec.specs.Shares.{task_share};

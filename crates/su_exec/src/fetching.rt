@@ -4,13 +4,13 @@ ghost use Rattle.su_base.specs.declared.values.Value.{Value as AValue};
 ghost use Rattle.su_rel.specs.Stored.{IsRelation};
 ghost use Rattle.su_index.specs.Matches.{matches};
 ghost use Rattle.su_index.specs.Tables.{table_at};
-ghost use Rattle.su_exec.specs.Checks.{decode};
-ghost use Rattle.su_exec.specs.Coded.{AreCoded, AreRowEdges, AreSoFar, Extends, IsCoded, IsGathered, IsRowEdge, IsShape, IsTaken, NoneAgrees, picked};
-ghost use Rattle.su_exec.specs.Joins.{AreBelow};
+ghost use Rattle.su_exec.specs.inside.Checks.{decode};
+ghost use Rattle.su_exec.specs.inside.Coded.{AreCoded, AreRowEdges, AreSoFar, Extends, IsCoded, IsGathered, IsRowEdge, IsShape, IsTaken, NoneAgrees, picked};
+ghost use Rattle.su_exec.specs.inside.Joins.{AreBelow};
 ghost use Rattle.su_exec.specs.Outputs.{values_at};
 ghost use Rattle.su_exec.specs.Shares.{row_share, share, task_share};
 ghost use Rattle.su_exec.specs.Tasks.{FitsTables, HasSources};
-ghost use Rattle.su_exec.specs.Ways.{AreValues, IsAgreed, IsFrom, IsFromCodes, IsFromValue, matches_all};
+ghost use Rattle.su_exec.specs.inside.Ways.{AreValues, IsAgreed, IsFrom, IsFromCodes, IsFromValue, matches_all};
 
 use crate::access::{Way, access_of, share_of};
 use crate::candidates::Candidates;

@@ -1,7 +1,7 @@
 //! Hashes of rows at some places, and chains of the rows with one hash.
 ghost use Rattle.std.specs.Prelude.{◌≡◌, ◌↔◌, ℕ, ◌%◌, ◌<◌, true, length, get_or, IsTrue};
-ghost use Rattle.su_exec.specs.Chains.{hash_of, in_bucket, last};
-ghost use Rattle.su_exec.specs.Joins.{pick, AreBelow};
+ghost use Rattle.su_exec.specs.inside.Chains.{hash_of, in_bucket, last};
+ghost use Rattle.su_exec.specs.inside.Joins.{pick, AreBelow};
 
 use crate::sheets::Sheet;
 

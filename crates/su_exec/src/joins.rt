@@ -1,8 +1,8 @@
 //! The join of two lists of rows of codes, of which some columns are kept.
 ghost use Rattle.std.specs.Prelude.{◌≡◌, ◌↔◌, ◌⊎◌, ℕ, ◌+◌, ◌<◌, ◌≤◌, List, [], ◌++◌, length, get_or, Contains, IsTrue, IfOk, MatchBool};
-ghost use Rattle.su_exec.specs.Chains.{IsChain, in_bucket, last};
-ghost use Rattle.su_exec.specs.Joins.{pick, AllDiffer, AreBelow, Gives, IsJoin, IsUpTo};
-ghost use Rattle.su_exec.specs.Plans.{FitsPlan, IsMade, columns_of, made_of, passes_of};
+ghost use Rattle.su_exec.specs.inside.Chains.{IsChain, in_bucket, last};
+ghost use Rattle.su_exec.specs.inside.Joins.{pick, AllDiffer, AreBelow, Gives, IsJoin, IsUpTo};
+ghost use Rattle.su_exec.specs.inside.Plans.{FitsPlan, IsMade, columns_of, made_of, passes_of};
 
 use crate::checks::{Test, passes};
 use crate::codes::Codes;

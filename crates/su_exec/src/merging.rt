@@ -1,16 +1,17 @@
 //! A body: candidates that are to agree, and checks that are to hold. It is merged to one.
 ghost use Rattle.std.specs.Prelude.{◌≡◌, ◌<◌, ◌+◌, ◌++◌, ◌⊎◌, ℕ, true, [], ◌∷◌, length, None, IfOk, IsTrue, MatchBool};
-ghost use Rattle.su_exec.specs.Bodies.{AreAlone, AreThere, IsEmpty, IsGiven, IsMerged, IsOver, IsTold, IsWanted};
-ghost use Rattle.su_exec.specs.Checks.{all_hold, check_vars, vars_of};
-ghost use Rattle.su_exec.specs.Edges.{Fits, Keeps, always, among, has};
+ghost use Rattle.su_exec.specs.inside.Bodies.{AreAlone, AreThere, IsEmpty, IsGiven, IsMerged, IsOver, IsTold, IsWanted};
+ghost use Rattle.su_exec.specs.inside.Checks.{all_hold, check_vars, vars_of};
+ghost use Rattle.su_exec.specs.inside.Edges.{Fits, Keeps, always, among, has};
 
 use crate::candidates::{Candidates, join_all};
 use crate::checks::{Check, Term, Test, take_tests};
 use crate::codes::Codes;
 use crate::joins::is_past;
+use crate::narrowing::narrow;
 use crate::order::choose;
 use crate::places::is_in;
-use crate::reducing::reduce;
+use crate::reducing::{has_empty, reduce};
 use std::alloc::{AllocError, Global};
 
 /// Candidates that are to agree, and checks that are to hold.
@@ -250,6 +251,9 @@ fn merge_all(
 {
     let mut body = body;
     while body.edges.len() > 1 {
+        if has_empty(&body.edges) {
+            return Ok(Merged::Nothing);
+        }
         let over = merge_next(alloc, codes, &mut body, needed, most)?;
         if over {
             let merged = told(alloc, codes, body)?;
@@ -275,7 +279,8 @@ pub fn run(
 {
     let mut body = body;
     shrink_all(alloc, codes, &mut body, needed)?;
-    let Body { edges, checks } = body;
+    let Body { mut edges, checks } = body;
+    narrow(alloc, codes, &mut edges, &checks)?;
     let reduced = reduce(alloc, codes, edges)?;
     let rest = Body {
         edges: reduced,

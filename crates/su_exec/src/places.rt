@@ -1,7 +1,7 @@
 //! Places of variables.
 ghost use Rattle.std.specs.Prelude.{◌≡◌, ◌↔◌, ℕ, ◌+◌, ◌<◌, true, false, List, [], ◌∷◌, length, get_or, MatchOption, IfOk};
-ghost use Rattle.su_exec.specs.Edges.{has};
-ghost use Rattle.su_exec.specs.Joins.{pick, AreBelow};
+ghost use Rattle.su_exec.specs.inside.Edges.{has};
+ghost use Rattle.su_exec.specs.inside.Joins.{pick, AreBelow};
 
 use std::alloc::{AllocError, Global};
 

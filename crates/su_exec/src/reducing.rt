@@ -1,6 +1,6 @@
 //! Semijoins.
-ghost use Rattle.std.specs.Prelude.{◌≡◌, ◌↔◌, ℕ, true, length, IfOk};
-ghost use Rattle.su_exec.specs.Edges.{Fits, Same, among, has};
+ghost use Rattle.std.specs.Prelude.{◌≡◌, ◌↔◌, ℕ, true, length, IfOk, IsTrue};
+ghost use Rattle.su_exec.specs.inside.Edges.{Fits, FitsAll, Same, among, has};
 
 use crate::candidates::{Candidates, join_all};
 use crate::codes::Codes;
@@ -17,8 +17,7 @@ fn semijoin(
     ensures same { IfOk result (λ g. (v : ℕ → ℕ) → (Fits v a.now × Fits v b.now) ↔ (Fits v g × Fits v b.now)) }
     ensures vars { IfOk result (λ g. (k : ℕ) → has a.now.vars k ≡ true → has g.vars k ≡ true) }
 {
-    let keys = join_all(alloc, codes, b, b, Vec::new(alloc), a.vars(), None)?;
-    let joined = join_all(alloc, codes, a, &keys, Vec::new(alloc), a.vars(), None)?;
+    let joined = join_all(alloc, codes, a, b, Vec::new(alloc), a.vars(), None)?;
     Ok(joined)
 }
 
@@ -55,8 +54,20 @@ fn up_and_down(alloc: Global, edges: &[Candidates]) -> Result<Vec<(usize, usize)
     Ok(pairs)
 }
 
+/// Whether one of them has no rows.
+pub fn has_empty(edges: &[Candidates]) -> bool
+    ensures { IsTrue result → (v : ℕ → ℕ) → ¬ FitsAll v edges.now }
+{
+    for edge in edges {
+        if edge.len() == 0 {
+            return true;
+        }
+    }
+    false
+}
+
 /// The candidates without rows that have no partners. Where all are ears, what is left are the rows
-/// that take part in some valuation.
+/// that take part in some valuation. It ends at the first that has no rows left.
 pub fn reduce(
     alloc: Global,
     codes: &Codes,
@@ -69,6 +80,9 @@ pub fn reduce(
     let order = up_and_down(alloc, &body)?;
     let mut edges = body;
     for (i, j) in &order {
+        if has_empty(&edges) {
+            return Ok(edges);
+        }
         reduce_one(alloc, codes, &mut edges, *i, *j)?;
     }
     Ok(edges)

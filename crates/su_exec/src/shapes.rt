@@ -4,7 +4,7 @@ ghost use Rattle.su_base.specs.declared.values.Value.{Value as AValue};
 ghost use Rattle.su_base.specs.declared.values.Value.TheVariants.{Int};
 ghost use Rattle.su_tableau.specs.declared.symbols.Sym.TheVariants.{Var};
 ghost use Rattle.su_tableau.specs.Tableaux.{values_of};
-ghost use Rattle.su_exec.specs.Coded.{FitsAt, IsShape};
+ghost use Rattle.su_exec.specs.inside.Coded.{FitsAt, IsShape};
 ghost use Rattle.su_exec.specs.Outputs.{values_at};
 
 use crate::places::{is_in, place_of};

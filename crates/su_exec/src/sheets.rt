@@ -14,7 +14,7 @@ pub struct Sheet {
 
 impl Model for Sheet {
     ghost use Rattle.std.specs.Prelude.{◌≡◌, ◌*◌, length};
-    ghost use Rattle.su_exec.specs.Sheets.{Rows, cut};
+    ghost use Rattle.su_exec.specs.inside.Sheets.{Rows, cut};
 
     ghost Value = { Rows };
 

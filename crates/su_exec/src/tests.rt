@@ -381,6 +381,9 @@ fn rows_are_joined_over_their_sources(rt: HostRuntime) -> Result<(), Fail> {
         ("X Y : 001 110", "X Y", "", "100 1; 250 2; B1 1; B2 2"),
         // comparisons within a row, between rows, with a constant
         ("A X : 101; B Y : 101", "A B", "X < Y", "1 2"),
+        // comparisons that exclude one another, and that leave what is equal
+        ("A X : 101; B Y : 101", "A B", "X < Y; Y < X", ""),
+        ("A X : 101; B Y : 101", "A B", "X <= Y; Y <= X", "1 1; 2 2"),
         ("A X : 101", "A", "X > 100", "2"),
         ("A X : 101", "A", "X >= 100; A != 2", "1"),
         ("A X : 101", "A", "1 < 2", "1; 2"),

@@ -1,6 +1,6 @@
 use Rattle.std.proofs.Common.{◌≤◌}
 use Rattle.su_exec.specs.Shares.{share}
-use Rattle.su_exec.specs.Ways.{IsWay}
+use Rattle.su_exec.specs.inside.Ways.{IsWay}
 use Rattle.su_exec.proofs.access.access_of.Given as goal
 
 abbrev pub invariant-loop-p : goal.invariant-loop-p

@@ -3,7 +3,7 @@ use Rattle.su_base.specs.declared.values.Value.{Value}
 use Rattle.su_tableau.specs.declared.symbols.Sym.TheVariants.{Const}
 use Rattle.su_index.specs.Matches.{matches}
 use Rattle.su_index.specs.Tables.{table_at}
-use Rattle.su_exec.specs.Ways.{IsCheapest}
+use Rattle.su_exec.specs.inside.Ways.{IsCheapest}
 use Rattle.su_exec.proofs.access.cheapest_of.Given as goal
 
 abbrev pub invariant-loop-p : goal.invariant-loop-p

@@ -1,6 +1,6 @@
 use Rattle.std.proofs.Common.{◌<◌, ◌≤◌, take}
 use Rattle.su_index.specs.Tables.{table_at}
-use Rattle.su_exec.specs.Ways.{matches_all}
+use Rattle.su_exec.specs.inside.Ways.{matches_all}
 use Rattle.su_exec.proofs.access.matching_all.Given as goal
 
 abbrev pub invariant-loop-i : goal.invariant-loop-i

@@ -1,7 +1,7 @@
 use Rattle.std.proofs.Common.{◌≡◌, List, ℕ, length, map, Contains, sym, ap, subst, ◌∙◌, arith}
 use Rattle.su_base.specs.declared.values.Value.{Value}
-use Rattle.su_exec.specs.Edges.{Edge}
-use Rattle.su_exec.specs.Shown.{AreSpotsOf, spot_values}
+use Rattle.su_exec.specs.inside.Edges.{Edge}
+use Rattle.su_exec.specs.inside.Shown.{AreSpotsOf, spot_values}
 use Rattle.su_exec.specs.declared.checks.Spot.{Spot}
 use Rattle.su_exec.proofs.Showing.{shown, shows_more, spots_within}
 use Rattle.su_exec.proofs.answering.answers.Goals as goal

@@ -2,8 +2,8 @@ use Rattle.std.proofs.Common.{◌≡◌, ◌++◌, ◌∷◌, [], List, ℕ, get
 use Rattle.std.specs.Prelude.{All}
 use Rattle.std.proofs.lemmas.List.{map_more}
 use Rattle.su_base.specs.declared.values.Value.{Value}
-use Rattle.su_exec.specs.Checks.{IsSpotIn}
-use Rattle.su_exec.specs.Shown.{spot_values}
+use Rattle.su_exec.specs.inside.Checks.{IsSpotIn}
+use Rattle.su_exec.specs.inside.Shown.{spot_values}
 use Rattle.su_exec.proofs.answering.rows_at.Goals as goal
 
 pub row_at-requires : goal.row_at-requires

@@ -1,5 +1,5 @@
 use Rattle.std.proofs.Common.{◌≡◌, true, take}
-use Rattle.su_exec.specs.Checks.{all_pass}
+use Rattle.su_exec.specs.inside.Checks.{all_pass}
 use Rattle.su_exec.proofs.checks.passes.Given as goal
 
 abbrev pub invariant-loop-test : goal.invariant-loop-test

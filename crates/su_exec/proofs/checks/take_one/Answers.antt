@@ -1,6 +1,6 @@
 use Rattle.std.proofs.Common.{◌&&◌, map, sym, ap, ◌∙◌}
-use Rattle.su_exec.specs.Checks.{all_hold, all_pass, check_holds, check_vars, test_passes}
-use Rattle.su_exec.specs.Edges.{has}
+use Rattle.su_exec.specs.inside.Checks.{all_hold, all_pass, check_holds, check_vars, test_passes}
+use Rattle.su_exec.specs.inside.Edges.{has}
 use Rattle.su_exec.proofs.Testing.{has_push, hold_push, pass_push, take_later, take_now}
 use Rattle.su_exec.proofs.checks.take_one.Goals as goal
 

@@ -2,8 +2,8 @@ use Rattle.std.proofs.Common.{◌≡◌, ◌<◌, ◌&&◌, ◌||◌, ◌+◌, �
 use Rattle.su_where.specs.declared.operators.Op.TheVariants.{Equal}
 use Rattle.su_exec.specs.declared.checks.Check.{Check}
 use Rattle.su_exec.specs.declared.checks.Term.TheVariants.{Code}
-use Rattle.su_exec.specs.Edges.{has}
-use Rattle.su_exec.specs.Checks.{all_hold, check_holds, check_vars}
+use Rattle.su_exec.specs.inside.Edges.{has}
+use Rattle.su_exec.specs.inside.Checks.{all_hold, check_holds, check_vars}
 use Rattle.su_exec.proofs.Testing.{has_more, hold_more, or_first, or_map, or_second}
 use Rattle.su_exec.proofs.checks.take_tests.Goals as goal
 

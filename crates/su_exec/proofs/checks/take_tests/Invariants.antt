@@ -1,8 +1,8 @@
 use Rattle.std.proofs.Common.{◌≡◌, ◌&&◌, ◌||◌, ℕ, true, List, [], length, take}
 use Rattle.std.specs.Prelude.{All, map}
 use Rattle.su_base.specs.declared.values.Value.{Value}
-use Rattle.su_exec.specs.Edges.{has}
-use Rattle.su_exec.specs.Checks.{all_hold, all_pass, check_vars, IsTestIn}
+use Rattle.su_exec.specs.inside.Edges.{has}
+use Rattle.su_exec.specs.inside.Checks.{all_hold, all_pass, check_vars, IsTestIn}
 use Rattle.su_exec.proofs.checks.take_tests.Given as goal
 
 abbrev pub invariant-loop-check : goal.invariant-loop-check

@@ -2,7 +2,7 @@ use Rattle.std.proofs.Common.{◌≡◌, ◌++◌, ◌∷◌, [], List, ℕ, len
 use Rattle.std.specs.List.{range_with_len}
 use Rattle.std.specs.Prelude.{cond, filter, map, nat_eq}
 use Rattle.su_exec.specs.Components.{AreComponents}
-use Rattle.su_exec.specs.Labels.{label_of, rows_of}
+use Rattle.su_exec.specs.inside.Labels.{label_of, rows_of}
 use Rattle.su_exec.proofs.Listing.{are_components}
 use Rattle.su_exec.proofs.Ranging.{parts_more}
 use Rattle.su_exec.proofs.connecting.components.Goals as goal

@@ -1,7 +1,7 @@
 use Rattle.std.proofs.Common.{◌≡◌}
 use Rattle.std.specs.List.{range_with_len}
 use Rattle.std.specs.Prelude.{filter, map, nat_eq}
-use Rattle.su_exec.specs.Labels.{label_of, rows_of}
+use Rattle.su_exec.specs.inside.Labels.{label_of, rows_of}
 use Rattle.su_exec.proofs.connecting.components.Given as goal
 
 abbrev pub invariant-loop-i : goal.invariant-loop-i

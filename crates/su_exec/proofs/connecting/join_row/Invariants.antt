@@ -1,6 +1,6 @@
 use Rattle.std.proofs.Common.{◌≡◌, ◌<◌, ℕ, Some, slice_get}
 use Rattle.su_tableau.specs.declared.symbols.Sym.TheVariants.{Var}
-use Rattle.su_exec.specs.Labels.{AreLabels, IsFirst, KeepsLabels, label_of}
+use Rattle.su_exec.specs.inside.Labels.{AreLabels, IsFirst, KeepsLabels, label_of}
 use Rattle.su_exec.proofs.connecting.join_row.Given as goal
 
 abbrev pub invariant-loop-p : goal.invariant-loop-p

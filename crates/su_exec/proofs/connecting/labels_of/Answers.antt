@@ -4,7 +4,7 @@ use Rattle.std.proofs.lemmas.Bool.{cases_lt}
 use Rattle.std.proofs.lemmas.List.{with_items_is}
 use Rattle.std.proofs.lemmas.Option.{get_or_from_slice_get, slice_get_within}
 use Rattle.su_exec.specs.declared.tasks.Compared.{Compared}
-use Rattle.su_exec.specs.Labels.{AreLabels, KeepsLabels, label_of}
+use Rattle.su_exec.specs.inside.Labels.{AreLabels, KeepsLabels, label_of}
 use Rattle.su_exec.specs.Tasks.{StandsIn}
 use Rattle.su_exec.proofs.Firsts.{first_exists}
 use Rattle.su_exec.proofs.Labelling.{labelling_is, own_are_labels}

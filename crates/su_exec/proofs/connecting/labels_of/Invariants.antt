@@ -2,7 +2,7 @@ use Rattle.std.proofs.Common.{◌≡◌, ◌<◌, ℕ, get_or}
 use Rattle.su_tableau.specs.declared.symbols.Sym.TheVariants.{Var}
 use Rattle.su_exec.specs.declared.tasks.Compared.{Compared}
 use Rattle.su_exec.specs.Tasks.{StandsIn}
-use Rattle.su_exec.specs.Labels.{AreLabels, IsFirst, label_of}
+use Rattle.su_exec.specs.inside.Labels.{AreLabels, IsFirst, label_of}
 use Rattle.su_exec.proofs.connecting.labels_of.Given as goal
 
 abbrev pub invariant-loop-i : goal.invariant-loop-i

@@ -1,6 +1,6 @@
 use Rattle.std.proofs.Common.{ℕ, [], ◌∷◌, ◌++◌, sym, ap, ◌∙◌}
 use Rattle.std.specs.Prelude.{cond, nat_eq}
-use Rattle.su_exec.specs.Labels.{label_of}
+use Rattle.su_exec.specs.inside.Labels.{label_of}
 use Rattle.su_exec.proofs.Ranging.{passing_more}
 use Rattle.su_exec.proofs.connecting.part_of.Goals as goal
 

@@ -1,8 +1,8 @@
 use Rattle.std.proofs.Common.{◌≡◌, ◌≢◌, ◌-◌, ◌<◌, suc, [], ℕ, length, get_or, ap, sym, ◌∙◌, arith}
 use Rattle.std.proofs.lemmas.Bool.{true≢false}
 use Rattle.std.proofs.lemmas.List.{get_or_default}
-use Rattle.su_exec.specs.Joins.{pick}
-use Rattle.su_exec.specs.Chains.{in_bucket, last}
+use Rattle.su_exec.specs.inside.Joins.{pick}
+use Rattle.su_exec.specs.inside.Chains.{in_bucket, last}
 use Rattle.su_exec.proofs.Chaining.{last_le, last_none, last_again, next_is, all_step, key_bucket}
 use Rattle.su_exec.proofs.distinct.is_among.Goals as goal
 

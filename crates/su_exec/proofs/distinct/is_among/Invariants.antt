@@ -1,5 +1,5 @@
 use Rattle.std.proofs.Common.{◌≡◌, ◌≢◌, ◌<◌, ◌≤◌, ℕ, [], length, get_or}
-use Rattle.su_exec.specs.Chains.{in_bucket, last}
+use Rattle.su_exec.specs.inside.Chains.{in_bucket, last}
 use Rattle.su_exec.proofs.distinct.is_among.Given as goal
 
 abbrev pub invariant-loop-at : goal.invariant-loop-at

@@ -1,6 +1,6 @@
 use Rattle.std.proofs.Common.{take}
-use Rattle.su_exec.specs.Coded.{Extends}
-use Rattle.su_exec.specs.Shown.{AreChecksOf}
+use Rattle.su_exec.specs.inside.Coded.{Extends}
+use Rattle.su_exec.specs.inside.Shown.{AreChecksOf}
 use Rattle.su_exec.proofs.executing.checks_of.Given as goal
 
 abbrev pub invariant-loop-i : goal.invariant-loop-i

@@ -1,6 +1,6 @@
 use Rattle.std.proofs.Common.{◌≡◌, ◌<◌, ◌++◌, ◌∷◌, [], List, ℕ, length, refl, ap, ◌∙◌, inl, inr, rules, arith}
 use Rattle.std.proofs.lemmas.List.{nil_from_length}
-use Rattle.su_exec.specs.Edges.{Edge}
+use Rattle.su_exec.specs.inside.Edges.{Edge}
 use Rattle.su_exec.proofs.executing.some_edges.Goals as goal
 
 pub returns-then-not-is_empty : goal.returns-then-not-is_empty

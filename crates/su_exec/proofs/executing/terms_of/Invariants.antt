@@ -1,6 +1,6 @@
 use Rattle.std.proofs.Common.{take}
-use Rattle.su_exec.specs.Coded.{Extends}
-use Rattle.su_exec.specs.Shown.{AreTermsOf}
+use Rattle.su_exec.specs.inside.Coded.{Extends}
+use Rattle.su_exec.specs.inside.Shown.{AreTermsOf}
 use Rattle.su_exec.proofs.executing.terms_of.Given as goal
 
 abbrev pub invariant-loop-i : goal.invariant-loop-i

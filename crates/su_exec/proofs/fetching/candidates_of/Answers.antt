@@ -6,12 +6,12 @@ use Rattle.su_base.specs.declared.values.Value.{Value}
 use Rattle.su_rel.specs.Stored.{Stored}
 use Rattle.su_index.specs.Tables.{table_at}
 use Rattle.su_exec.specs.declared.tasks.Source.{Source}
-use Rattle.su_exec.specs.Coded.{IsGathered, IsRowEdge}
-use Rattle.su_exec.specs.Edges.{Edge}
-use Rattle.su_exec.specs.Joins.{AreBelow}
+use Rattle.su_exec.specs.inside.Coded.{IsGathered, IsRowEdge}
+use Rattle.su_exec.specs.inside.Edges.{Edge}
+use Rattle.su_exec.specs.inside.Joins.{AreBelow}
 use Rattle.su_exec.specs.Shares.{share}
 use Rattle.su_exec.specs.Tasks.{FitsTables}
-use Rattle.su_exec.specs.Ways.{AgreesBySources, IsAgreed, IsFrom, IsOfSources}
+use Rattle.su_exec.specs.inside.Ways.{AgreesBySources, IsAgreed, IsFrom, IsOfSources}
 use Rattle.su_exec.proofs.Accessing.{sum_more, sum_take}
 use Rattle.su_exec.proofs.Gathering.{gathered_none, gathered_then}
 use Rattle.su_exec.proofs.Shaping.{shape_len}

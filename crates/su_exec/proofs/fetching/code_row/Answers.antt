@@ -4,9 +4,9 @@ use Rattle.std.proofs.lemmas.List.{map_more}
 use Rattle.std.proofs.lemmas.List.Elements.{All-nil}
 use Rattle.su_base.specs.declared.values.Value.{Value}
 use Rattle.su_base.specs.declared.values.Value.TheVariants.{Int}
-use Rattle.su_exec.specs.Checks.{decode}
-use Rattle.su_exec.specs.Coded.{Extends, picked}
-use Rattle.su_exec.specs.Joins.{AreBelow}
+use Rattle.su_exec.specs.inside.Checks.{decode}
+use Rattle.su_exec.specs.inside.Coded.{Extends, picked}
+use Rattle.su_exec.specs.inside.Joins.{AreBelow}
 use Rattle.su_exec.specs.Outputs.{values_at}
 use Rattle.su_exec.proofs.Extending.{extends_kept, extends_self, extends_then, row_more, values_more}
 use Rattle.su_exec.proofs.fetching.code_row.Goals as goal

@@ -1,8 +1,8 @@
 use Rattle.std.proofs.Common.{◌≡◌, length, take}
 use Rattle.std.specs.Prelude.{map}
-use Rattle.su_exec.specs.Checks.{decode}
-use Rattle.su_exec.specs.Coded.{Extends, picked}
-use Rattle.su_exec.specs.Joins.{AreBelow}
+use Rattle.su_exec.specs.inside.Checks.{decode}
+use Rattle.su_exec.specs.inside.Coded.{Extends, picked}
+use Rattle.su_exec.specs.inside.Joins.{AreBelow}
 use Rattle.su_exec.specs.Outputs.{values_at}
 use Rattle.su_exec.proofs.fetching.code_row.Given as goal
 

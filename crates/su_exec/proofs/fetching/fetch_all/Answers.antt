@@ -3,9 +3,9 @@ use Rattle.std.proofs.lemmas.Option.{slice_get-get_or}
 use Rattle.su_base.specs.declared.values.Value.{Value}
 use Rattle.su_rel.specs.Stored.{Stored, IsRelation}
 use Rattle.su_index.specs.Tables.{table_at}
-use Rattle.su_exec.specs.Coded.{IsGathered, IsTaken}
+use Rattle.su_exec.specs.inside.Coded.{IsGathered, IsTaken}
 use Rattle.su_exec.specs.Tasks.{FitsTables}
-use Rattle.su_exec.specs.Ways.{IsFrom}
+use Rattle.su_exec.specs.inside.Ways.{IsFrom}
 use Rattle.su_exec.proofs.Gathering.{gathered_none, gathered_then}
 use Rattle.su_exec.proofs.Sourcing.{from_before, from_cases, from_here, from_none}
 use Rattle.su_exec.proofs.fetching.fetch_all.Goals as goal

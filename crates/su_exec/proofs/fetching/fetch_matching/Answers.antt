@@ -4,9 +4,9 @@ use Rattle.su_base.specs.declared.values.Value.{Value}
 use Rattle.su_rel.specs.Stored.{Stored, IsRelation}
 use Rattle.su_index.specs.Matches.{IsMatch, matches}
 use Rattle.su_index.specs.Tables.{table_at}
-use Rattle.su_exec.specs.Coded.{IsGathered, IsTaken}
+use Rattle.su_exec.specs.inside.Coded.{IsGathered, IsTaken}
 use Rattle.su_exec.specs.Tasks.{FitsTables}
-use Rattle.su_exec.specs.Ways.{IsFromValue}
+use Rattle.su_exec.specs.inside.Ways.{IsFromValue}
 use Rattle.su_exec.proofs.Gathering.{gathered_as, gathered_none, gathered_then}
 use Rattle.su_exec.proofs.Sourcing.{IsFromMatch, match_before, match_cases, match_here, match_none, match_value, value_match}
 use Rattle.su_exec.proofs.fetching.fetch_matching.Goals as goal

@@ -1,6 +1,6 @@
 use Rattle.std.proofs.Common.{◌≡◌, ◌≤◌, ◌+◌}
 use Rattle.su_index.specs.Tables.{table_at}
-use Rattle.su_exec.specs.Coded.{IsGathered}
+use Rattle.su_exec.specs.inside.Coded.{IsGathered}
 use Rattle.su_exec.proofs.Sourcing.{IsFromMatch}
 use Rattle.su_exec.proofs.fetching.fetch_matching.Given as goal
 

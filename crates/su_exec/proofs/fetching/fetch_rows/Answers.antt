@@ -6,8 +6,8 @@ use Rattle.std.proofs.lemmas.Option.{get_or_from_slice_get, slice_get_within}
 use Rattle.su_base.specs.declared.values.Value.{Value}
 use Rattle.su_rel.specs.Stored.{Stored}
 use Rattle.su_exec.specs.declared.tasks.TaskRow.{TaskRow}
-use Rattle.su_exec.specs.Coded.{AreSoFar, IsCoded, IsRowEdge}
-use Rattle.su_exec.specs.Edges.{Edge}
+use Rattle.su_exec.specs.inside.Coded.{AreSoFar, IsCoded, IsRowEdge}
+use Rattle.su_exec.specs.inside.Edges.{Edge}
 use Rattle.su_exec.specs.Shares.{row_share}
 use Rattle.su_exec.specs.Tasks.{HasSources}
 use Rattle.su_exec.proofs.Leaving.{ended, none, share_start, share_step, start, step}

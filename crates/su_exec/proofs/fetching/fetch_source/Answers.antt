@@ -1,6 +1,6 @@
 use Rattle.std.proofs.Common.{◌≤◌, length, arith}
 use Rattle.su_index.specs.Tables.{table_at}
-use Rattle.su_exec.specs.Ways.{AreValues}
+use Rattle.su_exec.specs.inside.Ways.{AreValues}
 use Rattle.su_exec.proofs.Sourcing.{by_all, by_codes}
 use Rattle.su_exec.proofs.fetching.fetch_source.Goals as goal
 

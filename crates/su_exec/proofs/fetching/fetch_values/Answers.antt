@@ -5,10 +5,10 @@ use Rattle.su_base.specs.declared.values.Value.TheVariants.{Int}
 use Rattle.su_rel.specs.Stored.{Stored}
 use Rattle.su_index.specs.Matches.{matches}
 use Rattle.su_index.specs.Tables.{table_at}
-use Rattle.su_exec.specs.Checks.{decode}
-use Rattle.su_exec.specs.Coded.{IsGathered}
+use Rattle.su_exec.specs.inside.Checks.{decode}
+use Rattle.su_exec.specs.inside.Coded.{IsGathered}
 use Rattle.su_exec.specs.Tasks.{FitsTables}
-use Rattle.su_exec.specs.Ways.{IsFromCodes, IsFromValue, matches_all, only_code}
+use Rattle.su_exec.specs.inside.Ways.{IsFromCodes, IsFromValue, matches_all, only_code}
 use Rattle.su_exec.proofs.Accessing.{sum_more, sum_take}
 use Rattle.su_exec.proofs.Gathering.{gathered_none, gathered_then}
 use Rattle.su_exec.proofs.Sourcing.{codes_before, codes_cases, codes_here, codes_none}

@@ -1,7 +1,7 @@
 use Rattle.std.proofs.Common.{◌≡◌, ◌≤◌, ◌+◌, take}
 use Rattle.su_index.specs.Tables.{table_at}
-use Rattle.su_exec.specs.Coded.{IsGathered}
-use Rattle.su_exec.specs.Ways.{IsFromCodes, matches_all}
+use Rattle.su_exec.specs.inside.Coded.{IsGathered}
+use Rattle.su_exec.specs.inside.Ways.{IsFromCodes, matches_all}
 use Rattle.su_exec.proofs.fetching.fetch_values.Given as goal
 
 abbrev pub invariant-loop-i : goal.invariant-loop-i

@@ -1,5 +1,5 @@
 use Rattle.std.proofs.Common.{◌≡◌, ℕ, ◌<◌, length, get_or, true}
-use Rattle.su_exec.specs.Chains.{in_bucket, last}
+use Rattle.su_exec.specs.inside.Chains.{in_bucket, last}
 use Rattle.su_exec.proofs.hashes.fill.Given as goal
 
 abbrev pub invariant-loop-j : goal.invariant-loop-j

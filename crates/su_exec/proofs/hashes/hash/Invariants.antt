@@ -1,6 +1,6 @@
 use Rattle.std.proofs.Common.{◌≡◌, take}
-use Rattle.su_exec.specs.Joins.{pick}
-use Rattle.su_exec.specs.Chains.{hash_of}
+use Rattle.su_exec.specs.inside.Joins.{pick}
+use Rattle.su_exec.specs.inside.Chains.{hash_of}
 use Rattle.su_exec.proofs.hashes.hash.Given as goal
 
 abbrev pub invariant-loop-p : goal.invariant-loop-p

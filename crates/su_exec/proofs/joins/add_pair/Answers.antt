@@ -1,5 +1,5 @@
 use Rattle.std.proofs.Common.{◌∙◌, sym, subst, inl, inr, ⊎_elim}
-use Rattle.su_exec.specs.Plans.{IsMade}
+use Rattle.su_exec.specs.inside.Plans.{IsMade}
 use Rattle.su_exec.proofs.joins.add_pair.Goals as goal
 
 pub returns-in_err-add-clause-only : goal.returns-in_err-add-clause-only

@@ -1,8 +1,8 @@
 use Rattle.std.proofs.Common.{◌≡◌, ◌++◌, ◌<◌, ◌≤◌, List, [], ℕ, length, get_or, take, drop, subst, ap, sym, ◌∙◌, ⊎_elim, arith}
 use Rattle.std.proofs.lemmas.Bool.{cases_lt}
 use Rattle.std.proofs.lemmas.List.{append-nil, drop_all, take_all}
-use Rattle.su_exec.specs.Joins.{Joined, Gives, IsUpTo}
-use Rattle.su_exec.specs.Plans.{columns_of, passes_of}
+use Rattle.su_exec.specs.inside.Joins.{Joined, Gives, IsUpTo}
+use Rattle.su_exec.specs.inside.Plans.{columns_of, passes_of}
 use Rattle.su_exec.proofs.Chaining.{gives_joined, joined_gives}
 use Rattle.su_exec.proofs.joins.join.Goals as goal
 

@@ -1,6 +1,6 @@
 use Rattle.std.proofs.Common.{◌≡◌, ◌+◌, ℕ, ◌<◌, List, [], length, get_or, Contains}
-use Rattle.su_exec.specs.Joins.{Joined, Gives}
-use Rattle.su_exec.specs.Plans.{columns_of, passes_of}
+use Rattle.su_exec.specs.inside.Joins.{Joined, Gives}
+use Rattle.su_exec.specs.inside.Plans.{columns_of, passes_of}
 use Rattle.su_exec.proofs.joins.join.Given as goal
 
 abbrev pub invariant-loop-i : goal.invariant-loop-i

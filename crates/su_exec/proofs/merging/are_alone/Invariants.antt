@@ -1,5 +1,5 @@
 use Rattle.std.proofs.Common.{take}
-use Rattle.su_exec.specs.Bodies.{AreAlone}
+use Rattle.su_exec.specs.inside.Bodies.{AreAlone}
 use Rattle.su_exec.proofs.merging.are_alone.Given as goal
 
 abbrev pub invariant-loop-x : goal.invariant-loop-x

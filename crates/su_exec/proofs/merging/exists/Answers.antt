@@ -2,8 +2,8 @@ use Rattle.std.proofs.Common.{◌≡◌, [], List, ℕ, length, refl, ap, sym, s
 use Rattle.std.proofs.lemmas.List.{nil_from_length}
 use Rattle.std.proofs.lemmas.List.Elements.{All-cons, All-head, All-nil}
 use Rattle.su_exec.specs.declared.checks.Check.{Check}
-use Rattle.su_exec.specs.Checks.{all_hold}
-use Rattle.su_exec.specs.Edges.{Edge, Fits, FitsAll}
+use Rattle.su_exec.specs.inside.Checks.{all_hold}
+use Rattle.su_exec.specs.inside.Edges.{Edge, Fits, FitsAll}
 use Rattle.su_exec.proofs.merging.exists.Goals as goal
 
 pub returns-then-is_empty : goal.returns-then-is_empty

@@ -1,5 +1,5 @@
 use Rattle.std.proofs.Common.{◌≡◌, ℕ, length, ap, ◌∙◌}
-use Rattle.su_exec.specs.Edges.{Edge}
+use Rattle.su_exec.specs.inside.Edges.{Edge}
 use Rattle.su_exec.proofs.Uniting.{rows_told}
 use Rattle.su_exec.proofs.merging.has_rows.Goals as goal
 

@@ -1,10 +1,10 @@
 use Rattle.std.proofs.Common.{◌≡◌, ◌∷◌, ◌+◌, [], List, ℕ, length, sym, subst, rules, arith}
 use Rattle.su_exec.specs.declared.checks.Check.{Check}
-use Rattle.su_exec.specs.Bodies.{AreThere}
-use Rattle.su_exec.specs.Checks.{all_hold}
-use Rattle.su_exec.specs.Edges.{Edge, Keeps, always}
+use Rattle.su_exec.specs.inside.Bodies.{AreThere}
+use Rattle.su_exec.specs.inside.Checks.{all_hold}
+use Rattle.su_exec.specs.inside.Edges.{Edge, FitsAll, Keeps, always}
 use Rattle.su_exec.proofs.Keeping.{keeps_refl, keeps_trans}
-use Rattle.su_exec.proofs.Over.{told_is}
+use Rattle.su_exec.proofs.Over.{empty_back, told_is}
 use Rattle.su_exec.proofs.Uniting.{last_is, last_keeps, last_vars}
 use Rattle.su_exec.proofs.merging.merge_all.Goals as goal
 
@@ -42,6 +42,13 @@ loop-most-smaller c =
     let fs : List (Edge ℕ) = c.merge_next.new.body.edges.items in
     let less : length fs + 1 ≡ length es = rw c.if-over.false at c.in_ok-over.ensures.length in
     omega arith
+
+pub returns-then-has_empty : goal.returns-then-has_empty
+returns-then-has_empty c =
+    let values = c.args.codes.now in
+    let es : List (Edge ℕ) = c.loop-most.body.edges.items in
+    let none : (v : ℕ → ℕ) → FitsAll v es → ⊥ = rw c.deref.ensures.value at c.has_empty.ensures c.if-has_empty.true in
+    empty_back c.args.needed.now c.args.body.edges.items es (all_hold values c.args.body.checks.items) (all_hold values c.loop-most.body.checks.items) c.loop-most.invariant.keeps (λ v f p. none v f)
 
 pub returns-then-over : goal.returns-then-over
 returns-then-over c =

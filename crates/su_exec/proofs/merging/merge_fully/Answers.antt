@@ -1,8 +1,8 @@
 use Rattle.std.proofs.Common.{◌≡◌, ◌∷◌, ◌+◌, [], List, ℕ, length, subst, rules, arith}
 use Rattle.su_exec.specs.declared.checks.Check.{Check}
-use Rattle.su_exec.specs.Bodies.{AreThere}
-use Rattle.su_exec.specs.Checks.{all_hold}
-use Rattle.su_exec.specs.Edges.{Edge, Keeps, always}
+use Rattle.su_exec.specs.inside.Bodies.{AreThere}
+use Rattle.su_exec.specs.inside.Checks.{all_hold}
+use Rattle.su_exec.specs.inside.Edges.{Edge, Keeps, always}
 use Rattle.su_exec.proofs.Keeping.{keeps_refl, keeps_trans}
 use Rattle.su_exec.proofs.Uniting.{last_is, last_keeps}
 use Rattle.su_exec.proofs.merging.merge_fully.Goals as goal

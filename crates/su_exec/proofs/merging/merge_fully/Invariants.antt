@@ -1,7 +1,7 @@
 use Rattle.std.proofs.Common.{◌<◌, length}
-use Rattle.su_exec.specs.Bodies.{AreThere}
-use Rattle.su_exec.specs.Checks.{all_hold}
-use Rattle.su_exec.specs.Edges.{Keeps}
+use Rattle.su_exec.specs.inside.Bodies.{AreThere}
+use Rattle.su_exec.specs.inside.Checks.{all_hold}
+use Rattle.su_exec.specs.inside.Edges.{Keeps}
 use Rattle.su_exec.proofs.merging.merge_fully.Given as goal
 
 abbrev pub invariant-loop-body : goal.invariant-loop-body

@@ -3,10 +3,10 @@ use Rattle.std.proofs.lemmas.List.Edits.{length-remove}
 use Rattle.su_base.specs.declared.values.Value.{Value}
 use Rattle.su_exec.specs.declared.checks.Check.{Check}
 use Rattle.su_exec.specs.declared.checks.Test.{Test}
-use Rattle.su_exec.specs.Bodies.{AreAlone}
-use Rattle.su_exec.specs.Checks.{all_hold, all_pass}
-use Rattle.su_exec.specs.Edges.{Edge, Splits, among, has}
-use Rattle.su_exec.specs.Joins.{IsUpTo}
+use Rattle.su_exec.specs.inside.Bodies.{AreAlone}
+use Rattle.su_exec.specs.inside.Checks.{all_hold, all_pass}
+use Rattle.su_exec.specs.inside.Edges.{Edge, Splits, among, has}
+use Rattle.su_exec.specs.inside.Joins.{IsUpTo}
 use Rattle.su_exec.proofs.Parts.{taken_out}
 use Rattle.su_exec.proofs.Uniting.{all_of_two, merged_keeps, merged_there, over, over_there, two_parts}
 use Rattle.su_exec.proofs.merging.merge_next.Goals as goal

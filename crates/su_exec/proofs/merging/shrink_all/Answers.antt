@@ -1,9 +1,9 @@
 use Rattle.std.proofs.Common.{◌≡◌, ◌∷◌, ◌++◌, ◌<◌, ◌+◌, [], List, ℕ, length, refl, ap, sym, subst, rules, arith, length-append}
 use Rattle.std.proofs.lemmas.List.Edits.{length-remove}
 use Rattle.su_exec.specs.declared.checks.Check.{Check}
-use Rattle.su_exec.specs.Bodies.{AreThere}
-use Rattle.su_exec.specs.Checks.{all_hold}
-use Rattle.su_exec.specs.Edges.{Edge, Keeps}
+use Rattle.su_exec.specs.inside.Bodies.{AreThere}
+use Rattle.su_exec.specs.inside.Checks.{all_hold}
+use Rattle.su_exec.specs.inside.Edges.{Edge, Keeps}
 use Rattle.su_exec.proofs.Keeping.{keeps_refl, keeps_trans}
 use Rattle.su_exec.proofs.Uniting.{front_is}
 use Rattle.su_exec.proofs.merging.shrink_all.Goals as goal

@@ -1,7 +1,7 @@
 use Rattle.std.proofs.Common.{◌≡◌, ℕ, true, take}
-use Rattle.su_exec.specs.Bodies.{IsWanted}
-use Rattle.su_exec.specs.Checks.{check_vars}
-use Rattle.su_exec.specs.Edges.{has, among}
+use Rattle.su_exec.specs.inside.Bodies.{IsWanted}
+use Rattle.su_exec.specs.inside.Checks.{check_vars}
+use Rattle.su_exec.specs.inside.Edges.{has, among}
 use Rattle.su_exec.proofs.merging.wanted_by.Given as goal
 
 abbrev pub invariant-loop-edge : goal.invariant-loop-edge

@@ -1,5 +1,5 @@
 use Rattle.std.proofs.Common.{◌≡◌, ℕ, true, length}
-use Rattle.su_exec.specs.Edges.{Same, among}
+use Rattle.su_exec.specs.inside.Edges.{Same, among}
 use Rattle.su_exec.proofs.reducing.reduce.Given as goal
 
 abbrev pub invariant-loop-i : goal.invariant-loop-i

@@ -1,5 +1,5 @@
 use Rattle.std.proofs.Common.{◌<◌, ℕ, length, rules}
-use Rattle.su_exec.specs.Edges.{Edge}
+use Rattle.su_exec.specs.inside.Edges.{Edge}
 use Rattle.su_exec.proofs.Partners.{swap_same}
 use Rattle.su_exec.proofs.Uniting.{among_set}
 use Rattle.su_exec.proofs.reducing.reduce_one.Goals as goal

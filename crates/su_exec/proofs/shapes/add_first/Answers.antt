@@ -1,6 +1,6 @@
 use Rattle.std.proofs.Common.{sym, ap, ◌∙◌}
 use Rattle.std.proofs.lemmas.Option.{get_or_from_slice_get}
-use Rattle.su_exec.specs.Edges.{has}
+use Rattle.su_exec.specs.inside.Edges.{has}
 use Rattle.su_exec.proofs.Shaping.{shape_new}
 use Rattle.su_exec.proofs.shapes.add_first.Goals as goal
 

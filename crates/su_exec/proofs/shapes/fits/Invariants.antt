@@ -1,5 +1,5 @@
 use Rattle.std.proofs.Common.{ℕ, ◌<◌}
-use Rattle.su_exec.specs.Coded.{FitsAt}
+use Rattle.su_exec.specs.inside.Coded.{FitsAt}
 use Rattle.su_exec.specs.Outputs.{values_at}
 use Rattle.su_exec.proofs.shapes.fits.Given as goal
 

@@ -1,4 +1,4 @@
-use Rattle.su_exec.specs.Coded.{IsShape}
+use Rattle.su_exec.specs.inside.Coded.{IsShape}
 use Rattle.su_exec.proofs.shapes.shape_of.Given as goal
 
 abbrev pub invariant-loop-p : goal.invariant-loop-p

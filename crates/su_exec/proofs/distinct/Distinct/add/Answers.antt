@@ -3,9 +3,9 @@ use Rattle.std.proofs.lemmas.Bool.{true≢false}
 use Rattle.std.proofs.lemmas.List.{get_or_default}
 use Rattle.std.proofs.lemmas.Nat.{mod_below}
 use Rattle.std.proofs.lemmas.List.Elements.{Contains-push, Contains-push_cases}
-use Rattle.su_exec.specs.Chains.{IsHashed, hash_of}
-use Rattle.su_exec.specs.Joins.{pick}
-use Rattle.su_exec.specs.Sheets.{Rows}
+use Rattle.su_exec.specs.inside.Chains.{IsHashed, hash_of}
+use Rattle.su_exec.specs.inside.Joins.{pick}
+use Rattle.su_exec.specs.inside.Sheets.{Rows}
 use Rattle.su_exec.proofs.Hashing.{hashed_more}
 use Rattle.su_exec.proofs.distinct.Distinct.add.Goals as goal
 

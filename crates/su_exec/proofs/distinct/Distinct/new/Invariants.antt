@@ -1,4 +1,4 @@
-use Rattle.su_exec.specs.Joins.{AreBelow}
+use Rattle.su_exec.specs.inside.Joins.{AreBelow}
 use Rattle.su_exec.proofs.distinct.Distinct.new.Given as goal
 
 abbrev pub invariant-loop-place : goal.invariant-loop-place

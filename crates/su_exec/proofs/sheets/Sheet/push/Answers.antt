@@ -1,6 +1,6 @@
 use Rattle.std.proofs.Common.{◌∙◌, ap}
 use Rattle.su_exec.proofs.Cutting.{cut_more}
-use Rattle.su_exec.specs.Sheets.{cut}
+use Rattle.su_exec.specs.inside.Sheets.{cut}
 use Rattle.su_exec.proofs.sheets.Sheet.push.Goals as goal
 
 pub returns-clause-ok : goal.returns-clause-ok

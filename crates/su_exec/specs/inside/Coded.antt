@@ -1,4 +1,5 @@
 -- Candidates as values: what their codes stand for.
+-- No public contract cites this module.
 use Rattle.std.specs.Prelude.{◌≡◌, ◌<◌, ◌≤◌, ◌⊎◌, ◌↔◌, ℕ, pos, true, cond, nat_eq, Some, List, [], ◌∷◌, map, sum, length, slice_get, slice_index_or, All, Contains}
 use Rattle.su_base.specs.declared.values.Value.{Value}
 use Rattle.su_base.specs.declared.values.Value.TheVariants.{Int}
@@ -8,9 +9,9 @@ use Rattle.su_tableau.specs.declared.symbols.Sym.TheVariants.{Var}
 use Rattle.su_tableau.specs.Tableaux.{value_of, values_of}
 use Rattle.su_exec.specs.declared.tasks.TaskRow.{TaskRow}
 use Rattle.su_exec.specs.declared.tasks.Task.{Task}
-use Rattle.su_exec.specs.Checks.{decode}
-use Rattle.su_exec.specs.Edges.{Edge, Fits, FitsAll, among, has}
-use Rattle.su_exec.specs.Joins.{AreBelow, IsApart}
+use Rattle.su_exec.specs.inside.Checks.{decode}
+use Rattle.su_exec.specs.inside.Edges.{Edge, Fits, FitsAll, among, has}
+use Rattle.su_exec.specs.inside.Joins.{AreBelow, IsApart}
 use Rattle.su_exec.specs.Outputs.{Agrees, values_at}
 use Rattle.su_exec.specs.Shares.{row_share}
 use Rattle.su_exec.specs.Tasks.{StandsIn}
@@ -19,6 +20,7 @@ use Rattle.su_exec.specs.Tasks.{StandsIn}
 abbrev pub meaning : List Value → Edge ℕ → Edge Value
 meaning values e = record { vars = e.vars; rows = map (map (decode values)) e.rows }
 
+-- the edges with values in place of codes
 abbrev pub meanings : List Value → List (Edge ℕ) → List (Edge Value)
 meanings values es = map (meaning values) es
 
@@ -26,6 +28,7 @@ meanings values es = map (meaning values) es
 abbrev pub AreCoded : List Value → List (List ℕ) → Type 0
 AreCoded values rows = All (λ r. AreBelow r (length values)) rows
 
+-- each code of the edge stands for a value
 abbrev pub IsCoded : List Value → Edge ℕ → Type 0
 IsCoded values e = AreCoded values e.rows
 

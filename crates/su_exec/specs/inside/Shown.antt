@@ -1,4 +1,5 @@
 -- What candidates show: the values of terms under the valuations that fit them.
+-- No public contract cites this module.
 use Rattle.std.specs.Prelude.{◌≡◌, ◌<◌, ◌≤◌, ◌++◌, ◌⊎◌, ◌↔◌, ℕ, true, List, [], ◌∷◌, map, length, Contains}
 use Rattle.std.specs.List.{AllZip}
 use Rattle.std.specs.List.Sorted.{IsStrictlySortedBy}
@@ -13,8 +14,8 @@ use Rattle.su_exec.specs.declared.checks.Term.TheVariants.{Code, Variable}
 use Rattle.su_exec.specs.declared.checks.Check.{Check}
 use Rattle.su_exec.specs.declared.checks.Spot.{Spot}
 use Rattle.su_exec.specs.declared.tasks.Compared.{Compared}
-use Rattle.su_exec.specs.Checks.{HasTerm, IsSpotIn, code_of, decode, spot_code, vars_of}
-use Rattle.su_exec.specs.Edges.{Edge, Fits, has}
+use Rattle.su_exec.specs.inside.Checks.{HasTerm, IsSpotIn, code_of, decode, spot_code, vars_of}
+use Rattle.su_exec.specs.inside.Edges.{Edge, Fits, has}
 
 -- the term stands for the symbol
 abbrev pub IsTermOf : List Value → Sym → Term → Type 0

@@ -1,12 +1,13 @@
 -- What merging a body comes to.
 -- body: edges that are to agree, and checks that are to hold of the values that codes stand for
+-- No public contract cites this module.
 use Rattle.std.specs.Prelude.{◌≡◌, ◌<◌, ◌≤◌, ◌⊎◌, ℕ, Bool, true, false, Option, Some, List, [], ◌∷◌, ◌++◌, map, length, slice_index_or}
 use Rattle.su_exec.specs.declared.checks.Check.{Check}
 use Rattle.su_exec.specs.declared.merging.Merged.{Merged}
 use Rattle.su_exec.specs.declared.merging.Merged.TheVariants.{Whole, Over, Nothing}
-use Rattle.su_exec.specs.Checks.{check_vars}
-use Rattle.su_exec.specs.Edges.{Edge, FitsAll, Keeps, among, always, has}
-use Rattle.su_exec.specs.Joins.{AllDiffer, IsUpTo}
+use Rattle.su_exec.specs.inside.Checks.{check_vars}
+use Rattle.su_exec.specs.inside.Edges.{Edge, FitsAll, Keeps, among, always, has}
+use Rattle.su_exec.specs.inside.Joins.{AllDiffer, IsUpTo}
 
 -- each needed variable, and each that a check compares, is in an edge
 abbrev pub AreThere : List ℕ → List Check → List (Edge ℕ) → Type 0

@@ -1,4 +1,5 @@
 -- Rows of one width, side by side.
+-- No public contract cites this module.
 use Rattle.std.specs.Prelude.{ℕ, zero, suc, List, [], ◌∷◌, take, drop}
 
 -- a width, and rows of it

@@ -1,10 +1,12 @@
 -- Plans: how two lists of rows are joined.
+-- No public contract cites this module.
 use Rattle.std.specs.Prelude.{◌≡◌, ℕ, Bool, true, List, ◌++◌, length, All}
 use Rattle.su_base.specs.declared.values.Value.{Value}
 use Rattle.su_exec.specs.declared.joins.Plan.{Plan}
-use Rattle.su_exec.specs.Joins.{pick, AreBelow, Columns}
-use Rattle.su_exec.specs.Checks.{IsTestIn, all_pass}
+use Rattle.su_exec.specs.inside.Joins.{pick, AreBelow, Columns}
+use Rattle.su_exec.specs.inside.Checks.{IsTestIn, all_pass}
 
+-- the columns of a plan
 abbrev pub columns_of : Plan → Columns
 columns_of plan = record { left_key = plan.left_key.items; right_key = plan.right_key.items; left_out = plan.left_out.items; right_out = plan.right_out.items }
 

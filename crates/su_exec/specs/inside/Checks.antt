@@ -1,6 +1,7 @@
 -- Comparisons of codes, and where pairs of rows have what they compare.
 -- code: a value's position in a list of values; term: a code, or a variable; check: a comparison of two terms
 -- spot: where a pair of rows has a term; test: a comparison of two spots
+-- No public contract cites this module.
 use Rattle.std.specs.Prelude.{◌≡◌, ◌<◌, ℕ, pos, Bool, List, [], ◌∷◌, ◌++◌, map, length, slice_index_or}
 use Rattle.std.specs.List.{list_all}
 use Rattle.su_base.specs.declared.values.Value.{Value}
@@ -30,6 +31,7 @@ code_of v (Variable k) = v k
 abbrev pub check_holds : List Value → (ℕ → ℕ) → Check → Bool
 check_holds values v c = compares c.op (decode values (code_of v c.left)) (decode values (code_of v c.right))
 
+-- all checks hold under the valuation
 abbrev pub all_hold : List Value → List Check → (ℕ → ℕ) → Bool
 all_hold values checks v = list_all (check_holds values v) checks
 
@@ -55,6 +57,7 @@ IsSpotIn left right (Given c) = Unit {0}
 IsSpotIn left right (Left p) = p < left
 IsSpotIn left right (Right p) = p < right
 
+-- both sides of the test lie within rows of these widths
 abbrev pub IsTestIn : ℕ → ℕ → Test → Type 0
 IsTestIn left right test = IsSpotIn left right test.left × IsSpotIn left right test.right
 
@@ -62,6 +65,7 @@ IsTestIn left right test = IsSpotIn left right test.left × IsSpotIn left right 
 abbrev pub test_passes : List Value → List ℕ → List ℕ → Test → Bool
 test_passes values row other test = compares test.op (decode values (spot_code test.left row other)) (decode values (spot_code test.right row other))
 
+-- the pair of rows passes all tests
 abbrev pub all_pass : List Value → List Test → List ℕ → List ℕ → Bool
 all_pass values tests row other = list_all (test_passes values row other) tests
 

@@ -1,11 +1,13 @@
 -- Rows in buckets by their hashes.
 -- place: the number of a cell in a row; bucket: the rows whose hashes at some places leave the same rest
 -- chain: for each row of a bucket the number after the row before it in the bucket, 0 where there is none
+-- No public contract cites this module.
 use Rattle.std.specs.Prelude.{ℕ, zero, suc, ◌+◌, ◌*◌, ◌%◌, Bool, cond, nat_eq, true, ◌≡◌, ◌<◌, ◌≤◌, List, [], slice_index_or, length}
 use Rattle.std.specs.List.{fold}
-use Rattle.su_exec.specs.Joins.{pick, AreBelow, AllDiffer}
-use Rattle.su_exec.specs.Sheets.{Rows}
+use Rattle.su_exec.specs.inside.Joins.{pick, AreBelow, AllDiffer}
+use Rattle.su_exec.specs.inside.Sheets.{Rows}
 
+-- one step of the hash, modulo 2^64
 abbrev pub hash_step : ℕ → ℕ → ℕ
 hash_step h x = (h * 11400714819323198485 % 18446744073709551616 + x) % 18446744073709551616
 

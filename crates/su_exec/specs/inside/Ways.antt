@@ -1,5 +1,6 @@
 -- Ways to the stored rows of a source that a row may agree with.
 -- way: all rows of the table, or those with one of some codes' values in a column; reached: beside the candidates so far no other stored row agrees
+-- No public contract cites this module.
 use Rattle.std.specs.Prelude.{◌≡◌, ◌<◌, ◌≤◌, ℕ, Some, Option, None, IsTrue, List, [], map, sum, length, slice_get, slice_index_or, Contains}
 use Rattle.su_base.specs.declared.values.Value.{Value}
 use Rattle.su_rel.specs.Stored.{Stored}
@@ -13,9 +14,9 @@ use Rattle.su_exec.specs.declared.tasks.TaskRow.{TaskRow}
 use Rattle.su_exec.specs.declared.access.Way.{Way}
 use Rattle.su_exec.specs.declared.access.Way.TheVariants.{All as Whole, Values}
 use Rattle.su_exec.specs.declared.access.Cheapest.{Cheapest}
-use Rattle.su_exec.specs.Checks.{decode}
-use Rattle.su_exec.specs.Coded.{AreCoded, IsTaken, meanings, picked}
-use Rattle.su_exec.specs.Edges.{Edge, FitsAll}
+use Rattle.su_exec.specs.inside.Checks.{decode}
+use Rattle.su_exec.specs.inside.Coded.{AreCoded, IsTaken, meanings, picked}
+use Rattle.su_exec.specs.inside.Edges.{Edge, FitsAll}
 use Rattle.su_exec.specs.Outputs.{values_at}
 
 -- the code of a row of one code
@@ -61,6 +62,7 @@ abbrev pub CostsAt : List Stored → TaskRow → Source → Option ℕ → ℕ �
 CostsAt tables row source None cost = length (table_at tables source.relation).rows ≤ cost
 CostsAt tables row source (Some p) cost = IsConstantAt tables row source p cost
 
+-- the place of a constant, and at most how many stored rows have it
 abbrev pub IsCheapest : List Stored → TaskRow → Source → Cheapest → Type 0
 IsCheapest tables row source best = CostsAt tables row source best.place best.cost
 
@@ -106,6 +108,7 @@ pub record IsOfSources (tables : List Stored) (row : TaskRow) (firsts : List ℕ
   pub is : slice_get row.sources number ≡ Some source
   pub given : IsFrom row.cells firsts source.columns (table_at tables source.relation).rows (length (table_at tables source.relation).rows) h
 
+-- some source before number n gives the row these values
 pub record AgreesBySources (tables : List Stored) (values : List Value) (es : List (Edge ℕ)) (row : TaskRow) (firsts : List ℕ) (n : ℕ) (h : List Value) : Type 0 where
   pub number : ℕ
   pub below : number < n

@@ -1,6 +1,7 @@
 -- Bodies: lists of edges, and what it means that a step keeps what they give some variables.
 -- edge: variables, and the lists of values that they may have together; to fit: to give an edge one of its lists
 -- test: a condition on a valuation
+-- No public contract cites this module.
 use Rattle.std.specs.List.{list_any}
 use Rattle.std.specs.Prelude.{◌≡◌, ℕ, ◌↔◌, Bool, true, nat_eq, List, map, All, Contains}
 
@@ -13,6 +14,7 @@ pub record Edge (X : Type 0) : Type 0 where
 abbrev pub Fits : {X : Type 0} → (ℕ → X) → Edge X → Type 0
 Fits v e = Contains e.rows (map v e.vars)
 
+-- the valuation gives every edge one of its rows
 abbrev pub FitsAll : {X : Type 0} → (ℕ → X) → List (Edge X) → Type 0
 FitsAll v es = All (λ e. Fits v e) es
 
@@ -56,6 +58,7 @@ pub record Enough (needed ks : List ℕ) (gs rs : List (Edge ℕ)) : Type 0 wher
   pub in_rest : (k : ℕ) → among gs k ≡ true → among rs k ≡ true → has ks k ≡ true
   pub in_needed : (k : ℕ) → among gs k ≡ true → has needed k ≡ true → has ks k ≡ true
 
+-- each variable of the edges is one of these
 abbrev pub IsWithin : List (Edge ℕ) → List ℕ → Type 0
 IsWithin es ks = (k : ℕ) → among es k ≡ true → has ks k ≡ true
 

@@ -1,5 +1,6 @@
 -- Labels of rows, from which components are read off.
 -- label: of each row the first row that it is connected to, as far as joins were taken
+-- No public contract cites this module.
 use Rattle.std.specs.Prelude.{◌≡◌, ◌<◌, ◌≤◌, ℕ, min, max, nat_eq, cond, List, map, filter, length, slice_index_or}
 use Rattle.std.specs.List.{range_with_len}
 use Rattle.su_tableau.specs.declared.symbols.Sym.{Sym}

@@ -1,0 +1,16 @@
+use Rattle.std.proofs.Common.{rules, ◌≡◌, ◌<◌, List, ℕ, length, get_or, subst}
+use Rattle.su_exec.specs.inside.Edges.{Edge}
+use Rattle.su_exec.specs.inside.Ranges.{IsBound, IsWidest}
+use Rattle.su_exec.proofs.Losing.{bound_by, if_some}
+use Rattle.su_exec.proofs.narrowing.bound_for.Goals as goal
+
+pub returns-in-Some : goal.returns-in-Some
+returns-in-Some c =
+    let values = c.args.codes.now in
+    let es : List (Edge ℕ) = c.args.edges.now in
+    let e : Edge ℕ = c.edge-item.result in
+    let place = c.in-Some.place in
+    let low : c.loop-edge.edge-index < length es = search (rules, c.loop-edge-test.true) in
+    if_some c.widest.result (IsWidest values e place c.args.side) (IsBound values es c.args.y c.args.side)
+    (λ b widest. bound_by values es e place c.args.y c.args.side c.loop-edge.edge-index low c.edge-item.is (subst (λ (ks : List ℕ). place < length ks) c.vars.ensures c.in-Some.ensures.0) (subst (λ (ks : List ℕ). get_or ks place 0 ≡ c.args.y) c.vars.ensures c.in-Some.ensures.1) b widest)
+    c.widest.ensures

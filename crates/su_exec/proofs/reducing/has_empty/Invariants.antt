@@ -1,0 +1,4 @@
+use Rattle.su_exec.proofs.reducing.has_empty.Given as goal
+
+abbrev pub invariant-loop-edge : goal.invariant-loop-edge
+invariant-loop-edge l = Unit {0}

@@ -1,0 +1,13 @@
+-- Definitions that only contracts of private functions need.
+pub mod Bodies
+pub mod Chains
+pub mod Checks
+pub mod Coded
+pub mod Edges
+pub mod Joins
+pub mod Labels
+pub mod Plans
+pub mod Ranges
+pub mod Sheets
+pub mod Shown
+pub mod Ways
