@@ -30,7 +30,7 @@ use Rattle.su_steps.specs.Objects.{attributes_at, width}
 use Rattle.su_steps.proofs.Lists.{all_by}
 use Rattle.su_answer.specs.declared.preparing.Prepared.{Prepared}
 use Rattle.su_answer.specs.Prepared.{IsPrepared}
-use Rattle.su_answer.specs.Joined.{HaveSources}
+use Rattle.su_answer.specs.inside.Joined.{HaveSources}
 use Rattle.su_answer.specs.Answers.{StoredAnswer, IsAnswer}
 use Rattle.su_answer.specs.Projections.{view_of, AreProjections}
 use Rattle.su_answer.proofs.Counting.{same_tableaux, all_minimised, minimals_fit}

@@ -1,7 +1,7 @@
 -- Rows of lists that are taken from the end, one after another.
-use Rattle.std.proofs.Common.{◌≡◌, ◌↔◌, ◌⊎◌, ◌≤◌, ◌<◌, inl, inr, ⊎_elim, List, [], ◌∷◌, ◌++◌, length, Contains, Option, Some, All, refl, sym, ap, subst, ◌∙◌, arith}
-use Rattle.std.specs.Prelude.{IsSome}
-use Rattle.std.proofs.lemmas.List.Elements.{Contains-append_left, Contains-append_right, Contains-append_cases, All-from_recursion}
+use Rattle.std.proofs.Common.{◌≡◌, ◌↔◌, ◌⊎◌, ◌≤◌, inl, inr, ⊎_elim, List, [], ◌∷◌, ◌++◌, length, Contains, Option, Some, All, refl, sym, ap, subst, ◌∙◌, arith}
+use Rattle.std.specs.Prelude.{IsSome, IfSome}
+use Rattle.std.proofs.lemmas.List.Elements.{Contains-append_left, Contains-append_right, Contains-append_cases, All-contains, All-from_recursion}
 use Rattle.std.proofs.lemmas.Option.{same_Some}
 use Rattle.std.specs.List.Sorted.{IsStrictlySortedBy}
 use Rattle.su_base.specs.declared.values.Value.{Value}
@@ -9,8 +9,7 @@ use Rattle.su_base.specs.Value.{compare_lists}
 use Rattle.su_steps.proofs.Lists.{contains_cases, contains_none, all_by}
 use Rattle.su_answer.specs.declared.found.Found.{Found}
 use Rattle.su_answer.specs.Answers.{AreMoreThan}
-use Rattle.su_answer.specs.Executed.{IsInSome}
-use Rattle.su_answer.proofs.Union.{rows_more}
+use Rattle.su_answer.specs.inside.Executed.{IsInSome}
 
 -- how far the lists are gone through: what is left, and the rows so far with those of the others
 pub record AreGathered (lists left : List Found) (so_far all : List (List Value)) : Type 0 where
@@ -101,6 +100,18 @@ all_some lists left so_far all g e = All-from_recursion (λ (f : Found). IsSome 
 pub last_in : (lists before left : List Found) (f : Found) (so_far all : List (List Value)) → AreGathered lists before so_far all → before ≡ left ++ f ∷ [] → Contains lists f
 last_in lists before left f so_far all g e = g.of_lists f (subst (λ (ls : List Found). Contains ls f) (sym e) (Contains-append_right left (f ∷ []) f (0, omega arith, refl)))
 
--- rows that ascend and are too many
-pub too_many : (lists left : List Found) (so_far more : List (List Value)) → AreGathered lists left so_far more → IsStrictlySortedBy compare_lists more → 1000000 < length more → AreMoreThan 1000000 (λ h. Contains so_far h ⊎ IsInSome lists h)
-too_many lists left so_far more g ascending many = rows_more 1000000 (λ h. Contains so_far h ⊎ IsInSome lists h) more ascending (λ h c. (g.rows h).0 (inl c)) many
+-- the rows of the last list and those so far are too many
+pub too_many : (lists before left : List Found) (f : Found) (so_far rows all : List (List Value)) → AreGathered lists before so_far all → before ≡ left ++ f ∷ [] → f.rows ≡ Some rows → AreMoreThan 1000000 (λ h. Contains all h ⊎ Contains rows h) → AreMoreThan 1000000 (λ h. Contains so_far h ⊎ IsInSome lists h)
+too_many lists before left f so_far rows all g e is many = record {
+  list = many.list;
+  each = λ i l.
+      ⊎_elim
+      (λ (a : Contains all (many.list i)). (g.rows (many.list i)).0 (inl a))
+      (λ (r : Contains rows (many.list i)). (g.rows (many.list i)).0 (inr (subst (λ (ls : List Found). IsInSome ls (many.list i)) (sym e) (record { found = f; member = Contains-append_right left (f ∷ []) f (0, omega arith, refl); rows = rows; is = is; has = r }))))
+      (many.each i l);
+  differ = many.differ;
+}
+
+-- a list of rows ascends where all do
+pub rows_ascend : (lists : List Found) (f : Found) (rows : List (List Value)) → All (λ (g : Found). IfSome g.rows (IsStrictlySortedBy compare_lists)) lists → Contains lists f → f.rows ≡ Some rows → IsStrictlySortedBy compare_lists rows
+rows_ascend lists f rows all has is = subst (λ (o : Option (List (List Value))). IfSome o (IsStrictlySortedBy compare_lists)) is (All-contains (λ (g : Found). IfSome g.rows (IsStrictlySortedBy compare_lists)) lists f all has)

@@ -4,7 +4,9 @@ pub mod Covered
 pub mod Expressing
 pub mod Fits
 pub mod Gathering
+pub mod Greatest
 pub mod Joined
+pub mod Merging
 pub mod Reading
 pub mod Rowing
 pub mod Tasking

@@ -19,7 +19,8 @@ use Rattle.su_exec.specs.declared.tasks.Source.{Source}
 use Rattle.su_exec.specs.declared.tasks.TaskRow.{TaskRow}
 use Rattle.su_steps.specs.Objects.{attributes_at}
 use Rattle.su_steps.specs.Sources.{IsSource}
-use Rattle.su_answer.specs.Joined.{numbers_in, IsSourceOf, IsPushedIf, AreSourcesOf, IsTaskRowOf}
+use Rattle.su_answer.specs.Joined.{numbers_in, IsSourceOf, IsTaskRowOf}
+use Rattle.su_answer.specs.inside.Joined.{IsPushedIf, AreSourcesOf}
 use Rattle.su_steps.proofs.Lists.{contains_cases, contains_none, of_filter}
 use Rattle.su_answer.proofs.Rowing.{range_low}
 use Rattle.su_answer.proofs.Zipping.{zip_push}

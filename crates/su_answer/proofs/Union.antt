@@ -1,6 +1,6 @@
 -- The answers of the kept terms, one after another, are the answers of the query.
 use Rattle.std.proofs.Common.{◌≡◌, ◌↔◌, ◌⊎◌, inl, inr, ⊎_elim, ℕ, zero, suc, ◌+◌, ◌<◌, ◌≤◌, List, [], ◌∷◌, ◌++◌, take, drop, length, get_or, Contains, All, Option, Some, None, refl, sym, ap, subst, ◌∙◌, arith}
-use Rattle.std.specs.Prelude.{MatchOption, IsSome}
+use Rattle.std.specs.Prelude.{MatchOption, IfSome, IsSome}
 use Rattle.std.specs.List.{AllZip}
 use Rattle.std.specs.List.Sorted.{IsStrictlySortedBy}
 use Rattle.std.specs.declared.cmp.Ordering.TheVariants.{Less, Equal}
@@ -24,7 +24,7 @@ use Rattle.su_answer.specs.declared.found.Found.{Found}
 use Rattle.su_answer.specs.declared.preparing.Prepared.{Prepared}
 use Rattle.su_answer.specs.Joined.{IsTaskOf}
 use Rattle.su_answer.specs.Answers.{IsTermAnswer, IsAnswer, AreAnswers, AreMoreThan}
-use Rattle.su_answer.specs.Executed.{Join, IsFound, IsJoinOf, AreTermAnswers, IsFoundFor, IsInSome}
+use Rattle.su_answer.specs.inside.Executed.{Join, IsFound, IsJoinOf, AreTermAnswers, IsFoundFor, IsInSome}
 use Rattle.su_answer.proofs.Joined.{outputs_are_answers}
 use Rattle.su_steps.proofs.Lists.{contains_later, contains_none, all_by}
 use Rattle.su_answer.proofs.Zipping.{zip_first, zip_second}
@@ -56,6 +56,10 @@ some_rows : (db : DatabaseValue) (m : Minimised) (o : Option (List (List Value))
 some_rows db m None some are = absurd (false≢true some)
 some_rows db m (Some rows) some are = (rows, refl, are)
 
+ascends : (db : DatabaseValue) (m : Minimised) (o : Option (List (List Value))) → MatchOption o (AreMoreThan 1000000 (IsTermAnswer db m)) (AreTermAnswers db m) → IfSome o (IsStrictlySortedBy compare_lists)
+ascends db m None are = tt
+ascends db m (Some rows) are = are.ascending
+
 module _ (db : DatabaseValue) (minimals : List Minimised) (kept : List ℕ) (lists : List Found) (found : AllZip (λ k f. IsFoundFor db (term_at minimals k) f) kept lists) where
   -- an answer of one of the terms
   pub record OfSome (h : List Value) : Type 0 where
@@ -81,6 +85,13 @@ module _ (db : DatabaseValue) (minimals : List Minimised) (kept : List ℕ) (lis
       let w = zip_second (λ k f. IsFoundFor db (term_at minimals k) f) kept lists f found member in
       let more : AreMoreThan 1000000 (IsTermAnswer db (term_at minimals w.0)) = subst (λ (o : Option (List (List Value))). MatchOption o (AreMoreThan 1000000 (IsTermAnswer db (term_at minimals w.0))) (AreTermAnswers db (term_at minimals w.0))) none w.2 in
       record { list = more.list; each = λ i l. all w.0 (more.list i) w.1 (more.each i l); differ = more.differ }
+
+-- the lists of terms ascend
+pub lists_ascend : (db : DatabaseValue) (minimals : List Minimised) (kept : List ℕ) (lists : List Found) → AllZip (λ k f. IsFoundFor db (term_at minimals k) f) kept lists → All (λ (f : Found). IfSome f.rows (IsStrictlySortedBy compare_lists)) lists
+lists_ascend db minimals kept lists found =
+    All-from_recursion (λ (f : Found). IfSome f.rows (IsStrictlySortedBy compare_lists)) lists (all_by (λ (f : Found). IfSome f.rows (IsStrictlySortedBy compare_lists)) lists (λ f has.
+    let w = zip_second (λ k g. IsFoundFor db (term_at minimals k) g) kept lists f found has in
+    ascends db (term_at minimals w.0) f.rows w.2))
 
 -- ---- more rows than there may be
 
@@ -110,10 +121,6 @@ zip_through R S T [] (y ∷ ys) zs f r s = absurd r
 zip_through R S T (x ∷ xs) [] zs f r s = absurd r
 zip_through R S T (x ∷ xs) (y ∷ ys) [] f r s = absurd s
 zip_through R S T (x ∷ xs) (y ∷ ys) (z ∷ zs) f r s = (f x y z (0, omega arith, refl) r.0 s.0, zip_through R S T xs ys zs (λ a b c m. f a b c (contains_later x xs a m)) r.1 s.1)
-
--- a term that is named is valid
-pub minimal_valid : (minimals : List Minimised) (kept : List ℕ) (k : ℕ) → All (λ (m : Minimised). IsValid m.tableau) minimals → All (λ j. j < length minimals) kept → Contains kept k → IsValid (term_at minimals k).tableau
-minimal_valid minimals kept k valid low has = valid k (record { tableau = record { width = 0; rows = []; head = []; outputs = 0; operators = [] }; mask = 0; fold = [] }) (All-contains (λ j. j < length minimals) kept k low has)
 
 -- ---- terms, some at a time
 

@@ -23,7 +23,7 @@ use Rattle.su_steps.specs.Objects.{width, attributes_at}
 use Rattle.su_steps.specs.Expression.{cut, Agree}
 use Rattle.su_steps.specs.Sources.{IsSource}
 use Rattle.su_answer.specs.Answers.{IsRead, StoredAnswer}
-use Rattle.su_answer.specs.Joined.{HaveSources}
+use Rattle.su_answer.specs.inside.Joined.{HaveSources}
 use Rattle.su_answer.specs.Projections.{value_for, taken, view_through, view_of, AreProjections}
 use Rattle.su_state.proofs.Columns.{column_within, column_of_attribute}
 use Rattle.su_answer.proofs.Columns.{object_is, attributes_by}

@@ -1,6 +1,5 @@
 -- What is joined for the kept rows of a tableau: the essential cells of each, with the columns of its sources.
-use Rattle.std.specs.Int.{bit_at}
-use Rattle.std.specs.Prelude.{◌≡◌, ◌↔◌, ◌<◌, ℕ, ◌+◌, ◌*◌, IsTrue, Bool, true, false, List, [], ◌∷◌, ◌++◌, map, filter, take, length, get_or, slice_get, Contains, Some}
+use Rattle.std.specs.Prelude.{◌≡◌, ◌↔◌, ℕ, ◌+◌, ◌*◌, IsTrue, List, [], map, filter, take, length, get_or, slice_get, Contains, Some}
 use Rattle.std.specs.List.{AllZip, range_with_len}
 use Rattle.std.specs.Ordering.{nat_cmp}
 use Rattle.std.specs.FinSet.{FinSet, contains}
@@ -32,16 +31,6 @@ pub record IsSourceOf (schema : SchemaValue) (attributes : List ℕ) (o : ℕ) (
   pub relation : s.relation ≡ object.relation
   pub columns : map (column_of object) attributes ≡ map Some s.columns
 
--- a source of the object stands behind the others, where it is wanted
-abbrev pub IsPushedIf : SchemaValue → List ℕ → ℕ → Bool → List Source → List Source → Type 0
-IsPushedIf schema attributes o true before after = (s : Source) × IsSourceOf schema attributes o s × (after ≡ before ++ s ∷ [])
-IsPushedIf schema attributes o false before after = after ≡ before
-
--- the sources are those of the objects of the set below n
-pub record AreSourcesOf (schema : SchemaValue) (attributes : List ℕ) (n : ℕ) (objects : FinSet nat_cmp) (sources : List Source) : Type 0 where
-  pub from : (s : Source) → Contains sources s → (o : ℕ) × (o < n) × IsTrue (contains objects o) × IsSourceOf schema attributes o s
-  pub all : (o : ℕ) → o < n → IsTrue (contains objects o) → (s : Source) × Contains sources s × IsSourceOf schema attributes o s
-
 -- the task's row is row i, among the rows of m
 pub record IsTaskRowOf (schema : SchemaValue) (t : Tab) (m i : ℕ) (r : TaskRow) : Type 0 where
   pub attributes : FinSet nat_cmp
@@ -50,6 +39,7 @@ pub record IsTaskRowOf (schema : SchemaValue) (t : Tab) (m i : ℕ) (r : TaskRow
   pub from : (s : Source) → Contains r.sources s → (o : ℕ) × IsSource schema t m i o × IsSourceOf schema (numbers_in attributes t.width) o s
   pub all : (o : ℕ) → IsSource schema t m i o → (s : Source) × Contains r.sources s × IsSourceOf schema (numbers_in attributes t.width) o s
 
+-- comparison i of a tableau: its sides stand behind the outputs
 abbrev pub comparison_at : Tab → ℕ → Compared
 comparison_at t i = record { left = get_or t.head (t.outputs + 2 * i) (Var 0); op = get_or t.operators i Equal; right = get_or t.head (t.outputs + 2 * i + 1) (Var 0) }
 
@@ -58,7 +48,3 @@ pub record IsTaskOf (schema : SchemaValue) (t : Tab) (m : ℕ) (task : Task) : T
   pub rows : AllZip (IsTaskRowOf schema t m) (rows_in t m) task.rows
   pub outputs : task.outputs ≡ take t.outputs t.head
   pub comparisons : task.comparisons ≡ map (comparison_at t) (range_with_len 0 (length t.operators))
-
--- every row of the set has a source
-abbrev pub HaveSources : SchemaValue → Tab → ℕ → Type 0
-HaveSources schema t m = (i : ℕ) → i < length t.rows → bit_at m i ≡ 1 → (o : ℕ) × IsSource schema t m i o

@@ -1,6 +1,6 @@
 pub mod Answers
-pub mod Executed
+pub mod inside
 pub mod Joined
+pub mod Laws
 pub mod Prepared
 pub mod Projections
-pub mod Laws

@@ -23,7 +23,7 @@ use su_steps::laws::terms_are_valid_and_typed;
 ///
 /// Where the relations are the projections of one universal relation that meets the dependencies, they
 /// are those of the query's expression (`laws::answers_are_the_expression`). Beside the joins, the
-/// time is that of one pass over the rows so far for each kept term.
+/// time is that of one comparison for each row so far and for each kept term.
 pub fn answer<R: Threads + Sync, G: Gate>(
     rt: &R,
     alloc: Global,
@@ -50,7 +50,7 @@ pub fn answer<R: Threads + Sync, G: Gate>(
         let first = kept.len() - left.len();
         let later_gate = Later { gate, first };
         let lists = found(rt, alloc, db, minimals, now, workers, &later_gate)?;
-        rows = gathered(rows, lists)?;
+        rows = gathered(alloc, rows, lists)?;
         left = later;
     }
     Ok(rows)

@@ -1,12 +1,11 @@
 //! Joins that are executed side by side.
 ghost use Rattle.std.specs.Prelude.{◌≡◌, ◌≤◌, ◌<◌, length, All, IfOk};
 ghost use Rattle.std.specs.List.{AllZip};
-ghost use Rattle.su_tableau.specs.Tableaux.{IsValid};
 ghost use Rattle.su_tableau.specs.Kinds.{IsTyped};
 ghost use Rattle.su_schema.specs.SchemaValue.{attribute_kinds};
 ghost use Rattle.su_exec.specs.Tasks.{IsTask};
 ghost use Rattle.su_min.specs.Reduction.{term_at};
-ghost use Rattle.su_answer.specs.Executed.{IsFound, IsJoinOf, IsFoundFor};
+ghost use Rattle.su_answer.specs.inside.Executed.{IsFound, IsJoinOf, IsFoundFor};
 
 use crate::found::Found;
 use crate::tasks::task_of;
@@ -25,31 +24,41 @@ use su_state::Database;
 /// The most rows of an answer.
 pub const MOST: u64 = 1_000_000;
 
-/// A join to be executed over these tables.
+/// A term whose kept rows are to be joined. Its task is made where it runs.
 #[derive(Drop)]
-struct Executing<'a> {
-    tables: &'a [Table],
-    task: Task,
+struct Joining<'a> {
+    db: &'a Database,
+    minimal: &'a Minimal,
 }
 
-impl<'a> Model for Executing<'a> {
-    ghost use Rattle.su_exec.specs.Tasks.{IsTask};
-    ghost use Rattle.su_answer.specs.Executed.{Join};
+impl<'a> Model for Joining<'a> {
+    ghost use Rattle.std.specs.Coded.{codes, coded_ℕ};
+    ghost use Rattle.std.specs.Ordering.{nat_cmp};
+    ghost use Rattle.std.specs.FinSet as set;
+    ghost use Rattle.su_base.specs.contracts.attr_sets.AttrSet as attr_set;
+    ghost use Rattle.su_min.specs.contracts.minimal.Minimal as minimals;
+    ghost use Rattle.su_schema.specs.contracts.schemas.Schema as schemas;
+    ghost use Rattle.su_state.specs.contracts.databases.Database as databases;
+    ghost use Rattle.su_tableau.specs.Kinds.{IsTyped};
+    ghost use Rattle.su_schema.specs.SchemaValue.{attribute_kinds};
+    ghost use Rattle.su_answer.specs.inside.Executed.{TermOver};
 
-    ghost Value = { Join };
+    ghost Value = { TermOver };
 
-    ghost view = { λ e. record { tables = e.tables.now; task = e.task } };
+    ghost coded = { Prim.hlevel (codes, databases.the_row.coded, schemas.the_row.coded, minimals.the_row.coded, attr_set.the_row.coded, set.code {R = nat_cmp} coded_ℕ) };
 
-    ghost invariant = { λ e. IsTask e.tables.now e.task };
+    ghost view = { λ j. record { db = j.db.now; minimal = j.minimal.now } };
+
+    ghost invariant = { λ j. IsTyped (attribute_kinds j.db.now.schema) j.minimal.now.tableau };
 }
 
-impl<'a> Job for Executing<'a> {
+impl<'a> Job for Joining<'a> {
     type Out = Found;
 
-    ghost gives = { IsFound };
+    ghost gives = { λ term found. IsFoundFor term.db term.minimal found };
 
     fn run(self, alloc: Global) -> Result<Found, NoMemory> {
-        executed::<Brand>(alloc, self.tables, &self.task, Blank::new(1))
+        joined(alloc, self.db, self.minimal)
     }
 }
 
@@ -74,10 +83,10 @@ fn executed<L: Ledger>(
     }
 }
 
-/// The join of the kept rows.
-fn job_of<'a>(alloc: Global, db: &'a Database, minimal: &Minimal) -> Result<Executing<'a>, NoMemory>
+/// The task of the kept rows.
+fn task_for(alloc: Global, db: &Database, minimal: &Minimal) -> Result<Task, NoMemory>
     requires { IsTyped (attribute_kinds db.now.schema) minimal.now.tableau }
-    ensures { IfOk result (IsJoinOf db.now minimal.now) }
+    ensures { IfOk result (λ task. IsJoinOf db.now minimal.now (record { tables = db.now.tables; task = task })) }
 {
     db.keeps_its_rules();
     minimal.keeps_its_rules();
@@ -85,26 +94,43 @@ fn job_of<'a>(alloc: Global, db: &'a Database, minimal: &Minimal) -> Result<Exec
     t.keeps_its_rules();
     kept_rows_are_least();
     let task = task_of(alloc, db.schema(), t, minimal.mask())?;
-    Ok(Executing {
-        tables: db.tables(),
-        task,
-    })
+    Ok(task)
+}
+
+/// The answers of the term.
+fn joined(alloc: Global, db: &Database, minimal: &Minimal) -> Result<Found, NoMemory>
+    requires { IsTyped (attribute_kinds db.now.schema) minimal.now.tableau }
+    ensures { IfOk result (IsFoundFor db.now minimal.now) }
+{
+    db.keeps_its_rules();
+    minimal.tableau().keeps_its_rules();
+    let task = task_for(alloc, db, minimal)?;
+    let found = executed::<Brand>(alloc, db.tables(), &task, Blank::new(1))?;
+    Ok(found)
+}
+
+/// The job of the term.
+fn job_of<'a>(db: &'a Database, minimal: &'a Minimal) -> Joining<'a>
+    requires { IsTyped (attribute_kinds db.now.schema) minimal.now.tableau }
+    ensures { result ≡ record { db = db.now; minimal = minimal.now } }
+{
+    Joining { db, minimal }
 }
 
 /// A job for each of the terms with these numbers.
 fn jobs<'a>(
     alloc: Global,
     db: &'a Database,
-    minimals: &[Minimal],
+    minimals: &'a [Minimal],
     kept: &[u16],
-) -> Result<List<Executing<'a>>, NoMemory>
+) -> Result<List<Joining<'a>>, NoMemory>
     requires typed { All (λ m. IsTyped (attribute_kinds db.now.schema) m.tableau) minimals.now }
     requires within { All (λ k. k < length minimals.now) kept.now }
-    ensures { IfOk result (AllZip (λ k job. IsJoinOf db.now (term_at minimals.now k) job) kept.now) }
+    ensures { IfOk result (AllZip (λ k job. job ≡ record { db = db.now; minimal = term_at minimals.now k }) kept.now) }
 {
-    let mut jobs = List::new(alloc);
+    let mut jobs = List::from_vec(Vec::with_capacity(alloc, kept.len())?);
     for k in kept {
-        let job = job_of(alloc, db, &minimals[*k as usize])?;
+        let job = job_of(db, &minimals[*k as usize]);
         jobs.push(job)?;
     }
     Ok(jobs)
@@ -121,13 +147,11 @@ pub fn found<R: Threads + Sync, G: Gate>(
     gate: &G,
 ) -> Result<List<Found>, NoMemory>
     requires typed { All (λ m. IsTyped (attribute_kinds db.now.schema) m.tableau) minimals.now }
-    requires valid { All (λ m. IsValid m.tableau) minimals.now }
     requires within { All (λ k. k < length minimals.now) kept.now }
     requires least { 1 ≤ workers }
     requires most { workers ≤ 16 }
     ensures { IfOk result (AllZip (λ k found. IsFoundFor db.now (term_at minimals.now k) found) kept.now) }
 {
-    db.keeps_its_rules();
     let jobs = jobs(alloc, db, minimals, kept)?;
     let found = each(rt, alloc, jobs, workers, gate)?;
     Ok(found)

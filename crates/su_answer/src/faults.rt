@@ -2,6 +2,7 @@
 ghost use Rattle.std.specs.Prelude.{◌≡◌};
 ghost use Rattle.su_answer.specs.declared.faults.AnswerFault.TheVariants.{NoMemory as OutOfMemory};
 
+use std::alloc::AllocError;
 use su_base::NoMemory;
 use thiserror::Error;
 
@@ -19,6 +20,14 @@ impl From<NoMemory> for AnswerFault {
     ghost from_gives = { λ _ fault. fault ≡ OutOfMemory };
 
     fn from(_: NoMemory) -> AnswerFault {
+        AnswerFault::NoMemory
+    }
+}
+
+impl From<AllocError> for AnswerFault {
+    ghost from_gives = { λ _ fault. fault ≡ OutOfMemory };
+
+    fn from(_: AllocError) -> AnswerFault {
         AnswerFault::NoMemory
     }
 }

@@ -3,9 +3,10 @@
 //! `prepare` makes the terms, minimises each, and finds which of them no other covers; the stored
 //! rows play no part. `answer` joins the kept rows of each kept term over the stored rows, each row
 //! through all objects that have its essential columns, and unites the answers of the terms. Terms are
-//! minimised and executed side by side; how many at a time changes no answer. An answer of more than
-//! 1,000,000 rows is refused. Beside the answers of all kept terms, the memory is that of the joins
-//! that run at a time.
+//! minimised and executed side by side, and what is joined for a term is made by the thread that joins
+//! it; how many at a time changes no answer. An answer of more than 1,000,000 rows is refused. The
+//! answers of the terms ascend, and are merged as they come: beside the joins that run at a time, the
+//! memory is that of the rows so far and of as many answers as there are workers.
 #![tactic(auto)]
 
 mod answering;

@@ -8,7 +8,8 @@ ghost use Rattle.su_tableau.specs.declared.symbols.Sym.TheVariants.{Var};
 ghost use Rattle.su_tableau.specs.Essential.{IsEssential};
 ghost use Rattle.su_schema.specs.SchemaValue.{ObjectEntry, column_of};
 ghost use Rattle.su_steps.specs.Objects.{width, attributes_at};
-ghost use Rattle.su_answer.specs.Joined.{numbers_in, cell, comparison_at, IsSourceOf, IsPushedIf, AreSourcesOf, IsTaskRowOf, IsTaskOf};
+ghost use Rattle.su_answer.specs.Joined.{numbers_in, cell, comparison_at, IsSourceOf, IsTaskRowOf, IsTaskOf};
+ghost use Rattle.su_answer.specs.inside.Joined.{IsPushedIf, AreSourcesOf};
 
 use std::alloc::Global;
 use su_base::{AttrSet, List, NoMemory, ObjSet};

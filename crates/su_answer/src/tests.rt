@@ -1,4 +1,4 @@
-ghost use Rattle.std.specs.Prelude.{◌≤◌, IfOk};
+ghost use Rattle.std.specs.Prelude.{◌≤◌, IfOk, IfSome};
 ghost use Rattle.su_query.specs.Ranges.{IsResolved};
 ghost use Rattle.su_query.specs.Reading.{HasFew};
 ghost use Rattle.su_answer.specs.Prepared.{IsPreparedFor};
@@ -7,8 +7,8 @@ use crate::{Prepared, answer, prepare};
 use std::alloc::{AllocError, Global};
 use std::sync::atomic::{AtomicU64, Ordering};
 use std::test::Fail;
-use std::thread::Threads;
-use su_base::{Row, Value};
+use std::thread::{Threads, join};
+use su_base::{List, Row, Value};
 use su_maxobj::maximal_objects;
 use su_par::{Gate, OpenGate};
 use su_query::{Resolved, Statement, read, resolve};
@@ -470,5 +470,121 @@ fn one_worker_takes_the_terms_in_turn(rt: HostRuntime) -> Result<(), Fail> {
     assert_eq!(rt; told.as_str(), "2 2: B1 /B3 /");
     assert_eq!(rt; minimised.passes(), (2, 0));
     assert_eq!(rt; executed.passes(), (2, 0));
+    Ok(())
+}
+
+/// The query over numbers, if it is one.
+fn resolved_by(alloc: Global, db: &Database, statement: &Statement) -> Option<Resolved>
+    requires { HasFew statement.now }
+    ensures { IfSome result (IsResolved db.now.schema) }
+{
+    match statement {
+        Statement::Retrieve(query) => match resolve(alloc, db.schema(), query) {
+            Ok(resolved) => Some(resolved),
+            Err(_) => None,
+        },
+        _ => None,
+    }
+}
+
+/// The query, prepared by one worker through this gate.
+fn prepared_by<R: Threads + Sync, G: Gate>(
+    rt: &R,
+    alloc: Global,
+    db: &Database,
+    resolved: &Resolved,
+    gate: &G,
+) -> Option<Prepared>
+    requires { IsResolved db.now.schema resolved.now }
+    ensures { IfSome result (IsPreparedFor db.now.schema) }
+{
+    match maximal_objects(alloc, db.schema()) {
+        Ok(maximal) => match prepare(rt, alloc, db, maximal.as_slice(), resolved, 1, gate) {
+            Ok(prepared) => Some(prepared),
+            Err(_) => None,
+        },
+        Err(_) => None,
+    }
+}
+
+/// The answer of the query, by one worker; one gate is for its terms, and one for the kept ones.
+fn answered_by<R: Threads + Sync, F: Gate, G: Gate>(
+    rt: &R,
+    alloc: Global,
+    db: &Database,
+    resolved: &Resolved,
+    gates: (&F, &G),
+) -> Option<List<Row>>
+    requires { IsResolved db.now.schema resolved.now }
+{
+    match prepared_by(rt, alloc, db, resolved, gates.0) {
+        Some(prepared) => match answer(rt, alloc, db, &prepared, 1, gates.1) {
+            Ok(rows) => Some(rows),
+            Err(_) => None,
+        },
+        None => None,
+    }
+}
+
+/// The answer of the query of the text, through these gates.
+fn rows_by<R: Threads + Sync, F: Gate, G: Gate>(
+    rt: &R,
+    alloc: Global,
+    db: &Database,
+    text: &str,
+    gates: (&F, &G),
+) -> Option<List<Row>> {
+    match read(alloc, text.as_bytes()) {
+        Ok(statement) => match resolved_by(alloc, db, &statement) {
+            Some(resolved) => answered_by(rt, alloc, db, &resolved, gates),
+            None => None,
+        },
+        Err(_) => None,
+    }
+}
+
+/// A caller's own thread, which passes the meeting as the job with this number.
+#[derive(Drop)]
+struct Caller<'a> {
+    meeting: &'a Meeting,
+    number: usize,
+}
+
+impl<'a> Gate for Caller<'a> {
+    fn pass(&self, _job: usize) {
+        self.meeting.pass(self.number);
+    }
+}
+
+// Each query takes one term: where the one is executed the other is minimised.
+#[test]
+fn one_thread_answers_while_another_prepares(rt: HostRuntime) -> Result<(), Fail> {
+    let a = rt.alloc();
+    let db = stored(a, BANK, &BANK_ROWS)?;
+    let richer = "retrieve (t.CUST) where t.BAL > BAL and ACCT = 1";
+    let accounts = "retrieve (t.ACCT) where t.ACCT = ACCT and t.BAL >= BAL";
+    let meeting = Meeting::new();
+    let answers = Caller {
+        meeting: &meeting,
+        number: 0,
+    };
+    let prepares = Caller {
+        meeting: &meeting,
+        number: 1,
+    };
+    let (one, other) = join(
+        &rt,
+        || rows_by(&rt, a, &db, richer, (&OpenGate, &answers)),
+        || rows_by(&rt, a, &db, accounts, (&prepares, &OpenGate)),
+    );
+    assert_eq!(rt;
+        shown(a, one.unwrap_or(List::new(a)).as_slice())?.as_str(),
+        "Smith /"
+    );
+    assert_eq!(rt;
+        shown(a, other.unwrap_or(List::new(a)).as_slice())?.as_str(),
+        "1 /2 /"
+    );
+    assert_eq!(rt; meeting.passes(), (1, 1, 0));
     Ok(())
 }

@@ -5,7 +5,6 @@ use Rattle.std.proofs.lemmas.Bool.Decides.{nat_tests}
 use Rattle.std.proofs.lemmas.List.{nil_from_length}
 use Rattle.std.proofs.lemmas.Result.{err_from_is_err_and}
 use Rattle.su_base.specs.declared.values.Value.{Value}
-use Rattle.su_tableau.specs.Tableaux.{IsValid}
 use Rattle.su_tableau.specs.Kinds.{IsTyped}
 use Rattle.su_schema.specs.SchemaValue.{attribute_kinds}
 use Rattle.su_min.specs.Kept.{Minimised}
@@ -13,9 +12,9 @@ use Rattle.su_min.specs.Reduction.{term_at}
 use Rattle.su_answer.specs.declared.faults.AnswerFault.{AnswerFault}
 use Rattle.su_answer.specs.declared.faults.AnswerFault.TheVariants.{Limit}
 use Rattle.su_answer.specs.Answers.{IsAnswer, AreMoreThan}
-use Rattle.su_answer.specs.Executed.{IsFoundFor}
+use Rattle.su_answer.specs.inside.Executed.{IsFoundFor}
 use Rattle.su_answer.proofs.Counting.{minimals_fit}
-use Rattle.su_answer.proofs.Union.{AreUnited, kept_low, all_left, halves, wave_low, wave_united, wave_more, more_answers, are_answers}
+use Rattle.su_answer.proofs.Union.{AreUnited, kept_low, all_left, halves, wave_low, wave_united, wave_more, lists_ascend, more_answers, are_answers}
 use Rattle.su_answer.proofs.answering.answer.Goals as goal
 
 pub loop-minimals-init : goal.loop-minimals-init
@@ -31,12 +30,6 @@ found-requires-clause-typed g c κs within =
     let fit = minimals_fit c.terms_are_valid_and_typed.ensures c.args.db.now.schema p.maximal p.query c.args.prepared.now c.keeps_its_rules.ensures.valid p.resolved p.is in
     subst (λ (ms : List Minimised). All (λ (m : Minimised). IsTyped (attribute_kinds c.args.db.now.schema) m.tableau) ms) (sym c.as_slice-minimals.ensures) (λ k d l. (fit k d l).1)
 
-pub found-requires-clause-valid : goal.found-requires-clause-valid
-found-requires-clause-valid g c κs within =
-    let p = c.requires.prepared in
-    let fit = minimals_fit c.terms_are_valid_and_typed.ensures c.args.db.now.schema p.maximal p.query c.args.prepared.now c.keeps_its_rules.ensures.valid p.resolved p.is in
-    subst (λ (ms : List Minimised). All (λ (m : Minimised). IsValid m.tableau) ms) (sym c.as_slice-minimals.ensures) (λ k d l. (fit k d l).0)
-
 pub found-requires-clause-within : goal.found-requires-clause-within
 found-requires-clause-within g c κs within =
     let p = c.args.prepared.now in
@@ -44,6 +37,14 @@ found-requires-clause-within g c κs within =
     let parts = halves c.min.result c.loop-minimals.left.now now c.split_at.result.1.now c.split_at.ensures.front c.split_at.ensures.back in
     subst (λ (ms : List Minimised). All (λ k. k < length ms) now) (sym c.as_slice-minimals.ensures)
     (wave_low c.args.db.now p.minimals p.reduced.kept c.loop-minimals.left.now now c.split_at.result.1.now c.loop-minimals.rows (length p.minimals) c.loop-minimals.invariant parts (kept_low p c.requires.prepared.is.reduced))
+
+pub gathered-requires-clause-lists : goal.gathered-requires-clause-lists
+gathered-requires-clause-lists g c =
+    let db = c.args.db.now in
+    let p = c.args.prepared.now in
+    let now : List ℕ = c.split_at.result.0.now in
+    lists_ascend db p.minimals now c.in_ok-lists.lists
+    (subst (λ (ms : List Minimised). AllZip (λ k f. IsFoundFor db (term_at ms k) f) now c.in_ok-lists.lists) c.as_slice-minimals.ensures c.in_ok-lists.ensures)
 
 pub returns-in_err-rows-clause-limit : goal.returns-in_err-rows-clause-limit
 returns-in_err-rows-clause-limit g c =

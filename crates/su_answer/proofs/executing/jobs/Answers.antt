@@ -1,8 +1,8 @@
-use Rattle.std.proofs.Common.{◌∙◌, ℕ, [], subst, get_or}
+use Rattle.std.proofs.Common.{◌≡◌, ◌∙◌, ℕ, [], subst, get_or}
 use Rattle.std.proofs.lemmas.List.{get_or_default}
 use Rattle.su_min.specs.Kept.{Minimised}
 use Rattle.su_min.specs.Reduction.{term_at}
-use Rattle.su_answer.specs.Executed.{IsJoinOf}
+use Rattle.su_answer.specs.inside.Executed.{TermOver}
 use Rattle.su_answer.proofs.Zipping.{zip_more}
 use Rattle.su_answer.proofs.executing.jobs.Goals as goal
 
@@ -13,5 +13,6 @@ loop-k-preserved c =
     let i = c.loop-k.k-index in
     let k : ℕ = get_or kept i 0 in
     let none : Minimised = record { tableau = record { width = 0; rows = []; head = []; outputs = 0; operators = [] }; mask = 0; fold = [] } in
-    let is : IsJoinOf c.args.db.now (term_at minimals k) c.in_ok-job.job = subst (λ (m : Minimised). IsJoinOf c.args.db.now m c.in_ok-job.job) (c.index-minimals-k.is ∙ get_or_default minimals k c.index-minimals-k.result none (c.requires.within i 0 c.loop-k-test.true)) c.in_ok-job.ensures in
-    zip_more (λ k job. IsJoinOf c.args.db.now (term_at minimals k) job) kept c.loop-k.jobs c.push.new.self i k c.in_ok-job.job c.loop-k-test.true (get_or_default kept i 0 k c.loop-k-test.true) c.loop-k.invariant is c.in_ok-push.ensures.ok
+    let is : c.job_of-job.result ≡ record { db = c.args.db.now; minimal = term_at minimals k } =
+    subst (λ (m : Minimised). c.job_of-job.result ≡ record { db = c.args.db.now; minimal = m }) (c.index-minimals-k.is ∙ get_or_default minimals k c.index-minimals-k.result none (c.requires.within i 0 c.loop-k-test.true)) c.job_of-job.ensures in
+    zip_more (λ k (job : TermOver). job ≡ record { db = c.args.db.now; minimal = term_at minimals k }) kept c.loop-k.jobs c.push.new.self i k c.job_of-job.result c.loop-k-test.true (get_or_default kept i 0 k c.loop-k-test.true) c.loop-k.invariant is c.in_ok-push.ensures.ok

@@ -1,4 +1,4 @@
-use Rattle.su_answer.specs.Joined.{AreSourcesOf}
+use Rattle.su_answer.specs.inside.Joined.{AreSourcesOf}
 use Rattle.su_answer.proofs.tasks.sources_of.Given as goal
 
 abbrev pub invariant-loop-o : goal.invariant-loop-o

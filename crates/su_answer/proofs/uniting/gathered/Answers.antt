@@ -1,5 +1,13 @@
-use Rattle.std.proofs.Common.{◌≡◌, inl, inr, length, arith}
-use Rattle.su_answer.proofs.Gathering.{begun, one_list, all_rows, all_some, last_in, too_many}
+use Rattle.std.proofs.Common.{◌≡◌, ◌⊎◌, inl, inr, List, Contains, Result, None, sym, subst}
+use Rattle.std.specs.Prelude.{IfErr}
+use Rattle.std.proofs.lemmas.Result.{err_from_is_err_and}
+use Rattle.su_base.specs.declared.values.Value.{Value}
+use Rattle.su_answer.specs.declared.found.Found.{Found}
+use Rattle.su_answer.specs.declared.faults.AnswerFault.{AnswerFault}
+use Rattle.su_answer.specs.declared.faults.AnswerFault.TheVariants.{Limit}
+use Rattle.su_answer.specs.Answers.{AreMoreThan}
+use Rattle.su_answer.specs.inside.Executed.{IsInSome}
+use Rattle.su_answer.proofs.Gathering.{begun, one_list, all_rows, all_some, last_in, rows_ascend, too_many}
 use Rattle.su_answer.proofs.uniting.gathered.Goals as goal
 
 pub loop-list-init : goal.loop-list-init
@@ -8,23 +16,25 @@ loop-list-init c = begun c.args.lists c.args.so_far c.requires.ascending c.requi
 pub returns-in_default-rows-clause-limit : goal.returns-in_default-rows-clause-limit
 returns-in_default-rows-clause-limit c = λ _. inl (c.in-Some.list, last_in c.args.lists c.loop-list.lists c.pop.new.self c.in-Some.list c.args.so_far c.loop-list.all c.loop-list.invariant.gathered c.in-Some.ensures, c.in_default-rows.is)
 
-pub returns-then-len-gt-MOST-clause-limit : goal.returns-then-len-gt-MOST-clause-limit
-returns-then-len-gt-MOST-clause-limit c = λ _.
-    let many = c.if-len-gt-MOST.true in
-    let len : c.len.result ≡ length c.in_ok-all.all = search (c.len.ensures) in
-    inr (too_many c.args.lists c.pop.new.self c.args.so_far c.in_ok-all.all
-    (one_list c.args.lists c.loop-list.lists c.pop.new.self c.in-Some.list c.args.so_far c.in-Some-rows.more c.loop-list.all c.in_ok-all.all c.loop-list.invariant.gathered c.in-Some.ensures c.in-Some-rows.is c.in_ok-all.ensures.members)
-    c.in_ok-all.ensures.ascending (omega arith))
+pub united-requires-clause-more : goal.united-requires-clause-more
+united-requires-clause-more c =
+    rows_ascend c.args.lists c.in-Some.list c.in-Some-rows.more c.requires.lists
+    (last_in c.args.lists c.loop-list.lists c.pop.new.self c.in-Some.list c.args.so_far c.loop-list.all c.loop-list.invariant.gathered c.in-Some.ensures) c.in-Some-rows.is
+
+pub returns-in_err-all-clause-limit : goal.returns-in_err-all-clause-limit
+returns-in_err-all-clause-limit c =
+    let limit : AnswerFault → Type 0 = λ fault. fault ≡ Limit → ((f : Found) × Contains c.args.lists f × (f.rows ≡ None)) ⊎ AreMoreThan 1000000 (λ h. Contains c.args.so_far h ⊎ IsInSome c.args.lists h) in
+    let e = err_from_is_err_and c.from_residual.result c.from_residual.ensures.1 in
+    subst (λ (r : Result (List (List Value)) AnswerFault). IfErr r limit) (sym e.1)
+    (subst limit (sym e.2)
+    (λ is. inr (too_many c.args.lists c.loop-list.lists c.pop.new.self c.in-Some.list c.args.so_far c.in-Some-rows.more c.loop-list.all c.loop-list.invariant.gathered c.in-Some.ensures c.in-Some-rows.is (c.in_err-all.ensures.limit is))))
 
 pub loop-list-preserved : goal.loop-list-preserved
-loop-list-preserved c =
-    let few = c.if-len-gt-MOST.false in
-    let len : c.len.result ≡ length c.in_ok-all.all = search (c.len.ensures) in
-    record {
-      gathered = one_list c.args.lists c.loop-list.lists c.pop.new.self c.in-Some.list c.args.so_far c.in-Some-rows.more c.loop-list.all c.in_ok-all.all c.loop-list.invariant.gathered c.in-Some.ensures c.in-Some-rows.is c.in_ok-all.ensures.members;
-      ascending = c.in_ok-all.ensures.ascending;
-      few = omega arith;
-    }
+loop-list-preserved c = record {
+  gathered = one_list c.args.lists c.loop-list.lists c.pop.new.self c.in-Some.list c.args.so_far c.in-Some-rows.more c.loop-list.all c.in_ok-all.all c.loop-list.invariant.gathered c.in-Some.ensures c.in-Some-rows.is c.in_ok-all.ensures.members;
+  ascending = c.in_ok-all.ensures.ascending;
+  few = c.in_ok-all.ensures.few;
+}
 
 pub returns-clause-rows : goal.returns-clause-rows
 returns-clause-rows c = λ h. all_rows c.args.lists c.loop-list.lists c.args.so_far c.loop-list.all c.loop-list.invariant.gathered c.in_default.ensures.0 h

@@ -1,31 +1,54 @@
-use Rattle.std.proofs.Common.{◌≡◌, ⊎_elim, List, ◌++◌, Contains, sym, subst, ◌∙◌}
-use Rattle.std.specs.List.{dedup}
-use Rattle.std.specs.List.Sorted.{IsPermutation, IsStrictlySortedBy}
-use Rattle.std.specs.Cmp.Lexicographic.{pointwise}
-use Rattle.std.proofs.lemmas.List.Elements.{Contains-append_left, Contains-append_right, Contains-append_cases}
-use Rattle.std.proofs.lemmas.List.Filters.{dedup_is}
+use Rattle.std.proofs.Common.{◌≡◌, [], ◌∷◌, ◌++◌, List, length, sym, ap, ◌∙◌, subst, arith}
+use Rattle.std.specs.Prelude.{reverse}
+use Rattle.std.specs.List.Sorted.{IsStrictlySortedBy}
+use Rattle.std.proofs.lemmas.List.{length-append, length-reverse, reverse-append}
 use Rattle.su_base.specs.declared.values.Value.{Value}
 use Rattle.su_base.specs.Value.{compare_lists}
-use Rattle.su_base.specs.contracts.values.ValuePartialEq.TheImpl.{ghosts}
-use Rattle.su_exec.proofs.Sorting.{once, same_members}
+use Rattle.su_answer.proofs.Merging.{AreMerged, none_taken, left_sorted, right_sorted, one_taken, one_too_many, all_taken}
 use Rattle.su_answer.proofs.uniting.united.Goals as goal
+
+pub loop-row-init : goal.loop-row-init
+loop-row-init c =
+    let none : c.in_ok-merged.merged.items ≡ [] = c.in_ok-merged.ensures.items in (
+      subst (λ (xs : List (List Value)). AreMerged c.args.rows c.args.more c.args.rows c.args.more (reverse xs)) (sym none) (none_taken c.args.rows c.args.more c.requires.rows c.requires.more),
+      (let e = ap (λ (xs : List (List Value)). length xs) none in omega (arith, e)),
+    )
+
+pub take_greatest-requires-clause-left : goal.take_greatest-requires-clause-left
+take_greatest-requires-clause-left c = left_sorted c.args.rows c.args.more c.loop-row.left c.loop-row.right (reverse c.loop-row.merged.items) c.loop-row.invariant.0
+
+pub take_greatest-requires-clause-right : goal.take_greatest-requires-clause-right
+take_greatest-requires-clause-right c = right_sorted c.args.rows c.args.more c.loop-row.left c.loop-row.right (reverse c.loop-row.merged.items) c.loop-row.invariant.0
+
+pub returns-then-len-eq-MOST-clause-limit : goal.returns-then-len-eq-MOST-clause-limit
+returns-then-len-eq-MOST-clause-limit c = λ _.
+    let full = c.if-len-eq-MOST.true in
+    let len : c.len-in-Some.result ≡ length c.loop-row.merged.items = search (c.len-in-Some.ensures) in
+    let r = length-reverse c.loop-row.merged.items in
+    one_too_many c.args.rows c.args.more c.loop-row.left c.loop-row.right (reverse c.loop-row.merged.items) c.loop-row.invariant.0 c.take_greatest.new.left c.take_greatest.new.right c.in-Some.row c.in-Some.ensures (omega (arith, full, len, r))
+
+pub loop-row-preserved : goal.loop-row-preserved
+loop-row-preserved c =
+    let more = c.if-len-eq-MOST.false in
+    let few = c.loop-row.invariant.1 in
+    let len : c.len-in-Some.result ≡ length c.loop-row.merged.items = search (c.len-in-Some.ensures) in
+    let is : c.push.new.self.items ≡ c.loop-row.merged.items ++ c.in-Some.row ∷ [] = c.in-Ok.ensures.items in
+    let back : c.in-Some.row ∷ reverse c.loop-row.merged.items ≡ reverse c.push.new.self.items = sym (ap (λ (xs : List (List Value)). reverse xs) is ∙ reverse-append c.loop-row.merged.items (c.in-Some.row ∷ [])) in (
+      subst (λ (xs : List (List Value)). AreMerged c.args.rows c.args.more c.take_greatest.new.left c.take_greatest.new.right xs) back
+          (one_taken c.args.rows c.args.more c.loop-row.left c.loop-row.right (reverse c.loop-row.merged.items) c.loop-row.invariant.0 c.take_greatest.new.left c.take_greatest.new.right c.in-Some.row c.in-Some.ensures),
+      (let e = ap (λ (xs : List (List Value)). length xs) is in
+          let l = length-append c.loop-row.merged.items (c.in-Some.row ∷ []) in
+          omega (arith, e, l, more, few, len)),
+    )
 
 pub returns-clause-members : goal.returns-clause-members
 returns-clause-members c = λ h.
-    let sorted : List (List Value) = c.sort.new.self.items in
-    let kept : List (List Value) = c.dedup.new.self.items in
-    let both : List (List Value) = c.args.rows ++ c.args.more in
-    let is : kept ≡ dedup (pointwise ghosts.eq) sorted = dedup_is (pointwise ghosts.eq) sorted kept c.dedup.ensures.filtered in
-    let same = same_members both sorted kept (subst (λ (xs : List (List Value)). IsPermutation xs sorted) (c.into_vec-all.ensures ∙ c.in_ok-append.ensures.ok) c.sort.ensures.permutation) is h in (
-      λ m. Contains-append_cases c.args.rows c.args.more h (same.0 (subst (λ (xs : List (List Value)). Contains xs h) c.from_vec.ensures m)),
-      λ s. subst (λ (xs : List (List Value)). Contains xs h) (sym c.from_vec.ensures) (same.1 (⊎_elim (Contains-append_left c.args.rows c.args.more h) (Contains-append_right c.args.rows c.args.more h) s)),
-    )
+    let is : c.from_vec.result ≡ reverse c.loop-row.merged.items = c.from_vec.ensures ∙ c.reverse.ensures.items in
+    let all = all_taken c.args.rows c.args.more c.loop-row.left c.loop-row.right (reverse c.loop-row.merged.items) c.loop-row.invariant.0 c.in_default.ensures.0 c.in_default.ensures.1 in
+    rw is (all.0 h)
 
 pub returns-clause-ascending : goal.returns-clause-ascending
 returns-clause-ascending c =
-    let sorted : List (List Value) = c.sort.new.self.items in
-    let kept : List (List Value) = c.dedup.new.self.items in
-    let both : List (List Value) = c.args.rows ++ c.args.more in
-    let is : kept ≡ dedup (pointwise ghosts.eq) sorted = dedup_is (pointwise ghosts.eq) sorted kept c.dedup.ensures.filtered in
-    subst (λ (xs : List (List Value)). IsStrictlySortedBy compare_lists xs) (sym c.from_vec.ensures)
-    (once both sorted kept (subst (λ (xs : List (List Value)). IsPermutation xs sorted) (c.into_vec-all.ensures ∙ c.in_ok-append.ensures.ok) c.sort.ensures.permutation) is c.in_ok-sort.ensures.sorted)
+    let is : c.from_vec.result ≡ reverse c.loop-row.merged.items = c.from_vec.ensures ∙ c.reverse.ensures.items in
+    let all = all_taken c.args.rows c.args.more c.loop-row.left c.loop-row.right (reverse c.loop-row.merged.items) c.loop-row.invariant.0 c.in_default.ensures.0 c.in_default.ensures.1 in
+    subst (λ (xs : List (List Value)). IsStrictlySortedBy compare_lists xs) (sym is) all.1

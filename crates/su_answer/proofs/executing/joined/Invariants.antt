@@ -1,4 +1,4 @@
-use Rattle.su_answer.proofs.executing.ExecutingJob.run.Given as goal
+use Rattle.su_answer.proofs.executing.joined.Given as goal
 
 abbrev pub ghosts-executed : goal.ghosts-executed
 ghosts-executed a = record { name = a.blank.name; parts = a.blank.parts }

@@ -1,27 +1,24 @@
-use Rattle.std.proofs.Common.{List, sym, subst}
-use Rattle.su_rel.specs.Stored.{Stored}
+use Rattle.std.proofs.Common.{refl, subst}
 use Rattle.su_schema.specs.SchemaValue.{SchemaValue, attribute_kinds}
 use Rattle.su_tableau.specs.Tableaux.{Tab, IsValid, IsSmall}
 use Rattle.su_exec.specs.Tasks.{IsTask}
 use Rattle.su_answer.specs.Joined.{IsTaskOf}
 use Rattle.su_answer.proofs.Fits.{task_fits}
-use Rattle.su_answer.proofs.executing.job_of.Goals as goal
+use Rattle.su_answer.proofs.executing.task_for.Goals as goal
+use Rattle.su_answer.proofs.executing.task_for.Goals.{In_ok-task}
 
-task_is : (c : goal.After-tables) → IsTaskOf c.args.db.now.schema c.args.minimal.now.tableau c.args.minimal.now.mask c.in_ok-task.task
+task_is : (c : In_ok-task) → IsTaskOf c.args.db.now.schema c.args.minimal.now.tableau c.args.minimal.now.mask c.in_ok-task.task
 task_is c =
     subst (λ (s : SchemaValue). IsTaskOf s c.args.minimal.now.tableau c.args.minimal.now.mask c.in_ok-task.task) c.schema.ensures
     (subst (λ (t : Tab). IsTaskOf c.schema.result.now t c.args.minimal.now.mask c.in_ok-task.task) c.tableau-t.ensures
     (subst (λ m. IsTaskOf c.schema.result.now c.tableau-t.result.now m c.in_ok-task.task) c.mask.ensures.is c.in_ok-task.ensures))
 
-fits_is : (c : goal.After-tables) → IsTask c.args.db.now.tables c.in_ok-task.task
+fits_is : (c : In_ok-task) → IsTask c.args.db.now.tables c.in_ok-task.task
 fits_is c =
     let valid : IsValid c.args.minimal.now.tableau = subst IsValid c.tableau-t.ensures c.keeps_its_rules-3.ensures.valid in
     let small : IsSmall c.args.minimal.now.tableau = subst IsSmall c.tableau-t.ensures c.keeps_its_rules-3.ensures.small in
     let least = c.kept_rows_are_least.ensures (attribute_kinds c.args.db.now.schema) c.args.minimal.now.tableau c.args.minimal.now.mask valid c.requires c.keeps_its_rules-2.ensures.kept in
     task_fits c.args.db.now c.args.minimal.now.tableau c.args.minimal.now.mask c.in_ok-task.task c.keeps_its_rules.ensures small valid least.valid (task_is c)
 
-pub invariant_of-result : goal.invariant_of-result
-invariant_of-result c = subst (λ (tables : List Stored). IsTask tables c.in_ok-task.task) (sym c.tables.ensures) (fits_is c)
-
 pub returns : goal.returns
-returns c = record { tables = c.tables.ensures; task = task_is c; fits = fits_is c }
+returns c = record { tables = refl; task = task_is c; fits = fits_is c }

@@ -1,4 +1,5 @@
 -- What the jobs of kept terms give, one after another.
+-- No public contract cites this module.
 use Rattle.std.specs.Prelude.{◌≡◌, ◌↔◌, List, Contains, MatchOption, Some}
 use Rattle.std.specs.List.Sorted.{IsStrictlySortedBy}
 use Rattle.su_base.specs.declared.values.Value.{Value}
@@ -21,6 +22,11 @@ pub record Join : Type 0 where
 -- the outputs of the task, or there are more than there may be
 abbrev pub IsFound : Join → Found → Type 0
 IsFound join found = MatchOption found.rows (AreMore join.tables join.task 1000000) (AreOutputs join.tables join.task)
+
+-- a minimised term of a query, and the database over which its rows are joined
+pub record TermOver : Type 0 where
+  pub db : DatabaseValue
+  pub minimal : Minimised
 
 -- the join is that of the kept rows
 pub record IsJoinOf (db : DatabaseValue) (m : Minimised) (join : Join) : Type 0 where
