@@ -17,6 +17,7 @@ use Rattle.su_session.specs.declared.replies.Reply.{Reply}
 use Rattle.su_session.specs.Telling.{Accepts, Refuses}
 use Rattle.su_session.specs.Retrieving.{AfterTerms}
 
+-- a certificate has at most this many nodes
 abbrev pub node_limit : ℕ
 node_limit = 200000
 

@@ -4,6 +4,7 @@ pub mod Retrieving
 pub mod Statements
 pub mod Telling
 pub mod Certifying
+pub mod Commands
 pub mod Comparing
 pub mod Windowing
 pub mod Laws

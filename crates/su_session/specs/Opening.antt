@@ -2,5 +2,6 @@
 use Rattle.su_schema.specs.SchemaValue.{SchemaValue}
 use Rattle.su_state.specs.DatabaseValue.{DatabaseValue, empty_tables}
 
+-- the schema without a row
 abbrev pub empty_database : SchemaValue → DatabaseValue
 empty_database schema = record { schema = schema; tables = empty_tables schema }

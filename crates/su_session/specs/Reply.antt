@@ -26,10 +26,12 @@ use Rattle.su_session.specs.Statements.{Answers, relation_number}
 abbrev pub is_definition_word : List ℕ → Bool
 is_definition_word w = bytes_eq w (codes "attribute") || bytes_eq w (codes "relation") || bytes_eq w (codes "object") || bytes_eq w (codes "fd") || bytes_eq w (codes "maximal")
 
+-- the first symbol is a word that begins definitions
 abbrev pub begins_definition : List Symbol → Bool
 begins_definition (Word w ∷ others) = is_definition_word w
 begins_definition others = false
 
+-- the text begins as definitions do
 abbrev pub IsDefining : List ℕ → Type 0
 IsDefining text = (symbols : List Symbol) × Symbols text symbols × IsTrue (begins_definition symbols)
 

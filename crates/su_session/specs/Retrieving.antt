@@ -57,5 +57,6 @@ pub record ShowsExplanation (db : DatabaseValue) (maximal : List (FinSet nat_cmp
   pub explanation : IsExplanation db.schema q (resolved_of db.schema q) prepared.terms prepared.minimals prepared.reduced reply.bytes
   pub text : Accepts reply.bytes reply
 
+-- the explanation of the query's terms, or why there is none; nothing changes
 abbrev pub Explains : DatabaseValue → AQuery → Reply → DatabaseValue → Type 0
 Explains db q reply new = AfterTerms db q reply new (λ maximal. ShowsExplanation db maximal q reply × (new ≡ db))

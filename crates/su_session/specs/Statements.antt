@@ -39,9 +39,11 @@ InRelation db name reply new Known =
     ((relation_number db name ≡ None) × Refuses db (State (UnknownRelation name)) reply new)
     ⊎ ((r : ℕ) × (relation_number db name ≡ Some r) × Known r)
 
+-- the row is inserted into relation r, and the answer is told
 abbrev pub InsertsRow : DatabaseValue → List Value → Reply → DatabaseValue → ℕ → Type 0
 InsertsRow db row reply new r = (answer : Result Bool StateFault) × Inserts db r row answer new × TellsInsert db answer reply new
 
+-- the row is deleted from relation r, and the answer is told
 abbrev pub DeletesRow : DatabaseValue → List Value → Reply → DatabaseValue → ℕ → Type 0
 DeletesRow db row reply new r = (answer : Result Bool StateFault) × Deletes db r row answer new × TellsDelete db answer reply new
 
@@ -62,6 +64,7 @@ LoadsRows db bytes reply new r =
 abbrev pub PrintsRows : DatabaseValue → Reply → DatabaseValue → ℕ → Type 0
 PrintsRows db reply new r = ((rows : List (List Value)) × AreInOrder (rows_of db r) rows × Accepts (rows_text (column_names (columns_of db r)) rows) reply) × (new ≡ db)
 
+-- the schema and its maximal objects; nothing changes
 abbrev pub ShowsSchema : DatabaseValue → Reply → DatabaseValue → Type 0
 ShowsSchema db reply new = ((sets : List (FinSet nat_cmp)) × AreMaximalObjects db.schema sets × Accepts (schema_reply db.schema sets) reply) × (new ≡ db)
 

@@ -11,10 +11,12 @@ use Rattle.su_show.specs.declared.statement_refusal.Refusal.TheVariants.{State, 
 use Rattle.su_show.specs.Refusing.{refusal_line, IsNoMemory}
 use Rattle.su_session.specs.declared.replies.Reply.{Reply}
 
+-- an accepted statement with this text
 pub record Accepts (text : List ℕ) (reply : Reply) : Type 0 where
   pub accepted : reply.refused ≡ false
   pub text_is : reply.bytes ≡ text
 
+-- a refused statement with the line of its refusal; nothing changes
 pub record Refuses (db : DatabaseValue) (refusal : Refusal) (reply : Reply) (new : DatabaseValue) : Type 0 where
   pub refused : reply.refused ≡ true
   pub line : reply.bytes ≡ refusal_line db.schema refusal
@@ -33,9 +35,11 @@ TellsDelete db (Ok true) reply new = Accepts (codes "deleted 1\n") reply
 TellsDelete db (Ok false) reply new = Accepts (codes "deleted 0\n") reply
 TellsDelete db (Err fault) reply new = Refuses db (State fault) reply new
 
+-- how many rows were deleted
 abbrev pub deleted_text : ℕ → List ℕ
 deleted_text count = codes "deleted " ++ decimal count ++ codes "\n"
 
+-- how many rows were new, and how many were given
 abbrev pub loaded_text : ℕ → ℕ → List ℕ
 loaded_text count records = codes "loaded " ++ decimal count ++ codes " of " ++ decimal records ++ codes "\n"
 

@@ -3,16 +3,13 @@ ghost use Rattle.std.specs.Prelude.{◌≡◌, Ok as OkOf, IfOk, IfErr, OnErr};
 ghost use Rattle.su_maxobj.specs.MaximalObjects.{AreMaximalObjects};
 ghost use Rattle.su_schema.specs.SchemaValue.{SchemaValue};
 ghost use Rattle.su_schema.specs.Defining.{applied, IsRefusal, IsWellNamed};
-ghost use Rattle.su_session.specs.Reply.{AddsDefinition, RepliesDefinition};
+ghost use Rattle.su_session.specs.Reply.{AddsDefinition};
 
 use crate::replies::{Reply, accepted_line, refused};
 use crate::sessions::Session;
 use std::alloc::Global;
 use su_base::{List, NoMemory, ObjSet};
-use su_ddl::definition;
-use su_lex::LexEnd;
 use su_maxobj::maximal_objects;
-use su_query::QueryFault;
 use su_schema::{Definition, Schema, SchemaFault};
 use su_show::Refusal;
 use su_state::DefineFault;
@@ -35,7 +32,7 @@ fn maximal_with(
 impl Session {
     // The definition is tried on a copy of the schema, whose maximal objects are found before anything
     // changes.
-    fn add(&mut self, definition: &Definition) -> Result<Reply, NoMemory>
+    pub(crate) fn add(&mut self, definition: &Definition) -> Result<Reply, NoMemory>
         requires { IsWellNamed definition.now }
         ensures replied { IfOk result (λ reply. AddsDefinition self.old definition.now reply self.new) }
         ensures unchanged { OnErr result (self.new ≡ self.old) }
@@ -54,19 +51,6 @@ impl Session {
                 Ok(reply)
             }
             Err(fault) => refused(self.alloc, &self.db, Refusal::Define(fault)),
-        }
-    }
-
-    pub(crate) fn define(&mut self, text: &[u8]) -> Result<Reply, NoMemory>
-        ensures replied { IfOk result (λ reply. RepliesDefinition self.old text.now reply self.new) }
-        ensures unchanged { OnErr result (self.new ≡ self.old) }
-    {
-        match definition(self.alloc, text) {
-            Ok(definition) => self.add(&definition),
-            Err(LexEnd::Syntax) => {
-                refused(self.alloc, &self.db, Refusal::Query(QueryFault::Syntax))
-            }
-            Err(LexEnd::NoMemory) => Err(NoMemory),
         }
     }
 }

@@ -1,5 +1,6 @@
 //! One statement at a time: its reply, and what it changes.
 //!
+//! `read` says what a text asks for, once; a `Session` says which file that wants, and carries it out.
 //! A `Session` is a database with the maximal objects of its schema, which are found once for each
 //! definition and never for a statement. A refused statement, and one that finds no memory, changes
 //! nothing: the room for the reply is taken before the change is made. The terms of a query are
@@ -8,6 +9,7 @@
 
 mod certifying;
 mod changes;
+mod commands;
 mod comparing;
 mod crossing;
 mod definitions;
@@ -20,6 +22,7 @@ mod showing;
 mod wants;
 mod windowing;
 
+pub use commands::{Command, read};
 pub use replies::Reply;
 pub use sessions::Session;
 pub use wants::Want;

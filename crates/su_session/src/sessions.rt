@@ -1,9 +1,9 @@
 //! The session: a database, its maximal objects, and one statement after another.
-ghost use Rattle.std.specs.Prelude.{◌≡◌, ◌≢◌, ◌≤◌, ◌↔◌, ℕ, List as Items, IsTrue, IfOk, OnErr, MatchOption, option_map, unwrap_or, []};
-ghost use Rattle.su_session.specs.Reply.{is_definition_word, begins_definition, IsDefining};
+ghost use Rattle.std.specs.Prelude.{◌≡◌, ◌≤◌, ℕ, List as Items, IfOk, OnErr, option_map, unwrap_or, []};
 
 use crate::certifying::certify;
 use crate::changes::{delete, delete_where, insert, load};
+use crate::commands::{Command, load_of, read};
 use crate::comparing::compare;
 use crate::replies::{Reply, refused};
 use crate::retrieving::{explain, retrieve};
@@ -13,11 +13,10 @@ use crate::windowing::show_window;
 use std::alloc::Global;
 use std::marker::Model;
 use std::thread::Threads;
-use su_base::{List, NoMemory, ObjSet, Str};
-use su_lex::{LexEnd, Symbol, symbols};
+use su_base::{List, NoMemory, ObjSet};
 use su_maxobj::maximal_objects;
 use su_par::Gate;
-use su_query::{Query, QueryFault, Statement, read};
+use su_query::{Query, Statement};
 use su_schema::Schema;
 use su_show::Refusal;
 use su_state::Database;
@@ -59,57 +58,6 @@ impl Model for Session {
     ghost invariant = { λ s. AreMaximalObjects s.db.schema s.maximal };
 }
 
-// Whether the symbols begin a definition.
-fn begins_definition(symbols: &[Symbol]) -> bool
-    ensures { result ≡ begins_definition symbols.now }
-{
-    match symbols {
-        [Symbol::Word(word), ..] => is_definition_word(word.as_str()),
-        _ => false,
-    }
-}
-
-// Whether the words of a text begin a definition; a text without symbols doesn't.
-fn is_defining(alloc: Global, text: &[u8]) -> Result<bool, NoMemory>
-    ensures { IfOk result (λ yes. IsTrue yes ↔ IsDefining text.now) }
-{
-    match symbols(alloc, text) {
-        Ok(symbols) => Ok(begins_definition(symbols.as_slice())),
-        Err(LexEnd::Syntax) => Ok(false),
-        Err(LexEnd::NoMemory) => Err(NoMemory),
-    }
-}
-
-fn is_definition_word(word: &str) -> bool
-    ensures { result ≡ is_definition_word word.now }
-{
-    word == "attribute"
-        || word == "relation"
-        || word == "object"
-        || word == "fd"
-        || word == "maximal"
-}
-
-// The relation and the file of a load.
-fn load_of(statement: Statement) -> Option<(Str, Str)>
-    ensures { MatchOption result ((name path : Items ℕ) → statement ≢ Statement.Load name path) (λ load. statement ≡ Statement.Load load.0 load.1) }
-{
-    match statement {
-        Statement::Load { relation, file } => Some((relation, file)),
-        _ => None,
-    }
-}
-
-// A refused text wants nothing. Want of memory is handed on.
-fn nothing_wanted(fault: QueryFault) -> Result<Want, NoMemory>
-    ensures { IfOk result (λ want. (want ≡ Want.Nothing) × (fault ≢ QueryFault.NoMemory)) }
-{
-    match fault {
-        QueryFault::NoMemory => Err(NoMemory),
-        _ => Ok(Want::Nothing),
-    }
-}
-
 // The content of a file; nothing without one.
 fn content<'a>(file: Option<&'a [u8]>) -> &'a [u8]
     ensures { result.now ≡ unwrap_or (option_map (λ bytes. bytes.now) file.entry) [] }
@@ -122,7 +70,8 @@ fn content<'a>(file: Option<&'a [u8]>) -> &'a [u8]
 
 impl Session {
     ghost use Rattle.su_session.specs.Opening.{empty_database};
-    ghost use Rattle.su_session.specs.Reply.{Replied, Wants, RepliesStatement};
+    ghost use Rattle.su_session.specs.Commands.{IsRead, WasRead};
+    ghost use Rattle.su_session.specs.Reply.{Replied, Wants};
     ghost use Rattle.su_session.specs.Statements.{Answers};
     ghost use Rattle.su_state.specs.DatabaseValue.{IsWellKept};
     ghost use Rattle.su_query.specs.Reading.{AreFew, HasFew, IsReady};
@@ -145,28 +94,20 @@ impl Session {
         &self.db
     }
 
-    /// The file that the statement wants, to be handed to `step`: that of a load of a known relation.
-    pub fn wants(&self, text: &[u8]) -> Result<Want, NoMemory>
-        ensures { IfOk result (Wants self.now text.now) }
+    /// The file that the command wants, to be handed to `carry_out`: that of a load of a known relation.
+    pub fn wants(&self, command: &Command) -> Result<Want, NoMemory>
+        ensures { IfOk result (λ want. (text : Items ℕ) → IsRead text command.now → Wants self.now text want) }
     {
-        let statement = match read(self.alloc, text) {
-            Ok(statement) => statement,
-            Err(fault) => return nothing_wanted(fault),
-        };
-        match load_of(statement) {
+        match load_of(command) {
             Some((relation, file)) => match self.db.schema().find_relation(relation.as_str()) {
-                Some(_) => Ok(Want::File(file)),
+                Some(_) => Ok(Want::File(file.copy(self.alloc)?)),
                 None => Ok(Want::Nothing),
             },
             None => Ok(Want::Nothing),
         }
     }
 
-    /// Takes one statement and gives its reply. `file` is the content of the file that it wants; without
-    /// one a load reads an empty file. A refused statement, and one that found no memory, changes nothing.
-    ///
-    /// The terms of a query are minimised and executed by at most `workers` threads at a time, and the
-    /// gate is passed before each. Neither changes the reply.
+    /// Takes one text and gives its reply: `read`, and then `carry_out`.
     pub fn step<R: Threads + Sync, G: Gate>(
         &mut self,
         rt: &R,
@@ -182,30 +123,37 @@ impl Session {
         ensures kept { IsWellKept self.old }
     {
         self.db.keeps_its_rules();
-        let defining = is_defining(self.alloc, text)?;
-        if defining {
-            return self.define(text);
-        }
-        self.statement(rt, text, content(file), workers, gate)
+        let command = read(self.alloc, text)?;
+        self.carry_out(rt, command, file, workers, gate)
     }
 
-    // A text that is no definition.
-    fn statement<R: Threads + Sync, G: Gate>(
+    /// Does what was read and gives the reply. `file` is the content of the file that it wants; without
+    /// one a load reads an empty file. What is refused, and what found no memory, changes nothing.
+    ///
+    /// The terms of a query are minimised and executed by at most `workers` threads at a time, and the
+    /// gate is passed before each. Neither changes the reply.
+    pub fn carry_out<R: Threads + Sync, G: Gate>(
         &mut self,
         rt: &R,
-        text: &[u8],
-        file: &[u8],
+        command: Command,
+        file: Option<&[u8]>,
         workers: u8,
         gate: &G,
     ) -> Result<Reply, NoMemory>
         requires least { 1 ≤ workers }
         requires most { workers ≤ 16 }
-        ensures replied { IfOk result (λ reply. RepliesStatement self.old text.now file.now reply self.new) }
+        requires read { WasRead command }
+        ensures replied { IfOk result (λ reply. (text : Items ℕ) → IsRead text command → Replied self.old text (option_map (λ bytes. bytes.now) file.entry) reply self.new) }
         ensures unchanged { OnErr result (self.new ≡ self.old) }
+        ensures kept { IsWellKept self.old }
     {
-        match read(self.alloc, text) {
-            Ok(statement) => self.answer(rt, statement, file, workers, gate),
-            Err(fault) => refused(self.alloc, &self.db, Refusal::Query(fault)),
+        self.db.keeps_its_rules();
+        match command {
+            Command::Definition(definition) => self.add(&definition),
+            Command::Statement(statement) => {
+                self.answer(rt, statement, content(file), workers, gate)
+            }
+            Command::Refused(fault) => refused(self.alloc, &self.db, Refusal::Query(fault)),
         }
     }
 

@@ -1,4 +1,4 @@
-use crate::{Session, Want};
+use crate::{Session, Want, read as read_text};
 use std::alloc::Global;
 use std::test::Fail;
 use std::thread::Threads;
@@ -74,7 +74,7 @@ fn wants(alloc: Global, text: &str, path: &str) -> Result<bool, NoMemory> {
     let Some(session) = opened(alloc, PAIR)? else {
         return Ok(false);
     };
-    match session.wants(text.as_bytes())? {
+    match session.wants(&read_text(alloc, text.as_bytes())?)? {
         Want::File(file) => Ok(file.as_str() == path),
         Want::Nothing => Ok(path.is_empty()),
     }

@@ -11,7 +11,7 @@ use Rattle.sysu.specs.declared.status.Status.{Status}
 use Rattle.sysu.specs.declared.status.Status.TheVariants.{Done, SomeRefused, Usage, BadSchema, ReadFault, WriteFault, TooLong, NoMemory}
 use Rattle.sysu.specs.Moments.{Moment, NoFault}
 use Rattle.sysu.specs.Output.{IsFile}
-use Rattle.sysu.specs.Reads.{FileEnds}
+use Rattle.sysu.specs.inside.Reads.{FileEnds}
 use Rattle.sysu.specs.Statements.{ScriptEnds, TookLoads}
 use Rattle.sysu.specs.Statuses.{AcceptsSchema, IsRefused, OfFiles, RefusalEnds, RunEnds, TookWithin, schema_limit, script_limit}
 use Rattle.sysu.specs.Words.{Named}

@@ -12,11 +12,11 @@ use Rattle.su_io.specs.declared.files.File.{File}
 use Rattle.sysu.proofs.Answering.{SoFar, front_more}
 use Rattle.sysu.specs.declared.status.Status.{Status}
 use Rattle.sysu.specs.declared.status.Status.TheVariants.{Done, SomeRefused, Usage, BadSchema, ReadFault, WriteFault, TooLong, NoMemory}
-use Rattle.sysu.specs.Handing.{Place, Began, TookOne}
+use Rattle.sysu.specs.inside.Handing.{Place, Began, TookOne}
 use Rattle.sysu.specs.Moments.{Moment, NoFault}
 use Rattle.sysu.specs.Output.{Answered, text_at, texts_of}
 use Rattle.sysu.specs.Statements.{ScriptEnds, StoppedAtLoad, TookLoads, WroteAll}
-use Rattle.sysu.specs.Turns.{Sunk, TurnEnds}
+use Rattle.sysu.specs.inside.Turns.{Sunk, TurnEnds}
 
 abbrev pub place_of : Moment → Place
 place_of m = record { begun = m.begun; taken = m.taken; failed = m.failed; faults = m.reads }

@@ -25,6 +25,7 @@ pub record Ran (files : List AFile) (words : List (List ℕ)) (appended : List �
   pub no_write_fault : ¬ Rose old.writes new.writes
   pub has_memory : status ≢ NoMemory
 
+-- the words ask for the same run, check or bank, whatever the number of workers
 pub record AreEqualButForWorkers (words others : List (List ℕ)) : Type 0 where
   pub names : named words ≡ named others
   pub check : checks words ≡ checks others

@@ -16,10 +16,12 @@ use Rattle.sysu.specs.Output.{IsFile, IsOver}
 abbrev pub check_limit : ℕ
 check_limit = 2 ^ 24
 
+-- the certificate is good
 abbrev pub IsYes : Checked → Type 0
 IsYes (Yes count) = Unit {0}
 IsYes (No fault) = ⊥
 
+-- the certificate is at fault
 abbrev pub IsNo : Checked → Type 0
 IsNo (Yes count) = ⊥
 IsNo (No fault) = Unit {0}
@@ -45,6 +47,7 @@ LineEnds verdict old before new after WriteFault = Rose before after × ((count 
 LineEnds verdict old before new after NoMemory = (after ≡ before) × (new ≡ old)
 LineEnds verdict old before new after _ = ⊥
 
+-- how a check ends, by its status
 abbrev pub CheckEnds : List ℕ → Moment → Moment → Status → Type 0
 CheckEnds file old new Done = NoFault old new × TookFile file new × OfVerdict file old (λ verdict. IsYes verdict × Wrote old new (verdict_line verdict))
 CheckEnds file old new SomeRefused = NoFault old new × TookFile file new × OfVerdict file old (λ verdict. IsNo verdict × Wrote old new (verdict_line verdict))

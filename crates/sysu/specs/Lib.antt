@@ -4,12 +4,10 @@ pub mod Causes
 pub mod Checks
 pub mod Closing
 pub mod Complete
-pub mod Handing
 pub mod Headline
+pub mod inside
 pub mod Moments
 pub mod Output
-pub mod Reads
 pub mod Statements
 pub mod Statuses
-pub mod Turns
 pub mod Words

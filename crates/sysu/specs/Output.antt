@@ -43,6 +43,7 @@ Answered files old (text ∷ texts) (reply ∷ replies) new =
 abbrev pub output_of : List Reply → List ℕ
 output_of replies = flat_map (λ reply. reply.bytes) replies
 
+-- some reply is a refusal
 abbrev pub some_refused : List Reply → Bool
 some_refused replies = list_any (λ reply. reply.refused) replies
 

@@ -54,6 +54,7 @@ abbrev pub TookLoads : Option (List File) → DatabaseValue → List ℕ → Opt
 TookLoads files first script begun taken begun_now taken_now =
     ((begun_now ≡ begun) × (taken_now ≡ taken)) ⊎ ((path : List ℕ) × LoadsFrom files first script path × (begun_now ≡ Some path) × (taken_now ≤ load_limit))
 
+-- how the statements of a script end, by the status of the run
 abbrev pub ScriptEnds : SchemaValue → List ℕ → Moment → Moment → Status → Type 0
 ScriptEnds schema script old new Done = NoFault old new × TookLoads old.files (empty_database schema) script old.begun old.taken new.begun new.taken × WroteAll old.files schema script old.told new.told false
 ScriptEnds schema script old new SomeRefused = NoFault old new × TookLoads old.files (empty_database schema) script old.begun old.taken new.begun new.taken × WroteAll old.files schema script old.told new.told true

@@ -1,7 +1,7 @@
 // Runs over an outside that fails at one call. The bank has a print before a load and one behind it.
 use crate::query_tests::BANK;
 use crate::status::Status;
-use crate::tests::words;
+use crate::tests::{USAGE, words};
 use crate::top::run;
 use std::alloc::Global;
 use std::test::Fail;
@@ -109,6 +109,42 @@ fn each_failing_call_of_the_sink_leaves_a_front(rt: HostRuntime) -> Result<(), F
         );
         assert_eq!(rt; got, Status::WriteFault, "call {k}");
         assert_eq!(rt; out.written(), front.as_slice(), "call {k}");
+    }
+    Ok(())
+}
+
+// The line of a refused schema and the usage line, each the whole output of its run.
+#[test]
+fn each_failing_call_of_the_sink_leaves_a_front_of_one_line(rt: HostRuntime) -> Result<(), Fail> {
+    let alloc = rt.alloc();
+    let cases = [
+        (
+            ["run", "g.csv", "t"].as_slice(),
+            "schema refused: statement 1: syntax\n",
+        ),
+        (&[], USAGE),
+    ];
+    for (all, line) in cases {
+        for k in 0..line.len().div_ceil(4).wrapping_add(1) {
+            let fails = List::from_vec([k as u64].as_slice().to_vec(alloc)?);
+            let mut shelf = SteadyShelf::new(bank_files(alloc)?);
+            let mut out = MemorySink::new(alloc, fails, 4, 100)?;
+            let got = run(
+                &rt,
+                alloc,
+                words(alloc, all)?.as_slice(),
+                &mut shelf,
+                &mut out,
+                &OpenGate,
+            );
+            let front = line.len().min(k.saturating_mul(4));
+            assert_eq!(rt; got, Status::WriteFault, "call {k}");
+            assert_eq!(rt;
+                out.written(),
+                line.as_bytes().split_at(front).0,
+                "call {k}"
+            );
+        }
     }
     Ok(())
 }

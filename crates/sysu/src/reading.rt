@@ -1,6 +1,6 @@
 //! Files of a run.
 ghost use Rattle.std.specs.Prelude.{◌≡◌, ◌<◌, ◌^◌, Some};
-ghost use Rattle.sysu.specs.Reads.{FileEnds};
+ghost use Rattle.sysu.specs.inside.Reads.{FileEnds};
 
 use crate::status::Status;
 use std::alloc::Global;

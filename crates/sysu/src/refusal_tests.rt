@@ -35,30 +35,25 @@ fn a_query_has_at_most_128_outputs(rt: HostRuntime) -> Result<(), Fail> {
     Ok(())
 }
 
-// Whether a condition of so many comparisons on P is refused for their number.
-fn is_refused_with<R: Threads + Sync>(
+// Whether a delete by a condition of so many comparisons on P has this reply.
+fn deletes_by<R: Threads + Sync>(
     rt: &R,
     alloc: Global,
     comparisons: usize,
+    want: &str,
 ) -> Result<bool, NoMemory> {
     let mut script = String::from_str(alloc, "delete P where A = 1")?;
     for _ in 1..comparisons {
         script.push_str(" or A = 1")?;
     }
-    gives(
-        rt,
-        alloc,
-        SCHEMA,
-        script.as_str(),
-        "",
-        "refused: limit comparisons 256\n",
-    )
+    gives(rt, alloc, SCHEMA, script.as_str(), "", want)
 }
 
 #[test]
 fn a_condition_has_at_most_256_comparisons(rt: HostRuntime) -> Result<(), Fail> {
-    assert!(rt; is_refused_with(&rt, rt.alloc(), 257)?);
-    assert!(rt; !is_refused_with(&rt, rt.alloc(), 256)?);
+    assert!(rt; deletes_by(&rt, rt.alloc(), 256, "deleted 0\n")?);
+    let refused = "refused: limit comparisons 256\n";
+    assert!(rt; deletes_by(&rt, rt.alloc(), 257, refused)?);
     Ok(())
 }
 

@@ -1,11 +1,12 @@
 //! The statements of a script, answered one after another.
-ghost use Rattle.std.specs.Prelude.{◌≡◌, ◌≤◌, option_map};
+ghost use Rattle.std.specs.Prelude.{◌≡◌, ◌≤◌, ℕ, List as Items, option_map};
 ghost use Rattle.su_schema.specs.SchemaValue.{SchemaValue};
+ghost use Rattle.su_session.specs.Commands.{IsRead};
 ghost use Rattle.su_session.specs.Opening.{empty_database};
-ghost use Rattle.sysu.specs.Handing.{HandingEnds};
+ghost use Rattle.sysu.specs.inside.Handing.{HandingEnds};
 ghost use Rattle.sysu.specs.Moments.{Moment};
 ghost use Rattle.sysu.specs.Statements.{ScriptEnds};
-ghost use Rattle.sysu.specs.Turns.{TurnEnds};
+ghost use Rattle.sysu.specs.inside.Turns.{TurnEnds};
 
 use crate::reading::read_file;
 use crate::status::Status;
@@ -15,24 +16,24 @@ use su_base::List;
 use su_io::{Shelf, Sink, write_all};
 use su_lex::cut;
 use su_par::Gate;
-use su_session::{Session, Want};
+use su_session::{Command, Session, Want, read};
 
 const LOAD_LIMIT: u64 = 1 << 26;
 
-// The bytes of the file that the statement wants.
+// The bytes of the file that the command wants.
 fn handed<H: Shelf>(
     alloc: Global,
     session: &Session,
-    text: &[u8],
+    command: &Command,
     shelf: &mut H,
 ) -> Result<Option<List<u8>>, Status>
     ensures files { H.files shelf.new ≡ H.files shelf.old }
-    ensures ends { HandingEnds session.now text.now (H.files shelf.old)
+    ensures ends { (text : Items ℕ) → IsRead text command.now → HandingEnds session.now text (H.files shelf.old)
         (record { begun = H.begun shelf.old; taken = H.taken shelf.old; failed = H.failed shelf.old; faults = H.faults shelf.old })
         (record { begun = H.begun shelf.new; taken = H.taken shelf.new; failed = H.failed shelf.new; faults = H.faults shelf.new })
         result }
 {
-    match session.wants(text) {
+    match session.wants(command) {
         Ok(Want::Nothing) => Ok(None),
         Ok(Want::File(path)) => {
             let bytes = read_file(alloc, shelf, path, LOAD_LIMIT)?;
@@ -72,8 +73,11 @@ fn answer_one<R: Threads + Sync, H: Shelf, K: Sink, G: Gate>(
         (record { told = record { written = K.written out.new; handed = K.handed out.new }; faults = K.faults out.new })
         result }
 {
-    let file = handed(alloc, session, text, shelf)?;
-    let Ok(reply) = session.step(rt, text, bytes_of(&file), workers, gate) else {
+    let Ok(command) = read(alloc, text) else {
+        return Err(Status::NoMemory);
+    };
+    let file = handed(alloc, session, &command, shelf)?;
+    let Ok(reply) = session.carry_out(rt, command, bytes_of(&file), workers, gate) else {
         return Err(Status::NoMemory);
     };
     match write_all(out, reply.bytes.as_slice()) {

@@ -17,7 +17,7 @@ const SCRIPT: &str =
 const OUTPUT: &str =
     "inserted 1\ninserted 1\ninserted 0\nrows 1\nB\nx\nrows 2\nB,A\nx,1\nx,2\nrefused: no maximal object covers -: A C\nrefused: unknown attribute D\nrows 2\nA,B\n1,x\n2,x\n";
 
-const USAGE: &str =
+pub(crate) const USAGE: &str =
     "usage: sysu run SCHEMA SCRIPT [--workers N] | sysu generate N | sysu check FILE\n";
 
 // Of seven rows a relation, account 7 of C7 is in bank B2 and his loan 7 in B1, whose other accounts and

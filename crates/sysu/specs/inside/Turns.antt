@@ -1,4 +1,5 @@
 -- How one statement of a script ends.
+-- No public contract cites this module.
 use Rattle.std.specs.Prelude.{◌≡◌, ◌<◌, ◌≤◌, ℕ, List, Option, Bool, true, Result, Ok, Err, length, take}
 use Rattle.su_io.specs.Causes.{Rose}
 use Rattle.su_io.specs.Ends.{Grew}
@@ -8,7 +9,7 @@ use Rattle.su_session.specs.Reply.{Replied}
 use Rattle.su_state.specs.DatabaseValue.{DatabaseValue, IsWellKept}
 use Rattle.sysu.specs.declared.status.Status.{Status}
 use Rattle.sysu.specs.declared.status.Status.TheVariants.{ReadFault, WriteFault, TooLong, NoMemory}
-use Rattle.sysu.specs.Handing.{Place, Began, TookOne}
+use Rattle.sysu.specs.inside.Handing.{Place, Began, TookOne}
 use Rattle.sysu.specs.Moments.{Told, WroteWhole}
 use Rattle.sysu.specs.Output.{IsHanded, IsOver, load_limit}
 
@@ -24,6 +25,7 @@ pub record Sunk : Type 0 where
   pub told : Told
   pub faults : ℕ
 
+-- how one statement ends: with its reply, or with the run
 abbrev pub TurnEnds : Option (List File) → DatabaseValue → List ℕ → DatabaseValue → Place → Place → Sunk → Sunk → Result Bool Status → Type 0
 TurnEnds files old text new before after from to (Ok refused) =
     (after.faults ≡ before.faults) × (to.faults ≡ from.faults) × TookOne old text before after

@@ -1,7 +1,7 @@
 use Rattle.std.proofs.Common.{Err, ap}
 use Rattle.std.proofs.lemmas.Bool.{false≢true}
 use Rattle.su_session.proofs.Texts.{defining}
-use Rattle.su_session.proofs.sessions.is_defining.Goals as goal
+use Rattle.su_session.proofs.commands.is_defining.Goals as goal
 
 pub returns-in-Ok : goal.returns-in-Ok
 returns-in-Ok c = defining c.args.text.now c.in-Ok.symbols c.begins_definition.result c.in-Ok.ensures.symbols (rw c.as_slice.ensures at c.begins_definition.ensures)

@@ -1,4 +1,5 @@
 -- How a statement is handed the file that it wants.
+-- No public contract cites this module.
 use Rattle.std.specs.Prelude.{◌≡◌, ◌<◌, ◌≤◌, ◌⊎◌, ℕ, List, Option, Some, None, Bool, true, Result, Ok, Err, length}
 use Rattle.su_io.specs.Causes.{Rose}
 use Rattle.su_io.specs.declared.files.File.{File as AFile}
@@ -16,6 +17,7 @@ pub record Place : Type 0 where
   pub failed : Bool
   pub faults : ℕ
 
+-- nothing was read, and no fault counted
 pub record Untouched (old new : Place) : Type 0 where
   pub begun : new.begun ≡ old.begun
   pub taken : new.taken ≡ old.taken
@@ -26,6 +28,7 @@ pub record Began (db : DatabaseValue) (text path : List ℕ) (new : Place) : Typ
   pub wanted : Wants db text (File path)
   pub begun : new.begun ≡ Some path
 
+-- how the file of a statement is handed over: none is wanted, its bytes, or why the run ends
 abbrev pub HandingEnds : DatabaseValue → List ℕ → Option (List AFile) → Place → Place → Result (Option (List ℕ)) Status → Type 0
 HandingEnds db text files old new (Ok None) = Wants db text Nothing × Untouched old new
 HandingEnds db text files old new (Ok (Some bytes)) =

@@ -1,0 +1,23 @@
+-- What a text is read as.
+-- command: a definition, a statement, or why the text is neither of them
+use Rattle.std.specs.Prelude.{◌≡◌, ◌≢◌, ◌⊎◌, ℕ, List}
+use Rattle.su_schema.specs.declared.definitions.Definition.{Definition as ADefinition}
+use Rattle.su_ddl.specs.Grammar.{IsDefinition}
+use Rattle.su_query.specs.declared.faults.QueryFault.{QueryFault}
+use Rattle.su_query.specs.declared.faults.QueryFault.TheVariants.{Syntax, NoMemory}
+use Rattle.su_query.specs.Reading.{IsStatement, IsRefusal, HasFew}
+use Rattle.su_session.specs.declared.commands.Command.{Command}
+use Rattle.su_session.specs.declared.commands.Command.TheVariants.{Definition, Statement, Refused}
+use Rattle.su_session.specs.Reply.{IsDefining}
+
+-- a text that begins as a definition is one, or in no form; any other is a statement, or is refused by its text alone
+abbrev pub IsRead : List ℕ → Command → Type 0
+IsRead text (Definition d) = IsDefining text × IsDefinition text d
+IsRead text (Statement st) = (¬ IsDefining text) × IsStatement text st × HasFew st
+IsRead text (Refused fault) =
+    (IsDefining text × (fault ≡ Syntax) × ((d : ADefinition) → ¬ IsDefinition text d))
+    ⊎ ((¬ IsDefining text) × IsRefusal text fault × (fault ≢ NoMemory))
+
+-- some text is read as the command
+abbrev pub WasRead : Command → Type 0
+WasRead command = (text : List ℕ) × IsRead text command
