@@ -38,6 +38,7 @@ FindsAll old number [] lines new = (lines ≡ []) × (new ≡ old)
 FindsAll old number (query ∷ queries) lines new =
     (line : List ℕ) × (next : DatabaseValue) × (rest : List ℕ) × Finds old number query line next × FindsAll next (number + 1) queries rest new × (lines ≡ line ++ rest)
 
+-- the queries that a bank is asked
 abbrev pub four_queries : List (List ℕ)
 four_queries = codes "retrieve (BANK) where CUST = 'C7'" ∷ codes "retrieve (CUST, ADDR)" ∷ codes "retrieve (t.CUST) where CUST = 'C7' and BANK = t.BANK" ∷ codes "retrieve (ACCT, BAL) where BAL > 5000" ∷ []
 

@@ -2,6 +2,7 @@
 use Rattle.std.specs.Prelude.{◌-◌, ◌==◌, ◌++◌, ℕ, Bool, List, codes, decimal, length, take}
 use Rattle.std.specs.List.{before_first, after_last}
 
+-- a line feed
 abbrev pub is_feed : ℕ → Bool
 is_feed b = b == 10
 

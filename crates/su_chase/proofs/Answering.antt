@@ -22,7 +22,7 @@ use Rattle.su_classes.proofs.Comparing.{at_most_both, compare_itself}
 use Rattle.su_chase.specs.Meeting.{Agree, Meets}
 use Rattle.su_chase.specs.Chase.{SameLabels, IsClosed, InOneClass, IsNoLater, IsName, IsConsistent, IsClash}
 use Rattle.su_chase.specs.Chased.{IsFdBelow, AreRows, IsChased}
-use Rattle.su_chase.specs.Rows.{name_by, named_tab}
+use Rattle.su_chase.specs.inside.Rows.{name_by, named_tab}
 use Rattle.su_chase.proofs.Reading.{map_read, map_at, contains_map, of_map}
 use Rattle.su_chase.proofs.Named.{same_const}
 

@@ -20,11 +20,11 @@ use Rattle.su_tableau.specs.declared.symbols.Sym.TheVariants.{Const, Var}
 use Rattle.su_tableau.specs.Tableaux.{AreBelow}
 use Rattle.su_classes.specs.declared.items.Placed.{Placed}
 use Rattle.su_classes.specs.Tables.{rep}
-use Rattle.su_classes.specs.Symbols.{has_constant, place_of, is_known}
+use Rattle.su_classes.specs.inside.Symbols.{has_constant, place_of, is_known}
 use Rattle.su_classes.proofs.Listed.{contains_later, contains_cases, contains_none}
 use Rattle.su_classes.proofs.Comparing.{compare_itself, compare_same, same_order, values_total, sorted_distinct, less_before}
 use Rattle.su_classes.proofs.Places.{place_is, place_at, place_none, has_at}
-use Rattle.su_chase.specs.Rows.{constant_of, constants_in, IsPlacedRow, IsFirstClash, TakesLesser}
+use Rattle.su_chase.specs.inside.Rows.{constant_of, constants_in, IsPlacedRow, IsFirstClash, TakesLesser}
 
 -- ---- lists with one element more
 

@@ -12,7 +12,7 @@ use Rattle.su_tableau.specs.Tableaux.{nth}
 use Rattle.su_tableau.proofs.Rows.{below_more}
 use Rattle.su_chase.specs.declared.candidates.Next.{Next}
 use Rattle.su_chase.specs.Frozen.{candidate}
-use Rattle.su_chase.specs.Rows.{IsFreeAt, IsPast, count_of}
+use Rattle.su_chase.specs.inside.Rows.{IsFreeAt, IsPast, count_of}
 
 pub kind_candidate : (k : Kind) (n : ℕ) → kind_of (candidate k n) ≡ k
 kind_candidate IntKind n = refl

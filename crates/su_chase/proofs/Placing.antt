@@ -13,12 +13,12 @@ use Rattle.su_classes.specs.declared.items.Placed.{Placed}
 use Rattle.su_classes.specs.declared.items.Together.{Together}
 use Rattle.su_classes.specs.Items.{cell, LiesIn, SameAt, Keeps, IsKept, IsPlacedBelow}
 use Rattle.su_classes.specs.Tables.{rep, IsTable, IsLeast}
-use Rattle.su_classes.specs.Symbols.{AreDistinct, is_known, number_of, symbol_at, name_in}
+use Rattle.su_classes.specs.inside.Symbols.{AreDistinct, is_known, number_of, symbol_at, name_in}
 use Rattle.su_classes.proofs.Places.{IsNumbering, numbering}
 use Rattle.su_classes.proofs.Named.{same_rep, same_name}
 use Rattle.su_chase.specs.Chase.{SameLabels, IsClosed}
 use Rattle.su_chase.specs.Chased.{IsFdBelow}
-use Rattle.su_chase.specs.Rows.{IsPlacedRow}
+use Rattle.su_chase.specs.inside.Rows.{IsPlacedRow}
 use Rattle.su_chase.proofs.Reading.{map_at}
 
 -- rows of symbols with numbers, and their rows of items

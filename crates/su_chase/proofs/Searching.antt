@@ -15,7 +15,7 @@ use Rattle.su_base.specs.contracts.values.ValueOrd.TheImpl.{ghosts as cmp_ghosts
 use Rattle.su_tableau.specs.Tableaux.{nth}
 use Rattle.su_classes.proofs.Comparing.{compare_same, same_order}
 use Rattle.su_classes.proofs.Places.{place_is}
-use Rattle.su_chase.specs.Rows.{value_in}
+use Rattle.su_chase.specs.inside.Rows.{value_in}
 use Rattle.su_chase.proofs.Clashing.{place_searched, has_member}
 
 pub among_searched : (vs : List Value) (c : Value) (r : Result ℕ ℕ) → IsStrictlySortedBy compare_values vs → IsSearchInRange r (length vs) → IsBinarySearchResult (λ y. cmp_ghosts.cmp y c) vs r → IsTrue (is_ok r) ↔ Contains vs c

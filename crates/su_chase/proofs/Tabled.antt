@@ -13,11 +13,11 @@ use Rattle.su_tableau.specs.declared.symbols.Sym.TheVariants.{Const, Var}
 use Rattle.su_tableau.specs.Tableaux.{AreBelow}
 use Rattle.su_classes.specs.declared.items.Placed.{Placed}
 use Rattle.su_classes.specs.Tables.{rep}
-use Rattle.su_classes.specs.Symbols.{is_known, symbol_at}
+use Rattle.su_classes.specs.inside.Symbols.{is_known, symbol_at}
 use Rattle.su_classes.proofs.Comparing.{sorted_distinct}
 use Rattle.su_chase.specs.Chase.{IsName, IsConsistent, IsClash}
 use Rattle.su_chase.specs.Chased.{AreRows}
-use Rattle.su_chase.specs.Rows.{constants_in, IsPlacedRow, IsTableOf, IsFirstClash, ClashesAt}
+use Rattle.su_chase.specs.inside.Rows.{constants_in, IsPlacedRow, IsTableOf, IsFirstClash, ClashesAt}
 use Rattle.su_chase.proofs.Placing.{AreNumbered}
 use Rattle.su_chase.proofs.Named.{is_name, consistent, is_clash}
 use Rattle.su_chase.proofs.Clashing.{constant_in, has_member}

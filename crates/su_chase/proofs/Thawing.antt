@@ -20,14 +20,14 @@ use Rattle.su_tableau.specs.Kinds.{Kinds, sym_kind, IsUniverse, IsTyped}
 use Rattle.su_tableau.specs.Mapping.{image_of, images_of, Maps}
 use Rattle.su_tableau.proofs.Containment.{map_twice}
 use Rattle.su_tableau.proofs.Listing.{by_list, from_list}
-use Rattle.su_classes.specs.Symbols.{same_value}
+use Rattle.su_classes.specs.inside.Symbols.{same_value}
 use Rattle.su_classes.proofs.Comparing.{same_itself, same_is}
 use Rattle.su_classes.proofs.Listed.{contains_later, contains_cases, contains_none, map_same}
 use Rattle.su_chase.specs.Chase.{IsClosed}
 use Rattle.su_chase.specs.Meeting.{Meets}
 use Rattle.su_chase.specs.declared.freezing.Frozen.{Frozen}
 use Rattle.su_chase.specs.Frozen.{candidate, IsFirstFree, IsFrozen, AreAvoided}
-use Rattle.su_chase.specs.Rows.{variable_of, variables_in, value_in, IsFreeAt}
+use Rattle.su_chase.specs.inside.Rows.{variable_of, variables_in, value_in, IsFreeAt}
 use Rattle.su_chase.proofs.Clashing.{contains_flat, of_flat, take_all}
 use Rattle.su_chase.proofs.Giving.{kind_candidate}
 use Rattle.su_chase.proofs.Reading.{map_read, of_map}

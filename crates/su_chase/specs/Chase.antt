@@ -18,6 +18,7 @@ use Rattle.su_classes.specs.Naming.{InClass}
 abbrev pub SameLabels : (Sym → Sym) → FinSet nat_cmp → List Sym → List Sym → Type 0
 SameLabels label s r q = (a : ℕ) (d : Sym) → IsTrue (contains s a) → label (get_or r a d) ≡ label (get_or q a d)
 
+-- labels that keep each dependency on all rows
 abbrev pub IsClosed : List Fd → List (List Sym) → (Sym → Sym) → Type 0
 IsClosed fds rows label = (f : Fd) (r q : List Sym) → Contains fds f → Contains rows r → Contains rows q → SameLabels label f.left r q → SameLabels label f.right r q
 

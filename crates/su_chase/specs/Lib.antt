@@ -1,5 +1,5 @@
 pub mod Chase
-pub mod Meeting
 pub mod Chased
 pub mod Frozen
-pub mod Rows
+pub mod inside
+pub mod Meeting

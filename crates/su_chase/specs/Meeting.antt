@@ -10,5 +10,6 @@ use Rattle.su_fd.specs.declared.dependencies.Fd.{Fd}
 abbrev pub Agree : FinSet nat_cmp → List Value → List Value → Type 0
 Agree s x y = (a : ℕ) (d : Value) → IsTrue (contains s a) → get_or x a d ≡ get_or y a d
 
+-- rows that agree on the left side of a dependency agree on its right side
 abbrev pub Meets : List Fd → List (List Value) → Type 0
 Meets fds universe = (f : Fd) (u t : List Value) → Contains fds f → Contains universe u → Contains universe t → Agree f.left u t → Agree f.right u t

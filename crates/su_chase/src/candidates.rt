@@ -5,7 +5,7 @@ ghost use Rattle.su_base.specs.declared.values.Kind.TheVariants.{Int as IntKind}
 ghost use Rattle.su_base.specs.declared.values.Value.{Value as AValue};
 ghost use Rattle.su_base.specs.Value.{compare_values};
 ghost use Rattle.su_chase.specs.Frozen.{candidate};
-ghost use Rattle.su_chase.specs.Rows.{IsFreeAt, IsPast, count_of};
+ghost use Rattle.su_chase.specs.inside.Rows.{IsFreeAt, IsPast, count_of};
 
 use crate::numbering::sorted;
 use std::alloc::Global;

@@ -6,7 +6,7 @@ ghost use Rattle.su_tableau.specs.Tableaux.{AreBelow, Ext};
 ghost use Rattle.su_tableau.specs.Kinds.{Kinds, IsTyped};
 ghost use Rattle.su_chase.specs.Meeting.{Meets};
 ghost use Rattle.su_chase.specs.Chased.{IsFdBelow, IsChaseOf, ExtOf, IsTypedOf, IsSettledOf};
-ghost use Rattle.su_chase.specs.Rows.{name_by, named_tab};
+ghost use Rattle.su_chase.specs.inside.Rows.{name_by, named_tab};
 
 use crate::naming::{Closed, close};
 use std::alloc::Global;

@@ -12,7 +12,7 @@ ghost use Rattle.su_tableau.specs.Mapping.{Maps};
 ghost use Rattle.su_chase.specs.Chase.{IsClosed};
 ghost use Rattle.su_chase.specs.Meeting.{Meets};
 ghost use Rattle.su_chase.specs.Frozen.{IsFrozen, AreAvoided};
-ghost use Rattle.su_chase.specs.Rows.{variable_of, value_in};
+ghost use Rattle.su_chase.specs.inside.Rows.{variable_of, value_in};
 
 use crate::candidates::{free_values, sorted_copies};
 use crate::chasing::rows_of;

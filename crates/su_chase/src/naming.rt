@@ -6,10 +6,10 @@ ghost use Rattle.su_base.specs.Value.{compare_values};
 ghost use Rattle.su_tableau.specs.declared.symbols.Sym.TheVariants.{Var};
 ghost use Rattle.su_tableau.specs.Tableaux.{AreBelow};
 ghost use Rattle.su_classes.specs.Tables.{rep};
-ghost use Rattle.su_classes.specs.Symbols.{symbol_at as symbol_numbered};
+ghost use Rattle.su_classes.specs.inside.Symbols.{symbol_at as symbol_numbered};
 ghost use Rattle.su_chase.specs.Chase.{IsName, IsConsistent, IsClash};
 ghost use Rattle.su_chase.specs.Chased.{AreRows};
-ghost use Rattle.su_chase.specs.Rows.{constants_in, IsTableOf, IsFirstClash, TakesLesser, ClashesAt};
+ghost use Rattle.su_chase.specs.inside.Rows.{constants_in, IsTableOf, IsFirstClash, TakesLesser, ClashesAt};
 
 use crate::numbering::{constants_of, limit_of, placed_rows};
 use std::alloc::Global;

@@ -5,9 +5,9 @@ ghost use Rattle.std.specs.FinSet.{contains};
 ghost use Rattle.su_base.specs.declared.values.Value.{Value as AValue};
 ghost use Rattle.su_base.specs.Value.{compare_values};
 ghost use Rattle.su_tableau.specs.Tableaux.{AreBelow};
-ghost use Rattle.su_classes.specs.Symbols.{place_of, number_of};
+ghost use Rattle.su_classes.specs.inside.Symbols.{place_of, number_of};
 ghost use Rattle.su_classes.specs.declared.items.Placed.{Placed as APlaced};
-ghost use Rattle.su_chase.specs.Rows.{constant_of, constants_in, IsPlacedRow};
+ghost use Rattle.su_chase.specs.inside.Rows.{constant_of, constants_in, IsPlacedRow};
 
 use std::alloc::Global;
 use su_base::{AttrSet, List, NoMemory, Value};

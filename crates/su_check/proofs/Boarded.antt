@@ -8,9 +8,9 @@ use Rattle.su_tableau.specs.declared.symbols.Sym.TheVariants.{Var}
 use Rattle.su_tableau.specs.Tableaux.{Occurs}
 use Rattle.su_check.specs.declared.certificates.Term.{Term}
 use Rattle.su_check.specs.Certificate.{lines_of}
-use Rattle.su_check.specs.Cells.{cell}
-use Rattle.su_check.specs.Boards.{AreMarks, IsNumber, AreNumbers, IsBoard}
-use Rattle.su_check.specs.Cells.{IsFirst}
+use Rattle.su_check.specs.inside.Cells.{cell}
+use Rattle.su_check.specs.inside.Boards.{AreMarks, IsNumber, AreNumbers, IsBoard}
+use Rattle.su_check.specs.inside.Cells.{IsFirst}
 use Rattle.su_check.proofs.Steps.{below_more}
 
 pub only_one : {X : Type 0} (x k : X) → Contains (x ∷ []) k → x ≡ k

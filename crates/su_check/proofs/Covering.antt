@@ -8,14 +8,14 @@ use Rattle.su_tableau.specs.declared.symbols.Sym.TheVariants.{Var}
 use Rattle.su_check.specs.declared.boards.Board.{Board}
 use Rattle.su_check.specs.declared.sending.Sent.{Sent}
 use Rattle.su_check.specs.declared.sending.Place.{Place}
-use Rattle.su_check.specs.Cells.{cell, is_const}
+use Rattle.su_check.specs.inside.Cells.{cell, is_const}
 use Rattle.su_check.specs.Fitting.{Lines, row_of, AreSent, sent_too}
-use Rattle.su_check.specs.Boards.{no_pair, no_place, IsFixed, IsFree, IsNumber, IsImage, Sends, SendsRow, Covers, Keeps, IsReady}
-use Rattle.su_check.specs.Cells.{IsFirst}
+use Rattle.su_check.specs.inside.Boards.{no_pair, no_place, IsFixed, IsFree, IsNumber, IsImage, Sends, SendsRow, Covers, Keeps, IsReady}
+use Rattle.su_check.specs.inside.Cells.{IsFirst}
 use Rattle.su_check.proofs.Steps.{below_more}
 use Rattle.su_check.proofs.Boarded.{first_one}
 use Rattle.su_check.proofs.Joining.{sent_more}
-use Rattle.su_check.specs.Agreeing.{Agree}
+use Rattle.su_check.specs.inside.Agreeing.{Agree}
 
 -- ---- a symbol has one number, and a number one symbol
 

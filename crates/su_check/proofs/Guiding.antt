@@ -5,9 +5,9 @@ use Rattle.su_tableau.specs.declared.symbols.Sym.{Sym}
 use Rattle.su_tableau.specs.Mapping.{image_of, images_of}
 use Rattle.su_check.specs.declared.sending.Sent.{Sent}
 use Rattle.su_check.specs.declared.sending.Place.{Place}
-use Rattle.su_check.specs.Cells.{cell}
+use Rattle.su_check.specs.inside.Cells.{cell}
 use Rattle.su_check.specs.Fitting.{Lines, row_of, AreSent, sent_too}
-use Rattle.su_check.specs.Boards.{no_pair, IsImage}
+use Rattle.su_check.specs.inside.Boards.{no_pair, IsImage}
 use Rattle.su_check.proofs.Joining.{all_front, all_last, image_cell}
 
 -- a target of the row has the image of the row's symbol

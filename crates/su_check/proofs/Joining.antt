@@ -8,9 +8,9 @@ use Rattle.su_tableau.specs.declared.symbols.Sym.TheVariants.{Const, Var}
 use Rattle.su_tableau.specs.Mapping.{image_of, images_of}
 use Rattle.su_tableau.proofs.Changing.{InRow, in_row}
 use Rattle.su_check.specs.declared.sending.Sent.{Sent}
-use Rattle.su_check.specs.Cells.{cell, is_const}
+use Rattle.su_check.specs.inside.Cells.{cell, is_const}
 use Rattle.su_check.specs.Fitting.{Lines, row_of, AreSent, sent_too}
-use Rattle.su_check.specs.Agreeing.{KeepsConstants, Agree, Goes, AgreesWith}
+use Rattle.su_check.specs.inside.Agreeing.{KeepsConstants, Agree, Goes, AgreesWith}
 
 -- ---- a list with one more at its end
 

@@ -15,7 +15,7 @@ use Rattle.su_check.specs.declared.certificates.Certificate.{Certificate}
 use Rattle.su_check.specs.declared.certificates.Term.{Term}
 use Rattle.su_check.specs.declared.certificates.RowTree.{RowTree}
 use Rattle.su_check.specs.Grammar.{number, sym_symbol, kind_symbol, row_line, tree_line, term_lines, certificate_symbols, IsTermInRange, IsByte, IsNamed, IsByteNode}
-use Rattle.su_check.specs.Reading.{EndsTerm, IsRow, IsByteTree, Stops, term_before, term_symbols}
+use Rattle.su_check.specs.inside.Reading.{EndsTerm, IsRow, IsByteTree, Stops, term_before, term_symbols}
 use Rattle.su_check.proofs.Runs.{Left}
 
 abbrev id : List Symbol → List Symbol

@@ -11,11 +11,11 @@ use Rattle.su_tableau.specs.Tableaux.{Occurs}
 use Rattle.su_tableau.specs.Kinds.{Kinds, sym_kind}
 use Rattle.su_tableau.proofs.Changing.{Stands, stands}
 use Rattle.su_check.specs.declared.certificates.Term.{Term}
-use Rattle.su_check.specs.Cells.{cell, kind_at, HasFound, AreFound, AreTyped}
+use Rattle.su_check.specs.inside.Cells.{cell, kind_at, HasFound, AreFound, AreTyped}
 use Rattle.su_check.specs.Refuting.{IsAscending}
 use Rattle.su_check.specs.declared.boards.Board.{Board}
 use Rattle.su_check.specs.declared.sending.Place.{Place}
-use Rattle.su_check.specs.Boards.{IsBoard, IsReady}
+use Rattle.su_check.specs.inside.Boards.{IsBoard, IsReady}
 use Rattle.su_check.specs.Certificate.{lines_of, IsGoodForm}
 use Rattle.su_check.proofs.Folding.{none_sent}
 use Rattle.su_check.proofs.Boarded.{first_one}

@@ -15,6 +15,7 @@ use Rattle.su_check.specs.Refuting.{IsAscending, Refutes}
 abbrev pub tableau_of : Kinds → Term → Tab
 tableau_of kinds x = record { width = length kinds; rows = x.rows; head = x.head; outputs = length x.head; operators = [] }
 
+-- the rows, the head and the kept rows of a term
 abbrev pub lines_of : Term → Lines
 lines_of x = record { head = x.head; rows = x.rows; kept = x.kept }
 
@@ -39,6 +40,7 @@ pub record IsFoldInto (t : Lines) (fold : List ℕ) : Type 0 where
   pub rows : (i : ℕ) → i < length t.rows → images_of symbols (row_of t i) ≡ row_of t (get_or fold i 0)
   pub into : All (Contains t.kept) fold
 
+-- the fold sends each row to a kept one, each variable to one symbol, and constants and the head's symbols to themselves
 abbrev pub IsGoodFold : Term → Type 0
 IsGoodFold x = IsFoldInto (lines_of x) x.fold
 
@@ -49,6 +51,7 @@ pub record IsGoodTree (x : Term) (k : ℕ) : Type 0 where
   pub row : tree.row ≡ get_or x.kept k 0
   pub refutes : Refutes (lines_of x) tree.row tree.node []
 
+-- a term whose parts are all well formed and show what they are to show; no tree is left over
 pub record IsGood (kinds : Kinds) (i : ℕ) (x : Term) : Type 0 where
   pub form : IsGoodForm kinds i x
   pub fold : IsGoodFold x

@@ -1,11 +1,7 @@
-pub mod Cells
-pub mod Agreeing
-pub mod Fitting
-pub mod Refuting
-pub mod Boards
-pub mod Guides
 pub mod Certificate
-pub mod Nesting
+pub mod Fitting
 pub mod Grammar
-pub mod Reading
+pub mod inside
+pub mod Nesting
+pub mod Refuting
 pub mod Verdict

@@ -5,10 +5,12 @@ use Rattle.su_lex.specs.declared.signs.Sign.TheVariants as sign
 use Rattle.su_lex.specs.declared.meaning.Symbol.{Symbol}
 use Rattle.su_lex.specs.declared.meaning.Symbol.TheVariants.{Sign}
 
+-- an opening parenthesis
 abbrev pub is_open : Symbol → Bool
 is_open (Sign sign.Open) = true
 is_open _ = false
 
+-- a closing parenthesis
 abbrev pub is_close : Symbol → Bool
 is_close (Sign sign.Close) = true
 is_close _ = false

@@ -30,12 +30,15 @@ pub record IsFitting (t : Lines) (r : ℕ) (p : List Sent) (s j : ℕ) : Type 0 
 abbrev pub row_named : Node → ℕ
 row_named n = (out-Node n).row
 
+-- the branches of a node
 abbrev pub branches_of : Node → List Branch
 branches_of n = (out-Node n).next
 
+-- the target row that a branch stands for
 abbrev pub target_of : Branch → ℕ
 target_of b = (out-Branch b).target
 
+-- the node at the end of a branch
 abbrev pub node_of : Branch → Node
 node_of b = (out-Branch b).node
 

@@ -5,8 +5,8 @@ ghost use Rattle.su_tableau.specs.declared.symbols.Sym.{Sym as ASym};
 ghost use Rattle.su_tableau.specs.declared.symbols.Sym.TheVariants.{Var};
 ghost use Rattle.su_tableau.specs.Tableaux.{Occurs};
 ghost use Rattle.su_check.specs.Certificate.{lines_of};
-ghost use Rattle.su_check.specs.Boards.{AreMarks, IsNumber, AreNumbers, IsBoard};
-ghost use Rattle.su_check.specs.Cells.{IsFirst};
+ghost use Rattle.su_check.specs.inside.Boards.{AreMarks, IsNumber, AreNumbers, IsBoard};
+ghost use Rattle.su_check.specs.inside.Cells.{IsFirst};
 
 use crate::certificates::Term;
 use std::alloc::Global;

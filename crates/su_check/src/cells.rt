@@ -1,6 +1,6 @@
 //! Cells of rows.
 ghost use Rattle.std.specs.Prelude.{◌≡◌, ◌<◌, [], length, get_or};
-ghost use Rattle.su_check.specs.Cells.{cell};
+ghost use Rattle.su_check.specs.inside.Cells.{cell};
 
 use su_base::List;
 use su_tableau::Sym;

@@ -3,7 +3,7 @@ ghost use Rattle.std.specs.Prelude.{◌≡◌, ◌<◌, ◌↔◌, ℕ, IsTrue, 
 ghost use Rattle.su_tableau.specs.declared.symbols.Sym.{Sym as ASym};
 ghost use Rattle.su_check.specs.Certificate.{lines_of};
 ghost use Rattle.su_check.specs.Fitting.{AreSent, AreWide, IsWithin, sent_too};
-ghost use Rattle.su_check.specs.Boards.{no_place, IsFixed, IsImage, Sends, Covers, Keeps, IsReady};
+ghost use Rattle.su_check.specs.inside.Boards.{no_place, IsFixed, IsImage, Sends, Covers, Keeps, IsReady};
 ghost use Rattle.su_check.specs.declared.sending.Sent.{Sent as ASent};
 
 use crate::boards::Board;

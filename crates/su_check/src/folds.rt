@@ -1,6 +1,6 @@
 //! Whether a fold goes into the kept rows.
 ghost use Rattle.std.specs.Prelude.{◌≡◌, ◌≤◌, ◌↔◌, [], IsTrue, IfOk, length};
-ghost use Rattle.su_check.specs.Boards.{IsReady};
+ghost use Rattle.su_check.specs.inside.Boards.{IsReady};
 ghost use Rattle.su_check.specs.Certificate.{lines_of, IsGoodFold};
 
 use crate::boards::Board;

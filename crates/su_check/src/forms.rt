@@ -1,6 +1,6 @@
 //! Whether a term is good in form.
 ghost use Rattle.std.specs.Prelude.{◌≡◌, ◌↔◌, IsTrue, IfOk, MatchOption, length, All};
-ghost use Rattle.su_check.specs.Boards.{IsBoard};
+ghost use Rattle.su_check.specs.inside.Boards.{IsBoard};
 ghost use Rattle.su_check.specs.Certificate.{lines_of, IsGoodForm};
 
 use crate::boards::{Board, board_of, variables_in};

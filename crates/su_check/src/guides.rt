@@ -3,10 +3,10 @@ ghost use Rattle.std.specs.Prelude.{◌≡◌, ◌<◌, ◌≤◌, ℕ, IfOk, []
 ghost use Rattle.std.specs.Int.{bit_at};
 ghost use Rattle.su_tableau.specs.declared.symbols.Sym.{Sym as ASym};
 ghost use Rattle.su_check.specs.Certificate.{lines_of};
-ghost use Rattle.su_check.specs.Cells.{cell};
+ghost use Rattle.su_check.specs.inside.Cells.{cell};
 ghost use Rattle.su_check.specs.Fitting.{AreWide, IsWithin, row_of};
-ghost use Rattle.su_check.specs.Boards.{IsImage, IsReady};
-ghost use Rattle.su_check.specs.Guides.{HasCarriers, AreAlike, HasTargets, IsGuide};
+ghost use Rattle.su_check.specs.inside.Boards.{IsImage, IsReady};
+ghost use Rattle.su_check.specs.inside.Guides.{HasCarriers, AreAlike, HasTargets, IsGuide};
 
 use crate::boards::Board;
 use crate::cells::{at, row_at};

@@ -5,7 +5,7 @@ ghost use Rattle.su_lex.specs.Names.{Begins};
 ghost use Rattle.su_lex.specs.declared.meaning.Symbol.{Symbol as ASymbol};
 ghost use Rattle.su_tableau.specs.declared.symbols.Sym.{Sym as ASym};
 ghost use Rattle.su_check.specs.Grammar.{number, sym_symbol, kind_symbol, IsByte, IsNamed};
-ghost use Rattle.su_check.specs.Reading.{Gives, Stops};
+ghost use Rattle.su_check.specs.inside.Reading.{Gives, Stops};
 
 use crate::variables::variable;
 use su_base::{Kind, List, NoMemory, Value};

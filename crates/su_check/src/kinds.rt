@@ -5,7 +5,7 @@ ghost use Rattle.su_base.specs.declared.values.Kind.{Kind as AKind};
 ghost use Rattle.su_tableau.specs.declared.symbols.Sym.TheVariants.{Var};
 ghost use Rattle.su_tableau.specs.Kinds.{sym_kind};
 ghost use Rattle.su_tableau.specs.Tableaux.{Occurs};
-ghost use Rattle.su_check.specs.Cells.{cell, kind_at, HasFound, AreFound, AreTyped};
+ghost use Rattle.su_check.specs.inside.Cells.{cell, kind_at, HasFound, AreFound, AreTyped};
 
 use crate::boards::number_of;
 use crate::cells::at;

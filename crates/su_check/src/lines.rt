@@ -10,7 +10,7 @@ ghost use Rattle.su_check.specs.declared.certificates.RowTree.{RowTree as ARowTr
 ghost use Rattle.su_check.specs.declared.certificates.Term.{Term as ATerm};
 ghost use Rattle.su_check.specs.declared.certificates.Certificate.{Certificate as ACertificate};
 ghost use Rattle.su_check.specs.Grammar.{IsByteNode, IsTermInRange, IsInRange, node_symbols, row_line, tree_line, certificate_symbols};
-ghost use Rattle.su_check.specs.Reading.{EndsTerm, Gives, IsRow, IsByteTree, row_before, tree_before, term_before, term_symbols};
+ghost use Rattle.su_check.specs.inside.Reading.{EndsTerm, Gives, IsRow, IsByteTree, row_before, tree_before, term_before, term_symbols};
 
 use crate::certificates::{Certificate, RowTree, Term};
 use crate::items::{bytes, expect_number, kinds, symbols, takes_number};

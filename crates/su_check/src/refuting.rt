@@ -2,8 +2,8 @@
 ghost use Rattle.std.specs.Prelude.{◌≡◌, ◌≢◌, ◌≤◌, ◌↔◌, IsTrue, IfOk, All, Contains, length};
 ghost use Rattle.su_check.specs.Certificate.{lines_of};
 ghost use Rattle.su_check.specs.Fitting.{sent_too};
-ghost use Rattle.su_check.specs.Boards.{Keeps, IsReady};
-ghost use Rattle.su_check.specs.Guides.{HasTargets, IsGuide};
+ghost use Rattle.su_check.specs.inside.Boards.{Keeps, IsReady};
+ghost use Rattle.su_check.specs.inside.Guides.{HasTargets, IsGuide};
 ghost use Rattle.su_check.specs.Refuting.{IsOpen, IsFitting, Refutes, target_of, node_of};
 
 use crate::boards::Board;

@@ -1,8 +1,8 @@
 //! Whether each kept row has a tree.
 ghost use Rattle.std.specs.Prelude.{◌≡◌, ◌<◌, ◌≤◌, ◌↔◌, ℕ, IsTrue, IfOk, MatchOption, [], length};
-ghost use Rattle.su_check.specs.Boards.{IsReady};
+ghost use Rattle.su_check.specs.inside.Boards.{IsReady};
 ghost use Rattle.su_check.specs.Certificate.{lines_of, IsGoodTree};
-ghost use Rattle.su_check.specs.Guides.{IsGuide};
+ghost use Rattle.su_check.specs.inside.Guides.{IsGuide};
 ghost use Rattle.su_check.specs.Verdict.{HasGoodTrees, IsTreeFault};
 
 use crate::boards::Board;

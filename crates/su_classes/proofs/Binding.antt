@@ -12,8 +12,9 @@ use Rattle.su_tableau.specs.declared.symbols.Sym.TheVariants.{Var}
 use Rattle.su_classes.specs.declared.items.Placed.{Placed}
 use Rattle.su_classes.specs.declared.items.Together.{Together}
 use Rattle.su_classes.specs.Items.{cell, LiesIn, SameAt, Keeps, IsPlacedBelow}
-use Rattle.su_classes.specs.Tables.{rep, IsForest, IsTable, IsSound, IsJoining, IsShortened, IsMerging, IsProgress}
-use Rattle.su_classes.specs.Firsts.{row_at, first_at, AreMembersBelow, AreFirsts}
+use Rattle.su_classes.specs.Tables.{rep, IsTable, IsSound}
+use Rattle.su_classes.specs.inside.Tables.{IsForest, IsJoining, IsShortened, IsMerging, IsProgress}
+use Rattle.su_classes.specs.inside.Firsts.{row_at, first_at, AreMembersBelow, AreFirsts}
 use Rattle.su_classes.proofs.Listed.{right_low}
 use Rattle.su_base.proofs.Subsets.{subset_at}
 use Rattle.su_classes.proofs.Merging.{own_labels, same_var, progress_none, progress_then, progress_same}

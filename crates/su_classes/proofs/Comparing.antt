@@ -15,7 +15,7 @@ use Rattle.su_base.specs.declared.values.Value.TheVariants.{Int, Text}
 use Rattle.su_base.specs.Value.{compare_values}
 use Rattle.su_base.specs.contracts.values.ValueOrd.TheImpl.{ghosts}
 use Rattle.su_base.specs.contracts.values.ValueOrd.TheImpl.Laws.{total-law}
-use Rattle.su_classes.specs.Symbols.{same_value, has_constant, AreDistinct}
+use Rattle.su_classes.specs.inside.Symbols.{same_value, has_constant, AreDistinct}
 
 pub compare_itself : (x : Value) → compare_values x x ≡ Same
 compare_itself (Int n) = tied_itself int_cmp_total n

@@ -9,7 +9,7 @@ use Rattle.su_base.proofs.Subsets.{subset_at}
 use Rattle.su_fd.specs.declared.dependencies.Fd.{Fd}
 use Rattle.su_classes.specs.declared.items.Placed.{Placed}
 use Rattle.su_classes.specs.Items.{cell, LiesIn, IsPlacedBelow}
-use Rattle.su_classes.specs.Firsts.{AreMembersBelow}
+use Rattle.su_classes.specs.inside.Firsts.{AreMembersBelow}
 
 pub contains_later : {X : Type 0} (x : X) (xs : List X) (y : X) → Contains xs y → Contains (x ∷ xs) y
 contains_later x xs y c = (suc c.0, (let l = c.1 in omega arith), c.2)

@@ -5,7 +5,8 @@ use Rattle.std.proofs.lemmas.Bool.{cases_lt, true≢false}
 use Rattle.std.proofs.lemmas.List.{get_or_default}
 use Rattle.su_tableau.specs.declared.symbols.Sym.{Sym}
 use Rattle.su_tableau.specs.declared.symbols.Sym.TheVariants.{Var}
-use Rattle.su_classes.specs.Tables.{rep, IsForest, IsTable, IsSound, class_count, IsJoining, IsShortened, IsProgress}
+use Rattle.su_classes.specs.Tables.{rep, IsTable, IsSound}
+use Rattle.su_classes.specs.inside.Tables.{IsForest, class_count, IsJoining, IsShortened, IsProgress}
 use Rattle.su_classes.proofs.Trees.{shortened_count, link_joining, link_fewer}
 
 -- ---- joining

@@ -7,7 +7,7 @@ use Rattle.su_base.specs.declared.values.Value.TheVariants.{Text}
 use Rattle.su_tableau.specs.declared.symbols.Sym.{Sym}
 use Rattle.su_tableau.specs.declared.symbols.Sym.TheVariants.{Const, Var}
 use Rattle.su_classes.specs.Tables.{rep}
-use Rattle.su_classes.specs.Symbols.{same_value, has_constant, place_of, AreDistinct, is_known, number_of, symbol_at, name_in}
+use Rattle.su_classes.specs.inside.Symbols.{same_value, has_constant, place_of, AreDistinct, is_known, number_of, symbol_at, name_in}
 use Rattle.su_classes.proofs.Comparing.{same_itself, same_is}
 
 pub place_is : (vs : List Value) (c : Value) → has_constant vs c ≡ true → (place_of vs c < length vs) × (get_or vs (place_of vs c) (Text []) ≡ c)

@@ -9,8 +9,9 @@ use Rattle.su_tableau.specs.declared.symbols.Sym.{Sym}
 use Rattle.su_classes.specs.declared.items.Placed.{Placed}
 use Rattle.su_classes.specs.declared.rules.Rule.{Rule}
 use Rattle.su_classes.specs.Items.{cell, LiesIn, SameAt, Keeps, IsPlacedBelow}
-use Rattle.su_classes.specs.Tables.{IsForest, IsSound, IsJoining, IsShortened, IsMerging}
-use Rattle.su_classes.specs.Firsts.{AreMembersBelow}
+use Rattle.su_classes.specs.Tables.{IsSound}
+use Rattle.su_classes.specs.inside.Tables.{IsForest, IsJoining, IsShortened, IsMerging}
+use Rattle.su_classes.specs.inside.Firsts.{AreMembersBelow}
 use Rattle.su_classes.proofs.Listed.{left_low}
 use Rattle.su_classes.proofs.Binding.{merging_none, merging_then, merging_by, merging_joining, merging_shortened}
 

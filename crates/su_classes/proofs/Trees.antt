@@ -5,7 +5,8 @@ use Rattle.std.proofs.lemmas.Bool.{cases_eq, eq-eqb, ne_eqb, cond-true, cond-fal
 use Rattle.std.proofs.lemmas.Bool.Decides.{nat_tests}
 use Rattle.std.proofs.lemmas.List.{get_or-set_same, get_or-set_other, length-set, set-get_or}
 use Rattle.su_tableau.specs.declared.symbols.Sym.{Sym}
-use Rattle.su_classes.specs.Tables.{rep, IsForest, IsTable, IsSound, roots, class_count, IsJoining, IsShortened}
+use Rattle.su_classes.specs.Tables.{rep, IsTable, IsSound}
+use Rattle.su_classes.specs.inside.Tables.{IsForest, roots, class_count, IsJoining, IsShortened}
 
 -- ---- counting roots
 

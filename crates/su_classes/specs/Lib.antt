@@ -1,6 +1,4 @@
+pub mod inside
 pub mod Items
-pub mod Tables
-pub mod Firsts
 pub mod Naming
-pub mod Symbols
-pub mod Rushing
+pub mod Tables

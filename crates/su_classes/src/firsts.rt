@@ -2,7 +2,7 @@
 ghost use Rattle.std.specs.Prelude.{◌≡◌, ◌↔◌, ℕ, ◌<◌, ◌≤◌, ◌++◌, ◌∷◌, [], if◌then◌else◌, IsTrue, All, length, IfOk, OnOk};
 ghost use Rattle.su_classes.specs.Items.{cell, LiesIn, IsPlacedBelow};
 ghost use Rattle.su_classes.specs.Tables.{rep};
-ghost use Rattle.su_classes.specs.Firsts.{AreMembersBelow, key, AreFirsts, noted_in, Notes, IsFirst};
+ghost use Rattle.su_classes.specs.inside.Firsts.{AreMembersBelow, key, AreFirsts, noted_in, Notes, IsFirst};
 
 use crate::items::{Placed, item_at};
 use std::alloc::Global;

@@ -2,8 +2,9 @@
 ghost use Rattle.std.specs.Prelude.{◌≡◌, ℕ, ◌<◌, ◌≤◌, IsTrue, All, Contains, length, IfOk, OnOk};
 ghost use Rattle.su_tableau.specs.declared.symbols.Sym.{Sym};
 ghost use Rattle.su_classes.specs.Items.{cell, LiesIn, SameAt, Keeps, IsPlacedBelow};
-ghost use Rattle.su_classes.specs.Tables.{IsForest, IsSound, IsShortened, IsMerging};
-ghost use Rattle.su_classes.specs.Rushing.{IsRule, IsWell, IsSame, IsFor};
+ghost use Rattle.su_classes.specs.Tables.{IsSound};
+ghost use Rattle.su_classes.specs.inside.Tables.{IsForest, IsShortened, IsMerging};
+ghost use Rattle.su_classes.specs.inside.Rushing.{IsRule, IsWell, IsSame, IsFor};
 
 use crate::firsts::lies_in;
 use crate::items::{Placed, item_at};

@@ -1,8 +1,9 @@
 //! Passes over the rows that merge what the dependencies put together.
 ghost use Rattle.std.specs.Prelude.{◌≡◌, ℕ, ◌<◌, ◌≤◌, false, All, length, IfOk, OnOk};
 ghost use Rattle.su_classes.specs.Items.{cell, Keeps, IsPlacedBelow};
-ghost use Rattle.su_classes.specs.Tables.{rep, IsForest, IsTable, IsJoining, IsMerging, IsProgress};
-ghost use Rattle.su_classes.specs.Firsts.{AreMembersBelow, AreFirsts};
+ghost use Rattle.su_classes.specs.Tables.{rep, IsTable};
+ghost use Rattle.su_classes.specs.inside.Tables.{IsForest, IsJoining, IsMerging, IsProgress};
+ghost use Rattle.su_classes.specs.inside.Firsts.{AreMembersBelow, AreFirsts};
 
 use crate::firsts::{firsts, lies_in, members};
 use crate::items::{Placed, item_at};

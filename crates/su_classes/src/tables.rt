@@ -1,6 +1,7 @@
 //! A table of representatives: items in trees, each with its parent.
 ghost use Rattle.std.specs.Prelude.{◌≡◌, ℕ, ◌<◌, ◌≤◌, All, length};
-ghost use Rattle.su_classes.specs.Tables.{rep, IsForest, IsTable, IsSound, IsJoining, IsShortened, IsProgress};
+ghost use Rattle.su_classes.specs.Tables.{rep, IsTable, IsSound};
+ghost use Rattle.su_classes.specs.inside.Tables.{IsForest, IsJoining, IsShortened, IsProgress};
 ghost use Rattle.su_tableau.specs.declared.symbols.Sym.{Sym};
 
 use crate::items::Together;

@@ -13,7 +13,7 @@ use Rattle.su_chase.specs.declared.freezing.Frozen.{Frozen}
 use Rattle.su_schema.specs.SchemaValue.{SchemaValue, attribute_kinds}
 use Rattle.su_steps.specs.declared.results.Term.{Term}
 use Rattle.su_compare.specs.Verdict.{tab_at, InTerms, IsUnsettled, IsShown}
-use Rattle.su_compare.specs.Settling.{IsAnswer}
+use Rattle.su_compare.specs.inside.Settling.{IsAnswer}
 use Rattle.su_compare.proofs.Members.{ext_included}
 use Rattle.su_compare.proofs.Constants.{chased_constants}
 

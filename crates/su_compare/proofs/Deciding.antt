@@ -25,7 +25,7 @@ use Rattle.su_compare.specs.declared.verdicts.Verdict.TheVariants as verdict
 use Rattle.su_compare.specs.Within.{IsQueryWithin, IsCounterexample, AreOf}
 use Rattle.su_compare.specs.Verdict.{tab_at, IsBy, IsSettled, IsReason, IsYes, IfApart}
 use Rattle.su_compare.specs.Comparable.{IsPlain, AreComparable}
-use Rattle.su_compare.specs.Settling.{IsAlike, AreAlike, IsAnswer, IsApartOver}
+use Rattle.su_compare.specs.inside.Settling.{IsAlike, AreAlike, IsAnswer, IsApartOver}
 use Rattle.su_compare.proofs.Settled.{tab_here}
 
 greater : (a b : ℕ) → ord_max nat_cmp a b ≡ max a b

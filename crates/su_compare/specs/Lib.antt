@@ -1,8 +1,8 @@
-pub mod Equalities
-pub mod Outputs
-pub mod Within
 pub mod Comparable
-pub mod Verdict
-pub mod Settling
-pub mod Texts
+pub mod Equalities
+pub mod inside
 pub mod Laws
+pub mod Outputs
+pub mod Texts
+pub mod Verdict
+pub mod Within

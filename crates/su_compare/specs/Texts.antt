@@ -19,6 +19,7 @@ abbrev pub by_text : Option Found → List ℕ
 by_text None = codes " empty"
 by_text (Some f) = codes " by " ++ decimal f.term ++ codes " rows" ++ numbers_text f.mapping.list
 
+-- the line of a reason: the term of the first query, and what it lies within
 abbrev pub reason_line : Reason → List ℕ
 reason_line r = codes "  term " ++ decimal r.term ++ by_text r.by ++ codes "\n"
 
@@ -34,6 +35,7 @@ head_text head = codes "row " ++ spaced (in_parens (listed value_symbols head)) 
 abbrev pub apart_text : SchemaValue → ℕ → List (List Value) → List Value → List ℕ
 apart_text schema term universe head = counts_text term (length universe) ++ text_of (attribute_names schema) universe ++ head_text head
 
+-- the verdict: the reasons of a yes, the relation and the row of a no
 abbrev pub verdict_text : SchemaValue → Verdict → List ℕ
 verdict_text schema (Within reasons) = codes "yes\n" ++ flat_map reason_line reasons
 verdict_text schema (Apart term universe head) = codes "no\n" ++ apart_text schema term universe head

@@ -52,6 +52,7 @@ abbrev pub IsBy : List Fd → List Term → Tab → Option Found → Type 0
 IsBy fds second t None = Clashes fds t
 IsBy fds second t (Some f) = (c : Tab) × IsChased fds t c × IsFound second c f
 
+-- there is a reason why the term's answers are among those of the second query
 abbrev pub IsSettled : List Fd → List Term → Tab → Type 0
 IsSettled fds second t = (by : Option Found) × IsBy fds second t by
 
@@ -98,10 +99,12 @@ pub record IsApart (schema : SchemaValue) (first second : List Term) (term : ℕ
   pub unsettled : IsUnsettled schema.fds second (tab_at first term) chased
   pub shown_is : IsShown schema first second chased shown
 
+-- a yes with a reason for each term, or a no with a relation and a row of it
 abbrev pub IsVerdict : SchemaValue → List Term → List Term → Verdict → Type 0
 IsVerdict schema first second (Within reasons) = AreReasons schema.fds first second reasons
 IsVerdict schema first second (Apart term universe head) = IsApart schema first second term (record { universe = universe; head = head })
 
+-- the verdict is a yes
 abbrev pub IsYes : Verdict → Type 0
 IsYes (Within reasons) = Unit {0}
 IsYes (Apart term universe head) = ⊥

@@ -12,11 +12,13 @@ use Rattle.su_steps.specs.declared.results.Term.{Term}
 use Rattle.su_steps.specs.Expression.{Meets, cuts, InExpression}
 use Rattle.su_steps.specs.Terms.{AreTerms}
 
+-- over every universal relation that meets the dependencies each row of the first query is one of the second
 abbrev pub IsQueryWithin : SchemaValue → List (FinSet nat_cmp) → Resolved → Resolved → Type 0
 IsQueryWithin schema maximal p q =
     (universe : List (List Value)) (h : List Value) → IsUniverse (attribute_kinds schema) universe → Meets schema.fds universe
     → InExpression schema maximal p (cuts schema universe) h → InExpression schema maximal q (cuts schema universe) h
 
+-- a universal relation that meets the dependencies, and a row of the first query over it that is none of the second
 pub record IsCounterexample (schema : SchemaValue) (maximal : List (FinSet nat_cmp)) (p q : Resolved) (universe : List (List Value)) (h : List Value) : Type 0 where
   pub typed : IsUniverse (attribute_kinds schema) universe
   pub meets : Meets schema.fds universe

@@ -10,7 +10,7 @@ ghost use Rattle.su_chase.specs.Meeting.{Meets};
 ghost use Rattle.su_compare.specs.Within.{IsQueryWithin, IsCounterexample, AreOf};
 ghost use Rattle.su_compare.specs.Comparable.{AreComparable};
 ghost use Rattle.su_compare.specs.Verdict.{IsVerdict, IsYes, IfApart};
-ghost use Rattle.su_compare.specs.Settling.{HasRoomFor, IsAnswer, IsApartOver};
+ghost use Rattle.su_compare.specs.inside.Settling.{HasRoomFor, IsAnswer, IsApartOver};
 
 use crate::settling::{Settled, settle};
 use crate::shown::show_apart;

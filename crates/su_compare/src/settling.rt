@@ -6,7 +6,7 @@ ghost use Rattle.su_tableau.specs.Mapping.{Maps};
 ghost use Rattle.su_chase.specs.Meeting.{Meets};
 ghost use Rattle.su_chase.specs.Chased.{IsFdBelow};
 ghost use Rattle.su_compare.specs.Verdict.{tab_at, IsFound};
-ghost use Rattle.su_compare.specs.Settling.{HasRoomFor, AreAlike, IsSettlement, Answers, IsTypedOpen};
+ghost use Rattle.su_compare.specs.inside.Settling.{HasRoomFor, AreAlike, IsSettlement, Answers, IsTypedOpen};
 
 use crate::verdicts::Found;
 use std::alloc::Global;

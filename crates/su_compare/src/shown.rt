@@ -9,7 +9,7 @@ ghost use Rattle.su_schema.specs.SchemaValue.{attribute_kinds};
 ghost use Rattle.su_chase.specs.Chase.{IsClosed};
 ghost use Rattle.su_chase.specs.Meeting.{Meets};
 ghost use Rattle.su_compare.specs.Verdict.{tab_at, InTerms, IsShown, IsUnsettled};
-ghost use Rattle.su_compare.specs.Settling.{IsAnswer, constants_in, tab_constants, terms_constants};
+ghost use Rattle.su_compare.specs.inside.Settling.{IsAnswer, constants_in, tab_constants, terms_constants};
 
 use std::alloc::Global;
 use su_base::{Kind, List, NoMemory, Row, Value};

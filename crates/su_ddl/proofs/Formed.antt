@@ -13,7 +13,7 @@ use Rattle.su_schema.specs.declared.definitions.Pair.{Pair}
 use Rattle.su_schema.specs.declared.definitions.Definition.{Definition}
 use Rattle.su_schema.specs.declared.definitions.Definition.TheVariants.{Attribute, Relation, Object, Fd, Maximal}
 use Rattle.su_ddl.specs.Grammar.{kind_symbol, columns_symbols, in_parens, IsForm, IsDefinition}
-use Rattle.su_ddl.specs.Columns.{AreColumns}
+use Rattle.su_ddl.specs.inside.Columns.{AreColumns}
 use Rattle.su_ddl.proofs.Listing.{words_differ, kind_same, no_comma, no_comma_arrow, no_comma_end, given_are, given_columns, parens_unique, columns_unique}
 
 pub record AttributeForm (s : List Symbol) (d : Definition) : Type 0 where

@@ -16,7 +16,7 @@ use Rattle.su_lex.proofs.Listed.{SameNames, names_unique}
 use Rattle.su_schema.specs.SchemaValue.{column_names}
 use Rattle.su_schema.specs.Defining.{AreGiven}
 use Rattle.su_ddl.specs.Grammar.{kind_symbol, more_columns, columns_symbols, in_parens}
-use Rattle.su_ddl.specs.Columns.{AreColumns}
+use Rattle.su_ddl.specs.inside.Columns.{AreColumns}
 
 -- ---- words that differ
 

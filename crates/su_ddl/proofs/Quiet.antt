@@ -20,7 +20,7 @@ use Rattle.su_lex.proofs.Fronts.{word_all}
 use Rattle.su_schema.specs.declared.definitions.Definition.{Definition}
 use Rattle.su_schema.specs.declared.definitions.Definition.TheVariants.{Attribute, Relation, Object, Fd, Maximal}
 use Rattle.su_schema.specs.Defining.{IsWellNamed}
-use Rattle.su_ddl.specs.Columns.{AreColumns}
+use Rattle.su_ddl.specs.inside.Columns.{AreColumns}
 use Rattle.su_ddl.specs.Grammar.{kind_symbol, more_columns, columns_symbols, in_parens, definition_symbols}
 use Rattle.su_ddl.proofs.Listing.{given_are, given_columns}
 

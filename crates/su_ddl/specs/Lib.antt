@@ -1,5 +1,5 @@
-pub mod Columns
 pub mod Grammar
+pub mod inside
 pub mod Laws
 pub mod Reading
 pub mod Shown

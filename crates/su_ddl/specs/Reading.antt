@@ -30,6 +30,7 @@ pub data ReadsFrom : ℕ → SchemaValue → List (List ℕ) → Result SchemaVa
 abbrev pub statement_of : List ℕ → Span → List ℕ
 statement_of file span = slice_of file span.start span.end
 
+-- the empty schema
 abbrev pub no_definitions : SchemaValue
 no_definitions = record { attributes = []; relations = []; objects = []; fds = []; declared = [] }
 

@@ -20,12 +20,15 @@ name_at names k = slice_index_or names k []
 abbrev pub names_in : List (List ℕ) → FinSet nat_cmp → List (List ℕ)
 names_in names set = map (name_at names) (filter (contains set) (range_with_len 0 (length names)))
 
+-- the definition of an attribute
 abbrev pub attribute_definition : AttributeEntry → Definition
 attribute_definition a = Attribute a.name a.kind
 
+-- the definition of a relation
 abbrev pub relation_definition : RelationEntry → Definition
 relation_definition r = Relation r.name r.columns
 
+-- none or one pair, as a list
 abbrev pub listed : Option Pair → List Pair
 listed None = []
 listed (Some pair) = pair ∷ []
@@ -34,13 +37,16 @@ listed (Some pair) = pair ∷ []
 abbrev pub pair_of : SchemaValue → ObjectEntry → ℕ → Option Pair
 pair_of schema o a = option_map (λ c. record { attribute = name_at (attribute_names schema) a; column = name_at (column_names (columns_at schema o.relation)) c }) (column_of o a)
 
+-- the definition of an object, its pairs by ascending attribute
 abbrev pub object_definition : SchemaValue → ObjectEntry → Definition
 object_definition schema o =
     Object o.name (name_at (relation_names schema) o.relation) (filter_map (pair_of schema o) (range_with_len 0 (length schema.attributes)))
 
+-- the definition of a dependency
 abbrev pub fd_definition : SchemaValue → Dependency → Definition
 fd_definition schema f = Fd (names_in (attribute_names schema) f.left) (names_in (attribute_names schema) f.right)
 
+-- the definition of a declared maximal object
 abbrev pub maximal_definition : SchemaValue → FinSet nat_cmp → Definition
 maximal_definition schema set = Maximal (names_in (object_names schema) set)
 
@@ -57,6 +63,7 @@ definitions_of schema =
 abbrev pub line_of : Definition → List ℕ
 line_of definition = spaced (definition_symbols definition) ++ 59 ∷ 10 ∷ []
 
+-- the lines of definitions, one behind another
 abbrev pub lines_of : List Definition → List ℕ
 lines_of [] = []
 lines_of (d ∷ ds) = line_of d ++ lines_of ds

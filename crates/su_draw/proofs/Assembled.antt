@@ -1,6 +1,6 @@
 -- Parts of a text, one behind the other.
 use Rattle.su_draw.specs.declared.shapes.Place.{Place}
-use Rattle.su_draw.specs.Svg.{text_pairs}
+use Rattle.su_draw.specs.Shapes.{text_pairs}
 use Rattle.std.proofs.Common.{◌≡◌, ℕ, List, ◌++◌, Result, Ok, Err, OnOk, sym, ap, ◌∙◌, append_assoc}
 
 -- a consequence of what is ensured at the end

@@ -5,7 +5,8 @@ use Rattle.su_draw.specs.declared.pieces.Cut.{Cut}
 use Rattle.su_draw.specs.declared.states.State.{State}
 use Rattle.su_draw.specs.declared.reading.Fault.{Fault}
 use Rattle.su_draw.specs.declared.reading.Fault.TheVariants.{Line as AtLine, NoMemory}
-use Rattle.su_draw.specs.Order.{at_start, may_end}
+use Rattle.su_draw.specs.Order.{may_end}
+use Rattle.su_draw.specs.States.{at_start}
 use Rattle.su_draw.specs.Pieces.{cut_of}
 use Rattle.su_draw.specs.declared.reading.Line.{Line}
 use Rattle.su_draw.specs.Reading.{behind_words, IsLineOf, AreRead, is_whole_cut, AreLinesOf, IsLineAtFault, IsEndAtFault, IsFaultOf, IsFaultAmong}

@@ -10,7 +10,9 @@ use Rattle.su_draw.specs.declared.shapes.Help.TheVariants.{Heading, Band, Rule}
 use Rattle.su_draw.specs.declared.shapes.Picture.{Picture}
 use Rattle.su_draw.specs.Escaping.{escaped}
 use Rattle.su_draw.specs.Xml.{Attribute, AreAttributes, IsContent, nothing, plain, IsDocument}
-use Rattle.su_draw.specs.Svg.{word_of, number_of, colour_of, opacity_of, weight_of, text_pairs, text_attributes, text_line, way_of, arrow_line, dot_line, square_line, lines_as, shape_text, help_text, svg_attributes, ground_line, svg_inside, svg_text}
+use Rattle.su_draw.specs.Svg.{help_text, svg_attributes, ground_line, svg_inside, svg_text}
+use Rattle.su_draw.specs.Shapes.{text_pairs, text_attributes, text_line, way_of, arrow_line, dot_line, square_line, lines_as, shape_text}
+use Rattle.su_draw.specs.Looks.{word_of, number_of, colour_of, opacity_of, weight_of}
 use Rattle.su_draw.proofs.Plain.{ArePlain, plain-append, plain-if, decimal-plain, escaped-content, element_line-content}
 
 colour-plain : (n : ℕ) → ArePlain (colour_of n)

@@ -15,6 +15,7 @@ shown_for c =
 abbrev pub char_text : ℕ → List ℕ
 char_text c = if is_plain c && not (c == 10) then c ∷ [] else codes "&#" ++ decimal (shown_for c) ++ codes ";"
 
+-- no character is begun
 abbrev pub none_begun : Begun
 none_begun = record { left = 0; bits = 0 }
 
@@ -50,6 +51,7 @@ begun_behind s b =
     if s.left == 0 || not (goes_on b) then begun_with b else
     (if s.left == 1 then none_begun else record { left = s.left - 1; bits = bits_with s.bits b })
 
+-- the bytes escaped, from a character that may be begun; one that is never ended is U+FFFD
 abbrev pub escaped_on : Begun → List ℕ → List ℕ
 escaped_on s [] = if s.left == 0 then [] else char_text 65533
 escaped_on s (b ∷ bs) = byte_text s b ++ escaped_on (begun_behind s b) bs

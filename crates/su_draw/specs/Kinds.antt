@@ -4,6 +4,7 @@ use Rattle.std.specs.Str.{bytes_eq}
 use Rattle.su_draw.specs.declared.kinds.Kind.{Kind}
 use Rattle.su_draw.specs.declared.kinds.Kind.TheVariants.{Query, Variables, Term, Row, Head, Compare, Kept, Fold, Sources, Covered, Count, Attribute, Relation, Object, Dependency, Declared, Maximal}
 
+-- the kind of a line that stands at the margin, by its first word
 abbrev pub outer_kind_of : List ℕ → Option Kind
 outer_kind_of word =
     if bytes_eq word (codes "query:") then Some Query else
@@ -17,6 +18,7 @@ outer_kind_of word =
     (if bytes_eq word (codes "maximal") then Some Declared else
     (if bytes_eq word (codes "--") then Some Maximal else None)))))))))
 
+-- the kind of a line that stands below a term, by its third word; the first two are empty
 abbrev pub inner_kind_of : List ℕ → Option Kind
 inner_kind_of word =
     if bytes_eq word (codes "row") then Some Row else

@@ -1,12 +1,13 @@
 -- What the words of a line must be, behind the lines before it.
 -- Words are counted from 0; a line of a term has two empty words in front. Rows, terms and maximal objects are numbered from 0.
-use Rattle.std.specs.Prelude.{ℕ, ◌+◌, ◌-◌, ◌*◌, ◌/◌, ◌==◌, ◌&&◌, ◌||◌, nat_lt, Bool, true, false, List, [], ◌∷◌, length, take, drop, codes}
+use Rattle.std.specs.Prelude.{ℕ, ◌+◌, ◌-◌, ◌==◌, ◌&&◌, nat_lt, Bool, false, List, [], ◌∷◌, length, codes}
 use Rattle.std.specs.List.{list_all}
 use Rattle.std.specs.Str.{bytes_eq}
 use Rattle.su_draw.specs.declared.kinds.Kind.{Kind}
 use Rattle.su_draw.specs.declared.kinds.Kind.TheVariants.{Query, Variables, Term, Row, Head, Compare, Kept, Fold, Sources, Covered, Count, Attribute, Relation, Object, Dependency, Declared, Maximal}
 use Rattle.su_draw.specs.declared.states.State.{State}
-use Rattle.su_draw.specs.Checks.{is_decimal, is_decimal_below, listed, cells}
+use Rattle.su_draw.specs.Checks.{is_decimal, is_decimal_below, cells}
+use Rattle.su_draw.specs.Definitions.{attribute_fits, object_fits, maximal_fits}
 
 -- `term I disjunct D choice C ..`
 abbrev pub term_fits : State → List (List ℕ) → Bool
@@ -48,39 +49,6 @@ cover_fits s _ = false
 abbrev pub count_fits : State → List (List ℕ) → Bool
 count_fits s (w ∷ terms ∷ kept ∷ number ∷ []) = is_decimal s.terms terms && bytes_eq kept (codes "kept") && is_decimal s.kept_terms number
 count_fits s _ = false
-
--- `attribute NAME KIND;`
-abbrev pub attribute_fits : List (List ℕ) → Bool
-attribute_fits (w ∷ name ∷ kind ∷ []) = bytes_eq kind (codes "int;") || bytes_eq kind (codes "text;")
-attribute_fits _ = false
-
--- how many attributes an object with so many words has
-abbrev pub attribute_count_of : ℕ → ℕ
-attribute_count_of words = (words - 4) / 2
-
--- behind the attributes: `from RELATION (COLUMN, ..);`; 59 is a semicolon
-abbrev pub columns_fit : List (List ℕ) → Bool
-columns_fit (from ∷ relation ∷ columns) = bytes_eq from (codes "from") && listed 59 columns
-columns_fit _ = false
-
--- `object NAME (ATTRIBUTE, ..) from RELATION (COLUMN, ..);`, as many columns as attributes; 41 is a closing parenthesis
-abbrev pub object_fits : List (List ℕ) → Bool
-object_fits words =
-    let n = attribute_count_of (length words) in
-    (length words == 2 * n + 4) && listed 41 (take n (drop 2 words)) && columns_fit (drop n (drop 2 words))
-
-abbrev pub is_origin_word : List ℕ → Bool
-is_origin_word word = bytes_eq word (codes "declared") || bytes_eq word (codes "computed")
-
--- `K declared OBJECT ..`, or `computed`
-abbrev pub is_maximal_object : State → List (List ℕ) → Bool
-is_maximal_object s (number ∷ kind ∷ name ∷ names) = is_decimal s.maximal number && is_origin_word kind
-is_maximal_object s _ = false
-
--- `-- maximal object` and what it is
-abbrev pub maximal_fits : State → List (List ℕ) → Bool
-maximal_fits s (w ∷ maximal ∷ object ∷ words) = bytes_eq maximal (codes "maximal") && bytes_eq object (codes "object") && is_maximal_object s words
-maximal_fits s _ = false
 
 -- the words are those of a line of this kind
 abbrev pub fits : State → Kind → List (List ℕ) → Bool

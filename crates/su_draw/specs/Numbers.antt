@@ -2,6 +2,7 @@
 use Rattle.std.specs.Prelude.{ℕ, ◌+◌, ◌-◌, ◌*◌, ◌==◌, ◌&&◌, nat_le, if◌then◌else◌, List, [], ◌∷◌, Option, Some, None}
 use Rattle.std.specs.Option.{option_and_then, option_map}
 
+-- the value of a digit
 abbrev pub digit_of : ℕ → Option ℕ
 digit_of b = if nat_le 48 b && nat_le b 57 then Some (b - 48) else None
 

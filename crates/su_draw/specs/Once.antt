@@ -4,7 +4,8 @@ use Rattle.std.specs.Prelude.{◌≡◌, ℕ, ◌==◌, ◌&&◌, Bool, List, []
 use Rattle.su_draw.specs.declared.things.Thing.{Thing}
 use Rattle.su_draw.specs.declared.shapes.Shape.{Shape}
 use Rattle.su_draw.specs.declared.reading.Line.{Line}
-use Rattle.su_draw.specs.Things.{drawn_as, thing_of}
+use Rattle.su_draw.specs.Things.{thing_of}
+use Rattle.su_draw.specs.Drawn.{drawn_as}
 
 -- the thing stands for this word of this line
 abbrev pub stands_for : ℕ → ℕ → Thing → Bool
@@ -15,6 +16,7 @@ abbrev pub thing_of_word : Line → ℕ → ℕ → Option (List ℕ) → List T
 thing_of_word line i k None = []
 thing_of_word line i k (Some word) = thing_of (drawn_as line.kind (length line.words) k word) i k word
 
+-- what word k of line i is drawn as, if it is
 abbrev pub thing_at : Option Line → ℕ → ℕ → List Thing
 thing_at None i k = []
 thing_at (Some line) i k = thing_of_word line i k (slice_get line.words k)

@@ -1,11 +1,12 @@
 -- Which line may stand behind the lines before it, and what is known behind it.
 -- An explanation: its query, its variables, its terms, how many there are. A term: its line, its rows, its head, its comparisons, its kept rows, its fold,
 -- and the sources of each kept row or its cover. A schema: its definitions by kind, its maximal objects.
-use Rattle.std.specs.Prelude.{ℕ, ◌+◌, ◌-◌, ◌==◌, ◌&&◌, nat_lt, nat_le, if◌then◌else◌, Bool, true, false, List, length, Option, Some, None}
+use Rattle.std.specs.Prelude.{ℕ, ◌-◌, ◌==◌, ◌&&◌, nat_lt, nat_le, if◌then◌else◌, Bool, true, false, List, length, Option, Some, None}
 use Rattle.su_draw.specs.declared.kinds.Kind.{Kind}
 use Rattle.su_draw.specs.declared.kinds.Kind.TheVariants.{Query, Variables, Term, Row, Head, Compare, Kept, Fold, Sources, Covered, Count, Attribute, Relation, Object, Dependency, Declared, Maximal}
 use Rattle.su_draw.specs.declared.states.State.{State}
 use Rattle.su_draw.specs.Lines.{fits}
+use Rattle.su_draw.specs.States.{has_room_in, state_behind}
 
 -- the place of a definition among the kinds of definitions, from 1; 0 for a line of an explanation
 abbrev pub rank_of : Kind → ℕ
@@ -29,6 +30,7 @@ between_terms s (Some Covered) = true
 between_terms s (Some Sources) = s.sources == s.kept
 between_terms s _ = false
 
+-- a line of this kind may stand behind one of that kind, or first
 abbrev pub follows : State → Kind → Option Kind → Bool
 follows s Query None = true
 follows s Query (Some last) = false
@@ -56,26 +58,9 @@ follows s Covered (Some Fold) = true
 follows s Covered _ = false
 follows s kind last = defines_behind last kind
 
--- no count is past 999
-abbrev pub has_room_in : State → Bool
-has_room_in s = nat_lt s.terms 1000 && nat_lt s.kept_terms 1000 && nat_lt s.rows 1000 && nat_lt s.sources 1000 && nat_lt s.maximal 1000
-
--- what is known behind a line of this kind with so many words
-abbrev pub state_behind : State → Kind → ℕ → State
-state_behind s Term n = record s { last = Some Term; terms = s.terms + 1; rows = 0; sources = 0 }
-state_behind s Row n = record s { last = Some Row; rows = s.rows + 1 }
-state_behind s Kept n = record s { last = Some Kept; kept = n - 3 }
-state_behind s Sources n = record s { last = Some Sources; sources = s.sources + 1; kept_terms = (if s.sources == 0 then s.kept_terms + 1 else s.kept_terms) }
-state_behind s Maximal n = record s { last = Some Maximal; maximal = s.maximal + 1 }
-state_behind s kind n = record s { last = Some kind }
-
 -- what is known behind a line, where it may stand there
 abbrev pub stepped : State → Kind → List (List ℕ) → Option State
 stepped s kind words = if has_room_in s && follows s kind s.last && fits s kind words then Some (state_behind s kind (length words)) else None
-
--- before the first line
-abbrev pub at_start : State
-at_start = record { last = None; terms = 0; kept_terms = 0; rows = 0; kept = 0; sources = 0; maximal = 0 }
 
 -- the text may end behind a line of this kind, or at the beginning
 abbrev pub may_end : Option Kind → Bool

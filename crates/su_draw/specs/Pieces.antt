@@ -6,6 +6,7 @@ use Rattle.std.specs.Prelude.{ℕ, ◌+◌, ◌==◌, ◌||◌, not, if◌then�
 use Rattle.su_draw.specs.declared.pieces.Piece.{Piece}
 use Rattle.su_draw.specs.declared.pieces.Cut.{Cut}
 
+-- before the first byte, on line 1
 abbrev pub nothing_cut : Cut
 nothing_cut = record { pieces = []; number = 1; words = []; word = []; next = 1; quoted = false }
 
@@ -36,6 +37,7 @@ abbrev pub cut_on : Cut → List ℕ → Cut
 cut_on c [] = c
 cut_on c (b ∷ bs) = cut_on (taken c b) bs
 
+-- the text cut into lines of words
 abbrev pub cut_of : List ℕ → Cut
 cut_of text = cut_on nothing_cut text
 

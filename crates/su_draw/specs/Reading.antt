@@ -9,7 +9,8 @@ use Rattle.su_draw.specs.declared.reading.Line.{Line}
 use Rattle.su_draw.specs.declared.reading.Fault.{Fault}
 use Rattle.su_draw.specs.declared.reading.Fault.TheVariants.{Line as AtLine, NoMemory}
 use Rattle.su_draw.specs.Kinds.{kind_in}
-use Rattle.su_draw.specs.Order.{stepped, at_start, may_end}
+use Rattle.su_draw.specs.Order.{stepped, may_end}
+use Rattle.su_draw.specs.States.{at_start}
 use Rattle.su_draw.specs.Pieces.{cut_of}
 
 -- what is known behind these words, where they may stand there

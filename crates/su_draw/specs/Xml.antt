@@ -16,14 +16,17 @@ IsChar c = ((32 ≤ c) × (c < 55296)) ⊎ (((57344 ≤ c) × (c < 65534)) ⊎ (
 abbrev pub is_letter : ℕ → Bool
 is_letter c = (nat_le 65 c && nat_le c 90) || (nat_le 97 c && nat_le c 122)
 
+-- a letter, and behind it letters, digits, `:` and `-`
 abbrev pub is_name : List ℕ → Bool
 is_name [] = false
 is_name (c ∷ cs) = is_letter c && list_all (λ b. is_letter b || (nat_le 48 b && nat_le b 58) || b == 45) cs
 
+-- a name with its value
 pub record Attribute : Type 0 where
   pub name : List ℕ
   pub value : List ℕ
 
+-- an attribute behind a blank, its value in quotes
 abbrev pub attribute_text : Attribute → List ℕ
 attribute_text a = 32 ∷ a.name ++ codes "=\"" ++ a.value ++ codes "\""
 
@@ -32,6 +35,7 @@ abbrev pub AreAttributes : List Attribute → Type 0
 AreAttributes [] = Unit {0}
 AreAttributes (a ∷ others) = ((is_name a.name && not (list_any (λ b. bytes_eq b.name a.name) others)) ≡ true) × (list_all is_plain a.value ≡ true) × AreAttributes others
 
+-- an element with its attributes and what is inside
 abbrev pub element_text : List ℕ → List Attribute → List ℕ → List ℕ
 element_text name attributes inside = codes "<" ++ name ++ flat_map attribute_text attributes ++ codes ">" ++ inside ++ codes "</" ++ name ++ codes ">"
 

@@ -2,8 +2,9 @@
 ghost use Rattle.std.specs.Prelude.{◌≡◌, ◌++◌, [], flat_map, codes, OnOk};
 ghost use Rattle.su_draw.specs.Xml.{attribute_text};
 ghost use Rattle.su_draw.specs.Escaping.{escaped};
-ghost use Rattle.su_draw.specs.Svg.{word_of, number_of, element_line};
-ghost use Rattle.su_draw.specs.Pairs.{attribute_of, attributes_of};
+ghost use Rattle.su_draw.specs.Shapes.{element_line};
+ghost use Rattle.su_draw.specs.Looks.{word_of, number_of};
+ghost use Rattle.su_draw.specs.inside.Pairs.{attribute_of, attributes_of};
 
 use crate::escaping::escape;
 use crate::parts::{push, push_number};

@@ -1,7 +1,8 @@
 //! Which line may stand behind the lines before it.
 ghost use Rattle.std.specs.Prelude.{◌≡◌, ◌<◌, true};
 ghost use Rattle.su_draw.specs.Lines.{fits};
-ghost use Rattle.su_draw.specs.Order.{rank_of, defines_behind, between_terms, follows, has_room_in, state_behind, stepped, may_end};
+ghost use Rattle.su_draw.specs.Order.{rank_of, defines_behind, between_terms, follows, stepped, may_end};
+ghost use Rattle.su_draw.specs.States.{has_room_in, state_behind};
 
 use crate::explanations::{
     fits_count, fits_cover, fits_fold, fits_kept, fits_row, fits_sources, fits_term,

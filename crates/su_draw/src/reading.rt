@@ -1,7 +1,8 @@
 //! A text read as the lines of an explanation or of a schema.
 ghost use Rattle.std.specs.Prelude.{◌≡◌, ◌&&◌, true, false, Some, None, IfOk, IfErr};
 ghost use Rattle.su_draw.specs.declared.reading.Fault.TheVariants.{NoMemory as OutOfMemory};
-ghost use Rattle.su_draw.specs.Order.{at_start, may_end};
+ghost use Rattle.su_draw.specs.Order.{may_end};
+ghost use Rattle.su_draw.specs.States.{at_start};
 ghost use Rattle.su_draw.specs.Reading.{behind_words, IsLineOf, AreRead, AreLinesOf, IsFaultOf, IsFaultAmong};
 
 use crate::kinds::{Kind, kind_of};

@@ -1,6 +1,6 @@
 //! What the words of each line of a schema must be.
 ghost use Rattle.std.specs.Prelude.{◌≡◌};
-ghost use Rattle.su_draw.specs.Lines.{attribute_fits, attribute_count_of, columns_fit, object_fits, is_origin_word, is_maximal_object, maximal_fits};
+ghost use Rattle.su_draw.specs.Definitions.{attribute_fits, attribute_count_of, columns_fit, object_fits, is_origin_word, is_maximal_object, maximal_fits};
 
 use crate::checks::{are_listed, is_number, is_word};
 use crate::states::State;

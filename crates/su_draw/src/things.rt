@@ -1,7 +1,8 @@
 //! What is drawn for the words of a text.
 ghost use Rattle.std.specs.Prelude.{◌≡◌, ◌-◌, ◌≤◌, ◌++◌, length, IfOk, OnOk};
 ghost use Rattle.su_draw.specs.Checks.{is_decimal};
-ghost use Rattle.su_draw.specs.Things.{drawn_from, drawn_at, drawn_in_row, drawn_in_fold, drawn_in_cover, drawn_in_object, drawn_in_maximal, drawn_as, symbol_of, text_shown, thing_of, things_in, things_of};
+ghost use Rattle.su_draw.specs.Things.{symbol_of, text_shown, thing_of, things_in, things_of};
+ghost use Rattle.su_draw.specs.Drawn.{drawn_from, drawn_at, drawn_in_row, drawn_in_fold, drawn_in_cover, drawn_in_object, drawn_in_maximal, drawn_as};
 ghost use Rattle.su_draw.specs.Once.{StandOnce};
 
 use crate::kinds::Kind;

@@ -1,6 +1,8 @@
 //! A picture as SVG.
 ghost use Rattle.std.specs.Prelude.{◌≡◌, ◌++◌, flat_map, codes, decimal, OnOk, IfOk, string_bytes};
-ghost use Rattle.su_draw.specs.Svg.{colour_of, opacity_of, weight_of, text_line, way_of, arrow_line, dot_line, square_line, shape_text, help_text, ground_line, svg_attributes, svg_inside, svg_text};
+ghost use Rattle.su_draw.specs.Svg.{help_text, ground_line, svg_attributes, svg_inside, svg_text};
+ghost use Rattle.su_draw.specs.Shapes.{text_line, way_of, arrow_line, dot_line, square_line, shape_text};
+ghost use Rattle.su_draw.specs.Looks.{colour_of, opacity_of, weight_of};
 ghost use Rattle.su_draw.specs.Xml.{attribute_text, IsDocument};
 
 use crate::elements::Pair::{Number, Word};

@@ -10,7 +10,8 @@ use Rattle.std.specs.VecDeque.{deque_len}
 use Rattle.su_index.specs.declared.entry.Entry.{Entry}
 use Rattle.su_index.specs.declared.chunk.Chunk.{Chunk}
 use Rattle.su_index.specs.declared.place.Place.{Place}
-use Rattle.su_index.specs.Chunks.{entries_of, len_at, capacity_at, before_chunk, rank_in, HaveEntries, IsGap, IsPlace, HasRoomFrom}
+use Rattle.su_index.specs.Chunks.{entries_of, len_at, HaveEntries}
+use Rattle.su_index.specs.inside.Chunks.{capacity_at, before_chunk, rank_in, IsGap, IsPlace, HasRoomFrom}
 
 -- ---- where an entry stands
 

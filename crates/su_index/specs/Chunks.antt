@@ -1,11 +1,10 @@
 -- How an index is cut into chunks.
 -- chunk: entries that follow one another, as many as it has memory for at most
 -- place: where an entry stands, or past the last one of a chunk; rank: how many entries stand before it
-use Rattle.std.specs.Prelude.{◌<◌, ◌≤◌, ◌+◌, ◌-◌, ℕ, List, length, take, slice_index_or, flat_map}
-use Rattle.std.specs.VecDeque.{deque_len, deque_capacity}
+use Rattle.std.specs.Prelude.{◌<◌, ◌+◌, ◌-◌, ℕ, List, length, slice_index_or, flat_map}
+use Rattle.std.specs.VecDeque.{deque_len}
 use Rattle.su_index.specs.declared.entry.Entry.{Entry}
 use Rattle.su_index.specs.declared.chunk.Chunk.{Chunk}
-use Rattle.su_index.specs.declared.place.Place.{Place}
 
 -- the entries of the chunks
 abbrev pub entries_of : List Chunk → List Entry
@@ -15,38 +14,6 @@ entries_of chunks = flat_map (λ chunk. chunk.entries.items) chunks
 abbrev pub len_at : List Chunk → ℕ → Chunk → ℕ
 len_at chunks k d = deque_len (slice_index_or chunks k d).entries
 
-abbrev pub capacity_at : List Chunk → ℕ → Chunk → ℕ
-capacity_at chunks k d = deque_capacity (slice_index_or chunks k d).entries
-
--- how many entries stand before the k-th chunk
-abbrev pub before_chunk : List Chunk → ℕ → ℕ
-before_chunk chunks k = length (entries_of (take k chunks))
-
--- how many entries stand before the place
-abbrev pub rank_in : List Chunk → Place → ℕ
-rank_in chunks p = before_chunk chunks p.chunk + p.at
-
 -- each chunk but the last has an entry
 abbrev pub HaveEntries : List Chunk → Type 0
 HaveEntries chunks = (k : ℕ) (d : Chunk) → k + 1 < length chunks → 0 < len_at chunks k d
-
--- an entry can be put in at the place
-pub record IsGap (chunks : List Chunk) (p : Place) : Type 0 where
-  pub within : p.chunk < length chunks
-  pub most : (d : Chunk) → p.at ≤ len_at chunks p.chunk d
-
--- the same, where the place past the last entry of a chunk is named as the first of the next one
-pub record IsPlace (chunks : List Chunk) (p : Place) : Type 0 where
-  pub gap : IsGap chunks p
-  pub inner : (d : Chunk) → p.chunk + 1 < length chunks → p.at < len_at chunks p.chunk d
-
--- a chunk from the k-th on can take one more entry without memory
-pub record HasRoomFrom (k : ℕ) (chunks : List Chunk) : Type 0 where
-  pub at : ℕ
-  pub behind : k ≤ at
-  pub within : at < length chunks
-  pub room : (d : Chunk) → len_at chunks at d < capacity_at chunks at d
-
--- the last chunk can
-abbrev pub HasRoom : List Chunk → Type 0
-HasRoom chunks = HasRoomFrom (length chunks - 1) chunks

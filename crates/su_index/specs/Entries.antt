@@ -1,9 +1,9 @@
 -- What an index holds: positions in order, each with the lead of the value in its row.
-use Rattle.std.specs.Prelude.{ℕ, Bool, List, All, map, filter}
+use Rattle.std.specs.Prelude.{ℕ, List, All, map}
 use Rattle.su_base.specs.declared.values.Value.{Value}
 use Rattle.su_index.specs.declared.entry.Entry.{Entry}
 use Rattle.su_index.specs.Lead.{IsLead}
-use Rattle.su_index.specs.Order.{is_kept, rank_of, IsRun, IsIndex}
+use Rattle.su_index.specs.Order.{IsIndex}
 
 -- the positions of the entries
 abbrev pub positions : List Entry → List ℕ
@@ -13,20 +13,7 @@ positions run = map (λ e. e.position) run
 abbrev pub HaveLeads : (ℕ → Value) → List Entry → Type 0
 HaveLeads at run = All (λ e. IsLead e.lead (at e.position)) run
 
--- a run of entries
-pub record IsRunWithLeads (at : ℕ → Value) (from : ℕ) (run : List Entry) : Type 0 where
-  pub order : IsRun at from (positions run)
-  pub leads : HaveLeads at run
-
 -- an index of entries
 pub record IsIndexWithLeads (at : ℕ → Value) (n : ℕ) (run : List Entry) : Type 0 where
   pub order : IsIndex at n (positions run)
   pub leads : HaveLeads at run
-
--- the entry of a kept row, at the position that it comes to
-abbrev pub kept_entry : List Bool → Entry → Entry
-kept_entry kept e = record { lead = e.lead; position = rank_of kept e.position }
-
--- the entries of the kept rows, in the same order
-abbrev pub kept_entries : List Bool → List Entry → List Entry
-kept_entries kept run = map (kept_entry kept) (filter (λ e. is_kept kept e.position) run)

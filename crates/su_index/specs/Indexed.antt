@@ -1,12 +1,12 @@
 -- What an index is of.
-use Rattle.std.specs.Prelude.{◌≡◌, ◌<◌, ◌^◌, ℕ, List, length, slice_index_or, All, Bool}
+use Rattle.std.specs.Prelude.{◌≡◌, ◌<◌, ◌^◌, ℕ, List, length, slice_index_or}
 use Rattle.su_base.specs.declared.values.Value.{Value}
 use Rattle.su_rel.specs.Stored.{Stored}
 use Rattle.su_index.specs.declared.entry.Entry.{Entry}
 use Rattle.su_index.specs.declared.index.Index.{Index}
-use Rattle.su_index.specs.Chunks.{entries_of, HaveEntries, HasRoom}
-use Rattle.su_index.specs.Entries.{positions, kept_entries, IsIndexWithLeads}
-use Rattle.su_index.specs.Order.{value_at, ArePositions}
+use Rattle.su_index.specs.Chunks.{entries_of, HaveEntries}
+use Rattle.su_index.specs.Entries.{IsIndexWithLeads}
+use Rattle.su_index.specs.Order.{value_at}
 
 -- the entries of the index
 abbrev pub entries_in : Index → List Entry
@@ -21,31 +21,12 @@ pub record IsIndexAt (at : ℕ → Value) (n : ℕ) (index : Index) : Type 0 whe
 abbrev pub IsIndexBelow : List (List Value) → ℕ → ℕ → Index → Type 0
 IsIndexBelow rows column n index = IsIndexAt (value_at rows column) n index
 
--- the index of the column, over all rows
-abbrev pub IsIndexOf : List (List Value) → ℕ → Index → Type 0
-IsIndexOf rows column index = IsIndexBelow rows column (length rows) index
-
 -- an index for each column, over the rows before the n-th
 abbrev pub AreIndexesBelow : List (List Value) → ℕ → List Index → Type 0
 AreIndexesBelow rows n indexes = (column : ℕ) (d : Index) → column < length indexes → IsIndexBelow rows column n (slice_index_or indexes column d)
-
--- each index can take one more position without memory
-abbrev pub HaveRoom : List Index → Type 0
-HaveRoom indexes = All (λ index. HasRoom index.chunks.items) indexes
 
 -- a relation with an index for each column
 pub record IsIndexed (stored : Stored) (all : List Index) : Type 0 where
   pub count : length all ≡ stored.width
   pub small : length stored.rows < 2 ^ 32
   pub indexes : AreIndexesBelow stored.rows (length stored.rows) all
-
--- each index has the entries of the kept rows alone
-abbrev pub AreKept : List Bool → List Index → List Index → Type 0
-AreKept kept old new =
-    (column : ℕ) (d : Index) → column < length new
-    → (entries_in (slice_index_or new column d) ≡ kept_entries kept (entries_in (slice_index_or old column d)))
-    × HaveEntries (slice_index_or new column d).chunks.items
-
--- the positions of each index are below n
-abbrev pub HavePositions : ℕ → List Index → Type 0
-HavePositions n indexes = All (λ index. ArePositions n (positions (entries_in index))) indexes

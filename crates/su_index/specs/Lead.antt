@@ -4,6 +4,7 @@ use Rattle.std.specs.Prelude.{◌≡◌, ◌+◌, ◌*◌, ◌%◌, ◌^◌, ℕ
 use Rattle.su_base.specs.declared.values.Value.{Value}
 use Rattle.su_base.specs.declared.values.Value.TheVariants.{Int, Text}
 
+-- the number without its sign, modulo 2^32
 abbrev pub lead_of_number : ℤ → ℕ
 lead_of_number z = unsigned_abs z % 2 ^ 32
 
@@ -11,6 +12,7 @@ lead_of_number z = unsigned_abs z % 2 ^ 32
 abbrev pub lead_of_bytes : List ℕ → ℕ
 lead_of_bytes bytes = fold (λ lead b. (lead * 65599 + b) % 2 ^ 32) 0 bytes
 
+-- the lead of a value
 abbrev pub lead_of : Value → ℕ
 lead_of (Int z) = lead_of_number z
 lead_of (Text bytes) = lead_of_bytes bytes

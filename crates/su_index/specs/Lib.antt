@@ -1,6 +1,7 @@
 pub mod Chunks
 pub mod Entries
 pub mod Indexed
+pub mod inside
 pub mod Lead
 pub mod Matches
 pub mod Notes

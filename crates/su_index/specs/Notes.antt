@@ -27,6 +27,7 @@ abbrev pub digest_at : FinSet nat_cmp → List Value → ℕ → ℕ
 digest_at columns row zero = 0
 digest_at columns row (suc n) = cond (contains columns n) (digest_with (digest_at columns row n) (slice_index_or row n (Int (pos 0)))) (digest_at columns row n)
 
+-- the digest of a row's values in these columns
 abbrev pub digest_of : FinSet nat_cmp → List Value → ℕ
 digest_of columns row = digest_at columns row (length row)
 
@@ -42,6 +43,7 @@ AreNoted columns places rows = (row : List Value) → Contains rows row → IsNo
 abbrev pub AreNotes : List (List Value) → Notes → Type 0
 AreNotes rows notes = IsTrue notes.whole → AreNoted notes.columns notes.places rows
 
+-- each of the lists of notes, where it is whole, has all rows
 abbrev pub AllAreNotes : List (List Value) → List Notes → Type 0
 AllAreNotes rows all = (k : ℕ) (d : Notes) → k < length all → AreNotes rows (slice_index_or all k d)
 

@@ -5,7 +5,8 @@ ghost use Rattle.std.specs.Prelude.{◌≡◌, ◌≢◌, ◌<◌, ◌≤◌, �
 ghost use Rattle.std.specs.Bool.{OnTrue, OnFalse};
 ghost use Rattle.std.specs.List.{insert, remove};
 ghost use Rattle.std.specs.VecDeque.{deque_len, deque_capacity};
-ghost use Rattle.su_index.specs.Chunks.{entries_of, len_at, capacity_at, before_chunk, rank_in, HaveEntries, IsGap, IsPlace, HasRoom, HasRoomFrom};
+ghost use Rattle.su_index.specs.Chunks.{entries_of, len_at, HaveEntries};
+ghost use Rattle.su_index.specs.inside.Chunks.{capacity_at, before_chunk, rank_in, IsGap, IsPlace, HasRoom, HasRoomFrom};
 ghost use Rattle.su_index.specs.declared.chunk.Chunk.{Chunk as Piece};
 
 use crate::chunk::Chunk;

@@ -1,10 +1,12 @@
 //! The indexes of all columns.
 ghost use Rattle.std.specs.Prelude.{◌≡◌, ◌<◌, ◌≤◌, ◌+◌, ◌-◌, ◌^◌, ℕ, length, slice_index_or, IfOk, OnOk};
 ghost use Rattle.su_rel.specs.Stored.{HaveWidth};
-ghost use Rattle.su_index.specs.Indexed.{AreIndexesBelow, HaveRoom, IsIndexAt, entries_in};
+ghost use Rattle.su_index.specs.Indexed.{AreIndexesBelow, IsIndexAt, entries_in};
+ghost use Rattle.su_index.specs.inside.Indexed.{HaveRoom};
 ghost use Rattle.su_index.specs.declared.index.Index.{Index as Indexed};
-ghost use Rattle.su_index.specs.Entries.{IsRunWithLeads};
-ghost use Rattle.su_index.specs.Order.{value_at, with_value};
+ghost use Rattle.su_index.specs.inside.Entries.{IsRunWithLeads};
+ghost use Rattle.su_index.specs.Order.{value_at};
+ghost use Rattle.su_index.specs.inside.Order.{with_value};
 
 use crate::index::Index;
 use std::alloc::Global;

@@ -1,9 +1,11 @@
 //! One entry into an index, or out of it.
 ghost use Rattle.std.specs.Prelude.{◌≡◌, ◌<◌, ◌+◌, ℕ, Bool, cond, length, Contains, count_by};
 ghost use Rattle.std.specs.List.Sorted.{IsStrictlySortedBy};
-ghost use Rattle.su_index.specs.Chunks.{entries_of, HaveEntries, HasRoom};
+ghost use Rattle.su_index.specs.Chunks.{entries_of, HaveEntries};
+ghost use Rattle.su_index.specs.inside.Chunks.{HasRoom};
 ghost use Rattle.su_index.specs.Entries.{positions, HaveLeads};
-ghost use Rattle.su_index.specs.Order.{value_at, with_value, compare_places, HaveColumn, ArePositions};
+ghost use Rattle.su_index.specs.Order.{value_at, compare_places};
+ghost use Rattle.su_index.specs.inside.Order.{with_value, HaveColumn, ArePositions};
 
 use crate::chunk::Chunk;
 use crate::chunks::{put_at, shift, take_at};

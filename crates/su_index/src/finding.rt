@@ -1,10 +1,12 @@
 //! Searches in the chunks of an index.
 ghost use Rattle.std.specs.Prelude.{◌≡◌, ◌<◌, ◌≤◌, ◌+◌, ◌-◌, ◌^◌, ℕ, true, false, length, slice_index, slice_index_or};
 ghost use Rattle.std.specs.List.Sorted.{IsStrictlySortedBy};
-ghost use Rattle.su_index.specs.Chunks.{entries_of, len_at, before_chunk, rank_in, HaveEntries, IsGap, IsPlace};
+ghost use Rattle.su_index.specs.Chunks.{entries_of, len_at, HaveEntries};
+ghost use Rattle.su_index.specs.inside.Chunks.{before_chunk, rank_in, IsGap, IsPlace};
 ghost use Rattle.su_index.specs.Entries.{positions, HaveLeads};
 ghost use Rattle.su_index.specs.Lead.{IsLead};
-ghost use Rattle.su_index.specs.Order.{value_at, compare_places, comes_before, IsSpan, HaveColumn, ArePositions};
+ghost use Rattle.su_index.specs.Order.{value_at, compare_places};
+ghost use Rattle.su_index.specs.inside.Order.{comes_before, IsSpan, HaveColumn, ArePositions};
 ghost use Rattle.su_index.specs.declared.chunk.Chunk.{Chunk as Piece};
 
 use crate::chunk::Chunk;

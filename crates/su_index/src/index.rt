@@ -1,10 +1,12 @@
 //! The index of one column.
 ghost use Rattle.std.specs.Prelude.{◌≡◌, ◌<◌, ◌≤◌, ◌+◌, ◌-◌, ◌^◌, length, [], IfOk, OnOk};
-ghost use Rattle.su_index.specs.Chunks.{HasRoom};
-ghost use Rattle.su_index.specs.Indexed.{IsIndexOf, IsIndexBelow, IsIndexAt, entries_in};
-ghost use Rattle.su_index.specs.Entries.{IsRunWithLeads};
+ghost use Rattle.su_index.specs.inside.Chunks.{HasRoom};
+ghost use Rattle.su_index.specs.Indexed.{IsIndexBelow, IsIndexAt, entries_in};
+ghost use Rattle.su_index.specs.inside.Indexed.{IsIndexOf};
+ghost use Rattle.su_index.specs.inside.Entries.{IsRunWithLeads};
 ghost use Rattle.su_index.specs.Matches.{matches, IsMatch};
-ghost use Rattle.su_index.specs.Order.{HaveColumn, value_at, with_value};
+ghost use Rattle.su_index.specs.Order.{value_at};
+ghost use Rattle.su_index.specs.inside.Order.{HaveColumn, with_value};
 
 use crate::chunk::Chunk;
 use crate::chunks::{between, chunks_of, entry_behind, flat, is_sparse, make_room};

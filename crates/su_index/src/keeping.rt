@@ -1,8 +1,9 @@
 //! Runs of the rows that are kept.
 ghost use Rattle.std.specs.Prelude.{◌≡◌, ◌<◌, ◌^◌, ℕ, cond, length, slice_index, IfOk};
-ghost use Rattle.su_index.specs.Entries.{positions, kept_entries};
-ghost use Rattle.su_index.specs.Indexed.{HavePositions, AreKept};
-ghost use Rattle.su_index.specs.Order.{rank_of, ArePositions};
+ghost use Rattle.su_index.specs.Entries.{positions};
+ghost use Rattle.su_index.specs.inside.Entries.{kept_entries};
+ghost use Rattle.su_index.specs.inside.Indexed.{HavePositions, AreKept};
+ghost use Rattle.su_index.specs.inside.Order.{rank_of, ArePositions};
 
 use crate::chunks::{chunks_of, flat};
 use crate::entry::Entry;

@@ -5,7 +5,8 @@ ghost use Rattle.std.specs.Ordering.{nat_cmp, ordering_then, is_lt};
 ghost use Rattle.su_base.specs.Value.{compare_values};
 ghost use Rattle.su_index.specs.Entries.{positions, HaveLeads};
 ghost use Rattle.su_index.specs.Lead.{IsLead};
-ghost use Rattle.su_index.specs.Order.{value_at, compare_keys, compare_places, comes_before, has_at, HaveColumn, ArePositions};
+ghost use Rattle.su_index.specs.Order.{value_at, compare_keys, compare_places};
+ghost use Rattle.su_index.specs.inside.Order.{comes_before, has_at, HaveColumn, ArePositions};
 
 use crate::entry::Entry;
 use std::cmp::Ordering;

@@ -1,8 +1,9 @@
 //! Runs made at once: by a sort, and of two runs.
 ghost use Rattle.std.specs.Prelude.{◌≡◌, ◌<◌, ◌≤◌, ◌+◌, ◌^◌, ℕ, Bool, length, map, All, count_by, IfOk};
-ghost use Rattle.su_index.specs.Entries.{IsRunWithLeads};
+ghost use Rattle.su_index.specs.inside.Entries.{IsRunWithLeads};
 ghost use Rattle.su_index.specs.Lead.{IsLead};
-ghost use Rattle.su_index.specs.Order.{value_at, count_below, HaveColumn};
+ghost use Rattle.su_index.specs.Order.{value_at, count_below};
+ghost use Rattle.su_index.specs.inside.Order.{HaveColumn};
 
 use crate::entry::Entry;
 use crate::lead::lead;

@@ -2,7 +2,7 @@
 use Rattle.std.proofs.Common.{◌≡◌, ◌≢◌, ℕ, zero, suc, ◌+◌, ◌*◌, ◌-◌, ◌<◌, ◌≤◌, Bool, true, cond, map, sym, ap, ◌∙◌, subst, arith, add-one}
 use Rattle.std.specs.Int.{bit_at}
 use Rattle.su_map.specs.Candidates.{count_below, sum_of_products}
-use Rattle.su_map.specs.Choices.{tries}
+use Rattle.su_map.specs.inside.Choices.{tries}
 use Rattle.su_map.proofs.Ranks.{numbers_first}
 
 count_more : (p : ℕ → Bool) (n : ℕ) → count_below p (n + 1) ≡ count_below p n + cond (p n) 1 0

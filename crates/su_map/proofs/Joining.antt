@@ -11,7 +11,7 @@ use Rattle.su_tableau.proofs.Changing.{InRow, in_row, Stands, stands}
 use Rattle.su_map.specs.Lists.{rows_in, row_of, IsMapping}
 use Rattle.su_map.specs.Candidates.{Cell, KeepsConstants, Agree}
 use Rattle.su_map.specs.Nets.{Netted, IsTarget, IsNetFor}
-use Rattle.su_map.specs.Choices.{IsChoiceInto}
+use Rattle.su_map.specs.inside.Choices.{IsChoiceInto}
 use Rattle.su_map.proofs.Cells.{cell_from, cell_contains}
 use Rattle.su_map.proofs.Ranks.{rank, choice_by, rank_in, rank_at, ranked_at}
 

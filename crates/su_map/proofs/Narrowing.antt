@@ -4,7 +4,7 @@ use Rattle.std.specs.Int.{bit_at}
 use Rattle.std.proofs.lemmas.Bool.{cases_eq}
 use Rattle.std.proofs.lemmas.Nat.Bits.{bit_at-pow_same, bit_at-pow_other, bit_at-lt, bit_at-zero, same_from_bits}
 use Rattle.su_map.specs.Nets.{Netted, HasRoom, near_of, agree_of}
-use Rattle.su_map.specs.Choices.{IsChoice, Shrinks, IsLeft}
+use Rattle.su_map.specs.inside.Choices.{IsChoice, Shrinks, IsLeft}
 
 pub pow_member : (m k x : ℕ) → m ≡ 2 ^ k → (bit_at m x ≡ 1) ↔ (x ≡ k)
 pow_member m k x e = (

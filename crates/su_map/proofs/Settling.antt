@@ -8,7 +8,7 @@ use Rattle.su_tableau.specs.Parts.{keep_if}
 use Rattle.su_map.specs.Lists.{numbers_of, IsBefore}
 use Rattle.su_map.specs.Candidates.{count_below, sum_of_products}
 use Rattle.su_map.specs.Nets.{Netted, base_of}
-use Rattle.su_map.specs.Choices.{IsChoice, IsChoiceInto, Shrinks, AreSame, IsLess, Stands, IsInOrder, tries, ArePassed}
+use Rattle.su_map.specs.inside.Choices.{IsChoice, IsChoiceInto, Shrinks, AreSame, IsLess, Stands, IsInOrder, tries, ArePassed}
 use Rattle.su_map.proofs.Ranks.{numbers_same, map_at, map_same, rank, rank_in, ranked_at, rank_less}
 
 -- the rows of a mask that are below n

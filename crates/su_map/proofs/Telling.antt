@@ -5,7 +5,7 @@ use Rattle.su_tableau.specs.declared.symbols.Sym.{Sym}
 use Rattle.su_tableau.specs.Tableaux.{Tab}
 use Rattle.su_map.specs.Lists.{row_of}
 use Rattle.su_map.specs.Nets.{IsTarget, AgreesAt}
-use Rattle.su_map.specs.Targets.{AreTold, IsTold, AreShared}
+use Rattle.su_map.specs.inside.Targets.{AreTold, IsTold, AreShared}
 use Rattle.su_map.proofs.Cells.{Fits, told_agree}
 
 pub told_row : (t : Tab) (columns : List (Option ℕ)) (p others set : ℕ) (row : List Sym) → row ≡ row_of t p → ((j : ℕ) → (bit_at set j ≡ 1) ↔ ((bit_at others j ≡ 1) × ((e c : ℕ) (d : Sym) → e < t.width → get_or columns e None ≡ Some c → get_or row c d ≡ get_or (row_of t j) e d))) → AreTold t columns p others set

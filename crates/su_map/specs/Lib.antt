@@ -1,6 +1,5 @@
-pub mod Lists
 pub mod Candidates
+pub mod inside
+pub mod Lists
 pub mod Nets
-pub mod Choices
 pub mod Rooms
-pub mod Targets

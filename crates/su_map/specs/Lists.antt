@@ -16,6 +16,7 @@ numbers_of m (suc n) = numbers_of m n ++ keep_if (bit_at m n) n []
 abbrev pub rows_in : Tab → ℕ → List ℕ
 rows_in t m = numbers_of m (length t.rows)
 
+-- row i of a tableau
 abbrev pub row_of : Tab → ℕ → List Sym
 row_of t i = get_or t.rows i []
 
@@ -47,5 +48,6 @@ pub record Certified : Type 0 where
   pub to_mask : ℕ
   pub list : List ℕ
 
+-- the list is a mapping of the one set of rows into the other
 abbrev pub IsCertified : Certified → Type 0
 IsCertified c = IsMapping c.from c.from_mask c.to c.to_mask c.list

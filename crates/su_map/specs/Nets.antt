@@ -13,12 +13,15 @@ pub record Netted : Type 0 where
   pub agree : List ℕ
   pub targets : ℕ
 
+-- the targets that row r may have by itself
 abbrev pub base_of : Netted → ℕ → ℕ
 base_of net r = get_or net.base r 0
 
+-- the rows that share a variable with row r, and maybe others
 abbrev pub near_of : Netted → ℕ → ℕ
 near_of net r = get_or net.near r 0
 
+-- the targets of row q that agree with target p of row r
 abbrev pub agree_of : Netted → ℕ → ℕ → ℕ → ℕ
 agree_of net r q p = get_or net.agree (r * 4096 + q * 64 + p) 0
 

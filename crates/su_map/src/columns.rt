@@ -5,7 +5,7 @@ ghost use Rattle.su_tableau.specs.declared.symbols.Sym.{Sym as ASym};
 ghost use Rattle.su_tableau.specs.declared.symbols.Sym.TheVariants.{Var};
 ghost use Rattle.su_map.specs.Lists.{row_of};
 ghost use Rattle.su_map.specs.Candidates.{Cell, KeepsConstants, Agree};
-ghost use Rattle.su_map.specs.Targets.{IsFirstAt, HoldsAt, AlikeAt, CellFits};
+ghost use Rattle.su_map.specs.inside.Targets.{IsFirstAt, HoldsAt, AlikeAt, CellFits};
 
 use crate::bits::{both, with};
 use su_tableau::{Sym, Tableau, full, has};

@@ -2,7 +2,7 @@
 ghost use Rattle.std.specs.Prelude.{◌≡◌, ◌≢◌, ◌<◌, ◌≤◌, ◌+◌, ◌↔◌, ℕ, IsTrue, IsFalse, length, get_or, IfSome, None};
 ghost use Rattle.std.specs.Int.{bit_at};
 ghost use Rattle.su_map.specs.Nets.{HasRoom, near_of, agree_of};
-ghost use Rattle.su_map.specs.Choices.{IsChoice, Shrinks, IsLeft};
+ghost use Rattle.su_map.specs.inside.Choices.{IsChoice, Shrinks, IsLeft};
 
 use crate::bits::{both, either, lowest, with, without};
 use crate::nets::Net;

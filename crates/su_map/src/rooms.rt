@@ -8,7 +8,7 @@ ghost use Rattle.su_map.specs.declared.search.Order.TheVariants.{Ascending};
 ghost use Rattle.su_map.specs.Lists.{IsMapping, IsFirst, numbers_of};
 ghost use Rattle.su_map.specs.Candidates.{IsWithinProducts};
 ghost use Rattle.su_map.specs.Nets.{HasRoom, IsNet, IsNetFor, base_of};
-ghost use Rattle.su_map.specs.Choices.{IsChoiceInto, AreSame, IsLess, choice_of, tries, ArePassed, IsFound, IsFirstOf};
+ghost use Rattle.su_map.specs.inside.Choices.{IsChoiceInto, AreSame, IsLess, choice_of, tries, ArePassed, IsFound, IsFirstOf};
 ghost use Rattle.su_map.specs.Rooms.{IsRoomFor, HasSizesOf};
 
 use crate::bits::both;

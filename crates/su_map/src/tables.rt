@@ -7,7 +7,7 @@ ghost use Rattle.su_tableau.specs.Tableaux.{AreBelow, AreVarsBelow};
 ghost use Rattle.su_map.specs.Lists.{row_of};
 ghost use Rattle.su_map.specs.Nets.{HasNear};
 ghost use Rattle.su_map.specs.Candidates.{Cell};
-ghost use Rattle.su_map.specs.Targets.{AreShared, AreTold, IsTold};
+ghost use Rattle.su_map.specs.inside.Targets.{AreShared, AreTold, IsTold};
 
 use crate::bits::{either, with};
 use crate::columns::{column_of, holding};

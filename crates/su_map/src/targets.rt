@@ -4,7 +4,7 @@ ghost use Rattle.std.specs.Int.{bit_at};
 ghost use Rattle.su_map.specs.Lists.{row_of};
 ghost use Rattle.su_map.specs.Candidates.{Agree};
 ghost use Rattle.su_map.specs.Nets.{HasBase, IsTarget};
-ghost use Rattle.su_map.specs.Targets.{CellFits};
+ghost use Rattle.su_map.specs.inside.Targets.{CellFits};
 
 use crate::bits::both;
 use crate::columns::{alike, column_of, holding};

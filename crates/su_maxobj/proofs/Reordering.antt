@@ -13,7 +13,7 @@ use Rattle.su_fd.specs.Closure.{IsClosed, IsClosureOf}
 use Rattle.su_maxobj.specs.Adjoining.{HangTogether, Adjoinable}
 use Rattle.su_maxobj.specs.Growth.{IsFirstAdjoinable, IsGrowth, IsGrown}
 use Rattle.su_maxobj.specs.MaximalObjects.{grown_at}
-use Rattle.su_maxobj.specs.Ordered.{HaveSameMembers}
+use Rattle.su_maxobj.specs.inside.Ordered.{HaveSameMembers}
 
 -- how many flags are set
 abbrev pub waiting_count : List Bool → ℕ

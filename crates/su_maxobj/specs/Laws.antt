@@ -13,6 +13,7 @@ GrowthIsUnique =
     (fds : List Fd) (objects : List (FinSet nat_cmp)) (start s t : FinSet nat_cmp) (os ps : List ℕ)
     → IsGrowth fds objects start os s → IsFull fds objects s → IsGrowth fds objects start ps t → IsFull fds objects t → (os ≡ ps) × (s ≡ t)
 
+-- a schema has at most one list of maximal objects
 abbrev pub MaximalObjectsAreUnique : Type 0
 MaximalObjectsAreUnique = (schema : SchemaValue) (sets other : List (FinSet nat_cmp)) → AreMaximalObjects schema sets → AreMaximalObjects schema other → other ≡ sets
 

@@ -1,6 +1,6 @@
 pub mod Adjoining
 pub mod Apart
 pub mod Growth
-pub mod MaximalObjects
+pub mod inside
 pub mod Laws
-pub mod Ordered
+pub mod MaximalObjects

@@ -4,7 +4,7 @@
 //! itself round a circle, each stands behind all that feed it, and one pass makes a closure. This
 //! saves time alone: no contract of a public call speaks of the order.
 ghost use Rattle.std.specs.Prelude.{ℕ, ◌≡◌, ◌<◌, ◌≤◌, true, false, All, IsTrue, IsNone, IfOk, IfSome, MatchOption, length, replicate, slice_get};
-ghost use Rattle.su_maxobj.specs.Ordered.{HaveSameMembers};
+ghost use Rattle.su_maxobj.specs.inside.Ordered.{HaveSameMembers};
 
 use std::alloc::Global;
 use su_base::{AttrSet, List, NoMemory};

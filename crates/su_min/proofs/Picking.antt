@@ -1,7 +1,7 @@
 -- Each term has a kept one that covers it, whichever preorder covering is.
 use Rattle.std.proofs.Common.{◌≡◌, ℕ, zero, suc, ◌<◌, ◌≤◌, ◌⊎◌, Bool, true, false, sym, ◌∙◌, subst, inl, inr, ⊎_elim, arith, true≢false}
 use Rattle.std.proofs.lemmas.Bool.{cases_Bool, cases_lt}
-use Rattle.su_min.specs.Matrix.{IsDroppedIn, IsPreorder}
+use Rattle.su_min.specs.inside.Matrix.{IsDroppedIn, IsPreorder}
 
 -- the first number below n that passes
 record FirstBelow (p : ℕ → Bool) (n : ℕ) : Type 0 where

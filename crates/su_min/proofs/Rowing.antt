@@ -11,7 +11,7 @@ use Rattle.su_map.proofs.Members.{below_more}
 use Rattle.su_min.specs.Kept.{Minimised}
 use Rattle.su_min.specs.Cover.{Covers}
 use Rattle.su_min.specs.Reduction.{term_at}
-use Rattle.su_min.specs.Matrix.{IsRowOf, IsMatrix, AreMarks}
+use Rattle.su_min.specs.inside.Matrix.{IsRowOf, IsMatrix, AreMarks}
 
 pub room_same : (t : Tab) (old new : Space) → IsRoomFor t old → HasSizesOf old new → IsRoomFor t new
 room_same t old new r s = record {

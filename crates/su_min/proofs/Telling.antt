@@ -5,7 +5,7 @@ use Rattle.std.proofs.lemmas.List.{get_or_default}
 use Rattle.su_min.specs.Kept.{Minimised, IsMinimised}
 use Rattle.su_min.specs.Cover.{Covers}
 use Rattle.su_min.specs.Reduction.{term_at, IsDropped, IsKeptTerm, IsLeastCover}
-use Rattle.su_min.specs.Matrix.{entry, IsSquare, IsMatrix, IsDroppedIn, IsPreorder, IsFirstCover}
+use Rattle.su_min.specs.inside.Matrix.{entry, IsSquare, IsMatrix, IsDroppedIn, IsPreorder, IsFirstCover}
 use Rattle.su_min.proofs.Covering.{covers_itself, covers_through}
 
 module _ (terms : List Minimised) (matrix : List (List Bool)) (m : IsMatrix terms matrix) where

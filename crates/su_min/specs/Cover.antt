@@ -18,12 +18,14 @@ constant_of (Var k) = None
 abbrev pub compared : Tab → List (Option Value)
 compared t = map constant_of (drop t.outputs t.head)
 
+-- tableaux of one width, with as many outputs, the same operators, and the same constants at the same compared places
 pub record AreAlike (s t : Tab) : Type 0 where
   pub width : s.width ≡ t.width
   pub outputs : s.outputs ≡ t.outputs
   pub operators : s.operators ≡ t.operators
   pub constants : compared s ≡ compared t
 
+-- the kept rows of the first map into those of the second, and the two are alike
 pub record Covers (one other : Minimised) : Type 0 where
   pub alike : AreAlike one.tableau other.tableau
   pub list : List ℕ

@@ -32,6 +32,7 @@ pub record Minimised : Type 0 where
   pub mask : ℕ
   pub fold : List ℕ
 
+-- the kept rows are the least set, and the fold is the first mapping into it
 pub record IsMinimised (m : Minimised) : Type 0 where
   pub kept : IsKept m.tableau m.mask
   pub fold : IsFold m.tableau m.mask m.fold

@@ -1,6 +1,6 @@
-pub mod Kept
 pub mod Cover
-pub mod Reduction
-pub mod Matrix
-pub mod Needed
+pub mod inside
+pub mod Kept
 pub mod Laws
+pub mod Needed
+pub mod Reduction

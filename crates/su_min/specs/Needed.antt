@@ -10,23 +10,28 @@ use Rattle.su_min.specs.Kept.{Minimised}
 use Rattle.su_min.specs.Cover.{AreAlike}
 use Rattle.su_min.specs.Reduction.{term_at, IsListOf}
 
+-- the tableau of term i
 abbrev pub tableau_at : List Minimised → ℕ → Tab
 tableau_at terms i = (term_at terms i).tableau
 
+-- term i is alike to term c
 pub record IsInClass (terms : List Minimised) (c i : ℕ) : Type 0 where
   pub below : i < length terms
   pub alike : AreAlike (tableau_at terms c) (tableau_at terms i)
 
+-- an answer of some term that is alike to term c
 pub record IsClassAnswer (terms : List Minimised) (c : ℕ) (universe : List (List Value)) (h : List Value) : Type 0 where
   pub term : ℕ
   pub in_class : IsInClass terms c term
   pub answer : Ext (tableau_at terms term) universe h
 
+-- an answer of some tableau of the list
 pub record IsListAnswer (tableaux : List Tab) (universe : List (List Value)) (h : List Value) : Type 0 where
   pub tableau : Tab
   pub member : Contains tableaux tableau
   pub answer : Ext tableau universe h
 
+-- over every universal relation the tableaux give what the terms give that are alike to term c
 abbrev pub HasAnswersOf : Kinds → List Minimised → ℕ → List Tab → Type 0
 HasAnswersOf kinds terms c tableaux = (universe : List (List Value)) (h : List Value) → IsUniverse kinds universe → (IsClassAnswer terms c universe h ↔ IsListAnswer tableaux universe h)
 

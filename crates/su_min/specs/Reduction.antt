@@ -12,12 +12,14 @@ use Rattle.su_min.specs.Cover.{Covers}
 abbrev pub term_at : List Minimised → ℕ → Minimised
 term_at terms i = get_or terms i (record { tableau = record { width = 0; rows = []; head = []; outputs = 0; operators = [] }; mask = 0; fold = [] })
 
+-- another term covers it, and isn't covered by it or comes earlier
 pub record IsDropped (terms : List Minimised) (i : ℕ) : Type 0 where
   pub other : ℕ
   pub below : other < length terms
   pub covers : Covers (term_at terms other) (term_at terms i)
   pub why : (Covers (term_at terms i) (term_at terms other) → ⊥) ⊎ (other < i)
 
+-- the term isn't dropped
 pub record IsKeptTerm (terms : List Minimised) (i : ℕ) : Type 0 where
   pub below : i < length terms
   pub stays : IsDropped terms i → ⊥
@@ -46,6 +48,7 @@ pub record IsListOf (P : ℕ → Type 0) (n : ℕ) (numbers : List ℕ) : Type 0
   pub ascends : (a b : ℕ) → a < b → b < length numbers → get_or numbers a 0 < get_or numbers b 0
   pub members : (i : ℕ) → Contains numbers i ↔ ((i < n) × P i)
 
+-- the kept terms, the dropped ones, and the cover of each dropped one
 pub record IsReduced (terms : List Minimised) (r : Reduced) : Type 0 where
   pub kept : IsListOf (IsKeptTerm terms) (length terms) r.kept
   pub dropped : IsListOf (IsDropped terms) (length terms) (map (λ c. c.dropped) r.covers)

@@ -2,7 +2,7 @@
 ghost use Rattle.std.specs.Prelude.{◌≡◌, ◌<◌, ◌↔◌, IsTrue, IfOk};
 ghost use Rattle.su_map.specs.Rooms.{IsRoomFor, HasSizesOf};
 ghost use Rattle.su_min.specs.Cover.{Covers};
-ghost use Rattle.su_min.specs.Matrix.{IsRowOf, IsMatrix};
+ghost use Rattle.su_min.specs.inside.Matrix.{IsRowOf, IsMatrix};
 
 use crate::alike::are_alike;
 use crate::minimal::Minimal;

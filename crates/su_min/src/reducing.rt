@@ -5,7 +5,7 @@ ghost use Rattle.su_tableau.specs.Kinds.{Kinds, IsTyped};
 ghost use Rattle.su_min.specs.Reduction.{term_at, IsFirstMapping, IsReduced};
 ghost use Rattle.su_min.specs.Cover.{Covers};
 ghost use Rattle.su_min.specs.Needed.{HasAnswersOf, AreNeeded};
-ghost use Rattle.su_min.specs.Matrix.{entry, IsSquare, IsDroppedIn, IsPreorder, IsFirstCover, AreMarks};
+ghost use Rattle.su_min.specs.inside.Matrix.{entry, IsSquare, IsDroppedIn, IsPreorder, IsFirstCover, AreMarks};
 
 use crate::matrix::coverings;
 use crate::minimal::Minimal;

@@ -8,7 +8,7 @@ use Rattle.su_tableau.specs.declared.symbols.Sym.TheVariants.{Const, Var}
 use Rattle.su_tableau.specs.Tableaux.{Tab, IsValid, Occurs}
 use Rattle.su_chase.specs.Chase.{InOneClass, IsNoLater, IsName, IsConsistent, IsClash}
 use Rattle.su_chase.specs.Chased.{IsChased}
-use Rattle.su_chase.specs.Rows.{named_tab}
+use Rattle.su_chase.specs.inside.Rows.{named_tab}
 use Rattle.su_chase.proofs.Answering.{one_symbol}
 use Rattle.su_chase.proofs.Reading.{map_read, contains_map, of_map}
 use Rattle.su_chase.proofs.Named.{same_const}

@@ -11,9 +11,11 @@ use Rattle.su_answer.specs.Prepared.{IsPrepared}
 use Rattle.su_answer.specs.Answers.{IsAnswerOf, IsTooLong}
 use Rattle.su_once.specs.States.{AreAlike}
 
+-- a query is prepared in at most one way
 abbrev pub OnePreparation : Type 0
 OnePreparation = (schema : SchemaValue) (maximal : List (FinSet nat_cmp)) (q : Resolved) (p other : Prepared) → IsPrepared schema maximal q p → IsPrepared schema maximal q other → p ≡ other
 
+-- over databases that are alike a query has at most one list of rows
 abbrev pub OneAnswer : Type 0
 OneAnswer = (a b : DatabaseValue) (maximal : List (FinSet nat_cmp)) (q : Resolved) (rows others : List (List Value)) → AreAlike a b → IsAnswerOf a maximal q rows → IsAnswerOf b maximal q others → rows ≡ others
 

@@ -15,6 +15,7 @@ use Rattle.su_query.specs.Reading.{IsStatement, IsRefusal, HasFew}
 abbrev pub OneOutcome : Type 0
 OneOutcome = (file : List ℕ) (outcome other : Result SchemaValue DdlFault) → Reads file outcome → Reads file other → outcome ≡ other
 
+-- a text is at most one statement
 abbrev pub OneStatement : Type 0
 OneStatement = (text : List ℕ) (st other : Statement) → IsStatement text st → IsStatement text other → st ≡ other
 
@@ -30,6 +31,7 @@ RefusedOrRead = (text : List ℕ) (why : QueryFault) (st : Statement) → why �
 abbrev pub OneQueryRefusal : Type 0
 OneQueryRefusal = (schema : SchemaValue) (q : Query) (why other : QueryFault) → why ≢ NoMemory → other ≢ NoMemory → IsQueryRefusal schema q why → IsQueryRefusal schema q other → why ≡ other
 
+-- a query whose names are refused isn't one whose names are known
 abbrev pub QueryIsRefusedOrKnown : Type 0
 QueryIsRefusedOrKnown = (schema : SchemaValue) (q : Query) (why : QueryFault) → why ≢ NoMemory → IsQueryRefusal schema q why → ¬ IsKnownQuery schema q
 
@@ -37,5 +39,6 @@ QueryIsRefusedOrKnown = (schema : SchemaValue) (q : Query) (why : QueryFault) �
 abbrev pub OneColumnRefusal : Type 0
 OneColumnRefusal = (schema : SchemaValue) (r : ℕ) (c : NamedCond) (why other : QueryFault) → why ≢ NoMemory → other ≢ NoMemory → IsColumnRefusal schema r c why → IsColumnRefusal schema r c other → why ≡ other
 
+-- a condition whose names are refused isn't one whose names are known
 abbrev pub ConditionIsRefusedOrKnown : Type 0
 ConditionIsRefusedOrKnown = (schema : SchemaValue) (r : ℕ) (c : NamedCond) (why : QueryFault) → why ≢ NoMemory → IsColumnRefusal schema r c why → ¬ IsColumnCondition schema r c

@@ -6,14 +6,18 @@ use Rattle.su_min.specs.declared.reduced.Reduced.{Reduced}
 use Rattle.su_min.specs.Kept.{IsKept, IsFold, Minimised}
 use Rattle.su_min.specs.Reduction.{IsReduced}
 
+-- there is at most one first mapping
 abbrev pub OneFirstMapping : Type 0
 OneFirstMapping = (s : Tab) (m : ℕ) (t : Tab) (k : ℕ) (list other : List ℕ) → IsFirst s m t k list → IsFirst s m t k other → list ≡ other
 
+-- there is at most one least set of kept rows
 abbrev pub OneKeptSet : Type 0
 OneKeptSet = (t : Tab) (m n : ℕ) → IsKept t m → IsKept t n → m ≡ n
 
+-- there is at most one fold into it
 abbrev pub OneFold : Type 0
 OneFold = (t : Tab) (m : ℕ) (list other : List ℕ) → IsFold t m list → IsFold t m other → list ≡ other
 
+-- a union of terms is reduced in at most one way
 abbrev pub OneReduction : Type 0
 OneReduction = (terms : List Minimised) (r s : Reduced) → IsReduced terms r → IsReduced terms s → r ≡ s

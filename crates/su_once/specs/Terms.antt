@@ -21,6 +21,7 @@ OneNaming = (schema : SchemaValue) (os : List Origin) (d : List Compared) (name 
     → ¬ ((a : Value) × (b : Value) × (a ≢ b) × InClass schema os d (Const a) (Const b))
     → IsNaming schema os d name → IsNaming schema os d other → (x : Sym) → name x ≡ other x
 
+-- a query has at most one list of terms
 abbrev pub OneListOfTerms : Type 0
 OneListOfTerms = (schema : SchemaValue) (maximal : List (FinSet nat_cmp)) (q : Resolved) (ts others : List Term) → AreTerms schema maximal q ts → AreTerms schema maximal q others → ts ≡ others
 

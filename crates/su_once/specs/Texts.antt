@@ -11,9 +11,11 @@ use Rattle.su_min.specs.Kept.{Minimised}
 use Rattle.su_show.specs.Replies.{IsClosureReply}
 use Rattle.su_show.specs.Explaining.{IsExplanation}
 
+-- a closure is told by one text
 abbrev pub OneClosureReply : Type 0
 OneClosureReply = (schema : SchemaValue) (start : FinSet nat_cmp) (text other : List ℕ) → IsClosureReply schema start text → IsClosureReply schema start other → text ≡ other
 
+-- an explanation has one text
 abbrev pub OneExplanation : Type 0
 OneExplanation = (schema : SchemaValue) (query : Query) (q : Resolved) (terms : List Term) (minimals : List Minimised) (reduced : Reduced) (text other : List ℕ)
     → IsExplanation schema query q terms minimals reduced text → IsExplanation schema query q terms minimals reduced other → text ≡ other

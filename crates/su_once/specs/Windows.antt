@@ -16,9 +16,11 @@ pub record IsWindow (db : DatabaseValue) (attributes : List ℕ) (rows : List (L
   pub exact : (h : List Value) → Contains rows h ↔ InWindow db attributes h
   pub ascending : IsStrictlySortedBy compare_lists rows
 
+-- over databases that are alike a window has at most one list of rows
 abbrev pub OneWindow : Type 0
 OneWindow = (a b : DatabaseValue) (attributes : List ℕ) (rows others : List (List Value)) → AreAlike a b → IsWindow a attributes rows → IsWindow b attributes others → rows ≡ others
 
+-- a window is refused for at most one cause
 abbrev pub OneWindowRefusal : Type 0
 OneWindowRefusal = (a b : DatabaseValue) (why other : WindowFault) → AreAlike a b → why ≢ NoMemory → other ≢ NoMemory → IsWindowRefusal a why → IsWindowRefusal b other → why ≡ other
 

@@ -36,19 +36,24 @@ abbrev pub qualified : Option (List ℕ) → List Symbol → List Symbol
 qualified None s = s
 qualified (Some variable) s = Word variable ∷ Sign sign.Dot ∷ s
 
+-- no variable, or one whose name is a name
 abbrev pub IsVariable : Option (List ℕ) → Type 0
 IsVariable None = Unit {0}
 IsVariable (Some variable) = IsName variable
 
+-- a name
 abbrev pub ReadsName : List ℕ → List Symbol → List Symbol → Type 0
 ReadsName name s r = (s ≡ Word name ∷ r) × IsName name
 
+-- a value
 abbrev pub ReadsValue : Value → List Symbol → List Symbol → Type 0
 ReadsValue v s r = s ≡ value_sym v ∷ r
 
+-- an attribute, with or without its variable, and no dot behind it
 abbrev pub ReadsRef : ARef → List Symbol → List Symbol → Type 0
 ReadsRef ref s r = (s ≡ qualified ref.variable (Word ref.attribute ∷ r)) × IsVariable ref.variable × IsName ref.attribute × ¬ (Begins (Sign sign.Dot) r)
 
+-- a side of a comparison: an attribute or a value
 abbrev pub ReadsOperand : NamedOperand → List Symbol → List Symbol → Type 0
 ReadsOperand (Ref ref) s r = ReadsRef ref s r
 ReadsOperand (Const v) s r = ReadsValue v s r
@@ -63,6 +68,7 @@ abbrev pub any_of : List NamedCond → NamedCond
 any_of (c ∷ []) = c
 any_of cs = Any cs
 
+-- one condition stands for itself
 abbrev pub all_of : List NamedCond → NamedCond
 all_of (c ∷ []) = c
 all_of cs = All cs

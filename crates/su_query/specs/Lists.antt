@@ -14,6 +14,7 @@ pub data More {A : Type 0} (Item : A → List Symbol → List Symbol → Type 0)
 abbrev pub Several : {A : Type 0} (Item : A → List Symbol → List Symbol → Type 0) → List A → List Symbol → List Symbol → Type 0
 Several {A} Item items s r = (b : A) × (bs : List A) × (t : List Symbol) × (items ≡ b ∷ bs) × Item b s t × More Item bs t r
 
+-- the first symbol is a word
 abbrev pub begins_word : List Symbol → Bool
 begins_word (Word w ∷ s) = true
 begins_word _ = false

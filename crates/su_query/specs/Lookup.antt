@@ -42,6 +42,7 @@ abbrev pub kinds_in : SchemaValue → Scope → List Kind
 kinds_in schema Attributes = attribute_kinds schema
 kinds_in schema (Columns r) = map (λ c. c.kind) (columns_at schema r)
 
+-- the attribute of the ref isn't among the names
 abbrev pub is_unknown : List (List ℕ) → ARef → Bool
 is_unknown names ref = is_none (place_of names ref.attribute)
 
@@ -58,6 +59,7 @@ abbrev pub kind_in : SchemaValue → Scope → NamedOperand → Kind
 kind_in schema scope (Ref ref) = unwrap_or (option_map (λ n. slice_index_or (kinds_in schema scope) n IntKind) (place_of (names_in schema scope) ref.attribute)) IntKind
 kind_in schema scope (Const v) = kind_of v
 
+-- the two sides of the comparison are of different kinds
 abbrev pub differs : SchemaValue → Scope → Comparison → Bool
 differs schema scope c = not (same_kind (kind_in schema scope c.left) (kind_in schema scope c.right))
 
@@ -69,10 +71,12 @@ first_differing schema scope comparisons = find (differs schema scope) compariso
 abbrev pub differing_kinds : SchemaValue → Scope → List Comparison → Option (Kind × Kind)
 differing_kinds schema scope comparisons = option_map (λ c. (kind_in schema scope c.left, kind_in schema scope c.right)) (first_differing schema scope comparisons)
 
+-- a side of a comparison by its number
 abbrev pub numbered_operand : (ARef → ℕ) → NamedOperand → Operand
 numbered_operand number (Ref ref) = operand.Place (number ref)
 numbered_operand number (Const v) = operand.Const v
 
+-- a condition by the numbers of its refs
 abbrev pub numbered_step : (ARef → ℕ) → NamedCond-F Cond → Cond
 numbered_step number (Compare a o b) = cond.Compare (record { left = numbered_operand number a; op = o; right = numbered_operand number b })
 numbered_step number (Not part) = cond.Not part
@@ -107,6 +111,7 @@ place_in schema variables ref = record {
   attribute = number_among (attribute_names schema) ref.attribute;
 }
 
+-- the same attribute of the same variable
 abbrev pub same_place : Place → Place → Bool
 same_place p q = p.variable == q.variable && p.attribute == q.attribute
 

@@ -12,6 +12,7 @@ use Rattle.su_query.specs.declared.conditions.NamedCond.TheOpen.{NamedCond-F, Co
 use Rattle.su_query.specs.declared.conditions.NamedCond.TheFolds.{fold-NamedCond}
 use Rattle.su_query.specs.declared.statements.Query.{Query}
 
+-- two sides and an operator
 pub record Comparison : Type 0 where
   pub left : NamedOperand
   pub op : Op
@@ -28,10 +29,12 @@ comparisons_step (Any parts) = flat_map (λ p. p) parts
 abbrev pub comparisons_of : NamedCond → List Comparison
 comparisons_of = fold-NamedCond (List Comparison) comparisons_step
 
+-- the ref, if the side is one
 abbrev pub refs_in : NamedOperand → List ARef
 refs_in (Ref ref) = ref ∷ []
 refs_in (Const v) = []
 
+-- the refs of a comparison, from left to right
 abbrev pub refs_beside : Comparison → List ARef
 refs_beside c = refs_in c.left ++ refs_in c.right
 
@@ -43,6 +46,7 @@ refs_of c = flat_map refs_beside (comparisons_of c)
 abbrev pub all_refs : Query → List ARef
 all_refs q = q.outputs ++ refs_of q.cond
 
+-- both have no variable, or the same one
 abbrev pub same_variable : Option (List ℕ) → Option (List ℕ) → Bool
 same_variable None None = true
 same_variable None (Some w) = false

@@ -67,6 +67,7 @@ pub record IsStatement (text : List ℕ) (st : Statement) : Type 0 where
 abbrev pub IsFormless : List ℕ → Type 0
 IsFormless text = ((symbols : List Symbol) → ¬ (Symbols text symbols)) ⊎ ((symbols : List Symbol) × Symbols text symbols × ¬ (IsDeep symbols) × ((st : Statement) → ¬ (IsForm st symbols)))
 
+-- the text is symbols whose parentheses nest too deep
 abbrev pub NestsTooDeep : List ℕ → Type 0
 NestsTooDeep text = (symbols : List Symbol) × Symbols text symbols × IsDeep symbols
 

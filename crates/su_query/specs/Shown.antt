@@ -17,15 +17,19 @@ use Rattle.su_query.specs.declared.statements.Statement.{Statement}
 use Rattle.su_query.specs.declared.statements.Statement.TheVariants.{Insert, Delete, DeleteWhere, Load, Print, Schema, Closure, Retrieve, Explain, Certify, Compare as Comparing, Window}
 use Rattle.su_query.specs.Grammar.{value_sym, op_sym, qualified}
 
+-- the symbol of a name
 abbrev pub name_symbols : List ℕ → List Symbol
 name_symbols name = Word name ∷ []
 
+-- the symbol of a value
 abbrev pub value_symbols : Value → List Symbol
 value_symbols v = value_sym v ∷ []
 
+-- the symbols of an attribute with its variable
 abbrev pub ref_symbols : ARef → List Symbol
 ref_symbols ref = qualified ref.variable (Word ref.attribute ∷ [])
 
+-- the symbols of a side of a comparison
 abbrev pub operand_symbols : NamedOperand → List Symbol
 operand_symbols (Ref ref) = ref_symbols ref
 operand_symbols (Const v) = value_symbols v
@@ -35,6 +39,7 @@ abbrev pub listed : {A : Type 0} → (A → List Symbol) → List A → List Sym
 listed f [] = []
 listed f (x ∷ xs) = f x ++ flat_map (λ y. Sign sign.Comma ∷ f y) xs
 
+-- symbols in parentheses
 abbrev pub in_parens : List Symbol → List Symbol
 in_parens s = Sign sign.Open ∷ (s ++ Sign sign.Close ∷ [])
 
@@ -44,9 +49,11 @@ pub record ShownCond : Type 0 where
   pub compare : Bool
   pub symbols : List Symbol
 
+-- a part of an `and` or an `or`: in parentheses where it is one of them itself
 abbrev pub part : ShownCond → List Symbol
 part x = if x.many then in_parens x.symbols else x.symbols
 
+-- what stands behind `not`: in parentheses unless it is a comparison
 abbrev pub inner : ShownCond → List Symbol
 inner x = if x.compare then x.symbols else in_parens x.symbols
 
@@ -56,18 +63,22 @@ joined w [] = []
 joined w (x ∷ []) = part x
 joined w (x ∷ y ∷ ys) = part x ++ w ∷ joined w (y ∷ ys)
 
+-- a condition from its parts, with its form
 abbrev pub shown_step : NamedCond-F ShownCond → ShownCond
 shown_step (Compare a o b) = record { many = false; compare = true; symbols = operand_symbols a ++ op_sym o ∷ operand_symbols b }
 shown_step (Not x) = record { many = false; compare = false; symbols = Word (codes "not") ∷ inner x }
 shown_step (All xs) = record { many = true; compare = false; symbols = joined (Word (codes "and")) xs }
 shown_step (Any xs) = record { many = true; compare = false; symbols = joined (Word (codes "or")) xs }
 
+-- the symbols of a condition, with its form
 abbrev pub shown_cond : NamedCond → ShownCond
 shown_cond = fold-NamedCond ShownCond shown_step
 
+-- the symbols of a condition
 abbrev pub cond_symbols : NamedCond → List Symbol
 cond_symbols c = (shown_cond c).symbols
 
+-- the condition is an `and` of nothing
 abbrev pub nothing_step : NamedCond-F Bool → Bool
 nothing_step (Compare a o b) = false
 nothing_step (Not x) = false
@@ -82,9 +93,11 @@ is_nothing = fold-NamedCond Bool nothing_step
 abbrev pub where_symbols : NamedCond → List Symbol
 where_symbols c = if is_nothing c then [] else Word (codes "where") ∷ cond_symbols c
 
+-- the symbols of a query
 abbrev pub query_symbols : Query → List Symbol
 query_symbols q = Word (codes "retrieve") ∷ (in_parens (listed ref_symbols q.outputs) ++ where_symbols q.cond)
 
+-- the symbols of a statement, by its form
 abbrev pub statement_symbols : Statement → List Symbol
 statement_symbols (Insert relation row) = Word (codes "insert") ∷ Word relation ∷ in_parens (listed value_symbols row)
 statement_symbols (Delete relation row) = Word (codes "delete") ∷ Word relation ∷ in_parens (listed value_symbols row)
@@ -99,8 +112,10 @@ statement_symbols (Certify q) = Word (codes "explain") ∷ Word (codes "with") �
 statement_symbols (Comparing first second) = Word (codes "compare") ∷ (in_parens (query_symbols first) ++ Word (codes "with") ∷ in_parens (query_symbols second))
 statement_symbols (Window attributes) = Word (codes "window") ∷ in_parens (listed name_symbols attributes)
 
+-- the text of a query
 abbrev pub query_text : Query → List ℕ
 query_text q = spaced (query_symbols q)
 
+-- the text of a statement
 abbrev pub statement_text : Statement → List ℕ
 statement_text st = spaced (statement_symbols st)

@@ -7,12 +7,12 @@ use Rattle.su_tableau.specs.declared.symbols.Sym.{Sym}
 use Rattle.su_tableau.specs.declared.symbols.Sym.TheVariants.{Const, Var}
 use Rattle.su_tableau.proofs.Same.{value_same}
 use Rattle.su_check.specs.declared.sending.Sent.{Sent}
-use Rattle.su_check.specs.Cells.{cell, is_const}
-use Rattle.su_check.specs.Agreeing.{KeepsConstants, Gives, Agree}
+use Rattle.su_check.specs.inside.Cells.{cell, is_const}
+use Rattle.su_check.specs.inside.Agreeing.{KeepsConstants, Gives, Agree}
 use Rattle.su_check.specs.Fitting.{Lines, row_of, AreSent, sent_too}
-use Rattle.su_check.specs.Agreeing.{Goes, AgreesWith}
+use Rattle.su_check.specs.inside.Agreeing.{Goes, AgreesWith}
 use Rattle.su_check.specs.Refuting.{IsOpen, IsFitting}
-use Rattle.su_refute.specs.Positions.{IsReady}
+use Rattle.su_refute.specs.inside.Positions.{IsReady}
 use Rattle.su_check.proofs.Joining.{sent_more, sent_less}
 use Rattle.su_refute.proofs.Ascending.{contains_cases, contains_first, contains_rest, contains_none}
 

@@ -14,7 +14,7 @@ use Rattle.su_check.specs.Refuting.{AreExactly, IsOpen, IsFitting, row_named, br
 use Rattle.su_refute.specs.declared.nets.Net.{Net}
 use Rattle.su_refute.specs.Trees.{IsFewest, IsTreeAt, node_count}
 use Rattle.su_refute.specs.Trees.{lines_in}
-use Rattle.su_refute.specs.Positions.{IsAt, Stands, IsFewestOf, IsTreeFor}
+use Rattle.su_refute.specs.inside.Positions.{IsAt, Stands, IsFewestOf, IsTreeFor}
 use Rattle.su_refute.proofs.Ascending.{exactly_as, exactly_all, exactly_more, exactly_skip, front_below, sums_front}
 use Rattle.su_refute.proofs.Counting.{all_members}
 use Rattle.su_refute.proofs.Standing.{at_next, left_small, fewest_is, fitting_in, open_in}

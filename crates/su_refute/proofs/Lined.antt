@@ -10,7 +10,8 @@ use Rattle.su_lex.specs.declared.meaning.Symbol.{Symbol}
 use Rattle.su_lex.specs.declared.meaning.Symbol.TheVariants.{Word, Int, Text, Sign}
 use Rattle.su_lex.specs.declared.signs.Sign.TheVariants as sign
 use Rattle.su_lex.specs.Symbols.{Symbols, IsSymbol, spelled, opens, closes, after, spaced}
-use Rattle.su_lex.proofs.Written.{IsTokenOf, SymbolsAt, spelled_symbol, symbols_from}
+use Rattle.su_lex.specs.inside.Firsts.{IsTokenOf}
+use Rattle.su_lex.proofs.Written.{SymbolsAt, spelled_symbol, symbols_from}
 use Rattle.su_refute.specs.Written.{lines_text}
 
 -- what stands before a line feed

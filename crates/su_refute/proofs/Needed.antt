@@ -15,14 +15,14 @@ use Rattle.su_map.proofs.Members.{without_same, without_out}
 use Rattle.su_check.specs.declared.nodes.Node.{Node}
 use Rattle.su_check.specs.declared.sending.Sent.{Sent}
 use Rattle.su_check.specs.Fitting.{row_of, AreWide}
-use Rattle.su_refute.specs.Positions.{IsReady}
+use Rattle.su_refute.specs.inside.Positions.{IsReady}
 use Rattle.su_min.specs.Kept.{IsKept}
 use Rattle.su_min.proofs.Parts.{into_maps, maps_into}
 use Rattle.su_min.proofs.Keeping.{kept_within}
 use Rattle.su_refute.specs.declared.nets.Net.{Net}
-use Rattle.su_refute.specs.Nets.{IsNet}
+use Rattle.su_refute.specs.inside.Nets.{IsNet}
 use Rattle.su_refute.specs.Trees.{lines_in, IsTree, node_count}
-use Rattle.su_refute.specs.Positions.{IsFree, IsNeeded, IsAt, Stands, IsTreeFor}
+use Rattle.su_refute.specs.inside.Positions.{IsFree, IsNeeded, IsAt, Stands, IsTreeFor}
 use Rattle.su_refute.proofs.Counting.{numbers_exactly}
 use Rattle.su_refute.proofs.Sharing.{all_of, member_below}
 use Rattle.su_refute.proofs.Fits.{none_sent, fits_first}

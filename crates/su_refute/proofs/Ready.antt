@@ -4,7 +4,7 @@ use Rattle.std.proofs.lemmas.List.Elements.{All-push, All-contains}
 use Rattle.su_check.specs.declared.sending.Sent.{Sent}
 use Rattle.su_check.specs.Fitting.{Lines, IsWithin, sent_too}
 use Rattle.su_check.specs.Refuting.{IsFitting}
-use Rattle.su_refute.specs.Positions.{IsReady}
+use Rattle.su_refute.specs.inside.Positions.{IsReady}
 
 pub ready_more : (t : Lines) (r : ℕ) (p : List Sent) (s j : ℕ) → IsReady t p → Contains t.kept s → IsFitting t r p s j → IsReady t (sent_too p s j)
 ready_more t r p s j ready member fit = record {

@@ -10,11 +10,11 @@ use Rattle.su_tableau.specs.declared.symbols.Sym.{Sym}
 use Rattle.su_tableau.specs.declared.symbols.Sym.TheVariants.{Var}
 use Rattle.su_tableau.specs.Tableaux.{Tab, IsValid}
 use Rattle.su_map.specs.Lists.{row_of}
-use Rattle.su_check.specs.Cells.{cell}
-use Rattle.su_check.specs.Agreeing.{Agree}
-use Rattle.su_check.specs.Agreeing.{Goes}
+use Rattle.su_check.specs.inside.Cells.{cell}
+use Rattle.su_check.specs.inside.Agreeing.{Agree}
+use Rattle.su_check.specs.inside.Agreeing.{Goes}
 use Rattle.su_refute.specs.declared.places.Places.{Places}
-use Rattle.su_refute.specs.Nets.{AreWithin, AreShared, AgreeAt, IsSetOf, IsTold}
+use Rattle.su_refute.specs.inside.Nets.{AreWithin, AreShared, AgreeAt, IsSetOf, IsTold}
 
 -- what is true of each element that a list contains
 pub all_of : {X : Type 0} (P : X → Type 0) (xs : List X) → ((x : X) → Contains xs x → P x) → All P xs

@@ -14,10 +14,10 @@ use Rattle.su_check.specs.Refuting.{IsOpen, IsFitting}
 use Rattle.su_check.proofs.Joining.{all_front, all_last}
 use Rattle.su_refute.proofs.Ready.{ready_more}
 use Rattle.su_refute.specs.declared.nets.Net.{Net}
-use Rattle.su_refute.specs.Nets.{IsNet}
+use Rattle.su_refute.specs.inside.Nets.{IsNet}
 use Rattle.su_refute.specs.Trees.{IsFewest}
 use Rattle.su_refute.specs.Trees.{lines_in}
-use Rattle.su_refute.specs.Positions.{IsFree, IsAt, Stands, IsFewestOf}
+use Rattle.su_refute.specs.inside.Positions.{IsFree, IsAt, Stands, IsFewestOf}
 use Rattle.su_refute.proofs.Fits.{fits_next}
 use Rattle.su_refute.proofs.Ascending.{exactly_as}
 use Rattle.su_refute.proofs.Counting.{count_set}

@@ -8,11 +8,11 @@ use Rattle.su_check.specs.declared.nodes.Node.{Node}
 use Rattle.su_check.specs.declared.nodes.Branch.{Branch}
 use Rattle.su_check.specs.Fitting.{Lines, IsWithin, sent_too}
 use Rattle.su_check.specs.Refuting.{AreExactly, IsOpen, IsFitting, target_of, node_of}
-use Rattle.su_refute.specs.Positions.{IsReady}
+use Rattle.su_refute.specs.inside.Positions.{IsReady}
 use Rattle.su_min.proofs.Holes.{pigeonhole}
 use Rattle.su_refute.proofs.Ready.{ready_more}
 use Rattle.su_refute.specs.Trees.{IsFewest, IsTreeAt}
-use Rattle.su_refute.specs.Positions.{IsFree, IsNeeded}
+use Rattle.su_refute.specs.inside.Positions.{IsFree, IsNeeded}
 use Rattle.su_refute.proofs.Ascending.{exactly_none, exactly_more, exactly_skip, exactly_all, exactly_one, contains_cases, contains_first, contains_rest, contains_none}
 use Rattle.su_refute.proofs.Deciding.{Decided, decided_fitting, decided_open}
 use Rattle.su_refute.proofs.OneTree.{made, made_branch, tree_made}

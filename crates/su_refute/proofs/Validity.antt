@@ -21,7 +21,7 @@ use Rattle.su_check.specs.declared.nodes.Branch.{Branch}
 use Rattle.su_check.specs.declared.sending.Sent.{Sent}
 use Rattle.su_check.specs.Fitting.{Lines, IsWithin, sent_too}
 use Rattle.su_check.specs.Refuting.{refuting, row_named, branches_of, target_of, node_of}
-use Rattle.su_refute.specs.Positions.{IsReady}
+use Rattle.su_refute.specs.inside.Positions.{IsReady}
 use Rattle.su_check.specs.Grammar.{number, sym_symbol, kind_symbol, line, in_parens, row_line, tree_line, node_symbols, IsByteNode, of_bytes}
 use Rattle.su_check.proofs.NodeSymbols.{branch_symbols, node_at}
 use Rattle.su_refute.proofs.Ready.{ready_more}

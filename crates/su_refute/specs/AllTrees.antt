@@ -15,6 +15,7 @@ pub record IsSound (m : Minimised) : Type 0 where
   pub small : IsSmall m.tableau
   pub minimised : IsMinimised m
 
+-- the rows, the head and the kept rows of a minimised term
 abbrev pub lines_of : Minimised → Lines
 lines_of m = lines_in m.tableau m.mask
 
@@ -26,6 +27,7 @@ AreTreesOf m trees = AllZip (IsTree (lines_of m)) (rows_in m.tableau m.mask) tre
 abbrev pub AreTrees : List Minimised → List (List Node) → Type 0
 AreTrees minimals trees = AllZip AreTreesOf minimals trees
 
+-- the nodes of all trees
 abbrev pub nodes_in : List Node → ℕ
 nodes_in trees = sum_by node_count trees
 

@@ -21,6 +21,7 @@ pub record HasOneTree (m : Minimised) (r : ℕ) : Type 0 where
   pub is_tree : IsTree (lines_of m) r tree
   pub only : (other : Node) → IsTree (lines_of m) r other → tree ≡ other
 
+-- each kept row has exactly one tree
 abbrev pub KeptRowsHaveOneTree : Type 0
 KeptRowsHaveOneTree = (m : Minimised) (r : ℕ) → IsSound m → bit_at m.mask r ≡ 1 → HasOneTree m r
 

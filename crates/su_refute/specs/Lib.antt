@@ -1,6 +1,5 @@
-pub mod Trees
 pub mod AllTrees
+pub mod inside
 pub mod Laws
+pub mod Trees
 pub mod Written
-pub mod Nets
-pub mod Positions

@@ -27,6 +27,7 @@ IsTreeAt t r = RefutesBy (IsFewest t r) t r
 abbrev pub IsTree : Lines → ℕ → Node → Type 0
 IsTree t r n = IsTreeAt t r n []
 
+-- a node counts itself and those below it
 abbrev pub count_step : Node-F ℕ ℕ → ℕ
 count_step n = 1 + sum n.next
 

@@ -17,6 +17,7 @@ row_trees [] trees = []
 row_trees (r ∷ rows) [] = []
 row_trees (r ∷ rows) (n ∷ trees) = record { row = r; node = n } ∷ row_trees rows trees
 
+-- what is written of a term: its rows, what is kept, the fold, and a tree for each kept row
 abbrev pub term_of : ℕ → Minimised → List Node → Term
 term_of i m trees = record {
   number = i;
@@ -33,14 +34,18 @@ terms_from i [] lists = []
 terms_from i (m ∷ minimals) [] = term_of i m [] ∷ terms_from (suc i) minimals []
 terms_from i (m ∷ minimals) (trees ∷ lists) = term_of i m trees ∷ terms_from (suc i) minimals lists
 
+-- the certificate of terms, with the trees of each
 abbrev pub certificate_of : List Kind → List Minimised → List (List Node) → Certificate
 certificate_of kinds minimals lists = record { kinds = kinds; terms = terms_from 0 minimals lists }
 
+-- a line and its line feed
 abbrev pub line_text : List Symbol → List ℕ
 line_text line = spaced line ++ 10 ∷ []
 
+-- lines, one behind another
 abbrev pub lines_text : List (List Symbol) → List ℕ
 lines_text lines = flat_map line_text lines
 
+-- the text of a certificate
 abbrev pub certificate_text : Certificate → List ℕ
 certificate_text c = lines_text (certificate_lines c)

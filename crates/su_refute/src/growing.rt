@@ -3,7 +3,7 @@ ghost use Rattle.std.specs.Prelude.{◌≡◌, ◌≤◌, ◌<◌, ◌+◌, ◌�
 ghost use Rattle.std.specs.Int.{bit_at};
 ghost use Rattle.su_check.specs.declared.nodes.Node.{Node as ANode};
 ghost use Rattle.su_refute.specs.Trees.{node_count};
-ghost use Rattle.su_refute.specs.Positions.{Stands, IsFewestOf, IsTreeFor};
+ghost use Rattle.su_refute.specs.inside.Positions.{Stands, IsFewestOf, IsTreeFor};
 
 use crate::bits::{both, without};
 use crate::faults::RefuteFault;

@@ -1,8 +1,8 @@
 //! Where two lists of symbols hold one symbol.
 ghost use Rattle.std.specs.Prelude.{◌≡◌, ◌<◌, ◌↔◌, ◌⊎◌, IfOk, OnOk, IsTrue, length, Contains};
-ghost use Rattle.su_check.specs.Cells.{cell};
+ghost use Rattle.su_check.specs.inside.Cells.{cell};
 ghost use Rattle.su_refute.specs.declared.places.Places.{Places as APlaces};
-ghost use Rattle.su_refute.specs.Nets.{AreWithin, AreShared, AgreeAt};
+ghost use Rattle.su_refute.specs.inside.Nets.{AreWithin, AreShared, AgreeAt};
 
 use std::alloc::Global;
 use su_base::{List, NoMemory};

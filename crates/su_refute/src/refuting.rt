@@ -2,7 +2,7 @@
 ghost use Rattle.std.specs.Prelude.{◌≡◌, ◌≢◌, ◌≤◌, ◌<◌, ◌+◌, ℕ, IfOk, IsErrOf, length, get_or};
 ghost use Rattle.std.specs.Int.{bit_at};
 ghost use Rattle.su_check.specs.declared.nodes.Node.{Node as ANode};
-ghost use Rattle.su_refute.specs.Nets.{IsNet};
+ghost use Rattle.su_refute.specs.inside.Nets.{IsNet};
 ghost use Rattle.su_refute.specs.Trees.{IsTree, node_count};
 ghost use Rattle.su_refute.specs.AllTrees.{lines_of, HasLargerTree};
 

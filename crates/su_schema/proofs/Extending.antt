@@ -17,9 +17,9 @@ use Rattle.su_schema.specs.declared.schemas.Schema.TheInside.{Inside}
 use Rattle.su_schema.specs.SchemaValue.{SchemaValue, IsValid, attribute_names, relation_names, object_names}
 use Rattle.su_schema.specs.Checks.{first_failing, is_known, number_of, checks, columns_at}
 use Rattle.su_schema.specs.Defining.{extended, numbers_of, links_of, IsWellNamed}
-use Rattle.su_schema.specs.Inside.{shown}
+use Rattle.su_schema.specs.Maps.{shown}
 use Rattle.su_schema.specs.Shown.{HasItsSet}
-use Rattle.su_schema.specs.Kept.{object_on}
+use Rattle.su_schema.specs.inside.Kept.{object_on}
 use Rattle.su_schema.proofs.Accepted.{valid_extended}
 use Rattle.su_schema.proofs.Entries.{added, added_last}
 use Rattle.std.proofs.lemmas.List.Elements.{All-push}

@@ -16,14 +16,17 @@ use Rattle.su_schema.specs.declared.definitions.Definition.{Definition}
 use Rattle.su_schema.specs.declared.definitions.Definition.TheVariants.{Attribute, Relation, Object, Fd, Maximal}
 use Rattle.su_schema.specs.SchemaValue.{SchemaValue, attribute_names, attribute_kinds, relation_names, relation_columns, column_names, object_names}
 
+-- whether a check fails, and with what fault
 pub record Check : Type 0 where
   pub fails : Bool
   pub fault : SchemaFault
 
+-- the fault of the first check that fails
 abbrev pub first_failing : List Check → Option SchemaFault
 first_failing [] = None
 first_failing (check ∷ later) = if check.fails then Some check.fault else first_failing later
 
+-- the name is one of these
 abbrev pub is_known : List (List ℕ) → List ℕ → Bool
 is_known names name = list_any (λ n. bytes_eq name n) names
 
@@ -47,12 +50,15 @@ old_name names name = record { fails = not (is_known names name); fault = Unknow
 abbrev pub room_for_one : {A : Type 0} → List A → ℕ → SchemaLimit → Check
 room_for_one there n limit = record { fails = nat_le n (length there); fault = Limit limit }
 
+-- the kind of a named attribute; an unknown one counts as a number
 abbrev pub attribute_kind : SchemaValue → List ℕ → Kind
 attribute_kind schema name = slice_index_or (attribute_kinds schema) (number_of (attribute_names schema) name) Int
 
+-- the kind of a named column; an unknown one counts as a number
 abbrev pub column_kind : List Column → List ℕ → Kind
 column_kind columns name = slice_index_or (map (λ c. c.kind) columns) (number_of (column_names columns) name) Int
 
+-- the attribute and the column of a pair are of one kind
 abbrev pub one_kind : SchemaValue → List Column → Pair → Check
 one_kind schema columns pair = record {
   fails = not (same_kind (attribute_kind schema pair.attribute) (column_kind columns pair.column));

@@ -42,6 +42,7 @@ extended schema (Fd left right) =
     record schema { fds = schema.fds ++ record { left = side left; right = side right } ∷ [] }
 extended schema (Maximal objects) = record schema { declared = schema.declared ++ numbers_of (object_names schema) objects ∷ [] }
 
+-- the fault, where there is one, or else the new schema
 abbrev pub outcome : Option SchemaFault → SchemaValue → Result SchemaValue SchemaFault
 outcome (Some fault) schema = Err fault
 outcome None schema = Ok schema

@@ -1,6 +1,6 @@
 pub mod Checks
 pub mod Defining
-pub mod Inside
-pub mod Kept
+pub mod Maps
+pub mod inside
 pub mod SchemaValue
 pub mod Shown

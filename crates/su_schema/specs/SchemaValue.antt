@@ -12,10 +12,12 @@ use Rattle.su_base.specs.Name.{IsName}
 use Rattle.su_fd.specs.declared.Fd.{Fd}
 use Rattle.su_schema.specs.declared.links.Link.{Link}
 
+-- an attribute: its name and its kind
 pub record AttributeEntry : Type 0 where
   pub name : List ℕ
   pub kind : Kind
 
+-- a relation: its name and its columns
 pub record RelationEntry : Type 0 where
   pub name : List ℕ
   pub columns : List Column
@@ -26,6 +28,7 @@ pub record ObjectEntry : Type 0 where
   pub relation : ℕ
   pub links : List Link
 
+-- a schema: attributes, relations, objects, dependencies and declared maximal objects, each in the order of definition
 pub record SchemaValue : Type 0 where
   pub attributes : List AttributeEntry
   pub relations : List RelationEntry
@@ -33,12 +36,15 @@ pub record SchemaValue : Type 0 where
   pub fds : List Fd
   pub declared : List (FinSet nat_cmp)
 
+-- the names of the attributes, by number
 abbrev pub attribute_names : SchemaValue → List (List ℕ)
 attribute_names schema = map (λ a. a.name) schema.attributes
 
+-- the kinds of the attributes, by number
 abbrev pub attribute_kinds : SchemaValue → List Kind
 attribute_kinds schema = map (λ a. a.kind) schema.attributes
 
+-- the names of the relations, by number
 abbrev pub relation_names : SchemaValue → List (List ℕ)
 relation_names schema = map (λ r. r.name) schema.relations
 
@@ -46,9 +52,11 @@ relation_names schema = map (λ r. r.name) schema.relations
 abbrev pub relation_columns : SchemaValue → List (List Column)
 relation_columns schema = map (λ r. r.columns) schema.relations
 
+-- the names of columns, in order
 abbrev pub column_names : List Column → List (List ℕ)
 column_names columns = map (λ c. c.name) columns
 
+-- the names of the objects, by number
 abbrev pub object_names : SchemaValue → List (List ℕ)
 object_names schema = map (λ o. o.name) schema.objects
 

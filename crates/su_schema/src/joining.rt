@@ -3,7 +3,7 @@ ghost use Rattle.std.specs.Prelude.{◌≡◌, ◌<◌, ◌==◌, [], ◌∷◌,
 ghost use Rattle.std.specs.List.{list_any};
 ghost use Rattle.su_base.specs.Value.{same_kind};
 ghost use Rattle.su_schema.specs.Checks.{first_failing, known_checks, pair_checks, one_kind, columns_at};
-ghost use Rattle.su_schema.specs.Kept.{object_on};
+ghost use Rattle.su_schema.specs.inside.Kept.{object_on};
 ghost use Rattle.su_schema.specs.Defining.{link_of, links_of};
 
 use crate::definitions::Pair;

@@ -44,7 +44,7 @@ impl Model for Schema {
 
     ghost coded = { Prim.hlevel (codes, attr_set.the_row.coded, set.code {R = nat_cmp} coded_ℕ) };
 
-    ghost use Rattle.su_schema.specs.Inside.{shown, IsKept};
+    ghost use Rattle.su_schema.specs.Maps.{shown, IsKept};
 
     ghost view = { shown };
 

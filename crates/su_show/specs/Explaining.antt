@@ -14,9 +14,11 @@ use Rattle.su_show.specs.Refusing.{variable_text}
 use Rattle.su_show.specs.TableauLines.{tableau_lines}
 use Rattle.su_show.specs.MinimalLines.{minimal_lines, IsEnd}
 
+-- the query as it is shown
 abbrev pub query_line : Query → List ℕ
 query_line query = codes "query: " ++ query_text query ++ codes "\n"
 
+-- the variables in the order of their first mention
 abbrev pub variables_line : Resolved → List ℕ
 variables_line q = codes "variables" ++ flat_map (λ v. 32 ∷ variable_text v) q.variables ++ codes "\n"
 

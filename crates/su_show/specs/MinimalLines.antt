@@ -36,6 +36,7 @@ pub record IsSourcesLine (schema : SchemaValue) (m : Minimised) (r : ℕ) (line 
   pub are : (o : ℕ) → IsTrue (contains sources o) ↔ IsSource schema m.tableau m.mask r o
   pub is : line ≡ sources_line schema r sources
 
+-- what covers a dropped term, and by which rows
 abbrev pub cover_line : Cover → List ℕ
 cover_line c = codes "  covered by term " ++ decimal c.by ++ codes " rows" ++ numbers_text c.mapping.list ++ codes "\n"
 
@@ -43,6 +44,7 @@ cover_line c = codes "  covered by term " ++ decimal c.by ++ codes " rows" ++ nu
 abbrev pub cover_of : Reduced → ℕ → Option Cover
 cover_of reduced i = find (λ c. c.dropped == i) reduced.covers
 
+-- the line of the cover, if the term is dropped
 abbrev pub cover_text : Option Cover → List ℕ
 cover_text None = []
 cover_text (Some c) = cover_line c

@@ -8,6 +8,7 @@ use Rattle.su_schema.specs.declared.faults.SchemaLimit.TheVariants.{Attributes, 
 use Rattle.su_ddl.specs.declared.faults.DdlFault.{DdlFault}
 use Rattle.su_ddl.specs.declared.faults.DdlFault.TheVariants.{Syntax, Refused, NoMemory as OutOfMemory}
 
+-- the limits of a schema
 abbrev pub limit_text : SchemaLimit → List ℕ
 limit_text Attributes = codes "attributes 128"
 limit_text Relations = codes "relations 64"

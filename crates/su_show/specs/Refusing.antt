@@ -26,16 +26,19 @@ use Rattle.su_show.specs.Refusals.{cause_text}
 use Rattle.su_show.specs.Replies.{fd_at}
 use Rattle.su_show.specs.Values.{attributes_text, fd_text, row_text, value_text}
 
+-- the word of a kind
 abbrev pub kind_text : Kind → List ℕ
 kind_text kind.Int = codes "int"
 kind_text kind.Text = codes "text"
 
+-- the limits of a query
 abbrev pub query_limit_text : QueryLimit → List ℕ
 query_limit_text limit.Nesting = codes "limit nesting 64"
 query_limit_text limit.Variables = codes "limit variables 8"
 query_limit_text limit.Outputs = codes "limit outputs 128"
 query_limit_text limit.Comparisons = codes "limit comparisons 256"
 
+-- why a text is no statement that can be answered
 abbrev pub query_text : QueryFault → List ℕ
 query_text query.Syntax = codes "syntax"
 query_text (query.Limit which) = query_limit_text which
@@ -48,6 +51,7 @@ query_text (query.UnknownColumn name) = codes "unknown column " ++ name
 abbrev pub column_text : SchemaValue → ℕ → ℕ → List ℕ
 column_text schema relation column = slice_index_or (column_names (columns_at schema relation)) column []
 
+-- why a change of one row is refused
 abbrev pub state_text : SchemaValue → StateFault → List ℕ
 state_text schema (state.UnknownRelation name) = codes "unknown relation " ++ name
 state_text schema (state.Width relation given) = codes "width " ++ decimal given ++ codes ", relation has " ++ decimal (length (columns_at schema relation))
@@ -60,6 +64,7 @@ state_text schema state.NoMemory = []
 abbrev pub record_text : ℕ → List ℕ → List ℕ
 record_text number said = codes "record " ++ decimal number ++ codes ": " ++ said
 
+-- why a file of rows is refused
 abbrev pub csv_text : SchemaValue → ℕ → CsvFault → List ℕ
 csv_text schema relation csv.Header = codes "header"
 csv_text schema relation csv.TooMany = codes "limit records 1000000"
@@ -73,6 +78,7 @@ abbrev pub variable_text : Option (List ℕ) → List ℕ
 variable_text None = codes "-"
 variable_text (Some name) = name
 
+-- the limits of a query's terms
 abbrev pub step_limit_text : StepLimit → List ℕ
 step_limit_text step_limit.Disjuncts = codes "limit disjuncts 64"
 step_limit_text step_limit.Rows = codes "limit rows 64"
@@ -84,6 +90,7 @@ step_text schema (step.NotCovered variable mentioned) = codes "no maximal object
 step_text schema (step.Limit which) = step_limit_text which
 step_text schema step.NoMemory = []
 
+-- why a definition is refused
 abbrev pub define_text : SchemaValue → DefineFault → List ℕ
 define_text schema (define.Schema fault) = cause_text fault
 define_text schema (define.Breaks fd object first second) = codes "breaks " ++ fd_text schema fd ++ codes " with rows " ++ row_text first ++ codes " and " ++ row_text second
@@ -93,6 +100,7 @@ define_text schema define.NoMemory = []
 abbrev pub inconsistent_text : Value → Value → List ℕ
 inconsistent_text less greater = codes "inconsistent " ++ value_text less ++ codes " and " ++ value_text greater
 
+-- why a statement is refused
 abbrev pub refusal_text : SchemaValue → Refusal → List ℕ
 refusal_text schema (Query fault) = query_text fault
 refusal_text schema (State fault) = state_text schema fault
@@ -116,23 +124,28 @@ abbrev pub IsQueryMemory : QueryFault → Type 0
 IsQueryMemory query.NoMemory = Unit {0}
 IsQueryMemory _ = ⊥
 
+-- want of memory in a change
 abbrev pub IsStateMemory : StateFault → Type 0
 IsStateMemory state.NoMemory = Unit {0}
 IsStateMemory _ = ⊥
 
+-- want of memory in a file of rows
 abbrev pub IsCsvMemory : CsvFault → Type 0
 IsCsvMemory csv.NoMemory = Unit {0}
 IsCsvMemory _ = ⊥
 
+-- want of memory among the terms
 abbrev pub IsStepMemory : StepFault → Type 0
 IsStepMemory step.NoMemory = Unit {0}
 IsStepMemory _ = ⊥
 
+-- want of memory in a definition
 abbrev pub IsDefineMemory : DefineFault → Type 0
 IsDefineMemory define.NoMemory = Unit {0}
 IsDefineMemory (define.Schema schema.NoMemory) = Unit {0}
 IsDefineMemory _ = ⊥
 
+-- the refusal is want of memory, which is never told
 abbrev pub IsNoMemory : Refusal → Type 0
 IsNoMemory (Query fault) = IsQueryMemory fault
 IsNoMemory (State fault) = IsStateMemory fault

@@ -44,6 +44,7 @@ fd_at schema number = slice_index_or schema.fds number (record { left = empty; r
 abbrev pub by_line : SchemaValue → ℕ → List ℕ
 by_line schema number = codes "  by " ++ fd_text schema (fd_at schema number) ++ codes "\n"
 
+-- the closure, and the dependencies that lead there
 abbrev pub closure_reply : SchemaValue → FinSet nat_cmp → List ℕ → List ℕ
 closure_reply schema closed used = codes "closure" ++ attributes_text schema closed ++ codes "\n" ++ flat_map (by_line schema) used
 

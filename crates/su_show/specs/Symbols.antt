@@ -20,6 +20,7 @@ variable_at q v = slice_index_or q.variables v None
 abbrev pub pair_ref : SchemaValue → Resolved → ℕ → Ref
 pair_ref schema q k = record { variable = variable_at q (k / width schema); attribute = name_at (attribute_names schema) (k % width schema) }
 
+-- a constant as it is written, a variable by its attribute
 abbrev pub symbol_text : SchemaValue → Resolved → Sym → List ℕ
 symbol_text schema q (Const c) = spaced (value_symbols c)
 symbol_text schema q (Var k) = spaced (ref_symbols (pair_ref schema q k))

@@ -59,6 +59,7 @@ abbrev pub compare_line : SchemaValue → Resolved → Tab → ℕ → List ℕ
 compare_line schema q t i =
     codes "  compare " ++ symbol_at schema q t.head (t.outputs + 2 * i) ++ 32 ∷ operator_at t.operators i ++ 32 ∷ symbol_at schema q t.head (t.outputs + 2 * i + 1) ++ codes "\n"
 
+-- the comparisons of a tableau
 abbrev pub compare_lines : SchemaValue → Resolved → Tab → List ℕ
 compare_lines schema q t = flat_map (compare_line schema q t) (range_with_len 0 (length t.operators))
 

@@ -25,7 +25,8 @@ use Rattle.su_sql.specs.declared.tables.Fixed.{Fixed}
 use Rattle.su_sql.specs.declared.tables.Table.{Table}
 use Rattle.su_sql.specs.declared.cells.Cell.{Cell}
 use Rattle.su_sql.specs.Selects.{IsRowOf, value_at, operand_value, Joins, Fixes, Compares, IsSelected}
-use Rattle.su_sql.specs.Making.{no_row, place, cell_at, cells_in, cells_of, is_variable, is_same, place_of, first_place, operand_of, comparison_of, joins_for, joins_at, joins_of, fixed_for, fixed_at, fixed_of, table_of, select_of, IsJoined}
+use Rattle.su_sql.specs.Making.{operand_of, comparison_of, joins_for, joins_at, joins_of, fixed_for, fixed_at, fixed_of, table_of, select_of, IsJoined}
+use Rattle.su_sql.specs.Cells.{no_row, place, cell_at, cells_in, cells_of, is_variable, is_same, place_of, first_place}
 
 -- ---- symbols and places
 

@@ -18,7 +18,8 @@ use Rattle.su_answer.proofs.Zipping.{zip_first, zip_second}
 use Rattle.su_sql.specs.declared.tables.Select.{Select}
 use Rattle.su_sql.specs.Selects.{IsSelected}
 use Rattle.su_sql.specs.Stored.{AreStored}
-use Rattle.su_sql.specs.Making.{IsSelectOf, MeanAnswers, GiveAnswer}
+use Rattle.su_sql.specs.Making.{IsSelectOf}
+use Rattle.su_sql.specs.Meaning.{MeanAnswers, GiveAnswer}
 use Rattle.su_sql.proofs.Choosing.{selected_is_output}
 use Rattle.su_sql.proofs.Stored.{outputs_are_answers}
 

@@ -6,7 +6,8 @@ use Rattle.su_lex.specs.declared.spans.Span.{Span}
 use Rattle.su_state.specs.DatabaseValue.{DatabaseValue}
 use Rattle.su_session.specs.declared.replies.Reply.{Reply}
 use Rattle.su_sql.specs.declared.dialects.Dialect.{Dialect}
-use Rattle.su_sql.specs.Statements.{Writes, AreWritten, output_of, some_refused, text_at}
+use Rattle.su_sql.specs.Statements.{Writes}
+use Rattle.su_sql.specs.Scripts.{AreWritten, output_of, some_refused, text_at}
 
 written_more : (d : Dialect) (texts : List (List ℕ)) (replies : List Reply) (old mid new : DatabaseValue) (text : List ℕ) (reply : Reply) → AreWritten d old texts replies mid → Writes d mid text reply new → AreWritten d old (texts ++ text ∷ []) (replies ++ reply ∷ []) new
 written_more d [] [] old mid new text reply h w = (new, subst (λ (x : DatabaseValue). Writes d x text reply new) h w, refl)

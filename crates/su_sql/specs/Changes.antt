@@ -1,6 +1,6 @@
--- Definitions and changes as SQL, and what is written as comments.
+-- Definitions and changes as SQL.
 -- A relation is a set: an insert of a row that is there does nothing, and no more is asked of an engine than `where not exists`.
-use Rattle.std.specs.Prelude.{ℕ, ◌==◌, ◌||◌, Bool, true, false, Option, Some, None, List, [], ◌∷◌, ◌++◌, map, get_or, length, codes, pos}
+use Rattle.std.specs.Prelude.{ℕ, true, Option, Some, None, List, [], ◌∷◌, ◌++◌, map, get_or, length, codes, pos}
 use Rattle.std.specs.List.{range_with_len}
 use Rattle.su_base.specs.declared.values.Column.{Column}
 use Rattle.su_base.specs.declared.values.Value.{Value}
@@ -16,20 +16,20 @@ use Rattle.su_query.specs.declared.conditions.NamedCond.{NamedCond}
 use Rattle.su_query.specs.declared.conditions.NamedCond.TheOpen.{NamedCond-F, Compare, Not, All, Any}
 use Rattle.su_query.specs.declared.conditions.NamedCond.TheFolds.{fold-NamedCond}
 use Rattle.su_sql.specs.declared.dialects.Dialect.{Dialect}
-use Rattle.su_sql.specs.declared.dialects.Dialect.TheVariants.{Postgres, Sqlite, Spark}
-use Rattle.su_sql.specs.Texts.{led, name_text, column_kind, relation_text, column_text, literal_text, value_text, collation, kind_text, operator_text}
+use Rattle.su_sql.specs.Texts.{led, name_text, column_kind, relation_text, column_text, value_text, collation, kind_text, operator_text}
 use Rattle.su_sql.specs.Queries.{order_text}
 
 -- ---- definitions
-
+-- a column with its kind
 abbrev pub column_line : Dialect → Column → List ℕ
 column_line d column = name_text d column.name ++ 32 ∷ kind_text d column.kind
 
+-- the table of a relation
 abbrev pub create_text : Dialect → SchemaValue → ℕ → List ℕ
 create_text d schema r = codes "create table " ++ relation_text d schema r ++ led (codes " (") (codes ", ") (map (column_line d) (columns_at schema r)) ++ codes ");\n"
 
 -- ---- single rows
-
+-- the column has the row's value
 abbrev pub equality_text : Dialect → SchemaValue → ℕ → List Value → ℕ → List ℕ
 equality_text d schema r row c = column_text d schema r c ++ codes " = " ++ value_text d (get_or row c (Int (pos 0)))
 
@@ -37,15 +37,17 @@ equality_text d schema r row c = column_text d schema r c ++ codes " = " ++ valu
 abbrev pub is_row_text : Dialect → SchemaValue → ℕ → List Value → List ℕ
 is_row_text d schema r row = led (codes " where ") (codes " and ") (map (equality_text d schema r row) (range_with_len 0 (length row)))
 
+-- the row goes in, where it isn't there
 abbrev pub insert_text : Dialect → SchemaValue → ℕ → List Value → List ℕ
 insert_text d schema r row =
     codes "insert into " ++ relation_text d schema r ++ led (codes " select ") (codes ", ") (map (value_text d) row) ++ codes " where not exists (select 1 from " ++ relation_text d schema r ++ is_row_text d schema r row ++ codes ");\n"
 
+-- the row goes out
 abbrev pub delete_text : Dialect → SchemaValue → ℕ → List Value → List ℕ
 delete_text d schema r row = codes "delete from " ++ relation_text d schema r ++ is_row_text d schema r row ++ codes ";\n"
 
 -- ---- conditions
-
+-- a side of a comparison
 abbrev pub side_text : Dialect → NamedOperand → List ℕ
 side_text d (Ref ref) = name_text d ref.attribute
 side_text d (Const value) = value_text d value
@@ -55,6 +57,7 @@ abbrev pub kind_at : SchemaValue → ℕ → Option ℕ → Kind
 kind_at schema r None = kind.Int
 kind_at schema r (Some c) = column_kind schema r c
 
+-- the kind of a side of a comparison
 abbrev pub side_kind : SchemaValue → ℕ → NamedOperand → Kind
 side_kind schema r (Ref ref) = kind_at schema r (place_of (column_names (columns_at schema r)) ref.attribute)
 side_kind schema r (Const value) = kind_of value
@@ -64,51 +67,27 @@ abbrev pub many_text : List ℕ → List ℕ → List (List ℕ) → List ℕ
 many_text none word [] = none
 many_text none word parts = led (codes "(") word parts ++ codes ")"
 
+-- a condition from the texts of its parts
 abbrev pub condition_step : Dialect → SchemaValue → ℕ → NamedCond-F (List ℕ) → List ℕ
 condition_step d schema r (Compare left op right) = side_text d left ++ operator_text op ++ side_text d right ++ collation d (side_kind schema r right)
 condition_step d schema r (Not part) = codes "not (" ++ part ++ codes ")"
 condition_step d schema r (All parts) = many_text (codes "1 = 1") (codes " and ") parts
 condition_step d schema r (Any parts) = many_text (codes "1 = 0") (codes " or ") parts
 
+-- the text of a condition
 abbrev pub condition_text : Dialect → SchemaValue → ℕ → NamedCond → List ℕ
 condition_text d schema r = fold-NamedCond (List ℕ) (condition_step d schema r)
 
+-- the rows go out of which the condition is true
 abbrev pub delete_where_text : Dialect → SchemaValue → ℕ → NamedCond → List ℕ
 delete_where_text d schema r cond = codes "delete from " ++ relation_text d schema r ++ codes " where " ++ condition_text d schema r cond ++ codes ";\n"
 
 -- ---- rows that are shown
-
+-- a column, ordered by its bytes, under its own name
 abbrev pub shown_column : Dialect → SchemaValue → ℕ → ℕ → List ℕ
 shown_column d schema r c = column_text d schema r c ++ collation d (column_kind schema r c) ++ codes " as " ++ column_text d schema r c
 
+-- all rows of the relation, ascending, each once
 abbrev pub print_text : Dialect → SchemaValue → ℕ → List ℕ
 print_text d schema r =
     led (codes "select distinct ") (codes ", ") (map (shown_column d schema r) (range_with_len 0 (length (columns_at schema r)))) ++ codes "\nfrom " ++ relation_text d schema r ++ order_text (length (columns_at schema r)) ++ codes ";\n"
-
--- ---- comments
-
-abbrev pub ends_line : ℕ → Bool
-ends_line b = (b == 10) || (b == 13)
-
--- what stands before a byte: the flag tells whether it begins a line
-abbrev pub comment_sign : Bool → List ℕ
-comment_sign true = codes "-- "
-comment_sign false = []
-
--- each line of the text as a comment
-abbrev pub comment_from : Bool → List ℕ → List ℕ
-comment_from begins [] = []
-comment_from begins (b ∷ bytes) = comment_sign begins ++ b ∷ comment_from (ends_line b) bytes
-
-abbrev pub comment_text : List ℕ → List ℕ
-comment_text bytes = comment_from true bytes
-
--- how the engine loads a file
-abbrev pub load_command : Dialect → SchemaValue → ℕ → List ℕ → List ℕ
-load_command Postgres schema r path = codes "\\copy " ++ relation_text Postgres schema r ++ codes " from " ++ literal_text Postgres path ++ codes " with (format csv, header)\n"
-load_command Sqlite schema r path = codes ".import --csv --skip 1 " ++ literal_text Sqlite path ++ 32 ∷ relation_text Sqlite schema r ++ codes "\n"
-load_command Spark schema r path =
-    codes "create or replace temporary view loaded using csv options (header 'true', path " ++ literal_text Spark path ++ codes "); insert into " ++ relation_text Spark schema r ++ codes " select * from loaded;\n"
-
-abbrev pub load_text : Dialect → SchemaValue → ℕ → List ℕ → List ℕ
-load_text d schema r path = comment_text (load_command d schema r path)

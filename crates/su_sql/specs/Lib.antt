@@ -5,3 +5,10 @@ pub mod Texts
 pub mod Queries
 pub mod Changes
 pub mod Statements
+pub mod Comments
+pub mod Cells
+pub mod Tables
+pub mod Scripts
+pub mod Meaning
+pub mod Operands
+pub mod Accepted

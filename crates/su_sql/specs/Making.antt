@@ -1,27 +1,16 @@
 -- The select of what is joined for a kept term.
--- cell: a symbol of a row to be joined, with its place; the first place of a variable stands for it
 -- join: each further place of a variable has the value of the first one; fixed: the place of a constant has that value
-use Rattle.std.specs.Prelude.{◌≡◌, ◌↔◌, ◌&&◌, ◌==◌, if◌then◌else◌, ℕ, Bool, false, List, [], ◌∷◌, Option, Some, None, find, flat_map, map, get_or, length, Contains}
-use Rattle.std.specs.List.{AllZip, range_with_len}
-use Rattle.std.specs.Ordering.{nat_cmp}
-use Rattle.std.specs.FinSet.{FinSet}
-use Rattle.su_base.specs.declared.values.Value.{Value}
+use Rattle.std.specs.Prelude.{◌≡◌, if◌then◌else◌, ℕ, List, [], ◌∷◌, flat_map, map, length, Contains}
 use Rattle.su_tableau.specs.declared.symbols.Sym.{Sym}
 use Rattle.su_tableau.specs.declared.symbols.Sym.TheVariants.{Const, Var}
 use Rattle.su_schema.specs.SchemaValue.{SchemaValue}
-use Rattle.su_state.specs.DatabaseValue.{DatabaseValue}
 use Rattle.su_exec.specs.declared.tasks.Source.{Source}
 use Rattle.su_exec.specs.declared.tasks.TaskRow.{TaskRow}
 use Rattle.su_exec.specs.declared.tasks.Compared.{Compared}
 use Rattle.su_exec.specs.declared.tasks.Task.{Task}
 use Rattle.su_exec.specs.Tasks.{Occurs}
-use Rattle.su_query.specs.declared.resolving.Resolved.{Resolved}
 use Rattle.su_min.specs.Kept.{Minimised}
-use Rattle.su_min.specs.Reduction.{term_at}
-use Rattle.su_answer.specs.declared.preparing.Prepared.{Prepared}
-use Rattle.su_answer.specs.Prepared.{IsPrepared}
 use Rattle.su_answer.specs.Joined.{IsTaskOf}
-use Rattle.su_answer.specs.Answers.{IsAnswer, IsAnswerOf}
 use Rattle.su_sql.specs.declared.tables.Table.{Table}
 use Rattle.su_sql.specs.declared.tables.Place.{Place}
 use Rattle.su_sql.specs.declared.tables.Operand.{Operand}
@@ -31,46 +20,14 @@ use Rattle.su_sql.specs.declared.tables.Fixed.{Fixed}
 use Rattle.su_sql.specs.declared.tables.Comparison.{Comparison}
 use Rattle.su_sql.specs.declared.tables.Select.{Select}
 use Rattle.su_sql.specs.declared.cells.Cell.{Cell}
-use Rattle.su_sql.specs.Selects.{IsInUnion, AreRowsOf}
-use Rattle.su_sql.specs.Stored.{AreStored}
+use Rattle.su_sql.specs.Cells.{place, cells_of, is_same, first_place}
 
-abbrev pub no_row : TaskRow
-no_row = record { cells = []; sources = [] }
-
-abbrev pub place : ℕ → ℕ → Place
-place t c = record { table = t; cell = c }
-
--- the cell with this number in the row
-abbrev pub cell_at : ℕ → TaskRow → ℕ → Cell
-cell_at t row c = record { place = place t c; symbol = get_or row.cells c (Var 0) }
-
--- the cells of a row, which is that of table t
-abbrev pub cells_in : ℕ → TaskRow → List Cell
-cells_in t row = map (cell_at t row) (range_with_len 0 (length row.cells))
-
--- the cells of all rows
-abbrev pub cells_of : List TaskRow → List Cell
-cells_of rows = flat_map (λ t. cells_in t (get_or rows t no_row)) (range_with_len 0 (length rows))
-
-abbrev pub is_variable : ℕ → Sym → Bool
-is_variable k (Var j) = j == k
-is_variable k (Const value) = false
-
-abbrev pub is_same : Place → Place → Bool
-is_same p q = (p.table == q.table) && (p.cell == q.cell)
-
-abbrev pub place_of : Option Cell → Place
-place_of (Some c) = c.place
-place_of None = place 0 0
-
--- the first place where the variable stands
-abbrev pub first_place : List Cell → ℕ → Place
-first_place cells k = place_of (find (λ c. is_variable k c.symbol) cells)
-
+-- a constant stands for itself, a variable for its first place
 abbrev pub operand_of : List Cell → Sym → Operand
 operand_of cells (Const value) = operand.Const value
 operand_of cells (Var k) = operand.At (first_place cells k)
 
+-- the comparison of what its sides stand for
 abbrev pub comparison_of : List Cell → Compared → Comparison
 comparison_of cells c = record { left = operand_of cells c.left; op = c.op; right = operand_of cells c.right }
 
@@ -78,26 +35,33 @@ comparison_of cells c = record { left = operand_of cells c.left; op = c.op; righ
 abbrev pub join_to : Place → Place → List Join
 join_to first p = if is_same first p then [] else (record { left = first; right = p } ∷ [])
 
+-- a variable at a place is joined with its first place
 abbrev pub joins_for : List Cell → Place → Sym → List Join
 joins_for cells p (Var k) = join_to (first_place cells k) p
 joins_for cells p (Const value) = []
 
+-- the join of a cell, if it wants one
 abbrev pub joins_at : List Cell → Cell → List Join
 joins_at cells c = joins_for cells c.place c.symbol
 
+-- all joins of the cells
 abbrev pub joins_of : List Cell → List Join
 joins_of cells = flat_map (joins_at cells) cells
 
+-- a constant at a place fixes its value
 abbrev pub fixed_for : Place → Sym → List Fixed
 fixed_for p (Const value) = record { place = p; value = value } ∷ []
 fixed_for p (Var k) = []
 
+-- what a cell fixes
 abbrev pub fixed_at : Cell → List Fixed
 fixed_at c = fixed_for c.place c.symbol
 
+-- all that the cells fix
 abbrev pub fixed_of : List Cell → List Fixed
 fixed_of cells = flat_map fixed_at cells
 
+-- the table of a row: its sources
 abbrev pub table_of : TaskRow → Table
 table_of row = record { sources = row.sources }
 
@@ -111,6 +75,7 @@ select_with task cells = record {
   outputs = map (operand_of cells) task.outputs;
 }
 
+-- the select of a task
 abbrev pub select_of : Task → Select
 select_of task = select_with task (cells_of task.rows)
 
@@ -127,18 +92,3 @@ pub record IsSelectOf (schema : SchemaValue) (m : Minimised) (s : Select) : Type
   pub is_task : IsTaskOf schema m.tableau m.mask task
   pub joined : IsJoined task
   pub is : s ≡ select_of task
-
--- over any stored rows the selects give exactly the answers of the query
-abbrev pub MeanAnswers : SchemaValue → Prepared → List Select → Type 0
-MeanAnswers schema p selects = (db : DatabaseValue) → db.schema ≡ schema → AreStored db → (h : List Value) → IsInUnion db.tables selects h ↔ IsAnswer db p h
-
--- over any stored rows, the rows of the selects are the answer of the query
-abbrev pub GiveAnswer : SchemaValue → List (FinSet nat_cmp) → Resolved → List Select → Type 0
-GiveAnswer schema maximal q selects = (db : DatabaseValue) (rows : List (List Value)) → db.schema ≡ schema → AreStored db → AreRowsOf db.tables selects rows → IsAnswerOf db maximal q rows
-
--- the selects of the kept terms of the prepared query
-pub record AreSelectsOf (schema : SchemaValue) (maximal : List (FinSet nat_cmp)) (q : Resolved) (selects : List Select) : Type 0 where
-  pub prepared : Prepared
-  pub is_prepared : IsPrepared schema maximal q prepared
-  pub selects_are : AllZip (λ k s. IsSelectOf schema (term_at prepared.minimals k) s) prepared.reduced.kept selects
-  pub answer : GiveAnswer schema maximal q selects

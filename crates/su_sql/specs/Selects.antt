@@ -39,13 +39,15 @@ abbrev pub operand_value : List (List Value) → Operand → Value
 operand_value choice (At p) = value_at choice p
 operand_value choice (Const value) = value
 
--- the conditions on a choice
+-- both places have the same value
 abbrev pub Joins : List (List Value) → Join → Type 0
 Joins choice join = value_at choice join.left ≡ value_at choice join.right
 
+-- the place has the value
 abbrev pub Fixes : List (List Value) → Fixed → Type 0
 Fixes choice fixed = value_at choice fixed.place ≡ fixed.value
 
+-- the comparison is true of the choice
 abbrev pub Compares : List (List Value) → Comparison → Type 0
 Compares choice c = IsTrue (compares c.op (operand_value choice c.left) (operand_value choice c.right))
 

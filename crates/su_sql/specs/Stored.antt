@@ -3,5 +3,6 @@
 use Rattle.std.specs.Prelude.{ℕ, All}
 use Rattle.su_state.specs.DatabaseValue.{DatabaseValue, IsTyped, rows_of, columns_of}
 
+-- each relation has rows of its columns' kinds
 abbrev pub AreStored : DatabaseValue → Type 0
 AreStored db = (relation : ℕ) → All (IsTyped (columns_of db relation)) (rows_of db relation)

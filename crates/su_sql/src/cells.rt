@@ -1,6 +1,6 @@
 //! The symbols of what is joined, each with its place.
 ghost use Rattle.std.specs.Prelude.{◌≡◌, ◌++◌, OnOk, IfOk};
-ghost use Rattle.su_sql.specs.Making.{cells_in, cells_of};
+ghost use Rattle.su_sql.specs.Cells.{cells_in, cells_of};
 
 use crate::tables::Place;
 use std::alloc::Global;

@@ -1,6 +1,6 @@
 //! What is no statement of SQL, as comments.
 ghost use Rattle.std.specs.Prelude.{◌≡◌, ◌++◌, ◌∷◌, [], OnOk, IfOk};
-ghost use Rattle.su_sql.specs.Changes.{ends_line, comment_sign, comment_text, load_command, load_text};
+ghost use Rattle.su_sql.specs.Comments.{ends_line, comment_sign, comment_text, load_command, load_text};
 
 use crate::columns::push_relation;
 use crate::dialects::Dialect;

@@ -1,6 +1,7 @@
 //! What the cells ask of their places: equal symbols stand for equal values.
 ghost use Rattle.std.specs.Prelude.{◌≡◌, ◌++◌, map, OnOk, IfOk};
-ghost use Rattle.su_sql.specs.Making.{is_variable, is_same, first_place, operand_of, comparison_of, joins_at, joins_of, fixed_at, fixed_of};
+ghost use Rattle.su_sql.specs.Making.{operand_of, comparison_of, joins_at, joins_of, fixed_at, fixed_of};
+ghost use Rattle.su_sql.specs.Cells.{is_variable, is_same, first_place};
 
 use crate::cells::Cell;
 use crate::tables::{Comparison, Fixed, Join, Operand, Place};

@@ -1,7 +1,8 @@
 //! A script as SQL.
 ghost use Rattle.std.specs.Prelude.{◌≡◌, ◌++◌, IfOk, OnOk};
 ghost use Rattle.su_sql.specs.Changes.{create_text};
-ghost use Rattle.su_sql.specs.Statements.{tables_text, IsAdded, WritesScript};
+ghost use Rattle.su_sql.specs.Statements.{IsAdded};
+ghost use Rattle.su_sql.specs.Scripts.{tables_text, WritesScript};
 
 use crate::changes::create;
 use crate::dialects::Dialect;

@@ -3,12 +3,14 @@ ghost use Rattle.std.specs.Prelude.{◌≡◌, ◌≤◌, if◌then◌else◌, n
 ghost use Rattle.su_maxobj.specs.MaximalObjects.{AreMaximalObjects};
 ghost use Rattle.su_query.specs.Lookup.{resolved_of};
 ghost use Rattle.su_query.specs.Reading.{AreFew, HasFew};
-ghost use Rattle.su_sql.specs.Changes.{comment_text, create_text};
-ghost use Rattle.su_sql.specs.Statements.{RefusesWith, WritesQuery, accepted_text, WritesReply, WritesLoad, WritesStatement, WritesDefinition, Writes};
+ghost use Rattle.su_sql.specs.Changes.{create_text};
+ghost use Rattle.su_sql.specs.Comments.{comment_text};
+ghost use Rattle.su_sql.specs.Statements.{RefusesWith, WritesQuery, WritesReply, WritesLoad, WritesStatement, WritesDefinition, Writes};
+ghost use Rattle.su_sql.specs.Accepted.{accepted_text};
 ghost use Rattle.su_show.specs.Refusing.{refusal_line, IsNoMemory};
 ghost use Rattle.su_session.specs.Retrieving.{IsRefusalOf, HasTerms};
 ghost use Rattle.su_session.specs.Telling.{Accepts};
-ghost use Rattle.su_sql.specs.Making.{AreSelectsOf};
+ghost use Rattle.su_sql.specs.Meaning.{AreSelectsOf};
 
 use crate::changes::{create, delete, delete_where, insert, print};
 use crate::comments::{comment, load};

@@ -3,7 +3,8 @@ ghost use Rattle.std.specs.Prelude.{◌≡◌, ◌<◌, ◌++◌, length, map, d
 ghost use Rattle.std.specs.List.{range_with_len};
 ghost use Rattle.su_ddl.specs.Shown.{name_at};
 ghost use Rattle.su_sql.specs.Texts.{led, name_text};
-ghost use Rattle.su_sql.specs.Queries.{place_text, operand_kind, operand_text, ordered_text, join_text, fixed_text, comparison_text, conditions_of, output_text, outputs_of, select_text, place_number, order_text, null_text, union_text, query_text};
+ghost use Rattle.su_sql.specs.Queries.{join_text, fixed_text, comparison_text, conditions_of, output_text, outputs_of, select_text, place_number, order_text, null_text, union_text, query_text};
+ghost use Rattle.su_sql.specs.Operands.{place_text, operand_kind, operand_text, ordered_text};
 
 use crate::dialects::Dialect;
 use crate::parts::{push, push_led, push_number};

@@ -18,7 +18,7 @@ use Rattle.su_state.specs.DatabaseValue.{DatabaseValue, table_in, rows_in, IsTyp
 use Rattle.su_state.specs.Definitions.{tables_with, BreaksThrough, HoldsThrough, NewBreaks, Defines}
 use Rattle.su_state.specs.declared.faults.DefineFault.{DefineFault}
 use Rattle.su_state.specs.declared.faults.DefineFault.TheVariants.{Schema, Breaks, NoMemory}
-use Rattle.su_state.specs.Adding.{HaveTables, HasAdded, IsNarrow, AddedHolds, IsAddedFault}
+use Rattle.su_state.specs.inside.Adding.{HaveTables, HasAdded, IsNarrow, AddedHolds, IsAddedFault}
 use Rattle.su_state.proofs.Columns.{object_on}
 use Rattle.su_state.proofs.Empty.{empty_table, no_rows, at_width}
 use Rattle.su_state.proofs.Kept.{blank}

@@ -9,7 +9,7 @@ use Rattle.su_base.specs.declared.values.Value.{Value}
 use Rattle.su_index.specs.Matches.{matches, IsMatch}
 use Rattle.su_index.proofs.Matched.{has_value-decides, match_of, match_unique}
 use Rattle.su_state.specs.declared.sides.Sides.{Sides}
-use Rattle.su_state.specs.Sides.{AgreeAt, Clash, row_at}
+use Rattle.su_state.specs.inside.Sides.{AgreeAt, Clash, row_at}
 
 -- none of the first k rows that have the value in the column agrees with the row
 abbrev pub NoneAlike : FinSet nat_cmp → List (List Value) → List Value → ℕ → Value → ℕ → Type 0

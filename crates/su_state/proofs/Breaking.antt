@@ -10,11 +10,11 @@ use Rattle.su_schema.specs.SchemaValue.{SchemaValue, ObjectEntry}
 use Rattle.su_schema.specs.Checks.{columns_at}
 use Rattle.su_state.specs.DatabaseValue.{table_in, rows_in, LiesIn, Break}
 use Rattle.su_state.specs.declared.sides.Sides.{Sides}
-use Rattle.su_state.specs.Sides.{AreSidesOf, Clash, IsLeastClash, row_at}
-use Rattle.su_state.specs.Pairs.{IsLeastPair}
+use Rattle.su_state.specs.inside.Sides.{AreSidesOf, Clash, IsLeastClash, row_at}
+use Rattle.su_state.specs.inside.Pairs.{IsLeastPair}
 use Rattle.su_state.specs.Changes.{IsBreach, IsLeastBreach}
 use Rattle.su_state.specs.Definitions.{IsLeastBreak, BreaksThrough, HoldsThrough}
-use Rattle.su_state.specs.Adding.{HaveTables}
+use Rattle.su_state.specs.inside.Adding.{HaveTables}
 use Rattle.su_state.proofs.Columns.{break_from_clash, clash_from_break}
 
 module _ (schema : SchemaValue) (relation : ℕ) (rows : List (List Value)) (row : List Value) (f o : ℕ) (fd : Fd) (entry : ObjectEntry) (numbered : slice_get schema.fds f ≡ Some fd) (placed : slice_get schema.objects o ≡ Some entry) where

@@ -18,7 +18,7 @@ use Rattle.su_schema.specs.Checks.{columns_at}
 use Rattle.su_schema.proofs.Ascending.{found}
 use Rattle.su_state.specs.DatabaseValue.{read, Agree, Break}
 use Rattle.su_state.specs.declared.sides.Sides.{Sides}
-use Rattle.su_state.specs.Sides.{AreColumnsOf, AreSidesOf, AgreeAt, Clash}
+use Rattle.su_state.specs.inside.Sides.{AreColumnsOf, AreSidesOf, AgreeAt, Clash}
 
 read_column : (object : ObjectEntry) (a c : ℕ) (row : List Value) → column_of object a ≡ Some c → read object a row ≡ slice_get row c
 read_column object a c row e = ap (λ (o : Option ℕ). option_and_then (slice_get row) o) e

@@ -14,10 +14,10 @@ use Rattle.su_rel.specs.Stored.{Stored, HaveWidth}
 use Rattle.su_schema.specs.SchemaValue.{SchemaValue, ObjectEntry}
 use Rattle.su_state.specs.DatabaseValue.{DatabaseValue, table_of, rows_of, columns_of, IsTyped, LiesIn, Break, HoldsOn, IsWellKept}
 use Rattle.su_state.specs.declared.sides.Sides.{Sides}
-use Rattle.su_state.specs.Sides.{AreSidesOf, Clash}
+use Rattle.su_state.specs.inside.Sides.{AreSidesOf, Clash}
 use Rattle.su_state.specs.Changes.{NoBreach, InsertAnswers, Inserts}
 use Rattle.su_state.specs.Loads.{InsertsAll}
-use Rattle.su_state.specs.Parts.{HaveOneWidth}
+use Rattle.su_state.specs.inside.Parts.{HaveOneWidth}
 use Rattle.su_state.specs.Filling.{KeepThrough, MayTake}
 use Rattle.su_state.proofs.Columns.{clash_from_break, columns_few}
 use Rattle.su_state.proofs.Differing.{differ_put}

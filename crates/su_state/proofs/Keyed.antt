@@ -10,7 +10,7 @@ use Rattle.su_base.specs.declared.values.Value.{Value}
 use Rattle.su_base.specs.contracts.values.ValueOrd.TheImpl.{ghosts}
 use Rattle.su_base.specs.Value.{compare_lists}
 use Rattle.su_state.specs.Changes.{AreInOrder}
-use Rattle.su_state.specs.Leads.{IsRowLead}
+use Rattle.su_state.specs.inside.Leads.{IsRowLead}
 use Rattle.su_rel.specs.Stored.{AllDiffer}
 use Rattle.su_state.proofs.Differing.{differ_moved}
 use Rattle.su_state.proofs.Copying.{same_rows}

@@ -12,7 +12,7 @@ use Rattle.su_base.specs.declared.values.Value.TheVariants.{Int, Text}
 use Rattle.su_base.specs.Value.{compare_values}
 use Rattle.su_base.proofs.Same.{value_eq-Decides}
 use Rattle.su_base.specs.contracts.values.ValueOrd.TheImpl.Laws.{matches_eq-law}
-use Rattle.su_state.specs.Leads.{lead_of_number, lead_of_bytes, IsLead, IsRowLead}
+use Rattle.su_state.specs.inside.Leads.{lead_of_number, lead_of_bytes, IsLead, IsRowLead}
 use Rattle.su_index.proofs.Runs.{same_order, values_total}
 
 -- the seven bytes written out

@@ -19,7 +19,7 @@ use Rattle.su_index.proofs.Matched.{has_value-decides, match_of, match_unique}
 use Rattle.su_index.proofs.Runs.{values_total}
 use Rattle.su_state.specs.DatabaseValue.{IsAtMost}
 use Rattle.su_state.specs.declared.sides.Sides.{Sides}
-use Rattle.su_state.specs.Sides.{Clash, IsLeastClash, IsLesser, row_at}
+use Rattle.su_state.specs.inside.Sides.{Clash, IsLeastClash, IsLesser, row_at}
 
 pub rows_total : IsTotalOrder compare_lists
 rows_total = lists_total values_total

@@ -13,8 +13,8 @@ use Rattle.su_base.specs.declared.values.Value.{Value}
 use Rattle.su_base.specs.declared.values.Value.TheVariants.{Int}
 use Rattle.su_base.specs.contracts.values.ValuePartialEq.TheImpl.{ghosts}
 use Rattle.su_state.specs.declared.sides.Sides.{Sides}
-use Rattle.su_state.specs.Sides.{AgreeAt, Clash, row_at}
-use Rattle.su_state.specs.Parts.{part_from, part_of, noted_in, Notes, HaveOneWidth}
+use Rattle.su_state.specs.inside.Sides.{AgreeAt, Clash, row_at}
+use Rattle.su_state.specs.inside.Parts.{part_from, part_of, noted_in, Notes, HaveOneWidth}
 
 -- the part of the first rows' values, with one value more
 part_more : (first : ℕ) (columns : FinSet nat_cmp) (row : List Value) (c : ℕ) (v : Value) → slice_get row c ≡ Some v → part_from first columns (take (suc c) row) ≡ part_from first columns (take c row) ++ cond (contains columns (first + c)) (v ∷ []) []

@@ -51,9 +51,11 @@ IsTyped columns row = map kind_of row ≡ map (λ c. c.kind) columns
 abbrev pub read : ObjectEntry → ℕ → List Value → Option Value
 read object attribute row = option_and_then (slice_get row) (column_of object attribute)
 
+-- two rows have the same values in these attributes, read through the object
 abbrev pub Agree : ObjectEntry → FinSet nat_cmp → List Value → List Value → Type 0
 Agree object attributes row other = (a : ℕ) → IsTrue (contains attributes a) → read object a row ≡ read object a other
 
+-- both sides of the dependency are attributes of the object
 abbrev pub LiesIn : Fd → ObjectEntry → Type 0
 LiesIn fd object = IsTrue (is_subset fd.left (attributes_of object)) × IsTrue (is_subset fd.right (attributes_of object))
 

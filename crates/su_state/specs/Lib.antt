@@ -1,10 +1,6 @@
-pub mod DatabaseValue
 pub mod Changes
-pub mod Loads
+pub mod DatabaseValue
 pub mod Definitions
-pub mod Adding
-pub mod Sides
-pub mod Parts
-pub mod Pairs
 pub mod Filling
-pub mod Leads
+pub mod inside
+pub mod Loads

@@ -4,7 +4,7 @@ ghost use Rattle.su_base.specs.declared.values.Value.{Value};
 ghost use Rattle.su_schema.specs.Checks.{columns_at};
 ghost use Rattle.su_state.specs.Changes.{IsBreach, IsLeastBreach, IsFirstBreach, NoBreach};
 ghost use Rattle.su_state.specs.Filling.{KeepThrough};
-ghost use Rattle.su_state.specs.Sides.{row_at};
+ghost use Rattle.su_state.specs.inside.Sides.{row_at};
 
 use crate::clashes::least_breach;
 use crate::sides::sides_through;

@@ -4,7 +4,7 @@ ghost use Rattle.std.specs.Ordering.{is_lt};
 ghost use Rattle.std.specs.FinSet as set;
 ghost use Rattle.su_base.specs.Value.{compare_lists};
 ghost use Rattle.su_base.specs.declared.values.Value.{Value as Stored};
-ghost use Rattle.su_state.specs.Sides.{AgreeAt, Clash, IsLeastClash, IsLesser, row_at};
+ghost use Rattle.su_state.specs.inside.Sides.{AgreeAt, Clash, IsLeastClash, IsLesser, row_at};
 
 use crate::sides::{Sides, agree, clash};
 use std::cmp::Ordering;

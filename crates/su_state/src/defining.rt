@@ -2,7 +2,7 @@
 ghost use Rattle.std.specs.Prelude.{◌≡◌, ◌<◌, ℕ, length, IfOk, OnOk, IfErr, OnErr};
 ghost use Rattle.su_schema.specs.Defining.{IsWellNamed, applied};
 ghost use Rattle.su_state.specs.Definitions.{HoldsThrough, Defines, tables_with};
-ghost use Rattle.su_state.specs.Adding.{HaveTables, HasAdded, IsNarrow, AddedHolds, IsThroughFault, IsFdFault, IsObjectFault, IsAddedFault, IsSchemaFault};
+ghost use Rattle.su_state.specs.inside.Adding.{HaveTables, HasAdded, IsNarrow, AddedHolds, IsThroughFault, IsFdFault, IsObjectFault, IsAddedFault, IsSchemaFault};
 
 use crate::databases::Database;
 use crate::faults::DefineFault;

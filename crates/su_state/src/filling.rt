@@ -5,7 +5,7 @@ ghost use Rattle.su_rel.specs.Stored.{HaveWidth};
 ghost use Rattle.su_schema.specs.Checks.{columns_at};
 ghost use Rattle.su_state.specs.DatabaseValue.{IsTyped, columns_of, rows_of};
 ghost use Rattle.su_state.specs.Changes.{NoBreach};
-ghost use Rattle.su_state.specs.Parts.{HaveOneWidth};
+ghost use Rattle.su_state.specs.inside.Parts.{HaveOneWidth};
 ghost use Rattle.su_state.specs.Filling.{KeepThrough, MayTake};
 
 use crate::breaches::first_breach;

@@ -3,7 +3,7 @@
 ghost use Rattle.std.specs.Prelude.{◌≡◌, ◌<◌, ◌^◌, slice_index, All, map, IfOk};
 ghost use Rattle.su_rel.specs.Stored.{AllDiffer};
 ghost use Rattle.su_state.specs.Changes.{AreInOrder};
-ghost use Rattle.su_state.specs.Leads.{lead_of_number, lead_of_bytes, IsLead, IsRowLead};
+ghost use Rattle.su_state.specs.inside.Leads.{lead_of_number, lead_of_bytes, IsLead, IsRowLead};
 
 use std::alloc::Global;
 use su_base::{List, NoMemory, Row, Value, copy_row};

@@ -2,9 +2,9 @@
 ghost use Rattle.std.specs.Prelude.{◌≡◌, ◌<◌, ◌≤◌, ℕ, List, length, All, MatchOption, Contains, IsTrue, IfOk};
 ghost use Rattle.std.specs.FinSet as set;
 ghost use Rattle.su_base.specs.declared.values.Value.{Value};
-ghost use Rattle.su_state.specs.Sides.{Clash, TakesLesser, row_at};
-ghost use Rattle.su_state.specs.Parts.{HaveOneWidth};
-ghost use Rattle.su_state.specs.Pairs.{first_at, AreFirsts, AreMarks, IsLeastMarked, IsLeastPair};
+ghost use Rattle.su_state.specs.inside.Sides.{Clash, TakesLesser, row_at};
+ghost use Rattle.su_state.specs.inside.Parts.{HaveOneWidth};
+ghost use Rattle.su_state.specs.inside.Pairs.{first_at, AreFirsts, AreMarks, IsLeastMarked, IsLeastPair};
 
 use crate::clashes::{is_before, least_clash};
 use crate::parts::first_with;

@@ -2,8 +2,8 @@
 ghost use Rattle.std.specs.Prelude.{◌≡◌, ◌<◌, ◌≤◌, ◌++◌, List, length, All, Contains, IfOk};
 ghost use Rattle.std.specs.Bool.{OnTrue};
 ghost use Rattle.su_base.specs.declared.values.Value.{Value};
-ghost use Rattle.su_state.specs.Sides.{Clash, row_at};
-ghost use Rattle.su_state.specs.Parts.{part_of, noted_in, Notes, HaveOneWidth};
+ghost use Rattle.su_state.specs.inside.Sides.{Clash, row_at};
+ghost use Rattle.su_state.specs.inside.Parts.{part_of, noted_in, Notes, HaveOneWidth};
 
 use crate::sides::{Sides, agree};
 use std::alloc::Global;

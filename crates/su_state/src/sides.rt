@@ -3,7 +3,7 @@ ghost use Rattle.std.specs.Prelude.{◌≡◌, ◌<◌, ◌≤◌, ◌↔◌, �
 ghost use Rattle.std.specs.FinSet as set;
 ghost use Rattle.su_schema.specs.SchemaValue.{ObjectEntry, column_of};
 ghost use Rattle.su_state.specs.DatabaseValue.{LiesIn};
-ghost use Rattle.su_state.specs.Sides.{AreColumnsOf, AreSidesOf, AgreeAt, Clash};
+ghost use Rattle.su_state.specs.inside.Sides.{AreColumnsOf, AreSidesOf, AgreeAt, Clash};
 
 use su_base::{AttrSet, Row, Value};
 use su_fd::Fd;

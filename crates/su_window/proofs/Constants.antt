@@ -5,9 +5,9 @@ use Rattle.su_base.specs.declared.values.Value.{Value}
 use Rattle.su_base.specs.declared.values.Value.TheVariants.{Int}
 use Rattle.su_tableau.specs.declared.symbols.Sym.{Sym}
 use Rattle.su_tableau.specs.declared.symbols.Sym.TheVariants.{Const, Var}
-use Rattle.su_chase.specs.Rows.{name_by}
+use Rattle.su_chase.specs.inside.Rows.{name_by}
 use Rattle.su_chase.proofs.Named.{same_const}
-use Rattle.su_window.specs.Reading.{AreConstants}
+use Rattle.su_window.specs.inside.Reading.{AreConstants}
 use Rattle.su_window.proofs.Counted.{in_pushed, of_pushed}
 
 abbrev name_at : List Sym → List Sym → ℕ → Sym

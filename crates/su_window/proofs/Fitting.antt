@@ -23,7 +23,7 @@ use Rattle.su_schema.specs.SchemaValue.{ObjectEntry, attribute_kinds}
 use Rattle.su_state.specs.DatabaseValue.{DatabaseValue, IsWellKept}
 use Rattle.su_chase.specs.Chase.{IsClosed, IsName}
 use Rattle.su_chase.specs.Meeting.{Agree, Meets}
-use Rattle.su_chase.specs.Rows.{name_by, named_tab}
+use Rattle.su_chase.specs.inside.Rows.{name_by, named_tab}
 use Rattle.su_chase.proofs.Answering as answering
 use Rattle.su_chase.proofs.Answering.{settled}
 use Rattle.su_chase.proofs.Reading.{all_members, contains_map, of_map, map_read}
@@ -33,7 +33,7 @@ use Rattle.su_window.specs.Views.{value_for, taken}
 use Rattle.su_window.specs.Window.{Fits, Includes, values_at, InWindow}
 use Rattle.su_window.specs.Members.{Member}
 use Rattle.su_window.specs.Padded.{object_at, row_read, member_read, IsReading, AreReadings, padded_row, padded_rows}
-use Rattle.su_window.specs.Reading.{AreConstants}
+use Rattle.su_window.specs.inside.Reading.{AreConstants}
 use Rattle.su_window.proofs.Cutting.{cut_agrees}
 use Rattle.su_window.proofs.Made.{made_at}
 use Rattle.su_window.proofs.Objects.{attributes_are}

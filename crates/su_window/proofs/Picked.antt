@@ -21,7 +21,7 @@ use Rattle.su_schema.specs.SchemaValue.{ObjectEntry, attribute_kinds}
 use Rattle.su_state.specs.DatabaseValue.{DatabaseValue, IsWellKept}
 use Rattle.su_chase.specs.Chase.{IsName, IsClash}
 use Rattle.su_chase.specs.Meeting.{Agree}
-use Rattle.su_chase.specs.Rows.{name_by}
+use Rattle.su_chase.specs.inside.Rows.{name_by}
 use Rattle.su_chase.proofs.Answering.{one_value}
 use Rattle.su_chase.proofs.Reading.{all_members, contains_map, of_map, map_read}
 use Rattle.su_window.specs.declared.readings.Reading.{Reading}
@@ -30,7 +30,7 @@ use Rattle.su_window.specs.Views.{value_for, taken}
 use Rattle.su_window.specs.Window.{Fits, values_at}
 use Rattle.su_window.specs.Members.{IsMember}
 use Rattle.su_window.specs.Padded.{object_at, row_read, member_read, IsReading, AreReadings, padded, padded_row, padded_rows}
-use Rattle.su_window.specs.Reading.{AreConstants}
+use Rattle.su_window.specs.inside.Reading.{AreConstants}
 use Rattle.su_window.proofs.Cutting.{cut_agrees}
 use Rattle.su_window.proofs.Made.{made_at, made_by}
 use Rattle.su_window.proofs.Objects.{attributes_are}

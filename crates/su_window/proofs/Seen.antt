@@ -13,7 +13,7 @@ use Rattle.su_base.specs.declared.values.Value.{Value}
 use Rattle.su_base.specs.contracts.values.ValuePartialEq.TheImpl.{ghosts}
 use Rattle.su_base.proofs.Same.{row_eq-Decides}
 use Rattle.su_classes.proofs.Listed.{contains_later, contains_cases}
-use Rattle.su_window.specs.Reading.{Sees}
+use Rattle.su_window.specs.inside.Reading.{Sees}
 use Rattle.su_window.proofs.Sorted.{rows_equiv}
 
 abbrev same_row : List Value → List Value → Bool

@@ -9,7 +9,7 @@ use Rattle.su_tableau.specs.Tableaux.{AreBelow}
 use Rattle.su_state.specs.DatabaseValue.{DatabaseValue, IsWellKept}
 use Rattle.su_chase.specs.Chase.{IsName, IsConsistent, IsClash}
 use Rattle.su_chase.specs.Chased.{AreRows}
-use Rattle.su_chase.specs.Rows.{name_by}
+use Rattle.su_chase.specs.inside.Rows.{name_by}
 use Rattle.su_fd.specs.declared.dependencies.Fd.{Fd}
 use Rattle.su_chase.proofs.Answering.{are_names}
 use Rattle.su_window.specs.declared.readings.Reading.{Reading}
@@ -18,7 +18,7 @@ use Rattle.su_window.specs.Window.{Fits, InWindow}
 use Rattle.su_window.specs.Members.{HasFew}
 use Rattle.su_window.specs.Padded.{member_read, AreReadings, padded_rows}
 use Rattle.su_window.specs.Refusals.{Clashes}
-use Rattle.su_window.specs.Reading.{AreConstants}
+use Rattle.su_window.specs.inside.Reading.{AreConstants}
 use Rattle.su_window.proofs.Rows.{rows_long, are_rows}
 use Rattle.su_window.proofs.Picked.{no_clash, has_constants}
 use Rattle.su_window.proofs.Fitting.{some_fits, in_window}

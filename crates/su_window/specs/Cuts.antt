@@ -6,6 +6,7 @@ use Rattle.std.specs.FinSet.{FinSet, contains, empty}
 use Rattle.su_base.specs.declared.values.Value.{Value}
 use Rattle.su_schema.specs.SchemaValue.{SchemaValue, attribute_kinds, attributes_of}
 
+-- how many attributes there are
 abbrev pub width : SchemaValue → ℕ
 width schema = length (attribute_kinds schema)
 
@@ -18,6 +19,7 @@ abbrev pub cut_from : ℕ → FinSet nat_cmp → List Value → List Value
 cut_from i s [] = []
 cut_from i s (x ∷ xs) = if contains s i then x ∷ cut_from (suc i) s xs else cut_from (suc i) s xs
 
+-- the values on a set of columns, in order
 abbrev pub cut : FinSet nat_cmp → List Value → List Value
 cut s xs = cut_from 0 s xs
 

@@ -1,7 +1,7 @@
 pub mod Cuts
-pub mod Views
-pub mod Window
+pub mod inside
 pub mod Members
 pub mod Padded
 pub mod Refusals
-pub mod Reading
+pub mod Views
+pub mod Window

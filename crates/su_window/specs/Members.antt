@@ -5,10 +5,12 @@ use Rattle.su_base.specs.declared.values.Value.{Value}
 use Rattle.su_state.specs.DatabaseValue.{DatabaseValue}
 use Rattle.su_window.specs.Views.{view_of}
 
+-- an object and a list of values on its columns
 pub record Member : Type 0 where
   pub object : ℕ
   pub values : List Value
 
+-- the values are a member of the object's view
 abbrev pub IsMember : DatabaseValue → Member → Type 0
 IsMember db m = Contains (view_of db m.object) m.values
 

@@ -43,6 +43,7 @@ pub record AreReadings (db : DatabaseValue) (readings : List Reading) : Type 0 w
 abbrev pub padded : DatabaseValue → ℕ → Reading → ℕ → Sym
 padded db i r a = if contains (attributes_at db.schema r.object) a then Const (value_for (object_at db.schema r.object) (row_read db r) a) else Var (i * width db.schema + a)
 
+-- a member's values on its object's columns, and symbols of its own elsewhere
 abbrev pub padded_row : DatabaseValue → ℕ → Reading → List Sym
 padded_row db i r = map (padded db i r) (range_with_len 0 (width db.schema))
 

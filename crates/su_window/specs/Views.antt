@@ -16,6 +16,7 @@ value_for object row a = unwrap_or (read object a row) (Int (pos 0))
 abbrev pub taken : SchemaValue → ObjectEntry → List Value → List Value
 taken schema object row = cut (attributes_of object) (map (value_for object row) (range_with_len 0 (width schema)))
 
+-- the rows of an object's relation, read as its attributes
 abbrev pub view_through : DatabaseValue → Option ObjectEntry → List (List Value)
 view_through db None = []
 view_through db (Some object) = map (taken db.schema object) (rows_of db object.relation)

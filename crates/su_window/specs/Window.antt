@@ -11,9 +11,11 @@ use Rattle.su_state.specs.DatabaseValue.{DatabaseValue}
 use Rattle.su_window.specs.Cuts.{cuts}
 use Rattle.su_window.specs.Views.{view_of}
 
+-- each member of a view is cut from some row of the universal relation
 abbrev pub Includes : DatabaseValue → List (List Value) → Type 0
 Includes db universe = (o : ℕ) (x : List Value) → o < length db.schema.objects → Contains (view_of db o) x → Contains (cuts db.schema universe o) x
 
+-- a universal relation that meets the dependencies and includes the stored rows
 pub record Fits (db : DatabaseValue) (universe : List (List Value)) : Type 0 where
   pub kinds : IsUniverse (attribute_kinds db.schema) universe
   pub meets : Meets db.schema.fds universe

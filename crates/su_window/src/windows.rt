@@ -6,12 +6,12 @@ ghost use Rattle.su_base.specs.Value.{compare_lists};
 ghost use Rattle.su_tableau.specs.declared.symbols.Sym.{Sym as ASym};
 ghost use Rattle.su_tableau.specs.declared.symbols.Sym.TheVariants.{Const, Var};
 ghost use Rattle.su_tableau.specs.Tableaux.{AreBelow};
-ghost use Rattle.su_chase.specs.Rows.{name_by};
+ghost use Rattle.su_chase.specs.inside.Rows.{name_by};
 ghost use Rattle.su_window.specs.Cuts.{width};
 ghost use Rattle.su_window.specs.Window.{Fits, InWindow};
 ghost use Rattle.su_window.specs.Members.{HasFew};
 ghost use Rattle.su_window.specs.Refusals.{IsWindowRefusal};
-ghost use Rattle.su_window.specs.Reading.{AreConstants};
+ghost use Rattle.su_window.specs.inside.Reading.{AreConstants};
 
 use crate::columns::all_columns;
 use crate::faults::WindowFault;

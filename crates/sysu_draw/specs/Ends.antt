@@ -13,9 +13,11 @@ use Rattle.sysu_draw.specs.Moments.{Output, Moment, Wrote, WroteFront}
 abbrev pub text_limit : ℕ
 text_limit = 2 ^ 24
 
+-- what is written for other words
 abbrev pub usage_line : List ℕ
 usage_line = codes "usage: sysu_draw FILE\n"
 
+-- what is written where the line with this number is at fault
 abbrev pub fault_line : ℕ → List ℕ
 fault_line number = codes "refused: line " ++ decimal number ++ codes "\n"
 

@@ -2,3 +2,4 @@ pub mod Words
 pub mod Moments
 pub mod Reads
 pub mod Ends
+pub mod Runs

@@ -9,6 +9,7 @@ pub record Named : Type 0 where
   pub script : List ℕ
   pub dialect : Dialect
 
+-- the dialect by its word
 abbrev pub dialect_named : List ℕ → Option Dialect
 dialect_named word =
     cond (bytes_eq word (codes "postgres")) (Some Postgres) (cond (bytes_eq word (codes "sqlite")) (Some Sqlite) (cond (bytes_eq word (codes "spark")) (Some Spark) None))

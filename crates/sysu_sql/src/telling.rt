@@ -1,7 +1,8 @@
 //! What a run writes.
 ghost use Rattle.std.specs.Prelude.{◌≡◌};
 ghost use Rattle.sysu_sql.specs.Moments.{Output};
-ghost use Rattle.sysu_sql.specs.Ends.{Closes, RefusalEnds, ScriptEnds, UsageEnds};
+ghost use Rattle.sysu_sql.specs.Ends.{Closes, UsageEnds};
+ghost use Rattle.sysu_sql.specs.Runs.{RefusalEnds, ScriptEnds};
 
 use crate::status::Status;
 use std::alloc::Global;

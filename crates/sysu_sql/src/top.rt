@@ -1,7 +1,8 @@
 //! The run of the program over any shelf and sink.
 ghost use Rattle.std.specs.Prelude.{◌≡◌, ◌<◌, ◌^◌};
 ghost use Rattle.sysu_sql.specs.Moments.{Output, Moment};
-ghost use Rattle.sysu_sql.specs.Ends.{Comes, Ends, RunEnds};
+ghost use Rattle.sysu_sql.specs.Ends.{Comes, Ends};
+ghost use Rattle.sysu_sql.specs.Runs.{RunEnds};
 
 use crate::reading::read_file;
 use crate::status::Status;

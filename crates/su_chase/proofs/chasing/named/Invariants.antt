@@ -1,5 +1,5 @@
 use Rattle.std.proofs.Common.{◌≡◌, map, take}
-use Rattle.su_chase.specs.Rows.{name_by}
+use Rattle.su_chase.specs.inside.Rows.{name_by}
 use Rattle.su_chase.proofs.chasing.named.Given as goal
 
 abbrev pub invariant-loop-x : goal.invariant-loop-x

@@ -1,5 +1,5 @@
 use Rattle.std.proofs.Common.{◌≡◌, ◌∙◌, ℕ, List, Contains, subst, sym, arith}
-use Rattle.su_chase.specs.Rows.{variables_in}
+use Rattle.su_chase.specs.inside.Rows.{variables_in}
 use Rattle.su_chase.proofs.Thawing.{variables_all, variable_in, variable_occurs}
 use Rattle.su_chase.proofs.freezing.variables_of.Goals as goal
 

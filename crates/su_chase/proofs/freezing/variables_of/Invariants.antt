@@ -1,6 +1,6 @@
 use Rattle.std.proofs.Common.{◌≡◌, take}
 use Rattle.std.specs.Prelude.{flat_map}
-use Rattle.su_chase.specs.Rows.{variable_of}
+use Rattle.su_chase.specs.inside.Rows.{variable_of}
 use Rattle.su_chase.proofs.freezing.variables_of.Given as goal
 
 abbrev pub invariant-loop-row : goal.invariant-loop-row

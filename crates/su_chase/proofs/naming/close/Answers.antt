@@ -1,6 +1,6 @@
 use Rattle.std.proofs.Common.{◌↔◌, List, Contains, subst, sym}
 use Rattle.su_base.specs.declared.values.Value.{Value}
-use Rattle.su_chase.specs.Rows.{constants_in}
+use Rattle.su_chase.specs.inside.Rows.{constants_in}
 use Rattle.su_chase.proofs.naming.close.Goals as goal
 
 pub close_by-requires-clause-all : goal.close_by-requires-clause-all

@@ -2,7 +2,7 @@ use Rattle.std.proofs.Common.{◌≡◌, ◌<◌, ℕ, List, length, get_or, sub
 use Rattle.std.specs.Prelude.{All}
 use Rattle.su_tableau.specs.declared.symbols.Sym.TheVariants.{Var}
 use Rattle.su_tableau.specs.Tableaux.{AreBelow}
-use Rattle.su_chase.specs.Rows.{IsTableOf}
+use Rattle.su_chase.specs.inside.Rows.{IsTableOf}
 use Rattle.su_chase.proofs.Tabled.{name_is, clash_told}
 use Rattle.su_chase.proofs.naming.close_by.Goals as goal
 

@@ -1,4 +1,4 @@
-use Rattle.su_chase.specs.Rows.{IsFirstClash}
+use Rattle.su_chase.specs.inside.Rows.{IsFirstClash}
 use Rattle.su_chase.proofs.naming.first_clash.Given as goal
 
 abbrev pub invariant-loop-i : goal.invariant-loop-i

@@ -1,6 +1,6 @@
 use Rattle.std.proofs.Common.{◌≡◌, ◌≤◌, ◌∙◌, List, length, Contains, subst, sym, arith}
 use Rattle.su_base.specs.declared.values.Value.{Value}
-use Rattle.su_chase.specs.Rows.{constants_in}
+use Rattle.su_chase.specs.inside.Rows.{constants_in}
 use Rattle.su_chase.proofs.Clashing.{constants_all}
 use Rattle.su_chase.proofs.numbering.constants_of.Goals as goal
 

@@ -1,6 +1,6 @@
 use Rattle.std.proofs.Common.{◌≡◌, take}
 use Rattle.std.specs.Prelude.{flat_map}
-use Rattle.su_chase.specs.Rows.{constant_of}
+use Rattle.su_chase.specs.inside.Rows.{constant_of}
 use Rattle.su_chase.proofs.numbering.constants_of.Given as goal
 
 abbrev pub invariant-loop-row : goal.invariant-loop-row

@@ -1,5 +1,5 @@
 use Rattle.std.proofs.Common.{◌≡◌, map, take}
-use Rattle.su_classes.specs.Symbols.{number_of}
+use Rattle.su_classes.specs.inside.Symbols.{number_of}
 use Rattle.su_chase.proofs.numbering.items_of.Given as goal
 
 abbrev pub invariant-loop-x : goal.invariant-loop-x

@@ -1,6 +1,6 @@
 use Rattle.std.proofs.Common.{◌≡◌, ℕ, ◌<◌, [], length, get_or}
 use Rattle.su_classes.specs.declared.items.Placed.{Placed}
-use Rattle.su_chase.specs.Rows.{IsPlacedRow}
+use Rattle.su_chase.specs.inside.Rows.{IsPlacedRow}
 use Rattle.su_chase.proofs.numbering.placed_rows.Given as goal
 
 abbrev pub invariant-loop-row : goal.invariant-loop-row

@@ -1,7 +1,7 @@
 use Rattle.std.proofs.Common.{◌+◌, [], length, ap, subst, ◌∙◌, arith, Contains}
 use Rattle.std.proofs.lemmas.List.{get_or_default, length_push}
 use Rattle.su_tableau.specs.declared.symbols.Sym.TheVariants.{Var}
-use Rattle.su_check.specs.Boards.{AreNumbers}
+use Rattle.su_check.specs.inside.Boards.{AreNumbers}
 use Rattle.su_check.proofs.Boarded.{numbers_push}
 use Rattle.su_check.proofs.boards.all_numbers.Goals as goal
 

@@ -1,6 +1,6 @@
 use Rattle.std.proofs.Common.{◌≡◌, ◌<◌, ℕ, List, [], length, get_or}
 use Rattle.su_tableau.specs.declared.symbols.Sym.{Sym}
-use Rattle.su_check.specs.Boards.{AreMarks, AreNumbers}
+use Rattle.su_check.specs.inside.Boards.{AreMarks, AreNumbers}
 use Rattle.su_check.proofs.boards.all_numbers.Given as goal
 
 abbrev pub invariant-loop-row : goal.invariant-loop-row

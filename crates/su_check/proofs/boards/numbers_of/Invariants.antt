@@ -1,7 +1,7 @@
 use Rattle.std.proofs.Common.{◌≡◌, ◌<◌, ℕ, List, None, length, get_or}
 use Rattle.su_tableau.specs.declared.symbols.Sym.{Sym}
-use Rattle.su_check.specs.Cells.{cell}
-use Rattle.su_check.specs.Boards.{AreMarks, IsNumber}
+use Rattle.su_check.specs.inside.Cells.{cell}
+use Rattle.su_check.specs.inside.Boards.{AreMarks, IsNumber}
 use Rattle.su_check.proofs.boards.numbers_of.Given as goal
 
 abbrev pub invariant-loop-x : goal.invariant-loop-x

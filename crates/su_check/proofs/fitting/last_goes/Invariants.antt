@@ -1,8 +1,8 @@
 use Rattle.std.proofs.Common.{◌<◌, ℕ, [], None, get_or}
 use Rattle.su_check.specs.Certificate.{lines_of}
-use Rattle.su_check.specs.Cells.{cell}
+use Rattle.su_check.specs.inside.Cells.{cell}
 use Rattle.su_check.specs.Fitting.{row_of}
-use Rattle.su_check.specs.Boards.{Sends, Keeps}
+use Rattle.su_check.specs.inside.Boards.{Sends, Keeps}
 use Rattle.su_check.proofs.fitting.last_goes.Given as goal
 
 abbrev pub invariant-loop-column : goal.invariant-loop-column

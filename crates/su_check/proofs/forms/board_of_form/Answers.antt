@@ -3,9 +3,9 @@ use Rattle.std.specs.Option.{MatchOption}
 use Rattle.std.proofs.lemmas.Result.{IfOk-weaker}
 use Rattle.su_tableau.specs.declared.symbols.Sym.TheVariants.{Var}
 use Rattle.su_tableau.specs.Tableaux.{Occurs}
-use Rattle.su_check.specs.Boards.{IsBoard}
+use Rattle.su_check.specs.inside.Boards.{IsBoard}
 use Rattle.su_check.specs.Refuting.{IsAscending}
-use Rattle.su_check.specs.Cells.{AreTyped}
+use Rattle.su_check.specs.inside.Cells.{AreTyped}
 use Rattle.su_check.specs.Certificate.{lines_of, IsGoodForm}
 use Rattle.su_check.proofs.Typing.{form_from, form_option, wide_as}
 use Rattle.su_check.proofs.forms.board_of_form.Goals as goal

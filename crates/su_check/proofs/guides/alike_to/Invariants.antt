@@ -1,6 +1,6 @@
 use Rattle.std.proofs.Common.{◌≡◌, ◌<◌, ℕ, length, get_or}
-use Rattle.su_check.specs.Cells.{cell}
-use Rattle.su_check.specs.Guides.{HasCarriers}
+use Rattle.su_check.specs.inside.Cells.{cell}
+use Rattle.su_check.specs.inside.Guides.{HasCarriers}
 use Rattle.su_check.proofs.guides.alike_to.Given as goal
 
 abbrev pub invariant-loop-column : goal.invariant-loop-column

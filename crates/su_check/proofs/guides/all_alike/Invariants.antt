@@ -1,5 +1,5 @@
 use Rattle.std.proofs.Common.{◌≡◌, ◌<◌, ℕ, [], length, get_or}
-use Rattle.su_check.specs.Guides.{AreAlike}
+use Rattle.su_check.specs.inside.Guides.{AreAlike}
 use Rattle.su_check.proofs.guides.all_alike.Given as goal
 
 abbrev pub invariant-loop-i : goal.invariant-loop-i

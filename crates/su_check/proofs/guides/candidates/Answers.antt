@@ -2,9 +2,9 @@ use Rattle.std.proofs.Common.{◌≡◌, ◌<◌, ℕ, All, [], length, get_or, 
 use Rattle.std.specs.Int.{bit_at}
 use Rattle.std.proofs.lemmas.List.Elements.{All-contains}
 use Rattle.su_check.specs.Certificate.{lines_of}
-use Rattle.su_check.specs.Cells.{cell}
+use Rattle.su_check.specs.inside.Cells.{cell}
 use Rattle.su_check.specs.Fitting.{row_of}
-use Rattle.su_check.specs.Guides.{HasTargets}
+use Rattle.su_check.specs.inside.Guides.{HasTargets}
 use Rattle.su_check.proofs.Guiding.{image_told, sent_alone}
 use Rattle.su_check.proofs.guides.candidates.Goals as goal
 use Rattle.su_check.proofs.guides.candidates.Goals.{in-Some, in_default}

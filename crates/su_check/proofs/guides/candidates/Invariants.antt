@@ -1,5 +1,5 @@
 use Rattle.su_check.specs.Certificate.{lines_of}
-use Rattle.su_check.specs.Guides.{HasTargets}
+use Rattle.su_check.specs.inside.Guides.{HasTargets}
 use Rattle.su_check.proofs.guides.candidates.Given as goal
 
 abbrev pub invariant-loop-at_column : goal.invariant-loop-at_column

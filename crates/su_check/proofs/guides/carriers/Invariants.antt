@@ -1,6 +1,6 @@
 use Rattle.std.proofs.Common.{◌≡◌, ◌<◌, ℕ, [], get_or}
 use Rattle.std.specs.Int.{bit_at}
-use Rattle.su_check.specs.Cells.{cell}
+use Rattle.su_check.specs.inside.Cells.{cell}
 use Rattle.su_check.proofs.guides.carriers.Given as goal
 
 abbrev pub invariant-loop-i : goal.invariant-loop-i

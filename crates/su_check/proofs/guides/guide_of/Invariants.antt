@@ -1,7 +1,7 @@
 use Rattle.std.proofs.Common.{◌≡◌, ◌<◌, ℕ, [], length, get_or}
 use Rattle.su_check.specs.Certificate.{lines_of}
-use Rattle.su_check.specs.Boards.{IsReady}
-use Rattle.su_check.specs.Guides.{HasTargets}
+use Rattle.su_check.specs.inside.Boards.{IsReady}
+use Rattle.su_check.specs.inside.Guides.{HasTargets}
 use Rattle.su_check.proofs.guides.guide_of.Given as goal
 
 abbrev pub invariant-loop-i : goal.invariant-loop-i

@@ -1,7 +1,7 @@
 use Rattle.std.proofs.Common.{◌≡◌, ◌<◌, ℕ, [], All, length, map, get_or}
 use Rattle.su_base.specs.declared.values.Kind.{Kind}
 use Rattle.su_tableau.specs.Kinds.{sym_kind}
-use Rattle.su_check.specs.Cells.{cell, kind_at, HasFound, AreFound}
+use Rattle.su_check.specs.inside.Cells.{cell, kind_at, HasFound, AreFound}
 use Rattle.su_check.proofs.kinds.all_have_kinds.Given as goal
 
 abbrev pub invariant-loop-row : goal.invariant-loop-row

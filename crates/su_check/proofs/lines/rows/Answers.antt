@@ -6,7 +6,7 @@ use Rattle.su_lex.specs.declared.meaning.Symbol.TheVariants.{Sign}
 use Rattle.su_lex.specs.declared.signs.Sign.TheVariants as sign
 use Rattle.su_tableau.specs.declared.symbols.Sym.{Sym}
 use Rattle.su_check.specs.Grammar.{row_line, sym_symbol}
-use Rattle.su_check.specs.Reading.{IsRow, row_before}
+use Rattle.su_check.specs.inside.Reading.{IsRow, row_before}
 use Rattle.su_check.proofs.Runs.{flat_push, lead_next, lead_none, left_on, gives_on}
 use Rattle.su_check.proofs.lines.rows.Goals as goal
 

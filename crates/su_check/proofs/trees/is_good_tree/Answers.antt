@@ -1,6 +1,6 @@
 use Rattle.std.proofs.Common.{◌≡◌, ◌↔◌, true, refl, sym}
 use Rattle.std.proofs.lemmas.Result.{IfOk-weaker}
-use Rattle.su_check.specs.Boards.{Keeps, IsReady}
+use Rattle.su_check.specs.inside.Boards.{Keeps, IsReady}
 use Rattle.su_check.specs.Certificate.{lines_of, IsGoodTree}
 use Rattle.su_check.specs.Refuting.{Refutes}
 use Rattle.su_check.proofs.Treeing.{tree_tells}

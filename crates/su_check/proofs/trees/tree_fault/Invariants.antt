@@ -1,5 +1,5 @@
 use Rattle.std.proofs.Common.{ℕ, ◌<◌, []}
-use Rattle.su_check.specs.Boards.{IsReady}
+use Rattle.su_check.specs.inside.Boards.{IsReady}
 use Rattle.su_check.specs.Certificate.{lines_of, IsGoodTree}
 use Rattle.su_check.proofs.trees.tree_fault.Given as goal
 

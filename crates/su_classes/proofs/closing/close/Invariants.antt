@@ -2,7 +2,8 @@ use Rattle.std.proofs.Common.{◌≡◌, ℕ, length}
 use Rattle.std.specs.Prelude.{All}
 use Rattle.su_tableau.specs.declared.symbols.Sym.{Sym}
 use Rattle.su_classes.specs.Items.{IsKept}
-use Rattle.su_classes.specs.Tables.{IsTable, IsSound, class_count}
+use Rattle.su_classes.specs.Tables.{IsTable, IsSound}
+use Rattle.su_classes.specs.inside.Tables.{class_count}
 use Rattle.su_classes.proofs.closing.close.Given as goal
 
 abbrev pub invariant-sweeps : goal.invariant-sweeps

@@ -1,5 +1,5 @@
 use Rattle.std.proofs.Common.{sym}
-use Rattle.su_classes.specs.Firsts.{noted_in}
+use Rattle.su_classes.specs.inside.Firsts.{noted_in}
 use Rattle.su_classes.proofs.Noted.{noted_there, noted_new}
 use Rattle.su_classes.proofs.firsts.first_with.Goals as goal
 use Rattle.su_classes.proofs.firsts.first_with.Goals.{in-Ok, in-Err}

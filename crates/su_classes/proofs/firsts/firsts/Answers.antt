@@ -1,5 +1,5 @@
 use Rattle.std.proofs.Common.{ℕ, List, sym, subst}
-use Rattle.su_classes.specs.Firsts.{AreMembersBelow}
+use Rattle.su_classes.specs.inside.Firsts.{AreMembersBelow}
 use Rattle.su_classes.proofs.firsts.firsts.Goals as goal
 
 pub firsts_by-requires-clause-left : goal.firsts_by-requires-clause-left

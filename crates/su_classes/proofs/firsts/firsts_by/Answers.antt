@@ -4,7 +4,7 @@ use Rattle.std.proofs.lemmas.List.{get_or_read}
 use Rattle.su_classes.specs.declared.items.Placed.{Placed}
 use Rattle.su_classes.specs.Items.{IsPlacedBelow}
 use Rattle.su_classes.specs.Tables.{rep}
-use Rattle.su_classes.specs.Firsts.{row_at, noted_in, IsFirst}
+use Rattle.su_classes.specs.inside.Firsts.{row_at, noted_in, IsFirst}
 use Rattle.su_classes.proofs.Noted.{noted_more, firsts_all}
 use Rattle.su_classes.proofs.firsts.firsts_by.Goals as goal
 

@@ -1,5 +1,5 @@
 use Rattle.su_classes.specs.Tables.{rep}
-use Rattle.su_classes.specs.Firsts.{noted_in}
+use Rattle.su_classes.specs.inside.Firsts.{noted_in}
 use Rattle.su_classes.proofs.Noted.{AreNoted}
 use Rattle.su_classes.proofs.firsts.firsts_by.Given as goal
 

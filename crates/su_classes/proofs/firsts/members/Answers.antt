@@ -1,5 +1,5 @@
 use Rattle.std.proofs.Common.{◌≡◌, ℕ, subst, arith}
-use Rattle.su_classes.specs.Firsts.{AreMembersBelow}
+use Rattle.su_classes.specs.inside.Firsts.{AreMembersBelow}
 use Rattle.su_classes.proofs.Listed.{members_if}
 use Rattle.su_classes.proofs.firsts.members.Goals as goal
 

@@ -1,4 +1,4 @@
-use Rattle.su_classes.specs.Firsts.{AreMembersBelow}
+use Rattle.su_classes.specs.inside.Firsts.{AreMembersBelow}
 use Rattle.su_classes.proofs.firsts.members.Given as goal
 
 abbrev pub invariant-loop-a : goal.invariant-loop-a

@@ -1,7 +1,8 @@
 use Rattle.std.proofs.Common.{◌≡◌, ℕ, ◌<◌, get_or}
 use Rattle.su_tableau.specs.declared.symbols.Sym.{Sym}
 use Rattle.su_classes.specs.Items.{cell}
-use Rattle.su_classes.specs.Tables.{IsSound, IsShortened}
+use Rattle.su_classes.specs.Tables.{IsSound}
+use Rattle.su_classes.specs.inside.Tables.{IsShortened}
 use Rattle.su_classes.proofs.rushing.agree.Given as goal
 
 abbrev pub invariant-loop-a : goal.invariant-loop-a

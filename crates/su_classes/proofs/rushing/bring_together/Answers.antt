@@ -1,5 +1,5 @@
 use Rattle.std.proofs.Common.{ℕ, List, length, refl, subst, sym}
-use Rattle.su_classes.specs.Firsts.{AreMembersBelow}
+use Rattle.su_classes.specs.inside.Firsts.{AreMembersBelow}
 use Rattle.su_classes.specs.Items.{IsPlacedBelow}
 use Rattle.su_classes.proofs.Listed.{left_cells, right_cells}
 use Rattle.su_classes.proofs.Rushed.{brought, brought_none}

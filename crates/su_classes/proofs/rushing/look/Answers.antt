@@ -1,7 +1,7 @@
 use Rattle.std.proofs.Common.{ℕ, List, Contains, length, refl, subst, sym}
 use Rattle.std.proofs.lemmas.List.Elements.{All-contains}
 use Rattle.su_classes.specs.declared.items.Placed.{Placed}
-use Rattle.su_classes.specs.Firsts.{AreMembersBelow}
+use Rattle.su_classes.specs.inside.Firsts.{AreMembersBelow}
 use Rattle.su_classes.specs.Items.{IsPlacedBelow}
 use Rattle.su_classes.proofs.Listed.{left_cells}
 use Rattle.su_classes.proofs.Rushed.{looked}

@@ -1,6 +1,6 @@
 use Rattle.std.proofs.Common.{◌≡◌, ℕ, ◌<◌, get_or}
 use Rattle.su_classes.specs.Items.{cell}
-use Rattle.su_classes.specs.Tables.{IsJoining, IsProgress}
+use Rattle.su_classes.specs.inside.Tables.{IsJoining, IsProgress}
 use Rattle.su_classes.proofs.sweeping.join_at.Given as goal
 
 abbrev pub invariant-loop-a : goal.invariant-loop-a

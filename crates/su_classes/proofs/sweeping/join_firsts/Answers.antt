@@ -5,8 +5,8 @@ use Rattle.std.proofs.lemmas.Bool.{true≢false}
 use Rattle.std.proofs.lemmas.List.{get_or_read}
 use Rattle.su_classes.specs.declared.items.Placed.{Placed}
 use Rattle.su_classes.specs.Items.{cell, LiesIn, IsPlacedBelow}
-use Rattle.su_classes.specs.Tables.{IsJoining}
-use Rattle.su_classes.specs.Firsts.{row_at, first_at}
+use Rattle.su_classes.specs.inside.Tables.{IsJoining}
+use Rattle.su_classes.specs.inside.Firsts.{row_at, first_at}
 use Rattle.su_classes.proofs.Listed.{right_cells}
 use Rattle.su_classes.proofs.Binding.{bound_more, bound_pass, bound_keeps}
 use Rattle.su_classes.proofs.sweeping.join_firsts.Goals as goal

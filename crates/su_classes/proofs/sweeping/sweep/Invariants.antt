@@ -2,7 +2,8 @@ use Rattle.std.proofs.Common.{◌≡◌, ℕ, ◌<◌, false, get_or}
 use Rattle.std.specs.Prelude.{All}
 use Rattle.su_fd.specs.declared.dependencies.Fd.{Fd}
 use Rattle.su_classes.specs.Items.{Keeps}
-use Rattle.su_classes.specs.Tables.{rep, IsTable, IsMerging, IsProgress}
+use Rattle.su_classes.specs.Tables.{rep, IsTable}
+use Rattle.su_classes.specs.inside.Tables.{IsMerging, IsProgress}
 use Rattle.su_classes.proofs.sweeping.sweep.Given as goal
 
 abbrev pub invariant-loop-fd : goal.invariant-loop-fd

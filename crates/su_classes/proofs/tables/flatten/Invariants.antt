@@ -1,5 +1,6 @@
 use Rattle.std.proofs.Common.{◌≡◌, ℕ, ◌<◌}
-use Rattle.su_classes.specs.Tables.{rep, IsShortened}
+use Rattle.su_classes.specs.Tables.{rep}
+use Rattle.su_classes.specs.inside.Tables.{IsShortened}
 use Rattle.su_classes.proofs.tables.flatten.Given as goal
 
 abbrev pub invariant-loop-i : goal.invariant-loop-i

@@ -1,6 +1,6 @@
 use Rattle.std.proofs.Common.{◌≡◌, ℕ, ◌<◌, get_or}
 use Rattle.su_classes.specs.declared.items.Together.{Together}
-use Rattle.su_classes.specs.Tables.{IsJoining}
+use Rattle.su_classes.specs.inside.Tables.{IsJoining}
 use Rattle.su_classes.proofs.tables.join_all.Given as goal
 
 abbrev pub invariant-loop-e : goal.invariant-loop-e

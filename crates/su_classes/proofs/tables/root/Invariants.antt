@@ -1,6 +1,7 @@
 use Rattle.std.proofs.Common.{◌≡◌, ℕ, ◌<◌, ◌≤◌, length}
 use Rattle.su_tableau.specs.declared.symbols.Sym.{Sym}
-use Rattle.su_classes.specs.Tables.{IsSound, IsShortened}
+use Rattle.su_classes.specs.Tables.{IsSound}
+use Rattle.su_classes.specs.inside.Tables.{IsShortened}
 use Rattle.su_classes.proofs.tables.root.Given as goal
 
 abbrev pub invariant-path : goal.invariant-path

@@ -7,7 +7,7 @@ use Rattle.su_schema.specs.SchemaValue.{attribute_kinds}
 use Rattle.su_compare.specs.declared.settling.Settled.{Settled}
 use Rattle.su_compare.specs.declared.settling.Settled.TheVariants.{By, Open}
 use Rattle.su_compare.specs.Verdict.{IsBy, IsUnsettled}
-use Rattle.su_compare.specs.Settling.{IsSettlement, Answers, IsTypedOpen}
+use Rattle.su_compare.specs.inside.Settling.{IsSettlement, Answers, IsTypedOpen}
 use Rattle.su_compare.proofs.Settled.{tab_here}
 use Rattle.su_compare.proofs.Deciding.{all_alike, fds_below, one_settled, earlier_settled, all_answers}
 use Rattle.su_compare.proofs.comparing.compared.Goals as goal

@@ -1,4 +1,4 @@
-use Rattle.su_compare.specs.Settling.{HasRoomFor}
+use Rattle.su_compare.specs.inside.Settling.{HasRoomFor}
 use Rattle.su_compare.proofs.Deciding.{AreSettled}
 use Rattle.su_compare.proofs.comparing.compared.Given as goal
 

@@ -1,6 +1,6 @@
 use Rattle.std.proofs.Common.{◌≡◌, ◌++◌, length}
 use Rattle.su_ddl.specs.Grammar.{columns_symbols}
-use Rattle.su_ddl.specs.Columns.{AreColumns}
+use Rattle.su_ddl.specs.inside.Columns.{AreColumns}
 use Rattle.su_ddl.proofs.lists.columns.Given as goal
 
 abbrev pub invariant-loop-columns : goal.invariant-loop-columns

@@ -1,6 +1,6 @@
 use Rattle.std.proofs.Common.{◌≡◌, ◌++◌, ◌∷◌, [], sym, ap, ◌∙◌, append_assoc}
 use Rattle.std.specs.Vec.Iter.{into_iter_items}
-use Rattle.su_draw.specs.Order.{at_start}
+use Rattle.su_draw.specs.States.{at_start}
 use Rattle.su_draw.proofs.Readings.{are_read-one}
 use Rattle.su_draw.proofs.reading.read_pieces.Goals as goal
 

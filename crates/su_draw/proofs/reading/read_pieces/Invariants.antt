@@ -1,6 +1,6 @@
 use Rattle.std.proofs.Common.{◌≡◌, ◌++◌}
 use Rattle.std.specs.Vec.Iter.{into_iter_items}
-use Rattle.su_draw.specs.Order.{at_start}
+use Rattle.su_draw.specs.States.{at_start}
 use Rattle.su_draw.specs.Reading.{AreRead}
 use Rattle.su_draw.proofs.reading.read_pieces.Given as goal
 

@@ -1,6 +1,7 @@
 use Rattle.std.proofs.Common.{◌≡◌, ◌++◌, flat_map, List, ap, ◌∙◌}
 use Rattle.std.specs.Prelude.{codes}
-use Rattle.su_draw.specs.Svg.{ground_line, help_text, shape_text}
+use Rattle.su_draw.specs.Svg.{ground_line, help_text}
+use Rattle.su_draw.specs.Shapes.{shape_text}
 use Rattle.su_draw.specs.declared.shapes.Help.{Help}
 use Rattle.su_draw.specs.declared.shapes.Shape.{Shape}
 use Rattle.su_draw.proofs.Assembled.{on_ok, four_parts}

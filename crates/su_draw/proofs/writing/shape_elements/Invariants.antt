@@ -1,5 +1,5 @@
 use Rattle.std.proofs.Common.{◌≡◌, ◌++◌, flat_map, take}
-use Rattle.su_draw.specs.Svg.{shape_text}
+use Rattle.su_draw.specs.Shapes.{shape_text}
 use Rattle.su_draw.proofs.writing.shape_elements.Given as goal
 
 abbrev pub invariant-loop-shape : goal.invariant-loop-shape

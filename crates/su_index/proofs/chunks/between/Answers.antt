@@ -1,5 +1,5 @@
 use Rattle.std.proofs.Common.{◌≡◌, ◌≤◌, ◌+◌, ap, arith}
-use Rattle.su_index.specs.Chunks.{before_chunk}
+use Rattle.su_index.specs.inside.Chunks.{before_chunk}
 use Rattle.su_index.proofs.Chunked.{before-next, before-most, chunk-order}
 use Rattle.su_index.proofs.chunks.between.Goals as goal
 

@@ -1,5 +1,5 @@
 use Rattle.std.proofs.Common.{◌≡◌, ◌+◌}
-use Rattle.su_index.specs.Chunks.{before_chunk}
+use Rattle.su_index.specs.inside.Chunks.{before_chunk}
 use Rattle.su_index.proofs.chunks.between.Given as goal
 
 abbrev pub invariant-loop-k : goal.invariant-loop-k

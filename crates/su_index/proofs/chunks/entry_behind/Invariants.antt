@@ -1,5 +1,5 @@
 use Rattle.std.proofs.Common.{◌≡◌, ◌+◌, ◌-◌, length}
-use Rattle.su_index.specs.Chunks.{before_chunk, rank_in}
+use Rattle.su_index.specs.inside.Chunks.{before_chunk, rank_in}
 use Rattle.su_index.proofs.chunks.entry_behind.Given as goal
 
 abbrev pub invariant-loop-at : goal.invariant-loop-at

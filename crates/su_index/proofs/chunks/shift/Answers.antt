@@ -1,6 +1,7 @@
 use Rattle.std.proofs.Common.{◌≡◌, ◌≤◌, ◌+◌, ◌∙◌, ap, arith}
 use Rattle.std.specs.List.{insert}
-use Rattle.su_index.specs.Chunks.{entries_of, before_chunk}
+use Rattle.su_index.specs.Chunks.{entries_of}
+use Rattle.su_index.specs.inside.Chunks.{before_chunk}
 use Rattle.su_index.proofs.Chunked.{chunk-order}
 use Rattle.su_index.proofs.chunks.shift.Goals as goal
 

@@ -1,7 +1,8 @@
 use Rattle.std.proofs.Common.{◌≡◌, ◌<◌, ◌≤◌, ◌-◌, ℕ, length, slice_index_or}
 use Rattle.su_index.specs.declared.index.Index.{Index}
 use Rattle.su_index.specs.Indexed.{IsIndexAt}
-use Rattle.su_index.specs.Order.{value_at, with_value}
+use Rattle.su_index.specs.Order.{value_at}
+use Rattle.su_index.specs.inside.Order.{with_value}
 use Rattle.su_index.proofs.columns.take_out.Given as goal
 
 abbrev pub invariant-loop-column : goal.invariant-loop-column

@@ -1,7 +1,8 @@
 use Rattle.std.proofs.Common.{◌≡◌, arith}
 use Rattle.std.specs.List.{insert}
 use Rattle.su_index.specs.declared.entry.Entry.{Entry}
-use Rattle.su_index.specs.Chunks.{entries_of, rank_in, IsPlace}
+use Rattle.su_index.specs.Chunks.{entries_of}
+use Rattle.su_index.specs.inside.Chunks.{rank_in, IsPlace}
 use Rattle.su_index.specs.Entries.{positions}
 use Rattle.su_index.specs.Order.{value_at}
 use Rattle.su_index.proofs.Changed.{ordered-insert_with, count_by-insert}

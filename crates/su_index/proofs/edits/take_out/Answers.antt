@@ -1,5 +1,6 @@
 use Rattle.std.proofs.Common.{arith}
-use Rattle.su_index.specs.Chunks.{entries_of, rank_in, IsPlace}
+use Rattle.su_index.specs.Chunks.{entries_of}
+use Rattle.su_index.specs.inside.Chunks.{rank_in, IsPlace}
 use Rattle.su_index.specs.Entries.{positions}
 use Rattle.su_index.specs.Order.{value_at}
 use Rattle.std.proofs.lemmas.List.Edits.{length-remove}

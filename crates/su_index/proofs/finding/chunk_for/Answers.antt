@@ -1,5 +1,6 @@
 use Rattle.std.proofs.Common.{◌<◌, ◌+◌, ◌-◌, ◌/◌, true, false, length, arith}
-use Rattle.su_index.specs.Chunks.{entries_of, before_chunk}
+use Rattle.su_index.specs.Chunks.{entries_of}
+use Rattle.su_index.specs.inside.Chunks.{before_chunk}
 use Rattle.su_index.specs.Entries.{positions}
 use Rattle.su_index.specs.Order.{value_at}
 use Rattle.su_index.proofs.Entries.{positions_length, entry_within, entry_before}

@@ -1,6 +1,7 @@
 use Rattle.std.proofs.Common.{◌<◌, ◌+◌, ◌-◌, ◌∙◌, sym, inl, inr, arith}
 use Rattle.std.proofs.lemmas.Bool.{false≢true}
-use Rattle.su_index.specs.Chunks.{len_at, before_chunk}
+use Rattle.su_index.specs.Chunks.{len_at}
+use Rattle.su_index.specs.inside.Chunks.{before_chunk}
 use Rattle.su_index.proofs.Chunked.{before-next, before-most}
 use Rattle.su_index.proofs.Spans.{le_or}
 use Rattle.su_index.proofs.finding.find.Goals as goal

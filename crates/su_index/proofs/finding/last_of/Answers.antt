@@ -1,5 +1,6 @@
 use Rattle.std.proofs.Common.{◌≡◌, ◌<◌, ◌+◌, ◌-◌, ◌∙◌, ap, get_or, arith}
-use Rattle.su_index.specs.Chunks.{entries_of, before_chunk}
+use Rattle.su_index.specs.Chunks.{entries_of}
+use Rattle.su_index.specs.inside.Chunks.{before_chunk}
 use Rattle.su_index.proofs.Chunked.{len-some, before-len, before-most}
 use Rattle.su_index.proofs.finding.last_of.Goals as goal
 

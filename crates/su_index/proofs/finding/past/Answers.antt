@@ -1,5 +1,6 @@
 use Rattle.std.proofs.Common.{◌<◌, ◌+◌, true, false, arith, length}
-use Rattle.su_index.specs.Chunks.{entries_of, before_chunk, rank_in}
+use Rattle.su_index.specs.Chunks.{entries_of}
+use Rattle.su_index.specs.inside.Chunks.{before_chunk, rank_in}
 use Rattle.su_index.specs.Entries.{positions}
 use Rattle.su_index.specs.Order.{value_at}
 use Rattle.su_index.proofs.Chunked.{rank-within, place-end, at-most}

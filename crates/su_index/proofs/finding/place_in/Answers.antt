@@ -1,8 +1,10 @@
 use Rattle.std.proofs.Common.{◌≡◌, ◌<◌, ◌∙◌, ap, refl, sym, subst, ◌+◌, ◌-◌, ◌/◌, inl, inr, true, false, arith, length, slice_index}
 use Rattle.std.proofs.lemmas.Bool.{false≢true}
-use Rattle.su_index.specs.Chunks.{entries_of, before_chunk}
+use Rattle.su_index.specs.Chunks.{entries_of}
+use Rattle.su_index.specs.inside.Chunks.{before_chunk}
 use Rattle.su_index.specs.Entries.{positions}
-use Rattle.su_index.specs.Order.{value_at, comes_before, has_at}
+use Rattle.su_index.specs.Order.{value_at}
+use Rattle.su_index.specs.inside.Order.{comes_before, has_at}
 use Rattle.su_index.proofs.Chunked.{before-len, rank-within, rank-end}
 use Rattle.su_index.proofs.Entries.{positions_length, at_position, entry_within, entry_lead, entry_before}
 use Rattle.su_index.proofs.Search.{comes_before-below, comes_before-above, has_between}

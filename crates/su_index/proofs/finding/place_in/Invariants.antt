@@ -1,8 +1,10 @@
 use Rattle.std.proofs.Common.{◌≡◌, ◌<◌, ◌≤◌, ◌+◌, ◌-◌, ℕ, true, false, length, slice_index}
 use Rattle.su_index.specs.declared.chunk.Chunk.{Chunk}
-use Rattle.su_index.specs.Chunks.{entries_of, len_at, before_chunk}
+use Rattle.su_index.specs.Chunks.{entries_of, len_at}
+use Rattle.su_index.specs.inside.Chunks.{before_chunk}
 use Rattle.su_index.specs.Entries.{positions}
-use Rattle.su_index.specs.Order.{value_at, comes_before, has_at}
+use Rattle.su_index.specs.Order.{value_at}
+use Rattle.su_index.specs.inside.Order.{comes_before, has_at}
 use Rattle.su_index.proofs.finding.place_in.Given as goal
 
 abbrev pub invariant-loop-low : goal.invariant-loop-low

@@ -1,5 +1,5 @@
 use Rattle.std.proofs.Common.{◌≡◌, take}
-use Rattle.su_index.specs.Entries.{kept_entries}
+use Rattle.su_index.specs.inside.Entries.{kept_entries}
 use Rattle.su_index.proofs.keeping.kept_run.Given as goal
 
 abbrev pub invariant-loop-entry : goal.invariant-loop-entry

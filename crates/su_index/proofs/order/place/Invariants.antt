@@ -1,6 +1,7 @@
 use Rattle.std.proofs.Common.{◌≡◌, ◌<◌, ◌≤◌, ◌-◌, ℕ, true, false, length, slice_index}
 use Rattle.su_index.specs.Entries.{positions}
-use Rattle.su_index.specs.Order.{value_at, comes_before}
+use Rattle.su_index.specs.Order.{value_at}
+use Rattle.su_index.specs.inside.Order.{comes_before}
 use Rattle.su_index.proofs.order.place.Given as goal
 
 abbrev pub invariant-loop-low : goal.invariant-loop-low

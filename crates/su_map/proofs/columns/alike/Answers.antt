@@ -1,7 +1,7 @@
 use Rattle.std.proofs.Common.{◌≡◌, ◌+◌, ◌^◌, length, get_or, sym, ap, ◌∙◌, ℕ, true≢false, arith}
 use Rattle.std.specs.Int.{bit_at}
 use Rattle.su_map.specs.Lists.{row_of}
-use Rattle.su_map.specs.Targets.{AlikeAt}
+use Rattle.su_map.specs.inside.Targets.{AlikeAt}
 use Rattle.su_map.proofs.Cells.{read_holds}
 use Rattle.su_map.proofs.Members.{collect_more, collect_same, full_member}
 use Rattle.su_map.proofs.columns.alike.Goals as goal

@@ -1,6 +1,6 @@
 use Rattle.std.proofs.Common.{◌≡◌, ℕ, ◌<◌, ◌↔◌}
 use Rattle.std.specs.Int.{bit_at}
-use Rattle.su_map.specs.Targets.{AlikeAt}
+use Rattle.su_map.specs.inside.Targets.{AlikeAt}
 use Rattle.su_map.proofs.columns.alike.Given as goal
 
 abbrev pub invariant-loop-j : goal.invariant-loop-j

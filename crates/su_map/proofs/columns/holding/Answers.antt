@@ -1,6 +1,6 @@
 use Rattle.std.proofs.Common.{◌≡◌, ℕ, sym, ap, ◌∙◌, true≢false, arith}
 use Rattle.std.specs.Int.{bit_at}
-use Rattle.su_map.specs.Targets.{HoldsAt}
+use Rattle.su_map.specs.inside.Targets.{HoldsAt}
 use Rattle.su_map.proofs.Cells.{read_holds}
 use Rattle.su_map.proofs.Members.{collect_none, collect_more, collect_same}
 use Rattle.su_map.proofs.columns.holding.Goals as goal

@@ -1,6 +1,6 @@
 use Rattle.std.proofs.Common.{◌≡◌, ℕ, ◌<◌, ◌↔◌}
 use Rattle.std.specs.Int.{bit_at}
-use Rattle.su_map.specs.Targets.{HoldsAt}
+use Rattle.su_map.specs.inside.Targets.{HoldsAt}
 use Rattle.su_map.proofs.columns.holding.Given as goal
 
 abbrev pub invariant-loop-j : goal.invariant-loop-j

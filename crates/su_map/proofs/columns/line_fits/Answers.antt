@@ -1,5 +1,5 @@
 use Rattle.std.proofs.Common.{[], refl, sym, ◌∙◌, true≢false, arith}
-use Rattle.su_map.specs.Targets.{CellFits}
+use Rattle.su_map.specs.inside.Targets.{CellFits}
 use Rattle.su_map.proofs.Cells.{cells_fit, fits_cells, no_head, no_head_itself}
 use Rattle.su_map.proofs.Members.{below_more}
 use Rattle.su_map.proofs.columns.line_fits.Goals as goal

@@ -1,5 +1,5 @@
 use Rattle.std.proofs.Common.{ℕ, ◌<◌, []}
-use Rattle.su_map.specs.Targets.{CellFits}
+use Rattle.su_map.specs.inside.Targets.{CellFits}
 use Rattle.su_map.proofs.columns.line_fits.Given as goal
 
 abbrev pub invariant-loop-column : goal.invariant-loop-column

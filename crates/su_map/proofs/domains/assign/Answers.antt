@@ -1,6 +1,6 @@
 use Rattle.std.proofs.Common.{◌≡◌, ◌+◌, ◌<◌, ◌↔◌, ◌∙◌, ℕ, length, get_or, sym, true≢false, arith}
 use Rattle.std.specs.Int.{bit_at}
-use Rattle.su_map.specs.Choices.{IsLeft}
+use Rattle.su_map.specs.inside.Choices.{IsLeft}
 use Rattle.su_map.proofs.Members.{no_member, set_entries}
 use Rattle.su_map.proofs.Narrowing.{less_room, left_shrinks, left_only, left_fits, left_has, left_all}
 use Rattle.su_map.proofs.domains.assign.Goals as goal

@@ -1,6 +1,6 @@
 use Rattle.std.proofs.Common.{◌≡◌, ℕ, ◌<◌, ◌↔◌, get_or}
 use Rattle.std.specs.Int.{bit_at}
-use Rattle.su_map.specs.Choices.{IsLeft}
+use Rattle.su_map.specs.inside.Choices.{IsLeft}
 use Rattle.su_map.proofs.domains.assign.Given as goal
 
 abbrev pub invariant-loop-q : goal.invariant-loop-q

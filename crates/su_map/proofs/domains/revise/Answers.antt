@@ -1,6 +1,6 @@
 use Rattle.std.proofs.Common.{◌≡◌, ◌∙◌, ℕ, length, sym, ap, arith}
 use Rattle.std.specs.Int.{bit_at}
-use Rattle.su_map.specs.Choices.{IsChoice}
+use Rattle.su_map.specs.inside.Choices.{IsChoice}
 use Rattle.su_map.proofs.Members.{no_member, without_in, with_in}
 use Rattle.su_map.proofs.Narrowing.{set_choice, set_shrinks, set_alive}
 use Rattle.su_map.proofs.domains.revise.Goals as goal

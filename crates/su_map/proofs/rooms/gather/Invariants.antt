@@ -1,6 +1,6 @@
 use Rattle.std.proofs.Common.{◌≡◌, ◌≤◌, take, map}
 use Rattle.su_map.specs.Lists.{numbers_of}
-use Rattle.su_map.specs.Choices.{choice_of}
+use Rattle.su_map.specs.inside.Choices.{choice_of}
 use Rattle.su_map.proofs.rooms.gather.Given as goal
 
 abbrev pub invariant-loop-r : goal.invariant-loop-r

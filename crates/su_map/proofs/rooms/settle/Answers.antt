@@ -1,6 +1,6 @@
 use Rattle.std.proofs.Common.{◌≡◌, ◌⊎◌, ◌+◌, ◌*◌, ◌≤◌, ◌∙◌, ℕ, length, sym, subst, arith}
 use Rattle.su_map.specs.Lists.{numbers_of}
-use Rattle.su_map.specs.Choices.{IsChoice, IsChoiceInto, AreSame, IsLess, Shrinks, choice_of, Stands, tries, ArePassed}
+use Rattle.su_map.specs.inside.Choices.{IsChoice, IsChoiceInto, AreSame, IsLess, Shrinks, choice_of, Stands, tries, ArePassed}
 use Rattle.su_map.proofs.Members.{full_member}
 use Rattle.su_map.proofs.Narrowing.{widen}
 use Rattle.su_map.proofs.Settling.{AreBoth, both_rows, into_choice, choice_into, same_rows, stands_start, levels_enough, rows_tries, rows_passed}

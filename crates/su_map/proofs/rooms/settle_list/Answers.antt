@@ -1,6 +1,6 @@
 use Rattle.std.proofs.Common.{◌≡◌, ◌⊎◌, ◌≤◌, ◌+◌, ◌∙◌, length, map, sym, ap, subst, arith}
 use Rattle.su_map.specs.Lists.{numbers_of, IsBefore}
-use Rattle.su_map.specs.Choices.{IsChoiceInto, AreSame, IsLess, choice_of, tries, ArePassed}
+use Rattle.su_map.specs.inside.Choices.{IsChoiceInto, AreSame, IsLess, choice_of, tries, ArePassed}
 use Rattle.su_map.proofs.Settling.{lists_first}
 use Rattle.su_map.proofs.rooms.settle_list.Goals as goal
 

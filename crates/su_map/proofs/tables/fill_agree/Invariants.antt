@@ -1,6 +1,6 @@
 use Rattle.std.proofs.Common.{◌≡◌, ◌≢◌, ℕ, ◌<◌, get_or, length}
 use Rattle.std.specs.Int.{bit_at}
-use Rattle.su_map.specs.Targets.{IsTold}
+use Rattle.su_map.specs.inside.Targets.{IsTold}
 use Rattle.su_map.proofs.tables.fill_agree.Given as goal
 
 abbrev pub invariant-loop-i : goal.invariant-loop-i

@@ -1,6 +1,6 @@
 use Rattle.std.proofs.Common.{◌≡◌, ◌+◌, ◌∙◌, ℕ, get_or, sym, ap, subst, true≢false, arith, get_or-set_other, get_or-set_same}
 use Rattle.std.specs.Int.{bit_at}
-use Rattle.su_map.specs.Targets.{AreTold}
+use Rattle.su_map.specs.inside.Targets.{AreTold}
 use Rattle.su_map.proofs.Members.{below_more}
 use Rattle.su_map.proofs.Telling.{told_row}
 use Rattle.su_map.proofs.tables.fill_pair.Goals as goal

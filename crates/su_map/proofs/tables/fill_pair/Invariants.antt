@@ -1,6 +1,6 @@
 use Rattle.std.proofs.Common.{◌≡◌, ℕ, ◌+◌, ◌<◌, get_or}
 use Rattle.std.specs.Int.{bit_at}
-use Rattle.su_map.specs.Targets.{AreTold}
+use Rattle.su_map.specs.inside.Targets.{AreTold}
 use Rattle.su_map.proofs.tables.fill_pair.Given as goal
 
 abbrev pub invariant-loop-p : goal.invariant-loop-p

@@ -1,7 +1,7 @@
 use Rattle.std.proofs.Common.{◌≡◌, ◌≢◌, ◌+◌, ◌*◌, ◌∙◌, ℕ, get_or, sym, ap, subst, true≢false, arith}
 use Rattle.std.specs.Int.{bit_at}
 use Rattle.su_map.specs.Lists.{row_of}
-use Rattle.su_map.specs.Targets.{IsTold}
+use Rattle.su_map.specs.inside.Targets.{IsTold}
 use Rattle.su_map.proofs.Members.{below_more}
 use Rattle.su_map.proofs.Telling.{told_kept, shared_is}
 use Rattle.su_map.proofs.tables.fill_row.Goals as goal

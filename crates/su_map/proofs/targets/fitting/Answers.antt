@@ -3,7 +3,7 @@ use Rattle.std.specs.Int.{bit_at}
 use Rattle.su_tableau.specs.declared.symbols.Sym.{Sym}
 use Rattle.su_tableau.specs.declared.symbols.Sym.TheVariants.{Const, Var}
 use Rattle.su_map.specs.Lists.{row_of}
-use Rattle.su_map.specs.Targets.{CellFits, HoldsAt, AlikeAt}
+use Rattle.su_map.specs.inside.Targets.{CellFits, HoldsAt, AlikeAt}
 use Rattle.su_map.proofs.Cells.{cell_read, line_holds, const_fits, head_fits, alike_fits, among_same}
 use Rattle.su_map.proofs.targets.fitting.Goals as goal
 

@@ -1,7 +1,7 @@
 use Rattle.std.proofs.Common.{◌≡◌, ℕ, ◌<◌, ◌↔◌, length}
 use Rattle.std.specs.Int.{bit_at}
 use Rattle.su_map.specs.Lists.{row_of}
-use Rattle.su_map.specs.Targets.{CellFits}
+use Rattle.su_map.specs.inside.Targets.{CellFits}
 use Rattle.su_map.proofs.targets.targets_of.Given as goal
 
 abbrev pub invariant-loop-column : goal.invariant-loop-column

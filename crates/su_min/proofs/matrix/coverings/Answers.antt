@@ -1,7 +1,7 @@
 use Rattle.std.proofs.Common.{ap, ◌∙◌}
 use Rattle.std.specs.Prelude.{IfOk}
 use Rattle.rayon.proofs.ToStd.{slice-AllZip}
-use Rattle.su_min.specs.Matrix.{IsRowOf, IsMatrix}
+use Rattle.su_min.specs.inside.Matrix.{IsRowOf, IsMatrix}
 use Rattle.su_min.proofs.Rowing.{collected, rows_matrix}
 use Rattle.su_min.proofs.matrix.coverings.Goals as goal
 

@@ -1,5 +1,5 @@
 use Rattle.std.proofs.Common.{length}
-use Rattle.su_min.specs.Matrix.{entry, IsDroppedIn}
+use Rattle.su_min.specs.inside.Matrix.{entry, IsDroppedIn}
 use Rattle.su_min.proofs.Rowing.{marks_more}
 use Rattle.su_min.proofs.reducing.dropped_terms.Goals as goal
 

@@ -1,5 +1,5 @@
 use Rattle.std.proofs.Common.{◌≡◌, ◌<◌, ℕ, true, length}
-use Rattle.su_min.specs.Matrix.{entry, IsDroppedIn}
+use Rattle.su_min.specs.inside.Matrix.{entry, IsDroppedIn}
 use Rattle.su_min.proofs.reducing.first_cover.Given as goal
 
 abbrev pub invariant-loop-k : goal.invariant-loop-k

@@ -1,5 +1,5 @@
 use Rattle.std.proofs.Common.{◌≡◌, ◌<◌, ◌⊎◌, ℕ, true, false}
-use Rattle.su_min.specs.Matrix.{entry}
+use Rattle.su_min.specs.inside.Matrix.{entry}
 use Rattle.su_min.proofs.reducing.is_dropped.Given as goal
 
 abbrev pub invariant-loop-j : goal.invariant-loop-j

@@ -1,5 +1,5 @@
 use Rattle.std.proofs.Common.{◌∙◌, ◌+◌, ◌<◌, length, true≢false, sym, subst, arith}
-use Rattle.su_min.specs.Matrix.{entry, IsMatrix, IsDroppedIn, AreMarks}
+use Rattle.su_min.specs.inside.Matrix.{entry, IsMatrix, IsDroppedIn, AreMarks}
 use Rattle.su_min.proofs.Telling.{all_minimised, is_preorder, dropped_from, kept_from, least_cover}
 use Rattle.su_min.proofs.Spared.{needed}
 use Rattle.su_min.proofs.Stepping.{AreReduced, one_kept, one_dropped, all_reduced}

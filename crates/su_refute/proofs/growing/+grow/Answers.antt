@@ -5,7 +5,7 @@ use Rattle.std.proofs.lemmas.Result.{err_from_is_err_and}
 use Rattle.su_map.proofs.Searching.{without_less}
 use Rattle.su_refute.specs.declared.faults.RefuteFault.TheVariants.{Nodes}
 use Rattle.su_refute.specs.Trees.{lines_in}
-use Rattle.su_refute.specs.Positions.{Stands}
+use Rattle.su_refute.specs.inside.Positions.{Stands}
 use Rattle.su_refute.proofs.Standing.{some_todo, todo_within}
 use Rattle.su_refute.proofs.Grown.{tree_grown, row_in, target_in, sets_in, stands_next, targets_more, targets_same, counted_more, trees_more, over_grown, tree_below}
 use Rattle.su_refute.proofs.OneTree.{branch_count, count_made}

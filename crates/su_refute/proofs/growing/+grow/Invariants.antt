@@ -6,7 +6,7 @@ use Rattle.su_check.specs.Fitting.{sent_too}
 use Rattle.su_check.specs.Refuting.{AreExactly, target_of, node_of}
 use Rattle.su_refute.specs.Trees.{IsTreeAt}
 use Rattle.su_refute.specs.Trees.{lines_in}
-use Rattle.su_refute.specs.Positions.{Stands}
+use Rattle.su_refute.specs.inside.Positions.{Stands}
 use Rattle.su_refute.proofs.growing.+grow.Given as goal
 use Rattle.su_refute.proofs.OneTree.{branch_count}
 

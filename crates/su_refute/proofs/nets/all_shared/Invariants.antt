@@ -1,6 +1,6 @@
 use Rattle.std.proofs.Common.{◌≡◌, ℕ, ◌<◌, length, get_or, []}
 use Rattle.su_map.specs.Lists.{row_of}
-use Rattle.su_refute.specs.Nets.{AreShared}
+use Rattle.su_refute.specs.inside.Nets.{AreShared}
 use Rattle.su_refute.proofs.nets.all_shared.Given as goal
 
 abbrev pub invariant-loop-q : goal.invariant-loop-q

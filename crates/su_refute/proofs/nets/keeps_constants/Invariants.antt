@@ -1,5 +1,5 @@
 use Rattle.std.proofs.Common.{◌≡◌, ℕ, ◌<◌, true}
-use Rattle.su_check.specs.Cells.{cell, is_const}
+use Rattle.su_check.specs.inside.Cells.{cell, is_const}
 use Rattle.su_refute.proofs.nets.keeps_constants.Given as goal
 
 abbrev pub invariant-loop-c : goal.invariant-loop-c

@@ -1,6 +1,6 @@
 use Rattle.std.proofs.Common.{arith}
 use Rattle.su_map.specs.Lists.{row_of}
-use Rattle.su_refute.specs.Nets.{IsTold}
+use Rattle.su_refute.specs.inside.Nets.{IsTold}
 use Rattle.su_refute.proofs.Sharing.{push_entries, push_length, shared_within, shared_as, width_at, told_by}
 use Rattle.su_refute.proofs.nets.told.Goals as goal
 

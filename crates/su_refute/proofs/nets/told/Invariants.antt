@@ -1,5 +1,5 @@
 use Rattle.std.proofs.Common.{◌≡◌, ℕ, ◌<◌, length, get_or}
-use Rattle.su_refute.specs.Nets.{IsTold}
+use Rattle.su_refute.specs.inside.Nets.{IsTold}
 use Rattle.su_refute.proofs.nets.told.Given as goal
 
 abbrev pub invariant-loop-q : goal.invariant-loop-q

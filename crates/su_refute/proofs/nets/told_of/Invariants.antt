@@ -1,5 +1,5 @@
 use Rattle.std.proofs.Common.{◌≡◌, ℕ, ◌<◌, length, get_or, []}
-use Rattle.su_refute.specs.Nets.{AreTold}
+use Rattle.su_refute.specs.inside.Nets.{AreTold}
 use Rattle.su_refute.proofs.nets.told_of.Given as goal
 
 abbrev pub invariant-loop-target : goal.invariant-loop-target

@@ -1,5 +1,5 @@
 use Rattle.std.proofs.Common.{◌≡◌, ℕ, ◌<◌, get_or}
-use Rattle.su_check.specs.Cells.{cell}
+use Rattle.su_check.specs.inside.Cells.{cell}
 use Rattle.su_refute.specs.declared.places.Places.{Places}
 use Rattle.su_refute.proofs.places.agree_at.Given as goal
 

@@ -2,7 +2,7 @@ use Rattle.std.proofs.Common.{ℕ, sym, subst}
 use Rattle.std.proofs.lemmas.Result.{IfOk-weaker}
 use Rattle.su_tableau.specs.Tableaux.{IsSmall}
 use Rattle.su_refute.specs.Trees.{IsTree, lines_in}
-use Rattle.su_refute.specs.Positions.{Stands, IsTreeFor}
+use Rattle.su_refute.specs.inside.Positions.{Stands, IsTreeFor}
 use Rattle.su_refute.proofs.Needed.{row_small, stands_first, tree_first, over_first, begins_as}
 use Rattle.su_refute.proofs.refuting.tree_of.Goals as goal
 

@@ -1,6 +1,6 @@
 use Rattle.std.proofs.Common.{◌≡◌, ◌++◌, map}
 use Rattle.std.specs.List.{range_with_len}
-use Rattle.su_sql.specs.Making.{cell_at}
+use Rattle.su_sql.specs.Cells.{cell_at}
 use Rattle.su_sql.proofs.cells.push_cells.Given as goal
 
 abbrev pub invariant-loop-cell : goal.invariant-loop-cell

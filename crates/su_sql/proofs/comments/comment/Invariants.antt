@@ -1,5 +1,5 @@
 use Rattle.std.proofs.Common.{◌≡◌, ◌++◌, drop}
-use Rattle.su_sql.specs.Changes.{comment_from, comment_text}
+use Rattle.su_sql.specs.Comments.{comment_from, comment_text}
 use Rattle.su_sql.proofs.comments.comment.Given as goal
 
 abbrev pub invariant-loop-byte : goal.invariant-loop-byte

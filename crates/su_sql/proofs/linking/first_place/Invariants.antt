@@ -1,5 +1,5 @@
 use Rattle.std.proofs.Common.{◌≡◌, drop}
-use Rattle.su_sql.specs.Making.{first_place}
+use Rattle.su_sql.specs.Cells.{first_place}
 use Rattle.su_sql.proofs.linking.first_place.Given as goal
 
 abbrev pub invariant-loop-cell : goal.invariant-loop-cell

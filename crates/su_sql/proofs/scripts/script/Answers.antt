@@ -3,7 +3,7 @@ use Rattle.std.proofs.lemmas.List.{take_all}
 use Rattle.su_lex.specs.declared.spans.Span.{Span}
 use Rattle.su_lex.specs.Pieces.{Pieces}
 use Rattle.su_state.specs.DatabaseValue.{DatabaseValue}
-use Rattle.su_sql.specs.Statements.{AreWritten, output_of, text_at}
+use Rattle.su_sql.specs.Scripts.{AreWritten, output_of, text_at}
 use Rattle.su_sql.proofs.Written.{SoFar, one_more}
 use Rattle.su_sql.proofs.scripts.script.Goals as goal
 

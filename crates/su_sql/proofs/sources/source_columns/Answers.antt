@@ -1,4 +1,4 @@
-use Rattle.su_sql.specs.Queries.{source_column}
+use Rattle.su_sql.specs.Tables.{source_column}
 use Rattle.su_sql.proofs.Listing.{images_next}
 use Rattle.su_sql.proofs.sources.source_columns.Goals as goal
 

@@ -1,5 +1,5 @@
 use Rattle.std.proofs.Common.{◌≡◌, map, take}
-use Rattle.su_sql.specs.Queries.{source_text}
+use Rattle.su_sql.specs.Tables.{source_text}
 use Rattle.su_sql.proofs.sources.source_parts.Given as goal
 
 abbrev pub invariant-loop-source : goal.invariant-loop-source

@@ -1,4 +1,4 @@
-use Rattle.su_sql.specs.Queries.{table_text}
+use Rattle.su_sql.specs.Tables.{table_text}
 use Rattle.su_sql.proofs.Listing.{images_next}
 use Rattle.su_sql.proofs.sources.table_parts.Goals as goal
 

@@ -1,6 +1,6 @@
 use Rattle.std.proofs.Common.{◌≡◌, map}
 use Rattle.std.specs.List.{range_with_len}
-use Rattle.su_sql.specs.Queries.{table_text}
+use Rattle.su_sql.specs.Tables.{table_text}
 use Rattle.su_sql.proofs.sources.table_parts.Given as goal
 
 abbrev pub invariant-loop-number : goal.invariant-loop-number

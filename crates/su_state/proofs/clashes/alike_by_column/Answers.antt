@@ -1,6 +1,6 @@
 use Rattle.std.proofs.Common.{◌≡◌, refl, arith}
 use Rattle.std.proofs.lemmas.Bool.{false≢true}
-use Rattle.su_state.specs.Sides.{row_at}
+use Rattle.su_state.specs.inside.Sides.{row_at}
 use Rattle.su_state.proofs.Alike.{none_more, none_at_all}
 use Rattle.su_state.proofs.Least.{row_there}
 use Rattle.su_state.proofs.clashes.alike_by_column.Goals as goal

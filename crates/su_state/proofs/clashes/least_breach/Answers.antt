@@ -1,7 +1,7 @@
 use Rattle.std.proofs.Common.{◌≡◌, List, [], Contains, refl}
 use Rattle.std.proofs.lemmas.List.Elements.{Contains-get_or}
 use Rattle.su_base.specs.declared.values.Value.{Value}
-use Rattle.su_state.specs.Sides.{AgreeAt, row_at}
+use Rattle.su_state.specs.inside.Sides.{AgreeAt, row_at}
 use Rattle.su_state.proofs.Alike.{one_for_all}
 use Rattle.su_state.proofs.Least.{row_there}
 use Rattle.su_state.proofs.clashes.least_breach.Goals as goal

@@ -1,7 +1,7 @@
 use Rattle.std.proofs.Common.{◌≡◌, inl, inr, refl, sym}
 use Rattle.std.proofs.lemmas.Bool.{false≢true}
 use Rattle.su_base.specs.Value.{compare_lists}
-use Rattle.su_state.specs.Sides.{row_at}
+use Rattle.su_state.specs.inside.Sides.{row_at}
 use Rattle.su_state.proofs.Least.{is_less, not_less, row_there}
 use Rattle.su_state.proofs.clashes.lesser.Goals as goal
 

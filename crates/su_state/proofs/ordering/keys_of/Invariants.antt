@@ -1,5 +1,5 @@
 use Rattle.std.proofs.Common.{◌≡◌, All, map, take}
-use Rattle.su_state.specs.Leads.{IsRowLead}
+use Rattle.su_state.specs.inside.Leads.{IsRowLead}
 use Rattle.su_state.proofs.ordering.keys_of.Given as goal
 
 abbrev pub invariant-loop-row : goal.invariant-loop-row

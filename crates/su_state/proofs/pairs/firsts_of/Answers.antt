@@ -1,8 +1,8 @@
 use Rattle.std.proofs.Common.{◌≡◌, List, [], subst, arith}
 use Rattle.std.proofs.lemmas.List.{get_or_read}
 use Rattle.su_base.specs.declared.values.Value.{Value}
-use Rattle.su_state.specs.Sides.{row_at}
-use Rattle.su_state.specs.Parts.{noted_in, Notes}
+use Rattle.su_state.specs.inside.Sides.{row_at}
+use Rattle.su_state.specs.inside.Parts.{noted_in, Notes}
 use Rattle.su_state.proofs.Paired.{noted_more, firsts_all}
 use Rattle.su_state.proofs.pairs.firsts_of.Goals as goal
 

@@ -1,4 +1,4 @@
-use Rattle.su_state.specs.Parts.{noted_in}
+use Rattle.su_state.specs.inside.Parts.{noted_in}
 use Rattle.su_state.proofs.Paired.{AreNoted}
 use Rattle.su_state.proofs.pairs.firsts_of.Given as goal
 

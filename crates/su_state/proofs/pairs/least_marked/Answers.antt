@@ -1,5 +1,5 @@
 use Rattle.std.proofs.Common.{◌≡◌, ℕ, length, subst, arith}
-use Rattle.su_state.specs.Pairs.{IsLeastMarked}
+use Rattle.su_state.specs.inside.Pairs.{IsLeastMarked}
 use Rattle.su_state.proofs.Paired.{not_marked, is_marked}
 use Rattle.su_state.proofs.pairs.least_marked.Goals as goal
 use Rattle.su_state.proofs.pairs.least_marked.Goals.{then-marks-firsts, else-marks-firsts}

@@ -1,4 +1,4 @@
-use Rattle.su_state.specs.Pairs.{IsLeastMarked}
+use Rattle.su_state.specs.inside.Pairs.{IsLeastMarked}
 use Rattle.su_state.proofs.pairs.least_marked.Given as goal
 
 abbrev pub invariant-loop-position : goal.invariant-loop-position

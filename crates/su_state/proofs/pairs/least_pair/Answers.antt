@@ -1,9 +1,9 @@
 use Rattle.std.proofs.Common.{◌≡◌, ◌<◌, ℕ, Bool, List, [], length, Some, None, sym, ap, subst, ◌∙◌, refl}
 use Rattle.std.proofs.lemmas.List.{get_or_read}
 use Rattle.su_base.specs.declared.values.Value.{Value}
-use Rattle.su_state.specs.Sides.{Clash, IsLeastClash, row_at}
-use Rattle.su_state.specs.Parts.{HaveOneWidth}
-use Rattle.su_state.specs.Pairs.{AreFirsts, AreMarks, IsLeastMarked}
+use Rattle.su_state.specs.inside.Sides.{Clash, IsLeastClash, row_at}
+use Rattle.su_state.specs.inside.Parts.{HaveOneWidth}
+use Rattle.su_state.specs.inside.Pairs.{AreFirsts, AreMarks, IsLeastMarked}
 use Rattle.su_state.proofs.Filled.{one_width}
 use Rattle.su_state.proofs.Paired.{not_alone, none_clash, is_least_pair}
 use Rattle.su_state.proofs.pairs.least_pair.Goals as goal

@@ -3,8 +3,8 @@ use Rattle.std.proofs.lemmas.Bool.{cases_lt, false≢true}
 use Rattle.std.proofs.lemmas.List.{get_or_read, get_or-replicate, get_or_past, length-replicate}
 use Rattle.std.proofs.Math.ListN.{replicate}
 use Rattle.su_base.specs.declared.values.Value.{Value}
-use Rattle.su_state.specs.Sides.{AgreeAt, row_at}
-use Rattle.su_state.specs.Pairs.{AreMarks, first_at, mark_at}
+use Rattle.su_state.specs.inside.Sides.{AgreeAt, row_at}
+use Rattle.su_state.specs.inside.Pairs.{AreMarks, first_at, mark_at}
 use Rattle.su_state.proofs.Paired.{none_marked, still_marks, one_marked}
 use Rattle.su_state.proofs.pairs.marks_of.Goals as goal
 use Rattle.su_state.proofs.pairs.marks_of.Goals.{then-not-agree, else-not-agree}

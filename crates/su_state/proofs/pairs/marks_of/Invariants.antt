@@ -1,4 +1,4 @@
-use Rattle.su_state.specs.Pairs.{AreMarks}
+use Rattle.su_state.specs.inside.Pairs.{AreMarks}
 use Rattle.su_state.proofs.pairs.marks_of.Given as goal
 
 abbrev pub invariant-loop-position : goal.invariant-loop-position

@@ -1,5 +1,5 @@
 use Rattle.std.proofs.Common.{sym}
-use Rattle.su_state.specs.Parts.{noted_in}
+use Rattle.su_state.specs.inside.Parts.{noted_in}
 use Rattle.su_state.proofs.Noted.{noted_there, noted_new}
 use Rattle.su_state.proofs.parts.first_with.Goals as goal
 use Rattle.su_state.proofs.parts.first_with.Goals.{in-Ok, in-Err}

@@ -2,8 +2,8 @@ use Rattle.std.proofs.Common.{◌++◌, ◌<◌, ◌≤◌, ◌+◌, List, [], l
 use Rattle.std.proofs.lemmas.List.{length-append}
 use Rattle.std.proofs.lemmas.List.Elements.{All-append, Contains-get_or}
 use Rattle.su_base.specs.declared.values.Value.{Value}
-use Rattle.su_state.specs.Sides.{AgreeAt, row_at}
-use Rattle.su_state.specs.Parts.{noted_in, Notes}
+use Rattle.su_state.specs.inside.Sides.{AgreeAt, row_at}
+use Rattle.su_state.specs.inside.Parts.{noted_in, Notes}
 use Rattle.su_state.proofs.Noted.{alike_more, noted_within, none_of_alike}
 use Rattle.su_state.proofs.parts.none_clash.Goals as goal
 

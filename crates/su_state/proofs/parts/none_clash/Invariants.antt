@@ -1,5 +1,5 @@
 use Rattle.std.proofs.Common.{◌++◌}
-use Rattle.su_state.specs.Parts.{noted_in}
+use Rattle.su_state.specs.inside.Parts.{noted_in}
 use Rattle.su_state.proofs.Noted.{AreAlike}
 use Rattle.su_state.proofs.parts.none_clash.Given as goal
 

@@ -1,5 +1,5 @@
 use Rattle.std.proofs.Common.{◌≡◌, take}
-use Rattle.su_state.specs.Parts.{part_of}
+use Rattle.su_state.specs.inside.Parts.{part_of}
 use Rattle.su_state.proofs.parts.part.Given as goal
 
 abbrev pub invariant-loop-c : goal.invariant-loop-c

@@ -1,4 +1,4 @@
-use Rattle.su_window.specs.Reading.{columns_of}
+use Rattle.su_window.specs.inside.Reading.{columns_of}
 use Rattle.su_window.proofs.Made.{made_more}
 use Rattle.su_window.proofs.columns.all_columns.Goals as goal
 

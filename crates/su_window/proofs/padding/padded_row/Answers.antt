@@ -1,5 +1,5 @@
 use Rattle.std.proofs.Common.{◌+◌, get_or, None}
-use Rattle.su_window.specs.Reading.{symbol_in}
+use Rattle.su_window.specs.inside.Reading.{symbol_in}
 use Rattle.su_window.proofs.Made.{made_more}
 use Rattle.su_window.proofs.padding.padded_row.Goals as goal
 

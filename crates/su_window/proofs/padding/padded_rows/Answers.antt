@@ -5,7 +5,7 @@ use Rattle.std.proofs.lemmas.List.FromFn.{length-map-range_with_len}
 use Rattle.su_schema.specs.SchemaValue.{SchemaValue, AttributeEntry, column_of}
 use Rattle.su_window.specs.Cuts.{width}
 use Rattle.su_window.specs.Padded.{object_at, row_read, padded_row, IsReading}
-use Rattle.su_window.specs.Reading.{columns_of}
+use Rattle.su_window.specs.inside.Reading.{columns_of}
 use Rattle.su_window.specs.declared.readings.Reading.{Reading}
 use Rattle.su_window.proofs.Made.{made_more}
 use Rattle.su_window.proofs.Rows.{none, reading_at}

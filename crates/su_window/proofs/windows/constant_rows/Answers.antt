@@ -2,7 +2,7 @@ use Rattle.std.proofs.Common.{◌≡◌, ◌↔◌, ◌∙◌, ℕ, List, take, 
 use Rattle.su_base.specs.declared.values.Value.{Value}
 use Rattle.su_tableau.specs.declared.symbols.Sym.{Sym}
 use Rattle.su_tableau.specs.Tableaux.{AreBelow}
-use Rattle.su_window.specs.Reading.{AreConstants}
+use Rattle.su_window.specs.inside.Reading.{AreConstants}
 use Rattle.su_window.proofs.Counted.{take_all}
 use Rattle.su_window.proofs.Constants.{rows_more}
 use Rattle.su_window.proofs.windows.constant_rows.Goals as goal

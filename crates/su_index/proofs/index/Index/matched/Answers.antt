@@ -1,8 +1,9 @@
 use Rattle.std.proofs.Common.{◌≡◌, ◌+◌, ◌<◌, ◌∙◌, ap, sym, length, get_or, arith}
-use Rattle.su_index.specs.Chunks.{rank_in}
+use Rattle.su_index.specs.inside.Chunks.{rank_in}
 use Rattle.su_index.specs.Entries.{positions}
 use Rattle.su_index.specs.Indexed.{entries_in}
-use Rattle.su_index.specs.Order.{value_at, IsSpan}
+use Rattle.su_index.specs.Order.{value_at}
+use Rattle.su_index.specs.inside.Order.{IsSpan}
 use Rattle.su_index.proofs.Entries.{positions_length, at_position}
 use Rattle.su_index.proofs.Spans.{index_positions, matches-span, IsMatch-span}
 use Rattle.su_index.proofs.index.Index.matched.Goals as goal

@@ -1,6 +1,6 @@
 use Rattle.std.proofs.Common.{◌≡◌, []}
 use Rattle.std.specs.Int.{bit_at}
-use Rattle.su_refute.specs.Nets.{IsBase, AreToldOf}
+use Rattle.su_refute.specs.inside.Nets.{IsBase, AreToldOf}
 use Rattle.su_refute.proofs.Sharing.{push_entries, push_length}
 use Rattle.su_refute.proofs.nets.Net.of.Goals as goal
 

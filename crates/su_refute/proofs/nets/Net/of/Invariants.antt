@@ -1,6 +1,6 @@
 use Rattle.std.proofs.Common.{◌≡◌, ℕ, ◌<◌, length, get_or, []}
 use Rattle.std.specs.Int.{bit_at}
-use Rattle.su_refute.specs.Nets.{IsBase, AreToldOf}
+use Rattle.su_refute.specs.inside.Nets.{IsBase, AreToldOf}
 use Rattle.su_refute.proofs.nets.Net.of.Given as goal
 
 abbrev pub invariant-loop-row : goal.invariant-loop-row

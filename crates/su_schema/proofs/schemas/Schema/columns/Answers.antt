@@ -2,7 +2,7 @@ use Rattle.std.proofs.Common.{◌≡◌, Some, ap, sym, refl, slice_get}
 use Rattle.std.specs.String.{string_bytes}
 use Rattle.std.proofs.lemmas.Option.{slice_get-map}
 use Rattle.su_schema.specs.SchemaValue.{IsRelation}
-use Rattle.su_schema.specs.Inside.{shown}
+use Rattle.su_schema.specs.Maps.{shown}
 use Rattle.su_schema.proofs.Entries.{All-at}
 use Rattle.su_schema.proofs.schemas.Schema.columns.Goals as goal
 

@@ -7,7 +7,7 @@ use Rattle.su_schema.specs.Checks.{first_failing, checks, pair_checks, is_known,
 use Rattle.su_schema.proofs.Numbers.{is_known-place_of, known-None, known-Some}
 use Rattle.su_schema.proofs.Accepted.{accepted, is_refused}
 use Rattle.su_schema.proofs.Extending.{stays_valid, object_shape, sets_kept}
-use Rattle.su_schema.specs.Kept.{object_on}
+use Rattle.su_schema.specs.inside.Kept.{object_on}
 use Rattle.su_schema.specs.Defining.{links_of}
 use Rattle.su_schema.proofs.schemas.Schema.object.Goals as goal
 

@@ -6,7 +6,7 @@ use Rattle.su_rel.specs.Stored.{Stored}
 use Rattle.su_state.specs.DatabaseValue.{DatabaseValue, IsWellKept}
 use Rattle.su_state.specs.declared.faults.DefineFault.{DefineFault}
 use Rattle.su_state.specs.Definitions.{Defines, tables_with}
-use Rattle.su_state.specs.Adding.{AddedHolds, IsAddedFault}
+use Rattle.su_state.specs.inside.Adding.{AddedHolds, IsAddedFault}
 use Rattle.su_state.proofs.Added.{tables_there, added_there, narrow, refused_added, kept_added, none_breaks}
 use Rattle.su_state.proofs.databases.Database.add_definition.Goals as goal
 

@@ -1,0 +1,6 @@
+-- Definitions that only contracts of private functions need.
+pub mod Agreeing
+pub mod Boards
+pub mod Cells
+pub mod Guides
+pub mod Reading

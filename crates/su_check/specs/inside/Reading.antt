@@ -1,0 +1,58 @@
+-- What the readers of lines give.
+-- stops: no item of a list stands there, so that the list ends
+-- No public contract cites this module.
+use Rattle.std.specs.Prelude.{◌≡◌, ℕ, List, ◌∷◌, ◌++◌, Result, Ok, Err, length, map, flat_map, codes, All}
+use Rattle.su_lex.specs.Names.{Begins}
+use Rattle.su_lex.specs.declared.meaning.Symbol.{Symbol}
+use Rattle.su_lex.specs.declared.meaning.Symbol.TheVariants.{Word, Sign}
+use Rattle.su_lex.specs.declared.signs.Sign.TheVariants as sign
+use Rattle.su_lex.specs.declared.ends.LexEnd.{LexEnd}
+use Rattle.su_lex.specs.declared.ends.LexEnd.TheVariants.{Syntax, NoMemory}
+use Rattle.su_tableau.specs.declared.symbols.Sym.{Sym}
+use Rattle.su_check.specs.declared.certificates.Term.{Term}
+use Rattle.su_check.specs.declared.certificates.RowTree.{RowTree}
+use Rattle.su_check.specs.Grammar.{number, sym_symbol, row_line, tree_line, node_symbols, term_lines, IsByte, IsNamed, IsByteNode}
+
+-- the value that came out; it isn't refused, and want of memory tells nothing
+abbrev pub Gives : {X : Type 0} → Result X LexEnd → (X → Type 0) → Type 0
+Gives (Ok x) P = P x
+Gives (Err Syntax) P = ⊥
+Gives (Err NoMemory) P = Unit {0}
+
+-- what is left begins with no member of the kind that was read
+abbrev pub Stops : {X : Type 0} → (X → Symbol) → (X → Type 0) → List Symbol → Type 0
+Stops {X = X} spell In r = (x : X) → In x → ¬ (Begins (spell x) r)
+
+-- ---- lines without their first symbol, before what follows them
+
+-- a row without its opening parenthesis, before what follows
+abbrev pub row_before : List Sym → List Symbol → List Symbol
+row_before row r = map sym_symbol row ++ Sign sign.Close ∷ r
+
+-- a tree without its word, before what follows
+abbrev pub tree_before : RowTree → List Symbol → List Symbol
+tree_before t r = number t.row ∷ (node_symbols t.node ++ r)
+
+-- a term without its word, before what follows
+abbrev pub term_before : Term → List Symbol → List Symbol
+term_before x r =
+    number x.number ∷ Word (codes "head") ∷ (map sym_symbol x.head ++ Word (codes "rows") ∷ (flat_map row_line x.rows
+    ++ Word (codes "kept") ∷ (map number x.kept ++ Word (codes "fold") ∷ (map number x.fold ++ (flat_map tree_line x.trees ++ r)))))
+
+-- the symbols of a term
+abbrev pub term_symbols : Term → List Symbol
+term_symbols x = flat_map (λ line. line) (term_lines x)
+
+-- another term follows, or nothing
+abbrev pub EndsTerm : List Symbol → Type 0
+EndsTerm r = (s : Symbol) → Begins s r → s ≡ Word (codes "term")
+
+-- ---- what the readers' types and tests tell of their values
+
+-- a row of this width whose variables have numbers that can be written
+abbrev pub IsRow : ℕ → List Sym → Type 0
+IsRow width row = (length row ≡ width) × All IsNamed row
+
+-- a tree whose row numbers are at most 255
+abbrev pub IsByteTree : RowTree → Type 0
+IsByteTree t = IsByte t.row × IsByteNode t.node

@@ -1,0 +1,40 @@
+-- Of Chunks: what only contracts of private functions need.
+-- No public contract cites this module.
+use Rattle.std.specs.Prelude.{◌<◌, ◌≤◌, ◌+◌, ◌-◌, ℕ, List, length, take, slice_index_or}
+use Rattle.std.specs.VecDeque.{deque_capacity}
+use Rattle.su_index.specs.declared.chunk.Chunk.{Chunk}
+use Rattle.su_index.specs.declared.place.Place.{Place}
+use Rattle.su_index.specs.Chunks.{entries_of, len_at}
+
+-- the room of chunk k
+abbrev pub capacity_at : List Chunk → ℕ → Chunk → ℕ
+capacity_at chunks k d = deque_capacity (slice_index_or chunks k d).entries
+
+-- how many entries stand before the k-th chunk
+abbrev pub before_chunk : List Chunk → ℕ → ℕ
+before_chunk chunks k = length (entries_of (take k chunks))
+
+-- how many entries stand before the place
+abbrev pub rank_in : List Chunk → Place → ℕ
+rank_in chunks p = before_chunk chunks p.chunk + p.at
+
+-- an entry can be put in at the place
+pub record IsGap (chunks : List Chunk) (p : Place) : Type 0 where
+  pub within : p.chunk < length chunks
+  pub most : (d : Chunk) → p.at ≤ len_at chunks p.chunk d
+
+-- the same, where the place past the last entry of a chunk is named as the first of the next one
+pub record IsPlace (chunks : List Chunk) (p : Place) : Type 0 where
+  pub gap : IsGap chunks p
+  pub inner : (d : Chunk) → p.chunk + 1 < length chunks → p.at < len_at chunks p.chunk d
+
+-- a chunk from the k-th on can take one more entry without memory
+pub record HasRoomFrom (k : ℕ) (chunks : List Chunk) : Type 0 where
+  pub at : ℕ
+  pub behind : k ≤ at
+  pub within : at < length chunks
+  pub room : (d : Chunk) → len_at chunks at d < capacity_at chunks at d
+
+-- the last chunk can
+abbrev pub HasRoom : List Chunk → Type 0
+HasRoom chunks = HasRoomFrom (length chunks - 1) chunks

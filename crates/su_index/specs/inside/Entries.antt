@@ -1,0 +1,21 @@
+-- Of Entries: what only contracts of private functions need.
+-- No public contract cites this module.
+use Rattle.std.specs.Prelude.{ℕ, Bool, List, map, filter}
+use Rattle.su_base.specs.declared.values.Value.{Value}
+use Rattle.su_index.specs.declared.entry.Entry.{Entry}
+use Rattle.su_index.specs.Order.{IsRun}
+use Rattle.su_index.specs.inside.Order.{is_kept, rank_of}
+use Rattle.su_index.specs.Entries.{positions, HaveLeads}
+
+-- a run of entries
+pub record IsRunWithLeads (at : ℕ → Value) (from : ℕ) (run : List Entry) : Type 0 where
+  pub order : IsRun at from (positions run)
+  pub leads : HaveLeads at run
+
+-- the entry of a kept row, at the position that it comes to
+abbrev pub kept_entry : List Bool → Entry → Entry
+kept_entry kept e = record { lead = e.lead; position = rank_of kept e.position }
+
+-- the entries of the kept rows, in the same order
+abbrev pub kept_entries : List Bool → List Entry → List Entry
+kept_entries kept run = map (kept_entry kept) (filter (λ e. is_kept kept e.position) run)

@@ -1,0 +1,46 @@
+-- Targets of a row, cell by cell.
+-- No public contract cites this module.
+use Rattle.std.specs.Prelude.{◌≡◌, ℕ, ◌+◌, ◌*◌, ◌<◌, ◌↔◌, List, length, get_or, Contains, Option, Some, None}
+use Rattle.std.specs.Int.{bit_at}
+use Rattle.su_base.specs.declared.values.Value.{Value}
+use Rattle.su_tableau.specs.declared.symbols.Sym.{Sym}
+use Rattle.su_tableau.specs.declared.symbols.Sym.TheVariants.{Const, Var}
+use Rattle.su_tableau.specs.Tableaux.{Tab}
+use Rattle.su_map.specs.Lists.{row_of}
+use Rattle.su_map.specs.Candidates.{Cell}
+
+-- the column is the first one of the row that holds the variable
+pub record IsFirstAt (row : List Sym) (column k : ℕ) : Type 0 where
+  pub cell : Cell row column (Var k)
+  pub first : (c : ℕ) → c < column → Cell row c (Var k) → ⊥
+
+-- row j holds the symbol at the column
+abbrev pub HoldsAt : Tab → ℕ → Sym → ℕ → Type 0
+HoldsAt t column x j = (d : Sym) → get_or (row_of t j) column d ≡ x
+
+-- row j holds one symbol at both columns
+abbrev pub AlikeAt : Tab → ℕ → ℕ → ℕ → Type 0
+AlikeAt t first column j = (d : Sym) → get_or (row_of t j) first d ≡ get_or (row_of t j) column d
+
+-- the cell of the row at the column fits the target line: constants, head symbols, and the first cell of its variable
+pub record CellFits (head head' row target : List Sym) (c : ℕ) : Type 0 where
+  pub constant : (v : Value) (d : Sym) → Cell row c (Const v) → get_or target c d ≡ Const v
+  pub head_symbol : (i k : ℕ) (d : Sym) → IsFirstAt head i k → Cell row c (Var k) → get_or head' i d ≡ get_or target c d
+  pub alike : (b k : ℕ) (d : Sym) → IsFirstAt row b k → Cell row c (Var k) → (Contains head (Var k) → ⊥) → get_or target b d ≡ get_or target c d
+
+-- for each column of ys its variable's column in xs; none for a constant, a head variable and one that isn't in xs
+pub record AreShared (head xs ys : List Sym) (columns : List (Option ℕ)) : Type 0 where
+  pub some : (e c k : ℕ) → e < length ys → get_or columns e None ≡ Some c → Cell ys e (Var k) → Cell xs c (Var k)
+  pub is_var : (e c : ℕ) → e < length ys → get_or columns e None ≡ Some c → (k : ℕ) × Cell ys e (Var k)
+  pub none : (e k : ℕ) → get_or columns e None ≡ None → Cell ys e (Var k) → Contains xs (Var k) → Contains head (Var k)
+
+-- the set has those of the others that hold at each column what target p holds at the column shared
+abbrev pub AreTold : Tab → List (Option ℕ) → ℕ → ℕ → ℕ → Type 0
+AreTold t columns p others set =
+    (j : ℕ) → (bit_at set j ≡ 1) ↔ ((bit_at others j ≡ 1) × ((e c : ℕ) (d : Sym) → e < t.width → get_or columns e None ≡ Some c → get_or (row_of t p) c d ≡ get_or (row_of t j) e d))
+
+-- the table tells for each target of row i which targets of row q agree, by some columns shared
+pub record IsTold (s t : Tab) (base : List ℕ) (i q : ℕ) (agree : List ℕ) : Type 0 where
+  pub columns : List (Option ℕ)
+  pub shared : AreShared s.head (row_of s i) (row_of s q) columns
+  pub told : (p : ℕ) → p < length t.rows → bit_at (get_or base i 0) p ≡ 1 → AreTold t columns p (get_or base q 0) (get_or agree (i * 4096 + q * 64 + p) 0)
