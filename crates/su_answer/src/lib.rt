@@ -26,6 +26,3 @@ pub use faults::AnswerFault;
 pub use making::prepare;
 pub use preparing::Prepared;
 pub use tasks::task_of;
-
-#[cfg(test)]
-mod tests;

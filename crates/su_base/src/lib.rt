@@ -27,6 +27,3 @@ pub use sorted::{sorted_rows, sorted_values};
 pub use steps::Steps;
 pub use texts::Str;
 pub use values::{Column, Kind, Row, Value, compare_rows, copy_row};
-
-#[cfg(test)]
-mod tests;

@@ -19,6 +19,3 @@ mod numbering;
 pub use chasing::{Chased, chase};
 pub use freezing::{Frozen, freeze};
 pub use naming::{Closed, close};
-
-#[cfg(test)]
-mod tests;

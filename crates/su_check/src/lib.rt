@@ -36,6 +36,3 @@ pub use certificates::{Certificate, RowTree, Term};
 pub use checking::check;
 pub use nodes::{Branch, Node};
 pub use verdicts::{Checked, Fault};
-
-#[cfg(test)]
-mod tests;

@@ -23,6 +23,3 @@ mod worklist;
 
 pub use closing::close;
 pub use items::{Placed, Together};
-
-#[cfg(test)]
-mod tests;

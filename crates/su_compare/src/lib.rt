@@ -24,6 +24,3 @@ pub use comparing::within;
 pub use outputs::agree;
 pub use showing::show;
 pub use verdicts::{Found, Reason, Verdict};
-
-#[cfg(test)]
-mod tests;

@@ -19,6 +19,3 @@ mod writing;
 pub use faults::CsvFault;
 pub use reading::read;
 pub use writing::{write, write_behind};
-
-#[cfg(test)]
-mod tests;

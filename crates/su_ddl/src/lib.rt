@@ -24,6 +24,3 @@ pub use laws::a_text_is_one_definition;
 pub use reading::read;
 pub use showing::show;
 pub use spelling::{push_line, push_names};
-
-#[cfg(test)]
-mod tests;

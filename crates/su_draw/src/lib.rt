@@ -41,6 +41,3 @@ pub use shapes::{Help, Picture, Place, Shape};
 pub use states::{START, State};
 pub use things::{Thing, What, all_things, what_of};
 pub use writing::write;
-
-#[cfg(test)]
-mod tests;

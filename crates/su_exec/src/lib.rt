@@ -36,6 +36,3 @@ mod tasks;
 pub use connecting::components;
 pub use executing::execute;
 pub use tasks::{Compared, ExecFault, Source, Task, TaskRow};
-
-#[cfg(test)]
-mod tests;

@@ -15,6 +15,3 @@ pub mod laws;
 pub use closures::{closure, determines};
 pub use dependencies::Fd;
 pub use derivations::derivation;
-
-#[cfg(test)]
-mod tests;

@@ -48,6 +48,3 @@ mod tables;
 pub use alike::Alike;
 pub use rows::{Rows, TableRows};
 pub use tables::Table;
-
-#[cfg(test)]
-mod tests;

@@ -31,6 +31,3 @@ pub use steady_shelf::SteadyShelf;
 pub use steady_sink::SteadySink;
 pub use stream_sink::StreamSink;
 pub use whole::{read_all, write_all};
-
-#[cfg(test)]
-mod tests;

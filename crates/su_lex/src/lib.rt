@@ -40,6 +40,3 @@ pub use readers::Reader;
 pub use signs::Sign;
 pub use spans::Span;
 pub use spelling::{push_spaced, push_symbol};
-
-#[cfg(test)]
-mod tests;

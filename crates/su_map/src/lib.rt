@@ -22,6 +22,3 @@ mod targets;
 
 pub use mappings::Mapping;
 pub use rooms::{Room, certify, exists, exists_prepared, first, prepare};
-
-#[cfg(test)]
-mod tests;

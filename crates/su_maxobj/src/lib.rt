@@ -12,11 +12,5 @@ mod calls;
 mod growing;
 pub mod laws;
 mod listing;
-mod ordering;
-#[cfg(test)]
-mod schema_tests;
-mod spreading;
-#[cfg(test)]
-mod tests;
-
+mod ordering;mod spreading;
 pub use calls::{adjoinable, attributes_covered, grown, maximal_objects};

@@ -22,6 +22,3 @@ pub use kept::kept_mask;
 pub use minimal::{Minimal, minimise};
 pub use reduced::{Cover, Reduced};
 pub use reducing::reduce;
-
-#[cfg(test)]
-mod tests;

@@ -15,6 +15,3 @@ mod side_by_side;
 pub use gates::{Gate, OpenGate};
 pub use jobs::Job;
 pub use side_by_side::each;
-
-#[cfg(test)]
-mod tests;

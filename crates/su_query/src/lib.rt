@@ -39,8 +39,3 @@ pub use resolving::{Resolved, resolve};
 pub use sets::{mentioned, resolve_attributes};
 pub use showing::{push_row, show, show_query};
 pub use statements::{Query, Statement};
-
-#[cfg(test)]
-mod pair_tests;
-#[cfg(test)]
-mod tests;

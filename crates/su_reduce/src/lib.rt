@@ -20,6 +20,3 @@ mod sharing;
 pub use edges::{Ear, Edge};
 pub use orders::ears;
 pub use reducing::reduce;
-
-#[cfg(test)]
-mod tests;

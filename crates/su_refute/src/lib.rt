@@ -24,6 +24,3 @@ pub use certifying::certify;
 pub use faults::RefuteFault;
 pub use refuting::{Refuted, refute};
 pub use writing::write;
-
-#[cfg(test)]
-mod tests;

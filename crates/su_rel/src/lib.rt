@@ -10,6 +10,3 @@ mod crossing;
 mod relations;
 
 pub use relations::Relation;
-
-#[cfg(test)]
-mod tests;

@@ -16,10 +16,7 @@ mod joining;
 mod links;
 mod naming;
 mod readers;
-mod schemas;
-#[cfg(test)]
-mod tests;
-mod wellnamed;
+mod schemas;mod wellnamed;
 
 pub use copying::copy_columns;
 pub use definitions::{Definition, Pair};

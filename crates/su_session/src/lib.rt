@@ -26,8 +26,3 @@ pub use commands::{Command, read};
 pub use replies::Reply;
 pub use sessions::Session;
 pub use wants::Want;
-
-#[cfg(test)]
-mod bank_tests;
-#[cfg(test)]
-mod tests;

@@ -30,16 +30,3 @@ pub use row_lists::rows;
 pub use schemas::schema;
 pub use statement_refusal::Refusal;
 pub use verdicts::verdict;
-
-#[cfg(test)]
-mod definition_tests;
-#[cfg(test)]
-mod examples;
-#[cfg(test)]
-mod explanation_tests;
-#[cfg(test)]
-mod reply_tests;
-#[cfg(test)]
-mod statement_tests;
-#[cfg(test)]
-mod tests;

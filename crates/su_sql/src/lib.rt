@@ -31,6 +31,3 @@ pub use scripts::script;
 pub use statements::statement;
 pub use tables::{Comparison, Fixed, Join, Operand, Place, Select, Table};
 pub use writing::query;
-
-#[cfg(test)]
-mod tests;

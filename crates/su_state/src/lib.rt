@@ -30,6 +30,3 @@ mod sides;
 
 pub use databases::Database;
 pub use faults::{DefineFault, LoadEnd, LoadFault, StateFault};
-
-#[cfg(test)]
-mod tests;

@@ -20,9 +20,6 @@ mod objects;
 mod results;
 mod rows;
 mod sourcing;
-#[cfg(test)]
-mod tests;
-
 pub use faults::{StepFault, StepLimit};
 pub use making::terms;
 pub use results::{Origin, Term};

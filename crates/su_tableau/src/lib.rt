@@ -23,6 +23,3 @@ pub use occurrences::{Times, all_essential, fill_essential};
 pub use symbols::Sym;
 pub use tableaux::Tableau;
 pub use valuations::holds;
-
-#[cfg(test)]
-mod tests;

@@ -18,6 +18,3 @@ pub use conditions::{Cond, copy, truth};
 pub use forms::{Disjunct, disjunct_count, disjuncts};
 pub use literals::{Literal, Operand};
 pub use operators::Op;
-
-#[cfg(test)]
-mod tests;

@@ -18,6 +18,3 @@ mod windows;
 
 pub use faults::WindowFault;
 pub use windows::window;
-
-#[cfg(test)]
-mod tests;

@@ -1,6 +1,0 @@
-use Rattle.std.proofs.Common.{ℕ, ◌<◌}
-use Rattle.su_classes.specs.Items.{cell}
-use Rattle.su_classes.proofs.tests.is_placed.Given as goal
-
-abbrev pub invariant-loop-a : goal.invariant-loop-a
-invariant-loop-a l = (k : ℕ) → k < l.a → cell l.row k < l.items

@@ -1,0 +1,4 @@
+use Rattle.su_exec_tests.proofs.tests.answer.Given as goal
+
+abbrev pub ghosts-answer_of : goal.ghosts-answer_of
+ghosts-answer_of g a = record { name = a.blank.name; parts = a.blank.parts }

@@ -1,6 +1,0 @@
-use Rattle.std.proofs.Common.{arith}
-use Rattle.su_where.proofs.Layers.{compare_fits}
-use Rattle.su_where.proofs.tests.first_is_seven.Goals as goal
-
-pub returns : goal.returns
-returns c = compare_fits 1 _ (omega arith, tt)
