@@ -1,10 +1,9 @@
-pub mod Reading
-pub mod Placing
+pub mod Images
+pub mod ItemLabels
 pub mod Named
-pub mod Clashing
-pub mod Sorting
+pub mod FirstClash
 pub mod Tabled
-pub mod Answering
-pub mod Giving
-pub mod Searching
-pub mod Thawing
+pub mod NamedAnswers
+pub mod DistinctCandidates
+pub mod Searches
+pub mod FrozenValues

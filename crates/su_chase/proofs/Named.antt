@@ -12,12 +12,12 @@ use Rattle.su_tableau.specs.declared.symbols.Sym.TheVariants.{Const, Var}
 use Rattle.su_classes.specs.declared.items.Placed.{Placed}
 use Rattle.su_classes.specs.Tables.{rep, IsTable, IsLeast}
 use Rattle.su_classes.specs.inside.Symbols.{has_constant, place_of, is_known, number_of, symbol_at, name_in}
-use Rattle.su_classes.proofs.Comparing.{compare_itself, less_before}
+use Rattle.su_classes.proofs.ValueOrder.{compare_itself, less_before}
 use Rattle.su_classes.proofs.Places.{place_is, place_at, symbol_low, symbol_high, own_constant}
 use Rattle.su_classes.proofs.Named.{name_known, name_unknown, same_rep, known_too, item_class, name_member}
 use Rattle.su_chase.specs.Chase.{IsClosed, InOneClass, IsNoLater, IsName, IsConsistent, IsClash}
 use Rattle.su_chase.specs.inside.Rows.{IsFirstClash}
-use Rattle.su_chase.proofs.Placing.{AreNumbered, labels_kept, numbers, names_closed}
+use Rattle.su_chase.proofs.ItemLabels.{AreNumbered, labels_kept, numbers, names_closed}
 
 pub same_const : (a b : Value) → Const a ≡ Const b → a ≡ b
 same_const a b h = cc

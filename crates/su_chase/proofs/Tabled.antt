@@ -14,13 +14,13 @@ use Rattle.su_tableau.specs.Tableaux.{AreBelow}
 use Rattle.su_classes.specs.declared.items.Placed.{Placed}
 use Rattle.su_classes.specs.Tables.{rep}
 use Rattle.su_classes.specs.inside.Symbols.{is_known, symbol_at}
-use Rattle.su_classes.proofs.Comparing.{sorted_distinct}
+use Rattle.su_classes.proofs.ValueOrder.{sorted_distinct}
 use Rattle.su_chase.specs.Chase.{IsName, IsConsistent, IsClash}
 use Rattle.su_chase.specs.Chased.{AreRows}
 use Rattle.su_chase.specs.inside.Rows.{constants_in, IsPlacedRow, IsTableOf, IsFirstClash, ClashesAt}
-use Rattle.su_chase.proofs.Placing.{AreNumbered}
+use Rattle.su_chase.proofs.ItemLabels.{AreNumbered}
 use Rattle.su_chase.proofs.Named.{is_name, consistent, is_clash}
-use Rattle.su_chase.proofs.Clashing.{constant_in, has_member}
+use Rattle.su_chase.proofs.FirstClash.{constant_in, has_member}
 
 module _ (vs : List Value) (limit : ℕ) (fds : List Fd) (rows : List (List Sym)) (are : AreRows fds rows) (all : (c : Value) → Contains vs c ↔ Contains (constants_in rows) c) (sorted : IsStrictlySortedBy compare_values vs) (above : All (AreBelow limit) rows) where
   known : (r : List Sym) → Contains rows r → (x : Sym) → Contains r x → is_known vs limit x ≡ true

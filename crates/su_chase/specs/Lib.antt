@@ -2,4 +2,3 @@ pub mod Chase
 pub mod Chased
 pub mod Frozen
 pub mod inside
-pub mod Meeting

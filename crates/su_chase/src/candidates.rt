@@ -7,9 +7,8 @@ ghost use Rattle.su_base.specs.Value.{compare_values};
 ghost use Rattle.su_chase.specs.Frozen.{candidate};
 ghost use Rattle.su_chase.specs.inside.Rows.{IsFreeAt, IsPast, count_of};
 
-use crate::numbering::sorted;
 use std::alloc::Global;
-use su_base::{Kind, List, NoMemory, Str, Value};
+use su_base::{Kind, List, NoMemory, Str, Value, sorted_values};
 
 /// For each kind the number from which its candidates may be free.
 #[derive(Clone, Copy)]
@@ -27,7 +26,7 @@ pub fn sorted_copies(alloc: Global, values: &[Value]) -> Result<List<Value>, NoM
     for value in values {
         copies.push(value.copy(alloc)?)?;
     }
-    Ok(List::from_vec(sorted(copies.into_vec())))
+    Ok(sorted_values(copies))
 }
 
 /// The candidate of the number.

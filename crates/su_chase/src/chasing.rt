@@ -4,7 +4,7 @@ ghost use Rattle.su_base.specs.declared.values.Value.{Value as AValue};
 ghost use Rattle.su_tableau.specs.declared.symbols.Sym.TheVariants.{Var};
 ghost use Rattle.su_tableau.specs.Tableaux.{AreBelow, Ext};
 ghost use Rattle.su_tableau.specs.Kinds.{Kinds, IsTyped};
-ghost use Rattle.su_chase.specs.Meeting.{Meets};
+ghost use Rattle.su_fd.specs.Meeting.{Meets};
 ghost use Rattle.su_chase.specs.Chased.{IsFdBelow, IsChaseOf, ExtOf, IsTypedOf, IsSettledOf};
 ghost use Rattle.su_chase.specs.inside.Rows.{name_by, named_tab};
 

@@ -10,7 +10,7 @@ ghost use Rattle.su_tableau.specs.Tableaux.{Tab, Occurs, Ext, value_of, values_o
 ghost use Rattle.su_tableau.specs.Kinds.{IsUniverse, IsTyped, sym_kind};
 ghost use Rattle.su_tableau.specs.Mapping.{Maps};
 ghost use Rattle.su_chase.specs.Chase.{IsClosed};
-ghost use Rattle.su_chase.specs.Meeting.{Meets};
+ghost use Rattle.su_fd.specs.Meeting.{Meets};
 ghost use Rattle.su_chase.specs.Frozen.{IsFrozen, AreAvoided};
 ghost use Rattle.su_chase.specs.inside.Rows.{variable_of, value_in};
 

@@ -10,7 +10,7 @@ ghost use Rattle.su_classes.specs.declared.items.Placed.{Placed as APlaced};
 ghost use Rattle.su_chase.specs.inside.Rows.{constant_of, constants_in, IsPlacedRow};
 
 use std::alloc::Global;
-use su_base::{AttrSet, List, NoMemory, Value};
+use su_base::{AttrSet, List, NoMemory, Value, sorted_values};
 use su_classes::Placed;
 use su_tableau::Sym;
 
@@ -36,17 +36,6 @@ fn push_constants(alloc: Global, row: &[Sym], constants: &mut List<Value>) -> Re
     Ok(())
 }
 
-/// The values, ascending, each once.
-pub fn sorted(values: Vec<Value>) -> Vec<Value>
-    ensures members { (c : AValue) → Contains result.items c ↔ Contains values.items c }
-    ensures ascending { IsStrictlySortedBy compare_values result.items }
-{
-    let mut values = values;
-    values.sort_unstable();
-    values.dedup();
-    values
-}
-
 /// The constants of the rows, ascending, each once.
 pub fn constants_of(alloc: Global, rows: &[List<Sym>]) -> Result<List<Value>, NoMemory>
     ensures all { IfOk result (λ vs. (c : AValue) → Contains vs c ↔ Contains (constants_in rows.now) c) }
@@ -56,7 +45,7 @@ pub fn constants_of(alloc: Global, rows: &[List<Sym>]) -> Result<List<Value>, No
     for row in rows {
         push_constants(alloc, row.as_slice(), &mut constants)?;
     }
-    Ok(List::from_vec(sorted(constants.into_vec())))
+    Ok(sorted_values(constants))
 }
 
 /// A number above the row's variables that is no less than the one given.

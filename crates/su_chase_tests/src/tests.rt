@@ -163,7 +163,7 @@ struct Case {
     clash: Option<(i64, i64)>,
 }
 
-// The name of each variable, and the constants that clash.
+/// The name of each variable, and the constants that clash.
 const CASES: [Case; 7] = [
     // nothing is asked
     Case {
@@ -277,7 +277,7 @@ fn classes_have_their_first_symbols_for_names(rt: HostRuntime) -> Result<(), Fai
     Ok(())
 }
 
-// Attributes BANK, ACCT, CUST, BAL, LOAN, AMT, ADDR.
+/// Attributes BANK, ACCT, CUST, BAL, LOAN, AMT, ADDR.
 const BANK_FDS: [Sides; 5] = [
     (&[1], &[0]),
     (&[1], &[3]),
@@ -286,7 +286,7 @@ const BANK_FDS: [Sides; 5] = [
     (&[4], &[5]),
 ];
 
-// The banks: rows of the objects BANK ACCT, ACCT CUST, ACCT BAL and CUST ADDR.
+/// The banks: rows of the objects BANK ACCT, ACCT CUST, ACCT BAL and CUST ADDR.
 const BANKS: [&[Cell]; 4] = [
     &[V(0), V(1), V(9), V(10), V(11), V(12), V(13)],
     &[V(14), V(1), V(2), V(17), V(18), V(19), V(20)],
@@ -294,7 +294,7 @@ const BANKS: [&[Cell]; 4] = [
     &[V(28), V(29), V(2), V(31), V(32), V(33), V(6)],
 ];
 
-// The same rows by their names.
+/// The same rows by their names.
 const CHASED: [&[Cell]; 4] = [
     &[V(0), V(1), V(9), V(3), V(11), V(12), V(13)],
     &[V(0), V(1), V(2), V(3), V(18), V(19), V(6)],

@@ -1,9 +1,9 @@
 pub mod Trees
-pub mod Merging
+pub mod Merges
 pub mod Listed
 pub mod Noted
-pub mod Binding
-pub mod Comparing
+pub mod JoinedRows
+pub mod ValueOrder
 pub mod Places
 pub mod Named
 pub mod Rings

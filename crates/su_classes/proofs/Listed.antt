@@ -1,48 +1,40 @@
 -- Members of lists, and lists of a set's members.
-use Rattle.std.proofs.Common.{◌≡◌, ◌≢◌, ◌⊎◌, ℕ, zero, suc, ◌+◌, ◌<◌, inl, inr, ⊎_elim, Bool, true, false, cond, List, [], ◌∷◌, ◌++◌, append-nil, map, length, get_or, Contains, refl, sym, ap, ◌∙◌, subst, arith}
+use Rattle.std.proofs.Common.{◌≡◌, ◌≢◌, ◌⊎◌, ℕ, ◌+◌, ◌<◌, ⊎_elim, Bool, true, false, cond, List, [], ◌∷◌, ◌++◌, append-nil, map, length, get_or, Contains, refl, sym, ap, ◌∙◌, subst, arith}
 use Rattle.std.specs.Prelude.{All}
 use Rattle.std.specs.Ordering.{nat_cmp}
 use Rattle.std.specs.FinSet.{FinSet, contains}
 use Rattle.std.proofs.lemmas.Bool.{cases_eq, true≢false}
 use Rattle.std.proofs.lemmas.List.Elements.{Contains-append_left, Contains-append_right, Contains-append_cases, Contains-get_or}
 use Rattle.su_base.proofs.Subsets.{subset_at}
+use Rattle.su_base.proofs.Items.{Contains-later, Contains-cases, Contains-nil}
 use Rattle.su_fd.specs.declared.dependencies.Fd.{Fd}
 use Rattle.su_classes.specs.declared.items.Placed.{Placed}
-use Rattle.su_classes.specs.Items.{cell, LiesIn, IsPlacedBelow}
+use Rattle.su_fd.specs.Meeting.{LiesIn}
+use Rattle.su_classes.specs.Items.{cell, IsPlacedBelow}
 use Rattle.su_classes.specs.inside.Firsts.{AreMembersBelow}
-
-pub contains_later : {X : Type 0} (x : X) (xs : List X) (y : X) → Contains xs y → Contains (x ∷ xs) y
-contains_later x xs y c = (suc c.0, (let l = c.1 in omega arith), c.2)
-
-pub contains_cases : {X : Type 0} (x : X) (xs : List X) (y : X) → Contains (x ∷ xs) y → (x ≡ y) ⊎ Contains xs y
-contains_cases x xs y (zero, l, e) = inl e
-contains_cases x xs y (suc k, l, e) = inr (k, omega arith, e)
-
-pub contains_none : {X : Type 0} (y : X) → Contains [] y → ⊥
-contains_none y c = let l = c.1 in omega arith
 
 -- two functions give one list where they give the same at each member, and only there
 pub map_same : {X Y : Type 0} (f g : X → Y) (xs : List X) → ((x : X) → Contains xs x → f x ≡ g x) → map f xs ≡ map g xs
 map_same f g [] h = refl
 map_same f g (x ∷ xs) h =
     let here : f x ≡ g x = h x (0, omega arith, refl) in
-    let rest = map_same f g xs (λ y c. h y (contains_later x xs y c)) in
+    let rest = map_same f g xs (λ y c. h y (Contains-later x xs y c)) in
     cc
 
 pub same_at : {X Y : Type 0} (f g : X → Y) (xs : List X) (x : X) → map f xs ≡ map g xs → Contains xs x → f x ≡ g x
-same_at f g [] x e c = absurd (contains_none x c)
+same_at f g [] x e c = absurd (Contains-nil x c)
 same_at f g (y ∷ ys) x e c =
     let here : f y ≡ g y = cc in
     let rest : map f ys ≡ map g ys = cc in
     ⊎_elim
     (λ (is : y ≡ x). ap f (sym is) ∙ here ∙ ap g is)
     (λ (later : Contains ys x). same_at f g ys x rest later)
-    (contains_cases y ys x c)
+    (Contains-cases y ys x c)
 
 -- ---- the members of a set below a bound
 
 pub members_none : (s : FinSet nat_cmp) → AreMembersBelow 0 s []
-members_none s a = (λ c. absurd (contains_none a c), λ h. absurd (let l = h.0 in omega arith))
+members_none s a = (λ c. absurd (Contains-nil a c), λ h. absurd (let l = h.0 in omega arith))
 
 pub members_push : (s : FinSet nat_cmp) (list : List ℕ) (n : ℕ) → AreMembersBelow n s list → contains s n ≡ true → AreMembersBelow (n + 1) s (list ++ n ∷ [])
 members_push s list n h there a = (
@@ -52,8 +44,8 @@ members_push s list n h there a = (
       (λ (now : Contains (n ∷ []) a).
       ⊎_elim
       (λ (is : n ≡ a). (omega arith, ap (contains s) (sym is) ∙ there))
-      (λ (no : Contains [] a). absurd (contains_none a no))
-      (contains_cases n [] a now))
+      (λ (no : Contains [] a). absurd (Contains-nil a no))
+      (Contains-cases n [] a now))
       (Contains-append_cases list (n ∷ []) a c),
   λ w.
       ⊎_elim

@@ -8,7 +8,7 @@ use Rattle.su_tableau.specs.declared.symbols.Sym.{Sym}
 use Rattle.su_tableau.specs.declared.symbols.Sym.TheVariants.{Const, Var}
 use Rattle.su_classes.specs.Tables.{rep}
 use Rattle.su_classes.specs.inside.Symbols.{same_value, has_constant, place_of, AreDistinct, is_known, number_of, symbol_at, name_in}
-use Rattle.su_classes.proofs.Comparing.{same_itself, same_is}
+use Rattle.su_classes.proofs.ValueOrder.{same_itself, same_is}
 
 pub place_is : (vs : List Value) (c : Value) → has_constant vs c ≡ true → (place_of vs c < length vs) × (get_or vs (place_of vs c) (Text []) ≡ c)
 place_is [] c h = absurd (false≢true h)

@@ -8,12 +8,13 @@ use Rattle.su_fd.specs.declared.dependencies.Fd.{Fd}
 use Rattle.su_tableau.specs.declared.symbols.Sym.{Sym}
 use Rattle.su_classes.specs.declared.items.Placed.{Placed}
 use Rattle.su_classes.specs.declared.rules.Rule.{Rule}
-use Rattle.su_classes.specs.Items.{cell, LiesIn, SameAt, Keeps, IsPlacedBelow}
+use Rattle.su_fd.specs.Meeting.{LiesIn}
+use Rattle.su_classes.specs.Items.{cell, SameAt, Keeps, IsPlacedBelow}
 use Rattle.su_classes.specs.Tables.{IsSound}
 use Rattle.su_classes.specs.inside.Tables.{IsForest, IsJoining, IsShortened, IsMerging}
 use Rattle.su_classes.specs.inside.Firsts.{AreMembersBelow}
 use Rattle.su_classes.proofs.Listed.{left_low}
-use Rattle.su_classes.proofs.Binding.{merging_none, merging_then, merging_by, merging_joining, merging_shortened}
+use Rattle.su_classes.proofs.JoinedRows.{merging_none, merging_then, merging_by, merging_joining, merging_shortened}
 
 -- ---- comparing by roots
 

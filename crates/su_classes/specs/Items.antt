@@ -3,19 +3,15 @@
 -- kept: equal items have one label; rows in which a dependency lies and that agree on its left side agree on its right side
 use Rattle.std.specs.Prelude.{◌≡◌, ℕ, ◌<◌, ◌≤◌, IsTrue, List, length, get_or, All, Contains}
 use Rattle.std.specs.Ordering.{nat_cmp}
-use Rattle.std.specs.FinSet.{FinSet, contains, is_subset}
+use Rattle.std.specs.FinSet.{FinSet, contains}
 use Rattle.su_fd.specs.declared.dependencies.Fd.{Fd}
+use Rattle.su_fd.specs.Meeting.{LiesIn}
 use Rattle.su_classes.specs.declared.items.Placed.{Placed}
 use Rattle.su_classes.specs.declared.items.Together.{Together}
 
 -- the item of a row at an attribute
 abbrev pub cell : Placed → ℕ → ℕ
 cell r a = get_or r.cells a 0
-
--- all attributes of a dependency are the row's
-pub record LiesIn (f : Fd) (has : FinSet nat_cmp) : Type 0 where
-  pub left : IsTrue (is_subset f.left has)
-  pub right : IsTrue (is_subset f.right has)
 
 -- the two rows have the same labels at the attributes of the set
 abbrev pub SameAt : {L : Type 0} → (ℕ → L) → FinSet nat_cmp → Placed → Placed → Type 0

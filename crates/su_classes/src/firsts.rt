@@ -1,6 +1,7 @@
 //! For each row the first one with its left side.
 ghost use Rattle.std.specs.Prelude.{◌≡◌, ◌↔◌, ℕ, ◌<◌, ◌≤◌, ◌++◌, ◌∷◌, [], if◌then◌else◌, IsTrue, All, length, IfOk, OnOk};
-ghost use Rattle.su_classes.specs.Items.{cell, LiesIn, IsPlacedBelow};
+ghost use Rattle.su_fd.specs.Meeting.{LiesIn};
+ghost use Rattle.su_classes.specs.Items.{cell, IsPlacedBelow};
 ghost use Rattle.su_classes.specs.Tables.{rep};
 ghost use Rattle.su_classes.specs.inside.Firsts.{AreMembersBelow, key, AreFirsts, noted_in, Notes, IsFirst};
 
@@ -20,22 +21,13 @@ pub fn lies_in(fd: &Fd, row: &Placed) -> bool
     fd.right.within(row.has)
 }
 
-fn push_if(list: &mut List<u8>, wanted: bool, a: u8) -> Result<(), NoMemory>
-    ensures { OnOk result (list.new ≡ list.old ++ (if wanted then a ∷ [] else [])) }
-{
-    if wanted {
-        list.push(a)?;
-    }
-    Ok(())
-}
-
 /// The attributes of the set, ascending.
 pub fn members(alloc: Global, set: AttrSet) -> Result<List<u8>, NoMemory>
     ensures { IfOk result (AreMembersBelow 128 set) }
 {
     let mut list = List::new(alloc);
     for a in 0..128u8 {
-        push_if(&mut list, set.contains(a), a)?;
+        list.push_if(set.contains(a), a)?;
     }
     Ok(list)
 }

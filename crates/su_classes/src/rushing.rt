@@ -1,7 +1,8 @@
 //! Merges by a worklist, so that few are left to the passes over the dependencies.
 ghost use Rattle.std.specs.Prelude.{◌≡◌, ℕ, ◌<◌, ◌≤◌, IsTrue, All, Contains, length, IfOk, OnOk};
 ghost use Rattle.su_tableau.specs.declared.symbols.Sym.{Sym};
-ghost use Rattle.su_classes.specs.Items.{cell, LiesIn, SameAt, Keeps, IsPlacedBelow};
+ghost use Rattle.su_fd.specs.Meeting.{LiesIn};
+ghost use Rattle.su_classes.specs.Items.{cell, SameAt, Keeps, IsPlacedBelow};
 ghost use Rattle.su_classes.specs.Tables.{IsSound};
 ghost use Rattle.su_classes.specs.inside.Tables.{IsForest, IsShortened, IsMerging};
 ghost use Rattle.su_classes.specs.inside.Rushing.{IsRule, IsWell, IsSame, IsFor};
@@ -85,7 +86,7 @@ fn bring_together(
     Ok(())
 }
 
-// Notes the position under the key; the one that was noted there until now.
+/// Notes the position under the key; the one that was noted there until now.
 fn note(
     notes: &mut HashMap<u64, usize>,
     key: u64,
@@ -99,7 +100,7 @@ fn note(
 
 /// Looks the row up by its left side, and merges it at the right side with the row that was found there
 /// last.
-#[tactic(auto, using(crate::proofs::Binding::merging_none, crate::proofs::Rings::same_none))]
+#[tactic(auto, using(crate::proofs::JoinedRows::merging_none, crate::proofs::Rings::same_none))]
 fn look(
     table: &mut [usize],
     work: &mut Worklist,
@@ -296,7 +297,7 @@ fn rush_by(
 /// class, and the rows with its cells are looked up again under the dependencies with these on the left.
 /// So each cell is looked up again at most as often as its class doubles, under each of those. Fewer than
 /// 64 rows are left to the sweeps, which take less time there.
-#[tactic(auto, using(crate::proofs::Binding::merging_none))]
+#[tactic(auto, using(crate::proofs::JoinedRows::merging_none))]
 pub fn rush(alloc: Global, table: &mut [usize], fds: &[Fd], rows: &[Placed]) -> Result<(), NoMemory>
     requires ordered { IsForest table.old }
     requires cells { All (IsPlacedBelow (length table.old)) rows.now }

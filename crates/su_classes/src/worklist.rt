@@ -109,7 +109,7 @@ impl Worklist {
         self.absorb(x, y)
     }
 
-    // The class of y goes into that of x.
+    /// The class of y goes into that of x.
     fn absorb(&mut self, x: usize, y: usize) -> Result<(), NoMemory>
         requires well { IsWell self.old }
         requires left { x < length self.old.marks.items }
@@ -124,7 +124,7 @@ impl Worklist {
         Ok(())
     }
 
-    // The item's class gets that mark.
+    /// The item's class gets that mark.
     fn change_marks(&mut self, item: usize, mark: usize) -> Result<(), NoMemory>
         requires well { IsWell self.old }
         requires item { item < length self.old.marks.items }
@@ -170,7 +170,7 @@ impl Worklist {
     }
 }
 
-// The row's cells at attributes that have readers.
+/// The row's cells at attributes that have readers.
 fn enter_row(
     work: &mut Worklist,
     readers: &[List<usize>],

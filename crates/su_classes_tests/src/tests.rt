@@ -127,7 +127,7 @@ struct Case {
     classes: &'static [usize],
 }
 
-// Items that are in one class have its least item.
+/// Items that are in one class have its least item.
 const CASES: [Case; 6] = [
     // without dependencies only what is equal is together
     Case {

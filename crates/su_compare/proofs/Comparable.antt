@@ -1,11 +1,13 @@
 -- The terms of queries that ask for equalities alone compare nothing.
-use Rattle.std.proofs.Common.{◌≡◌, ⊎_elim, ℕ, zero, suc, ◌+◌, ◌*◌, ◌≤◌, true, false, cond, List, [], ◌∷◌, map, flat_map, length, get_or, Contains, All, refl, sym, ap, ◌∙◌, subst, arith}
+use Rattle.std.proofs.Common.{◌≡◌, ⊎_elim, ℕ, zero, suc, ◌*◌, ◌≤◌, true, false, cond, List, [], ◌∷◌, map, flat_map, length, get_or, Contains, All, refl, sym, ap, ◌∙◌, subst, arith}
 use Rattle.std.specs.List.{range_with_len}
 use Rattle.std.specs.Ordering.{nat_cmp}
 use Rattle.std.specs.FinSet.{FinSet}
 use Rattle.std.proofs.lemmas.Bool.Decides.{nat_tests}
 use Rattle.std.proofs.lemmas.List.{length-map, length-append}
 use Rattle.std.proofs.lemmas.List.Elements.{All-nil, All-cons}
+use Rattle.su_base.proofs.Items.{Contains-later, Contains-cases, Contains-map_source}
+use Rattle.std.proofs.lemmas.List.FromFn.{length-range_with_len}
 use Rattle.su_where.specs.declared.operators.Op.{Op}
 use Rattle.su_where.specs.declared.operators.Op.TheVariants.{Equal, NotEqual, Less, LessEqual, Greater, GreaterEqual}
 use Rattle.su_where.specs.declared.literals.Literal.{Literal}
@@ -13,7 +15,7 @@ use Rattle.su_where.specs.Disjunct.{disjuncts_of}
 use Rattle.su_tableau.specs.declared.symbols.Sym.{Sym}
 use Rattle.su_tableau.specs.declared.symbols.Sym.TheVariants.{Const, Var}
 use Rattle.su_schema.specs.SchemaValue as schemas
-use Rattle.su_schema.specs.SchemaValue.{SchemaValue, attribute_kinds}
+use Rattle.su_schema.specs.SchemaValue.{SchemaValue}
 use Rattle.su_query.specs.declared.resolving.Resolved.{Resolved}
 use Rattle.su_steps.specs.declared.results.Term.{Term}
 use Rattle.su_steps.specs.Objects.{width}
@@ -22,7 +24,6 @@ use Rattle.su_steps.specs.Classes.{Compared, compared, IsNaming}
 use Rattle.su_steps.specs.Terms.{is_evaluated, left_over, Case, case_of, cases, comparisons_of, GivesNone, Gives, AreTermsOf}
 use Rattle.su_steps.specs.Refusals.{disjunct_count, IsAccepted}
 use Rattle.su_steps.specs.Laws.{TermsAreValidAndTyped}
-use Rattle.su_steps.proofs.Lists.{contains_cases, contains_later, of_map}
 use Rattle.su_compare.specs.Equalities.{asks_equality, has_only_equalities}
 use Rattle.su_compare.specs.Outputs.{output_kinds}
 use Rattle.su_compare.specs.Within.{AreOf}
@@ -42,7 +43,7 @@ none_left_over name [] same = refl
 none_left_over name (c ∷ cs) same =
     let e : is_evaluated (name c.left) (name c.right) ≡ true = ap (λ y. is_evaluated (name c.left) y) (sym (same c (0, omega arith, refl))) ∙ evaluated_same (name c.left) in
     ap (λ b. cond b (left_over name cs) (record { left = name c.left; op = c.op; right = name c.right } ∷ left_over name cs)) e
-    ∙ none_left_over name cs (λ d k. same d (contains_later c cs d k))
+    ∙ none_left_over name cs (λ d k. same d (Contains-later c cs d k))
 
 is_equal : (op : Op) → asks_equality op false ≡ true → op ≡ Equal
 is_equal Equal h = refl
@@ -58,7 +59,7 @@ literal_at (x ∷ xs) l all has =
     ⊎_elim
     (λ (e : x ≡ l). subst (λ y. asks_equality y.op false ≡ true) e (and-left (asks_equality x.op false) (are_equalities xs) all))
     (λ (later : Contains xs l). literal_at xs l (and-right (asks_equality x.op false) (are_equalities xs) all) later)
-    (contains_cases x xs l has)
+    (Contains-cases x xs l has)
 
 disjunct_at : (ds : List (List Literal)) (i : ℕ) → all_equalities ds ≡ true → are_equalities (get_or ds i []) ≡ true
 disjunct_at [] i all = refl
@@ -75,7 +76,7 @@ module _ (schema : SchemaValue) (maximal : List (FinSet nat_cmp)) (q : Resolved)
       let literals = get_or (disjuncts_of q.cond) case.disjunct [] in
       let all : are_equalities literals ≡ true = disjunct_at (disjuncts_of q.cond) case.disjunct (only_equalities q.cond only) in
       none_left_over name d (λ c has.
-      let l = of_map (compared (width schema) q.places) literals c has in
+      let l = Contains-map_source (compared (width schema) q.places) literals c has in
       let equal : c.op ≡ Equal = ap (λ x. x.op) (sym l.2) ∙ is_equal l.0.op (literal_at literals l.0 all l.1) in
       naming.one_name c.left c.right (λ label closed. closed.equalities c has equal))
 
@@ -104,14 +105,10 @@ length-flat : {X Y : Type 0} (f : X → List Y) (n : ℕ) (xs : List X) → ((x 
 length-flat f n [] each = grind arith
 length-flat f n (x ∷ xs) each = let i = length-flat f n xs each in let e = each x in grind (arith, length-append)
 
-length-range : (a n : ℕ) → length (range_with_len a n) ≡ n
-length-range a zero = refl
-length-range a (suc n) = let i = length-range (a + 1) n in omega arith
-
 length-cases : (schema : SchemaValue) (maximal : List (FinSet nat_cmp)) (q : Resolved) → length (cases schema maximal q) ≡ disjunct_count q * length (choices schema maximal q)
 length-cases schema maximal q =
     length-flat (λ i. map (case_of i) (choices schema maximal q)) (length (choices schema maximal q)) (range_with_len 0 (disjunct_count q)) (λ i. length-map (choices schema maximal q) (case_of i))
-    ∙ ap (λ n. n * length (choices schema maximal q)) (length-range 0 (disjunct_count q))
+    ∙ ap (λ n. n * length (choices schema maximal q)) (length-range_with_len 0 (disjunct_count q))
 
 -- the terms are few and plain
 terms_plain : TermsAreValidAndTyped → (schema : SchemaValue) (maximal : List (FinSet nat_cmp)) (q : Resolved) (terms : List Term) → schemas.IsValid schema → AreOf schema maximal q terms → IsAccepted schema maximal q → has_only_equalities q.cond ≡ true

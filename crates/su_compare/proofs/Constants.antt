@@ -4,6 +4,7 @@ use Rattle.std.proofs.lemmas.Bool.{cases_Bool, cases_lt}
 use Rattle.std.proofs.lemmas.List.Elements.{All-contains, All-map, Contains-get_or}
 use Rattle.su_base.specs.declared.values.Value.{Value}
 use Rattle.su_base.specs.contracts.values.ValuePartialEq.TheImpl.{ghosts}
+use Rattle.su_base.proofs.Items.{Contains-cases}
 use Rattle.su_fd.specs.declared.dependencies.Fd.{Fd}
 use Rattle.su_tableau.specs.declared.symbols.Sym.{Sym}
 use Rattle.su_tableau.specs.declared.symbols.Sym.TheVariants.{Const, Var}
@@ -29,10 +30,6 @@ apart_other c (Var k) other = refl
 apart_own : (c : Value) → apart c (Const c) ≡ Const c
 apart_own c = let e : ghosts.eq c c ≡ true = (value_same c c).1 refl in ap (λ b. cond b (Const c) (Var 0)) e
 
-contains_cases : {X : Type 0} (x : X) (xs : List X) (y : X) → Contains (x ∷ xs) y → (x ≡ y) ⊎ Contains xs y
-contains_cases x xs y (zero, l, e) = inl e
-contains_cases x xs y (suc i, l, e) = inr (i, omega arith, e)
-
 -- a value is among those listed or not
 is_among : (vs : List Value) (c : Value) → Contains vs c ⊎ (Contains vs c → ⊥)
 is_among [] c = inr (λ (has : Contains [] c). let low = has.1 in absurd (omega arith))
@@ -47,7 +44,7 @@ is_among (v ∷ vs) c =
     ⊎_elim
     (λ (e : v ≡ c). let yes' : ghosts.eq v c ≡ true = (value_same v c).1 e in absurd (cc))
     (λ (later : Contains vs c). none later)
-    (contains_cases v vs c has)))
+    (Contains-cases v vs c has)))
     (is_among vs c))
     (cases_Bool (ghosts.eq v c))
 
@@ -98,7 +95,7 @@ names_avoided fds rows n avoid name widths all member (x ∷ xs) has v in' =
     class_constant fds rows n avoid x v widths all (λ (own : x ≡ Const v). has v (0, omega arith, own)) (subst (InOneClass fds rows x) e (member x)))
     (λ (later : Contains (map name xs) (Const v)).
     names_avoided fds rows n avoid name widths all member xs (λ (w : Value) (k : Contains xs (Const w)). has w (suc k.0, let low = k.1 in omega arith, k.2)) v later)
-    (contains_cases (name x) (map name xs) (Const v) in')
+    (Contains-cases (name x) (map name xs) (Const v) in')
 
 pub chased_constants : (fds : List Fd) (t c : Tab) (avoid : List Value) → All (λ row. length row ≡ t.width) t.rows → IsChased fds t c → AreAvoided avoid t → AreAvoided avoid c
 chased_constants fds t c avoid widths is avoided =

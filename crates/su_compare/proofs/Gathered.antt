@@ -5,6 +5,7 @@ use Rattle.std.proofs.Math.Seq.{take-suc}
 use Rattle.std.proofs.lemmas.List.Elements.{Contains-append_left, Contains-append_right, Contains-append_cases, Contains-get_or}
 use Rattle.std.proofs.lemmas.Option.{get_or_from_slice_get, slice_get_within}
 use Rattle.su_base.specs.declared.values.Value.{Value}
+use Rattle.su_base.proofs.Items.{Contains-flat_map, Contains-flat_map_source}
 use Rattle.su_tableau.specs.declared.symbols.Sym.{Sym}
 use Rattle.su_tableau.specs.declared.symbols.Sym.TheVariants.{Const, Var}
 use Rattle.su_tableau.specs.Tableaux.{Tab}
@@ -19,23 +20,10 @@ push_taken xs i x ys new at is before =
 
 -- ---- members of joined lists
 
-pub in_flat : {X Y : Type 0} (f : X → List Y) (xs : List X) (x : X) (y : Y) → Contains xs x → Contains (f x) y → Contains (flat_map f xs) y
-in_flat f [] x y (k, low, is) has = absurd (omega arith)
-in_flat f (z ∷ xs) x y (zero, low, is) has = Contains-append_left (f z) (flat_map f xs) y (subst (λ x. Contains (f x) y) (sym is) has)
-in_flat f (z ∷ xs) x y (suc k, low, is) has = Contains-append_right (f z) (flat_map f xs) y (in_flat f xs x y (k, omega arith, is) has)
-
-pub of_flat : {X Y : Type 0} (f : X → List Y) (xs : List X) (y : Y) → Contains (flat_map f xs) y → (x : X) × Contains xs x × Contains (f x) y
-of_flat f [] y (k, low, is) = absurd (omega arith)
-of_flat f (x ∷ xs) y has =
-    ⊎_elim
-    (λ (here : Contains (f x) y). (x, (0, omega arith, refl), here))
-    (λ (later : Contains (flat_map f xs) y). let r = of_flat f xs y later in let c = r.1 in (r.0, (suc c.0, let low = c.1 in omega arith, c.2), r.2))
-    (Contains-append_cases (f x) (flat_map f xs) y has)
-
 -- ---- constants
 
 in_symbols : (symbols : List Sym) (c : Value) → Contains symbols (Const c) → Contains (constants_in symbols) c
-in_symbols symbols c has = in_flat constant_in symbols (Const c) c has (0, omega arith, refl)
+in_symbols symbols c has = Contains-flat_map constant_in symbols (Const c) c has (0, omega arith, refl)
 
 of_constant : (x : Sym) (c : Value) → Contains (constant_in x) c → x ≡ Const c
 of_constant (Const v) c (zero, low, is) = ap Const is
@@ -43,13 +31,13 @@ of_constant (Const v) c (suc k, low, is) = absurd (omega arith)
 of_constant (Var j) c (k, low, is) = absurd (omega arith)
 
 of_symbols : (symbols : List Sym) (c : Value) → Contains (constants_in symbols) c → Contains symbols (Const c)
-of_symbols symbols c has = let r = of_flat constant_in symbols c has in subst (Contains symbols) (of_constant r.0 c r.2) r.1
+of_symbols symbols c has = let r = Contains-flat_map_source constant_in symbols c has in subst (Contains symbols) (of_constant r.0 c r.2) r.1
 
 in_tableau : (t : Tab) (c : Value) → HasConstant t c → Contains (tab_constants t) c
 in_tableau t c has =
     ⊎_elim
     (λ (rows : (row : List Sym) × Contains t.rows row × Contains row (Const c)).
-    Contains-append_right (constants_in t.head) (flat_map constants_in t.rows) c (in_flat constants_in t.rows rows.0 c rows.1 (in_symbols rows.0 c rows.2)))
+    Contains-append_right (constants_in t.head) (flat_map constants_in t.rows) c (Contains-flat_map constants_in t.rows rows.0 c rows.1 (in_symbols rows.0 c rows.2)))
     (λ (head : Contains t.head (Const c)). Contains-append_left (constants_in t.head) (flat_map constants_in t.rows) c (in_symbols t.head c head))
     has
 
@@ -57,7 +45,7 @@ of_tableau : (t : Tab) (c : Value) → Contains (tab_constants t) c → HasConst
 of_tableau t c has =
     ⊎_elim
     (λ (head : Contains (constants_in t.head) c). inr (of_symbols t.head c head))
-    (λ (rows : Contains (flat_map constants_in t.rows) c). let r = of_flat constants_in t.rows c rows in inl (r.0, r.1, of_symbols r.0 c r.2))
+    (λ (rows : Contains (flat_map constants_in t.rows) c). let r = Contains-flat_map_source constants_in t.rows c rows in inl (r.0, r.1, of_symbols r.0 c r.2))
     (Contains-append_cases (constants_in t.head) (flat_map constants_in t.rows) c has)
 
 pub in_terms : (terms : List Term) (c : Value) → InTerms terms c → Contains (terms_constants terms) c
@@ -67,13 +55,13 @@ in_terms terms c (i, low, has) =
       | [] ↦ λ e. absurd (let n = ap length e in omega arith)
       | x ∷ xs ↦ λ e.
           let t = get_or terms i x in
-          in_flat f terms t c (Contains-get_or terms i x low) (in_tableau t.tableau c (subst (λ t. HasConstant t c) (tab_here terms i x low) has))
+          Contains-flat_map f terms t c (Contains-get_or terms i x low) (in_tableau t.tableau c (subst (λ t. HasConstant t c) (tab_here terms i x low) has))
     ] refl
 
 pub of_terms : (terms : List Term) (c : Value) → Contains (terms_constants terms) c → InTerms terms c
 of_terms terms c has =
     let f = λ (t : Term). tab_constants t.tableau in
-    let r = of_flat f terms c has in
+    let r = Contains-flat_map_source f terms c has in
     let k = r.1 in
     (k.0, k.1, subst (λ t. HasConstant t c) (sym (tab_here terms k.0 r.0 k.1 ∙ ap (λ t. t.tableau) k.2)) (of_tableau r.0.tableau c r.2))
 

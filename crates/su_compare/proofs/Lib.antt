@@ -3,8 +3,7 @@ pub mod Lists
 pub mod Members
 pub mod Constants
 pub mod Settled
-pub mod Sorted
 pub mod Gathered
 pub mod Apart
-pub mod Deciding
+pub mod PlainTerms
 pub mod Comparable

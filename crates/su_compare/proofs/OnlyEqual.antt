@@ -2,6 +2,7 @@
 use Rattle.std.proofs.Common.{◌≡◌, Bool, true, false, not, ◌&&◌, List, [], ◌∷◌, ◌++◌, map, refl, sym, ap, subst, ◌∙◌}
 use Rattle.std.specs.List.{list_all}
 use Rattle.std.proofs.lemmas.List.Folds.{list_all-append}
+use Rattle.std.proofs.lemmas.Bool.{and_from}
 use Rattle.su_where.specs.declared.operators.Op.{Op}
 use Rattle.su_where.specs.declared.operators.Op.TheVariants.{Equal, NotEqual, Less, LessEqual, Greater, GreaterEqual}
 use Rattle.su_where.specs.declared.literals.Literal.{Literal}
@@ -44,9 +45,6 @@ are_equalities d = list_all (λ l. asks_equality l.op false) d
 abbrev pub all_equalities : List (List Literal) → Bool
 all_equalities ds = list_all are_equalities ds
 
-and-true : (a b : Bool) → a ≡ true → b ≡ true → (a && b) ≡ true
-and-true a b e f = ap (λ x. x && b) e ∙ f
-
 pub and-left : (a b : Bool) → (a && b) ≡ true → a ≡ true
 and-left true b e = refl
 and-left false b e = e
@@ -56,7 +54,7 @@ and-right true b e = e
 and-right false b e = absurd (cc)
 
 all-append : (xs ys : List (List Literal)) → all_equalities xs ≡ true → all_equalities ys ≡ true → all_equalities (xs ++ ys) ≡ true
-all-append xs ys e f = list_all-append are_equalities xs ys ∙ and-true (all_equalities xs) (all_equalities ys) e f
+all-append xs ys e f = list_all-append are_equalities xs ys ∙ and_from (all_equalities xs) (all_equalities ys) e f
 
 all-joined : (fs : List (List (List Literal))) → list_all all_equalities fs ≡ true → all_equalities (joined fs) ≡ true
 all-joined [] e = refl
@@ -66,8 +64,8 @@ all-joined (f ∷ fs) e =
 all-each : (d : List Literal) (es : List (List Literal)) → are_equalities d ≡ true → all_equalities es ≡ true → all_equalities (map (λ e. d ++ e) es) ≡ true
 all-each d [] h k = refl
 all-each d (e ∷ es) h k =
-    and-true (are_equalities (d ++ e)) (all_equalities (map (λ e. d ++ e) es))
-    (list_all-append (λ l. asks_equality l.op false) d e ∙ and-true (are_equalities d) (are_equalities e) h (and-left (are_equalities e) (all_equalities es) k))
+    and_from (are_equalities (d ++ e)) (all_equalities (map (λ e. d ++ e) es))
+    (list_all-append (λ l. asks_equality l.op false) d e ∙ and_from (are_equalities d) (are_equalities e) h (and-left (are_equalities e) (all_equalities es) k))
     (all-each d es h (and-right (are_equalities e) (all_equalities es) k))
 
 all-pairs : (ds es : List (List Literal)) → all_equalities ds ≡ true → all_equalities es ≡ true → all_equalities (pairs_of ds es) ≡ true
@@ -93,7 +91,7 @@ parts es = map (λ e. e.0) es
 kept_parts : (b : Bool) (es : List ((c : Cond) × IsKept c)) → list_all (λ c. asks_equalities c b) (parts es) ≡ true → list_all all_equalities (forms b (parts es)) ≡ true
 kept_parts b [] h = refl
 kept_parts b (e ∷ es) h =
-    and-true (all_equalities (form_of e.0 b)) (list_all all_equalities (forms b (parts es)))
+    and_from (all_equalities (form_of e.0 b)) (list_all all_equalities (forms b (parts es)))
     (e.1 b (and-left (asks_equalities e.0 b) (list_all (λ c. asks_equalities c b) (parts es)) h))
     (kept_parts b es (and-right (asks_equalities e.0 b) (list_all (λ c. asks_equalities c b) (parts es)) h))
 
@@ -106,7 +104,7 @@ asked Greater h = absurd (cc)
 asked GreaterEqual h = absurd (cc)
 
 one : (l : Literal) → asks_equality l.op false ≡ true → all_equalities ((l ∷ []) ∷ []) ≡ true
-one l h = and-true (asks_equality l.op false && true) true (and-true (asks_equality l.op false) true h refl) refl
+one l h = and_from (asks_equality l.op false && true) true (and_from (asks_equality l.op false) true h refl) refl
 
 kept_compare : (l : Literal) → IsKept (Compare l)
 kept_compare l true h = ap all_equalities (form_of-Compare l true) ∙ one (opposite_of l) (asked l.op (sym (asks-Compare l true) ∙ h))

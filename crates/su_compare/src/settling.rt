@@ -3,7 +3,7 @@ ghost use Rattle.std.specs.Prelude.{◌≡◌, ◌<◌, ◌≤◌, ℕ, length, 
 ghost use Rattle.su_base.specs.declared.values.Value.{Value as AValue};
 ghost use Rattle.su_tableau.specs.Kinds.{Kinds, IsUniverse, IsTyped};
 ghost use Rattle.su_tableau.specs.Mapping.{Maps};
-ghost use Rattle.su_chase.specs.Meeting.{Meets};
+ghost use Rattle.su_fd.specs.Meeting.{Meets};
 ghost use Rattle.su_chase.specs.Chased.{IsFdBelow};
 ghost use Rattle.su_compare.specs.Verdict.{tab_at, IsFound};
 ghost use Rattle.su_compare.specs.inside.Settling.{HasRoomFor, AreAlike, IsSettlement, Answers, IsTypedOpen};

@@ -1,18 +1,16 @@
 //! The rows that show that a term isn't settled.
-ghost use Rattle.std.specs.Prelude.{◌≡◌, ◌↔◌, ◌⊎◌, ◌<◌, ◌++◌, ℕ, List as Items, length, Contains, IfOk, OnOk};
-ghost use Rattle.std.specs.List.Sorted.{IsStrictlySortedBy};
+ghost use Rattle.std.specs.Prelude.{◌≡◌, ◌↔◌, ◌⊎◌, ◌<◌, ◌++◌, ℕ, length, Contains, IfOk, OnOk};
 ghost use Rattle.su_base.specs.declared.values.Value.{Value as AValue};
-ghost use Rattle.su_base.specs.Value.{compare_lists};
 ghost use Rattle.su_tableau.specs.Tableaux.{Ext};
 ghost use Rattle.su_tableau.specs.Kinds.{IsUniverse, IsTyped};
 ghost use Rattle.su_schema.specs.SchemaValue.{attribute_kinds};
 ghost use Rattle.su_chase.specs.Chase.{IsClosed};
-ghost use Rattle.su_chase.specs.Meeting.{Meets};
+ghost use Rattle.su_fd.specs.Meeting.{Meets};
 ghost use Rattle.su_compare.specs.Verdict.{tab_at, InTerms, IsShown, IsUnsettled};
 ghost use Rattle.su_compare.specs.inside.Settling.{IsAnswer, constants_in, tab_constants, terms_constants};
 
 use std::alloc::Global;
-use su_base::{Kind, List, NoMemory, Row, Value};
+use su_base::{Kind, List, NoMemory, Value, sorted_rows, sorted_values};
 use su_chase::{Frozen, freeze};
 use su_schema::Schema;
 use su_steps::Term;
@@ -63,16 +61,6 @@ fn push_terms(alloc: Global, terms: &[Term], constants: &mut List<Value>) -> Res
     Ok(())
 }
 
-/// The values, each once.
-fn each_once(values: List<Value>) -> List<Value>
-    ensures { (c : AValue) → Contains result c ↔ Contains values c }
-{
-    let mut values = values.into_vec();
-    values.sort_unstable();
-    values.dedup();
-    List::from_vec(values)
-}
-
 /// The constants of all terms of both.
 fn constants_of(alloc: Global, first: &[Term], second: &[Term]) -> Result<List<Value>, NoMemory>
     ensures { IfOk result (λ vs. (c : AValue) → Contains vs c ↔ (InTerms first.now c ⊎ InTerms second.now c)) }
@@ -80,18 +68,7 @@ fn constants_of(alloc: Global, first: &[Term], second: &[Term]) -> Result<List<V
     let mut constants = List::new(alloc);
     push_terms(alloc, first, &mut constants)?;
     push_terms(alloc, second, &mut constants)?;
-    Ok(each_once(constants))
-}
-
-/// The rows, ascending, each once.
-fn sorted(rows: List<Row>) -> Result<List<Row>, NoMemory>
-    ensures members { IfOk result (λ all. (h : Items AValue) → Contains all h ↔ Contains rows h) }
-    ensures ascending { IfOk result (λ all. IsStrictlySortedBy compare_lists all) }
-{
-    let mut all = rows.into_vec();
-    all.sort()?;
-    all.dedup();
-    Ok(List::from_vec(all))
+    Ok(sorted_values(constants))
 }
 
 /// The frozen rows of a chased term that isn't settled, ascending, each once, and its frozen head: a
@@ -119,6 +96,6 @@ pub fn show_apart(
     let avoid = constants_of(alloc, first, second)?;
     let frozen = freeze(alloc, kinds.as_slice(), c, avoid.as_slice())?;
     let Frozen { universe, head } = frozen;
-    let universe = sorted(universe)?;
+    let universe = sorted_rows(universe);
     Ok(Frozen { universe, head })
 }

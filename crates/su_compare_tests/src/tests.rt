@@ -32,7 +32,7 @@ fn add_attribute(
     Ok(add(schema, &Definition::Attribute { name, kind }))
 }
 
-// A relation of the same name with the attributes as columns, and the object over it.
+/// A relation of the same name with the attributes as columns, and the object over it.
 fn add_object(
     alloc: Global,
     schema: &mut Schema,
@@ -87,7 +87,7 @@ fn add_fds(alloc: Global, schema: &mut Schema, fds: &[(&str, &str)]) -> Result<(
     Ok(())
 }
 
-// Banks with accounts and loans of customers.
+/// Banks with accounts and loans of customers.
 fn bank(alloc: Global) -> Result<Schema, NoMemory> {
     let mut schema = Schema::new(alloc);
     let bank = ("BANK", Kind::Text);
@@ -145,7 +145,7 @@ fn query(alloc: Global, schema: &Schema, text: &str) -> Result<Option<Resolved>,
     }
 }
 
-// Both verdicts; nothing where the queries can't be compared.
+/// Both verdicts; nothing where the queries can't be compared.
 fn compared(
     alloc: Global,
     schema: &Schema,
@@ -203,7 +203,7 @@ v7,8,v1,9,10,11,v2
 row ('v0')
 ";
 
-// Queries of banks and both verdicts.
+/// Queries of banks and both verdicts.
 const CASES: [(&str, &str, &str); 4] = [
     // the banks of Jones are banks but not conversely
     (
@@ -245,7 +245,7 @@ fn queries_of_banks_are_compared(rt: HostRuntime) -> Result<(), Fail> {
     Ok(())
 }
 
-// Whether the query asks for equalities alone; none where it is no query.
+/// Whether the query asks for equalities alone; none where it is no query.
 fn asks(alloc: Global, schema: &Schema, text: &str) -> Result<Option<bool>, NoMemory> {
     match query(alloc, schema, text)? {
         Some(resolved) => Ok(Some(equalities(&resolved.cond))),
@@ -253,7 +253,7 @@ fn asks(alloc: Global, schema: &Schema, text: &str) -> Result<Option<bool>, NoMe
     }
 }
 
-// Whether the outputs agree; none where one is no query.
+/// Whether the outputs agree; none where one is no query.
 fn both_agree(
     alloc: Global,
     schema: &Schema,

@@ -19,8 +19,9 @@ use Rattle.su_base.specs.declared.values.Kind.TheVariants.{Int as IntKind, Text 
 use Rattle.su_csv.specs.Field.{value_of}
 use Rattle.su_csv.specs.File.{reading, rows_from}
 use Rattle.su_csv.specs.Record.{place_without, record_limit, row_of, row_or_fault}
-use Rattle.su_csv.specs.Written.{CanBeRead, IsShort, IsStored, field_of, text_of}
-use Rattle.su_csv.proofs.Filling.{has, in-full}
+use Rattle.su_csv.specs.Written.{CanBeRead, IsShort, field_of, text_of}
+use Rattle.su_csv.specs.inside.Writers.{IsStored}
+use Rattle.su_csv.proofs.RowSoFar.{has, in-full}
 use Rattle.su_csv.proofs.Numbers.{range-fits, written}
 use Rattle.su_csv.proofs.Texts.{is-text}
 

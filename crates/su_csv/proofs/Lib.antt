@@ -1,8 +1,8 @@
 pub mod Numbers
 pub mod Texts
-pub mod Remaining
-pub mod Filling
-pub mod Following
+pub mod TextLeft
+pub mod RowSoFar
+pub mod RecordsSoFar
 pub mod Flexible
-pub mod Taking
+pub mod ItemsSoFar
 pub mod Back

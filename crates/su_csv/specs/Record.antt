@@ -2,13 +2,13 @@
 --   record   the fields of one line
 --   number   which record it is, from 1 after the header
 --   place    which column it is, from 0
-use Rattle.std.specs.Prelude.{◌≡◌, ◌⊎◌, MatchResult, ℕ, suc, ◌&&◌, ◌==◌, nat_lt, if◌then◌else◌, List, [], ◌∷◌, ◌++◌, length, Option, Some, None, is_none, option_to_list, Result, Ok, Err}
+use Rattle.std.specs.Prelude.{ℕ, suc, ◌&&◌, ◌==◌, nat_lt, if◌then◌else◌, List, [], ◌∷◌, ◌++◌, length, Option, Some, None, is_none, option_to_list, Result, Ok, Err}
 use Rattle.su_base.specs.declared.values.Value.{Value}
 use Rattle.su_base.specs.declared.values.Column.{Column}
 use Rattle.su_base.specs.declared.values.Kind.{Kind}
 use Rattle.su_base.specs.declared.values.Kind.TheVariants.{Int as IntKind, Text as TextKind}
 use Rattle.su_csv.specs.declared.faults.CsvFault.{CsvFault}
-use Rattle.su_csv.specs.declared.faults.CsvFault.TheVariants.{TooMany, Width, NotInt, NotText, NoMemory}
+use Rattle.su_csv.specs.declared.faults.CsvFault.TheVariants.{TooMany, Width, NotInt, NotText}
 use Rattle.su_base.specs.Value.{same_kind}
 use Rattle.su_csv.specs.Field.{value_of}
 
@@ -42,7 +42,3 @@ row_or_fault columns number fields =
     else if length fields == length columns
     then unless_without number (place_without IntKind 0 columns fields) (place_without TextKind 0 columns fields) (row_of columns fields)
     else Err (Width number)
-
--- the result is this answer, unless memory is wanting
-abbrev pub Answers : {A : Type 0} → Result A CsvFault → Result A CsvFault → Type 0
-Answers result answer = MatchResult result (λ value. answer ≡ Ok value) (λ fault. (fault ≡ NoMemory) ⊎ (answer ≡ Err fault))

@@ -1,6 +1,6 @@
 -- The CSV text of rows.
 --   text     as `csv` writes it at its default settings
-use Rattle.std.specs.Prelude.{◌≡◌, ◌<◌, ◌≤◌, ℕ, List, ◌∷◌, length, map, flat_map, All, get_or, [], true, IsUtf8}
+use Rattle.std.specs.Prelude.{◌≡◌, ◌<◌, ◌≤◌, ℕ, List, ◌∷◌, length, map, flat_map, All, get_or, []}
 use Rattle.std.specs.Fmt.{signed_decimal}
 use Rattle.csv.specs.Reading.{strip_bom}
 use Rattle.csv.specs.Writing.{default_writer, row_text}
@@ -8,7 +8,7 @@ use Rattle.su_base.specs.declared.values.Value.{Value}
 use Rattle.su_base.specs.declared.values.Value.TheVariants.{Int, Text}
 use Rattle.su_base.specs.declared.values.Column.{Column}
 use Rattle.su_base.specs.Value.{kind_of}
-use Rattle.su_csv.specs.Field.{in_range, text_limit}
+use Rattle.su_csv.specs.Field.{text_limit}
 use Rattle.su_csv.specs.Record.{record_limit}
 
 -- the field of a value: the number in decimal, the text as it is
@@ -19,11 +19,6 @@ field_of (Text t) = t
 -- the text of a header and rows
 abbrev pub text_of : List (List ℕ) → List (List Value) → List ℕ
 text_of header rows = flat_map (row_text default_writer) (header ∷ map (map field_of) rows)
-
--- what a value's type keeps: a number of 64 bits, a text of UTF-8
-abbrev pub IsStored : Value → Type 0
-IsStored (Int n) = in_range n ≡ true
-IsStored (Text t) = IsUtf8 t
 
 -- a number, or a text that is not too long
 abbrev pub IsShort : Value → Type 0

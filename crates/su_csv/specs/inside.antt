@@ -1,3 +1,4 @@
 -- Definitions that only contracts of private functions need.
+pub mod OneAnswer
 pub mod Records
 pub mod Writers

@@ -3,7 +3,7 @@ ghost use Rattle.std.specs.Prelude.{◌≡◌, ◌≤◌, ◌⊎◌, ◌&&◌, n
 ghost use Rattle.csv.specs.Reading.{is_bom, strip_bom};
 ghost use Rattle.csv.specs.Records.{fields_of};
 ghost use Rattle.su_csv.specs.File.{is_header, reading, rows_from};
-ghost use Rattle.su_csv.specs.Record.{Answers};
+ghost use Rattle.su_csv.specs.inside.OneAnswer.{Answers};
 ghost use Rattle.su_csv.specs.inside.Records.{Stands, records_left};
 
 use crate::faults::CsvFault;

@@ -1,7 +1,8 @@
 //! The row of a record, or its fault.
 ghost use Rattle.std.specs.Prelude.{◌≡◌, ◌<◌, ◌≤◌, ◌&&◌, Some, is_none, length, slice_get, MatchOption, true};
 ghost use Rattle.csv.specs.Records.{AllText, fields_of};
-ghost use Rattle.su_csv.specs.Record.{Answers, place_without, record_limit, row_or_fault};
+ghost use Rattle.su_csv.specs.Record.{place_without, record_limit, row_or_fault};
+ghost use Rattle.su_csv.specs.inside.OneAnswer.{Answers};
 ghost use Rattle.su_base.specs.Value.{same_kind};
 ghost use Rattle.su_csv.specs.Field.{value_of};
 

@@ -2,7 +2,8 @@
 ghost use Rattle.std.specs.Prelude.{◌≡◌, [], ◌∷◌, ◌++◌, List, Ok, map, All, OnOk, IfOk};
 ghost use Rattle.csv.specs.Records.{fields_of, partial_of};
 ghost use Rattle.csv.specs.Writing.{default_writer, row_text};
-ghost use Rattle.su_csv.specs.Written.{CanBeRead, IsStored, field_of, text_of};
+ghost use Rattle.su_csv.specs.Written.{CanBeRead, field_of, text_of};
+ghost use Rattle.su_csv.specs.inside.Writers.{IsStored};
 ghost use Rattle.su_csv.specs.File.{reading};
 ghost use Rattle.su_base.specs.declared.values.Column.{Column};
 ghost use Rattle.su_csv.specs.inside.Writers.{IsIdle, text_so_far};

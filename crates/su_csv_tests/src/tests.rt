@@ -12,7 +12,7 @@ fn column(alloc: Global, name: &str, kind: Kind) -> Result<Column, NoMemory> {
     })
 }
 
-// A column T of texts and a column N of numbers.
+/// A column T of texts and a column N of numbers.
 fn text_and_number(alloc: Global) -> Result<List<Column>, NoMemory>
     ensures { IfOk result (λ columns. length columns ≡ 2) }
 {
@@ -30,7 +30,7 @@ fn names(alloc: Global, columns: &[Column]) -> Result<List<Str>, NoMemory> {
     Ok(names)
 }
 
-// What a file of texts and numbers is read as, written again.
+/// What a file of texts and numbers is read as, written again.
 fn answer(alloc: Global, file: &[u8]) -> Result<List<u8>, CsvFault> {
     let columns = text_and_number(alloc)?;
     let rows = read(alloc, file, columns.as_slice())?;
@@ -90,7 +90,7 @@ fn files_read_as_rows_or_their_first_fault(rt: HostRuntime) -> Result<(), Fail> 
     Ok(())
 }
 
-// A file with one text of so many bytes.
+/// A file with one text of so many bytes.
 fn long_text(alloc: Global, count: u32) -> Result<Vec<u8>, Fail> {
     let mut file = Vec::new(alloc);
     file.extend_from_slice(b"T,N\n")?;

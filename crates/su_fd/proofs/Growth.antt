@@ -5,7 +5,7 @@ use Rattle.std.specs.List.{position}
 use Rattle.std.proofs.lemmas.List.Quantifiers.{position-Some}
 use Rattle.su_fd.specs.Closure.{IsClosed, IsClosureOf}
 use Rattle.su_fd.specs.Laws.{DerivationReachesClosure}
-use Rattle.su_fd.proofs.Closing.{own}
+use Rattle.su_fd.proofs.EveryClosure.{own}
 use Rattle.su_fd.specs.Derivation.{IsDerivation, adds, right_side, with_right_sides}
 use Rattle.std.specs.Ordering.{nat_cmp}
 use Rattle.std.specs.FinSet.{FinSet, is_subset, union, empty}

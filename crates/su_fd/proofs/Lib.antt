@@ -1,3 +1,3 @@
-pub mod Closing
+pub mod EveryClosure
 pub mod Growth
-pub mod Sweeping
+pub mod OnePass

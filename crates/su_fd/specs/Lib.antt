@@ -1,3 +1,4 @@
 pub mod Closure
 pub mod Derivation
 pub mod Laws
+pub mod Meeting

@@ -7,7 +7,7 @@ ghost use Rattle.su_fd.specs.Closure.{IsClosed, IsClosureOf, Determines};
 use crate::dependencies::Fd;
 use su_base::AttrSet;
 
-// One pass: each dependency in turn adds its right side where its left side is reached.
+/// One pass: each dependency in turn adds its right side where its left side is reached.
 fn swept(fds: &[Fd], start: AttrSet) -> AttrSet
     ensures grown { IsTrue (set.is_subset start result) }
     ensures least { (s : set.FinSet nat_cmp) → IsClosed fds.now s → IsTrue (set.is_subset start s) → IsTrue (set.is_subset result s) }

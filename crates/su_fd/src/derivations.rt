@@ -6,7 +6,7 @@ use crate::dependencies::Fd;
 use std::alloc::Global;
 use su_base::{AttrSet, List, NoMemory};
 
-// The place of the first dependency that adds to `reached`.
+/// The place of the first dependency that adds to `reached`.
 fn first_adding(fds: &[Fd], reached: AttrSet) -> Option<usize>
     ensures { result ≡ position (λ f. adds f reached) fds.now }
 {

@@ -3,7 +3,7 @@ use std::test::Fail;
 use su_base::AttrSet;
 use su_fd::*;
 
-// The attributes of the bank's schema.
+/// The attributes of the bank's schema.
 const BANK: u8 = 0;
 
 const ACCT: u8 = 1;

@@ -13,10 +13,10 @@ use Rattle.std.proofs.lemmas.List.Elements.{recursion_from_All}
 use Rattle.std.proofs.lemmas.List.Edits.{length-remove, get_or-remove_below, get_or-remove_above}
 use Rattle.std.proofs.lemmas.Map.Keys.{Less-from_sorted, sorted_from_all_adjacent, sorted_tail}
 use Rattle.su_base.specs.declared.values.Value.{Value}
+use Rattle.su_base.proofs.Numbers.{is_lt-Less}
 use Rattle.su_index.specs.Order.{compare_keys, compare_places, count_below, IsRun, IsIndex}
 use Rattle.su_index.specs.inside.Order.{ArePositions, comes_before, with_value}
 use Rattle.su_index.proofs.Runs.{keys_total, places_total, count_below-suc, count_by-cons, count_by-append, count_by-none, sorted_nil, Before, AllBefore, sorted-append, sorted-append_left, sorted-append_right, sorted-append_before, sorted_cons}
-use Rattle.su_index.proofs.Search.{is_less}
 use Rattle.su_index.proofs.Spans.{index_positions, run_positions, count_by_zero}
 
 le_or_lt : (a b : ℕ) → (a ≤ b) ⊎ (b < a)
@@ -82,7 +82,7 @@ ordered-insert at run q p sorted within apart below above =
     let front : AllByRecursion (λ x. c x p ≡ Less) (take q run) = recursion_from_All (λ x. c x p ≡ Less) (take q run) (λ k d h.
     let l : length (take q run) ≡ q = length-take-le q run within in
     let e : get_or (take q run) k d ≡ get_or run k 0 = get_or-take q run k d (omega arith) ∙ get_or_default run k d 0 (omega arith) in
-    rw e (is_less (c (get_or run k 0) p) (below k (omega arith)))) in
+    rw e (is_lt-Less (c (get_or run k 0) p) (below k (omega arith)))) in
     let back : Before c p (drop q run) = recursion_from_All (λ y. c p y ≡ Less) (drop q run) (λ k d h.
     let l : length (drop q run) ≡ length run - q = length-drop q run in
     let e : get_or (drop q run) k d ≡ get_or run (q + k) 0 = get_or-drop q run k d ∙ get_or_default run (q + k) d 0 (omega arith) in

@@ -13,9 +13,10 @@ use Rattle.std.proofs.lemmas.Map.Keys.{sorted_from_all_adjacent}
 use Rattle.su_base.specs.declared.values.Value.{Value}
 use Rattle.su_base.specs.contracts.values.ValueOrd.TheImpl.{ghosts}
 use Rattle.su_base.specs.Value.{compare_values}
+use Rattle.su_base.proofs.Rows.{cmp-values}
 use Rattle.su_index.specs.Lead.{lead_of, IsLead}
 use Rattle.su_index.specs.Order.{compare_keys, compare_places, count_below, IsRun}
-use Rattle.su_index.proofs.Runs.{places_total, same_order, count_by-cons, count_below-suc}
+use Rattle.su_index.proofs.Runs.{places_total, count_by-cons, count_below-suc}
 use Rattle.su_index.proofs.Changed.{after, count_below_one}
 
 abbrev pub Key : Type 0
@@ -61,7 +62,7 @@ same_key at a b e f =
     ∙ ap (λ v. ordering_then (compare_keys b.1.now v) (nat_cmp b.2 a.2)) (sym e.1)
     ∙ ap (λ m. ordering_then (ordering_then (nat_cmp m (lead_of a.1.now)) (compare_values b.1.now a.1.now)) (nat_cmp b.2 a.2)) (sym f.0)
     ∙ ap (λ m. ordering_then (ordering_then (nat_cmp b.0 m) (compare_values b.1.now a.1.now)) (nat_cmp b.2 a.2)) (sym e.0)
-    ∙ ap (λ o. ordering_then (ordering_then (nat_cmp b.0 a.0) o) (nat_cmp b.2 a.2)) (sym (same_order b.1.now a.1.now))
+    ∙ ap (λ o. ordering_then (ordering_then (nat_cmp b.0 a.0) o) (nat_cmp b.2 a.2)) (sym (cmp-values b.1.now a.1.now))
 
 module _ (at : ℕ → Value) (from n : ℕ) (keys sorted : List Key) (perm : IsPermutation keys sorted)
     (values : All (λ key. IsLead key.0 key.1.now × (key.1.now ≡ at key.2)) keys)

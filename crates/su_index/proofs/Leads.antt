@@ -1,19 +1,14 @@
 -- Equal values have one lead: to compare it first changes nothing where values are equal.
-use Rattle.std.proofs.Common.{◌≡◌, ℕ, false, ap, refl, ◌∙◌, arith, nat_lt}
+use Rattle.std.proofs.Common.{◌≡◌, ℕ, false, ap, refl, arith, nat_lt}
 use Rattle.std.specs.Ordering.{nat_cmp, ordering_then, is_lt, is_eq}
 use Rattle.std.specs.declared.cmp.Ordering.{Ordering}
 use Rattle.std.specs.declared.cmp.Ordering.TheVariants.{Less, Equal, Greater}
 use Rattle.std.proofs.lemmas.Bool.Decides.{nat_tests}
 use Rattle.su_base.specs.declared.values.Value.{Value}
 use Rattle.su_base.specs.Value.{compare_values}
-use Rattle.su_base.proofs.Same.{value_eq-Decides}
-use Rattle.su_base.specs.contracts.values.ValueOrd.TheImpl.Laws.{matches_eq-law}
+use Rattle.su_base.proofs.Rows.{equal_values}
 use Rattle.su_index.specs.Lead.{lead_of, IsLead}
 use Rattle.su_index.specs.Order.{compare_keys}
-use Rattle.su_index.proofs.Runs.{same_order}
-
-pub equal_values : (v w : Value) → compare_values v w ≡ Equal → v ≡ w
-equal_values v w e = (value_eq-Decides v w).0 (matches_eq-law v w ∙ ap is_eq (same_order v w ∙ e))
 
 tied : (m n : ℕ) → m ≡ n → nat_cmp m n ≡ Equal
 tied m n e = grind (arith, nat_tests, e)

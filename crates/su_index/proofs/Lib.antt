@@ -5,7 +5,7 @@ pub mod Entries
 pub mod Keys
 pub mod Leads
 pub mod Matched
-pub mod Merging
+pub mod MergedRuns
 pub mod Ranks
 pub mod Runs
 pub mod Search

@@ -8,11 +8,11 @@ use Rattle.std.proofs.lemmas.Cmp.{tied_itself}
 use Rattle.std.proofs.lemmas.List.{take_all}
 use Rattle.su_base.specs.declared.values.Value.{Value}
 use Rattle.su_base.specs.Value.{compare_values}
+use Rattle.su_base.proofs.Rows.{values_total, equal_values}
 use Rattle.su_index.specs.Matches.{has_value, matches, IsMatch}
 use Rattle.su_index.specs.Order.{count_below}
-use Rattle.su_index.proofs.Leads.{equal_values}
 use Rattle.su_index.proofs.Ranks.{count_below-le}
-use Rattle.su_index.proofs.Runs.{count_below-suc, values_total}
+use Rattle.su_index.proofs.Runs.{count_below-suc}
 use Rattle.su_index.proofs.Spans.{count_rows, is_equal, le_or}
 
 is_value : (found : Option Value) (value : Value) → Decides (option_map_or (λ v. is_eq (compare_values v value)) found false) (found ≡ Some value)

@@ -1,5 +1,5 @@
 -- Lists of positions in order, and what their places say of the values.
-use Rattle.std.proofs.Common.{◌≡◌, ◌<◌, ◌≤◌, ◌+◌, ℕ, zero, suc, Bool, true, false, cond, ◌&&◌, List, [], ◌∷◌, ◌++◌, length, get_or, take, drop, refl, sym, ◌∙◌, arith, count_by, nat_lt, add-one, add-zero}
+use Rattle.std.proofs.Common.{◌≡◌, ◌<◌, ◌≤◌, ◌+◌, ℕ, zero, suc, Bool, true, false, cond, ◌&&◌, List, [], ◌∷◌, ◌++◌, length, get_or, take, drop, refl, arith, count_by, nat_lt, add-one, add-zero}
 use Rattle.std.specs.Cmp.{IsTotalOrder, then_total, on_total, nat_cmp_total}
 use Rattle.std.specs.List.Sorted.{IsStrictlySortedBy}
 use Rattle.std.specs.List.{AllByRecursion}
@@ -9,26 +9,9 @@ use Rattle.std.proofs.lemmas.Bool.Decides.{nat_tests}
 use Rattle.std.proofs.lemmas.List.Sums.{sum_by-cons, sum_by-append}
 use Rattle.std.proofs.lemmas.List.{take-append-drop}
 use Rattle.su_base.specs.declared.values.Value.{Value}
-use Rattle.su_base.specs.declared.values.Value.TheVariants.{Int, Text}
-use Rattle.su_base.specs.Value.{compare_values}
-use Rattle.su_base.specs.contracts.values.ValueOrd.TheImpl.{ghosts}
-use Rattle.su_base.specs.contracts.values.ValueOrd.TheImpl.Laws.{total-law}
+pub use Rattle.su_base.proofs.Rows.{cmp-values as same_order, values_total}
 use Rattle.su_index.specs.Lead.{lead_of}
 use Rattle.su_index.specs.Order.{compare_keys, compare_places, count_below}
-
--- the order of values is that of their derived `cmp`
-pub same_order : (v w : Value) → ghosts.cmp v w ≡ compare_values v w
-same_order (Int m) (Int n) = search
-same_order (Int m) (Text t) = search
-same_order (Text s) (Int n) = search
-same_order (Text s) (Text t) = search
-
-pub values_total : IsTotalOrder compare_values
-values_total = record {
-  antisymm = λ v w. rw (← same_order v w, ← same_order w v) (total-law.antisymm v w);
-  trans = λ v w x p q. sym (same_order v x) ∙ total-law.trans v w x (same_order v w ∙ p) (same_order w x ∙ q);
-  congr = λ v w x p. rw (← same_order v x, ← same_order w x) (total-law.congr v w x (same_order v w ∙ p));
-}
 
 pub keys_total : IsTotalOrder compare_keys
 keys_total = then_total (on_total lead_of nat_cmp_total) values_total

@@ -8,6 +8,7 @@ use Rattle.std.specs.declared.cmp.Ordering.TheVariants.{Less, Equal, Greater}
 use Rattle.std.proofs.lemmas.Bool.{false≢true, cases_eq}
 use Rattle.std.proofs.lemmas.Map.Keys.{Less-from_sorted}
 use Rattle.su_base.specs.declared.values.Value.{Value}
+use Rattle.su_base.proofs.Numbers.{is_lt-Less}
 use Rattle.su_index.specs.Order.{compare_keys, compare_places, compare_entries}
 use Rattle.su_index.specs.inside.Order.{comes_before, has_at}
 use Rattle.su_index.proofs.Runs.{keys_total}
@@ -16,11 +17,6 @@ use Rattle.su_index.proofs.Spans.{is_equal}
 pub entries_total : IsTotalOrder (λ (a b : Value × ℕ). compare_entries a.0 a.1 b.0 b.1)
 entries_total = then_total (on_total (λ (a : Value × ℕ). a.0) keys_total) (on_total (λ (a : Value × ℕ). a.1) nat_cmp_total)
 
-pub is_less : (o : Ordering) → is_lt o ≡ true → o ≡ Less
-is_less Less e = refl
-is_less Equal e = absurd (false≢true e)
-is_less Greater e = absurd (false≢true e)
-
 -- what is before a position that comes before comes before too
 pub comes_before-below : (at : ℕ → Value) (v : Value) (p : ℕ) (run : List ℕ) (j k : ℕ) → IsStrictlySortedBy (compare_places at) run → j ≤ k → k < length run → comes_before at v p (get_or run k 0) ≡ true → comes_before at v p (get_or run j 0) ≡ true
 comes_before-below at v p run j k sorted le within before =
@@ -28,7 +24,7 @@ comes_before-below at v p run j k sorted le within before =
       | inl e ↦ rw e before
       | inr apart ↦
           let less : compare_places at (get_or run j 0) (get_or run k 0) ≡ Less = Less-from_sorted (compare_places at) run j k 0 sorted (omega (arith, apart)) within in
-          ap is_lt (entries_total.trans (at (get_or run j 0), get_or run j 0) (at (get_or run k 0), get_or run k 0) (v, p) less (is_less _ before))
+          ap is_lt (entries_total.trans (at (get_or run j 0), get_or run j 0) (at (get_or run k 0), get_or run k 0) (v, p) less (is_lt-Less _ before))
     ]
 
 -- what is after one that does not come before does not come before either

@@ -115,6 +115,7 @@ impl Table {
         ensures unchanged { OnErr result (self.new ≡ self.old) }
         ensures handed_back { IfErr result (λ e. e.0 ≡ row) }
     {
+        // For the proof: the width is a `u8`.
         let _width = self.rows.width();
         if self.rows.len() >= MOST {
             return Err((row, NoMemory));
@@ -230,6 +231,7 @@ impl Table {
         requires { length row.now ≡ self.now.width }
         ensures { Tells columns self.now.rows row.now result }
     {
+        // For the proof: the width is a `u8`.
         let _width = self.rows.width();
         told(columns, self.rows.as_slice(), row, self.notes.as_slice())
     }

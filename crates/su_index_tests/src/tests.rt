@@ -172,7 +172,7 @@ fn a_noted_row_is_found_by_all_its_values(rt: HostRuntime) -> Result<(), Fail> {
     Ok(())
 }
 
-// Through the bound: a fetch counts one, and the tables stay.
+/// Through the bound: a fetch counts one, and the tables stay.
 fn fetch_first<R: Rows>(rows: &mut R)
     requires tables { 0 < length (R.tables rows.old) }
     requires some { 0 < length (table_at (R.tables rows.old) 0).rows }

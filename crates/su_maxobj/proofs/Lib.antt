@@ -1,8 +1,8 @@
 pub mod Few
-pub mod Joining
+pub mod Together
 pub mod Listed
 pub mod Lists
 pub mod Members
-pub mod Reordering
+pub mod OtherOrder
 pub mod Spread
-pub mod Widening
+pub mod GrowthSteps

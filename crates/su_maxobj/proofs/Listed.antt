@@ -11,7 +11,7 @@ use Rattle.su_maxobj.specs.Growth.{IsGrown}
 use Rattle.su_maxobj.specs.MaximalObjects.{object_sets, grown_at, is_listed, computed}
 use Rattle.su_maxobj.proofs.Lists.{passing_push, passing_skip}
 use Rattle.su_maxobj.proofs.Members.{object_at_read}
-use Rattle.su_maxobj.proofs.Widening.{one_grown}
+use Rattle.su_maxobj.proofs.GrowthSteps.{one_grown}
 
 abbrev pub ListedBelow : List (FinSet nat_cmp) → List (FinSet nat_cmp) → ℕ → List (FinSet nat_cmp)
 ListedBelow declared grown n = declared ++ map (grown_at grown) (filter (is_listed declared grown) (range_with_len 0 n))

@@ -1,9 +1,9 @@
 -- What a set of objects grows to.
 -- growth: the list of the objects that join, one after another, each the first that is adjoinable to the set so far
 -- grown: the set at the end of a growth, to which no object is adjoinable
-use Rattle.std.specs.Prelude.{◌≡◌, ℕ, ◌<◌, IsTrue, List, [], ◌∷◌, length}
+use Rattle.std.specs.Prelude.{◌≡◌, ℕ, ◌<◌, List, [], ◌∷◌, length}
 use Rattle.std.specs.Ordering.{nat_cmp}
-use Rattle.std.specs.FinSet.{FinSet, contains, insert, empty}
+use Rattle.std.specs.FinSet.{FinSet, insert, empty}
 use Rattle.su_fd.specs.declared.Fd.{Fd}
 use Rattle.su_maxobj.specs.Adjoining.{Adjoinable}
 
@@ -12,10 +12,6 @@ pub record IsFirstAdjoinable (fds : List Fd) (objects : List (FinSet nat_cmp)) (
   pub in_range : o < length objects
   pub adjoinable : Adjoinable fds objects have o
   pub earlier : (k : ℕ) → k < o → ¬ Adjoinable fds objects have k
-
--- none of these objects is adjoinable to have
-abbrev pub AreNotAdjoinable : List Fd → List (FinSet nat_cmp) → FinSet nat_cmp → FinSet nat_cmp → Type 0
-AreNotAdjoinable fds objects have these = (k : ℕ) → IsTrue (contains these k) → ¬ Adjoinable fds objects have k
 
 -- no object is adjoinable to have
 abbrev pub IsFull : List Fd → List (FinSet nat_cmp) → FinSet nat_cmp → Type 0

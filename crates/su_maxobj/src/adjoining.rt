@@ -6,7 +6,7 @@ use crate::spreading::apart;
 use su_base::{AttrSet, ObjSet};
 use su_fd::{Fd, closure};
 
-// The attributes of the members of `have`.
+/// The attributes of the members of `have`.
 pub fn attributes_of(objects: &[AttrSet], have: ObjSet) -> AttrSet
     requires { length objects.now ≤ 64 }
     ensures { IsAttributesOf objects.now have result }
@@ -20,7 +20,7 @@ pub fn attributes_of(objects: &[AttrSet], have: ObjSet) -> AttrSet
     all
 }
 
-// Whether two sets of attributes hang together by what they share.
+/// Whether two sets of attributes hang together by what they share.
 fn hang_together(fds: &[Fd], objects: &[AttrSet], s: AttrSet, t: AttrSet) -> bool
     ensures { IsTrue result ↔ HangTogether fds.now objects.now s t }
 {
@@ -31,7 +31,7 @@ fn hang_together(fds: &[Fd], objects: &[AttrSet], s: AttrSet, t: AttrSet) -> boo
     apart(objects, closure(fds, shared), s, t)
 }
 
-// Whether `object` may join `have`, whose members have the attributes `members`.
+/// Whether `object` may join `have`, whose members have the attributes `members`.
 pub fn joins(fds: &[Fd], objects: &[AttrSet], have: ObjSet, members: AttrSet, object: u8) -> bool
     requires in_range { object < length objects.now }
     requires members { IsAttributesOf objects.now have members }

@@ -14,7 +14,7 @@ use std::alloc::Global;
 use su_base::{AttrSet, List, NoMemory, ObjSet};
 use su_schema::Schema;
 
-// Writes the attributes of each object, in order of declaration.
+/// Writes the attributes of each object, in order of declaration.
 fn read_objects(schema: &Schema, sets: &mut [AttrSet])
     requires { length schema.now.objects ≤ length sets.old }
     ensures { take (length schema.now.objects) sets.new ≡ object_sets schema.now }

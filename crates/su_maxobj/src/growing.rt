@@ -3,15 +3,16 @@ ghost use Rattle.std.specs.Prelude.{ℕ, ◌≡◌, ◌<◌, ◌≤◌, IsTrue, 
 ghost use Rattle.std.specs.Ordering.{nat_cmp};
 ghost use Rattle.std.specs.FinSet as set;
 ghost use Rattle.su_maxobj.specs.Adjoining.{object_at, IsAttributesOf};
-ghost use Rattle.su_maxobj.specs.Growth.{AreNotAdjoinable, IsFull, IsFirstAdjoinable, IsGrown};
+ghost use Rattle.su_maxobj.specs.Growth.{IsFull, IsFirstAdjoinable, IsGrown};
+ghost use Rattle.su_maxobj.specs.inside.Ruled.{AreNotAdjoinable};
 
 use crate::adjoining::joins;
 use su_base::{AttrSet, ObjSet};
 use su_fd::Fd;
 
-// The first object that may join `have`, whose members have the attributes `members`. Objects of
-// which it is known that they may not join are in `ruled_out`, and those that this call tries are
-// added.
+/// The first object that may join `have`, whose members have the attributes `members`. Objects of
+/// which it is known that they may not join are in `ruled_out`, and those that this call tries are
+/// added.
 fn first_adjoinable(
     fds: &[Fd],
     objects: &[AttrSet],
@@ -37,8 +38,8 @@ fn first_adjoinable(
     None
 }
 
-// Those of `ruled_out` that share nothing with `added` beyond `members`: what joins there changes
-// nothing for them.
+/// Those of `ruled_out` that share nothing with `added` beyond `members`: what joins there changes
+/// nothing for them.
 fn unmoved(objects: &[AttrSet], members: AttrSet, ruled_out: ObjSet, added: AttrSet) -> ObjSet
     requires { length objects.now ≤ 64 }
     ensures within { IsTrue (set.is_subset result ruled_out) }
@@ -56,7 +57,7 @@ fn unmoved(objects: &[AttrSet], members: AttrSet, ruled_out: ObjSet, added: Attr
     kept
 }
 
-// What `seed` grows to.
+/// What `seed` grows to.
 pub fn grown_from(fds: &[Fd], objects: &[AttrSet], seed: u8) -> ObjSet
     requires few { length objects.now ≤ 64 }
     requires in_range { seed < length objects.now }

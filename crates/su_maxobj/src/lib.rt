@@ -12,5 +12,7 @@ mod calls;
 mod growing;
 pub mod laws;
 mod listing;
-mod ordering;mod spreading;
+mod ordering;
+mod spreading;
+
 pub use calls::{adjoinable, attributes_covered, grown, maximal_objects};

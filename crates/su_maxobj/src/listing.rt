@@ -31,7 +31,7 @@ fn is_among(own: ObjSet, sets: &[ObjSet]) -> bool
         .any(|other| own.within(*other) && other.within(own))
 }
 
-// Whether what the seed grows to is a maximal object that no other stands for.
+/// Whether what the seed grows to is a maximal object that no other stands for.
 fn is_listed(declared: &[ObjSet], grown: &[ObjSet], seed: usize) -> bool
     requires { seed < length grown.now }
     ensures { result ≡ listed declared.now grown.now seed }
@@ -42,7 +42,7 @@ fn is_listed(declared: &[ObjSet], grown: &[ObjSet], seed: usize) -> bool
         && !is_among(own, &grown[..seed])
 }
 
-// What each object grows to.
+/// What each object grows to.
 fn grown_by(alloc: Global, fds: &[Fd], objects: &[AttrSet]) -> Result<List<ObjSet>, NoMemory>
     requires { length objects.now ≤ 64 }
     ensures seeds { IfOk result (λ grown. length grown ≡ length objects.now) }
@@ -55,8 +55,8 @@ fn grown_by(alloc: Global, fds: &[Fd], objects: &[AttrSet]) -> Result<List<ObjSe
     Ok(grown)
 }
 
-// What each object grows to. The dependencies are brought into a good order first, since each
-// growth takes a closure for each object that it tries.
+/// What each object grows to. The dependencies are brought into a good order first, since each
+/// growth takes a closure for each object that it tries.
 pub fn grown_sets(alloc: Global, fds: &[Fd], objects: &[AttrSet]) -> Result<List<ObjSet>, NoMemory>
     requires { length objects.now ≤ 64 }
     ensures seeds { IfOk result (λ grown. length grown ≡ length objects.now) }
@@ -66,7 +66,7 @@ pub fn grown_sets(alloc: Global, fds: &[Fd], objects: &[AttrSet]) -> Result<List
     grown_by(alloc, fds.as_slice(), objects)
 }
 
-// The declared sets, then the grown ones that are listed.
+/// The declared sets, then the grown ones that are listed.
 pub fn listed_sets(
     alloc: Global,
     declared: &[ObjSet],

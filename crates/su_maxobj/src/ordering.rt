@@ -14,7 +14,7 @@ fn meets(s: AttrSet, t: AttrSet) -> bool {
     !s.meet(t).is_empty()
 }
 
-// How many of the dependencies feed one with this left side.
+/// How many of the dependencies feed one with this left side.
 fn feeder_count(fds: &[Fd], left: AttrSet) -> u16 {
     let mut count: u16 = 0;
     for fd in fds {
@@ -35,7 +35,7 @@ fn feeder_counts(alloc: Global, fds: &[Fd]) -> Result<Vec<u16>, NoMemory>
     Ok(counts)
 }
 
-// Takes one off the counts of those that the right side feeds.
+/// Takes one off the counts of those that the right side feeds.
 fn discount(fds: &[Fd], right: AttrSet, counts: &mut [u16])
     requires { length fds.now ≡ length counts.old }
 {
@@ -57,7 +57,7 @@ fn is_less_fed(counts: &[u16], i: usize, least: Option<usize>) -> bool
     }
 }
 
-// The waiting one with the least count, the first of them.
+/// The waiting one with the least count, the first of them.
 fn least_fed(waiting: &[bool], counts: &[u16]) -> Option<usize>
     requires { length waiting.now ≡ length counts.now }
     ensures { MatchOption result (All (λ w. w ≡ false) waiting.now) (λ i. slice_get waiting.now i ≡ Some true) }
@@ -74,7 +74,7 @@ fn least_fed(waiting: &[bool], counts: &[u16]) -> Option<usize>
     least
 }
 
-// The dependencies, each when it is the one with the least count of those that wait.
+/// The dependencies, each when it is the one with the least count of those that wait.
 fn placed(
     alloc: Global,
     fds: &[Fd],
@@ -94,7 +94,7 @@ fn placed(
     Ok(list)
 }
 
-// The same dependencies: again and again the one that the fewest others feed which still wait.
+/// The same dependencies: again and again the one that the fewest others feed which still wait.
 pub fn ordered(alloc: Global, fds: &[Fd]) -> Result<List<Fd>, NoMemory>
     ensures { IfOk result (HaveSameMembers fds.now) }
 {

@@ -21,7 +21,7 @@ fn objects(members: &[u8]) -> ObjSet {
     all
 }
 
-// Objects by their attributes, dependencies, declared sets, and the list that must come of them.
+/// Objects by their attributes, dependencies, declared sets, and the list that must come of them.
 #[derive(Clone, Copy)]
 struct Case<'a> {
     objects: &'a [&'a [u8]],
@@ -40,7 +40,7 @@ fn texts(alloc: Global, names: &[&str], members: &[u8]) -> Result<List<Str>, NoM
     Ok(texts)
 }
 
-// A relation whose columns are named as the attributes.
+/// A relation whose columns are named as the attributes.
 fn relation(alloc: Global, name: &str, members: &[u8]) -> Result<Definition, NoMemory> {
     let mut columns = List::new(alloc);
     for member in members {
@@ -57,7 +57,7 @@ fn relation(alloc: Global, name: &str, members: &[u8]) -> Result<Definition, NoM
     })
 }
 
-// The object of that relation.
+/// The object of that relation.
 fn object(
     alloc: Global,
     name: &str,

@@ -1,13 +1,6 @@
 -- Lists whose items are tied place by place.
-use Rattle.std.proofs.Common.{◌≡◌, ◌<◌, ◌++◌, ℕ, zero, suc, List, [], ◌∷◌, length, get_or, arith}
+use Rattle.std.proofs.Common.{◌≡◌, ◌<◌, ℕ, zero, suc, List, [], ◌∷◌, length, get_or, arith}
 use Rattle.std.specs.List.{AllZip}
-
--- one more item in each list
-pub zip-snoc : {A B : Type 0} (R : A → B → Type 0) (xs : List A) (ys : List B) (x : A) (y : B) → AllZip R xs ys → R x y → AllZip R (xs ++ x ∷ []) (ys ++ y ∷ [])
-zip-snoc R [] [] x y all one = (one, tt)
-zip-snoc R [] (b ∷ ys) x y all one = absurd all
-zip-snoc R (a ∷ xs) [] x y all one = absurd all
-zip-snoc R (a ∷ xs) (b ∷ ys) x y all one = (all.0, zip-snoc R xs ys x y all.1 one)
 
 -- from each place
 pub zip-each : {A : Type 0} (R : A → A → Type 0) (xs ys : List A) → length ys ≡ length xs → ((i : ℕ) (d : A) → i < length xs → R (get_or xs i d) (get_or ys i d)) → AllZip R xs ys

@@ -19,7 +19,7 @@ impl Job for Twice {
     }
 }
 
-// A job that finds memory only where there is a number.
+/// A job that finds memory only where there is a number.
 #[derive(Debug, Drop)]
 struct Found(Option<u64>);
 
@@ -71,7 +71,7 @@ fn a_job_without_memory_is_want_of_memory_of_the_call(rt: HostRuntime) -> Result
     Ok(())
 }
 
-// A gate at which two jobs wait for each other, for a bounded number of turns.
+/// A gate at which two jobs wait for each other, for a bounded number of turns.
 #[derive(Drop)]
 struct Meeting {
     first: AtomicU64,
@@ -112,7 +112,7 @@ fn two_jobs_meet_at_the_gate(rt: HostRuntime) -> Result<(), Fail> {
     Ok(())
 }
 
-// A gate that notes whether a job is passed out of turn.
+/// A gate that notes whether a job is passed out of turn.
 #[derive(Drop)]
 struct InTurn {
     next: AtomicU64,

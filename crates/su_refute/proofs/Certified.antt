@@ -3,6 +3,7 @@ use Rattle.std.proofs.Common.{◌≡◌, ℕ, zero, suc, ◌+◌, ◌<◌, ◌�
 use Rattle.std.specs.List.{AllZip}
 use Rattle.std.proofs.lemmas.List.{length-append, get_or_default}
 use Rattle.std.proofs.lemmas.List.Elements.{All-nil, All-cons, All-head, All-tail, All-append, All-map, All-weaker, All-contains}
+use Rattle.su_base.proofs.Items.{Contains-head, Contains-later, All-members}
 use Rattle.su_lex.specs.declared.meaning.Symbol.{Symbol}
 use Rattle.su_lex.specs.Symbols.{IsSymbol, spaced}
 use Rattle.su_tableau.specs.declared.symbols.Sym.{Sym}
@@ -28,13 +29,11 @@ use Rattle.su_refute.specs.Trees.{IsTree, IsTreeAt}
 use Rattle.su_refute.specs.AllTrees.{IsSound, lines_of, AreTreesOf, AreTrees}
 use Rattle.su_refute.specs.Written.{row_trees, term_of, terms_from, certificate_of, certificate_text, lines_text}
 use Rattle.su_refute.specs.Laws.{IsSpelled, IsWritable, WrittenCertificatesAreGood}
-use Rattle.su_refute.proofs.Ascending.{contains_first, contains_rest}
-use Rattle.su_refute.proofs.Counting.{numbers_step}
+use Rattle.su_refute.proofs.MemberCounts.{numbers_step}
 use Rattle.su_refute.proofs.Needed.{ready_first}
-use Rattle.su_refute.proofs.Standing.{kept_in, in_kept}
+use Rattle.su_refute.proofs.TreeSoFar.{kept_in, in_kept}
 use Rattle.su_refute.proofs.Nested.{nests_flat, not_deep}
 use Rattle.su_refute.proofs.Lined.{lines_are_read}
-use Rattle.su_refute.proofs.Sharing.{all_of}
 use Rattle.su_refute.proofs.Validity.{all_flat, IsLine, numbers_line, head_line, kinds_line, row_is_line, tree_is_line, tree_bytes, certificate_word, kinds_word, term_word, head_word, rows_word, kept_word, fold_word}
 
 -- ---- rows with their trees
@@ -43,7 +42,7 @@ row_trees_all : (P : RowTree → Type 0) (t : Lines) (rs : List ℕ) (ns : List 
 row_trees_all P t [] ns h f = All-nil P
 row_trees_all P t (r ∷ rs) [] h f = All-nil P
 row_trees_all P t (r ∷ rs) (n ∷ ns) h f =
-    All-cons P (record { row = r; node = n }) (row_trees rs ns) (f r n (contains_first r rs) h.0) (row_trees_all P t rs ns h.1 (λ q m has. f q m (contains_rest r rs q has)))
+    All-cons P (record { row = r; node = n }) (row_trees rs ns) (f r n (Contains-head r rs) h.0) (row_trees_all P t rs ns h.1 (λ q m has. f q m (Contains-later r rs q has)))
 
 -- any row may be named
 weaker : (t : Lines) (r : ℕ) (n : Node) (p : List Sent) → IsTreeAt t r n p → Refutes t r n p
@@ -122,10 +121,10 @@ small_kept m s r has = let h = (kept_in m.tableau m.mask r has).0 in let l = s.s
 
 -- numbers of rows
 all_rows_small : (P : ℕ → Type 0) (m : Minimised) → IsSound m → ((r : ℕ) → r < 64 → P r) → All P (rows_in m.tableau m.mask)
-all_rows_small P m s f = all_of P (rows_in m.tableau m.mask) (λ r has. f r (small_kept m s r has))
+all_rows_small P m s f = All-members P (rows_in m.tableau m.mask) (λ r has. f r (small_kept m s r has))
 
 fold_small : (P : ℕ → Type 0) (m : Minimised) → IsSound m → ((r : ℕ) → r < 64 → P r) → All P m.fold
-fold_small P m s f = all_of P m.fold (λ r has. f r (small_kept m s r (All-contains (Contains (rows_in m.tableau m.mask)) m.fold r (fold_good m s).into has)))
+fold_small P m s f = All-members P m.fold (λ r has. f r (small_kept m s r (All-contains (Contains (rows_in m.tableau m.mask)) m.fold r (fold_good m s).into has)))
 
 named : (x : Sym) → IsSpelled x → IsNamed x
 named (Var k) h = h

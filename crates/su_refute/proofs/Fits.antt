@@ -6,11 +6,12 @@ use Rattle.su_tableau.specs.declared.symbols.Sym.TheVariants.{Const, Var}
 use Rattle.su_tableau.specs.Mapping.{image_of, images_of}
 use Rattle.su_check.specs.declared.sending.Sent.{Sent}
 use Rattle.su_check.specs.inside.Agreeing.{Agree}
-use Rattle.su_check.specs.Fitting.{Lines, row_of, AreSent, AreWide, sent_too}
+use Rattle.su_check.specs.Fitting.{Lines, row_of, AreSent, sent_too}
+use Rattle.su_check.specs.inside.Widths.{AreWide}
 use Rattle.su_check.specs.inside.Agreeing.{Goes, AgreesWith}
 use Rattle.su_check.specs.Refuting.{IsFitting}
 use Rattle.su_refute.specs.inside.Positions.{IsReady}
-use Rattle.su_check.proofs.Joining.{all_front, all_last, sent_more, sent_less}
+use Rattle.su_check.proofs.TargetsTogether.{all_front, all_last, sent_more, sent_less}
 
 same_symbol : (x : Sym) → image_of Var x ≡ x
 same_symbol (Const c) = refl

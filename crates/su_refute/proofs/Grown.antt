@@ -15,9 +15,9 @@ use Rattle.su_refute.specs.declared.nets.Net.{Net}
 use Rattle.su_refute.specs.Trees.{IsFewest, IsTreeAt, node_count}
 use Rattle.su_refute.specs.Trees.{lines_in}
 use Rattle.su_refute.specs.inside.Positions.{IsAt, Stands, IsFewestOf, IsTreeFor}
-use Rattle.su_refute.proofs.Ascending.{exactly_as, exactly_all, exactly_more, exactly_skip, front_below, sums_front}
-use Rattle.su_refute.proofs.Counting.{all_members}
-use Rattle.su_refute.proofs.Standing.{at_next, left_small, fewest_is, fitting_in, open_in}
+use Rattle.su_refute.proofs.AscendingNumbers.{exactly_as, exactly_all, exactly_more, exactly_skip, front_below, sums_front}
+use Rattle.su_refute.proofs.MemberCounts.{all_members}
+use Rattle.su_refute.proofs.TreeSoFar.{at_next, left_small, fewest_is, fitting_in, open_in}
 use Rattle.su_refute.proofs.OneTree.{made, branch_count, made_branch, one_row, one_tree, tree_open, tree_fewest, tree_targets, tree_each, tree_made, count_node}
 
 -- how it stands when row s goes to target j

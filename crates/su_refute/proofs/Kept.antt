@@ -2,6 +2,7 @@
 use Rattle.std.proofs.Common.{◌≡◌, ℕ, ◌≤◌, List, [], ◌∷◌, Contains, refl, ap, arith}
 use Rattle.std.specs.Int.{bit_at}
 use Rattle.std.specs.List.{AllZip}
+use Rattle.su_base.proofs.Items.{Contains-head, Contains-later}
 use Rattle.su_tableau.specs.Tableaux.{IsValid, IsSmall}
 use Rattle.su_map.specs.Lists.{rows_in}
 use Rattle.su_check.specs.declared.nodes.Node.{Node}
@@ -13,8 +14,7 @@ use Rattle.su_refute.specs.Laws.{KeptRowsHaveOneTree}
 use Rattle.su_refute.proofs.Needed.{needed, begin_small, row_small, ready_first}
 use Rattle.su_refute.proofs.There.{a_tree}
 use Rattle.su_refute.proofs.OneTree.{one_tree}
-use Rattle.su_refute.proofs.Standing.{kept_in}
-use Rattle.su_refute.proofs.Ascending.{contains_first, contains_rest}
+use Rattle.su_refute.proofs.TreeSoFar.{kept_in}
 
 pub kept_tree : (m : Minimised) (r : ℕ) → IsValid m.tableau → IsSmall m.tableau → IsKept m.tableau m.mask → bit_at m.mask r ≡ 1 → (n : Node) × IsTree (lines_of m) r n
 kept_tree m r valid small kept one =
@@ -24,7 +24,7 @@ kept_tree m r valid small kept one =
 
 trees_there : (t : Lines) (rs : List ℕ) → ((r : ℕ) → Contains rs r → (n : Node) × IsTree t r n) → (trees : List Node) × AllZip (IsTree t) rs trees
 trees_there t [] f = ([], tt)
-trees_there t (r ∷ rs) f = let x = f r (contains_first r rs) in let more = trees_there t rs (λ q h. f q (contains_rest r rs q h)) in (x.0 ∷ more.0, (x.1, more.1))
+trees_there t (r ∷ rs) f = let x = f r (Contains-head r rs) in let more = trees_there t rs (λ q h. f q (Contains-later r rs q h)) in (x.0 ∷ more.0, (x.1, more.1))
 
 pub kept_trees : (m : Minimised) → IsValid m.tableau → IsSmall m.tableau → IsKept m.tableau m.mask → (trees : List Node) × AreTreesOf m trees
 kept_trees m valid small kept = trees_there (lines_of m) (rows_in m.tableau m.mask) (λ r has. kept_tree m r valid small kept (kept_in m.tableau m.mask r has).1)

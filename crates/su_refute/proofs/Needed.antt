@@ -5,6 +5,7 @@ use Rattle.std.proofs.lemmas.Bool.{cases_eq}
 use Rattle.std.proofs.lemmas.List.{get_or_default}
 use Rattle.std.proofs.lemmas.List.Elements.{All-nil, All-cons, All-contains}
 use Rattle.std.proofs.Math.Pow.{pow_mono}
+use Rattle.su_base.proofs.Items.{All-members}
 use Rattle.su_tableau.specs.Tableaux.{Tab, IsValid, IsSmall}
 use Rattle.su_tableau.specs.Parts.{part, select}
 use Rattle.su_tableau.specs.Mapping.{images_of, Maps}
@@ -14,7 +15,8 @@ use Rattle.su_map.specs.Lists.{rows_in}
 use Rattle.su_map.proofs.Members.{without_same, without_out}
 use Rattle.su_check.specs.declared.nodes.Node.{Node}
 use Rattle.su_check.specs.declared.sending.Sent.{Sent}
-use Rattle.su_check.specs.Fitting.{row_of, AreWide}
+use Rattle.su_check.specs.Fitting.{row_of}
+use Rattle.su_check.specs.inside.Widths.{AreWide}
 use Rattle.su_refute.specs.inside.Positions.{IsReady}
 use Rattle.su_min.specs.Kept.{IsKept}
 use Rattle.su_min.proofs.Parts.{into_maps, maps_into}
@@ -23,10 +25,10 @@ use Rattle.su_refute.specs.declared.nets.Net.{Net}
 use Rattle.su_refute.specs.inside.Nets.{IsNet}
 use Rattle.su_refute.specs.Trees.{lines_in, IsTree, node_count}
 use Rattle.su_refute.specs.inside.Positions.{IsFree, IsNeeded, IsAt, Stands, IsTreeFor}
-use Rattle.su_refute.proofs.Counting.{numbers_exactly}
-use Rattle.su_refute.proofs.Sharing.{all_of, member_below}
+use Rattle.su_refute.proofs.MemberCounts.{numbers_exactly}
+use Rattle.su_refute.proofs.SharedPlaces.{member_below}
 use Rattle.su_refute.proofs.Fits.{none_sent, fits_first}
-use Rattle.su_refute.proofs.Standing.{kept_in, in_kept}
+use Rattle.su_refute.proofs.TreeSoFar.{kept_in, in_kept}
 
 -- whether a row has a target
 target_there : (p : List Sent) (s : ℕ) → All (λ x. x.row ≢ s) p ⊎ ((x : Sent) × Contains p x × (x.row ≡ s))
@@ -85,7 +87,7 @@ pub ready_first : (t : Tab) (m : ℕ) → IsValid t → IsReady (lines_in t m) [
 ready_first t m valid = record {
   wide = wide_rows t valid;
   ascending = (numbers_exactly m (length t.rows)).ascends;
-  kept = all_of (λ k. k < length t.rows) (rows_in t m) (λ k has. (kept_in t m k has).0);
+  kept = All-members (λ k. k < length t.rows) (rows_in t m) (λ k has. (kept_in t m k has).0);
   within = λ k d h. absurd (omega arith);
   sent = none_sent (lines_in t m);
 }

@@ -4,11 +4,11 @@ use Rattle.std.proofs.Common.{◌≡◌, ℕ, zero, suc, ◌+◌, ◌≤◌, Boo
 use Rattle.std.specs.List.{count_by}
 use Rattle.std.proofs.lemmas.List.Sums.{sum_by-cons}
 use Rattle.std.proofs.lemmas.List.Elements.{All-head, All-tail}
+use Rattle.su_base.proofs.Items.{Contains-head, Contains-later}
 use Rattle.su_lex.specs.declared.meaning.Symbol.{Symbol}
 use Rattle.su_lex.specs.declared.meaning.Symbol.TheVariants.{Sign}
 use Rattle.su_lex.specs.declared.signs.Sign.TheVariants as sign
 use Rattle.su_check.specs.Nesting.{is_open, is_close, IsDeep}
-use Rattle.su_refute.proofs.Ascending.{contains_first, contains_rest}
 
 abbrev one_if : Bool → ℕ
 one_if b = cond b 1 0
@@ -44,7 +44,7 @@ nests_parens d i xs h g =
 
 pub nests_flat : {X : Type 0} (f : X → List Symbol) (d i : ℕ) (xs : List X) → ((x : X) → Contains xs x → Nests d i (f x) i) → Nests d i (flat_map f xs) i
 nests_flat f d i [] h = refl
-nests_flat f d i (x ∷ xs) h = nests_append d i i i (f x) (flat_map f xs) (h x (contains_first x xs)) (nests_flat f d i xs (λ y has. h y (contains_rest x xs y has)))
+nests_flat f d i (x ∷ xs) h = nests_append d i i i (f x) (flat_map f xs) (h x (Contains-head x xs)) (nests_flat f d i xs (λ y has. h y (Contains-later x xs y has)))
 
 levels : (d i j : ℕ) (xs : List Symbol) (n : ℕ) → i ≤ d → Nests d i xs j → count_by is_open (take n xs) + i ≤ count_by is_close (take n xs) + d
 levels d i j xs zero h g = omega (arith, h)

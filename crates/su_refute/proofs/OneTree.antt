@@ -10,7 +10,7 @@ use Rattle.su_check.specs.declared.nodes.Branch.{Branch, roll-Branch, roll-out-B
 use Rattle.su_check.specs.Fitting.{Lines, sent_too}
 use Rattle.su_check.specs.Refuting.{AreExactly, IsOpen, IsFitting, refuting, row_named, branches_of, target_of, node_of}
 use Rattle.su_refute.specs.Trees.{IsFewest, IsTreeAt, count_step, node_count}
-use Rattle.su_refute.proofs.Ascending.{exactly_one}
+use Rattle.su_refute.proofs.AscendingNumbers.{exactly_one}
 
 -- ---- a node and what it holds
 

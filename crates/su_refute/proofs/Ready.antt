@@ -2,7 +2,8 @@
 use Rattle.std.proofs.Common.{◌<◌, ℕ, List, length, Contains}
 use Rattle.std.proofs.lemmas.List.Elements.{All-push, All-contains}
 use Rattle.su_check.specs.declared.sending.Sent.{Sent}
-use Rattle.su_check.specs.Fitting.{Lines, IsWithin, sent_too}
+use Rattle.su_check.specs.Fitting.{Lines, sent_too}
+use Rattle.su_check.specs.inside.Widths.{IsWithin}
 use Rattle.su_check.specs.Refuting.{IsFitting}
 use Rattle.su_refute.specs.inside.Positions.{IsReady}
 

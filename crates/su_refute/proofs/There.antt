@@ -3,18 +3,20 @@ use Rattle.std.proofs.Common.{◌≡◌, ◌≢◌, ℕ, zero, suc, ◌+◌, ◌
 use Rattle.std.proofs.lemmas.Bool.{cases_lt}
 use Rattle.std.proofs.lemmas.List.{length-append, get_or_append_left}
 use Rattle.std.proofs.lemmas.List.Elements.{All-push, All-contains}
+use Rattle.su_base.proofs.Items.{Contains-cases, Contains-head, Contains-later, Contains-nil}
 use Rattle.su_check.specs.declared.sending.Sent.{Sent}
 use Rattle.su_check.specs.declared.nodes.Node.{Node}
 use Rattle.su_check.specs.declared.nodes.Branch.{Branch}
-use Rattle.su_check.specs.Fitting.{Lines, IsWithin, sent_too}
+use Rattle.su_check.specs.Fitting.{Lines, sent_too}
+use Rattle.su_check.specs.inside.Widths.{IsWithin}
 use Rattle.su_check.specs.Refuting.{AreExactly, IsOpen, IsFitting, target_of, node_of}
 use Rattle.su_refute.specs.inside.Positions.{IsReady}
 use Rattle.su_min.proofs.Holes.{pigeonhole}
 use Rattle.su_refute.proofs.Ready.{ready_more}
 use Rattle.su_refute.specs.Trees.{IsFewest, IsTreeAt}
 use Rattle.su_refute.specs.inside.Positions.{IsFree, IsNeeded}
-use Rattle.su_refute.proofs.Ascending.{exactly_none, exactly_more, exactly_skip, exactly_all, exactly_one, contains_cases, contains_first, contains_rest, contains_none}
-use Rattle.su_refute.proofs.Deciding.{Decided, decided_fitting, decided_open}
+use Rattle.su_refute.proofs.AscendingNumbers.{exactly_none, exactly_more, exactly_skip, exactly_all, exactly_one}
+use Rattle.su_refute.proofs.Decidable.{Decided, decided_fitting, decided_open}
 use Rattle.su_refute.proofs.OneTree.{made, made_branch, tree_made}
 use Rattle.su_refute.proofs.Grown.{branch_target, branch_node}
 
@@ -117,10 +119,10 @@ fewest_there t r p ready free needed =
 
 branches_there : (t : Lines) (r : ℕ) (p : List Sent) (s : ℕ) (js : List ℕ) → ((j : ℕ) → Contains js j → (m : Node) × IsTreeAt t r m (sent_too p s j))
     → (bs : List Branch) × (map target_of bs ≡ js) × ((b : Branch) → Contains bs b → IsTreeAt t r (node_of b) (sent_too p s (target_of b)))
-branches_there t r p s [] f = ([], refl, λ b h. absurd (contains_none b h))
+branches_there t r p s [] f = ([], refl, λ b h. absurd (Contains-nil b h))
 branches_there t r p s (j ∷ js) f =
-    let m = f j (contains_first j js) in
-    let rest = branches_there t r p s js (λ i h. f i (contains_rest j js i h)) in
+    let m = f j (Contains-head j js) in
+    let rest = branches_there t r p s js (λ i h. f i (Contains-later j js i h)) in
     let b = made_branch j m.0 in (
       b ∷ rest.0,
       ap (λ i. i ∷ map target_of rest.0) (branch_target j m.0) ∙ ap (λ is. j ∷ is) rest.1,
@@ -128,7 +130,7 @@ branches_there t r p s (j ∷ js) f =
           ⊎_elim
           (λ (e : b ≡ d). subst (λ b. IsTreeAt t r (node_of b) (sent_too p s (target_of b))) e (rw (branch_node j m.0, branch_target j m.0) m.1))
           (λ (h : Contains rest.0 d). rest.2 d h)
-          (contains_cases b rest.0 d has),
+          (Contains-cases b rest.0 d has),
     )
 
 -- ---- rows that are sent are apart

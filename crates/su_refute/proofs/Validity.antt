@@ -10,6 +10,7 @@ use Rattle.su_base.specs.Name.{is_letter, is_letter_or_digit, IsWord}
 use Rattle.su_base.specs.declared.values.Kind.{Kind}
 use Rattle.su_base.specs.declared.values.Kind.TheVariants as kind
 use Rattle.su_base.specs.declared.values.Value.TheVariants as value
+use Rattle.su_base.proofs.Items.{Contains-head, Contains-later}
 use Rattle.su_lex.specs.declared.meaning.Symbol.{Symbol}
 use Rattle.su_lex.specs.declared.meaning.Symbol.TheVariants.{Word, Sign}
 use Rattle.su_lex.specs.declared.signs.Sign.TheVariants as sign
@@ -19,7 +20,8 @@ use Rattle.su_tableau.specs.declared.symbols.Sym.TheVariants.{Const, Var}
 use Rattle.su_check.specs.declared.nodes.Node.{Node}
 use Rattle.su_check.specs.declared.nodes.Branch.{Branch}
 use Rattle.su_check.specs.declared.sending.Sent.{Sent}
-use Rattle.su_check.specs.Fitting.{Lines, IsWithin, sent_too}
+use Rattle.su_check.specs.Fitting.{Lines, sent_too}
+use Rattle.su_check.specs.inside.Widths.{IsWithin}
 use Rattle.su_check.specs.Refuting.{refuting, row_named, branches_of, target_of, node_of}
 use Rattle.su_refute.specs.inside.Positions.{IsReady}
 use Rattle.su_check.specs.Grammar.{number, sym_symbol, kind_symbol, line, in_parens, row_line, tree_line, node_symbols, IsByteNode, of_bytes}
@@ -27,7 +29,6 @@ use Rattle.su_check.proofs.NodeSymbols.{branch_symbols, node_at}
 use Rattle.su_refute.proofs.Ready.{ready_more}
 use Rattle.su_refute.specs.Trees.{IsTreeAt}
 use Rattle.su_refute.specs.Laws.{IsSpelled}
-use Rattle.su_refute.proofs.Ascending.{contains_first, contains_rest}
 use Rattle.su_refute.proofs.There.{AreApart, apart_more, few_sent}
 use Rattle.su_refute.proofs.Nested.{Nests, IsStep, IsPlain, nests_plain, nests_parens, nests_flat}
 
@@ -145,7 +146,7 @@ tree_word = word_valid 116 (codes "ree") refl refl (omega arith)
 
 pub all_flat : {X Y : Type 0} (P : Y → Type 0) (f : X → List Y) (xs : List X) → ((x : X) → Contains xs x → All P (f x)) → All P (flat_map f xs)
 all_flat P f [] h = All-nil P
-all_flat P f (x ∷ xs) h = All-append P (f x) (flat_map f xs) (h x (contains_first x xs)) (all_flat P f xs (λ y has. h y (contains_rest x xs y has)))
+all_flat P f (x ∷ xs) h = All-append P (f x) (flat_map f xs) (h x (Contains-head x xs)) (all_flat P f xs (λ y has. h y (Contains-later x xs y has)))
 
 node_whole : (n : Node) → node_symbols n ≡ in_parens (number (row_named n) ∷ flat_map branch_symbols (branches_of n))
 node_whole n = sym (append-nil (node_symbols n)) ∙ node_at n []

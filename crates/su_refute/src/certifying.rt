@@ -40,7 +40,7 @@ fn trees_of(alloc: Global, minimal: &Minimal, budget: u32) -> Result<Planted, Re
     Ok(Planted { trees, unused })
 }
 
-/// What the type of a minimised tableau keeps holds of each. It does nothing.
+/// For proofs: what the type of a minimised tableau keeps holds of each. It does nothing.
 fn keep_their_rules(minimals: &[Minimal])
     ensures { All IsSound minimals.now }
 {

@@ -1,5 +1,5 @@
 -- What look-ups by `==` and the edits of an indexed set say of a set of rows.
-use Rattle.std.proofs.Common.{◌≡◌, ◌≤◌, ℕ, take, zero, suc, Bool, true, false, not, List, [], ◌∷◌, ◌++◌, Option, None, Some, length, get_or, drop, ap, refl, sym, ◌∙◌, Contains, MatchOption, slice_get, arith, if◌then◌else◌, inl, inr, ◌⊎◌, All}
+use Rattle.std.proofs.Common.{◌≡◌, ◌≤◌, ℕ, take, zero, Bool, true, false, not, List, [], ◌∷◌, ◌++◌, Option, None, Some, length, get_or, drop, ap, refl, sym, ◌∙◌, Contains, MatchOption, slice_get, arith, if◌then◌else◌, inl, inr, All}
 use Rattle.std.specs.Bool.{Decides, MatchBool}
 use Rattle.std.specs.List.{position, swap_remove, items_where_true, IsDistinct}
 use Rattle.std.specs.List.Retain.{ReturnsInTurn}
@@ -15,6 +15,7 @@ use Rattle.su_base.proofs.Growing.{position-None}
 use Rattle.su_base.proofs.Same.{row_eq-Decides}
 use Rattle.su_base.specs.declared.values.Value.{Value}
 use Rattle.su_base.specs.contracts.values.ValuePartialEq.TheImpl.{ghosts}
+use Rattle.su_base.proofs.Items.{Contains-later, Contains-cases}
 use Rattle.su_rel.specs.Stored.{Stored, AllDiffer}
 use Rattle.su_rel.specs.Changes.{PutIn, TakenOut}
 
@@ -42,13 +43,6 @@ flips x y =
       ] refl
     ] refl
 
-later : (row : List Value) (rows : List (List Value)) (other : List Value) → Contains rows other → Contains (row ∷ rows) other
-later row rows other (k, within, is) = (suc k, omega (arith, within), is)
-
-Contains-cons_cases : (row : List Value) (rows : List (List Value)) (other : List Value) → Contains (row ∷ rows) other → (row ≡ other) ⊎ Contains rows other
-Contains-cons_cases row rows other (zero, within, is) = inl is
-Contains-cons_cases row rows other (suc k, within, is) = inr (k, omega (arith, within), is)
-
 -- the first place that `==` finds is the row's
 pub found : (rows : List (List Value)) (row : List Value) (place : Option ℕ) → place ≡ position (same row) rows → MatchOption place (¬ Contains rows row) (λ i. slice_get rows i ≡ Some row)
 found rows row None e = λ there.
@@ -67,11 +61,11 @@ TakenOut-swap_remove rows i row news distinct at e other =
     let gone : All (λ y. same row y ≡ false) (swap_remove rows i row) = All-from_recursion (λ y. same row y ≡ false) (swap_remove rows i row) apart in (
       λ there.
           let still : Contains (swap_remove rows i row) other = rw e at there in (
-            Contains-permutation _ _ other (IsPermutation-sym _ _ moved) (later row _ other still),
+            Contains-permutation _ _ other (IsPermutation-sym _ _ moved) (Contains-later row _ other still),
             λ is. false≢true (sym (All-contains (λ y. same row y ≡ false) (swap_remove rows i row) other gone still) ∙ ap (same row) is ∙ same_itself row),
           ),
       λ (there, apart'). rw e (
-          elim (Contains-cons_cases row (swap_remove rows i row) other (Contains-permutation _ _ other moved there)) [
+          elim (Contains-cases row (swap_remove rows i row) other (Contains-permutation _ _ other moved there)) [
             | inl is ↦ absurd (apart' (sym is))
             | inr still ↦ still
           ]),

@@ -149,7 +149,7 @@ impl Relation {
         ensures rows { self.new.rows ≡ swap_remove self.old.rows i result }
         ensures out { TakenOut self.old.rows result self.new.rows }
     {
-        // `len` is called for its clause that the rows differ, which the proof cites.
+        // For the proof: the rows differ.
         let _len = self.rows.len();
         match self.rows.swap_remove_index(i) {
             Some(row) => row,

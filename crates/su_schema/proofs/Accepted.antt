@@ -8,6 +8,7 @@ use Rattle.std.proofs.lemmas.List.Elements.{All-push}
 use Rattle.su_base.specs.declared.values.Kind.{Kind}
 use Rattle.su_base.specs.declared.values.Column.{Column}
 use Rattle.su_base.specs.Name.{IsName}
+use Rattle.std.proofs.lemmas.Bool.{not-false}
 use Rattle.su_schema.specs.declared.faults.SchemaFault.{SchemaFault}
 use Rattle.su_schema.specs.declared.definitions.Pair.{Pair}
 use Rattle.su_schema.specs.declared.definitions.Definition.{Definition}
@@ -15,7 +16,7 @@ use Rattle.su_schema.specs.declared.definitions.Definition.TheVariants.{Attribut
 use Rattle.su_schema.specs.SchemaValue.{SchemaValue, AttributeEntry, RelationEntry, ObjectEntry, IsValid, IsRelation, IsObject, IsDependency, IsSomeBelow, attribute_names, relation_names, object_names, column_names}
 use Rattle.su_schema.specs.Checks.{first_failing, is_known, number_of, name_checks, checks, columns_at}
 use Rattle.su_schema.specs.Defining.{applied, extended, IsWellNamed, numbers_of, links_of}
-use Rattle.su_schema.proofs.Validity.{pass, passed_both, slice_get-grows, names_more, apart_names, object_more, below_more, dependency_more, numbers_some, not_false}
+use Rattle.su_schema.proofs.Validity.{pass, passed_both, slice_get-grows, names_more, apart_names, object_more, below_more, dependency_more, numbers_some}
 use Rattle.su_schema.proofs.ObjectValid.{relation_there, joined, ordered, some_links}
 
 pub accepted : (schema next : SchemaValue) (definition : Definition) → first_failing (checks schema definition) ≡ None → next ≡ extended schema definition → applied schema definition ≡ Ok next
@@ -83,7 +84,7 @@ valid_object schema name relation pairs well valid h =
     let r : ℕ = number_of (relation_names schema) relation in
     let columns : List Column = columns_at schema r in
     let given : 0 < length pairs = rw (← length-map pairs (λ p. p.attribute)) well.2.some in
-    let there = relation_there schema relation (not_false (is_known (relation_names schema) relation) old.0) in
+    let there = relation_there schema relation (not-false (is_known (relation_names schema) relation) old.0) in
     let entry : ObjectEntry = record { name = name; relation = r; links = links_of schema columns pairs } in
     let next : SchemaValue = extended schema (Object name relation pairs) in
     let is : IsObject schema entry = record {

@@ -6,18 +6,14 @@ use Rattle.std.proofs.lemmas.List.Quantifiers.{all_pairs_push}
 use Rattle.std.proofs.lemmas.Bool.Decides.{nat_tests}
 use Rattle.std.specs.List.{range_with_len, filter_map, cons_option}
 use Rattle.std.proofs.lemmas.List.Elements.{filter_map-append, All-push}
+use Rattle.su_base.proofs.Items.{range-suc}
 use Rattle.su_schema.specs.declared.links.Link.{Link}
 use Rattle.su_schema.specs.Defining.{ascending}
-
--- a range ends with its last number
-range-last : (a n j : ℕ) → a + n ≡ j → range_with_len a (suc n) ≡ range_with_len a n ++ j ∷ []
-range-last a zero j e = ap (λ k. k ∷ []) (omega arith)
-range-last a (suc n) j e = ap (λ ks. a ∷ ks) (range-last (a + 1) n j (omega arith))
 
 module _ (links : List Link) (a : ℕ) where
   more : ascending (a + 1) links ≡ ascending a links ++ filter_map (λ b. find (λ l. l.attribute == b) links) (a ∷ [])
   more =
-      let range : range_with_len 0 (a + 1) ≡ range_with_len 0 a ++ a ∷ [] = rw add-one (range-last 0 a a (omega arith)) in
+      let range : range_with_len 0 (a + 1) ≡ range_with_len 0 a ++ a ∷ [] = rw add-one (range-suc 0 a a (omega arith)) in
       ap (filter_map (λ b. find (λ l. l.attribute == b) links)) range ∙ filter_map-append (λ b. find (λ l. l.attribute == b) links) (range_with_len 0 a) (a ∷ [])
 
   pub ascending-Some : (l : Link) → Some l ≡ find (λ k. k.attribute == a) links → ascending (a + 1) links ≡ ascending a links ++ l ∷ []

@@ -2,8 +2,9 @@ pub mod Accepted
 pub mod Ascending
 pub mod ColumnsSoFar
 pub mod Copied
+pub mod Cuts
 pub mod Entries
-pub mod Extending
+pub mod OneMore
 pub mod NamesGiven
 pub mod NamesSoFar
 pub mod Numbers

@@ -5,7 +5,7 @@ use Rattle.std.specs.List.{list_any}
 use Rattle.std.specs.Str.{bytes_eq}
 use Rattle.std.specs.Ordering.{nat_cmp}
 use Rattle.std.specs.FinSet.{FinSet, contains, contains-from_list_nat, contains-empty}
-use Rattle.std.proofs.lemmas.Bool.{false≢true}
+use Rattle.std.proofs.lemmas.Bool.{false≢true, not-false}
 use Rattle.std.proofs.lemmas.Bool.Decides.{nat_tests}
 use Rattle.std.proofs.lemmas.List.{map-append}
 use Rattle.std.proofs.lemmas.List.Elements.{All-push, All-cons, All-head, All-tail}
@@ -81,17 +81,13 @@ below_more n m numbers le is = record { some = is.some; below = λ k in'. let b 
 pub dependency_more : (s t : SchemaValue) (fd : Fd) → length s.attributes ≤ length t.attributes → IsDependency s fd → IsDependency t fd
 dependency_more s t fd le is = record { left = below_more (length s.attributes) (length t.attributes) fd.left le is.left; right = below_more (length s.attributes) (length t.attributes) fd.right le is.right }
 
-pub not_false : (b : Bool) → not b ≡ false → b ≡ true
-not_false true h = refl
-not_false false h = cc
-
 -- names whose checks pass are known
 pub known_all : (known before names : List (List ℕ)) → first_failing (name_checks known before names) ≡ None → All (λ n. is_known known n ≡ true) names
 known_all known before [] h = λ k d within. absurd (omega arith)
 known_all known before (n ∷ names) h =
     let p = pass (not (is_known known n)) _ _ h in
     let q = pass (is_known before n) _ _ p.1 in
-    All-cons (λ m. is_known known m ≡ true) n names (not_false (is_known known n) p.0) (known_all known (before ++ n ∷ []) names q.1)
+    All-cons (λ m. is_known known m ≡ true) n names (not-false (is_known known n) p.0) (known_all known (before ++ n ∷ []) names q.1)
 
 pub number_below : (known : List (List ℕ)) (name : List ℕ) → is_known known name ≡ true → number_of known name < length known
 number_below known name in' = grind (arith, nat_tests, any_within (λ n. bytes_eq name n) known, in')
@@ -130,7 +126,7 @@ passed_pairs schema columns before (p ∷ pairs) h =
     let c = pass (is_known (map (λ p. p.attribute) before) p.attribute) _ _ b.1 in
     let d = pass (is_known (map (λ p. p.column) before) p.column) _ _ c.1 in
     let e = pass (not (same_kind (attribute_kind schema p.attribute) (column_kind columns p.column))) _ _ d.1 in
-    let here : IsPassed schema columns p = record { attribute = not_false _ a.0; column = not_false _ b.0; kinds = not_false _ e.0 } in
+    let here : IsPassed schema columns p = record { attribute = not-false _ a.0; column = not-false _ b.0; kinds = not-false _ e.0 } in
     All-cons (IsPassed schema columns) p pairs here (passed_pairs schema columns (before ++ p ∷ []) pairs e.1)
 
 -- the columns of pairs whose checks pass differ

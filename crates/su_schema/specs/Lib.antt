@@ -1,4 +1,5 @@
 pub mod Checks
+pub mod Cuts
 pub mod Defining
 pub mod Maps
 pub mod inside

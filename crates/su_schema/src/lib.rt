@@ -16,7 +16,8 @@ mod joining;
 mod links;
 mod naming;
 mod readers;
-mod schemas;mod wellnamed;
+mod schemas;
+mod wellnamed;
 
 pub use copying::copy_columns;
 pub use definitions::{Definition, Pair};

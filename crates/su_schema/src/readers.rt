@@ -15,7 +15,7 @@ pub(crate) fn place_among(columns: &[Column], name: &str) -> Option<usize>
 }
 
 impl Schema {
-    /// A call of it tells a proof that the schema is valid. It does nothing.
+    /// For proofs: the schema is valid. It does nothing.
     pub fn keeps_its_rules(&self)
         ensures { IsValid self.now }
     {

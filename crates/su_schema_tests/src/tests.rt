@@ -3,10 +3,10 @@ use std::test::Fail;
 use su_base::{Column, Kind, List, NoMemory, Str};
 use su_schema::{Definition, Pair, Schema, SchemaFault, SchemaLimit};
 
-// A definition in few words: `a` attribute, `r` relation, `o` object over A, `u` over S, `n` over N0,
-// `f` dependency, `m` maximal;
-// then names, with a space between them. A pair is written `attribute=column`. A name that begins
-// with `t` is that of a text.
+/// A definition in few words: `a` attribute, `r` relation, `o` object over A, `u` over S, `n` over N0,
+/// `f` dependency, `m` maximal;
+/// then names, with a space between them. A pair is written `attribute=column`. A name that begins
+/// with `t` is that of a text.
 fn definition(alloc: Global, form: &str, first: &str, more: &str) -> Result<Definition, NoMemory> {
     match form.as_bytes() {
         [b'a'] => Ok(Definition::Attribute {
@@ -85,7 +85,7 @@ fn pairs(alloc: Global, words: &str) -> Result<List<Pair>, NoMemory> {
     Ok(pairs)
 }
 
-// What a definition is answered: a word, and behind a space the name that it carries.
+/// What a definition is answered: a word, and behind a space the name that it carries.
 fn answer(schema: &mut Schema, alloc: Global, definition: &Definition) -> Result<String, NoMemory> {
     if !definition.is_well_named() {
         return joined(alloc, "no definition", "");
@@ -129,7 +129,7 @@ fn limit_word(limit: SchemaLimit) -> &'static str {
     }
 }
 
-// Forms, names, more names, and what is answered.
+/// Forms, names, more names, and what is answered.
 const CASES: &str = "a|A||ok
 a|A||twice A
 a|B||ok
@@ -167,13 +167,13 @@ fn field(line: &str, n: usize) -> &str {
     line.split('|').nth(n).unwrap_or("")
 }
 
-// What the definition of a line is answered.
+/// What the definition of a line is answered.
 fn answer_of_line(schema: &mut Schema, alloc: Global, line: &str) -> Result<String, NoMemory> {
     let definition = definition(alloc, field(line, 0), field(line, 1), field(line, 2))?;
     answer(schema, alloc, &definition)
 }
 
-// The schema of the accepted lines.
+/// The schema of the accepted lines.
 fn cased(alloc: Global) -> Result<Schema, NoMemory> {
     let mut schema = Schema::new(alloc);
     for line in CASES.lines() {
@@ -193,8 +193,8 @@ fn each_definition_is_refused_by_its_first_failing_check(rt: HostRuntime) -> Res
     Ok(())
 }
 
-// Whether so many definitions of a form are taken, numbered by their names, and one more is refused for
-// this limit.
+/// Whether so many definitions of a form are taken, numbered by their names, and one more is refused for
+/// this limit.
 fn takes(
     alloc: Global,
     schema: &mut Schema,
@@ -226,7 +226,7 @@ fn one_past_the_attributes_the_relations_and_the_objects_is_refused(
     Ok(())
 }
 
-// Whether the definition of a line is taken so many times, and then refused for this limit.
+/// Whether the definition of a line is taken so many times, and then refused for this limit.
 fn repeats(
     alloc: Global,
     schema: &mut Schema,

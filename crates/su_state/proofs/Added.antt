@@ -14,7 +14,8 @@ use Rattle.su_schema.specs.declared.faults.SchemaFault.{SchemaFault}
 use Rattle.su_schema.specs.SchemaValue.{SchemaValue, RelationEntry, ObjectEntry, IsRelation, IsValid, relation_columns}
 use Rattle.su_schema.specs.Checks.{checks, first_failing, columns_at}
 use Rattle.su_schema.specs.Defining.{applied, extended, outcome}
-use Rattle.su_state.specs.DatabaseValue.{DatabaseValue, table_in, rows_in, IsTyped, HoldsOn, IsWellKept}
+use Rattle.su_index.specs.Tables.{table_at}
+use Rattle.su_state.specs.DatabaseValue.{DatabaseValue, rows_in, IsTyped, HoldsOn, IsWellKept}
 use Rattle.su_state.specs.Definitions.{tables_with, BreaksThrough, HoldsThrough, NewBreaks, Defines}
 use Rattle.su_state.specs.declared.faults.DefineFault.{DefineFault}
 use Rattle.su_state.specs.declared.faults.DefineFault.TheVariants.{Schema, Breaks, NoMemory}
@@ -65,7 +66,7 @@ module _ (db : DatabaseValue) (schema : SchemaValue) (more : List (List Column))
       let c = length-append (relation_columns db.schema) more in
       omega (arith, a, b, c, ap length relations, kept.tables)
 
-  wide : (r : ℕ) → r < length schema.relations → (table_in (db.tables ++ map empty_table more) r).width ≡ length (columns_at schema r)
+  wide : (r : ℕ) → r < length schema.relations → (table_at (db.tables ++ map empty_table more) r).width ≡ length (columns_at schema r)
   wide r less =
       elim (cases_lt r (length db.tables)) [
         | inl within ↦

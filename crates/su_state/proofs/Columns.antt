@@ -153,7 +153,7 @@ pub some_left : (schema : SchemaValue) (o f : ℕ) (entry : ObjectEntry) (fd : F
 some_left schema o f entry fd sides valid at numbered are =
     let own : IsDependency schema fd = subst (IsDependency schema) (get_or_from_slice_get schema.fds f fd fd numbered) (valid.fds f fd (slice_get_within schema.fds f fd numbered)) in
     let a = some_member fd.left own.left.some in
-    let c = column_of_attribute entry a.0 (subset_at fd.left (attributes_of entry) a.0 are.lies.0 a.1) in
+    let c = column_of_attribute entry a.0 (subset_at fd.left (attributes_of entry) a.0 are.lies.left a.1) in
     (c.0, (are.left c.0).1 (a.0, a.1, c.1), column_within schema o entry a.0 c.0 valid at c.1)
 
 -- the attributes of a dependency are those of the schema

@@ -8,7 +8,7 @@ use Rattle.su_base.specs.declared.values.Column.{Column}
 use Rattle.su_rel.specs.Stored.{Stored}
 use Rattle.su_schema.specs.SchemaValue.{SchemaValue, IsValid, relation_columns}
 use Rattle.su_state.specs.DatabaseValue.{DatabaseValue, IsWellKept, rows_of, empty_tables}
-use Rattle.su_state.proofs.Differing.{differ_none}
+use Rattle.su_state.proofs.DifferentRows.{differ_none}
 
 -- a table without rows
 abbrev pub empty_table : List Column → Stored

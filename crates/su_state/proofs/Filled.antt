@@ -1,5 +1,5 @@
 -- Rows that may all be put in are inserted one after another.
-use Rattle.std.proofs.Common.{◌≡◌, ◌<◌, ◌≤◌, ◌+◌, ℕ, true, false, Ok, List, [], ◌∷◌, ◌++◌, length, slice_get, get_or, None, Some, suc, refl, sym, ap, subst, ◌∙◌, All, Contains, inl, inr, append_assoc, append-nil, arith}
+use Rattle.std.proofs.Common.{◌≡◌, ◌<◌, ◌≤◌, ◌+◌, ℕ, true, false, Ok, List, [], ◌∷◌, ◌++◌, length, slice_get, get_or, None, Some, refl, sym, ap, subst, ◌∙◌, All, Contains, inl, inr, append_assoc, append-nil, arith}
 use Rattle.std.proofs.lemmas.List.{length-set, length-map, length_push, set-set}
 use Rattle.std.proofs.lemmas.List.Elements.{All-append, All-contains, All-head, All-tail, Contains-get_or, Contains-append_left, Contains-append_right, Contains-append_cases}
 use Rattle.su_base.specs.declared.values.Value.{Value}
@@ -8,11 +8,13 @@ use Rattle.std.specs.Prelude.{MatchOption, Option}
 use Rattle.std.proofs.lemmas.Bool.{false≢true}
 use Rattle.su_base.specs.declared.values.Column.{Column}
 use Rattle.su_base.specs.Value.{kind_of}
+use Rattle.su_base.proofs.Items.{Contains-later}
 use Rattle.su_fd.specs.declared.dependencies.Fd.{Fd}
 use Rattle.su_rel.specs.Changes.{PutInAll}
 use Rattle.su_rel.specs.Stored.{Stored, HaveWidth}
-use Rattle.su_schema.specs.SchemaValue.{SchemaValue, ObjectEntry}
-use Rattle.su_state.specs.DatabaseValue.{DatabaseValue, table_of, rows_of, columns_of, IsTyped, LiesIn, Break, HoldsOn, IsWellKept}
+use Rattle.su_fd.specs.Meeting.{LiesIn}
+use Rattle.su_schema.specs.SchemaValue.{SchemaValue, ObjectEntry, attributes_of}
+use Rattle.su_state.specs.DatabaseValue.{DatabaseValue, table_of, rows_of, columns_of, IsTyped, Break, HoldsOn, IsWellKept}
 use Rattle.su_state.specs.declared.sides.Sides.{Sides}
 use Rattle.su_state.specs.inside.Sides.{AreSidesOf, Clash}
 use Rattle.su_state.specs.Changes.{NoBreach, InsertAnswers, Inserts}
@@ -20,14 +22,11 @@ use Rattle.su_state.specs.Loads.{InsertsAll}
 use Rattle.su_state.specs.inside.Parts.{HaveOneWidth}
 use Rattle.su_state.specs.Filling.{KeepThrough, MayTake}
 use Rattle.su_state.proofs.Columns.{clash_from_break, columns_few}
-use Rattle.su_state.proofs.Differing.{differ_put}
+use Rattle.su_state.proofs.DifferentRows.{differ_put}
 use Rattle.su_state.proofs.Kept.{with_table, MayHave, flipped, holds_at, table_here, holds_fewer, kept_with, added_with, unchanged_with, table_read}
 
 Contains-first : (row : List Value) (rows : List (List Value)) → Contains (row ∷ rows) row
 Contains-first row rows = (0, omega arith, refl)
-
-Contains-later : (row : List Value) (rows : List (List Value)) (other : List Value) → Contains rows other → Contains (row ∷ rows) other
-Contains-later row rows other (k, within, is) = (suc k, omega (arith, within), is)
 
 -- rows that are put in are of the rows there and of those that are given
 put_among : (rows old new : List (List Value)) → PutInAll old rows new → (x : List Value) → Contains new x → Contains (old ++ rows) x
@@ -64,7 +63,7 @@ module _ (schema : SchemaValue) (relation : ℕ) (rows : List (List Value)) (f o
       let same_object : its_object ≡ entry = cc in
       holds row other here there (subst (λ (d : Fd). Break d entry row other) same_fd (subst (λ (e : ObjectEntry). Break its_fd e row other) same_object broken))
 
-  pub keeps_not_enforced : (¬ LiesIn fd entry) → KeepThrough schema relation rows f o
+  pub keeps_not_enforced : (¬ LiesIn fd (attributes_of entry)) → KeepThrough schema relation rows f o
   keeps_not_enforced out = keeps (λ row other here there broken. out broken.lies)
 
   pub keeps_unclashing : (sides : Sides) → AreSidesOf entry fd sides → ((row other : List Value) → Contains rows row → Contains rows other → ¬ Clash sides row other) → KeepThrough schema relation rows f o

@@ -15,7 +15,7 @@ use Rattle.su_schema.specs.SchemaValue.{SchemaValue, ObjectEntry, relation_colum
 use Rattle.su_state.specs.DatabaseValue.{DatabaseValue, table_of, rows_of, columns_of, read, IsTyped, Break, HoldsOn, IsWellKept}
 use Rattle.su_state.specs.Changes.{ChangesOnly, NoBreach, Added, Removed, Deletes, InsertAnswers, Inserts}
 use Rattle.su_state.specs.declared.faults.StateFault.TheVariants.{NoMemory}
-use Rattle.su_state.proofs.Differing.{differ_push}
+use Rattle.su_state.proofs.DifferentRows.{differ_push}
 
 abbrev pub blank : Stored
 blank = record { width = 0; rows = [] }

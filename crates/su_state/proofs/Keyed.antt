@@ -9,12 +9,12 @@ use Rattle.std.proofs.lemmas.List.Sorted.{All-permutation, IsPermutation-map}
 use Rattle.su_base.specs.declared.values.Value.{Value}
 use Rattle.su_base.specs.contracts.values.ValueOrd.TheImpl.{ghosts}
 use Rattle.su_base.specs.Value.{compare_lists}
+use Rattle.su_base.proofs.Rows.{cmp-rows}
 use Rattle.su_state.specs.Changes.{AreInOrder}
 use Rattle.su_state.specs.inside.Leads.{IsRowLead}
 use Rattle.su_rel.specs.Stored.{AllDiffer}
-use Rattle.su_state.proofs.Differing.{differ_moved}
-use Rattle.su_state.proofs.Copying.{same_rows}
-use Rattle.su_state.proofs.Leading.{lead_of_row_first}
+use Rattle.su_state.proofs.DifferentRows.{differ_moved}
+use Rattle.su_state.proofs.LeadOrder.{lead_of_row_first}
 
 abbrev pub Key : Type 0
 Key = ℕ × Bor (List Value)
@@ -35,7 +35,7 @@ some_key [] h = absurd (omega arith)
 some_key (key ∷ keys) h = key
 
 same_key : (a b : Key) → IsRowLead a.0 a.1.now → IsRowLead b.0 b.1.now → compare_lists b.1.now a.1.now ≡ key_cmp b a
-same_key a b e f = sym (lead_of_row_first b.0 a.0 b.1.now a.1.now f e) ∙ ap (λ o. ordering_then (nat_cmp b.0 a.0) o) (sym (same_rows b.1.now a.1.now))
+same_key a b e f = sym (lead_of_row_first b.0 a.0 b.1.now a.1.now f e) ∙ ap (λ o. ordering_then (nat_cmp b.0 a.0) o) (sym (cmp-rows b.1.now a.1.now))
 
 rows_sorted : (keys : List Key) → All (λ key. IsRowLead key.0 key.1.now) keys → IsSorted key_cmp keys → IsSorted compare_lists (rows_of_keys keys)
 rows_sorted keys leads order k d low h =

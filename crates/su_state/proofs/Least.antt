@@ -2,27 +2,23 @@
 use Rattle.std.proofs.Common.{◌≡◌, ◌≢◌, ◌<◌, ◌+◌, ℕ, true, false, List, [], length, slice_get, Option, Some, None, MatchOption, refl, sym, ap, subst, ◌∙◌, Contains, inl, inr, arith}
 use Rattle.std.specs.Prelude.{IsTrue}
 use borrow.Author.Count.{below_more}
-use Rattle.std.specs.Cmp.{IsTotalOrder}
 use Rattle.std.specs.Ordering.{ordering_reverse, is_gt, is_lt}
 use Rattle.std.specs.FinSet.{contains}
 use Rattle.std.specs.declared.cmp.Ordering.{Ordering}
 use Rattle.std.specs.declared.cmp.Ordering.TheVariants.{Less, Equal, Greater}
 use Rattle.std.proofs.lemmas.Bool.{false≢true}
-use Rattle.std.proofs.lemmas.Cmp.{tied_itself, lists_total, upto}
+use Rattle.std.proofs.lemmas.Cmp.{tied_itself, upto}
 use Rattle.std.proofs.lemmas.Option.{get_or_from_slice_get}
 use Rattle.std.proofs.lemmas.List.{get_or_default}
 use Rattle.std.proofs.lemmas.List.Elements.{Contains-get_or}
 use Rattle.su_base.specs.declared.values.Value.{Value}
 use Rattle.su_base.specs.Value.{compare_lists}
+use Rattle.su_base.proofs.Rows.{rows_total}
 use Rattle.su_index.specs.Matches.{matches, IsMatch}
 use Rattle.su_index.proofs.Matched.{has_value-decides, match_of, match_unique}
-use Rattle.su_index.proofs.Runs.{values_total}
 use Rattle.su_state.specs.DatabaseValue.{IsAtMost}
 use Rattle.su_state.specs.declared.sides.Sides.{Sides}
 use Rattle.su_state.specs.inside.Sides.{Clash, IsLeastClash, IsLesser, row_at}
-
-pub rows_total : IsTotalOrder compare_lists
-rows_total = lists_total values_total
 
 pub at_most_itself : (row : List Value) → IsAtMost row row
 at_most_itself row greater = let same : compare_lists row row ≡ Equal = tied_itself rows_total row in cc
@@ -126,11 +122,6 @@ module _ (sides : Sides) (rows : List (List Value)) (row : List Value) (column :
           subst (IsAtMost (row_at rows q)) is (so_far.2 m.0 (omega (arith, m.1)) there.0 m.2 here);
     },
   )
-
-pub is_less : (o : Ordering) → is_lt o ≡ true → o ≡ Less
-is_less Less one = refl
-is_less Equal one = absurd (false≢true one)
-is_less Greater one = absurd (false≢true one)
 
 pub not_less : (o : Ordering) → is_lt o ≡ false → o ≢ Less
 not_less o out less = false≢true (sym out ∙ ap is_lt less)

@@ -8,6 +8,7 @@ use Rattle.su_base.specs.declared.values.Value.{Value}
 use Rattle.su_base.specs.declared.values.Column.{Column}
 use Rattle.su_base.specs.Value.{kind_of, compare_lists}
 use Rattle.su_fd.specs.declared.dependencies.Fd.{Fd}
+use Rattle.su_rel.specs.Changes.{TakenOut}
 use Rattle.su_schema.specs.SchemaValue.{SchemaValue, ObjectEntry}
 use Rattle.su_where.specs.declared.conditions.Cond.{Cond}
 use Rattle.su_where.specs.Truth.{truth_of}
@@ -67,7 +68,7 @@ pub record Added (db : DatabaseValue) (relation : ℕ) (row : List Value) (new :
 -- the row is out of the relation's set
 pub record Removed (db : DatabaseValue) (relation : ℕ) (row : List Value) (new : DatabaseValue) : Type 0 where
   pub only : ChangesOnly relation db new
-  pub rows : (other : List Value) → Contains (rows_of new relation) other ↔ (Contains (rows_of db relation) other × (other ≢ row))
+  pub rows : TakenOut (rows_of db relation) row (rows_of new relation)
   pub count : length (rows_of new relation) + 1 ≡ length (rows_of db relation)
 
 -- what an insert of a row answers

@@ -2,14 +2,16 @@
 -- read: the value that an object takes for an attribute from a row, through its column
 -- agree: two rows have one value for each of some attributes, read through an object
 -- lies in: all attributes of both sides of a dependency are the object's; it is then enforced on the object's relation
-use Rattle.std.specs.Prelude.{◌≡◌, ◌≢◌, ℕ, ◌<◌, ◌≤◌, List, [], All, length, map, slice_get, slice_index_or, Contains, Option, option_and_then, IsTrue}
+use Rattle.std.specs.Prelude.{◌≡◌, ◌≢◌, ℕ, ◌<◌, ◌≤◌, List, [], All, length, map, slice_get, Contains, Option, option_and_then, IsTrue}
 use Rattle.std.specs.Ordering.{nat_cmp}
-use Rattle.std.specs.FinSet.{FinSet, contains, is_subset}
+use Rattle.std.specs.FinSet.{FinSet, contains}
 use Rattle.std.specs.declared.cmp.Ordering.TheVariants.{Greater}
 use Rattle.su_base.specs.declared.values.Value.{Value}
 use Rattle.su_base.specs.declared.values.Column.{Column}
 use Rattle.su_base.specs.Value.{kind_of, compare_lists}
 use Rattle.su_fd.specs.declared.dependencies.Fd.{Fd}
+use Rattle.su_fd.specs.Meeting.{LiesIn}
+use Rattle.su_index.specs.Tables.{table_at}
 use Rattle.su_rel.specs.Stored.{Stored, AllDiffer}
 use Rattle.su_schema.specs.SchemaValue.{SchemaValue, ObjectEntry, IsValid, attributes_of, column_of, relation_columns}
 use Rattle.su_schema.specs.Checks.{columns_at}
@@ -23,17 +25,13 @@ pub record DatabaseValue : Type 0 where
 abbrev pub empty_tables : SchemaValue → List Stored
 empty_tables schema = map (λ columns. record { width = length columns; rows = [] }) (relation_columns schema)
 
--- the table of a relation among these
-abbrev pub table_in : List Stored → ℕ → Stored
-table_in tables relation = slice_index_or tables relation (record { width = 0; rows = [] })
-
 -- the rows of a relation in these tables
 abbrev pub rows_in : List Stored → ℕ → List (List Value)
-rows_in tables relation = (table_in tables relation).rows
+rows_in tables relation = (table_at tables relation).rows
 
 -- the table of a relation
 abbrev pub table_of : DatabaseValue → ℕ → Stored
-table_of db relation = table_in db.tables relation
+table_of db relation = table_at db.tables relation
 
 -- the rows of a relation
 abbrev pub rows_of : DatabaseValue → ℕ → List (List Value)
@@ -55,13 +53,9 @@ read object attribute row = option_and_then (slice_get row) (column_of object at
 abbrev pub Agree : ObjectEntry → FinSet nat_cmp → List Value → List Value → Type 0
 Agree object attributes row other = (a : ℕ) → IsTrue (contains attributes a) → read object a row ≡ read object a other
 
--- both sides of the dependency are attributes of the object
-abbrev pub LiesIn : Fd → ObjectEntry → Type 0
-LiesIn fd object = IsTrue (is_subset fd.left (attributes_of object)) × IsTrue (is_subset fd.right (attributes_of object))
-
 -- two rows break a dependency through an object
 pub record Break (fd : Fd) (object : ObjectEntry) (row other : List Value) : Type 0 where
-  pub lies : LiesIn fd object
+  pub lies : LiesIn fd (attributes_of object)
   pub agree : Agree object fd.left row other
   pub differ : ¬ Agree object fd.right row other
 

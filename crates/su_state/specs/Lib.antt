@@ -4,3 +4,4 @@ pub mod Definitions
 pub mod Filling
 pub mod inside
 pub mod Loads
+pub mod Views

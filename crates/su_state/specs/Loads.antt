@@ -1,7 +1,6 @@
 -- A load is its inserts one after another; the first refused one refuses the whole load.
-use Rattle.std.specs.Prelude.{◌≡◌, ◌≢◌, ◌⊎◌, ℕ, ◌+◌, Bool, true, false, List, [], ◌∷◌, ◌++◌, length, Result, Ok, Err}
+use Rattle.std.specs.Prelude.{◌≡◌, ◌≢◌, ℕ, ◌+◌, Bool, true, false, List, [], ◌∷◌, ◌++◌, length, Result, Ok, Err}
 use Rattle.su_base.specs.declared.values.Value.{Value}
-use Rattle.su_state.specs.declared.faults.StateFault.{StateFault}
 use Rattle.su_state.specs.declared.faults.StateFault.TheVariants.{NoMemory}
 use Rattle.su_state.specs.declared.faults.LoadFault.{LoadFault}
 use Rattle.su_state.specs.declared.faults.LoadEnd.{LoadEnd}
@@ -33,12 +32,6 @@ pub record IsFirstRefusal (db : DatabaseValue) (relation : ℕ) (rows : List (Li
   pub accepted : InsertsAll db relation before count between
   pub refused : Inserts between relation row (Err refusal.fault) between
   pub has_cause : refusal.fault ≢ NoMemory
-
--- how a load ends where the insert of the row with this number is refused: want of memory has no number
-abbrev pub IsEnd : ℕ → StateFault → LoadEnd → Type 0
-IsEnd number fault end =
-    ((fault ≡ NoMemory) × (end ≡ OutOfMemory))
-    ⊎ ((fault ≢ NoMemory) × (end ≡ Refused (record { number = number; fault = fault })))
 
 -- inserts of rows one after another up to the first refused one, and the database after the accepted ones
 abbrev pub InsertsSome : DatabaseValue → ℕ → List (List Value) → Result ℕ LoadEnd → DatabaseValue → Type 0

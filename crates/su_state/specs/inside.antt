@@ -1,5 +1,6 @@
 -- Definitions that only contracts of private functions need.
 pub mod Adding
+pub mod LoadEnds
 pub mod Leads
 pub mod Pairs
 pub mod Parts

@@ -62,7 +62,7 @@ impl Database {
     {
         check_row(relation, self.schema.columns(relation), row)?;
         let was_there = self.tables[relation as usize].remove(row);
-        // it tells a proof that the rows that are left differ
+        // For the proof: the rows that are left differ.
         let _rows = self.tables[relation as usize].as_slice();
         Ok(was_there)
     }

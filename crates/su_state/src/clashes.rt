@@ -56,6 +56,7 @@ fn lesser(
     requires least { MatchOption least (0 ≤ 0) (λ q. q < length table.now.rows) }
     ensures { IsLesser sides.now table.now.rows row.now least position result }
 {
+    // For the proof: each row is as wide as the table.
     let _rows = table.as_slice();
     let other = table.row(position);
     if !clash(sides, row, other) {
@@ -99,6 +100,7 @@ fn alike_by_column(table: &Table, columns: AttrSet, row: &Row) -> Option<usize>
     requires some { (c : ℕ) × IsTrue (set.contains columns c) × (c < table.now.width) }
     ensures { MatchOption result ((other : List Stored) → Contains table.now.rows other → ¬ AgreeAt columns row.now other) (λ p. (p < length table.now.rows) × AgreeAt columns row.now (row_at table.now.rows p)) }
 {
+    // For the proof: each row is as wide as the table.
     let _rows = table.as_slice();
     let column = fewest(table, columns, row);
     let value = row.get(column as usize);
@@ -118,6 +120,7 @@ fn alike(table: &Table, columns: AttrSet, row: &Row) -> Option<usize>
     requires some { (c : ℕ) × IsTrue (set.contains columns c) × (c < table.now.width) }
     ensures { MatchOption result ((other : List Stored) → Contains table.now.rows other → ¬ AgreeAt columns row.now other) (λ p. (p < length table.now.rows) × AgreeAt columns row.now (row_at table.now.rows p)) }
 {
+    // For the proof: each row is as wide as the table.
     let _rows = table.as_slice();
     match table.alike(columns, row) {
         Alike::Nowhere => return None,
@@ -141,6 +144,7 @@ pub fn least_breach(table: &Table, sides: &Sides, row: &Row) -> Option<usize>
     requires keeps { (one other : List Stored) → Contains table.now.rows one → Contains table.now.rows other → ¬ Clash sides.now one other }
     ensures { MatchOption result ((other : List Stored) → Contains table.now.rows other → ¬ Clash sides.now row.now other) (λ p. (p < length table.now.rows) × IsLeastClash sides.now table.now.rows row.now (row_at table.now.rows p)) }
 {
+    // For the proof: each row is as wide as the table.
     let _rows = table.as_slice();
     match alike(table, sides.left, row) {
         Some(position) => {

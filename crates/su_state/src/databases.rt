@@ -66,7 +66,7 @@ impl Database {
         Ok(db)
     }
 
-    /// A call of it tells a proof that the database is well kept. It does nothing.
+    /// For proofs: the database is well kept. It does nothing.
     pub fn keeps_its_rules(&self)
         ensures { IsWellKept self.now }
     {

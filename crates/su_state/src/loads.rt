@@ -1,6 +1,7 @@
 //! Loads of many rows.
 ghost use Rattle.std.specs.Prelude.{◌<◌, length};
-ghost use Rattle.su_state.specs.Loads.{Loads, InsertsSome, IsEnd};
+ghost use Rattle.su_state.specs.Loads.{Loads, InsertsSome};
+ghost use Rattle.su_state.specs.inside.LoadEnds.{IsEnd};
 ghost use Rattle.su_state.specs.Filling.{MayTake};
 
 use crate::copies::copy_table;

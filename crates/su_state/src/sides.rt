@@ -1,8 +1,8 @@
 //! The sides of a dependency as columns, through an object.
 ghost use Rattle.std.specs.Prelude.{◌≡◌, ◌<◌, ◌≤◌, ◌↔◌, ◌==◌, ℕ, length, slice_get, Some, IsTrue, MatchOption};
 ghost use Rattle.std.specs.FinSet as set;
-ghost use Rattle.su_schema.specs.SchemaValue.{ObjectEntry, column_of};
-ghost use Rattle.su_state.specs.DatabaseValue.{LiesIn};
+ghost use Rattle.su_schema.specs.SchemaValue.{ObjectEntry, attributes_of, column_of};
+ghost use Rattle.su_fd.specs.Meeting.{LiesIn};
 ghost use Rattle.su_state.specs.inside.Sides.{AreColumnsOf, AreSidesOf, AgreeAt, Clash};
 
 use su_base::{AttrSet, Row, Value};
@@ -49,7 +49,7 @@ pub fn sides_through(schema: &Schema, fd: &Fd, object: u8) -> Option<Sides>
     requires object { object < length schema.now.objects }
     requires left { (a : ℕ) → IsTrue (set.contains fd.now.left a) → a < length schema.now.attributes }
     requires right { (a : ℕ) → IsTrue (set.contains fd.now.right a) → a < length schema.now.attributes }
-    ensures { (entry : ObjectEntry) → slice_get schema.now.objects object ≡ Some entry → MatchOption result (¬ LiesIn fd.now entry) (AreSidesOf entry fd.now) }
+    ensures { (entry : ObjectEntry) → slice_get schema.now.objects object ≡ Some entry → MatchOption result (¬ LiesIn fd.now (attributes_of entry)) (AreSidesOf entry fd.now) }
 {
     let attributes = schema.object_attributes(object);
     if !fd.left.within(attributes) {

@@ -8,10 +8,10 @@ use su_schema::{Definition, Pair, Schema};
 use su_state::{Database, DefineFault, LoadEnd, LoadFault, StateFault};
 use su_where::{Cond, Literal, Op, Operand};
 
-// A case is a line of fields with a `|` between them. A definition is `i` or `t` for an attribute of
-// numbers or of texts, `r` a relation, `o` an object with its relation, `f` a dependency; then names,
-// with a space between them. In a relation a column of texts is written with a `'` behind it, and in
-// an object a pair as `attribute=column`.
+/// A case is a line of fields with a `|` between them. A definition is `i` or `t` for an attribute of
+/// numbers or of texts, `r` a relation, `o` an object with its relation, `f` a dependency; then names,
+/// with a space between them. In a relation a column of texts is written with a `'` behind it, and in
+/// an object a pair as `attribute=column`.
 fn field(line: &str, n: usize) -> &str {
     line.split('|').nth(n).unwrap_or("")
 }
@@ -89,7 +89,7 @@ fn dependency(alloc: Global, left: &str, right: &str) -> Result<Definition, NoMe
     })
 }
 
-// A word that is a whole number is one.
+/// A word that is a whole number is one.
 fn value(alloc: Global, word: &str) -> Result<Value, NoMemory> {
     match word.parse() {
         Ok(number) => Ok(Value::Int(number)),
@@ -105,7 +105,7 @@ fn row(alloc: Global, words: &str) -> Result<Row, NoMemory> {
     Ok(row)
 }
 
-// Rows have a `;` between them.
+/// Rows have a `;` between them.
 fn rows(alloc: Global, lines: &str) -> Result<List<Row>, NoMemory> {
     let mut rows = List::new(alloc);
     for words in lines.split(';') {
@@ -150,7 +150,7 @@ fn words(alloc: Global, word: &str, numbers: &[i64]) -> Result<String, NoMemory>
     Ok(text)
 }
 
-// What is refused: a word, then the numbers that the fault carries, then its row.
+/// What is refused: a word, then the numbers that the fault carries, then its row.
 fn fault_told(alloc: Global, fault: &StateFault) -> Result<String, NoMemory> {
     match fault {
         StateFault::UnknownRelation(_) => words(alloc, "unknown", &[]),
@@ -252,14 +252,6 @@ fn load(alloc: Global, db: &mut Database, text: &str) -> Result<String, NoMemory
     load_told(alloc, &db.load(0, rows))
 }
 
-fn load_each(alloc: Global, db: &mut Database, text: &str) -> Result<String, NoMemory> {
-    let rows = rows(alloc, text)?;
-    if db.schema().relations() == 0 {
-        return words(alloc, "no relation", &[]);
-    }
-    load_told(alloc, &db.load_each(0, rows))
-}
-
 fn number(alloc: Global, number: i64) -> Result<Row, NoMemory> {
     let mut row = List::new(alloc);
     row.push(Value::Int(number))?;
@@ -320,7 +312,7 @@ fn both(alloc: Global, first: Cond, second: Cond) -> Result<Cond, NoMemory>
     Ok(Cond::All(parts))
 }
 
-// Deletes the rows whose first value is at most the second, which isn't 2.
+/// Deletes the rows whose first value is at most the second, which isn't 2.
 fn delete_some(alloc: Global, db: &mut Database) -> Result<String, NoMemory> {
     let condition = both(alloc, first_is_at_most_second(), second_is_not_2())?;
     if db.schema().relations() == 0 {
@@ -333,7 +325,7 @@ fn delete_some(alloc: Global, db: &mut Database) -> Result<String, NoMemory> {
     words(alloc, "deleted", &[(count % 1000) as i64])
 }
 
-// The rows in order, each with a `;` behind it.
+/// The rows in order, each with a `;` behind it.
 fn print(alloc: Global, db: &Database) -> Result<String, NoMemory> {
     let mut text = String::new(alloc);
     if db.schema().relations() == 0 {
@@ -346,13 +338,12 @@ fn print(alloc: Global, db: &Database) -> Result<String, NoMemory> {
     Ok(text)
 }
 
-// A change of relation 0 and what it answers.
+/// A change of relation 0 and what it answers.
 fn answer(alloc: Global, db: &mut Database, line: &str) -> Result<String, NoMemory> {
     match field(line, 0).as_bytes() {
         b"insert" => insert(alloc, db, field(line, 1)),
         b"delete" => delete(alloc, db, field(line, 1)),
         b"load" => load(alloc, db, field(line, 1)),
-        b"load each" => load_each(alloc, db, field(line, 1)),
         b"load million" => load_million(alloc, db),
         b"delete some" => delete_some(alloc, db),
         b"find" => find(alloc, db, field(line, 1)),
@@ -361,7 +352,7 @@ fn answer(alloc: Global, db: &mut Database, line: &str) -> Result<String, NoMemo
     }
 }
 
-// Whether each line is answered as its last field says.
+/// Whether each line is answered as its last field says.
 fn answers_all(alloc: Global, db: &mut Database, lines: &str) -> Result<bool, NoMemory> {
     for line in lines.lines() {
         let told = answer(alloc, db, line)?;
@@ -372,7 +363,7 @@ fn answers_all(alloc: Global, db: &mut Database, lines: &str) -> Result<bool, No
     Ok(true)
 }
 
-// The same of a new database.
+/// The same of a new database.
 fn meets(alloc: Global, lines: &str) -> Result<bool, NoMemory> {
     let mut db = Database::new(alloc, Schema::new(alloc))?;
     answers_all(alloc, &mut db, lines)
@@ -582,30 +573,10 @@ load|20 6|loaded 1
 load|4 7|refused 1 breaks 0 0 0 4 6
 load|21 1;21 2|refused 2 breaks 0 0 0 21 1
 load|21 1;21 1|loaded 1
-load each|22 1;22 2|refused 2 breaks 0 0 0 22 1
-load each|22 1;4 6|loaded 1
+load|22 1;22 2|refused 2 breaks 0 0 0 22 1
+load|22 1;4 6|loaded 1
 insert|22 2|breaks 0 0 0 22 1
 insert|21 2|breaks 0 0 0 21 1";
-    assert!(rt; meets(rt.alloc(), lines)?);
-    Ok(())
-}
-
-// The loads of `a_load_may_break_by_itself`, row by row.
-#[test]
-fn rows_loaded_one_by_one_answer_the_same(rt: HostRuntime) -> Result<(), Fail> {
-    let lines = "i|A|defined
-i|B|defined
-r|P|A B|defined
-o|AB|P|A=A B=B|defined
-f|A|B|defined
-load each|1 1;1 2|refused 2 breaks 0 0 0 1 1
-print|
-load each|2 5;1 1;2 5|loaded 2
-load each|1 1;2 5;1 1|loaded 0
-load each|4 4;2 6;5 5|refused 2 breaks 0 0 0 2 5
-load each|4 4;5 5;4 5|refused 3 breaks 0 0 0 4 4
-load each|3 5;2 5;4 1|loaded 2
-print| 1 1; 2 5; 3 5; 4 1;";
     assert!(rt; meets(rt.alloc(), lines)?);
     Ok(())
 }

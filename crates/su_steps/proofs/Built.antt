@@ -16,7 +16,7 @@ use Rattle.su_steps.specs.Terms.{rows_of, tableau_of}
 use Rattle.su_steps.specs.inside.Numbers.{class_name}
 use Rattle.su_steps.specs.inside.Heads.{head_of, IsSomeFalse, IsNoneFalse}
 use Rattle.su_steps.specs.inside.Ready.{FitOrigins}
-use Rattle.su_steps.proofs.Fitting.{width_is}
+use Rattle.su_steps.proofs.ResolvedQueries.{width_is}
 use Rattle.su_steps.proofs.Valid.{length-rows}
 
 abbrev pub tab_of : ℕ → List (List Sym) → Head → ℕ → Tab

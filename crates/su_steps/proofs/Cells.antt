@@ -5,6 +5,7 @@ use Rattle.std.specs.FinSet.{contains}
 use Rattle.std.proofs.lemmas.Bool.{cond-true}
 use Rattle.std.proofs.lemmas.Nat.{div-add-mod'}
 use Rattle.su_base.specs.declared.values.Value.{Value}
+use Rattle.su_base.proofs.Items.{map-map_equal, get_or-map_range}
 use Rattle.su_tableau.specs.declared.symbols.Sym.{Sym}
 use Rattle.su_tableau.specs.declared.symbols.Sym.TheVariants.{Var}
 use Rattle.su_tableau.specs.Tableaux.{value_of, values_of}
@@ -13,7 +14,7 @@ use Rattle.su_steps.specs.declared.results.Origin.{Origin}
 use Rattle.su_steps.specs.Objects.{width, attributes_at}
 use Rattle.su_steps.specs.Choices.{origin, origins_from}
 use Rattle.su_steps.specs.Terms.{cell_of, row_of, rows_of}
-use Rattle.su_steps.proofs.Lists.{map_twice, made_at, all_front, all_back, all_append, all_map, all_of_map}
+use Rattle.su_steps.proofs.Lists.{all_front, all_back, all_append, all_map, all_of_map}
 
 -- each symbol is its own name
 abbrev pub itself : Sym → Sym
@@ -31,8 +32,8 @@ Sent w rows universe = AllByRecursion (λ row. Contains universe (values_of w ro
 
 pub row_value : (schema : SchemaValue) (w : ℕ → Value) (own : ℕ) (o : Origin) (a : ℕ) (d : Value) → a < width schema → get_or (values_of w (row_of schema itself own o)) a d ≡ value_of w (cell_of schema itself own o a)
 row_value schema w own o a d h =
-    ap (λ xs. get_or xs a d) (map_twice (cell_of schema itself own o) (value_of w) (λ b. value_of w (cell_of schema itself own o b)) (λ b. refl) (range_with_len 0 (width schema)))
-    ∙ made_at (λ b. value_of w (cell_of schema itself own o b)) (width schema) a d h
+    ap (λ xs. get_or xs a d) (map-map_equal (cell_of schema itself own o) (value_of w) (λ b. value_of w (cell_of schema itself own o b)) (λ b. refl) (range_with_len 0 (width schema)))
+    ∙ get_or-map_range (λ b. value_of w (cell_of schema itself own o b)) (width schema) a d h
 
 pub cell_in : (schema : SchemaValue) (own : ℕ) (o : Origin) (a : ℕ) → contains (attributes_at schema o.object) a ≡ true → cell_of schema itself own o a ≡ Var (o.variable * width schema + a)
 cell_in schema own o a h = cond-true (contains (attributes_at schema o.object) a) (Var (o.variable * width schema + a)) (Var (own + a)) h

@@ -9,6 +9,7 @@ use Rattle.std.proofs.lemmas.Bool.{cases_lt}
 use Rattle.std.proofs.lemmas.List.Elements.{All-contains}
 use Rattle.std.proofs.lemmas.List.FromFn.{length-map-range_with_len}
 use Rattle.su_base.proofs.Subsets.{subset_at}
+use Rattle.su_base.proofs.Items.{Contains-cases, Contains-nil, Contains-map, Contains-map_source, Contains-flat_map, Contains-flat_map_source, Contains-filter, Contains-filter_source, get_or-map_range}
 use Rattle.su_where.specs.declared.literals.Operand.{Operand}
 use Rattle.su_where.specs.declared.literals.Operand.TheVariants as operand
 use Rattle.su_where.specs.declared.literals.Literal.{Literal}
@@ -23,10 +24,10 @@ use Rattle.su_steps.specs.Objects.{width, attributes_at, objects_of, attributes_
 use Rattle.su_steps.specs.Choices.{coverings_of, coverings, combinations, choices, chosen_objects, origin, origins_of}
 use Rattle.su_steps.specs.Classes.{Compared, pair, place_symbol, operand_symbol, compared, comparisons}
 use Rattle.su_steps.specs.inside.Ready.{FitLiterals, IsChoice}
-use Rattle.su_steps.proofs.Lists.{contains_cases, contains_none, contains_flat, of_flat, contains_map, of_map, contains_filter, of_filter, made_at, all_by, all_at}
+use Rattle.su_steps.proofs.Lists.{all_by, all_at}
 use Rattle.su_steps.proofs.Cells.{origins_at, origins_by, pair_below}
 use Rattle.su_steps.proofs.Raw.{AreWithin, HasObject, IsShown, AreShown}
-use Rattle.su_steps.proofs.Fitting.{of_range, in_range, of_all, of_objects, mentioned_at, no_place, place_at, place_in}
+use Rattle.su_steps.proofs.ResolvedQueries.{of_range, in_range, of_all, of_objects, mentioned_at, no_place, place_at, place_in}
 use Rattle.su_steps.proofs.Shape.{AreBelow, IsPairBelow}
 
 -- ---- combinations
@@ -36,8 +37,8 @@ combination_by [] [] l h = (0, omega arith, refl)
 combination_by [] (y ∷ ys) l h = absurd (omega arith)
 combination_by (xs ∷ xss) [] l h = absurd (omega arith)
 combination_by (xs ∷ xss) (y ∷ ys) l h =
-    contains_flat (λ x. map (λ zs. x ∷ zs) (combinations xss)) xs y (y ∷ ys) (h 0 (omega arith))
-    (contains_map (λ zs. y ∷ zs) (combinations xss) ys (combination_by xss ys (omega arith) (λ v i. h (suc v) (omega arith))))
+    Contains-flat_map (λ x. map (λ zs. x ∷ zs) (combinations xss)) xs y (y ∷ ys) (h 0 (omega arith))
+    (Contains-map (λ zs. y ∷ zs) (combinations xss) ys (combination_by xss ys (omega arith) (λ v i. h (suc v) (omega arith))))
 
 pub record IsCombination (xss : List (List ℕ)) (ys : List ℕ) : Type 0 where
   pub same_length : length ys ≡ length xss
@@ -54,11 +55,11 @@ pub combination_is : (xss : List (List ℕ)) (ys : List ℕ) → Contains (combi
 combination_is [] ys c =
     ⊎_elim
     (λ (e : [] ≡ ys). record { same_length = sym (ap length e); at = λ v l. absurd (omega arith) })
-    (λ (r : Contains [] ys). absurd (contains_none ys r))
-    (contains_cases [] [] ys c)
+    (λ (r : Contains [] ys). absurd (Contains-nil ys r))
+    (Contains-cases [] [] ys c)
 combination_is (xs ∷ xss) ys c =
-    let w = of_flat (λ x. map (λ zs. x ∷ zs) (combinations xss)) xs ys c in
-    let u = of_map (λ zs. w.0 ∷ zs) (combinations xss) ys w.2 in
+    let w = Contains-flat_map_source (λ x. map (λ zs. x ∷ zs) (combinations xss)) xs ys c in
+    let u = Contains-map_source (λ zs. w.0 ∷ zs) (combinations xss) ys w.2 in
     subst (IsCombination (xs ∷ xss)) u.2 (combined xs xss w.0 u.0 w.1 (combination_is xss u.0 u.1))
 
 -- ---- one number for each place of a list
@@ -86,7 +87,7 @@ module _ (schema : SchemaValue) (maximal : List (FinSet nat_cmp)) (q : Resolved)
   wanted v m = covers schema (get_or maximal m empty) (mentioned_with q.places v)
 
   coverings_at : (v : ℕ) → v < length q.variables → get_or (coverings schema maximal q) v [] ≡ coverings_of schema maximal q v
-  coverings_at v l = made_at (coverings_of schema maximal q) (length q.variables) v [] l
+  coverings_at v l = get_or-map_range (coverings_of schema maximal q) (length q.variables) v [] l
 
   pub coverings_count : length (coverings schema maximal q) ≡ length q.variables
   coverings_count = length-map-range_with_len (coverings_of schema maximal q) 0 (length q.variables)
@@ -97,7 +98,7 @@ module _ (schema : SchemaValue) (maximal : List (FinSet nat_cmp)) (q : Resolved)
       let k = coverings_count in
       let s = r.same_length in
       let at : (v : ℕ) → v < length q.variables → Contains (range_with_len 0 (length maximal)) (get_or choice v 0) × (wanted v (get_or choice v 0) ≡ true) =
-      λ v l. of_filter (wanted v) (range_with_len 0 (length maximal)) (get_or choice v 0) (subst (λ xs. Contains xs (get_or choice v 0)) (coverings_at v l) (r.at v (omega arith))) in
+      λ v l. Contains-filter_source (wanted v) (range_with_len 0 (length maximal)) (get_or choice v 0) (subst (λ xs. Contains xs (get_or choice v 0)) (coverings_at v l) (r.at v (omega arith))) in
       record {
         one_per_variable = s ∙ k;
         in_range = λ v d l. let i : v < length q.variables = omega arith in let low = (of_range 0 (length maximal) (get_or choice v 0) (at v i).0).1 in let e = get_or_default choice v 0 d l in omega arith;
@@ -113,7 +114,7 @@ module _ (schema : SchemaValue) (maximal : List (FinSet nat_cmp)) (q : Resolved)
       let i : v < length q.variables = omega arith in
       let low : get_or choice v 0 < length maximal = r.in_range v 0 (omega arith) in
       subst (λ xs. Contains xs (get_or choice v 0)) (sym (coverings_at v i))
-      (contains_filter (wanted v) (range_with_len 0 (length maximal)) (get_or choice v 0) (in_range 0 (length maximal) (get_or choice v 0) (get_or choice v 0) (omega arith) low) (r.covering v i)))
+      (Contains-filter (wanted v) (range_with_len 0 (length maximal)) (get_or choice v 0) (in_range 0 (length maximal) (get_or choice v 0) (get_or choice v 0) (omega arith) low) (r.covering v i)))
 
   -- ---- what a choice shows
 
@@ -179,13 +180,13 @@ module _ (schema : SchemaValue) (maximal : List (FinSet nat_cmp)) (q : Resolved)
           let n = width schema in
           let side : (c : Compared) → Contains (comparisons n q.places literals) c → IsShown schema objects c.left × IsShown schema objects c.right =
           λ c has.
-          let w = of_map (compared n q.places) literals c has in
+          let w = Contains-map_source (compared n q.places) literals c has in
           let p = All-contains (HasPlacesBelow (length q.places)) literals w.0 fits.places w.1 in
           subst (λ (c : Compared). IsShown schema objects c.left × IsShown schema objects c.right) w.2 (operand_shown w.0.left p.0, operand_shown w.0.right p.1) in
           record {
             in_outputs = all_by (IsShown schema objects) (map (place_symbol n q.places) q.outputs)
                 (λ x has.
-                let w = of_map (place_symbol n q.places) q.outputs x has in
+                let w = Contains-map_source (place_symbol n q.places) q.outputs x has in
                 subst (IsShown schema objects) w.2 (operand_shown (operand.Place w.0) (All-contains (λ o. o < length q.places) q.outputs w.0 resolved.outputs w.1)));
             in_lefts = all_by (λ c. IsShown schema objects c.left) (comparisons n q.places literals) (λ c has. (side c has).0);
             in_rights = all_by (λ c. IsShown schema objects c.right) (comparisons n q.places literals) (λ c has. (side c has).1);
@@ -201,7 +202,7 @@ module _ (schema : SchemaValue) (maximal : List (FinSet nat_cmp)) (q : Resolved)
       pub pairs_below : (literals : List Literal) → FitLiterals schema q literals → AreBelow schema (length q.variables * width schema) (origins_of schema maximal choice) (comparisons (width schema) q.places literals)
       pairs_below literals fits = record {
         sides = λ c has.
-            let w = of_map (compared (width schema) q.places) literals c has in
+            let w = Contains-map_source (compared (width schema) q.places) literals c has in
             let p = All-contains (HasPlacesBelow (length q.places)) literals w.0 fits.places w.1 in
             subst (λ (c : Compared). IsPairBelow (length q.variables * width schema) c.left × IsPairBelow (length q.variables * width schema) c.right) w.2 (operand_below w.0.left p.0, operand_below w.0.right p.1);
         pairs = λ o a c h. pair_below o.variable (length q.variables) (width schema) a (origin_in o c).0 (fit o.object a h);

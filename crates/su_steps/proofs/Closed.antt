@@ -20,7 +20,7 @@ use Rattle.su_steps.specs.Terms.{rows_of, tableau_of, HaveNone, HaveTableau}
 use Rattle.su_steps.specs.inside.Numbers.{class_name, AreClasses}
 use Rattle.su_steps.specs.inside.Heads.{head_of, IsSomeFalse, IsNoneFalse}
 use Rattle.su_steps.specs.inside.Ready.{AreClosed, FitLiterals, FitOrigins, IsShown}
-use Rattle.su_steps.proofs.Fitting.{width_is}
+use Rattle.su_steps.proofs.ResolvedQueries.{width_is}
 use Rattle.su_steps.proofs.Tabled.{are_classes, none_by_clash, none_by_false, made, valid_of}
 use Rattle.su_steps.proofs.Built.{tab_of, some_false_at, none_false_at, built, small_of}
 

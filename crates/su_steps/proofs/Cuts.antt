@@ -11,7 +11,7 @@ use Rattle.su_where.specs.Operator.{compares}
 use Rattle.su_tableau.specs.Tableaux.{Tab, value_of, values_of, Ext, Cut}
 use Rattle.su_tableau.proofs.Listing.{ExtBy, by_list, from_list}
 use Rattle.su_steps.proofs.Lists.{all_by}
-use Rattle.su_steps.proofs.Naming.{AllHold, CutBy}
+use Rattle.su_steps.proofs.ClassNames.{AllHold, CutBy}
 
 abbrev zero_value : Value
 zero_value = Int (pos 0)

@@ -3,6 +3,7 @@ use Rattle.std.proofs.Common.{◌≡◌, ℕ, ◌+◌, ◌<◌, true, false, con
 use Rattle.std.proofs.lemmas.Bool.{cases_lt}
 use Rattle.std.proofs.lemmas.List.{take_more, take_all, map-append, get_or_default}
 use Rattle.su_base.specs.declared.values.Value.{Value}
+use Rattle.su_base.proofs.Items.{Contains-map, Contains-map_source}
 use Rattle.su_where.specs.declared.literals.Literal.{Literal}
 use Rattle.su_tableau.specs.declared.symbols.Sym.{Sym}
 use Rattle.su_classes.specs.declared.items.Together.{Together}
@@ -13,7 +14,6 @@ use Rattle.su_steps.specs.Classes.{Compared, compared, comparisons}
 use Rattle.su_steps.specs.Terms.{is_evaluated, left_over, sides, EvaluatesFalse}
 use Rattle.su_steps.specs.inside.Heads.{with_compared, head_of, IsSomeFalse, IsNoneFalse}
 use Rattle.su_steps.specs.inside.Numbers.{is_equality, equals}
-use Rattle.su_steps.proofs.Lists.{contains_map, of_map}
 
 equals-append : (vs : List Value) (xs ys : List Compared) → equals vs (xs ++ ys) ≡ equals vs xs ++ equals vs ys
 equals-append vs [] ys = refl
@@ -72,7 +72,7 @@ head_more name outputs n places ls i l before next h is so e =
 -- ---- comparisons that are evaluated and false
 
 pub some_false : (name : Sym → Sym) (n : ℕ) (places : List Place) (ls : List Literal) (i : ℕ) (l : Literal) → i < length ls → l ≡ get_or ls i l → EvaluatesFalse name (compared n places l) → IsSomeFalse name (comparisons n places ls)
-some_false name n places ls i l h is f = (compared n places l, contains_map (compared n places) ls l (i, h, sym is), f)
+some_false name n places ls i l h is f = (compared n places l, Contains-map (compared n places) ls l (i, h, sym is), f)
 
 pub none_more : (name : Sym → Sym) (n : ℕ) (places : List Place) (ls : List Literal) (i : ℕ) (l : Literal) → i < length ls → l ≡ get_or ls i l → ((k : ℕ) (d : Literal) → k < i → ¬ EvaluatesFalse name (compared n places (get_or ls k d))) → ¬ EvaluatesFalse name (compared n places l)
     → (k : ℕ) (d : Literal) → k < i + 1 → ¬ EvaluatesFalse name (compared n places (get_or ls k d))
@@ -84,7 +84,7 @@ none_more name n places ls i l h is before here k d below =
 
 pub none_all : (name : Sym → Sym) (n : ℕ) (places : List Place) (ls : List Literal) (i : ℕ) → length ls ≤ i → ((k : ℕ) (d : Literal) → k < i → ¬ EvaluatesFalse name (compared n places (get_or ls k d))) → IsNoneFalse name (comparisons n places ls)
 none_all name n places ls i l before c has =
-    let w = of_map (compared n places) ls c has in
+    let w = Contains-map_source (compared n places) ls c has in
     let at : ¬ EvaluatesFalse name (compared n places w.0) = subst (λ (x : Literal). ¬ EvaluatesFalse name (compared n places x)) w.1.2 (before w.1.0 w.0 (let k = w.1.1 in omega arith)) in
     subst (λ (c : Compared). ¬ EvaluatesFalse name c) w.2 at
 

@@ -22,11 +22,12 @@ use Rattle.su_steps.specs.Classes.{Compared, pair, place_symbol, IsNaming}
 use Rattle.su_steps.specs.Terms.{left_over, sides, cell_of, row_of, rows_of, tableau_of, Case, cases, comparisons_of, GivesNone, Gives, AreTermsOf, AreTerms}
 use Rattle.su_steps.specs.Sources.{IsSource}
 use Rattle.std.specs.List.{AllByRecursion}
+use Rattle.su_base.proofs.Items.{Contains-cases, Contains-nil, Contains-map_source, get_or-map_range}
 use Rattle.su_schema.specs.SchemaValue as schemas
 use Rattle.su_where.specs.Disjunct.{disjuncts_of}
-use Rattle.su_steps.proofs.Lists.{contains_cases, contains_none, of_map, made_at, all_by}
+use Rattle.su_steps.proofs.Lists.{all_by}
 use Rattle.su_steps.proofs.Cells.{pair_below}
-use Rattle.su_steps.proofs.Fitting.{no_place, place_at, place_in, literals_fit, within}
+use Rattle.su_steps.proofs.ResolvedQueries.{no_place, place_at, place_in, literals_fit, within}
 use Rattle.su_steps.proofs.Chosen.{origin_in, pairs_below}
 use Rattle.su_steps.proofs.Union.{IsCase, of_cases}
 use Rattle.su_steps.proofs.Shape.{AreBelow, IsPairBelow}
@@ -48,7 +49,7 @@ module _ (schema : SchemaValue) (os : List Origin) (d : List Compared) (name : S
   row_at own (q ∷ qs) (suc i) o l = row_at (own + width schema) qs i o (omega arith) ∙ ap (λ n. row_of schema name n (get_or qs i o)) (let e : own + width schema + i * width schema ≡ own + suc i * width schema = grind arith in e)
 
   cell_at : (own : ℕ) (qs : List Origin) (i c : ℕ) (o : Origin) (x : Sym) → i < length qs → c < width schema → get_or (get_or (rows_of schema name own qs) i []) c x ≡ cell_of schema name (own + i * width schema) (get_or qs i o) c
-  cell_at own qs i c o x l m = ap (λ r. get_or r c x) (row_at own qs i o l) ∙ made_at (cell_of schema name (own + i * width schema) (get_or qs i o)) (width schema) c x m
+  cell_at own qs i c o x l m = ap (λ r. get_or r c x) (row_at own qs i o l) ∙ get_or-map_range (cell_of schema name (own + i * width schema) (get_or qs i o)) (width schema) c x m
 
   -- a cell is the name of a pair, or the row's own symbol
   pub data IsCell (own : ℕ) (o : Origin) (c : ℕ) (x : Sym) : Type 0 where
@@ -76,7 +77,7 @@ module _ (schema : SchemaValue) (os : List Origin) (d : List Compared) (name : S
         let head : List Sym = map (λ i. name (place_symbol (width schema) q.places i)) q.outputs in
         ⊎_elim
         (λ (l : Contains head (Var k)).
-        let w = of_map (λ i. name (place_symbol (width schema) q.places i)) q.outputs (Var k) l in
+        let w = Contains-map_source (λ i. name (place_symbol (width schema) q.places i)) q.outputs (Var k) l in
         named_low (place_symbol (width schema) q.places w.0) k (outputs w.0 w.1) w.2)
         (λ (r : Contains (sides (left_over name d)) (Var k)).
         let w = of_sides name d (Var k) r in
@@ -176,7 +177,7 @@ module _ (schema : SchemaValue) (maximal : List (FinSet nat_cmp)) (q : Resolved)
       ((get_or os i none).object, source_at schema os (comparisons_of schema q case.disjunct) g.tableau.name (length q.variables * width schema) g.tableau.naming q t.tableau g.tableau.is refl below output_below none m i l low.1)
 
   terms_have : (cs : List Case) (ts : List Term) → AllByRecursion (IsCase schema maximal q resolved (within schema valid)) cs → AreTermsOf schema maximal q cs ts → (t : Term) (m i : ℕ) → Contains ts t → i < length t.tableau.rows → (o : ℕ) × IsSource schema t.tableau m i o
-  terms_have [] ts are terms t m i c l = absurd (contains_none t (subst (λ (xs : List Term). Contains xs t) terms c))
+  terms_have [] ts are terms t m i c l = absurd (Contains-nil t (subst (λ (xs : List Term). Contains xs t) terms c))
   terms_have (x ∷ xs) ts are terms t m i c l =
       ⊎_elim
       (λ (none : GivesNone schema maximal q x × AreTermsOf schema maximal q xs ts). terms_have xs ts are.1 none.1 t m i c l)
@@ -184,7 +185,7 @@ module _ (schema : SchemaValue) (maximal : List (FinSet nat_cmp)) (q : Resolved)
       ⊎_elim
       (λ (e : some.0 ≡ t). case_has x t m i are.0 (subst (λ (u : Term). Gives schema maximal q x u) e some.3) l)
       (λ (later : Contains some.1 t). terms_have xs some.1 are.1 some.4 t m i later l)
-      (contains_cases some.0 some.1 t (subst (λ (us : List Term). Contains us t) some.2 c)))
+      (Contains-cases some.0 some.1 t (subst (λ (us : List Term). Contains us t) some.2 c)))
       terms
 
   pub rows_have_sources : (ts : List Term) → AreTerms schema maximal q ts → (t : Term) (m i : ℕ) → Contains ts t → i < length t.tableau.rows → (o : ℕ) × IsSource schema t.tableau m i o

@@ -1,27 +1,21 @@
 -- The numbers of a range that pass a test, one number more.
-use Rattle.std.proofs.Common.{ℕ, ◌+◌, ◌≡◌, zero, suc, Bool, true, false, cond, if◌then◌else◌, List, [], ◌∷◌, ◌++◌, map, length, ap, sym, refl, ◌∙◌, append-nil, append_assoc, arith}
+use Rattle.std.proofs.Common.{ℕ, ◌+◌, ◌≡◌, Bool, true, false, cond, if◌then◌else◌, List, [], ◌∷◌, ◌++◌, map, length, ap, sym, refl, ◌∙◌, append-nil, append_assoc, arith}
 use Rattle.std.specs.List.{filter, range_with_len}
 use Rattle.std.specs.Ordering.{nat_cmp}
 use Rattle.std.specs.FinSet.{FinSet, contains, union, empty, members, same_set, nat_cmp-IsAntisymmetric}
 use Rattle.std.specs.Cmp.{nat_cmp_total}
 use Rattle.std.proofs.lemmas.List.{map-append, length-append}
 use Rattle.std.proofs.lemmas.List.Elements.{filter-append}
+use Rattle.su_base.proofs.Items.{range-push_zero}
 use Rattle.su_schema.specs.SchemaValue.{SchemaValue}
 use Rattle.su_steps.specs.Objects.{attributes_at, attributes_of_all}
-
-range_push : (a n j : ℕ) → a + n ≡ j → range_with_len a (n + 1) ≡ range_with_len a n ++ j ∷ []
-range_push a zero j e = grind (arith, e)
-range_push a (suc n) j e = grind (arith, range_push (a + 1) n j (omega (arith, e)))
-
-pub range_more : (n : ℕ) → range_with_len 0 (n + 1) ≡ range_with_len 0 n ++ n ∷ []
-range_more n = range_push 0 n n (omega arith)
 
 -- those of the numbers below n
 abbrev pub passing : (ℕ → Bool) → ℕ → List ℕ
 passing p n = filter p (range_with_len 0 n)
 
 pub passing_more : (p : ℕ → Bool) (n : ℕ) → passing p (n + 1) ≡ passing p n ++ cond (p n) (n ∷ []) []
-passing_more p n = ap (filter p) (range_more n) ∙ filter-append p (range_with_len 0 n) (n ∷ [])
+passing_more p n = ap (filter p) (range-push_zero n) ∙ filter-append p (range_with_len 0 n) (n ∷ [])
 
 pub passing_in : (p : ℕ → Bool) (n : ℕ) → p n ≡ true → passing p (n + 1) ≡ passing p n ++ n ∷ []
 passing_in p n e = passing_more p n ∙ ap (λ b. passing p n ++ cond b (n ∷ []) []) e

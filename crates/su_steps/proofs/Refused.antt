@@ -3,12 +3,12 @@ use Rattle.std.proofs.Common.{◌≡◌, ◌⊎◌, inl, inr, ⊎_elim, ℕ, zer
 use Rattle.std.specs.Prelude.{position, slice_get, ◌==◌}
 use Rattle.std.specs.Ordering.{nat_cmp}
 use Rattle.std.specs.FinSet.{FinSet}
-use Rattle.std.proofs.lemmas.Bool.{cases_lt}
 use Rattle.std.proofs.lemmas.Bool.Decides.{nat_tests}
 use Rattle.std.proofs.Math.Nat.{zero-mul}
 use Rattle.std.proofs.lemmas.List.Elements.{Contains-get_or}
 use Rattle.su_base.proofs.Growing.{position-None}
 use Rattle.su_where.specs.Disjunct.{disjuncts_of}
+use Rattle.su_base.proofs.Combinations.{same_or_many}
 use Rattle.su_schema.specs.SchemaValue.{SchemaValue}
 use Rattle.su_query.specs.declared.resolving.Resolved.{Resolved}
 use Rattle.su_query.specs.Sets.{mentioned_with}
@@ -17,7 +17,7 @@ use Rattle.su_steps.specs.declared.faults.StepFault.TheVariants.{NotCovered}
 use Rattle.su_steps.specs.Choices.{coverings, choices}
 use Rattle.su_steps.specs.inside.Counting.{objects_in}
 use Rattle.su_steps.specs.Refusals.{disjunct_count, IsCovered, HasFewDisjuncts, HasFewRows, HasFewTerms, HasManyRows, IsRefusal}
-use Rattle.su_steps.proofs.Counting.{row_count_is, total_at, total_of}
+use Rattle.su_steps.proofs.ChoiceCounts.{row_count_is, total_at, total_of}
 use Rattle.su_steps.proofs.Chosen.{coverings_count}
 
 -- the place where the test passes is one of the list's
@@ -72,9 +72,6 @@ zero_or_more : (n : ℕ) → (n ≡ 0) ⊎ (0 < n)
 zero_or_more zero = inl refl
 zero_or_more (suc n) = inr (omega arith)
 
-same_or_many : (n m : ℕ) → m ≡ min n 257 → (m ≡ n) ⊎ ((m ≡ 257) × (257 ≤ n))
-same_or_many n m e = ⊎_elim (λ (l : n < 257). inl (omega arith)) (λ (g : 257 ≤ n). inr (omega arith, g)) (cases_lt n 257)
-
 pub many_terms : (schema : SchemaValue) (maximal : List (FinSet nat_cmp)) (q : Resolved) (d m : ℕ) → d ≡ disjunct_count q → m ≡ min (length (choices schema maximal q)) 257 → 256 < d * m → 256 < disjunct_count q * length (choices schema maximal q)
 many_terms schema maximal q d m e f l =
     ⊎_elim
@@ -84,7 +81,7 @@ many_terms schema maximal q d m e f l =
     (λ (z : d ≡ 0). absurd (let x : d * m ≡ 0 = ap (λ k. k * m) z ∙ zero-mul m in omega arith))
     (λ (p : 0 < d). times_many (disjunct_count q) (length (choices schema maximal q)) (omega arith) b.1)
     (zero_or_more d))
-    (same_or_many (length (choices schema maximal q)) m f)
+    (same_or_many 257 m (length (choices schema maximal q)) f)
 
 pub few_terms : (schema : SchemaValue) (maximal : List (FinSet nat_cmp)) (q : Resolved) (d m : ℕ) → d ≡ disjunct_count q → m ≡ min (length (choices schema maximal q)) 257 → d * m ≤ 256 → HasFewTerms schema maximal q
 few_terms schema maximal q d m e f l =
@@ -95,4 +92,4 @@ few_terms schema maximal q d m e f l =
     (λ (z : d ≡ 0). let x : disjunct_count q * length (choices schema maximal q) ≡ 0 = ap (λ k. k * length (choices schema maximal q)) (sym e ∙ z) ∙ zero-mul (length (choices schema maximal q)) in omega arith)
     (λ (p : 0 < d). absurd (let x : 256 < d * m = times_many d m p (omega (arith, b.0)) in omega arith))
     (zero_or_more d))
-    (same_or_many (length (choices schema maximal q)) m f)
+    (same_or_many 257 m (length (choices schema maximal q)) f)

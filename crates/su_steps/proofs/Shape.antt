@@ -10,6 +10,8 @@ use Rattle.std.proofs.lemmas.List.Elements.{All-from_recursion}
 use Rattle.su_base.specs.declared.values.Kind.{Kind}
 use Rattle.su_base.specs.declared.values.Kind.TheVariants.{Int as IntKind, Text as TextKind}
 use Rattle.su_base.proofs.Subsets.{subset_at}
+use Rattle.su_base.proofs.Items.{map-map_equal, map-equal}
+use Rattle.su_classes.proofs.Merges.{same_var}
 use Rattle.su_where.specs.declared.operators.Op.TheVariants.{Equal}
 use Rattle.su_tableau.specs.declared.symbols.Sym.{Sym}
 use Rattle.su_tableau.specs.declared.symbols.Sym.TheVariants.{Const, Var}
@@ -20,7 +22,6 @@ use Rattle.su_steps.specs.declared.results.Origin.{Origin}
 use Rattle.su_steps.specs.Objects.{width, attributes_at}
 use Rattle.su_steps.specs.Classes.{Compared, pair, IsClosed, IsNaming}
 use Rattle.su_steps.specs.Terms.{cell_of, row_of, rows_of, tableau_of}
-use Rattle.su_steps.proofs.Lists.{map_twice}
 use Rattle.su_steps.proofs.Cells.{itself, raw_rows}
 use Rattle.su_steps.proofs.Raw.{AreWithin}
 
@@ -32,9 +33,6 @@ marks p (Var q) = cond (nat_eq q p) (Var 1) (Var 0)
 
 marks_other : (p q : ℕ) → (q ≡ p → ⊥) → marks p (Var q) ≡ Var 0
 marks_other p q h = cond-false (nat_eq q p) (Var 1) (Var 0) (ne_eqb q p h)
-
-same_var : (m n : ℕ) → Var m ≡ Var n → m ≡ n
-same_var m n h = cc
 
 marked : (p : ℕ) (x : Sym) → marks p x ≡ Var 1 → x ≡ Var p
 marked p (Const c) h = absurd (let e = same_var 0 1 h in omega arith)
@@ -68,10 +66,6 @@ own_name schema os d name limit p naming below l =
 
 -- ---- so the named rows are those of the tableau
 
-map_same : {X Y : Type 0} (f g : X → Y) (xs : List X) → ((x : X) → f x ≡ g x) → map f xs ≡ map g xs
-map_same f g [] h = refl
-map_same f g (x ∷ xs) h = let i = map_same f g xs h in let j = h x in cc
-
 module _ (schema : SchemaValue) (name : Sym → Sym) (limit : ℕ) (own_names : (p : ℕ) → limit ≤ p → name (Var p) ≡ Var p) where
   cell_named : (own : ℕ) (o : Origin) (a : ℕ) → limit ≤ own → name (cell_of schema itself own o a) ≡ cell_of schema name own o a
   cell_named own o a h =
@@ -82,8 +76,8 @@ module _ (schema : SchemaValue) (name : Sym → Sym) (limit : ℕ) (own_names : 
 
   row_named : (own : ℕ) (o : Origin) → limit ≤ own → map name (row_of schema itself own o) ≡ row_of schema name own o
   row_named own o h =
-      map_twice (cell_of schema itself own o) name (λ a. name (cell_of schema itself own o a)) (λ a. refl) (range_with_len 0 (width schema))
-      ∙ map_same (λ a. name (cell_of schema itself own o a)) (cell_of schema name own o) (range_with_len 0 (width schema)) (λ a. cell_named own o a h)
+      map-map_equal (cell_of schema itself own o) name (λ a. name (cell_of schema itself own o a)) (λ a. refl) (range_with_len 0 (width schema))
+      ∙ map-equal (λ a. name (cell_of schema itself own o a)) (cell_of schema name own o) (range_with_len 0 (width schema)) (λ a. cell_named own o a h)
 
   pub rows_named : (own : ℕ) (os : List Origin) → limit ≤ own → map (map name) (raw_rows schema own os) ≡ rows_of schema name own os
   rows_named own [] h = refl
@@ -141,7 +135,7 @@ module _ (schema : SchemaValue) (os : List Origin) (d : List Compared) (name : S
 
   row_kinds : (own r : ℕ) (o : Origin) → own ≡ r * width schema → map kind_by (row_of schema name own o) ≡ attribute_kinds schema
   row_kinds own r o e =
-      map_twice (cell_of schema name own o) kind_by (λ a. kind_by (cell_of schema name own o a)) (λ a. refl) (range_with_len 0 (width schema))
+      map-map_equal (cell_of schema name own o) kind_by (λ a. kind_by (cell_of schema name own o a)) (λ a. refl) (range_with_len 0 (width schema))
       ∙ sym (fill_by_all (λ a. kind_by (cell_of schema name own o a)) (attribute_kinds schema) (width schema) IntKind refl (λ a l. cell_kind own r a o e l))
 
   rows_kinds : (own r : ℕ) (os' : List Origin) → own ≡ r * width schema → AllByRecursion (λ row. map kind_by row ≡ attribute_kinds schema) (rows_of schema name own os')

@@ -5,6 +5,7 @@ use Rattle.std.proofs.lemmas.Bool.{lt-ltb, cases_lt}
 use Rattle.std.proofs.lemmas.List.Elements.{All-contains, Contains-get_or}
 use Rattle.su_base.specs.declared.values.Value.{Value}
 use Rattle.su_base.specs.declared.values.Value.TheVariants.{Text}
+use Rattle.su_base.proofs.Items.{Contains-map_source}
 use Rattle.su_where.specs.declared.operators.Op.TheVariants.{Equal}
 use Rattle.su_where.specs.declared.literals.Operand.{Operand}
 use Rattle.su_where.specs.declared.literals.Operand.TheVariants as operand
@@ -29,11 +30,10 @@ use Rattle.su_steps.specs.Terms.{tableau_of, HaveNone, HaveTableau}
 use Rattle.su_steps.specs.inside.Numbers.{IsNoted, AreNoted, equals, placed_of, class_name, AreClasses}
 use Rattle.su_steps.specs.inside.Heads.{IsSomeFalse, IsNoneFalse}
 use Rattle.su_steps.specs.inside.Ready.{IsReady, AreClosed, FitLiterals, FitOrigins, IsShown}
-use Rattle.su_steps.proofs.Lists.{of_map}
 use Rattle.su_steps.proofs.Cells.{pair_below}
-use Rattle.su_steps.proofs.Fitting.{width_is, within, no_place, place_at, place_in}
-use Rattle.su_steps.proofs.Noting.{clash_of}
-use Rattle.su_steps.proofs.Placing.{equals_from, AreNumbered, placed_below, names, clash_class, no_clash}
+use Rattle.su_steps.proofs.ResolvedQueries.{width_is, within, no_place, place_at, place_in}
+use Rattle.su_steps.proofs.ConstantNames.{clash_of}
+use Rattle.su_steps.proofs.ItemLabels.{equals_from, AreNumbered, placed_below, names, clash_class, no_clash}
 use Rattle.su_steps.proofs.Valid.{Stands, tableau_valid}
 
 -- ---- the classes after they are closed
@@ -65,7 +65,7 @@ module _ (schema : SchemaValue) (q : Resolved) (resolved : IsResolved schema q) 
   -- the sides of equalities have numbers
   pub sides_known : (vs : List Value) → All (AreNoted vs) ls → (c : Compared) → Contains (comparisons n q.places ls) c → c.op ≡ Equal → (is_known vs limit c.left ≡ true) × (is_known vs limit c.right ≡ true)
   sides_known vs noted c has e =
-      let w = of_map (compared n q.places) ls c has in
+      let w = Contains-map_source (compared n q.places) ls c has in
       let l = w.0 in
       let p = All-contains (HasPlacesBelow (length q.places)) ls l fits.places w.1 in
       let k : l.op ≡ Equal → IsNoted vs l.left × IsNoted vs l.right = All-contains (AreNoted vs) ls l noted w.1 in
@@ -96,7 +96,7 @@ module _ (schema : SchemaValue) (q : Resolved) (resolved : IsResolved schema q) 
 
     pub sides_stand : (c : Compared) → Contains (comparisons n q.places ls) c → Stands schema os c.left × Stands schema os c.right
     sides_stand c has =
-        let w = of_map (compared n q.places) ls c has in
+        let w = Contains-map_source (compared n q.places) ls c has in
         let p = All-contains (HasPlacesBelow (length q.places)) ls w.0 fits.places w.1 in
         subst (λ (c : Compared). Stands schema os c.left × Stands schema os c.right) w.2 (operand_stands w.0.left p.0, operand_stands w.0.right p.1)
 

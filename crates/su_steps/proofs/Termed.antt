@@ -15,7 +15,7 @@ use Rattle.su_steps.specs.Classes.{comparisons}
 use Rattle.su_steps.specs.Terms.{case_of, HaveNone, HaveTableau, GivesNone, Gives}
 use Rattle.su_steps.specs.Refusals.{row_count}
 use Rattle.su_steps.specs.inside.Ready.{FitOrigins, IsShown, IsChoice}
-use Rattle.su_steps.proofs.Casing.{fit_origins, shown_rows}
+use Rattle.su_steps.proofs.Cases.{fit_origins, shown_rows}
 
 module _ (schema : SchemaValue) (maximal : List (FinSet nat_cmp)) (q : Resolved) (choice : List ℕ) (os : List Origin) (is : os ≡ origins_of schema maximal choice) where
   pub fit_rows : IsChoice schema maximal q choice → row_count schema maximal choice ≤ 64 → FitOrigins schema q os

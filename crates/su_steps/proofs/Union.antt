@@ -10,12 +10,13 @@ use Rattle.std.proofs.lemmas.List.Elements.{All-contains, Contains-get_or}
 use Rattle.std.proofs.lemmas.List.Folds.{Any-from_list_any, list_any_at}
 use Rattle.su_base.specs.declared.values.Value.{Value}
 use Rattle.su_base.specs.declared.values.Value.TheVariants.{Int}
+use Rattle.su_base.proofs.Items.{Contains-later, Contains-cases, Contains-nil, Contains-map, Contains-map_source, Contains-flat_map, Contains-flat_map_source, map-map_equal}
 use Rattle.su_where.specs.declared.literals.Operand.{Operand}
 use Rattle.su_where.specs.declared.literals.Operand.TheVariants as operand
 use Rattle.su_where.specs.declared.literals.Literal.{Literal}
 use Rattle.su_where.specs.Operator.{compares}
 use Rattle.su_where.specs.Truth as truth
-use Rattle.su_where.specs.Truth.{IsBelow, HasPlacesBelow, truth_of}
+use Rattle.su_where.specs.Truth.{IsBelow, HasPlacesBelow}
 use Rattle.su_where.specs.Disjunct.{disjuncts_of, all_hold}
 use Rattle.su_where.proofs.Keeps.{keeps_truth}
 use Rattle.su_tableau.specs.declared.symbols.Sym.{Sym}
@@ -33,15 +34,15 @@ use Rattle.su_steps.specs.Choices.{choices, chosen_objects, origins_of}
 use Rattle.su_steps.specs.Classes.{Compared, place_symbol, operand_symbol, comparisons}
 use Rattle.su_steps.specs.Terms.{left_over, sides, rows_of, tableau_of, HaveTableau, Case, case_of, cases, comparisons_of, GivesNone, Gives, AreTermsOf, AreTerms, InUnion}
 use Rattle.su_steps.specs.inside.Ready.{IsChoice}
-use Rattle.su_steps.proofs.Lists.{contains_cases, contains_later, contains_none, contains_flat, of_flat, contains_map, of_map, map_twice, all_at, all_by}
+use Rattle.su_steps.proofs.Lists.{all_at, all_by}
 use Rattle.su_steps.proofs.Cells.{raw_rows}
 use Rattle.su_steps.proofs.Raw.{AreWithin, AllTrue, pair_value, InLists, RawAnswer}
-use Rattle.su_steps.proofs.Giving.{choice_law, pair_at}
-use Rattle.su_steps.proofs.Naming.{CutBy, NamedAnswer, to_named, not_contradictory, from_named}
+use Rattle.su_steps.proofs.Valuations.{choice_law, pair_at}
+use Rattle.su_steps.proofs.ClassNames.{CutBy, NamedAnswer, to_named, not_contradictory, from_named}
 use Rattle.su_steps.proofs.Cuts.{to_cut, from_cut}
 use Rattle.su_steps.proofs.Shape.{own_name, rows_named, tableau_typed}
 use Rattle.su_steps.proofs.Valid.{head_length}
-use Rattle.su_steps.proofs.Fitting.{of_range, in_range, in_objects, of_objects, no_place, place_at, place_in, literals_fit, one_kind}
+use Rattle.su_steps.proofs.ResolvedQueries.{of_range, in_range, in_objects, of_objects, no_place, place_at, place_in, literals_fit, one_kind}
 use Rattle.su_steps.proofs.Chosen.{pick, choice_of, of_choice, objects_count, objects_at, shown, pairs_below}
 
 module _ (schema : SchemaValue) (maximal : List (FinSet nat_cmp)) (q : Resolved) (resolved : IsResolved schema q) (fit : AreWithin schema) where
@@ -58,8 +59,8 @@ module _ (schema : SchemaValue) (maximal : List (FinSet nat_cmp)) (q : Resolved)
 
   pub of_cases : (case : Case) → Contains (cases schema maximal q) case → IsCase case
   of_cases case has =
-      let w = of_flat (λ i. map (case_of i) (choices schema maximal q)) (range_with_len 0 (length (disjuncts_of q.cond))) case has in
-      let u = of_map (case_of w.0) (choices schema maximal q) case w.2 in
+      let w = Contains-flat_map_source (λ i. map (case_of i) (choices schema maximal q)) (range_with_len 0 (length (disjuncts_of q.cond))) case has in
+      let u = Contains-map_source (case_of w.0) (choices schema maximal q) case w.2 in
       let count : ℕ = length (disjuncts_of q.cond) in
       let low : w.0 < 0 + count = (of_range 0 count w.0 w.1).1 in
       let in' : w.0 < count = omega arith in
@@ -67,8 +68,8 @@ module _ (schema : SchemaValue) (maximal : List (FinSet nat_cmp)) (q : Resolved)
 
   in_cases : (i : ℕ) (choice : List ℕ) → i < length (disjuncts_of q.cond) → IsChoice schema maximal q choice → Contains (cases schema maximal q) (case_of i choice)
   in_cases i choice l r =
-      contains_flat (λ i. map (case_of i) (choices schema maximal q)) (range_with_len 0 (length (disjuncts_of q.cond))) i (case_of i choice) (in_range 0 (length (disjuncts_of q.cond)) i i (omega arith) l)
-      (contains_map (case_of i) (choices schema maximal q) choice (of_choice schema maximal q choice r))
+      Contains-flat_map (λ i. map (case_of i) (choices schema maximal q)) (range_with_len 0 (length (disjuncts_of q.cond))) i (case_of i choice) (in_range 0 (length (disjuncts_of q.cond)) i i (omega arith) l)
+      (Contains-map (case_of i) (choices schema maximal q) choice (of_choice schema maximal q choice r))
 
   -- ---- one case
 
@@ -93,7 +94,7 @@ module _ (schema : SchemaValue) (maximal : List (FinSet nat_cmp)) (q : Resolved)
           (length q.variables * n) (origins_of schema maximal case.choice) (omega arith)
 
       outputs_are : map has.name outputs ≡ map (λ i. has.name (place_symbol n q.places i)) q.outputs
-      outputs_are = map_twice (place_symbol n q.places) has.name (λ i. has.name (place_symbol n q.places i)) (λ i. refl) q.outputs
+      outputs_are = map-map_equal (place_symbol n q.places) has.name (λ i. has.name (place_symbol n q.places i)) (λ i. refl) q.outputs
 
       abbrev Named : Type 0
       Named = NamedAnswer schema universe (chosen_objects schema maximal case.choice) outputs d has.name h
@@ -127,34 +128,34 @@ module _ (schema : SchemaValue) (maximal : List (FinSet nat_cmp)) (q : Resolved)
     -- ---- the union over the cases
 
     in_more : (t : Term) (rest ts : List Term) → ts ≡ t ∷ rest → InUnion rest universe h → InUnion ts universe h
-    in_more t rest ts e u = (u.0, subst (λ xs. Contains xs u.0) (sym e) (contains_later t rest u.0 u.1), u.2)
+    in_more t rest ts e u = (u.0, subst (λ xs. Contains xs u.0) (sym e) (Contains-later t rest u.0 u.1), u.2)
 
     union_to : Meets schema.fds universe → (cs : List Case) (ts : List Term) → AllByRecursion IsCase cs → AreTermsOf schema maximal q cs ts → (c : Case) → Contains cs c → RawOf c → InUnion ts universe h
-    union_to meets [] ts are terms c has r = absurd (contains_none c has)
+    union_to meets [] ts are terms c has r = absurd (Contains-nil c has)
     union_to meets (x ∷ xs) ts are terms c has r =
         ⊎_elim
         (λ (none : GivesNone schema maximal q x × AreTermsOf schema maximal q xs ts).
         ⊎_elim
         (λ (e : x ≡ c). absurd (not_contradictory schema universe (chosen_objects schema maximal x.choice) outputs (comparisons_of schema q x.disjunct) none.0.name none.0.naming h meets fit (subst RawOf (sym e) r) none.0.contradictory))
         (λ (later : Contains xs c). union_to meets xs ts are.1 none.1 c later r)
-        (contains_cases x xs c has))
+        (Contains-cases x xs c has))
         (λ (some : (t : Term) × (rest : List Term) × (ts ≡ t ∷ rest) × Gives schema maximal q x t × AreTermsOf schema maximal q xs rest).
         ⊎_elim
         (λ (e : x ≡ c). (some.0, subst (λ us. Contains us some.0) (sym some.2) (0, omega arith, refl), case_to x are.0 some.0.tableau some.3.tableau meets (subst RawOf (sym e) r)))
         (λ (later : Contains xs c). in_more some.0 some.1 ts some.2 (union_to meets xs some.1 are.1 some.4 c later r))
-        (contains_cases x xs c has))
+        (Contains-cases x xs c has))
         terms
 
     union_from : (cs : List Case) (ts : List Term) → AllByRecursion IsCase cs → AreTermsOf schema maximal q cs ts → InUnion ts universe h → (c : Case) × Contains cs c × RawOf c
-    union_from [] ts are terms u = absurd (contains_none u.0 (subst (λ xs. Contains xs u.0) terms u.1))
+    union_from [] ts are terms u = absurd (Contains-nil u.0 (subst (λ xs. Contains xs u.0) terms u.1))
     union_from (x ∷ xs) ts are terms u =
         ⊎_elim
-        (λ (none : GivesNone schema maximal q x × AreTermsOf schema maximal q xs ts). let w = union_from xs ts are.1 none.1 u in (w.0, contains_later x xs w.0 w.1, w.2))
+        (λ (none : GivesNone schema maximal q x × AreTermsOf schema maximal q xs ts). let w = union_from xs ts are.1 none.1 u in (w.0, Contains-later x xs w.0 w.1, w.2))
         (λ (some : (t : Term) × (rest : List Term) × (ts ≡ t ∷ rest) × Gives schema maximal q x t × AreTermsOf schema maximal q xs rest).
         ⊎_elim
         (λ (e : some.0 ≡ u.0). (x, (0, omega arith, refl), case_from x are.0 some.0.tableau some.3.tableau (subst (λ (t : Term). CutOf t.tableau) (sym e) u.2)))
-        (λ (later : Contains some.1 u.0). let w = union_from xs some.1 are.1 some.4 (u.0, later, u.2) in (w.0, contains_later x xs w.0 w.1, w.2))
-        (contains_cases some.0 some.1 u.0 (subst (λ us. Contains us u.0) some.2 u.1)))
+        (λ (later : Contains some.1 u.0). let w = union_from xs some.1 are.1 some.4 (u.0, later, u.2) in (w.0, Contains-later x xs w.0 w.1, w.2))
+        (Contains-cases some.0 some.1 u.0 (subst (λ us. Contains us u.0) some.2 u.1)))
         terms
 
     all_cases : AllByRecursion IsCase (cases schema maximal q)

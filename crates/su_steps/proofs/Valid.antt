@@ -6,6 +6,7 @@ use Rattle.std.proofs.lemmas.Bool.{cond-true}
 use Rattle.std.proofs.lemmas.List.{length-map, length-append, get_or_default}
 use Rattle.std.proofs.lemmas.List.Elements.{Contains-append_cases, All-from_recursion}
 use Rattle.std.proofs.lemmas.List.FromFn.{length-map-range_with_len}
+use Rattle.su_base.proofs.Items.{Contains-later, Contains-cases, Contains-map_source, get_or-map_range}
 use Rattle.su_tableau.specs.declared.symbols.Sym.{Sym}
 use Rattle.su_tableau.specs.declared.symbols.Sym.TheVariants.{Const, Var}
 use Rattle.su_tableau.specs.Tableaux.{Occurs, IsValid}
@@ -15,7 +16,6 @@ use Rattle.su_steps.specs.declared.results.Origin.{Origin}
 use Rattle.su_steps.specs.Objects.{width, attributes_at}
 use Rattle.su_steps.specs.Classes.{Compared, pair, place_symbol, IsNaming}
 use Rattle.su_steps.specs.Terms.{is_evaluated, left_over, sides, cell_of, row_of, rows_of, tableau_of}
-use Rattle.su_steps.proofs.Lists.{contains_cases, of_map, contains_later, made_at}
 use Rattle.su_steps.proofs.Raw.{AreWithin}
 
 -- ---- lengths
@@ -46,7 +46,7 @@ abbrev pub IsSide : List Compared → Sym → Type 0
 IsSide d x = (c : Compared) × Contains d c × ((c.left ≡ x) ⊎ (c.right ≡ x))
 
 later_side : (name : Sym → Sym) (c : Compared) (cs : List Compared) (y : Sym) → (x : Sym) × IsSide cs x × (name x ≡ y) → (x : Sym) × IsSide (c ∷ cs) x × (name x ≡ y)
-later_side name c cs y w = (w.0, (w.1.0, contains_later c cs w.1.0 w.1.1, w.1.2), w.2)
+later_side name c cs y w = (w.0, (w.1.0, Contains-later c cs w.1.0 w.1.1, w.1.2), w.2)
 
 pub of_sides : (name : Sym → Sym) (d : List Compared) (y : Sym) → Contains (sides (left_over name d)) y → (x : Sym) × IsSide d x × (name x ≡ y)
 of_sides name [] y h = absurd (let l = h.1 in omega arith)
@@ -60,8 +60,8 @@ of_sides name (c ∷ cs) y h =
           ⊎_elim
           (λ (e : name c.right ≡ y). (c.right, (c, (0, omega arith, refl), inr refl), e))
           (λ (q : Contains (sides (left_over name cs)) y). later_side name c cs y (of_sides name cs y q))
-          (contains_cases (name c.right) (sides (left_over name cs)) y r))
-          (contains_cases (name c.left) (name c.right ∷ sides (left_over name cs)) y k)
+          (Contains-cases (name c.right) (sides (left_over name cs)) y r))
+          (Contains-cases (name c.left) (name c.right ∷ sides (left_over name cs)) y k)
     ] h
 
 has_row : (schema : SchemaValue) (name : Sym → Sym) (own : ℕ) (os : List Origin) (o : Origin) → Contains os o → (first : ℕ) × Contains (rows_of schema name own os) (row_of schema name first o)
@@ -69,14 +69,14 @@ has_row schema name own [] o c = absurd (let l = c.1 in omega arith)
 has_row schema name own (q ∷ os) o c =
     ⊎_elim
     (λ (e : q ≡ o). (own, (0, omega arith, ap (row_of schema name own) e)))
-    (λ (r : Contains os o). let w = has_row schema name (own + width schema) os o r in (w.0, contains_later (row_of schema name own q) (rows_of schema name (own + width schema) os) (row_of schema name w.0 o) w.1))
-    (contains_cases q os o c)
+    (λ (r : Contains os o). let w = has_row schema name (own + width schema) os o r in (w.0, Contains-later (row_of schema name own q) (rows_of schema name (own + width schema) os) (row_of schema name w.0 o) w.1))
+    (Contains-cases q os o c)
 
 has_cell : (schema : SchemaValue) (name : Sym → Sym) (first : ℕ) (o : Origin) (a : ℕ) → a < width schema → contains (attributes_at schema o.object) a ≡ true → Contains (row_of schema name first o) (name (Var (pair (width schema) o.variable a)))
 has_cell schema name first o a l h =
     let x = name (Var (pair (width schema) o.variable a)) in
     let s = length-map-range_with_len (cell_of schema name first o) 0 (width schema) in
-    (a, omega arith, made_at (cell_of schema name first o) (width schema) a x l ∙ cond-true (contains (attributes_at schema o.object) a) x (Var (first + a)) h)
+    (a, omega arith, get_or-map_range (cell_of schema name first o) (width schema) a x l ∙ cond-true (contains (attributes_at schema o.object) a) x (Var (first + a)) h)
 
 -- the pair's symbol stands in the row of some origin
 pub record StandsIn (schema : SchemaValue) (os : List Origin) (k : ℕ) : Type 0 where
@@ -119,7 +119,7 @@ module _ (schema : SchemaValue) (q : Resolved) (os : List Origin) (d : List Comp
   head_occurs : (k : ℕ) → Contains (output_names ++ sides (left_over name d)) (Var k) → Occurs rows k
   head_occurs k has =
       ⊎_elim
-      (λ (l : Contains output_names (Var k)). let w = of_map (λ i. name (place_symbol (width schema) q.places i)) q.outputs (Var k) l in occurs (place_symbol (width schema) q.places w.0) k (outputs w.0 w.1) w.2)
+      (λ (l : Contains output_names (Var k)). let w = Contains-map_source (λ i. name (place_symbol (width schema) q.places i)) q.outputs (Var k) l in occurs (place_symbol (width schema) q.places w.0) k (outputs w.0 w.1) w.2)
       (λ (r : Contains (sides (left_over name d)) (Var k)). let w = of_sides name d (Var k) r in occurs w.0 k (side_stands w.0 w.1) w.2)
       (Contains-append_cases output_names (sides (left_over name d)) (Var k) has)
 

@@ -15,8 +15,8 @@ use Rattle.su_steps.specs.declared.results.Term.{Term}
 use Rattle.su_steps.specs.Choices.{origins_of}
 use Rattle.su_steps.specs.Terms.{Case, cases, comparisons_of, GivesNone, Gives, AreTermsOf, AreTerms}
 use Rattle.su_steps.proofs.Lists.{all_by}
-use Rattle.su_steps.proofs.Fitting.{within, literals_fit}
-use Rattle.su_steps.proofs.Casing.{shown_rows}
+use Rattle.su_steps.proofs.ResolvedQueries.{within, literals_fit}
+use Rattle.su_steps.proofs.Cases.{shown_rows}
 use Rattle.su_steps.proofs.Tabled.{outputs_stand, sides_stand}
 use Rattle.su_steps.proofs.Union.{IsCase, of_cases}
 use Rattle.su_steps.proofs.Valid.{tableau_valid}

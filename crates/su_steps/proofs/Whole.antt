@@ -13,7 +13,7 @@ use Rattle.su_steps.specs.declared.results.Term.{Term}
 use Rattle.su_steps.specs.Expression.{cuts, Meets, InExpression}
 use Rattle.su_steps.specs.Terms.{cases, AreTerms, InUnion}
 use Rattle.su_steps.proofs.Lists.{all_by}
-use Rattle.su_steps.proofs.Fitting.{within}
+use Rattle.su_steps.proofs.ResolvedQueries.{within}
 use Rattle.su_steps.proofs.Union.{IsCase, of_cases, union_law, typed_of}
 
 module _ (schema : SchemaValue) (maximal : List (FinSet nat_cmp)) (q : Resolved) (valid : IsValid schema) (resolved : IsResolved schema q) (ts : List Term) (terms : AreTerms schema maximal q ts) where

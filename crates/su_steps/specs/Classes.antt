@@ -18,7 +18,8 @@ use Rattle.su_classes.specs.Naming as naming
 use Rattle.su_schema.specs.SchemaValue.{SchemaValue}
 use Rattle.su_query.specs.declared.places.Place.{Place}
 use Rattle.su_steps.specs.declared.results.Origin.{Origin}
-use Rattle.su_steps.specs.Objects.{width, LiesIn}
+use Rattle.su_fd.specs.Meeting.{LiesIn}
+use Rattle.su_steps.specs.Objects.{width, attributes_at}
 
 -- a comparison of two symbols
 pub record Compared : Type 0 where
@@ -54,7 +55,7 @@ SameLabels n label s v w = (a : ℕ) → IsTrue (contains s a) → label (Var (p
 -- labels that give both sides of each equality one label, and keep each dependency on the rows of objects in which it lies
 pub record IsClosed (schema : SchemaValue) (os : List Origin) (d : List Compared) (label : Sym → Sym) : Type 0 where
   pub equalities : (c : Compared) → Contains d c → c.op ≡ Equal → label c.left ≡ label c.right
-  pub dependencies : (f : Fd) (o p : Origin) → Contains schema.fds f → Contains os o → Contains os p → LiesIn schema f o.object → LiesIn schema f p.object
+  pub dependencies : (f : Fd) (o p : Origin) → Contains schema.fds f → Contains os o → Contains os p → LiesIn f (attributes_at schema o.object) → LiesIn f (attributes_at schema p.object)
       → SameLabels (width schema) label f.left o.variable p.variable → SameLabels (width schema) label f.right o.variable p.variable
 
 -- every closed partition puts x and y together

@@ -20,7 +20,8 @@ mod objects;
 mod results;
 mod rows;
 mod sourcing;
+
 pub use faults::{StepFault, StepLimit};
 pub use making::terms;
 pub use results::{Origin, Term};
-pub use sourcing::{sources, sources_within};
+pub use sourcing::{all_sources, sources, sources_within};

@@ -32,7 +32,7 @@ fn add_attribute(
     Ok(add(schema, &Definition::Attribute { name, kind }))
 }
 
-// A relation of the same name with the attributes as columns, and the object over it.
+/// A relation of the same name with the attributes as columns, and the object over it.
 fn add_object(
     alloc: Global,
     schema: &mut Schema,
@@ -87,7 +87,7 @@ fn add_fds(alloc: Global, schema: &mut Schema, fds: &[(&str, &str)]) -> Result<(
     Ok(())
 }
 
-// Banks with accounts and loans of customers.
+/// Banks with accounts and loans of customers.
 fn bank(alloc: Global) -> Result<Schema, NoMemory> {
     let mut schema = Schema::new(alloc);
     let bank = ("BANK", Kind::Text);
@@ -133,7 +133,7 @@ fn objects(members: &[u8]) -> ObjSet {
     all
 }
 
-// The terms over the maximal objects of accounts and of loans.
+/// The terms over the maximal objects of accounts and of loans.
 fn bank_terms(alloc: Global, schema: &Schema, resolved: &Resolved) -> Result<List<Term>, StepFault>
     requires { IsResolved schema.now resolved.now }
 {
@@ -153,7 +153,7 @@ fn query(alloc: Global, schema: &Schema, text: &str) -> Result<Option<Resolved>,
     }
 }
 
-// The query, or a failure where the text is none over the schema.
+/// The query, or a failure where the text is none over the schema.
 fn asked(alloc: Global, schema: &Schema, text: &str) -> Result<Resolved, Fail>
     ensures { IfOk result (IsResolved schema.now) }
 {
@@ -163,7 +163,7 @@ fn asked(alloc: Global, schema: &Schema, text: &str) -> Result<Resolved, Fail>
     }
 }
 
-// How many rows each term has.
+/// How many rows each term has.
 fn row_counts(alloc: Global, terms: &[Term]) -> Result<List<usize>, NoMemory> {
     let mut rows = List::new(alloc);
     for term in terms {
@@ -172,7 +172,7 @@ fn row_counts(alloc: Global, terms: &[Term]) -> Result<List<usize>, NoMemory> {
     Ok(rows)
 }
 
-// How many rows each term of a query of banks has.
+/// How many rows each term of a query of banks has.
 fn counts(
     alloc: Global,
     schema: &Schema,
@@ -185,7 +185,7 @@ fn counts(
     }
 }
 
-// Whether the query has so many terms, each with so many rows.
+/// Whether the query has so many terms, each with so many rows.
 fn has_terms(
     alloc: Global,
     schema: &Schema,
@@ -199,7 +199,7 @@ fn has_terms(
     }
 }
 
-// Whether each text has its number of terms, and each of these its number of rows.
+/// Whether each text has its number of terms, and each of these its number of rows.
 fn have_terms(
     alloc: Global,
     schema: &Schema,
@@ -250,7 +250,7 @@ fn each_choice_of_each_disjunct_gives_a_term_unless_it_is_contradictory(
     Ok(())
 }
 
-// What a query of banks is answered, in words.
+/// What a query of banks is answered, in words.
 fn answer(alloc: Global, schema: &Schema, text: &str) -> Result<&'static str, Fail> {
     match counts(alloc, schema, text)? {
         Ok(found) => {
@@ -263,7 +263,7 @@ fn answer(alloc: Global, schema: &Schema, text: &str) -> Result<&'static str, Fa
     }
 }
 
-// Of the variables, the blank one and q are told by their names.
+/// Of the variables, the blank one and q are told by their names.
 fn told(fault: &StepFault) -> &'static str {
     match fault {
         StepFault::NotCovered {
@@ -292,7 +292,7 @@ fn limit_word(limit: StepLimit) -> &'static str {
     }
 }
 
-// Seven times over, one of two constants.
+/// Seven times over, one of two constants.
 const DISJUNCTS: &str = "retrieve (CUST) where (CUST = 'a' or CUST = 'b') \
     and (CUST = 'a' or CUST = 'b') and (CUST = 'a' or CUST = 'b') and (CUST = 'a' or CUST = 'b') \
     and (CUST = 'a' or CUST = 'b') and (CUST = 'a' or CUST = 'b') and (CUST = 'a' or CUST = 'b')";
@@ -327,7 +327,7 @@ fn a_query_is_refused_for_its_first_cause(rt: HostRuntime) -> Result<(), Fail> {
     Ok(())
 }
 
-// Nine objects, each of the one attribute A.
+/// Nine objects, each of the one attribute A.
 fn nine(alloc: Global) -> Result<Schema, NoMemory> {
     let mut schema = Schema::new(alloc);
     add_attribute(alloc, &mut schema, "A", Kind::Int)?;
@@ -337,7 +337,7 @@ fn nine(alloc: Global) -> Result<Schema, NoMemory> {
     Ok(schema)
 }
 
-// What the query is answered where all nine objects are one maximal object.
+/// What the query is answered where all nine objects are one maximal object.
 fn answer_of_nine(alloc: Global, text: &str) -> Result<&'static str, Fail> {
     let schema = nine(alloc)?;
     let resolved = asked(alloc, &schema, text)?;
@@ -358,7 +358,7 @@ fn a_term_has_at_most_64_rows(rt: HostRuntime) -> Result<(), Fail> {
     Ok(())
 }
 
-// The tableau of the first term.
+/// The tableau of the first term.
 fn first_tableau(alloc: Global, schema: &Schema, text: &str) -> Result<Option<Tableau>, NoMemory> {
     let resolved = match query(alloc, schema, text)? {
         Some(resolved) => resolved,
@@ -373,7 +373,7 @@ fn first_tableau(alloc: Global, schema: &Schema, text: &str) -> Result<Option<Ta
     }
 }
 
-// The number of a variable, and 99 for a constant.
+/// The number of a variable, and 99 for a constant.
 fn number(symbol: &Sym) -> u32 {
     match symbol {
         Sym::Var(k) => *k,

@@ -1,16 +1,16 @@
 -- The members that are read, object by object and row by row.
-use Rattle.std.proofs.Common.{◌≡◌, ◌↔◌, ◌⊎◌, ℕ, zero, suc, ◌+◌, ◌<◌, ◌≤◌, inl, inr, ⊎_elim, List, [], ◌∷◌, ◌++◌, map, take, length, get_or, Contains, Some, None, refl, sym, ap, ◌∙◌, subst, arith}
+use Rattle.std.proofs.Common.{◌≡◌, ◌↔◌, ◌⊎◌, ℕ, ◌+◌, ◌<◌, ◌≤◌, inl, inr, ⊎_elim, List, [], ◌∷◌, ◌++◌, map, take, length, get_or, Contains, Some, None, refl, sym, ap, ◌∙◌, subst, arith}
 use Rattle.std.specs.Prelude.{All, slice_get}
 use Rattle.std.proofs.lemmas.Bool.{cases_lt, cases_eq}
 use Rattle.std.proofs.lemmas.List.{length-map, map_push, map_more, length_push, get_or_append_left, get_or_push, get_or_default}
 use Rattle.std.proofs.lemmas.List.Elements.{Contains-append_left, Contains-append_right, Contains-append_cases, Contains-get_or}
 use Rattle.std.proofs.lemmas.Option.{slice_get_within}
 use Rattle.su_base.specs.declared.values.Value.{Value}
-use Rattle.su_classes.proofs.Listed.{contains_later, contains_none, contains_cases}
+use Rattle.su_base.proofs.Items.{Contains-cases, Contains-nil, Contains-map, Contains-map_source, Contains-take}
+use Rattle.std.proofs.Math.Seq.{take-length}
 use Rattle.su_state.specs.DatabaseValue.{DatabaseValue}
-use Rattle.su_chase.proofs.Reading.{contains_map, of_map}
 use Rattle.su_window.specs.declared.readings.Reading.{Reading}
-use Rattle.su_window.specs.Views.{taken, view_of, view_through}
+use Rattle.su_state.specs.Views.{taken, view_of, view_through}
 use Rattle.su_window.specs.Members.{Member, IsMember, AllDiffer, HasMany}
 use Rattle.su_window.specs.Padded.{object_at, rows_under, member_read, IsReading, AreReadings}
 use Rattle.su_window.specs.inside.Reading.{lists_before, IsBefore, AreSoFar}
@@ -32,22 +32,9 @@ of_pushed xs y x c =
     (λ (r : Contains (y ∷ []) x).
     ⊎_elim
     (λ (e : y ≡ x). inr (sym e))
-    (λ (no : Contains [] x). absurd (contains_none x no))
-    (contains_cases y [] x r))
+    (λ (no : Contains [] x). absurd (Contains-nil x no))
+    (Contains-cases y [] x r))
     (Contains-append_cases xs (y ∷ []) x c)
-
-of_taken : {X : Type 0} (p : ℕ) (xs : List X) (x : X) → Contains (take p xs) x → Contains xs x
-of_taken zero xs x c = absurd (contains_none x c)
-of_taken (suc p) [] x c = absurd (contains_none x c)
-of_taken (suc p) (y ∷ ys) x c =
-    ⊎_elim
-    (λ (e : y ≡ x). (0, omega arith, e))
-    (λ (r : Contains (take p ys) x). contains_later y ys x (of_taken p ys x r))
-    (contains_cases y (take p ys) x c)
-
-pub take_all : {X : Type 0} (xs : List X) → take (length xs) xs ≡ xs
-take_all [] = refl
-take_all (x ∷ xs) = ap (λ ys. x ∷ ys) (take_all xs)
 
 differ_more : (ms : List Member) (m : Member) → AllDiffer ms → ¬ Contains ms m → AllDiffer (ms ++ m ∷ [])
 differ_more ms m apart new i j d less low same =
@@ -70,17 +57,17 @@ view_is db o low = ap (view_through db) (placed_at db.schema o low)
 past : (db : DatabaseValue) (o : ℕ) → length db.schema.objects ≤ o → (x : List Value) → Contains (view_of db o) x → ⊥
 past db o high x c =
     elim (slice_get db.schema.objects o) as (λ e. slice_get db.schema.objects o ≡ e → Contains (view_through db e) x → ⊥) [
-      | None ↦ λ _ none. contains_none x none
+      | None ↦ λ _ none. Contains-nil x none
       | Some object ↦ λ at _. let l = slice_get_within db.schema.objects o object at in omega (arith, l, high)
     ] refl c
 
 before_member : (db : DatabaseValue) (o p : ℕ) → o ≤ length db.schema.objects → (o < length db.schema.objects) ⊎ (p ≡ 0) → (m : Member) → IsBefore db o p m → IsMember db m
 before_member db o p few some m (inl (less, c)) = subst (λ (xs : List (List Value)). Contains xs m.values) (sym (view_is db m.object (omega (arith, less, few)))) c
 before_member db o p few (inl low) m (inr (is, c)) =
-    let w = of_map (taken db.schema (object_at db.schema o)) (take p (rows_under db o)) m.values c in
-    let there : Contains (view_of db o) m.values = subst (λ (xs : List (List Value)). Contains xs m.values) (sym (view_is db o low)) (subst (Contains (map (taken db.schema (object_at db.schema o)) (rows_under db o))) w.2 (contains_map (taken db.schema (object_at db.schema o)) (rows_under db o) w.0 (of_taken p (rows_under db o) w.0 w.1))) in
+    let w = Contains-map_source (taken db.schema (object_at db.schema o)) (take p (rows_under db o)) m.values c in
+    let there : Contains (view_of db o) m.values = subst (λ (xs : List (List Value)). Contains xs m.values) (sym (view_is db o low)) (subst (Contains (map (taken db.schema (object_at db.schema o)) (rows_under db o))) w.2 (Contains-map (taken db.schema (object_at db.schema o)) (rows_under db o) w.0 (Contains-take p (rows_under db o) w.0 w.1))) in
     subst (λ (k : ℕ). Contains (view_of db k) m.values) (sym is) there
-before_member db o p few (inr none) m (inr (is, c)) = absurd (contains_none m.values (subst (λ (k : ℕ). Contains (lists_before db o k) m.values) none c))
+before_member db o p few (inr none) m (inr (is, c)) = absurd (Contains-nil m.values (subst (λ (k : ℕ). Contains (lists_before db o k) m.values) none c))
 
 -- ---- one row more
 
@@ -189,7 +176,7 @@ module _ (db : DatabaseValue) (o p : ℕ) (low : o < length db.schema.objects) (
 
 pub object_done : (db : DatabaseValue) (o p : ℕ) (readings : List Reading) → p ≡ length (rows_under db o) → AreSoFar db o p readings → AreSoFar db (o + 1) 0 readings
 object_done db o p readings whole so_far =
-    let all : lists_before db o p ≡ map (taken db.schema (object_at db.schema o)) (rows_under db o) = ap (λ (k : ℕ). lists_before db o k) whole ∙ ap (map (taken db.schema (object_at db.schema o))) (take_all (rows_under db o)) in
+    let all : lists_before db o p ≡ map (taken db.schema (object_at db.schema o)) (rows_under db o) = ap (λ (k : ℕ). lists_before db o k) whole ∙ ap (map (taken db.schema (object_at db.schema o))) (take-length (rows_under db o)) in
     record {
       each = so_far.each;
       exact = λ m. (
@@ -207,7 +194,7 @@ object_done db o p readings whole so_far =
               | inl is ↦ inr (is, subst (λ (xs : List (List Value)). Contains xs m.values) (sym all) (subst (λ (k : ℕ). Contains (map (taken db.schema (object_at db.schema k)) (rows_under db k)) m.values) is l.1))
               | inr apart ↦ let less = l.0 in inl (omega (arith, less, apart), l.1)
             ])
-            (λ (r : (m.object ≡ o + 1) × Contains (lists_before db (o + 1) 0) m.values). absurd (contains_none m.values r.1))
+            (λ (r : (m.object ≡ o + 1) × Contains (lists_before db (o + 1) 0) m.values). absurd (Contains-nil m.values r.1))
             b),
       );
       once = so_far.once;
@@ -219,11 +206,11 @@ none_read db readings none =
     (record {
       each = λ i d l. absurd (omega (arith, l));
       exact = λ m. (
-        λ c. absurd (contains_none m c),
+        λ c. absurd (Contains-nil m c),
         λ b.
             ⊎_elim
             (λ (l : (m.object < 0) × Contains (map (taken db.schema (object_at db.schema m.object)) (rows_under db m.object)) m.values). let less = l.0 in absurd (omega (arith, less)))
-            (λ (r : (m.object ≡ 0) × Contains (lists_before db 0 0) m.values). absurd (contains_none m.values r.1))
+            (λ (r : (m.object ≡ 0) × Contains (lists_before db 0 0) m.values). absurd (Contains-nil m.values r.1))
             b,
       );
       once = λ i j d less l. absurd (omega (arith, l));

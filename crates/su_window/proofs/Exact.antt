@@ -2,9 +2,9 @@
 use Rattle.std.proofs.Common.{◌≡◌, ◌≢◌, ℕ, ◌<◌, ◌≤◌, ⊎_elim, List, length, get_or, sym, ap, ◌∙◌, arith}
 use Rattle.std.proofs.lemmas.Bool.{cases_lt}
 use Rattle.std.proofs.lemmas.List.{get_or_default}
+use Rattle.su_base.proofs.Numbers.{pigeonhole}
 use Rattle.su_state.specs.DatabaseValue.{DatabaseValue}
 use Rattle.su_window.specs.Members.{Member, HasFew, HasMany}
-use Rattle.su_window.proofs.Holes.{pigeonhole}
 
 module _ (db : DatabaseValue) (few : HasFew db) (many : HasMany db) where
   abbrev members : List Member

@@ -1,15 +1,12 @@
 pub mod Constants
 pub mod Counted
-pub mod Cutting
 pub mod Exact
-pub mod Fitting
-pub mod Holes
+pub mod FittingRelation
 pub mod Made
 pub mod Objects
 pub mod Picked
 pub mod RowRead
 pub mod Rows
 pub mod Seen
-pub mod Sorted
-pub mod Taking
+pub mod TakenValues
 pub mod Whole

@@ -1,31 +1,24 @@
 -- Lists that are made by a function of numbers.
-use Rattle.std.proofs.Common.{◌≡◌, ℕ, ◌+◌, ◌<◌, List, [], ◌∷◌, ◌++◌, map, length, get_or, Contains, sym, ap, ◌∙◌, subst, arith}
+use Rattle.std.proofs.Common.{◌≡◌, ℕ, ◌<◌, List, map, length, get_or, Contains, sym, ◌∙◌, subst, arith}
 use Rattle.std.specs.List.{range_with_len}
 use Rattle.std.proofs.lemmas.List.{ext_get_or}
-use Rattle.std.proofs.lemmas.List.FromFn.{get_or-map-range_with_len, map-range_with_len_more, length-map-range_with_len}
-
-pub made_at : {X : Type 0} (f : ℕ → X) (n a : ℕ) (d : X) → a < n → get_or (map f (range_with_len 0 n)) a d ≡ f a
-made_at f n a d h = get_or-map-range_with_len f 0 n a a d h (omega arith)
-
-pub made_more : {X : Type 0} (f : ℕ → X) (a : ℕ) (xs ys : List X) (x : X) → ys ≡ xs ++ x ∷ [] → xs ≡ map f (range_with_len 0 a) → x ≡ f a → ys ≡ map f (range_with_len 0 (a + 1))
-made_more f a xs ys x push made is =
-    let m = map-range_with_len_more f 0 a a (omega arith) in
-    push ∙ ap (λ z. z ++ x ∷ []) made ∙ ap (λ z. map f (range_with_len 0 a) ++ z ∷ []) is ∙ sym m
+use Rattle.std.proofs.lemmas.List.FromFn.{length-map-range_with_len}
+use Rattle.su_base.proofs.Items.{get_or-map_range}
 
 -- a list is made by a function that gives what stands at each place
 pub made_by : {X : Type 0} (f : ℕ → X) (n : ℕ) (d : X) (xs : List X) → length xs ≡ n → ((a : ℕ) → a < n → get_or xs a d ≡ f a) → xs ≡ map f (range_with_len 0 n)
 made_by f n d xs long at =
     let made_long = length-map-range_with_len f 0 n in
-    ext_get_or d xs (map f (range_with_len 0 n)) (long ∙ sym made_long) (λ a l. let low : a < n = omega (arith, l, long) in at a low ∙ sym (made_at f n a d low))
+    ext_get_or d xs (map f (range_with_len 0 n)) (long ∙ sym made_long) (λ a l. let low : a < n = omega (arith, l, long) in at a low ∙ sym (get_or-map_range f n a d low))
 
 pub same_made : {X : Type 0} (f g : ℕ → X) (n : ℕ) (d : X) → ((a : ℕ) → a < n → f a ≡ g a) → map f (range_with_len 0 n) ≡ map g (range_with_len 0 n)
-same_made f g n d same = made_by g n d (map f (range_with_len 0 n)) (length-map-range_with_len f 0 n) (λ a l. made_at f n a d l ∙ same a l)
+same_made f g n d same = made_by g n d (map f (range_with_len 0 n)) (length-map-range_with_len f 0 n) (λ a l. get_or-map_range f n a d l ∙ same a l)
 
 -- each member stands at some place
 pub of_made : {X : Type 0} (f : ℕ → X) (n : ℕ) (x : X) → Contains (map f (range_with_len 0 n)) x → (a : ℕ) × (a < n) × (f a ≡ x)
 of_made f n x c =
     let low : c.0 < n = subst (λ (k : ℕ). c.0 < k) (length-map-range_with_len f 0 n) c.1 in
-    (c.0, low, sym (made_at f n c.0 x low) ∙ c.2)
+    (c.0, low, sym (get_or-map_range f n c.0 x low) ∙ c.2)
 
 pub in_made : {X : Type 0} (f : ℕ → X) (n a : ℕ) → a < n → Contains (map f (range_with_len 0 n)) (f a)
-in_made f n a l = (a, subst (λ (k : ℕ). a < k) (sym (length-map-range_with_len f 0 n)) l, made_at f n a (f a) l)
+in_made f n a l = (a, subst (λ (k : ℕ). a < k) (sym (length-map-range_with_len f 0 n)) l, get_or-map_range f n a (f a) l)

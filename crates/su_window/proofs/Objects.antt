@@ -4,7 +4,7 @@ use Rattle.std.specs.Prelude.{find, option_map, option_and_then, unwrap_or, slic
 use Rattle.std.specs.List.{list_any}
 use Rattle.std.specs.FinSet.{contains, empty, contains-from_list_nat}
 use Rattle.std.proofs.lemmas.Bool.{eqb-true, cases_Bool}
-use Rattle.std.proofs.lemmas.List.{length-map}
+use Rattle.std.proofs.lemmas.List.{length-map, get_or-map}
 use Rattle.std.proofs.lemmas.List.Elements.{All-contains}
 use Rattle.std.proofs.lemmas.Option.{slice_get_within, slice_get-get_or, get_or_from_slice_get, none-some, unwrap_or-slice_get}
 use Rattle.std.proofs.lemmas.List.{get_or-map}
@@ -14,15 +14,15 @@ use Rattle.su_base.specs.declared.values.Column.{Column}
 use Rattle.su_base.specs.declared.values.Value.{Value}
 use Rattle.su_base.specs.declared.values.Value.TheVariants.{Int}
 use Rattle.su_base.specs.Value.{kind_of}
+use Rattle.su_base.proofs.Items.{Contains-later}
 use Rattle.su_schema.specs.declared.links.Link.{Link}
 use Rattle.su_schema.specs.SchemaValue.{SchemaValue, AttributeEntry, ObjectEntry, IsObject, IsLink, attribute_kinds, attributes_of, column_of}
 use Rattle.su_schema.specs.Checks.{columns_at}
 use Rattle.su_state.specs.DatabaseValue.{DatabaseValue, IsWellKept, IsTyped, columns_of}
 use Rattle.su_state.proofs.Columns.{column_within, column_of_attribute, object_on, relation_at}
-use Rattle.su_chase.proofs.Reading.{map_read, map_at}
-use Rattle.su_classes.proofs.Listed.{contains_later}
-use Rattle.su_window.specs.Cuts.{width, attributes_at}
-use Rattle.su_window.specs.Views.{value_for}
+use Rattle.su_chase.proofs.Images.{map_read}
+use Rattle.su_schema.specs.Cuts.{width, attributes_at}
+use Rattle.su_state.specs.Views.{value_for}
 use Rattle.su_window.specs.Padded.{object_at, rows_under}
 
 abbrev blank : ObjectEntry
@@ -46,7 +46,7 @@ link_at [] a c e = absurd (none-some c e)
 link_at (l ∷ links) a c e =
     elim (l.attribute == a) as (λ b. (l.attribute == a) ≡ b → option_map (λ l. l.column) (cond b (Some l) (find (λ l. l.attribute == a) links)) ≡ Some c → (k : Link) × Contains (l ∷ links) k × (k.attribute ≡ a) × (k.column ≡ c)) [
       | true ↦ λ t here. (l, (0, omega arith, refl), eqb-true l.attribute a t, (let s : Some l.column ≡ Some c = here in cc))
-      | false ↦ λ _ more. let w = link_at links a c more in (w.0, contains_later l links w.0 w.1, w.2, w.3)
+      | false ↦ λ _ more. let w = link_at links a c more in (w.0, Contains-later l links w.0 w.1, w.2, w.3)
     ] refl e
 
 -- an attribute that has a column is the object's
@@ -104,9 +104,9 @@ module _ (db : DatabaseValue) (kept : IsWellKept db) (o : ℕ) (low : o < length
       let left : kind_of (get_or row c (Int (pos 0))) ≡ get_or (map (λ (q : Column). q.kind) own.relation.columns) c IntKind =
       sym (map_read kind_of row c (Int (pos 0))) ∙ ap (λ (ks : List Kind). get_or ks c IntKind) (row_kinds row h ∙ ap (map (λ (q : Column). q.kind)) columns) in
       let middle : get_or (map (λ (q : Column). q.kind) own.relation.columns) c IntKind ≡ column.kind =
-      map_at (λ (q : Column). q.kind) own.relation.columns c column IntKind (slice_get_within own.relation.columns c column under) ∙ ap (λ (q : Column). q.kind) (get_or_from_slice_get own.relation.columns c column column under) in
+      get_or-map (λ (q : Column). q.kind) own.relation.columns c column IntKind (slice_get_within own.relation.columns c column under) ∙ ap (λ (q : Column). q.kind) (get_or_from_slice_get own.relation.columns c column column under) in
       let right : get_or (attribute_kinds db.schema) a IntKind ≡ attribute.kind =
-      map_at (λ (q : AttributeEntry). q.kind) db.schema.attributes a attribute IntKind (slice_get_within db.schema.attributes a attribute at) ∙ ap (λ (q : AttributeEntry). q.kind) (get_or_from_slice_get db.schema.attributes a attribute attribute at) in
+      get_or-map (λ (q : AttributeEntry). q.kind) db.schema.attributes a attribute IntKind (slice_get_within db.schema.attributes a attribute at) ∙ ap (λ (q : AttributeEntry). q.kind) (get_or_from_slice_get db.schema.attributes a attribute attribute at) in
       left ∙ middle ∙ sym link.4 ∙ sym right
 
   pub attribute_low : (a c : ℕ) → column_of object a ≡ Some c → a < width db.schema

@@ -12,6 +12,7 @@ use Rattle.su_base.specs.declared.values.Kind.{Kind}
 use Rattle.su_base.specs.declared.values.Value.{Value}
 use Rattle.su_base.specs.declared.values.Value.TheVariants.{Int}
 use Rattle.su_base.specs.Value.{kind_of}
+use Rattle.su_base.proofs.Items.{Contains-map, Contains-map_source, All-members, get_or-map_range}
 use Rattle.su_tableau.specs.declared.symbols.Sym.{Sym}
 use Rattle.su_tableau.specs.declared.symbols.Sym.TheVariants.{Const, Var}
 use Rattle.su_tableau.specs.Tableaux.{value_of, values_of, Sends}
@@ -20,19 +21,19 @@ use Rattle.su_classes.proofs.Listed.{map_same}
 use Rattle.su_schema.specs.SchemaValue.{ObjectEntry, attribute_kinds}
 use Rattle.su_state.specs.DatabaseValue.{DatabaseValue, IsWellKept}
 use Rattle.su_chase.specs.Chase.{IsName, IsClash}
-use Rattle.su_chase.specs.Meeting.{Agree}
+use Rattle.su_fd.specs.Meeting.{Agree}
 use Rattle.su_chase.specs.inside.Rows.{name_by}
-use Rattle.su_chase.proofs.Answering.{one_value}
-use Rattle.su_chase.proofs.Reading.{all_members, contains_map, of_map, map_read}
+use Rattle.su_chase.proofs.NamedAnswers.{one_value}
+use Rattle.su_chase.proofs.Images.{map_read}
 use Rattle.su_window.specs.declared.readings.Reading.{Reading}
-use Rattle.su_window.specs.Cuts.{width, attributes_at, cut}
-use Rattle.su_window.specs.Views.{value_for, taken}
+use Rattle.su_schema.specs.Cuts.{width, attributes_at, cut}
+use Rattle.su_state.specs.Views.{value_for, taken}
 use Rattle.su_window.specs.Window.{Fits, values_at}
 use Rattle.su_window.specs.Members.{IsMember}
 use Rattle.su_window.specs.Padded.{object_at, row_read, member_read, IsReading, AreReadings, padded, padded_row, padded_rows}
 use Rattle.su_window.specs.inside.Reading.{AreConstants}
-use Rattle.su_window.proofs.Cutting.{cut_agrees}
-use Rattle.su_window.proofs.Made.{made_at, made_by}
+use Rattle.su_schema.proofs.Cuts.{cut_agrees}
+use Rattle.su_window.proofs.Made.{made_by}
 use Rattle.su_window.proofs.Objects.{attributes_are}
 use Rattle.su_window.proofs.Rows.{none, reading_at, of_rows, row_length, constant_cell, variable_cell}
 
@@ -57,12 +58,12 @@ module _ (db : DatabaseValue) (kept : IsWellKept db) (readings : List Reading) (
       let object : ObjectEntry = object_at db.schema r.object in
       let x : List Value = taken db.schema object (row_read db r) in
       let spread : List Value = map (value_for object (row_read db r)) (range_with_len 0 n) in
-      let member : IsMember db (member_read db r) = (are.members.exact (member_read db r)).0 (contains_map (member_read db) readings r (Contains-get_or readings i none l)) in
-      let w = of_map (cut (attributes_at db.schema r.object)) universe x (fits.includes r.object x is.object member) in
+      let member : IsMember db (member_read db r) = (are.members.exact (member_read db r)).0 (Contains-map (member_read db) readings r (Contains-get_or readings i none l)) in
+      let w = Contains-map_source (cut (attributes_at db.schema r.object)) universe x (fits.includes r.object x is.object member) in
       let same : cut (attributes_at db.schema r.object) w.0 ≡ cut (attributes_at db.schema r.object) spread = w.2 ∙ ap (λ s. cut s spread) (sym (attributes_are db kept r.object is.object)) in
       let long : length w.0 ≡ length spread = universe_long w.0 w.1 ∙ sym (length-map-range_with_len (value_for object (row_read db r)) 0 n) in
       let agree : Agree (attributes_at db.schema r.object) w.0 spread = (cut_agrees (attributes_at db.schema r.object) w.0 spread long).0 same in
-      (w.0, w.1, λ a low own. agree a zero_value own ∙ made_at (value_for object (row_read db r)) n a zero_value low)
+      (w.0, w.1, λ a low own. agree a zero_value own ∙ get_or-map_range (value_for object (row_read db r)) n a zero_value low)
 
   -- a row for each number, which is a row of the universal relation where there is a reading
   abbrev Choice : ℕ → Type 0
@@ -108,7 +109,7 @@ module _ (db : DatabaseValue) (kept : IsWellKept db) (readings : List Reading) (
 
   pub sends : Sends valuation (padded_rows db readings) universe
   sends =
-      all_members (λ (row : List Sym). Contains universe (values_of valuation row)) (padded_rows db readings)
+      All-members (λ (row : List Sym). Contains universe (values_of valuation row)) (padded_rows db readings)
       (λ row c.
       let w = of_rows db readings row c in
       subst (λ (x : List Sym). Contains universe (values_of valuation x)) w.2 (subst (Contains universe) (sym (row_values w.0 w.1)) (chosen_in w.0 w.1)))

@@ -4,6 +4,7 @@ use Rattle.std.specs.Prelude.{IsTrue}
 use Rattle.std.proofs.lemmas.List.{get_or_default}
 use Rattle.std.proofs.lemmas.List.FromFn.{length-map-range_with_len}
 use Rattle.su_base.specs.declared.values.Value.{Value}
+use Rattle.su_base.proofs.Items.{get_or-map_range}
 use Rattle.su_schema.specs.SchemaValue.{SchemaValue}
 use Rattle.su_state.specs.DatabaseValue.{DatabaseValue, IsWellKept}
 use Rattle.su_window.specs.declared.faults.WindowFault.{WindowFault}
@@ -12,9 +13,8 @@ use Rattle.su_window.specs.declared.readings.Reading.{Reading}
 use Rattle.su_window.specs.Padded.{rows_under, row_read, member_read, IsReading}
 use Rattle.su_window.specs.inside.Reading.{columns_of, all_columns, AreColumnsBelow, values_in, lists_before, AreSoFar, Sees}
 use Rattle.su_window.specs.Refusals.{IsWindowRefusal}
-use Rattle.su_window.proofs.Made.{made_at}
 use Rattle.su_window.proofs.Rows.{read_in}
-use Rattle.su_window.proofs.Taking.{columns_below, values_taken}
+use Rattle.su_window.proofs.TakenValues.{columns_below, values_taken}
 use Rattle.su_window.proofs.Counted.{list_more, stays, grows, many}
 
 -- ---- the columns of one of the objects
@@ -23,7 +23,7 @@ pub columns_length : (schema : SchemaValue) (all : List (List (Option ℕ))) →
 columns_length schema all is = ap (λ (xs : List (List (Option ℕ))). length xs) is ∙ length-map-range_with_len (columns_of schema) 0 (length schema.objects)
 
 pub columns_at : (schema : SchemaValue) (o : ℕ) → o < length schema.objects → (all : List (List (Option ℕ))) → all ≡ all_columns schema → (columns : List (Option ℕ)) → columns ≡ get_or all o columns → columns ≡ columns_of schema o
-columns_at schema o low all is columns at = at ∙ ap (λ (xs : List (List (Option ℕ))). get_or xs o columns) is ∙ made_at (columns_of schema) (length schema.objects) o columns low
+columns_at schema o low all is columns at = at ∙ ap (λ (xs : List (List (Option ℕ))). get_or xs o columns) is ∙ get_or-map_range (columns_of schema) (length schema.objects) o columns low
 
 -- ---- the row that is read
 

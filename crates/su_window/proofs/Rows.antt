@@ -11,6 +11,7 @@ use Rattle.std.proofs.lemmas.Nat.{mod-mul-add}
 use Rattle.su_base.specs.declared.values.Kind.{Kind}
 use Rattle.su_base.specs.declared.values.Kind.TheVariants.{Int as IntKind}
 use Rattle.su_base.specs.Value.{kind_of}
+use Rattle.su_base.proofs.Items.{All-members, get_or-map_range}
 use Rattle.su_tableau.specs.declared.symbols.Sym.{Sym}
 use Rattle.su_tableau.specs.declared.symbols.Sym.TheVariants.{Const, Var}
 use Rattle.su_tableau.specs.Tableaux.{Tab}
@@ -20,12 +21,11 @@ use Rattle.su_schema.specs.SchemaValue.{AttributeEntry, IsDependency, attribute_
 use Rattle.su_state.specs.DatabaseValue.{DatabaseValue, IsWellKept}
 use Rattle.su_state.proofs.Columns.{column_of_attribute}
 use Rattle.su_chase.specs.Chased.{IsFdBelow, AreRows}
-use Rattle.su_chase.proofs.Reading.{all_members}
 use Rattle.su_window.specs.declared.readings.Reading.{Reading}
-use Rattle.su_window.specs.Cuts.{width, attributes_at}
-use Rattle.su_window.specs.Views.{value_for}
+use Rattle.su_schema.specs.Cuts.{width, attributes_at}
+use Rattle.su_state.specs.Views.{value_for}
 use Rattle.su_window.specs.Padded.{object_at, rows_under, row_read, IsReading, padded, padded_row, padded_rows}
-use Rattle.su_window.proofs.Made.{made_at, made_by, of_made, in_made}
+use Rattle.su_window.proofs.Made.{made_by, of_made, in_made}
 use Rattle.su_window.proofs.Objects.{attributes_are, value_is, kind_is}
 
 abbrev pub none : Reading
@@ -42,7 +42,7 @@ pub row_length : (db : DatabaseValue) (i : ℕ) (r : Reading) → length (padded
 row_length db i r = length-map-range_with_len (padded db i r) 0 (width db.schema)
 
 pub cell_is : (db : DatabaseValue) (i : ℕ) (r : Reading) (a : ℕ) (d : Sym) → a < width db.schema → get_or (padded_row db i r) a d ≡ padded db i r a
-cell_is db i r a d l = made_at (padded db i r) (width db.schema) a d l
+cell_is db i r a d l = get_or-map_range (padded db i r) (width db.schema) a d l
 
 pub constant_cell : (db : DatabaseValue) (i : ℕ) (r : Reading) (a : ℕ) → contains (attributes_at db.schema r.object) a ≡ true → padded db i r a ≡ Const (value_for (object_at db.schema r.object) (row_read db r) a)
 constant_cell db i r a t = cond-true (contains (attributes_at db.schema r.object) a) (Const (value_for (object_at db.schema r.object) (row_read db r) a)) (Var (i * width db.schema + a)) t
@@ -60,12 +60,12 @@ in_rows db readings i l = in_made (λ i. padded_row db i (reading_at readings i)
 
 pub rows_long : (db : DatabaseValue) (readings : List Reading) → All (λ row. length row ≡ width db.schema) (padded_rows db readings)
 rows_long db readings =
-    all_members (λ (row : List Sym). length row ≡ width db.schema) (padded_rows db readings)
+    All-members (λ (row : List Sym). length row ≡ width db.schema) (padded_rows db readings)
     (λ row c. let w = of_rows db readings row c in ap (λ (x : List Sym). length x) (sym w.2) ∙ row_length db w.0 (reading_at readings w.0))
 
 pub fds_below : (db : DatabaseValue) → IsWellKept db → All (IsFdBelow (width db.schema)) db.schema.fds
 fds_below db kept =
-    all_members (IsFdBelow (width db.schema)) db.schema.fds
+    All-members (IsFdBelow (width db.schema)) db.schema.fds
     (λ f c.
     let d : IsDependency db.schema f = All-contains (IsDependency db.schema) db.schema.fds f kept.valid.fds c in
     let n : length (attribute_kinds db.schema) ≡ length db.schema.attributes = length-map db.schema.attributes (λ (q : AttributeEntry). q.kind) in
@@ -113,6 +113,6 @@ module _ (db : DatabaseValue) (kept : IsWellKept db) where
     width = refl;
     var_kind = kind_at;
     fits =
-        all_members (λ (row : List Sym). map (sym_kind kind_at) row ≡ kinds) (padded_rows db readings)
+        All-members (λ (row : List Sym). map (sym_kind kind_at) row ≡ kinds) (padded_rows db readings)
         (λ row c. let w = of_rows db readings row c in ap (map (sym_kind kind_at)) (sym w.2) ∙ row_kinds w.0 (reading_at readings w.0) (each w.0 none w.1));
   }

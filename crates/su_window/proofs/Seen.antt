@@ -11,10 +11,10 @@ use Rattle.std.proofs.lemmas.List.Sorted.{Contains-permutation, IsPermutation-sy
 use Rattle.std.proofs.lemmas.Map.Views.{list_any-from_Contains, Contains-from_any}
 use Rattle.su_base.specs.declared.values.Value.{Value}
 use Rattle.su_base.specs.contracts.values.ValuePartialEq.TheImpl.{ghosts}
+use Rattle.su_base.proofs.Rows.{rows_equiv}
 use Rattle.su_base.proofs.Same.{row_eq-Decides}
-use Rattle.su_classes.proofs.Listed.{contains_later, contains_cases}
+use Rattle.su_base.proofs.Items.{Contains-later, Contains-cases}
 use Rattle.su_window.specs.inside.Reading.{Sees}
-use Rattle.su_window.proofs.Sorted.{rows_equiv}
 
 abbrev same_row : List Value → List Value → Bool
 same_row = pointwise ghosts.eq
@@ -34,11 +34,11 @@ put_new old new values none moved = record {
         ⊎_elim
         (λ (e : values ≡ x). inr (sym e))
         (λ (r : Contains old x). inl r)
-        (contains_cases values old x (Contains-permutation new (values ∷ old) x (IsPermutation-sym (values ∷ old) new moved) c)),
+        (Contains-cases values old x (Contains-permutation new (values ∷ old) x (IsPermutation-sym (values ∷ old) new moved) c)),
     λ s.
         Contains-permutation (values ∷ old) new x moved
         (⊎_elim
-        (λ (r : Contains old x). contains_later values old x r)
+        (λ (r : Contains old x). Contains-later values old x r)
         (λ (e : x ≡ values). (0, omega arith, sym e))
         s),
   );

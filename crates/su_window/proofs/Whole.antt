@@ -11,9 +11,9 @@ use Rattle.su_chase.specs.Chase.{IsName, IsConsistent, IsClash}
 use Rattle.su_chase.specs.Chased.{AreRows}
 use Rattle.su_chase.specs.inside.Rows.{name_by}
 use Rattle.su_fd.specs.declared.dependencies.Fd.{Fd}
-use Rattle.su_chase.proofs.Answering.{are_names}
+use Rattle.su_chase.proofs.NamedAnswers.{are_names}
 use Rattle.su_window.specs.declared.readings.Reading.{Reading}
-use Rattle.su_window.specs.Cuts.{width}
+use Rattle.su_schema.specs.Cuts.{width}
 use Rattle.su_window.specs.Window.{Fits, InWindow}
 use Rattle.su_window.specs.Members.{HasFew}
 use Rattle.su_window.specs.Padded.{member_read, AreReadings, padded_rows}
@@ -21,7 +21,7 @@ use Rattle.su_window.specs.Refusals.{Clashes}
 use Rattle.su_window.specs.inside.Reading.{AreConstants}
 use Rattle.su_window.proofs.Rows.{rows_long, are_rows}
 use Rattle.su_window.proofs.Picked.{no_clash, has_constants}
-use Rattle.su_window.proofs.Fitting.{some_fits, in_window}
+use Rattle.su_window.proofs.FittingRelation.{some_fits, in_window}
 
 module _ (db : DatabaseValue) (kept : IsWellKept db) (readings : List Reading) (are : AreReadings db readings) (few : length readings ≤ 20000) where
   pub has_few : HasFew db

@@ -3,5 +3,4 @@ pub mod inside
 pub mod Members
 pub mod Padded
 pub mod Refusals
-pub mod Views
 pub mod Window

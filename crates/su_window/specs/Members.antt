@@ -3,7 +3,7 @@
 use Rattle.std.specs.Prelude.{◌≡◌, ◌↔◌, ℕ, ◌<◌, ◌≤◌, List, length, get_or, Contains}
 use Rattle.su_base.specs.declared.values.Value.{Value}
 use Rattle.su_state.specs.DatabaseValue.{DatabaseValue}
-use Rattle.su_window.specs.Views.{view_of}
+use Rattle.su_state.specs.Views.{view_of}
 
 -- an object and a list of values on its columns
 pub record Member : Type 0 where

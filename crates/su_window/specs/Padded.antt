@@ -9,8 +9,8 @@ use Rattle.su_tableau.specs.declared.symbols.Sym.TheVariants.{Const, Var}
 use Rattle.su_schema.specs.SchemaValue.{SchemaValue, ObjectEntry}
 use Rattle.su_state.specs.DatabaseValue.{DatabaseValue, rows_of}
 use Rattle.su_window.specs.declared.readings.Reading.{Reading}
-use Rattle.su_window.specs.Cuts.{width, attributes_at}
-use Rattle.su_window.specs.Views.{value_for, taken}
+use Rattle.su_schema.specs.Cuts.{width, attributes_at}
+use Rattle.su_state.specs.Views.{value_for, taken}
 use Rattle.su_window.specs.Members.{Member, AreMembers}
 
 -- an object by its number

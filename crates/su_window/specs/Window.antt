@@ -6,10 +6,10 @@ use Rattle.su_base.specs.declared.values.Value.{Value}
 use Rattle.su_base.specs.declared.values.Value.TheVariants.{Int}
 use Rattle.su_tableau.specs.Kinds.{IsUniverse}
 use Rattle.su_schema.specs.SchemaValue.{attribute_kinds}
-use Rattle.su_chase.specs.Meeting.{Meets}
+use Rattle.su_fd.specs.Meeting.{Meets}
 use Rattle.su_state.specs.DatabaseValue.{DatabaseValue}
-use Rattle.su_window.specs.Cuts.{cuts}
-use Rattle.su_window.specs.Views.{view_of}
+use Rattle.su_schema.specs.Cuts.{cuts}
+use Rattle.su_state.specs.Views.{view_of}
 
 -- each member of a view is cut from some row of the universal relation
 abbrev pub Includes : DatabaseValue → List (List Value) → Type 0

@@ -7,7 +7,7 @@ ghost use Rattle.su_tableau.specs.declared.symbols.Sym.{Sym as ASym};
 ghost use Rattle.su_tableau.specs.declared.symbols.Sym.TheVariants.{Const, Var};
 ghost use Rattle.su_tableau.specs.Tableaux.{AreBelow};
 ghost use Rattle.su_chase.specs.inside.Rows.{name_by};
-ghost use Rattle.su_window.specs.Cuts.{width};
+ghost use Rattle.su_schema.specs.Cuts.{width};
 ghost use Rattle.su_window.specs.Window.{Fits, InWindow};
 ghost use Rattle.su_window.specs.Members.{HasFew};
 ghost use Rattle.su_window.specs.Refusals.{IsWindowRefusal};
@@ -18,7 +18,7 @@ use crate::faults::WindowFault;
 use crate::padding::padded_rows;
 use crate::readings::readings_of;
 use std::alloc::Global;
-use su_base::{List, NoMemory, Row, Value};
+use su_base::{List, NoMemory, Row, Value, sorted_rows};
 use su_chase::{Closed, close};
 use su_state::Database;
 use su_tableau::Sym;
@@ -95,17 +95,6 @@ fn constant_rows(
     Ok(found)
 }
 
-/// The rows, ascending, each once.
-fn sorted(rows: List<Row>) -> Result<List<Row>, NoMemory>
-    ensures members { IfOk result (λ all. (h : Items AValue) → Contains all h ↔ Contains rows h) }
-    ensures ascending { IfOk result (λ all. IsStrictlySortedBy compare_lists all) }
-{
-    let mut all = rows.into_vec();
-    all.sort()?;
-    all.dedup();
-    Ok(List::from_vec(all))
-}
-
 /// The rows over the attributes that every universal relation has which meets the dependencies and
 /// includes the stored rows; an attribute may be given twice. (The windows of Maier, Ullman and Vardi,
 /// read off Sagiv's representative instance; what fits is a weak instance as Honeyman has it.) The time
@@ -126,7 +115,7 @@ pub fn window(alloc: Global, db: &Database, attributes: &[u8]) -> Result<List<Ro
         Some((less, greater)) => Err(WindowFault::Inconsistent { less, greater }),
         None => {
             let found = constant_rows(alloc, names.as_slice(), rows.as_slice(), attributes)?;
-            Ok(sorted(found)?)
+            Ok(sorted_rows(found))
         }
     }
 }

@@ -8,10 +8,10 @@ use su_schema::{Definition, Pair, Schema};
 use su_state::Database;
 use su_window::{WindowFault, window};
 
-// A case is a line of fields with a `|` between them. A definition is `i` or `t` for an attribute of
-// numbers or of texts, `o` an object and its relation, of one name and with the attributes as columns,
-// `f` a dependency; `+` and `-` insert and delete a row of a relation, by its name; `w` asks for the
-// window over attributes, by their numbers, and has its answer as the last field.
+/// A case is a line of fields with a `|` between them. A definition is `i` or `t` for an attribute of
+/// numbers or of texts, `o` an object and its relation, of one name and with the attributes as columns,
+/// `f` a dependency; `+` and `-` insert and delete a row of a relation, by its name; `w` asks for the
+/// window over attributes, by their numbers, and has its answer as the last field.
 fn field(line: &str, n: usize) -> &str {
     line.split('|').nth(n).unwrap_or("")
 }
@@ -81,7 +81,7 @@ fn dependency(alloc: Global, db: &mut Database, left: &str, right: &str) -> Resu
     Ok(define(db, &Definition::Fd { left, right }))
 }
 
-// A word that is a whole number is one.
+/// A word that is a whole number is one.
 fn row(alloc: Global, words: &str) -> Result<Row, NoMemory> {
     let mut row = List::new(alloc);
     for word in words.split(' ') {
@@ -143,7 +143,7 @@ fn add_row(alloc: Global, text: &mut String, row: &Row) -> Result<(), NoMemory> 
     add(text, ";")
 }
 
-// The rows, each with a `;` behind it, or the refusal.
+/// The rows, each with a `;` behind it, or the refusal.
 fn told(alloc: Global, answer: &Result<List<Row>, WindowFault>) -> Result<String, NoMemory> {
     let mut text = String::new(alloc);
     match answer {
@@ -208,7 +208,7 @@ fn holds(alloc: Global, db: &mut Database, line: &str) -> Result<bool, NoMemory>
     }
 }
 
-// Whether each line of a new database holds.
+/// Whether each line of a new database holds.
 fn meets(alloc: Global, lines: &str) -> Result<bool, NoMemory> {
     let mut db = Database::new(alloc, Schema::new(alloc))?;
     for line in lines.lines() {

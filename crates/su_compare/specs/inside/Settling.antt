@@ -8,7 +8,7 @@ use Rattle.su_tableau.specs.Tableaux.{Tab, Ext}
 use Rattle.su_tableau.specs.Kinds.{Kinds, IsUniverse, IsTyped}
 use Rattle.su_map.specs.Rooms.{Space, IsRoomFor}
 use Rattle.su_chase.specs.Chase.{IsClosed}
-use Rattle.su_chase.specs.Meeting.{Meets}
+use Rattle.su_fd.specs.Meeting.{Meets}
 use Rattle.su_schema.specs.SchemaValue.{SchemaValue, attribute_kinds}
 use Rattle.su_steps.specs.declared.results.Term.{Term}
 use Rattle.su_compare.specs.declared.settling.Settled.{Settled}

@@ -10,13 +10,13 @@ use Rattle.su_schema.specs.Checks.{columns_at}
 use Rattle.su_schema.specs.Defining.{applied}
 use Rattle.su_state.specs.declared.faults.DefineFault.{DefineFault}
 use Rattle.su_state.specs.declared.faults.DefineFault.TheVariants.{Schema, Breaks, NoMemory}
-use Rattle.su_state.specs.DatabaseValue.{table_in}
+use Rattle.su_index.specs.Tables.{table_at}
 use Rattle.su_state.specs.Definitions.{BreaksThrough, HoldsThrough, FdBreaks, ObjectBreaks, NewBreaks}
 
 -- each object stands on one of the tables, of its relation's width
 abbrev pub HaveTables : SchemaValue → List Stored → Type 0
 HaveTables schema tables =
-    (o : ℕ) (object : ObjectEntry) → slice_get schema.objects o ≡ Some object → (object.relation < length tables) × ((table_in tables object.relation).width ≡ length (columns_at schema object.relation))
+    (o : ℕ) (object : ObjectEntry) → slice_get schema.objects o ≡ Some object → (object.relation < length tables) × ((table_at tables object.relation).width ≡ length (columns_at schema object.relation))
 
 -- there is what was added
 abbrev pub HasAdded : SchemaValue → Definition → Type 0

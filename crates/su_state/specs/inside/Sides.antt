@@ -9,9 +9,10 @@ use Rattle.std.specs.declared.cmp.Ordering.TheVariants.{Less}
 use Rattle.su_base.specs.declared.values.Value.{Value}
 use Rattle.su_base.specs.Value.{compare_lists}
 use Rattle.su_fd.specs.declared.dependencies.Fd.{Fd}
-use Rattle.su_schema.specs.SchemaValue.{ObjectEntry, column_of}
+use Rattle.su_fd.specs.Meeting.{LiesIn}
+use Rattle.su_schema.specs.SchemaValue.{ObjectEntry, attributes_of, column_of}
 use Rattle.su_state.specs.declared.sides.Sides.{Sides}
-use Rattle.su_state.specs.DatabaseValue.{LiesIn, IsAtMost}
+use Rattle.su_state.specs.DatabaseValue.{IsAtMost}
 
 -- exactly the columns from which the object takes one of the attributes
 abbrev pub AreColumnsOf : ObjectEntry → FinSet nat_cmp → FinSet nat_cmp → Type 0
@@ -19,7 +20,7 @@ AreColumnsOf object attributes columns = (c : ℕ) → IsTrue (contains columns 
 
 -- the columns of a dependency that lies in the object
 pub record AreSidesOf (object : ObjectEntry) (fd : Fd) (sides : Sides) : Type 0 where
-  pub lies : LiesIn fd object
+  pub lies : LiesIn fd (attributes_of object)
   pub left : AreColumnsOf object fd.left sides.left
   pub right : AreColumnsOf object fd.right sides.right
 

@@ -2,7 +2,7 @@ use Rattle.std.proofs.Common.{rules, ◌≡◌, ◌+◌, List, [], ◌∷◌, �
 use Rattle.std.proofs.lemmas.List.{get_or_default}
 use Rattle.su_base.specs.declared.values.Kind.TheVariants.{Int as IntKind}
 use Rattle.su_base.specs.declared.values.Value.{Value}
-use Rattle.su_chase.proofs.Giving.{AreGiven, given_more}
+use Rattle.su_chase.proofs.DistinctCandidates.{AreGiven, given_more}
 use Rattle.su_chase.proofs.candidates.free_values.Goals as goal
 
 pub loop-kind-preserved : goal.loop-kind-preserved

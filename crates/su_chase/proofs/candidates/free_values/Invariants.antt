@@ -1,4 +1,4 @@
-use Rattle.su_chase.proofs.Giving.{AreGiven}
+use Rattle.su_chase.proofs.DistinctCandidates.{AreGiven}
 use Rattle.su_chase.proofs.candidates.free_values.Given as goal
 
 abbrev pub invariant-loop-kind : goal.invariant-loop-kind

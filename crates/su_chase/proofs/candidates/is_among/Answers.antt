@@ -1,6 +1,6 @@
 use Rattle.std.proofs.Common.{◌↔◌, Contains, sym, ap, ◌∙◌, subst}
 use Rattle.std.specs.Prelude.{Bool, IsTrue}
-use Rattle.su_chase.proofs.Searching.{among_searched}
+use Rattle.su_chase.proofs.Searches.{among_searched}
 use Rattle.su_chase.proofs.candidates.is_among.Goals as goal
 
 pub returns : goal.returns

@@ -6,7 +6,7 @@ use Rattle.su_tableau.specs.Tableaux.{AreBelow}
 use Rattle.su_chase.specs.Chase.{IsClash}
 use Rattle.su_chase.specs.Chased.{AreRows}
 use Rattle.su_chase.specs.inside.Rows.{name_by, named_tab}
-use Rattle.su_chase.proofs.Answering.{rows_are, chase_told, clash_answers}
+use Rattle.su_chase.proofs.NamedAnswers.{rows_are, chase_told, clash_answers}
 use Rattle.su_chase.proofs.chasing.chase.Goals as goal
 
 pub close-requires : goal.close-requires

@@ -2,7 +2,7 @@ use Rattle.std.proofs.Common.{List, length, subst, sym}
 use Rattle.std.specs.Prelude.{All}
 use Rattle.su_tableau.specs.declared.symbols.Sym.{Sym}
 use Rattle.su_tableau.specs.Tableaux.{AreBelow}
-use Rattle.su_chase.proofs.Answering.{valid, head_below}
+use Rattle.su_chase.proofs.NamedAnswers.{valid, head_below}
 use Rattle.su_chase.proofs.chasing.named_tableau.Goals as goal
 
 pub named-requires : goal.named-requires

@@ -1,5 +1,5 @@
 use Rattle.std.proofs.Common.{ℕ, List, Contains, subst, ◌∙◌}
-use Rattle.su_chase.proofs.Thawing.{freeze_told}
+use Rattle.su_chase.proofs.FrozenValues.{freeze_told}
 use Rattle.su_chase.proofs.freezing.freeze.Goals as goal
 
 pub kinds_of-requires-clause-occur : goal.kinds_of-requires-clause-occur

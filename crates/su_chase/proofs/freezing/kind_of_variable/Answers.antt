@@ -3,7 +3,7 @@ use Rattle.std.proofs.lemmas.List.{get_or_default}
 use Rattle.su_tableau.specs.declared.symbols.Sym.{Sym}
 use Rattle.su_tableau.specs.declared.symbols.Sym.TheVariants.{Var}
 use Rattle.su_tableau.proofs.Rows.{below_more}
-use Rattle.su_chase.proofs.Thawing.{not_placed}
+use Rattle.su_chase.proofs.FrozenValues.{not_placed}
 use Rattle.su_chase.proofs.freezing.kind_of_variable.Goals as goal
 
 pub loop-row-preserved : goal.loop-row-preserved

@@ -1,7 +1,7 @@
 use Rattle.std.proofs.Common.{rules, ◌≡◌, ◌+◌, List, [], ◌∷◌, ◌++◌, map, take, length, ap, ◌∙◌, arith}
 use Rattle.std.proofs.lemmas.List.{get_or_default, length_push}
 use Rattle.su_base.specs.declared.values.Kind.{Kind}
-use Rattle.su_chase.proofs.Thawing.{kinds_more}
+use Rattle.su_chase.proofs.FrozenValues.{kinds_more}
 use Rattle.su_chase.proofs.freezing.kinds_of.Goals as goal
 
 pub loop-k-preserved : goal.loop-k-preserved

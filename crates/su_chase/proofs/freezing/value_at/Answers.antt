@@ -6,7 +6,7 @@ use Rattle.su_base.specs.declared.values.Value.{Value}
 use Rattle.su_base.specs.declared.values.Value.TheVariants.{Int}
 use Rattle.su_tableau.specs.Tableaux.{nth, value_of}
 use Rattle.su_chase.specs.inside.Rows.{value_in}
-use Rattle.su_chase.proofs.Searching.{value_searched}
+use Rattle.su_chase.proofs.Searches.{value_searched}
 use Rattle.su_chase.proofs.freezing.value_at.Goals as goal
 
 pub returns-in-Err : goal.returns-in-Err

@@ -1,6 +1,6 @@
 use Rattle.std.proofs.Common.{◌≡◌, ◌∙◌, ℕ, List, Contains, subst, sym, arith}
 use Rattle.su_chase.specs.inside.Rows.{variables_in}
-use Rattle.su_chase.proofs.Thawing.{variables_all, variable_in, variable_occurs}
+use Rattle.su_chase.proofs.FrozenValues.{variables_all, variable_in, variable_occurs}
 use Rattle.su_chase.proofs.freezing.variables_of.Goals as goal
 
 pub returns-clause-all : goal.returns-clause-all

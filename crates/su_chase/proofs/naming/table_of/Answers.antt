@@ -2,7 +2,7 @@ use Rattle.std.proofs.Common.{◌≡◌, ◌+◌, List, length, subst, sym, arit
 use Rattle.std.specs.Prelude.{All}
 use Rattle.su_classes.specs.declared.items.Placed.{Placed}
 use Rattle.su_classes.specs.Items.{IsPlacedBelow}
-use Rattle.su_chase.proofs.Placing.{placed_below}
+use Rattle.su_chase.proofs.ItemLabels.{placed_below}
 use Rattle.su_chase.proofs.Tabled.{numbered}
 use Rattle.su_chase.proofs.naming.table_of.Goals as goal
 

@@ -2,7 +2,7 @@ use Rattle.std.proofs.Common.{◌≡◌, ℕ, length, subst}
 use Rattle.std.specs.Prelude.{Result}
 use Rattle.std.specs.Result.{MatchResult}
 use Rattle.su_classes.specs.inside.Symbols.{place_of}
-use Rattle.su_chase.proofs.Clashing.{place_searched}
+use Rattle.su_chase.proofs.FirstClash.{place_searched}
 use Rattle.su_chase.proofs.numbering.place.Goals as goal
 
 pub returns-in-Ok : goal.returns-in-Ok

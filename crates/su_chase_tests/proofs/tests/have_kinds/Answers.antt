@@ -1,11 +1,10 @@
 use Rattle.std.proofs.Common.{◌≡◌, ℕ, ◌<◌, map, get_or, length, sym, ap, ◌∙◌, subst, arith}
-use Rattle.std.proofs.lemmas.List.{get_or_default, get_or-map, length-map, take_more_same}
+use Rattle.std.proofs.lemmas.List.{get_or_default, get_or-map, length-map, take_all, take_more_same}
 use Rattle.su_base.specs.declared.values.Kind.{Kind}
 use Rattle.su_base.specs.declared.values.Kind.TheVariants.{Int as IntKind}
 use Rattle.su_tableau.specs.declared.symbols.Sym.{Sym}
 use Rattle.su_tableau.specs.declared.symbols.Sym.TheVariants.{Var}
 use Rattle.su_tableau.specs.Kinds.{sym_kind}
-use Rattle.su_chase.proofs.Clashing.{take_all}
 use Rattle.su_chase_tests.proofs.tests.have_kinds.Goals as goal
 
 pub loop-i-preserved : goal.loop-i-preserved
@@ -30,4 +29,4 @@ returns c = λ _.
     let many = length-map row f in
     let each : length row ≡ length kinds = c.if-row-kinds.false in
     let high = c.loop-i-test.false in
-    sym (take_all (map f row) i (omega arith)) ∙ c.loop-i.invariant ∙ take_all kinds i (omega arith)
+    sym (take_all i (map f row) (omega arith)) ∙ c.loop-i.invariant ∙ take_all i kinds (omega arith)

@@ -1,6 +1,6 @@
 use Rattle.std.proofs.Common.{◌≡◌, ◌<◌, ℕ, length, ◌∙◌, arith}
 use Rattle.su_classes.specs.Tables.{rep}
-use Rattle.su_classes.proofs.Binding.{own_sound, own_equal}
+use Rattle.su_classes.proofs.JoinedRows.{own_sound, own_equal}
 use Rattle.su_classes.proofs.closing.close.Goals as goal
 
 pub sweeps-init : goal.sweeps-init

@@ -1,6 +1,6 @@
 use Rattle.std.specs.Prelude.{All}
 use Rattle.su_classes.specs.Items.{Keeps}
-use Rattle.su_classes.proofs.Binding.{merging_then}
+use Rattle.su_classes.proofs.JoinedRows.{merging_then}
 use Rattle.su_classes.proofs.Rings.{same_then}
 use Rattle.su_classes.proofs.rushing.look_at_all.Goals as goal
 

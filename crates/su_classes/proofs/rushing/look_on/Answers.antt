@@ -1,7 +1,7 @@
 use Rattle.std.proofs.Common.{length}
 use Rattle.std.specs.Prelude.{All}
 use Rattle.su_classes.specs.Items.{Keeps}
-use Rattle.su_classes.proofs.Binding.{merging_then}
+use Rattle.su_classes.proofs.JoinedRows.{merging_then}
 use Rattle.su_classes.proofs.Rings.{for_same}
 use Rattle.su_classes.proofs.rushing.look_on.Goals as goal
 

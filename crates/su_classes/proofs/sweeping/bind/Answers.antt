@@ -1,8 +1,8 @@
 use Rattle.std.proofs.Common.{ℕ, List, sym, subst}
 use Rattle.su_classes.specs.Items.{Keeps}
 use Rattle.su_classes.specs.inside.Firsts.{AreMembersBelow}
-use Rattle.su_classes.proofs.Merging.{progress_shortened}
-use Rattle.su_classes.proofs.Binding.{merging_shortened}
+use Rattle.su_classes.proofs.Merges.{progress_shortened}
+use Rattle.su_classes.proofs.JoinedRows.{merging_shortened}
 use Rattle.su_classes.proofs.sweeping.bind.Goals as goal
 use Rattle.su_classes.proofs.sweeping.bind.Goals.{then-changed, else-changed}
 

@@ -1,6 +1,6 @@
 use Rattle.std.proofs.Common.{◌≡◌, arith}
 use Rattle.su_classes.specs.Items.{cell}
-use Rattle.su_classes.proofs.Merging.{joining_cells, joining_all, progress_then}
+use Rattle.su_classes.proofs.Merges.{joining_cells, joining_all, progress_then}
 use Rattle.su_classes.proofs.sweeping.join_at.Goals as goal
 
 pub loop-a-preserved : goal.loop-a-preserved

@@ -1,14 +1,16 @@
+-- Each row and its first one agree on the left side in every closed labelling, so a merge of their right sides is forced.
 use Rattle.std.proofs.Common.{◌≡◌, ℕ, [], length, refl, sym, ◌∙◌, subst, arith}
 use Rattle.std.specs.Prelude.{All}
 use Rattle.std.specs.FinSet.{empty}
 use Rattle.std.proofs.lemmas.Bool.{true≢false}
 use Rattle.std.proofs.lemmas.List.{get_or_read}
 use Rattle.su_classes.specs.declared.items.Placed.{Placed}
-use Rattle.su_classes.specs.Items.{cell, LiesIn, IsPlacedBelow}
+use Rattle.su_fd.specs.Meeting.{LiesIn}
+use Rattle.su_classes.specs.Items.{cell, IsPlacedBelow}
 use Rattle.su_classes.specs.inside.Tables.{IsJoining}
 use Rattle.su_classes.specs.inside.Firsts.{row_at, first_at}
 use Rattle.su_classes.proofs.Listed.{right_cells}
-use Rattle.su_classes.proofs.Binding.{bound_more, bound_pass, bound_keeps}
+use Rattle.su_classes.proofs.JoinedRows.{bound_more, bound_pass, bound_keeps}
 use Rattle.su_classes.proofs.sweeping.join_firsts.Goals as goal
 use Rattle.su_classes.proofs.sweeping.join_firsts.Goals.{then-lies_in, else-lies_in}
 

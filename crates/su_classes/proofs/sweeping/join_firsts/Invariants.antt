@@ -1,4 +1,4 @@
-use Rattle.su_classes.proofs.Binding.{IsBound}
+use Rattle.su_classes.proofs.JoinedRows.{IsBound}
 use Rattle.su_classes.proofs.sweeping.join_firsts.Given as goal
 
 abbrev pub invariant-loop-position : goal.invariant-loop-position

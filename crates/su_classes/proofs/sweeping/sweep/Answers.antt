@@ -1,5 +1,5 @@
-use Rattle.su_classes.proofs.Merging.{progress_then}
-use Rattle.su_classes.proofs.Binding.{sweep_merging, sweep_more}
+use Rattle.su_classes.proofs.Merges.{progress_then}
+use Rattle.su_classes.proofs.JoinedRows.{sweep_merging, sweep_more}
 use Rattle.su_classes.proofs.sweeping.sweep.Goals as goal
 
 pub loop-fd-preserved : goal.loop-fd-preserved

@@ -1,5 +1,5 @@
 use Rattle.std.proofs.Common.{arith}
-use Rattle.su_classes.proofs.Merging.{joined_same, progress_same_roots, joined_left, progress_left, joined_right, progress_right}
+use Rattle.su_classes.proofs.Merges.{joined_same, progress_same_roots, joined_left, progress_left, joined_right, progress_right}
 use Rattle.su_classes.proofs.tables.join.Goals as goal
 
 pub returns-then-left-right-clause-joining : goal.returns-then-left-right-clause-joining

@@ -1,5 +1,5 @@
 use Rattle.std.proofs.Common.{◌≡◌, arith}
-use Rattle.su_classes.proofs.Merging.{joining_at, joining_all}
+use Rattle.su_classes.proofs.Merges.{joining_at, joining_all}
 use Rattle.su_classes.proofs.tables.join_all.Goals as goal
 
 pub loop-e-preserved : goal.loop-e-preserved

@@ -1,5 +1,5 @@
 use Rattle.su_compare.specs.inside.Settling.{HasRoomFor}
-use Rattle.su_compare.proofs.Deciding.{AreSettled}
+use Rattle.su_compare.proofs.PlainTerms.{AreSettled}
 use Rattle.su_compare.proofs.comparing.compared.Given as goal
 
 abbrev pub invariant-loop-i : goal.invariant-loop-i

@@ -3,7 +3,7 @@ use Rattle.su_tableau.specs.Tableaux.{Tab, AreVarsBelow}
 use Rattle.su_tableau.proofs.Rows.{vars_up}
 use Rattle.su_compare.specs.Verdict.{tab_at}
 use Rattle.su_compare.proofs.Settled.{tab_here}
-use Rattle.su_compare.proofs.Deciding.{vars_more, max_left, max_right}
+use Rattle.su_compare.proofs.PlainTerms.{vars_more, max_left, max_right}
 use Rattle.su_compare.proofs.comparing.room_for.Goals as goal
 
 pub loop-term-preserved : goal.loop-term-preserved

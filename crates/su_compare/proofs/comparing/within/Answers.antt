@@ -1,4 +1,4 @@
-use Rattle.su_compare.proofs.Deciding.{within_queries, counterexamples, yes_if_within}
+use Rattle.su_compare.proofs.PlainTerms.{within_queries, counterexamples, yes_if_within}
 use Rattle.su_compare.proofs.comparing.within.Goals as goal
 
 pub returns-clause-decides : goal.returns-clause-decides

@@ -7,5 +7,5 @@ pub returns : goal.returns
 returns c = λ v.
     let first = c.args.first.now in
     let second = c.args.second.now in
-    of_both first second c.push_terms-2.new.constants c.each_once.result v
-    (c.in_ok-push_terms-2.ensures ∙ ap (λ xs. xs ++ terms_constants second) (c.in_ok-push_terms.ensures ∙ ap (λ xs. xs ++ terms_constants first) c.new-constants.ensures)) (c.each_once.ensures v)
+    of_both first second c.push_terms-2.new.constants c.sorted_values.result v
+    (c.in_ok-push_terms-2.ensures ∙ ap (λ xs. xs ++ terms_constants second) (c.in_ok-push_terms.ensures ∙ ap (λ xs. xs ++ terms_constants first) c.new-constants.ensures)) (c.sorted_values.ensures.members v)

@@ -1,6 +1,6 @@
 use Rattle.csv.specs.Records.{fields_of}
 use Rattle.su_csv.specs.inside.Records.{records_left}
-use Rattle.su_csv.proofs.Following.{more-rows}
+use Rattle.su_csv.proofs.RecordsSoFar.{more-rows}
 use Rattle.su_csv.proofs.reading.rows_under_header.Goals as goal
 
 pub loop-before-preserved : goal.loop-before-preserved

@@ -1,7 +1,7 @@
 use Rattle.std.proofs.Common.{◌≡◌, ◌+◌}
 use Rattle.su_csv.specs.File.{rows_from}
 use Rattle.su_csv.specs.inside.Records.{Stands, records_left}
-use Rattle.su_csv.proofs.Following.{behind}
+use Rattle.su_csv.proofs.RecordsSoFar.{behind}
 use Rattle.su_csv.proofs.reading.rows_under_header.Given as goal
 
 abbrev pub invariant-loop-before : goal.invariant-loop-before

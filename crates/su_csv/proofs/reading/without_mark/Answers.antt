@@ -1,7 +1,7 @@
 use Rattle.std.proofs.Common.{◌≡◌, ◌∙◌, ◌-◌, sym, take, drop, length}
 use Rattle.std.proofs.lemmas.List.{length-drop}
 use Rattle.std.proofs.Math.Seq.{take-length}
-use Rattle.su_csv.proofs.Following.{with-mark, without-mark}
+use Rattle.su_csv.proofs.RecordsSoFar.{with-mark, without-mark}
 use Rattle.su_csv.proofs.reading.without_mark.Goals as goal
 
 pub returns-then-has_mark : goal.returns-then-has_mark

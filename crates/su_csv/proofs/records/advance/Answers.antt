@@ -1,5 +1,5 @@
 use Rattle.csv.specs.Records.{fields_of}
-use Rattle.su_csv.proofs.Remaining.{advanced}
+use Rattle.su_csv.proofs.TextLeft.{advanced}
 use Rattle.su_csv.proofs.records.advance.Goals as goal
 
 pub returns-clause-stands : goal.returns-clause-stands

@@ -1,5 +1,5 @@
 use Rattle.std.proofs.Common.{◌∙◌, sym}
-use Rattle.su_csv.proofs.Filling.{field-at, present}
+use Rattle.su_csv.proofs.RowSoFar.{field-at, present}
 use Rattle.su_csv.proofs.rows.field_at.Goals as goal
 
 pub unreachable-requires : goal.unreachable-requires

@@ -2,7 +2,7 @@ use Rattle.std.proofs.Common.{◌∙◌, sym, length, refl}
 use Rattle.std.proofs.lemmas.Option.{slice_get_read}
 use Rattle.csv.specs.Records.{fields_of}
 use Rattle.su_base.specs.declared.values.Kind.TheVariants.{Int}
-use Rattle.su_csv.proofs.Filling.{sought-here, sought-later}
+use Rattle.su_csv.proofs.RowSoFar.{sought-here, sought-later}
 use Rattle.su_csv.proofs.rows.first_without_number.Goals as goal
 
 pub returns-then-lacks_number : goal.returns-then-lacks_number

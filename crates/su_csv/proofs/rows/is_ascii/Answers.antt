@@ -1,4 +1,4 @@
-use Rattle.su_csv.proofs.Filling.{ascii-fields}
+use Rattle.su_csv.proofs.RowSoFar.{ascii-fields}
 use Rattle.su_csv.proofs.rows.is_ascii.Goals as goal
 
 pub returns : goal.returns

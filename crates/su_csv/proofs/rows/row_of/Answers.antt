@@ -4,7 +4,7 @@ use Rattle.csv.specs.Records.{fields_of}
 use Rattle.su_base.specs.declared.values.Kind.TheVariants.{Int, Text}
 use Rattle.su_csv.specs.Record.{row_of}
 use Rattle.csv.proofs.RecordFacts.{text-of}
-use Rattle.su_csv.proofs.Filling.{field-at, fault-here, got, got-none, in-full, one-value, still-sought}
+use Rattle.su_csv.proofs.RowSoFar.{field-at, fault-here, got, got-none, in-full, one-value, still-sought}
 use Rattle.su_csv.proofs.rows.row_of.Goals as goal
 
 pub loop-place-preserved : goal.loop-place-preserved

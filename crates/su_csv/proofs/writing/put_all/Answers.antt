@@ -1,7 +1,7 @@
 use Rattle.std.proofs.Common.{◌∙◌, All}
-use Rattle.su_csv.specs.Written.{IsStored}
+use Rattle.su_csv.specs.inside.Writers.{IsStored}
 use Rattle.su_csv.specs.inside.Writers.{text_so_far}
-use Rattle.su_csv.proofs.Taking.{all-one, text-one}
+use Rattle.su_csv.proofs.ItemsSoFar.{all-one, text-one}
 use Rattle.su_csv.proofs.writing.put_all.Goals as goal
 
 pub loop-row-preserved : goal.loop-row-preserved

@@ -1,5 +1,6 @@
 use Rattle.std.proofs.Common.{◌≡◌, ◌++◌, take, All}
-use Rattle.su_csv.specs.Written.{IsStored, text_of}
+use Rattle.su_csv.specs.Written.{text_of}
+use Rattle.su_csv.specs.inside.Writers.{IsStored}
 use Rattle.su_csv.specs.inside.Writers.{IsIdle, text_so_far}
 use Rattle.su_csv.proofs.writing.put_all.Given as goal
 

@@ -1,6 +1,7 @@
 use Rattle.std.proofs.Common.{◌≡◌, ◌∙◌, ◌<◌, length, get_or}
-use Rattle.su_csv.specs.Written.{IsStored, field_of}
-use Rattle.su_csv.proofs.Taking.{all-one, map-one}
+use Rattle.su_csv.specs.Written.{field_of}
+use Rattle.su_csv.specs.inside.Writers.{IsStored}
+use Rattle.su_csv.proofs.ItemsSoFar.{all-one, map-one}
 use Rattle.su_csv.proofs.writing.set_row.Goals as goal
 
 pub loop-value-preserved : goal.loop-value-preserved

@@ -1,7 +1,7 @@
 use Rattle.std.proofs.Common.{sym, inl, inr, ◌∙◌}
 use Rattle.std.proofs.lemmas.Bool.{false≢true}
 use Rattle.su_base.proofs.Subsets.{subset_refl, subset_trans, subset_at}
-use Rattle.su_fd.proofs.Sweeping.{gains_smaller}
+use Rattle.su_fd.proofs.OnePass.{gains_smaller}
 use Rattle.su_fd.proofs.closures.closure.Goals as goal
 
 pub loop-wider-init : goal.loop-wider-init

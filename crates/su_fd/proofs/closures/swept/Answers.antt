@@ -1,5 +1,5 @@
 use Rattle.std.proofs.Common.{sym, ◌∙◌}
-use Rattle.su_fd.proofs.Sweeping.{swept_start, swept_skip, swept_push, swept_closed}
+use Rattle.su_fd.proofs.OnePass.{swept_start, swept_skip, swept_push, swept_closed}
 use Rattle.su_fd.proofs.closures.swept.Goals as goal
 use Rattle.su_fd.proofs.closures.swept.Goals.{then-within, else-within}
 

@@ -1,4 +1,4 @@
-use Rattle.su_fd.proofs.Sweeping.{IsSwept}
+use Rattle.su_fd.proofs.OnePass.{IsSwept}
 use Rattle.su_fd.proofs.closures.swept.Given as goal
 
 abbrev pub invariant-loop-fd : goal.invariant-loop-fd

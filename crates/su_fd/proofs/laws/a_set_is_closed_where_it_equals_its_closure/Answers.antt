@@ -1,4 +1,4 @@
-use Rattle.su_fd.proofs.Closing.{closed_equals}
+use Rattle.su_fd.proofs.EveryClosure.{closed_equals}
 use Rattle.su_fd.proofs.laws.a_set_is_closed_where_it_equals_its_closure.Goals as goal
 
 pub returns : goal.returns

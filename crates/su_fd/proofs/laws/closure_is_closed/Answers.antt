@@ -1,4 +1,4 @@
-use Rattle.su_fd.proofs.Closing.{closed}
+use Rattle.su_fd.proofs.EveryClosure.{closed}
 use Rattle.su_fd.proofs.laws.closure_is_closed.Goals as goal
 
 pub returns : goal.returns

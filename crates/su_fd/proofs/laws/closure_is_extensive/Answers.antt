@@ -1,4 +1,4 @@
-use Rattle.su_fd.proofs.Closing.{extensive}
+use Rattle.su_fd.proofs.EveryClosure.{extensive}
 use Rattle.su_fd.proofs.laws.closure_is_extensive.Goals as goal
 
 pub returns : goal.returns

@@ -1,4 +1,4 @@
-use Rattle.su_fd.proofs.Closing.{idempotent}
+use Rattle.su_fd.proofs.EveryClosure.{idempotent}
 use Rattle.su_fd.proofs.laws.closure_is_idempotent.Goals as goal
 
 pub returns : goal.returns

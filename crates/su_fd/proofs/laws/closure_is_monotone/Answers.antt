@@ -1,4 +1,4 @@
-use Rattle.su_fd.proofs.Closing.{monotone}
+use Rattle.su_fd.proofs.EveryClosure.{monotone}
 use Rattle.su_fd.proofs.laws.closure_is_monotone.Goals as goal
 
 pub returns : goal.returns

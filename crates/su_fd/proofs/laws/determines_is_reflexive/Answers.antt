@@ -1,4 +1,4 @@
-use Rattle.su_fd.proofs.Closing.{reflexive}
+use Rattle.su_fd.proofs.EveryClosure.{reflexive}
 use Rattle.su_fd.proofs.laws.determines_is_reflexive.Goals as goal
 
 pub returns : goal.returns

@@ -1,3 +1,4 @@
+-- The entry of `from` is found at its place, and the place of `to` is found among the same entries; moving the one to the other keeps the order.
 use Rattle.std.proofs.Common.{◌≡◌, ◌<◌, ◌≤◌, ◌+◌, Contains, ℕ, true, false, get_or, length, arith}
 use Rattle.std.specs.List.{insert, remove}
 use Rattle.su_index.specs.declared.entry.Entry.{Entry}

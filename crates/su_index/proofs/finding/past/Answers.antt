@@ -1,3 +1,4 @@
+-- The entries from `first` on are in order and each has its lead: an entry that isn't before the value shows that none behind it is.
 use Rattle.std.proofs.Common.{◌<◌, ◌+◌, true, false, arith, length}
 use Rattle.su_index.specs.Chunks.{entries_of}
 use Rattle.su_index.specs.inside.Chunks.{before_chunk, rank_in}

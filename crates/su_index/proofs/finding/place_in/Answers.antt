@@ -1,3 +1,4 @@
+-- A binary search: all entries below `low` come before the value, none from `high` on does; an entry with the value on each side gives the value between them.
 use Rattle.std.proofs.Common.{◌≡◌, ◌<◌, ◌∙◌, ap, refl, sym, subst, ◌+◌, ◌-◌, ◌/◌, inl, inr, true, false, arith, length, slice_index}
 use Rattle.std.proofs.lemmas.Bool.{false≢true}
 use Rattle.su_index.specs.Chunks.{entries_of}

@@ -1,3 +1,4 @@
+-- The run so far is made of the first entries of both runs, and each of its entries comes before all that is left.
 use Rattle.std.proofs.Common.{◌≡◌, ◌<◌, ◌++◌, ◌∷◌, [], arith, length, slice_index_or}
 use Rattle.std.proofs.lemmas.List.{take_rest, get_or_default}
 use Rattle.std.proofs.lemmas.List.Elements.{All-drop}

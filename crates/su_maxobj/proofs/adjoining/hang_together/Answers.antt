@@ -1,6 +1,6 @@
 use Rattle.std.proofs.Common.{sym, refl, ◌∙◌}
 use Rattle.std.proofs.lemmas.Bool.{false≢true}
-use Rattle.su_maxobj.proofs.Joining.{not_sharing, hang_by}
+use Rattle.su_maxobj.proofs.Together.{not_sharing, hang_by}
 use Rattle.su_maxobj.proofs.adjoining.hang_together.Goals as goal
 
 pub returns-then-is_empty : goal.returns-then-is_empty

@@ -1,6 +1,6 @@
 use Rattle.std.proofs.Common.{sym}
 use Rattle.su_maxobj.proofs.Members.{object_at_read}
-use Rattle.su_maxobj.proofs.Joining.{joins_by}
+use Rattle.su_maxobj.proofs.Together.{joins_by}
 use Rattle.su_maxobj.proofs.adjoining.joins.Goals as goal
 
 pub returns : goal.returns

@@ -1,6 +1,6 @@
 use Rattle.std.proofs.Common.{ℕ, ◌<◌}
 use Rattle.su_maxobj.specs.Adjoining.{Adjoinable}
-use Rattle.su_maxobj.specs.Growth.{AreNotAdjoinable}
+use Rattle.su_maxobj.specs.inside.Ruled.{AreNotAdjoinable}
 use Rattle.su_maxobj.proofs.growing.first_adjoinable.Given as goal
 
 abbrev pub invariant-loop-o : goal.invariant-loop-o

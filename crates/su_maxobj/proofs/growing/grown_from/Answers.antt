@@ -2,7 +2,7 @@ use Rattle.std.proofs.Common.{◌++◌, [], ◌∷◌, length, ap, sym, ◌∙�
 use Rattle.std.proofs.lemmas.Bool.{false_from_ne_true}
 use Rattle.std.specs.FinSet.{insert}
 use Rattle.su_maxobj.proofs.Members.{object_at_read, attributes_of_one, attributes_of_more}
-use Rattle.su_maxobj.proofs.Widening.{missing_lt, growth_push, one_grown, not_adjoinable_none, not_adjoinable_still}
+use Rattle.su_maxobj.proofs.GrowthSteps.{missing_lt, growth_push, one_grown, not_adjoinable_none, not_adjoinable_still}
 use Rattle.su_maxobj.proofs.growing.grown_from.Goals as goal
 
 pub loop-o-init : goal.loop-o-init

@@ -1,8 +1,9 @@
 use Rattle.std.proofs.Common.{ℕ, List, length}
 use Rattle.std.specs.FinSet.{insert, empty}
 use Rattle.su_maxobj.specs.Adjoining.{IsAttributesOf}
-use Rattle.su_maxobj.specs.Growth.{AreNotAdjoinable, IsGrowth}
-use Rattle.su_maxobj.proofs.Widening.{missing}
+use Rattle.su_maxobj.specs.Growth.{IsGrowth}
+use Rattle.su_maxobj.specs.inside.Ruled.{AreNotAdjoinable}
+use Rattle.su_maxobj.proofs.GrowthSteps.{missing}
 use Rattle.su_maxobj.proofs.growing.grown_from.Given as goal
 
 abbrev pub invariant-loop-o : goal.invariant-loop-o

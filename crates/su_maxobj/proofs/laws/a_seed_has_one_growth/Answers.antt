@@ -1,4 +1,4 @@
-use Rattle.su_maxobj.proofs.Widening.{one_growth}
+use Rattle.su_maxobj.proofs.GrowthSteps.{one_growth}
 use Rattle.su_maxobj.proofs.laws.a_seed_has_one_growth.Goals as goal
 
 pub returns : goal.returns

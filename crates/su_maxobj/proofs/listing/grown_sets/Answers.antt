@@ -1,4 +1,4 @@
-use Rattle.su_maxobj.proofs.Reordering.{grown_by_others}
+use Rattle.su_maxobj.proofs.OtherOrder.{grown_by_others}
 use Rattle.su_maxobj.proofs.listing.grown_sets.Goals as goal
 
 pub returns-clause-each : goal.returns-clause-each

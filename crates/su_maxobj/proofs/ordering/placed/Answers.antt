@@ -1,6 +1,6 @@
 use Rattle.std.proofs.Common.{◌∙◌}
 use Rattle.std.proofs.lemmas.List.{length-set}
-use Rattle.su_maxobj.proofs.Reordering.{place_less, place_from, place_all}
+use Rattle.su_maxobj.proofs.OtherOrder.{place_less, place_from, place_all}
 use Rattle.su_maxobj.proofs.ordering.placed.Goals as goal
 
 pub loop-i-smaller : goal.loop-i-smaller

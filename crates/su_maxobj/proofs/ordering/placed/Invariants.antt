@@ -1,6 +1,6 @@
 use Rattle.std.proofs.Common.{ℕ, ◌<◌, ◌≡◌, true, false, length, get_or, All, Contains}
 use Rattle.su_fd.specs.declared.Fd.{Fd}
-use Rattle.su_maxobj.proofs.Reordering.{waiting_count}
+use Rattle.su_maxobj.proofs.OtherOrder.{waiting_count}
 use Rattle.su_maxobj.proofs.ordering.placed.Given as goal
 
 abbrev pub invariant-loop-i : goal.invariant-loop-i

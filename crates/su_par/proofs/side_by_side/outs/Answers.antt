@@ -1,6 +1,6 @@
 use Rattle.std.proofs.Common.{◌≡◌, Some}
-use Rattle.su_par.proofs.Zips.{zip-snoc}
+use Rattle.su_base.proofs.Items.{AllZip-push}
 use Rattle.su_par.proofs.side_by_side.outs.Goals as goal
 
 pub loop-place-preserved : goal.loop-place-preserved
-loop-place-preserved g c = rw c.in_ok-push.ensures.ok (zip-snoc (λ place out. place.out ≡ Some out) c.loop-place.yielded c.loop-place.outs c.in-Some.place c.in_ok-into_out.field-0 c.loop-place.invariant c.in_ok-into_out.ensures)
+loop-place-preserved g c = rw c.in_ok-push.ensures.ok (AllZip-push (λ place out. place.out ≡ Some out) c.loop-place.yielded c.loop-place.outs c.in-Some.place c.in_ok-into_out.field-0 c.loop-place.invariant c.in_ok-into_out.ensures)

@@ -1,6 +1,6 @@
 use Rattle.std.proofs.Common.{◌≡◌, Some, refl}
-use Rattle.su_par.proofs.Zips.{zip-snoc}
+use Rattle.su_base.proofs.Items.{AllZip-push}
 use Rattle.su_par.proofs.side_by_side.places.Goals as goal
 
 pub loop-job-preserved : goal.loop-job-preserved
-loop-job-preserved g c = rw c.in_ok-push.ensures.ok (zip-snoc (λ job place. place.job ≡ Some job) c.loop-job.yielded c.loop-job.places c.in-Some.job _ c.loop-job.invariant refl)
+loop-job-preserved g c = rw c.in_ok-push.ensures.ok (AllZip-push (λ job place. place.job ≡ Some job) c.loop-job.yielded c.loop-job.places c.in-Some.job _ c.loop-job.invariant refl)

@@ -5,7 +5,7 @@ use Rattle.su_min.specs.Kept.{Minimised}
 use Rattle.su_refute.specs.declared.faults.RefuteFault.TheVariants.{Nodes}
 use Rattle.su_refute.specs.AllTrees.{AreTrees}
 use Rattle.su_refute.proofs.Kept.{no_more}
-use Rattle.su_refute.proofs.Planting.{lists_pushed, lists_over}
+use Rattle.su_refute.proofs.TreeLists.{lists_pushed, lists_over}
 use Rattle.su_refute.proofs.certifying.certify.Goals as goal
 
 pub returns-in_err-planted-clause-over : goal.returns-in_err-planted-clause-over

@@ -1,6 +1,6 @@
 use Rattle.std.proofs.Common.{subst}
 use Rattle.su_tableau.specs.Tableaux.{IsValid, IsSmall}
-use Rattle.su_refute.proofs.Planting.{sound_item}
+use Rattle.su_refute.proofs.TreeLists.{sound_item}
 use Rattle.su_refute.proofs.certifying.keep_their_rules.Goals as goal
 
 pub loop-minimal-preserved : goal.loop-minimal-preserved

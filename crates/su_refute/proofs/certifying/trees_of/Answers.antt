@@ -5,7 +5,7 @@ use Rattle.su_map.specs.Lists.{numbers_of}
 use Rattle.su_refute.specs.declared.faults.RefuteFault.TheVariants.{Nodes}
 use Rattle.su_refute.specs.Trees.{IsTree}
 use Rattle.su_refute.specs.AllTrees.{lines_of, nodes_in}
-use Rattle.su_refute.proofs.Planting.{trees_pushed, trees_kept, trees_over}
+use Rattle.su_refute.proofs.TreeLists.{trees_pushed, trees_kept, trees_over}
 use Rattle.su_refute.proofs.certifying.trees_of.Goals as goal
 use Rattle.su_refute.proofs.certifying.trees_of.Goals.{then-has+in_ok-grown+in_ok-push, else-has}
 

@@ -1,3 +1,4 @@
+-- The row with the fewest targets left gets a branch for each of them, and the tree below a branch is the one for what agrees with it; the nodes are those of the branches and one.
 use Rattle.std.proofs.Common.{Err, ◌≡◌, ◌↔◌, List, Contains, ℕ, ◌<◌, ◌+◌, length, get_or, sym, ap, subst, ◌∙◌, true≢false, arith}
 use Rattle.std.specs.Int.{bit_at}
 use Rattle.std.specs.List.{sum_by}
@@ -6,7 +7,7 @@ use Rattle.su_map.proofs.Searching.{without_less}
 use Rattle.su_refute.specs.declared.faults.RefuteFault.TheVariants.{Nodes}
 use Rattle.su_refute.specs.Trees.{lines_in}
 use Rattle.su_refute.specs.inside.Positions.{Stands}
-use Rattle.su_refute.proofs.Standing.{some_todo, todo_within}
+use Rattle.su_refute.proofs.TreeSoFar.{some_todo, todo_within}
 use Rattle.su_refute.proofs.Grown.{tree_grown, row_in, target_in, sets_in, stands_next, targets_more, targets_same, counted_more, trees_more, over_grown, tree_below}
 use Rattle.su_refute.proofs.OneTree.{branch_count, count_made}
 use Rattle.su_refute.proofs.growing.+grow.Goals as goal

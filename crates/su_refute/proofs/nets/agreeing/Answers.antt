@@ -3,7 +3,7 @@ use Rattle.std.specs.Int.{bit_at}
 use Rattle.su_map.specs.Lists.{row_of}
 use Rattle.su_map.proofs.Members.{collect_none, collect_more, collect_same}
 use Rattle.su_refute.specs.inside.Nets.{AgreeAt}
-use Rattle.su_refute.proofs.Sharing.{member_below, none_agree}
+use Rattle.su_refute.proofs.SharedPlaces.{member_below, none_agree}
 use Rattle.su_refute.proofs.nets.agreeing.Goals as goal
 use Rattle.su_refute.proofs.nets.agreeing.Goals.{then-has+then-agree_at, else-has, else-has-via-then-has+else-agree_at, else-has-via-else-has}
 

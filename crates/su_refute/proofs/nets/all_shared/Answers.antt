@@ -1,7 +1,7 @@
 use Rattle.std.proofs.Common.{[], arith}
 use Rattle.su_map.specs.Lists.{row_of}
 use Rattle.su_refute.specs.inside.Nets.{AreShared}
-use Rattle.su_refute.proofs.Sharing.{push_entries, push_length, shared_by}
+use Rattle.su_refute.proofs.SharedPlaces.{push_entries, push_length, shared_by}
 use Rattle.su_refute.proofs.nets.all_shared.Goals as goal
 
 pub loop-q-preserved : goal.loop-q-preserved

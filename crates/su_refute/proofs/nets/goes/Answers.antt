@@ -1,5 +1,5 @@
 use Rattle.std.proofs.Common.{refl, sym, ◌∙◌, true≢false}
-use Rattle.su_refute.proofs.Sharing.{shared_within, at_agree, agree_at}
+use Rattle.su_refute.proofs.SharedPlaces.{shared_within, at_agree, agree_at}
 use Rattle.su_refute.proofs.nets.goes.Goals as goal
 
 pub agree_at-requires : goal.agree_at-requires

@@ -1,7 +1,7 @@
 use Rattle.std.proofs.Common.{arith}
 use Rattle.su_map.specs.Lists.{row_of}
 use Rattle.su_refute.specs.inside.Nets.{IsTold}
-use Rattle.su_refute.proofs.Sharing.{push_entries, push_length, shared_within, shared_as, width_at, told_by}
+use Rattle.su_refute.proofs.SharedPlaces.{push_entries, push_length, shared_within, shared_as, width_at, told_by}
 use Rattle.su_refute.proofs.nets.told.Goals as goal
 
 pub agreeing-requires-clause-places : goal.agreeing-requires-clause-places

@@ -1,6 +1,6 @@
 use Rattle.std.proofs.Common.{[]}
 use Rattle.su_refute.specs.inside.Nets.{AreTold}
-use Rattle.su_refute.proofs.Sharing.{push_entries, push_length}
+use Rattle.su_refute.proofs.SharedPlaces.{push_entries, push_length}
 use Rattle.su_refute.proofs.nets.told_of.Goals as goal
 
 pub told-requires-clause-shared : goal.told-requires-clause-shared

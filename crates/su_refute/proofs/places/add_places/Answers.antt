@@ -1,5 +1,5 @@
 use Rattle.std.proofs.Common.{inl, inr, sym, ◌∙◌, true≢false, arith}
-use Rattle.su_refute.proofs.Sharing.{at_cell, places_pushed, places_kept}
+use Rattle.su_refute.proofs.SharedPlaces.{at_cell, places_pushed, places_kept}
 use Rattle.su_refute.proofs.places.add_places.Goals as goal
 use Rattle.su_refute.proofs.places.add_places.Goals.{then-same+in_ok-push, else-same}
 

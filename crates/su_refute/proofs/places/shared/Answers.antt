@@ -1,5 +1,5 @@
 use Rattle.std.proofs.Common.{arith}
-use Rattle.su_refute.proofs.Sharing.{at_cell, shared_more}
+use Rattle.su_refute.proofs.SharedPlaces.{at_cell, shared_more}
 use Rattle.su_refute.proofs.places.shared.Goals as goal
 
 pub loop-first-preserved : goal.loop-first-preserved

@@ -1,8 +1,9 @@
 use Rattle.std.proofs.Common.{◌≡◌, inl, inr, refl, sym}
 use Rattle.std.proofs.lemmas.Bool.{false≢true}
 use Rattle.su_base.specs.Value.{compare_lists}
+use Rattle.su_base.proofs.Numbers.{is_lt-Less}
 use Rattle.su_state.specs.inside.Sides.{row_at}
-use Rattle.su_state.proofs.Least.{is_less, not_less, row_there}
+use Rattle.su_state.proofs.Least.{not_less, row_there}
 use Rattle.su_state.proofs.clashes.lesser.Goals as goal
 
 pub returns-then-not-clash : goal.returns-then-not-clash
@@ -14,7 +15,7 @@ pub returns-then-is_before : goal.returns-then-is_before
 returns-then-is_before c =
     let is : row_at c.args.table.now.rows c.args.position ≡ c.row-other.result.now = row_there c.args.table.now.rows c.args.position c.row-other.result.now c.row-other.ensures in
     let other : row_at c.args.table.now.rows c.in-Some.q ≡ c.row.result.now = row_there c.args.table.now.rows c.in-Some.q c.row.result.now c.row.ensures in
-    rw (c.in-Some.is, is) (inr (c.if-not-clash.ensures.0 refl, inl (rw other (is_less (compare_lists c.row-other.result.now c.row.result.now) (sym c.if-is_before.ensures)), refl)))
+    rw (c.in-Some.is, is) (inr (c.if-not-clash.ensures.0 refl, inl (rw other (is_lt-Less (compare_lists c.row-other.result.now c.row.result.now) (sym c.if-is_before.ensures)), refl)))
 
 pub returns-else-is_before : goal.returns-else-is_before
 returns-else-is_before c =

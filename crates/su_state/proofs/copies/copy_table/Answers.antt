@@ -1,5 +1,5 @@
 use Rattle.std.proofs.Common.{◌∙◌}
-use Rattle.su_state.proofs.Copying.{copied_is}
+use Rattle.su_state.proofs.RowsPutIn.{copied_is}
 use Rattle.su_state.proofs.copies.copy_table.Goals as goal
 
 pub returns : goal.returns

@@ -1,3 +1,4 @@
+-- The table of the object's relation has that relation's columns, so a least pair of clashing rows there is the least pair that breaks the dependency.
 use Rattle.std.proofs.Common.{◌≡◌, ◌<◌, ℕ, List, length, slice_get, get_or, Some, refl, sym, ap, subst, ◌∙◌, ◌++◌, [], append-nil, Contains, arith}
 use Rattle.std.proofs.lemmas.Bool.{OnTrue_at}
 use Rattle.std.proofs.lemmas.Option.{slice_get-get_or, slice_get_read}
@@ -9,7 +10,7 @@ use Rattle.su_state.specs.inside.Sides.{Clash, row_at}
 use Rattle.su_state.proofs.Columns.{columns_few, some_left, blank_object, object_on}
 use Rattle.su_state.proofs.Filled.{short}
 use Rattle.su_state.proofs.Least.{row_there}
-use Rattle.su_state.proofs.Breaking.{of_object, own_width, breaks_through, holds_through}
+use Rattle.su_state.proofs.BrokenDependency.{of_object, own_width, breaks_through, holds_through}
 use Rattle.su_state.proofs.defining.check_through.Goals as goal
 
 pub bounds-tables-object_relation : goal.bounds-tables-object_relation

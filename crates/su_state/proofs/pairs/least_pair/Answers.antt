@@ -1,3 +1,4 @@
+-- A marked row clashes with some row, the least marked row is the least that does, and where no row is marked no two clash.
 use Rattle.std.proofs.Common.{◌≡◌, ◌<◌, ℕ, Bool, List, [], length, Some, None, sym, ap, subst, ◌∙◌, refl}
 use Rattle.std.proofs.lemmas.List.{get_or_read}
 use Rattle.su_base.specs.declared.values.Value.{Value}

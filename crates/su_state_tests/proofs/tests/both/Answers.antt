@@ -1,4 +1,4 @@
-use Rattle.su_state.proofs.Fitting.{both_fit}
+use Rattle.su_state.proofs.TwoConditions.{both_fit}
 use Rattle.su_state_tests.proofs.tests.both.Goals as goal
 
 pub returns : goal.returns

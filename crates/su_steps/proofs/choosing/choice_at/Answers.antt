@@ -1,4 +1,4 @@
-use Rattle.su_steps.proofs.Counting.{step}
+use Rattle.su_steps.proofs.ChoiceCounts.{step}
 use Rattle.su_steps.proofs.choosing.choice_at.Goals as goal
 
 pub nonzero_div-left : goal.nonzero_div-left

@@ -1,5 +1,5 @@
 use Rattle.std.proofs.Common.{◌∙◌}
-use Rattle.su_steps.proofs.Counting.{counted_more}
+use Rattle.su_steps.proofs.ChoiceCounts.{counted_more}
 use Rattle.su_steps.proofs.choosing.choice_count.Goals as goal
 
 pub loop-numbers-preserved : goal.loop-numbers-preserved

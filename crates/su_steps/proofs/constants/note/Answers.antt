@@ -1,6 +1,6 @@
 use Rattle.std.proofs.Common.{◌++◌, ◌∷◌, [], ◌∙◌, sym, ap, subst, arith}
 use Rattle.su_classes.specs.inside.Symbols.{place_of, has_constant, AreDistinct}
-use Rattle.su_steps.proofs.Noting.{place_has, place_out, has_push, kept_push, distinct_push}
+use Rattle.su_steps.proofs.ConstantNames.{place_has, place_out, has_push, kept_push, distinct_push}
 use Rattle.su_steps.proofs.constants.note.Goals as goal
 
 pub returns-then-place-len-clause-there : goal.returns-then-place-len-clause-there

@@ -1,3 +1,4 @@
+-- The terms so far are those of the disjuncts so far, each with all its choices.
 use Rattle.std.proofs.Common.{◌≡◌, ◌∙◌, ◌<◌, ◌≤◌, sym, ap, subst, map, length, get_or, [], arith}
 use Rattle.std.specs.List.{flat_map, range_with_len}
 use Rattle.std.proofs.lemmas.List.{get_or_default}
@@ -5,8 +6,8 @@ use Rattle.su_where.specs.Disjunct.{disjuncts_of}
 use Rattle.su_steps.specs.Choices.{choices}
 use Rattle.su_steps.specs.Terms.{case_of, AreTermsOf}
 use Rattle.su_steps.specs.inside.Ready.{FitLiterals}
-use Rattle.su_steps.proofs.Fitting.{literals_fit}
-use Rattle.su_steps.proofs.Pushing.{cases_flat}
+use Rattle.su_steps.proofs.ResolvedQueries.{literals_fit}
+use Rattle.su_steps.proofs.TermsSoFar.{cases_flat}
 use Rattle.su_steps.proofs.making.accepted_terms.Goals as goal
 
 pub disjuncts-requires : goal.disjuncts-requires

@@ -1,3 +1,4 @@
+-- The terms so far are those of the choices so far, numbered in lexicographic order.
 use Rattle.std.proofs.Common.{◌∙◌, ◌<◌, ◌≤◌, ◌++◌, min, map, sym, ap, subst, get_or, length, [], append-nil}
 use Rattle.std.specs.Prelude.{All}
 use Rattle.std.proofs.lemmas.List.{take_all}
@@ -5,7 +6,7 @@ use Rattle.su_steps.specs.Choices.{combinations, choices}
 use Rattle.su_steps.specs.Terms.{case_of, AreTermsOf}
 use Rattle.su_steps.specs.Refusals.{row_count}
 use Rattle.su_steps.specs.inside.Ready.{IsReady, IsChoice}
-use Rattle.su_steps.proofs.Casing.{coverings_few, choice_in, choice_step, count_is}
+use Rattle.su_steps.proofs.Cases.{coverings_few, choice_in, choice_step, count_is}
 use Rattle.su_steps.proofs.making.push_terms.Goals as goal
 
 pub choice_count-count-requires : goal.choice_count-count-requires

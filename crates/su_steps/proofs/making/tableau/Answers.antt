@@ -1,3 +1,4 @@
+-- The labels are the least classes of the rows' items and the comparisons, so that the named rows are the tableau of the choice, or a clash shows that there is none.
 use Rattle.std.proofs.Common.{◌≡◌, ◌∙◌, ◌*◌, ℕ, List, Option, MatchOption, map, length, refl, sym, subst}
 use Rattle.std.proofs.lemmas.Bool.{true≢false}
 use Rattle.su_where.specs.declared.literals.Literal.{Literal}

@@ -1,3 +1,4 @@
+-- The rows of a choice are few and typed, so that the tableau and its origins make a term; where the comparisons clash the choice has none.
 use Rattle.std.proofs.Common.{◌∙◌, ◌<◌, List, Option, MatchOption, length, sym, ap, subst, arith}
 use Rattle.std.specs.Prelude.{All}
 use Rattle.su_where.specs.declared.literals.Literal.{Literal}

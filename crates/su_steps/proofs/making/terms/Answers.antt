@@ -1,3 +1,4 @@
+-- The refusals are tested in their order, so that each tells the first cause; the terms of what is accepted are the expression.
 use Rattle.std.proofs.Common.{◌≡◌, ◌∙◌, ◌<◌, ◌≤◌, ℕ, sym, ap, subst, length, min, arith}
 use Rattle.std.specs.Prelude.{All}
 use Rattle.std.proofs.lemmas.Nat.{mul-le}
@@ -6,7 +7,7 @@ use Rattle.su_query.specs.declared.resolving.Resolved.{Resolved}
 use Rattle.su_steps.specs.Choices.{combinations}
 use Rattle.su_steps.specs.Refusals.{disjunct_count}
 use Rattle.su_steps.proofs.Chosen.{coverings_count}
-use Rattle.su_steps.proofs.Casing.{coverings_low, coverings_few}
+use Rattle.su_steps.proofs.Cases.{coverings_low, coverings_few}
 use Rattle.su_steps.proofs.Refused.{covered_is, refused_cover, first_below, many_disjuncts, few_disjuncts, many_rows, few_rows, many_terms, few_terms}
 use Rattle.su_steps.proofs.Whole.{whole, all_typed}
 use Rattle.su_steps.proofs.making.terms.Goals as goal

@@ -1,4 +1,4 @@
-use Rattle.su_window.proofs.Taking.{columns_more}
+use Rattle.su_window.proofs.TakenValues.{columns_more}
 use Rattle.su_window.proofs.columns.columns_of.Goals as goal
 
 pub loop-a-preserved : goal.loop-a-preserved

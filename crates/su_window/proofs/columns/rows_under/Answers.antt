@@ -1,7 +1,7 @@
 use Rattle.std.proofs.Common.{◌≡◌, map, Some, subst}
 use Rattle.std.specs.Prelude.{slice_get}
 use Rattle.su_schema.specs.SchemaValue.{SchemaValue}
-use Rattle.su_window.proofs.Taking.{relation_within, rows_are}
+use Rattle.su_window.proofs.TakenValues.{relation_within, rows_are}
 use Rattle.su_window.proofs.columns.rows_under.Goals as goal
 
 pub bounds-tables-relation : goal.bounds-tables-relation

@@ -1,16 +1,17 @@
+-- The rows so far are the padded rows of the readings so far; a pad's number is below the count of all, since readings and columns are few.
 use Rattle.std.proofs.Common.{◌≡◌, ◌*◌, ◌∙◌, ℕ, List, Option, length, ap, arith}
 use Rattle.std.proofs.lemmas.List.{length-map}
 use Rattle.std.proofs.lemmas.Nat.{mul-le}
 use Rattle.std.proofs.lemmas.List.FromFn.{length-map-range_with_len}
+use Rattle.su_base.proofs.Items.{map-range_push}
 use Rattle.su_schema.specs.SchemaValue.{SchemaValue, AttributeEntry, column_of}
-use Rattle.su_window.specs.Cuts.{width}
+use Rattle.su_schema.specs.Cuts.{width}
 use Rattle.su_window.specs.Padded.{object_at, row_read, padded_row, IsReading}
 use Rattle.su_window.specs.inside.Reading.{columns_of}
 use Rattle.su_window.specs.declared.readings.Reading.{Reading}
-use Rattle.su_window.proofs.Made.{made_more}
 use Rattle.su_window.proofs.Rows.{none, reading_at}
 use Rattle.su_window.proofs.RowRead.{columns_length, columns_at, row_is, within}
-use Rattle.su_window.proofs.Taking.{row_padded}
+use Rattle.su_window.proofs.TakenValues.{row_padded}
 use Rattle.su_window.proofs.padding.padded_rows.Goals as goal
 
 pub bounds-columns-reading : goal.bounds-columns-reading
@@ -57,5 +58,5 @@ loop-i-preserved c =
     let end = c.attributes-width.ensures in
     let same : length c.schema.result.now.attributes ≡ length db.schema.attributes = ap (λ (s : SchemaValue). length s.attributes) c.schema.ensures in
     let width_is : c.attributes-width.result ≡ width db.schema = omega (arith, wide, end, same) in
-    made_more (λ j. padded_row db j (reading_at c.args.readings.now j)) i _ _ _ c.in_ok-push.ensures.ok c.loop-i.invariant
+    map-range_push (λ j. padded_row db j (reading_at c.args.readings.now j)) i _ _ _ c.in_ok-push.ensures.ok c.loop-i.invariant
     (c.in_ok-padded_row.ensures ∙ row_padded db c.keeps_its_rules.ensures i r is.object c.as_slice-columns.result.now columns c.index-stored-reading.result row (i * c.attributes-width.result) (ap (λ (w : ℕ). i * w) width_is))

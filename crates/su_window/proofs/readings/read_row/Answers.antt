@@ -1,3 +1,4 @@
+-- The keys seen are the values of the readings so far, so a row whose values are new is one member more.
 use Rattle.std.proofs.Common.{◌≡◌, ◌+◌, List, Result, sym, subst}
 use Rattle.std.specs.Prelude.{IfErr}
 use Rattle.std.proofs.lemmas.Result.{err_from_is_err_and}

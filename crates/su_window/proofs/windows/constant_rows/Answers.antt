@@ -1,9 +1,9 @@
 use Rattle.std.proofs.Common.{◌≡◌, ◌↔◌, ◌∙◌, ℕ, List, take, length, Contains, sym, ap, subst, arith}
 use Rattle.su_base.specs.declared.values.Value.{Value}
+use Rattle.std.proofs.Math.Seq.{take-length}
 use Rattle.su_tableau.specs.declared.symbols.Sym.{Sym}
 use Rattle.su_tableau.specs.Tableaux.{AreBelow}
 use Rattle.su_window.specs.inside.Reading.{AreConstants}
-use Rattle.su_window.proofs.Counted.{take_all}
 use Rattle.su_window.proofs.Constants.{rows_more}
 use Rattle.su_window.proofs.windows.constant_rows.Goals as goal
 
@@ -20,5 +20,5 @@ returns c =
     let rows = c.args.rows.now in
     let done = c.loop-row-test.false in
     let end = c.loop-row.auto.row-index-end in
-    let whole : take c.loop-row.row-index rows ≡ rows = ap (λ (k : ℕ). take k rows) (omega (arith, done, end)) ∙ take_all rows in
+    let whole : take c.loop-row.row-index rows ≡ rows = ap (λ (k : ℕ). take k rows) (omega (arith, done, end)) ∙ take-length rows in
     subst (λ (rs : List (List Sym)). (h : List Value) → Contains c.loop-row.found h ↔ ((row : List Sym) × Contains rs row × AreConstants c.args.names.now row c.args.attributes.now h)) whole c.loop-row.invariant

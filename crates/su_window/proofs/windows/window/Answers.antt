@@ -1,3 +1,4 @@
+-- The readings are the members, their padded rows chased are the representative instance, and its rows of constants on the attributes are the window.
 use Rattle.std.proofs.Common.{rules, ◌≡◌, List, length, ap, subst, sym, ◌∙◌}
 use Rattle.std.specs.Prelude.{All}
 use Rattle.su_schema.specs.SchemaValue.{SchemaValue}
@@ -46,7 +47,7 @@ returns-clause-exact c =
     let fds : c.fds.result.now ≡ db.schema.fds = c.fds.ensures ∙ ap (λ (s : SchemaValue). s.fds) c.schema-2.ensures in
     let rows : c.as_slice-4.result.now ≡ padded_rows db readings = c.as_slice-4.ensures ∙ c.in_ok-rows.ensures ∙ ap (padded_rows db) c.as_slice-3.ensures in
     exact_told db c.keeps_its_rules.ensures readings c.in_ok-readings.ensures.readings c.in_ok-readings.ensures.few c.fds.result.now fds c.as_slice-4.result.now rows closed.names c.in_ok-names.ensures.all c.in_ok-names.ensures.names closed.clash c.in_ok-names.ensures.clash c.in-None.is
-    c.args.attributes.now c.requires.attributes c.as_slice-in-None-2.result.now (c.as_slice-in-None-2.ensures ∙ sym c.as_slice-4.ensures) c.as_slice-in-None.result.now c.as_slice-in-None.ensures c.in_ok-found-in-None.found c.in_ok-sorted-in-None.field-0 c.in_ok-found-in-None.ensures c.in_ok-sorted-in-None.ensures.members
+    c.args.attributes.now c.requires.attributes c.as_slice-in-None-2.result.now (c.as_slice-in-None-2.ensures ∙ sym c.as_slice-4.ensures) c.as_slice-in-None.result.now c.as_slice-in-None.ensures c.in_ok-found-in-None.found c.sorted_rows.result c.in_ok-found-in-None.ensures c.sorted_rows.ensures.members
 
 pub returns-clause-fits : goal.returns-clause-fits
 returns-clause-fits c =

@@ -1,7 +1,7 @@
 use Rattle.std.proofs.Common.{◌≡◌, []}
 use Rattle.std.specs.Int.{bit_at}
 use Rattle.su_refute.specs.inside.Nets.{IsBase, AreToldOf}
-use Rattle.su_refute.proofs.Sharing.{push_entries, push_length}
+use Rattle.su_refute.proofs.SharedPlaces.{push_entries, push_length}
 use Rattle.su_refute.proofs.nets.Net.of.Goals as goal
 
 pub loop-row-preserved : goal.loop-row-preserved

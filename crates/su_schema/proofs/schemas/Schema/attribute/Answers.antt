@@ -5,7 +5,7 @@ use Rattle.su_schema.specs.SchemaValue.{attribute_names}
 use Rattle.su_schema.specs.Checks.{first_failing, checks, is_known}
 use Rattle.su_schema.proofs.Numbers.{is_known-place_of}
 use Rattle.su_schema.proofs.Accepted.{accepted, is_refused}
-use Rattle.su_schema.proofs.Extending.{stays_valid, attribute_shape}
+use Rattle.su_schema.proofs.OneMore.{stays_valid, attribute_shape}
 use Rattle.su_schema.proofs.schemas.Schema.attribute.Goals as goal
 
 pub returns-then-is_some-clause-refused : goal.returns-then-is_some-clause-refused

@@ -1,3 +1,4 @@
+-- Each test is one of the definition's checks, in their order: where one fails those before it have passed, and where none fails the schema has one dependency more.
 use Rattle.std.proofs.Common.{◌≡◌, ◌<◌, None, false, inl, inr, nat_le, [], length, ◌∙◌, arith}
 use Rattle.std.proofs.lemmas.Bool.Decides.{nat_tests}
 use Rattle.std.proofs.lemmas.Result.{err_from_is_err_and}
@@ -6,7 +7,7 @@ use Rattle.su_schema.specs.SchemaValue.{attribute_names}
 use Rattle.su_schema.specs.Checks.{first_failing, checks, name_checks}
 use Rattle.su_schema.proofs.Accepted.{accepted, is_refused}
 use Rattle.su_schema.proofs.PairsSoFar.{first_failing-append, first_failing-passed}
-use Rattle.su_schema.proofs.Extending.{stays_valid, fd_shape}
+use Rattle.su_schema.proofs.OneMore.{stays_valid, fd_shape}
 use Rattle.su_schema.proofs.schemas.Schema.fd.Goals as goal
 
 pub returns-in_err-left-clause-refused : goal.returns-in_err-left-clause-refused

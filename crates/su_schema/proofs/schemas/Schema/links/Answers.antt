@@ -1,3 +1,4 @@
+-- The links so far are those of the pairs so far, which passed their checks; the next pair fails at the first of its checks, or gives one link more.
 use Rattle.std.proofs.Common.{◌≡◌, inl, inr, sym, ap, true, false, ◌==◌}
 use Rattle.std.specs.List.{list_any}
 use Rattle.std.proofs.lemmas.Result.{err_from_is_err_and}

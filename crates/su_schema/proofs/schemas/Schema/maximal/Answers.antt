@@ -2,7 +2,7 @@ use Rattle.std.proofs.Common.{◌≡◌, ◌<◌, None, false, nat_le, length, r
 use Rattle.std.proofs.lemmas.Bool.Decides.{nat_tests}
 use Rattle.su_schema.specs.declared.definitions.Definition.TheVariants.{Maximal}
 use Rattle.su_schema.specs.Checks.{first_failing, checks}
-use Rattle.su_schema.proofs.Extending.{stays_valid, maximal_shape}
+use Rattle.su_schema.proofs.OneMore.{stays_valid, maximal_shape}
 use Rattle.su_schema.proofs.schemas.Schema.maximal.Goals as goal
 
 pub invariant_of-self-2 : goal.invariant_of-self-2

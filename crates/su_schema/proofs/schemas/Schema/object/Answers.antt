@@ -1,3 +1,4 @@
+-- Each test is one of the definition's checks, in their order: where one fails those before it have passed, and where none fails the schema has one object more.
 use Rattle.std.proofs.Common.{◌≡◌, ◌<◌, ◌≤◌, Some, None, true, false, inl, inr, nat_le, [], ℕ, subst, length, is_some, refl, sym, ap, ◌∙◌, arith}
 use Rattle.std.proofs.lemmas.Bool.Decides.{nat_tests}
 use Rattle.std.proofs.lemmas.Result.{err_from_is_err_and}
@@ -6,7 +7,7 @@ use Rattle.su_schema.specs.SchemaValue.{relation_names, object_names}
 use Rattle.su_schema.specs.Checks.{first_failing, checks, pair_checks, is_known, columns_at, number_of}
 use Rattle.su_schema.proofs.Numbers.{is_known-place_of, known-None, known-Some}
 use Rattle.su_schema.proofs.Accepted.{accepted, is_refused}
-use Rattle.su_schema.proofs.Extending.{stays_valid, object_shape, sets_kept}
+use Rattle.su_schema.proofs.OneMore.{stays_valid, object_shape, sets_kept}
 use Rattle.su_schema.specs.inside.Kept.{object_on}
 use Rattle.su_schema.specs.Defining.{links_of}
 use Rattle.su_schema.proofs.schemas.Schema.object.Goals as goal

@@ -1,3 +1,4 @@
+-- Each test is one of the definition's checks, in their order: where one fails those before it have passed, and where none fails the schema has one relation more.
 use Rattle.std.proofs.Common.{◌≡◌, ◌<◌, ◌≤◌, None, true, false, inl, inr, nat_le, nat_lt, length, is_some, refl, sym, ap, ◌∙◌, arith}
 use Rattle.std.proofs.lemmas.Bool.Decides.{nat_tests}
 use Rattle.std.proofs.lemmas.Result.{err_from_is_err_and}
@@ -6,7 +7,7 @@ use Rattle.su_schema.specs.SchemaValue.{relation_names}
 use Rattle.su_schema.specs.Checks.{first_failing, checks, is_known}
 use Rattle.su_schema.proofs.Numbers.{is_known-place_of}
 use Rattle.su_schema.proofs.Accepted.{accepted, is_refused}
-use Rattle.su_schema.proofs.Extending.{stays_valid, relation_shape}
+use Rattle.su_schema.proofs.OneMore.{stays_valid, relation_shape}
 use Rattle.su_schema.proofs.schemas.Schema.relation.Goals as goal
 
 pub returns-then-is_some-clause-refused : goal.returns-then-is_some-clause-refused

@@ -4,7 +4,7 @@ use Rattle.su_where.specs.Truth.{Fits, truth_of}
 use Rattle.su_state.specs.DatabaseValue.{DatabaseValue, table_of, rows_of, columns_of}
 use Rattle.su_state.specs.Changes.{DeletesWhere}
 use Rattle.su_state.proofs.Kept.{with_table, has_table, table_read}
-use Rattle.su_state.proofs.Staying.{fits_rows, fewer_stay, kept_staying, deletes_where}
+use Rattle.su_state.proofs.RowsLeft.{fits_rows, fewer_stay, kept_staying, deletes_where}
 use Rattle.su_state.proofs.databases.Database.delete_where.Goals as goal
 
 pub marks-requires : goal.marks-requires

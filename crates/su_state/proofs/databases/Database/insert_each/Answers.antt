@@ -2,7 +2,7 @@ use Rattle.std.proofs.Common.{Bool, Ok, subst, ◌≡◌, ◌++◌, ◌∷◌, [
 use Rattle.std.proofs.lemmas.List.{length_push}
 use Rattle.std.specs.Vec.Iter.{into_iter_items}
 use Rattle.su_state.specs.Changes.{Inserts}
-use Rattle.su_state.proofs.Loading.{changes_by_insert, inserts_push, refused_at}
+use Rattle.su_state.proofs.Inserts.{changes_by_insert, inserts_push, refused_at}
 use Rattle.su_state.proofs.databases.Database.insert_each.Goals as goal
 
 pub loop-row-preserved-in-Ok-true : goal.loop-row-preserved-in-Ok-true

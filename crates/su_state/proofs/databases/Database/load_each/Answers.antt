@@ -3,7 +3,7 @@ use Rattle.su_state.specs.DatabaseValue.{DatabaseValue, IsWellKept, table_of}
 use Rattle.su_state.specs.Changes.{ChangesOnly}
 use Rattle.su_state.specs.Loads.{InsertsAll, InsertsSome, Loads}
 use Rattle.su_state.proofs.Kept.{with_table, has_table, table_read, unchanged_with}
-use Rattle.su_state.proofs.Loading.{changes_some, load_refused, put_back}
+use Rattle.su_state.proofs.Inserts.{changes_some, load_refused, put_back}
 use Rattle.su_state.proofs.databases.Database.load_each.Goals as goal
 
 pub invariant_of-self : goal.invariant_of-self

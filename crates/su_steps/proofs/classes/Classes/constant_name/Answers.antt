@@ -1,7 +1,7 @@
 use Rattle.std.proofs.Common.{◌≡◌, ◌*◌, ◌∙◌, sym, ap, subst, IfOk, arith}
 use Rattle.su_tableau.specs.declared.symbols.Sym.TheVariants.{Const}
 use Rattle.su_classes.specs.inside.Symbols.{place_of}
-use Rattle.su_steps.proofs.Noting.{known_name, other_name}
+use Rattle.su_steps.proofs.ConstantNames.{known_name, other_name}
 use Rattle.su_steps.proofs.classes.Classes.constant_name.Goals as goal
 
 pub returns-then-item-len : goal.returns-then-item-len
