@@ -3,6 +3,7 @@ use Rattle.std.proofs.Common.{◌≡◌, ◌≢◌, ◌<◌, ◌≤◌, ◌+◌,
 use Rattle.std.proofs.lemmas.Bool.{cases_lt, cases_eq}
 use Rattle.std.proofs.lemmas.List.{get_or_default, get_or-set_same, get_or-set_other, length-set, get_or_append_left, get_or_push}
 use Rattle.std.proofs.lemmas.List.Elements.{Contains-push, Contains-append_left, Contains-append_cases}
+use borrow.Author.Count.{below_more}
 use Rattle.su_tableau.specs.declared.symbols.Sym.{Sym}
 use Rattle.su_tableau.specs.declared.symbols.Sym.TheVariants.{Var}
 use Rattle.su_tableau.specs.Tableaux.{Occurs}
@@ -11,7 +12,6 @@ use Rattle.su_check.specs.Certificate.{lines_of}
 use Rattle.su_check.specs.inside.Cells.{cell}
 use Rattle.su_check.specs.inside.Boards.{AreMarks, IsNumber, AreNumbers, IsBoard}
 use Rattle.su_check.specs.inside.Cells.{IsFirst}
-use Rattle.su_check.proofs.Steps.{below_more}
 
 pub only_one : {X : Type 0} (x k : X) → Contains (x ∷ []) k → x ≡ k
 only_one x k (zero, h, e) = e

@@ -3,6 +3,8 @@ use Rattle.std.proofs.Common.{◌≡◌, ◌≢◌, ℕ, zero, suc, ◌<◌, ◌
 use Rattle.std.proofs.lemmas.Bool.{cases_eq}
 use Rattle.std.proofs.lemmas.List.{length-map, get_or-map, get_or_default}
 use Rattle.std.proofs.lemmas.List.Elements.{All-nil, All-push, All-contains, recursion_from_All}
+use Rattle.su_base.proofs.Numbers.{pigeonhole}
+use Rattle.su_base.proofs.Items.{Contains-map}
 use Rattle.su_tableau.specs.declared.symbols.Sym.{Sym}
 use Rattle.su_tableau.specs.declared.symbols.Sym.TheVariants.{Const, Var}
 use Rattle.su_tableau.specs.Tableaux.{Tab, IsValid, Occurs}
@@ -18,7 +20,6 @@ use Rattle.su_check.specs.declared.sending.Sent.{Sent}
 use Rattle.su_check.specs.Fitting.{Lines, row_of, sent_too}
 use Rattle.su_check.specs.Refuting.{IsAscending, IsFitting, Refutes, refuting, row_named, branches_of, target_of, node_of}
 use Rattle.su_check.specs.Certificate.{part_of, IsFoldInto, IsLeastPart}
-use Rattle.su_check.proofs.Holes.{pigeonhole}
 
 -- ---- a tree refutes each map that leaves the row out
 
@@ -57,9 +58,6 @@ same_row : (xs : List Sym) → images_of Var xs ≡ xs
 same_row [] = refl
 same_row (x ∷ xs) = let i = same_row xs in let j = same_sym x in cc
 
-contains_map : {X Y : Type 0} (f : X → Y) (xs : List X) (x : X) → Contains xs x → Contains (map f xs) (f x)
-contains_map f xs x h = (h.0, (let e = length-map xs f in let l = h.1 in omega arith), get_or-map f xs h.0 x (f x) h.1 ∙ ap f h.2)
-
 module _ (t : Tab) (kept : List ℕ) where
   row : ℕ → List Sym
   row k = get_or t.rows k []
@@ -76,7 +74,7 @@ module _ (t : Tab) (kept : List ℕ) where
 
   part_has : (i : ℕ) → Contains kept i → Contains (part_of t kept).rows (row i)
   unfolding row
-  part_has i h = contains_map (λ k. get_or t.rows k []) kept i h
+  part_has i h = Contains-map (λ k. get_or t.rows k []) kept i h
 
   pub fold_maps : (fold : List ℕ) → IsFoldInto (record { head = t.head; rows = t.rows; kept = kept }) fold → Maps t (part_of t kept)
   unfolding row

@@ -1,7 +1,7 @@
 -- Rows that go to rows under one list of symbols.
 -- sent: a row and the row to which it goes; target: the row to which a row goes
 -- partial list: rows with their targets, in the order in which they got them
-use Rattle.std.specs.Prelude.{◌≡◌, ◌<◌, ℕ, List, [], ◌∷◌, ◌++◌, get_or, length, All}
+use Rattle.std.specs.Prelude.{◌≡◌, ℕ, List, [], ◌∷◌, ◌++◌, get_or, All}
 use Rattle.su_tableau.specs.declared.symbols.Sym.{Sym}
 use Rattle.su_tableau.specs.Mapping.{images_of}
 use Rattle.su_check.specs.declared.sending.Sent.{Sent}
@@ -25,14 +25,3 @@ pub record AreSent (t : Lines) (p : List Sent) : Type 0 where
 -- the partial list, and behind it that row s goes to row j
 abbrev pub sent_too : List Sent → ℕ → ℕ → List Sent
 sent_too p s j = p ++ record { row = s; target = j } ∷ []
-
--- ---- cell by cell
-
--- all rows have one width
-abbrev pub AreWide : List (List Sym) → Type 0
-AreWide rows = (i j : ℕ) → i < length rows → j < length rows → length (get_or rows i []) ≡ length (get_or rows j [])
-
--- the numbers are those of rows
-pub record IsWithin (t : Lines) (x : Sent) : Type 0 where
-  pub row : x.row < length t.rows
-  pub target : x.target < length t.rows

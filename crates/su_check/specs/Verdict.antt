@@ -1,5 +1,5 @@
 -- The verdict on the bytes of a certificate: yes, or the first term at fault, and within it form, then fold, then trees.
-use Rattle.std.specs.Prelude.{◌≡◌, ◌<◌, ◌≤◌, ℕ, List, length, get_or, slice_get, Some, All}
+use Rattle.std.specs.Prelude.{◌≡◌, ◌<◌, ℕ, List, length, get_or, slice_get, Some, All}
 use Rattle.su_tableau.specs.Kinds.{Kinds}
 use Rattle.su_check.specs.declared.certificates.Certificate.{Certificate}
 use Rattle.su_check.specs.declared.certificates.Term.{Term}
@@ -10,11 +10,6 @@ use Rattle.su_check.specs.declared.verdicts.Fault.{Fault}
 use Rattle.su_check.specs.declared.verdicts.Fault.TheVariants.{Syntax, Form, Fold, Tree}
 use Rattle.su_check.specs.Grammar.{Reads}
 use Rattle.su_check.specs.Certificate.{tableau_of, IsGoodForm, IsGoodFold, IsGoodTree, IsGood, IsLeastPart}
-
--- each kept row has its tree, and there are no more
-pub record HasGoodTrees (x : Term) : Type 0 where
-  pub trees : (k : ℕ) → k < length x.kept → IsGoodTree x k
-  pub no_surplus : length x.trees ≤ length x.kept
 
 -- the tree of the first kept row that has no good one is at fault, or else the first one that is too many
 pub data IsTreeFault (x : Term) (row : ℕ) : Type 0 where

@@ -4,3 +4,5 @@ pub mod Boards
 pub mod Cells
 pub mod Guides
 pub mod Reading
+pub mod Trees
+pub mod Widths

@@ -4,7 +4,8 @@ ghost use Rattle.std.specs.Int.{bit_at};
 ghost use Rattle.su_tableau.specs.declared.symbols.Sym.{Sym as ASym};
 ghost use Rattle.su_check.specs.Certificate.{lines_of};
 ghost use Rattle.su_check.specs.inside.Cells.{cell};
-ghost use Rattle.su_check.specs.Fitting.{AreWide, IsWithin, row_of};
+ghost use Rattle.su_check.specs.Fitting.{row_of};
+ghost use Rattle.su_check.specs.inside.Widths.{AreWide, IsWithin};
 ghost use Rattle.su_check.specs.inside.Boards.{IsImage, IsReady};
 ghost use Rattle.su_check.specs.inside.Guides.{HasCarriers, AreAlike, HasTargets, IsGuide};
 

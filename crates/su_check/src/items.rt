@@ -12,24 +12,34 @@ use su_base::{Kind, List, NoMemory, Value};
 use su_lex::{LexEnd, Reader, Symbol};
 use su_tableau::Sym;
 
+/// The number that comes next, if one that is at most this does. It stays.
+fn number_at(reader: &Reader, most: u32) -> Option<u32>
+    ensures found { MatchOption result ((n : ℕ) → n ≤ most → ¬ (Begins (number n) reader.now)) (λ n. Begins (number n) reader.now × (n ≤ most)) }
+{
+    match reader.peek() {
+        Some(Symbol::Int(n)) if 0 <= *n && *n <= most as i64 => Some(*n as u32),
+        _ => None,
+    }
+}
+
 /// Goes past the number, if one that is at most this comes next.
 pub fn takes_number(reader: &mut Reader, most: u32) -> Option<u32>
-    ensures found { MatchOption result (reader.new.rest.now ≡ reader.old.rest.now) (λ n. (reader.old.rest.now ≡ number n ∷ reader.new.rest.now) × (n ≤ most)) }
-    ensures none { result ≡ None → (n : ℕ) → n ≤ most → ¬ (Begins (number n) reader.old.rest.now) }
+    ensures found { MatchOption result (reader.new ≡ reader.old) (λ n. (reader.old ≡ number n ∷ reader.new) × (n ≤ most)) }
+    ensures none { result ≡ None → (n : ℕ) → n ≤ most → ¬ (Begins (number n) reader.old) }
 {
-    match reader.rest {
-        [Symbol::Int(n), behind @ ..] if 0 <= *n && *n <= most as i64 => {
-            reader.rest = behind;
-            Some(*n as u32)
-        }
-        _ => None,
+    match number_at(reader, most) {
+        Some(n) => match reader.next() {
+            Some(_) => Some(n),
+            None => None,
+        },
+        None => None,
     }
 }
 
 /// The number that must be next, at most this.
 pub fn expect_number(reader: &mut Reader, most: u32) -> Result<u32, LexEnd>
-    ensures found { IfOk result (λ n. (reader.old.rest.now ≡ number n ∷ reader.new.rest.now) × (n ≤ most)) }
-    ensures only { (n : ℕ) (r : Items ASymbol) → n ≤ most → reader.old.rest.now ≡ number n ∷ r → Gives result (λ m. (m ≡ n) × (reader.new.rest.now ≡ r)) }
+    ensures found { IfOk result (λ n. (reader.old ≡ number n ∷ reader.new) × (n ≤ most)) }
+    ensures only { (n : ℕ) (r : Items ASymbol) → n ≤ most → reader.old ≡ number n ∷ r → Gives result (λ m. (m ≡ n) × (reader.new ≡ r)) }
 {
     match takes_number(reader, most) {
         Some(n) => Ok(n),
@@ -39,43 +49,54 @@ pub fn expect_number(reader: &mut Reader, most: u32) -> Result<u32, LexEnd>
 
 /// The numbers that come next, as long as they are bytes.
 pub fn bytes(reader: &mut Reader) -> Result<List<u8>, NoMemory>
-    ensures found { IfOk result (λ ns. (reader.old.rest.now ≡ map number ns ++ reader.new.rest.now) × All IsByte ns) }
-    ensures only { (ns : Items ℕ) (r : Items ASymbol) → All IsByte ns → Stops number IsByte r → reader.old.rest.now ≡ map number ns ++ r
-        → IfOk result (λ ms. (ms ≡ ns) × (reader.new.rest.now ≡ r)) }
+    ensures found { IfOk result (λ ns. (reader.old ≡ map number ns ++ reader.new) × All IsByte ns) }
+    ensures only { (ns : Items ℕ) (r : Items ASymbol) → All IsByte ns → Stops number IsByte r → reader.old ≡ map number ns ++ r
+        → IfOk result (λ ms. (ms ≡ ns) × (reader.new ≡ r)) }
 {
-    let mut numbers = List::new(reader.alloc);
+    let mut numbers = List::new(reader.alloc());
     while let Some(n) = takes_number(reader, 255) {
         numbers.push(n as u8)?;
     }
     Ok(numbers)
 }
 
-/// The symbol of a tableau that comes next, if one does.
-fn takes_symbol(reader: &mut Reader) -> Result<Option<Sym>, NoMemory>
-    ensures found { IfOk result (λ o. MatchOption o (reader.new.rest.now ≡ reader.old.rest.now) (λ x. (reader.old.rest.now ≡ sym_symbol x ∷ reader.new.rest.now) × IsNamed x)) }
-    ensures none { IfOk result (λ o. o ≡ None → Stops sym_symbol IsNamed reader.old.rest.now) }
+/// The symbol of a tableau that comes next, if one does. It stays.
+fn symbol_at(reader: &Reader) -> Result<Option<Sym>, NoMemory>
+    ensures { IfOk result (λ o. MatchOption o (Stops sym_symbol IsNamed reader.now) (λ x. Begins (sym_symbol x) reader.now × IsNamed x)) }
 {
-    let found = match reader.rest {
-        [Symbol::Int(n), ..] => Some(Sym::Const(Value::Int(*n))),
-        [Symbol::Text(content), ..] => {
-            Some(Sym::Const(Value::Text(content.copy(reader.alloc)?)))
+    match reader.peek() {
+        Some(Symbol::Int(n)) => Ok(Some(Sym::Const(Value::Int(*n)))),
+        Some(Symbol::Text(content)) => {
+            let content = content.copy(reader.alloc())?;
+            Ok(Some(Sym::Const(Value::Text(content))))
         }
-        [Symbol::Word(word), ..] => variable(reader.alloc, word.as_str())?.map(Sym::Var),
-        _ => None,
-    };
-    if found.is_some() {
-        reader.rest = &reader.rest[1..];
+        Some(Symbol::Word(word)) => Ok(variable(reader.alloc(), word.as_str())?.map(Sym::Var)),
+        Some(Symbol::Sign(_)) => Ok(None),
+        None => Ok(None),
     }
-    Ok(found)
+}
+
+/// Goes past the symbol of a tableau that comes next, if one does.
+fn takes_symbol(reader: &mut Reader) -> Result<Option<Sym>, NoMemory>
+    ensures found { IfOk result (λ o. MatchOption o (reader.new ≡ reader.old) (λ x. (reader.old ≡ sym_symbol x ∷ reader.new) × IsNamed x)) }
+    ensures none { IfOk result (λ o. o ≡ None → Stops sym_symbol IsNamed reader.old) }
+{
+    match symbol_at(reader)? {
+        Some(symbol) => match reader.next() {
+            Some(_) => Ok(Some(symbol)),
+            None => Ok(None),
+        },
+        None => Ok(None),
+    }
 }
 
 /// The symbols of a tableau that come next.
 pub fn symbols(reader: &mut Reader) -> Result<List<Sym>, NoMemory>
-    ensures found { IfOk result (λ xs. (reader.old.rest.now ≡ map sym_symbol xs ++ reader.new.rest.now) × All IsNamed xs) }
-    ensures only { (xs : Items ASym) (r : Items ASymbol) → All IsNamed xs → Stops sym_symbol IsNamed r → reader.old.rest.now ≡ map sym_symbol xs ++ r
-        → IfOk result (λ ys. (ys ≡ xs) × (reader.new.rest.now ≡ r)) }
+    ensures found { IfOk result (λ xs. (reader.old ≡ map sym_symbol xs ++ reader.new) × All IsNamed xs) }
+    ensures only { (xs : Items ASym) (r : Items ASymbol) → All IsNamed xs → Stops sym_symbol IsNamed r → reader.old ≡ map sym_symbol xs ++ r
+        → IfOk result (λ ys. (ys ≡ xs) × (reader.new ≡ r)) }
 {
-    let mut symbols = List::new(reader.alloc);
+    let mut symbols = List::new(reader.alloc());
     while let Some(symbol) = takes_symbol(reader)? {
         symbols.push(symbol)?;
     }
@@ -84,8 +105,8 @@ pub fn symbols(reader: &mut Reader) -> Result<List<Sym>, NoMemory>
 
 /// The kind that comes next, if one does.
 fn takes_kind(reader: &mut Reader) -> Option<Kind>
-    ensures found { MatchOption result (reader.new.rest.now ≡ reader.old.rest.now) (λ k. reader.old.rest.now ≡ kind_symbol k ∷ reader.new.rest.now) }
-    ensures none { result ≡ None → Stops kind_symbol (λ k. Unit {0}) reader.old.rest.now }
+    ensures found { MatchOption result (reader.new ≡ reader.old) (λ k. reader.old ≡ kind_symbol k ∷ reader.new) }
+    ensures none { result ≡ None → Stops kind_symbol (λ k. Unit {0}) reader.old }
 {
     if reader.takes_word("int") {
         return Some(Kind::Int);
@@ -98,11 +119,11 @@ fn takes_kind(reader: &mut Reader) -> Option<Kind>
 
 /// The kinds that come next.
 pub fn kinds(reader: &mut Reader) -> Result<List<Kind>, NoMemory>
-    ensures found { IfOk result (λ ks. reader.old.rest.now ≡ map kind_symbol ks ++ reader.new.rest.now) }
-    ensures only { (ks : Items AKind) (r : Items ASymbol) → Stops kind_symbol (λ k. Unit {0}) r → reader.old.rest.now ≡ map kind_symbol ks ++ r
-        → IfOk result (λ ms. (ms ≡ ks) × (reader.new.rest.now ≡ r)) }
+    ensures found { IfOk result (λ ks. reader.old ≡ map kind_symbol ks ++ reader.new) }
+    ensures only { (ks : Items AKind) (r : Items ASymbol) → Stops kind_symbol (λ k. Unit {0}) r → reader.old ≡ map kind_symbol ks ++ r
+        → IfOk result (λ ms. (ms ≡ ks) × (reader.new ≡ r)) }
 {
-    let mut kinds = List::new(reader.alloc);
+    let mut kinds = List::new(reader.alloc());
     while let Some(kind) = takes_kind(reader) {
         kinds.push(kind)?;
     }

@@ -21,8 +21,8 @@ use su_tableau::Sym;
 
 /// The row of this width whose parenthesis is open.
 fn row(reader: &mut Reader, width: usize) -> Result<List<Sym>, LexEnd>
-    ensures found { IfOk result (λ xs. (reader.old.rest.now ≡ row_before xs reader.new.rest.now) × IsRow width xs) }
-    ensures only { (xs : Items ASym) (r : Items ASymbol) → IsRow width xs → reader.old.rest.now ≡ row_before xs r → Gives result (λ ys. (ys ≡ xs) × (reader.new.rest.now ≡ r)) }
+    ensures found { IfOk result (λ xs. (reader.old ≡ row_before xs reader.new) × IsRow width xs) }
+    ensures only { (xs : Items ASym) (r : Items ASymbol) → IsRow width xs → reader.old ≡ row_before xs r → Gives result (λ ys. (ys ≡ xs) × (reader.new ≡ r)) }
 {
     let row = symbols(reader)?;
     if row.len() != width {
@@ -34,11 +34,11 @@ fn row(reader: &mut Reader, width: usize) -> Result<List<Sym>, LexEnd>
 
 /// The rows that come next.
 fn rows(reader: &mut Reader, width: usize) -> Result<List<List<Sym>>, LexEnd>
-    ensures found { IfOk result (λ rows. (reader.old.rest.now ≡ flat_map row_line rows ++ reader.new.rest.now) × All (IsRow width) rows) }
-    ensures only { (rows : Items (Items ASym)) (r : Items ASymbol) → All (IsRow width) rows → ¬ (Begins (ASign Open) r) → reader.old.rest.now ≡ flat_map row_line rows ++ r
-        → Gives result (λ ys. (ys ≡ rows) × (reader.new.rest.now ≡ r)) }
+    ensures found { IfOk result (λ rows. (reader.old ≡ flat_map row_line rows ++ reader.new) × All (IsRow width) rows) }
+    ensures only { (rows : Items (Items ASym)) (r : Items ASymbol) → All (IsRow width) rows → ¬ (Begins (ASign Open) r) → reader.old ≡ flat_map row_line rows ++ r
+        → Gives result (λ ys. (ys ≡ rows) × (reader.new ≡ r)) }
 {
-    let mut rows = List::new(reader.alloc);
+    let mut rows = List::new(reader.alloc());
     while reader.takes_sign(Sign::Open) {
         rows.push(row(reader, width)?)?;
     }
@@ -47,12 +47,12 @@ fn rows(reader: &mut Reader, width: usize) -> Result<List<List<Sym>>, LexEnd>
 
 /// The node that comes next.
 fn node(reader: &mut Reader) -> Result<Node, LexEnd>
-    ensures found { IfOk result (λ n. (reader.old.rest.now ≡ node_symbols n ++ reader.new.rest.now) × IsByteNode n) }
-    ensures only { (n : ANode) (r : Items ASymbol) → IsByteNode n → reader.old.rest.now ≡ node_symbols n ++ r → Gives result (λ m. (m ≡ n) × (reader.new.rest.now ≡ r)) }
+    ensures found { IfOk result (λ n. (reader.old ≡ node_symbols n ++ reader.new) × IsByteNode n) }
+    ensures only { (n : ANode) (r : Items ASymbol) → IsByteNode n → reader.old ≡ node_symbols n ++ r → Gives result (λ m. (m ≡ n) × (reader.new ≡ r)) }
 {
     reader.expect_sign(Sign::Open)?;
     let row = expect_number(reader, 255)? as u8;
-    let mut next = List::new(reader.alloc);
+    let mut next = List::new(reader.alloc());
     while let Some(target) = takes_number(reader, 255) {
         let node = node(reader)?;
         next.push(Branch {
@@ -66,8 +66,8 @@ fn node(reader: &mut Reader) -> Result<Node, LexEnd>
 
 /// The tree whose word is read.
 fn tree(reader: &mut Reader) -> Result<RowTree, LexEnd>
-    ensures found { IfOk result (λ t. (reader.old.rest.now ≡ tree_before t reader.new.rest.now) × IsByteTree t) }
-    ensures only { (t : ARowTree) (r : Items ASymbol) → IsByteTree t → reader.old.rest.now ≡ tree_before t r → Gives result (λ u. (u ≡ t) × (reader.new.rest.now ≡ r)) }
+    ensures found { IfOk result (λ t. (reader.old ≡ tree_before t reader.new) × IsByteTree t) }
+    ensures only { (t : ARowTree) (r : Items ASymbol) → IsByteTree t → reader.old ≡ tree_before t r → Gives result (λ u. (u ≡ t) × (reader.new ≡ r)) }
 {
     let row = expect_number(reader, 255)? as u8;
     let node = node(reader)?;
@@ -76,11 +76,11 @@ fn tree(reader: &mut Reader) -> Result<RowTree, LexEnd>
 
 /// The trees that come next.
 fn trees(reader: &mut Reader) -> Result<List<RowTree>, LexEnd>
-    ensures found { IfOk result (λ ts. (reader.old.rest.now ≡ flat_map tree_line ts ++ reader.new.rest.now) × All IsByteTree ts) }
-    ensures only { (ts : Items ARowTree) (r : Items ASymbol) → All IsByteTree ts → ¬ (Begins (AWord (codes "tree")) r) → reader.old.rest.now ≡ flat_map tree_line ts ++ r
-        → Gives result (λ us. (us ≡ ts) × (reader.new.rest.now ≡ r)) }
+    ensures found { IfOk result (λ ts. (reader.old ≡ flat_map tree_line ts ++ reader.new) × All IsByteTree ts) }
+    ensures only { (ts : Items ARowTree) (r : Items ASymbol) → All IsByteTree ts → ¬ (Begins (AWord (codes "tree")) r) → reader.old ≡ flat_map tree_line ts ++ r
+        → Gives result (λ us. (us ≡ ts) × (reader.new ≡ r)) }
 {
-    let mut trees = List::new(reader.alloc);
+    let mut trees = List::new(reader.alloc());
     while reader.takes_word("tree") {
         trees.push(tree(reader)?)?;
     }
@@ -89,8 +89,8 @@ fn trees(reader: &mut Reader) -> Result<List<RowTree>, LexEnd>
 
 /// The term whose word is read.
 fn term(reader: &mut Reader, width: usize) -> Result<Term, LexEnd>
-    ensures found { IfOk result (λ x. (reader.old.rest.now ≡ term_before x reader.new.rest.now) × IsTermInRange width x) }
-    ensures only { (x : ATerm) (r : Items ASymbol) → IsTermInRange width x → EndsTerm r → reader.old.rest.now ≡ term_before x r → Gives result (λ y. (y ≡ x) × (reader.new.rest.now ≡ r)) }
+    ensures found { IfOk result (λ x. (reader.old ≡ term_before x reader.new) × IsTermInRange width x) }
+    ensures only { (x : ATerm) (r : Items ASymbol) → IsTermInRange width x → EndsTerm r → reader.old ≡ term_before x r → Gives result (λ y. (y ≡ x) × (reader.new ≡ r)) }
 {
     let number = expect_number(reader, u32::MAX)?;
     reader.expect_word("head")?;
@@ -114,10 +114,10 @@ fn term(reader: &mut Reader, width: usize) -> Result<Term, LexEnd>
 
 /// The terms up to the end.
 fn terms(reader: &mut Reader, width: usize) -> Result<List<Term>, LexEnd>
-    ensures found { IfOk result (λ xs. (reader.old.rest.now ≡ flat_map term_symbols xs ++ reader.new.rest.now) × All (IsTermInRange width) xs) }
-    ensures only { (xs : Items ATerm) → All (IsTermInRange width) xs → reader.old.rest.now ≡ flat_map term_symbols xs ++ [] → Gives result (λ ys. (ys ≡ xs) × (reader.new.rest.now ≡ [])) }
+    ensures found { IfOk result (λ xs. (reader.old ≡ flat_map term_symbols xs ++ reader.new) × All (IsTermInRange width) xs) }
+    ensures only { (xs : Items ATerm) → All (IsTermInRange width) xs → reader.old ≡ flat_map term_symbols xs ++ [] → Gives result (λ ys. (ys ≡ xs) × (reader.new ≡ [])) }
 {
-    let mut terms = List::new(reader.alloc);
+    let mut terms = List::new(reader.alloc());
     while reader.takes_word("term") {
         terms.push(term(reader, width)?)?;
     }
@@ -126,8 +126,8 @@ fn terms(reader: &mut Reader, width: usize) -> Result<List<Term>, LexEnd>
 
 /// The certificate that the symbols are.
 pub fn certificate(reader: &mut Reader) -> Result<Certificate, LexEnd>
-    ensures found { IfOk result (λ c. (reader.old.rest.now ≡ certificate_symbols c) × IsInRange c) }
-    ensures only { (c : ACertificate) → IsInRange c → reader.old.rest.now ≡ certificate_symbols c → Gives result (λ d. d ≡ c) }
+    ensures found { IfOk result (λ c. (reader.old ≡ certificate_symbols c) × IsInRange c) }
+    ensures only { (c : ACertificate) → IsInRange c → reader.old ≡ certificate_symbols c → Gives result (λ d. d ≡ c) }
 {
     reader.expect_word("certificate")?;
     let width = expect_number(reader, 128)?;

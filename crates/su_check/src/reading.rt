@@ -19,9 +19,6 @@ pub fn read(alloc: Global, bytes: &[u8]) -> Result<Certificate, LexEnd>
     if nests_too_deep(symbols.as_slice()) {
         return Err(LexEnd::Syntax);
     }
-    let mut reader = Reader {
-        alloc,
-        rest: symbols.as_slice(),
-    };
+    let mut reader = Reader::new(alloc, symbols);
     certificate(&mut reader)
 }

@@ -3,7 +3,8 @@ ghost use Rattle.std.specs.Prelude.{◌≡◌, ◌<◌, ◌≤◌, ◌↔◌, �
 ghost use Rattle.su_check.specs.inside.Boards.{IsReady};
 ghost use Rattle.su_check.specs.Certificate.{lines_of, IsGoodTree};
 ghost use Rattle.su_check.specs.inside.Guides.{IsGuide};
-ghost use Rattle.su_check.specs.Verdict.{HasGoodTrees, IsTreeFault};
+ghost use Rattle.su_check.specs.Verdict.{IsTreeFault};
+ghost use Rattle.su_check.specs.inside.Trees.{HasGoodTrees};
 
 use crate::boards::Board;
 use crate::certificates::Term;

@@ -1,7 +1,7 @@
 -- Lines and lists, one more at a time.
-use Rattle.std.proofs.Common.{Option, Some, None, ◌≡◌, ◌<◌, ◌≤◌, ◌+◌, ℕ, Bool, true, false, cond, List, [], ◌∷◌, ◌++◌, length, map, filter, take, get_or, slice_get, refl, ap, sym, ◌∙◌, arith, subst, zero, suc, add-one, append_assoc, append-nil}
+use Rattle.std.proofs.Common.{Option, Some, None, ◌≡◌, ◌<◌, ◌≤◌, ◌+◌, ℕ, Bool, true, false, cond, List, [], ◌∷◌, ◌++◌, length, map, filter, take, get_or, slice_get, refl, ap, sym, ◌∙◌, arith, subst, zero, suc, append_assoc, append-nil}
 use Rattle.std.specs.List.{range_with_len, filter_map}
-use Rattle.std.proofs.lemmas.List.{take_more}
+use Rattle.std.proofs.lemmas.List.{take_all, take_more}
 use Rattle.std.proofs.lemmas.List.Elements.{filter_map-append}
 use Rattle.std.proofs.lemmas.Option.{get_or_from_slice_get, slice_get_within, slice_get-map, slice_get-get_or, slice_get_past}
 use Rattle.std.proofs.Common.{option_map}
@@ -16,11 +16,13 @@ use Rattle.su_lex.specs.Names.{more_names}
 use Rattle.su_schema.specs.declared.definitions.Definition.{Definition}
 use Rattle.su_ddl.specs.Grammar.{kind_symbol, more_columns}
 use Rattle.su_schema.specs.Checks.{columns_at}
-use Rattle.su_ddl.specs.Shown.{line_of, lines_of, name_at, pair_of, listed}
+use Rattle.su_ddl.specs.Shown.{line_of, lines_of, name_at, pair_of}
+use Rattle.su_ddl.specs.inside.PairAlone.{listed}
 use Rattle.su_schema.specs.declared.definitions.Pair.{Pair}
 use Rattle.su_schema.specs.SchemaValue.{SchemaValue, ObjectEntry, IsObject, IsValid, column_names, attribute_names}
 use Rattle.std.specs.List.{AllByRecursion, cons_option}
 use Rattle.std.proofs.lemmas.List.Elements.{recursion_from_All}
+use Rattle.su_base.proofs.Items.{map-equal, range-push_zero}
 
 -- ---- two pieces behind one another
 
@@ -93,14 +95,8 @@ pub lines_append : (ds es : List Definition) → lines_of (ds ++ es) ≡ lines_o
 lines_append [] es = refl
 lines_append (d ∷ ds) es = ap (λ x. line_of d ++ x) (lines_append ds es) ∙ sym (append_assoc (line_of d) (lines_of ds) (lines_of es))
 
-take_whole : {A : Type 0} (xs : List A) (i : ℕ) → length xs ≤ i → take i xs ≡ xs
-take_whole [] zero l = refl
-take_whole [] (suc i) l = refl
-take_whole (x ∷ xs) zero l = absurd (omega arith)
-take_whole (x ∷ xs) (suc i) l = ap (λ v. x ∷ v) (take_whole xs i (omega arith))
-
 pub all_lines : (ds : List Definition) (i : ℕ) (start out : List ℕ) → length ds ≤ i → out ≡ start ++ lines_of (take i ds) → out ≡ start ++ lines_of ds
-all_lines ds i start out l so = so ∙ ap (λ x. start ++ lines_of x) (take_whole ds i l)
+all_lines ds i start out l so = so ∙ ap (λ x. start ++ lines_of x) (take_all i ds l)
 
 pub five_kinds : (a r o f m : List Definition) (x0 x1 x2 x3 x4 x5 : List ℕ) → x0 ≡ [] → x1 ≡ x0 ++ lines_of a → x2 ≡ x1 ++ lines_of r → x3 ≡ x2 ++ lines_of o → x4 ≡ x3 ++ lines_of f
     → x5 ≡ x4 ++ lines_of m → x5 ≡ lines_of (a ++ r ++ o ++ f ++ m)
@@ -124,13 +120,6 @@ two_fields f g h (x ∷ xs) (suc i) u v e k = two_fields f g h xs i u v e k
 
 -- ---- ranges
 
-range_last : (a n j : ℕ) → a + n ≡ j → range_with_len a (suc n) ≡ range_with_len a n ++ j ∷ []
-range_last a zero j e = ap (λ k. k ∷ []) (omega arith)
-range_last a (suc n) j e = ap (λ ks. a ∷ ks) (range_last (a + 1) n j (omega arith))
-
-pub range_more : (n : ℕ) → range_with_len 0 (n + 1) ≡ range_with_len 0 n ++ n ∷ []
-range_more n = rw add-one (range_last 0 n n (omega arith))
-
 filter_push : {A : Type 0} (p : A → Bool) (xs : List A) (x : A) → filter p (xs ++ x ∷ []) ≡ filter p xs ++ cond (p x) (x ∷ []) []
 filter_push p [] x = elim (p x) as (λ v. cond v (x ∷ []) [] ≡ cond v (x ∷ []) []) [ true ↦ refl | false ↦ refl ]
 filter_push p (y ∷ xs) x = elim (p y) as (λ v. p y ≡ v → filter p (y ∷ xs ++ x ∷ []) ≡ filter p (y ∷ xs) ++ cond (p x) (x ∷ []) []) [
@@ -147,7 +136,7 @@ pub one_wanted : {B : Type 0} (p : ℕ → Bool) (f : ℕ → B) (n : ℕ) (x : 
 one_wanted p f n x names next at so e =
     let one : cond (p n) (x ∷ []) [] ≡ map f (cond (p n) (n ∷ []) []) = elim (p n) as (λ v. cond v (x ∷ []) [] ≡ map f (cond v (n ∷ []) [])) [ true ↦ ap (λ y. y ∷ []) (sym at) | false ↦ refl ] in
     e ∙ ap (λ v. v ++ cond (p n) (x ∷ []) []) so ∙ ap (λ v. map f (filter p (range_with_len 0 n)) ++ v) one ∙ sym (map_push f (filter p (range_with_len 0 n)) (cond (p n) (n ∷ []) []))
-    ∙ ap (map f) (sym (filter_push p (range_with_len 0 n) n) ∙ ap (filter p) (sym (range_more n)))
+    ∙ ap (map f) (sym (filter_push p (range_with_len 0 n) n) ∙ ap (filter p) (sym (range-push_zero n)))
 
 -- ---- entries of a schema
 
@@ -181,10 +170,6 @@ stored_at schema (x ∷ xs) (suc i) r all e = stored_at schema xs i r all.1 e
 pub stored : (schema : SchemaValue) (i r : ℕ) → IsValid schema → slice_get (map (λ x. x.relation) schema.objects) i ≡ Some r → r < length schema.relations
 stored schema i r valid e = stored_at schema schema.objects i r (recursion_from_All (IsObject schema) schema.objects valid.objects) e
 
-map_same : {A B : Type 0} (f g : A → B) (xs : List A) → ((x : A) → f x ≡ g x) → map f xs ≡ map g xs
-map_same f g [] same = refl
-map_same f g (x ∷ xs) same = ap (λ v. v ∷ map f xs) (same x) ∙ ap (λ v. g x ∷ v) (map_same f g xs same)
-
 listed_is : (p : Option Pair) → listed p ≡ cons_option p []
 listed_is None = refl
 listed_is (Some pair) = refl
@@ -195,9 +180,9 @@ pub one_pair : (schema : SchemaValue) (i a : ℕ) (pairs : List Pair) (p : Optio
 one_pair schema i a pairs p so at =
     let both = two_fields (λ (x : ObjectEntry). filter_map (pair_of schema x) (range_with_len 0 a)) (λ (x : ObjectEntry). pair_of schema x a) (λ ps q. ps ++ listed q) schema.objects i pairs p so at in
     let same : (x : ObjectEntry) → filter_map (pair_of schema x) (range_with_len 0 (a + 1)) ≡ filter_map (pair_of schema x) (range_with_len 0 a) ++ listed (pair_of schema x a) =
-    λ x. ap (filter_map (pair_of schema x)) (range_more a) ∙ filter_map-append (pair_of schema x) (range_with_len 0 a) (a ∷ [])
+    λ x. ap (filter_map (pair_of schema x)) (range-push_zero a) ∙ filter_map-append (pair_of schema x) (range_with_len 0 a) (a ∷ [])
     ∙ ap (λ v. filter_map (pair_of schema x) (range_with_len 0 a) ++ v) (sym (listed_is (pair_of schema x a))) in
-    ap (λ v. slice_get v i) (map_same (λ x. filter_map (pair_of schema x) (range_with_len 0 (a + 1))) (λ x. filter_map (pair_of schema x) (range_with_len 0 a) ++ listed (pair_of schema x a)) schema.objects same) ∙ both
+    ap (λ v. slice_get v i) (map-equal (λ x. filter_map (pair_of schema x) (range_with_len 0 (a + 1))) (λ x. filter_map (pair_of schema x) (range_with_len 0 a) ++ listed (pair_of schema x a)) schema.objects same) ∙ both
 
 pub none_yet : {A B : Type 0} (y : B) (xs : List A) (i : ℕ) → i < length xs → slice_get (map (λ x. y) xs) i ≡ Some y
 none_yet y [] i l = absurd (omega arith)

@@ -1,5 +1,5 @@
 -- The text of a valid schema is short enough to be read.
-use Rattle.std.proofs.Common.{◌≡◌, ◌<◌, ◌≤◌, ◌+◌, ◌*◌, ◌^◌, ℕ, Bool, true, false, ◌||◌, cond, List, [], ◌∷◌, ◌++◌, length, length-append, map, filter, Option, Some, None, refl, ap, ◌∙◌, zero, suc, codes, arith}
+use Rattle.std.proofs.Common.{◌≡◌, ◌<◌, ◌≤◌, ◌+◌, ◌*◌, ◌^◌, ℕ, Bool, true, false, ◌||◌, cond, List, [], ◌∷◌, ◌++◌, length, length-append, map, filter, Option, Some, None, refl, ap, ◌∙◌, suc, codes, arith}
 use lib.ListN.{length-map}
 use Rattle.std.specs.List.{AllByRecursion, range_with_len, filter_map, cons_option}
 use Rattle.std.specs.Ordering.{nat_cmp}
@@ -7,6 +7,7 @@ use Rattle.std.specs.FinSet.{FinSet, contains}
 use Rattle.std.proofs.lemmas.List.Elements.{recursion_from_All}
 use Rattle.su_base.specs.Name.{IsWord}
 use Rattle.su_base.specs.declared.values.Column.{Column}
+use Rattle.std.proofs.lemmas.List.FromFn.{length-range_with_len}
 use Rattle.su_fd.specs.declared.Fd.{Fd as Dependency}
 use Rattle.su_lex.specs.declared.meaning.Symbol.{Symbol}
 use Rattle.su_lex.specs.declared.meaning.Symbol.TheVariants.{Word, Int, Text, Sign}
@@ -125,10 +126,6 @@ object_few name relation pairs few =
 
 -- ---- lists of names and pairs
 
-range_length : (a n : ℕ) → length (range_with_len a n) ≡ n
-range_length a zero = refl
-range_length a (suc n) = ap suc (range_length (a + 1) n)
-
 filter_few : (p : ℕ → Bool) (xs : List ℕ) → length (filter p xs) ≤ length xs
 filter_few p [] = omega arith
 filter_few p (x ∷ xs) =
@@ -146,7 +143,7 @@ filter_map_few f (x ∷ xs) = listed_few (f x) (filter_map f xs) (length xs) (fi
 names_in_few : (names : List (List ℕ)) (set : FinSet nat_cmp) → length (names_in names set) ≤ length names
 names_in_few names set =
     let kept = filter_few (contains set) (range_with_len 0 (length names)) in
-    let all = range_length 0 (length names) in
+    let all = length-range_with_len 0 (length names) in
     let one = length-map (filter (contains set) (range_with_len 0 (length names))) (name_at names) in
     omega (arith, kept, all, one)
 
@@ -183,7 +180,7 @@ module _ (s : SchemaValue) (valid : IsValid s) where
   object_short : (o : ObjectEntry) → IsShort (object_definition s o)
   object_short o =
       let kept : length (filter_map (pair_of s o) (range_with_len 0 (length s.attributes))) ≤ length (range_with_len 0 (length s.attributes)) = filter_map_few (pair_of s o) (range_with_len 0 (length s.attributes)) in
-      let all = range_length 0 (length s.attributes) in
+      let all = length-range_with_len 0 (length s.attributes) in
       let few = valid.few_attributes in
       record { few = object_few o.name _ (filter_map (pair_of s o) (range_with_len 0 (length s.attributes))) (omega (arith, kept, all, few)) }
 

@@ -1,5 +1,5 @@
 -- How a schema is shown: its definitions, one a line, each with its names in the order of declaration.
-use Rattle.std.specs.Prelude.{ℕ, List, [], ◌∷◌, ◌++◌, length, map, filter, filter_map, option_map, Option, Some, None, slice_index_or}
+use Rattle.std.specs.Prelude.{ℕ, List, [], ◌∷◌, ◌++◌, length, map, filter, filter_map, option_map, Option, slice_index_or}
 use Rattle.std.specs.List.{range_with_len}
 use Rattle.std.specs.Ordering.{nat_cmp}
 use Rattle.std.specs.FinSet.{FinSet, contains}
@@ -27,11 +27,6 @@ attribute_definition a = Attribute a.name a.kind
 -- the definition of a relation
 abbrev pub relation_definition : RelationEntry → Definition
 relation_definition r = Relation r.name r.columns
-
--- none or one pair, as a list
-abbrev pub listed : Option Pair → List Pair
-listed None = []
-listed (Some pair) = pair ∷ []
 
 -- the pair of an attribute, if it is the object's
 abbrev pub pair_of : SchemaValue → ObjectEntry → ℕ → Option Pair

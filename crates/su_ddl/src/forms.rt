@@ -6,13 +6,14 @@ ghost use Rattle.su_schema.specs.declared.definitions.Definition.{Definition as 
 use crate::lists::{columns, kind, names_in_parens};
 use crate::pairing::pairs;
 use std::alloc::Global;
+use su_base::List;
 use su_lex::{LexEnd, Reader, Sign, Symbol, symbols};
 use su_schema::Definition;
 
 /// "attribute" NAME kind, behind its first word
 fn attribute(reader: &mut Reader) -> Result<Definition, LexEnd>
-    ensures found { IfOk result (λ d. IsForm (Symbol.Word (codes "attribute") ∷ reader.old.rest.now) d) }
-    ensures syntax { IsErrOf result LexEnd.Syntax → (d : ADefinition) → ¬ (IsForm (Symbol.Word (codes "attribute") ∷ reader.old.rest.now) d) }
+    ensures found { IfOk result (λ d. IsForm (Symbol.Word (codes "attribute") ∷ reader.old) d) }
+    ensures syntax { IsErrOf result LexEnd.Syntax → (d : ADefinition) → ¬ (IsForm (Symbol.Word (codes "attribute") ∷ reader.old) d) }
 {
     let name = reader.name()?;
     let kind = kind(reader)?;
@@ -22,8 +23,8 @@ fn attribute(reader: &mut Reader) -> Result<Definition, LexEnd>
 
 /// "relation" NAME "(" column { "," column } ")", behind its first word
 fn relation(reader: &mut Reader) -> Result<Definition, LexEnd>
-    ensures found { IfOk result (λ d. IsForm (Symbol.Word (codes "relation") ∷ reader.old.rest.now) d) }
-    ensures syntax { IsErrOf result LexEnd.Syntax → (d : ADefinition) → ¬ (IsForm (Symbol.Word (codes "relation") ∷ reader.old.rest.now) d) }
+    ensures found { IfOk result (λ d. IsForm (Symbol.Word (codes "relation") ∷ reader.old) d) }
+    ensures syntax { IsErrOf result LexEnd.Syntax → (d : ADefinition) → ¬ (IsForm (Symbol.Word (codes "relation") ∷ reader.old) d) }
 {
     let name = reader.name()?;
     reader.expect_sign(Sign::Open)?;
@@ -35,8 +36,8 @@ fn relation(reader: &mut Reader) -> Result<Definition, LexEnd>
 
 /// "object" NAME "(" names ")" "from" NAME "(" names ")", behind its first word
 fn object(reader: &mut Reader) -> Result<Definition, LexEnd>
-    ensures found { IfOk result (λ d. IsForm (Symbol.Word (codes "object") ∷ reader.old.rest.now) d) }
-    ensures syntax { IsErrOf result LexEnd.Syntax → (d : ADefinition) → ¬ (IsForm (Symbol.Word (codes "object") ∷ reader.old.rest.now) d) }
+    ensures found { IfOk result (λ d. IsForm (Symbol.Word (codes "object") ∷ reader.old) d) }
+    ensures syntax { IsErrOf result LexEnd.Syntax → (d : ADefinition) → ¬ (IsForm (Symbol.Word (codes "object") ∷ reader.old) d) }
 {
     let name = reader.name()?;
     let attributes = names_in_parens(reader)?;
@@ -47,7 +48,7 @@ fn object(reader: &mut Reader) -> Result<Definition, LexEnd>
     if attributes.len() != columns.len() {
         return Err(LexEnd::Syntax);
     }
-    let pairs = pairs(reader.alloc, attributes.as_slice(), columns.as_slice())?;
+    let pairs = pairs(reader.alloc(), attributes.as_slice(), columns.as_slice())?;
     Ok(Definition::Object {
         name,
         relation,
@@ -57,8 +58,8 @@ fn object(reader: &mut Reader) -> Result<Definition, LexEnd>
 
 /// "fd" names "->" names, behind its first word
 fn fd(reader: &mut Reader) -> Result<Definition, LexEnd>
-    ensures found { IfOk result (λ d. IsForm (Symbol.Word (codes "fd") ∷ reader.old.rest.now) d) }
-    ensures syntax { IsErrOf result LexEnd.Syntax → (d : ADefinition) → ¬ (IsForm (Symbol.Word (codes "fd") ∷ reader.old.rest.now) d) }
+    ensures found { IfOk result (λ d. IsForm (Symbol.Word (codes "fd") ∷ reader.old) d) }
+    ensures syntax { IsErrOf result LexEnd.Syntax → (d : ADefinition) → ¬ (IsForm (Symbol.Word (codes "fd") ∷ reader.old) d) }
 {
     let left = reader.names()?;
     reader.expect_sign(Sign::Arrow)?;
@@ -69,23 +70,20 @@ fn fd(reader: &mut Reader) -> Result<Definition, LexEnd>
 
 /// "maximal" "(" names ")", behind its first word
 fn maximal(reader: &mut Reader) -> Result<Definition, LexEnd>
-    ensures found { IfOk result (λ d. IsForm (Symbol.Word (codes "maximal") ∷ reader.old.rest.now) d) }
-    ensures syntax { IsErrOf result LexEnd.Syntax → (d : ADefinition) → ¬ (IsForm (Symbol.Word (codes "maximal") ∷ reader.old.rest.now) d) }
+    ensures found { IfOk result (λ d. IsForm (Symbol.Word (codes "maximal") ∷ reader.old) d) }
+    ensures syntax { IsErrOf result LexEnd.Syntax → (d : ADefinition) → ¬ (IsForm (Symbol.Word (codes "maximal") ∷ reader.old) d) }
 {
     let objects = names_in_parens(reader)?;
     reader.end()?;
     Ok(Definition::Maximal { objects })
 }
 
-/// The definition that the symbols are.
-fn form(alloc: Global, symbols: &[Symbol]) -> Result<Definition, LexEnd>
-    ensures found { IfOk result (λ d. IsForm symbols.now d) }
-    ensures syntax { IsErrOf result LexEnd.Syntax → (d : ADefinition) → ¬ (IsForm symbols.now d) }
+/// The definition that the symbols are. `Syntax` comes exactly where they are none, unless memory is wanting.
+pub fn definition_of(alloc: Global, symbols: List<Symbol>) -> Result<Definition, LexEnd>
+    ensures found { IfOk result (λ d. IsForm symbols d) }
+    ensures syntax { IsErrOf result LexEnd.Syntax → (d : ADefinition) → ¬ (IsForm symbols d) }
 {
-    let mut reader = Reader {
-        alloc,
-        rest: symbols,
-    };
+    let mut reader = Reader::new(alloc, symbols);
     if reader.takes_word("attribute") {
         return attribute(&mut reader);
     }
@@ -111,5 +109,5 @@ pub fn definition(alloc: Global, text: &[u8]) -> Result<Definition, LexEnd>
     ensures syntax { IsErrOf result LexEnd.Syntax → (d : ADefinition) → ¬ (IsDefinition text.now d) }
 {
     let symbols = symbols(alloc, text)?;
-    form(alloc, symbols.as_slice())
+    definition_of(alloc, symbols)
 }

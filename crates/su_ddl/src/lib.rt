@@ -19,7 +19,7 @@ mod spelling;
 
 pub use entries::{attributes_in, objects_in};
 pub use faults::DdlFault;
-pub use forms::definition;
+pub use forms::{definition, definition_of};
 pub use laws::a_text_is_one_definition;
 pub use reading::read;
 pub use showing::show;

@@ -13,8 +13,8 @@ use su_lex::{LexEnd, Reader, Sign, Symbol};
 
 /// "(" NAME { "," NAME } ")"
 pub fn names_in_parens(reader: &mut Reader) -> Result<List<Str>, LexEnd>
-    ensures found { IfOk result (λ ns. (reader.old.rest.now ≡ in_parens ns reader.new.rest.now) × AreNames ns) }
-    ensures syntax { IsErrOf result LexEnd.Syntax → (ns : Items (Items ℕ)) (r : Items ASymbol) → AreNames ns → ¬ (reader.old.rest.now ≡ in_parens ns r) }
+    ensures found { IfOk result (λ ns. (reader.old ≡ in_parens ns reader.new) × AreNames ns) }
+    ensures syntax { IsErrOf result LexEnd.Syntax → (ns : Items (Items ℕ)) (r : Items ASymbol) → AreNames ns → ¬ (reader.old ≡ in_parens ns r) }
 {
     reader.expect_sign(Sign::Open)?;
     let names = reader.names()?;
@@ -24,8 +24,8 @@ pub fn names_in_parens(reader: &mut Reader) -> Result<List<Str>, LexEnd>
 
 /// "int" | "text"
 pub fn kind(reader: &mut Reader) -> Result<Kind, LexEnd>
-    ensures found { IfOk result (λ k. reader.old.rest.now ≡ kind_symbol k ∷ reader.new.rest.now) }
-    ensures syntax { IsErrOf result LexEnd.Syntax → (k : AKind) → ¬ (Begins (kind_symbol k) reader.old.rest.now) }
+    ensures found { IfOk result (λ k. reader.old ≡ kind_symbol k ∷ reader.new) }
+    ensures syntax { IsErrOf result LexEnd.Syntax → (k : AKind) → ¬ (Begins (kind_symbol k) reader.old) }
 {
     if reader.takes_word("int") {
         return Ok(Kind::Int);
@@ -36,8 +36,8 @@ pub fn kind(reader: &mut Reader) -> Result<Kind, LexEnd>
 
 /// NAME kind
 fn column(reader: &mut Reader) -> Result<Column, LexEnd>
-    ensures found { IfOk result (λ c. (reader.old.rest.now ≡ Symbol.Word c.name ∷ kind_symbol c.kind ∷ reader.new.rest.now) × IsName c.name) }
-    ensures syntax { IsErrOf result LexEnd.Syntax → (c : AColumn) (r : Items ASymbol) → IsName c.name → ¬ (reader.old.rest.now ≡ Symbol.Word c.name ∷ kind_symbol c.kind ∷ r) }
+    ensures found { IfOk result (λ c. (reader.old ≡ Symbol.Word c.name ∷ kind_symbol c.kind ∷ reader.new) × IsName c.name) }
+    ensures syntax { IsErrOf result LexEnd.Syntax → (c : AColumn) (r : Items ASymbol) → IsName c.name → ¬ (reader.old ≡ Symbol.Word c.name ∷ kind_symbol c.kind ∷ r) }
 {
     let name = reader.name()?;
     let kind = kind(reader)?;
@@ -46,12 +46,12 @@ fn column(reader: &mut Reader) -> Result<Column, LexEnd>
 
 /// NAME kind { "," NAME kind }
 pub fn columns(reader: &mut Reader) -> Result<List<Column>, LexEnd>
-    ensures found { IfOk result (λ cs. (reader.old.rest.now ≡ columns_symbols cs ++ reader.new.rest.now) × AreColumns cs) }
-    ensures ends { IfOk result (λ _. ¬ (Begins (Symbol.Sign Sign.Comma) reader.new.rest.now)) }
+    ensures found { IfOk result (λ cs. (reader.old ≡ columns_symbols cs ++ reader.new) × AreColumns cs) }
+    ensures ends { IfOk result (λ _. ¬ (Begins (Symbol.Sign Sign.Comma) reader.new)) }
     ensures syntax { IsErrOf result LexEnd.Syntax → (cs : Items AColumn) (r : Items ASymbol) → AreColumns cs → ¬ (Begins (Symbol.Sign Sign.Comma) r)
-        → ¬ (reader.old.rest.now ≡ columns_symbols cs ++ r) }
+        → ¬ (reader.old ≡ columns_symbols cs ++ r) }
 {
-    let mut columns = List::new(reader.alloc);
+    let mut columns = List::new(reader.alloc());
     columns.push(column(reader)?)?;
     while reader.takes_sign(Sign::Comma) {
         columns.push(column(reader)?)?;

@@ -14,8 +14,5 @@ fn types_cross_threads() {
     crosses_threads::<Token>();
     crosses_threads::<Symbol>();
     crosses_threads::<LexEnd>();
-}
-
-fn readers_cross_threads<'a>() {
-    crosses_threads::<Reader<'a>>();
+    crosses_threads::<Reader>();
 }

@@ -3,8 +3,9 @@
 //! `cut` finds the pieces of a file that stand between its `;`, `tokens` the tokens of a piece. Both
 //! go over their bytes once, from the left. A token carries where it stands; of the text only the
 //! contents of quoted texts are copied. `symbols` makes the tokens with the bytes of their words, and
-//! without their places, in one pass of its own; a `Reader` goes through them from the left, `push_word`
-//! and `push_sign` make them, and `push_spaced` writes them. None of it knows the statements.
+//! without their places, in one pass of its own; a `Reader` hands them out from the left, so that a name
+//! or a literal is moved from there to where it stays. `push_word` and `push_sign` make symbols, and
+//! `push_spaced` writes them. None of it knows the statements.
 #![tactic(auto)]
 
 mod bytes;

@@ -9,7 +9,7 @@ use Rattle.su_lex.specs.declared.meaning.Symbol.TheVariants.{Word, Sign}
 use Rattle.su_query.specs.declared.conditions.NamedCond.{NamedCond}
 use Rattle.su_query.specs.declared.statements.Query.{Query as AQuery}
 use Rattle.su_query.specs.declared.statements.Statement.{Statement}
-use Rattle.su_query.specs.declared.statements.Statement.TheVariants.{Insert, Delete, DeleteWhere, Load, Print, Schema, Closure, Retrieve, Explain, Certify, Compare, Window}
+use Rattle.su_query.specs.declared.statements.Statement.TheVariants.{Insert, Delete, DeleteWhere, Load, Print, Schema, Closure, Retrieve, Explain, Certify, Support, Compare, Window}
 use Rattle.su_lex.specs.Names.{Begins}
 use Rattle.su_query.specs.Lists.{Several, opens_second}
 use Rattle.su_query.specs.Grammar.{ReadsName, ReadsValue, ReadsCond}
@@ -53,6 +53,7 @@ insert_inv st s t w (g.closure _ names _ t' e e' h) = absurd (apart (codes "inse
 insert_inv st s t w (g.retrieve _ q _ e h) = absurd (apart (codes "insert") (codes "retrieve") s t (Sign sign.Open ∷ h.refs) w h.begins refl)
 insert_inv st s t w (g.explain _ q _ t' e e' h) = absurd (apart (codes "insert") (codes "explain") s t t' w e' refl)
 insert_inv st s t w (g.certify _ q _ t' e e' h) = absurd (apart (codes "insert") (codes "explain") s t (Word (codes "with") ∷ t') w e' refl)
+insert_inv st s t w (g.support _ q _ t' e e' h) = absurd (apart (codes "insert") (codes "explain") s t (Word (codes "from") ∷ t') w e' refl)
 insert_inv st s t w (g.compare _ p q _ t' e e' h) = absurd (apart (codes "insert") (codes "compare") s t t' w e' refl)
 insert_inv st s t w (g.window _ names _ t' e e' h) = absurd (apart (codes "insert") (codes "window") s t t' w e' refl)
 
@@ -67,6 +68,7 @@ delete_inv st s t w (g.closure _ names _ t' e e' h) = absurd (apart (codes "dele
 delete_inv st s t w (g.retrieve _ q _ e h) = absurd (apart (codes "delete") (codes "retrieve") s t (Sign sign.Open ∷ h.refs) w h.begins refl)
 delete_inv st s t w (g.explain _ q _ t' e e' h) = absurd (apart (codes "delete") (codes "explain") s t t' w e' refl)
 delete_inv st s t w (g.certify _ q _ t' e e' h) = absurd (apart (codes "delete") (codes "explain") s t (Word (codes "with") ∷ t') w e' refl)
+delete_inv st s t w (g.support _ q _ t' e e' h) = absurd (apart (codes "delete") (codes "explain") s t (Word (codes "from") ∷ t') w e' refl)
 delete_inv st s t w (g.compare _ p q _ t' e e' h) = absurd (apart (codes "delete") (codes "compare") s t t' w e' refl)
 delete_inv st s t w (g.window _ names _ t' e e' h) = absurd (apart (codes "delete") (codes "window") s t t' w e' refl)
 
@@ -81,6 +83,7 @@ load_inv st s t w (g.closure _ names _ t' e e' h) = absurd (apart (codes "load")
 load_inv st s t w (g.retrieve _ q _ e h) = absurd (apart (codes "load") (codes "retrieve") s t (Sign sign.Open ∷ h.refs) w h.begins refl)
 load_inv st s t w (g.explain _ q _ t' e e' h) = absurd (apart (codes "load") (codes "explain") s t t' w e' refl)
 load_inv st s t w (g.certify _ q _ t' e e' h) = absurd (apart (codes "load") (codes "explain") s t (Word (codes "with") ∷ t') w e' refl)
+load_inv st s t w (g.support _ q _ t' e e' h) = absurd (apart (codes "load") (codes "explain") s t (Word (codes "from") ∷ t') w e' refl)
 load_inv st s t w (g.compare _ p q _ t' e e' h) = absurd (apart (codes "load") (codes "compare") s t t' w e' refl)
 load_inv st s t w (g.window _ names _ t' e e' h) = absurd (apart (codes "load") (codes "window") s t t' w e' refl)
 
@@ -95,6 +98,7 @@ print_inv st s t w (g.closure _ names _ t' e e' h) = absurd (apart (codes "print
 print_inv st s t w (g.retrieve _ q _ e h) = absurd (apart (codes "print") (codes "retrieve") s t (Sign sign.Open ∷ h.refs) w h.begins refl)
 print_inv st s t w (g.explain _ q _ t' e e' h) = absurd (apart (codes "print") (codes "explain") s t t' w e' refl)
 print_inv st s t w (g.certify _ q _ t' e e' h) = absurd (apart (codes "print") (codes "explain") s t (Word (codes "with") ∷ t') w e' refl)
+print_inv st s t w (g.support _ q _ t' e e' h) = absurd (apart (codes "print") (codes "explain") s t (Word (codes "from") ∷ t') w e' refl)
 print_inv st s t w (g.compare _ p q _ t' e e' h) = absurd (apart (codes "print") (codes "compare") s t t' w e' refl)
 print_inv st s t w (g.window _ names _ t' e e' h) = absurd (apart (codes "print") (codes "window") s t t' w e' refl)
 
@@ -109,6 +113,7 @@ schema_inv st s t w (g.closure _ names _ t' e e' h) = absurd (apart (codes "sche
 schema_inv st s t w (g.retrieve _ q _ e h) = absurd (apart (codes "schema") (codes "retrieve") s t (Sign sign.Open ∷ h.refs) w h.begins refl)
 schema_inv st s t w (g.explain _ q _ t' e e' h) = absurd (apart (codes "schema") (codes "explain") s t t' w e' refl)
 schema_inv st s t w (g.certify _ q _ t' e e' h) = absurd (apart (codes "schema") (codes "explain") s t (Word (codes "with") ∷ t') w e' refl)
+schema_inv st s t w (g.support _ q _ t' e e' h) = absurd (apart (codes "schema") (codes "explain") s t (Word (codes "from") ∷ t') w e' refl)
 schema_inv st s t w (g.compare _ p q _ t' e e' h) = absurd (apart (codes "schema") (codes "compare") s t t' w e' refl)
 schema_inv st s t w (g.window _ names _ t' e e' h) = absurd (apart (codes "schema") (codes "window") s t t' w e' refl)
 
@@ -123,10 +128,13 @@ closure_inv st s t w (g.closure _ names _ t' e e' h) = let at : t' ≡ t = cc in
 closure_inv st s t w (g.retrieve _ q _ e h) = absurd (apart (codes "closure") (codes "retrieve") s t (Sign sign.Open ∷ h.refs) w h.begins refl)
 closure_inv st s t w (g.explain _ q _ t' e e' h) = absurd (apart (codes "closure") (codes "explain") s t t' w e' refl)
 closure_inv st s t w (g.certify _ q _ t' e e' h) = absurd (apart (codes "closure") (codes "explain") s t (Word (codes "with") ∷ t') w e' refl)
+closure_inv st s t w (g.support _ q _ t' e e' h) = absurd (apart (codes "closure") (codes "explain") s t (Word (codes "from") ∷ t') w e' refl)
 closure_inv st s t w (g.compare _ p q _ t' e e' h) = absurd (apart_behind (codes "closure") (codes "compare") s t t' w e' refl)
 closure_inv st s t w (g.window _ names _ t' e e' h) = absurd (apart (codes "closure") (codes "window") s t t' w e' refl)
 
-pub explain_inv : (st : Statement) (s t : List Symbol) → s ≡ Word (codes "explain") ∷ t → IsForm st s → ((q : AQuery) × (st ≡ Explain q) × QueryForm q t) ⊎ ((q : AQuery) × (u : List Symbol) × (st ≡ Certify q) × (t ≡ Word (codes "with") ∷ u) × QueryForm q u)
+pub explain_inv : (st : Statement) (s t : List Symbol) → s ≡ Word (codes "explain") ∷ t → IsForm st s → ((q : AQuery) × (st ≡ Explain q) × QueryForm q t)
+    ⊎ (((q : AQuery) × (u : List Symbol) × (st ≡ Certify q) × (t ≡ Word (codes "with") ∷ u) × QueryForm q u)
+    ⊎ ((q : AQuery) × (u : List Symbol) × (st ≡ Support q) × (t ≡ Word (codes "from") ∷ u) × QueryForm q u))
 explain_inv st s t w (g.insert _ relation row _ t' e e' h) = absurd (apart (codes "explain") (codes "insert") s t t' w e' refl)
 explain_inv st s t w (g.delete _ relation row _ t' e e' h) = absurd (apart (codes "explain") (codes "delete") s t t' w e' refl)
 explain_inv st s t w (g.delete_where _ relation cond _ t' e e' h) = absurd (apart (codes "explain") (codes "delete") s t t' w e' refl)
@@ -136,18 +144,34 @@ explain_inv st s t w (g.schema _ _ e e') = absurd (apart (codes "explain") (code
 explain_inv st s t w (g.closure _ names _ t' e e' h) = absurd (apart (codes "explain") (codes "closure") s t t' w e' refl)
 explain_inv st s t w (g.retrieve _ q _ e h) = absurd (apart (codes "explain") (codes "retrieve") s t (Sign sign.Open ∷ h.refs) w h.begins refl)
 explain_inv st s t w (g.explain _ q _ t' e e' h) = let at : t' ≡ t = cc in inl (q, e, subst (λ (x : List Symbol). QueryForm q x) at h)
-explain_inv st s t w (g.certify _ q _ t' e e' h) = let at : t ≡ Word (codes "with") ∷ t' = cc in inr (q, t', e, at, h)
+explain_inv st s t w (g.certify _ q _ t' e e' h) = let at : t ≡ Word (codes "with") ∷ t' = cc in inr (inl (q, t', e, at, h))
+explain_inv st s t w (g.support _ q _ t' e e' h) = let at : t ≡ Word (codes "from") ∷ t' = cc in inr (inr (q, t', e, at, h))
 explain_inv st s t w (g.compare _ p q _ t' e e' h) = absurd (apart (codes "explain") (codes "compare") s t t' w e' refl)
 explain_inv st s t w (g.window _ names _ t' e e' h) = absurd (apart (codes "explain") (codes "window") s t t' w e' refl)
 
--- what begins with `with` is no query
+-- what begins with `with` or `from` is no query
 pub no_query_with : (q : AQuery) (s t : List Symbol) → s ≡ Word (codes "with") ∷ t → QueryForm q s → ⊥
 no_query_with q s t w h = apart (codes "with") (codes "retrieve") s t (Sign sign.Open ∷ h.refs) w h.begins refl
+
+pub no_query_from : (q : AQuery) (s t : List Symbol) → s ≡ Word (codes "from") ∷ t → QueryForm q s → ⊥
+no_query_from q s t w h = apart (codes "from") (codes "retrieve") s t (Sign sign.Open ∷ h.refs) w h.begins refl
 
 pub certify_inv : (st : Statement) (s t : List Symbol) → s ≡ Word (codes "explain") ∷ Word (codes "with") ∷ t → IsForm st s → (q : AQuery) × (st ≡ Certify q) × QueryForm q t
 certify_inv st s t w h = elim (explain_inv st s (Word (codes "with") ∷ t) w h) [
   | inl i ↦ absurd (no_query_with i.0 (Word (codes "with") ∷ t) t refl i.2)
-  | inr i ↦ let e = i.3 in let at : i.1 ≡ t = cc in (i.0, i.2, subst (λ (x : List Symbol). QueryForm i.0 x) at i.4)
+  | inr others ↦ elim others [
+    | inl i ↦ let e = i.3 in let at : i.1 ≡ t = cc in (i.0, i.2, subst (λ (x : List Symbol). QueryForm i.0 x) at i.4)
+    | inr i ↦ absurd (apart (codes "with") (codes "from") (Word (codes "with") ∷ t) t i.1 refl i.3 refl)
+  ]
+]
+
+pub support_inv : (st : Statement) (s t : List Symbol) → s ≡ Word (codes "explain") ∷ Word (codes "from") ∷ t → IsForm st s → (q : AQuery) × (st ≡ Support q) × QueryForm q t
+support_inv st s t w h = elim (explain_inv st s (Word (codes "from") ∷ t) w h) [
+  | inl i ↦ absurd (no_query_from i.0 (Word (codes "from") ∷ t) t refl i.2)
+  | inr others ↦ elim others [
+    | inl i ↦ absurd (apart (codes "from") (codes "with") (Word (codes "from") ∷ t) t i.1 refl i.3 refl)
+    | inr i ↦ let e = i.3 in let at : i.1 ≡ t = cc in (i.0, i.2, subst (λ (x : List Symbol). QueryForm i.0 x) at i.4)
+  ]
 ]
 
 pub retrieve_inv : (st : Statement) (s t : List Symbol) → s ≡ Word (codes "retrieve") ∷ t → IsForm st s → (q : AQuery) × (st ≡ Retrieve q) × QueryForm q s
@@ -161,6 +185,7 @@ retrieve_inv st s t w (g.closure _ names _ t' e e' h) = absurd (apart (codes "re
 retrieve_inv st s t w (g.retrieve _ q _ e h) = (q, e, h)
 retrieve_inv st s t w (g.explain _ q _ t' e e' h) = absurd (apart (codes "retrieve") (codes "explain") s t t' w e' refl)
 retrieve_inv st s t w (g.certify _ q _ t' e e' h) = absurd (apart (codes "retrieve") (codes "explain") s t (Word (codes "with") ∷ t') w e' refl)
+retrieve_inv st s t w (g.support _ q _ t' e e' h) = absurd (apart (codes "retrieve") (codes "explain") s t (Word (codes "from") ∷ t') w e' refl)
 retrieve_inv st s t w (g.compare _ p q _ t' e e' h) = absurd (apart (codes "retrieve") (codes "compare") s t t' w e' refl)
 retrieve_inv st s t w (g.window _ names _ t' e e' h) = absurd (apart (codes "retrieve") (codes "window") s t t' w e' refl)
 
@@ -175,6 +200,7 @@ compare_inv st s t w (g.closure _ names _ t' e e' h) = absurd (apart_behind (cod
 compare_inv st s t w (g.retrieve _ q _ e h) = absurd (apart (codes "compare") (codes "retrieve") s t (Sign sign.Open ∷ h.refs) w h.begins refl)
 compare_inv st s t w (g.explain _ q _ t' e e' h) = absurd (apart (codes "compare") (codes "explain") s t t' w e' refl)
 compare_inv st s t w (g.certify _ q _ t' e e' h) = absurd (apart (codes "compare") (codes "explain") s t (Word (codes "with") ∷ t') w e' refl)
+compare_inv st s t w (g.support _ q _ t' e e' h) = absurd (apart (codes "compare") (codes "explain") s t (Word (codes "from") ∷ t') w e' refl)
 compare_inv st s t w (g.compare _ p q _ t' e e' h) = let at : t' ≡ t = cc in (p, q, e, subst (λ (x : List Symbol). PairForm p q x) at h)
 compare_inv st s t w (g.window _ names _ t' e e' h) = absurd (apart (codes "compare") (codes "window") s t t' w e' refl)
 
@@ -189,6 +215,7 @@ window_inv st s t w (g.closure _ names _ t' e e' h) = absurd (apart (codes "wind
 window_inv st s t w (g.retrieve _ q _ e h) = absurd (apart (codes "window") (codes "retrieve") s t (Sign sign.Open ∷ h.refs) w h.begins refl)
 window_inv st s t w (g.explain _ q _ t' e e' h) = absurd (apart (codes "window") (codes "explain") s t t' w e' refl)
 window_inv st s t w (g.certify _ q _ t' e e' h) = absurd (apart (codes "window") (codes "explain") s t (Word (codes "with") ∷ t') w e' refl)
+window_inv st s t w (g.support _ q _ t' e e' h) = absurd (apart (codes "window") (codes "explain") s t (Word (codes "from") ∷ t') w e' refl)
 window_inv st s t w (g.compare _ p q _ t' e e' h) = absurd (apart (codes "window") (codes "compare") s t t' w e' refl)
 window_inv st s t w (g.window _ names _ t' e e' h) = let at : t' ≡ t = cc in (names, e, subst (λ (x : List Symbol). NamesForm names x) at h)
 
@@ -204,6 +231,7 @@ none_left s n1 n2 n3 n4 n5 n6 n7 n8 n9 bad st (g.closure _ names _ t' e e' h) = 
 none_left s n1 n2 n3 n4 n5 n6 n7 n8 n9 bad st (g.retrieve _ q _ e h) = bad q h
 none_left s n1 n2 n3 n4 n5 n6 n7 n8 n9 bad st (g.explain _ q _ t' e e' h) = n7 (t', e')
 none_left s n1 n2 n3 n4 n5 n6 n7 n8 n9 bad st (g.certify _ q _ t' e e' h) = n7 (Word (codes "with") ∷ t', e')
+none_left s n1 n2 n3 n4 n5 n6 n7 n8 n9 bad st (g.support _ q _ t' e e' h) = n7 (Word (codes "from") ∷ t', e')
 none_left s n1 n2 n3 n4 n5 n6 n7 n8 n9 bad st (g.compare _ p q _ t' e e' h) = n8 (t', e')
 none_left s n1 n2 n3 n4 n5 n6 n7 n8 n9 bad st (g.window _ names _ t' e e' h) = n9 (t', e')
 

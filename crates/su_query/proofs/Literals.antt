@@ -26,7 +26,8 @@ use Rattle.su_query.specs.Lookup.{kind_in, differs, differing_kinds, numbered, n
 use Rattle.su_query.specs.Ranges.{operand_kind, IsOfOneKind, IsTyped}
 use Rattle.su_query.proofs.Layers.{comparisons_of-Compare, comparisons_of-Not, comparisons_of-All, comparisons_of-Any}
 use Rattle.su_query.proofs.Found.{numbered-Compare, numbered-Not, numbered-All, numbered-Any}
-use Rattle.su_query.proofs.Hits.{none_found, all_front, all_back}
+use Rattle.su_base.proofs.Items.{All-append_left, All-append_right}
+use Rattle.su_query.proofs.Hits.{none_found}
 
 -- a comparison with a number in place of each ref
 abbrev pub literal_of : (ARef → ℕ) → Comparison → Literal
@@ -88,11 +89,11 @@ module _ (schema : SchemaValue) (scope : Scope) (kinds : List Kind) (f : ARef �
   all_below : (ks : List Comparison) → Each (IsNumbered schema scope kinds f) (flat_map refs_beside ks) → Each (λ k. HasPlacesBelow (length kinds) (literal_of f k)) ks
   all_below [] h = All-nil (λ k. HasPlacesBelow (length kinds) (literal_of f k))
   all_below (k ∷ ks) h =
-      let here = all_front (IsNumbered schema scope kinds f) (refs_beside k) (flat_map refs_beside ks) h in
-      let left = all_front (IsNumbered schema scope kinds f) (refs_in k.left) (refs_in k.right) here in
-      let right = all_back (IsNumbered schema scope kinds f) (refs_in k.left) (refs_in k.right) here in
+      let here = All-append_left (IsNumbered schema scope kinds f) (refs_beside k) (flat_map refs_beside ks) h in
+      let left = All-append_left (IsNumbered schema scope kinds f) (refs_in k.left) (refs_in k.right) here in
+      let right = All-append_right (IsNumbered schema scope kinds f) (refs_in k.left) (refs_in k.right) here in
       All-cons (λ k. HasPlacesBelow (length kinds) (literal_of f k)) k ks (operand_below k.left left, operand_below k.right right)
-      (all_below ks (all_back (IsNumbered schema scope kinds f) (refs_beside k) (flat_map refs_beside ks) h))
+      (all_below ks (All-append_right (IsNumbered schema scope kinds f) (refs_beside k) (flat_map refs_beside ks) h))
 
   not_false : (b : Bool) → not b ≡ false → b ≡ true
   not_false true e = refl
@@ -107,13 +108,13 @@ module _ (schema : SchemaValue) (scope : Scope) (kinds : List Kind) (f : ARef �
   all_typed : (ks : List Comparison) → Each (IsNumbered schema scope kinds f) (flat_map refs_beside ks) → Each (λ k. differs schema scope k ≡ false) ks → Each (λ k. IsOfOneKind kinds (literal_of f k)) ks
   all_typed [] h e = All-nil (λ k. IsOfOneKind kinds (literal_of f k))
   all_typed (k ∷ ks) h e =
-      let here = all_front (IsNumbered schema scope kinds f) (refs_beside k) (flat_map refs_beside ks) h in
-      let left = all_front (IsNumbered schema scope kinds f) (refs_in k.left) (refs_in k.right) here in
-      let right = all_back (IsNumbered schema scope kinds f) (refs_in k.left) (refs_in k.right) here in
+      let here = All-append_left (IsNumbered schema scope kinds f) (refs_beside k) (flat_map refs_beside ks) h in
+      let left = All-append_left (IsNumbered schema scope kinds f) (refs_in k.left) (refs_in k.right) here in
+      let right = All-append_right (IsNumbered schema scope kinds f) (refs_in k.left) (refs_in k.right) here in
       let same = kinds_same (kind_in schema scope k.left) (kind_in schema scope k.right)
       (not_false (same_kind (kind_in schema scope k.left) (kind_in schema scope k.right)) (All-head (λ k. differs schema scope k ≡ false) k ks e)) in
       All-cons (λ k. IsOfOneKind kinds (literal_of f k)) k ks (operand_typed k.left left ∙ same ∙ sym (operand_typed k.right right))
-      (all_typed ks (all_back (IsNumbered schema scope kinds f) (refs_beside k) (flat_map refs_beside ks) h) (All-tail (λ k. differs schema scope k ≡ false) k ks e))
+      (all_typed ks (All-append_right (IsNumbered schema scope kinds f) (refs_beside k) (flat_map refs_beside ks) h) (All-tail (λ k. differs schema scope k ≡ false) k ks e))
 
   -- a condition whose refs are so numbered, without a comparison of two kinds
   pub typed : (c : NamedCond) → length (comparisons_of c) ≤ 256 → Each (IsNumbered schema scope kinds f) (refs_of c) → differing_kinds schema scope (comparisons_of c) ≡ None → IsTyped kinds (numbered f c)

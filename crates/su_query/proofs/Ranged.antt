@@ -21,7 +21,8 @@ use Rattle.su_query.specs.Mentions.{comparisons_of, refs_of, same_variable, ment
 use Rattle.su_query.specs.Reading.{AreFew}
 use Rattle.su_query.specs.Lookup.{names_in, kinds_in, is_unknown, first_unknown, number_among, kind_in, place_in, same_place, places_of, number_in, places_in, resolved_of, IsKnownQuery, IsColumnCondition, with_columns}
 use Rattle.su_query.specs.Ranges.{IsPlaceAmong, place_kinds, IsResolved, IsOnColumns}
-use Rattle.su_query.proofs.Hits.{Hit, hit_any, hit_some, any-push, any-last, none_found, all_front, all_back}
+use Rattle.su_base.proofs.Items.{All-append_left, All-append_right}
+use Rattle.su_query.proofs.Hits.{Hit, hit_any, hit_some, any-push, any-last, none_found}
 use Rattle.su_query.proofs.Placed.{few_variables, few_places}
 use Rattle.su_query.proofs.Literals.{IsNumbered, typed}
 
@@ -139,7 +140,7 @@ query_resolved schema q few known =
     let all = all_known (attribute_names schema) refs known.known in
     let among : Each (λ r. IsPlaceAmong schema vs (place_in schema vs r)) refs = λ k d l. place_among schema vs (get_or refs k d) (mentions-has [] refs k d l) (all k d l) in
     let numbers : Each (IsNumbered schema Attributes kinds f) refs = λ k d l. ref_numbered schema vs places (get_or refs k d) (places-has schema vs [] refs k d l) (all k d l) in
-    let outputs = all_front (IsNumbered schema Attributes kinds f) q.outputs (refs_of q.cond) numbers in
+    let outputs = All-append_left (IsNumbered schema Attributes kinds f) q.outputs (refs_of q.cond) numbers in
     let count : length kinds ≡ length places = length-map places (λ p. slice_index_or (attribute_kinds schema) p.attribute IntKind) in
     record {
       few_variables = few_variables q few;
@@ -147,7 +148,7 @@ query_resolved schema q few known =
       few_places = few_places schema vs q few;
       places = places-among schema vs [] refs (All-nil (IsPlaceAmong schema vs)) among;
       outputs = All-map (λ (o : ℕ). o < length places) f q.outputs (λ k d l. subst (λ (n : ℕ). f (get_or q.outputs k d) < n) count (outputs k d l).below);
-      cond = typed schema Attributes kinds f q.cond few.few_comparisons (all_back (IsNumbered schema Attributes kinds f) q.outputs (refs_of q.cond) numbers) known.kinds;
+      cond = typed schema Attributes kinds f q.cond few.few_comparisons (All-append_right (IsNumbered schema Attributes kinds f) q.outputs (refs_of q.cond) numbers) known.kinds;
     }
 
 -- ---- a condition on a relation

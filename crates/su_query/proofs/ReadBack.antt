@@ -181,6 +181,7 @@ form_shown st s (g.closure _ names _ t e w h) = g.closure st names (statement_sy
 form_shown st s (g.retrieve _ q _ e h) = g.retrieve st q (statement_symbols st) e (subst (λ (x : List Symbol). QueryForm q x) (sym (ap statement_symbols e)) (query_alone q s h))
 form_shown st s (g.explain _ q _ t e w h) = g.explain st q (statement_symbols st) (query_symbols q) e (ap statement_symbols e) (query_alone q t h)
 form_shown st s (g.certify _ q _ t e w h) = g.certify st q (statement_symbols st) (query_symbols q) e (ap statement_symbols e) (query_alone q t h)
+form_shown st s (g.support _ q _ t e w h) = g.support st q (statement_symbols st) (query_symbols q) e (ap statement_symbols e) (query_alone q t h)
 form_shown st s (g.compare _ first second _ t e w h) =
     g.compare st first second (statement_symbols st) (in_parens (query_symbols first) ++ Word (codes "with") ∷ in_parens (query_symbols second)) e (ap statement_symbols e) (pair_shown first second t h)
 form_shown st s (g.window _ names _ t e w h) = g.window st names (statement_symbols st) (in_parens (listed name_symbols names)) e (ap statement_symbols e) (names_shown names t h)
@@ -237,6 +238,7 @@ form_kept st s (g.closure _ names _ t e w h) v = let x = subst AreSymbols w v in
 form_kept st s (g.retrieve _ q _ e h) v = subst AreSymbols (sym (ap statement_symbols e)) (query_kept q s [] h v).shown
 form_kept st s (g.explain _ q _ t e w h) v = let x = subst AreSymbols w v in subst AreSymbols (sym (ap statement_symbols e)) (x.0, (query_kept q t [] h x.1).shown)
 form_kept st s (g.certify _ q _ t e w h) v = let x = subst AreSymbols w v in subst AreSymbols (sym (ap statement_symbols e)) (x.0, (x.1.0, (query_kept q t [] h x.1.1).shown))
+form_kept st s (g.support _ q _ t e w h) v = let x = subst AreSymbols w v in subst AreSymbols (sym (ap statement_symbols e)) (x.0, (x.1.0, (query_kept q t [] h x.1.1).shown))
 form_kept st s (g.compare _ first second _ t e w h) v = let x = subst AreSymbols w v in subst AreSymbols (sym (ap statement_symbols e)) (x.0, pair_kept first second t h x.1)
 form_kept st s (g.window _ names _ t e w h) v = let x = subst AreSymbols w v in subst AreSymbols (sym (ap statement_symbols e)) (x.0, names_kept names t h x.1)
 

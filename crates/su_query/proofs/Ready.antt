@@ -25,5 +25,6 @@ form_ready st s (g.closure _ names _ t e w h) = subst IsReady (sym e) tt
 form_ready st s (g.retrieve _ q _ e h) = subst IsReady (sym e) (some_outputs q s [] h)
 form_ready st s (g.explain _ q _ t e w h) = subst IsReady (sym e) (some_outputs q t [] h)
 form_ready st s (g.certify _ q _ t e w h) = subst IsReady (sym e) (some_outputs q t [] h)
+form_ready st s (g.support _ q _ t e w h) = subst IsReady (sym e) (some_outputs q t [] h)
 form_ready st s (g.compare _ first second _ t e w h) = subst IsReady (sym e) (some_outputs first h.before.rest _ h.before.reads, some_outputs second h.behind.rest _ h.behind.reads)
 form_ready st s (g.window _ names _ t e w h) = subst IsReady (sym e) (some_names names t h)

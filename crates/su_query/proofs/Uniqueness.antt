@@ -8,7 +8,7 @@ use Rattle.su_lex.specs.declared.meaning.Symbol.TheVariants.{Word, Sign}
 use Rattle.su_query.specs.declared.conditions.NamedCond.{NamedCond}
 use Rattle.su_query.specs.declared.statements.Query.{Query}
 use Rattle.su_query.specs.declared.statements.Statement.{Statement}
-use Rattle.su_query.specs.declared.statements.Statement.TheVariants.{Insert, Delete, DeleteWhere, Load, Print, Closure, Retrieve, Explain, Certify, Compare, Window}
+use Rattle.su_query.specs.declared.statements.Statement.TheVariants.{Insert, Delete, DeleteWhere, Load, Print, Closure, Retrieve, Explain, Certify, Support, Compare, Window}
 use Rattle.su_query.specs.Lists.{opens_second, Several}
 use Rattle.su_query.specs.Grammar.{ReadsName, ReadsValue, ReadsCond}
 use Rattle.su_query.specs.Forms as g
@@ -21,7 +21,7 @@ use Rattle.su_query.proofs.Items.{name_unique, value_unique}
 use Rattle.su_query.proofs.Listed.{several_unique}
 use Rattle.su_query.proofs.Queries.{query_unique, pair_unique}
 use Rattle.su_query.proofs.Unique.{same_cond}
-use Rattle.su_query.proofs.Exits.{insert_inv, delete_inv, load_inv, print_inv, schema_inv, closure_inv, retrieve_inv, explain_inv, certify_inv, compare_inv, window_inv, no_query_with, condition_not_row}
+use Rattle.su_query.proofs.Exits.{insert_inv, delete_inv, load_inv, print_inv, schema_inv, closure_inv, retrieve_inv, explain_inv, certify_inv, support_inv, compare_inv, window_inv, no_query_with, no_query_from, condition_not_row}
 
 row_unique : (n m : List ℕ) (v w : List Value) (s : List Symbol) → RowForm n v s → RowForm m w s → (n ≡ m) × (v ≡ w)
 row_unique n m v w s h k =
@@ -86,11 +86,17 @@ form_unique st other s (g.retrieve _ q _ e h) k =
 form_unique st other s (g.explain _ q _ t e w h) k =
     elim (explain_inv other s t w k) [
       | inl i ↦ i.1 ∙ ap Explain (sym (query_unique q i.0 t [] [] h i.2).item) ∙ sym e
-      | inr i ↦ absurd (no_query_with q t i.1 i.3 h)
+      | inr others ↦ elim others [
+        | inl i ↦ absurd (no_query_with q t i.1 i.3 h)
+        | inr i ↦ absurd (no_query_from q t i.1 i.3 h)
+      ]
     ]
 form_unique st other s (g.certify _ q _ t e w h) k =
     let i = certify_inv other s t w k in
     i.1 ∙ ap Certify (sym (query_unique q i.0 t [] [] h i.2).item) ∙ sym e
+form_unique st other s (g.support _ q _ t e w h) k =
+    let i = support_inv other s t w k in
+    i.1 ∙ ap Support (sym (query_unique q i.0 t [] [] h i.2).item) ∙ sym e
 form_unique st other s (g.compare _ first second _ t e w h) k =
     let i = compare_inv other s t w k in
     let p = pair_unique first second i.0 i.1 t h i.3 in

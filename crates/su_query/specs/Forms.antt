@@ -9,7 +9,7 @@ use Rattle.su_query.specs.declared.conditions.NamedCond.{NamedCond}
 use Rattle.su_query.specs.declared.conditions.NamedCond.TheVariants.{All}
 use Rattle.su_query.specs.declared.statements.Query.{Query as AQuery}
 use Rattle.su_query.specs.declared.statements.Statement.{Statement}
-use Rattle.su_query.specs.declared.statements.Statement.TheVariants.{Insert, Delete, DeleteWhere, Load, Print, Schema, Closure, Retrieve, Explain, Certify, Compare, Window}
+use Rattle.su_query.specs.declared.statements.Statement.TheVariants.{Insert, Delete, DeleteWhere, Load, Print, Schema, Closure, Retrieve, Explain, Certify, Support, Compare, Window}
 use Rattle.su_lex.specs.Names.{Begins}
 use Rattle.su_query.specs.Lists.{Several}
 use Rattle.su_query.specs.Grammar.{ReadsName, ReadsValue, ReadsRef, ReadsCond}
@@ -82,5 +82,6 @@ pub data IsForm : Statement → List Symbol → Type 0 where
   retrieve : (st : Statement) (q : AQuery) (s : List Symbol) → st ≡ Retrieve q → QueryForm q s → IsForm st s
   explain : (st : Statement) (q : AQuery) (s t : List Symbol) → st ≡ Explain q → s ≡ Word (codes "explain") ∷ t → QueryForm q t → IsForm st s
   certify : (st : Statement) (q : AQuery) (s t : List Symbol) → st ≡ Certify q → s ≡ Word (codes "explain") ∷ Word (codes "with") ∷ t → QueryForm q t → IsForm st s
+  support : (st : Statement) (q : AQuery) (s t : List Symbol) → st ≡ Support q → s ≡ Word (codes "explain") ∷ Word (codes "from") ∷ t → QueryForm q t → IsForm st s
   compare : (st : Statement) (first second : AQuery) (s t : List Symbol) → st ≡ Compare first second → s ≡ Word (codes "compare") ∷ t → PairForm first second t → IsForm st s
   window : (st : Statement) (names : List (List ℕ)) (s t : List Symbol) → st ≡ Window names → s ≡ Word (codes "window") ∷ t → NamesForm names t → IsForm st s

@@ -7,7 +7,7 @@ use Rattle.su_query.specs.declared.conditions.NamedCond.TheVariants.{All}
 use Rattle.su_query.specs.declared.refs.Ref.{Ref}
 use Rattle.su_query.specs.declared.statements.Query.{Query}
 use Rattle.su_query.specs.declared.statements.Statement.{Statement}
-use Rattle.su_query.specs.declared.statements.Statement.TheVariants.{DeleteWhere, Retrieve, Explain, Certify, Compare, Window}
+use Rattle.su_query.specs.declared.statements.Statement.TheVariants.{DeleteWhere, Retrieve, Explain, Certify, Support, Compare, Window}
 use Rattle.su_query.specs.declared.faults.QueryFault.{QueryFault}
 use Rattle.su_query.specs.declared.faults.QueryFault.TheVariants.{Syntax, Limit, NoMemory}
 use Rattle.su_query.specs.declared.faults.QueryLimit.TheVariants.{Nesting, Variables, Outputs, Comparisons}
@@ -28,6 +28,7 @@ parts_of (DeleteWhere relation cond) = record { outputs = []; cond = cond } ∷ 
 parts_of (Retrieve q) = q ∷ []
 parts_of (Explain q) = q ∷ []
 parts_of (Certify q) = q ∷ []
+parts_of (Support q) = q ∷ []
 parts_of (Compare first second) = first ∷ second ∷ []
 parts_of (Window names) = record { outputs = map plain_ref names; cond = All [] } ∷ []
 parts_of _ = []
@@ -52,6 +53,7 @@ IsReady (DeleteWhere relation cond) = are_columns cond ≡ true
 IsReady (Retrieve q) = 0 < length q.outputs
 IsReady (Explain q) = 0 < length q.outputs
 IsReady (Certify q) = 0 < length q.outputs
+IsReady (Support q) = 0 < length q.outputs
 IsReady (Compare first second) = (0 < length first.outputs) × (0 < length second.outputs)
 IsReady (Window names) = 0 < length names
 IsReady _ = Unit {0}

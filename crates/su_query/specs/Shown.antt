@@ -14,7 +14,7 @@ use Rattle.su_query.specs.declared.conditions.NamedCond.TheOpen.{NamedCond-F, Co
 use Rattle.su_query.specs.declared.conditions.NamedCond.TheFolds.{fold-NamedCond}
 use Rattle.su_query.specs.declared.statements.Query.{Query}
 use Rattle.su_query.specs.declared.statements.Statement.{Statement}
-use Rattle.su_query.specs.declared.statements.Statement.TheVariants.{Insert, Delete, DeleteWhere, Load, Print, Schema, Closure, Retrieve, Explain, Certify, Compare as Comparing, Window}
+use Rattle.su_query.specs.declared.statements.Statement.TheVariants.{Insert, Delete, DeleteWhere, Load, Print, Schema, Closure, Retrieve, Explain, Certify, Support, Compare as Comparing, Window}
 use Rattle.su_query.specs.Grammar.{value_sym, op_sym, qualified}
 
 -- the symbol of a name
@@ -109,6 +109,7 @@ statement_symbols (Closure attributes) = Word (codes "closure") ∷ in_parens (l
 statement_symbols (Retrieve q) = query_symbols q
 statement_symbols (Explain q) = Word (codes "explain") ∷ query_symbols q
 statement_symbols (Certify q) = Word (codes "explain") ∷ Word (codes "with") ∷ query_symbols q
+statement_symbols (Support q) = Word (codes "explain") ∷ Word (codes "from") ∷ query_symbols q
 statement_symbols (Comparing first second) = Word (codes "compare") ∷ (in_parens (query_symbols first) ++ Word (codes "with") ∷ in_parens (query_symbols second))
 statement_symbols (Window attributes) = Word (codes "window") ∷ in_parens (listed name_symbols attributes)
 

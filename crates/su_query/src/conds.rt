@@ -56,11 +56,11 @@ fn all_of(mut parts: List<NamedCond>) -> NamedCond
 /// conj { "or" conj }
 #[cycle(reader)]
 pub(crate) fn cond(reader: &mut Reader) -> Result<NamedCond, LexEnd>
-    ensures found { IfOk result (λ c. ReadsCond c reader.old.rest.now reader.new.rest.now) }
-    ensures shorter { IfOk result (λ c. length reader.new.rest.now < length reader.old.rest.now) }
-    ensures syntax { IsErrOf result LexEnd.Syntax → (c : ACond) (r : Items ASymbol) → ReadsCond c reader.old.rest.now r → ⊥ }
+    ensures found { IfOk result (λ c. ReadsCond c reader.old reader.new) }
+    ensures shorter { IfOk result (λ c. length reader.new < length reader.old) }
+    ensures syntax { IsErrOf result LexEnd.Syntax → (c : ACond) (r : Items ASymbol) → ReadsCond c reader.old r → ⊥ }
 {
-    let mut parts = List::new(reader.alloc);
+    let mut parts = List::new(reader.alloc());
     parts.push(conj(reader)?)?;
     while reader.takes_word("or") {
         parts.push(conj(reader)?)?;
@@ -71,11 +71,11 @@ pub(crate) fn cond(reader: &mut Reader) -> Result<NamedCond, LexEnd>
 /// factor { "and" factor }
 #[cycle(reader)]
 fn conj(reader: &mut Reader) -> Result<NamedCond, LexEnd>
-    ensures found { IfOk result (λ c. ReadsConj c reader.old.rest.now reader.new.rest.now) }
-    ensures shorter { IfOk result (λ c. length reader.new.rest.now < length reader.old.rest.now) }
-    ensures syntax { IsErrOf result LexEnd.Syntax → (c : ACond) (r : Items ASymbol) → ReadsConj c reader.old.rest.now r → ⊥ }
+    ensures found { IfOk result (λ c. ReadsConj c reader.old reader.new) }
+    ensures shorter { IfOk result (λ c. length reader.new < length reader.old) }
+    ensures syntax { IsErrOf result LexEnd.Syntax → (c : ACond) (r : Items ASymbol) → ReadsConj c reader.old r → ⊥ }
 {
-    let mut parts = List::new(reader.alloc);
+    let mut parts = List::new(reader.alloc());
     parts.push(factor(reader)?)?;
     while reader.takes_word("and") {
         parts.push(factor(reader)?)?;
@@ -86,13 +86,13 @@ fn conj(reader: &mut Reader) -> Result<NamedCond, LexEnd>
 /// [ "not" ] primary
 #[cycle(reader)]
 fn factor(reader: &mut Reader) -> Result<NamedCond, LexEnd>
-    ensures found { IfOk result (λ c. ReadsFactor c reader.old.rest.now reader.new.rest.now) }
-    ensures shorter { IfOk result (λ c. length reader.new.rest.now < length reader.old.rest.now) }
-    ensures syntax { IsErrOf result LexEnd.Syntax → (c : ACond) (r : Items ASymbol) → ReadsFactor c reader.old.rest.now r → ⊥ }
+    ensures found { IfOk result (λ c. ReadsFactor c reader.old reader.new) }
+    ensures shorter { IfOk result (λ c. length reader.new < length reader.old) }
+    ensures syntax { IsErrOf result LexEnd.Syntax → (c : ACond) (r : Items ASymbol) → ReadsFactor c reader.old r → ⊥ }
 {
     if reader.takes_word("not") {
         let inner = primary(reader)?;
-        return Ok(NamedCond::Not(Boxed::new(reader.alloc, inner)?));
+        return Ok(NamedCond::Not(Boxed::new(reader.alloc(), inner)?));
     }
     primary(reader)
 }
@@ -100,9 +100,9 @@ fn factor(reader: &mut Reader) -> Result<NamedCond, LexEnd>
 /// "(" cond ")", or a comparison
 #[cycle(reader)]
 fn primary(reader: &mut Reader) -> Result<NamedCond, LexEnd>
-    ensures found { IfOk result (λ c. ReadsPrimary c reader.old.rest.now reader.new.rest.now) }
-    ensures shorter { IfOk result (λ c. length reader.new.rest.now < length reader.old.rest.now) }
-    ensures syntax { IsErrOf result LexEnd.Syntax → (c : ACond) (r : Items ASymbol) → ReadsPrimary c reader.old.rest.now r → ⊥ }
+    ensures found { IfOk result (λ c. ReadsPrimary c reader.old reader.new) }
+    ensures shorter { IfOk result (λ c. length reader.new < length reader.old) }
+    ensures syntax { IsErrOf result LexEnd.Syntax → (c : ACond) (r : Items ASymbol) → ReadsPrimary c reader.old r → ⊥ }
 {
     if reader.takes_sign(Sign::Open) {
         let inner = cond(reader)?;
@@ -116,9 +116,9 @@ fn primary(reader: &mut Reader) -> Result<NamedCond, LexEnd>
 
 /// operand op operand
 fn comparison(reader: &mut Reader) -> Result<NamedCond, LexEnd>
-    ensures found { IfOk result (λ c. ReadsComparison c reader.old.rest.now reader.new.rest.now) }
-    ensures shorter { IfOk result (λ c. length reader.new.rest.now < length reader.old.rest.now) }
-    ensures syntax { IsErrOf result LexEnd.Syntax → (c : ACond) (r : Items ASymbol) → ReadsComparison c reader.old.rest.now r → ⊥ }
+    ensures found { IfOk result (λ c. ReadsComparison c reader.old reader.new) }
+    ensures shorter { IfOk result (λ c. length reader.new < length reader.old) }
+    ensures syntax { IsErrOf result LexEnd.Syntax → (c : ACond) (r : Items ASymbol) → ReadsComparison c reader.old r → ⊥ }
 {
     let left = operand(reader)?;
     let op = operator(reader)?;
@@ -127,15 +127,12 @@ fn comparison(reader: &mut Reader) -> Result<NamedCond, LexEnd>
 }
 
 fn operator(reader: &mut Reader) -> Result<Op, LexEnd>
-    ensures found { IfOk result (λ o. reader.old.rest.now ≡ op_sym o ∷ reader.new.rest.now) }
-    ensures syntax { IsErrOf result LexEnd.Syntax → (o : AnOp) (r : Items ASymbol) → ¬ (reader.old.rest.now ≡ op_sym o ∷ r) }
+    ensures found { IfOk result (λ o. reader.old ≡ op_sym o ∷ reader.new) }
+    ensures syntax { IsErrOf result LexEnd.Syntax → (o : AnOp) (r : Items ASymbol) → ¬ (reader.old ≡ op_sym o ∷ r) }
 {
-    match reader.rest {
-        [Symbol::Sign(sign), behind @ ..] => match op_of(*sign) {
-            Some(op) => {
-                reader.rest = behind;
-                Ok(op)
-            }
+    match reader.next() {
+        Some(Symbol::Sign(sign)) => match op_of(sign) {
+            Some(op) => Ok(op),
             None => Err(LexEnd::Syntax),
         },
         _ => Err(LexEnd::Syntax),
@@ -143,17 +140,17 @@ fn operator(reader: &mut Reader) -> Result<Op, LexEnd>
 }
 
 fn is_at_word(reader: &Reader) -> bool
-    ensures { result ≡ begins_word reader.now.rest.now }
+    ensures { result ≡ begins_word reader.now }
 {
-    match reader.rest {
-        [Symbol::Word(_), ..] => true,
+    match reader.peek() {
+        Some(Symbol::Word(_)) => true,
         _ => false,
     }
 }
 
 fn operand(reader: &mut Reader) -> Result<NamedOperand, LexEnd>
-    ensures found { IfOk result (λ a. ReadsOperand a reader.old.rest.now reader.new.rest.now) }
-    ensures syntax { IsErrOf result LexEnd.Syntax → (a : AnOperand) (r : Items ASymbol) → ¬ (ReadsOperand a reader.old.rest.now r) }
+    ensures found { IfOk result (λ a. ReadsOperand a reader.old reader.new) }
+    ensures syntax { IsErrOf result LexEnd.Syntax → (a : AnOperand) (r : Items ASymbol) → ¬ (ReadsOperand a reader.old r) }
 {
     if is_at_word(reader) {
         return Ok(NamedOperand::Ref(reference(reader)?));

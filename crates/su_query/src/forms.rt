@@ -18,8 +18,8 @@ use su_lex::{LexEnd, Reader, Sign, Symbol};
 
 /// NAME "(" values ")"
 fn row_form(reader: &mut Reader) -> Result<(Str, Row), LexEnd>
-    ensures found { IfOk result (λ p. RowForm p.0 p.1 reader.old.rest.now) }
-    ensures syntax { IsErrOf result LexEnd.Syntax → (relation : Items ℕ) (row : Items AValue) → RowForm relation row reader.old.rest.now → ⊥ }
+    ensures found { IfOk result (λ p. RowForm p.0 p.1 reader.old) }
+    ensures syntax { IsErrOf result LexEnd.Syntax → (relation : Items ℕ) (row : Items AValue) → RowForm relation row reader.old → ⊥ }
 {
     let relation = reader.name()?;
     reader.expect_sign(Sign::Open)?;
@@ -31,8 +31,8 @@ fn row_form(reader: &mut Reader) -> Result<(Str, Row), LexEnd>
 
 /// NAME "where" cond, each ref a column
 fn condition_form(reader: &mut Reader) -> Result<(Str, NamedCond), LexEnd>
-    ensures found { IfOk result (λ p. ConditionForm p.0 p.1 reader.old.rest.now) }
-    ensures syntax { IsErrOf result LexEnd.Syntax → (relation : Items ℕ) (cond : ACond) → ConditionForm relation cond reader.old.rest.now → ⊥ }
+    ensures found { IfOk result (λ p. ConditionForm p.0 p.1 reader.old) }
+    ensures syntax { IsErrOf result LexEnd.Syntax → (relation : Items ℕ) (cond : ACond) → ConditionForm relation cond reader.old → ⊥ }
 {
     let relation = reader.name()?;
     reader.expect_word("where")?;
@@ -46,8 +46,8 @@ fn condition_form(reader: &mut Reader) -> Result<(Str, NamedCond), LexEnd>
 
 /// NAME "from" TEXT
 fn file_form(reader: &mut Reader) -> Result<(Str, Str), LexEnd>
-    ensures found { IfOk result (λ p. FileForm p.0 p.1 reader.old.rest.now) }
-    ensures syntax { IsErrOf result LexEnd.Syntax → (relation : Items ℕ) (file : Items ℕ) → FileForm relation file reader.old.rest.now → ⊥ }
+    ensures found { IfOk result (λ p. FileForm p.0 p.1 reader.old) }
+    ensures syntax { IsErrOf result LexEnd.Syntax → (relation : Items ℕ) (file : Items ℕ) → FileForm relation file reader.old → ⊥ }
 {
     let relation = reader.name()?;
     reader.expect_word("from")?;
@@ -58,8 +58,8 @@ fn file_form(reader: &mut Reader) -> Result<(Str, Str), LexEnd>
 
 /// "(" names ")"
 fn names_form(reader: &mut Reader) -> Result<List<Str>, LexEnd>
-    ensures found { IfOk result (λ names. NamesForm names reader.old.rest.now) }
-    ensures syntax { IsErrOf result LexEnd.Syntax → (names : Items (Items ℕ)) → NamesForm names reader.old.rest.now → ⊥ }
+    ensures found { IfOk result (λ names. NamesForm names reader.old) }
+    ensures syntax { IsErrOf result LexEnd.Syntax → (names : Items (Items ℕ)) → NamesForm names reader.old → ⊥ }
 {
     reader.expect_sign(Sign::Open)?;
     let names = reader.names()?;
@@ -70,19 +70,19 @@ fn names_form(reader: &mut Reader) -> Result<List<Str>, LexEnd>
 
 /// [ "where" cond ]
 fn wanted(reader: &mut Reader) -> Result<NamedCond, LexEnd>
-    ensures found { IfOk result (λ cond. ReadsWhere cond reader.old.rest.now reader.new.rest.now) }
-    ensures syntax { IsErrOf result LexEnd.Syntax → (cond : ACond) (r : Items ASymbol) → ReadsWhere cond reader.old.rest.now r → ⊥ }
+    ensures found { IfOk result (λ cond. ReadsWhere cond reader.old reader.new) }
+    ensures syntax { IsErrOf result LexEnd.Syntax → (cond : ACond) (r : Items ASymbol) → ReadsWhere cond reader.old r → ⊥ }
 {
     if !reader.takes_word("where") {
-        return Ok(NamedCond::All(List::new(reader.alloc)));
+        return Ok(NamedCond::All(List::new(reader.alloc())));
     }
     cond(reader)
 }
 
 /// "retrieve" "(" refs ")" [ "where" cond ]
 fn query(reader: &mut Reader) -> Result<Query, LexEnd>
-    ensures found { IfOk result (λ q. ReadsQuery q reader.old.rest.now reader.new.rest.now) }
-    ensures syntax { IsErrOf result LexEnd.Syntax → (q : AQuery) (r : Items ASymbol) → ReadsQuery q reader.old.rest.now r → ⊥ }
+    ensures found { IfOk result (λ q. ReadsQuery q reader.old reader.new) }
+    ensures syntax { IsErrOf result LexEnd.Syntax → (q : AQuery) (r : Items ASymbol) → ReadsQuery q reader.old r → ⊥ }
 {
     reader.expect_word("retrieve")?;
     reader.expect_sign(Sign::Open)?;
@@ -94,8 +94,8 @@ fn query(reader: &mut Reader) -> Result<Query, LexEnd>
 
 /// A query alone
 fn query_form(reader: &mut Reader) -> Result<Query, LexEnd>
-    ensures found { IfOk result (λ q. QueryForm q reader.old.rest.now) }
-    ensures syntax { IsErrOf result LexEnd.Syntax → (q : AQuery) → QueryForm q reader.old.rest.now → ⊥ }
+    ensures found { IfOk result (λ q. QueryForm q reader.old) }
+    ensures syntax { IsErrOf result LexEnd.Syntax → (q : AQuery) → QueryForm q reader.old → ⊥ }
 {
     let query = query(reader)?;
     expect_end(reader)?;
@@ -104,8 +104,8 @@ fn query_form(reader: &mut Reader) -> Result<Query, LexEnd>
 
 /// "(" query ")"
 fn enclosed(reader: &mut Reader) -> Result<Query, LexEnd>
-    ensures found { IfOk result (λ q. ReadsEnclosed q reader.old.rest.now reader.new.rest.now) }
-    ensures syntax { IsErrOf result LexEnd.Syntax → (q : AQuery) (r : Items ASymbol) → ReadsEnclosed q reader.old.rest.now r → ⊥ }
+    ensures found { IfOk result (λ q. ReadsEnclosed q reader.old reader.new) }
+    ensures syntax { IsErrOf result LexEnd.Syntax → (q : AQuery) (r : Items ASymbol) → ReadsEnclosed q reader.old r → ⊥ }
 {
     reader.expect_sign(Sign::Open)?;
     let query = query(reader)?;
@@ -115,8 +115,8 @@ fn enclosed(reader: &mut Reader) -> Result<Query, LexEnd>
 
 /// "(" query ")" "with" "(" query ")"
 fn pair_form(reader: &mut Reader) -> Result<(Query, Query), LexEnd>
-    ensures found { IfOk result (λ p. PairForm p.0 p.1 reader.old.rest.now) }
-    ensures syntax { IsErrOf result LexEnd.Syntax → (first second : AQuery) → PairForm first second reader.old.rest.now → ⊥ }
+    ensures found { IfOk result (λ p. PairForm p.0 p.1 reader.old) }
+    ensures syntax { IsErrOf result LexEnd.Syntax → (first second : AQuery) → PairForm first second reader.old → ⊥ }
 {
     let first = enclosed(reader)?;
     reader.expect_word("with")?;
@@ -126,25 +126,25 @@ fn pair_form(reader: &mut Reader) -> Result<(Query, Query), LexEnd>
 }
 
 fn opens_second(reader: &Reader) -> bool
-    ensures { result ≡ opens_second reader.now.rest.now }
+    ensures { result ≡ opens_second reader.now }
 {
-    match reader.rest {
-        [_, Symbol::Sign(Sign::Open), ..] => true,
+    match reader.peek_second() {
+        Some(Symbol::Sign(Sign::Open)) => true,
         _ => false,
     }
 }
 
 fn insert(reader: &mut Reader) -> Result<Statement, LexEnd>
-    ensures found { IfOk result (λ st. IsForm st (Symbol.Word (codes "insert") ∷ reader.old.rest.now)) }
-    ensures syntax { IsErrOf result LexEnd.Syntax → (st : AStatement) → IsForm st (Symbol.Word (codes "insert") ∷ reader.old.rest.now) → ⊥ }
+    ensures found { IfOk result (λ st. IsForm st (Symbol.Word (codes "insert") ∷ reader.old)) }
+    ensures syntax { IsErrOf result LexEnd.Syntax → (st : AStatement) → IsForm st (Symbol.Word (codes "insert") ∷ reader.old) → ⊥ }
 {
     let (relation, row) = row_form(reader)?;
     Ok(Statement::Insert { relation, row })
 }
 
 fn delete(reader: &mut Reader) -> Result<Statement, LexEnd>
-    ensures found { IfOk result (λ st. IsForm st (Symbol.Word (codes "delete") ∷ reader.old.rest.now)) }
-    ensures syntax { IsErrOf result LexEnd.Syntax → (st : AStatement) → IsForm st (Symbol.Word (codes "delete") ∷ reader.old.rest.now) → ⊥ }
+    ensures found { IfOk result (λ st. IsForm st (Symbol.Word (codes "delete") ∷ reader.old)) }
+    ensures syntax { IsErrOf result LexEnd.Syntax → (st : AStatement) → IsForm st (Symbol.Word (codes "delete") ∷ reader.old) → ⊥ }
 {
     if opens_second(reader) {
         let (relation, row) = row_form(reader)?;
@@ -155,16 +155,16 @@ fn delete(reader: &mut Reader) -> Result<Statement, LexEnd>
 }
 
 fn load(reader: &mut Reader) -> Result<Statement, LexEnd>
-    ensures found { IfOk result (λ st. IsForm st (Symbol.Word (codes "load") ∷ reader.old.rest.now)) }
-    ensures syntax { IsErrOf result LexEnd.Syntax → (st : AStatement) → IsForm st (Symbol.Word (codes "load") ∷ reader.old.rest.now) → ⊥ }
+    ensures found { IfOk result (λ st. IsForm st (Symbol.Word (codes "load") ∷ reader.old)) }
+    ensures syntax { IsErrOf result LexEnd.Syntax → (st : AStatement) → IsForm st (Symbol.Word (codes "load") ∷ reader.old) → ⊥ }
 {
     let (relation, file) = file_form(reader)?;
     Ok(Statement::Load { relation, file })
 }
 
 fn print(reader: &mut Reader) -> Result<Statement, LexEnd>
-    ensures found { IfOk result (λ st. IsForm st (Symbol.Word (codes "print") ∷ reader.old.rest.now)) }
-    ensures syntax { IsErrOf result LexEnd.Syntax → (st : AStatement) → IsForm st (Symbol.Word (codes "print") ∷ reader.old.rest.now) → ⊥ }
+    ensures found { IfOk result (λ st. IsForm st (Symbol.Word (codes "print") ∷ reader.old)) }
+    ensures syntax { IsErrOf result LexEnd.Syntax → (st : AStatement) → IsForm st (Symbol.Word (codes "print") ∷ reader.old) → ⊥ }
 {
     let relation = reader.name()?;
     expect_end(reader)?;
@@ -172,51 +172,62 @@ fn print(reader: &mut Reader) -> Result<Statement, LexEnd>
 }
 
 fn schema(reader: &mut Reader) -> Result<Statement, LexEnd>
-    ensures found { IfOk result (λ st. IsForm st (Symbol.Word (codes "schema") ∷ reader.old.rest.now)) }
-    ensures syntax { IsErrOf result LexEnd.Syntax → (st : AStatement) → IsForm st (Symbol.Word (codes "schema") ∷ reader.old.rest.now) → ⊥ }
+    ensures found { IfOk result (λ st. IsForm st (Symbol.Word (codes "schema") ∷ reader.old)) }
+    ensures syntax { IsErrOf result LexEnd.Syntax → (st : AStatement) → IsForm st (Symbol.Word (codes "schema") ∷ reader.old) → ⊥ }
 {
     expect_end(reader)?;
     Ok(Statement::Schema)
 }
 
 fn closure(reader: &mut Reader) -> Result<Statement, LexEnd>
-    ensures found { IfOk result (λ st. IsForm st (Symbol.Word (codes "closure") ∷ reader.old.rest.now)) }
-    ensures syntax { IsErrOf result LexEnd.Syntax → (st : AStatement) → IsForm st (Symbol.Word (codes "closure") ∷ reader.old.rest.now) → ⊥ }
+    ensures found { IfOk result (λ st. IsForm st (Symbol.Word (codes "closure") ∷ reader.old)) }
+    ensures syntax { IsErrOf result LexEnd.Syntax → (st : AStatement) → IsForm st (Symbol.Word (codes "closure") ∷ reader.old) → ⊥ }
 {
     let attributes = names_form(reader)?;
     Ok(Statement::Closure { attributes })
 }
 
 fn certify(reader: &mut Reader) -> Result<Statement, LexEnd>
-    ensures found { IfOk result (λ st. IsForm st (Symbol.Word (codes "explain") ∷ Symbol.Word (codes "with") ∷ reader.old.rest.now)) }
-    ensures syntax { IsErrOf result LexEnd.Syntax → (st : AStatement) → IsForm st (Symbol.Word (codes "explain") ∷ Symbol.Word (codes "with") ∷ reader.old.rest.now) → ⊥ }
+    ensures found { IfOk result (λ st. IsForm st (Symbol.Word (codes "explain") ∷ Symbol.Word (codes "with") ∷ reader.old)) }
+    ensures syntax { IsErrOf result LexEnd.Syntax → (st : AStatement) → IsForm st (Symbol.Word (codes "explain") ∷ Symbol.Word (codes "with") ∷ reader.old) → ⊥ }
 {
     let query = query_form(reader)?;
     Ok(Statement::Certify(query))
 }
 
+fn support(reader: &mut Reader) -> Result<Statement, LexEnd>
+    ensures found { IfOk result (λ st. IsForm st (Symbol.Word (codes "explain") ∷ Symbol.Word (codes "from") ∷ reader.old)) }
+    ensures syntax { IsErrOf result LexEnd.Syntax → (st : AStatement) → IsForm st (Symbol.Word (codes "explain") ∷ Symbol.Word (codes "from") ∷ reader.old) → ⊥ }
+{
+    let query = query_form(reader)?;
+    Ok(Statement::Support(query))
+}
+
 fn explain(reader: &mut Reader) -> Result<Statement, LexEnd>
-    ensures found { IfOk result (λ st. IsForm st (Symbol.Word (codes "explain") ∷ reader.old.rest.now)) }
-    ensures syntax { IsErrOf result LexEnd.Syntax → (st : AStatement) → IsForm st (Symbol.Word (codes "explain") ∷ reader.old.rest.now) → ⊥ }
+    ensures found { IfOk result (λ st. IsForm st (Symbol.Word (codes "explain") ∷ reader.old)) }
+    ensures syntax { IsErrOf result LexEnd.Syntax → (st : AStatement) → IsForm st (Symbol.Word (codes "explain") ∷ reader.old) → ⊥ }
 {
     if reader.takes_word("with") {
         return certify(reader);
+    }
+    if reader.takes_word("from") {
+        return support(reader);
     }
     let query = query_form(reader)?;
     Ok(Statement::Explain(query))
 }
 
 fn compare(reader: &mut Reader) -> Result<Statement, LexEnd>
-    ensures found { IfOk result (λ st. IsForm st (Symbol.Word (codes "compare") ∷ reader.old.rest.now)) }
-    ensures syntax { IsErrOf result LexEnd.Syntax → (st : AStatement) → IsForm st (Symbol.Word (codes "compare") ∷ reader.old.rest.now) → ⊥ }
+    ensures found { IfOk result (λ st. IsForm st (Symbol.Word (codes "compare") ∷ reader.old)) }
+    ensures syntax { IsErrOf result LexEnd.Syntax → (st : AStatement) → IsForm st (Symbol.Word (codes "compare") ∷ reader.old) → ⊥ }
 {
     let (first, second) = pair_form(reader)?;
     Ok(Statement::Compare { first, second })
 }
 
 fn window(reader: &mut Reader) -> Result<Statement, LexEnd>
-    ensures found { IfOk result (λ st. IsForm st (Symbol.Word (codes "window") ∷ reader.old.rest.now)) }
-    ensures syntax { IsErrOf result LexEnd.Syntax → (st : AStatement) → IsForm st (Symbol.Word (codes "window") ∷ reader.old.rest.now) → ⊥ }
+    ensures found { IfOk result (λ st. IsForm st (Symbol.Word (codes "window") ∷ reader.old)) }
+    ensures syntax { IsErrOf result LexEnd.Syntax → (st : AStatement) → IsForm st (Symbol.Word (codes "window") ∷ reader.old) → ⊥ }
 {
     let attributes = names_form(reader)?;
     Ok(Statement::Window { attributes })
@@ -224,8 +235,8 @@ fn window(reader: &mut Reader) -> Result<Statement, LexEnd>
 
 /// The statement that the symbols are.
 pub(crate) fn statement(reader: &mut Reader) -> Result<Statement, LexEnd>
-    ensures found { IfOk result (λ st. IsForm st reader.old.rest.now) }
-    ensures syntax { IsErrOf result LexEnd.Syntax → (st : AStatement) → IsForm st reader.old.rest.now → ⊥ }
+    ensures found { IfOk result (λ st. IsForm st reader.old) }
+    ensures syntax { IsErrOf result LexEnd.Syntax → (st : AStatement) → IsForm st reader.old → ⊥ }
 {
     if reader.takes_word("insert") {
         return insert(reader);

@@ -33,7 +33,7 @@ pub use columns::resolve_columns;
 pub use conditions::NamedCond;
 pub use faults::{QueryFault, QueryLimit};
 pub use places::Place;
-pub use reading::read;
+pub use reading::{read, statement_of};
 pub use refs::{NamedOperand, Ref};
 pub use resolving::{Resolved, resolve};
 pub use sets::{mentioned, resolve_attributes};

@@ -65,6 +65,7 @@ pub(crate) fn check_limits(alloc: Global, statement: &Statement) -> Result<(), Q
         Statement::Retrieve(query) => check_query(alloc, query),
         Statement::Explain(query) => check_query(alloc, query),
         Statement::Certify(query) => check_query(alloc, query),
+        Statement::Support(query) => check_query(alloc, query),
         Statement::DeleteWhere { relation: _, cond } => check(alloc, &[], cond),
         Statement::Compare { first, second } => {
             check_query(alloc, first)?;

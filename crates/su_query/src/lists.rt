@@ -12,48 +12,37 @@ use su_lex::{LexEnd, Reader, Sign, Symbol};
 
 /// Nothing is left.
 pub(crate) fn expect_end(reader: &Reader) -> Result<(), LexEnd>
-    ensures found { OnOk result (reader.now.rest.now ≡ []) }
-    ensures syntax { IsErrOf result LexEnd.Syntax → ¬ (reader.now.rest.now ≡ []) }
+    ensures found { OnOk result (reader.now ≡ []) }
+    ensures syntax { IsErrOf result LexEnd.Syntax → ¬ (reader.now ≡ []) }
 {
     reader.end()
 }
 
 pub(crate) fn value(reader: &mut Reader) -> Result<Value, LexEnd>
-    ensures found { IfOk result (λ v. ReadsValue v reader.old.rest.now reader.new.rest.now) }
-    ensures syntax { IsErrOf result LexEnd.Syntax → (v : AValue) (r : Items ASymbol) → ¬ (ReadsValue v reader.old.rest.now r) }
+    ensures found { IfOk result (λ v. ReadsValue v reader.old reader.new) }
+    ensures syntax { IsErrOf result LexEnd.Syntax → (v : AValue) (r : Items ASymbol) → ¬ (ReadsValue v reader.old r) }
 {
-    match reader.rest {
-        [Symbol::Int(n), behind @ ..] => {
-            reader.rest = behind;
-            Ok(Value::Int(*n))
-        }
-        [Symbol::Text(content), behind @ ..] => {
-            let content = content.copy(reader.alloc)?;
-            reader.rest = behind;
-            Ok(Value::Text(content))
-        }
+    match reader.next() {
+        Some(Symbol::Int(n)) => Ok(Value::Int(n)),
+        Some(Symbol::Text(content)) => Ok(Value::Text(content)),
         _ => Err(LexEnd::Syntax),
     }
 }
 
 pub(crate) fn text(reader: &mut Reader) -> Result<Str, LexEnd>
-    ensures found { IfOk result (λ content. reader.old.rest.now ≡ Symbol.Text content ∷ reader.new.rest.now) }
-    ensures syntax { IsErrOf result LexEnd.Syntax → (content : Items ℕ) (r : Items ASymbol) → ¬ (reader.old.rest.now ≡ Symbol.Text content ∷ r) }
+    ensures found { IfOk result (λ content. reader.old ≡ Symbol.Text content ∷ reader.new) }
+    ensures syntax { IsErrOf result LexEnd.Syntax → (content : Items ℕ) (r : Items ASymbol) → ¬ (reader.old ≡ Symbol.Text content ∷ r) }
 {
-    match reader.rest {
-        [Symbol::Text(content), behind @ ..] => {
-            let content = content.copy(reader.alloc)?;
-            reader.rest = behind;
-            Ok(content)
-        }
+    match reader.next() {
+        Some(Symbol::Text(content)) => Ok(content),
         _ => Err(LexEnd::Syntax),
     }
 }
 
 /// `A` or `t.A`
 pub(crate) fn reference(reader: &mut Reader) -> Result<Ref, LexEnd>
-    ensures found { IfOk result (λ ref. ReadsRef ref reader.old.rest.now reader.new.rest.now) }
-    ensures syntax { IsErrOf result LexEnd.Syntax → (ref : ARef) (r : Items ASymbol) → ¬ (ReadsRef ref reader.old.rest.now r) }
+    ensures found { IfOk result (λ ref. ReadsRef ref reader.old reader.new) }
+    ensures syntax { IsErrOf result LexEnd.Syntax → (ref : ARef) (r : Items ASymbol) → ¬ (ReadsRef ref reader.old r) }
 {
     let first = reader.name()?;
     if !reader.takes_sign(Sign::Dot) {
@@ -74,10 +63,10 @@ pub(crate) fn reference(reader: &mut Reader) -> Result<Ref, LexEnd>
 
 /// value { "," value }
 pub(crate) fn values(reader: &mut Reader) -> Result<List<Value>, LexEnd>
-    ensures found { IfOk result (λ vs. Several ReadsValue vs reader.old.rest.now reader.new.rest.now) }
-    ensures syntax { IsErrOf result LexEnd.Syntax → (vs : Items AValue) (r : Items ASymbol) → ¬ (Several ReadsValue vs reader.old.rest.now r) }
+    ensures found { IfOk result (λ vs. Several ReadsValue vs reader.old reader.new) }
+    ensures syntax { IsErrOf result LexEnd.Syntax → (vs : Items AValue) (r : Items ASymbol) → ¬ (Several ReadsValue vs reader.old r) }
 {
-    let mut values = List::new(reader.alloc);
+    let mut values = List::new(reader.alloc());
     values.push(value(reader)?)?;
     while reader.takes_sign(Sign::Comma) {
         values.push(value(reader)?)?;
@@ -87,10 +76,10 @@ pub(crate) fn values(reader: &mut Reader) -> Result<List<Value>, LexEnd>
 
 /// ref { "," ref }
 pub(crate) fn references(reader: &mut Reader) -> Result<List<Ref>, LexEnd>
-    ensures found { IfOk result (λ refs. Several ReadsRef refs reader.old.rest.now reader.new.rest.now) }
-    ensures syntax { IsErrOf result LexEnd.Syntax → (refs : Items ARef) (r : Items ASymbol) → ¬ (Several ReadsRef refs reader.old.rest.now r) }
+    ensures found { IfOk result (λ refs. Several ReadsRef refs reader.old reader.new) }
+    ensures syntax { IsErrOf result LexEnd.Syntax → (refs : Items ARef) (r : Items ASymbol) → ¬ (Several ReadsRef refs reader.old r) }
 {
-    let mut references = List::new(reader.alloc);
+    let mut references = List::new(reader.alloc());
     references.push(reference(reader)?)?;
     while reader.takes_sign(Sign::Comma) {
         references.push(reference(reader)?)?;

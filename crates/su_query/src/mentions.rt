@@ -6,7 +6,7 @@ ghost use Rattle.su_query.specs.Mentions.{are_columns, comparisons_of, refs_in, 
 use crate::conditions::NamedCond;
 use crate::refs::{NamedOperand, Ref};
 use std::alloc::Global;
-use su_base::{List, NoMemory, Str};
+use su_base::{List, NoMemory, Str, copy_name};
 
 /// It stands for every count above 256.
 const MANY: usize = 257;
@@ -88,15 +88,6 @@ pub(crate) fn is_among(seen: &[Option<Str>], variable: &Option<Str>) -> bool
     seen.iter().any(|s| is_same(variable, s))
 }
 
-fn copy_variable(alloc: Global, variable: &Option<Str>) -> Result<Option<Str>, NoMemory>
-    ensures { IfOk result (λ v. v ≡ variable.now) }
-{
-    match variable {
-        Some(v) => Ok(Some(v.copy(alloc)?)),
-        None => Ok(None),
-    }
-}
-
 /// Adds the variable of the ref, unless it was seen. False where it would be the ninth.
 fn note(alloc: Global, seen: &mut List<Option<Str>>, reference: &Ref) -> Result<bool, NoMemory>
     requires { length seen.old ≤ 8 }
@@ -109,7 +100,7 @@ fn note(alloc: Global, seen: &mut List<Option<Str>>, reference: &Ref) -> Result<
     if seen.len() == 8 {
         return Ok(false);
     }
-    seen.push(copy_variable(alloc, &reference.variable)?)?;
+    seen.push(copy_name(alloc, &reference.variable)?)?;
     Ok(true)
 }
 

@@ -1,5 +1,6 @@
 //! One statement from its text.
-ghost use Rattle.std.specs.Prelude.{◌≡◌, IfOk, IfErr};
+ghost use Rattle.std.specs.Prelude.{◌≡◌, ℕ, IfOk, IfErr, List as Items};
+ghost use Rattle.su_lex.specs.Symbols.{Symbols};
 ghost use Rattle.su_query.specs.Reading.{IsStatement, HasFew, IsReady, IsRefusal};
 ghost use Rattle.su_query.specs.declared.statements.Statement.{Statement as AStatement};
 
@@ -9,28 +10,34 @@ use crate::limits::check_limits;
 use crate::nesting::nests_too_deep;
 use crate::statements::Statement;
 use std::alloc::Global;
-use su_lex::{LexEnd, Reader};
+use su_base::List;
+use su_lex::{LexEnd, Reader, Symbol, symbols};
 
-fn read_form(alloc: Global, text: &[u8]) -> Result<Statement, QueryFault>
-    ensures found { IfOk result (IsStatement text.now) }
-    ensures refused { IfErr result (IsRefusal text.now) }
+fn read_form(alloc: Global, symbols: List<Symbol>) -> Result<Statement, QueryFault>
+    ensures found { IfOk result (λ st. (text : Items ℕ) → Symbols text symbols → IsStatement text st) }
+    ensures refused { IfErr result (λ fault. (text : Items ℕ) → Symbols text symbols → IsRefusal text fault) }
 {
-    let symbols = match su_lex::symbols(alloc, text) {
-        Ok(symbols) => symbols,
-        Err(LexEnd::Syntax) => return Err(QueryFault::Syntax),
-        Err(LexEnd::NoMemory) => return Err(QueryFault::NoMemory),
-    };
     if nests_too_deep(symbols.as_slice()) {
         return Err(QueryFault::Limit(QueryLimit::Nesting));
     }
-    let mut reader = Reader {
-        alloc,
-        rest: symbols.as_slice(),
-    };
+    let mut reader = Reader::new(alloc, symbols);
     match statement(&mut reader) {
         Ok(statement) => Ok(statement),
         Err(LexEnd::Syntax) => Err(QueryFault::Syntax),
         Err(LexEnd::NoMemory) => Err(QueryFault::NoMemory),
+    }
+}
+
+/// The statement that a text of these symbols is. The causes of a refusal are those of `read`.
+pub fn statement_of(alloc: Global, symbols: List<Symbol>) -> Result<Statement, QueryFault>
+    ensures found { IfOk result (λ st. (text : Items ℕ) → Symbols text symbols → IsStatement text st) }
+    ensures few { IfOk result HasFew }
+    ensures refused { IfErr result (λ fault. (text : Items ℕ) → Symbols text symbols → IsRefusal text fault) }
+{
+    let statement = read_form(alloc, symbols)?;
+    match check_limits(alloc, &statement) {
+        Ok(()) => Ok(statement),
+        Err(fault) => Err(fault),
     }
 }
 
@@ -48,9 +55,13 @@ pub fn read(alloc: Global, text: &[u8]) -> Result<Statement, QueryFault>
     ensures only { IfOk result (λ st. (other : AStatement) → IsStatement text.now other → other ≡ st) }
     ensures refused { IfErr result (IsRefusal text.now) }
 {
-    let statement = read_form(alloc, text)?;
-    match check_limits(alloc, &statement) {
-        Ok(()) => Ok(statement),
+    let symbols = match symbols(alloc, text) {
+        Ok(symbols) => symbols,
+        Err(LexEnd::Syntax) => return Err(QueryFault::Syntax),
+        Err(LexEnd::NoMemory) => return Err(QueryFault::NoMemory),
+    };
+    match statement_of(alloc, symbols) {
+        Ok(statement) => Ok(statement),
         Err(fault) => Err(fault),
     }
 }

@@ -222,6 +222,11 @@ fn push_statement(
             push_word(alloc, out, "with")?;
             push_query(alloc, out, query)
         }
+        Statement::Support(query) => {
+            push_word(alloc, out, "explain")?;
+            push_word(alloc, out, "from")?;
+            push_query(alloc, out, query)
+        }
         Statement::Compare { first, second } => push_compare(alloc, out, first, second),
         Statement::Window { attributes } => push_named(alloc, out, "window", attributes.as_slice()),
     }

@@ -25,6 +25,8 @@ pub enum Statement {
     Explain(Query),
     /// `explain with` and the query: a certificate is wanted.
     Certify(Query),
+    /// `explain from` and the query: the counts of what its answer is joined from are wanted.
+    Support(Query),
     /// Whether the rows of each of the two queries are rows of the other.
     Compare { first: Query, second: Query },
     /// At least one name; a name may stand twice.

@@ -23,6 +23,7 @@ fn form(statement: &Statement) -> &'static str {
         Statement::Retrieve(_) => "retrieve",
         Statement::Explain(_) => "explain",
         Statement::Certify(_) => "explain with",
+        Statement::Support(_) => "explain from",
         Statement::Compare { .. } => "compare",
         Statement::Window { .. } => "window",
     }
@@ -79,7 +80,7 @@ fn updates_and_their_neighbours(rt: HostRuntime) {
 
 #[test]
 fn questions_and_their_neighbours(rt: HostRuntime) {
-    let cases: [(&[u8], &str); 20] = [
+    let cases: [(&[u8], &str); 23] = [
         (b"print P", "print"),
         (b"print P, Q", "syntax"),
         (b"print print", "syntax"),
@@ -96,6 +97,9 @@ fn questions_and_their_neighbours(rt: HostRuntime) {
         (b"explain retrieve (A)", "explain"),
         (b"explain with retrieve (A)", "explain with"),
         (b"explain with with retrieve (A)", "syntax"),
+        (b"explain from retrieve (A)", "explain from"),
+        (b"explain from with retrieve (A)", "syntax"),
+        (b"from retrieve (A)", "syntax"),
         (b"with retrieve (A)", "syntax"),
         (b"explain explain retrieve (A)", "syntax"),
         (b"explain print P", "syntax"),
@@ -299,7 +303,7 @@ pub(crate) fn shown(alloc: Global, text: &[u8]) -> Result<List<u8>, Fail> {
 
 #[test]
 fn statements_are_shown_with_one_space_between_tokens(rt: HostRuntime) -> Result<(), Fail> {
-    let cases: [(&[u8], &[u8]); 11] = [
+    let cases: [(&[u8], &[u8]); 12] = [
         (b"insert P(007,-0 ,'it''s')", b"insert P (7, 0, 'it''s')"),
         (b"delete  P( 'a' )", b"delete P ('a')"),
         (b"delete P where((A!=1))", b"delete P where A != 1"),
@@ -311,6 +315,7 @@ fn statements_are_shown_with_one_space_between_tokens(rt: HostRuntime) -> Result
         (b"retrieve (A)where A<=-1", b"retrieve (A) where A <= -1"),
         (b"explain retrieve (A)", b"explain retrieve (A)"),
         (b"explain  with\nretrieve(A)", b"explain with retrieve (A)"),
+        (b"explain  from\nretrieve(A)", b"explain from retrieve (A)"),
     ];
     for (text, want) in cases {
         assert_eq!(rt; shown(rt.alloc(), text)?.as_slice(), want);

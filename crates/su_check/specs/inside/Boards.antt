@@ -9,7 +9,8 @@ use Rattle.su_check.specs.declared.boards.Board.{Board}
 use Rattle.su_check.specs.declared.sending.Sent.{Sent}
 use Rattle.su_check.specs.declared.sending.Place.{Place}
 use Rattle.su_check.specs.inside.Cells.{cell, is_const, IsFirst}
-use Rattle.su_check.specs.Fitting.{Lines, AreSent, AreWide, IsWithin, row_of}
+use Rattle.su_check.specs.Fitting.{Lines, AreSent, row_of}
+use Rattle.su_check.specs.inside.Widths.{AreWide, IsWithin}
 use Rattle.su_check.specs.Refuting.{IsAscending}
 
 -- stands where no row was sent

@@ -2,8 +2,8 @@ use Rattle.std.proofs.Common.{◌≡◌, [], get_or, Contains, sym, subst, ◌�
 use Rattle.std.specs.List.Sorted.{IsNonDecreasingBy}
 use Rattle.std.proofs.lemmas.List.{get_or_default}
 use Rattle.std.proofs.lemmas.List.Sorted.{Contains-permutation, IsPermutation-sym, IsNonDecreasingBy-from_sort}
+use borrow.Author.Count.{below_more}
 use Rattle.su_tableau.specs.declared.symbols.Sym.TheVariants.{Var}
-use Rattle.su_check.proofs.Steps.{below_more}
 use Rattle.su_check.proofs.boards.variables_in.Goals as goal
 
 pub loop-row-preserved : goal.loop-row-preserved

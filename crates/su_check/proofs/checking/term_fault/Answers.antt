@@ -1,7 +1,8 @@
 use Rattle.std.proofs.Common.{refl, ◌∙◌}
 use Rattle.std.proofs.lemmas.Option.{MatchOption-at_some}
-use Rattle.su_check.specs.Verdict.{HasGoodTrees, IsTreeFault}
-use Rattle.su_check.proofs.Typing.{ready_start}
+use Rattle.su_check.specs.Verdict.{IsTreeFault}
+use Rattle.su_check.specs.inside.Trees.{HasGoodTrees}
+use Rattle.su_check.proofs.WellTyped.{ready_start}
 use Rattle.su_check.proofs.checking.term_fault.Goals as goal
 
 pub is_good_fold-requires-clause-ready : goal.is_good_fold-requires-clause-ready

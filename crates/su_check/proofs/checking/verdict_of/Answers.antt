@@ -1,10 +1,10 @@
 use Rattle.std.proofs.Common.{◌≡◌, slice_get, Some, refl, subst, ◌∙◌, arith}
 use Rattle.std.specs.Option.{MatchOption}
 use Rattle.std.proofs.lemmas.Option.{get_or_from_slice_get}
+use borrow.Author.Count.{below_more}
 use Rattle.su_check.specs.declared.certificates.Term.{Term}
 use Rattle.su_check.specs.Certificate.{IsGood}
 use Rattle.su_check.specs.Verdict.{IsTermFault}
-use Rattle.su_check.proofs.Steps.{below_more}
 use Rattle.su_check.proofs.checking.verdict_of.Goals as goal
 
 pub loop-i-preserved : goal.loop-i-preserved

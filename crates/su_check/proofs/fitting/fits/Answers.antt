@@ -1,7 +1,7 @@
 use Rattle.std.proofs.Common.{subst, ◌∙◌}
 use Rattle.su_check.specs.Certificate.{lines_of}
 use Rattle.su_check.specs.inside.Boards.{Keeps}
-use Rattle.su_check.proofs.Covering.{keeps_less}
+use Rattle.su_check.proofs.ImagePlaces.{keeps_less}
 use Rattle.su_check.proofs.fitting.fits.Goals as goal
 
 pub returns-clause-keeps : goal.returns-clause-keeps

@@ -1,10 +1,11 @@
+-- The rows before are sent already: the last one is too where each of its cells goes to a symbol's image or is the symbol's first.
 use Rattle.std.proofs.Common.{◌<◌, ◌≤◌, [], None, get_or, length, refl, sym, ap, subst, ◌∙◌, arith}
 use Rattle.std.proofs.lemmas.List.{get_or_default}
 use Rattle.su_check.specs.Certificate.{lines_of}
 use Rattle.su_check.specs.inside.Cells.{cell}
 use Rattle.su_check.specs.Fitting.{row_of, AreSent}
 use Rattle.su_check.specs.inside.Boards.{SendsRow, Covers, Keeps}
-use Rattle.su_check.proofs.Covering.{column_keeps, column_done, keeps_more, covers_more, all_sent}
+use Rattle.su_check.proofs.ImagePlaces.{column_keeps, column_done, keeps_more, covers_more, all_sent}
 use Rattle.su_check.proofs.fitting.last_goes.Goals as goal
 
 pub returns-then-not-cell_goes-clause-keeps : goal.returns-then-not-cell_goes-clause-keeps

@@ -1,7 +1,7 @@
 use Rattle.std.proofs.Common.{◌≡◌}
 use Rattle.su_check.specs.Certificate.{lines_of}
 use Rattle.su_check.specs.inside.Boards.{IsReady}
-use Rattle.su_check.proofs.Folding.{fold_sent, IntoKept}
+use Rattle.su_check.proofs.FoldTargets.{fold_sent, IntoKept}
 use Rattle.su_check.proofs.folds.is_good_fold.Given as goal
 
 abbrev pub invariant-loop-i : goal.invariant-loop-i

@@ -7,7 +7,7 @@ use Rattle.su_check.specs.inside.Boards.{IsBoard}
 use Rattle.su_check.specs.Refuting.{IsAscending}
 use Rattle.su_check.specs.inside.Cells.{AreTyped}
 use Rattle.su_check.specs.Certificate.{lines_of, IsGoodForm}
-use Rattle.su_check.proofs.Typing.{form_from, form_option, wide_as}
+use Rattle.su_check.proofs.WellTyped.{form_from, form_option, wide_as}
 use Rattle.su_check.proofs.forms.board_of_form.Goals as goal
 
 pub returns : goal.returns

@@ -5,7 +5,7 @@ use Rattle.su_check.specs.Certificate.{lines_of}
 use Rattle.su_check.specs.inside.Cells.{cell}
 use Rattle.su_check.specs.Fitting.{row_of}
 use Rattle.su_check.specs.inside.Guides.{HasTargets}
-use Rattle.su_check.proofs.Guiding.{image_told, sent_alone}
+use Rattle.su_check.proofs.PossibleTargets.{image_told, sent_alone}
 use Rattle.su_check.proofs.guides.candidates.Goals as goal
 use Rattle.su_check.proofs.guides.candidates.Goals.{in-Some, in_default}
 

@@ -6,5 +6,5 @@ use Rattle.su_check.proofs.items.bytes.Goals as goal
 
 pub returns-clause-only : goal.returns-clause-only
 returns-clause-only c = λ ns r are ends e.
-    map_ended number IsByte one_number c.loop-n.numbers ns _ c.loop-n.reader.rest.now _ r c.loop-n.invariant.whole c.in_default.ensures.found c.loop-n.invariant.are
+    map_ended number IsByte one_number c.loop-n.numbers ns _ c.loop-n.reader _ r c.loop-n.invariant.whole c.in_default.ensures.found c.loop-n.invariant.are
     (λ n h. c.in_default.ensures.none refl n (omega arith)) are ends e

@@ -4,9 +4,9 @@ use Rattle.su_check.proofs.items.bytes.Given as goal
 
 abbrev pub invariant-loop-n : goal.invariant-loop-n
 invariant-loop-n l = record {
-  whole : l.fn.reader.rest.now ≡ map number l.numbers ++ l.reader.rest.now;
+  whole : l.fn.reader ≡ map number l.numbers ++ l.reader;
   are : All IsByte l.numbers;
 }
 
 abbrev pub decreases-loop-n : goal.decreases-loop-n
-decreases-loop-n l = length l.reader.rest.now
+decreases-loop-n l = length l.reader

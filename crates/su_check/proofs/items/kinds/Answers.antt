@@ -7,5 +7,5 @@ use Rattle.su_check.proofs.items.kinds.Goals as goal
 
 pub returns-clause-only : goal.returns-clause-only
 returns-clause-only c = λ ks r ends e.
-    map_ended kind_symbol (λ (k : Kind). Unit {0}) one_kind c.loop-kind.kinds ks _ c.loop-kind.reader.rest.now _ r c.loop-kind.invariant.whole c.in_default.ensures.found (λ k d h. tt)
+    map_ended kind_symbol (λ (k : Kind). Unit {0}) one_kind c.loop-kind.kinds ks _ c.loop-kind.reader _ r c.loop-kind.invariant.whole c.in_default.ensures.found (λ k d h. tt)
     (c.in_default.ensures.none refl) (λ k d h. tt) ends e

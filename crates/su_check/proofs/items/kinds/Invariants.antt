@@ -4,8 +4,8 @@ use Rattle.su_check.proofs.items.kinds.Given as goal
 
 abbrev pub invariant-loop-kind : goal.invariant-loop-kind
 invariant-loop-kind l = record {
-  whole : l.fn.reader.rest.now ≡ map kind_symbol l.kinds ++ l.reader.rest.now;
+  whole : l.fn.reader ≡ map kind_symbol l.kinds ++ l.reader;
 }
 
 abbrev pub decreases-loop-kind : goal.decreases-loop-kind
-decreases-loop-kind l = length l.reader.rest.now
+decreases-loop-kind l = length l.reader

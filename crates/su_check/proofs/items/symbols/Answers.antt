@@ -6,5 +6,5 @@ use Rattle.su_check.proofs.items.symbols.Goals as goal
 
 pub returns-clause-only : goal.returns-clause-only
 returns-clause-only c = λ xs r are ends e.
-    map_ended sym_symbol IsNamed one_symbol c.loop-symbols.symbols xs _ c.loop-symbols.reader.rest.now _ r c.loop-symbols.invariant.whole (MatchOption-at_none _ _ c.in_default.is c.in_ok-symbol.ensures.found) c.loop-symbols.invariant.are
+    map_ended sym_symbol IsNamed one_symbol c.loop-symbols.symbols xs _ c.loop-symbols.reader _ r c.loop-symbols.invariant.whole (MatchOption-at_none _ _ c.in_default.is c.in_ok-symbol.ensures.found) c.loop-symbols.invariant.are
     (c.in_ok-symbol.ensures.none c.in_default.is) are ends e

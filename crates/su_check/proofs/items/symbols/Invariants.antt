@@ -4,9 +4,9 @@ use Rattle.su_check.proofs.items.symbols.Given as goal
 
 abbrev pub invariant-loop-symbols : goal.invariant-loop-symbols
 invariant-loop-symbols l = record {
-  whole : l.fn.reader.rest.now ≡ map sym_symbol l.symbols ++ l.reader.rest.now;
+  whole : l.fn.reader ≡ map sym_symbol l.symbols ++ l.reader;
   are : All IsNamed l.symbols;
 }
 
 abbrev pub decreases-loop-symbols : goal.decreases-loop-symbols
-decreases-loop-symbols l = length l.reader.rest.now
+decreases-loop-symbols l = length l.reader

@@ -1,9 +1,9 @@
 use Rattle.std.proofs.Common.{◌<◌, [], length, map, get_or, sym, ap, subst, ◌∙◌}
 use Rattle.std.proofs.lemmas.List.{get_or_default}
+use borrow.Author.Count.{below_more}
 use Rattle.su_tableau.specs.Kinds.{sym_kind}
 use Rattle.su_check.specs.inside.Cells.{cell, kind_at, HasFound}
-use Rattle.su_check.proofs.Steps.{below_more}
-use Rattle.su_check.proofs.Typing.{found_kept}
+use Rattle.su_check.proofs.WellTyped.{found_kept}
 use Rattle.su_check.proofs.kinds.all_have_kinds.Goals as goal
 
 pub returns-then-not-have_kinds-clause-no : goal.returns-then-not-have_kinds-clause-no

@@ -1,5 +1,5 @@
 use Rattle.std.proofs.Common.{◌≡◌, Bool, true, false, None, Some, refl, ◌∙◌}
-use Rattle.su_check.proofs.Typing.{cells_typed, nothing_found}
+use Rattle.su_check.proofs.WellTyped.{cells_typed, nothing_found}
 use Rattle.su_check.proofs.kinds.are_typed.Goals as goal
 
 pub returns : goal.returns

@@ -1,8 +1,8 @@
 use Rattle.std.proofs.Common.{ap, subst, ◌∙◌}
+use borrow.Author.Count.{below_more}
 use Rattle.su_tableau.specs.Kinds.{sym_kind}
 use Rattle.su_check.specs.inside.Cells.{cell, kind_at, HasFound}
-use Rattle.su_check.proofs.Steps.{below_more}
-use Rattle.su_check.proofs.Typing.{kind_of_cell, found_kept}
+use Rattle.su_check.proofs.WellTyped.{kind_of_cell, found_kept}
 use Rattle.su_check.proofs.kinds.have_kinds.Goals as goal
 
 pub returns-then-not-has_kind-clause-no : goal.returns-then-not-has_kind-clause-no

@@ -17,7 +17,7 @@ returns-in_err-row-clause-only t c = λ n r are e.
     let p = err_from_is_err_and c.from_residual-in_err-row.result c.from_residual-in_err-row.ensures.1 in
     let byte = byte_row n are in
     gives_on _ _ c.in_err-row.field-0.0 c.from_residual-in_err-row.result (p.1 ∙ ap Err p.2)
-    (c.in_err-row.ensures.only (row_named n) _ (omega arith) (node_first n _ c.expect_sign.new.self.rest.now r e c.in_ok-expect_sign.ensures.found))
+    (c.in_err-row.ensures.only (row_named n) _ (omega arith) (node_first n _ c.expect_sign.new.self r e c.in_ok-expect_sign.ensures.found))
 
 pub loop-target-init : goal.loop-target-init
 loop-target-init t c = record {
@@ -25,7 +25,7 @@ loop-target-init t c = record {
   are = rw c.new-next.ensures (All-nil IsByteBranch);
   left = λ n r are e.
       let byte = byte_row n are in
-      let only = c.in_ok-row.ensures.only (row_named n) _ (omega arith) (node_first n _ c.expect_sign.new.self.rest.now r e c.in_ok-expect_sign.ensures.found) in
+      let only = c.in_ok-row.ensures.only (row_named n) _ (omega arith) (node_first n _ c.expect_sign.new.self r e c.in_ok-expect_sign.ensures.found) in
       (sym only.0, rw c.new-next.ensures (none_read branch_symbols IsByteBranch (branches_of n) _ _ (byte_branches n are) only.1));
 }
 
@@ -33,7 +33,7 @@ pub returns-in_err-node-clause-only : goal.returns-in_err-node-clause-only
 returns-in_err-node-clause-only t c = λ n r are e.
     let p = err_from_is_err_and c.from_residual-in_err-node.result c.from_residual-in_err-node.ensures.1 in
     let left = c.loop-target.invariant.left n r are e in
-    let b = branch_next (branches_of n) c.loop-target.next c.loop-target.reader.rest.now c.takes_number.new.reader.rest.now r c.in-Some.target left.1 c.in-Some.ensures.found.0 in
+    let b = branch_next (branches_of n) c.loop-target.next c.loop-target.reader c.takes_number.new.reader r c.in-Some.target left.1 c.in-Some.ensures.found.0 in
     gives_on _ _ c.in_err-node.field-0.0 c.from_residual-in_err-node.result (p.1 ∙ ap Err p.2) (c.in_err-node.ensures.only (node_of b.0) b.2 b.1.1 b.3)
 
 pub loop-target-preserved : goal.loop-target-preserved
@@ -44,19 +44,19 @@ loop-target-preserved t c =
     record {
       whole = rw c.in_ok-push.ensures.ok
           (c.loop-target.invariant.whole
-          ∙ ap (λ s. Sign sign.Open ∷ number c.in_ok-row.field-0 ∷ s) (flat_push branch_symbols c.loop-target.next _ _ c.loop-target.reader.rest.now c.node.new.reader.rest.now refl (here ∙ branch_found x _ _ c.in_ok-node.ensures.found.0)));
+          ∙ ap (λ s. Sign sign.Open ∷ number c.in_ok-row.field-0 ∷ s) (flat_push branch_symbols c.loop-target.next _ _ c.loop-target.reader c.node.new.reader refl (here ∙ branch_found x _ _ c.in_ok-node.ensures.found.0)));
       are = rw c.in_ok-push.ensures.ok (All-push IsByteBranch c.loop-target.next _ c.loop-target.invariant.are (branch_bytes x (omega arith) c.in_ok-node.ensures.found.1));
       left = λ n r are e.
           let left = c.loop-target.invariant.left n r are e in
-          let b = branch_next (branches_of n) c.loop-target.next c.loop-target.reader.rest.now c.takes_number.new.reader.rest.now r c.in-Some.target left.1 here in
+          let b = branch_next (branches_of n) c.loop-target.next c.loop-target.reader c.takes_number.new.reader r c.in-Some.target left.1 here in
           let only = c.in_ok-node.ensures.only (node_of b.0) b.2 b.1.1 b.3 in
-          (left.0, left_on branch_symbols IsByteBranch (branches_of n) c.loop-target.next c.push.new.self b.0 _ b.2 c.node.new.reader.rest.now (Sign sign.Close ∷ r) b.5 c.in_ok-push.ensures.ok (same_branch x b.0 b.4 only.0, only.1));
+          (left.0, left_on branch_symbols IsByteBranch (branches_of n) c.loop-target.next c.push.new.self b.0 _ b.2 c.node.new.reader (Sign sign.Close ∷ r) b.5 c.in_ok-push.ensures.ok (same_branch x b.0 b.4 only.0, only.1));
     }
 
 pub returns-in_err-expect_sign-2-clause-only : goal.returns-in_err-expect_sign-2-clause-only
 returns-in_err-expect_sign-2-clause-only t c = λ n r are e.
     let left = c.loop-target.invariant.left n r are e in
-    let end = branch_none (branches_of n) c.loop-target.next c.loop-target.reader.rest.now r left.1 (c.in_default.ensures.none refl) in
+    let end = branch_none (branches_of n) c.loop-target.next c.loop-target.reader r left.1 (c.in_default.ensures.none refl) in
     let refused = c.in_err-expect_sign-2.ensures.refused in
     absurd (c.in_err-expect_sign-2.ensures.syntax (ap Err refused) (r, c.in_default.ensures.found ∙ end.1))
 
@@ -64,12 +64,12 @@ pub returns-clause-found : goal.returns-clause-found
 returns-clause-found t c =
     let x : Node-F Branch Node = record { row = c.in_ok-row.field-0; next = c.loop-target.next } in
     let low = c.in_ok-row.ensures.found.1 in
-    (node_found x _ c.loop-target.reader.rest.now _ c.loop-target.invariant.whole (sym c.in_default.ensures.found ∙ c.in_ok-expect_sign-2.ensures.found), node_bytes x (omega arith) c.loop-target.invariant.are)
+    (node_found x _ c.loop-target.reader _ c.loop-target.invariant.whole (sym c.in_default.ensures.found ∙ c.in_ok-expect_sign-2.ensures.found), node_bytes x (omega arith) c.loop-target.invariant.are)
 
 pub returns-clause-only : goal.returns-clause-only
 returns-clause-only t c = λ n r are e.
     let x : Node-F Branch Node = record { row = c.in_ok-row.field-0; next = c.loop-target.next } in
     let left = c.loop-target.invariant.left n r are e in
-    let end = branch_none (branches_of n) c.loop-target.next c.loop-target.reader.rest.now r left.1 (c.in_default.ensures.none refl) in
-    let both : Sign sign.Close ∷ c.expect_sign-2.new.self.rest.now ≡ Sign sign.Close ∷ r = sym c.in_ok-expect_sign-2.ensures.found ∙ c.in_default.ensures.found ∙ end.1 in
+    let end = branch_none (branches_of n) c.loop-target.next c.loop-target.reader r left.1 (c.in_default.ensures.none refl) in
+    let both : Sign sign.Close ∷ c.expect_sign-2.new.self ≡ Sign sign.Close ∷ r = sym c.in_ok-expect_sign-2.ensures.found ∙ c.in_default.ensures.found ∙ end.1 in
     (same_node x n left.0 end.0, cc)

@@ -10,14 +10,14 @@ use Rattle.su_check.proofs.Runs.{Left}
 use Rattle.su_check.proofs.lines.+node.Given as goal
 
 abbrev pub decreases-node : goal.decreases-node
-decreases-node l = length l.reader.now.rest.now
+decreases-node l = length l.reader.now
 
 abbrev pub invariant-loop-target : goal.invariant-loop-target
 invariant-loop-target l = record {
-  whole : l.fn.reader.rest.now ≡ Sign sign.Open ∷ number l.row ∷ (flat_map branch_symbols l.next ++ l.reader.rest.now);
+  whole : l.fn.reader ≡ Sign sign.Open ∷ number l.row ∷ (flat_map branch_symbols l.next ++ l.reader);
   are : All IsByteBranch l.next;
-  left : (n : Node) (r : List Symbol) → IsByteNode n → l.fn.reader.rest.now ≡ node_symbols n ++ r → (row_named n ≡ l.row) × Left branch_symbols IsByteBranch (branches_of n) l.next l.reader.rest.now (Sign sign.Close ∷ r);
+  left : (n : Node) (r : List Symbol) → IsByteNode n → l.fn.reader ≡ node_symbols n ++ r → (row_named n ≡ l.row) × Left branch_symbols IsByteBranch (branches_of n) l.next l.reader (Sign sign.Close ∷ r);
 }
 
 abbrev pub decreases-loop-target : goal.decreases-loop-target
-decreases-loop-target l = length l.reader.rest.now
+decreases-loop-target l = length l.reader

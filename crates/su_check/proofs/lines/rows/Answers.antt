@@ -16,7 +16,7 @@ row_at xs t = ap (λ s. Sign sign.Open ∷ s) (append_assoc (map sym_symbol xs) 
 pub returns-in_err-row-clause-only : goal.returns-in_err-row-clause-only
 returns-in_err-row-clause-only c = λ all r are none e.
     let p = err_from_is_err_and c.from_residual.result c.from_residual.ensures.1 in
-    let m = lead_next row_line (IsRow c.args.width) (Sign sign.Open) row_before row_at all c.loop-rows.rows c.loop-rows.reader.rest.now _ r (c.loop-rows.invariant.left all r are none e) (c.loop-rows-test.ensures.yes refl) none in
+    let m = lead_next row_line (IsRow c.args.width) (Sign sign.Open) row_before row_at all c.loop-rows.rows c.loop-rows.reader _ r (c.loop-rows.invariant.left all r are none e) (c.loop-rows-test.ensures.yes refl) none in
     gives_on _ _ c.in_err-row.field-0.0 c.from_residual.result (p.1 ∙ ap Err p.2) (c.in_err-row.ensures.only m.0 m.2 m.1 m.3)
 
 pub loop-rows-preserved : goal.loop-rows-preserved
@@ -25,15 +25,15 @@ loop-rows-preserved c =
     let here = c.loop-rows-test.ensures.yes refl in
     record {
       whole = rw c.in_ok-push.ensures.ok
-          (flat_push row_line c.loop-rows.rows row c.args.reader.now.rest.now c.loop-rows.reader.rest.now c.row.new.reader.rest.now c.loop-rows.invariant.whole (here ∙ ap (λ s. Sign sign.Open ∷ s) c.in_ok-row.ensures.found.0 ∙ sym (row_at row _)));
+          (flat_push row_line c.loop-rows.rows row c.args.reader.now c.loop-rows.reader c.row.new.reader c.loop-rows.invariant.whole (here ∙ ap (λ s. Sign sign.Open ∷ s) c.in_ok-row.ensures.found.0 ∙ sym (row_at row _)));
       are = subst (All (IsRow c.args.width)) (sym c.in_ok-push.ensures.ok) (All-push (IsRow c.args.width) c.loop-rows.rows row c.loop-rows.invariant.are c.in_ok-row.ensures.found.1);
       left = λ all r are none e.
-          let m = lead_next row_line (IsRow c.args.width) (Sign sign.Open) row_before row_at all c.loop-rows.rows c.loop-rows.reader.rest.now _ r (c.loop-rows.invariant.left all r are none e) here none in
+          let m = lead_next row_line (IsRow c.args.width) (Sign sign.Open) row_before row_at all c.loop-rows.rows c.loop-rows.reader _ r (c.loop-rows.invariant.left all r are none e) here none in
           left_on row_line (IsRow c.args.width) all c.loop-rows.rows c.push.new.self m.0 row m.2 _ r m.4 c.in_ok-push.ensures.ok (c.in_ok-row.ensures.only m.0 m.2 m.1 m.3);
     }
 
 pub returns-clause-only : goal.returns-clause-only
 returns-clause-only c = λ all r are none e.
     let end = c.loop-rows-test.ensures.no refl in
-    let m = lead_none row_line (IsRow c.args.width) (Sign sign.Open) row_before row_at all c.loop-rows.rows c.loop-rows.reader.rest.now r (c.loop-rows.invariant.left all r are none e) end.1 in
+    let m = lead_none row_line (IsRow c.args.width) (Sign sign.Open) row_before row_at all c.loop-rows.rows c.loop-rows.reader r (c.loop-rows.invariant.left all r are none e) end.1 in
     (m.0, end.0 ∙ m.1)

@@ -11,10 +11,10 @@ use Rattle.su_check.proofs.lines.rows.Given as goal
 
 abbrev pub invariant-loop-rows : goal.invariant-loop-rows
 invariant-loop-rows l = record {
-  whole : l.fn.reader.rest.now ≡ flat_map row_line l.rows ++ l.reader.rest.now;
+  whole : l.fn.reader ≡ flat_map row_line l.rows ++ l.reader;
   are : All (IsRow l.width) l.rows;
-  left : (all : List (List Sym)) (r : List Symbol) → All (IsRow l.width) all → ¬ (Begins (Sign sign.Open) r) → l.fn.reader.rest.now ≡ flat_map row_line all ++ r → Left row_line (IsRow l.width) all l.rows l.reader.rest.now r;
+  left : (all : List (List Sym)) (r : List Symbol) → All (IsRow l.width) all → ¬ (Begins (Sign sign.Open) r) → l.fn.reader ≡ flat_map row_line all ++ r → Left row_line (IsRow l.width) all l.rows l.reader r;
 }
 
 abbrev pub decreases-loop-rows : goal.decreases-loop-rows
-decreases-loop-rows l = length l.reader.rest.now
+decreases-loop-rows l = length l.reader

@@ -7,10 +7,10 @@ use Rattle.su_check.proofs.lines.terms.Given as goal
 
 abbrev pub invariant-loop-terms : goal.invariant-loop-terms
 invariant-loop-terms l = record {
-  whole : l.fn.reader.rest.now ≡ flat_map term_symbols l.terms ++ l.reader.rest.now;
+  whole : l.fn.reader ≡ flat_map term_symbols l.terms ++ l.reader;
   are : All (IsTermInRange l.width) l.terms;
-  left : (all : List Term) → All (IsTermInRange l.width) all → l.fn.reader.rest.now ≡ flat_map term_symbols all ++ [] → Left term_symbols (IsTermInRange l.width) all l.terms l.reader.rest.now [];
+  left : (all : List Term) → All (IsTermInRange l.width) all → l.fn.reader ≡ flat_map term_symbols all ++ [] → Left term_symbols (IsTermInRange l.width) all l.terms l.reader [];
 }
 
 abbrev pub decreases-loop-terms : goal.decreases-loop-terms
-decreases-loop-terms l = length l.reader.rest.now
+decreases-loop-terms l = length l.reader

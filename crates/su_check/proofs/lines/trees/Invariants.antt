@@ -10,10 +10,10 @@ use Rattle.su_check.proofs.lines.trees.Given as goal
 
 abbrev pub invariant-loop-trees : goal.invariant-loop-trees
 invariant-loop-trees l = record {
-  whole : l.fn.reader.rest.now ≡ flat_map tree_line l.trees ++ l.reader.rest.now;
+  whole : l.fn.reader ≡ flat_map tree_line l.trees ++ l.reader;
   are : All IsByteTree l.trees;
-  left : (all : List RowTree) (r : List Symbol) → All IsByteTree all → ¬ (Begins (Word (codes "tree")) r) → l.fn.reader.rest.now ≡ flat_map tree_line all ++ r → Left tree_line IsByteTree all l.trees l.reader.rest.now r;
+  left : (all : List RowTree) (r : List Symbol) → All IsByteTree all → ¬ (Begins (Word (codes "tree")) r) → l.fn.reader ≡ flat_map tree_line all ++ r → Left tree_line IsByteTree all l.trees l.reader r;
 }
 
 abbrev pub decreases-loop-trees : goal.decreases-loop-trees
-decreases-loop-trees l = length l.reader.rest.now
+decreases-loop-trees l = length l.reader

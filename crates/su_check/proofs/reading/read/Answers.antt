@@ -18,4 +18,4 @@ returns-then-nests_too_deep-clause-only c = λ d is.
 pub returns-clause-only : goal.returns-clause-only
 returns-clause-only c = λ d is.
     let one = (one_list_of_symbols c.args.bytes.now c.in_ok-symbols.symbols is.symbols c.in_ok-symbols.ensures.symbols is.spelled).0 in
-    c.certificate.ensures.only d is.in_range (c.as_slice-2.ensures ∙ one ∙ is.form)
+    c.certificate.ensures.only d is.in_range (c.new-reader.ensures ∙ one ∙ is.form)

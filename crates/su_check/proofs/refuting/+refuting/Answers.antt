@@ -1,3 +1,4 @@
+-- A good node names an open row, and its branches are exactly the fitting targets of that row, each with a good node; so the branches are compared with the candidates one by one.
 use Rattle.std.proofs.Common.{◌<◌, ◌≤◌, ◌+◌, length, get_or, map, refl, sym, ap, subst, ◌∙◌, true≢false, arith}
 use Rattle.std.proofs.lemmas.List.{length-map}
 use Rattle.su_check.specs.Certificate.{lines_of}
@@ -5,7 +6,7 @@ use Rattle.su_check.specs.inside.Boards.{Keeps}
 use Rattle.su_check.specs.Refuting.{IsOpen, IsFitting, row_named, branches_of, target_of}
 use Rattle.su_check.proofs.Exactly.{front_skip}
 use Rattle.su_check.proofs.Branches.{Passed, AreRefuted, is_open, fit_as, fit_from, branch_tells, too_few, wrong_branch, one_passed, one_refuted, all_passed, none_left}
-use Rattle.su_check.proofs.Covering.{keeps_less, keeps_step, ready_kept}
+use Rattle.su_check.proofs.ImagePlaces.{keeps_less, keeps_step, ready_kept}
 use Rattle.su_check.proofs.refuting.+refuting.Goals as goal
 use Rattle.su_check.proofs.refuting.+refuting.Goals.{refutes-then-branch+else-passed-len+in_ok-branch_refutes+else-not-branch, refutes-else-branch}
 

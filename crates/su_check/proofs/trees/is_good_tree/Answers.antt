@@ -3,8 +3,8 @@ use Rattle.std.proofs.lemmas.Result.{IfOk-weaker}
 use Rattle.su_check.specs.inside.Boards.{Keeps, IsReady}
 use Rattle.su_check.specs.Certificate.{lines_of, IsGoodTree}
 use Rattle.su_check.specs.Refuting.{Refutes}
-use Rattle.su_check.proofs.Treeing.{tree_tells}
-use Rattle.su_check.proofs.Covering.{ready_none, ready_kept, ready_as}
+use Rattle.su_check.proofs.TreeAt.{tree_tells}
+use Rattle.su_check.proofs.ImagePlaces.{ready_none, ready_kept, ready_as}
 use Rattle.su_check.proofs.trees.is_good_tree.Goals as goal
 
 pub refutes-requires : goal.refutes-requires

@@ -1,7 +1,7 @@
 use Rattle.std.proofs.Common.{◌≡◌, ◌<◌, ◌≤◌, length, get_or, slice_get, Some, refl, sym, ap, subst, ◌∙◌, true≢false, arith}
+use borrow.Author.Count.{below_more}
 use Rattle.su_check.specs.Certificate.{IsGoodTree}
 use Rattle.su_check.specs.Verdict.{not_good, surplus}
-use Rattle.su_check.proofs.Steps.{below_more}
 use Rattle.su_check.proofs.trees.tree_fault.Goals as goal
 
 pub returns-then-not-branch : goal.returns-then-not-branch

@@ -3,7 +3,6 @@ use Rattle.std.proofs.lemmas.Result.{err_from_is_err_and}
 use Rattle.su_lex.specs.declared.ends.LexEnd.TheVariants.{Syntax}
 use Rattle.su_lex.specs.declared.meaning.Symbol.{Symbol}
 use Rattle.std.proofs.lemmas.Result.{IfOk-weaker}
-use Rattle.su_lex.specs.Symbols.{Symbols}
 use Rattle.su_lex.proofs.Written.{one_list_of_symbols}
 use Rattle.su_schema.specs.declared.definitions.Definition.{Definition}
 use Rattle.su_ddl.specs.Grammar.{IsForm, IsDefinition}
@@ -20,13 +19,11 @@ returns-in_err-symbols-clause-syntax c =
 pub returns-clause-only : goal.returns-clause-only
 returns-clause-only c =
     let text = c.args.text.now in
-    let xs = c.as_slice.result.now in
-    let are : Symbols text xs = subst (Symbols text) (sym c.as_slice.ensures) c.in_ok-symbols.ensures.symbols in
-    IfOk-weaker c.form.result (λ d. IsForm xs d) (λ d. (other : Definition) → IsDefinition text other → other ≡ d) (λ d h other k. one_definition text other d k (xs, are, h)) c.form.ensures.found
+    let xs = c.in_ok-symbols.symbols in
+    IfOk-weaker c.definition_of.result (λ d. IsForm xs d) (λ d. (other : Definition) → IsDefinition text other → other ≡ d) (λ d h other k. one_definition text other d k (xs, c.in_ok-symbols.ensures.symbols, h)) c.definition_of.ensures.found
 
 pub returns-clause-syntax : goal.returns-clause-syntax
 returns-clause-syntax c = λ s d is.
     let text = c.args.text.now in
-    let xs = c.as_slice.result.now in
-    let are : Symbols text xs = subst (Symbols text) (sym c.as_slice.ensures) c.in_ok-symbols.ensures.symbols in
-    c.form.ensures.syntax s d (subst (λ (x : List Symbol). IsForm x d) (one_list_of_symbols text is.0 xs is.1 are).0 is.2)
+    let xs = c.in_ok-symbols.symbols in
+    c.definition_of.ensures.syntax s d (subst (λ (x : List Symbol). IsForm x d) (one_list_of_symbols text is.0 xs is.1 c.in_ok-symbols.ensures.symbols).0 is.2)

@@ -52,7 +52,7 @@ returns-in_err-end-clause-syntax c =
     let r = u.rest in
     let a = c.in_ok-expect_sign.ensures.found in
     let m = c.in_ok-right.ensures in
-    let right : c.expect_sign.new.self.rest.now ≡ names_symbols f.right = cc in
+    let right : c.expect_sign.new.self ≡ names_symbols f.right = cc in
     let v = names_unique c.in_ok-right.right f.right _ [] m.ends no_comma_end m.found.1 f.right_given (sym m.found.0 ∙ rw append-nil right) in
     absurd (omega (arith, ap length v.rest, some)))
 

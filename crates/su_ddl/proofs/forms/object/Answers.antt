@@ -17,7 +17,7 @@ returns-in_err-attributes-clause-syntax c =
     let w = f.whole in
     let a = c.in_ok-name.ensures.found.0 in
     let columns = in_parens (map (λ p. p.column) f.pairs) [] in
-    let inner : c.name.new.self.rest.now ≡ in_parens (map (λ p. p.attribute) f.pairs) (Word (codes "from") ∷ Word f.relation ∷ columns) = cc in
+    let inner : c.name.new.self ≡ in_parens (map (λ p. p.attribute) f.pairs) (Word (codes "from") ∷ Word f.relation ∷ columns) = cc in
     c.in_err-attributes.ensures.syntax (ap Err h) _ _ f.attributes inner
     )
 
@@ -30,7 +30,7 @@ returns-in_err-expect_word-clause-syntax c =
     let w = f.whole in
     let a = c.in_ok-name.ensures.found.0 in
     let columns = in_parens (map (λ p. p.column) f.pairs) [] in
-    let inner : c.name.new.self.rest.now ≡ in_parens (map (λ p. p.attribute) f.pairs) (Word (codes "from") ∷ Word f.relation ∷ columns) = cc in
+    let inner : c.name.new.self ≡ in_parens (map (λ p. p.attribute) f.pairs) (Word (codes "from") ∷ Word f.relation ∷ columns) = cc in
     let n = c.in_ok-attributes.ensures.found in
     let u = parens_unique c.in_ok-attributes.attributes _ _ (Word (codes "from") ∷ Word f.relation ∷ columns) n.1 f.attributes (sym n.0 ∙ inner) in
     let r = u.rest in
@@ -46,7 +46,7 @@ returns-in_err-relation-clause-syntax c =
     let w = f.whole in
     let a = c.in_ok-name.ensures.found.0 in
     let columns = in_parens (map (λ p. p.column) f.pairs) [] in
-    let inner : c.name.new.self.rest.now ≡ in_parens (map (λ p. p.attribute) f.pairs) (Word (codes "from") ∷ Word f.relation ∷ columns) = cc in
+    let inner : c.name.new.self ≡ in_parens (map (λ p. p.attribute) f.pairs) (Word (codes "from") ∷ Word f.relation ∷ columns) = cc in
     let n = c.in_ok-attributes.ensures.found in
     let u = parens_unique c.in_ok-attributes.attributes _ _ (Word (codes "from") ∷ Word f.relation ∷ columns) n.1 f.attributes (sym n.0 ∙ inner) in
     let r = u.rest in
@@ -63,13 +63,13 @@ returns-in_err-columns-clause-syntax c =
     let w = f.whole in
     let a = c.in_ok-name.ensures.found.0 in
     let columns = in_parens (map (λ p. p.column) f.pairs) [] in
-    let inner : c.name.new.self.rest.now ≡ in_parens (map (λ p. p.attribute) f.pairs) (Word (codes "from") ∷ Word f.relation ∷ columns) = cc in
+    let inner : c.name.new.self ≡ in_parens (map (λ p. p.attribute) f.pairs) (Word (codes "from") ∷ Word f.relation ∷ columns) = cc in
     let n = c.in_ok-attributes.ensures.found in
     let u = parens_unique c.in_ok-attributes.attributes _ _ (Word (codes "from") ∷ Word f.relation ∷ columns) n.1 f.attributes (sym n.0 ∙ inner) in
     let r = u.rest in
     let k = c.in_ok-expect_word.ensures.found in
     let m = c.in_ok-relation.ensures.found.0 in
-    let last : c.name-2.new.self.rest.now ≡ columns = cc in
+    let last : c.name-2.new.self ≡ columns = cc in
     c.in_err-columns.ensures.syntax (ap Err h) _ [] f.columns last
     )
 
@@ -82,13 +82,13 @@ returns-in_err-end-clause-syntax c =
     let w = f.whole in
     let a = c.in_ok-name.ensures.found.0 in
     let columns = in_parens (map (λ p. p.column) f.pairs) [] in
-    let inner : c.name.new.self.rest.now ≡ in_parens (map (λ p. p.attribute) f.pairs) (Word (codes "from") ∷ Word f.relation ∷ columns) = cc in
+    let inner : c.name.new.self ≡ in_parens (map (λ p. p.attribute) f.pairs) (Word (codes "from") ∷ Word f.relation ∷ columns) = cc in
     let n = c.in_ok-attributes.ensures.found in
     let u = parens_unique c.in_ok-attributes.attributes _ _ (Word (codes "from") ∷ Word f.relation ∷ columns) n.1 f.attributes (sym n.0 ∙ inner) in
     let r = u.rest in
     let k = c.in_ok-expect_word.ensures.found in
     let m = c.in_ok-relation.ensures.found.0 in
-    let last : c.name-2.new.self.rest.now ≡ columns = cc in
+    let last : c.name-2.new.self ≡ columns = cc in
     let o = c.in_ok-columns.ensures.found in
     let v = parens_unique c.in_ok-columns.columns _ _ [] o.1 f.columns (sym o.0 ∙ last) in
     let some = c.in_err-end.ensures.syntax (ap Err h) in
@@ -101,13 +101,13 @@ returns-then-len-clause-syntax c = λ s d is.
     let w = f.whole in
     let a = c.in_ok-name.ensures.found.0 in
     let columns = in_parens (map (λ p. p.column) f.pairs) [] in
-    let inner : c.name.new.self.rest.now ≡ in_parens (map (λ p. p.attribute) f.pairs) (Word (codes "from") ∷ Word f.relation ∷ columns) = cc in
+    let inner : c.name.new.self ≡ in_parens (map (λ p. p.attribute) f.pairs) (Word (codes "from") ∷ Word f.relation ∷ columns) = cc in
     let n = c.in_ok-attributes.ensures.found in
     let u = parens_unique c.in_ok-attributes.attributes _ _ (Word (codes "from") ∷ Word f.relation ∷ columns) n.1 f.attributes (sym n.0 ∙ inner) in
     let r = u.rest in
     let k = c.in_ok-expect_word.ensures.found in
     let m = c.in_ok-relation.ensures.found.0 in
-    let last : c.name-2.new.self.rest.now ≡ columns = cc in
+    let last : c.name-2.new.self ≡ columns = cc in
     let o = c.in_ok-columns.ensures.found in
     let v = parens_unique c.in_ok-columns.columns _ _ [] o.1 f.columns (sym o.0 ∙ last) in
     c.if-len.true (c.len.ensures ∙ ap length u.names ∙ pairs_lengths f.pairs ∙ sym (ap length v.names) ∙ sym c.len-2.ensures)

@@ -18,7 +18,7 @@ returns-in_err-columns-clause-syntax c =
     let w = f.whole in
     let a = c.in_ok-name.ensures.found.0 in
     let b = c.in_ok-expect_sign.ensures.found in
-    let inner : c.expect_sign.new.self.rest.now ≡ columns_symbols f.columns ++ Sign sign.Close ∷ [] = cc in
+    let inner : c.expect_sign.new.self ≡ columns_symbols f.columns ++ Sign sign.Close ∷ [] = cc in
     c.in_err-columns.ensures.syntax (ap Err h) f.columns (Sign sign.Close ∷ []) f.given no_comma inner
     )
 
@@ -31,7 +31,7 @@ returns-in_err-expect_sign-2-clause-syntax c =
     let w = f.whole in
     let a = c.in_ok-name.ensures.found.0 in
     let b = c.in_ok-expect_sign.ensures.found in
-    let inner : c.expect_sign.new.self.rest.now ≡ columns_symbols f.columns ++ Sign sign.Close ∷ [] = cc in
+    let inner : c.expect_sign.new.self ≡ columns_symbols f.columns ++ Sign sign.Close ∷ [] = cc in
     let n = c.in_ok-columns.ensures in
     let u = columns_unique c.in_ok-columns.columns f.columns _ (Sign sign.Close ∷ []) n.ends no_comma n.found.1 f.given (sym n.found.0 ∙ inner) in
     let r = u.rest in
@@ -47,13 +47,13 @@ returns-in_err-end-clause-syntax c =
     let w = f.whole in
     let a = c.in_ok-name.ensures.found.0 in
     let b = c.in_ok-expect_sign.ensures.found in
-    let inner : c.expect_sign.new.self.rest.now ≡ columns_symbols f.columns ++ Sign sign.Close ∷ [] = cc in
+    let inner : c.expect_sign.new.self ≡ columns_symbols f.columns ++ Sign sign.Close ∷ [] = cc in
     let n = c.in_ok-columns.ensures in
     let u = columns_unique c.in_ok-columns.columns f.columns _ (Sign sign.Close ∷ []) n.ends no_comma n.found.1 f.given (sym n.found.0 ∙ inner) in
     let r = u.rest in
     let some = c.in_err-end.ensures.syntax (ap Err h) in
     let k = c.in_ok-expect_sign-2.ensures.found in
-    let nil : c.expect_sign-2.new.self.rest.now ≡ [] = cc in
+    let nil : c.expect_sign-2.new.self ≡ [] = cc in
     absurd (omega (arith, ap length nil, some))
     )
 

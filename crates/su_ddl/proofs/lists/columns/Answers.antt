@@ -18,7 +18,7 @@ returns-in_err-column-2-clause-syntax c =
     let p = err_from_is_err_and c.from_residual-in_err-column-2.result c.from_residual-in_err-column-2.ensures.1 in
     rw (p.1, p.2) (λ s cs r are none e.
     let h : c.in_err-column-2.field-0.0 ≡ Syntax = cc in
-    no_column c.loop-columns.columns cs _ c.loop-columns.reader.rest.now c.takes_sign.new.self.rest.now r none c.loop-columns.invariant.are are c.loop-columns.invariant.whole
+    no_column c.loop-columns.columns cs _ c.loop-columns.reader c.takes_sign.new.self r none c.loop-columns.invariant.are are c.loop-columns.invariant.whole
     (c.loop-columns-test.ensures.yes refl) (c.in_err-column-2.ensures.syntax (ap Err h)) e)
 
 pub loop-columns-preserved : goal.loop-columns-preserved

@@ -5,9 +5,9 @@ use Rattle.su_ddl.proofs.lists.columns.Given as goal
 
 abbrev pub invariant-loop-columns : goal.invariant-loop-columns
 invariant-loop-columns l = record {
-  whole : l.fn.reader.rest.now ≡ columns_symbols l.columns ++ l.reader.rest.now;
+  whole : l.fn.reader ≡ columns_symbols l.columns ++ l.reader;
   are : AreColumns l.columns;
 }
 
 abbrev pub decreases-loop-columns : goal.decreases-loop-columns
-decreases-loop-columns l = length l.reader.rest.now
+decreases-loop-columns l = length l.reader

@@ -87,8 +87,8 @@ factor-returns-then-takes_word-clause-found t c =
 pub factor-returns-clause-found : goal.factor-returns-clause-found
 factor-returns-clause-found t c =
     let here = c.if-takes_word.ensures.no refl in
-    let s = c.args.reader.now.rest.now in
-    let r = c.primary-2.new.reader.rest.now in
+    let s = c.args.reader.now in
+    let r = c.primary-2.new.reader in
     IfOk-weaker c.primary-2.result (λ d. ReadsPrimary d s r) (λ d. ReadsFactor d s r) (λ d h. g.plain d s r h) (rw here.0 at c.primary-2.ensures.found)
 
 pub primary-returns-then-takes_sign-2-clause-found : goal.primary-returns-then-takes_sign-2-clause-found
@@ -102,26 +102,26 @@ primary-returns-then-takes_sign-clause-syntax t c =
 pub primary-returns-clause-found : goal.primary-returns-clause-found
 primary-returns-clause-found t c =
     let here = c.if-takes_sign.ensures.no refl in
-    let s = c.args.reader.now.rest.now in
-    let r = c.comparison.new.reader.rest.now in
+    let s = c.args.reader.now in
+    let r = c.comparison.new.reader in
     IfOk-weaker c.comparison.result (λ d. ReadsComparison d s r) (λ d. ReadsPrimary d s r) (λ d h. g.compare d s r h) (rw here.0 at c.comparison.ensures.found)
 
 pub primary-returns-clause-syntax : goal.primary-returns-clause-syntax
 primary-returns-clause-syntax t c =
     let here = c.if-takes_sign.ensures.no refl in
     let bad = rw here.0 at c.comparison.ensures.syntax in
-    λ s. compared_none c.args.reader.now.rest.now here.1 (bad s)
+    λ s. compared_none c.args.reader.now here.1 (bad s)
 
 pub factor-returns-in_err-inner-clause-syntax : goal.factor-returns-in_err-inner-clause-syntax
 factor-returns-in_err-inner-clause-syntax t c =
     let p = err_from_is_err_and c.from_residual.result c.from_residual.ensures.1 in
     rw (p.1, p.2) (λ s d r.
     let h : c.in_err-inner.field-0.0 ≡ Syntax = cc in
-    not_none c.args.reader.now.rest.now c.takes_word.new.self.rest.now (c.if-takes_word.ensures.yes refl) (c.in_err-inner.ensures.syntax (ap Err h)) d r)
+    not_none c.args.reader.now c.takes_word.new.self (c.if-takes_word.ensures.yes refl) (c.in_err-inner.ensures.syntax (ap Err h)) d r)
 
 pub primary-returns-in_err-inner-clause-syntax : goal.primary-returns-in_err-inner-clause-syntax
 primary-returns-in_err-inner-clause-syntax t c =
     let p = err_from_is_err_and c.from_residual.result c.from_residual.ensures.1 in
     rw (p.1, p.2) (λ s d r.
     let h : c.in_err-inner.field-0.0 ≡ Syntax = cc in
-    open_none c.args.reader.now.rest.now c.takes_sign.new.self.rest.now (c.if-takes_sign.ensures.yes refl) (c.in_err-inner.ensures.syntax (ap Err h)) d r)
+    open_none c.args.reader.now c.takes_sign.new.self (c.if-takes_sign.ensures.yes refl) (c.in_err-inner.ensures.syntax (ap Err h)) d r)

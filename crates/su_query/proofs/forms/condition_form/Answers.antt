@@ -10,8 +10,8 @@ returns-in_err-expect_end-clause-syntax c =
     rw (p.1, p.2) (λ s relation cond f.
     let h : c.in_err-expect_end.field-0.0 ≡ Syntax = cc in
     let bad = c.in_err-expect_end.ensures.syntax (ap Err h) in
-    condition_no_end c.args.reader.now.rest.now c.name.new.self.rest.now c.expect_word.new.self.rest.now c.cond.new.reader.rest.now c.in_ok-relation.relation c.in_ok-cond.cond c.in_ok-relation.ensures.found.0 c.in_ok-expect_word.ensures.found c.in_ok-cond.ensures.found bad relation cond f)
+    condition_no_end c.args.reader.now c.name.new.self c.expect_word.new.self c.cond.new.reader c.in_ok-relation.relation c.in_ok-cond.cond c.in_ok-relation.ensures.found.0 c.in_ok-expect_word.ensures.found c.in_ok-cond.ensures.found bad relation cond f)
 
 pub returns-then-not-are_columns-clause-syntax : goal.returns-then-not-are_columns-clause-syntax
 returns-then-not-are_columns-clause-syntax c =
-    λ s relation cond f. condition_no_columns c.args.reader.now.rest.now c.name.new.self.rest.now c.expect_word.new.self.rest.now c.cond.new.reader.rest.now c.in_ok-relation.relation c.in_ok-cond.cond c.in_ok-relation.ensures.found.0 c.in_ok-expect_word.ensures.found c.in_ok-cond.ensures.found (sym c.if-not-are_columns.ensures) relation cond f
+    λ s relation cond f. condition_no_columns c.args.reader.now c.name.new.self c.expect_word.new.self c.cond.new.reader c.in_ok-relation.relation c.in_ok-cond.cond c.in_ok-relation.ensures.found.0 c.in_ok-expect_word.ensures.found c.in_ok-cond.ensures.found (sym c.if-not-are_columns.ensures) relation cond f

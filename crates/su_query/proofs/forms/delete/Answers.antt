@@ -12,7 +12,7 @@ returns-in_err-relation-clause-syntax c =
     rw (p.1, p.2) (λ s st f.
     let h : c.in_err-relation.field-0.0 ≡ Syntax = cc in
     let bad = c.in_err-relation.ensures.syntax (ap Err h) in
-    elim (delete_inv st _ c.args.reader.now.rest.now refl f) [ inl i ↦ bad i.0 i.1 i.3 | inr i ↦ condition_not_row i.0 i.1 c.args.reader.now.rest.now i.3 (sym c.if-opens_second.ensures) ])
+    elim (delete_inv st _ c.args.reader.now refl f) [ inl i ↦ bad i.0 i.1 i.3 | inr i ↦ condition_not_row i.0 i.1 c.args.reader.now i.3 (sym c.if-opens_second.ensures) ])
 
 pub returns-then-opens_second-clause-found : goal.returns-then-opens_second-clause-found
 returns-then-opens_second-clause-found c =
@@ -24,7 +24,7 @@ returns-in_err-relation-2-clause-syntax c =
     rw (p.1, p.2) (λ s st f.
     let h : c.in_err-relation-2.field-0.0 ≡ Syntax = cc in
     let bad = c.in_err-relation-2.ensures.syntax (ap Err h) in
-    elim (delete_inv st _ c.args.reader.now.rest.now refl f) [ inl i ↦ row_not_condition i.0 i.1 c.args.reader.now.rest.now i.3 (sym c.if-opens_second.ensures) | inr i ↦ bad i.0 i.1 i.3 ])
+    elim (delete_inv st _ c.args.reader.now refl f) [ inl i ↦ row_not_condition i.0 i.1 c.args.reader.now i.3 (sym c.if-opens_second.ensures) | inr i ↦ bad i.0 i.1 i.3 ])
 
 pub returns-clause-found : goal.returns-clause-found
 returns-clause-found c =

@@ -10,7 +10,7 @@ returns-in_err-query-clause-syntax c =
     rw (p.1, p.2) (λ s q r f.
     let h : c.in_err-query.field-0.0 ≡ Syntax = cc in
     let bad = c.in_err-query.ensures.syntax (ap Err h) in
-    enclosed_no_query c.args.reader.now.rest.now c.expect_sign.new.self.rest.now c.in_ok-expect_sign.ensures.found bad q r f)
+    enclosed_no_query c.args.reader.now c.expect_sign.new.self c.in_ok-expect_sign.ensures.found bad q r f)
 
 pub returns-in_err-expect_sign-2-clause-syntax : goal.returns-in_err-expect_sign-2-clause-syntax
 returns-in_err-expect_sign-2-clause-syntax c =
@@ -18,4 +18,4 @@ returns-in_err-expect_sign-2-clause-syntax c =
     rw (p.1, p.2) (λ s q r f.
     let h : c.in_err-expect_sign-2.field-0.0 ≡ Syntax = cc in
     let bad = c.in_err-expect_sign-2.ensures.syntax (ap Err h) in
-    enclosed_no_close c.in_ok-query.query c.args.reader.now.rest.now c.expect_sign.new.self.rest.now c.query.new.reader.rest.now c.in_ok-expect_sign.ensures.found c.in_ok-query.ensures.found bad q r f)
+    enclosed_no_close c.in_ok-query.query c.args.reader.now c.expect_sign.new.self c.query.new.reader c.in_ok-expect_sign.ensures.found c.in_ok-query.ensures.found bad q r f)

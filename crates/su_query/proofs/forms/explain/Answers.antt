@@ -1,4 +1,4 @@
-use Rattle.std.proofs.Common.{◌≡◌, refl, ap, sym, subst, Err, List, inl, inr}
+use Rattle.std.proofs.Common.{◌≡◌, refl, ap, sym, ◌∙◌, subst, Err, List, inl, inr}
 use Rattle.std.proofs.lemmas.Result.{err_from_is_err_and}
 use Rattle.su_lex.specs.declared.ends.LexEnd.TheVariants.{Syntax}
 use Rattle.su_lex.specs.declared.meaning.Symbol.{Symbol}
@@ -14,12 +14,17 @@ returns-in_err-query-clause-syntax c =
     let h : c.in_err-query.field-0.0 ≡ Syntax = cc in
     let bad = c.in_err-query.ensures.syntax (ap Err h) in
     let n = c.if-takes_word.ensures.no refl in
-    elim (explain_inv st _ c.args.reader.now.rest.now refl f) [
-      | inl i ↦ bad i.0 (subst (λ (x : List Symbol). QueryForm i.0 x) (sym n.0) i.2)
-      | inr i ↦ n.1 (i.1, i.3)
+    let m = c.if-takes_word-2.ensures.no refl in
+    elim (explain_inv st _ c.args.reader.now refl f) [
+      | inl i ↦ bad i.0 (subst (λ (x : List Symbol). QueryForm i.0 x) (sym (m.0 ∙ n.0)) i.2)
+      | inr others ↦ elim others [
+        | inl i ↦ n.1 (i.1, i.3)
+        | inr i ↦ m.1 (i.1, n.0 ∙ i.3)
+      ]
     ])
 
 pub returns-clause-found : goal.returns-clause-found
 returns-clause-found c =
     let n = c.if-takes_word.ensures.no refl in
-    g.explain _ _ _ _ refl refl (subst (λ (x : List Symbol). QueryForm c.in_ok-query.query x) n.0 c.in_ok-query.ensures.found)
+    let m = c.if-takes_word-2.ensures.no refl in
+    g.explain _ _ _ _ refl refl (subst (λ (x : List Symbol). QueryForm c.in_ok-query.query x) (m.0 ∙ n.0) c.in_ok-query.ensures.found)

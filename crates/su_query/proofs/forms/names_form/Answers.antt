@@ -16,7 +16,7 @@ returns-in_err-names-clause-syntax c =
     rw (p.1, p.2) (λ s names f.
     let h : c.in_err-names.field-0.0 ≡ Syntax = cc in
     let bad = no_names _ (c.in_err-names.ensures.syntax (ap Err h)) in
-    names_no_names c.args.reader.now.rest.now c.expect_sign.new.self.rest.now c.in_ok-expect_sign.ensures.found bad names f)
+    names_no_names c.args.reader.now c.expect_sign.new.self c.in_ok-expect_sign.ensures.found bad names f)
 
 pub returns-in_err-expect_sign-2-clause-syntax : goal.returns-in_err-expect_sign-2-clause-syntax
 returns-in_err-expect_sign-2-clause-syntax c =
@@ -24,7 +24,7 @@ returns-in_err-expect_sign-2-clause-syntax c =
     rw (p.1, p.2) (λ s names f.
     let h : c.in_err-expect_sign-2.field-0.0 ≡ Syntax = cc in
     let bad = c.in_err-expect_sign-2.ensures.syntax (ap Err h) in
-    names_no_close c.args.reader.now.rest.now c.expect_sign.new.self.rest.now c.names.new.self.rest.now c.in_ok-names.names c.in_ok-expect_sign.ensures.found (several_names _ _ _ c.in_ok-names.ensures.found c.in_ok-names.ensures.ends) bad names f)
+    names_no_close c.args.reader.now c.expect_sign.new.self c.names.new.self c.in_ok-names.names c.in_ok-expect_sign.ensures.found (several_names _ _ _ c.in_ok-names.ensures.found c.in_ok-names.ensures.ends) bad names f)
 
 pub returns-in_err-expect_end-clause-syntax : goal.returns-in_err-expect_end-clause-syntax
 returns-in_err-expect_end-clause-syntax c =
@@ -32,13 +32,13 @@ returns-in_err-expect_end-clause-syntax c =
     rw (p.1, p.2) (λ s names f.
     let h : c.in_err-expect_end.field-0.0 ≡ Syntax = cc in
     let bad = c.in_err-expect_end.ensures.syntax (ap Err h) in
-    names_no_end c.args.reader.now.rest.now c.expect_sign.new.self.rest.now c.names.new.self.rest.now c.expect_sign-2.new.self.rest.now c.in_ok-names.names c.in_ok-expect_sign.ensures.found (several_names _ _ _ c.in_ok-names.ensures.found c.in_ok-names.ensures.ends) c.in_ok-expect_sign-2.ensures.found bad names f)
+    names_no_end c.args.reader.now c.expect_sign.new.self c.names.new.self c.expect_sign-2.new.self c.in_ok-names.names c.in_ok-expect_sign.ensures.found (several_names _ _ _ c.in_ok-names.ensures.found c.in_ok-names.ensures.ends) c.in_ok-expect_sign-2.ensures.found bad names f)
 
 pub returns-clause-found : goal.returns-clause-found
 returns-clause-found c =
     let close = c.in_ok-expect_sign-2.ensures.found ∙ ap (λ x. Sign sign.Close ∷ x) c.in_ok-expect_end.ensures.found in
     record {
-      rest = c.expect_sign.new.self.rest.now;
+      rest = c.expect_sign.new.self;
       begins = c.in_ok-expect_sign.ensures.found;
-      reads = subst (λ (x : List Symbol). Several ReadsName c.in_ok-names.names c.expect_sign.new.self.rest.now x) close (several_names _ _ _ c.in_ok-names.ensures.found c.in_ok-names.ensures.ends);
+      reads = subst (λ (x : List Symbol). Several ReadsName c.in_ok-names.names c.expect_sign.new.self x) close (several_names _ _ _ c.in_ok-names.ensures.found c.in_ok-names.ensures.ends);
     }

@@ -11,7 +11,7 @@ returns-in_err-expect_word-clause-syntax c =
     rw (p.1, p.2) (λ s first second f.
     let h : c.in_err-expect_word.field-0.0 ≡ Syntax = cc in
     let bad = c.in_err-expect_word.ensures.syntax (ap Err h) in
-    pair_no_with c.in_ok-first.first c.args.reader.now.rest.now c.enclosed.new.reader.rest.now c.in_ok-first.ensures.found bad first second f)
+    pair_no_with c.in_ok-first.first c.args.reader.now c.enclosed.new.reader c.in_ok-first.ensures.found bad first second f)
 
 pub returns-in_err-second-clause-syntax : goal.returns-in_err-second-clause-syntax
 returns-in_err-second-clause-syntax c =
@@ -19,7 +19,7 @@ returns-in_err-second-clause-syntax c =
     rw (p.1, p.2) (λ s first second f.
     let h : c.in_err-second.field-0.0 ≡ Syntax = cc in
     let bad = c.in_err-second.ensures.syntax (ap Err h) in
-    pair_no_second c.in_ok-first.first c.args.reader.now.rest.now c.enclosed.new.reader.rest.now c.expect_word.new.self.rest.now c.in_ok-first.ensures.found c.in_ok-expect_word.ensures.found bad first second f)
+    pair_no_second c.in_ok-first.first c.args.reader.now c.enclosed.new.reader c.expect_word.new.self c.in_ok-first.ensures.found c.in_ok-expect_word.ensures.found bad first second f)
 
 pub returns-in_err-expect_end-clause-syntax : goal.returns-in_err-expect_end-clause-syntax
 returns-in_err-expect_end-clause-syntax c =
@@ -27,7 +27,7 @@ returns-in_err-expect_end-clause-syntax c =
     rw (p.1, p.2) (λ s first second f.
     let h : c.in_err-expect_end.field-0.0 ≡ Syntax = cc in
     let bad = c.in_err-expect_end.ensures.syntax (ap Err h) in
-    pair_no_end c.in_ok-first.first c.in_ok-second.second c.args.reader.now.rest.now c.enclosed.new.reader.rest.now c.expect_word.new.self.rest.now c.enclosed-2.new.reader.rest.now c.in_ok-first.ensures.found c.in_ok-expect_word.ensures.found c.in_ok-second.ensures.found bad first second f)
+    pair_no_end c.in_ok-first.first c.in_ok-second.second c.args.reader.now c.enclosed.new.reader c.expect_word.new.self c.enclosed-2.new.reader c.in_ok-first.ensures.found c.in_ok-expect_word.ensures.found c.in_ok-second.ensures.found bad first second f)
 
 pub returns-in_err-first-clause-syntax : goal.returns-in_err-first-clause-syntax
 returns-in_err-first-clause-syntax c =

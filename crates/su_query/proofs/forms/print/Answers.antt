@@ -14,7 +14,7 @@ returns-in_err-relation-clause-syntax c =
     rw (p.1, p.2) (λ s st f.
     let h : c.in_err-relation.field-0.0 ≡ Syntax = cc in
     let bad = no_name _ (c.in_err-relation.ensures.syntax (ap Err h)) in
-    let i = print_inv st _ c.args.reader.now.rest.now refl f in bad i.0 [] (i.2, i.3))
+    let i = print_inv st _ c.args.reader.now refl f in bad i.0 [] (i.2, i.3))
 
 pub returns-clause-found : goal.returns-clause-found
 returns-clause-found c =
@@ -26,6 +26,6 @@ returns-in_err-expect_end-clause-syntax c =
     rw (p.1, p.2) (λ s st f.
     let h : c.in_err-expect_end.field-0.0 ≡ Syntax = cc in
     let bad = c.in_err-expect_end.ensures.syntax (ap Err h) in
-    let whole = (print_inv st _ c.args.reader.now.rest.now refl f).2 in
+    let whole = (print_inv st _ c.args.reader.now refl f).2 in
     let named = c.in_ok-relation.ensures.found.0 in
     bad cc)

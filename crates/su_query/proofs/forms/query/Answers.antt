@@ -10,7 +10,7 @@ returns-in_err-outputs-clause-syntax c =
     rw (p.1, p.2) (λ s q r f.
     let h : c.in_err-outputs.field-0.0 ≡ Syntax = cc in
     let bad = c.in_err-outputs.ensures.syntax (ap Err h) in
-    query_no_refs c.args.reader.now.rest.now c.expect_word.new.self.rest.now c.expect_sign.new.self.rest.now c.in_ok-expect_word.ensures.found c.in_ok-expect_sign.ensures.found bad q r f)
+    query_no_refs c.args.reader.now c.expect_word.new.self c.expect_sign.new.self c.in_ok-expect_word.ensures.found c.in_ok-expect_sign.ensures.found bad q r f)
 
 pub returns-in_err-expect_sign-2-clause-syntax : goal.returns-in_err-expect_sign-2-clause-syntax
 returns-in_err-expect_sign-2-clause-syntax c =
@@ -18,7 +18,7 @@ returns-in_err-expect_sign-2-clause-syntax c =
     rw (p.1, p.2) (λ s q r f.
     let h : c.in_err-expect_sign-2.field-0.0 ≡ Syntax = cc in
     let bad = c.in_err-expect_sign-2.ensures.syntax (ap Err h) in
-    query_no_close c.args.reader.now.rest.now c.expect_word.new.self.rest.now c.expect_sign.new.self.rest.now c.references.new.reader.rest.now c.in_ok-outputs.outputs c.in_ok-expect_word.ensures.found c.in_ok-expect_sign.ensures.found c.in_ok-outputs.ensures.found bad q r f)
+    query_no_close c.args.reader.now c.expect_word.new.self c.expect_sign.new.self c.references.new.reader c.in_ok-outputs.outputs c.in_ok-expect_word.ensures.found c.in_ok-expect_sign.ensures.found c.in_ok-outputs.ensures.found bad q r f)
 
 pub returns-in_err-cond-clause-syntax : goal.returns-in_err-cond-clause-syntax
 returns-in_err-cond-clause-syntax c =
@@ -26,4 +26,4 @@ returns-in_err-cond-clause-syntax c =
     rw (p.1, p.2) (λ s q r f.
     let h : c.in_err-cond.field-0.0 ≡ Syntax = cc in
     let bad = c.in_err-cond.ensures.syntax (ap Err h) in
-    query_no_where c.args.reader.now.rest.now c.expect_word.new.self.rest.now c.expect_sign.new.self.rest.now c.references.new.reader.rest.now c.expect_sign-2.new.self.rest.now c.in_ok-outputs.outputs c.in_ok-expect_word.ensures.found c.in_ok-expect_sign.ensures.found c.in_ok-outputs.ensures.found c.in_ok-expect_sign-2.ensures.found bad q r f)
+    query_no_where c.args.reader.now c.expect_word.new.self c.expect_sign.new.self c.references.new.reader c.expect_sign-2.new.self c.in_ok-outputs.outputs c.in_ok-expect_word.ensures.found c.in_ok-expect_sign.ensures.found c.in_ok-outputs.ensures.found c.in_ok-expect_sign-2.ensures.found bad q r f)

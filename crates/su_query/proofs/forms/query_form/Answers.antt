@@ -10,7 +10,7 @@ returns-in_err-expect_end-clause-syntax c =
     rw (p.1, p.2) (λ s q f.
     let h : c.in_err-expect_end.field-0.0 ≡ Syntax = cc in
     let bad = c.in_err-expect_end.ensures.syntax (ap Err h) in
-    query_no_end c.in_ok-query.query c.args.reader.now.rest.now c.query.new.reader.rest.now c.in_ok-query.ensures.found bad q f)
+    query_no_end c.in_ok-query.query c.args.reader.now c.query.new.reader c.in_ok-query.ensures.found bad q f)
 
 pub returns-in_err-query-clause-syntax : goal.returns-in_err-query-clause-syntax
 returns-in_err-query-clause-syntax c =

@@ -10,7 +10,7 @@ returns-in_err-row-clause-syntax c =
     rw (p.1, p.2) (λ s relation row f.
     let h : c.in_err-row.field-0.0 ≡ Syntax = cc in
     let bad = c.in_err-row.ensures.syntax (ap Err h) in
-    row_no_values c.args.reader.now.rest.now c.name.new.self.rest.now c.expect_sign.new.self.rest.now c.in_ok-relation.relation c.in_ok-relation.ensures.found.0 c.in_ok-expect_sign.ensures.found bad relation row f)
+    row_no_values c.args.reader.now c.name.new.self c.expect_sign.new.self c.in_ok-relation.relation c.in_ok-relation.ensures.found.0 c.in_ok-expect_sign.ensures.found bad relation row f)
 
 pub returns-in_err-expect_sign-2-clause-syntax : goal.returns-in_err-expect_sign-2-clause-syntax
 returns-in_err-expect_sign-2-clause-syntax c =
@@ -18,7 +18,7 @@ returns-in_err-expect_sign-2-clause-syntax c =
     rw (p.1, p.2) (λ s relation row f.
     let h : c.in_err-expect_sign-2.field-0.0 ≡ Syntax = cc in
     let bad = c.in_err-expect_sign-2.ensures.syntax (ap Err h) in
-    row_no_close c.args.reader.now.rest.now c.name.new.self.rest.now c.expect_sign.new.self.rest.now c.values.new.reader.rest.now c.in_ok-relation.relation c.in_ok-row.row c.in_ok-relation.ensures.found.0 c.in_ok-expect_sign.ensures.found c.in_ok-row.ensures.found bad relation row f)
+    row_no_close c.args.reader.now c.name.new.self c.expect_sign.new.self c.values.new.reader c.in_ok-relation.relation c.in_ok-row.row c.in_ok-relation.ensures.found.0 c.in_ok-expect_sign.ensures.found c.in_ok-row.ensures.found bad relation row f)
 
 pub returns-in_err-expect_end-clause-syntax : goal.returns-in_err-expect_end-clause-syntax
 returns-in_err-expect_end-clause-syntax c =
@@ -26,4 +26,4 @@ returns-in_err-expect_end-clause-syntax c =
     rw (p.1, p.2) (λ s relation row f.
     let h : c.in_err-expect_end.field-0.0 ≡ Syntax = cc in
     let bad = c.in_err-expect_end.ensures.syntax (ap Err h) in
-    row_no_end c.args.reader.now.rest.now c.name.new.self.rest.now c.expect_sign.new.self.rest.now c.values.new.reader.rest.now c.expect_sign-2.new.self.rest.now c.in_ok-relation.relation c.in_ok-row.row c.in_ok-relation.ensures.found.0 c.in_ok-expect_sign.ensures.found c.in_ok-row.ensures.found c.in_ok-expect_sign-2.ensures.found bad relation row f)
+    row_no_end c.args.reader.now c.name.new.self c.expect_sign.new.self c.values.new.reader c.expect_sign-2.new.self c.in_ok-relation.relation c.in_ok-row.row c.in_ok-relation.ensures.found.0 c.in_ok-expect_sign.ensures.found c.in_ok-row.ensures.found c.in_ok-expect_sign-2.ensures.found bad relation row f)

@@ -34,7 +34,7 @@ returns-in_err-query-clause-syntax c =
     let e8 = n8.0 ∙ e7 in
     let n9 = c.if-takes_word-9.ensures.no refl in
     let e9 = n9.0 ∙ e8 in
-    none_left c.args.reader.now.rest.now n1.1 (subst (λ (x : List Symbol). ¬ (Begins (Word (codes "delete")) x)) e1 n2.1) (subst (λ (x : List Symbol). ¬ (Begins (Word (codes "load")) x)) e2 n3.1) (subst (λ (x : List Symbol). ¬ (Begins (Word (codes "print")) x)) e3 n4.1) (subst (λ (x : List Symbol). ¬ (Begins (Word (codes "schema")) x)) e4 n5.1) (subst (λ (x : List Symbol). ¬ (Begins (Word (codes "closure")) x)) e5 n6.1) (subst (λ (x : List Symbol). ¬ (Begins (Word (codes "explain")) x)) e6 n7.1) (subst (λ (x : List Symbol). ¬ (Begins (Word (codes "compare")) x)) e7 n8.1) (subst (λ (x : List Symbol). ¬ (Begins (Word (codes "window")) x)) e8 n9.1) (subst (λ (x : List Symbol). (q : AQuery) → QueryForm q x → ⊥) e9 bad) st f)
+    none_left c.args.reader.now n1.1 (subst (λ (x : List Symbol). ¬ (Begins (Word (codes "delete")) x)) e1 n2.1) (subst (λ (x : List Symbol). ¬ (Begins (Word (codes "load")) x)) e2 n3.1) (subst (λ (x : List Symbol). ¬ (Begins (Word (codes "print")) x)) e3 n4.1) (subst (λ (x : List Symbol). ¬ (Begins (Word (codes "schema")) x)) e4 n5.1) (subst (λ (x : List Symbol). ¬ (Begins (Word (codes "closure")) x)) e5 n6.1) (subst (λ (x : List Symbol). ¬ (Begins (Word (codes "explain")) x)) e6 n7.1) (subst (λ (x : List Symbol). ¬ (Begins (Word (codes "compare")) x)) e7 n8.1) (subst (λ (x : List Symbol). ¬ (Begins (Word (codes "window")) x)) e8 n9.1) (subst (λ (x : List Symbol). (q : AQuery) → QueryForm q x → ⊥) e9 bad) st f)
 
 pub returns-clause-found : goal.returns-clause-found
 returns-clause-found c =

@@ -13,7 +13,7 @@ returns-then-not-takes_word-clause-found c =
 
 pub returns-clause-found : goal.returns-clause-found
 returns-clause-found c =
-    let s = c.args.reader.now.rest.now in
-    let t = c.takes_word.new.self.rest.now in
-    let r = c.cond.new.reader.rest.now in
+    let s = c.args.reader.now in
+    let t = c.takes_word.new.self in
+    let r = c.cond.new.reader in
     IfOk-weaker c.cond.result (λ d. ReadsCond d t r) (λ d. ReadsWhere d s r) (λ d h. g.condition d s t r (c.if-not-takes_word.ensures.yes refl) h) c.cond.ensures.found

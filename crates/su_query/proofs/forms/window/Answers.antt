@@ -11,7 +11,7 @@ returns-in_err-attributes-clause-syntax c =
     rw (p.1, p.2) (λ s st f.
     let h : c.in_err-attributes.field-0.0 ≡ Syntax = cc in
     let bad = c.in_err-attributes.ensures.syntax (ap Err h) in
-    let i = window_inv st _ c.args.reader.now.rest.now refl f in bad i.0 i.2)
+    let i = window_inv st _ c.args.reader.now refl f in bad i.0 i.2)
 
 pub returns-clause-found : goal.returns-clause-found
 returns-clause-found c =

@@ -9,12 +9,12 @@ returns-in_err-first-clause-syntax c =
     let p = err_from_is_err_and c.from_residual.result c.from_residual.ensures.1 in
     rw (p.1, p.2) (λ s ref r.
     let h : c.in_err-first.field-0.0 ≡ Syntax = cc in
-    ref_no_name c.args.reader.now.rest.now (no_name _ (c.in_err-first.ensures.syntax (ap Err h))) ref r)
+    ref_no_name c.args.reader.now (no_name _ (c.in_err-first.ensures.syntax (ap Err h))) ref r)
 
 pub returns-in_err-attribute-clause-syntax : goal.returns-in_err-attribute-clause-syntax
 returns-in_err-attribute-clause-syntax c =
     let p = err_from_is_err_and c.from_residual-in_err-attribute.result c.from_residual-in_err-attribute.ensures.1 in
     rw (p.1, p.2) (λ s ref r.
     let h : c.in_err-attribute.field-0.0 ≡ Syntax = cc in
-    ref_no_attribute c.args.reader.now.rest.now c.name.new.self.rest.now c.takes_sign.new.self.rest.now c.in_ok-first.first c.in_ok-first.ensures.found (c.if-not-takes_sign.ensures.yes refl)
+    ref_no_attribute c.args.reader.now c.name.new.self c.takes_sign.new.self c.in_ok-first.first c.in_ok-first.ensures.found (c.if-not-takes_sign.ensures.yes refl)
     (no_name _ (c.in_err-attribute.ensures.syntax (ap Err h))) ref r)

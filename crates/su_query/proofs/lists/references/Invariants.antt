@@ -7,9 +7,9 @@ use Rattle.su_query.proofs.lists.references.Given as goal
 
 abbrev pub invariant-loop-references : goal.invariant-loop-references
 invariant-loop-references l = record {
-  before : (more : List Ref) (r : List Symbol) → More ReadsRef more l.reader.rest.now r → Several ReadsRef (l.references ++ more) l.fn.reader.rest.now r;
-  only : (all : List Ref) (r : List Symbol) → Several ReadsRef all l.fn.reader.rest.now r → (more : List Ref) × (all ≡ l.references ++ more) × More ReadsRef more l.reader.rest.now r;
+  before : (more : List Ref) (r : List Symbol) → More ReadsRef more l.reader r → Several ReadsRef (l.references ++ more) l.fn.reader r;
+  only : (all : List Ref) (r : List Symbol) → Several ReadsRef all l.fn.reader r → (more : List Ref) × (all ≡ l.references ++ more) × More ReadsRef more l.reader r;
 }
 
 abbrev pub decreases-loop-references : goal.decreases-loop-references
-decreases-loop-references l = length l.reader.rest.now
+decreases-loop-references l = length l.reader

@@ -1,14 +1,20 @@
+use Rattle.std.proofs.Common.{Err, ap, inl}
 use Rattle.su_query.proofs.Ready.{form_ready}
-use Rattle.su_query.proofs.Uniqueness.{statement_unique, limit_refusal}
+use Rattle.su_query.proofs.Uniqueness.{statement_unique}
 use Rattle.su_query.proofs.reading.read.Goals as goal
 
-pub returns-in-Ok-clause-only : goal.returns-in-Ok-clause-only
-returns-in-Ok-clause-only c = λ other h. statement_unique c.args.text.now c.in_ok-statement.statement other c.in_ok-statement.ensures.found h
+pub returns-in-Err-Syntax-clause-refused : goal.returns-in-Err-Syntax-clause-refused
+returns-in-Err-Syntax-clause-refused c = inl (c.in-Err-Syntax.ensures.syntax (ap Err c.in-Err-Syntax.field-0-is))
+
+pub returns-in-Ok-statement_of-clause-only : goal.returns-in-Ok-statement_of-clause-only
+returns-in-Ok-statement_of-clause-only c other h =
+    let text = c.args.text.now in
+    statement_unique text c.in-Ok-statement_of.statement other (c.in-Ok-statement_of.ensures.found text c.in-Ok.ensures.symbols) h
+
+pub returns-in-Ok-statement_of-clause-ready : goal.returns-in-Ok-statement_of-clause-ready
+returns-in-Ok-statement_of-clause-ready c =
+    let is = c.in-Ok-statement_of.ensures.found c.args.text.now c.in-Ok.ensures.symbols in
+    form_ready c.in-Ok-statement_of.statement is.symbols is.form
 
 pub returns-in-Err-clause-refused : goal.returns-in-Err-clause-refused
-returns-in-Err-clause-refused c = limit_refusal c.args.text.now c.in_ok-statement.statement c.in-Err.fault c.in_ok-statement.ensures.found c.in-Err.ensures.passed
-
-pub returns-in-Ok-clause-ready : goal.returns-in-Ok-clause-ready
-returns-in-Ok-clause-ready c =
-    let form = c.in_ok-statement.ensures.found.form in
-    form_ready c.in_ok-statement.statement c.in_ok-statement.ensures.found.symbols form
+returns-in-Err-clause-refused c = c.in-Err.ensures.refused c.args.text.now c.in-Ok.ensures.symbols

@@ -12,7 +12,7 @@ returns-in_err-name-2-clause-syntax c =
     let p = err_from_is_err_and c.from_residual-in_err-name-2.result c.from_residual-in_err-name-2.ensures.1 in
     rw (p.1, p.2) (λ s ns r are none e.
     let h : c.in_err-name-2.field-0.0 ≡ Syntax = cc in
-    no_name c.loop-names.names ns _ c.loop-names.self.rest.now c.takes_sign.new.self.rest.now r none c.loop-names.invariant.are are c.loop-names.invariant.whole
+    no_name c.loop-names.names ns _ c.loop-names.self c.takes_sign.new.self r none c.loop-names.invariant.are are c.loop-names.invariant.whole
     (c.loop-names-test.ensures.yes refl) (c.in_err-name-2.ensures.syntax (ap Err h)) e)
 
 pub loop-names-preserved : goal.loop-names-preserved
@@ -34,11 +34,11 @@ pub returns-in_err-name-2-clause-behind : goal.returns-in_err-name-2-clause-behi
 returns-in_err-name-2-clause-behind c =
     let p = err_from_is_err_and c.from_residual-in_err-name-2.result c.from_residual-in_err-name-2.ensures.1 in
     let here = c.loop-names-test.ensures.yes refl ∙ ap (λ x. Sign sign.Comma ∷ x) (sym c.in_err-name-2.ensures.unchanged) in
-    rw p.1 (further (names_symbols c.loop-names.names) (Sign sign.Comma ∷ []) c.args.self.now.rest.now c.loop-names.self.rest.now c.name-in-loop-names.new.self.rest.now c.loop-names.invariant.whole here)
+    rw p.1 (further (names_symbols c.loop-names.names) (Sign sign.Comma ∷ []) c.args.self.now c.loop-names.self c.name-in-loop-names.new.self c.loop-names.invariant.whole here)
 
 pub returns-in_err-push-2-clause-behind : goal.returns-in_err-push-2-clause-behind
 returns-in_err-push-2-clause-behind c =
     let p = err_from_is_err_and c.from_residual-in_err-push-2.result c.from_residual-in_err-push-2.ensures.1 in
     let n = c.in_ok-name-2.field-0 in
     let here = c.loop-names-test.ensures.yes refl ∙ ap (λ x. Sign sign.Comma ∷ x) c.in_ok-name-2.ensures.found.0 in
-    rw p.1 (further (names_symbols c.loop-names.names) (Sign sign.Comma ∷ Word n ∷ []) c.args.self.now.rest.now c.loop-names.self.rest.now c.name-in-loop-names.new.self.rest.now c.loop-names.invariant.whole here)
+    rw p.1 (further (names_symbols c.loop-names.names) (Sign sign.Comma ∷ Word n ∷ []) c.args.self.now c.loop-names.self c.name-in-loop-names.new.self c.loop-names.invariant.whole here)

@@ -4,9 +4,9 @@ use Rattle.su_lex.proofs.readers.Reader.names.Given as goal
 
 abbrev pub invariant-loop-names : goal.invariant-loop-names
 invariant-loop-names l = record {
-  whole : l.fn.self.rest.now ≡ names_symbols l.names ++ l.self.rest.now;
+  whole : l.fn.self ≡ names_symbols l.names ++ l.self;
   are : AreNames l.names;
 }
 
 abbrev pub decreases-loop-names : goal.decreases-loop-names
-decreases-loop-names l = length l.self.rest.now
+decreases-loop-names l = length l.self

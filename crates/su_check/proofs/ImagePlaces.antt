@@ -3,6 +3,7 @@ use Rattle.std.proofs.Common.{◌≡◌, ◌<◌, ◌+◌, ℕ, true, List, [], 
 use Rattle.std.proofs.lemmas.Bool.{true≢false}
 use Rattle.std.proofs.lemmas.List.{get_or_default, get_or_append_left, length-append}
 use Rattle.std.proofs.lemmas.List.Elements.{All-push}
+use borrow.Author.Count.{below_more}
 use Rattle.su_tableau.specs.declared.symbols.Sym.{Sym}
 use Rattle.su_tableau.specs.declared.symbols.Sym.TheVariants.{Var}
 use Rattle.su_check.specs.declared.boards.Board.{Board}
@@ -12,9 +13,8 @@ use Rattle.su_check.specs.inside.Cells.{cell, is_const}
 use Rattle.su_check.specs.Fitting.{Lines, row_of, AreSent, sent_too}
 use Rattle.su_check.specs.inside.Boards.{no_pair, no_place, IsFixed, IsFree, IsNumber, IsImage, Sends, SendsRow, Covers, Keeps, IsReady}
 use Rattle.su_check.specs.inside.Cells.{IsFirst}
-use Rattle.su_check.proofs.Steps.{below_more}
 use Rattle.su_check.proofs.Boarded.{first_one}
-use Rattle.su_check.proofs.Joining.{sent_more}
+use Rattle.su_check.proofs.TargetsTogether.{sent_more}
 use Rattle.su_check.specs.inside.Agreeing.{Agree}
 
 -- ---- a symbol has one number, and a number one symbol

@@ -7,9 +7,10 @@ use Rattle.su_tableau.specs.declared.symbols.Sym.{Sym}
 use Rattle.su_tableau.specs.declared.symbols.Sym.TheVariants.{Const, Var}
 use Rattle.su_tableau.specs.Mapping.{image_of, images_of}
 use Rattle.su_check.specs.declared.sending.Sent.{Sent}
-use Rattle.su_check.specs.Fitting.{Lines, row_of, AreSent, IsWithin, sent_too}
+use Rattle.su_check.specs.Fitting.{Lines, row_of, AreSent, sent_too}
+use Rattle.su_check.specs.inside.Widths.{IsWithin}
 use Rattle.su_check.specs.Certificate.{IsFoldInto}
-use Rattle.su_check.proofs.Joining.{all_front, all_last}
+use Rattle.su_check.proofs.TargetsTogether.{all_front, all_last}
 
 -- the first n rows with their targets
 abbrev pub fold_sent : List ℕ → ℕ → List Sent

@@ -1,5 +1,5 @@
 -- Which rows come into question as targets.
-use Rattle.std.proofs.Common.{◌≡◌, ◌<◌, ℕ, List, [], ◌∷◌, ◌++◌, length, get_or, sym, ap, ◌∙◌, arith}
+use Rattle.std.proofs.Common.{◌≡◌, ◌<◌, ℕ, List, [], length, get_or, sym, ap, ◌∙◌, arith}
 use Rattle.std.proofs.lemmas.List.Elements.{All-push}
 use Rattle.su_tableau.specs.declared.symbols.Sym.{Sym}
 use Rattle.su_tableau.specs.Mapping.{image_of, images_of}
@@ -8,7 +8,7 @@ use Rattle.su_check.specs.declared.sending.Place.{Place}
 use Rattle.su_check.specs.inside.Cells.{cell}
 use Rattle.su_check.specs.Fitting.{Lines, row_of, AreSent, sent_too}
 use Rattle.su_check.specs.inside.Boards.{no_pair, IsImage}
-use Rattle.su_check.proofs.Joining.{all_front, all_last, image_cell}
+use Rattle.su_check.proofs.TargetsTogether.{all_front, all_last, image_cell}
 
 -- a target of the row has the image of the row's symbol
 pub image_told : (t : Lines) (p : List Sent) (s j c : ℕ) (place : Place) (x y : Sym) → c < length (row_of t s) → x ≡ cell (row_of t s) c → IsImage t p place x y → AreSent t (sent_too p s j) → cell (row_of t j) c ≡ y

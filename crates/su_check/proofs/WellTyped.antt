@@ -17,7 +17,7 @@ use Rattle.su_check.specs.declared.boards.Board.{Board}
 use Rattle.su_check.specs.declared.sending.Place.{Place}
 use Rattle.su_check.specs.inside.Boards.{IsBoard, IsReady}
 use Rattle.su_check.specs.Certificate.{lines_of, IsGoodForm}
-use Rattle.su_check.proofs.Folding.{none_sent}
+use Rattle.su_check.proofs.FoldTargets.{none_sent}
 use Rattle.su_check.proofs.Boarded.{first_one}
 
 -- a constant has the kind

@@ -1,0 +1,10 @@
+-- When the trees of a term are good.
+-- No public contract cites this module.
+use Rattle.std.specs.Prelude.{◌<◌, ◌≤◌, ℕ, length}
+use Rattle.su_check.specs.declared.certificates.Term.{Term}
+use Rattle.su_check.specs.Certificate.{IsGoodTree}
+
+-- each kept row has its tree, and there are no more
+pub record HasGoodTrees (x : Term) : Type 0 where
+  pub trees : (k : ℕ) → k < length x.kept → IsGoodTree x k
+  pub no_surplus : length x.trees ≤ length x.kept
