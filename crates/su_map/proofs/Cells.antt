@@ -8,7 +8,7 @@ use Rattle.su_tableau.specs.declared.symbols.Sym.TheVariants.{Const, Var}
 use Rattle.su_tableau.specs.Tableaux.{Tab}
 use Rattle.su_map.specs.Lists.{row_of}
 use Rattle.su_map.specs.Candidates.{Cell, KeepsConstants, Agree}
-use Rattle.su_map.specs.inside.Targets.{IsFirstAt, CellFits, AreShared}
+use Rattle.su_map.specs.inside.Targets.{IsFirstAt, CellFits, IsPlain, AreShared}
 
 pub cell_from : (row : List Sym) (c : ℕ) (d x : Sym) → c < length row → get_or row c d ≡ x → Cell row c x
 cell_from row c d x h e = record { below = h; is = λ d'. get_or_default row c d' d h ∙ e }
@@ -194,3 +194,19 @@ told_agree head head' xs us ys vs columns n len shared f g = (
       let v = shared.is_var e c (omega arith) is in
       agree c e v.0 d (shared.some e c v.0 (omega arith) is v.1) v.1,
 )
+
+pub plain_from : (row : List Sym) (n : ℕ) → length row ≤ n → ((p : ℕ) → p < n → (e k : ℕ) → e < p → get_or row p (Var k) ≡ Var k → get_or row e (Var k) ≡ Var k → ⊥) → IsPlain row
+plain_from row n all none c e k at other =
+    let l = at.below in
+    let m = other.below in
+    ⊎_elim
+    (λ (lt : e < c). absurd (none c (omega arith) e k lt (at.is (Var k)) (other.is (Var k))))
+    (λ (ge : c ≤ e).
+    ⊎_elim
+    (λ (lt : c < e). absurd (none e (omega arith) c k lt (other.is (Var k)) (at.is (Var k))))
+    (λ (ge' : e ≤ c). let same : c ≡ e = omega arith in same)
+    (cases_lt c e))
+    (cases_lt e c)
+
+pub plain_first : (row : List Sym) (c k : ℕ) → IsPlain row → Cell row c (Var k) → IsFirstAt row c k
+plain_first row c k plain cell = record { cell = cell; first = λ i l other. let e = plain i c k other cell in absurd (omega arith) }

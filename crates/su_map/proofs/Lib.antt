@@ -4,6 +4,7 @@ pub mod Ranks
 pub mod Joining
 pub mod Telling
 pub mod Narrowing
+pub mod Sending
 pub mod Costing
 pub mod Searching
 pub mod Settling

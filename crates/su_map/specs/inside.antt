@@ -1,3 +1,4 @@
 -- Definitions that only contracts of private functions need.
 pub mod Choices
+pub mod Sendings
 pub mod Targets

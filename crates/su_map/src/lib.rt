@@ -17,8 +17,9 @@ mod mappings;
 mod nets;
 mod rooms;
 mod search;
+mod singles;
 mod tables;
 mod targets;
 
 pub use mappings::Mapping;
-pub use rooms::{Room, certify, exists, exists_prepared, first, prepare};
+pub use rooms::{Room, certify, exists, exists_prepared, first, first_prepared, prepare};

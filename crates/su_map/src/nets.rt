@@ -1,12 +1,13 @@
 //! What a search reads.
-ghost use Rattle.std.specs.Prelude.{◌≡◌, ◌<◌, ◌≤◌, ◌+◌, ◌*◌, ℕ, List as Items, length, IfOk, IsTrue, IsFalse};
+ghost use Rattle.std.specs.Prelude.{◌≡◌, ◌<◌, ◌≤◌, ◌+◌, ◌*◌, ℕ, List as Items, length, get_or, IfOk, IsTrue, IsFalse};
 ghost use Rattle.std.specs.Int.{bit_at};
 ghost use Rattle.su_tableau.specs.Tableaux.{AreVarsBelow};
 ghost use Rattle.su_map.specs.Lists.{IsMapping};
 ghost use Rattle.su_map.specs.Nets.{Netted, HasRoom, IsNet, base_of, near_of, agree_of};
 
 use crate::columns::line_fits;
-use crate::tables::{fill_agree, fill_near};
+use crate::singles::narrow;
+use crate::tables::{fill_agree, fill_near, note_rows};
 use crate::targets::fill_base;
 use std::alloc::{AllocError, Global};
 use std::marker::Model;
@@ -87,6 +88,7 @@ impl Net {
         &mut self,
         rows_of: &mut [u64],
         columns: &mut [Option<usize>],
+        domains: &mut [u64],
         from: &Tableau,
         from_mask: u64,
         to: &Tableau,
@@ -95,6 +97,7 @@ impl Net {
         requires room { HasRoom (length from.now.rows) self.old }
         requires symbols { AreVarsBelow (length rows_of.old) from.now }
         requires columns { from.now.width ≤ length columns.old }
+        requires domains { length from.now.rows ≤ length domains.old }
         requires width { from.now.width ≡ to.now.width }
         requires heads { length from.now.head ≡ length to.now.head }
         ensures net { IsTrue result → IsNet from.now from_mask to.now to_mask self.new }
@@ -108,6 +111,7 @@ impl Net {
             &mut self.agree,
             rows_of,
             columns,
+            domains,
             from,
             from_mask,
             to,
@@ -116,12 +120,27 @@ impl Net {
     }
 }
 
+/// Copies the targets of so many rows.
+fn copy_targets(domains: &mut [u64], base: &[u64], rows: usize)
+    requires domains { rows ≤ length domains.old }
+    requires base { rows ≤ length base.now }
+    ensures { (i : ℕ) → i < rows → get_or domains.new i 0 ≡ get_or base.now i 0 }
+{
+    for i in 0..rows {
+        let targets = base[i];
+        domains[i] = targets;
+    }
+}
+
+/// Fills the tables of a net. The table of the targets that agree, the largest, is filled only where
+/// the rows that have one target leave each other row one.
 fn fill_tables(
     base: &mut [u64],
     near: &mut [u64],
     agree: &mut [u64],
     rows_of: &mut [u64],
     columns: &mut [Option<usize>],
+    domains: &mut [u64],
     from: &Tableau,
     from_mask: u64,
     to: &Tableau,
@@ -132,6 +151,7 @@ fn fill_tables(
     requires agree { length from.now.rows * 4096 ≤ length agree.old }
     requires symbols { AreVarsBelow (length rows_of.old) from.now }
     requires columns { from.now.width ≤ length columns.old }
+    requires domains { length from.now.rows ≤ length domains.old }
     requires width { from.now.width ≡ to.now.width }
     requires heads { length from.now.head ≡ length to.now.head }
     ensures net { IsTrue result → IsNet from.now from_mask to.now to_mask (record { base = base.new; near = near.new; agree = agree.new; targets = length to.now.rows }) }
@@ -142,10 +162,15 @@ fn fill_tables(
     if !line_fits(from.head(), to.head()) {
         return false;
     }
-    if !fill_base(base, from, from_mask, to, to_mask) {
+    let repeating = note_rows(rows_of, from, from_mask);
+    if !fill_base(base, from, from_mask, repeating, to, to_mask) {
         return false;
     }
     fill_near(near, rows_of, from, from_mask);
-    fill_agree(agree, columns, from, from_mask, to, base, near);
+    copy_targets(domains, base, from.row_count());
+    if !narrow(domains, columns, rows_of, from, from_mask, to, near) {
+        return false;
+    }
+    fill_agree(agree, columns, rows_of, from, from_mask, to, base, near);
     true
 }

@@ -89,6 +89,7 @@ pub fn prepare(room: &mut Room, from: &Tableau, from_mask: u64, to: &Tableau, to
     room.net.fill(
         &mut room.rows_of,
         &mut room.columns,
+        &mut room.domains,
         from,
         from_mask,
         to,
@@ -300,6 +301,28 @@ pub fn first<L: Ledger>(
 {
     prepare(room, from, from_mask, to, to_mask)
         && search_in(room, from, from_mask, to, to_mask, Order::Ascending, steps)
+}
+
+/// The same by the net that `prepare` filled for these rows or for more. No bound on the steps is
+/// promised.
+pub fn first_prepared<L: Ledger>(
+    room: &mut Room,
+    from: &Tableau,
+    from_mask: u64,
+    to: &Tableau,
+    to_mask: u64,
+    steps: &mut Steps<L>,
+) -> bool
+    requires room { IsRoomFor from.now room.old }
+    requires width { from.now.width ≡ to.now.width }
+    requires heads { length from.now.head ≡ length to.now.head }
+    requires prepared { IsNetFor from.now from_mask to.now to_mask room.old.net }
+    ensures found { IsTrue result → IsFirst from.now from_mask to.now to_mask room.new.list }
+    ensures none { IsFalse result ↔ ((list : Items ℕ) → IsMapping from.now from_mask to.now to_mask list → ⊥) }
+    ensures sizes { HasSizesOf room.old room.new }
+    ensures prepared { room.new.net ≡ room.old.net }
+{
+    search_in(room, from, from_mask, to, to_mask, Order::Ascending, steps)
 }
 
 /// Whether there is any mapping, by the net that `prepare` filled for these rows or for more. The

@@ -1,5 +1,5 @@
 //! Which rows share a variable, and which of their targets agree.
-ghost use Rattle.std.specs.Prelude.{◌≡◌, ◌≢◌, ◌≤◌, ◌<◌, ◌+◌, ◌*◌, ◌↔◌, ℕ, IfSome, length, get_or, Contains, Some, None};
+ghost use Rattle.std.specs.Prelude.{◌≡◌, ◌≢◌, ◌≤◌, ◌<◌, ◌+◌, ◌*◌, ◌↔◌, ℕ, IsTrue, IsFalse, IfSome, length, get_or, Contains, Some, None};
 ghost use Rattle.std.specs.Int.{bit_at};
 ghost use Rattle.su_tableau.specs.declared.symbols.Sym.{Sym as ASym};
 ghost use Rattle.su_tableau.specs.declared.symbols.Sym.TheVariants.{Var};
@@ -7,115 +7,181 @@ ghost use Rattle.su_tableau.specs.Tableaux.{AreBelow, AreVarsBelow};
 ghost use Rattle.su_map.specs.Lists.{row_of};
 ghost use Rattle.su_map.specs.Nets.{HasNear};
 ghost use Rattle.su_map.specs.Candidates.{Cell};
-ghost use Rattle.su_map.specs.inside.Targets.{AreShared, AreTold, IsTold};
+ghost use Rattle.su_map.specs.inside.Targets.{IsPlain, AreNoted, AreShared, AreTold, IsToldAt, IsTold};
 
-use crate::bits::{either, with};
+use crate::bits::{either, with, without};
 use crate::columns::{column_of, holding};
 use su_tableau::{Sym, Tableau, has};
 
-/// Notes the row at the symbol's variable.
-fn note(rows_of: &mut [u64], x: &Sym, i: usize)
+/// Notes the row at the symbol's variable; whether it was noted there before.
+fn note(rows_of: &mut [u64], x: &Sym, i: usize) -> bool
     requires below { (k : ℕ) → x.now ≡ Var k → k < length rows_of.old }
     requires small { i < 64 }
     ensures kept { (k q : ℕ) → bit_at (get_or rows_of.old k 0) q ≡ 1 → bit_at (get_or rows_of.new k 0) q ≡ 1 }
     ensures noted { (k : ℕ) → x.now ≡ Var k → bit_at (get_or rows_of.new k 0) i ≡ 1 }
+    ensures again { (k : ℕ) → x.now ≡ Var k → bit_at (get_or rows_of.old k 0) i ≡ 1 → IsTrue result }
 {
+    let mut again = false;
     if let Sym::Var(k) = x {
+        again = has(rows_of[*k as usize], i);
         let noted = with(rows_of[*k as usize], i);
         rows_of[*k as usize] = noted;
     }
+    again
 }
 
-/// Notes the row at each of its variables.
-fn note_row(rows_of: &mut [u64], row: &[Sym], i: usize)
+/// Notes the row at each of its variables; false where none of them stands at two columns.
+fn note_row(rows_of: &mut [u64], row: &[Sym], i: usize) -> bool
     requires below { AreBelow (length rows_of.old) row.now }
     requires small { i < 64 }
     ensures kept { (k q : ℕ) → bit_at (get_or rows_of.old k 0) q ≡ 1 → bit_at (get_or rows_of.new k 0) q ≡ 1 }
     ensures noted { (k : ℕ) → Contains row.now (Var k) → bit_at (get_or rows_of.new k 0) i ≡ 1 }
+    ensures plain { IsFalse result → IsPlain row.now }
 {
+    let mut repeats = false;
     for x in row {
-        note(rows_of, x, i);
+        let again = note(rows_of, x, i);
+        repeats = repeats || again;
+    }
+    repeats
+}
+
+/// Notes the row at each of its variables if it is in the mask.
+fn note_masked(rows_of: &mut [u64], from: &Tableau, mask: u64, i: usize) -> bool
+    requires row { i < length from.now.rows }
+    requires symbols { AreVarsBelow (length rows_of.old) from.now }
+    ensures kept { (k q : ℕ) → bit_at (get_or rows_of.old k 0) q ≡ 1 → bit_at (get_or rows_of.new k 0) q ≡ 1 }
+    ensures noted { bit_at mask i ≡ 1 → (k : ℕ) → Contains (row_of from.now i) (Var k) → bit_at (get_or rows_of.new k 0) i ≡ 1 }
+    ensures plain { bit_at mask i ≡ 1 → IsFalse result → IsPlain (row_of from.now i) }
+{
+    from.keeps_its_rules();
+    if !has(mask, i) {
+        return false;
+    }
+    note_row(rows_of, from.row(i), i)
+}
+
+/// Notes each row of the mask at its variables. The rows of which some variable stands at two
+/// columns, and maybe others.
+pub fn note_rows(rows_of: &mut [u64], from: &Tableau, mask: u64) -> u64
+    requires { AreVarsBelow (length rows_of.old) from.now }
+    ensures noted { AreNoted from.now mask rows_of.new }
+    ensures plain { (i : ℕ) → i < length from.now.rows → bit_at mask i ≡ 1 → (bit_at result i ≡ 1 → ⊥) → IsPlain (row_of from.now i) }
+{
+    rows_of.fill(0);
+    let mut repeating = 0;
+    for i in 0..from.row_count() {
+        let repeats = note_masked(rows_of, from, mask, i);
+        if repeats {
+            repeating = with(repeating, i);
+        }
+    }
+    repeating
+}
+
+/// The rows noted at the variable if there is another than row i, and the head does not have it.
+fn rows_besides(rows: u64, head: &[Sym], k: u32, i: usize) -> u64
+    requires { i < 64 }
+    ensures { (q : ℕ) → (Contains head.now (Var k) → ⊥) → i ≢ q → bit_at rows q ≡ 1 → bit_at result q ≡ 1 }
+{
+    let others = without(rows, i);
+    if others == 0 {
+        return 0;
+    }
+    match column_of(head, k) {
+        Some(_) => 0,
+        None => rows,
     }
 }
 
-/// The rows noted at the symbol's variable if it is not in the head.
-fn rows_at(rows_of: &[u64], head: &[Sym], x: &Sym) -> u64
+/// The rows besides row i noted at the symbol's variable if it is not in the head, and maybe row i.
+fn rows_at(rows_of: &[u64], head: &[Sym], x: &Sym, i: usize) -> u64
     requires below { (k : ℕ) → x.now ≡ Var k → k < length rows_of.now }
-    ensures { (k q : ℕ) → x.now ≡ Var k → (Contains head.now (Var k) → ⊥) → bit_at (get_or rows_of.now k 0) q ≡ 1 → bit_at result q ≡ 1 }
+    requires small { i < 64 }
+    ensures { (k q : ℕ) → x.now ≡ Var k → (Contains head.now (Var k) → ⊥) → i ≢ q → bit_at (get_or rows_of.now k 0) q ≡ 1 → bit_at result q ≡ 1 }
 {
     match x {
-        Sym::Var(k) => match column_of(head, *k) {
-            Some(_) => 0,
-            None => rows_of[*k as usize],
-        },
+        Sym::Var(k) => rows_besides(rows_of[*k as usize], head, *k, i),
         Sym::Const(_) => 0,
     }
 }
 
-/// The rows that were noted at the row's variables which are not in the head.
-fn rows_near(rows_of: &[u64], head: &[Sym], row: &[Sym]) -> u64
+/// The rows besides row i that were noted at the row's variables which are not in the head.
+fn rows_near(rows_of: &[u64], head: &[Sym], row: &[Sym], i: usize) -> u64
+    requires small { i < 64 }
     requires below { AreBelow (length rows_of.now) row.now }
-    ensures { (k q : ℕ) → Contains row.now (Var k) → (Contains head.now (Var k) → ⊥) → bit_at (get_or rows_of.now k 0) q ≡ 1 → bit_at result q ≡ 1 }
+    ensures { (k q : ℕ) → Contains row.now (Var k) → (Contains head.now (Var k) → ⊥) → i ≢ q → bit_at (get_or rows_of.now k 0) q ≡ 1 → bit_at result q ≡ 1 }
 {
     let mut rows = 0;
     for x in row {
-        rows = either(rows, rows_at(rows_of, head, x));
+        rows = either(rows, rows_at(rows_of, head, x, i));
     }
     rows
 }
 
-/// The rows that were noted at the variables of a masked row which are not in the head.
+/// The other rows that were noted at the variables of a masked row which are not in the head.
 fn nearby(rows_of: &[u64], from: &Tableau, mask: u64, i: usize) -> u64
     requires row { i < length from.now.rows }
     requires symbols { AreVarsBelow (length rows_of.now) from.now }
-    ensures { bit_at mask i ≡ 1 → (k q : ℕ) → Contains (row_of from.now i) (Var k) → (Contains from.now.head (Var k) → ⊥) → bit_at (get_or rows_of.now k 0) q ≡ 1 → bit_at result q ≡ 1 }
+    ensures { bit_at mask i ≡ 1 → (k q : ℕ) → Contains (row_of from.now i) (Var k) → (Contains from.now.head (Var k) → ⊥) → i ≢ q → bit_at (get_or rows_of.now k 0) q ≡ 1 → bit_at result q ≡ 1 }
 {
     from.keeps_its_rules();
     if !has(mask, i) {
         return 0;
     }
-    rows_near(rows_of, from.head(), from.row(i))
+    rows_near(rows_of, from.head(), from.row(i), i)
 }
 
 /// For each masked row the masked rows that share a variable with it.
-pub fn fill_near(near: &mut [u64], rows_of: &mut [u64], from: &Tableau, mask: u64)
+pub fn fill_near(near: &mut [u64], rows_of: &[u64], from: &Tableau, mask: u64)
     requires room { length from.now.rows ≤ length near.old }
-    requires symbols { AreVarsBelow (length rows_of.old) from.now }
+    requires symbols { AreVarsBelow (length rows_of.now) from.now }
+    requires noted { AreNoted from.now mask rows_of.now }
     ensures { HasNear from.now mask near.new }
 {
-    rows_of.fill(0);
-    for i in 0..from.row_count() {
-        if has(mask, i) {
-            note_row(rows_of, from.row(i), i);
-        }
-    }
     for i in 0..from.row_count() {
         let rows = nearby(rows_of, from, mask, i);
         near[i] = rows;
     }
 }
 
-/// The symbol's column in the other row; none for a constant and a head variable.
-fn shared_at(head: &[Sym], other: &[Sym], x: &Sym) -> Option<usize>
+/// The symbol's column in the other row, whose number is i; none for a constant and a head variable.
+fn shared_at(rows_of: &[u64], i: usize, head: &[Sym], other: &[Sym], x: &Sym) -> Option<usize>
+    requires small { i < 64 }
+    requires below { (k : ℕ) → x.now ≡ Var k → k < length rows_of.now }
+    requires noted { (k : ℕ) → Contains other.now (Var k) → bit_at (get_or rows_of.now k 0) i ≡ 1 }
     ensures some { IfSome result (λ c. (k : ℕ) × (x.now ≡ Var k) × Cell other.now c (Var k)) }
     ensures none { result ≡ None → (k : ℕ) → x.now ≡ Var k → Contains other.now (Var k) → Contains head.now (Var k) }
 {
-    match x {
-        Sym::Var(k) => match column_of(head, *k) {
-            Some(_) => None,
-            None => column_of(other, *k),
-        },
-        Sym::Const(_) => None,
+    let Sym::Var(k) = x else {
+        return None;
+    };
+    if !has(rows_of[*k as usize], i) {
+        return None;
+    }
+    match column_of(head, *k) {
+        Some(_) => None,
+        None => column_of(other, *k),
     }
 }
 
-/// For each column of the row its variable's column in the other row.
-fn fill_shared(columns: &mut [Option<usize>], head: &[Sym], other: &[Sym], row: &[Sym])
-    requires { length row.now ≤ length columns.old }
+/// For each column of the row its variable's column in the other row, whose number is i.
+pub fn fill_shared(
+    columns: &mut [Option<usize>],
+    rows_of: &[u64],
+    i: usize,
+    head: &[Sym],
+    other: &[Sym],
+    row: &[Sym],
+)
+    requires room { length row.now ≤ length columns.old }
+    requires small { i < 64 }
+    requires below { AreBelow (length rows_of.now) row.now }
+    requires noted { (k : ℕ) → Contains other.now (Var k) → bit_at (get_or rows_of.now k 0) i ≡ 1 }
     ensures { AreShared head.now other.now row.now columns.new }
 {
     for c in 0..row.len() {
-        let at = shared_at(head, other, &row[c]);
+        let at = shared_at(rows_of, i, head, other, &row[c]);
         columns[c] = at;
     }
 }
@@ -135,7 +201,7 @@ fn agreeing_at(shared: Option<usize>, column: usize, target: &[Sym], to: &Tablea
 }
 
 /// The targets in the set that hold what the target line holds at the columns shared.
-fn agreeing(columns: &[Option<usize>], target: &[Sym], to: &Tableau, set: u64) -> u64
+pub fn agreeing(columns: &[Option<usize>], target: &[Sym], to: &Tableau, set: u64) -> u64
     requires width { length target.now ≡ to.now.width }
     requires columns { (e c : ℕ) → e < to.now.width → get_or columns.now e None ≡ Some c → c < to.now.width }
     requires room { to.now.width ≤ length columns.now }
@@ -149,7 +215,47 @@ fn agreeing(columns: &[Option<usize>], target: &[Sym], to: &Tableau, set: u64) -
     left
 }
 
-/// For each target of row i the targets of row q that agree with it.
+/// Begins the table of a pair: for each target of row i all of row q.
+fn begin_pair(agree: &mut [u64], to: &Tableau, start: usize, others: u64)
+    requires room { start + 64 ≤ length agree.old }
+    ensures before { (x : ℕ) → x < start → get_or agree.new x 0 ≡ get_or agree.old x 0 }
+    ensures begun { (p : ℕ) → p < length to.now.rows → get_or agree.new (start + p) 0 ≡ others }
+{
+    for p in 0..to.row_count() {
+        agree[start + p] = others;
+    }
+}
+
+/// Takes from the sets of the targets what does not hold at the column what the target holds at the
+/// column shared.
+fn agree_at(
+    agree: &mut [u64],
+    shared: Option<usize>,
+    column: usize,
+    to: &Tableau,
+    start: usize,
+    targets: u64,
+)
+    requires room { start + 64 ≤ length agree.old }
+    requires column { column < to.now.width }
+    requires shared { (c : ℕ) → shared ≡ Some c → c < to.now.width }
+    requires within { (p j : ℕ) → p < length to.now.rows → bit_at targets p ≡ 1 → bit_at (get_or agree.old (start + p) 0) j ≡ 1 → j < length to.now.rows }
+    ensures before { (x : ℕ) → x < start → get_or agree.new x 0 ≡ get_or agree.old x 0 }
+    ensures told { (p : ℕ) → p < length to.now.rows → bit_at targets p ≡ 1 → IsToldAt to.now shared column p (get_or agree.old (start + p) 0) (get_or agree.new (start + p) 0) }
+{
+    match shared {
+        None => return,
+        Some(_) => {}
+    }
+    for p in 0..to.row_count() {
+        if has(targets, p) {
+            let told = agreeing_at(shared, column, to.row(p), to, agree[start + p]);
+            agree[start + p] = told;
+        }
+    }
+}
+
+/// For each target of row i the targets of row q that agree with it, column by column.
 fn fill_pair(
     agree: &mut [u64],
     columns: &[Option<usize>],
@@ -165,11 +271,9 @@ fn fill_pair(
     ensures before { (x : ℕ) → x < start → get_or agree.new x 0 ≡ get_or agree.old x 0 }
     ensures filled { (p : ℕ) → p < length to.now.rows → bit_at targets p ≡ 1 → AreTold to.now columns.now p others (get_or agree.new (start + p) 0) }
 {
-    for p in 0..to.row_count() {
-        if has(targets, p) {
-            let told = agreeing(columns, to.row(p), to, others);
-            agree[start + p] = told;
-        }
+    begin_pair(agree, to, start, others);
+    for e in 0..to.width() as usize {
+        agree_at(agree, columns[e], e, to, start, targets);
     }
 }
 
@@ -177,6 +281,7 @@ fn fill_pair(
 fn fill_row(
     agree: &mut [u64],
     columns: &mut [Option<usize>],
+    rows_of: &[u64],
     from: &Tableau,
     mask: u64,
     to: &Tableau,
@@ -187,6 +292,9 @@ fn fill_row(
     requires room { (i + 1) * 4096 ≤ length agree.old }
     requires columns { from.now.width ≤ length columns.old }
     requires row { i < length from.now.rows }
+    requires in_mask { bit_at mask i ≡ 1 }
+    requires symbols { AreVarsBelow (length rows_of.now) from.now }
+    requires noted { AreNoted from.now mask rows_of.now }
     requires small { length to.now.rows ≤ 64 }
     requires base { length from.now.rows ≤ length base.now }
     requires width { from.now.width ≡ to.now.width }
@@ -196,7 +304,7 @@ fn fill_row(
 {
     for q in 0..from.row_count() {
         if q != i && has(mask, q) && has(near, q) {
-            fill_shared(columns, from.head(), from.row(i), from.row(q));
+            fill_shared(columns, rows_of, i, from.head(), from.row(i), from.row(q));
             fill_pair(agree, columns, to, i * 4096 + q * 64, base[i], base[q]);
         }
     }
@@ -206,6 +314,7 @@ fn fill_row(
 pub fn fill_agree(
     agree: &mut [u64],
     columns: &mut [Option<usize>],
+    rows_of: &[u64],
     from: &Tableau,
     mask: u64,
     to: &Tableau,
@@ -214,6 +323,8 @@ pub fn fill_agree(
 )
     requires room { length from.now.rows * 4096 ≤ length agree.old }
     requires columns { from.now.width ≤ length columns.old }
+    requires symbols { AreVarsBelow (length rows_of.now) from.now }
+    requires noted { AreNoted from.now mask rows_of.now }
     requires small { length to.now.rows ≤ 64 }
     requires base { length from.now.rows ≤ length base.now }
     requires near { length from.now.rows ≤ length near.now }
@@ -223,7 +334,7 @@ pub fn fill_agree(
 {
     for i in 0..from.row_count() {
         if has(mask, i) {
-            fill_row(agree, columns, from, mask, to, base, near[i], i);
+            fill_row(agree, columns, rows_of, from, mask, to, base, near[i], i);
         }
     }
 }

@@ -2,6 +2,7 @@
 use Rattle.std.proofs.Common.{◌≡◌, ◌≢◌, ◌⊎◌, ℕ, zero, suc, ◌<◌, ◌≤◌, List, [], ◌∷◌, map, length, Contains, refl, sym, subst, inl, inr, ⊎_elim, arith}
 use Rattle.std.proofs.lemmas.Bool.{cases_eq, cases_lt}
 use Rattle.std.proofs.lemmas.List.Elements.{All-contains}
+use Rattle.su_base.proofs.Items.{Contains-nil, Contains-later, Contains-cases, Contains-map_source}
 use Rattle.su_min.specs.Kept.{Minimised}
 use Rattle.su_min.specs.Cover.{Covers}
 use Rattle.su_min.specs.declared.reduced.Cover.{Cover}
@@ -10,36 +11,16 @@ use Rattle.su_min.specs.Reduction.{term_at, IsKeptTerm, IsCover, IsReduced}
 use Rattle.su_min.specs.Laws.{HasCover}
 use Rattle.su_min.proofs.Covering.{covers_itself, covers_through}
 
--- ---- lists
-
-none_in : {X : Type 0} (y : X) → Contains [] y → ⊥
-none_in y c = let l = c.1 in omega arith
-
-later_in : {X : Type 0} (x : X) (xs : List X) (y : X) → Contains xs y → Contains (x ∷ xs) y
-later_in x xs y c = (suc c.0, (let l = c.1 in omega arith), c.2)
-
-cases_in : {X : Type 0} (x : X) (xs : List X) (y : X) → Contains (x ∷ xs) y → (x ≡ y) ⊎ Contains xs y
-cases_in x xs y (zero, l, e) = inl e
-cases_in x xs y (suc k, l, e) = inr (k, omega arith, e)
-
-from_map : {X Y : Type 0} (f : X → Y) (xs : List X) (y : Y) → Contains (map f xs) y → (x : X) × Contains xs x × (f x ≡ y)
-from_map f [] y c = absurd (none_in y c)
-from_map f (x ∷ xs) y c =
-    ⊎_elim
-    (λ (e : f x ≡ y). (x, (0, omega arith, refl), e))
-    (λ (r : Contains (map f xs) y). let w = from_map f xs y r in (w.0, later_in x xs w.0 w.1, w.2))
-    (cases_in (f x) (map f xs) y c)
-
 -- whether a number is in a list
 number_in : (xs : List ℕ) (i : ℕ) → Contains xs i ⊎ (Contains xs i → ⊥)
-number_in [] i = inr (λ c. none_in i c)
+number_in [] i = inr (λ c. Contains-nil i c)
 number_in (x ∷ xs) i =
     ⊎_elim
     (λ (e : x ≡ i). inl (0, omega arith, e))
     (λ (ne : x ≢ i).
     ⊎_elim
-    (λ (c : Contains xs i). inl (later_in x xs i c))
-    (λ (out : Contains xs i → ⊥). inr (λ c. ⊎_elim (λ (e : x ≡ i). ne e) (λ (r : Contains xs i). out r) (cases_in x xs i c)))
+    (λ (c : Contains xs i). inl (Contains-later x xs i c))
+    (λ (out : Contains xs i → ⊥). inr (λ c. ⊎_elim (λ (e : x ≡ i). ne e) (λ (r : Contains xs i). out r) (Contains-cases x xs i c)))
     (number_in xs i))
     (cases_eq x i)
 
@@ -75,7 +56,7 @@ module _ (terms : List Minimised) where
     kept_or_covered i low =
         ⊎_elim
         (λ (c : Contains (map (λ (d : Cover). d.dropped) r.covers) i).
-        let w = from_map (λ (d : Cover). d.dropped) r.covers i c in
+        let w = Contains-map_source (λ (d : Cover). d.dropped) r.covers i c in
         let cover = All-contains (IsCover terms) r.covers w.0 is.covers w.1 in
         inr (record {
           by = w.0.by;

@@ -20,7 +20,7 @@ use Rattle.su_min.specs.Needed.{tableau_at, IsInClass, HasAnswersOf, HasMember, 
 use Rattle.su_min.proofs.Parts.{part_maps, into_maps}
 use Rattle.su_min.proofs.Covering.{alike_back, alike_through}
 use Rattle.su_min.proofs.KeptTerms.{kept_back}
-use Rattle.su_min.proofs.Holes.{pigeonhole}
+use Rattle.su_base.proofs.Numbers.{pigeonhole}
 
 -- ---- a bound on all constants
 

@@ -8,7 +8,7 @@ use std::alloc::{AllocError, Global};
 use std::marker::{Brand, Model};
 use std::sync::ledger::{Blank, Ledger};
 use su_base::{List, NoMemory, Steps};
-use su_map::{Room, first};
+use su_map::{Room, first_prepared};
 use su_tableau::{Tableau, full};
 
 /// A tableau with its kept rows and its fold, the first mapping of all rows into the kept ones.
@@ -88,7 +88,7 @@ fn kept_and_fold<L: Ledger>(
     let mut room = Room::new(alloc, t.row_count(), t.symbols())?;
     let mut steps = Steps::<L>::new(blank);
     let mask = kept_mask(t, &mut room, &mut steps);
-    first(&mut room, t, full(t.row_count()), t, mask, &mut steps);
+    first_prepared(&mut room, t, full(t.row_count()), t, mask, &mut steps);
     Ok((mask, found_list(alloc, &room)?))
 }
 

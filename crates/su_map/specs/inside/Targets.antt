@@ -28,6 +28,14 @@ pub record CellFits (head head' row target : List Sym) (c : ℕ) : Type 0 where
   pub head_symbol : (i k : ℕ) (d : Sym) → IsFirstAt head i k → Cell row c (Var k) → get_or head' i d ≡ get_or target c d
   pub alike : (b k : ℕ) (d : Sym) → IsFirstAt row b k → Cell row c (Var k) → (Contains head (Var k) → ⊥) → get_or target b d ≡ get_or target c d
 
+-- no variable stands at two columns of the row
+abbrev pub IsPlain : List Sym → Type 0
+IsPlain row = (c e k : ℕ) → Cell row c (Var k) → Cell row e (Var k) → c ≡ e
+
+-- each row of m is noted at each of its variables
+abbrev pub AreNoted : Tab → ℕ → List ℕ → Type 0
+AreNoted s m rows_of = (i : ℕ) → i < length s.rows → bit_at m i ≡ 1 → (k : ℕ) → Contains (row_of s i) (Var k) → bit_at (get_or rows_of k 0) i ≡ 1
+
 -- for each column of ys its variable's column in xs; none for a constant, a head variable and one that isn't in xs
 pub record AreShared (head xs ys : List Sym) (columns : List (Option ℕ)) : Type 0 where
   pub some : (e c k : ℕ) → e < length ys → get_or columns e None ≡ Some c → Cell ys e (Var k) → Cell xs c (Var k)
@@ -38,6 +46,11 @@ pub record AreShared (head xs ys : List Sym) (columns : List (Option ℕ)) : Typ
 abbrev pub AreTold : Tab → List (Option ℕ) → ℕ → ℕ → ℕ → Type 0
 AreTold t columns p others set =
     (j : ℕ) → (bit_at set j ≡ 1) ↔ ((bit_at others j ≡ 1) × ((e c : ℕ) (d : Sym) → e < t.width → get_or columns e None ≡ Some c → get_or (row_of t p) c d ≡ get_or (row_of t j) e d))
+
+-- new has those of old that hold at the column what target p holds at the column shared
+abbrev pub IsToldAt : Tab → Option ℕ → ℕ → ℕ → ℕ → ℕ → Type 0
+IsToldAt t shared column p old new =
+    (j : ℕ) → (bit_at new j ≡ 1) ↔ ((bit_at old j ≡ 1) × ((c : ℕ) (d : Sym) → shared ≡ Some c → get_or (row_of t p) c d ≡ get_or (row_of t j) column d))
 
 -- the table tells for each target of row i which targets of row q agree, by some columns shared
 pub record IsTold (s t : Tab) (base : List ℕ) (i q : ℕ) (agree : List ℕ) : Type 0 where

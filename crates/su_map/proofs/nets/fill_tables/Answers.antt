@@ -1,5 +1,7 @@
 use Rattle.std.proofs.Common.{◌∙◌, [], refl, sym, true≢false, arith}
 use Rattle.su_map.proofs.Joining.{heads_are, mapping_head, mapping_target}
+use Rattle.su_map.proofs.Ranks.{choice_by}
+use Rattle.su_map.proofs.Sending.{base_rows, mapping_sends}
 use Rattle.su_map.proofs.Telling.{told_agrees}
 use Rattle.su_map.proofs.nets.fill_tables.Goals as goal
 
@@ -15,6 +17,17 @@ pub returns-then-not-fill_base-clause-none : goal.returns-then-not-fill_base-cla
 returns-then-not-fill_base-clause-none c = λ no' list f.
     let n = c.fill_base.ensures.none c.if-not-fill_base.true in
     mapping_target c.args.from.now c.args.to.now c.args.from_mask c.args.to_mask list f n.0 n.1 n.2 n.3
+
+pub narrow-requires-clause-rows : goal.narrow-requires-clause-rows
+narrow-requires-clause-rows c =
+    let e = c.row_count.ensures.is in
+    base_rows c.args.from.now c.args.from_mask c.args.to.now c.args.to_mask c.fill_base.new.base c.copy_targets.new.domains (c.fill_base.ensures.base c.if-not-fill_base.false) (λ i h. c.copy_targets.ensures i (omega arith))
+
+pub returns-then-not-narrow-clause-none : goal.returns-then-not-narrow-clause-none
+returns-then-not-narrow-clause-none c = λ no' list f.
+    let e = c.row_count.ensures.is in
+    c.narrow.ensures c.if-not-narrow.true (choice_by c.args.from_mask list)
+    (mapping_sends c.args.from.now c.args.from_mask c.args.to.now c.args.to_mask c.fill_base.new.base c.copy_targets.new.domains list (c.fill_base.ensures.base c.if-not-fill_base.false) (λ i h. c.copy_targets.ensures i (omega arith)) f)
 
 pub returns-clause-net : goal.returns-clause-net
 returns-clause-net c = λ yes.

@@ -1,26 +1,24 @@
-use Rattle.std.proofs.Common.{◌≡◌, ◌+◌, ◌∙◌, ℕ, get_or, sym, ap, subst, true≢false, arith, get_or-set_other, get_or-set_same}
-use Rattle.std.specs.Int.{bit_at}
-use Rattle.su_map.specs.inside.Targets.{AreTold}
-use Rattle.su_map.proofs.Members.{below_more}
-use Rattle.su_map.proofs.Telling.{told_row}
+use Rattle.std.proofs.Common.{◌+◌, ◌∙◌, get_or, sym, subst, arith}
+use Rattle.su_map.proofs.Telling.{AreToldTo, told_none, told_next, told_all}
 use Rattle.su_map.proofs.tables.fill_pair.Goals as goal
-use Rattle.su_map.proofs.tables.fill_pair.Goals.{then-has, else-has}
 
-pub loop-p-preserved : goal.loop-p-preserved
-loop-p-preserved c =
-    let to = c.args.to.now in let columns = c.args.columns.now in let others = c.args.others in let start = c.args.start in let n = c.loop-p.p in
-    let P = λ (p : ℕ). bit_at c.args.targets p ≡ 1 → AreTold to columns p others (get_or c.if-has.agree (start + p) 0) in
-    elim c.if-has.branch [
-      | then-has w ↦ record {
-        before = λ x l. ap (λ a. get_or a x 0) w.agree-is ∙ get_or-set_other c.loop-p.agree (start + n) x w.agreeing-told.result 0 (omega arith) ∙ c.loop-p.invariant.before x l;
-        filled = below_more P n
-            (λ p l one. subst (AreTold to columns p others) (sym (ap (λ a. get_or a (start + p) 0) w.agree-is ∙ get_or-set_other c.loop-p.agree (start + n) (start + p) w.agreeing-told.result 0 (omega arith))) (c.loop-p.invariant.filled p l one))
-            (λ one. subst (AreTold to columns n others) (sym (ap (λ a. get_or a (start + n) 0) w.agree-is ∙ get_or-set_same c.loop-p.agree (start + n) w.agreeing-told.result 0 (omega arith))) (told_row to columns n others w.agreeing-told.result w.row.result.now w.row.ensures.is w.agreeing-told.ensures));
-      }
-      | else-has w ↦ record {
-        before = λ x l. ap (λ a. get_or a x 0) w.agree-is ∙ c.loop-p.invariant.before x l;
-        filled = below_more P n
-            (λ p l one. subst (AreTold to columns p others) (sym (ap (λ a. get_or a (start + p) 0) w.agree-is)) (c.loop-p.invariant.filled p l one))
-            (λ one. absurd (true≢false (sym (c.has.ensures.1 one) ∙ w.if-has.false)));
-      }
-    ]
+pub loop-e-init : goal.loop-e-init
+loop-e-init c = record {
+  before = c.begin_pair.ensures.before;
+  filled = λ p l one. subst (AreToldTo c.args.to.now c.args.columns.now p c.args.others 0) (sym (c.begin_pair.ensures.begun p l)) (told_none c.args.to.now c.args.columns.now p c.args.others);
+}
+
+pub agree_at-requires-clause-shared : goal.agree_at-requires-clause-shared
+agree_at-requires-clause-shared c = λ a is. c.requires.columns c.loop-e.e a (omega arith) is
+
+pub agree_at-requires-clause-within : goal.agree_at-requires-clause-within
+agree_at-requires-clause-within c = λ p j l one h. c.requires.within j ((c.loop-e.invariant.filled p l one j).0 h).0
+
+pub loop-e-preserved : goal.loop-e-preserved
+loop-e-preserved c = record {
+  before = λ x l. c.agree_at.ensures.before x l ∙ c.loop-e.invariant.before x l;
+  filled = λ p l one. told_next c.args.to.now c.args.columns.now p c.args.others c.loop-e.e (get_or c.loop-e.agree (c.args.start + p) 0) (get_or c.agree_at.new.agree (c.args.start + p) 0) (c.loop-e.invariant.filled p l one) (c.agree_at.ensures.told p l one);
+}
+
+pub returns-clause-filled : goal.returns-clause-filled
+returns-clause-filled c = λ p l one. told_all c.args.to.now c.args.columns.now p c.args.others c.loop-e.e (get_or c.loop-e.agree (c.args.start + p) 0) (omega arith) (omega arith) (c.loop-e.invariant.filled p l one)

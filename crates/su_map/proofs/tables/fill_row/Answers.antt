@@ -1,11 +1,18 @@
-use Rattle.std.proofs.Common.{◌≡◌, ◌≢◌, ◌+◌, ◌*◌, ◌∙◌, ℕ, get_or, sym, ap, subst, true≢false, arith}
+use Rattle.std.proofs.Common.{◌≡◌, ◌≢◌, ◌+◌, ◌*◌, ◌∙◌, ℕ, [], get_or, Contains, sym, ap, subst, true≢false, arith}
 use Rattle.std.specs.Int.{bit_at}
+use Rattle.su_tableau.specs.declared.symbols.Sym.TheVariants.{Var}
 use Rattle.su_map.specs.Lists.{row_of}
 use Rattle.su_map.specs.inside.Targets.{IsTold}
 use Rattle.su_map.proofs.Members.{below_more}
 use Rattle.su_map.proofs.Telling.{told_kept, shared_is}
 use Rattle.su_map.proofs.tables.fill_row.Goals as goal
 use Rattle.su_map.proofs.tables.fill_row.Goals.{then-q-i+then-has+then-has-2, else-q-i, else-q-i-via-then-q-i+then-has+else-has-2, else-q-i-via-then-q-i+else-has, else-q-i-via-else-q-i}
+
+pub fill_shared-requires-clause-below : goal.fill_shared-requires-clause-below
+fill_shared-requires-clause-below c = λ k has. c.requires.symbols.rows c.loop-q.q [] (omega arith) k (subst (λ r. Contains r (Var k)) c.row-then-has-2.ensures.is has)
+
+pub fill_shared-requires-clause-noted : goal.fill_shared-requires-clause-noted
+fill_shared-requires-clause-noted c = λ k has. c.requires.noted c.args.i c.requires.row c.requires.in_mask k (subst (λ r. Contains r (Var k)) c.row.ensures.is has)
 
 pub fill_pair-requires-clause-columns : goal.fill_pair-requires-clause-columns
 fill_pair-requires-clause-columns c = λ e a low is.

@@ -1,10 +1,14 @@
 use Rattle.std.proofs.Common.{◌≡◌, ◌∙◌, ℕ, subst, Option, Some, None, Contains, arith}
 use Rattle.std.specs.Option.{IfSome}
 use Rattle.su_tableau.specs.declared.symbols.Sym.TheVariants.{Var}
+use Rattle.su_tableau.proofs.Rows.{contains_read}
 use Rattle.su_map.specs.Candidates.{Cell}
 use Rattle.su_map.proofs.Cells.{cell_read, same_var}
 use Rattle.su_map.proofs.Members.{set_entries_of}
 use Rattle.su_map.proofs.tables.fill_shared.Goals as goal
+
+pub shared_at-at-requires-clause-below : goal.shared_at-at-requires-clause-below
+shared_at-at-requires-clause-below c = λ k e. c.requires.below k (contains_read c.args.row.now c.loop-c.c c.index-row-c.result (Var k) c.loop-c-test.true c.index-row-c.is e)
 
 pub loop-c-preserved : goal.loop-c-preserved
 loop-c-preserved c =

@@ -5,6 +5,9 @@ use Rattle.su_map.proofs.Members.{below_more, set_entries}
 use Rattle.su_map.proofs.targets.fill_base.Goals as goal
 use Rattle.su_map.proofs.targets.fill_base.Goals.{then-has+else-targets-eq0, else-has}
 
+pub targets_of-targets-requires-clause-plain : goal.targets_of-targets-requires-clause-plain
+targets_of-targets-requires-clause-plain c = λ no. c.requires.plain c.loop-row.row (omega arith) (c.has.ensures.0 c.if-has.true) (λ one. true≢false (sym (c.has-repeats.ensures.1 one) ∙ no))
+
 pub loop-row-preserved : goal.loop-row-preserved
 loop-row-preserved c = λ i low.
     let n = c.loop-row.row in

@@ -1,10 +1,13 @@
 use Rattle.std.proofs.Common.{ℕ, List, length, sym, ap, ◌∙◌, ◌^◌, subst, arith}
 use Rattle.su_tableau.specs.declared.symbols.Sym.{Sym}
 use Rattle.su_map.specs.Lists.{row_of}
-use Rattle.su_map.specs.inside.Targets.{CellFits}
+use Rattle.su_map.specs.inside.Targets.{CellFits, IsPlain}
 use Rattle.su_map.proofs.Members.{full_member, below_more}
 use Rattle.su_map.proofs.Cells.{Fits, cells_fit, fits_cells}
 use Rattle.su_map.proofs.targets.targets_of.Goals as goal
+
+pub fitting-left-requires-clause-plain : goal.fitting-left-requires-clause-plain
+fitting-left-requires-clause-plain c = λ no. subst IsPlain (sym c.row-cells.ensures.is) (c.requires.plain no)
 
 pub loop-column-init : goal.loop-column-init
 loop-column-init c = λ j.

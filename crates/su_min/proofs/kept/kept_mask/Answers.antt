@@ -2,7 +2,7 @@ use Rattle.std.proofs.Common.{◌≡◌, ◌-◌, ◌^◌, ◌∙◌, suc, refl,
 use Rattle.su_map.specs.Nets.{IsNet}
 use Rattle.su_min.proofs.Parts.{maps_sub}
 use Rattle.su_min.proofs.Greedy.{IsGreedy, greedy_start, greedy_drop, greedy_keep, greedy_end}
-use Rattle.su_min.proofs.Keeping.{Fits, fits_all, has_net, net_for, fits_fewer, none_fewer, kept_from}
+use Rattle.su_min.proofs.Keeping.{Fits, fits_all, has_net, net_for, full_is, fits_fewer, none_fewer, kept_from}
 use Rattle.su_min.proofs.kept.kept_mask.Goals as goal
 
 pub loop-i-init : goal.loop-i-init
@@ -63,3 +63,9 @@ pub returns-clause-kept : goal.returns-clause-kept
 returns-clause-kept g c =
     let t = c.args.t.now in
     kept_from t c.loop-i.kept c.loop-i.invariant.greedy.holds (greedy_end (Fits t) (maps_sub t) c.loop-i.i c.loop-i.kept c.loop-i-test.false c.loop-i.invariant.greedy)
+
+pub returns-clause-prepared : goal.returns-clause-prepared
+returns-clause-prepared g c =
+    let t = c.args.t.now in
+    let e = c.full-all.ensures ∙ ap (λ n. 2 ^ n) c.row_count.ensures.is in
+    subst (λ a. IsNet t a t a c.loop-i.room.net) (full_is t c.full-all.result e) c.loop-i.invariant.prepared

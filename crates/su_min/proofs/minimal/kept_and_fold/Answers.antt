@@ -1,7 +1,19 @@
-use Rattle.std.proofs.Common.{◌^◌, ◌∙◌, sym, ap, subst}
+use Rattle.std.proofs.Common.{◌^◌, ◌∙◌, sym, ap, subst, arith}
+use Rattle.su_map.specs.Nets.{IsNet}
 use Rattle.su_min.specs.Kept.{IsFold}
-use Rattle.su_min.proofs.Keeping.{fold_from}
+use Rattle.su_min.proofs.Keeping.{fold_from, full_is, kept_within, net_for}
 use Rattle.su_min.proofs.minimal.kept_and_fold.Goals as goal
+
+pub first_prepared-requires-clause-prepared : goal.first_prepared-requires-clause-prepared
+first_prepared-requires-clause-prepared g c =
+    let t = c.args.t.now in
+    let all = c.full.result in
+    let e = c.full.ensures ∙ ap (λ n. 2 ^ n) c.row_count-2.ensures.is in
+    let mask = c.kept_mask-mask.result in
+    let net = c.kept_mask-mask.new.room.net in
+    let is = subst (λ a. IsNet t a t a net) (sym (full_is t all e)) c.kept_mask-mask.ensures.prepared in
+    let w = kept_within t mask c.kept_mask-mask.ensures.kept in
+    net_for t all all mask net e is (omega arith) (omega arith)
 
 pub returns : goal.returns
 returns g c =
@@ -9,5 +21,5 @@ returns g c =
     let kept = c.kept_mask-mask.ensures.kept in
     let all = c.full.result in
     let e = c.full.ensures ∙ ap (λ n. 2 ^ n) c.row_count-2.ensures.is in
-    let fold = fold_from t all c.kept_mask-mask.result c.first.new.room.list c.first.result e kept c.first.ensures.found c.first.ensures.none.0 in
+    let fold = fold_from t all c.kept_mask-mask.result c.first_prepared.new.room.list c.first_prepared.result e kept c.first_prepared.ensures.found c.first_prepared.ensures.none.0 in
     record { kept = kept; fold = subst (IsFold t c.kept_mask-mask.result) (sym c.in_ok-found_list.ensures) fold }

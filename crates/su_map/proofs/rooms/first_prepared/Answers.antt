@@ -1,0 +1,5 @@
+use Rattle.su_map.proofs.Answering.{none_iff}
+use Rattle.su_map.proofs.rooms.first_prepared.Goals as goal
+
+pub returns-clause-none : goal.returns-clause-none
+returns-clause-none g c = none_iff c.args.from.now c.args.to.now c.args.from_mask c.args.to_mask c.search_in.result c.search_in.new.room.list c.search_in.ensures.found c.search_in.ensures.none

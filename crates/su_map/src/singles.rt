@@ -1,0 +1,232 @@
+//! Rows with one target left, and what such a row leaves the rows that share a variable with it.
+ghost use Rattle.std.specs.Prelude.{◌≡◌, ◌≤◌, ◌<◌, ℕ, IsTrue, IsFalse, IfSome, None, length, get_or};
+ghost use Rattle.std.specs.Int.{bit_at};
+ghost use Rattle.su_tableau.specs.Tableaux.{AreVarsBelow};
+ghost use Rattle.su_map.specs.inside.Targets.{AreNoted};
+ghost use Rattle.su_map.specs.inside.Sendings.{AreRows, IsSending};
+
+use crate::bits::{lowest, without};
+use crate::tables::{agreeing, fill_shared};
+use su_tableau::{Tableau, has};
+
+/// The target in the domain, where it has just one.
+fn one_target(domain: u64) -> Option<usize>
+    ensures member { IfSome result (λ p. bit_at domain p ≡ 1) }
+    ensures only { IfSome result (λ p. (x : ℕ) → bit_at domain x ≡ 1 → x ≡ p) }
+{
+    if domain == 0 {
+        return None;
+    }
+    let target = lowest(domain);
+    let others = without(domain, target);
+    if others == 0 {
+        return Some(target);
+    }
+    None
+}
+
+/// Whether row q is another masked row near the row.
+fn is_other(mask: u64, near: u64, row: usize, q: usize) -> bool
+    requires small { q < 64 }
+    ensures { IsTrue result → bit_at mask q ≡ 1 }
+{
+    if !has(mask, q) {
+        return false;
+    }
+    q != row && has(near, q)
+}
+
+/// Takes from the domain of row q, where it is near, what does not agree with the row's target;
+/// false where nothing is left.
+fn leave(
+    domains: &mut [u64],
+    columns: &mut [Option<usize>],
+    rows_of: &[u64],
+    from: &Tableau,
+    mask: u64,
+    to: &Tableau,
+    near: u64,
+    row: usize,
+    target: usize,
+    q: usize,
+) -> bool
+    requires room { length from.now.rows ≤ length domains.old }
+    requires columns { from.now.width ≤ length columns.old }
+    requires symbols { AreVarsBelow (length rows_of.now) from.now }
+    requires noted { AreNoted from.now mask rows_of.now }
+    requires width { from.now.width ≡ to.now.width }
+    requires row { row < length from.now.rows }
+    requires row_in { bit_at mask row ≡ 1 }
+    requires target { target < length to.now.rows }
+    requires other { q < length from.now.rows }
+    requires rows { AreRows from.now mask to.now domains.old }
+    ensures rows { AreRows from.now mask to.now domains.new }
+    ensures all { (a : ℕ → ℕ) → IsSending from.now mask to.now domains.old a → a row ≡ target → IsSending from.now mask to.now domains.new a }
+    ensures none { IsFalse result → (a : ℕ → ℕ) → IsSending from.now mask to.now domains.old a → a row ≡ target → ⊥ }
+{
+    from.keeps_its_rules();
+    if !is_other(mask, near, row, q) {
+        return true;
+    }
+    fill_shared(
+        columns,
+        rows_of,
+        row,
+        from.head(),
+        from.row(row),
+        from.row(q),
+    );
+    let left = agreeing(columns, to.row(target), to, domains[q]);
+    if left == 0 {
+        return false;
+    }
+    domains[q] = left;
+    true
+}
+
+/// Takes from the domains of the rows near what does not agree with the row's target; false where
+/// nothing is left of one.
+fn leave_near(
+    domains: &mut [u64],
+    columns: &mut [Option<usize>],
+    rows_of: &[u64],
+    from: &Tableau,
+    mask: u64,
+    to: &Tableau,
+    near: u64,
+    row: usize,
+    target: usize,
+) -> bool
+    requires room { length from.now.rows ≤ length domains.old }
+    requires columns { from.now.width ≤ length columns.old }
+    requires symbols { AreVarsBelow (length rows_of.now) from.now }
+    requires noted { AreNoted from.now mask rows_of.now }
+    requires width { from.now.width ≡ to.now.width }
+    requires row { row < length from.now.rows }
+    requires row_in { bit_at mask row ≡ 1 }
+    requires target { target < length to.now.rows }
+    requires rows { AreRows from.now mask to.now domains.old }
+    ensures rows { AreRows from.now mask to.now domains.new }
+    ensures all { (a : ℕ → ℕ) → IsSending from.now mask to.now domains.old a → a row ≡ target → IsSending from.now mask to.now domains.new a }
+    ensures none { IsFalse result → (a : ℕ → ℕ) → IsSending from.now mask to.now domains.old a → a row ≡ target → ⊥ }
+{
+    for q in 0..from.row_count() {
+        if !leave(
+            domains, columns, rows_of, from, mask, to, near, row, target, q,
+        ) {
+            return false;
+        }
+    }
+    true
+}
+
+/// The same by a row that waits and has one target: the rows that wait then, or none where nothing
+/// is left of one.
+fn leave_by(
+    domains: &mut [u64],
+    columns: &mut [Option<usize>],
+    rows_of: &[u64],
+    from: &Tableau,
+    mask: u64,
+    to: &Tableau,
+    near: u64,
+    waiting: u64,
+    row: usize,
+) -> Option<u64>
+    requires room { length from.now.rows ≤ length domains.old }
+    requires columns { from.now.width ≤ length columns.old }
+    requires symbols { AreVarsBelow (length rows_of.now) from.now }
+    requires noted { AreNoted from.now mask rows_of.now }
+    requires width { from.now.width ≡ to.now.width }
+    requires row { row < length from.now.rows }
+    requires rows { AreRows from.now mask to.now domains.old }
+    ensures rows { AreRows from.now mask to.now domains.new }
+    ensures all { (a : ℕ → ℕ) → IsSending from.now mask to.now domains.old a → IsSending from.now mask to.now domains.new a }
+    ensures none { result ≡ None → (a : ℕ → ℕ) → IsSending from.now mask to.now domains.old a → ⊥ }
+{
+    from.keeps_its_rules();
+    if !has(mask, row) {
+        return Some(waiting);
+    }
+    if !has(waiting, row) {
+        return Some(waiting);
+    }
+    match one_target(domains[row]) {
+        None => Some(waiting),
+        Some(target) => {
+            if !leave_near(domains, columns, rows_of, from, mask, to, near, row, target) {
+                return None;
+            }
+            Some(without(waiting, row))
+        }
+    }
+}
+
+/// The same by each row that waits, in order.
+fn leave_all(
+    domains: &mut [u64],
+    columns: &mut [Option<usize>],
+    rows_of: &[u64],
+    from: &Tableau,
+    mask: u64,
+    to: &Tableau,
+    near: &[u64],
+    waiting: u64,
+) -> Option<u64>
+    requires room { length from.now.rows ≤ length domains.old }
+    requires columns { from.now.width ≤ length columns.old }
+    requires symbols { AreVarsBelow (length rows_of.now) from.now }
+    requires noted { AreNoted from.now mask rows_of.now }
+    requires width { from.now.width ≡ to.now.width }
+    requires near { length from.now.rows ≤ length near.now }
+    requires rows { AreRows from.now mask to.now domains.old }
+    ensures rows { AreRows from.now mask to.now domains.new }
+    ensures all { (a : ℕ → ℕ) → IsSending from.now mask to.now domains.old a → IsSending from.now mask to.now domains.new a }
+    ensures none { result ≡ None → (a : ℕ → ℕ) → IsSending from.now mask to.now domains.old a → ⊥ }
+{
+    let mut waits = waiting;
+    for row in 0..from.row_count() {
+        match leave_by(
+            domains, columns, rows_of, from, mask, to, near[row], waits, row,
+        ) {
+            Some(left) => waits = left,
+            None => return None,
+        }
+    }
+    Some(waits)
+}
+
+/// Takes from the domains what does not agree with the one target of another row, each row in its
+/// turn; false where nothing is left of one. How far it goes is a matter of speed alone.
+pub fn narrow(
+    domains: &mut [u64],
+    columns: &mut [Option<usize>],
+    rows_of: &[u64],
+    from: &Tableau,
+    mask: u64,
+    to: &Tableau,
+    near: &[u64],
+) -> bool
+    requires room { length from.now.rows ≤ length domains.old }
+    requires columns { from.now.width ≤ length columns.old }
+    requires symbols { AreVarsBelow (length rows_of.now) from.now }
+    requires noted { AreNoted from.now mask rows_of.now }
+    requires width { from.now.width ≡ to.now.width }
+    requires near { length from.now.rows ≤ length near.now }
+    requires rows { AreRows from.now mask to.now domains.old }
+    ensures { IsFalse result → (a : ℕ → ℕ) → IsSending from.now mask to.now domains.old a → ⊥ }
+{
+    let mut waiting = mask;
+    for _ in 0..64 {
+        match leave_all(domains, columns, rows_of, from, mask, to, near, waiting) {
+            Some(left) => {
+                if left == waiting {
+                    return true;
+                }
+                waiting = left;
+            }
+            None => return false,
+        }
+    }
+    true
+}
