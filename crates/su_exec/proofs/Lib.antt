@@ -1,4 +1,6 @@
 pub mod Chaining
+pub mod Choosing
+pub mod Triples
 pub mod Coding
 pub mod Cutting
 pub mod Hashing
@@ -21,7 +23,6 @@ pub mod Extending
 pub mod Gathering
 pub mod Shaping
 pub mod Siding
-pub mod Sorting
 pub mod Accessing
 pub mod Sourcing
 pub mod Leaving
@@ -29,3 +30,5 @@ pub mod Showing
 pub mod Uniting
 pub mod Wanting
 pub mod Firsts
+pub mod Filtering
+pub mod Absorbing

@@ -42,7 +42,7 @@ use Rattle.su_exec.specs.Tasks.{IsTask, Occurs}
 use Rattle.su_exec.proofs.Bridging.{code_back, fits_all_codes, fits_all_values, place_in, placed}
 use Rattle.su_exec.proofs.Extending.{edges_up, meanings_same, contains_map}
 use Rattle.su_exec.proofs.Keeping.{agree_at, agree_from}
-use Rattle.su_exec.proofs.Sorting.{rows_total}
+use Rattle.su_base.proofs.Rows.{rows_total}
 use Rattle.su_exec.proofs.Stepping.{code_same, has_first, has_second, has_either}
 
 -- ---- what spots show

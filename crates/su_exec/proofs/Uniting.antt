@@ -70,7 +70,7 @@ all_of_one needed olds a there k h = let e = alone a k (there k (has_second need
 
 -- ---- two edges
 
-among_removed : (es : List (Edge ℕ)) (i : ℕ) (a : Edge ℕ) (k : ℕ) → i < length es → a ≡ get_or es i a → among es k ≡ true → (has a.vars k ≡ true) ⊎ (among (remove es i) k ≡ true)
+pub among_removed : (es : List (Edge ℕ)) (i : ℕ) (a : Edge ℕ) (k : ℕ) → i < length es → a ≡ get_or es i a → among es k ≡ true → (has a.vars k ≡ true) ⊎ (among (remove es i) k ≡ true)
 among_removed es i a k l e h =
     let T : Edge ℕ → Bool = λ e. has e.vars k in
     let x = Any-from_list_any T es h in

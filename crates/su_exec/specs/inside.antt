@@ -8,6 +8,8 @@ pub mod Joins
 pub mod Labels
 pub mod Plans
 pub mod Ranges
+pub mod Semijoins
 pub mod Sheets
 pub mod Shown
+pub mod Threes
 pub mod Ways

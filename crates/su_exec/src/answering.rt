@@ -13,7 +13,7 @@ use crate::checks::{Spot, Term, code_at, spot_of};
 use crate::codes::Codes;
 use crate::tasks::ExecFault;
 use std::alloc::{AllocError, Global};
-use su_base::{List, NoMemory, Row};
+use su_base::{List, NoMemory, Row, sorted_rows};
 
 /// Where the candidates have the term.
 fn spot_in(term: Term, vars: &[u32]) -> Spot
@@ -74,17 +74,6 @@ fn rows_at(
     Ok(rows)
 }
 
-/// The rows, ascending, each once.
-fn sorted(rows: Vec<Row>) -> Vec<Row>
-    ensures members { (h : List AValue) → Contains result.items h ↔ Contains rows.items h }
-    ensures ascending { IsStrictlySortedBy compare_lists result.items }
-{
-    let mut rows = rows;
-    rows.sort_unstable();
-    rows.dedup();
-    rows
-}
-
 /// The values that the candidates give the terms, ascending, each once, if there are at most `cap`.
 pub fn answers(
     alloc: Global,
@@ -102,9 +91,9 @@ pub fn answers(
     last.rows();
     let spots = spots_of(alloc, outputs, last.vars())?;
     let found = rows_at(alloc, codes, &spots, last)?;
-    let rows = sorted(found);
+    let rows = sorted_rows(List::from_vec(found));
     if rows.len() as u64 > cap {
         return Err(ExecFault::More);
     }
-    Ok(List::from_vec(rows))
+    Ok(rows)
 }

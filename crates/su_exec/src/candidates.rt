@@ -3,12 +3,14 @@ ghost use Rattle.std.specs.Prelude.{◌≡◌, ℕ, true, List, [], ◌∷◌, �
 ghost use Rattle.su_exec.specs.inside.Checks.{IsTestIn, all_pass};
 ghost use Rattle.su_exec.specs.inside.Edges.{has, among};
 ghost use Rattle.su_exec.specs.inside.Joins.{pick, AreBelow, FitColumns, IsApart, IsJoinOf, IsReal, out_vars};
+ghost use Rattle.su_exec.specs.inside.Semijoins.{IsSemijoin};
 ghost use Rattle.su_exec.specs.inside.Plans.{FitsPlan, columns_of, passes_of};
 
 use crate::checks::Test;
 use crate::codes::Codes;
 use crate::joins::{Plan, join};
 use crate::places::{shared_places, wanted_places};
+use crate::semijoins::with_partners;
 use crate::sheets::Sheet;
 use std::alloc::{AllocError, Global};
 use std::marker::Model;
@@ -34,7 +36,7 @@ impl Model for Candidates {
 
 impl Candidates {
     /// These rows.
-    fn new(vars: Vec<u32>, rows: Sheet) -> Candidates
+    pub fn new(vars: Vec<u32>, rows: Sheet) -> Candidates
         requires width { rows.width ≡ length vars.items }
         requires real { IsReal (record { vars = vars.items; rows = rows.rows }) }
         ensures { result ≡ record { vars = vars.items; rows = rows.rows } }
@@ -94,6 +96,18 @@ impl Candidates {
     {
         &self.rows
     }
+}
+
+/// The first without the rows that have no partner in the second.
+pub fn semijoin(alloc: Global, a: &Candidates, b: &Candidates) -> Result<Candidates, AllocError>
+    ensures { IfOk result (IsSemijoin a.now b.now) }
+{
+    let mut left = Vec::new(alloc);
+    let mut right = Vec::new(alloc);
+    shared_places(a.vars(), b.vars(), &mut left, &mut right)?;
+    let kept = with_partners(alloc, a.rows(), &left, b.rows(), &right)?;
+    let reduced = a.with_rows(alloc, kept)?;
+    Ok(reduced)
 }
 
 /// Puts the variables at these places after what is there.

@@ -52,6 +52,15 @@ impl Distinct {
         self.rows.len()
     }
 
+    /// Whether the row is there.
+    pub fn has(&self, row: &[u32]) -> bool
+        requires { length row.now ≡ self.now.width }
+        ensures { IsTrue result ↔ Contains self.now.rows row.now }
+    {
+        let h = bucket(row, &self.places, self.heads.len());
+        is_among(&self.rows, &self.places, &self.heads, &self.next, row, h)
+    }
+
     /// The rows.
     pub fn into_rows(self) -> Sheet
         ensures rows { result ≡ self }

@@ -293,7 +293,7 @@ fn next_row(task: &Task, shares: &[usize], left: &[usize], edges: &[Candidates])
     let mut least = (true, usize::MAX);
     for p in 0..left.len() {
         let i = left[p];
-        if i < shares.len() && i < task.rows.len() {
+        if i < shares.len() && i < task.rows.len() && (least.0 || shares[i] < least.1) {
             let rank = (!is_reached(task.rows.get(i), edges), shares[i]);
             if rank < least {
                 least = rank;

@@ -32,7 +32,7 @@ pub fn is_past(count: usize, most: Option<usize>) -> bool
 }
 
 /// Puts the cells at these places after what is there.
-fn add_cells(cells: &mut Vec<u32>, row: &[u32], places: &[usize]) -> Result<(), AllocError>
+pub fn add_cells(cells: &mut Vec<u32>, row: &[u32], places: &[usize]) -> Result<(), AllocError>
     requires { AreBelow places.now (length row.now) }
     ensures { IfOk result (λ _. cells.new.items ≡ cells.old.items ++ pick places.now row.now) }
 {

@@ -4,21 +4,23 @@
 //! values that candidates fetched before give one of its variables, where these are fewer. The rows
 //! with the fewest are taken first. Values are numbers from then on. A comparison of order takes away
 //! candidates that the least or greatest value of its other side excludes, until nothing changes or
-//! much was looked at. Semijoins take away candidates without a partner; then two at a time are joined,
-//! those that share a variable first, and of each join only the columns are kept that an output or
-//! another row or comparison still needs. So rows that share nothing with an output are only asked
-//! whether they have a valuation. Comparisons are tried as soon as both their sides are there. What has
+//! much was looked at. Semijoins along an order of ears take away candidates without a partner, and ears
+//! of which nothing more is wanted; then two at a time are joined, those that share a variable first,
+//! and of each join only the columns are kept that an output or another row or comparison still needs.
+//! So rows that share nothing with an output are only asked whether they have a valuation. Comparisons are tried as soon as both their sides are there. What has
 //! no candidates left ends it all. A join that is an answer by itself stops past the cap. The time is
-//! that of hashing what is joined.
+//! that of hashing what is joined. Three that close a cycle are joined at once, before any two.
 #![tactic(auto)]
 
 mod access;
 mod answering;
 mod candidates;
 mod checks;
+mod closing;
 mod codes;
 mod connecting;
 mod crossing;
+mod cycles;
 mod distinct;
 mod executing;
 mod fetching;
@@ -29,9 +31,11 @@ mod narrowing;
 mod order;
 mod places;
 mod reducing;
+mod semijoins;
 mod shapes;
 mod sheets;
 mod tasks;
+mod threes;
 
 pub use connecting::components;
 pub use executing::execute;

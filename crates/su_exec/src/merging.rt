@@ -7,6 +7,7 @@ ghost use Rattle.su_exec.specs.inside.Edges.{Fits, Keeps, always, among, has};
 use crate::candidates::{Candidates, join_all};
 use crate::checks::{Check, Term, Test, take_tests};
 use crate::codes::Codes;
+use crate::cycles::close_cycles;
 use crate::joins::is_past;
 use crate::narrowing::narrow;
 use crate::order::choose;
@@ -44,7 +45,7 @@ pub fn add_variable(vars: &mut Vec<u32>, term: Term) -> Result<(), AllocError>
 
 /// The needed variables and those of the body.
 #[tactic(auto, using(crate::proofs::Testing::check_steps))]
-fn wanted_by(alloc: Global, body: &Body, needed: &[u32]) -> Result<Vec<u32>, AllocError>
+pub fn wanted_by(alloc: Global, body: &Body, needed: &[u32]) -> Result<Vec<u32>, AllocError>
     ensures needed { IfOk result (λ wanted. (k : ℕ) → has needed.now k ≡ true → has wanted.items k ≡ true) }
     ensures edges { IfOk result (λ wanted. (k : ℕ) → among body.now.edges.items k ≡ true → has wanted.items k ≡ true) }
     ensures checks { IfOk result (λ wanted. (k : ℕ) → has (check_vars body.now.checks.items) k ≡ true → has wanted.items k ≡ true) }
@@ -265,6 +266,24 @@ fn merge_all(
     Ok(Merged::Whole(whole))
 }
 
+/// What `merge_all` says, by way of the body without cycles that three edges close.
+fn merge_closed(
+    alloc: Global,
+    codes: &Codes,
+    body: Body,
+    needed: &[u32],
+    most: Option<usize>,
+) -> Result<Merged, AllocError>
+    requires some { 0 < length body.edges.items }
+    requires there { AreThere needed.now body.checks.items body.edges.items }
+    ensures { IfOk result (IsMerged needed.now most body.edges.items (all_hold codes.now body.checks.items)) }
+{
+    let mut rest = body;
+    close_cycles(alloc, codes, &mut rest, needed)?;
+    let merged = merge_all(alloc, codes, rest, needed, most)?;
+    Ok(merged)
+}
+
 /// What the body gives the needed variables, or that it gives them more lists than the bound of values.
 pub fn run(
     alloc: Global,
@@ -281,11 +300,8 @@ pub fn run(
     shrink_all(alloc, codes, &mut body, needed)?;
     let Body { mut edges, checks } = body;
     narrow(alloc, codes, &mut edges, &checks)?;
-    let reduced = reduce(alloc, codes, edges)?;
-    let rest = Body {
-        edges: reduced,
-        checks,
-    };
-    let merged = merge_all(alloc, codes, rest, needed, most)?;
+    let cut = Body { edges, checks };
+    let rest = reduce(alloc, cut, needed)?;
+    let merged = merge_closed(alloc, codes, rest, needed, most)?;
     Ok(merged)
 }

@@ -77,7 +77,7 @@ fn bound_for(codes: &Codes, edges: &[Candidates], y: u32, side: Op) -> Option<u3
 }
 
 /// Puts the row last, if it passes.
-fn push_if(rows: &mut Sheet, row: &[u32], passes: bool) -> Result<(), AllocError>
+pub fn push_if(rows: &mut Sheet, row: &[u32], passes: bool) -> Result<(), AllocError>
     requires { length row.now ≡ rows.old.width }
     ensures width { rows.new.width ≡ rows.old.width }
     ensures rows { IfOk result (λ _. rows.new.rows ≡ rows.old.rows ++ cond passes (row.now ∷ []) []) }

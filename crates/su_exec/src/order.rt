@@ -4,6 +4,9 @@ ghost use Rattle.std.specs.Prelude.{◌≡◌, ◌≢◌, ◌<◌, length, IfOk,
 use crate::candidates::Candidates;
 use crate::places::is_in;
 use std::alloc::{AllocError, Global};
+use su_base::{List, NoMemory};
+use su_reduce::{Ear, Edge, ears};
+use su_tableau::Sym;
 
 /// Whether the variable is in one that is left, other than these two.
 fn is_elsewhere(edges: &[Candidates], left: &[bool], i: usize, j: usize, x: u32) -> bool {
@@ -28,7 +31,7 @@ fn is_ear(edges: &[Candidates], left: &[bool], i: usize, j: usize) -> bool
 }
 
 /// Whether the two share a variable.
-fn shares(a: &Candidates, b: &Candidates) -> bool {
+pub fn shares(a: &Candidates, b: &Candidates) -> bool {
     a.vars().iter().any(|x| is_in(b.vars(), *x))
 }
 
@@ -53,8 +56,60 @@ pub fn find_ear(edges: &[Candidates], left: &[bool]) -> Option<(usize, usize)>
     None
 }
 
+/// An ear and its parent, by their numbers.
+#[derive(Clone, Copy)]
+pub struct Link {
+    pub ear: usize,
+    pub parent: usize,
+}
+
+/// The variables as cells, of no candidates.
+fn shape_of(alloc: Global, vars: &[u32]) -> Result<Edge, NoMemory> {
+    let mut cells = List::new(alloc);
+    for x in vars {
+        cells.push(Sym::Var(*x))?;
+    }
+    Ok(Edge {
+        cells,
+        candidates: List::new(alloc),
+    })
+}
+
+/// An ear order of the edges, if there are few and they are acyclic.
+fn exact_order(alloc: Global, edges: &[Candidates]) -> Result<Option<List<Ear>>, NoMemory> {
+    let mut shapes = List::new(alloc);
+    for edge in edges {
+        shapes.push(shape_of(alloc, edge.vars())?)?;
+    }
+    if shapes.len() > 64 {
+        return Ok(None);
+    }
+    ears(alloc, shapes.as_slice())
+}
+
+/// Ears and their parents. Where the edges are acyclic, all that share a variable with what is behind
+/// them; else as many as are found.
+pub fn ear_order(alloc: Global, edges: &[Candidates]) -> Result<Vec<Link>, AllocError> {
+    let Ok(found) = exact_order(alloc, edges) else {
+        return Err(AllocError);
+    };
+    let Some(order) = found else {
+        return some_ears(alloc, edges);
+    };
+    let mut links = Vec::new(alloc);
+    for ear in order.as_slice() {
+        if let Some(parent) = ear.parent {
+            links.push(Link {
+                ear: ear.edge as usize,
+                parent: parent as usize,
+            })?;
+        }
+    }
+    Ok(links)
+}
+
 /// Ears and their parents, as long as there are any.
-pub fn ears(alloc: Global, edges: &[Candidates]) -> Result<Vec<(usize, usize)>, AllocError> {
+fn some_ears(alloc: Global, edges: &[Candidates]) -> Result<Vec<Link>, AllocError> {
     let mut left = vec![in alloc; true; edges.len()]?;
     let mut order = Vec::new(alloc);
     for _ in 0..edges.len() {
@@ -64,7 +119,7 @@ pub fn ears(alloc: Global, edges: &[Candidates]) -> Result<Vec<(usize, usize)>, 
         if i < left.len() {
             left[i] = false;
         }
-        order.push((i, j))?;
+        order.push(Link { ear: i, parent: j })?;
     }
     Ok(order)
 }

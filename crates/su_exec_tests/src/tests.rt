@@ -421,6 +421,19 @@ fn rows_are_joined_over_their_sources(rt: HostRuntime) -> Result<(), Fail> {
         ("A : 10", "", "", ""),
         ("B 9 : 001", "", "", ""),
         ("", "5", "", "5"),
+        // ears: of which nothing more is asked, an output, a comparison; on the way to another; of two columns
+        ("B A : 001; A C : 201; L C : 401", "B", "", "B1; B2"),
+        ("B A : 001; A X : 101; A C : 201", "C", "X > 100", "Smith"),
+        ("A C : 201; L C : 401; A X : 101", "L", "X > 100", "7"),
+        ("B A : 001; A X : 101; C Y : 110", "B", "X < Y", ""),
+        ("B A : 001; A C : 201; C D : 201", "B", "", ""),
+        (
+            "A C : 201; A C : 201",
+            "A C",
+            "",
+            "1 Jones; 1 Smith; 2 Smith",
+        ),
+        ("A C : 201; A C : 401", "A", "", ""),
         // a triangle
         (
             "A B : 001; B C : 201; C D : 410",

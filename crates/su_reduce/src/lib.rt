@@ -16,7 +16,9 @@ mod orders;
 mod reducing;
 mod semijoins;
 mod sharing;
+mod support;
 
 pub use edges::{Ear, Edge};
 pub use orders::ears;
 pub use reducing::reduce;
+pub use support::{Counted, Support};

@@ -19,11 +19,11 @@ returns-clause-exact c = λ h.
     let spots : List Spot = c.in_ok-spots.spots.items in
     let are : AreSpotsOf e.vars c.args.outputs.now spots = subst (λ (vars : List ℕ). AreSpotsOf vars c.args.outputs.now spots) c.vars.ensures c.in_ok-spots.ensures in
     let is : c.in_ok-found.found.items ≡ map (spot_values values spots) e.rows = c.in_ok-found.ensures.rows ∙ ap (λ ss. map (spot_values values ss) e.rows) c.deref.ensures.value in
-    let m = c.sorted-rows.ensures.members h in
-    let s = shown values e c.args.outputs.now spots c.rows.ensures.real are h in
-    rw c.from_vec.ensures (
-      λ x. s.0 (subst (λ (rows : List (List Value)). Contains rows h) is (m.0 x)),
-      λ x. m.1 (subst (λ (rows : List (List Value)). Contains rows h) (sym is) (s.1 x)),
+    let found : c.from_vec.result ≡ map (spot_values values spots) e.rows = c.from_vec.ensures ∙ is in
+    let m = c.sorted_rows-rows.ensures.members h in
+    let s = shown values e c.args.outputs.now spots c.rows.ensures.real are h in (
+      λ x. s.0 (subst (λ (rows : List (List Value)). Contains rows h) found (m.0 x)),
+      λ x. m.1 (subst (λ (rows : List (List Value)). Contains rows h) (sym found) (s.1 x)),
     )
 
 pub returns-then-len-cap-clause-more : goal.returns-then-len-cap-clause-more
@@ -33,9 +33,10 @@ returns-then-len-cap-clause-more c = λ fault.
     let spots : List Spot = c.in_ok-spots.spots.items in
     let are : AreSpotsOf e.vars c.args.outputs.now spots = subst (λ (vars : List ℕ). AreSpotsOf vars c.args.outputs.now spots) c.vars.ensures c.in_ok-spots.ensures in
     let is : c.in_ok-found.found.items ≡ map (spot_values values spots) e.rows = c.in_ok-found.ensures.rows ∙ ap (λ ss. map (spot_values values ss) e.rows) c.deref.ensures.value in
-    let rows : List (List Value) = c.sorted-rows.result.items in
+    let found : c.from_vec.result ≡ map (spot_values values spots) e.rows = c.from_vec.ensures ∙ is in
+    let rows : List (List Value) = c.sorted_rows-rows.result in
     let many = c.if-len-cap.true in
     let len : c.len.result ≡ length rows = search (c.len.ensures) in
-    shows_more values e c.args.outputs.now c.args.cap rows c.sorted-rows.ensures.ascending
-    (λ h x. (shown values e c.args.outputs.now spots c.rows.ensures.real are h).0 (subst (λ (rows : List (List Value)). Contains rows h) is ((c.sorted-rows.ensures.members h).0 x)))
+    shows_more values e c.args.outputs.now c.args.cap rows c.sorted_rows-rows.ensures.ascending
+    (λ h x. (shown values e c.args.outputs.now spots c.rows.ensures.real are h).0 (subst (λ (rows : List (List Value)). Contains rows h) found ((c.sorted_rows-rows.ensures.members h).0 x)))
     (omega arith)

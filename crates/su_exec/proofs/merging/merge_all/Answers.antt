@@ -47,7 +47,7 @@ pub returns-then-has_empty : goal.returns-then-has_empty
 returns-then-has_empty c =
     let values = c.args.codes.now in
     let es : List (Edge ℕ) = c.loop-most.body.edges.items in
-    let none : (v : ℕ → ℕ) → FitsAll v es → ⊥ = rw c.deref.ensures.value at c.has_empty.ensures c.if-has_empty.true in
+    let none : (v : ℕ → ℕ) → FitsAll v es → ⊥ = rw c.deref.ensures.value at c.has_empty.ensures.none c.if-has_empty.true in
     empty_back c.args.needed.now c.args.body.edges.items es (all_hold values c.args.body.checks.items) (all_hold values c.loop-most.body.checks.items) c.loop-most.invariant.keeps (λ v f p. none v f)
 
 pub returns-then-over : goal.returns-then-over

@@ -1,10 +1,14 @@
-use Rattle.std.proofs.Common.{◌∙◌}
-use Rattle.su_exec.proofs.Partners.{same_trans}
+use Rattle.std.proofs.Common.{subst}
+use Rattle.su_exec.proofs.Absorbing.{leaves_same, leaves_trans}
 use Rattle.su_exec.proofs.reducing.reduce.Goals as goal
 
-pub loop-i-preserved : goal.loop-i-preserved
-loop-i-preserved c = record {
-  same = same_trans c.args.body.items c.loop-i.edges.items c.reduce_one.new.edges.items c.loop-i.invariant.same c.in_ok-reduce_one.ensures.same;
-  len = c.in_ok-reduce_one.ensures.length ∙ c.loop-i.invariant.len;
-  vars = λ k h. c.in_ok-reduce_one.ensures.vars k (c.loop-i.invariant.vars k h);
-}
+pub returns : goal.returns
+returns c =
+    let needed = c.args.needed.now in
+    let start = c.args.body.edges.items in
+    let first = c.args.body.checks.items in
+    let up = c.go_up.new.body.edges.items in
+    let checks = c.go_up.new.body.checks.items in
+    let down = c.go_down.new.edges.items in
+    leaves_trans needed start up down first checks checks c.in_ok-go_up.ensures
+    (leaves_same needed up down checks c.in_ok-go_down.ensures.same c.in_ok-go_down.ensures.length c.in_ok-go_down.ensures.vars)

@@ -1,0 +1,123 @@
+-- Semijoins: rows that have a partner, and what valuations say of them.
+use Rattle.std.proofs.Common.{◌≡◌, ◌↔◌, ◌⊎◌, ◌++◌, ◌+◌, ℕ, ◌<◌, List, [], ◌∷◌, length, get_or, Contains, sym, ap, subst, ◌∙◌, ⊎_elim, inl, inr, true, arith}
+use Rattle.std.specs.Prelude.{map}
+use Rattle.std.proofs.lemmas.Bool.{cases_eq}
+use Rattle.std.proofs.lemmas.List.{get_or_default}
+use Rattle.std.proofs.lemmas.List.Elements.{Contains-append_left, Contains-push, Contains-push_cases}
+use Rattle.su_exec.specs.inside.Edges.{Edge, Fits, has}
+use Rattle.su_exec.specs.inside.Joins.{pick, AreBelow, IsReal}
+use Rattle.su_exec.specs.inside.Semijoins.{AgreesWith, AreKept, HasKey, IsKept, IsSemijoin}
+use Rattle.su_exec.proofs.Joining.{pick_map}
+use Rattle.su_exec.proofs.Keeping.{agree_at}
+
+-- ---- keys
+
+pub keys_more :
+    (rows : List (List ℕ)) (places : List ℕ) (n : ℕ) (old new : List (List ℕ)) (x : List ℕ) → x ≡ pick places (get_or rows n [])
+    → ((k : List ℕ) → Contains old k ↔ HasKey rows places n k) → ((r : List ℕ) → Contains old r → Contains new r) → Contains new x → ((r : List ℕ) → Contains new r → Contains old r ⊎ (x ≡ r))
+    → (k : List ℕ) → Contains new k ↔ HasKey rows places (n + 1) k
+keys_more rows places n old new x is before kept had only k = (
+  λ h.
+      ⊎_elim
+      (λ (a : Contains old k). let o = (before k).0 a in let l = o.below in record { place = o.place; below = omega (arith, l); is = o.is })
+      (λ (e : x ≡ k). record { place = n; below = omega arith; is = sym is ∙ e })
+      (only k h),
+  λ o.
+      ⊎_elim
+      (λ (e : o.place ≡ n). subst (λ (r : List ℕ). Contains new r) (is ∙ ap (λ p. pick places (get_or rows p [])) (sym e) ∙ o.is) had)
+      (λ (ne : o.place ≡ n → ⊥). let l = o.below in kept k ((before k).1 (record { place = o.place; below = omega (arith, l, ne); is = o.is })))
+      (cases_eq o.place n),
+)
+
+pub no_keys : (rows : List (List ℕ)) (places : List ℕ) (k : List ℕ) → Contains [] k ↔ HasKey rows places 0 k
+no_keys rows places k = (λ h. absurd (let l = h.1 in omega arith), λ o. absurd (let l = o.below in omega arith))
+
+-- ---- rows that stay
+
+pub none_kept : (ls rs : List (List ℕ)) (left_key right_key : List ℕ) → AreKept ls rs left_key right_key 0 []
+none_kept ls rs left_key right_key r = (λ h. absurd (let l = h.1 in omega arith), λ o. absurd (let l = o.below in omega arith))
+
+module _ (ls rs : List (List ℕ)) (left_key right_key : List ℕ) (n : ℕ) (old : List (List ℕ)) (x : List ℕ) (is : x ≡ get_or ls n []) (before : AreKept ls rs left_key right_key n old) where
+  later : (r : List ℕ) → IsKept ls rs left_key right_key n r → IsKept ls rs left_key right_key (n + 1) r
+  later r k = let l = k.below in record { place = k.place; below = omega (arith, l); is = k.is; partner = k.partner }
+
+  -- the one at n, or one before it
+  cases : (r : List ℕ) → IsKept ls rs left_key right_key (n + 1) r → IsKept ls rs left_key right_key n r ⊎ (x ≡ r)
+  cases r k =
+      ⊎_elim
+      (λ (e : k.place ≡ n). inr (is ∙ ap (λ p. get_or ls p []) (sym e) ∙ k.is))
+      (λ (ne : k.place ≡ n → ⊥). let l = k.below in inl (record { place = k.place; below = omega (arith, l, ne); is = k.is; partner = k.partner }))
+      (cases_eq k.place n)
+
+  pub kept_more : (new : List (List ℕ)) → new ≡ old ++ x ∷ [] → HasKey rs right_key (length rs) (pick left_key x) → AreKept ls rs left_key right_key (n + 1) new
+  kept_more new e partner r = (
+    λ h.
+        ⊎_elim
+        (λ (a : Contains old r). later r ((before r).0 a))
+        (λ (s : x ≡ r). record { place = n; below = omega arith; is = sym is ∙ s; partner = subst (λ (y : List ℕ). HasKey rs right_key (length rs) (pick left_key y)) s partner })
+        (Contains-push_cases old x r (subst (λ (xs : List (List ℕ)). Contains xs r) e h)),
+    λ k.
+        subst (λ (xs : List (List ℕ)). Contains xs r) (sym e)
+        (⊎_elim
+        (λ (a : IsKept ls rs left_key right_key n r). Contains-append_left old (x ∷ []) r ((before r).1 a))
+        (λ (s : x ≡ r). subst (λ (y : List ℕ). Contains (old ++ x ∷ []) y) s (Contains-push old x))
+        (cases r k)),
+  )
+
+  pub kept_same : (HasKey rs right_key (length rs) (pick left_key x) → ⊥) → AreKept ls rs left_key right_key (n + 1) old
+  kept_same none r = (
+    λ h. later r ((before r).0 h),
+    λ k.
+        ⊎_elim
+        (λ (a : IsKept ls rs left_key right_key n r). (before r).1 a)
+        (λ (s : x ≡ r). absurd (none (subst (λ (y : List ℕ). HasKey rs right_key (length rs) (pick left_key y)) (sym s) k.partner)))
+        (cases r k),
+  )
+
+-- ---- a semijoin
+
+module _ (a b g : Edge ℕ) (left right : List ℕ) (rows : List (List ℕ)) (below : AreBelow left (length a.vars)) (low : AreBelow right (length b.vars)) (same : pick left a.vars ≡ pick right b.vars)
+    (shared : (k : ℕ) → has a.vars k ≡ true → has b.vars k ≡ true → has (pick left a.vars) k ≡ true) (real : IsReal b) (kept : AreKept a.rows b.rows left right (length a.rows) rows) (is : g ≡ record { vars = a.vars; rows = rows }) where
+  at : (v : ℕ → ℕ) → Fits v (record { vars = a.vars; rows = rows }) → Fits v g
+  at v h = subst (λ (e : Edge ℕ). Fits v e) (sym is) h
+
+  from : (v : ℕ → ℕ) → Fits v g → IsKept a.rows b.rows left right (length a.rows) (map v a.vars)
+  from v h = (kept (map v a.vars)).0 (subst (λ (e : Edge ℕ). Fits v e) is h)
+
+  stays : (v : ℕ → ℕ) → Fits v a → Fits v b → Fits v g
+  stays v x y = at v ((kept (map v a.vars)).1 (record {
+    place = x.0;
+    below = x.1;
+    is = get_or_default a.rows x.0 [] (map v a.vars) x.1 ∙ x.2;
+    partner = record {
+      place = y.0;
+      below = y.1;
+      is = ap (pick right) (get_or_default b.rows y.0 [] (map v b.vars) y.1 ∙ y.2) ∙ pick_map v right b.vars low ∙ sym (ap (map v) same) ∙ sym (pick_map v left a.vars below);
+    };
+  }))
+
+  fewer : (v : ℕ → ℕ) → Fits v g → Fits v a
+  fewer v h = let k = from v h in (k.place, k.below, get_or_default a.rows k.place (map v a.vars) [] k.below ∙ k.is)
+
+  partner : (v : ℕ → ℕ) → Fits v g → AgreesWith a b v
+  partner v h =
+      let key = (from v h).partner in
+      let w = real key.place [] key.below in
+      let e : map v (pick left a.vars) ≡ map w.0 (pick left a.vars) = sym (pick_map v left a.vars below) ∙ sym key.is ∙ ap (pick right) (sym w.1) ∙ pick_map w.0 right b.vars low ∙ sym (ap (map w.0) same) in
+      record {
+        valuation = w.0;
+        fits = (key.place, key.below, get_or_default b.rows key.place (map w.0 b.vars) [] key.below ∙ sym w.1);
+        same = λ k p q. agree_at v w.0 (pick left a.vars) e k (shared k p q);
+      }
+
+  pub semijoin_is : IsSemijoin a b g
+  semijoin_is = record {
+    vars = ap (λ (e : Edge ℕ). e.vars) is;
+    stays = stays;
+    fewer = fewer;
+    partner = partner;
+  }
+
+-- what fits both fits what is left, and the other way round
+pub semijoin_both : (a b g : Edge ℕ) → IsSemijoin a b g → (v : ℕ → ℕ) → (Fits v a × Fits v b) ↔ (Fits v g × Fits v b)
+semijoin_both a b g s v = (λ h. (s.stays v h.0 h.1, h.1), λ h. (s.fewer v h.0, h.1))

@@ -1,4 +1,0 @@
-use Rattle.su_exec.proofs.order.ears.Given as goal
-
-abbrev pub invariant-loop : goal.invariant-loop
-invariant-loop l = Unit {0}
