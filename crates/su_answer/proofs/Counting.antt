@@ -4,8 +4,9 @@ use Rattle.std.specs.List.{AllZip, flat_map, range_with_len}
 use Rattle.std.specs.Ordering.{nat_cmp}
 use Rattle.std.specs.FinSet.{FinSet}
 use Rattle.std.proofs.lemmas.List.{length-map, length-append}
-use Rattle.std.proofs.lemmas.List.Elements.{All-contains, All-from_recursion}
+use Rattle.std.proofs.lemmas.List.Elements.{All-contains}
 use Rattle.std.proofs.lemmas.List.FromFn.{length-range_with_len}
+use Rattle.su_base.proofs.Items.{All-members}
 use Rattle.su_where.specs.Disjunct.{disjuncts_of}
 use Rattle.su_tableau.specs.Tableaux.{Tab, IsValid}
 use Rattle.su_tableau.specs.Kinds.{IsTyped}
@@ -19,7 +20,6 @@ use Rattle.su_steps.specs.Choices.{choices}
 use Rattle.su_steps.specs.Terms.{Case, case_of, cases, GivesNone, Gives, AreTermsOf, AreTerms}
 use Rattle.su_steps.specs.Refusals.{IsAccepted}
 use Rattle.su_steps.specs.Laws.{TermsAreValidAndTyped}
-use Rattle.su_steps.proofs.Lists.{all_by}
 use Rattle.su_answer.specs.declared.preparing.Prepared.{Prepared}
 use Rattle.su_answer.specs.Prepared.{IsMinimisedOf, IsPrepared}
 use Rattle.su_answer.proofs.Zipping.{zip_second}
@@ -66,12 +66,12 @@ same_tableaux (t ∷ ts) (m ∷ ms) h = let i = same_tableaux ts ms h.1 in let j
 
 -- what holds of the terms' tableaux holds of the minimised ones
 pub of_minimals : (P : Tab → Type 0) (ts : List Term) (ms : List Minimised) → AllZip (λ t m. IsMinimisedOf t.tableau m) ts ms → All (λ (t : Term). P t.tableau) ts → All (λ (m : Minimised). P m.tableau) ms
-of_minimals P ts ms zip all = All-from_recursion (λ (m : Minimised). P m.tableau) ms (all_by (λ (m : Minimised). P m.tableau) ms (λ m c.
+of_minimals P ts ms zip all = All-members (λ (m : Minimised). P m.tableau) ms (λ m c.
     let w = zip_second (λ t m. IsMinimisedOf t.tableau m) ts ms m zip c in
-    subst P (sym w.2.tableau) (All-contains (λ (t : Term). P t.tableau) ts w.0 all w.1)))
+    subst P (sym w.2.tableau) (All-contains (λ (t : Term). P t.tableau) ts w.0 all w.1))
 
 pub all_minimised : (ts : List Term) (ms : List Minimised) → AllZip (λ t m. IsMinimisedOf t.tableau m) ts ms → All IsMinimised ms
-all_minimised ts ms zip = All-from_recursion IsMinimised ms (all_by IsMinimised ms (λ m c. (zip_second (λ t m. IsMinimisedOf t.tableau m) ts ms m zip c).2.minimised))
+all_minimised ts ms zip = All-members IsMinimised ms (λ m c. (zip_second (λ t m. IsMinimisedOf t.tableau m) ts ms m zip c).2.minimised)
 
 -- the minimised tableaux of a prepared query are valid and well typed
 pub minimals_fit : TermsAreValidAndTyped → (schema : SchemaValue) (maximal : List (FinSet nat_cmp)) (q : Resolved) (p : Prepared) → schemas.IsValid schema → IsResolved schema q → IsPrepared schema maximal q p

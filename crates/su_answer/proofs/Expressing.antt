@@ -3,10 +3,11 @@ use Rattle.std.proofs.Common.{◌≡◌, ◌↔◌, ◌⊎◌, ℕ, ◌<◌, Lis
 use Rattle.std.specs.Ordering.{nat_cmp}
 use Rattle.std.specs.FinSet.{FinSet}
 use Rattle.std.proofs.lemmas.List.{length-map, get_or-map}
-use Rattle.std.proofs.lemmas.List.Elements.{All-contains, All-from_recursion, Contains-get_or}
+use Rattle.std.proofs.lemmas.List.Elements.{All-contains, Contains-get_or}
 use Rattle.su_base.specs.declared.values.Kind.{Kind}
 use Rattle.su_base.specs.declared.values.Value.{Value}
 use Rattle.su_base.specs.Value.{kind_of}
+use Rattle.su_base.proofs.Items.{All-members}
 use Rattle.su_tableau.specs.Tableaux.{Tab, IsValid, Ext, Cut}
 use Rattle.su_tableau.specs.Kinds.{IsUniverse, IsTyped}
 use Rattle.su_tableau.specs.Parts.{part}
@@ -27,7 +28,6 @@ use Rattle.su_steps.specs.Expression.{Meets, cut, cuts, InExpression}
 use Rattle.su_steps.specs.Terms.{InUnion}
 use Rattle.su_steps.specs.Laws.{TermsAreValidAndTyped, TermsAreTheExpression, RowsHaveSources}
 use Rattle.su_steps.specs.Objects.{attributes_at, width}
-use Rattle.su_steps.proofs.Lists.{all_by}
 use Rattle.su_answer.specs.declared.preparing.Prepared.{Prepared}
 use Rattle.su_answer.specs.Prepared.{IsPrepared}
 use Rattle.su_answer.specs.inside.Joined.{HaveSources}
@@ -96,9 +96,9 @@ module _
       let m = (term_at p.minimals k).mask in
       let valid = (fit k l).0 in
       let wide : t.width ≡ width db.schema = (fit k l).1.width in
-      let rows_wide : All (λ u. length u ≡ t.width) universe = All-from_recursion (λ u. length u ≡ t.width) universe (all_by (λ u. length u ≡ t.width) universe (λ u c.
+      let rows_wide : All (λ u. length u ≡ t.width) universe = All-members (λ u. length u ≡ t.width) universe (λ u c.
       let one : map kind_of u ≡ attribute_kinds db.schema = All-contains (λ row. map kind_of row ≡ attribute_kinds db.schema) universe u kinds c in
-      sym (length-map u kind_of) ∙ ap (λ (ks : List Kind). length ks) one ∙ sym wide)) in
+      sym (length-map u kind_of) ∙ ap (λ (ks : List Kind). length ks) one ∙ sym wide) in
       let s = stored_is_ext db t m universe kept wide valid.widths kinds projections (have_sources k l) h in
       let e = laws.essential t m universe h (least k l).valid valid.widths rows_wide in
       (λ a. e.0 (s.0 a), λ x. s.1 (e.1 x))

@@ -1,13 +1,13 @@
 -- The task of a kept part is a task over the tables of the database.
-use Rattle.std.proofs.Common.{◌≡◌, ℕ, zero, suc, ◌+◌, ◌*◌, ◌<◌, ◌≤◌, List, [], ◌∷◌, map, length, get_or, Contains, Option, Some, refl, sym, ap, ◌∙◌, subst, pos, arith}
-use Rattle.std.specs.Prelude.{take, drop}
+use Rattle.std.proofs.Common.{◌≡◌, ℕ, zero, suc, ◌+◌, ◌*◌, ◌<◌, ◌≤◌, List, [], map, length, get_or, Contains, Option, Some, sym, ap, ◌∙◌, subst, pos, arith}
 use Rattle.std.specs.Int.{bit_at}
-use Rattle.std.specs.List.{AllZip, range_with_len}
-use Rattle.std.proofs.lemmas.List.{length-append, length-map, get_or_default, take-append-drop}
-use Rattle.std.proofs.lemmas.List.Elements.{All-from_recursion, Contains-append_left, Contains-get_or}
+use Rattle.std.specs.List.{range_with_len}
+use Rattle.std.proofs.lemmas.List.{length-append, length-map, get_or_default}
+use Rattle.std.proofs.lemmas.List.Elements.{Contains-get_or}
 use Rattle.std.proofs.lemmas.Nat.Bits.{bit_at-lt}
 use Rattle.std.proofs.lemmas.Option.{slice_get_within}
 use Rattle.su_base.specs.declared.values.Value.TheVariants.{Int}
+use Rattle.su_base.proofs.Items.{Contains-map, Contains-map_source, AllZip-length, Contains-take, Contains-range_below, All-members}
 use Rattle.su_tableau.specs.declared.symbols.Sym.{Sym}
 use Rattle.su_tableau.specs.declared.symbols.Sym.TheVariants.{Var}
 use Rattle.su_tableau.specs.Tableaux.{Tab, IsValid, IsSmall}
@@ -26,16 +26,9 @@ use Rattle.su_exec.specs.Tasks.{Occurs, FitsTables, HasSources, IsTask}
 use Rattle.su_answer.specs.Joined.{numbers_in, cell, IsSourceOf, IsTaskRowOf, comparison_at, IsTaskOf}
 use Rattle.su_state.proofs.Columns.{column_within}
 use Rattle.su_answer.proofs.Columns.{object_is}
-use Rattle.su_steps.proofs.Lists.{all_by, contains_map, of_map}
 use Rattle.su_answer.proofs.Zipping.{zip_first, zip_second}
-use Rattle.su_answer.proofs.Rowing.{range_low, essential_has}
+use Rattle.su_answer.proofs.Rowing.{essential_has}
 use Rattle.su_answer.proofs.Joined.{in_rows}
-
-zip_length : {A B : Type 0} (R : A → B → Type 0) (xs : List A) (ys : List B) → AllZip R xs ys → length xs ≡ length ys
-zip_length R [] [] h = refl
-zip_length R [] (y ∷ ys) h = absurd h
-zip_length R (x ∷ xs) [] h = absurd h
-zip_length R (x ∷ xs) (y ∷ ys) h = let i = zip_length R xs ys h.1 in omega arith
 
 keep_few : (b n : ℕ) → b < 2 → length (keep_if b n []) ≤ 1
 keep_few zero n l = omega arith
@@ -48,9 +41,6 @@ numbers_few m (suc n) =
     let k = keep_few (bit_at m n) n (bit_at-lt m n) in
     let a = length-append (numbers_of m n) (keep_if (bit_at m n) n []) in
     omega arith
-
-contains_take : {X : Type 0} (n : ℕ) (xs : List X) (x : X) → Contains (take n xs) x → Contains xs x
-contains_take {X} n xs x c = subst (λ (ys : List X). Contains ys x) (take-append-drop n xs) (Contains-append_left (take n xs) (drop n xs) x c)
 
 module _ (db : DatabaseValue) (t : Tab) (m : ℕ) (task : Task) (kept : IsWellKept db) (small : IsSmall t) (valid : IsValid t) (part_valid : IsValid (part t m)) (is : IsTaskOf db.schema t m task) where
   source_fits : (cells : ℕ) (attributes : List ℕ) (o : ℕ) (s : Source) → cells ≡ length attributes → IsSourceOf db.schema attributes o s → FitsTables db.tables cells s
@@ -67,11 +57,11 @@ module _ (db : DatabaseValue) (t : Tab) (m : ℕ) (task : Task) (kept : IsWellKe
       record {
         relation = low;
         columns = omega (arith, l, a, b, count);
-        within = All-from_recursion (λ column. column < (table_at db.tables s.relation).width) s.columns (all_by (λ column. column < (table_at db.tables s.relation).width) s.columns (λ k c.
-            let w = of_map (column_of object) attributes (Some k) (subst (λ (xs : List (Option ℕ)). Contains xs (Some k)) (sym of'.columns) (contains_map (λ (j : ℕ). Some j) s.columns k c)) in
+        within = All-members (λ column. column < (table_at db.tables s.relation).width) s.columns (λ k c.
+            let w = Contains-map_source (column_of object) attributes (Some k) (subst (λ (xs : List (Option ℕ)). Contains xs (Some k)) (sym of'.columns) (Contains-map (λ (j : ℕ). Some j) s.columns k c)) in
             let within = column_within db.schema o object w.0 k kept.valid of'.is w.2 in
             let width = kept.widths object.relation (omega (arith, there, tables)) in
-            subst (λ n. k < (table_at db.tables n).width) (sym same) (omega (arith, within, width))));
+            subst (λ n. k < (table_at db.tables n).width) (sym same) (omega (arith, within, width)));
       }
 
   row_fits : (r : TaskRow) → Contains task.rows r → HasSources db.tables r
@@ -79,9 +69,9 @@ module _ (db : DatabaseValue) (t : Tab) (m : ℕ) (task : Task) (kept : IsWellKe
       let w = zip_second (IsTaskRowOf db.schema t m) (rows_in t m) task.rows r is.rows c in
       let of' = w.2 in
       let n : length r.cells ≡ length (numbers_in of'.attributes t.width) = ap (λ (xs : List Sym). length xs) of'.cells ∙ length-map (numbers_in of'.attributes t.width) (cell t w.0) in
-      All-from_recursion (FitsTables db.tables (length r.cells)) r.sources (all_by (FitsTables db.tables (length r.cells)) r.sources (λ s d.
+      All-members (FitsTables db.tables (length r.cells)) r.sources (λ s d.
       let f = of'.from s d in
-      source_fits (length r.cells) (numbers_in of'.attributes t.width) f.0 s n f.2))
+      source_fits (length r.cells) (numbers_in of'.attributes t.width) f.0 s n f.2)
 
   head_has : (k : ℕ) → Contains t.head (Var k) → Occurs task k
   head_has k c =
@@ -94,7 +84,7 @@ module _ (db : DatabaseValue) (t : Tab) (m : ℕ) (task : Task) (kept : IsWellKe
       let w = zip_first (IsTaskRowOf db.schema t m) (rows_in t m) task.rows j is.rows (in_rows t m j s.below s.is_in) in
       let r = w.0 in
       let e = essential_has db t m j r (λ n. Int (pos 0)) kept valid s.below s.is_in w.2 in_row.0 (Var k) holds (in_head k holds c) in
-      let has : Contains r.cells (Var k) = subst (λ (xs : List Sym). Contains xs (Var k)) (sym w.2.cells) (subst (λ (x : Sym). Contains (map (cell t j) (numbers_in w.2.attributes t.width)) x) (holds.is (Var 0)) (contains_map (cell t j) (numbers_in w.2.attributes t.width) in_row.0 e)) in
+      let has : Contains r.cells (Var k) = subst (λ (xs : List Sym). Contains xs (Var k)) (sym w.2.cells) (subst (λ (x : Sym). Contains (map (cell t j) (numbers_in w.2.attributes t.width)) x) (holds.is (Var 0)) (Contains-map (cell t j) (numbers_in w.2.attributes t.width) in_row.0 e)) in
       (w.1.0, record { row = r; below = w.1.1; is = λ d. get_or_default task.rows w.1.0 d r w.1.1 ∙ w.1.2; cell = has })
 
   side_has : (i n k : ℕ) → n < length t.head → get_or t.head n (Var 0) ≡ Var k → Occurs task k
@@ -103,20 +93,20 @@ module _ (db : DatabaseValue) (t : Tab) (m : ℕ) (task : Task) (kept : IsWellKe
   pub task_fits : IsTask db.tables task
   task_fits = record {
     few =
-        let a = zip_length (IsTaskRowOf db.schema t m) (rows_in t m) task.rows is.rows in
+        let a = AllZip-length (IsTaskRowOf db.schema t m) (rows_in t m) task.rows is.rows in
         let b = numbers_few m (length t.rows) in
         let s = small.rows in
         omega (arith, a, b, s);
-    sources = All-from_recursion (HasSources db.tables) task.rows (all_by (HasSources db.tables) task.rows row_fits);
-    outputs = λ k c. head_has k (contains_take t.outputs t.head (Var k) (subst (λ (xs : List Sym). Contains xs (Var k)) is.outputs c));
+    sources = All-members (HasSources db.tables) task.rows row_fits;
+    outputs = λ k c. head_has k (Contains-take t.outputs t.head (Var k) (subst (λ (xs : List Sym). Contains xs (Var k)) is.outputs c));
     left = λ c k has e.
-        let w = of_map (comparison_at t) (range_with_len 0 (length t.operators)) c (subst (λ (xs : List Compared). Contains xs c) is.comparisons has) in
-        let low = range_low (length t.operators) w.0 w.1 in
+        let w = Contains-map_source (comparison_at t) (range_with_len 0 (length t.operators)) c (subst (λ (xs : List Compared). Contains xs c) is.comparisons has) in
+        let low = Contains-range_below (length t.operators) w.0 w.1 in
         let n = valid.head_length in
         side_has w.0 (t.outputs + 2 * w.0) k (omega (arith, low, n)) (ap (λ (d : Compared). d.left) w.2 ∙ e);
     right = λ c k has e.
-        let w = of_map (comparison_at t) (range_with_len 0 (length t.operators)) c (subst (λ (xs : List Compared). Contains xs c) is.comparisons has) in
-        let low = range_low (length t.operators) w.0 w.1 in
+        let w = Contains-map_source (comparison_at t) (range_with_len 0 (length t.operators)) c (subst (λ (xs : List Compared). Contains xs c) is.comparisons has) in
+        let low = Contains-range_below (length t.operators) w.0 w.1 in
         let n = valid.head_length in
         side_has w.0 (t.outputs + 2 * w.0 + 1) k (omega (arith, low, n)) (ap (λ (d : Compared). d.right) w.2 ∙ e);
   }

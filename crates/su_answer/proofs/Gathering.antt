@@ -1,12 +1,12 @@
 -- Rows of lists that are taken from the end, one after another.
 use Rattle.std.proofs.Common.{◌≡◌, ◌↔◌, ◌⊎◌, ◌≤◌, inl, inr, ⊎_elim, List, [], ◌∷◌, ◌++◌, length, Contains, Option, Some, All, refl, sym, ap, subst, ◌∙◌, arith}
 use Rattle.std.specs.Prelude.{IsSome, IfSome}
-use Rattle.std.proofs.lemmas.List.Elements.{Contains-append_left, Contains-append_right, Contains-append_cases, All-contains, All-from_recursion}
+use Rattle.std.proofs.lemmas.List.Elements.{Contains-append_left, Contains-append_right, Contains-append_cases, All-contains}
 use Rattle.std.proofs.lemmas.Option.{same_Some}
 use Rattle.std.specs.List.Sorted.{IsStrictlySortedBy}
 use Rattle.su_base.specs.declared.values.Value.{Value}
 use Rattle.su_base.specs.Value.{compare_lists}
-use Rattle.su_steps.proofs.Lists.{contains_cases, contains_none, all_by}
+use Rattle.su_base.proofs.Items.{Contains-cases, Contains-nil, All-members}
 use Rattle.su_answer.specs.declared.found.Found.{Found}
 use Rattle.su_answer.specs.Answers.{AreMoreThan}
 use Rattle.su_answer.specs.inside.Executed.{IsInSome}
@@ -41,8 +41,8 @@ last_or_front left f rows h is s =
     (λ (r : Contains (f ∷ []) s.found).
     ⊎_elim
     (λ (e : f ≡ s.found). inl (subst (λ (xs : List (List Value)). Contains xs h) (same_Some s.rows rows (sym s.is ∙ ap (λ (g : Found). g.rows) (sym e) ∙ is)) s.has))
-    (λ (n : Contains [] s.found). absurd (contains_none s.found n))
-    (contains_cases f [] s.found r))
+    (λ (n : Contains [] s.found). absurd (Contains-nil s.found n))
+    (Contains-cases f [] s.found r))
     (Contains-append_cases left (f ∷ []) s.found s.member)
 
 pub one_list : (lists before left : List Found) (f : Found) (so_far rows all more : List (List Value)) → AreGathered lists before so_far all → before ≡ left ++ f ∷ [] → f.rows ≡ Some rows → ((h : List Value) → Contains more h ↔ (Contains all h ⊎ Contains rows h)) → AreGathered lists left so_far more
@@ -73,8 +73,8 @@ one_list lists before left f so_far rows all more g e is m = record {
       (λ (r : Contains (f ∷ []) k).
       ⊎_elim
       (λ (same : f ≡ k). inr (subst (λ (o : Option (List (List Value))). IsSome o) (sym is ∙ ap (λ (q : Found). q.rows) same) refl))
-      (λ (n : Contains [] k). absurd (contains_none k n))
-      (contains_cases f [] k r))
+      (λ (n : Contains [] k). absurd (Contains-nil k n))
+      (Contains-cases f [] k r))
       (Contains-append_cases left (f ∷ []) k (subst (λ (ls : List Found). Contains ls k) e b)))
       (λ (s : IsSome k.rows). inr s)
       (g.some k c);
@@ -86,16 +86,16 @@ all_rows lists left so_far all g e h = (
   λ c. (g.rows h).0 (inl c),
   λ i. ⊎_elim
       (λ (c : Contains all h). c)
-      (λ (s : IsInSome left h). absurd (contains_none s.found (subst (λ (ls : List Found). Contains ls s.found) e s.member)))
+      (λ (s : IsInSome left h). absurd (Contains-nil s.found (subst (λ (ls : List Found). Contains ls s.found) e s.member)))
       ((g.rows h).1 i),
 )
 
 pub all_some : (lists left : List Found) (so_far all : List (List Value)) → AreGathered lists left so_far all → left ≡ [] → All (λ (f : Found). IsSome f.rows) lists
-all_some lists left so_far all g e = All-from_recursion (λ (f : Found). IsSome f.rows) lists (all_by (λ (f : Found). IsSome f.rows) lists (λ f c.
+all_some lists left so_far all g e = All-members (λ (f : Found). IsSome f.rows) lists (λ f c.
     ⊎_elim
-    (λ (l : Contains left f). absurd (contains_none f (subst (λ (ls : List Found). Contains ls f) e l)))
+    (λ (l : Contains left f). absurd (Contains-nil f (subst (λ (ls : List Found). Contains ls f) e l)))
     (λ (s : IsSome f.rows). s)
-    (g.some f c)))
+    (g.some f c))
 
 pub last_in : (lists before left : List Found) (f : Found) (so_far all : List (List Value)) → AreGathered lists before so_far all → before ≡ left ++ f ∷ [] → Contains lists f
 last_in lists before left f so_far all g e = g.of_lists f (subst (λ (ls : List Found). Contains ls f) (sym e) (Contains-append_right left (f ∷ []) f (0, omega arith, refl)))

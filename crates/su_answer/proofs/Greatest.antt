@@ -1,9 +1,8 @@
 -- The greatest row of two lists that ascend is the last of one of them.
-use Rattle.std.proofs.Common.{◌≡◌, inl, inr, ⊎_elim, ◌-◌, ◌<◌, ◌≤◌, List, [], ◌∷◌, ◌++◌, length, get_or, Contains, Option, Some, None, slice_get, true, refl, sym, ap, ◌∙◌, subst, arith}
+use Rattle.std.proofs.Common.{◌≡◌, inl, inr, ⊎_elim, ◌-◌, ◌<◌, ◌≤◌, List, [], ◌∷◌, ◌++◌, length, get_or, Contains, Option, Some, None, slice_get, refl, sym, ap, ◌∙◌, subst, arith}
 use Rattle.std.specs.Prelude.{MatchOption}
-use Rattle.std.specs.Cmp.Lexicographic.{lists_ties}
 use Rattle.std.specs.List.Sorted.{IsStrictlySortedBy}
-use Rattle.std.specs.Ordering.{eq_by_cmp, is_eq, ordering_reverse}
+use Rattle.std.specs.Ordering.{ordering_reverse}
 use Rattle.std.specs.declared.cmp.Ordering.{Ordering}
 use Rattle.std.specs.declared.cmp.Ordering.TheVariants.{Less, Equal, Greater}
 use Rattle.std.proofs.lemmas.Bool.{cases_lt}
@@ -11,20 +10,9 @@ use Rattle.std.proofs.lemmas.List.{get_or_default, length-append}
 use Rattle.std.proofs.lemmas.Map.Keys.{Less-from_sorted}
 use Rattle.std.proofs.lemmas.Option.{slice_get-get_or}
 use Rattle.su_base.specs.declared.values.Value.{Value}
-use Rattle.su_base.specs.contracts.values.ValuePartialEq.TheImpl.{ghosts}
-use Rattle.su_base.specs.contracts.values.ValueOrd.TheImpl.Laws.{matches_eq-law}
-use Rattle.su_base.specs.Value.{compare_values, compare_lists}
-use Rattle.su_base.proofs.Same.{row_eq-Decides}
-use Rattle.su_index.proofs.Runs.{same_order}
-use Rattle.su_exec.proofs.Sorting.{rows_total}
+use Rattle.su_base.specs.Value.{compare_lists}
+use Rattle.su_base.proofs.Rows.{rows_total, equal_rows}
 use Rattle.su_answer.specs.inside.Merged.{compare_rows, compare_last, IsGreatestOf}
-
-value_ties : (v w : Value) → ghosts.eq v w ≡ eq_by_cmp compare_values v w
-value_ties v w = matches_eq-law v w ∙ ap is_eq (same_order v w)
-
--- rows that compare as equal are one
-one_row : (a b : List Value) → compare_lists a b ≡ Equal → a ≡ b
-one_row a b e = (row_eq-Decides a b true (sym (lists_ties compare_values value_ties a b ∙ ap is_eq e))).0 refl
 
 at_end : (xs : List (List Value)) (x : List Value) → slice_get (xs ++ x ∷ []) (length xs) ≡ Some x
 at_end [] x = refl
@@ -105,7 +93,7 @@ of_both one other one_after other_after (Some a) None tied p q =
     cc
 of_both one other one_after other_after (Some a) (Some b) tied p q =
     let e : compare_lists a b ≡ Equal = subst (λ (o : Option (List Value)). compare_rows o (Some b) ≡ Equal) (last_of one one_after a p) (subst (λ (o : Option (List Value)). compare_rows (slice_get one (length one - 1)) o ≡ Equal) (last_of other other_after b q) tied) in
-    let r : other ≡ other_after ++ a ∷ [] = subst (λ (x : List Value). other ≡ other_after ++ x ∷ []) (sym (one_row a b e)) q in
+    let r : other ≡ other_after ++ a ∷ [] = subst (λ (x : List Value). other ≡ other_after ++ x ∷ []) (sym (equal_rows a b e)) q in
     record { taken = inl p; of_one = inl p; of_other = inl r }
 
 -- the order of two lists that are seen as slices

@@ -4,9 +4,10 @@ use Rattle.std.specs.Prelude.{IsTrue, take}
 use Rattle.std.specs.Int.{bit_at}
 use Rattle.std.specs.List.{range_with_len}
 use Rattle.std.proofs.lemmas.List.{get_or-map, get_or_default, take-map}
-use Rattle.std.proofs.lemmas.List.Elements.{All-contains, All-from_recursion}
+use Rattle.std.proofs.lemmas.List.Elements.{All-contains}
 use Rattle.su_base.specs.declared.values.Value.{Value}
 use Rattle.su_base.specs.declared.values.Value.TheVariants.{Int}
+use Rattle.su_base.proofs.Items.{Contains-map, Contains-map_source, Contains-range, Contains-range_below, All-members}
 use Rattle.su_where.specs.declared.operators.Op.TheVariants.{Equal}
 use Rattle.su_where.specs.Operator.{compares}
 use Rattle.su_tableau.specs.declared.symbols.Sym.TheVariants.{Var}
@@ -20,9 +21,8 @@ use Rattle.su_exec.specs.Tasks.{HasSources, IsTask}
 use Rattle.su_exec.specs.Outputs.{Agrees, Holds as HoldsFor, IsOutput}
 use Rattle.su_answer.specs.Answers.{IsRead, StoredAnswer}
 use Rattle.su_answer.specs.Joined.{IsTaskRowOf, comparison_at, IsTaskOf}
-use Rattle.su_steps.proofs.Lists.{all_by, contains_map, of_map}
 use Rattle.su_answer.proofs.Zipping.{zip_first, zip_second}
-use Rattle.su_answer.proofs.Rowing.{range_has, range_low, row_read, read_row}
+use Rattle.su_answer.proofs.Rowing.{row_read, read_row}
 
 -- ---- rows of a set
 
@@ -70,21 +70,21 @@ module _ (db : DatabaseValue) (t : Tab) (m : ℕ) (task : Task) (kept : IsWellKe
   holds_all : (v : ℕ → Value) → AreCompared t (values_of v t.head) → All (HoldsFor v) task.comparisons
   holds_all v h =
       subst (λ cs. All (HoldsFor v) cs) (sym is.comparisons)
-      (All-from_recursion (HoldsFor v) (map (comparison_at t) (range_with_len 0 (length t.operators))) (all_by (HoldsFor v) (map (comparison_at t) (range_with_len 0 (length t.operators))) (λ c k.
-      let w = of_map (comparison_at t) (range_with_len 0 (length t.operators)) c k in
-      let low = range_low (length t.operators) w.0 w.1 in
-      subst (HoldsFor v) w.2 (subst IsTrue (compared_same t v w.0 valid low) (h w.0 low)))))
+      (All-members (HoldsFor v) (map (comparison_at t) (range_with_len 0 (length t.operators))) (λ c k.
+      let w = Contains-map_source (comparison_at t) (range_with_len 0 (length t.operators)) c k in
+      let low = Contains-range_below (length t.operators) w.0 w.1 in
+      subst (HoldsFor v) w.2 (subst IsTrue (compared_same t v w.0 valid low) (h w.0 low))))
 
   all_hold : (v : ℕ → Value) → All (HoldsFor v) task.comparisons → AreCompared t (values_of v t.head)
   all_hold v h = λ i low.
-      let there = contains_map (comparison_at t) (range_with_len 0 (length t.operators)) i (range_has (length t.operators) i low) in
+      let there = Contains-map (comparison_at t) (range_with_len 0 (length t.operators)) i (Contains-range (length t.operators) i low) in
       subst IsTrue (sym (compared_same t v i valid low)) (All-contains (HoldsFor v) (map (comparison_at t) (range_with_len 0 (length t.operators))) (comparison_at t i) (subst (λ cs. All (HoldsFor v) cs) is.comparisons h) there)
 
   agrees_all : (v : ℕ → Value) → ((i : ℕ) → i < length t.rows → bit_at m i ≡ 1 → IsRead db t m v i) → All (Agrees db.tables v) task.rows
-  agrees_all v h = All-from_recursion (Agrees db.tables v) task.rows (all_by (Agrees db.tables v) task.rows (λ r c.
+  agrees_all v h = All-members (Agrees db.tables v) task.rows (λ r c.
       let w = zip_second (IsTaskRowOf db.schema t m) (rows_in t m) task.rows r is.rows c in
       let n = of_rows t m w.0 w.1 in
-      read_row db t m w.0 r v kept valid n.0 n.1 w.2 (h w.0 n.0 n.1)))
+      read_row db t m w.0 r v kept valid n.0 n.1 w.2 (h w.0 n.0 n.1))
 
   all_read : (v : ℕ → Value) → All (Agrees db.tables v) task.rows → (i : ℕ) → i < length t.rows → bit_at m i ≡ 1 → IsRead db t m v i
   all_read v h i low set =

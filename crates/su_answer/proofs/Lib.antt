@@ -2,6 +2,7 @@ pub mod Columns
 pub mod Counting
 pub mod Covered
 pub mod Expressing
+pub mod Few
 pub mod Fits
 pub mod Gathering
 pub mod Greatest
@@ -9,6 +10,8 @@ pub mod Joined
 pub mod Merging
 pub mod Reading
 pub mod Rowing
+pub mod Single
+pub mod Supported
 pub mod Tasking
 pub mod Union
 pub mod Viewing

@@ -8,9 +8,10 @@ use Rattle.std.proofs.lemmas.List.Elements.{Contains-append_left, Contains-appen
 use Rattle.std.proofs.lemmas.Map.Keys.{sorted_head, sorted_tail}
 use Rattle.su_base.specs.declared.values.Value.{Value}
 use Rattle.su_base.specs.Value.{compare_lists}
+use Rattle.su_base.proofs.Items.{Contains-cases, Contains-later, Contains-nil}
 use Rattle.su_answer.specs.Answers.{AreMoreThan}
 use Rattle.su_answer.specs.inside.Merged.{IsTakenFrom, IsGreatestOf}
-use Rattle.su_steps.proofs.Lists.{all_by, contains_later, contains_cases, contains_none}
+use Rattle.su_steps.proofs.Lists.{all_by}
 use Rattle.su_answer.proofs.Union.{rows_more}
 
 -- ---- rows in order
@@ -52,8 +53,8 @@ module _ (before after : List (List Value)) (row : List Value) (taken : IsTakenF
       (λ (r : Contains (row ∷ []) h).
       ⊎_elim
       (λ (same : row ≡ h). inl same)
-      (λ (none : Contains [] h). absurd (contains_none h none))
-      (contains_cases row [] h r))
+      (λ (none : Contains [] h). absurd (Contains-nil h none))
+      (Contains-cases row [] h r))
       (Contains-append_cases after (row ∷ []) h (subst (λ (xs : List (List Value)). Contains xs h) e c)))
       (λ (s : (after ≡ before) × ((r : List Value) → Contains before r → compare_lists r row ≡ Less)). inr (subst (λ (xs : List (List Value)). Contains xs h) (sym s.0) c))
       taken
@@ -79,7 +80,7 @@ pub record AreMerged (rows more left right all : List (List Value)) : Type 0 whe
 
 pub none_taken : (rows more : List (List Value)) → IsStrictlySortedBy compare_lists rows → IsStrictlySortedBy compare_lists more → AreMerged rows more rows more []
 none_taken rows more s t = record {
-  members = λ h. (λ c. ⊎_elim (λ (b : Contains rows h ⊎ Contains more h). b) (λ (n : Contains [] h). absurd (contains_none h n)) c, λ b. inl b);
+  members = λ h. (λ c. ⊎_elim (λ (b : Contains rows h ⊎ Contains more h). b) (λ (n : Contains [] h). absurd (Contains-nil h n)) c, λ b. inl b);
   left_ascends = subst (λ (xs : List (List Value)). IsStrictlySortedBy compare_lists xs) (sym (append-nil rows)) s;
   right_ascends = subst (λ (xs : List (List Value)). IsStrictlySortedBy compare_lists xs) (sym (append-nil more)) t;
 }
@@ -107,8 +108,8 @@ module _ (rows more left right all : List (List Value)) (m : AreMerged rows more
       λ b. ⊎_elim
           (λ (s : Contains left h ⊎ Contains right h).
           ⊎_elim
-          (λ (c : Contains left h). absurd (contains_none h (subst (λ (xs : List (List Value)). Contains xs h) e c)))
-          (λ (c : Contains right h). absurd (contains_none h (subst (λ (xs : List (List Value)). Contains xs h) f c)))
+          (λ (c : Contains left h). absurd (Contains-nil h (subst (λ (xs : List (List Value)). Contains xs h) e c)))
+          (λ (c : Contains right h). absurd (Contains-nil h (subst (λ (xs : List (List Value)). Contains xs h) f c)))
           s)
           (λ (c : Contains all h). c)
           ((m.members h).1 b),
@@ -136,7 +137,7 @@ module _ (rows more left right all : List (List Value)) (m : AreMerged rows more
         ⊎_elim
         (λ (e : row ≡ h). subst (λ (x : List Value). Contains rows x ⊎ Contains more x) e ((m.members row).0 (inl row_of_either)))
         (λ (d : Contains all h). (m.members h).0 (inr d))
-        (contains_cases row all h c)
+        (Contains-cases row all h c)
 
     pub one_taken : AreMerged rows more left_after right_after (row ∷ all)
     one_taken = record {
@@ -163,7 +164,7 @@ module _ (rows more left right all : List (List Value)) (m : AreMerged rows more
             (λ (k : Contains right_after h). inl (inr k))
             (taken_or_there right right_after row g.of_other h d))
             s)
-            (λ (d : Contains all h). inr (contains_later row all h d))
+            (λ (d : Contains all h). inr (Contains-later row all h d))
             ((m.members h).1 b),
       );
       left_ascends = ascends_with left left_after row g.of_one all m.left_ascends row_ascends;

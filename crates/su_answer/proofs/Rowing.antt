@@ -5,12 +5,12 @@ use Rattle.std.specs.List.{range_with_len}
 use Rattle.std.specs.FinSet.{contains}
 use Rattle.std.proofs.lemmas.List.{get_or_default, length-map}
 use Rattle.std.proofs.lemmas.List.Elements.{All-contains}
-use Rattle.std.proofs.lemmas.List.FromFn.{get_or-range_with_len, length-range_with_len}
 use Rattle.std.proofs.lemmas.Option.{same_Some}
 use Rattle.su_base.specs.declared.values.Value.{Value}
 use Rattle.su_base.specs.declared.values.Kind.{Kind}
 use Rattle.su_base.specs.declared.values.Column.{Column}
 use Rattle.su_base.specs.Value.{kind_of}
+use Rattle.su_base.proofs.Items.{Contains-filter, Contains-filter_source, Contains-range, Contains-range_below}
 use Rattle.su_tableau.specs.declared.symbols.Sym.{Sym}
 use Rattle.su_tableau.specs.declared.symbols.Sym.TheVariants.{Var}
 use Rattle.su_tableau.specs.Tableaux.{Tab, IsValid, value_of, values_of}
@@ -22,19 +22,7 @@ use Rattle.su_exec.specs.Tasks.{FitsTables, HasSources}
 use Rattle.su_exec.specs.Outputs.{Agrees}
 use Rattle.su_answer.specs.Answers.{IsRead}
 use Rattle.su_answer.specs.Joined.{numbers_in, cell, IsTaskRowOf}
-use Rattle.su_steps.proofs.Lists.{contains_filter, of_filter}
 use Rattle.su_answer.proofs.Reading.{reads_each, each_read}
-
-pub range_has : (n c : ℕ) → c < n → Contains (range_with_len 0 n) c
-range_has n c l = (c, (let e = length-range_with_len 0 n in omega arith), (let e = get_or-range_with_len 0 n c c l in omega arith))
-
-pub range_low : (n c : ℕ) → Contains (range_with_len 0 n) c → c < n
-range_low n c m =
-    let e = length-range_with_len 0 n in
-    let l = m.1 in
-    let low : m.0 < n = omega arith in
-    let here = sym (get_or-range_with_len 0 n m.0 c low) ∙ m.2 in
-    omega arith
 
 -- a stored row is as wide as its table
 pub stored_wide : (db : DatabaseValue) (relation : ℕ) (stored : List Value) → IsWellKept db → relation < length db.tables → Contains (table_at db.tables relation).rows stored → length stored ≡ (table_at db.tables relation).width
@@ -50,7 +38,7 @@ module _ (db : DatabaseValue) (t : Tab) (m i : ℕ) (r : TaskRow) (v : ℕ → V
   essential_has c x h e =
       let l = h.column_in in
       let w = row_wide in
-      contains_filter (contains is.attributes) (range_with_len 0 t.width) c (range_has t.width c (omega arith)) ((is.essential c).1 e)
+      Contains-filter (contains is.attributes) (range_with_len 0 t.width) c (Contains-range t.width c (omega arith)) ((is.essential c).1 e)
 
   holds_cell : (c : ℕ) → c < t.width → Holds t m i c (cell t i c)
   holds_cell c low =
@@ -81,8 +69,8 @@ module _ (db : DatabaseValue) (t : Tab) (m i : ℕ) (r : TaskRow) (v : ℕ → V
       let s = is.all k.source k.is_source in
       let one : k.object ≡ s.2.object = same_Some k.object s.2.object (sym k.is ∙ s.2.is) in
       let reads : (c : ℕ) → Contains (numbers_in is.attributes t.width) c → read s.2.object c k.row ≡ Some (value_of v (cell t i c)) = λ c n.
-      let f = of_filter (contains is.attributes) (range_with_len 0 t.width) c n in
-      ap (λ o. read o c k.row) (sym one) ∙ k.agrees c (cell t i c) (holds_cell c (range_low t.width c f.0)) ((is.essential c).0 f.1) in
+      let f = Contains-filter_source (contains is.attributes) (range_with_len 0 t.width) c n in
+      ap (λ o. read o c k.row) (sym one) ∙ k.agrees c (cell t i c) (holds_cell c (Contains-range_below t.width c f.0)) ((is.essential c).0 f.1) in
       record {
         source = s.0;
         of_row = s.1;

@@ -1,22 +1,23 @@
 -- The answers of the kept terms, one after another, are the answers of the query.
-use Rattle.std.proofs.Common.{◌≡◌, ◌↔◌, ◌⊎◌, inl, inr, ⊎_elim, ℕ, zero, suc, ◌+◌, ◌<◌, ◌≤◌, List, [], ◌∷◌, ◌++◌, take, drop, length, get_or, Contains, All, Option, Some, None, refl, sym, ap, subst, ◌∙◌, arith}
+use Rattle.std.proofs.Common.{◌≡◌, ◌↔◌, ◌⊎◌, inl, inr, ⊎_elim, ℕ, ◌+◌, ◌<◌, ◌≤◌, List, [], ◌∷◌, ◌++◌, take, drop, length, get_or, Contains, All, Option, Some, None, refl, sym, ap, subst, ◌∙◌, arith}
 use Rattle.std.specs.Prelude.{MatchOption, IfSome, IsSome}
 use Rattle.std.specs.List.{AllZip}
 use Rattle.std.specs.List.Sorted.{IsStrictlySortedBy}
 use Rattle.std.specs.declared.cmp.Ordering.TheVariants.{Less, Equal}
 use Rattle.std.proofs.lemmas.Bool.{false≢true}
 use Rattle.std.proofs.lemmas.Cmp.{tied_itself}
-use Rattle.std.proofs.lemmas.List.Elements.{All-contains, All-from_recursion, Contains-get_or, Contains-append_left, Contains-append_right, Contains-append_cases}
+use Rattle.std.proofs.lemmas.List.Elements.{All-contains, Contains-get_or, Contains-append_left, Contains-append_right, Contains-append_cases}
 use Rattle.std.proofs.lemmas.List.{length-append, take-append-drop}
-use Rattle.std.proofs.lemmas.Map.Keys.{sorted_head, sorted_tail}
+use Rattle.std.proofs.lemmas.Map.Keys.{Less-from_sorted}
 use Rattle.su_base.specs.declared.values.Value.{Value}
 use Rattle.su_base.specs.Value.{compare_lists}
+use Rattle.su_base.proofs.Items.{Contains-later, Contains-nil, All-members}
 use Rattle.su_rel.specs.Stored.{Stored}
 use Rattle.su_tableau.specs.Tableaux.{IsValid}
 use Rattle.su_exec.specs.declared.tasks.Task.{Task}
 use Rattle.su_exec.specs.Tasks.{IsTask}
 use Rattle.su_exec.specs.Outputs.{AreOutputs, AreMore}
-use Rattle.su_exec.proofs.Sorting.{rows_total}
+use Rattle.su_base.proofs.Rows.{rows_total}
 use Rattle.su_state.specs.DatabaseValue.{DatabaseValue, IsWellKept}
 use Rattle.su_min.specs.Kept.{Minimised}
 use Rattle.su_min.specs.Reduction.{term_at, IsReduced}
@@ -26,7 +27,6 @@ use Rattle.su_answer.specs.Joined.{IsTaskOf}
 use Rattle.su_answer.specs.Answers.{IsTermAnswer, IsAnswer, AreAnswers, AreMoreThan}
 use Rattle.su_answer.specs.inside.Executed.{Join, IsFound, IsJoinOf, AreTermAnswers, IsFoundFor, IsInSome}
 use Rattle.su_answer.proofs.Joined.{outputs_are_answers}
-use Rattle.su_steps.proofs.Lists.{contains_later, contains_none, all_by}
 use Rattle.su_answer.proofs.Zipping.{zip_first, zip_second}
 
 -- ---- what a job gives
@@ -89,24 +89,18 @@ module _ (db : DatabaseValue) (minimals : List Minimised) (kept : List ℕ) (lis
 -- the lists of terms ascend
 pub lists_ascend : (db : DatabaseValue) (minimals : List Minimised) (kept : List ℕ) (lists : List Found) → AllZip (λ k f. IsFoundFor db (term_at minimals k) f) kept lists → All (λ (f : Found). IfSome f.rows (IsStrictlySortedBy compare_lists)) lists
 lists_ascend db minimals kept lists found =
-    All-from_recursion (λ (f : Found). IfSome f.rows (IsStrictlySortedBy compare_lists)) lists (all_by (λ (f : Found). IfSome f.rows (IsStrictlySortedBy compare_lists)) lists (λ f has.
+    All-members (λ (f : Found). IfSome f.rows (IsStrictlySortedBy compare_lists)) lists (λ f has.
     let w = zip_second (λ k g. IsFoundFor db (term_at minimals k) g) kept lists f found has in
-    ascends db (term_at minimals w.0) f.rows w.2))
+    ascends db (term_at minimals w.0) f.rows w.2)
 
 -- ---- more rows than there may be
-
-less_before : (rows : List (List Value)) (i j : ℕ) → IsStrictlySortedBy compare_lists rows → i < j → j < length rows → compare_lists (get_or rows i []) (get_or rows j []) ≡ Less
-less_before [] i j sorted l m = absurd (omega arith)
-less_before (r ∷ rows) i zero sorted l m = absurd (omega arith)
-less_before (r ∷ rows) zero (suc j) sorted l m = All-from_recursion (λ y. compare_lists r y ≡ Less) rows (sorted_head compare_lists r rows sorted) j [] (omega arith)
-less_before (r ∷ rows) (suc i) (suc j) sorted l m = less_before rows i j (sorted_tail compare_lists r rows sorted) (omega arith) (omega arith)
 
 pub rows_more : (n : ℕ) (P : List Value → Type 0) (rows : List (List Value)) → IsStrictlySortedBy compare_lists rows → ((h : List Value) → Contains rows h → P h) → n < length rows → AreMoreThan n P
 rows_more n P rows sorted each many = record {
   list = λ i. get_or rows i [];
   each = λ i l. each (get_or rows i []) (Contains-get_or rows i [] (omega arith));
   differ = λ i j l m same.
-      let less = less_before rows i j sorted l (omega arith) in
+      let less = Less-from_sorted compare_lists rows i j [] sorted l (omega arith) in
       let tied : compare_lists (get_or rows i []) (get_or rows i []) ≡ Equal = tied_itself rows_total (get_or rows i []) in
       let f : Less ≡ Equal = sym less ∙ ap (compare_lists (get_or rows i [])) (sym same) ∙ tied in
       cc;
@@ -120,12 +114,12 @@ zip_through R S T [] [] (z ∷ zs) f r s = absurd s
 zip_through R S T [] (y ∷ ys) zs f r s = absurd r
 zip_through R S T (x ∷ xs) [] zs f r s = absurd r
 zip_through R S T (x ∷ xs) (y ∷ ys) [] f r s = absurd s
-zip_through R S T (x ∷ xs) (y ∷ ys) (z ∷ zs) f r s = (f x y z (0, omega arith, refl) r.0 s.0, zip_through R S T xs ys zs (λ a b c m. f a b c (contains_later x xs a m)) r.1 s.1)
+zip_through R S T (x ∷ xs) (y ∷ ys) (z ∷ zs) f r s = (f x y z (0, omega arith, refl) r.0 s.0, zip_through R S T xs ys zs (λ a b c m. f a b c (Contains-later x xs a m)) r.1 s.1)
 
 -- ---- terms, some at a time
 
 pub kept_low : (p : Prepared) → IsReduced p.minimals p.reduced → All (λ k. k < length p.minimals) p.reduced.kept
-kept_low p reduced = All-from_recursion (λ k. k < length p.minimals) p.reduced.kept (all_by (λ k. k < length p.minimals) p.reduced.kept (λ k c. ((reduced.kept.members k).0 c).0))
+kept_low p reduced = All-members (λ k. k < length p.minimals) p.reduced.kept (λ k c. ((reduced.kept.members k).0 c).0)
 
 -- an answer of one of these terms
 pub record OfTerms (db : DatabaseValue) (minimals : List Minimised) (ks : List ℕ) (h : List Value) : Type 0 where
@@ -150,7 +144,7 @@ no_rows = tt
 
 pub all_left : (db : DatabaseValue) (minimals : List Minimised) (kept : List ℕ) → AreUnited db minimals kept kept []
 all_left db minimals kept = record {
-  exact = λ h. (λ s. ⊎_elim (λ (c : Contains [] h). absurd (contains_none h c)) (λ (o : OfTerms db minimals kept h). o) s, λ o. inr o);
+  exact = λ h. (λ s. ⊎_elim (λ (c : Contains [] h). absurd (Contains-nil h c)) (λ (o : OfTerms db minimals kept h). o) s, λ o. inr o);
   ascending = no_rows;
   few = omega arith;
   of_kept = λ k c. c;
@@ -159,7 +153,7 @@ all_left db minimals kept = record {
 
 pub wave_low : (db : DatabaseValue) (minimals : List Minimised) (kept left now later : List ℕ) (rows : List (List Value)) (n : ℕ) → AreUnited db minimals kept left rows → left ≡ now ++ later → All (λ k. k < n) kept → All (λ k. k < n) now
 wave_low db minimals kept left now later rows n before parts low =
-    All-from_recursion (λ k. k < n) now (all_by (λ k. k < n) now (λ k c. All-contains (λ k. k < n) kept k low (before.of_kept k (subst (λ ks. Contains ks k) (sym parts) (Contains-append_left now later k c)))))
+    All-members (λ k. k < n) now (λ k c. All-contains (λ k. k < n) kept k low (before.of_kept k (subst (λ ks. Contains ks k) (sym parts) (Contains-append_left now later k c))))
 
 pub halves : (m : ℕ) (left now later : List ℕ) → now ≡ take m left → later ≡ drop m left → left ≡ now ++ later
 halves m left now later front back = sym (subst (λ xs. xs ++ later ≡ left) (sym front) (subst (λ ys. take m left ++ ys ≡ left) (sym back) (take-append-drop m left)))
@@ -221,7 +215,7 @@ are_answers db p left rows united none = record {
     λ c. let o = (united.exact h).0 (inl c) in record { term = o.term; kept = o.member; answer = o.answer },
     λ a. ⊎_elim
         (λ (c : Contains rows h). c)
-        (λ (o : OfTerms db p.minimals left h). absurd (contains_none o.term (subst (λ ks. Contains ks o.term) none o.member)))
+        (λ (o : OfTerms db p.minimals left h). absurd (Contains-nil o.term (subst (λ ks. Contains ks o.term) none o.member)))
         ((united.exact h).1 (record { term = a.term; member = a.kept; answer = a.answer })),
   );
   ascending = united.ascending;

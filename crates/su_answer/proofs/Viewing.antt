@@ -12,6 +12,7 @@ use Rattle.su_base.specs.declared.values.Column.{Column}
 use Rattle.su_base.specs.declared.values.Value.{Value}
 use Rattle.su_base.specs.declared.values.Value.TheVariants.{Int}
 use Rattle.su_base.specs.Value.{kind_of}
+use Rattle.su_base.proofs.Items.{Contains-map, Contains-map_source, get_or-map_range}
 use Rattle.su_tableau.specs.declared.symbols.Sym.{Sym}
 use Rattle.su_tableau.specs.Tableaux.{Tab, nth, value_of}
 use Rattle.su_tableau.specs.Kinds.{IsUniverse}
@@ -28,7 +29,6 @@ use Rattle.su_answer.specs.Projections.{value_for, taken, view_through, view_of,
 use Rattle.su_state.proofs.Columns.{column_within, column_of_attribute}
 use Rattle.su_answer.proofs.Columns.{object_is, attributes_by}
 use Rattle.su_steps.proofs.Cutting.{cut_agrees}
-use Rattle.su_steps.proofs.Lists.{contains_map, of_map, made_at}
 
 module _ (db : DatabaseValue) (t : Tab) (m : ℕ) (universe : List (List Value)) (kept : IsWellKept db) (wide : t.width ≡ width db.schema) (rows_wide : All (λ row. length row ≡ t.width) t.rows) (kinds : IsUniverse (attribute_kinds db.schema) universe) (projections : AreProjections db universe) where
   spread : ObjectEntry → List Value → List Value
@@ -45,7 +45,7 @@ module _ (db : DatabaseValue) (t : Tab) (m : ℕ) (universe : List (List Value))
 
   spread_at : (object : ObjectEntry) (row : List Value) (c : ℕ) (d : Value) → c < width db.schema → get_or (spread object row) c d ≡ value_for object row c
   unfolding spread
-  spread_at object row c d low = made_at (value_for object row) (width db.schema) c d low
+  spread_at object row c d low = get_or-map_range (value_for object row) (width db.schema) c d low
 
   column_low : (i c : ℕ) (x : Sym) → Holds t m i c x → c < width db.schema
   column_low i c x h =
@@ -59,8 +59,8 @@ module _ (db : DatabaseValue) (t : Tab) (m : ℕ) (universe : List (List Value))
       let s = attributes_at db.schema r.source in
       let same = attributes_by db.schema r.source r.object r.is in
       let seen : Contains (view_of db r.source) (taken db.schema r.object r.row) =
-      subst (λ (o : Option ObjectEntry). Contains (view_through db o) (taken db.schema r.object r.row)) (sym r.is) (contains_map (taken db.schema r.object) (rows_of db r.object.relation) r.row r.stored) in
-      let w = of_map (cut s) universe (taken db.schema r.object r.row) ((projections r.source r.is_source.object (taken db.schema r.object r.row)).0 seen) in
+      subst (λ (o : Option ObjectEntry). Contains (view_through db o) (taken db.schema r.object r.row)) (sym r.is) (Contains-map (taken db.schema r.object) (rows_of db r.object.relation) r.row r.stored) in
+      let w = Contains-map_source (cut s) universe (taken db.schema r.object r.row) ((projections r.source r.is_source.object (taken db.schema r.object r.row)).0 seen) in
       let agree : Agree s w.0 (spread r.object r.row) = (cut_agrees s w.0 (spread r.object r.row) (row_length w.0 w.1 ∙ sym (spread_length r.object r.row))).0 (w.2 ∙ ap (λ q. cut q (spread r.object r.row)) (sym same)) in (
         w.0,
         w.1,
@@ -77,8 +77,8 @@ module _ (db : DatabaseValue) (t : Tab) (m : ℕ) (universe : List (List Value))
       let is : slice_get db.schema.objects o ≡ Some object = slice_get-get_or db.schema.objects o none source.1.object in
       let s = attributes_at db.schema o in
       let same = attributes_by db.schema o object is in
-      let cut_in : Contains (view_of db o) (cut s u) = (projections o source.1.object (cut s u)).1 (contains_map (cut s) universe u in_universe) in
-      let w = of_map (taken db.schema object) (rows_of db object.relation) (cut s u) (subst (λ (q : Option ObjectEntry). Contains (view_through db q) (cut s u)) is cut_in) in
+      let cut_in : Contains (view_of db o) (cut s u) = (projections o source.1.object (cut s u)).1 (Contains-map (cut s) universe u in_universe) in
+      let w = Contains-map_source (taken db.schema object) (rows_of db object.relation) (cut s u) (subst (λ (q : Option ObjectEntry). Contains (view_through db q) (cut s u)) is cut_in) in
       let agree : Agree s (spread object w.0) u = (cut_agrees s (spread object w.0) u (spread_length object w.0 ∙ sym (row_length u in_universe))).0 (ap (λ q. cut q (spread object w.0)) same ∙ w.2) in
       let own = object_is db.schema o object kept.valid is in
       let low : object.relation < length db.tables = let l = slice_get_within db.schema.relations object.relation own.relation own.stored in let k = kept.tables in omega (arith, l, k) in

@@ -3,33 +3,27 @@ use Rattle.std.proofs.Common.{◌≡◌, ℕ, ◌<◌, List, [], ◌∷◌, ◌+
 use Rattle.std.specs.Prelude.{take, length, get_or}
 use Rattle.std.specs.List.{AllZip}
 use Rattle.std.proofs.lemmas.List.{take_more}
-use Rattle.su_steps.proofs.Lists.{contains_cases, contains_later, contains_none}
+use Rattle.su_base.proofs.Items.{Contains-cases, Contains-later, Contains-nil, AllZip-push}
 
 pub zip_first : {A B : Type 0} (R : A → B → Type 0) (xs : List A) (ys : List B) (x : A) → AllZip R xs ys → Contains xs x → (y : B) × Contains ys y × R x y
-zip_first R [] ys x h c = absurd (contains_none x c)
+zip_first R [] ys x h c = absurd (Contains-nil x c)
 zip_first R (z ∷ xs) [] x h c = absurd h
 zip_first {A} R (z ∷ xs) (w ∷ ys) x h c =
     ⊎_elim
     (λ (e : z ≡ x). (w, (0, omega arith, refl), subst (λ (q : A). R q w) e h.0))
-    (λ (r : Contains xs x). let k = zip_first R xs ys x h.1 r in (k.0, contains_later w ys k.0 k.1, k.2))
-    (contains_cases z xs x c)
+    (λ (r : Contains xs x). let k = zip_first R xs ys x h.1 r in (k.0, Contains-later w ys k.0 k.1, k.2))
+    (Contains-cases z xs x c)
 
 pub zip_second : {A B : Type 0} (R : A → B → Type 0) (xs : List A) (ys : List B) (y : B) → AllZip R xs ys → Contains ys y → (x : A) × Contains xs x × R x y
-zip_second R xs [] y h c = absurd (contains_none y c)
+zip_second R xs [] y h c = absurd (Contains-nil y c)
 zip_second R [] (w ∷ ys) y h c = absurd h
 zip_second {A} {B} R (z ∷ xs) (w ∷ ys) y h c =
     ⊎_elim
     (λ (e : w ≡ y). (z, (0, omega arith, refl), subst (λ (q : B). R z q) e h.0))
-    (λ (r : Contains ys y). let k = zip_second R xs ys y h.1 r in (k.0, contains_later z xs k.0 k.1, k.2))
-    (contains_cases w ys y c)
-
-pub zip_push : {A B : Type 0} (R : A → B → Type 0) (xs : List A) (ys : List B) (x : A) (y : B) → AllZip R xs ys → R x y → AllZip R (xs ++ x ∷ []) (ys ++ y ∷ [])
-zip_push R [] [] x y h r = (r, h)
-zip_push R [] (z ∷ ys) x y h r = absurd h
-zip_push R (w ∷ xs) [] x y h r = absurd h
-zip_push R (w ∷ xs) (z ∷ ys) x y h r = (h.0, zip_push R xs ys x y h.1 r)
+    (λ (r : Contains ys y). let k = zip_second R xs ys y h.1 r in (k.0, Contains-later z xs k.0 k.1, k.2))
+    (Contains-cases w ys y c)
 
 pub zip_more : {A B : Type 0} (R : A → B → Type 0) (xs : List A) (ys next : List B) (i : ℕ) (x : A) (y : B) → i < length xs → x ≡ get_or xs i x → AllZip R (take i xs) ys → R x y → next ≡ ys ++ y ∷ [] → AllZip R (take (i + 1) xs) next
 zip_more {A} {B} R xs ys next i x y l e h r n =
     subst (λ (zs : List B). AllZip R (take (i + 1) xs) zs) (sym n)
-    (subst (λ (zs : List A). AllZip R zs (ys ++ y ∷ [])) (sym (take_more xs i x l ∙ ap (λ (z : A). take i xs ++ z ∷ []) (sym e))) (zip_push R (take i xs) ys x y h r))
+    (subst (λ (zs : List A). AllZip R zs (ys ++ y ∷ [])) (sym (take_more xs i x l ∙ ap (λ (z : A). take i xs ++ z ∷ []) (sym e))) (AllZip-push R (take i xs) ys x y h r))

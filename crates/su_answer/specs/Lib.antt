@@ -4,3 +4,4 @@ pub mod Joined
 pub mod Laws
 pub mod Prepared
 pub mod Projections
+pub mod Support

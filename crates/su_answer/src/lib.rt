@@ -9,6 +9,7 @@
 //! memory is that of the rows so far and of as many answers as there are workers.
 #![tactic(auto)]
 
+mod alone;
 mod answering;
 mod crossing;
 mod executing;
@@ -18,6 +19,7 @@ mod later;
 pub mod laws;
 mod making;
 mod preparing;
+mod supporting;
 mod tasks;
 mod uniting;
 
@@ -25,4 +27,5 @@ pub use answering::answer;
 pub use faults::AnswerFault;
 pub use making::prepare;
 pub use preparing::Prepared;
+pub use supporting::support;
 pub use tasks::task_of;

@@ -1,6 +1,5 @@
 //! What is joined for a kept term.
-ghost use Rattle.std.specs.Prelude.{◌≡◌, ℕ, ◌<◌, ◌≤◌, ◌+◌, ◌*◌, ◌++◌, ◌∷◌, [], if◌then◌else◌, IsTrue, All, Contains, Some, length, map, take, get_or, slice_get, IfOk, OnOk};
-ghost use Rattle.std.specs.Int.{bit_at};
+ghost use Rattle.std.specs.Prelude.{◌≡◌, ◌↔◌, ℕ, ◌<◌, ◌≤◌, IsTrue, All, Some, length, map, take, slice_get, IfOk};
 ghost use Rattle.std.specs.List.{AllZip, range_with_len};
 ghost use Rattle.su_map.specs.Lists.{rows_in};
 ghost use Rattle.std.specs.FinSet as set;
@@ -9,23 +8,14 @@ ghost use Rattle.su_tableau.specs.Essential.{IsEssential};
 ghost use Rattle.su_schema.specs.SchemaValue.{ObjectEntry, column_of};
 ghost use Rattle.su_steps.specs.Objects.{width, attributes_at};
 ghost use Rattle.su_answer.specs.Joined.{numbers_in, cell, comparison_at, IsSourceOf, IsTaskRowOf, IsTaskOf};
-ghost use Rattle.su_answer.specs.inside.Joined.{IsPushedIf, AreSourcesOf};
+ghost use Rattle.su_answer.specs.inside.Joined.{AreSourcesOf};
 
 use std::alloc::Global;
 use su_base::{AttrSet, List, NoMemory, ObjSet};
 use su_exec::{Compared, Source, Task, TaskRow};
 use su_schema::Schema;
-use su_steps::sources;
-use su_tableau::{Sym, Tableau, essential, has};
-
-fn push_if(numbers: &mut List<u8>, wanted: bool, number: u8) -> Result<(), NoMemory>
-    ensures { OnOk result (numbers.new ≡ numbers.old ++ (if wanted then number ∷ [] else [])) }
-{
-    if wanted {
-        numbers.push(number)?;
-    }
-    Ok(())
-}
+use su_steps::sources_within;
+use su_tableau::{Sym, Tableau, all_essential, has};
 
 /// The members of the set below `n`, ascending.
 fn members(alloc: Global, set: AttrSet, n: u8) -> Result<List<u8>, NoMemory>
@@ -34,7 +24,7 @@ fn members(alloc: Global, set: AttrSet, n: u8) -> Result<List<u8>, NoMemory>
 {
     let mut numbers = List::new(alloc);
     for a in 0..n {
-        push_if(&mut numbers, set.contains(a), a)?;
+        numbers.push_if(set.contains(a), a)?;
     }
     Ok(numbers)
 }
@@ -90,25 +80,6 @@ fn cells_of(
     Ok(cells)
 }
 
-/// Adds the source of the object, if it is wanted.
-fn push_source(
-    alloc: Global,
-    schema: &Schema,
-    sources: &mut List<Source>,
-    wanted: bool,
-    object: u8,
-    attributes: &[u8],
-) -> Result<(), NoMemory>
-    requires object { object < length schema.now.objects }
-    requires own { IsTrue wanted → All (λ a. IsTrue (set.contains (attributes_at schema.now object) a)) attributes.now }
-    ensures { OnOk result (IsPushedIf schema.now attributes.now object wanted sources.old sources.new) }
-{
-    if wanted {
-        sources.push(source_of(alloc, schema, object, attributes)?)?;
-    }
-    Ok(())
-}
-
 /// A source for each of the objects.
 fn sources_of(
     alloc: Global,
@@ -122,35 +93,31 @@ fn sources_of(
     schema.keeps_its_rules();
     let mut sources = List::new(alloc);
     for o in 0..schema.objects() as u8 {
-        push_source(
-            alloc,
-            schema,
-            &mut sources,
-            objects.contains(o),
-            o,
-            attributes,
-        )?;
+        if objects.contains(o) {
+            let source = source_of(alloc, schema, o, attributes)?;
+            sources.push(source)?;
+        }
     }
     Ok(sources)
 }
 
-/// The row at its essential columns, with the objects that may answer for it.
+/// The row at these columns, with the objects that have them. Where they are the row's essential
+/// columns among the rows of a mask, these objects may answer for it.
 fn task_row_of(
     alloc: Global,
     schema: &Schema,
     t: &Tableau,
-    mask: u64,
     row: usize,
+    columns: AttrSet,
 ) -> Result<TaskRow, NoMemory>
     requires width { t.now.width ≡ width schema.now }
     requires row { row < length t.now.rows }
-    requires in_mask { bit_at mask row ≡ 1 }
-    ensures { IfOk result (IsTaskRowOf schema.now t.now mask row) }
+    ensures { IfOk result (λ r. (m : ℕ) → ((c : ℕ) → IsTrue (set.contains columns c) ↔ IsEssential t.now m row c) → IsTaskRowOf schema.now t.now m row r) }
 {
     t.keeps_its_rules();
-    let attributes = members(alloc, essential(t, mask, row), t.width())?;
+    let attributes = members(alloc, columns, t.width())?;
     let attributes = attributes.as_slice();
-    let objects = sources(schema, t, mask, row);
+    let objects = sources_within(schema, columns);
     Ok(TaskRow {
         cells: cells_of(alloc, t, row, attributes)?,
         sources: sources_of(alloc, schema, objects, attributes)?,
@@ -168,10 +135,11 @@ fn rows_of(
     ensures { IfOk result (AllZip (IsTaskRowOf schema.now t.now mask) (rows_in t.now mask)) }
 {
     t.keeps_its_rules();
+    let columns = all_essential(alloc, t, mask)?;
     let mut rows = List::new(alloc);
     for i in 0..t.row_count() {
         if has(mask, i) {
-            rows.push(task_row_of(alloc, schema, t, mask, i)?)?;
+            rows.push(task_row_of(alloc, schema, t, i, *columns.get(i))?)?;
         }
     }
     Ok(rows)

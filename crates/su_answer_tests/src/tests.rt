@@ -7,7 +7,7 @@ use std::alloc::{AllocError, Global};
 use std::sync::atomic::{AtomicU64, Ordering};
 use std::test::Fail;
 use std::thread::{Threads, join};
-use su_answer::{Prepared, answer, prepare};
+use su_answer::{Prepared, answer, prepare, support};
 use su_base::{List, Row, Value};
 use su_maxobj::maximal_objects;
 use su_par::{Gate, OpenGate};
@@ -46,6 +46,9 @@ const COURSES: &str =
 
 const PAIR: &str =
     "attribute A int; attribute B int; relation P (A int, B int); object AB (A, B) from P (A, B);";
+
+const CHAIN: &str =
+    "attribute A int; attribute B int; attribute C int; attribute D int; attribute E int; attribute F int; attribute G int; attribute H int; attribute I int; attribute J int; relation P (X int, Y int); object AB (A, B) from P (X, Y); object BC (B, C) from P (X, Y); object CD (C, D) from P (X, Y); object DE (D, E) from P (X, Y); object EF (E, F) from P (X, Y); object FG (F, G) from P (X, Y); object GH (G, H) from P (X, Y); object HI (H, I) from P (X, Y); object IJ (I, J) from P (X, Y);";
 
 fn add(db: &mut Database, statement: Statement) -> Result<(), Fail> {
     match statement {
@@ -367,6 +370,10 @@ fn a_query_is_not_prepared_for_its_first_cause(rt: HostRuntime) -> Result<(), Fa
     for (text, want) in cases {
         assert_eq!(rt; refused_for(&rt, a, &db, text)?, want);
     }
+    // eight variables that each take nine objects
+    let chain = opened(a, CHAIN)?;
+    let text = "retrieve (A, b.A, c.A, d.A, e.A, f.A, g.A, h.A)";
+    assert_eq!(rt; refused_for(&rt, a, &chain, text)?, "rows");
     Ok(())
 }
 
@@ -586,5 +593,77 @@ fn one_thread_answers_while_another_prepares(rt: HostRuntime) -> Result<(), Fail
         "1 /2 /"
     );
     assert_eq!(rt; meeting.passes(), (1, 1, 0));
+    Ok(())
+}
+
+/// What is counted for the query of the text: of each row its number, its candidates and what is left.
+fn supported<R: Threads + Sync>(
+    rt: &R,
+    alloc: Global,
+    db: &Database,
+    text: &str,
+) -> Result<String, Fail> {
+    let statement = read(alloc, text.as_bytes())?;
+    let resolved = resolved_of(alloc, db, &statement)?;
+    let prepared = prepared_for(rt, alloc, db, &resolved, 1, &OpenGate)?;
+    let mut out = String::new(alloc);
+    for counts in support(alloc, db, &prepared)?.as_slice() {
+        let form = if counts.acyclic { "acyclic" } else { "cyclic" };
+        out.push_str(format!(in alloc; "{} {form}", counts.term)?.as_str())?;
+        for row in counts.rows.as_slice() {
+            out.push_str(format!(in alloc; ", {} {}", row.row, row.candidates)?.as_str())?;
+            if let Some(left) = row.left {
+                out.push_str(format!(in alloc; " {left}")?.as_str())?;
+            }
+        }
+        out.push_str("; ")?;
+    }
+    Ok(out)
+}
+
+const TRIANGLE: &str =
+    "attribute A int; attribute B int; attribute C int; relation RAB (A int, B int); relation RBC (B int, C int); relation RCA (C int, A int); object AB (A, B) from RAB (A, B); object BC (B, C) from RBC (B, C); object CA (C, A) from RCA (C, A); maximal (AB, BC, CA);";
+
+const TWICE: &str =
+    "attribute A int; attribute B int; relation P (A int, B int); relation Q (A int, B int); object ABP (A, B) from P (A, B); object ABQ (A, B) from Q (A, B);";
+
+#[test]
+fn semijoins_leave_what_takes_part(rt: HostRuntime) -> Result<(), Fail> {
+    let a = rt.alloc();
+    let cases = [
+        // of two accounts and of two loans one is Jones'
+        (
+            stored(a, BANK, &BANK_ROWS)?,
+            "retrieve (BANK) where CUST = 'Jones'",
+            "0 acyclic, 0 2 1, 1 1 1; 1 acyclic, 0 2 1, 1 1 1; ",
+        ),
+        (
+            stored(
+                a,
+                TRIANGLE,
+                &[
+                    "insert RAB (1, 2)",
+                    "insert RAB (4, 5)",
+                    "insert RBC (2, 3)",
+                    "insert RCA (3, 1)",
+                ],
+            )?,
+            "retrieve (A, B, C)",
+            "0 cyclic, 0 2, 1 1, 2 1; ",
+        ),
+        // a candidate that two sources give counts once
+        (
+            stored(
+                a,
+                TWICE,
+                &["insert P (1, 2)", "insert P (3, 4)", "insert Q (1, 2)"],
+            )?,
+            "retrieve (A, B)",
+            "0 acyclic, 0 2 2; ",
+        ),
+    ];
+    for (db, text, want) in &cases {
+        assert_eq!(rt; supported(&rt, a, db, text)?.as_str(), *want);
+    }
     Ok(())
 }

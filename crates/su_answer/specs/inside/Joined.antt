@@ -1,7 +1,7 @@
 -- Sources of objects, gathered one after another.
 -- No public contract cites this module.
 use Rattle.std.specs.Int.{bit_at}
-use Rattle.std.specs.Prelude.{◌≡◌, ◌<◌, ℕ, IsTrue, Bool, true, false, List, [], ◌∷◌, ◌++◌, length, Contains}
+use Rattle.std.specs.Prelude.{◌≡◌, ◌<◌, ℕ, IsTrue, List, length, Contains}
 use Rattle.std.specs.Ordering.{nat_cmp}
 use Rattle.std.specs.FinSet.{FinSet, contains}
 use Rattle.su_tableau.specs.Tableaux.{Tab}
@@ -9,11 +9,6 @@ use Rattle.su_schema.specs.SchemaValue.{SchemaValue}
 use Rattle.su_steps.specs.Sources.{IsSource}
 use Rattle.su_exec.specs.declared.tasks.Source.{Source}
 use Rattle.su_answer.specs.Joined.{IsSourceOf}
-
--- a source of the object stands behind the others, where it is wanted
-abbrev pub IsPushedIf : SchemaValue → List ℕ → ℕ → Bool → List Source → List Source → Type 0
-IsPushedIf schema attributes o true before after = (s : Source) × IsSourceOf schema attributes o s × (after ≡ before ++ s ∷ [])
-IsPushedIf schema attributes o false before after = after ≡ before
 
 -- the sources are those of the objects of the set below n
 pub record AreSourcesOf (schema : SchemaValue) (attributes : List ℕ) (n : ℕ) (objects : FinSet nat_cmp) (sources : List Source) : Type 0 where

@@ -3,4 +3,4 @@ use Rattle.su_steps.proofs.Passing.{passing_push}
 use Rattle.su_answer.proofs.tasks.members.Goals as goal
 
 pub loop-a-preserved : goal.loop-a-preserved
-loop-a-preserved c = passing_push (contains c.args.set) c.loop-a.a c.contains.result _ _ c.loop-a.invariant c.contains.ensures c.in_ok-push_if.ensures
+loop-a-preserved c = passing_push (contains c.args.set) c.loop-a.a c.contains.result _ _ c.loop-a.invariant c.contains.ensures c.in_ok-push_if.ensures.ok
