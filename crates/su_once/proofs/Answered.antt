@@ -64,7 +64,7 @@ module _ (a b : DatabaseValue) (alike : AreAlike a b) where
   answer_moves : (p : Prepared) (h : List Value) → IsAnswer a p h → IsAnswer b p h
   answer_moves p h x = record { term = x.term; kept = x.kept; answer = term_moves (term_at p.minimals x.term) h x.answer }
 
-back : (a b : DatabaseValue) → AreAlike a b → AreAlike b a
+pub back : (a b : DatabaseValue) → AreAlike a b → AreAlike b a
 back a b alike = record { schema = sym alike.schema; tables = sym alike.tables; rows = λ r z. ((alike.rows r z).1, (alike.rows r z).0); counts = λ r. sym (alike.counts r) }
 
 same_preparation : (a b : DatabaseValue) (maximal : List (FinSet nat_cmp)) (q : Resolved) (p other : Prepared) → AreAlike a b → IsPrepared a.schema maximal q p → IsPrepared b.schema maximal q other → p ≡ other

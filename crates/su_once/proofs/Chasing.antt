@@ -9,8 +9,10 @@ use Rattle.su_tableau.specs.Tableaux.{Tab, IsValid, Occurs}
 use Rattle.su_chase.specs.Chase.{InOneClass, IsNoLater, IsName, IsConsistent, IsClash}
 use Rattle.su_chase.specs.Chased.{IsChased}
 use Rattle.su_chase.specs.inside.Rows.{named_tab}
-use Rattle.su_chase.proofs.Answering.{one_symbol}
-use Rattle.su_chase.proofs.Reading.{map_read, contains_map, of_map}
+use Rattle.su_chase.proofs.NamedAnswers.{one_symbol}
+use Rattle.su_chase.proofs.Images.{map_read}
+use Rattle.su_base.proofs.Items.{Contains-map as contains_map}
+use Rattle.su_base.proofs.Items.{Contains-map_source as of_map}
 use Rattle.su_chase.proofs.Named.{same_const}
 use Rattle.su_once.specs.Verdicts.{OneClassName, OneClash, OneChase}
 

@@ -8,7 +8,7 @@ use Rattle.su_fd.specs.Derivation.{IsDerivation, right_side}
 use Rattle.su_once.specs.Closures.{OneClosure, OneDerivation}
 
 -- two tests that hold together are equal
-same_test : (a b : Bool) → (IsTrue a → IsTrue b) → (IsTrue b → IsTrue a) → a ≡ b
+pub same_test : (a b : Bool) → (IsTrue a → IsTrue b) → (IsTrue b → IsTrue a) → a ≡ b
 same_test true b f g = sym (f refl)
 same_test false true f g = g refl
 same_test false false f g = refl

@@ -11,7 +11,7 @@ use Rattle.su_tableau.specs.Kinds.{sym_kind}
 use Rattle.su_classes.proofs.Listed.{map_same}
 use Rattle.su_chase.specs.Frozen.{candidate, IsTaken, IsFirstFree, IsFrozen}
 use Rattle.su_chase.specs.declared.freezing.Frozen.{Frozen}
-use Rattle.su_chase.proofs.Thawing.{row_occurs}
+use Rattle.su_chase.proofs.FrozenValues.{row_occurs}
 use Rattle.su_once.specs.Verdicts.{OneFreezing}
 
 -- values that are avoided, and the same values in another order

@@ -17,5 +17,6 @@ pub mod Frozen
 pub mod Compared
 pub mod Windowed
 pub mod Told
+pub mod Supported
 pub mod Paired
 pub mod Replied

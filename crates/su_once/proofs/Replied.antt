@@ -14,7 +14,7 @@ use Rattle.su_query.specs.declared.faults.QueryFault.TheVariants as query
 use Rattle.su_query.specs.declared.statements.Query.{Query as AQuery}
 use Rattle.su_query.specs.declared.resolving.Resolved.{Resolved}
 use Rattle.su_query.specs.declared.statements.Statement.{Statement}
-use Rattle.su_query.specs.declared.statements.Statement.TheVariants.{Insert, Delete, DeleteWhere, Load, Print, Schema, Closure, Retrieve, Explain, Certify, Compare, Window}
+use Rattle.su_query.specs.declared.statements.Statement.TheVariants.{Insert, Delete, DeleteWhere, Load, Print, Schema, Closure, Retrieve, Explain, Certify, Support, Compare, Window}
 use Rattle.su_query.specs.Lookup.{resolved_of, with_columns}
 use Rattle.su_maxobj.proofs.Listed.{one_list as one_list_of_maximal}
 use Rattle.su_steps.specs.declared.faults.StepFault.{StepFault}
@@ -24,6 +24,7 @@ use Rattle.su_state.specs.Loads.{Loads}
 use Rattle.su_state.specs.Definitions.{Defines}
 use Rattle.su_answer.specs.declared.preparing.Prepared.{Prepared}
 use Rattle.su_answer.specs.Prepared.{IsPrepared}
+use Rattle.su_answer.specs.Support.{AreSupports}
 use Rattle.su_check.specs.declared.nodes.Node.{Node}
 use Rattle.su_refute.specs.AllTrees.{AreTrees, HasMoreNodes, all_nodes}
 use Rattle.su_refute.specs.Written.{certificate_of, certificate_text}
@@ -34,12 +35,15 @@ use Rattle.su_show.specs.declared.statement_refusal.Refusal.{Refusal}
 use Rattle.su_show.specs.declared.statement_refusal.Refusal.TheVariants as refusal
 use Rattle.su_show.specs.Refusing.{IsNoMemory}
 use Rattle.su_show.specs.Replies.{rows_text, header_of, schema_reply}
+use Rattle.su_show.specs.Changes.{deleted_text}
 use Rattle.su_show.specs.Explaining.{IsExplanation}
+use Rattle.su_show.specs.Supports.{supports_text}
 use Rattle.su_session.specs.declared.replies.Reply.{Reply}
 use Rattle.su_session.specs.declared.wants.Want.TheVariants.{Nothing, File}
-use Rattle.su_session.specs.Telling.{Accepts, Refuses, TellsInsert, TellsDelete, TellsLoad, TellsDefine, deleted_text}
+use Rattle.su_session.specs.Telling.{Accepts, Refuses, TellsInsert, TellsDelete, TellsLoad, TellsDefine}
 use Rattle.su_session.specs.Retrieving.{IsRefusalOf, HasTerms, AfterTerms, Retrieves, Explains}
 use Rattle.su_session.specs.Certifying.{Certifies, node_limit}
+use Rattle.su_session.specs.Supporting.{Supports}
 use Rattle.su_session.specs.Comparing.{IsTermsRefusal, ShowsVerdicts, ComparesTerms, Compares}
 use Rattle.su_session.specs.Windowing.{attribute_numbers, TellsWindowFault, ShowsWindow}
 use Rattle.su_session.specs.Statements.{InRelation, InsertsRow, DeletesRow, DeletesRows, LoadsRows, PrintsRows, ShowsSchema, ShowsClosure, Answers, relation_number}
@@ -52,6 +56,7 @@ use Rattle.su_once.proofs.Defined.{one_defined}
 use Rattle.su_once.proofs.Explained.{one_explanation, one_closure_reply}
 use Rattle.su_once.proofs.Loaded.{one_load}
 use Rattle.su_once.proofs.Paired.{one_form_refusal, refused_or_formed, one_terms_refusal, refused_or_accepted, one_verdicts_text}
+use Rattle.su_once.proofs.Supported.{one_supports}
 use Rattle.su_once.proofs.Windowed.{one_window, one_window_refusal, refused_or_fitting}
 use Rattle.su_once.proofs.OneReading.{one_statement, one_refusal, not_refused, one_query_refusal, query_not_refused, one_column_refusal, condition_not_refused}
 use Rattle.su_once.proofs.Refused.{one_step_refusal, not_refused as has_terms}
@@ -202,6 +207,12 @@ module _ (a : DatabaseValue) (tables : List Stored) (alike : AreAlike a (record 
         let same = one_preparation a.schema maximal (resolved_of a.schema q) p other is_p is_other in
         no_more other.minimals node_limit trees are upto (subst (λ (v : Prepared). HasMoreNodes v.minimals node_limit) same many)
 
+  supports : (q : AQuery) → Supports a q r c → Supports b q s d → Same
+  supports q h k = after_terms q _ _ h k (λ maximal (x, one) (y, two).
+      let same = one_preparation a.schema maximal (resolved_of a.schema q) x.prepared y.prepared x.is_prepared y.is_prepared in
+      let other = subst (λ (p : Prepared). AreSupports b p y.supports) (sym same) y.are_supports in
+      agree _ _ x.text y.text (ap supports_text (one_supports a b x.prepared x.supports y.supports alike x.are_supports other)) one two)
+
   -- of two queries of one form
   compares_terms : (p q : Resolved) → ComparesTerms a p q r c → ComparesTerms b p q s d → Same
   compares_terms p q (maximal, are, h) (others, these, k) =
@@ -255,6 +266,7 @@ module _ (a : DatabaseValue) (tables : List Stored) (alike : AreAlike a (record 
   answers file (Retrieve q) h k = retrieves q h k
   answers file (Explain q) h k = explains q h k
   answers file (Certify q) h k = certifies q h k
+  answers file (Support q) h k = supports q h k
   answers file (Compare first second) h k = compares first second h k
   answers file (Window names) h k = shows_window names h k
 

@@ -16,19 +16,21 @@ use Rattle.su_tableau.specs.declared.symbols.Sym.TheVariants.{Const, Var}
 use Rattle.su_tableau.proofs.Containment.{map_twice}
 use Rattle.su_classes.proofs.Listed.{map_same}
 use Rattle.su_chase.specs.Chase.{SameLabels, IsClosed, InOneClass, IsClash}
-use Rattle.su_chase.proofs.Reading.{map_at, contains_map, of_map}
+use Rattle.std.proofs.lemmas.List.{get_or-map as map_at}
+use Rattle.su_base.proofs.Items.{Contains-map as contains_map}
+use Rattle.su_base.proofs.Items.{Contains-map_source as of_map}
 use Rattle.su_schema.specs.SchemaValue.{SchemaValue, ObjectEntry, attributes_of}
 use Rattle.su_state.specs.DatabaseValue.{DatabaseValue, rows_of, rows_in}
 use Rattle.su_window.specs.declared.faults.WindowFault.{WindowFault}
 use Rattle.su_window.specs.declared.faults.WindowFault.TheVariants.{Limit, Inconsistent, NoMemory}
 use Rattle.su_window.specs.declared.readings.Reading.{Reading}
-use Rattle.su_window.specs.Cuts.{width, attributes_at, cut}
-use Rattle.su_window.specs.Views.{value_for, taken, view_through, view_of}
+use Rattle.su_schema.specs.Cuts.{width, attributes_at, cut}
+use Rattle.su_state.specs.Views.{value_for, taken, view_through, view_of}
 use Rattle.su_window.specs.Members.{Member, IsMember, AreMembers, HasFew, HasMany}
 use Rattle.su_window.specs.Window.{Fits, InWindow}
 use Rattle.su_window.specs.Padded.{object_at, row_read, member_read, IsReading, AreReadings, padded, padded_row, padded_rows}
 use Rattle.su_window.specs.Refusals.{Clashes, IsWindowRefusal}
-use Rattle.su_window.proofs.Cutting.{cut_agrees}
+use Rattle.su_schema.proofs.Cuts.{cut_agrees}
 use Rattle.su_once.specs.States.{AreAlike}
 use Rattle.su_once.specs.Windows.{IsWindow, OneWindow, OneWindowRefusal, RefusedOrFitting}
 use Rattle.su_once.proofs.Changed.{same_schema}

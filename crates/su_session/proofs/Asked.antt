@@ -36,6 +36,7 @@ form_begins st s (g.closure _ names _ t e w h) = ap begins_definition w
 form_begins st s (g.retrieve _ q _ e h) = ap begins_definition h.begins
 form_begins st s (g.explain _ q _ t e w h) = ap begins_definition w
 form_begins st s (g.certify _ q _ t e w h) = ap begins_definition w
+form_begins st s (g.support _ q _ t e w h) = ap begins_definition w
 form_begins st s (g.compare _ first second _ t e w h) = ap begins_definition w
 form_begins st s (g.window _ names _ t e w h) = ap begins_definition w
 

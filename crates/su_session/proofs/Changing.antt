@@ -18,8 +18,9 @@ use Rattle.su_state.specs.Changes.{Inserts, Deletes, DeletesWhere}
 use Rattle.su_state.specs.Loads.{Loads, InsertsAll}
 use Rattle.su_show.specs.declared.statement_refusal.Refusal.TheVariants.{State, Record, Csv}
 use Rattle.su_show.specs.Refusing.{IsStateMemory, IsCsvMemory}
+use Rattle.su_show.specs.Changes.{deleted_text, loaded_text}
 use Rattle.su_session.specs.declared.replies.Reply.{Reply}
-use Rattle.su_session.specs.Telling.{Accepts, Refuses, deleted_text, loaded_text}
+use Rattle.su_session.specs.Telling.{Accepts, Refuses}
 use Rattle.su_session.specs.Statements.{InRelation, InsertsRow, DeletesRow, DeletesRows, LoadsRows}
 use Rattle.su_session.proofs.Relations.{columns_are}
 

@@ -7,7 +7,7 @@ use Rattle.su_lex.proofs.Written.{one_list_of_symbols}
 use Rattle.su_query.specs.declared.statements.Query.{Query as AQuery}
 use Rattle.su_query.specs.declared.statements.Statement.{Statement}
 use Rattle.su_query.specs.declared.statements.Statement.TheVariants.{Retrieve}
-use Rattle.su_query.specs.Forms.{IsForm, insert, delete, delete_where, load, print, schema, closure, retrieve, explain, certify, compare, window}
+use Rattle.su_query.specs.Forms.{IsForm, insert, delete, delete_where, load, print, schema, closure, retrieve, explain, certify, support, compare, window}
 use Rattle.su_query.specs.Reading.{IsStatement}
 use Rattle.su_query.proofs.Uniqueness.{statement_unique}
 use Rattle.su_state.specs.DatabaseValue.{DatabaseValue}
@@ -31,6 +31,7 @@ no_definition st s (closure _ names _ t e is form) = ap begins_definition is
 no_definition st s (retrieve _ q _ e form) = ap begins_definition form.begins
 no_definition st s (explain _ q _ t e is form) = ap begins_definition is
 no_definition st s (certify _ q _ t e is form) = ap begins_definition is
+no_definition st s (support _ q _ t e is form) = ap begins_definition is
 no_definition st s (compare _ first second _ t e is form) = ap begins_definition is
 no_definition st s (window _ names _ t e is form) = ap begins_definition is
 

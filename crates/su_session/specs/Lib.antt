@@ -2,6 +2,7 @@ pub mod Opening
 pub mod Reply
 pub mod Retrieving
 pub mod Statements
+pub mod Supporting
 pub mod Telling
 pub mod Certifying
 pub mod Commands

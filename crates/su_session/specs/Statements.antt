@@ -10,7 +10,7 @@ use Rattle.su_query.specs.declared.conditions.NamedCond.{NamedCond}
 use Rattle.su_query.specs.declared.faults.QueryFault.{QueryFault}
 use Rattle.su_query.specs.declared.faults.QueryFault.TheVariants.{Unknown}
 use Rattle.su_query.specs.declared.statements.Statement.{Statement}
-use Rattle.su_query.specs.declared.statements.Statement.TheVariants.{Insert, Delete, DeleteWhere, Load, Print, Schema, Closure, Retrieve, Explain, Certify, Compare, Window}
+use Rattle.su_query.specs.declared.statements.Statement.TheVariants.{Insert, Delete, DeleteWhere, Load, Print, Schema, Closure, Retrieve, Explain, Certify, Support, Compare, Window}
 use Rattle.su_query.specs.Lookup.{IsColumnCondition, IsColumnRefusal, with_columns, first_unknown_name}
 use Rattle.su_query.specs.Sets.{attributes_named}
 use Rattle.su_maxobj.specs.MaximalObjects.{AreMaximalObjects}
@@ -22,10 +22,12 @@ use Rattle.su_state.specs.Changes.{AreInOrder, Inserts, Deletes, DeletesWhere}
 use Rattle.su_state.specs.Loads.{Loads}
 use Rattle.su_show.specs.declared.statement_refusal.Refusal.TheVariants.{Query, State, Csv}
 use Rattle.su_show.specs.Replies.{rows_text, schema_reply, IsClosureReply}
+use Rattle.su_show.specs.Changes.{deleted_text}
 use Rattle.su_session.specs.declared.replies.Reply.{Reply}
-use Rattle.su_session.specs.Telling.{Accepts, Refuses, TellsInsert, TellsDelete, TellsLoad, deleted_text}
+use Rattle.su_session.specs.Telling.{Accepts, Refuses, TellsInsert, TellsDelete, TellsLoad}
 use Rattle.su_session.specs.Retrieving.{Retrieves, Explains}
 use Rattle.su_session.specs.Certifying.{Certifies}
+use Rattle.su_session.specs.Supporting.{Supports}
 use Rattle.su_session.specs.Comparing.{Compares}
 use Rattle.su_session.specs.Windowing.{ShowsWindow}
 
@@ -87,5 +89,6 @@ Answers db file (Closure names) reply new = ShowsClosure db names reply new
 Answers db file (Retrieve q) reply new = Retrieves db q reply new
 Answers db file (Explain q) reply new = Explains db q reply new
 Answers db file (Certify q) reply new = Certifies db q reply new
+Answers db file (Support q) reply new = Supports db q reply new
 Answers db file (Compare first second) reply new = Compares db first second reply new
 Answers db file (Window names) reply new = ShowsWindow db names reply new

@@ -1,6 +1,6 @@
 -- How an outcome is told.
 -- accepted: the text alone; refused: the line of the refusal, and the database is as before
-use Rattle.std.specs.Prelude.{◌≡◌, ℕ, Bool, true, false, List, ◌++◌, codes, decimal, Result, Ok, Err}
+use Rattle.std.specs.Prelude.{◌≡◌, ℕ, Bool, true, false, List, Result, Ok, Err}
 use Rattle.su_state.specs.DatabaseValue.{DatabaseValue}
 use Rattle.su_state.specs.declared.faults.StateFault.{StateFault}
 use Rattle.su_state.specs.declared.faults.LoadEnd.{LoadEnd}
@@ -9,6 +9,7 @@ use Rattle.su_state.specs.declared.faults.DefineFault.{DefineFault}
 use Rattle.su_show.specs.declared.statement_refusal.Refusal.{Refusal}
 use Rattle.su_show.specs.declared.statement_refusal.Refusal.TheVariants.{State, Record, Define}
 use Rattle.su_show.specs.Refusing.{refusal_line, IsNoMemory}
+use Rattle.su_show.specs.Changes.{inserted_text, deleted_text, loaded_text, defined_text}
 use Rattle.su_session.specs.declared.replies.Reply.{Reply}
 
 -- an accepted statement with this text
@@ -25,23 +26,15 @@ pub record Refuses (db : DatabaseValue) (refusal : Refusal) (reply : Reply) (new
 
 -- the answer to an insert
 abbrev pub TellsInsert : DatabaseValue → Result Bool StateFault → Reply → DatabaseValue → Type 0
-TellsInsert db (Ok true) reply new = Accepts (codes "inserted 1\n") reply
-TellsInsert db (Ok false) reply new = Accepts (codes "inserted 0\n") reply
+TellsInsert db (Ok true) reply new = Accepts (inserted_text 1) reply
+TellsInsert db (Ok false) reply new = Accepts (inserted_text 0) reply
 TellsInsert db (Err fault) reply new = Refuses db (State fault) reply new
 
 -- the answer to a delete of a row
 abbrev pub TellsDelete : DatabaseValue → Result Bool StateFault → Reply → DatabaseValue → Type 0
-TellsDelete db (Ok true) reply new = Accepts (codes "deleted 1\n") reply
-TellsDelete db (Ok false) reply new = Accepts (codes "deleted 0\n") reply
+TellsDelete db (Ok true) reply new = Accepts (deleted_text 1) reply
+TellsDelete db (Ok false) reply new = Accepts (deleted_text 0) reply
 TellsDelete db (Err fault) reply new = Refuses db (State fault) reply new
-
--- how many rows were deleted
-abbrev pub deleted_text : ℕ → List ℕ
-deleted_text count = codes "deleted " ++ decimal count ++ codes "\n"
-
--- how many rows were new, and how many were given
-abbrev pub loaded_text : ℕ → ℕ → List ℕ
-loaded_text count records = codes "loaded " ++ decimal count ++ codes " of " ++ decimal records ++ codes "\n"
 
 -- the answer to a load of so many records
 abbrev pub TellsLoad : DatabaseValue → ℕ → Result ℕ LoadEnd → Reply → DatabaseValue → Type 0
@@ -51,5 +44,5 @@ TellsLoad db records (Err load.NoMemory) reply new = ⊥
 
 -- the answer to a definition
 abbrev pub TellsDefine : DatabaseValue → Result (Unit {0}) DefineFault → Reply → DatabaseValue → Type 0
-TellsDefine db (Ok _) reply new = Accepts (codes "defined\n") reply
+TellsDefine db (Ok _) reply new = Accepts defined_text reply
 TellsDefine db (Err fault) reply new = Refuses db (Define fault) reply new

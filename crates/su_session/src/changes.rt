@@ -3,13 +3,12 @@ ghost use Rattle.std.specs.Prelude.{◌≡◌, ◌≤◌, true, length, IfOk, On
 ghost use Rattle.su_query.specs.Mentions.{are_columns, comparisons_of};
 ghost use Rattle.su_session.specs.Statements.{InRelation, InsertsRow, DeletesRow, DeletesRows, LoadsRows};
 
-use crate::replies::{Reply, accepted_line, refused};
-use crate::roomy::{deleted, loaded, room};
+use crate::replies::{Reply, accepted, refused};
 use std::alloc::Global;
 use su_base::{NoMemory, Row, Str};
 use su_csv::read;
 use su_query::{NamedCond, resolve_columns};
-use su_show::Refusal;
+use su_show::{Refusal, Room};
 use su_state::{Database, LoadEnd};
 
 pub(crate) fn insert(
@@ -26,11 +25,10 @@ pub(crate) fn insert(
         Ok(relation) => relation,
         Err(fault) => return refused(alloc, db, Refusal::State(fault)),
     };
-    let added = accepted_line(alloc, "inserted 1\n")?;
-    let known = accepted_line(alloc, "inserted 0\n")?;
+    let room = Room::new(alloc)?;
     match db.insert(relation, row) {
-        Ok(true) => Ok(added),
-        Ok(false) => Ok(known),
+        Ok(true) => Ok(accepted(room.inserted(1))),
+        Ok(false) => Ok(accepted(room.inserted(0))),
         Err(fault) => refused(alloc, db, Refusal::State(fault)),
     }
 }
@@ -49,11 +47,10 @@ pub(crate) fn delete(
         Ok(relation) => relation,
         Err(fault) => return refused(alloc, db, Refusal::State(fault)),
     };
-    let gone = accepted_line(alloc, "deleted 1\n")?;
-    let none = accepted_line(alloc, "deleted 0\n")?;
+    let room = Room::new(alloc)?;
     match db.delete(relation, row) {
-        Ok(true) => Ok(gone),
-        Ok(false) => Ok(none),
+        Ok(true) => Ok(accepted(room.deleted(1))),
+        Ok(false) => Ok(accepted(room.deleted(0))),
         Err(fault) => refused(alloc, db, Refusal::State(fault)),
     }
 }
@@ -78,9 +75,9 @@ pub(crate) fn delete_where(
         Ok(cond) => cond,
         Err(fault) => return refused(alloc, db, Refusal::Query(fault)),
     };
-    let room = room(alloc)?;
+    let room = Room::new(alloc)?;
     let count = db.delete_where(relation, &cond)?;
-    Ok(deleted(room, count))
+    Ok(accepted(room.deleted(count)))
 }
 
 pub(crate) fn load(
@@ -102,9 +99,9 @@ pub(crate) fn load(
         Err(fault) => return refused(alloc, db, Refusal::Csv(relation, fault)),
     };
     let records = rows.len() as u64;
-    let room = room(alloc)?;
+    let room = Room::new(alloc)?;
     match db.load(relation, rows) {
-        Ok(count) => Ok(loaded(room, count, records)),
+        Ok(count) => Ok(accepted(room.loaded(count, records))),
         Err(LoadEnd::Refused(fault)) => refused(alloc, db, Refusal::Record(fault)),
         Err(LoadEnd::NoMemory) => Err(NoMemory),
     }

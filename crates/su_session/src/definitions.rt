@@ -5,13 +5,13 @@ ghost use Rattle.su_schema.specs.SchemaValue.{SchemaValue};
 ghost use Rattle.su_schema.specs.Defining.{applied, IsRefusal, IsWellNamed};
 ghost use Rattle.su_session.specs.Reply.{AddsDefinition};
 
-use crate::replies::{Reply, accepted_line, refused};
+use crate::replies::{Reply, accepted, refused};
 use crate::sessions::Session;
 use std::alloc::Global;
 use su_base::{List, NoMemory, ObjSet};
 use su_maxobj::maximal_objects;
 use su_schema::{Definition, Schema, SchemaFault};
-use su_show::Refusal;
+use su_show::{Refusal, Room};
 use su_state::DefineFault;
 
 // The maximal objects of the schema with the definition.
@@ -44,11 +44,11 @@ impl Session {
                 return refused(self.alloc, &self.db, why);
             }
         };
-        let reply = accepted_line(self.alloc, "defined\n")?;
+        let room = Room::new(self.alloc)?;
         match self.db.define(definition) {
             Ok(()) => {
                 self.maximal = maximal;
-                Ok(reply)
+                Ok(accepted(room.defined()))
             }
             Err(fault) => refused(self.alloc, &self.db, Refusal::Define(fault)),
         }

@@ -16,9 +16,9 @@ mod definitions;
 pub mod laws;
 mod replies;
 mod retrieving;
-mod roomy;
 mod sessions;
 mod showing;
+mod supporting;
 mod wants;
 mod windowing;
 

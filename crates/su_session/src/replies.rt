@@ -1,5 +1,5 @@
 //! The reply to a statement.
-ghost use Rattle.std.specs.Prelude.{◌≡◌, ◌++◌, IfOk, decimal, codes};
+ghost use Rattle.std.specs.Prelude.{◌≡◌, ◌++◌, IfOk};
 ghost use Rattle.su_show.specs.Refusing.{refusal_line, IsNoMemory};
 ghost use Rattle.su_session.specs.Telling.{Accepts, Refuses};
 
@@ -24,15 +24,6 @@ pub(crate) fn accepted(bytes: List<u8>) -> Reply
         refused: false,
         bytes,
     }
-}
-
-// The reply to an accepted statement, of these words.
-pub(crate) fn accepted_line(alloc: Global, line: &str) -> Result<Reply, NoMemory>
-    ensures { IfOk result (Accepts line.now) }
-{
-    let mut text = Vec::new(alloc);
-    text.extend_from_slice(line.as_bytes())?;
-    Ok(accepted(List::from_vec(text)))
 }
 
 // The reply to a refused statement. Want of memory is handed on.

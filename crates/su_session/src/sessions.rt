@@ -8,6 +8,7 @@ use crate::comparing::compare;
 use crate::replies::{Reply, refused};
 use crate::retrieving::{explain, retrieve};
 use crate::showing::{closure, print, show_schema};
+use crate::supporting::support;
 use crate::wants::Want;
 use crate::windowing::show_window;
 use std::alloc::Global;
@@ -77,6 +78,7 @@ impl Session {
     ghost use Rattle.su_query.specs.Reading.{AreFew, HasFew, IsReady};
     ghost use Rattle.su_session.specs.Retrieving.{Retrieves, Explains};
     ghost use Rattle.su_session.specs.Certifying.{Certifies};
+    ghost use Rattle.su_session.specs.Supporting.{Supports};
 
     /// A session on a schema whose relations are empty.
     pub fn open(alloc: Global, schema: Schema) -> Result<Session, NoMemory>
@@ -189,6 +191,7 @@ impl Session {
             Statement::Retrieve(query) => self.retrieve(rt, &query, workers, gate),
             Statement::Explain(query) => self.explain(rt, &query, workers, gate),
             Statement::Certify(query) => self.certify(rt, &query, workers, gate),
+            Statement::Support(query) => self.support(rt, &query, workers, gate),
             Statement::Compare { first, second } => {
                 compare(
                     self.alloc,
@@ -250,5 +253,21 @@ impl Session {
     {
         let maximal = self.maximal.as_slice();
         certify(rt, self.alloc, &self.db, maximal, query, workers, gate)
+    }
+
+    fn support<R: Threads + Sync, G: Gate>(
+        &self,
+        rt: &R,
+        query: &Query,
+        workers: u8,
+        gate: &G,
+    ) -> Result<Reply, NoMemory>
+        requires few { AreFew query.now.outputs query.now.cond }
+        requires least { 1 ≤ workers }
+        requires most { workers ≤ 16 }
+        ensures { IfOk result (λ reply. Supports self.now query.now reply self.now) }
+    {
+        let maximal = self.maximal.as_slice();
+        support(rt, self.alloc, &self.db, maximal, query, workers, gate)
     }
 }

@@ -1,9 +1,11 @@
+pub mod Changes
 pub mod Explaining
 pub mod Lines
 pub mod MinimalLines
 pub mod Refusals
 pub mod Refusing
 pub mod Replies
+pub mod Supports
 pub mod Symbols
 pub mod TableauLines
 pub mod Values

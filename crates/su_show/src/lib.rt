@@ -4,6 +4,7 @@
 //! none of the schema's is shown as an empty name; want of memory is no text and is handed on.
 #![tactic(auto)]
 
+mod changes;
 mod closures;
 mod columns;
 mod crossing;
@@ -16,11 +17,13 @@ mod refusing;
 mod row_lists;
 mod schemas;
 mod statement_refusal;
+mod support_lines;
 mod symbols;
 mod tableau_lines;
 mod values;
 mod verdicts;
 
+pub use changes::Room;
 pub use closures::closure;
 pub use explaining::explanation;
 pub use headers::header;
@@ -29,4 +32,5 @@ pub use refusing::refusal;
 pub use row_lists::rows;
 pub use schemas::schema;
 pub use statement_refusal::Refusal;
+pub use support_lines::supports;
 pub use verdicts::verdict;

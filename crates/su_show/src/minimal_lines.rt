@@ -1,6 +1,8 @@
 //! The lines of what is kept of a term.
-ghost use Rattle.std.specs.Prelude.{◌≡◌, ◌++◌, ◌<◌, ◌↔◌, [], IsTrue, length, Contains, codes, decimal, OnOk};
+ghost use Rattle.std.specs.Prelude.{◌≡◌, ◌++◌, ◌<◌, ◌↔◌, ℕ, [], IsTrue, length, Contains, codes, decimal, OnOk};
+ghost use Rattle.std.specs.FinSet.{contains};
 ghost use Rattle.std.specs.Int.{bit_at};
+ghost use Rattle.su_tableau.specs.Essential.{IsEssential};
 ghost use Rattle.su_tableau.specs.Parts.{keep_if};
 ghost use Rattle.su_map.specs.Lists.{rows_in};
 ghost use Rattle.su_show.specs.Lines.{Adds, AreLines};
@@ -11,12 +13,12 @@ use crate::parts::{push, push_number};
 use crate::tableau_lines::push_numbers;
 use crate::values::push_objects;
 use std::alloc::Global;
-use su_base::{NoMemory, ObjSet};
+use su_base::{AttrSet, NoMemory, ObjSet};
 use su_map::Mapping;
 use su_min::{Cover, Minimal, Reduced};
 use su_schema::Schema;
-use su_steps::sources;
-use su_tableau::has;
+use su_steps::sources_within;
+use su_tableau::{all_essential, has};
 
 // A row behind a space, if it is in the mask.
 fn push_row_in(alloc: Global, out: &mut Vec<u8>, mask: u64, row: usize) -> Result<(), NoMemory>
@@ -71,19 +73,19 @@ fn push_source_line(
     push(out, "\n")
 }
 
-// The sources of a kept row.
+// The sources of a row whose essential columns these are.
 fn push_sources(
     alloc: Global,
     out: &mut Vec<u8>,
     schema: &Schema,
     minimal: &Minimal,
     row: usize,
+    columns: AttrSet,
 ) -> Result<(), NoMemory>
-    requires row { row < length minimal.now.tableau.rows }
-    requires kept { bit_at minimal.now.mask row ≡ 1 }
+    requires { (c : ℕ) → IsTrue (contains columns c) ↔ IsEssential minimal.now.tableau minimal.now.mask row c }
     ensures { OnOk result (Adds (IsSourcesLine schema.now minimal.now row) out.old.items out.new.items) }
 {
-    let found = sources(schema, minimal.tableau(), minimal.mask(), row);
+    let found = sources_within(schema, columns);
     push_source_line(alloc, out, schema, row, found)
 }
 
@@ -96,10 +98,12 @@ fn push_all_sources(
 ) -> Result<(), NoMemory>
     ensures { OnOk result (Adds (AreLines (IsSourcesLine schema.now minimal.now) (rows_in minimal.now.tableau minimal.now.mask)) out.old.items out.new.items) }
 {
+    let kept = minimal.mask();
+    let columns = all_essential(alloc, minimal.tableau(), kept)?;
     let rows = minimal.tableau().row_count();
     for row in 0..rows {
-        if has(minimal.mask(), row) {
-            push_sources(alloc, out, schema, minimal, row)?;
+        if has(kept, row) {
+            push_sources(alloc, out, schema, minimal, row, *columns.get(row))?;
         }
     }
     Ok(())

@@ -2,6 +2,8 @@
 #![tactic(auto)]
 
 #[cfg(test)]
+mod change_tests;
+#[cfg(test)]
 mod definition_tests;
 #[cfg(test)]
 mod examples;
@@ -11,5 +13,7 @@ mod explanation_tests;
 mod reply_tests;
 #[cfg(test)]
 mod statement_tests;
+#[cfg(test)]
+mod support_tests;
 #[cfg(test)]
 mod tests;

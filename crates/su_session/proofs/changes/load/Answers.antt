@@ -17,7 +17,7 @@ pub returns-in-Ok-load-clause-replied : goal.returns-in-Ok-load-clause-replied
 returns-in-Ok-load-clause-replied c =
     let old = c.args.db.now in
     let r = c.in-Ok.relation in
-    loaded_rows old c.args.name.now c.loaded.result r (rw c.as_str.ensures at c.in-Ok.ensures.found) c.args.file.now c.columns.result.now (rw c.schema.ensures at c.columns.ensures.at) c.load.new.self c.in-Ok-read.rows c.in-Ok-read.ensures.rows c.in-Ok-load.count c.len-records.result c.len-records.ensures c.in-Ok-load.ensures c.loaded.ensures
+    loaded_rows old c.args.name.now c.accepted.result r (rw c.as_str.ensures at c.in-Ok.ensures.found) c.args.file.now c.columns.result.now (rw c.schema.ensures at c.columns.ensures.at) c.load.new.self c.in-Ok-read.rows c.in-Ok-read.ensures.rows c.in-Ok-load.count c.len-records.result c.len-records.ensures c.in-Ok-load.ensures (rw c.loaded.ensures at c.accepted.ensures)
 
 pub returns-in-Ok-load-clause-schema : goal.returns-in-Ok-load-clause-schema
 returns-in-Ok-load-clause-schema c = same_schema c.args.db.now c.load.new.self c.in-Ok.relation c.in-Ok-read.rows c.in-Ok-load.count c.in-Ok-load.ensures
