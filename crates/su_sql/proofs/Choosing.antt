@@ -18,7 +18,7 @@ use Rattle.su_exec.specs.declared.tasks.Task.{Task}
 use Rattle.su_exec.specs.Tasks.{Occurs, FitsTables, HasSources, IsTask}
 use Rattle.su_exec.specs.Outputs.{Agrees, Holds, IsOutput}
 use Rattle.su_steps.proofs.Lists.{all_by, contains_later, contains_cases, contains_none, contains_map, of_map, contains_flat, of_flat}
-use Rattle.su_answer.proofs.Rowing.{range_has, range_low}
+use Rattle.su_base.proofs.Items.{Contains-range, Contains-range_below}
 use Rattle.su_sql.specs.declared.tables.Place.{Place}
 use Rattle.su_sql.specs.declared.tables.Join.{Join}
 use Rattle.su_sql.specs.declared.tables.Fixed.{Fixed}
@@ -153,8 +153,8 @@ module _ (cells : List Cell) (choice : List (List Value)) where
 
 cell_there : (rows : List TaskRow) (t i : ℕ) → t < length rows → i < length (get_or rows t no_row).cells → Contains (cells_of rows) (cell_at t (get_or rows t no_row) i)
 cell_there rows t i low in_row =
-    contains_flat (λ n. cells_in n (get_or rows n no_row)) (range_with_len 0 (length rows)) t (cell_at t (get_or rows t no_row) i) (range_has (length rows) t low)
-    (contains_map (cell_at t (get_or rows t no_row)) (range_with_len 0 (length (get_or rows t no_row).cells)) i (range_has (length (get_or rows t no_row).cells) i in_row))
+    contains_flat (λ n. cells_in n (get_or rows n no_row)) (range_with_len 0 (length rows)) t (cell_at t (get_or rows t no_row) i) (Contains-range (length rows) t low)
+    (contains_map (cell_at t (get_or rows t no_row)) (range_with_len 0 (length (get_or rows t no_row).cells)) i (Contains-range (length (get_or rows t no_row).cells) i in_row))
 
 -- a fact of each cell of the rows
 of_cells : (rows : List TaskRow) (P : Cell → Type 0) → ((t i : ℕ) → t < length rows → i < length (get_or rows t no_row).cells → P (cell_at t (get_or rows t no_row) i)) → (c : Cell) → Contains (cells_of rows) c → P c
@@ -162,7 +162,7 @@ of_cells rows P h c m =
     let w = of_flat (λ n. cells_in n (get_or rows n no_row)) (range_with_len 0 (length rows)) c m in
     let row = get_or rows w.0 no_row in
     let k = of_map (cell_at w.0 row) (range_with_len 0 (length row.cells)) c w.2 in
-    subst P k.2 (h w.0 k.0 (range_low (length rows) w.0 w.1) (range_low (length row.cells) k.0 k.1))
+    subst P k.2 (h w.0 k.0 (Contains-range_below (length rows) w.0 w.1) (Contains-range_below (length row.cells) k.0 k.1))
 
 -- a variable that occurs stands in a cell
 occurs_there : (task : Task) (k : ℕ) → Occurs task k → (c : Cell) × Contains (cells_of task.rows) c × (c.symbol ≡ Var k)

@@ -33,7 +33,7 @@ use Rattle.su_answer.specs.Answers.{IsRead, StoredAnswer}
 use Rattle.su_answer.specs.Joined.{numbers_in, cell, IsTaskRowOf, comparison_at, IsTaskOf}
 use Rattle.su_answer.proofs.Joined.{in_rows, of_rows}
 use Rattle.su_answer.proofs.Reading.{reads_each, each_read}
-use Rattle.su_answer.proofs.Rowing.{range_has, range_low}
+use Rattle.su_base.proofs.Items.{Contains-range, Contains-range_below}
 use Rattle.su_answer.proofs.Zipping.{zip_first, zip_second}
 use Rattle.su_sql.specs.Stored.{AreStored}
 
@@ -54,7 +54,7 @@ module _ (db : DatabaseValue) (t : Tab) (m : ℕ) (task : Task) (schema_valid : 
     essential_has c x h e =
         let l = h.column_in in
         let w = row_wide in
-        contains_filter (contains of'.attributes) (range_with_len 0 t.width) c (range_has t.width c (omega (arith, l, w))) ((of'.essential c).1 e)
+        contains_filter (contains of'.attributes) (range_with_len 0 t.width) c (Contains-range t.width c (omega (arith, l, w))) ((of'.essential c).1 e)
 
     holds_cell : (c : ℕ) → c < t.width → Holds t m i c (cell t i c)
     holds_cell c low =
@@ -90,7 +90,7 @@ module _ (db : DatabaseValue) (t : Tab) (m : ℕ) (task : Task) (schema_valid : 
         let one : k.object ≡ s.2.object = same_Some k.object s.2.object (sym k.is ∙ s.2.is) in
         let reads : (c : ℕ) → Contains (numbers_in of'.attributes t.width) c → read s.2.object c k.row ≡ Some (value_of v (cell t i c)) = λ c n.
         let f = of_filter (contains of'.attributes) (range_with_len 0 t.width) c n in
-        ap (λ o. read o c k.row) (sym one) ∙ k.agrees c (cell t i c) (holds_cell c (range_low t.width c f.0)) ((of'.essential c).0 f.1) in
+        ap (λ o. read o c k.row) (sym one) ∙ k.agrees c (cell t i c) (holds_cell c (Contains-range_below t.width c f.0)) ((of'.essential c).0 f.1) in
         record {
           source = s.0;
           of_row = s.1;
@@ -138,12 +138,12 @@ module _ (db : DatabaseValue) (t : Tab) (m : ℕ) (task : Task) (schema_valid : 
       subst (λ cs. All (HoldsFor v) cs) (sym is.comparisons)
       (All-from_recursion (HoldsFor v) comparisons (all_by (HoldsFor v) comparisons (λ c k.
       let w = of_map (comparison_at t) (range_with_len 0 (length t.operators)) c k in
-      let low = range_low (length t.operators) w.0 w.1 in
+      let low = Contains-range_below (length t.operators) w.0 w.1 in
       subst (HoldsFor v) w.2 (subst IsTrue (compared_same v w.0 low) (h w.0 low)))))
 
   all_hold : (v : ℕ → Value) → All (HoldsFor v) task.comparisons → AreCompared t (values_of v t.head)
   all_hold v h = λ i low.
-      let there = contains_map (comparison_at t) (range_with_len 0 (length t.operators)) i (range_has (length t.operators) i low) in
+      let there = contains_map (comparison_at t) (range_with_len 0 (length t.operators)) i (Contains-range (length t.operators) i low) in
       subst IsTrue (sym (compared_same v i low)) (All-contains (HoldsFor v) comparisons (comparison_at t i) (subst (λ cs. All (HoldsFor v) cs) is.comparisons h) there)
 
   -- ---- all rows
