@@ -1,11 +1,11 @@
 #!/usr/bin/env python3
 """Times queries beside the sqlite3 program, in processor time, the least of several runs.
 
-usage: queries.py PROGRAM [bank N] [cross] [chain K] [--best B]
+usage: queries.py PROGRAM [bank N] [cross] [chain K] [long K N] [--best B]
 
 A query's time is that of a script that loads the rows and asks it often, less that of the load alone.
 bank N: the bank with N accounts and N loans; cross: three relations of 1,000 rows that share nothing;
-chain K: K relations of 4 rows in a chain whose ends don't meet.
+chain K: K relations of 4 rows in a chain whose ends don't meet; long K N: such of N rows each, with one partner a row.
 """
 import resource
 import subprocess
@@ -98,16 +98,17 @@ def cross(program):
     compare(program, "cross", schema, tables, {query: select})
 
 
-def chain(program, k):
+def chain(program, name, k, rows):
+    """Relations in a chain: `rows` gives those of each, whose second values are raised in the middle, so that they have no partner."""
     schema = "".join(f"attribute A{i} int;" for i in range(k + 1))
     schema += "".join(f"relation R{i} (A{i} int, A{i + 1} int); object O{i} (A{i}, A{i + 1}) from R{i} (A{i}, A{i + 1});" for i in range(k))
     schema += f"maximal ({', '.join(f'O{i}' for i in range(k))});"
     middle = k // 2
-    tables = {f"R{i}": (f"A{i},A{i + 1}", [(a, b + (2 if i == middle else 0)) for a in range(2) for b in range(2)]) for i in range(k)}
+    tables = {f"R{i}": (f"A{i},A{i + 1}", [(a, b + (len(rows) if i == middle else 0)) for a, b in rows]) for i in range(k)}
     names = ", ".join(f"A{i}" for i in range(k + 1))
     joins = "R0" + "".join(f" join R{i} on R{i - 1}.A{i} = R{i}.A{i}" for i in range(1, k))
     columns = "R0.A0, " + ", ".join(f"R{i}.A{i + 1}" for i in range(k))
-    compare(program, f"chain {k}", schema, tables, {f"retrieve ({names})": f"select distinct {columns} from {joins}"})
+    compare(program, name, schema, tables, {f"retrieve ({names})": f"select distinct {columns} from {joins}"})
 
 
 def main():
@@ -119,7 +120,10 @@ def main():
         elif word == "cross":
             cross(program)
         elif word == "chain":
-            chain(program, int(words[at + 1]))
+            chain(program, f"chain {words[at + 1]}", int(words[at + 1]), [(a, b) for a in range(2) for b in range(2)])
+        elif word == "long":
+            k, n = int(words[at + 1]), int(words[at + 2])
+            chain(program, f"long {k} {n}", k, [(a, (7 * a + 3) % n) for a in range(n)])
 
 
 if __name__ == "__main__":

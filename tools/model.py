@@ -12,6 +12,7 @@ A whole number is an `int`, a text a `str`. A symbol is ("const", value) or ("va
 """
 import collections
 import copy
+import functools
 import itertools
 import math
 import os
@@ -280,7 +281,8 @@ def read_statement(found):
         parts.append(reader.listed(reader.name))
         queries = [([(None, name) for name in parts[0]], ("all", []))] if word == "window" else []
     elif word in ["retrieve", "explain"]:
-        word = "explain with" if word == "explain" and reader.has("with") else word
+        more = word == "explain" and next((more for more in ["with", "from"] if reader.has(more)), None)
+        word = f"explain {more}" if more else word
         reader.at -= word == "retrieve"
         parts = read_query(reader)
         queries = [parts]
@@ -515,16 +517,25 @@ def sources(schema, term, rows, r):
     """All objects of the schema whose attributes include the row's essential columns."""
     return [o for o, item in enumerate(schema.objects) if essential(term, rows, r) <= set(item[2])]
 
+def edge(term, rows, r):
+    """The symbols of a kept row at its essential columns."""
+    return [term.rows[r][a] for a in sorted(essential(term, rows, r))]
+
+def candidates(database, term, rows, r):
+    """The values at a kept row's essential columns that some stored row has, read through one of its sources, that is,
+    through the columns of that object, and that some valuation gives the row's symbols there."""
+    columns, stored = sorted(essential(term, rows, r)), set()
+    for o in sources(database.schema, term, rows, r):
+        _, relation, taken = database.schema.objects[o]
+        stored |= {tuple(("const", row[taken[a]]) for a in columns) for row in database.stored[relation]}
+    return [values for values in stored if agreeing({}, edge(term, rows, r), values) is not None]
+
 def valuations(database, term, rows):
-    """All valuations under which every kept row agrees, on its essential columns, with some stored row read through
-    one of its sources, that is, through the columns of that object."""
+    """All valuations that give every kept row one of its candidates."""
     found = [{}]
     for r in rows:
-        columns, stored = sorted(essential(term, rows, r)), set()
-        for o in sources(database.schema, term, rows, r):
-            _, relation, taken = database.schema.objects[o]
-            stored |= {tuple(("const", row[taken[a]]) for a in columns) for row in database.stored[relation]}
-        longer = [agreeing(valuation, [term.rows[r][a] for a in columns], row) for valuation in found for row in stored]
+        cells, given = edge(term, rows, r), candidates(database, term, rows, r)
+        longer = [agreeing(valuation, cells, values) for valuation in found for values in given]
         found = [valuation for valuation in longer if valuation is not None]
     return found
 
@@ -541,6 +552,35 @@ def answer(database, reduced):
     if len(found) > 1000000:
         raise Refused("limit answer 1000000")
     return sorted(found, key=row_order)
+
+# What takes part in the answer
+def has_ear_order(edges):
+    """Whether sets of variables are none, or one of them shares variables with none of the others, or only such as one
+    and the same other has, and those others are again so."""
+    @functools.lru_cache(None)
+    def ordered(numbers):
+        def is_ear(e):
+            others = [edges[i] for i in numbers if i != e]
+            shared = edges[e] & set().union(*others)
+            return not shared or any(shared <= other for other in others)
+        return not numbers or any(is_ear(e) and ordered(numbers - {e}) for e in numbers)
+    return ordered(frozenset(range(len(edges))))
+
+def supported(database, reduced):
+    """For each kept term whether its kept rows' variables have such an order, and for each kept row the number of its
+    candidates and, if they have, of those that a valuation gives it that gives every kept row one of its own."""
+    lines = []
+    for i in reduced.kept:
+        term, rows = reduced.terms[i], reduced.rows[i]
+        edges = [edge(term, rows, r) for r in rows]
+        acyclic = has_ear_order([frozenset(cell for cell in cells if cell[0] == "var") for cells in edges])
+        lines.append(f"term {i} {'acyclic' if acyclic else 'cyclic'}")
+        found = valuations(database, term, rows) if acyclic else []
+        for r, cells in zip(rows, edges):
+            left = {tuple(valuation.get(cell, cell) for cell in cells) for valuation in found}
+            counted = f"  row {r} candidates {len(candidates(database, term, rows, r))}"
+            lines.append(counted + (f" left {len(left)}" if acyclic else ""))
+    return lines
 
 # The explanation
 def explanation(schema, written, query, reduced):
@@ -738,7 +778,7 @@ def replied(database, piece, files):
         used, reached = derivation(schema.fds, {find(schema.attributes, name) for name in parts[0]})
         names = " ".join(names_of(schema.attributes, reached))
         return ["closure " + names] + ["  by " + shown_fd(schema, fd) for fd in used]
-    if word in ["retrieve", "explain", "explain with"]:
+    if word in ["retrieve", "explain", "explain with", "explain from"]:
         query = Query(schema, *parts)
         reduced = Reduced(terms(schema, maximal_objects(schema), query))
         if word == "explain":
@@ -747,6 +787,8 @@ def replied(database, piece, files):
             if certificates.node_count(reduced, head) > 200000:
                 raise Refused("limit nodes 200000")
             return certificates.written(schema, reduced, head, shown_value)
+        if word == "explain from":
+            return supported(database, reduced)
         return table([shown_ref(ref) for ref in parts[0]], answer(database, reduced))
     if word == "compare":
         return compared(schema, *parts)

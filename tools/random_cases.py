@@ -257,7 +257,7 @@ def is_quick(database, text):
 def quick_query(draw, database):
     """A query behind its word, if any, that the model does in little time."""
     while True:
-        text = draw.choice(["", "", "explain ", "explain with "]) + query(draw, database)
+        text = draw.choice(["", "", "", "explain ", "explain with ", "explain from "]) + query(draw, database)
         if is_quick(database, text):
             return text
 
@@ -394,7 +394,7 @@ def statement(draw, database, files):
                             f"window ({', '.join(['A'] * 129)})", f"window ({', '.join(['A'] * 128)})",
                             f"compare (retrieve ({', '.join(['A'] * 129)})) with (retrieve (A) where t.A = A or "
                             "u.A = A or v.A = A or w.A = A or x.A = A or y.A = A or z.A = A or s.A = A)",
-                            "explain from retrieve (A)", "explain with with retrieve (A)",
+                            "explain from with retrieve (A)", "explain with with retrieve (A)",
                             "retrieve (A) where not not A = 1",
                             f"print {'L' * 65}", f"insert NOPE ('{'t' * 4097}')", f"insert NOPE ('{'t' * 4096}')",
                             f"insert {name} ({', '.join(repr('t' * 4096) for _ in columns)})",
@@ -518,14 +518,35 @@ def certificate_case(draw, database):
     return Case([], [], {"certificate": [changed(draw, certificate)]}, ["check", "certificate"])
 
 
+# Rings
+def ring_case(draw):
+    """Queries over objects in a ring, of which those are cyclic that keep them all."""
+    names = [f"A{i}" for i in range(draw.choice([3, 3, 4]))]
+    pairs, one = list(zip(names, names[1:] + names[:1])), draw.random() < 0.3
+    relations = [0 if one else i for i in range(len(names))]
+    schema = [f"attribute {name} int" for name in names]
+    schema += [f"relation R{r} (X int, Y int)" for r in sorted(set(relations))]
+    schema += [f"object O{i} ({a}, {b}) from R{r} (X, Y)" for i, ((a, b), r) in enumerate(zip(pairs, relations))]
+    schema.append(f"maximal ({', '.join(f'O{i}' for i in range(len(names)))})")
+    script = [f"insert R{draw.choice(relations)} ({draw.randrange(3)}, {draw.randrange(3)})" for _ in range(draw.choice([0, 4, 8]))]
+    for _ in range(3):
+        outputs = ", ".join(names if draw.random() < 0.6 else draw.sample(names, 2))
+        where = draw.choice(["", "", f" where {names[0]} = {draw.randrange(3)}", f" where {names[0]} < {names[2]}"])
+        script.append(f"{draw.choice(['', 'explain from ', 'explain from '])}retrieve ({outputs}){where}")
+    return Case([s.encode() for s in schema], [s.encode() for s in script])
+
+
 def random_case(draw, number):
-    """A random case; every tenth is one at a limit, and every tenth the check of a certificate; some few are large."""
+    """A random case; every tenth is one at a limit, every tenth the check of a certificate, every twenty-fifth a ring; some
+    few are large."""
     large = large_cases.large_case(draw, number)
     if large:
         return Case(*large)
     if number % 10 == 9:
         found = limited(draw, number // 10)
         return Case([s.encode() for s in found.schema], [s.encode() for s in found.script])
+    if number % 25 == 7:
+        return ring_case(draw)
     schema = [s.encode() for s in schema_statements(draw)]
     database = model.Database(model.read_schema(b";".join(schema)))
     if number % 10 == 4:
