@@ -1,4 +1,4 @@
-ghost use Rattle.std.specs.Prelude.{◌≡◌, ◌<◌, ℕ, All, Contains, length};
+ghost use Rattle.std.specs.Prelude.{◌≡◌, ◌<◌, ℕ, IsTrue, All, Contains, length};
 ghost use Rattle.std.specs.Bool.{OnTrue};
 ghost use Rattle.su_tableau.specs.declared.symbols.Sym.TheVariants.{Var};
 ghost use Rattle.su_exec.specs.Tasks.{FitsTables, HasSources, IsTask, Occurs};
@@ -193,7 +193,7 @@ fn rows_fit(tables: &[Table], rows: &[TaskRow]) -> bool
 
 /// Whether the cells have the variable.
 fn has_variable(cells: &[Sym], k: u32) -> bool
-    ensures { OnTrue result (Contains cells.now (Var k)) }
+    ensures { IsTrue result → Contains cells.now (Var k) }
 {
     for cell in cells {
         if let Sym::Var(l) = cell {

@@ -4,6 +4,6 @@ use Rattle.su_exec.proofs.Labelling.{stands_at}
 use Rattle.su_exec_tests.proofs.tests.stands_in_some.Goals as goal
 
 pub returns-then-has_variable : goal.returns-then-has_variable
-returns-then-has_variable c = λ _.
+returns-then-has_variable c =
     let here : Contains c.get.result.now.cells (Var c.args.k) = subst (λ cells. Contains cells (Var c.args.k)) c.as_slice.ensures (c.has_variable.ensures c.if-has_variable.true) in
     (c.loop-i.i, stands_at c.args.task.now c.args.k c.loop-i.i c.get.result.now c.get.ensures here)
