@@ -1,7 +1,0 @@
-//! Tests of su_session, of its public calls alone: a crate with tests is proved twice, so they stand beside it.
-#![tactic(auto)]
-
-#[cfg(test)]
-mod bank_tests;
-#[cfg(test)]
-mod tests;
