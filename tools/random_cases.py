@@ -5,6 +5,9 @@ import re
 import certificates
 import large_cases
 import model
+import model_queries
+import model_schema
+import model_texts
 
 KINDS = 14
 MOST_CALLS = 20000
@@ -173,7 +176,7 @@ def query(draw, database, signs=tuple(SIGNS)):
         if asked and is_small(schema, maximal, asked):
             return asked
         for variable in draw.sample(VARIABLES, draw.choice([1, 1, 2, 2, 3])):
-            inside = sorted(model.attributes_of(schema, draw.choice(maximal)))
+            inside = sorted(model_schema.attributes_of(schema, draw.choice(maximal)))
             if draw.random() < 0.05:
                 inside = list(range(len(schema.attributes)))
             for a in draw.sample(inside, min(len(inside), draw.choice([1, 2, 2, 3]))):
@@ -188,7 +191,7 @@ def query(draw, database, signs=tuple(SIGNS)):
     return f"retrieve ({refs[0][0]})"
 
 
-def over_a_dependency(draw, schema, signs=tuple(model.OPERATORS), anywhere=False):
+def over_a_dependency(draw, schema, signs=tuple(model_texts.OPERATORS), anywhere=False):
     """A query of two variables that agree on the left side of a dependency, and compares their right sides. The dependency
     lies in an object, or may be any."""
     lying = [(fd, (None, None, fd[0] | fd[1])) for fd in schema.fds] if anywhere else model.lying(schema)
@@ -216,9 +219,9 @@ def is_small(schema, maximal, text):
         found = model.Query(schema, *model.read_statement(model.tokens(text.encode()))[1])
     except model.Refused:
         return True
-    rows, choices = 0, model.disjunct_count(found.condition)
+    rows, choices = 0, model_queries.disjunct_count(found.condition)
     for mentioned in found.mentioned:
-        sizes = [len(members) for members in maximal if mentioned <= model.attributes_of(schema, members)]
+        sizes = [len(members) for members in maximal if mentioned <= model_schema.attributes_of(schema, members)]
         rows, choices = rows + max(sizes, default=0), choices * len(sizes)
     return choices <= 16 and choices << rows <= 2048
 
@@ -229,7 +232,8 @@ class TooMuch(Exception):
 
 def is_quick(database, text):
     """Whether the model does a query with few comparisons of rows, those for the trees of a certificate with them."""
-    calls, parts = 0, [(model, "agreeing", model.agreeing), (certificates, "fits", certificates.fits)]
+    calls, parts = 0, [(model, "agreeing", model.agreeing), (model_queries, "agreeing", model_queries.agreeing),
+                       (certificates, "fits", certificates.fits)]
 
     def counted(call):
         def counting(*given):

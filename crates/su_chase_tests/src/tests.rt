@@ -5,6 +5,7 @@ ghost use Rattle.su_tableau.specs.Kinds.{IsTyped, sym_kind};
 ghost use Rattle.su_chase.specs.Chased.{IsFdBelow};
 
 use std::alloc::Global;
+use std::process::Abort;
 use std::test::Fail;
 use su_base::{AttrSet, Kind, List, NoMemory, Str, Value};
 use su_chase::{Chased, Closed, Frozen, chase, close, freeze};
@@ -164,7 +165,7 @@ struct Case {
 }
 
 /// The name of each variable, and the constants that clash.
-const CASES: [Case; 7] = [
+const CASES: &[Case] = &[
     // nothing is asked
     Case {
         width: 2,
@@ -259,26 +260,35 @@ fn clashes(found: &Option<(Value, Value)>, wanted: Option<(i64, i64)>) -> bool {
     }
 }
 
+/// Whether the symbols are these.
+fn are_symbols(alloc: Global, symbols: &[Sym], cells: &[Cell]) -> Result<bool, NoMemory> {
+    let wanted = row_of(alloc, cells)?;
+    Ok(same(symbols, wanted.as_slice()))
+}
+
+/// The classes of the case.
+fn classes_of(alloc: Global, case: &Case) -> Result<Closed, Fail> {
+    let rows = rows_of(alloc, case.rows)?;
+    let fds = fds_of(alloc, case.fds)?;
+    match closed(alloc, fds.as_slice(), rows.as_slice(), case.width)? {
+        Some(found) => Ok(found),
+        None => Err(Fail::from("rows of another width")),
+    }
+}
+
 #[test]
 fn classes_have_their_first_symbols_for_names(rt: HostRuntime) -> Result<(), Fail> {
-    let alloc = rt.alloc();
     for (i, case) in CASES.iter().enumerate() {
-        let rows = rows_of(alloc, case.rows)?;
-        let fds = fds_of(alloc, case.fds)?;
-        let found = closed(alloc, fds.as_slice(), rows.as_slice(), case.width)?;
-        let Closed { names, clash } = found.expect(&rt, "rows of the width");
-        let wanted = row_of(alloc, case.names)?;
-        assert!(rt;
-            same(names.as_slice(), wanted.as_slice()),
-            "names of case {i}"
-        );
+        let Closed { names, clash } = classes_of(rt.alloc(), case)?;
+        let named = are_symbols(rt.alloc(), names.as_slice(), case.names)?;
+        assert!(rt; named, "names of case {i}");
         assert!(rt; clashes(&clash, case.clash), "clash of case {i}");
     }
     Ok(())
 }
 
 /// Attributes BANK, ACCT, CUST, BAL, LOAN, AMT, ADDR.
-const BANK_FDS: [Sides; 5] = [
+const BANK_FDS: &[Sides] = &[
     (&[1], &[0]),
     (&[1], &[3]),
     (&[2], &[6]),
@@ -287,7 +297,7 @@ const BANK_FDS: [Sides; 5] = [
 ];
 
 /// The banks: rows of the objects BANK ACCT, ACCT CUST, ACCT BAL and CUST ADDR.
-const BANKS: [&[Cell]; 4] = [
+const BANKS: &[&[Cell]] = &[
     &[V(0), V(1), V(9), V(10), V(11), V(12), V(13)],
     &[V(14), V(1), V(2), V(17), V(18), V(19), V(20)],
     &[V(21), V(1), V(23), V(3), V(25), V(26), V(27)],
@@ -295,7 +305,7 @@ const BANKS: [&[Cell]; 4] = [
 ];
 
 /// The same rows by their names.
-const CHASED: [&[Cell]; 4] = [
+const CHASED: &[&[Cell]] = &[
     &[V(0), V(1), V(9), V(3), V(11), V(12), V(13)],
     &[V(0), V(1), V(2), V(3), V(18), V(19), V(6)],
     &[V(0), V(1), V(23), V(3), V(25), V(26), V(27)],
@@ -313,37 +323,56 @@ fn tableau_of(
     Ok(Tableau::checked(width, rows, head, 1, List::new(alloc)))
 }
 
-#[test]
-fn banks_are_chased(rt: HostRuntime) -> Result<(), Fail> {
-    let alloc = rt.alloc();
-    let t = tableau_of(alloc, 7, &BANKS, &[V(14)])?.expect(&rt, "valid parts");
-    let fds = fds_of(alloc, &BANK_FDS)?;
-    let found = chased(alloc, fds.as_slice(), &t)?.expect(&rt, "dependencies below the width");
-    let Chased::Closed(c) = found else {
-        return Err(Fail::from("a clash"));
+/// What the chase by these dependencies makes of the table.
+fn chased_rows(
+    alloc: Global,
+    width: u8,
+    rows: &[&[Cell]],
+    head: &[Cell],
+    sides: &[Sides],
+) -> Result<Chased, Fail> {
+    let Some(t) = tableau_of(alloc, width, rows, head)? else {
+        return Err(Fail::from("no tableau"));
     };
-    assert_eq!(rt; c.row_count(), 4);
-    for (i, cells) in CHASED.iter().enumerate() {
-        let wanted = row_of(alloc, cells)?;
-        assert!(rt; i < c.row_count());
-        assert!(rt; same(c.row(i), wanted.as_slice()), "row {i}");
+    let fds = fds_of(alloc, sides)?;
+    match chased(alloc, fds.as_slice(), &t)? {
+        Some(found) => Ok(found),
+        None => Err(Fail::from("dependencies past the width")),
     }
-    let head = row_of(alloc, &[V(0)])?;
-    assert!(rt; same(c.head(), head.as_slice()));
+}
+
+/// That the rows are these.
+fn has_rows(rt: &impl Abort, alloc: Global, t: &Tableau, rows: &[&[Cell]]) -> Result<(), NoMemory> {
+    assert_eq!(rt; t.row_count(), rows.len());
+    for (i, cells) in rows.iter().enumerate() {
+        assert!(rt; i < t.row_count());
+        assert!(rt; are_symbols(alloc, t.row(i), cells)?, "row {i}");
+    }
     Ok(())
 }
 
 #[test]
+fn banks_are_chased(rt: HostRuntime) -> Result<(), Fail> {
+    let Chased::Closed(c) = chased_rows(rt.alloc(), 7, BANKS, &[V(14)], BANK_FDS)? else {
+        return Err(Fail::from("a clash"));
+    };
+    has_rows(&rt, rt.alloc(), &c, CHASED)?;
+    assert!(rt; are_symbols(rt.alloc(), c.head(), &[V(0)])?);
+    Ok(())
+}
+
+/// Two ways from 1 to a value of the third attribute.
+const TWO_WAYS: &[&[Cell]] = &[
+    &[I(1), I(2), V(0)],
+    &[V(1), I(2), I(3)],
+    &[I(1), V(2), I(4)],
+];
+
+const TWO_STEPS: &[Sides] = &[(&[0], &[1]), (&[1], &[2])];
+
+#[test]
 fn two_ways_to_a_value_clash(rt: HostRuntime) -> Result<(), Fail> {
-    let alloc = rt.alloc();
-    let rows: [&[Cell]; 3] = [
-        &[I(1), I(2), V(0)],
-        &[V(1), I(2), I(3)],
-        &[I(1), V(2), I(4)],
-    ];
-    let t = tableau_of(alloc, 3, &rows, &[V(0)])?.expect(&rt, "valid parts");
-    let fds = fds_of(alloc, &[(&[0], &[1]), (&[1], &[2])])?;
-    let found = chased(alloc, fds.as_slice(), &t)?.expect(&rt, "dependencies below the width");
+    let found = chased_rows(rt.alloc(), 3, TWO_WAYS, &[V(0)], TWO_STEPS)?;
     let Chased::Clash { less, greater } = found else {
         return Err(Fail::from("no clash"));
     };
@@ -428,7 +457,7 @@ const TEXT: Kind = Kind::Text;
 
 struct Freezing {
     width: u8,
-    // of the columns, and of the variables by their numbers
+    /// of the columns, and of the variables by their numbers
     kinds: &'static [Kind],
     of: &'static [Kind],
     rows: &'static [&'static [Cell]],
@@ -438,7 +467,7 @@ struct Freezing {
     frozen_head: &'static [Cell],
 }
 
-const FREEZINGS: [Freezing; 4] = [
+const FREEZINGS: &[Freezing] = &[
     // the chased banks
     Freezing {
         width: 7,
@@ -447,7 +476,7 @@ const FREEZINGS: [Freezing; 4] = [
             TEXT, INT, TEXT, INT, INT, INT, TEXT, INT, INT, TEXT, INT, INT, INT, TEXT, INT, INT,
             INT, INT, INT, INT, INT, INT, INT, TEXT, INT, INT, INT, TEXT, TEXT,
         ],
-        rows: &CHASED,
+        rows: CHASED,
         head: &[V(0)],
         avoid: &[],
         universe: &[
@@ -493,31 +522,39 @@ const FREEZINGS: [Freezing; 4] = [
     },
 ];
 
+/// The frozen table of the case.
+fn frozen_case(alloc: Global, case: &Freezing) -> Result<Frozen, Fail> {
+    let Some(t) = tableau_of(alloc, case.width, case.rows, case.head)? else {
+        return Err(Fail::from("no tableau"));
+    };
+    let avoid = values_of(alloc, case.avoid)?;
+    match frozen(alloc, case.of, case.kinds, &t, avoid.as_slice())? {
+        Some(found) => Ok(found),
+        None => Err(Fail::from("a symbol of another kind")),
+    }
+}
+
+/// Whether the rows of values are these.
+fn are_rows(alloc: Global, rows: &[List<Value>], cells: &[&[Cell]]) -> Result<bool, NoMemory> {
+    if rows.len() != cells.len() {
+        return Ok(false);
+    }
+    for (row, cells) in rows.iter().zip(cells) {
+        if *row != values_of(alloc, cells)? {
+            return Ok(false);
+        }
+    }
+    Ok(true)
+}
+
 #[test]
 fn variables_get_the_first_free_values(rt: HostRuntime) -> Result<(), Fail> {
-    let alloc = rt.alloc();
     for (i, case) in FREEZINGS.iter().enumerate() {
-        let t = tableau_of(alloc, case.width, case.rows, case.head)?.expect(&rt, "valid parts");
-        let avoid = values_of(alloc, case.avoid)?;
-        let Frozen { universe, head } = frozen(
-            alloc,
-            case.of,
-            case.kinds,
-            &t,
-            avoid.as_slice(),
-        )?.expect(&rt, "typed");
-        assert!(rt; universe.len() == case.universe.len(), "rows of case {i}");
-        for (k, cells) in case.universe.iter().enumerate() {
-            assert!(rt; k < universe.len());
-            assert!(rt;
-                *universe.get(k) == values_of(alloc, cells)?,
-                "row {k} of case {i}"
-            );
-        }
-        assert!(rt;
-            head == values_of(alloc, case.frozen_head)?,
-            "head of case {i}"
-        );
+        let Frozen { universe, head } = frozen_case(rt.alloc(), case)?;
+        let right = are_rows(rt.alloc(), universe.as_slice(), case.universe)?;
+        assert!(rt; right, "rows of case {i}");
+        let right = head == values_of(rt.alloc(), case.frozen_head)?;
+        assert!(rt; right, "head of case {i}");
     }
     Ok(())
 }

@@ -21,16 +21,17 @@ fold_sent fold (suc n) = sent_too (fold_sent fold n) n (get_or fold n 0)
 abbrev pub IntoKept : Lines → List ℕ → ℕ → Type 0
 IntoKept t fold n = (i : ℕ) → i < n → Contains t.kept (get_or fold i 0)
 
-same_sym : (x : Sym) → image_of Var x ≡ x
-same_sym (Const c) = refl
-same_sym (Var k) = refl
+image_of-Var : (x : Sym) → image_of Var x ≡ x
+image_of-Var (Const c) = refl
+image_of-Var (Var k) = refl
 
-same_row : (xs : List Sym) → images_of Var xs ≡ xs
-same_row [] = refl
-same_row (x ∷ xs) = let i = same_row xs in let j = same_sym x in cc
+pub images_of-Var : (xs : List Sym) → images_of Var xs ≡ xs
+images_of-Var [] = refl
+images_of-Var (x ∷ xs) = let i = images_of-Var xs in let j = image_of-Var x in cc
 
+-- the empty list is sent
 pub none_sent : (t : Lines) → AreSent t []
-none_sent t = record { symbols = Var; head = same_row t.head; rows = All-nil (λ x. images_of Var (row_of t x.row) ≡ row_of t x.target) }
+none_sent t = record { symbols = Var; head = images_of-Var t.head; rows = All-nil (λ x. images_of Var (row_of t x.row) ≡ row_of t x.target) }
 
 -- what a mapping gives
 pub fold_front : (t : Lines) (fold : List ℕ) (f : IsFoldInto t fold) (n : ℕ) → n ≤ length t.rows → AreSent t (fold_sent fold n)

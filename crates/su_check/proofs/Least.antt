@@ -4,7 +4,7 @@ use Rattle.std.proofs.lemmas.Bool.{cases_eq}
 use Rattle.std.proofs.lemmas.List.{length-map, get_or-map, get_or_default}
 use Rattle.std.proofs.lemmas.List.Elements.{All-nil, All-push, All-contains, recursion_from_All}
 use Rattle.su_base.proofs.Numbers.{pigeonhole}
-use Rattle.su_base.proofs.Items.{Contains-map}
+use Rattle.su_base.proofs.Items.{Contains-map, AllZip-length, AllZip-get_or}
 use Rattle.su_tableau.specs.declared.symbols.Sym.{Sym}
 use Rattle.su_tableau.specs.declared.symbols.Sym.TheVariants.{Const, Var}
 use Rattle.su_tableau.specs.Tableaux.{Tab, IsValid, Occurs}
@@ -13,13 +13,14 @@ use Rattle.su_tableau.specs.Mapping.{image_of, images_of, Maps}
 use Rattle.su_tableau.specs.Equivalent.{IsLeast}
 use Rattle.su_tableau.proofs.Containment.{maps_compose, maps_within, map_twice}
 use Rattle.su_tableau.proofs.Freezing.{within_maps}
-use Rattle.su_tableau.proofs.Sets.{choose, zip-length, zip-at}
+use Rattle.su_tableau.proofs.Sets.{choose}
 use Rattle.su_check.specs.declared.nodes.Node.{Node}
 use Rattle.su_check.specs.declared.nodes.Branch.{Branch}
 use Rattle.su_check.specs.declared.sending.Sent.{Sent}
 use Rattle.su_check.specs.Fitting.{Lines, row_of, sent_too}
 use Rattle.su_check.specs.Refuting.{IsAscending, IsFitting, Refutes, refuting, row_named, branches_of, target_of, node_of}
 use Rattle.su_check.specs.Certificate.{part_of, IsFoldInto, IsLeastPart}
+use Rattle.su_check.proofs.FoldTargets.{images_of-Var}
 
 -- ---- a tree refutes each map that leaves the row out
 
@@ -49,14 +50,6 @@ refuted t r f head goes n p (refuting _ _ open' _ exact each) sent =
 
 images_after : (s t : ℕ → Sym) (xs : List Sym) → images_of t (images_of s xs) ≡ images_of (λ k. image_of t (s k)) xs
 images_after s t xs = map_twice (image_of s) (image_of t) (image_of (λ k. image_of t (s k))) (elim [ Const c ↦ refl | Var k ↦ refl ]) xs
-
-same_sym : (x : Sym) → image_of Var x ≡ x
-same_sym (Const c) = refl
-same_sym (Var k) = refl
-
-same_row : (xs : List Sym) → images_of Var xs ≡ xs
-same_row [] = refl
-same_row (x ∷ xs) = let i = same_row xs in let j = same_sym x in cc
 
 module _ (t : Tab) (kept : List ℕ) where
   row : ℕ → List Sym
@@ -92,11 +85,11 @@ module _ (t : Tab) (kept : List ℕ) where
   unfolding row
   part_maps within = record {
     symbols = Var;
-    head = same_row t.head;
+    head = images_of-Var t.head;
     rows = λ k d h.
         let r = part_at k d h in
         let low = All-contains (λ k. k < length t.rows) kept r.0 within r.1 in
-        subst (Contains t.rows) (sym (same_row (get_or (part_of t kept).rows k d))) (r.0, low, get_or_default t.rows r.0 (get_or (part_of t kept).rows k d) [] low ∙ sym r.2);
+        subst (Contains t.rows) (sym (images_of-Var (get_or (part_of t kept).rows k d))) (r.0, low, get_or_default t.rows r.0 (get_or (part_of t kept).rows k d) [] low ∙ sym r.2);
   }
 
   part_typed : (kinds : Kinds) → All (λ k. k < length t.rows) kept → IsTyped kinds t → IsTyped kinds (part_of t kept)
@@ -210,8 +203,8 @@ module _ (t : Tab) (kept : List ℕ) where
       let at = part_at to.0 (images_of g.symbols (get_or s.rows q d)) to.1 in
       (at.0, (at.1, sym to.2 ∙ at.2)) in
       let c = choose R s.rows (recursion_from_All (λ from. (n : ℕ) × R from n) s.rows each) in
-      let len = zip-length R s.rows c.0 c.1 in
-      let goes : (q : ℕ) → q < length s.rows → Goes g.symbols (get_or s.rows q []) (get_or c.0 q 0) = λ q h. zip-at R s.rows c.0 q [] 0 c.1 h in
+      let len = AllZip-length R s.rows c.0 c.1 in
+      let goes : (q : ℕ) → q < length s.rows → Goes g.symbols (get_or s.rows q []) (get_or c.0 q 0) = λ q h. AllZip-get_or R s.rows c.0 q [] 0 c.1 h in
       let l = as_long c.0 up (λ r member. let n = trees r member in reached s c.0 f g goes len within r n.0 n.1 (in_list c.0 r)) in
       omega arith
 

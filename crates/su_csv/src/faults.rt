@@ -46,7 +46,7 @@ impl From<AllocError> for CsvFault {
     }
 }
 
-// So that `push(..)?` converts. The item is dropped.
+/// So that `push(..)?` converts. The item is dropped.
 impl<T: Drop> From<(T, NoMemory)> for CsvFault {
     ghost from_gives = { λ _ fault. fault ≡ Wanting };
 

@@ -8,7 +8,7 @@ use su_base::{Kind, NoMemory, Row, Value};
 
 const TEXT_LIMIT: usize = 4096;
 
-// Any number of so many digits is within 64 bits.
+/// Any number of so many digits is within 64 bits.
 const FEW_DIGITS: usize = 18;
 
 fn starts_with_plus(field: &[u8]) -> bool
@@ -23,7 +23,7 @@ fn starts_with_minus(field: &[u8]) -> bool
     matches!(field, [b'-', ..])
 }
 
-// The number that the digits write, where they are few enough that no sum is past the range.
+/// The number that the digits write, where they are few enough that no sum is past the range.
 fn digits_of(digits: &[u8]) -> Option<i64>
     ensures { IfSome result (λ value. (is_digits digits.now ≡ true) × (value ≡ pos (digits_value 10 digits.now))) }
 {
@@ -40,7 +40,7 @@ fn digits_of(digits: &[u8]) -> Option<i64>
     Some(value as i64)
 }
 
-// The number that the field writes, where that is soon told.
+/// The number that the field writes, where that is soon told.
 fn short_number(field: &[u8]) -> Option<i64>
     ensures { IfSome result (λ value. number_of field.now ≡ Some value) }
 {
@@ -50,7 +50,7 @@ fn short_number(field: &[u8]) -> Option<i64>
     digits_of(field)
 }
 
-// The number that the field writes. Unlike `parse`, it takes no `+`.
+/// The number that the field writes. Unlike `parse`, it takes no `+`.
 #[inline(always)]
 pub(crate) fn number_of(field: &[u8]) -> Option<i64>
     ensures { result ≡ number_of field.now }
@@ -61,7 +61,7 @@ pub(crate) fn number_of(field: &[u8]) -> Option<i64>
     }
 }
 
-// The same where it isn't soon told: of 19 digits and more, and where there is none.
+/// The same where it isn't soon told: of 19 digits and more, and where there is none.
 #[cold]
 #[inline(never)]
 fn long_number(field: &[u8]) -> Option<i64>
@@ -76,7 +76,7 @@ fn long_number(field: &[u8]) -> Option<i64>
     }
 }
 
-// The text that the field is. UTF-8 is tested only where it isn't known before.
+/// The text that the field is. UTF-8 is tested only where it isn't known before.
 fn text_of(field: &[u8], known: bool) -> Option<&str>
     requires { known ≡ true → IsUtf8 field.now }
     ensures { option_map (λ text. text.now) result ≡ (if is_text field.now then Some field.now else None) }
@@ -93,8 +93,8 @@ fn text_of(field: &[u8], known: bool) -> Option<&str>
     }
 }
 
-// Adds the value of the field in a column of this kind to the row, and says whether it has one. The
-// field may be known to be UTF-8.
+/// Adds the value of the field in a column of this kind to the row, and says whether it has one. The
+/// field may be known to be UTF-8.
 pub(crate) fn push_value(
     row: &mut Row,
     alloc: Global,

@@ -15,7 +15,7 @@ use su_base::{Column, List, Row};
 
 const RECORD_LIMIT: u64 = 1_000_000;
 
-// The bytes without one byte order mark at their start.
+/// The bytes without one byte order mark at their start.
 fn without_mark(bytes: &[u8]) -> &[u8]
     ensures { result.now ≡ strip_bom bytes.now }
 {
@@ -28,7 +28,7 @@ fn has_mark(bytes: &[u8]) -> bool
     bytes.len() >= 3 && bytes[0] == 0xef && bytes[1] == 0xbb && bytes[2] == 0xbf
 }
 
-// Whether the record is the column names in order.
+/// Whether the record is the column names in order.
 fn is_header(columns: &[Column], fields: &ByteRecord) -> bool
     ensures { result ≡ is_header columns.now (fields_of fields.now) }
 {
@@ -43,7 +43,7 @@ fn is_header(columns: &[Column], fields: &ByteRecord) -> bool
     true
 }
 
-// The rows of the records that are left, numbered from 1.
+/// The rows of the records that are left, numbered from 1.
 fn rows_under_header(
     alloc: Global,
     columns: &[Column],

@@ -8,7 +8,7 @@ use csv::{ByteRecord, Reader, ReaderBuilder};
 use std::alloc::Global;
 use su_base::NoMemory;
 
-// A reader of the bytes, which takes records of any width.
+/// A reader of the bytes, which takes records of any width.
 pub(crate) fn records_of<'a>(alloc: Global, bytes: &'a [u8]) -> Reader<&'a [u8]>
     ensures stands { Stands result }
     ensures records { records_left result ≡ records default_config (strip_bom bytes.now) }
@@ -19,7 +19,7 @@ pub(crate) fn records_of<'a>(alloc: Global, bytes: &'a [u8]) -> Reader<&'a [u8]>
         .from_reader(alloc, bytes)
 }
 
-// Reads the next record over the old one, and says whether there was one.
+/// Reads the next record over the old one, and says whether there was one.
 pub(crate) fn advance(reader: &mut Reader<&[u8]>, fields: &mut ByteRecord) -> Result<bool, NoMemory>
     requires { Stands reader.old }
     ensures stands { IfOk result (λ found. found ≡ true → Stands reader.new) }

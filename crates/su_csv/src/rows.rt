@@ -22,14 +22,14 @@ pub(crate) fn field_at(fields: &ByteRecord, place: usize) -> &[u8]
     }
 }
 
-// Whether all fields are ASCII, by which each is a text.
+/// Whether all fields are ASCII, by which each is a text.
 fn is_ascii(fields: &ByteRecord) -> bool
     ensures { result ≡ true → AllText (fields_of fields.now) }
 {
     fields.as_slice().is_ascii()
 }
 
-// The first column of numbers, from the left, whose field writes none.
+/// The first column of numbers, from the left, whose field writes none.
 fn first_without_number(columns: &[Column], fields: &ByteRecord) -> Option<u8>
     requires width { length (fields_of fields.now) ≡ length columns.now }
     requires few { length columns.now ≤ 32 }
@@ -49,8 +49,8 @@ fn lacks_number(column: &Column, field: &[u8]) -> bool
     matches!(column.kind, Kind::Int) && number_of(field).is_none()
 }
 
-// The fault of a record whose field at this place is the first without a value: numbers come
-// before texts.
+/// The fault of a record whose field at this place is the first without a value: numbers come
+/// before texts.
 fn fault_at(columns: &[Column], fields: &ByteRecord, number: u64, place: usize) -> CsvFault
     requires width { length (fields_of fields.now) ≡ length columns.now }
     requires few { length columns.now ≤ 32 }
@@ -66,7 +66,7 @@ fn fault_at(columns: &[Column], fields: &ByteRecord, number: u64, place: usize) 
     }
 }
 
-// The row of the record of this number.
+/// The row of the record of this number.
 pub(crate) fn row_of(
     alloc: Global,
     columns: &[Column],

@@ -13,7 +13,7 @@ use std::alloc::Global;
 use std::fmt::Write;
 use su_base::{List, NoMemory, Row, Str, Value};
 
-// Adds the value's field. `digits` is room for a number's text.
+/// Adds the value's field. `digits` is room for a number's text.
 fn push_value(fields: &mut ByteRecord, digits: &mut String, value: &Value) -> Result<(), NoMemory>
     requires { partial_of fields.old ≡ [] }
     ensures fields { OnOk result (fields_of fields.new ≡ fields_of fields.old ++ field_of value.now ∷ []) }
@@ -32,7 +32,7 @@ fn push_value(fields: &mut ByteRecord, digits: &mut String, value: &Value) -> Re
     Ok(())
 }
 
-// Makes the record of the row.
+/// Makes the record of the row.
 fn set_row(fields: &mut ByteRecord, digits: &mut String, row: &Row) -> Result<(), NoMemory>
     ensures fields { OnOk result (fields_of fields.new ≡ map field_of row.now) }
     ensures stored { OnOk result (All IsStored row.now) }
@@ -54,7 +54,7 @@ fn set_header(fields: &mut ByteRecord, header: &[Str]) -> Result<(), NoMemory>
     Ok(())
 }
 
-// Writes the record behind the others.
+/// Writes the record behind the others.
 fn put(writer: &mut Writer<Vec<u8>>, fields: &ByteRecord) -> Result<(), NoMemory>
     requires { IsIdle writer.old }
     ensures idle { OnOk result (IsIdle writer.new) }
@@ -66,7 +66,7 @@ fn put(writer: &mut Writer<Vec<u8>>, fields: &ByteRecord) -> Result<(), NoMemory
     Ok(())
 }
 
-// Writes the header and then the rows behind what the writer holds.
+/// Writes the header and then the rows behind what the writer holds.
 fn put_all(
     alloc: Global,
     writer: &mut Writer<Vec<u8>>,

@@ -12,9 +12,8 @@ use Rattle.su_schema.specs.SchemaValue.{SchemaValue, attribute_names, column_nam
 use Rattle.su_schema.specs.Checks.{Check, first_failing, apart_checks, name_checks, pair_checks, checks, columns_at, number_of}
 use Rattle.su_schema.specs.Defining.{outcome}
 use Rattle.su_ddl.specs.declared.faults.DdlFault.{DdlFault}
-use Rattle.su_ddl.specs.declared.faults.DdlFault.TheVariants.{Refused, NoMemory}
+use Rattle.su_ddl.specs.declared.faults.DdlFault.TheVariants.{Syntax, Refused, NoMemory}
 use Rattle.su_ddl.specs.Reading.{IsAtFault, ReadsFrom, Reads, no_definitions}
-use Rattle.su_ddl.specs.Reading as r
 
 abbrev IsNamed : Check → Type 0
 IsNamed check = check.fault ≢ Wanting
@@ -55,15 +54,16 @@ refusal None s f e = absurd (cc)
 refusal (Some g) s f e = let h : g ≡ f = cc in ap Some h
 
 fault_named : (n : ℕ) (s : SchemaValue) (t : List ℕ) (f : DdlFault) → IsAtFault n s t f → (m : ℕ) → f ≢ Refused m Wanting
-fault_named n s t f (r.no_form _ _ _ _ none e) m k = cc
-fault_named n s t f (r.refused _ _ _ _ d why is a e) m k =
+fault_named n s t (Syntax k) h m e = cc
+fault_named n s t (Refused k why) h m e =
     let same : why ≡ Wanting = cc in
-    first_named (checks s d) why (all_named s d) (refusal (first_failing (checks s d)) _ why a) same
+    first_named (checks s h.1) why (all_named s h.1) (refusal (first_failing (checks s h.1)) _ why h.3) same
+fault_named n s t NoMemory h m e = h
 
 reads_named : (n : ℕ) (s : SchemaValue) (ts : List (List ℕ)) (o : Result SchemaValue DdlFault) → ReadsFrom n s ts o → (m : ℕ) → o ≢ Err (Refused m Wanting)
-reads_named n s ts o (r.none _ _ _ _ e x) m k = cc
-reads_named n s ts o (r.fault _ _ t later _ why _ e f x) m k = let same : why ≡ Refused m Wanting = cc in fault_named n s t why f m same
-reads_named n s ts o (r.added _ _ next d t later _ _ e is a more) m k = reads_named (n + 1) next later o more m k
+reads_named n s [] o h m e = cc
+reads_named n s (t ∷ ts) o (inl (f, h, x)) m e = let same : f ≡ Refused m Wanting = cc in fault_named n s t f h m same
+reads_named n s (t ∷ ts) o (inr (d, next, is, a, more)) m e = reads_named (n + 1) next ts o more m e
 
 -- a reader that answers the outcome, or that memory is wanting, never refuses a definition for want of memory
 pub never_memory : (file : List ℕ) (x : Result SchemaValue DdlFault) → IfErr x (λ f. (f ≡ NoMemory) ⊎ Reads file (Err f)) → (m : ℕ) → ¬ (x ≡ Err (Refused m Wanting))

@@ -14,10 +14,9 @@ use Rattle.su_schema.specs.declared.definitions.Definition.{Definition}
 use Rattle.su_schema.specs.SchemaValue.{SchemaValue}
 use Rattle.su_schema.specs.Defining.{applied}
 use Rattle.su_ddl.specs.declared.faults.DdlFault.{DdlFault}
-use Rattle.su_ddl.specs.declared.faults.DdlFault.TheVariants.{Refused, NoMemory}
+use Rattle.su_ddl.specs.declared.faults.DdlFault.TheVariants.{Syntax, Refused, NoMemory}
 use Rattle.su_ddl.specs.Grammar.{IsDefinition}
 use Rattle.su_ddl.specs.Reading.{IsAtFault, ReadsFrom, Reads, statement_of, no_definitions}
-use Rattle.su_ddl.specs.Reading as r
 use Rattle.su_ddl.proofs.Formed.{one_definition}
 
 same_applied : {A : Type 0} (s : SchemaValue) (d e : Definition) (x y : Result SchemaValue A) → (f : SchemaValue → Definition → Result SchemaValue A) → d ≡ e → f s d ≡ x → f s e ≡ y → x ≡ y
@@ -25,45 +24,37 @@ same_applied s d e x y f same a c = sym a ∙ ap (f s) same ∙ c
 
 -- one fault of a statement
 fault_same : (n : ℕ) (s : SchemaValue) (t : List ℕ) (f g : DdlFault) → IsAtFault n s t f → IsAtFault n s t g → f ≡ g
-fault_same n s t f g (r.no_form _ _ _ _ none e) (r.no_form _ _ _ _ none' e') = e ∙ sym e'
-fault_same n s t f g (r.no_form _ _ _ _ none e) (r.refused _ _ _ _ d why is a e') = absurd (none d is)
-fault_same n s t f g (r.refused _ _ _ _ d why is a e) (r.no_form _ _ _ _ none e') = absurd (none d is)
-fault_same n s t f g (r.refused _ _ _ _ d why is a e) (r.refused _ _ _ _ d' why' is' a' e') =
-    let same = one_definition t d d' is is' in
-    let h : Err why ≡ Err why' = same_applied s d d' (Err why) (Err why') applied same a a' in
-    let k : why ≡ why' = cc in
-    e ∙ ap (Refused n) k ∙ sym e'
+fault_same n s t (Syntax k) (Syntax m) h i = ap Syntax (h.0 ∙ sym i.0)
+fault_same n s t (Syntax k) (Refused m why) h i = absurd (h.1 i.1 i.2)
+fault_same n s t (Syntax k) NoMemory h i = absurd i
+fault_same n s t (Refused k why) (Syntax m) h i = absurd (i.1 h.1 h.2)
+fault_same n s t (Refused k why) (Refused m why') h i =
+    let same = one_definition t h.1 i.1 h.2 i.2 in
+    let e : Err why ≡ Err why' = same_applied s h.1 i.1 (Err why) (Err why') applied same h.3 i.3 in
+    let w : why ≡ why' = cc in
+    ap (Refused k) w ∙ ap (λ (x : ℕ). Refused x why') (h.0 ∙ sym i.0)
+fault_same n s t (Refused k why) NoMemory h i = absurd i
+fault_same n s t NoMemory g h i = absurd h
 
 -- a statement at fault is not added
 not_both : (n : ℕ) (s next : SchemaValue) (t : List ℕ) (f : DdlFault) (d : Definition) → IsAtFault n s t f → IsDefinition t d → applied s d ≡ Ok next → ⊥
-not_both n s next t f d (r.no_form _ _ _ _ none e) is a = none d is
-not_both n s next t f d (r.refused _ _ _ _ d' why is' a' e) is a =
-    let same = one_definition t d d' is is' in
-    let h : Ok next ≡ Err why = same_applied s d d' (Ok next) (Err why) applied same a a' in
+not_both n s next t (Syntax k) d h is a = h.1 d is
+not_both n s next t (Refused k why) d h is a =
+    let same = one_definition t d h.1 is h.2 in
+    let e : Ok next ≡ Err why = same_applied s d h.1 (Ok next) (Err why) applied same a h.3 in
     cc
+not_both n s next t NoMemory d h is a = h
 
 reads_same : (n : ℕ) (s : SchemaValue) (ts : List (List ℕ)) (o q : Result SchemaValue DdlFault) → ReadsFrom n s ts o → ReadsFrom n s ts q → o ≡ q
-reads_same n s ts o q (r.none _ _ _ _ e x) (r.none _ _ _ _ e' y) = x ∙ sym y
-reads_same n s ts o q (r.none _ _ _ _ e x) (r.fault _ _ t later _ why _ e' f y) = absurd (cc)
-reads_same n s ts o q (r.none _ _ _ _ e x) (r.added _ _ next d t later _ _ e' is a more) = absurd (cc)
-reads_same n s ts o q (r.fault _ _ t later _ why _ e f x) (r.none _ _ _ _ e' y) = absurd (cc)
-reads_same n s ts o q (r.added _ _ next d t later _ _ e is a more) (r.none _ _ _ _ e' y) = absurd (cc)
-reads_same n s ts o q (r.fault _ _ t later _ why _ e f x) (r.fault _ _ t' later' _ why' _ e' f' y) =
-    let text : t' ≡ t = cc in
-    x ∙ ap Err (fault_same n s t why why' f (subst (λ (v : List ℕ). IsAtFault n s v why') text f')) ∙ sym y
-reads_same n s ts o q (r.fault _ _ t later _ why _ e f x) (r.added _ _ next d t' later' _ _ e' is a more) =
-    let text : t' ≡ t = cc in
-    absurd (not_both n s next t why d f (subst (λ (v : List ℕ). IsDefinition v d) text is) a)
-reads_same n s ts o q (r.added _ _ next d t later _ _ e is a more) (r.fault _ _ t' later' _ why _ e' f y) =
-    let text : t ≡ t' = cc in
-    absurd (not_both n s next t' why d f (subst (λ (v : List ℕ). IsDefinition v d) text is) a)
-reads_same n s ts o q (r.added _ _ next d t later _ _ e is a more) (r.added _ _ next' d' t' later' _ _ e' is' a' more') =
-    let text : t' ≡ t = cc in
-    let behind : later' ≡ later = cc in
-    let same = one_definition t d d' is (subst (λ (v : List ℕ). IsDefinition v d') text is') in
+reads_same n s [] o q h k = h ∙ sym k
+reads_same n s (t ∷ ts) o q (inl (f, h, x)) (inl (g, i, y)) = x ∙ ap Err (fault_same n s t f g h i) ∙ sym y
+reads_same n s (t ∷ ts) o q (inl (f, h, x)) (inr (d, next, is, a, more)) = absurd (not_both n s next t f d h is a)
+reads_same n s (t ∷ ts) o q (inr (d, next, is, a, more)) (inl (f, h, x)) = absurd (not_both n s next t f d h is a)
+reads_same n s (t ∷ ts) o q (inr (d, next, is, a, more)) (inr (d', next', is', a', more')) =
+    let same = one_definition t d d' is is' in
     let h : Ok next ≡ Ok next' = same_applied s d d' (Ok next) (Ok next') applied same a a' in
     let k : next' ≡ next = cc in
-    reads_same (n + 1) next later o q more (subst (λ (v : SchemaValue). ReadsFrom (n + 1) v later q) k (subst (λ (v : List (List ℕ)). ReadsFrom (n + 1) next' v q) behind more'))
+    reads_same (n + 1) next ts o q more (subst (λ (v : SchemaValue). ReadsFrom (n + 1) v ts q) k more')
 
 pub one_outcome : (file : List ℕ) (o q : Result SchemaValue DdlFault) → Reads file o → Reads file q → o ≡ q
 one_outcome file o q h k =
@@ -99,7 +90,7 @@ pub one_added : (file : List ℕ) (spans : List Span) (i number : ℕ) (s next :
     → IsDefinition (statement_of file x) d → applied s d ≡ Ok next → SoFar file spans (i + 1) (number + 1) next
 one_added file spans i number s next x none d l e so is a = record {
   count = ap (λ k. k + 1) so.count;
-  before = λ o h. so.before o (r.added (i + 1) s next d (statement_of file x) (map (statement_of file) (drop (i + 1) spans)) (map (statement_of file) (drop i spans)) o (texts_at file spans i x none l e) is a h);
+  before = λ o h. so.before o (subst (λ (ts : List (List ℕ)). ReadsFrom (i + 1) s ts o) (sym (texts_at file spans i x none l e)) (inr (d, next, is, a, h)));
 }
 
 pub at_fault : (file : List ℕ) (spans : List Span) (i number : ℕ) (s : SchemaValue) (x none : Span) (f : DdlFault) → Pieces file spans → i < length spans → x ≡ get_or spans i none → SoFar file spans i number s
@@ -111,8 +102,7 @@ at_fault file spans i number s x none f pieces l e so told = elim told [
       inr (
         spans,
         pieces,
-        so.before (Err f) (r.fault (i + 1) s (statement_of file x) (map (statement_of file) (drop (i + 1) spans)) (map (statement_of file) (drop i spans)) f (Err f)
-            (texts_at file spans i x none l e) here refl),
+        so.before (Err f) (subst (λ (ts : List (List ℕ)). ReadsFrom (i + 1) s ts (Err f)) (sym (texts_at file spans i x none l e)) (inl (f, here, refl))),
       )
 ]
 
@@ -123,7 +113,7 @@ drop_all (x ∷ xs) zero l = absurd (omega arith)
 drop_all (x ∷ xs) (suc i) l = drop_all xs i (omega arith)
 
 pub all_added : (file : List ℕ) (spans : List Span) (i number : ℕ) (s : SchemaValue) → Pieces file spans → length spans ≤ i → SoFar file spans i number s → Reads file (Ok s)
-all_added file spans i number s pieces l so = (spans, pieces, so.before (Ok s) (r.none (i + 1) s (map (statement_of file) (drop i spans)) (Ok s) (ap (map (statement_of file)) (drop_all spans i l)) refl))
+all_added file spans i number s pieces l so = (spans, pieces, so.before (Ok s) (subst (λ (ts : List (List ℕ)). ReadsFrom (i + 1) s ts (Ok s)) (sym (ap (map (statement_of file)) (drop_all spans i l))) refl))
 
 -- ---- a file has no more statements than bytes
 

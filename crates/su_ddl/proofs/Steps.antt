@@ -1,11 +1,10 @@
 -- Definitions that are added one after another, and the reading of their text.
-use Rattle.std.proofs.Common.{◌≡◌, ◌+◌, ℕ, List, [], ◌∷◌, ◌++◌, map, Ok, refl, ap, sym, ◌∙◌, subst, append_assoc, append-nil}
+use Rattle.std.proofs.Common.{◌≡◌, ◌+◌, ℕ, List, [], ◌∷◌, ◌++◌, map, Ok, inr, refl, ap, sym, ◌∙◌, subst, append_assoc, append-nil}
 use Rattle.std.specs.List.{AllByRecursion}
 use Rattle.su_schema.specs.declared.definitions.Definition.{Definition}
 use Rattle.su_schema.specs.SchemaValue.{SchemaValue}
 use Rattle.su_schema.specs.Defining.{applied, IsWellNamed}
 use Rattle.su_ddl.specs.Reading.{ReadsFrom, Reads, no_definitions, statement_of}
-use Rattle.su_ddl.specs.Reading as r
 use Rattle.su_ddl.specs.Shown.{lines_of}
 use Rattle.su_ddl.proofs.Pieced.{IsLead, no_lead, line_lead, is_definition, texts_of, lines_cut}
 
@@ -23,9 +22,8 @@ builds_append s t u [] es h k = subst (λ (v : SchemaValue). Builds v es u) (sym
 builds_append s t u (d ∷ ds) es h k = (h.0, h.1, h.2, builds_append h.0 t u ds es h.3 k)
 
 reads_from : (n : ℕ) (s t : SchemaValue) (lead : List ℕ) (ds : List Definition) → IsLead lead → Builds s ds t → ReadsFrom n s (texts_of lead ds) (Ok t)
-reads_from n s t lead [] is h = r.none n s [] (Ok t) refl (ap Ok (sym h))
-reads_from n s t lead (d ∷ ds) is h =
-    r.added n s h.0 d _ (texts_of (10 ∷ []) ds) _ (Ok t) refl (is_definition lead d is h.1) h.2 (reads_from (n + 1) h.0 t (10 ∷ []) ds line_lead h.3)
+reads_from n s t lead [] is h = ap Ok (sym h)
+reads_from n s t lead (d ∷ ds) is h = inr (d, h.0, is_definition lead d is h.1, h.2, reads_from (n + 1) h.0 t (10 ∷ []) ds line_lead h.3)
 
 pub lines_read : (t : SchemaValue) (ds : List Definition) → Builds no_definitions ds t → Reads (lines_of ds) (Ok t)
 lines_read t ds h =

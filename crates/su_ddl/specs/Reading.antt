@@ -1,30 +1,28 @@
 -- What a file of definitions is read as.
 -- outcome: the schema that the definitions make, or the fault of the first statement at fault
-use Rattle.std.specs.Prelude.{◌≡◌, ℕ, ◌+◌, List, [], ◌∷◌, map, Result, Ok, Err}
+use Rattle.std.specs.Prelude.{◌≡◌, ◌⊎◌, ℕ, ◌+◌, List, [], ◌∷◌, map, Result, Ok, Err}
 use Rattle.su_lex.specs.Pieces.{Pieces}
 use Rattle.su_lex.specs.Tokens.{slice_of}
 use Rattle.su_lex.specs.declared.spans.Span.{Span}
 use Rattle.su_schema.specs.declared.definitions.Definition.{Definition}
-use Rattle.su_schema.specs.declared.faults.SchemaFault.{SchemaFault}
 use Rattle.su_schema.specs.SchemaValue.{SchemaValue}
 use Rattle.su_schema.specs.Defining.{applied}
 use Rattle.su_ddl.specs.declared.faults.DdlFault.{DdlFault}
-use Rattle.su_ddl.specs.declared.faults.DdlFault.TheVariants.{Syntax, Refused}
+use Rattle.su_ddl.specs.declared.faults.DdlFault.TheVariants.{Syntax, Refused, NoMemory}
 use Rattle.su_ddl.specs.Grammar.{IsDefinition}
 
--- the statement with this number is at fault: it is no definition, or may not be added to the schema
-pub data IsAtFault : ℕ → SchemaValue → List ℕ → DdlFault → Type 0 where
-  no_form : (n : ℕ) (schema : SchemaValue) (text : List ℕ) (fault : DdlFault) → ((d : Definition) → ¬ (IsDefinition text d)) → fault ≡ Syntax n → IsAtFault n schema text fault
-  refused : (n : ℕ) (schema : SchemaValue) (text : List ℕ) (fault : DdlFault) (d : Definition) (why : SchemaFault) → IsDefinition text d → applied schema d ≡ Err why → fault ≡ Refused n why
-      → IsAtFault n schema text fault
+-- why the statement with this number is not added to the schema: it is no definition, or one that may not be added
+abbrev pub IsAtFault : ℕ → SchemaValue → List ℕ → DdlFault → Type 0
+IsAtFault n schema text (Syntax k) = (k ≡ n) × ((d : Definition) → ¬ (IsDefinition text d))
+IsAtFault n schema text (Refused k why) = (k ≡ n) × (d : Definition) × IsDefinition text d × (applied schema d ≡ Err why)
+IsAtFault n schema text NoMemory = ⊥
 
--- the statements from the one with this number on, added one after another to the schema
-pub data ReadsFrom : ℕ → SchemaValue → List (List ℕ) → Result SchemaValue DdlFault → Type 0 where
-  none : (n : ℕ) (schema : SchemaValue) (texts : List (List ℕ)) (outcome : Result SchemaValue DdlFault) → texts ≡ [] → outcome ≡ Ok schema → ReadsFrom n schema texts outcome
-  fault : (n : ℕ) (schema : SchemaValue) (text : List ℕ) (later texts : List (List ℕ)) (why : DdlFault) (outcome : Result SchemaValue DdlFault) → texts ≡ text ∷ later
-      → IsAtFault n schema text why → outcome ≡ Err why → ReadsFrom n schema texts outcome
-  added : (n : ℕ) (schema next : SchemaValue) (d : Definition) (text : List ℕ) (later texts : List (List ℕ)) (outcome : Result SchemaValue DdlFault) → texts ≡ text ∷ later
-      → IsDefinition text d → applied schema d ≡ Ok next → ReadsFrom (n + 1) next later outcome → ReadsFrom n schema texts outcome
+-- the statements, numbered from here on, are added one after another to the schema, up to the first at fault
+abbrev pub ReadsFrom : ℕ → SchemaValue → List (List ℕ) → Result SchemaValue DdlFault → Type 0
+ReadsFrom n schema [] outcome = outcome ≡ Ok schema
+ReadsFrom n schema (text ∷ texts) outcome =
+    ((fault : DdlFault) × IsAtFault n schema text fault × (outcome ≡ Err fault))
+    ⊎ ((d : Definition) × (next : SchemaValue) × IsDefinition text d × (applied schema d ≡ Ok next) × ReadsFrom (n + 1) next texts outcome)
 
 -- the text of a statement of the file
 abbrev pub statement_of : List ℕ → Span → List ℕ

@@ -1,11 +1,12 @@
 -- More rows than the bound, over needed variables alone, are more answers than the bound.
-use Rattle.std.proofs.Common.{◌≡◌, ℕ, ◌<◌, ◌≤◌, ◌⊎◌, Bool, Option, None, Some, List, [], ◌∷◌, length, get_or, refl, sym, ◌∙◌, inl, inr, ⊎_elim, arith}
-use Rattle.std.specs.Prelude.{map}
+use Rattle.std.proofs.Common.{◌≡◌, ℕ, ◌<◌, ◌≤◌, ◌⊎◌, Bool, true, false, Option, None, Some, List, [], ◌∷◌, length, get_or, refl, sym, ◌∙◌, inl, inr, ⊎_elim, arith}
+use Rattle.std.specs.Prelude.{map, MatchBool}
 use Rattle.std.proofs.lemmas.Bool.{cases_lt}
+use Rattle.std.proofs.lemmas.List.Elements.{All-cons, All-head, All-nil}
 use Rattle.su_exec.specs.declared.merging.Merged.{Merged}
 use Rattle.su_exec.specs.declared.merging.Merged.TheVariants.{Whole, Over, Nothing}
-use Rattle.su_exec.specs.inside.Bodies.{HasMore, IsEmpty, IsGiven, IsMerged, IsOver, IsTold}
-use Rattle.su_exec.specs.inside.Edges.{Edge, Keeps, always}
+use Rattle.su_exec.specs.inside.Bodies.{HasMore, IsEmpty, IsGiven, IsMerged, IsOver, IsPast, IsTold}
+use Rattle.su_exec.specs.inside.Edges.{Edge, Fits, Keeps, always}
 use Rattle.su_exec.proofs.Keeping.{agree_at, agree_from, keeps_trans}
 
 module _ (needed : List ℕ) (bound : ℕ) (es rest : List (Edge ℕ)) (s u : (ℕ → ℕ) → Bool) (over : IsOver needed (Some bound) es s rest u) (some : IsGiven [] rest u []) where
@@ -67,13 +68,29 @@ more_of needed None es rest s u over some = absurd (over.many tt)
 more_of needed (Some bound) es rest s u over some = over_more needed bound es rest s u over some
 
 -- what is said of a body that was reached by steps
-pub told_is :
-    (needed : List ℕ) (most : Option ℕ) (start es rest : List (Edge ℕ)) (s0 s u : (ℕ → ℕ) → Bool) (merged : Merged) → Keeps needed start s0 es s → IsOver needed most es s rest u → IsTold rest u merged → IsMerged needed most start s0 merged
-told_is needed most start es rest s0 s u (Whole g) keeps over told = absurd told
-told_is needed most start es rest s0 s u Over keeps over told = more_back needed most start es s0 s keeps (more_of needed most es rest s u over told)
-told_is needed most start es rest s0 s u Nothing keeps over told = empty_back needed start es s0 s keeps (none_over needed most es rest s u over told)
+pub past_is :
+    (needed : List ℕ) (most : Option ℕ) (start es rest : List (Edge ℕ)) (s0 s u : (ℕ → ℕ) → Bool) → Keeps needed start s0 es s → IsOver needed most es s rest u → IsPast needed most start s0 rest u
+past_is needed None start es rest s0 s u keeps over = absurd (over.many tt)
+past_is needed (Some bound) start es rest s0 s u keeps over = record {
+  bound = bound;
+  is = refl;
+  more = λ some. more_back needed (Some bound) start es s0 s keeps (more_of needed (Some bound) es rest s u over some);
+  none = λ empty. empty_back needed start es s0 s keeps (none_over needed (Some bound) es rest s u over empty);
+}
+
+pub told_is : (needed : List ℕ) (most : Option ℕ) (es rest : List (Edge ℕ)) (s u : (ℕ → ℕ) → Bool) (merged : Merged) → IsPast needed most es s rest u → IsTold rest u merged → IsMerged needed most es s merged
+told_is needed most es rest s u (Whole g) past told = absurd told
+told_is needed most es rest s u Over past told = past.more told
+told_is needed most es rest s u Nothing past told = past.none told
 
 pub merged_back : (needed : List ℕ) (most : Option ℕ) (es fs : List (Edge ℕ)) (s t : (ℕ → ℕ) → Bool) (merged : Merged) → Keeps needed es s fs t → IsMerged needed most fs t merged → IsMerged needed most es s merged
 merged_back needed most es fs s t (Whole g) keeps m = (keeps_trans needed es fs (g ∷ []) s t always keeps m.0, m.1)
 merged_back needed most es fs s t Over keeps m = more_back needed most es fs s t keeps m
 merged_back needed most es fs s t Nothing keeps m = empty_back needed es fs s t keeps m
+
+-- a body gives something exactly where what it comes to has rows
+pub some_told : (es : List (Edge ℕ)) (s : (ℕ → ℕ) → Bool) (g : Edge ℕ) (some : Bool) → Keeps [] es s (g ∷ []) always → MatchBool some ((v : ℕ → ℕ) × Fits v g) ((v : ℕ → ℕ) → ¬ Fits v g) → MatchBool some (IsGiven [] es s []) (IsEmpty es s)
+some_told es s g true keeps x =
+    let w = keeps.1 x.0 (All-cons (λ e. Fits x.0 e) g [] x.1 (All-nil (λ e. Fits x.0 e))) refl in
+    record { valuation = w.valuation; fits = w.fits; passes = w.passes; gives = refl }
+some_told es s g false keeps none = λ v f p. let w = keeps.0 v f p in none w.valuation (All-head (λ e. Fits w.valuation e) g [] w.fits)

@@ -1,5 +1,5 @@
 //! Cycles of a body are closed, three edges at a time.
-ghost use Rattle.std.specs.Prelude.{◌≡◌, ◌<◌, ◌+◌, length, IfOk};
+ghost use Rattle.std.specs.Prelude.{◌≡◌, ◌<◌, ◌≤◌, ◌+◌, length, IfOk};
 ghost use Rattle.su_exec.specs.inside.Bodies.{AreThere};
 ghost use Rattle.su_exec.specs.inside.Checks.{all_hold};
 ghost use Rattle.su_exec.specs.inside.Edges.{Keeps};
@@ -27,6 +27,7 @@ fn close(
     ensures keeps { IfOk result (λ _. Keeps needed.now body.old.edges.items (all_hold codes.now body.old.checks.items) body.new.edges.items (all_hold codes.now body.old.checks.items)) }
     ensures there { IfOk result (λ _. AreThere needed.now body.old.checks.items body.new.edges.items) }
     ensures some { IfOk result (λ _. 0 < length body.new.edges.items) }
+    ensures fewer { IfOk result (λ _. length body.new.edges.items ≤ length body.old.edges.items) }
 {
     let a = body.edges.remove(three.0);
     let b = body.edges.remove(three.1);
@@ -37,12 +38,14 @@ fn close(
     Ok(())
 }
 
-/// The body without cycles that three edges close. Where an edge has no rows, it stays as it is.
+/// The body without cycles that three edges close, of which it closes at most so many. Where an edge has
+/// no rows, it stays as it is.
 pub fn close_cycles(
     alloc: Global,
     codes: &Codes,
     body: &mut Body,
     needed: &[u32],
+    most: usize,
 ) -> Result<(), AllocError>
     requires some { 0 < length body.old.edges.items }
     requires there { AreThere needed.now body.old.checks.items body.old.edges.items }
@@ -50,8 +53,9 @@ pub fn close_cycles(
     ensures keeps { IfOk result (λ _. Keeps needed.now body.old.edges.items (all_hold codes.now body.old.checks.items) body.new.edges.items (all_hold codes.now body.old.checks.items)) }
     ensures there { IfOk result (λ _. AreThere needed.now body.old.checks.items body.new.edges.items) }
     ensures some { IfOk result (λ _. 0 < length body.new.edges.items) }
+    ensures fewer { IfOk result (λ _. length body.new.edges.items ≤ length body.old.edges.items) }
 {
-    for _ in 0..body.edges.len() {
+    for _ in 0..most {
         if has_empty(&body.edges) {
             return Ok(());
         }

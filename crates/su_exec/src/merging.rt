@@ -1,6 +1,6 @@
 //! A body: candidates that are to agree, and checks that are to hold. It is merged to one.
 ghost use Rattle.std.specs.Prelude.{◌≡◌, ◌<◌, ◌+◌, ◌++◌, ◌⊎◌, ℕ, true, [], ◌∷◌, length, None, IfOk, IsTrue, MatchBool};
-ghost use Rattle.su_exec.specs.inside.Bodies.{AreAlone, AreThere, IsEmpty, IsGiven, IsMerged, IsOver, IsTold, IsWanted};
+ghost use Rattle.su_exec.specs.inside.Bodies.{AreAlone, AreThere, IsEmpty, IsEnd, IsGiven, IsMerged, IsRest, IsStep, IsTold, IsWanted, gone, still};
 ghost use Rattle.su_exec.specs.inside.Checks.{all_hold, check_vars, vars_of};
 ghost use Rattle.su_exec.specs.inside.Edges.{Fits, Keeps, always, among, has};
 
@@ -13,6 +13,7 @@ use crate::narrowing::narrow;
 use crate::order::choose;
 use crate::places::is_in;
 use crate::reducing::{has_empty, reduce};
+use crate::threes::cyclic_count;
 use std::alloc::{AllocError, Global};
 
 /// Candidates that are to agree, and checks that are to hold.
@@ -31,6 +32,27 @@ pub enum Merged {
     Over,
     /// It gives nothing.
     Nothing,
+}
+
+/// What a step makes of a body.
+#[derive(Clone, Copy)]
+pub enum Step {
+    /// Two are merged into one.
+    Joined,
+    /// Two are taken out that have nothing to do with the rest, and give more lists of needed values
+    /// than were asked for.
+    Past,
+}
+
+/// How the merging of a body ends.
+#[derive(Clone, Copy)]
+pub enum End {
+    /// One is left.
+    One,
+    /// Two were past what was asked for, and the rest is left.
+    Past,
+    /// One of them has no rows.
+    Empty,
 }
 
 /// Puts the term's variable after what is there.
@@ -147,21 +169,21 @@ fn shrink_all(
     Ok(())
 }
 
-/// Merges two into one, and answers false; or takes them out and answers true, where they have
-/// nothing to do with the rest, and give more lists than the bound of needed values.
+/// Merges two into one; or takes them out, where they have nothing to do with the rest, and give more
+/// lists than the bound of needed values.
 fn merge_next(
     alloc: Global,
     codes: &Codes,
     body: &mut Body,
     needed: &[u32],
     most: Option<usize>,
-) -> Result<bool, AllocError>
+) -> Result<Step, AllocError>
     requires some { 1 < length body.old.edges.items }
     requires there { AreThere needed.now body.old.checks.items body.old.edges.items }
-    ensures merged { IfOk result (λ over. MatchBool over (IsOver needed.now most body.old.edges.items (all_hold codes.now body.old.checks.items) body.new.edges.items (all_hold codes.now body.new.checks.items)) (Keeps needed.now body.old.edges.items (all_hold codes.now body.old.checks.items) body.new.edges.items (all_hold codes.now body.new.checks.items))) }
-    ensures there { IfOk result (λ over. MatchBool over (AreThere [] body.new.checks.items body.new.edges.items) (AreThere needed.now body.new.checks.items body.new.edges.items)) }
-    ensures length { IfOk result (λ over. MatchBool over (length body.new.edges.items + 2 ≡ length body.old.edges.items) (length body.new.edges.items + 1 ≡ length body.old.edges.items)) }
-    ensures last { IfOk result (λ over. body.new.edges.items ≡ [] → body.new.checks.items ≡ []) }
+    ensures merged { IfOk result (IsStep needed.now most body.old.edges.items (all_hold codes.now body.old.checks.items) body.new.edges.items (all_hold codes.now body.new.checks.items)) }
+    ensures there { IfOk result (λ step. AreThere (still needed.now step) body.new.checks.items body.new.edges.items) }
+    ensures length { IfOk result (λ step. length body.new.edges.items + gone step ≡ length body.old.edges.items) }
+    ensures last { IfOk result (λ _. body.new.edges.items ≡ [] → body.new.checks.items ≡ []) }
 {
     let compared = compared_by(alloc, &body.checks)?;
     let (i, j) = choose(alloc, &body.edges, &compared)?;
@@ -173,30 +195,55 @@ fn merge_next(
     let wanted = wanted_by(alloc, body, needed)?;
     let joined = join_all(alloc, codes, &a, &b, tests, &wanted, bound)?;
     if is_past(joined.rows().len(), bound) {
-        return Ok(true);
+        return Ok(Step::Past);
     }
     body.edges.push(joined)?;
-    Ok(false)
+    Ok(Step::Joined)
 }
 
-/// What the body gives the needed variables.
-fn merge_fully(
+/// Merges two after two, and closes cycles first and in between, until one is left, or two are past the
+/// bound, or one has no rows.
+fn merge_down(
+    alloc: Global,
+    codes: &Codes,
+    body: &mut Body,
+    needed: &[u32],
+    most: Option<usize>,
+) -> Result<End, AllocError>
+    requires some { 0 < length body.old.edges.items }
+    requires there { AreThere needed.now body.old.checks.items body.old.edges.items }
+    ensures end { IfOk result (IsEnd needed.now most body.old.edges.items (all_hold codes.now body.old.checks.items) body.new.edges.items (all_hold codes.now body.new.checks.items)) }
+    ensures there { IfOk result (IsRest needed.now body.new.edges.items body.new.checks.items) }
+{
+    let times = cyclic_count(alloc, &body.edges)?;
+    close_cycles(alloc, codes, body, needed, times)?;
+    while body.edges.len() > 1 {
+        if has_empty(&body.edges) {
+            return Ok(End::Empty);
+        }
+        let step = merge_next(alloc, codes, body, needed, most)?;
+        match step {
+            Step::Past => return Ok(End::Past),
+            Step::Joined => {}
+        }
+        close_cycles(alloc, codes, body, needed, times)?;
+    }
+    Ok(End::One)
+}
+
+/// What the one that is left gives the needed variables.
+fn last_of(
     alloc: Global,
     codes: &Codes,
     body: Body,
     needed: &[u32],
 ) -> Result<Candidates, AllocError>
-    requires some { 0 < length body.edges.items }
+    requires one { length body.edges.items ≡ 1 }
     requires there { AreThere needed.now body.checks.items body.edges.items }
-    ensures { IfOk result (λ g. Keeps needed.now body.edges.items (all_hold codes.now body.checks.items) (g ∷ []) always) }
+    ensures keeps { IfOk result (λ g. Keeps needed.now body.edges.items (all_hold codes.now body.checks.items) (g ∷ []) always) }
+    ensures vars { IfOk result (λ g. (k : ℕ) → has needed.now k ≡ true → has g.vars k ≡ true) }
 {
     let mut body = body;
-    while body.edges.len() > 1 {
-        let over = merge_next(alloc, codes, &mut body, needed, None)?;
-        if over {
-            return Err(AllocError);
-        }
-    }
     let last = body.edges.remove(0);
     let whole = shrunk(alloc, codes, last, &mut body, needed)?;
     Ok(whole)
@@ -218,11 +265,16 @@ fn exists(alloc: Global, codes: &Codes, body: Body) -> Result<bool, AllocError>
     if body.edges.is_empty() {
         return Ok(true);
     }
-    let last = merge_fully(alloc, codes, body, &[])?;
-    if has_rows(&last) {
-        return Ok(true);
+    let mut rest = body;
+    let end = merge_down(alloc, codes, &mut rest, &[], None)?;
+    match end {
+        End::Empty => Ok(false),
+        End::Past => unreachable!(),
+        End::One => {
+            let last = last_of(alloc, codes, rest, &[])?;
+            Ok(has_rows(&last))
+        }
     }
-    Ok(false)
 }
 
 /// What is said of a body where a part of it is past the bound, by whether the rest gives anything.
@@ -250,38 +302,19 @@ fn merge_all(
     requires there { AreThere needed.now body.checks.items body.edges.items }
     ensures { IfOk result (IsMerged needed.now most body.edges.items (all_hold codes.now body.checks.items)) }
 {
-    let mut body = body;
-    while body.edges.len() > 1 {
-        if has_empty(&body.edges) {
-            return Ok(Merged::Nothing);
+    let mut rest = body;
+    let end = merge_down(alloc, codes, &mut rest, needed, most)?;
+    match end {
+        End::Empty => Ok(Merged::Nothing),
+        End::Past => {
+            let merged = told(alloc, codes, rest)?;
+            Ok(merged)
         }
-        let over = merge_next(alloc, codes, &mut body, needed, most)?;
-        if over {
-            let merged = told(alloc, codes, body)?;
-            return Ok(merged);
+        End::One => {
+            let whole = last_of(alloc, codes, rest, needed)?;
+            Ok(Merged::Whole(whole))
         }
     }
-    let last = body.edges.remove(0);
-    let whole = shrunk(alloc, codes, last, &mut body, needed)?;
-    Ok(Merged::Whole(whole))
-}
-
-/// What `merge_all` says, by way of the body without cycles that three edges close.
-fn merge_closed(
-    alloc: Global,
-    codes: &Codes,
-    body: Body,
-    needed: &[u32],
-    most: Option<usize>,
-) -> Result<Merged, AllocError>
-    requires some { 0 < length body.edges.items }
-    requires there { AreThere needed.now body.checks.items body.edges.items }
-    ensures { IfOk result (IsMerged needed.now most body.edges.items (all_hold codes.now body.checks.items)) }
-{
-    let mut rest = body;
-    close_cycles(alloc, codes, &mut rest, needed)?;
-    let merged = merge_all(alloc, codes, rest, needed, most)?;
-    Ok(merged)
 }
 
 /// What the body gives the needed variables, or that it gives them more lists than the bound of values.
@@ -302,6 +335,6 @@ pub fn run(
     narrow(alloc, codes, &mut edges, &checks)?;
     let cut = Body { edges, checks };
     let rest = reduce(alloc, cut, needed)?;
-    let merged = merge_closed(alloc, codes, rest, needed, most)?;
+    let merged = merge_all(alloc, codes, rest, needed, most)?;
     Ok(merged)
 }

@@ -1,5 +1,5 @@
-//! Places of variables.
-ghost use Rattle.std.specs.Prelude.{◌≡◌, ◌↔◌, ℕ, ◌+◌, ◌<◌, true, false, List, [], ◌∷◌, length, get_or, MatchOption, IfOk};
+//! Places of variables, and of what is in lists.
+ghost use Rattle.std.specs.Prelude.{◌≡◌, ◌≢◌, ◌↔◌, ℕ, ◌+◌, ◌<◌, true, false, List, [], ◌∷◌, length, get_or, MatchOption, IfOk};
 ghost use Rattle.su_exec.specs.inside.Edges.{has};
 ghost use Rattle.su_exec.specs.inside.Joins.{pick, AreBelow};
 
@@ -64,4 +64,14 @@ pub fn wanted_places(
         }
     }
     Ok(places)
+}
+
+/// Where the j-th stands once the i-th is taken out.
+pub fn after(i: usize, j: usize) -> usize
+    requires { i ≢ j }
+    ensures before { j < i → result ≡ j }
+    ensures behind { i < j → result + 1 ≡ j }
+    ensures within { (count : ℕ) → i < count → j < count → result + 1 < count }
+{
+    if i < j { j - 1 } else { j }
 }

@@ -7,7 +7,7 @@ use crate::candidates::{Candidates, semijoin};
 use crate::connecting::own_labels;
 use crate::merging::{Body, wanted_by};
 use crate::order::{Link, ear_order};
-use crate::places::is_in;
+use crate::places::{after, is_in};
 use std::alloc::{AllocError, Global};
 
 /// The i-th loses the rows that have no partner in the j-th.
@@ -54,14 +54,6 @@ fn has_wanted(others: &[u32], vars: &[u32], wanted: &[u32]) -> bool
     true
 }
 
-/// The position of the j-th where the i-th is taken out.
-fn moved(i: usize, j: usize) -> usize
-    requires { i ≢ j }
-    ensures { (count : ℕ) → i < count → j < count → result + 1 < count }
-{
-    if j < i { j } else { j - 1 }
-}
-
 /// The parent, the j-th, loses the rows without partner in the ear, the i-th. The ear is taken out,
 /// where the parent has all variables of it that are wanted; else it is put last. Answers whether it
 /// was taken out.
@@ -77,7 +69,7 @@ fn take_ear(
     ensures { IfOk result (λ _. Leaves needed.now body.old.edges.items body.old.checks.items body.new.edges.items body.new.checks.items) }
 {
     let ear = body.edges.remove(i);
-    let parent = moved(i, j);
+    let parent = after(i, j);
     let reduced = semijoin(alloc, &body.edges[parent], &ear)?;
     body.edges[parent] = reduced;
     let wanted = wanted_by(alloc, body, needed)?;

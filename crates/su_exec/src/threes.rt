@@ -6,7 +6,7 @@ ghost use Rattle.su_exec.specs.inside.Joins.{AreBelow};
 use crate::candidates::Candidates;
 use crate::hashes::bucket;
 use crate::order::{find_ear, shares};
-use crate::places::{is_in, shared_places};
+use crate::places::{after, is_in, shared_places};
 use std::alloc::{AllocError, Global};
 
 /// How many blocks there are: the rows of even ones meet the second edge first, those of odd ones the third.
@@ -27,6 +27,12 @@ fn cyclic(alloc: Global, edges: &[Candidates]) -> Result<Vec<bool>, AllocError> 
         }
     }
     Ok(left)
+}
+
+/// How many edges no ear order takes out.
+pub fn cyclic_count(alloc: Global, edges: &[Candidates]) -> Result<usize, AllocError> {
+    let left = cyclic(alloc, edges)?;
+    Ok(left.iter().filter(|is_left| **is_left).count())
 }
 
 /// Whether the second has a variable that the first has not.
@@ -72,15 +78,6 @@ fn closing(edges: &[Candidates], left: &[bool], i: usize) -> Option<(usize, usiz
         }
     }
     None
-}
-
-/// Where the j-th stands once the i-th is taken out.
-fn after(i: usize, j: usize) -> usize
-    requires { i ≢ j }
-    ensures before { j < i → result ≡ j }
-    ensures behind { i < j → result + 1 ≡ j }
-{
-    if i < j { j - 1 } else { j }
 }
 
 /// Three edges of a cycle, of which the second and the third bring the first the same variables: where

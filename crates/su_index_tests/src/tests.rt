@@ -36,61 +36,121 @@ fn position(rt: &impl Abort, table: &Table, column: u8, value: &Value, k: usize)
     table.matched(column, value, k)
 }
 
+/// The number and the text of a row, and what is answered to it.
+type Answered = (i64, &'static str, bool);
+
+/// Puts the rows in one by one: each is new or not, as it says.
+fn put_each(
+    rt: &impl Abort,
+    alloc: Global,
+    table: &mut Table,
+    rows: &[Answered],
+) -> Result<(), Fail> {
+    for (number, text, new) in rows {
+        assert_eq!(rt; put(rt, table, row(alloc, *number, text)?)?, *new);
+    }
+    Ok(())
+}
+
+/// Takes the rows out one by one: each was there or not, as it says.
+fn take_each(
+    rt: &impl Abort,
+    alloc: Global,
+    table: &mut Table,
+    rows: &[Answered],
+) -> Result<(), Fail> {
+    for (number, text, there) in rows {
+        assert_eq!(rt; table.remove(&row(alloc, *number, text)?), *there);
+    }
+    Ok(())
+}
+
+/// Takes the rows of the numbers from 0 on with the text out.
+fn take_below(alloc: Global, table: &mut Table, end: i64, text: &str) -> Result<(), Fail> {
+    for number in 0..end {
+        let _there = table.remove(&row(alloc, number, text)?);
+    }
+    Ok(())
+}
+
+/// That each number stands in so many rows.
+fn have_numbers(rt: &impl Abort, table: &Table, counts: &[(i64, usize)]) {
+    for (number, wanted) in counts {
+        assert_eq!(rt; count(rt, table, 0, &Value::Int(*number)), *wanted);
+    }
+}
+
+/// That the text stands in so many rows in the column.
+fn has_text(
+    rt: &impl Abort,
+    alloc: Global,
+    table: &Table,
+    column: u8,
+    text: &str,
+    wanted: usize,
+) -> Result<(), Fail> {
+    let text = Value::Text(Str::new(alloc, text)?);
+    assert_eq!(rt; count(rt, table, column, &text), wanted);
+    Ok(())
+}
+
+/// That the rows with the number stand at these places, and at more of them perhaps.
+fn stands_at(rt: &impl Abort, table: &Table, number: i64, places: &[usize]) {
+    let number = Value::Int(number);
+    for (k, place) in places.iter().enumerate() {
+        assert_eq!(rt; position(rt, table, 0, &number, k), *place);
+    }
+}
+
+const SEVENS: &[Answered] = &[
+    (7, "a", true),
+    (3, "b", true),
+    (7, "b", true),
+    (7, "a", false),
+    (7, "", true),
+];
+
 #[test]
 fn a_value_in_many_rows_is_found_by_position(rt: HostRuntime) -> Result<(), Fail> {
     let alloc = rt.alloc();
     let mut table = Table::new(alloc, 2)?;
-    for (number, text, new) in [
-        (7, "a", true),
-        (3, "b", true),
-        (7, "b", true),
-        (7, "a", false),
-        (7, "", true),
-    ] {
-        assert_eq!(rt; put(&rt, &mut table, row(alloc, number, text)?)?, new);
-    }
-    let seven = Value::Int(7);
-    for (k, place) in [(0, 0), (1, 2), (2, 3)] {
-        assert_eq!(rt; position(&rt, &table, 0, &seven, k), place);
-    }
-    let b = Value::Text(Str::new(alloc, "b")?);
-    assert_eq!(rt; count(&rt, &table, 1, &b), 2);
-    assert_eq!(rt; count(&rt, &table, 0, &b), 0);
-    Ok(())
+    put_each(&rt, alloc, &mut table, SEVENS)?;
+    stands_at(&rt, &table, 7, &[0, 2, 3]);
+    has_text(&rt, alloc, &table, 1, "b", 2)?;
+    has_text(&rt, alloc, &table, 0, "b", 0)
 }
+
+const FIVES: &[Answered] = &[(5, "a", true), (-5, "a", true), (5, "b", true)];
 
 #[test]
 fn a_number_and_its_opposite_are_told_apart(rt: HostRuntime) -> Result<(), Fail> {
-    let alloc = rt.alloc();
-    let mut table = Table::new(alloc, 2)?;
-    for (number, text) in [(5, "a"), (-5, "a"), (5, "b")] {
-        let _new = put(&rt, &mut table, row(alloc, number, text)?)?;
-    }
-    assert_eq!(rt; count(&rt, &table, 0, &Value::Int(-5)), 1);
-    for (k, place) in [(0, 0), (1, 2)] {
-        assert_eq!(rt; position(&rt, &table, 0, &Value::Int(5), k), place);
-    }
+    let mut table = Table::new(rt.alloc(), 2)?;
+    put_each(&rt, rt.alloc(), &mut table, FIVES)?;
+    have_numbers(&rt, &table, &[(-5, 1)]);
+    stands_at(&rt, &table, 5, &[0, 2]);
     Ok(())
 }
 
+const PUT: &[Answered] = &[
+    (4, "a", true),
+    (5, "a", true),
+    (6, "a", true),
+    (4, "b", true),
+];
+
+const TAKEN: &[Answered] = &[
+    (4, "a", true),
+    (4, "a", false),
+    (9, "a", false),
+    (4, "b", true),
+];
+
 #[test]
 fn a_row_that_is_taken_out_is_in_no_index(rt: HostRuntime) -> Result<(), Fail> {
-    let alloc = rt.alloc();
-    let mut table = Table::new(alloc, 2)?;
-    for (number, text) in [(4, "a"), (5, "a"), (6, "a"), (4, "b")] {
-        let _new = put(&rt, &mut table, row(alloc, number, text)?)?;
-    }
-    for (number, text, there) in [
-        (4, "a", true),
-        (4, "a", false),
-        (9, "a", false),
-        (4, "b", true),
-    ] {
-        assert_eq!(rt; table.remove(&row(alloc, number, text)?), there);
-    }
-    for (number, left) in [(4, 0), (5, 1), (6, 1)] {
-        assert_eq!(rt; count(&rt, &table, 0, &Value::Int(number)), left);
-    }
+    let mut table = Table::new(rt.alloc(), 2)?;
+    put_each(&rt, rt.alloc(), &mut table, PUT)?;
+    take_each(&rt, rt.alloc(), &mut table, TAKEN)?;
+    have_numbers(&rt, &table, &[(4, 0), (5, 1), (6, 1)]);
     Ok(())
 }
 
@@ -104,18 +164,22 @@ fn rows(alloc: Global) -> Result<List<Row>, Fail>
     Ok(rows)
 }
 
-#[test]
-fn many_rows_go_in_at_once_and_out_again(rt: HostRuntime) -> Result<(), Fail> {
-    let alloc = rt.alloc();
+/// A table of the rows, of which 2,000 are different.
+fn filled(rt: &impl Abort, alloc: Global) -> Result<Table, Fail> {
     let mut table = Table::new(alloc, 2)?;
     assert_eq!(rt; table.insert_all(rows(alloc)?)?, 2000);
-    let a = Value::Text(Str::new(alloc, "a")?);
-    assert_eq!(rt; count(&rt, &table, 1, &a), 1000);
+    Ok(table)
+}
+
+#[test]
+fn many_rows_go_in_at_once(rt: HostRuntime) -> Result<(), Fail> {
+    let table = filled(&rt, rt.alloc())?;
     assert_eq!(rt; position(&rt, &table, 0, &Value::Int(17), 1), 1017);
-    for number in 0..500 {
-        let _there = table.remove(&row(alloc, number, "a")?);
-    }
-    assert_eq!(rt; count(&rt, &table, 1, &a), 500);
+    has_text(&rt, rt.alloc(), &table, 1, "a", 1000)
+}
+
+/// Keeps the rows from 1,000 on of 1,500.
+fn keep_the_last(rt: &impl Abort, alloc: Global, table: &mut Table) -> Result<(), Fail> {
     let mut kept = Vec::new(alloc);
     for place in 0..1500 {
         kept.push(place >= 1000)?;
@@ -123,33 +187,39 @@ fn many_rows_go_in_at_once_and_out_again(rt: HostRuntime) -> Result<(), Fail> {
     assert_eq!(rt; kept.len(), table.len());
     table.keep(kept.as_slice())?;
     assert_eq!(rt; table.len(), 500);
-    assert_eq!(rt; count(&rt, &table, 1, &a), 0);
+    Ok(())
+}
+
+#[test]
+fn many_rows_go_out_again(rt: HostRuntime) -> Result<(), Fail> {
+    let mut table = filled(&rt, rt.alloc())?;
+    take_below(rt.alloc(), &mut table, 500, "a")?;
+    has_text(&rt, rt.alloc(), &table, 1, "a", 500)?;
+    keep_the_last(&rt, rt.alloc(), &mut table)?;
+    has_text(&rt, rt.alloc(), &table, 1, "a", 0)
+}
+
+/// Puts 10,000 rows in one by one, the first half with a and the later one with b.
+fn put_many(rt: &impl Abort, alloc: Global, table: &mut Table) -> Result<(), Fail> {
+    for number in 0..10000 {
+        let text = if number < 5000 { "a" } else { "b" };
+        let _new = put(rt, table, row(alloc, number % 5000, text)?)?;
+    }
     Ok(())
 }
 
 #[test]
 fn rows_of_many_chunks_go_in_and_out_one_by_one(rt: HostRuntime) -> Result<(), Fail> {
-    let alloc = rt.alloc();
-    let mut table = Table::new(alloc, 2)?;
-    for number in 0..10000 {
-        let _new = put(
-            &rt,
-            &mut table,
-            row(alloc, number % 5000, if number < 5000 { "a" } else { "b" })?,
-        )?;
-    }
-    for number in 0..3000 {
-        let _there = table.remove(&row(alloc, number, "a")?);
-    }
+    let mut table = Table::new(rt.alloc(), 2)?;
+    put_many(&rt, rt.alloc(), &mut table)?;
+    take_below(rt.alloc(), &mut table, 3000, "a")?;
     assert_eq!(rt; table.len(), 7000);
-    for (number, left) in [(0, 1), (2999, 1), (3000, 2), (4999, 2), (5000, 0)] {
-        assert_eq!(rt; count(&rt, &table, 0, &Value::Int(number)), left);
-    }
-    assert_eq!(rt;
-        count(&rt, &table, 1, &Value::Text(Str::new(alloc, "b")?)),
-        5000
+    have_numbers(
+        &rt,
+        &table,
+        &[(0, 1), (2999, 1), (3000, 2), (4999, 2), (5000, 0)],
     );
-    Ok(())
+    has_text(&rt, rt.alloc(), &table, 1, "b", 5000)
 }
 
 fn told(rt: &impl Abort, table: &Table, row: &Row) -> Alike {
@@ -157,18 +227,32 @@ fn told(rt: &impl Abort, table: &Table, row: &Row) -> Alike {
     table.alike(AttrSet::empty().insert(0).insert(1), row)
 }
 
+/// What is told of the row of 1 and a, once the row of the number and the text is put in.
+fn told_beside(
+    rt: &impl Abort,
+    alloc: Global,
+    table: &mut Table,
+    number: i64,
+    text: &str,
+) -> Result<Alike, Fail> {
+    let _new = put(rt, table, row(alloc, number, text)?)?;
+    Ok(told(rt, table, &row(alloc, 1, "a")?))
+}
+
 #[test]
 fn a_noted_row_is_found_by_all_its_values(rt: HostRuntime) -> Result<(), Fail> {
     let alloc = rt.alloc();
     let mut table = Table::new(alloc, 2)?;
-    let row_of_one = row(alloc, 1, "a")?;
     let _new = put(&rt, &mut table, row(alloc, 1, "b")?)?;
     table.note(AttrSet::empty().insert(0).insert(1))?;
-    assert!(rt; matches!(told(&rt, &table, &row_of_one), Alike::Unknown));
-    let _new = put(&rt, &mut table, row(alloc, 2, "a")?)?;
-    assert!(rt; matches!(told(&rt, &table, &row_of_one), Alike::Nowhere));
-    let _new = put(&rt, &mut table, row(alloc, 1, "a")?)?;
-    assert!(rt; matches!(told(&rt, &table, &row_of_one), Alike::MaybeAt(2)));
+    assert!(rt; matches!(told(&rt, &table, &row(alloc, 1, "a")?), Alike::Unknown));
+    assert!(rt; matches!(told_beside(&rt, alloc, &mut table, 2, "a")?, Alike::Nowhere));
+    assert!(rt;
+        matches!(
+            told_beside(&rt, alloc, &mut table, 1, "a")?,
+            Alike::MaybeAt(2)
+        )
+    );
     Ok(())
 }
 

@@ -63,7 +63,7 @@ impl MemoryShelf {
 }
 
 impl MemoryShelf {
-    // Counts a fault.
+    /// Counts a fault.
     fn refuse(&mut self) -> Failed
         ensures rest { self.new ≡ record self.old { faults = self.new.faults; failed = true } }
         ensures later { self.old.faults ≤ self.new.faults }
@@ -88,7 +88,7 @@ impl Shelf for MemoryShelf {
 
     ghost faults = { λ s. s.faults };
 
-    // The trait's clauses, and when the call fails.
+    /// The trait's clauses, and when the call fails.
     fn begin(&mut self, name: Str) -> Result<(), Failed>
         ensures files { self.new.files ≡ self.old.files }
         ensures begun { self.new.begun ≡ Some name }
@@ -119,7 +119,7 @@ impl Shelf for MemoryShelf {
         }
     }
 
-    // The trait's clauses, when the call fails, and how much it takes.
+    /// The trait's clauses, when the call fails, and how much it takes.
     fn read(&mut self, buf: &mut [u8]) -> Result<usize, Failed>
         ensures files { self.new.files ≡ self.old.files }
         ensures begun { self.new.begun ≡ self.old.begun }

@@ -47,7 +47,7 @@ impl MemorySink {
         })
     }
 
-    // Counts a call, and its fault where it is one of those that fail.
+    /// Counts a call, and its fault where it is one of those that fail.
     fn next_call(&mut self) -> Result<(), Failed>
         ensures rest { self.new ≡ record self.old { calls = self.new.calls; faults = self.new.faults } }
         ensures when { IsErr result ↔ Contains self.old.fails self.old.calls }
@@ -78,7 +78,7 @@ impl Sink for MemorySink {
 
     ghost faults = { λ s. s.faults };
 
-    // The trait's clauses, when the call fails, how much it takes, and what it stores and tells of that.
+    /// The trait's clauses, when the call fails, how much it takes, and what it stores and tells of that.
     fn write(&mut self, bytes: &[u8]) -> Result<usize, Failed>
         ensures bound { IfOk result (λ count. count ≤ length bytes.now) }
         ensures progress { IfOk result (λ count. 0 < length bytes.now → 0 < count) }
@@ -100,7 +100,7 @@ impl Sink for MemorySink {
         Ok(count)
     }
 
-    // The trait's clauses, and when the call fails.
+    /// The trait's clauses, and when the call fails.
     fn flush(&mut self) -> Result<(), Failed>
         ensures written { (self.new.bytes ≡ self.old.bytes) × (self.new.told ≡ self.old.told) }
         ensures cause { HasCause self.old.faults self.new.faults result }

@@ -5,7 +5,7 @@ ghost use Rattle.su_io.specs.Files.{contents, has_file, bytes_at};
 use crate::File;
 use su_base::Str;
 
-// The place of the first file of a name.
+/// The place of the first file of a name.
 pub(crate) fn find(files: &[File], name: &Str) -> Option<usize>
     ensures found { IfSome result (λ place. bytes_at files.now place ≡ contents files.now name.now) }
     ensures none { IfNone result (contents files.now name.now ≡ []) }
@@ -19,7 +19,7 @@ pub(crate) fn find(files: &[File], name: &Str) -> Option<usize>
     None
 }
 
-// What is left of the file at a place.
+/// What is left of the file at a place.
 pub(crate) fn rest_of(files: &[File], place: usize, taken: usize) -> &[u8]
     requires { taken ≤ length (bytes_at files.now place) }
     ensures rest { result.now ≡ drop taken (bytes_at files.now place) }
@@ -31,7 +31,7 @@ pub(crate) fn rest_of(files: &[File], place: usize, taken: usize) -> &[u8]
     }
 }
 
-// Takes the front of `rest` into the front of `buf`, at most `piece` bytes.
+/// Takes the front of `rest` into the front of `buf`, at most `piece` bytes.
 pub(crate) fn take_front(rest: &[u8], buf: &mut [u8], piece: usize) -> usize
     requires { 1 ≤ piece }
     ensures within { result ≤ length rest.now }

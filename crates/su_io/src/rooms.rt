@@ -1,7 +1,7 @@
 //! What the sinks in memory share: bytes are kept up to a room.
 ghost use Rattle.std.specs.Prelude.{◌≡◌, ◌≤◌, ◌+◌, ◌++◌, nat_le, take, length, vec_len, vec_capacity};
 
-// Appends what there is room for, and tells whether that was all.
+/// Appends what there is room for, and tells whether that was all.
 pub(crate) fn keep(kept: &mut Vec<u8>, room: usize, bytes: &[u8]) -> bool
     requires within { vec_len kept.old ≤ room }
     requires roomy { room ≤ vec_capacity kept.old }

@@ -46,7 +46,7 @@ impl Sink for SteadySink {
 
     ghost faults = { λ s. 0 };
 
-    // The trait's clauses, and what it stores and tells of the bytes, all of which it takes.
+    /// The trait's clauses, and what it stores and tells of the bytes, all of which it takes.
     fn write(&mut self, bytes: &[u8]) -> Result<usize, Failed>
         ensures bound { IfOk result (λ count. count ≤ length bytes.now) }
         ensures progress { IfOk result (λ count. 0 < length bytes.now → 0 < count) }

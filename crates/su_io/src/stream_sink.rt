@@ -5,7 +5,7 @@ ghost use Rattle.su_io.specs.Causes.{HasCause};
 use crate::{Failed, Sink};
 use std::io::{Print, Stdout};
 
-// How many bytes are held before they are handed over.
+/// How many bytes are held before they are handed over.
 const LARGE: usize = 1 << 16;
 
 /// Standard output, written in large pieces: short ones are held until there are 64 KiB of them, or
@@ -29,7 +29,7 @@ impl StreamSink {
         }
     }
 
-    // Counts a fault where a call of the outside failed.
+    /// Counts a fault where a call of the outside failed.
     fn counted(&mut self, ended: std::io::Result<()>) -> Result<(), Failed>
         ensures cause { HasCause self.old.faults self.new.faults result }
     {
@@ -42,7 +42,7 @@ impl StreamSink {
         }
     }
 
-    // Hands the bytes over whole.
+    /// Hands the bytes over whole.
     fn hand_over(&mut self, bytes: &[u8]) -> Result<(), Failed>
         ensures cause { HasCause self.old.faults self.new.faults result }
     {
@@ -50,7 +50,7 @@ impl StreamSink {
         self.counted(ended)
     }
 
-    // Hands over what is held. After a failure nothing is held.
+    /// Hands over what is held. After a failure nothing is held.
     fn hand_held_over(&mut self) -> Result<(), Failed>
         ensures cause { HasCause self.old.faults self.new.faults result }
     {

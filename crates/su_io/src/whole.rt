@@ -8,7 +8,7 @@ use crate::{Failed, ReadEnd, Shelf, Sink};
 use std::alloc::Global;
 use su_base::{List, Str};
 
-// How many bytes a read asks for.
+/// How many bytes a read asks for.
 const PIECE: usize = 4096;
 
 /// Reads a file whole, where it has at most `limit` bytes. A longer one is read up to the first piece

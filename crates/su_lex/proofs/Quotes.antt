@@ -1,5 +1,5 @@
 -- Texts in quotes at the front of a text.
-use Rattle.std.proofs.Common.{◌≡◌, ◌≤◌, ◌+◌, ℕ, Bool, true, false, List, [], ◌∷◌, ◌++◌, ◌==◌, length, drop, refl, ap, sym, ◌∙◌, arith, subst}
+use Rattle.std.proofs.Common.{◌≡◌, ◌≤◌, ◌+◌, ℕ, Bool, true, false, not, List, [], ◌∷◌, ◌++◌, ◌==◌, length, take, drop, refl, ap, sym, ◌∙◌, arith, subst}
 use Rattle.std.proofs.lemmas.Bool.{false≢true}
 use Rattle.std.proofs.lemmas.Bool.Decides.{nat_tests}
 use Rattle.su_lex.specs.Blanks.{begins}
@@ -10,6 +10,8 @@ use Rattle.su_lex.specs.declared.kinds.TokenKind.TheVariants.{Word, Int, Text, S
 use Rattle.su_lex.specs.declared.firsts.Class.TheVariants.{Text as OfText}
 use Rattle.std.proofs.Common.{append_assoc, append-nil, length-append}
 use Rattle.std.specs.Str.{IsUtf8}
+use Rattle.std.specs.List.{prefix_len, list_all}
+use Rattle.su_lex.proofs.Runs.{run_at}
 use Rattle.su_lex.specs.Tokens.{twice}
 use Rattle.su_lex.specs.inside.Classes.{place_at}
 use Rattle.su_lex.specs.declared.quoting.Place.TheVariants.{Content, Close as AClose, Missing}
@@ -140,3 +142,17 @@ piece_close (x ∷ rest) e = let h : (x ≡ 39) × (begins (λ b. b == 39) rest 
 pub piece_missing : (rest : List ℕ) → place_at rest ≡ Missing → rest ≡ []
 piece_missing [] e = refl
 piece_missing (x ∷ rest) e = absurd (grind (arith, nat_tests, e))
+
+-- content without a quote is written as it is
+pub doubled_plain : (content : List ℕ) → list_all (λ b. not (b == 39)) content ≡ true → doubled content ≡ content
+doubled_plain [] plain = refl
+doubled_plain (c ∷ cs) plain = elim (c == 39) as (λ v. (c == 39) ≡ v → doubled (c ∷ cs) ≡ c ∷ cs) [
+  | true ↦ λ q. absurd (grind (arith, q, plain))
+  | false ↦ λ q. let rest : list_all (λ b. not (b == 39)) cs ≡ true = grind (arith, q, plain) in rw q (ap (λ x. c ∷ x) (doubled_plain cs rest))
+] refl
+
+-- a text up to its first quote
+pub text_run : (text behind : List ℕ) (n : ℕ) → class_at text ≡ OfText → behind ≡ drop 1 text → n ≡ prefix_len (λ b. not (b == 39)) behind → text ≡ 39 ∷ (doubled (take n behind) ++ drop n behind)
+text_run text behind n c is count =
+    let r = run_at (λ b. not (b == 39)) behind n count in
+    text_start text c ∙ ap (λ x. 39 ∷ x) (sym is ∙ r.0 ∙ ap (λ x. x ++ drop n behind) (sym (doubled_plain (take n behind) r.1.passes)))

@@ -1,9 +1,11 @@
 //! The text in quotes at the front of a text.
-ghost use Rattle.std.specs.Prelude.{◌≡◌, length, IfOk, IsErrOf};
+ghost use Rattle.std.specs.Prelude.{◌≡◌, ◌≤◌, length, IfOk, IsErrOf};
+ghost use Rattle.std.specs.Str.{IsUtf8};
 ghost use Rattle.su_lex.specs.Tokens.{IsFirst, HasNoFirst, twice};
 ghost use Rattle.su_lex.specs.inside.Classes.{class_at, place_at};
 ghost use Rattle.su_lex.specs.declared.firsts.Class.TheVariants.{Text as OfText};
 
+use crate::bytes::unquoted_bytes;
 use crate::ends::LexEnd;
 use crate::kinds::TokenKind;
 use std::alloc::Global;
@@ -35,8 +37,23 @@ fn width(b: u8) -> usize
     if b == b'\'' { 2 } else { 1 }
 }
 
-/// The text at the front, which begins with a quote, and how many bytes it takes.
-pub fn quoted_text(alloc: Global, text: &[u8]) -> Result<(TokenKind, usize), LexEnd>
+/// The token of a text of this content.
+fn text_of(alloc: Global, content: &[u8]) -> Result<TokenKind, LexEnd>
+    ensures found { IfOk result (λ kind. (kind ≡ TokenKind.Text content.now) × IsUtf8 content.now × (length content.now ≤ 4096)) }
+    ensures none { IsErrOf result LexEnd.Syntax → ¬ (IsUtf8 content.now × (length content.now ≤ 4096)) }
+{
+    if content.len() > 4096 {
+        return Err(LexEnd::Syntax);
+    }
+    match str::from_utf8(content) {
+        Ok(content) => Ok(TokenKind::Text(Str::new(alloc, content)?)),
+        Err(_) => Err(LexEnd::Syntax),
+    }
+}
+
+/// The text at the front, which begins with a quote, and how many bytes it takes. Its content is put
+/// together byte by byte.
+fn doubled_text(alloc: Global, text: &[u8]) -> Result<(TokenKind, usize), LexEnd>
     requires { class_at text.now ≡ OfText }
     ensures found { IfOk result (λ t. IsFirst text.now t.0 t.1) }
     ensures none { IsErrOf result LexEnd.Syntax → HasNoFirst text.now }
@@ -53,14 +70,25 @@ pub fn quoted_text(alloc: Global, text: &[u8]) -> Result<(TokenKind, usize), Lex
             Place::Missing => return Err(LexEnd::Syntax),
         }
     }
-    if content.len() > 4096 {
-        return Err(LexEnd::Syntax);
-    }
-    match str::from_utf8(content.as_slice()) {
-        Ok(content) => Ok((
-            TokenKind::Text(Str::new(alloc, content)?),
-            text.len() - rest.len() + 1,
-        )),
-        Err(_) => Err(LexEnd::Syntax),
+    let kind = text_of(alloc, content.as_slice())?;
+    Ok((kind, text.len() - rest.len() + 1))
+}
+
+/// The text at the front, which begins with a quote, and how many bytes it takes. Where no quote stands
+/// in it, the bytes of the text are its content.
+pub fn quoted_text(alloc: Global, text: &[u8]) -> Result<(TokenKind, usize), LexEnd>
+    requires { class_at text.now ≡ OfText }
+    ensures found { IfOk result (λ t. IsFirst text.now t.0 t.1) }
+    ensures none { IsErrOf result LexEnd.Syntax → HasNoFirst text.now }
+{
+    let behind = &text[1..];
+    let n = unquoted_bytes(behind);
+    match place_of(&behind[n..]) {
+        Place::Close => {
+            let kind = text_of(alloc, &behind[..n])?;
+            Ok((kind, n + 2))
+        }
+        Place::Missing => Err(LexEnd::Syntax),
+        Place::Content(_) => doubled_text(alloc, text),
     }
 }

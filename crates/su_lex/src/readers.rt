@@ -166,6 +166,7 @@ impl Reader {
     pub fn name(&mut self) -> Result<Str, LexEnd>
         ensures found { IfOk result (λ n. (self.old ≡ Symbol.Word n ∷ self.new) × IsName n) }
         ensures syntax { IsErrOf result LexEnd.Syntax → (n : Items ℕ) → IsName n → ¬ (Begins (Symbol.Word n) self.old) }
+        ensures refused { IfErr result (λ e. e ≡ LexEnd.Syntax) }
         ensures unchanged { OnErr result (self.new ≡ self.old) }
     {
         if !self.is_at_name() {

@@ -1,10 +1,10 @@
 -- Domains that shrink and lose no choice.
-use Rattle.std.proofs.Common.{◌≡◌, ◌≢◌, ℕ, ◌^◌, ◌<◌, ◌≤◌, ◌↔◌, List, length, get_or, set, inl, inr, sym, ap, subst, ◌∙◌, ⊎_elim, arith, get_or-set_other, get_or-set_same}
+use Rattle.std.proofs.Common.{◌≡◌, ◌≢◌, ℕ, ◌^◌, ◌<◌, ◌≤◌, ◌↔◌, List, length, get_or, set, refl, sym, ap, subst, ◌∙◌, ⊎_elim, arith, get_or-set_other, get_or-set_same}
 use Rattle.std.specs.Int.{bit_at}
 use Rattle.std.proofs.lemmas.Bool.{cases_eq}
 use Rattle.std.proofs.lemmas.Nat.Bits.{bit_at-pow_same, bit_at-pow_other, bit_at-lt, bit_at-zero, same_from_bits}
 use Rattle.su_map.specs.Nets.{Netted, HasRoom, near_of, agree_of}
-use Rattle.su_map.specs.inside.Choices.{IsChoice, Shrinks, IsLeft}
+use Rattle.su_map.specs.inside.Choices.{IsChoice, Shrinks, IsAssigned}
 
 pub pow_member : (m k x : ℕ) → m ≡ 2 ^ k → (bit_at m x ≡ 1) ↔ (x ≡ k)
 pow_member m k x e = (
@@ -18,66 +18,6 @@ pow_member m k x e = (
 
 pub less_room : (a b : ℕ) (net : Netted) → a ≤ b → HasRoom b net → HasRoom a net
 less_room a b net h r = record { base = let x = r.base in omega arith; near = let x = r.near in omega arith; agree = let x = r.agree in omega arith }
-
-pub left_row : (net : Netted) (row target q domain x m : ℕ) → q ≡ row → m ≡ 2 ^ target → (bit_at m x ≡ 1) ↔ IsLeft net row target q domain x
-left_row net row target q domain x m e is = (
-  λ h. inl (e, (pow_member m target x is).0 h),
-  ⊎_elim (λ (a : (q ≡ row) × (x ≡ target)). (pow_member m target x is).1 a.1) (λ (a : (q ≢ row) × (bit_at domain x ≡ 1) × (bit_at (near_of net row) q ≡ 1 → bit_at (agree_of net row q target) x ≡ 1)). absurd (a.0 e)),
-)
-
-pub left_near : (net : Netted) (row target q domain x m agree near : ℕ) → q ≢ row → near ≡ near_of net row → bit_at near q ≡ 1 → agree ≡ agree_of net row q target → (bit_at m x ≡ 1) ↔ ((bit_at domain x ≡ 1) × (bit_at agree x ≡ 1)) → (bit_at m x ≡ 1) ↔ IsLeft net row target q domain x
-left_near net row target q domain x m agree near ne is_near one is f = (
-  λ h. let r = f.0 h in inr (ne, r.0, λ n. subst (λ a. bit_at a x ≡ 1) is r.1),
-  ⊎_elim
-      (λ (a : (q ≡ row) × (x ≡ target)). absurd (ne a.0))
-      (λ (a : (q ≢ row) × (bit_at domain x ≡ 1) × (bit_at (near_of net row) q ≡ 1 → bit_at (agree_of net row q target) x ≡ 1)). f.1 (a.1, subst (λ a. bit_at a x ≡ 1) (sym is) (a.2 (subst (λ n. bit_at n q ≡ 1) is_near one)))),
-)
-
-pub left_far : (net : Netted) (row target q domain x near : ℕ) → q ≢ row → near ≡ near_of net row → (bit_at near q ≡ 1 → ⊥) → (bit_at domain x ≡ 1) ↔ IsLeft net row target q domain x
-left_far net row target q domain x near ne is far = (
-  λ h. inr (ne, h, λ n. absurd (far (subst (λ n. bit_at n q ≡ 1) (sym is) n))),
-  ⊎_elim
-      (λ (a : (q ≡ row) × (x ≡ target)). absurd (ne a.0))
-      (λ (a : (q ≢ row) × (bit_at domain x ≡ 1) × (bit_at (near_of net row) q ≡ 1 → bit_at (agree_of net row q target) x ≡ 1)). a.1),
-)
-
--- a choice that sends the row to the target has its targets left
-pub left_has : (net : Netted) (n m row target : ℕ) (domains : List ℕ) → row < n → (choice : ℕ → ℕ) → IsChoice net n m domains choice → bit_at m row ≡ 1 → choice row ≡ target → (q : ℕ) → q < n → bit_at m q ≡ 1 → IsLeft net row target q (get_or domains q 0) (choice q)
-left_has net n m row target domains h choice c one is q hq bq =
-    ⊎_elim
-    (λ (e : q ≡ row). inl (e, ap choice e ∙ is))
-    (λ (ne : q ≢ row). inr (ne, c.within q hq bq, λ near. subst (λ p. bit_at (agree_of net row q p) (choice q) ≡ 1) is (c.fit row q h hq one bq (λ e. ne (sym e)) near)))
-    (cases_eq q row)
-
--- ---- the domains after an assignment
-
-module _ (net : Netted) (n m row target : ℕ) (domains next : List ℕ) (left : (q : ℕ) → q < n → (x : ℕ) → (bit_at (get_or next q 0) x ≡ 1) ↔ IsLeft net row target q (get_or domains q 0) x) where
-  pub left_shrinks : bit_at (get_or domains row 0) target ≡ 1 → Shrinks n domains next
-  left_shrinks has q x h one =
-      ⊎_elim
-      (λ (a : (q ≡ row) × (x ≡ target)). ap (λ q. bit_at (get_or domains q 0) x) a.0 ∙ ap (bit_at (get_or domains row 0)) a.1 ∙ has)
-      (λ (a : (q ≢ row) × (bit_at (get_or domains q 0) x ≡ 1) × (bit_at (near_of net row) q ≡ 1 → bit_at (agree_of net row q target) x ≡ 1)). a.1)
-      ((left q h x).0 one)
-
-  pub left_only : row < n → (x : ℕ) → bit_at (get_or next row 0) x ≡ 1 → x ≡ target
-  left_only h x one =
-      ⊎_elim
-      (λ (a : (row ≡ row) × (x ≡ target)). a.1)
-      (λ (a : (row ≢ row) × (bit_at (get_or domains row 0) x ≡ 1) × (bit_at (near_of net row) row ≡ 1 → bit_at (agree_of net row row target) x ≡ 1)). absurd (let f = a.0 in omega arith))
-      ((left row h x).0 one)
-
-  pub left_fits : (q x : ℕ) → q < n → row ≢ q → bit_at (near_of net row) q ≡ 1 → bit_at (get_or next q 0) x ≡ 1 → bit_at (agree_of net row q target) x ≡ 1
-  left_fits q x h ne near one =
-      ⊎_elim
-      (λ (a : (q ≡ row) × (x ≡ target)). absurd (ne (sym a.0)))
-      (λ (a : (q ≢ row) × (bit_at (get_or domains q 0) x ≡ 1) × (bit_at (near_of net row) q ≡ 1 → bit_at (agree_of net row q target) x ≡ 1)). a.2 near)
-      ((left q h x).0 one)
-
-  pub left_all : row < n → (choice : ℕ → ℕ) → IsChoice net n m domains choice → bit_at m row ≡ 1 → choice row ≡ target → IsChoice net n m next choice
-  left_all h choice c one is = record {
-    within = λ q hq bq. (left q hq (choice q)).1 (left_has net n m row target domains h choice c one is q hq bq);
-    fit = c.fit;
-  }
 
 -- ---- one domain shrinks
 
@@ -127,3 +67,43 @@ widen net n m old new choice s c = record { within = λ r hr br. s r (choice r) 
 
 pub shrinks_twice : (n : ℕ) (a b c : List ℕ) → Shrinks n a b → Shrinks n b c → Shrinks n a c
 shrinks_twice n a b c f g q x h one = f q x h (g q x h one)
+
+-- ---- a row that goes to a target
+
+pub positive : (v x : ℕ) → bit_at v x ≡ 1 → 0 < v
+positive v x one =
+    ⊎_elim
+    (λ (e : v ≡ 0). absurd (let z = ap (λ m. bit_at m x) e ∙ bit_at-zero x in omega arith))
+    (λ (ne : v ≢ 0). let l : 0 < v = omega arith in l)
+    (cases_eq v 0)
+
+-- the row has the target alone, and the other domains are as before
+pub record IsBegun (net : Netted) (n m row target : ℕ) (old new : List ℕ) : Type 0 where
+  pub shrinks : Shrinks n old new
+  pub only : (x : ℕ) → bit_at (get_or new row 0) x ≡ 1 → x ≡ target
+  pub alive : (q : ℕ) → 0 < get_or old q 0 → 0 < get_or new q 0
+  pub all : (choice : ℕ → ℕ) → IsChoice net n m old choice → choice row ≡ target → IsChoice net n m new choice
+
+begun : (net : Netted) (n m row target v : ℕ) (domains : List ℕ) → row < length domains → v ≡ 2 ^ target → bit_at (get_or domains row 0) target ≡ 1 → IsBegun net n m row target domains (set domains row v)
+begun net n m row target v domains low is has = record {
+  shrinks = set_shrinks n row v domains domains low (λ x one. subst (λ x. bit_at (get_or domains row 0) x ≡ 1) (sym ((pow_member v target x is).0 one)) has) (λ q x h one. one);
+  only = λ x one. (pow_member v target x is).0 (ap (λ d. bit_at d x) (sym (get_or-set_same domains row v 0 low)) ∙ one);
+  alive = set_alive row v domains low (positive v target ((pow_member v target target is).1 refl));
+  all = λ choice ch e. set_choice net n m row v domains choice low ((pow_member v target (choice row) is).1 e) ch;
+}
+
+pub begun_by : (net : Netted) (n m row target v : ℕ) (domains copied : List ℕ) → copied ≡ domains → row < length domains → v ≡ 2 ^ target → bit_at (get_or domains row 0) target ≡ 1 → IsBegun net n m row target domains (set copied row v)
+begun_by net n m row target v domains copied e low is has = subst (λ l. IsBegun net n m row target domains (set l row v)) (sym e) (begun net n m row target v domains low is has)
+
+pub agreed : (net : Netted) (row q target : ℕ) (choice : ℕ → ℕ) → choice row ≡ target → bit_at (agree_of net row q (choice row)) (choice q) ≡ 1 → bit_at (agree_of net row q target) (choice q) ≡ 1
+agreed net row q target choice e h = subst (λ p. bit_at (agree_of net row q p) (choice q) ≡ 1) e h
+
+-- domains that shrink further and lose no choice
+pub assigned_then : (net : Netted) (n m row target : ℕ) (old mid new : List ℕ) → row < n → ((q : ℕ) → bit_at m q ≡ 1 → q < n) → Shrinks n mid new → ((q : ℕ) → 0 < get_or mid q 0 → 0 < get_or new q 0) → ((choice : ℕ → ℕ) → IsChoice net n m mid choice → IsChoice net n m new choice) → IsAssigned net n m row target old mid → IsAssigned net n m row target old new
+assigned_then net n m row target old mid new low within shrinks alive all a = record {
+  shrinks = shrinks_twice n old mid new a.shrinks shrinks;
+  only = λ x one. a.only x (shrinks row x low one);
+  fits = λ q x ne op near h. a.fits q x ne op near (shrinks q x (within q op) h);
+  alive = λ q h. alive q (a.alive q h);
+  all = λ choice ch is. all choice (a.all choice ch is);
+}

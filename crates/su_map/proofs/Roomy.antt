@@ -13,12 +13,13 @@ square_le a b h = grind arith
 pub levels_in : (n rows room : ℕ) → n ≤ rows → rows * rows ≤ room → n * n ≤ room
 levels_in n rows room h l = let s = square_le n rows h in omega arith
 
-pub sound_same : (net : Netted) (room r r' c d d' l l' ch ch' k k' : ℕ) → IsSound net room r c d l ch k → r' ≡ r → d' ≡ d → l' ≡ l → ch' ≡ ch → k' ≤ r → IsSound net room r' c d' l' ch' k'
-sound_same net room r r' c d d' l l' ch ch' k k' s er ed el ech low =
-    subst (λ r. IsSound net room r c d' l' ch' k') (sym er) (record {
+pub sound_same : (net : Netted) (room r r' al c d d' l l' ch ch' k k' : ℕ) → IsSound net room r al c d l ch k → r' ≡ r → d' ≡ d → l' ≡ l → ch' ≡ ch → k' ≤ r → IsSound net room r' al c d' l' ch' k'
+sound_same net room r r' al c d d' l l' ch ch' k k' s er ed el ech low =
+    subst (λ r. IsSound net room r al c d' l' ch' k') (sym er) (record {
       small = s.small;
       enough = s.enough;
       net_room = s.net_room;
+      alike_room = s.alike_room;
       columns_room = s.columns_room;
       domains_room = let x = s.domains_room in omega arith;
       levels_room = subst (λ l. r * r ≤ l) (sym el) s.levels_room;

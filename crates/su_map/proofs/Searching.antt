@@ -6,8 +6,8 @@ use Rattle.std.proofs.lemmas.Nat.Bits.{bit_at-lt, bit_at-zero}
 use Rattle.su_tableau.proofs.Sets.{IsSub, sub_le}
 use Rattle.su_map.specs.Nets.{Netted, near_of, agree_of}
 use Rattle.su_map.specs.Lists.{numbers_of}
-use Rattle.su_map.specs.inside.Choices.{IsChoice, Shrinks, AreSame, IsLess, choice_of, Stands, IsInOrder, AreKept}
-use Rattle.su_map.proofs.Narrowing.{positive_has}
+use Rattle.su_map.specs.inside.Choices.{IsChoice, Shrinks, AreSame, IsLess, choice_of, Stands, IsInOrder, AreKept, IsAssigned}
+use Rattle.su_map.proofs.Narrowing.{positive, positive_has}
 use Rattle.su_map.proofs.Ranks.{numbers_without}
 
 -- a set without a member is a smaller number
@@ -71,8 +71,19 @@ module _ (net : Netted) (n m todo rest row target : ℕ) (domains next list old 
       (λ (ne : r ≢ row). get_or-set_other list row r target 0 ne ∙ kept r hr br z)
       (cases_eq r row)
 
-  pub stands_next : Stands net n m todo domains (choice_of old) → Shrinks n domains next → ((x : ℕ) → bit_at (get_or next row 0) x ≡ 1 → x ≡ target) → ((q x : ℕ) → q < n → row ≢ q → bit_at (near_of net row) q ≡ 1 → bit_at (get_or next q 0) x ≡ 1 → bit_at (agree_of net row q target) x ≡ 1) → ((q : ℕ) → q < n → bit_at m q ≡ 1 → 0 < get_or next q 0) → Stands net n m rest next (choice_of (set list row target))
-  stands_next s shrinks only fits alive =
+  -- a row that has a target then has one before
+  filled : Stands net n m todo domains (choice_of old) → bit_at (get_or domains row 0) target ≡ 1 → (r : ℕ) → r < n → bit_at m r ≡ 1 → bit_at rest r ≡ 0 → 0 < get_or domains r 0
+  filled s has r hr br z =
+      ⊎_elim
+      (λ (e : r ≡ row). positive (get_or domains r 0) target (ap (λ r. bit_at (get_or domains r 0) target) e ∙ has))
+      (λ (ne : r ≢ row). positive (get_or domains r 0) (choice_of old r) (s.chosen r hr br (not_rest r ne z)))
+      (cases_eq r row)
+
+  pub stands_next : Stands net n m todo domains (choice_of old) → bit_at (get_or domains row 0) target ≡ 1 → IsAssigned net n m row target domains next → Stands net n m rest next (choice_of (set list row target))
+  stands_next s has a =
+      let shrinks = a.shrinks in
+      let only = a.only in
+      let fits = a.fits in
       let next_only : (r x : ℕ) → r < n → bit_at m r ≡ 1 → bit_at rest r ≡ 0 → bit_at (get_or next r 0) x ≡ 1 → x ≡ choice_of (set list row target) r = λ r x hr br z h.
       ⊎_elim
       (λ (e : r ≡ row). only x (ap (λ r. bit_at (get_or next r 0) x) (sym e) ∙ h) ∙ sym wrote ∙ ap (λ r. choice_of (set list row target) r) (sym e))
@@ -81,12 +92,12 @@ module _ (net : Netted) (n m todo rest row target : ℕ) (domains next list old 
       record {
         todo_in = λ r h. s.todo_in r (in_rest r h);
         based = λ r x hr br h. s.based r x hr br (shrinks r x hr h);
-        chosen = λ r hr br z. positive_has (get_or next r 0) (choice_of (set list row target) r) (alive r hr br) (λ x h. next_only r x hr br z h);
+        chosen = λ r hr br z. positive_has (get_or next r 0) (choice_of (set list row target) r) (a.alive r (filled s has r hr br z)) (λ x h. next_only r x hr br z h);
         only = next_only;
         fits = λ r q x hr hq br bq z h ne near.
             ⊎_elim
             (λ (e : r ≡ row).
-            let f = fits q x hq (λ f. ne (e ∙ f)) (ap (λ r. bit_at (near_of net r) q) (sym e) ∙ near) h in
+            let f = fits q x (λ f. ne (e ∙ f)) bq (ap (λ r. bit_at (near_of net r) q) (sym e) ∙ near) h in
             ap (λ p. bit_at (agree_of net r q p) x) (ap (λ r. choice_of (set list row target) r) e ∙ wrote) ∙ ap (λ r. bit_at (agree_of net r q target) x) e ∙ f)
             (λ (ne' : r ≢ row).
             let z' = not_rest r ne' z in

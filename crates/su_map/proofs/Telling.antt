@@ -30,10 +30,6 @@ told_all t columns p others n set le ge f j = (
   λ h. (f j).1 (h.0, λ e low c d is. h.1 e c d (omega arith) is),
 )
 
--- one column more, by the row that was read
-pub told_at_row : (t : Tab) (shared : Option ℕ) (column p old new : ℕ) (row : List Sym) → row ≡ row_of t p → ((j : ℕ) → (bit_at new j ≡ 1) ↔ ((bit_at old j ≡ 1) × ((c : ℕ) (d : Sym) → shared ≡ Some c → get_or row c d ≡ get_or (row_of t j) column d))) → IsToldAt t shared column p old new
-told_at_row t shared column p old new row is f = subst (λ row. (j : ℕ) → (bit_at new j ≡ 1) ↔ ((bit_at old j ≡ 1) × ((c : ℕ) (d : Sym) → shared ≡ Some c → get_or row c d ≡ get_or (row_of t j) column d))) is f
-
 -- a column that is not shared tells nothing
 pub none_told : (t : Tab) (shared : Option ℕ) (column p set : ℕ) → shared ≡ None → IsToldAt t shared column p set set
 none_told t shared column p set none j = (λ h. (h, λ c d is. let e : Some c ≡ None = sym is ∙ none in cc), λ h. h.0)

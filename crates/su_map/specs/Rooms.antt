@@ -21,10 +21,11 @@ pub record HasSizesOf (other room : Space) : Type 0 where
   pub symbols : room.symbols ≡ other.symbols
 
 -- the parts of a room are as large as its tables' rows, and these are enough for as many rows as it has room for
-pub record IsSound (net : Netted) (room rows columns domains levels choice count : ℕ) : Type 0 where
+pub record IsSound (net : Netted) (room rows alike columns domains levels choice count : ℕ) : Type 0 where
   pub small : rows ≤ 64
   pub enough : (n : ℕ) → n ≤ room → n ≤ 64 → n ≤ rows
   pub net_room : HasRoom rows net
+  pub alike_room : 8192 ≤ alike
   pub columns_room : 128 ≤ columns
   pub domains_room : rows ≤ domains
   pub levels_room : rows * rows ≤ levels

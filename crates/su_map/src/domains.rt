@@ -1,30 +1,26 @@
 //! Domains: the targets that are left for each row.
-ghost use Rattle.std.specs.Prelude.{◌≡◌, ◌≢◌, ◌<◌, ◌≤◌, ◌+◌, ◌↔◌, ℕ, IsTrue, IsFalse, length, get_or, IfSome, None};
+ghost use Rattle.std.specs.Prelude.{◌≡◌, ◌<◌, ◌≤◌, ◌+◌, ◌*◌, ◌⊎◌, ℕ, IsTrue, IsFalse, length, get_or, IfSome, None};
 ghost use Rattle.std.specs.Int.{bit_at};
-ghost use Rattle.su_map.specs.Nets.{HasRoom, near_of, agree_of};
-ghost use Rattle.su_map.specs.inside.Choices.{IsChoice, Shrinks, IsLeft};
+ghost use Rattle.su_map.specs.Nets.{HasRoom, agree_of};
+ghost use Rattle.su_map.specs.inside.Choices.{IsChoice, Shrinks, IsAssigned};
 
 use crate::bits::{both, either, lowest, with, without};
 use crate::nets::Net;
-use su_tableau::{bit, has};
+use su_tableau::bit;
 
-/// What is left of row q's domain where the row goes to the target.
-fn left_at(net: &Net, row: usize, target: usize, q: usize, domain: u64) -> u64
-    requires room { HasRoom (row + 1) net.now }
-    requires q { q < 64 }
-    requires target { target < 64 }
-    ensures { (x : ℕ) → (bit_at result x ≡ 1) ↔ IsLeft net.now row target q domain x }
+/// The set, with the row if its domain is not what it was.
+fn noted(set: u64, row: usize, before: u64, left: u64) -> u64
+    requires { row < 64 }
+    ensures { (q : ℕ) → bit_at result q ≡ 1 → (bit_at set q ≡ 1) ⊎ (q ≡ row) }
 {
-    if q == row {
-        return bit(target);
+    if left == before {
+        return set;
     }
-    if has(net.near(row), q) {
-        return both(domain, net.agree(row, q, target));
-    }
-    domain
+    with(set, row)
 }
 
-/// The domains that are left where the row goes to the target, and whether each row has a target.
+/// Writes the domains that are left where the row goes to the target. The rows whose domains may have
+/// shrunk; none where a masked row is left without a target.
 fn assign(
     net: &Net,
     mask: u64,
@@ -32,28 +28,35 @@ fn assign(
     target: usize,
     domains: &[u64],
     next: &mut [u64],
-) -> bool
+) -> Option<u64>
     requires room { HasRoom (length domains.now) net.now }
     requires rows { length domains.now ≤ 64 }
-    requires row { row < length domains.now }
+    requires mask { (q : ℕ) → bit_at mask q ≡ 1 → q < length domains.now }
+    requires row { bit_at mask row ≡ 1 }
     requires target { target < 64 }
     requires in_domain { bit_at (get_or domains.now row 0) target ≡ 1 }
     requires next { length next.old ≡ length domains.now }
-    ensures shrinks { IsTrue result → Shrinks (length domains.now) domains.now next.new }
-    ensures only { IsTrue result → (x : ℕ) → bit_at (get_or next.new row 0) x ≡ 1 → x ≡ target }
-    ensures fits { IsTrue result → (q x : ℕ) → q < length domains.now → row ≢ q → bit_at (near_of net.now row) q ≡ 1 → bit_at (get_or next.new q 0) x ≡ 1 → bit_at (agree_of net.now row q target) x ≡ 1 }
-    ensures alive { IsTrue result → (q : ℕ) → q < length domains.now → bit_at mask q ≡ 1 → 0 < get_or next.new q 0 }
-    ensures all { IsTrue result → (choice : ℕ → ℕ) → IsChoice net.now (length domains.now) mask domains.now choice → bit_at mask row ≡ 1 → choice row ≡ target → IsChoice net.now (length domains.now) mask next.new choice }
-    ensures none { IsFalse result → (choice : ℕ → ℕ) → IsChoice net.now (length domains.now) mask domains.now choice → bit_at mask row ≡ 1 → choice row ≡ target → ⊥ }
+    ensures left { IfSome result (λ changed. IsAssigned net.now (length domains.now) mask row target domains.now next.new) }
+    ensures changed { IfSome result (λ changed. (q : ℕ) → bit_at changed q ≡ 1 → bit_at mask q ≡ 1) }
+    ensures none { result ≡ None → (choice : ℕ → ℕ) → IsChoice net.now (length domains.now) mask domains.now choice → choice row ≡ target → ⊥ }
 {
-    for q in 0..domains.len() {
-        let left = left_at(net, row, target, q, domains[q]);
-        next[q] = left;
-        if left == 0 && has(mask, q) {
-            return false;
+    next.copy_from_slice(domains);
+    next[row] = bit(target);
+    let mut changed = bit(row);
+    let mut rest = without(both(mask, net.near(row)), row);
+    while rest != 0 {
+        let q = lowest(rest);
+        let fewer = without(rest, q);
+        rest = fewer;
+        let before = next[q];
+        let left = both(before, net.agree(row, q, target));
+        if left == 0 {
+            return None;
         }
+        next[q] = left;
+        changed = noted(changed, q, before, left);
     }
-    true
+    Some(changed)
 }
 
 /// Of the wanted targets of the other row those that agree with some target in the row's domain.
@@ -140,21 +143,6 @@ pub fn propagate(net: &Net, mask: u64, start: u64, domains: &mut [u64]) -> bool
     true
 }
 
-/// The rows of the mask whose domains are not as before.
-fn shrunk(mask: u64, before: &[u64], after: &[u64]) -> u64
-    requires rows { length before.now ≤ 64 }
-    requires same_length { length after.now ≡ length before.now }
-    ensures { (q : ℕ) → bit_at result q ≡ 1 → bit_at mask q ≡ 1 }
-{
-    let mut rows = 0;
-    for q in 0..before.len() {
-        if has(mask, q) && after[q] != before[q] {
-            rows = with(rows, q);
-        }
-    }
-    rows
-}
-
 /// The domains where the row goes to the target, after `assign` and `propagate`; false where no
 /// choice sends it there.
 pub fn descend(
@@ -172,16 +160,11 @@ pub fn descend(
     requires target { target < 64 }
     requires in_domain { bit_at (get_or domains.now row 0) target ≡ 1 }
     requires next { length next.old ≡ length domains.now }
-    ensures shrinks { IsTrue result → Shrinks (length domains.now) domains.now next.new }
-    ensures only { IsTrue result → (x : ℕ) → bit_at (get_or next.new row 0) x ≡ 1 → x ≡ target }
-    ensures fits { IsTrue result → (q x : ℕ) → q < length domains.now → row ≢ q → bit_at (near_of net.now row) q ≡ 1 → bit_at (get_or next.new q 0) x ≡ 1 → bit_at (agree_of net.now row q target) x ≡ 1 }
-    ensures alive { IsTrue result → (q : ℕ) → q < length domains.now → bit_at mask q ≡ 1 → 0 < get_or next.new q 0 }
-    ensures all { IsTrue result → (choice : ℕ → ℕ) → IsChoice net.now (length domains.now) mask domains.now choice → choice row ≡ target → IsChoice net.now (length domains.now) mask next.new choice }
+    ensures left { IsTrue result → IsAssigned net.now (length domains.now) mask row target domains.now next.new }
     ensures none { IsFalse result → (choice : ℕ → ℕ) → IsChoice net.now (length domains.now) mask domains.now choice → choice row ≡ target → ⊥ }
 {
-    if !assign(net, mask, row, target, domains, next) {
-        return false;
+    match assign(net, mask, row, target, domains, next) {
+        Some(changed) => propagate(net, mask, changed, next),
+        None => false,
     }
-    let changed = shrunk(mask, domains, next);
-    propagate(net, mask, changed, next)
 }

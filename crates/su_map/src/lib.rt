@@ -17,6 +17,7 @@ mod mappings;
 mod nets;
 mod rooms;
 mod search;
+mod sides;
 mod singles;
 mod tables;
 mod targets;

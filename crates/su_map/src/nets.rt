@@ -6,6 +6,7 @@ ghost use Rattle.su_map.specs.Lists.{IsMapping};
 ghost use Rattle.su_map.specs.Nets.{Netted, HasRoom, IsNet, base_of, near_of, agree_of};
 
 use crate::columns::line_fits;
+use crate::sides::{Sides, fill_alike};
 use crate::singles::narrow;
 use crate::tables::{fill_agree, fill_near, note_rows};
 use crate::targets::fill_base;
@@ -87,6 +88,7 @@ impl Net {
     pub fn fill(
         &mut self,
         rows_of: &mut [u64],
+        alike: &mut [u64],
         columns: &mut [Option<usize>],
         domains: &mut [u64],
         from: &Tableau,
@@ -96,6 +98,7 @@ impl Net {
     ) -> bool
         requires room { HasRoom (length from.now.rows) self.old }
         requires symbols { AreVarsBelow (length rows_of.old) from.now }
+        requires alike { 8192 ≤ length alike.old }
         requires columns { from.now.width ≤ length columns.old }
         requires domains { length from.now.rows ≤ length domains.old }
         requires width { from.now.width ≡ to.now.width }
@@ -110,6 +113,7 @@ impl Net {
             &mut self.near,
             &mut self.agree,
             rows_of,
+            alike,
             columns,
             domains,
             from,
@@ -132,6 +136,19 @@ fn copy_targets(domains: &mut [u64], base: &[u64], rows: usize)
     }
 }
 
+/// Whether some of the first sets, so many, has a member.
+fn are_any(sets: &[u64], count: usize) -> bool
+    requires { count ≤ length sets.now }
+    ensures { IsFalse result → (i : ℕ) → i < count → get_or sets.now i 0 ≡ 0 }
+{
+    for i in 0..count {
+        if sets[i] != 0 {
+            return true;
+        }
+    }
+    false
+}
+
 /// Fills the tables of a net. The table of the targets that agree, the largest, is filled only where
 /// the rows that have one target leave each other row one.
 fn fill_tables(
@@ -139,6 +156,7 @@ fn fill_tables(
     near: &mut [u64],
     agree: &mut [u64],
     rows_of: &mut [u64],
+    alike: &mut [u64],
     columns: &mut [Option<usize>],
     domains: &mut [u64],
     from: &Tableau,
@@ -150,6 +168,7 @@ fn fill_tables(
     requires near { length from.now.rows ≤ length near.old }
     requires agree { length from.now.rows * 4096 ≤ length agree.old }
     requires symbols { AreVarsBelow (length rows_of.old) from.now }
+    requires alike { 8192 ≤ length alike.old }
     requires columns { from.now.width ≤ length columns.old }
     requires domains { length from.now.rows ≤ length domains.old }
     requires width { from.now.width ≡ to.now.width }
@@ -168,9 +187,20 @@ fn fill_tables(
     }
     fill_near(near, rows_of, from, from_mask);
     copy_targets(domains, base, from.row_count());
-    if !narrow(domains, columns, rows_of, from, from_mask, to, near) {
+    if !are_any(near, from.row_count()) {
+        return true;
+    }
+    fill_alike(alike, to);
+    let sides = Sides {
+        from,
+        mask: from_mask,
+        to,
+        rows_of,
+        alike,
+    };
+    if !narrow(domains, columns, &sides, near) {
         return false;
     }
-    fill_agree(agree, columns, rows_of, from, from_mask, to, base, near);
+    fill_agree(agree, columns, &sides, base, near);
     true
 }

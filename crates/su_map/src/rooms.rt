@@ -28,6 +28,7 @@ pub struct Room {
     rows: usize,
     net: Net,
     rows_of: Vec<u64>,
+    alike: Vec<u64>,
     columns: Vec<Option<usize>>,
     domains: Vec<u64>,
     levels: Vec<u64>,
@@ -45,7 +46,7 @@ impl Model for Room {
 
     ghost view = { λ r. record { rows = r.rows; symbols = length r.rows_of.items; list = take r.count r.list.items; net = r.net } };
 
-    ghost invariant = { λ r. IsSound r.net r.rows (length r.list.items) (length r.columns.items) (length r.domains.items) (length r.levels.items) (length r.choice.items) r.count };
+    ghost invariant = { λ r. IsSound r.net r.rows (length r.list.items) (length r.alike.items) (length r.columns.items) (length r.domains.items) (length r.levels.items) (length r.choice.items) r.count };
 }
 
 impl Room {
@@ -58,6 +59,7 @@ impl Room {
             rows,
             net: Net::new(alloc, tables)?,
             rows_of: vec![in alloc; 0; symbols].map_err(AllocError::from)?,
+            alike: vec![in alloc; 0; 8192].map_err(AllocError::from)?,
             columns: vec![in alloc; None; 128].map_err(AllocError::from)?,
             domains: vec![in alloc; 0; tables].map_err(AllocError::from)?,
             levels: vec![in alloc; 0; tables * tables].map_err(AllocError::from)?,
@@ -88,6 +90,7 @@ pub fn prepare(room: &mut Room, from: &Tableau, from_mask: u64, to: &Tableau, to
     from.keeps_its_rules();
     room.net.fill(
         &mut room.rows_of,
+        &mut room.alike,
         &mut room.columns,
         &mut room.domains,
         from,

@@ -1,13 +1,13 @@
 //! Rows with one target left, and what such a row leaves the rows that share a variable with it.
 ghost use Rattle.std.specs.Prelude.{◌≡◌, ◌≤◌, ◌<◌, ℕ, IsTrue, IsFalse, IfSome, None, length, get_or};
 ghost use Rattle.std.specs.Int.{bit_at};
-ghost use Rattle.su_tableau.specs.Tableaux.{AreVarsBelow};
-ghost use Rattle.su_map.specs.inside.Targets.{AreNoted};
+ghost use Rattle.su_map.specs.inside.Targets.{AreSides};
 ghost use Rattle.su_map.specs.inside.Sendings.{AreRows, IsSending};
 
 use crate::bits::{lowest, without};
+use crate::sides::Sides;
 use crate::tables::{agreeing, fill_shared};
-use su_tableau::{Tableau, has};
+use su_tableau::has;
 
 /// The target in the domain, where it has just one.
 fn one_target(domain: u64) -> Option<usize>
@@ -41,42 +41,38 @@ fn is_other(mask: u64, near: u64, row: usize, q: usize) -> bool
 fn leave(
     domains: &mut [u64],
     columns: &mut [Option<usize>],
-    rows_of: &[u64],
-    from: &Tableau,
-    mask: u64,
-    to: &Tableau,
+    sides: &Sides,
     near: u64,
     row: usize,
     target: usize,
     q: usize,
 ) -> bool
-    requires room { length from.now.rows ≤ length domains.old }
-    requires columns { from.now.width ≤ length columns.old }
-    requires symbols { AreVarsBelow (length rows_of.now) from.now }
-    requires noted { AreNoted from.now mask rows_of.now }
-    requires width { from.now.width ≡ to.now.width }
-    requires row { row < length from.now.rows }
-    requires row_in { bit_at mask row ≡ 1 }
-    requires target { target < length to.now.rows }
-    requires other { q < length from.now.rows }
-    requires rows { AreRows from.now mask to.now domains.old }
-    ensures rows { AreRows from.now mask to.now domains.new }
-    ensures all { (a : ℕ → ℕ) → IsSending from.now mask to.now domains.old a → a row ≡ target → IsSending from.now mask to.now domains.new a }
-    ensures none { IsFalse result → (a : ℕ → ℕ) → IsSending from.now mask to.now domains.old a → a row ≡ target → ⊥ }
+    requires room { length sides.now.from.now.rows ≤ length domains.old }
+    requires columns { sides.now.from.now.width ≤ length columns.old }
+    requires sides { AreSides sides.now.from.now sides.now.mask sides.now.to.now sides.now.rows_of.now sides.now.alike.now }
+    requires row { row < length sides.now.from.now.rows }
+    requires row_in { bit_at sides.now.mask row ≡ 1 }
+    requires target { target < length sides.now.to.now.rows }
+    requires other { q < length sides.now.from.now.rows }
+    requires rows { AreRows sides.now.from.now sides.now.mask sides.now.to.now domains.old }
+    ensures rows { AreRows sides.now.from.now sides.now.mask sides.now.to.now domains.new }
+    ensures all { (a : ℕ → ℕ) → IsSending sides.now.from.now sides.now.mask sides.now.to.now domains.old a → a row ≡ target → IsSending sides.now.from.now sides.now.mask sides.now.to.now domains.new a }
+    ensures none { IsFalse result → (a : ℕ → ℕ) → IsSending sides.now.from.now sides.now.mask sides.now.to.now domains.old a → a row ≡ target → ⊥ }
 {
+    let from = sides.from;
     from.keeps_its_rules();
-    if !is_other(mask, near, row, q) {
+    if !is_other(sides.mask, near, row, q) {
         return true;
     }
     fill_shared(
         columns,
-        rows_of,
+        sides.rows_of,
         row,
         from.head(),
         from.row(row),
         from.row(q),
     );
-    let left = agreeing(columns, to.row(target), to, domains[q]);
+    let left = agreeing(columns, sides.alike, sides.to, target, domains[q]);
     if left == 0 {
         return false;
     }
@@ -89,31 +85,24 @@ fn leave(
 fn leave_near(
     domains: &mut [u64],
     columns: &mut [Option<usize>],
-    rows_of: &[u64],
-    from: &Tableau,
-    mask: u64,
-    to: &Tableau,
+    sides: &Sides,
     near: u64,
     row: usize,
     target: usize,
 ) -> bool
-    requires room { length from.now.rows ≤ length domains.old }
-    requires columns { from.now.width ≤ length columns.old }
-    requires symbols { AreVarsBelow (length rows_of.now) from.now }
-    requires noted { AreNoted from.now mask rows_of.now }
-    requires width { from.now.width ≡ to.now.width }
-    requires row { row < length from.now.rows }
-    requires row_in { bit_at mask row ≡ 1 }
-    requires target { target < length to.now.rows }
-    requires rows { AreRows from.now mask to.now domains.old }
-    ensures rows { AreRows from.now mask to.now domains.new }
-    ensures all { (a : ℕ → ℕ) → IsSending from.now mask to.now domains.old a → a row ≡ target → IsSending from.now mask to.now domains.new a }
-    ensures none { IsFalse result → (a : ℕ → ℕ) → IsSending from.now mask to.now domains.old a → a row ≡ target → ⊥ }
+    requires room { length sides.now.from.now.rows ≤ length domains.old }
+    requires columns { sides.now.from.now.width ≤ length columns.old }
+    requires sides { AreSides sides.now.from.now sides.now.mask sides.now.to.now sides.now.rows_of.now sides.now.alike.now }
+    requires row { row < length sides.now.from.now.rows }
+    requires row_in { bit_at sides.now.mask row ≡ 1 }
+    requires target { target < length sides.now.to.now.rows }
+    requires rows { AreRows sides.now.from.now sides.now.mask sides.now.to.now domains.old }
+    ensures rows { AreRows sides.now.from.now sides.now.mask sides.now.to.now domains.new }
+    ensures all { (a : ℕ → ℕ) → IsSending sides.now.from.now sides.now.mask sides.now.to.now domains.old a → a row ≡ target → IsSending sides.now.from.now sides.now.mask sides.now.to.now domains.new a }
+    ensures none { IsFalse result → (a : ℕ → ℕ) → IsSending sides.now.from.now sides.now.mask sides.now.to.now domains.old a → a row ≡ target → ⊥ }
 {
-    for q in 0..from.row_count() {
-        if !leave(
-            domains, columns, rows_of, from, mask, to, near, row, target, q,
-        ) {
+    for q in 0..sides.from.row_count() {
+        if !leave(domains, columns, sides, near, row, target, q) {
             return false;
         }
     }
@@ -125,27 +114,22 @@ fn leave_near(
 fn leave_by(
     domains: &mut [u64],
     columns: &mut [Option<usize>],
-    rows_of: &[u64],
-    from: &Tableau,
-    mask: u64,
-    to: &Tableau,
+    sides: &Sides,
     near: u64,
     waiting: u64,
     row: usize,
 ) -> Option<u64>
-    requires room { length from.now.rows ≤ length domains.old }
-    requires columns { from.now.width ≤ length columns.old }
-    requires symbols { AreVarsBelow (length rows_of.now) from.now }
-    requires noted { AreNoted from.now mask rows_of.now }
-    requires width { from.now.width ≡ to.now.width }
-    requires row { row < length from.now.rows }
-    requires rows { AreRows from.now mask to.now domains.old }
-    ensures rows { AreRows from.now mask to.now domains.new }
-    ensures all { (a : ℕ → ℕ) → IsSending from.now mask to.now domains.old a → IsSending from.now mask to.now domains.new a }
-    ensures none { result ≡ None → (a : ℕ → ℕ) → IsSending from.now mask to.now domains.old a → ⊥ }
+    requires room { length sides.now.from.now.rows ≤ length domains.old }
+    requires columns { sides.now.from.now.width ≤ length columns.old }
+    requires sides { AreSides sides.now.from.now sides.now.mask sides.now.to.now sides.now.rows_of.now sides.now.alike.now }
+    requires row { row < length sides.now.from.now.rows }
+    requires rows { AreRows sides.now.from.now sides.now.mask sides.now.to.now domains.old }
+    ensures rows { AreRows sides.now.from.now sides.now.mask sides.now.to.now domains.new }
+    ensures all { (a : ℕ → ℕ) → IsSending sides.now.from.now sides.now.mask sides.now.to.now domains.old a → IsSending sides.now.from.now sides.now.mask sides.now.to.now domains.new a }
+    ensures none { result ≡ None → (a : ℕ → ℕ) → IsSending sides.now.from.now sides.now.mask sides.now.to.now domains.old a → ⊥ }
 {
-    from.keeps_its_rules();
-    if !has(mask, row) {
+    sides.from.keeps_its_rules();
+    if !has(sides.mask, row) {
         return Some(waiting);
     }
     if !has(waiting, row) {
@@ -154,7 +138,7 @@ fn leave_by(
     match one_target(domains[row]) {
         None => Some(waiting),
         Some(target) => {
-            if !leave_near(domains, columns, rows_of, from, mask, to, near, row, target) {
+            if !leave_near(domains, columns, sides, near, row, target) {
                 return None;
             }
             Some(without(waiting, row))
@@ -166,29 +150,22 @@ fn leave_by(
 fn leave_all(
     domains: &mut [u64],
     columns: &mut [Option<usize>],
-    rows_of: &[u64],
-    from: &Tableau,
-    mask: u64,
-    to: &Tableau,
+    sides: &Sides,
     near: &[u64],
     waiting: u64,
 ) -> Option<u64>
-    requires room { length from.now.rows ≤ length domains.old }
-    requires columns { from.now.width ≤ length columns.old }
-    requires symbols { AreVarsBelow (length rows_of.now) from.now }
-    requires noted { AreNoted from.now mask rows_of.now }
-    requires width { from.now.width ≡ to.now.width }
-    requires near { length from.now.rows ≤ length near.now }
-    requires rows { AreRows from.now mask to.now domains.old }
-    ensures rows { AreRows from.now mask to.now domains.new }
-    ensures all { (a : ℕ → ℕ) → IsSending from.now mask to.now domains.old a → IsSending from.now mask to.now domains.new a }
-    ensures none { result ≡ None → (a : ℕ → ℕ) → IsSending from.now mask to.now domains.old a → ⊥ }
+    requires room { length sides.now.from.now.rows ≤ length domains.old }
+    requires columns { sides.now.from.now.width ≤ length columns.old }
+    requires sides { AreSides sides.now.from.now sides.now.mask sides.now.to.now sides.now.rows_of.now sides.now.alike.now }
+    requires near { length sides.now.from.now.rows ≤ length near.now }
+    requires rows { AreRows sides.now.from.now sides.now.mask sides.now.to.now domains.old }
+    ensures rows { AreRows sides.now.from.now sides.now.mask sides.now.to.now domains.new }
+    ensures all { (a : ℕ → ℕ) → IsSending sides.now.from.now sides.now.mask sides.now.to.now domains.old a → IsSending sides.now.from.now sides.now.mask sides.now.to.now domains.new a }
+    ensures none { result ≡ None → (a : ℕ → ℕ) → IsSending sides.now.from.now sides.now.mask sides.now.to.now domains.old a → ⊥ }
 {
     let mut waits = waiting;
-    for row in 0..from.row_count() {
-        match leave_by(
-            domains, columns, rows_of, from, mask, to, near[row], waits, row,
-        ) {
+    for row in 0..sides.from.row_count() {
+        match leave_by(domains, columns, sides, near[row], waits, row) {
             Some(left) => waits = left,
             None => return None,
         }
@@ -201,24 +178,19 @@ fn leave_all(
 pub fn narrow(
     domains: &mut [u64],
     columns: &mut [Option<usize>],
-    rows_of: &[u64],
-    from: &Tableau,
-    mask: u64,
-    to: &Tableau,
+    sides: &Sides,
     near: &[u64],
 ) -> bool
-    requires room { length from.now.rows ≤ length domains.old }
-    requires columns { from.now.width ≤ length columns.old }
-    requires symbols { AreVarsBelow (length rows_of.now) from.now }
-    requires noted { AreNoted from.now mask rows_of.now }
-    requires width { from.now.width ≡ to.now.width }
-    requires near { length from.now.rows ≤ length near.now }
-    requires rows { AreRows from.now mask to.now domains.old }
-    ensures { IsFalse result → (a : ℕ → ℕ) → IsSending from.now mask to.now domains.old a → ⊥ }
+    requires room { length sides.now.from.now.rows ≤ length domains.old }
+    requires columns { sides.now.from.now.width ≤ length columns.old }
+    requires sides { AreSides sides.now.from.now sides.now.mask sides.now.to.now sides.now.rows_of.now sides.now.alike.now }
+    requires near { length sides.now.from.now.rows ≤ length near.now }
+    requires rows { AreRows sides.now.from.now sides.now.mask sides.now.to.now domains.old }
+    ensures { IsFalse result → (a : ℕ → ℕ) → IsSending sides.now.from.now sides.now.mask sides.now.to.now domains.old a → ⊥ }
 {
-    let mut waiting = mask;
+    let mut waiting = sides.mask;
     for _ in 0..64 {
-        match leave_all(domains, columns, rows_of, from, mask, to, near, waiting) {
+        match leave_all(domains, columns, sides, near, waiting) {
             Some(left) => {
                 if left == waiting {
                     return true;

@@ -7,10 +7,11 @@ ghost use Rattle.su_tableau.specs.Tableaux.{AreBelow, AreVarsBelow};
 ghost use Rattle.su_map.specs.Lists.{row_of};
 ghost use Rattle.su_map.specs.Nets.{HasNear};
 ghost use Rattle.su_map.specs.Candidates.{Cell};
-ghost use Rattle.su_map.specs.inside.Targets.{IsPlain, AreNoted, AreShared, AreTold, IsToldAt, IsTold};
+ghost use Rattle.su_map.specs.inside.Targets.{IsPlain, AreNoted, AreShared, AreAlike, AreSides, AreTold, IsToldAt, IsTold};
 
-use crate::bits::{either, with, without};
+use crate::bits::{both, either, with, without};
 use crate::columns::{column_of, holding};
+use crate::sides::Sides;
 use su_tableau::{Sym, Tableau, has};
 
 /// Notes the row at the symbol's variable; whether it was noted there before.
@@ -186,31 +187,54 @@ pub fn fill_shared(
     }
 }
 
-/// The targets in the set that hold at the column what the target line holds at the column shared.
-fn agreeing_at(shared: Option<usize>, column: usize, target: &[Sym], to: &Tableau, set: u64) -> u64
-    requires width { length target.now ≡ to.now.width }
+/// The targets in the set that hold at the column what the target holds at the column shared.
+fn agreeing_at(
+    shared: Option<usize>,
+    column: usize,
+    alike: &[u64],
+    to: &Tableau,
+    target: usize,
+    set: u64,
+) -> u64
+    requires room { 8192 ≤ length alike.now }
+    requires alike { AreAlike to.now alike.now }
     requires column { column < to.now.width }
+    requires target { target < length to.now.rows }
     requires shared { (c : ℕ) → shared ≡ Some c → c < to.now.width }
     requires within { (j : ℕ) → bit_at set j ≡ 1 → j < length to.now.rows }
-    ensures { (j : ℕ) → (bit_at result j ≡ 1) ↔ ((bit_at set j ≡ 1) × ((c : ℕ) (d : ASym) → shared ≡ Some c → get_or target.now c d ≡ get_or (row_of to.now j) column d)) }
+    ensures { IsToldAt to.now shared column target set result }
 {
+    to.keeps_its_rules();
     match shared {
-        Some(c) => holding(to, column, &target[c], set),
+        Some(c) => {
+            if c == column {
+                return both(set, alike[column * 64 + target]);
+            }
+            holding(to, column, &to.row(target)[c], set)
+        }
         None => set,
     }
 }
 
-/// The targets in the set that hold what the target line holds at the columns shared.
-pub fn agreeing(columns: &[Option<usize>], target: &[Sym], to: &Tableau, set: u64) -> u64
-    requires width { length target.now ≡ to.now.width }
+/// The targets in the set that hold what the target holds at the columns shared.
+pub fn agreeing(
+    columns: &[Option<usize>],
+    alike: &[u64],
+    to: &Tableau,
+    target: usize,
+    set: u64,
+) -> u64
+    requires table { 8192 ≤ length alike.now }
+    requires alike { AreAlike to.now alike.now }
+    requires target { target < length to.now.rows }
     requires columns { (e c : ℕ) → e < to.now.width → get_or columns.now e None ≡ Some c → c < to.now.width }
     requires room { to.now.width ≤ length columns.now }
     requires within { (j : ℕ) → bit_at set j ≡ 1 → j < length to.now.rows }
-    ensures { (j : ℕ) → (bit_at result j ≡ 1) ↔ ((bit_at set j ≡ 1) × ((e c : ℕ) (d : ASym) → e < to.now.width → get_or columns.now e None ≡ Some c → get_or target.now c d ≡ get_or (row_of to.now j) e d)) }
+    ensures { AreTold to.now columns.now target set result }
 {
     let mut left = set;
-    for e in 0..target.len() {
-        left = agreeing_at(columns[e], e, target, to, left);
+    for e in 0..to.width() as usize {
+        left = agreeing_at(columns[e], e, alike, to, target, left);
     }
     left
 }
@@ -232,11 +256,14 @@ fn agree_at(
     agree: &mut [u64],
     shared: Option<usize>,
     column: usize,
+    alike: &[u64],
     to: &Tableau,
     start: usize,
     targets: u64,
 )
     requires room { start + 64 ≤ length agree.old }
+    requires table { 8192 ≤ length alike.now }
+    requires alike { AreAlike to.now alike.now }
     requires column { column < to.now.width }
     requires shared { (c : ℕ) → shared ≡ Some c → c < to.now.width }
     requires within { (p j : ℕ) → p < length to.now.rows → bit_at targets p ≡ 1 → bit_at (get_or agree.old (start + p) 0) j ≡ 1 → j < length to.now.rows }
@@ -249,7 +276,7 @@ fn agree_at(
     }
     for p in 0..to.row_count() {
         if has(targets, p) {
-            let told = agreeing_at(shared, column, to.row(p), to, agree[start + p]);
+            let told = agreeing_at(shared, column, alike, to, p, agree[start + p]);
             agree[start + p] = told;
         }
     }
@@ -259,12 +286,15 @@ fn agree_at(
 fn fill_pair(
     agree: &mut [u64],
     columns: &[Option<usize>],
+    alike: &[u64],
     to: &Tableau,
     start: usize,
     targets: u64,
     others: u64,
 )
     requires room { start + 64 ≤ length agree.old }
+    requires table { 8192 ≤ length alike.now }
+    requires alike { AreAlike to.now alike.now }
     requires columns { (e c : ℕ) → e < to.now.width → get_or columns.now e None ≡ Some c → c < to.now.width }
     requires width { to.now.width ≤ length columns.now }
     requires within { (j : ℕ) → bit_at others j ≡ 1 → j < length to.now.rows }
@@ -273,39 +303,49 @@ fn fill_pair(
 {
     begin_pair(agree, to, start, others);
     for e in 0..to.width() as usize {
-        agree_at(agree, columns[e], e, to, start, targets);
+        agree_at(agree, columns[e], e, alike, to, start, targets);
     }
 }
 
-/// For each pair of masked rows that share a variable the targets that agree.
+/// For each masked row that shares a variable with row i the targets that agree with those of row i.
 fn fill_row(
     agree: &mut [u64],
     columns: &mut [Option<usize>],
-    rows_of: &[u64],
-    from: &Tableau,
-    mask: u64,
-    to: &Tableau,
+    sides: &Sides,
     base: &[u64],
     near: u64,
     i: usize,
 )
     requires room { (i + 1) * 4096 ≤ length agree.old }
-    requires columns { from.now.width ≤ length columns.old }
-    requires row { i < length from.now.rows }
-    requires in_mask { bit_at mask i ≡ 1 }
-    requires symbols { AreVarsBelow (length rows_of.now) from.now }
-    requires noted { AreNoted from.now mask rows_of.now }
-    requires small { length to.now.rows ≤ 64 }
-    requires base { length from.now.rows ≤ length base.now }
-    requires width { from.now.width ≡ to.now.width }
-    requires within { (q j : ℕ) → q < length from.now.rows → bit_at mask q ≡ 1 → bit_at (get_or base.now q 0) j ≡ 1 → j < length to.now.rows }
+    requires columns { sides.now.from.now.width ≤ length columns.old }
+    requires sides { AreSides sides.now.from.now sides.now.mask sides.now.to.now sides.now.rows_of.now sides.now.alike.now }
+    requires row { i < length sides.now.from.now.rows }
+    requires in_mask { bit_at sides.now.mask i ≡ 1 }
+    requires base { length sides.now.from.now.rows ≤ length base.now }
+    requires within { (q j : ℕ) → q < length sides.now.from.now.rows → bit_at sides.now.mask q ≡ 1 → bit_at (get_or base.now q 0) j ≡ 1 → j < length sides.now.to.now.rows }
     ensures before { (x : ℕ) → x < i * 4096 → get_or agree.new x 0 ≡ get_or agree.old x 0 }
-    ensures filled { (q : ℕ) → q < length from.now.rows → i ≢ q → bit_at mask q ≡ 1 → bit_at near q ≡ 1 → IsTold from.now to.now base.now i q agree.new }
+    ensures filled { (q : ℕ) → q < length sides.now.from.now.rows → i ≢ q → bit_at sides.now.mask q ≡ 1 → bit_at near q ≡ 1 → IsTold sides.now.from.now sides.now.to.now base.now i q agree.new }
 {
+    let from = sides.from;
     for q in 0..from.row_count() {
-        if q != i && has(mask, q) && has(near, q) {
-            fill_shared(columns, rows_of, i, from.head(), from.row(i), from.row(q));
-            fill_pair(agree, columns, to, i * 4096 + q * 64, base[i], base[q]);
+        if q != i && has(sides.mask, q) && has(near, q) {
+            fill_shared(
+                columns,
+                sides.rows_of,
+                i,
+                from.head(),
+                from.row(i),
+                from.row(q),
+            );
+            fill_pair(
+                agree,
+                columns,
+                sides.alike,
+                sides.to,
+                i * 4096 + q * 64,
+                base[i],
+                base[q],
+            );
         }
     }
 }
@@ -314,27 +354,21 @@ fn fill_row(
 pub fn fill_agree(
     agree: &mut [u64],
     columns: &mut [Option<usize>],
-    rows_of: &[u64],
-    from: &Tableau,
-    mask: u64,
-    to: &Tableau,
+    sides: &Sides,
     base: &[u64],
     near: &[u64],
 )
-    requires room { length from.now.rows * 4096 ≤ length agree.old }
-    requires columns { from.now.width ≤ length columns.old }
-    requires symbols { AreVarsBelow (length rows_of.now) from.now }
-    requires noted { AreNoted from.now mask rows_of.now }
-    requires small { length to.now.rows ≤ 64 }
-    requires base { length from.now.rows ≤ length base.now }
-    requires near { length from.now.rows ≤ length near.now }
-    requires width { from.now.width ≡ to.now.width }
-    requires within { (q j : ℕ) → q < length from.now.rows → bit_at mask q ≡ 1 → bit_at (get_or base.now q 0) j ≡ 1 → j < length to.now.rows }
-    ensures { (i q : ℕ) → i < length from.now.rows → q < length from.now.rows → i ≢ q → bit_at mask i ≡ 1 → bit_at mask q ≡ 1 → bit_at (get_or near.now i 0) q ≡ 1 → IsTold from.now to.now base.now i q agree.new }
+    requires room { length sides.now.from.now.rows * 4096 ≤ length agree.old }
+    requires columns { sides.now.from.now.width ≤ length columns.old }
+    requires sides { AreSides sides.now.from.now sides.now.mask sides.now.to.now sides.now.rows_of.now sides.now.alike.now }
+    requires base { length sides.now.from.now.rows ≤ length base.now }
+    requires near { length sides.now.from.now.rows ≤ length near.now }
+    requires within { (q j : ℕ) → q < length sides.now.from.now.rows → bit_at sides.now.mask q ≡ 1 → bit_at (get_or base.now q 0) j ≡ 1 → j < length sides.now.to.now.rows }
+    ensures { (i q : ℕ) → i < length sides.now.from.now.rows → q < length sides.now.from.now.rows → i ≢ q → bit_at sides.now.mask i ≡ 1 → bit_at sides.now.mask q ≡ 1 → bit_at (get_or near.now i 0) q ≡ 1 → IsTold sides.now.from.now sides.now.to.now base.now i q agree.new }
 {
-    for i in 0..from.row_count() {
-        if has(mask, i) {
-            fill_row(agree, columns, rows_of, from, mask, to, base, near[i], i);
+    for i in 0..sides.from.row_count() {
+        if has(sides.mask, i) {
+            fill_row(agree, columns, sides, base, near[i], i);
         }
     }
 }

@@ -22,6 +22,9 @@ room_same t old new r s = record {
 abbrev pub Tells : Minimised → List Minimised → List Bool → ℕ → Type 0
 Tells term terms row n = (i : ℕ) → i < n → (get_or row i false ≡ true) ↔ Covers term (term_at terms i)
 
+pub item_at : (terms : List Minimised) (n : ℕ) (x : Minimised) → n < length terms → x ≡ get_or terms n x → x ≡ term_at terms n
+item_at terms n x low at = at ∙ get_or_default terms n x (term_at [] 0) low
+
 pub row_more : (term : Minimised) (terms : List Minimised) (row new : List Bool) (n : ℕ) (b : Bool) (x : Minimised)
     → n < length terms → length row ≡ n → new ≡ row ++ b ∷ [] → x ≡ get_or terms n x
     → (b ≡ true) ↔ Covers term x
@@ -29,7 +32,7 @@ pub row_more : (term : Minimised) (terms : List Minimised) (row new : List Bool)
     → Tells term terms new (n + 1)
 row_more term terms row new n b x low len is at here before =
     let last : get_or new n false ≡ b = ap (λ l. get_or l n false) is ∙ ap (λ k. get_or (row ++ b ∷ []) k false) (sym len) ∙ get_or-append_seam row b [] false in
-    let item : x ≡ term_at terms n = at ∙ get_or_default terms n x (term_at [] 0) low in
+    let item = item_at terms n x low at in
     below_more (λ i. (get_or new i false ≡ true) ↔ Covers term (term_at terms i)) n
     (λ i l.
     let early : get_or new i false ≡ get_or row i false = ap (λ l. get_or l i false) is ∙ get_or_append_left row (b ∷ []) false i (omega arith) in
@@ -59,6 +62,13 @@ rows_matrix terms rows zip =
     }
 
 -- ---- what collecting into a result gives
+
+-- a fact of each two members that holds under a premise
+pub zip_given : {A B : Type 0} (K : Type 0) (R : A → B → Type 0) (xs : List A) (ys : List B) → K → AllZip (λ x y. K → R x y) xs ys → AllZip R xs ys
+zip_given K R [] [] k all = tt
+zip_given K R [] (y ∷ ys) k all = absurd all
+zip_given K R (x ∷ xs) [] k all = absurd all
+zip_given K R (x ∷ xs) (y ∷ ys) k all = (all.0 k, zip_given K R xs ys k all.1)
 
 zip_ok : (E : Type 0) {A B : Type 0} (R : A → B → Type 0) (xs : List A) (ys : List B) → AllZip (λ x (r : Result B E). IfOk r (R x)) xs (map Ok ys) → AllZip R xs ys
 zip_ok E R [] [] all = tt

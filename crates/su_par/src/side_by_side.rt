@@ -9,7 +9,7 @@ use std::thread;
 use std::thread::Threads;
 use su_base::{List, NoMemory};
 
-// A job's place: the job until it runs, then its out, unless memory was wanting.
+/// A job's place: the job until it runs, then its out, unless memory was wanting.
 #[derive(Drop)]
 struct Place<J: Job> {
     job: Option<J>,
@@ -34,7 +34,7 @@ impl<J: Job> Place<J> {
     }
 }
 
-// The places of the jobs, in order.
+/// The places of the jobs, in order.
 fn places<J: Job>(alloc: Global, jobs: List<J>) -> Result<List<Place<J>>, NoMemory>
     ensures { IfOk result (λ places. AllZip (λ job place. place.job ≡ Some job) jobs places) }
 {
@@ -48,7 +48,7 @@ fn places<J: Job>(alloc: Global, jobs: List<J>) -> Result<List<Place<J>>, NoMemo
     Ok(places)
 }
 
-// The outs at the places, in order, or want of memory where one is missing.
+/// The outs at the places, in order, or want of memory where one is missing.
 fn outs<J: Job>(alloc: Global, places: Vec<Place<J>>) -> Result<List<J::Out>, NoMemory>
     ensures { IfOk result (λ outs. AllZip (λ place out. place.out ≡ Some out) places.items outs) }
 {
@@ -59,7 +59,7 @@ fn outs<J: Job>(alloc: Global, places: Vec<Place<J>>) -> Result<List<J::Out>, No
     Ok(outs)
 }
 
-// Runs the job at each place. What a place becomes is written by the one thread that has it.
+/// Runs the job at each place. What a place becomes is written by the one thread that has it.
 fn run_all<R: Threads + Sync, J: Job, G: Gate>(
     rt: &R,
     alloc: Global,

@@ -1,70 +1,66 @@
 //! Two queries compared, and windows.
-use crate::tests::{outcome, outcome_of, shown};
+use crate::tests::{Length, are_read_as, are_shown, read_as};
 use std::alloc::Global;
+use std::process::Abort;
 use std::test::Fail;
 use su_base::List;
 use su_query::{Statement, read, show_query};
 
+const COMPARISONS: &[(&str, &str)] = &[
+    ("compare (retrieve (A)) with (retrieve (B))", "compare"),
+    (
+        "compare (retrieve (A) where A = 1 or B = 2) with (retrieve (t.B) where not (B = t.C))",
+        "compare",
+    ),
+    ("compare (retrieve (A)) (retrieve (B))", "syntax"),
+    ("compare (retrieve (A)), (retrieve (B))", "syntax"),
+    ("compare (retrieve (A)) With (retrieve (B))", "syntax"),
+    ("compare retrieve (A) with retrieve (B)", "syntax"),
+    ("compare ((retrieve (A))) with (retrieve (B))", "syntax"),
+    ("compare (retrieve (A)) with (retrieve (B)", "syntax"),
+    ("compare (retrieve (A)) with (retrieve (B)) C", "syntax"),
+    (
+        "compare (retrieve (A)) with (retrieve (B)) where A = 1",
+        "syntax",
+    ),
+    (
+        "compare (retrieve (A)) with (retrieve (B)) with (retrieve (C))",
+        "syntax",
+    ),
+    ("compare (retrieve (A) where) with (retrieve (B))", "syntax"),
+    ("compare (retrieve ()) with (retrieve (B))", "syntax"),
+    (
+        "compare (retrieve (A)) with (explain retrieve (B))",
+        "syntax",
+    ),
+    ("compare () with ()", "syntax"),
+    ("compare (retrieve (A))", "syntax"),
+    (
+        "explain compare (retrieve (A)) with (retrieve (B))",
+        "syntax",
+    ),
+];
+
 #[test]
 fn comparisons_of_queries_and_their_neighbours(rt: HostRuntime) {
-    let cases: [(&[u8], &str); 17] = [
-        (b"compare (retrieve (A)) with (retrieve (B))", "compare"),
-        (
-            b"compare (retrieve (A) where A = 1 or B = 2) with (retrieve (t.B) where not (B = t.C))",
-            "compare",
-        ),
-        (b"compare (retrieve (A)) (retrieve (B))", "syntax"),
-        (b"compare (retrieve (A)), (retrieve (B))", "syntax"),
-        (b"compare (retrieve (A)) With (retrieve (B))", "syntax"),
-        (b"compare retrieve (A) with retrieve (B)", "syntax"),
-        (b"compare ((retrieve (A))) with (retrieve (B))", "syntax"),
-        (b"compare (retrieve (A)) with (retrieve (B)", "syntax"),
-        (b"compare (retrieve (A)) with (retrieve (B)) C", "syntax"),
-        (
-            b"compare (retrieve (A)) with (retrieve (B)) where A = 1",
-            "syntax",
-        ),
-        (
-            b"compare (retrieve (A)) with (retrieve (B)) with (retrieve (C))",
-            "syntax",
-        ),
-        (
-            b"compare (retrieve (A) where) with (retrieve (B))",
-            "syntax",
-        ),
-        (b"compare (retrieve ()) with (retrieve (B))", "syntax"),
-        (
-            b"compare (retrieve (A)) with (explain retrieve (B))",
-            "syntax",
-        ),
-        (b"compare () with ()", "syntax"),
-        (b"compare (retrieve (A))", "syntax"),
-        (
-            b"explain compare (retrieve (A)) with (retrieve (B))",
-            "syntax",
-        ),
-    ];
-    for (text, want) in cases {
-        assert_eq!(rt; outcome(rt.alloc(), text), want);
-    }
+    read_as(&rt, rt.alloc(), COMPARISONS);
 }
+
+const WINDOWS: &[(&str, &str)] = &[
+    ("window (A)", "window"),
+    ("window (A, B, A)", "window"),
+    ("window ()", "syntax"),
+    ("window (A,)", "syntax"),
+    ("window A", "syntax"),
+    ("window (t.A)", "syntax"),
+    ("window ('a')", "syntax"),
+    ("window (A) where A = 1", "syntax"),
+    ("explain window (A)", "syntax"),
+];
 
 #[test]
 fn windows_and_their_neighbours(rt: HostRuntime) {
-    let cases: [(&[u8], &str); 9] = [
-        (b"window (A)", "window"),
-        (b"window (A, B, A)", "window"),
-        (b"window ()", "syntax"),
-        (b"window (A,)", "syntax"),
-        (b"window A", "syntax"),
-        (b"window (t.A)", "syntax"),
-        (b"window ('a')", "syntax"),
-        (b"window (A) where A = 1", "syntax"),
-        (b"explain window (A)", "syntax"),
-    ];
-    for (text, want) in cases {
-        assert_eq!(rt; outcome(rt.alloc(), text), want);
-    }
+    read_as(&rt, rt.alloc(), WINDOWS);
 }
 
 /// The query of this number.
@@ -83,22 +79,37 @@ fn part(alloc: Global, text: &[u8], number: usize) -> Result<List<u8>, Fail> {
     part_of(alloc, &statement, number)
 }
 
+const PAIRS: &[(&str, &str)] = &[
+    (
+        "compare(retrieve(A))with( retrieve (t.B) where B=1 )",
+        "compare (retrieve (A)) with (retrieve (t.B) where B = 1)",
+    ),
+    ("window( A,B )", "window (A, B)"),
+];
+
+const PARTS: &[(usize, &str)] = &[(0, "retrieve (A)"), (1, "retrieve (t.B) where B = 1")];
+
+/// That the queries of the text with these numbers are shown as they should be.
+fn have_parts(
+    rt: &impl Abort,
+    alloc: Global,
+    text: &str,
+    cases: &[(usize, &str)],
+) -> Result<(), Fail> {
+    for (number, want) in cases {
+        assert_eq!(rt;
+            part(alloc, text.as_bytes(), *number)?.as_slice(),
+            want.as_bytes()
+        );
+    }
+    Ok(())
+}
+
 #[test]
 fn the_first_query_stands_before_with(rt: HostRuntime) -> Result<(), Fail> {
-    let a = rt.alloc();
-    let text = b"compare(retrieve(A))with( retrieve (t.B) where B=1 )";
-    let whole = b"compare (retrieve (A)) with (retrieve (t.B) where B = 1)";
-    assert_eq!(rt; shown(a, text)?.as_slice(), whole.as_slice());
-    assert_eq!(rt; part(a, text, 0)?.as_slice(), b"retrieve (A)".as_slice());
-    assert_eq!(rt;
-        part(a, text, 1)?.as_slice(),
-        b"retrieve (t.B) where B = 1".as_slice()
-    );
-    assert_eq!(rt;
-        shown(a, b"window( A,B )")?.as_slice(),
-        b"window (A, B)".as_slice()
-    );
-    Ok(())
+    are_shown(&rt, rt.alloc(), PAIRS)?;
+    let text = "compare(retrieve(A))with( retrieve (t.B) where B=1 )";
+    have_parts(&rt, rt.alloc(), text, PARTS)
 }
 
 /// A query within the limits, and one past each of them.
@@ -108,81 +119,148 @@ const EIGHT: &str = "(retrieve (a.A, b.A, c.A, d.A, e.A, f.A, g.A, h.A))";
 
 const NINE: &str = "(retrieve (a.A, b.A, c.A, d.A, e.A, f.A, g.A, h.A, A))";
 
+const LIMITS: &[Length] = &[
+    (
+        &[("compare ", 1), (EIGHT, 1), (" with ", 1), (EIGHT, 1)],
+        "compare",
+    ),
+    (
+        &[("compare ", 1), (NINE, 1), (" with ", 1), (PLAIN, 1)],
+        "variables",
+    ),
+    (
+        &[("compare ", 1), (PLAIN, 1), (" with ", 1), (NINE, 1)],
+        "variables",
+    ),
+    (
+        &[
+            ("compare (retrieve (A", 1),
+            (", A", 127),
+            (")) with (retrieve (A", 1),
+            (", A", 127),
+            ("))", 1),
+        ],
+        "compare",
+    ),
+    (
+        &[
+            ("compare ", 1),
+            (PLAIN, 1),
+            (" with (retrieve (A", 1),
+            (", A", 128),
+            ("))", 1),
+        ],
+        "outputs",
+    ),
+];
+
 #[test]
 fn each_of_two_queries_has_limits_of_its_own(rt: HostRuntime) -> Result<(), Fail> {
-    let a = rt.alloc();
-    let (compare, with) = (("compare ", 1), (" with ", 1));
-    let (eight, nine, plain) = ((EIGHT, 1), (NINE, 1), (PLAIN, 1));
-    assert_eq!(rt; outcome_of(a, &[compare, eight, with, eight])?, "compare");
-    assert_eq!(rt; outcome_of(a, &[compare, nine, with, plain])?, "variables");
-    assert_eq!(rt; outcome_of(a, &[compare, plain, with, nine])?, "variables");
-    let (first, other) = (("(retrieve (A", 1), ("))", 1));
-    let (most, more) = ((", A", 127), (", A", 128));
-    assert_eq!(rt;
-        outcome_of(a, &[compare, first, most, other, with, first, most, other])?,
-        "compare"
-    );
-    assert_eq!(rt;
-        outcome_of(a, &[compare, plain, with, first, more, other])?,
-        "outputs"
-    );
-    Ok(())
+    are_read_as(&rt, rt.alloc(), LIMITS)
 }
+
+/// What a query with too many outputs begins with, and one with too many comparisons.
+const OUTPUTS: (&str, usize) = ("(retrieve (A", 1);
+
+const COMPARED: (&str, usize) = ("(retrieve (A) where A = 1", 1);
+
+const FIRST_LIMITS: &[Length] = &[
+    (
+        &[
+            ("compare ", 1),
+            OUTPUTS,
+            (", A", 128),
+            (")) with ", 1),
+            (NINE, 1),
+        ],
+        "outputs",
+    ),
+    (
+        &[
+            ("compare ", 1),
+            COMPARED,
+            (" and A = 1", 256),
+            (") with ", 1),
+            (NINE, 1),
+        ],
+        "comparisons",
+    ),
+    (
+        &[
+            ("compare ", 1),
+            COMPARED,
+            (" and A = 1", 256),
+            (") with ", 1),
+            OUTPUTS,
+            (", A", 128),
+            ("))", 1),
+        ],
+        "comparisons",
+    ),
+    (
+        &[
+            ("compare ", 1),
+            (NINE, 1),
+            (" with ", 1),
+            COMPARED,
+            (" and A = 1", 256),
+            (")", 1),
+        ],
+        "variables",
+    ),
+    (
+        &[
+            ("compare ", 1),
+            (NINE, 1),
+            (" with ", 1),
+            (NINE, 1),
+            (")", 1),
+        ],
+        "syntax",
+    ),
+];
 
 #[test]
 fn limits_of_the_first_query_come_before_those_of_the_second(rt: HostRuntime) -> Result<(), Fail> {
-    let a = rt.alloc();
-    let (compare, with, nine) = (("compare ", 1), (" with ", 1), (NINE, 1));
-    let outputs = [("(retrieve (A", 1), (", A", 128), ("))", 1)];
-    let comparisons = [
-        ("(retrieve (A) where A = 1", 1),
-        (" and A = 1", 256),
-        (")", 1),
-    ];
-    let [o, p, q] = outputs;
-    let [x, y, z] = comparisons;
-    assert_eq!(rt; outcome_of(a, &[compare, o, p, q, with, nine])?, "outputs");
-    assert_eq!(rt;
-        outcome_of(a, &[compare, x, y, z, with, nine])?,
-        "comparisons"
-    );
-    assert_eq!(rt;
-        outcome_of(a, &[compare, x, y, z, with, o, p, q])?,
-        "comparisons"
-    );
-    assert_eq!(rt;
-        outcome_of(a, &[compare, nine, with, x, y, z])?,
-        "variables"
-    );
-    assert_eq!(rt;
-        outcome_of(a, &[compare, nine, with, nine, (")", 1)])?,
-        "syntax"
-    );
-    Ok(())
+    are_read_as(&rt, rt.alloc(), FIRST_LIMITS)
 }
+
+const ROUND: &[Length] = &[
+    (
+        &[
+            ("compare (retrieve (A) where ", 1),
+            ("(", 63),
+            ("A = 1", 1),
+            (")", 63),
+            (") with (retrieve (A))", 1),
+        ],
+        "compare",
+    ),
+    (
+        &[
+            ("compare (retrieve (A) where ", 1),
+            ("(", 64),
+            ("A = 1", 1),
+            (")", 64),
+            (") with ", 1),
+            (NINE, 1),
+        ],
+        "nesting",
+    ),
+];
 
 #[test]
 fn parentheses_round_a_query_nest_too(rt: HostRuntime) -> Result<(), Fail> {
-    let a = rt.alloc();
-    let (head, equal) = (("compare (retrieve (A) where ", 1), ("A = 1", 1));
-    let (tail, nine) = ((") with (retrieve (A))", 1), ((") with ", 1), (NINE, 1)));
-    assert_eq!(rt;
-        outcome_of(a, &[head, ("(", 63), equal, (")", 63), tail])?,
-        "compare"
-    );
-    assert_eq!(rt;
-        outcome_of(a, &[head, ("(", 64), equal, (")", 64), nine.0, nine.1])?,
-        "nesting"
-    );
-    Ok(())
+    are_read_as(&rt, rt.alloc(), ROUND)
 }
+
+const NAMES: &[Length] = &[
+    (&[("window (A", 1), (", A", 127), (")", 1)], "window"),
+    (&[("window (A", 1), (", A", 128), (")", 1)], "outputs"),
+    (&[("window (A", 1), (", A", 128), (",)", 1)], "syntax"),
+];
 
 #[test]
 fn a_window_has_128_names(rt: HostRuntime) -> Result<(), Fail> {
-    let a = rt.alloc();
-    let (head, tail) = (("window (A", 1), (")", 1));
-    assert_eq!(rt; outcome_of(a, &[head, (", A", 127), tail])?, "window");
-    assert_eq!(rt; outcome_of(a, &[head, (", A", 128), tail])?, "outputs");
-    assert_eq!(rt; outcome_of(a, &[head, (", A", 128), (",)", 1)])?, "syntax");
-    Ok(())
+    are_read_as(&rt, rt.alloc(), NAMES)
 }

@@ -48,88 +48,92 @@ fn word_of(outcome: &Result<Statement, QueryFault>) -> &'static str {
 }
 
 /// What the text is read as, in a word.
-pub(crate) fn outcome(alloc: Global, text: &[u8]) -> &'static str {
+fn outcome(alloc: Global, text: &[u8]) -> &'static str {
     let outcome = read(alloc, text);
     word_of(&outcome)
 }
 
-#[test]
-fn updates_and_their_neighbours(rt: HostRuntime) {
-    let cases: [(&[u8], &str); 16] = [
-        (b"insert P (1, 'a')", "insert"),
-        (b"insert P (-9223372036854775808)", "insert"),
-        (b"insert P (9223372036854775808)", "syntax"),
-        (b"insert P ()", "syntax"),
-        (b"insert P (A)", "syntax"),
-        (b"insert P (1,)", "syntax"),
-        (b"insert where (1)", "syntax"),
-        (b"insert P (1) (2)", "syntax"),
-        (b"delete P (1)", "delete"),
-        (b"delete P where A = 1", "delete where"),
-        (b"delete P where t.A = 1", "syntax"),
-        (b"delete P where A = 1 or not (B = t.A)", "syntax"),
-        (b"delete P where", "syntax"),
-        (b"delete P", "syntax"),
-        (b"load P from 'p.csv'", "load"),
-        (b"load P from p", "syntax"),
-    ];
+/// That each text is read as its word says.
+pub(crate) fn read_as(rt: &impl Abort, alloc: Global, cases: &[(&str, &str)]) {
     for (text, want) in cases {
-        assert_eq!(rt; outcome(rt.alloc(), text), want);
+        assert_eq!(rt; outcome(alloc, text.as_bytes()), *want, "{text}");
     }
 }
+
+const UPDATES: &[(&str, &str)] = &[
+    ("insert P (1, 'a')", "insert"),
+    ("insert P (-9223372036854775808)", "insert"),
+    ("insert P (9223372036854775808)", "syntax"),
+    ("insert P ()", "syntax"),
+    ("insert P (A)", "syntax"),
+    ("insert P (1,)", "syntax"),
+    ("insert where (1)", "syntax"),
+    ("insert P (1) (2)", "syntax"),
+    ("delete P (1)", "delete"),
+    ("delete P where A = 1", "delete where"),
+    ("delete P where t.A = 1", "syntax"),
+    ("delete P where A = 1 or not (B = t.A)", "syntax"),
+    ("delete P where", "syntax"),
+    ("delete P", "syntax"),
+    ("load P from 'p.csv'", "load"),
+    ("load P from p", "syntax"),
+];
+
+#[test]
+fn updates_and_their_neighbours(rt: HostRuntime) {
+    read_as(&rt, rt.alloc(), UPDATES);
+}
+
+const QUESTIONS: &[(&str, &str)] = &[
+    ("print P", "print"),
+    ("print P, Q", "syntax"),
+    ("print print", "syntax"),
+    ("schema", "schema"),
+    ("schema P", "syntax"),
+    ("Schema", "syntax"),
+    ("closure (A, A)", "closure"),
+    ("closure ()", "syntax"),
+    ("closure A", "syntax"),
+    ("retrieve (A, t.B)", "retrieve"),
+    ("retrieve (t.B.C)", "syntax"),
+    ("retrieve (t.)", "syntax"),
+    ("retrieve A", "syntax"),
+    ("explain retrieve (A)", "explain"),
+    ("explain with retrieve (A)", "explain with"),
+    ("explain with with retrieve (A)", "syntax"),
+    ("explain from retrieve (A)", "explain from"),
+    ("explain from with retrieve (A)", "syntax"),
+    ("from retrieve (A)", "syntax"),
+    ("with retrieve (A)", "syntax"),
+    ("explain explain retrieve (A)", "syntax"),
+    ("explain print P", "syntax"),
+    ("", "syntax"),
+];
 
 #[test]
 fn questions_and_their_neighbours(rt: HostRuntime) {
-    let cases: [(&[u8], &str); 23] = [
-        (b"print P", "print"),
-        (b"print P, Q", "syntax"),
-        (b"print print", "syntax"),
-        (b"schema", "schema"),
-        (b"schema P", "syntax"),
-        (b"Schema", "syntax"),
-        (b"closure (A, A)", "closure"),
-        (b"closure ()", "syntax"),
-        (b"closure A", "syntax"),
-        (b"retrieve (A, t.B)", "retrieve"),
-        (b"retrieve (t.B.C)", "syntax"),
-        (b"retrieve (t.)", "syntax"),
-        (b"retrieve A", "syntax"),
-        (b"explain retrieve (A)", "explain"),
-        (b"explain with retrieve (A)", "explain with"),
-        (b"explain with with retrieve (A)", "syntax"),
-        (b"explain from retrieve (A)", "explain from"),
-        (b"explain from with retrieve (A)", "syntax"),
-        (b"from retrieve (A)", "syntax"),
-        (b"with retrieve (A)", "syntax"),
-        (b"explain explain retrieve (A)", "syntax"),
-        (b"explain print P", "syntax"),
-        (b"", "syntax"),
-    ];
-    for (text, want) in cases {
-        assert_eq!(rt; outcome(rt.alloc(), text), want);
-    }
+    read_as(&rt, rt.alloc(), QUESTIONS);
 }
+
+const CONDITIONS: &[(&str, &str)] = &[
+    ("retrieve (A) where A <= t.A", "retrieve"),
+    ("retrieve (A) where 1 = 'a'", "retrieve"),
+    ("retrieve (A) where", "syntax"),
+    ("retrieve (A) where A", "syntax"),
+    ("retrieve (A) where A -> 1", "syntax"),
+    ("retrieve (A) where A = 1 = 1", "syntax"),
+    ("retrieve (A) where A = 1 and", "syntax"),
+    ("retrieve (A) where or A = 1", "syntax"),
+    ("retrieve (A) where not not A = 1", "syntax"),
+    ("retrieve (A) where not (not A = 1)", "retrieve"),
+    ("retrieve (A) where (A) = 1", "syntax"),
+    ("retrieve (A) where (A = 1", "syntax"),
+    ("retrieve (A) where A = 1)", "syntax"),
+];
 
 #[test]
 fn conditions_and_their_neighbours(rt: HostRuntime) {
-    let cases: [(&[u8], &str); 13] = [
-        (b"retrieve (A) where A <= t.A", "retrieve"),
-        (b"retrieve (A) where 1 = 'a'", "retrieve"),
-        (b"retrieve (A) where", "syntax"),
-        (b"retrieve (A) where A", "syntax"),
-        (b"retrieve (A) where A -> 1", "syntax"),
-        (b"retrieve (A) where A = 1 = 1", "syntax"),
-        (b"retrieve (A) where A = 1 and", "syntax"),
-        (b"retrieve (A) where or A = 1", "syntax"),
-        (b"retrieve (A) where not not A = 1", "syntax"),
-        (b"retrieve (A) where not (not A = 1)", "retrieve"),
-        (b"retrieve (A) where (A) = 1", "syntax"),
-        (b"retrieve (A) where (A = 1", "syntax"),
-        (b"retrieve (A) where A = 1)", "syntax"),
-    ];
-    for (text, want) in cases {
-        assert_eq!(rt; outcome(rt.alloc(), text), want);
-    }
+    read_as(&rt, rt.alloc(), CONDITIONS);
 }
 
 /// The pieces, each as often as the number beside it says.
@@ -143,80 +147,110 @@ fn repeated(alloc: Global, pieces: &[(&str, usize)]) -> Result<String, AllocErro
     Ok(text)
 }
 
-pub(crate) fn outcome_of(
-    alloc: Global,
-    pieces: &[(&str, usize)],
-) -> Result<&'static str, AllocError> {
+fn outcome_of(alloc: Global, pieces: &[(&str, usize)]) -> Result<&'static str, AllocError> {
     let text = repeated(alloc, pieces)?;
     Ok(outcome(alloc, text.as_bytes()))
 }
 
-#[test]
-fn parentheses_nest_64_deep(rt: HostRuntime) -> Result<(), Fail> {
-    let a = rt.alloc();
-    let head = ("retrieve (A) where ", 1);
-    assert_eq!(rt;
-        outcome_of(a, &[head, ("(", 64), ("A = 1", 1), (")", 64)])?,
-        "retrieve"
-    );
-    assert_eq!(rt;
-        outcome_of(a, &[head, ("(", 64), ("A = 1", 1), (")", 63)])?,
-        "syntax"
-    );
-    assert_eq!(rt; outcome_of(a, &[("(", 65)])?, "nesting");
-    assert_eq!(rt; outcome_of(a, &[("(", 65), ("?", 1)])?, "syntax");
+/// Pieces of a text, each with how often it stands, and the word that says what the text is read as.
+pub(crate) type Length = (&'static [(&'static str, usize)], &'static str);
+
+/// That the text of each case is read as its word says.
+pub(crate) fn are_read_as(rt: &impl Abort, alloc: Global, cases: &[Length]) -> Result<(), Fail> {
+    for (pieces, want) in cases {
+        assert_eq!(rt; outcome_of(alloc, pieces)?, *want);
+    }
     Ok(())
 }
+
+const NESTED: &[Length] = &[
+    (
+        &[
+            ("retrieve (A) where ", 1),
+            ("(", 64),
+            ("A = 1", 1),
+            (")", 64),
+        ],
+        "retrieve",
+    ),
+    (
+        &[
+            ("retrieve (A) where ", 1),
+            ("(", 64),
+            ("A = 1", 1),
+            (")", 63),
+        ],
+        "syntax",
+    ),
+    (&[("(", 65)], "nesting"),
+    (&[("(", 65), ("?", 1)], "syntax"),
+];
+
+#[test]
+fn parentheses_nest_64_deep(rt: HostRuntime) -> Result<(), Fail> {
+    are_read_as(&rt, rt.alloc(), NESTED)
+}
+
+const SEVEN: &str = "retrieve (a.A, b.A, c.A, d.A, e.A, f.A, g.A";
+
+const WIDE: &[Length] = &[
+    (&[(SEVEN, 1), (", A", 1), (")", 1)], "retrieve"),
+    (
+        &[(SEVEN, 1), (", A", 1), (") where h.A = 1", 1)],
+        "variables",
+    ),
+    (&[("retrieve (A", 1), (", A", 127), (")", 1)], "retrieve"),
+    (&[("retrieve (A", 1), (", A", 128), (")", 1)], "outputs"),
+];
 
 #[test]
 fn a_query_has_8_variables_and_128_outputs(rt: HostRuntime) -> Result<(), Fail> {
-    let a = rt.alloc();
-    let seven = ("retrieve (a.A, b.A, c.A, d.A, e.A, f.A, g.A", 1);
-    assert_eq!(rt; outcome_of(a, &[seven, (", A", 1), (")", 1)])?, "retrieve");
-    assert_eq!(rt;
-        outcome_of(a, &[seven, (", A", 1), (") where h.A = 1", 1)])?,
-        "variables"
-    );
-    assert_eq!(rt;
-        outcome_of(a, &[("retrieve (A", 1), (", A", 127), (")", 1)])?,
-        "retrieve"
-    );
-    assert_eq!(rt;
-        outcome_of(a, &[("retrieve (A", 1), (", A", 128), (")", 1)])?,
-        "outputs"
-    );
-    Ok(())
+    are_read_as(&rt, rt.alloc(), WIDE)
 }
+
+const LONG: &[Length] = &[
+    (
+        &[("delete P where A = 1", 1), (" or A = 1", 255)],
+        "delete where",
+    ),
+    (
+        &[("delete P where A = 1", 1), (" or A = 1", 256)],
+        "comparisons",
+    ),
+];
 
 #[test]
 fn a_condition_has_256_comparisons(rt: HostRuntime) -> Result<(), Fail> {
-    let a = rt.alloc();
-    let delete = ("delete P where A = 1", 1);
-    assert_eq!(rt;
-        outcome_of(a, &[delete, (" or A = 1", 255)])?,
-        "delete where"
-    );
-    assert_eq!(rt;
-        outcome_of(a, &[delete, (" or A = 1", 256)])?,
-        "comparisons"
-    );
-    Ok(())
+    are_read_as(&rt, rt.alloc(), LONG)
 }
+
+const EIGHT_VARIABLES: &str = "retrieve (a.A, b.A, c.A, d.A, e.A, f.A, g.A, h.A";
+
+const FIRST_CAUSES: &[Length] = &[
+    (&[(EIGHT_VARIABLES, 1), (", A", 128), (",)", 1)], "syntax"),
+    (
+        &[
+            (EIGHT_VARIABLES, 1),
+            (", A", 128),
+            (") where A = 1", 1),
+            (" and A = 1", 256),
+        ],
+        "variables",
+    ),
+    (
+        &[
+            ("retrieve (A", 1),
+            (", A", 128),
+            (") where A = 1", 1),
+            (" and A = 1", 256),
+        ],
+        "outputs",
+    ),
+];
 
 #[test]
 fn the_form_comes_before_variables_outputs_and_comparisons(rt: HostRuntime) -> Result<(), Fail> {
-    let a = rt.alloc();
-    let eight = ("retrieve (a.A, b.A, c.A, d.A, e.A, f.A, g.A, h.A", 1);
-    let outputs = (", A", 128);
-    let many = (") where A = 1", 1);
-    let more = (" and A = 1", 256);
-    assert_eq!(rt; outcome_of(a, &[eight, outputs, (",)", 1)])?, "syntax");
-    assert_eq!(rt; outcome_of(a, &[eight, outputs, many, more])?, "variables");
-    assert_eq!(rt;
-        outcome_of(a, &[("retrieve (A", 1), outputs, many, more])?,
-        "outputs"
-    );
-    Ok(())
+    are_read_as(&rt, rt.alloc(), FIRST_CAUSES)
 }
 
 /// The condition with `&`, `|` and `!` for the nodes and the attribute for each comparison.
@@ -264,26 +298,29 @@ fn shape(alloc: Global, text: &[u8]) -> Result<String, Fail> {
     shape_of(alloc, &statement)
 }
 
-#[test]
-fn not_binds_tighter_than_and_and_and_than_or(rt: HostRuntime) -> Result<(), Fail> {
-    let cases: [(&[u8], &str); 9] = [
-        (b"retrieve (A)", "&()"),
-        (b"retrieve (A) where A = 1", "A"),
-        (b"retrieve (A) where ((A = 1))", "A"),
-        (b"retrieve (A) where A = 1 or B = 1 and C = 1", "|(A&(BC))"),
-        (
-            b"retrieve (A) where (A = 1 or B = 1) and C = 1",
-            "&(|(AB)C)",
-        ),
-        (b"retrieve (A) where not A = 1 and B = 1", "&(!AB)"),
-        (b"retrieve (A) where not (A = 1 and B = 1)", "!&(AB)"),
-        (b"retrieve (A) where A = 1 or (B = 1 or C = 1)", "|(A|(BC))"),
-        (b"retrieve (A) where A = 1 and B = 1 and C = 1", "&(ABC)"),
-    ];
+/// That the condition of each query has its shape.
+fn are_shaped(rt: &impl Abort, alloc: Global, cases: &[(&str, &str)]) -> Result<(), Fail> {
     for (text, want) in cases {
-        assert_eq!(rt; shape(rt.alloc(), text)?.as_str(), want);
+        assert_eq!(rt; shape(alloc, text.as_bytes())?.as_str(), *want, "{text}");
     }
     Ok(())
+}
+
+const SHAPES: &[(&str, &str)] = &[
+    ("retrieve (A)", "&()"),
+    ("retrieve (A) where A = 1", "A"),
+    ("retrieve (A) where ((A = 1))", "A"),
+    ("retrieve (A) where A = 1 or B = 1 and C = 1", "|(A&(BC))"),
+    ("retrieve (A) where (A = 1 or B = 1) and C = 1", "&(|(AB)C)"),
+    ("retrieve (A) where not A = 1 and B = 1", "&(!AB)"),
+    ("retrieve (A) where not (A = 1 and B = 1)", "!&(AB)"),
+    ("retrieve (A) where A = 1 or (B = 1 or C = 1)", "|(A|(BC))"),
+    ("retrieve (A) where A = 1 and B = 1 and C = 1", "&(ABC)"),
+];
+
+#[test]
+fn not_binds_tighter_than_and_and_and_than_or(rt: HostRuntime) -> Result<(), Fail> {
+    are_shaped(&rt, rt.alloc(), SHAPES)
 }
 
 fn shown_once(alloc: Global, text: &[u8]) -> Result<List<u8>, Fail> {
@@ -292,7 +329,7 @@ fn shown_once(alloc: Global, text: &[u8]) -> Result<List<u8>, Fail> {
 }
 
 /// The text as it is shown, which must be shown as it is.
-pub(crate) fn shown(alloc: Global, text: &[u8]) -> Result<List<u8>, Fail> {
+fn shown(alloc: Global, text: &[u8]) -> Result<List<u8>, Fail> {
     let once = shown_once(alloc, text)?;
     let twice = shown_once(alloc, once.as_slice())?;
     if once != twice {
@@ -301,26 +338,40 @@ pub(crate) fn shown(alloc: Global, text: &[u8]) -> Result<List<u8>, Fail> {
     Ok(once)
 }
 
-#[test]
-fn statements_are_shown_with_one_space_between_tokens(rt: HostRuntime) -> Result<(), Fail> {
-    let cases: [(&[u8], &[u8]); 12] = [
-        (b"insert P(007,-0 ,'it''s')", b"insert P (7, 0, 'it''s')"),
-        (b"delete  P( 'a' )", b"delete P ('a')"),
-        (b"delete P where((A!=1))", b"delete P where A != 1"),
-        (b"load P from'p.csv'", b"load P from 'p.csv'"),
-        (b"print P -- and no more", b"print P"),
-        (b"schema\n", b"schema"),
-        (b"closure(A,A)", b"closure (A, A)"),
-        (b"retrieve(A,t . B)", b"retrieve (A, t.B)"),
-        (b"retrieve (A)where A<=-1", b"retrieve (A) where A <= -1"),
-        (b"explain retrieve (A)", b"explain retrieve (A)"),
-        (b"explain  with\nretrieve(A)", b"explain with retrieve (A)"),
-        (b"explain  from\nretrieve(A)", b"explain from retrieve (A)"),
-    ];
+/// That each text is shown as it should be.
+pub(crate) fn are_shown(
+    rt: &impl Abort,
+    alloc: Global,
+    cases: &[(&str, &str)],
+) -> Result<(), Fail> {
     for (text, want) in cases {
-        assert_eq!(rt; shown(rt.alloc(), text)?.as_slice(), want);
+        assert_eq!(rt;
+            shown(alloc, text.as_bytes())?.as_slice(),
+            want.as_bytes(),
+            "{text}"
+        );
     }
     Ok(())
+}
+
+const SHOWN: &[(&str, &str)] = &[
+    ("insert P(007,-0 ,'it''s')", "insert P (7, 0, 'it''s')"),
+    ("delete  P( 'a' )", "delete P ('a')"),
+    ("delete P where((A!=1))", "delete P where A != 1"),
+    ("load P from'p.csv'", "load P from 'p.csv'"),
+    ("print P -- and no more", "print P"),
+    ("schema\n", "schema"),
+    ("closure(A,A)", "closure (A, A)"),
+    ("retrieve(A,t . B)", "retrieve (A, t.B)"),
+    ("retrieve (A)where A<=-1", "retrieve (A) where A <= -1"),
+    ("explain retrieve (A)", "explain retrieve (A)"),
+    ("explain  with\nretrieve(A)", "explain with retrieve (A)"),
+    ("explain  from\nretrieve(A)", "explain from retrieve (A)"),
+];
+
+#[test]
+fn statements_are_shown_with_one_space_between_tokens(rt: HostRuntime) -> Result<(), Fail> {
+    are_shown(&rt, rt.alloc(), SHOWN)
 }
 
 /// The text of the query of a retrieval or an explanation.
@@ -338,55 +389,63 @@ fn query_shown(alloc: Global, text: &[u8]) -> Result<List<u8>, Fail> {
     query_shown_of(alloc, &statement)
 }
 
-#[test]
-fn a_query_is_shown_without_explain(rt: HostRuntime) -> Result<(), Fail> {
-    let cases: [(&[u8], &[u8]); 4] = [
-        (b"retrieve(A,t . B)", b"retrieve (A, t.B)"),
-        (b"explain retrieve( CUST )", b"retrieve (CUST)"),
-        (b"explain with retrieve (A)", b"retrieve (A)"),
-        (
-            b"explain retrieve (t.C) where (S='Jones') and R=t.R",
-            b"retrieve (t.C) where S = 'Jones' and R = t.R",
-        ),
-    ];
+/// That the query of each text is shown as it should be.
+fn have_queries_shown(rt: &impl Abort, alloc: Global, cases: &[(&str, &str)]) -> Result<(), Fail> {
     for (text, want) in cases {
-        assert_eq!(rt; query_shown(rt.alloc(), text)?.as_slice(), want);
+        assert_eq!(rt;
+            query_shown(alloc, text.as_bytes())?.as_slice(),
+            want.as_bytes(),
+            "{text}"
+        );
     }
     Ok(())
 }
 
+const QUERIES_SHOWN: &[(&str, &str)] = &[
+    ("retrieve(A,t . B)", "retrieve (A, t.B)"),
+    ("explain retrieve( CUST )", "retrieve (CUST)"),
+    ("explain with retrieve (A)", "retrieve (A)"),
+    (
+        "explain retrieve (t.C) where (S='Jones') and R=t.R",
+        "retrieve (t.C) where S = 'Jones' and R = t.R",
+    ),
+];
+
+#[test]
+fn a_query_is_shown_without_explain(rt: HostRuntime) -> Result<(), Fail> {
+    have_queries_shown(&rt, rt.alloc(), QUERIES_SHOWN)
+}
+
+const PARTS_SHOWN: &[(&str, &str)] = &[
+    (
+        "delete P where A = 1 or B = 2 and C = 3",
+        "delete P where A = 1 or (B = 2 and C = 3)",
+    ),
+    (
+        "delete P where (A = 1 or B = 2) and (C = 3)",
+        "delete P where (A = 1 or B = 2) and C = 3",
+    ),
+    (
+        "delete P where not (A = 1) and B = 2",
+        "delete P where not A = 1 and B = 2",
+    ),
+    (
+        "delete P where not (A = 1 and B = 2)",
+        "delete P where not (A = 1 and B = 2)",
+    ),
+    (
+        "delete P where not (not A = 1)",
+        "delete P where not (not A = 1)",
+    ),
+    (
+        "delete P where A = 1 or (B = 2 or C = 3)",
+        "delete P where A = 1 or (B = 2 or C = 3)",
+    ),
+];
+
 #[test]
 fn parts_of_and_and_or_stand_in_parentheses(rt: HostRuntime) -> Result<(), Fail> {
-    let cases: [(&[u8], &[u8]); 6] = [
-        (
-            b"delete P where A = 1 or B = 2 and C = 3",
-            b"delete P where A = 1 or (B = 2 and C = 3)",
-        ),
-        (
-            b"delete P where (A = 1 or B = 2) and (C = 3)",
-            b"delete P where (A = 1 or B = 2) and C = 3",
-        ),
-        (
-            b"delete P where not (A = 1) and B = 2",
-            b"delete P where not A = 1 and B = 2",
-        ),
-        (
-            b"delete P where not (A = 1 and B = 2)",
-            b"delete P where not (A = 1 and B = 2)",
-        ),
-        (
-            b"delete P where not (not A = 1)",
-            b"delete P where not (not A = 1)",
-        ),
-        (
-            b"delete P where A = 1 or (B = 2 or C = 3)",
-            b"delete P where A = 1 or (B = 2 or C = 3)",
-        ),
-    ];
-    for (text, want) in cases {
-        assert_eq!(rt; shown(rt.alloc(), text)?.as_slice(), want);
-    }
-    Ok(())
+    are_shown(&rt, rt.alloc(), PARTS_SHOWN)
 }
 
 fn define(schema: &mut Schema, definition: &Definition) -> Result<(), Fail> {
@@ -575,31 +634,39 @@ fn resolved(alloc: Global, schema: &Schema, text: &[u8]) -> Result<String, Fail>
     Ok(resolution_of(alloc, schema, &statement)?)
 }
 
-fn check_queries(rt: &impl Abort, alloc: Global, schema: &Schema) -> Result<(), Fail> {
-    let cases: [(&[u8], &str); 8] = [
-        (
-            b"retrieve (t.A, B) where C = 'x' and t.A < B",
-            "t - 0.0 1.1 1.2 0 1 &([2]='x' [0]<[1] )",
-        ),
-        (b"retrieve (A, A, t.A)", "- t 0.0 1.0 0 0 1 &()"),
-        (
-            b"retrieve (A) where B = 1 or t.C = C",
-            "- t 0.0 0.1 1.2 0.2 0 |([1]=1 [2]=[3] )",
-        ),
-        (
-            b"retrieve (A) where not (A >= 5 and -7 != t.A)",
-            "- t 0.0 1.0 0 !&([0]>=5 -7!=[1] )",
-        ),
-        (b"retrieve (D, E) where F = 1", "unknown D"),
-        (b"retrieve (A) where A = C and E = 1", "unknown E"),
-        (b"retrieve (A) where A = C or 'x' = 1", "kinds int text"),
-        (
-            b"retrieve (A) where A = 1 and not (C = B)",
-            "kinds text int",
-        ),
-    ];
+const RESOLVED: &[(&str, &str)] = &[
+    (
+        "retrieve (t.A, B) where C = 'x' and t.A < B",
+        "t - 0.0 1.1 1.2 0 1 &([2]='x' [0]<[1] )",
+    ),
+    ("retrieve (A, A, t.A)", "- t 0.0 1.0 0 0 1 &()"),
+    (
+        "retrieve (A) where B = 1 or t.C = C",
+        "- t 0.0 0.1 1.2 0.2 0 |([1]=1 [2]=[3] )",
+    ),
+    (
+        "retrieve (A) where not (A >= 5 and -7 != t.A)",
+        "- t 0.0 1.0 0 !&([0]>=5 -7!=[1] )",
+    ),
+    ("retrieve (D, E) where F = 1", "unknown D"),
+    ("retrieve (A) where A = C and E = 1", "unknown E"),
+    ("retrieve (A) where A = C or 'x' = 1", "kinds int text"),
+    ("retrieve (A) where A = 1 and not (C = B)", "kinds text int"),
+];
+
+/// That each query resolves to what stands beside it.
+fn resolve_to(
+    rt: &impl Abort,
+    alloc: Global,
+    schema: &Schema,
+    cases: &[(&str, &str)],
+) -> Result<(), Fail> {
     for (text, want) in cases {
-        assert_eq!(rt; resolved(alloc, schema, text)?.as_str(), want);
+        assert_eq!(rt;
+            resolved(alloc, schema, text.as_bytes())?.as_str(),
+            *want,
+            "{text}"
+        );
     }
     Ok(())
 }
@@ -608,7 +675,7 @@ fn check_queries(rt: &impl Abort, alloc: Global, schema: &Schema) -> Result<(), 
 fn unknown_names_are_refused_before_kinds(rt: HostRuntime) -> Result<(), Fail> {
     let mut schema = Schema::new(rt.alloc());
     define_all(&mut schema, rt.alloc())?;
-    check_queries(&rt, rt.alloc(), &schema)
+    resolve_to(&rt, rt.alloc(), &schema, RESOLVED)
 }
 
 /// Which of A, B and C are in the set.
@@ -692,16 +759,24 @@ fn resolved_deletion(alloc: Global, schema: &Schema, text: &[u8]) -> Result<Stri
     Ok(deletion(alloc, schema, &statement)?)
 }
 
-fn check_deletions(rt: &impl Abort, alloc: Global, schema: &Schema) -> Result<(), Fail> {
-    let cases: [(&[u8], &str); 5] = [
-        (b"delete P where Y = 'a'", "[1]='a' "),
-        (b"delete P where X = 1 or not (2 <= X)", "|([0]=1 !2<=[0] )"),
-        (b"delete P where A = 1", "unknown column A"),
-        (b"delete P where X = Y and Z = 1", "unknown column Z"),
-        (b"delete P where X = Y", "kinds int text"),
-    ];
+const DELETIONS: &[(&str, &str)] = &[
+    ("delete P where Y = 'a'", "[1]='a' "),
+    ("delete P where X = 1 or not (2 <= X)", "|([0]=1 !2<=[0] )"),
+    ("delete P where A = 1", "unknown column A"),
+    ("delete P where X = Y and Z = 1", "unknown column Z"),
+    ("delete P where X = Y", "kinds int text"),
+];
+
+/// That the condition of each deletion resolves to what stands beside it.
+fn delete_where(
+    rt: &impl Abort,
+    alloc: Global,
+    schema: &Schema,
+    cases: &[(&str, &str)],
+) -> Result<(), Fail> {
     for (text, want) in cases {
-        assert_eq!(rt; resolved_deletion(alloc, schema, text)?.as_str(), want);
+        let found = resolved_deletion(alloc, schema, text.as_bytes())?;
+        assert_eq!(rt; found.as_str(), *want, "{text}");
     }
     Ok(())
 }
@@ -710,7 +785,7 @@ fn check_deletions(rt: &impl Abort, alloc: Global, schema: &Schema) -> Result<()
 fn the_refs_of_a_deletion_are_columns(rt: HostRuntime) -> Result<(), Fail> {
     let mut schema = Schema::new(rt.alloc());
     define_all(&mut schema, rt.alloc())?;
-    check_deletions(&rt, rt.alloc(), &schema)
+    delete_where(&rt, rt.alloc(), &schema, DELETIONS)
 }
 
 fn set_or_refusal(
@@ -739,12 +814,25 @@ fn named(alloc: Global, schema: &Schema, text: &[u8]) -> Result<String, Fail> {
     Ok(closure(alloc, schema, &statement)?)
 }
 
-fn check_names(rt: &impl Abort, alloc: Global, schema: &Schema) -> Result<(), Fail> {
-    assert_eq!(rt; named(alloc, schema, b"closure (C, A, C)")?.as_str(), "AC");
-    assert_eq!(rt;
-        named(alloc, schema, b"closure (A, E, D)")?.as_str(),
-        "unknown E"
-    );
+const CLOSURES: &[(&str, &str)] = &[
+    ("closure (C, A, C)", "AC"),
+    ("closure (A, E, D)", "unknown E"),
+];
+
+/// That the names of each closure are the attributes beside it.
+fn name_attributes(
+    rt: &impl Abort,
+    alloc: Global,
+    schema: &Schema,
+    cases: &[(&str, &str)],
+) -> Result<(), Fail> {
+    for (text, want) in cases {
+        assert_eq!(rt;
+            named(alloc, schema, text.as_bytes())?.as_str(),
+            *want,
+            "{text}"
+        );
+    }
     Ok(())
 }
 
@@ -752,5 +840,5 @@ fn check_names(rt: &impl Abort, alloc: Global, schema: &Schema) -> Result<(), Fa
 fn a_name_may_stand_twice_and_the_first_unknown_is_refused(rt: HostRuntime) -> Result<(), Fail> {
     let mut schema = Schema::new(rt.alloc());
     define_all(&mut schema, rt.alloc())?;
-    check_names(&rt, rt.alloc(), &schema)
+    name_attributes(&rt, rt.alloc(), &schema, CLOSURES)
 }

@@ -1,15 +1,15 @@
 //! What a text asks for, read before anything is done.
-ghost use Rattle.std.specs.Prelude.{◌≡◌, ◌≢◌, ◌↔◌, ℕ, List as Items, IsTrue, IfOk, MatchOption};
+ghost use Rattle.std.specs.Prelude.{◌≡◌, ◌≢◌, true, false, ℕ, List as Items, IfOk, MatchOption};
+ghost use Rattle.su_lex.specs.Symbols.{Symbols};
 ghost use Rattle.su_query.specs.declared.statements.Statement.TheVariants.{Load};
-ghost use Rattle.su_query.specs.Reading.{IsRefusal};
-ghost use Rattle.su_session.specs.Reply.{is_definition_word, begins_definition, IsDefining};
+ghost use Rattle.su_session.specs.Reply.{is_definition_word, begins_definition};
 ghost use Rattle.su_session.specs.Commands.{IsRead};
 
 use std::alloc::Global;
-use su_base::{NoMemory, Str};
-use su_ddl::definition;
+use su_base::{List, NoMemory, Str};
+use su_ddl::definition_of;
 use su_lex::{LexEnd, Symbol, symbols};
-use su_query::{QueryFault, Statement};
+use su_query::{QueryFault, Statement, statement_of};
 use su_schema::Definition;
 
 /// A definition, a statement, or why the text is neither.
@@ -30,17 +30,6 @@ fn begins_definition(symbols: &[Symbol]) -> bool
     }
 }
 
-// Whether the words of a text begin a definition; a text without symbols doesn't.
-fn is_defining(alloc: Global, text: &[u8]) -> Result<bool, NoMemory>
-    ensures { IfOk result (λ yes. IsTrue yes ↔ IsDefining text.now) }
-{
-    match symbols(alloc, text) {
-        Ok(symbols) => Ok(begins_definition(symbols.as_slice())),
-        Err(LexEnd::Syntax) => Ok(false),
-        Err(LexEnd::NoMemory) => Err(NoMemory),
-    }
-}
-
 fn is_definition_word(word: &str) -> bool
     ensures { result ≡ is_definition_word word.now }
 {
@@ -51,12 +40,12 @@ fn is_definition_word(word: &str) -> bool
         || word == "maximal"
 }
 
-// A text that begins as a definition.
-fn read_definition(alloc: Global, text: &[u8]) -> Result<Command, NoMemory>
-    requires { IsDefining text.now }
-    ensures { IfOk result (λ command. IsRead text.now command) }
+// A text of symbols that begin a definition. Want of memory is handed on.
+fn read_definition(alloc: Global, symbols: List<Symbol>) -> Result<Command, NoMemory>
+    requires { begins_definition symbols ≡ true }
+    ensures { IfOk result (λ command. (text : Items ℕ) → Symbols text symbols → IsRead text command) }
 {
-    match definition(alloc, text) {
+    match definition_of(alloc, symbols) {
         Ok(definition) => Ok(Command::Definition(definition)),
         Err(LexEnd::Syntax) => Ok(Command::Refused(QueryFault::Syntax)),
         Err(LexEnd::NoMemory) => Err(NoMemory),
@@ -73,26 +62,36 @@ fn refused(fault: QueryFault) -> Result<Command, NoMemory>
     }
 }
 
-// A text that is refused as a statement.
-fn read_other(alloc: Global, text: &[u8], fault: QueryFault) -> Result<Command, NoMemory>
-    requires { IsRefusal text.now fault }
-    ensures { IfOk result (λ command. IsRead text.now command) }
+// A text of any other symbols.
+fn read_statement(alloc: Global, symbols: List<Symbol>) -> Result<Command, NoMemory>
+    requires { begins_definition symbols ≡ false }
+    ensures { IfOk result (λ command. (text : Items ℕ) → Symbols text symbols → IsRead text command) }
 {
-    let defining = is_defining(alloc, text)?;
-    if defining {
-        return read_definition(alloc, text);
+    match statement_of(alloc, symbols) {
+        Ok(statement) => Ok(Command::Statement(statement)),
+        Err(fault) => refused(fault),
     }
-    refused(fault)
 }
 
-/// What the text asks for. A statement is read once; what is refused as a statement is looked at again
-/// for a definition.
+// What a text of these symbols asks for.
+fn command_of(alloc: Global, symbols: List<Symbol>) -> Result<Command, NoMemory>
+    ensures { IfOk result (λ command. (text : Items ℕ) → Symbols text symbols → IsRead text command) }
+{
+    if begins_definition(symbols.as_slice()) {
+        return read_definition(alloc, symbols);
+    }
+    read_statement(alloc, symbols)
+}
+
+/// What the text asks for. Its symbols are made once, and read once: as a definition where the first
+/// of them is a word that begins one, else as a statement.
 pub fn read(alloc: Global, text: &[u8]) -> Result<Command, NoMemory>
     ensures { IfOk result (λ command. IsRead text.now command) }
 {
-    match su_query::read(alloc, text) {
-        Ok(statement) => Ok(Command::Statement(statement)),
-        Err(fault) => read_other(alloc, text, fault),
+    match symbols(alloc, text) {
+        Ok(symbols) => command_of(alloc, symbols),
+        Err(LexEnd::Syntax) => Ok(Command::Refused(QueryFault::Syntax)),
+        Err(LexEnd::NoMemory) => Err(NoMemory),
     }
 }
 

@@ -21,17 +21,35 @@ use su_state::Database;
 use su_steps::{StepFault, Term, terms};
 
 /// Two queries over numbers, of one form.
-#[derive(Drop)]
 struct Pair {
     first: Resolved,
     second: Resolved,
 }
 
+// Not derived, so that it is a single call wherever a pair goes out of scope.
+impl Drop for Pair {
+    fn drop(self) {
+        let Pair {
+            first: _,
+            second: _,
+        } = self;
+    }
+}
+
 /// The terms of both.
-#[derive(Drop)]
 struct Terms {
     first: List<Term>,
     second: List<Term>,
+}
+
+// Not derived, so that it is a single call wherever they go out of scope.
+impl Drop for Terms {
+    fn drop(self) {
+        let Terms {
+            first: _,
+            second: _,
+        } = self;
+    }
 }
 
 fn ask_equalities(first: &Resolved, second: &Resolved) -> bool

@@ -18,10 +18,19 @@ use su_show::{Refusal, explanation, header, rows};
 use su_state::Database;
 
 /// A query over numbers, ready to be answered.
-#[derive(Drop)]
 pub(crate) struct Ready {
     pub(crate) resolved: Resolved,
     pub(crate) prepared: Prepared,
+}
+
+// Not derived, so that it is a single call wherever a query goes out of scope.
+impl Drop for Ready {
+    fn drop(self) {
+        let Ready {
+            resolved: _,
+            prepared: _,
+        } = self;
+    }
 }
 
 // The terms of the query, minimised, or why it has none.

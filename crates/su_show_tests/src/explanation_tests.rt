@@ -7,7 +7,7 @@ use crate::examples::{BANK, COURSES, objects, schema_of};
 use std::alloc::Global;
 use std::test::Fail;
 use std::thread::Threads;
-use su_base::{List, ObjSet};
+use su_base::{List, ObjSet, Str};
 use su_min::{Minimal, minimise, reduce};
 use su_query::{Query, Resolved, Statement, read, resolve};
 use su_schema::Schema;
@@ -218,17 +218,20 @@ fn comparisons_are_left_or_leave_no_term(rt: HostRuntime) -> Result<(), Fail> {
     Ok(())
 }
 
-#[test]
-fn the_outputs_stand_above_the_rows(rt: HostRuntime) -> Result<(), Fail> {
-    let alloc = rt.alloc();
-    match read(alloc, b"retrieve (t.CUST, ADDR)")? {
-        Statement::Retrieve(query) => {
-            let names = header(alloc, &query)?;
-            assert_eq!(rt; names.len(), 2);
-            assert_eq!(rt; names.get(0).as_str(), "t.CUST");
-            assert_eq!(rt; names.get(1).as_str(), "ADDR");
-            Ok(())
-        }
+/// The names of the outputs of the query of the text.
+fn header_of(alloc: Global, text: &str) -> Result<List<Str>, Fail> {
+    match read(alloc, text.as_bytes())? {
+        Statement::Retrieve(query) => Ok(header(alloc, &query)?),
         _ => Err(Fail::from("no query")),
     }
+}
+
+#[test]
+fn the_outputs_stand_above_the_rows(rt: HostRuntime) -> Result<(), Fail> {
+    let names = header_of(rt.alloc(), "retrieve (t.CUST, ADDR)")?;
+    assert_eq!(rt; names.len(), 2);
+    for (name, want) in names.as_slice().iter().zip(&["t.CUST", "ADDR"]) {
+        assert_eq!(rt; name.as_str(), *want);
+    }
+    Ok(())
 }

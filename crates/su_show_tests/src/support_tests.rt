@@ -26,23 +26,44 @@ fn term(
     })
 }
 
-#[test]
-fn each_kept_term_has_its_line_and_one_for_each_kept_row(rt: HostRuntime) -> Result<(), Fail> {
-    let alloc = rt.alloc();
-    let first = term(
-        alloc,
+/// Numbers of terms, whether each is acyclic, and its rows as above.
+const TERMS: &[(u16, bool, &[(u8, u64, Option<u64>)])] = &[
+    (
         0,
         true,
         &[(0, 2, Some(1)), (63, 18446744073709551615, Some(0))],
-    )?;
-    let second = term(alloc, 255, false, &[(7, 2, None)])?;
-    let third = term(alloc, 256, true, &[])?;
-    let want =
-        "term 0 acyclic\n  row 0 candidates 2 left 1\n  row 63 candidates 18446744073709551615 left 0\nterm 255 cyclic\n  row 7 candidates 2\nterm 256 acyclic\n";
-    assert_eq!(rt; supports(alloc, &[])?.as_slice(), "".as_bytes());
-    assert_eq!(rt;
-        supports(alloc, &[first, second, third])?.as_slice(),
-        want.as_bytes()
-    );
+    ),
+    (255, false, &[(7, 2, None)]),
+    (256, true, &[]),
+];
+
+const SUPPORTS: &str = "\
+term 0 acyclic
+  row 0 candidates 2 left 1
+  row 63 candidates 18446744073709551615 left 0
+term 255 cyclic
+  row 7 candidates 2
+term 256 acyclic
+";
+
+fn all_terms(alloc: Global) -> Result<List<Support>, Fail> {
+    let mut all = List::new(alloc);
+    for (number, acyclic, rows) in TERMS {
+        all.push(term(alloc, *number, *acyclic, rows)?)?;
+    }
+    Ok(all)
+}
+
+#[test]
+fn each_kept_term_has_its_line_and_one_for_each_kept_row(rt: HostRuntime) -> Result<(), Fail> {
+    let terms = all_terms(rt.alloc())?;
+    let lines = supports(rt.alloc(), terms.as_slice())?;
+    assert_eq!(rt; lines.as_slice(), SUPPORTS.as_bytes());
+    Ok(())
+}
+
+#[test]
+fn no_term_has_no_line(rt: HostRuntime) -> Result<(), Fail> {
+    assert_eq!(rt; supports(rt.alloc(), &[])?.as_slice(), "".as_bytes());
     Ok(())
 }

@@ -1,8 +1,8 @@
 //! Definitions in a database.
 ghost use Rattle.std.specs.Prelude.{◌≡◌, ◌<◌, ℕ, length, IfOk, OnOk, IfErr, OnErr};
-ghost use Rattle.su_schema.specs.Defining.{IsWellNamed, applied};
+ghost use Rattle.su_schema.specs.Defining.{IsRefusal, IsWellNamed, applied};
 ghost use Rattle.su_state.specs.Definitions.{HoldsThrough, Defines, tables_with};
-ghost use Rattle.su_state.specs.inside.Adding.{HaveTables, HasAdded, IsNarrow, AddedHolds, IsThroughFault, IsFdFault, IsObjectFault, IsAddedFault, IsSchemaFault};
+ghost use Rattle.su_state.specs.inside.Adding.{HaveTables, HasAdded, IsNarrow, AddedHolds, IsThroughFault, IsFdFault, IsObjectFault, IsAddedFault};
 
 use crate::databases::Database;
 use crate::faults::DefineFault;
@@ -110,18 +110,15 @@ fn check_added(
     }
 }
 
-/// The schema with the definition.
-fn extended(schema: &Schema, definition: &Definition) -> Result<Schema, DefineFault>
+/// A copy of the schema, with the definition at the end of its list.
+pub fn extended(schema: &Schema, definition: &Definition) -> Result<Schema, SchemaFault>
     requires { IsWellNamed definition.now }
     ensures ok { IfOk result (λ extended. applied schema.now definition.now ≡ Ok extended) }
-    ensures refused { IfErr result (IsSchemaFault schema.now definition.now) }
+    ensures refused { IfErr result (IsRefusal schema.now definition.now) }
 {
     let mut copy = schema.copy()?;
-    match copy.define(definition) {
-        Ok(()) => Ok(copy),
-        Err(SchemaFault::NoMemory) => Err(DefineFault::NoMemory),
-        Err(fault) => Err(DefineFault::Schema(fault)),
-    }
+    copy.define(definition)?;
+    Ok(copy)
 }
 
 /// Adds a table without rows for a new relation.
@@ -147,12 +144,12 @@ fn add_table(
 }
 
 impl Database {
-    /// Adds the definition where the stored rows keep it.
-    fn add_definition(&mut self, definition: &Definition) -> Result<(), DefineFault>
-        requires { IsWellNamed definition.now }
+    /// Takes the schema, its own with the definition, where the stored rows keep it.
+    fn take(&mut self, definition: &Definition, schema: Schema) -> Result<(), DefineFault>
+        requires named { IsWellNamed definition.now }
+        requires extended { applied self.old.schema definition.now ≡ Ok schema }
         ensures { Defines self.old definition.now result self.new }
     {
-        let schema = extended(&self.schema, definition)?;
         schema.keeps_its_rules();
         check_added(self.alloc, &schema, self.tables.as_slice(), definition)?;
         add_table(self.alloc, &mut self.tables, definition)?;
@@ -160,16 +157,30 @@ impl Database {
         Ok(())
     }
 
-    /// Adds the definition at the end of its list; a relation has no rows yet, and all rows stay.
-    /// A dependency or an object that doesn't hold on the stored rows is refused. That it holds takes
-    /// one pass over the rows of the relations that it is about, in memory for their values on the
-    /// left side; where it doesn't, three more passes over one relation's rows find the least pair.
+    /// Adds the definition at the end of its list; a relation has no rows yet, and all rows stay. The
+    /// schema with it has been made by `extended`, and is moved here. A dependency or an object that
+    /// doesn't hold on the stored rows is refused. That it holds takes one pass over the rows of the
+    /// relations that it is about, in memory for their values on the left side; where it doesn't, three
+    /// more passes over one relation's rows find the least pair.
+    pub fn adopt(&mut self, definition: &Definition, schema: Schema) -> Result<(), DefineFault>
+        requires named { IsWellNamed definition.now }
+        requires extended { applied self.old.schema definition.now ≡ Ok schema }
+        ensures { Defines self.old definition.now result self.new }
+    {
+        self.take(definition, schema)?;
+        self.note_sides();
+        Ok(())
+    }
+
+    /// `extended` of its schema, and then `adopt`.
     pub fn define(&mut self, definition: &Definition) -> Result<(), DefineFault>
         requires { IsWellNamed definition.now }
         ensures { Defines self.old definition.now result self.new }
     {
-        self.add_definition(definition)?;
-        self.note_sides();
-        Ok(())
+        match extended(&self.schema, definition) {
+            Ok(schema) => self.adopt(definition, schema),
+            Err(SchemaFault::NoMemory) => Err(DefineFault::NoMemory),
+            Err(fault) => Err(DefineFault::Schema(fault)),
+        }
     }
 }

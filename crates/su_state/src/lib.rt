@@ -29,4 +29,5 @@ mod parts;
 mod sides;
 
 pub use databases::Database;
+pub use defining::extended;
 pub use faults::{DefineFault, LoadEnd, LoadFault, StateFault};

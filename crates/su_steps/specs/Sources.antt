@@ -1,8 +1,6 @@
 -- The sources of a row: the objects that may answer for it.
-use Rattle.std.specs.Prelude.{ℕ, ◌≡◌, ◌<◌, ◌↔◌, IsTrue, List, length, get_or}
-use Rattle.std.specs.Int.{bit_at}
-use Rattle.std.specs.Ordering.{nat_cmp}
-use Rattle.std.specs.FinSet.{FinSet, contains, empty}
+use Rattle.std.specs.Prelude.{ℕ, ◌<◌, IsTrue, length}
+use Rattle.std.specs.FinSet.{contains}
 use Rattle.su_tableau.specs.Tableaux.{Tab}
 use Rattle.su_tableau.specs.Essential.{IsEssential}
 use Rattle.su_schema.specs.SchemaValue.{SchemaValue}
@@ -12,7 +10,3 @@ use Rattle.su_steps.specs.Objects.{attributes_at}
 pub record IsSource (schema : SchemaValue) (t : Tab) (m r o : ℕ) : Type 0 where
   pub object : o < length schema.objects
   pub has_columns : (c : ℕ) → IsEssential t m r c → IsTrue (contains (attributes_at schema o) c)
-
--- for each row of m its sources
-abbrev pub AreSources : SchemaValue → Tab → ℕ → List (FinSet nat_cmp) → Type 0
-AreSources schema t m found = (r o : ℕ) → r < length t.rows → bit_at m r ≡ 1 → IsTrue (contains (get_or found r empty) o) ↔ IsSource schema t m r o

@@ -1,5 +1,5 @@
 //! The choices of one covering maximal object per variable.
-ghost use Rattle.std.specs.Prelude.{◌≡◌, ◌<◌, ◌≤◌, ◌==◌, ◌∷◌, ◌++◌, [], if◌then◌else◌, length, get_or, min, filter, position, All, IfOk, OnOk};
+ghost use Rattle.std.specs.Prelude.{◌≡◌, ◌<◌, ◌≤◌, ◌==◌, [], length, get_or, min, filter, position, All, IfOk};
 ghost use Rattle.std.specs.List.{range_with_len};
 ghost use Rattle.std.specs.FinSet as set;
 ghost use Rattle.su_query.specs.Ranges.{IsPlaceAmong};
@@ -16,15 +16,6 @@ use su_schema::Schema;
 /// It stands for every count of choices above 256.
 const MANY: usize = 257;
 
-fn push_if(list: &mut List<u8>, wanted: bool, item: u8) -> Result<(), NoMemory>
-    ensures { OnOk result (list.new ≡ list.old ++ (if wanted then item ∷ [] else [])) }
-{
-    if wanted {
-        list.push(item)?;
-    }
-    Ok(())
-}
-
 /// The numbers of the maximal objects whose attributes include these.
 fn covering(
     alloc: Global,
@@ -38,7 +29,7 @@ fn covering(
     let mut numbers = List::new(alloc);
     for (m, objects) in maximal.iter().enumerate() {
         let wanted = attributes.within(attributes_together(schema, *objects));
-        push_if(&mut numbers, wanted, m as u8)?;
+        numbers.push_if(wanted, m as u8)?;
     }
     Ok(numbers)
 }

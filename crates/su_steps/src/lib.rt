@@ -24,4 +24,4 @@ mod sourcing;
 pub use faults::{StepFault, StepLimit};
 pub use making::terms;
 pub use results::{Origin, Term};
-pub use sourcing::{all_sources, sources, sources_within};
+pub use sourcing::{sources, sources_within};

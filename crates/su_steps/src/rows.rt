@@ -1,5 +1,5 @@
 //! The rows of a choice, and their items.
-ghost use Rattle.std.specs.Prelude.{◌≡◌, ◌<◌, ◌≤◌, ◌++◌, ◌∷◌, [], if◌then◌else◌, length, map, All, IfOk, OnOk};
+ghost use Rattle.std.specs.Prelude.{◌≡◌, ◌<◌, ◌≤◌, ◌++◌, length, map, All, IfOk, OnOk};
 ghost use Rattle.su_steps.specs.Objects.{objects_of};
 ghost use Rattle.su_steps.specs.Choices.{origin, origins_of};
 ghost use Rattle.su_steps.specs.inside.Numbers.{placed_of};
@@ -10,15 +10,6 @@ use std::alloc::Global;
 use su_base::{List, NoMemory, ObjSet, Value};
 use su_classes::Placed;
 use su_schema::Schema;
-
-fn push_if(origins: &mut List<Origin>, wanted: bool, origin: Origin) -> Result<(), NoMemory>
-    ensures { OnOk result (origins.new ≡ origins.old ++ (if wanted then origin ∷ [] else [])) }
-{
-    if wanted {
-        origins.push(origin)?;
-    }
-    Ok(())
-}
 
 /// Adds the origins of the variable's rows.
 fn push_origins(
@@ -35,7 +26,7 @@ fn push_origins(
             variable,
             object: o,
         };
-        push_if(origins, set.contains(o), origin)?;
+        origins.push_if(set.contains(o), origin)?;
     }
     Ok(())
 }

@@ -1,17 +1,16 @@
 //! The sources of a row.
-ghost use Rattle.std.specs.Prelude.{◌≡◌, ◌<◌, ◌↔◌, ℕ, IsTrue, IfOk, length};
+ghost use Rattle.std.specs.Prelude.{◌≡◌, ◌<◌, ◌↔◌, ℕ, IsTrue, length};
 ghost use Rattle.std.specs.Int.{bit_at};
 ghost use Rattle.std.specs.FinSet as set;
 ghost use Rattle.su_tableau.specs.Tableaux.{Tab};
 ghost use Rattle.su_tableau.specs.Essential.{IsEssential};
 ghost use Rattle.su_steps.specs.Objects.{attributes_at};
-ghost use Rattle.su_steps.specs.Sources.{IsSource, AreSources};
+ghost use Rattle.su_steps.specs.Sources.{IsSource};
 
 use crate::objects::object_attributes;
-use std::alloc::Global;
-use su_base::{AttrSet, List, NoMemory, ObjSet};
+use su_base::{AttrSet, ObjSet};
 use su_schema::Schema;
-use su_tableau::{Tableau, all_essential, essential};
+use su_tableau::{Tableau, essential};
 
 /// The objects that have these attributes: the sources of each row whose essential columns they
 /// are. Takes no memory.
@@ -37,24 +36,4 @@ pub fn sources(schema: &Schema, t: &Tableau, mask: u64, row: usize) -> ObjSet
     ensures { (o : ℕ) → IsTrue (set.contains result o) ↔ IsSource schema.now t.now mask row o }
 {
     sources_within(schema, essential(t, mask, row))
-}
-
-/// The objects that may answer for each row of the mask; what stands at other rows means nothing.
-/// The symbols are counted once for all rows.
-pub fn all_sources(
-    alloc: Global,
-    schema: &Schema,
-    t: &Tableau,
-    mask: u64,
-) -> Result<List<ObjSet>, NoMemory>
-    ensures rows { IfOk result (λ found. length found ≡ length t.now.rows) }
-    ensures sources { IfOk result (AreSources schema.now t.now mask) }
-{
-    t.keeps_its_rules();
-    let columns = all_essential(alloc, t, mask)?;
-    let mut found = List::new(alloc);
-    for row in 0..t.row_count() {
-        found.push(sources_within(schema, *columns.get(row)))?;
-    }
-    Ok(found)
 }

@@ -1,5 +1,4 @@
 // Runs over an outside that fails at one call. The bank has a print before a load and one behind it.
-use crate::query_tests::BANK;
 use crate::status::Status;
 use crate::tests::{USAGE, words};
 use crate::top::run;
@@ -8,6 +7,9 @@ use std::test::Fail;
 use su_base::{List, NoMemory, Str};
 use su_io::{File, MemoryShelf, MemorySink, SteadyShelf, SteadySink};
 use su_par::OpenGate;
+
+const BANK: &str =
+    "attribute BANK text; attribute ACCT int; attribute CUST text; attribute BAL int; attribute LOAN int; attribute AMT int; attribute ADDR text; relation BA (BANK text, ACCT int); relation AC (ACCT int, CUST text); relation AB (ACCT int, BAL int); relation BL (BANK text, LOAN int); relation LC (LOAN int, CUST text); relation LA (LOAN int, AMT int); relation CA (CUST text, ADDR text); object BANK_ACCT (BANK, ACCT) from BA (BANK, ACCT); object ACCT_CUST (ACCT, CUST) from AC (ACCT, CUST); object ACCT_BAL (ACCT, BAL) from AB (ACCT, BAL); object BANK_LOAN (BANK, LOAN) from BL (BANK, LOAN); object LOAN_CUST (LOAN, CUST) from LC (LOAN, CUST); object LOAN_AMT (LOAN, AMT) from LA (LOAN, AMT); object CUST_ADDR (CUST, ADDR) from CA (CUST, ADDR); fd ACCT -> BANK; fd ACCT -> BAL; fd LOAN -> BANK; fd LOAN -> AMT; fd CUST -> ADDR;";
 
 const SCRIPT: &str = "print BA; load AB from 'g.csv'; print AB;";
 

@@ -62,8 +62,6 @@ fn main(rt: HostRuntime) -> ExitCode {
 #[cfg(test)]
 mod fault_tests;
 #[cfg(test)]
-mod query_tests;
-#[cfg(test)]
 mod refusal_tests;
 #[cfg(test)]
 mod tests;

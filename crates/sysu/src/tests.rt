@@ -1,4 +1,3 @@
-use crate::query_tests::CUSTOMERS;
 use crate::status::Status;
 use crate::top::run;
 use std::alloc::Global;
@@ -7,6 +6,9 @@ use std::thread::Threads;
 use su_base::{List, NoMemory, Str};
 use su_io::{File, MemoryShelf, MemorySink, SteadyShelf, SteadySink};
 use su_par::OpenGate;
+
+const CUSTOMERS: &str =
+    "certificate 7\nkinds text int text int int int text\nterm 0\nhead v2\nrows\n(v0 v1 v9 v10 v11 v12 v13)\n(v14 v1 v2 v17 v18 v19 v20)\n(v21 v1 v23 v3 v25 v26 v27)\n(v28 v29 v2 v31 v32 v33 v6)\nkept 1\nfold 1 1 1 1\ntree 1 (1)\nterm 1\nhead v2\nrows\n(v0 v8 v9 v10 v4 v12 v13)\n(v14 v15 v2 v17 v4 v19 v20)\n(v21 v22 v23 v24 v4 v5 v27)\n(v28 v29 v2 v31 v32 v33 v6)\nkept 1\nfold 1 1 1 1\ntree 1 (1)\n";
 
 const SCHEMA: &str =
     "attribute A int; attribute B text; attribute C int; relation P (A int, B text); relation Q (C int); object AB (A, B) from P (A, B); object CC (C) from Q (C);";

@@ -3,6 +3,10 @@
 -- No public contract cites this module.
 use Rattle.std.specs.Prelude.{◌≡◌, ◌<◌, ◌≤◌, ◌⊎◌, ℕ, Bool, true, false, Option, Some, List, [], ◌∷◌, ◌++◌, map, length, slice_index_or}
 use Rattle.su_exec.specs.declared.checks.Check.{Check}
+use Rattle.su_exec.specs.declared.merging.End.{End}
+use Rattle.su_exec.specs.declared.merging.End.TheVariants.{Empty, One, Past as Gone}
+use Rattle.su_exec.specs.declared.merging.Step.{Step}
+use Rattle.su_exec.specs.declared.merging.Step.TheVariants.{Joined, Past}
 use Rattle.su_exec.specs.declared.merging.Merged.{Merged}
 use Rattle.su_exec.specs.declared.merging.Merged.TheVariants.{Whole, Over, Nothing}
 use Rattle.su_exec.specs.inside.Checks.{check_vars}
@@ -61,3 +65,39 @@ abbrev pub IsTold : List (Edge ℕ) → ((ℕ → ℕ) → Bool) → Merged → 
 IsTold es s (Whole g) = ⊥
 IsTold es s Over = IsGiven [] es s []
 IsTold es s Nothing = IsEmpty es s
+
+-- ---- steps, and how they end
+
+-- what a step makes of a body: it gives the needed variables the same values, or two were past the bound
+abbrev pub IsStep : List ℕ → Option ℕ → List (Edge ℕ) → ((ℕ → ℕ) → Bool) → List (Edge ℕ) → ((ℕ → ℕ) → Bool) → Step → Type 0
+IsStep needed most es s fs u Joined = Keeps needed es s fs u
+IsStep needed most es s fs u Past = IsOver needed most es s fs u
+
+-- the variables that are still needed after a step
+abbrev pub still : List ℕ → Step → List ℕ
+still needed Joined = needed
+still needed Past = []
+
+-- how many edges a step takes away
+abbrev pub gone : Step → ℕ
+gone Joined = 1
+gone Past = 2
+
+-- there is a bound, which the body passes if the rest gives anything; it gives nothing if the rest does not
+pub record IsPast (needed : List ℕ) (most : Option ℕ) (es : List (Edge ℕ)) (s : (ℕ → ℕ) → Bool) (rest : List (Edge ℕ)) (u : (ℕ → ℕ) → Bool) : Type 0 where
+  pub bound : ℕ
+  pub is : most ≡ Some bound
+  pub more : IsGiven [] rest u [] → HasMore needed most es s
+  pub none : IsEmpty rest u → IsEmpty es s
+
+-- what is said of a body when its merging ends
+abbrev pub IsEnd : List ℕ → Option ℕ → List (Edge ℕ) → ((ℕ → ℕ) → Bool) → List (Edge ℕ) → ((ℕ → ℕ) → Bool) → End → Type 0
+IsEnd needed most es s fs u One = Keeps needed es s fs u
+IsEnd needed most es s fs u Gone = IsPast needed most es s fs u
+IsEnd needed most es s fs u Empty = IsEmpty es s
+
+-- what is said of what is left then
+abbrev pub IsRest : List ℕ → List (Edge ℕ) → List Check → End → Type 0
+IsRest needed fs cs One = (length fs ≡ 1) × AreThere needed cs fs
+IsRest needed fs cs Gone = AreThere [] cs fs × (fs ≡ [] → cs ≡ [])
+IsRest needed fs cs Empty = Unit {0}

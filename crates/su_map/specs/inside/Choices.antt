@@ -75,7 +75,10 @@ pub record IsFound (net : Netted) (n m k : ℕ) (list : List ℕ) : Type 0 where
 abbrev pub IsFirstOf : Netted → ℕ → ℕ → ℕ → List ℕ → Type 0
 IsFirstOf net n m k list = (other : ℕ → ℕ) → IsChoiceInto net n m k other → (map other (numbers_of m n) ≡ list) ⊎ IsBefore list (map other (numbers_of m n))
 
--- x is left of row q's domain where the row goes to the target
-abbrev pub IsLeft : Netted → ℕ → ℕ → ℕ → ℕ → ℕ → Type 0
-IsLeft net row target q domain x =
-    ((q ≡ row) × (x ≡ target)) ⊎ ((q ≢ row) × (bit_at domain x ≡ 1) × (bit_at (near_of net row) q ≡ 1 → bit_at (agree_of net row q target) x ≡ 1))
+-- the domains where the row goes to the target: what the other rows in m that share a variable with it have left agrees with the target, none that had a target has none, and no choice that sends the row there is lost
+pub record IsAssigned (net : Netted) (n m row target : ℕ) (old new : List ℕ) : Type 0 where
+  pub shrinks : Shrinks n old new
+  pub only : (x : ℕ) → bit_at (get_or new row 0) x ≡ 1 → x ≡ target
+  pub fits : (q x : ℕ) → row ≢ q → bit_at m q ≡ 1 → bit_at (near_of net row) q ≡ 1 → bit_at (get_or new q 0) x ≡ 1 → bit_at (agree_of net row q target) x ≡ 1
+  pub alive : (q : ℕ) → 0 < get_or old q 0 → 0 < get_or new q 0
+  pub all : (choice : ℕ → ℕ) → IsChoice net n m old choice → choice row ≡ target → IsChoice net n m new choice

@@ -1,11 +1,11 @@
 -- Targets of a row, cell by cell.
 -- No public contract cites this module.
-use Rattle.std.specs.Prelude.{◌≡◌, ℕ, ◌+◌, ◌*◌, ◌<◌, ◌↔◌, List, length, get_or, Contains, Option, Some, None}
+use Rattle.std.specs.Prelude.{◌≡◌, ℕ, ◌+◌, ◌*◌, ◌<◌, ◌≤◌, ◌↔◌, List, length, get_or, Contains, Option, Some, None}
 use Rattle.std.specs.Int.{bit_at}
 use Rattle.su_base.specs.declared.values.Value.{Value}
 use Rattle.su_tableau.specs.declared.symbols.Sym.{Sym}
 use Rattle.su_tableau.specs.declared.symbols.Sym.TheVariants.{Const, Var}
-use Rattle.su_tableau.specs.Tableaux.{Tab}
+use Rattle.su_tableau.specs.Tableaux.{Tab, AreVarsBelow}
 use Rattle.su_map.specs.Lists.{row_of}
 use Rattle.su_map.specs.Candidates.{Cell}
 
@@ -57,3 +57,20 @@ pub record IsTold (s t : Tab) (base : List ℕ) (i q : ℕ) (agree : List ℕ) :
   pub columns : List (Option ℕ)
   pub shared : AreShared s.head (row_of s i) (row_of s q) columns
   pub told : (p : ℕ) → p < length t.rows → bit_at (get_or base i 0) p ≡ 1 → AreTold t columns p (get_or base q 0) (get_or agree (i * 4096 + q * 64 + p) 0)
+
+-- the table tells for each row which rows hold the same symbol at the column
+abbrev pub AreAlikeAt : Tab → ℕ → List ℕ → Type 0
+AreAlikeAt t c table = (p j : ℕ) → p < length t.rows → (bit_at (get_or table (c * 64 + p) 0) j ≡ 1) ↔ ((j < length t.rows) × ((d : Sym) → get_or (row_of t p) c d ≡ get_or (row_of t j) c d))
+
+-- at each column
+abbrev pub AreAlike : Tab → List ℕ → Type 0
+AreAlike t table = (c : ℕ) → c < t.width → AreAlikeAt t c table
+
+-- the rows of m are noted at their variables, both have one width, and the table tells which rows of t hold the same symbol at a column
+pub record AreSides (s : Tab) (m : ℕ) (t : Tab) (rows_of table : List ℕ) : Type 0 where
+  pub symbols : AreVarsBelow (length rows_of) s
+  pub noted : AreNoted s m rows_of
+  pub width : s.width ≡ t.width
+  pub small : length t.rows ≤ 64
+  pub room : 8192 ≤ length table
+  pub alike : AreAlike t table

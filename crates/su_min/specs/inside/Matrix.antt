@@ -19,6 +19,10 @@ pub record IsRowOf (term : Minimised) (terms : List Minimised) (row : List Bool)
   pub columns : length row ≡ length terms
   pub tells : (i : ℕ) → i < length terms → (get_or row i false ≡ true) ↔ Covers term (term_at terms i)
 
+-- each term that is marked is covered by the first one
+abbrev pub AreKnown : List Minimised → List Bool → Type 0
+AreKnown terms marks = (i : ℕ) → i < length terms → get_or marks i false ≡ true → Covers (term_at terms 0) (term_at terms i)
+
 -- a row for each term
 pub record IsMatrix (terms : List Minimised) (matrix : List (List Bool)) : Type 0 where
   pub rows : length matrix ≡ length terms

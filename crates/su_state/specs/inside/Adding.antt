@@ -1,13 +1,12 @@
 -- What the steps of a definition ask and answer.
 -- added: the last dependency or the last object of a schema, as the definition says
 -- No public contract cites this module.
-use Rattle.std.specs.Prelude.{◌≡◌, ℕ, ◌<◌, ◌≤◌, ◌-◌, List, length, slice_get, Some, Err}
+use Rattle.std.specs.Prelude.{◌≡◌, ℕ, ◌<◌, ◌≤◌, ◌-◌, List, length, slice_get, Some}
 use Rattle.su_rel.specs.Stored.{Stored}
 use Rattle.su_schema.specs.declared.definitions.Definition.{Definition}
 use Rattle.su_schema.specs.declared.definitions.Definition.TheVariants.{Relation, Object, Fd}
 use Rattle.su_schema.specs.SchemaValue.{SchemaValue, ObjectEntry}
 use Rattle.su_schema.specs.Checks.{columns_at}
-use Rattle.su_schema.specs.Defining.{applied}
 use Rattle.su_state.specs.declared.faults.DefineFault.{DefineFault}
 use Rattle.su_state.specs.declared.faults.DefineFault.TheVariants.{Schema, Breaks, NoMemory}
 use Rattle.su_index.specs.Tables.{table_at}
@@ -58,9 +57,3 @@ abbrev pub IsAddedFault : SchemaValue → List Stored → Definition → DefineF
 IsAddedFault schema tables definition (Breaks fd name first second) = NewBreaks schema tables definition fd name first second
 IsAddedFault schema tables definition NoMemory = Unit {0}
 IsAddedFault schema tables definition (Schema fault) = ⊥
-
--- why the schema refuses the definition
-abbrev pub IsSchemaFault : SchemaValue → Definition → DefineFault → Type 0
-IsSchemaFault schema definition (Schema fault) = applied schema definition ≡ Err fault
-IsSchemaFault schema definition NoMemory = Unit {0}
-IsSchemaFault schema definition (Breaks fd name first second) = ⊥

@@ -99,3 +99,13 @@ returns-clause-some c =
     let all : length c.push.new.self.items ≡ length (rest x ++ g x ∷ []) = ap length c.in_ok-push.ensures.items in
     let more = length-append (rest x) (g x ∷ []) in
     omega arith
+
+pub returns-clause-fewer : goal.returns-clause-fewer
+returns-clause-fewer c =
+    let x = (goal.at.returns-clause-fewer c).In_ok-joined in
+    let first : length (fs x) + 1 ≡ length (es x) = one_less x in
+    let second : length (hs x) + 1 ≡ length (fs x) = two_less x in
+    let third : length (rest x) + 1 ≡ length (hs x) = ap (λ (xs : List (Edge ℕ)). length xs + 1) c.remove-c.ensures.items ∙ length-remove (hs x) c.args.three.2 (third_low x) in
+    let all : length c.push.new.self.items ≡ length (rest x ++ g x ∷ []) = ap length c.in_ok-push.ensures.items in
+    let more = length-append (rest x) (g x ∷ []) in
+    omega arith

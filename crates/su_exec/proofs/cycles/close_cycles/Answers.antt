@@ -1,4 +1,4 @@
-use Rattle.std.proofs.Common.{◌≡◌, List, ℕ, refl, sym, subst, ◌∙◌}
+use Rattle.std.proofs.Common.{◌≡◌, List, ℕ, refl, length, sym, subst, ◌∙◌, arith}
 use Rattle.su_exec.specs.declared.checks.Check.{Check}
 use Rattle.su_exec.specs.inside.Bodies.{AreThere}
 use Rattle.su_exec.specs.inside.Checks.{all_hold}
@@ -12,6 +12,7 @@ loop-init c = record {
   keeps = keeps_refl c.args.needed.now c.args.body.now.edges.items (all_hold c.args.codes.now c.args.body.now.checks.items);
   there = c.requires.there;
   some = c.requires.some;
+  fewer = omega arith;
 }
 
 pub loop-preserved : goal.loop-preserved
@@ -29,6 +30,7 @@ loop-preserved c =
       keeps = keeps_trans needed start es fs (all_hold values first) (all_hold values first) (all_hold values first) c.loop.invariant.keeps step;
       there = subst (λ (cs : List Check). AreThere needed cs fs) same c.in_ok-close.ensures.there;
       some = c.in_ok-close.ensures.some;
+      fewer = let a = c.loop.invariant.fewer in let b = c.in_ok-close.ensures.fewer in omega arith;
     }
 
 pub close-requires-clause-there : goal.close-requires-clause-there

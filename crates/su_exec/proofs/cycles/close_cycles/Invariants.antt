@@ -1,4 +1,4 @@
-use Rattle.std.proofs.Common.{◌≡◌, ◌<◌, length}
+use Rattle.std.proofs.Common.{◌≡◌, ◌<◌, ◌≤◌, length}
 use Rattle.su_exec.specs.inside.Bodies.{AreThere}
 use Rattle.su_exec.specs.inside.Checks.{all_hold}
 use Rattle.su_exec.specs.inside.Edges.{Keeps}
@@ -10,4 +10,5 @@ invariant-loop l = record {
   keeps : Keeps l.needed l.initial.body.edges.items (all_hold l.codes l.initial.body.checks.items) l.body.edges.items (all_hold l.codes l.initial.body.checks.items);
   there : AreThere l.needed l.initial.body.checks.items l.body.edges.items;
   some : 0 < length l.body.edges.items;
+  fewer : length l.body.edges.items ≤ length l.initial.body.edges.items;
 }

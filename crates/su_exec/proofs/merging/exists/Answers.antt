@@ -1,9 +1,11 @@
-use Rattle.std.proofs.Common.{◌≡◌, [], List, ℕ, length, refl, ap, sym, subst, rules}
+use Rattle.std.proofs.Common.{◌≡◌, ◌∷◌, [], List, ℕ, length, refl, ap, sym, subst, rules}
 use Rattle.std.proofs.lemmas.List.{nil_from_length}
-use Rattle.std.proofs.lemmas.List.Elements.{All-cons, All-head, All-nil}
+use Rattle.std.proofs.lemmas.List.Elements.{All-nil}
 use Rattle.su_exec.specs.declared.checks.Check.{Check}
 use Rattle.su_exec.specs.inside.Checks.{all_hold}
-use Rattle.su_exec.specs.inside.Edges.{Edge, Fits, FitsAll}
+use Rattle.su_exec.specs.inside.Edges.{Edge, Fits, FitsAll, Keeps, always}
+use Rattle.su_exec.proofs.Keeping.{keeps_trans}
+use Rattle.su_exec.proofs.Over.{some_told}
 use Rattle.su_exec.proofs.merging.exists.Goals as goal
 
 pub returns-then-is_empty : goal.returns-then-is_empty
@@ -22,15 +24,22 @@ returns-then-is_empty c =
       gives = refl;
     }
 
-pub returns-then-has_rows : goal.returns-then-has_rows
-returns-then-has_rows c =
-    let g : Edge ℕ = c.in_ok-last.last in
-    let x : (v : ℕ → ℕ) × Fits v g = rw c.if-has_rows.true at c.has_rows.ensures in
-    let w = c.in_ok-last.ensures.1 x.0 (All-cons (λ e. Fits x.0 e) g [] x.1 (All-nil (λ e. Fits x.0 e))) refl in
-    record { valuation = w.valuation; fits = w.fits; passes = w.passes; gives = refl }
+pub returns-in-Empty : goal.returns-in-Empty
+returns-in-Empty c = rw c.in-Empty.is at c.in_ok-end.ensures.end
 
-pub returns : goal.returns
-returns c =
-    let g : Edge ℕ = c.in_ok-last.last in
-    let none : (v : ℕ → ℕ) → Fits v g → ⊥ = rw c.if-has_rows.false at c.has_rows.ensures in
-    λ v f p. let w = c.in_ok-last.ensures.0 v f p in none w.valuation (All-head (λ e. Fits w.valuation e) g [] w.fits)
+pub last_of-requires-clause-one : goal.last_of-requires-clause-one
+last_of-requires-clause-one c = (rw c.in-One.is at c.in_ok-end.ensures.there).0
+
+pub last_of-requires-clause-there : goal.last_of-requires-clause-there
+last_of-requires-clause-there c = (rw c.in-One.is at c.in_ok-end.ensures.there).1
+
+pub returns-in_ok-last-in-One : goal.returns-in_ok-last-in-One
+returns-in_ok-last-in-One c =
+    let values = c.args.codes.now in
+    let start : List (Edge ℕ) = c.args.body.edges.items in
+    let rest : List (Edge ℕ) = c.merge_down.new.body.edges.items in
+    let first : List Check = c.args.body.checks.items in
+    let news : List Check = c.merge_down.new.body.checks.items in
+    let g : Edge ℕ = c.in_ok-last-in-One.last in
+    let keeps : Keeps [] start (all_hold values first) rest (all_hold values news) = rw c.in-One.is at c.in_ok-end.ensures.end in
+    some_told start (all_hold values first) g c.has_rows.result (keeps_trans [] start rest (g ∷ []) (all_hold values first) (all_hold values news) always keeps c.in_ok-last-in-One.ensures.keeps) c.has_rows.ensures

@@ -9,15 +9,15 @@ use Rattle.su_exec.proofs.Losing.{lost_keeps}
 use Rattle.su_exec.proofs.Over.{merged_back}
 use Rattle.su_exec.proofs.merging.run.Goals as goal
 
-pub merge_closed-requires-clause-some : goal.merge_closed-requires-clause-some
-merge_closed-requires-clause-some c =
+pub merge_all-requires-clause-some : goal.merge_all-requires-clause-some
+merge_all-requires-clause-some c =
     let a = c.requires.some in
     let b = c.in_ok-shrink_all.ensures.length in
     let n = c.in_ok-narrow.ensures.len in
     c.in_ok-rest.ensures.some (omega arith)
 
-pub merge_closed-requires-clause-there : goal.merge_closed-requires-clause-there
-merge_closed-requires-clause-there c =
+pub merge_all-requires-clause-there : goal.merge_all-requires-clause-there
+merge_all-requires-clause-there c =
     let left = c.in_ok-rest.ensures in
     let es : List (Edge ℕ) = c.in_ok-rest.rest.edges.items in
     subst (λ (cs : List Check). AreThere c.args.needed.now cs es) (sym left.checks) (left.there (λ k h. c.in_ok-narrow.ensures.vars k (c.in_ok-shrink_all.ensures.there k h)))

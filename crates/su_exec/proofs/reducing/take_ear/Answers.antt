@@ -29,13 +29,13 @@ module _ (c : In_ok-wanted) where
   g = c.in_ok-reduced.reduced
 
   abbrev p : ℕ
-  p = c.moved-parent.result
+  p = c.after-parent.result
 
   low : p < length rest
   low =
       let less = length-remove es c.args.i c.requires.below.0 in
       let same : length rest ≡ length (remove es c.args.i) = ap length c.remove-ear.ensures.items in
-      let moved : p + 1 < length es = c.moved-parent.ensures (length es) c.requires.below.0 c.requires.below.1 in
+      let moved : p + 1 < length es = c.after-parent.ensures.within (length es) c.requires.below.0 c.requires.below.1 in
       omega arith
 
   parent_is : b ≡ get_or rest p b

@@ -1,37 +1,36 @@
-use Rattle.std.proofs.Common.{◌≡◌, ◌≤◌, ◌<◌, ◌-◌, sym, ap, ◌∙◌, arith, length, drop, subst}
+use Rattle.std.proofs.Common.{◌≡◌, ◌+◌, ◌∷◌, ◌++◌, Err, refl, sym, ap, arith, length, length-drop, take, drop}
 use Rattle.std.proofs.lemmas.List.{take_rest}
-use Rattle.std.specs.Str.{IsUtf8}
-use Rattle.std.proofs.Common.{◌+◌, length-append}
-use Rattle.su_lex.specs.Tokens.{doubled}
-use Rattle.su_lex.proofs.Quotes.{grows, piece_content, piece_close, piece_missing, text_no_end, text_refused, text_found}
+use Rattle.std.proofs.lemmas.Result.{err_from_is_err_and}
+use Rattle.su_lex.specs.declared.ends.LexEnd.TheVariants.{Syntax}
+use Rattle.su_lex.proofs.Quotes.{piece_close, piece_missing, text_no_end, text_refused, text_found, text_run, text_start}
 use Rattle.su_lex.proofs.quoting.quoted_text.Goals as goal
 
-pub loop-b-preserved : goal.loop-b-preserved
-loop-b-preserved c =
-    rw (c.in_ok-push-in-Content.ensures.items, c.width.ensures, take_rest)
-    (grows c.args.text.now c.loop-b.content.items c.loop-b.rest.now _ c.in-Content.b c.loop-b.invariant (piece_content c.loop-b.rest.now c.in-Content.b (sym c.in-Content.ensures)))
+pub returns-in_err-kind-in-Close-clause-none : goal.returns-in_err-kind-in-Close-clause-none
+returns-in_err-kind-in-Close-clause-none c =
+    let text = c.args.text.now in
+    let n = c.unquoted_bytes-n.result in
+    let behind = drop 1 text in
+    let whole = text_run text behind n c.requires refl (rw take_rest at c.unquoted_bytes-n.ensures.count) in
+    let e = piece_close (drop n behind) (sym (rw (take_rest, take_rest) at c.in-Close.ensures)) in
+    let bad = rw take_rest at c.in_err-kind-in-Close.ensures.none in
+    let p = err_from_is_err_and c.from_residual.result c.from_residual.ensures.1 in
+    rw (p.1, p.2) (λ s. let h : c.in_err-kind-in-Close.field-0.0 ≡ Syntax = cc in
+    text_refused text (take n behind) (drop n behind) (drop 1 (drop n behind)) c.requires whole e.0 e.1 (bad (ap Err h)))
+
+pub returns-in_ok-kind-in-Close-clause-found : goal.returns-in_ok-kind-in-Close-clause-found
+returns-in_ok-kind-in-Close-clause-found c =
+    let text = c.args.text.now in
+    let n = c.unquoted_bytes-n.result in
+    let behind = drop 1 text in
+    let whole = text_run text behind n c.requires refl (rw take_rest at c.unquoted_bytes-n.ensures.count) in
+    let e = piece_close (drop n behind) (sym (rw (take_rest, take_rest) at c.in-Close.ensures)) in
+    let is = rw take_rest at c.in_ok-kind-in-Close.ensures.found in
+    rw is.0 (text_found text (take n behind) (drop n behind) (drop 1 (drop n behind)) (n + 2) whole e.0 e.1 is.1 is.2 (omega (arith, rw take_rest at c.unquoted_bytes-n.ensures.within, length-drop n behind, ap length (text_start text c.requires))))
 
 pub returns-in-Missing-clause-none : goal.returns-in-Missing-clause-none
-returns-in-Missing-clause-none c = λ _. text_no_end c.args.text.now c.loop-b.content.items c.loop-b.rest.now c.requires c.loop-b.invariant (piece_missing c.loop-b.rest.now (sym c.in-Missing.ensures))
-
-pub returns-then-len-gt4096-clause-none : goal.returns-then-len-gt4096-clause-none
-returns-then-len-gt4096-clause-none c =
-    let e = piece_close c.loop-b.rest.now (sym c.in-Close.ensures) in
-    let long : 4096 < length c.loop-b.content.items = omega arith in
-    λ _. text_refused c.args.text.now c.loop-b.content.items c.loop-b.rest.now (drop 1 c.loop-b.rest.now) c.requires c.loop-b.invariant e.0 e.1 (λ ok. absurd (omega (arith, ok.1)))
-
-pub returns-clause-none : goal.returns-clause-none
-returns-clause-none c =
-    let e = piece_close c.loop-b.rest.now (sym c.in-Close.ensures) in
-    λ _. text_refused c.args.text.now c.loop-b.content.items c.loop-b.rest.now (drop 1 c.loop-b.rest.now) c.requires c.loop-b.invariant e.0 e.1 (λ ok. absurd (c.in-Err.ensures.cases.0 (subst IsUtf8 (sym c.as_slice.ensures.value) ok.0)))
-
-pub returns-in-Ok-clause-found : goal.returns-in-Ok-clause-found
-returns-in-Ok-clause-found c =
-    let e = piece_close c.loop-b.rest.now (sym c.in-Close.ensures) in
-    let same : c.in_ok-new-in-Ok.field-0 ≡ c.loop-b.content.items = c.in_ok-new-in-Ok.ensures ∙ c.in-Ok.ensures.cases.0 ∙ c.as_slice.ensures.value in
-    let utf8 : IsUtf8 c.loop-b.content.items = subst IsUtf8 c.as_slice.ensures.value c.in-Ok.ensures.cases.1 in
-    let short : length c.loop-b.content.items ≤ 4096 = omega arith in
-    let count : (length c.args.text.now - length c.loop-b.rest.now + 1) + length c.loop-b.rest.now ≡ length c.args.text.now + 1 =
-    omega (arith, ap length c.loop-b.invariant, length-append (doubled c.loop-b.content.items) c.loop-b.rest.now) in
-    rw same
-    (text_found c.args.text.now c.loop-b.content.items c.loop-b.rest.now (drop 1 c.loop-b.rest.now) (length c.args.text.now - length c.loop-b.rest.now + 1) c.loop-b.invariant e.0 e.1 utf8 short count)
+returns-in-Missing-clause-none c =
+    let text = c.args.text.now in
+    let n = c.unquoted_bytes-n.result in
+    let behind = drop 1 text in
+    let whole = text_run text behind n c.requires refl (rw take_rest at c.unquoted_bytes-n.ensures.count) in
+    λ _. text_no_end text (take n behind) (drop n behind) c.requires whole (piece_missing (drop n behind) (sym (rw (take_rest, take_rest) at c.in-Missing.ensures)))

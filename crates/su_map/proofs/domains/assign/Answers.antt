@@ -1,37 +1,100 @@
-use Rattle.std.proofs.Common.{◌≡◌, ◌+◌, ◌<◌, ◌↔◌, ◌∙◌, ℕ, length, get_or, sym, true≢false, arith}
+use Rattle.std.proofs.Common.{◌≡◌, ◌≢◌, ◌<◌, ◌∙◌, ℕ, length, length-set, get_or, set, inl, inr, sym, ap, subst, ⊎_elim, arith, get_or-set_other, get_or-set_same}
 use Rattle.std.specs.Int.{bit_at}
-use Rattle.su_map.specs.inside.Choices.{IsLeft}
-use Rattle.su_map.proofs.Members.{no_member, set_entries}
-use Rattle.su_map.proofs.Narrowing.{less_room, left_shrinks, left_only, left_fits, left_has, left_all}
+use Rattle.su_map.specs.Nets.{agree_of}
+use Rattle.std.proofs.lemmas.Bool.{cases_eq}
+use Rattle.su_map.specs.inside.Choices.{IsChoice}
+use Rattle.su_map.proofs.Members.{no_member, without_in}
+use Rattle.su_map.proofs.Narrowing.{pow_member, begun_by, agreed, set_choice, set_shrinks, set_alive}
+use Rattle.su_map.proofs.Searching.{without_less}
 use Rattle.su_map.proofs.domains.assign.Goals as goal
-use Rattle.su_map.proofs.domains.assign.Goals.{else-left-eq0-via-then-left-eq0+else-has, else-left-eq0-via-else-left-eq0}
+use Rattle.su_map.proofs.domains.assign.Goals.{After-both-left}
 
-pub left_at-left-requires-clause-room : goal.left_at-left-requires-clause-room
-left_at-left-requires-clause-room c = less_room (c.args.row + 1) (length c.args.domains.now) c.args.net.now (omega arith) c.requires.room
+pub loop-rest-init : goal.loop-rest-init
+loop-rest-init c =
+    let n = length c.args.domains.now in let m = c.args.mask in let row = c.args.row in let v = c.bit.result in
+    let low : row < n = c.requires.mask row c.requires.row in
+    let a = begun_by c.args.net.now n m row c.args.target v c.args.domains.now c.copy_from_slice.new.self c.copy_from_slice.ensures.after low c.bit.ensures c.requires.in_domain in
+    record {
+      rest = λ q one.
+          let ne : q ≢ row = λ e. absurd (let z = ap (bit_at c.without-rest.result) e ∙ c.without-rest.ensures.out in omega arith) in
+          let r = (c.both.ensures q).0 (sym (c.without-rest.ensures.same q ne) ∙ one) in
+          (r.0, ap (λ s. bit_at s q) (sym c.near.ensures) ∙ r.1, ne);
+      done = λ q x ne op is h. inl (c.without-rest.ensures.same q (λ e. ne (sym e)) ∙ (c.both.ensures q).1 (op, ap (λ s. bit_at s q) c.near.ensures ∙ is));
+      size = length-set c.copy_from_slice.new.self row v ∙ ap length c.copy_from_slice.ensures.after;
+      shrinks = a.shrinks;
+      only = a.only;
+      alive = a.alive;
+      all = a.all;
+      changed = λ q one. subst (λ q. bit_at m q ≡ 1) (sym ((pow_member c.bit-changed.result row q c.bit-changed.ensures).0 one)) c.requires.row;
+    }
 
-pub loop-q-preserved : goal.loop-q-preserved
-loop-q-preserved c = record {
-  left = λ q low. set_entries (λ q v. (x : ℕ) → (bit_at v x ≡ 1) ↔ IsLeft c.args.net.now c.args.row c.args.target q (get_or c.args.domains.now q 0) x) c.loop-q.next c.loop-q.q c.left_at-left.result (omega arith) c.loop-q.invariant.left c.left_at-left.ensures q low;
-  alive = λ q low. set_entries (λ q v. bit_at c.args.mask q ≡ 1 → 0 < v) c.loop-q.next c.loop-q.q c.left_at-left.result (omega arith) c.loop-q.invariant.alive (λ one.
-      elim c.else-left-eq0.branch [
-        | else-left-eq0-via-then-left-eq0+else-has w ↦ absurd (true≢false (sym (w.has.ensures.1 one) ∙ w.if-has.false))
-        | else-left-eq0-via-else-left-eq0 w ↦ let l = w.if-left-eq0.false in omega arith
-      ]) q low;
-}
+-- what a choice has for row q stays
+stays : (c : After-both-left) (choice : ℕ → ℕ) → IsChoice c.args.net.now (length c.args.domains.now) c.args.mask c.args.domains.now choice → choice c.args.row ≡ c.args.target → bit_at c.both-left.result (choice c.lowest-q.result) ≡ 1
+stays c choice ch is =
+    let q = c.lowest-q.result in let row = c.args.row in
+    let now = c.loop-rest.invariant.all choice ch is in
+    let r = c.loop-rest.invariant.rest q c.lowest-q.ensures.member in
+    let hr = c.requires.mask row c.requires.row in
+    let hq = c.requires.mask q r.0 in
+    (c.both-left.ensures (choice q)).1 (
+      now.within q hq r.0,
+      ap (λ s. bit_at s (choice q)) c.agree.ensures ∙ agreed c.args.net.now row q c.args.target choice is (now.fit row q hr hq c.requires.row r.0 (λ e. r.2 (sym e)) r.1),
+    )
 
-pub returns-clause-shrinks : goal.returns-clause-shrinks
-returns-clause-shrinks c = λ yes. left_shrinks c.args.net.now (length c.args.domains.now) c.args.mask c.args.row c.args.target c.args.domains.now c.loop-q.next (λ q l. c.loop-q.invariant.left q (omega arith)) c.requires.in_domain
+pub returns-then-left-eq0-clause-none : goal.returns-then-left-eq0-clause-none
+returns-then-left-eq0-clause-none c = λ none choice ch is.
+    no_member c.both-left.result (choice c.lowest-q.result) c.if-left-eq0.true (stays (goal.at.returns-then-left-eq0-clause-none c).After-both-left choice ch is)
 
-pub returns-clause-only : goal.returns-clause-only
-returns-clause-only c = λ yes. left_only c.args.net.now (length c.args.domains.now) c.args.mask c.args.row c.args.target c.args.domains.now c.loop-q.next (λ q l. c.loop-q.invariant.left q (omega arith)) c.requires.row
+pub loop-rest-preserved : goal.loop-rest-preserved
+loop-rest-preserved c =
+    let q = c.lowest-q.result in
+    let n = length c.args.domains.now in
+    let net = c.args.net.now in let row = c.args.row in
+    let r = c.loop-rest.invariant.rest q c.lowest-q.ensures.member in
+    let hq = c.requires.mask q r.0 in
+    let v = c.both-left.result in let next = c.loop-rest.next in
+    let low : q < length next = let s = c.loop-rest.invariant.size in omega arith in
+    record {
+      rest = λ p one. c.loop-rest.invariant.rest p (without_in c.loop-rest.rest c.without-fewer.result q p c.without-fewer.ensures.same c.without-fewer.ensures.out one);
+      done = λ p x ne op near h.
+          ⊎_elim
+          (λ (e : p ≡ q).
+          let has : bit_at (get_or (set next q v) q 0) x ≡ 1 = subst (λ p. bit_at (get_or (set next q v) p 0) x ≡ 1) e h in
+          let left : bit_at v x ≡ 1 = ap (λ d. bit_at d x) (sym (get_or-set_same next q v 0 low)) ∙ has in
+          let agrees = ap (λ s. bit_at s x) (sym c.agree.ensures) ∙ ((c.both-left.ensures x).0 left).1 in
+          inr (subst (λ p. bit_at (agree_of net row p c.args.target) x ≡ 1) (sym e) agrees))
+          (λ (other : p ≢ q).
+          ⊎_elim
+          (λ (waits : bit_at c.loop-rest.rest p ≡ 1). inl (c.without-fewer.ensures.same p other ∙ waits))
+          (λ (agrees : bit_at (agree_of net row p c.args.target) x ≡ 1). inr agrees)
+          (c.loop-rest.invariant.done p x ne op near (ap (λ d. bit_at d x) (sym (get_or-set_other next q p v 0 other)) ∙ h)))
+          (cases_eq p q);
+      size = length-set next q v ∙ c.loop-rest.invariant.size;
+      shrinks = set_shrinks n q v c.args.domains.now next low (λ x one. ((c.both-left.ensures x).0 one).0) c.loop-rest.invariant.shrinks;
+      only = λ x one. c.loop-rest.invariant.only x (ap (λ d. bit_at d x) (sym (get_or-set_other next q row v 0 (λ e. r.2 (sym e)))) ∙ one);
+      alive = λ p h. set_alive q v next low (let l = c.if-left-eq0.false in omega arith) p (c.loop-rest.invariant.alive p h);
+      all = λ choice ch is. set_choice net n c.args.mask q v next choice low (stays (goal.at.loop-rest-preserved c).After-both-left choice ch is) (c.loop-rest.invariant.all choice ch is);
+      changed = λ p one.
+          ⊎_elim
+          (λ (before : bit_at c.loop-rest.changed p ≡ 1). c.loop-rest.invariant.changed p before)
+          (λ (e : p ≡ q). subst (λ p. bit_at c.args.mask p ≡ 1) (sym e) r.0)
+          (c.noted-changed.ensures p one);
+    }
 
-pub returns-clause-fits : goal.returns-clause-fits
-returns-clause-fits c = λ yes. left_fits c.args.net.now (length c.args.domains.now) c.args.mask c.args.row c.args.target c.args.domains.now c.loop-q.next (λ q l. c.loop-q.invariant.left q (omega arith))
+pub loop-rest-smaller : goal.loop-rest-smaller
+loop-rest-smaller c = without_less c.loop-rest.rest c.without-fewer.result c.lowest-q.result c.lowest-q.ensures.member c.without-fewer.ensures.out c.without-fewer.ensures.same
 
-pub returns-clause-all : goal.returns-clause-all
-returns-clause-all c = λ yes. left_all c.args.net.now (length c.args.domains.now) c.args.mask c.args.row c.args.target c.args.domains.now c.loop-q.next (λ q l. c.loop-q.invariant.left q (omega arith)) c.requires.row
-
-pub returns-then-has-clause-none : goal.returns-then-has-clause-none
-returns-then-has-clause-none c = λ no' choice ch one is.
-    let q = c.loop-q.q in
-    no_member c.left_at-left.result (choice q) c.if-left-eq0.true ((c.left_at-left.ensures (choice q)).1 (left_has c.args.net.now (length c.args.domains.now) c.args.mask c.args.row c.args.target c.args.domains.now c.requires.row choice ch one is q (omega arith) (c.has.ensures.0 c.if-has.true)))
+pub returns-clause-left : goal.returns-clause-left
+returns-clause-left c =
+    let i = c.loop-rest.invariant in
+    record {
+      shrinks = i.shrinks;
+      only = i.only;
+      fits = λ q x ne op near h.
+          ⊎_elim
+          (λ (waits : bit_at c.loop-rest.rest q ≡ 1). absurd (no_member c.loop-rest.rest q (omega arith) waits))
+          (λ (agrees : bit_at (agree_of c.args.net.now c.args.row q c.args.target) x ≡ 1). agrees)
+          (i.done q x ne op near h);
+      alive = i.alive;
+      all = i.all;
+    }

@@ -19,7 +19,7 @@ fill-requires-clause-domains c =
     let rows_in : length c.args.from.now.rows ≤ c.room.inside.rows = omega arith in
     let enough = c.room.invariant.enough (length c.args.from.now.rows) rows_in c.keeps_its_rules.ensures.small.rows in
     let d = c.room.invariant.domains_room in
-    let e = ap length c.deref_mut-3.ensures.value in
+    let e = ap length c.deref_mut-4.ensures.value in
     omega arith
 
 pub invariant_of-room : goal.invariant_of-room
@@ -29,6 +29,7 @@ invariant_of-room c =
       small = inv.small;
       enough = inv.enough;
       net_room = c.fill.ensures.room (length c.room.inside.list.items) inv.net_room;
+      alike_room = subst (λ n. 8192 ≤ n) (sym (refill_length c.room.inside.alike c.fill.new.alike)) inv.alike_room;
       columns_room = subst (λ n. 128 ≤ n) (sym (refill_length c.room.inside.columns c.fill.new.columns)) inv.columns_room;
       domains_room = subst (λ n. length c.room.inside.list.items ≤ n) (sym (refill_length c.room.inside.domains c.fill.new.domains)) inv.domains_room;
       levels_room = inv.levels_room;

@@ -51,7 +51,7 @@ run-requires-clause-levels g c =
 pub invariant_of-room : goal.invariant_of-room
 invariant_of-room g c =
     let inside = c.room.inside in
-    sound_same inside.net inside.rows (length inside.list.items) _ (length inside.columns.items) (length inside.domains.items) _ (length inside.levels.items) _ (length inside.choice.items) _ inside.count inside.count c.room.invariant
+    sound_same inside.net inside.rows (length inside.list.items) _ (length inside.alike.items) (length inside.columns.items) (length inside.domains.items) _ (length inside.levels.items) _ (length inside.choice.items) _ inside.count inside.count c.room.invariant
     (refill_length inside.list c.run.new.list) (refill_length inside.domains c.run.new.domains) (refill_length inside.levels c.run.new.levels) (refill_length inside.choice c.run.new.choice)
     c.room.invariant.count_in
 
@@ -64,7 +64,7 @@ invariant_of-room-2 g c =
     let rows_in : n ≤ c.room.inside.rows = omega arith in
     let enough = c.room.invariant.enough n rows_in c.row_count.ensures.small in
     let inside = c.room.inside in
-    sound_same inside.net inside.rows (length inside.list.items) _ (length inside.columns.items) (length inside.domains.items) _ (length inside.levels.items) _ (length inside.choice.items) _ inside.count c.in-Some.count c.room.invariant
+    sound_same inside.net inside.rows (length inside.list.items) _ (length inside.alike.items) (length inside.columns.items) (length inside.domains.items) _ (length inside.levels.items) _ (length inside.choice.items) _ inside.count c.in-Some.count c.room.invariant
     (refill_length inside.list c.run.new.list) (refill_length inside.domains c.run.new.domains) (refill_length inside.levels c.run.new.levels) (refill_length inside.choice c.run.new.choice)
     (let w = c.in-Some.ensures.within in omega arith)
 

@@ -32,12 +32,12 @@ search-requires g t c κs within =
     let next = c.descend.new.next in
     let len : length next ≡ n = omega (arith, c.descend.auto.next, c.split_at_mut-next.ensures.front_len) in
     let less = without_less todo rest row one out same in
-    let shrinks = c.descend.ensures.shrinks c.if-descend.true in
+    let shrinks = (c.descend.ensures.left c.if-descend.true).shrinks in
     let enough = subst (λ k. length (numbers_of todo n) * n ≤ k) (sym c.loop-target.auto.room) c.requires.levels in
     let fits_in = room_enough n todo rest row (length c.loop-target.room) at.0 one out same enough in
     let back : length c.loop-target.room ≡ n + length c.split_at_mut-next.result.1.now = omega (arith, c.split_at_mut-next.ensures.back_len, c.split_at_mut-next.ensures.front_len) in
     let more = room_next n todo rest row (length c.loop-target.room) (length c.split_at_mut-next.result.1.now) at.0 one out same enough back in
-    let stands = stands_next net n m todo rest row target domains next list old out same one low kept c.requires.stands shrinks (c.descend.ensures.only c.if-descend.true) (c.descend.ensures.fits c.if-descend.true) (c.descend.ensures.alive c.if-descend.true) in
+    let stands = stands_next net n m todo rest row target domains next list old out same one low kept c.requires.stands (c.has.ensures.0 c.if-has.true) (c.descend.ensures.left c.if-descend.true) in
     (omega (arith, c.decreases), (within, (subst (λ k. HasRoom k net) (sym len) c.requires.room, (omega arith, (length-set list row target ∙ (let l : length list ≡ length next = omega arith in l), (subst (λ k. length (numbers_of rest k) * k ≤ length c.split_at_mut-next.result.1.now) (sym len) more, (λ q h. let l = c.requires.mask q h in omega arith, (subst (λ k. Stands net k m rest next (choice_of (set list row target))) (sym len) stands, (λ asc. subst (λ k. IsInOrder k m rest) (sym len) (order_next net n m todo rest row target domains next list old out same one low kept (c.next_row-row.ensures.least asc) (c.requires.in_order asc)), λ r x hr br h. let hn : r < n = omega arith in c.requires.targets r x hn br (shrinks r x hn h))))))))))
 
 pub returns-then-search-clause-kept : goal.returns-then-search-clause-kept
@@ -70,7 +70,7 @@ returns-then-search-clause-first g t c = λ yes asc.
     let len : length next ≡ n = omega (arith, c.descend.auto.next, c.split_at_mut-next.ensures.front_len) in
     let new = c.search.new.choice in
     let deeper = λ (other : ℕ → ℕ) (ch : IsChoice net n m domains other) (e : other row ≡ target).
-    subst (λ k. AreSame k m other (choice_of new) ⊎ IsLess k m (choice_of new) other) len (c.search.ensures.first c.if-search.true asc other (subst (λ k. IsChoice net k m next other) (sym len) (c.descend.ensures.all c.if-descend.true other ch e))) in
+    subst (λ k. AreSame k m other (choice_of new) ⊎ IsLess k m (choice_of new) other) len (c.search.ensures.first c.if-search.true asc other (subst (λ k. IsChoice net k m next other) (sym len) ((c.descend.ensures.left c.if-descend.true).all other ch e))) in
     first_step net n m todo rest row target domains next list old out same one low kept new at.0 at.1 c.requires.stands (c.next_row-row.ensures.least asc) (subst (λ k. AreKept k m rest (choice_of (set list row target)) (choice_of new)) len c.search.ensures.kept) deeper c.loop-target.invariant.passed
 
 pub returns-then-search-clause-cost : goal.returns-then-search-clause-cost
@@ -129,7 +129,7 @@ loop-target-preserved g t c =
               kept = λ r hr br z. ap (λ l. choice_of l r) (w.choice-is ∙ w'.choice-is) ∙ kept_deeper net n m todo rest row target domains next list old out same one low kept w'.search.new.choice (subst (λ k. AreKept k m rest (choice_of (set list row target)) (choice_of w'.search.new.choice)) len w'.search.ensures.kept) r hr br z;
               passed = λ other ch.
                   let a = above other ch in
-                  let other_than : other row ≢ target = λ e. w'.search.ensures.none w'.if-search.false other (subst (λ k. IsChoice net k m next other) (sym len) (w.descend.ensures.all w'.if-descend.true other ch e)) in
+                  let other_than : other row ≢ target = λ e. w'.search.ensures.none w'.if-search.false other (subst (λ k. IsChoice net k m next other) (sym len) ((w.descend.ensures.left w'.if-descend.true).all other ch e)) in
                   omega arith;
               cost = λ passes all asc.
                   let new = w'.search.new.steps in

@@ -4,6 +4,6 @@ use Rattle.su_map.proofs.singles.narrow.Given as goal
 
 abbrev pub invariant-loop : goal.invariant-loop
 invariant-loop l = record {
-  rows : AreRows l.from l.mask l.to l.domains;
-  all : (a : ℕ → ℕ) → IsSending l.from l.mask l.to l.initial.domains a → IsSending l.from l.mask l.to l.domains a;
+  rows : AreRows l.sides.from.now l.sides.mask l.sides.to.now l.domains;
+  all : (a : ℕ → ℕ) → IsSending l.sides.from.now l.sides.mask l.sides.to.now l.initial.domains a → IsSending l.sides.from.now l.sides.mask l.sides.to.now l.domains a;
 }

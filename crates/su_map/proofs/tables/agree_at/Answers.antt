@@ -2,7 +2,7 @@ use Rattle.std.proofs.Common.{◌≡◌, ◌+◌, ◌∙◌, ℕ, get_or, sym, a
 use Rattle.std.specs.Int.{bit_at}
 use Rattle.su_map.specs.inside.Targets.{IsToldAt}
 use Rattle.su_map.proofs.Members.{below_more}
-use Rattle.su_map.proofs.Telling.{told_at_row, none_told}
+use Rattle.su_map.proofs.Telling.{none_told}
 use Rattle.su_map.proofs.tables.agree_at.Goals as goal
 use Rattle.su_map.proofs.tables.agree_at.Goals.{then-has, else-has}
 
@@ -27,7 +27,7 @@ loop-p-preserved c =
             told = below_more P n
                 (λ p l one. subst (IsToldAt to shared column p (get_or old (start + p) 0)) (sym (ap (λ a. get_or a (start + p) 0) w.agree-is ∙ get_or-set_other c.loop-p.agree (start + n) (start + p) v 0 (omega arith))) (c.loop-p.invariant.told p l one))
                 (λ one. subst (IsToldAt to shared column n (get_or old (start + n) 0)) (sym (ap (λ a. get_or a (start + n) 0) w.agree-is ∙ get_or-set_same c.loop-p.agree (start + n) v 0 (omega arith)))
-                (subst (λ o. IsToldAt to shared column n o v) (c.loop-p.invariant.later n (omega arith)) (told_at_row to shared column n (get_or c.loop-p.agree (start + n) 0) v w.row.result.now w.row.ensures.is w.agreeing_at-told.ensures)));
+                (subst (λ o. IsToldAt to shared column n o v) (c.loop-p.invariant.later n (omega arith)) w.agreeing_at-told.ensures));
           }
       | else-has w ↦ record {
         before = λ x l. ap (λ a. get_or a x 0) w.agree-is ∙ c.loop-p.invariant.before x l;

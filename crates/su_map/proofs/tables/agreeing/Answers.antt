@@ -1,15 +1,18 @@
-use Rattle.std.proofs.Common.{◌≡◌, ℕ, get_or, Some, None, arith}
-use Rattle.su_tableau.specs.declared.symbols.Sym.{Sym}
-use Rattle.su_map.specs.Lists.{row_of}
-use Rattle.su_map.proofs.Members.{below_more}
+use Rattle.std.proofs.Common.{arith}
+use Rattle.su_map.proofs.Telling.{told_none, told_next, told_all}
 use Rattle.su_map.proofs.tables.agreeing.Goals as goal
 
+pub loop-e-init : goal.loop-e-init
+loop-e-init c = told_none c.args.to.now c.args.columns.now c.args.target c.args.set
+
+pub agreeing_at-left-requires-clause-shared : goal.agreeing_at-left-requires-clause-shared
+agreeing_at-left-requires-clause-shared c = λ a is. c.requires.columns c.loop-e.e a (omega arith) is
+
+pub agreeing_at-left-requires-clause-within : goal.agreeing_at-left-requires-clause-within
+agreeing_at-left-requires-clause-within c = λ j h. c.requires.within j ((c.loop-e.invariant j).0 h).0
+
 pub loop-e-preserved : goal.loop-e-preserved
-loop-e-preserved c = λ j.
-    let i = c.loop-e.invariant j in
-    let f = c.agreeing_at-left.ensures j in
-    let n = c.loop-e.e in
-    let P = λ (e : ℕ). (a : ℕ) (d : Sym) → get_or c.args.columns.now e None ≡ Some a → get_or c.args.target.now a d ≡ get_or (row_of c.args.to.now j) e d in (
-      λ h. let r = f.0 h in let s = i.0 r.0 in (s.0, below_more P n s.1 r.1),
-      λ h. f.1 (i.1 (h.0, λ e l. h.1 e (omega arith)), h.1 n (omega arith)),
-    )
+loop-e-preserved c = told_next c.args.to.now c.args.columns.now c.args.target c.args.set c.loop-e.e c.loop-e.left c.agreeing_at-left.result c.loop-e.invariant c.agreeing_at-left.ensures
+
+pub returns : goal.returns
+returns c = told_all c.args.to.now c.args.columns.now c.args.target c.args.set c.loop-e.e c.loop-e.left (omega arith) (omega arith) c.loop-e.invariant

@@ -9,14 +9,15 @@ use Rattle.su_map.proofs.tables.fill_row.Goals as goal
 use Rattle.su_map.proofs.tables.fill_row.Goals.{then-q-i+then-has+then-has-2, else-q-i, else-q-i-via-then-q-i+then-has+else-has-2, else-q-i-via-then-q-i+else-has, else-q-i-via-else-q-i}
 
 pub fill_shared-requires-clause-below : goal.fill_shared-requires-clause-below
-fill_shared-requires-clause-below c = λ k has. c.requires.symbols.rows c.loop-q.q [] (omega arith) k (subst (λ r. Contains r (Var k)) c.row-then-has-2.ensures.is has)
+fill_shared-requires-clause-below c = λ k has. c.requires.sides.symbols.rows c.loop-q.q [] (omega arith) k (subst (λ r. Contains r (Var k)) c.row-then-has-2.ensures.is has)
 
 pub fill_shared-requires-clause-noted : goal.fill_shared-requires-clause-noted
-fill_shared-requires-clause-noted c = λ k has. c.requires.noted c.args.i c.requires.row c.requires.in_mask k (subst (λ r. Contains r (Var k)) c.row.ensures.is has)
+fill_shared-requires-clause-noted c = λ k has. c.requires.sides.noted c.args.i c.requires.row c.requires.in_mask k (subst (λ r. Contains r (Var k)) c.row.ensures.is has)
 
 pub fill_pair-requires-clause-columns : goal.fill_pair-requires-clause-columns
 fill_pair-requires-clause-columns c = λ e a low is.
     let wide = c.row-then-has-2.ensures.width in
+    let same = c.requires.sides.width in
     let v = c.fill_shared.ensures.is_var e a (omega arith) is in
     let cell = c.fill_shared.ensures.some e a v.0 (omega arith) is v.1 in
     let b = cell.below in
@@ -28,13 +29,13 @@ fill_pair-requires-clause-within c = λ j h. c.requires.within c.loop-q.q j (ome
 
 pub loop-q-preserved : goal.loop-q-preserved
 loop-q-preserved c =
-    let from = c.args.from.now in let to = c.args.to.now in let base = c.args.base.now in let i = c.args.i in let n = c.loop-q.q in
-    let P = λ (q : ℕ). i ≢ q → bit_at c.args.mask q ≡ 1 → bit_at c.args.near q ≡ 1 → IsTold from to base i q c.if-q-i.agree in
+    let from = c.args.sides.now.from.now in let to = c.args.sides.now.to.now in let base = c.args.base.now in let i = c.args.i in let n = c.loop-q.q in
+    let P = λ (q : ℕ). i ≢ q → bit_at c.args.sides.now.mask q ≡ 1 → bit_at c.args.near q ≡ 1 → IsTold from to base i q c.if-q-i.agree in
     elim c.if-q-i.branch [
       | then-q-i+then-has+then-has-2 w ↦ record {
         before = λ x l. ap (λ a. get_or a x 0) w.agree-is ∙ w.fill_pair.ensures.before x (omega arith) ∙ c.loop-q.invariant.before x l;
         filled = below_more P n
-            (λ p l ne one near. subst (IsTold from to base i p) (sym w.agree-is) (told_kept from to base i p c.loop-q.agree w.fill_pair.new.agree (i * 4096 + n * 64) w.fill_pair.ensures.before (omega arith) c.requires.small (c.loop-q.invariant.filled p l ne one near)))
+            (λ p l ne one near. subst (IsTold from to base i p) (sym w.agree-is) (told_kept from to base i p c.loop-q.agree w.fill_pair.new.agree (i * 4096 + n * 64) w.fill_pair.ensures.before (omega arith) c.requires.sides.small (c.loop-q.invariant.filled p l ne one near)))
             (λ ne one near. subst (IsTold from to base i n) (sym w.agree-is) (record {
               columns = w.fill_shared.new.columns;
               shared = shared_is w.head.result.now from.head w.row.result.now (row_of from i) w.row-then-has-2.result.now (row_of from n) w.fill_shared.new.columns w.head.ensures w.row.ensures.is w.row-then-has-2.ensures.is w.fill_shared.ensures;

@@ -1,12 +1,12 @@
 use Rattle.std.proofs.Common.{◌≡◌, ◌<◌, ◌↔◌, ℕ, true, false, length, get_or}
 use Rattle.su_map.specs.Rooms.{IsRoomFor}
-use Rattle.su_min.specs.Cover.{Covers}
-use Rattle.su_min.specs.Reduction.{term_at}
+use Rattle.su_min.specs.inside.Matrix.{AreKnown}
+use Rattle.su_min.proofs.Rowing.{Tells}
 use Rattle.su_min.proofs.matrix.row_counted.Given as goal
 
-abbrev pub invariant-loop-other : goal.invariant-loop-other
-invariant-loop-other g l = record {
+abbrev pub invariant-loop-i : goal.invariant-loop-i
+invariant-loop-i g l = record {
   room : IsRoomFor l.term.tableau l.room;
-  columns : length l.row ≡ l.other-index;
-  tells : (i : ℕ) → i < l.other-index → (get_or l.row i false ≡ true) ↔ Covers l.term (term_at l.terms i);
+  columns : length l.row ≡ l.i;
+  tells : AreKnown l.terms l.marks → Tells l.term l.terms l.row l.i;
 }

@@ -8,8 +8,9 @@ pub semijoin-requires-clause-below : goal.semijoin-requires-clause-below
 semijoin-requires-clause-below t c =
     let few = c.if-order-lt2.false in
     let low = next_low c.args.edges.now c.args.order.now (omega (arith, few)) c.requires.ears c.requires.within in
+    let first = first_low c.args.edges.now c.args.order.now (omega (arith, few)) c.requires.within in
     let is = c.parent_or_next-parent.ensures in
-    (omega (arith, low, is), first_low c.args.edges.now c.args.order.now (omega (arith, few)) c.requires.within)
+    (omega (arith, low, first, is), omega (arith, low, first, is))
 
 pub reduce_along-requires : goal.reduce_along-requires
 reduce_along-requires t c =
@@ -30,8 +31,9 @@ pub semijoin-requires-2-clause-below : goal.semijoin-requires-2-clause-below
 semijoin-requires-2-clause-below t c =
     let few = c.if-order-lt2.false in
     let low = next_low c.args.edges.now c.args.order.now (omega (arith, few)) c.requires.ears c.requires.within in
+    let first = first_low c.args.edges.now c.args.order.now (omega (arith, few)) c.requires.within in
     let is = c.parent_or_next-parent.ensures in
-    (first_low c.args.edges.now c.args.order.now (omega (arith, few)) c.requires.within, omega (arith, low, is))
+    (omega (arith, low, first, is), omega (arith, low, first, is))
 
 pub returns : goal.returns
 returns t c =

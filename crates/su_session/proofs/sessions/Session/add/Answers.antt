@@ -17,8 +17,8 @@ returns-in-Err-clause-replied c =
     (IfOk-weaker c.refused.result (λ reply. Refuses old (Define (Schema c.in-Err.fault)) reply old) (λ reply. AddsDefinition old d reply old)
     (λ reply h. refused_schema old old d reply c.in-Err.fault (rw c.schema.ensures at c.in-Err.ensures.refused) h) c.refused.ensures)
 
-pub invariant_of-self-in-Err-define : goal.invariant_of-self-in-Err-define
-invariant_of-self-in-Err-define c =
+pub invariant_of-self-in-Err-adopt : goal.invariant_of-self-in-Err-adopt
+invariant_of-self-in-Err-adopt c =
     let old : DatabaseValue = c.self.inside.db in
-    let new : DatabaseValue = c.define.new.self in
-    subst (λ (db : DatabaseValue). AreMaximalObjects db.schema c.self.inside.maximal) (sym (same_when_refused old new c.args.definition.now c.in-Err-define.fault c.in-Err-define.ensures)) c.self.invariant
+    let new : DatabaseValue = c.adopt.new.self in
+    subst (λ (db : DatabaseValue). AreMaximalObjects db.schema c.self.inside.maximal) (sym (same_when_refused old new c.args.definition.now c.in-Err-adopt.fault c.in-Err-adopt.ensures)) c.self.invariant

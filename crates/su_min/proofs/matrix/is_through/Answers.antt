@@ -1,0 +1,7 @@
+use Rattle.std.proofs.Common.{◌≡◌, ◌∙◌, true, sym, rules}
+use Rattle.su_min.proofs.matrix.is_through.Goals as goal
+
+pub returns : goal.returns
+returns c = λ yes.
+    let one : c.args.first ≡ true = search rules in
+    (one, sym c.is_marked.ensures ∙ yes)

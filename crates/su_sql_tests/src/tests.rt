@@ -1,0 +1,150 @@
+use std::alloc::Global;
+use std::test::Fail;
+use std::thread::Threads;
+use su_base::NoMemory;
+use su_ddl::read;
+use su_par::OpenGate;
+use su_session::Session;
+use su_sql::{Dialect, statement};
+
+const BANK: &str = "
+    attribute BANK text; attribute ACCT int; attribute CUST text; attribute BAL int;
+    attribute LOAN int; attribute AMT int; attribute ADDR text;
+    relation BA (BANK text, ACCT int); relation AC (ACCT int, CUST text);
+    relation AB (ACCT int, BAL int); relation BL (BANK text, LOAN int);
+    relation LC (LOAN int, CUST text); relation LA (LOAN int, AMT int);
+    relation CA (CUST text, ADDR text);
+    object BANK_ACCT (BANK, ACCT) from BA (BANK, ACCT);
+    object ACCT_CUST (ACCT, CUST) from AC (ACCT, CUST);
+    object ACCT_BAL (ACCT, BAL) from AB (ACCT, BAL);
+    object BANK_LOAN (BANK, LOAN) from BL (BANK, LOAN);
+    object LOAN_CUST (LOAN, CUST) from LC (LOAN, CUST);
+    object LOAN_AMT (LOAN, AMT) from LA (LOAN, AMT);
+    object CUST_ADDR (CUST, ADDR) from CA (CUST, ADDR);
+    fd ACCT -> BANK; fd ACCT -> BAL; fd LOAN -> BANK; fd LOAN -> AMT; fd CUST -> ADDR;";
+
+fn opened(alloc: Global) -> Result<Option<Session>, NoMemory> {
+    match read(alloc, BANK.as_bytes()) {
+        Ok(schema) => Ok(Some(Session::open(alloc, schema)?)),
+        Err(_) => Ok(None),
+    }
+}
+
+// Whether each statement is written so, in order; a refusal begins with its comment.
+fn are_written<R: Threads + Sync>(
+    rt: &R,
+    alloc: Global,
+    cases: &[(Dialect, &str, &str)],
+) -> Result<bool, NoMemory> {
+    let Some(mut session) = opened(alloc)? else {
+        return Ok(false);
+    };
+    for (dialect, text, want) in cases {
+        let text = text.as_bytes();
+        let reply = statement(rt, alloc, *dialect, &mut session, text, &OpenGate)?;
+        if reply.bytes.as_slice() != want.as_bytes() {
+            return Ok(false);
+        }
+        if reply.refused != want.starts_with("-- refused") {
+            return Ok(false);
+        }
+    }
+    Ok(true)
+}
+
+#[test]
+fn a_retrieve_becomes_the_selects_of_its_kept_terms(rt: HostRuntime) -> Result<(), Fail> {
+    let banks = "retrieve (BANK) where CUST = 'Jones'";
+    let cases = [
+        (
+            Dialect::Postgres,
+            banks,
+            "select distinct r0.\"BANK\" collate \"C\" as \"BANK\"\nfrom \"BA\" r0, \"AC\" r1\nwhere r0.\"ACCT\" = r1.\"ACCT\" and r1.\"CUST\" = 'Jones'\nunion\nselect distinct r0.\"BANK\" collate \"C\" as \"BANK\"\nfrom \"BL\" r0, \"LC\" r1\nwhere r0.\"LOAN\" = r1.\"LOAN\" and r1.\"CUST\" = 'Jones'\norder by 1;\n",
+        ),
+        (
+            Dialect::Sqlite,
+            banks,
+            "select distinct r0.\"BANK\" collate binary as \"BANK\"\nfrom \"BA\" r0, \"AC\" r1\nwhere r0.\"ACCT\" = r1.\"ACCT\" and r1.\"CUST\" = 'Jones'\nunion\nselect distinct r0.\"BANK\" collate binary as \"BANK\"\nfrom \"BL\" r0, \"LC\" r1\nwhere r0.\"LOAN\" = r1.\"LOAN\" and r1.\"CUST\" = 'Jones'\norder by 1;\n",
+        ),
+        (
+            Dialect::Spark,
+            banks,
+            "select distinct r0.`BANK` as `BANK`\nfrom `BA` r0, `AC` r1\nwhere r0.`ACCT` = r1.`ACCT` and r1.`CUST` = 'Jones'\nunion\nselect distinct r0.`BANK` as `BANK`\nfrom `BL` r0, `LC` r1\nwhere r0.`LOAN` = r1.`LOAN` and r1.`CUST` = 'Jones'\norder by 1;\n",
+        ),
+        (
+            Dialect::Sqlite,
+            "retrieve (ADDR) where CUST = 'O''Hara'",
+            "select distinct r0.\"ADDR\" collate binary as \"ADDR\"\nfrom \"CA\" r0\nwhere r0.\"CUST\" = 'O''Hara'\norder by 1;\n",
+        ),
+        (
+            Dialect::Spark,
+            "retrieve (ADDR) where CUST >= 'O''Hara'",
+            "select distinct r0.`ADDR` as `ADDR`\nfrom `CA` r0\nwhere r0.`CUST` >= 'O\\'Hara'\norder by 1;\n",
+        ),
+        (
+            Dialect::Postgres,
+            "retrieve (t.CUST) where t.BAL > BAL and ACCT = 1",
+            "select distinct r0.\"CUST\" collate \"C\" as \"t.CUST\"\nfrom \"AC\" r0, \"AB\" r1, \"AB\" r2\nwhere r0.\"ACCT\" = r1.\"ACCT\" and r2.\"ACCT\" = 1 and r1.\"BAL\" > r2.\"BAL\"\norder by 1;\n",
+        ),
+        (
+            Dialect::Postgres,
+            "retrieve (ACCT)",
+            "select distinct r0.c0 as \"ACCT\"\nfrom (select \"ACCT\" as c0 from \"BA\" union select \"ACCT\" as c0 from \"AC\" union select \"ACCT\" as c0 from \"AB\") r0\norder by 1;\n",
+        ),
+        (
+            Dialect::Postgres,
+            "retrieve (BAL) where ACCT = 1 and ACCT = 2",
+            "select null as \"BAL\"\nwhere 1 = 0\norder by 1;\n",
+        ),
+        (
+            Dialect::Postgres,
+            "retrieve (ACCT, LOAN)",
+            "-- refused: no maximal object covers -: ACCT LOAN\n",
+        ),
+    ];
+    assert!(rt; are_written(&rt, rt.alloc(), &cases)?);
+    Ok(())
+}
+
+#[test]
+fn a_change_becomes_a_statement_and_a_load_a_comment(rt: HostRuntime) -> Result<(), Fail> {
+    let cases = [
+        (
+            Dialect::Postgres,
+            "insert BA ('B1', 1)",
+            "insert into \"BA\" select 'B1', 1 where not exists (select 1 from \"BA\" where \"BANK\" = 'B1' and \"ACCT\" = 1);\n",
+        ),
+        (
+            Dialect::Postgres,
+            "insert BA ('B2', 1)",
+            "-- refused: breaks ACCT -> BANK with row ('B1', 1)\n",
+        ),
+        (
+            Dialect::Sqlite,
+            "delete CA where not CUST <= 'Jones' or ADDR = 'x'",
+            "delete from \"CA\" where (not (\"CUST\" <= 'Jones' collate binary) or \"ADDR\" = 'x' collate binary);\n",
+        ),
+        (
+            Dialect::Spark,
+            "delete AB (1, -5)",
+            "delete from `AB` where `ACCT` = 1 and `BAL` = -5;\n",
+        ),
+        (
+            Dialect::Sqlite,
+            "print BL",
+            "select distinct \"BANK\" collate binary as \"BANK\", \"LOAN\" as \"LOAN\"\nfrom \"BL\"\norder by 1, 2;\n",
+        ),
+        (
+            Dialect::Sqlite,
+            "load AB from 'b.csv'",
+            "-- .import --csv --skip 1 'b.csv' \"AB\"\n",
+        ),
+        (
+            Dialect::Spark,
+            "relation N (X int, Y text)",
+            "create table `N` (`X` bigint, `Y` string);\n",
+        ),
+    ];
+    assert!(rt; are_written(&rt, rt.alloc(), &cases)?);
+    Ok(())
+}
