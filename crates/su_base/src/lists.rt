@@ -195,7 +195,7 @@ impl<T: Drop> List<T> {
     }
 }
 
-// So that `push(..)?` converts. The item is dropped.
+/// So that `push(..)?` converts. The item is dropped.
 impl<T: Drop> From<(T, NoMemory)> for NoMemory {
     fn from(refused: (T, NoMemory)) -> NoMemory {
         refused.1

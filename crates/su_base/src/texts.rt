@@ -42,7 +42,7 @@ impl<const N: usize> Held<N> {
         }
     }
 
-    // Makes it this text. Each byte is written once, where it stays.
+    /// Makes it this text. Each byte is written once, where it stays.
     #[inline(always)]
     fn fill(&mut self, text: &str)
         requires few { length text.now ≤ 255 }
@@ -75,8 +75,8 @@ pub struct Str {
     form: Form,
 }
 
-// Not derived: a derived drop stands in full, a call for each form, wherever a text goes out of scope,
-// and each layer above would prove it anew. This one is a single call there.
+/// Not derived: a derived drop stands in full, a call for each form, wherever a text goes out of scope,
+/// and each layer above would prove it anew. This one is a single call there.
 impl Drop for Str {
     fn drop(self) {
         let Str { form: _ } = self;
@@ -92,7 +92,7 @@ impl Model for Str {
     ghost view = { λ s. text_of s.form };
 }
 
-// The text in one place on the heap.
+/// The text in one place on the heap.
 fn placed<const N: usize>(alloc: Global, text: &str) -> Result<Box<Held<N>>, NoMemory>
     requires few { length text.now ≤ 255 }
     requires fits { length text.now ≤ N }
@@ -111,14 +111,14 @@ fn long(alloc: Global, text: &str) -> Result<Form, NoMemory>
 }
 
 impl Str {
-    // Whether the text lies in the value itself.
+    /// Whether the text lies in the value itself.
     pub(crate) fn is_short(text: &str) -> bool
         ensures { result ≡ true → length text.now ≤ 14 }
     {
         text.len() <= 14
     }
 
-    // The text, which lies in the value itself.
+    /// The text, which lies in the value itself.
     pub(crate) fn short(text: &str) -> Str
         requires { length text.now ≤ 14 }
         ensures { result ≡ text.now }
@@ -130,7 +130,7 @@ impl Str {
         }
     }
 
-    // Makes it a text that lies in the value itself.
+    /// Makes it a text that lies in the value itself.
     #[inline(always)]
     pub(crate) fn fill(&mut self, text: &str)
         requires { length text.now ≤ 14 }

@@ -42,7 +42,7 @@ impl Value {
         }
     }
 
-    // Makes it a text that lies in the value itself.
+    /// Makes it a text that lies in the value itself.
     #[inline(always)]
     fn fill(&mut self, text: &str)
         requires { length text.now ≤ 14 }
@@ -83,8 +83,8 @@ impl List<Value> {
         Ok(())
     }
 
-    // Adds a copy of the text at the end, of any length. It is not inlined, so that rows of short texts
-    // are filled in few registers.
+    /// Adds a copy of the text at the end, of any length. It is not inlined, so that rows of short texts
+    /// are filled in few registers.
     #[inline(never)]
     fn push_placed(&mut self, alloc: Global, text: &str) -> Result<(), NoMemory>
         ensures ok { OnOk result (self.new ≡ self.old ++ Value.Text text.now ∷ []) }

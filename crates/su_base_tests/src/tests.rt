@@ -92,7 +92,7 @@ fn a_list_gives_back_what_was_pushed(rt: HostRuntime) -> Result<(), Fail> {
     Ok(())
 }
 
-// Texts of at most 14 bytes lie in the value, longer ones on the heap: 13, 14, 15 and 16 bytes.
+/// Texts of at most 14 bytes lie in the value, longer ones on the heap: 13, 14, 15 and 16 bytes.
 #[test]
 fn texts_on_both_sides_of_the_limit_are_texts(rt: HostRuntime) -> Result<(), Fail> {
     let alloc = rt.alloc();
@@ -112,7 +112,7 @@ fn texts_on_both_sides_of_the_limit_are_texts(rt: HostRuntime) -> Result<(), Fai
     Ok(())
 }
 
-// Places on the heap hold 55 or 119 bytes, and strings what is longer.
+/// Places on the heap hold 55 or 119 bytes, and strings what is longer.
 #[test]
 fn a_row_takes_texts_of_any_length(rt: HostRuntime) -> Result<(), Fail> {
     let alloc = rt.alloc();
