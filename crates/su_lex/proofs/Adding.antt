@@ -1,5 +1,5 @@
 -- Fronts of what was to be added.
-use Rattle.std.proofs.Common.{◌≡◌, List, [], ◌∷◌, ◌++◌, refl, ap, sym, ◌∙◌, append_assoc, append-nil}
+use Rattle.std.proofs.Common.{◌≡◌, List, [], ◌++◌, refl, ap, sym, ◌∙◌, append_assoc, append-nil}
 use Rattle.su_lex.specs.Adding.{AddsFront}
 
 pub adds_none : {X : Type 0} (old new all : List X) → new ≡ old → AddsFront old new all

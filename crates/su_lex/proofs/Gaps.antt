@@ -2,7 +2,7 @@
 use Rattle.std.proofs.Common.{◌≡◌, ◌≤◌, ℕ, true, false, not, List, [], ◌∷◌, ◌++◌, ◌==◌, length, length-append, append_assoc, take, drop, get_or, ◌-◌, refl, ap, sym, ◌∙◌, arith, subst}
 use Rattle.std.proofs.lemmas.Bool.{false≢true}
 use Rattle.std.proofs.lemmas.Bool.Decides.{nat_tests}
-use Rattle.su_lex.specs.Blanks.{begins, is_space, IsRun, Comment, begins_comment, Gap}
+use Rattle.su_lex.specs.Blanks.{begins, is_space, Comment, begins_comment, Gap}
 use Rattle.su_lex.specs.Blanks as b
 use Rattle.std.proofs.lemmas.List.{take_rest, length-drop}
 use Rattle.su_lex.proofs.Runs.{run_same, run_at}

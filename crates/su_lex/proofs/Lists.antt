@@ -12,7 +12,7 @@ use Rattle.su_lex.proofs.Runs.{run_take}
 use Rattle.su_lex.specs.Blanks.{begins}
 use Rattle.su_lex.specs.Tokens.{IsToken, IsFirst, HasNoFirst, TokensAt, Tokens, quoted, sign_bytes}
 use Rattle.su_lex.proofs.Gaps.{IsSolid, gap_same, gap_solid, gap_trans, gap_suffix}
-use Rattle.su_lex.specs.Blanks.{Gap, is_space, begins_comment}
+use Rattle.su_lex.specs.Blanks.{Gap}
 use Rattle.su_lex.specs.Blanks as b
 use Rattle.su_base.specs.Name.{IsWord, is_letter_or_digit}
 use Rattle.su_lex.specs.inside.Classes.{class_at, class_of, sign_at}

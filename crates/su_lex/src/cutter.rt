@@ -1,6 +1,6 @@
 //! A file is cut into statements at each `;` that stands outside texts and comments.
-ghost use Rattle.std.specs.Prelude.{◌≡◌, ◌≤◌, length, true, false, not, ◌==◌, IfOk, All, ◌∷◌, ◌++◌, [], drop, OnOk, List as Items};
-ghost use Rattle.su_lex.specs.Blanks.{begins, Gap};
+ghost use Rattle.std.specs.Prelude.{◌≡◌, ◌≤◌, length, false, not, ◌==◌, IfOk, All, ◌∷◌, ◌++◌, [], drop, OnOk, List as Items};
+ghost use Rattle.su_lex.specs.Blanks.{begins};
 ghost use Rattle.su_lex.specs.Pieces.{after_mark, Part, Parts, Statement, added, Pieces, IsWithin};
 ghost use Rattle.su_lex.specs.declared.spans.Span.{Span as ASpan};
 

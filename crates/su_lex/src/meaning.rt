@@ -24,7 +24,7 @@ pub enum Symbol {
     Sign(Sign),
 }
 
-// What a token says; a word says its bytes.
+/// What a token says; a word says its bytes.
 fn symbol_at(alloc: Global, kind: TokenKind, front: &[u8]) -> Result<Symbol, NoMemory>
     requires { kind ≡ TokenKind.Word → IsWord front.now }
     ensures { IfOk result (λ x. x ≡ symbol_at kind front.now) }
@@ -40,7 +40,7 @@ fn symbol_at(alloc: Global, kind: TokenKind, front: &[u8]) -> Result<Symbol, NoM
     }
 }
 
-// The first symbol of a text, and how many bytes it takes.
+/// The first symbol of a text, and how many bytes it takes.
 fn first_symbol(alloc: Global, text: &[u8]) -> Result<(Symbol, usize), LexEnd>
     ensures found { IfOk result (λ t. IsFirstSymbol text.now t.0 t.1) }
     ensures none { IsErrOf result LexEnd.Syntax → HasNoFirst text.now }

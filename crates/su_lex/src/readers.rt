@@ -24,7 +24,7 @@ pub struct Reader {
     rest: VecDeque<Symbol>,
 }
 
-// Not derived, so that it is a single call wherever a reader goes out of scope above.
+/// Not derived, so that it is a single call wherever a reader goes out of scope above.
 impl Drop for Reader {
     fn drop(self) {
         let Reader { alloc: _, rest: _ } = self;
@@ -96,7 +96,7 @@ impl Reader {
         }
     }
 
-    // Lets the next symbol go.
+    /// Lets the next symbol go.
     fn skip(&mut self)
         ensures { (x : ASymbol) (more : Items ASymbol) → self.old ≡ x ∷ more → self.new ≡ more }
     {

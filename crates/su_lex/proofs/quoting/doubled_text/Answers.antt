@@ -1,4 +1,4 @@
-use Rattle.std.proofs.Common.{◌≡◌, ◌-◌, ◌+◌, Err, sym, ap, ◌∙◌, arith, length, length-append, drop}
+use Rattle.std.proofs.Common.{◌≡◌, ◌-◌, ◌+◌, Err, sym, ap, arith, length, length-append, drop}
 use Rattle.std.proofs.lemmas.List.{take_rest}
 use Rattle.std.proofs.lemmas.Result.{err_from_is_err_and}
 use Rattle.su_lex.specs.declared.ends.LexEnd.TheVariants.{Syntax}

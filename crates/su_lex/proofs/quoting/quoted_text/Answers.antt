@@ -1,4 +1,4 @@
-use Rattle.std.proofs.Common.{◌≡◌, ◌+◌, ◌∷◌, ◌++◌, Err, refl, sym, ap, arith, length, length-drop, take, drop}
+use Rattle.std.proofs.Common.{◌≡◌, ◌+◌, Err, refl, sym, ap, arith, length, length-drop, take, drop}
 use Rattle.std.proofs.lemmas.List.{take_rest}
 use Rattle.std.proofs.lemmas.Result.{err_from_is_err_and}
 use Rattle.su_lex.specs.declared.ends.LexEnd.TheVariants.{Syntax}
