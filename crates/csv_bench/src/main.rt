@@ -16,7 +16,7 @@ use std::time::CpuClock;
 use std::{env, io};
 use texts::{Shape, columns, text};
 
-// The shape that the words give, if they are three numbers in range.
+/// The shape that the words give, if they are three numbers in range.
 fn shape(rt: &HostRuntime) -> io::Result<Option<Shape>> {
     let mut numbers = Vec::new(rt.alloc());
     for word in env::args(rt)?.skip(1) {

@@ -12,7 +12,7 @@ use su_par::Gate;
 use su_schema::Schema;
 use su_session::Session;
 
-// Answers the statements of a script, one after another.
+/// Answers the statements of a script, one after another.
 fn take_script<R: Threads + Sync, G: Gate>(
     rt: &R,
     alloc: Global,
@@ -29,7 +29,7 @@ fn take_script<R: Threads + Sync, G: Gate>(
     Ok(())
 }
 
-// Explains the query and answers it, and gives its line.
+/// Explains the query and answers it, and gives its line.
 fn find<R: Threads + Sync, G: Gate>(
     rt: &R,
     alloc: Global,
@@ -51,7 +51,7 @@ fn find<R: Threads + Sync, G: Gate>(
     )
 }
 
-// Tells of the four queries, one after another.
+/// Tells of the four queries, one after another.
 fn push_lines<R: Threads + Sync, G: Gate>(
     rt: &R,
     alloc: Global,

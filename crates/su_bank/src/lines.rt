@@ -12,7 +12,7 @@ fn first_feed(text: &[u8]) -> Option<usize>
     text.iter().position(|b| *b == b'\n')
 }
 
-// What stands before the first line feed.
+/// What stands before the first line feed.
 pub(crate) fn first_line(text: &[u8]) -> &[u8]
     ensures { result.now ≡ first_line text.now }
 {
@@ -22,7 +22,7 @@ pub(crate) fn first_line(text: &[u8]) -> &[u8]
     }
 }
 
-// Where the last line begins: behind the last line feed.
+/// Where the last line begins: behind the last line feed.
 fn line_start(text: &[u8]) -> usize
     ensures { result + suffix_len (λ b. not (is_feed b)) text.now ≡ length text.now }
 {
@@ -33,7 +33,7 @@ fn line_start(text: &[u8]) -> usize
     start
 }
 
-// What stands behind the last line feed but the byte that ends the text.
+/// What stands behind the last line feed but the byte that ends the text.
 pub(crate) fn last_line(text: &[u8]) -> &[u8]
     ensures { result.now ≡ last_line text.now }
 {
@@ -41,7 +41,7 @@ pub(crate) fn last_line(text: &[u8]) -> &[u8]
     &front[line_start(front)..]
 }
 
-// The line of a query, by the replies to its explanation and to itself.
+/// The line of a query, by the replies to its explanation and to itself.
 pub(crate) fn found_line(
     alloc: Global,
     number: u32,

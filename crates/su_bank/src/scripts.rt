@@ -17,7 +17,7 @@ pub(crate) enum Cell {
     Street(u32),
 }
 
-// The value as it stands in the script.
+/// The value as it stands in the script.
 fn shown(alloc: Global, cell: Cell) -> Result<String, NoMemory>
     ensures { IfOk result (λ text. string_bytes text ≡ shown cell) }
 {
@@ -30,7 +30,7 @@ fn shown(alloc: Global, cell: Cell) -> Result<String, NoMemory>
     Ok(text)
 }
 
-// Adds the insert of a row.
+/// Adds the insert of a row.
 fn push_insert(
     alloc: Global,
     script: &mut String,
@@ -47,7 +47,7 @@ fn push_insert(
     Ok(())
 }
 
-// Adds the inserts of the i-th row of each relation.
+/// Adds the inserts of the i-th row of each relation.
 fn push_inserts(alloc: Global, script: &mut String, i: u32) -> Result<(), NoMemory>
     requires { i ≤ 1000 }
     ensures { OnOk result (string_bytes script.new ≡ string_bytes script.old ++ inserts_of i) }

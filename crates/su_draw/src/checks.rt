@@ -19,7 +19,7 @@ pub(crate) fn is_word(word: &List<u8>, text: &str) -> bool
     word.as_slice() == text.as_bytes()
 }
 
-// Whether the word is the decimal of this number.
+/// Whether the word is the decimal of this number.
 pub(crate) fn is_number(word: &List<u8>, number: usize) -> bool
     ensures { result ≡ is_decimal number word.now }
 {
@@ -29,7 +29,7 @@ pub(crate) fn is_number(word: &List<u8>, number: usize) -> bool
     }
 }
 
-// Whether the word is the decimal of a number below this one.
+/// Whether the word is the decimal of a number below this one.
 pub(crate) fn is_below(word: &List<u8>, end: usize) -> bool
     ensures { result ≡ is_decimal_below end word.now }
 {
@@ -45,7 +45,7 @@ pub(crate) fn are_below(words: &[List<u8>], end: usize) -> bool
     words.iter().all(|word| is_below(word, end))
 }
 
-// Whether the word ends with this byte.
+/// Whether the word ends with this byte.
 fn ends_with(word: &List<u8>, byte: u8) -> bool
     ensures { result ≡ ends byte word.now }
 {
@@ -55,7 +55,7 @@ fn ends_with(word: &List<u8>, byte: u8) -> bool
     }
 }
 
-// Whether the word begins with this byte.
+/// Whether the word begins with this byte.
 fn starts_with(word: &List<u8>, byte: u8) -> bool
     ensures { result ≡ begins byte word.now }
 {
@@ -65,7 +65,7 @@ fn starts_with(word: &List<u8>, byte: u8) -> bool
     }
 }
 
-// Whether each word ends with a comma, but the last with this byte.
+/// Whether each word ends with a comma, but the last with this byte.
 fn are_separated(words: &[List<u8>], end: u8) -> bool
     ensures { result ≡ separated end words.now }
 {
@@ -76,7 +76,7 @@ fn are_separated(words: &[List<u8>], end: u8) -> bool
     }
 }
 
-// Whether the words are names in parentheses, separated by commas, and then this byte.
+/// Whether the words are names in parentheses, separated by commas, and then this byte.
 pub(crate) fn are_listed(words: &[List<u8>], end: u8) -> bool
     ensures { result ≡ listed end words.now }
 {
@@ -86,7 +86,7 @@ pub(crate) fn are_listed(words: &[List<u8>], end: u8) -> bool
     }
 }
 
-// Whether each word has a sign of equality.
+/// Whether each word has a sign of equality.
 pub(crate) fn are_cells(words: &[List<u8>]) -> bool
     ensures { result ≡ cells words.now }
 {

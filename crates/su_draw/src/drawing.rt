@@ -13,7 +13,7 @@ use crate::things::{Thing, What, all_things};
 use std::alloc::{AllocError, Global};
 use su_base::{List, NoMemory};
 
-// How a text is laid out.
+/// How a text is laid out.
 #[derive(Drop)]
 enum Plan<'a> {
     Explanation(Layout<'a>),
@@ -52,7 +52,7 @@ impl<'a> Plan<'a> {
     }
 }
 
-// How far to the right a shape goes.
+/// How far to the right a shape goes.
 fn right_of(thing: &Thing, place: Place) -> u32 {
     match thing.what {
         What::Fold => place.edge.max(place.lane),
@@ -60,7 +60,7 @@ fn right_of(thing: &Thing, place: Place) -> u32 {
     }
 }
 
-// How far to the right a heading or a line goes.
+/// How far to the right a heading or a line goes.
 fn end_of(help: &Help) -> u32 {
     match help {
         Help::Heading { x, text, .. } => x.saturating_add(width_of(text.as_slice())),
@@ -69,7 +69,7 @@ fn end_of(help: &Help) -> u32 {
     }
 }
 
-// The things at their places.
+/// The things at their places.
 fn shapes_of(alloc: Global, plan: &Plan, things: List<Thing>) -> Result<List<Shape>, NoMemory>
     ensures { IfOk result (λ shapes. things_in_shapes shapes ≡ things) }
 {
@@ -81,7 +81,7 @@ fn shapes_of(alloc: Global, plan: &Plan, things: List<Thing>) -> Result<List<Sha
     Ok(shapes)
 }
 
-// How far to the right the picture goes.
+/// How far to the right the picture goes.
 fn right_end(helps: &[Help], shapes: &[Shape]) -> u32 {
     let mut right: u32 = 100;
     for help in helps {

@@ -47,7 +47,7 @@ fn attribute(alloc: Global, out: &mut Vec<u8>, pair: Pair) -> Result<(), NoMemor
     }
 }
 
-// The beginning of an element, up to what is inside.
+/// The beginning of an element, up to what is inside.
 pub(crate) fn open(
     alloc: Global,
     out: &mut Vec<u8>,
@@ -64,7 +64,7 @@ pub(crate) fn open(
     push(out, ">")
 }
 
-// The end of an element, and of its line.
+/// The end of an element, and of its line.
 pub(crate) fn close(out: &mut Vec<u8>, name: &str) -> Result<(), NoMemory>
     ensures { OnOk result (out.new.items ≡ out.old.items ++ (codes "</" ++ name.now ++ codes ">\n")) }
 {
@@ -73,7 +73,7 @@ pub(crate) fn close(out: &mut Vec<u8>, name: &str) -> Result<(), NoMemory>
     push(out, ">\n")
 }
 
-// An element with a text inside.
+/// An element with a text inside.
 pub(crate) fn element(
     alloc: Global,
     out: &mut Vec<u8>,

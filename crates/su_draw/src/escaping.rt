@@ -7,7 +7,7 @@ use crate::parts::{push, push_number};
 use std::alloc::Global;
 use su_base::NoMemory;
 
-// Whether the character stands for itself.
+/// Whether the character stands for itself.
 fn is_plain_sign(code: u32) -> bool
     ensures { result ≡ (is_plain code && not (code == 10)) }
 {
@@ -19,7 +19,7 @@ fn is_plain_sign(code: u32) -> bool
         && !(code == 34 || code == 38 || code == 39 || code == 60 || code == 62)
 }
 
-// The character that is shown: control characters by their pictures, what is none of XML by U+FFFD.
+/// The character that is shown: control characters by their pictures, what is none of XML by U+FFFD.
 fn shown(code: u32) -> u32
     ensures { result ≡ shown_for code }
 {
@@ -35,7 +35,7 @@ fn shown(code: u32) -> u32
     0xFFFD
 }
 
-// A character: itself, or a reference to the one that is shown.
+/// A character: itself, or a reference to the one that is shown.
 fn push_code(alloc: Global, out: &mut Vec<u8>, code: u32) -> Result<(), NoMemory>
     ensures { OnOk result (out.new.items ≡ out.old.items ++ char_text code) }
 {
@@ -59,7 +59,7 @@ const NONE: Begun = Begun { left: 0, bits: 0 };
 
 const BROKEN: u32 = 0xFFFD;
 
-// What a byte begins.
+/// What a byte begins.
 fn begun_by(byte: u8) -> Begun
     ensures { result ≡ begun_with byte }
 {
@@ -84,14 +84,14 @@ fn begun_by(byte: u8) -> Begun
     NONE
 }
 
-// The bits with those of one more byte.
+/// The bits with those of one more byte.
 fn more(bits: u32, byte: u8) -> u32
     ensures { result ≡ bits_with bits byte }
 {
     bits % 32768 * 64 + byte as u32 % 64
 }
 
-// A byte that is a character, or begins one, or neither.
+/// A byte that is a character, or begins one, or neither.
 fn push_first(alloc: Global, out: &mut Vec<u8>, byte: u8) -> Result<(), NoMemory>
     ensures { OnOk result (out.new.items ≡ out.old.items ++ first_text byte) }
 {
@@ -101,14 +101,14 @@ fn push_first(alloc: Global, out: &mut Vec<u8>, byte: u8) -> Result<(), NoMemory
     push_code(alloc, out, if byte < 128 { byte as u32 } else { BROKEN })
 }
 
-// Whether the byte goes on with a character.
+/// Whether the byte goes on with a character.
 fn continues(byte: u8) -> bool
     ensures { result ≡ goes_on byte }
 {
     128 <= byte && byte < 192
 }
 
-// What is written at the next byte.
+/// What is written at the next byte.
 fn push_byte(alloc: Global, out: &mut Vec<u8>, begun: Begun, byte: u8) -> Result<(), NoMemory>
     ensures { OnOk result (out.new.items ≡ out.old.items ++ byte_text begun byte) }
 {
@@ -125,7 +125,7 @@ fn push_byte(alloc: Global, out: &mut Vec<u8>, begun: Begun, byte: u8) -> Result
     Ok(())
 }
 
-// What has begun behind it.
+/// What has begun behind it.
 fn behind_byte(begun: Begun, byte: u8) -> Begun
     ensures { result ≡ begun_behind begun byte }
 {

@@ -21,7 +21,7 @@ pub(crate) struct Layout<'a> {
     pub(crate) left: u32,
 }
 
-// How far a line is below the one before it.
+/// How far a line is below the one before it.
 fn step_to(kind: Kind) -> u32 {
     match kind {
         Kind::Kept | Kind::Fold | Kind::Sources => 0,
@@ -30,7 +30,7 @@ fn step_to(kind: Kind) -> u32 {
     }
 }
 
-// How far the next line is below a line, beside its own step: the names of columns stand below a term's.
+/// How far the next line is below a line, beside its own step: the names of columns stand below a term's.
 fn step_from(kind: Kind) -> u32 {
     match kind {
         Kind::Term => HIGH,
@@ -58,7 +58,7 @@ impl<'a> Layout<'a> {
         Ok(layout)
     }
 
-    // Takes the next line.
+    /// Takes the next line.
     fn add(&mut self, alloc: Global, number: usize, line: &'a Line) -> Result<(), AllocError> {
         if line.kind == Kind::Term {
             self.tables.push(Table::new(alloc, number))?;
@@ -79,7 +79,7 @@ impl<'a> Layout<'a> {
         self.heights.get(line).copied().unwrap_or(0)
     }
 
-    // The table of the term that the line belongs to.
+    /// The table of the term that the line belongs to.
     fn table_of(&self, line: usize) -> Option<&Table<'a>> {
         self.tables.iter().rev().find(|table| table.term <= line)
     }
@@ -91,7 +91,7 @@ impl<'a> Layout<'a> {
         }
     }
 
-    // Whether the row is none of the kept ones.
+    /// Whether the row is none of the kept ones.
     fn is_light(&self, table: &Table, row: &[u8]) -> bool {
         !self
             .words(table.kept)
@@ -100,12 +100,12 @@ impl<'a> Layout<'a> {
             .any(|kept| are_same(kept.as_slice(), row))
     }
 
-    // The height of a row of a term, whose rows stand directly behind its own line.
+    /// The height of a row of a term, whose rows stand directly behind its own line.
     fn row_height(&self, table: &Table, row: usize) -> u32 {
         self.height(table.term.saturating_add(1).saturating_add(row))
     }
 
-    // The number that stands in a line.
+    /// The number that stands in a line.
     fn number(&self, line: usize, word: usize) -> usize {
         number_of(word_at(self.words(line), word)).unwrap_or(0)
     }
@@ -125,7 +125,7 @@ impl<'a> Layout<'a> {
         }
     }
 
-    // A row's number, its variable, its object or a symbol of it.
+    /// A row's number, its variable, its object or a symbol of it.
     fn in_row(&self, table: &Table, thing: &Thing) -> Place {
         let words = self.words(thing.line);
         let (left, colour) = match thing.word {
@@ -208,7 +208,7 @@ impl<'a> Layout<'a> {
         }
     }
 
-    // The names of a table's columns.
+    /// The names of a table's columns.
     fn add_headings(
         &self,
         alloc: Global,
@@ -226,7 +226,7 @@ impl<'a> Layout<'a> {
         Ok(())
     }
 
-    // The grounds of a table's kept rows.
+    /// The grounds of a table's kept rows.
     fn add_bands(&self, helps: &mut Vec<Help>, table: &Table) -> Result<(), AllocError> {
         for row in self.words(table.kept).iter().skip(3) {
             let row = number_of(row.as_slice()).unwrap_or(0);

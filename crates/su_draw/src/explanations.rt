@@ -6,7 +6,7 @@ use crate::checks::{are_below, are_cells, is_below, is_number, is_word};
 use crate::states::State;
 use su_base::List;
 
-// How far numbers of disjuncts, maximal objects and terms go.
+/// How far numbers of disjuncts, maximal objects and terms go.
 const END: usize = 1000;
 
 pub(crate) fn fits_term(state: &State, words: &[List<u8>]) -> bool

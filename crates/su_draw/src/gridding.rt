@@ -9,7 +9,7 @@ use crate::shapes::{Help, Place};
 use crate::things::{Thing, What, name_in};
 use std::alloc::{AllocError, Global};
 
-// Where the first line of objects is, and how far apart they are.
+/// Where the first line of objects is, and how far apart they are.
 const TOP: u32 = 80;
 
 /// What is laid out: the attributes, the objects and the maximal objects, each with where it is.
@@ -22,7 +22,7 @@ pub(crate) struct Grid<'a> {
     maximal: Vec<Spot<'a>>,
 }
 
-// A name and where it is: how far from the left end or from the top, and how wide it is.
+/// A name and where it is: how far from the left end or from the top, and how wide it is.
 #[derive(Drop)]
 struct Spot<'a> {
     name: &'a [u8],
@@ -30,12 +30,12 @@ struct Spot<'a> {
     width: u32,
 }
 
-// Where the named one is.
+/// Where the named one is.
 fn spot_of<'s, 'a>(spots: &'s [Spot<'a>], name: &[u8]) -> Option<&'s Spot<'a>> {
     spots.iter().find(|spot| are_same(spot.name, name))
 }
 
-// Where the middle of the named one is.
+/// Where the middle of the named one is.
 fn middle_of(spots: &[Spot], name: &[u8]) -> u32 {
     match spot_of(spots, name) {
         Some(spot) => spot.at.saturating_add(spot.width / 2),
@@ -44,7 +44,7 @@ fn middle_of(spots: &[Spot], name: &[u8]) -> u32 {
 }
 
 impl<'a> Grid<'a> {
-    // The names of the objects, from the top down.
+    /// The names of the objects, from the top down.
     fn add_objects(&mut self) -> Result<(), AllocError> {
         let mut at = TOP;
         for line in self.lines.iter() {
@@ -59,7 +59,7 @@ impl<'a> Grid<'a> {
         Ok(())
     }
 
-    // The names of the attributes, and behind them the numbers of the maximal objects.
+    /// The names of the attributes, and behind them the numbers of the maximal objects.
     fn add_columns(&mut self) -> Result<(), AllocError> {
         let mut at = self.left;
         for line in self.lines.iter() {
@@ -105,7 +105,7 @@ impl<'a> Grid<'a> {
         }
     }
 
-    // Where the named object is.
+    /// Where the named object is.
     fn height_of(&self, name: &[u8]) -> u32 {
         match spot_of(self.objects.as_slice(), name) {
             Some(spot) => spot.at,
@@ -150,7 +150,7 @@ impl<'a> Grid<'a> {
         }
     }
 
-    // The line of an object, from its first dot to its last one.
+    /// The line of an object, from its first dot to its last one.
     fn object_rule(&self, line: &Line) -> Help {
         let words = line.words.as_slice();
         let y = self.height_of(word_at(words, 1)).saturating_sub(4);
@@ -172,7 +172,7 @@ impl<'a> Grid<'a> {
         }
     }
 
-    // The line of a maximal object, from its first square to its last one.
+    /// The line of a maximal object, from its first square to its last one.
     fn maximal_rule(&self, line: &Line) -> Help {
         let words = line.words.as_slice();
         let x = middle_of(self.maximal.as_slice(), word_at(words, 3));

@@ -2,7 +2,7 @@
 ghost use Rattle.std.specs.Prelude.{◌≡◌, ◌<◌, ◌∷◌, [], IfSome};
 ghost use Rattle.su_draw.specs.Numbers.{digit_of, with_digit, number_in};
 
-// The digit.
+/// The digit.
 fn digit(byte: u8) -> Option<usize>
     ensures digit { result ≡ digit_of byte }
     ensures below { IfSome result (λ d. d < 10) }
@@ -13,7 +13,7 @@ fn digit(byte: u8) -> Option<usize>
     None
 }
 
-// The number with one more digit behind it.
+/// The number with one more digit behind it.
 fn more(front: usize, byte: u8) -> Option<usize>
     requires { front < 100 }
     ensures number { result ≡ with_digit byte front }

@@ -12,7 +12,7 @@ use crate::schemas::{fits_attribute, fits_maximal, fits_object};
 use crate::states::State;
 use su_base::List;
 
-// The place of a definition among the definitions, from 1; 0 for a line of an explanation.
+/// The place of a definition among the definitions, from 1; 0 for a line of an explanation.
 fn rank(kind: Kind) -> u8
     ensures { result ≡ rank_of kind }
 {
@@ -27,7 +27,7 @@ fn rank(kind: Kind) -> u8
     }
 }
 
-// Whether a definition of this kind may stand there.
+/// Whether a definition of this kind may stand there.
 fn may_define(last: Option<Kind>, kind: Kind) -> bool
     ensures { result ≡ defines_behind last kind }
 {
@@ -37,7 +37,7 @@ fn may_define(last: Option<Kind>, kind: Kind) -> bool
     }
 }
 
-// Whether a term may begin, or the terms end.
+/// Whether a term may begin, or the terms end.
 fn is_between_terms(state: &State) -> bool
     ensures { result ≡ between_terms state.now state.now.last }
 {
@@ -48,7 +48,7 @@ fn is_between_terms(state: &State) -> bool
     }
 }
 
-// Whether a line of this kind may stand there.
+/// Whether a line of this kind may stand there.
 fn may_follow(state: &State, kind: Kind) -> bool
     ensures { result ≡ follows state.now kind state.now.last }
 {
@@ -66,7 +66,7 @@ fn may_follow(state: &State, kind: Kind) -> bool
     }
 }
 
-// What is known behind such a line.
+/// What is known behind such a line.
 fn behind(state: &State, kind: Kind, words: usize) -> State
     requires { has_room_in state.now ≡ true }
     ensures { result ≡ state_behind state.now kind words }
@@ -93,7 +93,7 @@ fn behind(state: &State, kind: Kind, words: usize) -> State
     next
 }
 
-// Whether no count is past 999.
+/// Whether no count is past 999.
 fn has_room(state: &State) -> bool
     ensures { result ≡ has_room_in state.now }
 {
@@ -104,7 +104,7 @@ fn has_room(state: &State) -> bool
         && state.maximal < 1000
 }
 
-// Whether the words are those of a line of this kind.
+/// Whether the words are those of a line of this kind.
 fn fits_line(state: &State, kind: Kind, words: &[List<u8>]) -> bool
     requires { state.now.rows < 1000 }
     ensures { result ≡ fits state.now kind words.now }

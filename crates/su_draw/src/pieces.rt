@@ -27,7 +27,7 @@ pub struct Cut {
 }
 
 impl Cut {
-    // Nothing has been cut yet.
+    /// Nothing has been cut yet.
     fn new(alloc: Global) -> Cut
         ensures { result ≡ nothing_cut }
     {
@@ -41,7 +41,7 @@ impl Cut {
         }
     }
 
-    // The word that has begun ends.
+    /// The word that has begun ends.
     fn end_word(&mut self, alloc: Global) -> Result<(), NoMemory>
         ensures { OnOk result (self.new ≡ word_ended self.old) }
     {
@@ -50,7 +50,7 @@ impl Cut {
         Ok(())
     }
 
-    // The line that has begun ends, with its last word.
+    /// The line that has begun ends, with its last word.
     fn end_line(&mut self, alloc: Global) -> Result<(), NoMemory>
         ensures { OnOk result (self.new ≡ line_ended self.old) }
     {
@@ -64,7 +64,7 @@ impl Cut {
         Ok(())
     }
 
-    // One more byte of the word that has begun.
+    /// One more byte of the word that has begun.
     fn grow(&mut self, byte: u8) -> Result<(), NoMemory>
         ensures { OnOk result (self.new ≡ grown self.old byte) }
     {
@@ -75,7 +75,7 @@ impl Cut {
         Ok(())
     }
 
-    // A line feed is counted.
+    /// A line feed is counted.
     fn count(&mut self, byte: u8)
         requires { self.old.next < 2 ^ 64 - 1 }
         ensures { self.new ≡ counted self.old byte }
@@ -85,7 +85,7 @@ impl Cut {
         }
     }
 
-    // The next byte.
+    /// The next byte.
     fn take(&mut self, alloc: Global, byte: u8) -> Result<(), NoMemory>
         requires { self.old.next < 2 ^ 64 - 1 }
         ensures { OnOk result (self.new ≡ taken self.old byte) }

@@ -35,7 +35,7 @@ impl From<NoMemory> for Fault {
     }
 }
 
-// So that `push(..)?` converts. The line is dropped.
+/// So that `push(..)?` converts. The line is dropped.
 impl From<(Line, NoMemory)> for Fault {
     ghost from_gives = { λ _ f. f ≡ OutOfMemory };
 
@@ -44,7 +44,7 @@ impl From<(Line, NoMemory)> for Fault {
     }
 }
 
-// The line, if it may stand there, and what is known behind it.
+/// The line, if it may stand there, and what is known behind it.
 fn line_of(state: &State, piece: Piece) -> Result<(Line, State), usize>
     ensures line { IfOk result (λ r. IsLineOf r.0 piece.words × (behind_words state.now piece.words ≡ Some r.1)) }
     ensures fault { IfErr result (λ n. (behind_words state.now piece.words ≡ None) × (n ≡ piece.number)) }
@@ -59,7 +59,7 @@ fn line_of(state: &State, piece: Piece) -> Result<(Line, State), usize>
     }
 }
 
-// The lines that the pieces are read as, and what is known behind them.
+/// The lines that the pieces are read as, and what is known behind them.
 fn read_pieces(alloc: Global, pieces: List<Piece>) -> Result<(List<Line>, State), Fault>
     ensures read { IfOk result (λ r. AreRead at_start pieces r.0 r.1) }
     ensures fault { IfErr result (IsFaultAmong pieces) }
@@ -78,7 +78,7 @@ fn read_pieces(alloc: Global, pieces: List<Piece>) -> Result<(List<Line>, State)
     Ok((lines, state))
 }
 
-// The lines, if the text may end behind them, or the number of the line that is wanting.
+/// The lines, if the text may end behind them, or the number of the line that is wanting.
 fn ended(lines: List<Line>, state: &State, whole: bool, number: usize) -> Result<List<Line>, Fault>
     ensures ok { IfOk result (λ ls. (ls ≡ lines) × ((whole && may_end state.now.last) ≡ true)) }
     ensures fault { IfErr result (λ f. (f ≡ Fault.Line number) × ((whole && may_end state.now.last) ≡ false)) }

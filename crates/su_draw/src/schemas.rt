@@ -6,7 +6,7 @@ use crate::checks::{are_listed, is_number, is_word};
 use crate::states::State;
 use su_base::List;
 
-// Whether the words are `attribute`, a name and a kind.
+/// Whether the words are `attribute`, a name and a kind.
 pub(crate) fn fits_attribute(words: &[List<u8>]) -> bool
     ensures { result ≡ attribute_fits words.now }
 {

@@ -46,7 +46,7 @@ impl<'a> Table<'a> {
         }
     }
 
-    // The attribute has a column that is so wide at least.
+    /// The attribute has a column that is so wide at least.
     fn widen(&mut self, name: &'a [u8], width: u32) -> Result<(), AllocError> {
         for column in self.columns.iter_mut() {
             if column.name == name {
@@ -58,7 +58,7 @@ impl<'a> Table<'a> {
         Ok(())
     }
 
-    // A symbol stands in one more cell.
+    /// A symbol stands in one more cell.
     fn meet(&mut self, symbol: &'a [u8]) -> Result<(), AllocError> {
         if place_among(self.once.as_slice(), symbol).is_none() {
             self.once.push(symbol)?;
@@ -68,7 +68,7 @@ impl<'a> Table<'a> {
         Ok(())
     }
 
-    // One more row.
+    /// One more row.
     fn add_row(&mut self, line: &'a Line) -> Result<(), AllocError> {
         let words = line.words.as_slice();
         for (front, k) in self.fronts.iter_mut().zip(3..6) {
@@ -83,7 +83,7 @@ impl<'a> Table<'a> {
         Ok(())
     }
 
-    // The rows that others fold to.
+    /// The rows that others fold to.
     fn add_targets(&mut self, line: &Line) -> Result<(), AllocError> {
         for (row, word) in line.words.as_slice().iter().skip(3).enumerate() {
             if let Some(target) = number_of(word.as_slice())

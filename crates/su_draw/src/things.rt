@@ -47,21 +47,21 @@ pub struct Thing {
     pub text: List<u8>,
 }
 
-// The words from this one on.
+/// The words from this one on.
 fn what_from(first: usize, what: What, k: usize) -> Option<What>
     ensures { result ≡ drawn_from first what k }
 {
     if first <= k { Some(what) } else { None }
 }
 
-// The word at this place alone.
+/// The word at this place alone.
 fn what_at(place: usize, what: What, k: usize) -> Option<What>
     ensures { result ≡ drawn_at place what k }
 {
     if k == place { Some(what) } else { None }
 }
 
-// In a line of a row: its number, its variable and object, its cells.
+/// In a line of a row: its number, its variable and object, its cells.
 fn what_in_row(k: usize) -> Option<What>
     ensures { result ≡ drawn_in_row k }
 {
@@ -74,7 +74,7 @@ fn what_in_row(k: usize) -> Option<What>
     what_from(6, What::Symbol, k)
 }
 
-// Whether the word is the decimal of its place among the rows.
+/// Whether the word is the decimal of its place among the rows.
 fn stays(k: usize, word: &[u8]) -> bool
     requires { 3 ≤ k }
     ensures { result ≡ is_decimal (k - 3) word.now }
@@ -85,7 +85,7 @@ fn stays(k: usize, word: &[u8]) -> bool
     }
 }
 
-// In the line of a fold: the rows that go to another one.
+/// In the line of a fold: the rows that go to another one.
 fn what_in_fold(k: usize, word: &[u8]) -> Option<What>
     ensures { result ≡ drawn_in_fold k word.now }
 {
@@ -95,7 +95,7 @@ fn what_in_fold(k: usize, word: &[u8]) -> Option<What>
     Some(What::Fold)
 }
 
-// In the line of a cover: the number of the covering term, and the words round it.
+/// In the line of a cover: the number of the covering term, and the words round it.
 fn what_in_cover(k: usize) -> Option<What>
     ensures { result ≡ drawn_in_cover k }
 {
@@ -105,7 +105,7 @@ fn what_in_cover(k: usize) -> Option<What>
     what_from(2, What::Label, k)
 }
 
-// In the definition of an object with so many words: its name, its attributes.
+/// In the definition of an object with so many words: its name, its attributes.
 fn what_in_object(words: usize, k: usize) -> Option<What>
     ensures { result ≡ drawn_in_object words k }
 {
@@ -118,7 +118,7 @@ fn what_in_object(words: usize, k: usize) -> Option<What>
     None
 }
 
-// In the line of a maximal object: its number, whether it is declared, its objects.
+/// In the line of a maximal object: its number, whether it is declared, its objects.
 fn what_in_maximal(k: usize) -> Option<What>
     ensures { result ≡ drawn_in_maximal k }
 {
@@ -175,7 +175,7 @@ pub(crate) fn behind(word: &[u8]) -> &[u8]
     word
 }
 
-// What is written for a word.
+/// What is written for a word.
 fn text_in(what: What, word: &[u8]) -> &[u8]
     ensures { result.now ≡ text_shown what word.now }
 {
@@ -185,7 +185,7 @@ fn text_in(what: What, word: &[u8]) -> &[u8]
     }
 }
 
-// Adds the thing of a word, if it is drawn.
+/// Adds the thing of a word, if it is drawn.
 fn add_thing(
     alloc: Global,
     things: &mut List<Thing>,

@@ -13,7 +13,7 @@ use crate::things::What;
 use std::alloc::Global;
 use su_base::{List, NoMemory};
 
-// The colour with this number; each is dark enough on white.
+/// The colour with this number; each is dark enough on white.
 fn colour(number: u8) -> &'static str
     ensures { result.now ≡ colour_of number }
 {
@@ -75,7 +75,7 @@ fn add_number(alloc: Global, text: &mut String, number: u32) -> Result<(), NoMem
     add(text, digits.as_str())
 }
 
-// The way of an arrow.
+/// The way of an arrow.
 fn way(alloc: Global, place: Place, head: &str) -> Result<String, NoMemory>
     ensures { IfOk result (λ text. string_bytes text ≡ way_of place head.now) }
 {
@@ -186,7 +186,7 @@ fn ground(alloc: Global, out: &mut Vec<u8>) -> Result<(), NoMemory>
     element(alloc, out, "rect", &pairs, &[])
 }
 
-// The beginning of the picture's element.
+/// The beginning of the picture's element.
 fn start(alloc: Global, out: &mut Vec<u8>, picture: &Picture) -> Result<(), NoMemory>
     ensures { OnOk result (out.new.items ≡ out.old.items ++ (codes "<svg" ++ flat_map attribute_text (svg_attributes picture.now) ++ codes ">")) }
 {

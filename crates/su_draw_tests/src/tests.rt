@@ -7,7 +7,7 @@ use su_draw::{Fault, picture_of, read};
 const FOLDED: &str =
     "query: retrieve (A) where B = 'x < \"y\" & é'\nvariables -\nterm 0 disjunct 0 choice 0\n  row 0 - AB A=A B='x < \"y\" & é'\n  row 1 - AC A=A C=C\n  head A\n  kept 0\n  fold 0 0\n  sources 0 AB\nterms 1 kept 1\n";
 
-// The number of the line at fault, 0 where there is none.
+/// The number of the line at fault, 0 where there is none.
 fn fault_of(alloc: Global, text: &str) -> usize {
     match read(alloc, text.as_bytes()) {
         Ok(_) => 0,

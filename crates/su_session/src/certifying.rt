@@ -17,10 +17,10 @@ use su_schema::Schema;
 use su_show::Refusal;
 use su_state::Database;
 
-// How many nodes all trees of a certificate have at most.
+/// How many nodes all trees of a certificate have at most.
 const NODES: u32 = 200_000;
 
-// The kinds of all attributes.
+/// The kinds of all attributes.
 fn kinds_of(alloc: Global, schema: &Schema) -> Result<List<Kind>, NoMemory>
     ensures { IfOk result (λ kinds. kinds ≡ attribute_kinds schema.now) }
 {
@@ -32,7 +32,7 @@ fn kinds_of(alloc: Global, schema: &Schema) -> Result<List<Kind>, NoMemory>
     Ok(kinds)
 }
 
-// The certificate of a query, or why it is refused. Want of memory is handed on.
+/// The certificate of a query, or why it is refused. Want of memory is handed on.
 pub(crate) fn certify<R: Threads + Sync, G: Gate>(
     rt: &R,
     alloc: Global,

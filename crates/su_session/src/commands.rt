@@ -20,7 +20,7 @@ pub enum Command {
     Refused(QueryFault),
 }
 
-// Whether the symbols begin a definition.
+/// Whether the symbols begin a definition.
 fn begins_definition(symbols: &[Symbol]) -> bool
     ensures { result ≡ begins_definition symbols.now }
 {
@@ -40,7 +40,7 @@ fn is_definition_word(word: &str) -> bool
         || word == "maximal"
 }
 
-// A text of symbols that begin a definition. Want of memory is handed on.
+/// A text of symbols that begin a definition. Want of memory is handed on.
 fn read_definition(alloc: Global, symbols: List<Symbol>) -> Result<Command, NoMemory>
     requires { begins_definition symbols ≡ true }
     ensures { IfOk result (λ command. (text : Items ℕ) → Symbols text symbols → IsRead text command) }
@@ -52,7 +52,7 @@ fn read_definition(alloc: Global, symbols: List<Symbol>) -> Result<Command, NoMe
     }
 }
 
-// Want of memory is handed on.
+/// Want of memory is handed on.
 fn refused(fault: QueryFault) -> Result<Command, NoMemory>
     ensures { IfOk result (λ command. (command ≡ Command.Refused fault) × (fault ≢ QueryFault.NoMemory)) }
 {
@@ -62,7 +62,7 @@ fn refused(fault: QueryFault) -> Result<Command, NoMemory>
     }
 }
 
-// A text of any other symbols.
+/// A text of any other symbols.
 fn read_statement(alloc: Global, symbols: List<Symbol>) -> Result<Command, NoMemory>
     requires { begins_definition symbols ≡ false }
     ensures { IfOk result (λ command. (text : Items ℕ) → Symbols text symbols → IsRead text command) }
@@ -73,7 +73,7 @@ fn read_statement(alloc: Global, symbols: List<Symbol>) -> Result<Command, NoMem
     }
 }
 
-// What a text of these symbols asks for.
+/// What a text of these symbols asks for.
 fn command_of(alloc: Global, symbols: List<Symbol>) -> Result<Command, NoMemory>
     ensures { IfOk result (λ command. (text : Items ℕ) → Symbols text symbols → IsRead text command) }
 {
@@ -95,7 +95,7 @@ pub fn read(alloc: Global, text: &[u8]) -> Result<Command, NoMemory>
     }
 }
 
-// The relation and the file of a load.
+/// The relation and the file of a load.
 pub(crate) fn load_of(command: &Command) -> Option<(&Str, &Str)>
     ensures { MatchOption result ((name path : Items ℕ) → command.now ≢ Command.Statement (Load name path)) (λ load. command.now ≡ Command.Statement (Load load.0.now load.1.now)) }
 {

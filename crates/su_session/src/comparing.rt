@@ -26,7 +26,7 @@ struct Pair {
     second: Resolved,
 }
 
-// Not derived, so that it is a single call wherever a pair goes out of scope.
+/// Not derived, so that it is a single call wherever a pair goes out of scope.
 impl Drop for Pair {
     fn drop(self) {
         let Pair {
@@ -42,7 +42,7 @@ struct Terms {
     second: List<Term>,
 }
 
-// Not derived, so that it is a single call wherever they go out of scope.
+/// Not derived, so that it is a single call wherever they go out of scope.
 impl Drop for Terms {
     fn drop(self) {
         let Terms {
@@ -58,7 +58,7 @@ fn ask_equalities(first: &Resolved, second: &Resolved) -> bool
     equalities(&first.cond) && equalities(&second.cond)
 }
 
-// Both over numbers, or why they are of no one form.
+/// Both over numbers, or why they are of no one form.
 fn resolve_both(
     alloc: Global,
     schema: &Schema,
@@ -89,7 +89,7 @@ fn resolve_both(
     Ok(Pair { first, second })
 }
 
-// The terms of both, or why one has none.
+/// The terms of both, or why one has none.
 fn terms_of_both(
     alloc: Global,
     schema: &Schema,
@@ -108,7 +108,7 @@ fn terms_of_both(
     Ok(Terms { first, second })
 }
 
-// Whether each of two queries is within the other, or why they are refused. Want of memory is handed on.
+/// Whether each of two queries is within the other, or why they are refused. Want of memory is handed on.
 pub(crate) fn compare(
     alloc: Global,
     db: &Database,

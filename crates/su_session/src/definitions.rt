@@ -12,8 +12,8 @@ use su_show::{Refusal, Room};
 use su_state::{DefineFault, extended};
 
 impl Session {
-    // One copy of the schema takes the definition. Its maximal objects are found before anything changes,
-    // and then the database takes it for its own.
+    /// One copy of the schema takes the definition. Its maximal objects are found before anything changes,
+    /// and then the database takes it for its own.
     pub(crate) fn add(&mut self, definition: &Definition) -> Result<Reply, NoMemory>
         requires { IsWellNamed definition.now }
         ensures replied { IfOk result (λ reply. AddsDefinition self.old definition.now reply self.new) }

@@ -16,7 +16,7 @@ pub struct Reply {
     pub bytes: List<u8>,
 }
 
-// The reply to an accepted statement.
+/// The reply to an accepted statement.
 pub(crate) fn accepted(bytes: List<u8>) -> Reply
     ensures { Accepts bytes result }
 {
@@ -26,7 +26,7 @@ pub(crate) fn accepted(bytes: List<u8>) -> Reply
     }
 }
 
-// The reply to a refused statement. Want of memory is handed on.
+/// The reply to a refused statement. Want of memory is handed on.
 pub(crate) fn refused(alloc: Global, db: &Database, why: Refusal) -> Result<Reply, NoMemory>
     ensures { IfOk result (λ reply. Refuses db.now why reply db.now) }
 {

@@ -23,7 +23,7 @@ pub(crate) struct Ready {
     pub(crate) prepared: Prepared,
 }
 
-// Not derived, so that it is a single call wherever a query goes out of scope.
+/// Not derived, so that it is a single call wherever a query goes out of scope.
 impl Drop for Ready {
     fn drop(self) {
         let Ready {
@@ -33,7 +33,7 @@ impl Drop for Ready {
     }
 }
 
-// The terms of the query, minimised, or why it has none.
+/// The terms of the query, minimised, or why it has none.
 pub(crate) fn make_ready<R: Threads + Sync, G: Gate>(
     rt: &R,
     alloc: Global,
@@ -64,7 +64,7 @@ pub(crate) fn make_ready<R: Threads + Sync, G: Gate>(
     }
 }
 
-// The answer of a query, or why it is refused. Want of memory is handed on.
+/// The answer of a query, or why it is refused. Want of memory is handed on.
 pub(crate) fn retrieve<R: Threads + Sync, G: Gate>(
     rt: &R,
     alloc: Global,
@@ -94,7 +94,7 @@ pub(crate) fn retrieve<R: Threads + Sync, G: Gate>(
     }
 }
 
-// How a query is prepared, or why it is refused. Want of memory is handed on.
+/// How a query is prepared, or why it is refused. Want of memory is handed on.
 pub(crate) fn explain<R: Threads + Sync, G: Gate>(
     rt: &R,
     alloc: Global,

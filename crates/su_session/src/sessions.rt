@@ -29,7 +29,7 @@ pub struct Session {
     pub(crate) maximal: List<ObjSet>,
 }
 
-// Not derived, so that it is a single call wherever a session goes out of scope above.
+/// Not derived, so that it is a single call wherever a session goes out of scope above.
 impl Drop for Session {
     fn drop(self) {
         let Session {
@@ -59,7 +59,7 @@ impl Model for Session {
     ghost invariant = { λ s. AreMaximalObjects s.db.schema s.maximal };
 }
 
-// The content of a file; nothing without one.
+/// The content of a file; nothing without one.
 fn content<'a>(file: Option<&'a [u8]>) -> &'a [u8]
     ensures { result.now ≡ unwrap_or (option_map (λ bytes. bytes.now) file.entry) [] }
 {

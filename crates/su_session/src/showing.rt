@@ -11,7 +11,7 @@ use su_query::resolve_attributes;
 use su_show::{Refusal, closure as closure_text, rows, schema};
 use su_state::Database;
 
-// The names of the columns.
+/// The names of the columns.
 fn names(alloc: Global, columns: &[Column]) -> Result<List<Str>, NoMemory>
     ensures { IfOk result (λ names. names ≡ column_names columns.now) }
 {

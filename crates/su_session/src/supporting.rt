@@ -15,7 +15,7 @@ use su_query::Query;
 use su_show::supports;
 use su_state::Database;
 
-// The counts of a query's kept terms, or why it is refused. Want of memory is handed on.
+/// The counts of a query's kept terms, or why it is refused. Want of memory is handed on.
 pub(crate) fn support<R: Threads + Sync, G: Gate>(
     rt: &R,
     alloc: Global,

@@ -15,7 +15,7 @@ use su_show::{Refusal, rows};
 use su_state::Database;
 use su_window::{WindowFault, window};
 
-// The numbers of the attributes with these names, in their order. A name may stand twice.
+/// The numbers of the attributes with these names, in their order. A name may stand twice.
 fn numbers(alloc: Global, schema: &Schema, names: &[Str]) -> Result<List<u8>, QueryFault>
     ensures numbers { IfOk result (λ numbers. numbers ≡ attribute_numbers schema.now names.now) }
     ensures below { IfOk result (All (λ a. a < width schema.now)) }
@@ -34,8 +34,8 @@ fn numbers(alloc: Global, schema: &Schema, names: &[Str]) -> Result<List<u8>, Qu
     Ok(numbers)
 }
 
-// The rows over these attributes that every universal relation has, or why there are none. Want of
-// memory is handed on.
+/// The rows over these attributes that every universal relation has, or why there are none. Want of
+/// memory is handed on.
 pub(crate) fn show_window(alloc: Global, db: &Database, names: &[Str]) -> Result<Reply, NoMemory>
     ensures { IfOk result (λ reply. ShowsWindow db.now names.now reply db.now) }
 {

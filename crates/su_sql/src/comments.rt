@@ -10,7 +10,7 @@ use std::alloc::Global;
 use su_base::{List, NoMemory};
 use su_schema::Schema;
 
-// Engines end a comment at either byte.
+/// Engines end a comment at either byte.
 fn ends_line(byte: u8) -> bool
     ensures { result ≡ ends_line byte }
 {

@@ -40,7 +40,7 @@ fn push_side(
     }
 }
 
-// Parts in parentheses, or what they say where there is none.
+/// Parts in parentheses, or what they say where there is none.
 fn push_many(out: &mut Vec<u8>, none: &str, word: &str, parts: &[List<u8>]) -> Result<(), NoMemory>
     ensures { OnOk result (out.new.items ≡ out.old.items ++ many_text none.now word.now parts.now) }
 {

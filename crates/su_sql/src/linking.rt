@@ -25,7 +25,7 @@ fn is_same(place: Place, other: Place) -> bool
     place.table == other.table && place.cell == other.cell
 }
 
-// The first place of the variable, found by one walk over the cells, of which a query has few.
+/// The first place of the variable, found by one walk over the cells, of which a query has few.
 fn first_place(cells: &[Cell], number: u32) -> Place
     ensures { result ≡ first_place cells.now number }
 {
@@ -85,7 +85,7 @@ pub(crate) fn comparisons_of(
     Ok(comparisons)
 }
 
-// Joins a further place of a variable to its first one.
+/// Joins a further place of a variable to its first one.
 fn push_join(joins: &mut List<Join>, cells: &[Cell], cell: &Cell) -> Result<(), NoMemory>
     ensures { OnOk result (joins.new ≡ joins.old ++ joins_at cells.now cell.now) }
 {
@@ -109,7 +109,7 @@ pub(crate) fn joins_of(alloc: Global, cells: &[Cell]) -> Result<List<Join>, NoMe
     Ok(joins)
 }
 
-// Fixes the place of a constant.
+/// Fixes the place of a constant.
 fn push_fixed(alloc: Global, fixed: &mut List<Fixed>, cell: &Cell) -> Result<(), NoMemory>
     ensures { OnOk result (fixed.new ≡ fixed.old ++ fixed_at cell.now) }
 {

@@ -65,7 +65,7 @@ fn select_of(alloc: Global, task: &Task) -> Result<Select, NoMemory>
     })
 }
 
-// The select of a term's kept rows.
+/// The select of a term's kept rows.
 fn select_for(alloc: Global, db: &Database, minimal: &Minimal) -> Result<Select, NoMemory>
     requires { IsTyped (attribute_kinds db.now.schema) minimal.now.tableau }
     ensures { IfOk result (IsSelectOf db.now.schema minimal.now) }

@@ -19,7 +19,7 @@ pub(crate) fn push_number(alloc: Global, out: &mut Vec<u8>, number: usize) -> Re
     push(out, digits.as_str())
 }
 
-// The parts, the first behind `first`, each other one behind `next`.
+/// The parts, the first behind `first`, each other one behind `next`.
 pub(crate) fn push_led(
     out: &mut Vec<u8>,
     first: &str,

@@ -29,7 +29,7 @@ fn push_table(
     Ok(())
 }
 
-// The tables of the schema's relations.
+/// The tables of the schema's relations.
 fn tables(alloc: Global, dialect: Dialect, schema: &Schema) -> Result<Vec<u8>, NoMemory>
     ensures { IfOk result (λ text. text.items ≡ tables_text dialect schema.now) }
 {
@@ -41,7 +41,7 @@ fn tables(alloc: Global, dialect: Dialect, schema: &Schema) -> Result<Vec<u8>, N
     Ok(out)
 }
 
-// Adds what is written for a statement; whether it is refused.
+/// Adds what is written for a statement; whether it is refused.
 fn push_statement<R: Threads + Sync, G: Gate>(
     rt: &R,
     alloc: Global,

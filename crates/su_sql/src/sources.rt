@@ -14,7 +14,7 @@ use su_base::{Kind, List, NoMemory};
 use su_exec::Source;
 use su_schema::Schema;
 
-// The column of the table's value with this number; 0 where there is none.
+/// The column of the table's value with this number; 0 where there is none.
 fn column_of(source: &Source, value: usize) -> u8
     ensures { result ≡ get_or source.now.columns value 0 }
 {

@@ -40,7 +40,7 @@ fn accepted(bytes: List<u8>) -> Reply
     }
 }
 
-// The line of a refusal as a comment.
+/// The line of a refusal as a comment.
 fn refused_line(alloc: Global, line: &[u8]) -> Result<Reply, NoMemory>
     ensures { IfOk result (RefusesWith line.now) }
 {
@@ -50,7 +50,7 @@ fn refused_line(alloc: Global, line: &[u8]) -> Result<Reply, NoMemory>
     })
 }
 
-// A refusal as a comment. Want of memory is handed on.
+/// A refusal as a comment. Want of memory is handed on.
 fn refused(alloc: Global, schema: &Schema, why: Refusal) -> Result<Reply, NoMemory>
     ensures line { IfOk result (RefusesWith (refusal_line schema.now why)) }
     ensures told { OnOk result (¬ IsNoMemory why) }
@@ -59,7 +59,7 @@ fn refused(alloc: Global, schema: &Schema, why: Refusal) -> Result<Reply, NoMemo
     refused_line(alloc, line.as_slice())
 }
 
-// The selects of a query, or why it has none.
+/// The selects of a query, or why it has none.
 fn selects_of<R: Threads + Sync, G: Gate>(
     rt: &R,
     alloc: Global,
@@ -90,7 +90,7 @@ fn selects_of<R: Threads + Sync, G: Gate>(
     }
 }
 
-// The selects of a query as SQL, or its refusal.
+/// The selects of a query as SQL, or its refusal.
 fn retrieve<R: Threads + Sync, G: Gate>(
     rt: &R,
     alloc: Global,
@@ -117,7 +117,7 @@ fn retrieve<R: Threads + Sync, G: Gate>(
     }
 }
 
-// What is written for an accepted statement, to which this is replied.
+/// What is written for an accepted statement, to which this is replied.
 fn accepted_text(
     alloc: Global,
     dialect: Dialect,
@@ -151,7 +151,7 @@ fn accepted_text(
     }
 }
 
-// A statement that the session replies to.
+/// A statement that the session replies to.
 fn replied<R: Threads + Sync, G: Gate>(
     rt: &R,
     alloc: Global,
@@ -172,7 +172,7 @@ fn replied<R: Threads + Sync, G: Gate>(
     Ok(accepted(accepted_text(alloc, dialect, schema, statement, bytes)?))
 }
 
-// A load of a known relation, as a comment.
+/// A load of a known relation, as a comment.
 fn loaded<R: Threads + Sync, G: Gate>(
     rt: &R,
     alloc: Global,
@@ -219,7 +219,7 @@ fn written<R: Threads + Sync, G: Gate>(
     }
 }
 
-// What is written for an accepted definition, to which this is replied.
+/// What is written for an accepted definition, to which this is replied.
 fn defined_text(
     alloc: Global,
     dialect: Dialect,
@@ -236,7 +236,7 @@ fn defined_text(
     comment(alloc, said)
 }
 
-// A definition, or a text that is no statement.
+/// A definition, or a text that is no statement.
 fn defined<R: Threads + Sync, G: Gate>(
     rt: &R,
     alloc: Global,

@@ -25,7 +25,7 @@ pub(crate) fn push_name(out: &mut Vec<u8>, dialect: Dialect, name: &str) -> Resu
     push(out, quote(dialect))
 }
 
-// A byte of a text in quotes.
+/// A byte of a text in quotes.
 fn push_byte(out: &mut Vec<u8>, dialect: Dialect, byte: u8) -> Result<(), NoMemory>
     ensures { OnOk result (out.new.items ≡ out.old.items ++ byte_text dialect byte) }
 {

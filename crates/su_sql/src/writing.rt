@@ -63,7 +63,7 @@ fn push_operand(
     }
 }
 
-// An operand that is compared or ordered by its bytes.
+/// An operand that is compared or ordered by its bytes.
 fn push_ordered(
     alloc: Global,
     out: &mut Vec<u8>,
@@ -321,7 +321,7 @@ pub(crate) fn push_order(alloc: Global, out: &mut Vec<u8>, n: usize) -> Result<(
     push_led(out, "\norder by ", ", ", parts.as_slice())
 }
 
-// The union of the selects, or a query without rows where there is none.
+/// The union of the selects, or a query without rows where there is none.
 fn push_all_selects(
     alloc: Global,
     out: &mut Vec<u8>,

@@ -30,7 +30,7 @@ fn opened(alloc: Global) -> Result<Option<Session>, NoMemory> {
     }
 }
 
-// Whether each statement is written so, in order; a refusal begins with its comment.
+/// Whether each statement is written so, in order; a refusal begins with its comment.
 fn are_written<R: Threads + Sync>(
     rt: &R,
     alloc: Global,

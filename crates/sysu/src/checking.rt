@@ -11,10 +11,10 @@ use su_check::{Checked, check};
 use su_io::{Shelf, Sink, write_all};
 use su_show::verdict;
 
-// How many bytes a certificate may have.
+/// How many bytes a certificate may have.
 const CHECK_LIMIT: u64 = 1 << 24;
 
-// Writes the line of a verdict.
+/// Writes the line of a verdict.
 fn tell_verdict<K: Sink>(alloc: Global, checked: Checked, out: &mut K) -> Status
     ensures { LineEnds checked (record { written = K.written out.old; handed = K.handed out.old }) (K.faults out.old) (record { written = K.written out.new; handed = K.handed out.new }) (K.faults out.new) result }
 {
@@ -30,7 +30,7 @@ fn tell_verdict<K: Sink>(alloc: Global, checked: Checked, out: &mut K) -> Status
     }
 }
 
-// Reads the file and tells the verdict on it.
+/// Reads the file and tells the verdict on it.
 fn check_named<H: Shelf, K: Sink>(alloc: Global, file: Str, shelf: &mut H, out: &mut K) -> Status
     ensures files { H.files shelf.new ≡ H.files shelf.old }
     ensures ends { CheckEnds file
@@ -48,7 +48,7 @@ fn check_named<H: Shelf, K: Sink>(alloc: Global, file: Str, shelf: &mut H, out: 
     }
 }
 
-// The check of the certificate in the file.
+/// The check of the certificate in the file.
 pub(crate) fn check_file<H: Shelf, K: Sink>(
     alloc: Global,
     file: &Str,

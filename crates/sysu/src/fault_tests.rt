@@ -1,4 +1,4 @@
-// Runs over an outside that fails at one call. The bank has a print before a load and one behind it.
+//! Runs over an outside that fails at one call. The bank has a print before a load and one behind it.
 use crate::status::Status;
 use crate::tests::{USAGE, words};
 use crate::top::run;
@@ -21,7 +21,7 @@ const REPLIES: [&str; 3] = [
     "rows 2\nACCT,BAL\n1,100\n2,250\n",
 ];
 
-// The bank's files. One of them is a text of so many spaces where there are any.
+/// The bank's files. One of them is a text of so many spaces where there are any.
 fn files_of(alloc: Global, long: &str, spaces: usize) -> Result<List<File>, NoMemory> {
     let mut files = List::new(alloc);
     for (name, text) in [("s", BANK), ("t", SCRIPT), ("g.csv", LOADED)] {
@@ -42,7 +42,7 @@ fn bank_files(alloc: Global) -> Result<List<File>, NoMemory> {
     files_of(alloc, "", 0)
 }
 
-// How many calls a file takes in pieces of 100: one to begin it, one a piece, and one to find its end.
+/// How many calls a file takes in pieces of 100: one to begin it, one a piece, and one to find its end.
 fn calls(text: &str) -> u64 {
     (text.len() as u64).div_ceil(100).wrapping_add(2)
 }
@@ -84,7 +84,7 @@ fn each_failing_call_of_the_shelf_leaves_the_replies_before_it(
     Ok(())
 }
 
-// The sink takes pieces of 4; behind the last piece comes the hand-over.
+/// The sink takes pieces of 4; behind the last piece comes the hand-over.
 #[test]
 fn each_failing_call_of_the_sink_leaves_a_front(rt: HostRuntime) -> Result<(), Fail> {
     let alloc = rt.alloc();
@@ -115,7 +115,7 @@ fn each_failing_call_of_the_sink_leaves_a_front(rt: HostRuntime) -> Result<(), F
     Ok(())
 }
 
-// The line of a refused schema and the usage line, each the whole output of its run.
+/// The line of a refused schema and the usage line, each the whole output of its run.
 #[test]
 fn each_failing_call_of_the_sink_leaves_a_front_of_one_line(rt: HostRuntime) -> Result<(), Fail> {
     let alloc = rt.alloc();

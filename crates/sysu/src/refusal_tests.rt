@@ -1,4 +1,4 @@
-// The rows of docs/REFUSALS.md: each refusal by its example.
+//! The rows of docs/REFUSALS.md: each refusal by its example.
 use crate::tests::gives;
 use std::alloc::Global;
 use std::test::Fail;
@@ -35,7 +35,7 @@ fn a_query_has_at_most_128_outputs(rt: HostRuntime) -> Result<(), Fail> {
     Ok(())
 }
 
-// Whether a delete by a condition of so many comparisons on P has this reply.
+/// Whether a delete by a condition of so many comparisons on P has this reply.
 fn deletes_by<R: Threads + Sync>(
     rt: &R,
     alloc: Global,
@@ -94,7 +94,7 @@ fn a_load_is_refused_for_its_file(rt: HostRuntime) -> Result<(), Fail> {
     Ok(())
 }
 
-// Whether the load between an insert and a print is refused for this cause.
+/// Whether the load between an insert and a print is refused for this cause.
 fn refuses_load<R: Threads + Sync>(
     rt: &R,
     alloc: Global,
@@ -118,7 +118,7 @@ fn a_definition_is_refused(rt: HostRuntime) -> Result<(), Fail> {
     Ok(())
 }
 
-// A text of 4,096 bytes is taken, one of 4,097 is not.
+/// A text of 4,096 bytes is taken, one of 4,097 is not.
 #[test]
 fn a_text_has_at_most_4096_bytes(rt: HostRuntime) -> Result<(), Fail> {
     assert!(rt; loads_text(&rt, rt.alloc(), 4096, "loaded 1 of 1\n")?);
@@ -127,7 +127,7 @@ fn a_text_has_at_most_4096_bytes(rt: HostRuntime) -> Result<(), Fail> {
     Ok(())
 }
 
-// Whether the load of one text of so many bytes has this reply.
+/// Whether the load of one text of so many bytes has this reply.
 fn loads_text<R: Threads + Sync>(
     rt: &R,
     alloc: Global,
@@ -147,7 +147,7 @@ fn a_file_has_at_most_a_million_records(rt: HostRuntime) -> Result<(), Fail> {
     Ok(())
 }
 
-// Whether the load of so many equal records has this reply.
+/// Whether the load of so many equal records has this reply.
 fn loads_records<R: Threads + Sync>(
     rt: &R,
     alloc: Global,

@@ -20,7 +20,7 @@ use su_session::{Command, Session, Want, read};
 
 const LOAD_LIMIT: u64 = 1 << 26;
 
-// The bytes of the file that the command wants.
+/// The bytes of the file that the command wants.
 fn handed<H: Shelf>(
     alloc: Global,
     session: &Session,
@@ -52,7 +52,7 @@ fn bytes_of(file: &Option<List<u8>>) -> Option<&[u8]>
     }
 }
 
-// Answers one statement and writes its reply; whether it was refused, or how the run ends.
+/// Answers one statement and writes its reply; whether it was refused, or how the run ends.
 fn answer_one<R: Threads + Sync, H: Shelf, K: Sink, G: Gate>(
     rt: &R,
     alloc: Global,

@@ -22,8 +22,8 @@ const OUTPUT: &str =
 pub(crate) const USAGE: &str =
     "usage: sysu run SCHEMA SCRIPT [--workers N] | sysu generate N | sysu check FILE\n";
 
-// Of seven rows a relation, account 7 of C7 is in bank B2 and his loan 7 in B1, whose other accounts and
-// loans are those of C1, C2, C4, C5 and C6.
+/// Of seven rows a relation, account 7 of C7 is in bank B2 and his loan 7 in B1, whose other accounts and
+/// loans are those of C1, C2, C4, C5 and C6.
 const BANK_OF_SEVEN: &str =
     "bank 7\nquery 1: terms 2 kept 2 rows 2\nquery 2: terms 2 kept 1 rows 7\nquery 3: terms 4 kept 4 rows 6\nquery 4: terms 1 kept 1 rows 0\n";
 
@@ -129,7 +129,7 @@ fn a_run_ends_with_its_status_and_output(rt: HostRuntime) -> Result<(), Fail> {
     Ok(())
 }
 
-// A schema, a script, a file `f` that it may load, and the output.
+/// A schema, a script, a file `f` that it may load, and the output.
 pub(crate) fn gives<R: Threads + Sync>(
     rt: &R,
     alloc: Global,
@@ -141,7 +141,7 @@ pub(crate) fn gives<R: Threads + Sync>(
     gives_from(rt, alloc, schema, script, "f", file, want)
 }
 
-// The same with a file of this path.
+/// The same with a file of this path.
 pub(crate) fn gives_from<R: Threads + Sync>(
     rt: &R,
     alloc: Global,
@@ -315,7 +315,7 @@ fn a_schema_may_be_defined_in_the_script(rt: HostRuntime) -> Result<(), Fail> {
 const LOANS: &str =
     "attribute BANK text; attribute ACCT int; attribute CUST text; attribute BAL int; attribute LOAN int; attribute AMT int; attribute ADDR text; relation BA (BANK text, ACCT int); relation AC (ACCT int, CUST text); relation AB (ACCT int, BAL int); relation BL (BANK text, LOAN int); relation LC (LOAN int, CUST text); relation LA (LOAN int, AMT int); relation CA (CUST text, ADDR text); object BANK_ACCT (BANK, ACCT) from BA (BANK, ACCT); object ACCT_CUST (ACCT, CUST) from AC (ACCT, CUST); object ACCT_BAL (ACCT, BAL) from AB (ACCT, BAL); object BANK_LOAN (BANK, LOAN) from BL (BANK, LOAN); object LOAN_CUST (LOAN, CUST) from LC (LOAN, CUST); object LOAN_AMT (LOAN, AMT) from LA (LOAN, AMT); object CUST_ADDR (CUST, ADDR) from CA (CUST, ADDR); fd ACCT -> BANK; fd ACCT -> BAL; fd LOAN -> AMT; fd CUST -> ADDR;";
 
-// What is mentioned counts over the whole query; a definition counts for the next statement.
+/// What is mentioned counts over the whole query; a definition counts for the next statement.
 #[test]
 fn a_query_is_covered_once_the_dependency_is_there(rt: HostRuntime) -> Result<(), Fail> {
     let script =
@@ -368,7 +368,7 @@ fn a_certificate_is_checked(rt: HostRuntime) -> Result<(), Fail> {
     Ok(())
 }
 
-// The file is begun by call 0 and read by the other two; the line is written in three pieces.
+/// The file is begun by call 0 and read by the other two; the line is written in three pieces.
 #[test]
 fn each_fault_ends_the_check(rt: HostRuntime) -> Result<(), Fail> {
     let alloc = rt.alloc();

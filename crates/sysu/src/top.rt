@@ -26,12 +26,12 @@ use su_show::ddl_fault;
 const USAGE: &str =
     "usage: sysu run SCHEMA SCRIPT [--workers N] | sysu generate N | sysu check FILE\n";
 
-// How many bytes a schema and a script may have.
+/// How many bytes a schema and a script may have.
 const SCHEMA_LIMIT: u64 = 1 << 20;
 
 const SCRIPT_LIMIT: u64 = 1 << 24;
 
-// The digit, from 1 to 9.
+/// The digit, from 1 to 9.
 fn digit(d: u8) -> Option<u8>
     ensures { MatchOption result ((nat_lt 48 d && nat_lt d 58) ≡ false) (λ n. ((nat_lt 48 d && nat_lt d 58) ≡ true) × (1 ≤ n) × (n ≤ 16)) }
 {
@@ -41,7 +41,7 @@ fn digit(d: u8) -> Option<u8>
     None
 }
 
-// The number of a 1 and a digit, from 10 to 16.
+/// The number of a 1 and a digit, from 10 to 16.
 fn two_digits(one: u8, d: u8) -> Option<u8>
     ensures { MatchOption result ((nat_eq one 49 && (nat_lt 47 d && nat_lt d 55)) ≡ false) (λ n. ((nat_eq one 49 && (nat_lt 47 d && nat_lt d 55)) ≡ true) × (1 ≤ n) × (n ≤ 16)) }
 {
@@ -51,7 +51,7 @@ fn two_digits(one: u8, d: u8) -> Option<u8>
     None
 }
 
-// The number of workers, from 1 to 16, where the digits are its decimal.
+/// The number of workers, from 1 to 16, where the digits are its decimal.
 fn worker_count(digits: &[u8]) -> Option<u8>
     ensures { MatchOption result (is_count digits.now ≡ false) (λ n. (is_count digits.now ≡ true) × (1 ≤ n) × (n ≤ 16)) }
 {
@@ -62,7 +62,7 @@ fn worker_count(digits: &[u8]) -> Option<u8>
     }
 }
 
-// A run that is asked for: the names of the schema's and of the script's file, and the workers.
+/// A run that is asked for: the names of the schema's and of the script's file, and the workers.
 #[derive(Clone, Copy)]
 struct Asked<'a> {
     schema: &'a Str,
@@ -70,7 +70,7 @@ struct Asked<'a> {
     workers: u8,
 }
 
-// What the words ask for.
+/// What the words ask for.
 fn command_of(words: &[Str]) -> Option<Asked>
     ensures names { option_map (λ asked. record { schema = asked.schema.now; script = asked.script.now }) result ≡ named words.now }
     ensures workers { IfSome result (λ asked. (1 ≤ asked.workers) × (asked.workers ≤ 16)) }
@@ -94,7 +94,7 @@ fn command_of(words: &[Str]) -> Option<Asked>
     }
 }
 
-// The file whose certificate the words ask to check.
+/// The file whose certificate the words ask to check.
 fn check_of(words: &[Str]) -> Option<&Str>
     ensures { option_map (λ file. file.now) result ≡ checks words.now }
 {
@@ -104,7 +104,7 @@ fn check_of(words: &[Str]) -> Option<&Str>
     }
 }
 
-// Writes the line for a refused schema.
+/// Writes the line for a refused schema.
 fn tell_refusal<K: Sink>(alloc: Global, fault: &DdlFault, out: &mut K) -> Status
     ensures { RefusalEnds fault.now (record { written = K.written out.old; handed = K.handed out.old }) (K.faults out.old) (record { written = K.written out.new; handed = K.handed out.new }) (K.faults out.new) result }
 {
@@ -117,7 +117,7 @@ fn tell_refusal<K: Sink>(alloc: Global, fault: &DdlFault, out: &mut K) -> Status
     }
 }
 
-// Writes the usage line.
+/// Writes the usage line.
 fn tell_usage<K: Sink>(out: &mut K) -> Status
     ensures { UsageEnds (record { written = K.written out.old; handed = K.handed out.old }) (K.faults out.old) (record { written = K.written out.new; handed = K.handed out.new }) (K.faults out.new) result }
 {
@@ -127,7 +127,7 @@ fn tell_usage<K: Sink>(out: &mut K) -> Status
     }
 }
 
-// Runs the script on the schema.
+/// Runs the script on the schema.
 fn run_files<R: Threads + Sync, H: Shelf, K: Sink, G: Gate>(
     rt: &R,
     alloc: Global,
@@ -172,7 +172,7 @@ fn run_files<R: Threads + Sync, H: Shelf, K: Sink, G: Gate>(
     }
 }
 
-// What the words ask for, up to the hand-over at the end.
+/// What the words ask for, up to the hand-over at the end.
 fn run_words<R: Threads + Sync, H: Shelf, K: Sink, G: Gate>(
     rt: &R,
     alloc: Global,
@@ -203,8 +203,8 @@ fn run_words<R: Threads + Sync, H: Shelf, K: Sink, G: Gate>(
     run_files(rt, alloc, schema, script, asked.workers, shelf, out, gate)
 }
 
-// Hands over what the sink holds back, and gives the status of the whole run. After a failed write
-// nothing more is handed over.
+/// Hands over what the sink holds back, and gives the status of the whole run. After a failed write
+/// nothing more is handed over.
 fn hand_over<K: Sink>(out: &mut K, came: Status) -> Status
     ensures written { K.written out.new ≡ K.written out.old }
     ensures handed { K.handed out.new ≡ K.handed out.old }

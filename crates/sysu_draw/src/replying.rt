@@ -10,14 +10,14 @@ use su_base::{List, NoMemory};
 use su_draw::{Fault, picture_of};
 use su_io::{Sink, write_all};
 
-// What is written for a text, and the status of a run that writes it.
+/// What is written for a text, and the status of a run that writes it.
 #[derive(Drop)]
 struct Reply {
     status: Status,
     bytes: List<u8>,
 }
 
-// The line that tells a line at fault.
+/// The line that tells a line at fault.
 fn fault_reply(alloc: Global, number: usize) -> Result<List<u8>, NoMemory>
     ensures { IfOk result (λ bytes. bytes ≡ fault_line number) }
 {
@@ -44,7 +44,7 @@ fn reply_to(alloc: Global, text: &[u8]) -> Result<Reply, NoMemory>
     }
 }
 
-// Writes the reply to a text.
+/// Writes the reply to a text.
 pub(crate) fn draw_text<K: Sink>(alloc: Global, text: &[u8], out: &mut K) -> Status
     ensures { TextEnds text.now
         (record { written = K.written out.old; faults = K.faults out.old })
@@ -61,7 +61,7 @@ pub(crate) fn draw_text<K: Sink>(alloc: Global, text: &[u8], out: &mut K) -> Sta
 
 const USAGE: &str = "usage: sysu_draw FILE\n";
 
-// Writes the usage line.
+/// Writes the usage line.
 pub(crate) fn tell_usage<K: Sink>(out: &mut K) -> Status
     ensures { UsageEnds
         (record { written = K.written out.old; faults = K.faults out.old })

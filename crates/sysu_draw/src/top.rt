@@ -9,10 +9,10 @@ use std::alloc::Global;
 use su_base::Str;
 use su_io::{ReadEnd, Shelf, Sink, read_all};
 
-// How many bytes a text may have.
+/// How many bytes a text may have.
 const LIMIT: u64 = 1 << 24;
 
-// Draws the file's text.
+/// Draws the file's text.
 fn draw_file<H: Shelf, K: Sink>(alloc: Global, path: Str, shelf: &mut H, out: &mut K) -> Status
     ensures files { H.files shelf.new ≡ H.files shelf.old }
     ensures ends { FileEnds path
@@ -27,7 +27,7 @@ fn draw_file<H: Shelf, K: Sink>(alloc: Global, path: Str, shelf: &mut H, out: &m
     }
 }
 
-// What the words ask for, up to the hand-over at the end.
+/// What the words ask for, up to the hand-over at the end.
 fn run_words<H: Shelf, K: Sink>(alloc: Global, words: &[Str], shelf: &mut H, out: &mut K) -> Status
     ensures files { H.files shelf.new ≡ H.files shelf.old }
     ensures comes { Comes words.now
@@ -43,8 +43,8 @@ fn run_words<H: Shelf, K: Sink>(alloc: Global, words: &[Str], shelf: &mut H, out
     }
 }
 
-// Hands over what the sink holds back, and gives the status of the whole run. After a failed write
-// nothing more is handed over.
+/// Hands over what the sink holds back, and gives the status of the whole run. After a failed write
+/// nothing more is handed over.
 fn hand_over<K: Sink>(out: &mut K, came: Status) -> Status
     ensures written { K.written out.new ≡ K.written out.old }
     ensures closes { Closes came (K.faults out.old) (K.faults out.new) result }

@@ -19,7 +19,7 @@ use su_io::{FileShelf, StreamSink};
 use su_par::OpenGate;
 use top::run;
 
-// The words after the program's name; none where one is no text.
+/// The words after the program's name; none where one is no text.
 fn words_of(rt: &HostRuntime) -> Result<List<Str>, NoMemory> {
     let mut words = List::new(rt.alloc());
     match env::args(rt) {

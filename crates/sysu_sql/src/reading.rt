@@ -7,7 +7,7 @@ use std::alloc::Global;
 use su_base::{List, Str};
 use su_io::{ReadEnd, Shelf, read_all};
 
-// Reads a file of the run whole.
+/// Reads a file of the run whole.
 pub(crate) fn read_file<H: Shelf>(
     alloc: Global,
     shelf: &mut H,

@@ -16,7 +16,7 @@ use su_sql::{Dialect, script};
 
 const USAGE: &str = "usage: sysu_sql SCHEMA SCRIPT [--dialect postgres|sqlite|spark]\n";
 
-// Writes the usage line.
+/// Writes the usage line.
 pub(crate) fn tell_usage<K: Sink>(out: &mut K) -> Status
     ensures { UsageEnds
         (record { written = K.written out.old; faults = K.faults out.old })
@@ -28,7 +28,7 @@ pub(crate) fn tell_usage<K: Sink>(out: &mut K) -> Status
     }
 }
 
-// Writes the line for a refused schema.
+/// Writes the line for a refused schema.
 pub(crate) fn tell_refusal<K: Sink>(alloc: Global, fault: &DdlFault, out: &mut K) -> Status
     ensures { RefusalEnds fault.now
         (record { written = K.written out.old; faults = K.faults out.old })
@@ -43,7 +43,7 @@ pub(crate) fn tell_refusal<K: Sink>(alloc: Global, fault: &DdlFault, out: &mut K
     }
 }
 
-// Writes the script as SQL.
+/// Writes the script as SQL.
 pub(crate) fn tell_script<R: Threads + Sync, K: Sink, G: Gate>(
     rt: &R,
     alloc: Global,
@@ -67,8 +67,8 @@ pub(crate) fn tell_script<R: Threads + Sync, K: Sink, G: Gate>(
     }
 }
 
-// Hands over what the sink holds back, and gives the status of the whole run. After a failed write
-// nothing more is handed over.
+/// Hands over what the sink holds back, and gives the status of the whole run. After a failed write
+/// nothing more is handed over.
 pub(crate) fn hand_over<K: Sink>(out: &mut K, came: Status) -> Status
     ensures written { K.written out.new ≡ K.written out.old }
     ensures closes { Closes came (K.faults out.old) (K.faults out.new) result }

@@ -15,12 +15,12 @@ use su_ddl::read;
 use su_io::{Shelf, Sink};
 use su_par::Gate;
 
-// How many bytes a schema and a script may have.
+/// How many bytes a schema and a script may have.
 const SCHEMA_LIMIT: u64 = 1 << 20;
 
 const SCRIPT_LIMIT: u64 = 1 << 24;
 
-// Writes the script's file as SQL on the schema of its file.
+/// Writes the script's file as SQL on the schema of its file.
 fn run_files<R: Threads + Sync, H: Shelf, K: Sink, G: Gate>(
     rt: &R,
     alloc: Global,
@@ -50,7 +50,7 @@ fn run_files<R: Threads + Sync, H: Shelf, K: Sink, G: Gate>(
     tell_script(rt, alloc, asked.dialect, schema, bytes, out, gate)
 }
 
-// What the words ask for, up to the hand-over at the end.
+/// What the words ask for, up to the hand-over at the end.
 fn run_words<R: Threads + Sync, H: Shelf, K: Sink, G: Gate>(
     rt: &R,
     alloc: Global,
