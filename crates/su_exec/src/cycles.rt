@@ -4,12 +4,31 @@ ghost use Rattle.su_exec.specs.inside.Bodies.{AreThere};
 ghost use Rattle.su_exec.specs.inside.Checks.{all_hold};
 ghost use Rattle.su_exec.specs.inside.Edges.{Keeps};
 
+use crate::candidates::Candidates;
 use crate::closing::join_three;
 use crate::codes::Codes;
 use crate::merging::{Body, wanted_by};
 use crate::reducing::has_empty;
 use crate::threes::three_of;
 use std::alloc::{AllocError, Global};
+
+/// Three that are taken out of a body, to be joined at once.
+struct Three {
+    first: Candidates,
+    second: Candidates,
+    third: Candidates,
+}
+
+/// Not derived, so that it is a single call wherever the three go out of scope.
+impl Drop for Three {
+    fn drop(self) {
+        let Three {
+            first: _,
+            second: _,
+            third: _,
+        } = self;
+    }
+}
 
 /// Three edges of the body become one, with the variables that are still needed.
 fn close(
@@ -32,8 +51,20 @@ fn close(
     let a = body.edges.remove(three.0);
     let b = body.edges.remove(three.1);
     let c = body.edges.remove(three.2);
+    let taken = Three {
+        first: a,
+        second: b,
+        third: c,
+    };
     let wanted = wanted_by(alloc, body, needed)?;
-    let joined = join_three(alloc, codes, &a, &b, &c, &wanted)?;
+    let joined = join_three(
+        alloc,
+        codes,
+        &taken.first,
+        &taken.second,
+        &taken.third,
+        &wanted,
+    )?;
     body.edges.push(joined)?;
     Ok(())
 }

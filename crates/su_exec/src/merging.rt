@@ -23,6 +23,22 @@ pub struct Body {
     pub checks: Vec<Check>,
 }
 
+/// Two that are taken out of a body, to be joined.
+struct Pair {
+    first: Candidates,
+    second: Candidates,
+}
+
+/// Not derived, so that it is a single call wherever a pair goes out of scope.
+impl Drop for Pair {
+    fn drop(self) {
+        let Pair {
+            first: _,
+            second: _,
+        } = self;
+    }
+}
+
 /// What a body comes to.
 #[derive(Drop)]
 pub enum Merged {
@@ -93,6 +109,16 @@ fn compared_by(alloc: Global, checks: &[Check]) -> Result<Vec<(u32, u32)>, Alloc
         }
     }
     Ok(compared)
+}
+
+/// The pair to join next.
+fn chosen(alloc: Global, body: &Body) -> Result<(usize, usize), AllocError>
+    requires { 1 < length body.now.edges.items }
+    ensures { IfOk result (λ p. (p.0 < p.1) × (p.1 < length body.now.edges.items)) }
+{
+    let compared = compared_by(alloc, &body.checks)?;
+    let pair = choose(alloc, &body.edges, &compared)?;
+    Ok(pair)
 }
 
 /// Whether none of the variables is another's.
@@ -185,15 +211,31 @@ fn merge_next(
     ensures length { IfOk result (λ step. length body.new.edges.items + gone step ≡ length body.old.edges.items) }
     ensures last { IfOk result (λ _. body.new.edges.items ≡ [] → body.new.checks.items ≡ []) }
 {
-    let compared = compared_by(alloc, &body.checks)?;
-    let (i, j) = choose(alloc, &body.edges, &compared)?;
+    let (i, j) = chosen(alloc, body)?;
     let b = body.edges.remove(j);
     let a = body.edges.remove(i);
-    let tests = take_tests(alloc, &mut body.checks, a.vars(), b.vars())?;
+    let pair = Pair {
+        first: a,
+        second: b,
+    };
+    let tests = take_tests(
+        alloc,
+        &mut body.checks,
+        pair.first.vars(),
+        pair.second.vars(),
+    )?;
     let others = wanted_by(alloc, body, &[])?;
-    let bound = bound_of(a.vars(), b.vars(), &others, most);
+    let bound = bound_of(pair.first.vars(), pair.second.vars(), &others, most);
     let wanted = wanted_by(alloc, body, needed)?;
-    let joined = join_all(alloc, codes, &a, &b, tests, &wanted, bound)?;
+    let joined = join_all(
+        alloc,
+        codes,
+        &pair.first,
+        &pair.second,
+        tests,
+        &wanted,
+        bound,
+    )?;
     if is_past(joined.rows().len(), bound) {
         return Ok(Step::Past);
     }

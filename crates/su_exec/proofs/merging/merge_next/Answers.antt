@@ -51,7 +51,7 @@ module _ (c : In_ok-joined) where
   bound = c.bound_of-bound.result
 
   second_low : c.in_ok-i.j < length es
-  second_low = rw c.deref-2.ensures.value at c.in_ok-i.ensures.1
+  second_low = c.in_ok-i.ensures.1
 
   one_less : length fs + 1 ≡ length es
   one_less = ap (λ (xs : List (Edge ℕ)). length xs + 1) c.remove-b.ensures.items ∙ length-remove es c.in_ok-i.j second_low
@@ -77,13 +77,13 @@ module _ (c : In_ok-joined) where
       ∙ ap (λ ys. all_pass values tests (map v a.vars) (map v ys) && all_hold values news v) c.vars-2.ensures
 
   out : (k : ℕ) → among (a ∷ b ∷ []) k ≡ true → has wanted k ≡ true → has g.vars k ≡ true
-  out k h w = c.in_ok-joined.ensures.wanted k h (ap (λ ks. has ks k) c.deref-5.ensures.value ∙ w)
+  out k h w = c.in_ok-joined.ensures.wanted k h (ap (λ ks. has ks k) c.deref-2.ensures.value ∙ w)
 
   within : (k : ℕ) → has g.vars k ≡ true → (has wanted k ≡ true) × (among (a ∷ b ∷ []) k ≡ true)
-  within k h = let x = c.in_ok-joined.ensures.only k h in (ap (λ ks. has ks k) (sym c.deref-5.ensures.value) ∙ x.0, x.1)
+  within k h = let x = c.in_ok-joined.ensures.only k h in (ap (λ ks. has ks k) (sym c.deref-2.ensures.value) ∙ x.0, x.1)
 
   bounded : (bound ≡ None) ⊎ ((bound ≡ c.args.most) × AreAlone a.vars others × AreAlone b.vars others)
-  bounded = rw (c.vars-3.ensures, c.vars-4.ensures, c.deref-4.ensures.value) at c.bound_of-bound.ensures
+  bounded = rw (c.vars-3.ensures, c.vars-4.ensures, c.deref.ensures.value) at c.bound_of-bound.ensures
 
 pub returns-then-is_past-clause-merged : goal.returns-then-is_past-clause-merged
 returns-then-is_past-clause-merged c =

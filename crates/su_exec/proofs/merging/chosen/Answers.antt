@@ -1,0 +1,4 @@
+use Rattle.su_exec.proofs.merging.chosen.Goals as goal
+
+pub returns : goal.returns
+returns c = rw c.deref-2.ensures.value at c.in_ok-pair.ensures
