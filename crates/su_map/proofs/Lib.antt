@@ -1,5 +1,6 @@
 pub mod Cells
 pub mod Members
+pub mod Noting
 pub mod Ranks
 pub mod Joining
 pub mod Telling

@@ -4,8 +4,8 @@
 //! a row. Before a search each row gets the set of its targets by constants, head symbols and its own
 //! repeated symbols, and each two rows that share a variable a table of the targets that agree. The
 //! search takes from the sets what no longer fits; a row without a target ends the branch. It takes
-//! no memory: all is in a room of 32 KiB per row. `first` is in order, `exists` takes the row with
-//! the fewest targets next. Minimising is in the crate above.
+//! no memory: all is in a room of 33 KiB per row and 66 KiB beside them. `first` is in order, `exists`
+//! takes the row with the fewest targets next. Minimising is in the crate above.
 #![tactic(auto)]
 
 mod bits;

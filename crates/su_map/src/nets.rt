@@ -91,6 +91,7 @@ impl Net {
         alike: &mut [u64],
         columns: &mut [Option<usize>],
         domains: &mut [u64],
+        rows_at: &mut [u64],
         from: &Tableau,
         from_mask: u64,
         to: &Tableau,
@@ -116,6 +117,7 @@ impl Net {
             alike,
             columns,
             domains,
+            rows_at,
             from,
             from_mask,
             to,
@@ -159,6 +161,7 @@ fn fill_tables(
     alike: &mut [u64],
     columns: &mut [Option<usize>],
     domains: &mut [u64],
+    rows_at: &mut [u64],
     from: &Tableau,
     from_mask: u64,
     to: &Tableau,
@@ -190,7 +193,7 @@ fn fill_tables(
     if !are_any(near, from.row_count()) {
         return true;
     }
-    fill_alike(alike, to);
+    fill_alike(alike, rows_at, to);
     let sides = Sides {
         from,
         mask: from_mask,

@@ -22,12 +22,14 @@ use std::sync::ledger::Ledger;
 use su_base::{List, NoMemory, Steps};
 use su_tableau::{Tableau, full, has};
 
-/// What a search reads and writes, so that it takes no memory: 32 KiB per row.
+/// What a search reads and writes, so that it takes no memory: 33 KiB per row, 66 KiB for the columns
+/// and 16 bytes per variable.
 #[derive(Drop)]
 pub struct Room {
     rows: usize,
     net: Net,
     rows_of: Vec<u64>,
+    rows_at: Vec<u64>,
     alike: Vec<u64>,
     columns: Vec<Option<usize>>,
     domains: Vec<u64>,
@@ -49,6 +51,13 @@ impl Model for Room {
     ghost invariant = { λ r. IsSound r.net r.rows (length r.list.items) (length r.alike.items) (length r.columns.items) (length r.domains.items) (length r.levels.items) (length r.choice.items) r.count };
 }
 
+/// So many sets, all empty.
+fn zeros(alloc: Global, count: usize) -> Result<Vec<u64>, NoMemory>
+    ensures { IfOk result (λ sets. length sets.items ≡ count) }
+{
+    Ok(vec![in alloc; 0; count].map_err(AllocError::from)?)
+}
+
 impl Room {
     /// Room for tableaux of so many rows and variables; no tableau has more than 64 rows.
     pub fn new(alloc: Global, rows: usize, symbols: usize) -> Result<Room, NoMemory>
@@ -58,11 +67,12 @@ impl Room {
         Ok(Room {
             rows,
             net: Net::new(alloc, tables)?,
-            rows_of: vec![in alloc; 0; symbols].map_err(AllocError::from)?,
-            alike: vec![in alloc; 0; 8192].map_err(AllocError::from)?,
+            rows_of: zeros(alloc, symbols)?,
+            rows_at: zeros(alloc, symbols)?,
+            alike: zeros(alloc, 8192)?,
             columns: vec![in alloc; None; 128].map_err(AllocError::from)?,
-            domains: vec![in alloc; 0; tables].map_err(AllocError::from)?,
-            levels: vec![in alloc; 0; tables * tables].map_err(AllocError::from)?,
+            domains: zeros(alloc, tables)?,
+            levels: zeros(alloc, tables * tables)?,
             choice: vec![in alloc; 0; tables].map_err(AllocError::from)?,
             list: vec![in alloc; 0; tables].map_err(AllocError::from)?,
             count: 0,
@@ -93,6 +103,7 @@ pub fn prepare(room: &mut Room, from: &Tableau, from_mask: u64, to: &Tableau, to
         &mut room.alike,
         &mut room.columns,
         &mut room.domains,
+        &mut room.rows_at,
         from,
         from_mask,
         to,
@@ -349,15 +360,8 @@ pub fn exists_prepared<L: Ledger>(
     ensures sizes { HasSizesOf room.old room.new }
     ensures prepared { room.new.net ≡ room.old.net }
 {
-    search_in(
-        room,
-        from,
-        from_mask,
-        to,
-        to_mask,
-        Order::FewestFirst,
-        steps,
-    )
+    let order = Order::FewestFirst;
+    search_in(room, from, from_mask, to, to_mask, order, steps)
 }
 
 /// Whether the masked rows of one tableau have any mapping into the masked rows of the other.

@@ -3,10 +3,11 @@
 //! `kept_mask` drops row after row from the last, each where the rows that still stand map into the
 //! others: what is left has the least number of all sets that the tableau maps into, and so the
 //! fewest rows of all tableaux with its answers. `minimise` keeps that with its fold in a type.
-//! `reduce` compares the alike terms of a union pair by pair, and keeps the first of those that cover
-//! each other. Each is a search at most, exponential at worst; a row that goes nowhere else and a pair
-//! whose constants or heads don't fit need none. A thread takes the room of one search, 32 KiB per
-//! row. Dependencies and the order of values play no part.
+//! `reduce` compares the alike terms of a union, but for what the first one tells: a term that covers
+//! it is not compared with those that it covers. Of terms that cover each other it keeps the first.
+//! Each pair is a search at most, exponential at worst; a row that goes nowhere else and a pair whose
+//! constants or heads don't fit need none. A thread takes the room of one search, 33 KiB per row and
+//! 66 KiB beside them. Dependencies and the order of values play no part.
 #![tactic(auto)]
 
 mod alike;

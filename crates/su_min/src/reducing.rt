@@ -117,8 +117,9 @@ fn cover_of(alloc: Global, terms: &[Minimal], i: usize, k: usize) -> Result<Cove
     })
 }
 
-/// Which terms are kept, and by which of these each dropped one is covered. All pairs of alike terms
-/// are compared, in up to two pieces for each processor. Each cover holds copies of two tableaux.
+/// Which terms are kept, and by which of these each dropped one is covered. Alike terms are compared
+/// in up to two pieces for each processor, but for pairs that the first term tells. Each cover holds
+/// copies of two tableaux.
 pub fn reduce<R: Threads + Sync>(
     rt: &R,
     alloc: Global,

@@ -58,9 +58,18 @@ pub record IsTold (s t : Tab) (base : List ℕ) (i q : ℕ) (agree : List ℕ) :
   pub shared : AreShared s.head (row_of s i) (row_of s q) columns
   pub told : (p : ℕ) → p < length t.rows → bit_at (get_or base i 0) p ≡ 1 → AreTold t columns p (get_or base q 0) (get_or agree (i * 4096 + q * 64 + p) 0)
 
+-- each row is noted at each of its variables, for each of which there is a place
+pub record AreAllNoted (t : Tab) (rows_at : List ℕ) : Type 0 where
+  pub symbols : AreVarsBelow (length rows_at) t
+  pub rows : (j k : ℕ) → j < length t.rows → Contains (row_of t j) (Var k) → bit_at (get_or rows_at k 0) j ≡ 1
+
+-- rows p and j hold one symbol at the column
+abbrev pub HoldOne : Tab → ℕ → ℕ → ℕ → Type 0
+HoldOne t c p j = (d : Sym) → get_or (row_of t p) c d ≡ get_or (row_of t j) c d
+
 -- the table tells for each row which rows hold the same symbol at the column
 abbrev pub AreAlikeAt : Tab → ℕ → List ℕ → Type 0
-AreAlikeAt t c table = (p j : ℕ) → p < length t.rows → (bit_at (get_or table (c * 64 + p) 0) j ≡ 1) ↔ ((j < length t.rows) × ((d : Sym) → get_or (row_of t p) c d ≡ get_or (row_of t j) c d))
+AreAlikeAt t c table = (p j : ℕ) → p < length t.rows → (bit_at (get_or table (c * 64 + p) 0) j ≡ 1) ↔ ((j < length t.rows) × HoldOne t c p j)
 
 -- at each column
 abbrev pub AreAlike : Tab → List ℕ → Type 0
