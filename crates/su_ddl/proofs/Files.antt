@@ -1,7 +1,7 @@
 -- A file is read in one way.
 use Rattle.std.proofs.Common.{◌≡◌, ◌⊎◌, inl, inr, ◌<◌, ◌≤◌, ◌+◌, ℕ, List, [], ◌∷◌, length, map, get_or, drop, Result, Ok, Err, Option, Some, None, refl, ap, sym, ◌∙◌, arith, subst, zero, suc, add-one}
 use Rattle.std.specs.Prelude.{IfOk, IfErr}
-use Rattle.su_lex.specs.Pieces.{Parts, Statement, added as listed, PiecesAt, Pieces, after_mark}
+use Rattle.su_lex.specs.Pieces.{Statement, added as listed, PiecesAt, Pieces, after_mark}
 use Rattle.su_lex.specs.Pieces as p
 use Rattle.su_lex.specs.Pieces.{mark}
 use Rattle.std.specs.List.{starts_with}

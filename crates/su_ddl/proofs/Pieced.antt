@@ -3,7 +3,7 @@ use Rattle.std.proofs.Common.{Some, None, ◌≡◌, ◌<◌, ◌+◌, ℕ, List
 use Rattle.std.specs.List.{AllByRecursion}
 use Rattle.su_lex.specs.Blanks.{Gap}
 use Rattle.su_lex.specs.Blanks as b
-use Rattle.su_lex.specs.Pieces.{Parts, Statement, PiecesAt, Pieces, after_mark, mark}
+use Rattle.su_lex.specs.Pieces.{Parts, PiecesAt, Pieces, after_mark}
 use Rattle.su_lex.specs.Pieces as p
 use Rattle.su_lex.specs.declared.spans.Span.{Span}
 use Rattle.su_lex.specs.Symbols.{spaced}

@@ -8,7 +8,7 @@ use Rattle.su_base.specs.declared.values.Kind.{Kind}
 use Rattle.su_base.specs.declared.values.Kind.TheVariants as kind
 use Rattle.su_base.specs.declared.values.Column.{Column}
 use Rattle.su_lex.specs.Blanks.{begins_comment}
-use Rattle.su_lex.specs.Pieces.{is_plain, Part, Parts}
+use Rattle.su_lex.specs.Pieces.{is_plain, Parts}
 use Rattle.su_lex.specs.Pieces as p
 use Rattle.su_lex.specs.declared.meaning.Symbol.{Symbol}
 use Rattle.su_lex.specs.declared.meaning.Symbol.TheVariants.{Word, Int, Text, Sign}

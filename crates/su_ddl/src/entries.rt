@@ -1,5 +1,5 @@
 //! The definitions that a schema is made of, by their numbers.
-ghost use Rattle.std.specs.Prelude.{◌≡◌, ◌<◌, ◌++◌, ◌∷◌, [], length, map, slice_get, slice_index_or, filter_map, IfOk, OnOk, if◌then◌else◌};
+ghost use Rattle.std.specs.Prelude.{◌≡◌, ◌<◌, ◌++◌, ◌∷◌, [], length, map, slice_get, filter_map, IfOk, OnOk, if◌then◌else◌};
 ghost use Rattle.std.specs.List.{range_with_len};
 ghost use Rattle.su_schema.specs.SchemaValue.{attribute_names, object_names, column_names};
 ghost use Rattle.su_ddl.specs.Shown.{names_in, attribute_definition, relation_definition, object_definition, fd_definition, maximal_definition, pair_of, name_at};

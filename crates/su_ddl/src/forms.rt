@@ -1,5 +1,5 @@
 //! The definition that a text is, form by form.
-ghost use Rattle.std.specs.Prelude.{◌≡◌, ℕ, ◌∷◌, ◌++◌, codes, IfOk, IsErrOf, List as Items};
+ghost use Rattle.std.specs.Prelude.{◌≡◌, ◌∷◌, codes, IfOk, IsErrOf};
 ghost use Rattle.su_ddl.specs.Grammar.{IsForm, IsDefinition};
 ghost use Rattle.su_schema.specs.declared.definitions.Definition.{Definition as ADefinition};
 

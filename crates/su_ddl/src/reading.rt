@@ -3,7 +3,7 @@ ghost use Rattle.std.specs.Prelude.{◌≡◌, ℕ, ◌<◌, ◌^◌, ◌⊎◌,
 ghost use Rattle.su_ddl.specs.Grammar.{IsDefinition};
 ghost use Rattle.su_ddl.specs.Reading.{IsAtFault, Reads};
 ghost use Rattle.su_ddl.specs.declared.faults.DdlFault.{DdlFault as AFault};
-ghost use Rattle.su_schema.specs.Defining.{applied, IsRefusal};
+ghost use Rattle.su_schema.specs.Defining.{applied};
 ghost use Rattle.su_schema.specs.SchemaValue.{SchemaValue};
 ghost use Rattle.su_schema.specs.declared.definitions.Definition.{Definition as ADefinition};
 
