@@ -1,5 +1,5 @@
 //! What words of lines must be.
-ghost use Rattle.std.specs.Prelude.{◌≡◌, length};
+ghost use Rattle.std.specs.Prelude.{◌≡◌};
 ghost use Rattle.std.specs.List.{list_all};
 ghost use Rattle.std.specs.Str.{bytes_eq};
 ghost use Rattle.su_draw.specs.Checks.{is_decimal, is_decimal_below, ends, begins, separated, listed, cells};

@@ -14,10 +14,18 @@ use std::alloc::{AllocError, Global};
 use su_base::{List, NoMemory};
 
 /// How a text is laid out.
-#[derive(Drop)]
 enum Plan<'a> {
     Explanation(Layout<'a>),
     Schema(Grid<'a>),
+}
+
+/// Not derived, so that it is a single call wherever a plan goes out of scope.
+impl Drop for Plan<'_> {
+    fn drop(self) {
+        match self {
+            Plan::Explanation(_) | Plan::Schema(_) => {}
+        }
+    }
 }
 
 impl<'a> Plan<'a> {

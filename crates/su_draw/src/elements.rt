@@ -1,5 +1,5 @@
 //! Elements of XML, at the end of what stands there.
-ghost use Rattle.std.specs.Prelude.{◌≡◌, ◌++◌, [], flat_map, codes, OnOk};
+ghost use Rattle.std.specs.Prelude.{◌≡◌, ◌++◌, flat_map, codes, OnOk};
 ghost use Rattle.su_draw.specs.Xml.{attribute_text};
 ghost use Rattle.su_draw.specs.Escaping.{escaped};
 ghost use Rattle.su_draw.specs.Shapes.{element_line};

@@ -1,7 +1,7 @@
 //! Bytes as characters of XML.
 ghost use Rattle.std.specs.Prelude.{◌≡◌, ◌++◌, ◌&&◌, ◌==◌, not, OnOk};
 ghost use Rattle.su_draw.specs.Xml.{is_plain};
-ghost use Rattle.su_draw.specs.Escaping.{shown_for, char_text, none_begun, begun_with, bits_with, first_text, goes_on, byte_text, begun_behind, escaped_on, escaped};
+ghost use Rattle.su_draw.specs.Escaping.{shown_for, char_text, begun_with, bits_with, first_text, goes_on, byte_text, begun_behind, escaped};
 
 use crate::parts::{push, push_number};
 use std::alloc::Global;

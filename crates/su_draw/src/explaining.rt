@@ -2,7 +2,7 @@
 
 use crate::checks::are_same;
 use crate::kinds::Kind;
-use crate::measures::{HIGH, lanes, offset_of, width_of, word_at};
+use crate::measures::{HIGH, lanes, offset_of, word_at, words_of};
 use crate::numbers::number_of;
 use crate::reading::Line;
 use crate::shapes::{Help, Place};
@@ -12,13 +12,25 @@ use std::alloc::{AllocError, Global};
 
 /// What is laid out: of each line its height and the table that it belongs to, the tables in order, the
 /// terms that cover others, each of which has a lane at the left end, and how wide the lanes are.
-#[derive(Drop)]
 pub(crate) struct Layout<'a> {
     pub(crate) lines: &'a [Line],
     pub(crate) heights: Vec<u32>,
     pub(crate) tables: Vec<Table<'a>>,
     pub(crate) covers: Vec<usize>,
     pub(crate) left: u32,
+}
+
+/// Not derived, so that it is a single call wherever a layout goes out of scope.
+impl Drop for Layout<'_> {
+    fn drop(self) {
+        let Layout {
+            lines: _,
+            heights: _,
+            tables: _,
+            covers: _,
+            left: _,
+        } = self;
+    }
 }
 
 /// How far a line is below the one before it.
@@ -58,16 +70,22 @@ impl<'a> Layout<'a> {
         Ok(layout)
     }
 
-    /// Takes the next line.
-    fn add(&mut self, alloc: Global, number: usize, line: &'a Line) -> Result<(), AllocError> {
-        if line.kind == Kind::Term {
-            self.tables.push(Table::new(alloc, number))?;
-        }
-        if line.kind == Kind::Covered
-            && let Some(by) = number_of(word_at(line.words.as_slice(), 5))
+    /// The term that covers the one of this line.
+    fn add_cover(&mut self, line: &Line) -> Result<(), AllocError> {
+        if let Some(by) = number_of(word_at(line.words.as_slice(), 5))
             && !self.covers.contains(&by)
         {
             self.covers.push(by)?;
+        }
+        Ok(())
+    }
+
+    /// Takes the next line.
+    fn add(&mut self, alloc: Global, number: usize, line: &'a Line) -> Result<(), AllocError> {
+        match line.kind {
+            Kind::Term => self.tables.push(Table::new(alloc, number))?,
+            Kind::Covered => self.add_cover(line)?,
+            _ => {}
         }
         match self.tables.last_mut() {
             Some(table) => table.add(number, line),
@@ -84,17 +102,9 @@ impl<'a> Layout<'a> {
         self.tables.iter().rev().find(|table| table.term <= line)
     }
 
-    fn words(&self, line: usize) -> &[su_base::List<u8>] {
-        match self.lines.get(line) {
-            Some(line) => line.words.as_slice(),
-            None => &[],
-        }
-    }
-
     /// Whether the row is none of the kept ones.
     fn is_light(&self, table: &Table, row: &[u8]) -> bool {
-        !self
-            .words(table.kept)
+        !words_of(self.lines, table.kept)
             .iter()
             .skip(3)
             .any(|kept| are_same(kept.as_slice(), row))
@@ -107,13 +117,13 @@ impl<'a> Layout<'a> {
 
     /// The number that stands in a line.
     fn number(&self, line: usize, word: usize) -> usize {
-        number_of(word_at(self.words(line), word)).unwrap_or(0)
+        number_of(word_at(words_of(self.lines, line), word)).unwrap_or(0)
     }
 
     fn label(&self, thing: &Thing) -> Place {
         let x = self
             .left
-            .saturating_add(offset_of(self.words(thing.line), thing.word));
+            .saturating_add(offset_of(words_of(self.lines, thing.line), thing.word));
         Place {
             x,
             y: self.height(thing.line),
@@ -127,7 +137,7 @@ impl<'a> Layout<'a> {
 
     /// A row's number, its variable, its object or a symbol of it.
     fn in_row(&self, table: &Table, thing: &Thing) -> Place {
-        let words = self.words(thing.line);
+        let words = words_of(self.lines, thing.line);
         let (left, colour) = match thing.word {
             0..=5 => (table.front(thing.word.saturating_sub(3)), 0),
             _ => {
@@ -147,7 +157,7 @@ impl<'a> Layout<'a> {
     }
 
     fn source(&self, table: &Table, thing: &Thing) -> Place {
-        let words = self.words(thing.line);
+        let words = words_of(self.lines, thing.line);
         let offset = offset_of(words, thing.word).saturating_sub(offset_of(words, 4));
         let right = self
             .left
@@ -228,7 +238,7 @@ impl<'a> Layout<'a> {
 
     /// The grounds of a table's kept rows.
     fn add_bands(&self, helps: &mut Vec<Help>, table: &Table) -> Result<(), AllocError> {
-        for row in self.words(table.kept).iter().skip(3) {
+        for row in words_of(self.lines, table.kept).iter().skip(3) {
             let row = number_of(row.as_slice()).unwrap_or(0);
             helps.push(Help::Band {
                 x: self.left.saturating_sub(4),

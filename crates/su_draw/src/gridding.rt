@@ -3,7 +3,7 @@
 
 use crate::checks::are_same;
 use crate::kinds::Kind;
-use crate::measures::{HIGH, WIDE, width_of, word_at};
+use crate::measures::{HIGH, WIDE, width_of, word_at, words_of};
 use crate::reading::Line;
 use crate::shapes::{Help, Place};
 use crate::things::{Thing, What, name_in};
@@ -13,13 +13,25 @@ use std::alloc::{AllocError, Global};
 const TOP: u32 = 80;
 
 /// What is laid out: the attributes, the objects and the maximal objects, each with where it is.
-#[derive(Drop)]
 pub(crate) struct Grid<'a> {
     lines: &'a [Line],
     left: u32,
     attributes: Vec<Spot<'a>>,
     objects: Vec<Spot<'a>>,
     maximal: Vec<Spot<'a>>,
+}
+
+/// Not derived, so that it is a single call wherever a grid goes out of scope.
+impl Drop for Grid<'_> {
+    fn drop(self) {
+        let Grid {
+            lines: _,
+            left: _,
+            attributes: _,
+            objects: _,
+            maximal: _,
+        } = self;
+    }
 }
 
 /// A name and where it is: how far from the left end or from the top, and how wide it is.
@@ -59,28 +71,31 @@ impl<'a> Grid<'a> {
         Ok(())
     }
 
+    /// The name of an attribute at this place; where the next one stands.
+    fn add_attribute(&mut self, name: &'a [u8], at: u32) -> Result<u32, AllocError> {
+        let width = width_of(name);
+        self.attributes.push(Spot { name, at, width })?;
+        Ok(at.saturating_add(width).saturating_add(2 * WIDE))
+    }
+
+    /// The number of a maximal object behind this place; where the next one stands.
+    fn add_maximal(&mut self, name: &'a [u8], behind: u32) -> Result<u32, AllocError> {
+        let width = 8 * WIDE;
+        let at = behind.saturating_add(2 * WIDE);
+        self.maximal.push(Spot { name, at, width })?;
+        Ok(at.saturating_add(width))
+    }
+
     /// The names of the attributes, and behind them the numbers of the maximal objects.
     fn add_columns(&mut self) -> Result<(), AllocError> {
         let mut at = self.left;
         for line in self.lines.iter() {
             let words = line.words.as_slice();
-            if line.kind == Kind::Attribute {
-                let name = word_at(words, 1);
-                let width = width_of(name);
-                self.attributes.push(Spot { name, at, width })?;
-                at = at.saturating_add(width).saturating_add(2 * WIDE);
-            }
-            if line.kind == Kind::Maximal {
-                let name = word_at(words, 3);
-                let width = 8 * WIDE;
-                let left = at.saturating_add(2 * WIDE);
-                self.maximal.push(Spot {
-                    name,
-                    at: left,
-                    width,
-                })?;
-                at = left.saturating_add(width);
-            }
+            at = match line.kind {
+                Kind::Attribute => self.add_attribute(word_at(words, 1), at)?,
+                Kind::Maximal => self.add_maximal(word_at(words, 3), at)?,
+                _ => at,
+            };
         }
         Ok(())
     }
@@ -98,13 +113,6 @@ impl<'a> Grid<'a> {
         Ok(grid)
     }
 
-    fn words(&self, line: usize) -> &[su_base::List<u8>] {
-        match self.lines.get(line) {
-            Some(line) => line.words.as_slice(),
-            None => &[],
-        }
-    }
-
     /// Where the named object is.
     fn height_of(&self, name: &[u8]) -> u32 {
         match spot_of(self.objects.as_slice(), name) {
@@ -115,7 +123,7 @@ impl<'a> Grid<'a> {
 
     /// Where a thing is drawn.
     pub(crate) fn place(&self, thing: &Thing) -> Place {
-        let words = self.words(thing.line);
+        let words = words_of(self.lines, thing.line);
         let word = word_at(words, thing.word);
         let column = match thing.what {
             What::Attribute => spot_of(self.attributes.as_slice(), word),

@@ -2,6 +2,7 @@
 
 ghost use Rattle.std.specs.Prelude.{◌≤◌};
 
+use crate::reading::Line;
 use su_base::List;
 
 /// How wide a character is, and how far apart lines are.
@@ -44,6 +45,14 @@ pub(crate) fn offset_of(words: &[List<u8>], word: usize) -> u32 {
 pub(crate) fn word_at(words: &[List<u8>], word: usize) -> &[u8] {
     match words.get(word) {
         Some(word) => word.as_slice(),
+        None => &[],
+    }
+}
+
+/// The words of the line with this number; none where there is no such line.
+pub(crate) fn words_of(lines: &[Line], line: usize) -> &[List<u8>] {
+    match lines.get(line) {
+        Some(line) => line.words.as_slice(),
         None => &[],
     }
 }

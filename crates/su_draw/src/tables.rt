@@ -6,6 +6,7 @@ use crate::numbers::number_of;
 use crate::reading::Line;
 use crate::things::{before, behind};
 use std::alloc::{AllocError, Global};
+use su_base::List;
 
 /// A column: its attribute, and how wide it is.
 #[derive(Drop)]
@@ -17,7 +18,6 @@ pub(crate) struct Column<'a> {
 /// The table of a term: the line of the term and that of its kept rows; how wide the numbers, variables
 /// and objects of its rows are; its columns; the symbols that stand in it, and those of them that stand
 /// in several cells; the rows that others fold to, each of which has a lane for its arrows.
-#[derive(Drop)]
 pub(crate) struct Table<'a> {
     pub(crate) term: usize,
     pub(crate) kept: usize,
@@ -26,6 +26,21 @@ pub(crate) struct Table<'a> {
     pub(crate) once: Vec<&'a [u8]>,
     pub(crate) often: Vec<&'a [u8]>,
     pub(crate) targets: Vec<usize>,
+}
+
+/// Not derived, so that it is a single call wherever a table goes out of scope.
+impl Drop for Table<'_> {
+    fn drop(self) {
+        let Table {
+            term: _,
+            kept: _,
+            fronts: _,
+            columns: _,
+            once: _,
+            often: _,
+            targets: _,
+        } = self;
+    }
 }
 
 /// Where a text stands among others.
@@ -68,17 +83,38 @@ impl<'a> Table<'a> {
         Ok(())
     }
 
-    /// One more row.
-    fn add_row(&mut self, line: &'a Line) -> Result<(), AllocError> {
-        let words = line.words.as_slice();
+    /// The row's number, variable and object have their room.
+    fn widen_fronts(&mut self, words: &[List<u8>]) {
         for (front, k) in self.fronts.iter_mut().zip(3..6) {
             *front = (*front).max(width_of(word_at(words, k)).saturating_add(2 * WIDE));
         }
+    }
+
+    /// One more cell of a row.
+    fn add_cell(&mut self, word: &'a [u8]) -> Result<(), AllocError> {
+        let (name, symbol) = (before(word), behind(word));
+        let width = width_of(name).max(width_of(symbol));
+        self.widen(name, width.saturating_add(2 * WIDE))?;
+        self.meet(symbol)
+    }
+
+    /// One more row.
+    fn add_row(&mut self, line: &'a Line) -> Result<(), AllocError> {
+        let words = line.words.as_slice();
+        self.widen_fronts(words);
         for word in words.iter().skip(6) {
-            let (name, symbol) = (before(word.as_slice()), behind(word.as_slice()));
-            let width = width_of(name).max(width_of(symbol));
-            self.widen(name, width.saturating_add(2 * WIDE))?;
-            self.meet(symbol)?;
+            self.add_cell(word.as_slice())?;
+        }
+        Ok(())
+    }
+
+    /// The row that this row folds to, if it is another one.
+    fn add_target(&mut self, row: usize, word: &[u8]) -> Result<(), AllocError> {
+        if let Some(target) = number_of(word)
+            && target != row
+            && !self.targets.contains(&target)
+        {
+            self.targets.push(target)?;
         }
         Ok(())
     }
@@ -86,12 +122,7 @@ impl<'a> Table<'a> {
     /// The rows that others fold to.
     fn add_targets(&mut self, line: &Line) -> Result<(), AllocError> {
         for (row, word) in line.words.as_slice().iter().skip(3).enumerate() {
-            if let Some(target) = number_of(word.as_slice())
-                && target != row
-                && !self.targets.contains(&target)
-            {
-                self.targets.push(target)?;
-            }
+            self.add_target(row, word.as_slice())?;
         }
         Ok(())
     }
