@@ -2,6 +2,6 @@
 #![tactic(auto)]
 
 #[cfg(test)]
-mod pair_tests;
+mod naming_tests;
 #[cfg(test)]
-mod tests;
+mod reading_tests;
