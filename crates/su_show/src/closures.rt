@@ -9,7 +9,7 @@ use su_base::{AttrSet, List, NoMemory};
 use su_fd::{Fd, closure as closure_of, derivation};
 use su_schema::Schema;
 
-// The dependency of this number.
+/// The dependency of this number.
 pub(crate) fn fd_at(schema: &Schema, number: u16) -> Fd
     ensures { result ≡ fd_at schema.now number }
 {
@@ -44,7 +44,7 @@ fn push_steps(
     Ok(())
 }
 
-// The reply, from the closure and its derivation.
+/// The reply, from the closure and its derivation.
 fn reply(
     alloc: Global,
     schema: &Schema,

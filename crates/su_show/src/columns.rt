@@ -6,7 +6,7 @@ ghost use Rattle.su_show.specs.Refusing.{column_text};
 use su_base::Column;
 use su_schema::Schema;
 
-// The columns of a relation; none where there is no such relation.
+/// The columns of a relation; none where there is no such relation.
 fn columns(schema: &Schema, relation: u8) -> &[Column]
     ensures { result.now ≡ columns_at schema.now relation }
 {
@@ -22,7 +22,7 @@ pub(crate) fn width(schema: &Schema, relation: u8) -> usize
     columns(schema, relation).len()
 }
 
-// The name of a column; nothing where there is no such column.
+/// The name of a column; nothing where there is no such column.
 pub(crate) fn column_name(schema: &Schema, relation: u8, column: u8) -> &str
     ensures { result.now ≡ column_text schema.now relation column }
 {

@@ -8,7 +8,7 @@ use std::alloc::Global;
 use su_base::{List, NoMemory, Str};
 use su_query::{Query, Ref};
 
-// An output as it is shown.
+/// An output as it is shown.
 fn shown(alloc: Global, output: &Ref) -> Result<Str, NoMemory>
     ensures { IfOk result (λ text. text ≡ spaced (ref_symbols output.now)) }
 {

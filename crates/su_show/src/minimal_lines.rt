@@ -20,7 +20,7 @@ use su_schema::Schema;
 use su_steps::sources_within;
 use su_tableau::{all_essential, has};
 
-// A row behind a space, if it is in the mask.
+/// A row behind a space, if it is in the mask.
 fn push_row_in(alloc: Global, out: &mut Vec<u8>, mask: u64, row: usize) -> Result<(), NoMemory>
     requires { row < 64 }
     ensures { OnOk result (out.new.items ≡ out.old.items ++ numbers_text (keep_if (bit_at mask row) row [])) }
@@ -32,7 +32,7 @@ fn push_row_in(alloc: Global, out: &mut Vec<u8>, mask: u64, row: usize) -> Resul
     Ok(())
 }
 
-// The kept rows, each behind a space.
+/// The kept rows, each behind a space.
 fn push_kept_rows(alloc: Global, out: &mut Vec<u8>, minimal: &Minimal) -> Result<(), NoMemory>
     ensures { OnOk result (out.new.items ≡ out.old.items ++ numbers_text (rows_in minimal.now.tableau minimal.now.mask)) }
 {
@@ -42,7 +42,7 @@ fn push_kept_rows(alloc: Global, out: &mut Vec<u8>, minimal: &Minimal) -> Result
     Ok(())
 }
 
-// The kept rows, and the row to which each goes.
+/// The kept rows, and the row to which each goes.
 pub(crate) fn push_minimal(
     alloc: Global,
     out: &mut Vec<u8>,
@@ -57,7 +57,7 @@ pub(crate) fn push_minimal(
     push(out, "\n")
 }
 
-// A row and its sources.
+/// A row and its sources.
 fn push_source_line(
     alloc: Global,
     out: &mut Vec<u8>,
@@ -73,7 +73,7 @@ fn push_source_line(
     push(out, "\n")
 }
 
-// The sources of a row whose essential columns these are.
+/// The sources of a row whose essential columns these are.
 fn push_sources(
     alloc: Global,
     out: &mut Vec<u8>,
@@ -89,7 +89,7 @@ fn push_sources(
     push_source_line(alloc, out, schema, row, found)
 }
 
-// The sources of each kept row.
+/// The sources of each kept row.
 fn push_all_sources(
     alloc: Global,
     out: &mut Vec<u8>,
@@ -109,14 +109,14 @@ fn push_all_sources(
     Ok(())
 }
 
-// The rows to which the rows of a cover go.
+/// The rows to which the rows of a cover go.
 fn push_targets(alloc: Global, out: &mut Vec<u8>, mapping: &Mapping) -> Result<(), NoMemory>
     ensures { OnOk result (out.new.items ≡ out.old.items ++ numbers_text mapping.now.list) }
 {
     push_numbers(alloc, out, mapping.list())
 }
 
-// By which term another one is covered.
+/// By which term another one is covered.
 fn push_by(alloc: Global, out: &mut Vec<u8>, term: u16) -> Result<(), NoMemory>
     ensures { OnOk result (out.new.items ≡ out.old.items ++ codes "  covered by term " ++ decimal term) }
 {
@@ -133,7 +133,7 @@ fn push_cover(alloc: Global, out: &mut Vec<u8>, cover: &Cover) -> Result<(), NoM
     push(out, "\n")
 }
 
-// The cover of the term with this number; nothing where it has none.
+/// The cover of the term with this number; nothing where it has none.
 fn push_cover_of(
     alloc: Global,
     out: &mut Vec<u8>,
@@ -150,7 +150,7 @@ fn push_cover_of(
     Ok(())
 }
 
-// Whether the term with this number is kept.
+/// Whether the term with this number is kept.
 fn is_kept(reduced: &Reduced, number: usize) -> bool
     ensures { IsTrue result ↔ Contains reduced.now.kept number }
 {
@@ -162,7 +162,7 @@ fn is_kept(reduced: &Reduced, number: usize) -> bool
     false
 }
 
-// The sources of the kept rows of a kept term, or the cover of a dropped one.
+/// The sources of the kept rows of a kept term, or the cover of a dropped one.
 pub(crate) fn push_end(
     alloc: Global,
     out: &mut Vec<u8>,

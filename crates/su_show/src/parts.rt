@@ -28,7 +28,7 @@ pub(crate) fn push_number(alloc: Global, out: &mut Vec<u8>, number: u64) -> Resu
     push(out, digits.as_str())
 }
 
-// Each name behind a space.
+/// Each name behind a space.
 pub(crate) fn push_names(out: &mut Vec<u8>, names: &[Str]) -> Result<(), NoMemory>
     ensures { OnOk result (out.new.items ≡ out.old.items ++ behind_spaces names.now) }
 {

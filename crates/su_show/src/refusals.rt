@@ -21,7 +21,7 @@ fn limit(limit: SchemaLimit) -> &'static str
     }
 }
 
-// Why a definition is refused, as a refused schema and a refused definition of a script tell it.
+/// Why a definition is refused, as a refused schema and a refused definition of a script tell it.
 pub(crate) fn push_cause(out: &mut Vec<u8>, fault: &SchemaFault) -> Result<(), NoMemory>
     ensures { OnOk result (out.new.items ≡ out.old.items ++ cause_text fault.now) }
 {

@@ -16,10 +16,10 @@ use su_query::Resolved;
 use su_schema::Schema;
 use su_tableau::Sym;
 
-// The blank variable as it is shown.
+/// The blank variable as it is shown.
 const BLANK: &str = "-";
 
-// A variable as it is shown.
+/// A variable as it is shown.
 pub(crate) fn variable(variable: &Option<Str>) -> &str
     ensures { result.now ≡ variable_text variable.now }
 {
@@ -29,7 +29,7 @@ pub(crate) fn variable(variable: &Option<Str>) -> &str
     }
 }
 
-// The variable with this number; the blank one where there is no such variable.
+/// The variable with this number; the blank one where there is no such variable.
 pub(crate) fn variable_of(resolved: &Resolved, number: usize) -> &str
     ensures { result.now ≡ variable_text (variable_at resolved.now number) }
 {
@@ -39,7 +39,7 @@ pub(crate) fn variable_of(resolved: &Resolved, number: usize) -> &str
     }
 }
 
-// The name of an attribute; nothing where there is no such attribute.
+/// The name of an attribute; nothing where there is no such attribute.
 pub(crate) fn attribute_name(schema: &Schema, number: usize) -> &str
     ensures { result.now ≡ name_at (attribute_names schema.now) number }
 {
@@ -50,7 +50,7 @@ pub(crate) fn attribute_name(schema: &Schema, number: usize) -> &str
     schema.attribute_name(number as u8)
 }
 
-// The name of an object; nothing where there is no such object.
+/// The name of an object; nothing where there is no such object.
 pub(crate) fn object_name(schema: &Schema, number: u8) -> &str
     ensures { result.now ≡ name_at (object_names schema.now) number }
 {
@@ -60,7 +60,7 @@ pub(crate) fn object_name(schema: &Schema, number: u8) -> &str
     schema.object_name(number)
 }
 
-// The attributes of an object; none where there is no such object.
+/// The attributes of an object; none where there is no such object.
 pub(crate) fn object_attributes(schema: &Schema, number: u8) -> AttrSet
     ensures { result ≡ attributes_at schema.now number }
 {
@@ -70,7 +70,7 @@ pub(crate) fn object_attributes(schema: &Schema, number: u8) -> AttrSet
     schema.object_attributes(number)
 }
 
-// The numbers of the variable and of the attribute of a pair. Without attributes there are no pairs.
+/// The numbers of the variable and of the attribute of a pair. Without attributes there are no pairs.
 fn pair(schema: &Schema, number: u32) -> (usize, usize)
     ensures variable { result.0 ≡ number / width schema.now }
     ensures attribute { result.1 ≡ number % width schema.now }
@@ -122,7 +122,7 @@ pub(crate) fn push_sym(
     }
 }
 
-// The symbol at a place of a list; nothing where there is no such place.
+/// The symbol at a place of a list; nothing where there is no such place.
 pub(crate) fn push_sym_at(
     alloc: Global,
     out: &mut Vec<u8>,

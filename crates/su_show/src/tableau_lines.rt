@@ -23,7 +23,7 @@ use su_steps::{Origin, Term};
 use su_tableau::{Sym, Tableau};
 use su_where::Op;
 
-// Each number behind a space.
+/// Each number behind a space.
 pub(crate) fn push_numbers(alloc: Global, out: &mut Vec<u8>, numbers: &[u8]) -> Result<(), NoMemory>
     ensures { OnOk result (out.new.items ≡ out.old.items ++ numbers_text numbers.now) }
 {
@@ -46,7 +46,7 @@ fn push_first(alloc: Global, out: &mut Vec<u8>, number: usize, term: &Term) -> R
     push(out, "\n")
 }
 
-// The cells of a row; none where there is no such row.
+/// The cells of a row; none where there is no such row.
 fn cells(tableau: &Tableau, row: usize) -> &[Sym]
     ensures { result.now ≡ get_or tableau.now.rows row [] }
 {
@@ -56,7 +56,7 @@ fn cells(tableau: &Tableau, row: usize) -> &[Sym]
     tableau.row(row)
 }
 
-// What a row is for.
+/// What a row is for.
 fn push_origin(
     alloc: Global,
     out: &mut Vec<u8>,
@@ -91,7 +91,7 @@ fn push_cell(
     push_sym_at(alloc, out, schema, resolved, cells, attribute as usize)
 }
 
-// The attributes of a set, each with its symbol.
+/// The attributes of a set, each with its symbol.
 fn push_cells(
     alloc: Global,
     out: &mut Vec<u8>,
@@ -132,7 +132,7 @@ fn push_rows(
     Ok(())
 }
 
-// Each symbol behind a space.
+/// Each symbol behind a space.
 fn push_syms(
     alloc: Global,
     out: &mut Vec<u8>,
@@ -178,7 +178,7 @@ fn operator(op: Op) -> &'static str
     }
 }
 
-// The operator with this number; nothing where there is no such operator.
+/// The operator with this number; nothing where there is no such operator.
 fn operator_of(operators: &[Op], number: usize) -> &str
     ensures { result.now ≡ operator_at operators.now number }
 {
@@ -226,7 +226,7 @@ fn push_compares(
     Ok(())
 }
 
-// The lines of a term with this number, down to its comparisons.
+/// The lines of a term with this number, down to its comparisons.
 pub(crate) fn push_tableau(
     alloc: Global,
     out: &mut Vec<u8>,

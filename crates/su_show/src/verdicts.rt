@@ -7,7 +7,7 @@ use std::alloc::Global;
 use su_base::{List, NoMemory};
 use su_check::{Checked, Fault};
 
-// The term at this place, and what is at fault in it.
+/// The term at this place, and what is at fault in it.
 fn push_term(alloc: Global, out: &mut Vec<u8>, place: u32, part: &str) -> Result<(), NoMemory>
     ensures { OnOk result (out.new.items ≡ out.old.items ++ term_text place part.now) }
 {
