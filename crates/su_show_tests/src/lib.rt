@@ -1,19 +1,11 @@
 //! Tests of su_show, of its public calls alone: a crate with tests is proved twice, so they stand beside it.
+//!
+//! The worked cases of the repository compare whole replies. Here stand a few lines that none of them has.
 #![tactic(auto)]
 
 #[cfg(test)]
 mod change_tests;
 #[cfg(test)]
-mod definition_tests;
-#[cfg(test)]
-mod examples;
-#[cfg(test)]
-mod explanation_tests;
-#[cfg(test)]
-mod reply_tests;
-#[cfg(test)]
-mod statement_tests;
+mod refusal_tests;
 #[cfg(test)]
 mod support_tests;
-#[cfg(test)]
-mod tests;
