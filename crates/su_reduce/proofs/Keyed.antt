@@ -1,124 +1,85 @@
--- Keys of rows, and that rows with one key are partners.
-use Rattle.std.proofs.Common.{◌≡◌, ◌↔◌, ◌⊎◌, ◌<◌, ◌+◌, ℕ, Bool, true, false, IsTrue, List, ◌∷◌, length, get_or, pos, Contains, inl, inr, ⊎_elim, refl, sym, ap, subst, ◌∙◌, true≢false, arith}
-use Rattle.std.specs.Prelude.{not}
-use Rattle.std.specs.HashSet.{HashSet, contains, PutsKey}
-use Rattle.std.specs.Cmp.Lexicographic.{pointwise}
-use Rattle.std.proofs.lemmas.Bool.{cases_eq}
+-- Keys of rows, of values and of codes, and that rows with one key are partners.
+use Rattle.std.proofs.Common.{◌≡◌, ◌↔◌, ◌<◌, ◌≤◌, ℕ, Bool, IsTrue, List, [], map, length, get_or, pos, Contains, ⊎_elim, sym, ap, subst, ◌∙◌, arith}
+use Rattle.std.proofs.lemmas.Bool.{cases_lt}
 use Rattle.std.proofs.lemmas.List.{get_or-map, get_or_default, length-map, same_lists}
-use Rattle.std.proofs.lemmas.List.Sorted.{Contains-permutation, IsPermutation-sym}
 use Rattle.su_base.specs.declared.values.Value.{Value}
 use Rattle.su_base.specs.declared.values.Value.TheVariants.{Int}
-use Rattle.su_base.specs.contracts.values.ValuePartialEq.TheImpl.{ghosts}
-use Rattle.su_base.proofs.Same.{has_row}
 use Rattle.su_tableau.specs.declared.symbols.Sym.{Sym}
 use Rattle.su_tableau.specs.declared.symbols.Sym.TheVariants.{Var}
 use Rattle.su_tableau.specs.Tableaux.{value_of, values_of}
+use Rattle.su_reduce.specs.Codes.{AreApart, decode}
+use Rattle.su_reduce.specs.Sheets.{AreBelow, IsMarkedKey, Rows, pick}
+use Rattle.su_reduce.specs.inside.Coded.{AreRowsOf, IsCodeOf}
 use Rattle.su_reduce.specs.inside.Marks.{Fits, Meet, HasPartner, mark, row_at}
-use Rattle.su_reduce.specs.inside.Keys.{AreShared, IsKeyOf, IsPair, LiesWithin, key, value_at}
-use Rattle.su_reduce.proofs.Taking.{contains_cases, contains_head, contains_tail}
+use Rattle.su_reduce.specs.inside.Keys.{AreShared, IsPair, value_at}
+use Rattle.su_reduce.proofs.Chaining.{pick_at}
 use Rattle.su_reduce.proofs.Placing.{read_value}
 use Rattle.su_reduce.proofs.Exact.{patched, patched_own, patched_others}
 
--- ---- the set of keys
+-- the values of a row at these places
+abbrev pub key : List ℕ → List Value → List Value
+key places row = map (λ p. value_at row p) places
 
-abbrev same_row : List Value → List Value → Bool
-same_row = pointwise ghosts.eq
+-- the key of a marked one of the first n rows
+pub record IsKeyOf (rows : List (List Value)) (marks : List Bool) (places : List ℕ) (n : ℕ) (k : List Value) : Type 0 where
+  pub place : ℕ
+  pub below : place < n
+  pub is_marked : IsTrue (mark marks place)
+  pub is : key places (row_at rows place) ≡ k
 
--- a key is put in
-pub put_key : {S : Type 0} (old new : HashSet (List Value) S) (x : List Value) (added : Bool) → added ≡ not (contains same_row old x) → PutsKey old new x added → (k : List Value) → Contains new.keys k ↔ (Contains old.keys k ⊎ (k ≡ x))
-put_key old new x true is puts k = (
-  λ h.
+-- ---- codes
+
+module _ (values : List Value) where
+  -- the code of a value
+  one_code : AreApart values → (x y : ℕ) → x < length values → y < length values → decode values x ≡ decode values y → x ≡ y
+  one_code apart x y x_low y_low same =
       ⊎_elim
-      (λ (e : x ≡ k). inr (sym e))
-      (λ (there : Contains old.keys k). inl there)
-      (contains_cases x old.keys k (Contains-permutation new.keys (x ∷ old.keys) k (IsPermutation-sym (x ∷ old.keys) new.keys puts) h)),
-  λ h.
-      Contains-permutation (x ∷ old.keys) new.keys k puts
-      (⊎_elim
-      (λ (there : Contains old.keys k). contains_tail x old.keys k there)
-      (λ (e : k ≡ x). subst (Contains (x ∷ old.keys)) (sym e) (contains_head x old.keys))
-      h),
-)
-put_key old new x false is puts k = (
-  λ h. inl (subst (λ (keys : List (List Value)). Contains keys k) puts h),
-  λ h.
-      subst (λ (keys : List (List Value)). Contains keys k) (sym puts)
-      (⊎_elim
-      (λ (there : Contains old.keys k). there)
-      (λ (e : k ≡ x). subst (Contains old.keys) (sym e) ((has_row old.keys x).0 (stood (contains same_row old x) is)))
-      h),
-)
-  where
-    stood : (b : Bool) → false ≡ not b → b ≡ true
-    stood true e = refl
-    stood false e = absurd (true≢false (sym e))
+      (λ (l : x < y). absurd (apart x y l y_low same))
+      (λ (h : y ≤ x). ⊎_elim (λ (l : y < x). absurd (apart y x l x_low (sym same))) (λ (m : x ≤ y). omega (arith, h, m)) (cases_lt y x))
+      (cases_lt x y)
 
--- ---- keys of marked rows
+  -- the codes of a list of values
+  one_list : AreApart values → (xs ys : List ℕ) → AreBelow xs (length values) → AreBelow ys (length values) → map (decode values) xs ≡ map (decode values) ys → xs ≡ ys
+  one_list apart xs ys xs_low ys_low same =
+      let long : length xs ≡ length ys = sym (length-map xs (decode values)) ∙ ap (λ (zs : List Value). length zs) same ∙ length-map ys (decode values) in
+      same_lists xs ys long (λ i d l.
+      let m : i < length ys = omega (arith, l, long) in
+      one_code apart (get_or xs i d) (get_or ys i d) (xs_low i d l) (ys_low i d m)
+      (sym (get_or-map (decode values) xs i d (Int (pos 0)) l) ∙ ap (λ (zs : List Value). get_or zs i (Int (pos 0))) same ∙ get_or-map (decode values) ys i d (Int (pos 0)) m))
 
-module _ (rows : List (List Value)) (marks : List Bool) (places : List ℕ) (n : ℕ) where
-  more : (k : List Value) → IsKeyOf rows marks places n k → IsKeyOf rows marks places (n + 1) k
-  more k one = let l = one.below in record {
-    place = one.place;
-    below = omega (arith, l);
-    is_marked = one.is_marked;
-    is = one.is;
-  }
+  module _ (places : List ℕ) (row : List Value) (codes : List ℕ) (are : IsCodeOf values row codes) (low : (i : ℕ) → i < length places → get_or places i 0 < length row) where
+    long : length codes ≡ length row
+    long = sym (length-map codes (decode values)) ∙ ap (λ (xs : List Value). length xs) are.is
 
-  -- the one at n, or one before it
-  last : (k : List Value) → IsKeyOf rows marks places (n + 1) k → IsKeyOf rows marks places n k ⊎ (IsTrue (mark marks n) × (key places (row_at rows n) ≡ k))
-  last k one =
-      ⊎_elim
-      (λ (e : one.place ≡ n). inr (subst (λ (p : ℕ). IsTrue (mark marks p) × (key places (row_at rows p) ≡ k)) e (one.is_marked, one.is)))
-      (λ (other : one.place ≡ n → ⊥). let l = one.below in inl (record {
-        place = one.place;
-        below = omega (arith, l, other);
-        is_marked = one.is_marked;
-        is = one.is;
-      }))
-      (cases_eq one.place n)
+    at : (i : ℕ) → i < length places → get_or places i 0 < length codes
+    at i l = let here = low i l in let same = long in omega (arith, here, same)
 
-  pub keys_same : (keys : List (List Value)) → mark marks n ≡ false → ((k : List Value) → Contains keys k ↔ IsKeyOf rows marks places n k) → (k : List Value) → Contains keys k ↔ IsKeyOf rows marks places (n + 1) k
-  keys_same keys none so_far k = (
-    λ h. more k ((so_far k).0 h),
-    λ one.
-        ⊎_elim
-        (λ (old : IsKeyOf rows marks places n k). (so_far k).1 old)
-        (λ (here : IsTrue (mark marks n) × (key places (row_at rows n) ≡ k)). absurd (true≢false (sym here.0 ∙ none)))
-        (last k one),
-  )
+    -- codes at places stand for the values there
+    pub key_is : map (decode values) (pick places codes) ≡ key places row
+    key_is =
+        let picked = length-map places (λ p. get_or codes p 0) in
+        let keyed = length-map places (value_at row) in
+        same_lists (map (decode values) (pick places codes)) (key places row) (length-map (pick places codes) (decode values) ∙ picked ∙ sym keyed) (λ i d l.
+        let whole = length-map (pick places codes) (decode values) in
+        let in_pick : i < length (pick places codes) = omega (arith, l, whole) in
+        let in_places : i < length places = omega (arith, in_pick, picked) in
+        let p : ℕ = get_or places i 0 in
+        get_or-map (decode values) (pick places codes) i 0 d in_pick ∙ ap (decode values) (pick_at places codes i 0 in_places)
+        ∙ sym (get_or-map (decode values) codes p 0 (Int (pos 0)) (at i in_places)) ∙ ap (λ (xs : List Value). value_at xs p) are.is
+        ∙ sym (get_or-map (value_at row) places i 0 d in_places))
 
-  pub keys_more : (old new : List (List Value)) (x : List Value) → IsTrue (mark marks n) → x ≡ key places (row_at rows n) → ((k : List Value) → Contains old k ↔ IsKeyOf rows marks places n k) → ((k : List Value) → Contains new k ↔ (Contains old k ⊎ (k ≡ x))) → (k : List Value) → Contains new k ↔ IsKeyOf rows marks places (n + 1) k
-  keys_more old new x marked is so_far put k = (
-    λ h.
-        ⊎_elim
-        (λ (there : Contains old k). more k ((so_far k).0 there))
-        (λ (e : k ≡ x). record {
-          place = n;
-          below = omega arith;
-          is_marked = marked;
-          is = sym (e ∙ is);
-        })
-        ((put k).0 h),
-    λ one.
-        (put k).1
-        (⊎_elim
-        (λ (there : IsKeyOf rows marks places n k). inl ((so_far k).1 there))
-        (λ (here : IsTrue (mark marks n) × (key places (row_at rows n) ≡ k)). inr (sym (is ∙ here.1)))
-        (last k one)),
-  )
+    pub key_low : AreBelow (pick places codes) (length values)
+    key_low i d l =
+        let picked = length-map places (λ p. get_or codes p 0) in
+        let in_places : i < length places = omega (arith, l, picked) in
+        let here : get_or codes (get_or places i 0) 0 < length values = are.below (get_or places i 0) 0 (at i in_places) in
+        let same = pick_at places codes i d in_places in
+        omega (arith, here, same)
 
 -- ---- partners
 
 pub fits_length : (cells : List Sym) (row : List Value) → Fits cells row → length row ≡ length cells
 fits_length cells row fit = ap (λ (xs : List Value). length xs) (sym fit.1) ∙ length-map cells (value_of fit.0)
-
--- places of the cells are places of a row that fits
-pub within_row : (cells : List Sym) (row : List Value) (places : List ℕ) → ((i : ℕ) → i < length places → get_or places i 0 < length cells) → Fits cells row → LiesWithin places row
-within_row cells row places low fit i d l =
-    let long = fits_length cells row fit in
-    let here = low i l in
-    let same = get_or_default places i d 0 l in
-    omega (arith, long, here, same)
 
 module _ (left right : List Sym) (ls rs : List ℕ) (shared : AreShared left right (length left) ls rs) where
   -- the values of a key
@@ -176,12 +137,65 @@ module _ (left right : List Sym) (ls rs : List ℕ) (shared : AreShared left rig
     },
   )
 
+  -- of two rows and their codes: the codes have one key exactly where the values have
+  module _ (values : List Value) (apart : AreApart values) (row other : List Value) (codes other_codes : List ℕ) (are : IsCodeOf values row codes) (others_are : IsCodeOf values other other_codes) (fit : Fits left row) (other_fits : Fits right other) where
+    left_low : (i : ℕ) → i < length ls → get_or ls i 0 < length row
+    left_low i l = let here = shared.left_below i l in let same = fits_length left row fit in omega (arith, here, same)
+
+    right_low : (i : ℕ) → i < length rs → get_or rs i 0 < length other
+    right_low i l = let long = shared.same_length in let here = shared.right_below i (omega (arith, l, long)) in let same = fits_length right other other_fits in omega (arith, here, same)
+
+    of_values : key rs other ≡ key ls row → pick rs other_codes ≡ pick ls codes
+    of_values same = one_list values apart (pick rs other_codes) (pick ls codes) (key_low values rs other other_codes others_are right_low) (key_low values ls row codes are left_low)
+        (key_is values rs other other_codes others_are right_low ∙ same ∙ sym (key_is values ls row codes are left_low))
+
+    of_codes : pick rs other_codes ≡ pick ls codes → key rs other ≡ key ls row
+    of_codes same = sym (key_is values rs other other_codes others_are right_low) ∙ ap (map (decode values)) same ∙ key_is values ls row codes are left_low
+
   -- the marks of those whose key is among the others' are those that have a partner
-  pub exact_by_keys : (rows others : List (List Value)) (marks other_marks kept : List Bool) (keys : List (List Value)) → ((p : ℕ) → p < length rows → IsTrue (mark marks p) → Fits left (row_at rows p)) → ((p : ℕ) → p < length others → IsTrue (mark other_marks p) → Fits right (row_at others p))
-      → ((k : List Value) → Contains keys k ↔ IsKeyOf others other_marks rs (length others) k)
-      → ((p : ℕ) → p < length rows → IsTrue (mark kept p) ↔ (IsTrue (mark marks p) × Contains keys (key ls (row_at rows p))))
-      → (p : ℕ) → p < length rows → IsTrue (mark kept p) ↔ (IsTrue (mark marks p) × HasPartner left right others other_marks (row_at rows p))
-  exact_by_keys rows others marks other_marks kept keys fit fit_others keys_are kept_are p l = (
-    λ m. let both = (kept_are p l).0 m in (both.0, (partner_by_key others other_marks (row_at rows p) fit_others (fit p l both.0)).0 ((keys_are (key ls (row_at rows p))).0 both.1)),
-    λ both. (kept_are p l).1 (both.0, (keys_are (key ls (row_at rows p))).1 ((partner_by_key others other_marks (row_at rows p) fit_others (fit p l both.0)).1 both.1)),
-  )
+  module _ (values : List Value) (apart : AreApart values) (rows others : List (List Value)) (marks other_marks : List Bool) (sheet other_sheet : Rows) (coded : AreRowsOf values rows (length left) (length rows) sheet) (others_coded : AreRowsOf values others (length right) (length others) other_sheet)
+      (fit : (p : ℕ) → p < length rows → IsTrue (mark marks p) → Fits left (row_at rows p)) (fit_others : (p : ℕ) → p < length others → IsTrue (mark other_marks p) → Fits right (row_at others p)) where
+    code : (p : ℕ) → p < length rows → IsTrue (mark marks p) → IsCodeOf values (row_at rows p) (get_or sheet.rows p [])
+    code p l m = coded.each p l (fits_length left (row_at rows p) (fit p l m))
+
+    other_code : (p : ℕ) → p < length others → IsTrue (mark other_marks p) → IsCodeOf values (row_at others p) (get_or other_sheet.rows p [])
+    other_code p l m = others_coded.each p l (fits_length right (row_at others p) (fit_others p l m))
+
+    to_values : (p : ℕ) → p < length rows → IsTrue (mark marks p) → IsMarkedKey other_sheet.rows other_marks rs (length other_sheet.rows) (pick ls (get_or sheet.rows p [])) → IsKeyOf others other_marks rs (length others) (key ls (row_at rows p))
+    to_values p l m one =
+        let long = others_coded.same_length in
+        let at = one.below in
+        let low : one.place < length others = omega (arith, at, long) in
+        record {
+          place = one.place;
+          below = low;
+          is_marked = one.is_marked;
+          is = of_codes values apart (row_at rows p) (row_at others one.place) (get_or sheet.rows p []) (get_or other_sheet.rows one.place []) (code p l m) (other_code one.place low one.is_marked) (fit p l m) (fit_others one.place low one.is_marked) one.is;
+        }
+
+    to_codes : (p : ℕ) → p < length rows → IsTrue (mark marks p) → IsKeyOf others other_marks rs (length others) (key ls (row_at rows p)) → IsMarkedKey other_sheet.rows other_marks rs (length other_sheet.rows) (pick ls (get_or sheet.rows p []))
+    to_codes p l m one =
+        let long = others_coded.same_length in
+        let low = one.below in
+        record {
+          place = one.place;
+          below = omega (arith, low, long);
+          is_marked = one.is_marked;
+          is = of_values values apart (row_at rows p) (row_at others one.place) (get_or sheet.rows p []) (get_or other_sheet.rows one.place []) (code p l m) (other_code one.place one.below one.is_marked) (fit p l m) (fit_others one.place one.below one.is_marked) one.is;
+        }
+
+    pub exact_by_codes : (kept : List Bool) → ((p : ℕ) → p < length rows → IsTrue (mark kept p) ↔ (IsTrue (mark marks p) × IsMarkedKey other_sheet.rows other_marks rs (length other_sheet.rows) (pick ls (get_or sheet.rows p []))))
+        → (p : ℕ) → p < length rows → IsTrue (mark kept p) ↔ (IsTrue (mark marks p) × HasPartner left right others other_marks (row_at rows p))
+    exact_by_codes kept kept_are p l = (
+      λ m. let both = (kept_are p l).0 m in (both.0, (partner_by_key others other_marks (row_at rows p) fit_others (fit p l both.0)).0 (to_values p l both.0 both.1)),
+      λ both. (kept_are p l).1 (both.0, to_codes p l both.0 ((partner_by_key others other_marks (row_at rows p) fit_others (fit p l both.0)).1 both.1)),
+    )
+
+-- places below a number, as a list
+pub places_low : (places : List ℕ) (n w : ℕ) → w ≡ n → ((i : ℕ) → i < length places → get_or places i 0 < n) → AreBelow places w
+places_low places n w is low i d l = let here = low i l in let same = get_or_default places i d 0 l in omega (arith, is, here, same)
+
+-- shared places of lists of cells that are read
+pub shared_of : (left right read other_read : List Sym) (ls rs : List ℕ) → read ≡ left → other_read ≡ right → AreShared read other_read (length read) ls rs → AreShared left right (length left) ls rs
+shared_of left right read other_read ls rs is other_is shared =
+    subst (λ (cells : List Sym). AreShared cells right (length cells) ls rs) is (subst (λ (cells : List Sym). AreShared read cells (length read) ls rs) other_is shared)

@@ -6,6 +6,12 @@ pub mod Exact
 pub mod Same
 pub mod Placing
 pub mod Reading
-pub mod Alike
 pub mod Keyed
 pub mod Along
+pub mod Chaining
+pub mod Coding
+pub mod Cutting
+pub mod Extending
+pub mod Hashing
+pub mod Partnered
+pub mod Filling

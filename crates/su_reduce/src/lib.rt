@@ -6,19 +6,33 @@
 //! loses the candidates without partner in the ear, and on the way back each ear those without partner
 //! in its parent: what is left then are the candidates that take part in a valuation of all edges. An
 //! ear without parent takes the next one for it, so that an edge without candidates empties all.
+//!
+//! Values are numbers while rows are compared: `Codes` gives each value one, a `Sheet` has rows of them
+//! side by side, a `Distinct` each row once, and `partner_marks` is the semijoin of two sheets. These
+//! serve whoever joins rows.
 #![tactic(auto)]
 
+mod codes;
 mod crossing;
+mod distinct;
 mod edges;
 mod fitting;
-mod keys;
+mod hashes;
 mod orders;
+mod partners;
 mod reducing;
 mod semijoins;
 mod sharing;
+mod sheeting;
+mod sheets;
 mod support;
 
+pub use codes::Codes;
+pub use distinct::Distinct;
 pub use edges::{Ear, Edge};
+pub use hashes::{bucket, fill, same_key};
 pub use orders::ears;
+pub use partners::{Side, partner_marks};
 pub use reducing::reduce;
+pub use sheets::Sheet;
 pub use support::{Counted, Support};

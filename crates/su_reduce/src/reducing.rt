@@ -2,12 +2,15 @@
 ghost use Rattle.std.specs.Prelude.{◌≡◌, ◌<◌, ◌≤◌, ℕ, IfOk, OnOk, Contains, length, get_or, []};
 ghost use Rattle.su_reduce.specs.Ears.{AreEars, IsEarOrder, cells_of, numbers};
 ghost use Rattle.su_reduce.specs.Left.{candidates_at, AreLeft, marked};
+ghost use Rattle.su_reduce.specs.inside.Coded.{AreSheets};
 ghost use Rattle.su_reduce.specs.inside.Marks.{AreMarks, marks_at};
 ghost use Rattle.su_reduce.specs.inside.Reduced.{AreReduced, next_of};
 
 use crate::edges::{Ear, Edge};
 use crate::fitting::fitting_marks;
 use crate::semijoins::semijoin;
+use crate::sheeting::sheets_of;
+use crate::sheets::Sheet;
 use std::alloc::Global;
 use su_base::{List, NoMemory, Row, copy_row};
 
@@ -26,11 +29,13 @@ fn parent_or_next(order: &[Ear]) -> usize
 fn reduce_along(
     alloc: Global,
     edges: &[Edge],
+    sheets: &[Sheet],
     order: &[Ear],
     marks: &mut [List<bool>],
 ) -> Result<(), NoMemory>
     requires ears { AreEars (cells_of edges.now) order.now }
     requires within { (i : ℕ) → Contains (numbers order.now) i → i < length edges.now }
+    requires sheets { AreSheets edges.now sheets.now }
     requires marks { AreMarks edges.now marks.old }
     ensures { OnOk result (AreReduced edges.now (numbers order.now) marks.old marks.new) }
 {
@@ -39,9 +44,9 @@ fn reduce_along(
     }
     let ear = order[0].edge as usize;
     let parent = parent_or_next(order);
-    semijoin(alloc, edges, marks, parent, ear)?;
-    reduce_along(alloc, edges, &order[1..], marks)?;
-    semijoin(alloc, edges, marks, ear, parent)?;
+    semijoin(alloc, edges, sheets, marks, parent, ear)?;
+    reduce_along(alloc, edges, sheets, &order[1..], marks)?;
+    semijoin(alloc, edges, sheets, marks, ear, parent)?;
     Ok(())
 }
 
@@ -77,15 +82,16 @@ fn copy_left(
 }
 
 /// Per edge the candidates that take part, in their order; one that stands twice stays twice. The time
-/// is that of hashing, per ear, the candidates of the ear and of its parent twice, by keys that borrow
-/// the values; only what is left is copied. (The full reducer of Bernstein and Chiu.)
+/// is that of looking up each value once, and of hashing, per ear, the candidates of the ear and of its
+/// parent twice, as rows of codes; each value is copied once, and what is left. (The full reducer of Bernstein and Chiu.)
 pub fn reduce(alloc: Global, edges: &[Edge], order: &[Ear]) -> Result<List<List<Row>>, NoMemory>
     requires order { IsEarOrder (cells_of edges.now) order.now }
     ensures length { IfOk result (λ left. length left ≡ length edges.now) }
     ensures left { IfOk result (λ left. (i : ℕ) → i < length edges.now → AreLeft edges.now i (get_or left i [])) }
 {
+    let sheets = sheets_of(alloc, edges)?;
     let mut marks = fitting_marks(alloc, edges)?;
-    reduce_along(alloc, edges, order, &mut marks)?;
+    reduce_along(alloc, edges, &sheets, order, &mut marks)?;
     let left = copy_left(alloc, edges, &marks)?;
     Ok(left)
 }

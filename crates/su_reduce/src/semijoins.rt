@@ -1,15 +1,15 @@
 //! A semijoin: an edge loses the candidates that have no partner in another.
-ghost use Rattle.std.specs.Prelude.{◌≡◌, ◌↔◌, ◌<◌, ◌⊎◌, ◌+◌, ℕ, List, IsTrue, IfOk, OnOk, Contains, length};
-ghost use Rattle.su_base.specs.declared.values.Value.{Value as AValue};
-ghost use Rattle.su_reduce.specs.inside.Keys.{AreShared, IsKeyOf, key, LiesWithin};
+ghost use Rattle.std.specs.Prelude.{◌≡◌, ◌↔◌, ◌<◌, ◌+◌, ℕ, IsTrue, IfOk, OnOk, length};
+ghost use Rattle.su_reduce.specs.inside.Coded.{AreCoded, AreSheets};
+ghost use Rattle.su_reduce.specs.inside.Keys.{AreShared};
 ghost use Rattle.su_reduce.specs.inside.Marks.{AreMarks, Fits, HasPartner, IsSemijoin, mark, row_at};
 
 use crate::edges::Edge;
 use crate::fitting::place;
-use crate::keys::Key;
+use crate::partners::{Side, partner_marks};
+use crate::sheets::Sheet;
 use std::alloc::Global;
-use std::collections::HashSet;
-use su_base::{List, NoMemory, Row, Value};
+use su_base::{List, NoMemory};
 use su_tableau::Sym;
 
 /// The places of the variables that two edges share, on both sides.
@@ -49,105 +49,69 @@ fn shared(alloc: Global, left: &[Sym], right: &[Sym]) -> Result<Places, NoMemory
     Ok(places)
 }
 
-/// Notes the key.
-fn note<'a>(keys: &mut HashSet<Key<'a>>, key: Key<'a>) -> Result<(), NoMemory>
-    ensures { OnOk result ((k : List AValue) → Contains keys.new.keys k ↔ (Contains keys.old.keys k ⊎ (k ≡ key.entry))) }
-{
-    match keys.insert(key) {
-        Ok(_) => Ok(()),
-        Err(_) => Err(NoMemory),
-    }
-}
-
-/// The keys of the marked rows.
-fn keys_of<'a>(
-    alloc: Global,
-    rows: &'a [Row],
-    marks: &[bool],
-    places: &'a [usize],
-) -> Result<HashSet<Key<'a>>, NoMemory>
-    requires lengths { length marks.now ≡ length rows.now }
-    requires within { (p : ℕ) → p < length rows.now → IsTrue (mark marks.now p) → LiesWithin places.now (row_at rows.now p) }
-    ensures { IfOk result (λ keys. (k : List AValue) → Contains keys.keys k ↔ IsKeyOf rows.now marks.now places.now (length rows.now) k) }
-{
-    let mut keys = HashSet::new(alloc);
-    for p in 0..rows.len() {
-        if marks[p] {
-            note(&mut keys, Key::new(rows[p].as_slice(), places))?;
-        }
-    }
-    Ok(keys)
-}
-
-/// Whether the row is marked, and its key is among these.
-fn stays(row: &[Value], is_marked: bool, places: &[usize], keys: &HashSet<Key>) -> bool
-    requires { IsTrue is_marked → LiesWithin places.now row.now }
-    ensures { IsTrue result ↔ (IsTrue is_marked × Contains keys.now.keys (key places.now row.now)) }
-{
-    is_marked && keys.contains(&Key::new(row, places))
-}
-
-/// The marks without those of rows whose keys are not among these.
-fn with_keys(
-    alloc: Global,
-    rows: &[Row],
-    marks: &[bool],
-    places: &[usize],
-    keys: &HashSet<Key>,
-) -> Result<List<bool>, NoMemory>
-    requires lengths { length marks.now ≡ length rows.now }
-    requires within { (p : ℕ) → p < length rows.now → IsTrue (mark marks.now p) → LiesWithin places.now (row_at rows.now p) }
-    ensures length { IfOk result (λ kept. length kept ≡ length rows.now) }
-    ensures exact { IfOk result (λ kept. (p : ℕ) → p < length rows.now → IsTrue (mark kept p) ↔ (IsTrue (mark marks.now p) × Contains keys.now.keys (key places.now (row_at rows.now p)))) }
-{
-    let mut kept = List::from_vec(Vec::with_capacity(alloc, rows.len())?);
-    for p in 0..rows.len() {
-        kept.push(stays(rows[p].as_slice(), marks[p], places, keys))?;
-    }
-    Ok(kept)
+/// An edge, its candidates as rows of codes, and which of them are marked.
+#[derive(Clone, Copy)]
+struct Coded<'a> {
+    edge: &'a Edge,
+    sheet: &'a Sheet,
+    marks: &'a [bool],
 }
 
 /// The marks of the first edge without those of candidates that have no partner in the second.
-fn partnered(
-    alloc: Global,
-    left: &Edge,
-    left_marks: &[bool],
-    right: &Edge,
-    right_marks: &[bool],
-) -> Result<List<bool>, NoMemory>
-    requires lengths { (length left_marks.now ≡ length left.now.candidates) × (length right_marks.now ≡ length right.now.candidates) }
-    requires left { (p : ℕ) → p < length left.now.candidates → IsTrue (mark left_marks.now p) → Fits left.now.cells (row_at left.now.candidates p) }
-    requires right { (p : ℕ) → p < length right.now.candidates → IsTrue (mark right_marks.now p) → Fits right.now.cells (row_at right.now.candidates p) }
-    ensures length { IfOk result (λ kept. length kept ≡ length left.now.candidates) }
-    ensures exact { IfOk result (λ kept. (p : ℕ) → p < length left.now.candidates → IsTrue (mark kept p) ↔ (IsTrue (mark left_marks.now p) × HasPartner left.now.cells right.now.cells right.now.candidates right_marks.now (row_at left.now.candidates p))) }
+fn partnered(alloc: Global, left: &Coded, right: &Coded) -> Result<List<bool>, NoMemory>
+    requires coded { AreCoded left.now.edge.now left.now.sheet.now right.now.edge.now right.now.sheet.now }
+    requires lengths { (length left.now.marks.now ≡ length left.now.edge.now.candidates) × (length right.now.marks.now ≡ length right.now.edge.now.candidates) }
+    requires left { (p : ℕ) → p < length left.now.edge.now.candidates → IsTrue (mark left.now.marks.now p) → Fits left.now.edge.now.cells (row_at left.now.edge.now.candidates p) }
+    requires right { (p : ℕ) → p < length right.now.edge.now.candidates → IsTrue (mark right.now.marks.now p) → Fits right.now.edge.now.cells (row_at right.now.edge.now.candidates p) }
+    ensures length { IfOk result (λ kept. length kept ≡ length left.now.edge.now.candidates) }
+    ensures exact { IfOk result (λ kept. (p : ℕ) → p < length left.now.edge.now.candidates → IsTrue (mark kept p) ↔ (IsTrue (mark left.now.marks.now p) × HasPartner left.now.edge.now.cells right.now.edge.now.cells right.now.edge.now.candidates right.now.marks.now (row_at left.now.edge.now.candidates p))) }
 {
-    let places = shared(alloc, left.cells.as_slice(), right.cells.as_slice())?;
-    let rows = right.candidates.as_slice();
-    let keys = keys_of(alloc, rows, right_marks, places.right.as_slice())?;
-    let rows = left.candidates.as_slice();
-    let kept = with_keys(alloc, rows, left_marks, places.left.as_slice(), &keys)?;
-    Ok(kept)
+    let places = shared(
+        alloc,
+        left.edge.cells.as_slice(),
+        right.edge.cells.as_slice(),
+    )?;
+    let kept = partner_marks(
+        alloc,
+        &Side {
+            rows: left.sheet,
+            marks: left.marks,
+            key: places.left.as_slice(),
+        },
+        &Side {
+            rows: right.sheet,
+            marks: right.marks,
+            key: places.right.as_slice(),
+        },
+    )?;
+    Ok(List::from_vec(kept))
 }
 
 /// Edge a loses the candidates that have no partner in edge b.
 pub fn semijoin(
     alloc: Global,
     edges: &[Edge],
+    sheets: &[Sheet],
     marks: &mut [List<bool>],
     a: usize,
     b: usize,
 ) -> Result<(), NoMemory>
     requires below { (a < length edges.now) × (b < length edges.now) }
+    requires sheets { AreSheets edges.now sheets.now }
     requires marks { AreMarks edges.now marks.old }
     ensures { OnOk result (IsSemijoin edges.now a b marks.old marks.new) }
 {
-    let kept = partnered(
-        alloc,
-        &edges[a],
-        marks[a].as_slice(),
-        &edges[b],
-        marks[b].as_slice(),
-    )?;
+    let left = Coded {
+        edge: &edges[a],
+        sheet: &sheets[a],
+        marks: marks[a].as_slice(),
+    };
+    let right = Coded {
+        edge: &edges[b],
+        sheet: &sheets[b],
+        marks: marks[b].as_slice(),
+    };
+    let kept = partnered(alloc, &left, &right)?;
     marks[a] = kept;
     Ok(())
 }

@@ -1,13 +1,12 @@
--- Places of variables, and keys of rows. No public clause cites this module.
+-- Places of variables. No public clause cites this module.
 -- place of a variable: the number of cells before the first one that holds it
--- key: the values of a row at some places; shared places: a place on either side for each variable of both
-use Rattle.std.specs.Prelude.{◌≡◌, ℕ, suc, ◌<◌, pos, Bool, cond, nat_eq, List, [], ◌∷◌, map, length, get_or, All, Contains, IsTrue}
+-- shared places: a place on either side for each variable of both
+use Rattle.std.specs.Prelude.{◌≡◌, ℕ, suc, ◌<◌, pos, cond, nat_eq, List, [], ◌∷◌, length, get_or, Contains}
 use Rattle.su_base.specs.declared.values.Value.{Value}
 use Rattle.su_base.specs.declared.values.Value.TheVariants.{Int}
 use Rattle.su_tableau.specs.declared.symbols.Sym.{Sym}
 use Rattle.su_tableau.specs.declared.symbols.Sym.TheVariants.{Const, Var}
 use Rattle.su_reduce.specs.inside.Partners.{cell_at}
-use Rattle.su_reduce.specs.inside.Marks.{mark, row_at}
 
 -- the place of a variable; their number where no cell holds it
 abbrev pub place_of : List Sym → ℕ → ℕ
@@ -29,14 +28,6 @@ pub record AreFirsts (cells : List Sym) (n : ℕ) (places : List ℕ) : Type 0 w
   pub below : (p : ℕ) → p < n → get_or places p 0 < length cells
   pub is_place : (p k : ℕ) → p < n → cell_at cells p ≡ Var k → get_or places p 0 ≡ place_of cells k
 
--- the values of a row at these places
-abbrev pub key : List ℕ → List Value → List Value
-key places row = map (λ p. value_at row p) places
-
--- the row has these places
-abbrev pub LiesWithin : List ℕ → List Value → Type 0
-LiesWithin places row = All (λ p. p < length row) places
-
 -- the places at i hold one variable
 pub record IsPair (left right : List Sym) (ls rs : List ℕ) (i : ℕ) (k : ℕ) : Type 0 where
   pub below : i < length ls
@@ -50,10 +41,3 @@ pub record AreShared (left right : List Sym) (n : ℕ) (ls rs : List ℕ) : Type
   pub right_below : (i : ℕ) → i < length ls → get_or rs i 0 < length right
   pub only : (i : ℕ) → i < length ls → (k : ℕ) × IsPair left right ls rs i k
   pub all : (p k : ℕ) → p < n → cell_at left p ≡ Var k → Contains right (Var k) → (i : ℕ) × IsPair left right ls rs i k
-
--- the key of a marked one of the first n rows
-pub record IsKeyOf (rows : List (List Value)) (marks : List Bool) (places : List ℕ) (n : ℕ) (k : List Value) : Type 0 where
-  pub place : ℕ
-  pub below : place < n
-  pub is_marked : IsTrue (mark marks place)
-  pub is : key places (row_at rows place) ≡ k

@@ -23,7 +23,7 @@ reduce_along-requires t c =
       omega (arith, few, long, c.decreases),
       (
         later_ears edges order (take (length order - 1) (drop 1 order)) few tail c.requires.ears,
-        (later_within edges order (take (length order - 1) (drop 1 order)) few tail c.requires.within, c.in_ok-semijoin.ensures.marks),
+        (later_within edges order (take (length order - 1) (drop 1 order)) few tail c.requires.within, (c.requires.sheets, c.in_ok-semijoin.ensures.marks)),
       ),
     )
 

@@ -19,4 +19,4 @@ returns-clause-left c =
     let reduced : AreReduced edges (numbers order) c.in_ok-marks.marks.items last =
     subst (λ (ms : List (List Bool)). AreReduced edges (numbers order) ms last) c.deref_mut.ensures.value c.in_ok-reduce_along.ensures in
     λ i l. are_left edges order c.in_ok-marks.marks.items last c.requires.order c.in_ok-marks.ensures.all reduced i l (get_or c.in_ok-left.left i [])
-    (c.in_ok-left.ensures.each i l ∙ ap (λ (ms : List (List Bool)). marked (marks_at ms i) (candidates_at edges i)) (c.deref.ensures.value ∙ whole))
+    (c.in_ok-left.ensures.each i l ∙ ap (λ (ms : List (List Bool)). marked (marks_at ms i) (candidates_at edges i)) (c.deref-2.ensures.value ∙ whole))

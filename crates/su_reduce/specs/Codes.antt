@@ -1,0 +1,13 @@
+-- Codes of values.
+-- code: a value's position in a list of values
+use Rattle.std.specs.Prelude.{◌≡◌, ◌<◌, ℕ, pos, List, length, get_or}
+use Rattle.su_base.specs.declared.values.Value.{Value}
+use Rattle.su_base.specs.declared.values.Value.TheVariants.{Int}
+
+-- the value of a code; 0 where no value has it
+abbrev pub decode : List Value → ℕ → Value
+decode values code = get_or values code (Int (pos 0))
+
+-- no value has two codes
+abbrev pub AreApart : List Value → Type 0
+AreApart values = (i j : ℕ) → i < j → j < length values → ¬ (decode values i ≡ decode values j)

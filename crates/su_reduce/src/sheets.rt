@@ -1,0 +1,92 @@
+//! Rows of codes, of one width, in one vector.
+ghost use Rattle.std.specs.Prelude.{◌≡◌, ◌+◌, ◌*◌, ◌<◌, ◌≤◌, [], ◌∷◌, ◌++◌, length, get_or, take, drop, All, OnOk, OnErr};
+
+use std::alloc::{AllocError, Global};
+use std::marker::Model;
+
+/// Rows of one width. A row's cells stand side by side.
+#[derive(Drop)]
+pub struct Sheet {
+    width: usize,
+    count: usize,
+    cells: Vec<u32>,
+}
+
+impl Model for Sheet {
+    ghost use Rattle.std.specs.Prelude.{◌≡◌, ◌*◌, length};
+    ghost use Rattle.su_reduce.specs.Sheets.{Rows, cut};
+
+    ghost Value = { Rows };
+
+    ghost view = { λ s. record { width = s.width; rows = cut s.width s.count s.cells.items } };
+
+    ghost invariant = { λ s. length s.cells.items ≡ s.count * s.width };
+}
+
+impl Sheet {
+    /// No rows.
+    pub fn new(alloc: Global, width: usize) -> Sheet
+        ensures { result ≡ record { width = width; rows = [] } }
+    {
+        Sheet {
+            width,
+            count: 0,
+            cells: Vec::new(alloc),
+        }
+    }
+
+    /// How many cells a row has.
+    pub fn width(&self) -> usize
+        ensures { result ≡ self.now.width }
+    {
+        self.width
+    }
+
+    /// How many rows there are.
+    pub fn len(&self) -> usize
+        ensures { result ≡ length self.now.rows }
+    {
+        self.count
+    }
+
+    /// Each row has the width.
+    pub fn widths(&self)
+        ensures { All (λ r. length r ≡ self.now.width) self.now.rows }
+    {
+        let _ = &self.cells;
+    }
+
+    /// A row.
+    pub fn row(&self, i: usize) -> &[u32]
+        requires { i < length self.now.rows }
+        ensures is { result.now ≡ get_or self.now.rows i [] }
+        ensures width { length result.now ≡ self.now.width }
+    {
+        let cells = self.cells.as_slice();
+        let start = i * self.width;
+        piece(cells, start, self.width)
+    }
+
+    /// One more row.
+    pub fn push(&mut self, row: &[u32]) -> Result<(), AllocError>
+        requires width { length row.now ≡ self.old.width }
+        ensures width { self.new.width ≡ self.old.width }
+        ensures ok { OnOk result (self.new.rows ≡ self.old.rows ++ row.now ∷ []) }
+        ensures unchanged { OnErr result (self.new.rows ≡ self.old.rows) }
+    {
+        let Some(count) = self.count.checked_add(1) else {
+            return Err(AllocError);
+        };
+        self.cells.extend_from_slice(row)?;
+        self.count = count;
+        Ok(())
+    }
+}
+
+/// Some cells side by side.
+fn piece(cells: &[u32], start: usize, width: usize) -> &[u32]
+    requires { start + width ≤ length cells.now }
+    ensures { result.now ≡ take width (drop start cells.now) }
+{
+    &cells[start..start + width]
+}
