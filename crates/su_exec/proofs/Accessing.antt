@@ -15,14 +15,15 @@ use Rattle.su_index.specs.Matches.{matches}
 use Rattle.su_index.specs.Tables.{table_at}
 use Rattle.su_exec.specs.declared.tasks.Source.{Source}
 use Rattle.su_exec.specs.declared.tasks.TaskRow.{TaskRow}
-use Rattle.su_exec.specs.inside.Checks.{decode}
+use Rattle.su_reduce.specs.Codes.{decode}
 use Rattle.su_exec.specs.inside.Coded.{IsCoded, meaning}
 use Rattle.su_exec.specs.inside.Edges.{Edge, Fits}
-use Rattle.su_exec.specs.inside.Joins.{AreBelow}
+use Rattle.su_reduce.specs.Sheets.{AreBelow}
 use Rattle.su_exec.specs.Shares.{least_matches}
 use Rattle.su_exec.specs.Tasks.{FitsTables}
 use Rattle.su_exec.specs.inside.Ways.{AreValues, matches_all, only_code}
-use Rattle.su_exec.proofs.Extending.{code_is, code_low, contains_map}
+use Rattle.su_reduce.proofs.Extending.{code_is, code_low}
+use Rattle.su_exec.proofs.Extending.{contains_map}
 
 -- ---- sums
 

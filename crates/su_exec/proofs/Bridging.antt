@@ -7,10 +7,10 @@ use Rattle.std.proofs.lemmas.List.Elements.{All-head, All-tail}
 use Rattle.su_base.proofs.Same.{value_eq-Decides}
 use Rattle.su_base.specs.declared.values.Value.{Value}
 use Rattle.su_base.specs.contracts.values.ValuePartialEq.TheImpl.{ghosts}
-use Rattle.su_exec.specs.inside.Checks.{AreApart, decode}
+use Rattle.su_reduce.specs.Codes.{AreApart, decode}
 use Rattle.su_exec.specs.inside.Coded.{meaning, meanings, IsCoded}
 use Rattle.su_exec.specs.inside.Edges.{Edge, Fits, FitsAll}
-use Rattle.su_exec.specs.inside.Joins.{AreBelow}
+use Rattle.su_reduce.specs.Sheets.{AreBelow}
 
 -- the first place of a value
 abbrev pub place_in : List Value → Value → ℕ

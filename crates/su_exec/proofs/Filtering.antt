@@ -1,36 +1,24 @@
 -- Semijoins: rows that have a partner, and what valuations say of them.
-use Rattle.std.proofs.Common.{◌≡◌, ◌↔◌, ◌⊎◌, ◌++◌, ◌+◌, ℕ, ◌<◌, List, [], ◌∷◌, length, get_or, Contains, sym, ap, subst, ◌∙◌, ⊎_elim, inl, inr, true, arith}
+use Rattle.std.proofs.Common.{◌≡◌, ◌↔◌, ◌⊎◌, ◌++◌, ◌+◌, ℕ, ◌<◌, Bool, true, false, IsTrue, cond, List, [], ◌∷◌, length, get_or, Contains, refl, sym, ap, subst, ◌∙◌, ⊎_elim, inl, inr, true≢false, append-nil, arith}
 use Rattle.std.specs.Prelude.{map}
 use Rattle.std.proofs.lemmas.Bool.{cases_eq}
 use Rattle.std.proofs.lemmas.List.{get_or_default}
 use Rattle.std.proofs.lemmas.List.Elements.{Contains-append_left, Contains-push, Contains-push_cases}
 use Rattle.su_exec.specs.inside.Edges.{Edge, Fits, has}
-use Rattle.su_exec.specs.inside.Joins.{pick, AreBelow, IsReal}
+use Rattle.su_reduce.specs.Sheets.{pick, AreBelow, IsMarkedKey}
+use Rattle.su_exec.specs.inside.Joins.{IsReal}
 use Rattle.su_exec.specs.inside.Semijoins.{AgreesWith, AreKept, HasKey, IsKept, IsSemijoin}
 use Rattle.su_exec.proofs.Joining.{pick_map}
 use Rattle.su_exec.proofs.Keeping.{agree_at}
 
 -- ---- keys
 
-pub keys_more :
-    (rows : List (List ℕ)) (places : List ℕ) (n : ℕ) (old new : List (List ℕ)) (x : List ℕ) → x ≡ pick places (get_or rows n [])
-    → ((k : List ℕ) → Contains old k ↔ HasKey rows places n k) → ((r : List ℕ) → Contains old r → Contains new r) → Contains new x → ((r : List ℕ) → Contains new r → Contains old r ⊎ (x ≡ r))
-    → (k : List ℕ) → Contains new k ↔ HasKey rows places (n + 1) k
-keys_more rows places n old new x is before kept had only k = (
-  λ h.
-      ⊎_elim
-      (λ (a : Contains old k). let o = (before k).0 a in let l = o.below in record { place = o.place; below = omega (arith, l); is = o.is })
-      (λ (e : x ≡ k). record { place = n; below = omega arith; is = sym is ∙ e })
-      (only k h),
-  λ o.
-      ⊎_elim
-      (λ (e : o.place ≡ n). subst (λ (r : List ℕ). Contains new r) (is ∙ ap (λ p. pick places (get_or rows p [])) (sym e) ∙ o.is) had)
-      (λ (ne : o.place ≡ n → ⊥). let l = o.below in kept k ((before k).1 (record { place = o.place; below = omega (arith, l, ne); is = o.is })))
-      (cases_eq o.place n),
+-- where all rows are marked, the keys of marked rows are the keys of rows
+pub all_marked : (rows : List (List ℕ)) (marks : List Bool) (places : List ℕ) (n : ℕ) (k : List ℕ) → ((i : ℕ) → i < n → IsTrue (get_or marks i false)) → IsMarkedKey rows marks places n k ↔ HasKey rows places n k
+all_marked rows marks places n k all = (
+  λ one. record { place = one.place; below = one.below; is = one.is },
+  λ one. record { place = one.place; below = one.below; is_marked = all one.place one.below; is = one.is },
 )
-
-pub no_keys : (rows : List (List ℕ)) (places : List ℕ) (k : List ℕ) → Contains [] k ↔ HasKey rows places 0 k
-no_keys rows places k = (λ h. absurd (let l = h.1 in omega arith), λ o. absurd (let l = o.below in omega arith))
 
 -- ---- rows that stay
 
@@ -73,6 +61,11 @@ module _ (ls rs : List (List ℕ)) (left_key right_key : List ℕ) (n : ℕ) (ol
         (λ (s : x ≡ r). absurd (none (subst (λ (y : List ℕ). HasKey rs right_key (length rs) (pick left_key y)) (sym s) k.partner)))
         (cases r k),
   )
+
+  -- the row at n stays if it has a partner
+  pub kept_if : (m : Bool) (new : List (List ℕ)) → new ≡ old ++ cond m (x ∷ []) [] → (IsTrue m ↔ HasKey rs right_key (length rs) (pick left_key x)) → AreKept ls rs left_key right_key (n + 1) new
+  kept_if true new e tells = kept_more new e (tells.0 refl)
+  kept_if false new e tells = subst (λ (rows : List (List ℕ)). AreKept ls rs left_key right_key (n + 1) rows) (sym (e ∙ append-nil old)) (kept_same (λ h. true≢false (sym (tells.1 h))))
 
 -- ---- a semijoin
 

@@ -3,10 +3,12 @@ use Rattle.std.proofs.Common.{◌≡◌, ℕ, ◌⊎◌, List, length, get_or, C
 use Rattle.std.specs.Prelude.{map}
 use Rattle.std.proofs.lemmas.List.Elements.{All-contains, Contains-get_or}
 use Rattle.su_base.specs.declared.values.Value.{Value}
-use Rattle.su_exec.specs.inside.Checks.{decode}
-use Rattle.su_exec.specs.inside.Coded.{AreCoded, Extends, IsGathered}
-use Rattle.su_exec.specs.inside.Joins.{AreBelow}
-use Rattle.su_exec.proofs.Extending.{extends_self, extends_then, below_up, decode_row, contains_map, row_of}
+use Rattle.su_reduce.specs.Codes.{decode}
+use Rattle.su_reduce.specs.inside.Coded.{Extends}
+use Rattle.su_exec.specs.inside.Coded.{AreCoded, IsGathered}
+use Rattle.su_reduce.specs.Sheets.{AreBelow}
+use Rattle.su_reduce.proofs.Extending.{extends_self, extends_then, below_up, decode_row}
+use Rattle.su_exec.proofs.Extending.{contains_map, row_of}
 
 -- nothing is added, where nothing is there to be added
 pub gathered_none : (P Q : List Value → Type 0) (values : List Value) (rows : List (List ℕ)) → AreCoded values rows → ((h : List Value) → Q h → ⊥) → IsGathered P Q values rows values rows

@@ -5,7 +5,8 @@ use Rattle.std.proofs.lemmas.Bool.{cases_Bool}
 use Rattle.std.proofs.lemmas.List.{get_or-map, get_or_default}
 use Rattle.std.proofs.lemmas.List.Elements.{All-head, All-tail, All-cons, All-nil}
 use Rattle.su_exec.specs.inside.Edges.{Edge, Fits, FitsAll, has, among, always, Reaches, Keeps, IsTestOf}
-use Rattle.su_exec.specs.inside.Joins.{pick, AreBelow, Columns, Joined, IsReal, FitColumns, out_vars, test_at}
+use Rattle.su_reduce.specs.Sheets.{pick, AreBelow}
+use Rattle.su_exec.specs.inside.Joins.{Columns, Joined, IsReal, FitColumns, out_vars, test_at}
 use Rattle.su_exec.proofs.Keeping.{agree_from, agree_at}
 
 pub pick_map : (v : ℕ → ℕ) (ps xs : List ℕ) → AreBelow ps (length xs) → pick ps (map v xs) ≡ map v (pick ps xs)

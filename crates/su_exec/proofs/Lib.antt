@@ -1,9 +1,5 @@
-pub mod Chaining
 pub mod Choosing
 pub mod Triples
-pub mod Coding
-pub mod Cutting
-pub mod Hashing
 pub mod Joining
 pub mod Keeping
 pub mod Made

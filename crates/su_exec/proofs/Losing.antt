@@ -10,7 +10,8 @@ use Rattle.su_where.specs.declared.operators.Op.{Op}
 use Rattle.su_exec.specs.declared.checks.Spot.TheVariants.{Code as Given, Left}
 use Rattle.su_exec.specs.declared.checks.Test.{Test}
 use Rattle.su_exec.specs.declared.checks.Check.{Check}
-use Rattle.su_exec.specs.inside.Checks.{all_hold, check_holds, decode, test_passes}
+use Rattle.su_exec.specs.inside.Checks.{all_hold, check_holds, test_passes}
+use Rattle.su_reduce.specs.Codes.{decode}
 use Rattle.su_exec.specs.inside.Edges.{Edge, Fits, Keeps, has}
 use Rattle.su_exec.specs.inside.Ranges.{AreCut, ArePassing, IsBound, IsSide, IsWidest, meets, meets_code}
 use Rattle.su_exec.proofs.Keeping.{and_first, and_second}

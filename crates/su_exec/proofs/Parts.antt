@@ -8,7 +8,7 @@ use Rattle.std.proofs.lemmas.List.Elements.{All-append, All-cons, All-nil, All-h
 use Rattle.std.proofs.lemmas.List.Edits.{length-remove, get_or-remove_below, get_or-remove_above}
 use Rattle.std.proofs.lemmas.List.Folds.{list_any-append, list_any_at}
 use Rattle.su_exec.specs.inside.Edges.{Edge, Fits, has, among, always, Agree, Keeps, Splits, IsWithin, IsTestOf}
-use Rattle.su_exec.specs.inside.Joins.{pick, AreBelow}
+use Rattle.su_reduce.specs.Sheets.{pick, AreBelow}
 use Rattle.su_exec.proofs.Keeping.{step_on_part}
 
 pub All_removed : {X : Type 0} (P : X → Type 0) (xs : List X) (i : ℕ) → i < length xs → All P xs → All P (remove xs i)

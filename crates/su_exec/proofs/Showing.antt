@@ -32,10 +32,13 @@ use Rattle.su_exec.specs.declared.tasks.ExecFault.{ExecFault}
 use Rattle.su_exec.specs.declared.tasks.ExecFault.TheVariants.{More}
 use Rattle.su_exec.specs.declared.tasks.Task.{Task}
 use Rattle.su_exec.specs.inside.Bodies.{AreThere, HasMore, IsEmpty, IsGiven, IsMerged}
-use Rattle.su_exec.specs.inside.Checks.{AreApart, HasTerm, IsSpotIn, all_hold, check_holds, check_vars, code_of, decode, spot_code, vars_of}
-use Rattle.su_exec.specs.inside.Coded.{AreRowEdges, Extends, IsCoded, NoneAgrees, meaning, meanings}
+use Rattle.su_reduce.specs.Codes.{AreApart, decode}
+use Rattle.su_reduce.specs.inside.Coded.{Extends}
+use Rattle.su_exec.specs.inside.Checks.{HasTerm, IsSpotIn, all_hold, check_holds, check_vars, code_of, spot_code, vars_of}
+use Rattle.su_exec.specs.inside.Coded.{AreRowEdges, IsCoded, NoneAgrees, meaning, meanings}
 use Rattle.su_exec.specs.inside.Edges.{Edge, Fits, FitsAll, Agree, Keeps, always, among, has}
-use Rattle.su_exec.specs.inside.Joins.{AreBelow, IsReal}
+use Rattle.su_reduce.specs.Sheets.{AreBelow}
+use Rattle.su_exec.specs.inside.Joins.{IsReal}
 use Rattle.su_exec.specs.Outputs.{Agrees, AreMore, AreOutputs, Holds, IsOutput}
 use Rattle.su_exec.specs.inside.Shown.{AreChecksOf, AreSpotsOf, AreTermsOf, HasSomeEdge, HasVars, IsCheckOf, IsMoreBy, IsShown, IsShownBy, IsTermOf, ShowsMore, spot_values, term_values, term_vars}
 use Rattle.su_exec.specs.Tasks.{IsTask, Occurs}

@@ -15,8 +15,9 @@ use Rattle.su_index.specs.Tables.{table_at}
 use Rattle.su_index.proofs.Matched.{has_value-decides, match_of, match_unique}
 use Rattle.su_exec.specs.declared.tasks.Source.{Source}
 use Rattle.su_exec.specs.declared.tasks.TaskRow.{TaskRow}
-use Rattle.su_exec.specs.inside.Checks.{decode}
-use Rattle.su_exec.specs.inside.Coded.{Extends, IsCoded, IsGathered, IsRowEdge, IsShape, IsTaken, meanings, picked}
+use Rattle.su_reduce.specs.Codes.{decode}
+use Rattle.su_reduce.specs.inside.Coded.{Extends}
+use Rattle.su_exec.specs.inside.Coded.{IsCoded, IsGathered, IsRowEdge, IsShape, IsTaken, meanings, picked}
 use Rattle.su_exec.specs.inside.Edges.{Edge, FitsAll}
 use Rattle.su_exec.specs.Outputs.{values_at}
 use Rattle.su_exec.specs.Tasks.{FitsTables}

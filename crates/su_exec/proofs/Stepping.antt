@@ -11,7 +11,8 @@ use Rattle.su_exec.specs.declared.checks.Term.{Term}
 use Rattle.su_exec.specs.declared.checks.Term.TheVariants.{Code, Variable}
 use Rattle.su_exec.specs.declared.checks.Check.{Check}
 use Rattle.su_exec.specs.inside.Bodies.{AreThere}
-use Rattle.su_exec.specs.inside.Checks.{all_hold, check_holds, check_vars, code_of, decode, vars_of}
+use Rattle.su_exec.specs.inside.Checks.{all_hold, check_holds, check_vars, code_of, vars_of}
+use Rattle.su_reduce.specs.Codes.{decode}
 use Rattle.su_exec.specs.inside.Edges.{Edge, Fits, has, among, Agree, Keeps, Splits, Same}
 use Rattle.su_exec.proofs.Keeping.{agree_at}
 use Rattle.su_exec.proofs.Parts.{put_in}

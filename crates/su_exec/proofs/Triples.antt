@@ -6,7 +6,8 @@ use Rattle.std.proofs.lemmas.List.{get_or_default}
 use Rattle.std.proofs.lemmas.List.Elements.{All-cons, All-nil, All-head, All-tail, Contains-push, Contains-push_cases, Contains-append_left}
 use Rattle.su_exec.specs.inside.Bodies.{IsGiven}
 use Rattle.su_exec.specs.inside.Edges.{Agree, Edge, Fits, FitsAll, Keeps, Splits, always, among, has}
-use Rattle.su_exec.specs.inside.Joins.{AreBelow, IsReal, pick}
+use Rattle.su_reduce.specs.Sheets.{AreBelow, pick}
+use Rattle.su_exec.specs.inside.Joins.{IsReal}
 use Rattle.su_exec.specs.inside.Threes.{IsBlock}
 use Rattle.su_exec.proofs.Joining.{first_among, pick_map, second_among}
 use Rattle.su_exec.proofs.Keeping.{agree_at, agree_from}

@@ -1,6 +1,5 @@
 -- Definitions that only contracts of private functions need.
 pub mod Bodies
-pub mod Chains
 pub mod Checks
 pub mod Coded
 pub mod Edges
@@ -9,7 +8,6 @@ pub mod Labels
 pub mod Plans
 pub mod Ranges
 pub mod Semijoins
-pub mod Sheets
 pub mod Shown
 pub mod Threes
 pub mod Ways

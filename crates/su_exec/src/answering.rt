@@ -10,10 +10,10 @@ ghost use Rattle.su_exec.specs.declared.tasks.ExecFault.TheVariants.{More};
 
 use crate::candidates::Candidates;
 use crate::checks::{Spot, Term, code_at, spot_of};
-use crate::codes::Codes;
 use crate::tasks::ExecFault;
 use std::alloc::{AllocError, Global};
 use su_base::{List, NoMemory, Row, sorted_rows};
+use su_reduce::Codes;
 
 /// Where the candidates have the term.
 fn spot_in(term: Term, vars: &[u32]) -> Spot

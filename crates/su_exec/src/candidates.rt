@@ -2,24 +2,30 @@
 ghost use Rattle.std.specs.Prelude.{◌≡◌, ℕ, true, List, [], ◌∷◌, ◌++◌, length, All, Contains, IfOk};
 ghost use Rattle.su_exec.specs.inside.Checks.{IsTestIn, all_pass};
 ghost use Rattle.su_exec.specs.inside.Edges.{has, among};
-ghost use Rattle.su_exec.specs.inside.Joins.{pick, AreBelow, FitColumns, IsApart, IsJoinOf, IsReal, out_vars};
+ghost use Rattle.su_reduce.specs.Sheets.{pick, AreBelow};
+ghost use Rattle.su_exec.specs.inside.Joins.{FitColumns, IsApart, IsJoinOf, IsReal, out_vars};
 ghost use Rattle.su_exec.specs.inside.Semijoins.{IsSemijoin};
 ghost use Rattle.su_exec.specs.inside.Plans.{FitsPlan, columns_of, passes_of};
 
 use crate::checks::Test;
-use crate::codes::Codes;
 use crate::joins::{Plan, join};
 use crate::places::{shared_places, wanted_places};
 use crate::semijoins::with_partners;
-use crate::sheets::Sheet;
 use std::alloc::{AllocError, Global};
 use std::marker::Model;
+use su_reduce::{Codes, Sheet};
 
 /// Variables, and the lists of codes that they may have together.
-#[derive(Drop)]
 pub struct Candidates {
     vars: Vec<u32>,
     rows: Sheet,
+}
+
+/// Not derived, so that it is a single call wherever candidates go out of scope.
+impl Drop for Candidates {
+    fn drop(self) {
+        let Candidates { vars: _, rows: _ } = self;
+    }
 }
 
 impl Model for Candidates {

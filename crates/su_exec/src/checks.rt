@@ -4,9 +4,9 @@ ghost use Rattle.su_base.specs.declared.values.Value.{Value as AValue};
 ghost use Rattle.su_exec.specs.inside.Edges.{has};
 ghost use Rattle.su_exec.specs.inside.Checks.{all_hold, all_pass, check_holds, check_vars, vars_of, spot_code, test_passes, HasTerm, IsSpotIn, IsTestIn};
 
-use crate::codes::Codes;
 use crate::places::place_of;
 use std::alloc::{AllocError, Global};
+use su_reduce::Codes;
 use su_where::Op;
 
 /// The code of a constant, or a variable.

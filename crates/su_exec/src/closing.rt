@@ -4,18 +4,16 @@
 ghost use Rattle.std.specs.Prelude.{◌≡◌, ◌↔◌, ◌⊎◌, ◌<◌, ℕ, true, List, [], ◌∷◌, length, slice_index_or, All, Contains, IfOk, IsTrue};
 ghost use Rattle.su_exec.specs.inside.Bodies.{IsGiven};
 ghost use Rattle.su_exec.specs.inside.Edges.{Fits, Keeps, always, among, has};
-ghost use Rattle.su_exec.specs.inside.Joins.{AreBelow, pick};
+ghost use Rattle.su_reduce.specs.Sheets.{AreBelow, pick};
 ghost use Rattle.su_exec.specs.inside.Threes.{IsBlock};
 
 use crate::candidates::{Candidates, join_all};
-use crate::codes::Codes;
-use crate::distinct::Distinct;
 use crate::joins::add_cells;
 use crate::narrowing::push_if;
 use crate::places::{is_in, place_of};
-use crate::sheets::Sheet;
 use crate::threes::{BLOCKS, blocks_of};
 use std::alloc::{AllocError, Global};
+use su_reduce::{Codes, Distinct, Sheet};
 
 /// The natural join.
 fn natural_join(

@@ -6,11 +6,11 @@ ghost use Rattle.su_exec.specs.inside.Edges.{Keeps};
 
 use crate::candidates::Candidates;
 use crate::closing::join_three;
-use crate::codes::Codes;
 use crate::merging::{Body, wanted_by};
 use crate::reducing::has_empty;
 use crate::threes::three_of;
 use std::alloc::{AllocError, Global};
+use su_reduce::Codes;
 
 /// Three that are taken out of a body, to be joined at once.
 struct Three {

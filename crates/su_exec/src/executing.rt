@@ -1,6 +1,6 @@
 //! The outputs of all valuations.
 ghost use Rattle.std.specs.Prelude.{◌≡◌, ◌≤◌, ◌+◌, length, IfOk, IfErr};
-ghost use Rattle.su_exec.specs.inside.Coded.{Extends};
+ghost use Rattle.su_reduce.specs.inside.Coded.{Extends};
 ghost use Rattle.su_exec.specs.inside.Shown.{AreChecksOf, AreTermsOf, HasSomeEdge, HasVars, IsCheckOf, IsMoreBy, IsShownBy, IsTermOf, term_vars};
 ghost use Rattle.su_exec.specs.Tasks.{IsTask};
 ghost use Rattle.su_exec.specs.Outputs.{AreOutputs, AreMore};
@@ -10,13 +10,13 @@ ghost use Rattle.su_exec.specs.declared.tasks.ExecFault.TheVariants.{More};
 use crate::answering::answers;
 use crate::candidates::Candidates;
 use crate::checks::{Check, Term};
-use crate::codes::Codes;
 use crate::fetching::fetch_rows;
 use crate::merging::{Body, Merged, add_variable, run};
 use crate::tasks::{Compared, ExecFault, Task};
 use std::alloc::{AllocError, Global};
 use su_base::{List, Row};
 use su_index::Rows;
+use su_reduce::Codes;
 use su_tableau::Sym;
 
 /// The term of the symbol.

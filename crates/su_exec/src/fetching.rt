@@ -4,9 +4,10 @@ ghost use Rattle.su_base.specs.declared.values.Value.{Value as AValue};
 ghost use Rattle.su_rel.specs.Stored.{IsRelation};
 ghost use Rattle.su_index.specs.Matches.{matches};
 ghost use Rattle.su_index.specs.Tables.{table_at};
-ghost use Rattle.su_exec.specs.inside.Checks.{decode};
-ghost use Rattle.su_exec.specs.inside.Coded.{AreCoded, AreRowEdges, AreSoFar, Extends, IsCoded, IsGathered, IsRowEdge, IsShape, IsTaken, NoneAgrees, picked};
-ghost use Rattle.su_exec.specs.inside.Joins.{AreBelow};
+ghost use Rattle.su_reduce.specs.Codes.{decode};
+ghost use Rattle.su_reduce.specs.inside.Coded.{Extends};
+ghost use Rattle.su_exec.specs.inside.Coded.{AreCoded, AreRowEdges, AreSoFar, IsCoded, IsGathered, IsRowEdge, IsShape, IsTaken, NoneAgrees, picked};
+ghost use Rattle.su_reduce.specs.Sheets.{AreBelow};
 ghost use Rattle.su_exec.specs.Outputs.{values_at};
 ghost use Rattle.su_exec.specs.Shares.{row_share, share, task_share};
 ghost use Rattle.su_exec.specs.Tasks.{FitsTables, HasSources};
@@ -14,16 +15,14 @@ ghost use Rattle.su_exec.specs.inside.Ways.{AreValues, IsAgreed, IsFrom, IsFromC
 
 use crate::access::{Way, access_of, share_of};
 use crate::candidates::Candidates;
-use crate::codes::Codes;
 use crate::connecting::own_labels;
-use crate::distinct::Distinct;
 use crate::places::is_in;
 use crate::shapes::{Shape, fits, shape_of, value_at};
-use crate::sheets::Sheet;
 use crate::tasks::{Source, Task, TaskRow};
 use std::alloc::{AllocError, Global};
 use su_base::{List, Row, Value};
 use su_index::Rows;
+use su_reduce::{Codes, Distinct, Sheet};
 use su_tableau::Sym;
 
 /// Puts in the codes of the stored row's values at these places.

@@ -1,15 +1,13 @@
 //! The join of two lists of rows of codes, of which some columns are kept.
 ghost use Rattle.std.specs.Prelude.{◌≡◌, ◌↔◌, ◌⊎◌, ℕ, ◌+◌, ◌<◌, ◌≤◌, List, [], ◌++◌, length, get_or, Contains, IsTrue, IfOk, MatchBool};
-ghost use Rattle.su_exec.specs.inside.Chains.{IsChain, in_bucket, last};
-ghost use Rattle.su_exec.specs.inside.Joins.{pick, AllDiffer, AreBelow, Gives, IsJoin, IsUpTo};
+ghost use Rattle.su_reduce.specs.Chains.{IsChain, in_bucket, last};
+ghost use Rattle.su_reduce.specs.Sheets.{pick, AllDiffer, AreBelow};
+ghost use Rattle.su_exec.specs.inside.Joins.{Gives, IsJoin, IsUpTo};
 ghost use Rattle.su_exec.specs.inside.Plans.{FitsPlan, IsMade, columns_of, made_of, passes_of};
 
 use crate::checks::{Test, passes};
-use crate::codes::Codes;
-use crate::distinct::Distinct;
-use crate::hashes::{bucket, fill, same_key};
-use crate::sheets::Sheet;
 use std::alloc::{AllocError, Global};
+use su_reduce::{Codes, Distinct, Sheet, bucket, fill, same_key};
 
 /// Which columns have to be equal, what else a pair of rows has to pass, and which columns are kept.
 #[derive(Drop)]

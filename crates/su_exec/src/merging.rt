@@ -6,7 +6,6 @@ ghost use Rattle.su_exec.specs.inside.Edges.{Fits, Keeps, always, among, has};
 
 use crate::candidates::{Candidates, join_all};
 use crate::checks::{Check, Term, Test, take_tests};
-use crate::codes::Codes;
 use crate::cycles::close_cycles;
 use crate::joins::is_past;
 use crate::narrowing::narrow;
@@ -15,6 +14,7 @@ use crate::places::is_in;
 use crate::reducing::{has_empty, reduce};
 use crate::threes::cyclic_count;
 use std::alloc::{AllocError, Global};
+use su_reduce::Codes;
 
 /// Candidates that are to agree, and checks that are to hold.
 #[derive(Drop)]

@@ -7,10 +7,9 @@ ghost use Rattle.su_exec.specs.inside.Ranges.{AreCut, ArePassing, IsBound, IsSid
 
 use crate::candidates::Candidates;
 use crate::checks::{Check, Spot, Term, Test, passes_one};
-use crate::codes::Codes;
 use crate::places::place_of;
-use crate::sheets::Sheet;
 use std::alloc::{AllocError, Global};
+use su_reduce::{Codes, Sheet};
 use su_where::Op;
 
 /// By what the widest value on the right of a comparison is told, where it is one of order.

@@ -1,7 +1,7 @@
 //! Places of variables, and of what is in lists.
 ghost use Rattle.std.specs.Prelude.{◌≡◌, ◌≢◌, ◌↔◌, ℕ, ◌+◌, ◌<◌, true, false, List, [], ◌∷◌, length, get_or, MatchOption, IfOk};
 ghost use Rattle.su_exec.specs.inside.Edges.{has};
-ghost use Rattle.su_exec.specs.inside.Joins.{pick, AreBelow};
+ghost use Rattle.su_reduce.specs.Sheets.{pick, AreBelow};
 
 use std::alloc::{AllocError, Global};
 

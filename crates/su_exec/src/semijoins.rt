@@ -1,60 +1,19 @@
-//! Partners of rows of codes: rows on the other side with the same key. A semijoin keeps the rows that
-//! have one: a table of the keys on the one side, and a pass over the other.
-ghost use Rattle.std.specs.Prelude.{◌≡◌, ◌↔◌, ◌<◌, ◌+◌, ℕ, List, [], IfOk, Contains, length, get_or};
-ghost use Rattle.su_exec.specs.inside.Joins.{pick, AreBelow};
-ghost use Rattle.su_exec.specs.inside.Semijoins.{AreKept, HasKey};
+//! The rows of codes that have a partner among others, by the semijoin of su_reduce.
+ghost use Rattle.std.specs.Prelude.{◌≡◌, ◌<◌, ℕ, false, IfOk, IsTrue, length, get_or};
+ghost use Rattle.su_reduce.specs.Sheets.{AreBelow};
+ghost use Rattle.su_exec.specs.inside.Semijoins.{AreKept};
 
-use crate::distinct::Distinct;
-use crate::sheets::Sheet;
+use crate::narrowing::push_if;
 use std::alloc::{AllocError, Global};
+use su_reduce::{Sheet, Side, partner_marks};
 
-/// Puts the row's key in place of what is there.
-fn put_key(cells: &mut Vec<u32>, row: &[u32], key: &[usize]) -> Result<(), AllocError>
-    requires { AreBelow key.now (length row.now) }
-    ensures { IfOk result (λ _. cells.new.items ≡ pick key.now row.now) }
+/// So many marks, all set.
+fn all_marked(alloc: Global, count: usize) -> Result<Vec<bool>, AllocError>
+    ensures length { IfOk result (λ marks. length marks.items ≡ count) }
+    ensures all { IfOk result (λ marks. (i : ℕ) → i < count → IsTrue (get_or marks.items i false)) }
 {
-    cells.clear();
-    for p in key {
-        cells.push(row[*p])?;
-    }
-    Ok(())
-}
-
-/// The keys of the rows, each once.
-fn keys_of(alloc: Global, rows: &Sheet, key: &[usize]) -> Result<Distinct, AllocError>
-    requires { AreBelow key.now rows.now.width }
-    ensures width { IfOk result (λ keys. keys.width ≡ length key.now) }
-    ensures keys { IfOk result (λ keys. (k : List ℕ) → Contains keys.rows k ↔ HasKey rows.now.rows key.now (length rows.now.rows) k) }
-{
-    let mut keys = Distinct::new(alloc, key.len())?;
-    let mut cells = Vec::new(alloc);
-    for i in 0..rows.len() {
-        put_key(&mut cells, rows.row(i), key)?;
-        keys.add(alloc, &cells)?;
-    }
-    Ok(keys)
-}
-
-/// Adds the row, if its key is one of these.
-fn keep_row(
-    row: &[u32],
-    key: &[usize],
-    keys: &Distinct,
-    cells: &mut Vec<u32>,
-    kept: &mut Sheet,
-) -> Result<(), AllocError>
-    requires key { AreBelow key.now (length row.now) }
-    requires width { keys.now.width ≡ length key.now }
-    requires wide { kept.old.width ≡ length row.now }
-    ensures wide { kept.new.width ≡ kept.old.width }
-    ensures rows { IfOk result (λ _. (ls rs : List (List ℕ)) (right_key : List ℕ) (i : ℕ) → row.now ≡ get_or ls i [] → ((k : List ℕ) → Contains keys.now.rows k ↔ HasKey rs right_key (length rs) k) → AreKept ls rs key.now right_key i kept.old.rows → AreKept ls rs key.now right_key (i + 1) kept.new.rows) }
-{
-    put_key(cells, row, key)?;
-    if !keys.has(cells) {
-        return Ok(());
-    }
-    kept.push(row)?;
-    Ok(())
+    let marks = vec![in alloc; true; count]?;
+    Ok(marks)
 }
 
 /// The rows on the left that have a partner: a row on the right with their key.
@@ -71,11 +30,22 @@ pub fn with_partners(
     ensures width { IfOk result (λ kept. kept.width ≡ left.now.width) }
     ensures rows { IfOk result (λ kept. AreKept left.now.rows right.now.rows left_key.now right_key.now (length left.now.rows) kept.rows) }
 {
-    let keys = keys_of(alloc, right, right_key)?;
+    let all_left = all_marked(alloc, left.len())?;
+    let all_right = all_marked(alloc, right.len())?;
+    let left_side = Side {
+        rows: left,
+        marks: &all_left,
+        key: left_key,
+    };
+    let right_side = Side {
+        rows: right,
+        marks: &all_right,
+        key: right_key,
+    };
+    let marks = partner_marks(alloc, &left_side, &right_side)?;
     let mut kept = Sheet::new(alloc, left.width());
-    let mut cells = Vec::new(alloc);
     for i in 0..left.len() {
-        keep_row(left.row(i), left_key, &keys, &mut cells, &mut kept)?;
+        push_if(&mut kept, left.row(i), marks[i])?;
     }
     Ok(kept)
 }

@@ -1,13 +1,13 @@
 //! Which three edges of a cycle to join at once, and in which blocks of the first one's rows. No answer
 //! depends on it.
 ghost use Rattle.std.specs.Prelude.{◌≡◌, ◌≢◌, ◌<◌, ◌+◌, length, All, IfOk, IfSome};
-ghost use Rattle.su_exec.specs.inside.Joins.{AreBelow};
+ghost use Rattle.su_reduce.specs.Sheets.{AreBelow};
 
 use crate::candidates::Candidates;
-use crate::hashes::bucket;
 use crate::order::{find_ear, shares};
 use crate::places::{after, is_in, shared_places};
 use std::alloc::{AllocError, Global};
+use su_reduce::bucket;
 
 /// How many blocks there are: the rows of even ones meet the second edge first, those of odd ones the third.
 pub const BLOCKS: usize = 64;

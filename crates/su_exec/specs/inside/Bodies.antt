@@ -11,7 +11,8 @@ use Rattle.su_exec.specs.declared.merging.Merged.{Merged}
 use Rattle.su_exec.specs.declared.merging.Merged.TheVariants.{Whole, Over, Nothing}
 use Rattle.su_exec.specs.inside.Checks.{check_vars}
 use Rattle.su_exec.specs.inside.Edges.{Edge, FitsAll, Keeps, among, always, has}
-use Rattle.su_exec.specs.inside.Joins.{AllDiffer, IsUpTo}
+use Rattle.su_reduce.specs.Sheets.{AllDiffer}
+use Rattle.su_exec.specs.inside.Joins.{IsUpTo}
 
 -- each needed variable, and each that a check compares, is in an edge
 abbrev pub AreThere : List ℕ → List Check → List (Edge ℕ) → Type 0

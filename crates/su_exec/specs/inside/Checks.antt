@@ -1,5 +1,5 @@
 -- Comparisons of codes, and where pairs of rows have what they compare.
--- code: a value's position in a list of values; term: a code, or a variable; check: a comparison of two terms
+-- term: a code, or a variable; check: a comparison of two terms
 -- spot: where a pair of rows has a term; test: a comparison of two spots
 -- No public contract cites this module.
 use Rattle.std.specs.Prelude.{◌≡◌, ◌<◌, ℕ, pos, Bool, List, [], ◌∷◌, ◌++◌, map, length, slice_index_or}
@@ -7,20 +7,13 @@ use Rattle.std.specs.List.{list_all}
 use Rattle.su_base.specs.declared.values.Value.{Value}
 use Rattle.su_base.specs.declared.values.Value.TheVariants.{Int}
 use Rattle.su_where.specs.Operator.{compares}
+use Rattle.su_reduce.specs.Codes.{decode}
 use Rattle.su_exec.specs.declared.checks.Term.{Term}
 use Rattle.su_exec.specs.declared.checks.Term.TheVariants.{Code, Variable}
 use Rattle.su_exec.specs.declared.checks.Check.{Check}
 use Rattle.su_exec.specs.declared.checks.Spot.{Spot}
 use Rattle.su_exec.specs.declared.checks.Spot.TheVariants.{Code as Given, Left, Right}
 use Rattle.su_exec.specs.declared.checks.Test.{Test}
-
--- the value of a code; 0 where no value has it
-abbrev pub decode : List Value → ℕ → Value
-decode values code = slice_index_or values code (Int (pos 0))
-
--- no value has two codes
-abbrev pub AreApart : List Value → Type 0
-AreApart values = (i j : ℕ) → i < j → j < length values → ¬ (decode values i ≡ decode values j)
 
 -- the code of a term
 abbrev pub code_of : (ℕ → ℕ) → Term → ℕ

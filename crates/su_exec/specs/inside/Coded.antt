@@ -9,9 +9,11 @@ use Rattle.su_tableau.specs.declared.symbols.Sym.TheVariants.{Var}
 use Rattle.su_tableau.specs.Tableaux.{value_of, values_of}
 use Rattle.su_exec.specs.declared.tasks.TaskRow.{TaskRow}
 use Rattle.su_exec.specs.declared.tasks.Task.{Task}
-use Rattle.su_exec.specs.inside.Checks.{decode}
+use Rattle.su_reduce.specs.Codes.{decode}
+use Rattle.su_reduce.specs.inside.Coded.{Extends}
 use Rattle.su_exec.specs.inside.Edges.{Edge, Fits, FitsAll, among, has}
-use Rattle.su_exec.specs.inside.Joins.{AreBelow, IsApart}
+use Rattle.su_reduce.specs.Sheets.{AreBelow}
+use Rattle.su_exec.specs.inside.Joins.{IsApart}
 use Rattle.su_exec.specs.Outputs.{Agrees, values_at}
 use Rattle.su_exec.specs.Shares.{row_share}
 use Rattle.su_exec.specs.Tasks.{StandsIn}
@@ -31,11 +33,6 @@ AreCoded values rows = All (λ r. AreBelow r (length values)) rows
 -- each code of the edge stands for a value
 abbrev pub IsCoded : List Value → Edge ℕ → Type 0
 IsCoded values e = AreCoded values e.rows
-
--- the codes so far stand for the same values
-pub record Extends (old new : List Value) : Type 0 where
-  pub longer : length old ≤ length new
-  pub same : (code : ℕ) → code < length old → decode new code ≡ decode old code
 
 -- ---- the cells of a row
 

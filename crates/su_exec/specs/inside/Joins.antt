@@ -1,19 +1,8 @@
 -- Joins of lists of rows, with only some columns kept.
 -- No public contract cites this module.
 use Rattle.std.specs.Prelude.{◌≡◌, ℕ, ◌<◌, ◌≤◌, Bool, true, false, Option, None, Some, List, [], ◌∷◌, ◌++◌, map, length, slice_index_or, All, Contains}
+use Rattle.su_reduce.specs.Sheets.{pick, AreBelow, AllDiffer}
 use Rattle.su_exec.specs.inside.Edges.{Edge, Fits, Reaches, Keeps, has, always}
-
--- the values at these places
-abbrev pub pick : List ℕ → List ℕ → List ℕ
-pick ps xs = map (λ p. slice_index_or xs p 0) ps
-
--- all places are less than n
-abbrev pub AreBelow : List ℕ → ℕ → Type 0
-AreBelow ps n = All (λ p. p < n) ps
-
--- no row stands at two positions
-abbrev pub AllDiffer : List (List ℕ) → Type 0
-AllDiffer rows = (i j : ℕ) → i < j → j < length rows → ¬ (slice_index_or rows i [] ≡ slice_index_or rows j [])
 
 -- where the rows of a join come from
 pub record Columns : Type 0 where

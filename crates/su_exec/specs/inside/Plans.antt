@@ -3,7 +3,8 @@
 use Rattle.std.specs.Prelude.{◌≡◌, ℕ, Bool, true, List, ◌++◌, length, All}
 use Rattle.su_base.specs.declared.values.Value.{Value}
 use Rattle.su_exec.specs.declared.joins.Plan.{Plan}
-use Rattle.su_exec.specs.inside.Joins.{pick, AreBelow, Columns}
+use Rattle.su_reduce.specs.Sheets.{pick, AreBelow}
+use Rattle.su_exec.specs.inside.Joins.{Columns}
 use Rattle.su_exec.specs.inside.Checks.{IsTestIn, all_pass}
 
 -- the columns of a plan

@@ -6,7 +6,8 @@ use Rattle.su_base.specs.declared.values.Value.{Value}
 use Rattle.su_where.specs.Operator.{compares}
 use Rattle.su_where.specs.declared.operators.Op.{Op}
 use Rattle.su_exec.specs.declared.checks.Test.{Test}
-use Rattle.su_exec.specs.inside.Checks.{decode, test_passes}
+use Rattle.su_reduce.specs.Codes.{decode}
+use Rattle.su_exec.specs.inside.Checks.{test_passes}
 use Rattle.su_exec.specs.inside.Edges.{Edge, FitsAll, among}
 
 -- what meets b meets c where b is on this side of c; else what meets c meets b

@@ -7,7 +7,7 @@ use Rattle.su_exec.specs.declared.checks.Check.{Check}
 use Rattle.su_exec.specs.inside.Bodies.{AreThere}
 use Rattle.su_exec.specs.inside.Checks.{all_hold}
 use Rattle.su_exec.specs.inside.Edges.{Edge, Fits, Keeps, has}
-use Rattle.su_exec.specs.inside.Joins.{pick}
+use Rattle.su_reduce.specs.Sheets.{pick}
 
 -- the key of one of the first n rows
 pub record HasKey (rows : List (List ℕ)) (places : List ℕ) (n : ℕ) (key : List ℕ) : Type 0 where

@@ -14,7 +14,8 @@ use Rattle.su_exec.specs.declared.checks.Term.TheVariants.{Code, Variable}
 use Rattle.su_exec.specs.declared.checks.Check.{Check}
 use Rattle.su_exec.specs.declared.checks.Spot.{Spot}
 use Rattle.su_exec.specs.declared.tasks.Compared.{Compared}
-use Rattle.su_exec.specs.inside.Checks.{HasTerm, IsSpotIn, code_of, decode, spot_code, vars_of}
+use Rattle.su_exec.specs.inside.Checks.{HasTerm, IsSpotIn, code_of, spot_code, vars_of}
+use Rattle.su_reduce.specs.Codes.{decode}
 use Rattle.su_exec.specs.inside.Edges.{Edge, Fits, has}
 
 -- the term stands for the symbol

@@ -14,7 +14,7 @@ use Rattle.su_exec.specs.declared.tasks.TaskRow.{TaskRow}
 use Rattle.su_exec.specs.declared.access.Way.{Way}
 use Rattle.su_exec.specs.declared.access.Way.TheVariants.{All as Whole, Values}
 use Rattle.su_exec.specs.declared.access.Cheapest.{Cheapest}
-use Rattle.su_exec.specs.inside.Checks.{decode}
+use Rattle.su_reduce.specs.Codes.{decode}
 use Rattle.su_exec.specs.inside.Coded.{AreCoded, IsTaken, meanings, picked}
 use Rattle.su_exec.specs.inside.Edges.{Edge, FitsAll}
 use Rattle.su_exec.specs.Outputs.{values_at}

@@ -1,7 +1,7 @@
 use Rattle.std.proofs.Common.{◌≡◌, ◌∙◌, [], get_or, ap, arith}
 use Rattle.su_index.specs.Matches.{matches}
 use Rattle.su_index.specs.Tables.{table_at}
-use Rattle.su_exec.specs.inside.Checks.{decode}
+use Rattle.su_reduce.specs.Codes.{decode}
 use Rattle.su_exec.specs.inside.Ways.{only_code}
 use Rattle.su_exec.proofs.Accessing.{sum_more}
 use Rattle.su_exec.proofs.access.matching_all.Goals as goal

@@ -1,5 +1,5 @@
 use Rattle.std.proofs.Common.{◌≡◌, take, ◌++◌}
-use Rattle.su_exec.specs.inside.Joins.{pick}
+use Rattle.su_reduce.specs.Sheets.{pick}
 use Rattle.su_exec.proofs.candidates.add_vars.Given as goal
 
 abbrev pub invariant-loop-p : goal.invariant-loop-p

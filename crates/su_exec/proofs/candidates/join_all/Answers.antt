@@ -1,6 +1,6 @@
 use Rattle.std.proofs.Common.{◌≡◌, ◌++◌, List, ℕ, true, false, length, ap, sym, refl, subst, ◌∙◌, ⊎_elim}
 use Rattle.su_exec.specs.inside.Edges.{has, Edge}
-use Rattle.su_exec.specs.inside.Joins.{pick, AreBelow}
+use Rattle.su_reduce.specs.Sheets.{pick, AreBelow}
 use Rattle.su_exec.proofs.Joining.{first_among, second_among}
 use Rattle.su_exec.proofs.Parts.{wanted_out, one_of, picked_in}
 use Rattle.su_exec.proofs.Stepping.{has_either}

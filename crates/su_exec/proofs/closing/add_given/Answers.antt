@@ -2,7 +2,7 @@ use Rattle.std.proofs.Common.{◌≡◌, ◌<◌, ◌≤◌, ◌∷◌, ◌∙�
 use Rattle.std.proofs.lemmas.Bool.{cases_lt}
 use Rattle.su_exec.specs.inside.Bodies.{IsGiven}
 use Rattle.su_exec.specs.inside.Edges.{Edge, always}
-use Rattle.su_exec.specs.inside.Joins.{AreBelow, pick}
+use Rattle.su_reduce.specs.Sheets.{AreBelow, pick}
 use Rattle.su_exec.proofs.Triples.{given_row, row_given}
 use Rattle.su_exec.proofs.closing.add_given.Goals as goal
 

@@ -1,7 +1,7 @@
 use Rattle.std.proofs.Common.{◌≡◌, ◌⊎◌, ◌<◌, ℕ, List, [], ◌∷◌, get_or, Contains}
 use Rattle.su_exec.specs.inside.Bodies.{IsGiven}
 use Rattle.su_exec.specs.inside.Edges.{always}
-use Rattle.su_exec.specs.inside.Joins.{pick}
+use Rattle.su_reduce.specs.Sheets.{pick}
 use Rattle.su_exec.proofs.closing.add_given.Given as goal
 
 abbrev pub invariant-loop-i : goal.invariant-loop-i

@@ -2,7 +2,7 @@ use Rattle.std.proofs.Common.{◌≡◌, ◌∷◌, [], List, ℕ, Contains, ap,
 use Rattle.std.specs.Prelude.{map}
 use Rattle.su_exec.specs.inside.Bodies.{IsGiven}
 use Rattle.su_exec.specs.inside.Edges.{Edge, always}
-use Rattle.su_exec.specs.inside.Sheets.{Rows}
+use Rattle.su_reduce.specs.Sheets.{Rows}
 use Rattle.su_exec.proofs.Triples.{real_three, three_keeps}
 use Rattle.su_exec.proofs.closing.join_three.Goals as goal
 use Rattle.su_exec.proofs.closing.join_three.Goals.{In_ok-add_blocks}

@@ -1,5 +1,5 @@
 use Rattle.std.proofs.Common.{◌≡◌, take, length}
-use Rattle.su_exec.specs.inside.Joins.{AreBelow, pick}
+use Rattle.su_reduce.specs.Sheets.{AreBelow, pick}
 use Rattle.su_exec.proofs.closing.places_of.Given as goal
 
 abbrev pub invariant-loop-y : goal.invariant-loop-y

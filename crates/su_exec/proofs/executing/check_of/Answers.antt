@@ -1,5 +1,5 @@
 use Rattle.std.proofs.Common.{refl}
-use Rattle.su_exec.proofs.Extending.{extends_then}
+use Rattle.su_reduce.proofs.Extending.{extends_then}
 use Rattle.su_exec.proofs.Showing.{term_up}
 use Rattle.su_exec.proofs.executing.check_of.Goals as goal
 

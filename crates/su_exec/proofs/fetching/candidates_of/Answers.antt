@@ -8,7 +8,7 @@ use Rattle.su_index.specs.Tables.{table_at}
 use Rattle.su_exec.specs.declared.tasks.Source.{Source}
 use Rattle.su_exec.specs.inside.Coded.{IsGathered, IsRowEdge}
 use Rattle.su_exec.specs.inside.Edges.{Edge}
-use Rattle.su_exec.specs.inside.Joins.{AreBelow}
+use Rattle.su_reduce.specs.Sheets.{AreBelow}
 use Rattle.su_exec.specs.Shares.{share}
 use Rattle.su_exec.specs.Tasks.{FitsTables}
 use Rattle.su_exec.specs.inside.Ways.{AgreesBySources, IsAgreed, IsFrom, IsOfSources}

@@ -4,11 +4,12 @@ use Rattle.std.proofs.lemmas.List.{map_more}
 use Rattle.std.proofs.lemmas.List.Elements.{All-nil}
 use Rattle.su_base.specs.declared.values.Value.{Value}
 use Rattle.su_base.specs.declared.values.Value.TheVariants.{Int}
-use Rattle.su_exec.specs.inside.Checks.{decode}
-use Rattle.su_exec.specs.inside.Coded.{Extends, picked}
-use Rattle.su_exec.specs.inside.Joins.{AreBelow}
+use Rattle.su_reduce.specs.Codes.{decode}
+use Rattle.su_reduce.specs.inside.Coded.{Extends}
+use Rattle.su_exec.specs.inside.Coded.{picked}
+use Rattle.su_reduce.specs.Sheets.{AreBelow}
 use Rattle.su_exec.specs.Outputs.{values_at}
-use Rattle.su_exec.proofs.Extending.{extends_kept, extends_self, extends_then, row_more, values_more}
+use Rattle.su_reduce.proofs.Extending.{extends_kept, extends_self, extends_then, row_more, values_more}
 use Rattle.su_exec.proofs.fetching.code_row.Goals as goal
 
 pub loop-first-init : goal.loop-first-init

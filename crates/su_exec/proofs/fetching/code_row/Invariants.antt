@@ -1,8 +1,9 @@
 use Rattle.std.proofs.Common.{◌≡◌, length, take}
 use Rattle.std.specs.Prelude.{map}
-use Rattle.su_exec.specs.inside.Checks.{decode}
-use Rattle.su_exec.specs.inside.Coded.{Extends, picked}
-use Rattle.su_exec.specs.inside.Joins.{AreBelow}
+use Rattle.su_reduce.specs.Codes.{decode}
+use Rattle.su_reduce.specs.inside.Coded.{Extends}
+use Rattle.su_exec.specs.inside.Coded.{picked}
+use Rattle.su_reduce.specs.Sheets.{AreBelow}
 use Rattle.su_exec.specs.Outputs.{values_at}
 use Rattle.su_exec.proofs.fetching.code_row.Given as goal
 

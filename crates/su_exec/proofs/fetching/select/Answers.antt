@@ -4,9 +4,9 @@ use Rattle.std.proofs.lemmas.Bool.{true≢false}
 use Rattle.std.proofs.lemmas.List.{length-map}
 use Rattle.su_base.specs.declared.values.Value.{Value}
 use Rattle.su_base.specs.declared.values.Value.TheVariants.{Int}
-use Rattle.su_exec.specs.inside.Checks.{decode}
+use Rattle.su_reduce.specs.Codes.{decode}
 use Rattle.su_exec.specs.inside.Coded.{IsTaken, picked}
-use Rattle.su_exec.specs.inside.Joins.{AreBelow}
+use Rattle.su_reduce.specs.Sheets.{AreBelow}
 use Rattle.su_exec.specs.Outputs.{values_at}
 use Rattle.su_exec.proofs.Gathering.{gathered_none, gathered_one}
 use Rattle.su_exec.proofs.fetching.select.Goals as goal

@@ -1,6 +1,7 @@
 use Rattle.std.proofs.Common.{◌≡◌, ◌⊎◌, ◌%◌, ℕ, ◌<◌, ◌≤◌, List, [], length, get_or, Contains}
-use Rattle.su_exec.specs.inside.Joins.{pick, Gives}
-use Rattle.su_exec.specs.inside.Chains.{in_bucket, hash_of, last}
+use Rattle.su_reduce.specs.Sheets.{pick}
+use Rattle.su_exec.specs.inside.Joins.{Gives}
+use Rattle.su_reduce.specs.Chains.{in_bucket, hash_of, last}
 use Rattle.su_exec.specs.inside.Plans.{IsMade, columns_of, passes_of}
 use Rattle.su_exec.proofs.joins.add_matches.Given as goal
 

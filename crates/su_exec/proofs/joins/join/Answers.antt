@@ -3,7 +3,7 @@ use Rattle.std.proofs.lemmas.Bool.{cases_lt}
 use Rattle.std.proofs.lemmas.List.{append-nil, drop_all, take_all}
 use Rattle.su_exec.specs.inside.Joins.{Joined, Gives, IsUpTo}
 use Rattle.su_exec.specs.inside.Plans.{columns_of, passes_of}
-use Rattle.su_exec.proofs.Chaining.{gives_joined, joined_gives}
+use Rattle.su_exec.proofs.Made.{gives_joined, joined_gives}
 use Rattle.su_exec.proofs.joins.join.Goals as goal
 
 pub loop-i-preserved : goal.loop-i-preserved

@@ -1,6 +1,6 @@
 use Rattle.std.proofs.Common.{◌≡◌, true, false, sym}
 use Rattle.su_where.specs.Operator.{compares}
-use Rattle.su_exec.specs.inside.Checks.{decode}
+use Rattle.su_reduce.specs.Codes.{decode}
 use Rattle.su_exec.proofs.narrowing.wider.Goals as goal
 
 pub returns-then-compares-clause-best : goal.returns-then-compares-clause-best

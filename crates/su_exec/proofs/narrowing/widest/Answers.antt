@@ -1,7 +1,7 @@
 use Rattle.std.proofs.Common.{◌≡◌, ◌<◌, ◌≤◌, ℕ, true, List, [], get_or, sym, ap, subst, ◌∙◌, ⊎_elim, arith}
 use Rattle.std.proofs.lemmas.Bool.{cases_lt}
 use Rattle.su_where.specs.Operator.{compares}
-use Rattle.su_exec.specs.inside.Checks.{decode}
+use Rattle.su_reduce.specs.Codes.{decode}
 use Rattle.su_exec.proofs.narrowing.widest.Goals as goal
 
 pub loop-i-preserved : goal.loop-i-preserved

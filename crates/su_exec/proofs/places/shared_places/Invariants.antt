@@ -1,6 +1,6 @@
 use Rattle.std.proofs.Common.{◌≡◌, ℕ, true, length, take}
 use Rattle.su_exec.specs.inside.Edges.{has}
-use Rattle.su_exec.specs.inside.Joins.{pick, AreBelow}
+use Rattle.su_reduce.specs.Sheets.{pick, AreBelow}
 use Rattle.su_exec.proofs.places.shared_places.Given as goal
 
 abbrev pub invariant-loop-p : goal.invariant-loop-p

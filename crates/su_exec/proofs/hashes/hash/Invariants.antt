@@ -1,7 +1,0 @@
-use Rattle.std.proofs.Common.{◌≡◌, take}
-use Rattle.su_exec.specs.inside.Joins.{pick}
-use Rattle.su_exec.specs.inside.Chains.{hash_of}
-use Rattle.su_exec.proofs.hashes.hash.Given as goal
-
-abbrev pub invariant-loop-p : goal.invariant-loop-p
-invariant-loop-p l = l.hash ≡ hash_of (pick (take l.p-index l.places) l.row)

@@ -1,6 +1,0 @@
-use Rattle.std.proofs.Common.{◌≡◌, take}
-use Rattle.su_exec.specs.inside.Joins.{pick}
-use Rattle.su_exec.proofs.semijoins.put_key.Given as goal
-
-abbrev pub invariant-loop-p : goal.invariant-loop-p
-invariant-loop-p l = l.cells.items ≡ pick (take l.p-index l.key) l.row

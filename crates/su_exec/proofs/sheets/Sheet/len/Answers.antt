@@ -1,6 +1,0 @@
-use Rattle.std.proofs.Common.{sym}
-use Rattle.su_exec.proofs.Cutting.{length-cut}
-use Rattle.su_exec.proofs.sheets.Sheet.len.Goals as goal
-
-pub returns : goal.returns
-returns c = rw (← c.self.view_is) (sym (length-cut _ _ _))

@@ -1,5 +1,0 @@
-use Rattle.su_exec.proofs.Cutting.{cut_widths}
-use Rattle.su_exec.proofs.sheets.Sheet.widths.Goals as goal
-
-pub returns : goal.returns
-returns c = rw (← c.self.view_is) (cut_widths c.self.inside.width c.self.inside.count c.self.inside.cells.items c.self.invariant)
