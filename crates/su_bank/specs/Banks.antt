@@ -18,8 +18,10 @@ Takes old [] new = new ≡ old
 Takes old (text ∷ texts) new = IsWellKept old × ((reply : Reply) × (next : DatabaseValue) × Replied old text None reply next × Takes next texts new)
 
 -- what the statements of a script leave
-abbrev pub TakesScript : DatabaseValue → List ℕ → DatabaseValue → Type 0
-TakesScript old script new = (spans : List Span) × Pieces script spans × Takes old (map (statement_of script) spans) new
+pub record TakesScript (old : DatabaseValue) (script : List ℕ) (new : DatabaseValue) : Type 0 where
+  pub spans : List Span
+  pub pieces : Pieces script spans
+  pub takes : Takes old (map (statement_of script) spans) new
 
 -- the query is explained and answered, one after the other, on databases that are well kept, and has this line
 pub record Finds (old : DatabaseValue) (number : ℕ) (query line : List ℕ) (new : DatabaseValue) : Type 0 where

@@ -1,3 +1,4 @@
 pub mod Banks
+pub mod inside
 pub mod Lines
 pub mod Scripts

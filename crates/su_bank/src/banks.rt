@@ -1,6 +1,7 @@
 //! What four queries find in the bank.
-ghost use Rattle.std.specs.Prelude.{◌≡◌, ◌≤◌, ◌++◌, ℕ, List as Items, IfOk, OnOk};
-ghost use Rattle.su_bank.specs.Banks.{TakesScript, Finds, FindsAll, IsBankText, four_queries};
+ghost use Rattle.std.specs.Prelude.{◌≤◌, IfOk, OnOk};
+ghost use Rattle.su_bank.specs.Banks.{TakesScript, Finds, IsBankText};
+ghost use Rattle.su_bank.specs.inside.Telling.{TellsFour};
 
 use crate::lines::found_line;
 use crate::scripts::bank_script;
@@ -59,7 +60,7 @@ fn push_lines<R: Threads + Sync, G: Gate>(
     text: &mut Vec<u8>,
     gate: &G,
 ) -> Result<(), NoMemory>
-    ensures { OnOk result ((lines : Items ℕ) × FindsAll session.old 1 four_queries lines session.new × (text.new.items ≡ text.old.items ++ lines)) }
+    ensures { OnOk result (TellsFour session.old text.old.items session.new text.new.items) }
 {
     let banks = find(
         rt,

@@ -83,8 +83,8 @@ all_found (q ∷ qs) a b c d number lines others alike (line, next, rest, finds,
 pub one_bank : (n : ℕ) (text other : List ℕ) → IsBankText n text → IsBankText n other → text ≡ other
 one_bank n text other h k =
     let first : DatabaseValue = empty_database no_definitions in
-    let spans : k.made.0 ≡ h.made.0 = one_list_of_pieces (bank_script n) k.made.0 h.made.0 k.made.1 h.made.1 in
-    let banks = one_taken (map (statement_of (bank_script n)) h.made.0) first first h.bank k.bank (itself first) h.made.2
-    (subst (λ (s : List Span). Takes first (map (statement_of (bank_script n)) s) k.bank) spans k.made.2) in
+    let spans : k.made.spans ≡ h.made.spans = one_list_of_pieces (bank_script n) k.made.spans h.made.spans k.made.pieces h.made.pieces in
+    let banks = one_taken (map (statement_of (bank_script n)) h.made.spans) first first h.bank k.bank (itself first) h.made.takes
+    (subst (λ (s : List Span). Takes first (map (statement_of (bank_script n)) s) k.bank) spans k.made.takes) in
     let lines = all_found four_queries h.bank k.bank h.last k.last 1 h.lines k.lines banks h.found k.found in
     h.text_is ∙ ap (λ (x : List ℕ). codes "bank " ++ decimal n ++ codes "\n" ++ x) lines ∙ sym k.text_is

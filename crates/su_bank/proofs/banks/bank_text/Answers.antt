@@ -8,7 +8,7 @@ use Rattle.su_bank.proofs.banks.bank_text.Goals as goal
 
 pub returns : goal.returns
 returns g c =
-    let lines = c.in_ok-push_lines.ensures.0 in
+    let lines = c.in_ok-push_lines.ensures.lines in
     let front : c.into_bytes-text.result.items ≡ string_bytes c.in_ok-format.field-0 = rw c.into_bytes-text.ensures.value refl in
     record {
       bank = c.take_script.new.session;
@@ -16,6 +16,6 @@ returns g c =
           (c.in_ok-session.ensures ∙ ap empty_database c.new.ensures) (c.as_bytes.ensures.value ∙ c.as_str.ensures.value ∙ c.in_ok-script.ensures) c.in_ok-take_script.ensures;
       lines = lines;
       last = c.push_lines.new.session;
-      found = c.in_ok-push_lines.ensures.1;
-      text_is = c.from_vec.ensures ∙ c.in_ok-push_lines.ensures.2 ∙ ap (λ s. s ++ lines) (front ∙ c.in_ok-format.ensures.ok);
+      found = c.in_ok-push_lines.ensures.found;
+      text_is = c.from_vec.ensures ∙ c.in_ok-push_lines.ensures.text_is ∙ ap (λ s. s ++ lines) (front ∙ c.in_ok-format.ensures.ok);
     }

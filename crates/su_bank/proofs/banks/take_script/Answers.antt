@@ -8,8 +8,8 @@ loop-span-preserved g c =
     c.loop-span-test.true c.loop-span.invariant c.step.ensures.kept c.in_ok-step.ensures.replied
 
 pub returns : goal.returns
-returns g c = (
-  c.as_slice-span-items.result.now,
-  rw c.as_slice-span-items.ensures c.in_ok-spans.ensures.pieces,
-  takes_all c.args.script.now c.as_slice-span-items.result.now c.loop-span.span-index c.args.session.now c.loop-span.session (omega (arith, c.loop-span-test.false)) c.loop-span.invariant,
-)
+returns g c = record {
+  spans = c.as_slice-span-items.result.now;
+  pieces = rw c.as_slice-span-items.ensures c.in_ok-spans.ensures.pieces;
+  takes = takes_all c.args.script.now c.as_slice-span-items.result.now c.loop-span.span-index c.args.session.now c.loop-span.session (omega (arith, c.loop-span-test.false)) c.loop-span.invariant;
+}
