@@ -8,9 +8,9 @@ use std::marker::Brand;
 use std::process::Abort;
 use std::sync::ledger::{Blank, Ledger};
 use std::test::Fail;
-use su_base::{List, Row, Steps, Str, Value};
+use su_base::{List, Row, Str, Value};
 use su_exec::{Compared, ExecFault, Source, Task, TaskRow, components, execute};
-use su_index::{Rows, Table, TableRows};
+use su_index::{Table, TableRows};
 use su_tableau::Sym;
 use su_where::Op;
 
@@ -92,33 +92,69 @@ fn operator(word: &str) -> Op {
     }
 }
 
-/// A task: rows as `cells : sources`, parted by `;`; outputs; comparisons parted by `;`.
-fn task(alloc: Global, rows: &str, outputs: &str, comparisons: &str) -> Result<Task, Fail> {
+/// A row: its cells, and its sources.
+fn row(alloc: Global, cells: &str, from: &str) -> Result<TaskRow, Fail> {
+    let cells = symbols(alloc, cells)?;
+    let sources = sources(alloc, from)?;
+    Ok(TaskRow { cells, sources })
+}
+
+/// Rows as `cells : sources`, parted by `;`.
+fn rows(alloc: Global, words: &str) -> Result<List<TaskRow>, Fail> {
     let mut list = List::new(alloc);
-    for line in rows.split(';') {
+    for line in words.split(';') {
         if let Some((cells, from)) = line.split_once(':') {
-            list.push(TaskRow {
-                cells: symbols(alloc, cells)?,
-                sources: sources(alloc, from)?,
-            })?;
+            list.push(row(alloc, cells, from)?)?;
         }
     }
-    let mut compared = List::new(alloc);
-    for line in comparisons.split(';') {
+    Ok(list)
+}
+
+/// A comparison, of its three words.
+fn comparison(alloc: Global, left: &str, op: &str, right: &str) -> Result<Compared, Fail> {
+    let left = symbol(alloc, left)?;
+    let right = symbol(alloc, right)?;
+    Ok(Compared {
+        left,
+        op: operator(op),
+        right,
+    })
+}
+
+/// Comparisons, parted by `;`.
+fn comparisons(alloc: Global, words: &str) -> Result<List<Compared>, Fail> {
+    let mut list = List::new(alloc);
+    for line in words.split(';') {
         let mut words = line.split_ascii_whitespace();
         if let (Some(left), Some(op), Some(right)) = (words.next(), words.next(), words.next()) {
-            compared.push(Compared {
-                left: symbol(alloc, left)?,
-                op: operator(op),
-                right: symbol(alloc, right)?,
-            })?;
+            list.push(comparison(alloc, left, op, right)?)?;
         }
     }
+    Ok(list)
+}
+
+/// A task of rows, outputs and comparisons.
+fn task(alloc: Global, asked: &str, outputs: &str, compared: &str) -> Result<Task, Fail> {
+    let rows = rows(alloc, asked)?;
+    let outputs = symbols(alloc, outputs)?;
+    let comparisons = comparisons(alloc, compared)?;
     Ok(Task {
-        rows: list,
-        outputs: symbols(alloc, outputs)?,
-        comparisons: compared,
+        rows,
+        outputs,
+        comparisons,
     })
+}
+
+/// Puts the value last, after a space unless it is the first.
+fn show(alloc: Global, text: &mut String, k: usize, value: &Value) -> Result<(), Fail> {
+    if k > 0 {
+        text.push_str(" ")?;
+    }
+    match value {
+        Value::Int(number) => text.push_str(&format!(in alloc; "{number}")?)?,
+        Value::Text(word) => text.push_str(word.as_str())?,
+    }
+    Ok(())
 }
 
 /// The rows of an answer, as words.
@@ -129,13 +165,7 @@ fn words(alloc: Global, rows: &List<Row>) -> Result<String, Fail> {
             text.push_str("; ")?;
         }
         for (k, value) in row.as_slice().iter().enumerate() {
-            if k > 0 {
-                text.push_str(" ")?;
-            }
-            match value {
-                Value::Int(number) => text.push_str(&format!(in alloc; "{number}")?)?,
-                Value::Text(word) => text.push_str(word.as_str())?,
-            }
+            show(alloc, &mut text, k, value)?;
         }
     }
     Ok(text)
@@ -305,67 +335,33 @@ fn answer(
     answer_of::<Brand>(alloc, tables, task, cap, Blank::new(1))
 }
 
-/// Tables with a count of the rows that were fetched from them, which a test can read.
-#[derive(Drop)]
-struct CountedRows<'a, L: Ledger> {
-    tables: &'a [Table],
-    steps: Steps<L>,
-    fetched: u64,
-}
-
-impl<'a, L: Ledger> Rows for CountedRows<'a, L> {
-    ghost tables = { λ rows. rows.tables.now };
-
-    ghost fetches = { λ rows. rows.steps };
-
-    fn len(&self, table: u8) -> usize {
-        self.tables[table as usize].as_slice().len()
-    }
-
-    fn matching(&self, table: u8, column: u8, value: &Value) -> usize {
-        self.tables[table as usize].matching(column, value)
-    }
-
-    fn matched(&self, table: u8, column: u8, value: &Value, k: usize) -> usize {
-        self.tables[table as usize].matched(column, value, k)
-    }
-
-    fn fetch(&mut self, table: u8, i: usize) -> &Row {
-        self.fetched = self.fetched.saturating_add(1);
-        self.tables[table as usize].fetch(i, &mut self.steps)
-    }
-}
-
-/// The answer to the task, and how many rows were fetched for it.
-fn counted_of<L: Ledger>(
-    alloc: Global,
-    tables: &[Table],
-    task: &Task,
-    blank: Blank,
-) -> Result<(List<Row>, u64), ExecFault>
-    requires task { IsTask tables.now task.now }
-    requires name { blank.name ≡ L.name }
-    requires parts { blank.parts ≡ L.parts }
-    requires some { 0 < blank.parts }
-{
-    let mut rows = CountedRows::<L> {
-        tables,
-        steps: Steps::new(blank),
-        fetched: 0,
-    };
-    let found = execute(alloc, task, &mut rows, 9)?;
-    Ok((found, rows.fetched))
-}
-
-/// The answer to the task, which is to be one over the tables, and how many rows were fetched for it.
-fn counted(
+/// The answer to the task, as words; that there are more answers than the cap.
+fn told(
     rt: &impl Abort,
     alloc: Global,
     tables: &[Table],
     task: &Task,
-) -> Result<(List<Row>, u64), ExecFault> {
-    assert!(rt; fits(tables, task));
-    counted_of::<Brand>(alloc, tables, task, Blank::new(1))
+    cap: u64,
+) -> Result<String, Fail> {
+    match answer(rt, alloc, tables, task, cap) {
+        Ok(found) => words(alloc, &found),
+        Err(ExecFault::More) => Ok(format!(in alloc; "more")?),
+        Err(fault) => Err(Fail::from(fault)),
+    }
+}
+
+/// The answer to a task that is given as words.
+fn answered(
+    rt: &impl Abort,
+    alloc: Global,
+    tables: &[Table],
+    rows: &str,
+    outputs: &str,
+    comparisons: &str,
+    cap: u64,
+) -> Result<String, Fail> {
+    let asked = task(alloc, rows, outputs, comparisons)?;
+    told(rt, alloc, tables, &asked, cap)
 }
 
 /// Bank and account, account and balance, account and customer, bank and loan, loan and customer.
@@ -387,102 +383,82 @@ fn bank(rt: &impl Abort, alloc: Global) -> Result<Vec<Table>, Fail> {
 fn rows_are_joined_over_their_sources(rt: HostRuntime) -> Result<(), Fail> {
     let alloc = rt.alloc();
     let tables = bank(&rt, alloc)?;
-    for (rows, outputs, comparisons, wanted) in [
+    for (rows, outputs, comparisons, cap, wanted) in [
         // constants and joins
-        ("B A : 001; A Jones : 201", "B", "", "B1"),
-        ("B L : 301; L Jones : 401", "B", "", "B3"),
-        (
-            "B A : 001; A C : 201",
-            "C B",
-            "",
-            "Jones B1; Smith B1; Smith B2",
-        ),
+        ("B A : 001; A Jones : 201", "B", "", 9, "B1"),
+        ("B L : 301; L Jones : 401", "B", "", 9, "B3"),
+        ("B A : 001; A C : 201", "C B", "", 9, "Jones B1; Smith B1; Smith B2"),
         // several sources, and a column taken from the other side
-        ("C : 21 41", "C", "", "Jones; Smith"),
-        ("X Y : 001 110", "X Y", "", "100 1; 250 2; B1 1; B2 2"),
+        ("C : 21 41", "C", "", 9, "Jones; Smith"),
+        ("X Y : 001 110", "X Y", "", 9, "100 1; 250 2; B1 1; B2 2"),
         // comparisons within a row, between rows, with a constant
-        ("A X : 101; B Y : 101", "A B", "X < Y", "1 2"),
+        ("A X : 101; B Y : 101", "A B", "X < Y", 9, "1 2"),
         // comparisons that exclude one another, and that leave what is equal
-        ("A X : 101; B Y : 101", "A B", "X < Y; Y < X", ""),
-        ("A X : 101; B Y : 101", "A B", "X <= Y; Y <= X", "1 1; 2 2"),
-        ("A X : 101", "A", "X > 100", "2"),
-        ("A X : 101", "A", "X >= 100; A != 2", "1"),
-        ("A X : 101", "A", "1 < 2", "1; 2"),
-        ("A X : 101", "A", "2 < 1", ""),
+        ("A X : 101; B Y : 101", "A B", "X < Y; Y < X", 9, ""),
+        ("A X : 101; B Y : 101", "A B", "X <= Y; Y <= X", 9, "1 1; 2 2"),
+        ("A X : 101", "A", "X > 100", 9, "2"),
+        ("A X : 101", "A", "X >= 100; A != 2", 9, "1"),
+        ("A X : 101", "A", "1 < 2", 9, "1; 2"),
+        ("A X : 101", "A", "2 < 1", 9, ""),
         // one variable twice in a row
-        ("A A : 101", "A", "", ""),
-        ("A A : 110 001 211", "A", "", "Jones; Smith"),
+        ("A A : 101", "A", "", 9, ""),
+        ("A A : 110 001 211", "A", "", 9, "Jones; Smith"),
         // rows that share nothing: all pairs, or only asked for
-        ("A : 10; B : 30", "A B", "", "1 B1; 1 B3; 2 B1; 2 B3"),
-        ("A : 10; B : 30; C Jones : 401", "A", "", "1; 2"),
-        ("A : 10; B : 30; C Robin : 401", "A", "", ""),
+        ("A : 10; B : 30", "A B", "", 9, "1 B1; 1 B3; 2 B1; 2 B3"),
+        ("A : 10; B : 30; C Jones : 401", "A", "", 9, "1; 2"),
+        ("A : 10; B : 30; C Robin : 401", "A", "", 9, ""),
         // outputs: twice, constants, none
-        ("A : 10", "A A 7", "", "1 1 7; 2 2 7"),
-        ("A : 10", "", "", ""),
-        ("B 9 : 001", "", "", ""),
-        ("", "5", "", "5"),
+        ("A : 10", "A A 7", "", 9, "1 1 7; 2 2 7"),
+        ("A : 10", "", "", 9, ""),
+        ("B 9 : 001", "", "", 9, ""),
+        ("", "5", "", 9, "5"),
         // ears: of which nothing more is asked, an output, a comparison; on the way to another; of two columns
-        ("B A : 001; A C : 201; L C : 401", "B", "", "B1; B2"),
-        ("B A : 001; A X : 101; A C : 201", "C", "X > 100", "Smith"),
-        ("A C : 201; L C : 401; A X : 101", "L", "X > 100", "7"),
-        ("B A : 001; A X : 101; C Y : 110", "B", "X < Y", ""),
-        ("B A : 001; A C : 201; C D : 201", "B", "", ""),
-        (
-            "A C : 201; A C : 201",
-            "A C",
-            "",
-            "1 Jones; 1 Smith; 2 Smith",
-        ),
-        ("A C : 201; A C : 401", "A", "", ""),
+        ("B A : 001; A C : 201; L C : 401", "B", "", 9, "B1; B2"),
+        ("B A : 001; A X : 101; A C : 201", "C", "X > 100", 9, "Smith"),
+        ("A C : 201; L C : 401; A X : 101", "L", "X > 100", 9, "7"),
+        ("B A : 001; A X : 101; C Y : 110", "B", "X < Y", 9, ""),
+        ("B A : 001; A C : 201; C D : 201", "B", "", 9, ""),
+        ("A C : 201; A C : 201", "A C", "", 9, "1 Jones; 1 Smith; 2 Smith"),
+        ("A C : 201; A C : 401", "A", "", 9, ""),
         // a triangle
-        (
-            "A B : 001; B C : 201; C D : 410",
-            "A C D",
-            "",
-            "B1 Jones 8; B1 Smith 7; B2 Smith 7",
-        ),
+        ("A B : 001; B C : 201; C D : 410", "A C D", "", 9, "B1 Jones 8; B1 Smith 7; B2 Smith 7"),
+        // the cap: as many answers as asked for, and one more
+        ("A : 10", "A", "", 2, "1; 2"),
+        ("A : 10", "A", "", 1, "more"),
+        ("A : 10; B : 30", "A B", "", 4, "1 B1; 1 B3; 2 B1; 2 B3"),
+        ("A : 10; B : 30", "A B", "", 3, "more"),
+        ("A : 10; B : 30; C Robin : 401", "A B", "", 3, ""),
+        ("A : 10; B : 30; C Jones : 401", "A B", "", 3, "more"),
+        ("A X : 101; B Y : 101", "A B", "X < Y", 0, "more"),
+        ("", "5", "", 1, "5"),
+        ("", "5", "", 0, "more"),
     ] {
-        let asked = task(alloc, rows, outputs, comparisons)?;
-        let found = answer(&rt, alloc, tables.as_slice(), &asked, 9)?;
-        assert_eq!(rt; words(alloc, &found)?.as_str(), wanted);
+        let found = answered(&rt, alloc, tables.as_slice(), rows, outputs, comparisons, cap)?;
+        assert_eq!(rt; found.as_str(), wanted);
     }
     Ok(())
 }
 
-/// The bank of Jones' account: of bank and account both rows, of account and customer that of Jones.
-#[test]
-fn a_row_with_a_constant_is_fetched_by_it(rt: HostRuntime) -> Result<(), Fail> {
-    let alloc = rt.alloc();
-    let tables = bank(&rt, alloc)?;
-    let asked = task(alloc, "B A : 001; A Jones : 201", "B", "")?;
-    let (found, fetched) = counted(&rt, alloc, tables.as_slice(), &asked)?;
-    assert_eq!(rt; words(alloc, &found)?.as_str(), "B1");
-    assert!(rt; fetched <= 3);
-    Ok(())
+/// The rows of each component, as words.
+fn shown(alloc: Global, parts: &List<List<u8>>) -> Result<String, Fail> {
+    let mut text = String::new(alloc);
+    for (p, part) in parts.as_slice().iter().enumerate() {
+        if p > 0 {
+            text.push_str("; ")?;
+        }
+        for (k, row) in part.as_slice().iter().enumerate() {
+            show(alloc, &mut text, k, &Value::Int(*row as i64))?;
+        }
+    }
+    Ok(text)
 }
 
-#[test]
-fn an_answer_past_the_cap_is_told(rt: HostRuntime) -> Result<(), Fail> {
-    let alloc = rt.alloc();
-    let tables = bank(&rt, alloc)?;
-    for (rows, outputs, comparisons, cap, more) in [
-        ("A : 10", "A", "", 2, false),
-        ("A : 10", "A", "", 1, true),
-        ("A : 10; B : 30", "A B", "", 4, false),
-        ("A : 10; B : 30", "A B", "", 3, true),
-        ("A : 10; B : 30; C Robin : 401", "A B", "", 3, false),
-        ("A : 10; B : 30; C Jones : 401", "A B", "", 3, true),
-        ("A X : 101; B Y : 101", "A B", "X < Y", 1, false),
-        ("A X : 101; B Y : 101", "A B", "X < Y", 0, true),
-        ("", "5", "", 1, false),
-        ("", "5", "", 0, true),
-    ] {
-        let asked = task(alloc, rows, outputs, comparisons)?;
-        let found = answer(&rt, alloc, tables.as_slice(), &asked, cap);
-        assert_eq!(rt; matches!(found, Err(ExecFault::More)), more);
-        assert_eq!(rt; found.is_ok(), !more);
-    }
-    Ok(())
+/// The components of a task that is given as words.
+fn parts(rt: &impl Abort, alloc: Global, rows: &str, compared: &str) -> Result<String, Fail> {
+    let asked = task(alloc, rows, "", compared)?;
+    assert!(rt; asked.rows.len() <= 64);
+    let parts = components(alloc, &asked)?;
+    shown(alloc, &parts)
 }
 
 #[test]
@@ -500,22 +476,8 @@ fn rows_that_hang_together_are_one_component(rt: HostRuntime) -> Result<(), Fail
         ),
         ("", "", ""),
     ] {
-        let asked = task(alloc, rows, "", comparisons)?;
-        assert!(rt; asked.rows.len() <= 64);
-        let parts = components(alloc, &asked)?;
-        let mut text = String::new(alloc);
-        for (p, part) in parts.as_slice().iter().enumerate() {
-            if p > 0 {
-                text.push_str("; ")?;
-            }
-            for (k, row) in part.as_slice().iter().enumerate() {
-                if k > 0 {
-                    text.push_str(" ")?;
-                }
-                text.push_str(&format!(in alloc; "{row}")?)?;
-            }
-        }
-        assert_eq!(rt; text.as_str(), wanted);
+        let found = parts(&rt, alloc, rows, comparisons)?;
+        assert_eq!(rt; found.as_str(), wanted);
     }
     Ok(())
 }
