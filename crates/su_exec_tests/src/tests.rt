@@ -387,7 +387,13 @@ fn rows_are_joined_over_their_sources(rt: HostRuntime) -> Result<(), Fail> {
         // constants and joins
         ("B A : 001; A Jones : 201", "B", "", 9, "B1"),
         ("B L : 301; L Jones : 401", "B", "", 9, "B3"),
-        ("B A : 001; A C : 201", "C B", "", 9, "Jones B1; Smith B1; Smith B2"),
+        (
+            "B A : 001; A C : 201",
+            "C B",
+            "",
+            9,
+            "Jones B1; Smith B1; Smith B2",
+        ),
         // several sources, and a column taken from the other side
         ("C : 21 41", "C", "", 9, "Jones; Smith"),
         ("X Y : 001 110", "X Y", "", 9, "100 1; 250 2; B1 1; B2 2"),
@@ -395,7 +401,13 @@ fn rows_are_joined_over_their_sources(rt: HostRuntime) -> Result<(), Fail> {
         ("A X : 101; B Y : 101", "A B", "X < Y", 9, "1 2"),
         // comparisons that exclude one another, and that leave what is equal
         ("A X : 101; B Y : 101", "A B", "X < Y; Y < X", 9, ""),
-        ("A X : 101; B Y : 101", "A B", "X <= Y; Y <= X", 9, "1 1; 2 2"),
+        (
+            "A X : 101; B Y : 101",
+            "A B",
+            "X <= Y; Y <= X",
+            9,
+            "1 1; 2 2",
+        ),
         ("A X : 101", "A", "X > 100", 9, "2"),
         ("A X : 101", "A", "X >= 100; A != 2", 9, "1"),
         ("A X : 101", "A", "1 < 2", 9, "1; 2"),
@@ -414,14 +426,32 @@ fn rows_are_joined_over_their_sources(rt: HostRuntime) -> Result<(), Fail> {
         ("", "5", "", 9, "5"),
         // ears: of which nothing more is asked, an output, a comparison; on the way to another; of two columns
         ("B A : 001; A C : 201; L C : 401", "B", "", 9, "B1; B2"),
-        ("B A : 001; A X : 101; A C : 201", "C", "X > 100", 9, "Smith"),
+        (
+            "B A : 001; A X : 101; A C : 201",
+            "C",
+            "X > 100",
+            9,
+            "Smith",
+        ),
         ("A C : 201; L C : 401; A X : 101", "L", "X > 100", 9, "7"),
         ("B A : 001; A X : 101; C Y : 110", "B", "X < Y", 9, ""),
         ("B A : 001; A C : 201; C D : 201", "B", "", 9, ""),
-        ("A C : 201; A C : 201", "A C", "", 9, "1 Jones; 1 Smith; 2 Smith"),
+        (
+            "A C : 201; A C : 201",
+            "A C",
+            "",
+            9,
+            "1 Jones; 1 Smith; 2 Smith",
+        ),
         ("A C : 201; A C : 401", "A", "", 9, ""),
         // a triangle
-        ("A B : 001; B C : 201; C D : 410", "A C D", "", 9, "B1 Jones 8; B1 Smith 7; B2 Smith 7"),
+        (
+            "A B : 001; B C : 201; C D : 410",
+            "A C D",
+            "",
+            9,
+            "B1 Jones 8; B1 Smith 7; B2 Smith 7",
+        ),
         // the cap: as many answers as asked for, and one more
         ("A : 10", "A", "", 2, "1; 2"),
         ("A : 10", "A", "", 1, "more"),
@@ -433,7 +463,15 @@ fn rows_are_joined_over_their_sources(rt: HostRuntime) -> Result<(), Fail> {
         ("", "5", "", 1, "5"),
         ("", "5", "", 0, "more"),
     ] {
-        let found = answered(&rt, alloc, tables.as_slice(), rows, outputs, comparisons, cap)?;
+        let found = answered(
+            &rt,
+            alloc,
+            tables.as_slice(),
+            rows,
+            outputs,
+            comparisons,
+            cap,
+        )?;
         assert_eq!(rt; found.as_str(), wanted);
     }
     Ok(())
