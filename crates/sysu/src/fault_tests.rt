@@ -1,6 +1,5 @@
 //! Runs over an outside that fails at one call. The bank has a print before a load and one behind it.
 use crate::status::Status;
-use crate::tests::{USAGE, words};
 use crate::top::run;
 use std::alloc::Global;
 use std::test::Fail;
@@ -20,6 +19,28 @@ const REPLIES: [&str; 3] = [
     "loaded 2 of 2\n",
     "rows 2\nACCT,BAL\n1,100\n2,250\n",
 ];
+
+const USAGE: &str =
+    "usage: sysu run SCHEMA SCRIPT [--workers N] | sysu generate N | sysu check FILE\n";
+
+fn words(alloc: Global, all: &[&str]) -> Result<List<Str>, NoMemory> {
+    let mut words = List::new(alloc);
+    for word in all {
+        words.push(Str::new(alloc, word)?)?;
+    }
+    Ok(words)
+}
+
+fn files(alloc: Global, schema: &str, script: &str) -> Result<List<File>, NoMemory> {
+    let mut files = List::new(alloc);
+    for (name, text) in [("s", schema), ("t", script)] {
+        files.push(File {
+            name: Str::new(alloc, name)?,
+            bytes: List::from_vec(text.as_bytes().to_vec(alloc)?),
+        })?;
+    }
+    Ok(files)
+}
 
 /// The bank's files. One of them is a text of so many spaces where there are any.
 fn files_of(alloc: Global, long: &str, spaces: usize) -> Result<List<File>, NoMemory> {
@@ -173,6 +194,43 @@ fn a_file_past_its_limit_is_the_last_begun(rt: HostRuntime) -> Result<(), Fail> 
         assert_eq!(rt; got, Status::TooLong, "{long}");
         assert_eq!(rt; out.written(), left.as_bytes(), "{long}");
         assert_eq!(rt; shelf.begun().map(Str::as_str), Some(long), "{long}");
+    }
+    Ok(())
+}
+
+/// The file is begun by call 0 and read by the other two; the line is written in three pieces.
+#[test]
+fn each_fault_ends_the_check(rt: HostRuntime) -> Result<(), Fail> {
+    let alloc = rt.alloc();
+    for k in 0..3u64 {
+        let fails = List::from_vec([k].as_slice().to_vec(alloc)?);
+        let certificate = files(alloc, "certificate 1 kinds int", "")?;
+        let mut shelf = MemoryShelf::new(certificate, fails, 100);
+        let mut out = SteadySink::new(alloc, 100)?;
+        let got = run(
+            &rt,
+            alloc,
+            words(alloc, &["check", "s"])?.as_slice(),
+            &mut shelf,
+            &mut out,
+            &OpenGate,
+        );
+        assert_eq!(rt; got, Status::ReadFault, "call {k}");
+        assert!(rt; out.written().is_empty(), "call {k}");
+        let fails = List::from_vec([k].as_slice().to_vec(alloc)?);
+        let mut shelf = SteadyShelf::new(files(alloc, "certificate 1 kinds int", "")?);
+        let mut out = MemorySink::new(alloc, fails, 4, 100)?;
+        let got = run(
+            &rt,
+            alloc,
+            words(alloc, &["check", "s"])?.as_slice(),
+            &mut shelf,
+            &mut out,
+            &OpenGate,
+        );
+        assert_eq!(rt; got, Status::WriteFault, "call {k}");
+        let front = "yes terms 0\n".as_bytes().split_at(4 * k as usize).0;
+        assert_eq!(rt; out.written(), front, "call {k}");
     }
     Ok(())
 }

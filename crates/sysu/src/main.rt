@@ -61,7 +61,3 @@ fn main(rt: HostRuntime) -> ExitCode {
 
 #[cfg(test)]
 mod fault_tests;
-#[cfg(test)]
-mod refusal_tests;
-#[cfg(test)]
-mod tests;
