@@ -18,7 +18,7 @@ pub struct Schema {
     pub(crate) declared: List<ObjSet>,
 }
 
-// Not derived, so that it is a single call wherever a schema goes out of scope above.
+/// Not derived, so that it is a single call wherever a schema goes out of scope above.
 impl Drop for Schema {
     fn drop(self) {
         let Schema {

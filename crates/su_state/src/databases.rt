@@ -17,7 +17,7 @@ pub struct Database {
     pub(crate) tables: Vec<Table>,
 }
 
-// Not derived, so that it is a single call wherever a database goes out of scope above.
+/// Not derived, so that it is a single call wherever a database goes out of scope above.
 impl Drop for Database {
     fn drop(self) {
         let Database {
