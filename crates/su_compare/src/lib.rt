@@ -5,7 +5,7 @@
 //! query and looks for the first term of the second that maps into it. Where none does, the chased term
 //! is frozen: its rows are a universal relation that meets the dependencies, and its head a row of the
 //! first query that is none of the second. The verdict is shown by `show`. A search takes no memory but
-//! for one room, 32 KiB per row, that serves all pairs; it is exponential in the rows at worst. Nothing
+//! for one room, 33 KiB a row, that serves all pairs; it is exponential in the rows at worst. Nothing
 //! is minimised here. The statement `compare` shows both directions.
 #![tactic(auto)]
 
