@@ -1,5 +1,6 @@
 pub mod Forms
 pub mod Grammar
+pub mod inside
 pub mod Lists
 pub mod Lookup
 pub mod Mentions

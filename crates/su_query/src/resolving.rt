@@ -1,6 +1,8 @@
 //! Queries over numbers.
-ghost use Rattle.su_query.specs.Lookup.{resolved_of, IsKnownQuery, IsQueryRefusal};
-ghost use Rattle.std.specs.Prelude.{◌≡◌, ◌≤◌, [], length, map, IfOk, IfErr, OnOk};
+ghost use Rattle.su_query.specs.Lookup.{first_unknown, resolved_of, IsKnownQuery, IsQueryRefusal};
+ghost use Rattle.std.specs.Prelude.{◌≡◌, ◌≤◌, [], None, length, map, IfOk, IfErr, OnOk, MatchOption};
+ghost use Rattle.su_schema.specs.SchemaValue.{attribute_names};
+ghost use Rattle.su_query.specs.inside.Faults.{IsFirstFault};
 ghost use Rattle.su_query.specs.Mentions.{variables_of, all_refs};
 ghost use Rattle.su_query.specs.Reading.{AreFew};
 ghost use Rattle.su_query.specs.Lookup.{number_in, places_of};
@@ -15,7 +17,7 @@ use crate::scopes::Scope;
 use crate::statements::Query;
 use crate::{mentions, places};
 use std::alloc::Global;
-use su_base::{List, NoMemory, Str};
+use su_base::{Kind, List, NoMemory, Str};
 use su_schema::Schema;
 use su_where::Cond;
 
@@ -47,6 +49,28 @@ fn numbers(
     Ok(numbers)
 }
 
+/// The first name of the query that is no attribute, as a copy: among the outputs, then in the
+/// condition.
+fn unknown_of(alloc: Global, schema: &Schema, query: &Query) -> Result<Option<Str>, NoMemory>
+    ensures { IfOk result (λ o. o ≡ first_unknown (attribute_names schema.now) (all_refs query.now)) }
+{
+    match unknown_among(alloc, schema, Scope::Attributes, query.outputs.as_slice())? {
+        Some(name) => Ok(Some(name)),
+        None => unknown_in(alloc, schema, Scope::Attributes, &query.cond),
+    }
+}
+
+/// What a query with this unknown name and with this comparison of two kinds is refused for.
+fn refusal(unknown: Option<Str>, kinds: Option<(Kind, Kind)>) -> Option<QueryFault>
+    ensures { MatchOption result ((unknown ≡ None) × (kinds ≡ None)) (IsFirstFault unknown kinds) }
+{
+    match (unknown, kinds) {
+        (Some(name), _) => Some(QueryFault::Unknown(name)),
+        (None, Some((left, right))) => Some(QueryFault::Kinds { left, right }),
+        (None, None) => None,
+    }
+}
+
 /// The query over numbers.
 ///
 /// A name that is no attribute comes before a comparison of two kinds, and of each the first by
@@ -58,19 +82,12 @@ pub fn resolve(alloc: Global, schema: &Schema, query: &Query) -> Result<Resolved
     ensures in_range { IfOk result (λ r. IsResolved schema.now r) }
     ensures refused { IfErr result (IsQueryRefusal schema.now query.now) }
 {
-    match unknown_among(alloc, schema, Scope::Attributes, query.outputs.as_slice())? {
-        Some(name) => return Err(QueryFault::Unknown(name)),
-        None => {}
+    let unknown = unknown_of(alloc, schema, query)?;
+    let kinds = differing_in(schema, Scope::Attributes, &query.cond);
+    match refusal(unknown, kinds) {
+        Some(fault) => Err(fault),
+        None => Ok(made(alloc, schema, query)?),
     }
-    match unknown_in(alloc, schema, Scope::Attributes, &query.cond)? {
-        Some(name) => return Err(QueryFault::Unknown(name)),
-        None => {}
-    }
-    match differing_in(schema, Scope::Attributes, &query.cond) {
-        Some((left, right)) => return Err(QueryFault::Kinds { left, right }),
-        None => {}
-    }
-    Ok(made(alloc, schema, query)?)
 }
 
 /// The variables of the query, which are at most 8.
