@@ -1,5 +1,5 @@
 -- Bytes spell one certificate at most.
-use Rattle.std.proofs.Common.{◌≡◌, ◌<◌, ℕ, zero, suc, List, [], ◌∷◌, ◌++◌, map, flat_map, codes, length, All, Contains, refl, sym, ap, subst, ◌∙◌, append_assoc, arith}
+use Rattle.std.proofs.Common.{◌≡◌, ℕ, suc, List, [], ◌∷◌, ◌++◌, map, flat_map, codes, length, All, Contains, refl, sym, ap, subst, ◌∙◌, append_assoc, arith}
 use Rattle.su_lex.proofs.Written.{one_list_of_symbols}
 use Rattle.su_lex.specs.Names.{Begins}
 use Rattle.su_lex.specs.declared.meaning.Symbol.{Symbol}
@@ -14,7 +14,7 @@ use Rattle.su_check.specs.declared.certificates.RowTree.{RowTree}
 use Rattle.su_check.specs.declared.nodes.Node.{Node, out-Node, roll-out-Node}
 use Rattle.su_check.specs.declared.nodes.Branch.{Branch, out-Branch, roll-out-Branch}
 use Rattle.su_check.specs.Refuting.{row_named, branches_of, target_of, node_of}
-use Rattle.su_check.specs.Grammar.{number, sym_symbol, kind_symbol, node_symbols, row_line, tree_line, certificate_symbols, IsByte, IsByteNode, of_bytes, IsNamed, IsTermInRange, IsInRange, Reads}
+use Rattle.su_check.specs.Grammar.{number, sym_symbol, kind_symbol, node_symbols, row_line, tree_line, IsByte, IsByteNode, of_bytes, IsNamed, IsTermInRange, Reads}
 use Rattle.su_check.specs.inside.Reading.{EndsTerm, IsRow, IsByteTree, Stops, row_before, tree_before, term_before, term_symbols}
 use Rattle.su_check.proofs.Runs.{all_head, all_tail, map_only}
 use Rattle.su_check.proofs.Spelled.{one_number, one_kind, one_symbol}
@@ -40,7 +40,7 @@ flat_only spell In lead before at one (x ∷ xs) (y ∷ ys) s r hx hy ends ends'
 
 -- ---- rows
 
-row_at : (row : List Sym) (t : List Symbol) → row_line row ++ t ≡ Sign sign.Open ∷ row_before row t
+pub row_at : (row : List Sym) (t : List Symbol) → row_line row ++ t ≡ Sign sign.Open ∷ row_before row t
 row_at row t = ap (λ s. Sign sign.Open ∷ s) (append_assoc (map sym_symbol row) (Sign sign.Close ∷ []) t)
 
 stops_close : (r : List Symbol) → Stops sym_symbol IsNamed (Sign sign.Close ∷ r)

@@ -13,6 +13,7 @@ mod boards;
 mod cells;
 mod certificates;
 mod checking;
+mod claims;
 mod fitting;
 mod folds;
 mod forms;

@@ -6,10 +6,10 @@ ghost use Rattle.su_check.specs.inside.Boards.{Keeps, IsReady};
 ghost use Rattle.su_check.specs.inside.Guides.{HasTargets, IsGuide};
 ghost use Rattle.su_check.specs.Refuting.{IsOpen, IsFitting, Refutes, target_of, node_of};
 
-use crate::boards::Board;
 use crate::certificates::Term;
+use crate::claims::Claim;
 use crate::fitting::fits;
-use crate::guides::{Guide, candidates};
+use crate::guides::candidates;
 use crate::nodes::{Branch, Node};
 use crate::numbers::contains;
 use crate::sending::{Place, Sent};
@@ -26,63 +26,64 @@ fn is_open(term: &Term, sent: &[Sent], row: u8) -> bool
 /// Whether the row can go to the target, which is kept, and not the row that is left out. A target that
 /// is not in the set doesn't come into question.
 fn is_fitting(
-    term: &Term,
-    board: &Board,
-    left_out: u8,
+    claim: &Claim,
     set: u64,
     sent: &mut List<Sent>,
     places: &mut [Place],
     row: u8,
     target: u8,
 ) -> Result<bool, NoMemory>
-    requires ready { IsReady (lines_of term.now) board.now sent.old places.old }
-    requires few { length term.now.rows ≤ 64 }
-    requires set { HasTargets (lines_of term.now) sent.old row set }
-    requires row { Contains term.now.kept row }
-    requires target { Contains term.now.kept target }
+    requires ready { IsReady (lines_of claim.now.term.now) claim.now.board.now sent.old places.old }
+    requires few { length claim.now.term.now.rows ≤ 64 }
+    requires set { HasTargets (lines_of claim.now.term.now) sent.old row set }
+    requires row { Contains claim.now.term.now.kept row }
+    requires target { Contains claim.now.term.now.kept target }
     ensures same { IfOk result (λ _. sent.new ≡ sent.old) }
-    ensures fits { IfOk result (λ b. IsTrue b ↔ IsFitting (lines_of term.now) left_out sent.old row target) }
-    ensures ready { IfOk result (λ b. IsTrue b → IsReady (lines_of term.now) board.now (sent_too sent.old row target) places.new) }
-    ensures keeps { IfOk result (λ _. Keeps (lines_of term.now) board.now sent.old places.old places.new) }
+    ensures fits { IfOk result (λ b. IsTrue b ↔ IsFitting (lines_of claim.now.term.now) claim.now.left_out sent.old row target) }
+    ensures ready { IfOk result (λ b. IsTrue b → IsReady (lines_of claim.now.term.now) claim.now.board.now (sent_too sent.old row target) places.new) }
+    ensures keeps { IfOk result (λ _. Keeps (lines_of claim.now.term.now) claim.now.board.now sent.old places.old places.new) }
 {
-    if target == left_out || !has(set, target as usize) {
+    if target == claim.left_out || !has(set, target as usize) {
         return Ok(false);
     }
-    fits(term, board, sent, places, row, target)
+    fits(claim.term, claim.board, sent, places, row, target)
 }
 
 /// Whether the node refutes the partial list.
 #[cycle(refuting)]
 pub fn refutes(
-    term: &Term,
-    board: &Board,
-    guide: &Guide,
-    left_out: u8,
+    claim: &Claim,
     node: &Node,
     sent: &mut List<Sent>,
     places: &mut [Place],
 ) -> Result<bool, NoMemory>
-    requires ready { IsReady (lines_of term.now) board.now sent.old places.old }
-    requires guide { IsGuide (lines_of term.now) guide.now }
+    requires ready { IsReady (lines_of claim.now.term.now) claim.now.board.now sent.old places.old }
+    requires guide { IsGuide (lines_of claim.now.term.now) claim.now.guide.now }
     ensures same { IfOk result (λ _. sent.new ≡ sent.old) }
-    ensures tells { IfOk result (λ b. IsTrue b ↔ Refutes (lines_of term.now) left_out node.now sent.old) }
-    ensures keeps { IfOk result (λ _. Keeps (lines_of term.now) board.now sent.old places.old places.new) }
+    ensures tells { IfOk result (λ b. IsTrue b ↔ Refutes (lines_of claim.now.term.now) claim.now.left_out node.now sent.old) }
+    ensures keeps { IfOk result (λ _. Keeps (lines_of claim.now.term.now) claim.now.board.now sent.old places.old places.new) }
 {
+    let term = claim.term;
     if !is_open(term, sent.as_slice(), node.row) {
         return Ok(false);
     }
-    let set = candidates(term, board, guide, sent.as_slice(), places, node.row);
+    let set = candidates(
+        term,
+        claim.board,
+        claim.guide,
+        sent.as_slice(),
+        places,
+        node.row,
+    );
     let mut passed = 0;
     for i in 0..term.kept.len() {
         let target = term.kept.as_slice()[i];
-        if is_fitting(term, board, left_out, set, sent, places, node.row, target)? {
+        if is_fitting(claim, set, sent, places, node.row, target)? {
             if passed == node.next.len() {
                 return Ok(false);
             }
             let branch = &node.next.as_slice()[passed];
-            if !branch_refutes(
-                term, board, guide, left_out, node.row, target, branch, sent, places,
-            )? {
+            if !branch_refutes(claim, node.row, target, branch, sent, places)? {
                 return Ok(false);
             }
             passed += 1;
@@ -97,27 +98,24 @@ pub fn refutes(
 /// Whether the branch is that of the target, and its node refutes the list in which the row goes there.
 #[cycle(refuting)]
 fn branch_refutes(
-    term: &Term,
-    board: &Board,
-    guide: &Guide,
-    left_out: u8,
+    claim: &Claim,
     row: u8,
     target: u8,
     branch: &Branch,
     sent: &mut List<Sent>,
     places: &mut [Place],
 ) -> Result<bool, NoMemory>
-    requires ready { IsReady (lines_of term.now) board.now (sent_too sent.old row target) places.old }
-    requires guide { IsGuide (lines_of term.now) guide.now }
+    requires ready { IsReady (lines_of claim.now.term.now) claim.now.board.now (sent_too sent.old row target) places.old }
+    requires guide { IsGuide (lines_of claim.now.term.now) claim.now.guide.now }
     ensures same { IfOk result (λ _. sent.new ≡ sent.old) }
-    ensures tells { IfOk result (λ b. IsTrue b ↔ ((target_of branch.now ≡ target) × Refutes (lines_of term.now) left_out (node_of branch.now) (sent_too sent.old row target))) }
-    ensures keeps { IfOk result (λ _. Keeps (lines_of term.now) board.now sent.old places.old places.new) }
+    ensures tells { IfOk result (λ b. IsTrue b ↔ ((target_of branch.now ≡ target) × Refutes (lines_of claim.now.term.now) claim.now.left_out (node_of branch.now) (sent_too sent.old row target))) }
+    ensures keeps { IfOk result (λ _. Keeps (lines_of claim.now.term.now) claim.now.board.now sent.old places.old places.new) }
 {
     if branch.target != target {
         return Ok(false);
     }
     sent.push(Sent { row, target })?;
-    let refuted = refutes(term, board, guide, left_out, &branch.node, sent, places)?;
+    let refuted = refutes(claim, &branch.node, sent, places)?;
     sent.pop();
     Ok(refuted)
 }

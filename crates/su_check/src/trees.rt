@@ -8,6 +8,7 @@ ghost use Rattle.su_check.specs.inside.Trees.{HasGoodTrees};
 
 use crate::boards::Board;
 use crate::certificates::Term;
+use crate::claims::Claim;
 use crate::guides::{Guide, guide_of};
 use crate::refuting::refutes;
 use crate::sending::Place;
@@ -37,7 +38,13 @@ fn is_good_tree(
         return Ok(false);
     }
     let mut sent = List::new(alloc);
-    refutes(term, board, guide, tree.row, &tree.node, &mut sent, places)
+    let claim = Claim {
+        term,
+        board,
+        guide,
+        left_out: tree.row,
+    };
+    refutes(&claim, &tree.node, &mut sent, places)
 }
 
 /// The row whose tree is at fault, if there is one.

@@ -3,7 +3,6 @@
 -- class: symbols that every closed partition puts together, for whatever is asked of a closed one
 -- name: a constant of the class or, where it has none, its least variable
 use Rattle.std.specs.Prelude.{◌≡◌, ℕ, ◌≤◌}
-use Rattle.su_base.specs.declared.values.Value.{Value}
 use Rattle.su_tableau.specs.declared.symbols.Sym.{Sym}
 use Rattle.su_tableau.specs.declared.symbols.Sym.TheVariants.{Const, Var}
 

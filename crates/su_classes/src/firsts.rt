@@ -6,6 +6,7 @@ ghost use Rattle.su_classes.specs.Tables.{rep};
 ghost use Rattle.su_classes.specs.inside.Firsts.{AreMembersBelow, key, AreFirsts, noted_in, Notes, IsFirst};
 
 use crate::items::{Placed, item_at};
+use crate::left_sides::LeftSide;
 use std::alloc::Global;
 use std::collections::HashMap;
 use su_base::{AttrSet, List, NoMemory};
@@ -70,41 +71,33 @@ fn first_with(
 /// its own.
 fn first_of(
     alloc: Global,
-    table: &[usize],
-    fd: &Fd,
-    left: &[u8],
+    side: &LeftSide,
     notes: &mut HashMap<List<usize>, usize>,
     row: &Placed,
     position: usize,
 ) -> Result<usize, NoMemory>
-    requires left { AreMembersBelow 128 fd.now.left left.now }
-    requires cells { IsPlacedBelow (length table.now) row.now }
-    ensures { IfOk result (IsFirst (rep table.now) fd.now left.now row.now (noted_in notes.old) (noted_in notes.new) position) }
+    requires left { AreMembersBelow 128 side.now.fd.now.left side.now.left.now }
+    requires cells { IsPlacedBelow (length side.now.table.now) row.now }
+    ensures { IfOk result (IsFirst (rep side.now.table.now) side.now.fd.now side.now.left.now row.now (noted_in notes.old) (noted_in notes.new) position) }
 {
-    if !lies_in(fd, row) {
+    if !lies_in(side.fd, row) {
         return Ok(position);
     }
-    let labels = key_of(alloc, table, left, row)?;
+    let labels = key_of(alloc, side.table, side.left, row)?;
     first_with(notes, labels, position)
 }
 
 /// As `firsts`, by the attributes of the left side.
-fn firsts_by(
-    alloc: Global,
-    table: &[usize],
-    fd: &Fd,
-    left: &[u8],
-    rows: &[Placed],
-) -> Result<List<usize>, NoMemory>
-    requires left { AreMembersBelow 128 fd.now.left left.now }
-    requires cells { All (IsPlacedBelow (length table.now)) rows.now }
-    ensures { IfOk result (AreFirsts (rep table.now) fd.now rows.now) }
+fn firsts_by(alloc: Global, side: &LeftSide, rows: &[Placed]) -> Result<List<usize>, NoMemory>
+    requires left { AreMembersBelow 128 side.now.fd.now.left side.now.left.now }
+    requires cells { All (IsPlacedBelow (length side.now.table.now)) rows.now }
+    ensures { IfOk result (AreFirsts (rep side.now.table.now) side.now.fd.now rows.now) }
 {
     let mut notes = HashMap::new(alloc);
     let mut firsts = List::new(alloc);
     for position in 0..rows.len() {
         let row = &rows[position];
-        let first = first_of(alloc, table, fd, left, &mut notes, row, position)?;
+        let first = first_of(alloc, side, &mut notes, row, position)?;
         firsts.push(first)?;
     }
     Ok(firsts)
@@ -122,5 +115,10 @@ pub fn firsts(
     ensures { IfOk result (AreFirsts (rep table.now) fd.now rows.now) }
 {
     let left = members(alloc, fd.left)?;
-    firsts_by(alloc, table, fd, left.as_slice(), rows)
+    let side = LeftSide {
+        table,
+        fd,
+        left: left.as_slice(),
+    };
+    firsts_by(alloc, &side, rows)
 }

@@ -15,6 +15,8 @@ mod closing;
 mod crossing;
 mod firsts;
 mod items;
+mod left_sides;
+mod ruled;
 mod rules;
 mod rushing;
 mod sweeping;

@@ -9,6 +9,7 @@ ghost use Rattle.su_classes.specs.inside.Rushing.{IsRule, IsWell, IsSame, IsFor}
 
 use crate::firsts::lies_in;
 use crate::items::{Placed, item_at};
+use crate::ruled::Ruled;
 use crate::rules::{Rule, readers_of, rules_of};
 use crate::tables::{join, root};
 use crate::worklist::{Worklist, worklist_of};
@@ -142,29 +143,29 @@ fn look(
 fn look_at_row(
     table: &mut [usize],
     work: &mut Worklist,
-    rules: &[Rule],
+    ruled: &Ruled,
     notes: &mut [HashMap<u64, usize>],
-    rows: &[Placed],
     position: usize,
 ) -> Result<(), NoMemory>
     requires ordered { IsForest table.old }
     requires well { IsWell work.old }
     requires items { length work.old.marks.items ≡ length table.old }
-    requires rules { All IsRule rules.now }
-    requires notes { length notes.old ≡ length rules.now }
-    requires cells { All (IsPlacedBelow (length table.old)) rows.now }
-    requires position { position < length rows.now }
-    ensures merging { OnOk result (IsMerging (λ label. All (λ r. Keeps label rows.now r.fd) rules.now) table.old table.new) }
+    requires rules { All IsRule ruled.now.rules.now }
+    requires notes { length notes.old ≡ length ruled.now.rules.now }
+    requires cells { All (IsPlacedBelow (length table.old)) ruled.now.rows.now }
+    requires position { position < length ruled.now.rows.now }
+    ensures merging { OnOk result (IsMerging (λ label. All (λ r. Keeps label ruled.now.rows.now r.fd) ruled.now.rules.now) table.old table.new) }
     ensures same { OnOk result (IsSame work.old work.new) }
-    ensures notes { length notes.new ≡ length rules.now }
+    ensures notes { length notes.new ≡ length ruled.now.rules.now }
 {
+    let rules = ruled.rules;
     for number in 0..rules.len() {
         look(
             table,
             work,
             &rules[number],
             &mut notes[number],
-            rows,
+            ruled.rows,
             position,
         )?;
     }
@@ -175,22 +176,21 @@ fn look_at_row(
 fn look_at_all(
     table: &mut [usize],
     work: &mut Worklist,
-    rules: &[Rule],
+    ruled: &Ruled,
     notes: &mut [HashMap<u64, usize>],
-    rows: &[Placed],
 ) -> Result<(), NoMemory>
     requires ordered { IsForest table.old }
     requires well { IsWell work.old }
     requires items { length work.old.marks.items ≡ length table.old }
-    requires rules { All IsRule rules.now }
-    requires notes { length notes.old ≡ length rules.now }
-    requires cells { All (IsPlacedBelow (length table.old)) rows.now }
-    ensures merging { OnOk result (IsMerging (λ label. All (λ r. Keeps label rows.now r.fd) rules.now) table.old table.new) }
+    requires rules { All IsRule ruled.now.rules.now }
+    requires notes { length notes.old ≡ length ruled.now.rules.now }
+    requires cells { All (IsPlacedBelow (length table.old)) ruled.now.rows.now }
+    ensures merging { OnOk result (IsMerging (λ label. All (λ r. Keeps label ruled.now.rows.now r.fd) ruled.now.rules.now) table.old table.new) }
     ensures same { OnOk result (IsSame work.old work.new) }
-    ensures notes { length notes.new ≡ length rules.now }
+    ensures notes { length notes.new ≡ length ruled.now.rules.now }
 {
-    for position in 0..rows.len() {
-        look_at_row(table, work, rules, notes, rows, position)?;
+    for position in 0..ruled.rows.len() {
+        look_at_row(table, work, ruled, notes, position)?;
     }
     Ok(())
 }
@@ -199,31 +199,31 @@ fn look_at_all(
 fn look_under(
     table: &mut [usize],
     work: &mut Worklist,
-    rules: &[Rule],
+    ruled: &Ruled,
     numbers: &[usize],
     notes: &mut [HashMap<u64, usize>],
-    rows: &[Placed],
     position: usize,
 ) -> Result<(), NoMemory>
     requires ordered { IsForest table.old }
     requires well { IsWell work.old }
     requires items { length work.old.marks.items ≡ length table.old }
-    requires rules { All IsRule rules.now }
-    requires numbers { All (λ r. r < length rules.now) numbers.now }
-    requires notes { length notes.old ≡ length rules.now }
-    requires cells { All (IsPlacedBelow (length table.old)) rows.now }
-    requires position { position < length rows.now }
-    ensures merging { OnOk result (IsMerging (λ label. All (λ r. Keeps label rows.now r.fd) rules.now) table.old table.new) }
+    requires rules { All IsRule ruled.now.rules.now }
+    requires numbers { All (λ r. r < length ruled.now.rules.now) numbers.now }
+    requires notes { length notes.old ≡ length ruled.now.rules.now }
+    requires cells { All (IsPlacedBelow (length table.old)) ruled.now.rows.now }
+    requires position { position < length ruled.now.rows.now }
+    ensures merging { OnOk result (IsMerging (λ label. All (λ r. Keeps label ruled.now.rows.now r.fd) ruled.now.rules.now) table.old table.new) }
     ensures same { OnOk result (IsSame work.old work.new) }
-    ensures notes { length notes.new ≡ length rules.now }
+    ensures notes { length notes.new ≡ length ruled.now.rules.now }
 {
+    let rules = ruled.rules;
     for number in numbers {
         look(
             table,
             work,
             &rules[*number],
             &mut notes[*number],
-            rows,
+            ruled.rows,
             position,
         )?;
     }
@@ -245,19 +245,18 @@ fn notes_of(alloc: Global, count: usize) -> Result<Vec<HashMap<u64, usize>>, NoM
 fn look_on(
     table: &mut [usize],
     work: &mut Worklist,
-    rules: &[Rule],
+    ruled: &Ruled,
     readers: &[List<usize>],
     notes: &mut [HashMap<u64, usize>],
-    rows: &[Placed],
 ) -> Result<(), NoMemory>
     requires ordered { IsForest table.old }
-    requires work { IsFor (length table.old) (length rows.now) work.old }
-    requires rules { All IsRule rules.now }
+    requires work { IsFor (length table.old) (length ruled.now.rows.now) work.old }
+    requires rules { All IsRule ruled.now.rules.now }
     requires each { length readers.now ≡ 128 }
-    requires readers { All (All (λ r. r < length rules.now)) readers.now }
-    requires notes { length notes.old ≡ length rules.now }
-    requires cells { All (IsPlacedBelow (length table.old)) rows.now }
-    ensures { OnOk result (IsMerging (λ label. All (λ r. Keeps label rows.now r.fd) rules.now) table.old table.new) }
+    requires readers { All (All (λ r. r < length ruled.now.rules.now)) readers.now }
+    requires notes { length notes.old ≡ length ruled.now.rules.now }
+    requires cells { All (IsPlacedBelow (length table.old)) ruled.now.rows.now }
+    ensures { OnOk result (IsMerging (λ label. All (λ r. Keeps label ruled.now.rows.now r.fd) ruled.now.rules.now) table.old table.new) }
 {
     let turns = work.spots.len().saturating_mul(64);
     for _ in 0..turns {
@@ -265,7 +264,7 @@ fn look_on(
             return Ok(());
         };
         let numbers = readers[spot.attribute as usize].as_slice();
-        look_under(table, work, rules, numbers, notes, rows, spot.row)?;
+        look_under(table, work, ruled, numbers, notes, spot.row)?;
     }
     Ok(())
 }
@@ -287,8 +286,9 @@ fn rush_by(
     let mut work = worklist_of(alloc, table, readers, rows)?;
     let mut tables = notes_of(alloc, rules.len())?;
     let notes = tables.as_mut_slice();
-    look_at_all(table, &mut work, rules, notes, rows)?;
-    look_on(table, &mut work, rules, readers, notes, rows)?;
+    let ruled = Ruled { rules, rows };
+    look_at_all(table, &mut work, &ruled, notes)?;
+    look_on(table, &mut work, &ruled, readers, notes)?;
     Ok(())
 }
 

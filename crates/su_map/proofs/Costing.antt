@@ -1,5 +1,6 @@
 -- How many steps a search counts.
 use Rattle.std.proofs.Common.{◌≡◌, ◌≢◌, ℕ, zero, suc, ◌+◌, ◌*◌, ◌-◌, ◌<◌, ◌≤◌, Bool, true, cond, map, sym, ap, ◌∙◌, subst, arith, add-one}
+use Rattle.std.proofs.Math.Nat.{mul-le-mul_right}
 use Rattle.std.specs.Int.{bit_at}
 use Rattle.su_map.specs.Candidates.{count_below, sum_of_products}
 use Rattle.su_map.specs.inside.Choices.{tries}
@@ -31,9 +32,6 @@ count_mono p m (suc d) =
     let i = count_mono p m d in
     subst (λ n. count_below p m ≤ count_below p n) (sym e) (omega arith)
 
-scaled : (a b k : ℕ) → a ≤ b → a * k ≤ b * k
-scaled a b k h = grind arith
-
 -- the bound over the targets so far is within that over the rows of the set
 pub cost_all : (passes : ℕ → ℕ → Bool) (targets n m new r j start now : ℕ) → j ≤ targets → r < n → bit_at m r ≡ 1 → bit_at new r ≡ 0 → ((i : ℕ) → i ≢ r → bit_at new i ≡ bit_at m i) → ((i : ℕ) → bit_at m i ≡ 1 → r ≤ i) → now ≤ start + count_below (passes r) j * suc (tries passes targets n new) → now ≤ start + tries passes targets n m
 cost_all passes targets n m new r j start now low hr one out same least h =
@@ -41,7 +39,7 @@ cost_all passes targets n m new r j start now low hr one out same least h =
     let all : tries passes targets n m ≡ count_below (passes r) targets * k = ap (λ ns. sum_of_products (map (λ r. count_below (passes r) targets) ns)) (numbers_first m new r n hr one out same least) in
     let up : j + (targets - j) ≡ targets = omega arith in
     let more : count_below (passes r) j ≤ count_below (passes r) targets = subst (λ m. count_below (passes r) j ≤ count_below (passes r) m) up (count_mono (passes r) j (targets - j)) in
-    let wide = scaled (count_below (passes r) j) (count_below (passes r) targets) k more in
+    let wide = mul-le-mul_right k more in
     omega arith
 
 pub le_at : (a b n : ℕ) → a ≡ b → b ≤ n → a ≤ n

@@ -1,5 +1,6 @@
 -- Members of a set of numbers, which are the bits of a number.
 use Rattle.std.proofs.Common.{◌≡◌, ◌≢◌, ℕ, ◌+◌, ◌-◌, ◌*◌, ◌%◌, ◌<◌, ◌≤◌, ◌^◌, ◌⊎◌, ◌↔◌, inl, inr, ⊎_elim, sym, ap, subst, ◌∙◌, bit_and, bit_or, arith, List, length, get_or, set, get_or-set_other, get_or-set_same}
+use borrow.Author.Count.{below_more}
 use Rattle.std.specs.Int.{bit_at, bit_not, trailing_zeros, w64}
 use Rattle.std.proofs.lemmas.Nat.Bits.{bit_at-trailing_zeros, bit_at-lt, bit_at_and, bit_at_or, bit_at_set_same, bit_at_set_other, bit_at_clear_same, bit_at_clear_other, bit_at_above, bit_at-zero, bit_at_ones, bit_at_ones_above}
 use Rattle.std.proofs.lemmas.Bool.{cases_lt, cases_eq}
@@ -73,14 +74,6 @@ full_member all n j e =
           (cases_lt j n),
       λ lt. ones ∙ bit_at_ones n j lt,
     )
-
--- a fact of each number below n, and of n
-pub below_more : (P : ℕ → Type 0) (n : ℕ) → ((i : ℕ) → i < n → P i) → P n → (i : ℕ) → i < n + 1 → P i
-below_more P n before here i h =
-    ⊎_elim
-    (λ (lt : i < n). before i lt)
-    (λ (le : n ≤ i). let e : n ≡ i = omega arith in subst P e here)
-    (cases_lt i n)
 
 -- ---- a set that is collected number by number
 

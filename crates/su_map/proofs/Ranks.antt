@@ -1,5 +1,6 @@
 -- The place of a row number among the members of a set.
 use Rattle.std.proofs.Common.{◌≡◌, ◌≢◌, ℕ, zero, suc, ◌+◌, ◌<◌, ◌≤◌, List, [], ◌∷◌, ◌++◌, map, length, get_or, refl, sym, ap, subst, ◌∙◌, ⊎_elim, arith}
+use Rattle.std.proofs.Math.Seq.{get_or-append_seam}
 use Rattle.std.specs.Int.{bit_at}
 use Rattle.std.proofs.lemmas.Bool.{cases_lt, cases_eq}
 use Rattle.std.proofs.lemmas.List.{length-append, get_or_append_left, length-map, get_or-map, get_or_default, same_lists}
@@ -14,7 +15,7 @@ rank m i = length (numbers_of m i)
 keep_if-is : (b n : ℕ) → b ≡ 1 → keep_if b n [] ≡ n ∷ []
 keep_if-is b n e = subst (λ b. keep_if b n [] ≡ n ∷ []) (sym e) refl
 
-keep_if-none : (b n : ℕ) → b ≡ 0 → keep_if b n [] ≡ []
+pub keep_if-none : (b n : ℕ) → b ≡ 0 → keep_if b n [] ≡ []
 keep_if-none b n e = subst (λ b. keep_if b n [] ≡ []) (sym e) refl
 
 not_one : (m n : ℕ) → bit_at m n ≢ 1 → bit_at m n ≡ 0
@@ -41,10 +42,6 @@ rank_in m (suc n) i h b =
     (λ (le : n ≤ i). let e : i ≡ n = omega arith in let l = numbers-length m n (ap (bit_at m) (sym e) ∙ b) in let s = ap (λ i. rank m i) e in omega arith)
     (cases_lt i n)
 
-get_or_at_end : (xs : List ℕ) (x : ℕ) → get_or (xs ++ x ∷ []) (length xs) 0 ≡ x
-get_or_at_end [] x = refl
-get_or_at_end (y ∷ ys) x = get_or_at_end ys x
-
 pub rank_at : (m n i : ℕ) → i < n → bit_at m i ≡ 1 → get_or (numbers_of m n) (rank m i) 0 ≡ i
 rank_at m zero i h b = absurd (omega arith)
 rank_at m (suc n) i h b =
@@ -52,7 +49,7 @@ rank_at m (suc n) i h b =
     (λ (lt : i < n). numbers-early m n (rank m i) 0 (rank_in m n i lt b) ∙ rank_at m n i lt b)
     (λ (le : n ≤ i).
     let e : i ≡ n = omega arith in
-    let here : get_or (numbers_of m n ++ n ∷ []) (length (numbers_of m n)) 0 ≡ n = get_or_at_end (numbers_of m n) n in
+    let here : get_or (numbers_of m n ++ n ∷ []) (length (numbers_of m n)) 0 ≡ n = get_or-append_seam (numbers_of m n) n [] 0 in
     ap (λ i. get_or (numbers_of m (suc n)) (rank m i) 0) e ∙ ap (λ xs. get_or xs (rank m n) 0) (numbers-more m n (ap (bit_at m) (sym e) ∙ b)) ∙ here ∙ sym e)
     (cases_lt i n)
 
@@ -78,7 +75,7 @@ ranked_at m (suc n) p h =
     let e : length (numbers_of m n) ≡ p = omega arith in
     record {
       number = n;
-      is = ap (λ xs. get_or xs p 0) (numbers-more m n one) ∙ ap (λ p. get_or (numbers_of m n ++ n ∷ []) p 0) (sym e) ∙ get_or_at_end (numbers_of m n) n;
+      is = ap (λ xs. get_or xs p 0) (numbers-more m n one) ∙ ap (λ p. get_or (numbers_of m n ++ n ∷ []) p 0) (sym e) ∙ get_or-append_seam (numbers_of m n) n [] 0;
       below = omega arith;
       member = one;
       ranked = e;
@@ -144,7 +141,7 @@ length-keep_if : (b n : ℕ) → b < 2 → length (keep_if b n []) ≡ b
 length-keep_if zero n h = refl
 length-keep_if (suc b) n h = let e : b ≡ 0 = omega arith in omega arith
 
-numbers_step : (m n : ℕ) → length (numbers_of m (suc n)) ≡ length (numbers_of m n) + bit_at m n
+pub numbers_step : (m n : ℕ) → length (numbers_of m (suc n)) ≡ length (numbers_of m n) + bit_at m n
 numbers_step m n =
     let e = length-append (numbers_of m n) (keep_if (bit_at m n) n []) in
     let l = length-keep_if (bit_at m n) n (bit_at-lt m n) in

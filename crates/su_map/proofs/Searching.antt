@@ -6,7 +6,7 @@ use Rattle.std.proofs.lemmas.Nat.Bits.{bit_at-lt, bit_at-zero}
 use Rattle.su_tableau.proofs.Sets.{IsSub, sub_le}
 use Rattle.su_map.specs.Nets.{Netted, near_of, agree_of}
 use Rattle.su_map.specs.Lists.{numbers_of}
-use Rattle.su_map.specs.inside.Choices.{IsChoice, Shrinks, AreSame, IsLess, choice_of, Stands, IsInOrder, AreKept, IsAssigned}
+use Rattle.su_map.specs.inside.Choices.{IsChoice, AreSame, IsLess, choice_of, Stands, IsInOrder, AreKept, IsAssigned}
 use Rattle.su_map.proofs.Narrowing.{positive, positive_has}
 use Rattle.su_map.proofs.Ranks.{numbers_without}
 

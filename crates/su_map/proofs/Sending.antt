@@ -42,16 +42,26 @@ told_sending s t m domains a i q p columns head xs ys us eh ex ey eu wide hi hq 
 
 -- ---- the domains at the start
 
-pub base_rows : (s : Tab) (m : ℕ) (t : Tab) (k : ℕ) (base domains : List ℕ) → HasBase s m t k base → ((i : ℕ) → i < length s.rows → get_or domains i 0 ≡ get_or base i 0) → AreRows s m t domains
-base_rows s m t k base domains has same i j hi oi one = ((has i j hi oi).0 (ap (λ d. bit_at d j) (sym (same i hi)) ∙ one)).0
+pub base_rows : (s : Tab) (m : ℕ) (t : Tab) (k : ℕ) (base : List ℕ) → HasBase s m t k base → AreRows s m t base
+base_rows s m t k base has i j hi oi one = ((has i j hi oi).0 one).0
 
 -- the targets of a mapping are a sending
-pub mapping_sends : (s : Tab) (m : ℕ) (t : Tab) (k : ℕ) (base domains list : List ℕ) → HasBase s m t k base → ((i : ℕ) → i < length s.rows → get_or domains i 0 ≡ get_or base i 0) → IsMapping s m t k list → IsSending s m t domains (choice_by m list)
-mapping_sends s m t k base domains list has same f =
+pub mapping_sends : (s : Tab) (m : ℕ) (t : Tab) (k : ℕ) (base list : List ℕ) → HasBase s m t k base → IsMapping s m t k list → IsSending s m t base (choice_by m list)
+mapping_sends s m t k base list has f =
     let a = choice_by m list in
     let g = mapping_by s t m k list f in
     record {
-      within = λ i hi oi. let r = g.targets i hi oi in ap (λ d. bit_at d (a i)) (same i hi) ∙ (has i (a i) hi oi).1 (r.0, r.1, by_target s t m k a g i hi oi);
+      within = λ i hi oi. let r = g.targets i hi oi in (has i (a i) hi oi).1 (r.0, r.1, by_target s t m k a g i hi oi);
       own = λ i hi oi. by_target s t m k a g i hi oi;
       agree = λ i q hi hq oi oq. images_agree g.symbols (row_of s i) (row_of t (a i)) (row_of s q) (row_of t (a q)) (g.rows i hi oi) (g.rows q hq oq);
     }
+
+pub rows_copied : (s : Tab) (m : ℕ) (t : Tab) (domains copied : List ℕ) → ((i : ℕ) → i < length s.rows → get_or copied i 0 ≡ get_or domains i 0) → AreRows s m t domains → AreRows s m t copied
+rows_copied s m t domains copied same rows i j hi oi one = rows i j hi oi (ap (λ d. bit_at d j) (sym (same i hi)) ∙ one)
+
+pub sending_copied : (s : Tab) (m : ℕ) (t : Tab) (domains copied : List ℕ) (a : ℕ → ℕ) → ((i : ℕ) → i < length s.rows → get_or copied i 0 ≡ get_or domains i 0) → IsSending s m t domains a → IsSending s m t copied a
+sending_copied s m t domains copied a same f = record {
+  within = λ i hi oi. ap (λ d. bit_at d (a i)) (same i hi) ∙ f.within i hi oi;
+  own = f.own;
+  agree = f.agree;
+}

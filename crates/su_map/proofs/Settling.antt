@@ -1,15 +1,15 @@
 -- The search from the start.
-use Rattle.std.proofs.Common.{◌≡◌, ◌≢◌, ℕ, zero, suc, ◌*◌, ◌<◌, ◌≤◌, ◌⊎◌, ◌↔◌, Bool, List, [], ◌∷◌, ◌++◌, map, length, get_or, inl, inr, refl, sym, ap, ◌∙◌, ⊎_elim, arith}
+use Rattle.std.proofs.Common.{◌≡◌, ◌≢◌, ℕ, zero, suc, ◌*◌, ◌<◌, ◌≤◌, ◌⊎◌, ◌↔◌, Bool, List, map, length, get_or, inl, inr, sym, ap, ◌∙◌, ⊎_elim, arith}
 use Rattle.std.specs.Int.{bit_at}
+use Rattle.std.proofs.Math.Nat.{mul-le-mul_right}
 use Rattle.std.proofs.lemmas.Bool.{cases_lt, cases_eq}
-use Rattle.std.proofs.lemmas.List.{length-append, length-map, get_or-map}
+use Rattle.std.proofs.lemmas.List.{length-map, get_or-map}
 use Rattle.std.proofs.lemmas.Nat.Bits.{bit_at-lt}
-use Rattle.su_tableau.specs.Parts.{keep_if}
 use Rattle.su_map.specs.Lists.{numbers_of, IsBefore}
 use Rattle.su_map.specs.Candidates.{count_below, sum_of_products}
 use Rattle.su_map.specs.Nets.{Netted, base_of}
 use Rattle.su_map.specs.inside.Choices.{IsChoice, IsChoiceInto, Shrinks, AreSame, IsLess, Stands, IsInOrder, tries, ArePassed}
-use Rattle.su_map.proofs.Ranks.{numbers_same, map_at, map_same, rank, rank_in, ranked_at, rank_less}
+use Rattle.su_map.proofs.Ranks.{numbers_same, numbers_step, map_at, map_same, rank, rank_in, ranked_at, rank_less}
 
 -- the rows of a mask that are below n
 abbrev pub AreBoth : ℕ → ℕ → ℕ → Type 0
@@ -56,24 +56,16 @@ stands_start net n mask rows k begun domains choice both begins shrinks = record
 pub order_start : (n rows : ℕ) → IsInOrder n rows rows
 order_start n rows r q hr br z h = absurd (omega arith)
 
-length-keep_if : (b n : ℕ) → b < 2 → length (keep_if b n []) ≡ b
-length-keep_if zero n h = refl
-length-keep_if (suc b) n h = let e : b ≡ 0 = omega arith in omega arith
-
 numbers_few : (m n : ℕ) → length (numbers_of m n) ≤ n
 numbers_few m zero = omega arith
 numbers_few m (suc n) =
     let i = numbers_few m n in
-    let e = length-append (numbers_of m n) (keep_if (bit_at m n) n []) in
+    let e = numbers_step m n in
     let b = bit_at-lt m n in
-    let l = length-keep_if (bit_at m n) n b in
     omega arith
 
-scaled : (a b k : ℕ) → a ≤ b → a * k ≤ b * k
-scaled a b k h = grind arith
-
 pub levels_enough : (m n room : ℕ) → n * n ≤ room → length (numbers_of m n) * n ≤ room
-levels_enough m n room h = let s = scaled (length (numbers_of m n)) n n (numbers_few m n) in omega arith
+levels_enough m n room h = let s = mul-le-mul_right n (numbers_few m n) in omega arith
 
 pub rows_numbers : (n mask rows : ℕ) → AreBoth n mask rows → numbers_of rows n ≡ numbers_of mask n
 rows_numbers n mask rows both =
@@ -91,10 +83,6 @@ rows_tries passes targets n mask rows both = ap (λ ns. sum_of_products (map (λ
 
 pub rows_passed : (net : Netted) (n mask rows : ℕ) (passes : ℕ → ℕ → Bool) → AreBoth n mask rows → ArePassed net n mask passes → ArePassed net n rows passes
 rows_passed net n mask rows passes both all r x hr br h = all r x hr ((both r).0 br).0 h
-
-pub map-append : (f : ℕ → ℕ) (xs ys : List ℕ) → map f (xs ++ ys) ≡ map f xs ++ map f ys
-map-append f [] ys = refl
-map-append f (x ∷ xs) ys = ap (λ zs. f x ∷ zs) (map-append f xs ys)
 
 -- ---- from choices to lists
 

@@ -1,5 +1,6 @@
 -- The table of the targets that agree.
 use Rattle.std.proofs.Common.{◌≡◌, ◌<◌, ◌≤◌, ◌+◌, ◌*◌, ◌↔◌, ◌∙◌, ℕ, List, length, get_or, sym, subst, Option, Some, None, arith}
+use borrow.Author.Count.{below_more}
 use Rattle.std.specs.Int.{bit_at}
 use Rattle.su_tableau.specs.declared.symbols.Sym.{Sym}
 use Rattle.su_tableau.specs.Tableaux.{Tab}
@@ -7,7 +8,6 @@ use Rattle.su_map.specs.Lists.{row_of}
 use Rattle.su_map.specs.Nets.{IsTarget, AgreesAt}
 use Rattle.su_map.specs.inside.Targets.{AreTold, IsToldAt, IsTold, AreShared}
 use Rattle.su_map.proofs.Cells.{Fits, told_agree}
-use Rattle.su_map.proofs.Members.{below_more}
 
 -- what is told by the columns below n
 abbrev pub AreToldTo : Tab → List (Option ℕ) → ℕ → ℕ → ℕ → ℕ → Type 0

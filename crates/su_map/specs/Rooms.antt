@@ -1,6 +1,7 @@
 -- The room of a search, as callers see it.
 use Rattle.std.specs.Prelude.{◌≡◌, ℕ, ◌*◌, ◌≤◌, List, length}
 use Rattle.su_tableau.specs.Tableaux.{Tab, AreVarsBelow}
+use Rattle.su_map.specs.declared.notes.Notes.{Notes}
 use Rattle.su_map.specs.Nets.{Netted, HasRoom}
 
 -- for how many rows and symbols there is room, the row list that was found, and the net that was prepared
@@ -20,13 +21,18 @@ pub record HasSizesOf (other room : Space) : Type 0 where
   pub rows : room.rows ≡ other.rows
   pub symbols : room.symbols ≡ other.symbols
 
+-- the notes have the room for n rows, each of at most 128 cells, and for the rows that hold one symbol
+pub record AreRoomy (n : ℕ) (notes : Notes) : Type 0 where
+  pub alike : 8192 ≤ length notes.alike.items
+  pub columns : 128 ≤ length notes.columns.items
+  pub domains : n ≤ length notes.domains.items
+
 -- the parts of a room are as large as its tables' rows, and these are enough for as many rows as it has room for
-pub record IsSound (net : Netted) (room rows alike columns domains levels choice count : ℕ) : Type 0 where
+pub record IsSound (net : Netted) (notes : Notes) (room rows domains levels choice count : ℕ) : Type 0 where
   pub small : rows ≤ 64
   pub enough : (n : ℕ) → n ≤ room → n ≤ 64 → n ≤ rows
   pub net_room : HasRoom rows net
-  pub alike_room : 8192 ≤ alike
-  pub columns_room : 128 ≤ columns
+  pub notes_room : AreRoomy rows notes
   pub domains_room : rows ≤ domains
   pub levels_room : rows * rows ≤ levels
   pub choice_room : rows ≤ choice

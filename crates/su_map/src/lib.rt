@@ -8,6 +8,7 @@
 //! takes the row with the fewest targets next. Minimising is in the crate above.
 #![tactic(auto)]
 
+mod aims;
 mod bits;
 mod columns;
 mod crossing;
@@ -15,6 +16,7 @@ mod domains;
 pub mod laws;
 mod mappings;
 mod nets;
+mod notes;
 mod rooms;
 mod search;
 mod sides;

@@ -1,11 +1,16 @@
 //! What a search reads.
-ghost use Rattle.std.specs.Prelude.{◌≡◌, ◌<◌, ◌≤◌, ◌+◌, ◌*◌, ℕ, List as Items, length, get_or, IfOk, IsTrue, IsFalse};
+ghost use Rattle.std.specs.Prelude.{◌≡◌, ◌≢◌, ◌<◌, ◌≤◌, ◌+◌, ◌*◌, ℕ, List as Items, length, get_or, IfOk, IsTrue, IsFalse};
 ghost use Rattle.std.specs.Int.{bit_at};
 ghost use Rattle.su_tableau.specs.Tableaux.{AreVarsBelow};
 ghost use Rattle.su_map.specs.Lists.{IsMapping};
-ghost use Rattle.su_map.specs.Nets.{Netted, HasRoom, IsNet, base_of, near_of, agree_of};
+ghost use Rattle.su_map.specs.Candidates.{KeepsConstants, Agree};
+ghost use Rattle.su_map.specs.Nets.{Netted, HasRoom, HasBase, HasNear, IsNet, base_of, near_of, agree_of};
+ghost use Rattle.su_map.specs.Rooms.{AreRoomy};
+ghost use Rattle.su_map.specs.inside.Sendings.{AreRows, IsSending};
+ghost use Rattle.su_map.specs.inside.Targets.{AreNoted, AreSides, IsTold};
 
 use crate::columns::line_fits;
+use crate::notes::Notes;
 use crate::sides::{Sides, fill_alike};
 use crate::singles::narrow;
 use crate::tables::{fill_agree, fill_near, note_rows};
@@ -87,41 +92,55 @@ impl Net {
     /// Fills the net for the masked rows of both tableaux. False: there is no mapping.
     pub fn fill(
         &mut self,
-        rows_of: &mut [u64],
-        alike: &mut [u64],
-        columns: &mut [Option<usize>],
-        domains: &mut [u64],
-        rows_at: &mut [u64],
+        notes: &mut Notes,
         from: &Tableau,
         from_mask: u64,
         to: &Tableau,
         to_mask: u64,
     ) -> bool
         requires room { HasRoom (length from.now.rows) self.old }
-        requires symbols { AreVarsBelow (length rows_of.old) from.now }
-        requires alike { 8192 ≤ length alike.old }
-        requires columns { from.now.width ≤ length columns.old }
-        requires domains { length from.now.rows ≤ length domains.old }
+        requires notes { AreRoomy (length from.now.rows) notes.old }
+        requires symbols { AreVarsBelow (length notes.old.rows_of.items) from.now }
         requires width { from.now.width ≡ to.now.width }
         requires heads { length from.now.head ≡ length to.now.head }
         ensures net { IsTrue result → IsNet from.now from_mask to.now to_mask self.new }
         ensures none { IsFalse result → (list : Items ℕ) → IsMapping from.now from_mask to.now to_mask list → ⊥ }
         ensures room { (n : ℕ) → HasRoom n self.old → HasRoom n self.new }
+        ensures notes { (n : ℕ) → AreRoomy n notes.old → AreRoomy n notes.new }
+        ensures symbols { length notes.new.rows_of.items ≡ length notes.old.rows_of.items }
     {
+        from.keeps_its_rules();
+        to.keeps_its_rules();
         self.targets = to.row_count();
-        fill_tables(
+        if !fill_own(
             &mut self.base,
             &mut self.near,
-            &mut self.agree,
-            rows_of,
-            alike,
-            columns,
-            domains,
-            rows_at,
+            &mut notes.rows_of,
             from,
             from_mask,
             to,
             to_mask,
+        ) {
+            return false;
+        }
+        if !are_any(&self.near, from.row_count()) {
+            return true;
+        }
+        fill_alike(&mut notes.alike, &mut notes.rows_at, to);
+        let sides = Sides {
+            from,
+            mask: from_mask,
+            to,
+            rows_of: &notes.rows_of,
+            alike: &notes.alike,
+        };
+        fill_pairs(
+            &mut self.agree,
+            &mut notes.columns,
+            &mut notes.domains,
+            &sides,
+            &self.base,
+            &self.near,
         )
     }
 }
@@ -151,17 +170,12 @@ fn are_any(sets: &[u64], count: usize) -> bool
     false
 }
 
-/// Fills the tables of a net. The table of the targets that agree, the largest, is filled only where
-/// the rows that have one target leave each other row one.
-fn fill_tables(
+/// Fills the targets of each masked row by itself, and the rows that share a variable with it. False:
+/// there is no mapping.
+fn fill_own(
     base: &mut [u64],
     near: &mut [u64],
-    agree: &mut [u64],
     rows_of: &mut [u64],
-    alike: &mut [u64],
-    columns: &mut [Option<usize>],
-    domains: &mut [u64],
-    rows_at: &mut [u64],
     from: &Tableau,
     from_mask: u64,
     to: &Tableau,
@@ -169,18 +183,15 @@ fn fill_tables(
 ) -> bool
     requires base { length from.now.rows ≤ length base.old }
     requires near { length from.now.rows ≤ length near.old }
-    requires agree { length from.now.rows * 4096 ≤ length agree.old }
     requires symbols { AreVarsBelow (length rows_of.old) from.now }
-    requires alike { 8192 ≤ length alike.old }
-    requires columns { from.now.width ≤ length columns.old }
-    requires domains { length from.now.rows ≤ length domains.old }
     requires width { from.now.width ≡ to.now.width }
     requires heads { length from.now.head ≡ length to.now.head }
-    ensures net { IsTrue result → IsNet from.now from_mask to.now to_mask (record { base = base.new; near = near.new; agree = agree.new; targets = length to.now.rows }) }
+    ensures heads { IsTrue result → KeepsConstants from.now.head to.now.head × Agree from.now.head to.now.head from.now.head to.now.head }
+    ensures base { IsTrue result → HasBase from.now from_mask to.now to_mask base.new }
+    ensures near { IsTrue result → HasNear from.now from_mask near.new }
+    ensures noted { IsTrue result → AreNoted from.now from_mask rows_of.new }
     ensures none { IsFalse result → (list : Items ℕ) → IsMapping from.now from_mask to.now to_mask list → ⊥ }
 {
-    from.keeps_its_rules();
-    to.keeps_its_rules();
     if !line_fits(from.head(), to.head()) {
         return false;
     }
@@ -189,21 +200,33 @@ fn fill_tables(
         return false;
     }
     fill_near(near, rows_of, from, from_mask);
-    copy_targets(domains, base, from.row_count());
-    if !are_any(near, from.row_count()) {
-        return true;
-    }
-    fill_alike(alike, rows_at, to);
-    let sides = Sides {
-        from,
-        mask: from_mask,
-        to,
-        rows_of,
-        alike,
-    };
-    if !narrow(domains, columns, &sides, near) {
+    true
+}
+
+/// Fills the targets that agree, the largest table, if the rows that have one target leave each other
+/// row one. False: there is no mapping.
+fn fill_pairs(
+    agree: &mut [u64],
+    columns: &mut [Option<usize>],
+    domains: &mut [u64],
+    sides: &Sides,
+    base: &[u64],
+    near: &[u64],
+) -> bool
+    requires room { length sides.now.from.now.rows * 4096 ≤ length agree.old }
+    requires columns { sides.now.from.now.width ≤ length columns.old }
+    requires domains { length sides.now.from.now.rows ≤ length domains.old }
+    requires sides { AreSides sides.now.from.now sides.now.mask sides.now.to.now sides.now.rows_of.now sides.now.alike.now }
+    requires base { length sides.now.from.now.rows ≤ length base.now }
+    requires near { length sides.now.from.now.rows ≤ length near.now }
+    requires rows { AreRows sides.now.from.now sides.now.mask sides.now.to.now base.now }
+    ensures agree { IsTrue result → (i q : ℕ) → i < length sides.now.from.now.rows → q < length sides.now.from.now.rows → i ≢ q → bit_at sides.now.mask i ≡ 1 → bit_at sides.now.mask q ≡ 1 → bit_at (get_or near.now i 0) q ≡ 1 → IsTold sides.now.from.now sides.now.to.now base.now i q agree.new }
+    ensures none { IsFalse result → (a : ℕ → ℕ) → IsSending sides.now.from.now sides.now.mask sides.now.to.now base.now a → ⊥ }
+{
+    copy_targets(domains, base, sides.from.row_count());
+    if !narrow(domains, columns, sides, near) {
         return false;
     }
-    fill_agree(agree, columns, &sides, base, near);
+    fill_agree(agree, columns, sides, base, near);
     true
 }

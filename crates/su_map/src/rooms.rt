@@ -11,10 +11,12 @@ ghost use Rattle.su_map.specs.Nets.{HasRoom, IsNet, IsNetFor, base_of};
 ghost use Rattle.su_map.specs.inside.Choices.{IsChoiceInto, AreSame, IsLess, choice_of, tries, ArePassed, IsFound, IsFirstOf};
 ghost use Rattle.su_map.specs.Rooms.{IsRoomFor, HasSizesOf};
 
+use crate::aims::Aim;
 use crate::bits::both;
 use crate::domains::propagate;
 use crate::mappings::Mapping;
 use crate::nets::Net;
+use crate::notes::{Notes, zeros};
 use crate::search::{Order, search};
 use std::alloc::{AllocError, Global};
 use std::marker::Model;
@@ -28,10 +30,7 @@ use su_tableau::{Tableau, full, has};
 pub struct Room {
     rows: usize,
     net: Net,
-    rows_of: Vec<u64>,
-    rows_at: Vec<u64>,
-    alike: Vec<u64>,
-    columns: Vec<Option<usize>>,
+    notes: Notes,
     domains: Vec<u64>,
     levels: Vec<u64>,
     choice: Vec<u8>,
@@ -46,16 +45,9 @@ impl Model for Room {
 
     ghost Value = { Space };
 
-    ghost view = { λ r. record { rows = r.rows; symbols = length r.rows_of.items; list = take r.count r.list.items; net = r.net } };
+    ghost view = { λ r. record { rows = r.rows; symbols = length r.notes.rows_of.items; list = take r.count r.list.items; net = r.net } };
 
-    ghost invariant = { λ r. IsSound r.net r.rows (length r.list.items) (length r.alike.items) (length r.columns.items) (length r.domains.items) (length r.levels.items) (length r.choice.items) r.count };
-}
-
-/// So many sets, all empty.
-fn zeros(alloc: Global, count: usize) -> Result<Vec<u64>, NoMemory>
-    ensures { IfOk result (λ sets. length sets.items ≡ count) }
-{
-    Ok(vec![in alloc; 0; count].map_err(AllocError::from)?)
+    ghost invariant = { λ r. IsSound r.net r.notes r.rows (length r.list.items) (length r.domains.items) (length r.levels.items) (length r.choice.items) r.count };
 }
 
 impl Room {
@@ -67,10 +59,7 @@ impl Room {
         Ok(Room {
             rows,
             net: Net::new(alloc, tables)?,
-            rows_of: zeros(alloc, symbols)?,
-            rows_at: zeros(alloc, symbols)?,
-            alike: zeros(alloc, 8192)?,
-            columns: vec![in alloc; None; 128].map_err(AllocError::from)?,
+            notes: Notes::new(alloc, tables, symbols)?,
             domains: zeros(alloc, tables)?,
             levels: zeros(alloc, tables * tables)?,
             choice: vec![in alloc; 0; tables].map_err(AllocError::from)?,
@@ -98,49 +87,44 @@ pub fn prepare(room: &mut Room, from: &Tableau, from_mask: u64, to: &Tableau, to
     ensures sizes { HasSizesOf room.old room.new }
 {
     from.keeps_its_rules();
-    room.net.fill(
-        &mut room.rows_of,
-        &mut room.alike,
-        &mut room.columns,
-        &mut room.domains,
-        &mut room.rows_at,
-        from,
-        from_mask,
-        to,
-        to_mask,
-    )
+    let notes = &mut room.notes;
+    room.net.fill(notes, from, from_mask, to, to_mask)
 }
 
 /// Whether some choice sends the masked rows into the masked targets; the choice is then that
 /// choice, and in order the first one.
 fn settle<L: Ledger>(
-    net: &Net,
-    mask: u64,
+    aim: &Aim,
     to_mask: u64,
-    order: Order,
     domains: &mut [u64],
     levels: &mut [u64],
     choice: &mut [u8],
     steps: &mut Steps<L>,
 ) -> bool
-    requires room { HasRoom (length domains.old) net.now }
+    requires room { HasRoom (length domains.old) aim.now.net.now }
     requires rows { length domains.old ≤ 64 }
     requires choice { length choice.old ≡ length domains.old }
     requires levels { length domains.old * length domains.old ≤ length levels.old }
-    requires targets { (r x : ℕ) → r < length domains.old → bit_at mask r ≡ 1 → bit_at (base_of net.now r) x ≡ 1 → x < net.now.targets }
-    ensures found { IsTrue result → IsChoiceInto net.now (length domains.old) mask to_mask (choice_of choice.new) }
-    ensures first { IsTrue result → order ≡ Ascending → (other : ℕ → ℕ) → IsChoiceInto net.now (length domains.old) mask to_mask other → AreSame (length domains.old) mask other (choice_of choice.new) ⊎ IsLess (length domains.old) mask (choice_of choice.new) other }
-    ensures none { IsFalse result → (other : ℕ → ℕ) → IsChoiceInto net.now (length domains.old) mask to_mask other → ⊥ }
-    ensures cost { (passes : ℕ → ℕ → Bool) → ArePassed net.now (length domains.old) mask passes → order ≡ Ascending → steps.new ≤ steps.old + tries passes net.now.targets (length domains.old) mask }
+    requires targets { (r x : ℕ) → r < length domains.old → bit_at aim.now.mask r ≡ 1 → bit_at (base_of aim.now.net.now r) x ≡ 1 → x < aim.now.net.now.targets }
+    ensures found { IsTrue result → IsChoiceInto aim.now.net.now (length domains.old) aim.now.mask to_mask (choice_of choice.new) }
+    ensures first { IsTrue result → aim.now.order ≡ Ascending → (other : ℕ → ℕ) → IsChoiceInto aim.now.net.now (length domains.old) aim.now.mask to_mask other → AreSame (length domains.old) aim.now.mask other (choice_of choice.new) ⊎ IsLess (length domains.old) aim.now.mask (choice_of choice.new) other }
+    ensures none { IsFalse result → (other : ℕ → ℕ) → IsChoiceInto aim.now.net.now (length domains.old) aim.now.mask to_mask other → ⊥ }
+    ensures cost { (passes : ℕ → ℕ → Bool) → ArePassed aim.now.net.now (length domains.old) aim.now.mask passes → aim.now.order ≡ Ascending → steps.new ≤ steps.old + tries passes aim.now.net.now.targets (length domains.old) aim.now.mask }
 {
-    let rows = both(mask, full(domains.len()));
-    if !begin(net, rows, to_mask, domains) {
+    let rows = both(aim.mask, full(domains.len()));
+    if !begin(aim.net, rows, to_mask, domains) {
         return false;
     }
-    if !propagate(net, rows, rows, domains) {
+    if !propagate(aim.net, rows, rows, domains) {
         return false;
     }
-    search(net, rows, order, rows, domains, levels, choice, steps)
+    let within = Aim {
+        net: aim.net,
+        rows: aim.rows,
+        mask: rows,
+        order: aim.order,
+    };
+    search(&within, rows, domains, levels, choice, steps)
 }
 
 /// The domains at the start, and whether each row has a target.
@@ -179,77 +163,36 @@ fn gather(list: &mut [u8], choice: &[u8], mask: u64) -> usize
     count
 }
 
-/// The search, and the targets that it chose as a list: how many these are, or none where there is
-/// no choice.
+/// The search in the parts of the room that the rows need, and the targets that it chose as a list: how
+/// many these are, or none where there is no choice.
 fn settle_list<L: Ledger>(
-    net: &Net,
-    rows: usize,
-    mask: u64,
+    aim: &Aim,
     to_mask: u64,
-    order: Order,
     domains: &mut [u64],
     levels: &mut [u64],
     choice: &mut [u8],
     list: &mut [u8],
     steps: &mut Steps<L>,
 ) -> Option<usize>
-    requires net { HasRoom rows net.now }
-    requires rows { rows ≤ 64 }
-    requires domains { length domains.old ≡ rows }
-    requires choice { length choice.old ≡ rows }
-    requires list { rows ≤ length list.old }
-    requires levels { rows * rows ≤ length levels.old }
-    requires targets { (r x : ℕ) → r < rows → bit_at mask r ≡ 1 → bit_at (base_of net.now r) x ≡ 1 → x < net.now.targets }
-    ensures within { IfSome result (λ count. count ≤ rows) }
-    ensures found { IfSome result (λ count. IsFound net.now rows mask to_mask (take count list.new)) }
-    ensures first { IfSome result (λ count. order ≡ Ascending → IsFirstOf net.now rows mask to_mask (take count list.new)) }
-    ensures none { result ≡ None → (other : ℕ → ℕ) → IsChoiceInto net.now rows mask to_mask other → ⊥ }
-    ensures cost { (passes : ℕ → ℕ → Bool) → ArePassed net.now rows mask passes → order ≡ Ascending → steps.new ≤ steps.old + tries passes net.now.targets rows mask }
+    requires net { HasRoom aim.now.rows aim.now.net.now }
+    requires rows { aim.now.rows ≤ 64 }
+    requires domains { aim.now.rows ≤ length domains.old }
+    requires choice { aim.now.rows ≤ length choice.old }
+    requires list { aim.now.rows ≤ length list.old }
+    requires levels { aim.now.rows * aim.now.rows ≤ length levels.old }
+    requires targets { (r x : ℕ) → r < aim.now.rows → bit_at aim.now.mask r ≡ 1 → bit_at (base_of aim.now.net.now r) x ≡ 1 → x < aim.now.net.now.targets }
+    ensures within { IfSome result (λ count. count ≤ aim.now.rows) }
+    ensures found { IfSome result (λ count. IsFound aim.now.net.now aim.now.rows aim.now.mask to_mask (take count list.new)) }
+    ensures first { IfSome result (λ count. aim.now.order ≡ Ascending → IsFirstOf aim.now.net.now aim.now.rows aim.now.mask to_mask (take count list.new)) }
+    ensures none { result ≡ None → (other : ℕ → ℕ) → IsChoiceInto aim.now.net.now aim.now.rows aim.now.mask to_mask other → ⊥ }
+    ensures cost { (passes : ℕ → ℕ → Bool) → ArePassed aim.now.net.now aim.now.rows aim.now.mask passes → aim.now.order ≡ Ascending → steps.new ≤ steps.old + tries passes aim.now.net.now.targets aim.now.rows aim.now.mask }
 {
-    if !settle(net, mask, to_mask, order, domains, levels, choice, steps) {
+    let domains = &mut domains[..aim.rows];
+    let choice = &mut choice[..aim.rows];
+    if !settle(aim, to_mask, domains, levels, choice, steps) {
         return None;
     }
-    Some(gather(list, choice, mask))
-}
-
-/// The search in the parts of the room that the rows need.
-fn run<L: Ledger>(
-    net: &Net,
-    rows: usize,
-    mask: u64,
-    to_mask: u64,
-    order: Order,
-    domains: &mut [u64],
-    levels: &mut [u64],
-    choice: &mut [u8],
-    list: &mut [u8],
-    steps: &mut Steps<L>,
-) -> Option<usize>
-    requires net { HasRoom rows net.now }
-    requires rows { rows ≤ 64 }
-    requires domains { rows ≤ length domains.old }
-    requires choice { rows ≤ length choice.old }
-    requires list { rows ≤ length list.old }
-    requires levels { rows * rows ≤ length levels.old }
-    requires targets { (r x : ℕ) → r < rows → bit_at mask r ≡ 1 → bit_at (base_of net.now r) x ≡ 1 → x < net.now.targets }
-    ensures within { IfSome result (λ count. count ≤ rows) }
-    ensures found { IfSome result (λ count. IsFound net.now rows mask to_mask (take count list.new)) }
-    ensures first { IfSome result (λ count. order ≡ Ascending → IsFirstOf net.now rows mask to_mask (take count list.new)) }
-    ensures none { result ≡ None → (other : ℕ → ℕ) → IsChoiceInto net.now rows mask to_mask other → ⊥ }
-    ensures cost { (passes : ℕ → ℕ → Bool) → ArePassed net.now rows mask passes → order ≡ Ascending → steps.new ≤ steps.old + tries passes net.now.targets rows mask }
-{
-    settle_list(
-        net,
-        rows,
-        mask,
-        to_mask,
-        order,
-        &mut domains[..rows],
-        levels,
-        &mut choice[..rows],
-        list,
-        steps,
-    )
+    Some(gather(list, choice, aim.mask))
 }
 
 /// The search over the net that was prepared.
@@ -275,12 +218,15 @@ fn search_in<L: Ledger>(
 {
     from.keeps_its_rules();
     to.keeps_its_rules();
-    let Some(count) = run(
-        &room.net,
-        from.row_count(),
-        from_mask,
-        to_mask,
+    let aim = Aim {
+        net: &room.net,
+        rows: from.row_count(),
+        mask: from_mask,
         order,
+    };
+    let Some(count) = settle_list(
+        &aim,
+        to_mask,
         &mut room.domains,
         &mut room.levels,
         &mut room.choice,

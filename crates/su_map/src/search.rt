@@ -6,9 +6,9 @@ ghost use Rattle.su_map.specs.Lists.{numbers_of};
 ghost use Rattle.su_map.specs.Nets.{HasRoom};
 ghost use Rattle.su_map.specs.inside.Choices.{IsChoice, AreSame, IsLess, choice_of, Stands, IsInOrder, AreKept, tries, ArePassed};
 
+use crate::aims::Aim;
 use crate::bits::{lowest, without};
 use crate::domains::descend;
-use crate::nets::Net;
 use std::sync::ledger::Ledger;
 use su_base::Steps;
 use su_tableau::has;
@@ -54,41 +54,39 @@ fn next_row(order: Order, todo: u64, domains: &[u64]) -> usize
 /// Whether some choice within the domains goes on from how the search stands; the choice is then
 /// that choice, and in order the first of these.
 pub fn search<L: Ledger>(
-    net: &Net,
-    mask: u64,
-    order: Order,
+    aim: &Aim,
     todo: u64,
     domains: &[u64],
     room: &mut [u64],
     choice: &mut [u8],
     steps: &mut Steps<L>,
 ) -> bool
-    requires room { HasRoom (length domains.now) net.now }
+    requires room { HasRoom (length domains.now) aim.now.net.now }
     requires rows { length domains.now ≤ 64 }
     requires choice { length choice.old ≡ length domains.now }
     requires levels { length (numbers_of todo (length domains.now)) * length domains.now ≤ length room.old }
-    requires mask { (q : ℕ) → bit_at mask q ≡ 1 → q < length domains.now }
-    requires stands { Stands net.now (length domains.now) mask todo domains.now (choice_of choice.old) }
-    requires in_order { order ≡ Ascending → IsInOrder (length domains.now) mask todo }
-    requires targets { (r x : ℕ) → r < length domains.now → bit_at mask r ≡ 1 → bit_at (get_or domains.now r 0) x ≡ 1 → x < net.now.targets }
-    ensures kept { AreKept (length domains.now) mask todo (choice_of choice.old) (choice_of choice.new) }
-    ensures found { IsTrue result → IsChoice net.now (length domains.now) mask domains.now (choice_of choice.new) }
-    ensures first { IsTrue result → order ≡ Ascending → (other : ℕ → ℕ) → IsChoice net.now (length domains.now) mask domains.now other → AreSame (length domains.now) mask other (choice_of choice.new) ⊎ IsLess (length domains.now) mask (choice_of choice.new) other }
-    ensures none { IsFalse result → (other : ℕ → ℕ) → IsChoice net.now (length domains.now) mask domains.now other → ⊥ }
-    ensures cost { (passes : ℕ → ℕ → Bool) → ArePassed net.now (length domains.now) mask passes → order ≡ Ascending → steps.new ≤ steps.old + tries passes net.now.targets (length domains.now) todo }
+    requires mask { (q : ℕ) → bit_at aim.now.mask q ≡ 1 → q < length domains.now }
+    requires stands { Stands aim.now.net.now (length domains.now) aim.now.mask todo domains.now (choice_of choice.old) }
+    requires in_order { aim.now.order ≡ Ascending → IsInOrder (length domains.now) aim.now.mask todo }
+    requires targets { (r x : ℕ) → r < length domains.now → bit_at aim.now.mask r ≡ 1 → bit_at (get_or domains.now r 0) x ≡ 1 → x < aim.now.net.now.targets }
+    ensures kept { AreKept (length domains.now) aim.now.mask todo (choice_of choice.old) (choice_of choice.new) }
+    ensures found { IsTrue result → IsChoice aim.now.net.now (length domains.now) aim.now.mask domains.now (choice_of choice.new) }
+    ensures first { IsTrue result → aim.now.order ≡ Ascending → (other : ℕ → ℕ) → IsChoice aim.now.net.now (length domains.now) aim.now.mask domains.now other → AreSame (length domains.now) aim.now.mask other (choice_of choice.new) ⊎ IsLess (length domains.now) aim.now.mask (choice_of choice.new) other }
+    ensures none { IsFalse result → (other : ℕ → ℕ) → IsChoice aim.now.net.now (length domains.now) aim.now.mask domains.now other → ⊥ }
+    ensures cost { (passes : ℕ → ℕ → Bool) → ArePassed aim.now.net.now (length domains.now) aim.now.mask passes → aim.now.order ≡ Ascending → steps.new ≤ steps.old + tries passes aim.now.net.now.targets (length domains.now) todo }
 {
     if todo == 0 {
         return true;
     }
-    let row = next_row(order, todo, domains);
+    let row = next_row(aim.order, todo, domains);
     let rest = without(todo, row);
-    for target in 0..net.targets() {
+    for target in 0..aim.net.targets() {
         if has(domains[row], target) {
             steps.tick();
             choice[row] = target as u8;
             let (next, more) = room.split_at_mut(domains.len());
-            if descend(net, mask, row, target, domains, next)
-                && search(net, mask, order, rest, next, more, choice, steps)
+            if descend(aim.net, aim.mask, row, target, domains, next)
+                && search(aim, rest, next, more, choice, steps)
             {
                 return true;
             }

@@ -1,8 +1,7 @@
 -- A row has one first breach, and one first value of another kind.
-use Rattle.std.proofs.Common.{◌≡◌, ℕ, List, map, length, slice_get, Some, ap, sym, ◌∙◌, subst, Contains, inl, inr, arith}
+use Rattle.std.proofs.Common.{◌≡◌, ℕ, List, map, slice_get, Some, ap, sym, ◌∙◌, subst, Contains, inl, inr, arith}
 use Rattle.std.specs.Prelude.{option_map}
 use Rattle.std.proofs.lemmas.Bool.{cases_lt}
-use Rattle.std.proofs.lemmas.List.{length-map}
 use Rattle.std.proofs.lemmas.Option.{slice_get-map}
 use Rattle.su_base.specs.declared.values.Value.{Value}
 use Rattle.su_base.specs.declared.values.Column.{Column}
@@ -12,6 +11,7 @@ use Rattle.su_state.specs.declared.faults.StateFault.{StateFault}
 use Rattle.su_state.specs.declared.faults.StateFault.TheVariants.{UnknownRelation, Width, Kind as OtherKind, Breaks, Limit, NoMemory}
 use Rattle.su_state.specs.DatabaseValue.{IsTyped}
 use Rattle.su_state.specs.Changes.{IsFirstOtherKind, IsUnfit, IsBreach, IsFirstBreach}
+use Rattle.su_state.proofs.Filled.{typed_width}
 use Rattle.su_once.proofs.Rows.{one_least}
 
 -- ---- breaches, over the same rows
@@ -61,11 +61,8 @@ kind_at columns row k column value typed at there =
     let both : Some (kind_of value) ≡ Some column.kind = sym one ∙ same ∙ other in
     cc
 
-same_width : (columns : List Column) (row : List Value) → IsTyped columns row → length row ≡ length columns
-same_width columns row typed = sym (length-map row kind_of) ∙ ap length typed ∙ length-map columns (λ (c : Column). c.kind)
-
 pub not_unfit : (r : ℕ) (columns : List Column) (row : List Value) (fault : StateFault) → IsTyped columns row → IsUnfit r columns row fault → ⊥
-not_unfit r columns row (Width s given) typed h = h.0 (same_width columns row typed)
+not_unfit r columns row (Width s given) typed h = h.0 (typed_width columns row typed)
 not_unfit r columns row (OtherKind s column) typed h =
     let (c, v, at, there, differ) = h.1.other in
     differ (kind_at columns row column c v typed at there)

@@ -1,5 +1,5 @@
 -- Two lists of terms have one verdict.
-use Rattle.std.proofs.Common.{◌≡◌, ◌↔◌, ◌⊎◌, ◌<◌, ◌+◌, ◌^◌, ℕ, List, [], length, get_or, Contains, Option, Some, None, All, inl, inr, refl, ap, sym, ◌∙◌, subst, arith}
+use Rattle.std.proofs.Common.{◌≡◌, ◌↔◌, ◌<◌, ℕ, List, [], length, get_or, Contains, Option, Some, None, All, inl, inr, refl, ap, sym, ◌∙◌, subst, arith}
 use Rattle.std.proofs.lemmas.Bool.{cases_lt}
 use Rattle.su_base.specs.declared.values.Value.{Value}
 use Rattle.su_fd.specs.declared.dependencies.Fd.{Fd}
@@ -14,9 +14,8 @@ use Rattle.su_schema.specs.SchemaValue.{SchemaValue, attribute_kinds}
 use Rattle.su_steps.specs.declared.results.Term.{Term}
 use Rattle.su_compare.specs.declared.verdicts.Found.{Found}
 use Rattle.su_compare.specs.declared.verdicts.Reason.{Reason}
-use Rattle.su_compare.specs.declared.verdicts.Verdict.{Verdict}
 use Rattle.su_compare.specs.declared.verdicts.Verdict.TheVariants.{Within, Apart}
-use Rattle.su_compare.specs.Verdict.{tab_at, IsFirstMapping, IsFound, Clashes, IsBy, IsSettled, IsUnsettled, IsReason, AreReasons, InTerms, IsShown, IsApart, IsVerdict}
+use Rattle.su_compare.specs.Verdict.{tab_at, IsFirstMapping, IsFound, Clashes, IsBy, IsUnsettled, IsReason, AreReasons, IsShown, IsApart}
 use Rattle.su_compare.proofs.Lists.{same_lists}
 use Rattle.su_compare.proofs.Settled.{tab_here}
 use Rattle.su_once.specs.Verdicts.{OneVerdict}

@@ -8,7 +8,8 @@ use Rattle.std.proofs.lemmas.List.Sums.{length-filter}
 use Rattle.su_base.specs.declared.values.Value.{Value}
 use Rattle.su_rel.specs.Stored.{AllDiffer}
 use Rattle.su_min.proofs.Holes.{pigeonhole}
-use Rattle.su_once.proofs.Lists.{Ascends, ascends_from, first_or_rest, contains_first, contains_rest}
+use Rattle.su_base.proofs.Items.{Contains-cases, Contains-head, Contains-later}
+use Rattle.su_once.proofs.Lists.{Ascends, ascends_from}
 
 abbrev Row : Type 0
 Row = List Value
@@ -40,18 +41,18 @@ Apart a b = ¬ (a ≡ b)
 
 module _ (p : Row → Bool) (r : Row) (rs : List Row) (row : Row) where
   among_more : (b : Bool) → p r ≡ b → (Contains (filter p rs) row → Contains rs row × (p row ≡ true)) → Contains (cond b (r ∷ filter p rs) (filter p rs)) row → Contains (r ∷ rs) row × (p row ≡ true)
-  among_more true passes rest inside = elim (first_or_rest r (filter p rs) row inside) [
-    | inl is ↦ (subst (λ (x : Row). Contains (r ∷ rs) x) is (contains_first r rs), ap p (sym is) ∙ passes)
-    | inr there ↦ let more = rest there in (contains_rest r rs row more.0, more.1)
+  among_more true passes rest inside = elim (Contains-cases r (filter p rs) row inside) [
+    | inl is ↦ (subst (λ (x : Row). Contains (r ∷ rs) x) is (Contains-head r rs), ap p (sym is) ∙ passes)
+    | inr there ↦ let more = rest there in (Contains-later r rs row more.0, more.1)
   ]
-  among_more false fails rest inside = let more = rest inside in (contains_rest r rs row more.0, more.1)
+  among_more false fails rest inside = let more = rest inside in (Contains-later r rs row more.0, more.1)
 
   stays_more : (b : Bool) → p r ≡ b → p row ≡ true → (Contains rs row → Contains (filter p rs) row) → Contains (r ∷ rs) row → Contains (cond b (r ∷ filter p rs) (filter p rs)) row
-  stays_more true is passes rest there = elim (first_or_rest r rs row there) [
-    | inl same ↦ subst (λ (x : Row). Contains (r ∷ filter p rs) x) same (contains_first r (filter p rs))
-    | inr behind ↦ contains_rest r (filter p rs) row (rest behind)
+  stays_more true is passes rest there = elim (Contains-cases r rs row there) [
+    | inl same ↦ subst (λ (x : Row). Contains (r ∷ filter p rs) x) same (Contains-head r (filter p rs))
+    | inr behind ↦ Contains-later r (filter p rs) row (rest behind)
   ]
-  stays_more false is passes rest there = elim (first_or_rest r rs row there) [
+  stays_more false is passes rest there = elim (Contains-cases r rs row there) [
     | inl same ↦ absurd (let no : false ≡ true = sym is ∙ ap p same ∙ passes in cc)
     | inr behind ↦ rest behind
   ]

@@ -1,5 +1,5 @@
 -- A definition has one answer on databases that are alike, and leaves them alike.
-use Rattle.std.proofs.Common.{◌≡◌, ◌≢◌, ◌+◌, ◌-◌, ℕ, List, [], ◌∷◌, length, slice_get, Option, Some, Result, Ok, Err, refl, ap, sym, ◌∙◌, subst, Contains, inl, inr, arith}
+use Rattle.std.proofs.Common.{◌≡◌, ◌≢◌, ◌+◌, ◌-◌, ℕ, List, [], ◌∷◌, length, slice_get, Result, Ok, Err, refl, ap, sym, ◌∙◌, subst, Contains, inl, inr, arith}
 use Rattle.std.specs.Prelude.{◌↔◌}
 use Rattle.std.proofs.lemmas.Bool.{cases_lt}
 use Rattle.std.proofs.lemmas.List.{length-append}
@@ -19,6 +19,7 @@ use Rattle.su_state.proofs.Added.{rows_more}
 use Rattle.su_once.specs.States.{AreAlike, OneDefinition}
 use Rattle.su_once.proofs.Rows.{one_least}
 use Rattle.su_once.proofs.Changed.{same_schema}
+use Rattle.su_once.proofs.Options.{same_some}
 
 -- ---- breaks of the same rows
 
@@ -48,9 +49,6 @@ module _ (schema : SchemaValue) (t u : List Stored) (same : HaveRows t u) where
   breaks_among (Maximal objects) fd n first second h = absurd h
 
 -- ---- one break
-
-same_some : {X : Type 0} (x y : X) (o : Option X) → o ≡ Some x → o ≡ Some y → x ≡ y
-same_some x y o e f = let both : Some x ≡ Some y = sym e ∙ f in cc
 
 one_least_break : (fd : Dependency) (object : ObjectEntry) (rows : List (List Value)) (a b c d : List Value) → IsLeastBreak fd object rows a b → IsLeastBreak fd object rows c d → (a ≡ c) × (b ≡ d)
 one_least_break fd object rows a b c d h k =

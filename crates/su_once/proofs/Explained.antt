@@ -1,5 +1,5 @@
 -- What is shown of a query and of a closure is one text.
-use Rattle.std.proofs.Common.{◌≡◌, ℕ, List, [], ◌∷◌, ◌++◌, slice_get, Option, Some, ap, sym, ◌∙◌, subst, inl, inr}
+use Rattle.std.proofs.Common.{◌≡◌, ℕ, List, [], ◌∷◌, ◌++◌, slice_get, ap, sym, ◌∙◌, subst, inl, inr}
 use Rattle.su_schema.specs.SchemaValue.{SchemaValue}
 use Rattle.su_query.specs.declared.resolving.Resolved.{Resolved}
 use Rattle.su_steps.specs.declared.results.Term.{Term}
@@ -13,6 +13,7 @@ use Rattle.su_show.specs.Replies.{closure_reply}
 use Rattle.su_show.specs.Explaining.{query_line, variables_line, last_line, IsTermText}
 use Rattle.su_once.specs.Texts.{OneClosureReply, OneExplanation}
 use Rattle.su_once.proofs.Closed.{one_set, one_closure, one_derivation}
+use Rattle.su_once.proofs.Options.{same_some}
 
 -- lines, where each item has one
 module _ {A : Type 0} (P : A → List ℕ → Type 0) (one : (x : A) (line other : List ℕ) → P x line → P x other → line ≡ other) where
@@ -22,9 +23,6 @@ module _ {A : Type 0} (P : A → List ℕ → Type 0) (one : (x : A) (line other
       let first = one x line same here there in
       let later = one_text xs rest behind more others in
       is ∙ (λ i. first i ++ later i) ∙ sym also
-
-same_some : {X : Type 0} (x y : X) (o : Option X) → o ≡ Some x → o ≡ Some y → x ≡ y
-same_some x y o e f = let both : Some x ≡ Some y = sym e ∙ f in cc
 
 one_sources_line : (schema : SchemaValue) (m : Minimised) (r : ℕ) (line other : List ℕ) → IsSourcesLine schema m r line → IsSourcesLine schema m r other → line ≡ other
 one_sources_line schema m r line other h k =

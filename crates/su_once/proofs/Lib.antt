@@ -1,4 +1,5 @@
 pub mod Lists
+pub mod Options
 pub mod Closed
 pub mod Mapped
 pub mod Counted

@@ -8,6 +8,7 @@ use Rattle.su_state.specs.DatabaseValue.{DatabaseValue}
 use Rattle.su_state.specs.Changes.{Inserts}
 use Rattle.su_state.specs.Loads.{added_by, InsertsAll}
 use Rattle.su_once.specs.States.{AreAlike, OneLoad}
+use Rattle.su_once.proofs.Answered.{back}
 use Rattle.su_once.proofs.Changed.{one_insert}
 
 abbrev Row : Type 0
@@ -81,9 +82,6 @@ all_or_refused a b c d r (x ∷ xs) (z ∷ zs) after row m n f p alike same caus
     let behind : xs ≡ zs ++ row ∷ after = cc in
     let step = one_step a b e t r x y u alike first (subst (λ (v : Row). Inserts b r v (Ok u) t) head one) in
     all_or_refused e t c d r xs zs after row j l f p step.1 behind cause rest ones fails
-
-back : (a b : DatabaseValue) → AreAlike a b → AreAlike b a
-back a b alike = record { schema = sym alike.schema; tables = sym alike.tables; rows = λ r z. ((alike.rows r z).1, (alike.rows r z).0); counts = λ r. sym (alike.counts r) }
 
 pub one_load : OneLoad
 one_load a b c d r rows (Ok m) (Ok n) alike x y h k = let all = one_all a b c d r rows m n alike h k in (ap Ok all.0, all.1)

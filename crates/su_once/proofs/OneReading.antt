@@ -1,5 +1,5 @@
 -- A text is read in one way, or refused for one cause.
-use Rattle.std.proofs.Common.{◌≡◌, ◌≢◌, ℕ, List, [], ◌∷◌, Option, Some, None, refl, ap, sym, ◌∙◌, subst, inl, inr, arith}
+use Rattle.std.proofs.Common.{◌≡◌, ◌≢◌, ℕ, List, [], ◌∷◌, Option, Some, refl, ap, sym, ◌∙◌, subst, inl, inr, arith}
 use Rattle.std.specs.List.{AllByRecursion}
 use Rattle.su_base.specs.declared.values.Kind.{Kind}
 use Rattle.su_lex.specs.declared.meaning.Symbol.{Symbol}
@@ -16,6 +16,7 @@ use Rattle.su_query.specs.Nesting.{IsDeep}
 use Rattle.su_query.specs.Reading.{IsStatement, IsFormless, NestsTooDeep, IsRefusal, Passes, PartsPass, AreFew, HasFew, parts_of}
 use Rattle.su_query.proofs.Uniqueness.{statement_unique}
 use Rattle.su_once.specs.Readings.{OneOutcome, OneStatement, OneRefusal, RefusedOrRead, OneQueryRefusal, QueryIsRefusedOrKnown, OneColumnRefusal, ConditionIsRefusedOrKnown}
+use Rattle.su_once.proofs.Options.{same_some, none_or_some}
 
 pub one_outcome : OneOutcome
 one_outcome file outcome other h k = same_outcome file outcome other h k
@@ -120,12 +121,6 @@ pub not_refused : RefusedOrRead
 not_refused text why st m h k few = refused_or_few text why st (cause_of text why m h) k few
 
 -- ---- names
-
-same_some : {X : Type 0} (x y : X) (o : Option X) → o ≡ Some x → o ≡ Some y → x ≡ y
-same_some x y o e f = let both : Some x ≡ Some y = sym e ∙ f in cc
-
-none_or_some : {X : Type 0} (x : X) (o : Option X) → o ≡ None → o ≡ Some x → ⊥
-none_or_some x o e f = let both : None ≡ Some x = sym e ∙ f in absurd (cc)
 
 same_kinds : (a b c d : Kind) (o : Option (Kind × Kind)) → o ≡ Some (a, b) → o ≡ Some (c, d) → ◌≡◌ {A = QueryFault} (Kinds a b) (Kinds c d)
 same_kinds a b c d o e f = let pairs : (a, b) ≡ (c, d) = same_some (a, b) (c, d) o e f in λ i. Kinds (pairs i).0 (pairs i).1

@@ -16,7 +16,6 @@ use Rattle.su_steps.specs.Refusals.{IsAccepted}
 use Rattle.su_steps.proofs.Validity.{all_valid}
 use Rattle.su_compare.specs.Within.{AreOf}
 use Rattle.su_compare.specs.Verdict.{IsVerdict}
-use Rattle.su_compare.specs.declared.verdicts.Verdict.{Verdict}
 use Rattle.su_compare.specs.Texts.{verdicts_text}
 use Rattle.su_show.specs.declared.statement_refusal.Refusal.{Refusal}
 use Rattle.su_show.specs.declared.statement_refusal.Refusal.TheVariants as refusal

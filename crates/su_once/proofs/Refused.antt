@@ -1,5 +1,5 @@
 -- A query that has no terms is refused for one cause.
-use Rattle.std.proofs.Common.{◌≡◌, ◌≢◌, ◌≤◌, ℕ, List, slice_get, Option, Some, None, refl, ap, sym, ◌∙◌, subst, arith}
+use Rattle.std.proofs.Common.{◌≡◌, ◌≢◌, ◌≤◌, ℕ, List, slice_get, Some, refl, ap, sym, ◌∙◌, subst, arith}
 use Rattle.std.specs.Ordering.{nat_cmp}
 use Rattle.std.specs.FinSet.{FinSet}
 use Rattle.std.proofs.lemmas.List.Elements.{All-contains}
@@ -13,12 +13,7 @@ use Rattle.su_steps.specs.declared.faults.StepLimit.TheVariants.{Disjuncts, Rows
 use Rattle.su_steps.specs.Choices.{choices}
 use Rattle.su_steps.specs.Refusals.{first_uncovered, row_count, HasFewRows, HasManyRows, IsLimitPassed, IsRefusal, IsAccepted}
 use Rattle.su_once.specs.Terms.{OneStepRefusal, RefusedOrAccepted}
-
-same_some : {X : Type 0} (x y : X) (o : Option X) → o ≡ Some x → o ≡ Some y → x ≡ y
-same_some x y o e f = let both : Some x ≡ Some y = sym e ∙ f in cc
-
-none_or_some : {X : Type 0} (x : X) (o : Option X) → o ≡ None → o ≡ Some x → ⊥
-none_or_some x o e f = let both : None ≡ Some x = sym e ∙ f in absurd (cc)
+use Rattle.su_once.proofs.Options.{same_some, none_or_some}
 
 module _ (schema : SchemaValue) (maximal : List (FinSet nat_cmp)) (q : Resolved) where
   many_or_few : HasManyRows schema maximal q → HasFewRows schema maximal q → ⊥

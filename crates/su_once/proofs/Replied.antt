@@ -60,7 +60,8 @@ use Rattle.su_once.proofs.Supported.{one_supports}
 use Rattle.su_once.proofs.Windowed.{one_window, one_window_refusal, refused_or_fitting}
 use Rattle.su_once.proofs.OneReading.{one_statement, one_refusal, not_refused, one_query_refusal, query_not_refused, one_column_refusal, condition_not_refused}
 use Rattle.su_once.proofs.Refused.{one_step_refusal, not_refused as has_terms}
-use Rattle.su_once.proofs.Told.{same_some, none_or_some, accept, query_told, step_told, still, refuse, insert_told, one_insert_told, one_delete_told, load_told, one_load_told, definition_told, one_definition_told}
+use Rattle.su_once.proofs.Options.{same_some, none_or_some}
+use Rattle.su_once.proofs.Told.{accept, query_told, step_told, still, refuse, insert_told, one_insert_told, one_delete_told, load_told, one_load_told, definition_told, one_definition_told}
 
 -- ---- the cause of a refused query
 

@@ -1,38 +1,22 @@
 -- Ascending lists of rows with the same members are equal.
-use Rattle.std.proofs.Common.{◌≡◌, ◌≢◌, zero, suc, true, false, List, [], ◌∷◌, get_or, refl, ap, sym, ◌∙◌, subst, Contains, arith}
-use Rattle.std.specs.Cmp.{IsTotalOrder}
-use Rattle.std.specs.Cmp.Lexicographic.{lists_ties}
+use Rattle.std.proofs.Common.{◌≡◌, ◌≢◌, zero, suc, false, List, [], ◌∷◌, get_or, refl, ap, sym, ◌∙◌, subst, Contains, arith}
 use Rattle.std.specs.List.{AllByRecursion}
 use Rattle.std.specs.List.Sorted.{IsSorted, IsStrictlySortedBy}
-use Rattle.std.specs.Ordering.{eq_by_cmp, is_eq, is_lt, ordering_reverse}
+use Rattle.std.specs.Ordering.{is_lt, ordering_reverse}
 use Rattle.std.specs.declared.cmp.Ordering.{Ordering}
 use Rattle.std.specs.declared.cmp.Ordering.TheVariants.{Less, Equal, Greater}
 use Rattle.std.proofs.lemmas.Bool.{false≢true}
-use Rattle.std.proofs.lemmas.Cmp.{lists_total}
 use Rattle.std.proofs.lemmas.List.MinMax.{ranks_by}
 use Rattle.std.proofs.lemmas.List.Sorted.{sorted_far}
 use Rattle.su_base.specs.declared.values.Value.{Value}
-use Rattle.su_base.specs.contracts.values.ValuePartialEq.TheImpl.{ghosts}
-use Rattle.su_base.specs.contracts.values.ValueOrd.TheImpl.Laws.{matches_eq-law}
-use Rattle.su_base.specs.Value.{compare_values, compare_lists}
-use Rattle.su_base.proofs.Same.{row_eq-Decides}
+use Rattle.su_base.specs.Value.{compare_lists}
+use Rattle.su_base.proofs.Rows.{rows_total, equal_rows}
 use Rattle.su_rel.specs.Stored.{AllDiffer}
-use Rattle.su_index.proofs.Runs.{same_order, values_total}
 use Rattle.su_state.specs.DatabaseValue.{IsAtMost}
 use Rattle.su_once.proofs.Lists.{Ascends, one_ascending, ascends_from}
 
 abbrev Row : Type 0
 Row = List Value
-
-pub rows_total : IsTotalOrder compare_lists
-rows_total = lists_total values_total
-
-value_ties : (v w : Value) → ghosts.eq v w ≡ eq_by_cmp compare_values v w
-value_ties v w = matches_eq-law v w ∙ ap is_eq (same_order v w)
-
--- rows that compare as equal are equal
-pub equal_rows : (a b : Row) → compare_lists a b ≡ Equal → a ≡ b
-equal_rows a b tied = (row_eq-Decides a b true (sym (lists_ties compare_values value_ties a b ∙ ap is_eq tied))).0 refl
 
 abbrev pub Before : Row → Row → Type 0
 Before a b = compare_lists a b ≡ Less

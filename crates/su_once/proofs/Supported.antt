@@ -19,14 +19,14 @@ use Rattle.su_min.specs.Kept.{Minimised}
 use Rattle.su_min.specs.Reduction.{term_at}
 use Rattle.su_map.specs.Lists.{rows_in}
 use Rattle.su_answer.specs.Joined.{numbers_in, cell, IsSourceOf, IsTaskRowOf, IsTaskOf}
-use Rattle.su_answer.specs.Support.{IsCandidate, IsLeftOver, IsCountOf, IsLeftCount, IsSupport, AreSupports}
+use Rattle.su_answer.specs.Support.{IsCandidate, IsLeftOver, IsCountOf, IsLeftCount, IsSupport}
 use Rattle.su_once.specs.States.{AreAlike}
 use Rattle.su_once.specs.Answers.{OneSupport}
 use Rattle.su_once.proofs.Answered.{back}
 use Rattle.su_once.proofs.Closed.{same_test, one_set}
 use Rattle.su_once.proofs.Counted.{no_longer}
 use Rattle.su_once.proofs.Lists.{ascends_from}
-use Rattle.su_once.proofs.Told.{same_some}
+use Rattle.su_once.proofs.Options.{same_some}
 
 -- as many lists have a property as have one that is the same
 module _ (P Q : List Value → Type 0) (f : (h : List Value) → P h → Q h) (g : (h : List Value) → Q h → P h) (m n : ℕ) (x : IsCountOf P m) (y : IsCountOf Q n) where

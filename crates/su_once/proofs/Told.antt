@@ -1,5 +1,5 @@
 -- Replies that tell the same are equal.
-use Rattle.std.proofs.Common.{◌≡◌, ◌≢◌, ℕ, Bool, true, false, List, Option, Some, None, Result, Ok, Err, refl, ap, sym, ◌∙◌, subst}
+use Rattle.std.proofs.Common.{◌≡◌, ◌≢◌, ℕ, Bool, true, false, List, Result, Ok, Err, refl, ap, sym, ◌∙◌, subst}
 use Rattle.su_rel.specs.Stored.{Stored}
 use Rattle.su_query.specs.declared.faults.QueryFault.{QueryFault}
 use Rattle.su_query.specs.declared.faults.QueryFault.TheVariants as query
@@ -18,12 +18,6 @@ use Rattle.su_show.specs.Refusing.{refusal_line, IsNoMemory, IsQueryMemory, IsSt
 use Rattle.su_session.specs.declared.replies.Reply.{Reply}
 use Rattle.su_session.specs.Telling.{Accepts, Refuses, TellsInsert, TellsDelete, TellsLoad, TellsDefine}
 use Rattle.su_once.specs.States.{AreAlike}
-
-pub same_some : {X : Type 0} (x y : X) (o : Option X) → o ≡ Some x → o ≡ Some y → x ≡ y
-same_some x y o e f = let both : Some x ≡ Some y = sym e ∙ f in cc
-
-pub none_or_some : {X : Type 0} (x : X) (o : Option X) → o ≡ None → o ≡ Some x → ⊥
-none_or_some x o e f = let both : None ≡ Some x = sym e ∙ f in absurd (cc)
 
 pub accept : (r s : Reply) (text other : List ℕ) → Accepts text r → Accepts other s → text ≡ other → r ≡ s
 accept r s text other h k same =

@@ -1,13 +1,13 @@
 -- Databases that are alike have one window on some attributes, or none for one cause.
-use Rattle.std.proofs.Common.{◌≡◌, ◌≢◌, ◌↔◌, ◌⊎◌, ◌<◌, ◌≤◌, ◌+◌, ◌*◌, ◌/◌, ◌%◌, ℕ, zero, suc, Bool, true, false, cond, List, [], ◌∷◌, map, length, get_or, slice_get, Contains, Option, Some, None, inl, inr, refl, ap, sym, ◌∙◌, subst, arith}
-use Rattle.std.specs.Prelude.{IsTrue, All}
+use Rattle.std.proofs.Common.{◌≡◌, ◌≢◌, ◌↔◌, ◌⊎◌, ◌<◌, ◌≤◌, ◌+◌, ◌*◌, ◌/◌, ◌%◌, ℕ, Bool, true, false, cond, List, [], map, length, get_or, slice_get, Contains, Option, Some, None, inl, inr, refl, ap, sym, ◌∙◌, subst, arith}
+use Rattle.std.specs.Prelude.{IsTrue}
 use Rattle.std.specs.List.{range_with_len}
 use Rattle.std.specs.FinSet.{contains, empty}
 use Rattle.std.proofs.lemmas.Bool.{cases_lt}
 use Rattle.std.proofs.lemmas.Nat.{div-mul-add, mod-mul-add}
 use Rattle.std.proofs.lemmas.List.{get_or_default, get_or-map, get_or_past, length-map}
 use Rattle.std.proofs.lemmas.List.Elements.{Contains-get_or}
-use Rattle.std.proofs.lemmas.List.FromFn.{length-range_with_len, get_or-range_with_len, get_or-map-range_with_len, length-map-range_with_len}
+use Rattle.std.proofs.lemmas.List.FromFn.{get_or-map-range_with_len, length-map-range_with_len}
 use Rattle.su_base.specs.declared.values.Value.{Value}
 use Rattle.su_fd.specs.declared.dependencies.Fd.{Fd}
 use Rattle.su_rel.specs.Stored.{Stored}
@@ -17,21 +17,20 @@ use Rattle.su_tableau.proofs.Containment.{map_twice}
 use Rattle.su_classes.proofs.Listed.{map_same}
 use Rattle.su_chase.specs.Chase.{SameLabels, IsClosed, InOneClass, IsClash}
 use Rattle.std.proofs.lemmas.List.{get_or-map as map_at}
-use Rattle.su_base.proofs.Items.{Contains-map as contains_map}
+use Rattle.su_base.proofs.Items.{Contains-map as contains_map, Contains-range, Contains-range_below}
 use Rattle.su_base.proofs.Items.{Contains-map_source as of_map}
 use Rattle.su_schema.specs.SchemaValue.{SchemaValue, ObjectEntry, attributes_of}
 use Rattle.su_state.specs.DatabaseValue.{DatabaseValue, rows_of, rows_in}
 use Rattle.su_window.specs.declared.faults.WindowFault.{WindowFault}
 use Rattle.su_window.specs.declared.faults.WindowFault.TheVariants.{Limit, Inconsistent, NoMemory}
 use Rattle.su_window.specs.declared.readings.Reading.{Reading}
-use Rattle.su_schema.specs.Cuts.{width, attributes_at, cut}
+use Rattle.su_schema.specs.Cuts.{width, attributes_at}
 use Rattle.su_state.specs.Views.{value_for, taken, view_through, view_of}
 use Rattle.su_window.specs.Members.{Member, IsMember, AreMembers, HasFew, HasMany}
 use Rattle.su_window.specs.Window.{Fits, InWindow}
-use Rattle.su_window.specs.Padded.{object_at, row_read, member_read, IsReading, AreReadings, padded, padded_row, padded_rows}
+use Rattle.su_window.specs.Padded.{object_at, row_read, member_read, AreReadings, padded, padded_row, padded_rows}
 use Rattle.su_window.specs.Refusals.{Clashes, IsWindowRefusal}
 use Rattle.su_schema.proofs.Cuts.{cut_agrees}
-use Rattle.su_once.specs.States.{AreAlike}
 use Rattle.su_once.specs.Windows.{IsWindow, OneWindow, OneWindowRefusal, RefusedOrFitting}
 use Rattle.su_once.proofs.Changed.{same_schema}
 use Rattle.su_once.proofs.Chasing.{one_clash}
@@ -77,20 +76,6 @@ no_object = record { name = []; relation = 0; links = [] }
 
 abbrev no_reading : Reading
 no_reading = record { object = 0; position = 0 }
-
--- a number below n among them
-in_range : (n i : ℕ) → Contains (range_with_len 0 n) i → i < n
-in_range n i (k, low, is) =
-    let far : length (range_with_len 0 n) ≡ n = length-range_with_len 0 n in
-    let within : k < n = omega (arith, low, far) in
-    let here : 0 + k ≡ i = sym (get_or-range_with_len 0 n k 0 within) ∙ get_or_default (range_with_len 0 n) k 0 i low ∙ is in
-    omega (arith, within, here)
-
-of_range : (n i : ℕ) → i < n → Contains (range_with_len 0 n) i
-of_range n i low =
-    let far : length (range_with_len 0 n) ≡ n = length-range_with_len 0 n in
-    let same : 0 + i ≡ i = omega arith in
-    subst (Contains (range_with_len 0 n)) (get_or-range_with_len 0 n i 0 low ∙ same) (Contains-get_or (range_with_len 0 n) i 0 (omega (arith, low, far)))
 
 -- the row of another database that reads the same member
 record IsTwin (a b : DatabaseValue) (x : Reading) (others : List Reading) : Type 0 where
@@ -179,14 +164,14 @@ module _ (schema : SchemaValue) (left right : List Stored) (rows : (r : ℕ) (ro
       row_moves : map move (padded_row from i x) ≡ padded_row to (other i) y
       row_moves =
           map_twice (padded from i x) move (λ c. move (padded from i x c)) (λ c. refl) (range_with_len 0 n)
-          ∙ map_same (λ c. move (padded from i x c)) (padded to (other i) y) (range_with_len 0 n) (λ c there. same_cell c (in_range n c there))
+          ∙ map_same (λ c. move (padded from i x c)) (padded to (other i) y) (range_with_len 0 n) (λ c there. same_cell c (Contains-range_below n c there))
 
     row_of : (r : List Sym) → Contains (padded_rows from mine) r → Contains (padded_rows to others) (map move r) × (length r ≡ n)
     row_of r there =
         let (i, among, is) = of_map (λ k. padded_row from k (get_or mine k no_reading)) (range_with_len 0 (length mine)) r there in
-        let low : i < length mine = in_range (length mine) i among in
+        let low : i < length mine = Contains-range_below (length mine) i among in
         let within = (twin_by i low (cases_lt i (length mine))).0 in
-        let stands = contains_map (λ k. padded_row to k (get_or others k no_reading)) (range_with_len 0 (length others)) (other i) (of_range (length others) (other i) within) in (
+        let stands = contains_map (λ k. padded_row to k (get_or others k no_reading)) (range_with_len 0 (length others)) (other i) (Contains-range (length others) (other i) within) in (
           subst (Contains (padded_rows to others)) (sym (row_moves i low) ∙ ap (map move) is) stands,
           ap length (sym is) ∙ length-map-range_with_len (padded from i (get_or mine i no_reading)) 0 n,
         )

@@ -16,7 +16,6 @@ use Rattle.su_tableau.specs.declared.symbols.Sym.TheVariants.{Const, Var}
 use Rattle.su_classes.specs.declared.items.Placed.{Placed}
 use Rattle.su_classes.specs.declared.items.Together.{Together}
 use Rattle.su_classes.specs.Items.{cell, SameAt, Keeps, IsKept, IsPlacedBelow}
-use Rattle.su_classes.specs.Items as items
 use Rattle.su_classes.specs.Tables.{rep, IsLeast}
 use Rattle.su_classes.specs.inside.Symbols.{AreDistinct, is_known, number_of, symbol_at, name_in}
 use Rattle.su_classes.proofs.Places.{IsNumbering, numbering}

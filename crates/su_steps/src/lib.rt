@@ -17,6 +17,7 @@ mod faults;
 pub mod laws;
 mod making;
 mod objects;
+mod questions;
 mod results;
 mod rows;
 mod sourcing;

@@ -22,6 +22,7 @@ use crate::classes::Classes;
 use crate::constants::{constants_of, equalities};
 use crate::faults::{StepFault, StepLimit};
 use crate::objects::width_of;
+use crate::questions::Question;
 use crate::results::{Origin, Term};
 use crate::rows::{origins, placed_rows};
 use std::alloc::Global;
@@ -124,28 +125,27 @@ fn tableau(
 /// The term of a disjunct and a choice, unless it has none.
 fn term(
     alloc: Global,
-    schema: &Schema,
-    maximal: &[ObjSet],
-    resolved: &Resolved,
+    question: &Question,
     classes: &mut Classes,
     literals: &[Literal],
     disjunct: u8,
     choice: List<u8>,
 ) -> Result<Option<Term>, NoMemory>
-    requires resolved { IsResolved schema.now resolved.now }
-    requires literals { FitLiterals schema.now resolved.now literals.now }
-    requires choice { IsChoice schema.now maximal.now resolved.now choice }
-    requires few { row_count schema.now maximal.now choice ≤ 64 }
-    requires disjunct { get_or (disjuncts_of resolved.now.cond) disjunct [] ≡ literals.now }
-    requires ready { IsReady (width schema.now) resolved.now literals.now classes.old }
-    ensures ready { OnOk result (IsReady (width schema.now) resolved.now literals.now classes.new) }
-    ensures term { IfOk result (λ t. MatchOption t (GivesNone schema.now maximal.now resolved.now (case_of disjunct choice)) (Gives schema.now maximal.now resolved.now (case_of disjunct choice))) }
+    requires resolved { IsResolved question.now.schema.now question.now.resolved.now }
+    requires literals { FitLiterals question.now.schema.now question.now.resolved.now literals.now }
+    requires choice { IsChoice question.now.schema.now question.now.maximal.now question.now.resolved.now choice }
+    requires few { row_count question.now.schema.now question.now.maximal.now choice ≤ 64 }
+    requires disjunct { get_or (disjuncts_of question.now.resolved.now.cond) disjunct [] ≡ literals.now }
+    requires ready { IsReady (width question.now.schema.now) question.now.resolved.now literals.now classes.old }
+    ensures ready { OnOk result (IsReady (width question.now.schema.now) question.now.resolved.now literals.now classes.new) }
+    ensures term { IfOk result (λ t. MatchOption t (GivesNone question.now.schema.now question.now.maximal.now question.now.resolved.now (case_of disjunct choice)) (Gives question.now.schema.now question.now.maximal.now question.now.resolved.now (case_of disjunct choice))) }
 {
-    let origins = origins(alloc, schema, maximal, choice.as_slice())?;
+    let schema = question.schema;
+    let origins = origins(alloc, schema, question.maximal, choice.as_slice())?;
     match tableau(
         alloc,
         schema,
-        resolved,
+        question.resolved,
         classes,
         literals,
         origins.as_slice(),
@@ -176,37 +176,31 @@ fn push_term(terms: &mut List<Term>, term: Option<Term>) -> Result<(), NoMemory>
 /// Adds the terms of a disjunct, choice by choice.
 fn push_terms(
     alloc: Global,
-    schema: &Schema,
-    maximal: &[ObjSet],
-    resolved: &Resolved,
+    question: &Question,
     coverings: &[List<u8>],
     literals: &[Literal],
     disjunct: u8,
     terms: &mut List<Term>,
 ) -> Result<(), NoMemory>
-    requires few { length maximal.now ≤ 128 }
-    requires resolved { IsResolved schema.now resolved.now }
-    requires accepted { IsAccepted schema.now maximal.now resolved.now }
-    requires coverings { coverings.now ≡ coverings_in schema.now maximal.now resolved.now }
-    requires literals { FitLiterals schema.now resolved.now literals.now }
-    requires disjunct { get_or (disjuncts_of resolved.now.cond) disjunct [] ≡ literals.now }
-    requires place { disjunct < length (disjuncts_of resolved.now.cond) }
-    ensures { OnOk result ((cs : Items Case) → AreTermsOf schema.now maximal.now resolved.now cs terms.old → AreTermsOf schema.now maximal.now resolved.now (cs ++ map (case_of disjunct) (choices schema.now maximal.now resolved.now)) terms.new) }
+    requires few { length question.now.maximal.now ≤ 128 }
+    requires resolved { IsResolved question.now.schema.now question.now.resolved.now }
+    requires accepted { IsAccepted question.now.schema.now question.now.maximal.now question.now.resolved.now }
+    requires coverings { coverings.now ≡ coverings_in question.now.schema.now question.now.maximal.now question.now.resolved.now }
+    requires literals { FitLiterals question.now.schema.now question.now.resolved.now literals.now }
+    requires disjunct { get_or (disjuncts_of question.now.resolved.now.cond) disjunct [] ≡ literals.now }
+    requires place { disjunct < length (disjuncts_of question.now.resolved.now.cond) }
+    ensures { OnOk result ((cs : Items Case) → AreTermsOf question.now.schema.now question.now.maximal.now question.now.resolved.now cs terms.old → AreTermsOf question.now.schema.now question.now.maximal.now question.now.resolved.now (cs ++ map (case_of disjunct) (choices question.now.schema.now question.now.maximal.now question.now.resolved.now)) terms.new) }
 {
     let count = choice_count(coverings);
-    let mut classes = open_classes(alloc, resolved, width_of(schema), literals)?;
+    let mut classes = open_classes(
+        alloc,
+        question.resolved,
+        width_of(question.schema),
+        literals,
+    )?;
     for k in 0..count {
         let choice = choice_at(alloc, coverings, count, k)?;
-        let made = term(
-            alloc,
-            schema,
-            maximal,
-            resolved,
-            &mut classes,
-            literals,
-            disjunct,
-            choice,
-        )?;
+        let made = term(alloc, question, &mut classes, literals, disjunct, choice)?;
         push_term(terms, made)?;
     }
     Ok(())
@@ -227,13 +221,16 @@ fn accepted_terms(
     ensures { IfOk result (AreTerms schema.now maximal.now resolved.now) }
 {
     let disjuncts = disjuncts(alloc, &resolved.cond)?;
+    let question = Question {
+        schema,
+        maximal,
+        resolved,
+    };
     let mut terms = List::new(alloc);
     for (i, literals) in disjuncts.as_slice().iter().enumerate() {
         push_terms(
             alloc,
-            schema,
-            maximal,
-            resolved,
+            &question,
             coverings,
             literals.as_slice(),
             i as u8,

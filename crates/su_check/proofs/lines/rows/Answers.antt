@@ -1,17 +1,13 @@
-use Rattle.std.proofs.Common.{◌≡◌, ◌∷◌, ◌++◌, List, [], map, All, refl, sym, ap, subst, ◌∙◌, append_assoc, Err}
+use Rattle.std.proofs.Common.{◌∷◌, All, refl, sym, ap, subst, ◌∙◌, Err}
 use Rattle.std.proofs.lemmas.List.Elements.{All-push}
 use Rattle.std.proofs.lemmas.Result.{err_from_is_err_and}
-use Rattle.su_lex.specs.declared.meaning.Symbol.{Symbol}
 use Rattle.su_lex.specs.declared.meaning.Symbol.TheVariants.{Sign}
 use Rattle.su_lex.specs.declared.signs.Sign.TheVariants as sign
-use Rattle.su_tableau.specs.declared.symbols.Sym.{Sym}
-use Rattle.su_check.specs.Grammar.{row_line, sym_symbol}
+use Rattle.su_check.specs.Grammar.{row_line}
 use Rattle.su_check.specs.inside.Reading.{IsRow, row_before}
+use Rattle.su_check.proofs.OneCertificate.{row_at}
 use Rattle.su_check.proofs.Runs.{flat_push, lead_next, lead_none, left_on, gives_on}
 use Rattle.su_check.proofs.lines.rows.Goals as goal
-
-row_at : (xs : List Sym) (t : List Symbol) → row_line xs ++ t ≡ Sign sign.Open ∷ row_before xs t
-row_at xs t = ap (λ s. Sign sign.Open ∷ s) (append_assoc (map sym_symbol xs) (Sign sign.Close ∷ []) t)
 
 pub returns-in_err-row-clause-only : goal.returns-in_err-row-clause-only
 returns-in_err-row-clause-only c = λ all r are none e.

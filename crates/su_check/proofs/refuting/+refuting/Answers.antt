@@ -12,45 +12,45 @@ use Rattle.su_check.proofs.refuting.+refuting.Goals.{refutes-then-branch+else-pa
 
 pub branch_refutes-returns-clause-keeps : goal.branch_refutes-returns-clause-keeps
 branch_refutes-returns-clause-keeps t c =
-    let x = lines_of c.args.term.now in
-    keeps_less x c.args.board.now c.args.sent.now (record { row = c.args.row; target = c.args.target }) c.args.places.now c.refutes.new.places
-    (subst (λ p. Keeps x c.args.board.now p c.args.places.now c.refutes.new.places) c.in_ok-push.ensures.ok c.in_ok-refuted.ensures.keeps)
+    let x = lines_of c.args.claim.now.term.now in
+    keeps_less x c.args.claim.now.board.now c.args.sent.now (record { row = c.args.row; target = c.args.target }) c.args.places.now c.refutes.new.places
+    (subst (λ p. Keeps x c.args.claim.now.board.now p c.args.places.now c.refutes.new.places) c.in_ok-push.ensures.ok c.in_ok-refuted.ensures.keeps)
 
 pub refutes-returns-then-not-is_open-clause-tells : goal.refutes-returns-then-not-is_open-clause-tells
 refutes-returns-then-not-is_open-clause-tells t c =
-    let x = lines_of c.args.term.now in let n = c.args.node.now in let p = c.args.sent.now in (
+    let x = lines_of c.args.claim.now.term.now in let n = c.args.node.now in let p = c.args.sent.now in (
       λ none. absurd (true≢false (sym none)),
-      λ h. absurd (true≢false (sym (c.is_open.ensures.1 (subst (λ p. IsOpen x p (row_named n)) (sym c.as_slice.ensures) (is_open x c.args.left_out n p h))) ∙ c.if-not-is_open.true)),
+      λ h. absurd (true≢false (sym (c.is_open.ensures.1 (subst (λ p. IsOpen x p (row_named n)) (sym c.as_slice.ensures) (is_open x c.args.claim.now.left_out n p h))) ∙ c.if-not-is_open.true)),
     )
 
 pub refutes-is_fitting-requires-clause-ready : goal.refutes-is_fitting-requires-clause-ready
-refutes-is_fitting-requires-clause-ready t c = ready_kept (lines_of c.args.term.now) c.args.board.now c.args.sent.now c.loop-i.sent c.args.places.now c.loop-i.places c.requires.ready c.loop-i.invariant.keeps c.loop-i.invariant.same
+refutes-is_fitting-requires-clause-ready t c = ready_kept (lines_of c.args.claim.now.term.now) c.args.claim.now.board.now c.args.sent.now c.loop-i.sent c.args.places.now c.loop-i.places c.requires.ready c.loop-i.invariant.keeps c.loop-i.invariant.same
 
 pub refutes-returns-then-passed-len-clause-tells : goal.refutes-returns-then-passed-len-clause-tells
 refutes-returns-then-passed-len-clause-tells t c =
-    let x = lines_of c.args.term.now in let n = c.args.node.now in let p = c.args.sent.now in
-    let fit = fit_as x c.args.left_out (row_named n) c.loop-i.i p c.loop-i.sent c.as_slice-in-loop-i.result.now c.loop-i.invariant.same c.as_slice-in-loop-i.ensures (c.in_ok-is_fitting.ensures.fits.0 c.if-branch.true) in
-    let low : c.loop-i.i < length c.args.term.now.kept = let l = c.loop-i-test.true in let e = c.len-i-end.ensures in omega arith in (
+    let x = lines_of c.args.claim.now.term.now in let n = c.args.node.now in let p = c.args.sent.now in
+    let fit = fit_as x c.args.claim.now.left_out (row_named n) c.loop-i.i p c.loop-i.sent c.as_slice-in-loop-i.result.now c.loop-i.invariant.same c.as_slice-in-loop-i.ensures (c.in_ok-is_fitting.ensures.fits.0 c.if-branch.true) in
+    let low : c.loop-i.i < length c.args.claim.now.term.now.kept = let l = c.loop-i-test.true in let e = c.len-i-end.ensures in omega arith in (
       λ none. absurd (true≢false (sym none)),
-      λ h. absurd (too_few x c.args.left_out n p c.loop-i.i c.loop-i.passed c.requires.ready.ascending low c.loop-i.invariant.front fit (c.if-passed-len.true ∙ c.len.ensures) h),
+      λ h. absurd (too_few x c.args.claim.now.left_out n p c.loop-i.i c.loop-i.passed c.requires.ready.ascending low c.loop-i.invariant.front fit (c.if-passed-len.true ∙ c.len.ensures) h),
     )
 
 pub refutes-returns-then-passed-len-clause-keeps : goal.refutes-returns-then-passed-len-clause-keeps
 refutes-returns-then-passed-len-clause-keeps t c =
-    keeps_step (lines_of c.args.term.now) c.args.board.now c.args.sent.now c.loop-i.sent c.args.places.now c.loop-i.places _ c.loop-i.invariant.keeps c.loop-i.invariant.same c.in_ok-is_fitting.ensures.keeps
+    keeps_step (lines_of c.args.claim.now.term.now) c.args.claim.now.board.now c.args.sent.now c.loop-i.sent c.args.places.now c.loop-i.places _ c.loop-i.invariant.keeps c.loop-i.invariant.same c.in_ok-is_fitting.ensures.keeps
 
 pub refutes-returns-then-not-branch-clause-keeps : goal.refutes-returns-then-not-branch-clause-keeps
 refutes-returns-then-not-branch-clause-keeps t c =
-    let x = lines_of c.args.term.now in let b = c.args.board.now in let p = c.args.sent.now in let start = c.args.places.now in
+    let x = lines_of c.args.claim.now.term.now in let b = c.args.claim.now.board.now in let p = c.args.sent.now in let start = c.args.places.now in
     let first = keeps_step x b p c.loop-i.sent start c.loop-i.places c.is_fitting.new.places c.loop-i.invariant.keeps c.loop-i.invariant.same c.in_ok-is_fitting.ensures.keeps in
     keeps_step x b p c.is_fitting.new.sent start c.is_fitting.new.places _ first (c.in_ok-is_fitting.ensures.same ∙ c.loop-i.invariant.same) c.in_ok-branch_refutes.ensures.keeps
 
 pub refutes-returns-then-not-branch-clause-tells : goal.refutes-returns-then-not-branch-clause-tells
 refutes-returns-then-not-branch-clause-tells t c =
-    let x = lines_of c.args.term.now in let n = c.args.node.now in let p = c.args.sent.now in let r = c.args.left_out in let i = c.loop-i.i in let q = c.loop-i.passed in
+    let x = lines_of c.args.claim.now.term.now in let n = c.args.node.now in let p = c.args.sent.now in let r = c.args.claim.now.left_out in let i = c.loop-i.i in let q = c.loop-i.passed in
     let b = c.index-as_slice-passed.result in
     let fit = fit_as x r (row_named n) i p c.loop-i.sent c.as_slice-in-loop-i.result.now c.loop-i.invariant.same c.as_slice-in-loop-i.ensures (c.in_ok-is_fitting.ensures.fits.0 c.if-branch.true) in
-    let low : i < length c.args.term.now.kept = let l = c.loop-i-test.true in let e = c.len-i-end.ensures in omega arith in
+    let low : i < length c.args.claim.now.term.now.kept = let l = c.loop-i-test.true in let e = c.len-i-end.ensures in omega arith in
     let below : q < length (branches_of n) = let w = c.loop-i.invariant.front.within in let m = length-map (branches_of n) target_of in let e = c.len.ensures in let ne = c.if-passed-len.false in omega arith in
     let is = c.index-as_slice-passed.is ∙ ap (λ bs. get_or bs q b) c.as_slice-then-branch.ensures in
     let tells = branch_tells x r (row_named n) i b p c.is_fitting.new.sent c.as_slice-in-loop-i.result.now c.in_ok-branch_refutes.field-0 (c.in_ok-is_fitting.ensures.same ∙ c.loop-i.invariant.same) c.as_slice-in-loop-i.ensures c.in_ok-branch_refutes.ensures.tells in (
@@ -60,10 +60,10 @@ refutes-returns-then-not-branch-clause-tells t c =
 
 pub refutes-loop-i-preserved : goal.refutes-loop-i-preserved
 refutes-loop-i-preserved t c =
-    let x = lines_of c.args.term.now in let n = c.args.node.now in let p = c.args.sent.now in let r = c.args.left_out in let i = c.loop-i.i in let q = c.loop-i.passed in
-    let board = c.args.board.now in let start = c.args.places.now in
+    let x = lines_of c.args.claim.now.term.now in let n = c.args.node.now in let p = c.args.sent.now in let r = c.args.claim.now.left_out in let i = c.loop-i.i in let q = c.loop-i.passed in
+    let board = c.args.claim.now.board.now in let start = c.args.places.now in
     let same = c.loop-i.invariant.same in
-    let low : i < length c.args.term.now.kept = let l = c.loop-i-test.true in let e = c.len-i-end.ensures in omega arith in
+    let low : i < length c.args.claim.now.term.now.kept = let l = c.loop-i-test.true in let e = c.len-i-end.ensures in omega arith in
     let first = keeps_step x board p c.loop-i.sent start c.loop-i.places c.is_fitting.new.places c.loop-i.invariant.keeps same c.in_ok-is_fitting.ensures.keeps in
     elim c.if-branch.branch [
       | refutes-then-branch+else-passed-len+in_ok-branch_refutes+else-not-branch w ↦
@@ -78,7 +78,7 @@ refutes-loop-i-preserved t c =
             same = w.sent-is ∙ w.in_ok-branch_refutes.ensures.same ∙ same';
             keeps = subst (Keeps x board p start) (sym w.places-is) (keeps_step x board p c.is_fitting.new.sent start c.is_fitting.new.places w.branch_refutes.new.places first same' w.in_ok-branch_refutes.ensures.keeps);
             front = subst (Passed x r n p (i + 1)) (sym w.passed-is) (one_passed x r n p i q b c.requires.ready.ascending low c.loop-i.invariant.front fit below is good.0);
-            good = subst (AreRefuted x r n p) (sym w.passed-is) (one_refuted x r n p q (get_or c.args.term.now.kept i 0) b c.loop-i.invariant.good below is good.0 good.1);
+            good = subst (AreRefuted x r n p) (sym w.passed-is) (one_refuted x r n p q (get_or c.args.claim.now.term.now.kept i 0) b c.loop-i.invariant.good below is good.0 good.1);
           }
       | refutes-else-branch w ↦ record {
         same = w.sent-is ∙ c.in_ok-is_fitting.ensures.same ∙ same;
@@ -91,10 +91,10 @@ refutes-loop-i-preserved t c =
 
 pub refutes-returns-then-passed-len-2-clause-tells : goal.refutes-returns-then-passed-len-2-clause-tells
 refutes-returns-then-passed-len-2-clause-tells t c =
-    let x = lines_of c.args.term.now in let n = c.args.node.now in let p = c.args.sent.now in
-    let end : length c.args.term.now.kept ≤ c.loop-i.i = let l = c.loop-i-test.false in let e = c.len-i-end.ensures in omega arith in (
+    let x = lines_of c.args.claim.now.term.now in let n = c.args.node.now in let p = c.args.sent.now in
+    let end : length c.args.claim.now.term.now.kept ≤ c.loop-i.i = let l = c.loop-i-test.false in let e = c.len-i-end.ensures in omega arith in (
       λ none. absurd (true≢false (sym none)),
-      λ h. absurd (c.if-passed-len-2.true (none_left x c.args.left_out n p c.loop-i.i c.loop-i.passed end c.loop-i.invariant.front h ∙ sym c.len-2.ensures)),
+      λ h. absurd (c.if-passed-len-2.true (none_left x c.args.claim.now.left_out n p c.loop-i.i c.loop-i.passed end c.loop-i.invariant.front h ∙ sym c.len-2.ensures)),
     )
 
 pub refutes-returns-then-passed-len-2-clause-keeps : goal.refutes-returns-then-passed-len-2-clause-keeps
@@ -105,7 +105,7 @@ refutes-returns-clause-keeps t c = c.loop-i.invariant.keeps
 
 pub refutes-returns-clause-tells : goal.refutes-returns-clause-tells
 refutes-returns-clause-tells t c =
-    let x = lines_of c.args.term.now in let n = c.args.node.now in let p = c.args.sent.now in
-    let end : length c.args.term.now.kept ≤ c.loop-i.i = let l = c.loop-i-test.false in let e = c.len-i-end.ensures in omega arith in
+    let x = lines_of c.args.claim.now.term.now in let n = c.args.node.now in let p = c.args.sent.now in
+    let end : length c.args.claim.now.term.now.kept ≤ c.loop-i.i = let l = c.loop-i-test.false in let e = c.len-i-end.ensures in omega arith in
     let open' = subst (λ p. IsOpen x p (row_named n)) c.as_slice.ensures (c.is_open.ensures.0 c.if-not-is_open.false) in
-    (λ yes. all_passed x c.args.left_out n p c.loop-i.i c.loop-i.passed open' end c.loop-i.invariant.front c.loop-i.invariant.good (c.if-passed-len-2.false ∙ c.len-2.ensures), λ h. refl)
+    (λ yes. all_passed x c.args.claim.now.left_out n p c.loop-i.i c.loop-i.passed open' end c.loop-i.invariant.front c.loop-i.invariant.good (c.if-passed-len-2.false ∙ c.len-2.ensures), λ h. refl)

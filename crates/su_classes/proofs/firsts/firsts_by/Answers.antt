@@ -14,20 +14,20 @@ first_of-requires-clause-cells c =
     let n = c.loop-position.position in
     let d : Placed = record { has = empty; cells = [] } in
     let is : c.index-rows-position.result ≡ row_at rows n = get_or_read rows n c.index-rows-position.result c.loop-position-test.true c.index-rows-position.is d in
-    subst (λ (row : Placed). IsPlacedBelow (length c.args.table.now) row) (sym is) (c.requires.cells n d c.loop-position-test.true)
+    subst (λ (row : Placed). IsPlacedBelow (length c.args.side.now.table.now) row) (sym is) (c.requires.cells n d c.loop-position-test.true)
 
 pub loop-position-preserved : goal.loop-position-preserved
 loop-position-preserved c =
     let rows = c.args.rows.now in
     let n = c.loop-position.position in
-    let label = rep c.args.table.now in
+    let label = rep c.args.side.now.table.now in
     let old = noted_in c.loop-position.notes in
     let new = noted_in c.first_of.new.notes in
     let first = c.in_ok-first.first in
     let is : c.index-rows-position.result ≡ row_at rows n = get_or_read rows n c.index-rows-position.result c.loop-position-test.true c.index-rows-position.is (record { has = empty; cells = [] }) in
-    let found : IsFirst label c.args.fd.now c.args.left.now (row_at rows n) old new n first = subst (λ (row : Placed). IsFirst label c.args.fd.now c.args.left.now row old new n first) is c.in_ok-first.ensures in
-    rw c.in_ok-push.ensures.ok (noted_more label c.args.fd.now c.args.left.now rows old new n first c.loop-position.firsts c.loop-position.invariant found)
+    let found : IsFirst label c.args.side.now.fd.now c.args.side.now.left.now (row_at rows n) old new n first = subst (λ (row : Placed). IsFirst label c.args.side.now.fd.now c.args.side.now.left.now row old new n first) is c.in_ok-first.ensures in
+    rw c.in_ok-push.ensures.ok (noted_more label c.args.side.now.fd.now c.args.side.now.left.now rows old new n first c.loop-position.firsts c.loop-position.invariant found)
 
 pub returns : goal.returns
 returns c =
-    firsts_all (rep c.args.table.now) c.args.fd.now c.args.left.now c.args.rows.now (length c.args.table.now) (noted_in c.loop-position.notes) c.loop-position.position c.loop-position.firsts c.requires.left c.requires.cells (omega arith) c.loop-position.invariant
+    firsts_all (rep c.args.side.now.table.now) c.args.side.now.fd.now c.args.side.now.left.now c.args.rows.now (length c.args.side.now.table.now) (noted_in c.loop-position.notes) c.loop-position.position c.loop-position.firsts c.requires.left c.requires.cells (omega arith) c.loop-position.invariant

@@ -7,7 +7,7 @@ use Rattle.su_classes.proofs.rushing.look_at_all.Given as goal
 
 abbrev pub invariant-loop-position : goal.invariant-loop-position
 invariant-loop-position l = record {
-  merging : IsMerging (λ label. All (λ r. Keeps label l.rows r.fd) l.rules) l.fn.table l.table;
+  merging : IsMerging (λ label. All (λ r. Keeps label l.ruled.rows.now r.fd) l.ruled.rules.now) l.fn.table l.table;
   same : IsSame l.fn.work l.work;
-  notes : length l.notes ≡ length l.rules;
+  notes : length l.notes ≡ length l.ruled.rules.now;
 }

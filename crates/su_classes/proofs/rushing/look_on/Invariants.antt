@@ -7,7 +7,7 @@ use Rattle.su_classes.proofs.rushing.look_on.Given as goal
 
 abbrev pub invariant-loop : goal.invariant-loop
 invariant-loop l = record {
-  merging : IsMerging (λ label. All (λ r. Keeps label l.rows r.fd) l.rules) l.fn.table l.table;
-  work : IsFor (length l.fn.table) (length l.rows) l.work;
-  notes : length l.notes ≡ length l.rules;
+  merging : IsMerging (λ label. All (λ r. Keeps label l.ruled.rows.now r.fd) l.ruled.rules.now) l.fn.table l.table;
+  work : IsFor (length l.fn.table) (length l.ruled.rows.now) l.work;
+  notes : length l.notes ≡ length l.ruled.rules.now;
 }

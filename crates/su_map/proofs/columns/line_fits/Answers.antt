@@ -1,7 +1,7 @@
 use Rattle.std.proofs.Common.{[], refl, sym, ◌∙◌, true≢false, arith}
+use borrow.Author.Count.{below_more}
 use Rattle.su_map.specs.inside.Targets.{CellFits}
 use Rattle.su_map.proofs.Cells.{cells_fit, fits_cells, no_head, no_head_itself}
-use Rattle.su_map.proofs.Members.{below_more}
 use Rattle.su_map.proofs.columns.line_fits.Goals as goal
 
 pub returns-then-not-cell_fits : goal.returns-then-not-cell_fits

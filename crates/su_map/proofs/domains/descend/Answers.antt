@@ -1,4 +1,4 @@
-use Rattle.std.proofs.Common.{◌≡◌, ◌∙◌, ℕ, length, get_or, sym, subst, arith}
+use Rattle.std.proofs.Common.{◌≡◌, ◌∙◌, ℕ, length, sym, subst}
 use Rattle.su_map.specs.inside.Choices.{IsChoice, Shrinks}
 use Rattle.su_map.proofs.Narrowing.{assigned_then}
 use Rattle.su_map.proofs.domains.descend.Goals as goal

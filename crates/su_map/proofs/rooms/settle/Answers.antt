@@ -8,7 +8,7 @@ use Rattle.su_map.proofs.rooms.settle.Goals as goal
 
 pub propagate-requires-clause-mask : goal.propagate-requires-clause-mask
 propagate-requires-clause-mask g c =
-    let n = length c.args.domains.now in let net = c.args.net.now in let mask = c.args.mask in let k = c.args.to_mask in
+    let n = length c.args.domains.now in let net = c.args.aim.now.net.now in let mask = c.args.aim.now.mask in let k = c.args.to_mask in
     let rows = c.both-rows.result in
     let both : AreBoth n mask rows = both_rows n mask c.full.result rows (λ j. full_member c.full.result n j c.full.ensures) c.both-rows.ensures in
     let begun = c.begin.new.domains in
@@ -19,7 +19,7 @@ propagate-requires-clause-mask g c =
 
 pub returns-then-not-propagate-clause-none : goal.returns-then-not-propagate-clause-none
 returns-then-not-propagate-clause-none g c =
-    let n = length c.args.domains.now in let net = c.args.net.now in let mask = c.args.mask in let k = c.args.to_mask in
+    let n = length c.args.domains.now in let net = c.args.aim.now.net.now in let mask = c.args.aim.now.mask in let k = c.args.to_mask in
     let rows = c.both-rows.result in
     let both : AreBoth n mask rows = both_rows n mask c.full.result rows (λ j. full_member c.full.result n j c.full.ensures) c.both-rows.ensures in
     let begun = c.begin.new.domains in
@@ -30,7 +30,7 @@ returns-then-not-propagate-clause-none g c =
 
 pub search-requires-clause-levels : goal.search-requires-clause-levels
 search-requires-clause-levels g c =
-    let n = length c.args.domains.now in let net = c.args.net.now in let mask = c.args.mask in let k = c.args.to_mask in
+    let n = length c.args.domains.now in let net = c.args.aim.now.net.now in let mask = c.args.aim.now.mask in let k = c.args.to_mask in
     let rows = c.both-rows.result in
     let both : AreBoth n mask rows = both_rows n mask c.full.result rows (λ j. full_member c.full.result n j c.full.ensures) c.both-rows.ensures in
     let begun = c.begin.new.domains in
@@ -44,7 +44,7 @@ search-requires-clause-levels g c =
 
 pub search-requires-clause-mask : goal.search-requires-clause-mask
 search-requires-clause-mask g c =
-    let n = length c.args.domains.now in let net = c.args.net.now in let mask = c.args.mask in let k = c.args.to_mask in
+    let n = length c.args.domains.now in let net = c.args.aim.now.net.now in let mask = c.args.aim.now.mask in let k = c.args.to_mask in
     let rows = c.both-rows.result in
     let both : AreBoth n mask rows = both_rows n mask c.full.result rows (λ j. full_member c.full.result n j c.full.ensures) c.both-rows.ensures in
     let begun = c.begin.new.domains in
@@ -58,7 +58,7 @@ search-requires-clause-mask g c =
 
 pub search-requires-clause-stands : goal.search-requires-clause-stands
 search-requires-clause-stands g c =
-    let n = length c.args.domains.now in let net = c.args.net.now in let mask = c.args.mask in let k = c.args.to_mask in
+    let n = length c.args.domains.now in let net = c.args.aim.now.net.now in let mask = c.args.aim.now.mask in let k = c.args.to_mask in
     let rows = c.both-rows.result in
     let both : AreBoth n mask rows = both_rows n mask c.full.result rows (λ j. full_member c.full.result n j c.full.ensures) c.both-rows.ensures in
     let begun = c.begin.new.domains in
@@ -72,7 +72,7 @@ search-requires-clause-stands g c =
 
 pub returns-clause-found : goal.returns-clause-found
 returns-clause-found g c =
-    let n = length c.args.domains.now in let net = c.args.net.now in let mask = c.args.mask in let k = c.args.to_mask in
+    let n = length c.args.domains.now in let net = c.args.aim.now.net.now in let mask = c.args.aim.now.mask in let k = c.args.to_mask in
     let rows = c.both-rows.result in
     let both : AreBoth n mask rows = both_rows n mask c.full.result rows (λ j. full_member c.full.result n j c.full.ensures) c.both-rows.ensures in
     let begun = c.begin.new.domains in
@@ -88,7 +88,7 @@ returns-clause-found g c =
 
 pub returns-clause-first : goal.returns-clause-first
 returns-clause-first g c =
-    let n = length c.args.domains.now in let net = c.args.net.now in let mask = c.args.mask in let k = c.args.to_mask in
+    let n = length c.args.domains.now in let net = c.args.aim.now.net.now in let mask = c.args.aim.now.mask in let k = c.args.to_mask in
     let rows = c.both-rows.result in
     let both : AreBoth n mask rows = both_rows n mask c.full.result rows (λ j. full_member c.full.result n j c.full.ensures) c.both-rows.ensures in
     let begun = c.begin.new.domains in
@@ -104,7 +104,7 @@ returns-clause-first g c =
 
 pub returns-clause-none : goal.returns-clause-none
 returns-clause-none g c =
-    let n = length c.args.domains.now in let net = c.args.net.now in let mask = c.args.mask in let k = c.args.to_mask in
+    let n = length c.args.domains.now in let net = c.args.aim.now.net.now in let mask = c.args.aim.now.mask in let k = c.args.to_mask in
     let rows = c.both-rows.result in
     let both : AreBoth n mask rows = both_rows n mask c.full.result rows (λ j. full_member c.full.result n j c.full.ensures) c.both-rows.ensures in
     let begun = c.begin.new.domains in
@@ -120,7 +120,7 @@ returns-clause-none g c =
 
 pub returns-clause-cost : goal.returns-clause-cost
 returns-clause-cost g c =
-    let n = length c.args.domains.now in let net = c.args.net.now in let mask = c.args.mask in let k = c.args.to_mask in
+    let n = length c.args.domains.now in let net = c.args.aim.now.net.now in let mask = c.args.aim.now.mask in let k = c.args.to_mask in
     let rows = c.both-rows.result in
     let both : AreBoth n mask rows = both_rows n mask c.full.result rows (λ j. full_member c.full.result n j c.full.ensures) c.both-rows.ensures in
     let begun = c.begin.new.domains in

@@ -11,7 +11,7 @@ use Rattle.su_map.proofs.search.+search.Goals.{then-has+else-descend, else-desce
 pub split_at_mut-next-requires : goal.split_at_mut-next-requires
 split_at_mut-next-requires g t c =
     let n = length c.args.domains.now in
-    let net = c.args.net.now in let m = c.args.mask in let todo = c.args.todo in let rest = c.without-rest.result in let row = c.next_row-row.result in
+    let net = c.args.aim.now.net.now in let m = c.args.aim.now.mask in let todo = c.args.todo in let rest = c.without-rest.result in let row = c.next_row-row.result in
     let one = c.next_row-row.ensures.member in
     let out = c.without-rest.ensures.out in
     let same = c.without-rest.ensures.same in
@@ -21,7 +21,7 @@ split_at_mut-next-requires g t c =
 pub search-requires : goal.search-requires
 search-requires g t c κs within =
     let n = length c.args.domains.now in
-    let net = c.args.net.now in let m = c.args.mask in let todo = c.args.todo in let rest = c.without-rest.result in let row = c.next_row-row.result in
+    let net = c.args.aim.now.net.now in let m = c.args.aim.now.mask in let todo = c.args.todo in let rest = c.without-rest.result in let row = c.next_row-row.result in
     let one = c.next_row-row.ensures.member in
     let out = c.without-rest.ensures.out in
     let same = c.without-rest.ensures.same in
@@ -43,7 +43,7 @@ search-requires g t c κs within =
 pub returns-then-search-clause-kept : goal.returns-then-search-clause-kept
 returns-then-search-clause-kept g t c =
     let n = length c.args.domains.now in
-    let net = c.args.net.now in let m = c.args.mask in let todo = c.args.todo in let rest = c.without-rest.result in let row = c.next_row-row.result in
+    let net = c.args.aim.now.net.now in let m = c.args.aim.now.mask in let todo = c.args.todo in let rest = c.without-rest.result in let row = c.next_row-row.result in
     let one = c.next_row-row.ensures.member in
     let out = c.without-rest.ensures.out in
     let same = c.without-rest.ensures.same in
@@ -58,7 +58,7 @@ returns-then-search-clause-kept g t c =
 pub returns-then-search-clause-first : goal.returns-then-search-clause-first
 returns-then-search-clause-first g t c = λ yes asc.
     let n = length c.args.domains.now in
-    let net = c.args.net.now in let m = c.args.mask in let todo = c.args.todo in let rest = c.without-rest.result in let row = c.next_row-row.result in
+    let net = c.args.aim.now.net.now in let m = c.args.aim.now.mask in let todo = c.args.todo in let rest = c.without-rest.result in let row = c.next_row-row.result in
     let one = c.next_row-row.ensures.member in
     let out = c.without-rest.ensures.out in
     let same = c.without-rest.ensures.same in
@@ -76,7 +76,7 @@ returns-then-search-clause-first g t c = λ yes asc.
 pub returns-then-search-clause-cost : goal.returns-then-search-clause-cost
 returns-then-search-clause-cost g t c = λ passes all asc.
     let n = length c.args.domains.now in
-    let net = c.args.net.now in let m = c.args.mask in let todo = c.args.todo in let rest = c.without-rest.result in let row = c.next_row-row.result in
+    let net = c.args.aim.now.net.now in let m = c.args.aim.now.mask in let todo = c.args.todo in let rest = c.without-rest.result in let row = c.next_row-row.result in
     let one = c.next_row-row.ensures.member in
     let out = c.without-rest.ensures.out in
     let same = c.without-rest.ensures.same in
@@ -97,7 +97,7 @@ returns-then-search-clause-cost g t c = λ passes all asc.
 pub returns-clause-cost : goal.returns-clause-cost
 returns-clause-cost g t c = λ passes all asc.
     let n = length c.args.domains.now in
-    let net = c.args.net.now in let m = c.args.mask in let todo = c.args.todo in let rest = c.without-rest.result in let row = c.next_row-row.result in
+    let net = c.args.aim.now.net.now in let m = c.args.aim.now.mask in let todo = c.args.todo in let rest = c.without-rest.result in let row = c.next_row-row.result in
     let one = c.next_row-row.ensures.member in
     let out = c.without-rest.ensures.out in
     let same = c.without-rest.ensures.same in
@@ -107,7 +107,7 @@ returns-clause-cost g t c = λ passes all asc.
 pub loop-target-preserved : goal.loop-target-preserved
 loop-target-preserved g t c =
     let n = length c.args.domains.now in
-    let net = c.args.net.now in let m = c.args.mask in let todo = c.args.todo in let rest = c.without-rest.result in let row = c.next_row-row.result in
+    let net = c.args.aim.now.net.now in let m = c.args.aim.now.mask in let todo = c.args.todo in let rest = c.without-rest.result in let row = c.next_row-row.result in
     let one = c.next_row-row.ensures.member in
     let out = c.without-rest.ensures.out in
     let same = c.without-rest.ensures.same in

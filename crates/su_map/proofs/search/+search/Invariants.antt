@@ -9,7 +9,7 @@ decreases-search g l = l.todo
 
 abbrev pub invariant-loop-target : goal.invariant-loop-target
 invariant-loop-target g l = record {
-  kept : AreKept (length l.domains) l.mask l.todo (choice_of l.initial.choice) (choice_of l.choice);
-  passed : (other : ℕ → ℕ) → IsChoice l.net (length l.domains) l.mask l.domains other → l.target ≤ other l.row;
-  cost : (passes : ℕ → ℕ → Bool) → ArePassed l.net (length l.domains) l.mask passes → l.order ≡ Ascending → l.steps ≤ l.initial.steps + count_below (passes l.row) l.target * suc (tries passes l.net.targets (length l.domains) l.rest);
+  kept : AreKept (length l.domains) l.aim.mask l.todo (choice_of l.initial.choice) (choice_of l.choice);
+  passed : (other : ℕ → ℕ) → IsChoice l.aim.net.now (length l.domains) l.aim.mask l.domains other → l.target ≤ other l.row;
+  cost : (passes : ℕ → ℕ → Bool) → ArePassed l.aim.net.now (length l.domains) l.aim.mask passes → l.aim.order ≡ Ascending → l.steps ≤ l.initial.steps + count_below (passes l.row) l.target * suc (tries passes l.aim.net.now.targets (length l.domains) l.rest);
 }

@@ -1,9 +1,9 @@
 use Rattle.std.proofs.Common.{◌≡◌, ◌+◌, ◌*◌, ◌<◌, ◌↔◌, length, get_or, sym, subst, arith}
+use borrow.Author.Count.{below_more}
 use Rattle.std.specs.Int.{bit_at}
 use Rattle.su_tableau.specs.declared.symbols.Sym.{Sym}
 use Rattle.su_map.specs.Lists.{row_of}
 use Rattle.su_map.specs.inside.Targets.{AreAlikeAt}
-use Rattle.su_map.proofs.Members.{below_more}
 use Rattle.su_map.proofs.sides.fill_alike.Goals as goal
 
 pub loop-column-preserved : goal.loop-column-preserved

@@ -1,7 +1,7 @@
 use Rattle.std.proofs.Common.{◌≡◌, ◌+◌, ◌*◌, ◌<◌, ◌↔◌, ◌∙◌, ℕ, length, get_or, set, sym, subst, arith, get_or-set_other, get_or-set_same}
+use borrow.Author.Count.{below_more}
 use Rattle.std.specs.Int.{bit_at}
 use Rattle.su_map.specs.inside.Targets.{HoldOne}
-use Rattle.su_map.proofs.Members.{below_more}
 use Rattle.su_map.proofs.sides.fill_column.Goals as goal
 
 pub loop-p-preserved : goal.loop-p-preserved

@@ -1,4 +1,4 @@
-use Rattle.std.proofs.Common.{◌∙◌, get_or, sym, ap, subst, arith}
+use Rattle.std.proofs.Common.{◌∙◌, get_or, sym, ap, arith}
 use Rattle.su_map.specs.Lists.{row_of}
 use Rattle.su_map.proofs.Cells.{read_holds, same_some}
 use Rattle.su_map.proofs.tables.agreeing_at.Goals as goal

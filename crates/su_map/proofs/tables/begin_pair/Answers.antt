@@ -1,5 +1,5 @@
 use Rattle.std.proofs.Common.{◌≡◌, ◌+◌, ◌∙◌, get_or, arith, get_or-set_other, get_or-set_same, set}
-use Rattle.su_map.proofs.Members.{below_more}
+use borrow.Author.Count.{below_more}
 use Rattle.su_map.proofs.tables.begin_pair.Goals as goal
 
 pub loop-p-preserved : goal.loop-p-preserved

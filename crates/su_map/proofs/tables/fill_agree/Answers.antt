@@ -1,7 +1,7 @@
 use Rattle.std.proofs.Common.{◌≡◌, ◌≢◌, ◌<◌, ◌*◌, ◌∙◌, ℕ, length, get_or, sym, subst, true≢false, arith}
+use borrow.Author.Count.{below_more}
 use Rattle.std.specs.Int.{bit_at}
 use Rattle.su_map.specs.inside.Targets.{IsTold}
-use Rattle.su_map.proofs.Members.{below_more}
 use Rattle.su_map.proofs.Telling.{told_kept}
 use Rattle.su_map.proofs.tables.fill_agree.Goals as goal
 use Rattle.su_map.proofs.tables.fill_agree.Goals.{then-has, else-has}

@@ -1,9 +1,9 @@
 use Rattle.std.proofs.Common.{◌≡◌, ◌≢◌, ◌+◌, ◌*◌, ◌∙◌, ℕ, [], get_or, Contains, sym, ap, subst, true≢false, arith}
+use borrow.Author.Count.{below_more}
 use Rattle.std.specs.Int.{bit_at}
 use Rattle.su_tableau.specs.declared.symbols.Sym.TheVariants.{Var}
 use Rattle.su_map.specs.Lists.{row_of}
 use Rattle.su_map.specs.inside.Targets.{IsTold}
-use Rattle.su_map.proofs.Members.{below_more}
 use Rattle.su_map.proofs.Telling.{told_kept, shared_is}
 use Rattle.su_map.proofs.tables.fill_row.Goals as goal
 use Rattle.su_map.proofs.tables.fill_row.Goals.{then-q-i+then-has+then-has-2, else-q-i, else-q-i-via-then-q-i+then-has+else-has-2, else-q-i-via-then-q-i+else-has, else-q-i-via-else-q-i}

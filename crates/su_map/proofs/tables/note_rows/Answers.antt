@@ -1,9 +1,9 @@
 use Rattle.std.proofs.Common.{◌≡◌, ◌∙◌, ℕ, get_or, ap, Contains, arith}
+use borrow.Author.Count.{below_more}
 use Rattle.std.specs.Int.{bit_at}
 use Rattle.su_tableau.specs.declared.symbols.Sym.TheVariants.{Var}
 use Rattle.su_map.specs.Lists.{row_of}
 use Rattle.su_map.specs.inside.Targets.{IsPlain}
-use Rattle.su_map.proofs.Members.{below_more}
 use Rattle.su_map.proofs.tables.note_rows.Goals as goal
 use Rattle.su_map.proofs.tables.note_rows.Goals.{then-repeats, else-repeats}
 

@@ -1,9 +1,9 @@
 use Rattle.std.proofs.Common.{◌≡◌, ◌≢◌, ◌∙◌, ℕ, get_or, inl, inr, Contains}
+use borrow.Author.Count.{below_more}
 use Rattle.std.specs.Int.{bit_at}
 use Rattle.std.proofs.lemmas.List.{get_or_default}
 use Rattle.su_tableau.specs.declared.symbols.Sym.TheVariants.{Var}
 use Rattle.su_tableau.proofs.Rows.{contains_read}
-use Rattle.su_map.proofs.Members.{below_more}
 use Rattle.su_map.proofs.tables.rows_near.Goals as goal
 
 pub rows_at-requires-clause-below : goal.rows_at-requires-clause-below

@@ -1,8 +1,9 @@
 use Rattle.std.proofs.Common.{ℕ, List, length, sym, ap, ◌∙◌, ◌^◌, subst, arith}
+use borrow.Author.Count.{below_more}
 use Rattle.su_tableau.specs.declared.symbols.Sym.{Sym}
 use Rattle.su_map.specs.Lists.{row_of}
 use Rattle.su_map.specs.inside.Targets.{CellFits, IsPlain}
-use Rattle.su_map.proofs.Members.{full_member, below_more}
+use Rattle.su_map.proofs.Members.{full_member}
 use Rattle.su_map.proofs.Cells.{Fits, cells_fit, fits_cells}
 use Rattle.su_map.proofs.targets.targets_of.Goals as goal
 

@@ -7,6 +7,6 @@ use Rattle.su_steps.proofs.making.push_terms.Given as goal
 
 abbrev pub invariant-loop-k : goal.invariant-loop-k
 invariant-loop-k l = record {
-  ready : IsReady (width l.schema) l.resolved l.literals l.classes;
-  are : (cs : List Case) → AreTermsOf l.schema l.maximal l.resolved cs l.fn.terms → AreTermsOf l.schema l.maximal l.resolved (cs ++ map (case_of l.disjunct) (take l.k (choices l.schema l.maximal l.resolved))) l.terms;
+  ready : IsReady (width l.question.schema.now) l.question.resolved.now l.literals l.classes;
+  are : (cs : List Case) → AreTermsOf l.question.schema.now l.question.maximal.now l.question.resolved.now cs l.fn.terms → AreTermsOf l.question.schema.now l.question.maximal.now l.question.resolved.now (cs ++ map (case_of l.disjunct) (take l.k (choices l.question.schema.now l.question.maximal.now l.question.resolved.now))) l.terms;
 }
