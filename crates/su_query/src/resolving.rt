@@ -1,13 +1,14 @@
 //! Queries over numbers.
 ghost use Rattle.su_query.specs.Lookup.{resolved_of, IsKnownQuery, IsQueryRefusal};
 ghost use Rattle.std.specs.Prelude.{◌≡◌, ◌≤◌, [], length, map, IfOk, IfErr, OnOk};
-ghost use Rattle.su_query.specs.Mentions.{variables_of, all_refs};
+ghost use Rattle.su_query.specs.Mentions.{mentions, all_refs};
 ghost use Rattle.su_query.specs.Reading.{AreFew};
 ghost use Rattle.su_query.specs.Lookup.{number_in, places_of};
 ghost use Rattle.su_query.specs.Ranges.{IsResolved};
 
 use crate::faults::QueryFault;
-use crate::lookups::{differing_in, unknown_among, unknown_in};
+use crate::lookups::{differing_among, unknown_among};
+use crate::mentions::references;
 use crate::numbering::{number, numbered};
 use crate::places::Place;
 use crate::refs::Ref;
@@ -17,7 +18,7 @@ use crate::{mentions, places};
 use std::alloc::Global;
 use su_base::{List, NoMemory, Str};
 use su_schema::Schema;
-use su_where::Cond;
+use su_where::{Cond, comparisons};
 
 /// A query whose names are numbers. Variables and places stand in the order of their first mention,
 /// the outputs first; an output and a `Place` of the condition are the number of a place.
@@ -58,58 +59,54 @@ pub fn resolve(alloc: Global, schema: &Schema, query: &Query) -> Result<Resolved
     ensures in_range { IfOk result (λ r. IsResolved schema.now r) }
     ensures refused { IfErr result (IsQueryRefusal schema.now query.now) }
 {
-    match unknown_among(alloc, schema, Scope::Attributes, query.outputs.as_slice())? {
+    let refs = references(alloc, query.outputs.as_slice(), &query.cond)?;
+    match unknown_among(alloc, schema, Scope::Attributes, refs.as_slice())? {
         Some(name) => return Err(QueryFault::Unknown(name)),
         None => {}
     }
-    match unknown_in(alloc, schema, Scope::Attributes, &query.cond)? {
-        Some(name) => return Err(QueryFault::Unknown(name)),
-        None => {}
-    }
-    match differing_in(schema, Scope::Attributes, &query.cond) {
+    let compared = comparisons(alloc, &query.cond)?;
+    match differing_among(schema, Scope::Attributes, compared.as_slice()) {
         Some((left, right)) => return Err(QueryFault::Kinds { left, right }),
         None => {}
     }
-    Ok(made(alloc, schema, query)?)
+    Ok(made(alloc, schema, query, refs.as_slice())?)
 }
 
-/// The variables of the query, which are at most 8.
-fn variables(alloc: Global, query: &Query) -> Result<List<Option<Str>>, NoMemory>
-    requires { length (variables_of query.now) ≤ 8 }
-    ensures { IfOk result (λ vs. vs ≡ variables_of query.now) }
+/// The variables of the refs, which are at most 8.
+fn variables(alloc: Global, refs: &[&Ref]) -> Result<List<Option<Str>>, NoMemory>
+    requires { length (mentions [] (map (λ r. r.now) refs.now)) ≤ 8 }
+    ensures { IfOk result (λ vs. vs ≡ mentions [] (map (λ r. r.now) refs.now)) }
 {
     let mut seen = List::new(alloc);
-    if !mentions::note_refs(alloc, &mut seen, query.outputs.as_slice())? {
-        unreachable!();
-    }
-    if !mentions::note_cond(alloc, &mut seen, &query.cond)? {
+    if !mentions::note_refs(alloc, &mut seen, refs)? {
         unreachable!();
     }
     Ok(seen)
 }
 
-/// The places of the query.
+/// The places of the refs.
 fn places_of(
     alloc: Global,
     schema: &Schema,
     variables: &[Option<Str>],
-    query: &Query,
+    refs: &[&Ref],
 ) -> Result<List<Place>, NoMemory>
     requires { length variables.now ≤ 8 }
-    ensures { IfOk result (λ ps. ps ≡ places_of schema.now variables.now [] (all_refs query.now)) }
+    ensures { IfOk result (λ ps. ps ≡ places_of schema.now variables.now [] (map (λ r. r.now) refs.now)) }
 {
     let mut seen = List::new(alloc);
-    places::note_refs(schema, variables, &mut seen, query.outputs.as_slice())?;
-    places::note_cond(schema, variables, &mut seen, &query.cond)?;
+    places::note_refs(schema, variables, &mut seen, refs)?;
     Ok(seen)
 }
 
-fn made(alloc: Global, schema: &Schema, query: &Query) -> Result<Resolved, NoMemory>
-    requires { AreFew query.now.outputs query.now.cond }
+/// The query over numbers, with all its refs.
+fn made(alloc: Global, schema: &Schema, query: &Query, refs: &[&Ref]) -> Result<Resolved, NoMemory>
+    requires few { AreFew query.now.outputs query.now.cond }
+    requires refs { map (λ r. r.now) refs.now ≡ all_refs query.now }
     ensures { IfOk result (λ r. r ≡ resolved_of schema.now query.now) }
 {
-    let variables = variables(alloc, query)?;
-    let places = places_of(alloc, schema, variables.as_slice(), query)?;
+    let variables = variables(alloc, refs)?;
+    let places = places_of(alloc, schema, variables.as_slice(), refs)?;
     let outputs = numbers(
         alloc,
         schema,

@@ -1,47 +1,51 @@
-use Rattle.std.proofs.Common.{◌∙◌, sym, ap, subst}
+use Rattle.std.proofs.Common.{◌++◌, ◌∙◌, Bor, map, sym, ap, subst}
 use Rattle.su_schema.specs.SchemaValue.{attribute_names}
+use Rattle.su_query.specs.declared.refs.Ref.{Ref}
+use Rattle.su_query.specs.declared.conditions.Comparison.{Comparison}
+use Rattle.su_query.specs.declared.scopes.Scope.TheVariants.{Attributes}
 use Rattle.su_query.specs.Mentions.{refs_of}
-use Rattle.su_query.specs.Lookup.{first_unknown, IsKnownQuery}
+use Rattle.su_query.specs.Lookup.{first_unknown, differing_kinds, IsKnownQuery}
 use Rattle.su_query.specs.Ranges.{IsResolved}
-use Rattle.su_query.proofs.Found.{unknown-none, unknown-some}
 use Rattle.su_query.proofs.Ranged.{query_resolved}
 use Rattle.su_query.proofs.resolving.resolve.Goals as goal
 
 pub returns-in-Some-clause-refused : goal.returns-in-Some-clause-refused
 returns-in-Some-clause-refused c =
     let q = c.args.query.now in
-    let names = attribute_names c.args.schema.now in
-    unknown-some names q.outputs (refs_of q.cond) c.in-Some.name (ap (first_unknown names) (sym c.as_slice.ensures) ∙ sym c.in_ok-name.ensures ∙ c.in-Some.is)
+    let all = ap (map (λ (r : Bor Ref). r.now)) c.as_slice-2.ensures ∙ c.in_ok-refs.ensures ∙ ap (λ rs. rs ++ refs_of q.cond) c.as_slice.ensures in
+    ap (first_unknown (attribute_names c.args.schema.now)) (sym all) ∙ sym c.in_ok-name.ensures ∙ c.in-Some.is
 
-pub returns-in-Some-2-clause-refused : goal.returns-in-Some-2-clause-refused
-returns-in-Some-2-clause-refused c =
+pub returns-in-Some-differing_among-clause-refused : goal.returns-in-Some-differing_among-clause-refused
+returns-in-Some-differing_among-clause-refused c =
     let q = c.args.query.now in
-    let names = attribute_names c.args.schema.now in
-    unknown-none names q.outputs (refs_of q.cond) (ap (first_unknown names) (sym c.as_slice.ensures) ∙ sym c.in_ok-name.ensures ∙ c.in-None.is) ∙ sym c.in_ok-name-2.ensures ∙ c.in-Some-2.is
-
-pub returns-in-Some-differing_in-clause-refused : goal.returns-in-Some-differing_in-clause-refused
-returns-in-Some-differing_in-clause-refused c =
-    let q = c.args.query.now in
-    let names = attribute_names c.args.schema.now in (
-      unknown-none names q.outputs (refs_of q.cond) (ap (first_unknown names) (sym c.as_slice.ensures) ∙ sym c.in_ok-name.ensures ∙ c.in-None.is) ∙ sym c.in_ok-name-2.ensures ∙ c.in-None-2.is,
-      sym c.in-Some-differing_in.ensures,
+    let all = ap (map (λ (r : Bor Ref). r.now)) c.as_slice-2.ensures ∙ c.in_ok-refs.ensures ∙ ap (λ rs. rs ++ refs_of q.cond) c.as_slice.ensures in
+    let each = ap (map (λ (k : Bor Comparison). k.now)) c.as_slice-3.ensures ∙ c.in_ok-compared.ensures in (
+      ap (first_unknown (attribute_names c.args.schema.now)) (sym all) ∙ sym c.in_ok-name.ensures ∙ c.in-None.is,
+      ap (differing_kinds c.args.schema.now Attributes) (sym each) ∙ sym c.in-Some-differing_among.ensures,
     )
 
 pub returns-clause-known : goal.returns-clause-known
 returns-clause-known c =
     let q = c.args.query.now in
-    let names = attribute_names c.args.schema.now in
+    let all = ap (map (λ (r : Bor Ref). r.now)) c.as_slice-2.ensures ∙ c.in_ok-refs.ensures ∙ ap (λ rs. rs ++ refs_of q.cond) c.as_slice.ensures in
+    let each = ap (map (λ (k : Bor Comparison). k.now)) c.as_slice-3.ensures ∙ c.in_ok-compared.ensures in
     record {
-      known = unknown-none names q.outputs (refs_of q.cond) (ap (first_unknown names) (sym c.as_slice.ensures) ∙ sym c.in_ok-name.ensures ∙ c.in-None.is) ∙ sym c.in_ok-name-2.ensures ∙ c.in-None-2.is;
-      kinds = sym c.in-None-differing_in.ensures;
+      known = ap (first_unknown (attribute_names c.args.schema.now)) (sym all) ∙ sym c.in_ok-name.ensures ∙ c.in-None.is;
+      kinds = ap (differing_kinds c.args.schema.now Attributes) (sym each) ∙ sym c.in-None-differing_among.ensures;
     }
+
+pub made-requires-clause-refs : goal.made-requires-clause-refs
+made-requires-clause-refs c =
+    let q = c.args.query.now in
+    ap (map (λ (r : Bor Ref). r.now)) c.as_slice-4.ensures ∙ c.in_ok-refs.ensures ∙ ap (λ rs. rs ++ refs_of q.cond) c.as_slice.ensures
 
 pub returns-clause-in_range : goal.returns-clause-in_range
 returns-clause-in_range c =
     let q = c.args.query.now in
-    let names = attribute_names c.args.schema.now in
+    let all = ap (map (λ (r : Bor Ref). r.now)) c.as_slice-2.ensures ∙ c.in_ok-refs.ensures ∙ ap (λ rs. rs ++ refs_of q.cond) c.as_slice.ensures in
+    let each = ap (map (λ (k : Bor Comparison). k.now)) c.as_slice-3.ensures ∙ c.in_ok-compared.ensures in
     let known : IsKnownQuery c.args.schema.now q = record {
-      known = unknown-none names q.outputs (refs_of q.cond) (ap (first_unknown names) (sym c.as_slice.ensures) ∙ sym c.in_ok-name.ensures ∙ c.in-None.is) ∙ sym c.in_ok-name-2.ensures ∙ c.in-None-2.is;
-      kinds = sym c.in-None-differing_in.ensures;
+      known = ap (first_unknown (attribute_names c.args.schema.now)) (sym all) ∙ sym c.in_ok-name.ensures ∙ c.in-None.is;
+      kinds = ap (differing_kinds c.args.schema.now Attributes) (sym each) ∙ sym c.in-None-differing_among.ensures;
     } in
     subst (IsResolved c.args.schema.now) (sym c.in_ok-made.ensures) (query_resolved c.args.schema.now q c.requires known)
