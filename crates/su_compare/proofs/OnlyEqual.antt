@@ -6,11 +6,12 @@ use Rattle.std.proofs.lemmas.Bool.{and_from}
 use Rattle.su_where.specs.declared.operators.Op.{Op}
 use Rattle.su_where.specs.declared.operators.Op.TheVariants.{Equal, NotEqual, Less, LessEqual, Greater, GreaterEqual}
 use Rattle.su_where.specs.declared.literals.Literal.{Literal}
-use Rattle.su_where.specs.declared.conditions.Cond.{Cond, roll-Cond}
-use Rattle.su_where.specs.declared.conditions.Cond.TheOpen as open'
-use Rattle.su_where.specs.declared.conditions.Cond.TheVariants.{Compare, Not, All, Any, rolls-Compare, rolls-Not, rolls-All, rolls-Any}
-use Rattle.su_where.specs.declared.conditions.Cond.TheFolds.{map-Cond, ind-Cond, fold-roll-Cond}
+use Rattle.su_where.specs.declared.conditions.Condition.{roll-Condition}
+use Rattle.su_where.specs.declared.conditions.Condition.TheOpen as open'
+use Rattle.su_where.specs.declared.conditions.Condition.TheVariants.{Compare, Not, All, Any, rolls-Compare, rolls-Not, rolls-All, rolls-Any}
+use Rattle.su_where.specs.declared.conditions.Condition.TheFolds.{map-Condition, ind-Condition, fold-roll-Condition}
 use Rattle.su_where.specs.Operator.{complement_of}
+use Rattle.su_where.specs.Truth.{Cond}
 use Rattle.su_where.specs.Disjunct.{opposite_of, pairs_of, combinations_of, joined, form_of}
 use Rattle.su_where.proofs.Disjunctive.{forms, form_of-Compare, form_of-Not, form_of-All, form_of-Any}
 use Rattle.su_compare.specs.Equalities.{asks_equality, equalities_step, asks_equalities}
@@ -20,18 +21,18 @@ each-map b [] = refl
 each-map b (c ∷ cs) = ap (λ v. asks_equalities c b && v) (each-map b cs)
 
 pub asks-Compare : (l : Literal) (b : Bool) → asks_equalities (Compare l) b ≡ asks_equality l.op b
-asks-Compare l b = ap (λ d. asks_equalities d b) (sym (rolls-Compare l)) ∙ ap (λ f. f b) (fold-roll-Cond (Bool → Bool) equalities_step (open'.Compare l))
+asks-Compare l b = ap (λ d. asks_equalities d b) (sym (rolls-Compare l)) ∙ ap (λ f. f b) (fold-roll-Condition Literal (Bool → Bool) equalities_step (open'.Compare l))
 
 pub asks-Not : (part : Cond) (b : Bool) → asks_equalities (Not part) b ≡ asks_equalities part (not b)
-asks-Not part b = ap (λ d. asks_equalities d b) (sym (rolls-Not part)) ∙ ap (λ f. f b) (fold-roll-Cond (Bool → Bool) equalities_step (open'.Not part))
+asks-Not part b = ap (λ d. asks_equalities d b) (sym (rolls-Not part)) ∙ ap (λ f. f b) (fold-roll-Condition Literal (Bool → Bool) equalities_step (open'.Not part))
 
 pub asks-All : (parts : List Cond) (b : Bool) → asks_equalities (All parts) b ≡ list_all (λ c. asks_equalities c b) parts
 asks-All parts b =
-    ap (λ d. asks_equalities d b) (sym (rolls-All parts)) ∙ ap (λ f. f b) (fold-roll-Cond (Bool → Bool) equalities_step (open'.All parts)) ∙ each-map b parts
+    ap (λ d. asks_equalities d b) (sym (rolls-All parts)) ∙ ap (λ f. f b) (fold-roll-Condition Literal (Bool → Bool) equalities_step (open'.All parts)) ∙ each-map b parts
 
 pub asks-Any : (parts : List Cond) (b : Bool) → asks_equalities (Any parts) b ≡ list_all (λ c. asks_equalities c b) parts
 asks-Any parts b =
-    ap (λ d. asks_equalities d b) (sym (rolls-Any parts)) ∙ ap (λ f. f b) (fold-roll-Cond (Bool → Bool) equalities_step (open'.Any parts)) ∙ each-map b parts
+    ap (λ d. asks_equalities d b) (sym (rolls-Any parts)) ∙ ap (λ f. f b) (fold-roll-Condition Literal (Bool → Bool) equalities_step (open'.Any parts)) ∙ each-map b parts
 
 -- for `grind`: what a condition asks for, from what its parts ask for
 pub ruleset layers = (asks-Compare, asks-Not, asks-All, asks-Any)
@@ -121,14 +122,14 @@ kept_Any : (es : List ((c : Cond) × IsKept c)) → IsKept (Any (parts es))
 kept_Any es true h = ap all_equalities (form_of-Any (parts es) true) ∙ all-combinations (forms true (parts es)) (kept_parts true es (sym (asks-Any (parts es) true) ∙ h))
 kept_Any es false h = ap all_equalities (form_of-Any (parts es) false) ∙ all-joined (forms false (parts es)) (kept_parts false es (sym (asks-Any (parts es) false) ∙ h))
 
-kept_layer : (y : open'.Cond-F ((c : Cond) × IsKept c)) → IsKept (roll-Cond (map-Cond ((c : Cond) × IsKept c) Cond (λ e. e.0) y))
+kept_layer : (y : open'.Condition-F Literal ((c : Cond) × IsKept c)) → IsKept (roll-Condition Literal (map-Condition Literal ((c : Cond) × IsKept c) Cond (λ e. e.0) y))
 kept_layer (open'.Compare l) = subst IsKept (sym (rolls-Compare l)) (kept_compare l)
 kept_layer (open'.Not e) = subst IsKept (sym (rolls-Not e.0)) (kept_not e.0 e.1)
 kept_layer (open'.All es) = subst IsKept (sym (rolls-All (parts es))) (kept_All es)
 kept_layer (open'.Any es) = subst IsKept (sym (rolls-Any (parts es))) (kept_Any es)
 
 kept : (c : Cond) → IsKept c
-kept = ind-Cond IsKept (λ x y is. subst (λ z. IsKept (roll-Cond z)) is (kept_layer y))
+kept = ind-Condition Literal IsKept (λ x y is. subst (λ z. IsKept (roll-Condition Literal z)) is (kept_layer y))
 
 pub only_equalities : (c : Cond) → asks_equalities c false ≡ true → all_equalities (form_of c false) ≡ true
 only_equalities c h = kept c false h

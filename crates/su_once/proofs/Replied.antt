@@ -8,7 +8,7 @@ use Rattle.su_csv.specs.declared.faults.CsvFault.{CsvFault}
 use Rattle.su_schema.specs.SchemaValue.{SchemaValue, attribute_kinds, column_names, relation_names, place_of}
 use Rattle.su_schema.specs.declared.definitions.Definition.{Definition}
 use Rattle.su_ddl.proofs.Formed.{one_definition}
-use Rattle.su_query.specs.declared.conditions.NamedCond.{NamedCond}
+use Rattle.su_query.specs.Mentions.{NamedCond}
 use Rattle.su_query.specs.declared.faults.QueryFault.{QueryFault}
 use Rattle.su_query.specs.declared.faults.QueryFault.TheVariants as query
 use Rattle.su_query.specs.declared.statements.Query.{Query as AQuery}

@@ -2,7 +2,7 @@
 -- alike: the same schema, and in each relation the same set of rows, in whichever order
 use Rattle.std.specs.Prelude.{◌≡◌, ◌≢◌, ◌↔◌, ℕ, Bool, List, length, Contains, Result, Err}
 use Rattle.su_base.specs.declared.values.Value.{Value}
-use Rattle.su_where.specs.declared.conditions.Cond.{Cond}
+use Rattle.su_where.specs.Truth.{Cond}
 use Rattle.su_schema.specs.declared.definitions.Definition.{Definition}
 use Rattle.su_state.specs.declared.faults.StateFault.{StateFault}
 use Rattle.su_state.specs.declared.faults.StateFault.TheVariants.{NoMemory}

@@ -6,14 +6,13 @@ use Rattle.su_base.specs.Name.{IsName}
 use Rattle.su_lex.specs.declared.signs.Sign.TheVariants as sign
 use Rattle.su_lex.specs.declared.meaning.Symbol.{Symbol}
 use Rattle.su_lex.specs.declared.meaning.Symbol.TheVariants.{Word, Sign}
-use Rattle.su_query.specs.declared.conditions.NamedCond.{NamedCond}
 use Rattle.su_query.specs.declared.statements.Query.{Query as AQuery}
 use Rattle.su_query.specs.declared.statements.Statement.{Statement}
 use Rattle.su_query.specs.declared.statements.Statement.TheVariants.{Insert, Delete, DeleteWhere, Load, Print, Schema, Closure, Retrieve, Explain, Certify, Support, Compare, Window}
 use Rattle.su_lex.specs.Names.{Begins}
 use Rattle.su_query.specs.Lists.{Several, opens_second}
 use Rattle.su_query.specs.Grammar.{ReadsName, ReadsValue, ReadsCond}
-use Rattle.su_query.specs.Mentions.{are_columns}
+use Rattle.su_query.specs.Mentions.{NamedCond, are_columns}
 use Rattle.su_query.specs.Forms as g
 use Rattle.su_query.specs.Forms.{RowForm, ConditionForm, FileForm, NamesForm, PairForm, QueryForm, IsForm}
 use Rattle.su_query.proofs.Items.{name_unique, value_unique}

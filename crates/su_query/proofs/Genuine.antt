@@ -15,10 +15,10 @@ use Rattle.su_where.specs.declared.operators.Op.TheVariants as op
 use Rattle.su_query.specs.declared.refs.Ref.{Ref as ARef}
 use Rattle.su_query.specs.declared.refs.NamedOperand.{NamedOperand}
 use Rattle.su_query.specs.declared.refs.NamedOperand.TheVariants.{Ref, Const}
-use Rattle.su_query.specs.declared.conditions.NamedCond.{NamedCond}
-use Rattle.su_query.specs.declared.conditions.NamedCond.TheVariants.{Compare, Not, All, Any}
+use Rattle.su_query.specs.Mentions.{NamedCond}
+use Rattle.su_where.specs.declared.conditions.Condition.TheVariants.{Compare, Not, All, Any}
 use Rattle.su_query.specs.Grammar as g
-use Rattle.su_query.specs.Grammar.{ReadsCond, ReadsOrs, ReadsConj, ReadsAnds, ReadsFactor, ReadsPrimary, ReadsComparison, ReadsOperand, ReadsRef, ReadsValue, ReadsName, any_of, all_of, op_sym, value_sym, qualified}
+use Rattle.su_query.specs.Grammar.{ReadsCond, ReadsOrs, ReadsConj, ReadsAnds, ReadsFactor, ReadsPrimary, compared, ReadsComparison, ReadsOperand, ReadsRef, ReadsValue, ReadsName, any_of, all_of, op_sym, value_sym, qualified}
 use Rattle.su_query.specs.Shown.{ShownCond, shown_cond, cond_symbols, part, inner, in_parens, joined, name_symbols, value_symbols, ref_symbols, operand_symbols}
 use Rattle.su_query.proofs.CondShown.{shown-Compare, shown-Not, shown-All, shown-Any}
 
@@ -108,8 +108,8 @@ op_is op.LessEqual = tt
 op_is op.Greater = tt
 op_is op.GreaterEqual = tt
 
-compare_genuine : (a : NamedOperand) (o : Op) (b : NamedOperand) → AreSymbols (operand_symbols a) → AreSymbols (operand_symbols b) → IsGenuine (Compare a o b)
-compare_genuine a o b va vb = by_shown (Compare a o b) _ (shown-Compare a o b) (both-append (operand_symbols a) (op_sym o ∷ operand_symbols b) va (op_is o, vb))
+compare_genuine : (a : NamedOperand) (o : Op) (b : NamedOperand) → AreSymbols (operand_symbols a) → AreSymbols (operand_symbols b) → IsGenuine (Compare (compared a o b))
+compare_genuine a o b va vb = by_shown (Compare (compared a o b)) _ (shown-Compare (compared a o b)) (both-append (operand_symbols a) (op_sym o ∷ operand_symbols b) va (op_is o, vb))
 
 pub record Parts (cs : List NamedCond) (behind : List Symbol) : Type 0 where
   pub shown : AllByRecursion IsGenuine cs

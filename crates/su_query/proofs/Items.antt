@@ -11,10 +11,10 @@ use Rattle.su_lex.specs.declared.meaning.Symbol.TheVariants.{Word, Sign}
 use Rattle.su_query.specs.declared.refs.Ref.{Ref as ARef}
 use Rattle.su_query.specs.declared.refs.NamedOperand.{NamedOperand}
 use Rattle.su_query.specs.declared.refs.NamedOperand.TheVariants.{Ref, Const}
-use Rattle.su_query.specs.declared.conditions.NamedCond.{NamedCond}
-use Rattle.su_query.specs.declared.conditions.NamedCond.TheVariants.{Compare}
+use Rattle.su_query.specs.Mentions.{NamedCond}
+use Rattle.su_where.specs.declared.conditions.Condition.TheVariants.{Compare}
 use Rattle.su_lex.specs.Names.{Begins}
-use Rattle.su_query.specs.Grammar.{value_sym, op_sym, qualified, IsVariable, ReadsName, ReadsValue, ReadsRef, ReadsOperand, ReadsComparison}
+use Rattle.su_query.specs.Grammar.{value_sym, op_sym, qualified, IsVariable, ReadsName, ReadsValue, ReadsRef, ReadsOperand, compared, ReadsComparison}
 
 pub record SameItem {A : Type 0} (a b : A) (r q : List Symbol) : Type 0 where
   pub item : a ≡ b
@@ -87,7 +87,7 @@ comparison_unique c d s r q h k =
     let t : k.4 ≡ h.4 = cc in
     let o = op_same h.1 k.1 f in
     let m = operand_unique h.2 k.2 h.4 r q h.7 (subst (λ (x : List Symbol). ReadsOperand k.2 x q) t k.7) in
-    record { item = h.8 ∙ ap (λ x. Compare x h.1 h.2) l.item ∙ ap (λ x. Compare k.0 x h.2) o ∙ ap (λ x. Compare k.0 k.1 x) m.item ∙ sym k.8; rest = m.rest }
+    record { item = h.8 ∙ ap (λ x. Compare (compared x h.1 h.2)) l.item ∙ ap (λ x. Compare (compared k.0 x h.2)) o ∙ ap (λ x. Compare (compared k.0 k.1 x)) m.item ∙ sym k.8; rest = m.rest }
 
 not_name : (w : List ℕ) → w ≡ codes "not" → IsName w → ⊥
 not_name w e is =

@@ -8,7 +8,7 @@ use Rattle.std.proofs.lemmas.Bool.Decides.{nat_tests}
 use Rattle.su_lex.specs.declared.signs.Sign.TheVariants as sign
 use Rattle.su_lex.specs.declared.meaning.Symbol.{Symbol}
 use Rattle.su_lex.specs.declared.meaning.Symbol.TheVariants.{Sign}
-use Rattle.su_query.specs.declared.conditions.NamedCond.{NamedCond}
+use Rattle.su_query.specs.Mentions.{NamedCond}
 use Rattle.su_query.specs.Shown.{ShownCond, shown_cond, cond_symbols, part, in_parens, joined, listed}
 
 wrapped : (x : ShownCond) → (if x.many then Sign sign.Open ∷ [] else []) ++ (x.symbols ++ (if x.many then Sign sign.Close ∷ [] else [])) ≡ part x

@@ -7,7 +7,6 @@ pub mod Genuine
 pub mod Hits
 pub mod Items
 pub mod Joined
-pub mod Layers
 pub mod Listed
 pub mod Literals
 pub mod Placed

@@ -6,71 +6,64 @@ use Rattle.std.proofs.lemmas.List.{map-append, length-map}
 use Rattle.std.proofs.lemmas.List.Elements.{All-nil, All-cons, All-head, All-tail, All-map}
 use Rattle.su_base.specs.declared.values.Kind.{Kind}
 use Rattle.su_base.specs.declared.values.Kind.TheVariants.{Int as IntKind, Text as TextKind}
-use Rattle.su_where.specs.declared.operators.Op.{Op}
 use Rattle.su_where.specs.declared.literals.Literal.{Literal}
-use Rattle.su_where.specs.Truth as where'
 use Rattle.su_where.specs.Truth.{IsBelow, HasPlacesBelow}
-use Rattle.su_where.proofs.Layers as layers'
+use Rattle.su_where.proofs.Layers.{comparisons_of-Compare, comparisons_of-Not, comparisons_of-All, comparisons_of-Any}
 use Rattle.su_schema.specs.SchemaValue.{SchemaValue}
 use Rattle.su_base.specs.Value.{same_kind}
 use Rattle.su_query.specs.declared.refs.Ref.{Ref as ARef}
 use Rattle.su_query.specs.declared.refs.NamedOperand.{NamedOperand}
 use Rattle.su_query.specs.declared.refs.NamedOperand.TheVariants.{Ref, Const}
-use Rattle.su_query.specs.declared.conditions.NamedCond.{NamedCond, roll-NamedCond}
-use Rattle.su_query.specs.declared.conditions.NamedCond.TheOpen as open'
-use Rattle.su_query.specs.declared.conditions.NamedCond.TheVariants.{Compare, Not, All, Any, rolls-Compare, rolls-Not, rolls-All, rolls-Any}
-use Rattle.su_query.specs.declared.conditions.NamedCond.TheFolds.{map-NamedCond, ind-NamedCond}
+use Rattle.su_where.specs.declared.conditions.Condition.{roll-Condition}
+use Rattle.su_where.specs.declared.conditions.Condition.TheOpen as open'
+use Rattle.su_where.specs.declared.conditions.Condition.TheVariants.{Compare, Not, All, Any, rolls-Compare, rolls-Not, rolls-All, rolls-Any}
+use Rattle.su_where.specs.declared.conditions.Condition.TheFolds.{map-Condition, ind-Condition}
 use Rattle.su_query.specs.declared.scopes.Scope.{Scope}
-use Rattle.su_query.specs.Mentions.{Comparison, comparisons_of, refs_in, refs_beside, refs_of}
-use Rattle.su_query.specs.Lookup.{kind_in, differs, differing_kinds, numbered, numbered_operand}
+use Rattle.su_query.specs.declared.conditions.Comparison.{Comparison}
+use Rattle.su_where.specs.Truth.{comparisons_of}
+use Rattle.su_query.specs.Mentions.{NamedCond, refs_in, refs_beside, refs_of}
+use Rattle.su_query.specs.Lookup.{kind_in, differs, differing_kinds, literal_of, numbered, numbered_operand}
 use Rattle.su_query.specs.Ranges.{operand_kind, IsOfOneKind, IsTyped}
-use Rattle.su_query.proofs.Layers.{comparisons_of-Compare, comparisons_of-Not, comparisons_of-All, comparisons_of-Any}
 use Rattle.su_query.proofs.Found.{numbered-Compare, numbered-Not, numbered-All, numbered-Any}
 use Rattle.su_base.proofs.Items.{All-append_left, All-append_right}
 use Rattle.su_query.proofs.Hits.{none_found}
 
--- a comparison with a number in place of each ref
-abbrev pub literal_of : (ARef → ℕ) → Comparison → Literal
-literal_of f k = record { left = numbered_operand f k.left; op = k.op; right = numbered_operand f k.right }
-
 abbrev IsSame : (ARef → ℕ) → NamedCond → Type 0
-IsSame f c = where'.comparisons_of (numbered f c) ≡ map (literal_of f) (comparisons_of c)
+IsSame f c = comparisons_of (numbered f c) ≡ map (literal_of f) (comparisons_of c)
 
 abbrev parts : (f : ARef → ℕ) → List ((c : NamedCond) × IsSame f c) → List NamedCond
 parts f es = map (λ e. e.0) es
 
-flat : (f : ARef → ℕ) (es : List ((c : NamedCond) × IsSame f c)) → flat_map where'.comparisons_of (map (numbered f) (parts f es)) ≡ map (literal_of f) (flat_map comparisons_of (parts f es))
+flat : (f : ARef → ℕ) (es : List ((c : NamedCond) × IsSame f c)) → flat_map comparisons_of (map (numbered f) (parts f es)) ≡ map (literal_of f) (flat_map comparisons_of (parts f es))
 flat f [] = refl
 flat f (e ∷ es) =
-    ap (λ x. x ++ flat_map where'.comparisons_of (map (numbered f) (parts f es))) e.1 ∙ ap (λ x. map (literal_of f) (comparisons_of e.0) ++ x) (flat f es)
+    ap (λ x. x ++ flat_map comparisons_of (map (numbered f) (parts f es))) e.1 ∙ ap (λ x. map (literal_of f) (comparisons_of e.0) ++ x) (flat f es)
     ∙ sym (map-append (literal_of f) (comparisons_of e.0) (flat_map comparisons_of (parts f es)))
 
-same_compare : (f : ARef → ℕ) (a : NamedOperand) (o : Op) (b : NamedOperand) → IsSame f (Compare a o b)
-same_compare f a o b =
-    ap where'.comparisons_of (numbered-Compare f a o b) ∙ layers'.comparisons_of-Compare (record { left = numbered_operand f a; op = o; right = numbered_operand f b })
-    ∙ sym (ap (map (literal_of f)) (comparisons_of-Compare a o b))
+same_compare : (f : ARef → ℕ) (k : Comparison) → IsSame f (Compare k)
+same_compare f k = ap comparisons_of (numbered-Compare f k) ∙ comparisons_of-Compare (literal_of f k) ∙ sym (ap (map (literal_of f)) (comparisons_of-Compare k))
 
 same_not : (f : ARef → ℕ) (c : NamedCond) → IsSame f c → IsSame f (Not c)
-same_not f c h = ap where'.comparisons_of (numbered-Not f c) ∙ layers'.comparisons_of-Not (numbered f c) ∙ h ∙ sym (ap (map (literal_of f)) (comparisons_of-Not c))
+same_not f c h = ap comparisons_of (numbered-Not f c) ∙ comparisons_of-Not (numbered f c) ∙ h ∙ sym (ap (map (literal_of f)) (comparisons_of-Not c))
 
 same_all : (f : ARef → ℕ) (es : List ((c : NamedCond) × IsSame f c)) → IsSame f (All (parts f es))
 same_all f es =
-    ap where'.comparisons_of (numbered-All f (parts f es)) ∙ layers'.comparisons_of-All (map (numbered f) (parts f es)) ∙ flat f es
+    ap comparisons_of (numbered-All f (parts f es)) ∙ comparisons_of-All (map (numbered f) (parts f es)) ∙ flat f es
     ∙ sym (ap (map (literal_of f)) (comparisons_of-All (parts f es)))
 
 same_any : (f : ARef → ℕ) (es : List ((c : NamedCond) × IsSame f c)) → IsSame f (Any (parts f es))
 same_any f es =
-    ap where'.comparisons_of (numbered-Any f (parts f es)) ∙ layers'.comparisons_of-Any (map (numbered f) (parts f es)) ∙ flat f es
+    ap comparisons_of (numbered-Any f (parts f es)) ∙ comparisons_of-Any (map (numbered f) (parts f es)) ∙ flat f es
     ∙ sym (ap (map (literal_of f)) (comparisons_of-Any (parts f es)))
 
-same_layer : (f : ARef → ℕ) (y : open'.NamedCond-F ((c : NamedCond) × IsSame f c)) → IsSame f (roll-NamedCond (map-NamedCond ((c : NamedCond) × IsSame f c) NamedCond (λ e. e.0) y))
-same_layer f (open'.Compare a o b) = subst (IsSame f) (sym (rolls-Compare a o b)) (same_compare f a o b)
+same_layer : (f : ARef → ℕ) (y : open'.Condition-F Comparison ((c : NamedCond) × IsSame f c)) → IsSame f (roll-Condition Comparison (map-Condition Comparison ((c : NamedCond) × IsSame f c) NamedCond (λ e. e.0) y))
+same_layer f (open'.Compare k) = subst (IsSame f) (sym (rolls-Compare k)) (same_compare f k)
 same_layer f (open'.Not e) = subst (IsSame f) (sym (rolls-Not e.0)) (same_not f e.0 e.1)
 same_layer f (open'.All es) = subst (IsSame f) (sym (rolls-All (parts f es))) (same_all f es)
 same_layer f (open'.Any es) = subst (IsSame f) (sym (rolls-Any (parts f es))) (same_any f es)
 
-pub comparisons_of-numbered : (f : ARef → ℕ) (c : NamedCond) → where'.comparisons_of (numbered f c) ≡ map (literal_of f) (comparisons_of c)
-comparisons_of-numbered f = ind-NamedCond (IsSame f) (λ x y is. subst (λ z. IsSame f (roll-NamedCond z)) is (same_layer f y))
+pub comparisons_of-numbered : (f : ARef → ℕ) (c : NamedCond) → comparisons_of (numbered f c) ≡ map (literal_of f) (comparisons_of c)
+comparisons_of-numbered f = ind-Condition Comparison (IsSame f) (λ x y is. subst (λ z. IsSame f (roll-Condition Comparison z)) is (same_layer f y))
 
 -- a ref's number is in range and of the kind of its name
 pub record IsNumbered (schema : SchemaValue) (scope : Scope) (kinds : List Kind) (f : ARef → ℕ) (r : ARef) : Type 0 where

@@ -1,18 +1,18 @@
--- Places that are mentioned: one ref after the other, part by part, and how many.
-use Rattle.std.proofs.Common.{◌≡◌, ◌<◌, ◌≤◌, ◌+◌, ◌*◌, ℕ, Bool, true, false, cond, suc, Option, List, [], ◌∷◌, ◌++◌, length, get_or, drop, refl, sym, ap, ◌∙◌, arith, add-one, drop-cons, length-append, append-nil}
+-- Places that are mentioned: one ref after the other, and how many.
+use Rattle.std.proofs.Common.{◌≡◌, ◌<◌, ◌≤◌, ◌+◌, ◌*◌, ℕ, true, false, cond, suc, Option, List, [], ◌∷◌, ◌++◌, length, get_or, map, drop, Bor, refl, sym, ap, ◌∙◌, arith, add-one, drop-cons, length-append}
 use Rattle.std.specs.List.{list_any, flat_map}
 use Rattle.su_schema.specs.SchemaValue.{SchemaValue}
 use Rattle.su_query.specs.declared.refs.Ref.{Ref}
 use Rattle.su_query.specs.declared.refs.NamedOperand.{NamedOperand}
 use Rattle.su_query.specs.declared.refs.NamedOperand.TheVariants as operand
 use Rattle.su_query.specs.declared.places.Place.{Place}
-use Rattle.su_query.specs.declared.conditions.NamedCond.{NamedCond}
 use Rattle.su_query.specs.declared.statements.Query.{Query}
-use Rattle.su_query.specs.Mentions.{Comparison, comparisons_of, refs_in, refs_beside, refs_of, all_refs, variables_of}
+use Rattle.su_query.specs.declared.conditions.Comparison.{Comparison}
+use Rattle.su_where.specs.Truth.{comparisons_of}
+use Rattle.su_query.specs.Mentions.{refs_in, refs_beside, refs_of, all_refs, variables_of}
 use Rattle.su_query.specs.Reading.{AreFew}
 use Rattle.su_query.proofs.Seen.{mentions-append}
 use Rattle.su_query.specs.Lookup.{place_in, same_place, places_of}
-use Rattle.su_query.proofs.Layers.{refs_of-Compare, refs_of-Not, refs_of-All, refs_of-Any}
 
 pub places-append : (schema : SchemaValue) (vs : List (Option (List ℕ))) (seen : List Place) (xs ys : List Ref) → places_of schema vs seen (xs ++ ys) ≡ places_of schema vs (places_of schema vs seen xs) ys
 places-append schema vs seen [] ys = refl
@@ -32,16 +32,11 @@ places-few schema vs seen (x ∷ xs) =
       | false ↦ omega (arith, places-few schema vs (seen ++ place_in schema vs x ∷ []) xs, length-append seen (place_in schema vs x ∷ []))
     ]
 
-pub refs_step : (schema : SchemaValue) (vs : List (Option (List ℕ))) (seen : List Place) (refs : List Ref) (i : ℕ) (r : Ref) → i < length refs → r ≡ get_or refs i r
-    → places_of schema vs seen (drop i refs) ≡ places_of schema vs (places_of schema vs seen (r ∷ [])) (drop (i + 1) refs)
+pub refs_step : (schema : SchemaValue) (vs : List (Option (List ℕ))) (seen : List Place) (refs : List (Bor Ref)) (i : ℕ) (r : Bor Ref) → i < length refs → r ≡ get_or refs i r
+    → places_of schema vs seen (map (λ (b : Bor Ref). b.now) (drop i refs)) ≡ places_of schema vs (places_of schema vs seen (r.now ∷ [])) (map (λ (b : Bor Ref). b.now) (drop (i + 1) refs))
 refs_step schema vs seen refs i r h e =
-    ap (places_of schema vs seen) (drop-cons refs i r h ∙ ap (λ x. x ∷ drop (suc i) refs) (sym e) ∙ ap (λ n. r ∷ drop n refs) (sym (add-one i))) ∙ places-append schema vs seen (r ∷ []) (drop (i + 1) refs)
-
-pub parts_step : (schema : SchemaValue) (vs : List (Option (List ℕ))) (seen : List Place) (parts : List NamedCond) (i : ℕ) (c : NamedCond) → i < length parts → c ≡ get_or parts i c
-    → places_of schema vs seen (flat_map refs_of (drop i parts)) ≡ places_of schema vs (places_of schema vs seen (refs_of c)) (flat_map refs_of (drop (i + 1) parts))
-parts_step schema vs seen parts i c h e =
-    ap (λ cs. places_of schema vs seen (flat_map refs_of cs)) (drop-cons parts i c h ∙ ap (λ x. x ∷ drop (suc i) parts) (sym e) ∙ ap (λ n. c ∷ drop n parts) (sym (add-one i)))
-    ∙ places-append schema vs seen (refs_of c) (flat_map refs_of (drop (i + 1) parts))
+    ap (λ (bs : List (Bor Ref)). places_of schema vs seen (map (λ (b : Bor Ref). b.now) bs)) (drop-cons refs i r h ∙ ap (λ x. x ∷ drop (suc i) refs) (sym e) ∙ ap (λ n. r ∷ drop n refs) (sym (add-one i)))
+    ∙ places-append schema vs seen (r.now ∷ []) (map (λ (b : Bor Ref). b.now) (drop (i + 1) refs))
 
 refs_in-few : (a : NamedOperand) → length (refs_in a) ≤ 1
 refs_in-few (operand.Ref ref) = omega arith
@@ -59,6 +54,3 @@ few_variables q few = omega (arith, few.few_variables, ap length (mentions-appen
 pub few_places : (schema : SchemaValue) (vs : List (Option (List ℕ))) (q : Query) → AreFew q.outputs q.cond → length (places_of schema vs [] (all_refs q)) ≤ 640
 few_places schema vs q few =
     omega (arith, places-few schema vs [] (all_refs q), length-append q.outputs (refs_of q.cond), refs-few (comparisons_of q.cond), few.few_outputs, few.few_comparisons)
-
--- for `grind`
-pub ruleset layers = (refs_of-Compare, refs_of-Not, refs_of-All, refs_of-Any, places-append, append-nil)

@@ -5,7 +5,7 @@ use Rattle.su_lex.specs.declared.meaning.Symbol.{Symbol}
 use Rattle.su_lex.specs.declared.meaning.Symbol.TheVariants.{Word, Sign}
 use Rattle.su_lex.specs.Names.{Begins}
 use Rattle.su_query.specs.declared.refs.Ref.{Ref as ARef}
-use Rattle.su_query.specs.declared.conditions.NamedCond.{NamedCond}
+use Rattle.su_query.specs.Mentions.{NamedCond}
 use Rattle.su_query.specs.declared.statements.Query.{Query as AQuery}
 use Rattle.su_query.specs.Lists.{Several}
 use Rattle.su_query.specs.Grammar.{ReadsRef, ReadsCond}

@@ -12,12 +12,12 @@ use Rattle.su_schema.specs.SchemaValue.{SchemaValue, attribute_names, attribute_
 use Rattle.su_schema.specs.Checks.{columns_at}
 use Rattle.su_query.specs.declared.refs.Ref.{Ref as ARef}
 use Rattle.su_query.specs.declared.refs.NamedOperand.TheVariants.{Ref}
-use Rattle.su_query.specs.declared.conditions.NamedCond.{NamedCond}
 use Rattle.su_query.specs.declared.places.Place.{Place}
 use Rattle.su_query.specs.declared.scopes.Scope.{Scope}
 use Rattle.su_query.specs.declared.scopes.Scope.TheVariants.{Attributes, Columns}
 use Rattle.su_query.specs.declared.statements.Query.{Query}
-use Rattle.su_query.specs.Mentions.{comparisons_of, refs_of, same_variable, mentions, variables_of, all_refs}
+use Rattle.su_where.specs.Truth.{comparisons_of}
+use Rattle.su_query.specs.Mentions.{NamedCond, refs_of, same_variable, mentions, variables_of, all_refs}
 use Rattle.su_query.specs.Reading.{AreFew}
 use Rattle.su_query.specs.Lookup.{names_in, kinds_in, is_unknown, first_unknown, number_among, kind_in, place_in, same_place, places_of, number_in, places_in, resolved_of, IsKnownQuery, IsColumnCondition, with_columns}
 use Rattle.su_query.specs.Ranges.{IsPlaceAmong, place_kinds, IsResolved, IsOnColumns}

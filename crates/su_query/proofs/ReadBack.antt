@@ -9,8 +9,8 @@ use Rattle.su_lex.specs.declared.meaning.Symbol.{Symbol}
 use Rattle.su_lex.specs.declared.meaning.Symbol.TheVariants.{Word, Text, Sign}
 use Rattle.su_lex.specs.Symbols.{IsSymbol}
 use Rattle.su_lex.proofs.Written.{one_list_of_symbols, spaced_is_read}
-use Rattle.su_query.specs.declared.conditions.NamedCond.{NamedCond}
-use Rattle.su_query.specs.declared.conditions.NamedCond.TheVariants.{All}
+use Rattle.su_query.specs.Mentions.{NamedCond}
+use Rattle.su_where.specs.declared.conditions.Condition.TheVariants.{All}
 use Rattle.su_query.specs.declared.statements.Query.{Query as AQuery}
 use Rattle.su_query.specs.declared.statements.Statement.{Statement}
 use Rattle.su_query.specs.Lists as l

@@ -12,11 +12,11 @@ use Rattle.su_where.specs.declared.operators.Op.TheVariants as op
 use Rattle.su_query.specs.declared.refs.Ref.{Ref as ARef}
 use Rattle.su_query.specs.declared.refs.NamedOperand.{NamedOperand}
 use Rattle.su_query.specs.declared.refs.NamedOperand.TheVariants.{Ref, Const}
-use Rattle.su_query.specs.declared.conditions.NamedCond.{NamedCond}
-use Rattle.su_query.specs.declared.conditions.NamedCond.TheVariants.{Compare, Not, All, Any}
+use Rattle.su_query.specs.Mentions.{NamedCond}
+use Rattle.su_where.specs.declared.conditions.Condition.TheVariants.{Compare, Not, All, Any}
 use Rattle.su_lex.specs.Names.{Begins}
 use Rattle.su_query.specs.Grammar as g
-use Rattle.su_query.specs.Grammar.{ReadsCond, ReadsOrs, ReadsConj, ReadsAnds, ReadsFactor, ReadsPrimary, ReadsComparison, ReadsOperand, ReadsRef, IsVariable, any_of, all_of, op_sym, qualified}
+use Rattle.su_query.specs.Grammar.{ReadsCond, ReadsOrs, ReadsConj, ReadsAnds, ReadsFactor, ReadsPrimary, compared, ReadsComparison, ReadsOperand, ReadsRef, IsVariable, any_of, all_of, op_sym, qualified}
 use Rattle.su_query.specs.Shown.{ShownCond, shown_cond, cond_symbols, part, inner, in_parens, joined, ref_symbols, operand_symbols, is_nothing}
 use Rattle.su_query.proofs.CondShown.{shown-Compare, shown-Not, shown-All, shown-Any, nothing-Compare, nothing-Not, nothing-All, nothing-Any}
 
@@ -157,16 +157,16 @@ op_no_dot op.LessEqual r h = let e = h.1 in cc
 op_no_dot op.Greater r h = let e = h.1 in cc
 op_no_dot op.GreaterEqual r h = let e = h.1 in cc
 
-good_compare : (a : NamedOperand) (o : Op) (b : NamedOperand) → IsNamed a → IsNamed b → Good (Compare a o b)
+good_compare : (a : NamedOperand) (o : Op) (b : NamedOperand) → IsNamed a → IsNamed b → Good (Compare (compared a o b))
 good_compare a o b na nb =
     let s = operand_symbols a ++ op_sym o ∷ operand_symbols b in
     let primary = λ (r : List Symbol) (none : ¬ (Begins (Sign sign.Dot) r)).
-    subst (λ (x : List Symbol). ReadsPrimary (Compare a o b) x r) (sym (append_assoc (operand_symbols a) (op_sym o ∷ operand_symbols b) r))
-    (g.compare (Compare a o b) (operand_symbols a ++ (op_sym o ∷ (operand_symbols b ++ r))) r
+    subst (λ (x : List Symbol). ReadsPrimary (Compare (compared a o b)) x r) (sym (append_assoc (operand_symbols a) (op_sym o ∷ operand_symbols b) r))
+    (g.compare (Compare (compared a o b)) (operand_symbols a ++ (op_sym o ∷ (operand_symbols b ++ r))) r
     (a, o, b, op_sym o ∷ (operand_symbols b ++ r), operand_symbols b ++ r, operand_shown a na (op_sym o ∷ (operand_symbols b ++ r)) (op_no_dot o (operand_symbols b ++ r)), refl, operand_shown b nb r none, refl)) in
-    let factor = λ (r : List Symbol) (none : ¬ (Begins (Sign sign.Dot) r)). g.plain (Compare a o b) (s ++ r) r (primary r none) in
-    from_shown (Compare a o b) (record { many = false; compare = true; symbols = s }) (shown-Compare a o b) (nothing-Compare a o b)
-    (λ r ends. one_cond (Compare a o b) (s ++ r) r ends (factor r ends.no_dot)) factor primary
+    let factor = λ (r : List Symbol) (none : ¬ (Begins (Sign sign.Dot) r)). g.plain (Compare (compared a o b)) (s ++ r) r (primary r none) in
+    from_shown (Compare (compared a o b)) (record { many = false; compare = true; symbols = s }) (shown-Compare (compared a o b)) (nothing-Compare (compared a o b))
+    (λ r ends. one_cond (Compare (compared a o b)) (s ++ r) r ends (factor r ends.no_dot)) factor primary
 
 good_comparison : (c : NamedCond) (s r : List Symbol) → ReadsComparison c s r → Good c
 good_comparison c s r h = subst Good (sym h.8) (good_compare h.0 h.1 h.2 (operand_named h.0 s h.3 h.5) (operand_named h.2 h.4 r h.7))

@@ -5,15 +5,14 @@ use Rattle.su_base.specs.Name.{IsName}
 use Rattle.su_lex.specs.declared.signs.Sign.TheVariants as sign
 use Rattle.su_lex.specs.declared.meaning.Symbol.{Symbol}
 use Rattle.su_lex.specs.declared.meaning.Symbol.TheVariants.{Word, Text, Sign}
-use Rattle.su_query.specs.declared.conditions.NamedCond.{NamedCond}
-use Rattle.su_query.specs.declared.conditions.NamedCond.TheVariants.{All}
+use Rattle.su_where.specs.declared.conditions.Condition.TheVariants.{All}
 use Rattle.su_query.specs.declared.statements.Query.{Query as AQuery}
 use Rattle.su_query.specs.declared.statements.Statement.{Statement}
 use Rattle.su_query.specs.declared.statements.Statement.TheVariants.{Insert, Delete, DeleteWhere, Load, Print, Schema, Closure, Retrieve, Explain, Certify, Support, Compare, Window}
 use Rattle.su_lex.specs.Names.{Begins}
 use Rattle.su_query.specs.Lists.{Several}
 use Rattle.su_query.specs.Grammar.{ReadsName, ReadsValue, ReadsRef, ReadsCond}
-use Rattle.su_query.specs.Mentions.{are_columns}
+use Rattle.su_query.specs.Mentions.{NamedCond, are_columns}
 
 -- NAME "(" values ")"
 pub record RowForm (relation : List ℕ) (row : List Value) (s : List Symbol) : Type 0 where

@@ -13,8 +13,9 @@ use Rattle.su_lex.specs.declared.meaning.Symbol.TheVariants.{Word, Int, Text, Si
 use Rattle.su_query.specs.declared.refs.Ref.{Ref as ARef}
 use Rattle.su_query.specs.declared.refs.NamedOperand.{NamedOperand}
 use Rattle.su_query.specs.declared.refs.NamedOperand.TheVariants.{Ref, Const}
-use Rattle.su_query.specs.declared.conditions.NamedCond.{NamedCond}
-use Rattle.su_query.specs.declared.conditions.NamedCond.TheVariants.{Compare, Not, All, Any}
+use Rattle.su_query.specs.declared.conditions.Comparison.{Comparison}
+use Rattle.su_query.specs.Mentions.{NamedCond}
+use Rattle.su_where.specs.declared.conditions.Condition.TheVariants.{Compare, Not, All, Any}
 use Rattle.su_lex.specs.Names.{Begins}
 
 -- the symbol of a value
@@ -58,10 +59,14 @@ abbrev pub ReadsOperand : NamedOperand → List Symbol → List Symbol → Type 
 ReadsOperand (Ref ref) s r = ReadsRef ref s r
 ReadsOperand (Const v) s r = ReadsValue v s r
 
+-- a comparison of two sides
+abbrev pub compared : NamedOperand → Op → NamedOperand → Comparison
+compared a o b = record { left = a; op = o; right = b }
+
 -- operand op operand
 abbrev pub ReadsComparison : NamedCond → List Symbol → List Symbol → Type 0
 ReadsComparison c s r = (a : NamedOperand) × (o : Op) × (b : NamedOperand) × (t : List Symbol) × (u : List Symbol)
-    × ReadsOperand a s t × (t ≡ op_sym o ∷ u) × ReadsOperand b u r × (c ≡ Compare a o b)
+    × ReadsOperand a s t × (t ≡ op_sym o ∷ u) × ReadsOperand b u r × (c ≡ Compare (compared a o b))
 
 -- parts make a node only where they are several
 abbrev pub any_of : List NamedCond → NamedCond

@@ -8,16 +8,15 @@ use Rattle.su_base.specs.declared.values.Kind.TheVariants.{Int as IntKind}
 use Rattle.su_base.specs.Value.{kind_of, same_kind}
 use Rattle.su_where.specs.declared.literals.Operand.{Operand}
 use Rattle.su_where.specs.declared.literals.Operand.TheVariants as operand
-use Rattle.su_where.specs.declared.conditions.Cond.{Cond}
-use Rattle.su_where.specs.declared.conditions.Cond.TheVariants as cond
+use Rattle.su_where.specs.declared.literals.Literal.{Literal}
+use Rattle.su_where.specs.declared.conditions.Condition.TheVariants as cond
 use Rattle.su_schema.specs.SchemaValue.{SchemaValue, attribute_names, attribute_kinds, column_names, place_of}
 use Rattle.su_schema.specs.Checks.{columns_at}
 use Rattle.su_query.specs.declared.refs.Ref.{Ref as ARef}
 use Rattle.su_query.specs.declared.refs.NamedOperand.{NamedOperand}
 use Rattle.su_query.specs.declared.refs.NamedOperand.TheVariants.{Ref, Const}
-use Rattle.su_query.specs.declared.conditions.NamedCond.{NamedCond}
-use Rattle.su_query.specs.declared.conditions.NamedCond.TheOpen.{NamedCond-F, Compare, Not, All, Any}
-use Rattle.su_query.specs.declared.conditions.NamedCond.TheFolds.{fold-NamedCond}
+use Rattle.su_where.specs.declared.conditions.Condition.TheOpen.{Condition-F, Compare, Not, All, Any}
+use Rattle.su_where.specs.declared.conditions.Condition.TheFolds.{fold-Condition}
 use Rattle.su_query.specs.declared.scopes.Scope.{Scope}
 use Rattle.su_query.specs.declared.scopes.Scope.TheVariants.{Attributes, Columns}
 use Rattle.su_query.specs.declared.places.Place.{Place}
@@ -25,7 +24,9 @@ use Rattle.su_query.specs.declared.resolving.Resolved.{Resolved}
 use Rattle.su_query.specs.declared.statements.Query.{Query}
 use Rattle.su_query.specs.declared.faults.QueryFault.{QueryFault}
 use Rattle.su_query.specs.declared.faults.QueryFault.TheVariants.{NoMemory, Unknown, Kinds, UnknownColumn}
-use Rattle.su_query.specs.Mentions.{Comparison, comparisons_of, refs_of, same_variable, variables_of, all_refs}
+use Rattle.su_query.specs.declared.conditions.Comparison.{Comparison}
+use Rattle.su_where.specs.Truth.{Cond, comparisons_of}
+use Rattle.su_query.specs.Mentions.{NamedCond, refs_of, same_variable, variables_of, all_refs}
 
 -- the relation of a scope is one of the schema
 abbrev pub IsScope : SchemaValue → Scope → Type 0
@@ -76,16 +77,20 @@ abbrev pub numbered_operand : (ARef → ℕ) → NamedOperand → Operand
 numbered_operand number (Ref ref) = operand.Place (number ref)
 numbered_operand number (Const v) = operand.Const v
 
+-- a comparison with a number in place of each ref
+abbrev pub literal_of : (ARef → ℕ) → Comparison → Literal
+literal_of number k = record { left = numbered_operand number k.left; op = k.op; right = numbered_operand number k.right }
+
 -- a condition by the numbers of its refs
-abbrev pub numbered_step : (ARef → ℕ) → NamedCond-F Cond → Cond
-numbered_step number (Compare a o b) = cond.Compare (record { left = numbered_operand number a; op = o; right = numbered_operand number b })
+abbrev pub numbered_step : (ARef → ℕ) → Condition-F Comparison Cond → Cond
+numbered_step number (Compare k) = cond.Compare (literal_of number k)
 numbered_step number (Not part) = cond.Not part
 numbered_step number (All parts) = cond.All parts
 numbered_step number (Any parts) = cond.Any parts
 
 -- the same condition with a number in place of each ref
 abbrev pub numbered : (ARef → ℕ) → NamedCond → Cond
-numbered number = fold-NamedCond Cond (numbered_step number)
+numbered number = fold-Condition Comparison Cond (numbered_step number)
 
 -- why the columns of a condition are refused: the first unknown name or, where all are known, the first comparison of two kinds
 abbrev pub IsColumnRefusal : SchemaValue → ℕ → NamedCond → QueryFault → Type 0

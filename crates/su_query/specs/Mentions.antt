@@ -3,31 +3,17 @@
 use Rattle.std.specs.Prelude.{ℕ, Bool, true, false, if◌then◌else◌, List, [], ◌∷◌, ◌++◌, Option, Some, None, flat_map, is_none}
 use Rattle.std.specs.List.{list_any, list_all}
 use Rattle.std.specs.Str.{bytes_eq}
-use Rattle.su_where.specs.declared.operators.Op.{Op}
+use Rattle.su_where.specs.declared.conditions.Condition.{Condition}
+use Rattle.su_where.specs.Truth.{comparisons_of}
 use Rattle.su_query.specs.declared.refs.Ref.{Ref as ARef}
 use Rattle.su_query.specs.declared.refs.NamedOperand.{NamedOperand}
 use Rattle.su_query.specs.declared.refs.NamedOperand.TheVariants.{Ref, Const}
-use Rattle.su_query.specs.declared.conditions.NamedCond.{NamedCond}
-use Rattle.su_query.specs.declared.conditions.NamedCond.TheOpen.{NamedCond-F, Compare, Not, All, Any}
-use Rattle.su_query.specs.declared.conditions.NamedCond.TheFolds.{fold-NamedCond}
+use Rattle.su_query.specs.declared.conditions.Comparison.{Comparison}
 use Rattle.su_query.specs.declared.statements.Query.{Query}
 
--- two sides and an operator
-pub record Comparison : Type 0 where
-  pub left : NamedOperand
-  pub op : Op
-  pub right : NamedOperand
-
--- the comparisons of a condition, where these are those of its parts
-abbrev pub comparisons_step : NamedCond-F (List Comparison) → List Comparison
-comparisons_step (Compare a o b) = record { left = a; op = o; right = b } ∷ []
-comparisons_step (Not part) = part
-comparisons_step (All parts) = flat_map (λ p. p) parts
-comparisons_step (Any parts) = flat_map (λ p. p) parts
-
--- the comparisons of a condition
-abbrev pub comparisons_of : NamedCond → List Comparison
-comparisons_of = fold-NamedCond (List Comparison) comparisons_step
+-- a condition over names
+abbrev pub NamedCond : Type 0
+NamedCond = Condition Comparison
 
 -- the ref, if the side is one
 abbrev pub refs_in : NamedOperand → List ARef

@@ -6,8 +6,7 @@ use Rattle.su_base.specs.Value.{kind_of}
 use Rattle.su_where.specs.declared.literals.Operand.{Operand}
 use Rattle.su_where.specs.declared.literals.Operand.TheVariants.{Place as At, Const}
 use Rattle.su_where.specs.declared.literals.Literal.{Literal}
-use Rattle.su_where.specs.declared.conditions.Cond.{Cond}
-use Rattle.su_where.specs.Truth.{comparisons_of, Fits}
+use Rattle.su_where.specs.Truth.{Cond, comparisons_of, Fits}
 use Rattle.su_schema.specs.SchemaValue.{SchemaValue, attribute_kinds}
 use Rattle.su_query.specs.declared.places.Place.{Place}
 use Rattle.su_query.specs.declared.resolving.Resolved.{Resolved}

@@ -2,8 +2,7 @@
 use Rattle.std.specs.Prelude.{◌≡◌, true, ◌⊎◌, ℕ, ◌<◌, ◌≤◌, List, [], ◌∷◌, length, map, None}
 use Rattle.std.specs.List.{AllByRecursion}
 use Rattle.su_lex.specs.declared.meaning.Symbol.{Symbol}
-use Rattle.su_query.specs.declared.conditions.NamedCond.{NamedCond}
-use Rattle.su_query.specs.declared.conditions.NamedCond.TheVariants.{All}
+use Rattle.su_where.specs.declared.conditions.Condition.TheVariants.{All}
 use Rattle.su_query.specs.declared.refs.Ref.{Ref}
 use Rattle.su_query.specs.declared.statements.Query.{Query}
 use Rattle.su_query.specs.declared.statements.Statement.{Statement}
@@ -14,7 +13,8 @@ use Rattle.su_query.specs.declared.faults.QueryLimit.TheVariants.{Nesting, Varia
 use Rattle.su_lex.specs.Symbols.{Symbols}
 use Rattle.su_query.specs.Nesting.{IsDeep}
 use Rattle.su_query.specs.Forms.{IsForm}
-use Rattle.su_query.specs.Mentions.{comparisons_of, refs_of, mentions, are_columns}
+use Rattle.su_where.specs.Truth.{comparisons_of}
+use Rattle.su_query.specs.Mentions.{NamedCond, refs_of, mentions, are_columns}
 use Rattle.su_query.specs.Shown.{statement_text}
 
 -- a name without a variable

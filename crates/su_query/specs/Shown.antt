@@ -9,9 +9,10 @@ use Rattle.su_lex.specs.Symbols.{spaced}
 use Rattle.su_query.specs.declared.refs.Ref.{Ref as ARef}
 use Rattle.su_query.specs.declared.refs.NamedOperand.{NamedOperand}
 use Rattle.su_query.specs.declared.refs.NamedOperand.TheVariants.{Ref, Const}
-use Rattle.su_query.specs.declared.conditions.NamedCond.{NamedCond}
-use Rattle.su_query.specs.declared.conditions.NamedCond.TheOpen.{NamedCond-F, Compare, Not, All, Any}
-use Rattle.su_query.specs.declared.conditions.NamedCond.TheFolds.{fold-NamedCond}
+use Rattle.su_query.specs.declared.conditions.Comparison.{Comparison}
+use Rattle.su_query.specs.Mentions.{NamedCond}
+use Rattle.su_where.specs.declared.conditions.Condition.TheOpen.{Condition-F, Compare, Not, All, Any}
+use Rattle.su_where.specs.declared.conditions.Condition.TheFolds.{fold-Condition}
 use Rattle.su_query.specs.declared.statements.Query.{Query}
 use Rattle.su_query.specs.declared.statements.Statement.{Statement}
 use Rattle.su_query.specs.declared.statements.Statement.TheVariants.{Insert, Delete, DeleteWhere, Load, Print, Schema, Closure, Retrieve, Explain, Certify, Support, Compare as Comparing, Window}
@@ -33,6 +34,10 @@ ref_symbols ref = qualified ref.variable (Word ref.attribute ∷ [])
 abbrev pub operand_symbols : NamedOperand → List Symbol
 operand_symbols (Ref ref) = ref_symbols ref
 operand_symbols (Const v) = value_symbols v
+
+-- the symbols of a comparison
+abbrev pub comparison_symbols : Comparison → List Symbol
+comparison_symbols k = operand_symbols k.left ++ op_sym k.op ∷ operand_symbols k.right
 
 -- with a comma between two
 abbrev pub listed : {A : Type 0} → (A → List Symbol) → List A → List Symbol
@@ -64,30 +69,30 @@ joined w (x ∷ []) = part x
 joined w (x ∷ y ∷ ys) = part x ++ w ∷ joined w (y ∷ ys)
 
 -- a condition from its parts, with its form
-abbrev pub shown_step : NamedCond-F ShownCond → ShownCond
-shown_step (Compare a o b) = record { many = false; compare = true; symbols = operand_symbols a ++ op_sym o ∷ operand_symbols b }
+abbrev pub shown_step : Condition-F Comparison ShownCond → ShownCond
+shown_step (Compare k) = record { many = false; compare = true; symbols = comparison_symbols k }
 shown_step (Not x) = record { many = false; compare = false; symbols = Word (codes "not") ∷ inner x }
 shown_step (All xs) = record { many = true; compare = false; symbols = joined (Word (codes "and")) xs }
 shown_step (Any xs) = record { many = true; compare = false; symbols = joined (Word (codes "or")) xs }
 
 -- the symbols of a condition, with its form
 abbrev pub shown_cond : NamedCond → ShownCond
-shown_cond = fold-NamedCond ShownCond shown_step
+shown_cond = fold-Condition Comparison ShownCond shown_step
 
 -- the symbols of a condition
 abbrev pub cond_symbols : NamedCond → List Symbol
 cond_symbols c = (shown_cond c).symbols
 
 -- the condition is an `and` of nothing
-abbrev pub nothing_step : NamedCond-F Bool → Bool
-nothing_step (Compare a o b) = false
+abbrev pub nothing_step : Condition-F Comparison Bool → Bool
+nothing_step (Compare k) = false
 nothing_step (Not x) = false
 nothing_step (All xs) = length xs == 0
 nothing_step (Any xs) = false
 
 -- whether a condition is all of nothing
 abbrev pub is_nothing : NamedCond → Bool
-is_nothing = fold-NamedCond Bool nothing_step
+is_nothing = fold-Condition Comparison Bool nothing_step
 
 -- all of nothing has no `where`
 abbrev pub where_symbols : NamedCond → List Symbol

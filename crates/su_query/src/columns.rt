@@ -1,17 +1,19 @@
 //! The names of a condition on a relation as numbers.
 ghost use Rattle.std.specs.Prelude.{◌≡◌, ◌<◌, ◌≤◌, true, length, IfOk, IfErr, OnOk};
-ghost use Rattle.su_query.specs.Mentions.{are_columns, comparisons_of};
+ghost use Rattle.su_where.specs.Truth.{comparisons_of};
+ghost use Rattle.su_query.specs.Mentions.{are_columns};
 ghost use Rattle.su_query.specs.Lookup.{with_columns, IsColumnCondition, IsColumnRefusal};
 ghost use Rattle.su_query.specs.Ranges.{IsOnColumns};
 
 use crate::conditions::NamedCond;
 use crate::faults::QueryFault;
-use crate::lookups::{differing_in, unknown_in};
+use crate::lookups::{differing_among, unknown_among};
+use crate::mentions::references;
 use crate::numbering::numbered;
 use crate::scopes::Scope;
 use std::alloc::Global;
 use su_schema::Schema;
-use su_where::Cond;
+use su_where::{Cond, comparisons};
 
 /// The condition with the numbers of the relation's columns.
 ///
@@ -30,11 +32,13 @@ pub fn resolve_columns(
     ensures in_range { IfOk result (λ c. IsOnColumns schema.now relation c) }
     ensures refused { IfErr result (IsColumnRefusal schema.now relation cond.now) }
 {
-    match unknown_in(alloc, schema, Scope::Columns(relation), cond)? {
+    let refs = references(alloc, &[], cond)?;
+    match unknown_among(alloc, schema, Scope::Columns(relation), refs.as_slice())? {
         Some(name) => return Err(QueryFault::UnknownColumn(name)),
         None => {}
     }
-    match differing_in(schema, Scope::Columns(relation), cond) {
+    let compared = comparisons(alloc, cond)?;
+    match differing_among(schema, Scope::Columns(relation), compared.as_slice()) {
         Some((left, right)) => return Err(QueryFault::Kinds { left, right }),
         None => {}
     }

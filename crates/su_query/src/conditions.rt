@@ -1,17 +1,25 @@
 //! Conditions over names.
 use crate::refs::NamedOperand;
-use su_base::{Boxed, List};
-use su_where::Op;
+use su_where::{Condition, Op};
 
-/// Comparisons under not, all of and any of.
-#[derive(Debug, Drop)]
-pub enum NamedCond {
-    Compare {
-        left: NamedOperand,
-        op: Op,
-        right: NamedOperand,
-    },
-    Not(Boxed<NamedCond>),
-    All(List<NamedCond>),
-    Any(List<NamedCond>),
+/// One comparison.
+#[derive(Debug)]
+pub struct Comparison {
+    pub left: NamedOperand,
+    pub op: Op,
+    pub right: NamedOperand,
 }
+
+/// Not derived, so that it is a single call wherever a comparison goes out of scope.
+impl Drop for Comparison {
+    fn drop(self) {
+        let Comparison {
+            left: _,
+            op: _,
+            right: _,
+        } = self;
+    }
+}
+
+/// Comparisons of attributes and values under not, all of and any of.
+pub type NamedCond = Condition<Comparison>;

@@ -5,9 +5,9 @@ ghost use Rattle.su_query.specs.Grammar.{ReadsCond, ReadsConj, ReadsFactor, Read
 ghost use Rattle.su_query.specs.Lists.{begins_word};
 ghost use Rattle.su_lex.specs.declared.meaning.Symbol.{Symbol as ASymbol};
 ghost use Rattle.su_query.specs.declared.refs.NamedOperand.{NamedOperand as AnOperand};
-ghost use Rattle.su_query.specs.declared.conditions.NamedCond.{NamedCond as ACond};
+ghost use Rattle.su_query.specs.Mentions.{NamedCond as ACond};
 
-use crate::conditions::NamedCond;
+use crate::conditions::{Comparison, NamedCond};
 use crate::lists::{reference, value};
 use crate::refs::NamedOperand;
 use su_base::{Boxed, List};
@@ -123,7 +123,7 @@ fn comparison(reader: &mut Reader) -> Result<NamedCond, LexEnd>
     let left = operand(reader)?;
     let op = operator(reader)?;
     let right = operand(reader)?;
-    Ok(NamedCond::Compare { left, op, right })
+    Ok(NamedCond::Compare(Comparison { left, op, right }))
 }
 
 fn operator(reader: &mut Reader) -> Result<Op, LexEnd>

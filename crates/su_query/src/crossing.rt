@@ -1,5 +1,5 @@
 //! Every public type may be moved to another thread and shared between threads.
-use crate::conditions::NamedCond;
+use crate::conditions::{Comparison, NamedCond};
 use crate::faults::{QueryFault, QueryLimit};
 use crate::places::Place;
 use crate::refs::{NamedOperand, Ref};
@@ -10,6 +10,7 @@ use su_base::crosses_threads;
 fn types_cross_threads() {
     crosses_threads::<Ref>();
     crosses_threads::<NamedOperand>();
+    crosses_threads::<Comparison>();
     crosses_threads::<NamedCond>();
     crosses_threads::<Query>();
     crosses_threads::<Statement>();

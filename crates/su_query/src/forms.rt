@@ -4,7 +4,7 @@ ghost use Rattle.su_base.specs.declared.values.Value.{Value as AValue};
 ghost use Rattle.su_lex.specs.declared.meaning.Symbol.{Symbol as ASymbol};
 ghost use Rattle.su_query.specs.Lists.{opens_second};
 ghost use Rattle.su_query.specs.Forms.{RowForm, ConditionForm, FileForm, NamesForm, ReadsWhere, ReadsQuery, ReadsEnclosed, PairForm, QueryForm, IsForm};
-ghost use Rattle.su_query.specs.declared.conditions.NamedCond.{NamedCond as ACond};
+ghost use Rattle.su_query.specs.Mentions.{NamedCond as ACond};
 ghost use Rattle.su_query.specs.declared.statements.Query.{Query as AQuery};
 ghost use Rattle.su_query.specs.declared.statements.Statement.{Statement as AStatement};
 
@@ -38,7 +38,7 @@ fn condition_form(reader: &mut Reader) -> Result<(Str, NamedCond), LexEnd>
     reader.expect_word("where")?;
     let cond = cond(reader)?;
     expect_end(reader)?;
-    if !are_columns(&cond) {
+    if !are_columns(reader.alloc(), &cond)? {
         return Err(LexEnd::Syntax);
     }
     Ok((relation, cond))

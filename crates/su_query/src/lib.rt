@@ -30,7 +30,7 @@ mod showing;
 mod statements;
 
 pub use columns::resolve_columns;
-pub use conditions::NamedCond;
+pub use conditions::{Comparison, NamedCond};
 pub use faults::{QueryFault, QueryLimit};
 pub use places::Place;
 pub use reading::{read, statement_of};

@@ -1,25 +1,24 @@
 //! The limits of a statement: 8 variables, 128 outputs, 256 comparisons, tried in this order.
 ghost use Rattle.std.specs.Prelude.{◌≡◌, ◌<◌, ◌≤◌, true, false, [], map, OnOk, IfOk, IfErr};
-ghost use Rattle.su_query.specs.declared.conditions.NamedCond.TheVariants.{All};
+ghost use Rattle.su_where.specs.declared.conditions.Condition.TheVariants.{All};
 ghost use Rattle.su_query.specs.Reading.{AreFew, HasFew, Passes, PartsPass, plain_ref, variable_count, parts_of};
 
 use crate::conditions::NamedCond;
 use crate::faults::{QueryFault, QueryLimit};
-use crate::mentions::{comparison_count, note_cond, note_refs};
+use crate::mentions::{note_refs, references};
 use crate::refs::Ref;
 use crate::statements::{Query, Statement};
 use std::alloc::Global;
 use su_base::{List, NoMemory, Str};
+use su_where::comparisons;
 
 fn has_few_variables(alloc: Global, outputs: &[Ref], cond: &NamedCond) -> Result<bool, NoMemory>
     ensures few { IfOk result (λ few. few ≡ true → variable_count outputs.now cond.now ≤ 8) }
     ensures many { IfOk result (λ few. few ≡ false → 8 < variable_count outputs.now cond.now) }
 {
+    let refs = references(alloc, outputs, cond)?;
     let mut seen = List::new(alloc);
-    if !note_refs(alloc, &mut seen, outputs)? {
-        return Ok(false);
-    }
-    note_cond(alloc, &mut seen, cond)
+    note_refs(alloc, &mut seen, refs.as_slice())
 }
 
 fn check(alloc: Global, outputs: &[Ref], cond: &NamedCond) -> Result<(), QueryFault>
@@ -32,7 +31,7 @@ fn check(alloc: Global, outputs: &[Ref], cond: &NamedCond) -> Result<(), QueryFa
     if outputs.len() > 128 {
         return Err(QueryFault::Limit(QueryLimit::Outputs));
     }
-    if comparison_count(cond) > 256 {
+    if comparisons(alloc, cond)?.len() > 256 {
         return Err(QueryFault::Limit(QueryLimit::Comparisons));
     }
     Ok(())

@@ -1,14 +1,11 @@
-//! The first unknown name of a condition, and its first comparison of two kinds.
-ghost use Rattle.std.specs.Prelude.{◌≡◌, Some, None, IfOk, flat_map, if◌then◌else◌};
-ghost use Rattle.su_base.specs.Value.{same_kind};
-ghost use Rattle.su_query.specs.Mentions.{Comparison, comparisons_of, refs_in, refs_of};
+//! The first unknown name of a list of refs, and the first comparison of two kinds.
+ghost use Rattle.std.specs.Prelude.{◌≡◌, Some, None, map, IfOk, ◌∷◌, []};
 ghost use Rattle.su_query.specs.Lookup.{IsScope, names_in, first_unknown, differing_kinds};
 
-use crate::conditions::NamedCond;
-use crate::refs::{NamedOperand, Ref};
+use crate::conditions::Comparison;
+use crate::refs::Ref;
 use crate::scopes::{Scope, find, kind};
 use std::alloc::Global;
-use std::slice;
 use su_base::{Kind, NoMemory, Str};
 use su_schema::Schema;
 
@@ -17,10 +14,10 @@ pub(crate) fn unknown_among(
     alloc: Global,
     schema: &Schema,
     scope: Scope,
-    references: &[Ref],
+    references: &[&Ref],
 ) -> Result<Option<Str>, NoMemory>
     requires { IsScope schema.now scope }
-    ensures { IfOk result (λ o. o ≡ first_unknown (names_in schema.now scope) references.now) }
+    ensures { IfOk result (λ o. o ≡ first_unknown (names_in schema.now scope) (map (λ r. r.now) references.now)) }
 {
     for reference in references {
         if find(schema, scope, reference.attribute.as_str()).is_none() {
@@ -30,71 +27,12 @@ pub(crate) fn unknown_among(
     Ok(None)
 }
 
-fn unknown_operand(
-    alloc: Global,
-    schema: &Schema,
-    scope: Scope,
-    operand: &NamedOperand,
-) -> Result<Option<Str>, NoMemory>
+fn differing(schema: &Schema, scope: Scope, comparison: &Comparison) -> Option<(Kind, Kind)>
     requires { IsScope schema.now scope }
-    ensures { IfOk result (λ o. o ≡ first_unknown (names_in schema.now scope) (refs_in operand.now)) }
+    ensures { result ≡ differing_kinds schema.now scope (comparison.now ∷ []) }
 {
-    match operand {
-        NamedOperand::Ref(reference) => {
-            unknown_among(alloc, schema, scope, slice::from_ref(reference))
-        }
-        NamedOperand::Const(_) => Ok(None),
-    }
-}
-
-/// The first name of the condition that is not known, as a copy.
-#[cycle(unknown)]
-#[tactic(auto, using(crate::proofs::Found::layers))]
-pub(crate) fn unknown_in(
-    alloc: Global,
-    schema: &Schema,
-    scope: Scope,
-    cond: &NamedCond,
-) -> Result<Option<Str>, NoMemory>
-    requires { IsScope schema.now scope }
-    ensures { IfOk result (λ o. o ≡ first_unknown (names_in schema.now scope) (refs_of cond.now)) }
-{
-    match cond {
-        NamedCond::Compare { left, op: _, right } => match unknown_operand(
-            alloc, schema, scope, left,
-        )? {
-            Some(name) => Ok(Some(name)),
-            None => unknown_operand(alloc, schema, scope, right),
-        },
-        NamedCond::Not(part) => unknown_in(alloc, schema, scope, part.get()),
-        NamedCond::All(parts) => unknown_in_all(alloc, schema, scope, parts.as_slice()),
-        NamedCond::Any(parts) => unknown_in_all(alloc, schema, scope, parts.as_slice()),
-    }
-}
-
-#[cycle(unknown)]
-#[tactic(auto, using(crate::proofs::Found::layers))]
-fn unknown_in_all(
-    alloc: Global,
-    schema: &Schema,
-    scope: Scope,
-    parts: &[NamedCond],
-) -> Result<Option<Str>, NoMemory>
-    requires { IsScope schema.now scope }
-    ensures { IfOk result (λ o. o ≡ first_unknown (names_in schema.now scope) (flat_map refs_of parts.now)) }
-{
-    for part in parts {
-        match unknown_in(alloc, schema, scope, part)? {
-            Some(name) => return Ok(Some(name)),
-            None => {}
-        }
-    }
-    Ok(None)
-}
-
-fn differing(left: Kind, right: Kind) -> Option<(Kind, Kind)>
-    ensures { result ≡ (if same_kind left right then None else Some (left, right)) }
-{
+    let left = kind(schema, scope, &comparison.left);
+    let right = kind(schema, scope, &comparison.right);
     if left == right {
         None
     } else {
@@ -102,32 +40,17 @@ fn differing(left: Kind, right: Kind) -> Option<(Kind, Kind)>
     }
 }
 
-/// The kinds of the first comparison of the condition whose sides differ in kind.
-#[cycle(differing)]
-#[tactic(auto, using(crate::proofs::Found::layers))]
-pub(crate) fn differing_in(schema: &Schema, scope: Scope, cond: &NamedCond) -> Option<(Kind, Kind)>
+/// The kinds of the first of the comparisons whose sides differ in kind.
+pub(crate) fn differing_among(
+    schema: &Schema,
+    scope: Scope,
+    compared: &[&Comparison],
+) -> Option<(Kind, Kind)>
     requires { IsScope schema.now scope }
-    ensures { result ≡ differing_kinds schema.now scope (comparisons_of cond.now) }
+    ensures { result ≡ differing_kinds schema.now scope (map (λ c. c.now) compared.now) }
 {
-    match cond {
-        NamedCond::Compare { left, op: _, right } => differing(
-            kind(schema, scope, left),
-            kind(schema, scope, right),
-        ),
-        NamedCond::Not(part) => differing_in(schema, scope, part.get()),
-        NamedCond::All(parts) => differing_in_all(schema, scope, parts.as_slice()),
-        NamedCond::Any(parts) => differing_in_all(schema, scope, parts.as_slice()),
-    }
-}
-
-#[cycle(differing)]
-#[tactic(auto, using(crate::proofs::Found::layers))]
-fn differing_in_all(schema: &Schema, scope: Scope, parts: &[NamedCond]) -> Option<(Kind, Kind)>
-    requires { IsScope schema.now scope }
-    ensures { result ≡ differing_kinds schema.now scope (flat_map comparisons_of parts.now) }
-{
-    for part in parts {
-        match differing_in(schema, scope, part) {
+    for comparison in compared {
+        match differing(schema, scope, *comparison) {
             Some(kinds) => return Some(kinds),
             None => {}
         }

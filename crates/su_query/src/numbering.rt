@@ -1,8 +1,8 @@
 //! Refs as numbers: of places among the attributes, of columns in a relation.
 ghost use Rattle.std.specs.Prelude.{◌≡◌, ◌<◌, ◌≤◌, length, map, IfOk};
-ghost use Rattle.su_query.specs.Lookup.{IsScope, names_in, number_among, number_in, numbered, numbered_operand};
+ghost use Rattle.su_query.specs.Lookup.{IsScope, literal_of, names_in, number_among, number_in, numbered, numbered_operand};
 
-use crate::conditions::NamedCond;
+use crate::conditions::{Comparison, NamedCond};
 use crate::places::{Place, find_place, place_of};
 use crate::refs::{NamedOperand, Ref};
 use crate::scopes::{Scope, find};
@@ -79,6 +79,26 @@ fn numbered_operand(
     }
 }
 
+fn literal(
+    alloc: Global,
+    schema: &Schema,
+    scope: Scope,
+    variables: &[Option<Str>],
+    places: &[Place],
+    comparison: &Comparison,
+) -> Result<Literal, NoMemory>
+    requires scope { IsScope schema.now scope }
+    requires variables { length variables.now ≤ 8 }
+    requires places { length places.now ≤ 640 }
+    ensures { IfOk result (λ l. l ≡ literal_of (number_in schema.now scope variables.now places.now) comparison.now) }
+{
+    Ok(Literal {
+        left: numbered_operand(alloc, schema, scope, variables, places, &comparison.left)?,
+        op: comparison.op,
+        right: numbered_operand(alloc, schema, scope, variables, places, &comparison.right)?,
+    })
+}
+
 /// The condition with a number in place of each ref. In the scope of a relation's columns, variables and
 /// places are not looked at.
 #[cycle(numbered)]
@@ -97,15 +117,9 @@ pub(crate) fn numbered(
     ensures { IfOk result (λ c. c ≡ numbered (number_in schema.now scope variables.now places.now) cond.now) }
 {
     match cond {
-        NamedCond::Compare { left, op, right } => {
-            let left = numbered_operand(alloc, schema, scope, variables, places, left)?;
-            let right = numbered_operand(alloc, schema, scope, variables, places, right)?;
-            Ok(Cond::Compare(Literal {
-                left,
-                op: *op,
-                right,
-            }))
-        }
+        NamedCond::Compare(comparison) => Ok(Cond::Compare(literal(
+            alloc, schema, scope, variables, places, comparison,
+        )?)),
         NamedCond::Not(part) => Ok(Cond::Not(Boxed::new(
             alloc,
             numbered(alloc, schema, scope, variables, places, part.get())?,

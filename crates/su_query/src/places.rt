@@ -1,12 +1,11 @@
 //! Places: a variable and an attribute, by their numbers.
-ghost use Rattle.std.specs.Prelude.{◌≡◌, ◌≤◌, [], ◌∷◌, ◌++◌, length, position, unwrap_or, flat_map, if◌then◌else◌, OnOk};
+ghost use Rattle.std.specs.Prelude.{◌≡◌, ◌≤◌, [], ◌∷◌, ◌++◌, length, position, unwrap_or, map, if◌then◌else◌, OnOk};
 ghost use Rattle.std.specs.List.{list_any};
-ghost use Rattle.su_query.specs.Mentions.{same_variable, refs_in, refs_of};
+ghost use Rattle.su_query.specs.Mentions.{same_variable};
 ghost use Rattle.su_query.specs.Lookup.{place_in, same_place, places_of};
 
-use crate::conditions::NamedCond;
 use crate::mentions::is_same;
-use crate::refs::{NamedOperand, Ref};
+use crate::refs::Ref;
 use su_base::{List, NoMemory, Str};
 use su_schema::Schema;
 
@@ -83,67 +82,13 @@ pub(crate) fn note_refs(
     schema: &Schema,
     variables: &[Option<Str>],
     seen: &mut List<Place>,
-    references: &[Ref],
+    references: &[&Ref],
 ) -> Result<(), NoMemory>
     requires { length variables.now ≤ 8 }
-    ensures { OnOk result (seen.new ≡ places_of schema.now variables.now seen.old references.now) }
+    ensures { OnOk result (seen.new ≡ places_of schema.now variables.now seen.old (map (λ r. r.now) references.now)) }
 {
     for reference in references {
-        note(seen, place_of(schema, variables, reference))?;
-    }
-    Ok(())
-}
-
-fn note_operand(
-    schema: &Schema,
-    variables: &[Option<Str>],
-    seen: &mut List<Place>,
-    operand: &NamedOperand,
-) -> Result<(), NoMemory>
-    requires { length variables.now ≤ 8 }
-    ensures { OnOk result (seen.new ≡ places_of schema.now variables.now seen.old (refs_in operand.now)) }
-{
-    match operand {
-        NamedOperand::Ref(reference) => note(seen, place_of(schema, variables, reference)),
-        NamedOperand::Const(_) => Ok(()),
-    }
-}
-
-/// The same for the refs of a condition.
-#[cycle(places)]
-#[tactic(auto, using(crate::proofs::Placed::layers))]
-pub(crate) fn note_cond(
-    schema: &Schema,
-    variables: &[Option<Str>],
-    seen: &mut List<Place>,
-    cond: &NamedCond,
-) -> Result<(), NoMemory>
-    requires { length variables.now ≤ 8 }
-    ensures { OnOk result (seen.new ≡ places_of schema.now variables.now seen.old (refs_of cond.now)) }
-{
-    match cond {
-        NamedCond::Compare { left, op: _, right } => {
-            note_operand(schema, variables, seen, left)?;
-            note_operand(schema, variables, seen, right)
-        }
-        NamedCond::Not(part) => note_cond(schema, variables, seen, part.get()),
-        NamedCond::All(parts) => note_conds(schema, variables, seen, parts.as_slice()),
-        NamedCond::Any(parts) => note_conds(schema, variables, seen, parts.as_slice()),
-    }
-}
-
-#[cycle(places)]
-fn note_conds(
-    schema: &Schema,
-    variables: &[Option<Str>],
-    seen: &mut List<Place>,
-    parts: &[NamedCond],
-) -> Result<(), NoMemory>
-    requires { length variables.now ≤ 8 }
-    ensures { OnOk result (seen.new ≡ places_of schema.now variables.now seen.old (flat_map refs_of parts.now)) }
-{
-    for part in parts {
-        note_cond(schema, variables, seen, part)?;
+        note(seen, place_of(schema, variables, *reference))?;
     }
     Ok(())
 }

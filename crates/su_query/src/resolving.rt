@@ -1,15 +1,15 @@
 //! Queries over numbers.
-ghost use Rattle.su_query.specs.Lookup.{first_unknown, resolved_of, IsKnownQuery, IsQueryRefusal};
+ghost use Rattle.su_query.specs.Lookup.{resolved_of, IsKnownQuery, IsQueryRefusal};
 ghost use Rattle.std.specs.Prelude.{◌≡◌, ◌≤◌, [], None, length, map, IfOk, IfErr, OnOk, MatchOption};
-ghost use Rattle.su_schema.specs.SchemaValue.{attribute_names};
 ghost use Rattle.su_query.specs.inside.Faults.{IsFirstFault};
-ghost use Rattle.su_query.specs.Mentions.{variables_of, all_refs};
+ghost use Rattle.su_query.specs.Mentions.{mentions, all_refs};
 ghost use Rattle.su_query.specs.Reading.{AreFew};
 ghost use Rattle.su_query.specs.Lookup.{number_in, places_of};
 ghost use Rattle.su_query.specs.Ranges.{IsResolved};
 
 use crate::faults::QueryFault;
-use crate::lookups::{differing_in, unknown_among, unknown_in};
+use crate::lookups::{differing_among, unknown_among};
+use crate::mentions::references;
 use crate::numbering::{number, numbered};
 use crate::places::Place;
 use crate::refs::Ref;
@@ -19,7 +19,7 @@ use crate::{mentions, places};
 use std::alloc::Global;
 use su_base::{Kind, List, NoMemory, Str};
 use su_schema::Schema;
-use su_where::Cond;
+use su_where::{Cond, comparisons};
 
 /// A query whose names are numbers. Variables and places stand in the order of their first mention,
 /// the outputs first; an output and a `Place` of the condition are the number of a place.
@@ -49,17 +49,6 @@ fn numbers(
     Ok(numbers)
 }
 
-/// The first name of the query that is no attribute, as a copy: among the outputs, then in the
-/// condition.
-fn unknown_of(alloc: Global, schema: &Schema, query: &Query) -> Result<Option<Str>, NoMemory>
-    ensures { IfOk result (λ o. o ≡ first_unknown (attribute_names schema.now) (all_refs query.now)) }
-{
-    match unknown_among(alloc, schema, Scope::Attributes, query.outputs.as_slice())? {
-        Some(name) => Ok(Some(name)),
-        None => unknown_in(alloc, schema, Scope::Attributes, &query.cond),
-    }
-}
-
 /// What a query with this unknown name and with this comparison of two kinds is refused for.
 fn refusal(unknown: Option<Str>, kinds: Option<(Kind, Kind)>) -> Option<QueryFault>
     ensures { MatchOption result ((unknown ≡ None) × (kinds ≡ None)) (IsFirstFault unknown kinds) }
@@ -82,51 +71,51 @@ pub fn resolve(alloc: Global, schema: &Schema, query: &Query) -> Result<Resolved
     ensures in_range { IfOk result (λ r. IsResolved schema.now r) }
     ensures refused { IfErr result (IsQueryRefusal schema.now query.now) }
 {
-    let unknown = unknown_of(alloc, schema, query)?;
-    let kinds = differing_in(schema, Scope::Attributes, &query.cond);
+    let refs = references(alloc, query.outputs.as_slice(), &query.cond)?;
+    let unknown = unknown_among(alloc, schema, Scope::Attributes, refs.as_slice())?;
+    let compared = comparisons(alloc, &query.cond)?;
+    let kinds = differing_among(schema, Scope::Attributes, compared.as_slice());
     match refusal(unknown, kinds) {
         Some(fault) => Err(fault),
-        None => Ok(made(alloc, schema, query)?),
+        None => Ok(made(alloc, schema, query, refs.as_slice())?),
     }
 }
 
-/// The variables of the query, which are at most 8.
-fn variables(alloc: Global, query: &Query) -> Result<List<Option<Str>>, NoMemory>
-    requires { length (variables_of query.now) ≤ 8 }
-    ensures { IfOk result (λ vs. vs ≡ variables_of query.now) }
+/// The variables of the refs, which are at most 8.
+fn variables(alloc: Global, refs: &[&Ref]) -> Result<List<Option<Str>>, NoMemory>
+    requires { length (mentions [] (map (λ r. r.now) refs.now)) ≤ 8 }
+    ensures { IfOk result (λ vs. vs ≡ mentions [] (map (λ r. r.now) refs.now)) }
 {
     let mut seen = List::new(alloc);
-    if !mentions::note_refs(alloc, &mut seen, query.outputs.as_slice())? {
-        unreachable!();
-    }
-    if !mentions::note_cond(alloc, &mut seen, &query.cond)? {
+    if !mentions::note_refs(alloc, &mut seen, refs)? {
         unreachable!();
     }
     Ok(seen)
 }
 
-/// The places of the query.
+/// The places of the refs.
 fn places_of(
     alloc: Global,
     schema: &Schema,
     variables: &[Option<Str>],
-    query: &Query,
+    refs: &[&Ref],
 ) -> Result<List<Place>, NoMemory>
     requires { length variables.now ≤ 8 }
-    ensures { IfOk result (λ ps. ps ≡ places_of schema.now variables.now [] (all_refs query.now)) }
+    ensures { IfOk result (λ ps. ps ≡ places_of schema.now variables.now [] (map (λ r. r.now) refs.now)) }
 {
     let mut seen = List::new(alloc);
-    places::note_refs(schema, variables, &mut seen, query.outputs.as_slice())?;
-    places::note_cond(schema, variables, &mut seen, &query.cond)?;
+    places::note_refs(schema, variables, &mut seen, refs)?;
     Ok(seen)
 }
 
-fn made(alloc: Global, schema: &Schema, query: &Query) -> Result<Resolved, NoMemory>
-    requires { AreFew query.now.outputs query.now.cond }
+/// The query over numbers, with all its refs.
+fn made(alloc: Global, schema: &Schema, query: &Query, refs: &[&Ref]) -> Result<Resolved, NoMemory>
+    requires few { AreFew query.now.outputs query.now.cond }
+    requires refs { map (λ r. r.now) refs.now ≡ all_refs query.now }
     ensures { IfOk result (λ r. r ≡ resolved_of schema.now query.now) }
 {
-    let variables = variables(alloc, query)?;
-    let places = places_of(alloc, schema, variables.as_slice(), query)?;
+    let variables = variables(alloc, refs)?;
+    let places = places_of(alloc, schema, variables.as_slice(), refs)?;
     let outputs = numbers(
         alloc,
         schema,

@@ -2,9 +2,9 @@
 ghost use Rattle.std.specs.Prelude.{◌≡◌, [], ◌∷◌, ◌++◌, map, IfOk, OnOk};
 ghost use Rattle.su_lex.specs.Symbols.{spaced};
 ghost use Rattle.su_query.specs.Reading.{ReadsAgain};
-ghost use Rattle.su_query.specs.Shown.{cond_symbols, in_parens, is_nothing, joined, listed, name_symbols, query_symbols, query_text, shown_cond, statement_symbols, statement_text, value_symbols, where_symbols};
+ghost use Rattle.su_query.specs.Shown.{comparison_symbols, cond_symbols, in_parens, is_nothing, joined, listed, name_symbols, query_symbols, query_text, shown_cond, statement_symbols, statement_text, value_symbols, where_symbols};
 
-use crate::conditions::NamedCond;
+use crate::conditions::{Comparison, NamedCond};
 use crate::pushing::{
     push_names, push_op, push_operand, push_refs, push_sign_if, push_values, push_word_if,
 };
@@ -18,7 +18,7 @@ fn is_many(cond: &NamedCond) -> bool
 {
     match cond {
         NamedCond::All(_) | NamedCond::Any(_) => true,
-        NamedCond::Not(_) | NamedCond::Compare { .. } => false,
+        NamedCond::Not(_) | NamedCond::Compare(_) => false,
     }
 }
 
@@ -26,7 +26,7 @@ fn is_compare(cond: &NamedCond) -> bool
     ensures { result ≡ (shown_cond cond.now).compare }
 {
     match cond {
-        NamedCond::Compare { .. } => true,
+        NamedCond::Compare(_) => true,
         NamedCond::Not(_) | NamedCond::All(_) | NamedCond::Any(_) => false,
     }
 }
@@ -36,8 +36,20 @@ fn is_nothing(cond: &NamedCond) -> bool
 {
     match cond {
         NamedCond::All(parts) => parts.is_empty(),
-        NamedCond::Compare { .. } | NamedCond::Not(_) | NamedCond::Any(_) => false,
+        NamedCond::Compare(_) | NamedCond::Not(_) | NamedCond::Any(_) => false,
     }
+}
+
+fn push_comparison(
+    alloc: Global,
+    out: &mut List<Symbol>,
+    comparison: &Comparison,
+) -> Result<(), NoMemory>
+    ensures { OnOk result (out.new ≡ out.old ++ comparison_symbols comparison.now) }
+{
+    push_operand(alloc, out, &comparison.left)?;
+    push_op(out, comparison.op)?;
+    push_operand(alloc, out, &comparison.right)
 }
 
 /// Parentheses stand round parts that are themselves all or any of parts, and behind `not` round
@@ -47,11 +59,7 @@ fn push_cond(alloc: Global, out: &mut List<Symbol>, cond: &NamedCond) -> Result<
     ensures { OnOk result (out.new ≡ out.old ++ cond_symbols cond.now) }
 {
     match cond {
-        NamedCond::Compare { left, op, right } => {
-            push_operand(alloc, out, left)?;
-            push_op(out, *op)?;
-            push_operand(alloc, out, right)
-        }
+        NamedCond::Compare(comparison) => push_comparison(alloc, out, comparison),
         NamedCond::Not(part) => {
             push_word(alloc, out, "not")?;
             let wrapped = !is_compare(part.get());

@@ -12,9 +12,10 @@ use Rattle.su_schema.specs.SchemaValue.{SchemaValue, column_names, place_of}
 use Rattle.su_schema.specs.Checks.{columns_at}
 use Rattle.su_query.specs.declared.refs.NamedOperand.{NamedOperand}
 use Rattle.su_query.specs.declared.refs.NamedOperand.TheVariants.{Ref, Const}
-use Rattle.su_query.specs.declared.conditions.NamedCond.{NamedCond}
-use Rattle.su_query.specs.declared.conditions.NamedCond.TheOpen.{NamedCond-F, Compare, Not, All, Any}
-use Rattle.su_query.specs.declared.conditions.NamedCond.TheFolds.{fold-NamedCond}
+use Rattle.su_query.specs.Mentions.{NamedCond}
+use Rattle.su_where.specs.declared.conditions.Condition.TheOpen.{Condition-F, Compare, Not, All, Any}
+use Rattle.su_where.specs.declared.conditions.Condition.TheFolds.{fold-Condition}
+use Rattle.su_query.specs.declared.conditions.Comparison.{Comparison}
 use Rattle.su_sql.specs.declared.dialects.Dialect.{Dialect}
 use Rattle.su_sql.specs.Texts.{led, name_text, column_kind, relation_text, column_text, value_text, collation, kind_text, operator_text}
 use Rattle.su_sql.specs.Queries.{order_text}
@@ -68,15 +69,15 @@ many_text none word [] = none
 many_text none word parts = led (codes "(") word parts ++ codes ")"
 
 -- a condition from the texts of its parts
-abbrev pub condition_step : Dialect → SchemaValue → ℕ → NamedCond-F (List ℕ) → List ℕ
-condition_step d schema r (Compare left op right) = side_text d left ++ operator_text op ++ side_text d right ++ collation d (side_kind schema r right)
+abbrev pub condition_step : Dialect → SchemaValue → ℕ → Condition-F Comparison (List ℕ) → List ℕ
+condition_step d schema r (Compare k) = side_text d k.left ++ operator_text k.op ++ side_text d k.right ++ collation d (side_kind schema r k.right)
 condition_step d schema r (Not part) = codes "not (" ++ part ++ codes ")"
 condition_step d schema r (All parts) = many_text (codes "1 = 1") (codes " and ") parts
 condition_step d schema r (Any parts) = many_text (codes "1 = 0") (codes " or ") parts
 
 -- the text of a condition
 abbrev pub condition_text : Dialect → SchemaValue → ℕ → NamedCond → List ℕ
-condition_text d schema r = fold-NamedCond (List ℕ) (condition_step d schema r)
+condition_text d schema r = fold-Condition Comparison (List ℕ) (condition_step d schema r)
 
 -- the rows go out of which the condition is true
 abbrev pub delete_where_text : Dialect → SchemaValue → ℕ → NamedCond → List ℕ

@@ -64,11 +64,12 @@ pub(crate) fn push_condition(
     ensures { OnOk result (out.new.items ≡ out.old.items ++ condition_text dialect schema.now relation cond.now) }
 {
     match cond {
-        NamedCond::Compare { left, op, right } => {
-            push_side(alloc, out, dialect, left)?;
-            push(out, operator(*op))?;
-            push_side(alloc, out, dialect, right)?;
-            push(out, collation(dialect, kind_of(schema, relation, right)))
+        NamedCond::Compare(comparison) => {
+            push_side(alloc, out, dialect, &comparison.left)?;
+            push(out, operator(comparison.op))?;
+            push_side(alloc, out, dialect, &comparison.right)?;
+            let kind = kind_of(schema, relation, &comparison.right);
+            push(out, collation(dialect, kind))
         }
         NamedCond::Not(part) => {
             push(out, "not (")?;

@@ -10,8 +10,7 @@ use Rattle.su_base.specs.Value.{kind_of, compare_lists}
 use Rattle.su_fd.specs.declared.dependencies.Fd.{Fd}
 use Rattle.su_rel.specs.Changes.{TakenOut}
 use Rattle.su_schema.specs.SchemaValue.{SchemaValue, ObjectEntry}
-use Rattle.su_where.specs.declared.conditions.Cond.{Cond}
-use Rattle.su_where.specs.Truth.{truth_of}
+use Rattle.su_where.specs.Truth.{Cond, truth_of}
 use Rattle.su_state.specs.declared.faults.StateFault.{StateFault}
 use Rattle.su_state.specs.declared.faults.StateFault.TheVariants.{UnknownRelation, Width, Kind, Breaks, Limit, NoMemory}
 use Rattle.su_state.specs.DatabaseValue.{DatabaseValue, table_of, rows_of, columns_of, IsTyped, Break, IsAtMost}

@@ -2,11 +2,11 @@
 use Rattle.std.proofs.Common.{Bool, true, false, not, List, [], ◌∷◌, ◌++◌, map, sym, subst}
 use Rattle.std.specs.List.{AllByRecursion, flat_map}
 use Rattle.su_where.specs.declared.literals.Literal.{Literal}
-use Rattle.su_where.specs.declared.conditions.Cond.{Cond, roll-Cond}
-use Rattle.su_where.specs.declared.conditions.Cond.TheOpen as open'
-use Rattle.su_where.specs.declared.conditions.Cond.TheVariants.{Compare, Not, All, Any, rolls-Compare, rolls-Not, rolls-All, rolls-Any}
-use Rattle.su_where.specs.declared.conditions.Cond.TheFolds.{map-Cond, ind-Cond}
-use Rattle.su_where.specs.Truth.{comparisons_of}
+use Rattle.su_where.specs.declared.conditions.Condition.{roll-Condition}
+use Rattle.su_where.specs.declared.conditions.Condition.TheOpen as open'
+use Rattle.su_where.specs.declared.conditions.Condition.TheVariants.{Compare, Not, All, Any, rolls-Compare, rolls-Not, rolls-All, rolls-Any}
+use Rattle.su_where.specs.declared.conditions.Condition.TheFolds.{map-Condition, ind-Condition}
+use Rattle.su_where.specs.Truth.{Cond, comparisons_of}
 use Rattle.su_where.specs.Disjunct.{opposite_of, pairs_of, combinations_of, joined, form_of, disjuncts_of}
 use Rattle.su_where.proofs.Layers.{comparisons_of-Compare, comparisons_of-Not, comparisons_of-All, comparisons_of-Any}
 use Rattle.su_where.proofs.Disjunctive.{forms, form_of-Compare, form_of-Not, form_of-All, form_of-Any}
@@ -59,14 +59,14 @@ module _ (P : Literal → Type 0) (turned : (l : Literal) → P l → P (opposit
   kept_Any es true h = subst AllIn (sym (form_of-Any (parts es) true)) (all_combinations (forms true (parts es)) (kept_parts true es (subst (AllByRecursion P) (comparisons_of-Any (parts es)) h)))
   kept_Any es false h = subst AllIn (sym (form_of-Any (parts es) false)) (all_joined (forms false (parts es)) (kept_parts false es (subst (AllByRecursion P) (comparisons_of-Any (parts es)) h)))
 
-  kept_layer : (y : open'.Cond-F ((c : Cond) × IsKept c)) → IsKept (roll-Cond (map-Cond ((c : Cond) × IsKept c) Cond (λ e. e.0) y))
+  kept_layer : (y : open'.Condition-F Literal ((c : Cond) × IsKept c)) → IsKept (roll-Condition Literal (map-Condition Literal ((c : Cond) × IsKept c) Cond (λ e. e.0) y))
   kept_layer (open'.Compare l) = subst IsKept (sym (rolls-Compare l)) (kept_compare l)
   kept_layer (open'.Not e) = subst IsKept (sym (rolls-Not e.0)) (kept_not e.0 e.1)
   kept_layer (open'.All es) = subst IsKept (sym (rolls-All (parts es))) (kept_All es)
   kept_layer (open'.Any es) = subst IsKept (sym (rolls-Any (parts es))) (kept_Any es)
 
   kept : (c : Cond) → IsKept c
-  kept = ind-Cond IsKept (λ x y is. subst (λ z. IsKept (roll-Cond z)) is (kept_layer y))
+  kept = ind-Condition Literal IsKept (λ x y is. subst (λ z. IsKept (roll-Condition Literal z)) is (kept_layer y))
 
   pub literals_of : (c : Cond) → AllByRecursion P (comparisons_of c) → AllByRecursion (AllByRecursion P) (disjuncts_of c)
   literals_of c h = kept c false h

@@ -5,10 +5,10 @@ use Rattle.std.proofs.lemmas.List.{length-append}
 use Rattle.std.proofs.Math.Nat.{mul_assoc}
 use Rattle.su_base.proofs.Combinations.{length-pairs, get_or-pairs, min-mul_both, split as place_of}
 use Rattle.su_where.specs.declared.literals.Literal.{Literal}
-use Rattle.su_where.specs.declared.conditions.Cond.{Cond}
-use Rattle.su_where.specs.declared.conditions.Cond.TheOpen as open'
-use Rattle.su_where.specs.declared.conditions.Cond.TheVariants.{Compare, Not, All, Any, rolls-Compare, rolls-Not, rolls-All, rolls-Any}
-use Rattle.su_where.specs.declared.conditions.Cond.TheFolds.{fold-roll-Cond}
+use Rattle.su_where.specs.declared.conditions.Condition.TheOpen as open'
+use Rattle.su_where.specs.declared.conditions.Condition.TheVariants.{Compare, Not, All, Any, rolls-Compare, rolls-Not, rolls-All, rolls-Any}
+use Rattle.su_where.specs.declared.conditions.Condition.TheFolds.{fold-roll-Condition}
+use Rattle.su_where.specs.Truth.{Cond}
 use Rattle.su_where.specs.Disjunct.{opposite_of, combinations_of, joined, form_of, form_step}
 
 -- the disjuncts of each of several conditions
@@ -20,19 +20,19 @@ forms-map b [] = refl
 forms-map b (c ∷ cs) = ap (λ fs. form_of c b ∷ fs) (forms-map b cs)
 
 pub form_of-Compare : (l : Literal) (b : Bool) → form_of (Compare l) b ≡ ((if b then opposite_of l else l) ∷ []) ∷ []
-form_of-Compare l b = ap (λ d. form_of d b) (sym (rolls-Compare l)) ∙ ap (λ f. f b) (fold-roll-Cond (Bool → List (List Literal)) form_step (open'.Compare l))
+form_of-Compare l b = ap (λ d. form_of d b) (sym (rolls-Compare l)) ∙ ap (λ f. f b) (fold-roll-Condition Literal (Bool → List (List Literal)) form_step (open'.Compare l))
 
 pub form_of-Not : (part : Cond) (b : Bool) → form_of (Not part) b ≡ form_of part (not b)
-form_of-Not part b = ap (λ d. form_of d b) (sym (rolls-Not part)) ∙ ap (λ f. f b) (fold-roll-Cond (Bool → List (List Literal)) form_step (open'.Not part))
+form_of-Not part b = ap (λ d. form_of d b) (sym (rolls-Not part)) ∙ ap (λ f. f b) (fold-roll-Condition Literal (Bool → List (List Literal)) form_step (open'.Not part))
 
 pub form_of-All : (parts : List Cond) (b : Bool) → form_of (All parts) b ≡ (if b then joined (forms b parts) else combinations_of (forms b parts))
 form_of-All parts b =
-    ap (λ d. form_of d b) (sym (rolls-All parts)) ∙ ap (λ f. f b) (fold-roll-Cond (Bool → List (List Literal)) form_step (open'.All parts))
+    ap (λ d. form_of d b) (sym (rolls-All parts)) ∙ ap (λ f. f b) (fold-roll-Condition Literal (Bool → List (List Literal)) form_step (open'.All parts))
     ∙ ap (λ fs. if b then joined fs else combinations_of fs) (forms-map b parts)
 
 pub form_of-Any : (parts : List Cond) (b : Bool) → form_of (Any parts) b ≡ (if b then combinations_of (forms b parts) else joined (forms b parts))
 form_of-Any parts b =
-    ap (λ d. form_of d b) (sym (rolls-Any parts)) ∙ ap (λ f. f b) (fold-roll-Cond (Bool → List (List Literal)) form_step (open'.Any parts))
+    ap (λ d. form_of d b) (sym (rolls-Any parts)) ∙ ap (λ f. f b) (fold-roll-Condition Literal (Bool → List (List Literal)) form_step (open'.Any parts))
     ∙ ap (λ fs. if b then combinations_of fs else joined fs) (forms-map b parts)
 
 -- a disjunct with another behind it

@@ -9,12 +9,12 @@ use Rattle.su_base.specs.Value.{compare_values}
 use Rattle.su_where.specs.declared.operators.Op.{Op}
 use Rattle.su_where.specs.declared.operators.Op.TheVariants.{Equal, NotEqual, Less, LessEqual, Greater, GreaterEqual}
 use Rattle.su_where.specs.declared.literals.Literal.{Literal}
-use Rattle.su_where.specs.declared.conditions.Cond.{Cond, roll-Cond}
-use Rattle.su_where.specs.declared.conditions.Cond.TheOpen as open'
-use Rattle.su_where.specs.declared.conditions.Cond.TheVariants.{Compare, Not, All, Any, rolls-Compare, rolls-Not, rolls-All, rolls-Any}
-use Rattle.su_where.specs.declared.conditions.Cond.TheFolds.{map-Cond, ind-Cond}
+use Rattle.su_where.specs.declared.conditions.Condition.{roll-Condition}
+use Rattle.su_where.specs.declared.conditions.Condition.TheOpen as open'
+use Rattle.su_where.specs.declared.conditions.Condition.TheVariants.{Compare, Not, All, Any, rolls-Compare, rolls-Not, rolls-All, rolls-Any}
+use Rattle.su_where.specs.declared.conditions.Condition.TheFolds.{map-Condition, ind-Condition}
 use Rattle.su_where.specs.Operator.{holds_in, complement_of}
-use Rattle.su_where.specs.Truth.{value_of, holds, truth_of}
+use Rattle.su_where.specs.Truth.{Cond, value_of, holds, truth_of}
 use Rattle.su_where.specs.Disjunct.{opposite_of, pairs_of, combinations_of, joined, form_of, all_hold, some_holds, KeepsTruth}
 use Rattle.su_where.proofs.Layers.{truth_of-Compare, truth_of-Not, truth_of-All, truth_of-Any}
 use Rattle.su_where.proofs.Disjunctive.{forms, form_of-Compare, form_of-Not, form_of-All, form_of-Any}
@@ -155,14 +155,14 @@ kept_Any es true vs =
 kept_Any es false vs =
     ap (λ ds. some_holds ds vs) (form_of-Any (parts es) false) ∙ some-joined vs (forms false (parts es)) ∙ kept_any vs es ∙ sym (truth_of-Any (parts es) vs)
 
-kept_layer : (y : open'.Cond-F ((c : Cond) × IsKept c)) → IsKept (roll-Cond (map-Cond ((c : Cond) × IsKept c) Cond (λ e. e.0) y))
+kept_layer : (y : open'.Condition-F Literal ((c : Cond) × IsKept c)) → IsKept (roll-Condition Literal (map-Condition Literal ((c : Cond) × IsKept c) Cond (λ e. e.0) y))
 kept_layer (open'.Compare l) = subst IsKept (sym (rolls-Compare l)) (kept_compare l)
 kept_layer (open'.Not e) = subst IsKept (sym (rolls-Not e.0)) (kept_not e.0 e.1)
 kept_layer (open'.All es) = subst IsKept (sym (rolls-All (parts es))) (kept_All es)
 kept_layer (open'.Any es) = subst IsKept (sym (rolls-Any (parts es))) (kept_Any es)
 
 kept : (c : Cond) → IsKept c
-kept = ind-Cond IsKept (λ x y is. subst (λ z. IsKept (roll-Cond z)) is (kept_layer y))
+kept = ind-Condition Literal IsKept (λ x y is. subst (λ z. IsKept (roll-Condition Literal z)) is (kept_layer y))
 
 pub keeps_truth : (c : Cond) → KeepsTruth c
 keeps_truth c vs = sym (kept c false vs)

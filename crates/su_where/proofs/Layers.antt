@@ -1,15 +1,15 @@
 -- What a condition says and which comparisons it has, from its parts.
-use Rattle.std.proofs.Common.{◌≡◌, ℕ, ◌+◌, Bool, not, ◌&&◌, ◌||◌, List, [], ◌∷◌, ◌++◌, map, refl, sym, ap, subst, ◌∙◌, arith, All as Each}
+use Rattle.std.proofs.Common.{◌≡◌, ℕ, Bool, not, ◌&&◌, ◌||◌, List, [], ◌∷◌, ◌++◌, map, refl, sym, ap, subst, ◌∙◌, arith, All as Each}
 use Rattle.std.specs.List.{list_all, list_any, flat_map}
 use Rattle.std.proofs.lemmas.List.Elements.{All-nil, All-cons}
 use Rattle.su_base.specs.declared.values.Value.{Value}
 use Rattle.su_base.proofs.Items.{All-append_left, All-append_right}
 use Rattle.su_where.specs.declared.literals.Literal.{Literal}
-use Rattle.su_where.specs.declared.conditions.Cond.{Cond}
-use Rattle.su_where.specs.declared.conditions.Cond.TheOpen as open'
-use Rattle.su_where.specs.declared.conditions.Cond.TheVariants.{Compare, Not, All, Any, rolls-Compare, rolls-Not, rolls-All, rolls-Any}
-use Rattle.su_where.specs.declared.conditions.Cond.TheFolds.{fold-roll-Cond}
-use Rattle.su_where.specs.Truth.{holds, truth_of, truth_step, comparisons_of, comparisons_step, HasPlacesBelow, Fits}
+use Rattle.su_where.specs.declared.conditions.Condition.{Condition}
+use Rattle.su_where.specs.declared.conditions.Condition.TheOpen as open'
+use Rattle.su_where.specs.declared.conditions.Condition.TheVariants.{Compare, Not, All, Any, rolls-Compare, rolls-Not, rolls-All, rolls-Any}
+use Rattle.su_where.specs.declared.conditions.Condition.TheFolds.{fold-roll-Condition}
+use Rattle.su_where.specs.Truth.{Cond, holds, truth_of, truth_step, comparisons_of, comparisons_step, HasPlacesBelow, Fits}
 
 all-map : (vs : List Value) (cs : List Cond) → list_all (λ p. p vs) (map truth_of cs) ≡ list_all (λ c. truth_of c vs) cs
 all-map vs [] = refl
@@ -20,34 +20,37 @@ any-map vs [] = refl
 any-map vs (c ∷ cs) = ap (λ b. truth_of c vs || b) (any-map vs cs)
 
 pub truth_of-Compare : (l : Literal) (vs : List Value) → truth_of (Compare l) vs ≡ holds l vs
-truth_of-Compare l vs = ap (λ d. truth_of d vs) (sym (rolls-Compare l)) ∙ ap (λ f. f vs) (fold-roll-Cond (List Value → Bool) truth_step (open'.Compare l))
+truth_of-Compare l vs = ap (λ d. truth_of d vs) (sym (rolls-Compare l)) ∙ ap (λ f. f vs) (fold-roll-Condition Literal (List Value → Bool) truth_step (open'.Compare l))
 
 pub truth_of-Not : (part : Cond) (vs : List Value) → truth_of (Not part) vs ≡ not (truth_of part vs)
-truth_of-Not part vs = ap (λ d. truth_of d vs) (sym (rolls-Not part)) ∙ ap (λ f. f vs) (fold-roll-Cond (List Value → Bool) truth_step (open'.Not part))
+truth_of-Not part vs = ap (λ d. truth_of d vs) (sym (rolls-Not part)) ∙ ap (λ f. f vs) (fold-roll-Condition Literal (List Value → Bool) truth_step (open'.Not part))
 
 pub truth_of-All : (parts : List Cond) (vs : List Value) → truth_of (All parts) vs ≡ list_all (λ c. truth_of c vs) parts
 truth_of-All parts vs =
-    ap (λ d. truth_of d vs) (sym (rolls-All parts)) ∙ ap (λ f. f vs) (fold-roll-Cond (List Value → Bool) truth_step (open'.All parts)) ∙ all-map vs parts
+    ap (λ d. truth_of d vs) (sym (rolls-All parts)) ∙ ap (λ f. f vs) (fold-roll-Condition Literal (List Value → Bool) truth_step (open'.All parts)) ∙ all-map vs parts
 
 pub truth_of-Any : (parts : List Cond) (vs : List Value) → truth_of (Any parts) vs ≡ list_any (λ c. truth_of c vs) parts
 truth_of-Any parts vs =
-    ap (λ d. truth_of d vs) (sym (rolls-Any parts)) ∙ ap (λ f. f vs) (fold-roll-Cond (List Value → Bool) truth_step (open'.Any parts)) ∙ any-map vs parts
+    ap (λ d. truth_of d vs) (sym (rolls-Any parts)) ∙ ap (λ f. f vs) (fold-roll-Condition Literal (List Value → Bool) truth_step (open'.Any parts)) ∙ any-map vs parts
 
-flat-map : (cs : List Cond) → flat_map (λ p. p) (map comparisons_of cs) ≡ flat_map comparisons_of cs
+flat-map : {C : Type 0} (cs : List (Condition C)) → flat_map (λ p. p) (map comparisons_of cs) ≡ flat_map comparisons_of cs
 flat-map [] = refl
 flat-map (c ∷ cs) = ap (λ ls. comparisons_of c ++ ls) (flat-map cs)
 
-pub comparisons_of-Compare : (l : Literal) → comparisons_of (Compare l) ≡ l ∷ []
-comparisons_of-Compare l = ap comparisons_of (sym (rolls-Compare l)) ∙ fold-roll-Cond (List Literal) comparisons_step (open'.Compare l)
+pub comparisons_of-Compare : {C : Type 0} (l : C) → comparisons_of (Compare l) ≡ l ∷ []
+comparisons_of-Compare {C} l = ap comparisons_of (sym (rolls-Compare l)) ∙ fold-roll-Condition C (List C) comparisons_step (open'.Compare l)
 
-pub comparisons_of-Not : (part : Cond) → comparisons_of (Not part) ≡ comparisons_of part
-comparisons_of-Not part = ap comparisons_of (sym (rolls-Not part)) ∙ fold-roll-Cond (List Literal) comparisons_step (open'.Not part)
+pub comparisons_of-Not : {C : Type 0} (part : Condition C) → comparisons_of (Not part) ≡ comparisons_of part
+comparisons_of-Not {C} part = ap comparisons_of (sym (rolls-Not part)) ∙ fold-roll-Condition C (List C) comparisons_step (open'.Not part)
 
-pub comparisons_of-All : (parts : List Cond) → comparisons_of (All parts) ≡ flat_map comparisons_of parts
-comparisons_of-All parts = ap comparisons_of (sym (rolls-All parts)) ∙ fold-roll-Cond (List Literal) comparisons_step (open'.All parts) ∙ flat-map parts
+pub comparisons_of-All : {C : Type 0} (parts : List (Condition C)) → comparisons_of (All parts) ≡ flat_map comparisons_of parts
+comparisons_of-All {C} parts = ap comparisons_of (sym (rolls-All parts)) ∙ fold-roll-Condition C (List C) comparisons_step (open'.All parts) ∙ flat-map parts
 
-pub comparisons_of-Any : (parts : List Cond) → comparisons_of (Any parts) ≡ flat_map comparisons_of parts
-comparisons_of-Any parts = ap comparisons_of (sym (rolls-Any parts)) ∙ fold-roll-Cond (List Literal) comparisons_step (open'.Any parts) ∙ flat-map parts
+pub comparisons_of-Any : {C : Type 0} (parts : List (Condition C)) → comparisons_of (Any parts) ≡ flat_map comparisons_of parts
+comparisons_of-Any {C} parts = ap comparisons_of (sym (rolls-Any parts)) ∙ fold-roll-Condition C (List C) comparisons_step (open'.Any parts) ∙ flat-map parts
+
+-- for `grind`: the comparisons of a condition from those of its parts
+pub ruleset comparisons_layers = (comparisons_of-Compare, comparisons_of-Not, comparisons_of-All, comparisons_of-Any)
 
 -- what fits as a whole fits part by part
 each_flat : (P : Literal → Type 0) (cs : List Cond) → Each P (flat_map comparisons_of cs) → Each (λ c. Each P (comparisons_of c)) cs

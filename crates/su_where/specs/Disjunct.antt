@@ -4,11 +4,10 @@ use Rattle.std.specs.Prelude.{◌≡◌, Bool, false, not, if◌then◌else◌, 
 use Rattle.std.specs.List.{list_all, list_any}
 use Rattle.su_base.specs.declared.values.Value.{Value}
 use Rattle.su_where.specs.declared.literals.Literal.{Literal}
-use Rattle.su_where.specs.declared.conditions.Cond.{Cond}
-use Rattle.su_where.specs.declared.conditions.Cond.TheOpen.{Cond-F, Compare, Not, All, Any}
-use Rattle.su_where.specs.declared.conditions.Cond.TheFolds.{fold-Cond}
+use Rattle.su_where.specs.declared.conditions.Condition.TheOpen.{Condition-F, Compare, Not, All, Any}
+use Rattle.su_where.specs.declared.conditions.Condition.TheFolds.{fold-Condition}
 use Rattle.su_where.specs.Operator.{complement_of}
-use Rattle.su_where.specs.Truth.{holds, truth_of}
+use Rattle.su_where.specs.Truth.{Cond, holds, truth_of}
 
 -- the comparison that holds exactly where this one doesn't
 abbrev pub opposite_of : Literal → Literal
@@ -28,7 +27,7 @@ abbrev pub joined : List (List (List Literal)) → List (List Literal)
 joined parts = flat_map (λ p. p) parts
 
 -- the disjuncts of a condition or, if negated, of its negation, where these are those of its parts
-abbrev pub form_step : Cond-F (Bool → List (List Literal)) → Bool → List (List Literal)
+abbrev pub form_step : Condition-F Literal (Bool → List (List Literal)) → Bool → List (List Literal)
 form_step (Compare l) negated = ((if negated then opposite_of l else l) ∷ []) ∷ []
 form_step (Not part) negated = part (not negated)
 form_step (All parts) negated = if negated then joined (map (λ p. p negated) parts) else combinations_of (map (λ p. p negated) parts)
@@ -36,7 +35,7 @@ form_step (Any parts) negated = if negated then combinations_of (map (λ p. p ne
 
 -- the disjuncts of a condition or, if negated, of its negation
 abbrev pub form_of : Cond → Bool → List (List Literal)
-form_of = fold-Cond (Bool → List (List Literal)) form_step
+form_of = fold-Condition Literal (Bool → List (List Literal)) form_step
 
 -- the disjuncts of a condition, in their order
 abbrev pub disjuncts_of : Cond → List (List Literal)

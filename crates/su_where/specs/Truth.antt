@@ -8,9 +8,9 @@ use Rattle.su_base.specs.declared.values.Value.TheVariants.{Int}
 use Rattle.su_where.specs.declared.literals.Operand.{Operand}
 use Rattle.su_where.specs.declared.literals.Operand.TheVariants.{Place, Const}
 use Rattle.su_where.specs.declared.literals.Literal.{Literal}
-use Rattle.su_where.specs.declared.conditions.Cond.{Cond}
-use Rattle.su_where.specs.declared.conditions.Cond.TheOpen.{Cond-F, Compare, Not, All, Any}
-use Rattle.su_where.specs.declared.conditions.Cond.TheFolds.{fold-Cond}
+use Rattle.su_where.specs.declared.conditions.Condition.{Condition}
+use Rattle.su_where.specs.declared.conditions.Condition.TheOpen.{Condition-F, Compare, Not, All, Any}
+use Rattle.su_where.specs.declared.conditions.Condition.TheFolds.{fold-Condition}
 use Rattle.su_where.specs.Operator.{compares}
 
 -- the value that an operand stands for; a place past the end stands for 0
@@ -22,8 +22,12 @@ value_of (Const value) values = value
 abbrev pub holds : Literal → List Value → Bool
 holds l values = compares l.op (value_of l.left values) (value_of l.right values)
 
+-- a condition on a list of values
+abbrev pub Cond : Type 0
+Cond = Condition Literal
+
 -- what a condition says, where this is what its parts say
-abbrev pub truth_step : Cond-F (List Value → Bool) → List Value → Bool
+abbrev pub truth_step : Condition-F Literal (List Value → Bool) → List Value → Bool
 truth_step (Compare l) values = holds l values
 truth_step (Not part) values = not (part values)
 truth_step (All parts) values = list_all (λ p. p values) parts
@@ -31,18 +35,18 @@ truth_step (Any parts) values = list_any (λ p. p values) parts
 
 -- whether a condition is true of a list of values
 abbrev pub truth_of : Cond → List Value → Bool
-truth_of = fold-Cond (List Value → Bool) truth_step
+truth_of = fold-Condition Literal (List Value → Bool) truth_step
 
--- the comparisons of a condition, where these are those of its parts
-abbrev pub comparisons_step : Cond-F (List Literal) → List Literal
+-- the comparisons of a condition, whatever they compare, where these are those of its parts
+abbrev pub comparisons_step : {C : Type 0} → Condition-F C (List C) → List C
 comparisons_step (Compare l) = l ∷ []
 comparisons_step (Not part) = part
 comparisons_step (All parts) = flat_map (λ p. p) parts
 comparisons_step (Any parts) = flat_map (λ p. p) parts
 
 -- the comparisons of a condition, from left to right
-abbrev pub comparisons_of : Cond → List Literal
-comparisons_of = fold-Cond (List Literal) comparisons_step
+abbrev pub comparisons_of : {C : Type 0} → Condition C → List C
+comparisons_of {C} = fold-Condition C (List C) comparisons_step
 
 -- a place below n, or a constant
 abbrev pub IsBelow : ℕ → Operand → Type 0

@@ -9,14 +9,17 @@ use su_base::{Boxed, List, NoMemory, Row};
 
 /// Comparisons under not, all of and any of.
 #[derive(Debug, Drop)]
-pub enum Cond {
-    Compare(Literal),
-    Not(Boxed<Cond>),
+pub enum Condition<C> {
+    Compare(C),
+    Not(Boxed<Condition<C>>),
     /// True where each part is; all of nothing is true.
-    All(List<Cond>),
+    All(List<Condition<C>>),
     /// True where some part is; any of nothing is false.
-    Any(List<Cond>),
+    Any(List<Condition<C>>),
 }
+
+/// A condition on a list of values.
+pub type Cond = Condition<Literal>;
 
 /// Whether the condition is true of the row. Linear in its size, without memory.
 #[cycle(truth)]

@@ -11,10 +11,12 @@ mod conditions;
 mod crossing;
 mod forms;
 pub mod laws;
+mod listing;
 mod literals;
 mod operators;
 
-pub use conditions::{Cond, copy, truth};
+pub use conditions::{Cond, Condition, copy, truth};
 pub use forms::{Disjunct, disjunct_count, disjuncts};
+pub use listing::comparisons;
 pub use literals::{Literal, Operand};
 pub use operators::Op;

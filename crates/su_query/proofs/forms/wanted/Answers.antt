@@ -1,6 +1,6 @@
 use Rattle.std.proofs.Common.{refl, sym, ap}
 use Rattle.std.proofs.lemmas.Result.{IfOk-weaker}
-use Rattle.su_query.specs.declared.conditions.NamedCond.TheVariants.{All}
+use Rattle.su_where.specs.declared.conditions.Condition.TheVariants.{All}
 use Rattle.su_query.specs.Grammar.{ReadsCond}
 use Rattle.su_query.specs.Forms as g
 use Rattle.su_query.specs.Forms.{ReadsWhere}

@@ -1,13 +1,10 @@
-use Rattle.std.proofs.Common.{◌∙◌, sym, subst}
-use Rattle.su_query.specs.Lookup.{IsKnownQuery}
+use Rattle.std.proofs.Common.{◌++◌, ◌∙◌, Bor, map, sym, ap, subst}
+use Rattle.su_schema.specs.SchemaValue.{attribute_names}
+use Rattle.su_query.specs.declared.refs.Ref.{Ref}
+use Rattle.su_query.specs.declared.conditions.Comparison.{Comparison}
+use Rattle.su_query.specs.declared.scopes.Scope.TheVariants.{Attributes}
+use Rattle.su_query.specs.Mentions.{refs_of}
+use Rattle.su_query.specs.Lookup.{first_unknown, differing_kinds, IsKnownQuery}
 use Rattle.su_query.specs.Ranges.{IsResolved}
 use Rattle.su_query.proofs.Ranged.{query_resolved}
 use Rattle.su_query.proofs.resolving.resolve.Goals as goal
-
-pub returns-in_ok-made-in-None-clause-in_range : goal.returns-in_ok-made-in-None-clause-in_range
-returns-in_ok-made-in-None-clause-in_range c =
-    let known : IsKnownQuery c.args.schema.now c.args.query.now = record {
-      known = sym c.in_ok-unknown.ensures ∙ c.in-None.ensures.0;
-      kinds = sym c.differing_in-kinds.ensures ∙ c.in-None.ensures.1;
-    } in
-    subst (IsResolved c.args.schema.now) (sym c.in_ok-made-in-None.ensures) (query_resolved c.args.schema.now c.args.query.now c.requires known)

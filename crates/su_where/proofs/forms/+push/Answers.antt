@@ -1,5 +1,5 @@
 use Rattle.std.proofs.Common.{◌<◌, ◌≤◌, ◌/◌, ◌%◌, ℕ, sym, subst, length, rules, arith}
-use Rattle.su_where.specs.declared.conditions.Cond.{the_lemmas}
+use Rattle.su_where.specs.declared.conditions.Condition.{the_lemmas}
 use Rattle.su_where.specs.Disjunct.{form_of}
 use Rattle.su_where.proofs.Disjunctive.{combined_split, combined_whole, all_plain, all_negated, any_plain, any_negated, carried}
 use Rattle.su_where.proofs.forms.+push.Goals as goal
