@@ -11,4 +11,5 @@ pub mod KeptTerms
 pub mod Spared
 pub mod Likeness
 pub mod Rowing
+pub mod Rooming
 pub mod Stepping

@@ -8,6 +8,7 @@ use Rattle.su_where.specs.declared.operators.Op.{Op}
 use Rattle.su_where.specs.declared.operators.Op.TheVariants.{Equal, NotEqual, Less, LessEqual, Greater, GreaterEqual}
 use Rattle.su_where.specs.contracts.operators.OpPartialEq.TheImpl.{ghosts}
 use Rattle.su_tableau.specs.declared.symbols.Sym.{Sym}
+use Rattle.su_tableau.specs.Mapping.{image_of, images_of}
 use Rattle.su_tableau.specs.declared.symbols.Sym.TheVariants.{Var}
 use Rattle.su_min.specs.Cover.{constant_of}
 
@@ -48,3 +49,7 @@ ends_at xs ys start k d len same low high =
     let e : start + (k - start) ≡ k = omega arith in
     subst (λ k. constant_of (get_or xs k d) ≡ constant_of (get_or ys k d)) e
     (sym (constant_at xs start (k - start) d (omega arith)) ∙ ap (λ l. get_or l (k - start) (constant_of d)) same ∙ constant_at ys start (k - start) d (omega arith))
+
+-- the images of a head's symbols are the other head's, one by one
+pub head_at : (symbols : ℕ → Sym) (xs ys : List Sym) (i : ℕ) (x y : Sym) → i < length xs → images_of symbols xs ≡ ys → x ≡ get_or xs i x → y ≡ get_or ys i y → image_of symbols x ≡ y
+head_at symbols xs ys i x y low same ex ey = ap (image_of symbols) ex ∙ sym (get_or-map (image_of symbols) xs i x y low) ∙ ap (λ l. get_or l i y) same ∙ sym ey

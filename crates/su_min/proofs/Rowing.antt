@@ -1,7 +1,8 @@
 -- A row of the matrix, one entry more at a time, and the rows as a matrix.
 use Rattle.std.proofs.Common.{◌≡◌, ◌<◌, ◌+◌, ◌↔◌, ◌∙◌, ℕ, Bool, true, false, List, [], ◌∷◌, ◌++◌, map, length, get_or, Result, Ok, Err, sym, ap, subst, arith}
 use Rattle.std.specs.Prelude.{MatchResult, IfOk}
-use Rattle.std.specs.List.{AllZip}
+use Rattle.std.specs.List.{AllZip, range_with_len}
+use Rattle.std.proofs.lemmas.List.FromFn.{length-range_with_len, get_or-range_with_len}
 use Rattle.std.proofs.lemmas.List.{get_or_append_left, get_or_default, length-append}
 use Rattle.std.proofs.Math.Seq.{get_or-append_seam}
 use Rattle.su_tableau.specs.Tableaux.{Tab, AreVarsBelow}
@@ -53,12 +54,29 @@ marks_more P n marks new b is here m =
           (λ e. here.0 (sym last ∙ e), λ p. last ∙ here.1 p);
     }
 
-pub rows_matrix : (terms : List Minimised) (rows : List (List Bool)) → AllZip (λ term row. IsRowOf term terms row) terms rows → IsMatrix terms rows
+-- the rows of the first terms, one row more at a time
+pub rows_more : (terms : List Minimised) (rows new : List (List Bool)) (j : ℕ) (row : List Bool)
+    → length rows ≡ j → new ≡ rows ++ row ∷ [] → IsRowOf (term_at terms j) terms row
+    → ((k : ℕ) → k < j → IsRowOf (term_at terms k) terms (get_or rows k []))
+    → (k : ℕ) → k < j + 1 → IsRowOf (term_at terms k) terms (get_or new k [])
+rows_more terms rows new j row long is here before =
+    below_more (λ k. IsRowOf (term_at terms k) terms (get_or new k [])) j
+    (λ k l.
+    let early : get_or new k [] ≡ get_or rows k [] = ap (λ l. get_or l k []) is ∙ get_or_append_left rows (row ∷ []) [] k (omega arith) in
+    subst (IsRowOf (term_at terms k) terms) (sym early) (before k l))
+    (let last : get_or new j [] ≡ row = ap (λ l. get_or l j []) is ∙ ap (λ k. get_or (rows ++ row ∷ []) k []) (sym long) ∙ get_or-append_seam rows row [] [] in
+    subst (IsRowOf (term_at terms j) terms) (sym last) here)
+
+pub rows_matrix : (terms : List Minimised) (rows : List (List Bool)) → AllZip (λ j row. IsRowOf (term_at terms j) terms row) (range_with_len 0 (length terms)) rows → IsMatrix terms rows
 rows_matrix terms rows zip =
-    let R = λ (term : Minimised) (row : List Bool). IsRowOf term terms row in
+    let R = λ (j : ℕ) (row : List Bool). IsRowOf (term_at terms j) terms row in
+    let places = range_with_len 0 (length terms) in
+    let count = length-range_with_len 0 (length terms) in
     record {
-      rows = sym (zip-length R terms rows zip);
-      row = λ j h. zip-at R terms rows j (term_at [] 0) [] zip h;
+      rows = sym (zip-length R places rows zip) ∙ count;
+      row = λ j h.
+          let zero_more : 0 + j ≡ j = omega arith in
+          subst (λ i. R i (get_or rows j [])) (get_or-range_with_len 0 (length terms) j 0 h ∙ zero_more) (zip-at R places rows j 0 [] zip (omega arith));
     }
 
 -- ---- what collecting into a result gives

@@ -1,5 +1,5 @@
 -- The terms that are gone through, one more at a time.
-use Rattle.std.proofs.Common.{◌≡◌, ◌+◌, ◌∙◌, ℕ, Bool, true, false, List, [], ◌∷◌, ◌++◌, map, length, All, sym, ap, subst, ⊎_elim}
+use Rattle.std.proofs.Common.{◌≡◌, ◌↔◌, ◌+◌, ◌∙◌, ℕ, Bool, true, false, List, [], ◌∷◌, ◌++◌, map, length, All, sym, ap, subst, ⊎_elim}
 use Rattle.std.proofs.lemmas.Bool.{cases_Bool}
 use Rattle.std.proofs.lemmas.List.{map-append}
 use Rattle.std.proofs.lemmas.List.Elements.{All-push}
@@ -7,8 +7,9 @@ use Rattle.su_tableau.specs.Tableaux.{Tab}
 use Rattle.su_map.specs.Lists.{IsMapping, IsFirst}
 use Rattle.su_min.specs.declared.reduced.Cover.{Cover}
 use Rattle.su_min.specs.Kept.{Minimised}
-use Rattle.su_min.specs.Cover.{Covers}
+use Rattle.su_min.specs.Cover.{AreAlike, Covers}
 use Rattle.su_min.specs.Reduction.{term_at, IsDropped, IsKeptTerm, IsLeastCover, IsFirstMapping, IsCover, IsListOf, IsReduced}
+use Rattle.su_min.proofs.Covering.{tells_covers}
 use Rattle.su_min.proofs.Numbering.{list_same, list_more}
 
 pub move : (P : Tab → ℕ → Tab → ℕ → Type 0) (s s' : Tab) (m m' : ℕ) (t t' : Tab) (k k' : ℕ) → s ≡ s' → m ≡ m' → t ≡ t' → k ≡ k' → P s m t k → P s' m' t' k'
@@ -26,6 +27,18 @@ first_found one other s t m k b list es et em ek c found none =
     (λ (is : b ≡ true). move (λ s m t k. IsFirst s m t k list) s one.tableau m one.mask t other.tableau k other.mask es em et ek (found is))
     (λ (is : b ≡ false). absurd (none is c.list (move (λ s m t k. IsMapping s m t k c.list) one.tableau s one.mask m other.tableau t other.mask k (sym es) (sym em) (sym et) (sym ek) c.maps)))
     (cases_Bool b)
+
+-- a search that finds a mapping or tells that there is none tells whether the one of two like terms covers the other
+pub tells_found : (one other : Minimised) (s t : Tab) (m k : ℕ) (b : Bool) (list : List ℕ)
+    → s ≡ one.tableau → t ≡ other.tableau → m ≡ one.mask → k ≡ other.mask
+    → AreAlike one.tableau other.tableau
+    → (b ≡ true → IsMapping s m t k list)
+    → (b ≡ false → (l : List ℕ) → IsMapping s m t k l → ⊥)
+    → (b ≡ true) ↔ Covers one other
+tells_found one other s t m k b list es et em ek alike found none =
+    tells_covers one other b list alike
+    (λ yes. move (λ s m t k. IsMapping s m t k list) s one.tableau m one.mask t other.tableau k other.mask es em et ek (found yes))
+    (λ no l g. none no l (move (λ s m t k. IsMapping s m t k l) one.tableau s one.mask m other.tableau t other.mask k (sym es) (sym em) (sym et) (sym ek) g))
 
 cover_is : (terms : List Minimised) (c : Cover) (i by : ℕ) → c.dropped ≡ i → c.by ≡ by → IsLeastCover terms i by → IsFirstMapping (term_at terms by) (term_at terms i) c.mapping → IsCover terms c
 cover_is terms c i by ei eb least mapping = record {

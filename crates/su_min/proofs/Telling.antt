@@ -1,12 +1,13 @@
 -- What the matrix tells of the terms.
-use Rattle.std.proofs.Common.{◌≡◌, ◌<◌, ◌≤◌, ◌↔◌, ◌∙◌, ℕ, Bool, true, false, List, [], length, All, sym, subst, inl, inr, ⊎_elim, arith, true≢false}
+use Rattle.std.proofs.Common.{◌≡◌, ◌⊎◌, ◌<◌, ◌≤◌, ◌↔◌, ◌∙◌, ℕ, Bool, true, false, List, [], length, get_or, All, sym, ap, subst, inl, inr, ⊎_elim, arith, true≢false}
 use Rattle.std.proofs.lemmas.Bool.{cases_Bool, cases_lt}
 use Rattle.std.proofs.lemmas.List.{get_or_default}
 use Rattle.su_min.specs.Kept.{Minimised, IsMinimised}
 use Rattle.su_min.specs.Cover.{Covers}
 use Rattle.su_min.specs.Reduction.{term_at, IsDropped, IsKeptTerm, IsLeastCover}
-use Rattle.su_min.specs.inside.Matrix.{entry, IsSquare, IsMatrix, IsDroppedIn, IsPreorder, IsFirstCover}
+use Rattle.su_min.specs.inside.Matrix.{entry, IsSquare, AreKnown, IsRowOf, IsMatrix, IsDroppedIn, IsPreorder, IsFirstCover}
 use Rattle.su_min.proofs.Covering.{covers_itself, covers_through}
+use Rattle.su_min.proofs.Rowing.{item_at}
 
 module _ (terms : List Minimised) (matrix : List (List Bool)) (m : IsMatrix terms matrix) where
   pub tells : (j i : ℕ) → j < length terms → i < length terms → (entry matrix j i ≡ true) ↔ Covers (term_at terms j) (term_at terms i)
@@ -73,3 +74,33 @@ module _ (terms : List Minimised) (matrix : List (List Bool)) (m : IsMatrix term
             (λ (le : k ≤ j). le)
             (cases_lt j k);
       }
+
+-- ---- what is known before a search
+
+-- no marks tell nothing
+pub none_known : (terms : List Minimised) → AreKnown terms []
+none_known terms i low marked = absurd (true≢false (sym marked))
+
+-- the first term's row is marks
+pub first_known : (terms : List Minimised) (row : List Bool) → IsRowOf (term_at terms 0) terms row → AreKnown terms row
+first_known terms row r i low marked = (r.tells i low).0 marked
+
+same_covers : (terms : List Minimised) (i j : ℕ) (a x : Minimised) → i < length terms → j < length terms → a ≡ get_or terms j a → x ≡ get_or terms i x → i ≡ j → Covers a x
+same_covers terms i j a x hi hj ea ex same =
+    let e : a ≡ x = item_at terms j a hj ea ∙ ap (term_at terms) (sym same) ∙ sym (item_at terms i x hi ex) in
+    subst (Covers a) e (covers_itself a)
+
+-- a term covers itself, and where it covers the first term what that one covers
+pub known_covers : (terms : List Minimised) (i j : ℕ) (a x z : Minimised) (marks : List Bool) (first : Bool)
+    → i < length terms → j < length terms → a ≡ get_or terms j a → x ≡ get_or terms i x → z ≡ get_or terms 0 z
+    → AreKnown terms marks → (first ≡ true → Covers a z)
+    → (i ≡ j) ⊎ ((first ≡ true) × (get_or marks i false ≡ true))
+    → Covers a x
+known_covers terms i j a x z marks first hi hj ea ex ez known one cases =
+    ⊎_elim
+    (λ (same : i ≡ j). same_covers terms i j a x hi hj ea ex same)
+    (λ (both : (first ≡ true) × (get_or marks i false ≡ true)).
+    let to : Covers z x =
+    subst (λ m. Covers m x) (sym (item_at terms 0 z (omega arith) ez)) (subst (Covers (term_at terms 0)) (sym (item_at terms i x hi ex)) (known i hi both.1)) in
+    covers_through a z x (one both.0) to)
+    cases

@@ -1,5 +1,7 @@
 //! Whether two terms are alike.
-ghost use Rattle.std.specs.Prelude.{◌≡◌, ◌↔◌, IsTrue, length, map, drop};
+ghost use Rattle.std.specs.Prelude.{◌≡◌, ◌↔◌, ℕ, IsTrue, IsFalse, length, map, drop};
+ghost use Rattle.su_tableau.specs.declared.symbols.Sym.{Sym as ASym};
+ghost use Rattle.su_tableau.specs.Mapping.{image_of, images_of};
 ghost use Rattle.su_min.specs.Cover.{constant_of, AreAlike};
 
 use su_tableau::{Sym, Tableau};
@@ -53,4 +55,28 @@ pub fn are_alike(s: &Tableau, t: &Tableau) -> bool
         return false;
     }
     ends_are_alike(s.head(), t.head(), s.outputs() as usize)
+}
+
+/// Whether a mapping may send the symbol to the other one: a constant goes to itself alone.
+fn may_go(x: &Sym, y: &Sym) -> bool
+    ensures { IsFalse result → (symbols : ℕ → ASym) → image_of symbols x.now ≡ y.now → ⊥ }
+{
+    match (x, y) {
+        (Sym::Const(c), Sym::Const(d)) => c == d,
+        (Sym::Const(_), Sym::Var(_)) => false,
+        (Sym::Var(_), _) => true,
+    }
+}
+
+/// Whether a mapping may send the one head to the other, as far as their constants tell.
+pub fn heads_fit(xs: &[Sym], ys: &[Sym]) -> bool
+    requires { length xs.now ≡ length ys.now }
+    ensures { IsFalse result → (symbols : ℕ → ASym) → images_of symbols xs.now ≡ ys.now → ⊥ }
+{
+    for i in 0..xs.len() {
+        if !may_go(&xs[i], &ys[i]) {
+            return false;
+        }
+    }
+    true
 }

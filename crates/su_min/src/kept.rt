@@ -1,5 +1,4 @@
 //! The least set of rows that a tableau maps into.
-ghost use Rattle.std.specs.Prelude.{◌≡◌};
 ghost use Rattle.su_map.specs.Rooms.{IsRoomFor, HasSizesOf};
 ghost use Rattle.su_map.specs.Nets.{IsNet};
 ghost use Rattle.su_min.specs.Kept.{all_rows, IsKept};

@@ -18,6 +18,7 @@ mod matrix;
 mod minimal;
 mod reduced;
 mod reducing;
+mod searches;
 
 pub use kept::kept_mask;
 pub use minimal::{Minimal, minimise};

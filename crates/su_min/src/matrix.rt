@@ -1,31 +1,23 @@
 //! Which terms cover which.
-ghost use Rattle.std.specs.Prelude.{◌≡◌, ◌<◌, ◌↔◌, IsTrue, IfOk, false, true, length, get_or};
-ghost use Rattle.su_map.specs.Rooms.{IsRoomFor, HasSizesOf};
+ghost use Rattle.std.specs.Prelude.{◌≡◌, ◌<◌, ◌⊎◌, ◌↔◌, IsTrue, IfOk, Contains, false, true, length, get_or};
 ghost use Rattle.su_min.specs.Cover.{Covers};
 ghost use Rattle.su_min.specs.Reduction.{term_at};
 ghost use Rattle.su_min.specs.inside.Matrix.{AreKnown, IsRowOf, IsMatrix};
+ghost use Rattle.su_min.specs.inside.Rooms.{IsRoomOf};
 
-use crate::alike::are_alike;
 use crate::minimal::Minimal;
+use crate::searches::covers;
 use rayon::prelude::*;
 use std::alloc::Global;
 use std::marker::Brand;
+use std::slice;
 use std::sync::ledger::{Blank, Ledger};
 use std::thread::Threads;
 use su_base::{List, NoMemory, Steps};
-use su_map::{Room, exists};
+use su_map::Room;
 
-/// Whether the one term covers the other.
-fn covers<L: Ledger>(one: &Minimal, other: &Minimal, room: &mut Room, steps: &mut Steps<L>) -> bool
-    requires room { IsRoomFor one.now.tableau room.old }
-    ensures tells { IsTrue result ↔ Covers one.now other.now }
-    ensures sizes { HasSizesOf room.old room.new }
-{
-    let (from, to) = (one.tableau(), other.tableau());
-    from.keeps_its_rules();
-    to.keeps_its_rules();
-    are_alike(from, to) && exists(room, from, one.mask(), to, other.mask(), steps)
-}
+/// Unions whose terms have at most so many rows together are compared by the caller's thread alone.
+const FEW: usize = 64;
 
 /// Whether the term has a mark; a term past the marks has none.
 fn is_marked(marks: &[bool], i: usize) -> bool
@@ -44,108 +36,171 @@ fn is_through(first: bool, marks: &[bool], i: usize) -> bool
     is_marked(marks, i)
 }
 
-/// Whether the term covers the first one.
-fn covers_first<L: Ledger>(
-    term: &Minimal,
-    terms: &[Minimal],
-    room: &mut Room,
-    steps: &mut Steps<L>,
-) -> bool
-    requires room { IsRoomFor term.now.tableau room.old }
-    ensures tells { IsTrue result → Covers term.now (term_at terms.now 0) }
-    ensures sizes { HasSizesOf room.old room.new }
+/// Whether it is known that term j covers term i: the two are one, or it covers the first term, which is
+/// marked as one that covers the other.
+fn is_known(first: bool, marks: &[bool], i: usize, j: usize) -> bool
+    ensures { IsTrue result → (i ≡ j) ⊎ (IsTrue first × (get_or marks.now i false ≡ true)) }
 {
-    if terms.is_empty() {
-        return false;
+    if i == j {
+        return true;
     }
-    covers(term, &terms[0], room, steps)
+    is_through(first, marks, i)
 }
 
 /// Whether the one term covers the other, of which it may be known that it does.
 fn tells<L: Ledger>(
+    alloc: Global,
     known: bool,
+    all: &[Minimal],
     one: &Minimal,
     other: &Minimal,
-    room: &mut Room,
+    room: &mut Option<Room>,
     steps: &mut Steps<L>,
-) -> bool
-    requires room { IsRoomFor one.now.tableau room.old }
-    ensures tells { (IsTrue known → Covers one.now other.now) → IsTrue result ↔ Covers one.now other.now }
-    ensures sizes { HasSizesOf room.old room.new }
+) -> Result<bool, NoMemory>
+    requires term { Contains all.now one.now }
+    requires room { IsRoomOf all.now room.old }
+    ensures tells { IfOk result (λ tells. (IsTrue known → Covers one.now other.now) → IsTrue tells ↔ Covers one.now other.now) }
+    ensures room { IsRoomOf all.now room.new }
 {
     if known {
-        return true;
+        return Ok(true);
     }
-    covers(one, other, room, steps)
+    covers(alloc, all, one, other, room, steps)
 }
 
-/// For each term whether this one covers it; marked are terms that the first one covers. The room is
-/// for this one's rows, and is taken once.
+/// For each term whether term j covers it; marked are terms that the first one covers. The room is
+/// for all of `all`, of which term j is one.
 fn row_counted<L: Ledger>(
     alloc: Global,
-    term: &Minimal,
+    all: &[Minimal],
     terms: &[Minimal],
+    j: usize,
     marks: &[bool],
-    blank: Blank,
+    room: &mut Option<Room>,
+    steps: &mut Steps<L>,
 ) -> Result<List<bool>, NoMemory>
-    requires name { blank.name ≡ L.name }
-    requires parts { blank.parts ≡ L.parts }
-    requires some { 0 < blank.parts }
-    ensures { AreKnown terms.now marks.now → IfOk result (λ row. IsRowOf term.now terms.now row) }
+    requires row { j < length terms.now }
+    requires term { Contains all.now (term_at terms.now j) }
+    requires room { IsRoomOf all.now room.old }
+    ensures row { AreKnown terms.now marks.now → IfOk result (λ row. IsRowOf (term_at terms.now j) terms.now row) }
+    ensures room { IsRoomOf all.now room.new }
 {
+    let term = &terms[j];
     term.keeps_its_rules();
-    let t = term.tableau();
-    let mut room = Room::new(alloc, t.row_count(), t.symbols())?;
-    let mut steps = Steps::<L>::new(blank);
     let mut row = List::from_vec(Vec::with_capacity(alloc, terms.len())?);
-    let first = covers_first(term, terms, &mut room, &mut steps);
+    let itself = is_known(false, marks, 0, j);
+    let first = tells(alloc, itself, all, term, &terms[0], room, steps)?;
     for i in 0..terms.len() {
-        let known = is_through(first, marks, i);
-        row.push(tells(known, term, &terms[i], &mut room, &mut steps))?;
+        let known = is_known(first, marks, i, j);
+        let covers = tells(alloc, known, all, term, &terms[i], room, steps)?;
+        row.push(covers)?;
     }
     Ok(row)
 }
 
-/// For each term whether this one covers it; marked are terms that the first one covers.
+/// The row of term j, by searches in a room of its own, which are counted in a ledger.
+fn row_alone<L: Ledger>(
+    alloc: Global,
+    terms: &[Minimal],
+    j: usize,
+    marks: &[bool],
+    blank: Blank,
+) -> Result<List<bool>, NoMemory>
+    requires row { j < length terms.now }
+    requires name { blank.name ≡ L.name }
+    requires parts { blank.parts ≡ L.parts }
+    requires some { 0 < blank.parts }
+    ensures { AreKnown terms.now marks.now → IfOk result (λ row. IsRowOf (term_at terms.now j) terms.now row) }
+{
+    let mut room = None;
+    let mut steps = Steps::<L>::new(blank);
+    let own = slice::from_ref(&terms[j]);
+    row_counted(alloc, own, terms, j, marks, &mut room, &mut steps)
+}
+
+/// For each term whether term j covers it; marked are terms that the first one covers.
 fn row_of(
     alloc: Global,
-    term: &Minimal,
     terms: &[Minimal],
+    j: usize,
     marks: &[bool],
 ) -> Result<List<bool>, NoMemory>
-    ensures { AreKnown terms.now marks.now → IfOk result (λ row. IsRowOf term.now terms.now row) }
+    requires { j < length terms.now }
+    ensures { AreKnown terms.now marks.now → IfOk result (λ row. IsRowOf (term_at terms.now j) terms.now row) }
 {
-    row_counted::<Brand>(alloc, term, terms, marks, Blank::new(1))
+    row_alone::<Brand>(alloc, terms, j, marks, Blank::new(1))
 }
 
-/// For each term whether the first one covers it.
-fn first_row(alloc: Global, terms: &[Minimal]) -> Result<List<bool>, NoMemory>
-    ensures { IfOk result (AreKnown terms.now) }
+/// The rows of the matrix, one after another, by searches in one room.
+fn rows_in_turn<L: Ledger>(
+    alloc: Global,
+    terms: &[Minimal],
+    room: &mut Option<Room>,
+    steps: &mut Steps<L>,
+) -> Result<Vec<List<bool>>, NoMemory>
+    requires { IsRoomOf terms.now room.old }
+    ensures matrix { IfOk result (λ matrix. IsMatrix terms.now matrix.items) }
+    ensures room { IsRoomOf terms.now room.new }
 {
+    let mut rows = List::from_vec(Vec::with_capacity(alloc, terms.len())?);
     if terms.is_empty() {
-        return Ok(List::new(alloc));
+        return Ok(rows.into_vec());
     }
-    row_of(alloc, &terms[0], terms, &[])
+    let first = row_counted(alloc, terms, terms, 0, &[], room, steps)?;
+    for j in 0..terms.len() {
+        let row = row_counted(alloc, terms, terms, j, first.as_slice(), room, steps)?;
+        rows.push(row)?;
+    }
+    Ok(rows.into_vec())
 }
 
-/// The matrix of coverings, a row in one thread at a time. What covers the first term covers what that
-/// one covers, and is not compared with it.
-pub fn coverings<R: Threads + Sync>(
+/// The rows of the matrix, each in one thread at a time.
+fn rows_at_once<R: Threads + Sync>(
     rt: &R,
     alloc: Global,
     terms: &[Minimal],
 ) -> Result<Vec<List<bool>>, NoMemory>
+    requires { 0 < length terms.now }
     ensures { IfOk result (λ matrix. IsMatrix terms.now matrix.items) }
 {
-    let first = first_row(alloc, terms)?;
+    let first = row_of(alloc, terms, 0, &[])?;
     let marks = first.as_slice();
-    terms
-        .par_iter()
+    (0..terms.len())
+        .into_par_iter()
         .with_min_len(1)
         .map(
-            |term: &Minimal| -> Result<List<bool>, NoMemory>
-                ensures { AreKnown terms.entry.now marks.entry.now → IfOk result (λ row. IsRowOf term.now terms.entry.now row) }
-            { row_of(alloc, term, terms, marks) },
+            |j: usize| -> Result<List<bool>, NoMemory>
+                requires { j < length terms.now }
+                ensures { AreKnown terms.entry.now marks.entry.now → IfOk result (λ row. IsRowOf (term_at terms.entry.now j) terms.entry.now row) }
+            { row_of(alloc, terms, j, marks) },
         )
         .collect::<Result<Vec<List<bool>>, NoMemory>>(rt, alloc)?
+}
+
+/// Whether the terms have few rows together.
+fn are_few(terms: &[Minimal]) -> bool {
+    let mut rows = 0usize;
+    for term in terms {
+        rows = rows.saturating_add(term.tableau().row_count());
+    }
+    rows <= FEW
+}
+
+/// The matrix of coverings. What covers the first term covers what that one covers, and is not compared
+/// with it. A few terms are compared by the caller's thread, in the room, which is for all the terms.
+pub fn coverings<R: Threads + Sync, L: Ledger>(
+    rt: &R,
+    alloc: Global,
+    terms: &[Minimal],
+    room: &mut Option<Room>,
+    steps: &mut Steps<L>,
+) -> Result<Vec<List<bool>>, NoMemory>
+    requires { IsRoomOf terms.now room.old }
+    ensures matrix { IfOk result (λ matrix. IsMatrix terms.now matrix.items) }
+    ensures room { IsRoomOf terms.now room.new }
+{
+    if terms.is_empty() || are_few(terms) {
+        return rows_in_turn(alloc, terms, room, steps);
+    }
+    rows_at_once(rt, alloc, terms)
 }

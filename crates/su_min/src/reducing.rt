@@ -6,16 +6,18 @@ ghost use Rattle.su_min.specs.Reduction.{term_at, IsFirstMapping, IsReduced};
 ghost use Rattle.su_min.specs.Cover.{Covers};
 ghost use Rattle.su_min.specs.Needed.{HasAnswersOf, AreNeeded};
 ghost use Rattle.su_min.specs.inside.Matrix.{entry, IsSquare, IsDroppedIn, IsPreorder, IsFirstCover, AreMarks};
+ghost use Rattle.su_min.specs.inside.Rooms.{IsRoomOf};
 
 use crate::matrix::coverings;
 use crate::minimal::Minimal;
 use crate::reduced::{Cover, Reduced};
+use crate::searches::first_mapping;
 use std::alloc::Global;
 use std::marker::Brand;
 use std::sync::ledger::{Blank, Ledger};
 use std::thread::Threads;
 use su_base::{List, NoMemory, Steps};
-use su_map::{Mapping, Room, certify, first};
+use su_map::Room;
 
 /// Whether term j covers term i.
 fn has_entry(matrix: &[List<bool>], j: usize, i: usize) -> bool
@@ -69,57 +71,70 @@ fn first_cover(matrix: &[List<bool>], dropped: &[bool], i: usize) -> usize
     unreachable!()
 }
 
-/// The first mapping of the kept rows of the one term into those of the other, which it covers.
-fn mapping_counted<L: Ledger>(
-    alloc: Global,
-    one: &Minimal,
-    other: &Minimal,
-    blank: Blank,
-) -> Result<Mapping, NoMemory>
-    requires name { blank.name ≡ L.name }
-    requires parts { blank.parts ≡ L.parts }
-    requires some { 0 < blank.parts }
-    requires covers { Covers one.now other.now }
-    ensures { IfOk result (IsFirstMapping one.now other.now) }
-{
-    let (from, to) = (one.tableau(), other.tableau());
-    from.keeps_its_rules();
-    to.keeps_its_rules();
-    let mut room = Room::new(alloc, from.row_count(), from.symbols())?;
-    let mut steps = Steps::<L>::new(blank);
-    // Never false, where the one covers the other.
-    first(&mut room, from, one.mask(), to, other.mask(), &mut steps);
-    certify(alloc, &room, from, one.mask(), to, other.mask())
-}
-
-/// The first mapping of the kept rows of the one term into those of the other, which it covers.
-fn first_mapping(alloc: Global, one: &Minimal, other: &Minimal) -> Result<Mapping, NoMemory>
-    requires { Covers one.now other.now }
-    ensures { IfOk result (IsFirstMapping one.now other.now) }
-{
-    mapping_counted::<Brand>(alloc, one, other, Blank::new(1))
-}
-
 /// The cover of a term by another one.
-fn cover_of(alloc: Global, terms: &[Minimal], i: usize, k: usize) -> Result<Cover, NoMemory>
+fn cover_of<L: Ledger>(
+    alloc: Global,
+    terms: &[Minimal],
+    i: usize,
+    k: usize,
+    room: &mut Option<Room>,
+    steps: &mut Steps<L>,
+) -> Result<Cover, NoMemory>
     requires few { length terms.now ≤ 256 }
     requires dropped { i < length terms.now }
     requires by { k < length terms.now }
     requires covers { Covers (term_at terms.now k) (term_at terms.now i) }
+    requires room { IsRoomOf terms.now room.old }
     ensures dropped { IfOk result (λ c. c.dropped ≡ i) }
     ensures by { IfOk result (λ c. c.by ≡ k) }
     ensures mapping { IfOk result (λ c. IsFirstMapping (term_at terms.now k) (term_at terms.now i) c.mapping) }
+    ensures room { IsRoomOf terms.now room.new }
 {
     Ok(Cover {
         dropped: i as u16,
         by: k as u16,
-        mapping: first_mapping(alloc, &terms[k], &terms[i])?,
+        mapping: first_mapping(alloc, terms, &terms[k], &terms[i], room, steps)?,
     })
 }
 
+/// Which terms are kept, and by which of these each dropped one is covered, by searches whose steps are
+/// counted in a ledger.
+fn reduce_counted<R: Threads + Sync, L: Ledger>(
+    rt: &R,
+    alloc: Global,
+    terms: &[Minimal],
+    blank: Blank,
+) -> Result<Reduced, NoMemory>
+    requires few { length terms.now ≤ 256 }
+    requires name { blank.name ≡ L.name }
+    requires parts { blank.parts ≡ L.parts }
+    requires some { 0 < blank.parts }
+    ensures reduced { IfOk result (IsReduced terms.now) }
+    ensures needed { IfOk result (λ r. (kinds : Kinds) (c : ℕ) (tableaux : Items Tab) → All (λ m. IsTyped kinds m.tableau) terms.now → All (λ t. IsValid t × IsTyped kinds t) tableaux → HasAnswersOf kinds terms.now c tableaux → AreNeeded kinds terms.now r.kept c tableaux) }
+{
+    let mut room = None;
+    let mut steps = Steps::<L>::new(blank);
+    let matrix = coverings(rt, alloc, terms, &mut room, &mut steps)?;
+    let matrix = matrix.as_slice();
+    let dropped = dropped_terms(alloc, matrix)?;
+    let dropped = dropped.as_slice();
+    let mut kept = List::new(alloc);
+    let mut covers = List::new(alloc);
+    for i in 0..terms.len() {
+        if dropped[i] {
+            let by = first_cover(matrix, dropped, i);
+            covers.push(cover_of(alloc, terms, i, by, &mut room, &mut steps)?)?;
+        } else {
+            kept.push(i as u16)?;
+        }
+    }
+    Ok(Reduced { kept, covers })
+}
+
 /// Which terms are kept, and by which of these each dropped one is covered. Alike terms are compared
-/// in up to two pieces for each processor, but for pairs that the first term tells. Each cover holds
-/// copies of two tableaux.
+/// in up to two pieces for each processor, but for pairs that the first term or constants in their
+/// heads tell; those of a few rows together in the caller's thread. Each cover holds copies of two
+/// tableaux.
 pub fn reduce<R: Threads + Sync>(
     rt: &R,
     alloc: Global,
@@ -129,19 +144,5 @@ pub fn reduce<R: Threads + Sync>(
     ensures reduced { IfOk result (IsReduced terms.now) }
     ensures needed { IfOk result (λ r. (kinds : Kinds) (c : ℕ) (tableaux : Items Tab) → All (λ m. IsTyped kinds m.tableau) terms.now → All (λ t. IsValid t × IsTyped kinds t) tableaux → HasAnswersOf kinds terms.now c tableaux → AreNeeded kinds terms.now r.kept c tableaux) }
 {
-    let matrix = coverings(rt, alloc, terms)?;
-    let matrix = matrix.as_slice();
-    let dropped = dropped_terms(alloc, matrix)?;
-    let dropped = dropped.as_slice();
-    let mut kept = List::new(alloc);
-    let mut covers = List::new(alloc);
-    for i in 0..terms.len() {
-        if dropped[i] {
-            let by = first_cover(matrix, dropped, i);
-            covers.push(cover_of(alloc, terms, i, by)?)?;
-        } else {
-            kept.push(i as u16)?;
-        }
-    }
-    Ok(Reduced { kept, covers })
+    reduce_counted::<R, Brand>(rt, alloc, terms, Blank::new(1))
 }

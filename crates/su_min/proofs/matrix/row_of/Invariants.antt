@@ -1,4 +1,4 @@
 use Rattle.su_min.proofs.matrix.row_of.Given as goal
 
-abbrev pub ghosts-row_counted : goal.ghosts-row_counted
-ghosts-row_counted a = record { name = a.blank.name; parts = a.blank.parts }
+abbrev pub ghosts-row_alone : goal.ghosts-row_alone
+ghosts-row_alone a = record { name = a.blank.name; parts = a.blank.parts }

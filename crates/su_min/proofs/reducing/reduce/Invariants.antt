@@ -1,5 +1,4 @@
-use Rattle.su_min.proofs.Stepping.{AreReduced}
 use Rattle.su_min.proofs.reducing.reduce.Given as goal
 
-abbrev pub invariant-loop-i : goal.invariant-loop-i
-invariant-loop-i g l = AreReduced l.terms l.i l.kept l.covers
+abbrev pub ghosts-reduce_counted : goal.ghosts-reduce_counted
+ghosts-reduce_counted g a = record { name = a.blank.name; parts = a.blank.parts }

@@ -1,9 +1,14 @@
 use Rattle.std.proofs.Common.{◌∙◌, sym, ap, subst}
-use Rattle.rayon.proofs.ListFacts.{IfOk-then}
 use Rattle.su_map.specs.Lists.{IsMapping, IsFirst}
-use Rattle.su_min.specs.Reduction.{IsFirstMapping}
+use Rattle.su_map.specs.Rooms.{IsRoomFor}
+use Rattle.su_min.proofs.Rooming.{room_of_one, room_all_same}
 use Rattle.su_min.proofs.Stepping.{move, first_found}
-use Rattle.su_min.proofs.reducing.mapping_counted.Goals as goal
+use Rattle.su_min.proofs.searches.first_mapping.Goals as goal
+
+pub first-requires-clause-room : goal.first-requires-clause-room
+first-requires-clause-room g c =
+    let one = c.args.one.now in
+    subst (λ t. IsRoomFor t c.in_ok-own.own) (sym c.tableau-from.ensures) (room_of_one c.args.terms.now one c.in_ok-own.own c.requires.term c.in_ok-own.ensures.taken)
 
 pub certify-requires : goal.certify-requires
 certify-requires g c =
@@ -14,16 +19,20 @@ certify-requires g c =
     move (λ s m t k. IsMapping s m t k c.first.new.room.list) one.tableau c.tableau-from.result.now one.mask c.mask-3.result other.tableau c.tableau-to.result.now other.mask c.mask-4.result
     (sym c.tableau-from.ensures) (sym c.mask-3.ensures.is) (sym c.tableau-to.ensures) (sym c.mask-4.ensures.is) f.maps
 
-pub returns : goal.returns
-returns g c =
+pub returns-clause-first : goal.returns-clause-first
+returns-clause-first g c =
     let one = c.args.one.now in let other = c.args.other.now in
     let f =
     first_found one other c.tableau-from.result.now c.tableau-to.result.now c.mask.result c.mask-2.result c.first.result c.first.new.room.list
     c.tableau-from.ensures c.tableau-to.ensures c.mask.ensures.is c.mask-2.ensures.is c.requires.covers c.first.ensures.found c.first.ensures.none.0 in
-    IfOk-then c.certify.result _ (IsFirstMapping one other) c.certify.ensures.is (λ m e. record {
+    let e = c.in_ok-mapping.ensures.is in
+    record {
       from = ap (λ m. m.from) e ∙ c.tableau-from.ensures;
       from_mask = ap (λ m. m.from_mask) e ∙ c.mask-3.ensures.is;
       to = ap (λ m. m.to) e ∙ c.tableau-to.ensures;
       to_mask = ap (λ m. m.to_mask) e ∙ c.mask-4.ensures.is;
       first = subst (IsFirst one.tableau one.mask other.tableau other.mask) (sym (ap (λ m. m.list) e)) f;
-    })
+    }
+
+pub returns-clause-room : goal.returns-clause-room
+returns-clause-room g c = room_all_same c.args.terms.now c.in_ok-own.own c.first.new.room c.in_ok-own.ensures.taken c.first.ensures.sizes
