@@ -5,19 +5,18 @@ ghost use Rattle.su_tableau.specs.declared.symbols.Sym.TheVariants.{Const};
 ghost use Rattle.su_index.specs.Matches.{matches};
 ghost use Rattle.su_index.specs.Tables.{table_at};
 ghost use Rattle.su_exec.specs.inside.Coded.{AreCoded, IsCoded};
-ghost use Rattle.su_reduce.specs.inside.Coded.{Extends};
+ghost use Rattle.su_reduce.specs.Codes.{Extends};
 ghost use Rattle.su_exec.specs.Shares.{share};
 ghost use Rattle.su_exec.specs.Tasks.{FitsTables, HasSources};
 ghost use Rattle.su_exec.specs.inside.Ways.{IsCheapest, IsWay, matches_all};
 
 use crate::candidates::Candidates;
 use crate::places::place_of;
-use crate::shapes::variable_of;
 use crate::tasks::{Source, TaskRow};
 use std::alloc::{AllocError, Global};
 use su_base::Value;
 use su_index::Rows;
-use su_reduce::{Codes, Distinct, Sheet};
+use su_reduce::{Codes, Distinct, Sheet, variable_of};
 use su_tableau::Sym;
 
 /// How the rows of a source are reached, and how many are fetched.

@@ -14,4 +14,6 @@ pub mod Cutting
 pub mod Extending
 pub mod Hashing
 pub mod Partnered
+pub mod Shaping
 pub mod Filling
+pub mod Asked
