@@ -1,6 +1,6 @@
 use Rattle.std.proofs.Common.{◌≡◌, length}
 use Rattle.su_reduce.specs.inside.Partnered.{AreKeys}
-use Rattle.su_reduce.proofs.partners.keys_of.Given as goal
+use Rattle.su_reduce.proofs.partners.rows_of.Given as goal
 
 abbrev pub invariant-loop-i : goal.invariant-loop-i
 invariant-loop-i l = record {
