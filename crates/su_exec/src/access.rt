@@ -191,6 +191,10 @@ fn by_constants<R: Rows>(
 /// An index is asked for at most one value for so many rows that it may save.
 const WORTH: usize = 8;
 
+/// An index is used where it leaves fewer than one row of so many: a row that it gives is searched for, and
+/// read out of order.
+const LEAVES: usize = 2;
+
 /// The better of the way so far and the one by what is known of the variable at the place.
 fn by_variable<R: Rows>(
     alloc: Global,
@@ -221,8 +225,9 @@ fn by_variable<R: Rows>(
     }
     let column = *source.columns.get(p);
     let values = codes_at(alloc, edge, place)?;
-    let cost = matching_all(rows, source.relation, column, codes, &values, best.cost);
-    if cost >= best.cost {
+    let most = best.cost / LEAVES;
+    let cost = matching_all(rows, source.relation, column, codes, &values, most);
+    if cost >= most {
         return Ok(best);
     }
     Ok(Access {
