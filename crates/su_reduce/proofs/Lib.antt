@@ -2,6 +2,7 @@ pub mod Taking
 pub mod Tables
 pub mod Rounds
 pub mod Meeting
+pub mod Moving
 pub mod Exact
 pub mod Same
 pub mod Placing
