@@ -5,6 +5,7 @@ use Rattle.std.proofs.lemmas.List.{get_or-map, length-map, map_more, map-append,
 use Rattle.std.proofs.lemmas.List.Elements.{All-cons, All-nil}
 use Rattle.std.proofs.lemmas.List.Sums.{sum_by_push, sum_by-append}
 use Rattle.std.proofs.lemmas.Option.{slice_get_within, get_or_from_slice_get}
+use Rattle.su_base.proofs.Items.{Contains-map}
 use Rattle.su_base.specs.declared.values.Value.{Value}
 use Rattle.su_base.specs.declared.values.Value.TheVariants.{Int}
 use Rattle.su_rel.specs.Stored.{Stored}
@@ -23,7 +24,6 @@ use Rattle.su_exec.specs.Shares.{least_matches}
 use Rattle.su_exec.specs.Tasks.{FitsTables}
 use Rattle.su_exec.specs.inside.Ways.{AreValues, matches_all, only_code}
 use Rattle.su_reduce.proofs.Extending.{code_is, code_low}
-use Rattle.su_exec.proofs.Extending.{contains_map}
 
 -- ---- sums
 
@@ -117,6 +117,6 @@ module _ (tables : List Stored) (values : List Value) (es : List (Edge ℕ)) (ro
               let at : D (get_or r place 0) ≡ v k =
               sym (get_or-map D r place 0 (Int (pos 0)) (omega arith)) ∙ ap (λ ys. get_or ys place (Int (pos 0))) re ∙ get_or-map v edge.vars place 0 (Int (pos 0)) place_low ∙ ap v place_is in
               let C : Value → Type 0 = λ y. Contains (map (λ r. decode values (only_code r)) codes) y in
-              subst C (at ∙ sym (ap (value_of v) cell_is)) (contains_map (λ r. decode values (only_code r)) codes (get_or r place 0 ∷ []) (all x.0 il));
+              subst C (at ∙ sym (ap (value_of v) cell_is)) (Contains-map (λ r. decode values (only_code r)) codes (get_or r place 0 ∷ []) (all x.0 il));
         };
       }

@@ -4,8 +4,7 @@ use Rattle.std.specs.Prelude.{map, All}
 use Rattle.std.proofs.lemmas.List.{get_or-map, length-map}
 use Rattle.std.proofs.lemmas.List.Elements.{All-head, All-tail, Contains-get_or}
 use Rattle.su_base.specs.declared.values.Value.{Value}
-use Rattle.su_reduce.specs.Codes.{decode}
-use Rattle.su_reduce.specs.inside.Coded.{Extends}
+use Rattle.su_reduce.specs.Codes.{decode, Extends}
 use Rattle.su_exec.specs.inside.Coded.{AreCoded, IsCoded, meaning, meanings}
 use Rattle.su_exec.specs.inside.Edges.{Edge}
 use Rattle.su_reduce.proofs.Extending.{below_up, decode_row}
@@ -39,12 +38,6 @@ module _ (a b : List Value) (more : Extends a b) where
       ap (λ y. y ∷ meanings b es) first ∙ ap (λ ys. meaning a e ∷ ys) rest
 
 -- ---- members of a list of rows
-
-pub contains_map : {X Y : Type 0} (f : X → Y) (xs : List X) (x : X) → Contains xs x → Contains (map f xs) (f x)
-contains_map f xs x h =
-    let n = length-map xs f in
-    let l = h.1 in
-    (h.0, omega arith, get_or-map f xs h.0 x (f x) l ∙ ap f h.2)
 
 pub row_of : (values : List Value) (rows : List (List ℕ)) (h : List Value) → Contains (map (map (decode values)) rows) h → (r : List ℕ) × Contains rows r × (map (decode values) r ≡ h)
 row_of values rows h c =

@@ -1,11 +1,13 @@
 -- Semijoins: rows that have a partner, and what valuations say of them.
-use Rattle.std.proofs.Common.{◌≡◌, ◌↔◌, ◌⊎◌, ◌++◌, ◌+◌, ℕ, ◌<◌, Bool, true, false, IsTrue, cond, List, [], ◌∷◌, length, get_or, Contains, refl, sym, ap, subst, ◌∙◌, ⊎_elim, inl, inr, true≢false, append-nil, arith}
-use Rattle.std.specs.Prelude.{map}
+use Rattle.std.proofs.Common.{◌≡◌, ◌↔◌, ◌⊎◌, ◌++◌, ◌+◌, ℕ, zero, suc, ◌<◌, ◌≤◌, Bool, true, false, IsTrue, cond, List, [], ◌∷◌, length, get_or, Contains, refl, sym, ap, subst, ◌∙◌, ⊎_elim, inl, inr, true≢false, append-nil, arith}
+use Rattle.std.specs.Prelude.{All, map, take}
 use Rattle.std.proofs.lemmas.Bool.{cases_eq}
-use Rattle.std.proofs.lemmas.List.{get_or_default}
-use Rattle.std.proofs.lemmas.List.Elements.{Contains-append_left, Contains-push, Contains-push_cases}
+use Rattle.std.proofs.lemmas.List.{get_or_default, take_all}
+use Rattle.std.proofs.lemmas.List.Elements.{All-cons, All-head, All-nil, All-tail, Contains-append_left, Contains-push, Contains-push_cases}
 use Rattle.su_exec.specs.inside.Edges.{Edge, Fits, has}
+use Rattle.su_reduce.specs.Left.{marked}
 use Rattle.su_reduce.specs.Sheets.{pick, AreBelow, IsMarkedKey}
+use Rattle.su_reduce.proofs.Along.{marked_more}
 use Rattle.su_exec.specs.inside.Joins.{IsReal}
 use Rattle.su_exec.specs.inside.Semijoins.{AgreesWith, AreKept, HasKey, IsKept, IsSemijoin}
 use Rattle.su_exec.proofs.Joining.{pick_map}
@@ -67,6 +69,28 @@ module _ (ls rs : List (List ℕ)) (left_key right_key : List ℕ) (n : ℕ) (ol
   kept_if true new e tells = kept_more new e (tells.0 refl)
   kept_if false new e tells = subst (λ (rows : List (List ℕ)). AreKept ls rs left_key right_key (n + 1) rows) (sym (e ∙ append-nil old)) (kept_same (λ h. true≢false (sym (tells.1 h))))
 
+-- the marked rows on the left, where the marks tell which have a partner
+kept_first : (ls rs : List (List ℕ)) (left_key right_key : List ℕ) (marks : List Bool) → length marks ≡ length ls → ((i : ℕ) → i < length ls → IsTrue (get_or marks i false) ↔ HasKey rs right_key (length rs) (pick left_key (get_or ls i []))) → (n : ℕ) → n ≤ length ls → AreKept ls rs left_key right_key n (marked (take n marks) (take n ls))
+kept_first ls rs left_key right_key marks long exact zero l = none_kept ls rs left_key right_key
+kept_first ls rs left_key right_key marks long exact (suc n) l =
+    let low : n < length ls = omega (arith, l) in
+    let before = kept_first ls rs left_key right_key marks long exact n (omega (arith, l)) in
+    let one : n + 1 ≡ suc n = omega arith in
+    subst (λ m. AreKept ls rs left_key right_key m (marked (take (suc n) marks) (take (suc n) ls))) one
+    (kept_if ls rs left_key right_key n (marked (take n marks) (take n ls)) (get_or ls n []) refl before (get_or marks n false) (marked (take (suc n) marks) (take (suc n) ls)) (marked_more marks ls n [] (omega (arith, low, long)) low) (exact n low))
+
+pub kept_marked : (ls rs : List (List ℕ)) (left_key right_key : List ℕ) (marks : List Bool) → length marks ≡ length ls → ((i : ℕ) → i < length ls → IsTrue (get_or marks i false) ↔ HasKey rs right_key (length rs) (pick left_key (get_or ls i []))) → AreKept ls rs left_key right_key (length ls) (marked marks ls)
+kept_marked ls rs left_key right_key marks long exact =
+    subst (λ ms. AreKept ls rs left_key right_key (length ls) (marked ms ls)) (take_all (length ls) marks (omega (arith, long)))
+    (subst (λ xs. AreKept ls rs left_key right_key (length ls) (marked (take (length ls) marks) xs)) (take_all (length ls) ls (omega arith)) (kept_first ls rs left_key right_key marks long exact (length ls) (omega arith)))
+
+-- marked rows are rows
+pub All-marked : {X : Type 0} (P : X → Type 0) (marks : List Bool) (xs : List X) → All P xs → All P (marked marks xs)
+All-marked P [] xs all = All-nil P
+All-marked P (m ∷ marks) [] all = All-nil P
+All-marked P (true ∷ marks) (x ∷ xs) all = All-cons P x (marked marks xs) (All-head P x xs all) (All-marked P marks xs (All-tail P x xs all))
+All-marked P (false ∷ marks) (x ∷ xs) all = All-marked P marks xs (All-tail P x xs all)
+
 -- ---- a semijoin
 
 module _ (a b g : Edge ℕ) (left right : List ℕ) (rows : List (List ℕ)) (below : AreBelow left (length a.vars)) (low : AreBelow right (length b.vars)) (same : pick left a.vars ≡ pick right b.vars)
@@ -114,3 +138,12 @@ module _ (a b g : Edge ℕ) (left right : List ℕ) (rows : List (List ℕ)) (be
 -- what fits both fits what is left, and the other way round
 pub semijoin_both : (a b g : Edge ℕ) → IsSemijoin a b g → (v : ℕ → ℕ) → (Fits v a × Fits v b) ↔ (Fits v g × Fits v b)
 semijoin_both a b g s v = (λ h. (s.stays v h.0 h.1, h.1), λ h. (s.fewer v h.0, h.1))
+
+-- what is left where the marked rows are kept in place
+pub kept_in_place : (es : List (Edge ℕ)) (i : ℕ) (a b m g : Edge ℕ) (marks read : List Bool) → i < length es → a ≡ get_or es i a → m ≡ get_or es i m → read ≡ marks → g ≡ record { vars = m.vars; rows = marked read m.rows }
+    → IsSemijoin a b (record { vars = a.vars; rows = marked marks a.rows }) → IsSemijoin a b g
+kept_in_place es i a b m g marks read low a_is m_is same is semijoin =
+    let e : m ≡ a = m_is ∙ get_or_default es i m a low ∙ sym a_is in
+    let of : Edge ℕ → Edge ℕ = λ x. record { vars = x.vars; rows = marked read x.rows } in
+    let by : List Bool → Edge ℕ = λ ms. record { vars = a.vars; rows = marked ms a.rows } in
+    subst (λ (x : Edge ℕ). IsSemijoin a b x) (sym (is ∙ ap of e ∙ ap by same)) semijoin

@@ -2,13 +2,13 @@
 use Rattle.std.proofs.Common.{◌≡◌, ℕ, ◌⊎◌, List, length, get_or, Contains, sym, ap, subst, ◌∙◌, inl, inr, ⊎_elim}
 use Rattle.std.specs.Prelude.{map}
 use Rattle.std.proofs.lemmas.List.Elements.{All-contains, Contains-get_or}
+use Rattle.su_base.proofs.Items.{Contains-map}
 use Rattle.su_base.specs.declared.values.Value.{Value}
-use Rattle.su_reduce.specs.Codes.{decode}
-use Rattle.su_reduce.specs.inside.Coded.{Extends}
+use Rattle.su_reduce.specs.Codes.{decode, Extends}
 use Rattle.su_exec.specs.inside.Coded.{AreCoded, IsGathered}
 use Rattle.su_reduce.specs.Sheets.{AreBelow}
 use Rattle.su_reduce.proofs.Extending.{extends_self, extends_then, below_up, decode_row}
-use Rattle.su_exec.proofs.Extending.{contains_map, row_of}
+use Rattle.su_exec.proofs.Extending.{row_of}
 
 -- nothing is added, where nothing is there to be added
 pub gathered_none : (P Q : List Value → Type 0) (values : List Value) (rows : List (List ℕ)) → AreCoded values rows → ((h : List Value) → Q h → ⊥) → IsGathered P Q values rows values rows
@@ -28,7 +28,7 @@ gathered_one P old new rows more cells h coded codes below is p alone kept here 
       (only r (Contains-get_or more k d l));
   kept = kept;
   only = λ r c. ⊎_elim (λ (a : Contains rows r). inl a) (λ (a : cells ≡ r). inr (subst P (sym is ∙ ap (map (decode new)) a) p)) (only r c);
-  had = λ g q. subst (λ (g : List Value). Contains (map (map (decode new)) more) g) (is ∙ sym (alone g q)) (contains_map (map (decode new)) more cells here);
+  had = λ g q. subst (λ (g : List Value). Contains (map (map (decode new)) more) g) (is ∙ sym (alone g q)) (Contains-map (map (decode new)) more cells here);
 }
 
 -- one step after another
@@ -52,7 +52,7 @@ gathered_then P Q P' Q' R S a b c rows more most x y first second both = record 
       ⊎_elim
       (λ (q : Q h).
       let w = row_of b more h (x.had h q) in
-      subst (λ (g : List Value). Contains (map (map (decode c)) most) g) (decode_row b c y.codes w.0 (All-contains (λ r. AreBelow r (length b)) more w.0 x.coded w.1) ∙ w.2) (contains_map (map (decode c)) most w.0 (y.kept w.0 w.1)))
+      subst (λ (g : List Value). Contains (map (map (decode c)) most) g) (decode_row b c y.codes w.0 (All-contains (λ r. AreBelow r (length b)) more w.0 x.coded w.1) ∙ w.2) (Contains-map (map (decode c)) most w.0 (y.kept w.0 w.1)))
       (λ (q : Q' h). y.had h q)
       (both h s);
 }

@@ -15,8 +15,7 @@ use Rattle.su_rel.specs.Stored.{Stored}
 use Rattle.su_tableau.specs.declared.symbols.Sym.TheVariants.{Var}
 use Rattle.su_exec.specs.declared.tasks.Task.{Task}
 use Rattle.su_exec.specs.declared.tasks.TaskRow.{TaskRow}
-use Rattle.su_reduce.specs.Codes.{decode}
-use Rattle.su_reduce.specs.inside.Coded.{Extends}
+use Rattle.su_reduce.specs.Codes.{decode, Extends}
 use Rattle.su_exec.specs.inside.Coded.{AgreesAt, AreRowEdges, AreSoFar, IsCoded, IsRowEdge, NoneAgrees, left_share, meaning, meanings}
 use Rattle.su_exec.specs.inside.Edges.{Edge, Fits, FitsAll, among}
 use Rattle.su_exec.specs.Outputs.{Agrees}

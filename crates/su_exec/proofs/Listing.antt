@@ -1,64 +1,19 @@
 -- Components are read off labels.
-use Rattle.std.proofs.Common.{◌≡◌, ℕ, zero, suc, ◌+◌, ◌<◌, ◌≤◌, ◌⊎◌, Bool, true, false, List, [], ◌∷◌, length, get_or, Contains, refl, sym, ap, subst, ◌∙◌, inl, inr, ⊎_elim, arith}
-use Rattle.std.specs.Prelude.{cond, nat_eq, map, filter}
+use Rattle.std.proofs.Common.{◌≡◌, ℕ, zero, suc, ◌+◌, ◌<◌, ◌≤◌, List, [], ◌∷◌, length, get_or, Contains, refl, sym, ap, subst, ◌∙◌, ⊎_elim, arith}
+use Rattle.std.specs.Prelude.{nat_eq, map}
 use Rattle.std.specs.List.{range_with_len}
 use Rattle.std.specs.List.Sorted.{IsStrictlySortedBy}
 use Rattle.std.specs.Ordering.{nat_cmp}
-use Rattle.std.proofs.lemmas.Bool.{cases_Bool, cases_lt, true≢false}
+use Rattle.std.proofs.lemmas.Bool.{cases_lt}
 use Rattle.std.proofs.lemmas.Bool.Decides.{nat_tests}
 use Rattle.std.proofs.lemmas.List.{get_or-map, length-map, get_or_default}
 use Rattle.std.proofs.lemmas.List.FromFn.{length-range_with_len, get_or-range_with_len}
 use Rattle.std.proofs.lemmas.List.Kept.{IsStrictlySortedBy-filter}
 use Rattle.std.proofs.lemmas.Map.Keys.{sorted_from_strictly_increasing, below_from_sorted}
+use Rattle.su_base.proofs.Items.{Contains-filter, Contains-filter_source, Contains-range, Contains-range_below}
 use Rattle.su_exec.specs.declared.tasks.Task.{Task}
 use Rattle.su_exec.specs.Components.{IsLabelling, AreTogether, AreComponents, first_of}
 use Rattle.su_exec.specs.inside.Labels.{label_of, AreLabels, rows_of, own_rows}
-
--- ---- filters
-
-contains_front : (x : ℕ) (xs : List ℕ) (y : ℕ) → x ≡ y → Contains (x ∷ xs) y
-contains_front x xs y e = (0, omega arith, e)
-
-contains_more : (x : ℕ) (xs : List ℕ) (y : ℕ) → Contains xs y → Contains (x ∷ xs) y
-contains_more x xs y h = (suc h.0, let l = h.1 in omega arith, h.2)
-
-contains_cases : (x : ℕ) (xs : List ℕ) (y : ℕ) → Contains (x ∷ xs) y → (x ≡ y) ⊎ Contains xs y
-contains_cases x xs y (zero, l, e) = inl e
-contains_cases x xs y (suc i, l, e) = inr (i, omega arith, e)
-
-filter_in : (p : ℕ → Bool) (xs : List ℕ) (y : ℕ) → Contains (filter p xs) y → Contains xs y × (p y ≡ true)
-filter_in p [] y h = absurd (let l = h.1 in omega arith)
-filter_in p (x ∷ xs) y h =
-    ⊎_elim
-    (λ (t : p x ≡ true).
-    let g : Contains (x ∷ filter p xs) y = subst (λ zs. Contains zs y) (ap (λ b. cond b (x ∷ filter p xs) (filter p xs)) t) h in
-    ⊎_elim
-    (λ (e : x ≡ y). (contains_front x xs y e, subst (λ z. p z ≡ true) e t))
-    (λ (r : Contains (filter p xs) y). let i = filter_in p xs y r in (contains_more x xs y i.0, i.1))
-    (contains_cases x (filter p xs) y g))
-    (λ (f : p x ≡ false).
-    let g : Contains (filter p xs) y = subst (λ zs. Contains zs y) (ap (λ b. cond b (x ∷ filter p xs) (filter p xs)) f) h in
-    let i = filter_in p xs y g in (contains_more x xs y i.0, i.1))
-    (cases_Bool (p x))
-
-filter_of : (p : ℕ → Bool) (xs : List ℕ) (y : ℕ) → Contains xs y → p y ≡ true → Contains (filter p xs) y
-filter_of p [] y h t = absurd (let l = h.1 in omega arith)
-filter_of p (x ∷ xs) y h t =
-    let back : (b : Bool) → p x ≡ b → Contains (cond b (x ∷ filter p xs) (filter p xs)) y → Contains (filter p (x ∷ xs)) y = λ b e g. subst (λ zs. Contains zs y) (sym (ap (λ b. cond b (x ∷ filter p xs) (filter p xs)) e)) g in
-    ⊎_elim
-    (λ (u : p x ≡ true).
-    back true u (⊎_elim (λ (e : x ≡ y). contains_front x (filter p xs) y e) (λ (r : Contains xs y). contains_more x (filter p xs) y (filter_of p xs y r t)) (contains_cases x xs y h)))
-    (λ (f : p x ≡ false).
-    back false f (⊎_elim (λ (e : x ≡ y). absurd (true≢false (sym t ∙ ap p (sym e) ∙ f))) (λ (r : Contains xs y). filter_of p xs y r t) (contains_cases x xs y h)))
-    (cases_Bool (p x))
-
-in_range : (n i : ℕ) → Contains (range_with_len 0 n) i → i < n
-in_range n i h = let len = length-range_with_len 0 n in let l = h.1 in let m : h.0 < n = omega arith in let e = get_or-range_with_len 0 n h.0 i m in let f = h.2 in omega arith
-
-of_range : (n i : ℕ) → i < n → Contains (range_with_len 0 n) i
-of_range n i l =
-    let zero_more : 0 + i ≡ i = omega arith in
-    (i, (let len = length-range_with_len 0 n in omega arith), get_or-range_with_len 0 n i i l ∙ zero_more)
 
 range_sorted : (n : ℕ) → IsStrictlySortedBy nat_cmp (range_with_len 0 n)
 range_sorted n = sorted_from_strictly_increasing (range_with_len 0 n) (λ k l.
@@ -71,16 +26,16 @@ range_sorted n = sorted_from_strictly_increasing (range_with_len 0 n) (λ k l.
 
 module _ (ls : List ℕ) where
   pub in_rows : (x i : ℕ) → Contains (rows_of ls x) i → (i < length ls) × (label_of ls i ≡ x)
-  in_rows x i h = let f = filter_in (λ i. nat_eq (label_of ls i) x) (range_with_len 0 (length ls)) i h in let t = f.1 in (in_range (length ls) i f.0, grind (arith, nat_tests, t))
+  in_rows x i h = let f = Contains-filter_source (λ i. nat_eq (label_of ls i) x) (range_with_len 0 (length ls)) i h in let t = f.1 in (Contains-range_below (length ls) i f.0, grind (arith, nat_tests, t))
 
   pub of_rows : (x i : ℕ) → i < length ls → label_of ls i ≡ x → Contains (rows_of ls x) i
-  of_rows x i l e = filter_of (λ i. nat_eq (label_of ls i) x) (range_with_len 0 (length ls)) i (of_range (length ls) i l) (grind (arith, nat_tests, e))
+  of_rows x i l e = Contains-filter (λ i. nat_eq (label_of ls i) x) (range_with_len 0 (length ls)) i (Contains-range (length ls) i l) (grind (arith, nat_tests, e))
 
   pub in_own : (i : ℕ) → Contains (own_rows ls) i → (i < length ls) × (label_of ls i ≡ i)
-  in_own i h = let f = filter_in (λ i. nat_eq (label_of ls i) i) (range_with_len 0 (length ls)) i h in let t = f.1 in (in_range (length ls) i f.0, grind (arith, nat_tests, t))
+  in_own i h = let f = Contains-filter_source (λ i. nat_eq (label_of ls i) i) (range_with_len 0 (length ls)) i h in let t = f.1 in (Contains-range_below (length ls) i f.0, grind (arith, nat_tests, t))
 
   pub of_own : (i : ℕ) → i < length ls → label_of ls i ≡ i → Contains (own_rows ls) i
-  of_own i l e = filter_of (λ i. nat_eq (label_of ls i) i) (range_with_len 0 (length ls)) i (of_range (length ls) i l) (grind (arith, nat_tests, e))
+  of_own i l e = Contains-filter (λ i. nat_eq (label_of ls i) i) (range_with_len 0 (length ls)) i (Contains-range (length ls) i l) (grind (arith, nat_tests, e))
 
   rows_sorted : (x : ℕ) → IsStrictlySortedBy nat_cmp (rows_of ls x)
   rows_sorted x = IsStrictlySortedBy-filter nat_cmp (λ i. nat_eq (label_of ls i) x) (range_with_len 0 (length ls)) (range_sorted (length ls))

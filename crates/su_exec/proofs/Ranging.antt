@@ -1,19 +1,13 @@
 -- Numbers from 0 on, and those of them that pass a test.
-use Rattle.std.proofs.Common.{◌≡◌, ℕ, zero, suc, ◌+◌, Bool, true, false, List, [], ◌∷◌, ◌++◌, refl, ap, ◌∙◌, arith}
+use Rattle.std.proofs.Common.{◌≡◌, ℕ, ◌+◌, Bool, true, false, List, [], ◌∷◌, ◌++◌, refl, ap, ◌∙◌}
 use Rattle.std.specs.Prelude.{cond, filter, map}
 use Rattle.std.proofs.lemmas.List.{map-append}
 use Rattle.std.specs.List.{range_with_len}
 use Rattle.std.proofs.lemmas.List.Elements.{filter-append}
-
-range_from : (a n j : ℕ) → a + n ≡ j → range_with_len a (suc n) ≡ range_with_len a n ++ j ∷ []
-range_from a zero j e = ap (λ x. x ∷ []) (let f : a ≡ j = omega arith in f)
-range_from a (suc n) j e = ap (λ r. a ∷ r) (range_from (a + 1) n j (omega arith))
-
-pub range_more : (n : ℕ) → range_with_len 0 (n + 1) ≡ range_with_len 0 n ++ n ∷ []
-range_more n = let e : n + 1 ≡ suc n = omega arith in ap (range_with_len 0) e ∙ range_from 0 n n (omega arith)
+use Rattle.su_base.proofs.Items.{range-push_zero}
 
 pub passing_more : (p : ℕ → Bool) (n : ℕ) → filter p (range_with_len 0 (n + 1)) ≡ filter p (range_with_len 0 n) ++ cond (p n) (n ∷ []) []
-passing_more p n = ap (filter p) (range_more n) ∙ filter-append p (range_with_len 0 n) (n ∷ [])
+passing_more p n = ap (filter p) (range-push_zero n) ∙ filter-append p (range_with_len 0 n) (n ∷ [])
 
 append_none : (xs : List ℕ) → xs ++ [] ≡ xs
 append_none [] = refl

@@ -12,6 +12,7 @@ use Rattle.std.proofs.lemmas.List.Elements.{All-cons, All-nil, All-head, All-tai
 use Rattle.std.proofs.lemmas.List.Folds.{Any-from_list_any}
 use Rattle.std.proofs.lemmas.Map.Keys.{sorted_head, sorted_tail}
 use Rattle.std.proofs.lemmas.Option.{same_Some}
+use Rattle.su_base.proofs.Items.{AllZip-push, Contains-map}
 use Rattle.su_base.specs.declared.values.Value.{Value}
 use Rattle.su_base.specs.declared.values.Value.TheVariants.{Int}
 use Rattle.su_base.specs.Value.{compare_lists}
@@ -32,8 +33,7 @@ use Rattle.su_exec.specs.declared.tasks.ExecFault.{ExecFault}
 use Rattle.su_exec.specs.declared.tasks.ExecFault.TheVariants.{More}
 use Rattle.su_exec.specs.declared.tasks.Task.{Task}
 use Rattle.su_exec.specs.inside.Bodies.{AreThere, HasMore, IsEmpty, IsGiven, IsMerged}
-use Rattle.su_reduce.specs.Codes.{AreApart, decode}
-use Rattle.su_reduce.specs.inside.Coded.{Extends}
+use Rattle.su_reduce.specs.Codes.{AreApart, decode, Extends}
 use Rattle.su_exec.specs.inside.Checks.{HasTerm, IsSpotIn, all_hold, check_holds, check_vars, code_of, spot_code, vars_of}
 use Rattle.su_exec.specs.inside.Coded.{AreRowEdges, IsCoded, NoneAgrees, meaning, meanings}
 use Rattle.su_exec.specs.inside.Edges.{Edge, Fits, FitsAll, Agree, Keeps, always, among, has}
@@ -43,7 +43,7 @@ use Rattle.su_exec.specs.Outputs.{Agrees, AreMore, AreOutputs, Holds, IsOutput}
 use Rattle.su_exec.specs.inside.Shown.{AreChecksOf, AreSpotsOf, AreTermsOf, HasSomeEdge, HasVars, IsCheckOf, IsMoreBy, IsShown, IsShownBy, IsTermOf, ShowsMore, spot_values, term_values, term_vars}
 use Rattle.su_exec.specs.Tasks.{IsTask, Occurs}
 use Rattle.su_exec.proofs.Bridging.{code_back, fits_all_codes, fits_all_values, place_in, placed}
-use Rattle.su_exec.proofs.Extending.{edges_up, meanings_same, contains_map}
+use Rattle.su_exec.proofs.Extending.{edges_up, meanings_same}
 use Rattle.su_exec.proofs.Keeping.{agree_at, agree_from}
 use Rattle.su_base.proofs.Rows.{rows_total}
 use Rattle.su_exec.proofs.Stepping.{code_same, has_first, has_second, has_either}
@@ -84,7 +84,7 @@ module _ (values : List Value) (e : Edge ℕ) (terms : List Term) (spots : List 
           fits = subst (λ (r : List ℕ). Contains e.rows r) (sym v.1) w.1;
           gives = sym (shown_values values e.vars terms spots v.0 are) ∙ ap (spot_values values spots) v.1 ∙ w.2;
         },
-    λ s. subst (λ (g : List Value). Contains (map (spot_values values spots) e.rows) g) (shown_values values e.vars terms spots s.valuation are ∙ s.gives) (contains_map (spot_values values spots) e.rows (map s.valuation e.vars) s.fits),
+    λ s. subst (λ (g : List Value). Contains (map (spot_values values spots) e.rows) g) (shown_values values e.vars terms spots s.valuation are ∙ s.gives) (Contains-map (spot_values values spots) e.rows (map s.valuation e.vars) s.fits),
   )
 
 less_before : (rows : List (List Value)) (i j : ℕ) → IsStrictlySortedBy compare_lists rows → i < j → j < length rows → compare_lists (get_or rows i []) (get_or rows j []) ≡ Less
@@ -107,15 +107,9 @@ shows_more values e terms n rows sorted each many = record {
 
 -- ---- pairs of elements
 
-zip_push : {A B : Type 0} (R : A → B → Type 0) (xs : List A) (ys : List B) (x : A) (y : B) → AllZip R xs ys → R x y → AllZip R (xs ++ x ∷ []) (ys ++ y ∷ [])
-zip_push R [] [] x y h r = (r, h)
-zip_push R [] (z ∷ ys) x y h r = absurd h
-zip_push R (w ∷ xs) [] x y h r = absurd h
-zip_push R (w ∷ xs) (z ∷ ys) x y h r = (h.0, zip_push R xs ys x y h.1 r)
-
 pub zip_more : {A B : Type 0} (R : A → B → Type 0) (xs : List A) (ys : List B) (i : ℕ) (x : A) (y : B) → i < length xs → x ≡ get_or xs i x → AllZip R (take i xs) ys → R x y → AllZip R (take (i + 1) xs) (ys ++ y ∷ [])
 zip_more {A} R xs ys i x y l e h r =
-    subst (λ (zs : List A). AllZip R zs (ys ++ y ∷ [])) (sym (take_more xs i x l ∙ ap (λ (z : A). take i xs ++ z ∷ []) (sym e))) (zip_push R (take i xs) ys x y h r)
+    subst (λ (zs : List A). AllZip R zs (ys ++ y ∷ [])) (sym (take_more xs i x l ∙ ap (λ (z : A). take i xs ++ z ∷ []) (sym e))) (AllZip-push R (take i xs) ys x y h r)
 
 -- ---- terms
 

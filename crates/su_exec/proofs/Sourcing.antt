@@ -1,5 +1,5 @@
 -- What the stored rows of a source give, and what the candidates of a row say.
-use Rattle.std.proofs.Common.{◌≡◌, ℕ, suc, ◌+◌, ◌<◌, ◌≤◌, ◌⊎◌, List, [], ◌∷◌, Some, length, get_or, slice_get, Contains, refl, sym, ap, subst, ◌∙◌, inl, inr, ⊎_elim, arith}
+use Rattle.std.proofs.Common.{◌≡◌, ℕ, ◌+◌, ◌<◌, ◌≤◌, ◌⊎◌, List, [], Some, length, get_or, slice_get, Contains, refl, sym, ap, subst, ◌∙◌, inl, inr, ⊎_elim, arith}
 use Rattle.std.specs.Prelude.{map, All, pos, IsTrue}
 use Rattle.std.proofs.lemmas.Bool.{cases_lt}
 use Rattle.std.proofs.lemmas.List.{get_or-map, length-map}
@@ -8,16 +8,15 @@ use Rattle.su_base.specs.declared.values.Value.{Value}
 use Rattle.su_base.specs.declared.values.Value.TheVariants.{Int}
 use Rattle.su_rel.specs.Stored.{Stored, IsRelation}
 use Rattle.su_tableau.specs.declared.symbols.Sym.{Sym}
-use Rattle.su_tableau.specs.declared.symbols.Sym.TheVariants.{Var}
-use Rattle.su_tableau.specs.Tableaux.{value_of, values_of}
+use Rattle.su_tableau.specs.Tableaux.{value_of}
 use Rattle.su_index.specs.Matches.{has_value, matches, IsMatch}
 use Rattle.su_index.specs.Tables.{table_at}
 use Rattle.su_index.proofs.Matched.{has_value-decides, match_of, match_unique}
 use Rattle.su_exec.specs.declared.tasks.Source.{Source}
 use Rattle.su_exec.specs.declared.tasks.TaskRow.{TaskRow}
-use Rattle.su_reduce.specs.Codes.{decode}
-use Rattle.su_reduce.specs.inside.Coded.{Extends}
-use Rattle.su_exec.specs.inside.Coded.{IsCoded, IsGathered, IsRowEdge, IsShape, IsTaken, meanings, picked}
+use Rattle.su_reduce.specs.Codes.{decode, Extends}
+use Rattle.su_reduce.specs.Shapes.{IsShapeOf}
+use Rattle.su_exec.specs.inside.Coded.{IsCoded, IsGathered, IsRowEdge, IsTaken, meanings, picked}
 use Rattle.su_exec.specs.inside.Edges.{Edge, FitsAll}
 use Rattle.su_exec.specs.Outputs.{values_at}
 use Rattle.su_exec.specs.Tasks.{FitsTables}
@@ -25,7 +24,8 @@ use Rattle.su_exec.specs.inside.Ways.{AgreesBySources, AreValues, IsAgreed, IsFr
 use Rattle.su_exec.proofs.Extending.{meanings_same, row_of}
 use Rattle.su_exec.proofs.Gathering.{gathered_as, gathered_from}
 use Rattle.su_exec.proofs.Keeping.{agree_at}
-use Rattle.su_exec.proofs.Shaping.{shape_has, taken_is, value_same}
+use Rattle.su_reduce.proofs.Exact.{same_values}
+use Rattle.su_exec.proofs.Shaping.{shape_has, taken_is}
 
 pub within_stored : (tables : List Stored) (n i : ℕ) (source : Source) (stored : List Value) → FitsTables tables n source → IsRelation (table_at tables source.relation) → slice_get (table_at tables source.relation).rows i ≡ Some stored → All (λ column. column < length stored) source.columns
 within_stored tables n i source stored fits relation at k d l =
@@ -208,18 +208,11 @@ module _ (tables : List Stored) (values : List Value) (es : List (Edge ℕ)) (ro
       inr (subst (λ (source : Source). IsAgreed tables values es row.cells firsts source h) s x.agreed))
       (cases_lt x.number n)
 
-values_same : (u v : ℕ → Value) (cells : List Sym) → ((k : ℕ) → Contains cells (Var k) → u k ≡ v k) → values_of u cells ≡ values_of v cells
-values_same u v [] h = refl
-values_same u v (cell ∷ cells) h =
-    let first : value_of u cell ≡ value_of v cell = value_same u v cell (λ k e. h k (0, omega arith, e)) in
-    let rest : values_of u cells ≡ values_of v cells = values_same u v cells (λ k c. h k (suc c.0, (let l = c.1 in omega arith), c.2)) in
-    ap (λ y. y ∷ values_of u cells) first ∙ ap (λ ys. value_of v cell ∷ ys) rest
-
 -- what is gathered from all sources is the edge of the row
 pub row_edge :
-    (tables : List Stored) (olds news : List Value) (es : List (Edge ℕ)) (row : TaskRow) (vars firsts : List ℕ) (rows : List (List ℕ)) → IsShape row.cells (length row.cells) vars firsts → All (IsCoded olds) es
+    (tables : List Stored) (olds news : List Value) (es : List (Edge ℕ)) (row : TaskRow) (vars firsts places : List ℕ) (rows : List (List ℕ)) → IsShapeOf row.cells (length row.cells) vars firsts places → All (IsCoded olds) es
     → IsGathered (IsOfSources tables row firsts (length row.sources)) (AgreesBySources tables olds es row firsts (length row.sources)) olds [] news rows → IsRowEdge tables news es row (record { vars = vars; rows = rows })
-row_edge tables olds news es row vars firsts rows shape coded g = record {
+row_edge tables olds news es row vars firsts places rows shape coded g = record {
   exact = λ v f. (
     λ a.
         let xs = values_at a.source.columns a.stored in
@@ -227,7 +220,7 @@ row_edge tables olds news es row vars firsts rows shape coded g = record {
         let t = a.in_table in
         let sl = s.1 in
         let old : FitsAll v (meanings olds es) = subst (FitsAll v) (meanings_same olds news g.codes es coded) f in
-        subst (λ (h : List Value). Contains (map (map (decode news)) rows) h) (taken_is row.cells (length row.cells) vars firsts v xs shape a.same) (g.had (picked firsts xs) (record {
+        subst (λ (h : List Value). Contains (map (map (decode news)) rows) h) (taken_is row.cells vars firsts places shape v xs a.same) (g.had (picked firsts xs) (record {
           number = s.0;
           below = sl;
           source = a.source;
@@ -250,19 +243,19 @@ row_edge tables olds news es row vars firsts rows shape coded g = record {
         let t = p.given.taken in
         let u = t.valuation in
         let xs = values_at p.source.columns p.given.stored in
-        let e : map u vars ≡ map v vars = sym (taken_is row.cells (length row.cells) vars firsts u xs shape t.fits) ∙ t.is ∙ w.2 in
+        let e : map u vars ≡ map v vars = sym (taken_is row.cells vars firsts places shape u xs t.fits) ∙ t.is ∙ w.2 in
         let stored = (table_at tables p.source.relation).rows in
         record {
           source = p.source;
           of_row = (p.number, slice_get_within row.sources p.number p.source p.is, get_or_from_slice_get row.sources p.number p.source p.source p.is);
           stored = p.given.stored;
           in_table = (p.given.position, slice_get_within stored p.given.position p.given.stored p.given.at, get_or_from_slice_get stored p.given.position p.given.stored p.given.stored p.given.at);
-          same = t.fits ∙ values_same u v row.cells (λ k h. agree_at u v vars e k (shape_has row.cells vars firsts shape k h));
+          same = t.fits ∙ same_values u v row.cells (λ k h. agree_at u v vars e k (shape_has row.cells vars firsts places shape k h));
         })
         (g.only w.0 w.1),
   );
   coded = g.coded;
-  all = λ k h. shape_has row.cells vars firsts shape k h;
+  all = λ k h. shape_has row.cells vars firsts places shape k h;
 }
 
 -- what agrees beside candidates agrees beside them after codes were added

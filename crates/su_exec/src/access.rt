@@ -5,19 +5,18 @@ ghost use Rattle.su_tableau.specs.declared.symbols.Sym.TheVariants.{Const};
 ghost use Rattle.su_index.specs.Matches.{matches};
 ghost use Rattle.su_index.specs.Tables.{table_at};
 ghost use Rattle.su_exec.specs.inside.Coded.{AreCoded, IsCoded};
-ghost use Rattle.su_reduce.specs.inside.Coded.{Extends};
+ghost use Rattle.su_reduce.specs.Codes.{Extends};
 ghost use Rattle.su_exec.specs.Shares.{share};
 ghost use Rattle.su_exec.specs.Tasks.{FitsTables, HasSources};
 ghost use Rattle.su_exec.specs.inside.Ways.{IsCheapest, IsWay, matches_all};
 
 use crate::candidates::Candidates;
 use crate::places::place_of;
-use crate::shapes::variable_of;
 use crate::tasks::{Source, TaskRow};
 use std::alloc::{AllocError, Global};
 use su_base::Value;
 use su_index::Rows;
-use su_reduce::{Codes, Distinct, Sheet};
+use su_reduce::{Codes, Distinct, Sheet, variable_of};
 use su_tableau::Sym;
 
 /// How the rows of a source are reached, and how many are fetched.
@@ -192,6 +191,10 @@ fn by_constants<R: Rows>(
 /// An index is asked for at most one value for so many rows that it may save.
 const WORTH: usize = 8;
 
+/// An index is used where it leaves fewer than one row of so many: a row that it gives is searched for, and
+/// read out of order.
+const LEAVES: usize = 2;
+
 /// The better of the way so far and the one by what is known of the variable at the place.
 fn by_variable<R: Rows>(
     alloc: Global,
@@ -222,8 +225,9 @@ fn by_variable<R: Rows>(
     }
     let column = *source.columns.get(p);
     let values = codes_at(alloc, edge, place)?;
-    let cost = matching_all(rows, source.relation, column, codes, &values, best.cost);
-    if cost >= best.cost {
+    let most = best.cost / LEAVES;
+    let cost = matching_all(rows, source.relation, column, codes, &values, most);
+    if cost >= most {
         return Ok(best);
     }
     Ok(Access {

@@ -2,6 +2,7 @@
 ghost use Rattle.std.specs.Prelude.{◌≡◌, ℕ, true, List, [], ◌∷◌, ◌++◌, length, All, Contains, IfOk};
 ghost use Rattle.su_exec.specs.inside.Checks.{IsTestIn, all_pass};
 ghost use Rattle.su_exec.specs.inside.Edges.{has, among};
+ghost use Rattle.su_reduce.specs.Left.{marked};
 ghost use Rattle.su_reduce.specs.Sheets.{pick, AreBelow};
 ghost use Rattle.su_exec.specs.inside.Joins.{FitColumns, IsApart, IsJoinOf, IsReal, out_vars};
 ghost use Rattle.su_exec.specs.inside.Semijoins.{IsSemijoin};
@@ -80,6 +81,14 @@ impl Candidates {
         Ok(Candidates::new(vars, rows))
     }
 
+    /// Keeps the marked rows. It takes no memory.
+    pub fn keep(&mut self, marks: &[bool])
+        requires { length marks.now ≡ length self.old.rows }
+        ensures { self.new ≡ record { vars = self.old.vars; rows = marked marks.now self.old.rows } }
+    {
+        self.rows.keep(marks);
+    }
+
     /// The variables.
     pub fn vars(&self) -> &[u32]
         ensures { result.now ≡ self.now.vars }
@@ -104,16 +113,16 @@ impl Candidates {
     }
 }
 
-/// The first without the rows that have no partner in the second.
-pub fn semijoin(alloc: Global, a: &Candidates, b: &Candidates) -> Result<Candidates, AllocError>
-    ensures { IfOk result (IsSemijoin a.now b.now) }
+/// Which rows of the first have a partner in the second.
+pub fn partners(alloc: Global, a: &Candidates, b: &Candidates) -> Result<Vec<bool>, AllocError>
+    ensures length { IfOk result (λ marks. length marks.items ≡ length a.now.rows) }
+    ensures semijoin { IfOk result (λ marks. IsSemijoin a.now b.now (record { vars = a.now.vars; rows = marked marks.items a.now.rows })) }
 {
     let mut left = Vec::new(alloc);
     let mut right = Vec::new(alloc);
     shared_places(a.vars(), b.vars(), &mut left, &mut right)?;
-    let kept = with_partners(alloc, a.rows(), &left, b.rows(), &right)?;
-    let reduced = a.with_rows(alloc, kept)?;
-    Ok(reduced)
+    let marks = with_partners(alloc, a.rows(), &left, b.rows(), &right)?;
+    Ok(marks)
 }
 
 /// Puts the variables at these places after what is there.

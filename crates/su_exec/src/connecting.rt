@@ -6,10 +6,10 @@ ghost use Rattle.su_tableau.specs.declared.symbols.Sym.TheVariants.{Var};
 ghost use Rattle.su_exec.specs.Components.{AreComponents, AreConnected, IsLabelling};
 ghost use Rattle.su_exec.specs.inside.Labels.{AreLabels, IsFirst, IsFirstOf, KeepsLabels, label_of, relabelled, rows_of};
 
-use crate::shapes::variable_of;
 use crate::tasks::{Compared, Task};
 use std::alloc::{AllocError, Global};
 use su_base::{List, NoMemory};
+use su_reduce::variable_of;
 use su_tableau::Sym;
 
 /// The smaller label in place of the greater.

@@ -1,6 +1,6 @@
 //! The outputs of all valuations.
 ghost use Rattle.std.specs.Prelude.{◌≡◌, ◌≤◌, ◌+◌, length, IfOk, IfErr};
-ghost use Rattle.su_reduce.specs.inside.Coded.{Extends};
+ghost use Rattle.su_reduce.specs.Codes.{Extends};
 ghost use Rattle.su_exec.specs.inside.Shown.{AreChecksOf, AreTermsOf, HasSomeEdge, HasVars, IsCheckOf, IsMoreBy, IsShownBy, IsTermOf, term_vars};
 ghost use Rattle.su_exec.specs.Tasks.{IsTask};
 ghost use Rattle.su_exec.specs.Outputs.{AreOutputs, AreMore};

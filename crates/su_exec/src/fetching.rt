@@ -4,9 +4,9 @@ ghost use Rattle.su_base.specs.declared.values.Value.{Value as AValue};
 ghost use Rattle.su_rel.specs.Stored.{IsRelation};
 ghost use Rattle.su_index.specs.Matches.{matches};
 ghost use Rattle.su_index.specs.Tables.{table_at};
-ghost use Rattle.su_reduce.specs.Codes.{decode};
-ghost use Rattle.su_reduce.specs.inside.Coded.{Extends};
-ghost use Rattle.su_exec.specs.inside.Coded.{AreCoded, AreRowEdges, AreSoFar, IsCoded, IsGathered, IsRowEdge, IsShape, IsTaken, NoneAgrees, picked};
+ghost use Rattle.su_reduce.specs.Codes.{decode, Extends};
+ghost use Rattle.su_reduce.specs.Shapes.{IsShape};
+ghost use Rattle.su_exec.specs.inside.Coded.{AreCoded, AreRowEdges, AreSoFar, IsCoded, IsGathered, IsRowEdge, IsTaken, NoneAgrees, picked};
 ghost use Rattle.su_reduce.specs.Sheets.{AreBelow};
 ghost use Rattle.su_exec.specs.Outputs.{values_at};
 ghost use Rattle.su_exec.specs.Shares.{row_share, share, task_share};
@@ -17,12 +17,11 @@ use crate::access::{Way, access_of, share_of};
 use crate::candidates::Candidates;
 use crate::connecting::own_labels;
 use crate::places::is_in;
-use crate::shapes::{Shape, fits, shape_of, value_at};
 use crate::tasks::{Source, Task, TaskRow};
 use std::alloc::{AllocError, Global};
 use su_base::{List, Row, Value};
 use su_index::Rows;
-use su_reduce::{Codes, Distinct, Sheet};
+use su_reduce::{Codes, Columns, Distinct, Shape, Sheet, fits, shape_of, value_at};
 use su_tableau::Sym;
 
 /// Puts in the codes of the stored row's values at these places.
@@ -42,7 +41,7 @@ fn code_row(
     ensures values { IfOk result (λ _. map (decode codes.new) cells.new.items ≡ picked firsts.now (values_at columns.now stored.now)) }
 {
     for first in firsts {
-        let code = codes.code(alloc, value_at(columns, stored, *first))?;
+        let code = codes.code(alloc, value_at(&Columns::Listed(columns), stored, *first))?;
         cells.push(code)?;
     }
     Ok(())
@@ -59,7 +58,7 @@ fn select(
     cells: &mut Vec<u32>,
     out: &mut Distinct,
 ) -> Result<(), AllocError>
-    requires shape { IsShape row.now.cells (length row.now.cells) shape.now.vars.items shape.now.firsts.items }
+    requires shape { IsShape row.now.cells shape.now }
     requires columns { length columns.now ≡ length row.now.cells }
     requires within { All (λ column. column < length stored.now) columns.now }
     requires width { out.old.width ≡ length shape.now.firsts.items }
@@ -67,7 +66,7 @@ fn select(
     ensures width { IfOk result (λ _. out.new.width ≡ out.old.width) }
     ensures gathered { IfOk result (λ _. IsGathered (IsTaken row.now.cells shape.now.firsts.items columns.now stored.now) (IsTaken row.now.cells shape.now.firsts.items columns.now stored.now) codes.old out.old.rows codes.new out.new.rows) }
 {
-    if !fits(&row.cells, shape, columns, stored) {
+    if !fits(&row.cells, shape, &Columns::Listed(columns), stored) {
         return Ok(());
     }
     cells.clear();
@@ -91,7 +90,7 @@ fn fetch_one<R: Rows>(
     requires source { FitsTables (R.tables rows.old) (length row.now.cells) source.now }
     requires relation { IsRelation (table_at (R.tables rows.old) source.now.relation) }
     requires position { position < length (table_at (R.tables rows.old) source.now.relation).rows }
-    requires shape { IsShape row.now.cells (length row.now.cells) shape.now.vars.items shape.now.firsts.items }
+    requires shape { IsShape row.now.cells shape.now }
     requires width { out.old.width ≡ length shape.now.firsts.items }
     requires coded { AreCoded codes.old out.old.rows }
     ensures width { IfOk result (λ _. out.new.width ≡ out.old.width) }
@@ -125,7 +124,7 @@ fn fetch_all<R: Rows>(
     out: &mut Distinct,
 ) -> Result<(), AllocError>
     requires source { FitsTables (R.tables rows.old) (length row.now.cells) source.now }
-    requires shape { IsShape row.now.cells (length row.now.cells) shape.now.vars.items shape.now.firsts.items }
+    requires shape { IsShape row.now.cells shape.now }
     requires width { out.old.width ≡ length shape.now.firsts.items }
     requires coded { AreCoded codes.old out.old.rows }
     ensures width { IfOk result (λ _. out.new.width ≡ out.old.width) }
@@ -154,7 +153,7 @@ fn fetch_matching<R: Rows>(
 ) -> Result<(), AllocError>
     requires source { FitsTables (R.tables rows.old) (length row.now.cells) source.now }
     requires column { column < (table_at (R.tables rows.old) source.now.relation).width }
-    requires shape { IsShape row.now.cells (length row.now.cells) shape.now.vars.items shape.now.firsts.items }
+    requires shape { IsShape row.now.cells shape.now }
     requires width { out.old.width ≡ length shape.now.firsts.items }
     requires coded { AreCoded codes.old out.old.rows }
     ensures width { IfOk result (λ _. out.new.width ≡ out.old.width) }
@@ -187,7 +186,7 @@ fn fetch_values<R: Rows>(
     requires column { column < (table_at (R.tables rows.old) source.now.relation).width }
     requires one { values.now.width ≡ 1 }
     requires values { AreCoded codes.old values.now.rows }
-    requires shape { IsShape row.now.cells (length row.now.cells) shape.now.vars.items shape.now.firsts.items }
+    requires shape { IsShape row.now.cells shape.now }
     requires width { out.old.width ≡ length shape.now.firsts.items }
     requires coded { AreCoded codes.old out.old.rows }
     ensures width { IfOk result (λ _. out.new.width ≡ out.old.width) }
@@ -220,7 +219,7 @@ fn fetch_source<R: Rows>(
 ) -> Result<(), AllocError>
     requires source { FitsTables (R.tables rows.old) (length row.now.cells) source.now }
     requires edges { All (IsCoded codes.old) edges.now }
-    requires shape { IsShape row.now.cells (length row.now.cells) shape.now.vars.items shape.now.firsts.items }
+    requires shape { IsShape row.now.cells shape.now }
     requires width { out.old.width ≡ length shape.now.firsts.items }
     requires coded { AreCoded codes.old out.old.rows }
     ensures width { IfOk result (λ _. out.new.width ≡ out.old.width) }

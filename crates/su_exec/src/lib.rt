@@ -29,7 +29,6 @@ mod order;
 mod places;
 mod reducing;
 mod semijoins;
-mod shapes;
 mod tasks;
 mod threes;
 

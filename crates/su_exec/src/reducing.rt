@@ -3,7 +3,7 @@ ghost use Rattle.std.specs.Prelude.{◌≡◌, ◌≢◌, ◌<◌, ◌+◌, ℕ,
 ghost use Rattle.su_exec.specs.inside.Semijoins.{Leaves};
 ghost use Rattle.su_exec.specs.inside.Edges.{FitsAll, Same, among, has};
 
-use crate::candidates::{Candidates, semijoin};
+use crate::candidates::{Candidates, partners};
 use crate::connecting::own_labels;
 use crate::merging::{Body, wanted_by};
 use crate::order::{Link, ear_order};
@@ -24,8 +24,8 @@ fn reduce_one(
     if i == j || i >= edges.len() || j >= edges.len() {
         return Ok(());
     }
-    let reduced = semijoin(alloc, &edges[i], &edges[j])?;
-    edges[i] = reduced;
+    let marks = partners(alloc, &edges[i], &edges[j])?;
+    edges[i].keep(&marks);
     Ok(())
 }
 
@@ -70,8 +70,8 @@ fn take_ear(
 {
     let ear = body.edges.remove(i);
     let parent = after(i, j);
-    let reduced = semijoin(alloc, &body.edges[parent], &ear)?;
-    body.edges[parent] = reduced;
+    let marks = partners(alloc, &body.edges[parent], &ear)?;
+    body.edges[parent].keep(&marks);
     let wanted = wanted_by(alloc, body, needed)?;
     if has_wanted(body.edges[parent].vars(), ear.vars(), &wanted) {
         return Ok(true);

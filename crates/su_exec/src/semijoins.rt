@@ -1,9 +1,8 @@
-//! The rows of codes that have a partner among others, by the semijoin of su_reduce.
-ghost use Rattle.std.specs.Prelude.{◌≡◌, ◌<◌, ℕ, false, IfOk, IsTrue, length, get_or};
-ghost use Rattle.su_reduce.specs.Sheets.{AreBelow};
-ghost use Rattle.su_exec.specs.inside.Semijoins.{AreKept};
+//! Which rows of codes have a partner among others, by the semijoin of su_reduce.
+ghost use Rattle.std.specs.Prelude.{◌≡◌, ◌↔◌, ◌<◌, ℕ, false, [], IfOk, IsTrue, length, get_or};
+ghost use Rattle.su_reduce.specs.Sheets.{AreBelow, pick};
+ghost use Rattle.su_exec.specs.inside.Semijoins.{HasKey};
 
-use crate::narrowing::push_if;
 use std::alloc::{AllocError, Global};
 use su_reduce::{Sheet, Side, partner_marks};
 
@@ -16,19 +15,19 @@ fn all_marked(alloc: Global, count: usize) -> Result<Vec<bool>, AllocError>
     Ok(marks)
 }
 
-/// The rows on the left that have a partner: a row on the right with their key.
+/// Which rows on the left have a partner: a row on the right with their key.
 pub fn with_partners(
     alloc: Global,
     left: &Sheet,
     left_key: &[usize],
     right: &Sheet,
     right_key: &[usize],
-) -> Result<Sheet, AllocError>
+) -> Result<Vec<bool>, AllocError>
     requires left { AreBelow left_key.now left.now.width }
     requires right { AreBelow right_key.now right.now.width }
     requires keys { length left_key.now ≡ length right_key.now }
-    ensures width { IfOk result (λ kept. kept.width ≡ left.now.width) }
-    ensures rows { IfOk result (λ kept. AreKept left.now.rows right.now.rows left_key.now right_key.now (length left.now.rows) kept.rows) }
+    ensures length { IfOk result (λ marks. length marks.items ≡ length left.now.rows) }
+    ensures exact { IfOk result (λ marks. (i : ℕ) → i < length left.now.rows → IsTrue (get_or marks.items i false) ↔ HasKey right.now.rows right_key.now (length right.now.rows) (pick left_key.now (get_or left.now.rows i []))) }
 {
     let all_left = all_marked(alloc, left.len())?;
     let all_right = all_marked(alloc, right.len())?;
@@ -43,9 +42,5 @@ pub fn with_partners(
         key: right_key,
     };
     let marks = partner_marks(alloc, &left_side, &right_side)?;
-    let mut kept = Sheet::new(alloc, left.width());
-    for i in 0..left.len() {
-        push_if(&mut kept, left.row(i), marks[i])?;
-    }
-    Ok(kept)
+    Ok(marks)
 }

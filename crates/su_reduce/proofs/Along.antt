@@ -2,15 +2,16 @@
 use Rattle.std.proofs.Common.{◌≡◌, ◌≢◌, ◌<◌, ◌≤◌, ℕ, zero, suc, Bool, true, false, cond, List, [], ◌∷◌, ◌++◌, take, drop, length, get_or, Contains, Option, None, Some, ⊎_elim, refl, sym, ap, subst, ◌∙◌, ◌+◌, append-nil, arith}
 use Rattle.std.proofs.lemmas.List.{length-map}
 use Rattle.std.proofs.lemmas.List.Elements.{Contains-get_or}
+use Rattle.su_base.proofs.Items.{Contains-cases, Contains-head, Contains-later, Contains-nil}
 use Rattle.su_base.specs.declared.values.Value.{Value}
 use Rattle.su_tableau.specs.declared.symbols.Sym.{Sym}
 use Rattle.su_reduce.specs.declared.edges.Edge.{Edge}
 use Rattle.su_reduce.specs.declared.edges.Ear.{Ear}
 use Rattle.su_reduce.specs.Ears.{cells_of, HasVar, Share, IsParent, numbers, AreEars, IsEarOrder}
 use Rattle.su_reduce.specs.Left.{cells_at, candidates_at, marked, AreLeft}
-use Rattle.su_reduce.specs.inside.Marks.{IsMarked, marks_at, candidate_at, Fits, HasPartner, AreMarks, IsSemijoin}
+use Rattle.su_reduce.specs.Shapes.{Fits}
+use Rattle.su_reduce.specs.inside.Marks.{IsMarked, marks_at, candidate_at, HasPartner, AreMarks, IsSemijoin}
 use Rattle.su_reduce.specs.inside.Reduced.{GivesMarked, AreReduced, or_first, next_of}
-use Rattle.su_reduce.proofs.Taking.{contains_cases, contains_head, contains_tail, contains_none}
 use Rattle.su_reduce.proofs.Exact.{join_chosen, join_fewer, exact_step}
 
 -- what an ear's edge shares with those behind it is had by the one that it is joined with
@@ -20,7 +21,7 @@ pub record IsJoinedWith (edges : List (List Sym)) (e : ℕ) (later : List Ear) (
 
 pub joined_with : (edges : List (List Sym)) (e : ℕ) (parent : Option ℕ) (next : Ear) (later : List Ear) → IsParent edges e (Contains (numbers (next ∷ later))) parent → IsJoinedWith edges e (next ∷ later) (or_first parent (next ∷ later))
 joined_with edges e None next later is = record {
-  behind = contains_head next.edge (numbers later);
+  behind = Contains-head next.edge (numbers later);
   shares = λ j k there s. absurd (is j k there s);
 }
 joined_with edges e (Some p) next later is = record {
@@ -29,7 +30,7 @@ joined_with edges e (Some p) next later is = record {
 }
 
 only : (e i : ℕ) → Contains (e ∷ []) i → e ≡ i
-only e i c = ⊎_elim (λ (is : e ≡ i). is) (λ (there : Contains [] i). absurd (contains_none i there)) (contains_cases e [] i c)
+only e i c = ⊎_elim (λ (is : e ≡ i). is) (λ (there : Contains [] i). absurd (Contains-nil i there)) (Contains-cases e [] i c)
 
 -- with one ear, or with none, nothing has to be taken away
 pub alone : (edges : List Edge) (order : List Ear) (marks : List (List Bool)) → length order < 2 → AreMarks edges marks → ((i : ℕ) → Contains (numbers order) i → i < length edges) → AreReduced edges (numbers order) marks marks
@@ -53,7 +54,7 @@ alone edges order marks few are within = record {
 }
   where
     one : (order : List Ear) → length order < 2 → (i j : ℕ) → Contains (numbers order) i → Contains (numbers order) j → i ≡ j
-    one [] few i j ci cj = absurd (contains_none i ci)
+    one [] few i j ci cj = absurd (Contains-nil i ci)
     one (ear ∷ []) few i j ci cj = sym (only ear.edge i ci) ∙ only ear.edge j cj
     one (ear ∷ next ∷ later) few i j ci cj = absurd (omega (arith, few))
 
@@ -74,8 +75,8 @@ module _ (edges : List Edge) (e par : ℕ) (later : List Ear) (m0 m1 m2 m3 : Lis
     marks = down.marks;
     fewer = λ i p l m. join_fewer edges par e m0 m1 up i p l (rest.fewer i p l (join_fewer edges e par m2 m3 down i p l m));
     others = λ i out.
-        let not_e : i ≢ e = λ is. out (subst (λ (n : ℕ). Contains (e ∷ numbers later) n) (sym is) (contains_head e (numbers later))) in
-        let not_later : ¬ Contains (numbers later) i = λ there. out (contains_tail e (numbers later) i there) in
+        let not_e : i ≢ e = λ is. out (subst (λ (n : ℕ). Contains (e ∷ numbers later) n) (sym is) (Contains-head e (numbers later))) in
+        let not_later : ¬ Contains (numbers later) i = λ there. out (Contains-later e (numbers later) i there) in
         let not_par : i ≢ par = λ is. not_later (subst (Contains (numbers later)) (sym is) with.behind) in
         down.others i not_e ∙ rest.others i not_later ∙ up.others i not_par;
     chosen = λ c. join_chosen edges e par m2 m3 par_low down (rest.chosen (join_chosen edges par e m0 m1 e_low up c));
@@ -91,14 +92,14 @@ module _ (edges : List Edge) where
 
   pub first_low : (order : List Ear) → 2 ≤ length order → AreWithin order → (first_of order).edge < length edges
   first_low [] long within = absurd (omega (arith, long))
-  first_low (x ∷ later) long within = within x.edge (contains_head x.edge (numbers later))
+  first_low (x ∷ later) long within = within x.edge (Contains-head x.edge (numbers later))
 
   pub next_low : (order : List Ear) → 2 ≤ length order → AreEars (cells_of edges) order → AreWithin order → next_of order < length edges
   next_low [] long ears within = absurd (omega (arith, long))
   next_low (x ∷ []) long ears within = absurd (omega (arith, long))
   next_low (x ∷ next ∷ later) long ears within =
       let with = joined_with (cells_of edges) x.edge x.parent next later ears.1 in
-      within (or_first x.parent (next ∷ later)) (contains_tail x.edge (numbers (next ∷ later)) (or_first x.parent (next ∷ later)) with.behind)
+      within (or_first x.parent (next ∷ later)) (Contains-later x.edge (numbers (next ∷ later)) (or_first x.parent (next ∷ later)) with.behind)
 
   pub later_ears : (order tail : List Ear) → 2 ≤ length order → tail ≡ drop 1 order → AreEars (cells_of edges) order → AreEars (cells_of edges) tail
   later_ears [] tail long is ears = absurd (omega (arith, long))
@@ -106,7 +107,7 @@ module _ (edges : List Edge) where
 
   pub later_within : (order tail : List Ear) → 2 ≤ length order → tail ≡ drop 1 order → AreWithin order → AreWithin tail
   later_within [] tail long is within = absurd (omega (arith, long))
-  later_within (x ∷ later) tail long is within = subst AreWithin (sym is) (λ i c. within i (contains_tail x.edge (numbers later) i c))
+  later_within (x ∷ later) tail long is within = subst AreWithin (sym is) (λ i c. within i (Contains-later x.edge (numbers later) i c))
 
   pub reduced : (order tail : List Ear) (par : ℕ) (m0 m1 m2 m3 : List (List Bool)) → 2 ≤ length order → tail ≡ drop 1 order → par ≡ next_of order → AreEars (cells_of edges) order → AreWithin order
       → IsSemijoin edges par (first_of order).edge m0 m1 → AreReduced edges (numbers tail) m1 m2 → IsSemijoin edges (first_of order).edge par m2 m3 → AreReduced edges (numbers order) m0 m3
@@ -115,7 +116,7 @@ module _ (edges : List Edge) where
   reduced (x ∷ next ∷ later) tail par m0 m1 m2 m3 long tail_is par_is ears within up rest down =
       let p = or_first x.parent (next ∷ later) in
       along edges x.edge p (next ∷ later) m0 m1 m2 m3
-      (within x.edge (contains_head x.edge (numbers (next ∷ later)))) (next_low (x ∷ next ∷ later) long ears within)
+      (within x.edge (Contains-head x.edge (numbers (next ∷ later)))) (next_low (x ∷ next ∷ later) long ears within)
       ears.0 (joined_with (cells_of edges) x.edge x.parent next later ears.1)
       (subst (λ (n : ℕ). IsSemijoin edges n x.edge m0 m1) par_is up)
       (subst (λ (order : List Ear). AreReduced edges (numbers order) m1 m2) tail_is rest)

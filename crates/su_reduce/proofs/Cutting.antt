@@ -4,7 +4,7 @@ use Rattle.std.proofs.lemmas.Grind.{common_steps}
 use Rattle.std.proofs.lemmas.List.{take-append-le, drop-append-le, drop-drop, take_all, length-take-le, get_or_default}
 use Rattle.su_reduce.specs.Sheets.{cut}
 
-times_le : (a b k : ℕ) → a ≤ b → a * k ≤ b * k
+pub times_le : (a b k : ℕ) → a ≤ b → a * k ≤ b * k
 times_le a b k h = grind arith
 
 pub length-cut : (w n : ℕ) (cells : List ℕ) → length (cut w n cells) ≡ n

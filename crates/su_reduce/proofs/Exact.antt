@@ -3,6 +3,7 @@ use Rattle.std.proofs.Common.{◌≡◌, ◌≢◌, ◌<◌, ℕ, zero, suc, Boo
 use Rattle.std.proofs.lemmas.Bool.{cases_eq, cases_Bool}
 use Rattle.std.proofs.lemmas.Bool.Decides.{nat_tests}
 use Rattle.std.proofs.lemmas.List.{get_or_default}
+use Rattle.su_base.proofs.Items.{Contains-cases, Contains-head, Contains-later, Contains-nil}
 use Rattle.su_base.specs.declared.values.Value.{Value}
 use Rattle.su_tableau.specs.declared.symbols.Sym.{Sym}
 use Rattle.su_tableau.specs.declared.symbols.Sym.TheVariants.{Const, Var}
@@ -12,7 +13,6 @@ use Rattle.su_reduce.specs.Ears.{cells_of, HasVar, Share}
 use Rattle.su_reduce.specs.Left.{cells_at, candidates_at}
 use Rattle.su_reduce.specs.inside.Marks.{IsMarked, marks_at, mark, candidate_at, HasPartner, IsSemijoin}
 use Rattle.su_reduce.specs.inside.Reduced.{GivesMarked, HasChosen, TakesPart, AreExact}
-use Rattle.su_reduce.proofs.Taking.{contains_cases, contains_head, contains_tail, contains_none}
 
 -- ---- valuations
 
@@ -30,43 +30,43 @@ no_variable : (d : Value) (k : ℕ) → Const d ≡ Var k → ⊥
 no_variable d k e = cc
 
 has_yes : (cells : List Sym) (k : ℕ) → Contains cells (Var k) → has cells k ≡ true
-has_yes [] k c = absurd (contains_none (Var k) c)
+has_yes [] k c = absurd (Contains-nil (Var k) c)
 has_yes (Const d ∷ cells) k c =
     ⊎_elim
     (λ (e : Const d ≡ Var k). absurd (no_variable d k e))
     (λ (there : Contains cells (Var k)). has_yes cells k there)
-    (contains_cases (Const d) cells (Var k) c)
+    (Contains-cases (Const d) cells (Var k) c)
 has_yes (Var j ∷ cells) k c =
     ⊎_elim
     (λ (e : Var j ≡ Var k). let same : j ≡ k = cc in grind (arith, nat_tests, same))
     (λ (there : Contains cells (Var k)). let rest = has_yes cells k there in grind (arith, nat_tests, rest))
-    (contains_cases (Var j) cells (Var k) c)
+    (Contains-cases (Var j) cells (Var k) c)
 
 has_there : (cells : List Sym) (k : ℕ) → has cells k ≡ true → Contains cells (Var k)
 has_there [] k h = absurd (true≢false (sym h))
-has_there (Const d ∷ cells) k h = contains_tail (Const d) cells (Var k) (has_there cells k h)
+has_there (Const d ∷ cells) k h = Contains-later (Const d) cells (Var k) (has_there cells k h)
 has_there (Var j ∷ cells) k h =
     ⊎_elim
-    (λ (e : j ≡ k). subst (λ (n : ℕ). Contains (Var j ∷ cells) (Var n)) e (contains_head (Var j) cells))
-    (λ (ne : j ≡ k → ⊥). let rest : has cells k ≡ true = grind (arith, nat_tests, h, ne) in contains_tail (Var j) cells (Var k) (has_there cells k rest))
+    (λ (e : j ≡ k). subst (λ (n : ℕ). Contains (Var j ∷ cells) (Var n)) e (Contains-head (Var j) cells))
+    (λ (ne : j ≡ k → ⊥). let rest : has cells k ≡ true = grind (arith, nat_tests, h, ne) in Contains-later (Var j) cells (Var k) (has_there cells k rest))
     (cases_eq j k)
 
 -- valuations that agree on the variables of the cells give them the same values
-same_values : (u v : ℕ → Value) (cells : List Sym) → ((k : ℕ) → Contains cells (Var k) → u k ≡ v k) → values_of u cells ≡ values_of v cells
+pub same_values : (u v : ℕ → Value) (cells : List Sym) → ((k : ℕ) → Contains cells (Var k) → u k ≡ v k) → values_of u cells ≡ values_of v cells
 same_values u v [] agree = refl
-same_values u v (Const d ∷ cells) agree = ap (λ (xs : List Value). d ∷ xs) (same_values u v cells (λ k c. agree k (contains_tail (Const d) cells (Var k) c)))
+same_values u v (Const d ∷ cells) agree = ap (λ (xs : List Value). d ∷ xs) (same_values u v cells (λ k c. agree k (Contains-later (Const d) cells (Var k) c)))
 same_values u v (Var j ∷ cells) agree =
-    ap (λ (x : Value). x ∷ values_of u cells) (agree j (contains_head (Var j) cells))
-    ∙ ap (λ (xs : List Value). v j ∷ xs) (same_values u v cells (λ k c. agree k (contains_tail (Var j) cells (Var k) c)))
+    ap (λ (x : Value). x ∷ values_of u cells) (agree j (Contains-head (Var j) cells))
+    ∙ ap (λ (xs : List Value). v j ∷ xs) (same_values u v cells (λ k c. agree k (Contains-later (Var j) cells (Var k) c)))
 
 -- and the other way round
 agree_at : (u v : ℕ → Value) (cells : List Sym) (k : ℕ) → values_of u cells ≡ values_of v cells → Contains cells (Var k) → u k ≡ v k
-agree_at u v [] k same c = absurd (contains_none (Var k) c)
+agree_at u v [] k same c = absurd (Contains-nil (Var k) c)
 agree_at u v (x ∷ cells) k same c =
     ⊎_elim
     (λ (e : x ≡ Var k). let head : value_of u x ≡ value_of v x = cc in let left : value_of u x ≡ u k = ap (value_of u) e in let right : value_of v x ≡ v k = ap (value_of v) e in sym left ∙ head ∙ right)
     (λ (there : Contains cells (Var k)). let rest : values_of u cells ≡ values_of v cells = cc in agree_at u v cells k rest there)
-    (contains_cases x cells (Var k) c)
+    (Contains-cases x cells (Var k) c)
 
 pub patched_own : (cells : List Sym) (u v : ℕ → Value) → values_of (patched cells u v) cells ≡ values_of u cells
 patched_own cells u v = same_values (patched cells u v) u cells (λ k c. ap (λ b. cond b (u k) (v k)) (has_yes cells k c))
@@ -149,7 +149,7 @@ extended edges e par p later old new u v others apart shares lp marked gives sam
       is_marked = marked_after old new j g.place (others j jn) g.is_marked;
       gives = patched_behind edges e par j later u v shares same there ∙ g.gives;
     })
-    (contains_cases e later j c)
+    (Contains-cases e later j c)
 
 -- ---- a step on the way back
 
@@ -189,4 +189,4 @@ exact_step edges e par later old new s exact in_later apart shares stay = λ i p
       all = extended edges e par partner.place later old new u t.valuation s.others apart shares partner.below stays partner.meets.other_is same t.all;
       gives = patched_behind edges e par i later u t.valuation shares same there ∙ t.gives;
     })
-    (contains_cases e later i c)
+    (Contains-cases e later i c)

@@ -6,8 +6,7 @@ use Rattle.std.proofs.lemmas.List.Elements.{All-head, All-tail, All-push}
 use Rattle.std.proofs.lemmas.Option.{slice_get_within, get_or_from_slice_get}
 use Rattle.su_base.specs.declared.values.Value.{Value}
 use Rattle.su_base.specs.declared.values.Value.TheVariants.{Int}
-use Rattle.su_reduce.specs.Codes.{decode}
-use Rattle.su_reduce.specs.inside.Coded.{Extends}
+use Rattle.su_reduce.specs.Codes.{decode, Extends}
 use Rattle.su_reduce.specs.Sheets.{AreBelow}
 
 pub extends_self : (values : List Value) → Extends values values

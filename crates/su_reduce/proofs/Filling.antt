@@ -5,7 +5,8 @@ use Rattle.su_base.specs.declared.values.Value.{Value}
 use Rattle.su_reduce.specs.declared.edges.Edge.{Edge}
 use Rattle.su_reduce.specs.Left.{edge_at}
 use Rattle.su_reduce.specs.Sheets.{Rows}
-use Rattle.su_reduce.specs.inside.Coded.{AreRowsOf, Extends, IsCodeOf, IsPushed, IsSheetOf, sheet_at}
+use Rattle.su_reduce.specs.Codes.{Extends}
+use Rattle.su_reduce.specs.inside.Coded.{AreRowsOf, IsCodeOf, IsPushed, IsSheetOf, sheet_at}
 use Rattle.su_reduce.specs.inside.Marks.{row_at}
 use Rattle.su_reduce.proofs.Extending.{below_up, decode_row}
 use Rattle.su_reduce.proofs.Meeting.{pushed_each, pushed_length}

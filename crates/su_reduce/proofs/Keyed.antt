@@ -10,7 +10,8 @@ use Rattle.su_tableau.specs.Tableaux.{value_of, values_of}
 use Rattle.su_reduce.specs.Codes.{AreApart, decode}
 use Rattle.su_reduce.specs.Sheets.{AreBelow, IsMarkedKey, Rows, pick}
 use Rattle.su_reduce.specs.inside.Coded.{AreRowsOf, IsCodeOf}
-use Rattle.su_reduce.specs.inside.Marks.{Fits, Meet, HasPartner, mark, row_at}
+use Rattle.su_reduce.specs.Shapes.{Fits}
+use Rattle.su_reduce.specs.inside.Marks.{Meet, HasPartner, mark, row_at}
 use Rattle.su_reduce.specs.inside.Keys.{AreShared, IsPair, value_at}
 use Rattle.su_reduce.proofs.Chaining.{pick_at}
 use Rattle.su_reduce.proofs.Placing.{read_value}

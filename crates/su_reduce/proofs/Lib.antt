@@ -2,6 +2,7 @@ pub mod Taking
 pub mod Tables
 pub mod Rounds
 pub mod Meeting
+pub mod Moving
 pub mod Exact
 pub mod Same
 pub mod Placing
@@ -14,4 +15,6 @@ pub mod Cutting
 pub mod Extending
 pub mod Hashing
 pub mod Partnered
+pub mod Shaping
 pub mod Filling
+pub mod Asked

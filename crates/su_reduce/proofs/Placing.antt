@@ -3,15 +3,15 @@ use Rattle.std.proofs.Common.{◌≡◌, ◌<◌, ◌≤◌, ◌+◌, ℕ, zero,
 use Rattle.std.proofs.lemmas.Bool.{cases_eq}
 use Rattle.std.proofs.lemmas.Bool.Decides.{nat_tests}
 use Rattle.std.proofs.lemmas.List.{get_or-map, get_or_default, get_or_append_left, get_or_push}
+use Rattle.su_base.proofs.Items.{Contains-cases, Contains-nil}
 use Rattle.su_base.specs.declared.values.Value.{Value}
 use Rattle.su_base.specs.declared.values.Value.TheVariants.{Int}
 use Rattle.su_tableau.proofs.Rows.{below_more}
 use Rattle.su_tableau.specs.declared.symbols.Sym.{Sym}
 use Rattle.su_tableau.specs.declared.symbols.Sym.TheVariants.{Const, Var}
 use Rattle.su_tableau.specs.Tableaux.{value_of, values_of}
-use Rattle.su_reduce.specs.inside.Partners.{cell_at}
-use Rattle.su_reduce.specs.inside.Keys.{place_of, value_at, assigned, AreFirsts, IsPair, AreShared}
-use Rattle.su_reduce.proofs.Taking.{contains_cases, contains_none}
+use Rattle.su_reduce.specs.Shapes.{cell_at, place_of, AreFirsts}
+use Rattle.su_reduce.specs.inside.Keys.{value_at, assigned, IsPair, AreShared}
 use Rattle.su_reduce.proofs.Meeting.{pushed_each, pushed_length}
 
 no_variable : (d : Value) (k : ℕ) → Const d ≡ Var k → ⊥
@@ -39,17 +39,17 @@ place_none (Var j ∷ cells) k none =
 
 -- a variable that stands there stands at its place
 pub place_holds : (cells : List Sym) (k : ℕ) → Contains cells (Var k) → (place_of cells k < length cells) × (cell_at cells (place_of cells k) ≡ Var k)
-place_holds [] k c = absurd (contains_none (Var k) c)
+place_holds [] k c = absurd (Contains-nil (Var k) c)
 place_holds (Const d ∷ cells) k c =
     ⊎_elim
     (λ (e : Const d ≡ Var k). absurd (no_variable d k e))
     (λ (there : Contains cells (Var k)). let rest = place_holds cells k there in let l = rest.0 in (omega (arith, l), rest.1))
-    (contains_cases (Const d) cells (Var k) c)
+    (Contains-cases (Const d) cells (Var k) c)
 place_holds (Var j ∷ cells) k c =
     ⊎_elim
     (λ (e : j ≡ k). let here : place_of (Var j ∷ cells) k ≡ 0 = grind (arith, nat_tests, e) in (omega (arith, here), ap (cell_at (Var j ∷ cells)) here ∙ ap Var e))
     (λ (other : j ≡ k → ⊥).
-    let there : Contains cells (Var k) = ⊎_elim (λ (e : Var j ≡ Var k). let same : j ≡ k = cc in absurd (other same)) (λ (t : Contains cells (Var k)). t) (contains_cases (Var j) cells (Var k) c) in
+    let there : Contains cells (Var k) = ⊎_elim (λ (e : Var j ≡ Var k). let same : j ≡ k = cc in absurd (other same)) (λ (t : Contains cells (Var k)). t) (Contains-cases (Var j) cells (Var k) c) in
     let rest = place_holds cells k there in
     let l = rest.0 in
     let next : place_of (Var j ∷ cells) k ≡ suc (place_of cells k) = grind (arith, nat_tests, other) in
@@ -62,6 +62,19 @@ contains_at cells p k l is = (p, l, get_or_default cells p (Var k) (Var 0) l ∙
 -- the value that a row of a valuation has where a cell holds a variable
 pub read_value : (v : ℕ → Value) (cells : List Sym) (row : List Value) (p k : ℕ) → values_of v cells ≡ row → p < length cells → cell_at cells p ≡ Var k → value_at row p ≡ v k
 read_value v cells row p k gives l is = ap (λ (xs : List Value). value_at xs p) (sym gives) ∙ get_or-map (value_of v) cells p (Var 0) (Int (pos 0)) l ∙ ap (value_of v) is
+
+-- a variable's place is the least that holds it
+pub place_least : (cells : List Sym) (k p : ℕ) → p < length cells → cell_at cells p ≡ Var k → place_of cells k ≤ p
+place_least [] k p l is = absurd (omega (arith, l))
+place_least (Const d ∷ cells) k zero l is = absurd (no_variable d k is)
+place_least (Const d ∷ cells) k (suc p) l is = let rest = place_least cells k p (omega (arith, l)) is in omega (arith, rest)
+place_least (Var j ∷ cells) k zero l is = let same : j ≡ k = cc in let here : place_of (Var j ∷ cells) k ≡ 0 = grind (arith, nat_tests, same) in omega (arith, here)
+place_least (Var j ∷ cells) k (suc p) l is =
+    let rest = place_least cells k p (omega (arith, l)) is in
+    ⊎_elim
+    (λ (e : j ≡ k). let here : place_of (Var j ∷ cells) k ≡ 0 = grind (arith, nat_tests, e) in omega (arith, here))
+    (λ (other : j ≡ k → ⊥). let next : place_of (Var j ∷ cells) k ≡ suc (place_of cells k) = grind (arith, nat_tests, other) in omega (arith, next, rest))
+    (cases_eq j k)
 
 -- what is read at the places is what the valuation gives
 pub assigned_is : (v : ℕ → Value) (cells : List Sym) (row : List Value) (k : ℕ) → values_of v cells ≡ row → Contains cells (Var k) → assigned cells row k ≡ v k
@@ -98,7 +111,7 @@ first_value v cells firsts row p x first k are l gives x_is first_is var =
 
 -- ---- shared places
 
-same_var : (x : Sym) (j k : ℕ) → x ≡ Var j → x ≡ Var k → j ≡ k
+pub same_var : (x : Sym) (j k : ℕ) → x ≡ Var j → x ≡ Var k → j ≡ k
 same_var x j k a b = cc
 
 pub shared_none : (left right : List Sym) (p k : ℕ) (ls rs : List ℕ) → AreShared left right p ls rs → cell_at left p ≡ Var k → length right ≤ place_of right k → AreShared left right (p + 1) ls rs

@@ -5,7 +5,8 @@ use Rattle.su_base.specs.declared.values.Value.{Value}
 use Rattle.su_tableau.specs.declared.symbols.Sym.{Sym}
 use Rattle.su_reduce.specs.declared.edges.Edge.{Edge}
 use Rattle.su_reduce.specs.Left.{edge_at}
-use Rattle.su_reduce.specs.inside.Marks.{Fits, row_at}
+use Rattle.su_reduce.specs.Shapes.{Fits}
+use Rattle.su_reduce.specs.inside.Marks.{row_at}
 
 -- the edge that is read at n
 pub edge_is : (edges : List Edge) (n : ℕ) (e : Edge) → n < length edges → e ≡ get_or edges n e → e ≡ edge_at edges n
@@ -16,8 +17,6 @@ pub row_is : (rows : List (List Value)) (n : ℕ) (row : List Value) → n < len
 row_is rows n row l is = is ∙ get_or_default rows n row [] l
 
 -- a mark tells of the row at n what it tells of the row that is read there
-pub told_at : (cells read : List Sym) (rows items : List (List Value)) (n : ℕ) (item row : List Value) (m : Bool) → read ≡ cells → items ≡ rows → n < length items → item ≡ get_or items n item → row ≡ item → (IsTrue m ↔ Fits read row) → IsTrue m ↔ Fits cells (row_at rows n)
-told_at cells read rows items n item row m c r l is same tells =
-    subst (λ (cs : List Sym). IsTrue m ↔ Fits cs (row_at rows n)) c
-    (subst (λ (rs : List (List Value)). IsTrue m ↔ Fits read (row_at rs n)) r
-    (subst (λ (x : List Value). IsTrue m ↔ Fits read x) (same ∙ row_is items n item l is) tells))
+pub told_at : (cells : List Sym) (rows items : List (List Value)) (n : ℕ) (item : List Value) (m : Bool) → items ≡ rows → n < length items → item ≡ get_or items n item → (IsTrue m ↔ Fits cells item) → IsTrue m ↔ Fits cells (row_at rows n)
+told_at cells rows items n item m r l is tells =
+    subst (λ (rs : List (List Value)). IsTrue m ↔ Fits cells (row_at rs n)) r (subst (λ (x : List Value). IsTrue m ↔ Fits cells x) (row_is items n item l is) tells)

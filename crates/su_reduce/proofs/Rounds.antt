@@ -5,11 +5,12 @@ use Rattle.std.specs.Cmp.{nat_cmp_total}
 use Rattle.std.specs.FinSet.{FinSet, contains, empty, insert, len, len-insert, members, contains-empty, same_set, nat_cmp-IsAntisymmetric}
 use Rattle.std.proofs.lemmas.Bool.{cases_eq, cases_Bool}
 use Rattle.std.proofs.lemmas.Bool.Decides.{nat_tests}
+use Rattle.su_base.proofs.Items.{Contains-cases, Contains-head, Contains-later, Contains-nil}
 use Rattle.su_tableau.specs.declared.symbols.Sym.{Sym}
 use Rattle.su_reduce.specs.declared.edges.Ear.{Ear}
 use Rattle.su_reduce.specs.Ears.{IsParent, numbers, AreEars, IsEarOrder, AreAcyclic}
 use Rattle.su_reduce.specs.inside.Partners.{In, without, AreTable, IsParentBy}
-use Rattle.su_reduce.proofs.Taking.{Order, Without, parent_iff, ear_first, contains_head, contains_tail, contains_cases, contains_none}
+use Rattle.su_reduce.proofs.Taking.{Order, Without, parent_iff, ear_first}
 use Rattle.su_reduce.proofs.Tables.{parent_from, parent_by}
 
 -- ---- sets
@@ -89,13 +90,13 @@ so_far_next edges left order ear so_far is_ear = λ rest ears same.
     (λ c. ((in_without left e e).0 ((same e).1 c)).1 refl, parent_iff edges e (In (without left e)) (Contains (numbers rest)) same ear.parent is_ear.1, ears)
     (λ i. (
       λ m. ⊎_elim
-          (λ (here : e ≡ i). subst (Contains (numbers (ear ∷ rest))) here (contains_head e (numbers rest)))
-          (λ (other : e ≡ i → ⊥). contains_tail e (numbers rest) i ((same i).0 ((in_without left e i).1 (m, λ ie. other (sym ie)))))
+          (λ (here : e ≡ i). subst (Contains (numbers (ear ∷ rest))) here (Contains-head e (numbers rest)))
+          (λ (other : e ≡ i → ⊥). Contains-later e (numbers rest) i ((same i).0 ((in_without left e i).1 (m, λ ie. other (sym ie)))))
           (cases_eq e i),
       λ c. ⊎_elim
           (λ (here : e ≡ i). subst (In left) here is_ear.0)
           (λ (there : Contains (numbers rest) i). ((in_without left e i).0 ((same i).1 there)).0)
-          (contains_cases e (numbers rest) i c),
+          (Contains-cases e (numbers rest) i c),
     )))
 
 pub reaches_next : (edges : List (List Sym)) (left : FinSet nat_cmp) (ear : Ear) → Reaches edges left → IsEar edges left ear → Reaches edges (without left ear.edge)
@@ -118,16 +119,16 @@ ear_by edges table left ear t within has h = (has, parent_from edges ear.edge (g
 
 -- an order has a first ear
 first_of : (edges : List (List Sym)) (table : List (List (FinSet nat_cmp))) (left : FinSet nat_cmp) (order : List Ear) → AreTable edges table → ((j : ℕ) → In left j → j < length table) → (left ≡ empty → ⊥) → ((e : ℕ) (parent : Option ℕ) → In left e → ¬ IsParentBy (get_or table e []) (without left e) parent) → AreEars edges order → ((i : ℕ) → In left i ↔ Contains (numbers order) i) → ⊥
-first_of edges table left [] t within some none ears all = some (none_in left (λ i m. contains_none i ((all i).0 m)))
+first_of edges table left [] t within some none ears all = some (none_in left (λ i m. Contains-nil i ((all i).0 m)))
 first_of edges table left (ear ∷ rest) t within some none ears all =
     let e = ear.edge in
-    let has : In left e = (all e).1 (contains_head e (numbers rest)) in
+    let has : In left e = (all e).1 (Contains-head e (numbers rest)) in
     let same : (i : ℕ) → Contains (numbers rest) i ↔ In (without left e) i = λ i. (
-      λ c. (in_without left e i).1 ((all i).1 (contains_tail e (numbers rest) i c), λ ie. ears.0 (subst (Contains (numbers rest)) ie c)),
+      λ c. (in_without left e i).1 ((all i).1 (Contains-later e (numbers rest) i c), λ ie. ears.0 (subst (Contains (numbers rest)) ie c)),
       λ m. let w = (in_without left e i).0 m in ⊎_elim
           (λ (here : e ≡ i). absurd (w.1 (sym here)))
           (λ (there : Contains (numbers rest) i). there)
-          (contains_cases e (numbers rest) i ((all i).0 w.0)),
+          (Contains-cases e (numbers rest) i ((all i).0 w.0)),
     ) in
     none e ear.parent has (parent_by edges e (get_or table e []) (without left e) (t.each e (within e has)) ear.parent (parent_iff edges e (Contains (numbers rest)) (In (without left e)) same ear.parent ears.1))
 
@@ -138,4 +139,4 @@ stuck edges table left t within some none reaches = λ found.
     first_of edges table left o.order t within some none o.ears o.all
 
 pub none_left : (edges : List (List Sym)) (left : FinSet nat_cmp) (order : List Ear) → left ≡ empty → IsSoFar edges left order → IsEarOrder edges order
-none_left edges left order gone so_far = subst (IsEarOrder edges) (append-nil order) (so_far [] tt (λ i. (λ m. absurd (none_member i (subst (λ (s : FinSet nat_cmp). In s i) gone m)), λ c. absurd (contains_none i c))))
+none_left edges left order gone so_far = subst (IsEarOrder edges) (append-nil order) (so_far [] tt (λ i. (λ m. absurd (none_member i (subst (λ (s : FinSet nat_cmp). In s i) gone m)), λ c. absurd (Contains-nil i c))))

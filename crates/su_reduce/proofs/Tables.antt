@@ -6,7 +6,8 @@ use Rattle.std.proofs.lemmas.List.{get_or_default}
 use Rattle.su_tableau.specs.declared.symbols.Sym.{Sym}
 use Rattle.su_tableau.specs.declared.symbols.Sym.TheVariants.{Var}
 use Rattle.su_reduce.specs.Ears.{HasVar, IsParent}
-use Rattle.su_reduce.specs.inside.Partners.{In, cell_at, AreSets, IsParentBy}
+use Rattle.su_reduce.specs.Shapes.{cell_at}
+use Rattle.su_reduce.specs.inside.Partners.{In, AreSets, IsParentBy}
 
 -- a cell that has the variable
 cell_with : (cells : List Sym) (k : ℕ) → Contains cells (Var k) → (c : ℕ) × (c < length cells) × (cell_at cells c ≡ Var k)

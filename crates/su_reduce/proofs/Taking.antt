@@ -1,25 +1,11 @@
 -- An ear may be taken first, whichever it is.
-use Rattle.std.proofs.Common.{◌≡◌, ◌≢◌, ◌⊎◌, ◌↔◌, ℕ, zero, suc, cond, List, [], ◌∷◌, map, Contains, Option, None, Some, inl, inr, ⊎_elim, refl, sym, ap, subst, ◌∙◌, nat_eq, arith}
+use Rattle.std.proofs.Common.{◌≡◌, ◌≢◌, ◌⊎◌, ◌↔◌, ℕ, cond, List, [], ◌∷◌, map, Contains, Option, None, Some, inl, inr, ⊎_elim, refl, sym, ap, subst, ◌∙◌, nat_eq, arith}
 use Rattle.std.proofs.lemmas.Bool.{cases_eq}
 use Rattle.std.proofs.lemmas.Bool.Decides.{nat_tests}
+use Rattle.su_base.proofs.Items.{Contains-cases, Contains-head, Contains-later, Contains-nil}
 use Rattle.su_tableau.specs.declared.symbols.Sym.{Sym}
 use Rattle.su_reduce.specs.declared.edges.Ear.{Ear}
 use Rattle.su_reduce.specs.Ears.{HasVar, Share, IsParent, numbers, AreEars}
-
--- ---- members
-
-pub contains_cases : {A : Type 0} (x : A) (xs : List A) (y : A) → Contains (x ∷ xs) y → (x ≡ y) ⊎ Contains xs y
-contains_cases x xs y (zero, l, e) = inl e
-contains_cases x xs y (suc k, l, e) = inr (k, omega arith, e)
-
-pub contains_head : {A : Type 0} (x : A) (xs : List A) → Contains (x ∷ xs) x
-contains_head x xs = (0, omega arith, refl)
-
-pub contains_tail : {A : Type 0} (x : A) (xs : List A) (y : A) → Contains xs y → Contains (x ∷ xs) y
-contains_tail x xs y (k, l, e) = (suc k, omega arith, e)
-
-pub contains_none : {A : Type 0} (y : A) → Contains [] y → ⊥
-contains_none y (k, l, e) = absurd (omega arith)
 
 -- ---- parents
 
@@ -118,20 +104,20 @@ abbrev pub Becomes : ℕ → ℕ → List Ear → ℕ → Type 0
 Becomes e l order i = (j : ℕ) × Contains (numbers order) j × (renamed e l j ≡ i)
 
 was : (e l : ℕ) (order : List Ear) (i : ℕ) → Contains (numbers (map (renamed_ear e l) order)) i → Becomes e l order i
-was e l [] i c = absurd (contains_none i c)
+was e l [] i c = absurd (Contains-nil i c)
 was e l (ear ∷ later) i c =
     ⊎_elim
-    (λ (here : renamed e l ear.edge ≡ i). (ear.edge, contains_head ear.edge (numbers later), here))
-    (λ (there : Contains (numbers (map (renamed_ear e l) later)) i). let w = was e l later i there in (w.0, contains_tail ear.edge (numbers later) w.0 w.1, w.2))
-    (contains_cases (renamed e l ear.edge) (numbers (map (renamed_ear e l) later)) i c)
+    (λ (here : renamed e l ear.edge ≡ i). (ear.edge, Contains-head ear.edge (numbers later), here))
+    (λ (there : Contains (numbers (map (renamed_ear e l) later)) i). let w = was e l later i there in (w.0, Contains-later ear.edge (numbers later) w.0 w.1, w.2))
+    (Contains-cases (renamed e l ear.edge) (numbers (map (renamed_ear e l) later)) i c)
 
 becomes : (e l : ℕ) (order : List Ear) (j : ℕ) → Contains (numbers order) j → Contains (numbers (map (renamed_ear e l) order)) (renamed e l j)
-becomes e l [] j c = absurd (contains_none j c)
+becomes e l [] j c = absurd (Contains-nil j c)
 becomes e l (ear ∷ later) j c =
     ⊎_elim
-    (λ (here : ear.edge ≡ j). subst (λ (i : ℕ). Contains (numbers (map (renamed_ear e l) (ear ∷ later))) (renamed e l i)) here (contains_head (renamed e l ear.edge) (numbers (map (renamed_ear e l) later))))
-    (λ (there : Contains (numbers later) j). contains_tail (renamed e l ear.edge) (numbers (map (renamed_ear e l) later)) (renamed e l j) (becomes e l later j there))
-    (contains_cases ear.edge (numbers later) j c)
+    (λ (here : ear.edge ≡ j). subst (λ (i : ℕ). Contains (numbers (map (renamed_ear e l) (ear ∷ later))) (renamed e l i)) here (Contains-head (renamed e l ear.edge) (numbers (map (renamed_ear e l) later))))
+    (λ (there : Contains (numbers later) j). Contains-later (renamed e l ear.edge) (numbers (map (renamed_ear e l) later)) (renamed e l j) (becomes e l later j there))
+    (Contains-cases ear.edge (numbers later) j c)
 
 -- what the new edges share, the old ones shared
 shared_before : (edges : List (List Sym)) (e l x j k : ℕ) (ks : List ℕ) → Alike edges e l (x ∷ ks) → (x ≡ j → ⊥) → Contains ks j → Share edges (renamed e l x) (renamed e l j) k → Share edges x j k
@@ -140,13 +126,13 @@ shared_before edges e l x j k ks alike apart c s =
     (λ (xe : x ≡ e). let jn : j ≡ e → ⊥ = λ je. apart (xe ∙ sym je) in
     let has_j : HasVar edges j k = subst (λ (i : ℕ). HasVar edges i k) (renamed_other e l j jn) s.1 in
     let has_l : HasVar edges l k = subst (λ (i : ℕ). HasVar edges i k) (renamed_same e l x xe) s.0 in
-    (subst (λ (i : ℕ). HasVar edges i k) (sym xe) ((alike j k (contains_tail x ks j c) jn has_j).1 has_l), has_j))
+    (subst (λ (i : ℕ). HasVar edges i k) (sym xe) ((alike j k (Contains-later x ks j c) jn has_j).1 has_l), has_j))
     (λ (xn : x ≡ e → ⊥).
     let has_x : HasVar edges x k = subst (λ (i : ℕ). HasVar edges i k) (renamed_other e l x xn) s.0 in
     ⊎_elim
     (λ (je : j ≡ e).
     let has_l : HasVar edges l k = subst (λ (i : ℕ). HasVar edges i k) (renamed_same e l j je) s.1 in
-    (has_x, subst (λ (i : ℕ). HasVar edges i k) (sym je) ((alike x k (contains_head x ks) xn has_x).1 has_l)))
+    (has_x, subst (λ (i : ℕ). HasVar edges i k) (sym je) ((alike x k (Contains-head x ks) xn has_x).1 has_l)))
     (λ (jn : j ≡ e → ⊥). (has_x, subst (λ (i : ℕ). HasVar edges i k) (renamed_other e l j jn) s.1))
     (cases_eq j e))
     (cases_eq x e)
@@ -165,7 +151,7 @@ parent_renamed edges e l x later alike apart (Some p) h = (
       ⊎_elim
       (λ (pe : p ≡ e).
       let xn : x ≡ e → ⊥ = λ xe. apart (subst (Contains (numbers later)) (pe ∙ sym xe) h.0) in
-      subst (λ (n : ℕ). HasVar edges n k) (sym (renamed_same e l p pe)) ((alike x k (contains_head x (numbers later)) xn before.0).0 (subst (λ (n : ℕ). HasVar edges n k) pe has_p)))
+      subst (λ (n : ℕ). HasVar edges n k) (sym (renamed_same e l p pe)) ((alike x k (Contains-head x (numbers later)) xn before.0).0 (subst (λ (n : ℕ). HasVar edges n k) pe has_p)))
       (λ (pn : p ≡ e → ⊥). subst (λ (n : ℕ). HasVar edges n k) (sym (renamed_other e l p pn)) has_p)
       (cases_eq p e),
 )
@@ -175,11 +161,11 @@ stand_in edges e l [] out alike ears = tt
 stand_in edges e l (ear ∷ later) out alike ears = (
   λ c.
       let w = was e l later (renamed e l ear.edge) c in
-      let not_l : (j : ℕ) → Contains (numbers later) j → j ≡ l → ⊥ = λ j cj same. out (contains_tail ear.edge (numbers later) l (subst (Contains (numbers later)) same cj)) in
-      let head_not_l : ear.edge ≡ l → ⊥ = λ same. out (subst (Contains (numbers (ear ∷ later))) same (contains_head ear.edge (numbers later))) in
+      let not_l : (j : ℕ) → Contains (numbers later) j → j ≡ l → ⊥ = λ j cj same. out (Contains-later ear.edge (numbers later) l (subst (Contains (numbers later)) same cj)) in
+      let head_not_l : ear.edge ≡ l → ⊥ = λ same. out (subst (Contains (numbers (ear ∷ later))) same (Contains-head ear.edge (numbers later))) in
       ears.0 (subst (Contains (numbers later)) (renamed_once e l w.0 ear.edge (not_l w.0 w.1) head_not_l w.2) w.1),
   parent_renamed edges e l ear.edge later alike ears.0 ear.parent ears.1,
-  stand_in edges e l later (λ c. out (contains_tail ear.edge (numbers later) l c)) (λ j k c. alike j k (contains_tail ear.edge (numbers later) j c)) ears.2,
+  stand_in edges e l later (λ c. out (Contains-later ear.edge (numbers later) l c)) (λ j k c. alike j k (Contains-later ear.edge (numbers later) j c)) ears.2,
 )
 
 -- ---- the theorem
@@ -193,13 +179,13 @@ put edges l rest e apart other r hr o =
       ears = (λ c. apart ((o.all l.edge).1 c).0, parent_iff edges l.edge (Without (Contains (numbers rest)) e) (Contains (numbers o.order)) o.all r hr, o.ears);
       all = λ i. (
         λ h. ⊎_elim
-            (λ (here : l.edge ≡ i). subst (Contains (numbers (first ∷ o.order))) here (contains_head l.edge (numbers o.order)))
-            (λ (there : Contains (numbers rest) i). contains_tail l.edge (numbers o.order) i ((o.all i).0 (there, h.1)))
-            (contains_cases l.edge (numbers rest) i h.0),
+            (λ (here : l.edge ≡ i). subst (Contains (numbers (first ∷ o.order))) here (Contains-head l.edge (numbers o.order)))
+            (λ (there : Contains (numbers rest) i). Contains-later l.edge (numbers o.order) i ((o.all i).0 (there, h.1)))
+            (Contains-cases l.edge (numbers rest) i h.0),
         λ c. ⊎_elim
-            (λ (here : l.edge ≡ i). (subst (Contains (numbers (l ∷ rest))) here (contains_head l.edge (numbers rest)), λ same. other (here ∙ same)))
-            (λ (there : Contains (numbers o.order) i). let m = (o.all i).1 there in (contains_tail l.edge (numbers rest) i m.0, m.1))
-            (contains_cases l.edge (numbers o.order) i c),
+            (λ (here : l.edge ≡ i). (subst (Contains (numbers (l ∷ rest))) here (Contains-head l.edge (numbers rest)), λ same. other (here ∙ same)))
+            (λ (there : Contains (numbers o.order) i). let m = (o.all i).1 there in (Contains-later l.edge (numbers rest) i m.0, m.1))
+            (Contains-cases l.edge (numbers o.order) i c),
       );
     }
 
@@ -212,15 +198,15 @@ exchanged edges l rest e ears other ce hl he = record {
     λ h. ⊎_elim
         (λ (here : l.edge ≡ i). subst (Contains (numbers (map (renamed_ear e l.edge) rest))) (renamed_same e l.edge e refl ∙ here) (becomes e l.edge rest e ce))
         (λ (there : Contains (numbers rest) i). subst (Contains (numbers (map (renamed_ear e l.edge) rest))) (renamed_other e l.edge i h.1) (becomes e l.edge rest i there))
-        (contains_cases l.edge (numbers rest) i h.0),
+        (Contains-cases l.edge (numbers rest) i h.0),
     λ c. let w = was e l.edge rest i c in
         ⊎_elim
         (λ (same : w.0 ≡ e).
         let is_l : l.edge ≡ i = sym (renamed_same e l.edge w.0 same) ∙ w.2 in
-        (subst (Contains (numbers (l ∷ rest))) is_l (contains_head l.edge (numbers rest)), λ ie. other (is_l ∙ ie)))
+        (subst (Contains (numbers (l ∷ rest))) is_l (Contains-head l.edge (numbers rest)), λ ie. other (is_l ∙ ie)))
         (λ (differs : w.0 ≡ e → ⊥).
         let is_w : w.0 ≡ i = sym (renamed_other e l.edge w.0 differs) ∙ w.2 in
-        (contains_tail l.edge (numbers rest) i (subst (Contains (numbers rest)) is_w w.1), λ ie. differs (is_w ∙ ie)))
+        (Contains-later l.edge (numbers rest) i (subst (Contains (numbers rest)) is_w w.1), λ ie. differs (is_w ∙ ie)))
         (cases_eq w.0 e),
   );
 }
@@ -228,11 +214,11 @@ exchanged edges l rest e ears other ce hl he = record {
 -- the members of an order, its first one by itself
 with_rest : (l : Ear) (rest : List Ear) (e j : ℕ) → Without (Contains (numbers (l ∷ rest))) e j ↔ Without (With l.edge (Contains (numbers rest))) e j
 with_rest l rest e j = (
-  λ h. (contains_cases l.edge (numbers rest) j h.0, h.1),
+  λ h. (Contains-cases l.edge (numbers rest) j h.0, h.1),
   λ h. (
     ⊎_elim
-        (λ (here : l.edge ≡ j). subst (Contains (numbers (l ∷ rest))) here (contains_head l.edge (numbers rest)))
-        (λ (there : Contains (numbers rest) j). contains_tail l.edge (numbers rest) j there)
+        (λ (here : l.edge ≡ j). subst (Contains (numbers (l ∷ rest))) here (Contains-head l.edge (numbers rest)))
+        (λ (there : Contains (numbers rest) j). Contains-later l.edge (numbers rest) j there)
         h.0,
     h.1,
   ),
@@ -240,7 +226,7 @@ with_rest l rest e j = (
 
 -- an ear beside the others of an order may be taken first
 pub ear_first : (edges : List (List Sym)) (order : List Ear) (e : ℕ) (pe : Option ℕ) → AreEars edges order → Contains (numbers order) e → IsParent edges e (Without (Contains (numbers order)) e) pe → Order edges (Without (Contains (numbers order)) e)
-ear_first edges [] e pe ears c h = absurd (contains_none e c)
+ear_first edges [] e pe ears c h = absurd (Contains-nil e c)
 ear_first edges (l ∷ rest) e pe ears c h =
     ⊎_elim
     (λ (same : l.edge ≡ e). record {
@@ -250,12 +236,12 @@ ear_first edges (l ∷ rest) e pe ears c h =
         λ m. ⊎_elim
             (λ (here : l.edge ≡ i). absurd (m.1 (sym here ∙ same)))
             (λ (there : Contains (numbers rest) i). there)
-            (contains_cases l.edge (numbers rest) i m.0),
-        λ there. (contains_tail l.edge (numbers rest) i there, λ ie. ears.0 (subst (Contains (numbers rest)) (ie ∙ sym same) there)),
+            (Contains-cases l.edge (numbers rest) i m.0),
+        λ there. (Contains-later l.edge (numbers rest) i there, λ ie. ears.0 (subst (Contains (numbers rest)) (ie ∙ sym same) there)),
       );
     })
     (λ (other : l.edge ≡ e → ⊥).
-    let ce : Contains (numbers rest) e = ⊎_elim (λ (here : l.edge ≡ e). absurd (other here)) (λ (there : Contains (numbers rest) e). there) (contains_cases l.edge (numbers rest) e c) in
+    let ce : Contains (numbers rest) e = ⊎_elim (λ (here : l.edge ≡ e). absurd (other here)) (λ (there : Contains (numbers rest) e). there) (Contains-cases l.edge (numbers rest) e c) in
     let he : IsParent edges e (Without (With l.edge (Contains (numbers rest))) e) pe = parent_iff edges e (Without (Contains (numbers (l ∷ rest))) e) (Without (With l.edge (Contains (numbers rest))) e) (with_rest l rest e) pe h in
     ⊎_elim
     (λ (found : (r : Option ℕ) × IsParent edges e (Without (Contains (numbers rest)) e) r).

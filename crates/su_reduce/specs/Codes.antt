@@ -1,6 +1,6 @@
 -- Codes of values.
 -- code: a value's position in a list of values
-use Rattle.std.specs.Prelude.{◌≡◌, ◌<◌, ℕ, pos, List, length, get_or}
+use Rattle.std.specs.Prelude.{◌≡◌, ◌<◌, ◌≤◌, ℕ, pos, List, length, get_or}
 use Rattle.su_base.specs.declared.values.Value.{Value}
 use Rattle.su_base.specs.declared.values.Value.TheVariants.{Int}
 
@@ -11,3 +11,8 @@ decode values code = get_or values code (Int (pos 0))
 -- no value has two codes
 abbrev pub AreApart : List Value → Type 0
 AreApart values = (i j : ℕ) → i < j → j < length values → ¬ (decode values i ≡ decode values j)
+
+-- the old codes stand for the same values
+pub record Extends (old new : List Value) : Type 0 where
+  pub longer : length old ≤ length new
+  pub same : (code : ℕ) → code < length old → decode new code ≡ decode old code

@@ -3,4 +3,5 @@ pub mod Codes
 pub mod Ears
 pub mod inside
 pub mod Left
+pub mod Shapes
 pub mod Sheets

@@ -1,7 +1,7 @@
 //! Values by number, so that rows are lists of numbers while they are joined.
 ghost use Rattle.std.specs.Prelude.{◌≡◌, ◌⊎◌, [], ◌∷◌, ◌++◌, pos, get_or, IfOk, slice_get};
 ghost use Rattle.su_base.specs.declared.values.Value.TheVariants.{Int};
-ghost use Rattle.su_reduce.specs.Codes.{AreApart};
+ghost use Rattle.su_reduce.specs.Codes.{AreApart, Extends};
 
 use indexmap::IndexSet;
 use std::alloc::{AllocError, Global};
@@ -58,6 +58,7 @@ impl Codes {
     /// The code of the value, which gets one where it has none.
     pub fn code(&mut self, alloc: Global, value: &Value) -> Result<u32, AllocError>
         ensures code { IfOk result (λ code. slice_get self.new code ≡ Some value.now) }
+        ensures extends { Extends self.old self.new }
         ensures kept { (self.new ≡ self.old) ⊎ (self.new ≡ self.old ++ value.now ∷ []) }
     {
         if let Some(position) = self.values.get_index_of(value) {

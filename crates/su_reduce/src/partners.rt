@@ -1,8 +1,9 @@
 //! Partners of rows of codes: rows on the other side with the same key. A table of the keys on the one
-//! side, and a pass over the other.
-ghost use Rattle.std.specs.Prelude.{◌≡◌, ◌↔◌, ◌<◌, ◌+◌, ℕ, false, List, [], IfOk, IsTrue, Contains, length, get_or};
+//! side, and a pass over the other. Where a key is one code the table has a mark for each code up to the
+//! greatest one, else it is a hash table.
+ghost use Rattle.std.specs.Prelude.{◌≡◌, ◌↔◌, ◌<◌, ◌+◌, ℕ, false, List, [], IfOk, IsTrue, length, get_or};
 ghost use Rattle.su_reduce.specs.Sheets.{pick, AreBelow, IsMarkedKey};
-ghost use Rattle.su_reduce.specs.inside.Partnered.{AreKeys};
+ghost use Rattle.su_reduce.specs.inside.Partnered.{AreCodes, AreKeys, HasKey, width_of};
 
 use crate::distinct::Distinct;
 use crate::sheets::Sheet;
@@ -14,6 +15,13 @@ pub struct Side<'a> {
     pub rows: &'a Sheet,
     pub marks: &'a [bool],
     pub key: &'a [usize],
+}
+
+/// The keys of some rows: a mark for each code that is one, or each of them once.
+#[derive(Drop)]
+enum Keys {
+    Codes(Vec<bool>),
+    Rows(Distinct),
 }
 
 /// Puts the row's key in place of what is there.
@@ -52,7 +60,7 @@ fn add_key(
 }
 
 /// The keys of the marked rows, each once.
-fn keys_of(alloc: Global, side: &Side) -> Result<Distinct, AllocError>
+fn rows_of(alloc: Global, side: &Side) -> Result<Distinct, AllocError>
     requires key { AreBelow side.now.key.now side.now.rows.now.width }
     requires marks { length side.now.marks.now ≡ length side.now.rows.now.rows }
     ensures width { IfOk result (λ keys. keys.width ≡ length side.now.key.now) }
@@ -66,24 +74,114 @@ fn keys_of(alloc: Global, side: &Side) -> Result<Distinct, AllocError>
     Ok(keys)
 }
 
-/// Whether the i-th row is marked, and its key is one of these.
-fn has_partner(
-    side: &Side,
-    i: usize,
-    keys: &Distinct,
-    cells: &mut Vec<u32>,
-) -> Result<bool, AllocError>
+/// A number past all codes at the place.
+fn past_codes(rows: &Sheet, place: usize) -> usize
+    requires { place < rows.now.width }
+    ensures { (i : ℕ) → i < length rows.now.rows → get_or (get_or rows.now.rows i []) place 0 < result }
+{
+    let mut past = 0;
+    for i in 0..rows.len() {
+        past = past.max(rows.row(i)[place] as usize + 1);
+    }
+    past
+}
+
+/// Marks the i-th row's code at the key's one place, if the row is marked.
+fn mark_code(side: &Side, i: usize, codes: &mut Vec<bool>)
+    requires one { length side.now.key.now ≡ 1 }
     requires key { AreBelow side.now.key.now side.now.rows.now.width }
     requires marks { length side.now.marks.now ≡ length side.now.rows.now.rows }
     requires row { i < length side.now.rows.now.rows }
-    requires width { keys.now.width ≡ length side.now.key.now }
-    ensures { IfOk result (λ has. IsTrue has ↔ (IsTrue (get_or side.now.marks.now i false) × Contains keys.now.rows (pick side.now.key.now (get_or side.now.rows.now.rows i [])))) }
+    requires room { get_or (get_or side.now.rows.now.rows i []) (get_or side.now.key.now 0 0) 0 < length codes.old.items }
+    ensures length { length codes.new.items ≡ length codes.old.items }
+    ensures codes { AreCodes side.now.rows.now.rows side.now.marks.now side.now.key.now i codes.old.items → AreCodes side.now.rows.now.rows side.now.marks.now side.now.key.now (i + 1) codes.new.items }
+{
+    let code = side.rows.row(i)[side.key[0]] as usize;
+    if side.marks[i] {
+        codes[code] = true;
+    }
+}
+
+/// The codes that the marked rows have at the key's one place, each with a mark.
+fn codes_of(alloc: Global, side: &Side) -> Result<Vec<bool>, AllocError>
+    requires one { length side.now.key.now ≡ 1 }
+    requires key { AreBelow side.now.key.now side.now.rows.now.width }
+    requires marks { length side.now.marks.now ≡ length side.now.rows.now.rows }
+    ensures { IfOk result (λ codes. AreCodes side.now.rows.now.rows side.now.marks.now side.now.key.now (length side.now.rows.now.rows) codes.items) }
+{
+    let mut codes = vec![in alloc; false; past_codes(side.rows, side.key[0])]?;
+    for i in 0..side.rows.len() {
+        mark_code(side, i, &mut codes);
+    }
+    Ok(codes)
+}
+
+/// The keys of the marked rows.
+fn keys_of(alloc: Global, side: &Side) -> Result<Keys, AllocError>
+    requires key { AreBelow side.now.key.now side.now.rows.now.width }
+    requires marks { length side.now.marks.now ≡ length side.now.rows.now.rows }
+    ensures width { IfOk result (λ keys. width_of keys ≡ length side.now.key.now) }
+    ensures keys { IfOk result (λ keys. (key : List ℕ) → HasKey keys key ↔ IsMarkedKey side.now.rows.now.rows side.now.marks.now side.now.key.now (length side.now.rows.now.rows) key) }
+{
+    if side.key.len() == 1 {
+        let codes = codes_of(alloc, side)?;
+        return Ok(Keys::Codes(codes));
+    }
+    let rows = rows_of(alloc, side)?;
+    Ok(Keys::Rows(rows))
+}
+
+/// Whether the code is marked.
+fn has_code(codes: &[bool], code: u32) -> bool
+    ensures { result ≡ get_or codes.now code false }
+{
+    match codes.get(code as usize) {
+        Some(mark) => *mark,
+        None => false,
+    }
+}
+
+/// Whether the key is one of these.
+fn has_key(keys: &Keys, key: &[u32]) -> bool
+    requires { length key.now ≡ width_of keys.now }
+    ensures { IsTrue result ↔ HasKey keys.now key.now }
+{
+    match keys {
+        Keys::Codes(codes) => has_code(codes, key[0]),
+        Keys::Rows(rows) => rows.has(key),
+    }
+}
+
+/// Whether the i-th row is marked, and its key is one of these.
+fn has_partner(side: &Side, i: usize, keys: &Keys, cells: &mut Vec<u32>) -> Result<bool, AllocError>
+    requires key { AreBelow side.now.key.now side.now.rows.now.width }
+    requires marks { length side.now.marks.now ≡ length side.now.rows.now.rows }
+    requires row { i < length side.now.rows.now.rows }
+    requires width { width_of keys.now ≡ length side.now.key.now }
+    ensures { IfOk result (λ has. IsTrue has ↔ (IsTrue (get_or side.now.marks.now i false) × HasKey keys.now (pick side.now.key.now (get_or side.now.rows.now.rows i [])))) }
 {
     if !side.marks[i] {
         return Ok(false);
     }
     put_key(cells, side.rows.row(i), side.key)?;
-    Ok(keys.has(cells))
+    Ok(has_key(keys, cells))
+}
+
+/// Which of the marked rows have one of these keys.
+fn marks_by(alloc: Global, side: &Side, keys: &Keys) -> Result<Vec<bool>, AllocError>
+    requires key { AreBelow side.now.key.now side.now.rows.now.width }
+    requires marks { length side.now.marks.now ≡ length side.now.rows.now.rows }
+    requires width { width_of keys.now ≡ length side.now.key.now }
+    ensures length { IfOk result (λ marks. length marks.items ≡ length side.now.rows.now.rows) }
+    ensures exact { IfOk result (λ marks. (i : ℕ) → i < length side.now.rows.now.rows → IsTrue (get_or marks.items i false) ↔ (IsTrue (get_or side.now.marks.now i false) × HasKey keys.now (pick side.now.key.now (get_or side.now.rows.now.rows i [])))) }
+{
+    let mut marks = Vec::with_capacity(alloc, side.rows.len())?;
+    let mut cells = Vec::new(alloc);
+    for i in 0..side.rows.len() {
+        let has = has_partner(side, i, keys, &mut cells)?;
+        marks.push(has)?;
+    }
+    Ok(marks)
 }
 
 /// Which of the marked rows on the left have a partner: a marked row on the right with their key.
@@ -97,11 +195,6 @@ pub fn partner_marks(alloc: Global, left: &Side, right: &Side) -> Result<Vec<boo
     ensures exact { IfOk result (λ marks. (i : ℕ) → i < length left.now.rows.now.rows → IsTrue (get_or marks.items i false) ↔ (IsTrue (get_or left.now.marks.now i false) × IsMarkedKey right.now.rows.now.rows right.now.marks.now right.now.key.now (length right.now.rows.now.rows) (pick left.now.key.now (get_or left.now.rows.now.rows i [])))) }
 {
     let keys = keys_of(alloc, right)?;
-    let mut marks = Vec::with_capacity(alloc, left.rows.len())?;
-    let mut cells = Vec::new(alloc);
-    for i in 0..left.rows.len() {
-        let has = has_partner(left, i, &keys, &mut cells)?;
-        marks.push(has)?;
-    }
+    let marks = marks_by(alloc, left, &keys)?;
     Ok(marks)
 }

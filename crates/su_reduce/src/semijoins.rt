@@ -2,11 +2,12 @@
 ghost use Rattle.std.specs.Prelude.{◌≡◌, ◌↔◌, ◌<◌, ◌+◌, ℕ, IsTrue, IfOk, OnOk, length};
 ghost use Rattle.su_reduce.specs.inside.Coded.{AreCoded, AreSheets};
 ghost use Rattle.su_reduce.specs.inside.Keys.{AreShared};
-ghost use Rattle.su_reduce.specs.inside.Marks.{AreMarks, Fits, HasPartner, IsSemijoin, mark, row_at};
+ghost use Rattle.su_reduce.specs.Shapes.{Fits};
+ghost use Rattle.su_reduce.specs.inside.Marks.{AreMarks, HasPartner, IsSemijoin, mark, row_at};
 
 use crate::edges::Edge;
-use crate::fitting::place;
 use crate::partners::{Side, partner_marks};
+use crate::shapes::place;
 use crate::sheets::Sheet;
 use std::alloc::Global;
 use su_base::{List, NoMemory};

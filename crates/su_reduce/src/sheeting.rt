@@ -1,8 +1,8 @@
 //! The candidates of edges as rows of codes.
 ghost use Rattle.std.specs.Prelude.{◌≡◌, ◌++◌, ℕ, List, [], ◌∷◌, IfOk, map, length};
-ghost use Rattle.su_reduce.specs.Codes.{decode};
+ghost use Rattle.su_reduce.specs.Codes.{decode, Extends};
 ghost use Rattle.su_reduce.specs.Sheets.{AreBelow};
-ghost use Rattle.su_reduce.specs.inside.Coded.{AreSheets, Extends, IsPushed, IsSheetOf};
+ghost use Rattle.su_reduce.specs.inside.Coded.{AreSheets, IsPushed, IsSheetOf};
 
 use crate::codes::Codes;
 use crate::edges::Edge;

@@ -1,5 +1,7 @@
 //! Rows of codes, of one width, in one vector.
 ghost use Rattle.std.specs.Prelude.{◌≡◌, ◌+◌, ◌*◌, ◌<◌, ◌≤◌, [], ◌∷◌, ◌++◌, length, get_or, take, drop, All, OnOk, OnErr};
+ghost use Rattle.su_reduce.specs.Left.{marked};
+ghost use Rattle.su_reduce.specs.Sheets.{cut};
 
 use std::alloc::{AllocError, Global};
 use std::marker::Model;
@@ -81,6 +83,45 @@ impl Sheet {
         self.count = count;
         Ok(())
     }
+
+    /// Keeps the marked rows, in their order. It takes no memory.
+    pub fn keep(&mut self, marks: &[bool])
+        requires { length marks.now ≡ length self.old.rows }
+        ensures width { self.new.width ≡ self.old.width }
+        ensures rows { self.new.rows ≡ marked marks.now self.old.rows }
+    {
+        let kept = bring_forward(self.cells.as_mut_slice(), self.width, marks);
+        self.cells.truncate(kept * self.width);
+        self.count = kept;
+    }
+}
+
+/// Puts some cells side by side where others stand before them.
+fn move_back(cells: &mut [u32], from: usize, to: usize, width: usize)
+    requires order { to ≤ from }
+    requires within { from + width ≤ length cells.old }
+    ensures length { length cells.new ≡ length cells.old }
+    ensures front { take (to + width) cells.new ≡ take to cells.old ++ take width (drop from cells.old) }
+    ensures behind { drop (from + width) cells.new ≡ drop (from + width) cells.old }
+{
+    cells.copy_within(from..from + width, to);
+}
+
+/// Puts the marked rows side by side at the front. How many they are.
+fn bring_forward(cells: &mut [u32], width: usize, marks: &[bool]) -> usize
+    requires { length cells.old ≡ length marks.now * width }
+    ensures length { length cells.new ≡ length cells.old }
+    ensures count { result ≤ length marks.now }
+    ensures rows { cut width result (take (result * width) cells.new) ≡ marked marks.now (cut width (length marks.now) cells.old) }
+{
+    let mut kept = 0;
+    for i in 0..marks.len() {
+        if marks[i] {
+            move_back(cells, i * width, kept * width, width);
+            kept += 1;
+        }
+    }
+    kept
 }
 
 /// Some cells side by side.

@@ -2,10 +2,9 @@
 -- term: a code, or a variable; check: a comparison of two terms
 -- spot: where a pair of rows has a term; test: a comparison of two spots
 -- No public contract cites this module.
-use Rattle.std.specs.Prelude.{◌≡◌, ◌<◌, ℕ, pos, Bool, List, [], ◌∷◌, ◌++◌, map, length, slice_index_or}
+use Rattle.std.specs.Prelude.{◌≡◌, ◌<◌, ℕ, Bool, List, [], ◌∷◌, ◌++◌, map, slice_index_or}
 use Rattle.std.specs.List.{list_all}
 use Rattle.su_base.specs.declared.values.Value.{Value}
-use Rattle.su_base.specs.declared.values.Value.TheVariants.{Int}
 use Rattle.su_where.specs.Operator.{compares}
 use Rattle.su_reduce.specs.Codes.{decode}
 use Rattle.su_exec.specs.declared.checks.Term.{Term}

@@ -1,19 +1,17 @@
 -- Candidates as values: what their codes stand for.
 -- No public contract cites this module.
-use Rattle.std.specs.Prelude.{◌≡◌, ◌<◌, ◌≤◌, ◌⊎◌, ◌↔◌, ℕ, pos, true, cond, nat_eq, Some, List, [], ◌∷◌, map, sum, length, slice_get, slice_index_or, All, Contains}
+use Rattle.std.specs.Prelude.{◌≡◌, ◌<◌, ◌⊎◌, ◌↔◌, ℕ, pos, true, Some, List, [], map, sum, length, slice_get, slice_index_or, All, Contains}
 use Rattle.su_base.specs.declared.values.Value.{Value}
 use Rattle.su_base.specs.declared.values.Value.TheVariants.{Int}
 use Rattle.su_rel.specs.Stored.{Stored}
 use Rattle.su_tableau.specs.declared.symbols.Sym.{Sym}
 use Rattle.su_tableau.specs.declared.symbols.Sym.TheVariants.{Var}
-use Rattle.su_tableau.specs.Tableaux.{value_of, values_of}
+use Rattle.su_tableau.specs.Tableaux.{values_of}
 use Rattle.su_exec.specs.declared.tasks.TaskRow.{TaskRow}
 use Rattle.su_exec.specs.declared.tasks.Task.{Task}
-use Rattle.su_reduce.specs.Codes.{decode}
-use Rattle.su_reduce.specs.inside.Coded.{Extends}
+use Rattle.su_reduce.specs.Codes.{decode, Extends}
 use Rattle.su_exec.specs.inside.Edges.{Edge, Fits, FitsAll, among, has}
 use Rattle.su_reduce.specs.Sheets.{AreBelow}
-use Rattle.su_exec.specs.inside.Joins.{IsApart}
 use Rattle.su_exec.specs.Outputs.{Agrees, values_at}
 use Rattle.su_exec.specs.Shares.{row_share}
 use Rattle.su_exec.specs.Tasks.{StandsIn}
@@ -39,23 +37,6 @@ IsCoded values e = AreCoded values e.rows
 -- the values of a row at these places
 abbrev pub picked : List ℕ → List Value → List Value
 picked places values = map (λ p. slice_index_or values p (Int (pos 0))) places
-
--- the variables of the first n cells, each once, with its first place
-pub record IsShape (cells : List Sym) (n : ℕ) (vars firsts : List ℕ) : Type 0 where
-  pub apart : IsApart vars
-  pub below : AreBelow firsts (length cells)
-  pub read : (v : ℕ → Value) → picked firsts (values_of v cells) ≡ map v vars
-  pub all : (k i : ℕ) → i < n → slice_index_or cells i (Var k) ≡ Var k → has vars k ≡ true
-
--- the valuation that gives these variables these values
-abbrev pub assigned : List ℕ → List Value → ℕ → Value
-assigned [] ys k = Int (pos 0)
-assigned (x ∷ xs) [] k = Int (pos 0)
-assigned (x ∷ xs) (y ∷ ys) k = cond (nat_eq x k) y (assigned xs ys k)
-
--- the value at place p is what the cell asks for, where variables have the values at their first places
-abbrev pub FitsAt : List Sym → List ℕ → List ℕ → List Value → ℕ → Type 0
-FitsAt cells vars firsts xs p = slice_index_or xs p (Int (pos 0)) ≡ value_of (assigned vars (picked firsts xs)) (slice_index_or cells p (Var 0))
 
 -- the values of the variables that a stored row gives which fits the cells
 pub record IsTaken (cells : List Sym) (firsts columns : List ℕ) (stored h : List Value) : Type 0 where

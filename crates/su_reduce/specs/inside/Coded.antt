@@ -1,16 +1,11 @@
 -- Candidates as rows of codes. No public clause cites this module.
-use Rattle.std.specs.Prelude.{◌≡◌, ◌<◌, ◌≤◌, ℕ, List, [], ◌∷◌, ◌++◌, map, length, get_or}
+use Rattle.std.specs.Prelude.{◌≡◌, ◌<◌, ℕ, List, [], ◌∷◌, ◌++◌, map, length, get_or}
 use Rattle.su_base.specs.declared.values.Value.{Value}
 use Rattle.su_reduce.specs.declared.edges.Edge.{Edge}
 use Rattle.su_reduce.specs.Codes.{AreApart, decode}
 use Rattle.su_reduce.specs.Left.{edge_at}
 use Rattle.su_reduce.specs.Sheets.{AreBelow, Rows}
 use Rattle.su_reduce.specs.inside.Marks.{row_at}
-
--- the codes so far stand for the same values
-pub record Extends (old new : List Value) : Type 0 where
-  pub longer : length old ≤ length new
-  pub same : (code : ℕ) → code < length old → decode new code ≡ decode old code
 
 -- the codes of a row
 pub record IsCodeOf (values row : List Value) (codes : List ℕ) : Type 0 where

@@ -1,18 +1,12 @@
 -- Places of variables. No public clause cites this module.
--- place of a variable: the number of cells before the first one that holds it
 -- shared places: a place on either side for each variable of both
-use Rattle.std.specs.Prelude.{◌≡◌, ℕ, suc, ◌<◌, pos, cond, nat_eq, List, [], ◌∷◌, length, get_or, Contains}
+use Rattle.std.specs.Prelude.{◌≡◌, ℕ, ◌<◌, pos, List, length, get_or, Contains}
 use Rattle.su_base.specs.declared.values.Value.{Value}
 use Rattle.su_base.specs.declared.values.Value.TheVariants.{Int}
 use Rattle.su_tableau.specs.declared.symbols.Sym.{Sym}
-use Rattle.su_tableau.specs.declared.symbols.Sym.TheVariants.{Const, Var}
-use Rattle.su_reduce.specs.inside.Partners.{cell_at}
-
--- the place of a variable; their number where no cell holds it
-abbrev pub place_of : List Sym → ℕ → ℕ
-place_of [] k = 0
-place_of (Const c ∷ cells) k = suc (place_of cells k)
-place_of (Var j ∷ cells) k = cond (nat_eq j k) 0 (suc (place_of cells k))
+use Rattle.su_tableau.specs.declared.symbols.Sym.TheVariants.{Var}
+use Rattle.su_tableau.specs.Tableaux.{value_of}
+use Rattle.su_reduce.specs.Shapes.{cell_at, place_of}
 
 -- the value at a place of a row
 abbrev pub value_at : List Value → ℕ → Value
@@ -22,11 +16,9 @@ value_at row p = get_or row p (Int (pos 0))
 abbrev pub assigned : List Sym → List Value → ℕ → Value
 assigned cells row k = value_at row (place_of cells k)
 
--- for each cell the place of its variable
-pub record AreFirsts (cells : List Sym) (n : ℕ) (places : List ℕ) : Type 0 where
-  pub same_length : length places ≡ n
-  pub below : (p : ℕ) → p < n → get_or places p 0 < length cells
-  pub is_place : (p k : ℕ) → p < n → cell_at cells p ≡ Var k → get_or places p 0 ≡ place_of cells k
+-- the value at place p is what the cell asks for, where variables have the values at their places
+abbrev pub FitsAt : List Sym → List Value → ℕ → Type 0
+FitsAt cells row p = value_of (assigned cells row) (cell_at cells p) ≡ value_at row p
 
 -- the places at i hold one variable
 pub record IsPair (left right : List Sym) (ls rs : List ℕ) (i : ℕ) (k : ℕ) : Type 0 where

@@ -6,6 +6,7 @@ use Rattle.su_tableau.specs.declared.symbols.Sym.{Sym}
 use Rattle.su_tableau.specs.Tableaux.{values_of}
 use Rattle.su_reduce.specs.declared.edges.Edge.{Edge}
 use Rattle.su_reduce.specs.Left.{cells_at, candidates_at}
+use Rattle.su_reduce.specs.Shapes.{Fits}
 
 -- whether candidate p is marked
 abbrev pub mark : List Bool → ℕ → Bool
@@ -26,10 +27,6 @@ row_at rows p = get_or rows p []
 -- the row of candidate p of edge i
 abbrev pub candidate_at : List Edge → ℕ → ℕ → List Value
 candidate_at edges i p = row_at (candidates_at edges i) p
-
--- some valuation gives the cells the row
-abbrev pub Fits : List Sym → List Value → Type 0
-Fits cells row = (v : ℕ → Value) × (values_of v cells ≡ row)
 
 -- one valuation gives both edges their rows
 pub record Meet (cells others : List Sym) (row other : List Value) : Type 0 where

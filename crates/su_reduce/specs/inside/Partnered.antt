@@ -1,7 +1,23 @@
 -- Keys of marked rows. No public clause cites this module.
-use Rattle.std.specs.Prelude.{◌↔◌, ℕ, Bool, List, Contains}
+use Rattle.std.specs.Prelude.{◌≡◌, ◌↔◌, ℕ, Bool, false, IsTrue, List, [], ◌∷◌, get_or, Contains}
+use Rattle.su_reduce.specs.declared.partners.Keys.{Keys as AKeys}
+use Rattle.su_reduce.specs.declared.partners.Keys.TheVariants.{Codes, Rows}
 use Rattle.su_reduce.specs.Sheets.{IsMarkedKey}
 
 -- the keys of the marked ones of the first n rows
 abbrev pub AreKeys : List (List ℕ) → List Bool → List ℕ → ℕ → List (List ℕ) → Type 0
 AreKeys rows marks places n keys = (k : List ℕ) → Contains keys k ↔ IsMarkedKey rows marks places n k
+
+-- the codes that are keys of the marked ones of the first n rows have a mark
+abbrev pub AreCodes : List (List ℕ) → List Bool → List ℕ → ℕ → List Bool → Type 0
+AreCodes rows marks places n codes = (code : ℕ) → IsTrue (get_or codes code false) ↔ IsMarkedKey rows marks places n (code ∷ [])
+
+-- how many codes a key has
+abbrev pub width_of : AKeys → ℕ
+width_of (Codes codes) = 1
+width_of (Rows rows) = rows.width
+
+-- the key is one of these
+abbrev pub HasKey : AKeys → List ℕ → Type 0
+HasKey (Codes codes) key = (code : ℕ) × (key ≡ code ∷ []) × IsTrue (get_or codes.items code false)
+HasKey (Rows rows) key = Contains rows.rows key

@@ -6,6 +6,7 @@ use Rattle.std.specs.FinSet.{FinSet, contains, empty, insert, difference}
 use Rattle.su_tableau.specs.declared.symbols.Sym.{Sym}
 use Rattle.su_tableau.specs.declared.symbols.Sym.TheVariants.{Var}
 use Rattle.su_reduce.specs.Ears.{HasVar}
+use Rattle.su_reduce.specs.Shapes.{cell_at}
 
 -- a member of a set
 abbrev pub In : FinSet nat_cmp → ℕ → Type 0
@@ -18,10 +19,6 @@ Touches edges x j = (k : ℕ) × (x ≡ Var k) × HasVar edges j k
 -- the edges that have the variable of cell c
 abbrev pub set_at : List (FinSet nat_cmp) → ℕ → FinSet nat_cmp
 set_at sets c = get_or sets c empty
-
--- cell c of an edge
-abbrev pub cell_at : List Sym → ℕ → Sym
-cell_at cells c = get_or cells c (Var 0)
 
 -- the set is that of the edges that the symbol touches
 abbrev pub IsTouched : List (List Sym) → Sym → FinSet nat_cmp → Type 0

@@ -10,4 +10,4 @@ returns-clause-way g c =
     variable_way (g.R.Rows.tables c.args.rows.now) c.args.codes.now c.args.edges.now c.args.row.now c.args.source.now c.args.p c.get-column.result.now c.in_ok-values.values.width c.matching_all-cost.result c.in_ok-values.values.rows
     c.requires.source c.get-column.ensures c.in_ok-values.ensures.width
     c.in-Some.k c.in-Some-fewest.e c.in-Some-fewest.place c.get.result.now c.index-edges-e.result c.get.ensures c.in-Some.ensures c.in-Some-fewest.ensures.0 c.index-edges-e.is
-    (rw same at c.in-Some-fewest.ensures.1) (rw same at c.in-Some-fewest.ensures.2) c.in_ok-values.ensures.all c.in_ok-values.ensures.only c.requires.coded (c.matching_all-cost.ensures c.if-cost-best.false)
+    (rw same at c.in-Some-fewest.ensures.1) (rw same at c.in-Some-fewest.ensures.2) c.in_ok-values.ensures.all c.in_ok-values.ensures.only c.requires.coded (c.matching_all-cost.ensures c.if-cost-most.false)

@@ -1,5 +1,5 @@
 use Rattle.std.proofs.Common.{refl}
-use Rattle.su_reduce.proofs.Extending.{code_is, code_low, extends_kept, extends_self}
+use Rattle.su_reduce.proofs.Extending.{code_is, code_low, extends_self}
 use Rattle.su_exec.proofs.executing.term_of.Goals as goal
 
 pub returns-in_ok-code-in-Const-clause-term : goal.returns-in_ok-code-in-Const-clause-term
@@ -8,7 +8,7 @@ returns-in_ok-code-in-Const-clause-term c =
     rw c.in-Const.is (code, refl, code_low c.code.new.self code c.in-Const.value c.in_ok-code-in-Const.ensures.code, code_is c.code.new.self code c.in-Const.value c.in_ok-code-in-Const.ensures.code)
 
 pub returns-in_ok-code-in-Const-clause-codes : goal.returns-in_ok-code-in-Const-clause-codes
-returns-in_ok-code-in-Const-clause-codes c = extends_kept c.args.codes.now c.code.new.self c.in-Const.value c.in_ok-code-in-Const.ensures.kept
+returns-in_ok-code-in-Const-clause-codes c = c.in_ok-code-in-Const.ensures.extends
 
 pub returns-in-Var-clause-term : goal.returns-in-Var-clause-term
 returns-in-Var-clause-term c = rw c.in-Var.is refl

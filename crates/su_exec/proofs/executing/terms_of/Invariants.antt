@@ -1,5 +1,5 @@
 use Rattle.std.proofs.Common.{take}
-use Rattle.su_reduce.specs.inside.Coded.{Extends}
+use Rattle.su_reduce.specs.Codes.{Extends}
 use Rattle.su_exec.specs.inside.Shown.{AreTermsOf}
 use Rattle.su_exec.proofs.executing.terms_of.Given as goal
 

@@ -14,7 +14,8 @@ use Rattle.su_exec.specs.Tasks.{FitsTables}
 use Rattle.su_exec.specs.inside.Ways.{AgreesBySources, IsAgreed, IsFrom, IsOfSources}
 use Rattle.su_exec.proofs.Accessing.{sum_more, sum_take}
 use Rattle.su_exec.proofs.Gathering.{gathered_none, gathered_then}
-use Rattle.su_exec.proofs.Shaping.{shape_len}
+use Rattle.su_reduce.proofs.Shaping.{shape_length}
+use Rattle.su_exec.proofs.Shaping.{shape_apart}
 use Rattle.su_exec.proofs.Sourcing.{agreed_up, row_edge, sources_before, sources_cases, sources_here, sources_none}
 use Rattle.su_exec.proofs.fetching.candidates_of.Goals as goal
 
@@ -87,7 +88,10 @@ loop-s-preserved g c =
 
 pub apart-requires-clause-width : goal.apart-requires-clause-width
 apart-requires-clause-width g c =
-    ap (λ r. r.width) c.into_rows.ensures.rows ∙ c.loop-s.invariant.width ∙ shape_len c.args.row.now.cells (length c.args.row.now.cells) c.in_ok-shape.shape.vars.items c.in_ok-shape.shape.firsts.items c.in_ok-shape.ensures
+    ap (λ r. r.width) c.into_rows.ensures.rows ∙ c.loop-s.invariant.width ∙ (let shape = c.in_ok-shape.shape in shape_length c.args.row.now.cells (length c.args.row.now.cells) shape.vars.items shape.firsts.items shape.places.items c.in_ok-shape.ensures)
+
+pub apart-requires-clause-apart : goal.apart-requires-clause-apart
+apart-requires-clause-apart g c = let shape = c.in_ok-shape.shape in shape_apart c.args.row.now.cells shape.vars.items shape.firsts.items shape.places.items c.in_ok-shape.ensures
 
 pub returns-clause-edge : goal.returns-clause-edge
 returns-clause-edge g c =
@@ -103,7 +107,7 @@ returns-clause-edge g c =
     let n : c.loop-s.s ≡ length row.sources = omega arith in
     let all : IsGathered (IsOfSources tables row shape.firsts.items (length row.sources)) (AgreesBySources tables olds es row shape.firsts.items (length row.sources)) olds [] news rows =
     subst (λ n. IsGathered (IsOfSources tables row shape.firsts.items n) (AgreesBySources tables olds es row shape.firsts.items n) olds [] news rows) n c.loop-s.invariant.gathered in
-    let edge = row_edge tables olds news es row shape.vars.items shape.firsts.items rows c.in_ok-shape.ensures c.requires.coded all in
+    let edge = row_edge tables olds news es row shape.vars.items shape.firsts.items shape.places.items rows c.in_ok-shape.ensures c.requires.coded all in
     subst (λ (e : Edge ℕ). IsRowEdge tables news es row e) (sym (c.apart.ensures ∙ ap (λ r. record { vars = shape.vars.items; rows = r.rows }) c.into_rows.ensures.rows)) edge
 
 pub returns-clause-codes : goal.returns-clause-codes

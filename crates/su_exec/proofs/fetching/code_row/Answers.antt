@@ -4,12 +4,11 @@ use Rattle.std.proofs.lemmas.List.{map_more}
 use Rattle.std.proofs.lemmas.List.Elements.{All-nil}
 use Rattle.su_base.specs.declared.values.Value.{Value}
 use Rattle.su_base.specs.declared.values.Value.TheVariants.{Int}
-use Rattle.su_reduce.specs.Codes.{decode}
-use Rattle.su_reduce.specs.inside.Coded.{Extends}
+use Rattle.su_reduce.specs.Codes.{decode, Extends}
 use Rattle.su_exec.specs.inside.Coded.{picked}
 use Rattle.su_reduce.specs.Sheets.{AreBelow}
 use Rattle.su_exec.specs.Outputs.{values_at}
-use Rattle.su_reduce.proofs.Extending.{extends_kept, extends_self, extends_then, row_more, values_more}
+use Rattle.su_reduce.proofs.Extending.{extends_self, extends_then, row_more, values_more}
 use Rattle.su_exec.proofs.fetching.code_row.Goals as goal
 
 pub loop-first-init : goal.loop-first-init
@@ -32,7 +31,7 @@ loop-first-preserved c =
     let value : Value = c.value_at.result.now in
     let code = c.in_ok-code.code in
     let test = c.loop-first-test.true in
-    let more : Extends olds news = extends_kept olds news value c.in_ok-code.ensures.kept in
+    let more : Extends olds news = c.in_ok-code.ensures.extends in
     record {
       codes = extends_then start olds news c.loop-first.invariant.codes more;
       coded = rw c.in_ok-push.ensures.items (row_more olds news cells code value more c.loop-first.invariant.coded c.in_ok-code.ensures.code);

@@ -1,7 +1,6 @@
 use Rattle.std.proofs.Common.{◌≡◌, length, take}
 use Rattle.std.specs.Prelude.{map}
-use Rattle.su_reduce.specs.Codes.{decode}
-use Rattle.su_reduce.specs.inside.Coded.{Extends}
+use Rattle.su_reduce.specs.Codes.{decode, Extends}
 use Rattle.su_exec.specs.inside.Coded.{picked}
 use Rattle.su_reduce.specs.Sheets.{AreBelow}
 use Rattle.su_exec.specs.Outputs.{values_at}

@@ -9,12 +9,17 @@ use Rattle.su_exec.specs.inside.Coded.{IsTaken, picked}
 use Rattle.su_reduce.specs.Sheets.{AreBelow}
 use Rattle.su_exec.specs.Outputs.{values_at}
 use Rattle.su_exec.proofs.Gathering.{gathered_none, gathered_one}
+use Rattle.su_exec.proofs.Shaping.{shape_below}
 use Rattle.su_exec.proofs.fetching.select.Goals as goal
+
+pub fits-requires-clause-length : goal.fits-requires-clause-length
+fits-requires-clause-length c = length-map c.args.columns.now (λ column. get_or c.args.stored.now column (Int (pos 0))) ∙ c.requires.columns
 
 pub code_row-requires-clause-firsts : goal.code_row-requires-clause-firsts
 code_row-requires-clause-firsts c =
-    let firsts = c.args.shape.now.firsts.items in
-    subst (λ (ps : List ℕ). AreBelow ps (length c.args.columns.now)) (sym c.deref.ensures.value) (subst (λ n. AreBelow firsts n) (sym c.requires.columns) c.requires.shape.below)
+    let shape = c.args.shape.now in
+    let firsts = shape.firsts.items in
+    subst (λ (ps : List ℕ). AreBelow ps (length c.args.columns.now)) (sym c.deref.ensures.value) (subst (λ n. AreBelow firsts n) (sym c.requires.columns) (shape_below c.args.row.now.cells shape.vars.items firsts shape.places.items c.requires.shape))
 
 pub add-requires : goal.add-requires
 add-requires c =
@@ -25,7 +30,7 @@ add-requires c =
 pub returns-then-not-fits-clause-gathered : goal.returns-then-not-fits-clause-gathered
 returns-then-not-fits-clause-gathered c =
     let P : List Value → Type 0 = IsTaken c.args.row.now.cells c.args.shape.now.firsts.items c.args.columns.now c.args.stored.now in
-    gathered_none P P c.args.codes.now c.args.out.now.rows c.requires.coded (λ h t. true≢false (sym (c.fits.ensures.1 (t.valuation, t.fits)) ∙ c.if-not-fits.true))
+    gathered_none P P c.args.codes.now c.args.out.now.rows c.requires.coded (λ h t. true≢false (sym (c.fits.ensures.1 (t.valuation, sym t.fits)) ∙ c.if-not-fits.true))
 
 pub returns-clause-gathered : goal.returns-clause-gathered
 returns-clause-gathered c =
@@ -37,7 +42,7 @@ returns-clause-gathered c =
     let more = c.add.new.self.rows in
     let w = c.fits.ensures.0 c.if-not-fits.false in
     gathered_one P c.args.codes.now news c.args.out.now.rows more cells (picked firsts xs) c.requires.coded c.in_ok-code_row.ensures.codes c.in_ok-code_row.ensures.coded
-    (c.in_ok-code_row.ensures.values ∙ ap (λ ps. picked ps xs) c.deref.ensures.value) (record { valuation = w.0; fits = w.1; is = refl }) (λ g q. sym q.is) (λ r h. c.in_ok-add.ensures.kept r h)
+    (c.in_ok-code_row.ensures.values ∙ ap (λ ps. picked ps xs) c.deref.ensures.value) (record { valuation = w.0; fits = sym w.1; is = refl }) (λ g q. sym q.is) (λ r h. c.in_ok-add.ensures.kept r h)
     (subst (λ (r : List ℕ). Contains more r) c.deref-2.ensures.value c.in_ok-add.ensures.had)
     (λ r h.
     ⊎_elim

@@ -1,6 +1,6 @@
-use Rattle.std.proofs.Common.{◌≡◌, ◌∷◌, [], List, ℕ, length}
+use Rattle.std.proofs.Common.{◌∷◌, [], List, ℕ}
 use Rattle.su_exec.specs.declared.checks.Check.{Check}
-use Rattle.su_exec.specs.inside.Bodies.{AreThere, IsPast}
+use Rattle.su_exec.specs.inside.Bodies.{IsPast}
 use Rattle.su_exec.specs.inside.Checks.{all_hold}
 use Rattle.su_exec.specs.inside.Edges.{Edge, Keeps, always}
 use Rattle.su_exec.proofs.Keeping.{keeps_trans}

@@ -1,4 +1,3 @@
-use Rattle.std.proofs.Common.{subst}
 use Rattle.su_exec.proofs.Absorbing.{leaves_same, leaves_trans}
 use Rattle.su_exec.proofs.reducing.reduce.Goals as goal
 

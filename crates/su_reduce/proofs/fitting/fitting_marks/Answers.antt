@@ -1,7 +1,8 @@
 use Rattle.std.proofs.Common.{◌≡◌, ◌↔◌, ◌<◌, ℕ, Bool, IsTrue, List, [], length, subst}
 use Rattle.su_reduce.specs.declared.edges.Edge.{Edge}
 use Rattle.su_reduce.specs.Left.{cells_at, candidates_at}
-use Rattle.su_reduce.specs.inside.Marks.{Fits, mark, row_at, candidate_at}
+use Rattle.su_reduce.specs.Shapes.{Fits}
+use Rattle.su_reduce.specs.inside.Marks.{mark, row_at, candidate_at}
 use Rattle.su_reduce.proofs.Reading.{edge_is}
 use Rattle.su_reduce.proofs.Meeting.{pushed_each, pushed_length}
 use Rattle.su_reduce.proofs.fitting.fitting_marks.Goals as goal

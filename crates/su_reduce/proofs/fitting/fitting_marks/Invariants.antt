@@ -1,6 +1,7 @@
 use Rattle.std.proofs.Common.{◌≡◌, ◌↔◌, ℕ, ◌<◌, IsTrue, length}
 use Rattle.su_reduce.specs.Left.{cells_at, candidates_at}
-use Rattle.su_reduce.specs.inside.Marks.{Fits, mark, marks_at, candidate_at}
+use Rattle.su_reduce.specs.Shapes.{Fits}
+use Rattle.su_reduce.specs.inside.Marks.{mark, marks_at, candidate_at}
 use Rattle.su_reduce.proofs.fitting.fitting_marks.Given as goal
 
 abbrev pub invariant-loop-edge : goal.invariant-loop-edge

@@ -1,5 +1,6 @@
 use Rattle.std.proofs.Common.{◌↔◌, ℕ, Bool, false, IsTrue}
-use Rattle.su_reduce.specs.inside.Marks.{Fits, row_at}
+use Rattle.su_reduce.specs.Shapes.{Fits}
+use Rattle.su_reduce.specs.inside.Marks.{row_at}
 use Rattle.su_reduce.proofs.Reading.{told_at}
 use Rattle.su_reduce.proofs.Meeting.{pushed_each, pushed_length}
 use Rattle.su_reduce.proofs.fitting.fitting_rows.Goals as goal
@@ -9,9 +10,9 @@ loop-row-preserved c =
     let edge = c.args.edge.now in
     let n = c.loop-row.row-index in
     let inv = c.loop-row.invariant in
-    let m = c.fits.result in
+    let m = c.fits_whole.result in
     rw c.in_ok-push.ensures.ok (record {
       long = pushed_length c.loop-row.marks m n inv.long;
       each = pushed_each (λ (p : ℕ) (b : Bool). IsTrue b ↔ Fits edge.cells (row_at edge.candidates p)) false c.loop-row.marks m n inv.long inv.each
-          (told_at edge.cells c.as_slice-cells.result.now edge.candidates c.as_slice-row-items.result.now n c.row-item.result c.as_slice-in-loop-row.result.now m c.as_slice-cells.ensures c.as_slice-row-items.ensures c.loop-row-test.true c.row-item.is c.as_slice-in-loop-row.ensures c.fits.ensures);
+          (told_at edge.cells edge.candidates c.as_slice-row-items.result.now n c.row-item.result m c.as_slice-row-items.ensures c.loop-row-test.true c.row-item.is c.fits_whole.ensures);
     })

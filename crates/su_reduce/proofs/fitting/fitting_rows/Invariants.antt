@@ -1,5 +1,6 @@
 use Rattle.std.proofs.Common.{◌≡◌, ◌↔◌, ℕ, ◌<◌, IsTrue, length}
-use Rattle.su_reduce.specs.inside.Marks.{Fits, mark, row_at}
+use Rattle.su_reduce.specs.Shapes.{Fits}
+use Rattle.su_reduce.specs.inside.Marks.{mark, row_at}
 use Rattle.su_reduce.proofs.fitting.fitting_rows.Given as goal
 
 abbrev pub invariant-loop-row : goal.invariant-loop-row

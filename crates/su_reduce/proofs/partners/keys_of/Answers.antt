@@ -1,22 +1,8 @@
-use Rattle.std.proofs.Common.{◌≡◌, ◌∙◌, ℕ, length, subst, arith, rules}
-use Rattle.su_reduce.specs.inside.Partnered.{AreKeys}
-use Rattle.su_reduce.proofs.Partnered.{no_keys}
+use Rattle.std.proofs.Common.{length}
+use Rattle.su_reduce.proofs.Partnered.{codes_are_keys}
 use Rattle.su_reduce.proofs.partners.keys_of.Goals as goal
 
-pub loop-i-init : goal.loop-i-init
-loop-i-init c = rw c.in_ok-keys.ensures (record { width = search rules; keys = no_keys c.args.side.now.rows.now.rows c.args.side.now.marks.now c.args.side.now.key.now })
-
-pub loop-i-preserved : goal.loop-i-preserved
-loop-i-preserved c = record {
-  width = c.in_ok-add_key.ensures.width ∙ c.loop-i.invariant.width;
-  keys = c.in_ok-add_key.ensures.keys c.loop-i.invariant.keys;
-}
-
-pub returns-clause-keys : goal.returns-clause-keys
-returns-clause-keys c =
+pub returns-then-side-eq1-clause-keys : goal.returns-then-side-eq1-clause-keys
+returns-then-side-eq1-clause-keys c =
     let side = c.args.side.now in
-    let done = c.loop-i-test.false in
-    let end = c.loop-i.auto in
-    let len = c.len-i-end.ensures in
-    let same : c.loop-i.i ≡ length side.rows.now.rows = omega arith in
-    subst (λ (n : ℕ). AreKeys side.rows.now.rows side.marks.now side.key.now n c.loop-i.keys.rows) same c.loop-i.invariant.keys
+    codes_are_keys side.rows.now.rows side.marks.now side.key.now (length side.rows.now.rows) c.in_ok-codes.codes.items c.if-side-eq1.true c.in_ok-codes.ensures

@@ -1,5 +1,5 @@
 use Rattle.std.proofs.Common.{◌≡◌, ℕ, ◌<◌}
-use Rattle.su_reduce.specs.inside.Partners.{cell_at}
+use Rattle.su_reduce.specs.Shapes.{cell_at}
 use Rattle.su_reduce.proofs.sharing.is_among.Given as goal
 
 abbrev pub invariant-loop-y : goal.invariant-loop-y

@@ -5,7 +5,8 @@ use Rattle.std.proofs.lemmas.List.{get_or_default}
 use Rattle.su_tableau.specs.declared.symbols.Sym.{Sym}
 use Rattle.su_tableau.specs.declared.symbols.Sym.TheVariants.{Var}
 use Rattle.su_reduce.specs.Ears.{cells_of}
-use Rattle.su_reduce.specs.inside.Partners.{IsTouched, cell_at}
+use Rattle.su_reduce.specs.Shapes.{cell_at}
+use Rattle.su_reduce.specs.inside.Partners.{IsTouched}
 use Rattle.su_reduce.proofs.Meeting.{pushed_each, pushed_length}
 use Rattle.su_reduce.proofs.sharing.sets_of.Goals as goal
 

@@ -2,10 +2,9 @@ use Rattle.std.proofs.Common.{◌<◌, ◌++◌, ◌∷◌, [], List, ℕ, lengt
 use Rattle.std.proofs.lemmas.List.{take_more}
 use Rattle.std.proofs.lemmas.List.Elements.{All-nil}
 use Rattle.su_base.specs.declared.values.Value.{Value}
-use Rattle.su_reduce.specs.Codes.{decode}
+use Rattle.su_reduce.specs.Codes.{decode, Extends}
 use Rattle.su_reduce.specs.Sheets.{AreBelow}
-use Rattle.su_reduce.specs.inside.Coded.{Extends}
-use Rattle.su_reduce.proofs.Extending.{extends_kept, extends_self, extends_then, row_more, values_more}
+use Rattle.su_reduce.proofs.Extending.{extends_self, extends_then, row_more, values_more}
 use Rattle.su_reduce.proofs.sheeting.put_codes.Goals as goal
 
 pub loop-value-init : goal.loop-value-init
@@ -25,7 +24,7 @@ loop-value-preserved c =
     let i = c.loop-value.value-index in
     let value : Value = c.value-item.result in
     let code = c.in_ok-code.code in
-    let more : Extends olds news = extends_kept olds news value c.in_ok-code.ensures.kept in
+    let more : Extends olds news = c.in_ok-code.ensures.extends in
     record {
       codes = extends_then start olds news c.loop-value.invariant.codes more;
       coded = rw c.in_ok-push.ensures.items (row_more olds news cells code value more c.loop-value.invariant.coded c.in_ok-code.ensures.code);

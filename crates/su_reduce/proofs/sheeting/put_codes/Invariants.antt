@@ -1,8 +1,7 @@
 use Rattle.std.proofs.Common.{◌≡◌, length, take}
 use Rattle.std.specs.Prelude.{map}
-use Rattle.su_reduce.specs.Codes.{decode}
+use Rattle.su_reduce.specs.Codes.{decode, Extends}
 use Rattle.su_reduce.specs.Sheets.{AreBelow}
-use Rattle.su_reduce.specs.inside.Coded.{Extends}
 use Rattle.su_reduce.proofs.sheeting.put_codes.Given as goal
 
 abbrev pub invariant-loop-value : goal.invariant-loop-value

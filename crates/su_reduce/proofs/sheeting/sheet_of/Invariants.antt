@@ -1,5 +1,6 @@
 use Rattle.std.proofs.Common.{length}
-use Rattle.su_reduce.specs.inside.Coded.{AreRowsOf, Extends}
+use Rattle.su_reduce.specs.Codes.{Extends}
+use Rattle.su_reduce.specs.inside.Coded.{AreRowsOf}
 use Rattle.su_reduce.proofs.sheeting.sheet_of.Given as goal
 
 abbrev pub invariant-loop-row : goal.invariant-loop-row

@@ -1,0 +1,15 @@
+use Rattle.std.proofs.Common.{sym, ◌∙◌, arith}
+use Rattle.su_reduce.proofs.Placing.{cell_is, place_is, place_none}
+use Rattle.su_reduce.proofs.shapes.place.Goals as goal
+
+pub returns-then-is_var : goal.returns-then-is_var
+returns-then-is_var c =
+    let cells = c.args.cells.now in
+    let n = c.loop-p.p in
+    let is = cell_is cells n c.index-cells-p.result c.loop-p-test.true c.index-cells-p.is in
+    sym (place_is cells c.args.k n c.loop-p.invariant c.loop-p-test.true (sym is ∙ c.is_var.ensures.0 c.if-is_var.true))
+
+pub returns : goal.returns
+returns c =
+    let done = c.loop-p-test.false in
+    sym (place_none c.args.cells.now c.args.k (λ i l. c.loop-p.invariant i (omega (arith, l, done))))
