@@ -8,7 +8,7 @@ use Rattle.std.proofs.Math.Seq.{get_or-append_seam}
 use Rattle.su_tableau.specs.Tableaux.{Tab, AreVarsBelow}
 use Rattle.su_tableau.proofs.Sets.{zip-length, zip-at}
 use Rattle.su_map.specs.Rooms.{Space, IsRoomFor, HasSizesOf}
-use Rattle.su_map.proofs.Members.{below_more}
+use borrow.Author.Count.{below_more}
 use Rattle.su_min.specs.Kept.{Minimised}
 use Rattle.su_min.specs.Cover.{Covers}
 use Rattle.su_min.specs.Reduction.{term_at}

@@ -1,5 +1,6 @@
 -- Lists of numbers that ascend.
 use Rattle.std.proofs.Common.{◌≡◌, ℕ, zero, suc, ◌+◌, ◌<◌, ◌≤◌, ◌↔◌, ◌⊎◌, List, [], ◌∷◌, ◌++◌, length, get_or, Contains, refl, ap, subst, ◌∙◌, ⊎_elim, arith}
+use Rattle.std.proofs.Math.Seq.{get_or-append_seam}
 use Rattle.std.proofs.lemmas.Bool.{cases_lt}
 use Rattle.std.proofs.lemmas.List.{get_or_default, length-append, get_or_append_left}
 use Rattle.std.specs.List.{sum_by}
@@ -70,10 +71,6 @@ exactly_none P = record {
   members = λ j. (λ has. absurd (Contains-nil j has), λ h. absurd (let l = h.0 in omega arith));
 }
 
-get_or_end : (xs : List ℕ) (x : ℕ) → get_or (xs ++ x ∷ []) (length xs) 0 ≡ x
-get_or_end [] x = refl
-get_or_end (y ∷ ys) x = get_or_end ys x
-
 asc_push : (xs : List ℕ) (n : ℕ) → IsAscending xs → ((j : ℕ) → Contains xs j → j < n) → IsAscending (xs ++ n ∷ [])
 asc_push xs n up below a b lt h =
     let len = length-append xs (n ∷ []) in
@@ -83,7 +80,7 @@ asc_push xs n up below a b lt h =
     (λ (lb : b < length xs). let eb = get_or_append_left xs (n ∷ []) 0 b lb in let u = up a b lt lb in let r : get_or (xs ++ n ∷ []) a 0 < get_or (xs ++ n ∷ []) b 0 = omega arith in r)
     (λ (le : length xs ≤ b).
     let e : length xs ≡ b = omega arith in
-    let eb : get_or (xs ++ n ∷ []) b 0 ≡ n = subst (λ k. get_or (xs ++ n ∷ []) k 0 ≡ n) e (get_or_end xs n) in
+    let eb : get_or (xs ++ n ∷ []) b 0 ≡ n = subst (λ k. get_or (xs ++ n ∷ []) k 0 ≡ n) e (get_or-append_seam xs n [] 0) in
     let u = below (get_or xs a 0) (Contains-get_or xs a 0 la) in
     let r : get_or (xs ++ n ∷ []) a 0 < get_or (xs ++ n ∷ []) b 0 = omega arith in
     r)

@@ -12,7 +12,7 @@ use Rattle.su_tableau.specs.Mapping.{images_of}
 use Rattle.su_tableau.specs.Kinds.{Kinds}
 use Rattle.su_map.specs.Lists.{rows_in, numbers_of, row_of}
 use Rattle.su_map.proofs.Members.{full_member}
-use Rattle.su_map.proofs.Ranks.{rank_at}
+use Rattle.su_map.proofs.Ranks.{rank_at, numbers_step}
 use Rattle.su_min.specs.Kept.{Minimised, all_rows}
 use Rattle.su_min.proofs.Parts.{all_is}
 use Rattle.su_check.specs.declared.nodes.Node.{Node}
@@ -29,7 +29,6 @@ use Rattle.su_refute.specs.Trees.{IsTree, IsTreeAt}
 use Rattle.su_refute.specs.AllTrees.{IsSound, lines_of, AreTreesOf, AreTrees}
 use Rattle.su_refute.specs.Written.{row_trees, term_of, terms_from, certificate_of, certificate_text, lines_text}
 use Rattle.su_refute.specs.Laws.{IsSpelled, IsWritable, WrittenCertificatesAreGood}
-use Rattle.su_refute.proofs.MemberCounts.{numbers_step}
 use Rattle.su_refute.proofs.Needed.{ready_first}
 use Rattle.su_refute.proofs.TreeSoFar.{kept_in, in_kept}
 use Rattle.su_refute.proofs.Nested.{nests_flat, not_deep}

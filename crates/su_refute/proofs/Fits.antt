@@ -1,9 +1,6 @@
 -- Which targets fit, where one row more has its target.
 use Rattle.std.proofs.Common.{◌≡◌, ◌≢◌, ℕ, ◌<◌, ◌↔◌, List, [], ◌∷◌, length, Contains, refl, arith}
 use Rattle.std.proofs.lemmas.List.Elements.{All-push}
-use Rattle.su_tableau.specs.declared.symbols.Sym.{Sym}
-use Rattle.su_tableau.specs.declared.symbols.Sym.TheVariants.{Const, Var}
-use Rattle.su_tableau.specs.Mapping.{image_of, images_of}
 use Rattle.su_check.specs.declared.sending.Sent.{Sent}
 use Rattle.su_check.specs.inside.Agreeing.{Agree}
 use Rattle.su_check.specs.Fitting.{Lines, row_of, AreSent, sent_too}
@@ -11,19 +8,8 @@ use Rattle.su_check.specs.inside.Widths.{AreWide}
 use Rattle.su_check.specs.inside.Agreeing.{Goes, AgreesWith}
 use Rattle.su_check.specs.Refuting.{IsFitting}
 use Rattle.su_refute.specs.inside.Positions.{IsReady}
+use Rattle.su_check.proofs.FoldTargets.{none_sent}
 use Rattle.su_check.proofs.TargetsTogether.{all_front, all_last, sent_more, sent_less}
-
-same_symbol : (x : Sym) → image_of Var x ≡ x
-same_symbol (Const c) = refl
-same_symbol (Var k) = refl
-
-same_row : (xs : List Sym) → images_of Var xs ≡ xs
-same_row [] = refl
-same_row (x ∷ xs) = let i = same_row xs in let j = same_symbol x in cc
-
--- the empty list is sent
-pub none_sent : (t : Lines) → AreSent t []
-none_sent t = record { symbols = Var; head = same_row t.head; rows = λ k d h. absurd (omega arith) }
 
 -- where no row has a target yet
 pub fits_first : (t : Lines) (r q i : ℕ) → AreWide t.rows → q < length t.rows → i < length t.rows → IsFitting t r [] q i ↔ (Contains t.kept i × (i ≢ r) × Goes t.head (row_of t q) (row_of t i))

@@ -7,20 +7,16 @@ use Rattle.std.proofs.lemmas.List.{append-nil}
 use Rattle.std.proofs.lemmas.Nat.{ones_cat, mod-pow-add, pow_pos}
 use Rattle.std.proofs.Math.Nat.{mod-one, mod-lt}
 use Rattle.std.proofs.lemmas.Nat.Bits.{bit_at-lt, bit_at_above, bit_at_cat_low, same_from_bits}
-use Rattle.su_tableau.specs.Parts.{keep_if}
 use Rattle.su_map.specs.Lists.{numbers_of}
-use Rattle.su_map.proofs.Ranks.{numbers-more}
+use Rattle.su_map.proofs.Ranks.{keep_if-none, numbers-more, numbers_step}
 use Rattle.su_check.specs.Refuting.{AreExactly}
 use Rattle.su_refute.proofs.AscendingNumbers.{exactly_none, exactly_more, exactly_skip, exactly_all, exactly_one}
-
-keep_none : (b n : ℕ) → b ≡ 0 → keep_if b n [] ≡ []
-keep_none b n e = subst (λ b. keep_if b n [] ≡ []) (sym e) refl
 
 pub numbers-none : (m n : ℕ) → bit_at m n ≢ 1 → numbers_of m (suc n) ≡ numbers_of m n
 numbers-none m n none =
     let l = bit_at-lt m n in
     let z : bit_at m n ≡ 0 = omega arith in
-    ap (λ xs. numbers_of m n ++ xs) (keep_none (bit_at m n) n z) ∙ append-nil (numbers_of m n)
+    ap (λ xs. numbers_of m n ++ xs) (keep_if-none (bit_at m n) n z) ∙ append-nil (numbers_of m n)
 
 -- the members below n, ascending
 pub numbers_exactly : (m n : ℕ) → AreExactly (λ j. (j < n) × (bit_at m j ≡ 1)) (numbers_of m n)
@@ -38,13 +34,6 @@ ones_bit : (b : ℕ) → b < 2 → count_ones b ≡ b
 unfolding ones
 ones_bit zero h = refl
 ones_bit (suc b) h = let e : b ≡ 0 = omega arith in subst (λ b. count_ones (suc b) ≡ suc b) (sym e) refl
-
-pub numbers_step : (m n : ℕ) → length (numbers_of m (suc n)) ≡ length (numbers_of m n) + bit_at m n
-numbers_step m n =
-    ⊎_elim
-    (λ (one : bit_at m n ≡ 1). let e = ap length (numbers-more m n one) in let l = length-append (numbers_of m n) (n ∷ []) in let r : length (numbers_of m (suc n)) ≡ length (numbers_of m n) + bit_at m n = omega arith in r)
-    (λ (none : bit_at m n ≢ 1). let e = ap length (numbers-none m n none) in let l = bit_at-lt m n in let r : length (numbers_of m (suc n)) ≡ length (numbers_of m n) + bit_at m n = omega arith in r)
-    (cases_eq (bit_at m n) 1)
 
 -- the low n bits have as many ones as there are members below n
 ones_numbers : (m n : ℕ) → count_ones (m % 2 ^ n) ≡ length (numbers_of m n)

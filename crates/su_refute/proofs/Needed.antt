@@ -27,7 +27,8 @@ use Rattle.su_refute.specs.Trees.{lines_in, IsTree, node_count}
 use Rattle.su_refute.specs.inside.Positions.{IsFree, IsNeeded, IsAt, Stands, IsTreeFor}
 use Rattle.su_refute.proofs.MemberCounts.{numbers_exactly}
 use Rattle.su_refute.proofs.SharedPlaces.{member_below}
-use Rattle.su_refute.proofs.Fits.{none_sent, fits_first}
+use Rattle.su_check.proofs.FoldTargets.{none_sent}
+use Rattle.su_refute.proofs.Fits.{fits_first}
 use Rattle.su_refute.proofs.TreeSoFar.{kept_in, in_kept}
 
 -- whether a row has a target

@@ -1,5 +1,6 @@
 -- Two rows agree exactly where their targets hold one symbol at each of the places that they share.
 use Rattle.std.proofs.Common.{◌≡◌, ℕ, ◌<◌, ◌≤◌, ◌+◌, ◌^◌, ◌==◌, ◌↔◌, ◌⊎◌, true, List, [], ◌∷◌, ◌++◌, length, get_or, Contains, inl, inr, refl, sym, ap, subst, ◌∙◌, ⊎_elim, arith}
+use Rattle.std.proofs.Math.Seq.{get_or-append_seam}
 use Rattle.std.proofs.lemmas.Bool.{cases_lt}
 use Rattle.std.proofs.lemmas.Bool.Decides.{nat_tests}
 use Rattle.std.proofs.lemmas.List.{get_or_default, length-append, get_or_append_left}
@@ -98,10 +99,6 @@ pub places_kept : (old now new : List Places) (first : ℕ) (x : Sym) (ys : List
 places_kept old now new first x ys n is other h =
     subst (λ (ps : List Places). (p : Places) → Contains ps p ↔ (Contains old p ⊎ ((p.first ≡ first) × (p.second < n + 1) × (x ≡ cell ys p.second)))) (sym is) (places_same old now first x ys n other h)
 
-get_or_end : {A : Type 0} (xs : List A) (x d : A) → get_or (xs ++ x ∷ []) (length xs) d ≡ x
-get_or_end [] x d = refl
-get_or_end (y ∷ ys) x d = get_or_end ys x d
-
 -- the places of one symbol more
 pub shared_more : (xs ys : List Sym) (old now : List Places) (n : ℕ) (x : Sym) → x ≡ cell xs n → ((p : Places) → Contains old p ↔ ((p.first < n) × (p.second < length ys) × (cell xs p.first ≡ cell ys p.second)))
     → ((p : Places) → Contains now p ↔ (Contains old p ⊎ ((p.first ≡ n) × (p.second < length ys) × (x ≡ cell ys p.second))))
@@ -129,7 +126,7 @@ push_entries P old new n v d is len before here i h =
     (λ (lt : i < n). subst (P i) (sym (get_or_append_left old (v ∷ []) d i (omega arith))) (before i lt))
     (λ (le : n ≤ i).
     let e : length old ≡ i = omega arith in
-    let at : get_or (old ++ v ∷ []) i d ≡ v = subst (λ k. get_or (old ++ v ∷ []) k d ≡ v) e (get_or_end old v d) in
+    let at : get_or (old ++ v ∷ []) i d ≡ v = subst (λ k. get_or (old ++ v ∷ []) k d ≡ v) e (get_or-append_seam old v [] d) in
     let en : n ≡ i = omega arith in
     subst (P i) (sym at) (subst (λ k. P k v) en here))
     (cases_lt i n))

@@ -1,5 +1,6 @@
 -- There is a tree for each kept row.
 use Rattle.std.proofs.Common.{◌≡◌, ◌≢◌, ℕ, zero, suc, ◌+◌, ◌<◌, ◌≤◌, ◌⊎◌, List, [], ◌∷◌, ◌++◌, map, length, get_or, All, Contains, inl, inr, refl, sym, ap, subst, ◌∙◌, ⊎_elim, arith}
+use Rattle.std.proofs.Math.Seq.{get_or-append_seam}
 use Rattle.std.proofs.lemmas.Bool.{cases_lt}
 use Rattle.std.proofs.lemmas.List.{length-append, get_or_append_left}
 use Rattle.std.proofs.lemmas.List.Elements.{All-push, All-contains}
@@ -138,10 +139,6 @@ branches_there t r p s (j ∷ js) f =
 abbrev pub AreApart : List Sent → Type 0
 AreApart p = (a b : ℕ) (d : Sent) → a < b → b < length p → (get_or p a d).row ≢ (get_or p b d).row
 
-get_or_end : (p : List Sent) (x d : Sent) → get_or (p ++ x ∷ []) (length p) d ≡ x
-get_or_end [] x d = refl
-get_or_end (y ∷ p) x d = get_or_end p x d
-
 pub apart_more : (p : List Sent) (x : Sent) → AreApart p → All (λ y. y.row ≢ x.row) p → AreApart (p ++ x ∷ [])
 apart_more p x apart free a b d lt hb e =
     let len = length-append p (x ∷ []) in
@@ -151,7 +148,7 @@ apart_more p x apart free a b d lt hb e =
     (λ (lb : b < length p). apart a b d lt lb (ap (λ (y : Sent). y.row) (sym ea) ∙ e ∙ ap (λ (y : Sent). y.row) (get_or_append_left p (x ∷ []) d b lb)))
     (λ (le : length p ≤ b).
     let eb : length p ≡ b = omega arith in
-    let end : get_or (p ++ x ∷ []) b d ≡ x = subst (λ k. get_or (p ++ x ∷ []) k d ≡ x) eb (get_or_end p x d) in
+    let end : get_or (p ++ x ∷ []) b d ≡ x = subst (λ k. get_or (p ++ x ∷ []) k d ≡ x) eb (get_or-append_seam p x [] d) in
     free a d la (ap (λ (y : Sent). y.row) (sym ea) ∙ e ∙ ap (λ (y : Sent). y.row) end))
     (cases_lt b (length p))
 
