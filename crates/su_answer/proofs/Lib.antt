@@ -1,3 +1,4 @@
+pub mod Among
 pub mod Columns
 pub mod Counting
 pub mod Covered

@@ -23,7 +23,7 @@ use su_steps::laws::terms_are_valid_and_typed;
 ///
 /// Where the relations are the projections of one universal relation that meets the dependencies, they
 /// are those of the query's expression (`laws::answers_are_the_expression`). Beside the joins, the
-/// time is that of one comparison for each row so far and for each kept term.
+/// time is that of two comparisons at most for each row so far and for each kept term.
 pub fn answer<R: Threads + Sync, G: Gate>(
     rt: &R,
     alloc: Global,

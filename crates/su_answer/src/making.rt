@@ -16,32 +16,33 @@ use su_state::Database;
 use su_steps::{StepFault, Term, terms};
 use su_tableau::Tableau;
 
-/// A tableau to be minimised.
+/// A tableau to be minimised. It is copied where it is minimised.
 #[derive(Drop)]
-struct Minimising {
-    tableau: Tableau,
+struct Minimising<'a> {
+    tableau: &'a Tableau,
 }
 
-impl Job for Minimising {
+impl<'a> Job for Minimising<'a> {
     type Out = Minimal;
 
-    ghost gives = { λ job m. IsMinimisedOf job.tableau m };
+    ghost gives = { λ job m. IsMinimisedOf job.tableau.now m };
 
     fn run(self, alloc: Global) -> Result<Minimal, NoMemory> {
-        match minimise(alloc, self.tableau) {
+        let tableau = self.tableau.copy(alloc)?;
+        match minimise(alloc, tableau) {
             Ok(minimal) => Ok(minimal),
             Err((_, e)) => Err(e),
         }
     }
 }
 
-/// A job for each term, with a copy of the term's tableau.
-fn jobs(alloc: Global, terms: &[Term]) -> Result<List<Minimising>, NoMemory>
-    ensures { IfOk result (AllZip (λ term job. job.tableau ≡ term.tableau) terms.now) }
+/// A job for each term.
+fn jobs<'a>(alloc: Global, terms: &'a [Term]) -> Result<List<Minimising<'a>>, NoMemory>
+    ensures { IfOk result (AllZip (λ term job. job.tableau.now ≡ term.tableau) terms.now) }
 {
-    let mut jobs = List::new(alloc);
+    let mut jobs = List::from_vec(Vec::with_capacity(alloc, terms.len())?);
     for term in terms {
-        let tableau = term.tableau.copy(alloc)?;
+        let tableau = &term.tableau;
         jobs.push(Minimising { tableau })?;
     }
     Ok(jobs)

@@ -3,7 +3,6 @@ ghost use Rattle.std.specs.Prelude.{◌≡◌, ◌↔◌, ℕ, ◌<◌, ◌≤�
 ghost use Rattle.std.specs.List.{AllZip, range_with_len};
 ghost use Rattle.su_map.specs.Lists.{rows_in};
 ghost use Rattle.std.specs.FinSet as set;
-ghost use Rattle.su_tableau.specs.declared.symbols.Sym.TheVariants.{Var};
 ghost use Rattle.su_tableau.specs.Essential.{IsEssential};
 ghost use Rattle.su_schema.specs.SchemaValue.{ObjectEntry, column_of};
 ghost use Rattle.su_steps.specs.Objects.{width, attributes_at};

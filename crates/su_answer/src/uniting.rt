@@ -1,5 +1,5 @@
 //! Rows of several lists, ascending, each once.
-ghost use Rattle.std.specs.Prelude.{◌≡◌, ◌↔◌, ◌⊎◌, ◌≤◌, List, [], All, Contains, IfOk, IfErr, IfSome, IsSome, None, MatchOption, length};
+ghost use Rattle.std.specs.Prelude.{◌≡◌, ◌↔◌, ◌⊎◌, ◌<◌, ◌≤◌, List, [], All, Contains, IsTrue, IfOk, IfErr, IfSome, IsSome, None, MatchOption, length};
 ghost use Rattle.std.specs.List.Sorted.{IsStrictlySortedBy};
 ghost use Rattle.su_base.specs.declared.values.Value.{Value as AValue};
 ghost use Rattle.su_base.specs.Value.{compare_lists};
@@ -44,9 +44,42 @@ fn take_greatest(left: &mut List<Row>, right: &mut List<Row>) -> Option<Row>
     }
 }
 
+/// The place of the row among these from `from` on, which ascend.
+fn place_of(rows: &[Row], row: &Row, from: usize) -> Option<usize>
+    ensures { IfSome result (λ place. (place < length rows.now) × Contains rows.now row.now) }
+{
+    for i in from..rows.len() {
+        match compare_rows(&rows[i], row) {
+            Ordering::Less => {}
+            Ordering::Equal => return Some(i),
+            Ordering::Greater => return None,
+        }
+    }
+    None
+}
+
+/// Whether each row is among the others, of which there are no more than an answer may have. Both
+/// ascend, and each is gone through once at most.
+fn are_among(rows: &[Row], others: &[Row]) -> bool
+    ensures among { IsTrue result → (h : List AValue) → Contains rows.now h → Contains others.now h }
+    ensures few { IsTrue result → length others.now ≤ 1000000 }
+{
+    if rows.len() > others.len() || others.len() as u64 > MOST {
+        return false;
+    }
+    let mut from = 0;
+    for row in rows {
+        let Some(place) = place_of(others, row, from) else {
+            return false;
+        };
+        from = place + 1;
+    }
+    true
+}
+
 /// The rows of both lists, ascending, each once; `Limit` where there are more than an answer may have.
 /// They are merged from the end, and no more rows are put together than an answer may have.
-fn united(alloc: Global, rows: List<Row>, more: List<Row>) -> Result<List<Row>, AnswerFault>
+fn merged(alloc: Global, rows: List<Row>, more: List<Row>) -> Result<List<Row>, AnswerFault>
     requires rows { IsStrictlySortedBy compare_lists rows }
     requires more { IsStrictlySortedBy compare_lists more }
     ensures members { IfOk result (λ all. (h : List AValue) → Contains all h ↔ (Contains rows h ⊎ Contains more h)) }
@@ -66,6 +99,25 @@ fn united(alloc: Global, rows: List<Row>, more: List<Row>) -> Result<List<Row>, 
     }
     merged.reverse();
     Ok(List::from_vec(merged))
+}
+
+/// The rows of both lists, ascending, each once; `Limit` where there are more than an answer may have.
+/// Where the one has all rows of the other, it is handed on as it is, and takes no memory.
+fn united(alloc: Global, rows: List<Row>, more: List<Row>) -> Result<List<Row>, AnswerFault>
+    requires rows { IsStrictlySortedBy compare_lists rows }
+    requires more { IsStrictlySortedBy compare_lists more }
+    ensures members { IfOk result (λ all. (h : List AValue) → Contains all h ↔ (Contains rows h ⊎ Contains more h)) }
+    ensures ascending { IfOk result (λ all. IsStrictlySortedBy compare_lists all) }
+    ensures few { IfOk result (λ all. length all ≤ 1000000) }
+    ensures limit { IfErr result (λ fault. fault ≡ Limit → AreMoreThan 1000000 (λ h. Contains rows h ⊎ Contains more h)) }
+{
+    if are_among(more.as_slice(), rows.as_slice()) {
+        return Ok(rows);
+    }
+    if are_among(rows.as_slice(), more.as_slice()) {
+        return Ok(more);
+    }
+    merged(alloc, rows, more)
 }
 
 /// The rows of all lists and those so far, ascending, each once; `Limit` where one list is missing, or

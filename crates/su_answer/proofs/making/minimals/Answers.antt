@@ -6,5 +6,5 @@ use Rattle.su_answer.proofs.making.minimals.Goals as goal
 
 pub returns : goal.returns
 returns g c =
-    zip_through (λ term job. job.tableau ≡ term.tableau) (λ job m. IsMinimisedOf job.tableau m) (λ term m. IsMinimisedOf term.tableau m) c.args.terms.now c.in_ok-jobs.jobs c.in_ok-minimals.minimals
+    zip_through (λ term job. job.tableau.now ≡ term.tableau) (λ job m. IsMinimisedOf job.tableau.now m) (λ term m. IsMinimisedOf term.tableau m) c.args.terms.now c.in_ok-jobs.jobs c.in_ok-minimals.minimals
     (λ term job m has e l. subst (λ (t : Tab). IsMinimisedOf t m) e l) c.in_ok-jobs.ensures c.in_ok-minimals.ensures

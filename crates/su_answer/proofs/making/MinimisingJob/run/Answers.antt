@@ -1,4 +1,5 @@
+use Rattle.std.proofs.Common.{◌∙◌}
 use Rattle.su_answer.proofs.making.MinimisingJob.run.Goals as goal
 
 pub returns-in-Ok : goal.returns-in-Ok
-returns-in-Ok c = record { tableau = c.in-Ok.ensures.is; minimised = c.in-Ok.ensures.minimised }
+returns-in-Ok c = record { tableau = c.in-Ok.ensures.is ∙ c.in_ok-tableau.ensures; minimised = c.in-Ok.ensures.minimised }

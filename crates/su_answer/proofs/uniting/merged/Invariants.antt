@@ -1,7 +1,7 @@
 use Rattle.std.proofs.Common.{length, ◌+◌, ◌≤◌}
 use Rattle.std.specs.Prelude.{reverse}
 use Rattle.su_answer.proofs.Merging.{AreMerged}
-use Rattle.su_answer.proofs.uniting.united.Given as goal
+use Rattle.su_answer.proofs.uniting.merged.Given as goal
 
 abbrev pub invariant-loop-row : goal.invariant-loop-row
 invariant-loop-row l = AreMerged l.fn.rows l.fn.more l.left l.right (reverse l.merged.items) × (length l.merged.items ≤ 1000000)
