@@ -99,9 +99,11 @@ module _ (files : Option (List File)) (script : List ℕ) (spans : List Span) (i
   front_more schema opened pieces new n short grew = record {
     replies = so_far.replies ++ reply ∷ [];
     answers = record { spans = spans; pieces = pieces; count = i + 1; last = last; answered = rw (← opened) answered_more };
-    count = length (output_of so_far.replies) + n;
-    bound = rw (output_of-push so_far.replies reply) (let long = length-append (output_of so_far.replies) reply.bytes in omega arith);
-    wrote = rw (output_of-push so_far.replies reply, take-append-add (output_of so_far.replies) reply.bytes n) (Grew-trans old.written between.written new.written (output_of so_far.replies) (take n reply.bytes) so_far.wrote grew);
+    wrote = (
+      length (output_of so_far.replies) + n,
+      rw (output_of-push so_far.replies reply) (let long = length-append (output_of so_far.replies) reply.bytes in omega arith),
+      rw (output_of-push so_far.replies reply, take-append-add (output_of so_far.replies) reply.bytes n) (Grew-trans old.written between.written new.written (output_of so_far.replies) (take n reply.bytes) so_far.wrote grew),
+    );
   }
 
 grew_none : (told : Option (List ℕ)) → Grew told told []

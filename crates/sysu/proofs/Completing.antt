@@ -114,7 +114,7 @@ module _ (names : Named) (files : List AFile) (old new : Moment) (is : IsUntroub
   untroubled BadSchema caused ends =
       let refused = ends.3.1 in
       let bytes : refused.bytes ≡ contents files names.schema = rw is.told at refused.is_schema in
-      absurd (not_both is.accepted.schema ends.3.0 (one_outcome (contents files names.schema) (Ok is.accepted.schema) (Err ends.3.0) is.accepted.reads (subst (λ (b : List ℕ). Reads b (Err ends.3.0)) bytes refused.refused)))
+      absurd (not_both is.accepted.schema ends.3.0 (one_outcome (contents files names.schema) (Ok is.accepted.schema) (Err ends.3.0) is.accepted.reads (subst (λ (b : List ℕ). Reads b (Err ends.3.0)) bytes refused.reads)))
   untroubled ReadFault caused ends = absurd (is.no_read_fault caused.0)
   untroubled WriteFault caused ends = absurd (is.no_write_fault caused)
   untroubled TooLong caused ends = elim ends.1 [
@@ -122,10 +122,10 @@ module _ (names : Named) (files : List AFile) (old new : Moment) (is : IsUntroub
     | inl (inr script, same) ↦ absurd (let over = rw is.told at script.2 in omega (arith, over, is.accepted.script_fits))
     | inr of_load ↦
         let stop = of_load.holds.0 in
-        let bytes : of_load.bytes ≡ contents files names.schema = rw is.told at of_load.is_schema in
+        let bytes : of_load.accepted.bytes ≡ contents files names.schema = rw is.told at of_load.accepted.is_schema in
         let script : of_load.script ≡ contents files names.script = rw is.told at of_load.is_script in
         let schema : of_load.schema ≡ is.accepted.schema =
-        ok_schema of_load.schema is.accepted.schema (one_outcome (contents files names.schema) (Ok of_load.schema) (Ok is.accepted.schema) (subst (λ (b : List ℕ). Reads b (Ok of_load.schema)) bytes of_load.accepted) is.accepted.reads) in
+        ok_schema of_load.schema is.accepted.schema (one_outcome (contents files names.schema) (Ok of_load.schema) (Ok is.accepted.schema) (subst (λ (b : List ℕ). Reads b (Ok of_load.schema)) bytes of_load.accepted.reads) is.accepted.reads) in
         let load : LoadsFrom (Some files) (empty_database is.accepted.schema) (contents files names.script) stop.path =
         rw (← is.told, ← schema, ← script) (load_of old.files of_load.schema of_load.script new.begun old.told new.told stop) in
         let path : of_load.holds.2.0 ≡ stop.path = some_path of_load.holds.2.0 stop.path (sym of_load.holds.2.1 ∙ stop.begun_is) in

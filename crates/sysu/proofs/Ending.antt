@@ -13,18 +13,18 @@ use Rattle.sysu.specs.Moments.{Moment, NoFault}
 use Rattle.sysu.specs.Output.{IsFile}
 use Rattle.sysu.specs.inside.Reads.{FileEnds}
 use Rattle.sysu.specs.Statements.{ScriptEnds, TookLoads}
-use Rattle.sysu.specs.Statuses.{AcceptsSchema, IsRefused, OfFiles, RefusalEnds, RunEnds, TookWithin, schema_limit, script_limit}
+use Rattle.sysu.specs.Statuses.{SchemaIs, OfFiles, RefusalEnds, RunEnds, TookWithin, schema_limit, script_limit}
 use Rattle.sysu.specs.Words.{Named}
 
 -- the schema file was read, and is refused
 module _ (names : Named) (old new : Moment) (bytes : List ℕ) (fault : DdlFault) (is_schema : IsFile old.files names.schema bytes) (fits : length bytes ≤ schema_limit)
     (at_fault : (fault ≡ OutOfMemory) ⊎ Reads bytes (Err fault)) (reads : new.reads ≡ old.reads) (begun : new.begun ≡ Some names.schema) (taken : new.taken ≤ schema_limit) where
-  refused : IsOfText fault → IsRefused names old fault
+  refused : IsOfText fault → SchemaIs names old (Err fault)
   refused text = record {
     bytes = bytes;
     is_schema = is_schema;
     fits = fits;
-    refused = elim at_fault [
+    reads = elim at_fault [
       | inl none ↦ absurd (subst IsOfText none text)
       | inr read ↦ read
     ];
@@ -41,7 +41,7 @@ module _ (names : Named) (old new : Moment) (bytes : List ℕ) (fault : DdlFault
   schema_refused TooLong ends = absurd ends
 
 -- the script was not read
-pub script_fails : (names : Named) (old new : Moment) (files : Option (List File)) (between : ℕ) → files ≡ old.files → AcceptsSchema names old → between ≡ old.reads → new.begun ≡ Some names.script
+pub script_fails : (names : Named) (old new : Moment) (files : Option (List File)) (between : ℕ) → files ≡ old.files → (schema : SchemaValue) × SchemaIs names old (Ok schema) → between ≡ old.reads → new.begun ≡ Some names.script
     → new.writes ≡ old.writes → new.told ≡ old.told
     → (status : Status) → FileEnds files names.script script_limit between new.reads new.taken new.failed (Err status) → RunEnds names old new status
 script_fails names old new files between stay accepts same begun writes written ReadFault ends = (rw (← same) ends.0, writes, ends.1, inl (inr (begun, accepts), written))
@@ -58,7 +58,7 @@ module _ (names : Named) (old mid new : Moment) (bytes : List ℕ) (schema : Sch
     (is_script : IsFile old.files names.script script) (script_fits : length script ≤ script_limit) (files : mid.files ≡ old.files) (reads : mid.reads ≡ old.reads) (writes : mid.writes ≡ old.writes) (told : mid.told ≡ old.told)
     (begun : mid.begun ≡ Some names.script) (taken : mid.taken ≤ script_limit) where
   of_files : {P : SchemaValue → List ℕ → Type 0} → P schema script → OfFiles names old P
-  of_files holds = record { bytes = bytes; is_schema = is_schema; schema_fits = schema_fits; schema = schema; accepted = accepted; script = script; is_script = is_script; script_fits = script_fits; holds = holds }
+  of_files holds = record { schema = schema; accepted = record { bytes = bytes; is_schema = is_schema; fits = schema_fits; reads = accepted }; script = script; is_script = is_script; script_fits = script_fits; holds = holds }
 
   no_fault : NoFault mid new → NoFault old new
   no_fault none = record { reads = none.reads ∙ reads; writes = none.writes ∙ writes }

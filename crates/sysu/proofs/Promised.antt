@@ -49,9 +49,6 @@ module _ (answered : RetrievesAreAnswered) (least : PreparedRowsAreLeast) (expre
 module _ (law : QueriesAreAnswered) (names : Named) (old new : Moment) where
   of_all : (refused : Bool) → OfFiles names old (λ schema script. WroteAll old.files schema script old.told new.told refused) → OfFiles names old (λ schema script. IsAnsweredRun schema script old new)
   of_all refused files = record {
-    bytes = files.bytes;
-    is_schema = files.is_schema;
-    schema_fits = files.schema_fits;
     schema = files.schema;
     accepted = files.accepted;
     script = files.script;

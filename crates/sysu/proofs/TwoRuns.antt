@@ -23,10 +23,10 @@ use Rattle.sysu.specs.Agreeing.{Ran, AreEqualButForWorkers, TwoRunsAgree}
 use Rattle.sysu.specs.Causes.{Caused}
 use Rattle.sysu.specs.Checks.{IsYes, IsNo, OfVerdict, check_limit}
 use Rattle.sysu.specs.Closing.{HandsOver}
-use Rattle.sysu.specs.Moments.{Moment, Told, Wrote}
+use Rattle.sysu.specs.Moments.{Moment, Told, WroteWhole}
 use Rattle.sysu.specs.Output.{IsFile, IsOver, AnswersAll, AnswersBefore, load_limit, output_of, some_refused}
 use Rattle.sysu.specs.Statements.{WroteAll, StoppedAtLoad, BeganOver}
-use Rattle.sysu.specs.Statuses.{OfFiles, IsRefused, TookTooMuch, Comes, schema_limit, script_limit}
+use Rattle.sysu.specs.Statuses.{OfFiles, SchemaIs, TookTooMuch, Comes, schema_limit, script_limit}
 use Rattle.sysu.specs.Words.{Named, named, checks, Generates, usage_line}
 use Rattle.sysu.proofs.OneBank.{Asks, for_bank, for_none, asked, one_bank}
 use Rattle.sysu.proofs.OneList.{one_list_of_replies, one_list_before, stopped_or_all}
@@ -167,26 +167,29 @@ module _ (files : List AFile) (words : List (List ℕ)) (old new : Moment) (file
 
   module _ (names : Named) where
     both_fit : (P : SchemaValue → List ℕ → Type 0) → OfFiles names old P → Fit files names
-    both_fit P h = record { schema = within names.schema h.bytes schema_limit h.is_schema h.schema_fits; script = within names.script h.script script_limit h.is_script h.script_fits }
+    both_fit P h = record { schema = within names.schema h.accepted.bytes schema_limit h.accepted.is_schema h.accepted.fits; script = within names.script h.script script_limit h.is_script h.script_fits }
 
     reads : (bytes : List ℕ) (outcome : Result SchemaValue DdlFault) → IsFile old.files names.schema bytes → Reads bytes outcome → Reads (contents files names.schema) outcome
     reads bytes outcome is h = subst (λ (b : List ℕ). Reads b outcome) (own names.schema bytes is) h
 
+    accepted : (schema : SchemaValue) → SchemaIs names old (Ok schema) → Reads (contents files names.schema) (Ok schema)
+    accepted schema h = reads h.bytes (Ok schema) h.is_schema h.reads
+
     answered : (refused : Bool) → OfFiles names old (λ schema script. WroteAll old.files schema script old.told new.told refused) → Outcome files names appended (status_of refused)
     answered refused h =
         let answers = subst (λ (fs : Option (List AFile)). AnswersAll fs h.schema h.script h.holds.replies) files_are h.holds.answers in
-        finished (both_fit _ h) h.schema (reads h.bytes (Ok h.schema) h.is_schema h.accepted) h.holds.replies
+        finished (both_fit _ h) h.schema (accepted h.schema h.accepted) h.holds.replies
         (subst (λ (b : List ℕ). AnswersAll (Some files) h.schema b h.holds.replies) (own names.script h.script h.is_script) answers)
         (appended_is (output_of h.holds.replies) h.holds.wrote)
         (ap status_of (sym h.holds.refused_is))
 
-    refused : (fault : DdlFault) → IsRefused names old fault → Wrote old new (schema_line fault) → Outcome files names appended BadSchema
-    refused fault h wrote = bad_schema (within names.schema h.bytes schema_limit h.is_schema h.fits) fault (reads h.bytes (Err fault) h.is_schema h.refused) (appended_is (schema_line fault) wrote.0) refl
+    refused : (fault : DdlFault) → SchemaIs names old (Err fault) → WroteWhole old.told new.told (schema_line fault) → Outcome files names appended BadSchema
+    refused fault h wrote = bad_schema (within names.schema h.bytes schema_limit h.is_schema h.fits) fault (reads h.bytes (Err fault) h.is_schema h.reads) (appended_is (schema_line fault) wrote.0) refl
 
     too_long_now : TookTooMuch names old new → new.told ≡ old.told → Outcome files names appended TooLong
     too_long_now (inl (begun, taken, over)) same = long_schema (is_over names.schema schema_limit over) (appended_none same) refl
-    too_long_now (inr (begun, taken, over, h)) same =
-        long_script (is_over names.script script_limit over) h.schema (reads h.bytes (Ok h.schema) h.is_schema h.accepted) (within names.schema h.bytes schema_limit h.is_schema h.fits) (appended_none same) refl
+    too_long_now (inr (begun, taken, over, (schema, h))) same =
+        long_script (is_over names.script script_limit over) schema (accepted schema h) (within names.schema h.bytes schema_limit h.is_schema h.fits) (appended_none same) refl
 
     too_long_load : OfFiles names old (λ schema script. StoppedAtLoad old.files schema script new.begun old.told new.told × (load_limit < new.taken) × BeganOver old.files new.begun load_limit) → Outcome files names appended TooLong
     too_long_load h =
@@ -194,7 +197,7 @@ module _ (files : List AFile) (words : List (List ℕ)) (old new : Moment) (file
         let both : Some path ≡ Some stopped.path = sym begun ∙ stopped.begun_is in
         let at : path ≡ stopped.path = cc in
         let answers = subst (λ (fs : Option (List AFile)). AnswersBefore fs h.schema h.script stopped.replies stopped.path) files_are stopped.answers in
-        long_load (both_fit _ h) h.schema (reads h.bytes (Ok h.schema) h.is_schema h.accepted) stopped.path stopped.replies
+        long_load (both_fit _ h) h.schema (accepted h.schema h.accepted) stopped.path stopped.replies
         (subst (λ (b : List ℕ). AnswersBefore (Some files) h.schema b stopped.replies stopped.path) (own names.script h.script h.is_script) answers)
         (subst (λ (p : List ℕ). load_limit < length (contents files p)) at (is_over path load_limit over))
         (appended_is (output_of stopped.replies) stopped.wrote)
@@ -213,7 +216,7 @@ module _ (files : List AFile) (words : List (List ℕ)) (old new : Moment) (file
     no_status (Yes count) fails = absurd fails
     no_status (No fault) holds = refl
 
-    checked : (P : Checked → Type 0) (status : Status) → ((v : Checked) → P v → status ≡ status_by v) → OfVerdict file old (λ verdict. P verdict × Wrote old new (verdict_line verdict)) → Verdict files file appended status
+    checked : (P : Checked → Type 0) (status : Status) → ((v : Checked) → P v → status ≡ status_by v) → OfVerdict file old (λ verdict. P verdict × WroteWhole old.told new.told (verdict_line verdict)) → Verdict files file appended status
     checked P status is h =
         told (within file h.bytes check_limit h.is_file h.fits) h.verdict (subst (λ (b : List ℕ). IsVerdict b h.verdict) (own file h.bytes h.is_file) h.is_verdict)
         (appended_is (verdict_line h.verdict) h.holds.1.0) (is h.verdict h.holds.0)

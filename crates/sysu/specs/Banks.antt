@@ -1,11 +1,10 @@
 -- How `generate N` ends.
-use Rattle.std.specs.Prelude.{◌≡◌, ◌≤◌, ℕ, List, length, take}
+use Rattle.std.specs.Prelude.{◌≡◌, ◌≤◌, ℕ, List}
 use Rattle.su_io.specs.Causes.{Rose}
-use Rattle.su_io.specs.Ends.{Grew}
 use Rattle.su_bank.specs.Banks.{IsBankText}
 use Rattle.sysu.specs.declared.status.Status.{Status}
 use Rattle.sysu.specs.declared.status.Status.TheVariants.{Done, WriteFault, NoMemory}
-use Rattle.sysu.specs.Moments.{Told, Moment, WroteWhole}
+use Rattle.sysu.specs.Moments.{Told, Moment, WroteFront, WroteWhole}
 
 -- the text of a bank with n rows in each relation was written, by one whole write
 abbrev pub WroteBank : ℕ → Told → Told → Type 0
@@ -14,7 +13,7 @@ WroteBank n old new = (text : List ℕ) × IsBankText n text × WroteWhole old n
 -- by what was written, and the sink's count of faults before and after
 abbrev pub BankEnds : ℕ → Told → ℕ → Told → ℕ → Status → Type 0
 BankEnds n old before new after Done = (after ≡ before) × WroteBank n old new
-BankEnds n old before new after WriteFault = Rose before after × ((text : List ℕ) × IsBankText n text × ((count : ℕ) × (count ≤ length text) × Grew old.written new.written (take count text)))
+BankEnds n old before new after WriteFault = Rose before after × ((text : List ℕ) × IsBankText n text × WroteFront old new text)
 BankEnds n old before new after NoMemory = (after ≡ before) × (new ≡ old)
 BankEnds n old before new after _ = ⊥
 

@@ -1,6 +1,6 @@
 -- How the check of a certificate ends.
 -- file: the name of the certificate's file
-use Rattle.std.specs.Prelude.{◌≡◌, ◌<◌, ◌≤◌, ◌^◌, ◌⊎◌, ℕ, List, Some, true, length, take}
+use Rattle.std.specs.Prelude.{◌≡◌, ◌<◌, ◌≤◌, ◌^◌, ◌⊎◌, ℕ, List, Some, true, length}
 use Rattle.su_io.specs.Causes.{Rose}
 use Rattle.su_io.specs.Ends.{Grew}
 use Rattle.su_check.specs.declared.verdicts.Checked.{Checked}
@@ -9,7 +9,7 @@ use Rattle.su_check.specs.Verdict.{IsVerdict}
 use Rattle.su_show.specs.Verdicts.{verdict_line}
 use Rattle.sysu.specs.declared.status.Status.{Status}
 use Rattle.sysu.specs.declared.status.Status.TheVariants.{Done, SomeRefused, ReadFault, WriteFault, TooLong, NoMemory}
-use Rattle.sysu.specs.Moments.{Told, Moment, NoFault, Wrote, WroteFront, WroteWhole}
+use Rattle.sysu.specs.Moments.{Told, Moment, NoFault, WroteFront, WroteWhole}
 use Rattle.sysu.specs.Output.{IsFile, IsOver}
 
 -- 16 MiB
@@ -43,16 +43,16 @@ TookFile file new = (new.begun ≡ Some file) × (new.taken ≤ check_limit)
 abbrev pub LineEnds : Checked → Told → ℕ → Told → ℕ → Status → Type 0
 LineEnds verdict old before new after Done = IsYes verdict × (after ≡ before) × WroteWhole old new (verdict_line verdict)
 LineEnds verdict old before new after SomeRefused = IsNo verdict × (after ≡ before) × WroteWhole old new (verdict_line verdict)
-LineEnds verdict old before new after WriteFault = Rose before after × ((count : ℕ) × (count ≤ length (verdict_line verdict)) × Grew old.written new.written (take count (verdict_line verdict)))
+LineEnds verdict old before new after WriteFault = Rose before after × WroteFront old new (verdict_line verdict)
 LineEnds verdict old before new after NoMemory = (after ≡ before) × (new ≡ old)
 LineEnds verdict old before new after _ = ⊥
 
 -- how a check ends, by its status
 abbrev pub CheckEnds : List ℕ → Moment → Moment → Status → Type 0
-CheckEnds file old new Done = NoFault old new × TookFile file new × OfVerdict file old (λ verdict. IsYes verdict × Wrote old new (verdict_line verdict))
-CheckEnds file old new SomeRefused = NoFault old new × TookFile file new × OfVerdict file old (λ verdict. IsNo verdict × Wrote old new (verdict_line verdict))
+CheckEnds file old new Done = NoFault old new × TookFile file new × OfVerdict file old (λ verdict. IsYes verdict × WroteWhole old.told new.told (verdict_line verdict))
+CheckEnds file old new SomeRefused = NoFault old new × TookFile file new × OfVerdict file old (λ verdict. IsNo verdict × WroteWhole old.told new.told (verdict_line verdict))
 CheckEnds file old new ReadFault = Rose old.reads new.reads × (new.writes ≡ old.writes) × (new.failed ≡ true) × (new.begun ≡ Some file) × (new.told ≡ old.told)
-CheckEnds file old new WriteFault = (new.reads ≡ old.reads) × Rose old.writes new.writes × TookFile file new × OfVerdict file old (λ verdict. WroteFront old new (verdict_line verdict))
+CheckEnds file old new WriteFault = (new.reads ≡ old.reads) × Rose old.writes new.writes × TookFile file new × OfVerdict file old (λ verdict. WroteFront old.told new.told (verdict_line verdict))
 CheckEnds file old new TooLong = NoFault old new × (new.begun ≡ Some file) × (check_limit < new.taken) × IsOver old.files file check_limit × (new.told ≡ old.told)
 CheckEnds file old new NoMemory = NoFault old new × (((new.begun ≡ old.begun) × (new.taken ≡ old.taken)) ⊎ TookFile file new) × (new.told ≡ old.told)
 CheckEnds file old new _ = ⊥

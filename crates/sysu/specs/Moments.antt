@@ -37,10 +37,6 @@ pub record HandedEach (old new : Told) (texts : List (List ℕ)) : Type 0 where
   pub whole : AllZip IsWhole texts writes
   pub handed : WasHanded old.handed new.handed (flat_map (λ pieces. pieces) writes)
 
--- just this text was written, by one whole write
-abbrev pub Wrote : Moment → Moment → List ℕ → Type 0
-Wrote old new text = WroteWhole old.told new.told text
-
 -- a front of these bytes was written
-abbrev pub WroteFront : Moment → Moment → List ℕ → Type 0
-WroteFront old new bytes = (count : ℕ) × (count ≤ length bytes) × Grew old.told.written new.told.written (take count bytes)
+abbrev pub WroteFront : Told → Told → List ℕ → Type 0
+WroteFront old new bytes = (count : ℕ) × (count ≤ length bytes) × Grew old.written new.written (take count bytes)

@@ -1,6 +1,6 @@
 -- How the answering of a script ends: by the status, what was written, and the counts of faults before and after.
 -- files: those of the shelf, where it tells them; old, new: what the sink tells before and after
-use Rattle.std.specs.Prelude.{◌≡◌, ◌<◌, ◌≤◌, ◌⊎◌, ℕ, List, Option, Some, Bool, true, false, length, map, take}
+use Rattle.std.specs.Prelude.{◌≡◌, ◌<◌, ◌≤◌, ◌⊎◌, ℕ, List, Option, Some, Bool, true, false, length, map}
 use Rattle.su_io.specs.declared.files.File.{File}
 use Rattle.su_io.specs.Causes.{Rose}
 use Rattle.su_io.specs.Ends.{Grew}
@@ -10,7 +10,7 @@ use Rattle.su_session.specs.Opening.{empty_database}
 use Rattle.su_state.specs.DatabaseValue.{DatabaseValue}
 use Rattle.sysu.specs.declared.status.Status.{Status}
 use Rattle.sysu.specs.declared.status.Status.TheVariants.{Done, SomeRefused, ReadFault, WriteFault, TooLong, NoMemory}
-use Rattle.sysu.specs.Moments.{Told, Moment, NoFault, HandedEach}
+use Rattle.sysu.specs.Moments.{Told, Moment, NoFault, HandedEach, WroteFront}
 use Rattle.sysu.specs.Output.{AnswersAll, AnswersFirst, AnswersBefore, LoadsFrom, IsOver, load_limit, output_of, some_refused}
 
 -- all statements were answered, and all replies written, each by one whole write
@@ -32,9 +32,7 @@ pub record WroteFirst (files : Option (List File)) (schema : SchemaValue) (scrip
 pub record WroteFrontOf (files : Option (List File)) (schema : SchemaValue) (script : List ℕ) (old new : Told) : Type 0 where
   pub replies : List Reply
   pub answers : AnswersFirst files schema script replies
-  pub count : ℕ
-  pub bound : count ≤ length (output_of replies)
-  pub wrote : Grew old.written new.written (take count (output_of replies))
+  pub wrote : WroteFront old new (output_of replies)
 
 -- the statements before a load were answered and just these replies written; the name last begun is that of its file
 pub record StoppedAtLoad (files : Option (List File)) (schema : SchemaValue) (script : List ℕ) (begun : Option (List ℕ)) (old new : Told) : Type 0 where

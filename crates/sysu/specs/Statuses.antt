@@ -1,10 +1,9 @@
 -- How a run ends: each status with its cause, and what was written.
-use Rattle.std.specs.Prelude.{◌≡◌, ◌<◌, ◌≤◌, ◌^◌, ◌⊎◌, ℕ, List, Option, Some, None, true, false, Ok, Err, length, take}
+use Rattle.std.specs.Prelude.{◌≡◌, ◌<◌, ◌≤◌, ◌^◌, ◌⊎◌, ℕ, List, Option, Some, None, true, false, Result, Ok, Err, length}
 use Rattle.su_io.specs.Causes.{Rose}
-use Rattle.su_io.specs.Ends.{Grew}
 use Rattle.sysu.specs.declared.status.Status.{Status}
 use Rattle.sysu.specs.declared.status.Status.TheVariants.{Done, SomeRefused, Usage, BadSchema, ReadFault, WriteFault, TooLong, NoMemory}
-use Rattle.sysu.specs.Moments.{Told, Moment, NoFault, Wrote, WroteFront, WroteWhole}
+use Rattle.sysu.specs.Moments.{Told, Moment, NoFault, WroteFront, WroteWhole}
 use Rattle.sysu.specs.Words.{Named, named, checks, Generates, usage_line}
 use Rattle.su_ddl.specs.declared.faults.DdlFault.{DdlFault}
 use Rattle.su_ddl.specs.Reading.{Reads}
@@ -24,42 +23,31 @@ schema_limit = 2 ^ 20
 abbrev pub script_limit : ℕ
 script_limit = 2 ^ 24
 
--- the schema file is accepted, and a fact of the schema and of the bytes of the script; neither file is past its limit
-pub record OfFiles (names : Named) (old : Moment) (P : SchemaValue → List ℕ → Type 0) : Type 0 where
+-- the schema file is within its limit, and is read as this
+pub record SchemaIs (names : Named) (old : Moment) (outcome : Result SchemaValue DdlFault) : Type 0 where
   pub bytes : List ℕ
   pub is_schema : IsFile old.files names.schema bytes
-  pub schema_fits : length bytes ≤ schema_limit
+  pub fits : length bytes ≤ schema_limit
+  pub reads : Reads bytes outcome
+
+-- the schema file is accepted, and a fact of the schema and of the bytes of the script; neither file is past its limit
+pub record OfFiles (names : Named) (old : Moment) (P : SchemaValue → List ℕ → Type 0) : Type 0 where
   pub schema : SchemaValue
-  pub accepted : Reads bytes (Ok schema)
+  pub accepted : SchemaIs names old (Ok schema)
   pub script : List ℕ
   pub is_script : IsFile old.files names.script script
   pub script_fits : length script ≤ script_limit
   pub holds : P schema script
 
--- the schema file is refused with this fault
-pub record IsRefused (names : Named) (old : Moment) (fault : DdlFault) : Type 0 where
-  pub bytes : List ℕ
-  pub is_schema : IsFile old.files names.schema bytes
-  pub fits : length bytes ≤ schema_limit
-  pub refused : Reads bytes (Err fault)
-
--- the schema file is accepted
-pub record AcceptsSchema (names : Named) (old : Moment) : Type 0 where
-  pub bytes : List ℕ
-  pub is_schema : IsFile old.files names.schema bytes
-  pub fits : length bytes ≤ schema_limit
-  pub schema : SchemaValue
-  pub accepted : Reads bytes (Ok schema)
-
 -- the name last begun is that of the file due: the schema's, and the script's once the schema is accepted
 abbrev pub BeganDue : Named → Moment → Moment → Type 0
-BeganDue names old new = (new.begun ≡ Some names.schema) ⊎ ((new.begun ≡ Some names.script) × AcceptsSchema names old)
+BeganDue names old new = (new.begun ≡ Some names.schema) ⊎ ((new.begun ≡ Some names.script) × ((schema : SchemaValue) × SchemaIs names old (Ok schema)))
 
 -- the file due is past its limit, and more than that was taken of it
 abbrev pub TookTooMuch : Named → Moment → Moment → Type 0
 TookTooMuch names old new =
     ((new.begun ≡ Some names.schema) × (schema_limit < new.taken) × IsOver old.files names.schema schema_limit)
-    ⊎ ((new.begun ≡ Some names.script) × (script_limit < new.taken) × IsOver old.files names.script script_limit × AcceptsSchema names old)
+    ⊎ ((new.begun ≡ Some names.script) × (script_limit < new.taken) × IsOver old.files names.script script_limit × ((schema : SchemaValue) × SchemaIs names old (Ok schema)))
 
 -- no more than its limit was taken of the file begun last, if one was begun at all
 abbrev pub TookWithin : Named → Moment → Moment → Type 0
@@ -72,7 +60,7 @@ TookWithin names old new =
 -- how the line for a refused schema ends: what was written, and the sink's count of faults before and after
 abbrev pub RefusalEnds : DdlFault → Told → ℕ → Told → ℕ → Status → Type 0
 RefusalEnds fault old before new after BadSchema = IsOfText fault × (after ≡ before) × WroteWhole old new (schema_line fault)
-RefusalEnds fault old before new after WriteFault = IsOfText fault × Rose before after × ((count : ℕ) × (count ≤ length (schema_line fault)) × Grew old.written new.written (take count (schema_line fault)))
+RefusalEnds fault old before new after WriteFault = IsOfText fault × Rose before after × WroteFront old new (schema_line fault)
 RefusalEnds fault old before new after NoMemory = (after ≡ before) × (new ≡ old)
 RefusalEnds fault old before new after _ = ⊥
 
@@ -81,11 +69,11 @@ abbrev pub RunEnds : Named → Moment → Moment → Status → Type 0
 RunEnds names old new Done = NoFault old new × TookWithin names old new × OfFiles names old (λ schema script. WroteAll old.files schema script old.told new.told false)
 RunEnds names old new SomeRefused = NoFault old new × TookWithin names old new × OfFiles names old (λ schema script. WroteAll old.files schema script old.told new.told true)
 RunEnds names old new Usage = ⊥
-RunEnds names old new BadSchema = NoFault old new × (new.begun ≡ Some names.schema) × (new.taken ≤ schema_limit) × ((fault : DdlFault) × IsRefused names old fault × Wrote old new (schema_line fault))
+RunEnds names old new BadSchema = NoFault old new × (new.begun ≡ Some names.schema) × (new.taken ≤ schema_limit) × ((fault : DdlFault) × SchemaIs names old (Err fault) × WroteWhole old.told new.told (schema_line fault))
 RunEnds names old new ReadFault = Rose old.reads new.reads × (new.writes ≡ old.writes) × (new.failed ≡ true)
     × ((BeganDue names old new × (new.told ≡ old.told)) ⊎ OfFiles names old (λ schema script. StoppedAtLoad old.files schema script new.begun old.told new.told))
 RunEnds names old new WriteFault = (new.reads ≡ old.reads) × Rose old.writes new.writes × TookWithin names old new
-    × (((fault : DdlFault) × IsRefused names old fault × WroteFront old new (schema_line fault)) ⊎ OfFiles names old (λ schema script. WroteFrontOf old.files schema script old.told new.told))
+    × (((fault : DdlFault) × SchemaIs names old (Err fault) × WroteFront old.told new.told (schema_line fault)) ⊎ OfFiles names old (λ schema script. WroteFrontOf old.files schema script old.told new.told))
 RunEnds names old new TooLong = NoFault old new
     × ((TookTooMuch names old new × (new.told ≡ old.told)) ⊎ OfFiles names old (λ schema script. StoppedAtLoad old.files schema script new.begun old.told new.told × (load_limit < new.taken) × BeganOver old.files new.begun load_limit))
 RunEnds names old new NoMemory = NoFault old new × TookWithin names old new × ((new.told ≡ old.told) ⊎ OfFiles names old (λ schema script. WroteFirst old.files schema script old.told new.told))
@@ -93,7 +81,7 @@ RunEnds names old new NoMemory = NoFault old new × TookWithin names old new × 
 -- how the usage line ends: what was written, and the sink's count of faults before and after
 abbrev pub UsageEnds : Told → ℕ → Told → ℕ → Status → Type 0
 UsageEnds old before new after Usage = (after ≡ before) × WroteWhole old new usage_line
-UsageEnds old before new after WriteFault = Rose before after × ((count : ℕ) × (count ≤ length usage_line) × Grew old.written new.written (take count usage_line))
+UsageEnds old before new after WriteFault = Rose before after × WroteFront old new usage_line
 UsageEnds old before new after _ = ⊥
 
 -- how a run, a check or the making of a bank comes to its end, by its words

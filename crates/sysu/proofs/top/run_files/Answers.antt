@@ -16,7 +16,7 @@ pub returns-clause-ends : goal.returns-clause-ends
 returns-clause-ends g c =
     let first = c.in-Ok.ensures.ends in
     script_fails (record { schema = c.args.schema; script = c.args.script }) _ _ (g.H.Shelf.files c.read_file.new.shelf) _ c.in-Ok.ensures.files
-    (record { bytes = c.as_slice.result.now; is_schema = rw c.as_slice.ensures first.1; fits = rw c.as_slice.ensures first.3; schema = c.in-Ok-read.schema; accepted = c.in-Ok-read.ensures.schema })
+    (c.in-Ok-read.schema, record { bytes = c.as_slice.result.now; is_schema = rw c.as_slice.ensures first.1; fits = rw c.as_slice.ensures first.3; reads = c.in-Ok-read.ensures.schema })
     first.0 c.in-Err-read_file.ensures.begun refl refl
     c.in-Err-read_file.status c.in-Err-read_file.ensures.ends
 
