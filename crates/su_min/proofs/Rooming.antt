@@ -3,7 +3,7 @@ use Rattle.std.proofs.Common.{◌≡◌, ◌<◌, ◌≤◌, ◌+◌, ◌∙◌,
 use Rattle.std.proofs.lemmas.List.{get_or_default}
 use Rattle.su_tableau.specs.Tableaux.{AreVarsBelow}
 use Rattle.su_map.specs.Rooms.{Space, IsRoomFor, HasSizesOf}
-use Rattle.su_map.proofs.Members.{below_more}
+use borrow.Author.Count.{below_more}
 use Rattle.su_map.proofs.Noting.{vars_below}
 use Rattle.su_min.specs.Kept.{Minimised}
 use Rattle.su_min.specs.Reduction.{term_at}
