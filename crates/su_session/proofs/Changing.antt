@@ -2,12 +2,12 @@
 use Rattle.std.proofs.Common.{◌≡◌, ℕ, Bool, true, false, List, [], ◌∷◌, slice_get, Some, None, Ok, Err, inl, inr, ◌⊎◌, ap, ◌∙◌, subst, length}
 use Rattle.su_base.specs.declared.values.Value.{Value}
 use Rattle.su_base.specs.declared.values.Column.{Column}
-use Rattle.su_where.specs.declared.conditions.Cond.{Cond}
+use Rattle.su_where.specs.Truth.{Cond}
 use Rattle.su_schema.specs.SchemaValue.{place_of, relation_names, relation_columns}
 use Rattle.su_csv.specs.File.{reading}
 use Rattle.su_csv.specs.declared.faults.CsvFault.{CsvFault}
 use Rattle.su_csv.specs.declared.faults.CsvFault.TheVariants as csv
-use Rattle.su_query.specs.declared.conditions.NamedCond.{NamedCond}
+use Rattle.su_query.specs.Mentions.{NamedCond}
 use Rattle.su_query.specs.Lookup.{IsColumnCondition, with_columns}
 use Rattle.su_state.specs.declared.faults.StateFault.{StateFault}
 use Rattle.su_state.specs.declared.faults.StateFault.TheVariants.{NoMemory, UnknownRelation}

@@ -3,8 +3,7 @@ use Rattle.std.proofs.Common.{◌≡◌, ℕ, ◌<◌, List, [], length, slice_g
 use Rattle.std.proofs.lemmas.List.{length-map}
 use Rattle.std.proofs.lemmas.Option.{get_or_from_slice_get}
 use Rattle.su_base.specs.declared.values.Column.{Column}
-use Rattle.su_where.specs.declared.conditions.Cond.{Cond}
-use Rattle.su_where.specs.Truth.{Fits}
+use Rattle.su_where.specs.Truth.{Cond, Fits}
 use Rattle.su_schema.specs.SchemaValue.{SchemaValue, relation_names, relation_columns, place_of}
 use Rattle.su_schema.specs.Checks.{columns_at}
 use Rattle.su_schema.proofs.Numbers.{known-Some}

@@ -1,11 +1,12 @@
+pub mod Certifying
+pub mod Commands
+pub mod Comparing
+pub mod inside
+pub mod Laws
 pub mod Opening
 pub mod Reply
 pub mod Retrieving
 pub mod Statements
 pub mod Supporting
 pub mod Telling
-pub mod Certifying
-pub mod Commands
-pub mod Comparing
 pub mod Windowing
-pub mod Laws

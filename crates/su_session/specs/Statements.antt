@@ -6,7 +6,7 @@ use Rattle.su_base.specs.declared.values.Value.{Value}
 use Rattle.su_schema.specs.SchemaValue.{attribute_names, relation_names, column_names, place_of}
 use Rattle.su_csv.specs.declared.faults.CsvFault.{CsvFault}
 use Rattle.su_csv.specs.File.{reading}
-use Rattle.su_query.specs.declared.conditions.NamedCond.{NamedCond}
+use Rattle.su_query.specs.Mentions.{NamedCond}
 use Rattle.su_query.specs.declared.faults.QueryFault.{QueryFault}
 use Rattle.su_query.specs.declared.faults.QueryFault.TheVariants.{Unknown}
 use Rattle.su_query.specs.declared.statements.Statement.{Statement}

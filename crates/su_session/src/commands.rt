@@ -1,9 +1,10 @@
 //! What a text asks for, read before anything is done.
-ghost use Rattle.std.specs.Prelude.{◌≡◌, ◌≢◌, true, false, ℕ, List as Items, IfOk, MatchOption};
+ghost use Rattle.std.specs.Prelude.{◌≡◌, ◌≢◌, true, false, ℕ, List as Items, IfOk, IfErr, MatchOption};
 ghost use Rattle.su_lex.specs.Symbols.{Symbols};
 ghost use Rattle.su_query.specs.declared.statements.Statement.TheVariants.{Load};
 ghost use Rattle.su_session.specs.Reply.{is_definition_word, begins_definition};
 ghost use Rattle.su_session.specs.Commands.{IsRead};
+ghost use Rattle.su_session.specs.inside.Tasks.{of_task};
 
 use std::alloc::Global;
 use su_base::{List, NoMemory, Str};
@@ -13,11 +14,42 @@ use su_query::{QueryFault, Statement, statement_of};
 use su_schema::Definition;
 
 /// A definition, a statement, or why the text is neither.
-#[derive(Drop)]
 pub enum Command {
     Definition(Definition),
     Statement(Statement),
     Refused(QueryFault),
+}
+
+/// Not derived, so that it is a single call wherever a command goes out of scope above.
+impl Drop for Command {
+    fn drop(self) {
+        match self {
+            Command::Definition(_) => {}
+            Command::Statement(_) => {}
+            Command::Refused(_) => {}
+        }
+    }
+}
+
+/// What there is to do.
+#[derive(Drop)]
+pub(crate) enum Task {
+    Definition(Definition),
+    Statement(Statement),
+}
+
+impl Command {
+    /// What there is to do, or why there is nothing.
+    pub(crate) fn into_task(self) -> Result<Task, QueryFault>
+        ensures task { IfOk result (λ task. self ≡ of_task task) }
+        ensures refused { IfErr result (λ fault. self ≡ Command.Refused fault) }
+    {
+        match self {
+            Command::Definition(definition) => Ok(Task::Definition(definition)),
+            Command::Statement(statement) => Ok(Task::Statement(statement)),
+            Command::Refused(fault) => Err(fault),
+        }
+    }
 }
 
 /// Whether the symbols begin a definition.

@@ -1,9 +1,10 @@
-//! The session: a database, its maximal objects, and one statement after another.
-ghost use Rattle.std.specs.Prelude.{◌≡◌, ◌≤◌, ℕ, List as Items, IfOk, OnErr, option_map, unwrap_or, []};
+//! The session: a database, its maximal objects, and one command after another.
+ghost use Rattle.std.specs.Prelude.{◌≡◌, ◌≢◌, ◌≤◌, ℕ, List as Items, IfOk, OnErr, option_map, unwrap_or, []};
+ghost use Rattle.su_base.specs.declared.values.Value.{Value as AValue};
 
 use crate::certifying::certify;
 use crate::changes::{delete, delete_where, insert, load};
-use crate::commands::{Command, load_of, read};
+use crate::commands::{Command, Task, load_of, read};
 use crate::comparing::compare;
 use crate::replies::{Reply, refused};
 use crate::retrieving::{explain, retrieve};
@@ -150,12 +151,12 @@ impl Session {
         ensures kept { IsWellKept self.old }
     {
         self.db.keeps_its_rules();
-        match command {
-            Command::Definition(definition) => self.add(&definition),
-            Command::Statement(statement) => {
+        match command.into_task() {
+            Ok(Task::Definition(definition)) => self.add(&definition),
+            Ok(Task::Statement(statement)) => {
                 self.answer(rt, statement, content(file), workers, gate)
             }
-            Command::Refused(fault) => refused(self.alloc, &self.db, Refusal::Query(fault)),
+            Err(fault) => refused(self.alloc, &self.db, Refusal::Query(fault)),
         }
     }
 
@@ -174,32 +175,47 @@ impl Session {
         ensures replied { IfOk result (λ reply. Answers self.old file.now statement reply self.new) }
         ensures unchanged { OnErr result (self.new ≡ self.old) }
     {
+        match statement.into_insert() {
+            Ok((relation, row)) => insert(self.alloc, &mut self.db, &relation, row),
+            Err(statement) => self.answer_other(rt, &statement, file, workers, gate),
+        }
+    }
+
+    /// Any statement but an insert, which hands over its row.
+    fn answer_other<R: Threads + Sync, G: Gate>(
+        &mut self,
+        rt: &R,
+        statement: &Statement,
+        file: &[u8],
+        workers: u8,
+        gate: &G,
+    ) -> Result<Reply, NoMemory>
+        requires least { 1 ≤ workers }
+        requires most { workers ≤ 16 }
+        requires few { HasFew statement.now }
+        requires ready { IsReady statement.now }
+        requires other { (relation : Items ℕ) (row : Items AValue) → statement.now ≢ Statement.Insert relation row }
+        ensures replied { IfOk result (λ reply. Answers self.old file.now statement.now reply self.new) }
+        ensures unchanged { OnErr result (self.new ≡ self.old) }
+    {
         match statement {
-            Statement::Insert { relation, row } => insert(self.alloc, &mut self.db, &relation, row),
-            Statement::Delete { relation, row } => {
-                delete(self.alloc, &mut self.db, &relation, &row)
-            }
+            Statement::Insert { .. } => unreachable!(),
+            Statement::Delete { relation, row } => delete(self.alloc, &mut self.db, relation, row),
             Statement::DeleteWhere { relation, cond } => {
-                delete_where(self.alloc, &mut self.db, &relation, &cond)
+                delete_where(self.alloc, &mut self.db, relation, cond)
             }
-            Statement::Load { relation, .. } => load(self.alloc, &mut self.db, &relation, file),
-            Statement::Print { relation } => print(self.alloc, &self.db, &relation),
+            Statement::Load { relation, .. } => load(self.alloc, &mut self.db, relation, file),
+            Statement::Print { relation } => print(self.alloc, &self.db, relation),
             Statement::Schema => show_schema(self.alloc, &self.db, self.maximal.as_slice()),
             Statement::Closure { attributes } => {
                 closure(self.alloc, &self.db, attributes.as_slice())
             }
-            Statement::Retrieve(query) => self.retrieve(rt, &query, workers, gate),
-            Statement::Explain(query) => self.explain(rt, &query, workers, gate),
-            Statement::Certify(query) => self.certify(rt, &query, workers, gate),
-            Statement::Support(query) => self.support(rt, &query, workers, gate),
+            Statement::Retrieve(query) => self.retrieve(rt, query, workers, gate),
+            Statement::Explain(query) => self.explain(rt, query, workers, gate),
+            Statement::Certify(query) => self.certify(rt, query, workers, gate),
+            Statement::Support(query) => self.support(rt, query, workers, gate),
             Statement::Compare { first, second } => {
-                compare(
-                    self.alloc,
-                    &self.db,
-                    self.maximal.as_slice(),
-                    &first,
-                    &second,
-                )
+                compare(self.alloc, &self.db, self.maximal.as_slice(), first, second)
             }
             Statement::Window { attributes } => {
                 show_window(self.alloc, &self.db, attributes.as_slice())

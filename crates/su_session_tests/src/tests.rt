@@ -1,0 +1,83 @@
+use std::alloc::Global;
+use std::test::Fail;
+use std::thread::Threads;
+use su_base::NoMemory;
+use su_ddl::read;
+use su_par::OpenGate;
+use su_session::Session;
+
+const SCHEMA: &str = "\
+attribute A int; attribute B int; attribute T text;
+relation P (A int, B int); relation S (T text);
+object AB (A, B) from P (A, B); object OT (T) from S (T);
+fd A -> B;
+";
+
+/// The content of every file.
+const FILE: &str = "A,B\n1,1\n2,3\n";
+
+/// Statements one after another, with their replies.
+const STEPS: &[(&str, &str)] = &[
+    ("insert P (1, 1)", "inserted 1\n"),
+    ("insert P (1, 1)", "inserted 0\n"),
+    ("insert Q (1)", "refused: unknown relation Q\n"),
+    ("insert P (1)", "refused: width 1, relation has 2\n"),
+    ("insert P (1, 'x')", "refused: kind of column B\n"),
+    (
+        "insert P (1, 2)",
+        "refused: breaks A -> B with row (1, 1)\n",
+    ),
+    ("load P from 'p.csv'", "loaded 1 of 2\n"),
+    ("load S from 'p.csv'", "refused: header\n"),
+    ("print P", "rows 2\nA,B\n1,1\n2,3\n"),
+    ("retrieve (B) where A = 2", "rows 1\nB\n3\n"),
+    ("retrieve (X)", "refused: unknown attribute X\n"),
+    (
+        "retrieve (A, T)",
+        "refused: no maximal object covers -: A T\n",
+    ),
+    ("closure (A)", "closure A B\n  by A -> B\n"),
+    ("window (B, A)", "rows 2\nB,A\n1,1\n3,2\n"),
+    (
+        "compare (retrieve (A)) with (retrieve (T))",
+        "refused: outputs differ\n",
+    ),
+    ("delete P where B > 'x'", "refused: kinds int and text\n"),
+    ("delete P where B > 1 and not A = 1", "deleted 1\n"),
+    ("delete P (1, 1)", "deleted 1\n"),
+    ("delete P (1, 1)", "deleted 0\n"),
+    ("fd X -> A", "refused: unknown X\n"),
+    ("prnt P", "refused: syntax\n"),
+    ("", "refused: syntax\n"),
+];
+
+fn opened(alloc: Global) -> Result<Option<Session>, NoMemory> {
+    match read(alloc, SCHEMA.as_bytes()) {
+        Ok(schema) => Ok(Some(Session::open(alloc, schema)?)),
+        Err(_) => Ok(None),
+    }
+}
+
+/// The number of the first statement with another reply, or how many there are.
+fn first_otherwise<R: Threads + Sync>(rt: &R, session: &mut Session) -> Result<usize, NoMemory> {
+    let mut same = 0;
+    for (text, want) in STEPS {
+        let file = Some(FILE.as_bytes());
+        let reply = session.step(rt, text.as_bytes(), file, 2, &OpenGate)?;
+        let refused = want.starts_with("refused: ");
+        if reply.bytes.as_slice() != want.as_bytes() || reply.refused != refused {
+            return Ok(same);
+        }
+        same += 1;
+    }
+    Ok(same)
+}
+
+#[test]
+fn statements_are_answered_one_after_another(rt: HostRuntime) -> Result<(), Fail> {
+    let Some(mut session) = opened(rt.alloc())? else {
+        return Err(Fail::from("no schema"));
+    };
+    assert_eq!(rt; first_otherwise(&rt, &mut session)?, STEPS.len());
+    Ok(())
+}
