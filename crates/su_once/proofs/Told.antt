@@ -14,7 +14,8 @@ use Rattle.su_state.specs.declared.faults.DefineFault.TheVariants as define
 use Rattle.su_state.specs.DatabaseValue.{DatabaseValue}
 use Rattle.su_show.specs.declared.statement_refusal.Refusal.{Refusal}
 use Rattle.su_show.specs.declared.statement_refusal.Refusal.TheVariants.{Query, State, Record, Steps, Define}
-use Rattle.su_show.specs.Refusing.{refusal_line, IsNoMemory, IsQueryMemory, IsStateMemory, IsStepMemory, IsDefineMemory}
+use Rattle.std.proofs.Common.{inl}
+use Rattle.su_show.specs.Refusing.{refusal_line, IsNoMemory}
 use Rattle.su_session.specs.declared.replies.Reply.{Reply}
 use Rattle.su_session.specs.Telling.{Accepts, Refuses, TellsInsert, TellsDelete, TellsLoad, TellsDefine}
 use Rattle.su_once.specs.States.{AreAlike}
@@ -27,16 +28,16 @@ accept r s text other h k same =
 
 -- want of memory is never told
 pub query_told : (fault : QueryFault) → ¬ IsNoMemory (Query fault) → fault ≢ query.NoMemory
-query_told fault told is = told (subst IsQueryMemory (sym is) tt)
+query_told fault told is = told is
 
 pub state_told : (fault : StateFault) → ¬ IsNoMemory (State fault) → fault ≢ state.NoMemory
-state_told fault told is = told (subst IsStateMemory (sym is) tt)
+state_told fault told is = told is
 
 pub step_told : (fault : StepFault) → ¬ IsNoMemory (Steps fault) → fault ≢ step.NoMemory
-step_told fault told is = told (subst IsStepMemory (sym is) tt)
+step_told fault told is = told is
 
 pub define_told : (fault : DefineFault) → ¬ IsNoMemory (Define fault) → fault ≢ define.NoMemory
-define_told fault told is = told (subst IsDefineMemory (sym is) tt)
+define_told fault told is = told (inl is)
 
 -- over two databases of one schema
 module _ (a : DatabaseValue) (tables : List Stored) (r s : Reply) (c d : DatabaseValue) where

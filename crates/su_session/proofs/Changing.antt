@@ -17,7 +17,6 @@ use Rattle.su_state.specs.DatabaseValue.{DatabaseValue, columns_of}
 use Rattle.su_state.specs.Changes.{Inserts, Deletes, DeletesWhere}
 use Rattle.su_state.specs.Loads.{Loads, InsertsAll}
 use Rattle.su_show.specs.declared.statement_refusal.Refusal.TheVariants.{State, Record, Csv}
-use Rattle.su_show.specs.Refusing.{IsStateMemory, IsCsvMemory}
 use Rattle.su_show.specs.Changes.{deleted_text, loaded_text}
 use Rattle.su_session.specs.declared.replies.Reply.{Reply}
 use Rattle.su_session.specs.Telling.{Accepts, Refuses}
@@ -27,7 +26,7 @@ use Rattle.su_session.proofs.Relations.{columns_are}
 module _ (db : DatabaseValue) (name : List ℕ) (reply : Reply) where
   pub unknown : (new : DatabaseValue) (Known : ℕ → Type 0) (fault : StateFault) → (fault ≡ NoMemory) ⊎ ((fault ≡ UnknownRelation name) × (place_of (relation_names db.schema) name ≡ None))
       → Refuses db (State fault) reply new → InRelation db name reply new Known
-  unknown new Known fault (inl memory) refuses = absurd (subst (λ (f : StateFault). ¬ IsStateMemory f) memory refuses.told tt)
+  unknown new Known fault (inl memory) refuses = absurd (refuses.told memory)
   unknown new Known fault (inr (is, none)) refuses = inl (none, subst (λ (f : StateFault). Refuses db (State f) reply new) is refuses)
 
   pub refused_insert : (new : DatabaseValue) (r : ℕ) (row : List Value) (fault : StateFault) → Inserts db r row (Err fault) new → Refuses new (State fault) reply new → InsertsRow db row reply new r
@@ -46,7 +45,7 @@ module _ (db : DatabaseValue) (name : List ℕ) (reply : Reply) where
     own = columns_are db.schema r columns at
 
     pub refused_file : (fault : CsvFault) → (fault ≡ csv.NoMemory) ⊎ (reading columns bytes ≡ Err fault) → Refuses db (Csv r fault) reply db → InRelation db name reply db (LoadsRows db bytes reply db)
-    refused_file fault (inl memory) refuses = absurd (subst (λ (f : CsvFault). ¬ IsCsvMemory f) memory refuses.told tt)
+    refused_file fault (inl memory) refuses = absurd (refuses.told memory)
     refused_file fault (inr fails) refuses = inr (r, placed, inl (fault, subst (λ (cs : List Column). reading cs bytes ≡ Err fault) own fails, refuses))
 
     module _ (new : DatabaseValue) (rows : List (List Value)) (read : reading columns bytes ≡ Ok rows) where

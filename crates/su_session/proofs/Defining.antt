@@ -1,5 +1,5 @@
 -- The reply to a definition, by how it ends.
-use Rattle.std.proofs.Common.{◌≡◌, List, Ok, Err, Result, inl, inr, sym, ◌∙◌, subst}
+use Rattle.std.proofs.Common.{◌≡◌, List, Ok, Err, Result, inl, inr, ap, sym, ◌∙◌, subst}
 use Rattle.std.specs.Ordering.{nat_cmp}
 use Rattle.std.specs.FinSet.{FinSet}
 use Rattle.su_schema.specs.SchemaValue.{SchemaValue}
@@ -12,7 +12,6 @@ use Rattle.su_state.specs.declared.faults.DefineFault.TheVariants.{Schema, Break
 use Rattle.su_state.specs.DatabaseValue.{DatabaseValue}
 use Rattle.su_state.specs.Definitions.{Defines}
 use Rattle.su_show.specs.declared.statement_refusal.Refusal.TheVariants.{Define}
-use Rattle.su_show.specs.Refusing.{IsDefineMemory}
 use Rattle.su_session.specs.declared.replies.Reply.{Reply}
 use Rattle.su_session.specs.Telling.{Refuses}
 use Rattle.su_session.specs.Reply.{AddsDefinition}
@@ -28,7 +27,7 @@ same_when_refused db new d NoMemory h = h
 
 module _ (db new : DatabaseValue) (d : Definition) (reply : Reply) where
   pub refused_schema : (fault : SchemaFault) → IsRefusal db.schema d fault → Refuses db (Define (Schema fault)) reply new → AddsDefinition db d reply new
-  refused_schema fault (inl memory) refuses = absurd (subst (λ (f : SchemaFault). ¬ IsDefineMemory (Schema f)) memory refuses.told tt)
+  refused_schema fault (inl memory) refuses = absurd (refuses.told (inr (ap Schema memory)))
   refused_schema fault (inr fails) refuses = (Err (Schema fault), (fails, refuses.same), refuses)
 
   pub refused_rows : (fault : DefineFault) → Defines db d (Err fault) new → Refuses new (Define fault) reply new → AddsDefinition db d reply new

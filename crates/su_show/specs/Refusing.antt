@@ -1,5 +1,5 @@
 -- The line of a refused statement, by its refusal. The numbers of relations, columns, dependencies, objects and attributes are those of the schema.
-use Rattle.std.specs.Prelude.{ℕ, List, [], ◌++◌, length, codes, decimal, slice_index_or, Option, Some, None}
+use Rattle.std.specs.Prelude.{◌≡◌, ◌⊎◌, ℕ, List, [], ◌++◌, length, codes, decimal, slice_index_or, Option, Some, None}
 use Rattle.su_base.specs.declared.values.Value.{Value}
 use Rattle.su_base.specs.declared.values.Kind.{Kind}
 use Rattle.su_base.specs.declared.values.Kind.TheVariants as kind
@@ -119,38 +119,12 @@ refusal_text schema (Inconsistent less greater) = inconsistent_text less greater
 abbrev pub refusal_line : SchemaValue → Refusal → List ℕ
 refusal_line schema refusal = codes "refused: " ++ refusal_text schema refusal ++ codes "\n"
 
--- want of memory, which is never shown
-abbrev pub IsQueryMemory : QueryFault → Type 0
-IsQueryMemory query.NoMemory = Unit {0}
-IsQueryMemory _ = ⊥
-
--- want of memory in a change
-abbrev pub IsStateMemory : StateFault → Type 0
-IsStateMemory state.NoMemory = Unit {0}
-IsStateMemory _ = ⊥
-
--- want of memory in a file of rows
-abbrev pub IsCsvMemory : CsvFault → Type 0
-IsCsvMemory csv.NoMemory = Unit {0}
-IsCsvMemory _ = ⊥
-
--- want of memory among the terms
-abbrev pub IsStepMemory : StepFault → Type 0
-IsStepMemory step.NoMemory = Unit {0}
-IsStepMemory _ = ⊥
-
--- want of memory in a definition
-abbrev pub IsDefineMemory : DefineFault → Type 0
-IsDefineMemory define.NoMemory = Unit {0}
-IsDefineMemory (define.Schema schema.NoMemory) = Unit {0}
-IsDefineMemory _ = ⊥
-
 -- the refusal is want of memory, which is never told
 abbrev pub IsNoMemory : Refusal → Type 0
-IsNoMemory (Query fault) = IsQueryMemory fault
-IsNoMemory (State fault) = IsStateMemory fault
-IsNoMemory (Record fault) = IsStateMemory fault.fault
-IsNoMemory (Csv relation fault) = IsCsvMemory fault
-IsNoMemory (Steps fault) = IsStepMemory fault
-IsNoMemory (Define fault) = IsDefineMemory fault
+IsNoMemory (Query fault) = fault ≡ query.NoMemory
+IsNoMemory (State fault) = fault ≡ state.NoMemory
+IsNoMemory (Record fault) = fault.fault ≡ state.NoMemory
+IsNoMemory (Csv relation fault) = fault ≡ csv.NoMemory
+IsNoMemory (Steps fault) = fault ≡ step.NoMemory
+IsNoMemory (Define fault) = (fault ≡ define.NoMemory) ⊎ (fault ≡ define.Schema schema.NoMemory)
 IsNoMemory _ = ⊥

@@ -1,6 +1,6 @@
 //! The line of a refused statement.
-ghost use Rattle.std.specs.Prelude.{◌≡◌, ◌++◌, codes, decimal, flat_map, IfOk, OnOk};
-ghost use Rattle.su_show.specs.Refusing.{kind_text, query_limit_text, query_text, column_text, state_text, record_text, csv_text, variable_text, step_limit_text, step_text, define_text, inconsistent_text, refusal_text, refusal_line, IsQueryMemory, IsStateMemory, IsCsvMemory, IsStepMemory, IsDefineMemory, IsNoMemory};
+ghost use Rattle.std.specs.Prelude.{◌≡◌, ◌≢◌, ◌++◌, codes, decimal, flat_map, IfOk, OnOk};
+ghost use Rattle.su_show.specs.Refusing.{kind_text, query_limit_text, query_text, column_text, state_text, record_text, csv_text, variable_text, step_limit_text, step_text, define_text, inconsistent_text, refusal_text, refusal_line, IsNoMemory};
 ghost use Rattle.su_show.specs.Values.{attributes_text};
 ghost use Rattle.su_show.specs.Refusals.{cause_text};
 
@@ -41,7 +41,7 @@ fn query_limit(limit: QueryLimit) -> &'static str
 
 fn push_query(out: &mut Vec<u8>, fault: &QueryFault) -> Result<(), NoMemory>
     ensures text { OnOk result (out.new.items ≡ out.old.items ++ query_text fault.now) }
-    ensures told { OnOk result (¬ IsQueryMemory fault.now) }
+    ensures told { OnOk result (fault.now ≢ QueryFault.NoMemory) }
 {
     match fault {
         QueryFault::Syntax => push(out, "syntax"),
@@ -92,7 +92,7 @@ fn push_state(
     fault: &StateFault,
 ) -> Result<(), NoMemory>
     ensures text { OnOk result (out.new.items ≡ out.old.items ++ state_text schema.now fault.now) }
-    ensures told { OnOk result (¬ IsStateMemory fault.now) }
+    ensures told { OnOk result (fault.now ≢ StateFault.NoMemory) }
 {
     match fault {
         StateFault::UnknownRelation(name) => push_all(out, &["unknown relation ", name.as_str()]),
@@ -130,7 +130,7 @@ fn push_csv(
     fault: CsvFault,
 ) -> Result<(), NoMemory>
     ensures text { OnOk result (out.new.items ≡ out.old.items ++ csv_text schema.now relation fault) }
-    ensures told { OnOk result (¬ IsCsvMemory fault) }
+    ensures told { OnOk result (fault ≢ CsvFault.NoMemory) }
 {
     match fault {
         CsvFault::Header => push(out, "header"),
@@ -165,7 +165,7 @@ fn push_step(
     fault: &StepFault,
 ) -> Result<(), NoMemory>
     ensures text { OnOk result (out.new.items ≡ out.old.items ++ step_text schema.now fault.now) }
-    ensures told { OnOk result (¬ IsStepMemory fault.now) }
+    ensures told { OnOk result (fault.now ≢ StepFault.NoMemory) }
 {
     match fault {
         StepFault::NotCovered {
@@ -184,7 +184,7 @@ fn push_define(
     fault: &DefineFault,
 ) -> Result<(), NoMemory>
     ensures text { OnOk result (out.new.items ≡ out.old.items ++ define_text schema.now fault.now) }
-    ensures told { OnOk result (¬ IsDefineMemory fault.now) }
+    ensures told { OnOk result ((fault.now ≢ DefineFault.NoMemory) × (fault.now ≢ DefineFault.Schema SchemaFault.NoMemory)) }
 {
     match fault {
         DefineFault::Schema(SchemaFault::NoMemory) => Err(NoMemory),

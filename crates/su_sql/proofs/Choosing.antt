@@ -1,5 +1,5 @@
 -- The choices that meet the conditions of a task's select are the task's valuations.
-use Rattle.std.proofs.Common.{◌≡◌, ◌↔◌, ⊎_elim, ℕ, zero, suc, ◌<◌, Bool, true, false, cond, List, [], ◌∷◌, map, length, get_or, Contains, All, Some, refl, sym, ap, ◌∙◌, subst, pos, arith}
+use Rattle.std.proofs.Common.{◌≡◌, ◌↔◌, ⊎_elim, ℕ, ◌<◌, Bool, true, false, cond, List, [], ◌∷◌, map, length, get_or, Contains, All, Some, refl, sym, ap, ◌∙◌, subst, pos, arith}
 use Rattle.std.specs.Prelude.{◌&&◌, ◌==◌, find, IsTrue, slice_index_or}
 use Rattle.std.specs.List.{AllZip, range_with_len}
 use Rattle.std.proofs.lemmas.Bool.{true≢false, false≢true, eqb-true, eq-eqb}
@@ -18,7 +18,7 @@ use Rattle.su_exec.specs.declared.tasks.Task.{Task}
 use Rattle.su_exec.specs.Tasks.{Occurs, FitsTables, HasSources, IsTask}
 use Rattle.su_exec.specs.Outputs.{Agrees, Holds, IsOutput}
 use Rattle.su_steps.proofs.Lists.{all_by, contains_later, contains_cases, contains_none, contains_map, of_map, contains_flat, of_flat}
-use Rattle.su_base.proofs.Items.{Contains-range, Contains-range_below}
+use Rattle.su_base.proofs.Items.{AllZip-get_or, Contains-range, Contains-range_below}
 use Rattle.su_sql.specs.declared.tables.Place.{Place}
 use Rattle.su_sql.specs.declared.tables.Join.{Join}
 use Rattle.su_sql.specs.declared.tables.Fixed.{Fixed}
@@ -175,12 +175,6 @@ occurs_there task k o =
 
 -- ---- choices and valuations
 
-zip_at : {A B : Type 0} (R : A → B → Type 0) (xs : List A) (ys : List B) (i : ℕ) (d : A) (e : B) → AllZip R xs ys → i < length xs → R (get_or xs i d) (get_or ys i e)
-zip_at R [] ys i d e h l = absurd (omega arith)
-zip_at R (x ∷ xs) [] i d e h l = absurd h
-zip_at R (x ∷ xs) (y ∷ ys) zero d e h l = h.0
-zip_at R (x ∷ xs) (y ∷ ys) (suc i) d e h l = zip_at R xs ys i d e h.1 (omega arith)
-
 module _ (stored : List Stored) (task : Task) (is : IsJoined task) where
   abbrev rows : List TaskRow
   rows = task.rows
@@ -195,7 +189,7 @@ module _ (stored : List Stored) (task : Task) (is : IsJoined task) where
       let row = get_or rows t no_row in
       let n = length-map rows table_of in
       let w : IsRowOf stored (table_of row) (get_or choice t []) =
-      subst (λ (x : Table). IsRowOf stored x (get_or choice t [])) (get_or-map table_of rows t no_row (table_of no_row) low) (zip_at (IsRowOf stored) (map table_of rows) choice t (table_of no_row) [] chosen (omega (arith, n, low))) in
+      subst (λ (x : Table). IsRowOf stored x (get_or choice t [])) (get_or-map table_of rows t no_row (table_of no_row) low) (AllZip-get_or (IsRowOf stored) (map table_of rows) choice t (table_of no_row) [] chosen (omega (arith, n, low))) in
       let wide : length (get_or choice t []) ≡ length row.cells =
       ap (λ (xs : List Value). length xs) (sym w.values) ∙ length-map w.source.columns (λ column. slice_index_or w.from column (Int (pos 0))) ∙ is.widths row w.source (Contains-get_or rows t no_row low) w.of_table in
       let l = length-map row.cells (value_of v) in

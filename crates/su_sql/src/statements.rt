@@ -5,7 +5,7 @@ ghost use Rattle.su_query.specs.Lookup.{resolved_of};
 ghost use Rattle.su_query.specs.Reading.{AreFew, HasFew};
 ghost use Rattle.su_sql.specs.Changes.{create_text};
 ghost use Rattle.su_sql.specs.Comments.{comment_text};
-ghost use Rattle.su_sql.specs.Statements.{RefusesWith, WritesQuery, WritesReply, WritesLoad, WritesStatement, WritesDefinition, Writes};
+ghost use Rattle.su_sql.specs.Statements.{RefusesWith, WritesQuery, WritesReply, WritesStatement, WritesDefinition, Writes};
 ghost use Rattle.su_sql.specs.Accepted.{accepted_text};
 ghost use Rattle.su_show.specs.Refusing.{refusal_line, IsNoMemory};
 ghost use Rattle.su_session.specs.Retrieving.{IsRefusalOf, HasTerms};
@@ -21,7 +21,7 @@ use crate::writing::query as query_sql;
 use std::alloc::Global;
 use std::thread::Threads;
 use su_answer::prepare;
-use su_base::{List, NoMemory, ObjSet, Str};
+use su_base::{List, NoMemory, ObjSet};
 use su_maxobj::laws::a_schema_has_few_maximal_objects;
 use su_maxobj::maximal_objects;
 use su_par::Gate;
@@ -172,28 +172,7 @@ fn replied<R: Threads + Sync, G: Gate>(
     Ok(accepted(accepted_text(alloc, dialect, schema, statement, bytes)?))
 }
 
-/// A load of a known relation, as a comment.
-fn loaded<R: Threads + Sync, G: Gate>(
-    rt: &R,
-    alloc: Global,
-    dialect: Dialect,
-    session: &mut Session,
-    text: &[u8],
-    relation: &Str,
-    path: &Str,
-    statement: &Statement,
-    gate: &G,
-) -> Result<Reply, NoMemory>
-    requires { statement.now ≡ Statement.Load relation.now path.now }
-    ensures { IfOk result (λ reply. WritesLoad dialect session.old text.now relation.now path.now reply session.new) }
-{
-    let schema = session.database().schema();
-    match schema.find_relation(relation.as_str()) {
-        Some(r) => Ok(accepted(load(alloc, dialect, schema, r, path.as_str())?)),
-        None => replied(rt, alloc, dialect, session, text, statement, gate),
-    }
-}
-
+/// What is written for a statement: for a load of a known relation a comment.
 fn written<R: Threads + Sync, G: Gate>(
     rt: &R,
     alloc: Global,
@@ -211,9 +190,11 @@ fn written<R: Threads + Sync, G: Gate>(
             retrieve(rt, alloc, dialect, session.database(), query, gate)
         }
         Statement::Load { relation, file } => {
-            loaded(
-                rt, alloc, dialect, session, text, relation, file, statement, gate,
-            )
+            let schema = session.database().schema();
+            match schema.find_relation(relation.as_str()) {
+                Some(r) => Ok(accepted(load(alloc, dialect, schema, r, file.as_str())?)),
+                None => replied(rt, alloc, dialect, session, text, statement, gate),
+            }
         }
         _ => replied(rt, alloc, dialect, session, text, statement, gate),
     }
