@@ -60,17 +60,16 @@ fn opened(alloc: Global) -> Result<Option<Session>, NoMemory> {
 
 /// The number of the first statement with another reply, or how many there are.
 fn first_otherwise<R: Threads + Sync>(rt: &R, session: &mut Session) -> Result<usize, NoMemory> {
-    let mut same = 0;
-    for (text, want) in STEPS {
+    for i in 0..STEPS.len() {
+        let (text, want) = STEPS[i];
         let file = Some(FILE.as_bytes());
         let reply = session.step(rt, text.as_bytes(), file, 2, &OpenGate)?;
         let refused = want.starts_with("refused: ");
         if reply.bytes.as_slice() != want.as_bytes() || reply.refused != refused {
-            return Ok(same);
+            return Ok(i);
         }
-        same += 1;
     }
-    Ok(same)
+    Ok(STEPS.len())
 }
 
 #[test]
