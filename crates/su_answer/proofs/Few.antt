@@ -28,7 +28,7 @@ record ComesFrom (db : DatabaseValue) (attributes : List ℕ) (h : List Value) (
   number : k ≡ object * 1000000 + position
   gives : values_at source.columns (get_or (table_at db.tables source.relation).rows position []) ≡ h
 
-same_columns : (xs ys : List ℕ) → map Some xs ≡ map Some ys → xs ≡ ys
+pub same_columns : (xs ys : List ℕ) → map Some xs ≡ map Some ys → xs ≡ ys
 same_columns [] [] e = refl
 same_columns [] (y ∷ ys) e = absurd (let l = ap (λ (zs : List (Option ℕ)). length zs) e in let no : ⊥ = omega (arith, l) in no)
 same_columns (x ∷ xs) [] e = absurd (let l = ap (λ (zs : List (Option ℕ)). length zs) e in let no : ⊥ = omega (arith, l) in no)

@@ -29,18 +29,11 @@ use Rattle.su_answer.proofs.Columns.{object_is}
 use Rattle.su_answer.proofs.Zipping.{zip_first, zip_second}
 use Rattle.su_answer.proofs.Rowing.{essential_has}
 use Rattle.su_answer.proofs.Joined.{in_rows}
+use Rattle.su_map.proofs.Settling.{numbers_few}
 
 keep_few : (b n : ℕ) → b < 2 → length (keep_if b n []) ≤ 1
 keep_few zero n l = omega arith
 keep_few (suc b) n l = omega arith
-
-numbers_few : (m n : ℕ) → length (numbers_of m n) ≤ n
-numbers_few m zero = omega arith
-numbers_few m (suc n) =
-    let i = numbers_few m n in
-    let k = keep_few (bit_at m n) n (bit_at-lt m n) in
-    let a = length-append (numbers_of m n) (keep_if (bit_at m n) n []) in
-    omega arith
 
 module _ (db : DatabaseValue) (t : Tab) (m : ℕ) (task : Task) (kept : IsWellKept db) (small : IsSmall t) (valid : IsValid t) (part_valid : IsValid (part t m)) (is : IsTaskOf db.schema t m task) where
   source_fits : (cells : ℕ) (attributes : List ℕ) (o : ℕ) (s : Source) → cells ≡ length attributes → IsSourceOf db.schema attributes o s → FitsTables db.tables cells s

@@ -10,7 +10,7 @@ use Rattle.su_base.specs.declared.values.Value.{Value}
 use Rattle.su_base.specs.declared.values.Value.TheVariants.{Int, Text}
 use Rattle.su_base.specs.Value.{compare_values}
 use Rattle.std.specs.declared.cmp.Ordering.TheVariants.{Equal as Same, Greater}
-use Rattle.su_base.proofs.Items.{Contains-map, Contains-map_source}
+use Rattle.su_base.proofs.Items.{Contains-map, Contains-map_source, map-map_equal}
 use Rattle.su_classes.proofs.Merges.{same_var}
 use Rattle.su_fd.specs.declared.dependencies.Fd.{Fd}
 use Rattle.su_tableau.specs.declared.symbols.Sym.{Sym}
@@ -18,7 +18,6 @@ use Rattle.su_tableau.specs.declared.symbols.Sym.TheVariants.{Const, Var}
 use Rattle.su_tableau.specs.Tableaux.{Tab, IsValid, IsSmall, Occurs, AreBelow, value_of, values_of, Sends, Ext}
 use Rattle.su_tableau.specs.Kinds.{Kinds, sym_kind, IsTyped}
 use Rattle.su_tableau.proofs.Listing.{by_list, from_list}
-use Rattle.su_tableau.proofs.Containment.{map_twice}
 use Rattle.su_classes.proofs.ValueOrder.{at_most_both, compare_itself}
 use Rattle.su_fd.specs.Meeting.{Agree, Meets}
 use Rattle.su_chase.specs.Chase.{SameLabels, IsClosed, InOneClass, IsNoLater, IsName, IsConsistent, IsClash}
@@ -95,8 +94,8 @@ module _ (fds : List Fd) (t : Tab) (names : List Sym) (are : (x : Sym) → IsNam
       let same : (x : Sym) → value_of w (name x) ≡ value_of w x = λ x. sym (one_value fds t.rows universe meets w e.sends x (name x) (are x).member) in
       by_list (named_tab name t) universe h (record {
         valuation = w;
-        sends = All-map (λ row. Contains universe (values_of w row)) (map name) t.rows (λ k d l. subst (Contains universe) (sym (map_twice name (value_of w) (value_of w) same (get_or t.rows k d))) (e.sends k d l));
-        gives = map_twice name (value_of w) (value_of w) same t.head ∙ e.gives;
+        sends = All-map (λ row. Contains universe (values_of w row)) (map name) t.rows (λ k d l. subst (Contains universe) (sym (map-map_equal name (value_of w) (value_of w) same (get_or t.rows k d))) (e.sends k d l));
+        gives = map-map_equal name (value_of w) (value_of w) same t.head ∙ e.gives;
       })
 
   pub from_chased : (universe : List (List Value)) (h : List Value) → Ext (named_tab name t) universe h → Ext t universe h
@@ -110,8 +109,8 @@ module _ (fds : List Fd) (t : Tab) (names : List Sym) (are : (x : Sym) → IsNam
         sends = λ k d l.
             let row = get_or t.rows k d in
             let c = e.sends k (map name d) (subst (λ (n : ℕ). k < n) (sym (length-map t.rows (map name))) l) in
-            subst (Contains universe) (ap (values_of w) (map_read (map name) t.rows k d) ∙ map_twice name (value_of w) (value_of v) same row) c;
-        gives = sym (map_twice name (value_of w) (value_of v) same t.head) ∙ e.gives;
+            subst (Contains universe) (ap (values_of w) (map_read (map name) t.rows k d) ∙ map-map_equal name (value_of w) (value_of v) same row) c;
+        gives = sym (map-map_equal name (value_of w) (value_of v) same t.head) ∙ e.gives;
       })
 
   -- a label for each kind
@@ -135,7 +134,7 @@ module _ (fds : List Fd) (t : Tab) (names : List Sym) (are : (x : Sym) → IsNam
       record {
         width = is.width;
         var_kind = f;
-        fits = All-map (λ row. map (sym_kind f) row ≡ kinds) (map name) t.rows (λ k d l. map_twice name (sym_kind f) (sym_kind f) same (get_or t.rows k d) ∙ is.fits k d l);
+        fits = All-map (λ row. map (sym_kind f) row ≡ kinds) (map name) t.rows (λ k d l. map-map_equal name (sym_kind f) (sym_kind f) same (get_or t.rows k d) ∙ is.fits k d l);
       }
 
 -- ---- the named tableau is valid

@@ -4,14 +4,14 @@ use Rattle.std.proofs.lemmas.Bool.{cases_eq}
 use Rattle.std.proofs.lemmas.List.{length-map, get_or-map, get_or_default}
 use Rattle.std.proofs.lemmas.List.Elements.{All-nil, All-push, All-contains, recursion_from_All}
 use Rattle.su_base.proofs.Numbers.{pigeonhole}
-use Rattle.su_base.proofs.Items.{Contains-map, AllZip-length, AllZip-get_or}
+use Rattle.su_base.proofs.Items.{Contains-map, AllZip-length, AllZip-get_or, map-map_equal}
 use Rattle.su_tableau.specs.declared.symbols.Sym.{Sym}
 use Rattle.su_tableau.specs.declared.symbols.Sym.TheVariants.{Const, Var}
 use Rattle.su_tableau.specs.Tableaux.{Tab, IsValid, Occurs}
 use Rattle.su_tableau.specs.Kinds.{Kinds, IsTyped, sym_kind}
 use Rattle.su_tableau.specs.Mapping.{image_of, images_of, Maps}
 use Rattle.su_tableau.specs.Equivalent.{IsLeast}
-use Rattle.su_tableau.proofs.Containment.{maps_compose, maps_within, map_twice}
+use Rattle.su_tableau.proofs.Containment.{maps_compose, maps_within, images_after}
 use Rattle.su_tableau.proofs.Freezing.{within_maps}
 use Rattle.su_tableau.proofs.Sets.{choose}
 use Rattle.su_check.specs.declared.nodes.Node.{Node}
@@ -47,9 +47,6 @@ refuted t r f head goes n p (refuting _ _ open' _ exact each) sent =
     refuted t r f head goes (node_of b.0) (sent_too p s (target_of b.0)) (each b.0 b.1) (subst (λ j. All P (sent_too p s j)) (sym b.2) more)
 
 -- ---- the tableau and its part
-
-images_after : (s t : ℕ → Sym) (xs : List Sym) → images_of t (images_of s xs) ≡ images_of (λ k. image_of t (s k)) xs
-images_after s t xs = map_twice (image_of s) (image_of t) (image_of (λ k. image_of t (s k))) (elim [ Const c ↦ refl | Var k ↦ refl ]) xs
 
 module _ (t : Tab) (kept : List ℕ) where
   row : ℕ → List Sym

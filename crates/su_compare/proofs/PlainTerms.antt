@@ -36,12 +36,6 @@ max_right a b m e = let g : m ≡ max a b = e ∙ ord_max-numbers a b in omega a
 
 -- ---- plain terms
 
-pub vars_more : (t : Tab) (n m : ℕ) → n ≤ m → AreVarsBelow n t → AreVarsBelow m t
-vars_more t n m le below = record {
-  head = λ k c. let l = below.head k c in omega arith;
-  rows = λ i d low k c. let l = below.rows i d low k c in omega arith;
-}
-
 -- a term by its number, as its tableau
 pub plain_at : (schema : SchemaValue) (n : ℕ) (terms : List Term) (i : ℕ) (d : Term) → All (IsPlain schema n) terms → i < length terms → IsPlain schema n (get_or terms i d)
 plain_at schema n terms i d all low = all i d low

@@ -74,7 +74,7 @@ second_among a b k h = grind (arith, h)
 one : (v : ℕ → ℕ) (e : Edge ℕ) → Fits v e → FitsAll v (e ∷ [])
 one v e h = All-cons (λ e. Fits v e) e [] h (All-nil (λ e. Fits v e))
 
-two : (v : ℕ → ℕ) (a b : Edge ℕ) → Fits v a → Fits v b → FitsAll v (a ∷ b ∷ [])
+pub two : (v : ℕ → ℕ) (a b : Edge ℕ) → Fits v a → Fits v b → FitsAll v (a ∷ b ∷ [])
 two v a b g h = All-cons (λ e. Fits v e) a (b ∷ []) g (one v b h)
 
 abbrev pub joined_edge : Columns → List ℕ → List ℕ → List (List ℕ) → Edge ℕ

@@ -131,7 +131,7 @@ checks_up a b (d ∷ comparisons) (c ∷ checks) more h =
     let first = h.0 in
     (record { left = term_up a b d.left c.left more first.left; op = first.op; right = term_up a b d.right c.right more first.right }, checks_up a b comparisons checks more h.1)
 
-append_assoc : (xs ys zs : List ℕ) → (xs ++ ys) ++ zs ≡ xs ++ (ys ++ zs)
+pub append_assoc : (xs ys zs : List ℕ) → (xs ++ ys) ++ zs ≡ xs ++ (ys ++ zs)
 append_assoc [] ys zs = refl
 append_assoc (x ∷ xs) ys zs = ap (λ r. x ∷ r) (append_assoc xs ys zs)
 

@@ -24,8 +24,8 @@ use Rattle.su_exec.specs.inside.Ways.{AgreesBySources, AreValues, IsAgreed, IsFr
 use Rattle.su_exec.proofs.Extending.{meanings_same, row_of}
 use Rattle.su_exec.proofs.Gathering.{gathered_as, gathered_from}
 use Rattle.su_exec.proofs.Keeping.{agree_at}
-use Rattle.su_reduce.proofs.Exact.{same_values}
 use Rattle.su_exec.proofs.Shaping.{shape_has, taken_is}
+use Rattle.su_tableau.proofs.Listing.{values_same}
 
 pub within_stored : (tables : List Stored) (n i : ℕ) (source : Source) (stored : List Value) → FitsTables tables n source → IsRelation (table_at tables source.relation) → slice_get (table_at tables source.relation).rows i ≡ Some stored → All (λ column. column < length stored) source.columns
 within_stored tables n i source stored fits relation at k d l =
@@ -250,7 +250,7 @@ row_edge tables olds news es row vars firsts places rows shape coded g = record 
           of_row = (p.number, slice_get_within row.sources p.number p.source p.is, get_or_from_slice_get row.sources p.number p.source p.source p.is);
           stored = p.given.stored;
           in_table = (p.given.position, slice_get_within stored p.given.position p.given.stored p.given.at, get_or_from_slice_get stored p.given.position p.given.stored p.given.stored p.given.at);
-          same = t.fits ∙ same_values u v row.cells (λ k h. agree_at u v vars e k (shape_has row.cells vars firsts places shape k h));
+          same = t.fits ∙ values_same u v row.cells (λ k h. agree_at u v vars e k (shape_has row.cells vars firsts places shape k h));
         })
         (g.only w.0 w.1),
   );

@@ -10,6 +10,7 @@ use Rattle.su_exec.specs.declared.checks.Check.{Check}
 use Rattle.su_exec.specs.declared.checks.Test.{Test}
 use Rattle.su_exec.specs.inside.Edges.{has}
 use Rattle.su_exec.specs.inside.Checks.{all_hold, all_pass, check_holds, check_vars, test_passes, vars_of}
+use Rattle.su_exec.proofs.Showing.{append_assoc}
 
 and_assoc : (a b c : Bool) → ((a && b) && c) ≡ (a && (b && c))
 and_assoc true b c = refl
@@ -40,10 +41,6 @@ hold_push values cs c v = all_push (check_holds values v) cs c
 pub pass_push : (values : List Value) (ts : List Test) (t : Test) (row other : List ℕ) → all_pass values (ts ++ t ∷ []) row other ≡ (all_pass values ts row other && test_passes values row other t)
 pass_push values ts t row other = all_push (test_passes values row other) ts t
 
-append_assoc3 : (xs ys zs : List ℕ) → (xs ++ ys) ++ zs ≡ xs ++ (ys ++ zs)
-append_assoc3 [] ys zs = refl
-append_assoc3 (x ∷ xs) ys zs = ap (λ r. x ∷ r) (append_assoc3 xs ys zs)
-
 append_none : (xs : List ℕ) → xs ++ [] ≡ xs
 append_none [] = refl
 append_none (x ∷ xs) = ap (λ r. x ∷ r) (append_none xs)
@@ -53,7 +50,7 @@ vars_push [] c = refl
 vars_push (d ∷ cs) c =
     let i = vars_push cs c in
     ap (λ r. vars_of d.left ++ (vars_of d.right ++ r)) i
-    ∙ sym (append_assoc3 (vars_of d.left) (vars_of d.right ++ check_vars cs) (check_vars (c ∷ [])) ∙ ap (λ r. vars_of d.left ++ r) (append_assoc3 (vars_of d.right) (check_vars cs) (check_vars (c ∷ []))))
+    ∙ sym (append_assoc (vars_of d.left) (vars_of d.right ++ check_vars cs) (check_vars (c ∷ [])) ∙ ap (λ r. vars_of d.left ++ r) (append_assoc (vars_of d.right) (check_vars cs) (check_vars (c ∷ []))))
 
 pub has_push : (cs : List Check) (c : Check) (k : ℕ) → has (check_vars (cs ++ c ∷ [])) k ≡ (has (check_vars cs) k || has (check_vars (c ∷ [])) k)
 has_push cs c k = ap (λ ks. has ks k) (vars_push cs c) ∙ list_any-append (λ x. nat_eq x k) (check_vars cs) (check_vars (c ∷ []))

@@ -9,7 +9,7 @@ use Rattle.su_exec.specs.inside.Edges.{Agree, Edge, Fits, FitsAll, Keeps, Splits
 use Rattle.su_reduce.specs.Sheets.{AreBelow, pick}
 use Rattle.su_exec.specs.inside.Joins.{IsReal}
 use Rattle.su_exec.specs.inside.Threes.{IsBlock}
-use Rattle.su_exec.proofs.Joining.{first_among, pick_map, second_among}
+use Rattle.su_exec.proofs.Joining.{first_among, pick_map, second_among, two as pair}
 use Rattle.su_exec.proofs.Keeping.{agree_at, agree_from}
 use Rattle.su_exec.proofs.Parts.{one_of}
 
@@ -17,9 +17,6 @@ use Rattle.su_exec.proofs.Parts.{one_of}
 
 pub fits_by : (v w : ℕ → ℕ) (ks : List ℕ) (e : Edge ℕ) → Agree ks v w → ((k : ℕ) → has e.vars k ≡ true → has ks k ≡ true) → Fits w e → Fits v e
 fits_by v w ks e same within fits = subst (λ r. Contains e.rows r) (agree_from w v e.vars (λ k h. sym (agree_at v w ks same k (within k h)))) fits
-
-pub pair : (v : ℕ → ℕ) (a b : Edge ℕ) → Fits v a → Fits v b → FitsAll v (a ∷ b ∷ [])
-pair v a b x y = All-cons (λ e. Fits v e) a (b ∷ []) x (All-cons (λ e. Fits v e) b [] y (All-nil (λ e. Fits v e)))
 
 -- what fits two edges fits their join
 pub fits_join : (a b g : Edge ℕ) (s : (ℕ → ℕ) → Bool) → ((v : ℕ → ℕ) → s v ≡ true) → Keeps g.vars (a ∷ b ∷ []) s (g ∷ []) always → (v : ℕ → ℕ) → Fits v a → Fits v b → Fits v g

@@ -14,7 +14,7 @@ use Rattle.su_exec.specs.inside.Bodies.{AreAlone, AreThere, IsGiven, IsOver, IsW
 use Rattle.su_exec.specs.inside.Checks.{all_hold, all_pass, check_vars}
 use Rattle.su_exec.specs.inside.Edges.{Edge, Fits, FitsAll, Keeps, Splits, among, always, has}
 use Rattle.su_exec.specs.inside.Joins.{IsJoinOf, IsReal, IsUpTo, test_at}
-use Rattle.su_exec.proofs.Joining.{is_test}
+use Rattle.su_exec.proofs.Joining.{is_test, first_among, second_among}
 use Rattle.su_exec.proofs.Keeping.{agree_from, and_both, and_second, fits_agree, patched, patched_in, patched_out}
 use Rattle.su_exec.proofs.Parts.{alone, one_of, put_step, shrunk, test_once, twice}
 use Rattle.su_exec.proofs.Stepping.{front_out, front_parts, has_first, has_second, hold_test, moved_back, same_body, there_step}
@@ -87,19 +87,13 @@ among_removed es i a k l e h =
     (cases_lt x.0 i))
     (cases_eq x.0 i)
 
-first_of_two : (a b : Edge ℕ) (k : ℕ) → has a.vars k ≡ true → among (a ∷ b ∷ []) k ≡ true
-first_of_two a b k h = grind (arith, h)
-
-second_of_two : (a b : Edge ℕ) (k : ℕ) → has b.vars k ≡ true → among (a ∷ b ∷ []) k ≡ true
-second_of_two a b k h = grind (arith, h)
-
 pub two_parts : (es : List (Edge ℕ)) (i j : ℕ) (a b : Edge ℕ) (fs rest : List (Edge ℕ)) → j < length es → b ≡ get_or es j b → fs ≡ remove es j → i < length fs → a ≡ get_or fs i a → rest ≡ remove fs i → (k : ℕ) → among es k ≡ true → (among (a ∷ b ∷ []) k ≡ true) ⊎ (among rest k ≡ true)
 two_parts es i j a b fs rest jl be fe il ae re k h =
     ⊎_elim
-    (λ (x : has b.vars k ≡ true). inl (second_of_two a b k x))
+    (λ (x : has b.vars k ≡ true). inl (second_among a b k x))
     (λ (x : among (remove es j) k ≡ true).
     ⊎_elim
-    (λ (y : has a.vars k ≡ true). inl (first_of_two a b k y))
+    (λ (y : has a.vars k ≡ true). inl (first_among a b k y))
     (λ (y : among (remove fs i) k ≡ true). inr (ap (λ (es : List (Edge ℕ)). among es k) re ∙ y))
     (among_removed fs i a k il ae (ap (λ (es : List (Edge ℕ)). among es k) fe ∙ x)))
     (among_removed es j b k jl be h)

@@ -103,7 +103,7 @@ word_none text c long kind front rest e t =
 
 -- ---- signs
 
-begins_none : (bs : List ℕ) → begins (λ b. false) bs ≡ false
+pub begins_none : (bs : List ℕ) → begins (λ b. false) bs ≡ false
 begins_none [] = refl
 begins_none (b ∷ bs) = refl
 

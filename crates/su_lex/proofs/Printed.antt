@@ -48,7 +48,7 @@ one_more symbols i z out o1 o2 tight tight' l at before e1 e2 t =
       tight_is = t ∙ sym (tight_push true (take i symbols) z) ∙ ap (tight_of true) (sym more);
     }
 
-doubled_push : (content : List ℕ) (b : ℕ) → doubled (content ++ b ∷ []) ≡ doubled content ++ twice b
+pub doubled_push : (content : List ℕ) (b : ℕ) → doubled (content ++ b ∷ []) ≡ doubled content ++ twice b
 doubled_push [] b = append-nil (twice b)
 doubled_push (c ∷ cs) b = ap (λ x. twice c ++ x) (doubled_push cs b) ∙ sym (append_assoc (twice c) (doubled cs) (twice b))
 

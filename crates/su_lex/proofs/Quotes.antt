@@ -16,6 +16,7 @@ use Rattle.su_lex.specs.Tokens.{twice}
 use Rattle.su_lex.specs.inside.Classes.{place_at}
 use Rattle.su_lex.specs.declared.quoting.Place.TheVariants.{Content, Close as AClose, Missing}
 use Rattle.su_lex.proofs.Fronts.{class_at-is}
+use Rattle.su_lex.proofs.Printed.{doubled_push}
 
 is_quote : ℕ → Bool
 is_quote b = b == 39
@@ -100,10 +101,6 @@ pub text_found : (text content rest behind : List ℕ) (n : ℕ) → text ≡ 39
 text_found text content rest behind n whole at ends utf8 short count =
     let same : text ≡ quoted content ++ behind = whole ∙ ap (λ x. 39 ∷ (doubled content ++ x)) at ∙ ap (λ x. 39 ∷ x) (sym (append_assoc (doubled content) (39 ∷ []) behind)) in
     (quoted content, behind, same, omega (arith, ap length whole, ap length at, length-append (doubled content) rest, length-append (doubled content) (39 ∷ [])), (refl, utf8, short, ends))
-
-doubled_push : (content : List ℕ) (b : ℕ) → doubled (content ++ b ∷ []) ≡ doubled content ++ twice b
-doubled_push [] b = append-nil (twice b)
-doubled_push (c ∷ cs) b = ap (λ x. twice c ++ x) (doubled_push cs b) ∙ sym (append_assoc (twice c) (doubled cs) (twice b))
 
 -- a text's content grows by one byte
 pub grows : (text content rest behind : List ℕ) (b : ℕ) → text ≡ 39 ∷ (doubled content ++ rest) → rest ≡ twice b ++ behind → text ≡ 39 ∷ (doubled (content ++ b ∷ []) ++ behind)

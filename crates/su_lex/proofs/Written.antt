@@ -26,6 +26,7 @@ use Rattle.su_lex.specs.declared.kinds.TokenKind.TheVariants as kind
 use Rattle.su_lex.specs.declared.signs.Sign.TheVariants as sign
 use Rattle.su_lex.proofs.Gaps.{gap_suffix}
 use Rattle.su_lex.proofs.Lists.{sliced, one_list_of_tokens}
+use Rattle.su_lex.proofs.Fronts.{begins_none}
 
 -- the symbols of a text, one after another
 abbrev pub SymbolsAt : List ℕ → List Symbol → Type 0
@@ -133,10 +134,6 @@ behind p x (y ∷ ys) no_open space close comma dot = elim (closes y) as (λ v. 
   | true ↦ λ e. rw (no_open, e) (closing p y (after y ys) e close comma dot)
   | false ↦ λ e. rw (no_open, e) space
 ] refl
-
-begins_none : (bs : List ℕ) → begins (λ b. false) bs ≡ false
-begins_none [] = refl
-begins_none (x ∷ bs) = refl
 
 -- ---- numbers
 

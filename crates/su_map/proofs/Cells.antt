@@ -9,6 +9,7 @@ use Rattle.su_tableau.specs.Tableaux.{Tab}
 use Rattle.su_map.specs.Lists.{row_of}
 use Rattle.su_map.specs.Candidates.{Cell, KeepsConstants, Agree}
 use Rattle.su_map.specs.inside.Targets.{IsFirstAt, CellFits, IsPlain, AreShared}
+use Rattle.su_tableau.proofs.Changing.{is_var}
 
 pub cell_from : (row : List Sym) (c : ℕ) (d x : Sym) → c < length row → get_or row c d ≡ x → Cell row c x
 cell_from row c d x h e = record { below = h; is = λ d'. get_or_default row c d' d h ∙ e }
@@ -50,14 +51,6 @@ first_later x xs k other c f = record {
 not_later : (x : Sym) (xs : List Sym) (k : ℕ) → (x ≡ Var k → ⊥) → (Contains xs (Var k) → ⊥) → (c : ℕ) → c < suc (length xs) → get_or (x ∷ xs) c (Var k) ≡ Var k → ⊥
 not_later x xs k other none zero l e = other e
 not_later x xs k other none (suc c) l e = none (c, omega arith, e)
-
-is_var : (x : Sym) (k : ℕ) → (x ≡ Var k) ⊎ (x ≡ Var k → ⊥)
-is_var (Const v) k = inr (λ e. cc)
-is_var (Var j) k =
-    ⊎_elim
-    (λ (same : j ≡ k). inl (ap Var same))
-    (λ (other : j ≢ k). inr (λ e. let same : j ≡ k = cc in other same))
-    (cases_eq j k)
 
 pub first_in : (row : List Sym) (k : ℕ) → ((c : ℕ) × IsFirstAt row c k) ⊎ (Contains row (Var k) → ⊥)
 first_in [] k = inr (λ h. absurd (let l = h.1 in omega arith))

@@ -12,11 +12,12 @@ use Rattle.su_tableau.specs.Mapping.{images_of, Maps}
 use Rattle.su_tableau.specs.Equivalent.{IsWithin}
 use Rattle.su_tableau.proofs.Containment.{maps_within}
 use Rattle.su_tableau.proofs.Freezing.{within_maps}
-use Rattle.su_tableau.proofs.Sets.{select-has, select-from, choose, zip-length, zip-at}
+use Rattle.su_tableau.proofs.Sets.{select-has, select-from, choose}
 use Rattle.su_map.specs.Lists.{rows_in, row_of, IsMapping}
 use Rattle.su_map.proofs.Members.{full_member}
 use Rattle.su_map.proofs.Ranks.{ranked_at, choice_by}
 use Rattle.su_map.proofs.Joining.{mapping_by}
+use Rattle.su_base.proofs.Items.{AllZip-length, AllZip-get_or}
 
 pub list_maps : (s t : Tab) (m k : ℕ) (list : List ℕ) → IsMapping s m t k list → Maps (part s m) (part t k)
 list_maps s t m k list f =
@@ -48,14 +49,14 @@ maps_list s t m k f =
     let r = select-from k t.rows (images_of f.symbols (row_of s x.number)) c in
     (r.place, (r.below, r.is_in, ap (λ n. images_of f.symbols (row_of s n)) is ∙ sym (r.is []))) in
     let c = choose R ns (recursion_from_All (λ x. (y : ℕ) × R x y) ns each) in
-    let len = zip-length R ns c.0 c.1 in (
+    let len = AllZip-length R ns c.0 c.1 in (
       c.0,
       record {
         symbols = f.symbols;
         one_each = sym len;
         head = f.head;
-        rows = λ p h. (zip-at R ns c.0 p 0 0 c.1 (omega arith)).2;
-        targets = λ p h. let r = zip-at R ns c.0 p 0 0 c.1 (omega arith) in (r.0, r.1);
+        rows = λ p h. (AllZip-get_or R ns c.0 p 0 0 c.1 (omega arith)).2;
+        targets = λ p h. let r = AllZip-get_or R ns c.0 p 0 0 c.1 (omega arith) in (r.0, r.1);
       },
     )
 

@@ -56,7 +56,7 @@ stands_start net n mask rows k begun domains choice both begins shrinks = record
 pub order_start : (n rows : ℕ) → IsInOrder n rows rows
 order_start n rows r q hr br z h = absurd (omega arith)
 
-numbers_few : (m n : ℕ) → length (numbers_of m n) ≤ n
+pub numbers_few : (m n : ℕ) → length (numbers_of m n) ≤ n
 numbers_few m zero = omega arith
 numbers_few m (suc n) =
     let i = numbers_few m n in

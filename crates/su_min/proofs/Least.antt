@@ -12,10 +12,11 @@ use Rattle.su_tableau.specs.Mapping.{image_of, images_of, Maps}
 use Rattle.su_tableau.specs.Equivalent.{IsLeast}
 use Rattle.su_tableau.proofs.Containment.{maps_compose, maps_within}
 use Rattle.su_tableau.proofs.Freezing.{within_maps}
-use Rattle.su_tableau.proofs.Sets.{sub_le, mark, mark-has, mark-sub, select-mark, select-has, select-from, choose, all_chosen, zip-length, zip-at}
+use Rattle.su_tableau.proofs.Sets.{sub_le, mark, mark-has, mark-sub, select-mark, select-has, select-from, choose, all_chosen}
 use Rattle.su_map.proofs.Containing.{part_typed}
 use Rattle.su_min.specs.Kept.{IsKept, IsLeastPart}
 use Rattle.su_min.proofs.Parts.{into_maps, maps_into, part_maps}
+use Rattle.su_base.proofs.Items.{AllZip-length, AllZip-get_or}
 
 -- a row of t in the set, to which s sends the row
 abbrev Goes : Tab → ℕ → (ℕ → Sym) → List Sym → ℕ → Type 0
@@ -34,15 +35,15 @@ least_rows t s m kept f g =
       symbols = h.symbols;
       head = h.head;
       rows = λ k d l.
-          let lt : k < length c.0 = let e = zip-length R s.rows c.0 c.1 in omega arith in
-          let r = zip-at R s.rows c.0 k d 0 c.1 l in
+          let lt : k < length c.0 = let e = AllZip-length R s.rows c.0 c.1 in omega arith in
+          let r = AllZip-get_or R s.rows c.0 k d 0 c.1 l in
           subst (Contains (select n t.rows)) (r.2 []) (select-has n t.rows (get_or c.0 k 0) [] r.0 (mark-has c.0 k 0 lt));
     } in
     let up : m ≤ n = kept.least n (maps_into t n (maps_compose t s (part t n) f to_n)) in
     let down : n ≤ m = sub_le n m (mark-sub c.0 m (all_chosen (λ n. bit_at m n ≡ 1) R (λ row n r. r.1) s.rows c.0 c.1)) in
     let same : n ≡ m = omega arith in
     let few : length (select m t.rows) ≤ length c.0 = subst (λ i. length (select i t.rows) ≤ length c.0) same (select-mark c.0 t.rows) in
-    let e = zip-length R s.rows c.0 c.1 in
+    let e = AllZip-length R s.rows c.0 c.1 in
     omega arith
 
 kept_least : (kinds : Kinds) (t : Tab) (m : ℕ) → IsTyped kinds t → IsKept t m → IsLeast kinds (part t m)

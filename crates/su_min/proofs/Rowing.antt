@@ -6,13 +6,13 @@ use Rattle.std.proofs.lemmas.List.FromFn.{length-range_with_len, get_or-range_wi
 use Rattle.std.proofs.lemmas.List.{get_or_append_left, get_or_default, length-append}
 use Rattle.std.proofs.Math.Seq.{get_or-append_seam}
 use Rattle.su_tableau.specs.Tableaux.{Tab, AreVarsBelow}
-use Rattle.su_tableau.proofs.Sets.{zip-length, zip-at}
 use Rattle.su_map.specs.Rooms.{Space, IsRoomFor, HasSizesOf}
 use borrow.Author.Count.{below_more}
 use Rattle.su_min.specs.Kept.{Minimised}
 use Rattle.su_min.specs.Cover.{Covers}
 use Rattle.su_min.specs.Reduction.{term_at}
 use Rattle.su_min.specs.inside.Matrix.{IsRowOf, IsMatrix, AreMarks}
+use Rattle.su_base.proofs.Items.{AllZip-length, AllZip-get_or}
 
 pub room_same : (t : Tab) (old new : Space) → IsRoomFor t old → HasSizesOf old new → IsRoomFor t new
 room_same t old new r s = record {
@@ -73,10 +73,10 @@ rows_matrix terms rows zip =
     let places = range_with_len 0 (length terms) in
     let count = length-range_with_len 0 (length terms) in
     record {
-      rows = sym (zip-length R places rows zip) ∙ count;
+      rows = sym (AllZip-length R places rows zip) ∙ count;
       row = λ j h.
           let zero_more : 0 + j ≡ j = omega arith in
-          subst (λ i. R i (get_or rows j [])) (get_or-range_with_len 0 (length terms) j 0 h ∙ zero_more) (zip-at R places rows j 0 [] zip (omega arith));
+          subst (λ i. R i (get_or rows j [])) (get_or-range_with_len 0 (length terms) j 0 h ∙ zero_more) (AllZip-get_or R places rows j 0 [] zip (omega arith));
     }
 
 -- ---- what collecting into a result gives

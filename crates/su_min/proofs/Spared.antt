@@ -10,7 +10,7 @@ use Rattle.su_tableau.specs.Equivalent.{IsEquivalent}
 use Rattle.su_tableau.specs.Freezing.{frozen_head, frozen_rows, tab_top}
 use Rattle.su_tableau.proofs.Containment.{maps_compose, maps_within}
 use Rattle.su_tableau.proofs.Freezing.{frozen_typed, frozen_answer, frozen_maps, within_maps}
-use Rattle.su_tableau.proofs.Sets.{choose, zip-at}
+use Rattle.su_tableau.proofs.Sets.{choose}
 use Rattle.su_map.proofs.Containing.{list_maps, maps_list}
 use Rattle.su_min.specs.Kept.{Minimised, IsMinimised}
 use Rattle.su_min.specs.Cover.{AreAlike, Covers}
@@ -21,6 +21,7 @@ use Rattle.su_min.proofs.Parts.{part_maps, into_maps}
 use Rattle.su_min.proofs.Covering.{alike_back, alike_through}
 use Rattle.su_min.proofs.KeptTerms.{kept_back}
 use Rattle.su_base.proofs.Numbers.{pigeonhole}
+use Rattle.su_base.proofs.Items.{AllZip-get_or}
 
 -- ---- a bound on all constants
 
@@ -138,7 +139,7 @@ module _ (terms : List Minimised) (all_minimised : All IsMinimised terms) (r : R
             },
           ) in
           let ch = choose Stands numbers (recursion_from_All (λ i. (l : ℕ) × Stands i l) numbers each) in
-          let at : (a : ℕ) → a < length numbers → Stands (get_or numbers a 0) (get_or ch.0 a 0) = λ a h. zip-at Stands numbers ch.0 a 0 0 ch.1 h in
+          let at : (a : ℕ) → a < length numbers → Stands (get_or numbers a 0) (get_or ch.0 a 0) = λ a h. AllZip-get_or Stands numbers ch.0 a 0 0 ch.1 h in
           pigeonhole (length tableaux) (length numbers) (λ a. get_or ch.0 a 0) (λ a h. (at a h).below)
           (λ a b lt h e.
           let la : a < length numbers = omega arith in

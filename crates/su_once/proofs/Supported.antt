@@ -27,6 +27,7 @@ use Rattle.su_once.proofs.Closed.{same_test, one_set}
 use Rattle.su_once.proofs.Counted.{no_longer}
 use Rattle.su_once.proofs.Lists.{ascends_from}
 use Rattle.su_once.proofs.Options.{same_some}
+use Rattle.su_answer.proofs.Few.{same_columns}
 
 -- as many lists have a property as have one that is the same
 module _ (P Q : List Value → Type 0) (f : (h : List Value) → P h → Q h) (g : (h : List Value) → Q h → P h) (m n : ℕ) (x : IsCountOf P m) (y : IsCountOf Q n) where
@@ -53,16 +54,6 @@ all_turned [] [] h = tt
 all_turned [] (q ∷ qs) h = absurd h
 all_turned (r ∷ rs) [] h = absurd h
 all_turned (r ∷ rs) (q ∷ qs) h = (turned r q h.0, all_turned rs qs h.1)
-
-same_columns : (xs ys : List ℕ) → map Some xs ≡ map Some ys → xs ≡ ys
-same_columns [] [] e = refl
-same_columns [] (y ∷ ys) e = absurd (cc)
-same_columns (x ∷ xs) [] e = absurd (cc)
-same_columns (x ∷ xs) (y ∷ ys) e =
-    let first : x ≡ y = cc in
-    let more : map Some xs ≡ map Some ys = cc in
-    let rest = same_columns xs ys more in
-    λ i. first i ∷ rest i
 
 same_source : (schema : SchemaValue) (attributes : List ℕ) (o : ℕ) (s u : Source) → IsSourceOf schema attributes o s → IsSourceOf schema attributes o u → u ≡ s
 same_source schema attributes o s u h k =

@@ -13,11 +13,10 @@ use Rattle.su_fd.specs.declared.dependencies.Fd.{Fd}
 use Rattle.su_rel.specs.Stored.{Stored}
 use Rattle.su_tableau.specs.declared.symbols.Sym.{Sym}
 use Rattle.su_tableau.specs.declared.symbols.Sym.TheVariants.{Const, Var}
-use Rattle.su_tableau.proofs.Containment.{map_twice}
 use Rattle.su_classes.proofs.Listed.{map_same}
 use Rattle.su_chase.specs.Chase.{SameLabels, IsClosed, InOneClass, IsClash}
 use Rattle.std.proofs.lemmas.List.{get_or-map as map_at}
-use Rattle.su_base.proofs.Items.{Contains-map as contains_map, Contains-range, Contains-range_below}
+use Rattle.su_base.proofs.Items.{Contains-map as contains_map, Contains-range, Contains-range_below, map-map_equal}
 use Rattle.su_base.proofs.Items.{Contains-map_source as of_map}
 use Rattle.su_schema.specs.SchemaValue.{SchemaValue, ObjectEntry, attributes_of}
 use Rattle.su_state.specs.DatabaseValue.{DatabaseValue, rows_of, rows_in}
@@ -163,7 +162,7 @@ module _ (schema : SchemaValue) (left right : List Stored) (rows : (r : ℕ) (ro
 
       row_moves : map move (padded_row from i x) ≡ padded_row to (other i) y
       row_moves =
-          map_twice (padded from i x) move (λ c. move (padded from i x c)) (λ c. refl) (range_with_len 0 n)
+          map-map_equal (padded from i x) move (λ c. move (padded from i x c)) (λ c. refl) (range_with_len 0 n)
           ∙ map_same (λ c. move (padded from i x c)) (padded to (other i) y) (range_with_len 0 n) (λ c there. same_cell c (Contains-range_below n c there))
 
     row_of : (r : List Sym) → Contains (padded_rows from mine) r → Contains (padded_rows to others) (map move r) × (length r ≡ n)

@@ -13,6 +13,7 @@ use Rattle.su_reduce.specs.Ears.{cells_of, HasVar, Share}
 use Rattle.su_reduce.specs.Left.{cells_at, candidates_at}
 use Rattle.su_reduce.specs.inside.Marks.{IsMarked, marks_at, mark, candidate_at, HasPartner, IsSemijoin}
 use Rattle.su_reduce.specs.inside.Reduced.{GivesMarked, HasChosen, TakesPart, AreExact}
+use Rattle.su_tableau.proofs.Listing.{values_same}
 
 -- ---- valuations
 
@@ -26,7 +27,7 @@ has (Var j ∷ cells) k = cond (nat_eq j k) true (has cells k)
 abbrev pub patched : List Sym → (ℕ → Value) → (ℕ → Value) → ℕ → Value
 patched cells u v k = cond (has cells k) (u k) (v k)
 
-no_variable : (d : Value) (k : ℕ) → Const d ≡ Var k → ⊥
+pub no_variable : (d : Value) (k : ℕ) → Const d ≡ Var k → ⊥
 no_variable d k e = cc
 
 has_yes : (cells : List Sym) (k : ℕ) → Contains cells (Var k) → has cells k ≡ true
@@ -51,14 +52,6 @@ has_there (Var j ∷ cells) k h =
     (λ (ne : j ≡ k → ⊥). let rest : has cells k ≡ true = grind (arith, nat_tests, h, ne) in Contains-later (Var j) cells (Var k) (has_there cells k rest))
     (cases_eq j k)
 
--- valuations that agree on the variables of the cells give them the same values
-pub same_values : (u v : ℕ → Value) (cells : List Sym) → ((k : ℕ) → Contains cells (Var k) → u k ≡ v k) → values_of u cells ≡ values_of v cells
-same_values u v [] agree = refl
-same_values u v (Const d ∷ cells) agree = ap (λ (xs : List Value). d ∷ xs) (same_values u v cells (λ k c. agree k (Contains-later (Const d) cells (Var k) c)))
-same_values u v (Var j ∷ cells) agree =
-    ap (λ (x : Value). x ∷ values_of u cells) (agree j (Contains-head (Var j) cells))
-    ∙ ap (λ (xs : List Value). v j ∷ xs) (same_values u v cells (λ k c. agree k (Contains-later (Var j) cells (Var k) c)))
-
 -- and the other way round
 agree_at : (u v : ℕ → Value) (cells : List Sym) (k : ℕ) → values_of u cells ≡ values_of v cells → Contains cells (Var k) → u k ≡ v k
 agree_at u v [] k same c = absurd (Contains-nil (Var k) c)
@@ -69,11 +62,11 @@ agree_at u v (x ∷ cells) k same c =
     (Contains-cases x cells (Var k) c)
 
 pub patched_own : (cells : List Sym) (u v : ℕ → Value) → values_of (patched cells u v) cells ≡ values_of u cells
-patched_own cells u v = same_values (patched cells u v) u cells (λ k c. ap (λ b. cond b (u k) (v k)) (has_yes cells k c))
+patched_own cells u v = values_same (patched cells u v) u cells (λ k c. ap (λ b. cond b (u k) (v k)) (has_yes cells k c))
 
 -- where u and v agree on what the two share, the others keep their values
 pub patched_others : (cells others : List Sym) (u v : ℕ → Value) → ((k : ℕ) → Contains cells (Var k) → Contains others (Var k) → u k ≡ v k) → values_of (patched cells u v) others ≡ values_of v others
-patched_others cells others u v agree = same_values (patched cells u v) v others (λ k c.
+patched_others cells others u v agree = values_same (patched cells u v) v others (λ k c.
     ⊎_elim
     (λ (yes : has cells k ≡ true). ap (λ b. cond b (u k) (v k)) yes ∙ agree k (has_there cells k yes) c)
     (λ (no : has cells k ≡ false). ap (λ b. cond b (u k) (v k)) no)

@@ -13,9 +13,7 @@ use Rattle.su_tableau.specs.Tableaux.{value_of, values_of}
 use Rattle.su_reduce.specs.Shapes.{cell_at, place_of, AreFirsts}
 use Rattle.su_reduce.specs.inside.Keys.{value_at, assigned, IsPair, AreShared}
 use Rattle.su_reduce.proofs.Meeting.{pushed_each, pushed_length}
-
-no_variable : (d : Value) (k : ℕ) → Const d ≡ Var k → ⊥
-no_variable d k e = cc
+use Rattle.su_reduce.proofs.Exact.{no_variable}
 
 -- the first cell that holds the variable is at its place
 pub place_is : (cells : List Sym) (k n : ℕ) → ((i : ℕ) → i < n → cell_at cells i ≡ Var k → ⊥) → n < length cells → cell_at cells n ≡ Var k → place_of cells k ≡ n

@@ -8,13 +8,11 @@ use Rattle.su_tableau.specs.declared.symbols.Sym.TheVariants.{Var}
 use Rattle.su_reduce.specs.Ears.{HasVar, IsParent}
 use Rattle.su_reduce.specs.Shapes.{cell_at}
 use Rattle.su_reduce.specs.inside.Partners.{In, AreSets, IsParentBy}
+use Rattle.su_reduce.proofs.Placing.{contains_at}
 
 -- a cell that has the variable
 cell_with : (cells : List Sym) (k : ℕ) → Contains cells (Var k) → (c : ℕ) × (c < length cells) × (cell_at cells c ≡ Var k)
 cell_with cells k (c, l, e) = (c, l, get_or_default cells c (Var 0) (Var k) l ∙ e)
-
-has_cell : (cells : List Sym) (c k : ℕ) → c < length cells → cell_at cells c ≡ Var k → Contains cells (Var k)
-has_cell cells c k l e = (c, l, get_or_default cells c (Var k) (Var 0) l ∙ e)
 
 pub same_var : (j k : ℕ) → Var j ≡ Var k → j ≡ k
 same_var j k e = cc
@@ -36,10 +34,10 @@ parent_from edges e sets others t (Some p) h = (
 pub parent_by : (edges : List (List Sym)) (e : ℕ) (sets : List (FinSet nat_cmp)) (others : FinSet nat_cmp) → AreSets edges (get_or edges e []) sets → (parent : Option ℕ) → IsParent edges e (In others) parent → IsParentBy sets others parent
 parent_by edges e sets others t None h = λ c j l o i.
     let touched = (t.each c l j).0 i in
-    h j touched.0 o (has_cell (get_or edges e []) c touched.0 (omega (arith, t.same_length, l)) touched.1, touched.2)
+    h j touched.0 o (contains_at (get_or edges e []) c touched.0 (omega (arith, t.same_length, l)) touched.1, touched.2)
 parent_by edges e sets others t (Some p) h = (
   h.0,
   λ c j l o i.
       let touched = (t.each c l j).0 i in
-      (t.each c l p).1 (touched.0, touched.1, h.1 j touched.0 o (has_cell (get_or edges e []) c touched.0 (omega (arith, t.same_length, l)) touched.1, touched.2)),
+      (t.each c l p).1 (touched.0, touched.1, h.1 j touched.0 o (contains_at (get_or edges e []) c touched.0 (omega (arith, t.same_length, l)) touched.1, touched.2)),
 )

@@ -5,8 +5,7 @@ use Rattle.std.specs.List.{AllZip, sum_by}
 use Rattle.std.proofs.lemmas.Bool.{cases_lt}
 use Rattle.std.proofs.lemmas.List.{get_or_default, length-take-le, get_or-take, take_more}
 use Rattle.std.proofs.lemmas.List.Sums.{sum_by_push}
-use Rattle.su_base.proofs.Items.{AllZip-push}
-use Rattle.su_tableau.proofs.Sets.{zip-at, zip-length}
+use Rattle.su_base.proofs.Items.{AllZip-push, AllZip-length, AllZip-get_or}
 use Rattle.su_map.specs.Lists.{numbers_of, rows_in}
 use Rattle.su_map.proofs.Ranks.{rank_in, rank_at, ranked_at, numbers-more}
 use Rattle.su_check.specs.declared.nodes.Node.{Node}
@@ -41,11 +40,11 @@ trees_kept t m row old new none is zip =
 front_over : {A B : Type 0} (R : A → B → Type 0) (f : B → ℕ) (front xs : List A) (ys zs : List B) (a : A) (d : A) (e : B) (unused : ℕ) → ((x : A) (y z : B) → R x y → R x z → f y ≡ f z) → length front < length xs → ((k : ℕ) → k < length front → get_or front k d ≡ get_or xs k d)
     → get_or xs (length front) d ≡ a → ((z : B) → R a z → unused < f z) → AllZip R front ys → AllZip R xs zs → unused + sum_by f ys < sum_by f zs
 front_over R f front xs ys zs a d e unused one low same next deeper hy hz =
-    let ly = zip-length R front ys hy in let lz = zip-length R xs zs hz in
+    let ly = AllZip-length R front ys hy in let lz = AllZip-length R xs zs hz in
     let sums = sums_front f ys zs e (omega arith) (λ k hk.
     let kf : k < length front = omega arith in
-    one (get_or xs k d) (get_or ys k e) (get_or zs k e) (subst (λ x. R x (get_or ys k e)) (same k kf) (zip-at R front ys k d e hy kf)) (zip-at R xs zs k d e hz (omega arith))) in
-    let here : R a (get_or zs (length front) e) = subst (λ x. R x (get_or zs (length front) e)) next (zip-at R xs zs (length front) d e hz low) in
+    one (get_or xs k d) (get_or ys k e) (get_or zs k e) (subst (λ x. R x (get_or ys k e)) (same k kf) (AllZip-get_or R front ys k d e hy kf)) (AllZip-get_or R xs zs k d e hz (omega arith))) in
+    let here : R a (get_or zs (length front) e) = subst (λ x. R x (get_or zs (length front) e)) next (AllZip-get_or R xs zs (length front) d e hz low) in
     let more = deeper (get_or zs (length front) e) here in
     let at = ap (λ k. f (get_or zs k e)) ly in
     omega arith
@@ -57,7 +56,7 @@ some_item (x ∷ xs) h = x
 pub trees_over : (t : Lines) (m n row unused budget : ℕ) (trees others : List Node) → row < n → bit_at m row ≡ 1 → AllZip (IsTree t) (numbers_of m row) trees → unused + nodes_in trees ≡ budget → ((z : Node) → IsTree t row z → unused < node_count z) → AllZip (IsTree t) (numbers_of m n) others → budget < nodes_in others
 trees_over t m n row unused budget trees others low one zip counted deeper all =
     let h = rank_in m n row low one in
-    let l = zip-length (IsTree t) (numbers_of m n) others all in
+    let l = AllZip-length (IsTree t) (numbers_of m n) others all in
     let over =
     front_over (IsTree t) node_count (numbers_of m row) (numbers_of m n) trees others row 0 (some_item others (omega arith)) unused (λ r y z ty tz. ap node_count (one_tree t r y [] ty z tz)) h
     (λ k hk. let r = ranked_at m row k hk in let b = r.below in r.is ∙ sym (rank_at m n r.number (omega arith) r.member) ∙ ap (λ k. get_or (numbers_of m n) k 0) r.ranked)

@@ -4,7 +4,8 @@ use Rattle.std.specs.List.{range_with_len}
 use Rattle.su_show.specs.Lines.{AreLines, Adds}
 use Rattle.std.specs.Int.{bit_at}
 use Rattle.su_map.specs.Lists.{numbers_of}
-use Rattle.su_show.proofs.Numbers.{range_more, keep_if-in, keep_if-out, numbers_of-more}
+use Rattle.su_show.proofs.Numbers.{keep_if-in, keep_if-out, numbers_of-more}
+use Rattle.su_base.proofs.Items.{range-push_zero}
 
 lines-append_one : {A : Type 0} (P : A → List ℕ → Type 0) (xs : List A) (x : A) (text line : List ℕ) → AreLines P xs text → P x line → AreLines P (xs ++ x ∷ []) (text ++ line)
 lines-append_one P [] x text line e p = (line, [], ap (λ t. t ++ line) e ∙ sym (append-nil line), p, refl)
@@ -25,7 +26,7 @@ adds_one P xs x old mid new before line =
 -- the line of the next number
 pub adds_next : (P : ℕ → List ℕ → Type 0) (n : ℕ) (old mid new : List ℕ) → Adds (AreLines P (range_with_len 0 n)) old mid → Adds (P n) mid new → Adds (AreLines P (range_with_len 0 (n + 1))) old new
 adds_next P n old mid new before line =
-    subst (λ (ns : List ℕ). Adds (AreLines P ns) old new) (sym (range_more n)) (adds_one P (range_with_len 0 n) n old mid new before line)
+    subst (λ (ns : List ℕ). Adds (AreLines P ns) old new) (sym (range-push_zero n)) (adds_one P (range_with_len 0 n) n old mid new before line)
 
 -- the line of a row that is in the mask, and none of one that isn't
 module _ (P : ℕ → List ℕ → Type 0) (m r : ℕ) (old mid new : List ℕ) (before : Adds (AreLines P (numbers_of m r)) old mid) where

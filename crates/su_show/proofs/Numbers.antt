@@ -8,13 +8,11 @@ use Rattle.std.proofs.lemmas.List.Elements.{filter-append}
 use Rattle.std.proofs.lemmas.Nat.Bits.{bit_at-lt}
 use Rattle.su_tableau.specs.Parts.{keep_if}
 use Rattle.su_map.specs.Lists.{numbers_of}
+use Rattle.su_base.proofs.Items.{range-push_zero}
 
 range-from : (a n : ℕ) → range_with_len a (suc n) ≡ range_with_len a n ++ (a + n) ∷ []
 range-from a zero = ap (λ k. k ∷ []) (let e : a ≡ a + 0 = omega arith in e)
 range-from a (suc n) = ap (λ ks. a ∷ ks) (range-from (a + 1) n ∙ ap (λ k. range_with_len (a + 1) n ++ k ∷ []) (let e : (a + 1) + n ≡ a + suc n = omega arith in e))
-
-pub range_more : (n : ℕ) → range_with_len 0 (n + 1) ≡ range_with_len 0 n ++ n ∷ []
-range_more n = ap (range_with_len 0) (let e : n + 1 ≡ suc n = omega arith in e) ∙ range-from 0 n ∙ ap (λ k. range_with_len 0 n ++ k ∷ []) (let e : 0 + n ≡ n = omega arith in e)
 
 -- a row that is in the mask, and one that isn't
 pub keep_if-in : (m r : ℕ) → bit_at m r ≡ 1 → keep_if (bit_at m r) r [] ≡ r ∷ []
@@ -34,7 +32,7 @@ module _ (f : ℕ → List ℕ) (p : ℕ → Bool) (n : ℕ) (old mid new : List
   all_of = filter p (range_with_len 0 n)
 
   filter_more : filter p (range_with_len 0 (n + 1)) ≡ all_of ++ cond (p n) (n ∷ []) []
-  filter_more = ap (filter p) (range_more n) ∙ filter-append p (range_with_len 0 n) (n ∷ [])
+  filter_more = ap (filter p) (range-push_zero n) ∙ filter-append p (range_with_len 0 n) (n ∷ [])
 
   pub text-in : p n ≡ true → new ≡ mid ++ f n → new ≡ old ++ flat_map f (filter p (range_with_len 0 (n + 1)))
   text-in has e =
@@ -50,5 +48,5 @@ module _ (f : ℕ → List ℕ) (p : ℕ → Bool) (n : ℕ) (old mid new : List
 pub text-next : (f : ℕ → List ℕ) (n : ℕ) (old mid new : List ℕ) → mid ≡ old ++ flat_map f (range_with_len 0 n) → new ≡ mid ++ f n → new ≡ old ++ flat_map f (range_with_len 0 (n + 1))
 text-next f n old mid new before e =
     let more : flat_map f (range_with_len 0 (n + 1)) ≡ flat_map f (range_with_len 0 n) ++ f n =
-    ap (flat_map f) (range_more n) ∙ flat_map-append f (range_with_len 0 n) (n ∷ []) ∙ ap (λ t. flat_map f (range_with_len 0 n) ++ t) (append-nil (f n)) in
+    ap (flat_map f) (range-push_zero n) ∙ flat_map-append f (range_with_len 0 n) (n ∷ []) ∙ ap (λ t. flat_map f (range_with_len 0 n) ++ t) (append-nil (f n)) in
     e ∙ ap (λ t. t ++ f n) before ∙ append_assoc old (flat_map f (range_with_len 0 n)) (f n) ∙ ap (λ t. old ++ t) (sym more)

@@ -3,7 +3,8 @@ use Rattle.std.proofs.Common.{◌≡◌, ℕ, ◌+◌, List, [], ◌∷◌, ◌+
 use Rattle.std.specs.List.{range_with_len}
 use Rattle.std.proofs.lemmas.Grind.{flat_map-append}
 use Rattle.std.proofs.lemmas.List.FromFn.{map-range_with_len_more}
-use Rattle.su_show.proofs.Numbers.{range_more}
+use Rattle.su_base.proofs.Items.{range-push_zero}
+
 
 -- the image of the next number
 pub images_next : {X : Type 0} (f : ℕ → X) (i : ℕ) (x : X) (before after : List X) → before ≡ map f (range_with_len 0 i) → after ≡ before ++ x ∷ [] → x ≡ f i → after ≡ map f (range_with_len 0 (i + 1))
@@ -17,7 +18,7 @@ images_behind {X} f i x old before after so e is =
 -- the images of the next number, which are lists
 pub flat_next : {X : Type 0} (f : ℕ → List X) (i : ℕ) (before after : List X) → before ≡ flat_map f (range_with_len 0 i) → after ≡ before ++ f i → after ≡ flat_map f (range_with_len 0 (i + 1))
 flat_next {X} f i before after so e =
-    let more : flat_map f (range_with_len 0 (i + 1)) ≡ flat_map f (range_with_len 0 i) ++ f i = ap (flat_map f) (range_more i) ∙ flat_map-append f (range_with_len 0 i) (i ∷ []) ∙ ap (λ (t : List X). flat_map f (range_with_len 0 i) ++ t) (append-nil (f i)) in
+    let more : flat_map f (range_with_len 0 (i + 1)) ≡ flat_map f (range_with_len 0 i) ++ f i = ap (flat_map f) (range-push_zero i) ∙ flat_map-append f (range_with_len 0 i) (i ∷ []) ∙ ap (λ (t : List X). flat_map f (range_with_len 0 i) ++ t) (append-nil (f i)) in
     e ∙ ap (λ (t : List X). t ++ f i) so ∙ sym more
 
 -- five parts behind others

@@ -68,7 +68,7 @@ outcome_is w op (Var p) (Var q) h = ap (holds_in op) (sym (ap (λ k. compare_val
 
 -- ---- the values of a valuation are a closed partition
 
-const_same : (a b : Value) → Const a ≡ Const b → a ≡ b
+pub const_same : (a b : Value) → Const a ≡ Const b → a ≡ b
 const_same a b h = cc
 
 equal_values : (op : Op) (x y : Value) → compares op x y ≡ true → op ≡ Equal → x ≡ y

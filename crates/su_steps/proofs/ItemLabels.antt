@@ -28,6 +28,7 @@ use Rattle.su_steps.specs.Classes.{Compared, pair, SameLabels, IsClosed, InClass
 use Rattle.su_steps.specs.Terms.{EvaluatesFalse, IsContradictory}
 use Rattle.su_steps.specs.inside.Numbers.{is_equality, equals, placed_of}
 use Rattle.su_steps.proofs.Raw.{AreWithin}
+use Rattle.su_steps.proofs.ClassNames.{const_same}
 
 -- ---- the equalities
 
@@ -198,14 +199,11 @@ module _ (schema : SchemaValue) (vs : List Value) (limit : ℕ) (os : List Origi
 
 -- ---- contradictions
 
-same_const : (a b : Value) → Const a ≡ Const b → a ≡ b
-same_const a b h = cc
-
 module _ (schema : SchemaValue) (os : List Origin) (d : List Compared) (name : Sym → Sym) (naming : IsNaming schema os d name) where
   -- two constants with different names of their own are in different classes
   pub no_clash : ((a : Value) → name (Const a) ≡ Const a) → ((c : Compared) → Contains d c → ¬ EvaluatesFalse name c) → ¬ IsContradictory schema os d name
   no_clash own none bad =
       ⊎_elim
-      (λ (b : (a : Value) × (c : Value) × (a ≢ c) × InClass schema os d (Const a) (Const c)). b.2 (same_const b.0 b.1 (sym (own b.0) ∙ naming.one_name (Const b.0) (Const b.1) b.3 ∙ own b.1)))
+      (λ (b : (a : Value) × (c : Value) × (a ≢ c) × InClass schema os d (Const a) (Const c)). b.2 (const_same b.0 b.1 (sym (own b.0) ∙ naming.one_name (Const b.0) (Const b.1) b.3 ∙ own b.1)))
       (λ (b : (c : Compared) × Contains d c × EvaluatesFalse name c). none b.0 b.1 b.2)
       bad

@@ -20,7 +20,7 @@ pub record InRow (row : List Sym) (k : ℕ) : Type 0 where
   pub below : column < length row
   pub is : (d : Sym) → get_or row column d ≡ Var k
 
-is_var : (x : Sym) (k : ℕ) → (x ≡ Var k) ⊎ (x ≡ Var k → ⊥)
+pub is_var : (x : Sym) (k : ℕ) → (x ≡ Var k) ⊎ (x ≡ Var k → ⊥)
 is_var (Const v) k = inr (λ e. cc)
 is_var (Var j) k =
     ⊎_elim

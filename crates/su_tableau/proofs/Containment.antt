@@ -9,19 +9,15 @@ use Rattle.su_tableau.specs.Kinds.{Kinds}
 use Rattle.su_tableau.specs.Mapping.{image_of, images_of, Maps}
 use Rattle.su_tableau.specs.Equivalent.{IsWithin}
 use Rattle.su_tableau.proofs.Listing.{by_list, from_list}
+use Rattle.su_base.proofs.Items.{map-map_equal}
 
 -- ---- composing
 
--- a map after a map, where one map at each element does both
-pub map_twice : {A B C : Type 0} (f : A → B) (g : B → C) (h : A → C) → ((x : A) → g (f x) ≡ h x) → (xs : List A) → map g (map f xs) ≡ map h xs
-map_twice f g h e [] = refl
-map_twice f g h e (x ∷ xs) = let i = map_twice f g h e xs in let j = e x in cc
-
 values_after : (v : ℕ → Value) (s : ℕ → Sym) (xs : List Sym) → values_of v (images_of s xs) ≡ values_of (λ k. value_of v (s k)) xs
-values_after v s xs = map_twice (image_of s) (value_of v) (value_of (λ k. value_of v (s k))) (elim [ Const c ↦ refl | Var k ↦ refl ]) xs
+values_after v s xs = map-map_equal (image_of s) (value_of v) (value_of (λ k. value_of v (s k))) (elim [ Const c ↦ refl | Var k ↦ refl ]) xs
 
-images_after : (s t : ℕ → Sym) (xs : List Sym) → images_of t (images_of s xs) ≡ images_of (λ k. image_of t (s k)) xs
-images_after s t xs = map_twice (image_of s) (image_of t) (image_of (λ k. image_of t (s k))) (elim [ Const c ↦ refl | Var k ↦ refl ]) xs
+pub images_after : (s t : ℕ → Sym) (xs : List Sym) → images_of t (images_of s xs) ≡ images_of (λ k. image_of t (s k)) xs
+images_after s t xs = map-map_equal (image_of s) (image_of t) (image_of (λ k. image_of t (s k))) (elim [ Const c ↦ refl | Var k ↦ refl ]) xs
 
 pub maps_compose : (r s t : Tab) → Maps r s → Maps s t → Maps r t
 maps_compose r s t f g = record {

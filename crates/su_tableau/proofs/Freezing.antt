@@ -15,11 +15,12 @@ use Rattle.su_tableau.specs.Mapping.{image_of, images_of, Maps}
 use Rattle.su_tableau.specs.Equivalent.{IsWithin}
 use Rattle.su_tableau.specs.Freezing.{size, new_value, frozen, frozen_head, frozen_rows, top, row_top, rows_top, tab_top}
 use Rattle.su_tableau.proofs.Listing.{by_list, from_list}
-use Rattle.su_tableau.proofs.Containment.{map_twice}
+use Rattle.su_base.proofs.Items.{map-map_equal}
+
 
 -- ---- new values
 
-size-new_value : (k : Kind) (n : ℕ) → size (new_value k n) ≡ n
+pub size-new_value : (k : Kind) (n : ℕ) → size (new_value k n) ≡ n
 size-new_value IntKind n = refl
 size-new_value TextKind n = length-replicate n 0
 
@@ -68,7 +69,7 @@ images_thawed v n (x ∷ xs) h =
     cc
 
 kinds_frozen : (f : ℕ → Kind) (n : ℕ) (xs : List Sym) → map kind_of (values_of (frozen f n) xs) ≡ map (sym_kind f) xs
-kinds_frozen f n xs = map_twice (value_of (frozen f n)) kind_of (sym_kind f) (elim [ Const c ↦ refl | Var k ↦ kind-new_value (f k) (n + k) ]) xs
+kinds_frozen f n xs = map-map_equal (value_of (frozen f n)) kind_of (sym_kind f) (elim [ Const c ↦ refl | Var k ↦ kind-new_value (f k) (n + k) ]) xs
 
 -- ---- the theorem
 

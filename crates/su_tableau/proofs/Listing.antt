@@ -36,7 +36,7 @@ firsts-at v (suc n) k d h =
 contains_later : (x y : Sym) (xs : List Sym) → Contains xs y → Contains (x ∷ xs) y
 contains_later x y xs c = (suc c.0, omega (arith, c.1), c.2)
 
-values_same : (v w : ℕ → Value) (xs : List Sym) → ((k : ℕ) → Contains xs (Var k) → v k ≡ w k) → values_of v xs ≡ values_of w xs
+pub values_same : (v w : ℕ → Value) (xs : List Sym) → ((k : ℕ) → Contains xs (Var k) → v k ≡ w k) → values_of v xs ≡ values_of w xs
 values_same v w [] h = refl
 values_same v w (Const c ∷ xs) h = let i = values_same v w xs (λ k l. h k (contains_later (Const c) (Var k) xs l)) in cc
 values_same v w (Var k ∷ xs) h =

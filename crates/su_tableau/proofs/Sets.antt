@@ -146,15 +146,3 @@ all_chosen P R f [] [] h = tt
 all_chosen P R f [] (n ∷ ns) h = absurd h
 all_chosen P R f (x ∷ xs) [] h = absurd h
 all_chosen P R f (x ∷ xs) (n ∷ ns) h = (f x n h.0, all_chosen P R f xs ns h.1)
-
-pub zip-length : {A B : Type 0} (R : A → B → Type 0) (xs : List A) (ys : List B) → AllZip R xs ys → length xs ≡ length ys
-zip-length R [] [] h = refl
-zip-length R [] (y ∷ ys) h = absurd h
-zip-length R (x ∷ xs) [] h = absurd h
-zip-length R (x ∷ xs) (y ∷ ys) h = ap suc (zip-length R xs ys h.1)
-
-pub zip-at : {A B : Type 0} (R : A → B → Type 0) (xs : List A) (ys : List B) (k : ℕ) (d : A) (e : B) → AllZip R xs ys → k < length xs → R (get_or xs k d) (get_or ys k e)
-zip-at R [] ys k d e h l = absurd (omega arith)
-zip-at R (x ∷ xs) [] k d e h l = absurd h
-zip-at R (x ∷ xs) (y ∷ ys) zero d e h l = h.0
-zip-at R (x ∷ xs) (y ∷ ys) (suc k) d e h l = zip-at R xs ys k d e h.1 (omega arith)

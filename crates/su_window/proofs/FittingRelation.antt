@@ -10,15 +10,14 @@ use Rattle.su_base.specs.declared.values.Kind.{Kind}
 use Rattle.su_base.specs.declared.values.Kind.TheVariants.{Int as IntKind, Text as TextKind}
 use Rattle.su_base.specs.declared.values.Value.{Value}
 use Rattle.su_base.specs.declared.values.Value.TheVariants.{Int}
-use Rattle.su_base.proofs.Items.{Contains-map, Contains-map_source, All-members, get_or-map_range}
+use Rattle.su_base.proofs.Items.{Contains-map, Contains-map_source, All-members, get_or-map_range, map-map_equal}
 use Rattle.su_fd.specs.declared.dependencies.Fd.{Fd}
 use Rattle.su_tableau.specs.declared.symbols.Sym.{Sym}
 use Rattle.su_tableau.specs.declared.symbols.Sym.TheVariants.{Const, Var}
 use Rattle.su_tableau.specs.Tableaux.{value_of, values_of}
 use Rattle.su_tableau.specs.Kinds.{IsTyped}
 use Rattle.su_tableau.specs.Freezing.{size, new_value, frozen, top, row_top, rows_top}
-use Rattle.su_tableau.proofs.Freezing.{frozen_typed}
-use Rattle.su_tableau.proofs.Containment.{map_twice}
+use Rattle.su_tableau.proofs.Freezing.{frozen_typed, size-new_value}
 use Rattle.su_classes.proofs.Listed.{map_same}
 use Rattle.su_schema.specs.SchemaValue.{ObjectEntry, attribute_kinds}
 use Rattle.su_state.specs.DatabaseValue.{DatabaseValue, IsWellKept}
@@ -41,10 +40,6 @@ use Rattle.su_window.proofs.Rows.{none, reading_at, tableau, typed, rows_long, r
 
 -- ---- new values are read back
 
-size_new : (k : Kind) (n : ℕ) → size (new_value k n) ≡ n
-size_new IntKind n = refl
-size_new TextKind n = length-replicate n 0
-
 -- the symbol that a value was made from
 abbrev back : ℕ → Value → Sym
 back n c = cond (ltb (size c) n) (Const c) (Var (size c - n))
@@ -52,7 +47,7 @@ back n c = cond (ltb (size c) n) (Const c) (Var (size c - n))
 back_frozen : (f : ℕ → Kind) (n : ℕ) (x : Sym) → top x ≤ n → back n (value_of (frozen f n) x) ≡ x
 back_frozen f n (Const c) h = cond-true (ltb (size c) n) (Const c) (Var (size c - n)) (lt-ltb (size c) n h)
 back_frozen f n (Var k) h =
-    let e = size_new (f k) (n + k) in
+    let e = size-new_value (f k) (n + k) in
     let same : size (new_value (f k) (n + k)) - n ≡ k = omega arith in
     cond-false (ltb (size (new_value (f k) (n + k))) n) (Const (new_value (f k) (n + k))) (Var (size (new_value (f k) (n + k)) - n)) (le-ltb _ n (omega arith)) ∙ ap Var same
 
@@ -195,7 +190,7 @@ module _ (db : DatabaseValue) (kept : IsWellKept db) (readings : List Reading) (
         let below : top (name (get_or row a (Var 0))) ≤ row_top (map name row) = subst (λ (x : Sym). top x ≤ row_top (map name row)) (map_read name row a (Var 0)) (top_at (map name row) a (name (Var 0)) (omega (arith, la, long, long_name))) in
         ap (back n) at ∙ back_frozen kind n (name (get_or row a (Var 0))) (omega (arith, below, high_row, high)) in
         let left : map (back n) (values_at attributes w) ≡ map (λ a. name (get_or row a (Var 0))) attributes =
-        map_twice (λ a. get_or w a (Int (pos 0))) (back n) (λ a. back n (get_or w a (Int (pos 0)))) (λ a. refl) attributes ∙ map_same (λ a. back n (get_or w a (Int (pos 0)))) (λ a. name (get_or row a (Var 0))) attributes read in
+        map-map_equal (λ a. get_or w a (Int (pos 0))) (back n) (λ a. back n (get_or w a (Int (pos 0)))) (λ a. refl) attributes ∙ map_same (λ a. back n (get_or w a (Int (pos 0)))) (λ a. name (get_or row a (Var 0))) attributes read in
         (row, r.1, sym left ∙ ap (map (back n)) gives ∙ all_back kind n h old)
 
   pub some_fits : (universe : List (List Value)) × Fits db universe

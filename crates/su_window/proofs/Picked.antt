@@ -12,11 +12,10 @@ use Rattle.su_base.specs.declared.values.Kind.{Kind}
 use Rattle.su_base.specs.declared.values.Value.{Value}
 use Rattle.su_base.specs.declared.values.Value.TheVariants.{Int}
 use Rattle.su_base.specs.Value.{kind_of}
-use Rattle.su_base.proofs.Items.{Contains-map, Contains-map_source, All-members, get_or-map_range}
+use Rattle.su_base.proofs.Items.{Contains-map, Contains-map_source, All-members, get_or-map_range, map-map_equal}
 use Rattle.su_tableau.specs.declared.symbols.Sym.{Sym}
 use Rattle.su_tableau.specs.declared.symbols.Sym.TheVariants.{Const, Var}
 use Rattle.su_tableau.specs.Tableaux.{value_of, values_of, Sends}
-use Rattle.su_tableau.proofs.Containment.{map_twice}
 use Rattle.su_classes.proofs.Listed.{map_same}
 use Rattle.su_schema.specs.SchemaValue.{ObjectEntry, attribute_kinds}
 use Rattle.su_state.specs.DatabaseValue.{DatabaseValue, IsWellKept}
@@ -104,7 +103,7 @@ module _ (db : DatabaseValue) (kept : IsWellKept db) (readings : List Reading) (
 
   pub row_values : (i : ℕ) → i < length readings → values_of valuation (padded_row db i (reading_at readings i)) ≡ chosen i
   row_values i l =
-      map_twice (padded db i (reading_at readings i)) (value_of valuation) (λ a. value_of valuation (padded db i (reading_at readings i) a)) (λ a. refl) (range_with_len 0 n)
+      map-map_equal (padded db i (reading_at readings i)) (value_of valuation) (λ a. value_of valuation (padded db i (reading_at readings i) a)) (λ a. refl) (range_with_len 0 n)
       ∙ sym (made_by (λ a. value_of valuation (padded db i (reading_at readings i) a)) n zero_value (chosen i) (universe_long (chosen i) (chosen_in i l)) (λ a low. sym (cell_value i a l low)))
 
   pub sends : Sends valuation (padded_rows db readings) universe
@@ -131,7 +130,7 @@ module _ (db : DatabaseValue) (kept : IsWellKept db) (readings : List Reading) (
       ∙ sym (map_read (value_of valuation) row a (Var 0)) ∙ get_or_default (values_of valuation row) a (value_of valuation (Var 0)) zero_value (let e = length-map row (value_of valuation) in omega (arith, la, long, e))
       ∙ ap (λ (x : List Value). get_or x a zero_value) values in
       let left : map (value_of valuation) (map (λ a. name_by names (get_or row a (Var 0))) attributes) ≡ values_at attributes w =
-      map_twice (λ a. name_by names (get_or row a (Var 0))) (value_of valuation) (λ a. value_of valuation (name_by names (get_or row a (Var 0)))) (λ a. refl) attributes
+      map-map_equal (λ a. name_by names (get_or row a (Var 0))) (value_of valuation) (λ a. value_of valuation (name_by names (get_or row a (Var 0)))) (λ a. refl) attributes
       ∙ map_same (λ a. value_of valuation (name_by names (get_or row a (Var 0)))) (λ a. get_or w a zero_value) attributes value in
-      let right : map (value_of valuation) (map Const h) ≡ h = map_twice Const (value_of valuation) (λ x. x) (λ x. refl) h ∙ map-id h in
+      let right : map (value_of valuation) (map Const h) ≡ h = map-map_equal Const (value_of valuation) (λ x. x) (λ x. refl) h ∙ map-id h in
       (w, chosen_in i.0 i.1, sym left ∙ ap (map (value_of valuation)) constant ∙ right)

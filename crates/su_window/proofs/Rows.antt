@@ -11,12 +11,11 @@ use Rattle.std.proofs.lemmas.Nat.{mod-mul-add}
 use Rattle.su_base.specs.declared.values.Kind.{Kind}
 use Rattle.su_base.specs.declared.values.Kind.TheVariants.{Int as IntKind}
 use Rattle.su_base.specs.Value.{kind_of}
-use Rattle.su_base.proofs.Items.{All-members, get_or-map_range}
+use Rattle.su_base.proofs.Items.{All-members, get_or-map_range, map-map_equal}
 use Rattle.su_tableau.specs.declared.symbols.Sym.{Sym}
 use Rattle.su_tableau.specs.declared.symbols.Sym.TheVariants.{Const, Var}
 use Rattle.su_tableau.specs.Tableaux.{Tab}
 use Rattle.su_tableau.specs.Kinds.{sym_kind, IsTyped}
-use Rattle.su_tableau.proofs.Containment.{map_twice}
 use Rattle.su_schema.specs.SchemaValue.{AttributeEntry, IsDependency, attribute_kinds, attributes_of}
 use Rattle.su_state.specs.DatabaseValue.{DatabaseValue, IsWellKept}
 use Rattle.su_state.proofs.Columns.{column_of_attribute}
@@ -105,7 +104,7 @@ module _ (db : DatabaseValue) (kept : IsWellKept db) where
 
   row_kinds : (i : ℕ) (r : Reading) → IsReading db r → map (sym_kind kind_at) (padded_row db i r) ≡ kinds
   row_kinds i r is =
-      map_twice (padded db i r) (sym_kind kind_at) (λ a. sym_kind kind_at (padded db i r a)) (λ a. refl) (range_with_len 0 (width db.schema))
+      map-map_equal (padded db i r) (sym_kind kind_at) (λ a. sym_kind kind_at (padded db i r a)) (λ a. refl) (range_with_len 0 (width db.schema))
       ∙ sym (made_by (λ a. sym_kind kind_at (padded db i r a)) (width db.schema) IntKind kinds refl (λ a l. sym (cell_kind i r is a l)))
 
   pub typed : (readings : List Reading) → All (IsReading db) readings → IsTyped kinds (tableau db readings)

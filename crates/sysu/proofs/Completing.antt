@@ -82,10 +82,10 @@ module _ (r s w v u : ℕ) (came : Status) (caused : Caused r s w v came) where
 some_path : (p q : List ℕ) → ◌≡◌ {A = Option (List ℕ)} (Some p) (Some q) → p ≡ q
 some_path p q same = cc
 
-ok_schema : (s t : SchemaValue) → ◌≡◌ {A = Result SchemaValue DdlFault} (Ok s) (Ok t) → s ≡ t
+pub ok_schema : (s t : SchemaValue) → ◌≡◌ {A = Result SchemaValue DdlFault} (Ok s) (Ok t) → s ≡ t
 ok_schema s t same = ap (λ (o : Result SchemaValue DdlFault). elim o [ Ok x ↦ x | Err f ↦ s ]) same
 
-not_both : (s : SchemaValue) (f : DdlFault) → ◌≡◌ {A = Result SchemaValue DdlFault} (Ok s) (Err f) → ⊥
+pub not_both : (s : SchemaValue) (f : DdlFault) → ◌≡◌ {A = Result SchemaValue DdlFault} (Ok s) (Err f) → ⊥
 not_both s f same = cc
 
 -- the load at which a run stopped is one of its loads

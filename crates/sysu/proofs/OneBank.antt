@@ -58,7 +58,7 @@ asked words = asked_by words (asks words (number_in words))
 
 -- ---- the text
 
-itself : (a : DatabaseValue) → AreAlike a a
+pub itself : (a : DatabaseValue) → AreAlike a a
 itself a = record { schema = refl; tables = refl; rows = λ r z. (λ h. h, λ h. h); counts = λ r. refl }
 
 one_taken : (texts : List (List ℕ)) (a b c d : DatabaseValue) → AreAlike a b → Takes a texts c → Takes b texts d → AreAlike c d

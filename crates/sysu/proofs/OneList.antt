@@ -13,6 +13,7 @@ use Rattle.su_session.specs.Reply.{Replied, Wants}
 use Rattle.su_once.specs.States.{AreAlike}
 use Rattle.su_once.proofs.Replied.{one_reply, one_want}
 use Rattle.sysu.specs.Output.{IsHanded, Answered, AnswersAll, AnswersBefore, load_limit, text_at, texts_of}
+use Rattle.sysu.proofs.OneBank.{itself}
 
 not_nothing : (path : List ℕ) → Nothing ≡ File path → ⊥
 not_nothing path same = absurd (cc)
@@ -99,9 +100,6 @@ module _ (files : List AFile) where
         let one = one_turn (text_at script s) a b mid after file same r o alike kept also handed hands replied answers in
         let later = one_stop ss m n x y path other mid after c d rs os one.1 next more wants over then rest asks long in
         λ i. one.0 i ∷ later i
-
-itself : (a : DatabaseValue) → AreAlike a a
-itself a = record { schema = refl; tables = refl; rows = λ r z. (λ h. h, λ h. h); counts = λ r. refl }
 
 module _ (files : List AFile) (schema : SchemaValue) (script : List ℕ) (replies others : List Reply) where
   abbrev first : DatabaseValue

@@ -30,6 +30,8 @@ use Rattle.sysu.specs.Statuses.{OfFiles, SchemaIs, TookTooMuch, Comes, schema_li
 use Rattle.sysu.specs.Words.{Named, named, checks, Generates, usage_line}
 use Rattle.sysu.proofs.OneBank.{Asks, for_bank, for_none, asked, one_bank}
 use Rattle.sysu.proofs.OneList.{one_list_of_replies, one_list_before, stopped_or_all}
+use Rattle.su_ddl.proofs.Files.{one_outcome as same_outcome}
+use Rattle.sysu.proofs.Completing.{ok_schema, not_both as read_or_refused}
 
 -- ---- outcomes
 
@@ -62,17 +64,8 @@ data Verdict (files : List AFile) (file text : List ℕ) (status : Status) : Typ
   told : length (contents files file) ≤ check_limit → (verdict : Checked) → IsVerdict (contents files file) verdict → text ≡ verdict_line verdict → status ≡ status_by verdict → Verdict files file text status
   long : check_limit < length (contents files file) → text ≡ [] → status ≡ TooLong → Verdict files file text status
 
-same_outcome : (file : List ℕ) (x y : Result SchemaValue DdlFault) → Reads file x → Reads file y → x ≡ y
-same_outcome file x y h k = one_outcome file x y h k
-
-same_schema : (x y : SchemaValue) → ◌≡◌ {A = Result SchemaValue DdlFault} (Ok x) (Ok y) → x ≡ y
-same_schema x y e = cc
-
 same_fault : (x y : DdlFault) → ◌≡◌ {A = Result SchemaValue DdlFault} (Err x) (Err y) → x ≡ y
 same_fault x y e = cc
-
-read_or_refused : (x : SchemaValue) (y : DdlFault) → ◌≡◌ {A = Result SchemaValue DdlFault} (Ok x) (Err y) → ⊥
-read_or_refused x y e = absurd (cc)
 
 past : (n limit : ℕ) → n ≤ limit → limit < n → ⊥
 past n limit upto over = absurd (omega (arith, upto, over))
@@ -85,7 +78,7 @@ module _ (files : List AFile) (names : Named) where
   script_file = contents files names.script
 
   read_twice : (x y : SchemaValue) → Reads schema_file (Ok x) → Reads schema_file (Ok y) → y ≡ x
-  read_twice x y h k = same_schema y x (same_outcome schema_file (Ok y) (Ok x) k h)
+  read_twice x y h k = ok_schema y x (same_outcome schema_file (Ok y) (Ok x) k h)
 
   not_both : (x : SchemaValue) (y : DdlFault) → Reads schema_file (Ok x) → Reads schema_file (Err y) → ⊥
   not_both x y h k = read_or_refused x y (same_outcome schema_file (Ok x) (Err y) h k)

@@ -3,8 +3,9 @@ use Rattle.su_tableau.specs.Tableaux.{Tab, AreVarsBelow}
 use Rattle.su_tableau.proofs.Rows.{vars_up}
 use Rattle.su_compare.specs.Verdict.{tab_at}
 use Rattle.su_compare.proofs.Settled.{tab_here}
-use Rattle.su_compare.proofs.PlainTerms.{vars_more, max_left, max_right}
+use Rattle.su_compare.proofs.PlainTerms.{max_left, max_right}
 use Rattle.su_compare.proofs.comparing.room_for.Goals as goal
+use Rattle.su_map.proofs.Noting.{vars_below}
 
 pub loop-term-preserved : goal.loop-term-preserved
 loop-term-preserved c =
@@ -19,7 +20,7 @@ loop-term-preserved c =
     let s2 : c.symbols.result ≤ c.max-symbols.result = max_right c.loop-term.symbols c.symbols.result c.max-symbols.result c.max-symbols.ensures in
     let rows = c.row_count.ensures.is in
     below_more (λ i. (length (tab_at terms i).rows ≤ c.max-rows.result) × AreVarsBelow c.max-symbols.result (tab_at terms i)) k
-    (λ i l. let b = c.loop-term.invariant i l in let b0 = b.0 in (omega arith, vars_more (tab_at terms i) c.loop-term.symbols c.max-symbols.result s1 b.1))
+    (λ i l. let b = c.loop-term.invariant i l in let b0 = b.0 in (omega arith, vars_below (tab_at terms i) c.loop-term.symbols c.max-symbols.result s1 b.1))
     (subst (λ (t : Tab). (length t.rows ≤ c.max-rows.result) × AreVarsBelow c.max-symbols.result t) (sym at) (omega arith, vars_up item.tableau c.symbols.result c.max-symbols.result c.symbols.ensures s2))
 
 pub returns : goal.returns
