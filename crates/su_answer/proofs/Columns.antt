@@ -3,7 +3,9 @@ use Rattle.std.proofs.Common.{◌≡◌, ◌<◌, ℕ, true, [], length, map, sl
 use Rattle.std.specs.Prelude.{option_map}
 use Rattle.std.specs.FinSet.{contains, empty}
 use Rattle.std.proofs.lemmas.Option.{slice_get_within, slice_get-map, slice_get-get_or, get_or_from_slice_get}
-use Rattle.su_schema.specs.SchemaValue.{SchemaValue, ObjectEntry, IsValid, IsObject, column_of, attributes_of}
+use Rattle.su_schema.specs.SchemaValue.{SchemaValue, ObjectEntry}
+use Rattle.su_schema.specs.Valid.{IsValid, IsObject}
+use Rattle.su_schema.specs.Entries.{column_of, attributes_of}
 use Rattle.su_state.proofs.Columns.{column_of_attribute, column_answered}
 use Rattle.su_steps.specs.Objects.{attributes_at}
 

@@ -10,14 +10,16 @@ use Rattle.su_base.proofs.Items.{All-members}
 use Rattle.su_where.specs.Disjunct.{disjuncts_of}
 use Rattle.su_tableau.specs.Tableaux.{Tab, IsValid}
 use Rattle.su_tableau.specs.Kinds.{IsTyped}
-use Rattle.su_schema.specs.SchemaValue.{SchemaValue, attribute_kinds}
-use Rattle.su_schema.specs.SchemaValue as schemas
+use Rattle.su_schema.specs.SchemaValue.{SchemaValue}
+use Rattle.su_schema.specs.Entries.{attribute_kinds}
+use Rattle.su_schema.specs.Valid as schemas
 use Rattle.su_query.specs.Ranges.{IsResolved}
 use Rattle.su_query.specs.declared.resolving.Resolved.{Resolved}
 use Rattle.su_min.specs.Kept.{Minimised, IsMinimised}
 use Rattle.su_steps.specs.declared.results.Term.{Term}
 use Rattle.su_steps.specs.Choices.{choices}
-use Rattle.su_steps.specs.Terms.{Case, case_of, cases, GivesNone, Gives, AreTermsOf, AreTerms}
+use Rattle.su_steps.specs.Cases.{Case, GivesNone, Gives}
+use Rattle.su_steps.specs.Terms.{case_of, cases, AreTermsOf, AreTerms}
 use Rattle.su_steps.specs.Refusals.{IsAccepted}
 use Rattle.su_steps.specs.Laws.{TermsAreValidAndTyped}
 use Rattle.su_answer.specs.declared.preparing.Prepared.{Prepared}

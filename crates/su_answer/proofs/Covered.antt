@@ -3,7 +3,8 @@ use Rattle.std.proofs.Common.{◌≡◌, ◌↔◌, ◌⊎◌, ℕ, ◌<◌, Lis
 use Rattle.std.specs.Prelude.{take}
 use Rattle.su_base.specs.declared.values.Value.{Value}
 use Rattle.su_where.specs.declared.operators.Op.{Op}
-use Rattle.su_tableau.specs.Tableaux.{Tab, Ext, AreCompared, Cut}
+use Rattle.su_tableau.specs.Tableaux.{Tab}
+use Rattle.su_tableau.specs.Valuations.{Ext, AreCompared, Cut}
 use Rattle.su_tableau.specs.Parts.{part}
 use Rattle.su_min.specs.Kept.{Minimised}
 use Rattle.su_min.specs.Cover.{AreAlike, Covers}

@@ -8,14 +8,15 @@ use Rattle.su_base.specs.declared.values.Kind.{Kind}
 use Rattle.su_base.specs.declared.values.Value.{Value}
 use Rattle.su_base.specs.Value.{kind_of}
 use Rattle.su_base.proofs.Items.{All-members}
-use Rattle.su_tableau.specs.Tableaux.{Tab, IsValid, Ext, Cut}
+use Rattle.su_tableau.specs.Tableaux.{Tab, IsValid}
+use Rattle.su_tableau.specs.Valuations.{Ext, Cut}
 use Rattle.su_tableau.specs.Kinds.{IsUniverse, IsTyped}
 use Rattle.su_tableau.specs.Parts.{part}
 use Rattle.su_tableau.specs.Mapping.{Maps}
 use Rattle.su_tableau.specs.Essential.{ExtByEssential}
 use Rattle.su_tableau.proofs.Containment.{maps_within}
 use Rattle.su_map.specs.Lists.{IsMapping}
-use Rattle.su_schema.specs.SchemaValue.{attribute_kinds}
+use Rattle.su_schema.specs.Entries.{attribute_kinds}
 use Rattle.su_query.specs.declared.resolving.Resolved.{Resolved}
 use Rattle.su_query.specs.Ranges.{IsResolved}
 use Rattle.su_state.specs.DatabaseValue.{DatabaseValue, IsWellKept}

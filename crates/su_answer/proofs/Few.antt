@@ -7,7 +7,8 @@ use Rattle.su_base.specs.declared.values.Value.{Value}
 use Rattle.su_base.proofs.Numbers.{pigeonhole}
 use Rattle.su_tableau.specs.Tableaux.{Tab}
 use Rattle.su_index.specs.Tables.{table_at}
-use Rattle.su_schema.specs.SchemaValue.{ObjectEntry, column_of}
+use Rattle.su_schema.specs.SchemaValue.{ObjectEntry}
+use Rattle.su_schema.specs.Entries.{column_of}
 use Rattle.su_state.specs.DatabaseValue.{DatabaseValue, IsWellKept}
 use Rattle.su_exec.specs.declared.tasks.Source.{Source}
 use Rattle.su_exec.specs.declared.tasks.TaskRow.{TaskRow}

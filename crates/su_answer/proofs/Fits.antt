@@ -12,12 +12,12 @@ use Rattle.su_tableau.specs.declared.symbols.Sym.{Sym}
 use Rattle.su_tableau.specs.declared.symbols.Sym.TheVariants.{Var}
 use Rattle.su_tableau.specs.Tableaux.{Tab, IsValid, IsSmall}
 use Rattle.su_tableau.specs.Parts.{part, select, keep_if}
-use Rattle.su_tableau.specs.Essential.{Holds, in_head}
+use Rattle.su_tableau.specs.Essential.{HasSymbol, in_head}
 use Rattle.su_tableau.proofs.Sets.{select-from}
 use Rattle.su_index.specs.Tables.{table_at}
-use Rattle.su_schema.specs.SchemaValue.{column_of}
+use Rattle.su_schema.specs.Entries.{column_of}
 use Rattle.su_state.specs.DatabaseValue.{DatabaseValue, IsWellKept}
-use Rattle.su_map.specs.Lists.{numbers_of, rows_in}
+use Rattle.su_map.specs.Lists.{numbers_of, row_numbers}
 use Rattle.su_exec.specs.declared.tasks.Source.{Source}
 use Rattle.su_exec.specs.declared.tasks.TaskRow.{TaskRow}
 use Rattle.su_exec.specs.declared.tasks.Compared.{Compared}
@@ -59,7 +59,7 @@ module _ (db : DatabaseValue) (t : Tab) (m : ℕ) (task : Task) (kept : IsWellKe
 
   row_fits : (r : TaskRow) → Contains task.rows r → HasSources db.tables r
   row_fits r c =
-      let w = zip_second (IsTaskRowOf db.schema t m) (rows_in t m) task.rows r is.rows c in
+      let w = zip_second (IsTaskRowOf db.schema t m) (row_numbers t m) task.rows r is.rows c in
       let of' = w.2 in
       let n : length r.cells ≡ length (numbers_in of'.attributes t.width) = ap (λ (xs : List Sym). length xs) of'.cells ∙ length-map (numbers_in of'.attributes t.width) (cell t w.0) in
       All-members (FitsTables db.tables (length r.cells)) r.sources (λ s d.
@@ -73,8 +73,8 @@ module _ (db : DatabaseValue) (t : Tab) (m : ℕ) (task : Task) (kept : IsWellKe
       let s = select-from m t.rows row (Contains-get_or (select m t.rows) o.0 [] o.1) in
       let j = s.place in
       let in_row : Contains (get_or t.rows j []) (Var k) = subst (λ (xs : List Sym). Contains xs (Var k)) (sym (s.is [])) o.2 in
-      let holds : Holds t m j in_row.0 (Var k) = record { row_in = s.below; in_set = s.is_in; column_in = in_row.1; is = λ d. get_or_default (get_or t.rows j []) in_row.0 d (Var k) in_row.1 ∙ in_row.2 } in
-      let w = zip_first (IsTaskRowOf db.schema t m) (rows_in t m) task.rows j is.rows (in_rows t m j s.below s.is_in) in
+      let holds : HasSymbol t m j in_row.0 (Var k) = record { row_in = s.below; in_set = s.is_in; column_in = in_row.1; is = λ d. get_or_default (get_or t.rows j []) in_row.0 d (Var k) in_row.1 ∙ in_row.2 } in
+      let w = zip_first (IsTaskRowOf db.schema t m) (row_numbers t m) task.rows j is.rows (in_rows t m j s.below s.is_in) in
       let r = w.0 in
       let e = essential_has db t m j r (λ n. Int (pos 0)) kept valid s.below s.is_in w.2 in_row.0 (Var k) holds (in_head k holds c) in
       let has : Contains r.cells (Var k) = subst (λ (xs : List Sym). Contains xs (Var k)) (sym w.2.cells) (subst (λ (x : Sym). Contains (map (cell t j) (numbers_in w.2.attributes t.width)) x) (holds.is (Var 0)) (Contains-map (cell t j) (numbers_in w.2.attributes t.width) in_row.0 e)) in
@@ -86,7 +86,7 @@ module _ (db : DatabaseValue) (t : Tab) (m : ℕ) (task : Task) (kept : IsWellKe
   pub task_fits : IsTask db.tables task
   task_fits = record {
     few =
-        let a = AllZip-length (IsTaskRowOf db.schema t m) (rows_in t m) task.rows is.rows in
+        let a = AllZip-length (IsTaskRowOf db.schema t m) (row_numbers t m) task.rows is.rows in
         let b = numbers_few m (length t.rows) in
         let s = small.rows in
         omega (arith, a, b, s);

@@ -11,14 +11,15 @@ use Rattle.su_base.proofs.Items.{Contains-map, Contains-map_source, Contains-ran
 use Rattle.su_where.specs.declared.operators.Op.TheVariants.{Equal}
 use Rattle.su_where.specs.Operator.{compares}
 use Rattle.su_tableau.specs.declared.symbols.Sym.TheVariants.{Var}
-use Rattle.su_tableau.specs.Tableaux.{Tab, IsValid, nth, value_of, values_of, AreCompared, Cut}
+use Rattle.su_tableau.specs.Tableaux.{Tab, IsValid}
+use Rattle.su_tableau.specs.Valuations.{nth, value_of, values_of, AreCompared, Cut}
 use Rattle.su_tableau.proofs.Listing.{listed}
-use Rattle.su_map.specs.Lists.{rows_in}
+use Rattle.su_map.specs.Lists.{row_numbers}
 use Rattle.su_map.proofs.Ranks.{rank, rank_in, rank_at, ranked_at}
 use Rattle.su_state.specs.DatabaseValue.{DatabaseValue, IsWellKept}
 use Rattle.su_exec.specs.declared.tasks.Task.{Task}
 use Rattle.su_exec.specs.Tasks.{HasSources, IsTask}
-use Rattle.su_exec.specs.Outputs.{Agrees, Holds as HoldsFor, IsOutput}
+use Rattle.su_exec.specs.Outputs.{Agrees, HoldsUnder as HoldsFor, IsOutput}
 use Rattle.su_answer.specs.Answers.{IsRead, StoredAnswer}
 use Rattle.su_answer.specs.Joined.{IsTaskRowOf, comparison_at, IsTaskOf}
 use Rattle.su_answer.proofs.Zipping.{zip_first, zip_second}
@@ -26,13 +27,13 @@ use Rattle.su_answer.proofs.Rowing.{row_read, read_row}
 
 -- ---- rows of a set
 
-pub in_rows : (t : Tab) (m i : ℕ) → i < length t.rows → bit_at m i ≡ 1 → Contains (rows_in t m) i
-in_rows t m i l b = (rank m i, rank_in m (length t.rows) i l b, get_or_default (rows_in t m) (rank m i) i 0 (rank_in m (length t.rows) i l b) ∙ rank_at m (length t.rows) i l b)
+pub in_rows : (t : Tab) (m i : ℕ) → i < length t.rows → bit_at m i ≡ 1 → Contains (row_numbers t m) i
+in_rows t m i l b = (rank m i, rank_in m (length t.rows) i l b, get_or_default (row_numbers t m) (rank m i) i 0 (rank_in m (length t.rows) i l b) ∙ rank_at m (length t.rows) i l b)
 
-pub of_rows : (t : Tab) (m i : ℕ) → Contains (rows_in t m) i → (i < length t.rows) × (bit_at m i ≡ 1)
+pub of_rows : (t : Tab) (m i : ℕ) → Contains (row_numbers t m) i → (i < length t.rows) × (bit_at m i ≡ 1)
 of_rows t m i c =
     let r = ranked_at m (length t.rows) c.0 c.1 in
-    let same : r.number ≡ i = sym r.is ∙ get_or_default (rows_in t m) c.0 0 i c.1 ∙ c.2 in
+    let same : r.number ≡ i = sym r.is ∙ get_or_default (row_numbers t m) c.0 0 i c.1 ∙ c.2 in
     (subst (λ k. k < length t.rows) same r.below, subst (λ k. bit_at m k ≡ 1) same r.member)
 
 -- ---- a read row under a valuation with the same values
@@ -82,13 +83,13 @@ module _ (db : DatabaseValue) (t : Tab) (m : ℕ) (task : Task) (kept : IsWellKe
 
   agrees_all : (v : ℕ → Value) → ((i : ℕ) → i < length t.rows → bit_at m i ≡ 1 → IsRead db t m v i) → All (Agrees db.tables v) task.rows
   agrees_all v h = All-members (Agrees db.tables v) task.rows (λ r c.
-      let w = zip_second (IsTaskRowOf db.schema t m) (rows_in t m) task.rows r is.rows c in
+      let w = zip_second (IsTaskRowOf db.schema t m) (row_numbers t m) task.rows r is.rows c in
       let n = of_rows t m w.0 w.1 in
       read_row db t m w.0 r v kept valid n.0 n.1 w.2 (h w.0 n.0 n.1))
 
   all_read : (v : ℕ → Value) → All (Agrees db.tables v) task.rows → (i : ℕ) → i < length t.rows → bit_at m i ≡ 1 → IsRead db t m v i
   all_read v h i low set =
-      let w = zip_first (IsTaskRowOf db.schema t m) (rows_in t m) task.rows i is.rows (in_rows t m i low set) in
+      let w = zip_first (IsTaskRowOf db.schema t m) (row_numbers t m) task.rows i is.rows (in_rows t m i low set) in
       row_read db t m i w.0 v kept valid low set w.2 (All-contains (HasSources db.tables) task.rows w.0 fits.sources w.1) (All-contains (Agrees db.tables v) task.rows w.0 h w.1)
 
   pub outputs_are_answers : (h : List Value) → IsOutput db.tables task h ↔ Cut t (StoredAnswer db t m) h

@@ -6,9 +6,10 @@ use Rattle.su_base.specs.declared.values.Value.{Value}
 use Rattle.su_base.specs.declared.values.Value.TheVariants.{Int}
 use Rattle.su_base.proofs.Items.{Contains-cases, Contains-later, Contains-nil}
 use Rattle.su_tableau.specs.declared.symbols.Sym.{Sym}
-use Rattle.su_tableau.specs.Tableaux.{value_of, values_of}
-use Rattle.su_schema.specs.SchemaValue.{ObjectEntry, column_of}
-use Rattle.su_state.specs.DatabaseValue.{read}
+use Rattle.su_tableau.specs.Valuations.{value_of, values_of}
+use Rattle.su_schema.specs.SchemaValue.{ObjectEntry}
+use Rattle.su_schema.specs.Entries.{column_of}
+use Rattle.su_state.specs.Enforced.{read}
 use Rattle.su_exec.specs.Outputs.{values_at}
 
 -- the value that stands in the column is the one that is read

@@ -13,10 +13,12 @@ use Rattle.su_base.specs.Value.{kind_of}
 use Rattle.su_base.proofs.Items.{Contains-filter, Contains-filter_source, Contains-range, Contains-range_below}
 use Rattle.su_tableau.specs.declared.symbols.Sym.{Sym}
 use Rattle.su_tableau.specs.declared.symbols.Sym.TheVariants.{Var}
-use Rattle.su_tableau.specs.Tableaux.{Tab, IsValid, value_of, values_of}
-use Rattle.su_tableau.specs.Essential.{Holds, IsEssential}
+use Rattle.su_tableau.specs.Tableaux.{Tab, IsValid}
+use Rattle.su_tableau.specs.Valuations.{value_of, values_of}
+use Rattle.su_tableau.specs.Essential.{HasSymbol, IsEssential}
 use Rattle.su_index.specs.Tables.{table_at}
-use Rattle.su_state.specs.DatabaseValue.{DatabaseValue, IsWellKept, IsTyped, rows_of, columns_of, read}
+use Rattle.su_state.specs.DatabaseValue.{DatabaseValue, IsWellKept, HasColumnKinds, rows_of, columns_of}
+use Rattle.su_state.specs.Enforced.{read}
 use Rattle.su_exec.specs.declared.tasks.TaskRow.{TaskRow}
 use Rattle.su_exec.specs.Tasks.{FitsTables, HasSources}
 use Rattle.su_exec.specs.Outputs.{Agrees}
@@ -27,20 +29,20 @@ use Rattle.su_answer.proofs.Reading.{reads_each, each_read}
 -- a stored row is as wide as its table
 pub stored_wide : (db : DatabaseValue) (relation : ℕ) (stored : List Value) → IsWellKept db → relation < length db.tables → Contains (table_at db.tables relation).rows stored → length stored ≡ (table_at db.tables relation).width
 stored_wide db relation stored kept low c =
-    let typed : map kind_of stored ≡ map (λ (o : Column). o.kind) (columns_of db relation) = All-contains (IsTyped (columns_of db relation)) (rows_of db relation) stored (kept.typed relation low) c in
+    let typed : map kind_of stored ≡ map (λ (o : Column). o.kind) (columns_of db relation) = All-contains (HasColumnKinds (columns_of db relation)) (rows_of db relation) stored (kept.typed relation low) c in
     sym (length-map stored kind_of) ∙ ap (λ (ks : List Kind). length ks) typed ∙ length-map (columns_of db relation) (λ (o : Column). o.kind) ∙ sym (kept.widths relation low)
 
 module _ (db : DatabaseValue) (t : Tab) (m i : ℕ) (r : TaskRow) (v : ℕ → Value) (kept : IsWellKept db) (valid : IsValid t) (row_in : i < length t.rows) (in_set : bit_at m i ≡ 1) (is : IsTaskRowOf db.schema t m i r) where
   row_wide : length (get_or t.rows i []) ≡ t.width
   row_wide = valid.widths i [] row_in
 
-  pub essential_has : (c : ℕ) (x : Sym) → Holds t m i c x → IsEssential t m i c → Contains (numbers_in is.attributes t.width) c
+  pub essential_has : (c : ℕ) (x : Sym) → HasSymbol t m i c x → IsEssential t m i c → Contains (numbers_in is.attributes t.width) c
   essential_has c x h e =
       let l = h.column_in in
       let w = row_wide in
       Contains-filter (contains is.attributes) (range_with_len 0 t.width) c (Contains-range t.width c (omega arith)) ((is.essential c).1 e)
 
-  holds_cell : (c : ℕ) → c < t.width → Holds t m i c (cell t i c)
+  holds_cell : (c : ℕ) → c < t.width → HasSymbol t m i c (cell t i c)
   holds_cell c low =
       let w = row_wide in
       let l : c < length (get_or t.rows i []) = omega arith in

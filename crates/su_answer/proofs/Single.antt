@@ -13,7 +13,7 @@ use Rattle.su_base.proofs.Rows.{rows_total}
 use Rattle.su_rel.specs.Stored.{Stored, AllDiffer}
 use Rattle.su_tableau.specs.declared.symbols.Sym.{Sym}
 use Rattle.su_exec.specs.declared.tasks.TaskRow.{TaskRow}
-use Rattle.su_exec.specs.Outputs.{Agrees, Holds, IsOutput, AreOutputs}
+use Rattle.su_exec.specs.Outputs.{Agrees, HoldsUnder, IsOutput, AreOutputs}
 use Rattle.su_exec.specs.Shares.{row_share}
 use Rattle.su_exec.specs.Tasks.{HasSources, IsTask}
 use Rattle.su_exec.proofs.Accessing.{sum_more, sum_take}
@@ -39,7 +39,7 @@ output_is tables row h = (
   λ c. record {
     valuation = c.valuation;
     agrees = All-cons (Agrees tables c.valuation) row [] c.agrees (All-nil (Agrees tables c.valuation));
-    holds = All-nil (Holds c.valuation);
+    holds = All-nil (HoldsUnder c.valuation);
     gives = c.gives;
   },
 )

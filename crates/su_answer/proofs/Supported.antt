@@ -10,8 +10,8 @@ use Rattle.su_base.specs.declared.values.Value.{Value}
 use Rattle.su_base.proofs.Items.{AllZip-get_or, AllZip-length, get_or-map_range}
 use Rattle.su_rel.specs.Stored.{Stored, AllDiffer}
 use Rattle.su_tableau.specs.declared.symbols.Sym.{Sym}
-use Rattle.su_tableau.specs.Tableaux.{values_of}
-use Rattle.su_map.specs.Lists.{rows_in}
+use Rattle.su_tableau.specs.Valuations.{values_of}
+use Rattle.su_map.specs.Lists.{row_numbers}
 use Rattle.su_reduce.specs.declared.edges.Edge.{Edge}
 use Rattle.su_reduce.specs.declared.support.Counted.{Counted}
 use Rattle.su_reduce.specs.declared.support.Support.{Support}
@@ -163,8 +163,8 @@ same_by (x ∷ xs) (y ∷ ys) l h =
 
 -- ---- the whole
 
-pub numbers_long : (db : DatabaseValue) (m : Minimised) (edges : List Edge) → AreEdgesOf db m edges → length (rows_in m.tableau m.mask) ≡ length edges
-numbers_long db m edges are = AllZip-length (IsTaskRowOf db.schema m.tableau m.mask) (rows_in m.tableau m.mask) are.task.rows are.is_task.rows ∙ long db.tables are.task edges are.each
+pub numbers_long : (db : DatabaseValue) (m : Minimised) (edges : List Edge) → AreEdgesOf db m edges → length (row_numbers m.tableau m.mask) ≡ length edges
+numbers_long db m edges are = AllZip-length (IsTaskRowOf db.schema m.tableau m.mask) (row_numbers m.tableau m.mask) are.task.rows are.is_task.rows ∙ long db.tables are.task edges are.each
 
 abbrev no_count : Counted
 no_count = record { row = 0; candidates = 0; left = None }
@@ -179,7 +179,7 @@ module _ (db : DatabaseValue) (m : Minimised) (edges : List Edge) (of_kept : Are
   are = of_kept.each
 
   abbrev numbers : List ℕ
-  numbers = rows_in m.tableau m.mask
+  numbers = row_numbers m.tableau m.mask
 
   abbrev counts : List Counted
   counts = map (counted_at numbers edges left) (range_with_len 0 (length edges))

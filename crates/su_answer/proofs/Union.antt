@@ -24,7 +24,8 @@ use Rattle.su_min.specs.Reduction.{term_at, IsReduced}
 use Rattle.su_answer.specs.declared.found.Found.{Found}
 use Rattle.su_answer.specs.declared.preparing.Prepared.{Prepared}
 use Rattle.su_answer.specs.Joined.{IsTaskOf}
-use Rattle.su_answer.specs.Answers.{IsTermAnswer, IsAnswer, AreAnswers, AreMoreThan}
+use Rattle.su_answer.specs.Answers.{IsTermAnswer, IsAnswer, AreAnswers}
+use Rattle.su_answer.specs.QueryAnswers.{AreMoreThan}
 use Rattle.su_answer.specs.inside.Executed.{Join, IsFound, IsJoinOf, AreTermAnswers, IsFoundFor, IsInSome}
 use Rattle.su_answer.proofs.Joined.{outputs_are_answers}
 use Rattle.su_answer.proofs.Zipping.{zip_first, zip_second}

@@ -14,12 +14,15 @@ use Rattle.su_base.specs.declared.values.Value.TheVariants.{Int}
 use Rattle.su_base.specs.Value.{kind_of}
 use Rattle.su_base.proofs.Items.{Contains-map, Contains-map_source, get_or-map_range}
 use Rattle.su_tableau.specs.declared.symbols.Sym.{Sym}
-use Rattle.su_tableau.specs.Tableaux.{Tab, nth, value_of}
+use Rattle.su_tableau.specs.Tableaux.{Tab}
+use Rattle.su_tableau.specs.Valuations.{nth, value_of}
 use Rattle.su_tableau.specs.Kinds.{IsUniverse}
-use Rattle.su_tableau.specs.Essential.{Holds, AgreesOn, ExtByEssential}
-use Rattle.su_schema.specs.SchemaValue.{ObjectEntry, attribute_kinds}
-use Rattle.su_schema.specs.Checks.{columns_at}
-use Rattle.su_state.specs.DatabaseValue.{DatabaseValue, IsWellKept, IsTyped, rows_of, columns_of, read}
+use Rattle.su_tableau.specs.Essential.{HasSymbol, AgreesOn, ExtByEssential}
+use Rattle.su_schema.specs.SchemaValue.{ObjectEntry}
+use Rattle.su_schema.specs.Entries.{attribute_kinds}
+use Rattle.su_schema.specs.Known.{columns_at}
+use Rattle.su_state.specs.DatabaseValue.{DatabaseValue, IsWellKept, HasColumnKinds, rows_of, columns_of}
+use Rattle.su_state.specs.Enforced.{read}
 use Rattle.su_steps.specs.Objects.{width, attributes_at}
 use Rattle.su_steps.specs.Expression.{cut, Agree}
 use Rattle.su_steps.specs.Sources.{IsSource}
@@ -47,7 +50,7 @@ module _ (db : DatabaseValue) (t : Tab) (m : ℕ) (universe : List (List Value))
   unfolding spread
   spread_at object row c d low = get_or-map_range (value_for object row) (width db.schema) c d low
 
-  column_low : (i c : ℕ) (x : Sym) → Holds t m i c x → c < width db.schema
+  column_low : (i c : ℕ) (x : Sym) → HasSymbol t m i c x → c < width db.schema
   column_low i c x h =
       let l = h.column_in in
       let w : length (get_or t.rows i []) ≡ t.width = rows_wide i [] h.row_in in
@@ -82,7 +85,7 @@ module _ (db : DatabaseValue) (t : Tab) (m : ℕ) (universe : List (List Value))
       let agree : Agree s (spread object w.0) u = (cut_agrees s (spread object w.0) u (spread_length object w.0 ∙ sym (row_length u in_universe))).0 (ap (λ q. cut q (spread object w.0)) same ∙ w.2) in
       let own = object_is db.schema o object kept.valid is in
       let low : object.relation < length db.tables = let l = slice_get_within db.schema.relations object.relation own.relation own.stored in let k = kept.tables in omega (arith, l, k) in
-      let typed : map kind_of w.0 ≡ map (λ (q : Column). q.kind) (columns_of db object.relation) = All-contains (IsTyped (columns_of db object.relation)) (rows_of db object.relation) w.0 (kept.typed object.relation low) w.1 in
+      let typed : map kind_of w.0 ≡ map (λ (q : Column). q.kind) (columns_of db object.relation) = All-contains (HasColumnKinds (columns_of db object.relation)) (rows_of db object.relation) w.0 (kept.typed object.relation low) w.1 in
       let row_wide : length w.0 ≡ length (columns_at db.schema object.relation) = sym (length-map w.0 kind_of) ∙ ap (λ (ks : List Kind). length ks) typed ∙ length-map (columns_of db object.relation) (λ (q : Column). q.kind) in
       record {
         source = o;

@@ -1,24 +1,22 @@
 -- What the kept terms of a query answer over stored rows.
 -- read: the row has, at its essential columns, the values that one of its sources takes from some stored row
 -- stored answer: the head's values under a valuation for which each row of a set is read
-use Rattle.std.specs.Prelude.{◌≡◌, ◌↔◌, ◌<◌, ◌≤◌, ℕ, List, length, slice_get, Contains, Some}
+use Rattle.std.specs.Prelude.{◌≡◌, ◌↔◌, ◌<◌, ℕ, List, length, slice_get, Contains, Some}
 use Rattle.std.specs.Int.{bit_at}
 use Rattle.std.specs.List.Sorted.{IsStrictlySortedBy}
-use Rattle.std.specs.Ordering.{nat_cmp}
-use Rattle.std.specs.FinSet.{FinSet}
 use Rattle.su_base.specs.declared.values.Value.{Value}
 use Rattle.su_base.specs.Value.{compare_lists}
 use Rattle.su_tableau.specs.declared.symbols.Sym.{Sym}
-use Rattle.su_tableau.specs.Tableaux.{Tab, AreVarsBelow, nth, value_of, values_of, Cut}
-use Rattle.su_tableau.specs.Essential.{Holds, IsEssential}
+use Rattle.su_tableau.specs.Tableaux.{Tab, AreVarsBelow}
+use Rattle.su_tableau.specs.Valuations.{nth, value_of, values_of, Cut}
+use Rattle.su_tableau.specs.Essential.{HasSymbol, IsEssential}
 use Rattle.su_schema.specs.SchemaValue.{ObjectEntry}
-use Rattle.su_query.specs.declared.resolving.Resolved.{Resolved}
-use Rattle.su_state.specs.DatabaseValue.{DatabaseValue, rows_of, read}
+use Rattle.su_state.specs.DatabaseValue.{DatabaseValue, rows_of}
+use Rattle.su_state.specs.Enforced.{read}
 use Rattle.su_min.specs.Kept.{Minimised}
 use Rattle.su_min.specs.Reduction.{term_at}
 use Rattle.su_steps.specs.Sources.{IsSource}
 use Rattle.su_answer.specs.declared.preparing.Prepared.{Prepared}
-use Rattle.su_answer.specs.Prepared.{IsPrepared}
 
 -- under the valuation row i, among the rows of m, is read
 pub record IsRead (db : DatabaseValue) (t : Tab) (m : ℕ) (v : ℕ → Value) (i : ℕ) : Type 0 where
@@ -28,7 +26,7 @@ pub record IsRead (db : DatabaseValue) (t : Tab) (m : ℕ) (v : ℕ → Value) (
   pub is : slice_get db.schema.objects source ≡ Some object
   pub row : List Value
   pub stored : Contains (rows_of db object.relation) row
-  pub agrees : (c : ℕ) (x : Sym) → Holds t m i c x → IsEssential t m i c → read object c row ≡ Some (value_of v x)
+  pub agrees : (c : ℕ) (x : Sym) → HasSymbol t m i c x → IsEssential t m i c → read object c row ≡ Some (value_of v x)
 
 -- h is a stored answer of the rows of m
 pub record StoredAnswer (db : DatabaseValue) (t : Tab) (m : ℕ) (h : List Value) : Type 0 where
@@ -51,21 +49,3 @@ pub record IsAnswer (db : DatabaseValue) (p : Prepared) (h : List Value) : Type 
 pub record AreAnswers (db : DatabaseValue) (p : Prepared) (rows : List (List Value)) : Type 0 where
   pub exact : (h : List Value) → Contains rows h ↔ IsAnswer db p h
   pub ascending : IsStrictlySortedBy compare_lists rows
-
--- there are more than n such lists: those numbered from 0 to n, all different
-pub record AreMoreThan (n : ℕ) (P : List Value → Type 0) : Type 0 where
-  pub list : ℕ → List Value
-  pub each : (i : ℕ) → i ≤ n → P (list i)
-  pub differ : (i j : ℕ) → i < j → j ≤ n → ¬ (list i ≡ list j)
-
--- the rows are the answer of the query
-pub record IsAnswerOf (db : DatabaseValue) (maximal : List (FinSet nat_cmp)) (q : Resolved) (rows : List (List Value)) : Type 0 where
-  pub prepared : Prepared
-  pub is_prepared : IsPrepared db.schema maximal q prepared
-  pub answers : AreAnswers db prepared rows
-
--- the answer of the query has more rows than it may have
-pub record IsTooLong (db : DatabaseValue) (maximal : List (FinSet nat_cmp)) (q : Resolved) : Type 0 where
-  pub prepared : Prepared
-  pub is_prepared : IsPrepared db.schema maximal q prepared
-  pub many : AreMoreThan 1000000 (IsAnswer db prepared)

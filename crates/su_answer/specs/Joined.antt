@@ -1,4 +1,5 @@
 -- What is joined for the kept rows of a tableau: the essential cells of each, with the columns of its sources.
+-- source: the relation of an object, with its columns for the row's essential attributes; task: what su_exec joins
 use Rattle.std.specs.Prelude.{◌≡◌, ◌↔◌, ℕ, ◌+◌, ◌*◌, IsTrue, List, [], map, filter, take, length, get_or, slice_get, Contains, Some}
 use Rattle.std.specs.List.{AllZip, range_with_len}
 use Rattle.std.specs.Ordering.{nat_cmp}
@@ -8,8 +9,9 @@ use Rattle.su_tableau.specs.declared.symbols.Sym.{Sym}
 use Rattle.su_tableau.specs.declared.symbols.Sym.TheVariants.{Var}
 use Rattle.su_tableau.specs.Tableaux.{Tab}
 use Rattle.su_tableau.specs.Essential.{IsEssential}
-use Rattle.su_schema.specs.SchemaValue.{SchemaValue, ObjectEntry, column_of}
-use Rattle.su_map.specs.Lists.{rows_in}
+use Rattle.su_schema.specs.SchemaValue.{SchemaValue, ObjectEntry}
+use Rattle.su_schema.specs.Entries.{column_of}
+use Rattle.su_map.specs.Lists.{row_numbers}
 use Rattle.su_steps.specs.Sources.{IsSource}
 use Rattle.su_exec.specs.declared.tasks.Source.{Source}
 use Rattle.su_exec.specs.declared.tasks.TaskRow.{TaskRow}
@@ -45,6 +47,6 @@ comparison_at t i = record { left = get_or t.head (t.outputs + 2 * i) (Var 0); o
 
 -- the task joins the rows of m and gives the tableau's outputs
 pub record IsTaskOf (schema : SchemaValue) (t : Tab) (m : ℕ) (task : Task) : Type 0 where
-  pub rows : AllZip (IsTaskRowOf schema t m) (rows_in t m) task.rows
+  pub rows : AllZip (IsTaskRowOf schema t m) (row_numbers t m) task.rows
   pub outputs : task.outputs ≡ take t.outputs t.head
   pub comparisons : task.comparisons ≡ map (comparison_at t) (range_with_len 0 (length t.operators))

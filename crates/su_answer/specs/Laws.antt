@@ -1,4 +1,5 @@
 -- Laws of prepared queries and of their answers.
+-- prepared, answer, expression: as in Prepared, QueryAnswers and Projections
 use Rattle.std.specs.Prelude.{ℕ, List, All}
 use Rattle.std.specs.Ordering.{nat_cmp}
 use Rattle.std.specs.FinSet.{FinSet}
@@ -6,7 +7,9 @@ use Rattle.su_base.specs.declared.values.Value.{Value}
 use Rattle.su_tableau.specs.Tableaux as tabs
 use Rattle.su_tableau.specs.Tableaux.{Tab}
 use Rattle.su_tableau.specs.Kinds.{IsTyped}
-use Rattle.su_schema.specs.SchemaValue.{SchemaValue, IsValid, attribute_kinds}
+use Rattle.su_schema.specs.SchemaValue.{SchemaValue}
+use Rattle.su_schema.specs.Valid.{IsValid}
+use Rattle.su_schema.specs.Entries.{attribute_kinds}
 use Rattle.su_query.specs.declared.resolving.Resolved.{Resolved}
 use Rattle.su_query.specs.Ranges.{IsResolved}
 use Rattle.su_state.specs.DatabaseValue.{DatabaseValue, IsWellKept}
@@ -14,7 +17,7 @@ use Rattle.su_min.specs.Kept.{IsLeastPart}
 use Rattle.su_min.specs.Needed.{HasAnswersOf, AreNeeded}
 use Rattle.su_answer.specs.declared.preparing.Prepared.{Prepared}
 use Rattle.su_answer.specs.Prepared.{IsPrepared}
-use Rattle.su_answer.specs.Answers.{IsAnswerOf}
+use Rattle.su_answer.specs.QueryAnswers.{IsAnswerOf}
 use Rattle.su_answer.specs.Projections.{AreOfExpression}
 
 -- the kept rows of each term have the term's answers over every universal relation, and no valid, well typed tableau that does has fewer rows

@@ -5,3 +5,4 @@ pub mod Laws
 pub mod Prepared
 pub mod Projections
 pub mod Support
+pub mod QueryAnswers

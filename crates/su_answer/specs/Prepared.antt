@@ -1,4 +1,5 @@
 -- What a prepared query is: its terms, each with its least rows and its fold, and which of the terms are kept.
+-- minimised: with its least rows and its fold; reduced: which terms are kept, and the covers of the others
 use Rattle.std.specs.Prelude.{◌≡◌, List}
 use Rattle.std.specs.List.{AllZip}
 use Rattle.std.specs.Ordering.{nat_cmp}

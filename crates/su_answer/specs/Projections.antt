@@ -1,11 +1,12 @@
 -- Relations that are the projections of one universal relation.
+-- view of an object: what it takes from the rows of its relation; projections: each view is the universal relation cut to its object
 use Rattle.std.specs.Prelude.{◌↔◌, ◌<◌, ℕ, List, length, Contains}
 use Rattle.std.specs.Ordering.{nat_cmp}
 use Rattle.std.specs.FinSet.{FinSet}
 use Rattle.su_base.specs.declared.values.Value.{Value}
 use Rattle.su_tableau.specs.Kinds.{IsUniverse}
 use Rattle.su_query.specs.declared.resolving.Resolved.{Resolved}
-use Rattle.su_schema.specs.SchemaValue.{attribute_kinds}
+use Rattle.su_schema.specs.Entries.{attribute_kinds}
 use Rattle.su_state.specs.DatabaseValue.{DatabaseValue}
 pub use Rattle.su_state.specs.Views.{value_for, taken, view_through, view_of}
 use Rattle.su_steps.specs.Expression.{Meets, cuts, InExpression}

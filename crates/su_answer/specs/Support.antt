@@ -6,8 +6,8 @@ use Rattle.std.specs.Prelude.{◌≡◌, ◌↔◌, ℕ, Bool, true, false, IsTr
 use Rattle.std.specs.List.{AllZip}
 use Rattle.su_base.specs.declared.values.Value.{Value}
 use Rattle.su_rel.specs.Stored.{Stored, AllDiffer}
-use Rattle.su_tableau.specs.Tableaux.{values_of}
-use Rattle.su_map.specs.Lists.{rows_in}
+use Rattle.su_tableau.specs.Valuations.{values_of}
+use Rattle.su_map.specs.Lists.{row_numbers}
 use Rattle.su_reduce.specs.Ears.{AreAcyclic}
 use Rattle.su_reduce.specs.declared.support.Support.{Support}
 use Rattle.su_exec.specs.declared.tasks.TaskRow.{TaskRow}
@@ -49,7 +49,7 @@ IsLeftCount tables task false row None = Unit {0}
 pub record IsSupport (db : DatabaseValue) (m : Minimised) (s : Support) : Type 0 where
   pub task : Task
   pub is_task : IsTaskOf db.schema m.tableau m.mask task
-  pub numbers : map (λ c. c.row) s.rows ≡ rows_in m.tableau m.mask
+  pub numbers : map (λ c. c.row) s.rows ≡ row_numbers m.tableau m.mask
   pub acyclic : IsTrue s.acyclic ↔ AreAcyclic (map (λ r. r.cells) task.rows)
   pub candidates : AllZip (λ r c. IsCountOf (IsCandidate db.tables r) c.candidates) task.rows s.rows
   pub left : AllZip (λ r c. IsLeftCount db.tables task s.acyclic r c.left) task.rows s.rows

@@ -2,7 +2,7 @@
 ghost use Rattle.std.specs.Prelude.{◌≡◌, ◌≤◌, ◌<◌, length, All, IfOk};
 ghost use Rattle.std.specs.List.{AllZip};
 ghost use Rattle.su_tableau.specs.Kinds.{IsTyped};
-ghost use Rattle.su_schema.specs.SchemaValue.{attribute_kinds};
+ghost use Rattle.su_schema.specs.Entries.{attribute_kinds};
 ghost use Rattle.su_exec.specs.Tasks.{IsTask};
 ghost use Rattle.su_min.specs.Reduction.{term_at};
 ghost use Rattle.su_answer.specs.inside.Executed.{IsFound, IsJoinOf, IsFoundFor};
@@ -40,7 +40,7 @@ impl<'a> Model for Joining<'a> {
     ghost use Rattle.su_schema.specs.contracts.schemas.Schema as schemas;
     ghost use Rattle.su_state.specs.contracts.databases.Database as databases;
     ghost use Rattle.su_tableau.specs.Kinds.{IsTyped};
-    ghost use Rattle.su_schema.specs.SchemaValue.{attribute_kinds};
+    ghost use Rattle.su_schema.specs.Entries.{attribute_kinds};
     ghost use Rattle.su_answer.specs.inside.Executed.{TermOver};
 
     ghost Value = { TermOver };

@@ -2,8 +2,8 @@
 ghost use Rattle.std.specs.Prelude.{◌≡◌, ◌≤◌, ◌<◌, ℕ, length, map, get_or, [], All, IfOk, MatchOption};
 ghost use Rattle.std.specs.List.{AllZip, range_with_len};
 ghost use Rattle.su_tableau.specs.Kinds.{IsTyped};
-ghost use Rattle.su_schema.specs.SchemaValue.{attribute_kinds};
-ghost use Rattle.su_map.specs.Lists.{rows_in};
+ghost use Rattle.su_schema.specs.Entries.{attribute_kinds};
+ghost use Rattle.su_map.specs.Lists.{row_numbers};
 ghost use Rattle.su_reduce.specs.Ears.{AreAcyclic, cells_of};
 ghost use Rattle.su_reduce.specs.Left.{AreLeft};
 ghost use Rattle.su_exec.specs.Tasks.{IsTask};
@@ -89,7 +89,7 @@ fn left_of(alloc: Global, edges: &[Edge]) -> Result<Option<List<List<Row>>>, NoM
 
 /// The numbers of the kept rows.
 fn kept_rows(alloc: Global, minimal: &Minimal) -> Result<List<u8>, NoMemory>
-    ensures { IfOk result (λ numbers. numbers ≡ rows_in minimal.now.tableau minimal.now.mask) }
+    ensures { IfOk result (λ numbers. numbers ≡ row_numbers minimal.now.tableau minimal.now.mask) }
 {
     let t = minimal.tableau();
     let set = minimal.mask();

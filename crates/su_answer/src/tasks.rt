@@ -1,10 +1,11 @@
 //! What is joined for a kept term.
 ghost use Rattle.std.specs.Prelude.{◌≡◌, ◌↔◌, ℕ, ◌<◌, ◌≤◌, IsTrue, All, Some, length, map, take, slice_get, IfOk};
 ghost use Rattle.std.specs.List.{AllZip, range_with_len};
-ghost use Rattle.su_map.specs.Lists.{rows_in};
+ghost use Rattle.su_map.specs.Lists.{row_numbers};
 ghost use Rattle.std.specs.FinSet as set;
 ghost use Rattle.su_tableau.specs.Essential.{IsEssential};
-ghost use Rattle.su_schema.specs.SchemaValue.{ObjectEntry, column_of};
+ghost use Rattle.su_schema.specs.SchemaValue.{ObjectEntry};
+ghost use Rattle.su_schema.specs.Entries.{column_of};
 ghost use Rattle.su_steps.specs.Objects.{width, attributes_at};
 ghost use Rattle.su_answer.specs.Joined.{numbers_in, cell, comparison_at, IsSourceOf, IsTaskRowOf, IsTaskOf};
 ghost use Rattle.su_answer.specs.inside.Joined.{AreSourcesOf};
@@ -131,7 +132,7 @@ fn rows_of(
     mask: u64,
 ) -> Result<List<TaskRow>, NoMemory>
     requires { t.now.width ≡ width schema.now }
-    ensures { IfOk result (AllZip (IsTaskRowOf schema.now t.now mask) (rows_in t.now mask)) }
+    ensures { IfOk result (AllZip (IsTaskRowOf schema.now t.now mask) (row_numbers t.now mask)) }
 {
     t.keeps_its_rules();
     let columns = all_essential(alloc, t, mask)?;

@@ -1,6 +1,6 @@
 ghost use Rattle.std.specs.Prelude.{◌≤◌, IfSome};
 ghost use Rattle.su_query.specs.Ranges.{IsResolved};
-ghost use Rattle.su_query.specs.Reading.{HasFew};
+ghost use Rattle.su_query.specs.Limits.{HasFew};
 ghost use Rattle.su_answer.specs.Prepared.{IsPreparedFor};
 
 use std::alloc::{AllocError, Global};

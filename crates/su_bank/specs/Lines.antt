@@ -1,4 +1,5 @@
 -- The first and the last line of a text, and the line that tells what is found of a query.
+-- line: what stands before a line feed, or behind the last one
 use Rattle.std.specs.Prelude.{◌-◌, ◌==◌, ◌++◌, ℕ, Bool, List, codes, decimal, length, take}
 use Rattle.std.specs.List.{before_first, after_last}
 

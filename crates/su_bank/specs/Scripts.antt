@@ -1,4 +1,5 @@
 -- The script of the bank: its definitions, and the inserts of n rows into each relation.
+-- bank: BA (bank, account), AB (account, balance) and their like, with n rows in each
 use Rattle.std.specs.Prelude.{◌≡◌, ◌≤◌, ◌*◌, ◌%◌, ℕ, List, ◌++◌, codes, decimal}
 use Rattle.std.specs.List.{flat_map, range_with_len}
 use Rattle.su_bank.specs.declared.scripts.Cell.{Cell}

@@ -8,7 +8,7 @@ use Rattle.su_base.specs.declared.values.Kind.TheVariants.{Int as IntKind, Text 
 use Rattle.su_base.specs.declared.values.Value.{Value}
 use Rattle.su_base.specs.declared.values.Value.TheVariants.{Int}
 use Rattle.su_base.specs.Value.{kind_of}
-use Rattle.su_tableau.specs.Tableaux.{nth}
+use Rattle.su_tableau.specs.Valuations.{nth}
 use Rattle.su_tableau.proofs.Rows.{below_more}
 use Rattle.su_chase.specs.declared.candidates.Next.{Next}
 use Rattle.su_chase.specs.Frozen.{candidate}

@@ -16,14 +16,15 @@ use Rattle.su_base.proofs.Items.{Contains-later, Contains-cases, Contains-nil, C
 use Rattle.su_fd.specs.declared.dependencies.Fd.{Fd}
 use Rattle.su_tableau.specs.declared.symbols.Sym.{Sym}
 use Rattle.su_tableau.specs.declared.symbols.Sym.TheVariants.{Const, Var}
-use Rattle.su_tableau.specs.Tableaux.{Tab, Occurs, IsValid, Ext, nth, value_of, values_of}
+use Rattle.su_tableau.specs.Tableaux.{Tab, Occurs, IsValid}
+use Rattle.su_tableau.specs.Valuations.{Ext, nth, value_of, values_of}
 use Rattle.su_tableau.specs.Kinds.{Kinds, sym_kind, IsUniverse, IsTyped}
 use Rattle.su_tableau.specs.Mapping.{images_of, Maps}
 use Rattle.su_tableau.proofs.Listing.{by_list, from_list}
 use Rattle.su_classes.specs.inside.Symbols.{same_value}
 use Rattle.su_classes.proofs.ValueOrder.{same_itself, same_is}
 use Rattle.su_classes.proofs.Listed.{map_same}
-use Rattle.su_chase.specs.Chase.{IsClosed}
+use Rattle.su_chase.specs.Chase.{IsClosedPartition}
 use Rattle.su_fd.specs.Meeting.{Meets}
 use Rattle.su_chase.specs.declared.freezing.Frozen.{Frozen}
 use Rattle.su_chase.specs.Frozen.{candidate, IsFirstFree, IsFrozen, AreAvoided}
@@ -195,7 +196,7 @@ module _ (kinds : Kinds) (t : Tab) (avoid : List Value) (valid : IsValid t) (var
         (λ (ge : t.width ≤ a). get_or-eq_default r d (omega arith) ∙ sym (get_or-eq_default q d (omega arith)))
         (cases_lt a t.width)
 
-    pub frozen_meets : (fds : List Fd) → IsClosed fds t.rows (λ x. x) → Meets fds universe
+    pub frozen_meets : (fds : List Fd) → IsClosedPartition fds t.rows (λ x. x) → Meets fds universe
     frozen_meets fds closed f x y cf cx cy agree =
         let r = Contains-map_source (values_of v) t.rows x cx in
         let q = Contains-map_source (values_of v) t.rows y cy in
@@ -271,7 +272,7 @@ module _ (kinds : Kinds) (t : Tab) (avoid : List Value) (valid : IsValid t) (typ
   pub answers_head : Ext t f.universe f.head
   answers_head = subst (λ u. Ext t u f.head) (sym universe_is) (subst (Ext t (map (values_of v) t.rows)) (sym head_is) (frozen_answer kinds t avoid valid typed.var_kind typed.fits v first))
 
-  pub meets : (fds : List Fd) → IsClosed fds t.rows (λ x. x) → AreAvoided avoid t → Meets fds f.universe
+  pub meets : (fds : List Fd) → IsClosedPartition fds t.rows (λ x. x) → AreAvoided avoid t → Meets fds f.universe
   meets fds closed own = subst (Meets fds) (sym universe_is) (frozen_meets kinds t avoid valid typed.var_kind typed.fits v first own fds closed)
 
   pub thawed : (s : Tab) → AreAvoided avoid s → AreAvoided avoid t → Ext s f.universe f.head → Maps s t
@@ -279,11 +280,11 @@ module _ (kinds : Kinds) (t : Tab) (avoid : List Value) (valid : IsValid t) (typ
       frozen_maps kinds t avoid valid typed.var_kind typed.fits v first own s avoided
       (subst (λ u. Ext s u (values_of v t.head)) universe_is (subst (Ext s f.universe) head_is ext))
 
-  pub told : IsFrozen kinds t avoid f × (IsUniverse kinds f.universe × Ext t f.universe f.head) × ((fds : List Fd) → IsClosed fds t.rows (λ x. x) → AreAvoided avoid t → Meets fds f.universe) × ((s : Tab) → AreAvoided avoid s → AreAvoided avoid t → Ext s f.universe f.head → Maps s t)
+  pub told : IsFrozen kinds t avoid f × (IsUniverse kinds f.universe × Ext t f.universe f.head) × ((fds : List Fd) → IsClosedPartition fds t.rows (λ x. x) → AreAvoided avoid t → Meets fds f.universe) × ((s : Tab) → AreAvoided avoid s → AreAvoided avoid t → Ext s f.universe f.head → Maps s t)
   told = (is_frozen, (is_universe, answers_head), meets, thawed)
 
 -- the same of slices of the lists that were made
-pub freeze_told : (kinds : Kinds) (t : Tab) (avoid : List Value) → IsValid t → IsTyped kinds t → (rows : List (List Sym)) → rows ≡ t.rows → (ks variables : List ℕ) → ks ≡ variables → ((k : ℕ) → Contains variables k ↔ Occurs rows k) → IsStrictlySortedBy nat_cmp variables → (found kept : List Kind) → found ≡ kept → ((var_kind : ℕ → Kind) → All (λ row. map (sym_kind var_kind) row ≡ kinds) rows → kept ≡ map var_kind ks) → (sorted copies : List Value) → sorted ≡ copies → ((c : Value) → Contains copies c ↔ Contains avoid c) → (vs values : List Value) → vs ≡ values → length values ≡ length found → ((p : ℕ) → p < length found → IsFreeAt sorted (get_or found p IntKind) values p) → (head : List Sym) → head ≡ t.head → (f : Frozen) → f.universe ≡ map (values_of (value_in ks vs)) rows → f.head ≡ values_of (value_in ks vs) head → IsFrozen kinds t avoid f × (IsUniverse kinds f.universe × Ext t f.universe f.head) × ((fds : List Fd) → IsClosed fds t.rows (λ x. x) → AreAvoided avoid t → Meets fds f.universe) × ((s : Tab) → AreAvoided avoid s → AreAvoided avoid t → Ext s f.universe f.head → Maps s t)
+pub freeze_told : (kinds : Kinds) (t : Tab) (avoid : List Value) → IsValid t → IsTyped kinds t → (rows : List (List Sym)) → rows ≡ t.rows → (ks variables : List ℕ) → ks ≡ variables → ((k : ℕ) → Contains variables k ↔ Occurs rows k) → IsStrictlySortedBy nat_cmp variables → (found kept : List Kind) → found ≡ kept → ((var_kind : ℕ → Kind) → All (λ row. map (sym_kind var_kind) row ≡ kinds) rows → kept ≡ map var_kind ks) → (sorted copies : List Value) → sorted ≡ copies → ((c : Value) → Contains copies c ↔ Contains avoid c) → (vs values : List Value) → vs ≡ values → length values ≡ length found → ((p : ℕ) → p < length found → IsFreeAt sorted (get_or found p IntKind) values p) → (head : List Sym) → head ≡ t.head → (f : Frozen) → f.universe ≡ map (values_of (value_in ks vs)) rows → f.head ≡ values_of (value_in ks vs) head → IsFrozen kinds t avoid f × (IsUniverse kinds f.universe × Ext t f.universe f.head) × ((fds : List Fd) → IsClosedPartition fds t.rows (λ x. x) → AreAvoided avoid t → Meets fds f.universe) × ((s : Tab) → AreAvoided avoid s → AreAvoided avoid t → Ext s f.universe f.head → Maps s t)
 freeze_told kinds t avoid valid typed rows rows_is ks variables ks_is all ascending found kept found_is are sorted copies sorted_is same vs values vs_is many free head head_is f universe_is frozen_head =
     told kinds t avoid valid typed sorted (subst (λ (xs : List Value). (c : Value) → Contains xs c ↔ Contains avoid c) (sym sorted_is) same) ks
     (subst (λ (xs : List ℕ). (k : ℕ) → Contains xs k ↔ Occurs t.rows k) (sym ks_is) (subst (λ (rs : List (List Sym)). (k : ℕ) → Contains variables k ↔ Occurs rs k) rows_is all))

@@ -12,11 +12,11 @@ use Rattle.su_tableau.specs.declared.symbols.Sym.TheVariants.{Var}
 use Rattle.su_classes.specs.declared.items.Placed.{Placed}
 use Rattle.su_fd.specs.Meeting.{LiesIn}
 use Rattle.su_classes.specs.Items.{cell, SameAt, Keeps, IsKept, IsPlacedBelow}
-use Rattle.su_classes.specs.Tables.{rep, IsLeast}
-use Rattle.su_classes.specs.inside.Symbols.{AreDistinct, is_known, number_of, symbol_at, name_in}
+use Rattle.su_classes.specs.Tables.{rep, IsLeastTable}
+use Rattle.su_classes.specs.inside.Symbols.{AreDistinct, is_known, symbol_number, symbol_at, name_in}
 use Rattle.su_classes.proofs.Places.{IsNumbering, numbering}
 use Rattle.su_classes.proofs.Named.{same_rep, same_name}
-use Rattle.su_chase.specs.Chase.{SameLabels, IsClosed}
+use Rattle.su_chase.specs.Chase.{SameLabels, IsClosedPartition}
 use Rattle.su_chase.specs.Chased.{IsFdBelow}
 use Rattle.su_chase.specs.inside.Rows.{IsPlacedRow}
 
@@ -50,13 +50,13 @@ module _ (vs : List Value) (limit width : ℕ) (fds : List Fd) (rows : List (Lis
       (get_or rows i [], Contains-get_or rows i [] l, subst (λ (q : Placed). IsPlacedRow vs (get_or rows i []) q) c.2 (n.are i p l))
 
   -- the item at an attribute is the number of the symbol there
-  cell_is : (r : List Sym) (p : Placed) (a : ℕ) (d : Sym) → IsPlacedRow vs r p → a < length r → cell p a ≡ number_of vs (get_or r a d)
-  cell_is r p a d is l = ap (λ (cells : List ℕ). get_or cells a 0) is.cells ∙ get_or-map (number_of vs) r a d 0 l
+  cell_is : (r : List Sym) (p : Placed) (a : ℕ) (d : Sym) → IsPlacedRow vs r p → a < length r → cell p a ≡ symbol_number vs (get_or r a d)
+  cell_is r p a d is l = ap (λ (cells : List ℕ). get_or cells a 0) is.cells ∙ get_or-map (symbol_number vs) r a d 0 l
 
   symbol_is : (r : List Sym) (p : Placed) (a : ℕ) (d : Sym) → Contains rows r → IsPlacedRow vs r p → a < length r → symbol_at vs (cell p a) ≡ get_or r a d
   symbol_is r p a d c is l = ap (symbol_at vs) (cell_is r p a d is l) ∙ (numbering vs limit n.distinct).back (get_or r a d) (n.known r c (get_or r a d) (Contains-get_or r a d l))
 
-  pub labels_kept : (label : Sym → Sym) → IsClosed fds rows label → IsKept fds placed [] (λ i. label (symbol_at vs i))
+  pub labels_kept : (label : Sym → Sym) → IsClosedPartition fds rows label → IsKept fds placed [] (λ i. label (symbol_at vs i))
   labels_kept label closed = record {
     equalities = λ k e l. absurd (omega arith);
     dependencies = λ k f l p q cp cq p_lies q_lies same a h.
@@ -83,7 +83,7 @@ module _ (vs : List Value) (limit width : ℕ) (fds : List Fd) (rows : List (Lis
       let p = get_or placed i d in
       let is = n.are i d l' in
       let w = wide r cr in
-      let cells : length p.cells ≡ length r = ap length is.cells ∙ length-map r (number_of vs) in
+      let cells : length p.cells ≡ length r = ap length is.cells ∙ length-map r (symbol_number vs) in
       record {
         narrow = omega arith;
         wide = λ a h. let b = (is.has a).0 h in omega arith;
@@ -101,11 +101,11 @@ module _ (vs : List Value) (limit width : ℕ) (fds : List Fd) (rows : List (Lis
     right = subset_by f.right p.has (λ b h. let l = low.right b h in (is.has b).1 (omega arith));
   }
 
-  module _ (table : List ℕ) (size : length table ≡ length vs + limit) (least : IsLeast fds placed [] table) where
-    pub numbers : IsNumbering (length vs) (length table) (is_known vs limit) (number_of vs) (symbol_at vs)
-    numbers = subst (λ (k : ℕ). IsNumbering (length vs) k (is_known vs limit) (number_of vs) (symbol_at vs)) (sym size) (numbering vs limit n.distinct)
+  module _ (table : List ℕ) (size : length table ≡ length vs + limit) (least : IsLeastTable fds placed [] table) where
+    pub numbers : IsNumbering (length vs) (length table) (is_known vs limit) (symbol_number vs) (symbol_at vs)
+    numbers = subst (λ (k : ℕ). IsNumbering (length vs) k (is_known vs limit) (symbol_number vs) (symbol_at vs)) (sym size) (numbering vs limit n.distinct)
 
-    pub names_closed : IsClosed fds rows (name_in vs limit table)
+    pub names_closed : IsClosedPartition fds rows (name_in vs limit table)
     names_closed f r s cf cr cs same a d h =
         let low = All-contains (IsFdBelow width) fds f n.below cf in
         let p = to_placed r cr in
@@ -118,9 +118,9 @@ module _ (vs : List Value) (limit width : ℕ) (fds : List Fd) (rows : List (Lis
         let left : SameAt (rep table) f.left p.0 q.0 = λ b has.
         let l = low.left b has in
         ap (rep table) (cell_is r p.0 b (Var 0) p.2 (omega arith))
-        ∙ same_rep (length vs) table (is_known vs limit) (number_of vs) (symbol_at vs) numbers least.ordered (get_or r b (Var 0)) (get_or s b (Var 0)) (known_r b (Var 0) l) (known_s b (Var 0) l) (same b (Var 0) has)
+        ∙ same_rep (length vs) table (is_known vs limit) (symbol_number vs) (symbol_at vs) numbers least.ordered (get_or r b (Var 0)) (get_or s b (Var 0)) (known_r b (Var 0) l) (known_s b (Var 0) l) (same b (Var 0) has)
         ∙ ap (rep table) (sym (cell_is s q.0 b (Var 0) q.2 (omega arith))) in
         let l = low.right a h in
         let right = keeps p.0 q.0 p.1 q.1 (lies_in f r p.0 low r_wide p.2) (lies_in f s q.0 low s_wide q.2) left a h in
-        same_name (length vs) table (is_known vs limit) (number_of vs) (symbol_at vs) numbers least.ordered (get_or r a d) (get_or s a d) (known_r a d l) (known_s a d l)
+        same_name (length vs) table (is_known vs limit) (symbol_number vs) (symbol_at vs) numbers least.ordered (get_or r a d) (get_or s a d) (known_r a d l) (known_s a d l)
         (ap (rep table) (sym (cell_is r p.0 a d p.2 (omega arith))) ∙ right ∙ ap (rep table) (cell_is s q.0 a d q.2 (omega arith)))

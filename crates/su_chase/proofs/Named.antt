@@ -10,12 +10,12 @@ use Rattle.su_fd.specs.declared.dependencies.Fd.{Fd}
 use Rattle.su_tableau.specs.declared.symbols.Sym.{Sym}
 use Rattle.su_tableau.specs.declared.symbols.Sym.TheVariants.{Const, Var}
 use Rattle.su_classes.specs.declared.items.Placed.{Placed}
-use Rattle.su_classes.specs.Tables.{rep, IsTable, IsLeast}
-use Rattle.su_classes.specs.inside.Symbols.{has_constant, place_of, is_known, number_of, symbol_at, name_in}
+use Rattle.su_classes.specs.Tables.{rep, IsTable, IsLeastTable}
+use Rattle.su_classes.specs.inside.Symbols.{has_constant, place_of, is_known, symbol_number, symbol_at, name_in}
 use Rattle.su_classes.proofs.ValueOrder.{compare_itself, less_before}
 use Rattle.su_classes.proofs.Places.{place_is, place_at, symbol_low, symbol_high, own_constant}
 use Rattle.su_classes.proofs.Named.{name_known, name_unknown, same_rep, known_too, item_class, name_member}
-use Rattle.su_chase.specs.Chase.{IsClosed, InOneClass, IsNoLater, IsName, IsConsistent, IsClash}
+use Rattle.su_chase.specs.Chase.{IsClosedPartition, InOneClass, IsNoLater, IsName, IsConsistent, IsClash}
 use Rattle.su_chase.specs.inside.Rows.{IsFirstClash}
 use Rattle.su_chase.proofs.ItemLabels.{AreNumbered, labels_kept, numbers, names_closed}
 
@@ -66,32 +66,32 @@ pub record Meeting (vs : List Value) (table : List ℕ) (a b : Value) : Type 0 w
 
 -- ---- names
 
-module _ (vs : List Value) (limit width : ℕ) (fds : List Fd) (rows : List (List Sym)) (placed : List Placed) (n : AreNumbered vs limit width fds rows placed) (sorted : IsStrictlySortedBy compare_values vs) (table : List ℕ) (size : length table ≡ length vs + limit) (least : IsLeast fds placed [] table) where
+module _ (vs : List Value) (limit width : ℕ) (fds : List Fd) (rows : List (List Sym)) (placed : List Placed) (n : AreNumbered vs limit width fds rows placed) (sorted : IsStrictlySortedBy compare_values vs) (table : List ℕ) (size : length table ≡ length vs + limit) (least : IsLeastTable fds placed [] table) where
   abbrev name : Sym → Sym
   name = name_in vs limit table
 
   abbrev t : IsTable table
   t = least.ordered
 
-  closed : IsClosed fds rows name
+  closed : IsClosedPartition fds rows name
   closed = names_closed vs limit width fds rows placed n table size least
 
-  known_name : (x : Sym) → is_known vs limit x ≡ true → name x ≡ symbol_at vs (rep table (number_of vs x))
-  known_name x k = name_known (length vs) table (is_known vs limit) (number_of vs) (symbol_at vs) (numbers vs limit width fds rows placed n table size least) t x k
+  known_name : (x : Sym) → is_known vs limit x ≡ true → name x ≡ symbol_at vs (rep table (symbol_number vs x))
+  known_name x k = name_known (length vs) table (is_known vs limit) (symbol_number vs) (symbol_at vs) (numbers vs limit width fds rows placed n table size least) t x k
 
-  reps : (x z : Sym) → is_known vs limit x ≡ true → is_known vs limit z ≡ true → name x ≡ name z → rep table (number_of vs x) ≡ rep table (number_of vs z)
-  reps = same_rep (length vs) table (is_known vs limit) (number_of vs) (symbol_at vs) (numbers vs limit width fds rows placed n table size least) t
+  reps : (x z : Sym) → is_known vs limit x ≡ true → is_known vs limit z ≡ true → name x ≡ name z → rep table (symbol_number vs x) ≡ rep table (symbol_number vs z)
+  reps = same_rep (length vs) table (is_known vs limit) (symbol_number vs) (symbol_at vs) (numbers vs limit width fds rows placed n table size least) t
 
   too : (x z : Sym) → is_known vs limit x ≡ true → name x ≡ name z → is_known vs limit z ≡ true
-  too = known_too (length vs) table (is_known vs limit) (number_of vs) (symbol_at vs) (numbers vs limit width fds rows placed n table size least) t
+  too = known_too (length vs) table (is_known vs limit) (symbol_number vs) (symbol_at vs) (numbers vs limit width fds rows placed n table size least) t
 
   member : (x : Sym) → InOneClass fds rows x (name x)
-  member = name_member (IsClosed fds rows) fds placed [] (length vs) table (is_known vs limit) (number_of vs) (symbol_at vs) (numbers vs limit width fds rows placed n table size least) least (labels_kept vs limit width fds rows placed n)
+  member = name_member (IsClosedPartition fds rows) fds placed [] (length vs) table (is_known vs limit) (symbol_number vs) (symbol_at vs) (numbers vs limit width fds rows placed n table size least) least (labels_kept vs limit width fds rows placed n)
 
-  number_low : (x : Sym) → is_known vs limit x ≡ true → rep table (number_of vs x) ≤ number_of vs x
-  number_low x k = t.below (number_of vs x) ((numbers vs limit width fds rows placed n table size least).number_in x k)
+  number_low : (x : Sym) → is_known vs limit x ≡ true → rep table (symbol_number vs x) ≤ symbol_number vs x
+  number_low x k = t.below (symbol_number vs x) ((numbers vs limit width fds rows placed n table size least).number_in x k)
 
-  back : (x : Sym) → is_known vs limit x ≡ true → symbol_at vs (number_of vs x) ≡ x
+  back : (x : Sym) → is_known vs limit x ≡ true → symbol_at vs (symbol_number vs x) ≡ x
   back = (numbers vs limit width fds rows placed n table size least).back
 
   pub is_name : (k : ℕ) → k < limit → IsName fds rows (Var k) (symbol_at vs (rep table (length vs + k)))
@@ -105,7 +105,7 @@ module _ (vs : List Value) (limit width : ℕ) (fds : List Fd) (rows : List (Lis
             let there = too (Var k) y here e in
             let same = reps (Var k) y here there e in
             let low = number_low y there in
-            subst (IsNoLater (symbol_at vs (rep table (length vs + k)))) (back y there) (no_later vs limit sorted (rep table (length vs + k)) (number_of vs y) (omega arith));
+            subst (IsNoLater (symbol_at vs (rep table (length vs + k)))) (back y there) (no_later vs limit sorted (rep table (length vs + k)) (symbol_number vs y) (omega arith));
       }
 
   -- ---- the clash
@@ -120,11 +120,11 @@ module _ (vs : List Value) (limit width : ℕ) (fds : List Fd) (rows : List (Lis
       ⊎_elim
       (λ (k : has_constant vs a ≡ true). k)
       (λ (k : has_constant vs a ≡ false).
-      let a_is : name (Const a) ≡ Const a = name_unknown (length vs) table (is_known vs limit) (number_of vs) (symbol_at vs) (numbers vs limit width fds rows placed n table size least) t (Const a) k in
+      let a_is : name (Const a) ≡ Const a = name_unknown (length vs) table (is_known vs limit) (symbol_number vs) (symbol_at vs) (numbers vs limit width fds rows placed n table size least) t (Const a) k in
       ⊎_elim
       (λ (h : has_constant vs b ≡ true). too (Const b) (Const a) h (sym e))
       (λ (h : has_constant vs b ≡ false).
-      let b_is : name (Const b) ≡ Const b = name_unknown (length vs) table (is_known vs limit) (number_of vs) (symbol_at vs) (numbers vs limit width fds rows placed n table size least) t (Const b) h in
+      let b_is : name (Const b) ≡ Const b = name_unknown (length vs) table (is_known vs limit) (symbol_number vs) (symbol_at vs) (numbers vs limit width fds rows placed n table size least) t (Const b) h in
       absurd (ne (same_const a b (sym a_is ∙ e ∙ b_is))))
       (cases_Bool (has_constant vs b)))
       (cases_Bool (has_constant vs a))
@@ -160,7 +160,7 @@ module _ (vs : List Value) (limit width : ℕ) (fds : List Fd) (rows : List (Lis
       record {
         differ = λ e. let p : r ≡ g = sym less_at ∙ ap (place_of vs) e ∙ greater_at in omega arith;
         together = λ label p.
-            let c = item_class (IsClosed fds rows) fds placed [] (length vs) table (is_known vs limit) (number_of vs) (symbol_at vs) (numbers vs limit width fds rows placed n table size least) least (labels_kept vs limit width fds rows placed n) g (let e = size in omega arith) label p in
+            let c = item_class (IsClosedPartition fds rows) fds placed [] (length vs) table (is_known vs limit) (symbol_number vs) (symbol_at vs) (numbers vs limit width fds rows placed n table size least) least (labels_kept vs limit width fds rows placed n) g (let e = size in omega arith) label p in
             ap label (sym (symbol_low vs limit r r_in)) ∙ sym c ∙ ap label (symbol_low vs limit g g_in);
         least = λ a b ne c.
             let m = meeting a b ne c in

@@ -15,12 +15,13 @@ use Rattle.su_classes.proofs.Merges.{same_var}
 use Rattle.su_fd.specs.declared.dependencies.Fd.{Fd}
 use Rattle.su_tableau.specs.declared.symbols.Sym.{Sym}
 use Rattle.su_tableau.specs.declared.symbols.Sym.TheVariants.{Const, Var}
-use Rattle.su_tableau.specs.Tableaux.{Tab, IsValid, IsSmall, Occurs, AreBelow, value_of, values_of, Sends, Ext}
+use Rattle.su_tableau.specs.Tableaux.{Tab, IsValid, IsSmall, Occurs, AreBelow}
+use Rattle.su_tableau.specs.Valuations.{value_of, values_of, Sends, Ext}
 use Rattle.su_tableau.specs.Kinds.{Kinds, sym_kind, IsTyped}
 use Rattle.su_tableau.proofs.Listing.{by_list, from_list}
 use Rattle.su_classes.proofs.ValueOrder.{at_most_both, compare_itself}
 use Rattle.su_fd.specs.Meeting.{Agree, Meets}
-use Rattle.su_chase.specs.Chase.{SameLabels, IsClosed, InOneClass, IsNoLater, IsName, IsConsistent, IsClash}
+use Rattle.su_chase.specs.Chase.{SameLabels, IsClosedPartition, InOneClass, IsNoLater, IsName, IsConsistent, IsClash}
 use Rattle.su_chase.specs.Chased.{IsFdBelow, AreRows, IsChased}
 use Rattle.su_chase.specs.inside.Rows.{name_by, named_tab}
 use Rattle.su_chase.proofs.Images.{map_read}
@@ -42,7 +43,7 @@ module _ (fds : List Fd) (rows : List (List Sym)) (name : Sym → Sym) (names : 
       ((names y).least (name x) (λ label p. sym (c label p) ∙ (names x).member label p))
 
   -- the names are a closed partition themselves
-  pub names_closed : IsClosed fds rows name
+  pub names_closed : IsClosedPartition fds rows name
   names_closed f r q cf cr cq same a d h =
       one_name (get_or r a d) (get_or q a d)
       (λ label p.
@@ -51,7 +52,7 @@ module _ (fds : List Fd) (rows : List (List Sym)) (name : Sym → Sym) (names : 
       a d h)
 
   -- so rows by their names are settled
-  pub settled : (width : ℕ) → All (λ row. length row ≡ width) rows → All (IsFdBelow width) fds → IsClosed fds (map (map name) rows) (λ x. x)
+  pub settled : (width : ℕ) → All (λ row. length row ≡ width) rows → All (IsFdBelow width) fds → IsClosedPartition fds (map (map name) rows) (λ x. x)
   settled width widths below f r q cf cr cq same a d h =
       let u = Contains-map_source (map name) rows r cr in
       let v = Contains-map_source (map name) rows q cq in
@@ -66,7 +67,7 @@ module _ (fds : List Fd) (rows : List (List Sym)) (name : Sym → Sym) (names : 
 -- ---- a class has one value
 
 module _ (fds : List Fd) (rows : List (List Sym)) (universe : List (List Value)) (meets : Meets fds universe) (w : ℕ → Value) (sends : Sends w rows universe) where
-  values_closed : IsClosed fds rows (λ x. Const (value_of w x))
+  values_closed : IsClosedPartition fds rows (λ x. Const (value_of w x))
   values_closed f r q cf cr cq same a d h =
       let has = λ (row : List Sym) (c : Contains rows row). All-contains (λ row. Contains universe (values_of w row)) rows row sends c in
       let left : Agree f.left (values_of w r) (values_of w q) = λ b e g. map_read (value_of w) r b (Const e) ∙ same_const _ _ (same b (Const e) g) ∙ sym (map_read (value_of w) q b (Const e)) in
@@ -128,7 +129,7 @@ module _ (fds : List Fd) (t : Tab) (names : List Sym) (are : (x : Sym) → IsNam
   typed kinds is =
       let f = is.var_kind in
       let row_kinds = λ (row : List Sym) (c : Contains t.rows row). All-contains (λ row. map (sym_kind f) row ≡ kinds) t.rows row is.fits c in
-      let closed : IsClosed fds t.rows (λ x. sample (sym_kind f x)) = λ g r q cg cr cq same a d h.
+      let closed : IsClosedPartition fds t.rows (λ x. sample (sym_kind f x)) = λ g r q cg cr cq same a d h.
       ap sample (sym (map_read (sym_kind f) r a d) ∙ ap (λ (ks : List Kind). get_or ks a (sym_kind f d)) (row_kinds r cr ∙ sym (row_kinds q cq)) ∙ map_read (sym_kind f) q a d) in
       let same : (x : Sym) → sym_kind f (name x) ≡ sym_kind f x = λ x. same_sample _ _ (sym ((are x).member (λ x. sample (sym_kind f x)) closed)) in
       record {
@@ -188,7 +189,7 @@ module _ (fds : List Fd) (rows : List (List Sym)) (names : List Sym) (all : All 
       crowd_low (get_or r a d) (λ k e. All-contains (AreBelow (length names)) rows r all c k (a, l, get_or_default r a (Var k) d l ∙ e))
 
   module _ (width : ℕ) (widths : All (λ row. length row ≡ width) rows) where
-    crowd_closed : IsClosed fds rows crowd
+    crowd_closed : IsClosedPartition fds rows crowd
     crowd_closed f r q cf cr cq same a d h =
         let r_wide = All-contains (λ (row : List Sym). length row ≡ width) rows r widths cr in
         let q_wide = All-contains (λ (row : List Sym). length row ≡ width) rows q widths cq in
@@ -257,13 +258,13 @@ module _ (fds : List Fd) (t : Tab) (is : IsValid t) (below : All (IsFdBelow t.wi
   pub chased_typed : (kinds : Kinds) → IsTyped kinds t → IsTyped kinds c
   chased_typed kinds k = subst (IsTyped kinds) (sym c_is) (typed fds t names all_names kinds k)
 
-  pub chased_settled : IsClosed fds c.rows (λ x. x)
-  chased_settled = subst (λ (s : Tab). IsClosed fds s.rows (λ x. x)) (sym c_is) (settled fds t.rows (name_by names) all_names t.width is.widths below)
+  pub chased_settled : IsClosedPartition fds c.rows (λ x. x)
+  chased_settled = subst (λ (s : Tab). IsClosedPartition fds s.rows (λ x. x)) (sym c_is) (settled fds t.rows (name_by names) all_names t.width is.widths below)
 
 -- the same from what `close` tells of rows that are the tableau's
 pub chase_told : (fds : List Fd) (t : Tab) → IsValid t → All (IsFdBelow t.width) fds → (names : List Sym) (rows : List (List Sym)) → rows ≡ t.rows → All (AreBelow (length names)) rows → ((k : ℕ) → k < length names → IsName fds rows (Var k) (get_or names k (Var k))) → (clash : Option (Value × Value))
     → MatchOption clash (IsConsistent fds rows) (λ p. IsClash fds rows p.0 p.1) → clash ≡ None → (c : Tab) → c ≡ named_tab (name_by names) t
-    → IsChased fds t c × ((universe : List (List Value)) (h : List Value) → Meets fds universe → Ext t universe h ↔ Ext c universe h) × ((kinds : Kinds) → IsTyped kinds t → IsTyped kinds c) × IsClosed fds c.rows (λ x. x)
+    → IsChased fds t c × ((universe : List (List Value)) (h : List Value) → Meets fds universe → Ext t universe h ↔ Ext c universe h) × ((kinds : Kinds) → IsTyped kinds t → IsTyped kinds c) × IsClosedPartition fds c.rows (λ x. x)
 chase_told fds t is below names rows rows_is all are clash told none c c_is =
     let all' : All (AreBelow (length names)) t.rows = subst (λ (rs : List (List Sym)). All (AreBelow (length names)) rs) rows_is all in
     let are' : (k : ℕ) → k < length names → IsName fds t.rows (Var k) (get_or names k (Var k)) = subst (λ (rs : List (List Sym)). (k : ℕ) → k < length names → IsName fds rs (Var k) (get_or names k (Var k))) rows_is are in

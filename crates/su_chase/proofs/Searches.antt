@@ -12,7 +12,7 @@ use Rattle.su_base.specs.declared.values.Value.TheVariants.{Int}
 use Rattle.su_base.specs.Value.{compare_values}
 use Rattle.su_base.specs.contracts.values.ValueOrd.TheImpl.{ghosts as cmp_ghosts}
 use Rattle.su_base.proofs.Rows.{cmp-values}
-use Rattle.su_tableau.specs.Tableaux.{nth}
+use Rattle.su_tableau.specs.Valuations.{nth}
 use Rattle.su_classes.proofs.ValueOrder.{compare_same}
 use Rattle.su_classes.proofs.Places.{place_is}
 use Rattle.su_chase.specs.inside.Rows.{value_in}

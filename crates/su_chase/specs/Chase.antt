@@ -19,12 +19,12 @@ abbrev pub SameLabels : (Sym → Sym) → FinSet nat_cmp → List Sym → List S
 SameLabels label s r q = (a : ℕ) (d : Sym) → IsTrue (contains s a) → label (get_or r a d) ≡ label (get_or q a d)
 
 -- labels that keep each dependency on all rows
-abbrev pub IsClosed : List Fd → List (List Sym) → (Sym → Sym) → Type 0
-IsClosed fds rows label = (f : Fd) (r q : List Sym) → Contains fds f → Contains rows r → Contains rows q → SameLabels label f.left r q → SameLabels label f.right r q
+abbrev pub IsClosedPartition : List Fd → List (List Sym) → (Sym → Sym) → Type 0
+IsClosedPartition fds rows label = (f : Fd) (r q : List Sym) → Contains fds f → Contains rows r → Contains rows q → SameLabels label f.left r q → SameLabels label f.right r q
 
 -- every closed partition puts x and y together
 abbrev pub InOneClass : List Fd → List (List Sym) → Sym → Sym → Type 0
-InOneClass fds rows = InClass (IsClosed fds rows)
+InOneClass fds rows = InClass (IsClosedPartition fds rows)
 
 -- x stands before y as a name, or is y: constants by their order, then variables by their numbers
 abbrev pub IsNoLater : Sym → Sym → Type 0

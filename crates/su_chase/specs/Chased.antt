@@ -6,11 +6,12 @@ use Rattle.std.specs.FinSet.{FinSet, contains}
 use Rattle.su_base.specs.declared.values.Value.{Value}
 use Rattle.su_fd.specs.declared.dependencies.Fd.{Fd}
 use Rattle.su_tableau.specs.declared.symbols.Sym.{Sym}
-use Rattle.su_tableau.specs.Tableaux.{Tab, Ext}
+use Rattle.su_tableau.specs.Tableaux.{Tab}
+use Rattle.su_tableau.specs.Valuations.{Ext}
 use Rattle.su_tableau.specs.Kinds.{Kinds, IsTyped}
 use Rattle.su_chase.specs.declared.chasing.Chased.{Chased}
 use Rattle.su_chase.specs.declared.chasing.Chased.TheVariants as chased
-use Rattle.su_chase.specs.Chase.{IsClosed, IsName, IsConsistent, IsClash}
+use Rattle.su_chase.specs.Chase.{IsClosedPartition, IsName, IsConsistent, IsClash}
 
 -- all attributes of the dependency are below n
 pub record IsFdBelow (n : ℕ) (f : Fd) : Type 0 where
@@ -49,5 +50,5 @@ IsTypedOf kinds (chased.Clash less greater) = Unit {0}
 
 -- the chased tableau, if there is one, is settled
 abbrev pub IsSettledOf : List Fd → Chased → Type 0
-IsSettledOf fds (chased.Closed c) = IsClosed fds c.rows (λ x. x)
+IsSettledOf fds (chased.Closed c) = IsClosedPartition fds c.rows (λ x. x)
 IsSettledOf fds (chased.Clash less greater) = Unit {0}

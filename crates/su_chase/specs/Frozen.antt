@@ -8,7 +8,8 @@ use Rattle.su_base.specs.declared.values.Value.{Value}
 use Rattle.su_base.specs.declared.values.Value.TheVariants.{Int, Text}
 use Rattle.su_tableau.specs.declared.symbols.Sym.{Sym}
 use Rattle.su_tableau.specs.declared.symbols.Sym.TheVariants.{Const}
-use Rattle.su_tableau.specs.Tableaux.{Tab, Occurs, values_of}
+use Rattle.su_tableau.specs.Tableaux.{Tab, Occurs}
+use Rattle.su_tableau.specs.Valuations.{values_of}
 use Rattle.su_tableau.specs.Kinds.{Kinds, sym_kind}
 use Rattle.su_chase.specs.declared.freezing.Frozen.{Frozen}
 

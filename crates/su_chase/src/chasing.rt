@@ -2,7 +2,8 @@
 ghost use Rattle.std.specs.Prelude.{◌≡◌, ◌↔◌, ℕ, ◌<◌, List as Items, length, map, All, IfOk};
 ghost use Rattle.su_base.specs.declared.values.Value.{Value as AValue};
 ghost use Rattle.su_tableau.specs.declared.symbols.Sym.TheVariants.{Var};
-ghost use Rattle.su_tableau.specs.Tableaux.{AreBelow, Ext};
+ghost use Rattle.su_tableau.specs.Tableaux.{AreBelow};
+ghost use Rattle.su_tableau.specs.Valuations.{Ext};
 ghost use Rattle.su_tableau.specs.Kinds.{Kinds, IsTyped};
 ghost use Rattle.su_fd.specs.Meeting.{Meets};
 ghost use Rattle.su_chase.specs.Chased.{IsFdBelow, IsChaseOf, ExtOf, IsTypedOf, IsSettledOf};

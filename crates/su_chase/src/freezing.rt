@@ -6,10 +6,11 @@ ghost use Rattle.su_base.specs.declared.values.Kind.{Kind as AKind};
 ghost use Rattle.su_base.specs.declared.values.Kind.TheVariants.{Int as IntKind};
 ghost use Rattle.su_fd.specs.declared.dependencies.Fd.{Fd as AFd};
 ghost use Rattle.su_tableau.specs.declared.symbols.Sym.TheVariants.{Var};
-ghost use Rattle.su_tableau.specs.Tableaux.{Tab, Occurs, Ext, value_of, values_of};
+ghost use Rattle.su_tableau.specs.Tableaux.{Tab, Occurs};
+ghost use Rattle.su_tableau.specs.Valuations.{Ext, value_of, values_of};
 ghost use Rattle.su_tableau.specs.Kinds.{IsUniverse, IsTyped, sym_kind};
 ghost use Rattle.su_tableau.specs.Mapping.{Maps};
-ghost use Rattle.su_chase.specs.Chase.{IsClosed};
+ghost use Rattle.su_chase.specs.Chase.{IsClosedPartition};
 ghost use Rattle.su_fd.specs.Meeting.{Meets};
 ghost use Rattle.su_chase.specs.Frozen.{IsFrozen, AreAvoided};
 ghost use Rattle.su_chase.specs.inside.Rows.{variable_of, value_in};
@@ -183,7 +184,7 @@ pub fn freeze(
     requires typed { IsTyped kinds.now t.now }
     ensures frozen { IfOk result (IsFrozen kinds.now t.now avoid.now) }
     ensures universe { IfOk result (λ f. IsUniverse kinds.now f.universe × Ext t.now f.universe f.head) }
-    ensures meets { IfOk result (λ f. (fds : Items AFd) → IsClosed fds t.now.rows (λ x. x) → AreAvoided avoid.now t.now → Meets fds f.universe) }
+    ensures meets { IfOk result (λ f. (fds : Items AFd) → IsClosedPartition fds t.now.rows (λ x. x) → AreAvoided avoid.now t.now → Meets fds f.universe) }
     ensures thawed { IfOk result (λ f. (s : Tab) → AreAvoided avoid.now s → AreAvoided avoid.now t.now → Ext s f.universe f.head → Maps s t.now) }
 {
     t.keeps_its_rules();

@@ -5,7 +5,7 @@ ghost use Rattle.std.specs.FinSet.{contains};
 ghost use Rattle.su_base.specs.declared.values.Value.{Value as AValue};
 ghost use Rattle.su_base.specs.Value.{compare_values};
 ghost use Rattle.su_tableau.specs.Tableaux.{AreBelow};
-ghost use Rattle.su_classes.specs.inside.Symbols.{place_of, number_of};
+ghost use Rattle.su_classes.specs.inside.Symbols.{place_of, symbol_number};
 ghost use Rattle.su_classes.specs.declared.items.Placed.{Placed as APlaced};
 ghost use Rattle.su_chase.specs.inside.Rows.{constant_of, constants_in, IsPlacedRow};
 
@@ -93,7 +93,7 @@ fn place(constants: &[Value], value: &Value) -> usize
 /// The item of a symbol.
 fn number(constants: &[Value], x: &Sym) -> usize
     requires { IsStrictlySortedBy compare_values constants.now }
-    ensures { result ≡ number_of constants.now x.now }
+    ensures { result ≡ symbol_number constants.now x.now }
 {
     match x {
         Sym::Const(value) => place(constants, value),
@@ -104,7 +104,7 @@ fn number(constants: &[Value], x: &Sym) -> usize
 /// The items of a row's symbols.
 fn items_of(alloc: Global, constants: &[Value], row: &[Sym]) -> Result<List<usize>, NoMemory>
     requires { IsStrictlySortedBy compare_values constants.now }
-    ensures { IfOk result (λ items. items ≡ map (number_of constants.now) row.now) }
+    ensures { IfOk result (λ items. items ≡ map (symbol_number constants.now) row.now) }
 {
     let mut items = List::new(alloc);
     for x in row {

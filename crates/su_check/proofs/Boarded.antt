@@ -9,9 +9,8 @@ use Rattle.su_tableau.specs.declared.symbols.Sym.TheVariants.{Var}
 use Rattle.su_tableau.specs.Tableaux.{Occurs}
 use Rattle.su_check.specs.declared.certificates.Term.{Term}
 use Rattle.su_check.specs.Certificate.{lines_of}
-use Rattle.su_check.specs.inside.Cells.{cell}
+use Rattle.su_check.specs.inside.Cells.{cell, IsFirstPlace}
 use Rattle.su_check.specs.inside.Boards.{AreMarks, IsNumber, AreNumbers, IsBoard}
-use Rattle.su_check.specs.inside.Cells.{IsFirst}
 
 pub only_one : {X : Type 0} (x k : X) → Contains (x ∷ []) k → x ≡ k
 only_one x k (zero, h, e) = e
@@ -45,22 +44,22 @@ const_row row i x out h is none before k = below_more (λ j. get_or row j (Var k
 
 -- ---- first places
 
-pub first_one : (variables : List ℕ) (k m n : ℕ) → IsFirst variables k m → IsFirst variables k n → m ≡ n
+pub first_one : (variables : List ℕ) (k m n : ℕ) → IsFirstPlace variables k m → IsFirstPlace variables k n → m ≡ n
 first_one variables k m n a b =
     ⊎_elim
     (λ (lt : m < n). absurd (let u = b.before m lt in let e = a.is in omega arith))
     (λ (le : n ≤ m). ⊎_elim (λ (lt : n < m). absurd (let u = a.before n lt in let e = b.is in omega arith)) (λ (ge : m ≤ n). omega arith) (cases_lt n m))
     (cases_lt m n)
 
-pub first_there : (variables : List ℕ) (k n : ℕ) → IsFirst variables k n → Contains variables k
+pub first_there : (variables : List ℕ) (k n : ℕ) → IsFirstPlace variables k n → Contains variables k
 first_there variables k n a = (n, a.below, get_or_default variables n k 0 a.below ∙ a.is)
 
 -- ---- marks of the head's variables
 
 pub record Marked (variables : List ℕ) (head : List Sym) (i : ℕ) (marks : List Bool) : Type 0 where
   pub one_each : length marks ≡ length variables
-  pub marked : (k n : ℕ) → IsFirst variables k n → get_or marks n false ≡ true → Contains head (Var k)
-  pub done : (k n j : ℕ) → IsFirst variables k n → j < i → get_or head j (Var k) ≡ Var k → get_or marks n false ≡ true
+  pub marked : (k n : ℕ) → IsFirstPlace variables k n → get_or marks n false ≡ true → Contains head (Var k)
+  pub done : (k n j : ℕ) → IsFirstPlace variables k n → j < i → get_or head j (Var k) ≡ Var k → get_or marks n false ≡ true
   pub there : (k j : ℕ) → j < i → get_or head j (Var k) ≡ Var k → Contains variables k
 
 set_stays : (marks marks' : List Bool) (n m : ℕ) → n < length marks → marks' ≡ set marks n true → get_or marks m false ≡ true → get_or marks' m false ≡ true
@@ -70,7 +69,7 @@ set_stays marks marks' n m h e was =
     (λ (other : m ≢ n). ap (λ ms. get_or ms m false) e ∙ get_or-set_other marks n m true false other ∙ was)
     (cases_eq m n)
 
-pub mark_var : (variables : List ℕ) (head : List Sym) (i : ℕ) (marks marks' : List Bool) (x : Sym) (k n : ℕ) → Marked variables head i marks → i < length head → x ≡ get_or head i x → x ≡ Var k → IsFirst variables k n → marks' ≡ set marks n true → Marked variables head (i + 1) marks'
+pub mark_var : (variables : List ℕ) (head : List Sym) (i : ℕ) (marks marks' : List Bool) (x : Sym) (k n : ℕ) → Marked variables head i marks → i < length head → x ≡ get_or head i x → x ≡ Var k → IsFirstPlace variables k n → marks' ≡ set marks n true → Marked variables head (i + 1) marks'
 mark_var variables head i marks marks' x k n before h is v first e =
     let low : n < length marks = let a = before.one_each in let b = first.below in omega arith in
     record {
@@ -89,7 +88,7 @@ mark_var variables head i marks marks' x k n before h is v first e =
           let same : a ≡ i = omega arith in
           let both : Var k ≡ Var j = sym v ∙ sym (item_is head i x (Var j) h is) ∙ ap (λ a. get_or head a (Var j)) (sym same) ∙ at in
           let k_j : k ≡ j = cc in
-          let n_m : n ≡ m = first_one variables j n m (subst (λ k. IsFirst variables k n) k_j first) f in
+          let n_m : n ≡ m = first_one variables j n m (subst (λ k. IsFirstPlace variables k n) k_j first) f in
           ap (λ ms. get_or ms m false) e ∙ ap (λ m. get_or (set marks n true) m false) (sym n_m) ∙ get_or-set_same marks n true false low)
           (cases_lt a i);
       there = λ j.

@@ -8,7 +8,8 @@ use Rattle.su_lex.proofs.Gaps.{gap_within}
 use Rattle.su_lex.proofs.Lists.{first_len}
 use Rattle.su_check.specs.declared.certificates.Certificate.{Certificate}
 use Rattle.su_check.specs.declared.certificates.Term.{Term}
-use Rattle.su_check.specs.Grammar.{kind_symbol, Reads}
+use Rattle.su_lex.specs.Wording.{kind_symbol}
+use Rattle.su_check.specs.Grammar.{Reads}
 use Rattle.su_check.specs.inside.Reading.{term_symbols}
 use Rattle.su_check.proofs.TermSymbols.{certificate_at}
 

@@ -7,7 +7,7 @@ use Rattle.su_tableau.specs.declared.symbols.Sym.{Sym}
 use Rattle.su_tableau.specs.declared.symbols.Sym.TheVariants.{Const, Var}
 use Rattle.su_tableau.specs.Mapping.{image_of, images_of}
 use Rattle.su_check.specs.declared.sending.Sent.{Sent}
-use Rattle.su_check.specs.Fitting.{Lines, row_of, AreSent, sent_too}
+use Rattle.su_check.specs.Fitting.{Lines, numbered_row, AreSent, sent_too}
 use Rattle.su_check.specs.inside.Widths.{IsWithin}
 use Rattle.su_check.specs.Certificate.{IsFoldInto}
 use Rattle.su_check.proofs.TargetsTogether.{all_front, all_last}
@@ -31,15 +31,15 @@ images_of-Var (x ∷ xs) = let i = images_of-Var xs in let j = image_of-Var x in
 
 -- the empty list is sent
 pub none_sent : (t : Lines) → AreSent t []
-none_sent t = record { symbols = Var; head = images_of-Var t.head; rows = All-nil (λ x. images_of Var (row_of t x.row) ≡ row_of t x.target) }
+none_sent t = record { symbols = Var; head = images_of-Var t.head; rows = All-nil (λ x. images_of Var (numbered_row t x.row) ≡ numbered_row t x.target) }
 
 -- what a mapping gives
 pub fold_front : (t : Lines) (fold : List ℕ) (f : IsFoldInto t fold) (n : ℕ) → n ≤ length t.rows → AreSent t (fold_sent fold n)
 fold_front t fold f n h = record { symbols = f.symbols; head = f.head; rows = go n h }
   where
-    go : (n : ℕ) → n ≤ length t.rows → All (λ x. images_of f.symbols (row_of t x.row) ≡ row_of t x.target) (fold_sent fold n)
-    go zero h = All-nil (λ x. images_of f.symbols (row_of t x.row) ≡ row_of t x.target)
-    go (suc n) h = All-push (λ x. images_of f.symbols (row_of t x.row) ≡ row_of t x.target) (fold_sent fold n) (record { row = n; target = get_or fold n 0 }) (go n (omega arith)) (f.rows n (omega arith))
+    go : (n : ℕ) → n ≤ length t.rows → All (λ x. images_of f.symbols (numbered_row t x.row) ≡ numbered_row t x.target) (fold_sent fold n)
+    go zero h = All-nil (λ x. images_of f.symbols (numbered_row t x.row) ≡ numbered_row t x.target)
+    go (suc n) h = All-push (λ x. images_of f.symbols (numbered_row t x.row) ≡ numbered_row t x.target) (fold_sent fold n) (record { row = n; target = get_or fold n 0 }) (go n (omega arith)) (f.rows n (omega arith))
 
 all_rows : (P : Sent → Type 0) (fold : List ℕ) (n : ℕ) → All P (fold_sent fold n) → (i : ℕ) → i < n → P (record { row = i; target = get_or fold i 0 })
 all_rows P fold zero all i h = absurd (omega arith)
@@ -54,7 +54,7 @@ all_rows P fold (suc n) all i h =
 -- what gives a mapping
 pub fold_from : (t : Lines) (fold : List ℕ) (n : ℕ) (p : List Sent) → length fold ≡ length t.rows → length t.rows ≤ n → p ≡ fold_sent fold n → AreSent t p → IntoKept t fold n → IsFoldInto t fold
 fold_from t fold n p len le e sent into =
-    let P : Sent → Type 0 = λ x. images_of sent.symbols (row_of t x.row) ≡ row_of t x.target in
+    let P : Sent → Type 0 = λ x. images_of sent.symbols (numbered_row t x.row) ≡ numbered_row t x.target in
     record {
       symbols = sent.symbols;
       one_each = len;

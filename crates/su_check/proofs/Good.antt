@@ -7,7 +7,8 @@ use Rattle.su_check.specs.declared.nodes.Node.{Node}
 use Rattle.su_check.specs.declared.certificates.Certificate.{Certificate}
 use Rattle.su_check.specs.declared.certificates.Term.{Term}
 use Rattle.su_check.specs.Refuting.{Refutes}
-use Rattle.su_check.specs.Certificate.{tableau_of, lines_of, IsGood, IsLeastPart}
+use Rattle.su_check.specs.Certificate.{tableau_of, lines_of, IsGood}
+use Rattle.su_check.specs.LeastParts.{IsLeastPart}
 use Rattle.su_check.specs.Verdict.{IsVerdictOn}
 use Rattle.su_check.specs.declared.verdicts.Checked.{Checked}
 use Rattle.su_check.specs.declared.verdicts.Checked.TheVariants.{Yes}

@@ -17,9 +17,10 @@ use Rattle.su_tableau.proofs.Sets.{choose}
 use Rattle.su_check.specs.declared.nodes.Node.{Node}
 use Rattle.su_check.specs.declared.nodes.Branch.{Branch}
 use Rattle.su_check.specs.declared.sending.Sent.{Sent}
-use Rattle.su_check.specs.Fitting.{Lines, row_of, sent_too}
+use Rattle.su_check.specs.Fitting.{Lines, numbered_row, sent_too}
 use Rattle.su_check.specs.Refuting.{IsAscending, IsFitting, Refutes, refuting, row_named, branches_of, target_of, node_of}
-use Rattle.su_check.specs.Certificate.{part_of, IsFoldInto, IsLeastPart}
+use Rattle.su_check.specs.LeastParts.{part_of, IsLeastPart}
+use Rattle.su_check.specs.Certificate.{IsFoldInto}
 use Rattle.su_check.proofs.FoldTargets.{images_of-Var}
 
 -- ---- a tree refutes each map that leaves the row out
@@ -34,11 +35,11 @@ branch_to (b ∷ bs) j (suc k, h, e) =
 
 -- under the symbols each kept row goes to a kept row other than r
 abbrev pub LeavesOut : Lines → ℕ → (ℕ → Sym) → Type 0
-LeavesOut t r f = (s : ℕ) → Contains t.kept s → (j : ℕ) × Contains t.kept j × (j ≢ r) × (images_of f (row_of t s) ≡ row_of t j)
+LeavesOut t r f = (s : ℕ) → Contains t.kept s → (j : ℕ) × Contains t.kept j × (j ≢ r) × (images_of f (numbered_row t s) ≡ numbered_row t j)
 
-pub refuted : (t : Lines) (r : ℕ) (f : ℕ → Sym) → images_of f t.head ≡ t.head → LeavesOut t r f → (n : Node) (p : List Sent) → Refutes t r n p → All (λ x. images_of f (row_of t x.row) ≡ row_of t x.target) p → ⊥
+pub refuted : (t : Lines) (r : ℕ) (f : ℕ → Sym) → images_of f t.head ≡ t.head → LeavesOut t r f → (n : Node) (p : List Sent) → Refutes t r n p → All (λ x. images_of f (numbered_row t x.row) ≡ numbered_row t x.target) p → ⊥
 refuted t r f head goes n p (refuting _ _ open' _ exact each) sent =
-    let P : Sent → Type 0 = λ x. images_of f (row_of t x.row) ≡ row_of t x.target in
+    let P : Sent → Type 0 = λ x. images_of f (numbered_row t x.row) ≡ numbered_row t x.target in
     let s = row_named n in
     let g = goes s open'.member in
     let more : All P (sent_too p s g.0) = All-push P p (record { row = s; target = g.0 }) sent g.3 in
@@ -186,7 +187,7 @@ module _ (t : Tab) (kept : List ℕ) where
       let has : Contains c x = (to.0, (let l = to.1 in omega arith), get_or_default c to.0 x 0 (let l = to.1 in omega arith)) in
       let at : get_or s.rows to.0 [] ≡ images_of f.symbols (get_or t.rows i []) = get_or_default s.rows to.0 [] (images_of f.symbols (get_or t.rows i [])) to.1 ∙ to.2 in
       (x, there.0, (λ e. none (subst (Contains c) e has)), sym (images_after f.symbols g.symbols (get_or t.rows i [])) ∙ ap (images_of g.symbols) (sym at) ∙ there.1) in
-      absurd (refuted t' r h (sym (images_after f.symbols g.symbols t.head) ∙ ap (images_of g.symbols) f.head ∙ g.head) leaves n [] tree (All-nil (λ x. images_of h (row_of t' x.row) ≡ row_of t' x.target)))
+      absurd (refuted t' r h (sym (images_after f.symbols g.symbols t.head) ∙ ap (images_of g.symbols) f.head ∙ g.head) leaves n [] tree (All-nil (λ x. images_of h (numbered_row t' x.row) ≡ numbered_row t' x.target)))
 
   abbrev HaveTrees : Type 0
   HaveTrees = (r : ℕ) → Contains kept r → (n : Node) × Refutes (record { head = t.head; rows = t.rows; kept = kept }) r n []

@@ -10,7 +10,8 @@ use Rattle.su_check.specs.declared.nodes.Branch.{Branch, fold-Branch, fold_out-B
 use Rattle.su_check.specs.declared.nodes.Branch.TheOpen.{Branch-F, Node-F}
 use Rattle.su_lex.specs.Names.{Begins}
 use Rattle.su_check.specs.Refuting.{row_named, branches_of, target_of, node_of}
-use Rattle.su_check.specs.Grammar.{number, node_symbols, node_step, branch_step, IsByte, IsByteNode, of_bytes}
+use Rattle.su_check.specs.NodeSymbols.{number, node_symbols, node_step, branch_step}
+use Rattle.su_check.specs.Ranges.{IsByte, IsByteNode, of_bytes}
 use Rattle.su_check.proofs.Runs.{Left, next_item, no_item}
 
 abbrev pub branch_symbols : Branch → List Symbol

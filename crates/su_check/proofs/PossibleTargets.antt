@@ -4,26 +4,26 @@ use Rattle.std.proofs.lemmas.List.Elements.{All-push}
 use Rattle.su_tableau.specs.declared.symbols.Sym.{Sym}
 use Rattle.su_tableau.specs.Mapping.{image_of, images_of}
 use Rattle.su_check.specs.declared.sending.Sent.{Sent}
-use Rattle.su_check.specs.declared.sending.Place.{Place}
+use Rattle.su_check.specs.declared.sending.StepColumn.{StepColumn}
 use Rattle.su_check.specs.inside.Cells.{cell}
-use Rattle.su_check.specs.Fitting.{Lines, row_of, AreSent, sent_too}
+use Rattle.su_check.specs.Fitting.{Lines, numbered_row, AreSent, sent_too}
 use Rattle.su_check.specs.inside.Boards.{no_pair, IsImage}
 use Rattle.su_check.proofs.TargetsTogether.{all_front, all_last, image_cell}
 
 -- a target of the row has the image of the row's symbol
-pub image_told : (t : Lines) (p : List Sent) (s j c : ℕ) (place : Place) (x y : Sym) → c < length (row_of t s) → x ≡ cell (row_of t s) c → IsImage t p place x y → AreSent t (sent_too p s j) → cell (row_of t j) c ≡ y
+pub image_told : (t : Lines) (p : List Sent) (s j c : ℕ) (place : StepColumn) (x y : Sym) → c < length (numbered_row t s) → x ≡ cell (numbered_row t s) c → IsImage t p place x y → AreSent t (sent_too p s j) → cell (numbered_row t j) c ≡ y
 image_told t p s j c place x y h ex m a =
     let f = a.symbols in
     let o = get_or p place.step no_pair in
-    let P : Sent → Type 0 = λ x. images_of f (row_of t x.row) ≡ row_of t x.target in
+    let P : Sent → Type 0 = λ x. images_of f (numbered_row t x.row) ≡ numbered_row t x.target in
     let w : Sent = record { row = s; target = j } in
-    let last : images_of f (row_of t s) ≡ row_of t j = all_last P p w a.rows in
-    let front : images_of f (row_of t o.row) ≡ row_of t o.target = all_front P p w a.rows place.step no_pair m.step in
-    image_cell f (row_of t s) (row_of t j) c last h ∙ ap (image_of f) (sym ex ∙ sym m.symbol) ∙ sym (image_cell f (row_of t o.row) (row_of t o.target) place.column front m.column) ∙ m.image
+    let last : images_of f (numbered_row t s) ≡ numbered_row t j = all_last P p w a.rows in
+    let front : images_of f (numbered_row t o.row) ≡ numbered_row t o.target = all_front P p w a.rows place.step no_pair m.step in
+    image_cell f (numbered_row t s) (numbered_row t j) c last h ∙ ap (image_of f) (sym ex ∙ sym m.symbol) ∙ sym (image_cell f (numbered_row t o.row) (numbered_row t o.target) place.column front m.column) ∙ m.image
 
 -- a row that goes somewhere beside others goes there alone
 pub sent_alone : (t : Lines) (p : List Sent) (s j : ℕ) → AreSent t (sent_too p s j) → AreSent t (sent_too [] s j)
 sent_alone t p s j a =
-    let P : Sent → Type 0 = λ x. images_of a.symbols (row_of t x.row) ≡ row_of t x.target in
+    let P : Sent → Type 0 = λ x. images_of a.symbols (numbered_row t x.row) ≡ numbered_row t x.target in
     let w : Sent = record { row = s; target = j } in
     record { symbols = a.symbols; head = a.head; rows = All-push P [] w (λ k d h. absurd (omega arith)) (all_last P p w a.rows) }

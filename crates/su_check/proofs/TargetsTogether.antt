@@ -9,8 +9,8 @@ use Rattle.su_tableau.specs.Mapping.{image_of, images_of}
 use Rattle.su_tableau.proofs.Changing.{InRow, in_row}
 use Rattle.su_check.specs.declared.sending.Sent.{Sent}
 use Rattle.su_check.specs.inside.Cells.{cell, is_const}
-use Rattle.su_check.specs.Fitting.{Lines, row_of, AreSent, sent_too}
-use Rattle.su_check.specs.inside.Agreeing.{KeepsConstants, Agree, Goes, AgreesWith}
+use Rattle.su_check.specs.Fitting.{Lines, numbered_row, AreSent, sent_too}
+use Rattle.su_check.specs.inside.Agreeing.{KeepsConstants, GoAlike, Goes, AgreesWith}
 
 -- ---- a list with one more at its end
 
@@ -32,7 +32,7 @@ const_image f (Var k) e = absurd (false≢true e)
 pub images_keep : (f : ℕ → Sym) (xs us : List Sym) → images_of f xs ≡ us → KeepsConstants xs us
 images_keep f xs us e c h const = sym (image_cell f xs us c e h ∙ const_image f (cell xs c) const)
 
-pub images_agree : (f : ℕ → Sym) (xs us ys vs : List Sym) → images_of f xs ≡ us → images_of f ys ≡ vs → Agree xs us ys vs
+pub images_agree : (f : ℕ → Sym) (xs us ys vs : List Sym) → images_of f xs ≡ us → images_of f ys ≡ vs → GoAlike xs us ys vs
 images_agree f xs us ys vs e g c h b l same = image_cell f xs us c e h ∙ ap (image_of f) same ∙ sym (image_cell f ys vs b g l)
 
 -- ---- symbols that send one row more
@@ -52,7 +52,7 @@ images_by g ys vs len same =
     let low : e < length ys = omega arith in
     get_or-map (image_of g) ys e (Var 0) d low ∙ same e low ∙ get_or_default vs e (Var 0) d (omega arith))
 
-own_cell : (f : ℕ → Sym) (xs us : List Sym) (c : ℕ) (x : Sym) → x ≡ cell xs c → c < length xs → KeepsConstants xs us → Agree xs us xs us → image_of (joined f xs us) x ≡ cell us c
+own_cell : (f : ℕ → Sym) (xs us : List Sym) (c : ℕ) (x : Sym) → x ≡ cell xs c → c < length xs → KeepsConstants xs us → GoAlike xs us xs us → image_of (joined f xs us) x ≡ cell us c
 own_cell f xs us c (Const v) e h keeps agree = e ∙ keeps c h (ap is_const (sym e))
 own_cell f xs us c (Var k) e h keeps agree = go (in_row xs k)
   where
@@ -60,7 +60,7 @@ own_cell f xs us c (Var k) e h keeps agree = go (in_row xs k)
     go (inl r) = agree r.column r.below c h (r.is (Var 0) ∙ e)
     go (inr none) = absurd (none (record { column = c; below = h; is = λ d. get_or_default xs c d (Var 0) h ∙ sym e }))
 
-other_cell : (f : ℕ → Sym) (xs us ys vs : List Sym) (b : ℕ) (y : Sym) → y ≡ cell ys b → b < length ys → images_of f ys ≡ vs → Agree ys vs xs us → image_of (joined f xs us) y ≡ cell vs b
+other_cell : (f : ℕ → Sym) (xs us ys vs : List Sym) (b : ℕ) (y : Sym) → y ≡ cell ys b → b < length ys → images_of f ys ≡ vs → GoAlike ys vs xs us → image_of (joined f xs us) y ≡ cell vs b
 other_cell f xs us ys vs b (Const v) e h images agree = sym (image_cell f ys vs b images h ∙ ap (image_of f) (sym e))
 other_cell f xs us ys vs b (Var k) e h images agree = go (in_row xs k)
   where
@@ -68,33 +68,33 @@ other_cell f xs us ys vs b (Var k) e h images agree = go (in_row xs k)
     go (inl r) = sym (agree b h r.column r.below (sym e ∙ sym (r.is (Var 0))))
     go (inr none) = sym (image_cell f ys vs b images h ∙ ap (image_of f) (sym e))
 
-own_images : (f : ℕ → Sym) (xs us : List Sym) → length xs ≡ length us → KeepsConstants xs us → Agree xs us xs us → images_of (joined f xs us) xs ≡ us
+own_images : (f : ℕ → Sym) (xs us : List Sym) → length xs ≡ length us → KeepsConstants xs us → GoAlike xs us xs us → images_of (joined f xs us) xs ≡ us
 own_images f xs us len keeps agree = images_by (joined f xs us) xs us len (λ c h. own_cell f xs us c (cell xs c) refl h keeps agree)
 
-other_images : (f : ℕ → Sym) (xs us ys vs : List Sym) → images_of f ys ≡ vs → Agree ys vs xs us → images_of (joined f xs us) ys ≡ vs
+other_images : (f : ℕ → Sym) (xs us ys vs : List Sym) → images_of f ys ≡ vs → GoAlike ys vs xs us → images_of (joined f xs us) ys ≡ vs
 other_images f xs us ys vs images agree =
     images_by (joined f xs us) ys vs (sym (length-map ys (image_of f)) ∙ ap length images) (λ b h. other_cell f xs us ys vs b (cell ys b) refl h images agree)
 
 -- ---- one row more
 
-pub sent_more : (t : Lines) (p : List Sent) (s j : ℕ) → length (row_of t s) ≡ length (row_of t j) → AreSent t p → Goes t.head (row_of t s) (row_of t j) → All (AgreesWith t (row_of t s) (row_of t j)) p → AreSent t (sent_too p s j)
+pub sent_more : (t : Lines) (p : List Sent) (s j : ℕ) → length (numbered_row t s) ≡ length (numbered_row t j) → AreSent t p → Goes t.head (numbered_row t s) (numbered_row t j) → All (AgreesWith t (numbered_row t s) (numbered_row t j)) p → AreSent t (sent_too p s j)
 sent_more t p s j len sent goes agree =
-    let xs = row_of t s in let us = row_of t j in
+    let xs = numbered_row t s in let us = numbered_row t j in
     let g = joined sent.symbols xs us in
     record {
       symbols = g;
       head = other_images sent.symbols xs us t.head t.head sent.head goes.head_symbols;
       rows =
-          All-push (λ x. images_of g (row_of t x.row) ≡ row_of t x.target) p (record { row = s; target = j })
-          (λ k d h. other_images sent.symbols xs us (row_of t (get_or p k d).row) (row_of t (get_or p k d).target) (sent.rows k d h) (agree k d h))
+          All-push (λ x. images_of g (numbered_row t x.row) ≡ numbered_row t x.target) p (record { row = s; target = j })
+          (λ k d h. other_images sent.symbols xs us (numbered_row t (get_or p k d).row) (numbered_row t (get_or p k d).target) (sent.rows k d h) (agree k d h))
           (own_images sent.symbols xs us len goes.constants goes.itself);
     }
 
-pub sent_less : (t : Lines) (p : List Sent) (s j : ℕ) → AreSent t (sent_too p s j) → Goes t.head (row_of t s) (row_of t j) × All (AgreesWith t (row_of t s) (row_of t j)) p
+pub sent_less : (t : Lines) (p : List Sent) (s j : ℕ) → AreSent t (sent_too p s j) → Goes t.head (numbered_row t s) (numbered_row t j) × All (AgreesWith t (numbered_row t s) (numbered_row t j)) p
 sent_less t p s j sent =
     let f = sent.symbols in
-    let P : Sent → Type 0 = λ x. images_of f (row_of t x.row) ≡ row_of t x.target in
-    let xs = row_of t s in let us = row_of t j in
+    let P : Sent → Type 0 = λ x. images_of f (numbered_row t x.row) ≡ numbered_row t x.target in
+    let xs = numbered_row t s in let us = numbered_row t j in
     let here : images_of f xs ≡ us = all_last P p (record { row = s; target = j }) sent.rows in
     let before : All P p = all_front P p (record { row = s; target = j }) sent.rows in (
       record {
@@ -102,5 +102,5 @@ sent_less t p s j sent =
         itself = images_agree f xs us xs us here here;
         head_symbols = images_agree f t.head t.head xs us sent.head here;
       },
-      λ k d h. images_agree f (row_of t (get_or p k d).row) (row_of t (get_or p k d).target) xs us (before k d h) here,
+      λ k d h. images_agree f (numbered_row t (get_or p k d).row) (numbered_row t (get_or p k d).target) xs us (before k d h) here,
     )

@@ -14,7 +14,7 @@ use Rattle.su_check.specs.declared.certificates.Term.{Term}
 use Rattle.su_check.specs.inside.Cells.{cell, kind_at, HasFound, AreFound, AreTyped}
 use Rattle.su_check.specs.Refuting.{IsAscending}
 use Rattle.su_check.specs.declared.boards.Board.{Board}
-use Rattle.su_check.specs.declared.sending.Place.{Place}
+use Rattle.su_check.specs.declared.sending.StepColumn.{StepColumn}
 use Rattle.su_check.specs.inside.Boards.{IsBoard, IsReady}
 use Rattle.su_check.specs.Certificate.{lines_of, IsGoodForm}
 use Rattle.su_check.proofs.FoldTargets.{none_sent}
@@ -134,7 +134,7 @@ form_option kinds i x None good m = λ form. m form.valid.head_occurs
 form_option kinds i x (Some b) good m = (good m.1, m.0)
 
 -- where the tests of a good term begin
-pub ready_start : (kinds : Kinds) (i : ℕ) (x : Term) (b : Board) (places : List Place) → IsGoodForm kinds i x → IsBoard (lines_of x) b → length places ≡ length b.variables → IsReady (lines_of x) b [] places
+pub ready_start : (kinds : Kinds) (i : ℕ) (x : Term) (b : Board) (places : List StepColumn) → IsGoodForm kinds i x → IsBoard (lines_of x) b → length places ≡ length b.variables → IsReady (lines_of x) b [] places
 ready_start kinds i x b places form board len = record {
   wide = λ i j hi hj. form.valid.widths i [] hi ∙ sym (form.valid.widths j [] hj);
   ascending = form.ascending;

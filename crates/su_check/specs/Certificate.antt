@@ -1,14 +1,13 @@
 -- What a certificate claims, and when a term of it is good.
 -- part: the tableau with the kept rows alone
-use Rattle.std.specs.Prelude.{◌≡◌, ◌<◌, ◌≤◌, ℕ, List, [], map, length, get_or, All, Contains, slice_get, Some}
+use Rattle.std.specs.Prelude.{◌≡◌, ◌<◌, ◌≤◌, ℕ, List, [], length, get_or, All, Contains, slice_get, Some}
 use Rattle.su_tableau.specs.declared.symbols.Sym.{Sym}
 use Rattle.su_tableau.specs.Tableaux.{Tab, IsValid}
 use Rattle.su_tableau.specs.Kinds.{Kinds, IsTyped}
 use Rattle.su_tableau.specs.Mapping.{images_of}
-use Rattle.su_tableau.specs.Equivalent.{IsEquivalent, IsLeast}
 use Rattle.su_check.specs.declared.certificates.Term.{Term}
 use Rattle.su_check.specs.declared.certificates.RowTree.{RowTree}
-use Rattle.su_check.specs.Fitting.{Lines, row_of}
+use Rattle.su_check.specs.Fitting.{Lines, numbered_row}
 use Rattle.su_check.specs.Refuting.{IsAscending, Refutes}
 
 -- the tableau of a term: its head is outputs, and it has no operators
@@ -18,10 +17,6 @@ tableau_of kinds x = record { width = length kinds; rows = x.rows; head = x.head
 -- the rows, the head and the kept rows of a term
 abbrev pub lines_of : Term → Lines
 lines_of x = record { head = x.head; rows = x.rows; kept = x.kept }
-
--- the tableau with the rows of these numbers alone
-abbrev pub part_of : Tab → List ℕ → Tab
-part_of t kept = record t { rows = map (λ k. get_or t.rows k []) kept }
 
 -- the term has its place as its number, its tableau is valid and well typed, with 64 rows at most, and its kept rows are ascending numbers of its rows
 pub record IsGoodForm (kinds : Kinds) (i : ℕ) (x : Term) : Type 0 where
@@ -37,7 +32,7 @@ pub record IsFoldInto (t : Lines) (fold : List ℕ) : Type 0 where
   pub symbols : ℕ → Sym
   pub one_each : length fold ≡ length t.rows
   pub head : images_of symbols t.head ≡ t.head
-  pub rows : (i : ℕ) → i < length t.rows → images_of symbols (row_of t i) ≡ row_of t (get_or fold i 0)
+  pub rows : (i : ℕ) → i < length t.rows → images_of symbols (numbered_row t i) ≡ numbered_row t (get_or fold i 0)
   pub into : All (Contains t.kept) fold
 
 -- the fold sends each row to a kept one, each variable to one symbol, and constants and the head's symbols to themselves
@@ -57,9 +52,3 @@ pub record IsGood (kinds : Kinds) (i : ℕ) (x : Term) : Type 0 where
   pub fold : IsGoodFold x
   pub trees : (k : ℕ) → k < length x.kept → IsGoodTree x k
   pub no_surplus : length x.trees ≤ length x.kept
-
--- over every universal relation of these kinds the part of the kept rows has the answers of the whole, and no valid, well typed tableau that does has fewer rows
-pub record IsLeastPart (kinds : Kinds) (t : Tab) (kept : List ℕ) : Type 0 where
-  pub valid : IsValid (part_of t kept)
-  pub equivalent : IsEquivalent kinds (part_of t kept) t
-  pub least : IsLeast kinds (part_of t kept)

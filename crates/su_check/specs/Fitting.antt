@@ -13,14 +13,14 @@ pub record Lines : Type 0 where
   pub kept : List ℕ
 
 -- the row with this number
-abbrev pub row_of : Lines → ℕ → List Sym
-row_of t i = get_or t.rows i []
+abbrev pub numbered_row : Lines → ℕ → List Sym
+numbered_row t i = get_or t.rows i []
 
 -- one list of symbols sends the head to itself, and each row of the list to its target
 pub record AreSent (t : Lines) (p : List Sent) : Type 0 where
   pub symbols : ℕ → Sym
   pub head : images_of symbols t.head ≡ t.head
-  pub rows : All (λ x. images_of symbols (row_of t x.row) ≡ row_of t x.target) p
+  pub rows : All (λ x. images_of symbols (numbered_row t x.row) ≡ numbered_row t x.target) p
 
 -- the partial list, and behind it that row s goes to row j
 abbrev pub sent_too : List Sent → ℕ → ℕ → List Sent

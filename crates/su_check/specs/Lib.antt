@@ -2,6 +2,8 @@ pub mod Certificate
 pub mod Fitting
 pub mod Grammar
 pub mod inside
-pub mod Nesting
 pub mod Refuting
 pub mod Verdict
+pub mod LeastParts
+pub mod NodeSymbols
+pub mod Ranges

@@ -1,4 +1,5 @@
 -- The verdict on the bytes of a certificate: yes, or the first term at fault, and within it form, then fold, then trees.
+-- fault: the form of a certificate, or a term and its form, fold or a row's tree; good: all three are
 use Rattle.std.specs.Prelude.{◌≡◌, ◌<◌, ℕ, List, length, get_or, slice_get, Some, All}
 use Rattle.su_tableau.specs.Kinds.{Kinds}
 use Rattle.su_check.specs.declared.certificates.Certificate.{Certificate}
@@ -9,7 +10,8 @@ use Rattle.su_check.specs.declared.verdicts.Checked.TheVariants.{Yes, No}
 use Rattle.su_check.specs.declared.verdicts.Fault.{Fault}
 use Rattle.su_check.specs.declared.verdicts.Fault.TheVariants.{Syntax, Form, Fold, Tree}
 use Rattle.su_check.specs.Grammar.{Reads}
-use Rattle.su_check.specs.Certificate.{tableau_of, IsGoodForm, IsGoodFold, IsGoodTree, IsGood, IsLeastPart}
+use Rattle.su_check.specs.Certificate.{tableau_of, IsGoodForm, IsGoodFold, IsGoodTree, IsGood}
+use Rattle.su_check.specs.LeastParts.{IsLeastPart}
 
 -- the tree of the first kept row that has no good one is at fault, or else the first one that is too many
 pub data IsTreeFault (x : Term) (row : ℕ) : Type 0 where

@@ -6,7 +6,7 @@ ghost use Rattle.su_tableau.specs.declared.symbols.Sym.TheVariants.{Var};
 ghost use Rattle.su_tableau.specs.Tableaux.{Occurs};
 ghost use Rattle.su_check.specs.Certificate.{lines_of};
 ghost use Rattle.su_check.specs.inside.Boards.{AreMarks, IsNumber, AreNumbers, IsBoard};
-ghost use Rattle.su_check.specs.inside.Cells.{IsFirst};
+ghost use Rattle.su_check.specs.inside.Cells.{IsFirstPlace};
 
 use crate::certificates::Term;
 use std::alloc::Global;
@@ -52,7 +52,7 @@ pub fn variables_in(alloc: Global, rows: &[List<Sym>]) -> Result<List<u32>, NoMe
 /// Where the variable stands first.
 pub fn number_of(variables: &[u32], k: u32) -> Option<usize>
     requires { IsNonDecreasing variables.now }
-    ensures { MatchOption result (¬ (Contains variables.now k)) (IsFirst variables.now k) }
+    ensures { MatchOption result (¬ (Contains variables.now k)) (IsFirstPlace variables.now k) }
 {
     let mut low = 0;
     let mut high = variables.len();

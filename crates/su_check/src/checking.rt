@@ -7,7 +7,7 @@ use crate::certificates::Term;
 use crate::folds::is_good_fold;
 use crate::forms::board_of_form;
 use crate::reading::read;
-use crate::sending::Place;
+use crate::sending::StepColumn;
 use crate::trees::tree_fault;
 use crate::verdicts::{Checked, Fault};
 use std::alloc::Global;
@@ -26,7 +26,7 @@ fn term_fault(
     let Some(board) = board_of_form(alloc, kinds, place, term)? else {
         return Ok(Some(Fault::Form(place)));
     };
-    let start = Place { step: 0, column: 0 };
+    let start = StepColumn { step: 0, column: 0 };
     let mut places = vec![in alloc; start; board.variables.len()]?;
     if !is_good_fold(alloc, term, &board, places.as_mut_slice())? {
         return Ok(Some(Fault::Fold(place)));

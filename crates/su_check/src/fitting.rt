@@ -10,12 +10,12 @@ ghost use Rattle.su_check.specs.declared.sending.Sent.{Sent as ASent};
 use crate::boards::Board;
 use crate::cells::{at, row_at};
 use crate::certificates::Term;
-use crate::sending::{Place, Sent};
+use crate::sending::{StepColumn, Sent};
 use su_base::{List, NoMemory};
 use su_tableau::Sym;
 
 /// The image that the place gives the symbol, if it gives one.
-pub fn image<'a>(term: &'a Term, sent: &[Sent], place: Place, x: &Sym) -> Option<&'a Sym>
+pub fn image<'a>(term: &'a Term, sent: &[Sent], place: StepColumn, x: &Sym) -> Option<&'a Sym>
     requires wide { AreWide term.now.rows }
     requires within { All (IsWithin (lines_of term.now)) sent.now }
     ensures { MatchOption result ((y : ASym) → ¬ (IsImage (lines_of term.now) sent.now place x.now y)) (λ y. IsImage (lines_of term.now) sent.now place x.now y.now) }
@@ -36,11 +36,11 @@ pub fn image<'a>(term: &'a Term, sent: &[Sent], place: Place, x: &Sym) -> Option
 fn cell_goes(
     term: &Term,
     sent: &[Sent],
-    places: &mut [Place],
+    places: &mut [StepColumn],
     number: Option<usize>,
     x: &Sym,
     y: &Sym,
-    here: Place,
+    here: StepColumn,
 ) -> bool
     requires wide { AreWide term.now.rows }
     requires within { All (IsWithin (lines_of term.now)) sent.now }
@@ -69,7 +69,7 @@ fn last_goes(
     term: &Term,
     board: &Board,
     sent: &[Sent],
-    places: &mut [Place],
+    places: &mut [StepColumn],
     row: u8,
     target: u8,
 ) -> bool
@@ -85,7 +85,7 @@ fn last_goes(
     let numbers = board.numbers.as_slice()[row as usize].as_slice();
     let step = sent.len() - 1;
     for column in 0..from.len() {
-        let here = Place { step, column };
+        let here = StepColumn { step, column };
         let (x, y) = (at(from, column), at(to, column));
         if !cell_goes(term, sent, places, numbers[column], x, y, here) {
             return false;
@@ -100,7 +100,7 @@ pub fn fits(
     term: &Term,
     board: &Board,
     sent: &mut List<Sent>,
-    places: &mut [Place],
+    places: &mut [StepColumn],
     row: u8,
     target: u8,
 ) -> Result<bool, NoMemory>

@@ -7,7 +7,7 @@ use crate::boards::Board;
 use crate::certificates::Term;
 use crate::fitting::fits;
 use crate::numbers::contains;
-use crate::sending::{Place, Sent};
+use crate::sending::{StepColumn, Sent};
 use std::alloc::Global;
 use su_base::{List, NoMemory};
 
@@ -16,7 +16,7 @@ pub fn is_good_fold(
     alloc: Global,
     term: &Term,
     board: &Board,
-    places: &mut [Place],
+    places: &mut [StepColumn],
 ) -> Result<bool, NoMemory>
     requires ready { IsReady (lines_of term.now) board.now [] places.old }
     requires few { length term.now.rows ≤ 64 }

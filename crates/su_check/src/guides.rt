@@ -4,7 +4,7 @@ ghost use Rattle.std.specs.Int.{bit_at};
 ghost use Rattle.su_tableau.specs.declared.symbols.Sym.{Sym as ASym};
 ghost use Rattle.su_check.specs.Certificate.{lines_of};
 ghost use Rattle.su_check.specs.inside.Cells.{cell};
-ghost use Rattle.su_check.specs.Fitting.{row_of};
+ghost use Rattle.su_check.specs.Fitting.{numbered_row};
 ghost use Rattle.su_check.specs.inside.Widths.{AreWide, IsWithin};
 ghost use Rattle.su_check.specs.inside.Boards.{IsImage, IsReady};
 ghost use Rattle.su_check.specs.inside.Guides.{HasCarriers, AreAlike, HasTargets, IsGuide};
@@ -13,7 +13,7 @@ use crate::boards::Board;
 use crate::cells::{at, row_at};
 use crate::certificates::Term;
 use crate::fitting::{fits, image};
-use crate::sending::{Place, Sent};
+use crate::sending::{StepColumn, Sent};
 use crate::sets::{both, with};
 use std::alloc::Global;
 use su_base::{List, NoMemory};
@@ -102,7 +102,7 @@ fn alone(
     alloc: Global,
     term: &Term,
     board: &Board,
-    places: &mut [Place],
+    places: &mut [StepColumn],
     row: u8,
 ) -> Result<u64, NoMemory>
     requires ready { IsReady (lines_of term.now) board.now [] places.old }
@@ -127,7 +127,7 @@ pub fn guide_of(
     alloc: Global,
     term: &Term,
     board: &Board,
-    places: &mut [Place],
+    places: &mut [StepColumn],
 ) -> Result<Guide, NoMemory>
     requires ready { IsReady (lines_of term.now) board.now [] places.old }
     requires few { length term.now.rows ≤ 64 }
@@ -152,7 +152,7 @@ fn with_image(
     term: &Term,
     guide: &Guide,
     sent: &[Sent],
-    place: Place,
+    place: StepColumn,
     x: &Sym,
     column: usize,
 ) -> u64
@@ -160,7 +160,7 @@ fn with_image(
     requires within { All (IsWithin (lines_of term.now)) sent.now }
     requires guide { IsGuide (lines_of term.now) guide.now }
     requires column { (i : ℕ) → i < length term.now.rows → column < length (get_or term.now.rows i []) }
-    ensures { (j : ℕ) → j < length term.now.rows → ((y : ASym) → IsImage (lines_of term.now) sent.now place x.now y → cell (row_of (lines_of term.now) j) column ≡ y) → bit_at result j ≡ 1 }
+    ensures { (j : ℕ) → j < length term.now.rows → ((y : ASym) → IsImage (lines_of term.now) sent.now place x.now y → cell (numbered_row (lines_of term.now) j) column ≡ y) → bit_at result j ≡ 1 }
 {
     match image(term, sent, place, x) {
         None => u64::MAX,
@@ -178,7 +178,7 @@ pub fn candidates(
     board: &Board,
     guide: &Guide,
     sent: &[Sent],
-    places: &[Place],
+    places: &[StepColumn],
     row: u8,
 ) -> u64
     requires ready { IsReady (lines_of term.now) board.now sent.now places.now }

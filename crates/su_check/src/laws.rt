@@ -3,7 +3,8 @@ ghost use Rattle.std.specs.Prelude.{◌≡◌, ℕ, List};
 ghost use Rattle.su_tableau.specs.Kinds.{Kinds};
 ghost use Rattle.su_check.specs.declared.certificates.Term.{Term};
 ghost use Rattle.su_check.specs.declared.verdicts.Checked.{Checked};
-ghost use Rattle.su_check.specs.Certificate.{tableau_of, IsGood, IsLeastPart};
+ghost use Rattle.su_check.specs.Certificate.{tableau_of, IsGood};
+ghost use Rattle.su_check.specs.LeastParts.{IsLeastPart};
 ghost use Rattle.su_check.specs.Verdict.{IsVerdict};
 
 /// The part of the kept rows of a good term is valid, has the answers of the whole, and has the

@@ -9,7 +9,9 @@ ghost use Rattle.su_check.specs.declared.nodes.Node.{Node as ANode};
 ghost use Rattle.su_check.specs.declared.certificates.RowTree.{RowTree as ARowTree};
 ghost use Rattle.su_check.specs.declared.certificates.Term.{Term as ATerm};
 ghost use Rattle.su_check.specs.declared.certificates.Certificate.{Certificate as ACertificate};
-ghost use Rattle.su_check.specs.Grammar.{IsByteNode, IsTermInRange, IsInRange, node_symbols, row_line, tree_line, certificate_symbols};
+ghost use Rattle.su_check.specs.Ranges.{IsByteNode, IsTermInRange, IsInRange};
+ghost use Rattle.su_check.specs.NodeSymbols.{node_symbols};
+ghost use Rattle.su_check.specs.Grammar.{row_line, tree_line, certificate_symbols};
 ghost use Rattle.su_check.specs.inside.Reading.{EndsTerm, Gives, IsRow, IsByteTree, row_before, tree_before, term_before, term_symbols};
 
 use crate::certificates::{Certificate, RowTree, Term};

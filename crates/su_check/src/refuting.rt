@@ -12,7 +12,7 @@ use crate::fitting::fits;
 use crate::guides::candidates;
 use crate::nodes::{Branch, Node};
 use crate::numbers::contains;
-use crate::sending::{Place, Sent};
+use crate::sending::{StepColumn, Sent};
 use su_base::{List, NoMemory};
 use su_tableau::has;
 
@@ -29,7 +29,7 @@ fn is_fitting(
     claim: &Claim,
     set: u64,
     sent: &mut List<Sent>,
-    places: &mut [Place],
+    places: &mut [StepColumn],
     row: u8,
     target: u8,
 ) -> Result<bool, NoMemory>
@@ -55,7 +55,7 @@ pub fn refutes(
     claim: &Claim,
     node: &Node,
     sent: &mut List<Sent>,
-    places: &mut [Place],
+    places: &mut [StepColumn],
 ) -> Result<bool, NoMemory>
     requires ready { IsReady (lines_of claim.now.term.now) claim.now.board.now sent.old places.old }
     requires guide { IsGuide (lines_of claim.now.term.now) claim.now.guide.now }
@@ -103,7 +103,7 @@ fn branch_refutes(
     target: u8,
     branch: &Branch,
     sent: &mut List<Sent>,
-    places: &mut [Place],
+    places: &mut [StepColumn],
 ) -> Result<bool, NoMemory>
     requires ready { IsReady (lines_of claim.now.term.now) claim.now.board.now (sent_too sent.old row target) places.old }
     requires guide { IsGuide (lines_of claim.now.term.now) claim.now.guide.now }

@@ -11,7 +11,7 @@ pub struct Sent {
 /// target has there. A place counts only for a symbol that its row does have there, so that nothing is
 /// undone when the list gets shorter.
 #[derive(Clone, Copy, Debug)]
-pub struct Place {
+pub struct StepColumn {
     pub step: usize,
     pub column: usize,
 }

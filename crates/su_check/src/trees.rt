@@ -11,7 +11,7 @@ use crate::certificates::Term;
 use crate::claims::Claim;
 use crate::guides::{Guide, guide_of};
 use crate::refuting::refutes;
-use crate::sending::Place;
+use crate::sending::StepColumn;
 use std::alloc::Global;
 use su_base::{List, NoMemory};
 
@@ -21,7 +21,7 @@ fn is_good_tree(
     term: &Term,
     board: &Board,
     guide: &Guide,
-    places: &mut [Place],
+    places: &mut [StepColumn],
     k: usize,
 ) -> Result<bool, NoMemory>
     requires ready { IsReady (lines_of term.now) board.now [] places.old }
@@ -52,7 +52,7 @@ pub fn tree_fault(
     alloc: Global,
     term: &Term,
     board: &Board,
-    places: &mut [Place],
+    places: &mut [StepColumn],
 ) -> Result<Option<u8>, NoMemory>
     requires ready { IsReady (lines_of term.now) board.now [] places.old }
     requires few { length term.now.rows ≤ 64 }

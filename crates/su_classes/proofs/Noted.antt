@@ -14,7 +14,7 @@ use Rattle.su_fd.specs.declared.dependencies.Fd.{Fd}
 use Rattle.su_classes.specs.declared.items.Placed.{Placed}
 use Rattle.su_fd.specs.Meeting.{LiesIn}
 use Rattle.su_classes.specs.Items.{cell, SameAt, IsPlacedBelow}
-use Rattle.su_classes.specs.inside.Firsts.{row_at, first_at, AreMembersBelow, key, AreFirsts, noted_in, Notes, IsFirst}
+use Rattle.su_classes.specs.inside.Firsts.{row_at, first_at, AreMembersBelow, key, AreFirsts, noted_in, Notes, IsFirstNoted}
 use Rattle.su_classes.proofs.Listed.{map_same, same_at, left_low}
 
 key_eq : (a b : List ℕ) (r : Bool) → r ≡ pointwise nat_eq a b → Decides r (a ≡ b)
@@ -111,7 +111,7 @@ module _ (label : ℕ → ℕ) (f : Fd) (left : List ℕ) (rows : List Placed) w
       made = λ k p there. let w = so_far.made k p (ap (λ (g : List ℕ → Option ℕ). g k) (sym same) ∙ there) in (omega (arith, w.0), w.1, w.2);
     }
 
-    pub noted_more : IsFirst label f left (row_at rows n) old new n first → AreNoted label f left rows new (n + 1) (firsts ++ first ∷ [])
+    pub noted_more : IsFirstNoted label f left (row_at rows n) old new n first → AreNoted label f left rows new (n + 1) (firsts ++ first ∷ [])
     noted_more (inl (lies, notes)) = more_lying lies notes
     noted_more (inr (out, is, same)) = more_passing out is same
 

@@ -7,7 +7,7 @@ use Rattle.su_base.specs.declared.values.Value.TheVariants.{Text}
 use Rattle.su_tableau.specs.declared.symbols.Sym.{Sym}
 use Rattle.su_tableau.specs.declared.symbols.Sym.TheVariants.{Const, Var}
 use Rattle.su_classes.specs.Tables.{rep}
-use Rattle.su_classes.specs.inside.Symbols.{same_value, has_constant, place_of, AreDistinct, is_known, number_of, symbol_at, name_in}
+use Rattle.su_classes.specs.inside.Symbols.{same_value, has_constant, place_of, AreDistinct, is_known, symbol_number, symbol_at, name_in}
 use Rattle.su_classes.proofs.ValueOrder.{same_itself, same_is}
 
 pub place_is : (vs : List Value) (c : Value) → has_constant vs c ≡ true → (place_of vs c < length vs) × (get_or vs (place_of vs c) (Text []) ≡ c)
@@ -65,20 +65,20 @@ module _ (vs : List Value) (limit : ℕ) where
   pub symbol_high : (i p : ℕ) → i ≡ length vs + p → symbol_at vs i ≡ Var p
   symbol_high i p e = cond-false (nat_lt i (length vs)) (Const (get_or vs i (Text []))) (Var (i - length vs)) (le-ltb i (length vs) (omega arith)) ∙ ap Var (omega arith)
 
-  back : (x : Sym) → is_known vs limit x ≡ true → symbol_at vs (number_of vs x) ≡ x
+  back : (x : Sym) → is_known vs limit x ≡ true → symbol_at vs (symbol_number vs x) ≡ x
   back (Const c) k = let w = place_is vs c k in symbol_low (place_of vs c) w.0 ∙ ap Const w.1
   back (Var p) k = symbol_high (length vs + p) p refl
 
-  number_in : (x : Sym) → is_known vs limit x ≡ true → number_of vs x < length vs + limit
+  number_in : (x : Sym) → is_known vs limit x ≡ true → symbol_number vs x < length vs + limit
   number_in (Const c) k = let w = (place_is vs c k).0 in omega arith
   number_in (Var p) k = let l = ltb-true p limit k in omega arith
 
   module _ (distinct : AreDistinct vs) where
-    forth : (i : ℕ) → i < length vs + limit → number_of vs (symbol_at vs i) ≡ i
+    forth : (i : ℕ) → i < length vs + limit → symbol_number vs (symbol_at vs i) ≡ i
     forth i l =
         ⊎_elim
-        (λ (low : i < length vs). ap (number_of vs) (symbol_low i low) ∙ place_at vs distinct i low)
-        (λ (high : length vs ≤ i). ap (number_of vs) (symbol_high i (i - length vs) (omega arith)) ∙ omega arith)
+        (λ (low : i < length vs). ap (symbol_number vs) (symbol_low i low) ∙ place_at vs distinct i low)
+        (λ (high : length vs ≤ i). ap (symbol_number vs) (symbol_high i (i - length vs) (omega arith)) ∙ omega arith)
         (cases_lt i (length vs))
 
     symbol_known : (i : ℕ) → i < length vs + limit → is_known vs limit (symbol_at vs i) ≡ true
@@ -88,7 +88,7 @@ module _ (vs : List Value) (limit : ℕ) where
         (λ (high : length vs ≤ i). ap (is_known vs limit) (symbol_high i (i - length vs) (omega arith)) ∙ lt-ltb (i - length vs) limit (omega arith))
         (cases_lt i (length vs))
 
-    pub numbering : IsNumbering (length vs) (length vs + limit) (is_known vs limit) (number_of vs) (symbol_at vs)
+    pub numbering : IsNumbering (length vs) (length vs + limit) (is_known vs limit) (symbol_number vs) (symbol_at vs)
     numbering = record {
       back = back;
       number_in = number_in;

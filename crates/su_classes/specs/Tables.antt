@@ -22,7 +22,7 @@ abbrev pub IsSound : List ℕ → (ℕ → Sym) → Type 0
 IsSound table label = (i : ℕ) → i < length table → label i ≡ label (rep table i)
 
 -- the table is that of the least classes
-pub record IsLeast (fds : List Fd) (rows : List Placed) (equal : List Together) (table : List ℕ) : Type 0 where
+pub record IsLeastTable (fds : List Fd) (rows : List Placed) (equal : List Together) (table : List ℕ) : Type 0 where
   pub ordered : IsTable table
   pub kept : IsKept fds rows equal (rep table)
   pub within : (label : ℕ → Sym) → IsKept fds rows equal label → IsSound table label

@@ -1,7 +1,7 @@
 //! The least classes.
 ghost use Rattle.std.specs.Prelude.{◌≡◌, ◌<◌, All, length, OnOk};
 ghost use Rattle.su_classes.specs.Items.{IsPlacedBelow};
-ghost use Rattle.su_classes.specs.Tables.{IsLeast};
+ghost use Rattle.su_classes.specs.Tables.{IsLeastTable};
 
 use crate::items::{Placed, Together};
 use crate::rushing::rush;
@@ -29,7 +29,7 @@ pub fn close(
     requires within { All (λ e. (e.left < length table.old) × (e.right < length table.old)) equal.now }
     requires cells { All (IsPlacedBelow (length table.old)) rows.now }
     ensures length { OnOk result (length table.new ≡ length table.old) }
-    ensures least { OnOk result (IsLeast fds.now rows.now equal.now table.new) }
+    ensures least { OnOk result (IsLeastTable fds.now rows.now equal.now table.new) }
 {
     number(table);
     join_all(table, equal);

@@ -3,7 +3,7 @@ ghost use Rattle.std.specs.Prelude.{◌≡◌, ◌↔◌, ℕ, ◌<◌, ◌≤�
 ghost use Rattle.su_fd.specs.Meeting.{LiesIn};
 ghost use Rattle.su_classes.specs.Items.{cell, IsPlacedBelow};
 ghost use Rattle.su_classes.specs.Tables.{rep};
-ghost use Rattle.su_classes.specs.inside.Firsts.{AreMembersBelow, key, AreFirsts, noted_in, Notes, IsFirst};
+ghost use Rattle.su_classes.specs.inside.Firsts.{AreMembersBelow, key, AreFirsts, noted_in, Notes, IsFirstNoted};
 
 use crate::items::{Placed, item_at};
 use crate::left_sides::LeftSide;
@@ -78,7 +78,7 @@ fn first_of(
 ) -> Result<usize, NoMemory>
     requires left { AreMembersBelow 128 side.now.fd.now.left side.now.left.now }
     requires cells { IsPlacedBelow (length side.now.table.now) row.now }
-    ensures { IfOk result (IsFirst (rep side.now.table.now) side.now.fd.now side.now.left.now row.now (noted_in notes.old) (noted_in notes.new) position) }
+    ensures { IfOk result (IsFirstNoted (rep side.now.table.now) side.now.fd.now side.now.left.now row.now (noted_in notes.old) (noted_in notes.new) position) }
 {
     if !lies_in(side.fd, row) {
         return Ok(position);

@@ -6,13 +6,16 @@ use Rattle.su_base.specs.declared.values.Value.{Value}
 use Rattle.su_base.specs.declared.values.Kind.{Kind}
 use Rattle.su_base.specs.Value.{compare_lists}
 use Rattle.su_fd.specs.declared.dependencies.Fd.{Fd}
-use Rattle.su_tableau.specs.Tableaux.{Tab, IsValid, Ext}
+use Rattle.su_tableau.specs.Tableaux.{Tab, IsValid}
+use Rattle.su_tableau.specs.Valuations.{Ext}
 use Rattle.su_tableau.specs.Mapping.{Maps}
 use Rattle.su_chase.specs.Frozen.{IsFrozen, AreAvoided}
 use Rattle.su_chase.specs.declared.freezing.Frozen.{Frozen}
-use Rattle.su_schema.specs.SchemaValue.{SchemaValue, attribute_kinds}
+use Rattle.su_schema.specs.SchemaValue.{SchemaValue}
+use Rattle.su_schema.specs.Entries.{attribute_kinds}
 use Rattle.su_steps.specs.declared.results.Term.{Term}
-use Rattle.su_compare.specs.Verdict.{tab_at, InTerms, IsUnsettled, IsShown}
+use Rattle.su_compare.specs.Settled.{tab_at, IsUnsettled}
+use Rattle.su_compare.specs.Parting.{InTerms, IsShown}
 use Rattle.su_compare.specs.inside.Settling.{IsAnswer}
 use Rattle.su_compare.proofs.Members.{ext_included}
 use Rattle.su_compare.proofs.Constants.{chased_constants}

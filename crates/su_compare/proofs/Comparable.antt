@@ -14,15 +14,19 @@ use Rattle.su_where.specs.declared.literals.Literal.{Literal}
 use Rattle.su_where.specs.Disjunct.{disjuncts_of}
 use Rattle.su_tableau.specs.declared.symbols.Sym.{Sym}
 use Rattle.su_tableau.specs.declared.symbols.Sym.TheVariants.{Const, Var}
-use Rattle.su_schema.specs.SchemaValue as schemas
+use Rattle.su_schema.specs.Valid as schemas
 use Rattle.su_schema.specs.SchemaValue.{SchemaValue}
 use Rattle.su_query.specs.declared.resolving.Resolved.{Resolved}
 use Rattle.su_steps.specs.declared.results.Term.{Term}
 use Rattle.su_steps.specs.Objects.{width}
 use Rattle.su_steps.specs.Choices.{choices, origins_of}
-use Rattle.su_steps.specs.Classes.{Compared, compared, IsNaming}
-use Rattle.su_steps.specs.Terms.{is_evaluated, left_over, Case, case_of, cases, comparisons_of, GivesNone, Gives, AreTermsOf}
-use Rattle.su_steps.specs.Refusals.{disjunct_count, IsAccepted}
+use Rattle.su_steps.specs.PairSymbols.{SymbolComparison, compared}
+use Rattle.su_steps.specs.Classes.{IsNaming}
+use Rattle.su_steps.specs.Evaluated.{is_evaluated, left_over}
+use Rattle.su_steps.specs.Cases.{Case, comparisons_of, GivesNone, Gives}
+use Rattle.su_steps.specs.Terms.{case_of, cases, AreTermsOf}
+use Rattle.su_steps.specs.Limits.{disjunct_count}
+use Rattle.su_steps.specs.Refusals.{IsAccepted}
 use Rattle.su_steps.specs.Laws.{TermsAreValidAndTyped}
 use Rattle.su_compare.specs.Equalities.{asks_equality, has_only_equalities}
 use Rattle.su_compare.specs.Outputs.{output_kinds}
@@ -38,7 +42,7 @@ evaluated_same (Const a) = refl
 evaluated_same (Var k) = grind (arith, nat_tests)
 
 -- a symbol with itself is evaluated
-none_left_over : (name : Sym → Sym) (cs : List Compared) → ((c : Compared) → Contains cs c → name c.left ≡ name c.right) → left_over name cs ≡ []
+none_left_over : (name : Sym → Sym) (cs : List SymbolComparison) → ((c : SymbolComparison) → Contains cs c → name c.left ≡ name c.right) → left_over name cs ≡ []
 none_left_over name [] same = refl
 none_left_over name (c ∷ cs) same =
     let e : is_evaluated (name c.left) (name c.right) ≡ true = ap (λ y. is_evaluated (name c.left) y) (sym (same c (0, omega arith, refl))) ∙ evaluated_same (name c.left) in

@@ -10,7 +10,7 @@ use Rattle.su_tableau.specs.declared.symbols.Sym.{Sym}
 use Rattle.su_tableau.specs.declared.symbols.Sym.TheVariants.{Const, Var}
 use Rattle.su_tableau.specs.Tableaux.{Tab}
 use Rattle.su_tableau.proofs.Same.{value_same}
-use Rattle.su_chase.specs.Chase.{IsClosed, InOneClass}
+use Rattle.su_chase.specs.Chase.{IsClosedPartition, InOneClass}
 use Rattle.su_chase.specs.Chased.{IsChased}
 use Rattle.su_chase.specs.Frozen.{AreAvoided}
 
@@ -63,7 +63,7 @@ cell_apart avoid c rows all none row a d of low =
     none (All-contains (Has avoid) rows row all of c (subst (Contains row) e (Contains-get_or row a d low))))
 
 -- rows of one width without the constant: the labels that set it apart are closed
-apart_closed : (fds : List Fd) (rows : List (List Sym)) (n : ℕ) (avoid : List Value) (c : Value) → All (λ row. length row ≡ n) rows → All (Has avoid) rows → (Contains avoid c → ⊥) → IsClosed fds rows (apart c)
+apart_closed : (fds : List Fd) (rows : List (List Sym)) (n : ℕ) (avoid : List Value) (c : Value) → All (λ row. length row ≡ n) rows → All (Has avoid) rows → (Contains avoid c → ⊥) → IsClosedPartition fds rows (apart c)
 apart_closed fds rows n avoid c widths all none f r q cf cr cq same a d in' =
     let lr : length r ≡ n = All-contains (λ row. length row ≡ n) rows r widths cr in
     let lq : length q ≡ n = All-contains (λ row. length row ≡ n) rows q widths cq in

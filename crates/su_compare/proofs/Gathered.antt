@@ -10,7 +10,7 @@ use Rattle.su_tableau.specs.declared.symbols.Sym.{Sym}
 use Rattle.su_tableau.specs.declared.symbols.Sym.TheVariants.{Const, Var}
 use Rattle.su_tableau.specs.Tableaux.{Tab}
 use Rattle.su_steps.specs.declared.results.Term.{Term}
-use Rattle.su_compare.specs.Verdict.{HasConstant, InTerms}
+use Rattle.su_compare.specs.Parting.{HasConstant, InTerms}
 use Rattle.su_compare.specs.inside.Settling.{constant_in, constants_in, tab_constants, terms_constants}
 use Rattle.su_compare.proofs.Settled.{tab_here}
 

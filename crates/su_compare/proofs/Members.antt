@@ -4,7 +4,8 @@ use Rattle.std.proofs.lemmas.List.Elements.{All-contains, Contains-get_or}
 use Rattle.su_base.specs.declared.values.Value.{Value}
 use Rattle.su_base.specs.Value.{kind_of}
 use Rattle.su_fd.specs.declared.dependencies.Fd.{Fd}
-use Rattle.su_tableau.specs.Tableaux.{Tab, Ext}
+use Rattle.su_tableau.specs.Tableaux.{Tab}
+use Rattle.su_tableau.specs.Valuations.{Ext}
 use Rattle.su_tableau.specs.Kinds.{Kinds, IsUniverse}
 use Rattle.su_fd.specs.Meeting.{Meets}
 

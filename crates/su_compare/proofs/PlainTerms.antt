@@ -7,12 +7,14 @@ use Rattle.std.proofs.Math.Seq.{get_or-append_seam}
 use Rattle.std.proofs.lemmas.List.Elements.{All-contains, Contains-get_or}
 use Rattle.su_base.specs.declared.values.Value.{Value}
 use Rattle.su_base.proofs.Numbers.{ord_max-numbers}
-use Rattle.su_tableau.specs.Tableaux.{Tab, IsValid, AreVarsBelow, Ext, Cut, value_of, nth}
+use Rattle.su_tableau.specs.Tableaux.{Tab, IsValid, AreVarsBelow}
+use Rattle.su_tableau.specs.Valuations.{Ext, Cut, value_of, nth}
 use Rattle.su_tableau.specs.Kinds.{IsUniverse, IsTyped}
 use Rattle.su_fd.specs.Meeting.{Meets}
 use Rattle.su_chase.specs.Chased.{IsFdBelow}
-use Rattle.su_schema.specs.SchemaValue as schemas
-use Rattle.su_schema.specs.SchemaValue.{SchemaValue, attribute_kinds}
+use Rattle.su_schema.specs.Valid as schemas
+use Rattle.su_schema.specs.SchemaValue.{SchemaValue}
+use Rattle.su_schema.specs.Entries.{attribute_kinds}
 use Rattle.su_query.specs.declared.resolving.Resolved.{Resolved}
 use Rattle.su_steps.specs.declared.results.Term.{Term}
 use Rattle.su_steps.specs.Expression.{cuts, InExpression}
@@ -23,7 +25,8 @@ use Rattle.su_compare.specs.declared.verdicts.Reason.{Reason}
 use Rattle.su_compare.specs.declared.verdicts.Verdict.{Verdict}
 use Rattle.su_compare.specs.declared.verdicts.Verdict.TheVariants as verdict
 use Rattle.su_compare.specs.Within.{IsQueryWithin, IsCounterexample, AreOf}
-use Rattle.su_compare.specs.Verdict.{tab_at, IsBy, IsSettled, IsReason, IsYes, IfApart}
+use Rattle.su_compare.specs.Settled.{tab_at, IsBy, IsSettled}
+use Rattle.su_compare.specs.Verdict.{IsReason, IsYes, IfApart}
 use Rattle.su_compare.specs.Comparable.{IsPlain, AreComparable}
 use Rattle.su_compare.specs.inside.Settling.{IsAlike, AreAlike, IsAnswer, IsApartOver}
 use Rattle.su_compare.proofs.Settled.{tab_here}

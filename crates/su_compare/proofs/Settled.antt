@@ -3,7 +3,8 @@ use Rattle.std.proofs.Common.{◌≡◌, ℕ, ◌+◌, ◌^◌, ◌<◌, List, [
 use Rattle.std.proofs.lemmas.List.{get_or-map}
 use Rattle.su_base.specs.declared.values.Value.{Value}
 use Rattle.su_fd.specs.declared.dependencies.Fd.{Fd}
-use Rattle.su_tableau.specs.Tableaux.{Tab, IsValid, AreVarsBelow, Ext}
+use Rattle.su_tableau.specs.Tableaux.{Tab, IsValid, AreVarsBelow}
+use Rattle.su_tableau.specs.Valuations.{Ext}
 use Rattle.su_tableau.specs.Kinds.{Kinds, IsUniverse}
 use Rattle.su_tableau.specs.Mapping.{Maps}
 use Rattle.su_tableau.proofs.Containment.{maps_within}
@@ -12,7 +13,7 @@ use Rattle.su_map.specs.Rooms.{Space, HasSizesOf}
 use Rattle.su_map.proofs.Containing.{list_maps, maps_list, whole_maps, maps_whole}
 use Rattle.su_chase.specs.Chased.{IsChased}
 use Rattle.su_steps.specs.declared.results.Term.{Term}
-use Rattle.su_compare.specs.Verdict.{tab_at, IsFirstMapping, IsFound}
+use Rattle.su_compare.specs.Settled.{tab_at, IsFirstMapping, IsFound}
 use Rattle.su_compare.specs.inside.Settling.{HasRoomFor, IsAlike, AreAlike, IsAnswer}
 
 pub tab_here : (terms : List Term) (i : ℕ) (d : Term) → i < length terms → tab_at terms i ≡ (get_or terms i d).tableau

@@ -2,7 +2,8 @@
 -- plain: well typed, and without comparisons
 use Rattle.std.specs.Prelude.{◌≡◌, ℕ, ◌≤◌, List, [], length, All}
 use Rattle.su_tableau.specs.Kinds.{IsTyped}
-use Rattle.su_schema.specs.SchemaValue.{SchemaValue, attribute_kinds}
+use Rattle.su_schema.specs.SchemaValue.{SchemaValue}
+use Rattle.su_schema.specs.Entries.{attribute_kinds}
 use Rattle.su_steps.specs.declared.results.Term.{Term}
 
 -- the tableau is well typed for the kinds of the attributes, has so many outputs and compares nothing

@@ -1,8 +1,10 @@
 -- Laws of comparing queries.
+-- compared: by chase and mappings, which asks for terms without comparisons and of equal heads
 use Rattle.std.specs.Prelude.{◌≡◌, IsTrue, List}
 use Rattle.std.specs.Ordering.{nat_cmp}
 use Rattle.std.specs.FinSet.{FinSet}
-use Rattle.su_schema.specs.SchemaValue.{SchemaValue, IsValid}
+use Rattle.su_schema.specs.SchemaValue.{SchemaValue}
+use Rattle.su_schema.specs.Valid.{IsValid}
 use Rattle.su_query.specs.declared.resolving.Resolved.{Resolved}
 use Rattle.su_steps.specs.declared.results.Term.{Term}
 use Rattle.su_steps.specs.Refusals.{IsAccepted}

@@ -6,3 +6,5 @@ pub mod Outputs
 pub mod Texts
 pub mod Verdict
 pub mod Within
+pub mod Settled
+pub mod Parting

@@ -1,4 +1,5 @@
 -- The outputs of a query.
+-- output: a place of a query whose values are asked for
 use Rattle.std.specs.Prelude.{List, map, slice_index_or}
 use Rattle.su_base.specs.declared.values.Kind.{Kind}
 use Rattle.su_base.specs.declared.values.Kind.TheVariants.{Int as IntKind}

@@ -1,18 +1,17 @@
 -- The text of two verdicts. Each line ends with a line feed.
-use Rattle.std.specs.Prelude.{ℕ, List, ◌∷◌, ◌++◌, length, flat_map, codes, decimal, Option, Some, None}
+-- reason: for a term of the first query, the term of the second that maps into it, or its clash
+use Rattle.std.specs.Prelude.{ℕ, List, ◌++◌, length, flat_map, codes, decimal, Option, Some, None}
 use Rattle.su_base.specs.declared.values.Value.{Value}
-use Rattle.su_lex.specs.Symbols.{spaced}
+use Rattle.su_lex.specs.Spelling.{spaced}
 use Rattle.su_csv.specs.Written.{text_of}
-use Rattle.su_schema.specs.SchemaValue.{SchemaValue, attribute_names}
-use Rattle.su_query.specs.Shown.{in_parens, listed, value_symbols}
+use Rattle.su_schema.specs.SchemaValue.{SchemaValue}
+use Rattle.su_schema.specs.Entries.{attribute_names}
+use Rattle.su_lex.specs.Wording.{in_parens, numbers_text}
+use Rattle.su_query.specs.ShownParts.{listed, value_symbols}
 use Rattle.su_compare.specs.declared.verdicts.Found.{Found}
 use Rattle.su_compare.specs.declared.verdicts.Reason.{Reason}
 use Rattle.su_compare.specs.declared.verdicts.Verdict.{Verdict}
 use Rattle.su_compare.specs.declared.verdicts.Verdict.TheVariants.{Within, Apart}
-
--- each number behind a space
-abbrev pub numbers_text : List ℕ → List ℕ
-numbers_text numbers = flat_map (λ n. 32 ∷ decimal n) numbers
 
 -- the term that maps and the rows to which its rows go
 abbrev pub by_text : Option Found → List ℕ

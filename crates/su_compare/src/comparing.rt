@@ -4,7 +4,7 @@ ghost use Rattle.std.specs.Ordering.{nat_cmp};
 ghost use Rattle.std.specs.FinSet.{FinSet};
 ghost use Rattle.su_base.specs.declared.values.Value.{Value as AValue};
 ghost use Rattle.su_tableau.specs.Kinds.{IsUniverse};
-ghost use Rattle.su_schema.specs.SchemaValue.{attribute_kinds};
+ghost use Rattle.su_schema.specs.Entries.{attribute_kinds};
 ghost use Rattle.su_query.specs.declared.resolving.Resolved.{Resolved as AResolved};
 ghost use Rattle.su_fd.specs.Meeting.{Meets};
 ghost use Rattle.su_compare.specs.Within.{IsQueryWithin, IsCounterexample, AreOf};

@@ -5,7 +5,7 @@ ghost use Rattle.su_tableau.specs.Kinds.{Kinds, IsUniverse, IsTyped};
 ghost use Rattle.su_tableau.specs.Mapping.{Maps};
 ghost use Rattle.su_fd.specs.Meeting.{Meets};
 ghost use Rattle.su_chase.specs.Chased.{IsFdBelow};
-ghost use Rattle.su_compare.specs.Verdict.{tab_at, IsFound};
+ghost use Rattle.su_compare.specs.Settled.{tab_at, IsFound};
 ghost use Rattle.su_compare.specs.inside.Settling.{HasRoomFor, AreAlike, IsSettlement, Answers, IsTypedOpen};
 
 use crate::verdicts::Found;

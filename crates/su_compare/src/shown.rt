@@ -1,12 +1,13 @@
 //! The rows that show that a term isn't settled.
 ghost use Rattle.std.specs.Prelude.{◌≡◌, ◌↔◌, ◌⊎◌, ◌<◌, ◌++◌, ℕ, length, Contains, IfOk, OnOk};
 ghost use Rattle.su_base.specs.declared.values.Value.{Value as AValue};
-ghost use Rattle.su_tableau.specs.Tableaux.{Ext};
+ghost use Rattle.su_tableau.specs.Valuations.{Ext};
 ghost use Rattle.su_tableau.specs.Kinds.{IsUniverse, IsTyped};
-ghost use Rattle.su_schema.specs.SchemaValue.{attribute_kinds};
-ghost use Rattle.su_chase.specs.Chase.{IsClosed};
+ghost use Rattle.su_schema.specs.Entries.{attribute_kinds};
+ghost use Rattle.su_chase.specs.Chase.{IsClosedPartition};
 ghost use Rattle.su_fd.specs.Meeting.{Meets};
-ghost use Rattle.su_compare.specs.Verdict.{tab_at, InTerms, IsShown, IsUnsettled};
+ghost use Rattle.su_compare.specs.Settled.{tab_at, IsUnsettled};
+ghost use Rattle.su_compare.specs.Parting.{InTerms, IsShown};
 ghost use Rattle.su_compare.specs.inside.Settling.{IsAnswer, constants_in, tab_constants, terms_constants};
 
 use std::alloc::Global;
@@ -84,7 +85,7 @@ pub fn show_apart(
     requires term { (i : ℕ) × (i < length first.now) × (tab_at first.now i ≡ t.now) }
     requires typed { IsTyped (attribute_kinds schema.now) c.now }
     requires unsettled { IsUnsettled schema.now.fds second.now t.now c.now }
-    requires closed { IsClosed schema.now.fds c.now.rows (λ x. x) }
+    requires closed { IsClosedPartition schema.now.fds c.now.rows (λ x. x) }
     ensures shown { IfOk result (IsShown schema.now first.now second.now c.now) }
     ensures universe { IfOk result (λ f. IsUniverse (attribute_kinds schema.now) f.universe) }
     ensures meets { IfOk result (λ f. Meets schema.now.fds f.universe) }

@@ -16,9 +16,9 @@ use Rattle.su_base.specs.declared.values.Value.TheVariants.{Int, Text}
 use Rattle.su_base.specs.declared.values.Column.{Column}
 use Rattle.su_base.specs.declared.values.Kind.{Kind}
 use Rattle.su_base.specs.declared.values.Kind.TheVariants.{Int as IntKind, Text as TextKind}
-use Rattle.su_csv.specs.Field.{value_of}
+use Rattle.su_csv.specs.Field.{field_value}
 use Rattle.su_csv.specs.File.{reading, rows_from}
-use Rattle.su_csv.specs.Record.{place_without, record_limit, row_of, row_or_fault}
+use Rattle.su_csv.specs.Record.{place_without, record_limit, row_from_fields, row_or_fault}
 use Rattle.su_csv.specs.Written.{CanBeRead, IsShort, field_of, text_of}
 use Rattle.su_csv.specs.inside.Writers.{IsStored}
 use Rattle.su_csv.proofs.RowSoFar.{has, in-full}
@@ -104,7 +104,7 @@ pub written-records : (rows : List (List (List ℕ))) → records default_config
 written-records rows = let few = few-records rows in text-records (length (flat_map (row_text default_writer) rows) + 1) rows (omega arith)
 
 -- each value is what its field reads as
-value-back : (kind : Kind) (value : Value) → kind_of value ≡ kind → IsStored value → IsShort value → value_of kind (field_of value) ≡ Some value
+value-back : (kind : Kind) (value : Value) → kind_of value ≡ kind → IsStored value → IsShort value → field_value kind (field_of value) ≡ Some value
 value-back IntKind (Int n) is stored short = rw (written n (range-fits n stored)) refl
 value-back IntKind (Text t) is stored short = absurd (cc is)
 value-back TextKind (Int n) is stored short = absurd (cc is)
@@ -113,7 +113,7 @@ value-back TextKind (Text t) is stored short = rw (is-text t short stored) refl
 -- the row of a record of fields of the columns' kinds
 record RowBack (columns : List Column) (row : List Value) (place : ℕ) : Type 0 where
   width : length (map field_of row) ≡ length columns
-  values : row_of columns (map field_of row) ≡ row
+  values : row_from_fields columns (map field_of row) ≡ row
   numbers : place_without IntKind place columns (map field_of row) ≡ None
   texts : place_without TextKind place columns (map field_of row) ≡ None
 

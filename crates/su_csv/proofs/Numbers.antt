@@ -10,7 +10,7 @@ use Rattle.std.proofs.lemmas.Str.Parse.{IsNumeralModel, numerals_by_fold, tells_
 use Rattle.std.proofs.lemmas.Fmt.{IsAscii-from_digits, decimal_is_IsNumeral, parse-signed_decimal}
 use mir.Syntax.{w64}
 use mir.Val.{SFits}
-use Rattle.su_csv.specs.Field.{digits_of, is_digits, signed_value, in_range, number_of}
+use Rattle.su_csv.specs.Field.{digits_of, is_digits, signed_value, in_range, field_number}
 
 own : IsNumeralModel (λ ds. all_ascii_digits ds ≡ true) (digits_value 10)
 own = numerals_by_fold _ tells_all_ascii_digits (digits_value_after 10) (search rules)
@@ -42,7 +42,7 @@ same-value bs plain = rw plain refl
 
 module _ {E : Type 0} (bs : List ℕ) (plain : (get_or bs 0 0 == 43) ≡ false) where
   -- what `parse` answers is the number
-  pub parsed : (r : Result ℤ E) → ParsesSigned w64 10 bs r → result_ok r ≡ number_of bs
+  pub parsed : (r : Result ℤ E) → ParsesSigned w64 10 bs r → result_ok r ≡ field_number bs
   parsed (Ok x) h =
       let numeral : IsNumeral 10 (digits_of bs) = rw (no-plus bs plain) at h.0.0 in
       let fits : SFits w64 (signed_value bs) = rw (same-value bs plain) at h.0.1 in
@@ -55,7 +55,7 @@ module _ {E : Type 0} (bs : List ℕ) (plain : (get_or bs 0 0 == 43) ≡ false) 
   ]
 
 -- a field that is no UTF-8 writes no number
-pub not-text : (bs : List ℕ) → (IsUtf8 bs → ⊥) → number_of bs ≡ None
+pub not-text : (bs : List ℕ) → (IsUtf8 bs → ⊥) → field_number bs ≡ None
 not-text bs other = elim (cases_Bool (is_digits (digits_of bs) && in_range (signed_value bs))) [
   | inl test ↦ absurd (other (IsUtf8-from_ascii bs (ascii bs (digits-numeral (digits_of bs) (and_parts _ _ test).0).1)))
   | inr test ↦ rw test refl
@@ -75,7 +75,7 @@ not-text bs other = elim (cases_Bool (is_digits (digits_of bs) && in_range (sign
     ]
 
 -- what a number is written as, writes it
-pub written : (z : ℤ) → SFits w64 z → number_of (signed_decimal z) ≡ Some z
+pub written : (z : ℤ) → SFits w64 z → field_number (signed_decimal z) ≡ Some z
 written z fits = elim (cases_Bool (is_digits (digits_of (signed_decimal z)) && in_range (signed_value (signed_decimal z)))) [
   | inl test ↦
       let parts = and_parts _ _ test in

@@ -12,8 +12,8 @@ use Rattle.su_base.specs.declared.values.Kind.{Kind}
 use Rattle.su_base.specs.declared.values.Kind.TheVariants.{Int as IntKind, Text as TextKind}
 use Rattle.su_csv.specs.declared.faults.CsvFault.{CsvFault}
 use Rattle.su_csv.specs.declared.faults.CsvFault.TheVariants.{Width, NotInt, NotText}
-use Rattle.su_csv.specs.Field.{value_of}
-use Rattle.su_csv.specs.Record.{place_without, record_limit, row_of, row_or_fault, unless_without}
+use Rattle.su_csv.specs.Field.{field_value}
+use Rattle.su_csv.specs.Record.{place_without, record_limit, row_from_fields, row_or_fault, unless_without}
 use Rattle.su_base.specs.Value.{same_kind}
 
 -- `csv`'s word for the field at a place
@@ -48,57 +48,57 @@ got-none None found old new is other = refl
 got-none (Some value) found old new is other = absurd (cc (is.0, other))
 
 -- a field with a value is not the place that is sought
-pub has : (kind other : Kind) (field : List ℕ) (value : Value) → value_of other field ≡ Some value → (same_kind kind other && is_none (value_of kind field)) ≡ false
+pub has : (kind other : Kind) (field : List ℕ) (value : Value) → field_value other field ≡ Some value → (same_kind kind other && is_none (field_value kind field)) ≡ false
 has IntKind IntKind field value h = rw h refl
 has IntKind TextKind field value h = refl
 has TextKind IntKind field value h = refl
 has TextKind TextKind field value h = rw h refl
 
-lacks : (kind : Kind) (field : List ℕ) → value_of kind field ≡ None → (same_kind kind kind && is_none (value_of kind field)) ≡ true
+lacks : (kind : Kind) (field : List ℕ) → field_value kind field ≡ None → (same_kind kind kind && is_none (field_value kind field)) ≡ true
 lacks IntKind field h = rw h refl
 lacks TextKind field h = rw h refl
 
 module _ (columns : List Column) (fields : List (List ℕ)) (i : ℕ) (column : Column) (field : List ℕ) (at-column : slice_get columns i ≡ Some column) (at-field : slice_get fields i ≡ Some field) where
   -- the place that is sought is not this one
-  pub sought-later : (kind : Kind) (found : Option ℕ) → (same_kind kind column.kind && is_none (value_of kind field)) ≡ false
+  pub sought-later : (kind : Kind) (found : Option ℕ) → (same_kind kind column.kind && is_none (field_value kind field)) ≡ false
       → found ≡ place_without kind i (drop i columns) (drop i fields) → found ≡ place_without kind (i + 1) (drop (i + 1) columns) (drop (i + 1) fields)
   sought-later kind found other h = rw (add-one i) (rw (drop-at columns i column at-column, drop-at fields i field at-field, other) at h)
 
   -- it is this one
-  pub sought-here : (kind : Kind) (found : Option ℕ) → (same_kind kind column.kind && is_none (value_of kind field)) ≡ true
+  pub sought-here : (kind : Kind) (found : Option ℕ) → (same_kind kind column.kind && is_none (field_value kind field)) ≡ true
       → found ≡ place_without kind i (drop i columns) (drop i fields) → found ≡ Some i
   sought-here kind found this h = rw (drop-at columns i column at-column, drop-at fields i field at-field, this) at h
 
   -- one more value
-  pub one-value : (value : Value) (row all : List Value) → value_of column.kind field ≡ Some value
-      → row ++ row_of (drop i columns) (drop i fields) ≡ all → (row ++ value ∷ []) ++ row_of (drop (i + 1) columns) (drop (i + 1) fields) ≡ all
+  pub one-value : (value : Value) (row all : List Value) → field_value column.kind field ≡ Some value
+      → row ++ row_from_fields (drop i columns) (drop i fields) ≡ all → (row ++ value ∷ []) ++ row_from_fields (drop (i + 1) columns) (drop (i + 1) fields) ≡ all
   one-value value row all is h =
-      rw (add-one i, append_assoc row (value ∷ []) (row_of (drop (suc i) columns) (drop (suc i) fields)))
+      rw (add-one i, append_assoc row (value ∷ []) (row_from_fields (drop (suc i) columns) (drop (suc i) fields)))
       (rw (drop-at columns i column at-column, drop-at fields i field at-field, is) at h)
 
-  pub still-sought : (kind : Kind) (value : Value) (found : Option ℕ) → value_of column.kind field ≡ Some value
+  pub still-sought : (kind : Kind) (value : Value) (found : Option ℕ) → field_value column.kind field ≡ Some value
       → found ≡ place_without kind i (drop i columns) (drop i fields) → found ≡ place_without kind (i + 1) (drop (i + 1) columns) (drop (i + 1) fields)
   still-sought kind value found is h = sought-later kind found (has kind column.kind field value is) h
 
   -- where the field has no value, the record's fault is at this place, or at one of a number
-  pub fault-here : (number : ℕ) (numbers texts : Option ℕ) (row : List Value) (fault : CsvFault) → value_of column.kind field ≡ None
+  pub fault-here : (number : ℕ) (numbers texts : Option ℕ) (row : List Value) (fault : CsvFault) → field_value column.kind field ≡ None
       → numbers ≡ place_without IntKind i (drop i columns) (drop i fields) → texts ≡ place_without TextKind i (drop i columns) (drop i fields)
       → MatchOption numbers (fault ≡ NotText number i) (λ place. fault ≡ NotInt number place) → unless_without number numbers texts row ≡ Err fault
   fault-here number (Some place) texts row fault none at-numbers at-texts is = ap Err (sym is)
   fault-here number None texts row fault none at-numbers at-texts is =
       by-kind column.kind none (λ e. sought-here IntKind None e at-numbers) (λ e. sought-here TextKind texts e at-texts)
     where
-      by-kind : (kind : Kind) → value_of kind field ≡ None → ((same_kind IntKind kind && is_none (value_of IntKind field)) ≡ true → None ≡ Some i) → ((same_kind TextKind kind && is_none (value_of TextKind field)) ≡ true → texts ≡ Some i) → unless_without number None texts row ≡ Err fault
+      by-kind : (kind : Kind) → field_value kind field ≡ None → ((same_kind IntKind kind && is_none (field_value IntKind field)) ≡ true → None ≡ Some i) → ((same_kind TextKind kind && is_none (field_value TextKind field)) ≡ true → texts ≡ Some i) → unless_without number None texts row ≡ Err fault
       by-kind IntKind none int text = absurd (cc (int (lacks IntKind field none)))
       by-kind TextKind none int text = rw (text (lacks TextKind field none)) (ap Err (sym is))
 
 -- the whole record, of the columns' width and of a number that is not too large
 pub in-full : (columns : List Column) (fields : List (List ℕ)) (number : ℕ) → number ≤ record_limit → length fields ≡ length columns
-    → row_or_fault columns number fields ≡ unless_without number (place_without IntKind 0 columns fields) (place_without TextKind 0 columns fields) (row_of columns fields)
+    → row_or_fault columns number fields ≡ unless_without number (place_without IntKind 0 columns fields) (place_without TextKind 0 columns fields) (row_from_fields columns fields)
 in-full columns fields number low same = rw (le-ltb record_limit number low, eq-eqb (length fields) (length columns) same) refl
 
 pub at-end : (columns : List Column) (fields : List (List ℕ)) (n : ℕ) (number : ℕ) (numbers texts : Option ℕ) (row all : List Value) → length columns ≤ n
-    → numbers ≡ place_without IntKind n (drop n columns) (drop n fields) → texts ≡ place_without TextKind n (drop n columns) (drop n fields) → row ++ row_of (drop n columns) (drop n fields) ≡ all
+    → numbers ≡ place_without IntKind n (drop n columns) (drop n fields) → texts ≡ place_without TextKind n (drop n columns) (drop n fields) → row ++ row_from_fields (drop n columns) (drop n fields) ≡ all
     → unless_without number numbers texts all ≡ Ok row
 at-end columns fields n number numbers texts row all long at-numbers at-texts built =
     let done : drop n columns ≡ [] = drop_all n columns long in

@@ -33,14 +33,14 @@ in_range (pos n) = nat_lt n (2 ^ 63)
 in_range (negsuc n) = nat_lt n (2 ^ 63)
 
 -- the number that a field writes, if it writes one
-abbrev pub number_of : List ℕ → Option ℤ
-number_of field = if is_digits (digits_of field) && in_range (signed_value field) then Some (signed_value field) else None
+abbrev pub field_number : List ℕ → Option ℤ
+field_number field = if is_digits (digits_of field) && in_range (signed_value field) then Some (signed_value field) else None
 
 -- a field that may be a text: short enough, and UTF-8
 abbrev pub is_text : List ℕ → Bool
 is_text field = nat_le (length field) text_limit && is_utf8 field
 
 -- the value of a field in a column of this kind, if it has one
-abbrev pub value_of : Kind → List ℕ → Option Value
-value_of IntKind field = option_map Int (number_of field)
-value_of TextKind field = if is_text field then Some (Text field) else None
+abbrev pub field_value : Kind → List ℕ → Option Value
+field_value IntKind field = option_map Int (field_number field)
+field_value TextKind field = if is_text field then Some (Text field) else None

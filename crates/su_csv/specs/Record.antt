@@ -10,24 +10,24 @@ use Rattle.su_base.specs.declared.values.Kind.TheVariants.{Int as IntKind, Text 
 use Rattle.su_csv.specs.declared.faults.CsvFault.{CsvFault}
 use Rattle.su_csv.specs.declared.faults.CsvFault.TheVariants.{TooMany, Width, NotInt, NotText}
 use Rattle.su_base.specs.Value.{same_kind}
-use Rattle.su_csv.specs.Field.{value_of}
+use Rattle.su_csv.specs.Field.{field_value}
 
 -- the most records after the header
 abbrev pub record_limit : ℕ
 record_limit = 1000000
 
 -- the values of the fields, each in its column's kind
-abbrev pub row_of : List Column → List (List ℕ) → List Value
-row_of [] fields = []
-row_of (column ∷ columns) [] = []
-row_of (column ∷ columns) (field ∷ fields) = option_to_list (value_of column.kind field) ++ row_of columns fields
+abbrev pub row_from_fields : List Column → List (List ℕ) → List Value
+row_from_fields [] fields = []
+row_from_fields (column ∷ columns) [] = []
+row_from_fields (column ∷ columns) (field ∷ fields) = option_to_list (field_value column.kind field) ++ row_from_fields columns fields
 
 -- the first place, from the left, of a column of this kind whose field has no value; the columns begin at `place`
 abbrev pub place_without : Kind → ℕ → List Column → List (List ℕ) → Option ℕ
 place_without kind place [] fields = None
 place_without kind place (column ∷ columns) [] = None
 place_without kind place (column ∷ columns) (field ∷ fields) =
-    if same_kind kind column.kind && is_none (value_of kind field) then Some place else place_without kind (suc place) columns fields
+    if same_kind kind column.kind && is_none (field_value kind field) then Some place else place_without kind (suc place) columns fields
 
 -- the row where each field has a value; else a field of a number column comes before one of a text column
 abbrev pub unless_without : ℕ → Option ℕ → Option ℕ → List Value → Result (List Value) CsvFault
@@ -40,5 +40,5 @@ abbrev pub row_or_fault : List Column → ℕ → List (List ℕ) → Result (Li
 row_or_fault columns number fields =
     if nat_lt record_limit number then Err TooMany
     else if length fields == length columns
-    then unless_without number (place_without IntKind 0 columns fields) (place_without TextKind 0 columns fields) (row_of columns fields)
+    then unless_without number (place_without IntKind 0 columns fields) (place_without TextKind 0 columns fields) (row_from_fields columns fields)
     else Err (Width number)

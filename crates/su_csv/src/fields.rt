@@ -1,6 +1,6 @@
 //! What a field stands for.
 ghost use Rattle.std.specs.Prelude.{◌≡◌, ◌<◌, ◌^◌, ◌∷◌, ◌++◌, [], IfOk, MatchOption, option_map, IsUtf8, if◌then◌else◌, Some, None, slice_index, ◌==◌, IfSome, pos, true, false};
-ghost use Rattle.su_csv.specs.Field.{is_digits, number_of, is_text, value_of};
+ghost use Rattle.su_csv.specs.Field.{is_digits, field_number, is_text, field_value};
 ghost use Rattle.std.specs.Str.Parse.{digits_value};
 
 use std::alloc::Global;
@@ -42,7 +42,7 @@ fn digits_of(digits: &[u8]) -> Option<i64>
 
 /// The number that the field writes, where that is soon told.
 fn short_number(field: &[u8]) -> Option<i64>
-    ensures { IfSome result (λ value. number_of field.now ≡ Some value) }
+    ensures { IfSome result (λ value. field_number field.now ≡ Some value) }
 {
     if starts_with_minus(field) {
         return Some(-digits_of(&field[1..])?);
@@ -53,7 +53,7 @@ fn short_number(field: &[u8]) -> Option<i64>
 /// The number that the field writes. Unlike `parse`, it takes no `+`.
 #[inline(always)]
 pub(crate) fn number_of(field: &[u8]) -> Option<i64>
-    ensures { result ≡ number_of field.now }
+    ensures { result ≡ field_number field.now }
 {
     match short_number(field) {
         Some(value) => Some(value),
@@ -65,7 +65,7 @@ pub(crate) fn number_of(field: &[u8]) -> Option<i64>
 #[cold]
 #[inline(never)]
 fn long_number(field: &[u8]) -> Option<i64>
-    ensures { result ≡ number_of field.now }
+    ensures { result ≡ field_number field.now }
 {
     if starts_with_plus(field) {
         return None;
@@ -103,7 +103,7 @@ pub(crate) fn push_value(
     known: bool,
 ) -> Result<bool, NoMemory>
     requires { known ≡ true → IsUtf8 field.now }
-    ensures { IfOk result (λ found. MatchOption (value_of kind field.now) (found ≡ false) (λ value. (found ≡ true) × (row.new ≡ row.old ++ value ∷ []))) }
+    ensures { IfOk result (λ found. MatchOption (field_value kind field.now) (found ≡ false) (λ value. (found ≡ true) × (row.new ≡ row.old ++ value ∷ []))) }
 {
     match kind {
         Kind::Int => {

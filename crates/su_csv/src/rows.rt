@@ -4,7 +4,7 @@ ghost use Rattle.csv.specs.Records.{AllText, fields_of};
 ghost use Rattle.su_csv.specs.Record.{place_without, record_limit, row_or_fault};
 ghost use Rattle.su_csv.specs.inside.OneAnswer.{Answers};
 ghost use Rattle.su_base.specs.Value.{same_kind};
-ghost use Rattle.su_csv.specs.Field.{value_of};
+ghost use Rattle.su_csv.specs.Field.{field_value};
 
 use crate::faults::CsvFault;
 use crate::fields::{number_of, push_value};
@@ -44,7 +44,7 @@ fn first_without_number(columns: &[Column], fields: &ByteRecord) -> Option<u8>
 }
 
 fn lacks_number(column: &Column, field: &[u8]) -> bool
-    ensures { result ≡ (same_kind Kind.Int column.now.kind && is_none (value_of Kind.Int field.now)) }
+    ensures { result ≡ (same_kind Kind.Int column.now.kind && is_none (field_value Kind.Int field.now)) }
 {
     matches!(column.kind, Kind::Int) && number_of(field).is_none()
 }

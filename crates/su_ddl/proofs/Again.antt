@@ -15,15 +15,21 @@ use Rattle.su_fd.specs.declared.Fd.{Fd as Dependency}
 use Rattle.su_schema.specs.declared.definitions.Pair.{Pair}
 use Rattle.su_schema.specs.declared.definitions.Definition.TheVariants.{Object}
 use Rattle.su_schema.specs.declared.links.Link.{Link}
-use Rattle.su_schema.specs.SchemaValue.{SchemaValue, AttributeEntry, RelationEntry, ObjectEntry, IsValid, IsRelation, IsObject, IsLink, IsDependency, IsSomeBelow, AreNames, attribute_names, relation_names, object_names, column_names}
-use Rattle.su_schema.specs.Checks.{first_failing, is_known, number_of, name_checks, pair_checks, checks, columns_at}
-use Rattle.su_schema.specs.Defining.{applied, extended, IsWellNamed, numbers_of, links_of}
+use Rattle.su_schema.specs.SchemaValue.{SchemaValue, AttributeEntry, RelationEntry, ObjectEntry}
+use Rattle.su_schema.specs.Valid.{IsValid, IsRelationEntry, IsObject, IsLink, IsDependency}
+use Rattle.su_schema.specs.Entries.{IsSomeBelow, AreDistinctNames, attribute_names, relation_names, object_names, column_names}
+use Rattle.su_schema.specs.NameChecks.{first_failing, name_checks}
+use Rattle.su_schema.specs.Known.{is_known, number_of, columns_at}
+use Rattle.su_schema.specs.Checks.{pair_checks, checks}
+use Rattle.su_schema.specs.Defining.{applied, extended, numbers_of, links_of}
+use Rattle.su_schema.specs.WellNamed.{IsWellNamed}
 use Rattle.su_schema.proofs.Accepted.{accepted}
 use Rattle.su_schema.proofs.Ascending.{found}
 use Rattle.su_schema.proofs.Entries.{All-at}
 use Rattle.su_schema.proofs.PairsSoFar.{columns_there, first_failing-passed}
 use Rattle.su_ddl.specs.Reading.{Reads, no_definitions}
-use Rattle.su_ddl.specs.Shown.{name_at, names_in, pair_of, attribute_definition, relation_definition, object_definition, fd_definition, maximal_definition, definitions_of, schema_text}
+use Rattle.su_ddl.specs.ShownDefinitions.{name_at, names_in, pair_of, attribute_definition, relation_definition, object_definition, fd_definition, maximal_definition, definitions_of}
+use Rattle.su_ddl.specs.Shown.{schema_text}
 use Rattle.su_ddl.proofs.Named.{middle, weaker, step, fresh, apart_pass, not_unknown, number_at, IsSide, side}
 use Rattle.su_ddl.proofs.Linked.{pair_at, all_pass, links_are, attributes_given, columns_given, ascending_again}
 use Rattle.su_ddl.proofs.Steps.{Builds, builds_append, builds_all, lines_read}
@@ -37,7 +43,7 @@ room n all done rest x few e =
     grind (arith, nat_tests, shorter)
 
 -- the name of an entry is new behind those before it
-new_entry : {X : Type 0} (name : X → List ℕ) (all done rest : List X) (x : X) → AreNames (map name all) → all ≡ done ++ x ∷ rest → is_known (map name done) (name x) ≡ false
+new_entry : {X : Type 0} (name : X → List ℕ) (all done rest : List X) (x : X) → AreDistinctNames (map name all) → all ≡ done ++ x ∷ rest → is_known (map name done) (name x) ≡ false
 new_entry name all done rest x are e =
     fresh (map name done) (map name rest) (name x) (subst (AllPairs (λ a b. a ≢ b)) (ap (map name) e ∙ map-append name done (x ∷ rest)) are.apart)
 
@@ -103,7 +109,7 @@ module _ (s : SchemaValue) (valid : IsValid s) where
   one_relation : (done rest : List RelationEntry) (x : RelationEntry) → s.relations ≡ done ++ x ∷ rest
       → IsWellNamed (relation_definition x) × (applied (with_relations done) (relation_definition x) ≡ Ok (with_relations (done ++ x ∷ [])))
   one_relation done rest x e =
-      let is : IsRelation x = middle IsRelation done rest x (subst (All IsRelation) e valid.relations) in
+      let is : IsRelationEntry x = middle IsRelationEntry done rest x (subst (All IsRelationEntry) e valid.relations) in
       let new : is_known (relation_names (with_relations done)) x.name ≡ false = new_entry (λ (a : RelationEntry). a.name) s.relations done rest x valid.relation_names e in
       let few : nat_le 64 (length done) ≡ false = room 64 s.relations done rest x valid.few_relations e in
       let wide = is.few in
@@ -121,8 +127,8 @@ module _ (s : SchemaValue) (valid : IsValid s) where
       let is : IsObject s x = middle (IsObject s) done rest x (subst (All (IsObject s)) e valid.objects) in
       let columns = columns_at s x.relation in
       let columns_is : columns ≡ is.relation.columns = columns_there s x.relation is.relation.columns (slice_get-map (λ (r : RelationEntry). r.columns) s.relations x.relation ∙ ap (option_map (λ (r : RelationEntry). r.columns)) is.stored) in
-      let stored : IsRelation is.relation = All-at IsRelation s.relations x.relation is.relation valid.relations is.stored in
-      let columns_are : AreNames (column_names columns) = subst (λ (v : List Column). AreNames (column_names v)) (sym columns_is) stored.columns in
+      let stored : IsRelationEntry is.relation = All-at IsRelationEntry s.relations x.relation is.relation valid.relations is.stored in
+      let columns_are : AreDistinctNames (column_names columns) = subst (λ (v : List Column). AreDistinctNames (column_names v)) (sym columns_is) stored.columns in
       let joined : All (IsLink s columns) x.links = subst (λ (v : List Column). All (IsLink s v) x.links) (sym columns_is) is.joined in
       let within : x.relation < length (relation_names s) = rw length-map (slice_get_within s.relations x.relation is.relation is.stored) in
       let name = name_at (relation_names s) x.relation in

@@ -8,8 +8,11 @@ use Rattle.su_schema.specs.declared.faults.SchemaFault.TheVariants.{NoMemory as 
 use Rattle.su_schema.specs.declared.definitions.Pair.{Pair}
 use Rattle.su_schema.specs.declared.definitions.Definition.{Definition}
 use Rattle.su_schema.specs.declared.definitions.Definition.TheVariants.{Attribute, Relation, Object, Fd, Maximal}
-use Rattle.su_schema.specs.SchemaValue.{SchemaValue, attribute_names, column_names, object_names, relation_names}
-use Rattle.su_schema.specs.Checks.{Check, first_failing, apart_checks, name_checks, pair_checks, checks, columns_at, number_of}
+use Rattle.su_schema.specs.SchemaValue.{SchemaValue}
+use Rattle.su_schema.specs.Entries.{attribute_names, column_names, object_names, relation_names}
+use Rattle.su_schema.specs.NameChecks.{Check, first_failing, apart_checks, name_checks}
+use Rattle.su_schema.specs.Checks.{pair_checks, checks}
+use Rattle.su_schema.specs.Known.{columns_at, number_of}
 use Rattle.su_schema.specs.Defining.{outcome}
 use Rattle.su_ddl.specs.declared.faults.DdlFault.{DdlFault}
 use Rattle.su_ddl.specs.declared.faults.DdlFault.TheVariants.{Syntax, Refused, NoMemory}

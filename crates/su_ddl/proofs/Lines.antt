@@ -1,27 +1,26 @@
 -- Lines and lists, one more at a time.
-use Rattle.std.proofs.Common.{Option, Some, None, ◌≡◌, ◌<◌, ◌≤◌, ◌+◌, ℕ, Bool, true, false, cond, List, [], ◌∷◌, ◌++◌, length, map, filter, take, get_or, slice_get, refl, ap, sym, ◌∙◌, arith, subst, zero, suc, append_assoc, append-nil}
-use Rattle.std.specs.List.{range_with_len, filter_map}
-use Rattle.std.proofs.lemmas.List.{take_all, take_more}
-use Rattle.std.proofs.lemmas.List.Elements.{filter_map-append}
+use Rattle.std.proofs.Common.{Option, Some, None, ◌≡◌, ◌<◌, ◌≤◌, ◌+◌, ℕ, Bool, true, false, cond, List, [], ◌∷◌, ◌++◌, length, map, filter, take, get_or, slice_get, refl, ap, sym, ◌∙◌, arith, subst, zero, suc, append_assoc, append-nil, option_map, drop}
+use Rattle.std.specs.List.{range_with_len, filter_map, AllByRecursion, cons_option}
+use Rattle.std.proofs.lemmas.List.{take_all, take_more, take-append-drop}
+use Rattle.std.proofs.lemmas.List.Elements.{filter_map-append, recursion_from_All}
 use Rattle.std.proofs.lemmas.Option.{get_or_from_slice_get, slice_get_within, slice_get-map, slice_get-get_or, slice_get_past}
-use Rattle.std.proofs.Common.{option_map}
 use Rattle.su_base.specs.declared.values.Column.{Column}
 use Rattle.su_lex.specs.declared.meaning.Symbol.{Symbol}
 use Rattle.su_lex.specs.declared.meaning.Symbol.TheVariants.{Word, Sign}
 use Rattle.su_lex.specs.declared.signs.Sign.TheVariants as sign
-use Rattle.std.proofs.Common.{drop}
-use Rattle.std.proofs.lemmas.List.{take-append-drop}
 use Rattle.su_lex.specs.Adding.{AddsFront}
 use Rattle.su_lex.specs.Names.{more_names}
 use Rattle.su_schema.specs.declared.definitions.Definition.{Definition}
-use Rattle.su_ddl.specs.Grammar.{kind_symbol, more_columns}
-use Rattle.su_schema.specs.Checks.{columns_at}
-use Rattle.su_ddl.specs.Shown.{line_of, lines_of, name_at, pair_of}
+use Rattle.su_lex.specs.Wording.{kind_symbol}
+use Rattle.su_ddl.specs.Grammar.{more_columns}
+use Rattle.su_schema.specs.Known.{columns_at}
+use Rattle.su_ddl.specs.Shown.{line_of, lines_of}
+use Rattle.su_ddl.specs.ShownDefinitions.{name_at, pair_of}
 use Rattle.su_ddl.specs.inside.PairAlone.{listed}
 use Rattle.su_schema.specs.declared.definitions.Pair.{Pair}
-use Rattle.su_schema.specs.SchemaValue.{SchemaValue, ObjectEntry, IsObject, IsValid, column_names, attribute_names}
-use Rattle.std.specs.List.{AllByRecursion, cons_option}
-use Rattle.std.proofs.lemmas.List.Elements.{recursion_from_All}
+use Rattle.su_schema.specs.SchemaValue.{SchemaValue, ObjectEntry}
+use Rattle.su_schema.specs.Valid.{IsObject, IsValid}
+use Rattle.su_schema.specs.Entries.{column_names, attribute_names}
 use Rattle.su_base.proofs.Items.{map-equal, range-push_zero}
 
 -- ---- two pieces behind one another

@@ -12,11 +12,16 @@ use Rattle.su_base.specs.declared.values.Kind.TheVariants.{Int, Text}
 use Rattle.su_base.specs.declared.values.Column.{Column}
 use Rattle.su_schema.specs.declared.definitions.Pair.{Pair}
 use Rattle.su_schema.specs.declared.links.Link.{Link}
-use Rattle.su_schema.specs.SchemaValue.{SchemaValue, AreNames, IsLink, attribute_names, attribute_kinds, column_names}
+use Rattle.su_schema.specs.SchemaValue.{SchemaValue}
+use Rattle.su_schema.specs.Entries.{AreDistinctNames, attribute_names, attribute_kinds, column_names}
+use Rattle.su_schema.specs.Valid.{IsLink}
 use Rattle.su_base.specs.Value.{same_kind}
-use Rattle.su_schema.specs.Checks.{first_failing, is_known, number_of, pair_checks, attribute_kind, column_kind}
-use Rattle.su_schema.specs.Defining.{link_of, links_of, ascending, AreGiven}
-use Rattle.su_ddl.specs.Shown.{name_at}
+use Rattle.su_schema.specs.NameChecks.{first_failing}
+use Rattle.su_schema.specs.Known.{is_known, number_of, attribute_kind, column_kind}
+use Rattle.su_schema.specs.Checks.{pair_checks}
+use Rattle.su_schema.specs.Defining.{link_of, links_of, ascending}
+use Rattle.su_schema.specs.WellNamed.{AreGiven}
+use Rattle.su_ddl.specs.ShownDefinitions.{name_at}
 use Rattle.su_ddl.proofs.Named.{middle, before, weaker, step, not_unknown, number_at, other_names}
 
 -- ---- links in ascending order
@@ -103,7 +108,7 @@ module _ (schema : SchemaValue) (columns : List Column) where
   abbrev pub pair_at : Link → Pair
   pair_at l = record { attribute = name_at (attribute_names schema) l.attribute; column = name_at (column_names columns) l.column }
 
-  module _ (attributes_are : AreNames (attribute_names schema)) (columns_are : AreNames (column_names columns)) where
+  module _ (attributes_are : AreDistinctNames (attribute_names schema)) (columns_are : AreDistinctNames (column_names columns)) where
     pub attribute_within : (l : Link) → IsLink schema columns l → l.attribute < length (attribute_names schema)
     attribute_within l is = rw length-map (slice_get_within schema.attributes l.attribute is.0 is.2)
 

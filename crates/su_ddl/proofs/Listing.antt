@@ -13,9 +13,10 @@ use Rattle.su_lex.specs.declared.signs.Sign.TheVariants as sign
 use Rattle.su_lex.specs.Blanks.{begins}
 use Rattle.su_lex.specs.Names.{Begins, AreNames, names_symbols}
 use Rattle.su_lex.proofs.Listed.{SameNames, names_unique}
-use Rattle.su_schema.specs.SchemaValue.{column_names}
-use Rattle.su_schema.specs.Defining.{AreGiven}
-use Rattle.su_ddl.specs.Grammar.{kind_symbol, more_columns, columns_symbols, in_parens}
+use Rattle.su_schema.specs.Entries.{column_names}
+use Rattle.su_schema.specs.WellNamed.{AreGiven}
+use Rattle.su_lex.specs.Wording.{kind_symbol}
+use Rattle.su_ddl.specs.Grammar.{more_columns, columns_symbols, in_parens}
 use Rattle.su_ddl.specs.inside.Columns.{AreColumns}
 
 -- ---- words that differ

@@ -16,12 +16,14 @@ use Rattle.std.proofs.lemmas.Option.{get_or_from_slice_get}
 use Rattle.std.proofs.lemmas.Slice.Eq.{bytes_eq-Decides}
 use Rattle.su_base.specs.Name.{IsName}
 use Rattle.su_schema.specs.declared.faults.SchemaFault.{SchemaFault}
-use Rattle.su_schema.specs.SchemaValue.{AreNames, IsSomeBelow}
-use Rattle.su_schema.specs.Checks.{first_failing, is_known, number_of, apart_checks, name_checks}
-use Rattle.su_schema.specs.Defining.{numbers_of, AreGiven}
+use Rattle.su_schema.specs.Entries.{AreDistinctNames, IsSomeBelow}
+use Rattle.su_schema.specs.NameChecks.{first_failing, apart_checks, name_checks}
+use Rattle.su_schema.specs.Known.{is_known, number_of}
+use Rattle.su_schema.specs.Defining.{numbers_of}
+use Rattle.su_schema.specs.WellNamed.{AreGiven}
 use Rattle.su_schema.proofs.Numbers.{slice_get-number_of}
 use Rattle.su_schema.proofs.Validity.{number_below}
-use Rattle.su_ddl.specs.Shown.{name_at, names_in}
+use Rattle.su_ddl.specs.ShownDefinitions.{name_at, names_in}
 
 -- ---- lists that are split at an item
 
@@ -196,7 +198,7 @@ pub record IsSide (names : List (List ℕ)) (set : FinSet nat_cmp) : Type 0 wher
   pub pass : first_failing (name_checks names [] (names_in names set)) ≡ None
   pub again : numbers_of names (names_in names set) ≡ set
 
-pub side : (names : List (List ℕ)) (set : FinSet nat_cmp) → AreNames names → IsSomeBelow (length names) set → IsSide names set
+pub side : (names : List (List ℕ)) (set : FinSet nat_cmp) → AreDistinctNames names → IsSomeBelow (length names) set → IsSide names set
 side names set are is =
     let ks = numbers_in (length names) set in
     let below = numbers_below (length names) set in

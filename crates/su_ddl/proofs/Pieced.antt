@@ -6,14 +6,14 @@ use Rattle.su_lex.specs.Blanks as b
 use Rattle.su_lex.specs.Pieces.{Parts, PiecesAt, Pieces, after_mark}
 use Rattle.su_lex.specs.Pieces as p
 use Rattle.su_lex.specs.declared.spans.Span.{Span}
-use Rattle.su_lex.specs.Symbols.{spaced}
+use Rattle.su_lex.specs.Spelling.{spaced}
 use Rattle.su_lex.proofs.Cuts.{parts_trans, no_blank_piece}
 use Rattle.su_lex.proofs.Gaps.{IsSolid}
 use Rattle.su_lex.proofs.Lists.{sliced}
 use Rattle.su_lex.proofs.Written.{symbols_from, spaced_at}
 use Rattle.su_schema.specs.declared.definitions.Definition.{Definition}
 use Rattle.su_schema.specs.declared.definitions.Definition.TheVariants.{Attribute, Relation, Object, Fd, Maximal}
-use Rattle.su_schema.specs.Defining.{IsWellNamed}
+use Rattle.su_schema.specs.WellNamed.{IsWellNamed}
 use Rattle.su_ddl.specs.Grammar.{definition_symbols, IsDefinition}
 use Rattle.su_ddl.specs.Reading.{statement_of}
 use Rattle.su_ddl.specs.Shown.{lines_of}

@@ -14,14 +14,16 @@ use Rattle.su_lex.specs.declared.meaning.Symbol.{Symbol}
 use Rattle.su_lex.specs.declared.meaning.Symbol.TheVariants.{Word, Int, Text, Sign}
 use Rattle.su_lex.specs.declared.signs.Sign.TheVariants as sign
 use Rattle.su_lex.specs.Names.{AreNames, names_symbols, more_names}
-use Rattle.su_lex.specs.Symbols.{IsSymbol, spelled, opens, closes, after, spaced}
+use Rattle.su_lex.specs.Symbols.{IsSymbol}
+use Rattle.su_lex.specs.Spelling.{spelled, opens, closes, after, spaced}
 use Rattle.su_lex.proofs.Cuts.{parts_trans}
 use Rattle.su_lex.proofs.Fronts.{word_all}
 use Rattle.su_schema.specs.declared.definitions.Definition.{Definition}
 use Rattle.su_schema.specs.declared.definitions.Definition.TheVariants.{Attribute, Relation, Object, Fd, Maximal}
-use Rattle.su_schema.specs.Defining.{IsWellNamed}
+use Rattle.su_schema.specs.WellNamed.{IsWellNamed}
 use Rattle.su_ddl.specs.inside.Columns.{AreColumns}
-use Rattle.su_ddl.specs.Grammar.{kind_symbol, more_columns, columns_symbols, in_parens, definition_symbols}
+use Rattle.su_lex.specs.Wording.{kind_symbol}
+use Rattle.su_ddl.specs.Grammar.{more_columns, columns_symbols, in_parens, definition_symbols}
 use Rattle.su_ddl.proofs.Listing.{given_are, given_columns}
 
 -- a word or a sign

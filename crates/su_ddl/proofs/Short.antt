@@ -14,16 +14,19 @@ use Rattle.su_lex.specs.declared.meaning.Symbol.TheVariants.{Word, Int, Text, Si
 use Rattle.su_lex.specs.declared.signs.Sign.{Sign as ASign}
 use Rattle.su_lex.specs.declared.signs.Sign.TheVariants as sign
 use Rattle.su_lex.specs.Names.{names_symbols, more_names}
-use Rattle.su_lex.specs.Symbols.{spelled, opens, closes, after, spaced}
-use Rattle.su_lex.specs.Tokens.{sign_bytes}
+use Rattle.su_lex.specs.Spelling.{spelled, opens, closes, after, spaced}
+use Rattle.su_lex.specs.TokenForms.{sign_bytes}
 use Rattle.su_schema.specs.declared.definitions.Pair.{Pair}
 use Rattle.su_schema.specs.declared.definitions.Definition.{Definition}
 use Rattle.su_schema.specs.declared.definitions.Definition.TheVariants.{Object}
-use Rattle.su_schema.specs.SchemaValue.{SchemaValue, AttributeEntry, RelationEntry, ObjectEntry, IsValid, IsRelation, attribute_names, object_names}
-use Rattle.su_schema.specs.Defining.{IsWellNamed}
+use Rattle.su_schema.specs.SchemaValue.{SchemaValue, AttributeEntry, RelationEntry, ObjectEntry}
+use Rattle.su_schema.specs.Valid.{IsValid, IsRelationEntry}
+use Rattle.su_schema.specs.Entries.{attribute_names, object_names}
+use Rattle.su_schema.specs.WellNamed.{IsWellNamed}
 use Rattle.su_ddl.specs.Grammar.{more_columns, columns_symbols, in_parens, definition_symbols}
 use Rattle.su_ddl.specs.Reading.{no_definitions}
-use Rattle.su_ddl.specs.Shown.{name_at, names_in, pair_of, line_of, lines_of, attribute_definition, relation_definition, object_definition, fd_definition, maximal_definition, definitions_of, schema_text}
+use Rattle.su_ddl.specs.ShownDefinitions.{name_at, names_in, pair_of, attribute_definition, relation_definition, object_definition, fd_definition, maximal_definition, definitions_of}
+use Rattle.su_ddl.specs.Shown.{line_of, lines_of, schema_text}
 use Rattle.su_ddl.proofs.Again.{definitions_build}
 use Rattle.su_ddl.proofs.Named.{weaker}
 use Rattle.su_ddl.proofs.Quiet.{IsQuiet, definition_quiet}
@@ -170,7 +173,7 @@ module _ (s : SchemaValue) (valid : IsValid s) where
   attribute_short : (a : AttributeEntry) → IsShort (attribute_definition a)
   attribute_short a = record { few = omega arith }
 
-  relation_short : (r : RelationEntry) → IsRelation r → IsShort (relation_definition r)
+  relation_short : (r : RelationEntry) → IsRelationEntry r → IsShort (relation_definition r)
   relation_short r is =
       let h = columns_few r.columns in
       let few = is.few in
@@ -207,7 +210,7 @@ module _ (s : SchemaValue) (valid : IsValid s) where
   all_short : AllByRecursion IsShort (definitions_of s)
   all_short =
       let a = all_mapped attribute_definition s.attributes (every _ attribute_short s.attributes) in
-      let r = all_mapped relation_definition s.relations (weaker IsRelation (λ x. IsShort (relation_definition x)) relation_short s.relations (recursion_from_All IsRelation s.relations valid.relations)) in
+      let r = all_mapped relation_definition s.relations (weaker IsRelationEntry (λ x. IsShort (relation_definition x)) relation_short s.relations (recursion_from_All IsRelationEntry s.relations valid.relations)) in
       let o = all_mapped (object_definition s) s.objects (every _ object_short s.objects) in
       let f = all_mapped (fd_definition s) s.fds (every _ fd_short s.fds) in
       let m = all_mapped (maximal_definition s) s.declared (every _ maximal_short s.declared) in

@@ -1,8 +1,6 @@
 -- The forms of definitions.
 -- definition: an attribute, a relation, an object, a dependency or a declared maximal object; its symbols are its one spelling
 use Rattle.std.specs.Prelude.{◌≡◌, ℕ, List, [], ◌∷◌, ◌++◌, map, codes}
-use Rattle.su_base.specs.declared.values.Kind.{Kind}
-use Rattle.su_base.specs.declared.values.Kind.TheVariants as kind
 use Rattle.su_base.specs.declared.values.Column.{Column}
 use Rattle.su_lex.specs.declared.meaning.Symbol.{Symbol}
 use Rattle.su_lex.specs.declared.meaning.Symbol.TheVariants.{Word, Sign}
@@ -11,12 +9,8 @@ use Rattle.su_lex.specs.Names.{names_symbols}
 use Rattle.su_lex.specs.Symbols.{Symbols}
 use Rattle.su_schema.specs.declared.definitions.Definition.{Definition}
 use Rattle.su_schema.specs.declared.definitions.Definition.TheVariants.{Attribute, Relation, Object, Fd, Maximal}
-use Rattle.su_schema.specs.Defining.{IsWellNamed}
-
--- "int" | "text"
-abbrev pub kind_symbol : Kind → Symbol
-kind_symbol kind.Int = Word (codes "int")
-kind_symbol kind.Text = Word (codes "text")
+use Rattle.su_schema.specs.WellNamed.{IsWellNamed}
+use Rattle.su_lex.specs.Wording.{kind_symbol}
 
 -- { "," NAME kind }
 abbrev pub more_columns : List Column → List Symbol

@@ -1,4 +1,5 @@
 -- What holds of definitions.
+-- definition: as in Grammar
 use Rattle.std.specs.Prelude.{◌≡◌, ℕ, List}
 use Rattle.su_schema.specs.declared.definitions.Definition.{Definition}
 use Rattle.su_ddl.specs.Grammar.{IsDefinition}

@@ -3,3 +3,4 @@ pub mod inside
 pub mod Laws
 pub mod Reading
 pub mod Shown
+pub mod ShownDefinitions

@@ -1,58 +1,11 @@
--- How a schema is shown: its definitions, one a line, each with its names in the order of declaration.
-use Rattle.std.specs.Prelude.{ℕ, List, [], ◌∷◌, ◌++◌, length, map, filter, filter_map, option_map, Option, slice_index_or}
-use Rattle.std.specs.List.{range_with_len}
-use Rattle.std.specs.Ordering.{nat_cmp}
-use Rattle.std.specs.FinSet.{FinSet, contains}
-use Rattle.su_fd.specs.declared.Fd.{Fd as Dependency}
-use Rattle.su_lex.specs.Symbols.{spaced}
-use Rattle.su_schema.specs.declared.definitions.Pair.{Pair}
+-- The text of a schema.
+-- line: a definition's symbols, spaced, and a full stop
+use Rattle.std.specs.Prelude.{ℕ, List, [], ◌∷◌, ◌++◌}
+use Rattle.su_lex.specs.Spelling.{spaced}
 use Rattle.su_schema.specs.declared.definitions.Definition.{Definition}
-use Rattle.su_schema.specs.declared.definitions.Definition.TheVariants.{Attribute, Relation, Object, Fd, Maximal}
-use Rattle.su_schema.specs.SchemaValue.{SchemaValue, AttributeEntry, RelationEntry, ObjectEntry, attribute_names, relation_names, column_names, object_names, column_of}
-use Rattle.su_schema.specs.Checks.{columns_at}
+use Rattle.su_schema.specs.SchemaValue.{SchemaValue}
 use Rattle.su_ddl.specs.Grammar.{definition_symbols}
-
--- the name with this number
-abbrev pub name_at : List (List ℕ) → ℕ → List ℕ
-name_at names k = slice_index_or names k []
-
--- the names of a set of numbers, in ascending order
-abbrev pub names_in : List (List ℕ) → FinSet nat_cmp → List (List ℕ)
-names_in names set = map (name_at names) (filter (contains set) (range_with_len 0 (length names)))
-
--- the definition of an attribute
-abbrev pub attribute_definition : AttributeEntry → Definition
-attribute_definition a = Attribute a.name a.kind
-
--- the definition of a relation
-abbrev pub relation_definition : RelationEntry → Definition
-relation_definition r = Relation r.name r.columns
-
--- the pair of an attribute, if it is the object's
-abbrev pub pair_of : SchemaValue → ObjectEntry → ℕ → Option Pair
-pair_of schema o a = option_map (λ c. record { attribute = name_at (attribute_names schema) a; column = name_at (column_names (columns_at schema o.relation)) c }) (column_of o a)
-
--- the definition of an object, its pairs by ascending attribute
-abbrev pub object_definition : SchemaValue → ObjectEntry → Definition
-object_definition schema o =
-    Object o.name (name_at (relation_names schema) o.relation) (filter_map (pair_of schema o) (range_with_len 0 (length schema.attributes)))
-
--- the definition of a dependency
-abbrev pub fd_definition : SchemaValue → Dependency → Definition
-fd_definition schema f = Fd (names_in (attribute_names schema) f.left) (names_in (attribute_names schema) f.right)
-
--- the definition of a declared maximal object
-abbrev pub maximal_definition : SchemaValue → FinSet nat_cmp → Definition
-maximal_definition schema set = Maximal (names_in (object_names schema) set)
-
--- attributes, relations, objects, dependencies and declared maximal objects, each in the order of declaration
-abbrev pub definitions_of : SchemaValue → List Definition
-definitions_of schema =
-    map attribute_definition schema.attributes
-    ++ map relation_definition schema.relations
-    ++ map (object_definition schema) schema.objects
-    ++ map (fd_definition schema) schema.fds
-    ++ map (maximal_definition schema) schema.declared
+use Rattle.su_ddl.specs.ShownDefinitions.{definitions_of}
 
 -- a line: the definition, `;` and a line feed
 abbrev pub line_of : Definition → List ℕ

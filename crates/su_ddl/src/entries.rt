@@ -1,10 +1,10 @@
 //! The definitions that a schema is made of, by their numbers.
 ghost use Rattle.std.specs.Prelude.{◌≡◌, ◌<◌, ◌++◌, ◌∷◌, [], length, map, slice_get, filter_map, IfOk, OnOk, if◌then◌else◌};
 ghost use Rattle.std.specs.List.{range_with_len};
-ghost use Rattle.su_schema.specs.SchemaValue.{attribute_names, object_names, column_names};
-ghost use Rattle.su_ddl.specs.Shown.{names_in, attribute_definition, relation_definition, object_definition, fd_definition, maximal_definition, pair_of, name_at};
+ghost use Rattle.su_schema.specs.Entries.{attribute_names, object_names, column_names};
+ghost use Rattle.su_ddl.specs.ShownDefinitions.{names_in, attribute_definition, relation_definition, object_definition, fd_definition, maximal_definition, pair_of, name_at};
 ghost use Rattle.su_ddl.specs.inside.PairAlone.{listed};
-ghost use Rattle.su_schema.specs.Checks.{columns_at};
+ghost use Rattle.su_schema.specs.Known.{columns_at};
 
 use std::alloc::Global;
 use su_base::{AttrSet, List, NoMemory, ObjSet, Str};

@@ -2,7 +2,8 @@
 ghost use Rattle.std.specs.Prelude.{◌≡◌, ◌∷◌, ◌++◌, [], map, IfOk, OnErr, OnOk};
 ghost use Rattle.su_lex.specs.Adding.{AddsFront};
 ghost use Rattle.su_lex.specs.Names.{names_symbols, more_names};
-ghost use Rattle.su_ddl.specs.Grammar.{definition_symbols, kind_symbol, columns_symbols, more_columns, in_parens};
+ghost use Rattle.su_ddl.specs.Grammar.{definition_symbols, columns_symbols, more_columns, in_parens};
+ghost use Rattle.su_lex.specs.Wording.{kind_symbol};
 ghost use Rattle.su_ddl.specs.Shown.{line_of};
 
 use std::alloc::Global;

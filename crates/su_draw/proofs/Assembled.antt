@@ -1,5 +1,5 @@
 -- Parts of a text, one behind the other.
-use Rattle.su_draw.specs.declared.shapes.Place.{Place}
+use Rattle.su_draw.specs.declared.shapes.Position.{Position}
 use Rattle.su_draw.specs.Shapes.{text_pairs}
 use Rattle.std.proofs.Common.{◌≡◌, ℕ, List, ◌++◌, Result, Ok, Err, OnOk, sym, ap, ◌∙◌, append_assoc}
 
@@ -14,5 +14,5 @@ four_parts old a b c d o1 o2 o3 new e1 e2 e3 e4 =
     ∙ append_assoc ((old ++ a) ++ b) c d ∙ append_assoc (old ++ a) b (c ++ d) ∙ append_assoc old a (b ++ (c ++ d))
     ∙ ap (λ t. old ++ t) (sym (append_assoc a b (c ++ d)) ∙ sym (append_assoc (a ++ b) c d))
 
-pub same_pairs : (p : Place) (a b c x y z : List ℕ) → a ≡ x → b ≡ y → c ≡ z → text_pairs p a b c ≡ text_pairs p x y z
+pub same_pairs : (p : Position) (a b c x y z : List ℕ) → a ≡ x → b ≡ y → c ≡ z → text_pairs p a b c ≡ text_pairs p x y z
 same_pairs p a b c x y z e f g = ap (λ t. text_pairs p t b c) e ∙ ap (λ t. text_pairs p x t c) f ∙ ap (λ t. text_pairs p x y t) g

@@ -3,7 +3,7 @@ use Rattle.std.proofs.Common.{◌≡◌, ℕ, Bool, true, false, cond, List, [],
 use Rattle.std.specs.Prelude.{◌==◌, ◌-◌, codes, decimal}
 use Rattle.su_draw.specs.declared.things.What.{What}
 use Rattle.su_draw.specs.declared.things.What.TheVariants.{Label, Row, Symbol, Fold, Source, Cover, Attribute as Column, Object, Member, Part}
-use Rattle.su_draw.specs.declared.shapes.Place.{Place}
+use Rattle.su_draw.specs.declared.shapes.Position.{Position}
 use Rattle.su_draw.specs.declared.shapes.Shape.{Shape}
 use Rattle.su_draw.specs.declared.shapes.Help.{Help}
 use Rattle.su_draw.specs.declared.shapes.Help.TheVariants.{Heading, Band, Rule}
@@ -12,7 +12,7 @@ use Rattle.su_draw.specs.Escaping.{escaped}
 use Rattle.su_draw.specs.Xml.{Attribute, AreAttributes, IsContent, nothing, plain, IsDocument}
 use Rattle.su_draw.specs.Svg.{help_text, svg_attributes, ground_line, svg_inside, svg_text}
 use Rattle.su_draw.specs.Shapes.{text_pairs, text_attributes, text_line, way_of, arrow_line, dot_line, square_line, lines_as, shape_text}
-use Rattle.su_draw.specs.Looks.{word_of, number_of, colour_of, opacity_of, weight_of}
+use Rattle.su_draw.specs.Looks.{word_of, number_attribute, colour_of, opacity_of, weight_of}
 use Rattle.su_draw.proofs.Plain.{ArePlain, plain-append, plain-if, decimal-plain, escaped-content, element_line-content}
 
 colour-plain : (n : ℕ) → ArePlain (colour_of n)
@@ -37,7 +37,7 @@ weight-plain Object light = refl
 weight-plain Member light = refl
 weight-plain Part light = refl
 
-way-plain : (p : Place) (head : List ℕ) → ArePlain head → ArePlain (way_of p head)
+way-plain : (p : Position) (head : List ℕ) → ArePlain head → ArePlain (way_of p head)
 way-plain p head h =
     let a : List ℕ = codes "M" ++ decimal p.edge in
     let b : List ℕ = a ++ codes " " in
@@ -61,19 +61,19 @@ text_line-content s rest r =
     (refl, decimal-plain s.place.x, (refl, decimal-plain s.place.y, (refl, colour-plain s.place.colour, (refl, opacity-plain s.place.light, (refl, weight-plain s.thing.what s.place.light, tt)))))
     (escaped-content s.thing.text) r
 
-arrow_line-content : (p : Place) (head rest : List ℕ) → ArePlain head → IsContent rest → IsContent (arrow_line p head ++ rest)
+arrow_line-content : (p : Position) (head rest : List ℕ) → ArePlain head → IsContent rest → IsContent (arrow_line p head ++ rest)
 arrow_line-content p head rest h r =
     element_line-content (codes "path") (word_of (codes "d") (way_of p head) ∷ word_of (codes "fill") (codes "none") ∷ word_of (codes "stroke") (codes "#555555") ∷ []) [] rest refl
     (refl, way-plain p head h, (refl, refl, (refl, refl, tt))) nothing r
 
-dot_line-content : (p : Place) (rest : List ℕ) → IsContent rest → IsContent (dot_line p ++ rest)
+dot_line-content : (p : Position) (rest : List ℕ) → IsContent rest → IsContent (dot_line p ++ rest)
 dot_line-content p rest r =
-    element_line-content (codes "circle") (number_of (codes "cx") p.x ∷ number_of (codes "cy") p.y ∷ word_of (codes "r") (codes "6") ∷ []) [] rest refl
+    element_line-content (codes "circle") (number_attribute (codes "cx") p.x ∷ number_attribute (codes "cy") p.y ∷ word_of (codes "r") (codes "6") ∷ []) [] rest refl
     (refl, decimal-plain p.x, (refl, decimal-plain p.y, (refl, refl, tt))) nothing r
 
-square_line-content : (p : Place) (rest : List ℕ) → IsContent rest → IsContent (square_line p ++ rest)
+square_line-content : (p : Position) (rest : List ℕ) → IsContent rest → IsContent (square_line p ++ rest)
 square_line-content p rest r =
-    element_line-content (codes "rect") (number_of (codes "x") p.x ∷ number_of (codes "y") p.y ∷ word_of (codes "width") (codes "12") ∷ word_of (codes "height") (codes "12") ∷ []) [] rest refl
+    element_line-content (codes "rect") (number_attribute (codes "x") p.x ∷ number_attribute (codes "y") p.y ∷ word_of (codes "width") (codes "12") ∷ word_of (codes "height") (codes "12") ∷ []) [] rest refl
     (refl, decimal-plain p.x, (refl, decimal-plain p.y, (refl, refl, (refl, refl, tt)))) nothing r
 
 lines_as-content : (what : What) (s : Shape) (rest : List ℕ) → IsContent rest → IsContent (lines_as what s ++ rest)
@@ -97,13 +97,13 @@ shapes-content (s ∷ ss) = lines_as-content s.thing.what s (flat_map shape_text
 
 help-content : (h : Help) (rest : List ℕ) → IsContent rest → IsContent (help_text h ++ rest)
 help-content (Heading x y text) rest r =
-    element_line-content (codes "text") (number_of (codes "x") x ∷ number_of (codes "y") y ∷ word_of (codes "text-decoration") (codes "underline") ∷ []) (escaped text) rest refl
+    element_line-content (codes "text") (number_attribute (codes "x") x ∷ number_attribute (codes "y") y ∷ word_of (codes "text-decoration") (codes "underline") ∷ []) (escaped text) rest refl
     (refl, decimal-plain x, (refl, decimal-plain y, (refl, refl, tt))) (escaped-content text) r
 help-content (Band x y width) rest r =
-    element_line-content (codes "rect") (number_of (codes "x") x ∷ number_of (codes "y") y ∷ number_of (codes "width") width ∷ word_of (codes "height") (codes "20") ∷ word_of (codes "fill") (codes "#e8e8e8") ∷ []) [] rest refl
+    element_line-content (codes "rect") (number_attribute (codes "x") x ∷ number_attribute (codes "y") y ∷ number_attribute (codes "width") width ∷ word_of (codes "height") (codes "20") ∷ word_of (codes "fill") (codes "#e8e8e8") ∷ []) [] rest refl
     (refl, decimal-plain x, (refl, decimal-plain y, (refl, decimal-plain width, (refl, refl, (refl, refl, tt))))) nothing r
 help-content (Rule x y to_x to_y) rest r =
-    element_line-content (codes "line") (number_of (codes "x1") x ∷ number_of (codes "y1") y ∷ number_of (codes "x2") to_x ∷ number_of (codes "y2") to_y ∷ word_of (codes "stroke") (codes "#999999") ∷ []) [] rest refl
+    element_line-content (codes "line") (number_attribute (codes "x1") x ∷ number_attribute (codes "y1") y ∷ number_attribute (codes "x2") to_x ∷ number_attribute (codes "y2") to_y ∷ word_of (codes "stroke") (codes "#999999") ∷ []) [] rest refl
     (refl, decimal-plain x, (refl, decimal-plain y, (refl, decimal-plain to_x, (refl, decimal-plain to_y, (refl, refl, tt))))) nothing r
 
 helps-content : (hs : List Help) (rest : List ℕ) → IsContent rest → IsContent (flat_map help_text hs ++ rest)

@@ -1,4 +1,5 @@
 -- What words of lines must be.
+-- word: bytes without a space; decimal: without leading zeros
 use Rattle.std.specs.Prelude.{ℕ, ◌==◌, ◌-◌, ◌&&◌, nat_lt, length, slice_get, Bool, true, false, List, [], ◌∷◌, Option, Some, None}
 use Rattle.std.specs.List.{list_all, list_any}
 use Rattle.std.specs.Str.{bytes_eq}

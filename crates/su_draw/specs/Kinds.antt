@@ -1,4 +1,5 @@
 -- What a line is, by its first word, or by its third behind two empty ones.
+-- outer: at the margin; inner: behind two spaces, below a term
 use Rattle.std.specs.Prelude.{ℕ, ◌==◌, ◌&&◌, if◌then◌else◌, List, [], ◌∷◌, length, Option, Some, None, codes}
 use Rattle.std.specs.Str.{bytes_eq}
 use Rattle.su_draw.specs.declared.kinds.Kind.{Kind}

@@ -17,3 +17,7 @@ pub mod States
 pub mod Shapes
 pub mod Drawn
 pub mod Looks
+pub mod Characters
+pub mod TermLines
+pub mod Ranks
+pub mod LineFaults

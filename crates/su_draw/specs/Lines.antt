@@ -1,38 +1,14 @@
 -- What the words of a line must be, behind the lines before it.
 -- Words are counted from 0; a line of a term has two empty words in front. Rows, terms and maximal objects are numbered from 0.
-use Rattle.std.specs.Prelude.{ℕ, ◌+◌, ◌-◌, ◌==◌, ◌&&◌, nat_lt, Bool, false, List, [], ◌∷◌, length, codes}
+use Rattle.std.specs.Prelude.{ℕ, ◌==◌, ◌&&◌, nat_lt, Bool, false, List, [], ◌∷◌, length, codes}
 use Rattle.std.specs.List.{list_all}
 use Rattle.std.specs.Str.{bytes_eq}
 use Rattle.su_draw.specs.declared.kinds.Kind.{Kind}
 use Rattle.su_draw.specs.declared.kinds.Kind.TheVariants.{Query, Variables, Term, Row, Head, Compare, Kept, Fold, Sources, Covered, Count, Attribute, Relation, Object, Dependency, Declared, Maximal}
 use Rattle.su_draw.specs.declared.states.State.{State}
-use Rattle.su_draw.specs.Checks.{is_decimal, is_decimal_below, cells}
+use Rattle.su_draw.specs.Checks.{is_decimal, is_decimal_below}
 use Rattle.su_draw.specs.Definitions.{attribute_fits, object_fits, maximal_fits}
-
--- `term I disjunct D choice C ..`
-abbrev pub term_fits : State → List (List ℕ) → Bool
-term_fits s (w ∷ number ∷ disjunct ∷ of ∷ choice ∷ choices) =
-    is_decimal s.terms number && bytes_eq disjunct (codes "disjunct") && is_decimal_below 1000 of && bytes_eq choice (codes "choice") && list_all (is_decimal_below 1000) choices
-term_fits s _ = false
-
--- `  row R V OBJECT ATTRIBUTE=SYMBOL ..`
-abbrev pub row_fits : State → List (List ℕ) → Bool
-row_fits s (i ∷ j ∷ w ∷ row ∷ variable ∷ object ∷ words) = is_decimal s.rows row && cells words
-row_fits s _ = false
-
--- `  kept R ..`
-abbrev pub kept_fits : State → List (List ℕ) → Bool
-kept_fits s (i ∷ j ∷ w ∷ rows) = list_all (is_decimal_below s.rows) rows
-kept_fits s _ = false
-
--- `  fold R ..`, a row for each row
-abbrev pub fold_fits : State → List (List ℕ) → Bool
-fold_fits s words = (length words == s.rows + 3) && kept_fits s words
-
--- `  sources R OBJECT ..`, for one more of the kept rows
-abbrev pub sources_fit : State → List (List ℕ) → Bool
-sources_fit s (i ∷ j ∷ w ∷ row ∷ objects) = is_decimal_below s.rows row && nat_lt s.sources s.kept
-sources_fit s _ = false
+use Rattle.su_draw.specs.TermLines.{term_fits, row_fits, kept_fits, fold_fits, sources_fit}
 
 -- behind `covered`: `by term I rows R ..`
 abbrev pub cover_words_fit : State → List (List ℕ) → Bool

@@ -10,8 +10,8 @@ abbrev pub word_of : List ℕ → List ℕ → Attribute
 word_of name value = record { name = name; value = value }
 
 -- an attribute with a number
-abbrev pub number_of : List ℕ → ℕ → Attribute
-number_of name n = word_of name (decimal n)
+abbrev pub number_attribute : List ℕ → ℕ → Attribute
+number_attribute name n = word_of name (decimal n)
 
 -- the colours by number, the first one black
 abbrev pub colour_of : ℕ → List ℕ

@@ -1,4 +1,5 @@
 -- Numbers below 1,000 as decimals without leading zeros.
+-- word: bytes without a space
 use Rattle.std.specs.Prelude.{ℕ, ◌+◌, ◌-◌, ◌*◌, ◌==◌, ◌&&◌, nat_le, if◌then◌else◌, List, [], ◌∷◌, Option, Some, None}
 use Rattle.std.specs.Option.{option_and_then, option_map}
 

@@ -1,34 +1,13 @@
 -- Which line may stand behind the lines before it, and what is known behind it.
 -- An explanation: its query, its variables, its terms, how many there are. A term: its line, its rows, its head, its comparisons, its kept rows, its fold,
 -- and the sources of each kept row or its cover. A schema: its definitions by kind, its maximal objects.
-use Rattle.std.specs.Prelude.{ℕ, ◌-◌, ◌==◌, ◌&&◌, nat_lt, nat_le, if◌then◌else◌, Bool, true, false, List, length, Option, Some, None}
+use Rattle.std.specs.Prelude.{ℕ, ◌&&◌, nat_lt, if◌then◌else◌, Bool, true, false, List, length, Option, Some, None}
 use Rattle.su_draw.specs.declared.kinds.Kind.{Kind}
-use Rattle.su_draw.specs.declared.kinds.Kind.TheVariants.{Query, Variables, Term, Row, Head, Compare, Kept, Fold, Sources, Covered, Count, Attribute, Relation, Object, Dependency, Declared, Maximal}
+use Rattle.su_draw.specs.declared.kinds.Kind.TheVariants.{Query, Variables, Term, Row, Head, Compare, Kept, Fold, Sources, Covered, Count}
 use Rattle.su_draw.specs.declared.states.State.{State}
 use Rattle.su_draw.specs.Lines.{fits}
 use Rattle.su_draw.specs.States.{has_room_in, state_behind}
-
--- the place of a definition among the kinds of definitions, from 1; 0 for a line of an explanation
-abbrev pub rank_of : Kind → ℕ
-rank_of Attribute = 1
-rank_of Relation = 2
-rank_of Object = 3
-rank_of Dependency = 4
-rank_of Declared = 5
-rank_of Maximal = 6
-rank_of _ = 0
-
--- a definition of this kind may stand behind a line of that kind, or at the beginning
-abbrev pub defines_behind : Option Kind → Kind → Bool
-defines_behind None kind = true
-defines_behind (Some last) kind = nat_lt 0 (rank_of last) && nat_le (rank_of last) (rank_of kind)
-
--- the last term is told, if there is one
-abbrev pub between_terms : State → Option Kind → Bool
-between_terms s (Some Variables) = true
-between_terms s (Some Covered) = true
-between_terms s (Some Sources) = s.sources == s.kept
-between_terms s _ = false
+use Rattle.su_draw.specs.Ranks.{rank_of, defines_behind, between_terms}
 
 -- a line of this kind may stand behind one of that kind, or first
 abbrev pub follows : State → Kind → Option Kind → Bool

@@ -1,4 +1,5 @@
 -- The picture of a text: what stands in it, and how it is written.
+-- document: SVG; drawn: a word that stands in the picture
 use Rattle.std.specs.Prelude.{◌≡◌, ℕ, List}
 use Rattle.su_draw.specs.declared.reading.Line.{Line}
 use Rattle.su_draw.specs.declared.shapes.Picture.{Picture}

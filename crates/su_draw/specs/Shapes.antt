@@ -3,23 +3,23 @@
 use Rattle.std.specs.Prelude.{ℕ, ◌-◌, List, [], ◌∷◌, ◌++◌, codes, decimal}
 use Rattle.su_draw.specs.declared.things.What.{What}
 use Rattle.su_draw.specs.declared.things.What.TheVariants.{Fold, Cover, Member, Part}
-use Rattle.su_draw.specs.declared.shapes.Place.{Place}
+use Rattle.su_draw.specs.declared.shapes.Position.{Position}
 use Rattle.su_draw.specs.declared.shapes.Shape.{Shape}
 use Rattle.su_draw.specs.Escaping.{escaped}
 use Rattle.su_draw.specs.Xml.{Attribute, element_text}
-use Rattle.su_draw.specs.Looks.{word_of, number_of, colour_of, opacity_of, weight_of}
+use Rattle.su_draw.specs.Looks.{word_of, number_attribute, colour_of, opacity_of, weight_of}
 
 -- an element on a line of its own
 abbrev pub element_line : List ℕ → List Attribute → List ℕ → List ℕ
 element_line name attributes inside = element_text name attributes inside ++ codes "\n"
 
 -- the attributes of a text at a place
-abbrev pub text_pairs : Place → List ℕ → List ℕ → List ℕ → List Attribute
+abbrev pub text_pairs : Position → List ℕ → List ℕ → List ℕ → List Attribute
 text_pairs p colour opacity weight =
-    number_of (codes "x") p.x ∷ number_of (codes "y") p.y ∷ word_of (codes "fill") colour ∷ word_of (codes "fill-opacity") opacity ∷ word_of (codes "font-weight") weight ∷ []
+    number_attribute (codes "x") p.x ∷ number_attribute (codes "y") p.y ∷ word_of (codes "fill") colour ∷ word_of (codes "fill-opacity") opacity ∷ word_of (codes "font-weight") weight ∷ []
 
 -- the attributes of what is drawn as a text
-abbrev pub text_attributes : What → Place → List Attribute
+abbrev pub text_attributes : What → Position → List Attribute
 text_attributes what p = text_pairs p (colour_of p.colour) (opacity_of p.light) (weight_of what p.light)
 
 -- a text
@@ -27,21 +27,21 @@ abbrev pub text_line : Shape → List ℕ
 text_line s = element_line (codes "text") (text_attributes s.thing.what s.place) (escaped s.thing.text)
 
 -- the way of an arrow, which is drawn a little above the base lines, and its head
-abbrev pub way_of : Place → List ℕ → List ℕ
+abbrev pub way_of : Position → List ℕ → List ℕ
 way_of p head = codes "M" ++ decimal p.edge ++ codes " " ++ decimal (p.y - 4) ++ codes "H" ++ decimal p.lane ++ codes "V" ++ decimal (p.to - 4) ++ codes "H" ++ decimal p.edge ++ head
 
 -- a line that ends in this head
-abbrev pub arrow_line : Place → List ℕ → List ℕ
+abbrev pub arrow_line : Position → List ℕ → List ℕ
 arrow_line p head = element_line (codes "path") (word_of (codes "d") (way_of p head) ∷ word_of (codes "fill") (codes "none") ∷ word_of (codes "stroke") (codes "#555555") ∷ []) []
 
 -- a dot: a member of a set
-abbrev pub dot_line : Place → List ℕ
-dot_line p = element_line (codes "circle") (number_of (codes "cx") p.x ∷ number_of (codes "cy") p.y ∷ word_of (codes "r") (codes "6") ∷ []) []
+abbrev pub dot_line : Position → List ℕ
+dot_line p = element_line (codes "circle") (number_attribute (codes "cx") p.x ∷ number_attribute (codes "cy") p.y ∷ word_of (codes "r") (codes "6") ∷ []) []
 
 -- a square: a part of a set
-abbrev pub square_line : Place → List ℕ
+abbrev pub square_line : Position → List ℕ
 square_line p =
-    element_line (codes "rect") (number_of (codes "x") p.x ∷ number_of (codes "y") p.y ∷ word_of (codes "width") (codes "12") ∷ word_of (codes "height") (codes "12") ∷ []) []
+    element_line (codes "rect") (number_attribute (codes "x") p.x ∷ number_attribute (codes "y") p.y ∷ word_of (codes "width") (codes "12") ∷ word_of (codes "height") (codes "12") ∷ []) []
 
 -- what a thing is drawn as: a fold as an arrow, a cover as an arrow and a text, members as dots, parts as squares, all else as text
 abbrev pub lines_as : What → Shape → List ℕ

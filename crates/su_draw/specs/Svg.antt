@@ -7,21 +7,21 @@ use Rattle.su_draw.specs.declared.shapes.Picture.{Picture}
 use Rattle.su_draw.specs.Escaping.{escaped}
 use Rattle.su_draw.specs.Xml.{Attribute}
 use Rattle.su_draw.specs.Shapes.{element_line, shape_text}
-use Rattle.su_draw.specs.Looks.{word_of, number_of}
+use Rattle.su_draw.specs.Looks.{word_of, number_attribute}
 
 -- what helps the eye and stands for no word: headings, bands, lines
 abbrev pub help_text : Help → List ℕ
 help_text (Heading x y text) =
-    element_line (codes "text") (number_of (codes "x") x ∷ number_of (codes "y") y ∷ word_of (codes "text-decoration") (codes "underline") ∷ []) (escaped text)
+    element_line (codes "text") (number_attribute (codes "x") x ∷ number_attribute (codes "y") y ∷ word_of (codes "text-decoration") (codes "underline") ∷ []) (escaped text)
 help_text (Band x y width) =
-    element_line (codes "rect") (number_of (codes "x") x ∷ number_of (codes "y") y ∷ number_of (codes "width") width ∷ word_of (codes "height") (codes "20") ∷ word_of (codes "fill") (codes "#e8e8e8") ∷ []) []
+    element_line (codes "rect") (number_attribute (codes "x") x ∷ number_attribute (codes "y") y ∷ number_attribute (codes "width") width ∷ word_of (codes "height") (codes "20") ∷ word_of (codes "fill") (codes "#e8e8e8") ∷ []) []
 help_text (Rule x y to_x to_y) =
-    element_line (codes "line") (number_of (codes "x1") x ∷ number_of (codes "y1") y ∷ number_of (codes "x2") to_x ∷ number_of (codes "y2") to_y ∷ word_of (codes "stroke") (codes "#999999") ∷ []) []
+    element_line (codes "line") (number_attribute (codes "x1") x ∷ number_attribute (codes "y1") y ∷ number_attribute (codes "x2") to_x ∷ number_attribute (codes "y2") to_y ∷ word_of (codes "stroke") (codes "#999999") ∷ []) []
 
 -- the attributes of the picture
 abbrev pub svg_attributes : Picture → List Attribute
 svg_attributes p =
-    word_of (codes "xmlns") (codes "http://www.w3.org/2000/svg") ∷ number_of (codes "width") p.width ∷ number_of (codes "height") p.height
+    word_of (codes "xmlns") (codes "http://www.w3.org/2000/svg") ∷ number_attribute (codes "width") p.width ∷ number_attribute (codes "height") p.height
     ∷ word_of (codes "font-family") (codes "monospace") ∷ word_of (codes "font-size") (codes "13") ∷ word_of (codes "style") (codes "white-space:pre") ∷ []
 
 -- the white ground

@@ -8,7 +8,7 @@ use crate::gridding::Grid;
 use crate::kinds::Kind;
 use crate::measures::width_of;
 use crate::reading::Line;
-use crate::shapes::{Help, Picture, Place, Shape};
+use crate::shapes::{Help, Picture, Position, Shape};
 use crate::things::{Thing, What, all_things};
 use std::alloc::{AllocError, Global};
 use su_base::{List, NoMemory};
@@ -38,7 +38,7 @@ impl<'a> Plan<'a> {
         }
     }
 
-    fn place(&self, thing: &Thing) -> Place {
+    fn place(&self, thing: &Thing) -> Position {
         match self {
             Plan::Explanation(layout) => layout.place(thing),
             Plan::Schema(grid) => grid.place(thing),
@@ -61,7 +61,7 @@ impl<'a> Plan<'a> {
 }
 
 /// How far to the right a shape goes.
-fn right_of(thing: &Thing, place: Place) -> u32 {
+fn right_of(thing: &Thing, place: Position) -> u32 {
     match thing.what {
         What::Fold => place.edge.max(place.lane),
         _ => place.x.saturating_add(width_of(thing.text.as_slice())),

@@ -3,7 +3,7 @@ ghost use Rattle.std.specs.Prelude.{◌≡◌, ◌++◌, flat_map, codes, OnOk};
 ghost use Rattle.su_draw.specs.Xml.{attribute_text};
 ghost use Rattle.su_draw.specs.Escaping.{escaped};
 ghost use Rattle.su_draw.specs.Shapes.{element_line};
-ghost use Rattle.su_draw.specs.Looks.{word_of, number_of};
+ghost use Rattle.su_draw.specs.Looks.{word_of, number_attribute};
 ghost use Rattle.su_draw.specs.inside.Pairs.{attribute_of, attributes_of};
 
 use crate::escaping::escape;
@@ -19,7 +19,7 @@ pub enum Pair<'a> {
 }
 
 fn number(alloc: Global, out: &mut Vec<u8>, name: &str, value: u32) -> Result<(), NoMemory>
-    ensures { OnOk result (out.new.items ≡ out.old.items ++ attribute_text (number_of name.now value)) }
+    ensures { OnOk result (out.new.items ≡ out.old.items ++ attribute_text (number_attribute name.now value)) }
 {
     push(out, " ")?;
     push(out, name)?;

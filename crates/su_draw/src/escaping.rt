@@ -1,7 +1,8 @@
 //! Bytes as characters of XML.
 ghost use Rattle.std.specs.Prelude.{◌≡◌, ◌++◌, ◌&&◌, ◌==◌, not, OnOk};
 ghost use Rattle.su_draw.specs.Xml.{is_plain};
-ghost use Rattle.su_draw.specs.Escaping.{shown_for, char_text, begun_with, bits_with, first_text, goes_on, byte_text, begun_behind, escaped};
+ghost use Rattle.su_draw.specs.Characters.{shown_for, char_text};
+ghost use Rattle.su_draw.specs.Escaping.{begun_with, bits_with, first_text, goes_on, byte_text, begun_behind, escaped};
 
 use crate::parts::{push, push_number};
 use std::alloc::Global;

@@ -5,7 +5,7 @@ use crate::kinds::Kind;
 use crate::measures::{HIGH, lanes, offset_of, word_at, words_of};
 use crate::numbers::number_of;
 use crate::reading::Line;
-use crate::shapes::{Help, Place};
+use crate::shapes::{Help, Position};
 use crate::tables::Table;
 use crate::things::{Thing, What, before, behind};
 use std::alloc::{AllocError, Global};
@@ -120,11 +120,11 @@ impl<'a> Layout<'a> {
         number_of(word_at(words_of(self.lines, line), word)).unwrap_or(0)
     }
 
-    fn label(&self, thing: &Thing) -> Place {
+    fn label(&self, thing: &Thing) -> Position {
         let x = self
             .left
             .saturating_add(offset_of(words_of(self.lines, thing.line), thing.word));
-        Place {
+        Position {
             x,
             y: self.height(thing.line),
             edge: 0,
@@ -136,7 +136,7 @@ impl<'a> Layout<'a> {
     }
 
     /// A row's number, its variable, its object or a symbol of it.
-    fn in_row(&self, table: &Table, thing: &Thing) -> Place {
+    fn in_row(&self, table: &Table, thing: &Thing) -> Position {
         let words = words_of(self.lines, thing.line);
         let (left, colour) = match thing.word {
             0..=5 => (table.front(thing.word.saturating_sub(3)), 0),
@@ -145,7 +145,7 @@ impl<'a> Layout<'a> {
                 (table.column(before(word)), table.colour(behind(word)))
             }
         };
-        Place {
+        Position {
             x: self.left.saturating_add(left),
             y: self.height(thing.line),
             edge: 0,
@@ -156,14 +156,14 @@ impl<'a> Layout<'a> {
         }
     }
 
-    fn source(&self, table: &Table, thing: &Thing) -> Place {
+    fn source(&self, table: &Table, thing: &Thing) -> Position {
         let words = words_of(self.lines, thing.line);
         let offset = offset_of(words, thing.word).saturating_sub(offset_of(words, 4));
         let right = self
             .left
             .saturating_add(table.width())
             .saturating_add(table.behind_lanes());
-        Place {
+        Position {
             x: right.saturating_add(offset),
             y: self.row_height(table, self.number(thing.line, 3)),
             edge: 0,
@@ -174,10 +174,10 @@ impl<'a> Layout<'a> {
         }
     }
 
-    fn fold(&self, table: &Table, thing: &Thing) -> Place {
+    fn fold(&self, table: &Table, thing: &Thing) -> Position {
         let target = self.number(thing.line, thing.word);
         let right = self.left.saturating_add(table.width());
-        Place {
+        Position {
             x: 0,
             y: self.row_height(table, thing.word.saturating_sub(3)),
             edge: right.saturating_add(8),
@@ -188,14 +188,14 @@ impl<'a> Layout<'a> {
         }
     }
 
-    fn cover(&self, thing: &Thing) -> Place {
+    fn cover(&self, thing: &Thing) -> Position {
         let by = self.number(thing.line, 5);
         let lane = self.covers.iter().position(|term| *term == by);
         let to = match self.tables.get(by) {
             Some(table) => self.height(table.term),
             None => 0,
         };
-        Place {
+        Position {
             edge: self.left.saturating_sub(4),
             lane: 10 + 10 * lanes(lane.unwrap_or(0)),
             to,
@@ -204,7 +204,7 @@ impl<'a> Layout<'a> {
     }
 
     /// Where a thing is drawn.
-    pub(crate) fn place(&self, thing: &Thing) -> Place {
+    pub(crate) fn place(&self, thing: &Thing) -> Position {
         let kind = match self.lines.get(thing.line) {
             Some(line) => line.kind,
             None => Kind::Query,

@@ -1,6 +1,7 @@
 //! What the words of each line of an explanation must be.
 ghost use Rattle.std.specs.Prelude.{◌≡◌, ◌<◌};
-ghost use Rattle.su_draw.specs.Lines.{term_fits, row_fits, kept_fits, fold_fits, sources_fit, cover_words_fit, cover_fits, count_fits};
+ghost use Rattle.su_draw.specs.TermLines.{term_fits, row_fits, kept_fits, fold_fits, sources_fit};
+ghost use Rattle.su_draw.specs.Lines.{cover_words_fit, cover_fits, count_fits};
 
 use crate::checks::{are_below, are_cells, is_below, is_number, is_word};
 use crate::states::State;

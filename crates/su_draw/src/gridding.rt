@@ -5,7 +5,7 @@ use crate::checks::are_same;
 use crate::kinds::Kind;
 use crate::measures::{HIGH, WIDE, width_of, word_at, words_of};
 use crate::reading::Line;
-use crate::shapes::{Help, Place};
+use crate::shapes::{Help, Position};
 use crate::things::{Thing, What, name_in};
 use std::alloc::{AllocError, Global};
 
@@ -122,7 +122,7 @@ impl<'a> Grid<'a> {
     }
 
     /// Where a thing is drawn.
-    pub(crate) fn place(&self, thing: &Thing) -> Place {
+    pub(crate) fn place(&self, thing: &Thing) -> Position {
         let words = words_of(self.lines, thing.line);
         let word = word_at(words, thing.word);
         let column = match thing.what {
@@ -147,7 +147,7 @@ impl<'a> Grid<'a> {
             (_, 3) => (left.saturating_add(4 * WIDE - 4), TOP - 2 * HIGH - 8),
             _ => (left, TOP - HIGH - 8),
         };
-        Place {
+        Position {
             x,
             y,
             edge: 0,

@@ -37,7 +37,7 @@ pub use order::{is_end, step};
 pub use pictures::picture_of;
 pub use pieces::{Cut, Piece, cut_text};
 pub use reading::{Fault, Line, read};
-pub use shapes::{Help, Picture, Place, Shape};
+pub use shapes::{Help, Picture, Position, Shape};
 pub use states::{START, State};
 pub use things::{Thing, What, all_things, what_of};
 pub use writing::write;

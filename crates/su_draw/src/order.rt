@@ -1,7 +1,8 @@
 //! Which line may stand behind the lines before it.
 ghost use Rattle.std.specs.Prelude.{◌≡◌, ◌<◌, true};
 ghost use Rattle.su_draw.specs.Lines.{fits};
-ghost use Rattle.su_draw.specs.Order.{rank_of, defines_behind, between_terms, follows, stepped, may_end};
+ghost use Rattle.su_draw.specs.Ranks.{rank_of, defines_behind, between_terms};
+ghost use Rattle.su_draw.specs.Order.{follows, stepped, may_end};
 ghost use Rattle.su_draw.specs.States.{has_room_in, state_behind};
 
 use crate::explanations::{

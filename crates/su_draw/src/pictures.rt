@@ -1,7 +1,7 @@
 //! The picture of a text.
 ghost use Rattle.std.specs.Prelude.{IfOk, IfErr};
 ghost use Rattle.su_draw.specs.Pictures.{IsPictureOf};
-ghost use Rattle.su_draw.specs.Reading.{IsFaultOf};
+ghost use Rattle.su_draw.specs.LineFaults.{IsFaultOf};
 
 use crate::drawing::draw;
 use crate::reading::{Fault, read};

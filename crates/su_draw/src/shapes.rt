@@ -7,7 +7,7 @@ use su_base::List;
 /// base line `y`. An arrow begins at its edge a little above that line, goes sideways to its lane, up or
 /// down to another base line, and back to the edge. Symbols have colours; what is light is not kept.
 #[derive(Clone, Copy)]
-pub struct Place {
+pub struct Position {
     pub x: u32,
     pub y: u32,
     pub edge: u32,
@@ -21,7 +21,7 @@ pub struct Place {
 #[derive(Drop)]
 pub struct Shape {
     pub thing: Thing,
-    pub place: Place,
+    pub place: Position,
 }
 
 /// What helps the eye and stands for no word: the names above the columns of a table, the ground of a

@@ -8,7 +8,7 @@ ghost use Rattle.su_draw.specs.Xml.{attribute_text, IsDocument};
 use crate::elements::Pair::{Number, Word};
 use crate::elements::{close, element, open};
 use crate::parts::push;
-use crate::shapes::{Help, Picture, Place, Shape};
+use crate::shapes::{Help, Picture, Position, Shape};
 use crate::things::What;
 use std::alloc::Global;
 use su_base::{List, NoMemory};
@@ -76,7 +76,7 @@ fn add_number(alloc: Global, text: &mut String, number: u32) -> Result<(), NoMem
 }
 
 /// The way of an arrow.
-fn way(alloc: Global, place: Place, head: &str) -> Result<String, NoMemory>
+fn way(alloc: Global, place: Position, head: &str) -> Result<String, NoMemory>
     ensures { IfOk result (λ text. string_bytes text ≡ way_of place head.now) }
 {
     let mut text = String::new(alloc);
@@ -94,7 +94,7 @@ fn way(alloc: Global, place: Place, head: &str) -> Result<String, NoMemory>
     Ok(text)
 }
 
-fn arrow_element(alloc: Global, out: &mut Vec<u8>, place: Place, head: &str) -> Result<(), NoMemory>
+fn arrow_element(alloc: Global, out: &mut Vec<u8>, place: Position, head: &str) -> Result<(), NoMemory>
     ensures { OnOk result (out.new.items ≡ out.old.items ++ arrow_line place head.now) }
 {
     let way = way(alloc, place, head)?;
@@ -106,14 +106,14 @@ fn arrow_element(alloc: Global, out: &mut Vec<u8>, place: Place, head: &str) -> 
     element(alloc, out, "path", &pairs, &[])
 }
 
-fn dot_element(alloc: Global, out: &mut Vec<u8>, place: Place) -> Result<(), NoMemory>
+fn dot_element(alloc: Global, out: &mut Vec<u8>, place: Position) -> Result<(), NoMemory>
     ensures { OnOk result (out.new.items ≡ out.old.items ++ dot_line place) }
 {
     let pairs = [Number("cx", place.x), Number("cy", place.y), Word("r", "6")];
     element(alloc, out, "circle", &pairs, &[])
 }
 
-fn square_element(alloc: Global, out: &mut Vec<u8>, place: Place) -> Result<(), NoMemory>
+fn square_element(alloc: Global, out: &mut Vec<u8>, place: Position) -> Result<(), NoMemory>
     ensures { OnOk result (out.new.items ≡ out.old.items ++ square_line place) }
 {
     let pairs = [

@@ -11,7 +11,7 @@ use Rattle.su_base.specs.declared.values.Value.TheVariants.{Int}
 use Rattle.su_rel.specs.Stored.{Stored}
 use Rattle.su_tableau.specs.declared.symbols.Sym.{Sym}
 use Rattle.su_tableau.specs.declared.symbols.Sym.TheVariants.{Const, Var}
-use Rattle.su_tableau.specs.Tableaux.{value_of}
+use Rattle.su_tableau.specs.Valuations.{value_of}
 use Rattle.su_index.specs.Matches.{matches}
 use Rattle.su_index.specs.Tables.{table_at}
 use Rattle.su_exec.specs.declared.tasks.Source.{Source}

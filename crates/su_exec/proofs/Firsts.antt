@@ -10,7 +10,7 @@ use Rattle.su_tableau.specs.declared.symbols.Sym.{Sym}
 use Rattle.su_tableau.specs.declared.symbols.Sym.TheVariants.{Const, Var}
 use Rattle.su_exec.specs.declared.tasks.Task.{Task}
 use Rattle.su_exec.specs.declared.tasks.TaskRow.{TaskRow}
-use Rattle.su_exec.specs.inside.Labels.{IsFirst}
+use Rattle.su_exec.specs.inside.Labels.{IsFirstRow}
 use Rattle.su_exec.specs.Tasks.{StandsIn}
 
 -- the least number below n that passes, or none
@@ -64,7 +64,7 @@ true_stands task k i l t =
       cell = (x.0, x.2, get_or_default (row_at task i).cells x.0 (Var k) x.1 x.2 ∙ x.3 ∙ e);
     }
 
-pub first_exists : (task : Task) (k i : ℕ) → StandsIn task k i → (f : ℕ) × IsFirst task k f
+pub first_exists : (task : Task) (k i : ℕ) → StandsIn task k i → (f : ℕ) × IsFirstRow task k f
 first_exists task k i s =
     let test : ℕ → Bool = stands task k in
     let here = stands_true task k i s in
@@ -73,7 +73,7 @@ first_exists task k i s =
     (λ (none : (j : ℕ) → j < suc i → test j ≡ false). absurd (true≢false (sym here ∙ none i (omega arith))))
     (λ (x : Least test (suc i)).
     let below = x.below in
-    let first : IsFirst task k x.at = record {
+    let first : IsFirstRow task k x.at = record {
       stands = true_stands task k x.at (omega arith) x.passes;
       least = λ j other. ⊎_elim (λ (l : j < x.at). absurd (true≢false (sym (stands_true task k j other) ∙ x.before j l))) (λ (l : x.at ≤ j). l) (cases_lt j x.at);
     } in

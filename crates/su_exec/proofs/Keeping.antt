@@ -4,7 +4,7 @@ use Rattle.std.specs.Prelude.{nat_eq, cond, ◌&&◌}
 use Rattle.std.proofs.lemmas.Bool.Decides.{nat_tests}
 use Rattle.std.proofs.lemmas.Bool.{cases_eq, cases_Bool, true≢false}
 use Rattle.std.proofs.lemmas.List.Folds.{list_any_at}
-use Rattle.su_exec.specs.inside.Edges.{Edge, FitsAll, has, among, always, Agree, Goes, Keeps, Splits, Enough, IsWithin, IsTestOf, Same}
+use Rattle.su_exec.specs.inside.Edges.{Edge, FitsAll, has, among, always, HaveSameValues, Goes, Keeps, Splits, Enough, IsWithin, IsTestOf, Same}
 
 -- ---- agreeing
 
@@ -15,19 +15,19 @@ has_tail : (x : ℕ) (xs : List ℕ) (k : ℕ) → has xs k ≡ true → has (x 
 has_tail x xs k h = grind (arith, nat_tests, h)
 
 -- agreeing at each variable is agreeing
-pub agree_from : {X : Type 0} (v w : ℕ → X) (ks : List ℕ) → ((k : ℕ) → has ks k ≡ true → v k ≡ w k) → Agree ks v w
+pub agree_from : {X : Type 0} (v w : ℕ → X) (ks : List ℕ) → ((k : ℕ) → has ks k ≡ true → v k ≡ w k) → HaveSameValues ks v w
 agree_from v w [] h = refl
 agree_from v w (x ∷ xs) h =
     let e = h x (has_head x xs) in
     let i = agree_from v w xs (λ k m. h k (has_tail x xs k m)) in
     cc
 
-pub agree_at : {X : Type 0} (v w : ℕ → X) (ks : List ℕ) → Agree ks v w → (k : ℕ) → has ks k ≡ true → v k ≡ w k
+pub agree_at : {X : Type 0} (v w : ℕ → X) (ks : List ℕ) → HaveSameValues ks v w → (k : ℕ) → has ks k ≡ true → v k ≡ w k
 agree_at v w [] h k m = absurd (true≢false (sym m))
 agree_at v w (x ∷ xs) h k m =
     ⊎_elim
     (λ (e : x ≡ k). let first : v x ≡ w x = cc in subst (λ k. v k ≡ w k) e first)
-    (λ (ne : x ≡ k → ⊥). let rest : Agree xs v w = cc in agree_at v w xs rest k (grind (arith, nat_tests, m, ne)))
+    (λ (ne : x ≡ k → ⊥). let rest : HaveSameValues xs v w = cc in agree_at v w xs rest k (grind (arith, nat_tests, m, ne)))
     (cases_eq x k)
 
 -- ---- fitting
@@ -92,7 +92,7 @@ patched_out gs w v k h =
 pub step_on_part :
     (needed ks us : List ℕ) (es fs gs hs rs : List (Edge ℕ)) (st s u : (ℕ → ℕ) → Bool)
     → Splits es gs rs → Splits fs hs rs → ((v : ℕ → ℕ) → st v ≡ (s v && u v)) → Keeps ks gs s hs always → IsWithin hs ks → Enough needed ks gs rs
-    → IsTestOf s gs → ((v w : ℕ → ℕ) → Agree us v w → u v ≡ u w) → ((k : ℕ) → among gs k ≡ true → has us k ≡ true → has ks k ≡ true) → Keeps needed es st fs u
+    → IsTestOf s gs → ((v w : ℕ → ℕ) → HaveSameValues us v w → u v ≡ u w) → ((k : ℕ) → among gs k ≡ true → has us k ≡ true → has ks k ≡ true) → Keeps needed es st fs u
 step_on_part needed ks us es fs gs hs rs st s u left right both keeps within enough own other in_test = (
   λ v f p.
       let parts = (left v).0 f in

@@ -9,7 +9,7 @@ use Rattle.std.proofs.lemmas.List.FromFn.{length-range_with_len, get_or-range_wi
 use Rattle.su_exec.specs.declared.tasks.Task.{Task}
 use Rattle.su_exec.specs.Tasks.{StandsIn}
 use Rattle.su_exec.specs.Components.{AreCompared, AreConnected, shared, compared, IsLabelling}
-use Rattle.su_exec.specs.inside.Labels.{label_of, relabelled, AreLabels, IsFirst, IsFirstOf, KeepsLabels}
+use Rattle.su_exec.specs.inside.Labels.{label_of, relabelled, AreLabels, IsFirstRow, IsFirstOf, KeepsLabels}
 use Rattle.su_exec.specs.declared.tasks.TaskRow.{TaskRow}
 use Rattle.su_tableau.specs.declared.symbols.Sym.{Sym}
 use Rattle.su_tableau.specs.declared.symbols.Sym.TheVariants.{Var}
@@ -146,7 +146,7 @@ stands_at task k i row e h = record { row = row; below = slice_get_within task.r
 pub cell_at : (task : Task) (k i : ℕ) (row : TaskRow) → slice_get task.rows i ≡ Some row → StandsIn task k i → Contains row.cells (Var k)
 cell_at task k i row e s = subst (λ (r : TaskRow). Contains r.cells (Var k)) (sym (s.is row) ∙ get_or_from_slice_get task.rows i row row e) s.cell
 
-pub first_same : (task : Task) (k i j : ℕ) → IsFirst task k i → IsFirst task k j → i ≡ j
+pub first_same : (task : Task) (k i j : ℕ) → IsFirstRow task k i → IsFirstRow task k j → i ≡ j
 first_same task k i j a b = let x = a.least j b.stands in let y = b.least i a.stands in omega arith
 
 pub keeps_same : (ls : List ℕ) → KeepsLabels ls ls
@@ -157,25 +157,25 @@ keeps_then xs ys zs n first second a b la lb e = second a b (omega arith) (omega
 
 -- rows that are joined have one label, where each has the label of the first row with each of its variables
 pub labelling_is :
-    (task : Task) (ls : List ℕ) → ((k i : ℕ) → StandsIn task k i → (f : ℕ) × IsFirst task k f)
-    → ((i k first : ℕ) → StandsIn task k i → IsFirst task k first → label_of ls i ≡ label_of ls first)
-    → ((k l i j : ℕ) → AreCompared task k l → IsFirst task k i → IsFirst task l j → label_of ls i ≡ label_of ls j) → IsLabelling task (label_of ls)
+    (task : Task) (ls : List ℕ) → ((k i : ℕ) → StandsIn task k i → (f : ℕ) × IsFirstRow task k f)
+    → ((i k first : ℕ) → StandsIn task k i → IsFirstRow task k first → label_of ls i ≡ label_of ls first)
+    → ((k l i j : ℕ) → AreCompared task k l → IsFirstRow task k i → IsFirstRow task l j → label_of ls i ≡ label_of ls j) → IsLabelling task (label_of ls)
 labelling_is task ls first same between i j (shared k a b) = let f = first k i a in same i k f.0 a f.1 ∙ sym (same j k f.0 b f.1)
 labelling_is task ls first same between i j (compared k l a b e) =
     let f = first k i a in
     let g = first l j b in
     same i k f.0 a f.1 ∙ between k l f.0 g.0 e f.1 g.1 ∙ sym (same j l g.0 b g.1)
 
-pub first_told : (task : Task) (k : ℕ) (symbol : Sym) (r : Option ℕ) → symbol ≡ Var k → MatchOption r ((i : ℕ) → StandsIn task k i → ⊥) (IsFirst task k) → MatchOption r ((l i : ℕ) → symbol ≡ Var l → StandsIn task l i → ⊥) (IsFirstOf task symbol)
+pub first_told : (task : Task) (k : ℕ) (symbol : Sym) (r : Option ℕ) → symbol ≡ Var k → MatchOption r ((i : ℕ) → StandsIn task k i → ⊥) (IsFirstRow task k) → MatchOption r ((l i : ℕ) → symbol ≡ Var l → StandsIn task l i → ⊥) (IsFirstOf task symbol)
 first_told task k symbol None e h = λ l i f s. h i (subst (λ k. StandsIn task k i) (same_var symbol l k f e) s)
 first_told task k symbol (Some i) e h = record { variable = k; is = e; first = h }
 
 -- the first row with a symbol
-pub first_is_one : (task : Task) (symbol : Sym) (i k j : ℕ) → IsFirstOf task symbol i → symbol ≡ Var k → IsFirst task k j → i ≡ j
-first_is_one task symbol i k j a e b = first_same task a.variable i j a.first (subst (λ k. IsFirst task k j) (same_var symbol k a.variable e a.is) b)
+pub first_is_one : (task : Task) (symbol : Sym) (i k j : ℕ) → IsFirstOf task symbol i → symbol ≡ Var k → IsFirstRow task k j → i ≡ j
+first_is_one task symbol i k j a e b = first_same task a.variable i j a.first (subst (λ k. IsFirstRow task k j) (same_var symbol k a.variable e a.is) b)
 
-pub first_linked : (task : Task) (k i j : ℕ) → IsFirst task k i → StandsIn task k j → AreConnected task i j
+pub first_linked : (task : Task) (k i j : ℕ) → IsFirstRow task k i → StandsIn task k j → AreConnected task i j
 first_linked task k i j first stands label h = h i j (shared k first.stands stands)
 
-pub compared_linked : (task : Task) (k l i j : ℕ) → AreCompared task k l → IsFirst task k i → IsFirst task l j → AreConnected task j i
+pub compared_linked : (task : Task) (k l i j : ℕ) → AreCompared task k l → IsFirstRow task k i → IsFirstRow task l j → AreConnected task j i
 compared_linked task k l i j e a b label h = sym (h i j (compared k l a.stands b.stands e))

@@ -7,7 +7,7 @@ use Rattle.std.specs.Prelude.{nat_eq, ◌&&◌}
 use Rattle.std.proofs.lemmas.List.Elements.{All-append, All-cons, All-nil, All-head, All-tail, All-take, All-drop}
 use Rattle.std.proofs.lemmas.List.Edits.{length-remove, get_or-remove_below, get_or-remove_above}
 use Rattle.std.proofs.lemmas.List.Folds.{list_any-append, list_any_at}
-use Rattle.su_exec.specs.inside.Edges.{Edge, Fits, has, among, always, Agree, Keeps, Splits, IsWithin, IsTestOf}
+use Rattle.su_exec.specs.inside.Edges.{Edge, Fits, has, among, always, HaveSameValues, Keeps, Splits, IsWithin, IsTestOf}
 use Rattle.su_reduce.specs.Sheets.{pick, AreBelow}
 use Rattle.su_exec.proofs.Keeping.{step_on_part}
 
@@ -63,7 +63,7 @@ alone g k h = ⊎_elim (λ (e : has g.vars k ≡ true). e) (λ (e : has g.vars k
 -- an edge that keeps what is needed takes the place of a part of the body
 pub put_step :
     (needed us : List ℕ) (es gs rs : List (Edge ℕ)) (g : Edge ℕ) (st s u : (ℕ → ℕ) → Bool)
-    → Splits es gs rs → ((v : ℕ → ℕ) → st v ≡ (s v && u v)) → Keeps g.vars gs s (g ∷ []) always → IsTestOf s gs → ((v w : ℕ → ℕ) → Agree us v w → u v ≡ u w)
+    → Splits es gs rs → ((v : ℕ → ℕ) → st v ≡ (s v && u v)) → Keeps g.vars gs s (g ∷ []) always → IsTestOf s gs → ((v w : ℕ → ℕ) → HaveSameValues us v w → u v ≡ u w)
     → ((k : ℕ) → among gs k ≡ true → among rs k ≡ true → has g.vars k ≡ true) → ((k : ℕ) → among gs k ≡ true → has needed k ≡ true → has g.vars k ≡ true) → ((k : ℕ) → among gs k ≡ true → has us k ≡ true → has g.vars k ≡ true)
     → Keeps needed es st (rs ++ g ∷ []) u
 put_step needed us es gs rs g st s u splits both keeps own other in_rest in_needed in_test =

@@ -10,7 +10,7 @@ use Rattle.su_base.specs.declared.values.Value.{Value}
 use Rattle.su_base.specs.declared.values.Value.TheVariants.{Int}
 use Rattle.su_tableau.specs.declared.symbols.Sym.{Sym}
 use Rattle.su_tableau.specs.declared.symbols.Sym.TheVariants.{Var}
-use Rattle.su_tableau.specs.Tableaux.{values_of}
+use Rattle.su_tableau.specs.Valuations.{values_of}
 use Rattle.su_reduce.specs.Sheets.{AreBelow}
 use Rattle.su_reduce.specs.Shapes.{IsShapeOf, cell_at, place_of}
 use Rattle.su_reduce.proofs.Placing.{contains_at, place_holds, read_value}

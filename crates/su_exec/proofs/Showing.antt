@@ -21,11 +21,11 @@ use Rattle.su_where.specs.Operator.{compares}
 use Rattle.su_index.proofs.Runs.{sorted_nil}
 use Rattle.su_tableau.specs.declared.symbols.Sym.{Sym}
 use Rattle.su_tableau.specs.declared.symbols.Sym.TheVariants.{Const, Var}
-use Rattle.su_tableau.specs.Tableaux.{value_of, values_of}
+use Rattle.su_tableau.specs.Valuations.{value_of, values_of}
 use Rattle.su_exec.specs.declared.checks.Check.{Check}
 use Rattle.su_exec.specs.declared.checks.Spot.{Spot}
-use Rattle.su_exec.specs.declared.checks.Term.{Term}
-use Rattle.su_exec.specs.declared.checks.Term.TheVariants.{Code, Variable}
+use Rattle.su_exec.specs.declared.checks.CodedSymbol.{CodedSymbol}
+use Rattle.su_exec.specs.declared.checks.CodedSymbol.TheVariants.{Code, Variable}
 use Rattle.su_exec.specs.declared.merging.Merged.{Merged}
 use Rattle.su_exec.specs.declared.merging.Merged.TheVariants.{Whole, Over, Nothing}
 use Rattle.su_exec.specs.declared.tasks.Compared.{Compared}
@@ -36,10 +36,10 @@ use Rattle.su_exec.specs.inside.Bodies.{AreThere, HasMore, IsEmpty, IsGiven, IsM
 use Rattle.su_reduce.specs.Codes.{AreApart, decode, Extends}
 use Rattle.su_exec.specs.inside.Checks.{HasTerm, IsSpotIn, all_hold, check_holds, check_vars, code_of, spot_code, vars_of}
 use Rattle.su_exec.specs.inside.Coded.{AreRowEdges, IsCoded, NoneAgrees, meaning, meanings}
-use Rattle.su_exec.specs.inside.Edges.{Edge, Fits, FitsAll, Agree, Keeps, always, among, has}
+use Rattle.su_exec.specs.inside.Edges.{Edge, Fits, FitsAll, HaveSameValues, Keeps, always, among, has}
 use Rattle.su_reduce.specs.Sheets.{AreBelow}
 use Rattle.su_exec.specs.inside.Joins.{IsReal}
-use Rattle.su_exec.specs.Outputs.{Agrees, AreMore, AreOutputs, Holds, IsOutput}
+use Rattle.su_exec.specs.Outputs.{Agrees, AreMore, AreOutputs, HoldsUnder, IsOutput}
 use Rattle.su_exec.specs.inside.Shown.{AreChecksOf, AreSpotsOf, AreTermsOf, HasSomeEdge, HasVars, IsCheckOf, IsMoreBy, IsShown, IsShownBy, IsTermOf, ShowsMore, spot_values, term_values, term_vars}
 use Rattle.su_exec.specs.Tasks.{IsTask, Occurs}
 use Rattle.su_exec.proofs.Bridging.{code_back, fits_all_codes, fits_all_values, place_in, placed}
@@ -50,7 +50,7 @@ use Rattle.su_exec.proofs.Stepping.{code_same, has_first, has_second, has_either
 
 -- ---- what spots show
 
-pub shown_values : (values : List Value) (vars : List ℕ) (terms : List Term) (spots : List Spot) (v : ℕ → ℕ) → AreSpotsOf vars terms spots → spot_values values spots (map v vars) ≡ term_values values terms v
+pub shown_values : (values : List Value) (vars : List ℕ) (terms : List CodedSymbol) (spots : List Spot) (v : ℕ → ℕ) → AreSpotsOf vars terms spots → spot_values values spots (map v vars) ≡ term_values values terms v
 shown_values values vars [] [] v h = refl
 shown_values values vars [] (s ∷ spots) v h = absurd h
 shown_values values vars (t ∷ terms) [] v h = absurd h
@@ -59,7 +59,7 @@ shown_values values vars (t ∷ terms) (s ∷ spots) v h =
     let rest : spot_values values spots (map v vars) ≡ term_values values terms v = shown_values values vars terms spots v h.1 in
     ap (λ y. y ∷ spot_values values spots (map v vars)) first ∙ ap (λ ys. decode values (code_of v t) ∷ ys) rest
 
-pub spots_within : (vars : List ℕ) (terms : List Term) (spots : List Spot) → AreSpotsOf vars terms spots → All (IsSpotIn (length vars) 0) spots
+pub spots_within : (vars : List ℕ) (terms : List CodedSymbol) (spots : List Spot) → AreSpotsOf vars terms spots → All (IsSpotIn (length vars) 0) spots
 spots_within vars [] [] h = All-nil (IsSpotIn (length vars) 0)
 spots_within vars [] (s ∷ spots) h = absurd h
 spots_within vars (t ∷ terms) [] h = absurd h
@@ -72,7 +72,7 @@ mapped_of f rows h c =
     let l : c.0 < length rows = omega arith in
     (get_or rows c.0 [], Contains-get_or rows c.0 [] l, sym (get_or-map f rows c.0 [] h l) ∙ c.2)
 
-module _ (values : List Value) (e : Edge ℕ) (terms : List Term) (spots : List Spot) (real : IsReal e) (are : AreSpotsOf e.vars terms spots) where
+module _ (values : List Value) (e : Edge ℕ) (terms : List CodedSymbol) (spots : List Spot) (real : IsReal e) (are : AreSpotsOf e.vars terms spots) where
   -- the values at the spots of the rows are what is shown
   pub shown : (h : List Value) → Contains (map (spot_values values spots) e.rows) h ↔ IsShown values e terms h
   shown h = (
@@ -94,7 +94,7 @@ less_before (r ∷ rows) zero (suc j) sorted l m = All-from_recursion (λ y. com
 less_before (r ∷ rows) (suc i) (suc j) sorted l m = less_before rows i j (sorted_tail compare_lists r rows sorted) (omega arith) (omega arith)
 
 -- ascending rows past the bound that are shown are more than it
-pub shows_more : (values : List Value) (e : Edge ℕ) (terms : List Term) (n : ℕ) (rows : List (List Value)) → IsStrictlySortedBy compare_lists rows → ((h : List Value) → Contains rows h → IsShown values e terms h) → n < length rows → ShowsMore values e terms n
+pub shows_more : (values : List Value) (e : Edge ℕ) (terms : List CodedSymbol) (n : ℕ) (rows : List (List Value)) → IsStrictlySortedBy compare_lists rows → ((h : List Value) → Contains rows h → IsShown values e terms h) → n < length rows → ShowsMore values e terms n
 shows_more values e terms n rows sorted each many = record {
   shown = λ i. get_or rows i [];
   each = λ i l. each (get_or rows i []) (Contains-get_or rows i [] (omega arith));
@@ -113,11 +113,11 @@ zip_more {A} R xs ys i x y l e h r =
 
 -- ---- terms
 
-pub term_up : (a b : List Value) (s : Sym) (t : Term) → Extends a b → IsTermOf a s t → IsTermOf b s t
+pub term_up : (a b : List Value) (s : Sym) (t : CodedSymbol) → Extends a b → IsTermOf a s t → IsTermOf b s t
 term_up a b (Const value) t more h = (h.0, h.1, (let l = h.2 in let m = more.longer in omega arith), more.same h.0 h.2 ∙ h.3)
 term_up a b (Var k) t more h = h
 
-pub terms_up : (a b : List Value) (symbols : List Sym) (terms : List Term) → Extends a b → AreTermsOf a symbols terms → AreTermsOf b symbols terms
+pub terms_up : (a b : List Value) (symbols : List Sym) (terms : List CodedSymbol) → Extends a b → AreTermsOf a symbols terms → AreTermsOf b symbols terms
 terms_up a b [] [] more h = h
 terms_up a b [] (t ∷ terms) more h = absurd h
 terms_up a b (s ∷ symbols) [] more h = absurd h
@@ -139,19 +139,19 @@ append_none : (xs : List ℕ) → xs ++ [] ≡ xs
 append_none [] = refl
 append_none (x ∷ xs) = ap (λ r. x ∷ r) (append_none xs)
 
-pub vars_more : (terms : List Term) (t : Term) → term_vars (terms ++ t ∷ []) ≡ term_vars terms ++ vars_of t
+pub vars_more : (terms : List CodedSymbol) (t : CodedSymbol) → term_vars (terms ++ t ∷ []) ≡ term_vars terms ++ vars_of t
 vars_more [] t = append_none (vars_of t)
 vars_more (u ∷ terms) t = ap (λ r. vars_of u ++ r) (vars_more terms t) ∙ sym (append_assoc (vars_of u) (term_vars terms) (vars_of t))
 
-pub vars_step : (terms : List Term) (i : ℕ) (d : Term) (old new : List ℕ) → i < length terms → old ≡ term_vars (take i terms) → new ≡ old ++ vars_of (get_or terms i d) → new ≡ term_vars (take (i + 1) terms)
+pub vars_step : (terms : List CodedSymbol) (i : ℕ) (d : CodedSymbol) (old new : List ℕ) → i < length terms → old ≡ term_vars (take i terms) → new ≡ old ++ vars_of (get_or terms i d) → new ≡ term_vars (take (i + 1) terms)
 vars_step terms i d old new l before is = is ∙ ap (λ ks. ks ++ vars_of (get_or terms i d)) before ∙ sym (ap term_vars (take_more terms i d l) ∙ vars_more (take i terms) (get_or terms i d))
 
 module _ (values : List Value) where
-  sym_value : (w : ℕ → ℕ) (v : ℕ → Value) (s : Sym) (t : Term) → IsTermOf values s t → ((k : ℕ) → s ≡ Var k → v k ≡ decode values (w k)) → value_of v s ≡ decode values (code_of w t)
-  sym_value w v (Const value) t h same = sym h.3 ∙ ap (λ (t : Term). decode values (code_of w t)) (sym h.1)
-  sym_value w v (Var k) t h same = same k refl ∙ ap (λ (t : Term). decode values (code_of w t)) (sym h)
+  sym_value : (w : ℕ → ℕ) (v : ℕ → Value) (s : Sym) (t : CodedSymbol) → IsTermOf values s t → ((k : ℕ) → s ≡ Var k → v k ≡ decode values (w k)) → value_of v s ≡ decode values (code_of w t)
+  sym_value w v (Const value) t h same = sym h.3 ∙ ap (λ (t : CodedSymbol). decode values (code_of w t)) (sym h.1)
+  sym_value w v (Var k) t h same = same k refl ∙ ap (λ (t : CodedSymbol). decode values (code_of w t)) (sym h)
 
-  syms_values : (w : ℕ → ℕ) (v : ℕ → Value) (symbols : List Sym) (terms : List Term) → AreTermsOf values symbols terms → ((k : ℕ) → Contains symbols (Var k) → v k ≡ decode values (w k)) → values_of v symbols ≡ term_values values terms w
+  syms_values : (w : ℕ → ℕ) (v : ℕ → Value) (symbols : List Sym) (terms : List CodedSymbol) → AreTermsOf values symbols terms → ((k : ℕ) → Contains symbols (Var k) → v k ≡ decode values (w k)) → values_of v symbols ≡ term_values values terms w
   syms_values w v [] [] h same = refl
   syms_values w v [] (t ∷ terms) h same = absurd h
   syms_values w v (s ∷ symbols) [] h same = absurd h
@@ -173,32 +173,32 @@ module _ (values : List Value) where
       (λ (t : check_holds values w c ≡ false). absurd (true≢false (sym h ∙ ap (λ b. b && all_hold values cs w) t)))
       (cases_Bool (check_holds values w c))
 
-  to_holds : (w : ℕ → ℕ) (v : ℕ → Value) (ds : List Compared) (cs : List Check) → AreChecksOf values ds cs → ((d : Compared) (k : ℕ) → Contains ds d → (d.left ≡ Var k) ⊎ (d.right ≡ Var k) → v k ≡ decode values (w k)) → all_hold values cs w ≡ true → All (Holds v) ds
-  to_holds w v [] [] h same all = All-nil (Holds v)
+  to_holds : (w : ℕ → ℕ) (v : ℕ → Value) (ds : List Compared) (cs : List Check) → AreChecksOf values ds cs → ((d : Compared) (k : ℕ) → Contains ds d → (d.left ≡ Var k) ⊎ (d.right ≡ Var k) → v k ≡ decode values (w k)) → all_hold values cs w ≡ true → All (HoldsUnder v) ds
+  to_holds w v [] [] h same all = All-nil (HoldsUnder v)
   to_holds w v [] (c ∷ cs) h same all = absurd h
   to_holds w v (d ∷ ds) [] h same all = absurd h
   to_holds w v (d ∷ ds) (c ∷ cs) h same all =
       let one = hold_one w c cs all in
-      All-cons (Holds v) d ds (same_check w v d c h.0 (λ k e. same d k (0, omega arith, refl) e) ∙ one.0) (to_holds w v ds cs h.1 (λ d' k m e. same d' k (suc m.0, (let l = m.1 in omega arith), m.2) e) one.1)
+      All-cons (HoldsUnder v) d ds (same_check w v d c h.0 (λ k e. same d k (0, omega arith, refl) e) ∙ one.0) (to_holds w v ds cs h.1 (λ d' k m e. same d' k (suc m.0, (let l = m.1 in omega arith), m.2) e) one.1)
 
-  from_holds : (w : ℕ → ℕ) (v : ℕ → Value) (ds : List Compared) (cs : List Check) → AreChecksOf values ds cs → ((d : Compared) (k : ℕ) → Contains ds d → (d.left ≡ Var k) ⊎ (d.right ≡ Var k) → v k ≡ decode values (w k)) → All (Holds v) ds → all_hold values cs w ≡ true
+  from_holds : (w : ℕ → ℕ) (v : ℕ → Value) (ds : List Compared) (cs : List Check) → AreChecksOf values ds cs → ((d : Compared) (k : ℕ) → Contains ds d → (d.left ≡ Var k) ⊎ (d.right ≡ Var k) → v k ≡ decode values (w k)) → All (HoldsUnder v) ds → all_hold values cs w ≡ true
   from_holds w v [] [] h same all = refl
   from_holds w v [] (c ∷ cs) h same all = absurd h
   from_holds w v (d ∷ ds) [] h same all = absurd h
   from_holds w v (d ∷ ds) (c ∷ cs) h same all =
-      let first : check_holds values w c ≡ true = sym (same_check w v d c h.0 (λ k e. same d k (0, omega arith, refl) e)) ∙ All-head (Holds v) d ds all in
-      let rest : all_hold values cs w ≡ true = from_holds w v ds cs h.1 (λ d' k m e. same d' k (suc m.0, (let l = m.1 in omega arith), m.2) e) (All-tail (Holds v) d ds all) in
+      let first : check_holds values w c ≡ true = sym (same_check w v d c h.0 (λ k e. same d k (0, omega arith, refl) e)) ∙ All-head (HoldsUnder v) d ds all in
+      let rest : all_hold values cs w ≡ true = from_holds w v ds cs h.1 (λ d' k m e. same d' k (suc m.0, (let l = m.1 in omega arith), m.2) e) (All-tail (HoldsUnder v) d ds all) in
       ap (λ b. b && all_hold values cs w) first ∙ rest
 
 -- the variables of a term are the symbol's
-term_var : (values : List Value) (s : Sym) (t : Term) (k : ℕ) → IsTermOf values s t → has (vars_of t) k ≡ true → s ≡ Var k
-term_var values (Const value) t k h m = absurd (true≢false (sym m ∙ ap (λ (t : Term). has (vars_of t) k) h.1))
+term_var : (values : List Value) (s : Sym) (t : CodedSymbol) (k : ℕ) → IsTermOf values s t → has (vars_of t) k ≡ true → s ≡ Var k
+term_var values (Const value) t k h m = absurd (true≢false (sym m ∙ ap (λ (t : CodedSymbol). has (vars_of t) k) h.1))
 term_var values (Var j) t k h m =
-    let e : has (j ∷ []) k ≡ true = ap (λ (t : Term). has (vars_of t) k) (sym h) ∙ m in
+    let e : has (j ∷ []) k ≡ true = ap (λ (t : CodedSymbol). has (vars_of t) k) (sym h) ∙ m in
     let f : j ≡ k = ⊎_elim (λ (u : nat_eq j k ≡ true). grind (arith, nat_tests, u)) (λ (u : nat_eq j k ≡ false). grind (arith, nat_tests, u, e)) (cases_Bool (nat_eq j k)) in
     ap Var f
 
-terms_vars : (values : List Value) (symbols : List Sym) (terms : List Term) (k : ℕ) → AreTermsOf values symbols terms → has (term_vars terms) k ≡ true → Contains symbols (Var k)
+terms_vars : (values : List Value) (symbols : List Sym) (terms : List CodedSymbol) (k : ℕ) → AreTermsOf values symbols terms → has (term_vars terms) k ≡ true → Contains symbols (Var k)
 terms_vars values [] [] k h m = absurd (true≢false (sym m))
 terms_vars values [] (t ∷ terms) k h m = absurd h
 terms_vars values (s ∷ symbols) [] k h m = absurd h
@@ -225,7 +225,7 @@ checks_vars values (d ∷ ds) (c ∷ cs) k h m =
 
 -- ---- the codes of fitting valuations
 
-values_agree : (values : List Value) (terms : List Term) (v w : ℕ → ℕ) → ((k : ℕ) → has (term_vars terms) k ≡ true → v k ≡ w k) → term_values values terms v ≡ term_values values terms w
+values_agree : (values : List Value) (terms : List CodedSymbol) (v w : ℕ → ℕ) → ((k : ℕ) → has (term_vars terms) k ≡ true → v k ≡ w k) → term_values values terms v ≡ term_values values terms w
 values_agree values [] v w h = refl
 values_agree values (t ∷ terms) v w h =
     let first : code_of v t ≡ code_of w t = code_same v w t (λ k m. h k (has_first (vars_of t) (term_vars terms) k m)) in
@@ -235,13 +235,13 @@ values_agree values (t ∷ terms) v w h =
 tail_same : (x y : Value) (xs ys : List Value) → x ∷ xs ≡ y ∷ ys → (x ≡ y) × (xs ≡ ys)
 tail_same x y xs ys e = (cc, cc)
 
-var_same : (values : List Value) (t : Term) (v w : ℕ → ℕ) (k : ℕ) → decode values (code_of v t) ≡ decode values (code_of w t) → has (vars_of t) k ≡ true → decode values (v k) ≡ decode values (w k)
+var_same : (values : List Value) (t : CodedSymbol) (v w : ℕ → ℕ) (k : ℕ) → decode values (code_of v t) ≡ decode values (code_of w t) → has (vars_of t) k ≡ true → decode values (v k) ≡ decode values (w k)
 var_same values (Code c) v w k e h = absurd (true≢false (sym h))
 var_same values (Variable j) v w k e h =
     let f : j ≡ k = ⊎_elim (λ (u : nat_eq j k ≡ true). grind (arith, nat_tests, u)) (λ (u : nat_eq j k ≡ false). grind (arith, nat_tests, u, h)) (cases_Bool (nat_eq j k)) in
     ap (λ i. decode values (v i)) (sym f) ∙ e ∙ ap (λ i. decode values (w i)) f
 
-values_back : (values : List Value) (terms : List Term) (v w : ℕ → ℕ) → term_values values terms v ≡ term_values values terms w → (k : ℕ) → has (term_vars terms) k ≡ true → decode values (v k) ≡ decode values (w k)
+values_back : (values : List Value) (terms : List CodedSymbol) (v w : ℕ → ℕ) → term_values values terms v ≡ term_values values terms w → (k : ℕ) → has (term_vars terms) k ≡ true → decode values (v k) ≡ decode values (w k)
 values_back values [] v w e k h = absurd (true≢false (sym h))
 values_back values (t ∷ terms) v w e k h =
     let s = tail_same (decode values (code_of v t)) (decode values (code_of w t)) (term_values values terms v) (term_values values terms w) e in
@@ -300,7 +300,7 @@ module _ (values : List Value) (es : List (Edge ℕ)) (coded : All (IsCoded valu
 
 -- ---- a task as a body
 
-pub record IsBodyOf (tables : List Stored) (values : List Value) (task : Task) (es : List (Edge ℕ)) (cs : List Check) (ts : List Term) : Type 0 where
+pub record IsBodyOf (tables : List Stored) (values : List Value) (task : Task) (es : List (Edge ℕ)) (cs : List Check) (ts : List CodedSymbol) : Type 0 where
   pub exact : (v : ℕ → Value) → All (Agrees tables v) task.rows ↔ FitsAll v (meanings values es)
   pub coded : All (IsCoded values) es
   pub all : (k : ℕ) → Occurs task k → among es k ≡ true
@@ -309,7 +309,7 @@ pub record IsBodyOf (tables : List Stored) (values : List Value) (task : Task) (
   pub apart : AreApart values
 
 pub body_of :
-    (tables : List Stored) (a b c : List Value) (task : Task) (es fs : List (Edge ℕ)) (checks : List Check) (terms : List Term) → AreRowEdges tables a task es → HasSomeEdge es fs → Extends a b → AreChecksOf b task.comparisons checks → Extends b c → AreTermsOf c task.outputs terms
+    (tables : List Stored) (a b c : List Value) (task : Task) (es fs : List (Edge ℕ)) (checks : List Check) (terms : List CodedSymbol) → AreRowEdges tables a task es → HasSomeEdge es fs → Extends a b → AreChecksOf b task.comparisons checks → Extends b c → AreTermsOf c task.outputs terms
     → Extends a c → AreApart c → IsBodyOf tables c task fs checks terms
 body_of tables a b c task es fs checks terms edges some first are_checks second are_terms more apart = record {
   exact = λ v. (
@@ -351,7 +351,7 @@ body_of tables a b c task es fs checks terms edges some first are_checks second 
         ))
         some.1
 
-module _ (tables : List Stored) (values : List Value) (task : Task) (es : List (Edge ℕ)) (checks : List Check) (terms : List Term) (is : IsTask tables task) (body : IsBodyOf tables values task es checks terms) where
+module _ (tables : List Stored) (values : List Value) (task : Task) (es : List (Edge ℕ)) (checks : List Check) (terms : List CodedSymbol) (is : IsTask tables task) (body : IsBodyOf tables values task es checks terms) where
   term_there : (k : ℕ) → has (term_vars terms) k ≡ true → among es k ≡ true
   term_there k h = body.all k (is.outputs k (terms_vars values task.outputs terms k body.terms h))
 
@@ -401,7 +401,7 @@ module _ (tables : List Stored) (values : List Value) (task : Task) (es : List (
   no_outputs empty h o = let c = to_codes h o in empty c.valuation c.fits c.passes
 
   module _ (needed : List ℕ) (needed_is : needed ≡ term_vars terms) where
-    agreeing : (v w : ℕ → ℕ) → Agree needed v w → term_values values terms v ≡ term_values values terms w
+    agreeing : (v w : ℕ → ℕ) → HaveSameValues needed v w → term_values values terms v ≡ term_values values terms w
     agreeing v w same = values_agree values terms v w (λ k h. agree_at v w needed same k (ap (λ ks. has ks k) needed_is ∙ h))
 
     -- what the last edge shows are the outputs
@@ -474,35 +474,35 @@ none_agree tables task none h o = none o.valuation o.agrees
 
 -- ---- terms by place
 
-pub vars_at : (terms : List Term) (i : ℕ) (d : Term) (k : ℕ) → i < length terms → has (vars_of (get_or terms i d)) k ≡ true → has (term_vars terms) k ≡ true
+pub vars_at : (terms : List CodedSymbol) (i : ℕ) (d : CodedSymbol) (k : ℕ) → i < length terms → has (vars_of (get_or terms i d)) k ≡ true → has (term_vars terms) k ≡ true
 vars_at [] i d k l h = absurd (omega arith)
 vars_at (t ∷ terms) zero d k l h = has_first (vars_of t) (term_vars terms) k h
 vars_at (t ∷ terms) (suc i) d k l h = has_second (vars_of t) (term_vars terms) k (vars_at terms i d k (omega arith) h)
 
-pub spots_more : (vars : List ℕ) (terms : List Term) (spots : List Spot) (i : ℕ) (d : Term) (spot : Spot) → i < length terms → AreSpotsOf vars (take i terms) spots → HasTerm vars [] (get_or terms i d) spot → IsSpotIn (length vars) 0 spot → AreSpotsOf vars (take (i + 1) terms) (spots ++ spot ∷ [])
+pub spots_more : (vars : List ℕ) (terms : List CodedSymbol) (spots : List Spot) (i : ℕ) (d : CodedSymbol) (spot : Spot) → i < length terms → AreSpotsOf vars (take i terms) spots → HasTerm vars [] (get_or terms i d) spot → IsSpotIn (length vars) 0 spot → AreSpotsOf vars (take (i + 1) terms) (spots ++ spot ∷ [])
 spots_more vars terms spots i d spot l h a b =
     zip_more (λ term spot. HasTerm vars [] term spot × IsSpotIn (length vars) 0 spot) terms spots i (get_or terms i d) spot l (get_or_default terms i d (get_or terms i d) l) h (a, b)
 
 -- ---- the answers of what a body comes to
 
-both_shown : (values : List Value) (terms : List Term) (g : Edge ℕ) (r : Result (List (List Value)) ExecFault) → IfOk r (λ rows. (h : List Value) → Contains rows h ↔ IsShown values g terms h) → IfOk r (IsStrictlySortedBy compare_lists) → IfOk r (IsShownBy values terms (Whole g))
+both_shown : (values : List Value) (terms : List CodedSymbol) (g : Edge ℕ) (r : Result (List (List Value)) ExecFault) → IfOk r (λ rows. (h : List Value) → Contains rows h ↔ IsShown values g terms h) → IfOk r (IsStrictlySortedBy compare_lists) → IfOk r (IsShownBy values terms (Whole g))
 both_shown values terms g (Ok rows) a b = (a, b)
 both_shown values terms g (Err e) a b = tt
 
 pub whole_shown :
-    (values : List Value) (terms : List Term) (g : Edge ℕ) (merged : Merged) (r : Result (List (List Value)) ExecFault) → merged ≡ Whole g → IfOk r (λ rows. (h : List Value) → Contains rows h ↔ IsShown values g terms h) → IfOk r (IsStrictlySortedBy compare_lists)
+    (values : List Value) (terms : List CodedSymbol) (g : Edge ℕ) (merged : Merged) (r : Result (List (List Value)) ExecFault) → merged ≡ Whole g → IfOk r (λ rows. (h : List Value) → Contains rows h ↔ IsShown values g terms h) → IfOk r (IsStrictlySortedBy compare_lists)
     → IfOk r (IsShownBy values terms merged)
 whole_shown values terms g merged r e a b = subst (λ (m : Merged). IfOk r (IsShownBy values terms m)) (sym e) (both_shown values terms g r a b)
 
-pub whole_more : (values : List Value) (terms : List Term) (n : ℕ) (g : Edge ℕ) (merged : Merged) (r : Result (List (List Value)) ExecFault) → merged ≡ Whole g → IfErr r (λ fault. fault ≡ More → ShowsMore values g terms n) → IfErr r (λ fault. fault ≡ More → IsMoreBy values terms n merged)
+pub whole_more : (values : List Value) (terms : List CodedSymbol) (n : ℕ) (g : Edge ℕ) (merged : Merged) (r : Result (List (List Value)) ExecFault) → merged ≡ Whole g → IfErr r (λ fault. fault ≡ More → ShowsMore values g terms n) → IfErr r (λ fault. fault ≡ More → IsMoreBy values terms n merged)
 whole_more values terms n g merged r e a = subst (λ (m : Merged). IfErr r (λ fault. fault ≡ More → IsMoreBy values terms n m)) (sym e) a
 
-pub has_vars : (needed : List ℕ) (terms : List Term) (most : Option ℕ) (es : List (Edge ℕ)) (s : (ℕ → ℕ) → Bool) (merged : Merged) → needed ≡ term_vars terms → IsMerged needed most es s merged → HasVars terms merged
+pub has_vars : (needed : List ℕ) (terms : List CodedSymbol) (most : Option ℕ) (es : List (Edge ℕ)) (s : (ℕ → ℕ) → Bool) (merged : Merged) → needed ≡ term_vars terms → IsMerged needed most es s merged → HasVars terms merged
 has_vars needed terms most es s (Whole g) e m = λ k h. m.1 k (ap (λ ks. has ks k) e ∙ h)
 has_vars needed terms most es s Over e m = tt
 has_vars needed terms most es s Nothing e m = tt
 
-module _ (tables : List Stored) (values : List Value) (task : Task) (es : List (Edge ℕ)) (checks : List Check) (terms : List Term) (is : IsTask tables task) (body : IsBodyOf tables values task es checks terms) (needed : List ℕ) (needed_is : needed ≡ term_vars terms) (cap : ℕ) where
+module _ (tables : List Stored) (values : List Value) (task : Task) (es : List (Edge ℕ)) (checks : List Check) (terms : List CodedSymbol) (is : IsTask tables task) (body : IsBodyOf tables values task es checks terms) (needed : List ℕ) (needed_is : needed ≡ term_vars terms) (cap : ℕ) where
   outputs_by : (merged : Merged) (rows : List (List Value)) → IsMerged needed (Some cap) es (all_hold values checks) merged → IsShownBy values terms merged rows → AreOutputs tables task rows
   outputs_by (Whole g) rows m s =
       record {

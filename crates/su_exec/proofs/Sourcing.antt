@@ -8,7 +8,7 @@ use Rattle.su_base.specs.declared.values.Value.{Value}
 use Rattle.su_base.specs.declared.values.Value.TheVariants.{Int}
 use Rattle.su_rel.specs.Stored.{Stored, IsRelation}
 use Rattle.su_tableau.specs.declared.symbols.Sym.{Sym}
-use Rattle.su_tableau.specs.Tableaux.{value_of}
+use Rattle.su_tableau.specs.Valuations.{value_of}
 use Rattle.su_index.specs.Matches.{has_value, matches, IsMatch}
 use Rattle.su_index.specs.Tables.{table_at}
 use Rattle.su_index.proofs.Matched.{has_value-decides, match_of, match_unique}

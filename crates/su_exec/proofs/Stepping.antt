@@ -7,13 +7,13 @@ use Rattle.std.proofs.lemmas.List.Elements.{All-cons, All-nil, All-head, All-tai
 use Rattle.std.proofs.lemmas.List.Folds.{list_any-append}
 use Rattle.su_base.specs.declared.values.Value.{Value}
 use Rattle.su_where.specs.Operator.{compares}
-use Rattle.su_exec.specs.declared.checks.Term.{Term}
-use Rattle.su_exec.specs.declared.checks.Term.TheVariants.{Code, Variable}
+use Rattle.su_exec.specs.declared.checks.CodedSymbol.{CodedSymbol}
+use Rattle.su_exec.specs.declared.checks.CodedSymbol.TheVariants.{Code, Variable}
 use Rattle.su_exec.specs.declared.checks.Check.{Check}
 use Rattle.su_exec.specs.inside.Bodies.{AreThere}
 use Rattle.su_exec.specs.inside.Checks.{all_hold, check_holds, check_vars, code_of, vars_of}
 use Rattle.su_reduce.specs.Codes.{decode}
-use Rattle.su_exec.specs.inside.Edges.{Edge, Fits, has, among, Agree, Keeps, Splits, Same}
+use Rattle.su_exec.specs.inside.Edges.{Edge, Fits, has, among, HaveSameValues, Keeps, Splits, Same}
 use Rattle.su_exec.proofs.Keeping.{agree_at}
 use Rattle.su_exec.proofs.Parts.{put_in}
 
@@ -32,7 +32,7 @@ has_either xs ys k h =
     let e = list_any-append (λ x. nat_eq x k) xs ys in
     ⊎_elim (λ (t : has xs k ≡ true). inl t) (λ (t : has xs k ≡ false). inr (grind (arith, e, h, t))) (cases_Bool (has xs k))
 
-pub code_same : (v w : ℕ → ℕ) (t : Term) → ((k : ℕ) → has (vars_of t) k ≡ true → v k ≡ w k) → code_of v t ≡ code_of w t
+pub code_same : (v w : ℕ → ℕ) (t : CodedSymbol) → ((k : ℕ) → has (vars_of t) k ≡ true → v k ≡ w k) → code_of v t ≡ code_of w t
 code_same v w (Code c) h = refl
 code_same v w (Variable k) h = h k (grind (arith, nat_tests))
 
@@ -46,7 +46,7 @@ hold_agree values (c ∷ cs) v w h =
     ap (λ x. compares c.op (decode values x) (decode values (code_of v c.right))) left ∙ ap (λ y. compares c.op (decode values (code_of w c.left)) (decode values y)) right in
     ap (λ b. b && all_hold values cs v) first ∙ ap (λ b. check_holds values w c && b) rest
 
-pub hold_test : (values : List Value) (cs : List Check) (v w : ℕ → ℕ) → Agree (check_vars cs) v w → all_hold values cs v ≡ all_hold values cs w
+pub hold_test : (values : List Value) (cs : List Check) (v w : ℕ → ℕ) → HaveSameValues (check_vars cs) v w → all_hold values cs v ≡ all_hold values cs w
 hold_test values cs v w same = hold_agree values cs v w (λ k m. agree_at v w (check_vars cs) same k m)
 
 -- ---- moving an edge

@@ -5,7 +5,7 @@ use Rattle.std.proofs.lemmas.Bool.{cases_Bool, cases_lt}
 use Rattle.std.proofs.lemmas.List.{get_or_default}
 use Rattle.std.proofs.lemmas.List.Elements.{All-cons, All-nil, All-head, All-tail, Contains-push, Contains-push_cases, Contains-append_left}
 use Rattle.su_exec.specs.inside.Bodies.{IsGiven}
-use Rattle.su_exec.specs.inside.Edges.{Agree, Edge, Fits, FitsAll, Keeps, Splits, always, among, has}
+use Rattle.su_exec.specs.inside.Edges.{HaveSameValues, Edge, Fits, FitsAll, Keeps, Splits, always, among, has}
 use Rattle.su_reduce.specs.Sheets.{AreBelow, pick}
 use Rattle.su_exec.specs.inside.Joins.{IsReal}
 use Rattle.su_exec.specs.inside.Threes.{IsBlock}
@@ -15,7 +15,7 @@ use Rattle.su_exec.proofs.Parts.{one_of}
 
 -- ---- two edges and their join
 
-pub fits_by : (v w : ℕ → ℕ) (ks : List ℕ) (e : Edge ℕ) → Agree ks v w → ((k : ℕ) → has e.vars k ≡ true → has ks k ≡ true) → Fits w e → Fits v e
+pub fits_by : (v w : ℕ → ℕ) (ks : List ℕ) (e : Edge ℕ) → HaveSameValues ks v w → ((k : ℕ) → has e.vars k ≡ true → has ks k ≡ true) → Fits w e → Fits v e
 fits_by v w ks e same within fits = subst (λ r. Contains e.rows r) (agree_from w v e.vars (λ k h. sym (agree_at v w ks same k (within k h)))) fits
 
 -- what fits two edges fits their join

@@ -7,7 +7,7 @@ use Rattle.su_base.specs.declared.values.Value.TheVariants.{Int}
 use Rattle.su_base.specs.Value.{compare_lists}
 use Rattle.su_rel.specs.Stored.{Stored}
 use Rattle.su_where.specs.Operator.{compares}
-use Rattle.su_tableau.specs.Tableaux.{value_of, values_of}
+use Rattle.su_tableau.specs.Valuations.{value_of, values_of}
 use Rattle.su_index.specs.Tables.{table_at}
 use Rattle.su_exec.specs.declared.tasks.Source.{Source}
 use Rattle.su_exec.specs.declared.tasks.TaskRow.{TaskRow}
@@ -27,14 +27,14 @@ pub record Agrees (tables : List Stored) (v : ℕ → Value) (row : TaskRow) : T
   pub same : values_at source.columns stored ≡ values_of v row.cells
 
 -- under the valuation the comparison holds
-abbrev pub Holds : (ℕ → Value) → Compared → Type 0
-Holds v c = IsTrue (compares c.op (value_of v c.left) (value_of v c.right))
+abbrev pub HoldsUnder : (ℕ → Value) → Compared → Type 0
+HoldsUnder v c = IsTrue (compares c.op (value_of v c.left) (value_of v c.right))
 
 -- h is the outputs of some valuation
 pub record IsOutput (tables : List Stored) (task : Task) (h : List Value) : Type 0 where
   pub valuation : ℕ → Value
   pub agrees : All (Agrees tables valuation) task.rows
-  pub holds : All (Holds valuation) task.comparisons
+  pub holds : All (HoldsUnder valuation) task.comparisons
   pub gives : values_of valuation task.outputs ≡ h
 
 -- exactly the outputs of all valuations, ascending, each once

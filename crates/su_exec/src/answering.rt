@@ -9,14 +9,14 @@ ghost use Rattle.su_exec.specs.inside.Shown.{AreSpotsOf, IsShown, ShowsMore, spo
 ghost use Rattle.su_exec.specs.declared.tasks.ExecFault.TheVariants.{More};
 
 use crate::candidates::Candidates;
-use crate::checks::{Spot, Term, code_at, spot_of};
+use crate::checks::{Spot, CodedSymbol, code_at, spot_of};
 use crate::tasks::ExecFault;
 use std::alloc::{AllocError, Global};
 use su_base::{List, NoMemory, Row, sorted_rows};
 use su_reduce::Codes;
 
 /// Where the candidates have the term.
-fn spot_in(term: Term, vars: &[u32]) -> Spot
+fn spot_in(term: CodedSymbol, vars: &[u32]) -> Spot
     requires { (k : ℕ) → has (vars_of term) k ≡ true → has vars.now k ≡ true }
     ensures spot { HasTerm vars.now [] term result }
     ensures within { IsSpotIn (length vars.now) 0 result }
@@ -28,7 +28,7 @@ fn spot_in(term: Term, vars: &[u32]) -> Spot
 }
 
 /// Where the candidates have the terms.
-fn spots_of(alloc: Global, outputs: &[Term], vars: &[u32]) -> Result<Vec<Spot>, AllocError>
+fn spots_of(alloc: Global, outputs: &[CodedSymbol], vars: &[u32]) -> Result<Vec<Spot>, AllocError>
     requires { (k : ℕ) → has (term_vars outputs.now) k ≡ true → has vars.now k ≡ true }
     ensures { IfOk result (λ spots. AreSpotsOf vars.now outputs.now spots.items) }
 {
@@ -79,7 +79,7 @@ pub fn answers(
     alloc: Global,
     codes: &Codes,
     last: &Candidates,
-    outputs: &[Term],
+    outputs: &[CodedSymbol],
     cap: u64,
 ) -> Result<List<Row>, ExecFault>
     requires { (k : ℕ) → has (term_vars outputs.now) k ≡ true → has last.now.vars k ≡ true }

@@ -11,7 +11,7 @@ use su_where::Op;
 
 /// The code of a constant, or a variable.
 #[derive(Clone, Copy)]
-pub enum Term {
+pub enum CodedSymbol {
     Code(u32),
     Variable(u32),
 }
@@ -19,9 +19,9 @@ pub enum Term {
 /// A comparison of two terms.
 #[derive(Clone, Copy)]
 pub struct Check {
-    pub left: Term,
+    pub left: CodedSymbol,
     pub op: Op,
-    pub right: Term,
+    pub right: CodedSymbol,
 }
 
 /// Where a pair of rows has a term: it is a code, or stands at a place of the left or of the right row.
@@ -41,14 +41,14 @@ pub struct Test {
 }
 
 /// The spot of the term in pairs of rows over these variables, if it has one.
-pub fn spot_of(term: Term, left: &[u32], right: &[u32]) -> Option<Spot>
+pub fn spot_of(term: CodedSymbol, left: &[u32], right: &[u32]) -> Option<Spot>
     ensures spot { IfSome result (λ spot. HasTerm left.now right.now term spot) }
     ensures within { IfSome result (λ spot. IsSpotIn (length left.now) (length right.now) spot) }
     ensures none { IfNone result ((k : ℕ) × (vars_of term ≡ k ∷ []) × (has left.now k ≡ false) × (has right.now k ≡ false)) }
 {
     match term {
-        Term::Code(code) => Some(Spot::Code(code)),
-        Term::Variable(k) => match place_of(left, k) {
+        CodedSymbol::Code(code) => Some(Spot::Code(code)),
+        CodedSymbol::Variable(k) => match place_of(left, k) {
             Some(p) => Some(Spot::Left(p)),
             None => match place_of(right, k) {
                 Some(p) => Some(Spot::Right(p)),

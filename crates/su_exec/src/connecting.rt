@@ -4,7 +4,7 @@ ghost use Rattle.std.specs.List.{range_with_len};
 ghost use Rattle.su_exec.specs.Tasks.{StandsIn};
 ghost use Rattle.su_tableau.specs.declared.symbols.Sym.TheVariants.{Var};
 ghost use Rattle.su_exec.specs.Components.{AreComponents, AreConnected, IsLabelling};
-ghost use Rattle.su_exec.specs.inside.Labels.{AreLabels, IsFirst, IsFirstOf, KeepsLabels, label_of, relabelled, rows_of};
+ghost use Rattle.su_exec.specs.inside.Labels.{AreLabels, IsFirstRow, IsFirstOf, KeepsLabels, label_of, relabelled, rows_of};
 
 use crate::tasks::{Compared, Task};
 use std::alloc::{AllocError, Global};
@@ -48,7 +48,7 @@ fn has_variable(cells: &[Sym], k: u32) -> bool
 
 /// The first row with the variable.
 pub fn first_with(task: &Task, k: u32) -> Option<usize>
-    ensures { MatchOption result ((i : ℕ) → ¬ StandsIn task.now k i) (IsFirst task.now k) }
+    ensures { MatchOption result ((i : ℕ) → ¬ StandsIn task.now k i) (IsFirstRow task.now k) }
 {
     for i in 0..task.rows.len() {
         if has_variable(task.rows.get(i).cells.as_slice(), k) {
@@ -72,10 +72,10 @@ fn first_of(task: &Task, symbol: &Sym) -> Option<usize>
 fn join_first(task: &Task, symbol: &Sym, i: usize, labels: &mut [usize])
     requires labels { AreLabels task.now labels.old }
     requires row { i < length labels.old }
-    requires linked { (k first : ℕ) → symbol.now ≡ Var k → IsFirst task.now k first → AreConnected task.now first i }
+    requires linked { (k first : ℕ) → symbol.now ≡ Var k → IsFirstRow task.now k first → AreConnected task.now first i }
     ensures labels { AreLabels task.now labels.new }
     ensures kept { KeepsLabels labels.old labels.new }
-    ensures joined { (k first : ℕ) → symbol.now ≡ Var k → IsFirst task.now k first → label_of labels.new i ≡ label_of labels.new first }
+    ensures joined { (k first : ℕ) → symbol.now ≡ Var k → IsFirstRow task.now k first → label_of labels.new i ≡ label_of labels.new first }
 {
     let Some(first) = first_of(task, symbol) else {
         return;
@@ -89,7 +89,7 @@ fn join_row(task: &Task, i: usize, labels: &mut [usize])
     requires row { i < length labels.old }
     ensures labels { AreLabels task.now labels.new }
     ensures kept { KeepsLabels labels.old labels.new }
-    ensures joined { (k first : ℕ) → StandsIn task.now k i → IsFirst task.now k first → label_of labels.new i ≡ label_of labels.new first }
+    ensures joined { (k first : ℕ) → StandsIn task.now k i → IsFirstRow task.now k first → label_of labels.new i ≡ label_of labels.new first }
 {
     let row = task.rows.get(i);
     for p in 0..row.cells.len() {
@@ -103,7 +103,7 @@ fn join_compared(task: &Task, compared: &Compared, labels: &mut [usize])
     requires compared { Contains task.now.comparisons compared.now }
     ensures labels { AreLabels task.now labels.new }
     ensures kept { KeepsLabels labels.old labels.new }
-    ensures joined { (k l i j : ℕ) → compared.now.left ≡ Var k → compared.now.right ≡ Var l → IsFirst task.now k i → IsFirst task.now l j → label_of labels.new i ≡ label_of labels.new j }
+    ensures joined { (k l i j : ℕ) → compared.now.left ≡ Var k → compared.now.right ≡ Var l → IsFirstRow task.now k i → IsFirstRow task.now l j → label_of labels.new i ≡ label_of labels.new j }
 {
     let Some(i) = first_of(task, &compared.left) else {
         return;

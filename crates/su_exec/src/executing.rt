@@ -9,7 +9,7 @@ ghost use Rattle.su_exec.specs.declared.tasks.ExecFault.TheVariants.{More};
 
 use crate::answering::answers;
 use crate::candidates::Candidates;
-use crate::checks::{Check, Term};
+use crate::checks::{Check, CodedSymbol};
 use crate::fetching::fetch_rows;
 use crate::merging::{Body, Merged, add_variable, run};
 use crate::tasks::{Compared, ExecFault, Task};
@@ -20,21 +20,21 @@ use su_reduce::Codes;
 use su_tableau::Sym;
 
 /// The term of the symbol.
-fn term_of(alloc: Global, codes: &mut Codes, symbol: &Sym) -> Result<Term, AllocError>
+fn term_of(alloc: Global, codes: &mut Codes, symbol: &Sym) -> Result<CodedSymbol, AllocError>
     ensures term { IfOk result (IsTermOf codes.new symbol.now) }
     ensures codes { IfOk result (λ _. Extends codes.old codes.new) }
 {
     match symbol {
         Sym::Const(value) => {
             let code = codes.code(alloc, value)?;
-            Ok(Term::Code(code))
+            Ok(CodedSymbol::Code(code))
         }
-        Sym::Var(k) => Ok(Term::Variable(*k)),
+        Sym::Var(k) => Ok(CodedSymbol::Variable(*k)),
     }
 }
 
 /// The terms of the symbols.
-fn terms_of(alloc: Global, codes: &mut Codes, symbols: &List<Sym>) -> Result<Vec<Term>, AllocError>
+fn terms_of(alloc: Global, codes: &mut Codes, symbols: &List<Sym>) -> Result<Vec<CodedSymbol>, AllocError>
     ensures terms { IfOk result (λ terms. AreTermsOf codes.new symbols.now terms.items) }
     ensures codes { IfOk result (λ _. Extends codes.old codes.new) }
 {
@@ -74,7 +74,7 @@ fn checks_of(alloc: Global, codes: &mut Codes, task: &Task) -> Result<Vec<Check>
 }
 
 /// The variables of the terms.
-fn variables_of(alloc: Global, terms: &[Term]) -> Result<Vec<u32>, AllocError>
+fn variables_of(alloc: Global, terms: &[CodedSymbol]) -> Result<Vec<u32>, AllocError>
     ensures { IfOk result (λ vars. vars.items ≡ term_vars terms.now) }
 {
     let mut vars = Vec::new(alloc);
@@ -102,7 +102,7 @@ fn shown(
     alloc: Global,
     codes: &Codes,
     merged: Merged,
-    outputs: &[Term],
+    outputs: &[CodedSymbol],
     cap: u64,
 ) -> Result<List<Row>, ExecFault>
     requires { HasVars outputs.now merged }

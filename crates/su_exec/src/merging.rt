@@ -5,7 +5,7 @@ ghost use Rattle.su_exec.specs.inside.Checks.{all_hold, check_vars, vars_of};
 ghost use Rattle.su_exec.specs.inside.Edges.{Fits, Keeps, always, among, has};
 
 use crate::candidates::{Candidates, join_all};
-use crate::checks::{Check, Term, Test, take_tests};
+use crate::checks::{Check, CodedSymbol, Test, take_tests};
 use crate::cycles::close_cycles;
 use crate::joins::is_past;
 use crate::narrowing::narrow;
@@ -72,10 +72,10 @@ pub enum End {
 }
 
 /// Puts the term's variable after what is there.
-pub fn add_variable(vars: &mut Vec<u32>, term: Term) -> Result<(), AllocError>
+pub fn add_variable(vars: &mut Vec<u32>, term: CodedSymbol) -> Result<(), AllocError>
     ensures { IfOk result (λ _. vars.new.items ≡ vars.old.items ++ vars_of term) }
 {
-    if let Term::Variable(k) = term {
+    if let CodedSymbol::Variable(k) = term {
         vars.push(k)?;
     }
     Ok(())
@@ -104,7 +104,7 @@ pub fn wanted_by(alloc: Global, body: &Body, needed: &[u32]) -> Result<Vec<u32>,
 fn compared_by(alloc: Global, checks: &[Check]) -> Result<Vec<(u32, u32)>, AllocError> {
     let mut compared = Vec::new(alloc);
     for check in checks {
-        if let (Term::Variable(x), Term::Variable(y)) = (check.left, check.right) {
+        if let (CodedSymbol::Variable(x), CodedSymbol::Variable(y)) = (check.left, check.right) {
             compared.push((x, y))?;
         }
     }

@@ -6,7 +6,7 @@ ghost use Rattle.su_exec.specs.inside.Checks.{IsTestIn, all_hold, check_holds, t
 ghost use Rattle.su_exec.specs.inside.Ranges.{AreCut, ArePassing, IsBound, IsSide, IsWidest, Widens, meets, meets_code};
 
 use crate::candidates::Candidates;
-use crate::checks::{Check, Spot, Term, Test, passes_one};
+use crate::checks::{Check, Spot, CodedSymbol, Test, passes_one};
 use crate::places::place_of;
 use std::alloc::{AllocError, Global};
 use su_reduce::{Codes, Sheet};
@@ -176,7 +176,7 @@ fn cut_by_check(
 ) -> Result<(), AllocError>
     ensures { IfOk result (λ _. AreCut (λ v. check_holds codes.now v check) edges.old.items edges.new.items) }
 {
-    let (Term::Variable(x), Term::Variable(y)) = (check.left, check.right) else {
+    let (CodedSymbol::Variable(x), CodedSymbol::Variable(y)) = (check.left, check.right) else {
         return Ok(());
     };
     cut_by(alloc, codes, edges, x, check.op, y)?;

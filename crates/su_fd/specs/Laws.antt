@@ -1,4 +1,5 @@
 -- Laws of closures, for any dependencies and any sets.
+-- closure, closed, determines, derivation: as in Closure and Derivation
 use Rattle.std.specs.Prelude.{◌↔◌, ℕ, IsTrue, List}
 use Rattle.std.specs.Ordering.{nat_cmp}
 use Rattle.std.specs.FinSet.{FinSet, is_subset}

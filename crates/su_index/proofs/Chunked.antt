@@ -9,7 +9,7 @@ use Rattle.su_index.proofs.Spans.{le_or}
 use Rattle.std.specs.VecDeque.{deque_len}
 use Rattle.su_index.specs.declared.entry.Entry.{Entry}
 use Rattle.su_index.specs.declared.chunk.Chunk.{Chunk}
-use Rattle.su_index.specs.declared.place.Place.{Place}
+use Rattle.su_index.specs.declared.place.ChunkPlace.{ChunkPlace}
 use Rattle.su_index.specs.Chunks.{entries_of, len_at, HaveEntries}
 use Rattle.su_index.specs.inside.Chunks.{capacity_at, before_chunk, rank_in, IsGap, IsPlace, HasRoomFrom}
 
@@ -195,7 +195,7 @@ chunk-within [] c j h = absurd (omega arith)
 chunk-within (x ∷ chunks) zero j h = omega arith
 chunk-within (x ∷ chunks) (suc c) j h = omega (arith, chunk-within chunks c j (omega (arith, h, length-append x.entries.items (entries_of (take c chunks)), length-append x.entries.items (entries_of chunks))))
 
-pub chunk-order : (chunks : List Chunk) (a b : Place) → IsPlace chunks a → IsPlace chunks b → rank_in chunks b ≤ rank_in chunks a → b.chunk ≤ a.chunk
+pub chunk-order : (chunks : List Chunk) (a b : ChunkPlace) → IsPlace chunks a → IsPlace chunks b → rank_in chunks b ≤ rank_in chunks a → b.chunk ≤ a.chunk
 chunk-order [] a b p q order = absurd (omega (arith, p.gap.within))
 chunk-order (x ∷ chunks) a b p q order = elim (le_or b.chunk a.chunk) [
   | inl le ↦ le
@@ -229,23 +229,23 @@ rank-within (x ∷ chunks) c at h less = omega (arith, before-next (x ∷ chunks
 pub rank-end : (chunks : List Chunk) (c n : ℕ) → c < length chunks → ((d : Chunk) → n ≡ len_at chunks c d) → length chunks ≤ c + 1 → before_chunk chunks c + n ≡ length (entries_of chunks)
 rank-end chunks c n h is last = sym (before-len chunks c n h is) ∙ before-all chunks (c + 1) last
 
-pub place-end : (chunks : List Chunk) (p : Place) (n : ℕ) → IsPlace chunks p → ((d : Chunk) → n ≡ len_at chunks p.chunk d) → p.at ≡ n → rank_in chunks p ≡ length (entries_of chunks)
+pub place-end : (chunks : List Chunk) (p : ChunkPlace) (n : ℕ) → IsPlace chunks p → ((d : Chunk) → n ≡ len_at chunks p.chunk d) → p.at ≡ n → rank_in chunks p ≡ length (entries_of chunks)
 place-end [] p n place is e = absurd (omega (arith, place.gap.within))
 place-end (x ∷ chunks) p n place is e = elim (le_or (length (x ∷ chunks)) (p.chunk + 1)) [
   | inl last ↦ ap (λ k. before_chunk (x ∷ chunks) p.chunk + k) e ∙ rank-end (x ∷ chunks) p.chunk n place.gap.within is last
   | inr less ↦ absurd (omega (arith, place.inner x less, is x, e))
 ]
 
-pub rank-most : (chunks : List Chunk) (p : Place) → IsGap chunks p → rank_in chunks p ≤ length (entries_of chunks)
+pub rank-most : (chunks : List Chunk) (p : ChunkPlace) → IsGap chunks p → rank_in chunks p ≤ length (entries_of chunks)
 rank-most [] p gap = absurd (omega (arith, gap.within))
 rank-most (x ∷ chunks) p gap = omega (arith, before-next (x ∷ chunks) p.chunk x gap.within, before-most (x ∷ chunks) (p.chunk + 1), gap.most x)
 
-pub at-most : (chunks : List Chunk) (p : Place) (n : ℕ) → IsGap chunks p → ((d : Chunk) → n ≡ len_at chunks p.chunk d) → p.at ≤ n
+pub at-most : (chunks : List Chunk) (p : ChunkPlace) (n : ℕ) → IsGap chunks p → ((d : Chunk) → n ≡ len_at chunks p.chunk d) → p.at ≤ n
 at-most [] p n gap is = absurd (omega (arith, gap.within))
 at-most (x ∷ chunks) p n gap is = omega (arith, gap.most x, is x)
 
 -- a place before the end is that of an entry
-pub place-there : (chunks : List Chunk) (p : Place) → IsPlace chunks p → rank_in chunks p < length (entries_of chunks) → (d : Chunk) → p.at < len_at chunks p.chunk d
+pub place-there : (chunks : List Chunk) (p : ChunkPlace) → IsPlace chunks p → rank_in chunks p < length (entries_of chunks) → (d : Chunk) → p.at < len_at chunks p.chunk d
 place-there chunks p place h d = elim (le_or (length chunks) (p.chunk + 1)) [
   | inl last ↦ omega (arith, h, before-next chunks p.chunk d place.gap.within, before-all chunks (p.chunk + 1) last)
   | inr less ↦ place.inner d less

@@ -1,4 +1,5 @@
 -- What an index holds: positions in order, each with the lead of the value in its row.
+-- lead: a number of the value, the same for equal values; entry: a position and a lead
 use Rattle.std.specs.Prelude.{ℕ, List, All, map}
 use Rattle.su_base.specs.declared.values.Value.{Value}
 use Rattle.su_index.specs.declared.entry.Entry.{Entry}

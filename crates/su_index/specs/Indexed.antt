@@ -1,4 +1,5 @@
 -- What an index is of.
+-- position: of a row among the stored ones, from 0; column: of the relation, from 0
 use Rattle.std.specs.Prelude.{◌≡◌, ◌<◌, ◌^◌, ℕ, List, length, slice_index_or}
 use Rattle.su_base.specs.declared.values.Value.{Value}
 use Rattle.su_rel.specs.Stored.{Stored}

@@ -1,4 +1,5 @@
 -- The tables that an executor reads.
+-- number of a table: that of its relation
 use Rattle.std.specs.Prelude.{ℕ, List, [], slice_index_or}
 use Rattle.su_rel.specs.Stored.{Stored}
 

@@ -11,7 +11,7 @@ ghost use Rattle.su_index.specs.declared.chunk.Chunk.{Chunk as Piece};
 
 use crate::chunk::Chunk;
 use crate::entry::Entry;
-use crate::place::Place;
+use crate::place::ChunkPlace;
 use std::alloc::Global;
 use std::collections::VecDeque;
 use su_base::NoMemory;
@@ -23,7 +23,7 @@ const FULL: usize = 2048;
 const HALF: usize = 1024;
 
 /// The entry at the place.
-pub(crate) fn entry(chunks: &[Chunk], place: Place) -> Entry
+pub(crate) fn entry(chunks: &[Chunk], place: ChunkPlace) -> Entry
     requires within { place.chunk < length chunks.now }
     requires there { (d : Piece) → place.at < len_at chunks.now place.chunk d }
     ensures { result ≡ slice_index_or (entries_of chunks.now) (rank_in chunks.now place) result }
@@ -222,7 +222,7 @@ fn push_through(held: &mut VecDeque<Entry>, at: usize, entry: Entry) -> Entry
 
 /// Puts the entry in at the place, and takes the last one of the chunk out: it is to come first in the
 /// next chunk.
-fn displace(chunks: &mut Vec<Chunk>, place: Place, entry: Entry) -> Entry
+fn displace(chunks: &mut Vec<Chunk>, place: ChunkPlace, entry: Entry) -> Entry
     requires place { IsGap chunks.old.items place }
     ensures count { length chunks.new.items ≡ length chunks.old.items }
     ensures entries { insert (entries_of chunks.new.items) (before_chunk chunks.new.items (place.chunk + 1)) result ≡ insert (entries_of chunks.old.items) (rank_in chunks.old.items place) entry }
@@ -242,7 +242,7 @@ fn is_full(chunks: &[Chunk], chunk: usize) -> bool
 }
 
 /// Puts an entry in at the place, in a chunk that has room.
-fn fill(chunks: &mut Vec<Chunk>, place: Place, entry: Entry)
+fn fill(chunks: &mut Vec<Chunk>, place: ChunkPlace, entry: Entry)
     requires place { IsGap chunks.old.items place }
     requires room { (d : Piece) → len_at chunks.old.items place.chunk d < capacity_at chunks.old.items place.chunk d }
     ensures count { length chunks.new.items ≡ length chunks.old.items }
@@ -255,7 +255,7 @@ fn fill(chunks: &mut Vec<Chunk>, place: Place, entry: Entry)
 }
 
 /// Puts an entry in at the place.
-pub(crate) fn put_at(chunks: &mut Vec<Chunk>, place: Place, entry: Entry)
+pub(crate) fn put_at(chunks: &mut Vec<Chunk>, place: ChunkPlace, entry: Entry)
     requires place { IsGap chunks.old.items place }
     requires room { HasRoomFrom place.chunk chunks.old.items }
     ensures count { length chunks.new.items ≡ length chunks.old.items }
@@ -266,7 +266,7 @@ pub(crate) fn put_at(chunks: &mut Vec<Chunk>, place: Place, entry: Entry)
     let mut entry = entry;
     while is_full(chunks.as_slice(), place.chunk) {
         entry = displace(chunks, place, entry);
-        place = Place {
+        place = ChunkPlace {
             chunk: place.chunk + 1,
             at: 0,
         };
@@ -275,7 +275,7 @@ pub(crate) fn put_at(chunks: &mut Vec<Chunk>, place: Place, entry: Entry)
 }
 
 /// Takes the entry at the place out of its chunk.
-fn dig(chunks: &mut Vec<Chunk>, place: Place)
+fn dig(chunks: &mut Vec<Chunk>, place: ChunkPlace)
     requires within { place.chunk < length chunks.old.items }
     requires there { (d : Piece) → place.at < len_at chunks.old.items place.chunk d }
     ensures count { length chunks.new.items ≡ length chunks.old.items }
@@ -301,7 +301,7 @@ fn drop_empty(chunks: &mut Vec<Chunk>, chunk: usize)
 }
 
 /// Takes the entry at the place out.
-pub(crate) fn take_at(chunks: &mut Vec<Chunk>, place: Place)
+pub(crate) fn take_at(chunks: &mut Vec<Chunk>, place: ChunkPlace)
     requires some { HaveEntries chunks.old.items }
     requires within { place.chunk < length chunks.old.items }
     requires there { (d : Piece) → place.at < len_at chunks.old.items place.chunk d }
@@ -313,7 +313,7 @@ pub(crate) fn take_at(chunks: &mut Vec<Chunk>, place: Place)
 }
 
 /// Takes the entry at `from` out, and puts one in at `to`, which is no later.
-pub(crate) fn shift(chunks: &mut Vec<Chunk>, from: Place, to: Place, entry: Entry)
+pub(crate) fn shift(chunks: &mut Vec<Chunk>, from: ChunkPlace, to: ChunkPlace, entry: Entry)
     requires some { HaveEntries chunks.old.items }
     requires within { from.chunk < length chunks.old.items }
     requires there { (d : Piece) → from.at < len_at chunks.old.items from.chunk d }
@@ -328,7 +328,7 @@ pub(crate) fn shift(chunks: &mut Vec<Chunk>, from: Place, to: Place, entry: Entr
 }
 
 /// How many entries stand from one place up to another.
-pub(crate) fn between(chunks: &[Chunk], first: Place, past: Place) -> usize
+pub(crate) fn between(chunks: &[Chunk], first: ChunkPlace, past: ChunkPlace) -> usize
     requires first { IsPlace chunks.now first }
     requires past { IsPlace chunks.now past }
     requires order { rank_in chunks.now first ≤ rank_in chunks.now past }
@@ -343,7 +343,7 @@ pub(crate) fn between(chunks: &[Chunk], first: Place, past: Place) -> usize
 }
 
 /// The entry that stands `k` behind the place.
-pub(crate) fn entry_behind(chunks: &[Chunk], place: Place, k: usize) -> Entry
+pub(crate) fn entry_behind(chunks: &[Chunk], place: ChunkPlace, k: usize) -> Entry
     requires place { IsGap chunks.now place }
     requires within { rank_in chunks.now place + k < length (entries_of chunks.now) }
     requires small { length (entries_of chunks.now) < 2 ^ 32 }
@@ -355,5 +355,5 @@ pub(crate) fn entry_behind(chunks: &[Chunk], place: Place, k: usize) -> Entry
         at -= chunks[chunk].entries.len();
         chunk += 1;
     }
-    entry(chunks, Place { chunk, at })
+    entry(chunks, ChunkPlace { chunk, at })
 }

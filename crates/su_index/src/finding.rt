@@ -14,7 +14,7 @@ use crate::chunks::{entry, len_of};
 use crate::entry::Entry;
 use crate::lead::lead;
 use crate::order::{is_before, order_at};
-use crate::place::Place;
+use crate::place::ChunkPlace;
 use su_base::{Row, Value};
 
 /// The last entry of a chunk.
@@ -26,7 +26,7 @@ fn last_of(chunks: &[Chunk], chunk: usize) -> Entry
     ensures last { result ≡ slice_index_or (entries_of chunks.now) (before_chunk chunks.now (chunk + 1) - 1) result }
 {
     let at = len_of(chunks, chunk) - 1;
-    entry(chunks, Place { chunk, at })
+    entry(chunks, ChunkPlace { chunk, at })
 }
 
 /// The chunk in which the value at `position` is to be looked for: the entries of those before it come
@@ -93,7 +93,7 @@ fn place_in(
     let mut high_has = false;
     while low < high {
         let middle = low + (high - low) / 2;
-        let found = entry(chunks, Place { chunk, at: middle });
+        let found = entry(chunks, ChunkPlace { chunk, at: middle });
         let order = order_at(rows, column, found, lead, wanted, low_has && high_has);
         if order.then(found.position.cmp(&position)).is_lt() {
             low = middle + 1;
@@ -114,7 +114,7 @@ pub(crate) fn find(
     lead: u32,
     wanted: &Value,
     position: u32,
-) -> Place
+) -> ChunkPlace
     requires columns { HaveColumn column rows.now }
     requires positions { ArePositions (length rows.now) (positions (entries_of chunks.now)) }
     requires ordered { IsStrictlySortedBy (compare_places (value_at rows.now column)) (positions (entries_of chunks.now)) }
@@ -128,7 +128,7 @@ pub(crate) fn find(
 {
     let chunk = chunk_for(rows, column, chunks, lead, wanted, position);
     let at = place_in(rows, column, chunks, chunk, lead, wanted, position);
-    Place { chunk, at }
+    ChunkPlace { chunk, at }
 }
 
 /// The place past the value, where `first` is that of the value itself. Most values stand in one row or
@@ -139,8 +139,8 @@ fn past(
     chunks: &[Chunk],
     lead: u32,
     wanted: &Value,
-    first: Place,
-) -> Place
+    first: ChunkPlace,
+) -> ChunkPlace
     requires small { length rows.now < 2 ^ 32 }
     requires columns { HaveColumn column rows.now }
     requires positions { ArePositions (length rows.now) (positions (entries_of chunks.now)) }
@@ -168,19 +168,19 @@ fn past(
         && !is_before(
             rows,
             column,
-            entry(chunks, Place { chunk, at }),
+            entry(chunks, ChunkPlace { chunk, at }),
             lead,
             wanted,
             top,
         )
     {
-        return Place { chunk, at };
+        return ChunkPlace { chunk, at };
     }
     find(rows, column, chunks, lead, wanted, top)
 }
 
 /// Where the entries of the value stand: the first place, and the one past the last.
-pub(crate) fn span(rows: &[Row], column: usize, chunks: &[Chunk], wanted: &Value) -> (Place, Place)
+pub(crate) fn span(rows: &[Row], column: usize, chunks: &[Chunk], wanted: &Value) -> (ChunkPlace, ChunkPlace)
     requires small { length rows.now < 2 ^ 32 }
     requires columns { HaveColumn column rows.now }
     requires positions { ArePositions (length rows.now) (positions (entries_of chunks.now)) }

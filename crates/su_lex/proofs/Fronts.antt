@@ -6,7 +6,8 @@ use Rattle.std.proofs.lemmas.List.Sums.{AllPass-from_list_all, list_all-from_All
 use Rattle.std.proofs.lemmas.Bool.Decides.{nat_tests}
 use Rattle.su_lex.proofs.Runs.{run_split, run_is}
 use Rattle.su_lex.specs.Blanks.{begins}
-use Rattle.su_lex.specs.Tokens.{IsToken, IsFirst, HasNoFirst, lengthens, sign_bytes}
+use Rattle.su_lex.specs.TokenForms.{IsToken, lengthens, sign_bytes}
+use Rattle.su_lex.specs.Tokens.{IsFirstToken, HasNoFirstToken}
 use Rattle.su_lex.specs.inside.Classes.{class_at, class_of, sign_at}
 use Rattle.su_base.specs.Name.{is_letter, is_letter_or_digit, IsWord}
 use Rattle.su_lex.specs.declared.kinds.TokenKind.{TokenKind}
@@ -69,7 +70,7 @@ letter_at b bs c = elim (is_letter b) as (λ v. is_letter b ≡ v → is_letter 
     other false true e = cc
     other false false e = cc
 
-pub word_found : (text : List ℕ) → class_at text ≡ OfWord → prefix_len is_letter_or_digit text ≤ 64 → IsFirst text Word (prefix_len is_letter_or_digit text)
+pub word_found : (text : List ℕ) → class_at text ≡ OfWord → prefix_len is_letter_or_digit text ≤ 64 → IsFirstToken text Word (prefix_len is_letter_or_digit text)
 word_found [] c short = absurd (cc)
 word_found (b ∷ bs) c short =
     let letter = letter_at b bs c in
@@ -96,7 +97,7 @@ word_short (Int n) front rest c t = absurd (cc)
 word_short (Text s) front rest c t = absurd (cc)
 word_short (ASign s) front rest c t = absurd (cc)
 
-pub word_none : (text : List ℕ) → class_at text ≡ OfWord → 64 < prefix_len is_letter_or_digit text → HasNoFirst text
+pub word_none : (text : List ℕ) → class_at text ≡ OfWord → 64 < prefix_len is_letter_or_digit text → HasNoFirstToken text
 word_none text c long kind front rest e t =
     let short = word_short kind front rest (sym (class_at-is kind front rest t) ∙ ap class_at (sym e) ∙ c) t in
     absurd (omega (arith, rw (← e) at short))
@@ -124,7 +125,7 @@ sign_split b (c ∷ cs) LessEqual e = let h : (b ≡ 60) × (c ≡ 61) = grind (
 sign_split b [] GreaterEqual e = absurd (grind (arith, nat_tests, e))
 sign_split b (c ∷ cs) GreaterEqual e = let h : (b ≡ 62) × (c ≡ 61) = grind (arith, nat_tests, e) in (cs, cc, begins_none cs)
 
-pub sign_found : (text : List ℕ) (s : Sign) → sign_at text ≡ Some s → IsFirst text (ASign s) (length (sign_bytes s))
+pub sign_found : (text : List ℕ) (s : Sign) → sign_at text ≡ Some s → IsFirstToken text (ASign s) (length (sign_bytes s))
 sign_found [] s e = absurd (cc)
 sign_found (b ∷ bs) s e = let h = sign_split b bs s e in (sign_bytes s, h.0, h.1, refl, (refl, h.2))
 
@@ -137,6 +138,6 @@ sign_there (ASign s) front rest c t none =
     let same = ap (λ x. sign_at (x ++ rest)) t.0 in
     absurd (cc)
 
-pub sign_none : (text : List ℕ) → class_at text ≡ OfSign → sign_at text ≡ None → HasNoFirst text
+pub sign_none : (text : List ℕ) → class_at text ≡ OfSign → sign_at text ≡ None → HasNoFirstToken text
 sign_none text c none kind front rest e t =
     sign_there kind front rest (sym (class_at-is kind front rest t) ∙ ap class_at (sym e) ∙ c) t (ap sign_at (sym e) ∙ none)

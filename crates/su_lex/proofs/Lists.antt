@@ -1,18 +1,16 @@
 -- The list of tokens, one at a time.
-use Rattle.std.proofs.Common.{get_or, ◌≡◌, ◌<◌, ◌≤◌, ◌+◌, ℕ, Some, true, false, List, [], ◌∷◌, ◌++◌, ◌==◌, length, take, drop, refl, ap, sym, ◌∙◌, arith, subst}
+use Rattle.std.proofs.Common.{get_or, ◌≡◌, ◌<◌, ◌≤◌, ◌+◌, ℕ, Some, true, false, List, [], ◌∷◌, ◌++◌, ◌==◌, length, take, drop, refl, ap, sym, ◌∙◌, arith, subst, All, append_assoc, ◌-◌}
 use Rattle.std.specs.Char.{is_ascii_digit}
 use Rattle.std.specs.List.{prefix_len}
 use Rattle.std.specs.Str.Parse.{signed_digits_value}
-use Rattle.std.proofs.Common.{All, append_assoc, ◌-◌}
 use Rattle.std.proofs.lemmas.List.Elements.{All-cons, All-nil}
-use Rattle.su_lex.specs.Tokens.{InText, slice_of}
+use Rattle.su_lex.specs.Tokens.{InText, slice_of, IsFirstToken, HasNoFirstToken, TokensAt, Tokens}
 use Rattle.std.proofs.lemmas.Bool.Decides.{nat_tests}
-use Rattle.std.proofs.lemmas.List.{take_at, drop_at, length-append}
+use Rattle.std.proofs.lemmas.List.{take_at, drop_at, length-append, append_cancel_left, append-nil}
 use Rattle.su_lex.proofs.Runs.{run_take}
-use Rattle.su_lex.specs.Blanks.{begins}
-use Rattle.su_lex.specs.Tokens.{IsToken, IsFirst, HasNoFirst, TokensAt, Tokens, quoted, sign_bytes}
+use Rattle.su_lex.specs.Blanks.{begins, Gap}
+use Rattle.su_lex.specs.TokenForms.{IsToken, quoted, sign_bytes}
 use Rattle.su_lex.proofs.Gaps.{IsSolid, gap_same, gap_solid, gap_trans, gap_suffix}
-use Rattle.su_lex.specs.Blanks.{Gap}
 use Rattle.su_lex.specs.Blanks as b
 use Rattle.su_base.specs.Name.{IsWord, is_letter_or_digit}
 use Rattle.su_lex.specs.inside.Classes.{class_at, class_of, sign_at}
@@ -20,7 +18,6 @@ use Rattle.su_lex.specs.declared.kinds.TokenKind.{TokenKind}
 use Rattle.su_lex.specs.declared.kinds.TokenKind.TheVariants.{Word, Int, Text, Sign as ASign}
 use Rattle.su_lex.specs.declared.signs.Sign.{Sign}
 use Rattle.su_lex.specs.declared.signs.Sign.TheVariants.{Open, Close, Comma, Dot, Arrow, Equal, NotEqual, Less, LessEqual, Greater, GreaterEqual}
-use Rattle.std.proofs.lemmas.List.{append_cancel_left, append-nil}
 use Rattle.su_lex.proofs.Fronts.{class_at-is, sign_at-is, word_all}
 use Rattle.su_lex.proofs.Numerals.{number_there}
 use Rattle.su_lex.proofs.Quotes.{text_same}
@@ -70,7 +67,7 @@ token_some (ASign Greater) r t = let h = t.0 in cc
 token_some (ASign GreaterEqual) r t = let h = t.0 in cc
 
 -- how long a first token is
-pub first_len : (text : List ℕ) (kind : TokenKind) (n : ℕ) → IsFirst text kind n → (0 < n) × (n ≤ length text)
+pub first_len : (text : List ℕ) (kind : TokenKind) (n : ℕ) → IsFirstToken text kind n → (0 < n) × (n ≤ length text)
 first_len text kind n f = (some f.0 f.2 f.3 f.4, omega (arith, f.3, ap length f.2, length-append f.0 f.1))
   where
     some : (front : List ℕ) → text ≡ front ++ f.1 → n ≡ length front → IsToken kind front f.1 → 0 < n
@@ -129,7 +126,7 @@ gap_behind total s r (t ∷ ts) g solid a =
 -- ---- one token more
 
 -- a first token before the tokens behind it
-pub one_more : (total : ℕ) (text : List ℕ) (t : Token) (n : ℕ) (ts : List Token) → IsFirst text t.kind n → t.span.start + length text ≡ total → t.span.end ≡ t.span.start + n
+pub one_more : (total : ℕ) (text : List ℕ) (t : Token) (n : ℕ) (ts : List Token) → IsFirstToken text t.kind n → t.span.start + length text ≡ total → t.span.end ≡ t.span.start + n
     → TokensAt total (drop n text) ts → TokensAt total text (t ∷ ts)
 one_more total text t n ts f start end more =
     let behind : drop n text ≡ f.1 = ap (drop n) f.2 ∙ drop_at f.0 f.1 n (sym f.3) in
@@ -140,14 +137,14 @@ pub record Peeled (total : ℕ) (text : List ℕ) (t : Token) (n : ℕ) (all : L
   pub all_is : all ≡ t ∷ more
   pub behind : TokensAt total (drop n text) more
 
-first_solid : (text : List ℕ) (kind : TokenKind) (n : ℕ) → IsFirst text kind n → IsSolid text
+first_solid : (text : List ℕ) (kind : TokenKind) (n : ℕ) → IsFirstToken text kind n → IsSolid text
 first_solid text kind n f = subst IsSolid (sym f.2) (token_solid kind f.0 f.1 f.4)
 
 same_token : (t u : Token) → t.kind ≡ u.kind → t.span.start ≡ u.span.start → t.span.end ≡ u.span.end → u ≡ t
 same_token t u k s e i = record { kind = sym k i; span = record { start = sym s i; end = sym e i } }
 
 -- the tokens of a text begin with its first token
-pub peel : (total : ℕ) (text : List ℕ) (t : Token) (n : ℕ) (all : List Token) → IsFirst text t.kind n → t.span.start + length text ≡ total → t.span.end ≡ t.span.start + n
+pub peel : (total : ℕ) (text : List ℕ) (t : Token) (n : ℕ) (all : List Token) → IsFirstToken text t.kind n → t.span.start + length text ≡ total → t.span.end ≡ t.span.start + n
     → TokensAt total text all → Peeled total text t n all
 peel total text t n [] f start end a =
     let nil = gap_solid text [] (first_solid text t.kind n f) a in
@@ -160,7 +157,7 @@ peel total text t n (u ∷ us) f start end a =
     let last : t.span.end ≡ u.span.end = omega (arith, a.7, f.3, ap length f.2, length-append f.0 f.1, ap length s.rest) in
     record { more = us; all_is = ap (λ x. x ∷ us) (same_token t u s.kind first last); behind = subst (λ (x : List ℕ). TokensAt total x us) (sym behind) a.8 }
 
-pub refused : (total : ℕ) (text : List ℕ) (all : List Token) → HasNoFirst text → IsSolid text → 0 < length text → TokensAt total text all → ⊥
+pub refused : (total : ℕ) (text : List ℕ) (all : List Token) → HasNoFirstToken text → IsSolid text → 0 < length text → TokensAt total text all → ⊥
 refused total text [] none solid some a = let nil = gap_solid text [] solid a in omega (arith, ap length nil)
 refused total text (t ∷ ts) none solid some a = none t.kind a.1 a.2 (gap_solid text a.0 solid a.3 ∙ a.4) a.5
 

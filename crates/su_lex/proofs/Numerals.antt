@@ -1,29 +1,25 @@
 -- Numbers at the front of a text.
-use Rattle.std.proofs.Common.{◌≡◌, ◌<◌, ◌+◌, ℕ, ℤ, Bool, true, false, List, [], ◌∷◌, ◌++◌, ◌&&◌, ◌||◌, ◌==◌, take, drop, refl, ap, sym, ◌∙◌, arith, subst}
-use Rattle.std.specs.Char.{is_ascii_digit}
+use Rattle.std.proofs.Common.{◌≡◌, ◌<◌, ◌+◌, ℕ, ℤ, Bool, true, false, List, [], ◌∷◌, ◌++◌, ◌&&◌, ◌||◌, ◌==◌, take, drop, refl, ap, sym, ◌∙◌, arith, subst, add-one}
+use Rattle.std.specs.Char.{is_ascii_digit, digit_value}
 use Rattle.std.specs.List.{prefix_len, list_all}
 use Rattle.std.specs.Int.{w64}
 use Rattle.std.specs.Int.RustNames.{FitsSigned}
-use Rattle.std.specs.Str.Parse.{signed_digits_value}
+use Rattle.std.specs.Str.Parse.{signed_digits_value, AllDigits, without_leading_sign, IsNumeral as IsStdNumeral}
 use Rattle.std.proofs.lemmas.Bool.{false≢true}
 use Rattle.std.proofs.lemmas.Bool.Decides.{nat_tests}
 use Rattle.std.proofs.lemmas.List.{take_at}
 use Rattle.su_lex.proofs.Runs.{Split, run_split, run_take}
 use Rattle.su_lex.specs.Blanks.{begins}
-use Rattle.su_lex.specs.Tokens.{IsToken, IsFirst, HasNoFirst, IsNumeral}
+use Rattle.su_lex.specs.TokenForms.{IsToken, IsNumeral}
+use Rattle.su_lex.specs.Tokens.{IsFirstToken, HasNoFirstToken}
 use Rattle.su_lex.specs.inside.Classes.{class_at, class_of}
-use Rattle.su_base.specs.Name.{is_letter_or_digit}
+use Rattle.su_base.specs.Name.{is_letter_or_digit, IsWord}
 use Rattle.su_lex.specs.declared.kinds.TokenKind.{TokenKind}
 use Rattle.su_lex.specs.declared.kinds.TokenKind.TheVariants.{Word, Int, Text, Sign as ASign}
 use Rattle.su_lex.specs.declared.firsts.Class.TheVariants.{Number as OfNumber}
-use Rattle.std.proofs.Common.{add-one}
-use Rattle.std.specs.Char.{digit_value}
-use Rattle.std.specs.Str.{IsAscii}
-use Rattle.std.specs.Str.Parse.{AllDigits, without_leading_sign, IsNumeral as IsStdNumeral}
+use Rattle.std.specs.Str.{IsAscii, IsUtf8}
 use Rattle.std.proofs.lemmas.Str.Ascii.{IsAscii-cons, IsAscii-nil}
 use Rattle.su_lex.proofs.Fronts.{class_at-is, word_all}
-use Rattle.su_base.specs.Name.{IsWord}
-use Rattle.std.specs.Str.{IsUtf8}
 use Rattle.std.proofs.lemmas.Str.{IsUtf8-from_ascii}
 
 digits_are_word : (xs : List ℕ) → list_all is_ascii_digit xs ≡ true → list_all is_letter_or_digit xs ≡ true
@@ -95,10 +91,10 @@ at_number : (text : List ℕ) → class_at text ≡ OfNumber → (kind : TokenKi
 at_number text c kind front rest e t =
     subst (λ (x : List ℕ). AtNumber x front) (sym e) (number_there kind front rest (sym (class_at-is kind front rest t) ∙ ap class_at (sym e) ∙ c) t)
 
-pub number_no_digits : (text : List ℕ) → class_at text ≡ OfNumber → list_all is_ascii_digit (take (prefix_len is_letter_or_digit (drop 1 text)) (drop 1 text)) ≡ false → HasNoFirst text
+pub number_no_digits : (text : List ℕ) → class_at text ≡ OfNumber → list_all is_ascii_digit (take (prefix_len is_letter_or_digit (drop 1 text)) (drop 1 text)) ≡ false → HasNoFirstToken text
 number_no_digits text c none kind front rest e t = false≢true (sym none ∙ (at_number text c kind front rest e t).digits)
 
-pub number_no_value : (text : List ℕ) → class_at text ≡ OfNumber → ¬ (FitsSigned w64 (signed_digits_value 10 (take (prefix_len is_letter_or_digit (drop 1 text) + 1) text))) → HasNoFirst text
+pub number_no_value : (text : List ℕ) → class_at text ≡ OfNumber → ¬ (FitsSigned w64 (signed_digits_value 10 (take (prefix_len is_letter_or_digit (drop 1 text) + 1) text))) → HasNoFirstToken text
 number_no_value text c none kind front rest e t =
     let a = at_number text c kind front rest e t in
     none (subst (λ (x : List ℕ). FitsSigned w64 (signed_digits_value 10 x)) (sym a.front_is) a.fits)
@@ -133,7 +129,7 @@ number_numeral (b ∷ bs) c all =
     rw add-one (numeral_front b bs (take (prefix_len is_letter_or_digit bs) bs) (λ h. ap (begins is_ascii_digit) same ∙ begins_front is_letter_or_digit is_ascii_digit bs s digit_is_word h) (number_begins b bs c), all)
 
 pub number_found : (text : List ℕ) (n : ℤ) → class_at text ≡ OfNumber → IsNumeral (take (prefix_len is_letter_or_digit (drop 1 text) + 1) text)
-    → n ≡ signed_digits_value 10 (take (prefix_len is_letter_or_digit (drop 1 text) + 1) text) → FitsSigned w64 n → IsFirst text (Int n) (prefix_len is_letter_or_digit (drop 1 text) + 1)
+    → n ≡ signed_digits_value 10 (take (prefix_len is_letter_or_digit (drop 1 text) + 1) text) → FitsSigned w64 n → IsFirstToken text (Int n) (prefix_len is_letter_or_digit (drop 1 text) + 1)
 number_found [] n c numeral e fits = absurd (cc)
 number_found (b ∷ bs) n c numeral e fits =
     let s = run_split is_letter_or_digit bs in

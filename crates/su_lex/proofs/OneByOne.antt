@@ -3,7 +3,7 @@ use Rattle.std.proofs.Common.{◌≡◌, ◌<◌, ◌≤◌, ℕ, List, [], ◌�
 use Rattle.std.proofs.lemmas.List.{take_at, drop_at}
 use Rattle.su_lex.specs.Blanks.{Gap}
 use Rattle.su_lex.specs.Blanks as b
-use Rattle.su_lex.specs.Tokens.{IsFirst, HasNoFirst}
+use Rattle.su_lex.specs.Tokens.{IsFirstToken, HasNoFirstToken}
 use Rattle.su_lex.specs.Symbols.{symbol_at}
 use Rattle.su_lex.specs.inside.Firsts.{IsTokenOf, IsFirstSymbol}
 use Rattle.su_lex.specs.declared.kinds.TokenKind.{TokenKind}
@@ -13,7 +13,7 @@ use Rattle.su_lex.proofs.Lists.{token_solid, token_unique, first_len, nil_solid}
 use Rattle.su_lex.proofs.Written.{SymbolsAt, a_token, is_token_of}
 
 -- the first token's symbol is the first symbol
-pub first_symbol_from : (text : List ℕ) (k : TokenKind) (n : ℕ) (x : Symbol) → IsFirst text k n → x ≡ symbol_at k (take n text) → IsFirstSymbol text x n
+pub first_symbol_from : (text : List ℕ) (k : TokenKind) (n : ℕ) (x : Symbol) → IsFirstToken text k n → x ≡ symbol_at k (take n text) → IsFirstSymbol text x n
 first_symbol_from text k n x f e =
     let front : take n text ≡ f.0 = ap (take n) f.2 ∙ take_at f.0 f.1 n (sym f.3) in
     (f.0, f.1, f.2, f.3, subst (λ (y : Symbol). IsTokenOf y f.0 f.1) (sym (e ∙ ap (symbol_at k) front)) (is_token_of k f.0 f.1 f.4))
@@ -65,7 +65,7 @@ peel_symbol text x n (y ∷ ys) f a =
     let same : x ≡ y = sym t.symbol ∙ ap (λ k. symbol_at k f.0) s.kind ∙ ap (symbol_at u.kind) s.front ∙ u.symbol in
     record { more = ys; all_is = ap (λ v. v ∷ ys) (sym same); behind = subst (λ (v : List ℕ). SymbolsAt v ys) (sym behind) a.6 }
 
-pub no_symbols : (text : List ℕ) (all : List Symbol) → HasNoFirst text → IsSolid text → 0 < length text → SymbolsAt text all → ⊥
+pub no_symbols : (text : List ℕ) (all : List Symbol) → HasNoFirstToken text → IsSolid text → 0 < length text → SymbolsAt text all → ⊥
 no_symbols text [] none solid some a = let nil = gap_solid text [] solid a in omega (arith, ap length nil)
 no_symbols text (x ∷ xs) none solid some a =
     let t = a_token x a.1 a.2 a.5 in

@@ -1,13 +1,12 @@
 -- One more symbol of a text.
-use Rattle.std.proofs.Common.{◌≡◌, ◌<◌, ◌+◌, ℕ, Bool, true, false, not, ◌||◌, List, [], ◌∷◌, ◌++◌, length, refl, ap, sym, ◌∙◌, append_assoc, append-nil, take, get_or}
+use Rattle.std.proofs.Common.{◌≡◌, ◌<◌, ◌+◌, ℕ, Bool, true, false, not, ◌||◌, List, [], ◌∷◌, ◌++◌, length, refl, ap, sym, ◌∙◌, append_assoc, append-nil, take, get_or, drop}
 use Rattle.std.specs.Prelude.{if◌then◌else◌}
-use Rattle.std.proofs.Common.{drop}
 use Rattle.std.proofs.lemmas.List.{take_more, take-append-drop}
 use Rattle.su_lex.specs.Adding.{AddsFront}
 use Rattle.su_lex.proofs.Adding.{adds_first, adds_later}
-use Rattle.su_lex.specs.Tokens.{doubled, quoted, twice}
+use Rattle.su_lex.specs.TokenForms.{doubled, quoted, twice}
 use Rattle.su_lex.specs.declared.meaning.Symbol.{Symbol}
-use Rattle.su_lex.specs.Symbols.{closes, opens, spaced, spelled, after}
+use Rattle.su_lex.specs.Spelling.{closes, opens, spaced, spelled, after}
 
 -- whether nothing need stand before the next symbol
 abbrev pub tight_of : Bool → List Symbol → Bool

@@ -1,20 +1,18 @@
 -- Texts in quotes at the front of a text.
-use Rattle.std.proofs.Common.{◌≡◌, ◌≤◌, ◌+◌, ℕ, Bool, true, false, not, List, [], ◌∷◌, ◌++◌, ◌==◌, length, take, drop, refl, ap, sym, ◌∙◌, arith, subst}
+use Rattle.std.proofs.Common.{◌≡◌, ◌≤◌, ◌+◌, ℕ, Bool, true, false, not, List, [], ◌∷◌, ◌++◌, ◌==◌, length, take, drop, refl, ap, sym, ◌∙◌, arith, subst, append_assoc, append-nil, length-append}
 use Rattle.std.proofs.lemmas.Bool.{false≢true}
 use Rattle.std.proofs.lemmas.Bool.Decides.{nat_tests}
 use Rattle.su_lex.specs.Blanks.{begins}
-use Rattle.su_lex.specs.Tokens.{IsToken, IsFirst, HasNoFirst, quoted, doubled}
-use Rattle.su_lex.specs.inside.Classes.{class_at, class_of}
+use Rattle.su_lex.specs.TokenForms.{IsToken, quoted, doubled, twice}
+use Rattle.su_lex.specs.Tokens.{IsFirstToken, HasNoFirstToken}
+use Rattle.su_lex.specs.inside.Classes.{class_at, class_of, place_at}
 use Rattle.su_lex.specs.declared.kinds.TokenKind.{TokenKind}
 use Rattle.su_lex.specs.declared.kinds.TokenKind.TheVariants.{Word, Int, Text, Sign as ASign}
 use Rattle.su_lex.specs.declared.firsts.Class.TheVariants.{Text as OfText}
-use Rattle.std.proofs.Common.{append_assoc, append-nil, length-append}
 use Rattle.std.specs.Str.{IsUtf8}
 use Rattle.std.specs.List.{prefix_len, list_all}
 use Rattle.su_lex.proofs.Runs.{run_at}
-use Rattle.su_lex.specs.Tokens.{twice}
-use Rattle.su_lex.specs.inside.Classes.{place_at}
-use Rattle.su_lex.specs.declared.quoting.Place.TheVariants.{Content, Close as AClose, Missing}
+use Rattle.su_lex.specs.declared.quoting.QuotedPart.TheVariants.{Content, Close as AClose, Missing}
 use Rattle.su_lex.proofs.Fronts.{class_at-is}
 use Rattle.su_lex.proofs.Printed.{doubled_push}
 
@@ -79,7 +77,7 @@ no_more : (more after : List ℕ) → doubled more ++ 39 ∷ after ≡ [] → �
 no_more [] after e = cc
 no_more (c ∷ cs) after e = elim (c == 39) as (λ v. (c == 39) ≡ v → ⊥) [ true ↦ λ p. let e' = rw p at e in cc | false ↦ λ p. let e' = rw p at e in cc ] refl
 
-pub text_no_end : (text content rest : List ℕ) → class_at text ≡ OfText → text ≡ 39 ∷ (doubled content ++ rest) → rest ≡ [] → HasNoFirst text
+pub text_no_end : (text content rest : List ℕ) → class_at text ≡ OfText → text ≡ 39 ∷ (doubled content ++ rest) → rest ≡ [] → HasNoFirstToken text
 text_no_end text content rest c whole end kind front after e t =
     let a = at_text text content rest c whole kind front after e t in
     no_more a.more after (sym a.rest_is ∙ end)
@@ -89,7 +87,7 @@ closes [] after behind ends e = refl
 closes (c ∷ cs) after behind ends e = absurd (no_head c (doubled cs ++ 39 ∷ after) behind ends (sym (append_assoc (twice c) (doubled cs) (39 ∷ after)) ∙ sym e))
 
 pub text_refused : (text content rest behind : List ℕ) → class_at text ≡ OfText → text ≡ 39 ∷ (doubled content ++ rest) → rest ≡ 39 ∷ behind → begins (λ b. b == 39) behind ≡ false
-    → ¬ (IsUtf8 content × (length content ≤ 4096)) → HasNoFirst text
+    → ¬ (IsUtf8 content × (length content ≤ 4096)) → HasNoFirstToken text
 text_refused text content rest behind c whole at ends bad kind front after e t =
     let a = at_text text content rest c whole kind front after e t in
     let nil = closes a.more after behind ends (sym at ∙ a.rest_is) in
@@ -97,7 +95,7 @@ text_refused text content rest behind c whole at ends bad kind front after e t =
     bad (subst IsUtf8 same a.utf8, subst (λ (x : List ℕ). length x ≤ 4096) same a.short)
 
 pub text_found : (text content rest behind : List ℕ) (n : ℕ) → text ≡ 39 ∷ (doubled content ++ rest) → rest ≡ 39 ∷ behind → begins (λ b. b == 39) behind ≡ false
-    → IsUtf8 content → length content ≤ 4096 → n + length rest ≡ length text + 1 → IsFirst text (Text content) n
+    → IsUtf8 content → length content ≤ 4096 → n + length rest ≡ length text + 1 → IsFirstToken text (Text content) n
 text_found text content rest behind n whole at ends utf8 short count =
     let same : text ≡ quoted content ++ behind = whole ∙ ap (λ x. 39 ∷ (doubled content ++ x)) at ∙ ap (λ x. 39 ∷ x) (sym (append_assoc (doubled content) (39 ∷ []) behind)) in
     (quoted content, behind, same, omega (arith, ap length whole, ap length at, length-append (doubled content) rest, length-append (doubled content) (39 ∷ [])), (refl, utf8, short, ends))

@@ -15,11 +15,13 @@ use Rattle.std.proofs.lemmas.Fmt.{digits_decimal, digits_value-decimal, decimal_
 use Rattle.su_base.specs.Name.{is_letter_or_digit, IsWord}
 use Rattle.su_lex.specs.Blanks.{begins, Gap}
 use Rattle.su_lex.specs.Blanks as b
-use Rattle.su_lex.specs.Tokens.{lengthens, IsNumeral, IsToken, TokensAt}
+use Rattle.su_lex.specs.TokenForms.{lengthens, IsNumeral, IsToken}
+use Rattle.su_lex.specs.Tokens.{TokensAt}
 use Rattle.su_lex.specs.inside.Firsts.{IsTokenOf}
 use Rattle.su_lex.specs.declared.meaning.Symbol.{Symbol}
 use Rattle.su_lex.specs.declared.meaning.Symbol.TheVariants.{Word, Int, Text, Sign}
-use Rattle.su_lex.specs.Symbols.{symbol_at, symbol_of, Symbols, IsSymbol, spelled, opens, closes, after, spaced}
+use Rattle.su_lex.specs.Symbols.{symbol_at, symbol_of, Symbols, IsSymbol}
+use Rattle.su_lex.specs.Spelling.{spelled, opens, closes, after, spaced}
 use Rattle.su_lex.specs.declared.kinds.Token.{Token}
 use Rattle.su_lex.specs.declared.kinds.TokenKind.{TokenKind}
 use Rattle.su_lex.specs.declared.kinds.TokenKind.TheVariants as kind

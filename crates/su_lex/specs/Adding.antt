@@ -1,4 +1,5 @@
 -- What a call that was to add to a list has added where it was refused.
+-- front: the first elements of a list, none or all of them too
 use Rattle.std.specs.Prelude.{◌≡◌, List, ◌++◌}
 
 -- `new` is `old` with a front of `all` behind it, maybe nothing of it, maybe the whole

@@ -1,7 +1,9 @@
 -- What holds of pieces and tokens.
+-- pieces, tokens, symbols: as in Pieces, Tokens and Symbols
 use Rattle.std.specs.Prelude.{◌≡◌, ℕ, List, All}
 use Rattle.su_lex.specs.Pieces.{Pieces}
-use Rattle.su_lex.specs.Symbols.{Symbols, IsSymbol, spaced}
+use Rattle.su_lex.specs.Symbols.{Symbols, IsSymbol}
+use Rattle.su_lex.specs.Spelling.{spaced}
 use Rattle.su_lex.specs.declared.meaning.Symbol.{Symbol}
 use Rattle.su_lex.specs.Tokens.{Tokens}
 use Rattle.su_lex.specs.declared.spans.Span.{Span}

@@ -6,3 +6,7 @@ pub mod Names
 pub mod Pieces
 pub mod Symbols
 pub mod Tokens
+pub mod Spelling
+pub mod TokenForms
+pub mod Nesting
+pub mod Wording

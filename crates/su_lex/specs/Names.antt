@@ -1,4 +1,5 @@
 -- Names among the symbols of a text.
+-- name: a word that isn't reserved
 use Rattle.std.specs.Prelude.{◌≡◌, ℕ, List, [], ◌∷◌}
 use Rattle.std.specs.List.{AllByRecursion}
 use Rattle.su_base.specs.Name.{IsName}

@@ -1,18 +1,16 @@
 -- A text as the symbols that it is made of: its tokens without their places, words by their bytes.
 -- spaced: how symbols are written, with one space between two, but for parentheses, commas and dots
-use Rattle.std.specs.Prelude.{◌≡◌, ◌≤◌, ℕ, Bool, true, false, ◌||◌, if◌then◌else◌, List, [], ◌∷◌, ◌++◌, length, map}
-use Rattle.std.specs.Fmt.{signed_decimal}
+use Rattle.std.specs.Prelude.{◌≡◌, ◌≤◌, ℕ, List, length, map}
 use Rattle.std.specs.Int.{w64}
 use Rattle.std.specs.Int.RustNames.{FitsSigned}
 use Rattle.std.specs.Str.{IsUtf8}
 use Rattle.su_base.specs.Name.{IsWord}
-use Rattle.su_lex.specs.Tokens.{quoted, sign_bytes, Tokens, slice_of}
+use Rattle.su_lex.specs.Tokens.{Tokens, slice_of}
 use Rattle.su_lex.specs.declared.kinds.Token.{Token}
 use Rattle.su_lex.specs.declared.kinds.TokenKind.{TokenKind}
 use Rattle.su_lex.specs.declared.kinds.TokenKind.TheVariants as kind
 use Rattle.su_lex.specs.declared.meaning.Symbol.{Symbol}
 use Rattle.su_lex.specs.declared.meaning.Symbol.TheVariants.{Word, Int, Text, Sign}
-use Rattle.su_lex.specs.declared.signs.Sign.TheVariants as sign
 
 -- the symbol of a token of this kind with these bytes
 abbrev pub symbol_at : TokenKind → List ℕ → Symbol
@@ -35,33 +33,3 @@ IsSymbol (Word w) = IsWord w
 IsSymbol (Int n) = FitsSigned w64 n
 IsSymbol (Text content) = IsUtf8 content × (length content ≤ 4096)
 IsSymbol (Sign s) = Unit {0}
-
--- how a symbol is written: numbers without leading zeros
-abbrev pub spelled : Symbol → List ℕ
-spelled (Word w) = w
-spelled (Int n) = signed_decimal n
-spelled (Text content) = quoted content
-spelled (Sign s) = sign_bytes s
-
--- no space follows these
-abbrev pub opens : Symbol → Bool
-opens (Sign sign.Open) = true
-opens (Sign sign.Dot) = true
-opens _ = false
-
--- no space stands before these
-abbrev pub closes : Symbol → Bool
-closes (Sign sign.Close) = true
-closes (Sign sign.Comma) = true
-closes (Sign sign.Dot) = true
-closes _ = false
-
--- how these are written behind x
-abbrev pub after : Symbol → List Symbol → List ℕ
-after x [] = []
-after x (y ∷ ys) = if opens x || closes y then spelled y ++ after y ys else 32 ∷ (spelled y ++ after y ys)
-
--- symbols as they are written, with blanks where one is wanted
-abbrev pub spaced : List Symbol → List ℕ
-spaced [] = []
-spaced (x ∷ xs) = spelled x ++ after x xs

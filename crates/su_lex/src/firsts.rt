@@ -1,6 +1,6 @@
 //! The first token of a text, told by its first bytes.
 ghost use Rattle.std.specs.Prelude.{◌≡◌, IfOk, IsErrOf};
-ghost use Rattle.su_lex.specs.Tokens.{IsFirst, HasNoFirst};
+ghost use Rattle.su_lex.specs.Tokens.{IsFirstToken, HasNoFirstToken};
 ghost use Rattle.su_lex.specs.inside.Classes.{class_at};
 
 use crate::ends::LexEnd;
@@ -35,8 +35,8 @@ fn class_of(text: &[u8]) -> Class
 
 /// The first token of a text, and how many bytes it takes.
 pub fn first(alloc: Global, text: &[u8]) -> Result<(TokenKind, usize), LexEnd>
-    ensures found { IfOk result (λ t. IsFirst text.now t.0 t.1) }
-    ensures none { IsErrOf result LexEnd.Syntax → HasNoFirst text.now }
+    ensures found { IfOk result (λ t. IsFirstToken text.now t.0 t.1) }
+    ensures none { IsErrOf result LexEnd.Syntax → HasNoFirstToken text.now }
 {
     match class_of(text) {
         Class::Word => word(text),

@@ -1,7 +1,7 @@
 //! A text as symbols: its tokens with the bytes of the words, and without their places.
 ghost use Rattle.std.specs.Prelude.{◌≡◌, IfOk, IsErrOf, List as Items};
 ghost use Rattle.su_base.specs.Name.{IsWord};
-ghost use Rattle.su_lex.specs.Tokens.{HasNoFirst};
+ghost use Rattle.su_lex.specs.Tokens.{HasNoFirstToken};
 ghost use Rattle.su_lex.specs.Symbols.{Symbols, symbol_at};
 ghost use Rattle.su_lex.specs.inside.Firsts.{IsFirstSymbol};
 ghost use Rattle.su_lex.specs.declared.meaning.Symbol.{Symbol as ASymbol};
@@ -43,7 +43,7 @@ fn symbol_at(alloc: Global, kind: TokenKind, front: &[u8]) -> Result<Symbol, NoM
 /// The first symbol of a text, and how many bytes it takes.
 fn first_symbol(alloc: Global, text: &[u8]) -> Result<(Symbol, usize), LexEnd>
     ensures found { IfOk result (λ t. IsFirstSymbol text.now t.0 t.1) }
-    ensures none { IsErrOf result LexEnd.Syntax → HasNoFirst text.now }
+    ensures none { IsErrOf result LexEnd.Syntax → HasNoFirstToken text.now }
 {
     let (kind, n) = first(alloc, text)?;
     let symbol = symbol_at(alloc, kind, &text[..n])?;

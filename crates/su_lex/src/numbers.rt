@@ -5,7 +5,8 @@ ghost use Rattle.std.specs.Char.{is_ascii_digit};
 ghost use Rattle.std.specs.Int.{w64};
 ghost use Rattle.std.specs.Int.RustNames.{FitsSigned};
 ghost use Rattle.std.specs.Str.Parse.{signed_digits_value};
-ghost use Rattle.su_lex.specs.Tokens.{IsFirst, HasNoFirst, IsNumeral};
+ghost use Rattle.su_lex.specs.Tokens.{IsFirstToken, HasNoFirstToken};
+ghost use Rattle.su_lex.specs.TokenForms.{IsNumeral};
 ghost use Rattle.su_lex.specs.inside.Classes.{class_at};
 ghost use Rattle.su_lex.specs.declared.firsts.Class.TheVariants.{Number as OfNumber};
 
@@ -37,8 +38,8 @@ fn value_of(numeral: &[u8]) -> Option<i64>
 /// The number at the front of a text that begins as one, and how many bytes it takes.
 pub fn number(text: &[u8]) -> Result<(TokenKind, usize), LexEnd>
     requires { class_at text.now ≡ OfNumber }
-    ensures found { IfOk result (λ t. IsFirst text.now t.0 t.1) }
-    ensures none { IsErrOf result LexEnd.Syntax → HasNoFirst text.now }
+    ensures found { IfOk result (λ t. IsFirstToken text.now t.0 t.1) }
+    ensures none { IsErrOf result LexEnd.Syntax → HasNoFirstToken text.now }
 {
     match text {
         [_, behind @ ..] => {

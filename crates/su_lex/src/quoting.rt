@@ -1,7 +1,8 @@
 //! The text in quotes at the front of a text.
 ghost use Rattle.std.specs.Prelude.{◌≡◌, ◌≤◌, length, IfOk, IsErrOf};
 ghost use Rattle.std.specs.Str.{IsUtf8};
-ghost use Rattle.su_lex.specs.Tokens.{IsFirst, HasNoFirst, twice};
+ghost use Rattle.su_lex.specs.Tokens.{IsFirstToken, HasNoFirstToken};
+ghost use Rattle.su_lex.specs.TokenForms.{twice};
 ghost use Rattle.su_lex.specs.inside.Classes.{class_at, place_at};
 ghost use Rattle.su_lex.specs.declared.firsts.Class.TheVariants.{Text as OfText};
 
@@ -13,20 +14,20 @@ use su_base::Str;
 
 /// What stands at a place within a text.
 #[derive(Clone, Copy, PartialEq, Eq, Debug)]
-enum Place {
+enum QuotedPart {
     Content(u8),
     Close,
     Missing,
 }
 
-fn place_of(rest: &[u8]) -> Place
+fn place_of(rest: &[u8]) -> QuotedPart
     ensures { result ≡ place_at rest.now }
 {
     match rest {
-        [b'\'', b'\'', ..] => Place::Content(b'\''),
-        [b'\'', ..] => Place::Close,
-        [b, ..] => Place::Content(*b),
-        [] => Place::Missing,
+        [b'\'', b'\'', ..] => QuotedPart::Content(b'\''),
+        [b'\'', ..] => QuotedPart::Close,
+        [b, ..] => QuotedPart::Content(*b),
+        [] => QuotedPart::Missing,
     }
 }
 
@@ -55,19 +56,19 @@ fn text_of(alloc: Global, content: &[u8]) -> Result<TokenKind, LexEnd>
 /// together byte by byte.
 fn doubled_text(alloc: Global, text: &[u8]) -> Result<(TokenKind, usize), LexEnd>
     requires { class_at text.now ≡ OfText }
-    ensures found { IfOk result (λ t. IsFirst text.now t.0 t.1) }
-    ensures none { IsErrOf result LexEnd.Syntax → HasNoFirst text.now }
+    ensures found { IfOk result (λ t. IsFirstToken text.now t.0 t.1) }
+    ensures none { IsErrOf result LexEnd.Syntax → HasNoFirstToken text.now }
 {
     let mut content = Vec::new(alloc);
     let mut rest = &text[1..];
     loop {
         match place_of(rest) {
-            Place::Content(b) => {
+            QuotedPart::Content(b) => {
                 content.push(b)?;
                 rest = &rest[width(b)..];
             }
-            Place::Close => break,
-            Place::Missing => return Err(LexEnd::Syntax),
+            QuotedPart::Close => break,
+            QuotedPart::Missing => return Err(LexEnd::Syntax),
         }
     }
     let kind = text_of(alloc, content.as_slice())?;
@@ -78,17 +79,17 @@ fn doubled_text(alloc: Global, text: &[u8]) -> Result<(TokenKind, usize), LexEnd
 /// in it, the bytes of the text are its content.
 pub fn quoted_text(alloc: Global, text: &[u8]) -> Result<(TokenKind, usize), LexEnd>
     requires { class_at text.now ≡ OfText }
-    ensures found { IfOk result (λ t. IsFirst text.now t.0 t.1) }
-    ensures none { IsErrOf result LexEnd.Syntax → HasNoFirst text.now }
+    ensures found { IfOk result (λ t. IsFirstToken text.now t.0 t.1) }
+    ensures none { IsErrOf result LexEnd.Syntax → HasNoFirstToken text.now }
 {
     let behind = &text[1..];
     let n = unquoted_bytes(behind);
     match place_of(&behind[n..]) {
-        Place::Close => {
+        QuotedPart::Close => {
             let kind = text_of(alloc, &behind[..n])?;
             Ok((kind, n + 2))
         }
-        Place::Missing => Err(LexEnd::Syntax),
-        Place::Content(_) => doubled_text(alloc, text),
+        QuotedPart::Missing => Err(LexEnd::Syntax),
+        QuotedPart::Content(_) => doubled_text(alloc, text),
     }
 }

@@ -1,6 +1,6 @@
 //! The signs of the language.
 ghost use Rattle.std.specs.Prelude.{◌≡◌, length};
-ghost use Rattle.su_lex.specs.Tokens.{sign_bytes};
+ghost use Rattle.su_lex.specs.TokenForms.{sign_bytes};
 ghost use Rattle.su_lex.specs.inside.Classes.{sign_at};
 
 /// A sign: `(` `)` `,` `.` `->` `=` `!=` `<` `<=` `>` `>=`, in this order.

@@ -1,8 +1,8 @@
 //! How symbols are written: one space between two, but for parentheses, commas and dots.
 ghost use Rattle.std.specs.Prelude.{◌≡◌, [], ◌∷◌, ◌++◌, ◌||◌, OnErr, OnOk, not, if◌then◌else◌};
 ghost use Rattle.su_lex.specs.Adding.{AddsFront};
-ghost use Rattle.su_lex.specs.Tokens.{quoted, sign_bytes, twice};
-ghost use Rattle.su_lex.specs.Symbols.{closes, opens, spaced, spelled};
+ghost use Rattle.su_lex.specs.TokenForms.{quoted, sign_bytes, twice};
+ghost use Rattle.su_lex.specs.Spelling.{closes, opens, spaced, spelled};
 
 use crate::meaning::Symbol;
 use crate::signs::Sign;

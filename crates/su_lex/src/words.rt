@@ -1,6 +1,6 @@
 //! The word at the front of a text.
 ghost use Rattle.std.specs.Prelude.{◌≡◌, IfOk, IsErrOf};
-ghost use Rattle.su_lex.specs.Tokens.{IsFirst, HasNoFirst};
+ghost use Rattle.su_lex.specs.Tokens.{IsFirstToken, HasNoFirstToken};
 ghost use Rattle.su_lex.specs.inside.Classes.{class_at};
 ghost use Rattle.su_lex.specs.declared.firsts.Class.TheVariants.{Word as OfWord};
 
@@ -11,8 +11,8 @@ use crate::kinds::TokenKind;
 /// The word at the front of a text that begins with a letter, and how many bytes it takes.
 pub fn word(text: &[u8]) -> Result<(TokenKind, usize), LexEnd>
     requires { class_at text.now ≡ OfWord }
-    ensures found { IfOk result (λ t. IsFirst text.now t.0 t.1) }
-    ensures none { IsErrOf result LexEnd.Syntax → HasNoFirst text.now }
+    ensures found { IfOk result (λ t. IsFirstToken text.now t.0 t.1) }
+    ensures none { IsErrOf result LexEnd.Syntax → HasNoFirstToken text.now }
 {
     let n = word_bytes(text);
     if n > 64 {

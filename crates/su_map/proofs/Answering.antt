@@ -5,7 +5,8 @@ use Rattle.std.proofs.lemmas.Bool.{cases_Bool}
 use Rattle.su_tableau.specs.Tableaux.{Tab}
 use Rattle.su_map.specs.Lists.{IsMapping, IsFirst, IsBefore}
 use Rattle.su_map.specs.Candidates.{IsWithinProducts}
-use Rattle.su_map.specs.Nets.{Netted, IsNet, IsNetFor, base_of}
+use Rattle.su_map.specs.Netted.{Netted, base_of}
+use Rattle.su_map.specs.Nets.{IsNet, IsNetFor}
 use Rattle.su_map.specs.inside.Choices.{IsChoiceInto, IsFound, IsFirstOf, tries, ArePassed}
 use Rattle.su_map.proofs.Ranks.{choice_by, list_by}
 use Rattle.su_map.proofs.Joining.{mapping_by, by_mapping, maps_choice, choice_maps}

@@ -7,7 +7,7 @@ use Rattle.su_tableau.specs.declared.symbols.Sym.{Sym}
 use Rattle.su_tableau.specs.declared.symbols.Sym.TheVariants.{Const, Var}
 use Rattle.su_tableau.specs.Tableaux.{Tab}
 use Rattle.su_map.specs.Lists.{row_of}
-use Rattle.su_map.specs.Candidates.{Cell, KeepsConstants, Agree}
+use Rattle.su_map.specs.Candidates.{Cell, KeepsConstants, MapAlike}
 use Rattle.su_map.specs.inside.Targets.{IsFirstAt, CellFits, IsPlain, AreShared}
 use Rattle.su_tableau.proofs.Changing.{is_var}
 
@@ -121,12 +121,12 @@ alike_fits head head' row target c b k cell none first = (
 
 pub record Fits (head head' row target : List Sym) : Type 0 where
   pub constants : KeepsConstants row target
-  pub head_symbols : Agree head head' row target
-  pub itself : Agree row target row target
+  pub head_symbols : MapAlike head head' row target
+  pub itself : MapAlike row target row target
 
-pub cells_fit : (head head' row target : List Sym) → Agree head head' head head' → ((c : ℕ) → c < length row → CellFits head head' row target c) → Fits head head' row target
+pub cells_fit : (head head' row target : List Sym) → MapAlike head head' head head' → ((c : ℕ) → c < length row → CellFits head head' row target c) → Fits head head' row target
 cells_fit head head' row target agrees f =
-    let by_head : Agree head head' row target = λ c e k d at cell.
+    let by_head : MapAlike head head' row target = λ c e k d at cell.
     ⊎_elim
     (λ (i : (i : ℕ) × IsFirstAt head i k). agrees c i.0 k d at i.1.cell ∙ (f e cell.below).head_symbol i.0 k d i.1 cell)
     (λ (none : Contains head (Var k) → ⊥). absurd (none (cell_contains head c (Var k) at)))
@@ -152,10 +152,10 @@ fits_cells head head' row target f c = record {
   alike = λ b k d first cell none. f.itself b c k d first.cell cell;
 }
 
-pub no_head : (row target : List Sym) → Agree [] [] row target
+pub no_head : (row target : List Sym) → MapAlike [] [] row target
 no_head row target c e k d at cell = absurd (let l = at.below in omega arith)
 
-pub no_head_itself : Agree [] [] [] []
+pub no_head_itself : MapAlike [] [] [] []
 no_head_itself c e k d at cell = absurd (let l = at.below in omega arith)
 
 -- a clause on the members of a set, where one of its facts has another form
@@ -172,7 +172,7 @@ some_or_none None = inr refl
 some_or_none (Some a) = inl (a, refl)
 
 -- where a column of ys is told its variable's column in xs, and both lines fit, the targets that hold what is told are those that agree
-pub told_agree : (head head' xs us ys vs : List Sym) (columns : List (Option ℕ)) (n : ℕ) → length ys ≡ n → AreShared head xs ys columns → Fits head head' xs us → Fits head head' ys vs → (((e c : ℕ) (d : Sym) → e < n → get_or columns e None ≡ Some c → get_or us c d ≡ get_or vs e d) ↔ Agree xs us ys vs)
+pub told_agree : (head head' xs us ys vs : List Sym) (columns : List (Option ℕ)) (n : ℕ) → length ys ≡ n → AreShared head xs ys columns → Fits head head' xs us → Fits head head' ys vs → (((e c : ℕ) (d : Sym) → e < n → get_or columns e None ≡ Some c → get_or us c d ≡ get_or vs e d) ↔ MapAlike xs us ys vs)
 told_agree head head' xs us ys vs columns n len shared f g = (
   λ told c e k d at cell.
       let low : e < n = let b = cell.below in omega arith in

@@ -13,7 +13,7 @@ use Rattle.su_tableau.specs.Equivalent.{IsWithin}
 use Rattle.su_tableau.proofs.Containment.{maps_within}
 use Rattle.su_tableau.proofs.Freezing.{within_maps}
 use Rattle.su_tableau.proofs.Sets.{select-has, select-from, choose}
-use Rattle.su_map.specs.Lists.{rows_in, row_of, IsMapping}
+use Rattle.su_map.specs.Lists.{row_numbers, row_of, IsMapping}
 use Rattle.su_map.proofs.Members.{full_member}
 use Rattle.su_map.proofs.Ranks.{ranked_at, choice_by}
 use Rattle.su_map.proofs.Joining.{mapping_by}
@@ -40,7 +40,7 @@ Goes s t k f x y = (y < length t.rows) × (bit_at k y ≡ 1) × (images_of f (ro
 
 pub maps_list : (s t : Tab) (m k : ℕ) → Maps (part s m) (part t k) → (list : List ℕ) × IsMapping s m t k list
 maps_list s t m k f =
-    let ns = rows_in s m in
+    let ns = row_numbers s m in
     let R : ℕ → ℕ → Type 0 = Goes s t k f.symbols in
     let each : All (λ x. (y : ℕ) × R x y) ns = λ p d h.
     let x = ranked_at m (length s.rows) p h in

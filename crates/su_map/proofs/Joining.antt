@@ -8,9 +8,10 @@ use Rattle.su_tableau.specs.declared.symbols.Sym.TheVariants.{Const, Var}
 use Rattle.su_tableau.specs.Tableaux.{Tab}
 use Rattle.su_tableau.specs.Mapping.{image_of, images_of}
 use Rattle.su_tableau.proofs.Changing.{InRow, in_row, Stands, stands}
-use Rattle.su_map.specs.Lists.{rows_in, row_of, IsMapping}
-use Rattle.su_map.specs.Candidates.{Cell, KeepsConstants, Agree}
-use Rattle.su_map.specs.Nets.{Netted, IsTarget, IsNetFor}
+use Rattle.su_map.specs.Lists.{row_numbers, row_of, IsMapping}
+use Rattle.su_map.specs.Candidates.{Cell, KeepsConstants, MapAlike}
+use Rattle.su_map.specs.Netted.{Netted, IsTarget}
+use Rattle.su_map.specs.Nets.{IsNetFor}
 use Rattle.su_map.specs.inside.Choices.{IsChoiceInto}
 use Rattle.su_map.proofs.Cells.{cell_from, cell_contains}
 use Rattle.su_map.proofs.Ranks.{rank, choice_by, rank_in, rank_at, ranked_at}
@@ -34,21 +35,21 @@ mapping_by s t m k list f =
       targets = λ i h b. let r = rank_in m (length s.rows) i h b in f.targets (rank m i) (omega arith);
     }
 
-pub by_mapping : (s t : Tab) (m k : ℕ) (a : ℕ → ℕ) → MapsBy s m t k a → IsMapping s m t k (map a (rows_in s m))
+pub by_mapping : (s t : Tab) (m k : ℕ) (a : ℕ → ℕ) → MapsBy s m t k a → IsMapping s m t k (map a (row_numbers s m))
 by_mapping s t m k a f =
-    let len = length-map (rows_in s m) a in
+    let len = length-map (row_numbers s m) a in
     record {
       symbols = f.symbols;
       one_each = len;
       head = f.head;
       rows = λ p h.
-          let low : p < length (rows_in s m) = omega arith in
+          let low : p < length (row_numbers s m) = omega arith in
           let r = ranked_at m (length s.rows) p low in
-          ap (λ n. images_of f.symbols (row_of s n)) r.is ∙ f.rows r.number r.below r.member ∙ ap (λ n. row_of t (a n)) (sym r.is) ∙ ap (row_of t) (sym (get_or-map a (rows_in s m) p 0 0 low));
+          ap (λ n. images_of f.symbols (row_of s n)) r.is ∙ f.rows r.number r.below r.member ∙ ap (λ n. row_of t (a n)) (sym r.is) ∙ ap (row_of t) (sym (get_or-map a (row_numbers s m) p 0 0 low));
       targets = λ p h.
-          let low : p < length (rows_in s m) = omega arith in
+          let low : p < length (row_numbers s m) = omega arith in
           let r = ranked_at m (length s.rows) p low in
-          subst (λ j. (j < length t.rows) × (bit_at k j ≡ 1)) (ap a (sym r.is) ∙ sym (get_or-map a (rows_in s m) p 0 0 low)) (f.targets r.number r.below r.member);
+          subst (λ j. (j < length t.rows) × (bit_at k j ≡ 1)) (ap a (sym r.is) ∙ sym (get_or-map a (row_numbers s m) p 0 0 low)) (f.targets r.number r.below r.member);
     }
 
 -- ---- one list of symbols, line by line
@@ -59,7 +60,7 @@ images_keep f xs us e c v d cell = ap (λ r. get_or r c d) (sym e) ∙ get_or-ma
 pub image_at : (f : ℕ → Sym) (xs us : List Sym) (c k : ℕ) (d : Sym) → images_of f xs ≡ us → Cell xs c (Var k) → get_or us c d ≡ f k
 image_at f xs us c k d e cell = ap (λ r. get_or r c d) (sym e) ∙ get_or-map (image_of f) xs c (Var 0) d cell.below ∙ ap (image_of f) (cell.is (Var 0))
 
-pub images_agree : (f : ℕ → Sym) (xs us ys vs : List Sym) → images_of f xs ≡ us → images_of f ys ≡ vs → Agree xs us ys vs
+pub images_agree : (f : ℕ → Sym) (xs us ys vs : List Sym) → images_of f xs ≡ us → images_of f ys ≡ vs → MapAlike xs us ys vs
 images_agree f xs us ys vs e g c b k d at cell = image_at f xs us c k d e at ∙ sym (image_at f ys vs b k d g cell)
 
 pub images_are : (f : ℕ → Sym) (xs us : List Sym) → length xs ≡ length us → KeepsConstants xs us → ((c k : ℕ) → Cell xs c (Var k) → f k ≡ get_or us c (Var k)) → images_of f xs ≡ us
@@ -78,7 +79,7 @@ images_are f xs us len keeps vars =
 
 -- ---- what a mapping gives
 
-pub mapping_head : (s t : Tab) (m k : ℕ) (list : List ℕ) → IsMapping s m t k list → KeepsConstants s.head t.head × Agree s.head t.head s.head t.head
+pub mapping_head : (s t : Tab) (m k : ℕ) (list : List ℕ) → IsMapping s m t k list → KeepsConstants s.head t.head × MapAlike s.head t.head s.head t.head
 mapping_head s t m k list f = (images_keep f.symbols s.head t.head f.head, images_agree f.symbols s.head t.head s.head t.head f.head f.head)
 
 pub by_target : (s t : Tab) (m k : ℕ) (a : ℕ → ℕ) → MapsBy s m t k a → (i : ℕ) → i < length s.rows → bit_at m i ≡ 1 → IsTarget s t i (a i)
@@ -116,7 +117,7 @@ image_found s t m a k (inl h) o = get_or t.head h.column (Var k)
 image_found s t m a k (inr none) (inl o) = get_or (row_of t (a o.line)) o.column (Var k)
 image_found s t m a k (inr none) (inr out) = Var k
 
-head_found : (s t : Tab) (m : ℕ) (a : ℕ → ℕ) (k c : ℕ) → Agree s.head t.head s.head t.head → Cell s.head c (Var k) → (h : InRow s.head k ⊎ (InRow s.head k → ⊥)) (o : Stands (row_of s) (bit_at m) (length s.rows) k ⊎ (Stands (row_of s) (bit_at m) (length s.rows) k → ⊥)) → image_found s t m a k h o ≡ get_or t.head c (Var k)
+head_found : (s t : Tab) (m : ℕ) (a : ℕ → ℕ) (k c : ℕ) → MapAlike s.head t.head s.head t.head → Cell s.head c (Var k) → (h : InRow s.head k ⊎ (InRow s.head k → ⊥)) (o : Stands (row_of s) (bit_at m) (length s.rows) k ⊎ (Stands (row_of s) (bit_at m) (length s.rows) k → ⊥)) → image_found s t m a k h o ≡ get_or t.head c (Var k)
 head_found s t m a k c agrees cell (inl h) o = agrees h.column c k (Var k) (record { below = h.below; is = h.is }) cell
 head_found s t m a k c agrees cell (inr none) o = absurd (none (record { column = c; below = cell.below; is = cell.is }))
 
@@ -148,5 +149,5 @@ choice_maps s t m k net a for heads width ws wt f =
       targets = λ i h b. let r = based i h b in (r.0, (f.within i h b).1);
     }
 
-pub heads_are : (h h' g g' : List Sym) → h ≡ g → h' ≡ g' → KeepsConstants h h' × Agree h h' h h' → KeepsConstants g g' × Agree g g' g g'
-heads_are h h' g g' e f p = subst (λ g. KeepsConstants g g' × Agree g g' g g') e (subst (λ g'. KeepsConstants h g' × Agree h g' h g') f p)
+pub heads_are : (h h' g g' : List Sym) → h ≡ g → h' ≡ g' → KeepsConstants h h' × MapAlike h h' h h' → KeepsConstants g g' × MapAlike g g' g g'
+heads_are h h' g g' e f p = subst (λ g. KeepsConstants g g' × MapAlike g g' g g') e (subst (λ g'. KeepsConstants h g' × MapAlike h g' h g') f p)

@@ -3,7 +3,7 @@ use Rattle.std.proofs.Common.{◌≡◌, ◌≢◌, ℕ, ◌^◌, ◌<◌, ◌�
 use Rattle.std.specs.Int.{bit_at}
 use Rattle.std.proofs.lemmas.Bool.{cases_eq}
 use Rattle.std.proofs.lemmas.Nat.Bits.{bit_at-pow_same, bit_at-pow_other, bit_at-lt, bit_at-zero, same_from_bits}
-use Rattle.su_map.specs.Nets.{Netted, HasRoom, agree_of}
+use Rattle.su_map.specs.Netted.{Netted, HasRoom, agree_of}
 use Rattle.su_map.specs.inside.Choices.{IsChoice, Shrinks, IsAssigned}
 
 pub pow_member : (m k x : ℕ) → m ≡ 2 ^ k → (bit_at m x ≡ 1) ↔ (x ≡ k)

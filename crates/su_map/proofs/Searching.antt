@@ -4,7 +4,7 @@ use Rattle.std.specs.Int.{bit_at}
 use Rattle.std.proofs.lemmas.Bool.{cases_eq, cases_lt}
 use Rattle.std.proofs.lemmas.Nat.Bits.{bit_at-lt, bit_at-zero}
 use Rattle.su_tableau.proofs.Sets.{IsSub, sub_le}
-use Rattle.su_map.specs.Nets.{Netted, near_of, agree_of}
+use Rattle.su_map.specs.Netted.{Netted, near_of, agree_of}
 use Rattle.su_map.specs.Lists.{numbers_of}
 use Rattle.su_map.specs.inside.Choices.{IsChoice, AreSame, IsLess, choice_of, Stands, IsInOrder, AreKept, IsAssigned}
 use Rattle.su_map.proofs.Narrowing.{positive, positive_has}

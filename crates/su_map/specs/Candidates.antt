@@ -6,7 +6,7 @@ use Rattle.su_base.specs.declared.values.Value.{Value}
 use Rattle.su_tableau.specs.declared.symbols.Sym.{Sym}
 use Rattle.su_tableau.specs.declared.symbols.Sym.TheVariants.{Const, Var}
 use Rattle.su_tableau.specs.Tableaux.{Tab}
-use Rattle.su_map.specs.Lists.{rows_in, row_of}
+use Rattle.su_map.specs.Lists.{row_numbers, row_of}
 
 -- the cell of a row holds the symbol
 pub record Cell (row : List Sym) (column : ℕ) (x : Sym) : Type 0 where
@@ -18,15 +18,15 @@ abbrev pub KeepsConstants : List Sym → List Sym → Type 0
 KeepsConstants xs us = (c : ℕ) (v : Value) (d : Sym) → Cell xs c (Const v) → get_or us c d ≡ Const v
 
 -- where xs and ys have one variable, us and vs have one symbol
-abbrev pub Agree : List Sym → List Sym → List Sym → List Sym → Type 0
-Agree xs us ys vs = (c e k : ℕ) (d : Sym) → Cell xs c (Var k) → Cell ys e (Var k) → get_or us c d ≡ get_or vs e d
+abbrev pub MapAlike : List Sym → List Sym → List Sym → List Sym → Type 0
+MapAlike xs us ys vs = (c e k : ℕ) (d : Sym) → Cell xs c (Var k) → Cell ys e (Var k) → get_or us c d ≡ get_or vs e d
 
 -- row j of t, in the set, is a candidate for row i of s
 pub record IsCandidate (s t : Tab) (k i j : ℕ) : Type 0 where
   pub row_in : j < length t.rows
   pub in_set : bit_at k j ≡ 1
   pub constants : KeepsConstants (row_of s i) (row_of t j)
-  pub head_symbols : Agree s.head t.head (row_of s i) (row_of t j)
+  pub head_symbols : MapAlike s.head t.head (row_of s i) (row_of t j)
 
 -- how many numbers below n pass
 abbrev pub count_below : (ℕ → Bool) → ℕ → ℕ
@@ -40,7 +40,7 @@ sum_of_products (c ∷ cs) = c * suc (sum_of_products cs)
 
 -- the number of candidates of each row in m, by a test that tells them
 abbrev pub candidate_counts : Tab → ℕ → Tab → (ℕ → ℕ → Bool) → List ℕ
-candidate_counts s m t passes = map (λ i. count_below (passes i) (length t.rows)) (rows_in s m)
+candidate_counts s m t passes = map (λ i. count_below (passes i) (length t.rows)) (row_numbers s m)
 
 -- at most the sum of the products of the numbers of candidates was added, whichever test tells the candidates
 abbrev pub IsWithinProducts : Tab → ℕ → Tab → ℕ → ℕ → ℕ → Type 0

@@ -3,3 +3,4 @@ pub mod inside
 pub mod Lists
 pub mod Nets
 pub mod Rooms
+pub mod Netted

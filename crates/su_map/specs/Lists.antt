@@ -13,8 +13,8 @@ numbers_of m zero = []
 numbers_of m (suc n) = numbers_of m n ++ keep_if (bit_at m n) n []
 
 -- the rows of the tableau in the set
-abbrev pub rows_in : Tab → ℕ → List ℕ
-rows_in t m = numbers_of m (length t.rows)
+abbrev pub row_numbers : Tab → ℕ → List ℕ
+row_numbers t m = numbers_of m (length t.rows)
 
 -- row i of a tableau
 abbrev pub row_of : Tab → ℕ → List Sym
@@ -23,9 +23,9 @@ row_of t i = get_or t.rows i []
 -- the list names for each row of s in m a row of t in k, such that one list of symbols sends the head to the head and each row to the row named
 pub record IsMapping (s : Tab) (m : ℕ) (t : Tab) (k : ℕ) (list : List ℕ) : Type 0 where
   pub symbols : ℕ → Sym
-  pub one_each : length list ≡ length (rows_in s m)
+  pub one_each : length list ≡ length (row_numbers s m)
   pub head : images_of symbols s.head ≡ t.head
-  pub rows : (i : ℕ) → i < length list → images_of symbols (row_of s (get_or (rows_in s m) i 0)) ≡ row_of t (get_or list i 0)
+  pub rows : (i : ℕ) → i < length list → images_of symbols (row_of s (get_or (row_numbers s m) i 0)) ≡ row_of t (get_or list i 0)
   pub targets : (i : ℕ) → i < length list → (get_or list i 0 < length t.rows) × (bit_at k (get_or list i 0) ≡ 1)
 
 -- a is less at the first place where they differ

@@ -1,41 +1,12 @@
 -- What a search reads: the targets of each row by itself, and which targets of two rows agree.
-use Rattle.std.specs.Prelude.{◌≡◌, ◌≢◌, ℕ, ◌+◌, ◌*◌, ◌<◌, ◌≤◌, ◌↔◌, List, get_or, length, Contains}
+-- net: for each row and symbol the targets that it leaves, made once for a target tableau
+use Rattle.std.specs.Prelude.{◌≡◌, ◌≢◌, ℕ, ◌<◌, ◌↔◌, List, get_or, length, Contains}
 use Rattle.std.specs.Int.{bit_at}
 use Rattle.su_tableau.specs.declared.symbols.Sym.TheVariants.{Var}
 use Rattle.su_tableau.specs.Tableaux.{Tab}
 use Rattle.su_map.specs.Lists.{row_of}
-use Rattle.su_map.specs.Candidates.{KeepsConstants, Agree}
-
--- for each row a set of targets, a set of rows with which it shares a variable, and for each of these and each target the targets of that row which agree
-pub record Netted : Type 0 where
-  pub base : List ℕ
-  pub near : List ℕ
-  pub agree : List ℕ
-  pub targets : ℕ
-
--- the targets that row r may have by itself
-abbrev pub base_of : Netted → ℕ → ℕ
-base_of net r = get_or net.base r 0
-
--- the rows that share a variable with row r, and maybe others
-abbrev pub near_of : Netted → ℕ → ℕ
-near_of net r = get_or net.near r 0
-
--- the targets of row q that agree with target p of row r
-abbrev pub agree_of : Netted → ℕ → ℕ → ℕ → ℕ
-agree_of net r q p = get_or net.agree (r * 4096 + q * 64 + p) 0
-
--- it has the room for n rows
-pub record HasRoom (n : ℕ) (net : Netted) : Type 0 where
-  pub base : n ≤ length net.base
-  pub near : n ≤ length net.near
-  pub agree : n * 4096 ≤ length net.agree
-
--- row i of s goes to row j of t by itself
-pub record IsTarget (s t : Tab) (i j : ℕ) : Type 0 where
-  pub constants : KeepsConstants (row_of s i) (row_of t j)
-  pub head_symbols : Agree s.head t.head (row_of s i) (row_of t j)
-  pub itself : Agree (row_of s i) (row_of t j) (row_of s i) (row_of t j)
+use Rattle.su_map.specs.Candidates.{KeepsConstants, MapAlike}
+use Rattle.su_map.specs.Netted.{Netted, base_of, near_of, agree_of, HasRoom, IsTarget}
 
 -- rows i and q of s share a variable that is not in the head
 pub record Share (s : Tab) (i q : ℕ) : Type 0 where
@@ -55,14 +26,14 @@ HasNear s m near = (i q : ℕ) → i < length s.rows → q < length s.rows → b
 
 -- the targets in the set are those among the targets of row q that agree with target p of row i
 abbrev pub AgreesAt : Tab → Tab → ℕ → ℕ → ℕ → ℕ → ℕ → Type 0
-AgreesAt s t i q p targets set = (j : ℕ) → bit_at targets j ≡ 1 → (bit_at set j ≡ 1) ↔ Agree (row_of s i) (row_of t p) (row_of s q) (row_of t j)
+AgreesAt s t i q p targets set = (j : ℕ) → bit_at targets j ≡ 1 → (bit_at set j ≡ 1) ↔ MapAlike (row_of s i) (row_of t p) (row_of s q) (row_of t j)
 
 -- the net tells of the rows of s in m and the rows of t in k
 pub record IsNet (s : Tab) (m : ℕ) (t : Tab) (k : ℕ) (net : Netted) : Type 0 where
   pub room : HasRoom (length s.rows) net
   pub targets : net.targets ≡ length t.rows
   pub head_constants : KeepsConstants s.head t.head
-  pub head_agrees : Agree s.head t.head s.head t.head
+  pub head_agrees : MapAlike s.head t.head s.head t.head
   pub base : HasBase s m t k net.base
   pub near : HasNear s m net.near
   pub agree : (i q p : ℕ) → i < length s.rows → q < length s.rows → bit_at m i ≡ 1 → bit_at m q ≡ 1 → i ≢ q → bit_at (near_of net i) q ≡ 1 → bit_at (base_of net i) p ≡ 1 → AgreesAt s t i q p (base_of net q) (agree_of net i q p)

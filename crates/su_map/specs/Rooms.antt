@@ -1,8 +1,9 @@
 -- The room of a search, as callers see it.
+-- room: memory that a search needs, made once; net: what of it is prepared for a target tableau
 use Rattle.std.specs.Prelude.{◌≡◌, ℕ, ◌*◌, ◌≤◌, List, length}
 use Rattle.su_tableau.specs.Tableaux.{Tab, AreVarsBelow}
 use Rattle.su_map.specs.declared.notes.Notes.{Notes}
-use Rattle.su_map.specs.Nets.{Netted, HasRoom}
+use Rattle.su_map.specs.Netted.{Netted, HasRoom}
 
 -- for how many rows and symbols there is room, the row list that was found, and the net that was prepared
 pub record Space : Type 0 where

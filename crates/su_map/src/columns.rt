@@ -4,7 +4,7 @@ ghost use Rattle.std.specs.Int.{bit_at};
 ghost use Rattle.su_tableau.specs.declared.symbols.Sym.{Sym as ASym};
 ghost use Rattle.su_tableau.specs.declared.symbols.Sym.TheVariants.{Var};
 ghost use Rattle.su_map.specs.Lists.{row_of};
-ghost use Rattle.su_map.specs.Candidates.{Cell, KeepsConstants, Agree};
+ghost use Rattle.su_map.specs.Candidates.{Cell, KeepsConstants, MapAlike};
 ghost use Rattle.su_map.specs.inside.Targets.{IsFirstAt, HoldsAt, AlikeAt, CellFits};
 
 use crate::bits::{both, with};
@@ -75,7 +75,7 @@ fn cell_fits(line: &[Sym], target: &[Sym], column: usize) -> bool
 /// Whether the line goes to the target line by itself.
 pub fn line_fits(line: &[Sym], target: &[Sym]) -> bool
     requires { length line.now ≡ length target.now }
-    ensures { IsTrue result ↔ (KeepsConstants line.now target.now × Agree line.now target.now line.now target.now) }
+    ensures { IsTrue result ↔ (KeepsConstants line.now target.now × MapAlike line.now target.now line.now target.now) }
 {
     for column in 0..line.len() {
         if !cell_fits(line, target, column) {

@@ -3,8 +3,9 @@ ghost use Rattle.std.specs.Prelude.{◌≡◌, ◌≢◌, ◌<◌, ◌≤◌, �
 ghost use Rattle.std.specs.Int.{bit_at};
 ghost use Rattle.su_tableau.specs.Tableaux.{AreVarsBelow};
 ghost use Rattle.su_map.specs.Lists.{IsMapping};
-ghost use Rattle.su_map.specs.Candidates.{KeepsConstants, Agree};
-ghost use Rattle.su_map.specs.Nets.{Netted, HasRoom, HasBase, HasNear, IsNet, base_of, near_of, agree_of};
+ghost use Rattle.su_map.specs.Candidates.{KeepsConstants, MapAlike};
+ghost use Rattle.su_map.specs.Netted.{Netted, HasRoom, base_of, near_of, agree_of};
+ghost use Rattle.su_map.specs.Nets.{HasBase, HasNear, IsNet};
 ghost use Rattle.su_map.specs.Rooms.{AreRoomy};
 ghost use Rattle.su_map.specs.inside.Sendings.{AreRows, IsSending};
 ghost use Rattle.su_map.specs.inside.Targets.{AreNoted, AreSides, IsTold};
@@ -32,7 +33,7 @@ pub struct Net {
 
 impl Model for Net {
     ghost use Rattle.std.specs.Prelude.{◌≤◌};
-    ghost use Rattle.su_map.specs.Nets.{Netted};
+    ghost use Rattle.su_map.specs.Netted.{Netted};
 
     ghost Value = { Netted };
 
@@ -186,7 +187,7 @@ fn fill_own(
     requires symbols { AreVarsBelow (length rows_of.old) from.now }
     requires width { from.now.width ≡ to.now.width }
     requires heads { length from.now.head ≡ length to.now.head }
-    ensures heads { IsTrue result → KeepsConstants from.now.head to.now.head × Agree from.now.head to.now.head from.now.head to.now.head }
+    ensures heads { IsTrue result → KeepsConstants from.now.head to.now.head × MapAlike from.now.head to.now.head from.now.head to.now.head }
     ensures base { IsTrue result → HasBase from.now from_mask to.now to_mask base.new }
     ensures near { IsTrue result → HasNear from.now from_mask near.new }
     ensures noted { IsTrue result → AreNoted from.now from_mask rows_of.new }

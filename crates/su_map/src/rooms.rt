@@ -7,7 +7,8 @@ ghost use Rattle.su_tableau.specs.Equivalent.{IsWithin};
 ghost use Rattle.su_map.specs.declared.search.Order.TheVariants.{Ascending};
 ghost use Rattle.su_map.specs.Lists.{IsMapping, IsFirst, numbers_of};
 ghost use Rattle.su_map.specs.Candidates.{IsWithinProducts};
-ghost use Rattle.su_map.specs.Nets.{HasRoom, IsNet, IsNetFor, base_of};
+ghost use Rattle.su_map.specs.Netted.{HasRoom, base_of};
+ghost use Rattle.su_map.specs.Nets.{IsNet, IsNetFor};
 ghost use Rattle.su_map.specs.inside.Choices.{IsChoiceInto, AreSame, IsLess, choice_of, tries, ArePassed, IsFound, IsFirstOf};
 ghost use Rattle.su_map.specs.Rooms.{IsRoomFor, HasSizesOf};
 
@@ -40,7 +41,7 @@ pub struct Room {
 
 impl Model for Room {
     ghost use Rattle.std.specs.Prelude.{◌≡◌, ◌≤◌, ◌*◌, length, take};
-    ghost use Rattle.su_map.specs.Nets.{HasRoom};
+    ghost use Rattle.su_map.specs.Netted.{HasRoom};
     ghost use Rattle.su_map.specs.Rooms.{Space, IsSound};
 
     ghost Value = { Space };

@@ -3,7 +3,7 @@ ghost use Rattle.std.specs.Prelude.{◌≡◌, ◌≤◌, ◌<◌, ◌+◌, ◌*
 ghost use Rattle.std.specs.Int.{bit_at};
 ghost use Rattle.su_map.specs.declared.search.Order.TheVariants.{Ascending};
 ghost use Rattle.su_map.specs.Lists.{numbers_of};
-ghost use Rattle.su_map.specs.Nets.{HasRoom};
+ghost use Rattle.su_map.specs.Netted.{HasRoom};
 ghost use Rattle.su_map.specs.inside.Choices.{IsChoice, AreSame, IsLess, choice_of, Stands, IsInOrder, AreKept, tries, ArePassed};
 
 use crate::aims::Aim;

@@ -2,8 +2,9 @@
 ghost use Rattle.std.specs.Prelude.{◌≡◌, ◌≤◌, ◌<◌, ◌↔◌, ℕ, IsTrue, IsFalse, length, get_or};
 ghost use Rattle.std.specs.Int.{bit_at};
 ghost use Rattle.su_map.specs.Lists.{row_of};
-ghost use Rattle.su_map.specs.Candidates.{Agree};
-ghost use Rattle.su_map.specs.Nets.{HasBase, IsTarget};
+ghost use Rattle.su_map.specs.Candidates.{MapAlike};
+ghost use Rattle.su_map.specs.Nets.{HasBase};
+ghost use Rattle.su_map.specs.Netted.{IsTarget};
 ghost use Rattle.su_map.specs.inside.Targets.{CellFits, IsPlain};
 
 use crate::bits::both;
@@ -41,7 +42,7 @@ fn targets_of(from: &Tableau, row: usize, repeats: bool, to: &Tableau, set: u64)
     requires plain { IsFalse repeats → IsPlain (row_of from.now row) }
     requires width { from.now.width ≡ to.now.width }
     requires heads { length from.now.head ≡ length to.now.head }
-    requires head_agrees { Agree from.now.head to.now.head from.now.head to.now.head }
+    requires head_agrees { MapAlike from.now.head to.now.head from.now.head to.now.head }
     ensures { (j : ℕ) → (bit_at result j ≡ 1) ↔ ((j < length to.now.rows) × (bit_at set j ≡ 1) × IsTarget from.now to.now row j) }
 {
     let cells = from.row(row);
@@ -66,7 +67,7 @@ pub fn fill_base(
     requires plain { (i : ℕ) → i < length from.now.rows → bit_at from_mask i ≡ 1 → (bit_at repeating i ≡ 1 → ⊥) → IsPlain (row_of from.now i) }
     requires width { from.now.width ≡ to.now.width }
     requires heads { length from.now.head ≡ length to.now.head }
-    requires head_agrees { Agree from.now.head to.now.head from.now.head to.now.head }
+    requires head_agrees { MapAlike from.now.head to.now.head from.now.head to.now.head }
     ensures base { IsTrue result → HasBase from.now from_mask to.now to_mask base.new }
     ensures none { IsFalse result → (i : ℕ) × (i < length from.now.rows) × (bit_at from_mask i ≡ 1) × ((j : ℕ) → j < length to.now.rows → bit_at to_mask j ≡ 1 → IsTarget from.now to.now i j → ⊥) }
 {

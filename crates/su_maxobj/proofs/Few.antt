@@ -6,7 +6,8 @@ use Rattle.std.specs.FinSet.{FinSet}
 use Rattle.std.proofs.lemmas.List.{length-map, length-append}
 use Rattle.std.proofs.lemmas.List.FromFn.{length-range_with_len}
 use Rattle.std.proofs.lemmas.List.Sums.{length-filter, count_by-le-length}
-use Rattle.su_schema.specs.SchemaValue.{SchemaValue, IsValid}
+use Rattle.su_schema.specs.SchemaValue.{SchemaValue}
+use Rattle.su_schema.specs.Valid.{IsValid}
 use Rattle.su_maxobj.specs.MaximalObjects.{grown_at, is_listed, computed, AreMaximalObjects}
 
 few_computed : (declared grown : List (FinSet nat_cmp)) → length (computed declared grown) ≤ length grown

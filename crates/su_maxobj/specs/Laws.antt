@@ -1,9 +1,11 @@
 -- Laws of growths and maximal objects, for any dependencies and any objects.
+-- growth, maximal object: as in Growth and MaximalObjects
 use Rattle.std.specs.Prelude.{◌≡◌, ◌≤◌, ℕ, List, length}
 use Rattle.std.specs.Ordering.{nat_cmp}
 use Rattle.std.specs.FinSet.{FinSet}
 use Rattle.su_fd.specs.declared.Fd.{Fd}
-use Rattle.su_schema.specs.SchemaValue.{SchemaValue, IsValid}
+use Rattle.su_schema.specs.SchemaValue.{SchemaValue}
+use Rattle.su_schema.specs.Valid.{IsValid}
 use Rattle.su_maxobj.specs.Growth.{IsFull, IsGrowth}
 use Rattle.su_maxobj.specs.MaximalObjects.{AreMaximalObjects}
 

@@ -8,7 +8,8 @@ use Rattle.su_tableau.specs.Parts.{part}
 use Rattle.su_tableau.specs.Mapping.{Maps}
 use Rattle.su_tableau.proofs.Containment.{maps_compose}
 use Rattle.su_map.specs.Lists.{IsMapping, IsFirst}
-use Rattle.su_map.specs.Nets.{Netted, IsNet, IsNetFor}
+use Rattle.su_map.specs.Netted.{Netted}
+use Rattle.su_map.specs.Nets.{IsNet, IsNetFor}
 use Rattle.su_map.proofs.Members.{full_member}
 use Rattle.su_map.proofs.Containing.{list_maps, maps_list}
 use Rattle.su_min.specs.Kept.{all_rows, IsKept, IsFold}

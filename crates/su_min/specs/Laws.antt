@@ -1,4 +1,5 @@
 -- Laws of least tableaux and of unions.
+-- kept, cover, class: as in Kept, Reduction and Needed
 use Rattle.std.specs.Prelude.{◌<◌, ◌⊎◌, ℕ, List, length, All, Contains}
 use Rattle.su_tableau.specs.Tableaux.{Tab, IsValid}
 use Rattle.su_tableau.specs.Kinds.{Kinds, IsTyped}

@@ -3,7 +3,8 @@
 -- a list has the answers of a class: over every universal relation each answer of some term of the class is one of some tableau of the list, and each of these is one of those
 use Rattle.std.specs.Prelude.{◌≡◌, ◌<◌, ◌≤◌, ◌↔◌, ℕ, List, length, Contains}
 use Rattle.su_base.specs.declared.values.Value.{Value}
-use Rattle.su_tableau.specs.Tableaux.{Tab, Ext}
+use Rattle.su_tableau.specs.Tableaux.{Tab}
+use Rattle.su_tableau.specs.Valuations.{Ext}
 use Rattle.su_tableau.specs.Kinds.{Kinds, IsUniverse}
 use Rattle.su_tableau.specs.Equivalent.{IsEquivalent}
 use Rattle.su_min.specs.Kept.{Minimised}

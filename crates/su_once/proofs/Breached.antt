@@ -9,8 +9,8 @@ use Rattle.su_base.specs.Value.{kind_of}
 use Rattle.su_schema.specs.SchemaValue.{SchemaValue}
 use Rattle.su_state.specs.declared.faults.StateFault.{StateFault}
 use Rattle.su_state.specs.declared.faults.StateFault.TheVariants.{UnknownRelation, Width, Kind as OtherKind, Breaks, Limit, NoMemory}
-use Rattle.su_state.specs.DatabaseValue.{IsTyped}
-use Rattle.su_state.specs.Changes.{IsFirstOtherKind, IsUnfit, IsBreach, IsFirstBreach}
+use Rattle.su_state.specs.DatabaseValue.{HasColumnKinds}
+use Rattle.su_state.specs.Breaches.{IsFirstOtherKind, IsUnfit, IsBreach, IsFirstBreach}
 use Rattle.su_state.proofs.Filled.{typed_width}
 use Rattle.su_once.proofs.Rows.{one_least}
 
@@ -53,7 +53,7 @@ module _ (schema : SchemaValue) (r : ℕ) (row : List Value) where
 
 -- ---- rows that don't fit
 
-kind_at : (columns : List Column) (row : List Value) (k : ℕ) (column : Column) (value : Value) → IsTyped columns row → slice_get columns k ≡ Some column → slice_get row k ≡ Some value → kind_of value ≡ column.kind
+kind_at : (columns : List Column) (row : List Value) (k : ℕ) (column : Column) (value : Value) → HasColumnKinds columns row → slice_get columns k ≡ Some column → slice_get row k ≡ Some value → kind_of value ≡ column.kind
 kind_at columns row k column value typed at there =
     let one : slice_get (map kind_of row) k ≡ Some (kind_of value) = slice_get-map kind_of row k ∙ ap (option_map kind_of) there in
     let other : slice_get (map (λ (c : Column). c.kind) columns) k ≡ Some column.kind = slice_get-map (λ (c : Column). c.kind) columns k ∙ ap (option_map (λ (c : Column). c.kind)) at in
@@ -61,7 +61,7 @@ kind_at columns row k column value typed at there =
     let both : Some (kind_of value) ≡ Some column.kind = sym one ∙ same ∙ other in
     cc
 
-pub not_unfit : (r : ℕ) (columns : List Column) (row : List Value) (fault : StateFault) → IsTyped columns row → IsUnfit r columns row fault → ⊥
+pub not_unfit : (r : ℕ) (columns : List Column) (row : List Value) (fault : StateFault) → HasColumnKinds columns row → IsUnfit r columns row fault → ⊥
 not_unfit r columns row (Width s given) typed h = h.0 (typed_width columns row typed)
 not_unfit r columns row (OtherKind s column) typed h =
     let (c, v, at, there, differ) = h.1.other in

@@ -9,8 +9,10 @@ use Rattle.su_where.specs.Truth.{truth_of}
 use Rattle.su_rel.specs.Stored.{Stored}
 use Rattle.su_state.specs.declared.faults.StateFault.{StateFault}
 use Rattle.su_state.specs.declared.faults.StateFault.TheVariants.{UnknownRelation, Width, Kind as OtherKind, Breaks, Limit, NoMemory}
-use Rattle.su_state.specs.DatabaseValue.{DatabaseValue, IsTyped, columns_of, rows_of, rows_in}
-use Rattle.su_state.specs.Changes.{ChangesOnly, IsUnfit, IsFirstBreach, NoBreach, Added, Removed, InsertAnswers, Inserts, DeleteAnswers, Deletes}
+use Rattle.su_state.specs.DatabaseValue.{DatabaseValue, HasColumnKinds, columns_of, rows_of, rows_in}
+use Rattle.su_state.specs.Changes.{ChangesOnly, Added, Removed}
+use Rattle.su_state.specs.Breaches.{IsUnfit, IsFirstBreach, NoBreach}
+use Rattle.su_state.specs.RowChanges.{InsertAnswers, Inserts, DeleteAnswers, Deletes}
 use Rattle.su_once.specs.States.{AreAlike, OneOrder, OneInsert, OneDelete, OneDeleteWhere}
 use Rattle.su_once.proofs.Rows.{one_sorted_list}
 use Rattle.su_once.proofs.Counted.{one_count}
@@ -22,7 +24,7 @@ module _ (db : DatabaseValue) (r : ℕ) (row : List Value) where
   abbrev Answers : Result Bool StateFault → Type 0
   Answers y = InsertAnswers db r row y
 
-  module _ (typed : IsTyped (columns_of db r) row) where
+  module _ (typed : HasColumnKinds (columns_of db r) row) where
     when_there : Contains (rows_of db r) row → (y : Result Bool StateFault) → y ≢ Err NoMemory → Answers y → Ok false ≡ y
     when_there there (Ok false) n h = refl
     when_there there (Ok true) n h = absurd (h.1 there)
@@ -101,7 +103,7 @@ module _ (db : DatabaseValue) (r : ℕ) (row : List Value) where
   unfit_of NoMemory h = absurd h
   unfit_of (UnknownRelation name) h = absurd h
 
-  typed_of : (b : Bool) → DeleteAnswers db r row (Ok b) → IsTyped (columns_of db r) row
+  typed_of : (b : Bool) → DeleteAnswers db r row (Ok b) → HasColumnKinds (columns_of db r) row
   typed_of true h = h.0
   typed_of false h = h.0
 

@@ -10,12 +10,15 @@ use Rattle.su_map.specs.Lists.{IsFirst}
 use Rattle.su_map.proofs.Containing.{list_maps, whole_maps}
 use Rattle.su_chase.specs.Chased.{IsChased}
 use Rattle.su_chase.specs.declared.freezing.Frozen.{Frozen}
-use Rattle.su_schema.specs.SchemaValue.{SchemaValue, attribute_kinds}
+use Rattle.su_schema.specs.SchemaValue.{SchemaValue}
+use Rattle.su_schema.specs.Entries.{attribute_kinds}
 use Rattle.su_steps.specs.declared.results.Term.{Term}
 use Rattle.su_compare.specs.declared.verdicts.Found.{Found}
 use Rattle.su_compare.specs.declared.verdicts.Reason.{Reason}
 use Rattle.su_compare.specs.declared.verdicts.Verdict.TheVariants.{Within, Apart}
-use Rattle.su_compare.specs.Verdict.{tab_at, IsFirstMapping, IsFound, Clashes, IsBy, IsUnsettled, IsReason, AreReasons, IsShown, IsApart}
+use Rattle.su_compare.specs.Settled.{tab_at, IsFirstMapping, IsFound, Clashes, IsBy, IsUnsettled}
+use Rattle.su_compare.specs.Verdict.{IsReason, AreReasons}
+use Rattle.su_compare.specs.Parting.{IsShown, IsApart}
 use Rattle.su_compare.proofs.Lists.{same_lists}
 use Rattle.su_compare.proofs.Settled.{tab_here}
 use Rattle.su_once.specs.Verdicts.{OneVerdict}

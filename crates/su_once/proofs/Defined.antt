@@ -13,8 +13,10 @@ use Rattle.su_schema.specs.SchemaValue.{SchemaValue, ObjectEntry}
 use Rattle.su_schema.specs.Defining.{applied}
 use Rattle.su_state.specs.declared.faults.DefineFault.{DefineFault}
 use Rattle.su_state.specs.declared.faults.DefineFault.TheVariants.{Schema, Breaks, NoMemory}
-use Rattle.su_state.specs.DatabaseValue.{DatabaseValue, rows_in, rows_of, Break}
-use Rattle.su_state.specs.Definitions.{tables_with, IsLeastBreak, BreaksThrough, HoldsThrough, FdBreaks, ObjectBreaks, NewBreaks, Defines}
+use Rattle.su_state.specs.DatabaseValue.{DatabaseValue, rows_in, rows_of}
+use Rattle.su_state.specs.Enforced.{Break}
+use Rattle.su_state.specs.Definitions.{tables_with, Defines}
+use Rattle.su_state.specs.Breaks.{IsLeastBreak, BreaksThrough, HoldsThrough, FdBreaks, ObjectBreaks, NewBreaks}
 use Rattle.su_state.proofs.Added.{rows_more}
 use Rattle.su_once.specs.States.{AreAlike, OneDefinition}
 use Rattle.su_once.proofs.Rows.{one_least}

@@ -3,7 +3,7 @@ use Rattle.std.proofs.Common.{◌≡◌, ℕ, List, [], ◌∷◌, ◌++◌, sli
 use Rattle.su_schema.specs.SchemaValue.{SchemaValue}
 use Rattle.su_query.specs.declared.resolving.Resolved.{Resolved}
 use Rattle.su_steps.specs.declared.results.Term.{Term}
-use Rattle.su_map.specs.Lists.{rows_in}
+use Rattle.su_map.specs.Lists.{row_numbers}
 use Rattle.su_min.specs.declared.reduced.Reduced.{Reduced}
 use Rattle.su_min.specs.Kept.{Minimised}
 use Rattle.su_show.specs.Lines.{AreLines}
@@ -30,7 +30,7 @@ one_sources_line schema m r line other h k =
     h.is ∙ ap (sources_line schema r) same ∙ sym k.is
 
 one_end : (schema : SchemaValue) (reduced : Reduced) (i : ℕ) (m : Minimised) (end other : List ℕ) → IsEnd schema reduced i m end → IsEnd schema reduced i m other → end ≡ other
-one_end schema reduced i m end other (inl (kept, h)) (inl (also, k)) = one_text (IsSourcesLine schema m) (one_sources_line schema m) (rows_in m.tableau m.mask) end other h k
+one_end schema reduced i m end other (inl (kept, h)) (inl (also, k)) = one_text (IsSourcesLine schema m) (one_sources_line schema m) (row_numbers m.tableau m.mask) end other h k
 one_end schema reduced i m end other (inl (kept, h)) (inr (dropped, k)) = absurd (dropped kept)
 one_end schema reduced i m end other (inr (dropped, h)) (inl (kept, k)) = absurd (dropped kept)
 one_end schema reduced i m end other (inr (dropped, h)) (inr (also, k)) = h ∙ sym k

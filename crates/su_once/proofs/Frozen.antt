@@ -6,7 +6,8 @@ use Rattle.su_base.specs.declared.values.Kind.{Kind}
 use Rattle.su_base.specs.declared.values.Value.{Value}
 use Rattle.su_tableau.specs.declared.symbols.Sym.{Sym}
 use Rattle.su_tableau.specs.declared.symbols.Sym.TheVariants.{Const, Var}
-use Rattle.su_tableau.specs.Tableaux.{Tab, Occurs, value_of, values_of}
+use Rattle.su_tableau.specs.Tableaux.{Tab, Occurs}
+use Rattle.su_tableau.specs.Valuations.{value_of, values_of}
 use Rattle.su_tableau.specs.Kinds.{sym_kind}
 use Rattle.su_classes.proofs.Listed.{map_same}
 use Rattle.su_chase.specs.Frozen.{candidate, IsTaken, IsFirstFree, IsFrozen}

@@ -5,7 +5,7 @@ use Rattle.su_state.specs.declared.faults.StateFault.{StateFault}
 use Rattle.su_state.specs.declared.faults.StateFault.TheVariants.{NoMemory}
 use Rattle.su_state.specs.declared.faults.LoadEnd.TheVariants as load
 use Rattle.su_state.specs.DatabaseValue.{DatabaseValue}
-use Rattle.su_state.specs.Changes.{Inserts}
+use Rattle.su_state.specs.RowChanges.{Inserts}
 use Rattle.su_state.specs.Loads.{added_by, InsertsAll}
 use Rattle.su_once.specs.States.{AreAlike, OneLoad}
 use Rattle.su_once.proofs.Answered.{back}

@@ -13,8 +13,12 @@ use Rattle.su_schema.specs.SchemaValue.{SchemaValue}
 use Rattle.su_query.specs.declared.resolving.Resolved.{Resolved}
 use Rattle.su_steps.specs.declared.results.Origin.{Origin}
 use Rattle.su_steps.specs.declared.results.Term.{Term}
-use Rattle.su_steps.specs.Classes.{Compared, InClass, IsNaming}
-use Rattle.su_steps.specs.Terms.{tableau_of, EvaluatesFalse, HaveNone, HaveTableau, Case, cases, Gives, AreTermsOf}
+use Rattle.su_steps.specs.PairSymbols.{SymbolComparison}
+use Rattle.su_steps.specs.Classes.{InClass, IsNaming}
+use Rattle.su_steps.specs.CaseTableaux.{tableau_of}
+use Rattle.su_steps.specs.Evaluated.{EvaluatesFalse}
+use Rattle.su_steps.specs.Cases.{HaveNone, HaveTableau, Case, Gives}
+use Rattle.su_steps.specs.Terms.{cases, AreTermsOf}
 use Rattle.su_once.specs.Terms.{OneNaming, OneListOfTerms}
 
 both_ways : (a b : Value) (e : Bool) → Decides e (a ≡ b) → ((a ≢ b) → ⊥) → a ≡ b
@@ -24,7 +28,7 @@ both_ways a b false d not_not = absurd (not_not (λ same. let no : false ≡ tru
 same_value : (a b : Value) → ((a ≢ b) → ⊥) → a ≡ b
 same_value a b not_not = both_ways a b (ghosts.eq a b) (value_eq-Decides a b) not_not
 
-module _ (schema : SchemaValue) (os : List Origin) (d : List Compared) where
+module _ (schema : SchemaValue) (os : List Origin) (d : List SymbolComparison) where
   abbrev OneConstant : Type 0
   OneConstant = ¬ ((a : Value) × (b : Value) × (a ≢ b) × InClass schema os d (Const a) (Const b))
 

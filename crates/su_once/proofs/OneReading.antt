@@ -12,8 +12,9 @@ use Rattle.su_query.specs.declared.faults.QueryLimit.TheVariants.{Nesting, Varia
 use Rattle.su_query.specs.declared.statements.Query.{Query}
 use Rattle.su_query.specs.declared.statements.Statement.{Statement}
 use Rattle.su_query.specs.Forms.{IsForm}
-use Rattle.su_query.specs.Nesting.{IsDeep}
-use Rattle.su_query.specs.Reading.{IsStatement, IsFormless, NestsTooDeep, IsRefusal, Passes, PartsPass, AreFew, HasFew, parts_of}
+use Rattle.su_lex.specs.Nesting.{IsDeep}
+use Rattle.su_query.specs.Reading.{IsStatement, IsFormless, NestsTooDeep, IsTextRefusal}
+use Rattle.su_query.specs.Limits.{Passes, PartsPass, AreFew, HasFew, parts_of}
 use Rattle.su_query.proofs.Uniqueness.{statement_unique}
 use Rattle.su_once.specs.Readings.{OneOutcome, OneStatement, OneRefusal, RefusedOrRead, OneQueryRefusal, QueryIsRefusedOrKnown, OneColumnRefusal, ConditionIsRefusedOrKnown}
 use Rattle.su_once.proofs.Options.{same_some, none_or_some}
@@ -84,7 +85,7 @@ pub data Cause (text : List ℕ) (why : QueryFault) : Type 0 where
   deep : NestsTooDeep text → why ≡ Limit Nesting → Cause text why
   passes : (st : Statement) (limit : QueryLimit) → IsStatement text st → PartsPass (parts_of st) (Limit limit) → why ≡ Limit limit → Cause text why
 
-cause_of : (text : List ℕ) (why : QueryFault) → why ≢ NoMemory → IsRefusal text why → Cause text why
+cause_of : (text : List ℕ) (why : QueryFault) → why ≢ NoMemory → IsTextRefusal text why → Cause text why
 cause_of text Syntax m h = formless h refl
 cause_of text (Limit Nesting) m h = deep h refl
 cause_of text (Limit Variables) m (st, is, passed) = passes st Variables is passed refl

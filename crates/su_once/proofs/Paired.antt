@@ -3,12 +3,14 @@ use Rattle.std.proofs.Common.{◌≡◌, ◌≢◌, List, All, refl, ap, sym, �
 use Rattle.std.specs.Ordering.{nat_cmp}
 use Rattle.std.specs.FinSet.{FinSet}
 use Rattle.su_tableau.specs.Tableaux as tableaux
-use Rattle.su_schema.specs.SchemaValue.{SchemaValue, IsValid}
+use Rattle.su_schema.specs.SchemaValue.{SchemaValue}
+use Rattle.su_schema.specs.Valid.{IsValid}
 use Rattle.su_query.specs.declared.faults.QueryFault.{QueryFault}
 use Rattle.su_query.specs.declared.faults.QueryFault.TheVariants as query
 use Rattle.su_query.specs.declared.statements.Query.{Query as AQuery}
 use Rattle.su_query.specs.declared.resolving.Resolved.{Resolved}
-use Rattle.su_query.specs.Lookup.{IsKnownQuery, IsQueryRefusal, resolved_of}
+use Rattle.su_query.specs.Lookup.{IsKnownQuery, IsQueryRefusal}
+use Rattle.su_query.specs.Numbering.{resolved_of}
 use Rattle.su_steps.specs.declared.faults.StepFault.{StepFault}
 use Rattle.su_steps.specs.declared.faults.StepFault.TheVariants as step
 use Rattle.su_steps.specs.declared.results.Term.{Term}
@@ -21,7 +23,8 @@ use Rattle.su_show.specs.declared.statement_refusal.Refusal.{Refusal}
 use Rattle.su_show.specs.declared.statement_refusal.Refusal.TheVariants as refusal
 use Rattle.su_show.specs.Refusing.{IsNoMemory}
 use Rattle.su_session.specs.declared.replies.Reply.{Reply}
-use Rattle.su_session.specs.Comparing.{AreKnown, AskEqualities, OutputsAgree, AreOfOneForm, IsFormRefusal, IsTermsRefusal, ShowsVerdicts}
+use Rattle.su_session.specs.ComparingForms.{AreKnown, AskEqualities, OutputsAgree, AreOfOneForm, IsFormRefusal}
+use Rattle.su_session.specs.Comparing.{IsTermsRefusal, ShowsVerdicts}
 use Rattle.su_once.proofs.Compared.{one_verdict}
 use Rattle.su_once.proofs.Named.{one_list_of_terms}
 use Rattle.su_once.proofs.OneReading.{one_query_refusal, query_not_refused}

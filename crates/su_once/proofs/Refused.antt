@@ -11,7 +11,8 @@ use Rattle.su_steps.specs.declared.faults.StepFault.TheVariants.{NotCovered, Lim
 use Rattle.su_steps.specs.declared.faults.StepLimit.{StepLimit}
 use Rattle.su_steps.specs.declared.faults.StepLimit.TheVariants.{Disjuncts, Rows, Terms}
 use Rattle.su_steps.specs.Choices.{choices}
-use Rattle.su_steps.specs.Refusals.{first_uncovered, row_count, HasFewRows, HasManyRows, IsLimitPassed, IsRefusal, IsAccepted}
+use Rattle.su_steps.specs.Refusals.{first_uncovered, IsStepRefusal, IsAccepted}
+use Rattle.su_steps.specs.Limits.{row_count, HasFewRows, HasManyRows, IsLimitPassed}
 use Rattle.su_once.specs.Terms.{OneStepRefusal, RefusedOrAccepted}
 use Rattle.su_once.proofs.Options.{same_some, none_or_some}
 
@@ -37,7 +38,7 @@ module _ (schema : SchemaValue) (maximal : List (FinSet nat_cmp)) (q : Resolved)
   not_passed Rows h ok = many_or_few h.1 ok.few_rows
   not_passed Terms h ok = absurd (let many = h.2 in let few = ok.few_terms in omega (arith, many, few))
 
-  one_cause : (x y : StepFault) → x ≢ NoMemory → y ≢ NoMemory → IsRefusal schema maximal q x → IsRefusal schema maximal q y → x ≡ y
+  one_cause : (x y : StepFault) → x ≢ NoMemory → y ≢ NoMemory → IsStepRefusal schema maximal q x → IsStepRefusal schema maximal q y → x ≡ y
   one_cause (NotCovered variable mentioned) (NotCovered other also) m n (v, first, named, is) (w, too, called, same) =
       let at : v ≡ w = same_some v w (first_uncovered schema maximal q) first too in
       let who : variable ≡ other = same_some variable other (slice_get q.variables v) named (subst (λ (k : ℕ). slice_get q.variables k ≡ Some other) (sym at) called) in
@@ -50,7 +51,7 @@ module _ (schema : SchemaValue) (maximal : List (FinSet nat_cmp)) (q : Resolved)
   one_cause (NotCovered variable mentioned) NoMemory m n h k = absurd (n refl)
   one_cause (Limit limit) NoMemory m n h k = absurd (n refl)
 
-  refused_or_accepted : (x : StepFault) → x ≢ NoMemory → IsRefusal schema maximal q x → IsAccepted schema maximal q → ⊥
+  refused_or_accepted : (x : StepFault) → x ≢ NoMemory → IsStepRefusal schema maximal q x → IsAccepted schema maximal q → ⊥
   refused_or_accepted (NotCovered variable mentioned) m h ok = none_or_some h.0 (first_uncovered schema maximal q) ok.covered h.1
   refused_or_accepted (Limit limit) m h ok = not_passed limit h.1 ok
   refused_or_accepted NoMemory m h ok = absurd (m refl)

@@ -5,17 +5,18 @@ use Rattle.std.specs.FinSet.{FinSet}
 use Rattle.su_base.specs.declared.values.Value.{Value}
 use Rattle.su_rel.specs.Stored.{Stored}
 use Rattle.su_csv.specs.declared.faults.CsvFault.{CsvFault}
-use Rattle.su_schema.specs.SchemaValue.{SchemaValue, attribute_kinds, column_names, relation_names, place_of}
+use Rattle.su_schema.specs.SchemaValue.{SchemaValue}
+use Rattle.su_schema.specs.Entries.{attribute_kinds, column_names, relation_names, place_of}
 use Rattle.su_schema.specs.declared.definitions.Definition.{Definition}
 use Rattle.su_ddl.proofs.Formed.{one_definition}
-use Rattle.su_query.specs.Mentions.{NamedCond}
+use Rattle.su_query.specs.Refs.{NamedCond}
 use Rattle.su_query.specs.declared.faults.QueryFault.{QueryFault}
 use Rattle.su_query.specs.declared.faults.QueryFault.TheVariants as query
 use Rattle.su_query.specs.declared.statements.Query.{Query as AQuery}
 use Rattle.su_query.specs.declared.resolving.Resolved.{Resolved}
 use Rattle.su_query.specs.declared.statements.Statement.{Statement}
 use Rattle.su_query.specs.declared.statements.Statement.TheVariants.{Insert, Delete, DeleteWhere, Load, Print, Schema, Closure, Retrieve, Explain, Certify, Support, Compare, Window}
-use Rattle.su_query.specs.Lookup.{resolved_of, with_columns}
+use Rattle.su_query.specs.Numbering.{resolved_of, with_columns}
 use Rattle.su_maxobj.proofs.Listed.{one_list as one_list_of_maximal}
 use Rattle.su_steps.specs.declared.faults.StepFault.{StepFault}
 use Rattle.su_steps.specs.Refusals.{IsAccepted}
@@ -41,13 +42,16 @@ use Rattle.su_show.specs.Supports.{supports_text}
 use Rattle.su_session.specs.declared.replies.Reply.{Reply}
 use Rattle.su_session.specs.declared.wants.Want.TheVariants.{Nothing, File}
 use Rattle.su_session.specs.Telling.{Accepts, Refuses, TellsInsert, TellsDelete, TellsLoad, TellsDefine}
-use Rattle.su_session.specs.Retrieving.{IsRefusalOf, HasTerms, AfterTerms, Retrieves, Explains}
+use Rattle.su_session.specs.Retrieving.{IsRefusalOf, HasTerms, AfterTerms, Retrieves}
+use Rattle.su_session.specs.Explaining.{Explains}
 use Rattle.su_session.specs.Certifying.{Certifies, node_limit}
 use Rattle.su_session.specs.Supporting.{Supports}
 use Rattle.su_session.specs.Comparing.{IsTermsRefusal, ShowsVerdicts, ComparesTerms, Compares}
 use Rattle.su_session.specs.Windowing.{attribute_numbers, TellsWindowFault, ShowsWindow}
-use Rattle.su_session.specs.Statements.{InRelation, InsertsRow, DeletesRow, DeletesRows, LoadsRows, PrintsRows, ShowsSchema, ShowsClosure, Answers, relation_number}
-use Rattle.su_session.specs.Reply.{RepliesDefinition, RepliesStatement, Replied, IsLoad}
+use Rattle.su_session.specs.ChangingRows.{InRelation, InsertsRow, DeletesRow, DeletesRows, LoadsRows, relation_number}
+use Rattle.su_session.specs.Statements.{PrintsRows, ShowsSchema, ShowsClosure, Answers}
+use Rattle.su_session.specs.Reply.{RepliesDefinition, RepliesStatement, Replied}
+use Rattle.su_session.specs.Wanting.{IsLoad}
 use Rattle.su_once.specs.States.{AreAlike}
 use Rattle.su_once.specs.Replies.{OneWant, OneReply}
 use Rattle.su_once.proofs.Answered.{one_preparation, one_answer, not_too_long}

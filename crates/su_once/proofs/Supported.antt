@@ -6,8 +6,10 @@ use Rattle.std.specs.Ordering.{nat_cmp}
 use Rattle.std.specs.FinSet.{FinSet}
 use Rattle.su_base.specs.declared.values.Value.{Value}
 use Rattle.su_tableau.specs.declared.symbols.Sym.{Sym}
-use Rattle.su_tableau.specs.Tableaux.{Tab, values_of}
-use Rattle.su_schema.specs.SchemaValue.{SchemaValue, column_of}
+use Rattle.su_tableau.specs.Tableaux.{Tab}
+use Rattle.su_tableau.specs.Valuations.{values_of}
+use Rattle.su_schema.specs.SchemaValue.{SchemaValue}
+use Rattle.su_schema.specs.Entries.{column_of}
 use Rattle.su_reduce.specs.Ears.{AreAcyclic}
 use Rattle.su_reduce.specs.declared.support.Counted.{Counted}
 use Rattle.su_reduce.specs.declared.support.Support.{Support}
@@ -17,7 +19,7 @@ use Rattle.su_exec.specs.declared.tasks.Task.{Task}
 use Rattle.su_state.specs.DatabaseValue.{DatabaseValue}
 use Rattle.su_min.specs.Kept.{Minimised}
 use Rattle.su_min.specs.Reduction.{term_at}
-use Rattle.su_map.specs.Lists.{rows_in}
+use Rattle.su_map.specs.Lists.{row_numbers}
 use Rattle.su_answer.specs.Joined.{numbers_in, cell, IsSourceOf, IsTaskRowOf, IsTaskOf}
 use Rattle.su_answer.specs.Support.{IsCandidate, IsLeftOver, IsCountOf, IsLeftCount, IsSupport}
 use Rattle.su_once.specs.States.{AreAlike}
@@ -169,7 +171,7 @@ module _ (a b : DatabaseValue) (alike : AreAlike a b) where
   one_support : (m : Minimised) (s t : Support) → IsSupport a m s → IsSupport b m t → s.term ≡ t.term → s ≡ t
   one_support m s t h k term =
       let is_task : IsTaskOf a.schema m.tableau m.mask k.task = subst (λ (schema : SchemaValue). IsTaskOf schema m.tableau m.mask k.task) (sym alike.schema) k.is_task in
-      let twins = twin_rows a.schema m.tableau m.mask (rows_in m.tableau m.mask) h.task.rows k.task.rows h.is_task.rows is_task.rows in
+      let twins = twin_rows a.schema m.tableau m.mask (row_numbers m.tableau m.mask) h.task.rows k.task.rows h.is_task.rows is_task.rows in
       let edges = same_cells h.task.rows k.task.rows twins in
       let acyclic = same_test s.acyclic t.acyclic (λ yes. k.acyclic.1 (subst AreAcyclic edges (h.acyclic.0 yes))) (λ yes. h.acyclic.1 (subst AreAcyclic (sym edges) (k.acyclic.0 yes))) in
       let left = subst (λ (v : Bool). AllZip (λ r c. IsLeftCount b.tables k.task v r c.left) k.task.rows t.rows) (sym acyclic) k.left in

@@ -5,7 +5,7 @@ use Rattle.std.specs.List.{range_with_len}
 use Rattle.std.specs.FinSet.{contains, empty}
 use Rattle.std.proofs.lemmas.Bool.{cases_lt}
 use Rattle.std.proofs.lemmas.Nat.{div-mul-add, mod-mul-add}
-use Rattle.std.proofs.lemmas.List.{get_or_default, get_or-map, get_or_past, length-map}
+use Rattle.std.proofs.lemmas.List.{get_or_default, get_or-map, get_or_past, length-map, get_or-map as map_at}
 use Rattle.std.proofs.lemmas.List.Elements.{Contains-get_or}
 use Rattle.std.proofs.lemmas.List.FromFn.{get_or-map-range_with_len, length-map-range_with_len}
 use Rattle.su_base.specs.declared.values.Value.{Value}
@@ -14,11 +14,10 @@ use Rattle.su_rel.specs.Stored.{Stored}
 use Rattle.su_tableau.specs.declared.symbols.Sym.{Sym}
 use Rattle.su_tableau.specs.declared.symbols.Sym.TheVariants.{Const, Var}
 use Rattle.su_classes.proofs.Listed.{map_same}
-use Rattle.su_chase.specs.Chase.{SameLabels, IsClosed, InOneClass, IsClash}
-use Rattle.std.proofs.lemmas.List.{get_or-map as map_at}
-use Rattle.su_base.proofs.Items.{Contains-map as contains_map, Contains-range, Contains-range_below, map-map_equal}
-use Rattle.su_base.proofs.Items.{Contains-map_source as of_map}
-use Rattle.su_schema.specs.SchemaValue.{SchemaValue, ObjectEntry, attributes_of}
+use Rattle.su_chase.specs.Chase.{SameLabels, IsClosedPartition, InOneClass, IsClash}
+use Rattle.su_base.proofs.Items.{Contains-map as contains_map, Contains-range, Contains-range_below, map-map_equal, Contains-map_source as of_map}
+use Rattle.su_schema.specs.SchemaValue.{SchemaValue, ObjectEntry}
+use Rattle.su_schema.specs.Entries.{attributes_of}
 use Rattle.su_state.specs.DatabaseValue.{DatabaseValue, rows_of, rows_in}
 use Rattle.su_window.specs.declared.faults.WindowFault.{WindowFault}
 use Rattle.su_window.specs.declared.faults.WindowFault.TheVariants.{Limit, Inconsistent, NoMemory}
@@ -176,8 +175,8 @@ module _ (schema : SchemaValue) (left right : List Stored) (rows : (r : ℕ) (ro
         )
 
     -- a closed partition of the others is one of these
-    module _ (fds : List Fd) (label : Sym → Sym) (closed : IsClosed fds (padded_rows to others) label) where
-      closed_moves : IsClosed fds (padded_rows from mine) (λ s. label (move s))
+    module _ (fds : List Fd) (label : Sym → Sym) (closed : IsClosedPartition fds (padded_rows to others) label) where
+      closed_moves : IsClosedPartition fds (padded_rows from mine) (λ s. label (move s))
       closed_moves f r q cf cr cq same =
           let (r_there, r_wide) = row_of r cr in
           let (q_there, q_wide) = row_of q cq in

@@ -1,4 +1,5 @@
 -- A query is prepared in one way, and has one answer and one list of supports over databases that are alike.
+-- alike: databases of one schema with the same sets of rows
 use Rattle.std.specs.Prelude.{◌≡◌, ◌≤◌, List, length}
 use Rattle.std.specs.Ordering.{nat_cmp}
 use Rattle.std.specs.FinSet.{FinSet}
@@ -9,7 +10,7 @@ use Rattle.su_state.specs.DatabaseValue.{DatabaseValue}
 use Rattle.su_reduce.specs.declared.support.Support.{Support}
 use Rattle.su_answer.specs.declared.preparing.Prepared.{Prepared}
 use Rattle.su_answer.specs.Prepared.{IsPrepared}
-use Rattle.su_answer.specs.Answers.{IsAnswerOf, IsTooLong}
+use Rattle.su_answer.specs.QueryAnswers.{IsAnswerOf, IsTooLong}
 use Rattle.su_answer.specs.Support.{AreSupports}
 use Rattle.su_once.specs.States.{AreAlike}
 

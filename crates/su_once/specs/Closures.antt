@@ -1,4 +1,5 @@
 -- Of a set of attributes there is one closure and one derivation.
+-- closure, derivation: as in su_fd
 use Rattle.std.specs.Prelude.{◌≡◌, ℕ, List}
 use Rattle.std.specs.Ordering.{nat_cmp}
 use Rattle.std.specs.FinSet.{FinSet}

@@ -1,15 +1,17 @@
 -- A text is read in one way, or refused for one cause.
+-- refused: for the first cause
 use Rattle.std.specs.Prelude.{◌≡◌, ◌≢◌, ℕ, List, Result}
 use Rattle.su_schema.specs.SchemaValue.{SchemaValue}
 use Rattle.su_ddl.specs.declared.faults.DdlFault.{DdlFault}
 use Rattle.su_ddl.specs.Reading.{Reads}
-use Rattle.su_query.specs.Mentions.{NamedCond}
+use Rattle.su_query.specs.Refs.{NamedCond}
 use Rattle.su_query.specs.declared.faults.QueryFault.{QueryFault}
 use Rattle.su_query.specs.declared.faults.QueryFault.TheVariants.{NoMemory}
 use Rattle.su_query.specs.declared.statements.Query.{Query}
 use Rattle.su_query.specs.declared.statements.Statement.{Statement}
 use Rattle.su_query.specs.Lookup.{IsQueryRefusal, IsKnownQuery, IsColumnRefusal, IsColumnCondition}
-use Rattle.su_query.specs.Reading.{IsStatement, IsRefusal, HasFew}
+use Rattle.su_query.specs.Reading.{IsStatement, IsTextRefusal}
+use Rattle.su_query.specs.Limits.{HasFew}
 
 -- a file of definitions is read as one schema, or is at fault in one way
 abbrev pub OneOutcome : Type 0
@@ -21,11 +23,11 @@ OneStatement = (text : List ℕ) (st other : Statement) → IsStatement text st 
 
 -- a text has one refusal
 abbrev pub OneRefusal : Type 0
-OneRefusal = (text : List ℕ) (why other : QueryFault) → why ≢ NoMemory → other ≢ NoMemory → IsRefusal text why → IsRefusal text other → why ≡ other
+OneRefusal = (text : List ℕ) (why other : QueryFault) → why ≢ NoMemory → other ≢ NoMemory → IsTextRefusal text why → IsTextRefusal text other → why ≡ other
 
 -- and none, where it is a statement within the limits
 abbrev pub RefusedOrRead : Type 0
-RefusedOrRead = (text : List ℕ) (why : QueryFault) (st : Statement) → why ≢ NoMemory → IsRefusal text why → IsStatement text st → ¬ HasFew st
+RefusedOrRead = (text : List ℕ) (why : QueryFault) (st : Statement) → why ≢ NoMemory → IsTextRefusal text why → IsStatement text st → ¬ HasFew st
 
 -- the names of a query are refused for one cause, or all are known
 abbrev pub OneQueryRefusal : Type 0

@@ -1,9 +1,11 @@
 -- A statement wants one file, and has one reply on databases that are alike, which it leaves alike.
+-- alike: databases of one schema with the same sets of rows
 use Rattle.std.specs.Prelude.{◌≡◌, ℕ, List, Option}
 use Rattle.su_state.specs.DatabaseValue.{DatabaseValue, IsWellKept}
 use Rattle.su_session.specs.declared.replies.Reply.{Reply}
 use Rattle.su_session.specs.declared.wants.Want.{Want}
-use Rattle.su_session.specs.Reply.{Replied, Wants}
+use Rattle.su_session.specs.Reply.{Replied}
+use Rattle.su_session.specs.Wanting.{Wants}
 use Rattle.su_once.specs.States.{AreAlike}
 
 -- a text wants at most one file, whatever the rows

@@ -11,7 +11,8 @@ use Rattle.su_state.specs.declared.faults.LoadEnd.TheVariants as load
 use Rattle.su_state.specs.declared.faults.DefineFault.{DefineFault}
 use Rattle.su_state.specs.declared.faults.DefineFault.TheVariants as define
 use Rattle.su_state.specs.DatabaseValue.{DatabaseValue, rows_of, IsWellKept}
-use Rattle.su_state.specs.Changes.{AreInOrder, Inserts, Deletes, DeletesWhere}
+use Rattle.su_state.specs.Changes.{AreInOrder, DeletesWhere}
+use Rattle.su_state.specs.RowChanges.{Inserts, Deletes}
 use Rattle.su_state.specs.Loads.{Loads}
 use Rattle.su_state.specs.Definitions.{Defines}
 

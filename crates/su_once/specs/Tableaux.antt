@@ -1,4 +1,5 @@
 -- Of a tableau there is one kept set and one fold, and of a union one list of kept terms and one of covers.
+-- kept, fold, cover: as in su_min
 use Rattle.std.specs.Prelude.{◌≡◌, ℕ, List}
 use Rattle.su_tableau.specs.Tableaux.{Tab}
 use Rattle.su_map.specs.Lists.{IsFirst}

@@ -1,4 +1,5 @@
 -- A query has one list of terms, or one refusal.
+-- term, class, name: as in su_steps
 use Rattle.std.specs.Prelude.{◌≡◌, ◌≢◌, List}
 use Rattle.std.specs.Ordering.{nat_cmp}
 use Rattle.std.specs.FinSet.{FinSet}
@@ -11,13 +12,14 @@ use Rattle.su_steps.specs.declared.faults.StepFault.{StepFault}
 use Rattle.su_steps.specs.declared.faults.StepFault.TheVariants.{NoMemory}
 use Rattle.su_steps.specs.declared.results.Origin.{Origin}
 use Rattle.su_steps.specs.declared.results.Term.{Term}
-use Rattle.su_steps.specs.Classes.{Compared, InClass, IsNaming}
+use Rattle.su_steps.specs.PairSymbols.{SymbolComparison}
+use Rattle.su_steps.specs.Classes.{InClass, IsNaming}
 use Rattle.su_steps.specs.Terms.{AreTerms}
-use Rattle.su_steps.specs.Refusals.{IsRefusal, IsAccepted}
+use Rattle.su_steps.specs.Refusals.{IsStepRefusal, IsAccepted}
 
 -- a symbol has one name, where no class has two constants
 abbrev pub OneNaming : Type 0
-OneNaming = (schema : SchemaValue) (os : List Origin) (d : List Compared) (name other : Sym → Sym)
+OneNaming = (schema : SchemaValue) (os : List Origin) (d : List SymbolComparison) (name other : Sym → Sym)
     → ¬ ((a : Value) × (b : Value) × (a ≢ b) × InClass schema os d (Const a) (Const b))
     → IsNaming schema os d name → IsNaming schema os d other → (x : Sym) → name x ≡ other x
 
@@ -28,9 +30,9 @@ OneListOfTerms = (schema : SchemaValue) (maximal : List (FinSet nat_cmp)) (q : R
 -- no query is refused for two causes
 abbrev pub OneStepRefusal : Type 0
 OneStepRefusal = (schema : SchemaValue) (maximal : List (FinSet nat_cmp)) (q : Resolved) (why other : StepFault)
-    → why ≢ NoMemory → other ≢ NoMemory → IsRefusal schema maximal q why → IsRefusal schema maximal q other → why ≡ other
+    → why ≢ NoMemory → other ≢ NoMemory → IsStepRefusal schema maximal q why → IsStepRefusal schema maximal q other → why ≡ other
 
 -- nor is one that gets terms
 abbrev pub RefusedOrAccepted : Type 0
 RefusedOrAccepted = (schema : SchemaValue) (maximal : List (FinSet nat_cmp)) (q : Resolved) (why : StepFault)
-    → why ≢ NoMemory → IsRefusal schema maximal q why → ¬ IsAccepted schema maximal q
+    → why ≢ NoMemory → IsStepRefusal schema maximal q why → ¬ IsAccepted schema maximal q

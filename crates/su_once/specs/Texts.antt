@@ -1,4 +1,5 @@
 -- What is shown of a query, of a closure and of a certificate is one text.
+-- explanation, closure: as in su_show
 use Rattle.std.specs.Prelude.{◌≡◌, ℕ, List}
 use Rattle.std.specs.Ordering.{nat_cmp}
 use Rattle.std.specs.FinSet.{FinSet}

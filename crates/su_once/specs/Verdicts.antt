@@ -1,4 +1,5 @@
 -- Of the rows of a chase there is one name for each symbol and one clash, and of two lists of terms one verdict.
+-- chase, clash, frozen: as in su_chase; verdict: as in su_compare
 use Rattle.std.specs.Prelude.{◌≡◌, ◌↔◌, List, All, Contains}
 use Rattle.su_base.specs.declared.values.Kind.{Kind}
 use Rattle.su_base.specs.declared.values.Value.{Value}

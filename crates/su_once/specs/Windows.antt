@@ -1,4 +1,5 @@
 -- Databases that are alike have one window on some attributes, or none for one cause.
+-- alike: databases of one schema with the same sets of rows; window: as in su_window
 use Rattle.std.specs.Prelude.{◌≡◌, ◌≢◌, ◌↔◌, ℕ, List, Contains}
 use Rattle.std.specs.List.Sorted.{IsStrictlySortedBy}
 use Rattle.su_base.specs.declared.values.Value.{Value}

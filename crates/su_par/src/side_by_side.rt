@@ -11,12 +11,12 @@ use su_base::{List, NoMemory};
 
 /// A job's place: the job until it runs, then its out, unless memory was wanting.
 #[derive(Drop)]
-struct Place<J: Job> {
+struct JobSlot<J: Job> {
     job: Option<J>,
     out: Option<J::Out>,
 }
 
-impl<J: Job> Place<J> {
+impl<J: Job> JobSlot<J> {
     fn run<G: Gate>(&mut self, alloc: Global, gate: &G, number: usize)
         ensures { (job : J) → self.old.job ≡ Some job → IfSome self.new.out (J.gives job) }
     {
@@ -29,18 +29,18 @@ impl<J: Job> Place<J> {
     fn into_out(self) -> Result<J::Out, NoMemory>
         ensures { IfOk result (λ out. self.out ≡ Some out) }
     {
-        let Place { job: _, out } = self;
+        let JobSlot { job: _, out } = self;
         out.ok_or(NoMemory)
     }
 }
 
 /// The places of the jobs, in order.
-fn places<J: Job>(alloc: Global, jobs: List<J>) -> Result<List<Place<J>>, NoMemory>
+fn places<J: Job>(alloc: Global, jobs: List<J>) -> Result<List<JobSlot<J>>, NoMemory>
     ensures { IfOk result (λ places. AllZip (λ job place. place.job ≡ Some job) jobs places) }
 {
     let mut places = List::from_vec(Vec::with_capacity(alloc, jobs.len())?);
     for job in jobs.into_vec() {
-        places.push(Place {
+        places.push(JobSlot {
             job: Some(job),
             out: None,
         })?;
@@ -49,7 +49,7 @@ fn places<J: Job>(alloc: Global, jobs: List<J>) -> Result<List<Place<J>>, NoMemo
 }
 
 /// The outs at the places, in order, or want of memory where one is missing.
-fn outs<J: Job>(alloc: Global, places: Vec<Place<J>>) -> Result<List<J::Out>, NoMemory>
+fn outs<J: Job>(alloc: Global, places: Vec<JobSlot<J>>) -> Result<List<J::Out>, NoMemory>
     ensures { IfOk result (λ outs. AllZip (λ place out. place.out ≡ Some out) places.items outs) }
 {
     let mut outs = List::from_vec(Vec::with_capacity(alloc, places.len())?);
@@ -63,7 +63,7 @@ fn outs<J: Job>(alloc: Global, places: Vec<Place<J>>) -> Result<List<J::Out>, No
 fn run_all<R: Threads + Sync, J: Job, G: Gate>(
     rt: &R,
     alloc: Global,
-    places: &mut [Place<J>],
+    places: &mut [JobSlot<J>],
     workers: u8,
     gate: &G,
 )
@@ -74,7 +74,7 @@ fn run_all<R: Threads + Sync, J: Job, G: Gate>(
         rt,
         places,
         workers as usize,
-        &|number: usize, place: &mut Place<J>|
+        &|number: usize, place: &mut JobSlot<J>|
             ensures { (job : J) → place.entry.now.job ≡ Some job → IfSome place.exit.now.out (J.gives job) }
         { place.run(alloc, gate, number) },
     );

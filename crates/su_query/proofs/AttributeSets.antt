@@ -6,10 +6,12 @@ use Rattle.std.specs.FinSet.{FinSet, insert, from_list}
 use Rattle.std.proofs.lemmas.List.{take_more, map_push, append-nil, at_drop_more, length-map, get_or_default}
 use Rattle.std.proofs.lemmas.Bool.Decides.{nat_tests}
 use Rattle.std.proofs.lemmas.List.Elements.{filter_more}
-use Rattle.su_schema.specs.SchemaValue.{SchemaValue, IsValid, attribute_names, place_of}
+use Rattle.su_schema.specs.SchemaValue.{SchemaValue}
+use Rattle.su_schema.specs.Valid.{IsValid}
+use Rattle.su_schema.specs.Entries.{attribute_names, place_of}
 use Rattle.su_schema.proofs.Numbers.{known-Some, from_list-push}
 use Rattle.su_query.specs.declared.places.Place.{Place}
-use Rattle.su_query.specs.Lookup.{first_unknown_name, number_among}
+use Rattle.su_query.specs.Scopes.{first_unknown_name, number_among}
 use Rattle.su_query.specs.Sets.{attributes_named, mentioned_with}
 
 pub attribute_small : (schema : SchemaValue) (name : List ℕ) (a : ℕ) → IsValid schema → place_of (attribute_names schema) name ≡ Some a → a < 128

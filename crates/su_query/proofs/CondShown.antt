@@ -4,11 +4,12 @@ use Rattle.std.specs.Prelude.{◌==◌}
 use Rattle.std.proofs.lemmas.List.{length-map}
 use Rattle.su_lex.specs.declared.meaning.Symbol.TheVariants.{Word}
 use Rattle.su_query.specs.declared.conditions.Comparison.{Comparison}
-use Rattle.su_query.specs.Mentions.{NamedCond}
+use Rattle.su_query.specs.Refs.{NamedCond}
 use Rattle.su_where.specs.declared.conditions.Condition.TheOpen as open'
 use Rattle.su_where.specs.declared.conditions.Condition.TheVariants.{Compare, Not, All, Any, rolls-Compare, rolls-Not, rolls-All, rolls-Any}
 use Rattle.su_where.specs.declared.conditions.Condition.TheFolds.{fold-roll-Condition}
-use Rattle.su_query.specs.Shown.{ShownCond, shown_cond, shown_step, joined, inner, comparison_symbols, is_nothing, nothing_step}
+use Rattle.su_query.specs.ShownConditions.{ShownCond, shown_cond, shown_step, joined, inner, comparison_symbols}
+use Rattle.su_query.specs.Shown.{is_nothing, nothing_step}
 
 pub shown-Compare : (k : Comparison) → shown_cond (Compare k) ≡ record { many = false; compare = true; symbols = comparison_symbols k }
 shown-Compare k = ap shown_cond (sym (rolls-Compare k)) ∙ fold-roll-Condition Comparison ShownCond shown_step (open'.Compare k)

@@ -4,8 +4,9 @@ use Rattle.std.specs.List.{flat_map}
 use Rattle.su_where.specs.declared.conditions.Condition.TheVariants.{All}
 use Rattle.su_where.specs.Truth.{comparisons_of}
 use Rattle.su_query.specs.declared.conditions.Comparison.{Comparison}
-use Rattle.su_query.specs.Mentions.{mentions, refs_beside}
-use Rattle.su_query.specs.Reading.{plain_ref, variable_count}
+use Rattle.su_query.specs.Mentions.{mentions}
+use Rattle.su_query.specs.Refs.{refs_beside}
+use Rattle.su_query.specs.Limits.{plain_ref, variable_count}
 use Rattle.su_where.proofs.Layers.{comparisons_of-All}
 
 blank_alone : (names : List (List ℕ)) → mentions (None ∷ []) (map plain_ref names) ≡ None ∷ []

@@ -11,10 +11,14 @@ use Rattle.su_query.specs.declared.statements.Statement.{Statement}
 use Rattle.su_query.specs.declared.statements.Statement.TheVariants.{Insert, Delete, DeleteWhere, Load, Print, Schema, Closure, Retrieve, Explain, Certify, Support, Compare, Window}
 use Rattle.su_lex.specs.Names.{Begins}
 use Rattle.su_query.specs.Lists.{Several, opens_second}
-use Rattle.su_query.specs.Grammar.{ReadsName, ReadsValue, ReadsCond}
-use Rattle.su_query.specs.Mentions.{NamedCond, are_columns}
+use Rattle.su_query.specs.Operands.{ReadsName, ReadsValue}
+use Rattle.su_query.specs.Grammar.{ReadsCond}
+use Rattle.su_query.specs.Refs.{NamedCond}
+use Rattle.su_query.specs.Mentions.{are_columns}
 use Rattle.su_query.specs.Forms as g
-use Rattle.su_query.specs.Forms.{RowForm, ConditionForm, FileForm, NamesForm, PairForm, QueryForm, IsForm}
+use Rattle.su_query.specs.RelationForms.{RowForm, ConditionForm, FileForm, NamesForm}
+use Rattle.su_query.specs.QueryForms.{PairForm, QueryForm}
+use Rattle.su_query.specs.Forms.{IsForm}
 use Rattle.su_query.proofs.Items.{name_unique, value_unique}
 use Rattle.su_query.proofs.Listed.{several_unique}
 use Rattle.su_query.proofs.Unique.{same_cond}

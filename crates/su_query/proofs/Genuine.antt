@@ -15,11 +15,14 @@ use Rattle.su_where.specs.declared.operators.Op.TheVariants as op
 use Rattle.su_query.specs.declared.refs.Ref.{Ref as ARef}
 use Rattle.su_query.specs.declared.refs.NamedOperand.{NamedOperand}
 use Rattle.su_query.specs.declared.refs.NamedOperand.TheVariants.{Ref, Const}
-use Rattle.su_query.specs.Mentions.{NamedCond}
+use Rattle.su_query.specs.Refs.{NamedCond}
 use Rattle.su_where.specs.declared.conditions.Condition.TheVariants.{Compare, Not, All, Any}
 use Rattle.su_query.specs.Grammar as g
-use Rattle.su_query.specs.Grammar.{ReadsCond, ReadsOrs, ReadsConj, ReadsAnds, ReadsFactor, ReadsPrimary, compared, ReadsComparison, ReadsOperand, ReadsRef, ReadsValue, ReadsName, any_of, all_of, op_sym, value_sym, qualified}
-use Rattle.su_query.specs.Shown.{ShownCond, shown_cond, cond_symbols, part, inner, in_parens, joined, name_symbols, value_symbols, ref_symbols, operand_symbols}
+use Rattle.su_query.specs.Grammar.{ReadsCond, ReadsOrs, ReadsConj, ReadsAnds, ReadsFactor, ReadsPrimary, compared, ReadsComparison, any_of, all_of}
+use Rattle.su_query.specs.Operands.{ReadsOperand, ReadsRef, ReadsValue, ReadsName, op_sym, value_sym, qualified}
+use Rattle.su_query.specs.ShownConditions.{ShownCond, shown_cond, cond_symbols, part, inner, joined}
+use Rattle.su_lex.specs.Wording.{in_parens}
+use Rattle.su_query.specs.ShownParts.{name_symbols, value_symbols, ref_symbols, operand_symbols}
 use Rattle.su_query.proofs.CondShown.{shown-Compare, shown-Not, shown-All, shown-Any}
 
 abbrev pub AreSymbols : List Symbol → Type 0

@@ -11,10 +11,11 @@ use Rattle.su_lex.specs.declared.meaning.Symbol.TheVariants.{Word, Sign}
 use Rattle.su_query.specs.declared.refs.Ref.{Ref as ARef}
 use Rattle.su_query.specs.declared.refs.NamedOperand.{NamedOperand}
 use Rattle.su_query.specs.declared.refs.NamedOperand.TheVariants.{Ref, Const}
-use Rattle.su_query.specs.Mentions.{NamedCond}
+use Rattle.su_query.specs.Refs.{NamedCond}
 use Rattle.su_where.specs.declared.conditions.Condition.TheVariants.{Compare}
 use Rattle.su_lex.specs.Names.{Begins}
-use Rattle.su_query.specs.Grammar.{value_sym, op_sym, qualified, IsVariable, ReadsName, ReadsValue, ReadsRef, ReadsOperand, compared, ReadsComparison}
+use Rattle.su_query.specs.Operands.{value_sym, op_sym, qualified, IsVariable, ReadsName, ReadsValue, ReadsRef, ReadsOperand}
+use Rattle.su_query.specs.Grammar.{compared, ReadsComparison}
 
 pub record SameItem {A : Type 0} (a b : A) (r q : List Symbol) : Type 0 where
   pub item : a ≡ b

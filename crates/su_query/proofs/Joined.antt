@@ -8,8 +8,10 @@ use Rattle.std.proofs.lemmas.Bool.Decides.{nat_tests}
 use Rattle.su_lex.specs.declared.signs.Sign.TheVariants as sign
 use Rattle.su_lex.specs.declared.meaning.Symbol.{Symbol}
 use Rattle.su_lex.specs.declared.meaning.Symbol.TheVariants.{Sign}
-use Rattle.su_query.specs.Mentions.{NamedCond}
-use Rattle.su_query.specs.Shown.{ShownCond, shown_cond, cond_symbols, part, in_parens, joined, listed}
+use Rattle.su_query.specs.Refs.{NamedCond}
+use Rattle.su_query.specs.ShownConditions.{ShownCond, shown_cond, cond_symbols, part, joined}
+use Rattle.su_lex.specs.Wording.{in_parens}
+use Rattle.su_query.specs.ShownParts.{listed}
 
 wrapped : (x : ShownCond) → (if x.many then Sign sign.Open ∷ [] else []) ++ (x.symbols ++ (if x.many then Sign sign.Close ∷ [] else [])) ≡ part x
 wrapped x =

@@ -7,7 +7,7 @@ use Rattle.su_query.specs.Lists as g
 use Rattle.std.specs.List.{AllByRecursion}
 use Rattle.su_base.specs.Name.{IsName}
 use Rattle.su_lex.specs.Names.{AreNames, Begins, more_names, names_symbols}
-use Rattle.su_query.specs.Grammar.{ReadsName}
+use Rattle.su_query.specs.Operands.{ReadsName}
 use Rattle.su_query.specs.Lists.{More, Several}
 use Rattle.su_query.proofs.Items.{SameItem}
 

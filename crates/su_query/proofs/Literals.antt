@@ -7,7 +7,7 @@ use Rattle.std.proofs.lemmas.List.Elements.{All-nil, All-cons, All-head, All-tai
 use Rattle.su_base.specs.declared.values.Kind.{Kind}
 use Rattle.su_base.specs.declared.values.Kind.TheVariants.{Int as IntKind, Text as TextKind}
 use Rattle.su_where.specs.declared.literals.Literal.{Literal}
-use Rattle.su_where.specs.Truth.{IsBelow, HasPlacesBelow}
+use Rattle.su_where.specs.Fitting.{IsBelow, HasPlacesBelow}
 use Rattle.su_where.proofs.Layers.{comparisons_of-Compare, comparisons_of-Not, comparisons_of-All, comparisons_of-Any}
 use Rattle.su_schema.specs.SchemaValue.{SchemaValue}
 use Rattle.su_base.specs.Value.{same_kind}
@@ -21,9 +21,11 @@ use Rattle.su_where.specs.declared.conditions.Condition.TheFolds.{map-Condition,
 use Rattle.su_query.specs.declared.scopes.Scope.{Scope}
 use Rattle.su_query.specs.declared.conditions.Comparison.{Comparison}
 use Rattle.su_where.specs.Truth.{comparisons_of}
-use Rattle.su_query.specs.Mentions.{NamedCond, refs_in, refs_beside, refs_of}
-use Rattle.su_query.specs.Lookup.{kind_in, differs, differing_kinds, literal_of, numbered, numbered_operand}
-use Rattle.su_query.specs.Ranges.{operand_kind, IsOfOneKind, IsTyped}
+use Rattle.su_query.specs.Refs.{NamedCond, refs_in, refs_beside, refs_of}
+use Rattle.su_query.specs.Scopes.{kind_in}
+use Rattle.su_query.specs.Differing.{differs, differing_kinds}
+use Rattle.su_query.specs.Numbering.{literal_of, numbered, numbered_operand}
+use Rattle.su_query.specs.Ranges.{operand_kind, IsOfOneKind, IsTypedCondition}
 use Rattle.su_query.proofs.Found.{numbered-Compare, numbered-Not, numbered-All, numbered-Any}
 use Rattle.su_base.proofs.Items.{All-append_left, All-append_right}
 use Rattle.su_query.proofs.Hits.{none_found}
@@ -110,7 +112,7 @@ module _ (schema : SchemaValue) (scope : Scope) (kinds : List Kind) (f : ARef �
       (all_typed ks (All-append_right (IsNumbered schema scope kinds f) (refs_beside k) (flat_map refs_beside ks) h) (All-tail (λ k. differs schema scope k ≡ false) k ks e))
 
   -- a condition whose refs are so numbered, without a comparison of two kinds
-  pub typed : (c : NamedCond) → length (comparisons_of c) ≤ 256 → Each (IsNumbered schema scope kinds f) (refs_of c) → differing_kinds schema scope (comparisons_of c) ≡ None → IsTyped kinds (numbered f c)
+  pub typed : (c : NamedCond) → length (comparisons_of c) ≤ 256 → Each (IsNumbered schema scope kinds f) (refs_of c) → differing_kinds schema scope (comparisons_of c) ≡ None → IsTypedCondition kinds (numbered f c)
   typed c few h e =
       let ks = comparisons_of c in
       let same = sym (comparisons_of-numbered f c) in

@@ -9,10 +9,11 @@ use Rattle.su_query.specs.declared.places.Place.{Place}
 use Rattle.su_query.specs.declared.statements.Query.{Query}
 use Rattle.su_query.specs.declared.conditions.Comparison.{Comparison}
 use Rattle.su_where.specs.Truth.{comparisons_of}
-use Rattle.su_query.specs.Mentions.{refs_in, refs_beside, refs_of, all_refs, variables_of}
-use Rattle.su_query.specs.Reading.{AreFew}
+use Rattle.su_query.specs.Refs.{refs_in, refs_beside, refs_of}
+use Rattle.su_query.specs.Mentions.{all_refs, variables_of}
+use Rattle.su_query.specs.Limits.{AreFew}
 use Rattle.su_query.proofs.Seen.{mentions-append}
-use Rattle.su_query.specs.Lookup.{place_in, same_place, places_of}
+use Rattle.su_query.specs.Places.{place_in, same_place, places_of}
 
 pub places-append : (schema : SchemaValue) (vs : List (Option (List ℕ))) (seen : List Place) (xs ys : List Ref) → places_of schema vs seen (xs ++ ys) ≡ places_of schema vs (places_of schema vs seen xs) ys
 places-append schema vs seen [] ys = refl

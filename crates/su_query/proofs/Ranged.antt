@@ -8,8 +8,9 @@ use Rattle.std.proofs.lemmas.List.{length-map, get_or-map}
 use Rattle.std.proofs.lemmas.List.Elements.{All-nil, All-cons, All-head, All-tail, All-map, All-push}
 use Rattle.std.proofs.lemmas.Slice.Eq.{bytes_eq-Decides}
 use Rattle.su_base.specs.declared.values.Kind.TheVariants.{Int as IntKind}
-use Rattle.su_schema.specs.SchemaValue.{SchemaValue, attribute_names, attribute_kinds}
-use Rattle.su_schema.specs.Checks.{columns_at}
+use Rattle.su_schema.specs.SchemaValue.{SchemaValue}
+use Rattle.su_schema.specs.Entries.{attribute_names, attribute_kinds}
+use Rattle.su_schema.specs.Known.{columns_at}
 use Rattle.su_query.specs.declared.refs.Ref.{Ref as ARef}
 use Rattle.su_query.specs.declared.refs.NamedOperand.TheVariants.{Ref}
 use Rattle.su_query.specs.declared.places.Place.{Place}
@@ -17,9 +18,13 @@ use Rattle.su_query.specs.declared.scopes.Scope.{Scope}
 use Rattle.su_query.specs.declared.scopes.Scope.TheVariants.{Attributes, Columns}
 use Rattle.su_query.specs.declared.statements.Query.{Query}
 use Rattle.su_where.specs.Truth.{comparisons_of}
-use Rattle.su_query.specs.Mentions.{NamedCond, refs_of, same_variable, mentions, variables_of, all_refs}
-use Rattle.su_query.specs.Reading.{AreFew}
-use Rattle.su_query.specs.Lookup.{names_in, kinds_in, is_unknown, first_unknown, number_among, kind_in, place_in, same_place, places_of, number_in, places_in, resolved_of, IsKnownQuery, IsColumnCondition, with_columns}
+use Rattle.su_query.specs.Refs.{NamedCond, refs_of}
+use Rattle.su_query.specs.Mentions.{same_variable, mentions, variables_of, all_refs}
+use Rattle.su_query.specs.Limits.{AreFew}
+use Rattle.su_query.specs.Scopes.{names_in, kinds_in, is_unknown, first_unknown, number_among, kind_in}
+use Rattle.su_query.specs.Places.{place_in, same_place, places_of, number_in, places_in}
+use Rattle.su_query.specs.Numbering.{resolved_of, with_columns}
+use Rattle.su_query.specs.Lookup.{IsKnownQuery, IsColumnCondition}
 use Rattle.su_query.specs.Ranges.{IsPlaceAmong, place_kinds, IsResolved, IsOnColumns}
 use Rattle.su_base.proofs.Items.{All-append_left, All-append_right}
 use Rattle.su_query.proofs.Hits.{Hit, hit_any, hit_some, any-push, any-last, none_found}

@@ -9,18 +9,24 @@ use Rattle.su_lex.specs.declared.meaning.Symbol.{Symbol}
 use Rattle.su_lex.specs.declared.meaning.Symbol.TheVariants.{Word, Text, Sign}
 use Rattle.su_lex.specs.Symbols.{IsSymbol}
 use Rattle.su_lex.proofs.Written.{one_list_of_symbols, spaced_is_read}
-use Rattle.su_query.specs.Mentions.{NamedCond}
+use Rattle.su_query.specs.Refs.{NamedCond}
 use Rattle.su_where.specs.declared.conditions.Condition.TheVariants.{All}
 use Rattle.su_query.specs.declared.statements.Query.{Query as AQuery}
 use Rattle.su_query.specs.declared.statements.Statement.{Statement}
 use Rattle.su_query.specs.Lists as l
 use Rattle.su_lex.specs.Names.{Begins}
 use Rattle.su_query.specs.Lists.{More, Several}
-use Rattle.su_query.specs.Grammar.{ReadsName, ReadsValue, ReadsRef}
+use Rattle.su_query.specs.Operands.{ReadsName, ReadsValue, ReadsRef}
 use Rattle.su_query.specs.Forms as g
-use Rattle.su_query.specs.Forms.{RowForm, ConditionForm, FileForm, NamesForm, ReadsWhere, ReadsQuery, ReadsEnclosed, PairForm, QueryForm, IsForm}
+use Rattle.su_query.specs.QueryForms as g'
+use Rattle.su_query.specs.RelationForms.{RowForm, ConditionForm, FileForm, NamesForm}
+use Rattle.su_query.specs.QueryForms.{ReadsWhere, ReadsQuery, ReadsEnclosed, PairForm, QueryForm}
+use Rattle.su_query.specs.Forms.{IsForm}
 use Rattle.su_query.specs.Reading.{ReadsAgain}
-use Rattle.su_query.specs.Shown.{name_symbols, value_symbols, ref_symbols, listed, in_parens, cond_symbols, is_nothing, where_symbols, query_symbols, statement_symbols}
+use Rattle.su_query.specs.ShownParts.{name_symbols, value_symbols, ref_symbols, listed}
+use Rattle.su_lex.specs.Wording.{in_parens}
+use Rattle.su_query.specs.ShownConditions.{cond_symbols}
+use Rattle.su_query.specs.Shown.{is_nothing, where_symbols, query_symbols, statement_symbols}
 use Rattle.su_query.proofs.CondShown.{nothing-All}
 use Rattle.su_query.proofs.Round.{Ends, nothing_ends, close_ends, good_cond, cond_shown, ref_shown}
 use Rattle.su_query.proofs.Genuine.{AreSymbols, Both, both-append, parens_are, name_both, value_both, ref_both, cond_both}
@@ -130,10 +136,10 @@ close_follows : (r : List Symbol) → Follows (Sign sign.Close ∷ r)
 close_follows r = record { no_where = λ h. let e = h.1 in cc; ends = close_ends r }
 
 where_shown : (c : NamedCond) (s r : List Symbol) → ReadsWhere c s r → (u : List Symbol) → Follows u → ReadsWhere c (where_symbols c ++ u) u
-where_shown c s r (g.nothing _ _ _ e k none) u follows = g.nothing c (where_symbols c ++ u) u (ap (λ x. x ++ u) (where_nothing c k)) k (subst (λ (x : List Symbol). ¬ (Begins (Word (codes "where")) (x ++ u))) (sym (where_nothing c k)) follows.no_where)
-where_shown c s r (g.condition _ _ t _ e h) u follows =
+where_shown c s r (g'.nothing _ _ _ e k none) u follows = g'.nothing c (where_symbols c ++ u) u (ap (λ x. x ++ u) (where_nothing c k)) k (subst (λ (x : List Symbol). ¬ (Begins (Word (codes "where")) (x ++ u))) (sym (where_nothing c k)) follows.no_where)
+where_shown c s r (g'.condition _ _ t _ e h) u follows =
     let good = good_cond c t r h in
-    g.condition c (where_symbols c ++ u) (cond_symbols c ++ u) u (ap (λ x. x ++ u) (where_some c good.some)) (good.bare u follows.ends)
+    g'.condition c (where_symbols c ++ u) (cond_symbols c ++ u) u (ap (λ x. x ++ u) (where_some c good.some)) (good.bare u follows.ends)
 
 query_shown : (q : AQuery) (s r : List Symbol) → ReadsQuery q s r → (u : List Symbol) → Follows u → ReadsQuery q (query_symbols q ++ u) u
 query_shown q s r h u follows =
@@ -202,8 +208,8 @@ names_kept names s h v =
     parens_are (listed name_symbols names) (several_kept ReadsName name_symbols name_both names h.rest (Sign sign.Close ∷ []) h.reads w.1).shown
 
 where_kept : (c : NamedCond) (s r : List Symbol) → ReadsWhere c s r → AreSymbols s → Both (where_symbols c) r
-where_kept c s r (g.nothing _ _ _ e k none) v = record { shown = subst AreSymbols (sym (where_nothing c k)) tt; left = subst AreSymbols e v }
-where_kept c s r (g.condition _ _ t _ e h) v =
+where_kept c s r (g'.nothing _ _ _ e k none) v = record { shown = subst AreSymbols (sym (where_nothing c k)) tt; left = subst AreSymbols e v }
+where_kept c s r (g'.condition _ _ t _ e h) v =
     let w = subst AreSymbols e v in
     let p = cond_both c t r h w.1 in
     record { shown = subst AreSymbols (sym (where_some c (good_cond c t r h).some)) (w.0, p.shown); left = p.left }

@@ -5,7 +5,9 @@ use Rattle.su_query.specs.declared.refs.Ref.{Ref}
 use Rattle.su_query.specs.declared.statements.Query.{Query as AQuery}
 use Rattle.su_query.specs.declared.statements.Statement.{Statement}
 use Rattle.su_query.specs.Forms as g
-use Rattle.su_query.specs.Forms.{ReadsQuery, NamesForm, IsForm}
+use Rattle.su_query.specs.QueryForms.{ReadsQuery}
+use Rattle.su_query.specs.RelationForms.{NamesForm}
+use Rattle.su_query.specs.Forms.{IsForm}
 use Rattle.su_query.specs.Reading.{IsReady}
 
 some_outputs : (q : AQuery) (s r : List Symbol) → ReadsQuery q s r → 0 < length q.outputs

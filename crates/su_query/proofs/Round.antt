@@ -12,12 +12,16 @@ use Rattle.su_where.specs.declared.operators.Op.TheVariants as op
 use Rattle.su_query.specs.declared.refs.Ref.{Ref as ARef}
 use Rattle.su_query.specs.declared.refs.NamedOperand.{NamedOperand}
 use Rattle.su_query.specs.declared.refs.NamedOperand.TheVariants.{Ref, Const}
-use Rattle.su_query.specs.Mentions.{NamedCond}
+use Rattle.su_query.specs.Refs.{NamedCond}
 use Rattle.su_where.specs.declared.conditions.Condition.TheVariants.{Compare, Not, All, Any}
 use Rattle.su_lex.specs.Names.{Begins}
 use Rattle.su_query.specs.Grammar as g
-use Rattle.su_query.specs.Grammar.{ReadsCond, ReadsOrs, ReadsConj, ReadsAnds, ReadsFactor, ReadsPrimary, compared, ReadsComparison, ReadsOperand, ReadsRef, IsVariable, any_of, all_of, op_sym, qualified}
-use Rattle.su_query.specs.Shown.{ShownCond, shown_cond, cond_symbols, part, inner, in_parens, joined, ref_symbols, operand_symbols, is_nothing}
+use Rattle.su_query.specs.Grammar.{ReadsCond, ReadsOrs, ReadsConj, ReadsAnds, ReadsFactor, ReadsPrimary, compared, ReadsComparison, any_of, all_of}
+use Rattle.su_query.specs.Operands.{ReadsOperand, ReadsRef, IsVariable, op_sym, qualified}
+use Rattle.su_query.specs.ShownConditions.{ShownCond, shown_cond, cond_symbols, part, inner, joined}
+use Rattle.su_lex.specs.Wording.{in_parens}
+use Rattle.su_query.specs.ShownParts.{ref_symbols, operand_symbols}
+use Rattle.su_query.specs.Shown.{is_nothing}
 use Rattle.su_query.proofs.CondShown.{shown-Compare, shown-Not, shown-All, shown-Any, nothing-Compare, nothing-Not, nothing-All, nothing-Any}
 
 -- no dot, and neither `and` nor `or` follows

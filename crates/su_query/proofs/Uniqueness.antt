@@ -5,18 +5,21 @@ use Rattle.su_lex.proofs.Written.{one_list_of_symbols}
 use Rattle.su_lex.specs.declared.signs.Sign.TheVariants as sign
 use Rattle.su_lex.specs.declared.meaning.Symbol.{Symbol}
 use Rattle.su_lex.specs.declared.meaning.Symbol.TheVariants.{Word, Sign}
-use Rattle.su_query.specs.Mentions.{NamedCond}
+use Rattle.su_query.specs.Refs.{NamedCond}
 use Rattle.su_query.specs.declared.statements.Query.{Query}
 use Rattle.su_query.specs.declared.statements.Statement.{Statement}
 use Rattle.su_query.specs.declared.statements.Statement.TheVariants.{Insert, Delete, DeleteWhere, Load, Print, Closure, Retrieve, Explain, Certify, Support, Compare, Window}
 use Rattle.su_query.specs.Lists.{opens_second, Several}
-use Rattle.su_query.specs.Grammar.{ReadsName, ReadsValue, ReadsCond}
+use Rattle.su_query.specs.Operands.{ReadsName, ReadsValue}
+use Rattle.su_query.specs.Grammar.{ReadsCond}
 use Rattle.su_query.specs.Forms as g
-use Rattle.su_query.specs.Forms.{RowForm, ConditionForm, FileForm, NamesForm, IsForm}
+use Rattle.su_query.specs.RelationForms.{RowForm, ConditionForm, FileForm, NamesForm}
+use Rattle.su_query.specs.Forms.{IsForm}
 use Rattle.su_query.specs.declared.faults.QueryFault.{QueryFault}
 use Rattle.su_query.specs.declared.faults.QueryFault.TheVariants.{Syntax, Limit, NoMemory, Unknown, Kinds, UnknownColumn}
 use Rattle.su_query.specs.declared.faults.QueryLimit.TheVariants.{Nesting, Variables, Outputs, Comparisons}
-use Rattle.su_query.specs.Reading.{IsStatement, IsRefusal, Passes, PartsPass, parts_of}
+use Rattle.su_query.specs.Reading.{IsStatement, IsTextRefusal}
+use Rattle.su_query.specs.Limits.{Passes, PartsPass, parts_of}
 use Rattle.su_query.proofs.Items.{name_unique, value_unique}
 use Rattle.su_query.proofs.Listed.{several_unique}
 use Rattle.su_query.proofs.Queries.{query_unique, pair_unique}
@@ -116,7 +119,7 @@ parts_pass_none fault bad (q ∷ qs) (inl p) = bad q p
 parts_pass_none fault bad (q ∷ qs) (inr (few, p)) = parts_pass_none fault bad qs p
 
 -- a limit that is passed refuses the text
-pub limit_refusal : (text : List ℕ) (st : Statement) (fault : QueryFault) → IsStatement text st → PartsPass (parts_of st) fault → IsRefusal text fault
+pub limit_refusal : (text : List ℕ) (st : Statement) (fault : QueryFault) → IsStatement text st → PartsPass (parts_of st) fault → IsTextRefusal text fault
 limit_refusal text st Syntax h p = absurd (parts_pass_none Syntax (λ q passed. passed) (parts_of st) p)
 limit_refusal text st (Limit Nesting) h p = absurd (parts_pass_none (Limit Nesting) (λ q passed. passed) (parts_of st) p)
 limit_refusal text st (Limit Variables) h p = (st, h, p)

@@ -1,4 +1,5 @@
 -- Lists with commas: item { "," item }. "From s to r": the symbols s are that, and then r.
+-- item: what stands between two commas, read by a relation of its own
 use Rattle.std.specs.Prelude.{◌≡◌, Bool, true, false, List, [], ◌∷◌}
 use Rattle.su_lex.specs.Names.{Begins}
 use Rattle.su_lex.specs.declared.signs.Sign.TheVariants as sign

@@ -1,12 +1,14 @@
 -- Sets of attributes, by their numbers: those with given names, and those that a variable is mentioned with.
+-- mentioned with: in an output or a comparison of the same variable
 use Rattle.std.specs.Prelude.{◌≡◌, ℕ, ◌==◌, List, map, filter, Some}
 use Rattle.std.specs.Ordering.{nat_cmp}
 use Rattle.std.specs.FinSet.{FinSet, from_list}
-use Rattle.su_schema.specs.SchemaValue.{SchemaValue, attribute_names}
+use Rattle.su_schema.specs.SchemaValue.{SchemaValue}
+use Rattle.su_schema.specs.Entries.{attribute_names}
 use Rattle.su_query.specs.declared.places.Place.{Place}
 use Rattle.su_query.specs.declared.faults.QueryFault.{QueryFault}
 use Rattle.su_query.specs.declared.faults.QueryFault.TheVariants.{NoMemory, Unknown}
-use Rattle.su_query.specs.Lookup.{first_unknown_name, number_among}
+use Rattle.su_query.specs.Scopes.{first_unknown_name, number_among}
 
 -- the attributes with these names
 abbrev pub attributes_named : SchemaValue → List (List ℕ) → FinSet nat_cmp

@@ -3,8 +3,10 @@ ghost use Rattle.std.specs.Prelude.{◌≡◌, ℕ, ◌∷◌, codes, IfOk, IsEr
 ghost use Rattle.su_base.specs.declared.values.Value.{Value as AValue};
 ghost use Rattle.su_lex.specs.declared.meaning.Symbol.{Symbol as ASymbol};
 ghost use Rattle.su_query.specs.Lists.{opens_second};
-ghost use Rattle.su_query.specs.Forms.{RowForm, ConditionForm, FileForm, NamesForm, ReadsWhere, ReadsQuery, ReadsEnclosed, PairForm, QueryForm, IsForm};
-ghost use Rattle.su_query.specs.Mentions.{NamedCond as ACond};
+ghost use Rattle.su_query.specs.RelationForms.{RowForm, ConditionForm, FileForm, NamesForm};
+ghost use Rattle.su_query.specs.QueryForms.{ReadsWhere, ReadsQuery, ReadsEnclosed, PairForm, QueryForm};
+ghost use Rattle.su_query.specs.Forms.{IsForm};
+ghost use Rattle.su_query.specs.Refs.{NamedCond as ACond};
 ghost use Rattle.su_query.specs.declared.statements.Query.{Query as AQuery};
 ghost use Rattle.su_query.specs.declared.statements.Statement.{Statement as AStatement};
 

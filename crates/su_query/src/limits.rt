@@ -1,7 +1,7 @@
 //! The limits of a statement: 8 variables, 128 outputs, 256 comparisons, tried in this order.
 ghost use Rattle.std.specs.Prelude.{◌≡◌, ◌<◌, ◌≤◌, true, false, [], map, OnOk, IfOk, IfErr};
 ghost use Rattle.su_where.specs.declared.conditions.Condition.TheVariants.{All};
-ghost use Rattle.su_query.specs.Reading.{AreFew, HasFew, Passes, PartsPass, plain_ref, variable_count, parts_of};
+ghost use Rattle.su_query.specs.Limits.{AreFew, HasFew, Passes, PartsPass, plain_ref, variable_count, parts_of};
 
 use crate::conditions::NamedCond;
 use crate::faults::{QueryFault, QueryLimit};

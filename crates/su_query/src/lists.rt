@@ -2,7 +2,7 @@
 ghost use Rattle.std.specs.Prelude.{◌≡◌, ℕ, ◌∷◌, [], IfOk, OnOk, IsErrOf, List as Items};
 ghost use Rattle.su_base.specs.declared.values.Value.{Value as AValue};
 ghost use Rattle.su_query.specs.Lists.{Several};
-ghost use Rattle.su_query.specs.Grammar.{ReadsValue, ReadsRef};
+ghost use Rattle.su_query.specs.Operands.{ReadsValue, ReadsRef};
 ghost use Rattle.su_lex.specs.declared.meaning.Symbol.{Symbol as ASymbol};
 ghost use Rattle.su_query.specs.declared.refs.Ref.{Ref as ARef};
 

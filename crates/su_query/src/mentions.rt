@@ -1,7 +1,8 @@
 //! What conditions and queries mention: refs, and their variables.
 ghost use Rattle.std.specs.Prelude.{◌≡◌, ◌<◌, ◌≤◌, ◌∷◌, ◌++◌, [], true, false, map, flat_map, length, IfOk, OnOk, is_none};
 ghost use Rattle.std.specs.List.{list_any, list_all};
-ghost use Rattle.su_query.specs.Mentions.{are_columns, refs_beside, refs_in, refs_of, mentions, same_variable};
+ghost use Rattle.su_query.specs.Mentions.{are_columns, mentions, same_variable};
+ghost use Rattle.su_query.specs.Refs.{refs_beside, refs_in, refs_of};
 
 use crate::conditions::{Comparison, NamedCond};
 use crate::refs::{NamedOperand, Ref};

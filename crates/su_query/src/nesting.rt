@@ -1,6 +1,6 @@
 //! How deep parentheses stand.
 ghost use Rattle.std.specs.Prelude.{◌≡◌, ◌↔◌, IsTrue};
-ghost use Rattle.su_query.specs.Nesting.{is_open, is_close, IsDeep};
+ghost use Rattle.su_lex.specs.Nesting.{is_open, is_close, IsDeep};
 
 use su_lex::{Sign, Symbol};
 

@@ -1,6 +1,8 @@
 //! Refs as numbers: of places among the attributes, of columns in a relation.
 ghost use Rattle.std.specs.Prelude.{◌≡◌, ◌<◌, ◌≤◌, length, map, IfOk};
-ghost use Rattle.su_query.specs.Lookup.{IsScope, literal_of, names_in, number_among, number_in, numbered, numbered_operand};
+ghost use Rattle.su_query.specs.Scopes.{IsScope, names_in, number_among};
+ghost use Rattle.su_query.specs.Numbering.{literal_of, numbered, numbered_operand};
+ghost use Rattle.su_query.specs.Places.{number_in};
 
 use crate::conditions::{Comparison, NamedCond};
 use crate::places::{Place, find_place, place_of};

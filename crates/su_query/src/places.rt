@@ -2,7 +2,7 @@
 ghost use Rattle.std.specs.Prelude.{◌≡◌, ◌≤◌, [], ◌∷◌, ◌++◌, length, position, unwrap_or, map, if◌then◌else◌, OnOk};
 ghost use Rattle.std.specs.List.{list_any};
 ghost use Rattle.su_query.specs.Mentions.{same_variable};
-ghost use Rattle.su_query.specs.Lookup.{place_in, same_place, places_of};
+ghost use Rattle.su_query.specs.Places.{place_in, same_place, places_of};
 
 use crate::mentions::is_same;
 use crate::refs::Ref;

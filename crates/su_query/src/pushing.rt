@@ -1,7 +1,7 @@
 //! The symbols of names, values, refs and lists of them, added at the end of a list.
 ghost use Rattle.std.specs.Prelude.{◌≡◌, ◌<◌, [], ◌∷◌, ◌++◌, IfOk, OnOk, if◌then◌else◌};
-ghost use Rattle.su_query.specs.Grammar.{op_sym, value_sym};
-ghost use Rattle.su_query.specs.Shown.{name_symbols, value_symbols, ref_symbols, operand_symbols, listed};
+ghost use Rattle.su_query.specs.Operands.{op_sym, value_sym};
+ghost use Rattle.su_query.specs.ShownParts.{name_symbols, value_symbols, ref_symbols, operand_symbols, listed};
 
 use crate::refs::{NamedOperand, Ref};
 use std::alloc::Global;

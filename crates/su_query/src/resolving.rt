@@ -1,10 +1,11 @@
 //! Queries over numbers.
-ghost use Rattle.su_query.specs.Lookup.{resolved_of, IsKnownQuery, IsQueryRefusal};
+ghost use Rattle.su_query.specs.Numbering.{resolved_of};
+ghost use Rattle.su_query.specs.Lookup.{IsKnownQuery, IsQueryRefusal};
 ghost use Rattle.std.specs.Prelude.{◌≡◌, ◌≤◌, [], None, length, map, IfOk, IfErr, OnOk, MatchOption};
 ghost use Rattle.su_query.specs.inside.Faults.{IsFirstFault};
 ghost use Rattle.su_query.specs.Mentions.{mentions, all_refs};
-ghost use Rattle.su_query.specs.Reading.{AreFew};
-ghost use Rattle.su_query.specs.Lookup.{number_in, places_of};
+ghost use Rattle.su_query.specs.Limits.{AreFew};
+ghost use Rattle.su_query.specs.Places.{number_in, places_of};
 ghost use Rattle.su_query.specs.Ranges.{IsResolved};
 
 use crate::faults::QueryFault;

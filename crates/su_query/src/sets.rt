@@ -1,7 +1,7 @@
 //! Sets of attributes: those with given names, and those that a variable is mentioned with.
 ghost use Rattle.std.specs.Prelude.{◌≡◌, ◌<◌, None, IfOk, IfErr, OnOk, All as Each};
-ghost use Rattle.su_schema.specs.SchemaValue.{attribute_names};
-ghost use Rattle.su_query.specs.Lookup.{first_unknown_name};
+ghost use Rattle.su_schema.specs.Entries.{attribute_names};
+ghost use Rattle.su_query.specs.Scopes.{first_unknown_name};
 ghost use Rattle.su_query.specs.Sets.{attributes_named, mentioned_with, IsNameRefusal};
 
 use crate::faults::QueryFault;

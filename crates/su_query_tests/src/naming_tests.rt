@@ -1,7 +1,8 @@
 //! What the names of a statement stand for in a schema.
 ghost use Rattle.std.specs.Prelude.{IfOk};
 ghost use Rattle.su_query.specs.Ranges.{IsResolved};
-ghost use Rattle.su_query.specs.Reading.{HasFew, IsReady};
+ghost use Rattle.su_query.specs.Limits.{HasFew};
+ghost use Rattle.su_query.specs.Reading.{IsReady};
 
 use std::alloc::{AllocError, Global};
 use std::test::Fail;

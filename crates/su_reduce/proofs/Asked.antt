@@ -6,7 +6,7 @@ use Rattle.su_base.specs.declared.values.Value.{Value}
 use Rattle.su_base.specs.declared.values.Value.TheVariants.{Int}
 use Rattle.su_tableau.specs.declared.symbols.Sym.{Sym}
 use Rattle.su_tableau.specs.declared.symbols.Sym.TheVariants.{Const, Var}
-use Rattle.su_tableau.specs.Tableaux.{value_of, values_of}
+use Rattle.su_tableau.specs.Valuations.{value_of, values_of}
 use Rattle.su_reduce.specs.Shapes.{Fits, cell_at, place_of}
 use Rattle.su_reduce.specs.inside.Keys.{FitsAt, assigned, value_at}
 use Rattle.su_reduce.proofs.Placing.{assigned_is, contains_at}

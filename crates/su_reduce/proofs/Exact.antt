@@ -7,7 +7,7 @@ use Rattle.su_base.proofs.Items.{Contains-cases, Contains-head, Contains-later, 
 use Rattle.su_base.specs.declared.values.Value.{Value}
 use Rattle.su_tableau.specs.declared.symbols.Sym.{Sym}
 use Rattle.su_tableau.specs.declared.symbols.Sym.TheVariants.{Const, Var}
-use Rattle.su_tableau.specs.Tableaux.{value_of, values_of}
+use Rattle.su_tableau.specs.Valuations.{value_of, values_of}
 use Rattle.su_reduce.specs.declared.edges.Edge.{Edge}
 use Rattle.su_reduce.specs.Ears.{cells_of, HasVar, Share}
 use Rattle.su_reduce.specs.Left.{cells_at, candidates_at}

@@ -6,7 +6,7 @@ use Rattle.su_base.specs.declared.values.Value.{Value}
 use Rattle.su_base.specs.declared.values.Value.TheVariants.{Int}
 use Rattle.su_tableau.specs.declared.symbols.Sym.{Sym}
 use Rattle.su_tableau.specs.declared.symbols.Sym.TheVariants.{Var}
-use Rattle.su_tableau.specs.Tableaux.{value_of, values_of}
+use Rattle.su_tableau.specs.Valuations.{value_of, values_of}
 use Rattle.su_reduce.specs.Codes.{AreApart, decode}
 use Rattle.su_reduce.specs.Sheets.{AreBelow, IsMarkedKey, Rows, pick}
 use Rattle.su_reduce.specs.inside.Coded.{AreRowsOf, IsCodeOf}

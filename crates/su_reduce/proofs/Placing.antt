@@ -9,7 +9,7 @@ use Rattle.su_base.specs.declared.values.Value.TheVariants.{Int}
 use Rattle.su_tableau.proofs.Rows.{below_more}
 use Rattle.su_tableau.specs.declared.symbols.Sym.{Sym}
 use Rattle.su_tableau.specs.declared.symbols.Sym.TheVariants.{Const, Var}
-use Rattle.su_tableau.specs.Tableaux.{value_of, values_of}
+use Rattle.su_tableau.specs.Valuations.{value_of, values_of}
 use Rattle.su_reduce.specs.Shapes.{cell_at, place_of, AreFirsts}
 use Rattle.su_reduce.specs.inside.Keys.{value_at, assigned, IsPair, AreShared}
 use Rattle.su_reduce.proofs.Meeting.{pushed_each, pushed_length}

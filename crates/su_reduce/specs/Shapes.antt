@@ -6,7 +6,7 @@ use Rattle.su_base.specs.declared.values.Value.{Value}
 use Rattle.su_base.specs.declared.values.Value.TheVariants.{Int}
 use Rattle.su_tableau.specs.declared.symbols.Sym.{Sym}
 use Rattle.su_tableau.specs.declared.symbols.Sym.TheVariants.{Const, Var}
-use Rattle.su_tableau.specs.Tableaux.{values_of}
+use Rattle.su_tableau.specs.Valuations.{values_of}
 use Rattle.su_reduce.specs.declared.shapes.Columns.{Columns}
 use Rattle.su_reduce.specs.declared.shapes.Columns.TheVariants.{Whole, Listed}
 use Rattle.su_reduce.specs.declared.shapes.Shape.{Shape}

@@ -5,12 +5,13 @@ use Rattle.std.proofs.lemmas.List.{length-append, get_or_default}
 use Rattle.std.proofs.lemmas.List.Elements.{All-nil, All-cons, All-head, All-tail, All-append, All-map, All-weaker, All-contains}
 use Rattle.su_base.proofs.Items.{Contains-head, Contains-later, All-members}
 use Rattle.su_lex.specs.declared.meaning.Symbol.{Symbol}
-use Rattle.su_lex.specs.Symbols.{IsSymbol, spaced}
+use Rattle.su_lex.specs.Symbols.{IsSymbol}
+use Rattle.su_lex.specs.Spelling.{spaced}
 use Rattle.su_tableau.specs.declared.symbols.Sym.{Sym}
 use Rattle.su_tableau.specs.declared.symbols.Sym.TheVariants.{Const, Var}
 use Rattle.su_tableau.specs.Mapping.{images_of}
 use Rattle.su_tableau.specs.Kinds.{Kinds}
-use Rattle.su_map.specs.Lists.{rows_in, numbers_of, row_of}
+use Rattle.su_map.specs.Lists.{row_numbers, numbers_of, row_of}
 use Rattle.su_map.proofs.Members.{full_member}
 use Rattle.su_map.proofs.Ranks.{rank_at, numbers_step}
 use Rattle.su_min.specs.Kept.{Minimised, all_rows}
@@ -23,7 +24,10 @@ use Rattle.su_check.specs.declared.sending.Sent.{Sent}
 use Rattle.su_check.specs.Fitting.{Lines}
 use Rattle.su_check.specs.Refuting.{refuting, Refutes}
 use Rattle.su_check.specs.Certificate.{IsGoodForm, IsFoldInto, IsGood}
-use Rattle.su_check.specs.Grammar.{line, number, sym_symbol, kind_symbol, row_line, tree_line, term_lines, certificate_lines, certificate_symbols, IsByte, IsByteNode, IsNamed, IsTermInRange, Reads}
+use Rattle.su_check.specs.Grammar.{line, row_line, tree_line, term_lines, certificate_lines, certificate_symbols, Reads}
+use Rattle.su_check.specs.NodeSymbols.{number, sym_symbol}
+use Rattle.su_lex.specs.Wording.{kind_symbol}
+use Rattle.su_check.specs.Ranges.{IsByte, IsByteNode, IsNamed, IsTermInRange}
 use Rattle.su_check.specs.Verdict.{on_certificate}
 use Rattle.su_refute.specs.Trees.{IsTree, IsTreeAt}
 use Rattle.su_refute.specs.AllTrees.{IsSound, lines_of, AreTreesOf, AreTrees}
@@ -88,7 +92,7 @@ fold_good m s =
       one_each = len;
       head = maps.head;
       rows = λ i h. subst (λ k. images_of maps.symbols (row_of t k) ≡ row_of t (get_or m.fold i 0)) (full_at all n i (all_is t) h) (maps.rows i (omega arith));
-      into = λ k d h. let to = maps.targets k h in subst (Contains (rows_in t m.mask)) (get_or_default m.fold k 0 d h) (in_kept t m.mask (get_or m.fold k 0) to.0 to.1);
+      into = λ k d h. let to = maps.targets k h in subst (Contains (row_numbers t m.mask)) (get_or_default m.fold k 0 d h) (in_kept t m.mask (get_or m.fold k 0) to.0 to.1);
     }
 
 -- ---- one term
@@ -111,19 +115,19 @@ term_good : (kinds : Kinds) (j : ℕ) (m : Minimised) (trees : List Node) → Is
 term_good kinds j m trees w are = record {
   form = form_good kinds j m trees w;
   fold = fold_good m w.sound;
-  trees = λ k h. let x = tree_at (lines_of m) (rows_in m.tableau m.mask) trees are k h in record { tree = x.tree; there = x.there; row = x.row; refutes = x.refutes };
-  no_surplus = trees_few (rows_in m.tableau m.mask) trees;
+  trees = λ k h. let x = tree_at (lines_of m) (row_numbers m.tableau m.mask) trees are k h in record { tree = x.tree; there = x.there; row = x.row; refutes = x.refutes };
+  no_surplus = trees_few (row_numbers m.tableau m.mask) trees;
 }
 
-small_kept : (m : Minimised) → IsSound m → (r : ℕ) → Contains (rows_in m.tableau m.mask) r → r < 64
+small_kept : (m : Minimised) → IsSound m → (r : ℕ) → Contains (row_numbers m.tableau m.mask) r → r < 64
 small_kept m s r has = let h = (kept_in m.tableau m.mask r has).0 in let l = s.small.rows in omega arith
 
 -- numbers of rows
-all_rows_small : (P : ℕ → Type 0) (m : Minimised) → IsSound m → ((r : ℕ) → r < 64 → P r) → All P (rows_in m.tableau m.mask)
-all_rows_small P m s f = All-members P (rows_in m.tableau m.mask) (λ r has. f r (small_kept m s r has))
+all_rows_small : (P : ℕ → Type 0) (m : Minimised) → IsSound m → ((r : ℕ) → r < 64 → P r) → All P (row_numbers m.tableau m.mask)
+all_rows_small P m s f = All-members P (row_numbers m.tableau m.mask) (λ r has. f r (small_kept m s r has))
 
 fold_small : (P : ℕ → Type 0) (m : Minimised) → IsSound m → ((r : ℕ) → r < 64 → P r) → All P m.fold
-fold_small P m s f = All-members P m.fold (λ r has. f r (small_kept m s r (All-contains (Contains (rows_in m.tableau m.mask)) m.fold r (fold_good m s).into has)))
+fold_small P m s f = All-members P m.fold (λ r has. f r (small_kept m s r (All-contains (Contains (row_numbers m.tableau m.mask)) m.fold r (fold_good m s).into has)))
 
 named : (x : Sym) → IsSpelled x → IsNamed x
 named (Var k) h = h
@@ -141,8 +145,8 @@ term_in_range kinds j m trees w are low =
       rows = All-weaker (All IsSpelled) (All IsNamed) (λ row all. All-weaker IsSpelled IsNamed named row all) m.tableau.rows w.rows;
       kept = all_rows_small IsByte m s (λ r h. omega arith);
       fold = fold_small IsByte m s (λ r h. omega arith);
-      tree_rows = row_trees_all (λ t. IsByte t.row) (lines_of m) (rows_in m.tableau m.mask) trees are (λ r n has tree. let l = small_kept m s r has in omega arith);
-      trees = row_trees_all (λ t. IsByteNode t.node) (lines_of m) (rows_in m.tableau m.mask) trees are (λ r n has tree. tree_bytes (lines_of m) r n [] s.small.rows ready.kept tree);
+      tree_rows = row_trees_all (λ t. IsByte t.row) (lines_of m) (row_numbers m.tableau m.mask) trees are (λ r n has tree. let l = small_kept m s r has in omega arith);
+      trees = row_trees_all (λ t. IsByteNode t.node) (lines_of m) (row_numbers m.tableau m.mask) trees are (λ r n has tree. tree_bytes (lines_of m) r n [] s.small.rows ready.kept tree);
     }
 
 term_is_lines : (kinds : Kinds) (j : ℕ) (m : Minimised) (trees : List Node) → IsWritable kinds m → AreTreesOf m trees → j < 2 ^ 32 → All IsLine (term_lines (term_of j m trees))
@@ -155,7 +159,7 @@ term_is_lines kinds j m trees w are low =
     let fold' = line (codes "fold") (map number x.fold) in
     let kept' = line (codes "kept") (map number x.kept) in
     let rows' = map row_line x.rows in
-    let last : All IsLine trees' = All-map IsLine tree_line x.trees (row_trees_all (λ t. IsLine (tree_line t)) (lines_of m) (rows_in m.tableau m.mask) trees are (λ r n has tree. tree_is_line (lines_of m) r n s.small.rows (small_kept m s r has) ready tree)) in
+    let last : All IsLine trees' = All-map IsLine tree_line x.trees (row_trees_all (λ t. IsLine (tree_line t)) (lines_of m) (row_numbers m.tableau m.mask) trees are (λ r n has tree. tree_is_line (lines_of m) r n s.small.rows (small_kept m s r has) ready tree)) in
     let sets : All IsLine (kept' ∷ fold' ∷ trees') = All-cons IsLine kept' (fold' ∷ trees') (numbers_line (codes "kept") x.kept kept_word (all_rows_small small m s (λ r h. omega arith))) (All-cons IsLine fold' trees' (numbers_line (codes "fold") x.fold fold_word (fold_small small m s (λ r h. omega arith))) last) in
     let body : All IsLine (rows' ++ kept' ∷ fold' ∷ trees') = All-append IsLine rows' (kept' ∷ fold' ∷ trees') (All-map IsLine row_line x.rows (λ k d h. row_is_line (get_or x.rows k d) (w.rows k d h))) sets in
     let headed : All IsLine (line (codes "head") (map sym_symbol x.head) ∷ line (codes "rows") [] ∷ (rows' ++ kept' ∷ fold' ∷ trees')) =

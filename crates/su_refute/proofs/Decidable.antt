@@ -9,9 +9,8 @@ use Rattle.su_tableau.specs.declared.symbols.Sym.TheVariants.{Const, Var}
 use Rattle.su_tableau.proofs.Same.{value_same}
 use Rattle.su_check.specs.declared.sending.Sent.{Sent}
 use Rattle.su_check.specs.inside.Cells.{cell, is_const}
-use Rattle.su_check.specs.inside.Agreeing.{KeepsConstants, Gives, Agree}
-use Rattle.su_check.specs.Fitting.{Lines, row_of, AreSent, sent_too}
-use Rattle.su_check.specs.inside.Agreeing.{Goes, AgreesWith}
+use Rattle.su_check.specs.inside.Agreeing.{KeepsConstants, Gives, GoAlike, Goes, AgreesWith}
+use Rattle.su_check.specs.Fitting.{Lines, numbered_row, AreSent, sent_too}
 use Rattle.su_check.specs.Refuting.{IsOpen, IsFitting}
 use Rattle.su_refute.specs.inside.Positions.{IsReady}
 use Rattle.su_check.proofs.TargetsTogether.{sent_more, sent_less}
@@ -82,7 +81,7 @@ decided_contains (x ∷ xs) j =
     (decided_contains xs j))
     (cases_eq x j)
 
-decided_agree : (xs us ys vs : List Sym) → Decided (Agree xs us ys vs)
+decided_agree : (xs us ys vs : List Sym) → Decided (GoAlike xs us ys vs)
 decided_agree xs us ys vs =
     decided_below (λ c. Gives (cell xs c) (cell us c) ys vs) (length xs) (λ c hc.
     decided_below (λ e. cell xs c ≡ cell ys e → cell us c ≡ cell vs e) (length ys) (λ e he.
@@ -99,18 +98,18 @@ decided_keeps xs us =
 decided_goes : (head row target : List Sym) → Decided (Goes head row target)
 decided_goes head row target =
     ⊎_elim
-    (λ (x : KeepsConstants row target × (Agree row target row target × Agree head head row target)). inl (record { constants = x.0; itself = x.1.0; head_symbols = x.1.1 }))
-    (λ (none : KeepsConstants row target × (Agree row target row target × Agree head head row target) → ⊥). inr (λ g. none (g.constants, (g.itself, g.head_symbols))))
-    (decided_both (KeepsConstants row target) (Agree row target row target × Agree head head row target) (decided_keeps row target)
-    (decided_both (Agree row target row target) (Agree head head row target) (decided_agree row target row target) (decided_agree head head row target)))
+    (λ (x : KeepsConstants row target × (GoAlike row target row target × GoAlike head head row target)). inl (record { constants = x.0; itself = x.1.0; head_symbols = x.1.1 }))
+    (λ (none : KeepsConstants row target × (GoAlike row target row target × GoAlike head head row target) → ⊥). inr (λ g. none (g.constants, (g.itself, g.head_symbols))))
+    (decided_both (KeepsConstants row target) (GoAlike row target row target × GoAlike head head row target) (decided_keeps row target)
+    (decided_both (GoAlike row target row target) (GoAlike head head row target) (decided_agree row target row target) (decided_agree head head row target)))
 
 decided_sent : (t : Lines) (p : List Sent) (s j : ℕ) → IsReady t p → s < length t.rows → j < length t.rows → Decided (AreSent t (sent_too p s j))
 decided_sent t p s j ready hs hj =
-    let R : Sent → Type 0 = AgreesWith t (row_of t s) (row_of t j) in
+    let R : Sent → Type 0 = AgreesWith t (numbered_row t s) (numbered_row t j) in
     ⊎_elim
-    (λ (x : Goes t.head (row_of t s) (row_of t j) × All R p). inl (sent_more t p s j (ready.wide s j hs hj) ready.sent x.0 x.1))
-    (λ (none : Goes t.head (row_of t s) (row_of t j) × All R p → ⊥). inr (λ sent. none (sent_less t p s j sent)))
-    (decided_both (Goes t.head (row_of t s) (row_of t j)) (All R p) (decided_goes t.head (row_of t s) (row_of t j)) (decided_all R p (λ x. decided_agree (row_of t x.row) (row_of t x.target) (row_of t s) (row_of t j))))
+    (λ (x : Goes t.head (numbered_row t s) (numbered_row t j) × All R p). inl (sent_more t p s j (ready.wide s j hs hj) ready.sent x.0 x.1))
+    (λ (none : Goes t.head (numbered_row t s) (numbered_row t j) × All R p → ⊥). inr (λ sent. none (sent_less t p s j sent)))
+    (decided_both (Goes t.head (numbered_row t s) (numbered_row t j)) (All R p) (decided_goes t.head (numbered_row t s) (numbered_row t j)) (decided_all R p (λ x. decided_agree (numbered_row t x.row) (numbered_row t x.target) (numbered_row t s) (numbered_row t j))))
 
 pub decided_fitting : (t : Lines) (r : ℕ) (p : List Sent) (s j : ℕ) → IsReady t p → s < length t.rows → Decided (IsFitting t r p s j)
 decided_fitting t r p s j ready hs =

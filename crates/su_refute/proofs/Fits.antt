@@ -2,17 +2,16 @@
 use Rattle.std.proofs.Common.{◌≡◌, ◌≢◌, ℕ, ◌<◌, ◌↔◌, List, [], ◌∷◌, length, Contains, refl, arith}
 use Rattle.std.proofs.lemmas.List.Elements.{All-push}
 use Rattle.su_check.specs.declared.sending.Sent.{Sent}
-use Rattle.su_check.specs.inside.Agreeing.{Agree}
-use Rattle.su_check.specs.Fitting.{Lines, row_of, AreSent, sent_too}
+use Rattle.su_check.specs.inside.Agreeing.{GoAlike, Goes, AgreesWith}
+use Rattle.su_check.specs.Fitting.{Lines, numbered_row, AreSent, sent_too}
 use Rattle.su_check.specs.inside.Widths.{AreWide}
-use Rattle.su_check.specs.inside.Agreeing.{Goes, AgreesWith}
 use Rattle.su_check.specs.Refuting.{IsFitting}
 use Rattle.su_refute.specs.inside.Positions.{IsReady}
 use Rattle.su_check.proofs.FoldTargets.{none_sent}
 use Rattle.su_check.proofs.TargetsTogether.{all_front, all_last, sent_more, sent_less}
 
 -- where no row has a target yet
-pub fits_first : (t : Lines) (r q i : ℕ) → AreWide t.rows → q < length t.rows → i < length t.rows → IsFitting t r [] q i ↔ (Contains t.kept i × (i ≢ r) × Goes t.head (row_of t q) (row_of t i))
+pub fits_first : (t : Lines) (r q i : ℕ) → AreWide t.rows → q < length t.rows → i < length t.rows → IsFitting t r [] q i ↔ (Contains t.kept i × (i ≢ r) × Goes t.head (numbered_row t q) (numbered_row t i))
 fits_first t r q i wide hq hi = (
   λ fit. (fit.member, fit.other, (sent_less t [] q i fit.sent).0),
   λ h. record { member = h.0; other = h.1; sent = sent_more t [] q i (wide q i hq hi) (none_sent t) h.2 (λ k d l. absurd (omega arith)) },
@@ -20,10 +19,10 @@ fits_first t r q i wide hq hi = (
 
 -- where row s has its target j too
 pub fits_next : (t : Lines) (r : ℕ) (p : List Sent) (s j q i : ℕ) → IsReady t p → IsFitting t r p s j → q < length t.rows → i < length t.rows
-    → (IsFitting t r p q i × Agree (row_of t s) (row_of t j) (row_of t q) (row_of t i)) ↔ IsFitting t r (sent_too p s j) q i
+    → (IsFitting t r p q i × GoAlike (numbered_row t s) (numbered_row t j) (numbered_row t q) (numbered_row t i)) ↔ IsFitting t r (sent_too p s j) q i
 fits_next t r p s j q i ready fit hq hi =
     let wide = ready.wide q i hq hi in
-    let R : Sent → Type 0 = AgreesWith t (row_of t q) (row_of t i) in
+    let R : Sent → Type 0 = AgreesWith t (numbered_row t q) (numbered_row t i) in
     let new : Sent = record { row = s; target = j } in (
       λ h.
           let less = sent_less t p q i h.0.sent in

@@ -4,7 +4,7 @@ use Rattle.std.specs.Int.{bit_at}
 use Rattle.std.specs.List.{AllZip}
 use Rattle.su_base.proofs.Items.{Contains-head, Contains-later}
 use Rattle.su_tableau.specs.Tableaux.{IsValid, IsSmall}
-use Rattle.su_map.specs.Lists.{rows_in}
+use Rattle.su_map.specs.Lists.{row_numbers}
 use Rattle.su_check.specs.declared.nodes.Node.{Node}
 use Rattle.su_check.specs.Fitting.{Lines}
 use Rattle.su_min.specs.Kept.{Minimised, IsKept}
@@ -27,7 +27,7 @@ trees_there t [] f = ([], tt)
 trees_there t (r ∷ rs) f = let x = f r (Contains-head r rs) in let more = trees_there t rs (λ q h. f q (Contains-later r rs q h)) in (x.0 ∷ more.0, (x.1, more.1))
 
 pub kept_trees : (m : Minimised) → IsValid m.tableau → IsSmall m.tableau → IsKept m.tableau m.mask → (trees : List Node) × AreTreesOf m trees
-kept_trees m valid small kept = trees_there (lines_of m) (rows_in m.tableau m.mask) (λ r has. kept_tree m r valid small kept (kept_in m.tableau m.mask r has).1)
+kept_trees m valid small kept = trees_there (lines_of m) (row_numbers m.tableau m.mask) (λ r has. kept_tree m r valid small kept (kept_in m.tableau m.mask r has).1)
 
 pub one_list : (t : Lines) (rs : List ℕ) (trees others : List Node) → AllZip (IsTree t) rs trees → AllZip (IsTree t) rs others → trees ≡ others
 one_list t [] [] [] h k = refl
@@ -43,7 +43,7 @@ one_lists [] [] (o ∷ os) h k = absurd k
 one_lists [] (n ∷ ns) os h k = absurd h
 one_lists (m ∷ ms) [] os h k = absurd h
 one_lists (m ∷ ms) (n ∷ ns) [] h k = absurd k
-one_lists (m ∷ ms) (n ∷ ns) (o ∷ os) h k = let e = one_list (lines_of m) (rows_in m.tableau m.mask) n o h.0 k.0 in let es = one_lists ms ns os h.1 k.1 in cc
+one_lists (m ∷ ms) (n ∷ ns) (o ∷ os) h k = let e = one_list (lines_of m) (row_numbers m.tableau m.mask) n o h.0 k.0 in let es = one_lists ms ns os h.1 k.1 in cc
 
 -- ---- no more nodes than there are
 

@@ -5,11 +5,12 @@ use Rattle.std.proofs.lemmas.List.Elements.{recursion_from_All, All-head, All-ta
 use Rattle.su_base.specs.Name.{is_letter_or_digit}
 use Rattle.su_lex.specs.Blanks.{begins, Gap}
 use Rattle.su_lex.specs.Blanks as b
-use Rattle.su_lex.specs.Tokens.{lengthens}
+use Rattle.su_lex.specs.TokenForms.{lengthens}
 use Rattle.su_lex.specs.declared.meaning.Symbol.{Symbol}
 use Rattle.su_lex.specs.declared.meaning.Symbol.TheVariants.{Word, Int, Text, Sign}
 use Rattle.su_lex.specs.declared.signs.Sign.TheVariants as sign
-use Rattle.su_lex.specs.Symbols.{Symbols, IsSymbol, spelled, opens, closes, after, spaced}
+use Rattle.su_lex.specs.Symbols.{Symbols, IsSymbol}
+use Rattle.su_lex.specs.Spelling.{spelled, opens, closes, after, spaced}
 use Rattle.su_lex.specs.inside.Firsts.{IsTokenOf}
 use Rattle.su_lex.proofs.Written.{SymbolsAt, spelled_symbol, symbols_from}
 use Rattle.su_refute.specs.Written.{lines_text}

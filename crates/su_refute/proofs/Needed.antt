@@ -11,20 +11,19 @@ use Rattle.su_tableau.specs.Parts.{part, select}
 use Rattle.su_tableau.specs.Mapping.{images_of, Maps}
 use Rattle.su_tableau.proofs.Sets.{sub_le, select-has, select-from}
 use Rattle.su_tableau.proofs.Containment.{maps_compose}
-use Rattle.su_map.specs.Lists.{rows_in}
+use Rattle.su_map.specs.Lists.{row_numbers}
 use Rattle.su_map.proofs.Members.{without_same, without_out}
 use Rattle.su_check.specs.declared.nodes.Node.{Node}
 use Rattle.su_check.specs.declared.sending.Sent.{Sent}
-use Rattle.su_check.specs.Fitting.{row_of}
+use Rattle.su_check.specs.Fitting.{numbered_row}
 use Rattle.su_check.specs.inside.Widths.{AreWide}
-use Rattle.su_refute.specs.inside.Positions.{IsReady}
+use Rattle.su_refute.specs.inside.Positions.{IsReady, IsFree, IsNeeded, IsAt, Stands, IsTreeFor}
 use Rattle.su_min.specs.Kept.{IsKept}
 use Rattle.su_min.proofs.Parts.{into_maps, maps_into}
 use Rattle.su_min.proofs.Keeping.{kept_within}
 use Rattle.su_refute.specs.declared.nets.Net.{Net}
 use Rattle.su_refute.specs.inside.Nets.{IsNet}
 use Rattle.su_refute.specs.Trees.{lines_in, IsTree, node_count}
-use Rattle.su_refute.specs.inside.Positions.{IsFree, IsNeeded, IsAt, Stands, IsTreeFor}
 use Rattle.su_refute.proofs.MemberCounts.{numbers_exactly}
 use Rattle.su_refute.proofs.SharedPlaces.{member_below}
 use Rattle.su_check.proofs.FoldTargets.{none_sent}
@@ -64,7 +63,7 @@ needed t m r kept small hr one p sent free all =
           (λ (x : (x : Sent) × Contains p x × (x.row ≡ at.place)).
           let target = All-contains (IsFree (lines_in t m) r) p x.0 free x.1 in
           let ht = kept_in t m x.0.target target.0 in
-          let image : images_of sent.symbols (row_of (lines_in t m) x.0.row) ≡ row_of (lines_in t m) x.0.target = All-contains (λ x. images_of sent.symbols (row_of (lines_in t m) x.row) ≡ row_of (lines_in t m) x.target) p x.0 sent.rows x.1 in
+          let image : images_of sent.symbols (numbered_row (lines_in t m) x.0.row) ≡ numbered_row (lines_in t m) x.0.target = All-contains (λ x. images_of sent.symbols (numbered_row (lines_in t m) x.row) ≡ numbered_row (lines_in t m) x.target) p x.0 sent.rows x.1 in
           let here : images_of sent.symbols row ≡ get_or t.rows x.0.target [] = ap (images_of sent.symbols) (sym (at.is []) ∙ ap (λ q. get_or t.rows q []) (sym x.2)) ∙ image in
           subst (Contains (select n t.rows)) (sym here) (select-has n t.rows x.0.target [] ht.0 (same x.0.target target.1 ∙ ht.1)))
           (target_there p at.place);
@@ -88,7 +87,7 @@ pub ready_first : (t : Tab) (m : ℕ) → IsValid t → IsReady (lines_in t m) [
 ready_first t m valid = record {
   wide = wide_rows t valid;
   ascending = (numbers_exactly m (length t.rows)).ascends;
-  kept = All-members (λ k. k < length t.rows) (rows_in t m) (λ k has. (kept_in t m k has).0);
+  kept = All-members (λ k. k < length t.rows) (row_numbers t m) (λ k has. (kept_in t m k has).0);
   within = λ k d h. absurd (omega arith);
   sent = none_sent (lines_in t m);
 }

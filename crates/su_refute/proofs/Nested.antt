@@ -8,7 +8,7 @@ use Rattle.su_base.proofs.Items.{Contains-head, Contains-later}
 use Rattle.su_lex.specs.declared.meaning.Symbol.{Symbol}
 use Rattle.su_lex.specs.declared.meaning.Symbol.TheVariants.{Sign}
 use Rattle.su_lex.specs.declared.signs.Sign.TheVariants as sign
-use Rattle.su_check.specs.Nesting.{is_open, is_close, IsDeep}
+use Rattle.su_lex.specs.Nesting.{is_open, is_close, IsDeep}
 
 abbrev one_if : Bool → ℕ
 one_if b = cond b 1 0

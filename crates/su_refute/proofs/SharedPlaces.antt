@@ -13,8 +13,7 @@ use Rattle.su_tableau.specs.declared.symbols.Sym.TheVariants.{Var}
 use Rattle.su_tableau.specs.Tableaux.{Tab, IsValid}
 use Rattle.su_map.specs.Lists.{row_of}
 use Rattle.su_check.specs.inside.Cells.{cell}
-use Rattle.su_check.specs.inside.Agreeing.{Agree}
-use Rattle.su_check.specs.inside.Agreeing.{Goes}
+use Rattle.su_check.specs.inside.Agreeing.{GoAlike, Goes}
 use Rattle.su_refute.specs.declared.places.Places.{Places}
 use Rattle.su_refute.specs.inside.Nets.{AreWithin, AreShared, AgreeAt, IsSetOf, IsTold}
 
@@ -24,11 +23,11 @@ shared_within xs ys n m places h en em =
     let s = (h x).0 has in let a = s.0 in let b = s.1 in
     (omega arith, omega arith))
 
-pub at_agree : (xs us ys vs : List Sym) (places : List Places) → AreShared xs ys places → AgreeAt places us vs → Agree xs us ys vs
+pub at_agree : (xs us ys vs : List Sym) (places : List Places) → AreShared xs ys places → AgreeAt places us vs → GoAlike xs us ys vs
 at_agree xs us ys vs places h all c hc e he same =
     All-contains (λ x. cell us x.first ≡ cell vs x.second) places (record { first = c; second = e }) all ((h (record { first = c; second = e })).1 (hc, he, same))
 
-pub agree_at : (xs us ys vs : List Sym) (places : List Places) → AreShared xs ys places → Agree xs us ys vs → AgreeAt places us vs
+pub agree_at : (xs us ys vs : List Sym) (places : List Places) → AreShared xs ys places → GoAlike xs us ys vs → AgreeAt places us vs
 agree_at xs us ys vs places h agree =
     All-members (λ x. cell us x.first ≡ cell vs x.second) places (λ x has. let s = (h x).0 has in agree x.first s.0 x.second s.1 s.2)
 

@@ -6,7 +6,7 @@ use Rattle.std.proofs.lemmas.Bool.{cases_lt}
 use Rattle.std.proofs.lemmas.List.{get_or_default, length-take-le, get_or-take, take_more}
 use Rattle.std.proofs.lemmas.List.Sums.{sum_by_push}
 use Rattle.su_base.proofs.Items.{AllZip-push, AllZip-length, AllZip-get_or}
-use Rattle.su_map.specs.Lists.{numbers_of, rows_in}
+use Rattle.su_map.specs.Lists.{numbers_of, row_numbers}
 use Rattle.su_map.proofs.Ranks.{rank_in, rank_at, ranked_at, numbers-more}
 use Rattle.su_check.specs.declared.nodes.Node.{Node}
 use Rattle.su_check.specs.Fitting.{Lines}
@@ -87,7 +87,7 @@ lists_over minimals i unused budget m lists sound h is before counted deeper =
     let x = all_lists minimals sound in
     let l : length (take i minimals) ≡ i = length-take-le i minimals (omega arith) in
     let over =
-    front_over AreTreesOf nodes_in (take i minimals) minimals lists x.0 m m [] unused (λ m y z ty tz. ap nodes_in (one_list (lines_of m) (rows_in m.tableau m.mask) y z ty tz)) (omega arith)
+    front_over AreTreesOf nodes_in (take i minimals) minimals lists x.0 m m [] unused (λ m y z ty tz. ap nodes_in (one_list (lines_of m) (row_numbers m.tableau m.mask) y z ty tz)) (omega arith)
     (λ k hk. get_or-take i minimals k m (omega arith)) (ap (λ k. get_or minimals k m) l ∙ sym is) deeper before x.1 in
     record { trees = x.0; are_trees = x.1; more = omega arith }
 

@@ -6,7 +6,7 @@ use Rattle.std.proofs.lemmas.List.{get_or_default}
 use Rattle.std.proofs.lemmas.List.Elements.{All-push}
 use Rattle.std.proofs.lemmas.Nat.Bits.{bit_at-zero}
 use Rattle.su_tableau.specs.Tableaux.{Tab}
-use Rattle.su_map.specs.Lists.{rows_in}
+use Rattle.su_map.specs.Lists.{row_numbers}
 use Rattle.su_map.proofs.Ranks.{rank, rank_in, rank_at, ranked_at}
 use Rattle.su_check.specs.declared.sending.Sent.{Sent}
 use Rattle.su_check.specs.Fitting.{sent_too}
@@ -15,24 +15,23 @@ use Rattle.su_check.proofs.TargetsTogether.{all_front, all_last}
 use Rattle.su_refute.proofs.Ready.{ready_more}
 use Rattle.su_refute.specs.declared.nets.Net.{Net}
 use Rattle.su_refute.specs.inside.Nets.{IsNet}
-use Rattle.su_refute.specs.Trees.{IsFewest}
-use Rattle.su_refute.specs.Trees.{lines_in}
+use Rattle.su_refute.specs.Trees.{IsFewest, lines_in}
 use Rattle.su_refute.specs.inside.Positions.{IsFree, IsAt, Stands, IsFewestOf}
 use Rattle.su_refute.proofs.Fits.{fits_next}
 use Rattle.su_refute.proofs.AscendingNumbers.{exactly_as}
 use Rattle.su_refute.proofs.MemberCounts.{count_set}
 
 -- the kept rows are the rows in the set
-pub kept_in : (t : Tab) (m i : ℕ) → Contains (rows_in t m) i → (i < length t.rows) × (bit_at m i ≡ 1)
+pub kept_in : (t : Tab) (m i : ℕ) → Contains (row_numbers t m) i → (i < length t.rows) × (bit_at m i ≡ 1)
 kept_in t m i h =
     let r = ranked_at m (length t.rows) h.0 h.1 in
-    let e : r.number ≡ i = sym r.is ∙ get_or_default (rows_in t m) h.0 0 i h.1 ∙ h.2 in
+    let e : r.number ≡ i = sym r.is ∙ get_or_default (row_numbers t m) h.0 0 i h.1 ∙ h.2 in
     (subst (λ i. i < length t.rows) e r.below, subst (λ i. bit_at m i ≡ 1) e r.member)
 
-pub in_kept : (t : Tab) (m i : ℕ) → i < length t.rows → bit_at m i ≡ 1 → Contains (rows_in t m) i
+pub in_kept : (t : Tab) (m i : ℕ) → i < length t.rows → bit_at m i ≡ 1 → Contains (row_numbers t m) i
 in_kept t m i h one =
     let low = rank_in m (length t.rows) i h one in
-    (rank m i, low, get_or_default (rows_in t m) (rank m i) i 0 low ∙ rank_at m (length t.rows) i h one)
+    (rank m i, low, get_or_default (row_numbers t m) (rank m i) i 0 low ∙ rank_at m (length t.rows) i h one)
 
 pub open_in : (t : Tab) (m : ℕ) (p : List Sent) (q : ℕ) → IsOpen (lines_in t m) p q → (q < length t.rows) × (bit_at m q ≡ 1)
 open_in t m p q h = kept_in t m q h.member

@@ -24,7 +24,10 @@ use Rattle.su_check.specs.Fitting.{Lines, sent_too}
 use Rattle.su_check.specs.inside.Widths.{IsWithin}
 use Rattle.su_check.specs.Refuting.{refuting, row_named, branches_of, target_of, node_of}
 use Rattle.su_refute.specs.inside.Positions.{IsReady}
-use Rattle.su_check.specs.Grammar.{number, sym_symbol, kind_symbol, line, in_parens, row_line, tree_line, node_symbols, IsByteNode, of_bytes}
+use Rattle.su_check.specs.NodeSymbols.{number, sym_symbol, node_symbols}
+use Rattle.su_lex.specs.Wording.{kind_symbol, in_parens}
+use Rattle.su_check.specs.Grammar.{line, row_line, tree_line}
+use Rattle.su_check.specs.Ranges.{IsByteNode, of_bytes}
 use Rattle.su_check.proofs.NodeSymbols.{branch_symbols, node_at}
 use Rattle.su_refute.proofs.Ready.{ready_more}
 use Rattle.su_refute.specs.Trees.{IsTreeAt}

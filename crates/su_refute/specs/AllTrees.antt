@@ -3,7 +3,7 @@
 use Rattle.std.specs.Prelude.{ℕ, ◌<◌, List}
 use Rattle.std.specs.List.{AllZip, sum_by}
 use Rattle.su_tableau.specs.Tableaux.{IsValid, IsSmall}
-use Rattle.su_map.specs.Lists.{rows_in}
+use Rattle.su_map.specs.Lists.{row_numbers}
 use Rattle.su_check.specs.declared.nodes.Node.{Node}
 use Rattle.su_check.specs.Fitting.{Lines}
 use Rattle.su_min.specs.Kept.{Minimised, IsMinimised}
@@ -21,7 +21,7 @@ lines_of m = lines_in m.tableau m.mask
 
 -- the trees of the kept rows of one tableau
 abbrev pub AreTreesOf : Minimised → List Node → Type 0
-AreTreesOf m trees = AllZip (IsTree (lines_of m)) (rows_in m.tableau m.mask) trees
+AreTreesOf m trees = AllZip (IsTree (lines_of m)) (row_numbers m.tableau m.mask) trees
 
 -- those of each tableau
 abbrev pub AreTrees : List Minimised → List (List Node) → Type 0

@@ -1,4 +1,5 @@
 -- Laws of trees and of certificates.
+-- tree: why a kept row can't be left out; certificate: the terms with their kept rows, folds and trees
 use Rattle.std.specs.Prelude.{◌≡◌, ◌<◌, ◌≤◌, ◌^◌, ℕ, List, length, All}
 use Rattle.std.specs.Int.{bit_at, w64}
 use Rattle.std.specs.Int.RustNames.{FitsSigned}

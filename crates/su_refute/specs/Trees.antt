@@ -2,7 +2,7 @@
 -- fewest: of the open rows the one with the fewest fitting targets, the least such row
 use Rattle.std.specs.Prelude.{◌≡◌, ℕ, ◌+◌, ◌<◌, ◌≤◌, ◌⊎◌, List, [], length, sum}
 use Rattle.su_tableau.specs.Tableaux.{Tab}
-use Rattle.su_map.specs.Lists.{rows_in}
+use Rattle.su_map.specs.Lists.{row_numbers}
 use Rattle.su_check.specs.declared.sending.Sent.{Sent}
 use Rattle.su_check.specs.declared.nodes.Node.{Node, fold-Node}
 use Rattle.su_check.specs.declared.nodes.Branch.TheOpen.{Node-F}
@@ -11,7 +11,7 @@ use Rattle.su_check.specs.Refuting.{IsOpen, AreExactly, IsFitting, RefutesBy}
 
 -- the lines of the tableau, and the rows in m as the kept ones
 abbrev pub lines_in : Tab → ℕ → Lines
-lines_in t m = record { head = t.head; rows = t.rows; kept = rows_in t m }
+lines_in t m = record { head = t.head; rows = t.rows; kept = row_numbers t m }
 
 -- no open row has fewer fitting targets, and none before it has as few
 abbrev pub IsFewest : Lines → ℕ → List Sent → ℕ → Type 0

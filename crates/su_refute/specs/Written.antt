@@ -1,9 +1,10 @@
 -- How certificates are written: a term for each tableau, and a line feed behind each line.
+-- tree: of a kept row; line: symbols, spaced
 use Rattle.std.specs.Prelude.{ℕ, suc, List, [], ◌∷◌, ◌++◌, flat_map}
 use Rattle.su_base.specs.declared.values.Kind.{Kind}
 use Rattle.su_lex.specs.declared.meaning.Symbol.{Symbol}
-use Rattle.su_lex.specs.Symbols.{spaced}
-use Rattle.su_map.specs.Lists.{rows_in}
+use Rattle.su_lex.specs.Spelling.{spaced}
+use Rattle.su_map.specs.Lists.{row_numbers}
 use Rattle.su_min.specs.Kept.{Minimised}
 use Rattle.su_check.specs.declared.nodes.Node.{Node}
 use Rattle.su_check.specs.declared.certificates.RowTree.{RowTree}
@@ -23,9 +24,9 @@ term_of i m trees = record {
   number = i;
   head = m.tableau.head;
   rows = m.tableau.rows;
-  kept = rows_in m.tableau m.mask;
+  kept = row_numbers m.tableau m.mask;
   fold = m.fold;
-  trees = row_trees (rows_in m.tableau m.mask) trees;
+  trees = row_trees (row_numbers m.tableau m.mask) trees;
 }
 
 -- the terms from number i on; a tableau without a list has no trees

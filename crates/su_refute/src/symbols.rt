@@ -1,7 +1,9 @@
 //! Symbols of certificates, at the end of a list.
 ghost use Rattle.std.specs.Prelude.{◌≡◌, [], ◌∷◌, ◌++◌, OnOk, map, flat_map};
 ghost use Rattle.su_check.specs.Refuting.{target_of, node_of};
-ghost use Rattle.su_check.specs.Grammar.{number, sym_symbol, kind_symbol, row_line, node_symbols};
+ghost use Rattle.su_check.specs.NodeSymbols.{number, sym_symbol, node_symbols};
+ghost use Rattle.su_lex.specs.Wording.{kind_symbol};
+ghost use Rattle.su_check.specs.Grammar.{row_line};
 
 use std::alloc::Global;
 use su_base::{Kind, List, NoMemory, Value};

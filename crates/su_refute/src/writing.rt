@@ -1,8 +1,10 @@
 //! The text of a certificate.
 ghost use Rattle.std.specs.Prelude.{◌≡◌, ◌<◌, [], ◌∷◌, ◌++◌, ℕ, List as Items, OnOk, IfOk, map, length, get_or, codes, ◌^◌};
 ghost use Rattle.su_lex.specs.declared.meaning.Symbol.TheVariants.{Word};
-ghost use Rattle.su_map.specs.Lists.{rows_in};
-ghost use Rattle.su_check.specs.Grammar.{number, sym_symbol, kind_symbol, line, row_line, tree_line, term_lines};
+ghost use Rattle.su_map.specs.Lists.{row_numbers};
+ghost use Rattle.su_check.specs.NodeSymbols.{number, sym_symbol};
+ghost use Rattle.su_lex.specs.Wording.{kind_symbol};
+ghost use Rattle.su_check.specs.Grammar.{line, row_line, tree_line, term_lines};
 ghost use Rattle.su_refute.specs.Written.{row_trees, term_of, certificate_of, certificate_text, line_text, lines_text};
 
 use crate::symbols::{push_kinds, push_node, push_number, push_numbers, push_row, push_syms};
@@ -96,7 +98,7 @@ fn push_trees(alloc: Global, out: &mut Vec<u8>, kept: &[u8], trees: &[Node]) -> 
 
 /// The kept rows, ascending.
 fn kept_rows(alloc: Global, minimal: &Minimal) -> Result<List<u8>, NoMemory>
-    ensures { IfOk result (λ kept. kept ≡ rows_in minimal.now.tableau minimal.now.mask) }
+    ensures { IfOk result (λ kept. kept ≡ row_numbers minimal.now.tableau minimal.now.mask) }
 {
     let mask = minimal.mask();
     let mut kept = List::new(alloc);

@@ -13,9 +13,14 @@ use Rattle.su_schema.specs.declared.faults.SchemaFault.{SchemaFault}
 use Rattle.su_schema.specs.declared.definitions.Pair.{Pair}
 use Rattle.su_schema.specs.declared.definitions.Definition.{Definition}
 use Rattle.su_schema.specs.declared.definitions.Definition.TheVariants.{Attribute, Relation, Object, Fd, Maximal}
-use Rattle.su_schema.specs.SchemaValue.{SchemaValue, AttributeEntry, RelationEntry, ObjectEntry, IsValid, IsRelation, IsObject, IsDependency, IsSomeBelow, attribute_names, relation_names, object_names, column_names}
-use Rattle.su_schema.specs.Checks.{first_failing, is_known, number_of, name_checks, checks, columns_at}
-use Rattle.su_schema.specs.Defining.{applied, extended, IsWellNamed, numbers_of, links_of}
+use Rattle.su_schema.specs.SchemaValue.{SchemaValue, AttributeEntry, RelationEntry, ObjectEntry}
+use Rattle.su_schema.specs.Valid.{IsValid, IsRelationEntry, IsObject, IsDependency}
+use Rattle.su_schema.specs.Entries.{IsSomeBelow, attribute_names, relation_names, object_names, column_names}
+use Rattle.su_schema.specs.NameChecks.{first_failing, name_checks}
+use Rattle.su_schema.specs.Known.{is_known, number_of, columns_at}
+use Rattle.su_schema.specs.Checks.{checks}
+use Rattle.su_schema.specs.Defining.{applied, extended, numbers_of, links_of}
+use Rattle.su_schema.specs.WellNamed.{IsWellNamed}
 use Rattle.su_schema.proofs.Validity.{pass, passed_both, slice_get-grows, names_more, apart_names, object_more, below_more, dependency_more, numbers_some}
 use Rattle.su_schema.proofs.ObjectValid.{relation_there, joined, ordered, some_links}
 
@@ -56,7 +61,7 @@ valid_relation schema name columns well valid h =
     let room = pass (nat_le 64 (length schema.relations)) _ _ new.1 in
     let few = pass (nat_lt 32 (length columns)) _ _ room.1 in
     let entry : RelationEntry = record { name = name; columns = columns } in
-    let is : IsRelation entry = record {
+    let is : IsRelationEntry entry = record {
       some = rw (← length-map columns (λ c. c.name)) well.1.some;
       few = grind (arith, nat_tests, few.0);
       columns = record { named = well.1.named; apart = apart_names [] (column_names columns) (λ i j d less within. absurd (omega arith)) few.1 };
@@ -66,7 +71,7 @@ valid_relation schema name columns well valid h =
       few_attributes = valid.few_attributes;
       relation_names = rw map-append (names_more (relation_names schema) name valid.relation_names well.0 new.0);
       few_relations = one_more schema.relations entry 64 room.0;
-      relations = All-push IsRelation schema.relations entry valid.relations is;
+      relations = All-push IsRelationEntry schema.relations entry valid.relations is;
       object_names = valid.object_names;
       few_objects = valid.few_objects;
       objects = λ k d within. object_more schema (extended schema (Relation name columns)) (λ i x at. at) (λ i x at. slice_get-grows schema.relations (entry ∷ []) i x at) _ (valid.objects k d within);

@@ -4,8 +4,9 @@ use Rattle.std.proofs.Math.Seq.{drop-cons}
 use Rattle.std.proofs.lemmas.List.{take_more, map-append}
 use Rattle.su_base.specs.declared.values.Column.{Column}
 use Rattle.su_schema.specs.declared.faults.SchemaFault.TheVariants.{Twice}
-use Rattle.su_schema.specs.SchemaValue.{column_names, place_of}
-use Rattle.su_schema.specs.Checks.{first_failing, is_known, apart_checks}
+use Rattle.su_schema.specs.Entries.{column_names, place_of}
+use Rattle.su_schema.specs.NameChecks.{first_failing, apart_checks}
+use Rattle.su_schema.specs.Known.{is_known}
 use Rattle.su_schema.proofs.Numbers.{is_known-place_of}
 
 -- no name that was read stands twice

@@ -8,7 +8,7 @@ use Rattle.indexmap.specs.IndexMap.{insert_entry}
 use Rattle.std.proofs.lemmas.List.{take_more, length-take, get_or-take, get_or_default}
 use Rattle.std.proofs.lemmas.Option.{get_or_from_slice_get, slice_get_within, slice_get-map}
 use Rattle.std.proofs.lemmas.Slice.Eq.{bytes_eq-Decides}
-use Rattle.su_schema.specs.Checks.{is_known}
+use Rattle.su_schema.specs.Known.{is_known}
 use Rattle.su_schema.proofs.Entries.{added, added_last}
 
 unknown_from : (names : List (List ℕ)) (name : List ℕ) → ((k : ℕ) (d : List ℕ) → k < length names → get_or names k d ≢ name) → is_known names name ≡ false

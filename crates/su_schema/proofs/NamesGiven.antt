@@ -4,7 +4,7 @@ use lib.ListN.{length-map}
 use Rattle.std.proofs.lemmas.List.{get_or-map}
 use Rattle.std.proofs.lemmas.List.Elements.{All-map}
 use Rattle.su_base.specs.Name.{IsName}
-use Rattle.su_schema.specs.Defining.{AreGiven}
+use Rattle.su_schema.specs.WellNamed.{AreGiven}
 
 -- a test of each thing is a test of the texts
 pub given_test : {X : Type 0} (f : X → List ℕ) (xs : List X) (all : Bool) → 0 < length xs → IsTrue all ↔ All (λ x. IsName (f x)) xs → IsTrue all ↔ AreGiven (map f xs)

@@ -6,8 +6,9 @@ use Rattle.std.proofs.lemmas.List.Elements.{All-push}
 use Rattle.std.specs.Ordering.{nat_cmp}
 use Rattle.std.specs.FinSet.{FinSet, empty, contains, insert}
 use Rattle.su_schema.specs.declared.faults.SchemaFault.TheVariants.{Twice, Unknown}
-use Rattle.su_schema.specs.SchemaValue.{place_of}
-use Rattle.su_schema.specs.Checks.{first_failing, is_known, number_of, name_checks, old_name, new_name}
+use Rattle.su_schema.specs.Entries.{place_of}
+use Rattle.su_schema.specs.NameChecks.{first_failing, name_checks, old_name, new_name}
+use Rattle.su_schema.specs.Known.{is_known, number_of}
 use Rattle.su_schema.specs.Defining.{numbers_of}
 use Rattle.su_schema.proofs.Numbers.{known-Some, known-None, contains-numbers_of, from_list-push}
 

@@ -12,8 +12,8 @@ use Rattle.std.proofs.lemmas.List.Elements.{All-head, All-tail}
 use Rattle.std.proofs.lemmas.Slice.Eq.{bytes_eq-Decides}
 use Rattle.std.proofs.lemmas.List.Folds.{list_any-append}
 use Rattle.std.proofs.lemmas.List.{take_more, map-append}
-use Rattle.su_schema.specs.SchemaValue.{place_of}
-use Rattle.su_schema.specs.Checks.{is_known, number_of}
+use Rattle.su_schema.specs.Entries.{place_of}
+use Rattle.su_schema.specs.Known.{is_known, number_of}
 use Rattle.su_schema.specs.Defining.{numbers_of}
 
 -- an item passes exactly where the first that passes is within the list

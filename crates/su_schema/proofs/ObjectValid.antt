@@ -11,8 +11,12 @@ use Rattle.su_base.specs.declared.values.Kind.TheVariants.{Int}
 use Rattle.su_base.specs.declared.values.Column.{Column}
 use Rattle.su_schema.specs.declared.definitions.Pair.{Pair}
 use Rattle.su_schema.specs.declared.links.Link.{Link}
-use Rattle.su_schema.specs.SchemaValue.{SchemaValue, AttributeEntry, RelationEntry, IsLink, attribute_names, relation_names, column_names}
-use Rattle.su_schema.specs.Checks.{first_failing, is_known, number_of, pair_checks, columns_at, attribute_kind, column_kind}
+use Rattle.su_schema.specs.SchemaValue.{SchemaValue, AttributeEntry, RelationEntry}
+use Rattle.su_schema.specs.Valid.{IsLink}
+use Rattle.su_schema.specs.Entries.{attribute_names, relation_names, column_names}
+use Rattle.su_schema.specs.NameChecks.{first_failing}
+use Rattle.su_schema.specs.Known.{is_known, number_of, columns_at, attribute_kind, column_kind}
+use Rattle.su_schema.specs.Checks.{pair_checks}
 use Rattle.su_schema.specs.Defining.{link_of, links_of}
 use Rattle.su_schema.proofs.Ascending.{ascending-IsBelow, ascending-holds, Ordered, ascending-AllPairs}
 use Rattle.su_schema.proofs.Numbers.{same_number}

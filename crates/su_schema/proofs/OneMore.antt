@@ -14,9 +14,14 @@ use Rattle.su_schema.specs.declared.definitions.Definition.{Definition}
 use Rattle.su_schema.specs.declared.definitions.Definition.TheVariants.{Attribute, Relation, Object, Fd, Maximal}
 use Rattle.su_schema.specs.declared.links.Object.{Object as KeptObject}
 use Rattle.su_schema.specs.declared.schemas.Schema.TheInside.{Inside}
-use Rattle.su_schema.specs.SchemaValue.{SchemaValue, IsValid, attribute_names, relation_names, object_names}
-use Rattle.su_schema.specs.Checks.{first_failing, is_known, number_of, checks, columns_at}
-use Rattle.su_schema.specs.Defining.{extended, numbers_of, links_of, IsWellNamed}
+use Rattle.su_schema.specs.SchemaValue.{SchemaValue}
+use Rattle.su_schema.specs.Valid.{IsValid}
+use Rattle.su_schema.specs.Entries.{attribute_names, relation_names, object_names}
+use Rattle.su_schema.specs.NameChecks.{first_failing}
+use Rattle.su_schema.specs.Known.{is_known, number_of, columns_at}
+use Rattle.su_schema.specs.Checks.{checks}
+use Rattle.su_schema.specs.Defining.{extended, numbers_of, links_of}
+use Rattle.su_schema.specs.WellNamed.{IsWellNamed}
 use Rattle.su_schema.specs.Maps.{shown}
 use Rattle.su_schema.specs.Shown.{HasItsSet}
 use Rattle.su_schema.specs.inside.Kept.{object_on}

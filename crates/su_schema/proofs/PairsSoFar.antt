@@ -5,18 +5,20 @@ use Rattle.std.proofs.Math.Seq.{drop-cons}
 use Rattle.std.specs.List.{list_any}
 use Rattle.std.specs.Str.{bytes_eq}
 use Rattle.std.proofs.lemmas.Option.{get_or_from_slice_get, slice_get-map, slice_get-get_or}
-use Rattle.std.proofs.lemmas.List.{take_more, map-append}
+use Rattle.std.proofs.lemmas.List.{take_more, map-append, get_or-map}
 use Rattle.std.proofs.lemmas.List.Elements.{All-push, All-head, All-tail}
 use Rattle.su_base.specs.declared.values.Column.{Column}
 use Rattle.su_schema.specs.declared.faults.SchemaFault.{SchemaFault}
 use Rattle.su_schema.specs.declared.faults.SchemaFault.TheVariants.{Twice, Unknown}
 use Rattle.su_schema.specs.declared.links.Link.{Link}
 use Rattle.su_schema.specs.declared.definitions.Pair.{Pair}
-use Rattle.su_schema.specs.SchemaValue.{SchemaValue, place_of, attribute_names, attribute_kinds, column_names, relation_columns}
-use Rattle.su_schema.specs.Checks.{Check, first_failing, is_known, number_of, known_checks, fresh_checks, one_kind, pair_checks, columns_at, attribute_kind, column_kind}
+use Rattle.su_schema.specs.SchemaValue.{SchemaValue}
+use Rattle.su_schema.specs.Entries.{place_of, attribute_names, attribute_kinds, column_names, relation_columns}
+use Rattle.su_schema.specs.NameChecks.{Check, first_failing}
+use Rattle.su_schema.specs.Known.{is_known, number_of, columns_at, attribute_kind, column_kind}
+use Rattle.su_schema.specs.Checks.{known_checks, fresh_checks, one_kind, pair_checks}
 use Rattle.su_schema.specs.Defining.{link_of}
 use lib.ListN.{length-map}
-use Rattle.std.proofs.lemmas.List.{get_or-map}
 use Rattle.std.proofs.lemmas.Bool.Decides.{nat_tests}
 use Rattle.su_base.specs.declared.values.Kind.{Kind}
 use Rattle.su_base.specs.declared.values.Kind.TheVariants.{Int}

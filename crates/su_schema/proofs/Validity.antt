@@ -19,9 +19,13 @@ use Rattle.su_base.specs.declared.values.Kind.TheVariants.{Int, Text}
 use Rattle.su_fd.specs.declared.Fd.{Fd}
 use Rattle.su_schema.specs.declared.faults.SchemaFault.{SchemaFault}
 use Rattle.su_schema.specs.declared.definitions.Pair.{Pair}
-use Rattle.su_schema.specs.SchemaValue.{SchemaValue, AttributeEntry, RelationEntry, ObjectEntry, IsObject, IsLink, IsDependency, IsSomeBelow, AreNames, attribute_names, column_names}
+use Rattle.su_schema.specs.SchemaValue.{SchemaValue, AttributeEntry, RelationEntry, ObjectEntry}
+use Rattle.su_schema.specs.Valid.{IsObject, IsLink, IsDependency}
+use Rattle.su_schema.specs.Entries.{IsSomeBelow, AreDistinctNames, attribute_names, column_names}
 use Rattle.su_base.specs.Value.{same_kind}
-use Rattle.su_schema.specs.Checks.{Check, first_failing, is_known, number_of, name_checks, apart_checks, pair_checks, attribute_kind, column_kind}
+use Rattle.su_schema.specs.NameChecks.{Check, first_failing, name_checks, apart_checks}
+use Rattle.su_schema.specs.Known.{is_known, number_of, attribute_kind, column_kind}
+use Rattle.su_schema.specs.Checks.{pair_checks}
 use Rattle.su_schema.specs.Defining.{numbers_of}
 use Rattle.su_schema.proofs.Numbers.{any_within}
 
@@ -49,7 +53,7 @@ pub apart_from : (names : List (List ℕ)) (name : List ℕ) → is_known names 
 apart_from names name new k d within same =
     false≢true (sym new ∙ list_any_at (λ n. bytes_eq name n) names k d within ((bytes_eq-Decides name (get_or names k d)).1 (sym same)))
 
-pub names_more : (names : List (List ℕ)) (name : List ℕ) → AreNames names → IsName name → is_known names name ≡ false → AreNames (names ++ name ∷ [])
+pub names_more : (names : List (List ℕ)) (name : List ℕ) → AreDistinctNames names → IsName name → is_known names name ≡ false → AreDistinctNames (names ++ name ∷ [])
 names_more names name are named new = record {
   named = All-push IsName names name are.named named;
   apart = all_pairs_push (λ x y. x ≢ y) names name are.apart (apart_from names name new);

@@ -5,7 +5,8 @@ use Rattle.std.specs.Prelude.{ℕ, suc, if◌then◌else◌, List, [], ◌∷◌
 use Rattle.std.specs.Ordering.{nat_cmp}
 use Rattle.std.specs.FinSet.{FinSet, contains, empty}
 use Rattle.su_base.specs.declared.values.Value.{Value}
-use Rattle.su_schema.specs.SchemaValue.{SchemaValue, attribute_kinds, attributes_of}
+use Rattle.su_schema.specs.SchemaValue.{SchemaValue}
+use Rattle.su_schema.specs.Entries.{attribute_kinds, attributes_of}
 
 -- how many attributes there are
 abbrev pub width : SchemaValue → ℕ

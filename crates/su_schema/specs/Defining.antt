@@ -1,18 +1,21 @@
 -- What a definition makes of a schema: a refusal, or the schema with the definition at the end of its list.
-use Rattle.std.specs.Prelude.{◌≡◌, ◌⊎◌, ℕ, ◌<◌, List, [], ◌∷◌, ◌++◌, All, length, map, filter_map, find, ◌==◌, Option, Some, None, Result, Ok, Err}
+-- applied: extended by the definition, or refused by the first check that fails
+use Rattle.std.specs.Prelude.{◌≡◌, ◌⊎◌, ℕ, List, [], ◌∷◌, ◌++◌, length, map, filter_map, find, ◌==◌, Option, Some, None, Result, Ok, Err}
 use Rattle.std.specs.List.{range_with_len}
 use Rattle.std.specs.Ordering.{nat_cmp}
 use Rattle.std.specs.FinSet.{FinSet, from_list}
 use Rattle.su_base.specs.declared.values.Column.{Column}
-use Rattle.su_base.specs.Name.{IsName}
 use Rattle.su_schema.specs.declared.faults.SchemaFault.{SchemaFault}
 use Rattle.su_schema.specs.declared.faults.SchemaFault.TheVariants.{NoMemory}
 use Rattle.su_schema.specs.declared.definitions.Pair.{Pair}
 use Rattle.su_schema.specs.declared.definitions.Definition.{Definition}
 use Rattle.su_schema.specs.declared.definitions.Definition.TheVariants.{Attribute, Relation, Object, Fd, Maximal}
 use Rattle.su_schema.specs.declared.links.Link.{Link}
-use Rattle.su_schema.specs.SchemaValue.{SchemaValue, attribute_names, relation_names, column_names, object_names}
-use Rattle.su_schema.specs.Checks.{checks, first_failing, number_of, columns_at}
+use Rattle.su_schema.specs.SchemaValue.{SchemaValue}
+use Rattle.su_schema.specs.Entries.{attribute_names, relation_names, column_names, object_names}
+use Rattle.su_schema.specs.Checks.{checks}
+use Rattle.su_schema.specs.NameChecks.{first_failing}
+use Rattle.su_schema.specs.Known.{number_of, columns_at}
 
 -- the set of the numbers of these names
 abbrev pub numbers_of : List (List ℕ) → List (List ℕ) → FinSet nat_cmp
@@ -52,19 +55,5 @@ abbrev pub applied : SchemaValue → Definition → Result SchemaValue SchemaFau
 applied schema definition = outcome (first_failing (checks schema definition)) (extended schema definition)
 
 -- a refusal: memory is wanting, or the first check that fails answers this
-abbrev pub IsRefusal : SchemaValue → Definition → SchemaFault → Type 0
-IsRefusal schema definition fault = (fault ≡ NoMemory) ⊎ (applied schema definition ≡ Err fault)
-
--- names of the language, one at least
-pub record AreGiven (names : List (List ℕ)) : Type 0 where
-  pub some : 0 < length names
-  pub named : All IsName names
-
--- what a definition promises of its texts, so that a reader of the language may hand it over
-abbrev pub IsWellNamed : Definition → Type 0
-IsWellNamed (Attribute name kind) = IsName name
-IsWellNamed (Relation name columns) = IsName name × AreGiven (column_names columns)
-IsWellNamed (Object name relation pairs) =
-    IsName name × IsName relation × AreGiven (map (λ p. p.attribute) pairs) × AreGiven (map (λ p. p.column) pairs)
-IsWellNamed (Fd left right) = AreGiven left × AreGiven right
-IsWellNamed (Maximal objects) = AreGiven objects
+abbrev pub IsDefinitionRefusal : SchemaValue → Definition → SchemaFault → Type 0
+IsDefinitionRefusal schema definition fault = (fault ≡ NoMemory) ⊎ (applied schema definition ≡ Err fault)

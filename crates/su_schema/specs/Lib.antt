@@ -5,3 +5,8 @@ pub mod Maps
 pub mod inside
 pub mod SchemaValue
 pub mod Shown
+pub mod Known
+pub mod NameChecks
+pub mod WellNamed
+pub mod Entries
+pub mod Valid

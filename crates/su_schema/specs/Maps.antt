@@ -1,7 +1,9 @@
 -- What contracts see of a schema, and what is true of its maps and lists at every moment.
+-- map: by name, in the order of definition
 use Rattle.std.specs.Prelude.{All, map}
 use Rattle.su_schema.specs.declared.schemas.Schema.TheInside.{Inside}
-use Rattle.su_schema.specs.SchemaValue.{SchemaValue, IsValid}
+use Rattle.su_schema.specs.SchemaValue.{SchemaValue}
+use Rattle.su_schema.specs.Valid.{IsValid}
 use Rattle.su_schema.specs.Shown.{shown_attribute, shown_relation, shown_object, HasItsSet}
 
 -- the schema that the maps stand for

@@ -1,4 +1,5 @@
 -- What contracts see of the entries of the maps that a schema is kept in: a name beside what it names.
+-- entry: a name, and what it names
 use Rattle.std.specs.Prelude.{◌≡◌, List, map, string_bytes}
 use Rattle.std.specs.FinSet.{from_list}
 use Rattle.std.specs.declared.alloc.Global.{Global}

@@ -1,9 +1,10 @@
 //! The calls that add to a schema. Each adds its definition whole, or changes nothing.
 ghost use Rattle.std.specs.Prelude.{◌≡◌, ◌<◌, [], ◌⊎◌, length, IfOk, IfErr, OnOk, OnErr};
 ghost use Rattle.su_base.specs.Name.{IsName};
-ghost use Rattle.su_schema.specs.SchemaValue.{column_names};
-ghost use Rattle.su_schema.specs.Checks.{first_failing, apart_checks};
-ghost use Rattle.su_schema.specs.Defining.{applied, IsRefusal, IsWellNamed};
+ghost use Rattle.su_schema.specs.Entries.{column_names};
+ghost use Rattle.su_schema.specs.NameChecks.{first_failing, apart_checks};
+ghost use Rattle.su_schema.specs.Defining.{applied, IsDefinitionRefusal};
+ghost use Rattle.su_schema.specs.WellNamed.{IsWellNamed};
 
 use crate::copying::copy_columns;
 use crate::definitions::{Definition, Pair};
@@ -34,7 +35,7 @@ impl Schema {
     pub fn attribute(&mut self, name: &str, kind: Kind) -> Result<(), SchemaFault>
         requires { IsWellNamed (Definition.Attribute name.now kind) }
         ensures ok { OnOk result (applied self.old (Definition.Attribute name.now kind) ≡ Ok self.new) }
-        ensures refused { IfErr result (IsRefusal self.old (Definition.Attribute name.now kind)) }
+        ensures refused { IfErr result (IsDefinitionRefusal self.old (Definition.Attribute name.now kind)) }
         ensures unchanged { OnErr result (self.new ≡ self.old) }
     {
         if self.find_attribute(name).is_some() {
@@ -54,7 +55,7 @@ impl Schema {
     pub fn relation(&mut self, name: &str, columns: &[Column]) -> Result<(), SchemaFault>
         requires { IsWellNamed (Definition.Relation name.now columns.now) }
         ensures ok { OnOk result (applied self.old (Definition.Relation name.now columns.now) ≡ Ok self.new) }
-        ensures refused { IfErr result (IsRefusal self.old (Definition.Relation name.now columns.now)) }
+        ensures refused { IfErr result (IsDefinitionRefusal self.old (Definition.Relation name.now columns.now)) }
         ensures unchanged { OnErr result (self.new ≡ self.old) }
     {
         if self.find_relation(name).is_some() {
@@ -80,7 +81,7 @@ impl Schema {
     pub fn object(&mut self, name: &str, relation: &str, pairs: &[Pair]) -> Result<(), SchemaFault>
         requires { IsWellNamed (Definition.Object name.now relation.now pairs.now) }
         ensures ok { OnOk result (applied self.old (Definition.Object name.now relation.now pairs.now) ≡ Ok self.new) }
-        ensures refused { IfErr result (IsRefusal self.old (Definition.Object name.now relation.now pairs.now)) }
+        ensures refused { IfErr result (IsDefinitionRefusal self.old (Definition.Object name.now relation.now pairs.now)) }
         ensures unchanged { OnErr result (self.new ≡ self.old) }
     {
         if self.find_object(name).is_some() {
@@ -104,7 +105,7 @@ impl Schema {
     pub fn fd(&mut self, left: &[Str], right: &[Str]) -> Result<(), SchemaFault>
         requires { IsWellNamed (Definition.Fd left.now right.now) }
         ensures ok { OnOk result (applied self.old (Definition.Fd left.now right.now) ≡ Ok self.new) }
-        ensures refused { IfErr result (IsRefusal self.old (Definition.Fd left.now right.now)) }
+        ensures refused { IfErr result (IsDefinitionRefusal self.old (Definition.Fd left.now right.now)) }
         ensures unchanged { OnErr result (self.new ≡ self.old) }
     {
         if self.fds().len() >= 256 {
@@ -121,7 +122,7 @@ impl Schema {
     pub fn maximal(&mut self, objects: &[Str]) -> Result<(), SchemaFault>
         requires { IsWellNamed (Definition.Maximal objects.now) }
         ensures ok { OnOk result (applied self.old (Definition.Maximal objects.now) ≡ Ok self.new) }
-        ensures refused { IfErr result (IsRefusal self.old (Definition.Maximal objects.now)) }
+        ensures refused { IfErr result (IsDefinitionRefusal self.old (Definition.Maximal objects.now)) }
         ensures unchanged { OnErr result (self.new ≡ self.old) }
     {
         if self.declared().len() >= 64 {
@@ -136,7 +137,7 @@ impl Schema {
     pub fn define(&mut self, definition: &Definition) -> Result<(), SchemaFault>
         requires { IsWellNamed definition.now }
         ensures ok { OnOk result (applied self.old definition.now ≡ Ok self.new) }
-        ensures refused { IfErr result (IsRefusal self.old definition.now) }
+        ensures refused { IfErr result (IsDefinitionRefusal self.old definition.now) }
         ensures unchanged { OnErr result (self.new ≡ self.old) }
     {
         match definition {

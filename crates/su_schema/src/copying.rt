@@ -1,7 +1,7 @@
 //! A schema of its own that equals another.
 ghost use Rattle.std.specs.Prelude.{◌≡◌, map, All, IfOk};
 ghost use Rattle.su_schema.specs.Shown.{shown_attribute, shown_relation, shown_object, HasItsSet};
-ghost use Rattle.su_schema.specs.SchemaValue.{AreNames};
+ghost use Rattle.su_schema.specs.Entries.{AreDistinctNames};
 
 use crate::faults::SchemaFault;
 use crate::links::{Link, Object};
@@ -63,7 +63,7 @@ fn copy_attributes(
     alloc: Global,
     attributes: &IndexMap<String, Kind>,
 ) -> Result<IndexMap<String, Kind>, SchemaFault>
-    requires { AreNames (map (λ a. a.name) (map shown_attribute attributes.now.entries)) }
+    requires { AreDistinctNames (map (λ a. a.name) (map shown_attribute attributes.now.entries)) }
     ensures { IfOk result (λ copied. map shown_attribute copied.entries ≡ map shown_attribute attributes.now.entries) }
 {
     let mut copied = IndexMap::new(alloc);
@@ -82,7 +82,7 @@ fn copy_relations(
     alloc: Global,
     relations: &IndexMap<String, List<Column>>,
 ) -> Result<IndexMap<String, List<Column>>, SchemaFault>
-    requires { AreNames (map (λ r. r.name) (map shown_relation relations.now.entries)) }
+    requires { AreDistinctNames (map (λ r. r.name) (map shown_relation relations.now.entries)) }
     ensures { IfOk result (λ copied. map shown_relation copied.entries ≡ map shown_relation relations.now.entries) }
 {
     let mut copied = IndexMap::new(alloc);
@@ -113,7 +113,7 @@ fn copy_objects(
     alloc: Global,
     objects: &IndexMap<String, Object>,
 ) -> Result<IndexMap<String, Object>, SchemaFault>
-    requires names { AreNames (map (λ o. o.name) (map shown_object objects.now.entries)) }
+    requires names { AreDistinctNames (map (λ o. o.name) (map shown_object objects.now.entries)) }
     requires sets { All HasItsSet objects.now.entries }
     ensures copied { IfOk result (λ copied. map shown_object copied.entries ≡ map shown_object objects.now.entries) }
     ensures sets { IfOk result (λ copied. All HasItsSet copied.entries) }

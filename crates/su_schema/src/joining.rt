@@ -2,7 +2,9 @@
 ghost use Rattle.std.specs.Prelude.{◌≡◌, ◌<◌, ◌==◌, [], ◌∷◌, ◌⊎◌, map, length, IfOk, IfErr, OnOk};
 ghost use Rattle.std.specs.List.{list_any};
 ghost use Rattle.su_base.specs.Value.{same_kind};
-ghost use Rattle.su_schema.specs.Checks.{first_failing, known_checks, pair_checks, one_kind, columns_at};
+ghost use Rattle.su_schema.specs.NameChecks.{first_failing};
+ghost use Rattle.su_schema.specs.Checks.{known_checks, pair_checks, one_kind};
+ghost use Rattle.su_schema.specs.Known.{columns_at};
 ghost use Rattle.su_schema.specs.inside.Kept.{object_on};
 ghost use Rattle.su_schema.specs.Defining.{link_of, links_of};
 

@@ -1,7 +1,7 @@
 //! Names as numbers, each checked in its turn.
 ghost use Rattle.std.specs.Prelude.{◌≡◌, [], ◌⊎◌, IfOk, IfErr, OnOk};
-ghost use Rattle.su_schema.specs.SchemaValue.{attribute_names, object_names, place_of};
-ghost use Rattle.su_schema.specs.Checks.{first_failing, name_checks};
+ghost use Rattle.su_schema.specs.Entries.{attribute_names, object_names, place_of};
+ghost use Rattle.su_schema.specs.NameChecks.{first_failing, name_checks};
 ghost use Rattle.su_schema.specs.Defining.{numbers_of};
 
 use crate::faults::SchemaFault;

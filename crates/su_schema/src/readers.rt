@@ -1,7 +1,8 @@
 //! What a schema answers. No reader takes memory.
 ghost use Rattle.std.specs.Prelude.{◌≡◌, ◌<◌, ◌≤◌, ◌==◌, position, length, map, slice_get};
 ghost use Rattle.std.specs.Cmp.Lexicographic.{pointwise};
-ghost use Rattle.su_schema.specs.SchemaValue.{IsValid, attribute_names, attribute_kinds, relation_names, relation_columns, column_names, object_names, attributes_of, column_of, place_of};
+ghost use Rattle.su_schema.specs.Valid.{IsValid};
+ghost use Rattle.su_schema.specs.Entries.{attribute_names, attribute_kinds, relation_names, relation_columns, column_names, object_names, attributes_of, column_of, place_of};
 
 use crate::schemas::Schema;
 use su_base::{AttrSet, Column, Kind, ObjSet};

@@ -33,7 +33,8 @@ impl Drop for Schema {
 }
 
 impl Model for Schema {
-    ghost use Rattle.su_schema.specs.SchemaValue.{SchemaValue, IsValid};
+    ghost use Rattle.su_schema.specs.SchemaValue.{SchemaValue};
+    ghost use Rattle.su_schema.specs.Valid.{IsValid};
 
     ghost Value = { SchemaValue };
 

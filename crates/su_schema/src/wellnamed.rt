@@ -1,7 +1,7 @@
 //! Whether the texts of a definition are names.
 ghost use Rattle.std.specs.Prelude.{◌↔◌, IsTrue, map};
-ghost use Rattle.su_schema.specs.SchemaValue.{column_names};
-ghost use Rattle.su_schema.specs.Defining.{AreGiven, IsWellNamed};
+ghost use Rattle.su_schema.specs.Entries.{column_names};
+ghost use Rattle.su_schema.specs.WellNamed.{AreGiven, IsWellNamed};
 
 use crate::definitions::{Definition, Pair};
 use su_base::{Column, Str, is_name};

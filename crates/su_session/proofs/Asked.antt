@@ -18,8 +18,10 @@ use Rattle.su_session.specs.declared.commands.Command.{Command}
 use Rattle.su_session.specs.declared.commands.Command.TheVariants.{Definition, Statement, Refused}
 use Rattle.su_session.specs.declared.replies.Reply.{Reply}
 use Rattle.su_session.specs.Commands.{IsRead}
-use Rattle.su_session.specs.Reply.{AddsDefinition, Replied, IsDefining, IsLoad, begins_definition}
-use Rattle.su_session.specs.Statements.{Answers, relation_number}
+use Rattle.su_session.specs.Reply.{AddsDefinition, Replied, IsDefining, begins_definition}
+use Rattle.su_session.specs.Wanting.{IsLoad}
+use Rattle.su_session.specs.Statements.{Answers}
+use Rattle.su_session.specs.ChangingRows.{relation_number}
 use Rattle.su_session.specs.Telling.{Refuses}
 use Rattle.su_session.proofs.Wanting.{refused_wants_nothing, other_wants_nothing, unknown_wants_nothing}
 

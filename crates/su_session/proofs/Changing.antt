@@ -3,24 +3,26 @@ use Rattle.std.proofs.Common.{◌≡◌, ℕ, Bool, true, false, List, [], ◌�
 use Rattle.su_base.specs.declared.values.Value.{Value}
 use Rattle.su_base.specs.declared.values.Column.{Column}
 use Rattle.su_where.specs.Truth.{Cond}
-use Rattle.su_schema.specs.SchemaValue.{place_of, relation_names, relation_columns}
+use Rattle.su_schema.specs.Entries.{place_of, relation_names, relation_columns}
 use Rattle.su_csv.specs.File.{reading}
 use Rattle.su_csv.specs.declared.faults.CsvFault.{CsvFault}
 use Rattle.su_csv.specs.declared.faults.CsvFault.TheVariants as csv
-use Rattle.su_query.specs.Mentions.{NamedCond}
-use Rattle.su_query.specs.Lookup.{IsColumnCondition, with_columns}
+use Rattle.su_query.specs.Refs.{NamedCond}
+use Rattle.su_query.specs.Lookup.{IsColumnCondition}
+use Rattle.su_query.specs.Numbering.{with_columns}
 use Rattle.su_state.specs.declared.faults.StateFault.{StateFault}
 use Rattle.su_state.specs.declared.faults.StateFault.TheVariants.{NoMemory, UnknownRelation}
 use Rattle.su_state.specs.declared.faults.LoadFault.{LoadFault}
 use Rattle.su_state.specs.declared.faults.LoadEnd.TheVariants as load
 use Rattle.su_state.specs.DatabaseValue.{DatabaseValue, columns_of}
-use Rattle.su_state.specs.Changes.{Inserts, Deletes, DeletesWhere}
+use Rattle.su_state.specs.RowChanges.{Inserts, Deletes}
+use Rattle.su_state.specs.Changes.{DeletesWhere}
 use Rattle.su_state.specs.Loads.{Loads, InsertsAll}
 use Rattle.su_show.specs.declared.statement_refusal.Refusal.TheVariants.{State, Record, Csv}
 use Rattle.su_show.specs.Changes.{deleted_text, loaded_text}
 use Rattle.su_session.specs.declared.replies.Reply.{Reply}
 use Rattle.su_session.specs.Telling.{Accepts, Refuses}
-use Rattle.su_session.specs.Statements.{InRelation, InsertsRow, DeletesRow, DeletesRows, LoadsRows}
+use Rattle.su_session.specs.ChangingRows.{InRelation, InsertsRow, DeletesRow, DeletesRows, LoadsRows}
 use Rattle.su_session.proofs.Relations.{columns_are}
 
 module _ (db : DatabaseValue) (name : List ℕ) (reply : Reply) where

@@ -3,7 +3,7 @@ use Rattle.std.proofs.Common.{◌≡◌, List, Ok, Err, Result, inl, inr, ap, sy
 use Rattle.std.specs.Ordering.{nat_cmp}
 use Rattle.std.specs.FinSet.{FinSet}
 use Rattle.su_schema.specs.SchemaValue.{SchemaValue}
-use Rattle.su_schema.specs.Defining.{applied, IsRefusal}
+use Rattle.su_schema.specs.Defining.{applied, IsDefinitionRefusal}
 use Rattle.su_schema.specs.declared.definitions.Definition.{Definition}
 use Rattle.su_schema.specs.declared.faults.SchemaFault.{SchemaFault}
 use Rattle.su_maxobj.specs.MaximalObjects.{AreMaximalObjects}
@@ -26,7 +26,7 @@ same_when_refused db new d (Breaks fd name first second) h = h.1
 same_when_refused db new d NoMemory h = h
 
 module _ (db new : DatabaseValue) (d : Definition) (reply : Reply) where
-  pub refused_schema : (fault : SchemaFault) → IsRefusal db.schema d fault → Refuses db (Define (Schema fault)) reply new → AddsDefinition db d reply new
+  pub refused_schema : (fault : SchemaFault) → IsDefinitionRefusal db.schema d fault → Refuses db (Define (Schema fault)) reply new → AddsDefinition db d reply new
   refused_schema fault (inl memory) refuses = absurd (refuses.told (inr (ap Schema memory)))
   refused_schema fault (inr fails) refuses = (Err (Schema fault), (fails, refuses.same), refuses)
 

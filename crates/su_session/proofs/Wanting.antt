@@ -7,20 +7,21 @@ use Rattle.su_query.specs.declared.faults.QueryFault.TheVariants.{Syntax, Limit,
 use Rattle.su_query.specs.declared.faults.QueryLimit.TheVariants.{Nesting, Variables, Outputs, Comparisons}
 use Rattle.su_query.specs.declared.statements.Statement.{Statement}
 use Rattle.su_query.specs.declared.statements.Statement.TheVariants.{Load}
-use Rattle.su_query.specs.Nesting.{IsDeep}
+use Rattle.su_lex.specs.Nesting.{IsDeep}
 use Rattle.su_query.specs.Forms.{IsForm}
-use Rattle.su_query.specs.Reading.{IsStatement, IsRefusal, PartsPass, parts_of}
+use Rattle.su_query.specs.Reading.{IsStatement, IsTextRefusal}
+use Rattle.su_query.specs.Limits.{PartsPass, parts_of}
 use Rattle.su_query.proofs.Uniqueness.{statement_unique}
 use Rattle.su_state.specs.DatabaseValue.{DatabaseValue}
-use Rattle.su_session.specs.Statements.{relation_number}
-use Rattle.su_session.specs.Reply.{IsLoad}
+use Rattle.su_session.specs.ChangingRows.{relation_number}
+use Rattle.su_session.specs.Wanting.{IsLoad}
 
 -- a load passes no limit
 passes_none : (name path : List ℕ) (st : Statement) → st ≡ Load name path → (fault : QueryFault) → PartsPass (parts_of st) fault → ⊥
 passes_none name path st e fault h = subst (λ (s : Statement). PartsPass (parts_of s) fault) e h
 
 -- a text that is a load is refused only for want of memory
-refused_load : (text name path : List ℕ) → IsStatement text (Load name path) → (fault : QueryFault) → IsRefusal text fault → fault ≢ NoMemory → ⊥
+refused_load : (text name path : List ℕ) → IsStatement text (Load name path) → (fault : QueryFault) → IsTextRefusal text fault → fault ≢ NoMemory → ⊥
 refused_load text name path is Syntax (inl none) m = none is.symbols is.spelled
 refused_load text name path is Syntax (inr (symbols, spelled, shallow, formless)) m =
     formless (Load name path) (subst (λ (s : List Symbol). IsForm (Load name path) s) (one_list_of_symbols text is.symbols symbols is.spelled spelled).0 is.form)
@@ -34,7 +35,7 @@ refused_load text name path is (Kinds l r) h m = h
 refused_load text name path is (UnknownColumn n) h m = h
 
 module _ (db : DatabaseValue) (text : List ℕ) where
-  pub refused_wants_nothing : (fault : QueryFault) → IsRefusal text fault → fault ≢ NoMemory → (path : List ℕ) → ¬ IsLoad db text path
+  pub refused_wants_nothing : (fault : QueryFault) → IsTextRefusal text fault → fault ≢ NoMemory → (path : List ℕ) → ¬ IsLoad db text path
   refused_wants_nothing fault refusal cause path (name, r, is, known) = refused_load text name path is fault refusal cause
 
   pub other_wants_nothing : (st : Statement) → ((other : Statement) → IsStatement text other → other ≡ st) → ((name path : List ℕ) → st ≢ Load name path) → (path : List ℕ) → ¬ IsLoad db text path

@@ -5,7 +5,8 @@ use Rattle.su_schema.specs.declared.definitions.Definition.{Definition as ADefin
 use Rattle.su_ddl.specs.Grammar.{IsDefinition}
 use Rattle.su_query.specs.declared.faults.QueryFault.{QueryFault}
 use Rattle.su_query.specs.declared.faults.QueryFault.TheVariants.{Syntax, NoMemory}
-use Rattle.su_query.specs.Reading.{IsStatement, IsRefusal, HasFew}
+use Rattle.su_query.specs.Reading.{IsStatement, IsTextRefusal}
+use Rattle.su_query.specs.Limits.{HasFew}
 use Rattle.su_session.specs.declared.commands.Command.{Command}
 use Rattle.su_session.specs.declared.commands.Command.TheVariants.{Definition, Statement, Refused}
 use Rattle.su_session.specs.Reply.{IsDefining}
@@ -16,7 +17,7 @@ IsRead text (Definition d) = IsDefining text × IsDefinition text d
 IsRead text (Statement st) = (¬ IsDefining text) × IsStatement text st × HasFew st
 IsRead text (Refused fault) =
     (IsDefining text × (fault ≡ Syntax) × ((d : ADefinition) → ¬ IsDefinition text d))
-    ⊎ ((¬ IsDefining text) × IsRefusal text fault × (fault ≢ NoMemory))
+    ⊎ ((¬ IsDefining text) × IsTextRefusal text fault × (fault ≢ NoMemory))
 
 -- some text is read as the command
 abbrev pub WasRead : Command → Type 0

@@ -1,57 +1,30 @@
 -- How two queries are compared.
 -- cause of a refusal: the first of what stands against the names of the first query, against those of the second, a comparison that asks for more than an equality, outputs that differ, and what stands against the terms of the first, against those of the second
-use Rattle.std.specs.Prelude.{◌≡◌, ◌⊎◌, IsTrue, List}
+use Rattle.std.specs.Prelude.{◌≡◌, ◌⊎◌, List}
 use Rattle.std.specs.Ordering.{nat_cmp}
 use Rattle.std.specs.FinSet.{FinSet}
 use Rattle.su_schema.specs.SchemaValue.{SchemaValue}
 use Rattle.su_query.specs.declared.statements.Query.{Query as AQuery}
 use Rattle.su_query.specs.declared.resolving.Resolved.{Resolved}
-use Rattle.su_query.specs.Lookup.{IsKnownQuery, IsQueryRefusal, resolved_of}
+use Rattle.su_query.specs.Numbering.{resolved_of}
 use Rattle.su_maxobj.specs.MaximalObjects.{AreMaximalObjects}
 use Rattle.su_steps.specs.declared.faults.StepFault.{StepFault}
 use Rattle.su_steps.specs.declared.results.Term.{Term}
-use Rattle.su_steps.specs.Refusals.{IsRefusal, IsAccepted}
-use Rattle.su_compare.specs.Equalities.{has_only_equalities}
-use Rattle.su_compare.specs.Outputs.{output_kinds}
+use Rattle.su_steps.specs.Refusals.{IsStepRefusal, IsAccepted}
 use Rattle.su_compare.specs.Within.{AreOf}
 use Rattle.su_compare.specs.Verdict.{IsVerdict}
 use Rattle.su_compare.specs.declared.verdicts.Verdict.{Verdict}
 use Rattle.su_compare.specs.Texts.{verdicts_text}
 use Rattle.su_state.specs.DatabaseValue.{DatabaseValue}
 use Rattle.su_show.specs.declared.statement_refusal.Refusal.{Refusal}
-use Rattle.su_show.specs.declared.statement_refusal.Refusal.TheVariants.{Query, Steps, OnlyEqual, OutputsDiffer}
+use Rattle.su_show.specs.declared.statement_refusal.Refusal.TheVariants.{Steps}
 use Rattle.su_session.specs.declared.replies.Reply.{Reply}
 use Rattle.su_session.specs.Telling.{Accepts, Refuses}
-
--- the names of both are known
-abbrev pub AreKnown : SchemaValue → AQuery → AQuery → Type 0
-AreKnown schema first second = IsKnownQuery schema first × IsKnownQuery schema second
-
--- both ask for equalities alone
-abbrev pub AskEqualities : Resolved → Resolved → Type 0
-AskEqualities p q = IsTrue (has_only_equalities p.cond) × IsTrue (has_only_equalities q.cond)
-
--- equally many outputs, of equal kinds in their order
-abbrev pub OutputsAgree : SchemaValue → Resolved → Resolved → Type 0
-OutputsAgree schema p q = output_kinds schema p ≡ output_kinds schema q
-
--- the names are known, and the two can be compared by their terms
-pub record AreOfOneForm (schema : SchemaValue) (first second : AQuery) : Type 0 where
-  pub known : AreKnown schema first second
-  pub equalities : AskEqualities (resolved_of schema first) (resolved_of schema second)
-  pub outputs : OutputsAgree schema (resolved_of schema first) (resolved_of schema second)
-
--- why they are not: the first cause
-abbrev pub IsFormRefusal : SchemaValue → AQuery → AQuery → Refusal → Type 0
-IsFormRefusal schema first second (Query fault) = IsQueryRefusal schema first fault ⊎ (IsKnownQuery schema first × IsQueryRefusal schema second fault)
-IsFormRefusal schema first second OnlyEqual = AreKnown schema first second × (¬ AskEqualities (resolved_of schema first) (resolved_of schema second))
-IsFormRefusal schema first second OutputsDiffer =
-    AreKnown schema first second × AskEqualities (resolved_of schema first) (resolved_of schema second) × (¬ OutputsAgree schema (resolved_of schema first) (resolved_of schema second))
-IsFormRefusal schema first second _ = ⊥
+use Rattle.su_session.specs.ComparingForms.{AreOfOneForm, IsFormRefusal}
 
 -- why one of two queries has no terms: the first cause
 abbrev pub IsTermsRefusal : SchemaValue → List (FinSet nat_cmp) → Resolved → Resolved → StepFault → Type 0
-IsTermsRefusal schema maximal p q fault = IsRefusal schema maximal p fault ⊎ (IsAccepted schema maximal p × IsRefusal schema maximal q fault)
+IsTermsRefusal schema maximal p q fault = IsStepRefusal schema maximal p fault ⊎ (IsAccepted schema maximal p × IsStepRefusal schema maximal q fault)
 
 -- whether the first is within the second, and whether the second is within the first, by the terms of both
 pub record ShowsVerdicts (schema : SchemaValue) (maximal : List (FinSet nat_cmp)) (p q : Resolved) (reply : Reply) : Type 0 where

@@ -1,4 +1,5 @@
 -- Laws of replies.
+-- retrieve, reply, refused: as in Retrieving and Reply
 use Rattle.std.specs.Prelude.{◌≡◌, ℕ, List, Option, false}
 use Rattle.su_query.specs.declared.statements.Query.{Query}
 use Rattle.su_query.specs.declared.statements.Statement.TheVariants.{Retrieve}

@@ -10,3 +10,7 @@ pub mod Statements
 pub mod Supporting
 pub mod Telling
 pub mod Windowing
+pub mod ComparingForms
+pub mod Wanting
+pub mod Explaining
+pub mod ChangingRows

@@ -1,6 +1,6 @@
 -- The reply to a text: what is said, whether it is a refusal, and the database after it.
 -- definition: a text whose first symbol is a word that begins a definition
-use Rattle.std.specs.Prelude.{◌≡◌, ◌⊎◌, ℕ, ◌||◌, Bool, false, List, [], ◌∷◌, Option, Some, unwrap_or, IsTrue, codes, Result}
+use Rattle.std.specs.Prelude.{◌⊎◌, ℕ, ◌||◌, Bool, false, List, [], ◌∷◌, Option, unwrap_or, IsTrue, codes, Result}
 use Rattle.std.specs.Str.{bytes_eq}
 use Rattle.su_lex.specs.declared.meaning.Symbol.{Symbol}
 use Rattle.su_lex.specs.declared.meaning.Symbol.TheVariants.{Word}
@@ -8,19 +8,17 @@ use Rattle.su_lex.specs.Symbols.{Symbols}
 use Rattle.su_schema.specs.declared.definitions.Definition.{Definition}
 use Rattle.su_ddl.specs.Grammar.{IsDefinition}
 use Rattle.su_query.specs.declared.statements.Statement.{Statement}
-use Rattle.su_query.specs.declared.statements.Statement.TheVariants.{Load}
 use Rattle.su_query.specs.declared.faults.QueryFault.{QueryFault}
 use Rattle.su_query.specs.declared.faults.QueryFault.TheVariants.{Syntax}
-use Rattle.su_query.specs.Reading.{IsStatement, IsRefusal, HasFew}
+use Rattle.su_query.specs.Reading.{IsStatement, IsTextRefusal}
+use Rattle.su_query.specs.Limits.{HasFew}
 use Rattle.su_state.specs.declared.faults.DefineFault.{DefineFault}
 use Rattle.su_state.specs.DatabaseValue.{DatabaseValue}
 use Rattle.su_state.specs.Definitions.{Defines}
 use Rattle.su_show.specs.declared.statement_refusal.Refusal.TheVariants.{Query}
 use Rattle.su_session.specs.declared.replies.Reply.{Reply}
-use Rattle.su_session.specs.declared.wants.Want.{Want}
-use Rattle.su_session.specs.declared.wants.Want.TheVariants.{Nothing, File}
 use Rattle.su_session.specs.Telling.{Refuses, TellsDefine}
-use Rattle.su_session.specs.Statements.{Answers, relation_number}
+use Rattle.su_session.specs.Statements.{Answers}
 
 -- the words that begin definitions
 abbrev pub is_definition_word : List ℕ → Bool
@@ -48,19 +46,10 @@ RepliesDefinition db text reply new =
 -- any other text, beside the bytes of its file: refused by its text alone, else answered as the statement that it is
 abbrev pub RepliesStatement : DatabaseValue → List ℕ → List ℕ → Reply → DatabaseValue → Type 0
 RepliesStatement db text file reply new =
-    ((fault : QueryFault) × IsRefusal text fault × Refuses db (Query fault) reply new)
+    ((fault : QueryFault) × IsTextRefusal text fault × Refuses db (Query fault) reply new)
     ⊎ ((st : Statement) × IsStatement text st × HasFew st × Answers db file st reply new)
 
 -- the reply to a text; without a file an empty one is read
 abbrev pub Replied : DatabaseValue → List ℕ → Option (List ℕ) → Reply → DatabaseValue → Type 0
 Replied db text file reply new =
     (IsDefining text × RepliesDefinition db text reply new) ⊎ ((¬ IsDefining text) × RepliesStatement db text (unwrap_or file []) reply new)
-
--- the text is a load of a known relation, from this file
-abbrev pub IsLoad : DatabaseValue → List ℕ → List ℕ → Type 0
-IsLoad db text path = (name : List ℕ) × (r : ℕ) × IsStatement text (Load name path) × (relation_number db name ≡ Some r)
-
--- the file that a statement wants
-abbrev pub Wants : DatabaseValue → List ℕ → Want → Type 0
-Wants db text (File path) = IsLoad db text path
-Wants db text Nothing = (path : List ℕ) → ¬ IsLoad db text path

@@ -1,4 +1,4 @@
--- How a query over the universal relation is answered and explained.
+-- How a query over the universal relation is answered.
 -- cause of a refusal: the first of an unknown name, two kinds in a comparison, a variable that no maximal object covers, and more disjuncts, rows or terms than there may be
 use Rattle.std.specs.Prelude.{◌≡◌, ◌⊎◌, ◌≤◌, List, length}
 use Rattle.std.specs.Ordering.{nat_cmp}
@@ -6,25 +6,23 @@ use Rattle.std.specs.FinSet.{FinSet}
 use Rattle.su_base.specs.declared.values.Value.{Value}
 use Rattle.su_schema.specs.SchemaValue.{SchemaValue}
 use Rattle.su_query.specs.declared.statements.Query.{Query as AQuery}
-use Rattle.su_query.specs.Lookup.{IsKnownQuery, IsQueryRefusal, resolved_of}
+use Rattle.su_query.specs.Lookup.{IsKnownQuery, IsQueryRefusal}
+use Rattle.su_query.specs.Numbering.{resolved_of}
 use Rattle.su_query.specs.Ranges.{IsResolved}
 use Rattle.su_maxobj.specs.MaximalObjects.{AreMaximalObjects}
-use Rattle.su_steps.specs.Refusals.{IsRefusal, IsAccepted}
+use Rattle.su_steps.specs.Refusals.{IsStepRefusal, IsAccepted}
 use Rattle.su_state.specs.DatabaseValue.{DatabaseValue}
-use Rattle.su_answer.specs.declared.preparing.Prepared.{Prepared}
-use Rattle.su_answer.specs.Prepared.{IsPrepared}
-use Rattle.su_answer.specs.Answers.{IsAnswerOf, IsTooLong}
+use Rattle.su_answer.specs.QueryAnswers.{IsAnswerOf, IsTooLong}
 use Rattle.su_show.specs.declared.statement_refusal.Refusal.{Refusal}
 use Rattle.su_show.specs.declared.statement_refusal.Refusal.TheVariants.{Query, Steps, Answer}
 use Rattle.su_show.specs.Replies.{rows_text, header_of}
-use Rattle.su_show.specs.Explaining.{IsExplanation}
 use Rattle.su_session.specs.declared.replies.Reply.{Reply}
 use Rattle.su_session.specs.Telling.{Accepts, Refuses}
 
 -- why the query has no terms: the first cause
 abbrev pub IsRefusalOf : SchemaValue → List (FinSet nat_cmp) → AQuery → Refusal → Type 0
 IsRefusalOf schema maximal q (Query fault) = IsQueryRefusal schema q fault
-IsRefusalOf schema maximal q (Steps fault) = IsKnownQuery schema q × IsRefusal schema maximal (resolved_of schema q) fault
+IsRefusalOf schema maximal q (Steps fault) = IsKnownQuery schema q × IsStepRefusal schema maximal (resolved_of schema q) fault
 IsRefusalOf schema maximal q _ = ⊥
 
 -- the query has terms: its names are known, its numbers in range, and it is within the limits
@@ -49,14 +47,3 @@ pub record ShowsAnswer (db : DatabaseValue) (maximal : List (FinSet nat_cmp)) (q
 abbrev pub Retrieves : DatabaseValue → AQuery → Reply → DatabaseValue → Type 0
 Retrieves db q reply new = AfterTerms db q reply new (λ maximal.
     (IsTooLong db maximal (resolved_of db.schema q) × Refuses db Answer reply new) ⊎ (ShowsAnswer db maximal q reply × (new ≡ db)))
-
--- how the query is prepared
-pub record ShowsExplanation (db : DatabaseValue) (maximal : List (FinSet nat_cmp)) (q : AQuery) (reply : Reply) : Type 0 where
-  pub prepared : Prepared
-  pub is_prepared : IsPrepared db.schema maximal (resolved_of db.schema q) prepared
-  pub explanation : IsExplanation db.schema q (resolved_of db.schema q) prepared.terms prepared.minimals prepared.reduced reply.bytes
-  pub text : Accepts reply.bytes reply
-
--- the explanation of the query's terms, or why there is none; nothing changes
-abbrev pub Explains : DatabaseValue → AQuery → Reply → DatabaseValue → Type 0
-Explains db q reply new = AfterTerms db q reply new (λ maximal. ShowsExplanation db maximal q reply × (new ≡ db))

@@ -1,66 +1,29 @@
 -- What each statement does to the database, and its reply.
-use Rattle.std.specs.Prelude.{◌≡◌, ◌⊎◌, ℕ, Bool, List, length, Option, Some, None, Result, Ok, Err}
+-- reply: what is written for the statement, and whether it is a refusal
+use Rattle.std.specs.Prelude.{◌≡◌, ◌⊎◌, ℕ, List, Some, None}
 use Rattle.std.specs.Ordering.{nat_cmp}
 use Rattle.std.specs.FinSet.{FinSet}
 use Rattle.su_base.specs.declared.values.Value.{Value}
-use Rattle.su_schema.specs.SchemaValue.{attribute_names, relation_names, column_names, place_of}
-use Rattle.su_csv.specs.declared.faults.CsvFault.{CsvFault}
-use Rattle.su_csv.specs.File.{reading}
-use Rattle.su_query.specs.Mentions.{NamedCond}
-use Rattle.su_query.specs.declared.faults.QueryFault.{QueryFault}
+use Rattle.su_schema.specs.Entries.{attribute_names, column_names}
 use Rattle.su_query.specs.declared.faults.QueryFault.TheVariants.{Unknown}
 use Rattle.su_query.specs.declared.statements.Statement.{Statement}
 use Rattle.su_query.specs.declared.statements.Statement.TheVariants.{Insert, Delete, DeleteWhere, Load, Print, Schema, Closure, Retrieve, Explain, Certify, Support, Compare, Window}
-use Rattle.su_query.specs.Lookup.{IsColumnCondition, IsColumnRefusal, with_columns, first_unknown_name}
+use Rattle.su_query.specs.Scopes.{first_unknown_name}
 use Rattle.su_query.specs.Sets.{attributes_named}
 use Rattle.su_maxobj.specs.MaximalObjects.{AreMaximalObjects}
-use Rattle.su_state.specs.declared.faults.StateFault.{StateFault}
-use Rattle.su_state.specs.declared.faults.StateFault.TheVariants.{UnknownRelation}
-use Rattle.su_state.specs.declared.faults.LoadEnd.{LoadEnd}
 use Rattle.su_state.specs.DatabaseValue.{DatabaseValue, rows_of, columns_of}
-use Rattle.su_state.specs.Changes.{AreInOrder, Inserts, Deletes, DeletesWhere}
-use Rattle.su_state.specs.Loads.{Loads}
-use Rattle.su_show.specs.declared.statement_refusal.Refusal.TheVariants.{Query, State, Csv}
+use Rattle.su_state.specs.Changes.{AreInOrder}
+use Rattle.su_show.specs.declared.statement_refusal.Refusal.TheVariants.{Query}
 use Rattle.su_show.specs.Replies.{rows_text, schema_reply, IsClosureReply}
-use Rattle.su_show.specs.Changes.{deleted_text}
 use Rattle.su_session.specs.declared.replies.Reply.{Reply}
-use Rattle.su_session.specs.Telling.{Accepts, Refuses, TellsInsert, TellsDelete, TellsLoad}
-use Rattle.su_session.specs.Retrieving.{Retrieves, Explains}
+use Rattle.su_session.specs.Telling.{Accepts, Refuses}
+use Rattle.su_session.specs.Retrieving.{Retrieves}
+use Rattle.su_session.specs.Explaining.{Explains}
 use Rattle.su_session.specs.Certifying.{Certifies}
 use Rattle.su_session.specs.Supporting.{Supports}
 use Rattle.su_session.specs.Comparing.{Compares}
 use Rattle.su_session.specs.Windowing.{ShowsWindow}
-
--- the number of the relation with this name
-abbrev pub relation_number : DatabaseValue → List ℕ → Option ℕ
-relation_number db name = place_of (relation_names db.schema) name
-
--- refused where no relation has the name, else this of its number
-abbrev pub InRelation : DatabaseValue → List ℕ → Reply → DatabaseValue → (ℕ → Type 0) → Type 0
-InRelation db name reply new Known =
-    ((relation_number db name ≡ None) × Refuses db (State (UnknownRelation name)) reply new)
-    ⊎ ((r : ℕ) × (relation_number db name ≡ Some r) × Known r)
-
--- the row is inserted into relation r, and the answer is told
-abbrev pub InsertsRow : DatabaseValue → List Value → Reply → DatabaseValue → ℕ → Type 0
-InsertsRow db row reply new r = (answer : Result Bool StateFault) × Inserts db r row answer new × TellsInsert db answer reply new
-
--- the row is deleted from relation r, and the answer is told
-abbrev pub DeletesRow : DatabaseValue → List Value → Reply → DatabaseValue → ℕ → Type 0
-DeletesRow db row reply new r = (answer : Result Bool StateFault) × Deletes db r row answer new × TellsDelete db answer reply new
-
--- refused for a column or for kinds, else the rows for which the condition is true are out
-abbrev pub DeletesRows : DatabaseValue → NamedCond → Reply → DatabaseValue → ℕ → Type 0
-DeletesRows db cond reply new r =
-    ((fault : QueryFault) × IsColumnRefusal db.schema r cond fault × Refuses db (Query fault) reply new)
-    ⊎ (IsColumnCondition db.schema r cond × ((count : ℕ) × DeletesWhere db r (with_columns db.schema r cond) count new × Accepts (deleted_text count) reply))
-
--- refused for the file, else the rows of the file are inserted one after another
-abbrev pub LoadsRows : DatabaseValue → List ℕ → Reply → DatabaseValue → ℕ → Type 0
-LoadsRows db bytes reply new r =
-    ((fault : CsvFault) × (reading (columns_of db r) bytes ≡ Err fault) × Refuses db (Csv r fault) reply new)
-    ⊎ ((rows : List (List Value)) × (reading (columns_of db r) bytes ≡ Ok rows)
-    × ((answer : Result ℕ LoadEnd) × Loads db r rows answer new × TellsLoad db (length rows) answer reply new))
+use Rattle.su_session.specs.ChangingRows.{InRelation, InsertsRow, DeletesRow, DeletesRows, LoadsRows}
 
 -- the rows of a relation in their order, as CSV
 abbrev pub PrintsRows : DatabaseValue → Reply → DatabaseValue → ℕ → Type 0

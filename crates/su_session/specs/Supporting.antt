@@ -4,7 +4,7 @@ use Rattle.std.specs.Prelude.{◌≡◌, List}
 use Rattle.std.specs.Ordering.{nat_cmp}
 use Rattle.std.specs.FinSet.{FinSet}
 use Rattle.su_query.specs.declared.statements.Query.{Query as AQuery}
-use Rattle.su_query.specs.Lookup.{resolved_of}
+use Rattle.su_query.specs.Numbering.{resolved_of}
 use Rattle.su_state.specs.DatabaseValue.{DatabaseValue}
 use Rattle.su_reduce.specs.declared.support.Support.{Support}
 use Rattle.su_answer.specs.declared.preparing.Prepared.{Prepared}

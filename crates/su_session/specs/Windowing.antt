@@ -1,11 +1,13 @@
 -- How a window is shown.
+-- window: the rows over the attributes that every fitting universal relation has
 use Rattle.std.specs.Prelude.{◌≡◌, ◌↔◌, ◌⊎◌, ℕ, List, map, Contains, Option, Some, None}
 use Rattle.std.specs.List.Sorted.{IsStrictlySortedBy}
 use Rattle.su_base.specs.declared.values.Value.{Value}
 use Rattle.su_base.specs.Value.{compare_lists}
-use Rattle.su_schema.specs.SchemaValue.{SchemaValue, attribute_names}
+use Rattle.su_schema.specs.SchemaValue.{SchemaValue}
+use Rattle.su_schema.specs.Entries.{attribute_names}
 use Rattle.su_query.specs.declared.faults.QueryFault.TheVariants.{Unknown}
-use Rattle.su_query.specs.Lookup.{first_unknown_name, number_among}
+use Rattle.su_query.specs.Scopes.{first_unknown_name, number_among}
 use Rattle.su_state.specs.DatabaseValue.{DatabaseValue}
 use Rattle.su_window.specs.declared.faults.WindowFault.{WindowFault}
 use Rattle.su_window.specs.declared.faults.WindowFault.TheVariants as fault

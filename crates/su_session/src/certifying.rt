@@ -1,8 +1,8 @@
 //! Certificates of queries.
 ghost use Rattle.std.specs.Prelude.{◌≡◌, ◌≤◌, IfOk, take};
-ghost use Rattle.su_schema.specs.SchemaValue.{attribute_kinds};
+ghost use Rattle.su_schema.specs.Entries.{attribute_kinds};
 ghost use Rattle.su_maxobj.specs.MaximalObjects.{AreMaximalObjects};
-ghost use Rattle.su_query.specs.Reading.{AreFew};
+ghost use Rattle.su_query.specs.Limits.{AreFew};
 ghost use Rattle.su_session.specs.Certifying.{Certifies};
 
 use crate::replies::{Reply, accepted, refused};

@@ -1,6 +1,6 @@
 //! Definitions in a script.
 ghost use Rattle.std.specs.Prelude.{◌≡◌, IfOk, OnErr};
-ghost use Rattle.su_schema.specs.Defining.{IsWellNamed};
+ghost use Rattle.su_schema.specs.WellNamed.{IsWellNamed};
 ghost use Rattle.su_session.specs.Reply.{AddsDefinition};
 
 use crate::replies::{Reply, accepted, refused};

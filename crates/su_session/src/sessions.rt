@@ -73,11 +73,14 @@ fn content<'a>(file: Option<&'a [u8]>) -> &'a [u8]
 impl Session {
     ghost use Rattle.su_session.specs.Opening.{empty_database};
     ghost use Rattle.su_session.specs.Commands.{IsRead, WasRead};
-    ghost use Rattle.su_session.specs.Reply.{Replied, Wants};
+    ghost use Rattle.su_session.specs.Reply.{Replied};
+    ghost use Rattle.su_session.specs.Wanting.{Wants};
     ghost use Rattle.su_session.specs.Statements.{Answers};
     ghost use Rattle.su_state.specs.DatabaseValue.{IsWellKept};
-    ghost use Rattle.su_query.specs.Reading.{AreFew, HasFew, IsReady};
-    ghost use Rattle.su_session.specs.Retrieving.{Retrieves, Explains};
+    ghost use Rattle.su_query.specs.Limits.{AreFew, HasFew};
+    ghost use Rattle.su_query.specs.Reading.{IsReady};
+    ghost use Rattle.su_session.specs.Retrieving.{Retrieves};
+    ghost use Rattle.su_session.specs.Explaining.{Explains};
     ghost use Rattle.su_session.specs.Certifying.{Certifies};
     ghost use Rattle.su_session.specs.Supporting.{Supports};
 

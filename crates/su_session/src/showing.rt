@@ -1,8 +1,9 @@
 //! The statements that show what is there.
 ghost use Rattle.std.specs.Prelude.{◌≡◌, IfOk};
 ghost use Rattle.su_maxobj.specs.MaximalObjects.{AreMaximalObjects};
-ghost use Rattle.su_schema.specs.SchemaValue.{column_names};
-ghost use Rattle.su_session.specs.Statements.{InRelation, PrintsRows, ShowsSchema, ShowsClosure};
+ghost use Rattle.su_schema.specs.Entries.{column_names};
+ghost use Rattle.su_session.specs.ChangingRows.{InRelation};
+ghost use Rattle.su_session.specs.Statements.{PrintsRows, ShowsSchema, ShowsClosure};
 
 use crate::replies::{Reply, accepted, refused};
 use std::alloc::Global;

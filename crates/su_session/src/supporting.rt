@@ -1,7 +1,7 @@
 //! What takes part in the answer of a query, in numbers.
 ghost use Rattle.std.specs.Prelude.{◌≤◌, IfOk};
 ghost use Rattle.su_maxobj.specs.MaximalObjects.{AreMaximalObjects};
-ghost use Rattle.su_query.specs.Reading.{AreFew};
+ghost use Rattle.su_query.specs.Limits.{AreFew};
 ghost use Rattle.su_session.specs.Supporting.{Supports};
 
 use crate::replies::{Reply, accepted, refused};

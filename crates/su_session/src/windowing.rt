@@ -1,7 +1,7 @@
 //! The window of the stored rows on some attributes.
 ghost use Rattle.std.specs.Prelude.{◌≡◌, ◌<◌, All, None, IfOk, IfErr, OnOk};
-ghost use Rattle.su_schema.specs.SchemaValue.{attribute_names};
-ghost use Rattle.su_query.specs.Lookup.{first_unknown_name};
+ghost use Rattle.su_schema.specs.Entries.{attribute_names};
+ghost use Rattle.su_query.specs.Scopes.{first_unknown_name};
 ghost use Rattle.su_query.specs.Sets.{IsNameRefusal};
 ghost use Rattle.su_window.specs.Cuts.{width};
 ghost use Rattle.su_session.specs.Windowing.{attribute_numbers, ShowsWindow};

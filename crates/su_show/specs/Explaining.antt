@@ -10,7 +10,7 @@ use Rattle.su_steps.specs.declared.results.Term.{Term}
 use Rattle.su_min.specs.declared.reduced.Reduced.{Reduced}
 use Rattle.su_min.specs.Kept.{Minimised}
 use Rattle.su_show.specs.Lines.{AreLines}
-use Rattle.su_show.specs.Refusing.{variable_text}
+use Rattle.su_show.specs.QueryCauses.{variable_text}
 use Rattle.su_show.specs.TableauLines.{tableau_lines}
 use Rattle.su_show.specs.MinimalLines.{minimal_lines, IsEnd}
 

@@ -10,3 +10,6 @@ pub mod Symbols
 pub mod TableauLines
 pub mod Values
 pub mod Verdicts
+pub mod QueryCauses
+pub mod RowCauses
+pub mod RowLines

@@ -1,4 +1,5 @@
 -- Texts of lines that stand one after another, one for each item of a list.
+-- line: of an item, with its line feed
 use Rattle.std.specs.Prelude.{◌≡◌, ℕ, List, [], ◌∷◌, ◌++◌}
 
 -- the text is the lines of the items, in their order, each of them one that its item may have

@@ -5,18 +5,19 @@
 use Rattle.std.specs.Prelude.{◌≡◌, ◌⊎◌, ◌↔◌, ℕ, ◌==◌, IsTrue, List, [], ◌++◌, find, Contains, Option, Some, None, codes, decimal}
 use Rattle.std.specs.Ordering.{nat_cmp}
 use Rattle.std.specs.FinSet.{FinSet, contains}
-use Rattle.su_map.specs.Lists.{rows_in}
+use Rattle.su_map.specs.Lists.{row_numbers}
 use Rattle.su_schema.specs.SchemaValue.{SchemaValue}
 use Rattle.su_steps.specs.Sources.{IsSource}
 use Rattle.su_min.specs.declared.reduced.Cover.{Cover}
 use Rattle.su_min.specs.declared.reduced.Reduced.{Reduced}
 use Rattle.su_min.specs.Kept.{Minimised}
 use Rattle.su_show.specs.Lines.{AreLines}
-use Rattle.su_show.specs.Values.{numbers_text, objects_text}
+use Rattle.su_lex.specs.Wording.{numbers_text}
+use Rattle.su_show.specs.Values.{objects_text}
 
 -- the kept rows
 abbrev pub kept_line : Minimised → List ℕ
-kept_line m = codes "  kept" ++ numbers_text (rows_in m.tableau m.mask) ++ codes "\n"
+kept_line m = codes "  kept" ++ numbers_text (row_numbers m.tableau m.mask) ++ codes "\n"
 
 -- for each row the kept row to which it goes
 abbrev pub fold_line : Minimised → List ℕ
@@ -52,5 +53,5 @@ cover_text (Some c) = cover_line c
 -- the sources of each kept row of a kept term, or the cover of a dropped one
 abbrev pub IsEnd : SchemaValue → Reduced → ℕ → Minimised → List ℕ → Type 0
 IsEnd schema reduced i m end =
-    (Contains reduced.kept i × AreLines (IsSourcesLine schema m) (rows_in m.tableau m.mask) end)
+    (Contains reduced.kept i × AreLines (IsSourcesLine schema m) (row_numbers m.tableau m.mask) end)
     ⊎ ((¬ Contains reduced.kept i) × (end ≡ cover_text (cover_of reduced i)))

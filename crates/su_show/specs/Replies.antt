@@ -1,4 +1,5 @@
 -- The replies to statements that are accepted. Each line ends with a line feed.
+-- header: the names above the rows; used: the dependencies of a derivation, by number
 use Rattle.std.specs.Prelude.{◌≡◌, ℕ, ◌+◌, List, [], ◌∷◌, ◌++◌, length, map, flat_map, codes, decimal, nat_lt, if◌then◌else◌, slice_index_or}
 use Rattle.std.specs.Ordering.{nat_cmp}
 use Rattle.std.specs.FinSet.{FinSet, empty}
@@ -7,11 +8,11 @@ use Rattle.su_fd.specs.declared.dependencies.Fd.{Fd}
 use Rattle.su_fd.specs.Closure.{IsClosureOf}
 use Rattle.su_fd.specs.Derivation.{IsDerivation}
 use Rattle.su_csv.specs.Written.{text_of}
-use Rattle.su_lex.specs.Symbols.{spaced}
+use Rattle.su_lex.specs.Spelling.{spaced}
 use Rattle.su_schema.specs.SchemaValue.{SchemaValue}
 use Rattle.su_ddl.specs.Shown.{schema_text}
 use Rattle.su_query.specs.declared.statements.Query.{Query}
-use Rattle.su_query.specs.Shown.{ref_symbols}
+use Rattle.su_query.specs.ShownParts.{ref_symbols}
 use Rattle.su_show.specs.Values.{attributes_text, objects_text, fd_text}
 
 -- the outputs of a query as they are shown

@@ -2,14 +2,15 @@
 -- pair: a variable of the query and an attribute; where there are n attributes, that of variable v and attribute a has the number v·n + a
 -- A class is named by a constant, or by the number of its least pair.
 use Rattle.std.specs.Prelude.{ℕ, ◌/◌, ◌%◌, List, [], Option, None, map, slice_index_or}
-use Rattle.su_lex.specs.Symbols.{spaced}
+use Rattle.su_lex.specs.Spelling.{spaced}
 use Rattle.su_tableau.specs.declared.symbols.Sym.{Sym}
 use Rattle.su_tableau.specs.declared.symbols.Sym.TheVariants.{Const, Var}
-use Rattle.su_schema.specs.SchemaValue.{SchemaValue, attribute_names}
-use Rattle.su_ddl.specs.Shown.{name_at}
+use Rattle.su_schema.specs.SchemaValue.{SchemaValue}
+use Rattle.su_schema.specs.Entries.{attribute_names}
+use Rattle.su_ddl.specs.ShownDefinitions.{name_at}
 use Rattle.su_query.specs.declared.refs.Ref.{Ref}
 use Rattle.su_query.specs.declared.resolving.Resolved.{Resolved}
-use Rattle.su_query.specs.Shown.{ref_symbols, value_symbols}
+use Rattle.su_query.specs.ShownParts.{ref_symbols, value_symbols}
 use Rattle.su_steps.specs.Objects.{width}
 
 -- the name of a variable, none for the blank one

@@ -1,25 +1,24 @@
 -- Names, values and dependencies as they stand in replies.
-use Rattle.std.specs.Prelude.{ℕ, List, ◌∷◌, ◌++◌, flat_map, decimal}
+-- shown: as it may be read again
+use Rattle.std.specs.Prelude.{ℕ, List, ◌∷◌, ◌++◌, flat_map}
 use Rattle.std.specs.Ordering.{nat_cmp}
 use Rattle.std.specs.FinSet.{FinSet}
 use Rattle.su_base.specs.declared.values.Value.{Value}
 use Rattle.su_fd.specs.declared.dependencies.Fd.{Fd}
 use Rattle.su_lex.specs.Names.{names_symbols}
-use Rattle.su_lex.specs.Symbols.{spelled, spaced}
+use Rattle.su_lex.specs.Spelling.{spelled, spaced}
 use Rattle.su_lex.specs.declared.meaning.Symbol.TheVariants.{Sign}
 use Rattle.su_lex.specs.declared.signs.Sign.TheVariants as sign
-use Rattle.su_schema.specs.SchemaValue.{SchemaValue, attribute_names, object_names}
-use Rattle.su_ddl.specs.Shown.{names_in}
-use Rattle.su_query.specs.Grammar.{value_sym}
-use Rattle.su_query.specs.Shown.{in_parens, listed, value_symbols}
+use Rattle.su_schema.specs.SchemaValue.{SchemaValue}
+use Rattle.su_schema.specs.Entries.{attribute_names, object_names}
+use Rattle.su_ddl.specs.ShownDefinitions.{names_in}
+use Rattle.su_query.specs.Operands.{value_sym}
+use Rattle.su_lex.specs.Wording.{in_parens}
+use Rattle.su_query.specs.ShownParts.{listed, value_symbols}
 
 -- each name behind a space
 abbrev pub behind_spaces : List (List ℕ) → List ℕ
 behind_spaces names = flat_map (λ name. 32 ∷ name) names
-
--- each number behind a space
-abbrev pub numbers_text : List ℕ → List ℕ
-numbers_text numbers = flat_map (λ n. 32 ∷ decimal n) numbers
 
 -- the names of a set of attributes in the order of declaration, each behind a space
 abbrev pub attributes_text : SchemaValue → FinSet nat_cmp → List ℕ

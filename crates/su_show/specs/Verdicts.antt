@@ -1,4 +1,5 @@
 -- The line of a verdict on a certificate. Terms are counted from 0.
+-- fault: as in su_check
 use Rattle.std.specs.Prelude.{ℕ, List, ◌++◌, codes, decimal}
 use Rattle.su_check.specs.declared.verdicts.Checked.{Checked}
 use Rattle.su_check.specs.declared.verdicts.Checked.TheVariants.{Yes, No}

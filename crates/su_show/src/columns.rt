@@ -1,7 +1,7 @@
 //! Columns of a relation, by number.
 ghost use Rattle.std.specs.Prelude.{◌≡◌, length};
-ghost use Rattle.su_schema.specs.Checks.{columns_at};
-ghost use Rattle.su_show.specs.Refusing.{column_text};
+ghost use Rattle.su_schema.specs.Known.{columns_at};
+ghost use Rattle.su_show.specs.RowCauses.{column_text};
 
 use su_base::Column;
 use su_schema::Schema;

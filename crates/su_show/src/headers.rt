@@ -1,7 +1,7 @@
 //! The outputs of a query as they are shown.
 ghost use Rattle.std.specs.Prelude.{◌≡◌, IfOk};
-ghost use Rattle.su_lex.specs.Symbols.{spaced};
-ghost use Rattle.su_query.specs.Shown.{ref_symbols};
+ghost use Rattle.su_lex.specs.Spelling.{spaced};
+ghost use Rattle.su_query.specs.ShownParts.{ref_symbols};
 ghost use Rattle.su_show.specs.Replies.{header_of};
 
 use std::alloc::Global;

@@ -4,9 +4,9 @@ ghost use Rattle.std.specs.FinSet.{contains};
 ghost use Rattle.std.specs.Int.{bit_at};
 ghost use Rattle.su_tableau.specs.Essential.{IsEssential};
 ghost use Rattle.su_tableau.specs.Parts.{keep_if};
-ghost use Rattle.su_map.specs.Lists.{rows_in};
+ghost use Rattle.su_map.specs.Lists.{row_numbers};
 ghost use Rattle.su_show.specs.Lines.{Adds, AreLines};
-ghost use Rattle.su_show.specs.Values.{numbers_text};
+ghost use Rattle.su_lex.specs.Wording.{numbers_text};
 ghost use Rattle.su_show.specs.MinimalLines.{minimal_lines, cover_line, cover_of, cover_text, sources_line, IsSourcesLine, IsEnd};
 
 use crate::parts::{push, push_number};
@@ -34,7 +34,7 @@ fn push_row_in(alloc: Global, out: &mut Vec<u8>, mask: u64, row: usize) -> Resul
 
 /// The kept rows, each behind a space.
 fn push_kept_rows(alloc: Global, out: &mut Vec<u8>, minimal: &Minimal) -> Result<(), NoMemory>
-    ensures { OnOk result (out.new.items ≡ out.old.items ++ numbers_text (rows_in minimal.now.tableau minimal.now.mask)) }
+    ensures { OnOk result (out.new.items ≡ out.old.items ++ numbers_text (row_numbers minimal.now.tableau minimal.now.mask)) }
 {
     for row in 0..minimal.tableau().row_count() {
         push_row_in(alloc, out, minimal.mask(), row)?;
@@ -96,7 +96,7 @@ fn push_all_sources(
     schema: &Schema,
     minimal: &Minimal,
 ) -> Result<(), NoMemory>
-    ensures { OnOk result (Adds (AreLines (IsSourcesLine schema.now minimal.now) (rows_in minimal.now.tableau minimal.now.mask)) out.old.items out.new.items) }
+    ensures { OnOk result (Adds (AreLines (IsSourcesLine schema.now minimal.now) (row_numbers minimal.now.tableau minimal.now.mask)) out.old.items out.new.items) }
 {
     let kept = minimal.mask();
     let columns = all_essential(alloc, minimal.tableau(), kept)?;

@@ -1,6 +1,8 @@
 //! The line of a refused statement.
 ghost use Rattle.std.specs.Prelude.{◌≡◌, ◌≢◌, ◌++◌, codes, decimal, flat_map, IfOk, OnOk};
-ghost use Rattle.su_show.specs.Refusing.{kind_text, query_limit_text, query_text, column_text, state_text, record_text, csv_text, variable_text, step_limit_text, step_text, define_text, inconsistent_text, refusal_text, refusal_line, IsNoMemory};
+ghost use Rattle.su_show.specs.QueryCauses.{kind_text, query_limit_text, query_fault_text, variable_text, step_limit_text, step_text};
+ghost use Rattle.su_show.specs.RowCauses.{column_text, state_text, record_text, csv_text};
+ghost use Rattle.su_show.specs.Refusing.{define_text, inconsistent_text, refusal_text, refusal_line, IsNoMemory};
 ghost use Rattle.su_show.specs.Values.{attributes_text};
 ghost use Rattle.su_show.specs.Refusals.{cause_text};
 
@@ -40,7 +42,7 @@ fn query_limit(limit: QueryLimit) -> &'static str
 }
 
 fn push_query(out: &mut Vec<u8>, fault: &QueryFault) -> Result<(), NoMemory>
-    ensures text { OnOk result (out.new.items ≡ out.old.items ++ query_text fault.now) }
+    ensures text { OnOk result (out.new.items ≡ out.old.items ++ query_fault_text fault.now) }
     ensures told { OnOk result (fault.now ≢ QueryFault.NoMemory) }
 {
     match fault {

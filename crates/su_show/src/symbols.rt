@@ -1,11 +1,11 @@
 //! Symbols of a term as they are shown.
 ghost use Rattle.std.specs.Prelude.{◌≡◌, ◌++◌, ◌/◌, ◌%◌, [], length, slice_index_or, OnOk};
-ghost use Rattle.su_lex.specs.Symbols.{spaced};
-ghost use Rattle.su_schema.specs.SchemaValue.{attribute_names, object_names};
-ghost use Rattle.su_ddl.specs.Shown.{name_at};
-ghost use Rattle.su_query.specs.Shown.{ref_symbols, value_symbols};
+ghost use Rattle.su_lex.specs.Spelling.{spaced};
+ghost use Rattle.su_schema.specs.Entries.{attribute_names, object_names};
+ghost use Rattle.su_ddl.specs.ShownDefinitions.{name_at};
+ghost use Rattle.su_query.specs.ShownParts.{ref_symbols, value_symbols};
 ghost use Rattle.su_steps.specs.Objects.{attributes_at, width};
-ghost use Rattle.su_show.specs.Refusing.{variable_text};
+ghost use Rattle.su_show.specs.QueryCauses.{variable_text};
 ghost use Rattle.su_show.specs.Symbols.{variable_at, pair_ref, symbol_text, symbol_at};
 
 use crate::parts::push;

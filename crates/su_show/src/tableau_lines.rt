@@ -2,14 +2,15 @@
 ghost use Rattle.std.specs.Prelude.{◌≡◌, ◌++◌, ◌∷◌, ◌<◌, [], length, flat_map, filter, get_or, codes, decimal, OnOk};
 ghost use Rattle.std.specs.FinSet.{contains};
 ghost use Rattle.std.specs.List.{range_with_len};
-ghost use Rattle.su_lex.specs.Symbols.{spelled};
-ghost use Rattle.su_schema.specs.SchemaValue.{object_names};
-ghost use Rattle.su_ddl.specs.Shown.{name_at};
-ghost use Rattle.su_query.specs.Grammar.{op_sym};
-ghost use Rattle.su_show.specs.Refusing.{variable_text};
+ghost use Rattle.su_lex.specs.Spelling.{spelled};
+ghost use Rattle.su_schema.specs.Entries.{object_names};
+ghost use Rattle.su_ddl.specs.ShownDefinitions.{name_at};
+ghost use Rattle.su_query.specs.Operands.{op_sym};
+ghost use Rattle.su_show.specs.QueryCauses.{variable_text};
 ghost use Rattle.su_show.specs.Symbols.{variable_at};
-ghost use Rattle.su_show.specs.Values.{numbers_text};
-ghost use Rattle.su_show.specs.TableauLines.{symbols_text, term_line, cell_text, row_lines, head_line, operator_at, compare_line, compare_lines, tableau_lines};
+ghost use Rattle.su_lex.specs.Wording.{numbers_text};
+ghost use Rattle.su_show.specs.RowLines.{symbols_text, cell_text, row_lines};
+ghost use Rattle.su_show.specs.TableauLines.{term_line, head_line, operator_at, compare_line, compare_lines, tableau_lines};
 
 use crate::parts::{push, push_number};
 use crate::symbols::{

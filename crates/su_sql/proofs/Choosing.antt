@@ -11,21 +11,23 @@ use Rattle.su_rel.specs.Stored.{Stored}
 use Rattle.su_where.specs.Operator.{compares}
 use Rattle.su_tableau.specs.declared.symbols.Sym.{Sym}
 use Rattle.su_tableau.specs.declared.symbols.Sym.TheVariants.{Const, Var}
-use Rattle.su_tableau.specs.Tableaux.{value_of, values_of}
+use Rattle.su_tableau.specs.Valuations.{value_of, values_of}
 use Rattle.su_exec.specs.declared.tasks.TaskRow.{TaskRow}
 use Rattle.su_exec.specs.declared.tasks.Compared.{Compared}
 use Rattle.su_exec.specs.declared.tasks.Task.{Task}
 use Rattle.su_exec.specs.Tasks.{Occurs, FitsTables, HasSources, IsTask}
-use Rattle.su_exec.specs.Outputs.{Agrees, Holds, IsOutput}
+use Rattle.su_exec.specs.Outputs.{Agrees, HoldsUnder, IsOutput}
 use Rattle.su_steps.proofs.Lists.{all_by, contains_later, contains_cases, contains_none, contains_map, of_map, contains_flat, of_flat}
 use Rattle.su_base.proofs.Items.{AllZip-get_or, Contains-range, Contains-range_below}
-use Rattle.su_sql.specs.declared.tables.Place.{Place}
+use Rattle.su_sql.specs.declared.tables.CellPlace.{CellPlace}
 use Rattle.su_sql.specs.declared.tables.Join.{Join}
 use Rattle.su_sql.specs.declared.tables.Fixed.{Fixed}
 use Rattle.su_sql.specs.declared.tables.Table.{Table}
 use Rattle.su_sql.specs.declared.cells.Cell.{Cell}
-use Rattle.su_sql.specs.Selects.{IsRowOf, value_at, operand_value, Joins, Fixes, Compares, IsSelected}
-use Rattle.su_sql.specs.Making.{operand_of, comparison_of, joins_for, joins_at, joins_of, fixed_for, fixed_at, fixed_of, table_of, select_of, IsJoined}
+use Rattle.su_sql.specs.Choosing.{IsRowOf, value_at, operand_value, Joins, Fixes, Compares}
+use Rattle.su_sql.specs.Selects.{IsSelected}
+use Rattle.su_sql.specs.Joining.{operand_of, comparison_of, joins_for, joins_at, joins_of, fixed_for, fixed_at, fixed_of}
+use Rattle.su_sql.specs.Making.{table_of, select_of, IsJoined}
 use Rattle.su_sql.specs.Cells.{no_row, place, cell_at, cells_in, cells_of, is_variable, is_same, place_of, first_place}
 
 -- ---- symbols and places
@@ -41,14 +43,14 @@ both_true : (a b : Bool) → (a && b) ≡ true → (a ≡ true) × (b ≡ true)
 both_true true b h = (refl, h)
 both_true false b h = absurd (false≢true h)
 
-same_is : (p q : Place) → is_same p q ≡ true → p ≡ q
+same_is : (p q : CellPlace) → is_same p q ≡ true → p ≡ q
 same_is p q h =
     let b = both_true (p.table == q.table) (p.cell == q.cell) h in
     let t = eqb-true p.table q.table b.0 in
     let c = eqb-true p.cell q.cell b.1 in
     ap (λ n. place n p.cell) t ∙ ap (place q.table) c
 
-abbrev cell : Place → Sym → Cell
+abbrev cell : CellPlace → Sym → Cell
 cell p x = record { place = p; symbol = x }
 
 -- a variable that stands somewhere stands at its first place
@@ -74,7 +76,7 @@ module _ (cells : List Cell) (choice : List (List Value)) where
   abbrev pub found : ℕ → Value
   found k = value_at choice (first_place cells k)
 
-  there : All (Joins choice) (joins_of cells) → All (Fixes choice) (fixed_of cells) → (p : Place) (x : Sym) → Contains cells (cell p x) → value_at choice p ≡ value_of found x
+  there : All (Joins choice) (joins_of cells) → All (Fixes choice) (fixed_of cells) → (p : CellPlace) (x : Sym) → Contains cells (cell p x) → value_at choice p ≡ value_of found x
   there joined fixed p (Const a) m = All-contains (Fixes choice) (fixed_of cells) (record { place = p; value = a }) fixed (contains_flat fixed_at cells (cell p (Const a)) (record { place = p; value = a }) m (0, omega arith, refl))
   there joined fixed p (Var k) m =
       let first = first_place cells k in
@@ -92,7 +94,7 @@ module _ (cells : List Cell) (choice : List (List Value)) where
     at_first : (k : ℕ) (c : Cell) → Contains cells c → c.symbol ≡ Var k → value_at choice (first_place cells k) ≡ v k
     at_first k c m e = let w = first_found cells k c m e in ap (value_at choice) w.3 ∙ have w.0 w.1 ∙ ap (value_of v) w.2
 
-    join_holds : (p : Place) (x : Sym) → Contains cells (cell p x) → (j : Join) → Contains (joins_for cells p x) j → Joins choice j
+    join_holds : (p : CellPlace) (x : Sym) → Contains cells (cell p x) → (j : Join) → Contains (joins_for cells p x) j → Joins choice j
     join_holds p (Const a) m j n = absurd (contains_none j n)
     join_holds p (Var k) m j n =
         let first = first_place cells k in
@@ -105,7 +107,7 @@ module _ (cells : List Cell) (choice : List (List Value)) where
               (contains_cases join [] j c)
         ] n
 
-    fixed_holds : (p : Place) (x : Sym) → Contains cells (cell p x) → (f : Fixed) → Contains (fixed_for p x) f → Fixes choice f
+    fixed_holds : (p : CellPlace) (x : Sym) → Contains cells (cell p x) → (f : Fixed) → Contains (fixed_for p x) f → Fixes choice f
     fixed_holds p (Var k) m f n = absurd (contains_none f n)
     fixed_holds p (Const a) m f n =
         let fixed : Fixed = record { place = p; value = a } in
@@ -138,16 +140,16 @@ module _ (cells : List Cell) (choice : List (List Value)) where
     compared_is c l r = ap (λ x. compares c.op x (operand_value choice (operand_of cells c.right))) (operand_is c.left l) ∙ ap (compares c.op (value_of v c.left)) (operand_is c.right r)
 
     module _ (cs : List Compared) (stand : (c : Compared) → Contains cs c → Stands c.left × Stands c.right) where
-      pub all_hold : All (Compares choice) (map (comparison_of cells) cs) → All (Holds v) cs
-      all_hold h = All-from_recursion (Holds v) cs (all_by (Holds v) cs (λ c m.
+      pub all_hold : All (Compares choice) (map (comparison_of cells) cs) → All (HoldsUnder v) cs
+      all_hold h = All-from_recursion (HoldsUnder v) cs (all_by (HoldsUnder v) cs (λ c m.
           let s = stand c m in
           subst IsTrue (compared_is c s.0 s.1) (All-contains (Compares choice) (map (comparison_of cells) cs) (comparison_of cells c) h (contains_map (comparison_of cells) cs c m))))
 
-      pub all_compare : All (Holds v) cs → All (Compares choice) (map (comparison_of cells) cs)
+      pub all_compare : All (HoldsUnder v) cs → All (Compares choice) (map (comparison_of cells) cs)
       all_compare h = All-from_recursion (Compares choice) (map (comparison_of cells) cs) (all_by (Compares choice) (map (comparison_of cells) cs) (λ d n.
           let w = of_map (comparison_of cells) cs d n in
           let s = stand w.0 w.1 in
-          subst (Compares choice) w.2 (subst IsTrue (sym (compared_is w.0 s.0 s.1)) (All-contains (Holds v) cs w.0 h w.1))))
+          subst (Compares choice) w.2 (subst IsTrue (sym (compared_is w.0 s.0 s.1)) (All-contains (HoldsUnder v) cs w.0 h w.1))))
 
 -- ---- the cells of rows
 

@@ -6,7 +6,7 @@ use Rattle.std.specs.FinSet.{FinSet}
 use Rattle.su_base.specs.declared.values.Value.{Value}
 use Rattle.su_tableau.specs.Tableaux.{IsValid}
 use Rattle.su_schema.specs.SchemaValue.{SchemaValue}
-use Rattle.su_schema.specs.SchemaValue as schemas
+use Rattle.su_schema.specs.Valid as schemas
 use Rattle.su_query.specs.declared.resolving.Resolved.{Resolved}
 use Rattle.su_state.specs.DatabaseValue.{DatabaseValue}
 use Rattle.su_min.specs.Kept.{Minimised}

@@ -16,18 +16,20 @@ use Rattle.su_where.specs.declared.operators.Op.TheVariants.{Equal}
 use Rattle.su_where.specs.Operator.{compares}
 use Rattle.su_tableau.specs.declared.symbols.Sym.{Sym}
 use Rattle.su_tableau.specs.declared.symbols.Sym.TheVariants.{Var}
-use Rattle.su_tableau.specs.Tableaux.{Tab, IsValid, nth, value_of, values_of, AreCompared, Cut}
-use Rattle.su_tableau.specs.Essential.{Holds, IsEssential}
+use Rattle.su_tableau.specs.Tableaux.{Tab, IsValid}
+use Rattle.su_tableau.specs.Valuations.{nth, value_of, values_of, AreCompared, Cut}
+use Rattle.su_tableau.specs.Essential.{HasSymbol, IsEssential}
 use Rattle.su_tableau.proofs.Listing.{listed}
-use Rattle.su_schema.specs.SchemaValue.{column_of}
-use Rattle.su_schema.specs.SchemaValue as schemas
-use Rattle.su_map.specs.Lists.{rows_in}
-use Rattle.su_state.specs.DatabaseValue.{DatabaseValue, IsTyped, rows_of, columns_of, read}
+use Rattle.su_schema.specs.Entries.{column_of}
+use Rattle.su_schema.specs.Valid as schemas
+use Rattle.su_map.specs.Lists.{row_numbers}
+use Rattle.su_state.specs.DatabaseValue.{DatabaseValue, HasColumnKinds, rows_of, columns_of}
+use Rattle.su_state.specs.Enforced.{read}
 use Rattle.su_state.proofs.Columns.{column_within}
 use Rattle.su_exec.specs.declared.tasks.TaskRow.{TaskRow}
 use Rattle.su_exec.specs.declared.tasks.Compared.{Compared}
 use Rattle.su_exec.specs.declared.tasks.Task.{Task}
-use Rattle.su_exec.specs.Outputs.{Agrees, Holds as HoldsFor, IsOutput}
+use Rattle.su_exec.specs.Outputs.{Agrees, HoldsUnder as HoldsFor, IsOutput}
 use Rattle.su_steps.proofs.Lists.{all_by, contains_map, of_map, contains_filter, of_filter}
 use Rattle.su_answer.specs.Answers.{IsRead, StoredAnswer}
 use Rattle.su_answer.specs.Joined.{numbers_in, cell, IsTaskRowOf, comparison_at, IsTaskOf}
@@ -40,7 +42,7 @@ use Rattle.su_sql.specs.Stored.{AreStored}
 -- a stored row is as wide as its relation
 stored_wide : (db : DatabaseValue) (relation : ℕ) (row : List Value) → AreStored db → Contains (rows_of db relation) row → length row ≡ length (columns_of db relation)
 stored_wide db relation row stored c =
-    let typed : map kind_of row ≡ map (λ (o : Column). o.kind) (columns_of db relation) = All-contains (IsTyped (columns_of db relation)) (rows_of db relation) row (stored relation) c in
+    let typed : map kind_of row ≡ map (λ (o : Column). o.kind) (columns_of db relation) = All-contains (HasColumnKinds (columns_of db relation)) (rows_of db relation) row (stored relation) c in
     sym (length-map row kind_of) ∙ ap (λ (ks : List Kind). length ks) typed ∙ length-map (columns_of db relation) (λ (o : Column). o.kind)
 
 module _ (db : DatabaseValue) (t : Tab) (m : ℕ) (task : Task) (schema_valid : schemas.IsValid db.schema) (stored : AreStored db) (valid : IsValid t) (is : IsTaskOf db.schema t m task) where
@@ -50,13 +52,13 @@ module _ (db : DatabaseValue) (t : Tab) (m : ℕ) (task : Task) (schema_valid : 
     row_wide : length (get_or t.rows i []) ≡ t.width
     row_wide = valid.widths i [] row_in
 
-    essential_has : (c : ℕ) (x : Sym) → Holds t m i c x → IsEssential t m i c → Contains (numbers_in of'.attributes t.width) c
+    essential_has : (c : ℕ) (x : Sym) → HasSymbol t m i c x → IsEssential t m i c → Contains (numbers_in of'.attributes t.width) c
     essential_has c x h e =
         let l = h.column_in in
         let w = row_wide in
         contains_filter (contains of'.attributes) (range_with_len 0 t.width) c (Contains-range t.width c (omega (arith, l, w))) ((of'.essential c).1 e)
 
-    holds_cell : (c : ℕ) → c < t.width → Holds t m i c (cell t i c)
+    holds_cell : (c : ℕ) → c < t.width → HasSymbol t m i c (cell t i c)
     holds_cell c low =
         let w = row_wide in
         let l : c < length (get_or t.rows i []) = omega (arith, low, w) in
@@ -150,13 +152,13 @@ module _ (db : DatabaseValue) (t : Tab) (m : ℕ) (task : Task) (schema_valid : 
 
   agrees_all : (v : ℕ → Value) → ((i : ℕ) → i < length t.rows → bit_at m i ≡ 1 → IsRead db t m v i) → All (Agrees db.tables v) task.rows
   agrees_all v h = All-from_recursion (Agrees db.tables v) task.rows (all_by (Agrees db.tables v) task.rows (λ r c.
-      let w = zip_second (IsTaskRowOf db.schema t m) (rows_in t m) task.rows r is.rows c in
+      let w = zip_second (IsTaskRowOf db.schema t m) (row_numbers t m) task.rows r is.rows c in
       let n = of_rows t m w.0 w.1 in
       read_row w.0 r v n.0 n.1 w.2 (h w.0 n.0 n.1)))
 
   all_read : (v : ℕ → Value) → All (Agrees db.tables v) task.rows → (i : ℕ) → i < length t.rows → bit_at m i ≡ 1 → IsRead db t m v i
   all_read v h i low set =
-      let w = zip_first (IsTaskRowOf db.schema t m) (rows_in t m) task.rows i is.rows (in_rows t m i low set) in
+      let w = zip_first (IsTaskRowOf db.schema t m) (row_numbers t m) task.rows i is.rows (in_rows t m i low set) in
       row_read i w.0 v low set w.2 (All-contains (Agrees db.tables v) task.rows w.0 h w.1)
 
   pub outputs_are_answers : (h : List Value) → IsOutput db.tables task h ↔ Cut t (StoredAnswer db t m) h

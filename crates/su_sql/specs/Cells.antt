@@ -5,7 +5,7 @@ use Rattle.std.specs.List.{range_with_len}
 use Rattle.su_tableau.specs.declared.symbols.Sym.{Sym}
 use Rattle.su_tableau.specs.declared.symbols.Sym.TheVariants.{Const, Var}
 use Rattle.su_exec.specs.declared.tasks.TaskRow.{TaskRow}
-use Rattle.su_sql.specs.declared.tables.Place.{Place}
+use Rattle.su_sql.specs.declared.tables.CellPlace.{CellPlace}
 use Rattle.su_sql.specs.declared.tables.Operand.TheVariants as operand
 use Rattle.su_sql.specs.declared.cells.Cell.{Cell}
 
@@ -14,7 +14,7 @@ abbrev pub no_row : TaskRow
 no_row = record { cells = []; sources = [] }
 
 -- cell c of table t
-abbrev pub place : ℕ → ℕ → Place
+abbrev pub place : ℕ → ℕ → CellPlace
 place t c = record { table = t; cell = c }
 
 -- the cell with this number in the row
@@ -35,14 +35,14 @@ is_variable k (Var j) = j == k
 is_variable k (Const value) = false
 
 -- the places are the same
-abbrev pub is_same : Place → Place → Bool
+abbrev pub is_same : CellPlace → CellPlace → Bool
 is_same p q = (p.table == q.table) && (p.cell == q.cell)
 
 -- the place of the cell, if there is one
-abbrev pub place_of : Option Cell → Place
+abbrev pub place_of : Option Cell → CellPlace
 place_of (Some c) = c.place
 place_of None = place 0 0
 
 -- the first place where the variable stands
-abbrev pub first_place : List Cell → ℕ → Place
+abbrev pub first_place : List Cell → ℕ → CellPlace
 first_place cells k = place_of (find (λ c. is_variable k c.symbol) cells)

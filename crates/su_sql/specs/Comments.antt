@@ -5,7 +5,8 @@ use Rattle.su_base.specs.declared.values.Kind.TheVariants as kind
 use Rattle.su_schema.specs.SchemaValue.{SchemaValue}
 use Rattle.su_sql.specs.declared.dialects.Dialect.{Dialect}
 use Rattle.su_sql.specs.declared.dialects.Dialect.TheVariants.{Postgres, Sqlite, Spark}
-use Rattle.su_sql.specs.Texts.{relation_text, literal_text}
+use Rattle.su_sql.specs.Names.{relation_text}
+use Rattle.su_sql.specs.Texts.{literal_text}
 
 -- a line feed or a carriage return
 abbrev pub ends_line : ℕ → Bool

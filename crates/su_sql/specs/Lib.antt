@@ -12,3 +12,9 @@ pub mod Scripts
 pub mod Meaning
 pub mod Operands
 pub mod Accepted
+pub mod Conditions
+pub mod Joining
+pub mod Clauses
+pub mod Choosing
+pub mod QueryReplies
+pub mod Names

@@ -11,7 +11,8 @@ use Rattle.su_query.specs.declared.resolving.Resolved.{Resolved}
 use Rattle.su_min.specs.Reduction.{term_at}
 use Rattle.su_answer.specs.declared.preparing.Prepared.{Prepared}
 use Rattle.su_answer.specs.Prepared.{IsPrepared}
-use Rattle.su_answer.specs.Answers.{IsAnswer, IsAnswerOf}
+use Rattle.su_answer.specs.Answers.{IsAnswer}
+use Rattle.su_answer.specs.QueryAnswers.{IsAnswerOf}
 use Rattle.su_sql.specs.declared.tables.Operand.TheVariants as operand
 use Rattle.su_sql.specs.declared.tables.Select.{Select}
 use Rattle.su_sql.specs.Selects.{IsInUnion, AreRowsOf}

@@ -8,10 +8,11 @@ use Rattle.su_exec.specs.declared.tasks.Source.{Source}
 use Rattle.su_schema.specs.SchemaValue.{SchemaValue}
 use Rattle.su_sql.specs.declared.dialects.Dialect.{Dialect}
 use Rattle.su_sql.specs.declared.tables.Table.{Table}
-use Rattle.su_sql.specs.declared.tables.Place.{Place}
+use Rattle.su_sql.specs.declared.tables.CellPlace.{CellPlace}
 use Rattle.su_sql.specs.declared.tables.Operand.{Operand}
 use Rattle.su_sql.specs.declared.tables.Operand.TheVariants.{At, Const}
-use Rattle.su_sql.specs.Texts.{column_text, column_kind, value_text, collation}
+use Rattle.su_sql.specs.Names.{column_text, column_kind}
+use Rattle.su_sql.specs.Texts.{value_text, collation}
 use Rattle.su_sql.specs.Tables.{no_table}
 
 -- a value of a table: the column itself, or its number where there are several sources
@@ -20,7 +21,7 @@ value_name d schema (s ∷ []) i = column_text d schema s.relation (get_or s.col
 value_name d schema sources i = 99 ∷ decimal i
 
 -- a value of a table, with the table's number
-abbrev pub place_text : Dialect → SchemaValue → List Table → Place → List ℕ
+abbrev pub place_text : Dialect → SchemaValue → List Table → CellPlace → List ℕ
 place_text d schema tables p = 114 ∷ decimal p.table ++ 46 ∷ value_name d schema (get_or tables p.table no_table).sources p.cell
 
 -- the kind of the values of a column of the first source, which is that of each

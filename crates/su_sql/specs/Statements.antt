@@ -1,50 +1,20 @@
 -- What is written for a statement.
 -- Each statement is taken as `sysu` takes it, on the rows that the script itself inserted: where that refuses it, the line of the refusal is a comment.
 -- A retrieve is written as the selects of its kept terms, and a load as a comment; neither is executed.
-use Rattle.std.specs.Prelude.{◌≡◌, ◌≢◌, ◌⊎◌, ℕ, Bool, true, false, List, [], ◌++◌, Some, None}
-use Rattle.std.specs.Ordering.{nat_cmp}
-use Rattle.std.specs.FinSet.{FinSet}
-use Rattle.su_schema.specs.SchemaValue.{SchemaValue}
-use Rattle.su_maxobj.specs.MaximalObjects.{AreMaximalObjects}
+use Rattle.std.specs.Prelude.{◌≡◌, ◌≢◌, ◌⊎◌, ℕ, Bool, true, false, List, ◌++◌, Some, None}
 use Rattle.su_query.specs.declared.faults.QueryFault.{QueryFault}
 use Rattle.su_query.specs.declared.faults.QueryFault.TheVariants.{NoMemory}
-use Rattle.su_query.specs.declared.statements.Query.{Query}
 use Rattle.su_query.specs.declared.statements.Statement.{Statement}
 use Rattle.su_query.specs.declared.statements.Statement.TheVariants.{Load, Retrieve}
-use Rattle.su_query.specs.Lookup.{resolved_of}
-use Rattle.su_query.specs.Reading.{IsStatement, IsRefusal}
+use Rattle.su_query.specs.Reading.{IsStatement, IsTextRefusal}
 use Rattle.su_state.specs.DatabaseValue.{DatabaseValue}
-use Rattle.su_show.specs.declared.statement_refusal.Refusal.{Refusal}
-use Rattle.su_show.specs.Refusing.{refusal_line, IsNoMemory}
-use Rattle.su_show.specs.Replies.{header_of}
 use Rattle.su_session.specs.declared.replies.Reply.{Reply}
 use Rattle.su_session.specs.Reply.{Replied}
-use Rattle.su_session.specs.Retrieving.{IsRefusalOf, HasTerms}
 use Rattle.su_session.specs.Telling.{Accepts}
 use Rattle.su_sql.specs.declared.dialects.Dialect.{Dialect}
-use Rattle.su_sql.specs.declared.tables.Select.{Select}
-use Rattle.su_sql.specs.Meaning.{AreSelectsOf}
-use Rattle.su_sql.specs.Queries.{query_text}
-use Rattle.su_sql.specs.Comments.{comment_text, load_text}
-use Rattle.su_sql.specs.Accepted.{number_of, accepted_text, defined_text}
-
--- a refusal, whose line is a comment
-pub record RefusesWith (line : List ℕ) (reply : Reply) : Type 0 where
-  pub refused : reply.refused ≡ true
-  pub text : reply.bytes ≡ comment_text line
-
--- ---- queries
--- the union of the selects of the query's kept terms
-pub record WritesSelects (d : Dialect) (schema : SchemaValue) (maximal : List (FinSet nat_cmp)) (q : Query) (reply : Reply) : Type 0 where
-  pub selects : List Select
-  pub are : AreSelectsOf schema maximal (resolved_of schema q) selects
-  pub text : Accepts (query_text d schema (header_of q) selects) reply
-
--- refused for its first cause, or else the selects
-abbrev pub WritesQuery : Dialect → DatabaseValue → Query → Reply → Type 0
-WritesQuery d db q reply = (maximal : List (FinSet nat_cmp)) × AreMaximalObjects db.schema maximal
-    × (((why : Refusal) × IsRefusalOf db.schema maximal q why × (¬ IsNoMemory why) × RefusesWith (refusal_line db.schema why) reply)
-    ⊎ (HasTerms db.schema maximal q × WritesSelects d db.schema maximal q reply))
+use Rattle.su_sql.specs.Comments.{load_text}
+use Rattle.su_sql.specs.Accepted.{number_of_relation, accepted_text, defined_text}
+use Rattle.su_sql.specs.QueryReplies.{RefusesWith, WritesQuery}
 
 -- what is written where this is replied: the refusal as a comment, or else the text
 abbrev pub Tells : Bool → List ℕ → List ℕ → Reply → Type 0
@@ -58,8 +28,8 @@ WritesReply d db text st reply new = (said : Reply) × Replied db text None said
 -- how a known relation's file is loaded; an unknown one is refused
 abbrev pub WritesLoad : Dialect → DatabaseValue → List ℕ → List ℕ → List ℕ → Reply → DatabaseValue → Type 0
 WritesLoad d db text name path reply new =
-    ((r : ℕ) × (number_of db.schema name ≡ Some r) × Accepts (load_text d db.schema r path) reply × (new ≡ db))
-    ⊎ ((number_of db.schema name ≡ None) × WritesReply d db text (Load name path) reply new)
+    ((r : ℕ) × (number_of_relation db.schema name ≡ Some r) × Accepts (load_text d db.schema r path) reply × (new ≡ db))
+    ⊎ ((number_of_relation db.schema name ≡ None) × WritesReply d db text (Load name path) reply new)
 
 -- what is written for a statement
 abbrev pub WritesStatement : Dialect → DatabaseValue → List ℕ → Statement → Reply → DatabaseValue → Type 0
@@ -75,7 +45,7 @@ WritesDefinition d db text reply new = (said : Reply) × Replied db text None sa
 abbrev pub Writes : Dialect → DatabaseValue → List ℕ → Reply → DatabaseValue → Type 0
 Writes d db text reply new =
     ((st : Statement) × IsStatement text st × WritesStatement d db text st reply new)
-    ⊎ ((fault : QueryFault) × IsRefusal text fault × (fault ≢ NoMemory) × WritesDefinition d db text reply new)
+    ⊎ ((fault : QueryFault) × IsTextRefusal text fault × (fault ≢ NoMemory) × WritesDefinition d db text reply new)
 
 -- what is written for a text is added, and this tells whether it is a refusal
 pub record IsAdded (d : Dialect) (db : DatabaseValue) (text : List ℕ) (new : DatabaseValue) (before after : List ℕ) (refused : Bool) : Type 0 where

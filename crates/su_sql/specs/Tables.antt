@@ -7,7 +7,7 @@ use Rattle.su_exec.specs.declared.tasks.Source.{Source}
 use Rattle.su_schema.specs.SchemaValue.{SchemaValue}
 use Rattle.su_sql.specs.declared.dialects.Dialect.{Dialect}
 use Rattle.su_sql.specs.declared.tables.Table.{Table}
-use Rattle.su_sql.specs.Texts.{led, relation_text, column_text}
+use Rattle.su_sql.specs.Names.{led, relation_text, column_text}
 
 -- a column of a source, which is the value number i of the table's rows
 abbrev pub source_column : Dialect → SchemaValue → Source → ℕ → List ℕ

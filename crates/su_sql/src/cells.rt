@@ -2,7 +2,7 @@
 ghost use Rattle.std.specs.Prelude.{◌≡◌, ◌++◌, OnOk, IfOk};
 ghost use Rattle.su_sql.specs.Cells.{cells_in, cells_of};
 
-use crate::tables::Place;
+use crate::tables::CellPlace;
 use std::alloc::Global;
 use su_base::{List, NoMemory};
 use su_exec::TaskRow;
@@ -11,7 +11,7 @@ use su_tableau::Sym;
 /// A symbol at its place.
 #[derive(Debug, Drop)]
 pub struct Cell {
-    pub place: Place,
+    pub place: CellPlace,
     pub symbol: Sym,
 }
 
@@ -24,7 +24,7 @@ fn push_cells(
     ensures { OnOk result (cells.new ≡ cells.old ++ cells_in table row.now) }
 {
     for (cell, symbol) in row.cells.as_slice().iter().enumerate() {
-        let place = Place { table, cell };
+        let place = CellPlace { table, cell };
         let symbol = symbol.copy(alloc)?;
         cells.push(Cell { place, symbol })?;
     }

@@ -1,9 +1,10 @@
 //! Definitions of relations, and changes of rows, as SQL.
 ghost use Rattle.std.specs.Prelude.{◌≡◌, ◌++◌, ◌<◌, length, map, OnOk, IfOk};
 ghost use Rattle.std.specs.List.{range_with_len};
-ghost use Rattle.su_schema.specs.Checks.{columns_at};
+ghost use Rattle.su_schema.specs.Known.{columns_at};
 ghost use Rattle.su_sql.specs.Texts.{value_text};
-ghost use Rattle.su_sql.specs.Changes.{column_line, create_text, equality_text, is_row_text, insert_text, delete_text, delete_where_text, shown_column, print_text};
+ghost use Rattle.su_sql.specs.Changes.{column_line, create_text, equality_text, is_row_text, insert_text, delete_text, shown_column, print_text};
+ghost use Rattle.su_sql.specs.Conditions.{delete_where_text};
 
 use crate::columns::{column_kind, columns, push_column, push_relation};
 use crate::conditions::push_condition;

@@ -1,7 +1,7 @@
 //! Relations and their columns, by number. What is none of the schema's has an empty name.
 ghost use Rattle.std.specs.Prelude.{◌≡◌, ◌++◌, OnOk};
-ghost use Rattle.su_schema.specs.Checks.{columns_at};
-ghost use Rattle.su_sql.specs.Texts.{relation_name, column_name, column_kind, relation_text, column_text};
+ghost use Rattle.su_schema.specs.Known.{columns_at};
+ghost use Rattle.su_sql.specs.Names.{relation_name, column_name, column_kind, relation_text, column_text};
 
 use crate::dialects::Dialect;
 use crate::words::push_name;

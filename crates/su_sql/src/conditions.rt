@@ -1,6 +1,6 @@
 //! Conditions of deletions as SQL.
 ghost use Rattle.std.specs.Prelude.{◌≡◌, ◌++◌, ◌<◌, length, map, codes, OnOk, IfOk};
-ghost use Rattle.su_sql.specs.Changes.{kind_at, side_kind, side_text, many_text, condition_text};
+ghost use Rattle.su_sql.specs.Conditions.{kind_at, side_kind, side_text, many_text, condition_text};
 
 use crate::columns::column_kind;
 use crate::dialects::Dialect;

@@ -1,10 +1,10 @@
 //! What the cells ask of their places: equal symbols stand for equal values.
 ghost use Rattle.std.specs.Prelude.{◌≡◌, ◌++◌, map, OnOk, IfOk};
-ghost use Rattle.su_sql.specs.Making.{operand_of, comparison_of, joins_at, joins_of, fixed_at, fixed_of};
+ghost use Rattle.su_sql.specs.Joining.{operand_of, comparison_of, joins_at, joins_of, fixed_at, fixed_of};
 ghost use Rattle.su_sql.specs.Cells.{is_variable, is_same, first_place};
 
 use crate::cells::Cell;
-use crate::tables::{Comparison, Fixed, Join, Operand, Place};
+use crate::tables::{Comparison, Fixed, Join, Operand, CellPlace};
 use std::alloc::Global;
 use su_base::{List, NoMemory};
 use su_exec::Compared;
@@ -19,14 +19,14 @@ fn is_variable(number: u32, symbol: &Sym) -> bool
     }
 }
 
-fn is_same(place: Place, other: Place) -> bool
+fn is_same(place: CellPlace, other: CellPlace) -> bool
     ensures { result ≡ is_same place other }
 {
     place.table == other.table && place.cell == other.cell
 }
 
 /// The first place of the variable, found by one walk over the cells, of which a query has few.
-fn first_place(cells: &[Cell], number: u32) -> Place
+fn first_place(cells: &[Cell], number: u32) -> CellPlace
     ensures { result ≡ first_place cells.now number }
 {
     for cell in cells {
@@ -34,7 +34,7 @@ fn first_place(cells: &[Cell], number: u32) -> Place
             return cell.place;
         }
     }
-    Place { table: 0, cell: 0 }
+    CellPlace { table: 0, cell: 0 }
 }
 
 /// What stands for the symbol: the first place of a variable.

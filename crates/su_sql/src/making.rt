@@ -2,7 +2,7 @@
 ghost use Rattle.std.specs.Prelude.{◌≡◌, ◌<◌, All, length, map, IfOk};
 ghost use Rattle.std.specs.List.{AllZip};
 ghost use Rattle.su_tableau.specs.Kinds.{IsTyped};
-ghost use Rattle.su_schema.specs.SchemaValue.{attribute_kinds};
+ghost use Rattle.su_schema.specs.Entries.{attribute_kinds};
 ghost use Rattle.su_min.specs.Reduction.{term_at};
 ghost use Rattle.su_answer.specs.Prepared.{IsPreparedFor};
 ghost use Rattle.su_sql.specs.Making.{table_of, select_of, IsSelectOf};

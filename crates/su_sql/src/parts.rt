@@ -1,6 +1,6 @@
 //! Parts of a text, at the end of what stands there.
 ghost use Rattle.std.specs.Prelude.{◌≡◌, ◌++◌, decimal, OnOk};
-ghost use Rattle.su_sql.specs.Texts.{led};
+ghost use Rattle.su_sql.specs.Names.{led};
 
 use std::alloc::Global;
 use su_base::{List, NoMemory};

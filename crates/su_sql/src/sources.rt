@@ -1,6 +1,6 @@
 //! Tables of a select as SQL.
 ghost use Rattle.std.specs.Prelude.{◌≡◌, ◌++◌, [], length, map, get_or, codes, OnOk, IfOk};
-ghost use Rattle.su_sql.specs.Texts.{led};
+ghost use Rattle.su_sql.specs.Names.{led};
 ghost use Rattle.su_sql.specs.Queries.{tables_of};
 ghost use Rattle.su_sql.specs.Operands.{value_name, kind_from};
 ghost use Rattle.su_sql.specs.Tables.{source_column, one_at_least, source_columns, source_text, sources_text, table_text, no_table};

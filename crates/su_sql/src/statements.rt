@@ -1,11 +1,12 @@
 //! One statement of a script as SQL.
 ghost use Rattle.std.specs.Prelude.{◌≡◌, ◌≤◌, if◌then◌else◌, nat_lt, length, IfOk, IfErr, OnOk};
 ghost use Rattle.su_maxobj.specs.MaximalObjects.{AreMaximalObjects};
-ghost use Rattle.su_query.specs.Lookup.{resolved_of};
-ghost use Rattle.su_query.specs.Reading.{AreFew, HasFew};
+ghost use Rattle.su_query.specs.Numbering.{resolved_of};
+ghost use Rattle.su_query.specs.Limits.{AreFew, HasFew};
 ghost use Rattle.su_sql.specs.Changes.{create_text};
 ghost use Rattle.su_sql.specs.Comments.{comment_text};
-ghost use Rattle.su_sql.specs.Statements.{RefusesWith, WritesQuery, WritesReply, WritesStatement, WritesDefinition, Writes};
+ghost use Rattle.su_sql.specs.QueryReplies.{RefusesWith, WritesQuery};
+ghost use Rattle.su_sql.specs.Statements.{WritesReply, WritesStatement, WritesDefinition, Writes};
 ghost use Rattle.su_sql.specs.Accepted.{accepted_text};
 ghost use Rattle.su_show.specs.Refusing.{refusal_line, IsNoMemory};
 ghost use Rattle.su_session.specs.Retrieving.{IsRefusalOf, HasTerms};

@@ -12,7 +12,7 @@ pub struct Table {
 
 /// A value of a table's row. Tables, and the values of a row, are numbered from 0.
 #[derive(Clone, Copy, PartialEq, Eq, Debug)]
-pub struct Place {
+pub struct CellPlace {
     pub table: usize,
     pub cell: usize,
 }
@@ -20,21 +20,21 @@ pub struct Place {
 /// What a select compares and gives.
 #[derive(Debug, Drop)]
 pub enum Operand {
-    At(Place),
+    At(CellPlace),
     Const(Value),
 }
 
 /// The values at two places are equal.
 #[derive(Clone, Copy, Debug)]
 pub struct Join {
-    pub left: Place,
-    pub right: Place,
+    pub left: CellPlace,
+    pub right: CellPlace,
 }
 
 /// The value at a place is this one.
 #[derive(Debug, Drop)]
 pub struct Fixed {
-    pub place: Place,
+    pub place: CellPlace,
     pub value: Value,
 }
 

@@ -1,6 +1,7 @@
 //! Names, values, kinds and operators as SQL.
 ghost use Rattle.std.specs.Prelude.{◌≡◌, ◌++◌, OnOk};
-ghost use Rattle.su_sql.specs.Texts.{quote_of, name_text, byte_text, literal_text, value_text, kind_text, collation, operator_text};
+ghost use Rattle.su_sql.specs.Names.{quote_of, name_text};
+ghost use Rattle.su_sql.specs.Texts.{byte_text, literal_text, value_text, kind_text, collation, operator_text};
 
 use crate::dialects::Dialect;
 use crate::parts::push;

@@ -1,15 +1,16 @@
 //! Selects as SQL.
 ghost use Rattle.std.specs.Prelude.{◌≡◌, ◌<◌, ◌++◌, length, map, decimal, OnOk, IfOk};
 ghost use Rattle.std.specs.List.{range_with_len};
-ghost use Rattle.su_ddl.specs.Shown.{name_at};
-ghost use Rattle.su_sql.specs.Texts.{led, name_text};
-ghost use Rattle.su_sql.specs.Queries.{join_text, fixed_text, comparison_text, conditions_of, output_text, outputs_of, select_text, place_number, order_text, null_text, union_text, query_text};
+ghost use Rattle.su_ddl.specs.ShownDefinitions.{name_at};
+ghost use Rattle.su_sql.specs.Names.{led, name_text};
+ghost use Rattle.su_sql.specs.Clauses.{join_text, fixed_text, comparison_text, conditions_of, output_text};
+ghost use Rattle.su_sql.specs.Queries.{outputs_of, select_text, place_number, order_text, null_text, union_text, selects_text};
 ghost use Rattle.su_sql.specs.Operands.{place_text, operand_kind, operand_text, ordered_text};
 
 use crate::dialects::Dialect;
 use crate::parts::{push, push_led, push_number};
 use crate::sources::{kind_from, push_value_name, sources_at, table_parts};
-use crate::tables::{Comparison, Fixed, Join, Operand, Place, Select, Table};
+use crate::tables::{Comparison, Fixed, Join, Operand, CellPlace, Select, Table};
 use crate::words::{collation, operator, push_name, push_value};
 use std::alloc::Global;
 use su_base::{Kind, List, NoMemory, Str};
@@ -21,7 +22,7 @@ fn push_place(
     dialect: Dialect,
     schema: &Schema,
     tables: &[Table],
-    place: Place,
+    place: CellPlace,
 ) -> Result<(), NoMemory>
     ensures { OnOk result (out.new.items ≡ out.old.items ++ place_text dialect schema.now tables.now place) }
 {
@@ -350,7 +351,7 @@ pub fn query(
     header: &[Str],
     selects: &[Select],
 ) -> Result<List<u8>, NoMemory>
-    ensures { IfOk result (λ text. text ≡ query_text dialect schema.now header.now selects.now) }
+    ensures { IfOk result (λ text. text ≡ selects_text dialect schema.now header.now selects.now) }
 {
     let mut out = Vec::new(alloc);
     push_all_selects(alloc, &mut out, dialect, schema, header, selects)?;

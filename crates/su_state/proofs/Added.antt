@@ -11,12 +11,18 @@ use Rattle.su_rel.specs.Stored.{Stored}
 use Rattle.su_schema.specs.declared.definitions.Definition.{Definition}
 use Rattle.su_schema.specs.declared.definitions.Definition.TheVariants.{Attribute, Relation, Object, Fd, Maximal}
 use Rattle.su_schema.specs.declared.faults.SchemaFault.{SchemaFault}
-use Rattle.su_schema.specs.SchemaValue.{SchemaValue, RelationEntry, ObjectEntry, IsRelation, IsValid, relation_columns}
-use Rattle.su_schema.specs.Checks.{checks, first_failing, columns_at}
+use Rattle.su_schema.specs.SchemaValue.{SchemaValue, RelationEntry, ObjectEntry}
+use Rattle.su_schema.specs.Valid.{IsRelationEntry, IsValid}
+use Rattle.su_schema.specs.Entries.{relation_columns}
+use Rattle.su_schema.specs.Checks.{checks}
+use Rattle.su_schema.specs.NameChecks.{first_failing}
+use Rattle.su_schema.specs.Known.{columns_at}
 use Rattle.su_schema.specs.Defining.{applied, extended, outcome}
 use Rattle.su_index.specs.Tables.{table_at}
-use Rattle.su_state.specs.DatabaseValue.{DatabaseValue, rows_in, IsTyped, HoldsOn, IsWellKept}
-use Rattle.su_state.specs.Definitions.{tables_with, BreaksThrough, HoldsThrough, NewBreaks, Defines}
+use Rattle.su_state.specs.DatabaseValue.{DatabaseValue, rows_in, HasColumnKinds, IsWellKept}
+use Rattle.su_state.specs.Enforced.{HoldsOn}
+use Rattle.su_state.specs.Definitions.{tables_with, Defines}
+use Rattle.su_state.specs.Breaks.{BreaksThrough, HoldsThrough, NewBreaks}
 use Rattle.su_state.specs.declared.faults.DefineFault.{DefineFault}
 use Rattle.su_state.specs.declared.faults.DefineFault.TheVariants.{Schema, Breaks, NoMemory}
 use Rattle.su_state.specs.inside.Adding.{HaveTables, HasAdded, IsNarrow, AddedHolds, IsAddedFault}
@@ -80,11 +86,11 @@ module _ (db : DatabaseValue) (schema : SchemaValue) (more : List (List Column))
             ∙ sym (ap length (columns_after db.schema schema more r relations (omega (arith, past, kept.tables)) ∙ ap (λ (n : ℕ). get_or more (r - n) []) (sym kept.tables)))
       ]
 
-  typed_rows : (r : ℕ) → All (IsTyped (columns_at schema r)) (rows_in (db.tables ++ map empty_table more) r)
+  typed_rows : (r : ℕ) → All (HasColumnKinds (columns_at schema r)) (rows_in (db.tables ++ map empty_table more) r)
   typed_rows r =
       rw (rows_more db.tables more r) (elim (cases_lt r (length db.tables)) [
-        | inl within ↦ subst (λ (cs : List Column). All (IsTyped cs) (rows_in db.tables r)) (sym (columns_before db.schema schema more r relations (omega (arith, within, kept.tables)))) (kept.typed r within)
-        | inr past ↦ subst (λ (rows : List (List Value)). All (IsTyped (columns_at schema r)) rows) (sym (ap (λ t. t.rows) (get_or_past db.tables r blank past))) (All-nil (IsTyped (columns_at schema r)))
+        | inl within ↦ subst (λ (cs : List Column). All (HasColumnKinds cs) (rows_in db.tables r)) (sym (columns_before db.schema schema more r relations (omega (arith, within, kept.tables)))) (kept.typed r within)
+        | inr past ↦ subst (λ (rows : List (List Value)). All (HasColumnKinds (columns_at schema r)) rows) (sym (ap (λ t. t.rows) (get_or_past db.tables r blank past))) (All-nil (HasColumnKinds (columns_at schema r)))
       ])
 
   pub kept_more : ((f o : ℕ) (fd : Dependency) (object : ObjectEntry) → slice_get schema.fds f ≡ Some fd → slice_get schema.objects o ≡ Some object → ((slice_get db.schema.fds f ≡ Some fd) × (slice_get db.schema.objects o ≡ Some object)) ⊎ HoldsOn fd object (rows_in db.tables object.relation))
@@ -220,7 +226,7 @@ narrow schema new (Relation name columns) is valid =
     let own : RelationEntry = record { name = name; columns = columns } in
     let e : new ≡ extended schema (Relation name columns) = extended_is schema new (Relation name columns) is in
     let last : get_or new.relations (length schema.relations) own ≡ own = ap (λ s. get_or s.relations (length schema.relations) own) e ∙ get_or_push schema.relations own own (length schema.relations) refl in
-    let one : IsRelation (get_or new.relations (length schema.relations) own) = valid.relations (length schema.relations) own (omega (arith, ap (λ s. length s.relations) e, length_push schema.relations own)) in
+    let one : IsRelationEntry (get_or new.relations (length schema.relations) own) = valid.relations (length schema.relations) own (omega (arith, ap (λ s. length s.relations) e, length_push schema.relations own)) in
     omega (arith, one.few, ap (λ r. length r.columns) last)
 narrow schema new (Object name relation pairs) is valid = tt
 narrow schema new (Fd left right) is valid = tt

@@ -7,15 +7,17 @@ use Rattle.su_base.specs.declared.values.Value.{Value}
 use Rattle.su_fd.specs.declared.dependencies.Fd.{Fd}
 use Rattle.su_rel.specs.Stored.{Stored}
 use Rattle.su_fd.specs.Meeting.{LiesIn}
-use Rattle.su_schema.specs.SchemaValue.{SchemaValue, ObjectEntry, attributes_of}
-use Rattle.su_schema.specs.Checks.{columns_at}
+use Rattle.su_schema.specs.SchemaValue.{SchemaValue, ObjectEntry}
+use Rattle.su_schema.specs.Entries.{attributes_of}
+use Rattle.su_schema.specs.Known.{columns_at}
 use Rattle.su_index.specs.Tables.{table_at}
-use Rattle.su_state.specs.DatabaseValue.{rows_in, Break}
+use Rattle.su_state.specs.DatabaseValue.{rows_in}
+use Rattle.su_state.specs.Enforced.{Break}
 use Rattle.su_state.specs.declared.sides.Sides.{Sides}
 use Rattle.su_state.specs.inside.Sides.{AreSidesOf, Clash, IsLeastClash, row_at}
 use Rattle.su_state.specs.inside.Pairs.{IsLeastPair}
-use Rattle.su_state.specs.Changes.{IsBreach, IsLeastBreach}
-use Rattle.su_state.specs.Definitions.{IsLeastBreak, BreaksThrough, HoldsThrough}
+use Rattle.su_state.specs.Breaches.{IsBreach, IsLeastBreach}
+use Rattle.su_state.specs.Breaks.{IsLeastBreak, BreaksThrough, HoldsThrough}
 use Rattle.su_state.specs.inside.Adding.{HaveTables}
 use Rattle.su_state.proofs.Columns.{break_from_clash, clash_from_break}
 

@@ -13,24 +13,26 @@ use Rattle.su_base.specs.declared.values.Value.{Value}
 use Rattle.su_base.proofs.Subsets.{subset_at, subset_by, subset_antisymm, not_subset}
 use Rattle.su_fd.specs.declared.dependencies.Fd.{Fd}
 use Rattle.su_schema.specs.declared.links.Link.{Link}
-use Rattle.su_schema.specs.SchemaValue.{SchemaValue, ObjectEntry, RelationEntry, IsValid, IsObject, IsLink, IsRelation, IsDependency, column_of, attributes_of, relation_columns}
-use Rattle.su_schema.specs.Checks.{columns_at}
+use Rattle.su_schema.specs.SchemaValue.{SchemaValue, ObjectEntry, RelationEntry}
+use Rattle.su_schema.specs.Valid.{IsValid, IsObject, IsLink, IsRelationEntry, IsDependency}
+use Rattle.su_schema.specs.Entries.{column_of, attributes_of, relation_columns}
+use Rattle.su_schema.specs.Known.{columns_at}
 use Rattle.su_schema.proofs.Ascending.{found}
-use Rattle.su_state.specs.DatabaseValue.{read, Agree, Break}
+use Rattle.su_state.specs.Enforced.{read, AgreeThrough, Break}
 use Rattle.su_state.specs.declared.sides.Sides.{Sides}
 use Rattle.su_state.specs.inside.Sides.{AreColumnsOf, AreSidesOf, AgreeAt, Clash}
 
 read_column : (object : ObjectEntry) (a c : ℕ) (row : List Value) → column_of object a ≡ Some c → read object a row ≡ slice_get row c
 read_column object a c row e = ap (λ (o : Option ℕ). option_and_then (slice_get row) o) e
 
-Agree-from_columns : (object : ObjectEntry) (attributes columns : FinSet nat_cmp) (row other : List Value) → AreColumnsOf object attributes columns → AgreeAt columns row other → Agree object attributes row other
+Agree-from_columns : (object : ObjectEntry) (attributes columns : FinSet nat_cmp) (row other : List Value) → AreColumnsOf object attributes columns → AgreeAt columns row other → AgreeThrough object attributes row other
 Agree-from_columns object attributes columns row other are agree a there =
     elim (column_of object a) as (λ o. column_of object a ≡ o → read object a row ≡ read object a other) [
       | None ↦ λ e. ap (λ (o : Option ℕ). option_and_then (slice_get row) o) e ∙ sym (ap (λ (o : Option ℕ). option_and_then (slice_get other) o) e)
       | Some c ↦ λ e. read_column object a c row e ∙ agree c ((are c).1 (a, there, e)) ∙ sym (read_column object a c other e)
     ] refl
 
-columns-from_Agree : (object : ObjectEntry) (attributes columns : FinSet nat_cmp) (row other : List Value) → AreColumnsOf object attributes columns → Agree object attributes row other → AgreeAt columns row other
+columns-from_Agree : (object : ObjectEntry) (attributes columns : FinSet nat_cmp) (row other : List Value) → AreColumnsOf object attributes columns → AgreeThrough object attributes row other → AgreeAt columns row other
 columns-from_Agree object attributes columns row other are agree c there =
     let w = (are c).0 there in
     sym (read_column object w.0 c row w.2) ∙ agree w.0 w.1 ∙ read_column object w.0 c other w.2
@@ -119,7 +121,7 @@ columns_few schema r valid within =
     let d : RelationEntry = record { name = []; columns = [] } in
     let is : columns_at schema r ≡ (get_or schema.relations r d).columns =
     get_or_from_slice_get (relation_columns schema) r (get_or schema.relations r d).columns [] (slice_get-map (λ r. r.columns) schema.relations r ∙ ap (option_map (λ r. r.columns)) (slice_get-get_or schema.relations r d within)) in
-    let one : IsRelation (get_or schema.relations r d) = valid.relations r d within in
+    let one : IsRelationEntry (get_or schema.relations r d) = valid.relations r d within in
     rw is one.few
 
 -- the object of a number stands on one of the relations

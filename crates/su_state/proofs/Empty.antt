@@ -6,7 +6,9 @@ use Rattle.std.proofs.lemmas.Option.{get_or_from_slice_get, slice_get_within, sl
 use Rattle.su_base.specs.declared.values.Value.{Value}
 use Rattle.su_base.specs.declared.values.Column.{Column}
 use Rattle.su_rel.specs.Stored.{Stored}
-use Rattle.su_schema.specs.SchemaValue.{SchemaValue, IsValid, relation_columns}
+use Rattle.su_schema.specs.SchemaValue.{SchemaValue}
+use Rattle.su_schema.specs.Valid.{IsValid}
+use Rattle.su_schema.specs.Entries.{relation_columns}
 use Rattle.su_state.specs.DatabaseValue.{DatabaseValue, IsWellKept, rows_of, empty_tables}
 use Rattle.su_state.proofs.DifferentRows.{differ_none}
 

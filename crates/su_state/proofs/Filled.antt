@@ -13,11 +13,14 @@ use Rattle.su_fd.specs.declared.dependencies.Fd.{Fd}
 use Rattle.su_rel.specs.Changes.{PutInAll}
 use Rattle.su_rel.specs.Stored.{Stored, HaveWidth}
 use Rattle.su_fd.specs.Meeting.{LiesIn}
-use Rattle.su_schema.specs.SchemaValue.{SchemaValue, ObjectEntry, attributes_of}
-use Rattle.su_state.specs.DatabaseValue.{DatabaseValue, table_of, rows_of, columns_of, IsTyped, Break, HoldsOn, IsWellKept}
+use Rattle.su_schema.specs.SchemaValue.{SchemaValue, ObjectEntry}
+use Rattle.su_schema.specs.Entries.{attributes_of}
+use Rattle.su_state.specs.DatabaseValue.{DatabaseValue, table_of, rows_of, columns_of, HasColumnKinds, IsWellKept}
+use Rattle.su_state.specs.Enforced.{Break, HoldsOn}
 use Rattle.su_state.specs.declared.sides.Sides.{Sides}
 use Rattle.su_state.specs.inside.Sides.{AreSidesOf, Clash}
-use Rattle.su_state.specs.Changes.{NoBreach, InsertAnswers, Inserts}
+use Rattle.su_state.specs.Breaches.{NoBreach}
+use Rattle.su_state.specs.RowChanges.{InsertAnswers, Inserts}
 use Rattle.su_state.specs.Loads.{InsertsAll}
 use Rattle.su_state.specs.inside.Parts.{HaveOneWidth}
 use Rattle.su_state.specs.Filling.{KeepThrough, MayTake}
@@ -95,7 +98,7 @@ keeps_few db r rows kept within none among f o fd object numbered placed on row 
 may_take_more : (db new : DatabaseValue) (r : ℕ) (row : List Value) (rows : List (List Value)) → MayTake db r (row ∷ rows) → new.schema ≡ db.schema
     → ((x : List Value) → Contains (rows_of new r ++ rows) x → Contains (rows_of db r ++ row ∷ rows) x) → length (rows_of new r) ≤ length (rows_of db r) + 1 → MayTake new r rows
 may_take_more db new r row rows may same among few = record {
-  typed = rw same (All-tail (IsTyped (columns_of db r)) row rows may.typed);
+  typed = rw same (All-tail (HasColumnKinds (columns_of db r)) row rows may.typed);
   enforced = λ f o fd object numbered placed on. holds_fewer fd object (rows_of db r ++ row ∷ rows) (rows_of new r ++ rows) among (may.enforced f o fd object (rw same at numbered) (rw same at placed) on);
   few = omega (arith, may.few, few);
 }
@@ -116,7 +119,7 @@ inserted_all (row ∷ rows) db r table within width (between, inl (stored, same)
     ])
     (omega arith)) in
     let none : more.0 ≡ 0 + more.0 = omega arith in
-    (more.0, more.1, (db, false, more.0, ((All-head (IsTyped (columns_of db r)) row rows may.typed, stored), refl), more.2, none))
+    (more.0, more.1, (db, false, more.0, ((All-head (HasColumnKinds (columns_of db r)) row rows may.typed, stored), refl), more.2, none))
 inserted_all (row ∷ rows) db r table within width (between, inr (out, is), rest) may =
     let mid_table : Stored = record { width = (table_of db r).width; rows = rows_of db r ++ row ∷ [] } in
     let mid : DatabaseValue = with_table db r mid_table in
@@ -130,11 +133,11 @@ inserted_all (row ∷ rows) db r table within width (between, inr (out, is), res
     (λ x there. subst (λ (rs : List (List Value)). Contains rs x) assoc (subst (λ (b : List (List Value)). Contains (b ++ rows) x) its_rows there))
     (omega (arith, ap length its_rows, length_push (rows_of db r) row))) in
     let last : with_table mid r table ≡ with_table db r table = λ i. record { schema = db.schema; tables = set-set db.tables r mid_table table i } in
-    let answers : InsertAnswers db r row (Ok true) = (All-head (IsTyped (columns_of db r)) row rows may.typed, out, none_broken db r row rows may, omega (arith, may.few)) in
+    let answers : InsertAnswers db r row (Ok true) = (All-head (HasColumnKinds (columns_of db r)) row rows may.typed, out, none_broken db r row rows may, omega (arith, may.few)) in
     let one : Inserts db r row (Ok true) mid = (answers, added_with db r row mid_table within refl refl) in
     (1 + more.0, omega (arith, more.1, ap length its_rows, length_push (rows_of db r) row), (mid, true, more.0, one, subst (λ (d : DatabaseValue). InsertsAll mid r rows more.0 d) last more.2, refl))
 
-pub typed_width : (columns : List Column) (row : List Value) → IsTyped columns row → length row ≡ length columns
+pub typed_width : (columns : List Column) (row : List Value) → HasColumnKinds columns row → length row ≡ length columns
 typed_width columns row typed = sym (length-map row kind_of) ∙ ap length typed ∙ length-map columns (λ c. c.kind)
 
 -- stored rows and rows of their relation's kinds are all as long as one another, and short
@@ -145,7 +148,7 @@ pub short : (rows : List (List Value)) (width : ℕ) → width ≤ 32 → HaveWi
 short rows width few all k d less = omega (arith, few, all k d less)
 
 -- rows of the relation's kinds have its table's width
-pub wide : (db : DatabaseValue) (r : ℕ) (rows : List (List Value)) (old : Stored) → IsWellKept db → r < length db.tables → old ≡ get_or db.tables r old → All (IsTyped (columns_of db r)) rows → HaveWidth old.width rows
+pub wide : (db : DatabaseValue) (r : ℕ) (rows : List (List Value)) (old : Stored) → IsWellKept db → r < length db.tables → old ≡ get_or db.tables r old → All (HasColumnKinds (columns_of db r)) rows → HaveWidth old.width rows
 wide db r rows old kept within is typed k d less =
     typed_width (columns_of db r) (get_or rows k d) (typed k d less) ∙ sym (ap (λ t. t.width) (table_read db r old within is) ∙ kept.widths r within)
 
@@ -162,10 +165,10 @@ module _ (db : DatabaseValue) (r : ℕ) (rows : List (List Value)) (old new : St
   may_have : PutInAll old.rows rows new.rows → MayHave db r new
   may_have put =
       let own : PutInAll (rows_of db r) rows new.rows = subst (λ (t : Stored). PutInAll t.rows rows new.rows) filled put in
-      let typed : All (IsTyped (columns_of db r)) (rows_of db r ++ rows) = All-append (IsTyped (columns_of db r)) (rows_of db r) rows (kept.typed r within) may.typed in
+      let typed : All (HasColumnKinds (columns_of db r)) (rows_of db r ++ rows) = All-append (HasColumnKinds (columns_of db r)) (rows_of db r) rows (kept.typed r within) may.typed in
       record {
         width = width ∙ ap (λ t. t.width) filled ∙ kept.widths r within;
-        typed = λ k d less. All-contains (IsTyped (columns_of db r)) (rows_of db r ++ rows) (get_or new.rows k d) typed (put_among rows (rows_of db r) new.rows own (get_or new.rows k d) (Contains-get_or new.rows k d less));
+        typed = λ k d less. All-contains (HasColumnKinds (columns_of db r)) (rows_of db r ++ rows) (get_or new.rows k d) typed (put_among rows (rows_of db r) new.rows own (get_or new.rows k d) (Contains-get_or new.rows k d less));
         enforced = λ f o fd object numbered placed on. holds_fewer fd object (rows_of db r ++ rows) new.rows (put_among rows (rows_of db r) new.rows own) (may.enforced f o fd object numbered placed on);
         few = omega (arith, put_length rows (rows_of db r) new.rows own, may.few);
         differ = differ_put rows (rows_of db r) new.rows (kept.differ r) own;

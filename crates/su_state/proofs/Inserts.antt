@@ -6,7 +6,8 @@ use Rattle.std.proofs.lemmas.Option.{slice_get-get_or, get_or_from_slice_get}
 use Rattle.su_base.specs.declared.values.Value.{Value}
 use Rattle.su_rel.specs.Stored.{Stored}
 use Rattle.su_state.specs.DatabaseValue.{DatabaseValue, table_of}
-use Rattle.su_state.specs.Changes.{ChangesOnly, InsertAnswers, Inserts}
+use Rattle.su_state.specs.Changes.{ChangesOnly}
+use Rattle.su_state.specs.RowChanges.{InsertAnswers, Inserts}
 use Rattle.su_state.specs.Loads.{InsertsAll, InsertsSome, Loads, added_by}
 use Rattle.su_state.specs.inside.LoadEnds.{IsEnd}
 use Rattle.su_state.specs.declared.faults.StateFault.{StateFault}

@@ -11,9 +11,13 @@ use Rattle.su_base.specs.declared.values.Column.{Column}
 use Rattle.su_fd.specs.declared.dependencies.Fd.{Fd}
 use Rattle.su_rel.specs.Changes.{TakenOut}
 use Rattle.su_rel.specs.Stored.{Stored, AllDiffer}
-use Rattle.su_schema.specs.SchemaValue.{SchemaValue, ObjectEntry, relation_columns}
-use Rattle.su_state.specs.DatabaseValue.{DatabaseValue, table_of, rows_of, columns_of, read, IsTyped, Break, HoldsOn, IsWellKept}
-use Rattle.su_state.specs.Changes.{ChangesOnly, NoBreach, Added, Removed, Deletes, InsertAnswers, Inserts}
+use Rattle.su_schema.specs.SchemaValue.{SchemaValue, ObjectEntry}
+use Rattle.su_schema.specs.Entries.{relation_columns}
+use Rattle.su_state.specs.DatabaseValue.{DatabaseValue, table_of, rows_of, columns_of, HasColumnKinds, IsWellKept}
+use Rattle.su_state.specs.Enforced.{read, Break, HoldsOn}
+use Rattle.su_state.specs.Changes.{ChangesOnly, Added, Removed}
+use Rattle.su_state.specs.Breaches.{NoBreach}
+use Rattle.su_state.specs.RowChanges.{Deletes, InsertAnswers, Inserts}
 use Rattle.su_state.specs.declared.faults.StateFault.TheVariants.{NoMemory}
 use Rattle.su_state.proofs.DifferentRows.{differ_push}
 
@@ -27,7 +31,7 @@ with_table db r table = record { schema = db.schema; tables = set db.tables r ta
 -- the table is one that the relation may have
 pub record MayHave (db : DatabaseValue) (r : ℕ) (table : Stored) : Type 0 where
   pub width : table.width ≡ length (columns_of db r)
-  pub typed : All (IsTyped (columns_of db r)) table.rows
+  pub typed : All (HasColumnKinds (columns_of db r)) table.rows
   pub enforced : (f o : ℕ) (fd : Fd) (object : ObjectEntry) → slice_get db.schema.fds f ≡ Some fd → slice_get db.schema.objects o ≡ Some object → object.relation ≡ r → HoldsOn fd object table.rows
   pub few : length table.rows ≤ 1000000
   pub differ : AllDiffer table.rows
@@ -52,7 +56,7 @@ kept_with db r table kept within may =
       valid = kept.valid;
       tables = same ∙ kept.tables;
       widths = λ q less. by_relation (λ t q. q < length db.tables → t.width ≡ length (columns_of db q)) db r table within (λ _. may.width) (λ q l. kept.widths q l) q (omega (arith, less, same));
-      typed = λ q less. by_relation (λ t q. q < length db.tables → All (IsTyped (columns_of db q)) t.rows) db r table within (λ _. may.typed) (λ q l. kept.typed q l) q (omega (arith, less, same));
+      typed = λ q less. by_relation (λ t q. q < length db.tables → All (HasColumnKinds (columns_of db q)) t.rows) db r table within (λ _. may.typed) (λ q l. kept.typed q l) q (omega (arith, less, same));
       enforced = λ f df hf o do' ho.
           let fd : Fd = get_or db.schema.fds f df in
           let object : ObjectEntry = get_or db.schema.objects o do' in
@@ -98,11 +102,11 @@ module _ (db : DatabaseValue) (r : ℕ) (kept : IsWellKept db) (within : r < len
       let old = kept.enforced f fd (slice_get_within db.schema.fds f fd numbered) o object (slice_get_within db.schema.objects o object placed) in
       subst (λ (k : ℕ). HoldsOn fd object (rows_of db k)) on (rw (is_fd, is_object) at old)
 
-  pub may_add : (row : List Value) (table : Stored) → IsTyped (columns_of db r) row → (¬ Contains (rows_of db r) row) → NoBreach db.schema r (rows_of db r) row → length (rows_of db r) < 1000000
+  pub may_add : (row : List Value) (table : Stored) → HasColumnKinds (columns_of db r) row → (¬ Contains (rows_of db r) row) → NoBreach db.schema r (rows_of db r) row → length (rows_of db r) < 1000000
       → table.width ≡ (table_of db r).width → table.rows ≡ rows_of db r ++ row ∷ [] → MayHave db r table
   may_add row table typed out none few width rows = record {
     width = width ∙ kept.widths r within;
-    typed = rw rows (All-push (IsTyped (columns_of db r)) (rows_of db r) row (kept.typed r within) typed);
+    typed = rw rows (All-push (HasColumnKinds (columns_of db r)) (rows_of db r) row (kept.typed r within) typed);
     enforced = λ f o fd object numbered placed on. rw rows (holds_added db.schema r (rows_of db r) row f o fd object numbered placed on none (holds_at f o fd object numbered placed on));
     few = rw rows (omega (arith, length_push (rows_of db r) row));
     differ = rw rows (differ_push (rows_of db r) row (kept.differ r) out);
@@ -111,7 +115,7 @@ module _ (db : DatabaseValue) (r : ℕ) (kept : IsWellKept db) (within : r < len
   pub may_lose : (table : Stored) → table.width ≡ (table_of db r).width → ((x : List Value) → Contains table.rows x → Contains (rows_of db r) x) → length table.rows ≤ length (rows_of db r) → AllDiffer table.rows → MayHave db r table
   may_lose table width among fewer differ = record {
     width = width ∙ kept.widths r within;
-    typed = λ k d less. All-contains (IsTyped (columns_of db r)) (rows_of db r) (get_or table.rows k d) (kept.typed r within) (among (get_or table.rows k d) (Contains-get_or table.rows k d less));
+    typed = λ k d less. All-contains (HasColumnKinds (columns_of db r)) (rows_of db r) (get_or table.rows k d) (kept.typed r within) (among (get_or table.rows k d) (Contains-get_or table.rows k d less));
     enforced = λ f o fd object numbered placed on. holds_fewer fd object (rows_of db r) table.rows among (holds_at f o fd object numbered placed on);
     few = omega (arith, fewer, kept.few r);
     differ = differ;
@@ -181,7 +185,7 @@ module _ (db : DatabaseValue) (r : ℕ) (row : List Value) (old new : Stored) (k
       (λ x there. subst (λ (t : Stored). Contains t.rows x) taken_from ((out x).0 there).0)
       (omega (arith, count, ap (λ t. length t.rows) taken_from)) differ)
 
-  pub deleted : (b : Bool) → length new.rows + (if b then 1 else 0) ≡ length old.rows → IsTyped (columns_of db r) row → (IsTrue b ↔ Contains old.rows row) → OnFalse b (new ≡ old) → Deletes db r row (Ok b) (with_table db r new)
+  pub deleted : (b : Bool) → length new.rows + (if b then 1 else 0) ≡ length old.rows → HasColumnKinds (columns_of db r) row → (IsTrue b ↔ Contains old.rows row) → OnFalse b (new ≡ old) → Deletes db r row (Ok b) (with_table db r new)
   deleted true count typed there same = (
     (typed, subst (λ (t : Stored). Contains t.rows row) taken_from (there.0 refl)),
     removed_with db r row new within (width ∙ ap (λ t. t.width) taken_from)

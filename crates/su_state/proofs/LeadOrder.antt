@@ -11,7 +11,7 @@ use Rattle.su_base.specs.declared.values.Value.{Value}
 use Rattle.su_base.specs.declared.values.Value.TheVariants.{Int, Text}
 use Rattle.su_base.specs.Value.{compare_values}
 use Rattle.su_base.proofs.Rows.{values_total, equal_values}
-use Rattle.su_state.specs.inside.Leads.{lead_of_number, lead_of_bytes, IsLead, IsRowLead}
+use Rattle.su_state.specs.inside.Leads.{lead_of_number, lead_of_bytes, IsSortLead, IsRowLead}
 
 -- the seven bytes written out
 pub lead_of_bytes-seven : (s : List ℕ) → lead_of_bytes 7 s ≡ (((slice_index s 0 * 256 + slice_index s 1) * 256 + slice_index s 2) * 16777216 + ((slice_index s 3 * 256 + slice_index s 4) * 256 + slice_index s 5)) * 256 + slice_index s 6
@@ -74,18 +74,18 @@ number_rise (pos m) (negsuc n) e = absurd (cc)
 number_rise (negsuc m) (pos n) e = omega arith
 number_rise (negsuc m) (negsuc n) e = grind (arith, nat_tests, e)
 
-lead_rise : (m n : ℕ) (v w : Value) → IsLead m v → IsLead n w → compare_values v w ≡ Less → m ≤ n
+lead_rise : (m n : ℕ) (v w : Value) → IsSortLead m v → IsSortLead n w → compare_values v w ≡ Less → m ≤ n
 lead_rise m n (Int y) (Int z) a b e = rw (a, b) (number_rise y z e)
 lead_rise m n (Int y) (Text t) a b e = omega (arith, a, b.0, number_less y)
 lead_rise m n (Text s) (Int z) a b e = absurd (cc)
 lead_rise m n (Text s) (Text t) a b e = omega (arith, a.0, b.0, bytes_rise 7 s t a.1 b.1 e)
 
-lead_same : (m n : ℕ) (v : Value) → IsLead m v → IsLead n v → m ≡ n
+lead_same : (m n : ℕ) (v : Value) → IsSortLead m v → IsSortLead n v → m ≡ n
 lead_same m n (Int z) a b = a ∙ sym b
 lead_same m n (Text s) a b = a.0 ∙ sym b.0
 
 -- comparing the leads first changes nothing
-lead_first : (m n : ℕ) (v w : Value) (o : Ordering) → IsLead m v → IsLead n w → ordering_then (nat_cmp m n) (ordering_then (compare_values v w) o) ≡ ordering_then (compare_values v w) o
+lead_first : (m n : ℕ) (v w : Value) (o : Ordering) → IsSortLead m v → IsSortLead n w → ordering_then (nat_cmp m n) (ordering_then (compare_values v w) o) ≡ ordering_then (compare_values v w) o
 lead_first m n v w o a b =
     elim (compare_values v w) as (λ c. compare_values v w ≡ c → ordering_then (nat_cmp m n) (ordering_then c o) ≡ ordering_then c o) [
       | Less ↦ λ e. let le : m ≤ n = lead_rise m n v w a b e in grind (arith, nat_tests, le)

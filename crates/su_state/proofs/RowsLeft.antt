@@ -1,12 +1,12 @@
 -- The rows that a delete by a condition leaves.
 use Rattle.std.proofs.Common.{◌≡◌, ◌<◌, ◌≤◌, ◌+◌, ◌-◌, ℕ, Bool, true, false, not, List, [], ◌∷◌, ◌++◌, length, map, refl, sym, ap, subst, ◌∙◌, All, Contains, inl, inr, ◌⊎◌, zero, suc, arith}
-use Rattle.std.specs.Prelude.{◌↔◌}
+use Rattle.std.specs.Prelude.{◌↔◌, flat_map, cond}
 use Rattle.std.specs.List.{items_where_true, count_by}
 use Rattle.su_base.specs.declared.values.Value.{Value}
-use Rattle.std.specs.Prelude.{flat_map, cond}
 use Rattle.std.proofs.lemmas.List.Elements.{All-append, All-nil}
 use Rattle.su_where.specs.declared.conditions.Condition.TheVariants.{All as AllOf}
-use Rattle.su_where.specs.Truth.{Cond, truth_of, comparisons_of, HasPlacesBelow, Fits}
+use Rattle.su_where.specs.Truth.{Cond, truth_of, comparisons_of}
+use Rattle.su_where.specs.Fitting.{HasPlacesBelow, Fits}
 use Rattle.su_where.proofs.Layers.{comparisons_of-All}
 use Rattle.su_rel.specs.Stored.{Stored, HaveWidth}
 use Rattle.su_state.specs.DatabaseValue.{DatabaseValue, table_of, rows_of, IsWellKept}

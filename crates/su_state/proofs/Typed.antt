@@ -3,10 +3,10 @@ use Rattle.std.proofs.Common.{◌≡◌, ◌<◌, ℕ, List, [], ◌∷◌, leng
 use Rattle.su_base.specs.declared.values.Value.{Value}
 use Rattle.su_base.specs.declared.values.Column.{Column}
 use Rattle.su_base.specs.Value.{kind_of}
-use Rattle.su_state.specs.DatabaseValue.{IsTyped}
+use Rattle.su_state.specs.DatabaseValue.{HasColumnKinds}
 
 pub typed_from : (columns : List Column) (row : List Value) → length row ≡ length columns
-    → ((k : ℕ) (column : Column) (value : Value) → k < length columns → slice_get columns k ≡ Some column → slice_get row k ≡ Some value → kind_of value ≡ column.kind) → IsTyped columns row
+    → ((k : ℕ) (column : Column) (value : Value) → k < length columns → slice_get columns k ≡ Some column → slice_get row k ≡ Some value → kind_of value ≡ column.kind) → HasColumnKinds columns row
 typed_from [] [] same all = refl
 typed_from [] (v ∷ row) same all = absurd (omega arith)
 typed_from (c ∷ columns) [] same all = absurd (omega arith)

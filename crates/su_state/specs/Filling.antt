@@ -1,9 +1,11 @@
 -- When rows may all be put into a relation at once.
+-- fill: put rows in at once, whichever of them are there
 use Rattle.std.specs.Prelude.{◌≡◌, ℕ, ◌+◌, ◌≤◌, List, ◌++◌, All, length, slice_get, Some}
 use Rattle.su_base.specs.declared.values.Value.{Value}
 use Rattle.su_fd.specs.declared.dependencies.Fd.{Fd}
 use Rattle.su_schema.specs.SchemaValue.{SchemaValue, ObjectEntry}
-use Rattle.su_state.specs.DatabaseValue.{DatabaseValue, rows_of, columns_of, IsTyped, HoldsOn}
+use Rattle.su_state.specs.DatabaseValue.{DatabaseValue, rows_of, columns_of, HasColumnKinds}
+use Rattle.su_state.specs.Enforced.{HoldsOn}
 
 -- the dependency with this number, where it is enforced on the relation through the object with this number, holds on the rows
 abbrev pub KeepThrough : SchemaValue → ℕ → List (List Value) → ℕ → ℕ → Type 0
@@ -12,6 +14,6 @@ KeepThrough schema relation rows f o =
 
 -- widths and kinds, every enforced dependency over the old rows and the new ones, and the limit
 pub record MayTake (db : DatabaseValue) (relation : ℕ) (rows : List (List Value)) : Type 0 where
-  pub typed : All (IsTyped (columns_of db relation)) rows
+  pub typed : All (HasColumnKinds (columns_of db relation)) rows
   pub enforced : (f o : ℕ) → KeepThrough db.schema relation (rows_of db relation ++ rows) f o
   pub few : length (rows_of db relation) + length rows ≤ 1000000

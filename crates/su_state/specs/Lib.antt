@@ -5,3 +5,7 @@ pub mod Filling
 pub mod inside
 pub mod Loads
 pub mod Views
+pub mod Breaches
+pub mod RowChanges
+pub mod Enforced
+pub mod Breaks

@@ -1,4 +1,5 @@
 -- A load is its inserts one after another; the first refused one refuses the whole load.
+-- record: a row of the load, from 1; between: the database that the rows before the refused one left
 use Rattle.std.specs.Prelude.{◌≡◌, ◌≢◌, ℕ, ◌+◌, Bool, true, false, List, [], ◌∷◌, ◌++◌, length, Result, Ok, Err}
 use Rattle.su_base.specs.declared.values.Value.{Value}
 use Rattle.su_state.specs.declared.faults.StateFault.TheVariants.{NoMemory}
@@ -6,7 +7,8 @@ use Rattle.su_state.specs.declared.faults.LoadFault.{LoadFault}
 use Rattle.su_state.specs.declared.faults.LoadEnd.{LoadEnd}
 use Rattle.su_state.specs.declared.faults.LoadEnd.TheVariants.{Refused, NoMemory as OutOfMemory}
 use Rattle.su_state.specs.DatabaseValue.{DatabaseValue}
-use Rattle.su_state.specs.Changes.{Inserts, ChangesOnly}
+use Rattle.su_state.specs.RowChanges.{Inserts}
+use Rattle.su_state.specs.Changes.{ChangesOnly}
 
 -- how many rows an insert has added, by its answer
 abbrev pub added_by : Bool → ℕ

@@ -4,8 +4,10 @@ use Rattle.std.specs.Prelude.{ℕ, pos, List, [], map, slice_get, Option, Some, 
 use Rattle.std.specs.List.{range_with_len}
 use Rattle.su_base.specs.declared.values.Value.{Value}
 use Rattle.su_base.specs.declared.values.Value.TheVariants.{Int}
-use Rattle.su_schema.specs.SchemaValue.{SchemaValue, ObjectEntry, attributes_of}
-use Rattle.su_state.specs.DatabaseValue.{DatabaseValue, rows_of, read}
+use Rattle.su_schema.specs.SchemaValue.{SchemaValue, ObjectEntry}
+use Rattle.su_schema.specs.Entries.{attributes_of}
+use Rattle.su_state.specs.DatabaseValue.{DatabaseValue, rows_of}
+use Rattle.su_state.specs.Enforced.{read}
 use Rattle.su_schema.specs.Cuts.{width, cut}
 
 -- the value that the object takes for an attribute from a row

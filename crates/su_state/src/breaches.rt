@@ -1,8 +1,8 @@
 //! The first dependency that a new row would break.
 ghost use Rattle.std.specs.Prelude.{◌≡◌, ◌<◌, ℕ, List, length, MatchOption};
 ghost use Rattle.su_base.specs.declared.values.Value.{Value};
-ghost use Rattle.su_schema.specs.Checks.{columns_at};
-ghost use Rattle.su_state.specs.Changes.{IsBreach, IsLeastBreach, IsFirstBreach, NoBreach};
+ghost use Rattle.su_schema.specs.Known.{columns_at};
+ghost use Rattle.su_state.specs.Breaches.{IsBreach, IsLeastBreach, IsFirstBreach, NoBreach};
 ghost use Rattle.su_state.specs.Filling.{KeepThrough};
 ghost use Rattle.su_state.specs.inside.Sides.{row_at};
 

@@ -1,6 +1,6 @@
 //! Inserts and deletes of single rows.
 ghost use Rattle.std.specs.Prelude.{◌≡◌, ◌<◌, length};
-ghost use Rattle.su_state.specs.Changes.{InsertAnswers, Inserts, Deletes};
+ghost use Rattle.su_state.specs.RowChanges.{InsertAnswers, Inserts, Deletes};
 
 use crate::breaches::first_breach;
 use crate::checks::check_row;

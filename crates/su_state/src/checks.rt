@@ -1,8 +1,8 @@
 //! Whether a row fits its relation's columns.
 ghost use Rattle.std.specs.Prelude.{◌≡◌, ◌≤◌, ◌↔◌, length, IsTrue, OnOk, IfErr};
 ghost use Rattle.su_base.specs.Value.{kind_of};
-ghost use Rattle.su_state.specs.DatabaseValue.{IsTyped};
-ghost use Rattle.su_state.specs.Changes.{IsUnfit};
+ghost use Rattle.su_state.specs.DatabaseValue.{HasColumnKinds};
+ghost use Rattle.su_state.specs.Breaches.{IsUnfit};
 
 use crate::faults::StateFault;
 use su_base::{Column, Kind, Row, Value};
@@ -17,7 +17,7 @@ fn has_kind(value: &Value, kind: Kind) -> bool
 /// Refuses a row of another width, then one with a value of another kind.
 pub fn check_row(relation: u8, columns: &[Column], row: &Row) -> Result<(), StateFault>
     requires { length columns.now ≤ 32 }
-    ensures ok { OnOk result (IsTyped columns.now row.now) }
+    ensures ok { OnOk result (HasColumnKinds columns.now row.now) }
     ensures refused { IfErr result (IsUnfit relation columns.now row.now) }
 {
     if row.len() != columns.len() {

@@ -1,6 +1,7 @@
 //! The database itself.
 ghost use Rattle.std.specs.Prelude.{◌≡◌, ◌⊎◌, ◌<◌, [], length, map, All, Some, None, IfOk, IfErr};
-ghost use Rattle.su_schema.specs.SchemaValue.{relation_names, place_of, IsValid};
+ghost use Rattle.su_schema.specs.Entries.{relation_names, place_of};
+ghost use Rattle.su_schema.specs.Valid.{IsValid};
 ghost use Rattle.su_state.specs.DatabaseValue.{IsWellKept, empty_tables};
 
 use crate::faults::StateFault;

@@ -1,7 +1,9 @@
 //! Definitions in a database.
 ghost use Rattle.std.specs.Prelude.{◌≡◌, ◌<◌, ℕ, length, IfOk, OnOk, IfErr, OnErr};
-ghost use Rattle.su_schema.specs.Defining.{IsRefusal, IsWellNamed, applied};
-ghost use Rattle.su_state.specs.Definitions.{HoldsThrough, Defines, tables_with};
+ghost use Rattle.su_schema.specs.Defining.{IsDefinitionRefusal, applied};
+ghost use Rattle.su_schema.specs.WellNamed.{IsWellNamed};
+ghost use Rattle.su_state.specs.Breaks.{HoldsThrough};
+ghost use Rattle.su_state.specs.Definitions.{Defines, tables_with};
 ghost use Rattle.su_state.specs.inside.Adding.{HaveTables, HasAdded, IsNarrow, AddedHolds, IsThroughFault, IsFdFault, IsObjectFault, IsAddedFault};
 
 use crate::databases::Database;
@@ -114,7 +116,7 @@ fn check_added(
 pub fn extended(schema: &Schema, definition: &Definition) -> Result<Schema, SchemaFault>
     requires { IsWellNamed definition.now }
     ensures ok { IfOk result (λ extended. applied schema.now definition.now ≡ Ok extended) }
-    ensures refused { IfErr result (IsRefusal schema.now definition.now) }
+    ensures refused { IfErr result (IsDefinitionRefusal schema.now definition.now) }
 {
     let mut copy = schema.copy()?;
     copy.define(definition)?;

@@ -2,9 +2,9 @@
 ghost use Rattle.std.specs.Prelude.{◌≡◌, ◌<◌, ◌≤◌, ◌++◌, ℕ, length, All, IfOk};
 ghost use Rattle.std.specs.Bool.{OnTrue};
 ghost use Rattle.su_rel.specs.Stored.{HaveWidth};
-ghost use Rattle.su_schema.specs.Checks.{columns_at};
-ghost use Rattle.su_state.specs.DatabaseValue.{IsTyped, columns_of, rows_of};
-ghost use Rattle.su_state.specs.Changes.{NoBreach};
+ghost use Rattle.su_schema.specs.Known.{columns_at};
+ghost use Rattle.su_state.specs.DatabaseValue.{HasColumnKinds, columns_of, rows_of};
+ghost use Rattle.su_state.specs.Breaches.{NoBreach};
 ghost use Rattle.su_state.specs.inside.Parts.{HaveOneWidth};
 ghost use Rattle.su_state.specs.Filling.{KeepThrough, MayTake};
 
@@ -22,7 +22,7 @@ use su_schema::Schema;
 /// Whether every row fits its relation's columns.
 fn are_typed(relation: u8, columns: &[Column], rows: &[Row]) -> bool
     requires { length columns.now ≤ 32 }
-    ensures { OnTrue result (All (IsTyped columns.now) rows.now) }
+    ensures { OnTrue result (All (HasColumnKinds columns.now) rows.now) }
 {
     for row in rows {
         if check_row(relation, columns, row).is_err() {
@@ -119,7 +119,7 @@ impl Database {
     /// against the rows there by the indexes, and all of them against one another.
     fn keep_few(&self, relation: u8, rows: &[Row]) -> Result<bool, NoMemory>
         requires relation { relation < length self.now.schema.relations }
-        requires typed { All (IsTyped (columns_of self.now relation)) rows.now }
+        requires typed { All (HasColumnKinds (columns_of self.now relation)) rows.now }
         ensures { IfOk result (λ kept. OnTrue kept ((f o : ℕ) → KeepThrough self.now.schema relation (rows_of self.now relation ++ rows.now) f o)) }
     {
         self.schema.keeps_its_rules();
@@ -138,7 +138,7 @@ impl Database {
     /// The same where they are many: in one pass over the rows there and these.
     fn keep_many(&self, relation: u8, rows: &[Row]) -> Result<bool, NoMemory>
         requires relation { relation < length self.now.schema.relations }
-        requires typed { All (IsTyped (columns_of self.now relation)) rows.now }
+        requires typed { All (HasColumnKinds (columns_of self.now relation)) rows.now }
         ensures { IfOk result (λ kept. OnTrue kept ((f o : ℕ) → KeepThrough self.now.schema relation (rows_of self.now relation ++ rows.now) f o)) }
     {
         self.schema.keeps_its_rules();

@@ -3,7 +3,7 @@
 ghost use Rattle.std.specs.Prelude.{◌≡◌, ◌<◌, ◌^◌, slice_index, All, map, IfOk};
 ghost use Rattle.su_rel.specs.Stored.{AllDiffer};
 ghost use Rattle.su_state.specs.Changes.{AreInOrder};
-ghost use Rattle.su_state.specs.inside.Leads.{lead_of_number, lead_of_bytes, IsLead, IsRowLead};
+ghost use Rattle.su_state.specs.inside.Leads.{lead_of_number, lead_of_bytes, IsSortLead, IsRowLead};
 
 use std::alloc::Global;
 use su_base::{List, NoMemory, Row, Value, copy_row};
@@ -45,7 +45,7 @@ fn of_bytes(bytes: &[u8]) -> u64
 
 /// The value's lead.
 fn lead(value: &Value) -> u64
-    ensures { IsLead result value.now }
+    ensures { IsSortLead result value.now }
 {
     match value {
         Value::Int(number) => of_number(*number),

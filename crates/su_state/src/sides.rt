@@ -1,7 +1,8 @@
 //! The sides of a dependency as columns, through an object.
 ghost use Rattle.std.specs.Prelude.{◌≡◌, ◌<◌, ◌≤◌, ◌↔◌, ◌==◌, ℕ, length, slice_get, Some, IsTrue, MatchOption};
 ghost use Rattle.std.specs.FinSet as set;
-ghost use Rattle.su_schema.specs.SchemaValue.{ObjectEntry, attributes_of, column_of};
+ghost use Rattle.su_schema.specs.SchemaValue.{ObjectEntry};
+ghost use Rattle.su_schema.specs.Entries.{attributes_of, column_of};
 ghost use Rattle.su_fd.specs.Meeting.{LiesIn};
 ghost use Rattle.su_state.specs.inside.Sides.{AreColumnsOf, AreSidesOf, AgreeAt, Clash};
 

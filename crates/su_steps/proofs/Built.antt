@@ -4,15 +4,15 @@ use Rattle.su_where.specs.declared.literals.Literal.{Literal}
 use Rattle.su_tableau.specs.declared.symbols.Sym.{Sym}
 use Rattle.su_tableau.specs.Tableaux.{Tab, IsSmall}
 use Rattle.su_schema.specs.SchemaValue.{SchemaValue}
-use Rattle.su_schema.specs.SchemaValue as schemas
+use Rattle.su_schema.specs.Valid as schemas
 use Rattle.su_query.specs.declared.places.Place.{Place}
 use Rattle.su_query.specs.declared.resolving.Resolved.{Resolved}
 use Rattle.su_steps.specs.declared.results.Origin.{Origin}
 use Rattle.su_steps.specs.declared.classes.Classes.{Classes}
 use Rattle.su_steps.specs.declared.building.Head.{Head}
 use Rattle.su_steps.specs.Objects.{width}
-use Rattle.su_steps.specs.Classes.{place_symbol, comparisons}
-use Rattle.su_steps.specs.Terms.{rows_of, tableau_of}
+use Rattle.su_steps.specs.PairSymbols.{place_symbol, comparisons}
+use Rattle.su_steps.specs.CaseTableaux.{rows_of, tableau_of}
 use Rattle.su_steps.specs.inside.Numbers.{class_name}
 use Rattle.su_steps.specs.inside.Heads.{head_of, IsSomeFalse, IsNoneFalse}
 use Rattle.su_steps.specs.inside.Ready.{FitOrigins}

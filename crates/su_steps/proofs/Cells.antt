@@ -8,12 +8,12 @@ use Rattle.su_base.specs.declared.values.Value.{Value}
 use Rattle.su_base.proofs.Items.{map-map_equal, get_or-map_range}
 use Rattle.su_tableau.specs.declared.symbols.Sym.{Sym}
 use Rattle.su_tableau.specs.declared.symbols.Sym.TheVariants.{Var}
-use Rattle.su_tableau.specs.Tableaux.{value_of, values_of}
+use Rattle.su_tableau.specs.Valuations.{value_of, values_of}
 use Rattle.su_schema.specs.SchemaValue.{SchemaValue}
 use Rattle.su_steps.specs.declared.results.Origin.{Origin}
 use Rattle.su_steps.specs.Objects.{width, attributes_at}
 use Rattle.su_steps.specs.Choices.{origin, origins_from}
-use Rattle.su_steps.specs.Terms.{cell_of, row_of, rows_of}
+use Rattle.su_steps.specs.CaseTableaux.{cell_of, origin_row, rows_of}
 use Rattle.su_steps.proofs.Lists.{all_front, all_back, all_append, all_map, all_of_map}
 
 -- each symbol is its own name
@@ -30,7 +30,7 @@ Sent w rows universe = AllByRecursion (λ row. Contains universe (values_of w ro
 
 -- ---- cells
 
-pub row_value : (schema : SchemaValue) (w : ℕ → Value) (own : ℕ) (o : Origin) (a : ℕ) (d : Value) → a < width schema → get_or (values_of w (row_of schema itself own o)) a d ≡ value_of w (cell_of schema itself own o a)
+pub row_value : (schema : SchemaValue) (w : ℕ → Value) (own : ℕ) (o : Origin) (a : ℕ) (d : Value) → a < width schema → get_or (values_of w (origin_row schema itself own o)) a d ≡ value_of w (cell_of schema itself own o a)
 row_value schema w own o a d h =
     ap (λ xs. get_or xs a d) (map-map_equal (cell_of schema itself own o) (value_of w) (λ b. value_of w (cell_of schema itself own o b)) (λ b. refl) (range_with_len 0 (width schema)))
     ∙ get_or-map_range (λ b. value_of w (cell_of schema itself own o b)) (width schema) a d h
@@ -45,7 +45,7 @@ IsAt schema w universe o = (u : List Value) × Contains universe u × ((a : ℕ)
 pub rows_at : (schema : SchemaValue) (w : ℕ → Value) (universe : List (List Value)) (own : ℕ) (os : List Origin) → Sent w (raw_rows schema own os) universe → AllByRecursion (IsAt schema w universe) os
 rows_at schema w universe own [] s = tt
 rows_at schema w universe own (o ∷ os) s =
-    ((values_of w (row_of schema itself own o), s.0, λ a d l h. row_value schema w own o a d l ∙ ap (value_of w) (cell_in schema own o a h)), rows_at schema w universe (own + width schema) os s.1)
+    ((values_of w (origin_row schema itself own o), s.0, λ a d l h. row_value schema w own o a d l ∙ ap (value_of w) (cell_in schema own o a h)), rows_at schema w universe (own + width schema) os s.1)
 
 -- ---- origins by variable
 

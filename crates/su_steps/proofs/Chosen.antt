@@ -13,7 +13,7 @@ use Rattle.su_base.proofs.Items.{Contains-cases, Contains-nil, Contains-map, Con
 use Rattle.su_where.specs.declared.literals.Operand.{Operand}
 use Rattle.su_where.specs.declared.literals.Operand.TheVariants as operand
 use Rattle.su_where.specs.declared.literals.Literal.{Literal}
-use Rattle.su_where.specs.Truth.{IsBelow, HasPlacesBelow}
+use Rattle.su_where.specs.Fitting.{IsBelow, HasPlacesBelow}
 use Rattle.su_schema.specs.SchemaValue.{SchemaValue}
 use Rattle.su_query.specs.declared.places.Place.{Place}
 use Rattle.su_query.specs.declared.resolving.Resolved.{Resolved}
@@ -22,7 +22,7 @@ use Rattle.su_query.specs.Sets.{mentioned_with}
 use Rattle.su_steps.specs.declared.results.Origin.{Origin}
 use Rattle.su_steps.specs.Objects.{width, attributes_at, objects_of, attributes_of_all, covers}
 use Rattle.su_steps.specs.Choices.{coverings_of, coverings, combinations, choices, chosen_objects, origin, origins_of}
-use Rattle.su_steps.specs.Classes.{Compared, pair, place_symbol, operand_symbol, compared, comparisons}
+use Rattle.su_steps.specs.PairSymbols.{SymbolComparison, pair, place_symbol, operand_symbol, compared, comparisons}
 use Rattle.su_steps.specs.inside.Ready.{FitLiterals, IsChoice}
 use Rattle.su_steps.proofs.Lists.{all_by, all_at}
 use Rattle.su_steps.proofs.Cells.{origins_at, origins_by, pair_below}
@@ -178,11 +178,11 @@ module _ (schema : SchemaValue) (maximal : List (FinSet nat_cmp)) (q : Resolved)
       pub shown : (literals : List Literal) → FitLiterals schema q literals → AreShown schema objects (map (place_symbol (width schema) q.places) q.outputs) (comparisons (width schema) q.places literals)
       shown literals fits =
           let n = width schema in
-          let side : (c : Compared) → Contains (comparisons n q.places literals) c → IsShown schema objects c.left × IsShown schema objects c.right =
+          let side : (c : SymbolComparison) → Contains (comparisons n q.places literals) c → IsShown schema objects c.left × IsShown schema objects c.right =
           λ c has.
           let w = Contains-map_source (compared n q.places) literals c has in
           let p = All-contains (HasPlacesBelow (length q.places)) literals w.0 fits.places w.1 in
-          subst (λ (c : Compared). IsShown schema objects c.left × IsShown schema objects c.right) w.2 (operand_shown w.0.left p.0, operand_shown w.0.right p.1) in
+          subst (λ (c : SymbolComparison). IsShown schema objects c.left × IsShown schema objects c.right) w.2 (operand_shown w.0.left p.0, operand_shown w.0.right p.1) in
           record {
             in_outputs = all_by (IsShown schema objects) (map (place_symbol n q.places) q.outputs)
                 (λ x has.
@@ -204,6 +204,6 @@ module _ (schema : SchemaValue) (maximal : List (FinSet nat_cmp)) (q : Resolved)
         sides = λ c has.
             let w = Contains-map_source (compared (width schema) q.places) literals c has in
             let p = All-contains (HasPlacesBelow (length q.places)) literals w.0 fits.places w.1 in
-            subst (λ (c : Compared). IsPairBelow (length q.variables * width schema) c.left × IsPairBelow (length q.variables * width schema) c.right) w.2 (operand_below w.0.left p.0, operand_below w.0.right p.1);
+            subst (λ (c : SymbolComparison). IsPairBelow (length q.variables * width schema) c.left × IsPairBelow (length q.variables * width schema) c.right) w.2 (operand_below w.0.left p.0, operand_below w.0.right p.1);
         pairs = λ o a c h. pair_below o.variable (length q.variables) (width schema) a (origin_in o c).0 (fit o.object a h);
       }

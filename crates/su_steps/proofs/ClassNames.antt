@@ -16,15 +16,17 @@ use Rattle.su_where.specs.declared.operators.Op.TheVariants.{Equal}
 use Rattle.su_where.specs.Operator.{compares, holds_in}
 use Rattle.su_tableau.specs.declared.symbols.Sym.{Sym}
 use Rattle.su_tableau.specs.declared.symbols.Sym.TheVariants.{Const, Var}
-use Rattle.su_tableau.specs.Tableaux.{value_of, values_of}
+use Rattle.su_tableau.specs.Valuations.{value_of, values_of}
 use Rattle.su_classes.proofs.ValueOrder.{compare_itself, compare_same, same_or}
 use Rattle.su_schema.specs.SchemaValue.{SchemaValue}
 use Rattle.su_steps.specs.declared.results.Origin.{Origin}
 use Rattle.su_steps.specs.Objects.{width, attributes_at}
 use Rattle.su_steps.specs.Expression.{Agree, Meets}
 use Rattle.su_steps.specs.Choices.{origins_from}
-use Rattle.su_steps.specs.Classes.{Compared, IsClosed, InClass, IsNaming}
-use Rattle.su_steps.specs.Terms.{is_evaluated, outcome, left_over, sides, EvaluatesFalse, IsContradictory}
+use Rattle.su_steps.specs.PairSymbols.{SymbolComparison}
+use Rattle.su_steps.specs.Classes.{IsClosedForCase, InClass, IsNaming}
+use Rattle.su_steps.specs.Evaluated.{is_evaluated, outcome, left_over, sides, EvaluatesFalse}
+use Rattle.su_steps.specs.Cases.{IsContradictory}
 use Rattle.su_steps.proofs.Lists.{all_at, all_by, all_map, all_of_map, all_weaker}
 use Rattle.su_steps.proofs.Cells.{raw_rows, Sent, IsAt, rows_at}
 use Rattle.su_steps.proofs.Raw.{AreWithin, AllTrue, RawAnswer}
@@ -48,7 +50,7 @@ pub record CutBy (rows : List (List Sym)) (head : List Sym) (outputs : ℕ) (ope
   pub holds : AllHold operators compared
 
 -- the same for named rows and comparisons
-abbrev pub NamedAnswer : SchemaValue → List (List Value) → List (List ℕ) → List Sym → List Compared → (Sym → Sym) → List Value → Type 0
+abbrev pub NamedAnswer : SchemaValue → List (List Value) → List (List ℕ) → List Sym → List SymbolComparison → (Sym → Sym) → List Value → Type 0
 NamedAnswer schema universe choice outputs d name h =
     CutBy (map (map name) (raw_rows schema (length choice * width schema) (origins_from 0 choice))) (map name outputs ++ sides (left_over name d)) (length outputs) (map (λ c. c.op) (left_over name d)) universe h
 
@@ -77,7 +79,7 @@ equal_values op x y h e = compare_same x y (holds_same op (compare_values x y) e
 abbrev by_value : (ℕ → Value) → Sym → Sym
 by_value w x = Const (value_of w x)
 
-module _ (schema : SchemaValue) (universe : List (List Value)) (choice : List (List ℕ)) (d : List Compared) (meets : Meets schema.fds universe) (fit : AreWithin schema) where
+module _ (schema : SchemaValue) (universe : List (List Value)) (choice : List (List ℕ)) (d : List SymbolComparison) (meets : Meets schema.fds universe) (fit : AreWithin schema) where
   abbrev os : List Origin
   os = origins_from 0 choice
 
@@ -85,7 +87,7 @@ module _ (schema : SchemaValue) (universe : List (List Value)) (choice : List (L
     row_at : (o : Origin) → Contains os o → IsAt schema w universe o
     row_at o c = all_at (IsAt schema w universe) os o (rows_at schema w universe (length choice * width schema) os sends) c
 
-    values_closed : IsClosed schema os d (by_value w)
+    values_closed : IsClosedForCase schema os d (by_value w)
     values_closed = record {
       equalities = λ c has e. ap Const (equal_values c.op (value_of w c.left) (value_of w c.right) (all_at (λ c. compares c.op (value_of w c.left) (value_of w c.right) ≡ true) d c holds has) e);
       dependencies = λ f o q cf co cq io iq same a h.
@@ -106,11 +108,11 @@ module _ (schema : SchemaValue) (universe : List (List Value)) (choice : List (L
 
 -- ---- the head's compared values
 
-hold_from : (w : ℕ → Value) (cs : List Compared) → AllTrue w cs → AllHold (map (λ c. c.op) cs) (values_of w (sides cs))
+hold_from : (w : ℕ → Value) (cs : List SymbolComparison) → AllTrue w cs → AllHold (map (λ c. c.op) cs) (values_of w (sides cs))
 hold_from w [] h = tt
 hold_from w (c ∷ cs) h = (h.0, hold_from w cs h.1)
 
-hold_true : (w : ℕ → Value) (cs : List Compared) → AllHold (map (λ c. c.op) cs) (values_of w (sides cs)) → AllTrue w cs
+hold_true : (w : ℕ → Value) (cs : List SymbolComparison) → AllHold (map (λ c. c.op) cs) (values_of w (sides cs)) → AllTrue w cs
 hold_true w [] h = tt
 hold_true w (c ∷ cs) h = (h.0, hold_true w cs h.1)
 
@@ -135,7 +137,7 @@ named_true : (w : ℕ → Value) (op : Op) (s t x y : Sym) → value_of w s ≡ 
 named_true w = true_named w w
 
 -- the comparisons that are left are true where all are
-left_true : (w : ℕ → Value) (name : Sym → Sym) → ((x : Sym) → value_of w (name x) ≡ value_of w x) → (d : List Compared) → AllTrue w d → AllTrue w (left_over name d)
+left_true : (w : ℕ → Value) (name : Sym → Sym) → ((x : Sym) → value_of w (name x) ≡ value_of w x) → (d : List SymbolComparison) → AllTrue w d → AllTrue w (left_over name d)
 left_true w name e [] h = tt
 left_true w name e (c ∷ cs) h =
     elim (is_evaluated (name c.left) (name c.right)) as (λ b. AllTrue w (cond b (left_over name cs) (record { left = name c.left; op = c.op; right = name c.right } ∷ left_over name cs))) [
@@ -144,7 +146,7 @@ left_true w name e (c ∷ cs) h =
     ]
 
 -- all are true where those that are left are true and those that are evaluated come out true
-all_true : (w v : ℕ → Value) (name : Sym → Sym) → ((x : Sym) → value_of v x ≡ value_of w (name x)) → (d : List Compared) → AllByRecursion (λ c. is_evaluated (name c.left) (name c.right) ≡ true → outcome c.op (name c.left) (name c.right) ≡ true) d → AllTrue w (left_over name d) → AllTrue v d
+all_true : (w v : ℕ → Value) (name : Sym → Sym) → ((x : Sym) → value_of v x ≡ value_of w (name x)) → (d : List SymbolComparison) → AllByRecursion (λ c. is_evaluated (name c.left) (name c.right) ≡ true → outcome c.op (name c.left) (name c.right) ≡ true) d → AllTrue w (left_over name d) → AllTrue v d
 all_true w v name e [] g h = tt
 all_true w v name e (c ∷ cs) g h =
     elim (is_evaluated (name c.left) (name c.right)) as (λ b. is_evaluated (name c.left) (name c.right) ≡ b → AllTrue w (cond b (left_over name cs) (record { left = name c.left; op = c.op; right = name c.right } ∷ left_over name cs)) → AllTrue v (c ∷ cs)) [
@@ -154,7 +156,7 @@ all_true w v name e (c ∷ cs) g h =
 
 -- ---- the law
 
-module _ (schema : SchemaValue) (universe : List (List Value)) (choice : List (List ℕ)) (outputs : List Sym) (d : List Compared) (name : Sym → Sym) (naming : IsNaming schema (origins_from 0 choice) d name) (h : List Value) where
+module _ (schema : SchemaValue) (universe : List (List Value)) (choice : List (List ℕ)) (outputs : List Sym) (d : List SymbolComparison) (name : Sym → Sym) (naming : IsNaming schema (origins_from 0 choice) d name) (h : List Value) where
   abbrev raws : List (List Sym)
   raws = raw_rows schema (length choice * width schema) (origins_from 0 choice)
 
@@ -183,7 +185,7 @@ module _ (schema : SchemaValue) (universe : List (List Value)) (choice : List (L
       let same = one_value schema universe choice d meets fit w r.sends r.holds in
       ⊎_elim
       (λ (b : (a : Value) × (c : Value) × (a ≢ c) × InClass schema (origins_from 0 choice) d (Const a) (Const c)). b.2 (same (Const b.0) (Const b.1) b.3))
-      (λ (b : (c : Compared) × Contains d c × EvaluatesFalse name c).
+      (λ (b : (c : SymbolComparison) × Contains d c × EvaluatesFalse name c).
       let c = b.0 in
       let t = all_at (λ c. compares c.op (value_of w c.left) (value_of w c.right) ≡ true) d c r.holds b.1 in
       let o = outcome_is w c.op (name c.left) (name c.right) b.2.0 in

@@ -2,12 +2,12 @@
 use Rattle.std.proofs.Common.{◌≡◌, ℕ, ◌*◌, ◌<◌, ◌≤◌, List, length, map, sym, ◌∙◌, subst, arith}
 use Rattle.std.specs.Prelude.{All}
 use Rattle.su_where.specs.declared.literals.Literal.{Literal}
-use Rattle.su_where.specs.Truth.{HasPlacesBelow}
+use Rattle.su_where.specs.Fitting.{HasPlacesBelow}
 use Rattle.su_tableau.specs.declared.symbols.Sym.{Sym}
 use Rattle.su_tableau.specs.Tableaux.{Tab, IsValid, IsSmall}
 use Rattle.su_classes.specs.Tables.{rep}
 use Rattle.su_schema.specs.SchemaValue.{SchemaValue}
-use Rattle.su_schema.specs.SchemaValue as schemas
+use Rattle.su_schema.specs.Valid as schemas
 use Rattle.su_query.specs.declared.places.Place.{Place}
 use Rattle.su_query.specs.declared.resolving.Resolved.{Resolved}
 use Rattle.su_query.specs.Ranges.{IsResolved}
@@ -15,8 +15,9 @@ use Rattle.su_steps.specs.declared.results.Origin.{Origin}
 use Rattle.su_steps.specs.declared.classes.Classes.{Classes}
 use Rattle.su_steps.specs.declared.building.Head.{Head}
 use Rattle.su_steps.specs.Objects.{width}
-use Rattle.su_steps.specs.Classes.{place_symbol, comparisons}
-use Rattle.su_steps.specs.Terms.{rows_of, tableau_of, HaveNone, HaveTableau}
+use Rattle.su_steps.specs.PairSymbols.{place_symbol, comparisons}
+use Rattle.su_steps.specs.CaseTableaux.{rows_of, tableau_of}
+use Rattle.su_steps.specs.Cases.{HaveNone, HaveTableau}
 use Rattle.su_steps.specs.inside.Numbers.{class_name, AreClasses}
 use Rattle.su_steps.specs.inside.Heads.{head_of, IsSomeFalse, IsNoneFalse}
 use Rattle.su_steps.specs.inside.Ready.{AreClosed, FitLiterals, FitOrigins, IsShown}

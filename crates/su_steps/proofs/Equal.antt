@@ -7,19 +7,19 @@ use Rattle.su_base.proofs.Items.{Contains-map, Contains-map_source}
 use Rattle.su_where.specs.declared.literals.Literal.{Literal}
 use Rattle.su_tableau.specs.declared.symbols.Sym.{Sym}
 use Rattle.su_classes.specs.declared.items.Together.{Together}
-use Rattle.su_classes.specs.inside.Symbols.{number_of}
+use Rattle.su_classes.specs.inside.Symbols.{symbol_number}
 use Rattle.su_query.specs.declared.places.Place.{Place}
 use Rattle.su_steps.specs.declared.building.Head.{Head}
-use Rattle.su_steps.specs.Classes.{Compared, compared, comparisons}
-use Rattle.su_steps.specs.Terms.{is_evaluated, left_over, sides, EvaluatesFalse}
+use Rattle.su_steps.specs.PairSymbols.{SymbolComparison, compared, comparisons}
+use Rattle.su_steps.specs.Evaluated.{is_evaluated, left_over, sides, EvaluatesFalse}
 use Rattle.su_steps.specs.inside.Heads.{with_compared, head_of, IsSomeFalse, IsNoneFalse}
 use Rattle.su_steps.specs.inside.Numbers.{is_equality, equals}
 
-equals-append : (vs : List Value) (xs ys : List Compared) → equals vs (xs ++ ys) ≡ equals vs xs ++ equals vs ys
+equals-append : (vs : List Value) (xs ys : List SymbolComparison) → equals vs (xs ++ ys) ≡ equals vs xs ++ equals vs ys
 equals-append vs [] ys = refl
 equals-append vs (x ∷ xs) ys =
     let i = equals-append vs xs ys in
-    let e : Together = record { left = number_of vs x.left; right = number_of vs x.right } in
+    let e : Together = record { left = symbol_number vs x.left; right = symbol_number vs x.right } in
     elim (is_equality x.op) as (λ b. cond b (e ∷ equals vs (xs ++ ys)) (equals vs (xs ++ ys)) ≡ cond b (e ∷ equals vs xs) (equals vs xs) ++ equals vs ys) [
       | true ↦ ap (λ zs. e ∷ zs) i
       | false ↦ i
@@ -36,15 +36,15 @@ equals_more vs n places ls i l before next h is so e =
 
 -- ---- heads
 
-sides-append : (xs ys : List Compared) → sides (xs ++ ys) ≡ sides xs ++ sides ys
+sides-append : (xs ys : List SymbolComparison) → sides (xs ++ ys) ≡ sides xs ++ sides ys
 sides-append [] ys = refl
 sides-append (x ∷ xs) ys = let i = sides-append xs ys in cc
 
-left_over-append : (name : Sym → Sym) (xs ys : List Compared) → left_over name (xs ++ ys) ≡ left_over name xs ++ left_over name ys
+left_over-append : (name : Sym → Sym) (xs ys : List SymbolComparison) → left_over name (xs ++ ys) ≡ left_over name xs ++ left_over name ys
 left_over-append name [] ys = refl
 left_over-append name (x ∷ xs) ys =
     let i = left_over-append name xs ys in
-    let c : Compared = record { left = name x.left; op = x.op; right = name x.right } in
+    let c : SymbolComparison = record { left = name x.left; op = x.op; right = name x.right } in
     elim (is_evaluated (name x.left) (name x.right)) as (λ b. cond b (left_over name (xs ++ ys)) (c ∷ left_over name (xs ++ ys)) ≡ cond b (left_over name xs) (c ∷ left_over name xs) ++ left_over name ys) [
       | true ↦ i
       | false ↦ ap (λ zs. c ∷ zs) i
@@ -53,7 +53,7 @@ left_over-append name (x ∷ xs) ys =
 same_head : (g h : Head) → g.symbols ≡ h.symbols → g.operators ≡ h.operators → g ≡ h
 same_head g h s o = λ i. record { symbols = s i; operators = o i }
 
-with-append : (name : Sym → Sym) (head : Head) (xs ys : List Compared) → with_compared name (with_compared name head xs) ys ≡ with_compared name head (xs ++ ys)
+with-append : (name : Sym → Sym) (head : Head) (xs ys : List SymbolComparison) → with_compared name (with_compared name head xs) ys ≡ with_compared name head (xs ++ ys)
 with-append name head xs ys =
     let l = left_over-append name xs ys in
     let s : (head.symbols ++ sides (left_over name xs)) ++ sides (left_over name ys) ≡ head.symbols ++ sides (left_over name (xs ++ ys)) =
@@ -86,7 +86,7 @@ pub none_all : (name : Sym → Sym) (n : ℕ) (places : List Place) (ls : List L
 none_all name n places ls i l before c has =
     let w = Contains-map_source (compared n places) ls c has in
     let at : ¬ EvaluatesFalse name (compared n places w.0) = subst (λ (x : Literal). ¬ EvaluatesFalse name (compared n places x)) w.1.2 (before w.1.0 w.0 (let k = w.1.1 in omega arith)) in
-    subst (λ (c : Compared). ¬ EvaluatesFalse name c) w.2 at
+    subst (λ (c : SymbolComparison). ¬ EvaluatesFalse name c) w.2 at
 
 pub head_all : (name : Sym → Sym) (outputs : List Sym) (n : ℕ) (places : List Place) (ls : List Literal) (i : ℕ) (head : Head) → length ls ≤ i → head ≡ head_of name outputs (comparisons n places (take i ls)) → head ≡ head_of name outputs (comparisons n places ls)
 head_all name outputs n places ls i head l e = e ∙ ap (λ xs. head_of name outputs (comparisons n places xs)) (take_all i ls l)

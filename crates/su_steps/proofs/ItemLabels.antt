@@ -16,16 +16,18 @@ use Rattle.su_tableau.specs.declared.symbols.Sym.TheVariants.{Const, Var}
 use Rattle.su_classes.specs.declared.items.Placed.{Placed}
 use Rattle.su_classes.specs.declared.items.Together.{Together}
 use Rattle.su_classes.specs.Items.{cell, SameAt, Keeps, IsKept, IsPlacedBelow}
-use Rattle.su_classes.specs.Tables.{rep, IsLeast}
-use Rattle.su_classes.specs.inside.Symbols.{AreDistinct, is_known, number_of, symbol_at, name_in}
+use Rattle.su_classes.specs.Tables.{rep, IsLeastTable}
+use Rattle.su_classes.specs.inside.Symbols.{AreDistinct, is_known, symbol_number, symbol_at, name_in}
 use Rattle.su_classes.proofs.Places.{IsNumbering, numbering}
 use Rattle.su_classes.proofs.Named.{same_rep, same_name, item_class, table_names}
 use Rattle.su_schema.specs.SchemaValue.{SchemaValue}
 use Rattle.su_steps.specs.declared.results.Origin.{Origin}
 use Rattle.su_fd.specs.Meeting.{LiesIn}
 use Rattle.su_steps.specs.Objects.{width, attributes_at}
-use Rattle.su_steps.specs.Classes.{Compared, pair, SameLabels, IsClosed, InClass, IsNaming}
-use Rattle.su_steps.specs.Terms.{EvaluatesFalse, IsContradictory}
+use Rattle.su_steps.specs.PairSymbols.{SymbolComparison, pair}
+use Rattle.su_steps.specs.Classes.{SameLabels, IsClosedForCase, InClass, IsNaming}
+use Rattle.su_steps.specs.Evaluated.{EvaluatesFalse}
+use Rattle.su_steps.specs.Cases.{IsContradictory}
 use Rattle.su_steps.specs.inside.Numbers.{is_equality, equals, placed_of}
 use Rattle.su_steps.proofs.Raw.{AreWithin}
 use Rattle.su_steps.proofs.ClassNames.{const_same}
@@ -40,13 +42,13 @@ equal_is LessEqual h = absurd (false≢true h)
 equal_is Greater h = absurd (false≢true h)
 equal_is GreaterEqual h = absurd (false≢true h)
 
-abbrev sides_of : List Value → Compared → Together
-sides_of vs c = record { left = number_of vs c.left; right = number_of vs c.right }
+abbrev sides_of : List Value → SymbolComparison → Together
+sides_of vs c = record { left = symbol_number vs c.left; right = symbol_number vs c.right }
 
-pub equals_from : (vs : List Value) (d : List Compared) (e : Together) → Contains (equals vs d) e → (c : Compared) × Contains d c × (c.op ≡ Equal) × (sides_of vs c ≡ e)
+pub equals_from : (vs : List Value) (d : List SymbolComparison) (e : Together) → Contains (equals vs d) e → (c : SymbolComparison) × Contains d c × (c.op ≡ Equal) × (sides_of vs c ≡ e)
 equals_from vs [] e h = absurd (let l = h.1 in omega arith)
 equals_from vs (c ∷ cs) e h =
-    elim (is_equality c.op) as (λ b. is_equality c.op ≡ b → Contains (cond b (sides_of vs c ∷ equals vs cs) (equals vs cs)) e → (x : Compared) × Contains (c ∷ cs) x × (x.op ≡ Equal) × (sides_of vs x ≡ e)) [
+    elim (is_equality c.op) as (λ b. is_equality c.op ≡ b → Contains (cond b (sides_of vs c ∷ equals vs cs) (equals vs cs)) e → (x : SymbolComparison) × Contains (c ∷ cs) x × (x.op ≡ Equal) × (sides_of vs x ≡ e)) [
       | true ↦ λ t k.
           ⊎_elim
           (λ (now : sides_of vs c ≡ e). (c, (0, omega arith, refl), equal_is c.op t, now))
@@ -55,7 +57,7 @@ equals_from vs (c ∷ cs) e h =
       | false ↦ λ f k. let w = equals_from vs cs e k in (w.0, Contains-later c cs w.0 w.1, w.2, w.3)
     ] refl h
 
-equals_to : (vs : List Value) (d : List Compared) (c : Compared) → Contains d c → c.op ≡ Equal → Contains (equals vs d) (sides_of vs c)
+equals_to : (vs : List Value) (d : List SymbolComparison) (c : SymbolComparison) → Contains d c → c.op ≡ Equal → Contains (equals vs d) (sides_of vs c)
 equals_to vs [] c h e = absurd (let l = h.1 in omega arith)
 equals_to vs (x ∷ xs) c h e =
     elim (is_equality x.op) as (λ b. is_equality x.op ≡ b → Contains (cond b (sides_of vs x ∷ equals vs xs) (equals vs xs)) (sides_of vs c)) [
@@ -74,13 +76,13 @@ equals_to vs (x ∷ xs) c h e =
 -- ---- the rows
 
 -- symbols that have numbers: the sides of equalities, and the pairs of the origins' variables
-pub record AreNumbered (schema : SchemaValue) (vs : List Value) (limit : ℕ) (os : List Origin) (d : List Compared) : Type 0 where
+pub record AreNumbered (schema : SchemaValue) (vs : List Value) (limit : ℕ) (os : List Origin) (d : List SymbolComparison) : Type 0 where
   pub distinct : AreDistinct vs
-  pub sides : (c : Compared) → Contains d c → c.op ≡ Equal → (is_known vs limit c.left ≡ true) × (is_known vs limit c.right ≡ true)
+  pub sides : (c : SymbolComparison) → Contains d c → c.op ≡ Equal → (is_known vs limit c.left ≡ true) × (is_known vs limit c.right ≡ true)
   pub within : AreWithin schema
   pub pairs : (o : Origin) → Contains os o → (a : ℕ) → a < width schema → pair (width schema) o.variable a < limit
 
-module _ (schema : SchemaValue) (vs : List Value) (limit : ℕ) (os : List Origin) (d : List Compared) (n : AreNumbered schema vs limit os d) where
+module _ (schema : SchemaValue) (vs : List Value) (limit : ℕ) (os : List Origin) (d : List SymbolComparison) (n : AreNumbered schema vs limit os d) where
   abbrev placed : Origin → Placed
   placed o = placed_of schema vs o
 
@@ -95,8 +97,8 @@ module _ (schema : SchemaValue) (vs : List Value) (limit : ℕ) (os : List Origi
   at_known o c a l = lt-ltb (pair (width schema) o.variable a) limit (n.pairs o c a l)
 
   -- the item at an attribute is the number of the pair
-  cell_is : (o : Origin) (a : ℕ) → a < width schema → cell (placed o) a ≡ number_of vs (at o a)
-  cell_is o a l = get_or-map_range (λ b. number_of vs (at o b)) (width schema) a 0 l
+  cell_is : (o : Origin) (a : ℕ) → a < width schema → cell (placed o) a ≡ symbol_number vs (at o a)
+  cell_is o a l = get_or-map_range (λ b. symbol_number vs (at o b)) (width schema) a 0 l
 
   symbol_is : (o : Origin) → Contains os o → (a : ℕ) → a < width schema → symbol_at vs (cell (placed o) a) ≡ at o a
   symbol_is o c a l = ap (symbol_at vs) (cell_is o a l) ∙ (numbering vs limit n.distinct).back (at o a) (at_known o c a l)
@@ -114,8 +116,8 @@ module _ (schema : SchemaValue) (vs : List Value) (limit : ℕ) (os : List Origi
       let w = Contains-map_source placed os r (Contains-get_or rows i e l) in
       subst (IsPlacedBelow count) w.2
       (record {
-        narrow = let s = length-map-range_with_len (λ a. number_of vs (at w.0 a)) 0 (width schema) in omega arith;
-        wide = λ a h. let b = n.within w.0.object a h in let s = length-map-range_with_len (λ a. number_of vs (at w.0 a)) 0 (width schema) in omega arith;
+        narrow = let s = length-map-range_with_len (λ a. symbol_number vs (at w.0 a)) 0 (width schema) in omega arith;
+        wide = λ a h. let b = n.within w.0.object a h in let s = length-map-range_with_len (λ a. symbol_number vs (at w.0 a)) 0 (width schema) in omega arith;
         below = λ a h.
             let b = n.within w.0.object a h in
             let low = (numbering vs limit n.distinct).number_in (at w.0 a) (at_known w.0 w.1 a b) in
@@ -125,7 +127,7 @@ module _ (schema : SchemaValue) (vs : List Value) (limit : ℕ) (os : List Origi
 
   -- ---- labels of symbols as labels of items
 
-  module _ (label : Sym → Sym) (closed : IsClosed schema os d label) where
+  module _ (label : Sym → Sym) (closed : IsClosedForCase schema os d label) where
     abbrev by_item : ℕ → Sym
     by_item i = label (symbol_at vs i)
 
@@ -161,20 +163,20 @@ module _ (schema : SchemaValue) (vs : List Value) (limit : ℕ) (os : List Origi
 
   -- ---- the names by the table of the least classes
 
-  module _ (table : List ℕ) (size : length table ≡ length vs + limit) (least : IsLeast schema.fds rows (equals vs d) table) where
+  module _ (table : List ℕ) (size : length table ≡ length vs + limit) (least : IsLeastTable schema.fds rows (equals vs d) table) where
     abbrev name : Sym → Sym
     name = name_in vs limit table
 
-    numbers : IsNumbering (length vs) (length table) (is_known vs limit) (number_of vs) (symbol_at vs)
-    numbers = subst (λ (k : ℕ). IsNumbering (length vs) k (is_known vs limit) (number_of vs) (symbol_at vs)) (sym size) (numbering vs limit n.distinct)
+    numbers : IsNumbering (length vs) (length table) (is_known vs limit) (symbol_number vs) (symbol_at vs)
+    numbers = subst (λ (k : ℕ). IsNumbering (length vs) k (is_known vs limit) (symbol_number vs) (symbol_at vs)) (sym size) (numbering vs limit n.distinct)
 
-    one_name : (x z : Sym) → is_known vs limit x ≡ true → is_known vs limit z ≡ true → rep table (number_of vs x) ≡ rep table (number_of vs z) → name x ≡ name z
-    one_name = same_name (length vs) table (is_known vs limit) (number_of vs) (symbol_at vs) numbers least.ordered
+    one_name : (x z : Sym) → is_known vs limit x ≡ true → is_known vs limit z ≡ true → rep table (symbol_number vs x) ≡ rep table (symbol_number vs z) → name x ≡ name z
+    one_name = same_name (length vs) table (is_known vs limit) (symbol_number vs) (symbol_at vs) numbers least.ordered
 
-    one_rep : (x z : Sym) → is_known vs limit x ≡ true → is_known vs limit z ≡ true → name x ≡ name z → rep table (number_of vs x) ≡ rep table (number_of vs z)
-    one_rep = same_rep (length vs) table (is_known vs limit) (number_of vs) (symbol_at vs) numbers least.ordered
+    one_rep : (x z : Sym) → is_known vs limit x ≡ true → is_known vs limit z ≡ true → name x ≡ name z → rep table (symbol_number vs x) ≡ rep table (symbol_number vs z)
+    one_rep = same_rep (length vs) table (is_known vs limit) (symbol_number vs) (symbol_at vs) numbers least.ordered
 
-    names_closed : IsClosed schema os d name
+    names_closed : IsClosedForCase schema os d name
     names_closed = record {
       equalities = λ c has e.
           let s = n.sides c has e in
@@ -190,20 +192,20 @@ module _ (schema : SchemaValue) (vs : List Value) (limit : ℕ) (os : List Origi
     }
 
     pub names : IsNaming schema os d name
-    names = table_names (IsClosed schema os d) schema.fds rows (equals vs d) (length vs) table (is_known vs limit) (number_of vs) (symbol_at vs) numbers least labels_kept names_closed
+    names = table_names (IsClosedForCase schema os d) schema.fds rows (equals vs d) (length vs) table (is_known vs limit) (symbol_number vs) (symbol_at vs) numbers least labels_kept names_closed
 
     -- a constant whose item has another constant's for its representative is in the other's class
     pub clash_class : (i : ℕ) → i < length table → (a b : Value) → symbol_at vs i ≡ Const a → symbol_at vs (rep table i) ≡ Const b → InClass schema os d (Const a) (Const b)
     clash_class i l a b ea eb label p =
-        ap label (sym ea) ∙ item_class (IsClosed schema os d) schema.fds rows (equals vs d) (length vs) table (is_known vs limit) (number_of vs) (symbol_at vs) numbers least labels_kept i l label p ∙ ap label eb
+        ap label (sym ea) ∙ item_class (IsClosedForCase schema os d) schema.fds rows (equals vs d) (length vs) table (is_known vs limit) (symbol_number vs) (symbol_at vs) numbers least labels_kept i l label p ∙ ap label eb
 
 -- ---- contradictions
 
-module _ (schema : SchemaValue) (os : List Origin) (d : List Compared) (name : Sym → Sym) (naming : IsNaming schema os d name) where
+module _ (schema : SchemaValue) (os : List Origin) (d : List SymbolComparison) (name : Sym → Sym) (naming : IsNaming schema os d name) where
   -- two constants with different names of their own are in different classes
-  pub no_clash : ((a : Value) → name (Const a) ≡ Const a) → ((c : Compared) → Contains d c → ¬ EvaluatesFalse name c) → ¬ IsContradictory schema os d name
+  pub no_clash : ((a : Value) → name (Const a) ≡ Const a) → ((c : SymbolComparison) → Contains d c → ¬ EvaluatesFalse name c) → ¬ IsContradictory schema os d name
   no_clash own none bad =
       ⊎_elim
       (λ (b : (a : Value) × (c : Value) × (a ≢ c) × InClass schema os d (Const a) (Const c)). b.2 (const_same b.0 b.1 (sym (own b.0) ∙ naming.one_name (Const b.0) (Const b.1) b.3 ∙ own b.1)))
-      (λ (b : (c : Compared) × Contains d c × EvaluatesFalse name c). none b.0 b.1 b.2)
+      (λ (b : (c : SymbolComparison) × Contains d c × EvaluatesFalse name c). none b.0 b.1 b.2)
       bad

@@ -9,8 +9,8 @@ use Rattle.su_tableau.specs.declared.symbols.Sym.TheVariants.{Var}
 use Rattle.su_schema.specs.SchemaValue.{SchemaValue}
 use Rattle.su_steps.specs.declared.results.Origin.{Origin}
 use Rattle.su_steps.specs.Objects.{width, attributes_at}
-use Rattle.su_steps.specs.Classes.{pair}
-use Rattle.su_steps.specs.Terms.{cell_of}
+use Rattle.su_steps.specs.PairSymbols.{pair}
+use Rattle.su_steps.specs.CaseTableaux.{cell_of}
 
 pub cells_more : (schema : SchemaValue) (name : Sym → Sym) (own : ℕ) (o : Origin) (n a : ℕ) (attributes : FinSet nat_cmp) (before next : List Sym) (x : Sym) → n ≡ width schema → attributes ≡ attributes_at schema o.object → before ≡ map (cell_of schema name own o) (range_with_len 0 a)
     → x ≡ (if contains attributes a then name (Var (pair n o.variable a)) else Var (own + a)) → next ≡ before ++ x ∷ [] → next ≡ map (cell_of schema name own o) (range_with_len 0 (a + 1))

@@ -10,7 +10,7 @@ use Rattle.std.proofs.lemmas.List.Elements.{All-contains, Contains-append_cases,
 use Rattle.su_tableau.specs.declared.symbols.Sym.{Sym}
 use Rattle.su_tableau.specs.declared.symbols.Sym.TheVariants.{Const, Var}
 use Rattle.su_tableau.specs.Tableaux.{Tab}
-use Rattle.su_tableau.specs.Essential.{Holds, IsEssential, constant, in_head, twice}
+use Rattle.su_tableau.specs.Essential.{HasSymbol, IsEssential, constant, in_head, twice}
 use Rattle.su_schema.specs.SchemaValue.{SchemaValue}
 use Rattle.su_query.specs.declared.resolving.Resolved.{Resolved}
 use Rattle.su_query.specs.Ranges.{IsResolved}
@@ -18,12 +18,16 @@ use Rattle.su_steps.specs.declared.results.Origin.{Origin}
 use Rattle.su_steps.specs.declared.results.Term.{Term}
 use Rattle.su_steps.specs.Objects.{width, attributes_at}
 use Rattle.su_steps.specs.Choices.{origins_of}
-use Rattle.su_steps.specs.Classes.{Compared, pair, place_symbol, IsNaming}
-use Rattle.su_steps.specs.Terms.{left_over, sides, cell_of, row_of, rows_of, tableau_of, Case, cases, comparisons_of, GivesNone, Gives, AreTermsOf, AreTerms}
+use Rattle.su_steps.specs.PairSymbols.{SymbolComparison, pair, place_symbol}
+use Rattle.su_steps.specs.Classes.{IsNaming}
+use Rattle.su_steps.specs.Evaluated.{left_over, sides}
+use Rattle.su_steps.specs.CaseTableaux.{cell_of, origin_row, rows_of, tableau_of}
+use Rattle.su_steps.specs.Cases.{Case, comparisons_of, GivesNone, Gives}
+use Rattle.su_steps.specs.Terms.{cases, AreTermsOf, AreTerms}
 use Rattle.su_steps.specs.Sources.{IsSource}
 use Rattle.std.specs.List.{AllByRecursion}
 use Rattle.su_base.proofs.Items.{Contains-cases, Contains-nil, Contains-map_source, get_or-map_range}
-use Rattle.su_schema.specs.SchemaValue as schemas
+use Rattle.su_schema.specs.Valid as schemas
 use Rattle.su_where.specs.Disjunct.{disjuncts_of}
 use Rattle.su_steps.proofs.Lists.{all_by}
 use Rattle.su_steps.proofs.Cells.{pair_below}
@@ -35,7 +39,7 @@ use Rattle.su_steps.proofs.Valid.{length-rows, of_sides}
 
 -- ---- symbols of classes
 
-module _ (schema : SchemaValue) (os : List Origin) (d : List Compared) (name : Sym → Sym) (limit : ℕ) (naming : IsNaming schema os d name) where
+module _ (schema : SchemaValue) (os : List Origin) (d : List SymbolComparison) (name : Sym → Sym) (limit : ℕ) (naming : IsNaming schema os d name) where
   -- the name of a pair is no own symbol
   named_low : (y : Sym) (k : ℕ) → IsPairBelow limit y → name y ≡ Var k → k < limit
   named_low (Const c) k low e = absurd (naming.least (Const c) k e (Const c) (λ label closed. refl))
@@ -43,10 +47,10 @@ module _ (schema : SchemaValue) (os : List Origin) (d : List Compared) (name : S
 
   -- ---- cells
 
-  row_at : (own : ℕ) (qs : List Origin) (i : ℕ) (o : Origin) → i < length qs → get_or (rows_of schema name own qs) i [] ≡ row_of schema name (own + i * width schema) (get_or qs i o)
+  row_at : (own : ℕ) (qs : List Origin) (i : ℕ) (o : Origin) → i < length qs → get_or (rows_of schema name own qs) i [] ≡ origin_row schema name (own + i * width schema) (get_or qs i o)
   row_at own [] i o l = absurd (omega arith)
-  row_at own (q ∷ qs) zero o l = ap (λ n. row_of schema name n q) (let e : own ≡ own + 0 * width schema = omega arith in e)
-  row_at own (q ∷ qs) (suc i) o l = row_at (own + width schema) qs i o (omega arith) ∙ ap (λ n. row_of schema name n (get_or qs i o)) (let e : own + width schema + i * width schema ≡ own + suc i * width schema = grind arith in e)
+  row_at own (q ∷ qs) zero o l = ap (λ n. origin_row schema name n q) (let e : own ≡ own + 0 * width schema = omega arith in e)
+  row_at own (q ∷ qs) (suc i) o l = row_at (own + width schema) qs i o (omega arith) ∙ ap (λ n. origin_row schema name n (get_or qs i o)) (let e : own + width schema + i * width schema ≡ own + suc i * width schema = grind arith in e)
 
   cell_at : (own : ℕ) (qs : List Origin) (i c : ℕ) (o : Origin) (x : Sym) → i < length qs → c < width schema → get_or (get_or (rows_of schema name own qs) i []) c x ≡ cell_of schema name (own + i * width schema) (get_or qs i o) c
   cell_at own qs i c o x l m = ap (λ r. get_or r c x) (row_at own qs i o l) ∙ get_or-map_range (cell_of schema name (own + i * width schema) (get_or qs i o)) (width schema) c x m
@@ -90,26 +94,26 @@ module _ (schema : SchemaValue) (os : List Origin) (d : List Compared) (name : S
         w.2)
         (Contains-append_cases head (sides (left_over name d)) (Var k) (subst (λ (xs : List Sym). Contains xs (Var k)) (ap (λ (u : Tab). u.head) is) c))
 
-    row_in : (m i c : ℕ) (x : Sym) → Holds t m i c x → i < length os
+    row_in : (m i c : ℕ) (x : Sym) → HasSymbol t m i c x → i < length os
     row_in m i c x h =
         let l = h.row_in in
         let e : length t.rows ≡ length os = ap (λ (rs : List (List Sym)). length rs) rows_are ∙ length-rows schema name limit os in
         omega arith
 
-    column_in : (m i c : ℕ) (x : Sym) → Holds t m i c x → c < width schema
+    column_in : (m i c : ℕ) (x : Sym) → HasSymbol t m i c x → c < width schema
     column_in m i c x h =
-        let row : get_or t.rows i [] ≡ row_of schema name (limit + i * width schema) (get_or os i o) = ap (λ (rs : List (List Sym)). get_or rs i []) rows_are ∙ row_at limit os i o (row_in m i c x h) in
+        let row : get_or t.rows i [] ≡ origin_row schema name (limit + i * width schema) (get_or os i o) = ap (λ (rs : List (List Sym)). get_or rs i []) rows_are ∙ row_at limit os i o (row_in m i c x h) in
         let e : length (get_or t.rows i []) ≡ width schema = ap (λ (r : List Sym). length r) row ∙ length-map-range_with_len (cell_of schema name (limit + i * width schema) (get_or os i o)) 0 (width schema) in
         let l = h.column_in in
         omega arith
 
-    cell_is : (m i c : ℕ) (x : Sym) → Holds t m i c x → IsCell (limit + i * width schema) (get_or os i o) c x
+    cell_is : (m i c : ℕ) (x : Sym) → HasSymbol t m i c x → IsCell (limit + i * width schema) (get_or os i o) c x
     cell_is m i c x h =
         is_cell (limit + i * width schema) (get_or os i o) c x
         (sym (cell_at limit os i c o x (row_in m i c x h) (column_in m i c x h)) ∙ ap (λ (rs : List (List Sym)). get_or (get_or rs i []) c x) (sym rows_are) ∙ h.is x)
 
     -- a row's own symbol stands nowhere else
-    own_once : (m i c k : ℕ) → Holds t m i c (Var k) → contains (attributes_at schema (get_or os i o).object) c ≡ false → k ≡ limit + i * width schema + c
+    own_once : (m i c k : ℕ) → HasSymbol t m i c (Var k) → contains (attributes_at schema (get_or os i o).object) c ≡ false → k ≡ limit + i * width schema + c
     own_once m i c k h out =
         elim (cell_is m i c (Var k) h) [
           | of_pair has e ↦ absurd (false≢true (sym out ∙ has))
@@ -122,7 +126,7 @@ module _ (schema : SchemaValue) (os : List Origin) (d : List Compared) (name : S
         let same : i * n + c ≡ j * n + b = omega arith in
         (sym (div-mul-add i n c lc) ∙ ap (λ k. k / n) same ∙ div-mul-add j n b lb, sym (mod-mul-add i n c lc) ∙ ap (λ k. k % n) same ∙ mod-mul-add j n b lb)
 
-    elsewhere : (m i c r b k : ℕ) → Holds t m i c (Var k) → Holds t m r b (Var k) → k ≡ limit + i * width schema + c → (r ≡ i) × (b ≡ c)
+    elsewhere : (m i c r b k : ℕ) → HasSymbol t m i c (Var k) → HasSymbol t m r b (Var k) → k ≡ limit + i * width schema + c → (r ≡ i) × (b ≡ c)
     elsewhere m i c r b k h g own =
         elim (cell_is m r b (Var k) g) [
           | of_pair has e ↦

@@ -16,7 +16,8 @@ use Rattle.su_steps.specs.declared.faults.StepFault.{StepFault}
 use Rattle.su_steps.specs.declared.faults.StepFault.TheVariants.{NotCovered}
 use Rattle.su_steps.specs.Choices.{coverings, choices}
 use Rattle.su_steps.specs.inside.Counting.{objects_in}
-use Rattle.su_steps.specs.Refusals.{disjunct_count, IsCovered, HasFewDisjuncts, HasFewRows, HasFewTerms, HasManyRows, IsRefusal}
+use Rattle.su_steps.specs.Limits.{disjunct_count, HasFewDisjuncts, HasFewRows, HasFewTerms, HasManyRows}
+use Rattle.su_steps.specs.Refusals.{IsCovered, IsStepRefusal}
 use Rattle.su_steps.proofs.ChoiceCounts.{row_count_is, total_at, total_of}
 use Rattle.su_steps.proofs.Chosen.{coverings_count}
 
@@ -28,8 +29,8 @@ module _ (schema : SchemaValue) (maximal : List (FinSet nat_cmp)) (q : Resolved)
   pub covered_is : None ≡ position (λ (ms : List ℕ). length ms == 0) xss → IsCovered schema maximal q
   covered_is e = ap (position (λ (ms : List ℕ). length ms == 0)) (sym all) ∙ sym e
 
-  pub refused_cover : (v : ℕ) (fault : StepFault) → Some v ≡ position (λ (ms : List ℕ). length ms == 0) xss → (variable : Option (List ℕ)) × (slice_get q.variables v ≡ Some variable) × (fault ≡ NotCovered variable (mentioned_with q.places v)) → IsRefusal schema maximal q fault
-  refused_cover v fault e w = subst (IsRefusal schema maximal q) (sym w.2) (v, ap (position (λ (ms : List ℕ). length ms == 0)) (sym all) ∙ sym e, w.1, refl)
+  pub refused_cover : (v : ℕ) (fault : StepFault) → Some v ≡ position (λ (ms : List ℕ). length ms == 0) xss → (variable : Option (List ℕ)) × (slice_get q.variables v ≡ Some variable) × (fault ≡ NotCovered variable (mentioned_with q.places v)) → IsStepRefusal schema maximal q fault
+  refused_cover v fault e w = subst (IsStepRefusal schema maximal q) (sym w.2) (v, ap (position (λ (ms : List ℕ). length ms == 0)) (sym all) ∙ sym e, w.1, refl)
 
   pub first_below : (v : ℕ) → Some v ≡ position (λ (ms : List ℕ). length ms == 0) xss → v < length q.variables
   first_below v e =

@@ -16,16 +16,19 @@ use Rattle.su_base.proofs.Items.{Contains-later, Contains-cases, Contains-nil, C
 use Rattle.su_where.specs.declared.literals.Operand.{Operand}
 use Rattle.su_where.specs.declared.literals.Operand.TheVariants as operand
 use Rattle.su_where.specs.declared.literals.Literal.{Literal}
-use Rattle.su_where.specs.Truth.{IsBelow, HasPlacesBelow, comparisons_of}
+use Rattle.su_where.specs.Fitting.{IsBelow, HasPlacesBelow}
+use Rattle.su_where.specs.Truth.{comparisons_of}
 use Rattle.su_where.specs.Disjunct.{disjuncts_of}
 use Rattle.su_tableau.specs.Kinds.{sym_kind}
-use Rattle.su_schema.specs.SchemaValue.{SchemaValue, ObjectEntry, IsValid, IsObject, IsLink, attribute_kinds, attributes_of}
+use Rattle.su_schema.specs.SchemaValue.{SchemaValue, ObjectEntry}
+use Rattle.su_schema.specs.Valid.{IsValid, IsObject, IsLink}
+use Rattle.su_schema.specs.Entries.{attribute_kinds, attributes_of}
 use Rattle.su_query.specs.declared.places.Place.{Place}
 use Rattle.su_query.specs.declared.resolving.Resolved.{Resolved}
 use Rattle.su_query.specs.Ranges.{operand_kind, IsOfOneKind, IsPlaceAmong, IsResolved, place_kinds}
 use Rattle.su_query.specs.Sets.{mentioned_with}
 use Rattle.su_steps.specs.Objects.{width, attributes_at, objects_of, attributes_of_all}
-use Rattle.su_steps.specs.Classes.{Compared, operand_symbol, compared, comparisons}
+use Rattle.su_steps.specs.PairSymbols.{SymbolComparison, operand_symbol, compared, comparisons}
 use Rattle.su_steps.specs.inside.Ready.{FitLiterals}
 use Rattle.su_steps.proofs.Lists.{all_at, all_by}
 use Rattle.su_steps.proofs.Literals.{literals_of}
@@ -147,6 +150,6 @@ module _ (schema : SchemaValue) (q : Resolved) (resolved : IsResolved schema q) 
       let l = w.0 in
       let p = All-contains (HasPlacesBelow (length q.places)) literals l fit.places w.1 in
       let k = All-contains (IsOfOneKind (place_kinds schema q.places)) literals l fit.kinds w.1 in
-      let i : (c : Compared) → compared (width schema) q.places l ≡ c → sym_kind (column_kind schema) c.left ≡ sym_kind (column_kind schema) c.right =
-      λ c e. subst (λ (c : Compared). sym_kind (column_kind schema) c.left ≡ sym_kind (column_kind schema) c.right) e (operand_kind_is l.left p.0 ∙ k ∙ sym (operand_kind_is l.right p.1)) in
+      let i : (c : SymbolComparison) → compared (width schema) q.places l ≡ c → sym_kind (column_kind schema) c.left ≡ sym_kind (column_kind schema) c.right =
+      λ c e. subst (λ (c : SymbolComparison). sym_kind (column_kind schema) c.left ≡ sym_kind (column_kind schema) c.right) e (operand_kind_is l.left p.0 ∙ k ∙ sym (operand_kind_is l.right p.1)) in
       i c w.2

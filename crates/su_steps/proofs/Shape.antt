@@ -16,12 +16,14 @@ use Rattle.su_where.specs.declared.operators.Op.TheVariants.{Equal}
 use Rattle.su_tableau.specs.declared.symbols.Sym.{Sym}
 use Rattle.su_tableau.specs.declared.symbols.Sym.TheVariants.{Const, Var}
 use Rattle.su_tableau.specs.Kinds.{sym_kind, IsTyped}
-use Rattle.su_schema.specs.SchemaValue.{SchemaValue, attribute_kinds}
+use Rattle.su_schema.specs.SchemaValue.{SchemaValue}
+use Rattle.su_schema.specs.Entries.{attribute_kinds}
 use Rattle.su_query.specs.declared.resolving.Resolved.{Resolved}
 use Rattle.su_steps.specs.declared.results.Origin.{Origin}
 use Rattle.su_steps.specs.Objects.{width, attributes_at}
-use Rattle.su_steps.specs.Classes.{Compared, pair, IsClosed, IsNaming}
-use Rattle.su_steps.specs.Terms.{cell_of, row_of, rows_of, tableau_of}
+use Rattle.su_steps.specs.PairSymbols.{SymbolComparison, pair}
+use Rattle.su_steps.specs.Classes.{IsClosedForCase, IsNaming}
+use Rattle.su_steps.specs.CaseTableaux.{cell_of, origin_row, rows_of, tableau_of}
 use Rattle.su_steps.proofs.Cells.{itself, raw_rows}
 use Rattle.su_steps.proofs.Raw.{AreWithin}
 
@@ -50,13 +52,13 @@ marks_low : (p limit : ℕ) → limit ≤ p → (x : Sym) → IsPairBelow limit 
 marks_low p limit l (Const c) h = refl
 marks_low p limit l (Var q) h = marks_other p q (λ e. omega arith)
 
-pub record AreBelow (schema : SchemaValue) (limit : ℕ) (os : List Origin) (d : List Compared) : Type 0 where
-  pub sides : (c : Compared) → Contains d c → IsPairBelow limit c.left × IsPairBelow limit c.right
+pub record AreBelow (schema : SchemaValue) (limit : ℕ) (os : List Origin) (d : List SymbolComparison) : Type 0 where
+  pub sides : (c : SymbolComparison) → Contains d c → IsPairBelow limit c.left × IsPairBelow limit c.right
   pub pairs : (o : Origin) (a : ℕ) → Contains os o → contains (attributes_at schema o.object) a ≡ true → o.variable * width schema + a < limit
 
-pub own_name : (schema : SchemaValue) (os : List Origin) (d : List Compared) (name : Sym → Sym) (limit p : ℕ) → IsNaming schema os d name → AreBelow schema limit os d → limit ≤ p → name (Var p) ≡ Var p
+pub own_name : (schema : SchemaValue) (os : List Origin) (d : List SymbolComparison) (name : Sym → Sym) (limit p : ℕ) → IsNaming schema os d name → AreBelow schema limit os d → limit ≤ p → name (Var p) ≡ Var p
 own_name schema os d name limit p naming below l =
-    let closed : IsClosed schema os d (marks p) = record {
+    let closed : IsClosedForCase schema os d (marks p) = record {
       equalities = λ c has e. let s = below.sides c has in marks_low p limit l c.left s.0 ∙ sym (marks_low p limit l c.right s.1);
       dependencies = λ f o q cf co cq io iq same a h.
           marks_low p limit l (Var (pair (width schema) o.variable a)) (below.pairs o a co (subset_at f.right (attributes_at schema o.object) a io.right h))
@@ -74,7 +76,7 @@ module _ (schema : SchemaValue) (name : Sym → Sym) (limit : ℕ) (own_names : 
         | false ↦ own_names (own + a) (omega arith)
       ]
 
-  row_named : (own : ℕ) (o : Origin) → limit ≤ own → map name (row_of schema itself own o) ≡ row_of schema name own o
+  row_named : (own : ℕ) (o : Origin) → limit ≤ own → map name (origin_row schema itself own o) ≡ origin_row schema name own o
   row_named own o h =
       map-map_equal (cell_of schema itself own o) name (λ a. name (cell_of schema itself own o a)) (λ a. refl) (range_with_len 0 (width schema))
       ∙ map-equal (λ a. name (cell_of schema itself own o a)) (cell_of schema name own o) (range_with_len 0 (width schema)) (λ a. cell_named own o a h)
@@ -93,8 +95,8 @@ abbrev pub column_kind : SchemaValue → ℕ → Kind
 column_kind schema k = get_or (attribute_kinds schema) (k % width schema) IntKind
 
 -- the two sides of each equality have one kind
-abbrev pub HaveOneKind : SchemaValue → List Compared → Type 0
-HaveOneKind schema d = (c : Compared) → Contains d c → c.op ≡ Equal → sym_kind (column_kind schema) c.left ≡ sym_kind (column_kind schema) c.right
+abbrev pub HaveOneKind : SchemaValue → List SymbolComparison → Type 0
+HaveOneKind schema d = (c : SymbolComparison) → Contains d c → c.op ≡ Equal → sym_kind (column_kind schema) c.left ≡ sym_kind (column_kind schema) c.right
 
 abbrev kinded : Kind → Sym
 kinded IntKind = Var 0
@@ -109,14 +111,14 @@ same_kind TextKind TextKind h = refl
 next : (own r n : ℕ) → own ≡ r * n → own + n ≡ suc r * n
 next own r n e = grind arith
 
-module _ (schema : SchemaValue) (os : List Origin) (d : List Compared) (name : Sym → Sym) (naming : IsNaming schema os d name) (fit : AreWithin schema) (one_kind : HaveOneKind schema d) where
+module _ (schema : SchemaValue) (os : List Origin) (d : List SymbolComparison) (name : Sym → Sym) (naming : IsNaming schema os d name) (fit : AreWithin schema) (one_kind : HaveOneKind schema d) where
   abbrev kind_by : Sym → Kind
   kind_by x = sym_kind (column_kind schema) x
 
   pair_kind : (v a : ℕ) → a < width schema → kind_by (Var (v * width schema + a)) ≡ get_or (attribute_kinds schema) a IntKind
   pair_kind v a l = ap (λ k. get_or (attribute_kinds schema) k IntKind) (mod-mul-add v (width schema) a l)
 
-  kinds_closed : IsClosed schema os d (λ x. kinded (kind_by x))
+  kinds_closed : IsClosedForCase schema os d (λ x. kinded (kind_by x))
   kinds_closed = record {
     equalities = λ c has e. ap kinded (one_kind c has e);
     dependencies = λ f o q cf co cq io iq same a h.
@@ -133,7 +135,7 @@ module _ (schema : SchemaValue) (os : List Origin) (d : List Compared) (name : S
       (λ h. sym (name_kind (Var (pair (width schema) o.variable a)) ∙ pair_kind o.variable a l))
       (λ h. sym (pair_kind r a l) ∙ ap (λ k. kind_by (Var (k + a))) (sym e))
 
-  row_kinds : (own r : ℕ) (o : Origin) → own ≡ r * width schema → map kind_by (row_of schema name own o) ≡ attribute_kinds schema
+  row_kinds : (own r : ℕ) (o : Origin) → own ≡ r * width schema → map kind_by (origin_row schema name own o) ≡ attribute_kinds schema
   row_kinds own r o e =
       map-map_equal (cell_of schema name own o) kind_by (λ a. kind_by (cell_of schema name own o a)) (λ a. refl) (range_with_len 0 (width schema))
       ∙ sym (fill_by_all (λ a. kind_by (cell_of schema name own o a)) (attribute_kinds schema) (width schema) IntKind refl (λ a l. cell_kind own r a o e l))

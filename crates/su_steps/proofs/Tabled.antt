@@ -10,23 +10,25 @@ use Rattle.su_where.specs.declared.operators.Op.TheVariants.{Equal}
 use Rattle.su_where.specs.declared.literals.Operand.{Operand}
 use Rattle.su_where.specs.declared.literals.Operand.TheVariants as operand
 use Rattle.su_where.specs.declared.literals.Literal.{Literal}
-use Rattle.su_where.specs.Truth.{IsBelow, HasPlacesBelow}
+use Rattle.su_where.specs.Fitting.{IsBelow, HasPlacesBelow}
 use Rattle.su_tableau.specs.declared.symbols.Sym.{Sym}
 use Rattle.su_tableau.specs.Tableaux.{Tab, IsValid}
 use Rattle.su_classes.specs.declared.items.Together.{Together}
 use Rattle.su_classes.specs.Items.{IsPlacedBelow}
-use Rattle.su_classes.specs.Tables.{rep, IsTable, IsLeast}
+use Rattle.su_classes.specs.Tables.{rep, IsTable, IsLeastTable}
 use Rattle.su_classes.specs.inside.Symbols.{is_known}
 use Rattle.su_classes.proofs.Places.{numbering, own_constant, symbol_low}
 use Rattle.su_schema.specs.SchemaValue.{SchemaValue}
-use Rattle.su_schema.specs.SchemaValue as schemas
+use Rattle.su_schema.specs.Valid as schemas
 use Rattle.su_query.specs.declared.resolving.Resolved.{Resolved}
 use Rattle.su_query.specs.Ranges.{IsResolved}
 use Rattle.su_steps.specs.declared.results.Origin.{Origin}
 use Rattle.su_steps.specs.declared.classes.Classes.{Classes}
 use Rattle.su_steps.specs.Objects.{width}
-use Rattle.su_steps.specs.Classes.{Compared, pair, place_symbol, operand_symbol, compared, comparisons, IsNaming}
-use Rattle.su_steps.specs.Terms.{tableau_of, HaveNone, HaveTableau}
+use Rattle.su_steps.specs.PairSymbols.{SymbolComparison, pair, place_symbol, operand_symbol, compared, comparisons}
+use Rattle.su_steps.specs.Classes.{IsNaming}
+use Rattle.su_steps.specs.CaseTableaux.{tableau_of}
+use Rattle.su_steps.specs.Cases.{HaveNone, HaveTableau}
 use Rattle.su_steps.specs.inside.Numbers.{IsNoted, AreNoted, equals, placed_of, class_name, AreClasses}
 use Rattle.su_steps.specs.inside.Heads.{IsSomeFalse, IsNoneFalse}
 use Rattle.su_steps.specs.inside.Ready.{IsReady, AreClosed, FitLiterals, FitOrigins, IsShown}
@@ -63,14 +65,14 @@ module _ (schema : SchemaValue) (q : Resolved) (resolved : IsResolved schema q) 
   operand_known vs (operand.Place i) h k = lt-ltb (pair n (get_or q.places i no_place).variable (get_or q.places i no_place).attribute) limit (place_below i h)
 
   -- the sides of equalities have numbers
-  pub sides_known : (vs : List Value) → All (AreNoted vs) ls → (c : Compared) → Contains (comparisons n q.places ls) c → c.op ≡ Equal → (is_known vs limit c.left ≡ true) × (is_known vs limit c.right ≡ true)
+  pub sides_known : (vs : List Value) → All (AreNoted vs) ls → (c : SymbolComparison) → Contains (comparisons n q.places ls) c → c.op ≡ Equal → (is_known vs limit c.left ≡ true) × (is_known vs limit c.right ≡ true)
   sides_known vs noted c has e =
       let w = Contains-map_source (compared n q.places) ls c has in
       let l = w.0 in
       let p = All-contains (HasPlacesBelow (length q.places)) ls l fits.places w.1 in
       let k : l.op ≡ Equal → IsNoted vs l.left × IsNoted vs l.right = All-contains (AreNoted vs) ls l noted w.1 in
-      let s = k (ap (λ (c : Compared). c.op) w.2 ∙ e) in
-      subst (λ (c : Compared). (is_known vs limit c.left ≡ true) × (is_known vs limit c.right ≡ true)) w.2 (operand_known vs l.left p.0 s.0, operand_known vs l.right p.1 s.1)
+      let s = k (ap (λ (c : SymbolComparison). c.op) w.2 ∙ e) in
+      subst (λ (c : SymbolComparison). (is_known vs limit c.left ≡ true) × (is_known vs limit c.right ≡ true)) w.2 (operand_known vs l.left p.0 s.0, operand_known vs l.right p.1 s.1)
 
   -- the equalities' items are in the table
   pub equal_in : (c : Classes) → IsReady n q ls c → All (λ e. (e.left < length c.table.items) × (e.right < length c.table.items)) c.equal
@@ -94,16 +96,16 @@ module _ (schema : SchemaValue) (q : Resolved) (resolved : IsResolved schema q) 
     pub outputs_stand : (i : ℕ) → Contains q.outputs i → Stands schema os (place_symbol n q.places i)
     outputs_stand i c = operand_stands (operand.Place i) (All-contains (λ o. o < length q.places) q.outputs i resolved.outputs c)
 
-    pub sides_stand : (c : Compared) → Contains (comparisons n q.places ls) c → Stands schema os c.left × Stands schema os c.right
+    pub sides_stand : (c : SymbolComparison) → Contains (comparisons n q.places ls) c → Stands schema os c.left × Stands schema os c.right
     sides_stand c has =
         let w = Contains-map_source (compared n q.places) ls c has in
         let p = All-contains (HasPlacesBelow (length q.places)) ls w.0 fits.places w.1 in
-        subst (λ (c : Compared). Stands schema os c.left × Stands schema os c.right) w.2 (operand_stands w.0.left p.0, operand_stands w.0.right p.1)
+        subst (λ (c : SymbolComparison). Stands schema os c.left × Stands schema os c.right) w.2 (operand_stands w.0.left p.0, operand_stands w.0.right p.1)
 
 -- ---- the outcome
 
 module _ (schema : SchemaValue) (q : Resolved) (ls : List Literal) (os : List Origin) (c : Classes) (valid : schemas.IsValid schema) (resolved : IsResolved schema q) (fits : FitLiterals schema q ls) (fit : FitOrigins schema q os) where
-  abbrev d : List Compared
+  abbrev d : List SymbolComparison
   d = comparisons (width schema) q.places ls
 
   abbrev edge : ℕ
@@ -128,8 +130,8 @@ module _ (schema : SchemaValue) (q : Resolved) (ls : List Literal) (os : List Or
     abbrev ready : IsReady (width schema) q ls c
     ready = closed.ready
 
-    least : IsLeast schema.fds (map (placed_of schema c.constants) os) (equals c.constants d) c.table.items
-    least = subst (λ e. IsLeast schema.fds (map (placed_of schema c.constants) os) e c.table.items) ready.equal closed.least
+    least : IsLeastTable schema.fds (map (placed_of schema c.constants) os) (equals c.constants d) c.table.items
+    least = subst (λ e. IsLeastTable schema.fds (map (placed_of schema c.constants) os) e c.table.items) ready.equal closed.least
 
     pub naming : IsNaming schema os d name
     naming = names schema c.constants edge os d (numbered ready) c.table.items ready.size least

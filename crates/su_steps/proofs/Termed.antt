@@ -11,9 +11,10 @@ use Rattle.su_query.specs.Ranges.{IsResolved}
 use Rattle.su_steps.specs.declared.results.Origin.{Origin}
 use Rattle.su_steps.specs.Objects.{width}
 use Rattle.su_steps.specs.Choices.{origins_of}
-use Rattle.su_steps.specs.Classes.{comparisons}
-use Rattle.su_steps.specs.Terms.{case_of, HaveNone, HaveTableau, GivesNone, Gives}
-use Rattle.su_steps.specs.Refusals.{row_count}
+use Rattle.su_steps.specs.PairSymbols.{comparisons}
+use Rattle.su_steps.specs.Terms.{case_of}
+use Rattle.su_steps.specs.Cases.{HaveNone, HaveTableau, GivesNone, Gives}
+use Rattle.su_steps.specs.Limits.{row_count}
 use Rattle.su_steps.specs.inside.Ready.{FitOrigins, IsShown, IsChoice}
 use Rattle.su_steps.proofs.Cases.{fit_origins, shown_rows}
 

@@ -10,7 +10,8 @@ use Rattle.su_schema.specs.SchemaValue.{SchemaValue}
 use Rattle.su_query.specs.declared.resolving.Resolved.{Resolved}
 use Rattle.su_steps.specs.declared.results.Term.{Term}
 use Rattle.su_steps.specs.Choices.{choices}
-use Rattle.su_steps.specs.Terms.{Case, case_of, GivesNone, Gives, AreTermsOf}
+use Rattle.su_steps.specs.Cases.{Case, GivesNone, Gives}
+use Rattle.su_steps.specs.Terms.{case_of, AreTermsOf}
 
 module _ (schema : SchemaValue) (maximal : List (FinSet nat_cmp)) (q : Resolved) where
   abbrev Are : List Case → List Term → Type 0

@@ -16,13 +16,15 @@ use Rattle.su_where.specs.declared.literals.Operand.TheVariants as operand
 use Rattle.su_where.specs.declared.literals.Literal.{Literal}
 use Rattle.su_where.specs.Operator.{compares}
 use Rattle.su_where.specs.Truth as truth
-use Rattle.su_where.specs.Truth.{IsBelow, HasPlacesBelow}
+use Rattle.su_where.specs.Fitting.{IsBelow, HasPlacesBelow}
 use Rattle.su_where.specs.Disjunct.{disjuncts_of, all_hold}
 use Rattle.su_where.proofs.Keeps.{keeps_truth}
 use Rattle.su_tableau.specs.declared.symbols.Sym.{Sym}
-use Rattle.su_tableau.specs.Tableaux.{Tab, value_of, values_of, Ext, Cut}
+use Rattle.su_tableau.specs.Tableaux.{Tab}
+use Rattle.su_tableau.specs.Valuations.{value_of, values_of, Ext, Cut}
 use Rattle.su_tableau.specs.Kinds.{IsUniverse, IsTyped}
-use Rattle.su_schema.specs.SchemaValue.{SchemaValue, attribute_kinds}
+use Rattle.su_schema.specs.SchemaValue.{SchemaValue}
+use Rattle.su_schema.specs.Entries.{attribute_kinds}
 use Rattle.su_query.specs.declared.places.Place.{Place}
 use Rattle.su_query.specs.declared.resolving.Resolved.{Resolved}
 use Rattle.su_query.specs.Ranges.{IsResolved}
@@ -31,8 +33,11 @@ use Rattle.su_query.specs.Sets.{mentioned_with}
 use Rattle.su_steps.specs.Objects.{width, attributes_at, objects_of, covers}
 use Rattle.su_steps.specs.Expression.{cut, cuts, Meets, place_values, InExpression}
 use Rattle.su_steps.specs.Choices.{choices, chosen_objects, origins_of}
-use Rattle.su_steps.specs.Classes.{Compared, place_symbol, operand_symbol, comparisons}
-use Rattle.su_steps.specs.Terms.{left_over, sides, rows_of, tableau_of, HaveTableau, Case, case_of, cases, comparisons_of, GivesNone, Gives, AreTermsOf, AreTerms, InUnion}
+use Rattle.su_steps.specs.PairSymbols.{SymbolComparison, place_symbol, operand_symbol, comparisons}
+use Rattle.su_steps.specs.Evaluated.{left_over, sides}
+use Rattle.su_steps.specs.CaseTableaux.{rows_of, tableau_of}
+use Rattle.su_steps.specs.Cases.{HaveTableau, Case, comparisons_of, GivesNone, Gives}
+use Rattle.su_steps.specs.Terms.{case_of, cases, AreTermsOf, AreTerms, InUnion}
 use Rattle.su_steps.specs.inside.Ready.{IsChoice}
 use Rattle.su_steps.proofs.Lists.{all_at, all_by}
 use Rattle.su_steps.proofs.Cells.{raw_rows}
@@ -81,7 +86,7 @@ module _ (schema : SchemaValue) (maximal : List (FinSet nat_cmp)) (q : Resolved)
     CutOf t = Cut t (Ext t universe) h
 
     module _ (case : Case) (is : IsCase case) (t : Tab) (has : HaveTableau schema q (origins_of schema maximal case.choice) (comparisons_of schema q case.disjunct) t) where
-      abbrev d : List Compared
+      abbrev d : List SymbolComparison
       d = comparisons_of schema q case.disjunct
 
       rows_are : map (map has.name) (raw_rows schema (length (chosen_objects schema maximal case.choice) * n) (origins_of schema maximal case.choice)) ≡ rows_of schema has.name (length q.variables * n) (origins_of schema maximal case.choice)
@@ -164,7 +169,7 @@ module _ (schema : SchemaValue) (maximal : List (FinSet nat_cmp)) (q : Resolved)
     -- ---- lists of values and the condition
 
     module _ (lists : ℕ → List Value) where
-      operand_value : (x : Operand) → IsBelow (length q.places) x → truth.value_of x (place_values lists q.places) ≡ value_of (pair_value n lists) (operand_symbol n q.places x)
+      operand_value : (x : Operand) → IsBelow (length q.places) x → truth.value_of_operand x (place_values lists q.places) ≡ value_of (pair_value n lists) (operand_symbol n q.places x)
       operand_value (operand.Const c) l = refl
       operand_value (operand.Place i) l =
           let p = get_or q.places i no_place in
@@ -173,7 +178,7 @@ module _ (schema : SchemaValue) (maximal : List (FinSet nat_cmp)) (q : Resolved)
 
       literal_holds : (l : Literal) → HasPlacesBelow (length q.places) l → truth.holds l (place_values lists q.places) ≡ compares l.op (value_of (pair_value n lists) (operand_symbol n q.places l.left)) (value_of (pair_value n lists) (operand_symbol n q.places l.right))
       literal_holds l b =
-          ap (λ x. compares l.op x (truth.value_of l.right (place_values lists q.places))) (operand_value l.left b.0) ∙ ap (compares l.op (value_of (pair_value n lists) (operand_symbol n q.places l.left))) (operand_value l.right b.1)
+          ap (λ x. compares l.op x (truth.value_of_operand l.right (place_values lists q.places))) (operand_value l.left b.0) ∙ ap (compares l.op (value_of (pair_value n lists) (operand_symbol n q.places l.left))) (operand_value l.right b.1)
 
       all_from : (ls : List Literal) → AllByRecursion (HasPlacesBelow (length q.places)) ls → AllTrue (pair_value n lists) (comparisons n q.places ls) → all_hold ls (place_values lists q.places) ≡ true
       all_from [] b t = refl

@@ -14,8 +14,10 @@ use Rattle.su_schema.specs.SchemaValue.{SchemaValue}
 use Rattle.su_query.specs.declared.resolving.Resolved.{Resolved}
 use Rattle.su_steps.specs.declared.results.Origin.{Origin}
 use Rattle.su_steps.specs.Objects.{width, attributes_at}
-use Rattle.su_steps.specs.Classes.{Compared, pair, place_symbol, IsNaming}
-use Rattle.su_steps.specs.Terms.{is_evaluated, left_over, sides, cell_of, row_of, rows_of, tableau_of}
+use Rattle.su_steps.specs.PairSymbols.{SymbolComparison, pair, place_symbol}
+use Rattle.su_steps.specs.Classes.{IsNaming}
+use Rattle.su_steps.specs.Evaluated.{is_evaluated, left_over, sides}
+use Rattle.su_steps.specs.CaseTableaux.{cell_of, origin_row, rows_of, tableau_of}
 use Rattle.su_steps.proofs.Raw.{AreWithin}
 
 -- ---- lengths
@@ -28,11 +30,11 @@ pub length-rows : (schema : SchemaValue) (name : Sym → Sym) (own : ℕ) (os : 
 length-rows schema name own [] = refl
 length-rows schema name own (o ∷ os) = let i = length-rows schema name (own + width schema) os in omega arith
 
-length-sides : (cs : List Compared) → length (sides cs) ≡ 2 * length cs
+length-sides : (cs : List SymbolComparison) → length (sides cs) ≡ 2 * length cs
 length-sides [] = omega arith
 length-sides (c ∷ cs) = let i = length-sides cs in omega arith
 
-pub head_length : (name : Sym → Sym) (xs : List Sym) (m : ℕ) (d : List Compared) → length xs ≡ m → length (xs ++ sides (left_over name d)) ≡ m + 2 * length (map (λ c. c.op) (left_over name d))
+pub head_length : (name : Sym → Sym) (xs : List Sym) (m : ℕ) (d : List SymbolComparison) → length xs ≡ m → length (xs ++ sides (left_over name d)) ≡ m + 2 * length (map (λ c. c.op) (left_over name d))
 head_length name xs m d e =
     let a = length-append xs (sides (left_over name d)) in
     let b = length-sides (left_over name d) in
@@ -42,13 +44,13 @@ head_length name xs m d e =
 -- ---- the head's variables
 
 -- a side of a comparison of the list
-abbrev pub IsSide : List Compared → Sym → Type 0
-IsSide d x = (c : Compared) × Contains d c × ((c.left ≡ x) ⊎ (c.right ≡ x))
+abbrev pub IsSide : List SymbolComparison → Sym → Type 0
+IsSide d x = (c : SymbolComparison) × Contains d c × ((c.left ≡ x) ⊎ (c.right ≡ x))
 
-later_side : (name : Sym → Sym) (c : Compared) (cs : List Compared) (y : Sym) → (x : Sym) × IsSide cs x × (name x ≡ y) → (x : Sym) × IsSide (c ∷ cs) x × (name x ≡ y)
+later_side : (name : Sym → Sym) (c : SymbolComparison) (cs : List SymbolComparison) (y : Sym) → (x : Sym) × IsSide cs x × (name x ≡ y) → (x : Sym) × IsSide (c ∷ cs) x × (name x ≡ y)
 later_side name c cs y w = (w.0, (w.1.0, Contains-later c cs w.1.0 w.1.1, w.1.2), w.2)
 
-pub of_sides : (name : Sym → Sym) (d : List Compared) (y : Sym) → Contains (sides (left_over name d)) y → (x : Sym) × IsSide d x × (name x ≡ y)
+pub of_sides : (name : Sym → Sym) (d : List SymbolComparison) (y : Sym) → Contains (sides (left_over name d)) y → (x : Sym) × IsSide d x × (name x ≡ y)
 of_sides name [] y h = absurd (let l = h.1 in omega arith)
 of_sides name (c ∷ cs) y h =
     elim (is_evaluated (name c.left) (name c.right)) as (λ b. Contains (sides (cond b (left_over name cs) (record { left = name c.left; op = c.op; right = name c.right } ∷ left_over name cs))) y → (x : Sym) × IsSide (c ∷ cs) x × (name x ≡ y)) [
@@ -64,15 +66,15 @@ of_sides name (c ∷ cs) y h =
           (Contains-cases (name c.left) (name c.right ∷ sides (left_over name cs)) y k)
     ] h
 
-has_row : (schema : SchemaValue) (name : Sym → Sym) (own : ℕ) (os : List Origin) (o : Origin) → Contains os o → (first : ℕ) × Contains (rows_of schema name own os) (row_of schema name first o)
+has_row : (schema : SchemaValue) (name : Sym → Sym) (own : ℕ) (os : List Origin) (o : Origin) → Contains os o → (first : ℕ) × Contains (rows_of schema name own os) (origin_row schema name first o)
 has_row schema name own [] o c = absurd (let l = c.1 in omega arith)
 has_row schema name own (q ∷ os) o c =
     ⊎_elim
-    (λ (e : q ≡ o). (own, (0, omega arith, ap (row_of schema name own) e)))
-    (λ (r : Contains os o). let w = has_row schema name (own + width schema) os o r in (w.0, Contains-later (row_of schema name own q) (rows_of schema name (own + width schema) os) (row_of schema name w.0 o) w.1))
+    (λ (e : q ≡ o). (own, (0, omega arith, ap (origin_row schema name own) e)))
+    (λ (r : Contains os o). let w = has_row schema name (own + width schema) os o r in (w.0, Contains-later (origin_row schema name own q) (rows_of schema name (own + width schema) os) (origin_row schema name w.0 o) w.1))
     (Contains-cases q os o c)
 
-has_cell : (schema : SchemaValue) (name : Sym → Sym) (first : ℕ) (o : Origin) (a : ℕ) → a < width schema → contains (attributes_at schema o.object) a ≡ true → Contains (row_of schema name first o) (name (Var (pair (width schema) o.variable a)))
+has_cell : (schema : SchemaValue) (name : Sym → Sym) (first : ℕ) (o : Origin) (a : ℕ) → a < width schema → contains (attributes_at schema o.object) a ≡ true → Contains (origin_row schema name first o) (name (Var (pair (width schema) o.variable a)))
 has_cell schema name first o a l h =
     let x = name (Var (pair (width schema) o.variable a)) in
     let s = length-map-range_with_len (cell_of schema name first o) 0 (width schema) in
@@ -90,9 +92,9 @@ abbrev pub Stands : SchemaValue → List Origin → Sym → Type 0
 Stands schema os (Const c) = Unit {0}
 Stands schema os (Var k) = StandsIn schema os k
 
-module _ (schema : SchemaValue) (q : Resolved) (os : List Origin) (d : List Compared) (name : Sym → Sym) (naming : IsNaming schema os d name) (fit : AreWithin schema)
+module _ (schema : SchemaValue) (q : Resolved) (os : List Origin) (d : List SymbolComparison) (name : Sym → Sym) (naming : IsNaming schema os d name) (fit : AreWithin schema)
     (outputs : (i : ℕ) → Contains q.outputs i → Stands schema os (place_symbol (width schema) q.places i))
-    (side : (c : Compared) → Contains d c → Stands schema os c.left × Stands schema os c.right) where
+    (side : (c : SymbolComparison) → Contains d c → Stands schema os c.left × Stands schema os c.right) where
   abbrev rows : List (List Sym)
   rows = rows_of schema name (length q.variables * width schema) os
 
@@ -104,7 +106,7 @@ module _ (schema : SchemaValue) (q : Resolved) (os : List Origin) (d : List Comp
   occurs (Var p) k h e =
       let w = has_row schema name (length q.variables * width schema) os h.origin h.member in
       let c = has_cell schema name w.0 h.origin h.attribute (fit h.origin.object h.attribute h.has) h.has in
-      occurs_in (row_of schema name w.0 h.origin) k w.1 (subst (Contains (row_of schema name w.0 h.origin)) (ap (λ j. name (Var j)) (sym h.is) ∙ e) c)
+      occurs_in (origin_row schema name w.0 h.origin) k w.1 (subst (Contains (origin_row schema name w.0 h.origin)) (ap (λ j. name (Var j)) (sym h.is) ∙ e) c)
 
   side_stands : (x : Sym) → IsSide d x → Stands schema os x
   side_stands x s =

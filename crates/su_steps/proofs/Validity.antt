@@ -8,12 +8,13 @@ use Rattle.std.proofs.lemmas.List.Elements.{All-from_recursion}
 use Rattle.su_where.specs.Disjunct.{disjuncts_of}
 use Rattle.su_tableau.specs.Tableaux.{IsValid}
 use Rattle.su_schema.specs.SchemaValue.{SchemaValue}
-use Rattle.su_schema.specs.SchemaValue as schemas
+use Rattle.su_schema.specs.Valid as schemas
 use Rattle.su_query.specs.declared.resolving.Resolved.{Resolved}
 use Rattle.su_query.specs.Ranges.{IsResolved}
 use Rattle.su_steps.specs.declared.results.Term.{Term}
 use Rattle.su_steps.specs.Choices.{origins_of}
-use Rattle.su_steps.specs.Terms.{Case, cases, comparisons_of, GivesNone, Gives, AreTermsOf, AreTerms}
+use Rattle.su_steps.specs.Cases.{Case, comparisons_of, GivesNone, Gives}
+use Rattle.su_steps.specs.Terms.{cases, AreTermsOf, AreTerms}
 use Rattle.su_steps.proofs.Lists.{all_by}
 use Rattle.su_steps.proofs.ResolvedQueries.{within, literals_fit}
 use Rattle.su_steps.proofs.Cases.{shown_rows}

@@ -17,15 +17,16 @@ use Rattle.su_base.proofs.Items.{Contains-map, Contains-map_source, map-map_equa
 use Rattle.su_where.specs.Operator.{compares}
 use Rattle.su_tableau.specs.declared.symbols.Sym.{Sym}
 use Rattle.su_tableau.specs.declared.symbols.Sym.TheVariants.{Const, Var}
-use Rattle.su_tableau.specs.Tableaux.{value_of, values_of}
+use Rattle.su_tableau.specs.Valuations.{value_of, values_of}
 use Rattle.su_tableau.specs.Kinds.{IsUniverse}
-use Rattle.su_schema.specs.SchemaValue.{SchemaValue, attribute_kinds}
+use Rattle.su_schema.specs.SchemaValue.{SchemaValue}
+use Rattle.su_schema.specs.Entries.{attribute_kinds}
 use Rattle.su_steps.specs.declared.results.Origin.{Origin}
 use Rattle.su_steps.specs.Objects.{width, attributes_at}
 use Rattle.su_steps.specs.Expression.{cut, cuts, Agree}
 use Rattle.su_steps.specs.Choices.{origin, origins_from}
-use Rattle.su_steps.specs.Classes.{Compared}
-use Rattle.su_steps.specs.Terms.{cell_of, row_of}
+use Rattle.su_steps.specs.PairSymbols.{SymbolComparison}
+use Rattle.su_steps.specs.CaseTableaux.{cell_of, origin_row}
 use Rattle.su_steps.proofs.Lists.{all_at, all_by}
 use Rattle.su_schema.proofs.Cuts.{cut_agrees}
 use Rattle.su_steps.proofs.Cells.{itself, raw_rows, Sent, IsAt, rows_at, origins_at, origins_by, pair_number, pair_below}
@@ -37,7 +38,7 @@ pub values_move : (w v : ℕ → Value) (xs : List Sym) → AllByRecursion (λ x
 values_move w v [] h = refl
 values_move w v (x ∷ xs) h = let i = values_move w v xs h.1 in let j = h.0 in cc
 
-pub truth_moves : (w v : ℕ → Value) (d : List Compared) → AllByRecursion (λ c. value_of w c.left ≡ value_of v c.left) d → AllByRecursion (λ c. value_of w c.right ≡ value_of v c.right) d → AllTrue w d → AllTrue v d
+pub truth_moves : (w v : ℕ → Value) (d : List SymbolComparison) → AllByRecursion (λ c. value_of w c.left ≡ value_of v c.left) d → AllByRecursion (λ c. value_of w c.right ≡ value_of v c.right) d → AllTrue w d → AllTrue v d
 truth_moves w v [] l r h = tt
 truth_moves w v (c ∷ cs) l r h =
     let e : compares c.op (value_of w c.left) (value_of w c.right) ≡ compares c.op (value_of v c.left) (value_of v c.right) = ap (λ x. compares c.op x (value_of w c.right)) l.0 ∙ ap (compares c.op (value_of v c.left)) r.0 in
@@ -132,7 +133,7 @@ module _ (schema : SchemaValue) (universe : List (List Value)) (choice : List (L
         let i = fit h.object (p % width schema) h.has in
         sym (read_in (p / width schema) (p % width schema) h.object (Int (pos 0)) h.takes h.has i ∙ ap w (pair_number p (width schema)))
 
-  pub to_lists : (outputs : List Sym) (d : List Compared) (h : List Value) → AreShown schema choice outputs d → RawAnswer schema universe choice outputs d h → InLists schema universe choice outputs d h
+  pub to_lists : (outputs : List Sym) (d : List SymbolComparison) (h : List Value) → AreShown schema choice outputs d → RawAnswer schema universe choice outputs d h → InLists schema universe choice outputs d h
   to_lists outputs d h shown r =
       let v = pair_value (width schema) (list_of r.valuation r.sends) in
       let P : Sym → Type 0 = λ x. value_of r.valuation x ≡ value_of v x in
@@ -171,7 +172,7 @@ module _ (schema : SchemaValue) (universe : List (List Value)) (typed : IsUniver
   picked (o ∷ os) h = h.0.0 ∷ picked os h.1
 
   module _ (w : ℕ → Value) (low : (p : ℕ) → p < own0 → w p ≡ g p) where
-    row_is : (own : ℕ) (o : Origin) (p : Picks o) → ((a : ℕ) → a < width schema → w (own + a) ≡ get_or p.0 a (Int (pos 0))) → p.0 ≡ values_of w (row_of schema itself own o)
+    row_is : (own : ℕ) (o : Origin) (p : Picks o) → ((a : ℕ) → a < width schema → w (own + a) ≡ get_or p.0 a (Int (pos 0))) → p.0 ≡ values_of w (origin_row schema itself own o)
     row_is own o p high =
         let same : length p.0 ≡ width schema = row_width schema universe typed p.0 p.1 in
         fill_by_all (λ a. value_of w (cell_of schema itself own o a)) p.0 (width schema) (Int (pos 0)) same
@@ -195,7 +196,7 @@ pair_at n lists v a h =
 below_at : (p v k n a : ℕ) → v * n + a ≡ p → v < k → a < n → p < k * n
 below_at p v k n a e h l = let b = pair_below v k n a h l in omega arith
 
-module _ (schema : SchemaValue) (universe : List (List Value)) (choice : List (List ℕ)) (outputs : List Sym) (d : List Compared) (h : List Value) (typed : IsUniverse (attribute_kinds schema) universe) (fit : AreWithin schema) (e : InLists schema universe choice outputs d h) where
+module _ (schema : SchemaValue) (universe : List (List Value)) (choice : List (List ℕ)) (outputs : List Sym) (d : List SymbolComparison) (h : List Value) (typed : IsUniverse (attribute_kinds schema) universe) (fit : AreWithin schema) (e : InLists schema universe choice outputs d h) where
   abbrev own0 : ℕ
   own0 = length choice * width schema
 
@@ -244,6 +245,6 @@ module _ (schema : SchemaValue) (universe : List (List Value)) (choice : List (L
       }
 
 -- one choice: the rows' valuations and the lists of values give the same outputs
-pub choice_law : (schema : SchemaValue) (universe : List (List Value)) (choice : List (List ℕ)) (outputs : List Sym) (d : List Compared) (h : List Value) → IsUniverse (attribute_kinds schema) universe → AreWithin schema → AreShown schema choice outputs d → (RawAnswer schema universe choice outputs d h ↔ InLists schema universe choice outputs d h)
+pub choice_law : (schema : SchemaValue) (universe : List (List Value)) (choice : List (List ℕ)) (outputs : List Sym) (d : List SymbolComparison) (h : List Value) → IsUniverse (attribute_kinds schema) universe → AreWithin schema → AreShown schema choice outputs d → (RawAnswer schema universe choice outputs d h ↔ InLists schema universe choice outputs d h)
 choice_law schema universe choice outputs d h typed fit shown =
     (to_lists schema universe choice typed fit outputs d h shown, λ e. to_raw schema universe choice outputs d h typed fit e shown)

@@ -7,7 +7,8 @@ use Rattle.su_base.specs.declared.values.Value.{Value}
 use Rattle.su_base.specs.declared.values.Value.TheVariants.{Int}
 use Rattle.su_base.specs.Value.{kind_of}
 use Rattle.su_where.specs.Truth.{truth_of}
-use Rattle.su_schema.specs.SchemaValue.{SchemaValue, attribute_kinds}
+use Rattle.su_schema.specs.SchemaValue.{SchemaValue}
+use Rattle.su_schema.specs.Entries.{attribute_kinds}
 pub use Rattle.su_fd.specs.Meeting.{Agree, Meets}
 pub use Rattle.su_schema.specs.Cuts.{cut_from, cut, cuts}
 use Rattle.su_query.specs.declared.places.Place.{Place}

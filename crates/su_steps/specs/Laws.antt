@@ -1,11 +1,14 @@
 -- Laws of the terms of a query.
+-- term, expression, source: as in Terms, Expression and Sources
 use Rattle.std.specs.Prelude.{◌↔◌, ◌<◌, ℕ, List, length, All, Contains}
 use Rattle.std.specs.Ordering.{nat_cmp}
 use Rattle.std.specs.FinSet.{FinSet}
 use Rattle.su_base.specs.declared.values.Value.{Value}
 use Rattle.su_tableau.specs.Tableaux as tableaux
 use Rattle.su_tableau.specs.Kinds.{IsUniverse, IsTyped}
-use Rattle.su_schema.specs.SchemaValue.{SchemaValue, IsValid, attribute_kinds}
+use Rattle.su_schema.specs.SchemaValue.{SchemaValue}
+use Rattle.su_schema.specs.Valid.{IsValid}
+use Rattle.su_schema.specs.Entries.{attribute_kinds}
 use Rattle.su_query.specs.declared.resolving.Resolved.{Resolved}
 use Rattle.su_query.specs.Ranges.{IsResolved}
 use Rattle.su_steps.specs.declared.results.Term.{Term}

@@ -7,3 +7,8 @@ pub mod Objects
 pub mod Refusals
 pub mod Sources
 pub mod Terms
+pub mod PairSymbols
+pub mod Limits
+pub mod Evaluated
+pub mod CaseTableaux
+pub mod Cases

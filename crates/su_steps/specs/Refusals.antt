@@ -1,44 +1,23 @@
 -- Why a query gets no terms, in the order of the refusals.
-use Rattle.std.specs.Prelude.{◌≡◌, ℕ, ◌*◌, ◌<◌, ◌≤◌, List, length, slice_get, position, Option, Some, None, All, Contains, ◌==◌}
+-- covered: some maximal object has all attributes that a variable is mentioned with
+use Rattle.std.specs.Prelude.{◌≡◌, ℕ, List, length, slice_get, position, Option, Some, None, ◌==◌}
 use Rattle.std.specs.Ordering.{nat_cmp}
 use Rattle.std.specs.FinSet.{FinSet}
-use Rattle.su_where.specs.Disjunct.{disjuncts_of}
 use Rattle.su_schema.specs.SchemaValue.{SchemaValue}
 use Rattle.su_query.specs.declared.resolving.Resolved.{Resolved}
 use Rattle.su_query.specs.Sets.{mentioned_with}
 use Rattle.su_steps.specs.declared.faults.StepFault.{StepFault}
 use Rattle.su_steps.specs.declared.faults.StepFault.TheVariants.{NotCovered, Limit, NoMemory}
-use Rattle.su_steps.specs.declared.faults.StepLimit.{StepLimit}
-use Rattle.su_steps.specs.declared.faults.StepLimit.TheVariants.{Disjuncts, Rows, Terms}
-use Rattle.su_steps.specs.Choices.{coverings, choices, origins_of}
+use Rattle.su_steps.specs.Choices.{coverings}
+use Rattle.su_steps.specs.Limits.{HasFewDisjuncts, HasFewRows, HasFewTerms, IsLimitPassed}
 
 -- the first variable that no maximal object covers
 abbrev pub first_uncovered : SchemaValue → List (FinSet nat_cmp) → Resolved → Option ℕ
 first_uncovered schema maximal q = position (λ ms. length ms == 0) (coverings schema maximal q)
 
--- how many disjuncts there are
-abbrev pub disjunct_count : Resolved → ℕ
-disjunct_count q = length (disjuncts_of q.cond)
-
--- how many rows a choice has
-abbrev pub row_count : SchemaValue → List (FinSet nat_cmp) → List ℕ → ℕ
-row_count schema maximal choice = length (origins_of schema maximal choice)
-
 -- every variable is covered
 abbrev pub IsCovered : SchemaValue → List (FinSet nat_cmp) → Resolved → Type 0
 IsCovered schema maximal q = first_uncovered schema maximal q ≡ None
-
--- at most 64 disjuncts
-abbrev pub HasFewDisjuncts : Resolved → Type 0
-HasFewDisjuncts q = disjunct_count q ≤ 64
-
--- each choice has at most 64 rows
-abbrev pub HasFewRows : SchemaValue → List (FinSet nat_cmp) → Resolved → Type 0
-HasFewRows schema maximal q = All (λ choice. row_count schema maximal choice ≤ 64) (choices schema maximal q)
-
--- at most 256 cases, those without a term counted
-abbrev pub HasFewTerms : SchemaValue → List (FinSet nat_cmp) → Resolved → Type 0
-HasFewTerms schema maximal q = disjunct_count q * length (choices schema maximal q) ≤ 256
 
 -- the query gets terms
 pub record IsAccepted (schema : SchemaValue) (maximal : List (FinSet nat_cmp)) (q : Resolved) : Type 0 where
@@ -47,19 +26,9 @@ pub record IsAccepted (schema : SchemaValue) (maximal : List (FinSet nat_cmp)) (
   pub few_rows : HasFewRows schema maximal q
   pub few_terms : HasFewTerms schema maximal q
 
--- some choice has more than 64 rows
-abbrev pub HasManyRows : SchemaValue → List (FinSet nat_cmp) → Resolved → Type 0
-HasManyRows schema maximal q = (choice : List ℕ) × Contains (choices schema maximal q) choice × (64 < row_count schema maximal choice)
-
--- which limit is passed, the earlier ones being kept
-abbrev pub IsLimitPassed : SchemaValue → List (FinSet nat_cmp) → Resolved → StepLimit → Type 0
-IsLimitPassed schema maximal q Disjuncts = 64 < disjunct_count q
-IsLimitPassed schema maximal q Rows = HasFewDisjuncts q × HasManyRows schema maximal q
-IsLimitPassed schema maximal q Terms = HasFewDisjuncts q × HasFewRows schema maximal q × (256 < disjunct_count q * length (choices schema maximal q))
-
 -- why the query is refused: memory is wanting, or this is the first cause
-abbrev pub IsRefusal : SchemaValue → List (FinSet nat_cmp) → Resolved → StepFault → Type 0
-IsRefusal schema maximal q (NotCovered variable mentioned) =
+abbrev pub IsStepRefusal : SchemaValue → List (FinSet nat_cmp) → Resolved → StepFault → Type 0
+IsStepRefusal schema maximal q (NotCovered variable mentioned) =
     (v : ℕ) × (first_uncovered schema maximal q ≡ Some v) × (slice_get q.variables v ≡ Some variable) × (mentioned ≡ mentioned_with q.places v)
-IsRefusal schema maximal q (Limit limit) = IsCovered schema maximal q × IsLimitPassed schema maximal q limit
-IsRefusal schema maximal q NoMemory = Unit {0}
+IsStepRefusal schema maximal q (Limit limit) = IsCovered schema maximal q × IsLimitPassed schema maximal q limit
+IsStepRefusal schema maximal q NoMemory = Unit {0}

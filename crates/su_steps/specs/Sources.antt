@@ -1,4 +1,5 @@
 -- The sources of a row: the objects that may answer for it.
+-- source of a row: an object that has all its essential columns
 use Rattle.std.specs.Prelude.{ℕ, ◌<◌, IsTrue, length}
 use Rattle.std.specs.FinSet.{contains}
 use Rattle.su_tableau.specs.Tableaux.{Tab}

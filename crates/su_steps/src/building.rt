@@ -1,12 +1,13 @@
 //! The rows and the head of a term.
 ghost use Rattle.std.specs.Prelude.{◌≡◌, ◌≢◌, ℕ, ◌+◌, ◌*◌, ◌<◌, ◌≤◌, ◌^◌, ◌++◌, IsTrue, true, false, if◌then◌else◌, [], ◌∷◌, All, Contains, length, map, IfOk, MatchOption};
 ghost use Rattle.std.specs.FinSet as set;
-ghost use Rattle.su_where.specs.Truth.{HasPlacesBelow};
+ghost use Rattle.su_where.specs.Fitting.{HasPlacesBelow};
 ghost use Rattle.su_tableau.specs.declared.symbols.Sym.TheVariants.{Var};
 ghost use Rattle.su_steps.specs.declared.building.Head.{Head as AHead};
 ghost use Rattle.su_steps.specs.Objects.{width, attributes_at};
-ghost use Rattle.su_steps.specs.Classes.{pair, place_symbol, compared, comparisons};
-ghost use Rattle.su_steps.specs.Terms.{is_evaluated, outcome, left_over, sides, row_of, rows_of, EvaluatesFalse};
+ghost use Rattle.su_steps.specs.PairSymbols.{pair, place_symbol, compared, comparisons};
+ghost use Rattle.su_steps.specs.Evaluated.{is_evaluated, outcome, left_over, sides, EvaluatesFalse};
+ghost use Rattle.su_steps.specs.CaseTableaux.{origin_row, rows_of};
 ghost use Rattle.su_steps.specs.inside.Numbers.{class_name, AreClasses};
 ghost use Rattle.su_steps.specs.inside.Heads.{with_compared, head_of, IsSomeFalse, IsNoneFalse};
 
@@ -63,7 +64,7 @@ fn row(
     requires variable { origin.now.variable < variables }
     requires object { origin.now.object < length schema.now.objects }
     requires fits { own + classes.now.width ≤ 2 ^ 32 }
-    ensures { IfOk result (λ cells. cells ≡ row_of schema.now (class_name (variables * classes.now.width) classes.now) own origin.now) }
+    ensures { IfOk result (λ cells. cells ≡ origin_row schema.now (class_name (variables * classes.now.width) classes.now) own origin.now) }
 {
     let attributes = object_attributes(schema, origin.object);
     let mut cells = List::new(alloc);

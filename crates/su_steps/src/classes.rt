@@ -1,12 +1,12 @@
 //! The classes of a disjunct's constants and of the pairs of variables and attributes.
 ghost use Rattle.std.specs.Prelude.{◌≡◌, ◌↔◌, ℕ, ◌+◌, ◌*◌, ◌<◌, ◌≤◌, ◌^◌, IsTrue, All, length, IfOk, OnOk};
-ghost use Rattle.su_where.specs.Truth.{IsBelow as IsPlaceBelow};
+ghost use Rattle.su_where.specs.Fitting.{IsBelow as IsPlaceBelow};
 ghost use Rattle.su_tableau.specs.declared.symbols.Sym.TheVariants.{Var, Const};
 ghost use Rattle.su_query.specs.declared.places.Place.{Place as APlace};
 ghost use Rattle.su_classes.specs.Items.{IsPlacedBelow};
-ghost use Rattle.su_classes.specs.Tables.{rep, IsLeast};
+ghost use Rattle.su_classes.specs.Tables.{rep, IsLeastTable};
 ghost use Rattle.su_classes.specs.inside.Symbols.{symbol_at as symbol_numbered};
-ghost use Rattle.su_steps.specs.Classes.{pair, place_symbol, operand_symbol};
+ghost use Rattle.su_steps.specs.PairSymbols.{pair, place_symbol, operand_symbol};
 ghost use Rattle.su_steps.specs.inside.Numbers.{class_name, AreClasses};
 
 use crate::constants::place;
@@ -51,7 +51,7 @@ impl Classes {
         ensures equal { OnOk result (self.new.equal ≡ self.old.equal) }
         ensures width { OnOk result (self.new.width ≡ self.old.width) }
         ensures length { OnOk result (length self.new.table.items ≡ length self.old.table.items) }
-        ensures least { OnOk result (IsLeast fds.now rows.now self.old.equal self.new.table.items) }
+        ensures least { OnOk result (IsLeastTable fds.now rows.now self.old.equal self.new.table.items) }
     {
         su_classes::close(alloc, &mut self.table, self.equal.as_slice(), fds, rows)
     }

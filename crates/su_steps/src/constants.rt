@@ -2,9 +2,9 @@
 ghost use Rattle.std.specs.Prelude.{◌≡◌, ℕ, ◌+◌, ◌<◌, ◌≤◌, ◌^◌, [], ◌∷◌, ◌++◌, List as Items, length, true, All, OnOk, IfOk};
 ghost use Rattle.su_base.specs.declared.values.Value.{Value as AValue};
 ghost use Rattle.su_where.specs.declared.literals.Operand.TheVariants as operand;
-ghost use Rattle.su_where.specs.Truth.{HasPlacesBelow, IsBelow};
-ghost use Rattle.su_steps.specs.Classes.{operand_symbol, comparisons};
-ghost use Rattle.su_classes.specs.inside.Symbols.{place_of, number_of, has_constant, AreDistinct};
+ghost use Rattle.su_where.specs.Fitting.{HasPlacesBelow, IsBelow};
+ghost use Rattle.su_steps.specs.PairSymbols.{operand_symbol, comparisons};
+ghost use Rattle.su_classes.specs.inside.Symbols.{place_of, symbol_number, has_constant, AreDistinct};
 ghost use Rattle.su_steps.specs.inside.Numbers.{IsNoted, AreNoted, equals};
 
 use std::alloc::Global;
@@ -80,7 +80,7 @@ pub fn constants_of(alloc: Global, disjunct: &[Literal]) -> Result<List<Value>, 
 /// The number of a side of a comparison, where there are `n` attributes.
 fn number(constants: &[Value], places: &[Place], n: u8, operand: &Operand) -> usize
     requires { IsBelow (length places.now) operand.now }
-    ensures { result ≡ number_of constants.now (operand_symbol n places.now operand.now) }
+    ensures { result ≡ symbol_number constants.now (operand_symbol n places.now operand.now) }
 {
     match operand {
         Operand::Place(i) => {

@@ -1,19 +1,21 @@
 //! The terms of a query.
 ghost use Rattle.std.specs.Prelude.{◌≡◌, ◌↔◌, ℕ, ◌<◌, ◌≤◌, ◌++◌, ◌∷◌, List as Items, [], length, get_or, map, slice_get, Option, Some, All, IfOk, IfErr, OnOk, MatchOption};
 ghost use Rattle.su_base.specs.declared.values.Value.{Value as AValue};
-ghost use Rattle.su_where.specs.Truth.{HasPlacesBelow};
+ghost use Rattle.su_where.specs.Fitting.{HasPlacesBelow};
 ghost use Rattle.su_where.specs.Disjunct.{disjuncts_of};
 ghost use Rattle.su_tableau.specs.Kinds.{IsUniverse, IsTyped};
-ghost use Rattle.su_schema.specs.SchemaValue.{attribute_kinds};
+ghost use Rattle.su_schema.specs.Entries.{attribute_kinds};
 ghost use Rattle.su_query.specs.Ranges.{IsResolved};
 ghost use Rattle.su_query.specs.Sets.{mentioned_with};
 ghost use Rattle.su_steps.specs.declared.faults.StepFault.TheVariants.{NotCovered};
 ghost use Rattle.su_steps.specs.Expression.{Meets, cuts, InExpression};
 ghost use Rattle.su_steps.specs.Choices.{coverings as coverings_in, choices};
 ghost use Rattle.su_steps.specs.Objects.{width};
-ghost use Rattle.su_steps.specs.Classes.{comparisons};
-ghost use Rattle.su_steps.specs.Terms.{Case, case_of, HaveNone, HaveTableau, GivesNone, Gives, AreTermsOf, AreTerms, InUnion};
-ghost use Rattle.su_steps.specs.Refusals.{row_count, IsAccepted, IsRefusal};
+ghost use Rattle.su_steps.specs.PairSymbols.{comparisons};
+ghost use Rattle.su_steps.specs.Cases.{Case, HaveNone, HaveTableau, GivesNone, Gives};
+ghost use Rattle.su_steps.specs.Terms.{case_of, AreTermsOf, AreTerms, InUnion};
+ghost use Rattle.su_steps.specs.Limits.{row_count};
+ghost use Rattle.su_steps.specs.Refusals.{IsAccepted, IsStepRefusal};
 ghost use Rattle.su_steps.specs.inside.Ready.{IsReady, AreClosed, FitLiterals, FitOrigins, IsShown, IsChoice};
 
 use crate::building::{build_head, rows};
@@ -279,7 +281,7 @@ pub fn terms(
     requires resolved { IsResolved schema.now resolved.now }
     ensures terms { IfOk result (AreTerms schema.now maximal.now resolved.now) }
     ensures accepted { OnOk result (IsAccepted schema.now maximal.now resolved.now) }
-    ensures refused { IfErr result (IsRefusal schema.now maximal.now resolved.now) }
+    ensures refused { IfErr result (IsStepRefusal schema.now maximal.now resolved.now) }
     ensures typed { IfOk result (λ ts. All (λ t. IsTyped (attribute_kinds schema.now) t.tableau) ts) }
     ensures expression { IfOk result (λ ts. (universe : Items (Items AValue)) (h : Items AValue) → IsUniverse (attribute_kinds schema.now) universe → Meets schema.now.fds universe → (InUnion ts universe h ↔ InExpression schema.now maximal.now resolved.now (cuts schema.now universe) h)) }
 {

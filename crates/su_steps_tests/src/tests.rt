@@ -1,5 +1,5 @@
 ghost use Rattle.std.specs.Prelude.{IfOk};
-ghost use Rattle.su_query.specs.Reading.{HasFew};
+ghost use Rattle.su_query.specs.Limits.{HasFew};
 ghost use Rattle.su_query.specs.Ranges.{IsResolved};
 
 use std::alloc::Global;

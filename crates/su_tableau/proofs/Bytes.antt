@@ -6,7 +6,8 @@ use Rattle.su_base.specs.declared.values.Kind.TheVariants.{Int as IntKind, Text 
 use Rattle.su_base.specs.declared.values.Value.{Value}
 use Rattle.su_tableau.specs.declared.symbols.Sym.{Sym}
 use Rattle.su_tableau.specs.declared.symbols.Sym.TheVariants.{Const, Var}
-use Rattle.su_tableau.specs.Tableaux.{Tab, value_of, values_of}
+use Rattle.su_tableau.specs.Tableaux.{Tab}
+use Rattle.su_tableau.specs.Valuations.{value_of, values_of}
 use Rattle.su_tableau.specs.Kinds.{Kinds, IsTyped}
 use Rattle.su_tableau.specs.Equivalent.{IsWithin}
 use Rattle.su_tableau.specs.Freezing.{new_value, frozen, frozen_head, frozen_rows, tab_top}

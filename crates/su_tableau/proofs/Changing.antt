@@ -7,9 +7,10 @@ use Rattle.std.proofs.lemmas.List.{length-map, get_or-map, get_or_default, same_
 use Rattle.su_base.specs.declared.values.Value.{Value}
 use Rattle.su_tableau.specs.declared.symbols.Sym.{Sym}
 use Rattle.su_tableau.specs.declared.symbols.Sym.TheVariants.{Const, Var}
-use Rattle.su_tableau.specs.Tableaux.{Tab, nth, value_of, values_of, Ext, IsValid}
+use Rattle.su_tableau.specs.Tableaux.{Tab, IsValid}
+use Rattle.su_tableau.specs.Valuations.{nth, value_of, values_of, Ext}
 use Rattle.su_tableau.specs.Parts.{part, select}
-use Rattle.su_tableau.specs.Essential.{Holds, constant, in_head, twice, AgreesOn, ExtByEssential}
+use Rattle.su_tableau.specs.Essential.{HasSymbol, constant, in_head, twice, AgreesOn, ExtByEssential}
 use Rattle.su_tableau.proofs.Listing.{by_list, from_list, listed}
 use Rattle.su_tableau.proofs.Sets.{select-has, select-from}
 
@@ -93,11 +94,11 @@ module _ (t : Tab) (m : ℕ) (v : ℕ → Value) (us : ℕ → List Value) (agre
   read_at k (inl o) = get_or (us o.line) o.column (v k)
   read_at k (inr none) = v k
 
-  stands_holds : (k : ℕ) (o : Stands (λ i. get_or t.rows i []) (bit_at m) (length t.rows) k) → Holds t m o.line o.column (Var k)
+  stands_holds : (k : ℕ) (o : Stands (λ i. get_or t.rows i []) (bit_at m) (length t.rows) k) → HasSymbol t m o.line o.column (Var k)
   stands_holds k o = record { row_in = o.line_in; in_set = o.is_looked; column_in = o.below; is = o.is }
 
   -- wherever the variable stands, the same is read
-  read_same : (i c k : ℕ) → Holds t m i c (Var k) → (d : Stands (λ i. get_or t.rows i []) (bit_at m) (length t.rows) k ⊎ (Stands (λ i. get_or t.rows i []) (bit_at m) (length t.rows) k → ⊥)) → read_at k d ≡ get_or (us i) c (v k)
+  read_same : (i c k : ℕ) → HasSymbol t m i c (Var k) → (d : Stands (λ i. get_or t.rows i []) (bit_at m) (length t.rows) k ⊎ (Stands (λ i. get_or t.rows i []) (bit_at m) (length t.rows) k → ⊥)) → read_at k d ≡ get_or (us i) c (v k)
   unfolding read_at
   read_same i c k h (inr none) = absurd (none (record { line = i; line_in = h.row_in; is_looked = h.in_set; column = c; below = h.column_in; is = h.is }))
   read_same i c k h (inl o) =
@@ -117,7 +118,7 @@ module _ (t : Tab) (m : ℕ) (v : ℕ → Value) (us : ℕ → List Value) (agre
   changed : ℕ → Value
   changed k = read_at k (stands (λ i. get_or t.rows i []) (bit_at m) (length t.rows) k)
 
-  changed_cell : (i c : ℕ) (x : Sym) → Holds t m i c x → (d : Value) → c < length (us i) → value_of changed x ≡ get_or (us i) c d
+  changed_cell : (i c : ℕ) (x : Sym) → HasSymbol t m i c x → (d : Value) → c < length (us i) → value_of changed x ≡ get_or (us i) c d
   unfolding changed
   changed_cell i c (Const y) h d low = sym (agrees i h.row_in h.in_set c (Const y) h (constant y h) d)
   changed_cell i c (Var k) h d low = read_same i c k h (stands (λ i. get_or t.rows i []) (bit_at m) (length t.rows) k) ∙ get_or_default (us i) c (v k) d low
@@ -129,7 +130,7 @@ module _ (t : Tab) (m : ℕ) (v : ℕ → Value) (us : ℕ → List Value) (agre
       same_lists (values_of changed row) (us i) (l ∙ len) (λ c d low.
       let low_row : c < length row = omega arith in
       let x = get_or row c (Var 0) in
-      let holds : Holds t m i c x = record { row_in = h; in_set = set; column_in = low_row; is = λ e. get_or_default row c e (Var 0) low_row } in
+      let holds : HasSymbol t m i c x = record { row_in = h; in_set = set; column_in = low_row; is = λ e. get_or_default row c e (Var 0) low_row } in
       get_or-map (value_of changed) row c (Var 0) d low_row ∙ changed_cell i c x holds d (omega arith))
 
   changed_head : IsValid (part t m) → (c : ℕ) (d : Value) → c < length t.head → get_or (values_of changed t.head) c d ≡ get_or (values_of v t.head) c d
@@ -146,7 +147,7 @@ module _ (t : Tab) (m : ℕ) (v : ℕ → Value) (us : ℕ → List Value) (agre
             let r = select-from m t.rows row (at.0, at.1, get_or_default (select m t.rows) at.0 row [] at.1) in
             let cell = at.2 in
             let is : get_or t.rows r.place [] ≡ row = r.is [] in
-            let holds : Holds t m r.place cell.0 (Var k) = record {
+            let holds : HasSymbol t m r.place cell.0 (Var k) = record {
               row_in = r.below;
               in_set = r.is_in;
               column_in = subst (λ row. cell.0 < length row) (sym is) cell.1;

@@ -4,7 +4,8 @@ use Rattle.std.proofs.lemmas.List.Elements.{All-contains}
 use Rattle.su_base.specs.declared.values.Value.{Value}
 use Rattle.su_tableau.specs.declared.symbols.Sym.{Sym}
 use Rattle.su_tableau.specs.declared.symbols.Sym.TheVariants.{Const, Var}
-use Rattle.su_tableau.specs.Tableaux.{Tab, value_of, values_of}
+use Rattle.su_tableau.specs.Tableaux.{Tab}
+use Rattle.su_tableau.specs.Valuations.{value_of, values_of}
 use Rattle.su_tableau.specs.Kinds.{Kinds}
 use Rattle.su_tableau.specs.Mapping.{image_of, images_of, Maps}
 use Rattle.su_tableau.specs.Equivalent.{IsWithin}

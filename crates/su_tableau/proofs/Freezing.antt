@@ -9,7 +9,8 @@ use Rattle.su_base.specs.declared.values.Value.{Value}
 use Rattle.su_tableau.specs.declared.symbols.Sym.{Sym}
 use Rattle.su_tableau.specs.declared.symbols.Sym.TheVariants.{Const, Var}
 use Rattle.su_base.specs.Value.{kind_of}
-use Rattle.su_tableau.specs.Tableaux.{Tab, value_of, values_of, Ext}
+use Rattle.su_tableau.specs.Tableaux.{Tab}
+use Rattle.su_tableau.specs.Valuations.{value_of, values_of, Ext}
 use Rattle.su_tableau.specs.Kinds.{Kinds, sym_kind, IsUniverse, IsTyped}
 use Rattle.su_tableau.specs.Mapping.{image_of, images_of, Maps}
 use Rattle.su_tableau.specs.Equivalent.{IsWithin}

@@ -6,7 +6,8 @@ use Rattle.su_base.specs.declared.values.Value.{Value}
 use Rattle.su_base.specs.declared.values.Value.TheVariants.{Int}
 use Rattle.su_tableau.specs.declared.symbols.Sym.{Sym}
 use Rattle.su_tableau.specs.declared.symbols.Sym.TheVariants.{Const, Var}
-use Rattle.su_tableau.specs.Tableaux.{Tab, nth, values_of, Sends, AreBelow, AreVarsBelow, Ext}
+use Rattle.su_tableau.specs.Tableaux.{Tab, AreBelow, AreVarsBelow}
+use Rattle.su_tableau.specs.Valuations.{nth, values_of, Sends, Ext}
 
 -- h is an answer by a function from variables to values
 pub record ExtBy (t : Tab) (universe : List (List Value)) (h : List Value) : Type 0 where

@@ -12,7 +12,7 @@ use Rattle.su_tableau.specs.declared.symbols.Sym.TheVariants.{Const, Var}
 use Rattle.su_tableau.specs.declared.occurrences.Times.{Times}
 use Rattle.su_tableau.specs.declared.occurrences.Times.TheVariants.{Never, Once, Again}
 use Rattle.su_tableau.specs.Tableaux.{Tab}
-use Rattle.su_tableau.specs.Essential.{Holds, IsElsewhere, IsEssential, constant, in_head, twice}
+use Rattle.su_tableau.specs.Essential.{HasSymbol, IsElsewhere, IsEssential, constant, in_head, twice}
 use Rattle.su_tableau.proofs.Rows.{below_more}
 use Rattle.su_tableau.specs.inside.Occurrences.{more, times_of, IsTwice, IsCount, CellHolds, IsBefore, AreCounted, AreTold, IsNotedAt, a_constant, a_variable}
 
@@ -67,20 +67,20 @@ not_before : (i j : ℕ) → IsBefore i j i j → ⊥
 not_before i j (inl l) = absurd (omega arith)
 not_before i j (inr e) = let l = e.1 in absurd (omega arith)
 
-one_symbol : (t : Tab) (m i j : ℕ) (x y : Sym) → Holds t m i j x → Holds t m i j y → x ≡ y
+one_symbol : (t : Tab) (m i j : ℕ) (x y : Sym) → HasSymbol t m i j x → HasSymbol t m i j y → x ≡ y
 one_symbol t m i j x y h g = sym (h.is x) ∙ g.is x
 
-moved : (t : Tab) (m r c i j : ℕ) (x : Sym) → r ≡ i → c ≡ j → Holds t m r c x → Holds t m i j x
-moved t m r c i j x e f h = subst (λ r. Holds t m r j x) e (subst (λ c. Holds t m r c x) f h)
+moved : (t : Tab) (m r c i j : ℕ) (x : Sym) → r ≡ i → c ≡ j → HasSymbol t m r c x → HasSymbol t m i j x
+moved t m r c i j x e f h = subst (λ r. HasSymbol t m r j x) e (subst (λ c. HasSymbol t m r c x) f h)
 
 -- the cell's variable was met once more
-pub cell_met : (t : Tab) (m i j k : ℕ) (x : Times) → Holds t m i j (Var k) → IsCount (λ r c. IsBefore i j r c × CellHolds t m k r c) x → IsCount (λ r c. IsBefore i (j + 1) r c × CellHolds t m k r c) (more x)
+pub cell_met : (t : Tab) (m i j k : ℕ) (x : Times) → HasSymbol t m i j (Var k) → IsCount (λ r c. IsBefore i j r c × CellHolds t m k r c) x → IsCount (λ r c. IsBefore i (j + 1) r c × CellHolds t m k r c) (more x)
 cell_met t m i j k x h =
     count_more (λ r c. IsBefore i j r c × CellHolds t m k r c) (λ r c. IsBefore i (j + 1) r c × CellHolds t m k r c) i j (λ b. not_before i j b.0) (inr (refl, omega arith), h) (λ r c b. (before_more i j r c b.0, b.1))
     (λ r c b. ⊎_elim (λ (l : IsBefore i j r c). inl (l, b.1)) (λ (e : (r ≡ i) × (c ≡ j)). inr e) (before_less i j r c b.0)) x
 
 -- the other variables weren't
-pub cell_passed : (t : Tab) (m i j k : ℕ) (y : Sym) (x : Times) → Holds t m i j y → y ≢ Var k → IsCount (λ r c. IsBefore i j r c × CellHolds t m k r c) x → IsCount (λ r c. IsBefore i (j + 1) r c × CellHolds t m k r c) x
+pub cell_passed : (t : Tab) (m i j k : ℕ) (y : Sym) (x : Times) → HasSymbol t m i j y → y ≢ Var k → IsCount (λ r c. IsBefore i j r c × CellHolds t m k r c) x → IsCount (λ r c. IsBefore i (j + 1) r c × CellHolds t m k r c) x
 cell_passed t m i j k y x h ne =
     count_same (λ r c. IsBefore i j r c × CellHolds t m k r c) (λ r c. IsBefore i (j + 1) r c × CellHolds t m k r c) (λ r c b. (before_more i j r c b.0, b.1))
     (λ r c b. ⊎_elim (λ (l : IsBefore i j r c). (l, b.1)) (λ (e : (r ≡ i) × (c ≡ j)). absurd (ne (one_symbol t m i j y (Var k) h (moved t m r c i j (Var k) e.0 e.1 b.1)))) (before_less i j r c b.0)) x
@@ -88,21 +88,21 @@ cell_passed t m i j k y x h ne =
 const_var : (v : Value) (k : ℕ) → Const v ≢ Var k
 const_var v k e = cc
 
-cell_at : (t : Tab) (m i j k : ℕ) (old new : List Times) (x : Sym) → Holds t m i j x → (x ≡ Var k → times_of new k ≡ more (times_of old k)) → (x ≢ Var k → times_of new k ≡ times_of old k)
+cell_at : (t : Tab) (m i j k : ℕ) (old new : List Times) (x : Sym) → HasSymbol t m i j x → (x ≡ Var k → times_of new k ≡ more (times_of old k)) → (x ≢ Var k → times_of new k ≡ times_of old k)
     → IsCount (λ r c. IsBefore i j r c × CellHolds t m k r c) (times_of old k) → IsCount (λ r c. IsBefore i (j + 1) r c × CellHolds t m k r c) (times_of new k)
 cell_at t m i j k old new (Const v) h met others count =
     subst (IsCount (λ r c. IsBefore i (j + 1) r c × CellHolds t m k r c)) (sym (others (const_var v k))) (cell_passed t m i j k (Const v) (times_of old k) h (const_var v k) count)
 cell_at t m i j k old new (Var n) h met others count =
     ⊎_elim
     (λ (e : n ≡ k).
-    let here = subst (λ n. Holds t m i j (Var n)) e h in
+    let here = subst (λ n. HasSymbol t m i j (Var n)) e h in
     subst (IsCount (λ r c. IsBefore i (j + 1) r c × CellHolds t m k r c)) (sym (met (ap Var e))) (cell_met t m i j k (times_of old k) here count))
     (λ (ne : n ≢ k).
     let ne' : Var n ≢ Var k = λ e. ne cc in
     subst (IsCount (λ r c. IsBefore i (j + 1) r c × CellHolds t m k r c)) (sym (others ne')) (cell_passed t m i j k (Var n) (times_of old k) h ne' count))
     (cases_eq n k)
 
-pub cell_counted : (t : Tab) (m i j : ℕ) (old new : List Times) (x : Sym) → Holds t m i j x → ((k : ℕ) → x ≡ Var k → times_of new k ≡ more (times_of old k)) → ((k : ℕ) → x ≢ Var k → times_of new k ≡ times_of old k)
+pub cell_counted : (t : Tab) (m i j : ℕ) (old new : List Times) (x : Sym) → HasSymbol t m i j x → ((k : ℕ) → x ≡ Var k → times_of new k ≡ more (times_of old k)) → ((k : ℕ) → x ≢ Var k → times_of new k ≡ times_of old k)
     → AreCounted t m i j old → AreCounted t m i (j + 1) new
 cell_counted t m i j old new x h met others count = λ k. cell_at t m i j k old new x h (met k) (others k) (count k)
 
@@ -160,19 +160,19 @@ elsewhere_of t m i c k w =
     (λ (ne : w.row ≢ i). record { row = w.row; column = w.column; holds = w.one; other = λ a. absurd (ne a) })
     (cases_eq w.row i)
 
-noted_essential : (t : Tab) (m i c : ℕ) (times : List Times) (x : Sym) → AreTold t m times → Holds t m i c x → IsNotedAt times x → IsEssential t m i c
-noted_essential t m i c times x told h (a_constant v e) = constant v (subst (Holds t m i c) e h)
+noted_essential : (t : Tab) (m i c : ℕ) (times : List Times) (x : Sym) → AreTold t m times → HasSymbol t m i c x → IsNotedAt times x → IsEssential t m i c
+noted_essential t m i c times x told h (a_constant v e) = constant v (subst (HasSymbol t m i c) e h)
 noted_essential t m i c times x told h (a_variable k e again) =
-    let here = subst (Holds t m i c) e h in
+    let here = subst (HasSymbol t m i c) e h in
     ⊎_elim (λ (has : Contains t.head (Var k)). in_head k here has) (λ (w : IsTwice (CellHolds t m k)). twice k here (elsewhere_of t m i c k w)) ((told k).0 again)
 
-essential_noted : (t : Tab) (m i c : ℕ) (times : List Times) (x : Sym) → AreTold t m times → Holds t m i c x → IsEssential t m i c → IsNotedAt times x
+essential_noted : (t : Tab) (m i c : ℕ) (times : List Times) (x : Sym) → AreTold t m times → HasSymbol t m i c x → IsEssential t m i c → IsNotedAt times x
 essential_noted t m i c times x told h (constant v g) = a_constant v (one_symbol t m i c x (Const v) h g)
 essential_noted t m i c times x told h (in_head k g has) = a_variable k (one_symbol t m i c x (Var k) h g) ((told k).1 (inl has))
 essential_noted t m i c times x told h (twice k g e) =
     a_variable k (one_symbol t m i c x (Var k) h g) ((told k).1 (inr (record { row = i; column = c; other_row = e.row; other_column = e.column; one = g; other = e.holds; apart = λ a b. e.other (sym a) (sym b) })))
 
-pub noted_is : (t : Tab) (m i c : ℕ) (times : List Times) (x : Sym) → AreTold t m times → Holds t m i c x → IsNotedAt times x ↔ IsEssential t m i c
+pub noted_is : (t : Tab) (m i c : ℕ) (times : List Times) (x : Sym) → AreTold t m times → HasSymbol t m i c x → IsNotedAt times x ↔ IsEssential t m i c
 noted_is t m i c times x told h = (noted_essential t m i c times x told h, essential_noted t m i c times x told h)
 
 pub noted_again : (times : List Times) (x : Sym) (k : ℕ) → x ≡ Var k → IsNotedAt times x → times_of times k ≡ Again
@@ -183,7 +183,7 @@ noted_again times x k e (a_variable n f again) =
     subst (λ n. times_of times n ≡ Again) same again
 
 -- the cell that is read holds the symbol
-pub cell_read : (t : Tab) (m i c : ℕ) (row : List Sym) (x : Sym) → i < length t.rows → bit_at m i ≡ 1 → row ≡ get_or t.rows i [] → c < length row → x ≡ get_or row c x → Holds t m i c x
+pub cell_read : (t : Tab) (m i c : ℕ) (row : List Sym) (x : Sym) → i < length t.rows → bit_at m i ≡ 1 → row ≡ get_or t.rows i [] → c < length row → x ≡ get_or row c x → HasSymbol t m i c x
 cell_read t m i c row x low set is below read = record {
   row_in = low;
   in_set = set;

@@ -8,7 +8,8 @@ use Rattle.su_base.specs.declared.values.Value.TheVariants.{Int}
 use Rattle.su_base.specs.contracts.values.ValuePartialEq.TheImpl.{ghosts}
 use Rattle.su_tableau.specs.declared.symbols.Sym.{Sym}
 use Rattle.su_tableau.specs.declared.symbols.Sym.TheVariants.{Var}
-use Rattle.su_tableau.specs.Tableaux.{Tab, nth, value_of, values_of, AreBelow, AreVarsBelow, IsSymbolCount}
+use Rattle.su_tableau.specs.Tableaux.{Tab, AreBelow, AreVarsBelow, IsSymbolCount}
+use Rattle.su_tableau.specs.Valuations.{nth, value_of, values_of}
 use Rattle.su_tableau.proofs.Same.{value_same}
 
 -- what a read at the place gives is what the row contains

@@ -9,10 +9,10 @@ use Rattle.std.proofs.lemmas.List.{get_or_default}
 use Rattle.su_tableau.specs.declared.symbols.Sym.{Sym}
 use Rattle.su_tableau.specs.declared.symbols.Sym.TheVariants.{Const, Var}
 use Rattle.su_tableau.specs.Tableaux.{Tab}
-use Rattle.su_tableau.specs.Essential.{Holds, IsElsewhere, IsEssential, constant, in_head, twice, StandsIn}
+use Rattle.su_tableau.specs.Essential.{HasSymbol, IsElsewhere, IsEssential, constant, in_head, twice, StandsElsewhere}
 
 -- row i holds the variable at another cell
-pub elsewhere_found : (t : Tab) (m row column k i : ℕ) (r : List Sym) (but : Option ℕ) → r ≡ get_or t.rows i [] → i < length t.rows → bit_at m i ≡ 1 → ((c : ℕ) → (but ≡ Some c) ↔ ((i ≡ row) × (c ≡ column))) → StandsIn r k but → IsElsewhere t m row column k
+pub elsewhere_found : (t : Tab) (m row column k i : ℕ) (r : List Sym) (but : Option ℕ) → r ≡ get_or t.rows i [] → i < length t.rows → bit_at m i ≡ 1 → ((c : ℕ) → (but ≡ Some c) ↔ ((i ≡ row) × (c ≡ column))) → StandsElsewhere r k but → IsElsewhere t m row column k
 elsewhere_found t m row column k i r but is low set out s = record {
   row = i;
   column = s.column;
@@ -26,7 +26,7 @@ elsewhere_found t m row column k i r but is low set out s = record {
 }
 
 -- it doesn't
-pub elsewhere_none : (t : Tab) (m row column k i : ℕ) (r : List Sym) (but : Option ℕ) → r ≡ get_or t.rows i [] → ((c : ℕ) → (but ≡ Some c) ↔ ((i ≡ row) × (c ≡ column))) → (StandsIn r k but → ⊥) → (c : ℕ) → Holds t m i c (Var k) → (i ≡ row → c ≢ column) → ⊥
+pub elsewhere_none : (t : Tab) (m row column k i : ℕ) (r : List Sym) (but : Option ℕ) → r ≡ get_or t.rows i [] → ((c : ℕ) → (but ≡ Some c) ↔ ((i ≡ row) × (c ≡ column))) → (StandsElsewhere r k but → ⊥) → (c : ℕ) → HasSymbol t m i c (Var k) → (i ≡ row → c ≢ column) → ⊥
 elsewhere_none t m row column k i r but is out none c h other =
     none (record {
       column = c;
@@ -35,13 +35,13 @@ elsewhere_none t m row column k i r but is out none c h other =
       other = λ e. let p = (out c).0 e in other p.0 p.1;
     })
 
-pub contains_stands : (row : List Sym) (k : ℕ) → Contains row (Var k) → StandsIn row k None
+pub contains_stands : (row : List Sym) (k : ℕ) → Contains row (Var k) → StandsElsewhere row k None
 contains_stands row k c = record { column = c.0; below = c.1; is = λ d. get_or_default row c.0 d (Var k) c.1 ∙ c.2; other = λ e. cc }
 
-pub stands_contains : (row : List Sym) (k : ℕ) (but : Option ℕ) → StandsIn row k but → Contains row (Var k)
+pub stands_contains : (row : List Sym) (k : ℕ) (but : Option ℕ) → StandsElsewhere row k but → Contains row (Var k)
 stands_contains row k but s = (s.column, s.below, s.is (Var k))
 
-pub cell_holds : (t : Tab) (m i c : ℕ) (x y : Sym) → All (λ row. length row ≡ t.width) t.rows → i < length t.rows → bit_at m i ≡ 1 → c < t.width → ((d : Sym) → get_or (get_or t.rows i []) c d ≡ x) → x ≡ y → Holds t m i c y
+pub cell_holds : (t : Tab) (m i c : ℕ) (x y : Sym) → All (λ row. length row ≡ t.width) t.rows → i < length t.rows → bit_at m i ≡ 1 → c < t.width → ((d : Sym) → get_or (get_or t.rows i []) c d ≡ x) → x ≡ y → HasSymbol t m i c y
 cell_holds t m i c x y widths low set wide is e = record {
   row_in = low;
   in_set = set;
@@ -50,7 +50,7 @@ cell_holds t m i c x y widths low set wide is e = record {
 }
 
 -- a cell of a variable that is in no head is essential only where the variable is elsewhere too
-pub essential_else : (t : Tab) (m i c k : ℕ) → Holds t m i c (Var k) → (Contains t.head (Var k) → ⊥) → IsEssential t m i c → IsElsewhere t m i c k
+pub essential_else : (t : Tab) (m i c k : ℕ) → HasSymbol t m i c (Var k) → (Contains t.head (Var k) → ⊥) → IsEssential t m i c → IsElsewhere t m i c k
 essential_else t m i c k h none (constant v h') = absurd (let e : Const v ≡ Var k = sym (h'.is (Const v)) ∙ h.is (Const v) in cc)
 essential_else t m i c k h none (in_head j h' has) =
     let e : Var j ≡ Var k = sym (h'.is (Var j)) ∙ h.is (Var j) in

@@ -5,7 +5,8 @@ use Rattle.su_base.specs.declared.values.Value.{Value}
 use Rattle.su_base.specs.declared.values.Value.TheVariants.{Int, Text}
 use Rattle.su_tableau.specs.declared.symbols.Sym.{Sym}
 use Rattle.su_tableau.specs.declared.symbols.Sym.TheVariants.{Const, Var}
-use Rattle.su_tableau.specs.Tableaux.{Tab, IsValid, Ext}
+use Rattle.su_tableau.specs.Tableaux.{Tab, IsValid}
+use Rattle.su_tableau.specs.Valuations.{Ext}
 use Rattle.su_tableau.specs.Kinds.{Kinds, IsUniverse, IsTyped}
 use Rattle.su_tableau.specs.Equivalent.{IsWithin, IsLeast}
 

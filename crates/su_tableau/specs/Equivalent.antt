@@ -1,7 +1,9 @@
 -- Inclusion and equivalence over every universal relation, and least tableaux.
+-- within, equivalent: by the answers over every universal relation of the kinds; least: no equivalent tableau has fewer rows
 use Rattle.std.specs.Prelude.{◌≤◌, ◌↔◌, List, length}
 use Rattle.su_base.specs.declared.values.Value.{Value}
-use Rattle.su_tableau.specs.Tableaux.{Tab, IsValid, Ext}
+use Rattle.su_tableau.specs.Tableaux.{Tab, IsValid}
+use Rattle.su_tableau.specs.Valuations.{Ext}
 use Rattle.su_tableau.specs.Kinds.{Kinds, IsUniverse, IsTyped}
 
 -- over every universal relation of these kinds each answer of s is one of t

@@ -7,10 +7,11 @@ use Rattle.std.specs.FinSet.{FinSet, contains, empty}
 use Rattle.su_base.specs.declared.values.Value.{Value}
 use Rattle.su_tableau.specs.declared.symbols.Sym.{Sym}
 use Rattle.su_tableau.specs.declared.symbols.Sym.TheVariants.{Const, Var}
-use Rattle.su_tableau.specs.Tableaux.{Tab, AreVarsBelow, nth, value_of, values_of}
+use Rattle.su_tableau.specs.Tableaux.{Tab, AreVarsBelow}
+use Rattle.su_tableau.specs.Valuations.{nth, value_of, values_of}
 
 -- row i is in the set and its column c holds the symbol
-pub record Holds (t : Tab) (m i c : ℕ) (x : Sym) : Type 0 where
+pub record HasSymbol (t : Tab) (m i c : ℕ) (x : Sym) : Type 0 where
   pub row_in : i < length t.rows
   pub in_set : bit_at m i ≡ 1
   pub column_in : c < length (get_or t.rows i [])
@@ -20,14 +21,14 @@ pub record Holds (t : Tab) (m i c : ℕ) (x : Sym) : Type 0 where
 pub record IsElsewhere (t : Tab) (m i c k : ℕ) : Type 0 where
   pub row : ℕ
   pub column : ℕ
-  pub holds : Holds t m row column (Var k)
+  pub holds : HasSymbol t m row column (Var k)
   pub other : row ≡ i → column ≢ c
 
 -- column c of row i is essential, among the rows of the set
 pub data IsEssential (t : Tab) (m i c : ℕ) : Type 0 where
-  constant : (v : Value) → Holds t m i c (Const v) → IsEssential t m i c
-  in_head : (k : ℕ) → Holds t m i c (Var k) → Contains t.head (Var k) → IsEssential t m i c
-  twice : (k : ℕ) → Holds t m i c (Var k) → IsElsewhere t m i c k → IsEssential t m i c
+  constant : (v : Value) → HasSymbol t m i c (Const v) → IsEssential t m i c
+  in_head : (k : ℕ) → HasSymbol t m i c (Var k) → Contains t.head (Var k) → IsEssential t m i c
+  twice : (k : ℕ) → HasSymbol t m i c (Var k) → IsElsewhere t m i c k → IsEssential t m i c
 
 -- for each row of the set its essential columns
 abbrev pub AreEssential : Tab → ℕ → List (FinSet nat_cmp) → Type 0
@@ -35,7 +36,7 @@ AreEssential t m columns = (i c : ℕ) → i < length t.rows → bit_at m i ≡ 
 
 -- under the valuation row i has the values of u at its essential columns
 abbrev pub AgreesOn : Tab → ℕ → (ℕ → Value) → ℕ → List Value → Type 0
-AgreesOn t m v i u = (c : ℕ) (x : Sym) → Holds t m i c x → IsEssential t m i c → (d : Value) → get_or u c d ≡ value_of v x
+AgreesOn t m v i u = (c : ℕ) (x : Sym) → HasSymbol t m i c x → IsEssential t m i c → (d : Value) → get_or u c d ≡ value_of v x
 
 -- h is the values of the head under a valuation for which each row of the set agrees at its essential columns with some row of the universe
 pub record ExtByEssential (t : Tab) (m : ℕ) (universe : List (List Value)) (h : List Value) : Type 0 where
@@ -45,7 +46,7 @@ pub record ExtByEssential (t : Tab) (m : ℕ) (universe : List (List Value)) (h 
   pub gives : values_of (nth values) t.head ≡ h
 
 -- the row holds the variable, at another column than the one that is left out
-pub record StandsIn (row : List Sym) (k : ℕ) (but : Option ℕ) : Type 0 where
+pub record StandsElsewhere (row : List Sym) (k : ℕ) (but : Option ℕ) : Type 0 where
   pub column : ℕ
   pub below : column < length row
   pub is : (d : Sym) → get_or row column d ≡ Var k

@@ -1,4 +1,5 @@
 -- Kinds of values: universal relations, and tableaux that are well typed.
+-- universe: a universal relation; well typed: constants and variables have their columns' kinds
 use Rattle.std.specs.Prelude.{◌≡◌, ℕ, List, map, length, All}
 use Rattle.su_base.specs.declared.values.Kind.{Kind}
 use Rattle.su_base.specs.declared.values.Value.{Value}

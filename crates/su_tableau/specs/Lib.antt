@@ -7,3 +7,4 @@ pub mod Freezing
 pub mod Essential
 pub mod Bytes
 pub mod inside
+pub mod Valuations

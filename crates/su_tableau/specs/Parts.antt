@@ -1,4 +1,5 @@
 -- Parts of a tableau. A set of row numbers is a number: its bit i is 1 where i is in the set.
+-- part: the rows of a set, with the same head
 use Rattle.std.specs.Prelude.{ℕ, zero, suc, ◌/◌, ◌%◌, List, [], ◌∷◌}
 use Rattle.su_tableau.specs.Tableaux.{Tab}
 

@@ -4,7 +4,7 @@ ghost use Rattle.std.specs.Int.{bit_at};
 ghost use Rattle.std.specs.FinSet as set;
 ghost use Rattle.su_tableau.specs.declared.symbols.Sym.{Sym as ASym};
 ghost use Rattle.su_tableau.specs.declared.symbols.Sym.TheVariants.{Var};
-ghost use Rattle.su_tableau.specs.Essential.{Holds, IsElsewhere, IsEssential, StandsIn};
+ghost use Rattle.su_tableau.specs.Essential.{HasSymbol, IsElsewhere, IsEssential, StandsElsewhere};
 
 use crate::masks::has;
 use crate::symbols::Sym;
@@ -67,7 +67,7 @@ fn left_out(i: usize, row: usize, column: u8) -> Option<usize>
 
 /// Whether the row holds the variable, at another column than the one that is left out.
 fn stands_in(row: &[Sym], k: u32, but: Option<usize>) -> bool
-    ensures { IsTrue result ↔ StandsIn row.now k but }
+    ensures { IsTrue result ↔ StandsElsewhere row.now k but }
 {
     for (c, x) in row.iter().enumerate() {
         if is_var(x, k) && but != Some(c) {

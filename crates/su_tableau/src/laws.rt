@@ -2,7 +2,8 @@
 ghost use Rattle.std.specs.Prelude.{◌≡◌, ◌≤◌, ◌↔◌, ℕ, List, length, All};
 ghost use Rattle.su_base.specs.declared.values.Value.{Value};
 ghost use Rattle.su_base.specs.declared.values.Kind.{Kind};
-ghost use Rattle.su_tableau.specs.Tableaux.{Tab, IsValid, Ext};
+ghost use Rattle.su_tableau.specs.Tableaux.{Tab, IsValid};
+ghost use Rattle.su_tableau.specs.Valuations.{Ext};
 ghost use Rattle.su_tableau.specs.Kinds.{Kinds, IsUniverse, IsTyped};
 ghost use Rattle.su_tableau.specs.Parts.{part};
 ghost use Rattle.su_tableau.specs.Mapping.{Maps};

@@ -1,7 +1,8 @@
 //! Whether a valuation sends every row of a tableau to a row of a relation.
 ghost use Rattle.std.specs.Prelude.{◌≡◌, ◌<◌, ◌↔◌, IsTrue, ℕ, length, Contains};
 ghost use Rattle.su_tableau.specs.declared.symbols.Sym.TheVariants.{Var};
-ghost use Rattle.su_tableau.specs.Tableaux.{AreBelow, AreVarsBelow, Sends, nth, value_of, values_of};
+ghost use Rattle.su_tableau.specs.Tableaux.{AreBelow, AreVarsBelow};
+ghost use Rattle.su_tableau.specs.Valuations.{Sends, nth, value_of, values_of};
 
 use crate::symbols::Sym;
 use crate::tableaux::Tableau;

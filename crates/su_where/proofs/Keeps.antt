@@ -14,7 +14,7 @@ use Rattle.su_where.specs.declared.conditions.Condition.TheOpen as open'
 use Rattle.su_where.specs.declared.conditions.Condition.TheVariants.{Compare, Not, All, Any, rolls-Compare, rolls-Not, rolls-All, rolls-Any}
 use Rattle.su_where.specs.declared.conditions.Condition.TheFolds.{map-Condition, ind-Condition}
 use Rattle.su_where.specs.Operator.{holds_in, complement_of}
-use Rattle.su_where.specs.Truth.{Cond, value_of, holds, truth_of}
+use Rattle.su_where.specs.Truth.{Cond, value_of_operand, holds, truth_of}
 use Rattle.su_where.specs.Disjunct.{opposite_of, pairs_of, combinations_of, joined, form_of, all_hold, some_holds, KeepsTruth}
 use Rattle.su_where.proofs.Layers.{truth_of-Compare, truth_of-Not, truth_of-All, truth_of-Any}
 use Rattle.su_where.proofs.Disjunctive.{forms, form_of-Compare, form_of-Not, form_of-All, form_of-Any}
@@ -135,7 +135,7 @@ one l vs = or-false (holds l vs && true) ∙ and-true (holds l vs)
 -- the same for one layer, from its parts
 kept_compare : (l : Literal) → IsKept (Compare l)
 kept_compare l true vs =
-    ap (λ ds. some_holds ds vs) (form_of-Compare l true) ∙ one (opposite_of l) vs ∙ complement-holds l.op (compare_values (value_of l.left vs) (value_of l.right vs))
+    ap (λ ds. some_holds ds vs) (form_of-Compare l true) ∙ one (opposite_of l) vs ∙ complement-holds l.op (compare_values (value_of_operand l.left vs) (value_of_operand l.right vs))
     ∙ ap not (sym (truth_of-Compare l vs))
 kept_compare l false vs = ap (λ ds. some_holds ds vs) (form_of-Compare l false) ∙ one l vs ∙ sym (truth_of-Compare l vs)
 

@@ -1,3 +1,4 @@
 pub mod Disjunct
 pub mod Operator
 pub mod Truth
+pub mod Fitting

@@ -1,7 +1,7 @@
 -- What a condition says of a list of values.
 -- place: a number i, which stands for the i-th value, from 0; operand: a place or a constant
 -- comparison: an operator between two operands; condition: comparisons under not, all of and any of
-use Rattle.std.specs.Prelude.{ℕ, ◌<◌, Bool, not, List, [], ◌∷◌, pos, get_or, flat_map, All as Each}
+use Rattle.std.specs.Prelude.{Bool, not, List, [], ◌∷◌, pos, get_or, flat_map}
 use Rattle.std.specs.List.{list_all, list_any}
 use Rattle.su_base.specs.declared.values.Value.{Value}
 use Rattle.su_base.specs.declared.values.Value.TheVariants.{Int}
@@ -14,13 +14,13 @@ use Rattle.su_where.specs.declared.conditions.Condition.TheFolds.{fold-Condition
 use Rattle.su_where.specs.Operator.{compares}
 
 -- the value that an operand stands for; a place past the end stands for 0
-abbrev pub value_of : Operand → List Value → Value
-value_of (Place i) values = get_or values i (Int (pos 0))
-value_of (Const value) values = value
+abbrev pub value_of_operand : Operand → List Value → Value
+value_of_operand (Place i) values = get_or values i (Int (pos 0))
+value_of_operand (Const value) values = value
 
 -- whether a comparison holds
 abbrev pub holds : Literal → List Value → Bool
-holds l values = compares l.op (value_of l.left values) (value_of l.right values)
+holds l values = compares l.op (value_of_operand l.left values) (value_of_operand l.right values)
 
 -- a condition on a list of values
 abbrev pub Cond : Type 0
@@ -47,16 +47,3 @@ comparisons_step (Any parts) = flat_map (λ p. p) parts
 -- the comparisons of a condition, from left to right
 abbrev pub comparisons_of : {C : Type 0} → Condition C → List C
 comparisons_of {C} = fold-Condition C (List C) comparisons_step
-
--- a place below n, or a constant
-abbrev pub IsBelow : ℕ → Operand → Type 0
-IsBelow n (Place i) = i < n
-IsBelow n (Const value) = Unit {0}
-
--- every place of a comparison is below n
-abbrev pub HasPlacesBelow : ℕ → Literal → Type 0
-HasPlacesBelow n l = IsBelow n l.left × IsBelow n l.right
-
--- every place of a condition is below n
-abbrev pub Fits : ℕ → Cond → Type 0
-Fits n c = Each (HasPlacesBelow n) (comparisons_of c)

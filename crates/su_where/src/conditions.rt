@@ -1,7 +1,8 @@
 //! Conditions, what they say of a row, and copies of them.
 ghost use Rattle.std.specs.Prelude.{◌≡◌, IfOk, length, All as Each};
 ghost use Rattle.std.specs.List.{list_all, list_any};
-ghost use Rattle.su_where.specs.Truth.{truth_of, Fits};
+ghost use Rattle.su_where.specs.Truth.{truth_of};
+ghost use Rattle.su_where.specs.Fitting.{Fits};
 
 use crate::literals::Literal;
 use std::alloc::Global;

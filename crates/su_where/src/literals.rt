@@ -1,6 +1,7 @@
 //! Comparisons between places and constants.
 ghost use Rattle.std.specs.Prelude.{◌≡◌, IfOk, length, if◌then◌else◌};
-ghost use Rattle.su_where.specs.Truth.{value_of, holds, IsBelow, HasPlacesBelow};
+ghost use Rattle.su_where.specs.Truth.{value_of_operand, holds};
+ghost use Rattle.su_where.specs.Fitting.{IsBelow, HasPlacesBelow};
 ghost use Rattle.su_where.specs.Disjunct.{opposite_of};
 
 use crate::operators::Op;
@@ -20,7 +21,7 @@ impl Operand {
     /// The value that the operand stands for.
     pub fn value<'a>(&'a self, values: &'a Row) -> &'a Value
         requires { IsBelow (length values.now) self.now }
-        ensures { result.now ≡ value_of self.now values.now }
+        ensures { result.now ≡ value_of_operand self.now values.now }
     {
         match self {
             Operand::Place(i) => values.get(*i as usize),

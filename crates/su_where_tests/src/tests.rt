@@ -1,4 +1,4 @@
-ghost use Rattle.su_where.specs.Truth.{Fits};
+ghost use Rattle.su_where.specs.Fitting.{Fits};
 
 use std::alloc::Global;
 use std::test::Fail;

@@ -14,14 +14,15 @@ use Rattle.su_base.proofs.Items.{Contains-map, Contains-map_source, All-members,
 use Rattle.su_fd.specs.declared.dependencies.Fd.{Fd}
 use Rattle.su_tableau.specs.declared.symbols.Sym.{Sym}
 use Rattle.su_tableau.specs.declared.symbols.Sym.TheVariants.{Const, Var}
-use Rattle.su_tableau.specs.Tableaux.{value_of, values_of}
+use Rattle.su_tableau.specs.Valuations.{value_of, values_of}
 use Rattle.su_tableau.specs.Kinds.{IsTyped}
 use Rattle.su_tableau.specs.Freezing.{size, new_value, frozen, top, row_top, rows_top}
 use Rattle.su_tableau.proofs.Freezing.{frozen_typed, size-new_value}
 use Rattle.su_classes.proofs.Listed.{map_same}
-use Rattle.su_schema.specs.SchemaValue.{ObjectEntry, attribute_kinds}
+use Rattle.su_schema.specs.SchemaValue.{ObjectEntry}
+use Rattle.su_schema.specs.Entries.{attribute_kinds}
 use Rattle.su_state.specs.DatabaseValue.{DatabaseValue, IsWellKept}
-use Rattle.su_chase.specs.Chase.{IsClosed, IsName}
+use Rattle.su_chase.specs.Chase.{IsClosedPartition, IsName}
 use Rattle.su_fd.specs.Meeting.{Agree, Meets}
 use Rattle.su_chase.specs.inside.Rows.{name_by, named_tab}
 use Rattle.su_chase.proofs.NamedAnswers as answering
@@ -88,7 +89,7 @@ module _ (fds : List Fd) (rows : List (List Sym)) (width : ℕ) (widths : All (�
       (λ (ge : width ≤ a). get_or_past r a d (omega (arith, ge, wide_r)) ∙ sym (get_or_past q a d (omega (arith, ge, wide_q))))
       (cases_lt a width)
 
-  frozen_meets : IsClosed fds rows (λ x. x) → Meets fds (map (values_of z) rows)
+  frozen_meets : IsClosedPartition fds rows (λ x. x) → Meets fds (map (values_of z) rows)
   frozen_meets closed g x y cg cx cy agree =
       let r = Contains-map_source (values_of z) rows x cx in
       let q = Contains-map_source (values_of z) rows y cy in

@@ -7,7 +7,6 @@ use Rattle.std.proofs.lemmas.Bool.{eqb-true, cases_Bool}
 use Rattle.std.proofs.lemmas.List.{length-map, get_or-map}
 use Rattle.std.proofs.lemmas.List.Elements.{All-contains}
 use Rattle.std.proofs.lemmas.Option.{slice_get_within, slice_get-get_or, get_or_from_slice_get, none-some, unwrap_or-slice_get}
-use Rattle.std.proofs.lemmas.List.{get_or-map}
 use Rattle.su_base.specs.declared.values.Kind.{Kind}
 use Rattle.su_base.specs.declared.values.Kind.TheVariants.{Int as IntKind}
 use Rattle.su_base.specs.declared.values.Column.{Column}
@@ -16,9 +15,11 @@ use Rattle.su_base.specs.declared.values.Value.TheVariants.{Int}
 use Rattle.su_base.specs.Value.{kind_of}
 use Rattle.su_base.proofs.Items.{Contains-later}
 use Rattle.su_schema.specs.declared.links.Link.{Link}
-use Rattle.su_schema.specs.SchemaValue.{SchemaValue, AttributeEntry, ObjectEntry, IsObject, IsLink, attribute_kinds, attributes_of, column_of}
-use Rattle.su_schema.specs.Checks.{columns_at}
-use Rattle.su_state.specs.DatabaseValue.{DatabaseValue, IsWellKept, IsTyped, columns_of}
+use Rattle.su_schema.specs.SchemaValue.{SchemaValue, AttributeEntry, ObjectEntry}
+use Rattle.su_schema.specs.Valid.{IsObject, IsLink}
+use Rattle.su_schema.specs.Entries.{attribute_kinds, attributes_of, column_of}
+use Rattle.su_schema.specs.Known.{columns_at}
+use Rattle.su_state.specs.DatabaseValue.{DatabaseValue, IsWellKept, HasColumnKinds, columns_of}
 use Rattle.su_state.proofs.Columns.{column_within, column_of_attribute, object_on, relation_at}
 use Rattle.su_chase.proofs.Images.{map_read}
 use Rattle.su_schema.specs.Cuts.{width, attributes_at}
@@ -83,7 +84,7 @@ module _ (db : DatabaseValue) (kept : IsWellKept db) (o : ℕ) (low : o < length
   relation_low = let l = object_on db.schema o object kept.valid placed in let k = kept.tables in omega (arith, l, k)
 
   row_kinds : (row : List Value) → Contains (rows_under db o) row → map kind_of row ≡ map (λ (c : Column). c.kind) (columns_of db object.relation)
-  row_kinds row c = All-contains (IsTyped (columns_of db object.relation)) (rows_under db o) row (kept.typed object.relation relation_low) c
+  row_kinds row c = All-contains (HasColumnKinds (columns_of db object.relation)) (rows_under db o) row (kept.typed object.relation relation_low) c
 
   pub row_long : (row : List Value) → Contains (rows_under db o) row → length row ≡ length (columns_at db.schema object.relation)
   row_long row c = sym (length-map row kind_of) ∙ ap (λ (ks : List Kind). length ks) (row_kinds row c) ∙ length-map (columns_of db object.relation) (λ (c : Column). c.kind)

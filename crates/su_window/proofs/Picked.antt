@@ -15,9 +15,10 @@ use Rattle.su_base.specs.Value.{kind_of}
 use Rattle.su_base.proofs.Items.{Contains-map, Contains-map_source, All-members, get_or-map_range, map-map_equal}
 use Rattle.su_tableau.specs.declared.symbols.Sym.{Sym}
 use Rattle.su_tableau.specs.declared.symbols.Sym.TheVariants.{Const, Var}
-use Rattle.su_tableau.specs.Tableaux.{value_of, values_of, Sends}
+use Rattle.su_tableau.specs.Valuations.{value_of, values_of, Sends}
 use Rattle.su_classes.proofs.Listed.{map_same}
-use Rattle.su_schema.specs.SchemaValue.{ObjectEntry, attribute_kinds}
+use Rattle.su_schema.specs.SchemaValue.{ObjectEntry}
+use Rattle.su_schema.specs.Entries.{attribute_kinds}
 use Rattle.su_state.specs.DatabaseValue.{DatabaseValue, IsWellKept}
 use Rattle.su_chase.specs.Chase.{IsName, IsClash}
 use Rattle.su_fd.specs.Meeting.{Agree}

@@ -16,7 +16,9 @@ use Rattle.su_tableau.specs.declared.symbols.Sym.{Sym}
 use Rattle.su_tableau.specs.declared.symbols.Sym.TheVariants.{Const, Var}
 use Rattle.su_tableau.specs.Tableaux.{Tab}
 use Rattle.su_tableau.specs.Kinds.{sym_kind, IsTyped}
-use Rattle.su_schema.specs.SchemaValue.{AttributeEntry, IsDependency, attribute_kinds, attributes_of}
+use Rattle.su_schema.specs.SchemaValue.{AttributeEntry}
+use Rattle.su_schema.specs.Valid.{IsDependency}
+use Rattle.su_schema.specs.Entries.{attribute_kinds, attributes_of}
 use Rattle.su_state.specs.DatabaseValue.{DatabaseValue, IsWellKept}
 use Rattle.su_state.proofs.Columns.{column_of_attribute}
 use Rattle.su_chase.specs.Chased.{IsFdBelow, AreRows}

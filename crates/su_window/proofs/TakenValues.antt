@@ -12,7 +12,8 @@ use Rattle.su_base.specs.declared.values.Value.TheVariants.{Int}
 use Rattle.su_base.proofs.Items.{All-members, map-range_push, get_or-map_range}
 use Rattle.su_tableau.specs.declared.symbols.Sym.TheVariants.{Const, Var}
 use Rattle.su_rel.specs.Stored.{Stored}
-use Rattle.su_schema.specs.SchemaValue.{SchemaValue, ObjectEntry, column_of, attributes_of}
+use Rattle.su_schema.specs.SchemaValue.{SchemaValue, ObjectEntry}
+use Rattle.su_schema.specs.Entries.{column_of, attributes_of}
 use Rattle.su_index.specs.Tables.{table_at}
 use Rattle.su_state.specs.DatabaseValue.{DatabaseValue, IsWellKept}
 use Rattle.su_state.proofs.Columns.{column_answered}

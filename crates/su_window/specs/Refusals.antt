@@ -1,4 +1,5 @@
 -- Why a window is refused.
+-- clash: two constants that the dependencies make equal in the padded rows; members: as in Members
 use Rattle.std.specs.Prelude.{◌≤◌, List, length}
 use Rattle.su_base.specs.declared.values.Value.{Value}
 use Rattle.su_chase.specs.Chase.{IsClash}

@@ -5,7 +5,7 @@ use Rattle.std.specs.Prelude.{◌≡◌, ℕ, ◌<◌, pos, List, map, length, g
 use Rattle.su_base.specs.declared.values.Value.{Value}
 use Rattle.su_base.specs.declared.values.Value.TheVariants.{Int}
 use Rattle.su_tableau.specs.Kinds.{IsUniverse}
-use Rattle.su_schema.specs.SchemaValue.{attribute_kinds}
+use Rattle.su_schema.specs.Entries.{attribute_kinds}
 use Rattle.su_fd.specs.Meeting.{Meets}
 use Rattle.su_state.specs.DatabaseValue.{DatabaseValue}
 use Rattle.su_schema.specs.Cuts.{cuts}

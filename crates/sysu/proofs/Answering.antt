@@ -16,8 +16,9 @@ use Rattle.su_state.specs.DatabaseValue.{DatabaseValue, IsWellKept}
 use Rattle.su_session.specs.Opening.{empty_database}
 use Rattle.su_session.specs.Reply.{Replied}
 use Rattle.sysu.specs.Moments.{Told, HandedEach, WroteWhole}
-use Rattle.sysu.specs.Output.{Answered, IsHanded, output_of, some_refused, texts_of, text_at}
-use Rattle.sysu.specs.Statements.{WroteFrontOf}
+use Rattle.sysu.specs.Output.{Answered, output_of, some_refused, texts_of, text_at}
+use Rattle.sysu.specs.Handed.{IsHanded}
+use Rattle.sysu.specs.Written.{WroteFrontOf}
 
 -- the statements at these spans were answered, and their replies written
 pub record SoFar (files : Option (List File)) (script : List ℕ) (spans : List Span) (first last : DatabaseValue) (refused : Bool) (old new : Told) : Type 0 where

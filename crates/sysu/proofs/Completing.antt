@@ -17,8 +17,9 @@ use Rattle.sysu.specs.Checks.{CheckEnds}
 use Rattle.sysu.specs.Closing.{Closes, HandsOver, FailedToHandOver}
 use Rattle.sysu.specs.Complete.{IsUntroubled, Finished, IsComplete}
 use Rattle.sysu.specs.Moments.{Moment, Told}
-use Rattle.sysu.specs.Output.{AnswersBefore, LoadsFrom, load_limit}
-use Rattle.sysu.specs.Statements.{StoppedAtLoad}
+use Rattle.sysu.specs.Scripts.{AnswersBefore, LoadsFrom}
+use Rattle.sysu.specs.Handed.{load_limit}
+use Rattle.sysu.specs.Written.{StoppedAtLoad}
 use Rattle.sysu.specs.Statuses.{Comes, RunEnds, UsageEnds}
 use Rattle.sysu.specs.Words.{Named, named, Generates}
 

@@ -10,10 +10,12 @@ use Rattle.su_session.specs.Opening.{empty_database}
 use Rattle.sysu.specs.declared.status.Status.{Status}
 use Rattle.sysu.specs.declared.status.Status.TheVariants.{Done, SomeRefused, Usage, BadSchema, ReadFault, WriteFault, TooLong, NoMemory}
 use Rattle.sysu.specs.Moments.{Moment, NoFault}
-use Rattle.sysu.specs.Output.{IsFile}
+use Rattle.sysu.specs.Handed.{IsFile}
 use Rattle.sysu.specs.inside.Reads.{FileEnds}
 use Rattle.sysu.specs.Statements.{ScriptEnds, TookLoads}
-use Rattle.sysu.specs.Statuses.{SchemaIs, OfFiles, RefusalEnds, RunEnds, TookWithin, schema_limit, script_limit}
+use Rattle.sysu.specs.RunFiles.{SchemaIs, OfFiles, schema_limit, script_limit}
+use Rattle.sysu.specs.Statuses.{RefusalEnds, RunEnds}
+use Rattle.sysu.specs.Taken.{TookWithin}
 use Rattle.sysu.specs.Words.{Named}
 
 -- the schema file was read, and is refused

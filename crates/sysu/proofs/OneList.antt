@@ -9,10 +9,13 @@ use Rattle.su_state.specs.DatabaseValue.{DatabaseValue, IsWellKept}
 use Rattle.su_session.specs.Opening.{empty_database}
 use Rattle.su_session.specs.declared.replies.Reply.{Reply}
 use Rattle.su_session.specs.declared.wants.Want.TheVariants.{Nothing, File}
-use Rattle.su_session.specs.Reply.{Replied, Wants}
+use Rattle.su_session.specs.Reply.{Replied}
+use Rattle.su_session.specs.Wanting.{Wants}
 use Rattle.su_once.specs.States.{AreAlike}
 use Rattle.su_once.proofs.Replied.{one_reply, one_want}
-use Rattle.sysu.specs.Output.{IsHanded, Answered, AnswersAll, AnswersBefore, load_limit, text_at, texts_of}
+use Rattle.sysu.specs.Handed.{IsHanded, load_limit}
+use Rattle.sysu.specs.Output.{Answered, text_at, texts_of}
+use Rattle.sysu.specs.Scripts.{AnswersAll, AnswersBefore}
 use Rattle.sysu.proofs.OneBank.{itself}
 
 not_nothing : (path : List ℕ) → Nothing ≡ File path → ⊥

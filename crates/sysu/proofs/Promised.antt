@@ -11,9 +11,11 @@ use Rattle.sysu.specs.declared.status.Status.{Status}
 use Rattle.sysu.specs.declared.status.Status.TheVariants.{Done, SomeRefused}
 use Rattle.sysu.specs.Moments.{Moment}
 use Rattle.sysu.specs.Closing.{HandsOver}
-use Rattle.sysu.specs.Statements.{WroteAll}
-use Rattle.sysu.specs.Statuses.{OfFiles, RunEnds, Comes}
-use Rattle.sysu.specs.Headline.{IsReplyTo, QueriesAreAnswered, IsAnsweredRun, Headline}
+use Rattle.sysu.specs.Written.{WroteAll}
+use Rattle.sysu.specs.RunFiles.{OfFiles}
+use Rattle.sysu.specs.Statuses.{RunEnds, Comes}
+use Rattle.sysu.specs.RepliesTo.{IsReplyTo}
+use Rattle.sysu.specs.Headline.{QueriesAreAnswered, IsAnsweredRun, Headline}
 use Rattle.sysu.specs.Words.{Named}
 
 module _ (answered : RetrievesAreAnswered) (least : PreparedRowsAreLeast) (expression : AnswersAreTheExpression) where

@@ -12,13 +12,14 @@ use Rattle.su_io.specs.declared.files.File.{File}
 use Rattle.sysu.proofs.Answering.{SoFar, front_more}
 use Rattle.sysu.specs.declared.status.Status.{Status}
 use Rattle.sysu.specs.declared.status.Status.TheVariants.{Done, SomeRefused, Usage, BadSchema, ReadFault, WriteFault, TooLong, NoMemory}
-use Rattle.sysu.specs.inside.Handing.{Place, Began, TookOne}
+use Rattle.sysu.specs.inside.Handing.{Shelved, Began, TookOne}
 use Rattle.sysu.specs.Moments.{Moment, NoFault}
 use Rattle.sysu.specs.Output.{Answered, text_at, texts_of}
-use Rattle.sysu.specs.Statements.{ScriptEnds, StoppedAtLoad, TookLoads, WroteAll}
+use Rattle.sysu.specs.Statements.{ScriptEnds, TookLoads}
+use Rattle.sysu.specs.Written.{StoppedAtLoad, WroteAll}
 use Rattle.sysu.specs.inside.Turns.{Sunk, TurnEnds}
 
-abbrev pub place_of : Moment → Place
+abbrev pub place_of : Moment → Shelved
 place_of m = record { begun = m.begun; taken = m.taken; failed = m.failed; faults = m.reads }
 
 abbrev pub sink_of : Moment → Sunk
@@ -26,7 +27,7 @@ sink_of m = record { told = m.told; faults = m.writes }
 
 -- after one more statement, the one at place i, which took the file of a load or none
 pub took_more : (files : Option (List File)) (first : DatabaseValue) (script : List ℕ) (spans : List Span) (i : ℕ) (d : Span) (replies : List Reply) (db : DatabaseValue)
-    (begun : Option (List ℕ)) (taken : ℕ) (before after : Place)
+    (begun : Option (List ℕ)) (taken : ℕ) (before after : Shelved)
     → Pieces script spans → i < length spans → Answered files first (texts_of script (take i spans)) replies db
     → TookLoads files first script begun taken before.begun before.taken → TookOne db (text_at script (get_or spans i d)) before after
     → TookLoads files first script begun taken after.begun after.taken

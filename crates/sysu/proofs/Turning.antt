@@ -3,22 +3,22 @@ use Rattle.std.proofs.Common.{◌≡◌, ℕ, List, Option, Some, None, Result, 
 use Rattle.su_io.specs.declared.files.File.{File}
 use Rattle.su_state.specs.DatabaseValue.{DatabaseValue}
 use Rattle.su_session.specs.declared.wants.Want.TheVariants.{File as AFile}
-use Rattle.su_session.specs.Reply.{Wants}
+use Rattle.su_session.specs.Wanting.{Wants}
 use Rattle.sysu.specs.declared.status.Status.{Status}
 use Rattle.sysu.specs.declared.status.Status.TheVariants.{Done, SomeRefused, Usage, BadSchema, ReadFault, WriteFault, TooLong, NoMemory}
-use Rattle.sysu.specs.inside.Handing.{Place, HandingEnds, TookOne}
+use Rattle.sysu.specs.inside.Handing.{Shelved, HandingEnds, TookOne}
 use Rattle.sysu.specs.inside.Reads.{FileEnds}
 use Rattle.sysu.specs.inside.Turns.{Sunk, TurnEnds}
-use Rattle.sysu.specs.Output.{IsHanded, load_limit}
+use Rattle.sysu.specs.Handed.{IsHanded, load_limit}
 
 -- no fault, no more than the limit was taken, and the bytes are those of the file that is wanted
-pub handed_well : (db : DatabaseValue) (text : List ℕ) (files : Option (List File)) (before after : Place) (file : Option (List ℕ)) → HandingEnds db text files before after (Ok file)
+pub handed_well : (db : DatabaseValue) (text : List ℕ) (files : Option (List File)) (before after : Shelved) (file : Option (List ℕ)) → HandingEnds db text files before after (Ok file)
     → (after.faults ≡ before.faults) × TookOne db text before after × IsHanded files db text file
 handed_well db text files before after None ends = (ends.1.faults, inl ends.1, ends.0)
 handed_well db text files before after (Some bytes) ends = (ends.2, inr (ends.0, ends.1, ends.2, ends.3), (ends.0, ends.1.wanted, ends.4, ends.5))
 
 -- the file that is wanted was begun: how its reading ends is how it is handed over
-module _ (db : DatabaseValue) (text path : List ℕ) (files : Option (List File)) (before after : Place) (wanted : Wants db text (AFile path)) (begun : after.begun ≡ Some path) where
+module _ (db : DatabaseValue) (text path : List ℕ) (files : Option (List File)) (before after : Shelved) (wanted : Wants db text (AFile path)) (begun : after.begun ≡ Some path) where
   pub handed_file : (bytes : List ℕ) → FileEnds files path load_limit before.faults after.faults after.taken after.failed (Ok bytes) → HandingEnds db text files before after (Ok (Some bytes))
   handed_file bytes ends = (path, record { wanted = wanted; begun = begun }, ends.0, ends.2, ends.1, ends.3)
 
@@ -33,7 +33,7 @@ module _ (db : DatabaseValue) (text path : List ℕ) (files : Option (List File)
   handed_fault WriteFault ends = ends
 
 -- where the file isn't handed over, the statement ends as its handing does
-pub turn_fault : (db : DatabaseValue) (text : List ℕ) (files : Option (List File)) (before after : Place) (sunk : Sunk) (status : Status) → HandingEnds db text files before after (Err status)
+pub turn_fault : (db : DatabaseValue) (text : List ℕ) (files : Option (List File)) (before after : Shelved) (sunk : Sunk) (status : Status) → HandingEnds db text files before after (Err status)
     → TurnEnds files db text db before after sunk sunk (Err status)
 turn_fault db text files before after sunk ReadFault ends = (ends, refl)
 turn_fault db text files before after sunk TooLong ends = (ends, refl)

@@ -24,9 +24,13 @@ use Rattle.sysu.specs.Causes.{Caused}
 use Rattle.sysu.specs.Checks.{IsYes, IsNo, OfVerdict, check_limit}
 use Rattle.sysu.specs.Closing.{HandsOver}
 use Rattle.sysu.specs.Moments.{Moment, Told, WroteWhole}
-use Rattle.sysu.specs.Output.{IsFile, IsOver, AnswersAll, AnswersBefore, load_limit, output_of, some_refused}
-use Rattle.sysu.specs.Statements.{WroteAll, StoppedAtLoad, BeganOver}
-use Rattle.sysu.specs.Statuses.{OfFiles, SchemaIs, TookTooMuch, Comes, schema_limit, script_limit}
+use Rattle.sysu.specs.Handed.{IsFile, IsOver, load_limit}
+use Rattle.sysu.specs.Scripts.{AnswersAll, AnswersBefore}
+use Rattle.sysu.specs.Output.{output_of, some_refused}
+use Rattle.sysu.specs.Written.{WroteAll, StoppedAtLoad, BeganOver}
+use Rattle.sysu.specs.RunFiles.{OfFiles, SchemaIs, schema_limit, script_limit}
+use Rattle.sysu.specs.Taken.{TookTooMuch}
+use Rattle.sysu.specs.Statuses.{Comes}
 use Rattle.sysu.specs.Words.{Named, named, checks, Generates, usage_line}
 use Rattle.sysu.proofs.OneBank.{Asks, for_bank, for_none, asked, one_bank}
 use Rattle.sysu.proofs.OneList.{one_list_of_replies, one_list_before, stopped_or_all}

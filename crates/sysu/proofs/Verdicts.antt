@@ -5,7 +5,7 @@ use Rattle.su_check.specs.Verdict.{IsVerdict}
 use Rattle.sysu.specs.declared.status.Status.{Status}
 use Rattle.sysu.specs.declared.status.Status.TheVariants.{Done, SomeRefused, Usage, BadSchema, ReadFault, WriteFault, TooLong, NoMemory}
 use Rattle.sysu.specs.Moments.{Moment}
-use Rattle.sysu.specs.Output.{IsFile}
+use Rattle.sysu.specs.Handed.{IsFile}
 use Rattle.sysu.specs.Checks.{check_limit, OfVerdict, LineEnds, CheckEnds}
 
 module _ (file : List ℕ) (old new : Moment) (bytes : List ℕ) (verdict : Checked) (is_file : IsFile old.files file bytes) (fits : length bytes ≤ check_limit)

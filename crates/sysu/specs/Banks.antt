@@ -1,4 +1,5 @@
 -- How `generate N` ends.
+-- bank: as in su_bank; told: of the sink
 use Rattle.std.specs.Prelude.{◌≡◌, ◌≤◌, ℕ, List}
 use Rattle.su_io.specs.Causes.{Rose}
 use Rattle.su_bank.specs.Banks.{IsBankText}

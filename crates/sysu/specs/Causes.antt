@@ -1,4 +1,5 @@
 -- A fault of the outside is answered only where a count of faults rose.
+-- rose: a call failed; stands: none did
 use Rattle.std.specs.Prelude.{◌≡◌, ℕ}
 use Rattle.su_io.specs.Causes.{Rose}
 use Rattle.sysu.specs.declared.status.Status.{Status}

@@ -10,7 +10,7 @@ use Rattle.su_show.specs.Verdicts.{verdict_line}
 use Rattle.sysu.specs.declared.status.Status.{Status}
 use Rattle.sysu.specs.declared.status.Status.TheVariants.{Done, SomeRefused, ReadFault, WriteFault, TooLong, NoMemory}
 use Rattle.sysu.specs.Moments.{Told, Moment, NoFault, WroteFront, WroteWhole}
-use Rattle.sysu.specs.Output.{IsFile, IsOver}
+use Rattle.sysu.specs.Handed.{IsFile, IsOver}
 
 -- 16 MiB
 abbrev pub check_limit : ℕ

@@ -1,4 +1,5 @@
 -- What a run, or the making of a bank, comes to where nothing of the outside stands in its way.
+-- untroubled: no call of the outside fails, and no file is past its limit
 use Rattle.std.specs.Prelude.{◌≡◌, ◌≤◌, ◌⊎◌, ℕ, List, Bool, true, false, Some, Ok, length}
 use Rattle.su_io.specs.Causes.{Rose}
 use Rattle.su_io.specs.declared.files.File.{File as AFile}
@@ -10,9 +11,10 @@ use Rattle.sysu.specs.declared.status.Status.{Status}
 use Rattle.sysu.specs.declared.status.Status.TheVariants.{Done, SomeRefused, NoMemory}
 use Rattle.sysu.specs.Banks.{WroteBank}
 use Rattle.sysu.specs.Moments.{Moment}
-use Rattle.sysu.specs.Output.{LoadsFrom, load_limit}
-use Rattle.sysu.specs.Statements.{WroteAll}
-use Rattle.sysu.specs.Statuses.{OfFiles, schema_limit, script_limit}
+use Rattle.sysu.specs.Scripts.{LoadsFrom}
+use Rattle.sysu.specs.Handed.{load_limit}
+use Rattle.sysu.specs.Written.{WroteAll}
+use Rattle.sysu.specs.RunFiles.{OfFiles, schema_limit, script_limit}
 use Rattle.sysu.specs.Words.{Named, named, Generates}
 
 -- the schema is accepted, and no file is past its limit

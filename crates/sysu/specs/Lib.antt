@@ -11,3 +11,9 @@ pub mod Output
 pub mod Statements
 pub mod Statuses
 pub mod Words
+pub mod RepliesTo
+pub mod Handed
+pub mod Scripts
+pub mod Written
+pub mod RunFiles
+pub mod Taken

@@ -1,61 +1,19 @@
 -- How a run ends: each status with its cause, and what was written.
-use Rattle.std.specs.Prelude.{◌≡◌, ◌<◌, ◌≤◌, ◌^◌, ◌⊎◌, ℕ, List, Option, Some, None, true, false, Result, Ok, Err, length}
+-- ends: by the status, what the shelf and the sink tell before and after
+use Rattle.std.specs.Prelude.{◌≡◌, ◌<◌, ◌≤◌, ◌⊎◌, ℕ, List, Some, None, true, false, Err}
 use Rattle.su_io.specs.Causes.{Rose}
 use Rattle.sysu.specs.declared.status.Status.{Status}
 use Rattle.sysu.specs.declared.status.Status.TheVariants.{Done, SomeRefused, Usage, BadSchema, ReadFault, WriteFault, TooLong, NoMemory}
 use Rattle.sysu.specs.Moments.{Told, Moment, NoFault, WroteFront, WroteWhole}
 use Rattle.sysu.specs.Words.{Named, named, checks, Generates, usage_line}
 use Rattle.su_ddl.specs.declared.faults.DdlFault.{DdlFault}
-use Rattle.su_ddl.specs.Reading.{Reads}
-use Rattle.su_schema.specs.SchemaValue.{SchemaValue}
-use Rattle.su_session.specs.Opening.{empty_database}
 use Rattle.su_show.specs.Refusals.{schema_line, IsOfText}
-use Rattle.sysu.specs.Output.{IsFile, IsOver, LoadsFrom, load_limit}
+use Rattle.sysu.specs.Handed.{load_limit}
 use Rattle.sysu.specs.Checks.{CheckEnds}
 use Rattle.sysu.specs.Banks.{GenerateEnds}
-use Rattle.sysu.specs.Statements.{BeganOver, StoppedAtLoad, WroteAll, WroteFirst, WroteFrontOf}
-
--- 1 MiB
-abbrev pub schema_limit : ℕ
-schema_limit = 2 ^ 20
-
--- 16 MiB
-abbrev pub script_limit : ℕ
-script_limit = 2 ^ 24
-
--- the schema file is within its limit, and is read as this
-pub record SchemaIs (names : Named) (old : Moment) (outcome : Result SchemaValue DdlFault) : Type 0 where
-  pub bytes : List ℕ
-  pub is_schema : IsFile old.files names.schema bytes
-  pub fits : length bytes ≤ schema_limit
-  pub reads : Reads bytes outcome
-
--- the schema file is accepted, and a fact of the schema and of the bytes of the script; neither file is past its limit
-pub record OfFiles (names : Named) (old : Moment) (P : SchemaValue → List ℕ → Type 0) : Type 0 where
-  pub schema : SchemaValue
-  pub accepted : SchemaIs names old (Ok schema)
-  pub script : List ℕ
-  pub is_script : IsFile old.files names.script script
-  pub script_fits : length script ≤ script_limit
-  pub holds : P schema script
-
--- the name last begun is that of the file due: the schema's, and the script's once the schema is accepted
-abbrev pub BeganDue : Named → Moment → Moment → Type 0
-BeganDue names old new = (new.begun ≡ Some names.schema) ⊎ ((new.begun ≡ Some names.script) × ((schema : SchemaValue) × SchemaIs names old (Ok schema)))
-
--- the file due is past its limit, and more than that was taken of it
-abbrev pub TookTooMuch : Named → Moment → Moment → Type 0
-TookTooMuch names old new =
-    ((new.begun ≡ Some names.schema) × (schema_limit < new.taken) × IsOver old.files names.schema schema_limit)
-    ⊎ ((new.begun ≡ Some names.script) × (script_limit < new.taken) × IsOver old.files names.script script_limit × ((schema : SchemaValue) × SchemaIs names old (Ok schema)))
-
--- no more than its limit was taken of the file begun last, if one was begun at all
-abbrev pub TookWithin : Named → Moment → Moment → Type 0
-TookWithin names old new =
-    ((new.begun ≡ old.begun) × (new.taken ≡ old.taken))
-    ⊎ (((new.begun ≡ Some names.schema) × (new.taken ≤ schema_limit))
-    ⊎ (((new.begun ≡ Some names.script) × (new.taken ≤ script_limit))
-    ⊎ OfFiles names old (λ schema script. (path : List ℕ) × LoadsFrom old.files (empty_database schema) script path × (new.begun ≡ Some path) × (new.taken ≤ load_limit))))
+use Rattle.sysu.specs.Written.{BeganOver, StoppedAtLoad, WroteAll, WroteFirst, WroteFrontOf}
+use Rattle.sysu.specs.RunFiles.{schema_limit, SchemaIs, OfFiles}
+use Rattle.sysu.specs.Taken.{BeganDue, TookTooMuch, TookWithin}
 
 -- how the line for a refused schema ends: what was written, and the sink's count of faults before and after
 abbrev pub RefusalEnds : DdlFault → Told → ℕ → Told → ℕ → Status → Type 0

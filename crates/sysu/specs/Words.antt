@@ -1,4 +1,5 @@
 -- What the words of the command line ask for.
+-- word: one of the command line, without the program's name
 use Rattle.std.specs.Prelude.{◌≡◌, ◌≤◌, ℕ, decimal, ◌&&◌, Bool, false, List, [], ◌∷◌, ◌++◌, Option, Some, None, cond, codes, bytes_eq, nat_eq, nat_lt}
 
 -- the two files that a run reads

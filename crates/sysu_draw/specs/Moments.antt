@@ -1,4 +1,5 @@
 -- The outside before a run and after it.
+-- output: what the sink tells
 use Rattle.std.specs.Prelude.{◌≡◌, ◌≤◌, ℕ, List, Option, length, take}
 use Rattle.su_io.specs.declared.files.File.{File}
 use Rattle.su_io.specs.Causes.{Rose}

@@ -2,7 +2,8 @@
 ghost use Rattle.std.specs.Prelude.{◌≡◌, ◌≤◌, IfOk, length};
 ghost use Rattle.su_io.specs.Ends.{Grew};
 ghost use Rattle.sysu_draw.specs.Moments.{Output, Wrote, WroteFront};
-ghost use Rattle.sysu_draw.specs.Ends.{IsReply, TextEnds, UsageEnds, fault_line};
+ghost use Rattle.sysu_draw.specs.TextEnds.{IsReply, TextEnds, fault_line};
+ghost use Rattle.sysu_draw.specs.Ends.{UsageEnds};
 
 use crate::status::Status;
 use std::alloc::Global;

@@ -3,3 +3,4 @@ pub mod Moments
 pub mod Reads
 pub mod Ends
 pub mod Runs
+pub mod RunFiles

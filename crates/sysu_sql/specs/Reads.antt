@@ -1,4 +1,5 @@
 -- How the reading of a file ends, and what is known of a file that was read.
+-- told: the files of the shelf, where it tells them
 use Rattle.std.specs.Prelude.{◌≡◌, ◌≤◌, ◌<◌, ℕ, List, Option, Result, Ok, Err, length}
 use Rattle.su_io.specs.declared.files.File.{File}
 use Rattle.su_io.specs.Causes.{Rose}

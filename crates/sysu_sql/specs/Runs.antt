@@ -1,9 +1,8 @@
 -- How a run on two files ends: each status with its cause, and what was written.
 -- refusal: the line for a schema that is refused; script: the SQL of its statements
-use Rattle.std.specs.Prelude.{◌≡◌, ◌^◌, ◌⊎◌, ℕ, List, true, false, Ok, Err}
+use Rattle.std.specs.Prelude.{◌≡◌, ◌⊎◌, ℕ, List, true, false}
 use Rattle.su_io.specs.Causes.{Rose}
 use Rattle.su_ddl.specs.declared.faults.DdlFault.{DdlFault}
-use Rattle.su_ddl.specs.Reading.{Reads}
 use Rattle.su_schema.specs.SchemaValue.{SchemaValue}
 use Rattle.su_show.specs.Refusals.{schema_line, IsOfText}
 use Rattle.su_session.specs.declared.replies.Reply.{Reply}
@@ -14,14 +13,7 @@ use Rattle.sysu_sql.specs.declared.status.Status.TheVariants.{Done, SomeRefused,
 use Rattle.sysu_sql.specs.Moments.{Output, Moment, Wrote, WroteFront}
 use Rattle.sysu_sql.specs.Reads.{OfText, IsOver}
 use Rattle.sysu_sql.specs.Words.{Named}
-
--- 1 MiB
-abbrev pub schema_limit : ℕ
-schema_limit = 2 ^ 20
-
--- 16 MiB
-abbrev pub script_limit : ℕ
-script_limit = 2 ^ 24
+use Rattle.sysu_sql.specs.RunFiles.{schema_limit, script_limit, OfSchema, OfRefusal}
 
 -- how the line for a refused schema ends
 abbrev pub RefusalEnds : DdlFault → Output → Output → Status → Type 0
@@ -41,14 +33,6 @@ ScriptEnds d schema script old new SomeRefused = OfSql d schema script (λ reply
 ScriptEnds d schema script old new WriteFault = OfSql d schema script (λ reply. WroteFront old new reply.bytes)
 ScriptEnds d schema script old new NoMemory = new ≡ old
 ScriptEnds d schema script old new _ = ⊥
-
--- the schema's file is accepted, and a fact of the schema
-abbrev pub OfSchema : Named → Moment → (SchemaValue → Type 0) → Type 0
-OfSchema names old P = OfText old.files names.schema schema_limit (λ bytes. (schema : SchemaValue) × Reads bytes (Ok schema) × P schema)
-
--- the schema's file is refused, and a fact of the fault
-abbrev pub OfRefusal : Named → Moment → (DdlFault → Type 0) → Type 0
-OfRefusal names old P = OfText old.files names.schema schema_limit (λ bytes. (fault : DdlFault) × Reads bytes (Err fault) × P fault)
 
 -- both files are read, and a run on their bytes ends so
 abbrev pub OfScript : Named → Moment → Moment → Status → Type 0

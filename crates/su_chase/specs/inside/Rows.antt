@@ -9,10 +9,11 @@ use Rattle.su_base.specs.declared.values.Value.TheVariants.{Int, Text}
 use Rattle.su_fd.specs.declared.dependencies.Fd.{Fd}
 use Rattle.su_tableau.specs.declared.symbols.Sym.{Sym}
 use Rattle.su_tableau.specs.declared.symbols.Sym.TheVariants.{Const, Var}
-use Rattle.su_tableau.specs.Tableaux.{Tab, nth}
+use Rattle.su_tableau.specs.Tableaux.{Tab}
+use Rattle.su_tableau.specs.Valuations.{nth}
 use Rattle.su_classes.specs.declared.items.Placed.{Placed}
-use Rattle.su_classes.specs.inside.Symbols.{number_of}
-use Rattle.su_classes.specs.Tables.{rep, IsLeast}
+use Rattle.su_classes.specs.inside.Symbols.{symbol_number}
+use Rattle.su_classes.specs.Tables.{rep, IsLeastTable}
 use Rattle.su_chase.specs.declared.candidates.Next.{Next}
 use Rattle.su_chase.specs.Frozen.{candidate}
 
@@ -29,7 +30,7 @@ constants_in rows = flat_map (λ row. flat_map constant_of row) rows
 
 -- the row of items of a row of symbols: an item at each attribute below its length
 pub record IsPlacedRow (constants : List Value) (row : List Sym) (placed : Placed) : Type 0 where
-  pub cells : placed.cells ≡ map (number_of constants) row
+  pub cells : placed.cells ≡ map (symbol_number constants) row
   pub has : (a : ℕ) → IsTrue (contains placed.has a) ↔ (a < length row)
 
 -- the table of the least classes of the rows' items
@@ -38,7 +39,7 @@ pub record IsTableOf (constants : List Value) (limit : ℕ) (fds : List Fd) (row
   pub each : length placed ≡ length rows
   pub are : (i : ℕ) (d : Placed) → i < length rows → IsPlacedRow constants (get_or rows i []) (get_or placed i d)
   pub size : length table ≡ length constants + limit
-  pub least : IsLeast fds placed [] table
+  pub least : IsLeastTable fds placed [] table
 
 -- of the first items, those that are not their own representatives: the item with the least one, and the first of these
 abbrev pub IsFirstClash : ℕ → List ℕ → Option ℕ → Type 0

@@ -7,9 +7,9 @@ use Rattle.su_tableau.specs.declared.symbols.Sym.{Sym}
 use Rattle.su_tableau.specs.declared.symbols.Sym.TheVariants.{Var}
 use Rattle.su_check.specs.declared.boards.Board.{Board}
 use Rattle.su_check.specs.declared.sending.Sent.{Sent}
-use Rattle.su_check.specs.declared.sending.Place.{Place}
-use Rattle.su_check.specs.inside.Cells.{cell, is_const, IsFirst}
-use Rattle.su_check.specs.Fitting.{Lines, AreSent, row_of}
+use Rattle.su_check.specs.declared.sending.StepColumn.{StepColumn}
+use Rattle.su_check.specs.inside.Cells.{cell, is_const, IsFirstPlace}
+use Rattle.su_check.specs.Fitting.{Lines, AreSent, numbered_row}
 use Rattle.su_check.specs.inside.Widths.{AreWide, IsWithin}
 use Rattle.su_check.specs.Refuting.{IsAscending}
 
@@ -18,7 +18,7 @@ abbrev pub no_pair : Sent
 no_pair = record { row = 0; target = 0 }
 
 -- stands where no symbol has a place
-abbrev pub no_place : Place
+abbrev pub no_place : StepColumn
 no_place = record { step = 0; column = 0 }
 
 -- a symbol that every mapping keeps: a constant, or one of the head
@@ -28,13 +28,13 @@ IsFixed head x = (is_const x ≡ true) ⊎ Contains head x
 -- the mark of each variable tells whether the head has it
 pub record AreMarks (variables : List ℕ) (head : List Sym) (marks : List Bool) : Type 0 where
   pub one_each : length marks ≡ length variables
-  pub tells : (k n : ℕ) → IsFirst variables k n → ((get_or marks n false ≡ true) ↔ Contains head (Var k))
+  pub tells : (k n : ℕ) → IsFirstPlace variables k n → ((get_or marks n false ≡ true) ↔ Contains head (Var k))
 
 -- a variable outside the head, by its number
 pub record IsFree (head : List Sym) (variables : List ℕ) (x : Sym) (n : ℕ) : Type 0 where
   pub number : ℕ
   pub is : x ≡ Var number
-  pub first : IsFirst variables number n
+  pub first : IsFirstPlace variables number n
   pub free : ¬ (Contains head x)
 
 -- a fixed symbol has no number
@@ -50,35 +50,35 @@ pub record AreNumbers (head : List Sym) (variables : List ℕ) (row : List Sym) 
 -- the numbers of the symbols of each row
 pub record IsBoard (t : Lines) (b : Board) : Type 0 where
   pub one_each : length b.numbers ≡ length t.rows
-  pub rows : (i : ℕ) → i < length t.rows → AreNumbers t.head b.variables (row_of t i) (get_or b.numbers i [])
+  pub rows : (i : ℕ) → i < length t.rows → AreNumbers t.head b.variables (numbered_row t i) (get_or b.numbers i [])
 
 -- the place gives the symbol x the image y
-pub record IsImage (t : Lines) (p : List Sent) (place : Place) (x y : Sym) : Type 0 where
+pub record IsImage (t : Lines) (p : List Sent) (place : StepColumn) (x y : Sym) : Type 0 where
   pub step : place.step < length p
-  pub column : place.column < length (row_of t (get_or p place.step no_pair).row)
-  pub symbol : cell (row_of t (get_or p place.step no_pair).row) place.column ≡ x
-  pub image : cell (row_of t (get_or p place.step no_pair).target) place.column ≡ y
+  pub column : place.column < length (numbered_row t (get_or p place.step no_pair).row)
+  pub symbol : cell (numbered_row t (get_or p place.step no_pair).row) place.column ≡ x
+  pub image : cell (numbered_row t (get_or p place.step no_pair).target) place.column ≡ y
 
 -- the symbol x goes to y: a fixed one is y, another one has its image at its place
-abbrev pub Sends : Lines → List Sent → List Place → Sym → Sym → Option ℕ → Type 0
+abbrev pub Sends : Lines → List Sent → List StepColumn → Sym → Sym → Option ℕ → Type 0
 Sends t p places x y None = x ≡ y
 Sends t p places x y (Some n) = IsImage t p (get_or places n no_place) x y
 
 -- the symbols of the row go to those of the target
-abbrev pub SendsRow : Lines → Board → List Sent → List Place → ℕ → ℕ → Type 0
-SendsRow t b p places s j = (c : ℕ) → c < length (row_of t s) → Sends t p places (cell (row_of t s) c) (cell (row_of t j) c) (get_or (get_or b.numbers s []) c None)
+abbrev pub SendsRow : Lines → Board → List Sent → List StepColumn → ℕ → ℕ → Type 0
+SendsRow t b p places s j = (c : ℕ) → c < length (numbered_row t s) → Sends t p places (cell (numbered_row t s) c) (cell (numbered_row t j) c) (get_or (get_or b.numbers s []) c None)
 
 -- so they do for each pair of the list
-abbrev pub Covers : Lines → Board → List Sent → List Place → Type 0
+abbrev pub Covers : Lines → Board → List Sent → List StepColumn → Type 0
 Covers t b p places = All (λ x. SendsRow t b p places x.row x.target) p
 
 -- places that give images stay as they are
-pub record Keeps (t : Lines) (b : Board) (p : List Sent) (old new : List Place) : Type 0 where
+pub record Keeps (t : Lines) (b : Board) (p : List Sent) (old new : List StepColumn) : Type 0 where
   pub one_each : length new ≡ length old
   pub stays : (n : ℕ) (x y : Sym) → IsFree t.head b.variables x n → IsImage t p (get_or old n no_place) x y → get_or new n no_place ≡ get_or old n no_place
 
 -- what the test of a row needs: rows of one width, kept rows that ascend, a partial list of rows that go to rows under one list of symbols, and the places of their images
-pub record IsReady (t : Lines) (b : Board) (p : List Sent) (places : List Place) : Type 0 where
+pub record IsReady (t : Lines) (b : Board) (p : List Sent) (places : List StepColumn) : Type 0 where
   pub wide : AreWide t.rows
   pub ascending : IsAscending t.kept
   pub kept : All (λ k. k < length t.rows) t.kept

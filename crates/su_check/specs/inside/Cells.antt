@@ -18,7 +18,7 @@ is_const (Const v) = true
 is_const (Var k) = false
 
 -- the variable stands at n for the first time
-pub record IsFirst (variables : List ℕ) (k n : ℕ) : Type 0 where
+pub record IsFirstPlace (variables : List ℕ) (k n : ℕ) : Type 0 where
   pub below : n < length variables
   pub is : get_or variables n 0 ≡ k
   pub before : (m : ℕ) → m < n → get_or variables m 0 < k
@@ -32,7 +32,7 @@ kind_at kinds c = get_or kinds c IntKind
 -- the kind found for the symbol, at the place of its variable
 abbrev pub HasFound : List ℕ → List (Option Kind) → Sym → Kind → Type 0
 HasFound variables found (Const v) kind = kind_of v ≡ kind
-HasFound variables found (Var k) kind = (n : ℕ) × IsFirst variables k n × (get_or found n None ≡ Some kind)
+HasFound variables found (Var k) kind = (n : ℕ) × IsFirstPlace variables k n × (get_or found n None ≡ Some kind)
 
 -- the kinds found are those that f gives
 abbrev pub AreFound : (ℕ → Kind) → List ℕ → List (Option Kind) → Type 0

@@ -7,7 +7,7 @@ use Rattle.su_tableau.specs.declared.symbols.Sym.{Sym}
 use Rattle.su_check.specs.declared.guides.Guide.{Guide}
 use Rattle.su_check.specs.declared.sending.Sent.{Sent}
 use Rattle.su_check.specs.inside.Cells.{cell}
-use Rattle.su_check.specs.Fitting.{Lines, row_of, AreSent, sent_too}
+use Rattle.su_check.specs.Fitting.{Lines, numbered_row, AreSent, sent_too}
 
 -- the set has all rows with the symbol in the column
 abbrev pub HasCarriers : List (List Sym) → ℕ → Sym → ℕ → Type 0
@@ -28,5 +28,5 @@ pub record IsGuide (t : Lines) (g : Guide) : Type 0 where
   pub alone_each : length g.alone ≡ length t.rows
   pub alone : (s : ℕ) → s < length t.rows → HasTargets t [] s (get_or g.alone s 0)
   pub alike_each : length g.alike ≡ length t.rows
-  pub alike : (i : ℕ) → i < length t.rows → AreAlike t.rows (row_of t i) (get_or g.alike i [])
-  pub telling : All (λ c. (i : ℕ) → i < length t.rows → c < length (row_of t i)) g.telling
+  pub alike : (i : ℕ) → i < length t.rows → AreAlike t.rows (numbered_row t i) (get_or g.alike i [])
+  pub telling : All (λ c. (i : ℕ) → i < length t.rows → c < length (numbered_row t i)) g.telling

@@ -11,7 +11,9 @@ use Rattle.su_lex.specs.declared.ends.LexEnd.TheVariants.{Syntax, NoMemory}
 use Rattle.su_tableau.specs.declared.symbols.Sym.{Sym}
 use Rattle.su_check.specs.declared.certificates.Term.{Term}
 use Rattle.su_check.specs.declared.certificates.RowTree.{RowTree}
-use Rattle.su_check.specs.Grammar.{number, sym_symbol, row_line, tree_line, node_symbols, term_lines, IsByte, IsNamed, IsByteNode}
+use Rattle.su_check.specs.NodeSymbols.{number, sym_symbol, node_symbols}
+use Rattle.su_check.specs.Grammar.{row_line, tree_line, term_lines}
+use Rattle.su_check.specs.Ranges.{IsByte, IsNamed, IsByteNode}
 
 -- the value that came out; it isn't refused, and want of memory tells nothing
 abbrev pub Gives : {X : Type 0} → Result X LexEnd → (X → Type 0) → Type 0

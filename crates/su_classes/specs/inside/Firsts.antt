@@ -47,5 +47,5 @@ pub record Notes (old new : List ℕ → Option ℕ) (k : List ℕ) (position fi
   pub made : (other : List ℕ) (p : ℕ) → new other ≡ Some p → (old other ≡ Some p) ⊎ ((other ≡ k) × (p ≡ position))
 
 -- where the dependency lies in the row, its key is noted; else nothing is, and its own position stands for it
-abbrev pub IsFirst : (ℕ → ℕ) → Fd → List ℕ → Placed → (List ℕ → Option ℕ) → (List ℕ → Option ℕ) → ℕ → ℕ → Type 0
-IsFirst label f left r old new position first = (LiesIn f r.has × Notes old new (key label left r) position first) ⊎ ((¬ LiesIn f r.has) × (first ≡ position) × (new ≡ old))
+abbrev pub IsFirstNoted : (ℕ → ℕ) → Fd → List ℕ → Placed → (List ℕ → Option ℕ) → (List ℕ → Option ℕ) → ℕ → ℕ → Type 0
+IsFirstNoted label f left r old new position first = (LiesIn f r.has × Notes old new (key label left r) position first) ⊎ ((¬ LiesIn f r.has) × (first ≡ position) × (new ≡ old))

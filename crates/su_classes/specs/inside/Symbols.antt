@@ -35,9 +35,9 @@ is_known vs limit (Const c) = has_constant vs c
 is_known vs limit (Var k) = nat_lt k limit
 
 -- the number of a symbol: constants come first
-abbrev pub number_of : List Value → Sym → ℕ
-number_of vs (Const c) = place_of vs c
-number_of vs (Var k) = length vs + k
+abbrev pub symbol_number : List Value → Sym → ℕ
+symbol_number vs (Const c) = place_of vs c
+symbol_number vs (Var k) = length vs + k
 
 -- the symbol with this number
 abbrev pub symbol_at : List Value → ℕ → Sym
@@ -45,4 +45,4 @@ symbol_at vs i = cond (nat_lt i (length vs)) (Const (get_or vs i (Text []))) (Va
 
 -- the name of a symbol by a table; a symbol without a number is its own name
 abbrev pub name_in : List Value → ℕ → List ℕ → Sym → Sym
-name_in vs limit table x = cond (is_known vs limit x) (symbol_at vs (rep table (number_of vs x))) x
+name_in vs limit table x = cond (is_known vs limit x) (symbol_at vs (rep table (symbol_number vs x))) x

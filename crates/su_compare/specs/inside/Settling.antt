@@ -4,16 +4,18 @@ use Rattle.su_base.specs.declared.values.Value.{Value}
 use Rattle.su_fd.specs.declared.dependencies.Fd.{Fd}
 use Rattle.su_tableau.specs.declared.symbols.Sym.{Sym}
 use Rattle.su_tableau.specs.declared.symbols.Sym.TheVariants.{Const, Var}
-use Rattle.su_tableau.specs.Tableaux.{Tab, Ext}
+use Rattle.su_tableau.specs.Tableaux.{Tab}
+use Rattle.su_tableau.specs.Valuations.{Ext}
 use Rattle.su_tableau.specs.Kinds.{Kinds, IsUniverse, IsTyped}
 use Rattle.su_map.specs.Rooms.{Space, IsRoomFor}
-use Rattle.su_chase.specs.Chase.{IsClosed}
+use Rattle.su_chase.specs.Chase.{IsClosedPartition}
 use Rattle.su_fd.specs.Meeting.{Meets}
-use Rattle.su_schema.specs.SchemaValue.{SchemaValue, attribute_kinds}
+use Rattle.su_schema.specs.SchemaValue.{SchemaValue}
+use Rattle.su_schema.specs.Entries.{attribute_kinds}
 use Rattle.su_steps.specs.declared.results.Term.{Term}
 use Rattle.su_compare.specs.declared.settling.Settled.{Settled}
 use Rattle.su_compare.specs.declared.settling.Settled.TheVariants.{By, Open}
-use Rattle.su_compare.specs.Verdict.{tab_at, IsBy, IsUnsettled}
+use Rattle.su_compare.specs.Settled.{tab_at, IsBy, IsUnsettled}
 
 -- the room serves each of the terms
 abbrev pub HasRoomFor : List Term → Space → Type 0
@@ -43,7 +45,7 @@ pub record IsApartOver (schema : SchemaValue) (first second : List Term) (univer
 -- how t is settled, or its chased tableau, which is settled itself
 abbrev pub IsSettlement : List Fd → List Term → Tab → Settled → Type 0
 IsSettlement fds second t (By by) = IsBy fds second t by
-IsSettlement fds second t (Open c) = IsUnsettled fds second t c × IsClosed fds c.rows (λ x. x)
+IsSettlement fds second t (Open c) = IsUnsettled fds second t c × IsClosedPartition fds c.rows (λ x. x)
 
 -- an answer of a term that is settled is one of the second query; what is left open answers what t does
 abbrev pub Answers : List Term → Tab → Settled → List (List Value) → List Value → Type 0

@@ -4,11 +4,11 @@ use Rattle.std.specs.Prelude.{ℕ, List, map}
 use Rattle.su_draw.specs.declared.elements.Pair.{Pair}
 use Rattle.su_draw.specs.declared.elements.Pair.TheVariants.{Number, Word}
 use Rattle.su_draw.specs.Xml.{Attribute}
-use Rattle.su_draw.specs.Looks.{number_of, word_of}
+use Rattle.su_draw.specs.Looks.{number_attribute, word_of}
 
 -- the attribute that the pair stands for
 abbrev pub attribute_of : Pair → Attribute
-attribute_of (Number name n) = number_of name.now n
+attribute_of (Number name n) = number_attribute name.now n
 attribute_of (Word name value) = word_of name.now value.now
 
 -- the attributes of pairs, in order

@@ -7,15 +7,15 @@ use Rattle.std.specs.List.{list_all}
 use Rattle.su_base.specs.declared.values.Value.{Value}
 use Rattle.su_where.specs.Operator.{compares}
 use Rattle.su_reduce.specs.Codes.{decode}
-use Rattle.su_exec.specs.declared.checks.Term.{Term}
-use Rattle.su_exec.specs.declared.checks.Term.TheVariants.{Code, Variable}
+use Rattle.su_exec.specs.declared.checks.CodedSymbol.{CodedSymbol}
+use Rattle.su_exec.specs.declared.checks.CodedSymbol.TheVariants.{Code, Variable}
 use Rattle.su_exec.specs.declared.checks.Check.{Check}
 use Rattle.su_exec.specs.declared.checks.Spot.{Spot}
 use Rattle.su_exec.specs.declared.checks.Spot.TheVariants.{Code as Given, Left, Right}
 use Rattle.su_exec.specs.declared.checks.Test.{Test}
 
 -- the code of a term
-abbrev pub code_of : (ℕ → ℕ) → Term → ℕ
+abbrev pub code_of : (ℕ → ℕ) → CodedSymbol → ℕ
 code_of v (Code c) = c
 code_of v (Variable k) = v k
 
@@ -28,7 +28,7 @@ abbrev pub all_hold : List Value → List Check → (ℕ → ℕ) → Bool
 all_hold values checks v = list_all (check_holds values v) checks
 
 -- the variable of the term, if it is one
-abbrev pub vars_of : Term → List ℕ
+abbrev pub vars_of : CodedSymbol → List ℕ
 vars_of (Code c) = []
 vars_of (Variable k) = k ∷ []
 
@@ -62,5 +62,5 @@ abbrev pub all_pass : List Value → List Test → List ℕ → List ℕ → Boo
 all_pass values tests row other = list_all (test_passes values row other) tests
 
 -- where each valuation has the term, in what it gives these variables
-abbrev pub HasTerm : List ℕ → List ℕ → Term → Spot → Type 0
+abbrev pub HasTerm : List ℕ → List ℕ → CodedSymbol → Spot → Type 0
 HasTerm xs ys term spot = (v : ℕ → ℕ) → spot_code spot (map v xs) (map v ys) ≡ code_of v term

@@ -27,8 +27,8 @@ abbrev pub among : {X : Type 0} → List (Edge X) → ℕ → Bool
 among es k = list_any (λ e. has e.vars k) es
 
 -- the same values of these variables
-abbrev pub Agree : {X : Type 0} → List ℕ → (ℕ → X) → (ℕ → X) → Type 0
-Agree ks v w = map v ks ≡ map w ks
+abbrev pub HaveSameValues : {X : Type 0} → List ℕ → (ℕ → X) → (ℕ → X) → Type 0
+HaveSameValues ks v w = map v ks ≡ map w ks
 
 -- the test that every valuation passes
 abbrev pub always : (ℕ → ℕ) → Bool
@@ -39,7 +39,7 @@ pub record Reaches (ks : List ℕ) (v : ℕ → ℕ) (es : List (Edge ℕ)) (t :
   pub valuation : ℕ → ℕ
   pub fits : FitsAll valuation es
   pub passes : t valuation ≡ true
-  pub same : Agree ks v valuation
+  pub same : HaveSameValues ks v valuation
 
 -- each valuation of the first body that passes its test reaches one of the second
 abbrev pub Goes : List ℕ → List (Edge ℕ) → ((ℕ → ℕ) → Bool) → List (Edge ℕ) → ((ℕ → ℕ) → Bool) → Type 0

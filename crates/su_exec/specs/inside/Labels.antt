@@ -25,7 +25,7 @@ pub record AreLabels (task : Task) (labels : List ℕ) : Type 0 where
   pub connected : (i j : ℕ) → i < length labels → j < length labels → label_of labels i ≡ label_of labels j → AreConnected task i j
 
 -- row i is the first with variable k
-pub record IsFirst (task : Task) (k i : ℕ) : Type 0 where
+pub record IsFirstRow (task : Task) (k i : ℕ) : Type 0 where
   pub stands : StandsIn task k i
   pub least : (j : ℕ) → StandsIn task k j → i ≤ j
 
@@ -33,7 +33,7 @@ pub record IsFirst (task : Task) (k i : ℕ) : Type 0 where
 pub record IsFirstOf (task : Task) (symbol : Sym) (i : ℕ) : Type 0 where
   pub variable : ℕ
   pub is : symbol ≡ Var variable
-  pub first : IsFirst task variable i
+  pub first : IsFirstRow task variable i
 
 -- the rows with the label
 abbrev pub rows_of : List ℕ → ℕ → List ℕ

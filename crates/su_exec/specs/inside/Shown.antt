@@ -9,8 +9,8 @@ use Rattle.su_exec.specs.declared.merging.Merged.TheVariants.{Whole, Over, Nothi
 use Rattle.su_base.specs.declared.values.Value.{Value}
 use Rattle.su_tableau.specs.declared.symbols.Sym.{Sym}
 use Rattle.su_tableau.specs.declared.symbols.Sym.TheVariants.{Const, Var}
-use Rattle.su_exec.specs.declared.checks.Term.{Term}
-use Rattle.su_exec.specs.declared.checks.Term.TheVariants.{Code, Variable}
+use Rattle.su_exec.specs.declared.checks.CodedSymbol.{CodedSymbol}
+use Rattle.su_exec.specs.declared.checks.CodedSymbol.TheVariants.{Code, Variable}
 use Rattle.su_exec.specs.declared.checks.Check.{Check}
 use Rattle.su_exec.specs.declared.checks.Spot.{Spot}
 use Rattle.su_exec.specs.declared.tasks.Compared.{Compared}
@@ -19,12 +19,12 @@ use Rattle.su_reduce.specs.Codes.{decode}
 use Rattle.su_exec.specs.inside.Edges.{Edge, Fits, has}
 
 -- the term stands for the symbol
-abbrev pub IsTermOf : List Value → Sym → Term → Type 0
+abbrev pub IsTermOf : List Value → Sym → CodedSymbol → Type 0
 IsTermOf values (Const value) term = (code : ℕ) × (term ≡ Code code) × (code < length values) × (decode values code ≡ value)
 IsTermOf values (Var k) term = term ≡ Variable k
 
 -- the terms stand for the symbols
-abbrev pub AreTermsOf : List Value → List Sym → List Term → Type 0
+abbrev pub AreTermsOf : List Value → List Sym → List CodedSymbol → Type 0
 AreTermsOf values symbols terms = AllZip (IsTermOf values) symbols terms
 
 -- the check stands for the comparison
@@ -42,16 +42,16 @@ abbrev pub HasSomeEdge : List (Edge ℕ) → List (Edge ℕ) → Type 0
 HasSomeEdge es fs = (0 < length fs) × ((es ≡ fs) ⊎ ((es ≡ []) × (fs ≡ record { vars = []; rows = [] ∷ [] } ∷ [])))
 
 -- the values of the terms
-abbrev pub term_values : List Value → List Term → (ℕ → ℕ) → List Value
+abbrev pub term_values : List Value → List CodedSymbol → (ℕ → ℕ) → List Value
 term_values values terms v = map (λ t. decode values (code_of v t)) terms
 
 -- the variables of the terms
-abbrev pub term_vars : List Term → List ℕ
+abbrev pub term_vars : List CodedSymbol → List ℕ
 term_vars [] = []
 term_vars (t ∷ ts) = vars_of t ++ term_vars ts
 
 -- a spot for each term, in rows over these variables
-abbrev pub AreSpotsOf : List ℕ → List Term → List Spot → Type 0
+abbrev pub AreSpotsOf : List ℕ → List CodedSymbol → List Spot → Type 0
 AreSpotsOf vars terms spots = AllZip (λ term spot. HasTerm vars [] term spot × IsSpotIn (length vars) 0 spot) terms spots
 
 -- the values at the spots of a row of codes
@@ -59,31 +59,31 @@ abbrev pub spot_values : List Value → List Spot → List ℕ → List Value
 spot_values values spots row = map (λ spot. decode values (spot_code spot row [])) spots
 
 -- a valuation that fits the edge gives the terms these values
-pub record IsShown (values : List Value) (e : Edge ℕ) (terms : List Term) (h : List Value) : Type 0 where
+pub record IsShown (values : List Value) (e : Edge ℕ) (terms : List CodedSymbol) (h : List Value) : Type 0 where
   pub valuation : ℕ → ℕ
   pub fits : Fits valuation e
   pub gives : term_values values terms valuation ≡ h
 
 -- more than n lists of values are shown
-pub record ShowsMore (values : List Value) (e : Edge ℕ) (terms : List Term) (n : ℕ) : Type 0 where
+pub record ShowsMore (values : List Value) (e : Edge ℕ) (terms : List CodedSymbol) (n : ℕ) : Type 0 where
   pub shown : ℕ → List Value
   pub each : (i : ℕ) → i ≤ n → IsShown values e terms (shown i)
   pub differ : (i j : ℕ) → i < j → j ≤ n → ¬ (shown i ≡ shown j)
 
 -- what a merged body is has each variable of the terms
-abbrev pub HasVars : List Term → Merged → Type 0
+abbrev pub HasVars : List CodedSymbol → Merged → Type 0
 HasVars terms (Whole g) = (k : ℕ) → has (term_vars terms) k ≡ true → has g.vars k ≡ true
 HasVars terms Over = Unit {0}
 HasVars terms Nothing = Unit {0}
 
 -- the rows are what a merged body shows, ascending, each once
-abbrev pub IsShownBy : List Value → List Term → Merged → List (List Value) → Type 0
+abbrev pub IsShownBy : List Value → List CodedSymbol → Merged → List (List Value) → Type 0
 IsShownBy values terms (Whole g) rows = ((h : List Value) → Contains rows h ↔ IsShown values g terms h) × IsStrictlySortedBy compare_lists rows
 IsShownBy values terms Over rows = ⊥
 IsShownBy values terms Nothing rows = rows ≡ []
 
 -- a merged body shows more than n lists of values, or was found to do so
-abbrev pub IsMoreBy : List Value → List Term → ℕ → Merged → Type 0
+abbrev pub IsMoreBy : List Value → List CodedSymbol → ℕ → Merged → Type 0
 IsMoreBy values terms n (Whole g) = ShowsMore values g terms n
 IsMoreBy values terms n Over = Unit {0}
 IsMoreBy values terms n Nothing = ⊥

@@ -3,7 +3,7 @@
 use Rattle.std.specs.Prelude.{◌<◌, ◌≤◌, ◌+◌, ◌-◌, ℕ, List, length, take, slice_index_or}
 use Rattle.std.specs.VecDeque.{deque_capacity}
 use Rattle.su_index.specs.declared.chunk.Chunk.{Chunk}
-use Rattle.su_index.specs.declared.place.Place.{Place}
+use Rattle.su_index.specs.declared.place.ChunkPlace.{ChunkPlace}
 use Rattle.su_index.specs.Chunks.{entries_of, len_at}
 
 -- the room of chunk k
@@ -15,16 +15,16 @@ abbrev pub before_chunk : List Chunk → ℕ → ℕ
 before_chunk chunks k = length (entries_of (take k chunks))
 
 -- how many entries stand before the place
-abbrev pub rank_in : List Chunk → Place → ℕ
+abbrev pub rank_in : List Chunk → ChunkPlace → ℕ
 rank_in chunks p = before_chunk chunks p.chunk + p.at
 
 -- an entry can be put in at the place
-pub record IsGap (chunks : List Chunk) (p : Place) : Type 0 where
+pub record IsGap (chunks : List Chunk) (p : ChunkPlace) : Type 0 where
   pub within : p.chunk < length chunks
   pub most : (d : Chunk) → p.at ≤ len_at chunks p.chunk d
 
 -- the same, where the place past the last entry of a chunk is named as the first of the next one
-pub record IsPlace (chunks : List Chunk) (p : Place) : Type 0 where
+pub record IsPlace (chunks : List Chunk) (p : ChunkPlace) : Type 0 where
   pub gap : IsGap chunks p
   pub inner : (d : Chunk) → p.chunk + 1 < length chunks → p.at < len_at chunks p.chunk d
 

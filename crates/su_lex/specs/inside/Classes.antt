@@ -8,8 +8,8 @@ use Rattle.su_lex.specs.declared.kinds.TokenKind.{TokenKind}
 use Rattle.su_lex.specs.declared.kinds.TokenKind.TheVariants.{Word, Int, Text, Sign as ASign}
 use Rattle.su_lex.specs.declared.signs.Sign.{Sign}
 use Rattle.su_lex.specs.declared.signs.Sign.TheVariants.{Open, Close, Comma, Dot, Arrow, Equal, NotEqual, Less, LessEqual, Greater, GreaterEqual}
-use Rattle.su_lex.specs.declared.quoting.Place.{Place}
-use Rattle.su_lex.specs.declared.quoting.Place.TheVariants.{Content, Close as AClose, Missing}
+use Rattle.su_lex.specs.declared.quoting.QuotedPart.{QuotedPart}
+use Rattle.su_lex.specs.declared.quoting.QuotedPart.TheVariants.{Content, Close as AClose, Missing}
 use Rattle.su_lex.specs.declared.firsts.Class.{Class}
 use Rattle.su_lex.specs.declared.firsts.Class.TheVariants.{Word as OfWord, Number as OfNumber, Text as OfText, Sign as OfSign}
 
@@ -36,6 +36,6 @@ sign_at (b ∷ bs) =
     (if b == 62 then (if begins (λ c. c == 61) bs then Some GreaterEqual else Some Greater) else None))))))))
 
 -- what stands at a place within a text
-abbrev pub place_at : List ℕ → Place
+abbrev pub place_at : List ℕ → QuotedPart
 place_at [] = Missing
 place_at (b ∷ bs) = if b == 39 then (if begins (λ c. c == 39) bs then Content 39 else AClose) else Content b

@@ -1,7 +1,7 @@
 -- The first symbol of a text.
 -- No public contract cites this module.
 use Rattle.std.specs.Prelude.{◌≡◌, ℕ, List, ◌++◌, length}
-use Rattle.su_lex.specs.Tokens.{IsToken}
+use Rattle.su_lex.specs.TokenForms.{IsToken}
 use Rattle.su_lex.specs.declared.kinds.TokenKind.TheVariants as kind
 use Rattle.su_lex.specs.declared.meaning.Symbol.{Symbol}
 use Rattle.su_lex.specs.declared.meaning.Symbol.TheVariants.{Word, Int, Text, Sign}

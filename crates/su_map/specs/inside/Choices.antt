@@ -5,7 +5,7 @@ use Rattle.std.specs.Prelude.{◌≡◌, ◌≢◌, ℕ, ◌<◌, ◌⊎◌, Boo
 use Rattle.su_map.specs.Lists.{numbers_of, IsBefore}
 use Rattle.su_map.specs.Candidates.{count_below, sum_of_products}
 use Rattle.std.specs.Int.{bit_at}
-use Rattle.su_map.specs.Nets.{Netted, base_of, near_of, agree_of}
+use Rattle.su_map.specs.Netted.{Netted, base_of, near_of, agree_of}
 
 -- target p of row r and target j of row q agree
 abbrev pub AreFit : Netted → ℕ → ℕ → ℕ → ℕ → Type 0

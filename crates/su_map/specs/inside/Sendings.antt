@@ -5,8 +5,8 @@ use Rattle.std.specs.Prelude.{◌≡◌, ℕ, ◌<◌, List, length, get_or}
 use Rattle.std.specs.Int.{bit_at}
 use Rattle.su_tableau.specs.Tableaux.{Tab}
 use Rattle.su_map.specs.Lists.{row_of}
-use Rattle.su_map.specs.Candidates.{Agree}
-use Rattle.su_map.specs.Nets.{IsTarget}
+use Rattle.su_map.specs.Candidates.{MapAlike}
+use Rattle.su_map.specs.Netted.{IsTarget}
 
 -- the domains of the rows in m have rows of t alone
 abbrev pub AreRows : Tab → ℕ → Tab → List ℕ → Type 0
@@ -16,4 +16,4 @@ AreRows s m t domains = (i j : ℕ) → i < length s.rows → bit_at m i ≡ 1 �
 pub record IsSending (s : Tab) (m : ℕ) (t : Tab) (domains : List ℕ) (a : ℕ → ℕ) : Type 0 where
   pub within : (i : ℕ) → i < length s.rows → bit_at m i ≡ 1 → bit_at (get_or domains i 0) (a i) ≡ 1
   pub own : (i : ℕ) → i < length s.rows → bit_at m i ≡ 1 → IsTarget s t i (a i)
-  pub agree : (i q : ℕ) → i < length s.rows → q < length s.rows → bit_at m i ≡ 1 → bit_at m q ≡ 1 → Agree (row_of s i) (row_of t (a i)) (row_of s q) (row_of t (a q))
+  pub agree : (i q : ℕ) → i < length s.rows → q < length s.rows → bit_at m i ≡ 1 → bit_at m q ≡ 1 → MapAlike (row_of s i) (row_of t (a i)) (row_of s q) (row_of t (a q))

@@ -5,7 +5,7 @@ use Rattle.su_base.specs.declared.values.Value.{Value}
 use Rattle.su_base.specs.declared.values.Value.TheVariants.{Int}
 use Rattle.su_tableau.specs.declared.symbols.Sym.{Sym}
 use Rattle.su_tableau.specs.declared.symbols.Sym.TheVariants.{Var}
-use Rattle.su_tableau.specs.Tableaux.{value_of}
+use Rattle.su_tableau.specs.Valuations.{value_of}
 use Rattle.su_reduce.specs.Shapes.{cell_at, place_of}
 
 -- the value at a place of a row

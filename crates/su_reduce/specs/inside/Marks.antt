@@ -3,7 +3,7 @@
 use Rattle.std.specs.Prelude.{◌≡◌, ◌≢◌, ℕ, ◌<◌, ◌↔◌, Bool, false, IsTrue, List, [], length, get_or}
 use Rattle.su_base.specs.declared.values.Value.{Value}
 use Rattle.su_tableau.specs.declared.symbols.Sym.{Sym}
-use Rattle.su_tableau.specs.Tableaux.{values_of}
+use Rattle.su_tableau.specs.Valuations.{values_of}
 use Rattle.su_reduce.specs.declared.edges.Edge.{Edge}
 use Rattle.su_reduce.specs.Left.{cells_at, candidates_at}
 use Rattle.su_reduce.specs.Shapes.{Fits}

@@ -1,7 +1,7 @@
 -- What semijoins along an ear order leave. No public clause cites this module.
 use Rattle.std.specs.Prelude.{◌≡◌, ℕ, ◌<◌, Bool, List, [], ◌∷◌, length, Contains, Option, None, Some}
 use Rattle.su_base.specs.declared.values.Value.{Value}
-use Rattle.su_tableau.specs.Tableaux.{values_of}
+use Rattle.su_tableau.specs.Valuations.{values_of}
 use Rattle.su_reduce.specs.declared.edges.Edge.{Edge}
 use Rattle.su_reduce.specs.declared.edges.Ear.{Ear}
 use Rattle.su_reduce.specs.Left.{cells_at, candidates_at, Chooses}

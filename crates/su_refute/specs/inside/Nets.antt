@@ -8,8 +8,7 @@ use Rattle.su_tableau.specs.declared.symbols.Sym.{Sym}
 use Rattle.su_tableau.specs.Tableaux.{Tab}
 use Rattle.su_map.specs.Lists.{row_of}
 use Rattle.su_check.specs.inside.Cells.{cell}
-use Rattle.su_check.specs.inside.Agreeing.{Agree}
-use Rattle.su_check.specs.inside.Agreeing.{Goes}
+use Rattle.su_check.specs.inside.Agreeing.{GoAlike, Goes}
 use Rattle.su_refute.specs.declared.places.Places.{Places}
 use Rattle.su_refute.specs.declared.nets.Net.{Net}
 
@@ -39,7 +38,7 @@ IsBase t m q = IsSetOf t m (λ i. Goes t.head (row_of t q) (row_of t i))
 
 -- the targets of row q that agree with target j of row s
 abbrev pub IsTold : Tab → ℕ → ℕ → ℕ → ℕ → ℕ → Type 0
-IsTold t m s j q = IsSetOf t m (λ i. Agree (row_of t s) (row_of t j) (row_of t q) (row_of t i))
+IsTold t m s j q = IsSetOf t m (λ i. GoAlike (row_of t s) (row_of t j) (row_of t q) (row_of t i))
 
 -- one set for each row
 pub record AreTold (t : Tab) (m s j : ℕ) (sets : List ℕ) : Type 0 where

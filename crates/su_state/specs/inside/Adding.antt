@@ -6,11 +6,11 @@ use Rattle.su_rel.specs.Stored.{Stored}
 use Rattle.su_schema.specs.declared.definitions.Definition.{Definition}
 use Rattle.su_schema.specs.declared.definitions.Definition.TheVariants.{Relation, Object, Fd}
 use Rattle.su_schema.specs.SchemaValue.{SchemaValue, ObjectEntry}
-use Rattle.su_schema.specs.Checks.{columns_at}
+use Rattle.su_schema.specs.Known.{columns_at}
 use Rattle.su_state.specs.declared.faults.DefineFault.{DefineFault}
 use Rattle.su_state.specs.declared.faults.DefineFault.TheVariants.{Schema, Breaks, NoMemory}
 use Rattle.su_index.specs.Tables.{table_at}
-use Rattle.su_state.specs.Definitions.{BreaksThrough, HoldsThrough, FdBreaks, ObjectBreaks, NewBreaks}
+use Rattle.su_state.specs.Breaks.{BreaksThrough, HoldsThrough, FdBreaks, ObjectBreaks, NewBreaks}
 
 -- each object stands on one of the tables, of its relation's width
 abbrev pub HaveTables : SchemaValue → List Stored → Type 0

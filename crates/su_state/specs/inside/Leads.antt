@@ -18,11 +18,11 @@ lead_of_bytes (suc k) [] = 0
 lead_of_bytes (suc k) (b ∷ bytes) = b * 256 ^ k + lead_of_bytes k bytes
 
 -- the number is the value's lead
-abbrev pub IsLead : ℕ → Value → Type 0
-IsLead lead (Int z) = lead ≡ lead_of_number z
-IsLead lead (Text bytes) = (lead ≡ 2 ^ 63 + lead_of_bytes 7 bytes) × All (λ b. b < 256) bytes
+abbrev pub IsSortLead : ℕ → Value → Type 0
+IsSortLead lead (Int z) = lead ≡ lead_of_number z
+IsSortLead lead (Text bytes) = (lead ≡ 2 ^ 63 + lead_of_bytes 7 bytes) × All (λ b. b < 256) bytes
 
 -- the number is the lead of the row's first value
 abbrev pub IsRowLead : ℕ → List Value → Type 0
 IsRowLead lead [] = lead ≡ 0
-IsRowLead lead (value ∷ row) = IsLead lead value
+IsRowLead lead (value ∷ row) = IsSortLead lead value

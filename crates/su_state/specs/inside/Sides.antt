@@ -10,9 +10,10 @@ use Rattle.su_base.specs.declared.values.Value.{Value}
 use Rattle.su_base.specs.Value.{compare_lists}
 use Rattle.su_fd.specs.declared.dependencies.Fd.{Fd}
 use Rattle.su_fd.specs.Meeting.{LiesIn}
-use Rattle.su_schema.specs.SchemaValue.{ObjectEntry, attributes_of, column_of}
+use Rattle.su_schema.specs.SchemaValue.{ObjectEntry}
+use Rattle.su_schema.specs.Entries.{attributes_of, column_of}
 use Rattle.su_state.specs.declared.sides.Sides.{Sides}
-use Rattle.su_state.specs.DatabaseValue.{IsAtMost}
+use Rattle.su_state.specs.Enforced.{IsAtMost}
 
 -- exactly the columns from which the object takes one of the attributes
 abbrev pub AreColumnsOf : ObjectEntry → FinSet nat_cmp → FinSet nat_cmp → Type 0

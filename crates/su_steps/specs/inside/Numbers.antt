@@ -13,12 +13,12 @@ use Rattle.su_tableau.specs.declared.symbols.Sym.TheVariants.{Var}
 use Rattle.su_classes.specs.declared.items.Placed.{Placed}
 use Rattle.su_classes.specs.declared.items.Together.{Together}
 use Rattle.su_classes.specs.Tables.{IsTable}
-use Rattle.su_classes.specs.inside.Symbols.{has_constant, number_of, name_in}
+use Rattle.su_classes.specs.inside.Symbols.{has_constant, symbol_number, name_in}
 use Rattle.su_schema.specs.SchemaValue.{SchemaValue}
 use Rattle.su_steps.specs.declared.results.Origin.{Origin}
 use Rattle.su_steps.specs.declared.classes.Classes.{Classes}
 use Rattle.su_steps.specs.Objects.{width, attributes_at}
-use Rattle.su_steps.specs.Classes.{Compared, pair}
+use Rattle.su_steps.specs.PairSymbols.{SymbolComparison, pair}
 
 -- the operand is a place, or a constant among these
 abbrev pub IsNoted : List Value → Operand → Type 0
@@ -35,13 +35,13 @@ is_equality Equal = true
 is_equality _ = false
 
 -- the sides of the equalities, by number
-abbrev pub equals : List Value → List Compared → List Together
+abbrev pub equals : List Value → List SymbolComparison → List Together
 equals vs [] = []
-equals vs (c ∷ cs) = cond (is_equality c.op) (record { left = number_of vs c.left; right = number_of vs c.right } ∷ equals vs cs) (equals vs cs)
+equals vs (c ∷ cs) = cond (is_equality c.op) (record { left = symbol_number vs c.left; right = symbol_number vs c.right } ∷ equals vs cs) (equals vs cs)
 
 -- the row of items of an origin: those of its variable's pairs, at the attributes of its object
 abbrev pub placed_of : SchemaValue → List Value → Origin → Placed
-placed_of schema vs o = record { has = attributes_at schema o.object; cells = map (λ a. number_of vs (Var (pair (width schema) o.variable a))) (range_with_len 0 (width schema)) }
+placed_of schema vs o = record { has = attributes_at schema o.object; cells = map (λ a. symbol_number vs (Var (pair (width schema) o.variable a))) (range_with_len 0 (width schema)) }
 
 -- the name of a symbol by the classes of so many pairs
 abbrev pub class_name : ℕ → Classes → Sym → Sym

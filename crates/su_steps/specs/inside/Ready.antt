@@ -3,8 +3,8 @@ use Rattle.std.specs.Prelude.{◌≡◌, ℕ, ◌+◌, ◌*◌, ◌<◌, ◌≤�
 use Rattle.std.specs.Ordering.{nat_cmp}
 use Rattle.std.specs.FinSet.{FinSet, contains, empty}
 use Rattle.su_where.specs.declared.literals.Literal.{Literal}
-use Rattle.su_where.specs.Truth.{HasPlacesBelow}
-use Rattle.su_classes.specs.Tables.{IsLeast}
+use Rattle.su_where.specs.Fitting.{HasPlacesBelow}
+use Rattle.su_classes.specs.Tables.{IsLeastTable}
 use Rattle.su_classes.specs.inside.Symbols.{AreDistinct}
 use Rattle.su_schema.specs.SchemaValue.{SchemaValue}
 use Rattle.su_query.specs.declared.resolving.Resolved.{Resolved}
@@ -13,7 +13,7 @@ use Rattle.su_steps.specs.declared.results.Origin.{Origin}
 use Rattle.su_steps.specs.declared.classes.Classes.{Classes}
 use Rattle.su_query.specs.Sets.{mentioned_with}
 use Rattle.su_steps.specs.Objects.{width, attributes_at, covers}
-use Rattle.su_steps.specs.Classes.{comparisons}
+use Rattle.su_steps.specs.PairSymbols.{comparisons}
 use Rattle.su_steps.specs.inside.Numbers.{AreNoted, equals, placed_of}
 
 -- the classes are of the constants and equalities of a disjunct, and of the pairs of the query's variables
@@ -27,7 +27,7 @@ pub record IsReady (n : ℕ) (q : Resolved) (literals : List Literal) (c : Class
 -- the classes are the least in which equal items are together and the dependencies are kept on the rows of these origins
 pub record AreClosed (schema : SchemaValue) (q : Resolved) (literals : List Literal) (os : List Origin) (c : Classes) : Type 0 where
   pub ready : IsReady (width schema) q literals c
-  pub least : IsLeast schema.fds (map (placed_of schema c.constants) os) c.equal c.table.items
+  pub least : IsLeastTable schema.fds (map (placed_of schema c.constants) os) c.equal c.table.items
 
 -- the comparisons of a disjunct have places of the query, and sides of one kind
 pub record FitLiterals (schema : SchemaValue) (q : Resolved) (literals : List Literal) : Type 0 where

@@ -8,7 +8,7 @@ use Rattle.su_tableau.specs.declared.symbols.Sym.TheVariants.{Const, Var}
 use Rattle.su_tableau.specs.declared.occurrences.Times.{Times}
 use Rattle.su_tableau.specs.declared.occurrences.Times.TheVariants.{Never, Once, Again}
 use Rattle.su_tableau.specs.Tableaux.{Tab}
-use Rattle.su_tableau.specs.Essential.{Holds}
+use Rattle.su_tableau.specs.Essential.{HasSymbol}
 
 -- after one time more
 abbrev pub more : Times → Times
@@ -45,7 +45,7 @@ IsCount H Again = IsTwice H
 
 -- the cell is in the set and holds the variable
 abbrev pub CellHolds : Tab → ℕ → ℕ → ℕ → ℕ → Type 0
-CellHolds t m k r c = Holds t m r c (Var k)
+CellHolds t m k r c = HasSymbol t m r c (Var k)
 
 -- it is in a row before, or in this row at a column before
 abbrev pub IsBefore : ℕ → ℕ → ℕ → ℕ → Type 0

@@ -7,7 +7,8 @@ use Rattle.su_base.specs.declared.values.Value.{Value}
 use Rattle.su_base.specs.declared.values.Value.TheVariants.{Int}
 use Rattle.su_tableau.specs.declared.symbols.Sym.{Sym}
 use Rattle.su_tableau.specs.declared.symbols.Sym.TheVariants.{Const, Var}
-use Rattle.su_schema.specs.SchemaValue.{SchemaValue, column_of}
+use Rattle.su_schema.specs.SchemaValue.{SchemaValue}
+use Rattle.su_schema.specs.Entries.{column_of}
 use Rattle.su_state.specs.DatabaseValue.{DatabaseValue}
 use Rattle.su_chase.specs.inside.Rows.{name_by}
 use Rattle.su_window.specs.declared.readings.Reading.{Reading}

@@ -5,7 +5,7 @@ use Rattle.su_io.specs.Causes.{Rose}
 use Rattle.su_io.specs.declared.files.File.{File}
 use Rattle.sysu.specs.declared.status.Status.{Status}
 use Rattle.sysu.specs.declared.status.Status.TheVariants.{ReadFault, TooLong, NoMemory}
-use Rattle.sysu.specs.Output.{IsFile, IsOver}
+use Rattle.sysu.specs.Handed.{IsFile, IsOver}
 
 -- the whole file, or the status that its reading gives: the shelf's count of faults before and after, what was taken, whether the last call failed
 abbrev pub FileEnds : Option (List File) → List ℕ → ℕ → ℕ → ℕ → ℕ → Bool → Result (List ℕ) Status → Type 0

@@ -9,9 +9,9 @@ use Rattle.su_session.specs.Reply.{Replied}
 use Rattle.su_state.specs.DatabaseValue.{DatabaseValue, IsWellKept}
 use Rattle.sysu.specs.declared.status.Status.{Status}
 use Rattle.sysu.specs.declared.status.Status.TheVariants.{ReadFault, WriteFault, TooLong, NoMemory}
-use Rattle.sysu.specs.inside.Handing.{Place, Began, TookOne}
+use Rattle.sysu.specs.inside.Handing.{Shelved, Began, TookOne}
 use Rattle.sysu.specs.Moments.{Told, WroteWhole}
-use Rattle.sysu.specs.Output.{IsHanded, IsOver, load_limit}
+use Rattle.sysu.specs.Handed.{IsHanded, IsOver, load_limit}
 
 -- the statement was handed what it wants and answered, on a well kept database
 pub record AnsweredOne (files : Option (List File)) (old : DatabaseValue) (text : List ℕ) (new : DatabaseValue) (reply : Reply) : Type 0 where
@@ -26,7 +26,7 @@ pub record Sunk : Type 0 where
   pub faults : ℕ
 
 -- how one statement ends: with its reply, or with the run
-abbrev pub TurnEnds : Option (List File) → DatabaseValue → List ℕ → DatabaseValue → Place → Place → Sunk → Sunk → Result Bool Status → Type 0
+abbrev pub TurnEnds : Option (List File) → DatabaseValue → List ℕ → DatabaseValue → Shelved → Shelved → Sunk → Sunk → Result Bool Status → Type 0
 TurnEnds files old text new before after from to (Ok refused) =
     (after.faults ≡ before.faults) × (to.faults ≡ from.faults) × TookOne old text before after
     × ((reply : Reply) × AnsweredOne files old text new reply × (reply.refused ≡ refused) × WroteWhole from.told to.told reply.bytes)

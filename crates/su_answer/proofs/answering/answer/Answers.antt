@@ -6,12 +6,13 @@ use Rattle.std.proofs.lemmas.List.{nil_from_length}
 use Rattle.std.proofs.lemmas.Result.{err_from_is_err_and}
 use Rattle.su_base.specs.declared.values.Value.{Value}
 use Rattle.su_tableau.specs.Kinds.{IsTyped}
-use Rattle.su_schema.specs.SchemaValue.{attribute_kinds}
+use Rattle.su_schema.specs.Entries.{attribute_kinds}
 use Rattle.su_min.specs.Kept.{Minimised}
 use Rattle.su_min.specs.Reduction.{term_at}
 use Rattle.su_answer.specs.declared.faults.AnswerFault.{AnswerFault}
 use Rattle.su_answer.specs.declared.faults.AnswerFault.TheVariants.{Limit}
-use Rattle.su_answer.specs.Answers.{IsAnswer, AreMoreThan}
+use Rattle.su_answer.specs.Answers.{IsAnswer}
+use Rattle.su_answer.specs.QueryAnswers.{AreMoreThan}
 use Rattle.su_answer.specs.inside.Executed.{IsFoundFor}
 use Rattle.su_answer.proofs.Counting.{minimals_fit}
 use Rattle.su_answer.proofs.Union.{AreUnited, kept_low, all_left, halves, wave_low, wave_united, wave_more, lists_ascend, more_answers, are_answers}

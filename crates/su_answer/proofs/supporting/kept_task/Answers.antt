@@ -1,8 +1,9 @@
 use Rattle.std.proofs.Common.{All, subst, arith}
 use Rattle.su_base.proofs.Items.{All-members}
-use Rattle.su_schema.specs.SchemaValue.{SchemaValue, attribute_kinds}
+use Rattle.su_schema.specs.SchemaValue.{SchemaValue}
+use Rattle.su_schema.specs.Entries.{attribute_kinds}
 use Rattle.su_tableau.specs.Tableaux.{Tab, IsValid, IsSmall}
-use Rattle.su_map.specs.Lists.{rows_in}
+use Rattle.su_map.specs.Lists.{row_numbers}
 use Rattle.su_exec.specs.Tasks.{IsTask}
 use Rattle.su_answer.specs.Joined.{IsTaskRowOf, IsTaskOf}
 use Rattle.su_answer.specs.inside.Alone.{AreCountable}
@@ -31,7 +32,7 @@ countable c =
     let m = c.args.minimal.now in
     let rows = c.in_ok-task.task.rows in
     All-members (AreCountable db.tables) rows (λ r has.
-    let w = zip_second (IsTaskRowOf db.schema m.tableau m.mask) (rows_in m.tableau m.mask) rows r (task_is c).rows has in
+    let w = zip_second (IsTaskRowOf db.schema m.tableau m.mask) (row_numbers m.tableau m.mask) rows r (task_is c).rows has in
     never_more db m.tableau m.mask w.0 r c.keeps_its_rules.ensures w.2 18446744073709551615 (omega arith))
 
 pub returns : goal.returns

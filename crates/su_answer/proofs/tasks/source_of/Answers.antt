@@ -2,7 +2,8 @@ use Rattle.std.proofs.Common.{◌≡◌, [], Some, map, get_or, take, sym, ap, �
 use Rattle.std.specs.Prelude.{slice_get, option_map}
 use Rattle.std.proofs.lemmas.List.{take_all}
 use Rattle.std.proofs.lemmas.Option.{slice_get-get_or, slice_get-map, same_Some}
-use Rattle.su_schema.specs.SchemaValue.{ObjectEntry, column_of}
+use Rattle.su_schema.specs.SchemaValue.{ObjectEntry}
+use Rattle.su_schema.specs.Entries.{column_of}
 use Rattle.su_answer.proofs.tasks.source_of.Goals as goal
 
 pub returns : goal.returns

@@ -1,6 +1,7 @@
 use Rattle.std.proofs.Common.{◌≡◌, map, take, Some}
 use Rattle.std.specs.Prelude.{slice_get}
-use Rattle.su_schema.specs.SchemaValue.{ObjectEntry, column_of}
+use Rattle.su_schema.specs.SchemaValue.{ObjectEntry}
+use Rattle.su_schema.specs.Entries.{column_of}
 use Rattle.su_answer.proofs.tasks.source_of.Given as goal
 
 abbrev pub invariant-loop-a : goal.invariant-loop-a

@@ -1,5 +1,5 @@
 use Rattle.std.proofs.Common.{◌≡◌, map, take}
-use Rattle.su_tableau.specs.Tableaux.{value_of}
+use Rattle.su_tableau.specs.Valuations.{value_of}
 use Rattle.su_chase.specs.inside.Rows.{value_in}
 use Rattle.su_chase.proofs.freezing.row_at.Given as goal
 

@@ -1,5 +1,5 @@
 use Rattle.std.proofs.Common.{◌≡◌, map, take}
-use Rattle.su_tableau.specs.Tableaux.{values_of}
+use Rattle.su_tableau.specs.Valuations.{values_of}
 use Rattle.su_chase.specs.inside.Rows.{value_in}
 use Rattle.su_chase.proofs.freezing.rows_at.Given as goal
 

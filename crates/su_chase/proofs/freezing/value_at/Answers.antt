@@ -4,7 +4,7 @@ use Rattle.std.specs.Result.{MatchResult}
 use Rattle.std.proofs.lemmas.List.{get_or_default}
 use Rattle.su_base.specs.declared.values.Value.{Value}
 use Rattle.su_base.specs.declared.values.Value.TheVariants.{Int}
-use Rattle.su_tableau.specs.Tableaux.{nth, value_of}
+use Rattle.su_tableau.specs.Valuations.{nth, value_of}
 use Rattle.su_chase.specs.inside.Rows.{value_in}
 use Rattle.su_chase.proofs.Searches.{value_searched}
 use Rattle.su_chase.proofs.freezing.value_at.Goals as goal

@@ -3,7 +3,7 @@ use Rattle.std.specs.Int.{bit_at}
 use Rattle.std.proofs.lemmas.List.Elements.{All-contains}
 use Rattle.su_check.specs.Certificate.{lines_of}
 use Rattle.su_check.specs.inside.Cells.{cell}
-use Rattle.su_check.specs.Fitting.{row_of}
+use Rattle.su_check.specs.Fitting.{numbered_row}
 use Rattle.su_check.specs.inside.Guides.{HasTargets}
 use Rattle.su_check.proofs.PossibleTargets.{image_told, sent_alone}
 use Rattle.su_check.proofs.guides.candidates.Goals as goal
@@ -18,7 +18,7 @@ pub loop-at_column-preserved : goal.loop-at_column-preserved
 loop-at_column-preserved c = λ j kept sent.
     let t = lines_of c.args.term.now in let s = c.args.row in let i = get_or c.as_slice-at_column-items.result.now c.loop-at_column.at_column-index 0 in
     let from = c.row_at-cells.ensures ∙ ap (λ r. get_or r s []) c.as_slice.ensures in
-    let wide : i < length (row_of t s) = subst (λ l. All (λ a. (j : ℕ) → j < length t.rows → a < length (row_of t j)) l) (sym c.as_slice-at_column-items.ensures) c.requires.guide.telling c.loop-at_column.at_column-index 0 c.loop-at_column-test.true s c.requires.row in
+    let wide : i < length (numbered_row t s) = subst (λ l. All (λ a. (j : ℕ) → j < length t.rows → a < length (numbered_row t j)) l) (sym c.as_slice-at_column-items.ensures) c.requires.guide.telling c.loop-at_column.at_column-index 0 c.loop-at_column-test.true s c.requires.row in
     let low = All-contains (λ k. k < length c.args.term.now.rows) c.args.term.now.kept j c.requires.ready.kept kept in
     elim c.match-numbers-column.branch [
       | in-Some w ↦

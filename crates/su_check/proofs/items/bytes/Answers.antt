@@ -1,5 +1,6 @@
 use Rattle.std.proofs.Common.{refl, arith}
-use Rattle.su_check.specs.Grammar.{number, IsByte}
+use Rattle.su_check.specs.NodeSymbols.{number}
+use Rattle.su_check.specs.Ranges.{IsByte}
 use Rattle.su_check.proofs.Runs.{map_ended}
 use Rattle.su_check.proofs.Spelled.{one_number}
 use Rattle.su_check.proofs.items.bytes.Goals as goal

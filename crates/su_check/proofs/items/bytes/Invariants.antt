@@ -1,5 +1,6 @@
 use Rattle.std.proofs.Common.{◌≡◌, ◌++◌, length, map, All}
-use Rattle.su_check.specs.Grammar.{number, IsByte}
+use Rattle.su_check.specs.NodeSymbols.{number}
+use Rattle.su_check.specs.Ranges.{IsByte}
 use Rattle.su_check.proofs.items.bytes.Given as goal
 
 abbrev pub invariant-loop-n : goal.invariant-loop-n

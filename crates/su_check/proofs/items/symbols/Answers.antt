@@ -1,5 +1,6 @@
 use Rattle.std.proofs.lemmas.Option.{MatchOption-at_none}
-use Rattle.su_check.specs.Grammar.{sym_symbol, IsNamed}
+use Rattle.su_check.specs.NodeSymbols.{sym_symbol}
+use Rattle.su_check.specs.Ranges.{IsNamed}
 use Rattle.su_check.proofs.Runs.{map_ended}
 use Rattle.su_check.proofs.Spelled.{one_symbol}
 use Rattle.su_check.proofs.items.symbols.Goals as goal

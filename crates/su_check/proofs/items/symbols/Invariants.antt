@@ -1,5 +1,6 @@
 use Rattle.std.proofs.Common.{◌≡◌, ◌++◌, length, map, All}
-use Rattle.su_check.specs.Grammar.{sym_symbol, IsNamed}
+use Rattle.su_check.specs.NodeSymbols.{sym_symbol}
+use Rattle.su_check.specs.Ranges.{IsNamed}
 use Rattle.su_check.proofs.items.symbols.Given as goal
 
 abbrev pub invariant-loop-symbols : goal.invariant-loop-symbols

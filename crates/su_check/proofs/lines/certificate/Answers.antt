@@ -1,6 +1,6 @@
 use Rattle.std.proofs.Common.{◌≡◌, length, All, codes, Err, sym, ap, subst, ◌∙◌, arith}
 use Rattle.std.proofs.lemmas.Result.{err_from_is_err_and}
-use Rattle.su_check.specs.Grammar.{IsTermInRange}
+use Rattle.su_check.specs.Ranges.{IsTermInRange}
 use Rattle.su_check.proofs.Runs.{gives_on}
 use Rattle.su_check.proofs.TermSymbols.{behind_word, certificate_at, certificate_found, same_certificate, stops_terms}
 use Rattle.su_check.proofs.lines.certificate.Goals as goal

@@ -1,7 +1,7 @@
 use Rattle.std.proofs.Common.{Err, ap, subst, ◌∙◌}
 use Rattle.std.proofs.lemmas.Result.{err_from_is_err_and}
 use Rattle.su_lex.proofs.Written.{one_list_of_symbols}
-use Rattle.su_check.specs.Nesting.{IsDeep}
+use Rattle.su_lex.specs.Nesting.{IsDeep}
 use Rattle.su_check.proofs.Runs.{gives_unless}
 use Rattle.su_check.proofs.reading.read.Goals as goal
 

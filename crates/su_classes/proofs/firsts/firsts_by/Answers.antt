@@ -4,7 +4,7 @@ use Rattle.std.proofs.lemmas.List.{get_or_read}
 use Rattle.su_classes.specs.declared.items.Placed.{Placed}
 use Rattle.su_classes.specs.Items.{IsPlacedBelow}
 use Rattle.su_classes.specs.Tables.{rep}
-use Rattle.su_classes.specs.inside.Firsts.{row_at, noted_in, IsFirst}
+use Rattle.su_classes.specs.inside.Firsts.{row_at, noted_in, IsFirstNoted}
 use Rattle.su_classes.proofs.Noted.{noted_more, firsts_all}
 use Rattle.su_classes.proofs.firsts.firsts_by.Goals as goal
 
@@ -25,7 +25,7 @@ loop-position-preserved c =
     let new = noted_in c.first_of.new.notes in
     let first = c.in_ok-first.first in
     let is : c.index-rows-position.result ≡ row_at rows n = get_or_read rows n c.index-rows-position.result c.loop-position-test.true c.index-rows-position.is (record { has = empty; cells = [] }) in
-    let found : IsFirst label c.args.side.now.fd.now c.args.side.now.left.now (row_at rows n) old new n first = subst (λ (row : Placed). IsFirst label c.args.side.now.fd.now c.args.side.now.left.now row old new n first) is c.in_ok-first.ensures in
+    let found : IsFirstNoted label c.args.side.now.fd.now c.args.side.now.left.now (row_at rows n) old new n first = subst (λ (row : Placed). IsFirstNoted label c.args.side.now.fd.now c.args.side.now.left.now row old new n first) is c.in_ok-first.ensures in
     rw c.in_ok-push.ensures.ok (noted_more label c.args.side.now.fd.now c.args.side.now.left.now rows old new n first c.loop-position.firsts c.loop-position.invariant found)
 
 pub returns : goal.returns

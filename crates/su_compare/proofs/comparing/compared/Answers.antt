@@ -1,13 +1,14 @@
 -- All terms of the first so far are settled by terms of the second; the first that isn't has frozen rows that only the first query answers.
 use Rattle.std.proofs.Common.{◌≡◌, List, length, get_or, All, sym, ◌∙◌, subst, arith}
 use Rattle.su_fd.specs.declared.dependencies.Fd.{Fd}
-use Rattle.su_tableau.specs.Tableaux.{Tab, Ext}
+use Rattle.su_tableau.specs.Tableaux.{Tab}
+use Rattle.su_tableau.specs.Valuations.{Ext}
 use Rattle.su_chase.specs.Chased.{IsFdBelow}
 use Rattle.su_fd.specs.Meeting.{Meets}
-use Rattle.su_schema.specs.SchemaValue.{attribute_kinds}
+use Rattle.su_schema.specs.Entries.{attribute_kinds}
 use Rattle.su_compare.specs.declared.settling.Settled.{Settled}
 use Rattle.su_compare.specs.declared.settling.Settled.TheVariants.{By, Open}
-use Rattle.su_compare.specs.Verdict.{IsBy, IsUnsettled}
+use Rattle.su_compare.specs.Settled.{IsBy, IsUnsettled}
 use Rattle.su_compare.specs.inside.Settling.{IsSettlement, Answers, IsTypedOpen}
 use Rattle.su_compare.proofs.Settled.{tab_here}
 use Rattle.su_compare.proofs.PlainTerms.{all_alike, fds_below, one_settled, earlier_settled, all_answers}

@@ -1,7 +1,7 @@
 use Rattle.std.proofs.Common.{◌≡◌, ℕ, ◌≤◌, length, sym, ap, ◌∙◌, subst, below_more, arith}
 use Rattle.su_tableau.specs.Tableaux.{Tab, AreVarsBelow}
 use Rattle.su_tableau.proofs.Rows.{vars_up}
-use Rattle.su_compare.specs.Verdict.{tab_at}
+use Rattle.su_compare.specs.Settled.{tab_at}
 use Rattle.su_compare.proofs.Settled.{tab_here}
 use Rattle.su_compare.proofs.PlainTerms.{max_left, max_right}
 use Rattle.su_compare.proofs.comparing.room_for.Goals as goal

@@ -3,7 +3,7 @@ use Rattle.std.specs.Prelude.{slice_index_or}
 use Rattle.std.proofs.lemmas.List.{get_or-map}
 use Rattle.std.proofs.lemmas.Option.{get_or_from_slice_get, slice_get_within}
 use Rattle.su_base.specs.declared.values.Kind.TheVariants.{Int as IntKind}
-use Rattle.su_schema.specs.SchemaValue.{attribute_kinds}
+use Rattle.su_schema.specs.Entries.{attribute_kinds}
 use Rattle.su_query.specs.declared.places.Place.{Place}
 use Rattle.su_query.specs.Ranges.{place_kinds}
 use Rattle.su_compare.proofs.outputs.output_kind.Goals as goal

@@ -1,11 +1,11 @@
 use Rattle.std.proofs.Common.{◌↔◌, ℕ, ◌<◌, length, subst}
 use Rattle.std.specs.Prelude.{Option, MatchOption}
-use Rattle.su_tableau.specs.Tableaux.{Ext}
+use Rattle.su_tableau.specs.Valuations.{Ext}
 use Rattle.su_tableau.specs.Mapping.{Maps}
 use Rattle.su_chase.specs.Chased.{IsChased, IsChaseOf, ExtOf}
 use Rattle.su_chase.specs.declared.chasing.Chased.{Chased}
 use Rattle.su_compare.specs.declared.verdicts.Found.{Found}
-use Rattle.su_compare.specs.Verdict.{tab_at, IsFound}
+use Rattle.su_compare.specs.Settled.{tab_at, IsFound}
 use Rattle.su_compare.proofs.Settled.{alike_chased, found_answers}
 use Rattle.su_compare.proofs.settling.settle.Goals as goal
 

@@ -1,6 +1,6 @@
 use Rattle.std.proofs.Common.{◌≤◌, Some, length, ap, sym, ◌∙◌, arith}
 use Rattle.std.proofs.lemmas.List.{take_all, length-map}
-use Rattle.su_schema.specs.SchemaValue.{attribute_names}
+use Rattle.su_schema.specs.Entries.{attribute_names}
 use Rattle.su_compare.proofs.Gathered.{push_taken}
 use Rattle.su_compare.proofs.showing.header_of.Goals as goal
 

@@ -1,5 +1,5 @@
 use Rattle.std.proofs.Common.{◌≡◌, take}
-use Rattle.su_schema.specs.SchemaValue.{attribute_kinds}
+use Rattle.su_schema.specs.Entries.{attribute_kinds}
 use Rattle.su_compare.proofs.shown.kinds_of.Given as goal
 
 abbrev pub invariant-loop-a : goal.invariant-loop-a

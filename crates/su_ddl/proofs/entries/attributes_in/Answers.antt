@@ -1,8 +1,8 @@
 use Rattle.std.proofs.Common.{[]}
 use Rattle.std.specs.FinSet.{contains}
 use Rattle.std.proofs.lemmas.Option.{get_or_from_slice_get}
-use Rattle.su_schema.specs.SchemaValue.{attribute_names}
-use Rattle.su_ddl.specs.Shown.{name_at}
+use Rattle.su_schema.specs.Entries.{attribute_names}
+use Rattle.su_ddl.specs.ShownDefinitions.{name_at}
 use Rattle.su_ddl.proofs.Lines.{one_wanted}
 use Rattle.su_ddl.proofs.entries.attributes_in.Goals as goal
 

@@ -2,9 +2,9 @@ use Rattle.std.proofs.Common.{◌≡◌, [], ◌≤◌, ◌<◌, sym, ap, ◌∙
 use Rattle.std.proofs.lemmas.Bool.Decides.{nat_tests}
 use Rattle.std.proofs.lemmas.Option.{get_or_from_slice_get}
 use Rattle.std.proofs.lemmas.Result.{IfOk-weaker}
-use Rattle.su_schema.specs.SchemaValue.{relation_columns, column_names}
-use Rattle.su_schema.specs.Checks.{columns_at}
-use Rattle.su_ddl.specs.Shown.{name_at}
+use Rattle.su_schema.specs.Entries.{relation_columns, column_names}
+use Rattle.su_schema.specs.Known.{columns_at}
+use Rattle.su_ddl.specs.ShownDefinitions.{name_at}
 use Rattle.su_ddl.proofs.Lines.{column_within, column_past}
 use Rattle.su_ddl.proofs.entries.column_name.Goals as goal
 

@@ -2,8 +2,9 @@ use Rattle.std.proofs.Common.{◌≡◌, [], length}
 use Rattle.std.specs.List.{range_with_len, filter_map}
 use Rattle.std.proofs.lemmas.Option.{get_or_from_slice_get}
 use Rattle.su_schema.specs.declared.definitions.Definition.TheVariants.{Object}
-use Rattle.su_schema.specs.SchemaValue.{ObjectEntry, relation_names}
-use Rattle.su_ddl.specs.Shown.{name_at, pair_of}
+use Rattle.su_schema.specs.SchemaValue.{ObjectEntry}
+use Rattle.su_schema.specs.Entries.{relation_names}
+use Rattle.su_ddl.specs.ShownDefinitions.{name_at, pair_of}
 use Rattle.su_ddl.proofs.Lines.{three_fields, stored}
 use Rattle.su_ddl.proofs.entries.object_at.Goals as goal
 

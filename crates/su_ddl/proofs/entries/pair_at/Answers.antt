@@ -1,7 +1,7 @@
 use Rattle.std.proofs.Common.{◌≡◌, [], Some, None}
 use Rattle.std.proofs.lemmas.Option.{get_or_from_slice_get}
-use Rattle.su_schema.specs.SchemaValue.{attribute_names, column_of}
-use Rattle.su_ddl.specs.Shown.{name_at}
+use Rattle.su_schema.specs.Entries.{attribute_names, column_of}
+use Rattle.su_ddl.specs.ShownDefinitions.{name_at}
 use Rattle.su_ddl.proofs.Lines.{two_fields, pair_on}
 use Rattle.su_ddl.proofs.entries.pair_at.Goals as goal
 

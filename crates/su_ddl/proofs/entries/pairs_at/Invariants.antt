@@ -1,6 +1,6 @@
 use Rattle.std.proofs.Common.{◌≡◌, map, Some, slice_get}
 use Rattle.std.specs.List.{range_with_len, filter_map}
-use Rattle.su_ddl.specs.Shown.{pair_of}
+use Rattle.su_ddl.specs.ShownDefinitions.{pair_of}
 use Rattle.su_ddl.proofs.entries.pairs_at.Given as goal
 
 abbrev pub invariant-loop-a : goal.invariant-loop-a

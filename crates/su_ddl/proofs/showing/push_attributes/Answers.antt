@@ -1,5 +1,5 @@
 use Rattle.std.proofs.Common.{map}
-use Rattle.su_ddl.specs.Shown.{attribute_definition}
+use Rattle.su_ddl.specs.ShownDefinitions.{attribute_definition}
 use Rattle.su_ddl.proofs.Lines.{one_line}
 use Rattle.su_ddl.proofs.showing.push_attributes.Goals as goal
 

@@ -1,5 +1,5 @@
 use Rattle.std.proofs.Common.{ap, ◌∙◌, map}
-use Rattle.su_ddl.specs.Shown.{maximal_definition}
+use Rattle.su_ddl.specs.ShownDefinitions.{maximal_definition}
 use Rattle.su_ddl.proofs.Lines.{listed_at, one_line}
 use Rattle.su_ddl.proofs.showing.push_declared.Goals as goal
 

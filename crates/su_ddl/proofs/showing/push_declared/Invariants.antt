@@ -1,5 +1,6 @@
 use Rattle.std.proofs.Common.{◌≡◌, ◌++◌, map, take}
-use Rattle.su_ddl.specs.Shown.{lines_of, maximal_definition}
+use Rattle.su_ddl.specs.Shown.{lines_of}
+use Rattle.su_ddl.specs.ShownDefinitions.{maximal_definition}
 use Rattle.su_ddl.proofs.showing.push_declared.Given as goal
 
 abbrev pub invariant-loop-set : goal.invariant-loop-set

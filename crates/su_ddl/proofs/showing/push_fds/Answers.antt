@@ -1,5 +1,5 @@
 use Rattle.std.proofs.Common.{ap, ◌∙◌, map}
-use Rattle.su_ddl.specs.Shown.{fd_definition}
+use Rattle.su_ddl.specs.ShownDefinitions.{fd_definition}
 use Rattle.su_ddl.proofs.Lines.{listed_at, one_line}
 use Rattle.su_ddl.proofs.showing.push_fds.Goals as goal
 

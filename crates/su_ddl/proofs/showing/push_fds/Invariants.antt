@@ -1,5 +1,6 @@
 use Rattle.std.proofs.Common.{◌≡◌, ◌++◌, map, take}
-use Rattle.su_ddl.specs.Shown.{lines_of, fd_definition}
+use Rattle.su_ddl.specs.Shown.{lines_of}
+use Rattle.su_ddl.specs.ShownDefinitions.{fd_definition}
 use Rattle.su_ddl.proofs.showing.push_fds.Given as goal
 
 abbrev pub invariant-loop-fd : goal.invariant-loop-fd

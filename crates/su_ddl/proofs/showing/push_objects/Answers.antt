@@ -1,5 +1,5 @@
 use Rattle.std.proofs.Common.{map}
-use Rattle.su_ddl.specs.Shown.{object_definition}
+use Rattle.su_ddl.specs.ShownDefinitions.{object_definition}
 use Rattle.su_ddl.proofs.Lines.{one_line}
 use Rattle.su_ddl.proofs.showing.push_objects.Goals as goal
 

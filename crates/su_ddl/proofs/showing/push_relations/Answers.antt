@@ -1,5 +1,5 @@
 use Rattle.std.proofs.Common.{map}
-use Rattle.su_ddl.specs.Shown.{relation_definition}
+use Rattle.su_ddl.specs.ShownDefinitions.{relation_definition}
 use Rattle.su_ddl.proofs.Lines.{one_line}
 use Rattle.su_ddl.proofs.showing.push_relations.Goals as goal
 

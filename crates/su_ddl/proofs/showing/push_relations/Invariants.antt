@@ -1,5 +1,6 @@
 use Rattle.std.proofs.Common.{◌≡◌, ◌++◌, map, take}
-use Rattle.su_ddl.specs.Shown.{lines_of, relation_definition}
+use Rattle.su_ddl.specs.Shown.{lines_of}
+use Rattle.su_ddl.specs.ShownDefinitions.{relation_definition}
 use Rattle.su_ddl.proofs.showing.push_relations.Given as goal
 
 abbrev pub invariant-loop-r : goal.invariant-loop-r

@@ -1,7 +1,7 @@
 use Rattle.std.proofs.Common.{◌≡◌, ◌<◌, ◌&&◌, ◌||◌, ◌+◌, ℕ, List, [], ◌∷◌, length, get_or, take, sym, ap, ◌∙◌, arith}
 use Rattle.su_where.specs.declared.operators.Op.TheVariants.{Equal}
 use Rattle.su_exec.specs.declared.checks.Check.{Check}
-use Rattle.su_exec.specs.declared.checks.Term.TheVariants.{Code}
+use Rattle.su_exec.specs.declared.checks.CodedSymbol.TheVariants.{Code}
 use Rattle.su_exec.specs.inside.Edges.{has}
 use Rattle.su_exec.specs.inside.Checks.{all_hold, check_holds, check_vars}
 use Rattle.su_exec.proofs.Testing.{has_more, hold_more, or_first, or_map, or_second}

@@ -1,7 +1,7 @@
 use Rattle.std.proofs.Common.{◌≡◌, ◌<◌, ◌++◌, ℕ, List, length, get_or, ap, ◌∙◌, arith}
 use Rattle.su_where.specs.declared.operators.Op.TheVariants.{Equal}
 use Rattle.su_exec.specs.declared.checks.Check.{Check}
-use Rattle.su_exec.specs.declared.checks.Term.TheVariants.{Code}
+use Rattle.su_exec.specs.declared.checks.CodedSymbol.TheVariants.{Code}
 use Rattle.su_exec.specs.inside.Checks.{vars_of}
 use Rattle.su_exec.specs.inside.Edges.{Edge}
 use Rattle.su_exec.proofs.Wanting.{checks_wanted, only_wanted, stays_wanted}

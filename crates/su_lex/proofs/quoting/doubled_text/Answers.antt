@@ -2,7 +2,7 @@ use Rattle.std.proofs.Common.{◌≡◌, ◌-◌, ◌+◌, Err, sym, ap, arith, 
 use Rattle.std.proofs.lemmas.List.{take_rest}
 use Rattle.std.proofs.lemmas.Result.{err_from_is_err_and}
 use Rattle.su_lex.specs.declared.ends.LexEnd.TheVariants.{Syntax}
-use Rattle.su_lex.specs.Tokens.{doubled}
+use Rattle.su_lex.specs.TokenForms.{doubled}
 use Rattle.su_lex.proofs.Quotes.{grows, piece_content, piece_close, piece_missing, text_no_end, text_refused, text_found}
 use Rattle.su_lex.proofs.quoting.doubled_text.Goals as goal
 

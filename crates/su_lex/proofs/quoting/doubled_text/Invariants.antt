@@ -1,5 +1,5 @@
 use Rattle.std.proofs.Common.{◌≡◌, ◌∷◌, ◌++◌, length}
-use Rattle.su_lex.specs.Tokens.{doubled}
+use Rattle.su_lex.specs.TokenForms.{doubled}
 use Rattle.su_lex.proofs.quoting.doubled_text.Given as goal
 
 abbrev pub invariant-loop-b : goal.invariant-loop-b

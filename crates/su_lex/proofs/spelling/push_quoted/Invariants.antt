@@ -1,5 +1,5 @@
 use Rattle.std.proofs.Common.{◌≡◌, ◌∷◌, ◌++◌, take}
-use Rattle.su_lex.specs.Tokens.{doubled}
+use Rattle.su_lex.specs.TokenForms.{doubled}
 use Rattle.su_lex.proofs.spelling.push_quoted.Given as goal
 
 abbrev pub invariant-loop-b : goal.invariant-loop-b

@@ -1,6 +1,6 @@
 use Rattle.std.proofs.Common.{◌≡◌, ◌≢◌, ◌<◌, ◌∙◌, ℕ, length, length-set, get_or, set, inl, inr, sym, ap, subst, ⊎_elim, arith, get_or-set_other, get_or-set_same}
 use Rattle.std.specs.Int.{bit_at}
-use Rattle.su_map.specs.Nets.{agree_of}
+use Rattle.su_map.specs.Netted.{agree_of}
 use Rattle.std.proofs.lemmas.Bool.{cases_eq}
 use Rattle.su_map.specs.inside.Choices.{IsChoice}
 use Rattle.su_map.proofs.Members.{no_member, without_in}

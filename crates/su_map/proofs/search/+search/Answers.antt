@@ -1,7 +1,7 @@
 use Rattle.std.proofs.Common.{◌≡◌, ◌≢◌, ◌⊎◌, ◌+◌, ◌*◌, ◌<◌, ◌≤◌, ℕ, Bool, length, length-set, get_or, set, sym, ap, ◌∙◌, subst, true≢false, arith}
 use Rattle.std.specs.Int.{bit_at}
 use Rattle.su_map.specs.Lists.{numbers_of}
-use Rattle.su_map.specs.Nets.{HasRoom}
+use Rattle.su_map.specs.Netted.{HasRoom}
 use Rattle.su_map.specs.inside.Choices.{IsChoice, AreSame, IsLess, choice_of, Stands, IsInOrder, AreKept, tries, ArePassed}
 use Rattle.su_map.proofs.Costing.{le_at, cost_passed, cost_tried, cost_all}
 use Rattle.su_map.proofs.Searching.{without_less, room_next, room_enough, stays, stands_next, order_next, kept_deeper, first_step}

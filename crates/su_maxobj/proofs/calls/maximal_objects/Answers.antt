@@ -1,7 +1,7 @@
 use Rattle.std.proofs.Common.{◌≡◌, ◌≤◌, ◌++◌, length, ap, arith}
 use Rattle.std.proofs.lemmas.Result.{IfOk-weaker}
 use Rattle.std.proofs.lemmas.List.{length-map}
-use Rattle.su_schema.specs.SchemaValue.{attributes_of}
+use Rattle.su_schema.specs.Entries.{attributes_of}
 use Rattle.su_maxobj.specs.MaximalObjects.{computed}
 use Rattle.su_maxobj.proofs.Few.{few_listed}
 use Rattle.su_maxobj.proofs.calls.maximal_objects.Goals as goal

@@ -1,6 +1,6 @@
 use Rattle.std.proofs.Common.{◌≡◌, ◌≤◌, refl, length, take, sym, ap, ◌∙◌, arith}
 use Rattle.std.proofs.lemmas.List.{take_all, length-map}
-use Rattle.su_schema.specs.SchemaValue.{attributes_of}
+use Rattle.su_schema.specs.Entries.{attributes_of}
 use Rattle.su_maxobj.specs.MaximalObjects.{object_sets}
 use Rattle.su_maxobj.proofs.Lists.{read_more}
 use Rattle.su_maxobj.proofs.calls.read_objects.Goals as goal

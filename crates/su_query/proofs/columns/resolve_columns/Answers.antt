@@ -2,7 +2,9 @@ use Rattle.std.proofs.Common.{◌∙◌, Bor, map, sym, ap, subst}
 use Rattle.su_query.specs.declared.refs.Ref.{Ref}
 use Rattle.su_query.specs.declared.conditions.Comparison.{Comparison}
 use Rattle.su_query.specs.declared.scopes.Scope.TheVariants.{Columns}
-use Rattle.su_query.specs.Lookup.{names_in, first_unknown, differing_kinds, IsColumnCondition}
+use Rattle.su_query.specs.Scopes.{names_in, first_unknown}
+use Rattle.su_query.specs.Differing.{differing_kinds}
+use Rattle.su_query.specs.Lookup.{IsColumnCondition}
 use Rattle.su_query.specs.Ranges.{IsOnColumns}
 use Rattle.su_query.proofs.Ranged.{columns_typed}
 use Rattle.su_query.proofs.columns.resolve_columns.Goals as goal

@@ -1,6 +1,6 @@
 use Rattle.std.proofs.Common.{◌≡◌, ◌<◌, ◌+◌, ◌*◌, ◌++◌, length, List}
 use Rattle.su_query.specs.Grammar.{ReadsOrs, ReadsAnds}
-use Rattle.su_query.specs.Mentions.{NamedCond}
+use Rattle.su_query.specs.Refs.{NamedCond}
 use Rattle.su_lex.specs.declared.meaning.Symbol.{Symbol}
 use Rattle.su_query.proofs.Steps.{ReadsConjs, ReadsFactors}
 use Rattle.su_query.proofs.conds.+reader.Given as goal

@@ -4,7 +4,7 @@ use Rattle.su_lex.specs.declared.ends.LexEnd.TheVariants.{Syntax}
 use Rattle.su_lex.specs.declared.meaning.Symbol.{Symbol}
 use Rattle.su_lex.specs.declared.meaning.Symbol.TheVariants.{Sign}
 use Rattle.su_lex.specs.declared.signs.Sign.TheVariants as sign
-use Rattle.su_query.specs.Grammar.{ReadsName}
+use Rattle.su_query.specs.Operands.{ReadsName}
 use Rattle.su_query.specs.Lists.{Several}
 use Rattle.su_query.proofs.Exits.{names_no_names, names_no_close, names_no_end}
 use Rattle.su_query.proofs.Listed.{no_names, several_names}

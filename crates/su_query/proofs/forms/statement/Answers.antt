@@ -6,7 +6,7 @@ use Rattle.su_lex.specs.declared.meaning.Symbol.TheVariants.{Word}
 use Rattle.su_lex.specs.Names.{Begins}
 use Rattle.su_query.specs.declared.statements.Query.{Query as AQuery}
 use Rattle.su_query.specs.Forms as g
-use Rattle.su_query.specs.Forms.{QueryForm}
+use Rattle.su_query.specs.QueryForms.{QueryForm}
 use Rattle.su_query.proofs.Exits.{none_left}
 use Rattle.su_query.proofs.forms.statement.Goals as goal
 

@@ -2,8 +2,8 @@ use Rattle.std.proofs.Common.{refl, sym, ap}
 use Rattle.std.proofs.lemmas.Result.{IfOk-weaker}
 use Rattle.su_where.specs.declared.conditions.Condition.TheVariants.{All}
 use Rattle.su_query.specs.Grammar.{ReadsCond}
-use Rattle.su_query.specs.Forms as g
-use Rattle.su_query.specs.Forms.{ReadsWhere}
+use Rattle.su_query.specs.QueryForms as g
+use Rattle.su_query.specs.QueryForms.{ReadsWhere}
 use Rattle.su_query.proofs.forms.wanted.Goals as goal
 
 pub returns-then-not-takes_word-clause-found : goal.returns-then-not-takes_word-clause-found

@@ -1,6 +1,6 @@
 use Rattle.std.proofs.Common.{arith}
 use Rattle.std.proofs.lemmas.List.{length-map}
-use Rattle.su_query.specs.Reading.{plain_ref}
+use Rattle.su_query.specs.Limits.{plain_ref}
 use Rattle.su_query.proofs.Counted.{names_few_variables, nothing_compared}
 use Rattle.su_query.proofs.limits.check_names.Goals as goal
 

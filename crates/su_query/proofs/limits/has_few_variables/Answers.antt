@@ -1,8 +1,9 @@
 use Rattle.std.proofs.Common.{◌≡◌, ◌<◌, ◌≤◌, ◌∙◌, true, false, [], ℕ, List, Option, Bor, length, map, ap, subst}
 use Rattle.std.proofs.lemmas.Result.{IfOk-weaker}
 use Rattle.su_query.specs.declared.refs.Ref.{Ref}
-use Rattle.su_query.specs.Mentions.{mentions, refs_of}
-use Rattle.su_query.specs.Reading.{variable_count}
+use Rattle.su_query.specs.Mentions.{mentions}
+use Rattle.su_query.specs.Refs.{refs_of}
+use Rattle.su_query.specs.Limits.{variable_count}
 use Rattle.su_query.proofs.Seen.{mentions-append}
 use Rattle.su_query.proofs.limits.has_few_variables.Goals as goal
 

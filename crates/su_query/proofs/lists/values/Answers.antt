@@ -1,7 +1,7 @@
 use Rattle.std.proofs.Common.{◌≡◌, ◌∷◌, ◌++◌, [], sym, refl, ap, ◌∙◌, append_assoc, Err}
 use Rattle.std.proofs.lemmas.Result.{err_from_is_err_and}
 use Rattle.su_lex.specs.declared.ends.LexEnd.TheVariants.{Syntax}
-use Rattle.su_query.specs.Grammar.{ReadsValue}
+use Rattle.su_query.specs.Operands.{ReadsValue}
 use Rattle.su_query.proofs.Items.{value_unique}
 use Rattle.su_query.proofs.Listed.{first_then, first_only, next_then, next_only, next_none, last, whole}
 use Rattle.su_query.proofs.lists.values.Goals as goal

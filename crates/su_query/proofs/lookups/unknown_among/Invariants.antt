@@ -1,5 +1,5 @@
 use Rattle.std.proofs.Common.{◌≡◌, map, drop}
-use Rattle.su_query.specs.Lookup.{names_in, first_unknown}
+use Rattle.su_query.specs.Scopes.{names_in, first_unknown}
 use Rattle.su_query.proofs.lookups.unknown_among.Given as goal
 
 abbrev pub invariant-loop-reference : goal.invariant-loop-reference

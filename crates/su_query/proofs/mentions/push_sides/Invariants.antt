@@ -1,6 +1,6 @@
 use Rattle.std.proofs.Common.{◌≡◌, ◌++◌, map, take}
 use Rattle.std.specs.List.{flat_map}
-use Rattle.su_query.specs.Mentions.{refs_beside}
+use Rattle.su_query.specs.Refs.{refs_beside}
 use Rattle.su_query.proofs.mentions.push_sides.Given as goal
 
 abbrev pub invariant-loop-comparison : goal.invariant-loop-comparison

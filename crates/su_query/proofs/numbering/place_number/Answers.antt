@@ -1,6 +1,6 @@
 use Rattle.std.proofs.Common.{◌∙◌, ap}
 use Rattle.std.specs.Prelude.{position, unwrap_or}
-use Rattle.su_query.specs.Lookup.{same_place}
+use Rattle.su_query.specs.Places.{same_place}
 use Rattle.su_query.proofs.numbering.place_number.Goals as goal
 
 pub returns-in-None : goal.returns-in-None

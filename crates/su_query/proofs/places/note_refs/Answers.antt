@@ -1,7 +1,7 @@
 use Rattle.std.proofs.Common.{◌∙◌, ◌+◌, ◌++◌, ◌∷◌, [], sym, ap, map, drop}
 use Rattle.std.specs.Prelude.{if◌then◌else◌}
 use Rattle.std.specs.List.{list_any}
-use Rattle.su_query.specs.Lookup.{same_place, places_of}
+use Rattle.su_query.specs.Places.{same_place, places_of}
 use Rattle.su_query.proofs.Placed.{refs_step}
 use Rattle.su_query.proofs.places.note_refs.Goals as goal
 

@@ -1,5 +1,5 @@
 use Rattle.std.proofs.Common.{◌≡◌, map, drop}
-use Rattle.su_query.specs.Lookup.{places_of}
+use Rattle.su_query.specs.Places.{places_of}
 use Rattle.su_query.proofs.places.note_refs.Given as goal
 
 abbrev pub invariant-loop-reference : goal.invariant-loop-reference

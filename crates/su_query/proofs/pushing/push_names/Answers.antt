@@ -1,4 +1,4 @@
-use Rattle.su_query.specs.Shown.{name_symbols}
+use Rattle.su_query.specs.ShownParts.{name_symbols}
 use Rattle.su_query.proofs.Joined.{listed_more}
 use Rattle.su_query.proofs.pushing.push_names.Goals as goal
 

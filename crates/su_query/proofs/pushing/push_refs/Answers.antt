@@ -1,4 +1,4 @@
-use Rattle.su_query.specs.Shown.{ref_symbols}
+use Rattle.su_query.specs.ShownParts.{ref_symbols}
 use Rattle.su_query.proofs.Joined.{listed_more}
 use Rattle.su_query.proofs.pushing.push_refs.Goals as goal
 

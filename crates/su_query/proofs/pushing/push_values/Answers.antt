@@ -1,4 +1,4 @@
-use Rattle.su_query.specs.Shown.{value_symbols}
+use Rattle.su_query.specs.ShownParts.{value_symbols}
 use Rattle.su_query.proofs.Joined.{listed_more}
 use Rattle.su_query.proofs.pushing.push_values.Goals as goal
 

@@ -1,5 +1,5 @@
 use Rattle.std.proofs.Common.{◌≡◌, ◌++◌, take}
-use Rattle.su_query.specs.Shown.{listed, value_symbols}
+use Rattle.su_query.specs.ShownParts.{listed, value_symbols}
 use Rattle.su_query.proofs.pushing.push_values.Given as goal
 
 abbrev pub invariant-loop-i : goal.invariant-loop-i

@@ -1,7 +1,7 @@
 use Rattle.std.proofs.Common.{◌∙◌, ◌++◌, ◌∷◌, [], sym, ap, map, take}
 use Rattle.std.proofs.lemmas.List.{take_more, map_push}
 use Rattle.su_query.specs.declared.scopes.Scope.TheVariants.{Attributes}
-use Rattle.su_query.specs.Lookup.{number_in}
+use Rattle.su_query.specs.Places.{number_in}
 use Rattle.su_query.proofs.resolving.numbers.Goals as goal
 
 pub loop-reference-preserved : goal.loop-reference-preserved

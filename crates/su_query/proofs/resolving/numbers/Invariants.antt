@@ -1,6 +1,6 @@
 use Rattle.std.proofs.Common.{◌≡◌, map, take}
 use Rattle.su_query.specs.declared.scopes.Scope.TheVariants.{Attributes}
-use Rattle.su_query.specs.Lookup.{number_in}
+use Rattle.su_query.specs.Places.{number_in}
 use Rattle.su_query.proofs.resolving.numbers.Given as goal
 
 abbrev pub invariant-loop-reference : goal.invariant-loop-reference

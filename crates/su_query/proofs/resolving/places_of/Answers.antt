@@ -1,5 +1,5 @@
 use Rattle.std.proofs.Common.{◌∙◌, map, ap}
-use Rattle.su_query.specs.Lookup.{places_of}
+use Rattle.su_query.specs.Places.{places_of}
 use Rattle.su_query.proofs.resolving.places_of.Goals as goal
 
 pub returns : goal.returns

@@ -1,8 +1,8 @@
 use Rattle.std.proofs.Common.{◌≡◌, ◌∙◌, ◌+◌, ℕ, Some, Option, cond, sym, ap, drop}
 use Rattle.std.specs.Prelude.{is_none}
 use Rattle.std.specs.FinSet.{insert}
-use Rattle.su_schema.specs.SchemaValue.{attribute_names, place_of}
-use Rattle.su_query.specs.Lookup.{first_unknown_name}
+use Rattle.su_schema.specs.Entries.{attribute_names, place_of}
+use Rattle.su_query.specs.Scopes.{first_unknown_name}
 use Rattle.su_query.proofs.AttributeSets.{named_step, unknown_step}
 use Rattle.su_query.proofs.sets.resolve_attributes.Goals as goal
 

@@ -1,6 +1,6 @@
 use Rattle.std.proofs.Common.{◌≡◌, take, drop}
-use Rattle.su_schema.specs.SchemaValue.{attribute_names}
-use Rattle.su_query.specs.Lookup.{first_unknown_name}
+use Rattle.su_schema.specs.Entries.{attribute_names}
+use Rattle.su_query.specs.Scopes.{first_unknown_name}
 use Rattle.su_query.specs.Sets.{attributes_named}
 use Rattle.su_query.proofs.sets.resolve_attributes.Given as goal
 

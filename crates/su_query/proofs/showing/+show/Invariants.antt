@@ -1,6 +1,6 @@
 use Rattle.std.proofs.Common.{◌≡◌, ◌++◌, take, map}
 use Rattle.su_lex.specs.declared.meaning.Symbol.TheVariants.{Word}
-use Rattle.su_query.specs.Shown.{joined, shown_cond}
+use Rattle.su_query.specs.ShownConditions.{joined, shown_cond}
 use Rattle.su_query.proofs.showing.+show.Given as goal
 
 abbrev pub invariant-push_parts-loop-i : goal.invariant-push_parts-loop-i

@@ -1,6 +1,6 @@
 use Rattle.std.proofs.Common.{◌≡◌, ◌∷◌, ◌++◌, flat_map, take}
 use Rattle.su_check.specs.Refuting.{target_of, node_of}
-use Rattle.su_check.specs.Grammar.{number, node_symbols}
+use Rattle.su_check.specs.NodeSymbols.{number, node_symbols}
 use Rattle.su_refute.proofs.symbols.+nodes.Given as goal
 
 abbrev pub decreases-push_branches : goal.decreases-push_branches

@@ -1,5 +1,5 @@
 use Rattle.std.proofs.Common.{◌≡◌, ◌++◌, map, take}
-use Rattle.su_check.specs.Grammar.{number}
+use Rattle.su_check.specs.NodeSymbols.{number}
 use Rattle.su_refute.proofs.symbols.push_numbers.Given as goal
 
 abbrev pub invariant-loop-n : goal.invariant-loop-n

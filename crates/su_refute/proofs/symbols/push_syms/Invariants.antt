@@ -1,5 +1,5 @@
 use Rattle.std.proofs.Common.{◌≡◌, ◌++◌, map, take}
-use Rattle.su_check.specs.Grammar.{sym_symbol}
+use Rattle.su_check.specs.NodeSymbols.{sym_symbol}
 use Rattle.su_refute.proofs.symbols.push_syms.Given as goal
 
 abbrev pub invariant-loop-x : goal.invariant-loop-x

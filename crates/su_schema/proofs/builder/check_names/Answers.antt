@@ -1,5 +1,5 @@
 use Rattle.std.proofs.Common.{◌≡◌, take, is_some, inr, sym, ap, ◌∙◌}
-use Rattle.su_schema.specs.SchemaValue.{column_names, place_of}
+use Rattle.su_schema.specs.Entries.{column_names, place_of}
 use Rattle.su_schema.proofs.Entries.{position-map}
 use Rattle.su_schema.proofs.ColumnsSoFar.{column_twice, column_next}
 use Rattle.su_schema.proofs.builder.check_names.Goals as goal

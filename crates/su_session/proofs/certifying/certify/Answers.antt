@@ -1,6 +1,6 @@
 use Rattle.std.proofs.Common.{◌≡◌, ◌∙◌, refl, ap, subst, inl, inr, Err, List}
 use Rattle.su_base.specs.declared.values.Kind.{Kind}
-use Rattle.su_schema.specs.SchemaValue.{attribute_kinds}
+use Rattle.su_schema.specs.Entries.{attribute_kinds}
 use Rattle.su_query.specs.declared.resolving.Resolved.{Resolved}
 use Rattle.su_min.specs.Kept.{Minimised}
 use Rattle.su_check.specs.declared.nodes.Node.{Node}

@@ -2,7 +2,7 @@ use Rattle.std.proofs.Common.{inr}
 use Rattle.std.proofs.lemmas.Result.{IfOk-weaker}
 use Rattle.su_show.specs.declared.statement_refusal.Refusal.TheVariants.{State}
 use Rattle.su_session.specs.Telling.{Refuses}
-use Rattle.su_session.specs.Statements.{InRelation, InsertsRow}
+use Rattle.su_session.specs.ChangingRows.{InRelation, InsertsRow}
 use Rattle.su_session.proofs.Changing.{refused_insert}
 use Rattle.su_session.proofs.changes.insert.Goals as goal
 

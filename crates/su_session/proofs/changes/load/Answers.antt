@@ -1,7 +1,7 @@
 use Rattle.std.proofs.lemmas.Result.{IfOk-weaker}
 use Rattle.su_show.specs.declared.statement_refusal.Refusal.TheVariants.{Csv, Record}
 use Rattle.su_session.specs.Telling.{Refuses}
-use Rattle.su_session.specs.Statements.{InRelation, LoadsRows}
+use Rattle.su_session.specs.ChangingRows.{InRelation, LoadsRows}
 use Rattle.su_session.proofs.Changing.{refused_file, refused_load, loaded_rows, same_schema}
 use Rattle.su_session.proofs.changes.load.Goals as goal
 

@@ -1,6 +1,6 @@
 use Rattle.std.proofs.Common.{◌≡◌, List, sym, ◌∙◌, subst}
 use Rattle.std.proofs.lemmas.Result.{IfOk-weaker}
-use Rattle.su_schema.specs.SchemaValue.{IsValid}
+use Rattle.su_schema.specs.Valid.{IsValid}
 use Rattle.su_steps.specs.declared.results.Term.{Term}
 use Rattle.su_compare.specs.Comparable.{AreComparable}
 use Rattle.su_show.specs.declared.statement_refusal.Refusal.TheVariants.{Steps}

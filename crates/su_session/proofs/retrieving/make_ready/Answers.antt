@@ -1,8 +1,9 @@
 use Rattle.std.proofs.Common.{◌≡◌, subst}
 use Rattle.su_query.specs.declared.resolving.Resolved.{Resolved}
-use Rattle.su_query.specs.Lookup.{IsKnownQuery, resolved_of}
+use Rattle.su_query.specs.Lookup.{IsKnownQuery}
+use Rattle.su_query.specs.Numbering.{resolved_of}
 use Rattle.su_query.specs.Ranges.{IsResolved}
-use Rattle.su_steps.specs.Refusals.{IsRefusal, IsAccepted}
+use Rattle.su_steps.specs.Refusals.{IsStepRefusal, IsAccepted}
 use Rattle.su_session.proofs.retrieving.make_ready.Goals as goal
 
 pub prepare-requires-clause-few : goal.prepare-requires-clause-few
@@ -26,4 +27,4 @@ returns-in-Err-prepare-clause-refused g c =
     let q = c.args.query.now in
     let is : c.in-Ok.resolved ≡ resolved_of schema q = rw c.schema.ensures at c.in-Ok.ensures.resolved in
     let known : IsKnownQuery schema q = rw c.schema.ensures at c.in-Ok.ensures.known in
-    (known, subst (λ (r : Resolved). IsRefusal schema c.args.maximal.now r c.in-Err-prepare.fault) is c.in-Err-prepare.ensures.refused)
+    (known, subst (λ (r : Resolved). IsStepRefusal schema c.args.maximal.now r c.in-Err-prepare.fault) is c.in-Err-prepare.ensures.refused)

@@ -1,5 +1,5 @@
 use Rattle.std.proofs.Common.{◌≡◌, take}
-use Rattle.su_schema.specs.SchemaValue.{column_names}
+use Rattle.su_schema.specs.Entries.{column_names}
 use Rattle.su_session.proofs.showing.names.Given as goal
 
 abbrev pub invariant-loop-column : goal.invariant-loop-column

@@ -1,7 +1,8 @@
 use Rattle.std.proofs.Common.{◌≡◌, ◌↔◌, ℕ, List, Contains, None, refl, ap, ◌∙◌, subst, inr}
 use Rattle.su_base.specs.declared.values.Value.{Value}
-use Rattle.su_schema.specs.SchemaValue.{SchemaValue, attribute_names}
-use Rattle.su_query.specs.Lookup.{first_unknown_name}
+use Rattle.su_schema.specs.SchemaValue.{SchemaValue}
+use Rattle.su_schema.specs.Entries.{attribute_names}
+use Rattle.su_query.specs.Scopes.{first_unknown_name}
 use Rattle.su_window.specs.Window.{InWindow}
 use Rattle.su_session.specs.Windowing.{attribute_numbers}
 use Rattle.su_show.specs.Replies.{rows_text}

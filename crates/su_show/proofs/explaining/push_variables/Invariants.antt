@@ -1,6 +1,6 @@
 use Rattle.std.proofs.Common.{◌≡◌, ◌∷◌, ◌++◌, flat_map, take}
 use Rattle.std.specs.Prelude.{codes}
-use Rattle.su_show.specs.Refusing.{variable_text}
+use Rattle.su_show.specs.QueryCauses.{variable_text}
 use Rattle.su_show.proofs.explaining.push_variables.Given as goal
 
 abbrev pub invariant-loop-name : goal.invariant-loop-name

@@ -1,6 +1,6 @@
 use Rattle.std.proofs.Common.{ap, sym, ◌∙◌}
 use Rattle.std.specs.FinSet.{contains}
-use Rattle.su_show.specs.TableauLines.{cell_text}
+use Rattle.su_show.specs.RowLines.{cell_text}
 use Rattle.su_show.proofs.Numbers.{text-in, text-out}
 use Rattle.su_show.proofs.tableau_lines.push_cells.Goals as goal
 use Rattle.su_show.proofs.tableau_lines.push_cells.Goals.{then-contains+in_ok-push_cell, else-contains}

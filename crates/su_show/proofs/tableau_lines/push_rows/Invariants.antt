@@ -1,5 +1,5 @@
 use Rattle.std.proofs.Common.{◌≡◌, ◌++◌, drop}
-use Rattle.su_show.specs.TableauLines.{row_lines}
+use Rattle.su_show.specs.RowLines.{row_lines}
 use Rattle.su_show.proofs.tableau_lines.push_rows.Given as goal
 
 abbrev pub invariant-loop-row : goal.invariant-loop-row

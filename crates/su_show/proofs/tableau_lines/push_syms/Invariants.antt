@@ -1,5 +1,5 @@
 use Rattle.std.proofs.Common.{◌≡◌, ◌++◌, take}
-use Rattle.su_show.specs.TableauLines.{symbols_text}
+use Rattle.su_show.specs.RowLines.{symbols_text}
 use Rattle.su_show.proofs.tableau_lines.push_syms.Given as goal
 
 abbrev pub invariant-loop-symbol : goal.invariant-loop-symbol

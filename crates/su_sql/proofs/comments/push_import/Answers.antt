@@ -1,6 +1,7 @@
 use Rattle.std.proofs.Common.{◌∷◌, [], codes}
 use Rattle.std.proofs.lemmas.Result.{on_ok_weaker}
-use Rattle.su_sql.specs.Texts.{literal_text, relation_text}
+use Rattle.su_sql.specs.Texts.{literal_text}
+use Rattle.su_sql.specs.Names.{relation_text}
 use Rattle.su_sql.specs.declared.dialects.Dialect.TheVariants.{Sqlite}
 use Rattle.su_sql.proofs.Listing.{five_behind}
 use Rattle.su_sql.proofs.comments.push_import.Goals as goal

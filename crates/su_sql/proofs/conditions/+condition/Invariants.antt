@@ -1,5 +1,5 @@
 use Rattle.std.proofs.Common.{◌≡◌, map, take}
-use Rattle.su_sql.specs.Changes.{condition_text}
+use Rattle.su_sql.specs.Conditions.{condition_text}
 use Rattle.su_sql.proofs.conditions.+condition.Given as goal
 
 abbrev pub invariant-condition_parts-loop-cond : goal.invariant-condition_parts-loop-cond

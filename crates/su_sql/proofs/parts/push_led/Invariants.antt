@@ -1,7 +1,7 @@
 use Rattle.std.proofs.Common.{◌≡◌, ◌++◌, drop}
 use denote.Text.{Utf8}
 use denote.Shadow.{shadow}
-use Rattle.su_sql.specs.Texts.{led}
+use Rattle.su_sql.specs.Names.{led}
 use Rattle.su_sql.proofs.parts.push_led.Given as goal
 
 abbrev pub invariant-loop-part : goal.invariant-loop-part

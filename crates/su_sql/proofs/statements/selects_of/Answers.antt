@@ -1,8 +1,9 @@
 use Rattle.std.proofs.Common.{◌≡◌, subst}
 use Rattle.su_query.specs.declared.resolving.Resolved.{Resolved}
-use Rattle.su_query.specs.Lookup.{IsKnownQuery, resolved_of}
+use Rattle.su_query.specs.Lookup.{IsKnownQuery}
+use Rattle.su_query.specs.Numbering.{resolved_of}
 use Rattle.su_query.specs.Ranges.{IsResolved}
-use Rattle.su_steps.specs.Refusals.{IsRefusal, IsAccepted}
+use Rattle.su_steps.specs.Refusals.{IsStepRefusal, IsAccepted}
 use Rattle.su_answer.specs.Prepared.{IsPrepared}
 use Rattle.su_sql.proofs.Meaning.{give_answer}
 use Rattle.su_sql.proofs.statements.selects_of.Goals as goal
@@ -16,7 +17,7 @@ returns-in-Err-prepare-clause-refused g c =
     let q = c.args.query.now in
     let is : c.in-Ok.resolved ≡ resolved_of schema q = rw c.schema.ensures at c.in-Ok.ensures.resolved in
     let known : IsKnownQuery schema q = rw c.schema.ensures at c.in-Ok.ensures.known in
-    (known, subst (λ (r : Resolved). IsRefusal schema c.args.maximal.now r c.in-Err-prepare.fault) is c.in-Err-prepare.ensures.refused)
+    (known, subst (λ (r : Resolved). IsStepRefusal schema c.args.maximal.now r c.in-Err-prepare.fault) is c.in-Err-prepare.ensures.refused)
 
 pub selects-requires : goal.selects-requires
 selects-requires g c = record {

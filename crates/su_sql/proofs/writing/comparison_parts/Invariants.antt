@@ -1,5 +1,5 @@
 use Rattle.std.proofs.Common.{◌≡◌, map, take}
-use Rattle.su_sql.specs.Queries.{comparison_text}
+use Rattle.su_sql.specs.Clauses.{comparison_text}
 use Rattle.su_sql.proofs.writing.comparison_parts.Given as goal
 
 abbrev pub invariant-loop-comparison : goal.invariant-loop-comparison

@@ -1,5 +1,5 @@
 use Rattle.std.proofs.Common.{◌≡◌, map, take}
-use Rattle.su_sql.specs.Queries.{fixed_text}
+use Rattle.su_sql.specs.Clauses.{fixed_text}
 use Rattle.su_sql.proofs.writing.fixed_parts.Given as goal
 
 abbrev pub invariant-loop-fixed : goal.invariant-loop-fixed

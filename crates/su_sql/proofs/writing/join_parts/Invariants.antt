@@ -1,5 +1,5 @@
 use Rattle.std.proofs.Common.{◌≡◌, map, take}
-use Rattle.su_sql.specs.Queries.{join_text}
+use Rattle.su_sql.specs.Clauses.{join_text}
 use Rattle.su_sql.proofs.writing.join_parts.Given as goal
 
 abbrev pub invariant-loop-join : goal.invariant-loop-join

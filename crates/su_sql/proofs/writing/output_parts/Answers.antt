@@ -1,4 +1,4 @@
-use Rattle.su_sql.specs.Queries.{output_text}
+use Rattle.su_sql.specs.Clauses.{output_text}
 use Rattle.su_sql.proofs.Listing.{images_next}
 use Rattle.su_sql.proofs.writing.output_parts.Goals as goal
 

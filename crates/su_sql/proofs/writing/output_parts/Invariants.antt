@@ -1,6 +1,6 @@
 use Rattle.std.proofs.Common.{◌≡◌, map}
 use Rattle.std.specs.List.{range_with_len}
-use Rattle.su_sql.specs.Queries.{output_text}
+use Rattle.su_sql.specs.Clauses.{output_text}
 use Rattle.su_sql.proofs.writing.output_parts.Given as goal
 
 abbrev pub invariant-loop-i : goal.invariant-loop-i

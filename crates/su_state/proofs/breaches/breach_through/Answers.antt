@@ -1,7 +1,7 @@
 use Rattle.std.proofs.Common.{◌≡◌, length, slice_get, get_or, Some, refl, sym, ap, ◌∙◌, arith}
 use Rattle.std.proofs.lemmas.Option.{slice_get-get_or, slice_get_read}
 use Rattle.su_schema.specs.SchemaValue.{ObjectEntry}
-use Rattle.su_schema.specs.Checks.{columns_at}
+use Rattle.su_schema.specs.Known.{columns_at}
 use Rattle.su_state.proofs.Columns.{columns_few, some_left, blank_object, break_from_clash}
 use Rattle.su_state.proofs.BrokenDependency.{of_object, through_answer, not_enforced}
 use Rattle.su_state.proofs.breaches.breach_through.Goals as goal

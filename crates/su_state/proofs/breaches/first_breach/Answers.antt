@@ -2,7 +2,7 @@ use Rattle.std.proofs.Common.{◌<◌, ℕ, List, length, ap, arith}
 use borrow.Author.Count.{below_more}
 use Rattle.std.proofs.lemmas.Option.{slice_get_within}
 use Rattle.su_base.specs.declared.values.Value.{Value}
-use Rattle.su_state.specs.Changes.{IsBreach}
+use Rattle.su_state.specs.Breaches.{IsBreach}
 use Rattle.su_state.proofs.breaches.first_breach.Goals as goal
 
 pub loop-fd-preserved : goal.loop-fd-preserved

@@ -1,6 +1,6 @@
 use Rattle.std.proofs.Common.{◌<◌, ℕ, List}
 use Rattle.su_base.specs.declared.values.Value.{Value}
-use Rattle.su_state.specs.Changes.{IsBreach}
+use Rattle.su_state.specs.Breaches.{IsBreach}
 use Rattle.su_state.proofs.breaches.first_breach.Given as goal
 
 abbrev pub invariant-loop-fd : goal.invariant-loop-fd

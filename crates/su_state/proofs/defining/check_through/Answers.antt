@@ -4,7 +4,7 @@ use Rattle.std.proofs.lemmas.Bool.{OnTrue_at}
 use Rattle.std.proofs.lemmas.Option.{slice_get-get_or, slice_get_read}
 use Rattle.su_base.specs.declared.values.Value.{Value}
 use Rattle.su_schema.specs.SchemaValue.{ObjectEntry}
-use Rattle.su_schema.specs.Checks.{columns_at}
+use Rattle.su_schema.specs.Known.{columns_at}
 use Rattle.su_state.specs.inside.Pairs.{IsLeastPair}
 use Rattle.su_state.specs.inside.Sides.{Clash, row_at}
 use Rattle.su_state.proofs.Columns.{columns_few, some_left, blank_object, object_on}

@@ -1,7 +1,7 @@
 use Rattle.std.proofs.Common.{◌∙◌, subst, sym, arith}
 use Rattle.std.proofs.lemmas.List.Elements.{All-more, All-same}
 use Rattle.std.proofs.lemmas.List.{take_all}
-use Rattle.su_state.specs.Changes.{NoBreach}
+use Rattle.su_state.specs.Breaches.{NoBreach}
 use Rattle.su_state.proofs.Filled.{none_found}
 use Rattle.su_state.proofs.filling.none_breaks.Goals as goal
 

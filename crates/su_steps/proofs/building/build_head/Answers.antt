@@ -1,5 +1,5 @@
 use Rattle.std.proofs.Common.{◌*◌, map}
-use Rattle.su_steps.specs.Classes.{place_symbol}
+use Rattle.su_steps.specs.PairSymbols.{place_symbol}
 use Rattle.su_steps.specs.inside.Numbers.{class_name}
 use Rattle.su_steps.proofs.Equal.{head_more, head_all, some_false, none_more, none_all}
 use Rattle.su_steps.proofs.building.build_head.Goals as goal

@@ -1,7 +1,7 @@
 use Rattle.std.proofs.Common.{◌≡◌, ℕ, ◌<◌, ◌*◌, map, take, get_or}
 use Rattle.su_where.specs.declared.literals.Literal.{Literal}
-use Rattle.su_steps.specs.Classes.{place_symbol, compared, comparisons}
-use Rattle.su_steps.specs.Terms.{EvaluatesFalse}
+use Rattle.su_steps.specs.PairSymbols.{place_symbol, compared, comparisons}
+use Rattle.su_steps.specs.Evaluated.{EvaluatesFalse}
 use Rattle.su_steps.specs.inside.Heads.{head_of}
 use Rattle.su_steps.specs.inside.Numbers.{class_name}
 use Rattle.su_steps.proofs.building.build_head.Given as goal

@@ -1,5 +1,5 @@
 use Rattle.std.proofs.Common.{◌≡◌, ◌*◌, map, take}
-use Rattle.su_steps.specs.Classes.{place_symbol}
+use Rattle.su_steps.specs.PairSymbols.{place_symbol}
 use Rattle.su_steps.specs.inside.Numbers.{class_name}
 use Rattle.su_steps.proofs.building.output_symbols.Given as goal
 

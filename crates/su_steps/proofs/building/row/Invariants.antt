@@ -1,6 +1,6 @@
 use Rattle.std.proofs.Common.{◌≡◌, ◌*◌, map}
 use Rattle.std.specs.List.{range_with_len}
-use Rattle.su_steps.specs.Terms.{cell_of}
+use Rattle.su_steps.specs.CaseTableaux.{cell_of}
 use Rattle.su_steps.specs.inside.Numbers.{class_name}
 use Rattle.su_steps.proofs.building.row.Given as goal
 

@@ -1,5 +1,5 @@
 use Rattle.std.proofs.Common.{◌≡◌, ◌++◌, ◌+◌, ◌*◌, drop}
-use Rattle.su_steps.specs.Terms.{rows_of}
+use Rattle.su_steps.specs.CaseTableaux.{rows_of}
 use Rattle.su_steps.specs.inside.Numbers.{class_name}
 use Rattle.su_steps.proofs.building.rows.Given as goal
 

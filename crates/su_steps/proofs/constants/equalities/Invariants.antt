@@ -1,5 +1,5 @@
 use Rattle.std.proofs.Common.{◌≡◌, take}
-use Rattle.su_steps.specs.Classes.{comparisons}
+use Rattle.su_steps.specs.PairSymbols.{comparisons}
 use Rattle.su_steps.specs.inside.Numbers.{equals}
 use Rattle.su_steps.proofs.constants.equalities.Given as goal
 

@@ -5,7 +5,7 @@ use Rattle.su_where.specs.declared.literals.Literal.{Literal}
 use Rattle.su_query.specs.declared.places.Place.{Place}
 use Rattle.su_steps.specs.declared.classes.Classes.{Classes}
 use Rattle.su_steps.specs.declared.building.Head.{Head}
-use Rattle.su_steps.specs.Classes.{place_symbol, comparisons}
+use Rattle.su_steps.specs.PairSymbols.{place_symbol, comparisons}
 use Rattle.su_steps.specs.inside.Numbers.{class_name}
 use Rattle.su_steps.specs.inside.Heads.{head_of, IsSomeFalse, IsNoneFalse}
 use Rattle.su_steps.proofs.Closed.{closed_classes, constants_in, pairs_in, outputs_in, literals_in, origins_in, closed_clash, closed_false, closed_made, closed_valid, closed_small}

@@ -8,8 +8,8 @@ use Rattle.su_query.specs.declared.resolving.Resolved.{Resolved}
 use Rattle.su_steps.specs.declared.results.Origin.{Origin}
 use Rattle.su_steps.specs.Objects.{width}
 use Rattle.su_steps.specs.Choices.{origins_of}
-use Rattle.su_steps.specs.Classes.{comparisons}
-use Rattle.su_steps.specs.Terms.{HaveNone, HaveTableau}
+use Rattle.su_steps.specs.PairSymbols.{comparisons}
+use Rattle.su_steps.specs.Cases.{HaveNone, HaveTableau}
 use Rattle.su_steps.proofs.Termed.{fit_rows, rows_shown, gives_none, gives_some}
 use Rattle.su_steps.proofs.making.term.Goals as goal
 

@@ -5,7 +5,7 @@ use Rattle.std.proofs.lemmas.Nat.{mul-le}
 use Rattle.su_where.specs.Disjunct.{disjuncts_of}
 use Rattle.su_query.specs.declared.resolving.Resolved.{Resolved}
 use Rattle.su_steps.specs.Choices.{combinations}
-use Rattle.su_steps.specs.Refusals.{disjunct_count}
+use Rattle.su_steps.specs.Limits.{disjunct_count}
 use Rattle.su_steps.proofs.Chosen.{coverings_count}
 use Rattle.su_steps.proofs.Cases.{coverings_low, coverings_few}
 use Rattle.su_steps.proofs.Refused.{covered_is, refused_cover, first_below, many_disjuncts, few_disjuncts, many_rows, few_rows, many_terms, few_terms}

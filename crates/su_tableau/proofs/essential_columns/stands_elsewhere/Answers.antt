@@ -1,5 +1,5 @@
 use Rattle.std.proofs.Common.{◌≡◌, ◌≢◌, ℕ, arith, refl, sym, ◌∙◌, true≢false}
-use Rattle.su_tableau.specs.Essential.{Holds}
+use Rattle.su_tableau.specs.Essential.{HasSymbol}
 use Rattle.su_tableau.specs.declared.symbols.Sym.TheVariants.{Var}
 use Rattle.su_tableau.proofs.Rows.{below_more}
 use Rattle.su_tableau.proofs.Standing.{elsewhere_found, elsewhere_none}
@@ -9,7 +9,7 @@ use Rattle.su_tableau.proofs.essential_columns.stands_elsewhere.Goals.{else-has-
 pub loop-i-preserved : goal.loop-i-preserved
 loop-i-preserved c = λ n d low.
     let t = c.args.t.now in
-    below_more (λ i. (d : ℕ) → Holds t c.args.mask i d (Var c.args.k) → (i ≡ c.args.row → d ≢ c.args.column) → ⊥) c.loop-i.i (λ i h d. c.loop-i.invariant i d h)
+    below_more (λ i. (d : ℕ) → HasSymbol t c.args.mask i d (Var c.args.k) → (i ≡ c.args.row → d ≢ c.args.column) → ⊥) c.loop-i.i (λ i h d. c.loop-i.invariant i d h)
     (λ d h other.
     elim c.else-has.branch [
       | else-has-via-then-has+else-stands_in w ↦ elsewhere_none t c.args.mask c.args.row c.args.column c.args.k c.loop-i.i w.row.result.now w.left_out.result w.row.ensures.is w.left_out.ensures (λ s. true≢false (sym (w.stands_in.ensures.1 s) ∙ w.if-stands_in.false)) d h other

@@ -1,6 +1,6 @@
 use Rattle.std.proofs.Common.{refl}
 use Rattle.su_tableau.specs.declared.symbols.Sym.TheVariants.{Var}
-use Rattle.su_tableau.specs.Tableaux.{nth}
+use Rattle.su_tableau.specs.Valuations.{nth}
 use Rattle.su_tableau.proofs.Rows.{contains_read, values_more, values_all}
 use Rattle.su_tableau.proofs.valuations.has_values.Goals as goal
 

@@ -1,7 +1,7 @@
 use Rattle.std.proofs.Common.{◌≡◌, ℕ, ◌<◌, get_or}
 use Rattle.su_base.specs.declared.values.Value.{Value}
 use Rattle.su_tableau.specs.declared.symbols.Sym.{Sym}
-use Rattle.su_tableau.specs.Tableaux.{nth, value_of}
+use Rattle.su_tableau.specs.Valuations.{nth, value_of}
 use Rattle.su_tableau.proofs.valuations.has_values.Given as goal
 
 abbrev pub invariant-loop-c : goal.invariant-loop-c

@@ -1,6 +1,7 @@
 use Rattle.std.proofs.Common.{◌≡◌, [], get_or, Contains, refl, sym, ◌∙◌, subst, arith, true≢false}
 use Rattle.std.proofs.lemmas.List.{get_or_default}
-use Rattle.su_tableau.specs.Tableaux.{nth, values_of, AreBelow}
+use Rattle.su_tableau.specs.Valuations.{nth, values_of}
+use Rattle.su_tableau.specs.Tableaux.{AreBelow}
 use Rattle.su_tableau.proofs.Rows.{below_more}
 use Rattle.su_tableau.proofs.valuations.holds.Goals as goal
 

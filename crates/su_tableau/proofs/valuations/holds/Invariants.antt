@@ -1,6 +1,6 @@
 use Rattle.std.proofs.Common.{ℕ, ◌<◌, List, get_or, Contains}
 use Rattle.su_tableau.specs.declared.symbols.Sym.{Sym}
-use Rattle.su_tableau.specs.Tableaux.{nth, values_of}
+use Rattle.su_tableau.specs.Valuations.{nth, values_of}
 use Rattle.su_tableau.proofs.valuations.holds.Given as goal
 
 abbrev pub invariant-loop-i : goal.invariant-loop-i

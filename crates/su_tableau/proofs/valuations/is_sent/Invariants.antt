@@ -1,5 +1,5 @@
 use Rattle.std.proofs.Common.{◌≡◌, ℕ, ◌<◌, get_or}
-use Rattle.su_tableau.specs.Tableaux.{nth, values_of}
+use Rattle.su_tableau.specs.Valuations.{nth, values_of}
 use Rattle.su_tableau.proofs.valuations.is_sent.Given as goal
 
 abbrev pub invariant-loop-wanted : goal.invariant-loop-wanted

@@ -2,7 +2,8 @@ use Rattle.std.proofs.Common.{List, length, rules, ap, subst, sym, ◌∙◌, Al
 use Rattle.std.specs.List.{list_all, list_any}
 use Rattle.su_where.specs.declared.conditions.Condition.{the_lemmas}
 use Rattle.su_where.specs.declared.conditions.Condition.TheVariants.{Not}
-use Rattle.su_where.specs.Truth.{Cond, truth_of, Fits}
+use Rattle.su_where.specs.Truth.{Cond, truth_of}
+use Rattle.su_where.specs.Fitting.{Fits}
 use Rattle.su_where.proofs.Layers.{truth_of-All, truth_of-Any, fits_compare, fits_not, fits_all, fits_any}
 use Rattle.su_where.proofs.conditions.+truth.Goals as goal
 

@@ -1,6 +1,6 @@
 use Rattle.std.proofs.Common.{◌≡◌, map}
 use Rattle.std.specs.List.{range_with_len}
-use Rattle.su_schema.specs.SchemaValue.{column_of}
+use Rattle.su_schema.specs.Entries.{column_of}
 use Rattle.su_window.specs.Padded.{object_at}
 use Rattle.su_window.proofs.columns.columns_of.Given as goal
 

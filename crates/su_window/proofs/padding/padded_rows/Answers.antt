@@ -4,7 +4,8 @@ use Rattle.std.proofs.lemmas.List.{length-map}
 use Rattle.std.proofs.lemmas.Nat.{mul-le}
 use Rattle.std.proofs.lemmas.List.FromFn.{length-map-range_with_len}
 use Rattle.su_base.proofs.Items.{map-range_push}
-use Rattle.su_schema.specs.SchemaValue.{SchemaValue, AttributeEntry, column_of}
+use Rattle.su_schema.specs.SchemaValue.{SchemaValue, AttributeEntry}
+use Rattle.su_schema.specs.Entries.{column_of}
 use Rattle.su_schema.specs.Cuts.{width}
 use Rattle.su_window.specs.Padded.{object_at, row_read, padded_row, IsReading}
 use Rattle.su_window.specs.inside.Reading.{columns_of}

@@ -1,7 +1,7 @@
 use Rattle.std.proofs.Common.{refl, subst, sym, ap, ◌∙◌, Err}
 use Rattle.std.proofs.lemmas.Result.{err_from_is_err_and}
-use Rattle.su_session.specs.Reply.{Wants}
-use Rattle.sysu.specs.inside.Handing.{Place, HandingEnds}
+use Rattle.su_session.specs.Wanting.{Wants}
+use Rattle.sysu.specs.inside.Handing.{Shelved, HandingEnds}
 use Rattle.sysu.proofs.Turning.{handed_file, handed_fault}
 use Rattle.sysu.proofs.statements.handed.Goals as goal
 
@@ -12,7 +12,7 @@ pub returns-in_ok-bytes-in-Ok-File-clause-ends : goal.returns-in_ok-bytes-in-Ok-
 returns-in_ok-bytes-in-Ok-File-clause-ends g c = λ text is.
     let done = c.in_ok-bytes-in-Ok-File.ensures in
     let shelf = c.args.shelf.now in
-    let before : Place = record { begun = g.H.Shelf.begun shelf; taken = g.H.Shelf.taken shelf; failed = g.H.Shelf.failed shelf; faults = g.H.Shelf.faults shelf } in
+    let before : Shelved = record { begun = g.H.Shelf.begun shelf; taken = g.H.Shelf.taken shelf; failed = g.H.Shelf.failed shelf; faults = g.H.Shelf.faults shelf } in
     handed_file c.args.session.now text _ (g.H.Shelf.files shelf) before _ (subst (Wants c.args.session.now text) c.in-Ok-File.field-0-is (c.in-Ok-File.ensures text is)) done.begun _ done.ends
 
 pub returns-in_err-bytes-in-Ok-File-clause-ends : goal.returns-in_err-bytes-in-Ok-File-clause-ends

@@ -1,8 +1,10 @@
 use Rattle.std.proofs.Common.{◌≡◌, ◌<◌, ◌≤◌, None, true, false, inr, nat_le, length, is_some, refl, sym, ap, ◌∙◌, arith}
 use Rattle.std.proofs.lemmas.Bool.Decides.{nat_tests}
 use Rattle.su_schema.specs.declared.definitions.Definition.TheVariants.{Attribute}
-use Rattle.su_schema.specs.SchemaValue.{attribute_names}
-use Rattle.su_schema.specs.Checks.{first_failing, checks, is_known}
+use Rattle.su_schema.specs.Entries.{attribute_names}
+use Rattle.su_schema.specs.NameChecks.{first_failing}
+use Rattle.su_schema.specs.Checks.{checks}
+use Rattle.su_schema.specs.Known.{is_known}
 use Rattle.su_schema.proofs.Numbers.{is_known-place_of}
 use Rattle.su_schema.proofs.Accepted.{accepted, is_refused}
 use Rattle.su_schema.proofs.OneMore.{stays_valid, attribute_shape}

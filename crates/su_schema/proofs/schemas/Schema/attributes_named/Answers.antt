@@ -1,5 +1,5 @@
 use Rattle.std.proofs.Common.{◌≡◌, Some, None, inr, sym}
-use Rattle.su_schema.specs.SchemaValue.{attribute_names, place_of}
+use Rattle.su_schema.specs.Entries.{attribute_names, place_of}
 use Rattle.su_schema.proofs.NamesSoFar.{names_unknown, names_twice, names_next}
 use Rattle.su_schema.proofs.schemas.Schema.attributes_named.Goals as goal
 

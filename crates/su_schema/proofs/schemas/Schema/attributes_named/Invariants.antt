@@ -1,4 +1,4 @@
-use Rattle.su_schema.specs.SchemaValue.{attribute_names}
+use Rattle.su_schema.specs.Entries.{attribute_names}
 use Rattle.su_schema.proofs.NamesSoFar.{NamesSoFar}
 use Rattle.su_schema.proofs.schemas.Schema.attributes_named.Given as goal
 

@@ -1,5 +1,5 @@
 use Rattle.std.proofs.Common.{◌≡◌, inr, ap, refl}
-use Rattle.su_schema.specs.Checks.{columns_at, attribute_kind, column_kind}
+use Rattle.su_schema.specs.Known.{columns_at, attribute_kind, column_kind}
 use Rattle.su_schema.proofs.PairsSoFar.{columns_there, attribute_within, column_within, kind_of_attribute, kind_of_column}
 use Rattle.su_schema.proofs.schemas.Schema.check_kinds.Goals as goal
 

@@ -1,7 +1,7 @@
 use Rattle.std.proofs.Common.{◌≡◌, Some, ap, sym, refl, slice_get}
 use Rattle.std.specs.String.{string_bytes}
 use Rattle.std.proofs.lemmas.Option.{slice_get-map}
-use Rattle.su_schema.specs.SchemaValue.{IsRelation}
+use Rattle.su_schema.specs.Valid.{IsRelationEntry}
 use Rattle.su_schema.specs.Maps.{shown}
 use Rattle.su_schema.proofs.Entries.{All-at}
 use Rattle.su_schema.proofs.schemas.Schema.columns.Goals as goal
@@ -12,4 +12,4 @@ returns-clause-at c = rw (← c.self.view_is) (simp slice_get-map (rw (← c.in-
 pub returns-clause-few : goal.returns-clause-few
 returns-clause-few c =
     let at : slice_get (shown c.self.inside).relations c.args.r ≡ Some (record { name = string_bytes c.in-Some.field-0-0.now; columns = c.in-Some.columns.now }) = simp slice_get-map (rw (← c.in-Some.ensures.entry) refl) in
-    rw c.as_slice.ensures (All-at IsRelation _ _ _ c.self.invariant.valid.relations at).few
+    rw c.as_slice.ensures (All-at IsRelationEntry _ _ _ c.self.invariant.valid.relations at).few

@@ -3,8 +3,9 @@ use Rattle.std.proofs.Common.{◌≡◌, ◌<◌, None, false, inl, inr, nat_le,
 use Rattle.std.proofs.lemmas.Bool.Decides.{nat_tests}
 use Rattle.std.proofs.lemmas.Result.{err_from_is_err_and}
 use Rattle.su_schema.specs.declared.definitions.Definition.TheVariants.{Fd}
-use Rattle.su_schema.specs.SchemaValue.{attribute_names}
-use Rattle.su_schema.specs.Checks.{first_failing, checks, name_checks}
+use Rattle.su_schema.specs.Entries.{attribute_names}
+use Rattle.su_schema.specs.NameChecks.{first_failing, name_checks}
+use Rattle.su_schema.specs.Checks.{checks}
 use Rattle.su_schema.proofs.Accepted.{accepted, is_refused}
 use Rattle.su_schema.proofs.PairsSoFar.{first_failing-append, first_failing-passed}
 use Rattle.su_schema.proofs.OneMore.{stays_valid, fd_shape}

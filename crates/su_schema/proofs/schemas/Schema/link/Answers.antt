@@ -1,7 +1,7 @@
 use Rattle.std.proofs.Common.{◌≡◌, ◌<◌, length, Some, None, inr, sym}
 use lib.ListN.{length-map}
-use Rattle.su_schema.specs.SchemaValue.{attribute_names, column_names, relation_columns, place_of}
-use Rattle.su_schema.specs.Checks.{columns_at}
+use Rattle.su_schema.specs.Entries.{attribute_names, column_names, relation_columns, place_of}
+use Rattle.su_schema.specs.Known.{columns_at}
 use Rattle.su_schema.proofs.PairsSoFar.{attribute_unknown, column_unknown, both_found, column_place}
 use Rattle.su_schema.proofs.schemas.Schema.link.Goals as goal
 

@@ -1,4 +1,4 @@
-use Rattle.su_schema.specs.Checks.{columns_at}
+use Rattle.su_schema.specs.Known.{columns_at}
 use Rattle.su_schema.proofs.PairsSoFar.{PairsSoFar}
 use Rattle.su_schema.proofs.schemas.Schema.links.Given as goal
 

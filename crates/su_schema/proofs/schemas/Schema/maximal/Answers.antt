@@ -1,7 +1,8 @@
 use Rattle.std.proofs.Common.{◌≡◌, ◌<◌, None, false, nat_le, length, refl, arith}
 use Rattle.std.proofs.lemmas.Bool.Decides.{nat_tests}
 use Rattle.su_schema.specs.declared.definitions.Definition.TheVariants.{Maximal}
-use Rattle.su_schema.specs.Checks.{first_failing, checks}
+use Rattle.su_schema.specs.NameChecks.{first_failing}
+use Rattle.su_schema.specs.Checks.{checks}
 use Rattle.su_schema.proofs.OneMore.{stays_valid, maximal_shape}
 use Rattle.su_schema.proofs.schemas.Schema.maximal.Goals as goal
 

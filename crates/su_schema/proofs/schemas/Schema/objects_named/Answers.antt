@@ -1,5 +1,5 @@
 use Rattle.std.proofs.Common.{◌≡◌, Some, None, inr, sym}
-use Rattle.su_schema.specs.SchemaValue.{object_names, place_of}
+use Rattle.su_schema.specs.Entries.{object_names, place_of}
 use Rattle.su_schema.proofs.NamesSoFar.{names_unknown, names_twice, names_next}
 use Rattle.su_schema.proofs.schemas.Schema.objects_named.Goals as goal
 

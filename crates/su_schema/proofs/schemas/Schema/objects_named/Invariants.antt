@@ -1,4 +1,4 @@
-use Rattle.su_schema.specs.SchemaValue.{object_names}
+use Rattle.su_schema.specs.Entries.{object_names}
 use Rattle.su_schema.proofs.NamesSoFar.{NamesSoFar}
 use Rattle.su_schema.proofs.schemas.Schema.objects_named.Given as goal
 

@@ -3,8 +3,10 @@ use Rattle.std.proofs.Common.{◌≡◌, ◌<◌, ◌≤◌, None, true, false, 
 use Rattle.std.proofs.lemmas.Bool.Decides.{nat_tests}
 use Rattle.std.proofs.lemmas.Result.{err_from_is_err_and}
 use Rattle.su_schema.specs.declared.definitions.Definition.TheVariants.{Relation}
-use Rattle.su_schema.specs.SchemaValue.{relation_names}
-use Rattle.su_schema.specs.Checks.{first_failing, checks, is_known}
+use Rattle.su_schema.specs.Entries.{relation_names}
+use Rattle.su_schema.specs.NameChecks.{first_failing}
+use Rattle.su_schema.specs.Checks.{checks}
+use Rattle.su_schema.specs.Known.{is_known}
 use Rattle.su_schema.proofs.Numbers.{is_known-place_of}
 use Rattle.su_schema.proofs.Accepted.{accepted, is_refused}
 use Rattle.su_schema.proofs.OneMore.{stays_valid, relation_shape}

@@ -2,7 +2,7 @@ use Rattle.std.proofs.Common.{◌≡◌, ◌<◌, ◌≤◌, length, Ok, subst, 
 use Rattle.std.proofs.lemmas.List.{get_or-set_same}
 use Rattle.su_rel.specs.Stored.{Stored, AllDiffer}
 use Rattle.su_state.specs.DatabaseValue.{DatabaseValue}
-use Rattle.su_state.specs.Changes.{Deletes}
+use Rattle.su_state.specs.RowChanges.{Deletes}
 use Rattle.su_state.proofs.Kept.{with_table, has_table, columns_read, kept_without, deleted}
 use Rattle.su_state.proofs.databases.Database.delete.Goals as goal
 

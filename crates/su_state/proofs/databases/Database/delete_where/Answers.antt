@@ -1,6 +1,7 @@
 use Rattle.std.proofs.Common.{◌≡◌, ◌<◌, ◌-◌, length, map, not, subst, sym, ap, ◌∙◌, arith}
 use Rattle.std.proofs.lemmas.List.{get_or-set_same}
-use Rattle.su_where.specs.Truth.{Fits, truth_of}
+use Rattle.su_where.specs.Fitting.{Fits}
+use Rattle.su_where.specs.Truth.{truth_of}
 use Rattle.su_state.specs.DatabaseValue.{DatabaseValue, table_of, rows_of, columns_of}
 use Rattle.su_state.specs.Changes.{DeletesWhere}
 use Rattle.su_state.proofs.Kept.{with_table, has_table, table_read}

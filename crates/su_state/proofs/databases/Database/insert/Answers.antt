@@ -1,6 +1,6 @@
 use Rattle.std.proofs.Common.{◌<◌, length, Bool, Ok, true, subst, sym}
 use Rattle.su_state.specs.DatabaseValue.{DatabaseValue}
-use Rattle.su_state.specs.Changes.{InsertAnswers}
+use Rattle.su_state.specs.RowChanges.{InsertAnswers}
 use Rattle.su_state.proofs.Kept.{has_table, kept_inserted, inserted, not_inserted}
 use Rattle.su_state.proofs.databases.Database.insert.Goals as goal
 use Rattle.su_state.proofs.databases.Database.insert.Goals.{in-Ok, in-Err}

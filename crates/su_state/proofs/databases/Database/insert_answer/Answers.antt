@@ -1,8 +1,9 @@
 use Rattle.std.proofs.Common.{◌≡◌, ◌<◌, length, subst, sym, ap, refl, Contains, arith}
 use Rattle.std.proofs.lemmas.Bool.{false≢true}
 use Rattle.su_rel.specs.Stored.{Stored}
-use Rattle.su_state.specs.DatabaseValue.{DatabaseValue, table_of, HoldsOn}
-use Rattle.su_state.specs.Changes.{NoBreach}
+use Rattle.su_state.specs.DatabaseValue.{DatabaseValue, table_of}
+use Rattle.su_state.specs.Enforced.{HoldsOn}
+use Rattle.su_state.specs.Breaches.{NoBreach}
 use Rattle.su_state.proofs.Kept.{has_table, table_read, columns_read, holds_at}
 use Rattle.su_state.proofs.databases.Database.insert_answer.Goals as goal
 

@@ -1,7 +1,7 @@
 use Rattle.std.proofs.Common.{Bool, Ok, subst, ◌≡◌, ◌++◌, ◌∷◌, [], length, sym, ap, ◌∙◌, append_assoc, add-zero, ◌+◌, true, false, arith}
 use Rattle.std.proofs.lemmas.List.{length_push}
 use Rattle.std.specs.Vec.Iter.{into_iter_items}
-use Rattle.su_state.specs.Changes.{Inserts}
+use Rattle.su_state.specs.RowChanges.{Inserts}
 use Rattle.su_state.proofs.Inserts.{changes_by_insert, inserts_push, refused_at}
 use Rattle.su_state.proofs.databases.Database.insert_each.Goals as goal
 

@@ -2,8 +2,9 @@ use Rattle.std.proofs.Common.{◌≡◌, ◌<◌, ◌++◌, ℕ, length, subst, 
 use Rattle.std.proofs.lemmas.Bool.{OnTrue_at, OnTrue_from}
 use Rattle.std.proofs.lemmas.Result.{IfOk-weaker}
 use Rattle.su_rel.specs.Stored.{Stored}
-use Rattle.su_state.specs.DatabaseValue.{DatabaseValue, table_of, rows_of, columns_of, IsTyped, HoldsOn}
-use Rattle.su_state.specs.Changes.{NoBreach}
+use Rattle.su_state.specs.DatabaseValue.{DatabaseValue, table_of, rows_of, columns_of, HasColumnKinds}
+use Rattle.su_state.specs.Enforced.{HoldsOn}
+use Rattle.su_state.specs.Breaches.{NoBreach}
 use Rattle.su_state.specs.Filling.{KeepThrough}
 use Rattle.su_state.proofs.Kept.{has_table, table_read, holds_at}
 use Rattle.su_state.proofs.Filled.{keeps_few, wide, short, narrow}
@@ -27,7 +28,7 @@ pub none_breaks-requires-clause-rows : goal.none_breaks-requires-clause-rows
 none_breaks-requires-clause-rows c =
     let db : DatabaseValue = record { schema = c.self.inside.schema; tables = c.self.inside.tables.items } in
     let within : c.args.relation < length db.tables = has_table db c.args.self.now c.args.relation c.self.view_is c.self.invariant c.requires.relation in
-    let typed : All (IsTyped (columns_of db c.args.relation)) c.args.rows.now = subst (λ (d : DatabaseValue). All (IsTyped (columns_of d c.args.relation)) c.args.rows.now) (sym c.self.view_is) c.requires.typed in
+    let typed : All (HasColumnKinds (columns_of db c.args.relation)) c.args.rows.now = subst (λ (d : DatabaseValue). All (HasColumnKinds (columns_of d c.args.relation)) c.args.rows.now) (sym c.self.view_is) c.requires.typed in
     wide db c.args.relation c.args.rows.now c.index-table.result.now c.self.invariant within c.index-table.ensures typed
 
 pub none_breaks-requires-clause-keeps : goal.none_breaks-requires-clause-keeps
@@ -42,5 +43,5 @@ pub keep_all-requires-clause-more : goal.keep_all-requires-clause-more
 keep_all-requires-clause-more c =
     let db : DatabaseValue = record { schema = c.self.inside.schema; tables = c.self.inside.tables.items } in
     let within : c.args.relation < length db.tables = has_table db c.args.self.now c.args.relation c.self.view_is c.self.invariant c.requires.relation in
-    let typed : All (IsTyped (columns_of db c.args.relation)) c.args.rows.now = subst (λ (d : DatabaseValue). All (IsTyped (columns_of d c.args.relation)) c.args.rows.now) (sym c.self.view_is) c.requires.typed in
+    let typed : All (HasColumnKinds (columns_of db c.args.relation)) c.args.rows.now = subst (λ (d : DatabaseValue). All (HasColumnKinds (columns_of d c.args.relation)) c.args.rows.now) (sym c.self.view_is) c.requires.typed in
     short c.args.rows.now c.index-table.result.now.width (narrow db c.args.relation c.index-table.result.now c.self.invariant within c.index-table.ensures) (wide db c.args.relation c.args.rows.now c.index-table.result.now c.self.invariant within c.index-table.ensures typed)

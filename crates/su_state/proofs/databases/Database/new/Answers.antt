@@ -1,7 +1,7 @@
 use Rattle.std.proofs.Common.{◌≡◌, ◌+◌, ◌++◌, ◌∷◌, [], ℕ, take, length, sym, ap, ◌∙◌, arith}
 use Rattle.std.proofs.Math.Seq.{take-length}
 use lib.ListN.{length-map}
-use Rattle.su_schema.specs.SchemaValue.{relation_columns}
+use Rattle.su_schema.specs.Entries.{relation_columns}
 use Rattle.su_state.specs.DatabaseValue.{empty_tables}
 use Rattle.su_state.proofs.Empty.{empty_table, empty_kept, empty_more, table_is}
 use Rattle.su_state.proofs.databases.Database.new.Goals as goal

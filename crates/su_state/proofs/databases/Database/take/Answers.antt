@@ -1,6 +1,6 @@
 use Rattle.std.proofs.Common.{◌≡◌, List, Ok, Err, Result, subst, sym, ap, ◌∙◌}
 use Rattle.std.proofs.lemmas.Result.{err_from_is_err_and}
-use Rattle.su_schema.specs.SchemaValue.{IsValid}
+use Rattle.su_schema.specs.Valid.{IsValid}
 use Rattle.su_schema.specs.Defining.{applied}
 use Rattle.su_rel.specs.Stored.{Stored}
 use Rattle.su_state.specs.DatabaseValue.{DatabaseValue, IsWellKept}

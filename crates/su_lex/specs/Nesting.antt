@@ -1,4 +1,5 @@
 -- How deep parentheses stand.
+-- deep: at some symbol more than 64 parentheses are open
 use Rattle.std.specs.Prelude.{ℕ, ◌+◌, ◌<◌, ◌≤◌, Bool, true, false, List, take, length}
 use Rattle.std.specs.List.{count_by}
 use Rattle.su_lex.specs.declared.signs.Sign.TheVariants as sign

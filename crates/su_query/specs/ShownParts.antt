@@ -1,0 +1,33 @@
+-- The symbols of names, values and refs, as they are shown.
+-- listed: with a comma between two
+use Rattle.std.specs.Prelude.{ℕ, List, [], ◌∷◌, ◌++◌, flat_map}
+use Rattle.su_base.specs.declared.values.Value.{Value}
+use Rattle.su_lex.specs.declared.signs.Sign.TheVariants as sign
+use Rattle.su_lex.specs.declared.meaning.Symbol.{Symbol}
+use Rattle.su_lex.specs.declared.meaning.Symbol.TheVariants.{Word, Sign}
+use Rattle.su_query.specs.declared.refs.Ref.{Ref as ARef}
+use Rattle.su_query.specs.declared.refs.NamedOperand.{NamedOperand}
+use Rattle.su_query.specs.declared.refs.NamedOperand.TheVariants.{Ref, Const}
+use Rattle.su_query.specs.Operands.{value_sym, qualified}
+
+-- the symbol of a name
+abbrev pub name_symbols : List ℕ → List Symbol
+name_symbols name = Word name ∷ []
+
+-- the symbol of a value
+abbrev pub value_symbols : Value → List Symbol
+value_symbols v = value_sym v ∷ []
+
+-- the symbols of an attribute with its variable
+abbrev pub ref_symbols : ARef → List Symbol
+ref_symbols ref = qualified ref.variable (Word ref.attribute ∷ [])
+
+-- the symbols of a side of a comparison
+abbrev pub operand_symbols : NamedOperand → List Symbol
+operand_symbols (Ref ref) = ref_symbols ref
+operand_symbols (Const v) = value_symbols v
+
+-- with a comma between two
+abbrev pub listed : {A : Type 0} → (A → List Symbol) → List A → List Symbol
+listed f [] = []
+listed f (x ∷ xs) = f x ++ flat_map (λ y. Sign sign.Comma ∷ f y) xs

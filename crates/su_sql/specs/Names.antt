@@ -1,0 +1,46 @@
+-- Names as SQL, in the quotes of each engine.
+-- quote: the byte before and behind a name
+use Rattle.std.specs.Prelude.{ℕ, List, [], ◌∷◌, ◌++◌, map, get_or, codes}
+use Rattle.su_base.specs.declared.values.Kind.{Kind}
+use Rattle.su_base.specs.declared.values.Kind.TheVariants as kind
+use Rattle.su_schema.specs.SchemaValue.{SchemaValue}
+use Rattle.su_schema.specs.Entries.{relation_names, column_names}
+use Rattle.su_schema.specs.Known.{columns_at}
+use Rattle.su_ddl.specs.ShownDefinitions.{name_at}
+use Rattle.su_sql.specs.declared.dialects.Dialect.{Dialect}
+use Rattle.su_sql.specs.declared.dialects.Dialect.TheVariants.{Postgres, Sqlite, Spark}
+
+-- the parts, the first behind one text and each other one behind the other
+abbrev pub led : List ℕ → List ℕ → List (List ℕ) → List ℕ
+led first next [] = []
+led first next (part ∷ parts) = first ++ part ++ led next next parts
+
+-- the sign around names
+abbrev pub quote_of : Dialect → List ℕ
+quote_of Postgres = codes "\""
+quote_of Sqlite = codes "\""
+quote_of Spark = codes "`"
+
+-- a name in quotes, which no name has
+abbrev pub name_text : Dialect → List ℕ → List ℕ
+name_text d name = quote_of d ++ name ++ quote_of d
+
+-- the name of relation r
+abbrev pub relation_name : SchemaValue → ℕ → List ℕ
+relation_name schema r = name_at (relation_names schema) r
+
+-- the name of column c of relation r
+abbrev pub column_name : SchemaValue → ℕ → ℕ → List ℕ
+column_name schema r c = name_at (column_names (columns_at schema r)) c
+
+-- the kind of column c of relation r
+abbrev pub column_kind : SchemaValue → ℕ → ℕ → Kind
+column_kind schema r c = get_or (map (λ column. column.kind) (columns_at schema r)) c kind.Int
+
+-- relation r in quotes
+abbrev pub relation_text : Dialect → SchemaValue → ℕ → List ℕ
+relation_text d schema r = name_text d (relation_name schema r)
+
+-- column c of relation r in quotes
+abbrev pub column_text : Dialect → SchemaValue → ℕ → ℕ → List ℕ
+column_text d schema r c = name_text d (column_name schema r c)
