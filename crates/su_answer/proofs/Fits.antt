@@ -26,10 +26,10 @@ use Rattle.su_exec.specs.Tasks.{Occurs, FitsTables, HasSources, IsTask}
 use Rattle.su_answer.specs.Joined.{numbers_in, cell, IsSourceOf, IsTaskRowOf, comparison_at, IsTaskOf}
 use Rattle.su_state.proofs.Columns.{column_within}
 use Rattle.su_answer.proofs.Columns.{object_is}
-use Rattle.su_answer.proofs.Zipping.{zip_first, zip_second}
-use Rattle.su_answer.proofs.Rowing.{essential_has}
+use Rattle.su_answer.proofs.PairedLists.{zip_first, zip_second}
+use Rattle.su_answer.proofs.RowAgreement.{essential_has}
 use Rattle.su_answer.proofs.Joined.{in_rows}
-use Rattle.su_map.proofs.Settling.{numbers_few}
+use Rattle.su_map.proofs.SearchStart.{numbers_few}
 
 keep_few : (b n : ℕ) → b < 2 → length (keep_if b n []) ≤ 1
 keep_few zero n l = omega arith

@@ -13,7 +13,7 @@ use Rattle.su_where.specs.Operator.{compares}
 use Rattle.su_tableau.specs.declared.symbols.Sym.TheVariants.{Var}
 use Rattle.su_tableau.specs.Tableaux.{Tab, IsValid}
 use Rattle.su_tableau.specs.Valuations.{nth, value_of, values_of, AreCompared, Cut}
-use Rattle.su_tableau.proofs.Listing.{listed}
+use Rattle.su_tableau.proofs.ValuationLists.{listed}
 use Rattle.su_map.specs.Lists.{row_numbers}
 use Rattle.su_map.proofs.Ranks.{rank, rank_in, rank_at, ranked_at}
 use Rattle.su_state.specs.DatabaseValue.{DatabaseValue, IsWellKept}
@@ -22,8 +22,8 @@ use Rattle.su_exec.specs.Tasks.{HasSources, IsTask}
 use Rattle.su_exec.specs.Outputs.{Agrees, HoldsUnder as HoldsFor, IsOutput}
 use Rattle.su_answer.specs.Answers.{IsRead, StoredAnswer}
 use Rattle.su_answer.specs.Joined.{IsTaskRowOf, comparison_at, IsTaskOf}
-use Rattle.su_answer.proofs.Zipping.{zip_first, zip_second}
-use Rattle.su_answer.proofs.Rowing.{row_read, read_row}
+use Rattle.su_answer.proofs.PairedLists.{zip_first, zip_second}
+use Rattle.su_answer.proofs.RowAgreement.{row_read, read_row}
 
 -- ---- rows of a set
 

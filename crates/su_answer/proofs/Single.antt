@@ -16,7 +16,7 @@ use Rattle.su_exec.specs.declared.tasks.TaskRow.{TaskRow}
 use Rattle.su_exec.specs.Outputs.{Agrees, HoldsUnder, IsOutput, AreOutputs}
 use Rattle.su_exec.specs.Shares.{row_share}
 use Rattle.su_exec.specs.Tasks.{HasSources, IsTask}
-use Rattle.su_exec.proofs.Accessing.{sum_more, sum_take}
+use Rattle.su_exec.proofs.Ways.{sum_more, sum_take}
 use Rattle.su_answer.specs.Support.{IsCandidate}
 use Rattle.su_answer.specs.inside.Alone.{alone, IsEdgeOf}
 

@@ -28,7 +28,7 @@ use Rattle.su_answer.specs.Answers.{IsTermAnswer, IsAnswer, AreAnswers}
 use Rattle.su_answer.specs.QueryAnswers.{AreMoreThan}
 use Rattle.su_answer.specs.inside.Executed.{Join, IsFound, IsJoinOf, AreTermAnswers, IsFoundFor, IsInSome}
 use Rattle.su_answer.proofs.Joined.{outputs_are_answers}
-use Rattle.su_answer.proofs.Zipping.{zip_first, zip_second}
+use Rattle.su_answer.proofs.PairedLists.{zip_first, zip_second}
 
 -- ---- what a job gives
 

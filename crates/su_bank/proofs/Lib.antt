@@ -1,4 +1,4 @@
-pub mod Finding
-pub mod Lining
-pub mod Scripting
-pub mod Taking
+pub mod FourQueries
+pub mod LastLine
+pub mod ScriptPieces
+pub mod Statements

@@ -4,9 +4,9 @@
 use Rattle.std.specs.Prelude.{◌≡◌, ◌+◌, ℕ, List, [], ◌∷◌, ◌++◌, None, codes, decimal, map}
 use Rattle.su_lex.specs.declared.spans.Span.{Span}
 use Rattle.su_lex.specs.Pieces.{Pieces}
-use Rattle.su_ddl.specs.Reading.{no_definitions, statement_of}
+use Rattle.su_ddl.specs.Files.{no_definitions, statement_of}
 use Rattle.su_state.specs.DatabaseValue.{DatabaseValue, IsWellKept}
-use Rattle.su_session.specs.Opening.{empty_database}
+use Rattle.su_session.specs.EmptyDatabase.{empty_database}
 use Rattle.su_session.specs.declared.replies.Reply.{Reply}
 use Rattle.su_session.specs.Reply.{Replied}
 use Rattle.su_bank.specs.Lines.{found_line}

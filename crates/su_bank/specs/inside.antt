@@ -1,2 +1,2 @@
 -- Definitions that only contracts of private functions need.
-pub mod Telling
+pub mod FourQueries

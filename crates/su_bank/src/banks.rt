@@ -1,7 +1,7 @@
 //! What four queries find in the bank.
 ghost use Rattle.std.specs.Prelude.{◌≤◌, IfOk, OnOk};
 ghost use Rattle.su_bank.specs.Banks.{TakesScript, Finds, IsBankText};
-ghost use Rattle.su_bank.specs.inside.Telling.{TellsFour};
+ghost use Rattle.su_bank.specs.inside.FourQueries.{TellsFour};
 
 use crate::lines::found_line;
 use crate::scripts::bank_script;

@@ -1,7 +1,7 @@
 pub mod Combinations
-pub mod Growing
 pub mod Items
 pub mod Numbers
+pub mod RemainingSets
 pub mod Rows
 pub mod Same
 pub mod Subsets

@@ -20,12 +20,12 @@ use Rattle.su_tableau.specs.Tableaux.{Tab, Occurs, IsValid}
 use Rattle.su_tableau.specs.Valuations.{Ext, nth, value_of, values_of}
 use Rattle.su_tableau.specs.Kinds.{Kinds, sym_kind, IsUniverse, IsTyped}
 use Rattle.su_tableau.specs.Mapping.{images_of, Maps}
-use Rattle.su_tableau.proofs.Listing.{by_list, from_list}
+use Rattle.su_tableau.proofs.ValuationLists.{by_list, from_list}
 use Rattle.su_classes.specs.inside.Symbols.{same_value}
 use Rattle.su_classes.proofs.ValueOrder.{same_itself, same_is}
 use Rattle.su_classes.proofs.Listed.{map_same}
 use Rattle.su_chase.specs.Chase.{IsClosedPartition}
-use Rattle.su_fd.specs.Meeting.{Meets}
+use Rattle.su_fd.specs.MetDependencies.{Meets}
 use Rattle.su_chase.specs.declared.freezing.Frozen.{Frozen}
 use Rattle.su_chase.specs.Frozen.{candidate, IsFirstFree, IsFrozen, AreAvoided}
 use Rattle.su_chase.specs.inside.Rows.{variable_of, variables_in, value_in, IsFreeAt}

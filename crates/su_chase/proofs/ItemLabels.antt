@@ -10,7 +10,7 @@ use Rattle.su_fd.specs.declared.dependencies.Fd.{Fd}
 use Rattle.su_tableau.specs.declared.symbols.Sym.{Sym}
 use Rattle.su_tableau.specs.declared.symbols.Sym.TheVariants.{Var}
 use Rattle.su_classes.specs.declared.items.Placed.{Placed}
-use Rattle.su_fd.specs.Meeting.{LiesIn}
+use Rattle.su_fd.specs.MetDependencies.{LiesIn}
 use Rattle.su_classes.specs.Items.{cell, SameAt, Keeps, IsKept, IsPlacedBelow}
 use Rattle.su_classes.specs.Tables.{rep, IsLeastTable}
 use Rattle.su_classes.specs.inside.Symbols.{AreDistinct, is_known, symbol_number, symbol_at, name_in}

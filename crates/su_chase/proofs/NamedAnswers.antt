@@ -18,9 +18,9 @@ use Rattle.su_tableau.specs.declared.symbols.Sym.TheVariants.{Const, Var}
 use Rattle.su_tableau.specs.Tableaux.{Tab, IsValid, IsSmall, Occurs, AreBelow}
 use Rattle.su_tableau.specs.Valuations.{value_of, values_of, Sends, Ext}
 use Rattle.su_tableau.specs.Kinds.{Kinds, sym_kind, IsTyped}
-use Rattle.su_tableau.proofs.Listing.{by_list, from_list}
+use Rattle.su_tableau.proofs.ValuationLists.{by_list, from_list}
 use Rattle.su_classes.proofs.ValueOrder.{at_most_both, compare_itself}
-use Rattle.su_fd.specs.Meeting.{Agree, Meets}
+use Rattle.su_fd.specs.MetDependencies.{Agree, Meets}
 use Rattle.su_chase.specs.Chase.{SameLabels, IsClosedPartition, InOneClass, IsNoLater, IsName, IsConsistent, IsClash}
 use Rattle.su_chase.specs.Chased.{IsFdBelow, AreRows, IsChased}
 use Rattle.su_chase.specs.inside.Rows.{name_by, named_tab}

@@ -12,7 +12,7 @@ use Rattle.su_base.specs.Value.{compare_values}
 use Rattle.su_fd.specs.declared.dependencies.Fd.{Fd}
 use Rattle.su_tableau.specs.declared.symbols.Sym.{Sym}
 use Rattle.su_tableau.specs.declared.symbols.Sym.TheVariants.{Const, Var}
-use Rattle.su_classes.specs.Naming.{InClass}
+use Rattle.su_classes.specs.ClassNames.{InClass}
 
 -- the two rows have the same labels at the attributes of the set
 abbrev pub SameLabels : (Sym → Sym) → FinSet nat_cmp → List Sym → List Sym → Type 0

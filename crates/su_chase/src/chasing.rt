@@ -5,7 +5,7 @@ ghost use Rattle.su_tableau.specs.declared.symbols.Sym.TheVariants.{Var};
 ghost use Rattle.su_tableau.specs.Tableaux.{AreBelow};
 ghost use Rattle.su_tableau.specs.Valuations.{Ext};
 ghost use Rattle.su_tableau.specs.Kinds.{Kinds, IsTyped};
-ghost use Rattle.su_fd.specs.Meeting.{Meets};
+ghost use Rattle.su_fd.specs.MetDependencies.{Meets};
 ghost use Rattle.su_chase.specs.Chased.{IsFdBelow, IsChaseOf, ExtOf, IsTypedOf, IsSettledOf};
 ghost use Rattle.su_chase.specs.inside.Rows.{name_by, named_tab};
 

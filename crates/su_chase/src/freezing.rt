@@ -11,7 +11,7 @@ ghost use Rattle.su_tableau.specs.Valuations.{Ext, value_of, values_of};
 ghost use Rattle.su_tableau.specs.Kinds.{IsUniverse, IsTyped, sym_kind};
 ghost use Rattle.su_tableau.specs.Mapping.{Maps};
 ghost use Rattle.su_chase.specs.Chase.{IsClosedPartition};
-ghost use Rattle.su_fd.specs.Meeting.{Meets};
+ghost use Rattle.su_fd.specs.MetDependencies.{Meets};
 ghost use Rattle.su_chase.specs.Frozen.{IsFrozen, AreAvoided};
 ghost use Rattle.su_chase.specs.inside.Rows.{variable_of, value_in};
 

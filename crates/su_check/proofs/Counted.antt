@@ -8,9 +8,9 @@ use Rattle.su_lex.proofs.Gaps.{gap_within}
 use Rattle.su_lex.proofs.Lists.{first_len}
 use Rattle.su_check.specs.declared.certificates.Certificate.{Certificate}
 use Rattle.su_check.specs.declared.certificates.Term.{Term}
-use Rattle.su_lex.specs.Wording.{kind_symbol}
+use Rattle.su_lex.specs.Wordings.{kind_symbol}
 use Rattle.su_check.specs.Grammar.{Reads}
-use Rattle.su_check.specs.inside.Reading.{term_symbols}
+use Rattle.su_check.specs.inside.LineReaders.{term_symbols}
 use Rattle.su_check.proofs.TermSymbols.{certificate_at}
 
 tokens_within : (total : ℕ) (text : List ℕ) (ts : List Token) → TokensAt total text ts → length ts ≤ length text

@@ -3,7 +3,7 @@ use Rattle.std.proofs.Common.{◌≡◌, ◌≢◌, ℕ, ◌<◌, ◌≤◌, ◌
 use Rattle.std.proofs.lemmas.Bool.{cases_lt, cases_eq}
 use Rattle.std.proofs.lemmas.List.{get_or_default}
 use borrow.Author.Count.{below_more}
-use Rattle.su_check.specs.Refuting.{IsAscending, AreExactly}
+use Rattle.su_check.specs.Refutations.{IsAscending, AreExactly}
 
 -- of ts the first q are those of the first i kept numbers that have the property, ascending
 pub record Front (P : ℕ → Type 0) (kept ts : List ℕ) (i q : ℕ) : Type 0 where

@@ -7,7 +7,7 @@ use Rattle.su_tableau.specs.declared.symbols.Sym.{Sym}
 use Rattle.su_tableau.specs.declared.symbols.Sym.TheVariants.{Const, Var}
 use Rattle.su_tableau.specs.Mapping.{image_of, images_of}
 use Rattle.su_check.specs.declared.sending.Sent.{Sent}
-use Rattle.su_check.specs.Fitting.{Lines, numbered_row, AreSent, sent_too}
+use Rattle.su_check.specs.SentRows.{Lines, numbered_row, AreSent, sent_too}
 use Rattle.su_check.specs.inside.Widths.{IsWithin}
 use Rattle.su_check.specs.Certificate.{IsFoldInto}
 use Rattle.su_check.proofs.TargetsTogether.{all_front, all_last}

@@ -6,7 +6,7 @@ use Rattle.su_tableau.specs.Kinds.{Kinds}
 use Rattle.su_check.specs.declared.nodes.Node.{Node}
 use Rattle.su_check.specs.declared.certificates.Certificate.{Certificate}
 use Rattle.su_check.specs.declared.certificates.Term.{Term}
-use Rattle.su_check.specs.Refuting.{Refutes}
+use Rattle.su_check.specs.Refutations.{Refutes}
 use Rattle.su_check.specs.Certificate.{tableau_of, lines_of, IsGood}
 use Rattle.su_check.specs.LeastParts.{IsLeastPart}
 use Rattle.su_check.specs.Verdict.{IsVerdictOn}

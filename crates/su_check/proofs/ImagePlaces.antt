@@ -10,11 +10,11 @@ use Rattle.su_check.specs.declared.boards.Board.{Board}
 use Rattle.su_check.specs.declared.sending.Sent.{Sent}
 use Rattle.su_check.specs.declared.sending.StepColumn.{StepColumn}
 use Rattle.su_check.specs.inside.Cells.{cell, is_const, IsFirstPlace}
-use Rattle.su_check.specs.Fitting.{Lines, numbered_row, AreSent, sent_too}
+use Rattle.su_check.specs.SentRows.{Lines, numbered_row, AreSent, sent_too}
 use Rattle.su_check.specs.inside.Boards.{no_pair, no_place, IsFixed, IsFree, IsNumber, IsImage, Sends, SendsRow, Covers, Keeps, IsReady}
 use Rattle.su_check.proofs.Boarded.{first_one}
 use Rattle.su_check.proofs.TargetsTogether.{sent_more}
-use Rattle.su_check.specs.inside.Agreeing.{GoAlike}
+use Rattle.su_check.specs.inside.Agreement.{GoAlike}
 
 -- ---- a symbol has one number, and a number one symbol
 

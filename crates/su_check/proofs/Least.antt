@@ -12,13 +12,13 @@ use Rattle.su_tableau.specs.Kinds.{Kinds, IsTyped, sym_kind}
 use Rattle.su_tableau.specs.Mapping.{image_of, images_of, Maps}
 use Rattle.su_tableau.specs.Equivalent.{IsLeast}
 use Rattle.su_tableau.proofs.Containment.{maps_compose, maps_within, images_after}
-use Rattle.su_tableau.proofs.Freezing.{within_maps}
+use Rattle.su_tableau.proofs.FrozenTableaux.{within_maps}
 use Rattle.su_tableau.proofs.Sets.{choose}
 use Rattle.su_check.specs.declared.nodes.Node.{Node}
 use Rattle.su_check.specs.declared.nodes.Branch.{Branch}
 use Rattle.su_check.specs.declared.sending.Sent.{Sent}
-use Rattle.su_check.specs.Fitting.{Lines, numbered_row, sent_too}
-use Rattle.su_check.specs.Refuting.{IsAscending, IsFitting, Refutes, refuting, row_named, branches_of, target_of, node_of}
+use Rattle.su_check.specs.SentRows.{Lines, numbered_row, sent_too}
+use Rattle.su_check.specs.Refutations.{IsAscending, IsFitting, Refutes, refuting, row_named, branches_of, target_of, node_of}
 use Rattle.su_check.specs.LeastParts.{part_of, IsLeastPart}
 use Rattle.su_check.specs.Certificate.{IsFoldInto}
 use Rattle.su_check.proofs.FoldTargets.{images_of-Var}

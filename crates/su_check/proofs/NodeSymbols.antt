@@ -9,7 +9,7 @@ use Rattle.su_check.specs.declared.nodes.Node.{Node, fold_out-Node, out-Node, ro
 use Rattle.su_check.specs.declared.nodes.Branch.{Branch, fold-Branch, fold_out-Branch, out-Branch, roll-Branch, out-roll-Branch, roll-out-Branch}
 use Rattle.su_check.specs.declared.nodes.Branch.TheOpen.{Branch-F, Node-F}
 use Rattle.su_lex.specs.Names.{Begins}
-use Rattle.su_check.specs.Refuting.{row_named, branches_of, target_of, node_of}
+use Rattle.su_check.specs.Refutations.{row_named, branches_of, target_of, node_of}
 use Rattle.su_check.specs.NodeSymbols.{number, node_symbols, node_step, branch_step}
 use Rattle.su_check.specs.Ranges.{IsByte, IsByteNode, of_bytes}
 use Rattle.su_check.proofs.Runs.{Left, next_item, no_item}

@@ -13,12 +13,12 @@ use Rattle.su_check.specs.declared.certificates.Term.{Term}
 use Rattle.su_check.specs.declared.certificates.RowTree.{RowTree}
 use Rattle.su_check.specs.declared.nodes.Node.{Node, out-Node, roll-out-Node}
 use Rattle.su_check.specs.declared.nodes.Branch.{Branch, out-Branch, roll-out-Branch}
-use Rattle.su_check.specs.Refuting.{row_named, branches_of, target_of, node_of}
+use Rattle.su_check.specs.Refutations.{row_named, branches_of, target_of, node_of}
 use Rattle.su_check.specs.NodeSymbols.{number, sym_symbol, node_symbols}
-use Rattle.su_lex.specs.Wording.{kind_symbol}
+use Rattle.su_lex.specs.Wordings.{kind_symbol}
 use Rattle.su_check.specs.Grammar.{row_line, tree_line, Reads}
 use Rattle.su_check.specs.Ranges.{IsByte, IsByteNode, of_bytes, IsNamed, IsTermInRange}
-use Rattle.su_check.specs.inside.Reading.{EndsTerm, IsRow, IsByteTree, Stops, row_before, tree_before, term_before, term_symbols}
+use Rattle.su_check.specs.inside.LineReaders.{EndsTerm, IsRow, IsByteTree, Stops, row_before, tree_before, term_before, term_symbols}
 use Rattle.su_check.proofs.Runs.{all_head, all_tail, map_only}
 use Rattle.su_check.proofs.Spelled.{one_number, one_kind, one_symbol}
 use Rattle.su_check.proofs.NodeSymbols.{branch_symbols, IsByteBranch, node_at, byte_branches, same_node, same_branch}

@@ -6,7 +6,7 @@ use Rattle.su_tableau.specs.Mapping.{image_of, images_of}
 use Rattle.su_check.specs.declared.sending.Sent.{Sent}
 use Rattle.su_check.specs.declared.sending.StepColumn.{StepColumn}
 use Rattle.su_check.specs.inside.Cells.{cell}
-use Rattle.su_check.specs.Fitting.{Lines, numbered_row, AreSent, sent_too}
+use Rattle.su_check.specs.SentRows.{Lines, numbered_row, AreSent, sent_too}
 use Rattle.su_check.specs.inside.Boards.{no_pair, IsImage}
 use Rattle.su_check.proofs.TargetsTogether.{all_front, all_last, image_cell}
 

@@ -4,7 +4,7 @@ use Rattle.su_lex.specs.declared.meaning.Symbol.{Symbol}
 use Rattle.su_lex.specs.Names.{Begins}
 use Rattle.su_lex.specs.declared.ends.LexEnd.{LexEnd}
 use Rattle.su_lex.specs.declared.ends.LexEnd.TheVariants.{Syntax, NoMemory}
-use Rattle.su_check.specs.inside.Reading.{Gives, Stops}
+use Rattle.su_check.specs.inside.LineReaders.{Gives, Stops}
 
 pub all_head : {X : Type 0} (P : X → Type 0) (x : X) (xs : List X) → All P (x ∷ xs) → P x
 all_head P x xs all = all 0 x (omega arith)

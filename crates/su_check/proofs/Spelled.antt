@@ -7,7 +7,7 @@ use Rattle.su_base.specs.declared.values.Value.TheVariants as value
 use Rattle.su_tableau.specs.declared.symbols.Sym.{Sym}
 use Rattle.su_tableau.specs.declared.symbols.Sym.TheVariants.{Const, Var}
 use Rattle.su_check.specs.NodeSymbols.{number, sym_symbol}
-use Rattle.su_lex.specs.Wording.{kind_symbol}
+use Rattle.su_lex.specs.Wordings.{kind_symbol}
 use Rattle.su_check.specs.Ranges.{IsByte, IsNamed}
 
 pub one_number : (x y : ℕ) → IsByte x → IsByte y → number x ≡ number y → x ≡ y

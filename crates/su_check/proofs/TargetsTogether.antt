@@ -6,11 +6,11 @@ use Rattle.std.proofs.lemmas.List.Elements.{All-push, All-contains, Contains-pus
 use Rattle.su_tableau.specs.declared.symbols.Sym.{Sym}
 use Rattle.su_tableau.specs.declared.symbols.Sym.TheVariants.{Const, Var}
 use Rattle.su_tableau.specs.Mapping.{image_of, images_of}
-use Rattle.su_tableau.proofs.Changing.{InRow, in_row}
+use Rattle.su_tableau.proofs.ChangedValuations.{InRow, in_row}
 use Rattle.su_check.specs.declared.sending.Sent.{Sent}
 use Rattle.su_check.specs.inside.Cells.{cell, is_const}
-use Rattle.su_check.specs.Fitting.{Lines, numbered_row, AreSent, sent_too}
-use Rattle.su_check.specs.inside.Agreeing.{KeepsConstants, GoAlike, Goes, AgreesWith}
+use Rattle.su_check.specs.SentRows.{Lines, numbered_row, AreSent, sent_too}
+use Rattle.su_check.specs.inside.Agreement.{KeepsConstants, GoAlike, Goes, AgreesWith}
 
 -- ---- a list with one more at its end
 

@@ -15,10 +15,10 @@ use Rattle.su_check.specs.declared.certificates.Certificate.{Certificate}
 use Rattle.su_check.specs.declared.certificates.Term.{Term}
 use Rattle.su_check.specs.declared.certificates.RowTree.{RowTree}
 use Rattle.su_check.specs.NodeSymbols.{number, sym_symbol}
-use Rattle.su_lex.specs.Wording.{kind_symbol}
+use Rattle.su_lex.specs.Wordings.{kind_symbol}
 use Rattle.su_check.specs.Grammar.{row_line, tree_line, term_lines, certificate_symbols}
 use Rattle.su_check.specs.Ranges.{IsTermInRange, IsByte, IsNamed, IsByteNode}
-use Rattle.su_check.specs.inside.Reading.{EndsTerm, IsRow, IsByteTree, Stops, term_before, term_symbols}
+use Rattle.su_check.specs.inside.LineReaders.{EndsTerm, IsRow, IsByteTree, Stops, term_before, term_symbols}
 use Rattle.su_check.proofs.Runs.{Left}
 
 abbrev id : List Symbol → List Symbol

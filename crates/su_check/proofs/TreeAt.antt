@@ -3,7 +3,7 @@ use Rattle.std.proofs.Common.{◌≡◌, ◌↔◌, ℕ, Bool, true, List, [], g
 use Rattle.su_check.specs.declared.certificates.Term.{Term}
 use Rattle.su_check.specs.declared.certificates.RowTree.{RowTree}
 use Rattle.su_check.specs.declared.sending.Sent.{Sent}
-use Rattle.su_check.specs.Refuting.{Refutes}
+use Rattle.su_check.specs.Refutations.{Refutes}
 use Rattle.su_check.specs.Certificate.{lines_of, IsGoodTree}
 
 pub tree_tells : (x : Term) (k : ℕ) (tree : RowTree) (p : List Sent) (ks : List ℕ) (b : Bool) → slice_get x.trees k ≡ Some tree → tree.row ≡ get_or ks k 0 → ks ≡ x.kept → p ≡ [] → ((b ≡ true) ↔ Refutes (lines_of x) tree.row tree.node p) → ((b ≡ true) ↔ IsGoodTree x k)

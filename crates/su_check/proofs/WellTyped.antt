@@ -9,10 +9,10 @@ use Rattle.su_tableau.specs.declared.symbols.Sym.{Sym}
 use Rattle.su_tableau.specs.declared.symbols.Sym.TheVariants.{Const, Var}
 use Rattle.su_tableau.specs.Tableaux.{Occurs}
 use Rattle.su_tableau.specs.Kinds.{Kinds, sym_kind}
-use Rattle.su_tableau.proofs.Changing.{Stands, stands}
+use Rattle.su_tableau.proofs.ChangedValuations.{Stands, stands}
 use Rattle.su_check.specs.declared.certificates.Term.{Term}
 use Rattle.su_check.specs.inside.Cells.{cell, kind_at, HasFound, AreFound, AreTyped}
-use Rattle.su_check.specs.Refuting.{IsAscending}
+use Rattle.su_check.specs.Refutations.{IsAscending}
 use Rattle.su_check.specs.declared.boards.Board.{Board}
 use Rattle.su_check.specs.declared.sending.StepColumn.{StepColumn}
 use Rattle.su_check.specs.inside.Boards.{IsBoard, IsReady}

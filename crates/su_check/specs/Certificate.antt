@@ -7,8 +7,8 @@ use Rattle.su_tableau.specs.Kinds.{Kinds, IsTyped}
 use Rattle.su_tableau.specs.Mapping.{images_of}
 use Rattle.su_check.specs.declared.certificates.Term.{Term}
 use Rattle.su_check.specs.declared.certificates.RowTree.{RowTree}
-use Rattle.su_check.specs.Fitting.{Lines, numbered_row}
-use Rattle.su_check.specs.Refuting.{IsAscending, Refutes}
+use Rattle.su_check.specs.SentRows.{Lines, numbered_row}
+use Rattle.su_check.specs.Refutations.{IsAscending, Refutes}
 
 -- the tableau of a term: its head is outputs, and it has no operators
 abbrev pub tableau_of : Kinds → Term → Tab

@@ -10,7 +10,7 @@ use Rattle.su_check.specs.declared.certificates.Term.{Term}
 use Rattle.su_check.specs.declared.certificates.RowTree.{RowTree}
 use Rattle.su_lex.specs.Nesting.{IsDeep}
 use Rattle.su_check.specs.NodeSymbols.{number, sym_symbol, node_symbols}
-use Rattle.su_lex.specs.Wording.{kind_symbol, in_parens}
+use Rattle.su_lex.specs.Wordings.{kind_symbol, in_parens}
 use Rattle.su_check.specs.Ranges.{IsInRange}
 
 -- a line: a word, and symbols behind it

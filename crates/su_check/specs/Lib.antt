@@ -1,8 +1,8 @@
 pub mod Certificate
-pub mod Fitting
+pub mod SentRows
 pub mod Grammar
 pub mod inside
-pub mod Refuting
+pub mod Refutations
 pub mod Verdict
 pub mod LeastParts
 pub mod NodeSymbols

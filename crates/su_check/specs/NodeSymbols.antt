@@ -8,7 +8,7 @@ use Rattle.su_tableau.specs.declared.symbols.Sym.{Sym}
 use Rattle.su_tableau.specs.declared.symbols.Sym.TheVariants.{Const, Var}
 use Rattle.su_check.specs.declared.nodes.Node.{Node, fold-Node}
 use Rattle.su_check.specs.declared.nodes.Branch.TheOpen.{Branch-F, Node-F}
-use Rattle.su_lex.specs.Wording.{in_parens}
+use Rattle.su_lex.specs.Wordings.{in_parens}
 
 -- a number as a symbol
 abbrev pub number : ℕ → Symbol

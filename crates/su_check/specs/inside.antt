@@ -1,8 +1,8 @@
 -- Definitions that only contracts of private functions need.
-pub mod Agreeing
+pub mod Agreement
 pub mod Boards
 pub mod Cells
 pub mod Guides
-pub mod Reading
+pub mod LineReaders
 pub mod Trees
 pub mod Widths

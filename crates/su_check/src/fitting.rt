@@ -2,7 +2,7 @@
 ghost use Rattle.std.specs.Prelude.{◌≡◌, ◌<◌, ◌↔◌, ℕ, IsTrue, IfOk, MatchOption, Some, None, false, length, get_or, All, List as Items};
 ghost use Rattle.su_tableau.specs.declared.symbols.Sym.{Sym as ASym};
 ghost use Rattle.su_check.specs.Certificate.{lines_of};
-ghost use Rattle.su_check.specs.Fitting.{AreSent, sent_too};
+ghost use Rattle.su_check.specs.SentRows.{AreSent, sent_too};
 ghost use Rattle.su_check.specs.inside.Widths.{AreWide, IsWithin};
 ghost use Rattle.su_check.specs.inside.Boards.{no_place, IsFixed, IsImage, Sends, Covers, Keeps, IsReady};
 ghost use Rattle.su_check.specs.declared.sending.Sent.{Sent as ASent};
@@ -10,7 +10,7 @@ ghost use Rattle.su_check.specs.declared.sending.Sent.{Sent as ASent};
 use crate::boards::Board;
 use crate::cells::{at, row_at};
 use crate::certificates::Term;
-use crate::sending::{StepColumn, Sent};
+use crate::sending::{Sent, StepColumn};
 use su_base::{List, NoMemory};
 use su_tableau::Sym;
 

@@ -7,7 +7,7 @@ use crate::boards::Board;
 use crate::certificates::Term;
 use crate::fitting::fits;
 use crate::numbers::contains;
-use crate::sending::{StepColumn, Sent};
+use crate::sending::{Sent, StepColumn};
 use std::alloc::Global;
 use su_base::{List, NoMemory};
 

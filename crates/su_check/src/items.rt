@@ -5,9 +5,9 @@ ghost use Rattle.su_lex.specs.Names.{Begins};
 ghost use Rattle.su_lex.specs.declared.meaning.Symbol.{Symbol as ASymbol};
 ghost use Rattle.su_tableau.specs.declared.symbols.Sym.{Sym as ASym};
 ghost use Rattle.su_check.specs.NodeSymbols.{number, sym_symbol};
-ghost use Rattle.su_lex.specs.Wording.{kind_symbol};
+ghost use Rattle.su_lex.specs.Wordings.{kind_symbol};
 ghost use Rattle.su_check.specs.Ranges.{IsByte, IsNamed};
-ghost use Rattle.su_check.specs.inside.Reading.{Gives, Stops};
+ghost use Rattle.su_check.specs.inside.LineReaders.{Gives, Stops};
 
 use crate::variables::variable;
 use su_base::{Kind, List, NoMemory, Value};

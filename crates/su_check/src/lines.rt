@@ -12,7 +12,7 @@ ghost use Rattle.su_check.specs.declared.certificates.Certificate.{Certificate a
 ghost use Rattle.su_check.specs.Ranges.{IsByteNode, IsTermInRange, IsInRange};
 ghost use Rattle.su_check.specs.NodeSymbols.{node_symbols};
 ghost use Rattle.su_check.specs.Grammar.{row_line, tree_line, certificate_symbols};
-ghost use Rattle.su_check.specs.inside.Reading.{EndsTerm, Gives, IsRow, IsByteTree, row_before, tree_before, term_before, term_symbols};
+ghost use Rattle.su_check.specs.inside.LineReaders.{EndsTerm, Gives, IsRow, IsByteTree, row_before, tree_before, term_before, term_symbols};
 
 use crate::certificates::{Certificate, RowTree, Term};
 use crate::items::{bytes, expect_number, kinds, symbols, takes_number};

@@ -2,7 +2,7 @@
 ghost use Rattle.std.specs.Prelude.{◌≡◌, IfOk};
 ghost use Rattle.su_check.specs.declared.certificates.Certificate.{Certificate as ACertificate};
 ghost use Rattle.su_check.specs.Grammar.{Reads};
-ghost use Rattle.su_check.specs.inside.Reading.{Gives};
+ghost use Rattle.su_check.specs.inside.LineReaders.{Gives};
 
 use crate::certificates::Certificate;
 use crate::lines::certificate;

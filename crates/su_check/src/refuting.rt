@@ -1,10 +1,10 @@
 //! Whether a tree shows that a row can't be left out.
 ghost use Rattle.std.specs.Prelude.{◌≡◌, ◌≢◌, ◌≤◌, ◌↔◌, IsTrue, IfOk, All, Contains, length};
 ghost use Rattle.su_check.specs.Certificate.{lines_of};
-ghost use Rattle.su_check.specs.Fitting.{sent_too};
+ghost use Rattle.su_check.specs.SentRows.{sent_too};
 ghost use Rattle.su_check.specs.inside.Boards.{Keeps, IsReady};
 ghost use Rattle.su_check.specs.inside.Guides.{HasTargets, IsGuide};
-ghost use Rattle.su_check.specs.Refuting.{IsOpen, IsFitting, Refutes, target_of, node_of};
+ghost use Rattle.su_check.specs.Refutations.{IsOpen, IsFitting, Refutes, target_of, node_of};
 
 use crate::certificates::Term;
 use crate::claims::Claim;
@@ -12,7 +12,7 @@ use crate::fitting::fits;
 use crate::guides::candidates;
 use crate::nodes::{Branch, Node};
 use crate::numbers::contains;
-use crate::sending::{StepColumn, Sent};
+use crate::sending::{Sent, StepColumn};
 use su_base::{List, NoMemory};
 use su_tableau::has;
 

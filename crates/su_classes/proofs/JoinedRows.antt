@@ -11,7 +11,7 @@ use Rattle.su_tableau.specs.declared.symbols.Sym.{Sym}
 use Rattle.su_tableau.specs.declared.symbols.Sym.TheVariants.{Var}
 use Rattle.su_classes.specs.declared.items.Placed.{Placed}
 use Rattle.su_classes.specs.declared.items.Together.{Together}
-use Rattle.su_fd.specs.Meeting.{LiesIn}
+use Rattle.su_fd.specs.MetDependencies.{LiesIn}
 use Rattle.su_classes.specs.Items.{cell, SameAt, Keeps, IsPlacedBelow}
 use Rattle.su_classes.specs.Tables.{rep, IsTable, IsSound}
 use Rattle.su_classes.specs.inside.Tables.{IsForest, IsJoining, IsShortened, IsMerging, IsProgress}

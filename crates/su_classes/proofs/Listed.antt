@@ -9,7 +9,7 @@ use Rattle.su_base.proofs.Subsets.{subset_at}
 use Rattle.su_base.proofs.Items.{Contains-later, Contains-cases, Contains-nil}
 use Rattle.su_fd.specs.declared.dependencies.Fd.{Fd}
 use Rattle.su_classes.specs.declared.items.Placed.{Placed}
-use Rattle.su_fd.specs.Meeting.{LiesIn}
+use Rattle.su_fd.specs.MetDependencies.{LiesIn}
 use Rattle.su_classes.specs.Items.{cell, IsPlacedBelow}
 use Rattle.su_classes.specs.inside.Firsts.{AreMembersBelow}
 

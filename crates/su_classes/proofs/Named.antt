@@ -8,7 +8,7 @@ use Rattle.su_classes.specs.declared.items.Placed.{Placed}
 use Rattle.su_classes.specs.declared.items.Together.{Together}
 use Rattle.su_classes.specs.Items.{IsKept}
 use Rattle.su_classes.specs.Tables.{rep, IsTable, IsLeastTable}
-use Rattle.su_classes.specs.Naming.{InClass, IsFrom, IsNaming}
+use Rattle.su_classes.specs.ClassNames.{InClass, IsFrom, IsNaming}
 use Rattle.su_classes.proofs.Places.{IsNumbering}
 
 -- two known symbols have one name exactly where they have one representative

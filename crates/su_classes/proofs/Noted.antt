@@ -12,7 +12,7 @@ use Rattle.std.proofs.lemmas.Slice.Eq.{slice_eq-Decides}
 use Rattle.std.proofs.lemmas.List.{get_or_push, get_or_append_left, length_push}
 use Rattle.su_fd.specs.declared.dependencies.Fd.{Fd}
 use Rattle.su_classes.specs.declared.items.Placed.{Placed}
-use Rattle.su_fd.specs.Meeting.{LiesIn}
+use Rattle.su_fd.specs.MetDependencies.{LiesIn}
 use Rattle.su_classes.specs.Items.{cell, SameAt, IsPlacedBelow}
 use Rattle.su_classes.specs.inside.Firsts.{row_at, first_at, AreMembersBelow, key, AreFirsts, noted_in, Notes, IsFirstNoted}
 use Rattle.su_classes.proofs.Listed.{map_same, same_at, left_low}

@@ -5,7 +5,7 @@ use Rattle.std.proofs.lemmas.List.{length-set, length-append}
 use Rattle.std.proofs.lemmas.List.Elements.{All-nil, All-set, All-append, All-contains, Contains-append_left, Contains-get_or}
 use Rattle.su_classes.specs.declared.worklist.Spot.{Spot}
 use Rattle.su_classes.specs.declared.worklist.Worklist.{Worklist}
-use Rattle.su_classes.specs.inside.Rushing.{IsWell, IsSame, IsSpot, IsFor}
+use Rattle.su_classes.specs.inside.Worklists.{IsWell, IsSame, IsSpot, IsFor}
 
 pub all_more : (n m : ℕ) (xs : List ℕ) → n ≤ m → All (λ x. x < n) xs → All (λ x. x < m) xs
 all_more n m xs le all i d l = let b = all i d l in omega arith

@@ -5,7 +5,7 @@ use Rattle.std.specs.Prelude.{◌≡◌, ℕ, ◌<◌, ◌≤◌, IsTrue, List, 
 use Rattle.std.specs.Ordering.{nat_cmp}
 use Rattle.std.specs.FinSet.{FinSet, contains}
 use Rattle.su_fd.specs.declared.dependencies.Fd.{Fd}
-use Rattle.su_fd.specs.Meeting.{LiesIn}
+use Rattle.su_fd.specs.MetDependencies.{LiesIn}
 use Rattle.su_classes.specs.declared.items.Placed.{Placed}
 use Rattle.su_classes.specs.declared.items.Together.{Together}
 

@@ -1,4 +1,4 @@
 pub mod inside
 pub mod Items
-pub mod Naming
+pub mod ClassNames
 pub mod Tables

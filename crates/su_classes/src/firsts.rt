@@ -1,6 +1,6 @@
 //! For each row the first one with its left side.
 ghost use Rattle.std.specs.Prelude.{◌≡◌, ◌↔◌, ℕ, ◌<◌, ◌≤◌, ◌++◌, ◌∷◌, [], if◌then◌else◌, IsTrue, All, length, IfOk, OnOk};
-ghost use Rattle.su_fd.specs.Meeting.{LiesIn};
+ghost use Rattle.su_fd.specs.MetDependencies.{LiesIn};
 ghost use Rattle.su_classes.specs.Items.{cell, IsPlacedBelow};
 ghost use Rattle.su_classes.specs.Tables.{rep};
 ghost use Rattle.su_classes.specs.inside.Firsts.{AreMembersBelow, key, AreFirsts, noted_in, Notes, IsFirstNoted};

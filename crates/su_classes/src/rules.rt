@@ -1,6 +1,6 @@
 //! Dependencies with the attributes of their sides.
 ghost use Rattle.std.specs.Prelude.{◌≡◌, ◌<◌, All, Contains, length, IfOk};
-ghost use Rattle.su_classes.specs.inside.Rushing.{IsRule};
+ghost use Rattle.su_classes.specs.inside.Worklists.{IsRule};
 
 use crate::firsts::members;
 use std::alloc::Global;

@@ -1,11 +1,11 @@
 //! Merges by a worklist, so that few are left to the passes over the dependencies.
 ghost use Rattle.std.specs.Prelude.{◌≡◌, ℕ, ◌<◌, ◌≤◌, IsTrue, All, Contains, length, IfOk, OnOk};
 ghost use Rattle.su_tableau.specs.declared.symbols.Sym.{Sym};
-ghost use Rattle.su_fd.specs.Meeting.{LiesIn};
+ghost use Rattle.su_fd.specs.MetDependencies.{LiesIn};
 ghost use Rattle.su_classes.specs.Items.{cell, SameAt, Keeps, IsPlacedBelow};
 ghost use Rattle.su_classes.specs.Tables.{IsSound};
 ghost use Rattle.su_classes.specs.inside.Tables.{IsForest, IsShortened, IsMerging};
-ghost use Rattle.su_classes.specs.inside.Rushing.{IsRule, IsWell, IsSame, IsFor};
+ghost use Rattle.su_classes.specs.inside.Worklists.{IsRule, IsWell, IsSame, IsFor};
 
 use crate::firsts::lies_in;
 use crate::items::{Placed, item_at};

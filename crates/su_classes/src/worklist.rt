@@ -2,7 +2,7 @@
 ghost use Rattle.std.specs.Prelude.{◌≡◌, ◌<◌, ◌++◌, ◌∷◌, [], All, Contains, length, IfOk, IfSome, OnOk};
 ghost use Rattle.su_classes.specs.Items.{cell, IsPlacedBelow};
 ghost use Rattle.su_classes.specs.inside.Tables.{IsForest};
-ghost use Rattle.su_classes.specs.inside.Rushing.{IsWell, IsSame, IsSpot, IsFor};
+ghost use Rattle.su_classes.specs.inside.Worklists.{IsWell, IsSame, IsSpot, IsFor};
 
 use crate::items::{Placed, item_at};
 use std::alloc::Global;

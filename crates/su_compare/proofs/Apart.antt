@@ -15,8 +15,8 @@ use Rattle.su_schema.specs.SchemaValue.{SchemaValue}
 use Rattle.su_schema.specs.Entries.{attribute_kinds}
 use Rattle.su_steps.specs.declared.results.Term.{Term}
 use Rattle.su_compare.specs.Settled.{tab_at, IsUnsettled}
-use Rattle.su_compare.specs.Parting.{InTerms, IsShown}
-use Rattle.su_compare.specs.inside.Settling.{IsAnswer}
+use Rattle.su_compare.specs.Counterexamples.{InTerms, IsShown}
+use Rattle.su_compare.specs.inside.Settlements.{IsAnswer}
 use Rattle.su_compare.proofs.Members.{ext_included}
 use Rattle.su_compare.proofs.Constants.{chased_constants}
 

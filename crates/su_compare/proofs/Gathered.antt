@@ -10,8 +10,8 @@ use Rattle.su_tableau.specs.declared.symbols.Sym.{Sym}
 use Rattle.su_tableau.specs.declared.symbols.Sym.TheVariants.{Const, Var}
 use Rattle.su_tableau.specs.Tableaux.{Tab}
 use Rattle.su_steps.specs.declared.results.Term.{Term}
-use Rattle.su_compare.specs.Parting.{HasConstant, InTerms}
-use Rattle.su_compare.specs.inside.Settling.{constant_in, constants_in, tab_constants, terms_constants}
+use Rattle.su_compare.specs.Counterexamples.{HasConstant, InTerms}
+use Rattle.su_compare.specs.inside.Settlements.{constant_in, constants_in, tab_constants, terms_constants}
 use Rattle.su_compare.proofs.Settled.{tab_here}
 
 pub push_taken : {X : Type 0} (xs : List X) (i : ℕ) (x : X) (ys new : List X) → slice_get xs i ≡ Some x → new ≡ ys ++ x ∷ [] → ys ≡ take i xs → new ≡ take (i + 1) xs

@@ -7,7 +7,7 @@ use Rattle.su_fd.specs.declared.dependencies.Fd.{Fd}
 use Rattle.su_tableau.specs.Tableaux.{Tab}
 use Rattle.su_tableau.specs.Valuations.{Ext}
 use Rattle.su_tableau.specs.Kinds.{Kinds, IsUniverse}
-use Rattle.su_fd.specs.Meeting.{Meets}
+use Rattle.su_fd.specs.MetDependencies.{Meets}
 
 -- each member of u is one of w
 abbrev pub Includes : List (List Value) → List (List Value) → Type 0

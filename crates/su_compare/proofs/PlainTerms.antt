@@ -10,7 +10,7 @@ use Rattle.su_base.proofs.Numbers.{ord_max-numbers}
 use Rattle.su_tableau.specs.Tableaux.{Tab, IsValid, AreVarsBelow}
 use Rattle.su_tableau.specs.Valuations.{Ext, Cut, value_of, nth}
 use Rattle.su_tableau.specs.Kinds.{IsUniverse, IsTyped}
-use Rattle.su_fd.specs.Meeting.{Meets}
+use Rattle.su_fd.specs.MetDependencies.{Meets}
 use Rattle.su_chase.specs.Chased.{IsFdBelow}
 use Rattle.su_schema.specs.Valid as schemas
 use Rattle.su_schema.specs.SchemaValue.{SchemaValue}
@@ -28,7 +28,7 @@ use Rattle.su_compare.specs.Within.{IsQueryWithin, IsCounterexample, AreOf}
 use Rattle.su_compare.specs.Settled.{tab_at, IsBy, IsSettled}
 use Rattle.su_compare.specs.Verdict.{IsReason, IsYes, IfApart}
 use Rattle.su_compare.specs.Comparable.{IsPlain, AreComparable}
-use Rattle.su_compare.specs.inside.Settling.{IsAlike, AreAlike, IsAnswer, IsApartOver}
+use Rattle.su_compare.specs.inside.Settlements.{IsAlike, AreAlike, IsAnswer, IsApartOver}
 use Rattle.su_compare.proofs.Settled.{tab_here}
 
 pub max_left : (a b m : ℕ) → m ≡ ord_max nat_cmp a b → a ≤ m

@@ -10,11 +10,11 @@ use Rattle.su_tableau.specs.Mapping.{Maps}
 use Rattle.su_tableau.proofs.Containment.{maps_within}
 use Rattle.su_map.specs.Lists.{Certified, IsMapping, IsFirst}
 use Rattle.su_map.specs.Rooms.{Space, HasSizesOf}
-use Rattle.su_map.proofs.Containing.{list_maps, maps_list, whole_maps, maps_whole}
+use Rattle.su_map.proofs.Containment.{list_maps, maps_list, whole_maps, maps_whole}
 use Rattle.su_chase.specs.Chased.{IsChased}
 use Rattle.su_steps.specs.declared.results.Term.{Term}
 use Rattle.su_compare.specs.Settled.{tab_at, IsFirstMapping, IsFound}
-use Rattle.su_compare.specs.inside.Settling.{HasRoomFor, IsAlike, AreAlike, IsAnswer}
+use Rattle.su_compare.specs.inside.Settlements.{HasRoomFor, IsAlike, AreAlike, IsAnswer}
 
 pub tab_here : (terms : List Term) (i : ℕ) (d : Term) → i < length terms → tab_at terms i ≡ (get_or terms i d).tableau
 tab_here terms i d low = get_or-map (λ t. t.tableau) terms i d (tab_at [] 0) low

@@ -7,4 +7,4 @@ pub mod Texts
 pub mod Verdict
 pub mod Within
 pub mod Settled
-pub mod Parting
+pub mod Counterexamples

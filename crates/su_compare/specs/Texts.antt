@@ -6,7 +6,7 @@ use Rattle.su_lex.specs.Spelling.{spaced}
 use Rattle.su_csv.specs.Written.{text_of}
 use Rattle.su_schema.specs.SchemaValue.{SchemaValue}
 use Rattle.su_schema.specs.Entries.{attribute_names}
-use Rattle.su_lex.specs.Wording.{in_parens, numbers_text}
+use Rattle.su_lex.specs.Wordings.{in_parens, numbers_text}
 use Rattle.su_query.specs.ShownParts.{listed, value_symbols}
 use Rattle.su_compare.specs.declared.verdicts.Found.{Found}
 use Rattle.su_compare.specs.declared.verdicts.Reason.{Reason}

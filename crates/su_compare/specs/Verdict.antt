@@ -11,7 +11,7 @@ use Rattle.su_compare.specs.declared.verdicts.Reason.{Reason}
 use Rattle.su_compare.specs.declared.verdicts.Verdict.{Verdict}
 use Rattle.su_compare.specs.declared.verdicts.Verdict.TheVariants.{Within, Apart}
 use Rattle.su_compare.specs.Settled.{tab_at, IsBy}
-use Rattle.su_compare.specs.Parting.{IsApart}
+use Rattle.su_compare.specs.Counterexamples.{IsApart}
 
 -- the reason of the term with this number
 pub record IsReason (fds : List Fd) (first second : List Term) (i : ℕ) (r : Reason) : Type 0 where

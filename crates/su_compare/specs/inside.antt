@@ -1,2 +1,2 @@
 -- Definitions that only contracts of private functions need.
-pub mod Settling
+pub mod Settlements

@@ -6,11 +6,11 @@ ghost use Rattle.su_base.specs.declared.values.Value.{Value as AValue};
 ghost use Rattle.su_tableau.specs.Kinds.{IsUniverse};
 ghost use Rattle.su_schema.specs.Entries.{attribute_kinds};
 ghost use Rattle.su_query.specs.declared.resolving.Resolved.{Resolved as AResolved};
-ghost use Rattle.su_fd.specs.Meeting.{Meets};
+ghost use Rattle.su_fd.specs.MetDependencies.{Meets};
 ghost use Rattle.su_compare.specs.Within.{IsQueryWithin, IsCounterexample, AreOf};
 ghost use Rattle.su_compare.specs.Comparable.{AreComparable};
 ghost use Rattle.su_compare.specs.Verdict.{IsVerdict, IsYes, IfApart};
-ghost use Rattle.su_compare.specs.inside.Settling.{HasRoomFor, IsAnswer, IsApartOver};
+ghost use Rattle.su_compare.specs.inside.Settlements.{HasRoomFor, IsAnswer, IsApartOver};
 
 use crate::settling::{Settled, settle};
 use crate::shown::show_apart;

@@ -3,10 +3,10 @@ ghost use Rattle.std.specs.Prelude.{◌≡◌, ◌<◌, ◌≤◌, ℕ, length, 
 ghost use Rattle.su_base.specs.declared.values.Value.{Value as AValue};
 ghost use Rattle.su_tableau.specs.Kinds.{Kinds, IsUniverse, IsTyped};
 ghost use Rattle.su_tableau.specs.Mapping.{Maps};
-ghost use Rattle.su_fd.specs.Meeting.{Meets};
+ghost use Rattle.su_fd.specs.MetDependencies.{Meets};
 ghost use Rattle.su_chase.specs.Chased.{IsFdBelow};
 ghost use Rattle.su_compare.specs.Settled.{tab_at, IsFound};
-ghost use Rattle.su_compare.specs.inside.Settling.{HasRoomFor, AreAlike, IsSettlement, Answers, IsTypedOpen};
+ghost use Rattle.su_compare.specs.inside.Settlements.{HasRoomFor, AreAlike, IsSettlement, Answers, IsTypedOpen};
 
 use crate::verdicts::Found;
 use std::alloc::Global;

@@ -1,7 +1,7 @@
 //! The text of two verdicts.
 ghost use Rattle.std.specs.Prelude.{◌≡◌, ◌++◌, codes, decimal, flat_map, IfOk, OnOk};
 ghost use Rattle.su_schema.specs.Entries.{attribute_names};
-ghost use Rattle.su_lex.specs.Wording.{numbers_text};
+ghost use Rattle.su_lex.specs.Wordings.{numbers_text};
 ghost use Rattle.su_compare.specs.Texts.{by_text, reason_line, counts_text, head_text, apart_text, verdict_text, verdicts_text};
 
 use crate::verdicts::{Found, Reason, Verdict};

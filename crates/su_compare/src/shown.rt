@@ -5,10 +5,10 @@ ghost use Rattle.su_tableau.specs.Valuations.{Ext};
 ghost use Rattle.su_tableau.specs.Kinds.{IsUniverse, IsTyped};
 ghost use Rattle.su_schema.specs.Entries.{attribute_kinds};
 ghost use Rattle.su_chase.specs.Chase.{IsClosedPartition};
-ghost use Rattle.su_fd.specs.Meeting.{Meets};
+ghost use Rattle.su_fd.specs.MetDependencies.{Meets};
 ghost use Rattle.su_compare.specs.Settled.{tab_at, IsUnsettled};
-ghost use Rattle.su_compare.specs.Parting.{InTerms, IsShown};
-ghost use Rattle.su_compare.specs.inside.Settling.{IsAnswer, constants_in, tab_constants, terms_constants};
+ghost use Rattle.su_compare.specs.Counterexamples.{InTerms, IsShown};
+ghost use Rattle.su_compare.specs.inside.Settlements.{IsAnswer, constants_in, tab_constants, terms_constants};
 
 use std::alloc::Global;
 use su_base::{Kind, List, NoMemory, Value, sorted_rows, sorted_values};

@@ -21,13 +21,13 @@ use Rattle.su_schema.specs.Entries.{IsSomeBelow, AreDistinctNames, attribute_nam
 use Rattle.su_schema.specs.NameChecks.{first_failing, name_checks}
 use Rattle.su_schema.specs.Known.{is_known, number_of, columns_at}
 use Rattle.su_schema.specs.Checks.{pair_checks, checks}
-use Rattle.su_schema.specs.Defining.{applied, extended, numbers_of, links_of}
+use Rattle.su_schema.specs.Definitions.{applied, extended, numbers_of, links_of}
 use Rattle.su_schema.specs.WellNamed.{IsWellNamed}
 use Rattle.su_schema.proofs.Accepted.{accepted}
-use Rattle.su_schema.proofs.Ascending.{found}
+use Rattle.su_schema.proofs.LinkOrder.{found}
 use Rattle.su_schema.proofs.Entries.{All-at}
 use Rattle.su_schema.proofs.PairsSoFar.{columns_there, first_failing-passed}
-use Rattle.su_ddl.specs.Reading.{Reads, no_definitions}
+use Rattle.su_ddl.specs.Files.{Reads, no_definitions}
 use Rattle.su_ddl.specs.ShownDefinitions.{name_at, names_in, pair_of, attribute_definition, relation_definition, object_definition, fd_definition, maximal_definition, definitions_of}
 use Rattle.su_ddl.specs.Shown.{schema_text}
 use Rattle.su_ddl.proofs.Named.{middle, weaker, step, fresh, apart_pass, not_unknown, number_at, IsSide, side}

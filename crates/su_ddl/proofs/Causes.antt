@@ -13,10 +13,10 @@ use Rattle.su_schema.specs.Entries.{attribute_names, column_names, object_names,
 use Rattle.su_schema.specs.NameChecks.{Check, first_failing, apart_checks, name_checks}
 use Rattle.su_schema.specs.Checks.{pair_checks, checks}
 use Rattle.su_schema.specs.Known.{columns_at, number_of}
-use Rattle.su_schema.specs.Defining.{outcome}
+use Rattle.su_schema.specs.Definitions.{outcome}
 use Rattle.su_ddl.specs.declared.faults.DdlFault.{DdlFault}
 use Rattle.su_ddl.specs.declared.faults.DdlFault.TheVariants.{Syntax, Refused, NoMemory}
-use Rattle.su_ddl.specs.Reading.{IsAtFault, ReadsFrom, Reads, no_definitions}
+use Rattle.su_ddl.specs.Files.{IsAtFault, ReadsFrom, Reads, no_definitions}
 
 abbrev IsNamed : Check → Type 0
 IsNamed check = check.fault ≢ Wanting

@@ -12,11 +12,11 @@ use Rattle.su_lex.specs.declared.spans.Span.{Span}
 use Rattle.su_lex.proofs.Cuts.{one_list_of_pieces, parts_within}
 use Rattle.su_schema.specs.declared.definitions.Definition.{Definition}
 use Rattle.su_schema.specs.SchemaValue.{SchemaValue}
-use Rattle.su_schema.specs.Defining.{applied}
+use Rattle.su_schema.specs.Definitions.{applied}
 use Rattle.su_ddl.specs.declared.faults.DdlFault.{DdlFault}
 use Rattle.su_ddl.specs.declared.faults.DdlFault.TheVariants.{Syntax, Refused, NoMemory}
 use Rattle.su_ddl.specs.Grammar.{IsDefinition}
-use Rattle.su_ddl.specs.Reading.{IsAtFault, ReadsFrom, Reads, statement_of, no_definitions}
+use Rattle.su_ddl.specs.Files.{IsAtFault, ReadsFrom, Reads, statement_of, no_definitions}
 use Rattle.su_ddl.proofs.Formed.{one_definition}
 
 same_applied : {A : Type 0} (s : SchemaValue) (d e : Definition) (x y : Result SchemaValue A) → (f : SchemaValue → Definition → Result SchemaValue A) → d ≡ e → f s d ≡ x → f s e ≡ y → x ≡ y

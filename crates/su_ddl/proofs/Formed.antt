@@ -12,10 +12,10 @@ use Rattle.su_lex.proofs.Written.{one_list_of_symbols}
 use Rattle.su_schema.specs.declared.definitions.Pair.{Pair}
 use Rattle.su_schema.specs.declared.definitions.Definition.{Definition}
 use Rattle.su_schema.specs.declared.definitions.Definition.TheVariants.{Attribute, Relation, Object, Fd, Maximal}
-use Rattle.su_lex.specs.Wording.{kind_symbol}
+use Rattle.su_lex.specs.Wordings.{kind_symbol}
 use Rattle.su_ddl.specs.Grammar.{columns_symbols, in_parens, IsForm, IsDefinition}
 use Rattle.su_ddl.specs.inside.Columns.{AreColumns}
-use Rattle.su_ddl.proofs.Listing.{words_differ, kind_same, no_comma, no_comma_arrow, no_comma_end, given_are, given_columns, parens_unique, columns_unique}
+use Rattle.su_ddl.proofs.NameLists.{words_differ, kind_same, no_comma, no_comma_arrow, no_comma_end, given_are, given_columns, parens_unique, columns_unique}
 
 pub record AttributeForm (s : List Symbol) (d : Definition) : Type 0 where
   pub name : List ℕ

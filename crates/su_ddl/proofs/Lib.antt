@@ -4,7 +4,7 @@ pub mod Files
 pub mod Formed
 pub mod Lines
 pub mod Linked
-pub mod Listing
+pub mod NameLists
 pub mod Named
 pub mod Pieced
 pub mod Quiet

@@ -8,10 +8,10 @@ use Rattle.su_base.specs.declared.values.Column.{Column}
 use Rattle.su_lex.specs.declared.meaning.Symbol.{Symbol}
 use Rattle.su_lex.specs.declared.meaning.Symbol.TheVariants.{Word, Sign}
 use Rattle.su_lex.specs.declared.signs.Sign.TheVariants as sign
-use Rattle.su_lex.specs.Adding.{AddsFront}
+use Rattle.su_lex.specs.AddedFronts.{AddsFront}
 use Rattle.su_lex.specs.Names.{more_names}
 use Rattle.su_schema.specs.declared.definitions.Definition.{Definition}
-use Rattle.su_lex.specs.Wording.{kind_symbol}
+use Rattle.su_lex.specs.Wordings.{kind_symbol}
 use Rattle.su_ddl.specs.Grammar.{more_columns}
 use Rattle.su_schema.specs.Known.{columns_at}
 use Rattle.su_ddl.specs.Shown.{line_of, lines_of}

@@ -19,7 +19,7 @@ use Rattle.su_base.specs.Value.{same_kind}
 use Rattle.su_schema.specs.NameChecks.{first_failing}
 use Rattle.su_schema.specs.Known.{is_known, number_of, attribute_kind, column_kind}
 use Rattle.su_schema.specs.Checks.{pair_checks}
-use Rattle.su_schema.specs.Defining.{link_of, links_of, ascending}
+use Rattle.su_schema.specs.Definitions.{link_of, links_of, ascending}
 use Rattle.su_schema.specs.WellNamed.{AreGiven}
 use Rattle.su_ddl.specs.ShownDefinitions.{name_at}
 use Rattle.su_ddl.proofs.Named.{middle, before, weaker, step, not_unknown, number_at, other_names}

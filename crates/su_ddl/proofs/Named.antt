@@ -19,7 +19,7 @@ use Rattle.su_schema.specs.declared.faults.SchemaFault.{SchemaFault}
 use Rattle.su_schema.specs.Entries.{AreDistinctNames, IsSomeBelow}
 use Rattle.su_schema.specs.NameChecks.{first_failing, apart_checks, name_checks}
 use Rattle.su_schema.specs.Known.{is_known, number_of}
-use Rattle.su_schema.specs.Defining.{numbers_of}
+use Rattle.su_schema.specs.Definitions.{numbers_of}
 use Rattle.su_schema.specs.WellNamed.{AreGiven}
 use Rattle.su_schema.proofs.Numbers.{slice_get-number_of}
 use Rattle.su_schema.proofs.Validity.{number_below}

@@ -15,7 +15,7 @@ use Rattle.su_schema.specs.declared.definitions.Definition.{Definition}
 use Rattle.su_schema.specs.declared.definitions.Definition.TheVariants.{Attribute, Relation, Object, Fd, Maximal}
 use Rattle.su_schema.specs.WellNamed.{IsWellNamed}
 use Rattle.su_ddl.specs.Grammar.{definition_symbols, IsDefinition}
-use Rattle.su_ddl.specs.Reading.{statement_of}
+use Rattle.su_ddl.specs.Files.{statement_of}
 use Rattle.su_ddl.specs.Shown.{lines_of}
 use Rattle.su_ddl.proofs.Quiet.{definition_quiet, quiet_symbols, spaced_parts}
 

@@ -22,9 +22,9 @@ use Rattle.su_schema.specs.declared.definitions.Definition.{Definition}
 use Rattle.su_schema.specs.declared.definitions.Definition.TheVariants.{Attribute, Relation, Object, Fd, Maximal}
 use Rattle.su_schema.specs.WellNamed.{IsWellNamed}
 use Rattle.su_ddl.specs.inside.Columns.{AreColumns}
-use Rattle.su_lex.specs.Wording.{kind_symbol}
+use Rattle.su_lex.specs.Wordings.{kind_symbol}
 use Rattle.su_ddl.specs.Grammar.{more_columns, columns_symbols, in_parens, definition_symbols}
-use Rattle.su_ddl.proofs.Listing.{given_are, given_columns}
+use Rattle.su_ddl.proofs.NameLists.{given_are, given_columns}
 
 -- a word or a sign
 abbrev pub IsQuiet : Symbol → Type 0

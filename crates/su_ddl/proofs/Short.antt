@@ -24,7 +24,7 @@ use Rattle.su_schema.specs.Valid.{IsValid, IsRelationEntry}
 use Rattle.su_schema.specs.Entries.{attribute_names, object_names}
 use Rattle.su_schema.specs.WellNamed.{IsWellNamed}
 use Rattle.su_ddl.specs.Grammar.{more_columns, columns_symbols, in_parens, definition_symbols}
-use Rattle.su_ddl.specs.Reading.{no_definitions}
+use Rattle.su_ddl.specs.Files.{no_definitions}
 use Rattle.su_ddl.specs.ShownDefinitions.{name_at, names_in, pair_of, attribute_definition, relation_definition, object_definition, fd_definition, maximal_definition, definitions_of}
 use Rattle.su_ddl.specs.Shown.{line_of, lines_of, schema_text}
 use Rattle.su_ddl.proofs.Again.{definitions_build}

@@ -3,9 +3,9 @@ use Rattle.std.proofs.Common.{◌≡◌, ◌+◌, ℕ, List, [], ◌∷◌, ◌+
 use Rattle.std.specs.List.{AllByRecursion}
 use Rattle.su_schema.specs.declared.definitions.Definition.{Definition}
 use Rattle.su_schema.specs.SchemaValue.{SchemaValue}
-use Rattle.su_schema.specs.Defining.{applied}
+use Rattle.su_schema.specs.Definitions.{applied}
 use Rattle.su_schema.specs.WellNamed.{IsWellNamed}
-use Rattle.su_ddl.specs.Reading.{ReadsFrom, Reads, no_definitions}
+use Rattle.su_ddl.specs.Files.{ReadsFrom, Reads, no_definitions}
 use Rattle.su_ddl.specs.Shown.{lines_of}
 use Rattle.su_ddl.proofs.Pieced.{IsLead, no_lead, line_lead, is_definition, texts_of, lines_cut}
 

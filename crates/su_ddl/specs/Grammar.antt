@@ -10,7 +10,7 @@ use Rattle.su_lex.specs.Symbols.{Symbols}
 use Rattle.su_schema.specs.declared.definitions.Definition.{Definition}
 use Rattle.su_schema.specs.declared.definitions.Definition.TheVariants.{Attribute, Relation, Object, Fd, Maximal}
 use Rattle.su_schema.specs.WellNamed.{IsWellNamed}
-use Rattle.su_lex.specs.Wording.{kind_symbol}
+use Rattle.su_lex.specs.Wordings.{kind_symbol}
 
 -- { "," NAME kind }
 abbrev pub more_columns : List Column → List Symbol

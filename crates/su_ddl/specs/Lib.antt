@@ -1,6 +1,6 @@
 pub mod Grammar
 pub mod inside
 pub mod Laws
-pub mod Reading
+pub mod Files
 pub mod Shown
 pub mod ShownDefinitions

@@ -2,7 +2,7 @@
 ghost use Rattle.std.specs.Prelude.{◌≡◌, ℕ, ◌∷◌, ◌++◌, IfOk, IsErrOf, List as Items};
 ghost use Rattle.su_lex.specs.Names.{Begins, AreNames};
 ghost use Rattle.su_ddl.specs.Grammar.{in_parens, columns_symbols};
-ghost use Rattle.su_lex.specs.Wording.{kind_symbol};
+ghost use Rattle.su_lex.specs.Wordings.{kind_symbol};
 ghost use Rattle.su_ddl.specs.inside.Columns.{AreColumns};
 ghost use Rattle.su_base.specs.Name.{IsName};
 ghost use Rattle.su_lex.specs.declared.meaning.Symbol.{Symbol as ASymbol};

@@ -1,9 +1,9 @@
 //! A file of definitions, added to a schema one after another.
 ghost use Rattle.std.specs.Prelude.{◌≡◌, ℕ, ◌<◌, ◌^◌, ◌⊎◌, length, IfOk, IfErr, OnOk, Ok as OkOf, Err as ErrOf, Result as AResult};
 ghost use Rattle.su_ddl.specs.Grammar.{IsDefinition};
-ghost use Rattle.su_ddl.specs.Reading.{IsAtFault, Reads};
+ghost use Rattle.su_ddl.specs.Files.{IsAtFault, Reads};
 ghost use Rattle.su_ddl.specs.declared.faults.DdlFault.{DdlFault as AFault};
-ghost use Rattle.su_schema.specs.Defining.{applied};
+ghost use Rattle.su_schema.specs.Definitions.{applied};
 ghost use Rattle.su_schema.specs.SchemaValue.{SchemaValue};
 ghost use Rattle.su_schema.specs.declared.definitions.Definition.{Definition as ADefinition};
 

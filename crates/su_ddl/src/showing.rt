@@ -1,6 +1,6 @@
 //! A schema as text.
 ghost use Rattle.std.specs.Prelude.{◌≡◌, ◌<◌, ◌^◌, ◌++◌, length, map, IfOk, OnOk, Ok as OkOf};
-ghost use Rattle.su_ddl.specs.Reading.{Reads};
+ghost use Rattle.su_ddl.specs.Files.{Reads};
 ghost use Rattle.su_ddl.specs.Shown.{lines_of, schema_text};
 ghost use Rattle.su_ddl.specs.ShownDefinitions.{attribute_definition, relation_definition, object_definition, fd_definition, maximal_definition};
 

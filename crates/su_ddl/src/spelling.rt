@@ -1,9 +1,9 @@
 //! A definition as its symbols, and as a line of text.
 ghost use Rattle.std.specs.Prelude.{◌≡◌, ◌∷◌, ◌++◌, [], map, IfOk, OnErr, OnOk};
-ghost use Rattle.su_lex.specs.Adding.{AddsFront};
+ghost use Rattle.su_lex.specs.AddedFronts.{AddsFront};
 ghost use Rattle.su_lex.specs.Names.{names_symbols, more_names};
 ghost use Rattle.su_ddl.specs.Grammar.{definition_symbols, columns_symbols, more_columns, in_parens};
-ghost use Rattle.su_lex.specs.Wording.{kind_symbol};
+ghost use Rattle.su_lex.specs.Wordings.{kind_symbol};
 ghost use Rattle.su_ddl.specs.Shown.{line_of};
 
 use std::alloc::Global;

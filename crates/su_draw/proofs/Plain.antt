@@ -8,7 +8,7 @@ use Rattle.std.proofs.lemmas.Bool.{ltb-true, ltb-false, leb-true, and_parts, or_
 use Rattle.su_draw.specs.declared.escaping.Begun.{Begun}
 use Rattle.su_draw.specs.Xml.{is_plain, IsChar, is_name, Attribute, AreAttributes, element_text, IsContent, nothing, plain, reference, element}
 use Rattle.su_draw.specs.Characters.{shown_for, char_text}
-use Rattle.su_draw.specs.Escaping.{begun_with, bits_with, first_text, goes_on, byte_text, begun_behind, escaped_on, escaped, none_begun}
+use Rattle.su_draw.specs.EscapedBytes.{begun_with, bits_with, first_text, goes_on, byte_text, begun_behind, escaped_on, escaped, none_begun}
 use Rattle.su_draw.specs.Shapes.{element_line}
 
 abbrev pub ArePlain : List ℕ → Type 0

@@ -8,7 +8,7 @@ use Rattle.su_draw.specs.declared.shapes.Shape.{Shape}
 use Rattle.su_draw.specs.declared.shapes.Help.{Help}
 use Rattle.su_draw.specs.declared.shapes.Help.TheVariants.{Heading, Band, Rule}
 use Rattle.su_draw.specs.declared.shapes.Picture.{Picture}
-use Rattle.su_draw.specs.Escaping.{escaped}
+use Rattle.su_draw.specs.EscapedBytes.{escaped}
 use Rattle.su_draw.specs.Xml.{Attribute, AreAttributes, IsContent, nothing, plain, IsDocument}
 use Rattle.su_draw.specs.Svg.{help_text, svg_attributes, ground_line, svg_inside, svg_text}
 use Rattle.su_draw.specs.Shapes.{text_pairs, text_attributes, text_line, way_of, arrow_line, dot_line, square_line, lines_as, shape_text}

@@ -1,5 +1,5 @@
 pub mod Checks
-pub mod Escaping
+pub mod EscapedBytes
 pub mod inside
 pub mod Kinds
 pub mod Lines
@@ -8,7 +8,7 @@ pub mod Once
 pub mod Order
 pub mod Pictures
 pub mod Pieces
-pub mod Reading
+pub mod TextLines
 pub mod Svg
 pub mod Things
 pub mod Xml

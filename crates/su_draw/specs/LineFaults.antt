@@ -10,7 +10,7 @@ use Rattle.su_draw.specs.declared.reading.Fault.TheVariants.{Line as AtLine, NoM
 use Rattle.su_draw.specs.Order.{may_end}
 use Rattle.su_draw.specs.States.{at_start}
 use Rattle.su_draw.specs.Pieces.{cut_of}
-use Rattle.su_draw.specs.Reading.{behind_words, AreRead, is_whole_cut, AreLinesOf}
+use Rattle.su_draw.specs.TextLines.{behind_words, AreRead, is_whole_cut, AreLinesOf}
 
 -- the lines before this one are read, and it can't stand behind them; number: the line's
 pub record IsLineAtFault (pieces : List Piece) (number : ℕ) : Type 0 where

@@ -3,7 +3,7 @@
 use Rattle.std.specs.Prelude.{◌≡◌, ℕ, List}
 use Rattle.su_draw.specs.declared.reading.Line.{Line}
 use Rattle.su_draw.specs.declared.shapes.Picture.{Picture}
-use Rattle.su_draw.specs.Reading.{AreLinesOf}
+use Rattle.su_draw.specs.TextLines.{AreLinesOf}
 use Rattle.su_draw.specs.Once.{StandOnce, things_in_shapes}
 use Rattle.su_draw.specs.Svg.{svg_text}
 use Rattle.su_draw.specs.Xml.{IsDocument}

@@ -5,7 +5,7 @@ use Rattle.su_draw.specs.declared.things.What.{What}
 use Rattle.su_draw.specs.declared.things.What.TheVariants.{Fold, Cover, Member, Part}
 use Rattle.su_draw.specs.declared.shapes.Position.{Position}
 use Rattle.su_draw.specs.declared.shapes.Shape.{Shape}
-use Rattle.su_draw.specs.Escaping.{escaped}
+use Rattle.su_draw.specs.EscapedBytes.{escaped}
 use Rattle.su_draw.specs.Xml.{Attribute, element_text}
 use Rattle.su_draw.specs.Looks.{word_of, number_attribute, colour_of, opacity_of, weight_of}
 

@@ -4,7 +4,7 @@ use Rattle.std.specs.Prelude.{ℕ, ◌-◌, List, [], ◌∷◌, ◌++◌, flat_
 use Rattle.su_draw.specs.declared.shapes.Help.{Help}
 use Rattle.su_draw.specs.declared.shapes.Help.TheVariants.{Heading, Band, Rule}
 use Rattle.su_draw.specs.declared.shapes.Picture.{Picture}
-use Rattle.su_draw.specs.Escaping.{escaped}
+use Rattle.su_draw.specs.EscapedBytes.{escaped}
 use Rattle.su_draw.specs.Xml.{Attribute}
 use Rattle.su_draw.specs.Shapes.{element_line, shape_text}
 use Rattle.su_draw.specs.Looks.{word_of, number_attribute}

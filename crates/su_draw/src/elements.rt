@@ -1,7 +1,7 @@
 //! Elements of XML, at the end of what stands there.
 ghost use Rattle.std.specs.Prelude.{◌≡◌, ◌++◌, flat_map, codes, OnOk};
 ghost use Rattle.su_draw.specs.Xml.{attribute_text};
-ghost use Rattle.su_draw.specs.Escaping.{escaped};
+ghost use Rattle.su_draw.specs.EscapedBytes.{escaped};
 ghost use Rattle.su_draw.specs.Shapes.{element_line};
 ghost use Rattle.su_draw.specs.Looks.{word_of, number_attribute};
 ghost use Rattle.su_draw.specs.inside.Pairs.{attribute_of, attributes_of};

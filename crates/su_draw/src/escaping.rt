@@ -2,7 +2,7 @@
 ghost use Rattle.std.specs.Prelude.{◌≡◌, ◌++◌, ◌&&◌, ◌==◌, not, OnOk};
 ghost use Rattle.su_draw.specs.Xml.{is_plain};
 ghost use Rattle.su_draw.specs.Characters.{shown_for, char_text};
-ghost use Rattle.su_draw.specs.Escaping.{begun_with, bits_with, first_text, goes_on, byte_text, begun_behind, escaped};
+ghost use Rattle.su_draw.specs.EscapedBytes.{begun_with, bits_with, first_text, goes_on, byte_text, begun_behind, escaped};
 
 use crate::parts::{push, push_number};
 use std::alloc::Global;

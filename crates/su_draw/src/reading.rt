@@ -3,7 +3,7 @@ ghost use Rattle.std.specs.Prelude.{◌≡◌, ◌&&◌, true, false, Some, None
 ghost use Rattle.su_draw.specs.declared.reading.Fault.TheVariants.{NoMemory as OutOfMemory};
 ghost use Rattle.su_draw.specs.Order.{may_end};
 ghost use Rattle.su_draw.specs.States.{at_start};
-ghost use Rattle.su_draw.specs.Reading.{behind_words, IsLineOf, AreRead, AreLinesOf};
+ghost use Rattle.su_draw.specs.TextLines.{behind_words, IsLineOf, AreRead, AreLinesOf};
 ghost use Rattle.su_draw.specs.LineFaults.{IsFaultOf, IsFaultAmong};
 
 use crate::kinds::{Kind, kind_of};

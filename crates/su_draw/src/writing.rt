@@ -94,7 +94,12 @@ fn way(alloc: Global, place: Position, head: &str) -> Result<String, NoMemory>
     Ok(text)
 }
 
-fn arrow_element(alloc: Global, out: &mut Vec<u8>, place: Position, head: &str) -> Result<(), NoMemory>
+fn arrow_element(
+    alloc: Global,
+    out: &mut Vec<u8>,
+    place: Position,
+    head: &str,
+) -> Result<(), NoMemory>
     ensures { OnOk result (out.new.items ≡ out.old.items ++ arrow_line place head.now) }
 {
     let way = way(alloc, place, head)?;

@@ -7,7 +7,7 @@ use Rattle.su_exec.specs.declared.merging.Merged.{Merged}
 use Rattle.su_exec.specs.declared.merging.Merged.TheVariants.{Whole, Over, Nothing}
 use Rattle.su_exec.specs.inside.Bodies.{HasMore, IsEmpty, IsGiven, IsMerged, IsOver, IsPast, IsTold}
 use Rattle.su_exec.specs.inside.Edges.{Edge, Fits, Keeps, always}
-use Rattle.su_exec.proofs.Keeping.{agree_at, agree_from, keeps_trans}
+use Rattle.su_exec.proofs.PartSteps.{agree_at, agree_from, keeps_trans}
 
 module _ (needed : List ℕ) (bound : ℕ) (es rest : List (Edge ℕ)) (s u : (ℕ → ℕ) → Bool) (over : IsOver needed (Some bound) es s rest u) (some : IsGiven [] rest u []) where
   at : (i : ℕ) → i < length over.rows → IsGiven over.vars es s (get_or over.rows i [])

@@ -9,8 +9,8 @@ use Rattle.su_exec.specs.inside.Edges.{HaveSameValues, Edge, Fits, FitsAll, Keep
 use Rattle.su_reduce.specs.Sheets.{AreBelow, pick}
 use Rattle.su_exec.specs.inside.Joins.{IsReal}
 use Rattle.su_exec.specs.inside.Threes.{IsBlock}
-use Rattle.su_exec.proofs.Joining.{first_among, pick_map, second_among, two as pair}
-use Rattle.su_exec.proofs.Keeping.{agree_at, agree_from}
+use Rattle.su_exec.proofs.ProjectedJoins.{first_among, pick_map, second_among, two as pair}
+use Rattle.su_exec.proofs.PartSteps.{agree_at, agree_from}
 use Rattle.su_exec.proofs.Parts.{one_of}
 
 -- ---- two edges and their join

@@ -9,7 +9,7 @@ ghost use Rattle.su_exec.specs.inside.Shown.{AreSpotsOf, IsShown, ShowsMore, spo
 ghost use Rattle.su_exec.specs.declared.tasks.ExecFault.TheVariants.{More};
 
 use crate::candidates::Candidates;
-use crate::checks::{Spot, CodedSymbol, code_at, spot_of};
+use crate::checks::{CodedSymbol, Spot, code_at, spot_of};
 use crate::tasks::ExecFault;
 use std::alloc::{AllocError, Global};
 use su_base::{List, NoMemory, Row, sorted_rows};

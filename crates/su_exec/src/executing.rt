@@ -34,7 +34,11 @@ fn term_of(alloc: Global, codes: &mut Codes, symbol: &Sym) -> Result<CodedSymbol
 }
 
 /// The terms of the symbols.
-fn terms_of(alloc: Global, codes: &mut Codes, symbols: &List<Sym>) -> Result<Vec<CodedSymbol>, AllocError>
+fn terms_of(
+    alloc: Global,
+    codes: &mut Codes,
+    symbols: &List<Sym>,
+) -> Result<Vec<CodedSymbol>, AllocError>
     ensures terms { IfOk result (λ terms. AreTermsOf codes.new symbols.now terms.items) }
     ensures codes { IfOk result (λ _. Extends codes.old codes.new) }
 {

@@ -82,7 +82,7 @@ pub fn add_variable(vars: &mut Vec<u32>, term: CodedSymbol) -> Result<(), AllocE
 }
 
 /// The needed variables and those of the body.
-#[tactic(auto, using(crate::proofs::Testing::check_steps))]
+#[tactic(auto, using(crate::proofs::CheckTests::check_steps))]
 pub fn wanted_by(alloc: Global, body: &Body, needed: &[u32]) -> Result<Vec<u32>, AllocError>
     ensures needed { IfOk result (λ wanted. (k : ℕ) → has needed.now k ≡ true → has wanted.items k ≡ true) }
     ensures edges { IfOk result (λ wanted. (k : ℕ) → among body.now.edges.items k ≡ true → has wanted.items k ≡ true) }

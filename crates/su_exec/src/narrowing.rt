@@ -6,7 +6,7 @@ ghost use Rattle.su_exec.specs.inside.Checks.{IsTestIn, all_hold, check_holds, t
 ghost use Rattle.su_exec.specs.inside.Ranges.{AreCut, ArePassing, IsBound, IsSide, IsWidest, Widens, meets, meets_code};
 
 use crate::candidates::Candidates;
-use crate::checks::{Check, Spot, CodedSymbol, Test, passes_one};
+use crate::checks::{Check, CodedSymbol, Spot, Test, passes_one};
 use crate::places::place_of;
 use std::alloc::{AllocError, Global};
 use su_reduce::{Codes, Sheet};

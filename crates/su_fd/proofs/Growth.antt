@@ -9,7 +9,7 @@ use Rattle.su_fd.proofs.EveryClosure.{own}
 use Rattle.su_fd.specs.Derivation.{IsDerivation, adds, right_side, with_right_sides}
 use Rattle.std.specs.Ordering.{nat_cmp}
 use Rattle.std.specs.FinSet.{FinSet, is_subset, union, empty}
-use Rattle.su_base.proofs.Growing.{remaining, remaining_lt, position-None}
+use Rattle.su_base.proofs.RemainingSets.{remaining, remaining_lt, position-None}
 use Rattle.su_base.proofs.Subsets.{subset_trans, union-subset, subset-union_left, subset-union_right}
 use Rattle.su_fd.specs.declared.dependencies.Fd.{Fd}
 

@@ -6,7 +6,7 @@ use Rattle.std.specs.FinSet.{FinSet, is_subset, union}
 use Rattle.std.proofs.lemmas.List.{get_or_default}
 use Rattle.std.proofs.lemmas.Bool.{cases_lt, false≢true}
 use Rattle.su_base.proofs.Subsets.{subset_refl, subset_trans, union-subset, subset-union_left, subset-union_right}
-use Rattle.su_base.proofs.Growing.{remaining, remaining_lt}
+use Rattle.su_base.proofs.RemainingSets.{remaining, remaining_lt}
 use Rattle.su_fd.specs.Closure.{IsClosed}
 use Rattle.su_fd.specs.declared.dependencies.Fd.{Fd}
 

@@ -1,4 +1,4 @@
 pub mod Closure
 pub mod Derivation
 pub mod Laws
-pub mod Meeting
+pub mod MetDependencies

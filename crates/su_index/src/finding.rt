@@ -180,7 +180,12 @@ fn past(
 }
 
 /// Where the entries of the value stand: the first place, and the one past the last.
-pub(crate) fn span(rows: &[Row], column: usize, chunks: &[Chunk], wanted: &Value) -> (ChunkPlace, ChunkPlace)
+pub(crate) fn span(
+    rows: &[Row],
+    column: usize,
+    chunks: &[Chunk],
+    wanted: &Value,
+) -> (ChunkPlace, ChunkPlace)
     requires small { length rows.now < 2 ^ 32 }
     requires columns { HaveColumn column rows.now }
     requires positions { ArePositions (length rows.now) (positions (entries_of chunks.now)) }

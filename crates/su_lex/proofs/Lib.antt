@@ -1,4 +1,4 @@
-pub mod Adding
+pub mod AddedFronts
 pub mod Cuts
 pub mod Fronts
 pub mod Gaps

@@ -2,8 +2,8 @@
 use Rattle.std.proofs.Common.{◌≡◌, ◌<◌, ◌+◌, ℕ, Bool, true, false, not, ◌||◌, List, [], ◌∷◌, ◌++◌, length, refl, ap, sym, ◌∙◌, append_assoc, append-nil, take, get_or, drop}
 use Rattle.std.specs.Prelude.{if◌then◌else◌}
 use Rattle.std.proofs.lemmas.List.{take_more, take-append-drop}
-use Rattle.su_lex.specs.Adding.{AddsFront}
-use Rattle.su_lex.proofs.Adding.{adds_first, adds_later}
+use Rattle.su_lex.specs.AddedFronts.{AddsFront}
+use Rattle.su_lex.proofs.AddedFronts.{adds_first, adds_later}
 use Rattle.su_lex.specs.TokenForms.{doubled, quoted, twice}
 use Rattle.su_lex.specs.declared.meaning.Symbol.{Symbol}
 use Rattle.su_lex.specs.Spelling.{closes, opens, spaced, spelled, after}

@@ -1,4 +1,4 @@
-pub mod Adding
+pub mod AddedFronts
 pub mod Blanks
 pub mod inside
 pub mod Laws
@@ -9,4 +9,4 @@ pub mod Tokens
 pub mod Spelling
 pub mod TokenForms
 pub mod Nesting
-pub mod Wording
+pub mod Wordings

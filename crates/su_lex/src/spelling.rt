@@ -1,6 +1,6 @@
 //! How symbols are written: one space between two, but for parentheses, commas and dots.
 ghost use Rattle.std.specs.Prelude.{◌≡◌, [], ◌∷◌, ◌++◌, ◌||◌, OnErr, OnOk, not, if◌then◌else◌};
-ghost use Rattle.su_lex.specs.Adding.{AddsFront};
+ghost use Rattle.su_lex.specs.AddedFronts.{AddsFront};
 ghost use Rattle.su_lex.specs.TokenForms.{quoted, sign_bytes, twice};
 ghost use Rattle.su_lex.specs.Spelling.{closes, opens, spaced, spelled};
 

@@ -9,7 +9,7 @@ use Rattle.su_tableau.specs.Tableaux.{Tab}
 use Rattle.su_map.specs.Lists.{row_of}
 use Rattle.su_map.specs.Candidates.{Cell, KeepsConstants, MapAlike}
 use Rattle.su_map.specs.inside.Targets.{IsFirstAt, CellFits, IsPlain, AreShared}
-use Rattle.su_tableau.proofs.Changing.{is_var}
+use Rattle.su_tableau.proofs.ChangedValuations.{is_var}
 
 pub cell_from : (row : List Sym) (c : ℕ) (d x : Sym) → c < length row → get_or row c d ≡ x → Cell row c x
 cell_from row c d x h e = record { below = h; is = λ d'. get_or_default row c d' d h ∙ e }

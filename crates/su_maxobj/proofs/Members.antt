@@ -6,7 +6,7 @@ use Rattle.std.proofs.lemmas.Grind.{common_steps}
 use Rattle.std.proofs.lemmas.Bool.{cases_lt, cases_eq, false≢true}
 use Rattle.std.proofs.lemmas.Bool.Decides.{nat_tests}
 use Rattle.su_base.proofs.Subsets.{subset_at, subset_by, subset_antisymm}
-use Rattle.su_maxobj.specs.Adjoining.{object_at, IsMemberWith, IsAttributesOf}
+use Rattle.su_maxobj.specs.AdjoinableObjects.{object_at, IsMemberWith, IsAttributesOf}
 
 -- a is an attribute of a member below n
 abbrev pub HasBelow : List (FinSet nat_cmp) → FinSet nat_cmp → ℕ → ℕ → Type 0

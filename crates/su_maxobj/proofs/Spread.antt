@@ -7,7 +7,7 @@ use Rattle.std.proofs.lemmas.Bool.{cases_lt, false≢true}
 use Rattle.std.proofs.lemmas.List.{get_or_default}
 use Rattle.std.proofs.lemmas.List.Elements.{All-nil, All-head, All-tail, All-push}
 use Rattle.su_base.proofs.Subsets.{subset_at, subset_refl, subset_trans, subset-union_left, subset-union_right, union-subset, not_subset}
-use Rattle.su_base.proofs.Growing.{remaining, remaining_lt}
+use Rattle.su_base.proofs.RemainingSets.{remaining, remaining_lt}
 use Rattle.su_maxobj.specs.Apart.{shares, IsChain, Apart}
 
 abbrev Set : Type 0

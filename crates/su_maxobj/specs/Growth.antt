@@ -5,7 +5,7 @@ use Rattle.std.specs.Prelude.{◌≡◌, ℕ, ◌<◌, List, [], ◌∷◌, leng
 use Rattle.std.specs.Ordering.{nat_cmp}
 use Rattle.std.specs.FinSet.{FinSet, insert, empty}
 use Rattle.su_fd.specs.declared.Fd.{Fd}
-use Rattle.su_maxobj.specs.Adjoining.{Adjoinable}
+use Rattle.su_maxobj.specs.AdjoinableObjects.{Adjoinable}
 
 -- o is the first object that is adjoinable to have
 pub record IsFirstAdjoinable (fds : List Fd) (objects : List (FinSet nat_cmp)) (have : FinSet nat_cmp) (o : ℕ) : Type 0 where

@@ -1,4 +1,4 @@
-pub mod Adjoining
+pub mod AdjoinableObjects
 pub mod Apart
 pub mod Growth
 pub mod inside

@@ -1,6 +1,6 @@
 //! Whether an object may join a set of objects.
 ghost use Rattle.std.specs.Prelude.{◌<◌, ◌≤◌, ◌↔◌, IsTrue, length};
-ghost use Rattle.su_maxobj.specs.Adjoining.{IsAttributesOf, HangTogether, Adjoinable};
+ghost use Rattle.su_maxobj.specs.AdjoinableObjects.{IsAttributesOf, HangTogether, Adjoinable};
 
 use crate::spreading::apart;
 use su_base::{AttrSet, ObjSet};

@@ -3,7 +3,7 @@ ghost use Rattle.std.specs.Prelude.{ℕ, ◌≡◌, ◌<◌, ◌≤◌, ◌↔�
 ghost use Rattle.std.specs.Prelude.{List as Items};
 ghost use Rattle.std.specs.Ordering.{nat_cmp};
 ghost use Rattle.std.specs.FinSet as set;
-ghost use Rattle.su_maxobj.specs.Adjoining.{Adjoinable, IsAttributesOf};
+ghost use Rattle.su_maxobj.specs.AdjoinableObjects.{Adjoinable, IsAttributesOf};
 ghost use Rattle.su_maxobj.specs.Growth.{IsGrown};
 ghost use Rattle.su_maxobj.specs.MaximalObjects.{object_sets, AreMaximalObjects};
 

@@ -2,7 +2,7 @@
 ghost use Rattle.std.specs.Prelude.{ℕ, ◌≡◌, ◌<◌, ◌≤◌, IsTrue, MatchOption, length};
 ghost use Rattle.std.specs.Ordering.{nat_cmp};
 ghost use Rattle.std.specs.FinSet as set;
-ghost use Rattle.su_maxobj.specs.Adjoining.{object_at, IsAttributesOf};
+ghost use Rattle.su_maxobj.specs.AdjoinableObjects.{object_at, IsAttributesOf};
 ghost use Rattle.su_maxobj.specs.Growth.{IsFull, IsFirstAdjoinable, IsGrown};
 ghost use Rattle.su_maxobj.specs.inside.Ruled.{AreNotAdjoinable};
 

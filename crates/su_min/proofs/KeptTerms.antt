@@ -9,7 +9,7 @@ use Rattle.su_min.specs.declared.reduced.Cover.{Cover}
 use Rattle.su_min.specs.declared.reduced.Reduced.{Reduced}
 use Rattle.su_min.specs.Reduction.{term_at, IsKeptTerm, IsCover, IsReduced}
 use Rattle.su_min.specs.Laws.{HasCover}
-use Rattle.su_min.proofs.Covering.{covers_itself, covers_through}
+use Rattle.su_min.proofs.Covers.{covers_itself, covers_through}
 
 -- whether a number is in a list
 number_in : (xs : List ℕ) (i : ℕ) → Contains xs i ⊎ (Contains xs i → ⊥)

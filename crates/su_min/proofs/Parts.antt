@@ -10,7 +10,7 @@ use Rattle.su_tableau.specs.Mapping.{image_of, images_of, Maps}
 use Rattle.su_tableau.proofs.Sets.{IsSub, select-has, select-from}
 use Rattle.su_tableau.proofs.Containment.{maps_compose}
 use Rattle.su_map.proofs.Members.{full_member}
-use Rattle.su_map.proofs.Containing.{list_maps, maps_list}
+use Rattle.su_map.proofs.Containment.{list_maps, maps_list}
 use Rattle.su_min.specs.Kept.{all_rows, MapsInto}
 
 same_sym : (x : Sym) → image_of Var x ≡ x

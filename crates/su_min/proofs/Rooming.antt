@@ -4,11 +4,11 @@ use Rattle.std.proofs.lemmas.List.{get_or_default}
 use Rattle.su_tableau.specs.Tableaux.{AreVarsBelow}
 use Rattle.su_map.specs.Rooms.{Space, IsRoomFor, HasSizesOf}
 use borrow.Author.Count.{below_more}
-use Rattle.su_map.proofs.Noting.{vars_below}
+use Rattle.su_map.proofs.NotedRows.{vars_below}
 use Rattle.su_min.specs.Kept.{Minimised}
 use Rattle.su_min.specs.Reduction.{term_at}
 use Rattle.su_min.specs.inside.Rooms.{IsRoomForAll}
-use Rattle.su_min.proofs.Rowing.{room_same, item_at}
+use Rattle.su_min.proofs.MatrixRows.{room_same, item_at}
 
 -- a member of a list has its place there
 pub member_is : (terms : List Minimised) (one : Minimised) (c : Contains terms one) → term_at terms c.0 ≡ one

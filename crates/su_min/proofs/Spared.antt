@@ -7,18 +7,18 @@ use Rattle.su_tableau.specs.Kinds.{Kinds, IsTyped}
 use Rattle.su_tableau.specs.Parts.{part}
 use Rattle.su_tableau.specs.Mapping.{Maps}
 use Rattle.su_tableau.specs.Equivalent.{IsEquivalent}
-use Rattle.su_tableau.specs.Freezing.{frozen_head, frozen_rows, tab_top}
+use Rattle.su_tableau.specs.FrozenTableaux.{frozen_head, frozen_rows, tab_top}
 use Rattle.su_tableau.proofs.Containment.{maps_compose, maps_within}
-use Rattle.su_tableau.proofs.Freezing.{frozen_typed, frozen_answer, frozen_maps, within_maps}
+use Rattle.su_tableau.proofs.FrozenTableaux.{frozen_typed, frozen_answer, frozen_maps, within_maps}
 use Rattle.su_tableau.proofs.Sets.{choose}
-use Rattle.su_map.proofs.Containing.{list_maps, maps_list}
+use Rattle.su_map.proofs.Containment.{list_maps, maps_list}
 use Rattle.su_min.specs.Kept.{Minimised, IsMinimised}
 use Rattle.su_min.specs.Cover.{AreAlike, Covers}
 use Rattle.su_min.specs.Reduction.{term_at, IsKeptTerm, IsListOf, IsReduced}
 use Rattle.su_min.specs.declared.reduced.Reduced.{Reduced}
 use Rattle.su_min.specs.Needed.{tableau_at, IsInClass, HasAnswersOf, HasMember, AreNeeded}
 use Rattle.su_min.proofs.Parts.{part_maps, into_maps}
-use Rattle.su_min.proofs.Covering.{alike_back, alike_through}
+use Rattle.su_min.proofs.Covers.{alike_back, alike_through}
 use Rattle.su_min.proofs.KeptTerms.{kept_back}
 use Rattle.su_base.proofs.Numbers.{pigeonhole}
 use Rattle.su_base.proofs.Items.{AllZip-get_or}

@@ -7,7 +7,7 @@ use Rattle.su_tableau.specs.Tableaux.{Tab, IsValid, Occurs}
 use Rattle.su_tableau.specs.declared.symbols.Sym.TheVariants.{Var}
 use Rattle.su_tableau.specs.Mapping.{Maps}
 use Rattle.su_map.specs.Lists.{IsFirst}
-use Rattle.su_map.proofs.Containing.{list_maps, whole_maps}
+use Rattle.su_map.proofs.Containment.{list_maps, whole_maps}
 use Rattle.su_chase.specs.Chased.{IsChased}
 use Rattle.su_chase.specs.declared.freezing.Frozen.{Frozen}
 use Rattle.su_schema.specs.SchemaValue.{SchemaValue}
@@ -18,11 +18,11 @@ use Rattle.su_compare.specs.declared.verdicts.Reason.{Reason}
 use Rattle.su_compare.specs.declared.verdicts.Verdict.TheVariants.{Within, Apart}
 use Rattle.su_compare.specs.Settled.{tab_at, IsFirstMapping, IsFound, Clashes, IsBy, IsUnsettled}
 use Rattle.su_compare.specs.Verdict.{IsReason, AreReasons}
-use Rattle.su_compare.specs.Parting.{IsShown, IsApart}
+use Rattle.su_compare.specs.Counterexamples.{IsShown, IsApart}
 use Rattle.su_compare.proofs.Lists.{same_lists}
 use Rattle.su_compare.proofs.Settled.{tab_here}
 use Rattle.su_once.specs.Verdicts.{OneVerdict}
-use Rattle.su_once.proofs.Chasing.{one_chase, no_clash, head_stands}
+use Rattle.su_once.proofs.OneChase.{one_chase, no_clash, head_stands}
 use Rattle.su_once.proofs.Frozen.{one_frozen}
 use Rattle.su_once.proofs.Mapped.{one_first}
 use Rattle.su_once.proofs.Rows.{one_strict_list}

@@ -10,7 +10,7 @@ use Rattle.su_show.specs.Lines.{AreLines}
 use Rattle.su_show.specs.MinimalLines.{minimal_lines, sources_line, IsSourcesLine, IsEnd}
 use Rattle.su_show.specs.TableauLines.{tableau_lines}
 use Rattle.su_show.specs.Replies.{closure_reply}
-use Rattle.su_show.specs.Explaining.{query_line, variables_line, last_line, IsTermText}
+use Rattle.su_show.specs.Explanations.{query_line, variables_line, last_line, IsTermText}
 use Rattle.su_once.specs.Texts.{OneClosureReply, OneExplanation}
 use Rattle.su_once.proofs.Closed.{one_set, one_closure, one_derivation}
 use Rattle.su_once.proofs.Options.{same_some}

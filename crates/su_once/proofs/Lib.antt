@@ -10,10 +10,10 @@ pub mod Loaded
 pub mod Defined
 pub mod Named
 pub mod Refused
-pub mod OneReading
+pub mod OneOutcome
 pub mod Answered
 pub mod Explained
-pub mod Chasing
+pub mod OneChase
 pub mod Frozen
 pub mod Compared
 pub mod Windowed

@@ -10,7 +10,7 @@ use Rattle.su_query.specs.declared.faults.QueryFault.TheVariants as query
 use Rattle.su_query.specs.declared.statements.Query.{Query as AQuery}
 use Rattle.su_query.specs.declared.resolving.Resolved.{Resolved}
 use Rattle.su_query.specs.Lookup.{IsKnownQuery, IsQueryRefusal}
-use Rattle.su_query.specs.Numbering.{resolved_of}
+use Rattle.su_query.specs.NumberedConditions.{resolved_of}
 use Rattle.su_steps.specs.declared.faults.StepFault.{StepFault}
 use Rattle.su_steps.specs.declared.faults.StepFault.TheVariants as step
 use Rattle.su_steps.specs.declared.results.Term.{Term}
@@ -21,13 +21,13 @@ use Rattle.su_compare.specs.Verdict.{IsVerdict}
 use Rattle.su_compare.specs.Texts.{verdicts_text}
 use Rattle.su_show.specs.declared.statement_refusal.Refusal.{Refusal}
 use Rattle.su_show.specs.declared.statement_refusal.Refusal.TheVariants as refusal
-use Rattle.su_show.specs.Refusing.{IsNoMemory}
+use Rattle.su_show.specs.RefusalLines.{IsNoMemory}
 use Rattle.su_session.specs.declared.replies.Reply.{Reply}
-use Rattle.su_session.specs.ComparingForms.{AreKnown, AskEqualities, OutputsAgree, AreOfOneForm, IsFormRefusal}
-use Rattle.su_session.specs.Comparing.{IsTermsRefusal, ShowsVerdicts}
+use Rattle.su_session.specs.ComparableQueries.{AreKnown, AskEqualities, OutputsAgree, AreOfOneForm, IsFormRefusal}
+use Rattle.su_session.specs.Comparisons.{IsTermsRefusal, ShowsVerdicts}
 use Rattle.su_once.proofs.Compared.{one_verdict}
 use Rattle.su_once.proofs.Named.{one_list_of_terms}
-use Rattle.su_once.proofs.OneReading.{one_query_refusal, query_not_refused}
+use Rattle.su_once.proofs.OneOutcome.{one_query_refusal, query_not_refused}
 use Rattle.su_once.proofs.Refused.{one_step_refusal, not_refused}
 use Rattle.su_once.proofs.Told.{query_told}
 

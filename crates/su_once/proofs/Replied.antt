@@ -16,7 +16,7 @@ use Rattle.su_query.specs.declared.statements.Query.{Query as AQuery}
 use Rattle.su_query.specs.declared.resolving.Resolved.{Resolved}
 use Rattle.su_query.specs.declared.statements.Statement.{Statement}
 use Rattle.su_query.specs.declared.statements.Statement.TheVariants.{Insert, Delete, DeleteWhere, Load, Print, Schema, Closure, Retrieve, Explain, Certify, Support, Compare, Window}
-use Rattle.su_query.specs.Numbering.{resolved_of, with_columns}
+use Rattle.su_query.specs.NumberedConditions.{resolved_of, with_columns}
 use Rattle.su_maxobj.proofs.Listed.{one_list as one_list_of_maximal}
 use Rattle.su_steps.specs.declared.faults.StepFault.{StepFault}
 use Rattle.su_steps.specs.Refusals.{IsAccepted}
@@ -34,24 +34,24 @@ use Rattle.su_window.specs.declared.faults.WindowFault.{WindowFault}
 use Rattle.su_window.specs.declared.faults.WindowFault.TheVariants as window
 use Rattle.su_show.specs.declared.statement_refusal.Refusal.{Refusal}
 use Rattle.su_show.specs.declared.statement_refusal.Refusal.TheVariants as refusal
-use Rattle.su_show.specs.Refusing.{IsNoMemory}
+use Rattle.su_show.specs.RefusalLines.{IsNoMemory}
 use Rattle.su_show.specs.Replies.{rows_text, header_of, schema_reply}
 use Rattle.su_show.specs.Changes.{deleted_text}
-use Rattle.su_show.specs.Explaining.{IsExplanation}
+use Rattle.su_show.specs.Explanations.{IsExplanation}
 use Rattle.su_show.specs.Supports.{supports_text}
 use Rattle.su_session.specs.declared.replies.Reply.{Reply}
 use Rattle.su_session.specs.declared.wants.Want.TheVariants.{Nothing, File}
-use Rattle.su_session.specs.Telling.{Accepts, Refuses, TellsInsert, TellsDelete, TellsLoad, TellsDefine}
-use Rattle.su_session.specs.Retrieving.{IsRefusalOf, HasTerms, AfterTerms, Retrieves}
-use Rattle.su_session.specs.Explaining.{Explains}
-use Rattle.su_session.specs.Certifying.{Certifies, node_limit}
-use Rattle.su_session.specs.Supporting.{Supports}
-use Rattle.su_session.specs.Comparing.{IsTermsRefusal, ShowsVerdicts, ComparesTerms, Compares}
-use Rattle.su_session.specs.Windowing.{attribute_numbers, TellsWindowFault, ShowsWindow}
-use Rattle.su_session.specs.ChangingRows.{InRelation, InsertsRow, DeletesRow, DeletesRows, LoadsRows, relation_number}
+use Rattle.su_session.specs.Outcomes.{Accepts, Refuses, TellsInsert, TellsDelete, TellsLoad, TellsDefine}
+use Rattle.su_session.specs.Retrievals.{IsRefusalOf, HasTerms, AfterTerms, Retrieves}
+use Rattle.su_session.specs.Explanations.{Explains}
+use Rattle.su_session.specs.Certificates.{Certifies, node_limit}
+use Rattle.su_session.specs.Supports.{Supports}
+use Rattle.su_session.specs.Comparisons.{IsTermsRefusal, ShowsVerdicts, ComparesTerms, Compares}
+use Rattle.su_session.specs.Windows.{attribute_numbers, TellsWindowFault, ShowsWindow}
+use Rattle.su_session.specs.RowStatements.{InRelation, InsertsRow, DeletesRow, DeletesRows, LoadsRows, relation_number}
 use Rattle.su_session.specs.Statements.{PrintsRows, ShowsSchema, ShowsClosure, Answers}
 use Rattle.su_session.specs.Reply.{RepliesDefinition, RepliesStatement, Replied}
-use Rattle.su_session.specs.Wanting.{IsLoad}
+use Rattle.su_session.specs.WantedFiles.{IsLoad}
 use Rattle.su_once.specs.States.{AreAlike}
 use Rattle.su_once.specs.Replies.{OneWant, OneReply}
 use Rattle.su_once.proofs.Answered.{one_preparation, one_answer, not_too_long}
@@ -62,7 +62,7 @@ use Rattle.su_once.proofs.Loaded.{one_load}
 use Rattle.su_once.proofs.Paired.{one_form_refusal, refused_or_formed, one_terms_refusal, refused_or_accepted, one_verdicts_text}
 use Rattle.su_once.proofs.Supported.{one_supports}
 use Rattle.su_once.proofs.Windowed.{one_window, one_window_refusal, refused_or_fitting}
-use Rattle.su_once.proofs.OneReading.{one_statement, one_refusal, not_refused, one_query_refusal, query_not_refused, one_column_refusal, condition_not_refused}
+use Rattle.su_once.proofs.OneOutcome.{one_statement, one_refusal, not_refused, one_query_refusal, query_not_refused, one_column_refusal, condition_not_refused}
 use Rattle.su_once.proofs.Refused.{one_step_refusal, not_refused as has_terms}
 use Rattle.su_once.proofs.Options.{same_some, none_or_some}
 use Rattle.su_once.proofs.Told.{accept, query_told, step_told, still, refuse, insert_told, one_insert_told, one_delete_told, load_told, one_load_told, definition_told, one_definition_told}

@@ -15,9 +15,9 @@ use Rattle.su_state.specs.DatabaseValue.{DatabaseValue}
 use Rattle.su_show.specs.declared.statement_refusal.Refusal.{Refusal}
 use Rattle.su_show.specs.declared.statement_refusal.Refusal.TheVariants.{Query, State, Record, Steps, Define}
 use Rattle.std.proofs.Common.{inl}
-use Rattle.su_show.specs.Refusing.{refusal_line, IsNoMemory}
+use Rattle.su_show.specs.RefusalLines.{refusal_line, IsNoMemory}
 use Rattle.su_session.specs.declared.replies.Reply.{Reply}
-use Rattle.su_session.specs.Telling.{Accepts, Refuses, TellsInsert, TellsDelete, TellsLoad, TellsDefine}
+use Rattle.su_session.specs.Outcomes.{Accepts, Refuses, TellsInsert, TellsDelete, TellsLoad, TellsDefine}
 use Rattle.su_once.specs.States.{AreAlike}
 
 pub accept : (r s : Reply) (text other : List ℕ) → Accepts text r → Accepts other s → text ≡ other → r ≡ s

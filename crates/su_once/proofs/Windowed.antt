@@ -31,7 +31,7 @@ use Rattle.su_window.specs.Refusals.{Clashes, IsWindowRefusal}
 use Rattle.su_schema.proofs.Cuts.{cut_agrees}
 use Rattle.su_once.specs.Windows.{IsWindow, OneWindow, OneWindowRefusal, RefusedOrFitting}
 use Rattle.su_once.proofs.Changed.{same_schema}
-use Rattle.su_once.proofs.Chasing.{one_clash}
+use Rattle.su_once.proofs.OneChase.{one_clash}
 use Rattle.su_once.proofs.Counted.{no_more}
 use Rattle.su_once.proofs.Rows.{one_strict_list}
 

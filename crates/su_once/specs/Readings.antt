@@ -3,14 +3,14 @@
 use Rattle.std.specs.Prelude.{◌≡◌, ◌≢◌, ℕ, List, Result}
 use Rattle.su_schema.specs.SchemaValue.{SchemaValue}
 use Rattle.su_ddl.specs.declared.faults.DdlFault.{DdlFault}
-use Rattle.su_ddl.specs.Reading.{Reads}
+use Rattle.su_ddl.specs.Files.{Reads}
 use Rattle.su_query.specs.Refs.{NamedCond}
 use Rattle.su_query.specs.declared.faults.QueryFault.{QueryFault}
 use Rattle.su_query.specs.declared.faults.QueryFault.TheVariants.{NoMemory}
 use Rattle.su_query.specs.declared.statements.Query.{Query}
 use Rattle.su_query.specs.declared.statements.Statement.{Statement}
 use Rattle.su_query.specs.Lookup.{IsQueryRefusal, IsKnownQuery, IsColumnRefusal, IsColumnCondition}
-use Rattle.su_query.specs.Reading.{IsStatement, IsTextRefusal}
+use Rattle.su_query.specs.StatementTexts.{IsStatement, IsTextRefusal}
 use Rattle.su_query.specs.Limits.{HasFew}
 
 -- a file of definitions is read as one schema, or is at fault in one way

@@ -5,7 +5,7 @@ use Rattle.su_state.specs.DatabaseValue.{DatabaseValue, IsWellKept}
 use Rattle.su_session.specs.declared.replies.Reply.{Reply}
 use Rattle.su_session.specs.declared.wants.Want.{Want}
 use Rattle.su_session.specs.Reply.{Replied}
-use Rattle.su_session.specs.Wanting.{Wants}
+use Rattle.su_session.specs.WantedFiles.{Wants}
 use Rattle.su_once.specs.States.{AreAlike}
 
 -- a text wants at most one file, whatever the rows

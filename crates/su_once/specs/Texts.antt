@@ -10,7 +10,7 @@ use Rattle.su_steps.specs.declared.results.Term.{Term}
 use Rattle.su_min.specs.declared.reduced.Reduced.{Reduced}
 use Rattle.su_min.specs.Kept.{Minimised}
 use Rattle.su_show.specs.Replies.{IsClosureReply}
-use Rattle.su_show.specs.Explaining.{IsExplanation}
+use Rattle.su_show.specs.Explanations.{IsExplanation}
 
 -- a closure is told by one text
 abbrev pub OneClosureReply : Type 0

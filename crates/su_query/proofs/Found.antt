@@ -11,9 +11,9 @@ use Rattle.su_query.specs.declared.scopes.Scope.{Scope}
 use Rattle.su_query.specs.declared.conditions.Comparison.{Comparison}
 use Rattle.su_where.specs.Truth.{Cond}
 use Rattle.su_query.specs.Refs.{NamedCond}
-use Rattle.su_query.specs.Differing.{differs, differing_kinds}
+use Rattle.su_query.specs.KindDifferences.{differs, differing_kinds}
 use Rattle.su_query.specs.Scopes.{kind_in}
-use Rattle.su_query.specs.Numbering.{literal_of, numbered, numbered_step}
+use Rattle.su_query.specs.NumberedConditions.{literal_of, numbered, numbered_step}
 
 find-none : {A B : Type 0} (f : A → B) (p : A → Bool) (xs ys : List A) → option_map f (find p xs) ≡ None → option_map f (find p (xs ++ ys)) ≡ option_map f (find p ys)
 find-none f p [] ys e = refl

@@ -10,7 +10,7 @@ use Rattle.su_lex.specs.declared.meaning.Symbol.{Symbol}
 use Rattle.su_lex.specs.declared.meaning.Symbol.TheVariants.{Sign}
 use Rattle.su_query.specs.Refs.{NamedCond}
 use Rattle.su_query.specs.ShownConditions.{ShownCond, shown_cond, cond_symbols, part, joined}
-use Rattle.su_lex.specs.Wording.{in_parens}
+use Rattle.su_lex.specs.Wordings.{in_parens}
 use Rattle.su_query.specs.ShownParts.{listed}
 
 wrapped : (x : ShownCond) → (if x.many then Sign sign.Open ∷ [] else []) ++ (x.symbols ++ (if x.many then Sign sign.Close ∷ [] else [])) ≡ part x

@@ -23,8 +23,8 @@ use Rattle.su_query.specs.declared.conditions.Comparison.{Comparison}
 use Rattle.su_where.specs.Truth.{comparisons_of}
 use Rattle.su_query.specs.Refs.{NamedCond, refs_in, refs_beside, refs_of}
 use Rattle.su_query.specs.Scopes.{kind_in}
-use Rattle.su_query.specs.Differing.{differs, differing_kinds}
-use Rattle.su_query.specs.Numbering.{literal_of, numbered, numbered_operand}
+use Rattle.su_query.specs.KindDifferences.{differs, differing_kinds}
+use Rattle.su_query.specs.NumberedConditions.{literal_of, numbered, numbered_operand}
 use Rattle.su_query.specs.Ranges.{operand_kind, IsOfOneKind, IsTypedCondition}
 use Rattle.su_query.proofs.Found.{numbered-Compare, numbered-Not, numbered-All, numbered-Any}
 use Rattle.su_base.proofs.Items.{All-append_left, All-append_right}

@@ -23,7 +23,7 @@ use Rattle.su_query.specs.Mentions.{same_variable, mentions, variables_of, all_r
 use Rattle.su_query.specs.Limits.{AreFew}
 use Rattle.su_query.specs.Scopes.{names_in, kinds_in, is_unknown, first_unknown, number_among, kind_in}
 use Rattle.su_query.specs.Places.{place_in, same_place, places_of, number_in, places_in}
-use Rattle.su_query.specs.Numbering.{resolved_of, with_columns}
+use Rattle.su_query.specs.NumberedConditions.{resolved_of, with_columns}
 use Rattle.su_query.specs.Lookup.{IsKnownQuery, IsColumnCondition}
 use Rattle.su_query.specs.Ranges.{IsPlaceAmong, place_kinds, IsResolved, IsOnColumns}
 use Rattle.su_base.proofs.Items.{All-append_left, All-append_right}

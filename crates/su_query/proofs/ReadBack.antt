@@ -22,9 +22,9 @@ use Rattle.su_query.specs.QueryForms as g'
 use Rattle.su_query.specs.RelationForms.{RowForm, ConditionForm, FileForm, NamesForm}
 use Rattle.su_query.specs.QueryForms.{ReadsWhere, ReadsQuery, ReadsEnclosed, PairForm, QueryForm}
 use Rattle.su_query.specs.Forms.{IsForm}
-use Rattle.su_query.specs.Reading.{ReadsAgain}
+use Rattle.su_query.specs.StatementTexts.{ReadsAgain}
 use Rattle.su_query.specs.ShownParts.{name_symbols, value_symbols, ref_symbols, listed}
-use Rattle.su_lex.specs.Wording.{in_parens}
+use Rattle.su_lex.specs.Wordings.{in_parens}
 use Rattle.su_query.specs.ShownConditions.{cond_symbols}
 use Rattle.su_query.specs.Shown.{is_nothing, where_symbols, query_symbols, statement_symbols}
 use Rattle.su_query.proofs.CondShown.{nothing-All}

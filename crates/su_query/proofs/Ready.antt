@@ -8,7 +8,7 @@ use Rattle.su_query.specs.Forms as g
 use Rattle.su_query.specs.QueryForms.{ReadsQuery}
 use Rattle.su_query.specs.RelationForms.{NamesForm}
 use Rattle.su_query.specs.Forms.{IsForm}
-use Rattle.su_query.specs.Reading.{IsReady}
+use Rattle.su_query.specs.StatementTexts.{IsReady}
 
 some_outputs : (q : AQuery) (s r : List Symbol) → ReadsQuery q s r → 0 < length q.outputs
 some_outputs q s r h = subst (λ (refs : List Ref). 0 < length refs) (sym h.reads.3) (omega arith)

@@ -19,7 +19,7 @@ use Rattle.su_query.specs.Grammar as g
 use Rattle.su_query.specs.Grammar.{ReadsCond, ReadsOrs, ReadsConj, ReadsAnds, ReadsFactor, ReadsPrimary, compared, ReadsComparison, any_of, all_of}
 use Rattle.su_query.specs.Operands.{ReadsOperand, ReadsRef, IsVariable, op_sym, qualified}
 use Rattle.su_query.specs.ShownConditions.{ShownCond, shown_cond, cond_symbols, part, inner, joined}
-use Rattle.su_lex.specs.Wording.{in_parens}
+use Rattle.su_lex.specs.Wordings.{in_parens}
 use Rattle.su_query.specs.ShownParts.{ref_symbols, operand_symbols}
 use Rattle.su_query.specs.Shown.{is_nothing}
 use Rattle.su_query.proofs.CondShown.{shown-Compare, shown-Not, shown-All, shown-Any, nothing-Compare, nothing-Not, nothing-All, nothing-Any}

@@ -18,7 +18,7 @@ use Rattle.su_query.specs.Forms.{IsForm}
 use Rattle.su_query.specs.declared.faults.QueryFault.{QueryFault}
 use Rattle.su_query.specs.declared.faults.QueryFault.TheVariants.{Syntax, Limit, NoMemory, Unknown, Kinds, UnknownColumn}
 use Rattle.su_query.specs.declared.faults.QueryLimit.TheVariants.{Nesting, Variables, Outputs, Comparisons}
-use Rattle.su_query.specs.Reading.{IsStatement, IsTextRefusal}
+use Rattle.su_query.specs.StatementTexts.{IsStatement, IsTextRefusal}
 use Rattle.su_query.specs.Limits.{Passes, PartsPass, parts_of}
 use Rattle.su_query.proofs.Items.{name_unique, value_unique}
 use Rattle.su_query.proofs.Listed.{several_unique}

@@ -11,7 +11,7 @@ use Rattle.su_where.specs.Truth.{comparisons_of}
 use Rattle.su_query.specs.Refs.{NamedCond, refs_of}
 use Rattle.su_query.specs.Mentions.{all_refs}
 use Rattle.su_query.specs.Scopes.{names_in, first_unknown}
-use Rattle.su_query.specs.Differing.{differing_kinds}
+use Rattle.su_query.specs.KindDifferences.{differing_kinds}
 
 -- why the columns of a condition are refused: the first unknown name or, where all are known, the first comparison of two kinds
 abbrev pub IsColumnRefusal : SchemaValue → ℕ → NamedCond → QueryFault → Type 0

@@ -12,7 +12,7 @@ use Rattle.su_query.specs.declared.statements.Query.{Query}
 use Rattle.su_query.specs.declared.statements.Statement.{Statement}
 use Rattle.su_query.specs.declared.statements.Statement.TheVariants.{Insert, Delete, DeleteWhere, Load, Print, Schema, Closure, Retrieve, Explain, Certify, Support, Compare as Comparing, Window}
 use Rattle.su_query.specs.ShownParts.{name_symbols, value_symbols, ref_symbols, listed}
-use Rattle.su_lex.specs.Wording.{in_parens}
+use Rattle.su_lex.specs.Wordings.{in_parens}
 use Rattle.su_query.specs.ShownConditions.{cond_symbols}
 
 -- the condition is an `and` of nothing

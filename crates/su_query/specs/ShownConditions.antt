@@ -9,7 +9,7 @@ use Rattle.su_where.specs.declared.conditions.Condition.TheOpen.{Condition-F, Co
 use Rattle.su_where.specs.declared.conditions.Condition.TheFolds.{fold-Condition}
 use Rattle.su_query.specs.Operands.{op_sym}
 use Rattle.su_query.specs.ShownParts.{operand_symbols}
-use Rattle.su_lex.specs.Wording.{in_parens}
+use Rattle.su_lex.specs.Wordings.{in_parens}
 
 -- the symbols of a comparison
 abbrev pub comparison_symbols : Comparison → List Symbol

@@ -2,7 +2,7 @@
 ghost use Rattle.std.specs.Prelude.{◌≡◌, ◌<◌, ◌≤◌, true, length, IfOk, IfErr, OnOk};
 ghost use Rattle.su_where.specs.Truth.{comparisons_of};
 ghost use Rattle.su_query.specs.Mentions.{are_columns};
-ghost use Rattle.su_query.specs.Numbering.{with_columns};
+ghost use Rattle.su_query.specs.NumberedConditions.{with_columns};
 ghost use Rattle.su_query.specs.Lookup.{IsColumnCondition, IsColumnRefusal};
 ghost use Rattle.su_query.specs.Ranges.{IsOnColumns};
 

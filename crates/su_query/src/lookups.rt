@@ -1,7 +1,7 @@
 //! The first unknown name of a list of refs, and the first comparison of two kinds.
 ghost use Rattle.std.specs.Prelude.{◌≡◌, Some, None, map, IfOk, ◌∷◌, []};
 ghost use Rattle.su_query.specs.Scopes.{IsScope, names_in, first_unknown};
-ghost use Rattle.su_query.specs.Differing.{differing_kinds};
+ghost use Rattle.su_query.specs.KindDifferences.{differing_kinds};
 
 use crate::conditions::Comparison;
 use crate::refs::Ref;

@@ -1,7 +1,7 @@
 //! One statement from its text.
 ghost use Rattle.std.specs.Prelude.{◌≡◌, ℕ, IfOk, IfErr, List as Items};
 ghost use Rattle.su_lex.specs.Symbols.{Symbols};
-ghost use Rattle.su_query.specs.Reading.{IsStatement, IsReady, IsTextRefusal};
+ghost use Rattle.su_query.specs.StatementTexts.{IsStatement, IsReady, IsTextRefusal};
 ghost use Rattle.su_query.specs.Limits.{HasFew};
 ghost use Rattle.su_query.specs.declared.statements.Statement.{Statement as AStatement};
 

@@ -1,5 +1,5 @@
 //! Queries over numbers.
-ghost use Rattle.su_query.specs.Numbering.{resolved_of};
+ghost use Rattle.su_query.specs.NumberedConditions.{resolved_of};
 ghost use Rattle.su_query.specs.Lookup.{IsKnownQuery, IsQueryRefusal};
 ghost use Rattle.std.specs.Prelude.{◌≡◌, ◌≤◌, [], None, length, map, IfOk, IfErr, OnOk, MatchOption};
 ghost use Rattle.su_query.specs.inside.Faults.{IsFirstFault};

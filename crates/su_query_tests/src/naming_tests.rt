@@ -2,7 +2,7 @@
 ghost use Rattle.std.specs.Prelude.{IfOk};
 ghost use Rattle.su_query.specs.Ranges.{IsResolved};
 ghost use Rattle.su_query.specs.Limits.{HasFew};
-ghost use Rattle.su_query.specs.Reading.{IsReady};
+ghost use Rattle.su_query.specs.StatementTexts.{IsReady};
 
 use std::alloc::{AllocError, Global};
 use std::test::Fail;

@@ -9,7 +9,7 @@ use Rattle.su_tableau.specs.declared.symbols.Sym.TheVariants.{Const, Var}
 use Rattle.su_tableau.specs.Valuations.{value_of, values_of}
 use Rattle.su_reduce.specs.Shapes.{Fits, cell_at, place_of}
 use Rattle.su_reduce.specs.inside.Keys.{FitsAt, assigned, value_at}
-use Rattle.su_reduce.proofs.Placing.{assigned_is, contains_at}
+use Rattle.su_reduce.proofs.Places.{assigned_is, contains_at}
 
 value_agree : (v w : ℕ → Value) (cell : Sym) → ((k : ℕ) → cell ≡ Var k → v k ≡ w k) → value_of v cell ≡ value_of w cell
 value_agree v w (Const c) h = refl

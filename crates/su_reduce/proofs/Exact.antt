@@ -13,7 +13,7 @@ use Rattle.su_reduce.specs.Ears.{cells_of, HasVar, Share}
 use Rattle.su_reduce.specs.Left.{cells_at, candidates_at}
 use Rattle.su_reduce.specs.inside.Marks.{IsMarked, marks_at, mark, candidate_at, HasPartner, IsSemijoin}
 use Rattle.su_reduce.specs.inside.Reduced.{GivesMarked, HasChosen, TakesPart, AreExact}
-use Rattle.su_tableau.proofs.Listing.{values_same}
+use Rattle.su_tableau.proofs.ValuationLists.{values_same}
 
 -- ---- valuations
 

@@ -13,8 +13,8 @@ use Rattle.su_reduce.specs.inside.Coded.{AreRowsOf, IsCodeOf}
 use Rattle.su_reduce.specs.Shapes.{Fits}
 use Rattle.su_reduce.specs.inside.Marks.{Meet, HasPartner, mark, row_at}
 use Rattle.su_reduce.specs.inside.Keys.{AreShared, IsPair, value_at}
-use Rattle.su_reduce.proofs.Chaining.{pick_at}
-use Rattle.su_reduce.proofs.Placing.{read_value}
+use Rattle.su_reduce.proofs.Buckets.{pick_at}
+use Rattle.su_reduce.proofs.Places.{read_value}
 use Rattle.su_reduce.proofs.Exact.{patched, patched_own, patched_others}
 
 -- the values of a row at these places

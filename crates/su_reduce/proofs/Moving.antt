@@ -6,7 +6,7 @@ use Rattle.std.proofs.lemmas.List.{drop-drop, get_or-append-add, get_or-drop, ge
 use Rattle.su_reduce.specs.Left.{marked}
 use Rattle.su_reduce.specs.Sheets.{cut}
 use Rattle.su_reduce.proofs.Along.{marked_in, marked_out}
-use Rattle.su_reduce.proofs.Cutting.{cut_at, cut_more, length-cut, times_le}
+use Rattle.su_reduce.proofs.ListPieces.{cut_at, cut_more, length-cut, times_le}
 
 -- ---- one move
 

@@ -10,7 +10,7 @@ use Rattle.su_tableau.specs.declared.symbols.Sym.{Sym}
 use Rattle.su_reduce.specs.declared.edges.Ear.{Ear}
 use Rattle.su_reduce.specs.Ears.{IsParent, numbers, AreEars, IsEarOrder, AreAcyclic}
 use Rattle.su_reduce.specs.inside.Partners.{In, without, AreTable, IsParentBy}
-use Rattle.su_reduce.proofs.Taking.{Order, Without, parent_iff, ear_first}
+use Rattle.su_reduce.proofs.EarOrders.{Order, Without, parent_iff, ear_first}
 use Rattle.su_reduce.proofs.Tables.{parent_from, parent_by}
 
 -- ---- sets

@@ -7,7 +7,7 @@ use Rattle.std.proofs.lemmas.List.Elements.{Contains-get_or}
 use Rattle.su_tableau.specs.declared.symbols.Sym.{Sym}
 use Rattle.su_tableau.specs.declared.symbols.Sym.TheVariants.{Var}
 use Rattle.su_reduce.specs.Shapes.{IsShapeOf, cell_at, place_of}
-use Rattle.su_reduce.proofs.Placing.{contains_at, firsts_more, place_holds, place_least, same_var}
+use Rattle.su_reduce.proofs.Places.{contains_at, firsts_more, place_holds, place_least, same_var}
 
 -- ---- one cell more
 

@@ -8,7 +8,7 @@ use Rattle.su_tableau.specs.declared.symbols.Sym.TheVariants.{Var}
 use Rattle.su_reduce.specs.Ears.{HasVar, IsParent}
 use Rattle.su_reduce.specs.Shapes.{cell_at}
 use Rattle.su_reduce.specs.inside.Partners.{In, AreSets, IsParentBy}
-use Rattle.su_reduce.proofs.Placing.{contains_at}
+use Rattle.su_reduce.proofs.Places.{contains_at}
 
 -- a cell that has the variable
 cell_with : (cells : List Sym) (k : ℕ) → Contains cells (Var k) → (c : ℕ) × (c < length cells) × (cell_at cells c ≡ Var k)

@@ -21,12 +21,12 @@ use Rattle.su_check.specs.declared.certificates.RowTree.{RowTree}
 use Rattle.su_check.specs.declared.certificates.Term.{Term}
 use Rattle.su_check.specs.declared.certificates.Certificate.{Certificate}
 use Rattle.su_check.specs.declared.sending.Sent.{Sent}
-use Rattle.su_check.specs.Fitting.{Lines}
-use Rattle.su_check.specs.Refuting.{refuting, Refutes}
+use Rattle.su_check.specs.SentRows.{Lines}
+use Rattle.su_check.specs.Refutations.{refuting, Refutes}
 use Rattle.su_check.specs.Certificate.{IsGoodForm, IsFoldInto, IsGood}
 use Rattle.su_check.specs.Grammar.{line, row_line, tree_line, term_lines, certificate_lines, certificate_symbols, Reads}
 use Rattle.su_check.specs.NodeSymbols.{number, sym_symbol}
-use Rattle.su_lex.specs.Wording.{kind_symbol}
+use Rattle.su_lex.specs.Wordings.{kind_symbol}
 use Rattle.su_check.specs.Ranges.{IsByte, IsByteNode, IsNamed, IsTermInRange}
 use Rattle.su_check.specs.Verdict.{on_certificate}
 use Rattle.su_refute.specs.Trees.{IsTree, IsTreeAt}

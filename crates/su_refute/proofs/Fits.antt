@@ -2,10 +2,10 @@
 use Rattle.std.proofs.Common.{◌≡◌, ◌≢◌, ℕ, ◌<◌, ◌↔◌, List, [], ◌∷◌, length, Contains, refl, arith}
 use Rattle.std.proofs.lemmas.List.Elements.{All-push}
 use Rattle.su_check.specs.declared.sending.Sent.{Sent}
-use Rattle.su_check.specs.inside.Agreeing.{GoAlike, Goes, AgreesWith}
-use Rattle.su_check.specs.Fitting.{Lines, numbered_row, AreSent, sent_too}
+use Rattle.su_check.specs.inside.Agreement.{GoAlike, Goes, AgreesWith}
+use Rattle.su_check.specs.SentRows.{Lines, numbered_row, AreSent, sent_too}
 use Rattle.su_check.specs.inside.Widths.{AreWide}
-use Rattle.su_check.specs.Refuting.{IsFitting}
+use Rattle.su_check.specs.Refutations.{IsFitting}
 use Rattle.su_refute.specs.inside.Positions.{IsReady}
 use Rattle.su_check.proofs.FoldTargets.{none_sent}
 use Rattle.su_check.proofs.TargetsTogether.{all_front, all_last, sent_more, sent_less}

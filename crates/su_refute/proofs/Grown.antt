@@ -9,8 +9,8 @@ use Rattle.su_map.specs.Lists.{numbers_of}
 use Rattle.su_check.specs.declared.sending.Sent.{Sent}
 use Rattle.su_check.specs.declared.nodes.Node.{Node}
 use Rattle.su_check.specs.declared.nodes.Branch.{Branch, out-roll-Branch}
-use Rattle.su_check.specs.Fitting.{Lines, sent_too}
-use Rattle.su_check.specs.Refuting.{AreExactly, IsOpen, IsFitting, row_named, branches_of, target_of, node_of}
+use Rattle.su_check.specs.SentRows.{Lines, sent_too}
+use Rattle.su_check.specs.Refutations.{AreExactly, IsOpen, IsFitting, row_named, branches_of, target_of, node_of}
 use Rattle.su_refute.specs.declared.nets.Net.{Net}
 use Rattle.su_refute.specs.Trees.{IsFewest, IsTreeAt, node_count}
 use Rattle.su_refute.specs.Trees.{lines_in}

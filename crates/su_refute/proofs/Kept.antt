@@ -6,7 +6,7 @@ use Rattle.su_base.proofs.Items.{Contains-head, Contains-later}
 use Rattle.su_tableau.specs.Tableaux.{IsValid, IsSmall}
 use Rattle.su_map.specs.Lists.{row_numbers}
 use Rattle.su_check.specs.declared.nodes.Node.{Node}
-use Rattle.su_check.specs.Fitting.{Lines}
+use Rattle.su_check.specs.SentRows.{Lines}
 use Rattle.su_min.specs.Kept.{Minimised, IsKept}
 use Rattle.su_refute.specs.Trees.{IsTree, node_count}
 use Rattle.su_refute.specs.AllTrees.{lines_of, AreTreesOf, AreTrees, all_nodes, HasLargerTree, HasMoreNodes}

@@ -9,7 +9,7 @@ use Rattle.std.proofs.Math.Nat.{mod-one, mod-lt}
 use Rattle.std.proofs.lemmas.Nat.Bits.{bit_at-lt, bit_at_above, bit_at_cat_low, same_from_bits}
 use Rattle.su_map.specs.Lists.{numbers_of}
 use Rattle.su_map.proofs.Ranks.{keep_if-none, numbers-more, numbers_step}
-use Rattle.su_check.specs.Refuting.{AreExactly}
+use Rattle.su_check.specs.Refutations.{AreExactly}
 use Rattle.su_refute.proofs.AscendingNumbers.{exactly_none, exactly_more, exactly_skip, exactly_all, exactly_one}
 
 pub numbers-none : (m n : ℕ) → bit_at m n ≢ 1 → numbers_of m (suc n) ≡ numbers_of m n

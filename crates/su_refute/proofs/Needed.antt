@@ -15,12 +15,12 @@ use Rattle.su_map.specs.Lists.{row_numbers}
 use Rattle.su_map.proofs.Members.{without_same, without_out}
 use Rattle.su_check.specs.declared.nodes.Node.{Node}
 use Rattle.su_check.specs.declared.sending.Sent.{Sent}
-use Rattle.su_check.specs.Fitting.{numbered_row}
+use Rattle.su_check.specs.SentRows.{numbered_row}
 use Rattle.su_check.specs.inside.Widths.{AreWide}
 use Rattle.su_refute.specs.inside.Positions.{IsReady, IsFree, IsNeeded, IsAt, Stands, IsTreeFor}
 use Rattle.su_min.specs.Kept.{IsKept}
 use Rattle.su_min.proofs.Parts.{into_maps, maps_into}
-use Rattle.su_min.proofs.Keeping.{kept_within}
+use Rattle.su_min.proofs.KeptRows.{kept_within}
 use Rattle.su_refute.specs.declared.nets.Net.{Net}
 use Rattle.su_refute.specs.inside.Nets.{IsNet}
 use Rattle.su_refute.specs.Trees.{lines_in, IsTree, node_count}

@@ -7,8 +7,8 @@ use Rattle.std.proofs.lemmas.List.Elements.{Contains-get_or}
 use Rattle.su_check.specs.declared.sending.Sent.{Sent}
 use Rattle.su_check.specs.declared.nodes.Node.{Node, roll-Node, out-roll-Node, roll-out-Node, fold_out-Node}
 use Rattle.su_check.specs.declared.nodes.Branch.{Branch, roll-Branch, roll-out-Branch, fold-Branch, fold_out-Branch}
-use Rattle.su_check.specs.Fitting.{Lines, sent_too}
-use Rattle.su_check.specs.Refuting.{AreExactly, IsOpen, IsFitting, refuting, row_named, branches_of, target_of, node_of}
+use Rattle.su_check.specs.SentRows.{Lines, sent_too}
+use Rattle.su_check.specs.Refutations.{AreExactly, IsOpen, IsFitting, refuting, row_named, branches_of, target_of, node_of}
 use Rattle.su_refute.specs.Trees.{IsFewest, IsTreeAt, count_step, node_count}
 use Rattle.su_refute.proofs.AscendingNumbers.{exactly_one}
 

@@ -2,9 +2,9 @@
 use Rattle.std.proofs.Common.{◌<◌, ℕ, List, length, Contains}
 use Rattle.std.proofs.lemmas.List.Elements.{All-push, All-contains}
 use Rattle.su_check.specs.declared.sending.Sent.{Sent}
-use Rattle.su_check.specs.Fitting.{Lines, sent_too}
+use Rattle.su_check.specs.SentRows.{Lines, sent_too}
 use Rattle.su_check.specs.inside.Widths.{IsWithin}
-use Rattle.su_check.specs.Refuting.{IsFitting}
+use Rattle.su_check.specs.Refutations.{IsFitting}
 use Rattle.su_refute.specs.inside.Positions.{IsReady}
 
 pub ready_more : (t : Lines) (r : ℕ) (p : List Sent) (s j : ℕ) → IsReady t p → Contains t.kept s → IsFitting t r p s j → IsReady t (sent_too p s j)

@@ -13,7 +13,7 @@ use Rattle.su_tableau.specs.declared.symbols.Sym.TheVariants.{Var}
 use Rattle.su_tableau.specs.Tableaux.{Tab, IsValid}
 use Rattle.su_map.specs.Lists.{row_of}
 use Rattle.su_check.specs.inside.Cells.{cell}
-use Rattle.su_check.specs.inside.Agreeing.{GoAlike, Goes}
+use Rattle.su_check.specs.inside.Agreement.{GoAlike, Goes}
 use Rattle.su_refute.specs.declared.places.Places.{Places}
 use Rattle.su_refute.specs.inside.Nets.{AreWithin, AreShared, AgreeAt, IsSetOf, IsTold}
 

@@ -10,9 +10,9 @@ use Rattle.su_check.specs.declared.nodes.Node.{Node}
 use Rattle.su_check.specs.declared.nodes.Branch.{Branch}
 use Rattle.su_check.specs.declared.certificates.RowTree.{RowTree}
 use Rattle.su_check.specs.declared.certificates.Term.{Term}
-use Rattle.su_check.specs.Refuting.{row_named, branches_of}
+use Rattle.su_check.specs.Refutations.{row_named, branches_of}
 use Rattle.su_check.specs.NodeSymbols.{number, node_symbols}
-use Rattle.su_lex.specs.Wording.{kind_symbol}
+use Rattle.su_lex.specs.Wordings.{kind_symbol}
 use Rattle.su_check.specs.Grammar.{line, tree_line, term_lines}
 use Rattle.su_check.proofs.NodeSymbols.{branch_symbols, node_at}
 use Rattle.su_refute.specs.Written.{row_trees, term_of, terms_from, line_text, lines_text}

@@ -8,9 +8,9 @@ use Rattle.su_base.proofs.Items.{Contains-cases, Contains-head, Contains-later, 
 use Rattle.su_check.specs.declared.sending.Sent.{Sent}
 use Rattle.su_check.specs.declared.nodes.Node.{Node}
 use Rattle.su_check.specs.declared.nodes.Branch.{Branch}
-use Rattle.su_check.specs.Fitting.{Lines, sent_too}
+use Rattle.su_check.specs.SentRows.{Lines, sent_too}
 use Rattle.su_check.specs.inside.Widths.{IsWithin}
-use Rattle.su_check.specs.Refuting.{AreExactly, IsOpen, IsFitting, target_of, node_of}
+use Rattle.su_check.specs.Refutations.{AreExactly, IsOpen, IsFitting, target_of, node_of}
 use Rattle.su_refute.specs.inside.Positions.{IsReady}
 use Rattle.su_min.proofs.Holes.{pigeonhole}
 use Rattle.su_refute.proofs.Ready.{ready_more}

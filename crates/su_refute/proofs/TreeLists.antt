@@ -9,7 +9,7 @@ use Rattle.su_base.proofs.Items.{AllZip-push, AllZip-length, AllZip-get_or}
 use Rattle.su_map.specs.Lists.{numbers_of, row_numbers}
 use Rattle.su_map.proofs.Ranks.{rank_in, rank_at, ranked_at, numbers-more}
 use Rattle.su_check.specs.declared.nodes.Node.{Node}
-use Rattle.su_check.specs.Fitting.{Lines}
+use Rattle.su_check.specs.SentRows.{Lines}
 use Rattle.su_min.specs.Kept.{Minimised}
 use Rattle.su_refute.specs.Trees.{IsTree, node_count}
 use Rattle.su_refute.specs.AllTrees.{IsSound, lines_of, AreTreesOf, AreTrees, nodes_in, all_nodes, HasMoreNodes}

@@ -9,8 +9,8 @@ use Rattle.su_tableau.specs.Tableaux.{Tab}
 use Rattle.su_map.specs.Lists.{row_numbers}
 use Rattle.su_map.proofs.Ranks.{rank, rank_in, rank_at, ranked_at}
 use Rattle.su_check.specs.declared.sending.Sent.{Sent}
-use Rattle.su_check.specs.Fitting.{sent_too}
-use Rattle.su_check.specs.Refuting.{IsOpen, IsFitting}
+use Rattle.su_check.specs.SentRows.{sent_too}
+use Rattle.su_check.specs.Refutations.{IsOpen, IsFitting}
 use Rattle.su_check.proofs.TargetsTogether.{all_front, all_last}
 use Rattle.su_refute.proofs.Ready.{ready_more}
 use Rattle.su_refute.specs.declared.nets.Net.{Net}

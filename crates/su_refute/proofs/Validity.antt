@@ -20,12 +20,12 @@ use Rattle.su_tableau.specs.declared.symbols.Sym.TheVariants.{Const, Var}
 use Rattle.su_check.specs.declared.nodes.Node.{Node}
 use Rattle.su_check.specs.declared.nodes.Branch.{Branch}
 use Rattle.su_check.specs.declared.sending.Sent.{Sent}
-use Rattle.su_check.specs.Fitting.{Lines, sent_too}
+use Rattle.su_check.specs.SentRows.{Lines, sent_too}
 use Rattle.su_check.specs.inside.Widths.{IsWithin}
-use Rattle.su_check.specs.Refuting.{refuting, row_named, branches_of, target_of, node_of}
+use Rattle.su_check.specs.Refutations.{refuting, row_named, branches_of, target_of, node_of}
 use Rattle.su_refute.specs.inside.Positions.{IsReady}
 use Rattle.su_check.specs.NodeSymbols.{number, sym_symbol, node_symbols}
-use Rattle.su_lex.specs.Wording.{kind_symbol, in_parens}
+use Rattle.su_lex.specs.Wordings.{kind_symbol, in_parens}
 use Rattle.su_check.specs.Grammar.{line, row_line, tree_line}
 use Rattle.su_check.specs.Ranges.{IsByteNode, of_bytes}
 use Rattle.su_check.proofs.NodeSymbols.{branch_symbols, node_at}

@@ -5,7 +5,7 @@ use Rattle.std.specs.List.{AllZip, sum_by}
 use Rattle.su_tableau.specs.Tableaux.{IsValid, IsSmall}
 use Rattle.su_map.specs.Lists.{row_numbers}
 use Rattle.su_check.specs.declared.nodes.Node.{Node}
-use Rattle.su_check.specs.Fitting.{Lines}
+use Rattle.su_check.specs.SentRows.{Lines}
 use Rattle.su_min.specs.Kept.{Minimised, IsMinimised}
 use Rattle.su_refute.specs.Trees.{lines_in, IsTree, node_count}
 

@@ -6,8 +6,8 @@ use Rattle.su_map.specs.Lists.{row_numbers}
 use Rattle.su_check.specs.declared.sending.Sent.{Sent}
 use Rattle.su_check.specs.declared.nodes.Node.{Node, fold-Node}
 use Rattle.su_check.specs.declared.nodes.Branch.TheOpen.{Node-F}
-use Rattle.su_check.specs.Fitting.{Lines}
-use Rattle.su_check.specs.Refuting.{IsOpen, AreExactly, IsFitting, RefutesBy}
+use Rattle.su_check.specs.SentRows.{Lines}
+use Rattle.su_check.specs.Refutations.{IsOpen, AreExactly, IsFitting, RefutesBy}
 
 -- the lines of the tableau, and the rows in m as the kept ones
 abbrev pub lines_in : Tab → ℕ → Lines

@@ -2,7 +2,7 @@
 ghost use Rattle.std.specs.Prelude.{◌≡◌, ◌≤◌, ◌<◌, ◌^◌, ◌↔◌, ℕ, IfOk, IsTrue, [], length, get_or};
 ghost use Rattle.std.specs.Int.{bit_at};
 ghost use Rattle.su_map.specs.Lists.{row_of};
-ghost use Rattle.su_check.specs.inside.Agreeing.{KeepsConstants, GoAlike, Goes};
+ghost use Rattle.su_check.specs.inside.Agreement.{KeepsConstants, GoAlike, Goes};
 ghost use Rattle.su_refute.specs.inside.Nets.{AreWithin, AreShared, AgreeAt, IsSetOf, IsBase, AreTold, AreToldOf, IsNet};
 
 use crate::bits::with;

@@ -1,8 +1,8 @@
 //! Symbols of certificates, at the end of a list.
 ghost use Rattle.std.specs.Prelude.{◌≡◌, [], ◌∷◌, ◌++◌, OnOk, map, flat_map};
-ghost use Rattle.su_check.specs.Refuting.{target_of, node_of};
+ghost use Rattle.su_check.specs.Refutations.{target_of, node_of};
 ghost use Rattle.su_check.specs.NodeSymbols.{number, sym_symbol, node_symbols};
-ghost use Rattle.su_lex.specs.Wording.{kind_symbol};
+ghost use Rattle.su_lex.specs.Wordings.{kind_symbol};
 ghost use Rattle.su_check.specs.Grammar.{row_line};
 
 use std::alloc::Global;

@@ -3,7 +3,7 @@ ghost use Rattle.std.specs.Prelude.{◌≡◌, ◌<◌, [], ◌∷◌, ◌++◌,
 ghost use Rattle.su_lex.specs.declared.meaning.Symbol.TheVariants.{Word};
 ghost use Rattle.su_map.specs.Lists.{row_numbers};
 ghost use Rattle.su_check.specs.NodeSymbols.{number, sym_symbol};
-ghost use Rattle.su_lex.specs.Wording.{kind_symbol};
+ghost use Rattle.su_lex.specs.Wordings.{kind_symbol};
 ghost use Rattle.su_check.specs.Grammar.{line, row_line, tree_line, term_lines};
 ghost use Rattle.su_refute.specs.Written.{row_trees, term_of, certificate_of, certificate_text, line_text, lines_text};
 

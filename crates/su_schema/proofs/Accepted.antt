@@ -19,7 +19,7 @@ use Rattle.su_schema.specs.Entries.{IsSomeBelow, attribute_names, relation_names
 use Rattle.su_schema.specs.NameChecks.{first_failing, name_checks}
 use Rattle.su_schema.specs.Known.{is_known, number_of, columns_at}
 use Rattle.su_schema.specs.Checks.{checks}
-use Rattle.su_schema.specs.Defining.{applied, extended, numbers_of, links_of}
+use Rattle.su_schema.specs.Definitions.{applied, extended, numbers_of, links_of}
 use Rattle.su_schema.specs.WellNamed.{IsWellNamed}
 use Rattle.su_schema.proofs.Validity.{pass, passed_both, slice_get-grows, names_more, apart_names, object_more, below_more, dependency_more, numbers_some}
 use Rattle.su_schema.proofs.ObjectValid.{relation_there, joined, ordered, some_links}

@@ -4,7 +4,7 @@ use Rattle.std.specs.Ordering.{nat_cmp}
 use Rattle.std.specs.FinSet.{FinSet, contains}
 use Rattle.std.proofs.lemmas.Bool.{false≢true}
 use Rattle.su_base.specs.declared.values.Value.{Value}
-use Rattle.su_fd.specs.Meeting.{Agree}
+use Rattle.su_fd.specs.MetDependencies.{Agree}
 use Rattle.su_schema.specs.Cuts.{cut_from, cut}
 
 abbrev AgreeFrom : ℕ → FinSet nat_cmp → List Value → List Value → Type 0

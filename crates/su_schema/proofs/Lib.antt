@@ -1,5 +1,5 @@
 pub mod Accepted
-pub mod Ascending
+pub mod LinkOrder
 pub mod ColumnsSoFar
 pub mod Copied
 pub mod Cuts

@@ -9,7 +9,7 @@ use Rattle.su_schema.specs.declared.faults.SchemaFault.TheVariants.{Twice, Unkno
 use Rattle.su_schema.specs.Entries.{place_of}
 use Rattle.su_schema.specs.NameChecks.{first_failing, name_checks, old_name, new_name}
 use Rattle.su_schema.specs.Known.{is_known, number_of}
-use Rattle.su_schema.specs.Defining.{numbers_of}
+use Rattle.su_schema.specs.Definitions.{numbers_of}
 use Rattle.su_schema.proofs.Numbers.{known-Some, known-None, contains-numbers_of, from_list-push}
 
 -- no name that was read is refused, and the set holds their numbers

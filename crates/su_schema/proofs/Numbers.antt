@@ -14,7 +14,7 @@ use Rattle.std.proofs.lemmas.List.Folds.{list_any-append}
 use Rattle.std.proofs.lemmas.List.{take_more, map-append}
 use Rattle.su_schema.specs.Entries.{place_of}
 use Rattle.su_schema.specs.Known.{is_known, number_of}
-use Rattle.su_schema.specs.Defining.{numbers_of}
+use Rattle.su_schema.specs.Definitions.{numbers_of}
 
 -- an item passes exactly where the first that passes is within the list
 pub any_within : {X : Type 0} (p : X → Bool) (xs : List X) → list_any p xs ≡ nat_lt (position_or_len p xs) (length xs)

@@ -17,8 +17,8 @@ use Rattle.su_schema.specs.Entries.{attribute_names, relation_names, column_name
 use Rattle.su_schema.specs.NameChecks.{first_failing}
 use Rattle.su_schema.specs.Known.{is_known, number_of, columns_at, attribute_kind, column_kind}
 use Rattle.su_schema.specs.Checks.{pair_checks}
-use Rattle.su_schema.specs.Defining.{link_of, links_of}
-use Rattle.su_schema.proofs.Ascending.{ascending-IsBelow, ascending-holds, Ordered, ascending-AllPairs}
+use Rattle.su_schema.specs.Definitions.{link_of, links_of}
+use Rattle.su_schema.proofs.LinkOrder.{ascending-IsBelow, ascending-holds, Ordered, ascending-AllPairs}
 use Rattle.su_schema.proofs.Numbers.{same_number}
 use Rattle.su_schema.proofs.Validity.{IsPassed, passed_pairs, apart_columns, number_below, same_kinds}
 

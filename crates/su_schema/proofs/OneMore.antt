@@ -20,7 +20,7 @@ use Rattle.su_schema.specs.Entries.{attribute_names, relation_names, object_name
 use Rattle.su_schema.specs.NameChecks.{first_failing}
 use Rattle.su_schema.specs.Known.{is_known, number_of, columns_at}
 use Rattle.su_schema.specs.Checks.{checks}
-use Rattle.su_schema.specs.Defining.{extended, numbers_of, links_of}
+use Rattle.su_schema.specs.Definitions.{extended, numbers_of, links_of}
 use Rattle.su_schema.specs.WellNamed.{IsWellNamed}
 use Rattle.su_schema.specs.Maps.{shown}
 use Rattle.su_schema.specs.Shown.{HasItsSet}

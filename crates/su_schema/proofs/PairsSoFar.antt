@@ -17,7 +17,7 @@ use Rattle.su_schema.specs.Entries.{place_of, attribute_names, attribute_kinds, 
 use Rattle.su_schema.specs.NameChecks.{Check, first_failing}
 use Rattle.su_schema.specs.Known.{is_known, number_of, columns_at, attribute_kind, column_kind}
 use Rattle.su_schema.specs.Checks.{known_checks, fresh_checks, one_kind, pair_checks}
-use Rattle.su_schema.specs.Defining.{link_of}
+use Rattle.su_schema.specs.Definitions.{link_of}
 use lib.ListN.{length-map}
 use Rattle.std.proofs.lemmas.Bool.Decides.{nat_tests}
 use Rattle.su_base.specs.declared.values.Kind.{Kind}

@@ -26,7 +26,7 @@ use Rattle.su_base.specs.Value.{same_kind}
 use Rattle.su_schema.specs.NameChecks.{Check, first_failing, name_checks, apart_checks}
 use Rattle.su_schema.specs.Known.{is_known, number_of, attribute_kind, column_kind}
 use Rattle.su_schema.specs.Checks.{pair_checks}
-use Rattle.su_schema.specs.Defining.{numbers_of}
+use Rattle.su_schema.specs.Definitions.{numbers_of}
 use Rattle.su_schema.proofs.Numbers.{any_within}
 
 -- a first check that passes

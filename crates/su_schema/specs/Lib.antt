@@ -1,6 +1,6 @@
 pub mod Checks
 pub mod Cuts
-pub mod Defining
+pub mod Definitions
 pub mod Maps
 pub mod inside
 pub mod SchemaValue

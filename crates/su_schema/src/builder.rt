@@ -3,7 +3,7 @@ ghost use Rattle.std.specs.Prelude.{◌≡◌, ◌<◌, [], ◌⊎◌, length, I
 ghost use Rattle.su_base.specs.Name.{IsName};
 ghost use Rattle.su_schema.specs.Entries.{column_names};
 ghost use Rattle.su_schema.specs.NameChecks.{first_failing, apart_checks};
-ghost use Rattle.su_schema.specs.Defining.{applied, IsDefinitionRefusal};
+ghost use Rattle.su_schema.specs.Definitions.{applied, IsDefinitionRefusal};
 ghost use Rattle.su_schema.specs.WellNamed.{IsWellNamed};
 
 use crate::copying::copy_columns;

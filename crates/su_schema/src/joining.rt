@@ -6,7 +6,7 @@ ghost use Rattle.su_schema.specs.NameChecks.{first_failing};
 ghost use Rattle.su_schema.specs.Checks.{known_checks, pair_checks, one_kind};
 ghost use Rattle.su_schema.specs.Known.{columns_at};
 ghost use Rattle.su_schema.specs.inside.Kept.{object_on};
-ghost use Rattle.su_schema.specs.Defining.{link_of, links_of};
+ghost use Rattle.su_schema.specs.Definitions.{link_of, links_of};
 
 use crate::definitions::Pair;
 use crate::faults::SchemaFault;

@@ -1,7 +1,7 @@
 //! An object as the schema keeps it.
 ghost use Rattle.std.specs.Prelude.{◌≡◌, ◌<◌, ◌==◌, All, map, option_map, option_copied, find, IfOk};
 ghost use Rattle.std.specs.FinSet.{from_list};
-ghost use Rattle.su_schema.specs.Defining.{ascending};
+ghost use Rattle.su_schema.specs.Definitions.{ascending};
 
 use std::alloc::Global;
 use su_base::{AttrSet, List, NoMemory};

@@ -2,7 +2,7 @@
 ghost use Rattle.std.specs.Prelude.{◌≡◌, [], ◌⊎◌, IfOk, IfErr, OnOk};
 ghost use Rattle.su_schema.specs.Entries.{attribute_names, object_names, place_of};
 ghost use Rattle.su_schema.specs.NameChecks.{first_failing, name_checks};
-ghost use Rattle.su_schema.specs.Defining.{numbers_of};
+ghost use Rattle.su_schema.specs.Definitions.{numbers_of};
 
 use crate::faults::SchemaFault;
 use crate::schemas::Schema;

@@ -9,7 +9,7 @@ use Rattle.su_query.specs.declared.statements.Statement.{Statement as AStatement
 use Rattle.su_query.specs.declared.statements.Statement.TheVariants.{Load}
 use Rattle.su_query.specs.Forms.{IsForm}
 use Rattle.su_query.specs.Forms as g
-use Rattle.su_query.specs.Reading.{IsStatement, IsReady}
+use Rattle.su_query.specs.StatementTexts.{IsStatement, IsReady}
 use Rattle.su_query.proofs.Ready.{form_ready}
 use Rattle.su_query.proofs.Uniqueness.{statement_unique}
 use Rattle.su_state.specs.DatabaseValue.{DatabaseValue}
@@ -19,11 +19,11 @@ use Rattle.su_session.specs.declared.commands.Command.TheVariants.{Definition, S
 use Rattle.su_session.specs.declared.replies.Reply.{Reply}
 use Rattle.su_session.specs.Commands.{IsRead}
 use Rattle.su_session.specs.Reply.{AddsDefinition, Replied, IsDefining, begins_definition}
-use Rattle.su_session.specs.Wanting.{IsLoad}
+use Rattle.su_session.specs.WantedFiles.{IsLoad}
 use Rattle.su_session.specs.Statements.{Answers}
-use Rattle.su_session.specs.ChangingRows.{relation_number}
-use Rattle.su_session.specs.Telling.{Refuses}
-use Rattle.su_session.proofs.Wanting.{refused_wants_nothing, other_wants_nothing, unknown_wants_nothing}
+use Rattle.su_session.specs.RowStatements.{relation_number}
+use Rattle.su_session.specs.Outcomes.{Refuses}
+use Rattle.su_session.proofs.Loads.{refused_wants_nothing, other_wants_nothing, unknown_wants_nothing}
 
 -- ---- no statement begins as a definition
 

@@ -7,7 +7,7 @@ use Rattle.su_schema.specs.SchemaValue.{SchemaValue}
 use Rattle.su_schema.specs.Valid.{IsValid}
 use Rattle.su_query.specs.declared.statements.Query.{Query as AQuery}
 use Rattle.su_query.specs.declared.resolving.Resolved.{Resolved}
-use Rattle.su_query.specs.Numbering.{resolved_of}
+use Rattle.su_query.specs.NumberedConditions.{resolved_of}
 use Rattle.su_maxobj.specs.MaximalObjects.{AreMaximalObjects}
 use Rattle.su_steps.specs.declared.faults.StepFault.{StepFault}
 use Rattle.su_steps.specs.declared.results.Term.{Term}
@@ -24,9 +24,9 @@ use Rattle.su_state.specs.DatabaseValue.{DatabaseValue}
 use Rattle.su_show.specs.declared.statement_refusal.Refusal.{Refusal}
 use Rattle.su_show.specs.declared.statement_refusal.Refusal.TheVariants.{Steps}
 use Rattle.su_session.specs.declared.replies.Reply.{Reply}
-use Rattle.su_session.specs.Telling.{Accepts, Refuses}
-use Rattle.su_session.specs.ComparingForms.{AreOfOneForm, IsFormRefusal}
-use Rattle.su_session.specs.Comparing.{IsTermsRefusal, Compares}
+use Rattle.su_session.specs.Outcomes.{Accepts, Refuses}
+use Rattle.su_session.specs.ComparableQueries.{AreOfOneForm, IsFormRefusal}
+use Rattle.su_session.specs.Comparisons.{IsTermsRefusal, Compares}
 
 -- the terms of one query, which is accepted
 abbrev pub AreTermsOf : SchemaValue → List (FinSet nat_cmp) → Resolved → List Term → Type 0

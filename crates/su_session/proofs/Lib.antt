@@ -1,10 +1,9 @@
 pub mod Asked
 pub mod Certified
-pub mod Changing
+pub mod ChangeReplies
 pub mod Compared
-pub mod Counts
-pub mod Defining
+pub mod DefinitionReplies
+pub mod Loads
 pub mod Relations
 pub mod Retrieved
 pub mod Texts
-pub mod Wanting

@@ -8,15 +8,15 @@ use Rattle.su_query.specs.declared.statements.Query.{Query as AQuery}
 use Rattle.su_query.specs.declared.statements.Statement.{Statement}
 use Rattle.su_query.specs.declared.statements.Statement.TheVariants.{Retrieve}
 use Rattle.su_query.specs.Forms.{IsForm, insert, delete, delete_where, load, print, schema, closure, retrieve, explain, certify, support, compare, window}
-use Rattle.su_query.specs.Reading.{IsStatement}
+use Rattle.su_query.specs.StatementTexts.{IsStatement}
 use Rattle.su_query.proofs.Uniqueness.{statement_unique}
 use Rattle.su_state.specs.DatabaseValue.{DatabaseValue}
 use Rattle.su_show.specs.declared.statement_refusal.Refusal.{Refusal}
 use Rattle.su_session.specs.declared.replies.Reply.{Reply}
-use Rattle.su_session.specs.Telling.{Refuses}
+use Rattle.su_session.specs.Outcomes.{Refuses}
 use Rattle.su_session.specs.Reply.{begins_definition, IsDefining, RepliesStatement, Replied}
 use Rattle.su_session.specs.Statements.{Answers}
-use Rattle.su_session.specs.Retrieving.{Retrieves}
+use Rattle.su_session.specs.Retrievals.{Retrieves}
 use Rattle.su_session.specs.Laws.{RetrieveIsAnswered}
 
 -- the symbols of a statement begin no definition

@@ -5,7 +5,7 @@ use Rattle.su_schema.specs.declared.definitions.Definition.{Definition as ADefin
 use Rattle.su_ddl.specs.Grammar.{IsDefinition}
 use Rattle.su_query.specs.declared.faults.QueryFault.{QueryFault}
 use Rattle.su_query.specs.declared.faults.QueryFault.TheVariants.{Syntax, NoMemory}
-use Rattle.su_query.specs.Reading.{IsStatement, IsTextRefusal}
+use Rattle.su_query.specs.StatementTexts.{IsStatement, IsTextRefusal}
 use Rattle.su_query.specs.Limits.{HasFew}
 use Rattle.su_session.specs.declared.commands.Command.{Command}
 use Rattle.su_session.specs.declared.commands.Command.TheVariants.{Definition, Statement, Refused}

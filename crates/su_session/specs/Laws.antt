@@ -3,14 +3,14 @@
 use Rattle.std.specs.Prelude.{◌≡◌, ℕ, List, Option, false}
 use Rattle.su_query.specs.declared.statements.Query.{Query}
 use Rattle.su_query.specs.declared.statements.Statement.TheVariants.{Retrieve}
-use Rattle.su_query.specs.Reading.{IsStatement}
+use Rattle.su_query.specs.StatementTexts.{IsStatement}
 use Rattle.std.specs.Ordering.{nat_cmp}
 use Rattle.std.specs.FinSet.{FinSet}
 use Rattle.su_maxobj.specs.MaximalObjects.{AreMaximalObjects}
 use Rattle.su_state.specs.DatabaseValue.{DatabaseValue}
 use Rattle.su_session.specs.declared.replies.Reply.{Reply}
 use Rattle.su_session.specs.Reply.{Replied}
-use Rattle.su_session.specs.Retrieving.{HasTerms, ShowsAnswer}
+use Rattle.su_session.specs.Retrievals.{HasTerms, ShowsAnswer}
 
 -- what is said of a retrieve that is not refused
 pub record RetrieveIsAnswered (db : DatabaseValue) (q : Query) (reply : Reply) (new : DatabaseValue) : Type 0 where

@@ -10,14 +10,14 @@ use Rattle.su_ddl.specs.Grammar.{IsDefinition}
 use Rattle.su_query.specs.declared.statements.Statement.{Statement}
 use Rattle.su_query.specs.declared.faults.QueryFault.{QueryFault}
 use Rattle.su_query.specs.declared.faults.QueryFault.TheVariants.{Syntax}
-use Rattle.su_query.specs.Reading.{IsStatement, IsTextRefusal}
+use Rattle.su_query.specs.StatementTexts.{IsStatement, IsTextRefusal}
 use Rattle.su_query.specs.Limits.{HasFew}
 use Rattle.su_state.specs.declared.faults.DefineFault.{DefineFault}
 use Rattle.su_state.specs.DatabaseValue.{DatabaseValue}
 use Rattle.su_state.specs.Definitions.{Defines}
 use Rattle.su_show.specs.declared.statement_refusal.Refusal.TheVariants.{Query}
 use Rattle.su_session.specs.declared.replies.Reply.{Reply}
-use Rattle.su_session.specs.Telling.{Refuses, TellsDefine}
+use Rattle.su_session.specs.Outcomes.{Refuses, TellsDefine}
 use Rattle.su_session.specs.Statements.{Answers}
 
 -- the words that begin definitions

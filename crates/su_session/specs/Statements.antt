@@ -16,14 +16,14 @@ use Rattle.su_state.specs.Changes.{AreInOrder}
 use Rattle.su_show.specs.declared.statement_refusal.Refusal.TheVariants.{Query}
 use Rattle.su_show.specs.Replies.{rows_text, schema_reply, IsClosureReply}
 use Rattle.su_session.specs.declared.replies.Reply.{Reply}
-use Rattle.su_session.specs.Telling.{Accepts, Refuses}
-use Rattle.su_session.specs.Retrieving.{Retrieves}
-use Rattle.su_session.specs.Explaining.{Explains}
-use Rattle.su_session.specs.Certifying.{Certifies}
-use Rattle.su_session.specs.Supporting.{Supports}
-use Rattle.su_session.specs.Comparing.{Compares}
-use Rattle.su_session.specs.Windowing.{ShowsWindow}
-use Rattle.su_session.specs.ChangingRows.{InRelation, InsertsRow, DeletesRow, DeletesRows, LoadsRows}
+use Rattle.su_session.specs.Outcomes.{Accepts, Refuses}
+use Rattle.su_session.specs.Retrievals.{Retrieves}
+use Rattle.su_session.specs.Explanations.{Explains}
+use Rattle.su_session.specs.Certificates.{Certifies}
+use Rattle.su_session.specs.Supports.{Supports}
+use Rattle.su_session.specs.Comparisons.{Compares}
+use Rattle.su_session.specs.Windows.{ShowsWindow}
+use Rattle.su_session.specs.RowStatements.{InRelation, InsertsRow, DeletesRow, DeletesRows, LoadsRows}
 
 -- the rows of a relation in their order, as CSV
 abbrev pub PrintsRows : DatabaseValue → Reply → DatabaseValue → ℕ → Type 0

@@ -3,7 +3,7 @@ ghost use Rattle.std.specs.Prelude.{◌≡◌, ◌≤◌, IfOk, take};
 ghost use Rattle.su_schema.specs.Entries.{attribute_kinds};
 ghost use Rattle.su_maxobj.specs.MaximalObjects.{AreMaximalObjects};
 ghost use Rattle.su_query.specs.Limits.{AreFew};
-ghost use Rattle.su_session.specs.Certifying.{Certifies};
+ghost use Rattle.su_session.specs.Certificates.{Certifies};
 
 use crate::replies::{Reply, accepted, refused};
 use crate::retrieving::make_ready;

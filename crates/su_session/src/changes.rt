@@ -2,7 +2,7 @@
 ghost use Rattle.std.specs.Prelude.{◌≡◌, ◌≤◌, true, length, IfOk, OnErr};
 ghost use Rattle.su_where.specs.Truth.{comparisons_of};
 ghost use Rattle.su_query.specs.Mentions.{are_columns};
-ghost use Rattle.su_session.specs.ChangingRows.{InRelation, InsertsRow, DeletesRow, DeletesRows, LoadsRows};
+ghost use Rattle.su_session.specs.RowStatements.{InRelation, InsertsRow, DeletesRow, DeletesRows, LoadsRows};
 
 use crate::replies::{Reply, accepted, refused};
 use std::alloc::Global;

@@ -1,13 +1,13 @@
 //! Two queries compared.
 ghost use Rattle.std.specs.Prelude.{◌≡◌, ◌↔◌, ◌≤◌, length, IsTrue, OnOk, IfOk, IfErr};
 ghost use Rattle.su_maxobj.specs.MaximalObjects.{AreMaximalObjects};
-ghost use Rattle.su_query.specs.Numbering.{resolved_of};
+ghost use Rattle.su_query.specs.NumberedConditions.{resolved_of};
 ghost use Rattle.su_query.specs.Ranges.{IsResolved};
 ghost use Rattle.su_query.specs.Limits.{AreFew};
 ghost use Rattle.su_steps.specs.Refusals.{IsAccepted};
 ghost use Rattle.su_compare.specs.Within.{AreOf};
-ghost use Rattle.su_session.specs.ComparingForms.{AskEqualities, AreOfOneForm, IsFormRefusal};
-ghost use Rattle.su_session.specs.Comparing.{IsTermsRefusal, Compares};
+ghost use Rattle.su_session.specs.ComparableQueries.{AskEqualities, AreOfOneForm, IsFormRefusal};
+ghost use Rattle.su_session.specs.Comparisons.{IsTermsRefusal, Compares};
 
 use crate::replies::{Reply, accepted, refused};
 use std::alloc::Global;

@@ -1,7 +1,7 @@
 //! The reply to a statement.
 ghost use Rattle.std.specs.Prelude.{◌≡◌, ◌++◌, IfOk};
-ghost use Rattle.su_show.specs.Refusing.{refusal_line, IsNoMemory};
-ghost use Rattle.su_session.specs.Telling.{Accepts, Refuses};
+ghost use Rattle.su_show.specs.RefusalLines.{refusal_line, IsNoMemory};
+ghost use Rattle.su_session.specs.Outcomes.{Accepts, Refuses};
 
 use std::alloc::Global;
 use su_base::{List, NoMemory};

@@ -1,11 +1,11 @@
 //! Queries over the universal relation.
 ghost use Rattle.std.specs.Prelude.{◌≡◌, ◌≤◌, IfOk, IfErr};
 ghost use Rattle.su_maxobj.specs.MaximalObjects.{AreMaximalObjects};
-ghost use Rattle.su_query.specs.Numbering.{resolved_of};
+ghost use Rattle.su_query.specs.NumberedConditions.{resolved_of};
 ghost use Rattle.su_query.specs.Limits.{AreFew};
 ghost use Rattle.su_answer.specs.Prepared.{IsPrepared};
-ghost use Rattle.su_session.specs.Retrieving.{IsRefusalOf, HasTerms, Retrieves};
-ghost use Rattle.su_session.specs.Explaining.{Explains};
+ghost use Rattle.su_session.specs.Retrievals.{IsRefusalOf, HasTerms, Retrieves};
+ghost use Rattle.su_session.specs.Explanations.{Explains};
 
 use crate::replies::{Reply, accepted, refused};
 use std::alloc::Global;

@@ -71,18 +71,18 @@ fn content<'a>(file: Option<&'a [u8]>) -> &'a [u8]
 }
 
 impl Session {
-    ghost use Rattle.su_session.specs.Opening.{empty_database};
+    ghost use Rattle.su_session.specs.EmptyDatabase.{empty_database};
     ghost use Rattle.su_session.specs.Commands.{IsRead, WasRead};
     ghost use Rattle.su_session.specs.Reply.{Replied};
-    ghost use Rattle.su_session.specs.Wanting.{Wants};
+    ghost use Rattle.su_session.specs.WantedFiles.{Wants};
     ghost use Rattle.su_session.specs.Statements.{Answers};
     ghost use Rattle.su_state.specs.DatabaseValue.{IsWellKept};
     ghost use Rattle.su_query.specs.Limits.{AreFew, HasFew};
-    ghost use Rattle.su_query.specs.Reading.{IsReady};
-    ghost use Rattle.su_session.specs.Retrieving.{Retrieves};
-    ghost use Rattle.su_session.specs.Explaining.{Explains};
-    ghost use Rattle.su_session.specs.Certifying.{Certifies};
-    ghost use Rattle.su_session.specs.Supporting.{Supports};
+    ghost use Rattle.su_query.specs.StatementTexts.{IsReady};
+    ghost use Rattle.su_session.specs.Retrievals.{Retrieves};
+    ghost use Rattle.su_session.specs.Explanations.{Explains};
+    ghost use Rattle.su_session.specs.Certificates.{Certifies};
+    ghost use Rattle.su_session.specs.Supports.{Supports};
 
     /// A session on a schema whose relations are empty.
     pub fn open(alloc: Global, schema: Schema) -> Result<Session, NoMemory>

@@ -2,7 +2,7 @@
 ghost use Rattle.std.specs.Prelude.{◌≡◌, IfOk};
 ghost use Rattle.su_maxobj.specs.MaximalObjects.{AreMaximalObjects};
 ghost use Rattle.su_schema.specs.Entries.{column_names};
-ghost use Rattle.su_session.specs.ChangingRows.{InRelation};
+ghost use Rattle.su_session.specs.RowStatements.{InRelation};
 ghost use Rattle.su_session.specs.Statements.{PrintsRows, ShowsSchema, ShowsClosure};
 
 use crate::replies::{Reply, accepted, refused};

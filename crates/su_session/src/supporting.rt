@@ -2,7 +2,7 @@
 ghost use Rattle.std.specs.Prelude.{◌≤◌, IfOk};
 ghost use Rattle.su_maxobj.specs.MaximalObjects.{AreMaximalObjects};
 ghost use Rattle.su_query.specs.Limits.{AreFew};
-ghost use Rattle.su_session.specs.Supporting.{Supports};
+ghost use Rattle.su_session.specs.Supports.{Supports};
 
 use crate::replies::{Reply, accepted, refused};
 use crate::retrieving::make_ready;

@@ -4,7 +4,7 @@ ghost use Rattle.su_schema.specs.Entries.{attribute_names};
 ghost use Rattle.su_query.specs.Scopes.{first_unknown_name};
 ghost use Rattle.su_query.specs.Sets.{IsNameRefusal};
 ghost use Rattle.su_window.specs.Cuts.{width};
-ghost use Rattle.su_session.specs.Windowing.{attribute_numbers, ShowsWindow};
+ghost use Rattle.su_session.specs.Windows.{attribute_numbers, ShowsWindow};
 
 use crate::replies::{Reply, accepted, refused};
 use std::alloc::Global;

@@ -1,9 +1,9 @@
 pub mod Changes
-pub mod Explaining
+pub mod Explanations
 pub mod Lines
 pub mod MinimalLines
 pub mod Refusals
-pub mod Refusing
+pub mod RefusalLines
 pub mod Replies
 pub mod Supports
 pub mod Symbols

@@ -12,7 +12,7 @@ use Rattle.su_min.specs.declared.reduced.Cover.{Cover}
 use Rattle.su_min.specs.declared.reduced.Reduced.{Reduced}
 use Rattle.su_min.specs.Kept.{Minimised}
 use Rattle.su_show.specs.Lines.{AreLines}
-use Rattle.su_lex.specs.Wording.{numbers_text}
+use Rattle.su_lex.specs.Wordings.{numbers_text}
 use Rattle.su_show.specs.Values.{objects_text}
 
 -- the kept rows

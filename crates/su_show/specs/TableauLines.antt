@@ -11,7 +11,7 @@ use Rattle.su_query.specs.declared.resolving.Resolved.{Resolved}
 use Rattle.su_query.specs.Operands.{op_sym}
 use Rattle.su_steps.specs.declared.results.Term.{Term}
 use Rattle.su_show.specs.Symbols.{symbol_at}
-use Rattle.su_lex.specs.Wording.{numbers_text}
+use Rattle.su_lex.specs.Wordings.{numbers_text}
 use Rattle.su_show.specs.RowLines.{symbols_text, row_lines}
 
 -- the term's number, its disjunct, and for each variable its maximal object

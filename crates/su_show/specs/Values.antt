@@ -13,7 +13,7 @@ use Rattle.su_schema.specs.SchemaValue.{SchemaValue}
 use Rattle.su_schema.specs.Entries.{attribute_names, object_names}
 use Rattle.su_ddl.specs.ShownDefinitions.{names_in}
 use Rattle.su_query.specs.Operands.{value_sym}
-use Rattle.su_lex.specs.Wording.{in_parens}
+use Rattle.su_lex.specs.Wordings.{in_parens}
 use Rattle.su_query.specs.ShownParts.{listed, value_symbols}
 
 -- each name behind a space

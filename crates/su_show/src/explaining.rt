@@ -1,6 +1,6 @@
 //! The explanation of a query.
 ghost use Rattle.std.specs.Prelude.{◌≡◌, ◌++◌, ◌<◌, length, IfOk, OnOk};
-ghost use Rattle.su_show.specs.Explaining.{query_line, variables_line, last_line, IsTermText, IsExplanation};
+ghost use Rattle.su_show.specs.Explanations.{query_line, variables_line, last_line, IsTermText, IsExplanation};
 
 use crate::minimal_lines::{push_end, push_minimal};
 use crate::parts::{push, push_number};

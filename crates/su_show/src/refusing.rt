@@ -2,7 +2,7 @@
 ghost use Rattle.std.specs.Prelude.{◌≡◌, ◌≢◌, ◌++◌, codes, decimal, flat_map, IfOk, OnOk};
 ghost use Rattle.su_show.specs.QueryCauses.{kind_text, query_limit_text, query_fault_text, variable_text, step_limit_text, step_text};
 ghost use Rattle.su_show.specs.RowCauses.{column_text, state_text, record_text, csv_text};
-ghost use Rattle.su_show.specs.Refusing.{define_text, inconsistent_text, refusal_text, refusal_line, IsNoMemory};
+ghost use Rattle.su_show.specs.RefusalLines.{define_text, inconsistent_text, refusal_text, refusal_line, IsNoMemory};
 ghost use Rattle.su_show.specs.Values.{attributes_text};
 ghost use Rattle.su_show.specs.Refusals.{cause_text};
 

@@ -8,7 +8,7 @@ ghost use Rattle.su_ddl.specs.ShownDefinitions.{name_at};
 ghost use Rattle.su_query.specs.Operands.{op_sym};
 ghost use Rattle.su_show.specs.QueryCauses.{variable_text};
 ghost use Rattle.su_show.specs.Symbols.{variable_at};
-ghost use Rattle.su_lex.specs.Wording.{numbers_text};
+ghost use Rattle.su_lex.specs.Wordings.{numbers_text};
 ghost use Rattle.su_show.specs.RowLines.{symbols_text, cell_text, row_lines};
 ghost use Rattle.su_show.specs.TableauLines.{term_line, head_line, operator_at, compare_line, compare_lines, tableau_lines};
 

@@ -1,5 +1,5 @@
-pub mod Choosing
-pub mod Listing
+pub mod Choices
+pub mod ImageLists
 pub mod Meaning
 pub mod Stored
 pub mod Written

@@ -14,13 +14,13 @@ use Rattle.su_min.specs.Reduction.{term_at}
 use Rattle.su_answer.specs.declared.preparing.Prepared.{Prepared}
 use Rattle.su_answer.specs.Prepared.{IsPrepared}
 use Rattle.su_answer.specs.Answers.{IsTermAnswer}
-use Rattle.su_answer.proofs.Zipping.{zip_first, zip_second}
+use Rattle.su_answer.proofs.PairedLists.{zip_first, zip_second}
 use Rattle.su_sql.specs.declared.tables.Select.{Select}
 use Rattle.su_sql.specs.Selects.{IsSelected}
 use Rattle.su_sql.specs.Stored.{AreStored}
-use Rattle.su_sql.specs.Making.{IsSelectOf}
+use Rattle.su_sql.specs.TermSelects.{IsSelectOf}
 use Rattle.su_sql.specs.Meaning.{MeanAnswers, GiveAnswer}
-use Rattle.su_sql.proofs.Choosing.{selected_is_output}
+use Rattle.su_sql.proofs.Choices.{selected_is_output}
 use Rattle.su_sql.proofs.Stored.{outputs_are_answers}
 
 -- one select gives the answers of its term

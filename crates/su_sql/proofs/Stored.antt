@@ -19,7 +19,7 @@ use Rattle.su_tableau.specs.declared.symbols.Sym.TheVariants.{Var}
 use Rattle.su_tableau.specs.Tableaux.{Tab, IsValid}
 use Rattle.su_tableau.specs.Valuations.{nth, value_of, values_of, AreCompared, Cut}
 use Rattle.su_tableau.specs.Essential.{HasSymbol, IsEssential}
-use Rattle.su_tableau.proofs.Listing.{listed}
+use Rattle.su_tableau.proofs.ValuationLists.{listed}
 use Rattle.su_schema.specs.Entries.{column_of}
 use Rattle.su_schema.specs.Valid as schemas
 use Rattle.su_map.specs.Lists.{row_numbers}
@@ -34,9 +34,9 @@ use Rattle.su_steps.proofs.Lists.{all_by, contains_map, of_map, contains_filter,
 use Rattle.su_answer.specs.Answers.{IsRead, StoredAnswer}
 use Rattle.su_answer.specs.Joined.{numbers_in, cell, IsTaskRowOf, comparison_at, IsTaskOf}
 use Rattle.su_answer.proofs.Joined.{in_rows, of_rows}
-use Rattle.su_answer.proofs.Reading.{reads_each, each_read}
+use Rattle.su_answer.proofs.ColumnValues.{reads_each, each_read}
 use Rattle.su_base.proofs.Items.{Contains-range, Contains-range_below}
-use Rattle.su_answer.proofs.Zipping.{zip_first, zip_second}
+use Rattle.su_answer.proofs.PairedLists.{zip_first, zip_second}
 use Rattle.su_sql.specs.Stored.{AreStored}
 
 -- a stored row is as wide as its relation

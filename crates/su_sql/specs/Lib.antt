@@ -1,6 +1,6 @@
 pub mod Selects
 pub mod Stored
-pub mod Making
+pub mod TermSelects
 pub mod Texts
 pub mod Queries
 pub mod Changes
@@ -13,8 +13,8 @@ pub mod Meaning
 pub mod Operands
 pub mod Accepted
 pub mod Conditions
-pub mod Joining
+pub mod TaskJoins
 pub mod Clauses
-pub mod Choosing
+pub mod Choices
 pub mod QueryReplies
 pub mod Names

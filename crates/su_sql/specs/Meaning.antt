@@ -17,7 +17,7 @@ use Rattle.su_sql.specs.declared.tables.Operand.TheVariants as operand
 use Rattle.su_sql.specs.declared.tables.Select.{Select}
 use Rattle.su_sql.specs.Selects.{IsInUnion, AreRowsOf}
 use Rattle.su_sql.specs.Stored.{AreStored}
-use Rattle.su_sql.specs.Making.{IsSelectOf}
+use Rattle.su_sql.specs.TermSelects.{IsSelectOf}
 
 -- over any stored rows the selects give exactly the answers of the query
 abbrev pub MeanAnswers : SchemaValue → Prepared → List Select → Type 0

@@ -6,14 +6,14 @@ use Rattle.std.specs.FinSet.{FinSet}
 use Rattle.su_schema.specs.SchemaValue.{SchemaValue}
 use Rattle.su_maxobj.specs.MaximalObjects.{AreMaximalObjects}
 use Rattle.su_query.specs.declared.statements.Query.{Query}
-use Rattle.su_query.specs.Numbering.{resolved_of}
+use Rattle.su_query.specs.NumberedConditions.{resolved_of}
 use Rattle.su_state.specs.DatabaseValue.{DatabaseValue}
 use Rattle.su_show.specs.declared.statement_refusal.Refusal.{Refusal}
-use Rattle.su_show.specs.Refusing.{refusal_line, IsNoMemory}
+use Rattle.su_show.specs.RefusalLines.{refusal_line, IsNoMemory}
 use Rattle.su_show.specs.Replies.{header_of}
 use Rattle.su_session.specs.declared.replies.Reply.{Reply}
-use Rattle.su_session.specs.Retrieving.{IsRefusalOf, HasTerms}
-use Rattle.su_session.specs.Telling.{Accepts}
+use Rattle.su_session.specs.Retrievals.{IsRefusalOf, HasTerms}
+use Rattle.su_session.specs.Outcomes.{Accepts}
 use Rattle.su_sql.specs.declared.dialects.Dialect.{Dialect}
 use Rattle.su_sql.specs.declared.tables.Select.{Select}
 use Rattle.su_sql.specs.Meaning.{AreSelectsOf}

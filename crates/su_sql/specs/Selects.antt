@@ -9,7 +9,7 @@ use Rattle.su_base.specs.declared.values.Value.{Value}
 use Rattle.su_base.specs.Value.{compare_lists}
 use Rattle.su_rel.specs.Stored.{Stored}
 use Rattle.su_sql.specs.declared.tables.Select.{Select}
-use Rattle.su_sql.specs.Choosing.{IsRowOf, operand_value, Joins, Fixes, Compares}
+use Rattle.su_sql.specs.Choices.{IsRowOf, operand_value, Joins, Fixes, Compares}
 
 -- h is what some choice that meets the conditions gives
 pub record IsSelected (stored : List Stored) (s : Select) (h : List Value) : Type 0 where

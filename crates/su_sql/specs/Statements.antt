@@ -6,11 +6,11 @@ use Rattle.su_query.specs.declared.faults.QueryFault.{QueryFault}
 use Rattle.su_query.specs.declared.faults.QueryFault.TheVariants.{NoMemory}
 use Rattle.su_query.specs.declared.statements.Statement.{Statement}
 use Rattle.su_query.specs.declared.statements.Statement.TheVariants.{Load, Retrieve}
-use Rattle.su_query.specs.Reading.{IsStatement, IsTextRefusal}
+use Rattle.su_query.specs.StatementTexts.{IsStatement, IsTextRefusal}
 use Rattle.su_state.specs.DatabaseValue.{DatabaseValue}
 use Rattle.su_session.specs.declared.replies.Reply.{Reply}
 use Rattle.su_session.specs.Reply.{Replied}
-use Rattle.su_session.specs.Telling.{Accepts}
+use Rattle.su_session.specs.Outcomes.{Accepts}
 use Rattle.su_sql.specs.declared.dialects.Dialect.{Dialect}
 use Rattle.su_sql.specs.Comments.{load_text}
 use Rattle.su_sql.specs.Accepted.{number_of_relation, accepted_text, defined_text}

@@ -29,5 +29,5 @@ pub use dialects::Dialect;
 pub use making::selects;
 pub use scripts::script;
 pub use statements::statement;
-pub use tables::{Comparison, Fixed, Join, Operand, CellPlace, Select, Table};
+pub use tables::{CellPlace, Comparison, Fixed, Join, Operand, Select, Table};
 pub use writing::query;

@@ -1,10 +1,10 @@
 //! What the cells ask of their places: equal symbols stand for equal values.
 ghost use Rattle.std.specs.Prelude.{◌≡◌, ◌++◌, map, OnOk, IfOk};
-ghost use Rattle.su_sql.specs.Joining.{operand_of, comparison_of, joins_at, joins_of, fixed_at, fixed_of};
+ghost use Rattle.su_sql.specs.TaskJoins.{operand_of, comparison_of, joins_at, joins_of, fixed_at, fixed_of};
 ghost use Rattle.su_sql.specs.Cells.{is_variable, is_same, first_place};
 
 use crate::cells::Cell;
-use crate::tables::{Comparison, Fixed, Join, Operand, CellPlace};
+use crate::tables::{CellPlace, Comparison, Fixed, Join, Operand};
 use std::alloc::Global;
 use su_base::{List, NoMemory};
 use su_exec::Compared;

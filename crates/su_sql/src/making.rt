@@ -5,7 +5,7 @@ ghost use Rattle.su_tableau.specs.Kinds.{IsTyped};
 ghost use Rattle.su_schema.specs.Entries.{attribute_kinds};
 ghost use Rattle.su_min.specs.Reduction.{term_at};
 ghost use Rattle.su_answer.specs.Prepared.{IsPreparedFor};
-ghost use Rattle.su_sql.specs.Making.{table_of, select_of, IsSelectOf};
+ghost use Rattle.su_sql.specs.TermSelects.{table_of, select_of, IsSelectOf};
 ghost use Rattle.su_sql.specs.Meaning.{MeanAnswers};
 
 use crate::cells::cells_of;

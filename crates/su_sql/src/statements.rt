@@ -1,16 +1,16 @@
 //! One statement of a script as SQL.
 ghost use Rattle.std.specs.Prelude.{◌≡◌, ◌≤◌, if◌then◌else◌, nat_lt, length, IfOk, IfErr, OnOk};
 ghost use Rattle.su_maxobj.specs.MaximalObjects.{AreMaximalObjects};
-ghost use Rattle.su_query.specs.Numbering.{resolved_of};
+ghost use Rattle.su_query.specs.NumberedConditions.{resolved_of};
 ghost use Rattle.su_query.specs.Limits.{AreFew, HasFew};
 ghost use Rattle.su_sql.specs.Changes.{create_text};
 ghost use Rattle.su_sql.specs.Comments.{comment_text};
 ghost use Rattle.su_sql.specs.QueryReplies.{RefusesWith, WritesQuery};
 ghost use Rattle.su_sql.specs.Statements.{WritesReply, WritesStatement, WritesDefinition, Writes};
 ghost use Rattle.su_sql.specs.Accepted.{accepted_text};
-ghost use Rattle.su_show.specs.Refusing.{refusal_line, IsNoMemory};
-ghost use Rattle.su_session.specs.Retrieving.{IsRefusalOf, HasTerms};
-ghost use Rattle.su_session.specs.Telling.{Accepts};
+ghost use Rattle.su_show.specs.RefusalLines.{refusal_line, IsNoMemory};
+ghost use Rattle.su_session.specs.Retrievals.{IsRefusalOf, HasTerms};
+ghost use Rattle.su_session.specs.Outcomes.{Accepts};
 ghost use Rattle.su_sql.specs.Meaning.{AreSelectsOf};
 
 use crate::changes::{create, delete, delete_where, insert, print};

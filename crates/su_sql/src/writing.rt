@@ -10,7 +10,7 @@ ghost use Rattle.su_sql.specs.Operands.{place_text, operand_kind, operand_text, 
 use crate::dialects::Dialect;
 use crate::parts::{push, push_led, push_number};
 use crate::sources::{kind_from, push_value_name, sources_at, table_parts};
-use crate::tables::{Comparison, Fixed, Join, Operand, CellPlace, Select, Table};
+use crate::tables::{CellPlace, Comparison, Fixed, Join, Operand, Select, Table};
 use crate::words::{collation, operator, push_name, push_value};
 use std::alloc::Global;
 use su_base::{Kind, List, NoMemory, Str};

@@ -17,7 +17,7 @@ use Rattle.su_schema.specs.Entries.{relation_columns}
 use Rattle.su_schema.specs.Checks.{checks}
 use Rattle.su_schema.specs.NameChecks.{first_failing}
 use Rattle.su_schema.specs.Known.{columns_at}
-use Rattle.su_schema.specs.Defining.{applied, extended, outcome}
+use Rattle.su_schema.specs.Definitions.{applied, extended, outcome}
 use Rattle.su_index.specs.Tables.{table_at}
 use Rattle.su_state.specs.DatabaseValue.{DatabaseValue, rows_in, HasColumnKinds, IsWellKept}
 use Rattle.su_state.specs.Enforced.{HoldsOn}
@@ -25,7 +25,7 @@ use Rattle.su_state.specs.Definitions.{tables_with, Defines}
 use Rattle.su_state.specs.Breaks.{BreaksThrough, HoldsThrough, NewBreaks}
 use Rattle.su_state.specs.declared.faults.DefineFault.{DefineFault}
 use Rattle.su_state.specs.declared.faults.DefineFault.TheVariants.{Schema, Breaks, NoMemory}
-use Rattle.su_state.specs.inside.Adding.{HaveTables, HasAdded, IsNarrow, AddedHolds, IsAddedFault}
+use Rattle.su_state.specs.inside.AddedDefinitions.{HaveTables, HasAdded, IsNarrow, AddedHolds, IsAddedFault}
 use Rattle.su_state.proofs.Columns.{object_on}
 use Rattle.su_state.proofs.Empty.{empty_table, no_rows, at_width}
 use Rattle.su_state.proofs.Kept.{blank}

@@ -6,7 +6,7 @@ use Rattle.std.proofs.lemmas.List.{get_or_read}
 use Rattle.su_base.specs.declared.values.Value.{Value}
 use Rattle.su_fd.specs.declared.dependencies.Fd.{Fd}
 use Rattle.su_rel.specs.Stored.{Stored}
-use Rattle.su_fd.specs.Meeting.{LiesIn}
+use Rattle.su_fd.specs.MetDependencies.{LiesIn}
 use Rattle.su_schema.specs.SchemaValue.{SchemaValue, ObjectEntry}
 use Rattle.su_schema.specs.Entries.{attributes_of}
 use Rattle.su_schema.specs.Known.{columns_at}
@@ -18,7 +18,7 @@ use Rattle.su_state.specs.inside.Sides.{AreSidesOf, Clash, IsLeastClash, row_at}
 use Rattle.su_state.specs.inside.Pairs.{IsLeastPair}
 use Rattle.su_state.specs.Breaches.{IsBreach, IsLeastBreach}
 use Rattle.su_state.specs.Breaks.{IsLeastBreak, BreaksThrough, HoldsThrough}
-use Rattle.su_state.specs.inside.Adding.{HaveTables}
+use Rattle.su_state.specs.inside.AddedDefinitions.{HaveTables}
 use Rattle.su_state.proofs.Columns.{break_from_clash, clash_from_break}
 
 module _ (schema : SchemaValue) (relation : ℕ) (rows : List (List Value)) (row : List Value) (f o : ℕ) (fd : Fd) (entry : ObjectEntry) (numbered : slice_get schema.fds f ≡ Some fd) (placed : slice_get schema.objects o ≡ Some entry) where

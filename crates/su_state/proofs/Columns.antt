@@ -17,7 +17,7 @@ use Rattle.su_schema.specs.SchemaValue.{SchemaValue, ObjectEntry, RelationEntry}
 use Rattle.su_schema.specs.Valid.{IsValid, IsObject, IsLink, IsRelationEntry, IsDependency}
 use Rattle.su_schema.specs.Entries.{column_of, attributes_of, relation_columns}
 use Rattle.su_schema.specs.Known.{columns_at}
-use Rattle.su_schema.proofs.Ascending.{found}
+use Rattle.su_schema.proofs.LinkOrder.{found}
 use Rattle.su_state.specs.Enforced.{read, AgreeThrough, Break}
 use Rattle.su_state.specs.declared.sides.Sides.{Sides}
 use Rattle.su_state.specs.inside.Sides.{AreColumnsOf, AreSidesOf, AgreeAt, Clash}

@@ -7,7 +7,7 @@ use Rattle.su_rel.specs.Stored.{Stored}
 use Rattle.su_schema.specs.declared.definitions.Definition.{Definition}
 use Rattle.su_schema.specs.declared.definitions.Definition.TheVariants.{Relation}
 use Rattle.su_schema.specs.SchemaValue.{SchemaValue}
-use Rattle.su_schema.specs.Defining.{applied}
+use Rattle.su_schema.specs.Definitions.{applied}
 use Rattle.su_state.specs.declared.faults.DefineFault.{DefineFault}
 use Rattle.su_state.specs.declared.faults.DefineFault.TheVariants.{Schema, Breaks, NoMemory}
 use Rattle.su_state.specs.DatabaseValue.{DatabaseValue}

@@ -1,7 +1,7 @@
 pub mod Changes
 pub mod DatabaseValue
 pub mod Definitions
-pub mod Filling
+pub mod AdmissibleRows
 pub mod inside
 pub mod Loads
 pub mod Views

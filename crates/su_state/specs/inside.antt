@@ -1,5 +1,5 @@
 -- Definitions that only contracts of private functions need.
-pub mod Adding
+pub mod AddedDefinitions
 pub mod LoadEnds
 pub mod Leads
 pub mod Pairs

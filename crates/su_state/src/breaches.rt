@@ -3,7 +3,7 @@ ghost use Rattle.std.specs.Prelude.{◌≡◌, ◌<◌, ℕ, List, length, Match
 ghost use Rattle.su_base.specs.declared.values.Value.{Value};
 ghost use Rattle.su_schema.specs.Known.{columns_at};
 ghost use Rattle.su_state.specs.Breaches.{IsBreach, IsLeastBreach, IsFirstBreach, NoBreach};
-ghost use Rattle.su_state.specs.Filling.{KeepThrough};
+ghost use Rattle.su_state.specs.AdmissibleRows.{KeepThrough};
 ghost use Rattle.su_state.specs.inside.Sides.{row_at};
 
 use crate::clashes::least_breach;

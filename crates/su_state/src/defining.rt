@@ -1,10 +1,10 @@
 //! Definitions in a database.
 ghost use Rattle.std.specs.Prelude.{◌≡◌, ◌<◌, ℕ, length, IfOk, OnOk, IfErr, OnErr};
-ghost use Rattle.su_schema.specs.Defining.{IsDefinitionRefusal, applied};
+ghost use Rattle.su_schema.specs.Definitions.{IsDefinitionRefusal, applied};
 ghost use Rattle.su_schema.specs.WellNamed.{IsWellNamed};
 ghost use Rattle.su_state.specs.Breaks.{HoldsThrough};
 ghost use Rattle.su_state.specs.Definitions.{Defines, tables_with};
-ghost use Rattle.su_state.specs.inside.Adding.{HaveTables, HasAdded, IsNarrow, AddedHolds, IsThroughFault, IsFdFault, IsObjectFault, IsAddedFault};
+ghost use Rattle.su_state.specs.inside.AddedDefinitions.{HaveTables, HasAdded, IsNarrow, AddedHolds, IsThroughFault, IsFdFault, IsObjectFault, IsAddedFault};
 
 use crate::databases::Database;
 use crate::faults::DefineFault;

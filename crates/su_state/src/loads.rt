@@ -2,7 +2,7 @@
 ghost use Rattle.std.specs.Prelude.{◌<◌, length};
 ghost use Rattle.su_state.specs.Loads.{Loads, InsertsSome};
 ghost use Rattle.su_state.specs.inside.LoadEnds.{IsEnd};
-ghost use Rattle.su_state.specs.Filling.{MayTake};
+ghost use Rattle.su_state.specs.AdmissibleRows.{MayTake};
 
 use crate::copies::copy_table;
 use crate::databases::Database;

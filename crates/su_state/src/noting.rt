@@ -1,7 +1,7 @@
 //! Notes of the rows by the left sides of the enforced dependencies, so that an insert looks them up at
 //! once. They are an optimisation: no row changes, and no clause says that a note is there.
 ghost use Rattle.std.specs.Prelude.{◌≡◌, ◌<◌, length};
-ghost use Rattle.su_state.specs.inside.Adding.{HaveTables};
+ghost use Rattle.su_state.specs.inside.AddedDefinitions.{HaveTables};
 
 use crate::databases::Database;
 use crate::sides::sides_through;

@@ -3,7 +3,7 @@ ghost use Rattle.std.specs.Prelude.{◌≡◌, ◌<◌, ◌≤◌, ◌↔◌, �
 ghost use Rattle.std.specs.FinSet as set;
 ghost use Rattle.su_schema.specs.SchemaValue.{ObjectEntry};
 ghost use Rattle.su_schema.specs.Entries.{attributes_of, column_of};
-ghost use Rattle.su_fd.specs.Meeting.{LiesIn};
+ghost use Rattle.su_fd.specs.MetDependencies.{LiesIn};
 ghost use Rattle.su_state.specs.inside.Sides.{AreColumnsOf, AreSidesOf, AgreeAt, Clash};
 
 use su_base::{AttrSet, Row, Value};

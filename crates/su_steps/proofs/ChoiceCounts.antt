@@ -12,7 +12,7 @@ use Rattle.su_base.proofs.Items.{Contains-later, Contains-cases, Contains-nil, C
 use Rattle.su_schema.specs.SchemaValue.{SchemaValue}
 use Rattle.su_steps.specs.Objects.{objects_of}
 use Rattle.su_steps.specs.Choices.{combinations, chosen_objects, origin, origins_from, origins_of}
-use Rattle.su_steps.specs.inside.Counting.{object_count, most_objects, objects_in}
+use Rattle.su_steps.specs.inside.RowCounts.{object_count, most_objects, objects_in}
 
 -- ---- how many
 

@@ -10,7 +10,7 @@ use Rattle.su_where.specs.declared.operators.Op.TheVariants.{Equal}
 use Rattle.su_where.specs.Operator.{compares}
 use Rattle.su_tableau.specs.Tableaux.{Tab}
 use Rattle.su_tableau.specs.Valuations.{value_of, values_of, Ext, Cut}
-use Rattle.su_tableau.proofs.Listing.{ExtBy, by_list, from_list}
+use Rattle.su_tableau.proofs.ValuationLists.{ExtBy, by_list, from_list}
 use Rattle.su_steps.proofs.Lists.{all_by}
 use Rattle.su_steps.proofs.ClassNames.{AllHold, CutBy}
 

@@ -22,7 +22,7 @@ use Rattle.su_classes.proofs.Places.{IsNumbering, numbering}
 use Rattle.su_classes.proofs.Named.{same_rep, same_name, item_class, table_names}
 use Rattle.su_schema.specs.SchemaValue.{SchemaValue}
 use Rattle.su_steps.specs.declared.results.Origin.{Origin}
-use Rattle.su_fd.specs.Meeting.{LiesIn}
+use Rattle.su_fd.specs.MetDependencies.{LiesIn}
 use Rattle.su_steps.specs.Objects.{width, attributes_at}
 use Rattle.su_steps.specs.PairSymbols.{SymbolComparison, pair}
 use Rattle.su_steps.specs.Classes.{SameLabels, IsClosedForCase, InClass, IsNaming}

@@ -10,7 +10,7 @@ pub mod Valid
 pub mod ResolvedQueries
 pub mod Chosen
 pub mod Union
-pub mod Passing
+pub mod PassingNumbers
 pub mod ChoiceCounts
 pub mod ConstantNames
 pub mod ItemLabels
@@ -28,4 +28,4 @@ pub mod Closed
 pub mod Termed
 pub mod Origins
 pub mod Validity
-pub mod Cutting
+pub mod ValueCuts

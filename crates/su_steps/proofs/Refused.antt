@@ -6,7 +6,7 @@ use Rattle.std.specs.FinSet.{FinSet}
 use Rattle.std.proofs.lemmas.Bool.Decides.{nat_tests}
 use Rattle.std.proofs.Math.Nat.{zero-mul}
 use Rattle.std.proofs.lemmas.List.Elements.{Contains-get_or}
-use Rattle.su_base.proofs.Growing.{position-None}
+use Rattle.su_base.proofs.RemainingSets.{position-None}
 use Rattle.su_where.specs.Disjunct.{disjuncts_of}
 use Rattle.su_base.proofs.Combinations.{same_or_many}
 use Rattle.su_schema.specs.SchemaValue.{SchemaValue}
@@ -15,7 +15,7 @@ use Rattle.su_query.specs.Sets.{mentioned_with}
 use Rattle.su_steps.specs.declared.faults.StepFault.{StepFault}
 use Rattle.su_steps.specs.declared.faults.StepFault.TheVariants.{NotCovered}
 use Rattle.su_steps.specs.Choices.{coverings, choices}
-use Rattle.su_steps.specs.inside.Counting.{objects_in}
+use Rattle.su_steps.specs.inside.RowCounts.{objects_in}
 use Rattle.su_steps.specs.Limits.{disjunct_count, HasFewDisjuncts, HasFewRows, HasFewTerms, HasManyRows}
 use Rattle.su_steps.specs.Refusals.{IsCovered, IsStepRefusal}
 use Rattle.su_steps.proofs.ChoiceCounts.{row_count_is, total_at, total_of}

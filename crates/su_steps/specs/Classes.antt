@@ -9,10 +9,10 @@ use Rattle.su_fd.specs.declared.dependencies.Fd.{Fd}
 use Rattle.su_where.specs.declared.operators.Op.TheVariants.{Equal}
 use Rattle.su_tableau.specs.declared.symbols.Sym.{Sym}
 use Rattle.su_tableau.specs.declared.symbols.Sym.TheVariants.{Var}
-use Rattle.su_classes.specs.Naming as naming
+use Rattle.su_classes.specs.ClassNames as naming
 use Rattle.su_schema.specs.SchemaValue.{SchemaValue}
 use Rattle.su_steps.specs.declared.results.Origin.{Origin}
-use Rattle.su_fd.specs.Meeting.{LiesIn}
+use Rattle.su_fd.specs.MetDependencies.{LiesIn}
 use Rattle.su_steps.specs.Objects.{width, attributes_at}
 use Rattle.su_steps.specs.PairSymbols.{SymbolComparison, pair}
 

@@ -9,7 +9,7 @@ use Rattle.su_base.specs.Value.{kind_of}
 use Rattle.su_where.specs.Truth.{truth_of}
 use Rattle.su_schema.specs.SchemaValue.{SchemaValue}
 use Rattle.su_schema.specs.Entries.{attribute_kinds}
-pub use Rattle.su_fd.specs.Meeting.{Agree, Meets}
+pub use Rattle.su_fd.specs.MetDependencies.{Agree, Meets}
 pub use Rattle.su_schema.specs.Cuts.{cut_from, cut, cuts}
 use Rattle.su_query.specs.declared.places.Place.{Place}
 use Rattle.su_query.specs.declared.resolving.Resolved.{Resolved}

@@ -5,7 +5,7 @@ ghost use Rattle.std.specs.FinSet as set;
 ghost use Rattle.su_query.specs.Ranges.{IsPlaceAmong};
 ghost use Rattle.su_steps.specs.Objects.{covers};
 ghost use Rattle.su_steps.specs.Choices.{combinations, coverings as coverings_in};
-ghost use Rattle.su_steps.specs.inside.Counting.{most_objects, objects_in};
+ghost use Rattle.su_steps.specs.inside.RowCounts.{most_objects, objects_in};
 
 use crate::objects::{attributes_together, object_count};
 use std::alloc::Global;

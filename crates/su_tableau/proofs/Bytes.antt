@@ -10,9 +10,9 @@ use Rattle.su_tableau.specs.Tableaux.{Tab}
 use Rattle.su_tableau.specs.Valuations.{value_of, values_of}
 use Rattle.su_tableau.specs.Kinds.{Kinds, IsTyped}
 use Rattle.su_tableau.specs.Equivalent.{IsWithin}
-use Rattle.su_tableau.specs.Freezing.{new_value, frozen, frozen_head, frozen_rows, tab_top}
+use Rattle.su_tableau.specs.FrozenTableaux.{new_value, frozen, frozen_head, frozen_rows, tab_top}
 use Rattle.su_tableau.specs.Bytes.{IsOfBytes, IsByteSymbol, HasByteConstants, IsByteWithin, BytesSuffice, LeastOverBytes}
-use Rattle.su_tableau.proofs.Freezing.{frozen_typed, frozen_answer, frozen_maps}
+use Rattle.su_tableau.proofs.FrozenTableaux.{frozen_typed, frozen_answer, frozen_maps}
 use Rattle.su_tableau.proofs.Containment.{maps_within}
 
 zeros : (n : ℕ) → All (λ b. b < 256) (replicate n 0)

@@ -9,7 +9,7 @@ use Rattle.su_tableau.specs.Valuations.{value_of, values_of}
 use Rattle.su_tableau.specs.Kinds.{Kinds}
 use Rattle.su_tableau.specs.Mapping.{image_of, images_of, Maps}
 use Rattle.su_tableau.specs.Equivalent.{IsWithin}
-use Rattle.su_tableau.proofs.Listing.{by_list, from_list}
+use Rattle.su_tableau.proofs.ValuationLists.{by_list, from_list}
 use Rattle.su_base.proofs.Items.{map-map_equal}
 
 -- ---- composing

@@ -1,10 +1,10 @@
-pub mod Changing
+pub mod ChangedValuations
 pub mod Containment
-pub mod Freezing
+pub mod FrozenTableaux
 pub mod Rows
 pub mod Same
 pub mod Sets
-pub mod Standing
-pub mod Listing
+pub mod EssentialCells
+pub mod ValuationLists
 mod Bytes
-mod Occurring
+mod VariableCounts

@@ -3,7 +3,7 @@ pub mod Kinds
 pub mod Parts
 pub mod Mapping
 pub mod Equivalent
-pub mod Freezing
+pub mod FrozenTableaux
 pub mod Essential
 pub mod Bytes
 pub mod inside

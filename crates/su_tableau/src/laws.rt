@@ -7,7 +7,7 @@ ghost use Rattle.su_tableau.specs.Valuations.{Ext};
 ghost use Rattle.su_tableau.specs.Kinds.{Kinds, IsUniverse, IsTyped};
 ghost use Rattle.su_tableau.specs.Parts.{part};
 ghost use Rattle.su_tableau.specs.Mapping.{Maps};
-ghost use Rattle.su_tableau.specs.Freezing.{frozen_head, frozen_rows, tab_top};
+ghost use Rattle.su_tableau.specs.FrozenTableaux.{frozen_head, frozen_rows, tab_top};
 ghost use Rattle.su_tableau.specs.Essential.{ExtByEssential};
 ghost use Rattle.su_tableau.specs.Bytes.{BytesSuffice, LeastOverBytes};
 

@@ -7,7 +7,7 @@ use Rattle.su_tableau.specs.declared.symbols.Sym.{Sym}
 use Rattle.su_tableau.specs.declared.symbols.Sym.TheVariants.{Const, Var}
 use Rattle.su_chase.specs.inside.Rows.{name_by}
 use Rattle.su_chase.proofs.Named.{same_const}
-use Rattle.su_window.specs.inside.Reading.{AreConstants}
+use Rattle.su_window.specs.inside.Readings.{AreConstants}
 use Rattle.su_window.proofs.Counted.{in_pushed, of_pushed}
 
 abbrev name_at : List Sym → List Sym → ℕ → Sym

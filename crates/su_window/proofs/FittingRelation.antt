@@ -16,14 +16,14 @@ use Rattle.su_tableau.specs.declared.symbols.Sym.{Sym}
 use Rattle.su_tableau.specs.declared.symbols.Sym.TheVariants.{Const, Var}
 use Rattle.su_tableau.specs.Valuations.{value_of, values_of}
 use Rattle.su_tableau.specs.Kinds.{IsTyped}
-use Rattle.su_tableau.specs.Freezing.{size, new_value, frozen, top, row_top, rows_top}
-use Rattle.su_tableau.proofs.Freezing.{frozen_typed, size-new_value}
+use Rattle.su_tableau.specs.FrozenTableaux.{size, new_value, frozen, top, row_top, rows_top}
+use Rattle.su_tableau.proofs.FrozenTableaux.{frozen_typed, size-new_value}
 use Rattle.su_classes.proofs.Listed.{map_same}
 use Rattle.su_schema.specs.SchemaValue.{ObjectEntry}
 use Rattle.su_schema.specs.Entries.{attribute_kinds}
 use Rattle.su_state.specs.DatabaseValue.{DatabaseValue, IsWellKept}
 use Rattle.su_chase.specs.Chase.{IsClosedPartition, IsName}
-use Rattle.su_fd.specs.Meeting.{Agree, Meets}
+use Rattle.su_fd.specs.MetDependencies.{Agree, Meets}
 use Rattle.su_chase.specs.inside.Rows.{name_by, named_tab}
 use Rattle.su_chase.proofs.NamedAnswers as answering
 use Rattle.su_chase.proofs.NamedAnswers.{settled}
@@ -34,7 +34,7 @@ use Rattle.su_state.specs.Views.{value_for, taken}
 use Rattle.su_window.specs.Window.{Fits, Includes, values_at, InWindow}
 use Rattle.su_window.specs.Members.{Member}
 use Rattle.su_window.specs.Padded.{object_at, row_read, member_read, IsReading, AreReadings, padded_row, padded_rows}
-use Rattle.su_window.specs.inside.Reading.{AreConstants}
+use Rattle.su_window.specs.inside.Readings.{AreConstants}
 use Rattle.su_schema.proofs.Cuts.{cut_agrees}
 use Rattle.su_window.proofs.Objects.{attributes_are}
 use Rattle.su_window.proofs.Rows.{none, reading_at, tableau, typed, rows_long, row_length, fds_below, in_rows, cell_is, constant_cell}

@@ -21,7 +21,7 @@ use Rattle.su_schema.specs.SchemaValue.{ObjectEntry}
 use Rattle.su_schema.specs.Entries.{attribute_kinds}
 use Rattle.su_state.specs.DatabaseValue.{DatabaseValue, IsWellKept}
 use Rattle.su_chase.specs.Chase.{IsName, IsClash}
-use Rattle.su_fd.specs.Meeting.{Agree}
+use Rattle.su_fd.specs.MetDependencies.{Agree}
 use Rattle.su_chase.specs.inside.Rows.{name_by}
 use Rattle.su_chase.proofs.NamedAnswers.{one_value}
 use Rattle.su_chase.proofs.Images.{map_read}
@@ -31,7 +31,7 @@ use Rattle.su_state.specs.Views.{value_for, taken}
 use Rattle.su_window.specs.Window.{Fits, values_at}
 use Rattle.su_window.specs.Members.{IsMember}
 use Rattle.su_window.specs.Padded.{object_at, row_read, member_read, IsReading, AreReadings, padded, padded_row, padded_rows}
-use Rattle.su_window.specs.inside.Reading.{AreConstants}
+use Rattle.su_window.specs.inside.Readings.{AreConstants}
 use Rattle.su_schema.proofs.Cuts.{cut_agrees}
 use Rattle.su_window.proofs.Made.{made_by}
 use Rattle.su_window.proofs.Objects.{attributes_are}

@@ -11,7 +11,7 @@ use Rattle.su_window.specs.declared.faults.WindowFault.{WindowFault}
 use Rattle.su_window.specs.declared.faults.WindowFault.TheVariants.{Limit, NoMemory}
 use Rattle.su_window.specs.declared.readings.Reading.{Reading}
 use Rattle.su_window.specs.Padded.{rows_under, row_read, member_read, IsReading}
-use Rattle.su_window.specs.inside.Reading.{columns_of, all_columns, AreColumnsBelow, values_in, lists_before, AreSoFar, Sees}
+use Rattle.su_window.specs.inside.Readings.{columns_of, all_columns, AreColumnsBelow, values_in, lists_before, AreSoFar, Sees}
 use Rattle.su_window.specs.Refusals.{IsWindowRefusal}
 use Rattle.su_window.proofs.Rows.{read_in}
 use Rattle.su_window.proofs.TakenValues.{columns_below, values_taken}

@@ -14,7 +14,7 @@ use Rattle.su_base.specs.contracts.values.ValuePartialEq.TheImpl.{ghosts}
 use Rattle.su_base.proofs.Rows.{rows_equiv}
 use Rattle.su_base.proofs.Same.{row_eq-Decides}
 use Rattle.su_base.proofs.Items.{Contains-later, Contains-cases}
-use Rattle.su_window.specs.inside.Reading.{Sees}
+use Rattle.su_window.specs.inside.Readings.{Sees}
 
 abbrev same_row : List Value → List Value → Bool
 same_row = pointwise ghosts.eq

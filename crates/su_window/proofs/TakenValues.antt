@@ -21,7 +21,7 @@ use Rattle.su_window.specs.declared.readings.Reading.{Reading}
 use Rattle.su_schema.specs.Cuts.{width, cut_from}
 use Rattle.su_state.specs.Views.{value_for, taken}
 use Rattle.su_window.specs.Padded.{object_at, rows_under, row_read, padded, padded_row}
-use Rattle.su_window.specs.inside.Reading.{columns_of, AreColumnsBelow, value_in, values_in, symbol_in}
+use Rattle.su_window.specs.inside.Readings.{columns_of, AreColumnsBelow, value_in, values_in, symbol_in}
 use Rattle.su_window.proofs.Made.{of_made, same_made}
 use Rattle.su_window.proofs.Objects.{placed_at, own_attribute, no_attribute, value_is, attributes_are, relation_low, column_low}
 use Rattle.su_window.proofs.Rows.{constant_cell, variable_cell}

@@ -18,7 +18,7 @@ use Rattle.su_window.specs.Window.{Fits, InWindow}
 use Rattle.su_window.specs.Members.{HasFew}
 use Rattle.su_window.specs.Padded.{member_read, AreReadings, padded_rows}
 use Rattle.su_window.specs.Refusals.{Clashes}
-use Rattle.su_window.specs.inside.Reading.{AreConstants}
+use Rattle.su_window.specs.inside.Readings.{AreConstants}
 use Rattle.su_window.proofs.Rows.{rows_long, are_rows}
 use Rattle.su_window.proofs.Picked.{no_clash, has_constants}
 use Rattle.su_window.proofs.FittingRelation.{some_fits, in_window}

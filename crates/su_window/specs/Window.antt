@@ -6,7 +6,7 @@ use Rattle.su_base.specs.declared.values.Value.{Value}
 use Rattle.su_base.specs.declared.values.Value.TheVariants.{Int}
 use Rattle.su_tableau.specs.Kinds.{IsUniverse}
 use Rattle.su_schema.specs.Entries.{attribute_kinds}
-use Rattle.su_fd.specs.Meeting.{Meets}
+use Rattle.su_fd.specs.MetDependencies.{Meets}
 use Rattle.su_state.specs.DatabaseValue.{DatabaseValue}
 use Rattle.su_schema.specs.Cuts.{cuts}
 use Rattle.su_state.specs.Views.{view_of}

@@ -1,7 +1,7 @@
 //! The columns of an object, and the values in them.
 ghost use Rattle.std.specs.Prelude.{◌≡◌, ◌<◌, ◌++◌, ℕ, Some, length, IfOk, OnOk};
 ghost use Rattle.su_window.specs.Padded.{rows_under};
-ghost use Rattle.su_window.specs.inside.Reading as reading;
+ghost use Rattle.su_window.specs.inside.Readings as reading;
 
 use std::alloc::Global;
 use su_base::{List, NoMemory, Row};

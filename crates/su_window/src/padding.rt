@@ -2,7 +2,7 @@
 ghost use Rattle.std.specs.Prelude.{◌≡◌, ◌+◌, ◌<◌, ◌≤◌, ◌^◌, ℕ, map, length, get_or, All, Some, None, IfOk};
 ghost use Rattle.std.specs.List.{range_with_len};
 ghost use Rattle.su_window.specs.Padded as padding;
-ghost use Rattle.su_window.specs.inside.Reading.{all_columns, AreColumnsBelow, symbol_in};
+ghost use Rattle.su_window.specs.inside.Readings.{all_columns, AreColumnsBelow, symbol_in};
 
 use crate::columns::rows_under;
 use crate::readings::Reading;

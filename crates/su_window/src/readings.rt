@@ -3,7 +3,7 @@ ghost use Rattle.std.specs.Prelude.{◌≡◌, ◌↔◌, ◌⊎◌, ◌+◌, �
 ghost use Rattle.su_base.specs.declared.values.Value.{Value};
 ghost use Rattle.su_window.specs.declared.faults.WindowFault.TheVariants.{Limit, NoMemory as OutOfMemory};
 ghost use Rattle.su_window.specs.Padded.{AreReadings, rows_under};
-ghost use Rattle.su_window.specs.inside.Reading.{columns_of, all_columns, Sees, lists_before, AreSoFar};
+ghost use Rattle.su_window.specs.inside.Readings.{columns_of, all_columns, Sees, lists_before, AreSoFar};
 ghost use Rattle.su_window.specs.Refusals.{IsWindowRefusal};
 
 use crate::columns::{rows_under, values_in};

@@ -11,7 +11,7 @@ ghost use Rattle.su_schema.specs.Cuts.{width};
 ghost use Rattle.su_window.specs.Window.{Fits, InWindow};
 ghost use Rattle.su_window.specs.Members.{HasFew};
 ghost use Rattle.su_window.specs.Refusals.{IsWindowRefusal};
-ghost use Rattle.su_window.specs.inside.Reading.{AreConstants};
+ghost use Rattle.su_window.specs.inside.Readings.{AreConstants};
 
 use crate::columns::all_columns;
 use crate::faults::WindowFault;

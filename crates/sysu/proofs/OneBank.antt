@@ -8,9 +8,9 @@ use Rattle.std.proofs.lemmas.Fmt.{decimal_is_IsNumeral}
 use Rattle.std.proofs.lemmas.Slice.Eq.{bytes_eq-Decides}
 use Rattle.su_lex.specs.declared.spans.Span.{Span}
 use Rattle.su_lex.proofs.Cuts.{one_list_of_pieces}
-use Rattle.su_ddl.specs.Reading.{no_definitions, statement_of}
+use Rattle.su_ddl.specs.Files.{no_definitions, statement_of}
 use Rattle.su_state.specs.DatabaseValue.{DatabaseValue}
-use Rattle.su_session.specs.Opening.{empty_database}
+use Rattle.su_session.specs.EmptyDatabase.{empty_database}
 use Rattle.su_session.specs.declared.replies.Reply.{Reply}
 use Rattle.su_once.specs.States.{AreAlike}
 use Rattle.su_once.proofs.Replied.{one_reply}

@@ -6,11 +6,11 @@ use Rattle.su_lex.specs.declared.spans.Span.{Span}
 use Rattle.su_lex.proofs.Cuts.{one_list_of_pieces}
 use Rattle.su_schema.specs.SchemaValue.{SchemaValue}
 use Rattle.su_state.specs.DatabaseValue.{DatabaseValue, IsWellKept}
-use Rattle.su_session.specs.Opening.{empty_database}
+use Rattle.su_session.specs.EmptyDatabase.{empty_database}
 use Rattle.su_session.specs.declared.replies.Reply.{Reply}
 use Rattle.su_session.specs.declared.wants.Want.TheVariants.{Nothing, File}
 use Rattle.su_session.specs.Reply.{Replied}
-use Rattle.su_session.specs.Wanting.{Wants}
+use Rattle.su_session.specs.WantedFiles.{Wants}
 use Rattle.su_once.specs.States.{AreAlike}
 use Rattle.su_once.proofs.Replied.{one_reply, one_want}
 use Rattle.sysu.specs.Handed.{IsHanded, load_limit}

@@ -10,7 +10,7 @@ use Rattle.su_session.specs.Laws.{RetrieveIsAnswered, RetrievesAreAnswered}
 use Rattle.sysu.specs.declared.status.Status.{Status}
 use Rattle.sysu.specs.declared.status.Status.TheVariants.{Done, SomeRefused}
 use Rattle.sysu.specs.Moments.{Moment}
-use Rattle.sysu.specs.Closing.{HandsOver}
+use Rattle.sysu.specs.HandOver.{HandsOver}
 use Rattle.sysu.specs.Written.{WroteAll}
 use Rattle.sysu.specs.RunFiles.{OfFiles}
 use Rattle.sysu.specs.Statuses.{RunEnds, Comes}

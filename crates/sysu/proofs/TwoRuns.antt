@@ -10,19 +10,19 @@ use Rattle.su_check.specs.declared.verdicts.Checked.TheVariants.{Yes, No}
 use Rattle.su_check.specs.Verdict.{IsVerdict}
 use Rattle.su_check.proofs.OneVerdict.{one_verdict}
 use Rattle.su_ddl.specs.declared.faults.DdlFault.{DdlFault}
-use Rattle.su_ddl.specs.Reading.{Reads}
+use Rattle.su_ddl.specs.Files.{Reads}
 use Rattle.su_schema.specs.SchemaValue.{SchemaValue}
 use Rattle.su_show.specs.Refusals.{schema_line}
 use Rattle.su_show.specs.Verdicts.{verdict_line}
 use Rattle.su_session.specs.declared.replies.Reply.{Reply}
-use Rattle.su_once.proofs.OneReading.{one_outcome}
+use Rattle.su_once.proofs.OneOutcome.{one_outcome}
 use Rattle.su_bank.specs.Banks.{IsBankText}
 use Rattle.sysu.specs.declared.status.Status.{Status}
 use Rattle.sysu.specs.declared.status.Status.TheVariants.{Done, SomeRefused, Usage, BadSchema, ReadFault, WriteFault, TooLong, NoMemory}
-use Rattle.sysu.specs.Agreeing.{Ran, AreEqualButForWorkers, TwoRunsAgree}
+use Rattle.sysu.specs.TwoRuns.{Ran, AreEqualButForWorkers, TwoRunsAgree}
 use Rattle.sysu.specs.Causes.{Caused}
 use Rattle.sysu.specs.Checks.{IsYes, IsNo, OfVerdict, check_limit}
-use Rattle.sysu.specs.Closing.{HandsOver}
+use Rattle.sysu.specs.HandOver.{HandsOver}
 use Rattle.sysu.specs.Moments.{Moment, Told, WroteWhole}
 use Rattle.sysu.specs.Handed.{IsFile, IsOver, load_limit}
 use Rattle.sysu.specs.Scripts.{AnswersAll, AnswersBefore}
@@ -35,7 +35,7 @@ use Rattle.sysu.specs.Words.{Named, named, checks, Generates, usage_line}
 use Rattle.sysu.proofs.OneBank.{Asks, for_bank, for_none, asked, one_bank}
 use Rattle.sysu.proofs.OneList.{one_list_of_replies, one_list_before, stopped_or_all}
 use Rattle.su_ddl.proofs.Files.{one_outcome as same_outcome}
-use Rattle.sysu.proofs.Completing.{ok_schema, not_both as read_or_refused}
+use Rattle.sysu.proofs.Completeness.{ok_schema, not_both as read_or_refused}
 
 -- ---- outcomes
 

@@ -4,9 +4,9 @@ use Rattle.std.specs.Prelude.{◌≡◌, ◌≤◌, ◌⊎◌, ℕ, List, Bool, 
 use Rattle.su_io.specs.Causes.{Rose}
 use Rattle.su_io.specs.declared.files.File.{File as AFile}
 use Rattle.su_io.specs.Files.{contents}
-use Rattle.su_ddl.specs.Reading.{Reads}
+use Rattle.su_ddl.specs.Files.{Reads}
 use Rattle.su_schema.specs.SchemaValue.{SchemaValue}
-use Rattle.su_session.specs.Opening.{empty_database}
+use Rattle.su_session.specs.EmptyDatabase.{empty_database}
 use Rattle.sysu.specs.declared.status.Status.{Status}
 use Rattle.sysu.specs.declared.status.Status.TheVariants.{Done, SomeRefused, NoMemory}
 use Rattle.sysu.specs.Banks.{WroteBank}

@@ -5,7 +5,7 @@ use Rattle.su_io.specs.declared.files.File.{File as AFile}
 use Rattle.su_io.specs.Ends.{OfFile}
 use Rattle.su_state.specs.DatabaseValue.{DatabaseValue}
 use Rattle.su_session.specs.declared.wants.Want.TheVariants.{Nothing, File}
-use Rattle.su_session.specs.Wanting.{Wants}
+use Rattle.su_session.specs.WantedFiles.{Wants}
 
 -- the bytes are those of the named file, where the files are told
 abbrev pub IsFile : Option (List AFile) → List ℕ → List ℕ → Type 0

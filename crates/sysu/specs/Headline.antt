@@ -8,9 +8,9 @@ use Rattle.su_lex.specs.Pieces.{Pieces}
 use Rattle.su_schema.specs.SchemaValue.{SchemaValue}
 use Rattle.su_query.specs.declared.statements.Query.{Query}
 use Rattle.su_query.specs.declared.statements.Statement.TheVariants.{Retrieve}
-use Rattle.su_query.specs.Reading.{IsStatement}
+use Rattle.su_query.specs.StatementTexts.{IsStatement}
 use Rattle.su_state.specs.DatabaseValue.{DatabaseValue}
-use Rattle.su_session.specs.Opening.{empty_database}
+use Rattle.su_session.specs.EmptyDatabase.{empty_database}
 use Rattle.su_session.specs.declared.replies.Reply.{Reply}
 use Rattle.sysu.specs.declared.status.Status.{Status}
 use Rattle.sysu.specs.declared.status.Status.TheVariants.{Done, SomeRefused}

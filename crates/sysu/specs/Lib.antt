@@ -1,8 +1,8 @@
-pub mod Agreeing
+pub mod TwoRuns
 pub mod Banks
 pub mod Causes
 pub mod Checks
-pub mod Closing
+pub mod HandOver
 pub mod Complete
 pub mod Headline
 pub mod inside

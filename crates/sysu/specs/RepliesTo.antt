@@ -8,7 +8,7 @@ use Rattle.su_base.specs.declared.values.Value.{Value}
 use Rattle.su_io.specs.declared.files.File.{File as AFile}
 use Rattle.su_schema.specs.Entries.{attribute_kinds}
 use Rattle.su_query.specs.declared.statements.Query.{Query}
-use Rattle.su_query.specs.Numbering.{resolved_of}
+use Rattle.su_query.specs.NumberedConditions.{resolved_of}
 use Rattle.su_maxobj.specs.MaximalObjects.{AreMaximalObjects}
 use Rattle.su_state.specs.DatabaseValue.{DatabaseValue, IsWellKept}
 use Rattle.su_min.specs.Kept.{IsLeastPart}

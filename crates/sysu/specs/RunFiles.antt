@@ -4,7 +4,7 @@ use Rattle.std.specs.Prelude.{◌≤◌, ◌^◌, ℕ, List, Result, Ok, length}
 use Rattle.sysu.specs.Moments.{Moment}
 use Rattle.sysu.specs.Words.{Named}
 use Rattle.su_ddl.specs.declared.faults.DdlFault.{DdlFault}
-use Rattle.su_ddl.specs.Reading.{Reads}
+use Rattle.su_ddl.specs.Files.{Reads}
 use Rattle.su_schema.specs.SchemaValue.{SchemaValue}
 use Rattle.sysu.specs.Handed.{IsFile}
 

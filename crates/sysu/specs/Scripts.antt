@@ -6,10 +6,10 @@ use Rattle.su_lex.specs.declared.spans.Span.{Span}
 use Rattle.su_lex.specs.Pieces.{Pieces}
 use Rattle.su_schema.specs.SchemaValue.{SchemaValue}
 use Rattle.su_state.specs.DatabaseValue.{DatabaseValue}
-use Rattle.su_session.specs.Opening.{empty_database}
+use Rattle.su_session.specs.EmptyDatabase.{empty_database}
 use Rattle.su_session.specs.declared.replies.Reply.{Reply}
 use Rattle.su_session.specs.declared.wants.Want.TheVariants.{File}
-use Rattle.su_session.specs.Wanting.{Wants}
+use Rattle.su_session.specs.WantedFiles.{Wants}
 use Rattle.sysu.specs.Output.{Answered, text_at, texts_of}
 
 -- the replies are those to the first statements of the script, all of them or fewer

@@ -4,7 +4,7 @@ use Rattle.std.specs.Prelude.{◌≡◌, ◌<◌, ◌≤◌, ◌⊎◌, ℕ, Lis
 use Rattle.su_io.specs.declared.files.File.{File}
 use Rattle.su_io.specs.Causes.{Rose}
 use Rattle.su_schema.specs.SchemaValue.{SchemaValue}
-use Rattle.su_session.specs.Opening.{empty_database}
+use Rattle.su_session.specs.EmptyDatabase.{empty_database}
 use Rattle.su_state.specs.DatabaseValue.{DatabaseValue}
 use Rattle.sysu.specs.declared.status.Status.{Status}
 use Rattle.sysu.specs.declared.status.Status.TheVariants.{Done, SomeRefused, ReadFault, WriteFault, TooLong, NoMemory}

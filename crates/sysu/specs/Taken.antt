@@ -4,7 +4,7 @@ use Rattle.std.specs.Prelude.{◌≡◌, ◌<◌, ◌≤◌, ◌⊎◌, ℕ, Lis
 use Rattle.sysu.specs.Moments.{Moment}
 use Rattle.sysu.specs.Words.{Named}
 use Rattle.su_schema.specs.SchemaValue.{SchemaValue}
-use Rattle.su_session.specs.Opening.{empty_database}
+use Rattle.su_session.specs.EmptyDatabase.{empty_database}
 use Rattle.sysu.specs.Handed.{IsOver, load_limit}
 use Rattle.sysu.specs.Scripts.{LoadsFrom}
 use Rattle.sysu.specs.RunFiles.{schema_limit, script_limit, SchemaIs, OfFiles}

@@ -1,4 +1,4 @@
 -- Definitions that only contracts of private functions need.
-pub mod Handing
+pub mod HandedFiles
 pub mod Reads
 pub mod Turns

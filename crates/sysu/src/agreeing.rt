@@ -1,5 +1,5 @@
 //! Two runs agree.
-ghost use Rattle.sysu.specs.Agreeing.{TwoRunsAgree};
+ghost use Rattle.sysu.specs.TwoRuns.{TwoRunsAgree};
 
 /// Two runs on equal words but for the number of workers, over shelves that tell equal files and sinks
 /// that tell their bytes, append equal bytes and answer equal statuses, where no count of faults rises

@@ -2,8 +2,8 @@
 ghost use Rattle.std.specs.Prelude.{◌≡◌, ◌≤◌, ℕ, List as Items, option_map};
 ghost use Rattle.su_schema.specs.SchemaValue.{SchemaValue};
 ghost use Rattle.su_session.specs.Commands.{IsRead};
-ghost use Rattle.su_session.specs.Opening.{empty_database};
-ghost use Rattle.sysu.specs.inside.Handing.{HandingEnds};
+ghost use Rattle.su_session.specs.EmptyDatabase.{empty_database};
+ghost use Rattle.sysu.specs.inside.HandedFiles.{HandingEnds};
 ghost use Rattle.sysu.specs.Moments.{Moment};
 ghost use Rattle.sysu.specs.Statements.{ScriptEnds};
 ghost use Rattle.sysu.specs.inside.Turns.{TurnEnds};

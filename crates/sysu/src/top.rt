@@ -2,7 +2,7 @@
 ghost use Rattle.std.specs.Prelude.{◌≡◌, ◌≤◌, ◌&&◌, nat_eq, nat_lt, true, false, Some, ◌<◌, ◌^◌, ◌++◌, ◌∷◌, [], IfOk, IfSome, MatchOption, option_map, string_bytes};
 ghost use Rattle.sysu.specs.Moments.{Moment};
 ghost use Rattle.sysu.specs.Causes.{Caused};
-ghost use Rattle.sysu.specs.Closing.{Closes, HandsOver};
+ghost use Rattle.sysu.specs.HandOver.{Closes, HandsOver};
 ghost use Rattle.sysu.specs.Complete.{IsComplete};
 ghost use Rattle.sysu.specs.Statuses.{Comes, RefusalEnds, RunEnds, UsageEnds};
 ghost use Rattle.sysu.specs.Words.{named, checks, is_count};

@@ -2,7 +2,7 @@
 -- refusal, script: what the schema file is read as, and the script behind an accepted one
 use Rattle.std.specs.Prelude.{◌^◌, ℕ, Ok, Err}
 use Rattle.su_ddl.specs.declared.faults.DdlFault.{DdlFault}
-use Rattle.su_ddl.specs.Reading.{Reads}
+use Rattle.su_ddl.specs.Files.{Reads}
 use Rattle.su_schema.specs.SchemaValue.{SchemaValue}
 use Rattle.sysu_sql.specs.Moments.{Moment}
 use Rattle.sysu_sql.specs.Reads.{OfText}

@@ -9,9 +9,9 @@ use Rattle.su_check.specs.declared.boards.Board.{Board}
 use Rattle.su_check.specs.declared.sending.Sent.{Sent}
 use Rattle.su_check.specs.declared.sending.StepColumn.{StepColumn}
 use Rattle.su_check.specs.inside.Cells.{cell, is_const, IsFirstPlace}
-use Rattle.su_check.specs.Fitting.{Lines, AreSent, numbered_row}
+use Rattle.su_check.specs.SentRows.{Lines, AreSent, numbered_row}
 use Rattle.su_check.specs.inside.Widths.{AreWide, IsWithin}
-use Rattle.su_check.specs.Refuting.{IsAscending}
+use Rattle.su_check.specs.Refutations.{IsAscending}
 
 -- stands where no row was sent
 abbrev pub no_pair : Sent

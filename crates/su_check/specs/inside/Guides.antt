@@ -7,7 +7,7 @@ use Rattle.su_tableau.specs.declared.symbols.Sym.{Sym}
 use Rattle.su_check.specs.declared.guides.Guide.{Guide}
 use Rattle.su_check.specs.declared.sending.Sent.{Sent}
 use Rattle.su_check.specs.inside.Cells.{cell}
-use Rattle.su_check.specs.Fitting.{Lines, numbered_row, AreSent, sent_too}
+use Rattle.su_check.specs.SentRows.{Lines, numbered_row, AreSent, sent_too}
 
 -- the set has all rows with the symbol in the column
 abbrev pub HasCarriers : List (List Sym) → ℕ → Sym → ℕ → Type 0

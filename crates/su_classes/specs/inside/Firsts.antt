@@ -8,7 +8,7 @@ use Rattle.std.specs.HashMap.{HashMap, get}
 use Rattle.std.specs.Cmp.Lexicographic.{pointwise}
 use Rattle.su_fd.specs.declared.dependencies.Fd.{Fd}
 use Rattle.su_classes.specs.declared.items.Placed.{Placed}
-use Rattle.su_fd.specs.Meeting.{LiesIn}
+use Rattle.su_fd.specs.MetDependencies.{LiesIn}
 use Rattle.su_classes.specs.Items.{cell, SameAt}
 
 -- the row at a position

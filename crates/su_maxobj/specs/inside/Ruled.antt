@@ -4,7 +4,7 @@ use Rattle.std.specs.Prelude.{ℕ, IsTrue, List}
 use Rattle.std.specs.Ordering.{nat_cmp}
 use Rattle.std.specs.FinSet.{FinSet, contains}
 use Rattle.su_fd.specs.declared.Fd.{Fd}
-use Rattle.su_maxobj.specs.Adjoining.{Adjoinable}
+use Rattle.su_maxobj.specs.AdjoinableObjects.{Adjoinable}
 
 -- none of these objects is adjoinable to have
 abbrev pub AreNotAdjoinable : List Fd → List (FinSet nat_cmp) → FinSet nat_cmp → FinSet nat_cmp → Type 0

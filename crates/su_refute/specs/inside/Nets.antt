@@ -8,7 +8,7 @@ use Rattle.su_tableau.specs.declared.symbols.Sym.{Sym}
 use Rattle.su_tableau.specs.Tableaux.{Tab}
 use Rattle.su_map.specs.Lists.{row_of}
 use Rattle.su_check.specs.inside.Cells.{cell}
-use Rattle.su_check.specs.inside.Agreeing.{GoAlike, Goes}
+use Rattle.su_check.specs.inside.Agreement.{GoAlike, Goes}
 use Rattle.su_refute.specs.declared.places.Places.{Places}
 use Rattle.su_refute.specs.declared.nets.Net.{Net}
 

@@ -9,7 +9,7 @@ use Rattle.su_session.specs.Reply.{Replied}
 use Rattle.su_state.specs.DatabaseValue.{DatabaseValue, IsWellKept}
 use Rattle.sysu.specs.declared.status.Status.{Status}
 use Rattle.sysu.specs.declared.status.Status.TheVariants.{ReadFault, WriteFault, TooLong, NoMemory}
-use Rattle.sysu.specs.inside.Handing.{Shelved, Began, TookOne}
+use Rattle.sysu.specs.inside.HandedFiles.{Shelved, Began, TookOne}
 use Rattle.sysu.specs.Moments.{Told, WroteWhole}
 use Rattle.sysu.specs.Handed.{IsHanded, IsOver, load_limit}
 

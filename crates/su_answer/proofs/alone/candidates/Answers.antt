@@ -6,7 +6,7 @@ use Rattle.su_exec.specs.Tasks.{HasSources}
 use Rattle.su_exec.specs.Shares.{row_share}
 use Rattle.su_answer.specs.inside.Alone.{AreCountable, IsEdgeOf}
 use Rattle.su_answer.proofs.Single.{one_more_share, all_shares}
-use Rattle.su_answer.proofs.Zipping.{zip_more}
+use Rattle.su_answer.proofs.PairedLists.{zip_more}
 use Rattle.su_answer.proofs.alone.candidates.Goals as goal
 
 pub edge_of-requires-clause-sources : goal.edge_of-requires-clause-sources

@@ -3,7 +3,7 @@ use Rattle.std.proofs.lemmas.List.{get_or_default}
 use Rattle.su_min.specs.Kept.{Minimised}
 use Rattle.su_min.specs.Reduction.{term_at}
 use Rattle.su_answer.specs.inside.Executed.{TermOver}
-use Rattle.su_answer.proofs.Zipping.{zip_more}
+use Rattle.su_answer.proofs.PairedLists.{zip_more}
 use Rattle.su_answer.proofs.executing.jobs.Goals as goal
 
 pub loop-k-preserved : goal.loop-k-preserved

@@ -1,4 +1,4 @@
-use Rattle.su_answer.proofs.Expressing.{Laws, answers_are_the_expression}
+use Rattle.su_answer.proofs.Expression.{Laws, answers_are_the_expression}
 use Rattle.su_answer.proofs.laws.answers_are_the_expression.Goals as goal
 
 pub returns : goal.returns

@@ -1,4 +1,4 @@
-use Rattle.su_answer.proofs.Counting.{all_minimised, minimals_fit}
+use Rattle.su_answer.proofs.Minimals.{all_minimised, minimals_fit}
 use Rattle.su_answer.proofs.laws.prepared_rows_are_least.Goals as goal
 
 pub returns : goal.returns

@@ -1,4 +1,4 @@
-use Rattle.su_answer.proofs.Counting.{all_minimised, minimals_fit}
+use Rattle.su_answer.proofs.Minimals.{all_minimised, minimals_fit}
 use Rattle.su_answer.proofs.laws.prepared_terms_are_needed.Goals as goal
 
 pub returns : goal.returns

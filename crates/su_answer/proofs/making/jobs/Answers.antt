@@ -1,5 +1,5 @@
 use Rattle.std.proofs.Common.{◌≡◌, refl}
-use Rattle.su_answer.proofs.Zipping.{zip_more}
+use Rattle.su_answer.proofs.PairedLists.{zip_more}
 use Rattle.su_answer.proofs.making.jobs.Goals as goal
 
 pub loop-term-preserved : goal.loop-term-preserved

@@ -6,7 +6,7 @@ use Rattle.su_min.specs.Reduction.{IsReduced}
 use Rattle.su_steps.specs.declared.results.Term.{Term}
 use Rattle.su_steps.specs.Terms.{AreTerms}
 use Rattle.su_answer.specs.Prepared.{IsMinimisedOf}
-use Rattle.su_answer.proofs.Counting.{few_terms, same_count}
+use Rattle.su_answer.proofs.Minimals.{few_terms, same_count}
 use Rattle.su_answer.proofs.making.prepare.Goals as goal
 
 pub reduce-requires-after_bounds : goal.reduce-requires-after_bounds

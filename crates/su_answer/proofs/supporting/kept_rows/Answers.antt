@@ -1,6 +1,6 @@
 use Rattle.std.proofs.Common.{List, [], ◌∷◌, ◌++◌, ℕ, sym, ap, ◌∙◌}
 use Rattle.std.proofs.lemmas.Bool.{true≢false}
-use Rattle.su_answer.proofs.Tasking.{numbers_next, numbers_stay}
+use Rattle.su_answer.proofs.TaskRows.{numbers_next, numbers_stay}
 use Rattle.su_answer.proofs.supporting.kept_rows.Goals as goal
 use Rattle.su_answer.proofs.supporting.kept_rows.Goals.{then-has+in_ok-push, else-has}
 

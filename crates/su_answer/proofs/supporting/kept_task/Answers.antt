@@ -9,7 +9,7 @@ use Rattle.su_answer.specs.Joined.{IsTaskRowOf, IsTaskOf}
 use Rattle.su_answer.specs.inside.Alone.{AreCountable}
 use Rattle.su_answer.proofs.Few.{never_more}
 use Rattle.su_answer.proofs.Fits.{task_fits}
-use Rattle.su_answer.proofs.Zipping.{zip_second}
+use Rattle.su_answer.proofs.PairedLists.{zip_second}
 use Rattle.su_answer.proofs.supporting.kept_task.Goals as goal
 use Rattle.su_answer.proofs.supporting.kept_task.Goals.{In_ok-task}
 

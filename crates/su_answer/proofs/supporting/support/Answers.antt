@@ -6,7 +6,7 @@ use Rattle.su_reduce.specs.declared.support.Support.{Support}
 use Rattle.su_min.specs.Kept.{Minimised}
 use Rattle.su_min.specs.Reduction.{term_at}
 use Rattle.su_answer.specs.Support.{IsSupport}
-use Rattle.su_answer.proofs.Counting.{minimals_fit}
+use Rattle.su_answer.proofs.Minimals.{minimals_fit}
 use Rattle.su_answer.proofs.Union.{kept_low}
 use Rattle.su_answer.proofs.supporting.support.Goals as goal
 

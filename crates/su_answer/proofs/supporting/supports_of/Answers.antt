@@ -4,7 +4,7 @@ use Rattle.su_reduce.specs.declared.support.Support.{Support}
 use Rattle.su_min.specs.Kept.{Minimised}
 use Rattle.su_min.specs.Reduction.{term_at}
 use Rattle.su_answer.specs.Support.{IsSupport}
-use Rattle.su_answer.proofs.Zipping.{zip_more}
+use Rattle.su_answer.proofs.PairedLists.{zip_more}
 use Rattle.su_answer.proofs.supporting.supports_of.Goals as goal
 
 pub loop-k-preserved : goal.loop-k-preserved

@@ -1,5 +1,5 @@
 use Rattle.std.specs.FinSet.{contains}
-use Rattle.su_steps.proofs.Passing.{passing_push}
+use Rattle.su_steps.proofs.PassingNumbers.{passing_push}
 use Rattle.su_answer.proofs.tasks.members.Goals as goal
 
 pub loop-a-preserved : goal.loop-a-preserved

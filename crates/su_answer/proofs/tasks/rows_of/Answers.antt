@@ -1,7 +1,7 @@
 use Rattle.std.proofs.Common.{sym, ◌∙◌, ◌<◌, length, arith}
 use Rattle.std.proofs.lemmas.Bool.{true≢false}
 use Rattle.su_steps.proofs.Sourced.{own_columns}
-use Rattle.su_answer.proofs.Tasking.{rows_more, rows_same}
+use Rattle.su_answer.proofs.TaskRows.{rows_more, rows_same}
 use Rattle.su_answer.proofs.tasks.rows_of.Goals as goal
 use Rattle.su_answer.proofs.tasks.rows_of.Goals.{then-has+in_ok-task_row_of+in_ok-push, else-has}
 

@@ -1,5 +1,5 @@
 use Rattle.std.proofs.Common.{sym, ◌∙◌}
-use Rattle.su_answer.proofs.Tasking.{sources_more, sources_same}
+use Rattle.su_answer.proofs.TaskRows.{sources_more, sources_same}
 use Rattle.su_answer.proofs.tasks.sources_of.Goals as goal
 use Rattle.su_answer.proofs.tasks.sources_of.Goals.{then-contains+in_ok-source+in_ok-push, else-contains}
 

@@ -3,7 +3,7 @@ use Rattle.std.specs.Prelude.{IsTrue}
 use Rattle.std.specs.FinSet.{contains}
 use Rattle.su_steps.specs.Objects.{attributes_at}
 use Rattle.su_answer.specs.Joined.{numbers_in, cell, IsSourceOf}
-use Rattle.su_answer.proofs.Tasking.{numbers_low, columns_owned}
+use Rattle.su_answer.proofs.TaskRows.{numbers_low, columns_owned}
 use Rattle.su_answer.proofs.tasks.task_row_of.Goals as goal
 
 pub cells_of-requires-clause-columns : goal.cells_of-requires-clause-columns

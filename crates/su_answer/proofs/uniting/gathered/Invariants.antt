@@ -1,5 +1,5 @@
 use Rattle.std.proofs.Common.{length}
-use Rattle.su_answer.proofs.Gathering.{AreInOrder}
+use Rattle.su_answer.proofs.FoundLists.{AreInOrder}
 use Rattle.su_answer.proofs.uniting.gathered.Given as goal
 
 abbrev pub invariant-loop-list : goal.invariant-loop-list

@@ -4,7 +4,7 @@ use Rattle.std.specs.List.Sorted.{IsStrictlySortedBy}
 use Rattle.std.proofs.lemmas.List.{length-append, length-reverse, reverse-append}
 use Rattle.su_base.specs.declared.values.Value.{Value}
 use Rattle.su_base.specs.Value.{compare_lists}
-use Rattle.su_answer.proofs.Merging.{AreMerged, none_taken, left_sorted, right_sorted, one_taken, one_too_many, all_taken}
+use Rattle.su_answer.proofs.MergedLists.{AreMerged, none_taken, left_sorted, right_sorted, one_taken, one_too_many, all_taken}
 use Rattle.su_answer.proofs.uniting.merged.Goals as goal
 
 pub loop-row-init : goal.loop-row-init

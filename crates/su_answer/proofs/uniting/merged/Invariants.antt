@@ -1,6 +1,6 @@
 use Rattle.std.proofs.Common.{length, ◌+◌, ◌≤◌}
 use Rattle.std.specs.Prelude.{reverse}
-use Rattle.su_answer.proofs.Merging.{AreMerged}
+use Rattle.su_answer.proofs.MergedLists.{AreMerged}
 use Rattle.su_answer.proofs.uniting.merged.Given as goal
 
 abbrev pub invariant-loop-row : goal.invariant-loop-row

@@ -1,9 +1,9 @@
 use Rattle.std.proofs.Common.{◌≡◌, ◌++◌, ◌∙◌, ap, refl}
 use Rattle.std.specs.Prelude.{string_bytes}
-use Rattle.su_ddl.specs.Reading.{no_definitions}
-use Rattle.su_session.specs.Opening.{empty_database}
+use Rattle.su_ddl.specs.Files.{no_definitions}
+use Rattle.su_session.specs.EmptyDatabase.{empty_database}
 use Rattle.su_bank.specs.Scripts.{bank_script}
-use Rattle.su_bank.proofs.Taking.{same_script}
+use Rattle.su_bank.proofs.Statements.{same_script}
 use Rattle.su_bank.proofs.banks.bank_text.Goals as goal
 
 pub returns : goal.returns

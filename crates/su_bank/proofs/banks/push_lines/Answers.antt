@@ -1,5 +1,5 @@
 use Rattle.std.proofs.Common.{◌++◌, []}
-use Rattle.su_bank.proofs.Finding.{lines_of, found_of}
+use Rattle.su_bank.proofs.FourQueries.{lines_of, found_of}
 use Rattle.su_bank.proofs.banks.push_lines.Goals as goal
 
 pub returns : goal.returns

@@ -1,5 +1,5 @@
 use Rattle.std.proofs.Common.{arith}
-use Rattle.su_bank.proofs.Taking.{takes_more, takes_all}
+use Rattle.su_bank.proofs.Statements.{takes_more, takes_all}
 use Rattle.su_bank.proofs.banks.take_script.Goals as goal
 
 pub loop-span-preserved : goal.loop-span-preserved

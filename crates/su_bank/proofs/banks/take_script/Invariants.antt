@@ -1,6 +1,6 @@
 use Rattle.std.proofs.Common.{take}
 use Rattle.std.specs.Prelude.{map}
-use Rattle.su_ddl.specs.Reading.{statement_of}
+use Rattle.su_ddl.specs.Files.{statement_of}
 use Rattle.su_bank.specs.Banks.{Takes}
 use Rattle.su_bank.proofs.banks.take_script.Given as goal
 

@@ -1,5 +1,5 @@
 use Rattle.std.proofs.Common.{arith, eq-eqb}
-use Rattle.su_bank.proofs.Lining.{starts_at}
+use Rattle.su_bank.proofs.LastLine.{starts_at}
 use Rattle.su_bank.proofs.lines.line_start.Goals as goal
 
 pub returns-else-text-start-ne10 : goal.returns-else-text-start-ne10

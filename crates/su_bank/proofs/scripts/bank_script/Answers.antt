@@ -1,6 +1,6 @@
 use Rattle.std.proofs.Common.{◌+◌, ◌++◌, ap, ◌∙◌}
 use Rattle.su_bank.specs.Scripts.{bank_definitions, inserts_of}
-use Rattle.su_bank.proofs.Scripting.{pieces_more}
+use Rattle.su_bank.proofs.ScriptPieces.{pieces_more}
 use Rattle.su_bank.proofs.scripts.bank_script.Goals as goal
 
 pub loop-i-preserved : goal.loop-i-preserved

@@ -1,7 +1,7 @@
 use Rattle.std.specs.Prelude.{◌*◌, ◌%◌, codes, string_bytes}
 use Rattle.su_bank.specs.declared.scripts.Cell.TheVariants.{Number, Bank, Customer, Street}
 use Rattle.su_bank.specs.Scripts.{insert}
-use Rattle.su_bank.proofs.Scripting.{seven}
+use Rattle.su_bank.proofs.ScriptPieces.{seven}
 use Rattle.su_bank.proofs.scripts.push_inserts.Goals as goal
 
 pub returns : goal.returns

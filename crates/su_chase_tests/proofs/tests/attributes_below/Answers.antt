@@ -3,7 +3,7 @@ use Rattle.std.specs.Prelude.{IsTrue}
 use Rattle.std.specs.Ordering.{nat_cmp}
 use Rattle.std.specs.FinSet.{FinSet, contains, contains-empty}
 use Rattle.std.proofs.lemmas.Bool.{true≢false}
-use Rattle.su_tableau.proofs.Standing.{set_more}
+use Rattle.su_tableau.proofs.EssentialCells.{set_more}
 use Rattle.su_chase_tests.proofs.tests.attributes_below.Goals as goal
 
 pub loop-a-init : goal.loop-a-init

@@ -3,7 +3,7 @@ use Rattle.std.proofs.Common.{◌<◌, ◌≤◌, [], None, get_or, length, refl
 use Rattle.std.proofs.lemmas.List.{get_or_default}
 use Rattle.su_check.specs.Certificate.{lines_of}
 use Rattle.su_check.specs.inside.Cells.{cell}
-use Rattle.su_check.specs.Fitting.{numbered_row, AreSent}
+use Rattle.su_check.specs.SentRows.{numbered_row, AreSent}
 use Rattle.su_check.specs.inside.Boards.{SendsRow, Covers, Keeps}
 use Rattle.su_check.proofs.ImagePlaces.{column_keeps, column_done, keeps_more, covers_more, all_sent}
 use Rattle.su_check.proofs.fitting.last_goes.Goals as goal

@@ -1,7 +1,7 @@
 use Rattle.std.proofs.Common.{◌<◌, ℕ, [], None, get_or}
 use Rattle.su_check.specs.Certificate.{lines_of}
 use Rattle.su_check.specs.inside.Cells.{cell}
-use Rattle.su_check.specs.Fitting.{numbered_row}
+use Rattle.su_check.specs.SentRows.{numbered_row}
 use Rattle.su_check.specs.inside.Boards.{Sends, Keeps}
 use Rattle.su_check.proofs.fitting.last_goes.Given as goal
 

@@ -1,7 +1,7 @@
 use Rattle.std.proofs.Common.{◌≡◌, ◌<◌, ℕ, [], get_or}
 use Rattle.std.specs.Int.{bit_at}
 use Rattle.su_check.specs.Certificate.{lines_of}
-use Rattle.su_check.specs.Fitting.{AreSent, sent_too}
+use Rattle.su_check.specs.SentRows.{AreSent, sent_too}
 use Rattle.su_check.specs.inside.Boards.{IsReady}
 use Rattle.su_check.proofs.guides.alone.Given as goal
 

@@ -3,7 +3,7 @@ use Rattle.std.specs.Int.{bit_at}
 use Rattle.std.proofs.lemmas.List.Elements.{All-contains}
 use Rattle.su_check.specs.Certificate.{lines_of}
 use Rattle.su_check.specs.inside.Cells.{cell}
-use Rattle.su_check.specs.Fitting.{numbered_row}
+use Rattle.su_check.specs.SentRows.{numbered_row}
 use Rattle.su_check.specs.inside.Guides.{HasTargets}
 use Rattle.su_check.proofs.PossibleTargets.{image_told, sent_alone}
 use Rattle.su_check.proofs.guides.candidates.Goals as goal

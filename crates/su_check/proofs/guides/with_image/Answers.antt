@@ -4,7 +4,7 @@ use Rattle.std.proofs.lemmas.List.{get_or_default}
 use Rattle.std.proofs.lemmas.Nat.Bits.{bit_at_ones}
 use Rattle.su_check.specs.Certificate.{lines_of}
 use Rattle.su_check.specs.inside.Cells.{cell}
-use Rattle.su_check.specs.Fitting.{numbered_row}
+use Rattle.su_check.specs.SentRows.{numbered_row}
 use Rattle.su_check.specs.inside.Boards.{no_pair}
 use Rattle.su_check.specs.inside.Guides.{HasCarriers}
 use Rattle.su_check.proofs.guides.with_image.Goals as goal

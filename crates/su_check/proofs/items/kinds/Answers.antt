@@ -1,6 +1,6 @@
 use Rattle.std.proofs.Common.{refl}
 use Rattle.su_base.specs.declared.values.Kind.{Kind}
-use Rattle.su_lex.specs.Wording.{kind_symbol}
+use Rattle.su_lex.specs.Wordings.{kind_symbol}
 use Rattle.su_check.proofs.Runs.{map_ended}
 use Rattle.su_check.proofs.Spelled.{one_kind}
 use Rattle.su_check.proofs.items.kinds.Goals as goal

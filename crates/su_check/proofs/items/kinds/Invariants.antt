@@ -1,5 +1,5 @@
 use Rattle.std.proofs.Common.{◌≡◌, ◌++◌, length, map}
-use Rattle.su_lex.specs.Wording.{kind_symbol}
+use Rattle.su_lex.specs.Wordings.{kind_symbol}
 use Rattle.su_check.proofs.items.kinds.Given as goal
 
 abbrev pub invariant-loop-kind : goal.invariant-loop-kind

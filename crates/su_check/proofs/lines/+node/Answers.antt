@@ -6,7 +6,7 @@ use Rattle.su_lex.specs.declared.signs.Sign.TheVariants as sign
 use Rattle.su_check.specs.declared.nodes.Node.{Node}
 use Rattle.su_check.specs.declared.nodes.Branch.{Branch}
 use Rattle.su_check.specs.declared.nodes.Branch.TheOpen.{Branch-F, Node-F}
-use Rattle.su_check.specs.Refuting.{row_named, branches_of, node_of}
+use Rattle.su_check.specs.Refutations.{row_named, branches_of, node_of}
 use Rattle.su_check.specs.NodeSymbols.{number}
 use Rattle.su_check.proofs.Runs.{none_read, flat_push, left_on, gives_on}
 use Rattle.su_check.proofs.NodeSymbols.{branch_symbols, IsByteBranch, byte_row, byte_branches, node_first, node_found, node_bytes, same_node, branch_found, branch_bytes, same_branch, branch_next, branch_none}

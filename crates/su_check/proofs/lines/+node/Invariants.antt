@@ -3,7 +3,7 @@ use Rattle.su_lex.specs.declared.meaning.Symbol.{Symbol}
 use Rattle.su_lex.specs.declared.meaning.Symbol.TheVariants.{Sign}
 use Rattle.su_lex.specs.declared.signs.Sign.TheVariants as sign
 use Rattle.su_check.specs.declared.nodes.Node.{Node}
-use Rattle.su_check.specs.Refuting.{row_named, branches_of}
+use Rattle.su_check.specs.Refutations.{row_named, branches_of}
 use Rattle.su_check.specs.NodeSymbols.{number, node_symbols}
 use Rattle.su_check.specs.Ranges.{IsByteNode}
 use Rattle.su_check.proofs.NodeSymbols.{branch_symbols, IsByteBranch}

@@ -4,7 +4,7 @@ use Rattle.std.proofs.lemmas.Result.{err_from_is_err_and}
 use Rattle.su_lex.specs.declared.meaning.Symbol.TheVariants.{Sign}
 use Rattle.su_lex.specs.declared.signs.Sign.TheVariants as sign
 use Rattle.su_check.specs.Grammar.{row_line}
-use Rattle.su_check.specs.inside.Reading.{IsRow, row_before}
+use Rattle.su_check.specs.inside.LineReaders.{IsRow, row_before}
 use Rattle.su_check.proofs.OneCertificate.{row_at}
 use Rattle.su_check.proofs.Runs.{flat_push, lead_next, lead_none, left_on, gives_on}
 use Rattle.su_check.proofs.lines.rows.Goals as goal

@@ -5,7 +5,7 @@ use Rattle.su_lex.specs.declared.meaning.Symbol.TheVariants.{Sign}
 use Rattle.su_lex.specs.declared.signs.Sign.TheVariants as sign
 use Rattle.su_tableau.specs.declared.symbols.Sym.{Sym}
 use Rattle.su_check.specs.Grammar.{row_line}
-use Rattle.su_check.specs.inside.Reading.{IsRow}
+use Rattle.su_check.specs.inside.LineReaders.{IsRow}
 use Rattle.su_check.proofs.Runs.{Left}
 use Rattle.su_check.proofs.lines.rows.Given as goal
 

@@ -4,7 +4,7 @@ use Rattle.std.proofs.lemmas.Result.{err_from_is_err_and}
 use Rattle.su_lex.specs.declared.meaning.Symbol.TheVariants.{Word}
 use Rattle.su_lex.specs.Names.{Begins}
 use Rattle.su_check.specs.Ranges.{IsTermInRange}
-use Rattle.su_check.specs.inside.Reading.{term_symbols, term_before}
+use Rattle.su_check.specs.inside.LineReaders.{term_symbols, term_before}
 use Rattle.su_check.proofs.TermSymbols.{term_at, ends_term}
 use Rattle.su_check.proofs.Runs.{flat_push, lead_next, lead_none, left_on, gives_on}
 use Rattle.su_check.proofs.lines.terms.Goals as goal

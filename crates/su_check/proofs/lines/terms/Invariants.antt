@@ -1,7 +1,7 @@
 use Rattle.std.proofs.Common.{◌≡◌, ◌++◌, List, [], length, flat_map, All}
 use Rattle.su_check.specs.declared.certificates.Term.{Term}
 use Rattle.su_check.specs.Ranges.{IsTermInRange}
-use Rattle.su_check.specs.inside.Reading.{term_symbols}
+use Rattle.su_check.specs.inside.LineReaders.{term_symbols}
 use Rattle.su_check.proofs.Runs.{Left}
 use Rattle.su_check.proofs.lines.terms.Given as goal
 

@@ -5,7 +5,7 @@ use Rattle.su_lex.specs.declared.meaning.Symbol.{Symbol}
 use Rattle.su_lex.specs.declared.meaning.Symbol.TheVariants.{Word}
 use Rattle.su_check.specs.declared.certificates.RowTree.{RowTree}
 use Rattle.su_check.specs.Grammar.{tree_line}
-use Rattle.su_check.specs.inside.Reading.{IsByteTree, tree_before}
+use Rattle.su_check.specs.inside.LineReaders.{IsByteTree, tree_before}
 use Rattle.su_check.proofs.Runs.{flat_push, lead_next, lead_none, left_on, gives_on}
 use Rattle.su_check.proofs.lines.trees.Goals as goal
 

@@ -4,7 +4,7 @@ use Rattle.su_lex.specs.declared.meaning.Symbol.{Symbol}
 use Rattle.su_lex.specs.declared.meaning.Symbol.TheVariants.{Word}
 use Rattle.su_check.specs.declared.certificates.RowTree.{RowTree}
 use Rattle.su_check.specs.Grammar.{tree_line}
-use Rattle.su_check.specs.inside.Reading.{IsByteTree}
+use Rattle.su_check.specs.inside.LineReaders.{IsByteTree}
 use Rattle.su_check.proofs.Runs.{Left}
 use Rattle.su_check.proofs.lines.trees.Given as goal
 

@@ -3,7 +3,7 @@ use Rattle.std.proofs.Common.{◌<◌, ◌≤◌, ◌+◌, length, get_or, map, 
 use Rattle.std.proofs.lemmas.List.{length-map}
 use Rattle.su_check.specs.Certificate.{lines_of}
 use Rattle.su_check.specs.inside.Boards.{Keeps}
-use Rattle.su_check.specs.Refuting.{IsOpen, IsFitting, row_named, branches_of, target_of}
+use Rattle.su_check.specs.Refutations.{IsOpen, IsFitting, row_named, branches_of, target_of}
 use Rattle.su_check.proofs.Exactly.{front_skip}
 use Rattle.su_check.proofs.Branches.{Passed, AreRefuted, is_open, fit_as, fit_from, branch_tells, too_few, wrong_branch, one_passed, one_refuted, all_passed, none_left}
 use Rattle.su_check.proofs.ImagePlaces.{keeps_less, keeps_step, ready_kept}

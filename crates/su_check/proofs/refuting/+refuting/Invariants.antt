@@ -1,9 +1,9 @@
 use Rattle.std.proofs.Common.{◌≡◌, ℕ, ◌<◌, map, get_or}
 use Rattle.su_check.specs.declared.nodes.Branch.{Branch}
 use Rattle.su_check.specs.Certificate.{lines_of}
-use Rattle.su_check.specs.Fitting.{sent_too}
+use Rattle.su_check.specs.SentRows.{sent_too}
 use Rattle.su_check.specs.inside.Boards.{Keeps}
-use Rattle.su_check.specs.Refuting.{IsFitting, Refutes, row_named, branches_of, target_of, node_of}
+use Rattle.su_check.specs.Refutations.{IsFitting, Refutes, row_named, branches_of, target_of, node_of}
 use Rattle.su_check.proofs.Exactly.{Front}
 use Rattle.su_check.proofs.refuting.+refuting.Given as goal
 

@@ -2,7 +2,7 @@ use Rattle.std.proofs.Common.{◌≡◌, ◌↔◌, true, refl, sym}
 use Rattle.std.proofs.lemmas.Result.{IfOk-weaker}
 use Rattle.su_check.specs.inside.Boards.{Keeps, IsReady}
 use Rattle.su_check.specs.Certificate.{lines_of, IsGoodTree}
-use Rattle.su_check.specs.Refuting.{Refutes}
+use Rattle.su_check.specs.Refutations.{Refutes}
 use Rattle.su_check.proofs.TreeAt.{tree_tells}
 use Rattle.su_check.proofs.ImagePlaces.{ready_none, ready_kept, ready_as}
 use Rattle.su_check.proofs.trees.is_good_tree.Goals as goal

@@ -3,7 +3,7 @@ use Rattle.std.specs.Prelude.{All}
 use Rattle.std.proofs.lemmas.List.Elements.{All-append}
 use Rattle.su_fd.specs.declared.dependencies.Fd.{Fd}
 use Rattle.su_classes.specs.declared.rules.Rule.{Rule}
-use Rattle.su_classes.specs.inside.Rushing.{IsRule}
+use Rattle.su_classes.specs.inside.Worklists.{IsRule}
 use Rattle.su_classes.proofs.Rings.{all_one}
 use Rattle.su_classes.proofs.rules.rules_of.Goals as goal
 

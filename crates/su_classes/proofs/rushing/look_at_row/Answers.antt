@@ -1,7 +1,7 @@
 use Rattle.std.proofs.Common.{sym, ◌∙◌}
 use Rattle.std.proofs.lemmas.List.{length-set}
 use Rattle.std.proofs.lemmas.List.Elements.{All-contains}
-use Rattle.su_classes.specs.inside.Rushing.{IsRule}
+use Rattle.su_classes.specs.inside.Worklists.{IsRule}
 use Rattle.su_classes.proofs.Rings.{same_then}
 use Rattle.su_classes.proofs.Rushed.{rule_more}
 use Rattle.su_classes.proofs.rushing.look_at_row.Goals as goal

@@ -2,7 +2,7 @@ use Rattle.std.proofs.Common.{◌≡◌, length}
 use Rattle.std.specs.Prelude.{All}
 use Rattle.su_classes.specs.Items.{Keeps}
 use Rattle.su_classes.specs.inside.Tables.{IsMerging}
-use Rattle.su_classes.specs.inside.Rushing.{IsSame}
+use Rattle.su_classes.specs.inside.Worklists.{IsSame}
 use Rattle.su_classes.proofs.rushing.look_under.Given as goal
 
 abbrev pub invariant-loop-number : goal.invariant-loop-number

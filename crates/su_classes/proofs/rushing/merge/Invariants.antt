@@ -2,7 +2,7 @@ use Rattle.std.proofs.Common.{◌≡◌}
 use Rattle.std.specs.Prelude.{All}
 use Rattle.su_classes.specs.Items.{cell}
 use Rattle.su_classes.specs.inside.Tables.{IsMerging}
-use Rattle.su_classes.specs.inside.Rushing.{IsSame}
+use Rattle.su_classes.specs.inside.Worklists.{IsSame}
 use Rattle.su_classes.proofs.rushing.merge.Given as goal
 
 abbrev pub invariant-loop-a : goal.invariant-loop-a

@@ -5,7 +5,7 @@ use Rattle.std.specs.FinSet.{empty}
 use Rattle.std.proofs.lemmas.Bool.{true≢false}
 use Rattle.std.proofs.lemmas.List.{get_or_read}
 use Rattle.su_classes.specs.declared.items.Placed.{Placed}
-use Rattle.su_fd.specs.Meeting.{LiesIn}
+use Rattle.su_fd.specs.MetDependencies.{LiesIn}
 use Rattle.su_classes.specs.Items.{cell, IsPlacedBelow}
 use Rattle.su_classes.specs.inside.Tables.{IsJoining}
 use Rattle.su_classes.specs.inside.Firsts.{row_at, first_at}

@@ -1,5 +1,5 @@
 use Rattle.std.proofs.Common.{length}
-use Rattle.su_classes.specs.inside.Rushing.{IsFor}
+use Rattle.su_classes.specs.inside.Worklists.{IsFor}
 use Rattle.su_classes.proofs.worklist.enter_row.Given as goal
 
 abbrev pub invariant-loop-attribute : goal.invariant-loop-attribute

@@ -1,5 +1,5 @@
 use Rattle.std.proofs.Common.{◌≡◌, [], length}
-use Rattle.su_classes.specs.inside.Rushing.{IsWell, IsFor}
+use Rattle.su_classes.specs.inside.Worklists.{IsWell, IsFor}
 use Rattle.su_classes.proofs.worklist.worklist_of.Given as goal
 
 abbrev pub invariant-loop-item : goal.invariant-loop-item

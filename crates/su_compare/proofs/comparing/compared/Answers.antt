@@ -4,12 +4,12 @@ use Rattle.su_fd.specs.declared.dependencies.Fd.{Fd}
 use Rattle.su_tableau.specs.Tableaux.{Tab}
 use Rattle.su_tableau.specs.Valuations.{Ext}
 use Rattle.su_chase.specs.Chased.{IsFdBelow}
-use Rattle.su_fd.specs.Meeting.{Meets}
+use Rattle.su_fd.specs.MetDependencies.{Meets}
 use Rattle.su_schema.specs.Entries.{attribute_kinds}
 use Rattle.su_compare.specs.declared.settling.Settled.{Settled}
 use Rattle.su_compare.specs.declared.settling.Settled.TheVariants.{By, Open}
 use Rattle.su_compare.specs.Settled.{IsBy, IsUnsettled}
-use Rattle.su_compare.specs.inside.Settling.{IsSettlement, Answers, IsTypedOpen}
+use Rattle.su_compare.specs.inside.Settlements.{IsSettlement, Answers, IsTypedOpen}
 use Rattle.su_compare.proofs.Settled.{tab_here}
 use Rattle.su_compare.proofs.PlainTerms.{all_alike, fds_below, one_settled, earlier_settled, all_answers}
 use Rattle.su_compare.proofs.comparing.compared.Goals as goal

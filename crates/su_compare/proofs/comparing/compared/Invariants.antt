@@ -1,4 +1,4 @@
-use Rattle.su_compare.specs.inside.Settling.{HasRoomFor}
+use Rattle.su_compare.specs.inside.Settlements.{HasRoomFor}
 use Rattle.su_compare.proofs.PlainTerms.{AreSettled}
 use Rattle.su_compare.proofs.comparing.compared.Given as goal
 

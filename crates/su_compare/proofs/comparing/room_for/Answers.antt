@@ -5,7 +5,7 @@ use Rattle.su_compare.specs.Settled.{tab_at}
 use Rattle.su_compare.proofs.Settled.{tab_here}
 use Rattle.su_compare.proofs.PlainTerms.{max_left, max_right}
 use Rattle.su_compare.proofs.comparing.room_for.Goals as goal
-use Rattle.su_map.proofs.Noting.{vars_below}
+use Rattle.su_map.proofs.NotedRows.{vars_below}
 
 pub loop-term-preserved : goal.loop-term-preserved
 loop-term-preserved c =

@@ -3,7 +3,7 @@ use Rattle.su_tableau.specs.Tableaux.{Tab}
 use Rattle.su_tableau.specs.Mapping.{Maps}
 use Rattle.su_map.specs.Rooms.{IsRoomFor}
 use Rattle.su_compare.specs.Settled.{tab_at}
-use Rattle.su_compare.specs.inside.Settling.{IsAlike}
+use Rattle.su_compare.specs.inside.Settlements.{IsAlike}
 use Rattle.su_compare.proofs.Settled.{tab_here, heads_same, room_same, no_list_no_mapping, found_is}
 use Rattle.su_compare.proofs.settling.found_counted.Goals as goal
 

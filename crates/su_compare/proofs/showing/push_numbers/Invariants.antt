@@ -1,5 +1,5 @@
 use Rattle.std.proofs.Common.{◌≡◌, ◌++◌, take}
-use Rattle.su_lex.specs.Wording.{numbers_text}
+use Rattle.su_lex.specs.Wordings.{numbers_text}
 use Rattle.su_compare.proofs.showing.push_numbers.Given as goal
 
 abbrev pub invariant-loop-number : goal.invariant-loop-number

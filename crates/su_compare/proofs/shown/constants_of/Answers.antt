@@ -1,5 +1,5 @@
 use Rattle.std.proofs.Common.{◌++◌, ap, ◌∙◌}
-use Rattle.su_compare.specs.inside.Settling.{terms_constants}
+use Rattle.su_compare.specs.inside.Settlements.{terms_constants}
 use Rattle.su_compare.proofs.Gathered.{of_both}
 use Rattle.su_compare.proofs.shown.constants_of.Goals as goal
 

@@ -1,5 +1,5 @@
 use Rattle.std.proofs.Common.{◌≡◌, ◌++◌, flat_map, take}
-use Rattle.su_compare.specs.inside.Settling.{constants_in}
+use Rattle.su_compare.specs.inside.Settlements.{constants_in}
 use Rattle.su_compare.proofs.shown.push_tableau.Given as goal
 
 abbrev pub invariant-loop-i : goal.invariant-loop-i

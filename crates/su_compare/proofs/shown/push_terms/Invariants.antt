@@ -1,5 +1,5 @@
 use Rattle.std.proofs.Common.{◌≡◌, ◌++◌, take}
-use Rattle.su_compare.specs.inside.Settling.{terms_constants}
+use Rattle.su_compare.specs.inside.Settlements.{terms_constants}
 use Rattle.su_compare.proofs.shown.push_terms.Given as goal
 
 abbrev pub invariant-loop-term : goal.invariant-loop-term

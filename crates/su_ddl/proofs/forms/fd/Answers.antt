@@ -6,7 +6,7 @@ use Rattle.su_lex.specs.declared.signs.Sign.TheVariants as sign
 use Rattle.su_lex.specs.declared.meaning.Symbol.TheVariants.{Word, Sign}
 use Rattle.su_lex.specs.Names.{names_symbols}
 use Rattle.su_lex.proofs.Listed.{names_unique}
-use Rattle.su_ddl.proofs.Listing.{no_comma_arrow, no_comma_end, are_given}
+use Rattle.su_ddl.proofs.NameLists.{no_comma_arrow, no_comma_end, are_given}
 use Rattle.su_ddl.proofs.Formed.{fd_form}
 use Rattle.su_ddl.proofs.forms.fd.Goals as goal
 

@@ -1,7 +1,7 @@
 use Rattle.std.proofs.Common.{◌≡◌, [], sym, ap, ◌∙◌, arith, length, Err}
 use Rattle.std.proofs.lemmas.Result.{err_from_is_err_and}
 use Rattle.su_lex.specs.declared.ends.LexEnd.TheVariants.{Syntax}
-use Rattle.su_ddl.proofs.Listing.{parens_unique}
+use Rattle.su_ddl.proofs.NameLists.{parens_unique}
 use Rattle.su_ddl.proofs.Formed.{maximal_form}
 use Rattle.su_ddl.proofs.forms.maximal.Goals as goal
 

@@ -4,7 +4,7 @@ use Rattle.std.proofs.lemmas.Result.{err_from_is_err_and}
 use Rattle.su_lex.specs.declared.ends.LexEnd.TheVariants.{Syntax}
 use Rattle.su_lex.specs.declared.meaning.Symbol.TheVariants.{Word}
 use Rattle.su_ddl.specs.Grammar.{in_parens}
-use Rattle.su_ddl.proofs.Listing.{are_given, parens_unique}
+use Rattle.su_ddl.proofs.NameLists.{are_given, parens_unique}
 use Rattle.su_ddl.proofs.Formed.{object_form, pairs_lengths}
 use Rattle.su_ddl.proofs.forms.object.Goals as goal
 

@@ -5,7 +5,7 @@ use Rattle.su_lex.specs.declared.ends.LexEnd.TheVariants.{Syntax}
 use Rattle.su_lex.specs.declared.signs.Sign.TheVariants as sign
 use Rattle.su_lex.specs.declared.meaning.Symbol.TheVariants.{Word, Sign}
 use Rattle.su_ddl.specs.Grammar.{columns_symbols}
-use Rattle.su_ddl.proofs.Listing.{no_comma, columns_given, columns_unique}
+use Rattle.su_ddl.proofs.NameLists.{no_comma, columns_given, columns_unique}
 use Rattle.su_ddl.proofs.Formed.{relation_form}
 use Rattle.su_ddl.proofs.forms.relation.Goals as goal
 

@@ -3,7 +3,7 @@ use Rattle.std.proofs.lemmas.Result.{err_from_is_err_and}
 use Rattle.su_lex.specs.declared.ends.LexEnd.TheVariants.{Syntax}
 use Rattle.su_lex.specs.declared.signs.Sign.TheVariants as sign
 use Rattle.su_lex.specs.declared.meaning.Symbol.TheVariants.{Sign}
-use Rattle.su_ddl.proofs.Listing.{columns_push, columns_are_push, no_column, no_first_column}
+use Rattle.su_ddl.proofs.NameLists.{columns_push, columns_are_push, no_column, no_first_column}
 use Rattle.su_ddl.proofs.lists.columns.Goals as goal
 
 pub returns-in_err-column-clause-syntax : goal.returns-in_err-column-clause-syntax

@@ -4,7 +4,7 @@ use Rattle.su_lex.specs.declared.ends.LexEnd.TheVariants.{Syntax}
 use Rattle.su_lex.specs.declared.signs.Sign.TheVariants as sign
 use Rattle.su_lex.specs.declared.meaning.Symbol.TheVariants.{Sign}
 use Rattle.su_lex.proofs.Listed.{names_unique}
-use Rattle.su_ddl.proofs.Listing.{no_comma}
+use Rattle.su_ddl.proofs.NameLists.{no_comma}
 use Rattle.su_ddl.proofs.lists.names_in_parens.Goals as goal
 
 pub returns-in_err-expect_sign-2-clause-syntax : goal.returns-in_err-expect_sign-2-clause-syntax

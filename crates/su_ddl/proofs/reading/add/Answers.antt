@@ -1,5 +1,5 @@
 use Rattle.std.proofs.Common.{inl, inr, refl, sym, ap, subst, Err}
-use Rattle.su_ddl.specs.Reading.{IsAtFault}
+use Rattle.su_ddl.specs.Files.{IsAtFault}
 use Rattle.su_ddl.specs.declared.faults.DdlFault.{DdlFault}
 use Rattle.su_ddl.proofs.reading.add.Goals as goal
 

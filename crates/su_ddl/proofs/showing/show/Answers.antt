@@ -1,6 +1,6 @@
 use Rattle.std.proofs.Common.{◌<◌, ◌^◌, length, ◌∙◌, map, sym, subst, List, ℕ}
 use Rattle.std.specs.Prelude.{Ok}
-use Rattle.su_ddl.specs.Reading.{Reads}
+use Rattle.su_ddl.specs.Files.{Reads}
 use Rattle.su_ddl.specs.ShownDefinitions.{attribute_definition, relation_definition, object_definition, fd_definition, maximal_definition}
 use Rattle.su_ddl.proofs.Again.{read_again}
 use Rattle.su_ddl.proofs.Lines.{five_kinds}

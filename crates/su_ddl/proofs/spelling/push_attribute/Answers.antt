@@ -1,6 +1,6 @@
 use Rattle.std.proofs.Common.{◌∷◌, [], codes}
 use Rattle.su_lex.specs.declared.meaning.Symbol.TheVariants.{Word}
-use Rattle.su_lex.specs.Wording.{kind_symbol}
+use Rattle.su_lex.specs.Wordings.{kind_symbol}
 use Rattle.su_ddl.proofs.Lines.{chain}
 use Rattle.su_ddl.proofs.spelling.push_attribute.Goals as goal
 

@@ -1,8 +1,8 @@
 use Rattle.std.proofs.Common.{◌∷◌, ◌++◌, [], ◌∙◌, ℕ, List, ap, subst}
 use Rattle.std.proofs.lemmas.Result.{err_from_is_err_and}
-use Rattle.su_lex.specs.Adding.{AddsFront}
+use Rattle.su_lex.specs.AddedFronts.{AddsFront}
 use Rattle.su_lex.specs.Spelling.{spaced}
-use Rattle.su_lex.proofs.Adding.{adds_first}
+use Rattle.su_lex.proofs.AddedFronts.{adds_first}
 use Rattle.su_ddl.specs.Grammar.{definition_symbols}
 use Rattle.su_ddl.proofs.spelling.push_line.Goals as goal
 

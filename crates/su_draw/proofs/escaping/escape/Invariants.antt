@@ -1,5 +1,5 @@
 use Rattle.std.proofs.Common.{◌≡◌, ◌++◌, drop}
-use Rattle.su_draw.specs.Escaping.{escaped_on, escaped}
+use Rattle.su_draw.specs.EscapedBytes.{escaped_on, escaped}
 use Rattle.su_draw.proofs.escaping.escape.Given as goal
 
 abbrev pub invariant-loop-byte : goal.invariant-loop-byte

@@ -1,7 +1,7 @@
 use Rattle.std.proofs.Common.{◌≡◌, ◌++◌}
 use Rattle.std.specs.Vec.Iter.{into_iter_items}
 use Rattle.su_draw.specs.States.{at_start}
-use Rattle.su_draw.specs.Reading.{AreRead}
+use Rattle.su_draw.specs.TextLines.{AreRead}
 use Rattle.su_draw.proofs.reading.read_pieces.Given as goal
 
 abbrev pub invariant-loop-piece : goal.invariant-loop-piece

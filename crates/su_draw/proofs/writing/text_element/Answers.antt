@@ -1,7 +1,7 @@
 use Rattle.std.proofs.Common.{◌≡◌, ◌++◌, List, ℕ, ap, ◌∙◌}
 use Rattle.std.specs.Prelude.{codes}
 use Rattle.su_draw.specs.Xml.{Attribute}
-use Rattle.su_draw.specs.Escaping.{escaped}
+use Rattle.su_draw.specs.EscapedBytes.{escaped}
 use Rattle.su_draw.specs.Shapes.{text_attributes, text_pairs, element_line}
 use Rattle.su_draw.specs.Looks.{colour_of, opacity_of, weight_of}
 use Rattle.su_draw.proofs.Assembled.{on_ok, same_pairs}

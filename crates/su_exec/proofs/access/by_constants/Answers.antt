@@ -1,7 +1,7 @@
 use Rattle.std.proofs.Common.{◌≡◌, slice_get, Some}
 use Rattle.su_tableau.specs.declared.symbols.Sym.TheVariants.{Const}
 use Rattle.su_exec.specs.inside.Ways.{IsConstantAt}
-use Rattle.su_exec.proofs.Accessing.{constant_way}
+use Rattle.su_exec.proofs.Ways.{constant_way}
 use Rattle.su_exec.proofs.access.by_constants.Goals as goal
 
 pub returns-clause-way : goal.returns-clause-way

@@ -1,6 +1,6 @@
 use Rattle.std.proofs.Common.{◌≡◌, ◌∙◌, [], get_or, sym}
 use Rattle.std.proofs.lemmas.List.{get_or_default}
-use Rattle.su_exec.proofs.Accessing.{variable_way}
+use Rattle.su_exec.proofs.Ways.{variable_way}
 use Rattle.su_exec.proofs.access.by_variable.Goals as goal
 
 pub returns-clause-way : goal.returns-clause-way

@@ -2,7 +2,7 @@ use Rattle.std.proofs.Common.{length, arith}
 use Rattle.std.proofs.lemmas.Option.{slice_get_within}
 use Rattle.su_tableau.specs.declared.symbols.Sym.TheVariants.{Const}
 use Rattle.su_index.specs.Tables.{table_at}
-use Rattle.su_exec.proofs.Accessing.{share_low}
+use Rattle.su_exec.proofs.Ways.{share_low}
 use Rattle.su_exec.proofs.access.cheapest_of.Goals as goal
 
 pub returns-clause-share : goal.returns-clause-share

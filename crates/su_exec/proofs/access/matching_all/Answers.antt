@@ -3,7 +3,7 @@ use Rattle.su_index.specs.Matches.{matches}
 use Rattle.su_index.specs.Tables.{table_at}
 use Rattle.su_reduce.specs.Codes.{decode}
 use Rattle.su_exec.specs.inside.Ways.{only_code}
-use Rattle.su_exec.proofs.Accessing.{sum_more}
+use Rattle.su_exec.proofs.Ways.{sum_more}
 use Rattle.su_exec.proofs.access.matching_all.Goals as goal
 
 pub loop-i-preserved : goal.loop-i-preserved

@@ -3,7 +3,7 @@ use Rattle.su_base.specs.declared.values.Value.{Value}
 use Rattle.su_exec.specs.inside.Edges.{Edge}
 use Rattle.su_exec.specs.inside.Shown.{AreSpotsOf, spot_values}
 use Rattle.su_exec.specs.declared.checks.Spot.{Spot}
-use Rattle.su_exec.proofs.Showing.{shown, shows_more, spots_within}
+use Rattle.su_exec.proofs.Outputs.{shown, shows_more, spots_within}
 use Rattle.su_exec.proofs.answering.answers.Goals as goal
 
 pub rows_at-requires : goal.rows_at-requires

@@ -1,5 +1,5 @@
 use Rattle.std.proofs.Common.{arith}
-use Rattle.su_exec.proofs.Showing.{spots_more, vars_at}
+use Rattle.su_exec.proofs.Outputs.{spots_more, vars_at}
 use Rattle.su_exec.proofs.answering.spots_of.Goals as goal
 
 pub spot_in-spot-requires : goal.spot_in-spot-requires

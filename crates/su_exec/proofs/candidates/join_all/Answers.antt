@@ -1,9 +1,9 @@
 use Rattle.std.proofs.Common.{◌≡◌, ◌++◌, List, ℕ, true, false, length, ap, sym, refl, subst, ◌∙◌, ⊎_elim}
 use Rattle.su_exec.specs.inside.Edges.{has, Edge}
 use Rattle.su_reduce.specs.Sheets.{pick, AreBelow}
-use Rattle.su_exec.proofs.Joining.{first_among, second_among}
+use Rattle.su_exec.proofs.ProjectedJoins.{first_among, second_among}
 use Rattle.su_exec.proofs.Parts.{wanted_out, one_of, picked_in}
-use Rattle.su_exec.proofs.Stepping.{has_either}
+use Rattle.su_exec.proofs.BodySteps.{has_either}
 use Rattle.su_exec.proofs.candidates.join_all.Goals as goal
 
 pub returns-clause-wanted : goal.returns-clause-wanted

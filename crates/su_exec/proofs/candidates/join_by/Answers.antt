@@ -2,7 +2,7 @@ use Rattle.std.proofs.Common.{◌≡◌, ℕ, ap, ◌∙◌}
 use Rattle.su_exec.specs.inside.Edges.{Edge}
 use Rattle.su_exec.specs.inside.Joins.{out_vars}
 use Rattle.su_exec.specs.inside.Plans.{columns_of, passes_of}
-use Rattle.su_exec.proofs.Making.{made_real, made_joins}
+use Rattle.su_exec.proofs.JoinedEdges.{made_real, made_joins}
 use Rattle.su_exec.proofs.candidates.join_by.Goals as goal
 
 pub new-requires-clause-real : goal.new-requires-clause-real

@@ -3,7 +3,7 @@ use Rattle.su_reduce.specs.Left.{marked}
 use Rattle.su_reduce.specs.Sheets.{pick}
 use Rattle.su_exec.specs.inside.Edges.{Edge}
 use Rattle.su_exec.specs.inside.Semijoins.{HasKey}
-use Rattle.su_exec.proofs.Filtering.{kept_marked, semijoin_is}
+use Rattle.su_exec.proofs.SemijoinRows.{kept_marked, semijoin_is}
 use Rattle.su_exec.proofs.candidates.partners.Goals as goal
 
 pub with_partners-requires-clause-left : goal.with_partners-requires-clause-left

@@ -1,7 +1,7 @@
 use Rattle.std.proofs.Common.{◌&&◌, map, sym, ap, ◌∙◌}
 use Rattle.su_exec.specs.inside.Checks.{all_hold, all_pass, check_holds, check_vars, test_passes}
 use Rattle.su_exec.specs.inside.Edges.{has}
-use Rattle.su_exec.proofs.Testing.{has_push, hold_push, pass_push, take_later, take_now}
+use Rattle.su_exec.proofs.CheckTests.{has_push, hold_push, pass_push, take_later, take_now}
 use Rattle.su_exec.proofs.checks.take_one.Goals as goal
 
 pub returns-in_ok-push-in-Some-clause-same : goal.returns-in_ok-push-in-Some-clause-same

@@ -4,7 +4,7 @@ use Rattle.su_exec.specs.declared.checks.Check.{Check}
 use Rattle.su_exec.specs.declared.checks.CodedSymbol.TheVariants.{Code}
 use Rattle.su_exec.specs.inside.Edges.{has}
 use Rattle.su_exec.specs.inside.Checks.{all_hold, check_holds, check_vars}
-use Rattle.su_exec.proofs.Testing.{has_more, hold_more, or_first, or_map, or_second}
+use Rattle.su_exec.proofs.CheckTests.{has_more, hold_more, or_first, or_map, or_second}
 use Rattle.su_exec.proofs.checks.take_tests.Goals as goal
 
 pub loop-check-preserved : goal.loop-check-preserved

@@ -1,8 +1,8 @@
 use Rattle.std.proofs.Common.{◌≡◌, ◌∷◌, ◌++◌, true, [], ap, sym, ◌∙◌, inl, inr, ⊎_elim, arith}
 use Rattle.std.proofs.lemmas.Bool.Decides.{nat_tests}
 use Rattle.su_exec.specs.inside.Edges.{has}
-use Rattle.su_exec.proofs.Choosing.{has_one}
-use Rattle.su_exec.proofs.Stepping.{has_either, has_first, has_second}
+use Rattle.su_exec.proofs.ChosenVariables.{has_one}
+use Rattle.su_exec.proofs.BodySteps.{has_either, has_first, has_second}
 use Rattle.su_exec.proofs.closing.add_one.Goals as goal
 
 pub returns-clause-kept : goal.returns-clause-kept

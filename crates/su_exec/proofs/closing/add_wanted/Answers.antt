@@ -1,6 +1,6 @@
 use Rattle.std.proofs.Common.{◌≡◌, ◌<◌, ℕ, true, List, length, get_or, take, sym, subst, inr, ⊎_elim}
 use Rattle.su_exec.specs.inside.Edges.{has}
-use Rattle.su_exec.proofs.Choosing.{has_at, taken_more}
+use Rattle.su_exec.proofs.ChosenVariables.{has_at, taken_more}
 use Rattle.su_exec.proofs.closing.add_wanted.Goals as goal
 
 pub loop-x-preserved : goal.loop-x-preserved

@@ -5,7 +5,7 @@ use Rattle.su_exec.specs.inside.Edges.{Edge, among, has}
 use Rattle.su_exec.specs.inside.Joins.{test_at}
 use Rattle.su_exec.proofs.Triples.{natural_same}
 use Rattle.su_exec.proofs.Parts.{one_of}
-use Rattle.su_exec.proofs.Stepping.{has_first, has_second}
+use Rattle.su_exec.proofs.BodySteps.{has_first, has_second}
 use Rattle.su_exec.proofs.closing.natural_join.Goals as goal
 use Rattle.su_exec.proofs.closing.natural_join.Goals.{In_ok-joined}
 

@@ -1,4 +1,4 @@
-use Rattle.su_exec.proofs.Labelling.{first_told}
+use Rattle.su_exec.proofs.Labels.{first_told}
 use Rattle.su_exec.proofs.connecting.first_of.Goals as goal
 
 pub returns-in-Some : goal.returns-in-Some

@@ -2,7 +2,7 @@ use Rattle.std.proofs.Common.{◌≡◌, ◌<◌, ◌≤◌, Contains, subst, sy
 use Rattle.std.proofs.lemmas.Bool.{cases_lt, true≢false}
 use Rattle.su_tableau.specs.declared.symbols.Sym.TheVariants.{Var}
 use Rattle.su_exec.specs.Tasks.{StandsIn}
-use Rattle.su_exec.proofs.Labelling.{stands_at, cell_at}
+use Rattle.su_exec.proofs.Labels.{stands_at, cell_at}
 use Rattle.su_exec.proofs.connecting.first_with.Goals as goal
 
 pub returns-then-has_variable : goal.returns-then-has_variable

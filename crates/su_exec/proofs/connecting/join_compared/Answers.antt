@@ -1,6 +1,6 @@
 use Rattle.std.proofs.Common.{sym, ap, ◌∙◌, arith}
 use Rattle.su_exec.specs.inside.Labels.{IsFirstOf, label_of}
-use Rattle.su_exec.proofs.Labelling.{compared_linked, first_is_one}
+use Rattle.su_exec.proofs.Labels.{compared_linked, first_is_one}
 use Rattle.su_exec.proofs.connecting.join_compared.Goals as goal
 
 pub returns-in_default-clause-joined : goal.returns-in_default-clause-joined

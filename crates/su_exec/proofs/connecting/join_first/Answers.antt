@@ -1,6 +1,6 @@
 use Rattle.std.proofs.Common.{sym, ap, ◌∙◌, arith}
 use Rattle.su_exec.specs.inside.Labels.{IsFirstOf, label_of, relabelled}
-use Rattle.su_exec.proofs.Labelling.{first_is_one, relabelled_joins, relabelled_keeps, relabelled_labels}
+use Rattle.su_exec.proofs.Labels.{first_is_one, relabelled_joins, relabelled_keeps, relabelled_labels}
 use Rattle.su_exec.proofs.connecting.join_first.Goals as goal
 
 pub returns-in_default-clause-joined : goal.returns-in_default-clause-joined

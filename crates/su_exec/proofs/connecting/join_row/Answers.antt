@@ -3,7 +3,7 @@ use Rattle.std.proofs.lemmas.Bool.{cases_lt}
 use Rattle.std.proofs.lemmas.Option.{get_or_from_slice_get, same_Some, slice_get-get_or, slice_get_within}
 use Rattle.su_tableau.specs.declared.symbols.Sym.{Sym}
 use Rattle.su_tableau.specs.declared.symbols.Sym.TheVariants.{Var}
-use Rattle.su_exec.proofs.Labelling.{cell_at, first_linked, keeps_then, stands_at}
+use Rattle.su_exec.proofs.Labels.{cell_at, first_linked, keeps_then, stands_at}
 use Rattle.su_exec.proofs.connecting.join_row.Goals as goal
 
 pub join_first-requires-clause-linked : goal.join_first-requires-clause-linked

@@ -7,7 +7,7 @@ use Rattle.su_exec.specs.declared.tasks.Compared.{Compared}
 use Rattle.su_exec.specs.inside.Labels.{AreLabels, KeepsLabels, label_of}
 use Rattle.su_exec.specs.Tasks.{StandsIn}
 use Rattle.su_exec.proofs.Firsts.{first_exists}
-use Rattle.su_exec.proofs.Labelling.{labelling_is, own_are_labels}
+use Rattle.su_exec.proofs.Labels.{labelling_is, own_are_labels}
 use Rattle.su_exec.proofs.connecting.labels_of.Goals as goal
 
 pub loop-i-init : goal.loop-i-init

@@ -1,7 +1,7 @@
 use Rattle.std.proofs.Common.{ℕ, [], ◌∷◌, ◌++◌, sym, ap, ◌∙◌}
 use Rattle.std.specs.Prelude.{cond, nat_eq}
 use Rattle.su_exec.specs.inside.Labels.{label_of}
-use Rattle.su_exec.proofs.Ranging.{passing_more}
+use Rattle.su_exec.proofs.PassingNumbers.{passing_more}
 use Rattle.su_exec.proofs.connecting.part_of.Goals as goal
 
 pub loop-i-preserved : goal.loop-i-preserved

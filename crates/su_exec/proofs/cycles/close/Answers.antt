@@ -5,8 +5,8 @@ use Rattle.su_exec.specs.inside.Checks.{all_hold, check_vars}
 use Rattle.su_exec.specs.inside.Edges.{Edge, Splits, always, among, has}
 use Rattle.su_exec.proofs.Triples.{first_of_three, second_of_three, splits_more, third_of_three}
 use Rattle.su_exec.proofs.Parts.{one_out, put_step}
-use Rattle.su_exec.proofs.Stepping.{hold_test, there_step}
-use Rattle.su_exec.proofs.Uniting.{among_removed}
+use Rattle.su_exec.proofs.BodySteps.{hold_test, there_step}
+use Rattle.su_exec.proofs.MergeSteps.{among_removed}
 use Rattle.su_exec.proofs.cycles.close.Goals as goal
 use Rattle.su_exec.proofs.cycles.close.Goals.{In_ok-joined}
 

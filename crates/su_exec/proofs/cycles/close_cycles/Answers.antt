@@ -3,7 +3,7 @@ use Rattle.su_exec.specs.declared.checks.Check.{Check}
 use Rattle.su_exec.specs.inside.Bodies.{AreThere}
 use Rattle.su_exec.specs.inside.Checks.{all_hold}
 use Rattle.su_exec.specs.inside.Edges.{Edge, Keeps}
-use Rattle.su_exec.proofs.Keeping.{keeps_refl, keeps_trans}
+use Rattle.su_exec.proofs.PartSteps.{keeps_refl, keeps_trans}
 use Rattle.su_exec.proofs.cycles.close_cycles.Goals as goal
 
 pub loop-init : goal.loop-init

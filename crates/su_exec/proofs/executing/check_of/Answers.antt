@@ -1,6 +1,6 @@
 use Rattle.std.proofs.Common.{refl}
-use Rattle.su_reduce.proofs.Extending.{extends_then}
-use Rattle.su_exec.proofs.Showing.{term_up}
+use Rattle.su_reduce.proofs.CodeExtensions.{extends_then}
+use Rattle.su_exec.proofs.Outputs.{term_up}
 use Rattle.su_exec.proofs.executing.check_of.Goals as goal
 
 pub returns-clause-check : goal.returns-clause-check

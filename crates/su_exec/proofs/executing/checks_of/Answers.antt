@@ -1,8 +1,8 @@
 use Rattle.std.proofs.Common.{take, sym, rules, arith}
 use Rattle.std.proofs.lemmas.Option.{get_or_from_slice_get}
 use Rattle.su_exec.specs.inside.Shown.{IsCheckOf}
-use Rattle.su_reduce.proofs.Extending.{extends_self, extends_then}
-use Rattle.su_exec.proofs.Showing.{zip_more, checks_up}
+use Rattle.su_reduce.proofs.CodeExtensions.{extends_self, extends_then}
+use Rattle.su_exec.proofs.Outputs.{zip_more, checks_up}
 use Rattle.su_exec.proofs.executing.checks_of.Goals as goal
 
 pub loop-i-init : goal.loop-i-init

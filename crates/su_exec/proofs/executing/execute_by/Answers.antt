@@ -8,8 +8,8 @@ use Rattle.su_exec.specs.declared.tasks.ExecFault.TheVariants.{More}
 use Rattle.su_exec.specs.inside.Checks.{all_hold}
 use Rattle.su_exec.specs.inside.Edges.{Edge}
 use Rattle.su_exec.specs.inside.Shown.{HasVars, IsMoreBy, IsShownBy, term_vars}
-use Rattle.su_reduce.proofs.Extending.{extends_then}
-use Rattle.su_exec.proofs.Showing.{IsBodyOf, are_there, body_of, has_vars, more_of, none_agree, none_are_outputs, outputs_of}
+use Rattle.su_reduce.proofs.CodeExtensions.{extends_then}
+use Rattle.su_exec.proofs.Outputs.{IsBodyOf, are_there, body_of, has_vars, more_of, none_agree, none_are_outputs, outputs_of}
 use Rattle.su_exec.proofs.executing.execute_by.Goals as goal
 
 pub returns-in-None-clause-outputs : goal.returns-in-None-clause-outputs

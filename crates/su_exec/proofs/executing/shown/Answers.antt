@@ -1,4 +1,4 @@
-use Rattle.su_exec.proofs.Showing.{whole_more, whole_shown}
+use Rattle.su_exec.proofs.Outputs.{whole_more, whole_shown}
 use Rattle.su_exec.proofs.executing.shown.Goals as goal
 
 pub answers-requires : goal.answers-requires

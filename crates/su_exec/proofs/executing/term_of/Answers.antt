@@ -1,5 +1,5 @@
 use Rattle.std.proofs.Common.{refl}
-use Rattle.su_reduce.proofs.Extending.{code_is, code_low, extends_self}
+use Rattle.su_reduce.proofs.CodeExtensions.{code_is, code_low, extends_self}
 use Rattle.su_exec.proofs.executing.term_of.Goals as goal
 
 pub returns-in_ok-code-in-Const-clause-term : goal.returns-in_ok-code-in-Const-clause-term

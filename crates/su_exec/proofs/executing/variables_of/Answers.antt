@@ -1,5 +1,5 @@
 use Rattle.std.proofs.Common.{arith}
-use Rattle.su_exec.proofs.Showing.{vars_step}
+use Rattle.su_exec.proofs.Outputs.{vars_step}
 use Rattle.su_exec.proofs.executing.variables_of.Goals as goal
 
 pub loop-term-preserved : goal.loop-term-preserved

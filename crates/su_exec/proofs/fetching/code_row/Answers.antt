@@ -8,7 +8,7 @@ use Rattle.su_reduce.specs.Codes.{decode, Extends}
 use Rattle.su_exec.specs.inside.Coded.{picked}
 use Rattle.su_reduce.specs.Sheets.{AreBelow}
 use Rattle.su_exec.specs.Outputs.{values_at}
-use Rattle.su_reduce.proofs.Extending.{extends_self, extends_then, row_more, values_more}
+use Rattle.su_reduce.proofs.CodeExtensions.{extends_self, extends_then, row_more, values_more}
 use Rattle.su_exec.proofs.fetching.code_row.Goals as goal
 
 pub loop-first-init : goal.loop-first-init

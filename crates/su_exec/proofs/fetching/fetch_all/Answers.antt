@@ -6,8 +6,8 @@ use Rattle.su_index.specs.Tables.{table_at}
 use Rattle.su_exec.specs.inside.Coded.{IsGathered, IsTaken}
 use Rattle.su_exec.specs.Tasks.{FitsTables}
 use Rattle.su_exec.specs.inside.Ways.{IsFrom}
-use Rattle.su_exec.proofs.Gathering.{gathered_none, gathered_then}
-use Rattle.su_exec.proofs.Sourcing.{from_before, from_cases, from_here, from_none}
+use Rattle.su_exec.proofs.GatheredRows.{gathered_none, gathered_then}
+use Rattle.su_exec.proofs.Sources.{from_before, from_cases, from_here, from_none}
 use Rattle.su_exec.proofs.fetching.fetch_all.Goals as goal
 
 pub loop-i-init : goal.loop-i-init

@@ -7,8 +7,8 @@ use Rattle.su_index.specs.Tables.{table_at}
 use Rattle.su_exec.specs.inside.Coded.{IsGathered, IsTaken}
 use Rattle.su_exec.specs.Tasks.{FitsTables}
 use Rattle.su_exec.specs.inside.Ways.{IsFromValue}
-use Rattle.su_exec.proofs.Gathering.{gathered_as, gathered_none, gathered_then}
-use Rattle.su_exec.proofs.Sourcing.{IsFromMatch, match_before, match_cases, match_here, match_none, match_value, value_match}
+use Rattle.su_exec.proofs.GatheredRows.{gathered_as, gathered_none, gathered_then}
+use Rattle.su_exec.proofs.Sources.{IsFromMatch, match_before, match_cases, match_here, match_none, match_value, value_match}
 use Rattle.su_exec.proofs.fetching.fetch_matching.Goals as goal
 
 pub loop-k-init : goal.loop-k-init

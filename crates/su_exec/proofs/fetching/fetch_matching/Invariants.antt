@@ -1,7 +1,7 @@
 use Rattle.std.proofs.Common.{◌≡◌, ◌≤◌, ◌+◌}
 use Rattle.su_index.specs.Tables.{table_at}
 use Rattle.su_exec.specs.inside.Coded.{IsGathered}
-use Rattle.su_exec.proofs.Sourcing.{IsFromMatch}
+use Rattle.su_exec.proofs.Sources.{IsFromMatch}
 use Rattle.su_exec.proofs.fetching.fetch_matching.Given as goal
 
 abbrev pub invariant-loop-k : goal.invariant-loop-k

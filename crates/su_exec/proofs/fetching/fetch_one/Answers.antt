@@ -2,7 +2,7 @@ use Rattle.std.proofs.Common.{◌≡◌, List, length, sym, subst, ◌∙◌}
 use Rattle.std.proofs.lemmas.Option.{same_Some}
 use Rattle.su_base.specs.declared.values.Value.{Value}
 use Rattle.su_exec.specs.inside.Coded.{IsGathered, IsTaken}
-use Rattle.su_exec.proofs.Sourcing.{within_stored}
+use Rattle.su_exec.proofs.Sources.{within_stored}
 use Rattle.su_exec.proofs.fetching.fetch_one.Goals as goal
 
 pub select-requires-clause-within : goal.select-requires-clause-within

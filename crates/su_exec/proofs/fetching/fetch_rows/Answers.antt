@@ -10,7 +10,7 @@ use Rattle.su_exec.specs.inside.Coded.{AreSoFar, IsCoded, IsRowEdge}
 use Rattle.su_exec.specs.inside.Edges.{Edge}
 use Rattle.su_exec.specs.Shares.{row_share}
 use Rattle.su_exec.specs.Tasks.{HasSources}
-use Rattle.su_exec.proofs.Leaving.{ended, none, share_start, share_step, start, step}
+use Rattle.su_exec.proofs.RemainingRows.{ended, none, share_start, share_step, start, step}
 use Rattle.su_exec.proofs.fetching.fetch_rows.Goals as goal
 
 pub loop-alloc-init : goal.loop-alloc-init

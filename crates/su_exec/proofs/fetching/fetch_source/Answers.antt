@@ -1,7 +1,7 @@
 use Rattle.std.proofs.Common.{◌≤◌, length, arith}
 use Rattle.su_index.specs.Tables.{table_at}
 use Rattle.su_exec.specs.inside.Ways.{AreValues}
-use Rattle.su_exec.proofs.Sourcing.{by_all, by_codes}
+use Rattle.su_exec.proofs.Sources.{by_all, by_codes}
 use Rattle.su_exec.proofs.fetching.fetch_source.Goals as goal
 
 pub returns-in-All-clause-gathered : goal.returns-in-All-clause-gathered

@@ -9,9 +9,9 @@ use Rattle.su_reduce.specs.Codes.{decode}
 use Rattle.su_exec.specs.inside.Coded.{IsGathered}
 use Rattle.su_exec.specs.Tasks.{FitsTables}
 use Rattle.su_exec.specs.inside.Ways.{IsFromCodes, IsFromValue, matches_all, only_code}
-use Rattle.su_exec.proofs.Accessing.{sum_more, sum_take}
-use Rattle.su_exec.proofs.Gathering.{gathered_none, gathered_then}
-use Rattle.su_exec.proofs.Sourcing.{codes_before, codes_cases, codes_here, codes_none}
+use Rattle.su_exec.proofs.Ways.{sum_more, sum_take}
+use Rattle.su_exec.proofs.GatheredRows.{gathered_none, gathered_then}
+use Rattle.su_exec.proofs.Sources.{codes_before, codes_cases, codes_here, codes_none}
 use Rattle.su_exec.proofs.fetching.fetch_values.Goals as goal
 
 pub loop-i-init : goal.loop-i-init

@@ -8,8 +8,8 @@ use Rattle.su_reduce.specs.Codes.{decode}
 use Rattle.su_exec.specs.inside.Coded.{IsTaken, picked}
 use Rattle.su_reduce.specs.Sheets.{AreBelow}
 use Rattle.su_exec.specs.Outputs.{values_at}
-use Rattle.su_exec.proofs.Gathering.{gathered_none, gathered_one}
-use Rattle.su_exec.proofs.Shaping.{shape_below}
+use Rattle.su_exec.proofs.GatheredRows.{gathered_none, gathered_one}
+use Rattle.su_exec.proofs.CellShapes.{shape_below}
 use Rattle.su_exec.proofs.fetching.select.Goals as goal
 
 pub fits-requires-clause-length : goal.fits-requires-clause-length

@@ -5,7 +5,7 @@ use Rattle.su_reduce.specs.Sheets.{pick}
 use Rattle.su_exec.specs.inside.Joins.{IsUpTo}
 use Rattle.su_reduce.specs.Chains.{in_bucket, hash_of, last}
 use Rattle.su_exec.specs.inside.Plans.{IsMade}
-use Rattle.su_reduce.proofs.Chaining.{last_le, last_none, last_again, next_is, all_step, key_bucket}
+use Rattle.su_reduce.proofs.Buckets.{last_le, last_none, last_again, next_is, all_step, key_bucket}
 use Rattle.su_exec.proofs.Made.{made_gives, gives_made, one_row}
 use Rattle.su_exec.proofs.joins.add_matches.Goals as goal
 

@@ -4,7 +4,7 @@ use Rattle.std.proofs.lemmas.List.Elements.{All-nil}
 use Rattle.su_exec.specs.declared.checks.Check.{Check}
 use Rattle.su_exec.specs.inside.Checks.{all_hold}
 use Rattle.su_exec.specs.inside.Edges.{Edge, Fits, FitsAll, Keeps, always}
-use Rattle.su_exec.proofs.Keeping.{keeps_trans}
+use Rattle.su_exec.proofs.PartSteps.{keeps_trans}
 use Rattle.su_exec.proofs.Over.{some_told}
 use Rattle.su_exec.proofs.merging.exists.Goals as goal
 

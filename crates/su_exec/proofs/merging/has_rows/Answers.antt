@@ -1,6 +1,6 @@
 use Rattle.std.proofs.Common.{◌≡◌, ℕ, length, ap, ◌∙◌}
 use Rattle.su_exec.specs.inside.Edges.{Edge}
-use Rattle.su_exec.proofs.Uniting.{rows_told}
+use Rattle.su_exec.proofs.MergeSteps.{rows_told}
 use Rattle.su_exec.proofs.merging.has_rows.Goals as goal
 
 pub returns : goal.returns

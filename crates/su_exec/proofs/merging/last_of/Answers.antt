@@ -2,7 +2,7 @@ use Rattle.std.proofs.Common.{◌≡◌, ◌∷◌, [], List, ℕ, sym, subst}
 use Rattle.su_exec.specs.declared.checks.Check.{Check}
 use Rattle.su_exec.specs.inside.Bodies.{AreThere}
 use Rattle.su_exec.specs.inside.Edges.{Edge}
-use Rattle.su_exec.proofs.Uniting.{last_is, last_keeps, last_vars}
+use Rattle.su_exec.proofs.MergeSteps.{last_is, last_keeps, last_vars}
 use Rattle.su_exec.proofs.merging.last_of.Goals as goal
 
 pub returns : goal.returns

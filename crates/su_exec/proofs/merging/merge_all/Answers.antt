@@ -3,7 +3,7 @@ use Rattle.su_exec.specs.declared.checks.Check.{Check}
 use Rattle.su_exec.specs.inside.Bodies.{IsPast}
 use Rattle.su_exec.specs.inside.Checks.{all_hold}
 use Rattle.su_exec.specs.inside.Edges.{Edge, Keeps, always}
-use Rattle.su_exec.proofs.Keeping.{keeps_trans}
+use Rattle.su_exec.proofs.PartSteps.{keeps_trans}
 use Rattle.su_exec.proofs.Over.{told_is}
 use Rattle.su_exec.proofs.merging.merge_all.Goals as goal
 

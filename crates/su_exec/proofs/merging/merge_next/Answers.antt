@@ -8,7 +8,7 @@ use Rattle.su_exec.specs.inside.Checks.{all_hold, all_pass}
 use Rattle.su_exec.specs.inside.Edges.{Edge, Splits, among, has}
 use Rattle.su_exec.specs.inside.Joins.{IsUpTo}
 use Rattle.su_exec.proofs.Parts.{taken_out}
-use Rattle.su_exec.proofs.Uniting.{all_of_two, merged_keeps, merged_there, over, over_there, two_parts}
+use Rattle.su_exec.proofs.MergeSteps.{all_of_two, merged_keeps, merged_there, over, over_there, two_parts}
 use Rattle.su_exec.proofs.merging.merge_next.Goals as goal
 use Rattle.su_exec.proofs.merging.merge_next.Goals.{In_ok-joined}
 

@@ -4,8 +4,8 @@ use Rattle.su_exec.specs.inside.Bodies.{AreThere}
 use Rattle.su_exec.specs.inside.Checks.{all_hold}
 use Rattle.su_exec.specs.inside.Edges.{Edge, Keeps}
 use Rattle.su_exec.specs.inside.Ranges.{AreCut}
-use Rattle.su_exec.proofs.Keeping.{keeps_trans}
-use Rattle.su_exec.proofs.Losing.{lost_keeps}
+use Rattle.su_exec.proofs.PartSteps.{keeps_trans}
+use Rattle.su_exec.proofs.CutEdges.{lost_keeps}
 use Rattle.su_exec.proofs.Over.{merged_back}
 use Rattle.su_exec.proofs.merging.run.Goals as goal
 

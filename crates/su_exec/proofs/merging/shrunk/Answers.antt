@@ -5,7 +5,7 @@ use Rattle.su_exec.specs.declared.checks.Test.{Test}
 use Rattle.su_exec.specs.inside.Bodies.{AreThere}
 use Rattle.su_exec.specs.inside.Checks.{all_hold, all_pass}
 use Rattle.su_exec.specs.inside.Edges.{Edge, has}
-use Rattle.su_exec.proofs.Uniting.{all_of_one, shrunk_keeps, shrunk_there, stays_keeps, stays_there}
+use Rattle.su_exec.proofs.MergeSteps.{all_of_one, shrunk_keeps, shrunk_there, stays_keeps, stays_there}
 use Rattle.su_exec.proofs.merging.shrunk.Goals as goal
 use Rattle.su_exec.proofs.merging.shrunk.Goals.{In_ok-tests}
 

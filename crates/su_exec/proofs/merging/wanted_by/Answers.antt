@@ -4,7 +4,7 @@ use Rattle.su_exec.specs.declared.checks.Check.{Check}
 use Rattle.su_exec.specs.declared.checks.CodedSymbol.TheVariants.{Code}
 use Rattle.su_exec.specs.inside.Checks.{vars_of}
 use Rattle.su_exec.specs.inside.Edges.{Edge}
-use Rattle.su_exec.proofs.Wanting.{checks_wanted, only_wanted, stays_wanted}
+use Rattle.su_exec.proofs.WantedVariables.{checks_wanted, only_wanted, stays_wanted}
 use Rattle.su_exec.proofs.merging.wanted_by.Goals as goal
 
 pub loop-check-preserved : goal.loop-check-preserved

@@ -1,7 +1,7 @@
 use Rattle.std.proofs.Common.{rules, ◌≡◌, ◌<◌, List, ℕ, length, get_or, subst}
 use Rattle.su_exec.specs.inside.Edges.{Edge}
 use Rattle.su_exec.specs.inside.Ranges.{IsBound, IsWidest}
-use Rattle.su_exec.proofs.Losing.{bound_by, if_some}
+use Rattle.su_exec.proofs.CutEdges.{bound_by, if_some}
 use Rattle.su_exec.proofs.narrowing.bound_for.Goals as goal
 
 pub returns-in-Some : goal.returns-in-Some

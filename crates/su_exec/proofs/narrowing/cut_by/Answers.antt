@@ -1,7 +1,7 @@
 use Rattle.std.proofs.Common.{List, ℕ}
 use Rattle.su_exec.specs.inside.Edges.{Edge}
 use Rattle.su_exec.specs.inside.Ranges.{IsBound, meets_code}
-use Rattle.su_exec.proofs.Losing.{cut_to, lost_on}
+use Rattle.su_exec.proofs.CutEdges.{cut_to, lost_on}
 use Rattle.su_exec.proofs.narrowing.cut_by.Goals as goal
 
 pub loop-i-preserved : goal.loop-i-preserved

@@ -1,7 +1,7 @@
 use Rattle.std.proofs.Common.{rules, ◌<◌, List, length}
 use Rattle.su_exec.specs.declared.checks.Check.{Check}
 use Rattle.su_exec.specs.inside.Checks.{all_hold}
-use Rattle.su_exec.proofs.Losing.{holds_at, lost_on}
+use Rattle.su_exec.proofs.CutEdges.{holds_at, lost_on}
 use Rattle.su_exec.proofs.narrowing.cut_by_all.Goals as goal
 
 pub loop-check-preserved : goal.loop-check-preserved

@@ -3,7 +3,7 @@ use Rattle.std.proofs.lemmas.List.{get_or_default}
 use Rattle.su_exec.specs.declared.checks.Spot.TheVariants.{Code as Given, Left}
 use Rattle.su_exec.specs.inside.Edges.{Edge}
 use Rattle.su_exec.specs.inside.Ranges.{ArePassing}
-use Rattle.su_exec.proofs.Losing.{cut_at, same_place}
+use Rattle.su_exec.proofs.CutEdges.{cut_at, same_place}
 use Rattle.su_exec.proofs.narrowing.cut_edge.Goals as goal
 
 pub with_rows-requires-clause-some : goal.with_rows-requires-clause-some

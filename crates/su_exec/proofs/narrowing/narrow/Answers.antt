@@ -1,5 +1,5 @@
 use Rattle.su_exec.specs.inside.Checks.{all_hold}
-use Rattle.su_exec.proofs.Losing.{lost_on, none_lost}
+use Rattle.su_exec.proofs.CutEdges.{lost_on, none_lost}
 use Rattle.su_exec.proofs.narrowing.narrow.Goals as goal
 
 pub loop-init : goal.loop-init

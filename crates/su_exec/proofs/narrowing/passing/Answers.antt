@@ -1,6 +1,6 @@
 use Rattle.std.proofs.Common.{◌≡◌, ◌∙◌, List, ℕ, [], length, get_or, ap, subst, arith}
 use Rattle.su_exec.specs.inside.Ranges.{ArePassing}
-use Rattle.su_exec.proofs.Losing.{pass_more}
+use Rattle.su_exec.proofs.CutEdges.{pass_more}
 use Rattle.su_exec.proofs.narrowing.passing.Goals as goal
 
 pub loop-i-preserved : goal.loop-i-preserved

@@ -1,7 +1,7 @@
 use Rattle.std.proofs.Common.{◌≡◌, sym, subst, ⊎_elim}
 use Rattle.su_where.specs.declared.operators.Op.TheVariants.{Greater, GreaterEqual, Less, LessEqual}
 use Rattle.su_exec.specs.inside.Ranges.{IsSide}
-use Rattle.su_exec.proofs.Siding.{greater_equal_side, greater_side, less_equal_side, less_side}
+use Rattle.su_exec.proofs.Sides.{greater_equal_side, greater_side, less_equal_side, less_side}
 use Rattle.su_exec.proofs.narrowing.side_of.Goals as goal
 
 pub returns-in-Less : goal.returns-in-Less

@@ -1,7 +1,7 @@
 use Rattle.std.proofs.Common.{◌≡◌, sym, subst}
 use Rattle.su_where.specs.Operator.{compares}
 use Rattle.su_where.specs.declared.operators.Op.TheVariants.{Equal, Greater, GreaterEqual, Less, LessEqual, NotEqual}
-use Rattle.su_exec.proofs.Siding.{turn_equal, turn_greater, turn_greater_equal, turn_less, turn_less_equal, turn_not_equal}
+use Rattle.su_exec.proofs.Sides.{turn_equal, turn_greater, turn_greater_equal, turn_less, turn_less_equal, turn_not_equal}
 use Rattle.su_exec.proofs.narrowing.turned.Goals as goal
 
 pub returns-in-Equal : goal.returns-in-Equal

@@ -1,4 +1,4 @@
-use Rattle.su_exec.proofs.Absorbing.{leaves_refl, leaves_trans}
+use Rattle.su_exec.proofs.Ears.{leaves_refl, leaves_trans}
 use Rattle.su_exec.proofs.reducing.go_up.Goals as goal
 
 pub loop-link-init : goal.loop-link-init

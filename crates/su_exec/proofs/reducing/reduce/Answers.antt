@@ -1,4 +1,4 @@
-use Rattle.su_exec.proofs.Absorbing.{leaves_same, leaves_trans}
+use Rattle.su_exec.proofs.Ears.{leaves_same, leaves_trans}
 use Rattle.su_exec.proofs.reducing.reduce.Goals as goal
 
 pub returns : goal.returns

@@ -1,9 +1,9 @@
 use Rattle.std.proofs.Common.{◌≡◌, ◌<◌, ℕ, List, true, length, get_or, subst, sym, rules}
 use Rattle.su_exec.specs.inside.Edges.{Edge, has}
 use Rattle.su_exec.specs.inside.Semijoins.{IsSemijoin}
-use Rattle.su_exec.proofs.Filtering.{kept_in_place, semijoin_both}
+use Rattle.su_exec.proofs.SemijoinRows.{kept_in_place, semijoin_both}
 use Rattle.su_exec.proofs.Partners.{swap_same}
-use Rattle.su_exec.proofs.Uniting.{among_set}
+use Rattle.su_exec.proofs.MergeSteps.{among_set}
 use Rattle.su_exec.proofs.reducing.reduce_one.Goals as goal
 
 pub returns-clause-same : goal.returns-clause-same

@@ -5,8 +5,8 @@ use Rattle.std.proofs.lemmas.List.Edits.{length-remove}
 use Rattle.su_exec.specs.declared.checks.Check.{Check}
 use Rattle.su_exec.specs.inside.Edges.{Edge, has}
 use Rattle.su_exec.specs.inside.Semijoins.{IsSemijoin}
-use Rattle.su_exec.proofs.Absorbing.{put_last, taken_out}
-use Rattle.su_exec.proofs.Filtering.{kept_in_place}
+use Rattle.su_exec.proofs.Ears.{put_last, taken_out}
+use Rattle.su_exec.proofs.SemijoinRows.{kept_in_place}
 use Rattle.su_exec.proofs.reducing.take_ear.Goals as goal
 use Rattle.su_exec.proofs.reducing.take_ear.Goals.{In_ok-wanted}
 

@@ -1,6 +1,6 @@
 use Rattle.std.proofs.Common.{◌<◌, List, [], ℕ, Bool, false, IsTrue, length, get_or, ap, ◌∙◌, arith}
 use Rattle.su_reduce.specs.Sheets.{pick}
-use Rattle.su_exec.proofs.Filtering.{all_marked}
+use Rattle.su_exec.proofs.SemijoinRows.{all_marked}
 use Rattle.su_exec.proofs.semijoins.with_partners.Goals as goal
 
 pub returns-clause-exact : goal.returns-clause-exact

@@ -1,6 +1,6 @@
 use Rattle.std.proofs.Common.{Contains, subst}
 use Rattle.su_tableau.specs.declared.symbols.Sym.TheVariants.{Var}
-use Rattle.su_exec.proofs.Labelling.{stands_at}
+use Rattle.su_exec.proofs.Labels.{stands_at}
 use Rattle.su_exec_tests.proofs.tests.stands_in_some.Goals as goal
 
 pub returns-then-has_variable : goal.returns-then-has_variable

@@ -1,7 +1,7 @@
 use Rattle.std.proofs.Common.{IsTrue}
 use Rattle.std.specs.Ordering.{nat_cmp}
 use Rattle.std.specs.FinSet.{FinSet, is_subset}
-use Rattle.su_base.proofs.Growing.{remaining}
+use Rattle.su_base.proofs.RemainingSets.{remaining}
 use Rattle.su_fd.specs.Closure.{IsClosed}
 use Rattle.su_fd.proofs.closures.closure.Given as goal
 

@@ -1,5 +1,5 @@
 use Rattle.std.proofs.Common.{ℕ, List, ◌++◌}
-use Rattle.su_base.proofs.Growing.{remaining}
+use Rattle.su_base.proofs.RemainingSets.{remaining}
 use Rattle.su_fd.specs.Derivation.{IsDerivation}
 use Rattle.su_fd.proofs.derivations.derivation.Given as goal
 

@@ -1,5 +1,5 @@
 use Rattle.std.proofs.Common.{sym, ◌∙◌, arith, rules}
-use Rattle.su_io.proofs.Reading.{front}
+use Rattle.su_io.proofs.FileContents.{front}
 use Rattle.su_io.proofs.pieces.find.Goals as goal
 
 pub returns-then-eq-clause-found : goal.returns-then-eq-clause-found

@@ -1,6 +1,6 @@
 use Rattle.std.proofs.Common.{◌≡◌, ◌∙◌, ℕ, length, sym, subst}
 use Rattle.su_map.specs.inside.Choices.{IsChoice, Shrinks}
-use Rattle.su_map.proofs.Narrowing.{assigned_then}
+use Rattle.su_map.proofs.ShrunkDomains.{assigned_then}
 use Rattle.su_map.proofs.domains.descend.Goals as goal
 
 pub returns-in-Some-clause-left : goal.returns-in-Some-clause-left

@@ -2,7 +2,7 @@ use Rattle.std.proofs.Common.{◌≡◌, ◌∙◌, ℕ, length, sym, ap, arith}
 use Rattle.std.specs.Int.{bit_at}
 use Rattle.su_map.specs.inside.Choices.{IsChoice}
 use Rattle.su_map.proofs.Members.{no_member, without_in, with_in}
-use Rattle.su_map.proofs.Narrowing.{set_choice, set_shrinks, set_alive}
+use Rattle.su_map.proofs.ShrunkDomains.{set_choice, set_shrinks, set_alive}
 use Rattle.su_map.proofs.domains.revise.Goals as goal
 use Rattle.su_map.proofs.domains.revise.Goals.{After-supported-left, then-left-before, else-left-before}
 

@@ -1,4 +1,4 @@
-use Rattle.su_map.proofs.Containing.{containment}
+use Rattle.su_map.proofs.Containment.{containment}
 use Rattle.su_map.proofs.laws.mappings_are_containment.Goals as goal
 
 pub returns : goal.returns

@@ -1,4 +1,4 @@
-use Rattle.su_map.proofs.Containing.{list_maps, maps_list}
+use Rattle.su_map.proofs.Containment.{list_maps, maps_list}
 use Rattle.su_map.proofs.laws.row_lists_are_mappings.Goals as goal
 
 pub returns : goal.returns

@@ -1,5 +1,5 @@
 use Rattle.std.proofs.Common.{◌∙◌, sym, true≢false}
-use Rattle.su_map.proofs.Joining.{heads_are, mapping_head, mapping_target}
+use Rattle.su_map.proofs.RowTargets.{heads_are, mapping_head, mapping_target}
 use Rattle.su_map.proofs.nets.fill_own.Goals as goal
 
 pub returns-then-not-line_fits-clause-none : goal.returns-then-not-line_fits-clause-none

@@ -1,5 +1,5 @@
 use Rattle.std.proofs.Common.{arith}
-use Rattle.su_map.proofs.Sending.{rows_copied, sending_copied}
+use Rattle.su_map.proofs.Sendings.{rows_copied, sending_copied}
 use Rattle.su_map.proofs.nets.fill_pairs.Goals as goal
 
 pub narrow-requires-clause-rows : goal.narrow-requires-clause-rows

@@ -2,7 +2,7 @@ use Rattle.std.proofs.Common.{◌≡◌, sym, subst, rules}
 use Rattle.su_tableau.specs.Parts.{part}
 use Rattle.su_tableau.specs.Equivalent.{IsWithin}
 use Rattle.su_map.specs.Lists.{Certified}
-use Rattle.su_map.proofs.Containing.{mapping_within}
+use Rattle.su_map.proofs.Containment.{mapping_within}
 use Rattle.su_map.proofs.rooms.certify.Goals as goal
 
 pub returns-clause-contains : goal.returns-clause-contains

@@ -1,4 +1,4 @@
-use Rattle.su_map.proofs.Answering.{none_iff}
+use Rattle.su_map.proofs.FoundMappings.{none_iff}
 use Rattle.su_map.proofs.rooms.exists_prepared.Goals as goal
 
 pub returns-clause-none : goal.returns-clause-none

@@ -1,6 +1,6 @@
 use Rattle.std.proofs.Common.{true≢false, sym, ◌∙◌}
-use Rattle.su_map.proofs.Answering.{none_iff}
-use Rattle.su_map.proofs.Containing.{tells_within}
+use Rattle.su_map.proofs.FoundMappings.{none_iff}
+use Rattle.su_map.proofs.Containment.{tells_within}
 use Rattle.su_map.proofs.rooms.first.Goals as goal
 
 pub returns-then-prepare-clause-none : goal.returns-then-prepare-clause-none

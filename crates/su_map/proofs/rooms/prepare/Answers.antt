@@ -1,6 +1,6 @@
 use Rattle.std.proofs.Common.{◌≤◌, length, ap, arith}
 use Rattle.su_map.specs.Rooms.{Space}
-use Rattle.su_map.proofs.Narrowing.{less_room}
+use Rattle.su_map.proofs.ShrunkDomains.{less_room}
 use Rattle.su_map.proofs.Roomy.{less_roomy}
 use Rattle.su_map.proofs.rooms.prepare.Goals as goal
 

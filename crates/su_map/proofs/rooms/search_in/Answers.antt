@@ -4,7 +4,7 @@ use Rattle.su_map.specs.Lists.{IsMapping, IsFirst}
 use Rattle.su_map.specs.Nets.{IsNet, IsNetFor}
 use Rattle.su_map.specs.Rooms.{Space}
 use Rattle.su_map.specs.inside.Choices.{IsFound, IsFirstOf, IsChoiceInto, ArePassed, tries}
-use Rattle.su_map.proofs.Answering.{AreLike, found_mapping, found_first, none_mapping, within_products}
+use Rattle.su_map.proofs.FoundMappings.{AreLike, found_mapping, found_first, none_mapping, within_products}
 use Rattle.su_map.proofs.Roomy.{refill_length, rows_enough, sound_same}
 use Rattle.su_map.proofs.rooms.search_in.Goals as goal
 

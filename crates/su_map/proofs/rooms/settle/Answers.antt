@@ -2,8 +2,8 @@ use Rattle.std.proofs.Common.{◌≡◌, ◌⊎◌, ◌+◌, ◌*◌, ◌≤◌,
 use Rattle.su_map.specs.Lists.{numbers_of}
 use Rattle.su_map.specs.inside.Choices.{IsChoice, IsChoiceInto, AreSame, IsLess, Shrinks, choice_of, Stands, tries, ArePassed}
 use Rattle.su_map.proofs.Members.{full_member}
-use Rattle.su_map.proofs.Narrowing.{widen}
-use Rattle.su_map.proofs.Settling.{AreBoth, both_rows, into_choice, choice_into, same_rows, stands_start, levels_enough, rows_tries, rows_passed}
+use Rattle.su_map.proofs.ShrunkDomains.{widen}
+use Rattle.su_map.proofs.SearchStart.{AreBoth, both_rows, into_choice, choice_into, same_rows, stands_start, levels_enough, rows_tries, rows_passed}
 use Rattle.su_map.proofs.rooms.settle.Goals as goal
 
 pub propagate-requires-clause-mask : goal.propagate-requires-clause-mask

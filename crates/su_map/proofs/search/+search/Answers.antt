@@ -3,8 +3,8 @@ use Rattle.std.specs.Int.{bit_at}
 use Rattle.su_map.specs.Lists.{numbers_of}
 use Rattle.su_map.specs.Netted.{HasRoom}
 use Rattle.su_map.specs.inside.Choices.{IsChoice, AreSame, IsLess, choice_of, Stands, IsInOrder, AreKept, tries, ArePassed}
-use Rattle.su_map.proofs.Costing.{le_at, cost_passed, cost_tried, cost_all}
-use Rattle.su_map.proofs.Searching.{without_less, room_next, room_enough, stays, stands_next, order_next, kept_deeper, first_step}
+use Rattle.su_map.proofs.SearchCosts.{le_at, cost_passed, cost_tried, cost_all}
+use Rattle.su_map.proofs.SearchStates.{without_less, room_next, room_enough, stays, stands_next, order_next, kept_deeper, first_step}
 use Rattle.su_map.proofs.search.+search.Goals as goal
 use Rattle.su_map.proofs.search.+search.Goals.{then-has+else-descend, else-descend-via-then-descend+else-search, else-descend-via-else-descend, else-has}
 

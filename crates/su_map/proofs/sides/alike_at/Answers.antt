@@ -1,6 +1,6 @@
 use Rattle.std.proofs.Common.{◌∙◌, sym, arith}
 use Rattle.su_map.proofs.Cells.{read_holds}
-use Rattle.su_map.proofs.Noting.{only_one}
+use Rattle.su_map.proofs.NotedRows.{only_one}
 use Rattle.su_map.proofs.sides.alike_at.Goals as goal
 
 pub returns-then-others-eq0 : goal.returns-then-others-eq0

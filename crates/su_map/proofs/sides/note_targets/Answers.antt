@@ -1,7 +1,7 @@
 use Rattle.std.proofs.Common.{◌^◌, ◌∙◌, length, ap, sym, subst, arith}
 use Rattle.su_tableau.specs.Tableaux.{AreVarsBelow}
 use Rattle.su_map.proofs.Members.{full_member}
-use Rattle.su_map.proofs.Noting.{vars_below}
+use Rattle.su_map.proofs.NotedRows.{vars_below}
 use Rattle.su_map.proofs.sides.note_targets.Goals as goal
 
 pub note_rows-requires : goal.note_rows-requires

@@ -1,7 +1,7 @@
 use Rattle.std.proofs.Common.{◌^◌, ◌∙◌, [], length, ap, arith}
 use Rattle.su_map.proofs.Cells.{read_holds}
 use Rattle.su_map.proofs.Members.{full_member}
-use Rattle.su_map.proofs.Noting.{noted_member}
+use Rattle.su_map.proofs.NotedRows.{noted_member}
 use Rattle.su_map.proofs.sides.rows_with.Goals as goal
 
 pub noted_at-requires : goal.noted_at-requires

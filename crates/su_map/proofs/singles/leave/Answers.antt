@@ -4,7 +4,7 @@ use Rattle.su_tableau.specs.declared.symbols.Sym.TheVariants.{Var}
 use Rattle.su_map.specs.Lists.{row_of}
 use Rattle.su_map.specs.inside.Sendings.{IsSending}
 use Rattle.su_map.proofs.Members.{no_member}
-use Rattle.su_map.proofs.Sending.{rows_fewer, sending_stays, told_sending}
+use Rattle.su_map.proofs.Sendings.{rows_fewer, sending_stays, told_sending}
 use Rattle.su_map.proofs.singles.leave.Goals as goal
 use Rattle.su_map.proofs.singles.leave.Goals.{After-agreeing-left}
 

@@ -2,7 +2,7 @@ use Rattle.std.proofs.Common.{◌≡◌, ◌+◌, ◌∙◌, ℕ, get_or, sym, a
 use borrow.Author.Count.{below_more}
 use Rattle.std.specs.Int.{bit_at}
 use Rattle.su_map.specs.inside.Targets.{IsToldAt}
-use Rattle.su_map.proofs.Telling.{none_told}
+use Rattle.su_map.proofs.AgreementTable.{none_told}
 use Rattle.su_map.proofs.tables.agree_at.Goals as goal
 use Rattle.su_map.proofs.tables.agree_at.Goals.{then-has, else-has}
 

@@ -1,5 +1,5 @@
 use Rattle.std.proofs.Common.{arith}
-use Rattle.su_map.proofs.Telling.{told_none, told_next, told_all}
+use Rattle.su_map.proofs.AgreementTable.{told_none, told_next, told_all}
 use Rattle.su_map.proofs.tables.agreeing.Goals as goal
 
 pub loop-e-init : goal.loop-e-init

@@ -1,4 +1,4 @@
-use Rattle.su_map.proofs.Telling.{AreToldTo}
+use Rattle.su_map.proofs.AgreementTable.{AreToldTo}
 use Rattle.su_map.proofs.tables.agreeing.Given as goal
 
 abbrev pub invariant-loop-e : goal.invariant-loop-e

@@ -2,7 +2,7 @@ use Rattle.std.proofs.Common.{◌≡◌, ◌≢◌, ◌<◌, ◌*◌, ◌∙◌,
 use borrow.Author.Count.{below_more}
 use Rattle.std.specs.Int.{bit_at}
 use Rattle.su_map.specs.inside.Targets.{IsTold}
-use Rattle.su_map.proofs.Telling.{told_kept}
+use Rattle.su_map.proofs.AgreementTable.{told_kept}
 use Rattle.su_map.proofs.tables.fill_agree.Goals as goal
 use Rattle.su_map.proofs.tables.fill_agree.Goals.{then-has, else-has}
 

@@ -1,5 +1,5 @@
 use Rattle.std.proofs.Common.{◌+◌, ◌∙◌, get_or, sym, subst, arith}
-use Rattle.su_map.proofs.Telling.{AreToldTo, told_none, told_next, told_all}
+use Rattle.su_map.proofs.AgreementTable.{AreToldTo, told_none, told_next, told_all}
 use Rattle.su_map.proofs.tables.fill_pair.Goals as goal
 
 pub loop-e-init : goal.loop-e-init

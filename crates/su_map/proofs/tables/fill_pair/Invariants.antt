@@ -1,6 +1,6 @@
 use Rattle.std.proofs.Common.{◌≡◌, ℕ, ◌+◌, ◌<◌, get_or, length}
 use Rattle.std.specs.Int.{bit_at}
-use Rattle.su_map.proofs.Telling.{AreToldTo}
+use Rattle.su_map.proofs.AgreementTable.{AreToldTo}
 use Rattle.su_map.proofs.tables.fill_pair.Given as goal
 
 abbrev pub invariant-loop-e : goal.invariant-loop-e

@@ -4,7 +4,7 @@ use Rattle.std.specs.Int.{bit_at}
 use Rattle.su_tableau.specs.declared.symbols.Sym.TheVariants.{Var}
 use Rattle.su_map.specs.Lists.{row_of}
 use Rattle.su_map.specs.inside.Targets.{IsTold}
-use Rattle.su_map.proofs.Telling.{told_kept, shared_is}
+use Rattle.su_map.proofs.AgreementTable.{told_kept, shared_is}
 use Rattle.su_map.proofs.tables.fill_row.Goals as goal
 use Rattle.su_map.proofs.tables.fill_row.Goals.{then-q-i+then-has+then-has-2, else-q-i, else-q-i-via-then-q-i+then-has+else-has-2, else-q-i-via-then-q-i+else-has, else-q-i-via-else-q-i}
 

@@ -1,6 +1,6 @@
 use Rattle.std.proofs.Common.{below_more, refl, sym, arith}
 use Rattle.std.proofs.lemmas.Bool.{false≢true}
-use Rattle.su_maxobj.specs.Adjoining.{Adjoinable}
+use Rattle.su_maxobj.specs.AdjoinableObjects.{Adjoinable}
 use Rattle.su_maxobj.proofs.GrowthSteps.{not_adjoinable_push}
 use Rattle.su_maxobj.proofs.growing.first_adjoinable.Goals as goal
 

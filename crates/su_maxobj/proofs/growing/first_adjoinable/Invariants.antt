@@ -1,5 +1,5 @@
 use Rattle.std.proofs.Common.{ℕ, ◌<◌}
-use Rattle.su_maxobj.specs.Adjoining.{Adjoinable}
+use Rattle.su_maxobj.specs.AdjoinableObjects.{Adjoinable}
 use Rattle.su_maxobj.specs.inside.Ruled.{AreNotAdjoinable}
 use Rattle.su_maxobj.proofs.growing.first_adjoinable.Given as goal
 

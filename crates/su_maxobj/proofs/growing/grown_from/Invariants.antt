@@ -1,6 +1,6 @@
 use Rattle.std.proofs.Common.{ℕ, List, length}
 use Rattle.std.specs.FinSet.{insert, empty}
-use Rattle.su_maxobj.specs.Adjoining.{IsAttributesOf}
+use Rattle.su_maxobj.specs.AdjoinableObjects.{IsAttributesOf}
 use Rattle.su_maxobj.specs.Growth.{IsGrowth}
 use Rattle.su_maxobj.specs.inside.Ruled.{AreNotAdjoinable}
 use Rattle.su_maxobj.proofs.GrowthSteps.{missing}

@@ -1,6 +1,6 @@
 use Rattle.std.proofs.Common.{IsTrue}
 use Rattle.std.specs.FinSet.{is_subset}
-use Rattle.su_base.proofs.Growing.{remaining}
+use Rattle.su_base.proofs.RemainingSets.{remaining}
 use Rattle.su_maxobj.proofs.Spread.{ComesFrom, IsSpread}
 use Rattle.su_maxobj.proofs.spreading.apart.Given as goal
 

@@ -2,7 +2,7 @@ use Rattle.std.proofs.Common.{◌≡◌, ◌-◌, ◌^◌, ◌∙◌, suc, refl,
 use Rattle.su_map.specs.Nets.{IsNet}
 use Rattle.su_min.proofs.Parts.{maps_sub}
 use Rattle.su_min.proofs.Greedy.{IsGreedy, greedy_start, greedy_drop, greedy_keep, greedy_end}
-use Rattle.su_min.proofs.Keeping.{Fits, fits_all, has_net, net_for, full_is, fits_fewer, none_fewer, kept_from}
+use Rattle.su_min.proofs.KeptRows.{Fits, fits_all, has_net, net_for, full_is, fits_fewer, none_fewer, kept_from}
 use Rattle.su_min.proofs.kept.kept_mask.Goals as goal
 
 pub loop-i-init : goal.loop-i-init

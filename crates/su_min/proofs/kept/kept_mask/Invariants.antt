@@ -2,7 +2,7 @@ use Rattle.std.proofs.Common.{◌≤◌}
 use Rattle.su_map.specs.Nets.{IsNet}
 use Rattle.su_map.specs.Rooms.{HasSizesOf}
 use Rattle.su_min.proofs.Greedy.{IsGreedy}
-use Rattle.su_min.proofs.Keeping.{Fits}
+use Rattle.su_min.proofs.KeptRows.{Fits}
 use Rattle.su_min.proofs.kept.kept_mask.Given as goal
 
 abbrev pub invariant-loop-i : goal.invariant-loop-i

@@ -3,8 +3,8 @@ use Rattle.std.proofs.lemmas.List.{length-append}
 use Rattle.su_min.specs.Kept.{IsMinimised}
 use Rattle.su_min.specs.Cover.{Covers}
 use Rattle.su_min.specs.Reduction.{term_at}
-use Rattle.su_min.proofs.Rowing.{row_more, item_at}
-use Rattle.su_min.proofs.Telling.{known_covers}
+use Rattle.su_min.proofs.MatrixRows.{row_more, item_at}
+use Rattle.su_min.proofs.CoverMatrix.{known_covers}
 use Rattle.su_min.proofs.matrix.row_counted.Goals as goal
 
 pub loop-i-preserved : goal.loop-i-preserved

@@ -6,8 +6,8 @@ use Rattle.rayon.proofs.ToStd.{nat_range-All}
 use Rattle.su_base.specs.declared.lists.NoMemory.{NoMemory}
 use Rattle.su_min.specs.Reduction.{term_at}
 use Rattle.su_min.specs.inside.Matrix.{AreKnown, IsRowOf, IsMatrix}
-use Rattle.su_min.proofs.Rowing.{collected, rows_matrix, zip_given}
-use Rattle.su_min.proofs.Telling.{none_known, first_known}
+use Rattle.su_min.proofs.MatrixRows.{collected, rows_matrix, zip_given}
+use Rattle.su_min.proofs.CoverMatrix.{none_known, first_known}
 use Rattle.su_min.proofs.matrix.rows_at_once.Goals as goal
 
 pub collect-requires-clause-ready : goal.collect-requires-clause-ready

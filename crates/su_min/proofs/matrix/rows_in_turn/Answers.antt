@@ -1,8 +1,8 @@
 use Rattle.std.proofs.Common.{◌∙◌, [], ◌∷◌, length, ap, subst, sym, arith}
 use Rattle.std.proofs.lemmas.List.{length-append}
 use Rattle.su_min.specs.inside.Matrix.{AreKnown}
-use Rattle.su_min.proofs.Rowing.{rows_more}
-use Rattle.su_min.proofs.Telling.{none_known, first_known}
+use Rattle.su_min.proofs.MatrixRows.{rows_more}
+use Rattle.su_min.proofs.CoverMatrix.{none_known, first_known}
 use Rattle.su_min.proofs.matrix.rows_in_turn.Goals as goal
 
 pub loop-j-preserved : goal.loop-j-preserved

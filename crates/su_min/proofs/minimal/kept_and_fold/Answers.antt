@@ -1,7 +1,7 @@
 use Rattle.std.proofs.Common.{◌^◌, ◌∙◌, sym, ap, subst, arith}
 use Rattle.su_map.specs.Nets.{IsNet}
 use Rattle.su_min.specs.Kept.{IsFold}
-use Rattle.su_min.proofs.Keeping.{fold_from, full_is, kept_within, net_for}
+use Rattle.su_min.proofs.KeptRows.{fold_from, full_is, kept_within, net_for}
 use Rattle.su_min.proofs.minimal.kept_and_fold.Goals as goal
 
 pub first_prepared-requires-clause-prepared : goal.first_prepared-requires-clause-prepared

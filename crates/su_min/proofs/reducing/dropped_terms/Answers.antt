@@ -1,6 +1,6 @@
 use Rattle.std.proofs.Common.{length}
 use Rattle.su_min.specs.inside.Matrix.{entry, IsDroppedIn}
-use Rattle.su_min.proofs.Rowing.{marks_more}
+use Rattle.su_min.proofs.MatrixRows.{marks_more}
 use Rattle.su_min.proofs.reducing.dropped_terms.Goals as goal
 
 pub loop-i-preserved : goal.loop-i-preserved

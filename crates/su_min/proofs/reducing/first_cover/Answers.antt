@@ -1,6 +1,6 @@
 use Rattle.std.proofs.Common.{◌≡◌, ◌∙◌, length, get_or, true, false, below_more, true≢false, rules, sym, arith}
 use Rattle.su_min.specs.inside.Matrix.{entry, IsDroppedIn}
-use Rattle.su_min.proofs.Picking.{has_cover}
+use Rattle.su_min.proofs.KeptCovers.{has_cover}
 use Rattle.su_min.proofs.reducing.first_cover.Goals as goal
 use Rattle.su_min.proofs.reducing.first_cover.Goals.{else-has_entry-via-then-has_entry+else-not-dropped-k, else-has_entry-via-else-has_entry}
 

@@ -1,9 +1,9 @@
 use Rattle.std.proofs.Common.{◌∙◌, ◌+◌, ◌<◌, length, true≢false, sym, subst, arith}
 use Rattle.su_min.specs.inside.Matrix.{entry, IsMatrix, IsDroppedIn, AreMarks}
 use Rattle.su_min.specs.inside.Rooms.{IsRoomOf}
-use Rattle.su_min.proofs.Telling.{all_minimised, is_preorder, dropped_from, kept_from, least_cover}
+use Rattle.su_min.proofs.CoverMatrix.{all_minimised, is_preorder, dropped_from, kept_from, least_cover}
 use Rattle.su_min.proofs.Spared.{needed}
-use Rattle.su_min.proofs.Stepping.{AreReduced, one_kept, one_dropped, all_reduced}
+use Rattle.su_min.proofs.ReducedTerms.{AreReduced, one_kept, one_dropped, all_reduced}
 use Rattle.su_min.proofs.reducing.reduce_counted.Goals as goal
 use Rattle.su_min.proofs.reducing.reduce_counted.Goals.{then-dropped-i+in_ok-cover_of+in_ok-push, else-dropped-i+in_ok-push-2}
 

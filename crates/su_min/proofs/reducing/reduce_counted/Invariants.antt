@@ -1,5 +1,5 @@
 use Rattle.su_min.specs.inside.Rooms.{IsRoomOf}
-use Rattle.su_min.proofs.Stepping.{AreReduced}
+use Rattle.su_min.proofs.ReducedTerms.{AreReduced}
 use Rattle.su_min.proofs.reducing.reduce_counted.Given as goal
 
 abbrev pub invariant-loop-i : goal.invariant-loop-i

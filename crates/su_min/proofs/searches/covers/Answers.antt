@@ -1,7 +1,7 @@
 use Rattle.std.proofs.Common.{◌∙◌, length, true≢false, sym, ap, subst, arith}
 use Rattle.su_tableau.specs.Mapping.{images_of}
 use Rattle.su_min.specs.Cover.{AreAlike}
-use Rattle.su_min.proofs.Covering.{alike_heads}
+use Rattle.su_min.proofs.Covers.{alike_heads}
 use Rattle.su_min.proofs.searches.covers.Goals as goal
 
 pub returns-then-not-are_alike : goal.returns-then-not-are_alike

@@ -1,7 +1,7 @@
 use Rattle.std.proofs.Common.{sym, subst}
 use Rattle.su_map.specs.Rooms.{IsRoomFor}
 use Rattle.su_min.proofs.Rooming.{room_of_one}
-use Rattle.su_min.proofs.Stepping.{tells_found}
+use Rattle.su_min.proofs.ReducedTerms.{tells_found}
 use Rattle.su_min.proofs.searches.maps.Goals as goal
 
 pub exists-found-requires-clause-room : goal.exists-found-requires-clause-room

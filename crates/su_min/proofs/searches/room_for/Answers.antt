@@ -1,7 +1,7 @@
 use Rattle.std.proofs.Common.{◌∙◌, length, ap, subst, arith}
 use Rattle.su_base.proofs.Numbers.{ord_max-numbers}
 use Rattle.su_tableau.specs.Tableaux.{AreVarsBelow}
-use Rattle.su_map.proofs.Noting.{vars_below}
+use Rattle.su_map.proofs.NotedRows.{vars_below}
 use Rattle.su_min.proofs.Rooming.{enough_more}
 use Rattle.su_min.proofs.searches.room_for.Goals as goal
 

@@ -1,4 +1,4 @@
-use Rattle.su_once.proofs.OneReading.{one_outcome}
+use Rattle.su_once.proofs.OneOutcome.{one_outcome}
 use Rattle.su_once.proofs.readings.a_file_has_one_outcome.Goals as goal
 
 pub returns : goal.returns

@@ -1,4 +1,4 @@
-use Rattle.su_once.proofs.OneReading.{condition_not_refused}
+use Rattle.su_once.proofs.OneOutcome.{condition_not_refused}
 use Rattle.su_once.proofs.readings.a_refused_condition_is_not_known.Goals as goal
 
 pub returns : goal.returns

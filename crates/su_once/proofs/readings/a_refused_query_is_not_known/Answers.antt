@@ -1,4 +1,4 @@
-use Rattle.su_once.proofs.OneReading.{query_not_refused}
+use Rattle.su_once.proofs.OneOutcome.{query_not_refused}
 use Rattle.su_once.proofs.readings.a_refused_query_is_not_known.Goals as goal
 
 pub returns : goal.returns

@@ -1,4 +1,4 @@
-use Rattle.su_once.proofs.OneReading.{not_refused}
+use Rattle.su_once.proofs.OneOutcome.{not_refused}
 use Rattle.su_once.proofs.readings.a_refused_text_is_no_statement.Goals as goal
 
 pub returns : goal.returns

@@ -1,4 +1,4 @@
-use Rattle.su_once.proofs.OneReading.{one_statement}
+use Rattle.su_once.proofs.OneOutcome.{one_statement}
 use Rattle.su_once.proofs.readings.a_text_is_one_statement.Goals as goal
 
 pub returns : goal.returns

@@ -1,4 +1,4 @@
-use Rattle.su_once.proofs.OneReading.{one_refusal}
+use Rattle.su_once.proofs.OneOutcome.{one_refusal}
 use Rattle.su_once.proofs.readings.a_text_is_refused_for_one_cause.Goals as goal
 
 pub returns : goal.returns

@@ -1,4 +1,4 @@
-use Rattle.su_once.proofs.Chasing.{one_class_name}
+use Rattle.su_once.proofs.OneChase.{one_class_name}
 use Rattle.su_once.proofs.verdicts.a_class_has_one_name.Goals as goal
 
 pub returns : goal.returns

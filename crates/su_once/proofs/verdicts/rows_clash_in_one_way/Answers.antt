@@ -1,4 +1,4 @@
-use Rattle.su_once.proofs.Chasing.{one_clash}
+use Rattle.su_once.proofs.OneChase.{one_clash}
 use Rattle.su_once.proofs.verdicts.rows_clash_in_one_way.Goals as goal
 
 pub returns : goal.returns

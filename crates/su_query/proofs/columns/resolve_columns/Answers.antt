@@ -3,7 +3,7 @@ use Rattle.su_query.specs.declared.refs.Ref.{Ref}
 use Rattle.su_query.specs.declared.conditions.Comparison.{Comparison}
 use Rattle.su_query.specs.declared.scopes.Scope.TheVariants.{Columns}
 use Rattle.su_query.specs.Scopes.{names_in, first_unknown}
-use Rattle.su_query.specs.Differing.{differing_kinds}
+use Rattle.su_query.specs.KindDifferences.{differing_kinds}
 use Rattle.su_query.specs.Lookup.{IsColumnCondition}
 use Rattle.su_query.specs.Ranges.{IsOnColumns}
 use Rattle.su_query.proofs.Ranged.{columns_typed}

@@ -1,5 +1,5 @@
 use Rattle.std.proofs.Common.{◌≡◌, map, drop}
-use Rattle.su_query.specs.Differing.{differing_kinds}
+use Rattle.su_query.specs.KindDifferences.{differing_kinds}
 use Rattle.su_query.proofs.lookups.differing_among.Given as goal
 
 abbrev pub invariant-loop-comparison : goal.invariant-loop-comparison

@@ -2,7 +2,7 @@ use Rattle.std.proofs.Common.{◌≤◌, ◌∙◌, [], List, length, sym, ap, s
 use Rattle.su_query.specs.declared.scopes.Scope.TheVariants.{Attributes}
 use Rattle.su_query.specs.Mentions.{mentions, all_refs, variables_of}
 use Rattle.su_query.specs.Places.{number_in, places_of, places_in}
-use Rattle.su_query.specs.Numbering.{numbered}
+use Rattle.su_query.specs.NumberedConditions.{numbered}
 use Rattle.su_query.proofs.Placed.{few_variables, few_places}
 use Rattle.su_query.proofs.resolving.made.Goals as goal
 

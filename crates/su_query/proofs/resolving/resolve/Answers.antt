@@ -5,7 +5,7 @@ use Rattle.su_query.specs.declared.conditions.Comparison.{Comparison}
 use Rattle.su_query.specs.declared.scopes.Scope.TheVariants.{Attributes}
 use Rattle.su_query.specs.Refs.{refs_of}
 use Rattle.su_query.specs.Scopes.{first_unknown}
-use Rattle.su_query.specs.Differing.{differing_kinds}
+use Rattle.su_query.specs.KindDifferences.{differing_kinds}
 use Rattle.su_query.specs.Lookup.{IsKnownQuery}
 use Rattle.su_query.specs.Ranges.{IsResolved}
 use Rattle.su_query.proofs.Ranged.{query_resolved}

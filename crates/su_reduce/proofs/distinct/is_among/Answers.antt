@@ -3,7 +3,7 @@ use Rattle.std.proofs.lemmas.Bool.{true≢false}
 use Rattle.std.proofs.lemmas.List.{get_or_default}
 use Rattle.su_reduce.specs.Sheets.{pick}
 use Rattle.su_reduce.specs.Chains.{in_bucket, last}
-use Rattle.su_reduce.proofs.Chaining.{last_le, last_none, last_again, next_is, all_step, key_bucket}
+use Rattle.su_reduce.proofs.Buckets.{last_le, last_none, last_again, next_is, all_step, key_bucket}
 use Rattle.su_reduce.proofs.distinct.is_among.Goals as goal
 
 pub loop-at-init : goal.loop-at-init

@@ -3,8 +3,8 @@ use Rattle.su_reduce.specs.declared.edges.Edge.{Edge}
 use Rattle.su_reduce.specs.Left.{cells_at, candidates_at}
 use Rattle.su_reduce.specs.Shapes.{Fits}
 use Rattle.su_reduce.specs.inside.Marks.{mark, row_at, candidate_at}
-use Rattle.su_reduce.proofs.Reading.{edge_is}
-use Rattle.su_reduce.proofs.Meeting.{pushed_each, pushed_length}
+use Rattle.su_reduce.proofs.Candidates.{edge_is}
+use Rattle.su_reduce.proofs.MeetingSets.{pushed_each, pushed_length}
 use Rattle.su_reduce.proofs.fitting.fitting_marks.Goals as goal
 
 pub loop-edge-preserved : goal.loop-edge-preserved

@@ -1,8 +1,8 @@
 use Rattle.std.proofs.Common.{◌↔◌, ℕ, Bool, false, IsTrue}
 use Rattle.su_reduce.specs.Shapes.{Fits}
 use Rattle.su_reduce.specs.inside.Marks.{row_at}
-use Rattle.su_reduce.proofs.Reading.{told_at}
-use Rattle.su_reduce.proofs.Meeting.{pushed_each, pushed_length}
+use Rattle.su_reduce.proofs.Candidates.{told_at}
+use Rattle.su_reduce.proofs.MeetingSets.{pushed_each, pushed_length}
 use Rattle.su_reduce.proofs.fitting.fitting_rows.Goals as goal
 
 pub loop-row-preserved : goal.loop-row-preserved

@@ -1,6 +1,6 @@
 use Rattle.std.proofs.Common.{refl, sym}
 use Rattle.std.proofs.lemmas.Bool.{true≢false}
-use Rattle.su_reduce.proofs.Chaining.{keys_same, keys_differ}
+use Rattle.su_reduce.proofs.Buckets.{keys_same, keys_differ}
 use Rattle.su_reduce.proofs.hashes.same_key.Goals as goal
 
 pub returns-then-left-left_key : goal.returns-then-left-left_key

@@ -1,5 +1,5 @@
 use Rattle.std.proofs.Common.{arith}
-use Rattle.su_reduce.proofs.Meeting.{empty_in, below_next}
+use Rattle.su_reduce.proofs.MeetingSets.{empty_in, below_next}
 use Rattle.su_reduce.proofs.orders.all_below.Goals as goal
 
 pub loop-j-init : goal.loop-j-init

@@ -1,7 +1,7 @@
 use Rattle.std.proofs.Common.{◌↔◌, ℕ, Bool, [], false, IsTrue, get_or, arith}
 use Rattle.su_reduce.specs.Sheets.{pick}
 use Rattle.su_reduce.specs.inside.Partnered.{HasKey}
-use Rattle.su_reduce.proofs.Meeting.{pushed_each, pushed_length}
+use Rattle.su_reduce.proofs.MeetingSets.{pushed_each, pushed_length}
 use Rattle.su_reduce.proofs.partners.marks_by.Goals as goal
 
 pub loop-i-preserved : goal.loop-i-preserved

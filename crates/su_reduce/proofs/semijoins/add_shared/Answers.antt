@@ -1,5 +1,5 @@
 use Rattle.std.proofs.Common.{sym, ◌∙◌, arith}
-use Rattle.su_reduce.proofs.Placing.{cell_is, shared_none, shared_more}
+use Rattle.su_reduce.proofs.Places.{cell_is, shared_none, shared_more}
 use Rattle.su_reduce.proofs.semijoins.add_shared.Goals as goal
 
 pub returns-in_ok-push-2 : goal.returns-in_ok-push-2

@@ -1,5 +1,5 @@
 use Rattle.std.proofs.Common.{arith}
-use Rattle.su_reduce.proofs.Filling.{sheet_is}
+use Rattle.su_reduce.proofs.CodeRows.{sheet_is}
 use Rattle.su_reduce.proofs.semijoins.semijoin.Goals as goal
 
 pub partnered-requires-clause-coded : goal.partnered-requires-clause-coded

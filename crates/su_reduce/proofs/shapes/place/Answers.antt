@@ -1,5 +1,5 @@
 use Rattle.std.proofs.Common.{sym, ◌∙◌, arith}
-use Rattle.su_reduce.proofs.Placing.{cell_is, place_is, place_none}
+use Rattle.su_reduce.proofs.Places.{cell_is, place_is, place_none}
 use Rattle.su_reduce.proofs.shapes.place.Goals as goal
 
 pub returns-then-is_var : goal.returns-then-is_var

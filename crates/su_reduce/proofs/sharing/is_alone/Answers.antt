@@ -3,7 +3,7 @@ use Rattle.std.specs.Ordering.{nat_cmp}
 use Rattle.std.specs.FinSet.{FinSet}
 use Rattle.su_tableau.proofs.Rows.{below_more}
 use Rattle.su_reduce.specs.inside.Partners.{In, set_at}
-use Rattle.su_reduce.proofs.Meeting.{apart, none_common, set_is}
+use Rattle.su_reduce.proofs.MeetingSets.{apart, none_common, set_is}
 use Rattle.su_reduce.proofs.sharing.is_alone.Goals as goal
 
 pub returns-then-not-is_empty : goal.returns-then-not-is_empty

@@ -1,5 +1,5 @@
 use Rattle.std.proofs.Common.{true≢false, sym, ◌∙◌, arith}
-use Rattle.su_reduce.proofs.Meeting.{no_parent}
+use Rattle.su_reduce.proofs.MeetingSets.{no_parent}
 use Rattle.su_reduce.proofs.sharing.parent_of.Goals as goal
 
 pub returns : goal.returns

@@ -7,7 +7,7 @@ use Rattle.su_tableau.specs.declared.symbols.Sym.TheVariants.{Var}
 use Rattle.su_reduce.specs.Ears.{cells_of}
 use Rattle.su_reduce.specs.Shapes.{cell_at}
 use Rattle.su_reduce.specs.inside.Partners.{IsTouched}
-use Rattle.su_reduce.proofs.Meeting.{pushed_each, pushed_length}
+use Rattle.su_reduce.proofs.MeetingSets.{pushed_each, pushed_length}
 use Rattle.su_reduce.proofs.sharing.sets_of.Goals as goal
 
 pub loop-x-preserved : goal.loop-x-preserved

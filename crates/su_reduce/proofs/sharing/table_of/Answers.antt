@@ -6,7 +6,7 @@ use Rattle.su_tableau.specs.declared.symbols.Sym.{Sym}
 use Rattle.su_reduce.specs.declared.edges.Edge.{Edge}
 use Rattle.su_reduce.specs.Ears.{cells_of}
 use Rattle.su_reduce.specs.inside.Partners.{AreSets}
-use Rattle.su_reduce.proofs.Meeting.{pushed_each, pushed_length}
+use Rattle.su_reduce.proofs.MeetingSets.{pushed_each, pushed_length}
 use Rattle.su_reduce.proofs.sharing.table_of.Goals as goal
 
 pub loop-edge-preserved : goal.loop-edge-preserved

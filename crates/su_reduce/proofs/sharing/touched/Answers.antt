@@ -1,9 +1,9 @@
 use Rattle.std.proofs.Common.{true≢false, sym, ap, ◌∙◌, arith}
 use Rattle.su_reduce.specs.declared.edges.Edge.{Edge}
-use Rattle.su_tableau.proofs.Standing.{set_more, set_same}
+use Rattle.su_tableau.proofs.EssentialCells.{set_more, set_same}
 use Rattle.su_reduce.specs.Ears.{cells_of}
 use Rattle.su_reduce.specs.inside.Partners.{Touches}
-use Rattle.su_reduce.proofs.Meeting.{empty_in, cells_read, touches, among}
+use Rattle.su_reduce.proofs.MeetingSets.{empty_in, cells_read, touches, among}
 use Rattle.su_reduce.proofs.sharing.touched.Goals as goal
 use Rattle.su_reduce.proofs.sharing.touched.Goals.{then-is_among, else-is_among}
 

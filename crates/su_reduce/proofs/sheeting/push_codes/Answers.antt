@@ -1,6 +1,6 @@
 use Rattle.std.proofs.Common.{◌∙◌, ap, sym}
 use Rattle.su_reduce.specs.Sheets.{Rows}
-use Rattle.su_reduce.proofs.Extending.{extends_self}
+use Rattle.su_reduce.proofs.CodeExtensions.{extends_self}
 use Rattle.su_reduce.proofs.sheeting.push_codes.Goals as goal
 
 pub returns-then-row-width-clause-codes : goal.returns-then-row-width-clause-codes

@@ -4,7 +4,7 @@ use Rattle.std.proofs.lemmas.List.Elements.{All-nil}
 use Rattle.su_base.specs.declared.values.Value.{Value}
 use Rattle.su_reduce.specs.Codes.{decode, Extends}
 use Rattle.su_reduce.specs.Sheets.{AreBelow}
-use Rattle.su_reduce.proofs.Extending.{extends_self, extends_then, row_more, values_more}
+use Rattle.su_reduce.proofs.CodeExtensions.{extends_self, extends_then, row_more, values_more}
 use Rattle.su_reduce.proofs.sheeting.put_codes.Goals as goal
 
 pub loop-value-init : goal.loop-value-init

@@ -2,9 +2,9 @@ use Rattle.std.proofs.Common.{◌≡◌, ◌∙◌, List, ℕ, length, refl, ap,
 use Rattle.su_base.specs.declared.values.Value.{Value}
 use Rattle.su_reduce.specs.inside.Coded.{AreRowsOf}
 use Rattle.su_reduce.specs.inside.Marks.{row_at}
-use Rattle.su_reduce.proofs.Extending.{extends_self, extends_then}
-use Rattle.su_reduce.proofs.Reading.{row_is}
-use Rattle.su_reduce.proofs.Filling.{rows_more}
+use Rattle.su_reduce.proofs.CodeExtensions.{extends_self, extends_then}
+use Rattle.su_reduce.proofs.Candidates.{row_is}
+use Rattle.su_reduce.proofs.CodeRows.{rows_more}
 use Rattle.su_reduce.proofs.sheeting.sheet_of.Goals as goal
 
 pub loop-row-init : goal.loop-row-init

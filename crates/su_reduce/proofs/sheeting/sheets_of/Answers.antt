@@ -4,9 +4,9 @@ use Rattle.su_reduce.specs.declared.edges.Edge.{Edge}
 use Rattle.su_reduce.specs.Left.{edge_at, candidates_at, cells_at}
 use Rattle.su_reduce.specs.Sheets.{Rows}
 use Rattle.su_reduce.specs.inside.Coded.{IsSheetOf, sheet_at}
-use Rattle.su_reduce.proofs.Meeting.{pushed_each, pushed_length}
-use Rattle.su_reduce.proofs.Reading.{edge_is}
-use Rattle.su_reduce.proofs.Filling.{rows_up}
+use Rattle.su_reduce.proofs.MeetingSets.{pushed_each, pushed_length}
+use Rattle.su_reduce.proofs.Candidates.{edge_is}
+use Rattle.su_reduce.proofs.CodeRows.{rows_up}
 use Rattle.su_reduce.proofs.sheeting.sheets_of.Goals as goal
 
 pub loop-edge-preserved : goal.loop-edge-preserved

@@ -3,7 +3,7 @@ use Rattle.std.proofs.Common.{Err, ◌≡◌, ◌↔◌, List, Contains, ℕ, �
 use Rattle.std.specs.Int.{bit_at}
 use Rattle.std.specs.List.{sum_by}
 use Rattle.std.proofs.lemmas.Result.{err_from_is_err_and}
-use Rattle.su_map.proofs.Searching.{without_less}
+use Rattle.su_map.proofs.SearchStates.{without_less}
 use Rattle.su_refute.specs.declared.faults.RefuteFault.TheVariants.{Nodes}
 use Rattle.su_refute.specs.Trees.{lines_in}
 use Rattle.su_refute.specs.inside.Positions.{Stands}

@@ -2,7 +2,7 @@ use Rattle.std.proofs.Common.{◌≡◌, ℕ, sym, ap, ◌∙◌, true≢false, 
 use Rattle.std.specs.Int.{bit_at}
 use Rattle.su_map.specs.Lists.{row_of}
 use Rattle.su_map.proofs.Members.{collect_none, collect_more, collect_same}
-use Rattle.su_check.specs.inside.Agreeing.{Goes}
+use Rattle.su_check.specs.inside.Agreement.{Goes}
 use Rattle.su_refute.proofs.SharedPlaces.{goes_to, goes_from}
 use Rattle.su_refute.proofs.nets.base_of.Goals as goal
 use Rattle.su_refute.proofs.nets.base_of.Goals.{then-has+then-goes, else-has, else-has-via-then-has+else-goes, else-has-via-else-has}

@@ -1,7 +1,7 @@
 use Rattle.std.proofs.Common.{◌≡◌, ℕ, ◌<◌, ◌↔◌}
 use Rattle.std.specs.Int.{bit_at}
 use Rattle.su_map.specs.Lists.{row_of}
-use Rattle.su_check.specs.inside.Agreeing.{Goes}
+use Rattle.su_check.specs.inside.Agreement.{Goes}
 use Rattle.su_refute.proofs.nets.base_of.Given as goal
 
 abbrev pub invariant-loop-i : goal.invariant-loop-i

@@ -1,5 +1,5 @@
 use Rattle.std.proofs.Common.{◌≡◌, ◌∷◌, ◌++◌, flat_map, take}
-use Rattle.su_check.specs.Refuting.{target_of, node_of}
+use Rattle.su_check.specs.Refutations.{target_of, node_of}
 use Rattle.su_check.specs.NodeSymbols.{number, node_symbols}
 use Rattle.su_refute.proofs.symbols.+nodes.Given as goal
 

@@ -1,7 +1,7 @@
 use Rattle.std.proofs.Common.{◌≡◌, ◌++◌, ◌∷◌, [], length, map, flat_map, take, codes}
 use Rattle.su_check.specs.Grammar.{line, term_lines}
 use Rattle.su_check.specs.NodeSymbols.{number}
-use Rattle.su_lex.specs.Wording.{kind_symbol}
+use Rattle.su_lex.specs.Wordings.{kind_symbol}
 use Rattle.su_refute.specs.Written.{line_text, lines_text, terms_from}
 use Rattle.su_refute.proofs.writing.write.Given as goal
 

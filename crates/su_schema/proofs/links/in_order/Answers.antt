@@ -1,6 +1,6 @@
 use Rattle.std.proofs.Common.{◌≡◌, ◌+◌, ap, sym, ◌∙◌, ◌++◌, ◌∷◌, []}
-use Rattle.su_schema.specs.Defining.{ascending}
-use Rattle.su_schema.proofs.Ascending.{ascending-Some, ascending-None}
+use Rattle.su_schema.specs.Definitions.{ascending}
+use Rattle.su_schema.proofs.LinkOrder.{ascending-Some, ascending-None}
 use Rattle.su_schema.proofs.links.in_order.Goals.{in-Some+in_ok-push, in_default}
 use Rattle.su_schema.proofs.links.in_order.Goals as goal
 

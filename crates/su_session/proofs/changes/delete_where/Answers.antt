@@ -1,4 +1,4 @@
-use Rattle.su_session.proofs.Changing.{deleted_rows}
+use Rattle.su_session.proofs.ChangeReplies.{deleted_rows}
 use Rattle.su_session.proofs.changes.delete_where.Goals as goal
 
 pub returns-clause-replied : goal.returns-clause-replied

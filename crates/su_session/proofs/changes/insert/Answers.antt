@@ -1,9 +1,9 @@
 use Rattle.std.proofs.Common.{inr}
 use Rattle.std.proofs.lemmas.Result.{IfOk-weaker}
 use Rattle.su_show.specs.declared.statement_refusal.Refusal.TheVariants.{State}
-use Rattle.su_session.specs.Telling.{Refuses}
-use Rattle.su_session.specs.ChangingRows.{InRelation, InsertsRow}
-use Rattle.su_session.proofs.Changing.{refused_insert}
+use Rattle.su_session.specs.Outcomes.{Refuses}
+use Rattle.su_session.specs.RowStatements.{InRelation, InsertsRow}
+use Rattle.su_session.proofs.ChangeReplies.{refused_insert}
 use Rattle.su_session.proofs.changes.insert.Goals as goal
 
 pub returns-in-Err-insert-clause-replied : goal.returns-in-Err-insert-clause-replied

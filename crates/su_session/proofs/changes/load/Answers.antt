@@ -1,8 +1,8 @@
 use Rattle.std.proofs.lemmas.Result.{IfOk-weaker}
 use Rattle.su_show.specs.declared.statement_refusal.Refusal.TheVariants.{Csv, Record}
-use Rattle.su_session.specs.Telling.{Refuses}
-use Rattle.su_session.specs.ChangingRows.{InRelation, LoadsRows}
-use Rattle.su_session.proofs.Changing.{refused_file, refused_load, loaded_rows, same_schema}
+use Rattle.su_session.specs.Outcomes.{Refuses}
+use Rattle.su_session.specs.RowStatements.{InRelation, LoadsRows}
+use Rattle.su_session.proofs.ChangeReplies.{refused_file, refused_load, loaded_rows, same_schema}
 use Rattle.su_session.proofs.changes.load.Goals as goal
 
 pub returns-in-Err-read-clause-replied : goal.returns-in-Err-read-clause-replied

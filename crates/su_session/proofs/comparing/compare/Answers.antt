@@ -4,8 +4,8 @@ use Rattle.su_schema.specs.Valid.{IsValid}
 use Rattle.su_steps.specs.declared.results.Term.{Term}
 use Rattle.su_compare.specs.Comparable.{AreComparable}
 use Rattle.su_show.specs.declared.statement_refusal.Refusal.TheVariants.{Steps}
-use Rattle.su_session.specs.Telling.{Refuses}
-use Rattle.su_session.specs.Comparing.{Compares}
+use Rattle.su_session.specs.Outcomes.{Refuses}
+use Rattle.su_session.specs.Comparisons.{Compares}
 use Rattle.su_session.proofs.Compared.{AreTermsOf, comparable, refused_form, refused_terms, compared}
 use Rattle.su_session.proofs.comparing.compare.Goals as goal
 

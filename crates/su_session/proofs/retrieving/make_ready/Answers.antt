@@ -1,7 +1,7 @@
 use Rattle.std.proofs.Common.{◌≡◌, subst}
 use Rattle.su_query.specs.declared.resolving.Resolved.{Resolved}
 use Rattle.su_query.specs.Lookup.{IsKnownQuery}
-use Rattle.su_query.specs.Numbering.{resolved_of}
+use Rattle.su_query.specs.NumberedConditions.{resolved_of}
 use Rattle.su_query.specs.Ranges.{IsResolved}
 use Rattle.su_steps.specs.Refusals.{IsStepRefusal, IsAccepted}
 use Rattle.su_session.proofs.retrieving.make_ready.Goals as goal

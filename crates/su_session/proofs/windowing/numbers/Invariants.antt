@@ -2,7 +2,7 @@ use Rattle.std.proofs.Common.{◌≡◌, ◌<◌, take, drop, All}
 use Rattle.su_schema.specs.Entries.{attribute_names}
 use Rattle.su_query.specs.Scopes.{first_unknown_name}
 use Rattle.su_window.specs.Cuts.{width}
-use Rattle.su_session.specs.Windowing.{attribute_numbers}
+use Rattle.su_session.specs.Windows.{attribute_numbers}
 use Rattle.su_session.proofs.windowing.numbers.Given as goal
 
 abbrev pub invariant-loop-name : goal.invariant-loop-name

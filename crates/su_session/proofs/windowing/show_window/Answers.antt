@@ -4,7 +4,7 @@ use Rattle.su_schema.specs.SchemaValue.{SchemaValue}
 use Rattle.su_schema.specs.Entries.{attribute_names}
 use Rattle.su_query.specs.Scopes.{first_unknown_name}
 use Rattle.su_window.specs.Window.{InWindow}
-use Rattle.su_session.specs.Windowing.{attribute_numbers}
+use Rattle.su_session.specs.Windows.{attribute_numbers}
 use Rattle.su_show.specs.Replies.{rows_text}
 use Rattle.su_session.proofs.windowing.show_window.Goals as goal
 

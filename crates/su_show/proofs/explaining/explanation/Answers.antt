@@ -1,5 +1,5 @@
 use Rattle.std.proofs.Common.{◌++◌, arith}
-use Rattle.su_show.specs.Explaining.{query_line, variables_line, IsTermText}
+use Rattle.su_show.specs.Explanations.{query_line, variables_line, IsTermText}
 use Rattle.su_show.proofs.Lines.{adds_next}
 use Rattle.su_show.proofs.Explained.{slice_get-at, term_text}
 use Rattle.su_show.proofs.explaining.explanation.Goals as goal

@@ -3,7 +3,7 @@ use Rattle.std.proofs.lemmas.List.{get_or_default}
 use Rattle.su_exec.specs.declared.tasks.TaskRow.{TaskRow}
 use Rattle.su_sql.specs.declared.cells.Cell.{Cell}
 use Rattle.su_sql.specs.Cells.{no_row, cells_in}
-use Rattle.su_sql.proofs.Listing.{flat_next}
+use Rattle.su_sql.proofs.ImageLists.{flat_next}
 use Rattle.su_sql.proofs.cells.cells_of.Goals as goal
 
 pub loop-table-preserved : goal.loop-table-preserved

@@ -4,7 +4,7 @@ use Rattle.su_tableau.specs.declared.symbols.Sym.{Sym}
 use Rattle.su_tableau.specs.declared.symbols.Sym.TheVariants.{Var}
 use Rattle.su_sql.specs.declared.cells.Cell.{Cell}
 use Rattle.su_sql.specs.Cells.{place, cell_at}
-use Rattle.su_sql.proofs.Listing.{images_behind}
+use Rattle.su_sql.proofs.ImageLists.{images_behind}
 use Rattle.su_sql.proofs.cells.push_cells.Goals as goal
 
 pub loop-cell-preserved : goal.loop-cell-preserved

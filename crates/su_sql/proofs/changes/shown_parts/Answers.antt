@@ -1,5 +1,5 @@
 use Rattle.su_sql.specs.Changes.{shown_column}
-use Rattle.su_sql.proofs.Listing.{images_next}
+use Rattle.su_sql.proofs.ImageLists.{images_next}
 use Rattle.su_sql.proofs.changes.shown_parts.Goals as goal
 
 pub loop-column-preserved : goal.loop-column-preserved

@@ -3,7 +3,7 @@ use Rattle.std.proofs.lemmas.Result.{on_ok_weaker}
 use Rattle.su_sql.specs.Texts.{literal_text}
 use Rattle.su_sql.specs.Names.{relation_text}
 use Rattle.su_sql.specs.declared.dialects.Dialect.TheVariants.{Sqlite}
-use Rattle.su_sql.proofs.Listing.{five_behind}
+use Rattle.su_sql.proofs.ImageLists.{five_behind}
 use Rattle.su_sql.proofs.comments.push_import.Goals as goal
 
 pub returns : goal.returns

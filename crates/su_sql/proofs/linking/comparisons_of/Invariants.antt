@@ -1,5 +1,5 @@
 use Rattle.std.proofs.Common.{◌≡◌, map, take}
-use Rattle.su_sql.specs.Joining.{comparison_of}
+use Rattle.su_sql.specs.TaskJoins.{comparison_of}
 use Rattle.su_sql.proofs.linking.comparisons_of.Given as goal
 
 abbrev pub invariant-loop-compared : goal.invariant-loop-compared

@@ -1,5 +1,5 @@
 use Rattle.std.proofs.Common.{◌≡◌, flat_map, take}
-use Rattle.su_sql.specs.Joining.{fixed_at}
+use Rattle.su_sql.specs.TaskJoins.{fixed_at}
 use Rattle.su_sql.proofs.linking.fixed_of.Given as goal
 
 abbrev pub invariant-loop-cell : goal.invariant-loop-cell

@@ -4,7 +4,7 @@ use Rattle.su_schema.specs.Entries.{attribute_kinds}
 use Rattle.su_tableau.specs.Tableaux.{Tab, IsValid, IsSmall}
 use Rattle.su_answer.specs.Joined.{IsTaskOf}
 use Rattle.su_answer.proofs.Fits.{task_fits}
-use Rattle.su_sql.proofs.Choosing.{task_joined}
+use Rattle.su_sql.proofs.Choices.{task_joined}
 use Rattle.su_sql.proofs.making.select_for.Goals as goal
 
 pub returns : goal.returns

@@ -5,9 +5,9 @@ use Rattle.su_tableau.specs.Kinds.{IsTyped}
 use Rattle.su_schema.specs.Entries.{attribute_kinds}
 use Rattle.su_min.specs.Kept.{Minimised}
 use Rattle.su_min.specs.Reduction.{term_at}
-use Rattle.su_answer.proofs.Counting.{minimals_fit}
+use Rattle.su_answer.proofs.Minimals.{minimals_fit}
 use Rattle.su_answer.proofs.Union.{kept_low}
-use Rattle.su_sql.specs.Making.{IsSelectOf}
+use Rattle.su_sql.specs.TermSelects.{IsSelectOf}
 use Rattle.su_sql.proofs.Meaning.{mean_answers}
 use Rattle.su_sql.proofs.making.selects.Goals as goal
 

@@ -2,8 +2,8 @@ use Rattle.std.proofs.Common.{◌∙◌, ℕ, [], subst, get_or}
 use Rattle.std.proofs.lemmas.List.{get_or_default}
 use Rattle.su_min.specs.Kept.{Minimised}
 use Rattle.su_min.specs.Reduction.{term_at}
-use Rattle.su_answer.proofs.Zipping.{zip_more}
-use Rattle.su_sql.specs.Making.{IsSelectOf}
+use Rattle.su_answer.proofs.PairedLists.{zip_more}
+use Rattle.su_sql.specs.TermSelects.{IsSelectOf}
 use Rattle.su_sql.proofs.making.selects_for.Goals as goal
 
 pub loop-k-preserved : goal.loop-k-preserved

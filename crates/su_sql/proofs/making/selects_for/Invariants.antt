@@ -1,7 +1,7 @@
 use Rattle.std.proofs.Common.{take}
 use Rattle.std.specs.List.{AllZip}
 use Rattle.su_min.specs.Reduction.{term_at}
-use Rattle.su_sql.specs.Making.{IsSelectOf}
+use Rattle.su_sql.specs.TermSelects.{IsSelectOf}
 use Rattle.su_sql.proofs.making.selects_for.Given as goal
 
 abbrev pub invariant-loop-k : goal.invariant-loop-k

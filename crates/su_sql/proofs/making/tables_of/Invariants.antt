@@ -1,5 +1,5 @@
 use Rattle.std.proofs.Common.{◌≡◌, map, take}
-use Rattle.su_sql.specs.Making.{table_of}
+use Rattle.su_sql.specs.TermSelects.{table_of}
 use Rattle.su_sql.proofs.making.tables_of.Given as goal
 
 abbrev pub invariant-loop-row : goal.invariant-loop-row

@@ -1,5 +1,5 @@
 use Rattle.su_sql.specs.Changes.{create_text}
-use Rattle.su_sql.proofs.Listing.{flat_next}
+use Rattle.su_sql.proofs.ImageLists.{flat_next}
 use Rattle.su_sql.proofs.scripts.tables.Goals as goal
 
 pub loop-relation-preserved : goal.loop-relation-preserved

@@ -1,5 +1,5 @@
 use Rattle.su_sql.specs.Tables.{source_column}
-use Rattle.su_sql.proofs.Listing.{images_next}
+use Rattle.su_sql.proofs.ImageLists.{images_next}
 use Rattle.su_sql.proofs.sources.source_columns.Goals as goal
 
 pub loop-value-preserved : goal.loop-value-preserved

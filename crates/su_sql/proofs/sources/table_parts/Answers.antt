@@ -1,5 +1,5 @@
 use Rattle.su_sql.specs.Tables.{table_text}
-use Rattle.su_sql.proofs.Listing.{images_next}
+use Rattle.su_sql.proofs.ImageLists.{images_next}
 use Rattle.su_sql.proofs.sources.table_parts.Goals as goal
 
 pub loop-number-preserved : goal.loop-number-preserved

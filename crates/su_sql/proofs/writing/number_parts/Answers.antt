@@ -1,5 +1,5 @@
 use Rattle.su_sql.specs.Queries.{place_number}
-use Rattle.su_sql.proofs.Listing.{images_next}
+use Rattle.su_sql.proofs.ImageLists.{images_next}
 use Rattle.su_sql.proofs.writing.number_parts.Goals as goal
 
 pub loop-i-preserved : goal.loop-i-preserved

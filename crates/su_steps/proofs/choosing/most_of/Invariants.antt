@@ -1,5 +1,5 @@
 use Rattle.std.proofs.Common.{◌≡◌, ◌≤◌, take}
-use Rattle.su_steps.specs.inside.Counting.{most_objects}
+use Rattle.su_steps.specs.inside.RowCounts.{most_objects}
 use Rattle.su_steps.proofs.choosing.most_of.Given as goal
 
 abbrev pub invariant-loop-m : goal.invariant-loop-m

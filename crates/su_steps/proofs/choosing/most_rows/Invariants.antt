@@ -1,5 +1,5 @@
 use Rattle.std.proofs.Common.{◌≡◌, ◌≤◌, ◌*◌, take}
-use Rattle.su_steps.specs.inside.Counting.{objects_in}
+use Rattle.su_steps.specs.inside.RowCounts.{objects_in}
 use Rattle.su_steps.proofs.choosing.most_rows.Given as goal
 
 abbrev pub invariant-loop-numbers : goal.invariant-loop-numbers

@@ -1,5 +1,5 @@
 use Rattle.std.proofs.Common.{sym, ◌∙◌}
-use Rattle.su_steps.proofs.Passing.{together_more, together_same}
+use Rattle.su_steps.proofs.PassingNumbers.{together_more, together_same}
 use Rattle.su_steps.proofs.objects.attributes_together.Goals as goal
 use Rattle.su_steps.proofs.objects.attributes_together.Goals.{then-contains, else-contains}
 

@@ -1,6 +1,6 @@
 use Rattle.std.proofs.Common.{sym, arith}
 use Rattle.std.specs.FinSet.{contains}
-use Rattle.su_steps.proofs.Passing.{count_more, count_same}
+use Rattle.su_steps.proofs.PassingNumbers.{count_more, count_same}
 use Rattle.su_steps.proofs.objects.object_count.Goals as goal
 use Rattle.su_steps.proofs.objects.object_count.Goals.{then-contains, else-contains}
 

@@ -1,6 +1,6 @@
 use Rattle.std.specs.FinSet.{contains}
 use Rattle.su_steps.specs.Choices.{origin}
-use Rattle.su_steps.proofs.Passing.{images_if}
+use Rattle.su_steps.proofs.PassingNumbers.{images_if}
 use Rattle.su_steps.proofs.rows.push_origins.Goals as goal
 
 pub loop-o-preserved : goal.loop-o-preserved

@@ -2,7 +2,7 @@ use Rattle.std.proofs.Common.{◌≡◌, ℕ, true, sym, ap, ◌∙◌, arith}
 use Rattle.std.specs.FinSet.{contains, is_subset, contains-empty}
 use Rattle.std.specs.Ordering.{nat_cmp}
 use Rattle.std.proofs.lemmas.Bool.{true≢false, false≢true}
-use Rattle.su_tableau.proofs.Standing.{set_more, set_same}
+use Rattle.su_tableau.proofs.EssentialCells.{set_more, set_same}
 use Rattle.su_steps.specs.Objects.{attributes_at}
 use Rattle.su_steps.proofs.Sourced.{source_is, found_are}
 use Rattle.su_steps.proofs.sourcing.sources_within.Goals as goal

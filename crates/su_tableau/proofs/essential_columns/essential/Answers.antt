@@ -2,7 +2,7 @@ use Rattle.std.proofs.Common.{[], sym, ap, ◌∙◌, true≢false, arith}
 use Rattle.std.specs.FinSet.{contains, contains-empty}
 use Rattle.std.specs.Ordering.{nat_cmp}
 use Rattle.su_tableau.specs.Essential.{IsEssential}
-use Rattle.su_tableau.proofs.Standing.{set_more, set_same, essential_in}
+use Rattle.su_tableau.proofs.EssentialCells.{set_more, set_same, essential_in}
 use Rattle.su_tableau.proofs.essential_columns.essential.Goals as goal
 use Rattle.su_tableau.proofs.essential_columns.essential.Goals.{then-is_essential, else-is_essential}
 

@@ -2,7 +2,7 @@ use Rattle.std.proofs.Common.{◌≡◌, ◌≢◌, ℕ, arith, refl, sym, ◌�
 use Rattle.su_tableau.specs.Essential.{HasSymbol}
 use Rattle.su_tableau.specs.declared.symbols.Sym.TheVariants.{Var}
 use Rattle.su_tableau.proofs.Rows.{below_more}
-use Rattle.su_tableau.proofs.Standing.{elsewhere_found, elsewhere_none}
+use Rattle.su_tableau.proofs.EssentialCells.{elsewhere_found, elsewhere_none}
 use Rattle.su_tableau.proofs.essential_columns.stands_elsewhere.Goals as goal
 use Rattle.su_tableau.proofs.essential_columns.stands_elsewhere.Goals.{else-has-via-then-has+else-stands_in, else-has-via-else-has}
 

@@ -1,4 +1,4 @@
-use Rattle.su_tableau.proofs.Changing.{essential_ext, ext_essential}
+use Rattle.su_tableau.proofs.ChangedValuations.{essential_ext, ext_essential}
 use Rattle.su_tableau.proofs.laws.essential_columns_suffice.Goals as goal
 
 pub returns : goal.returns

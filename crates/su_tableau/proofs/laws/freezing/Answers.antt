@@ -1,4 +1,4 @@
-use Rattle.su_tableau.proofs.Freezing.{frozen_typed, frozen_answer, frozen_maps}
+use Rattle.su_tableau.proofs.FrozenTableaux.{frozen_typed, frozen_answer, frozen_maps}
 use Rattle.su_tableau.proofs.laws.freezing.Goals as goal
 
 pub returns : goal.returns

@@ -3,8 +3,8 @@ use Rattle.std.specs.FinSet.{contains, contains-empty}
 use Rattle.std.specs.Ordering.{nat_cmp}
 use Rattle.su_tableau.specs.declared.symbols.Sym.TheVariants.{Var}
 use Rattle.su_tableau.specs.Essential.{IsEssential}
-use Rattle.su_tableau.proofs.Standing.{set_more, set_same, essential_in, cell_holds}
-use Rattle.su_tableau.proofs.Occurring.{noted_is}
+use Rattle.su_tableau.proofs.EssentialCells.{set_more, set_same, essential_in, cell_holds}
+use Rattle.su_tableau.proofs.VariableCounts.{noted_is}
 use Rattle.su_tableau.proofs.occurrences.columns_of.Goals as goal
 use Rattle.su_tableau.proofs.occurrences.columns_of.Goals.{then-is_noted, else-is_noted}
 

@@ -3,7 +3,7 @@ use Rattle.std.specs.Int.{bit_at}
 use Rattle.std.specs.FinSet.{FinSet, contains}
 use Rattle.std.specs.Ordering.{nat_cmp}
 use Rattle.su_tableau.specs.Essential.{IsEssential}
-use Rattle.su_tableau.proofs.Occurring.{set_written}
+use Rattle.su_tableau.proofs.VariableCounts.{set_written}
 use Rattle.su_tableau.proofs.occurrences.fill_essential.Goals as goal
 
 pub loop-row-preserved : goal.loop-row-preserved

@@ -1,6 +1,6 @@
 use Rattle.std.proofs.Common.{refl}
 use Rattle.su_tableau.specs.inside.Occurrences.{a_constant, a_variable}
-use Rattle.su_tableau.proofs.Occurring.{noted_again}
+use Rattle.su_tableau.proofs.VariableCounts.{noted_again}
 use Rattle.su_tableau.proofs.occurrences.is_noted.Goals as goal
 
 pub returns-in-Const : goal.returns-in-Const

@@ -1,7 +1,7 @@
 use Rattle.std.proofs.Common.{[], subst, Contains, arith}
 use Rattle.su_tableau.specs.declared.symbols.Sym.TheVariants.{Var}
 use Rattle.su_tableau.proofs.Rows.{contains_read}
-use Rattle.su_tableau.proofs.Occurring.{cell_counted, cell_read, row_counted}
+use Rattle.su_tableau.proofs.VariableCounts.{cell_counted, cell_read, row_counted}
 use Rattle.su_tableau.proofs.occurrences.note_row.Goals as goal
 
 pub note-requires : goal.note-requires

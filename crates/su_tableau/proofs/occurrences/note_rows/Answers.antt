@@ -1,6 +1,6 @@
 use Rattle.std.proofs.Common.{◌+◌, sym, ◌∙◌, subst, true≢false, arith}
 use Rattle.su_tableau.specs.inside.Occurrences.{AreCounted}
-use Rattle.su_tableau.proofs.Occurring.{row_skipped, all_counted}
+use Rattle.su_tableau.proofs.VariableCounts.{row_skipped, all_counted}
 use Rattle.su_tableau.proofs.occurrences.note_rows.Goals as goal
 use Rattle.su_tableau.proofs.occurrences.note_rows.Goals.{then-has, else-has}
 

@@ -4,7 +4,7 @@ use Rattle.std.specs.Int.{bit_at}
 use Rattle.std.specs.FinSet.{FinSet, contains, empty}
 use Rattle.std.specs.Ordering.{nat_cmp}
 use Rattle.su_tableau.specs.Essential.{IsEssential}
-use Rattle.su_tableau.proofs.Occurring.{set_pushed}
+use Rattle.su_tableau.proofs.VariableCounts.{set_pushed}
 use Rattle.su_tableau.proofs.occurrences.push_essential.Goals as goal
 
 pub loop-row-preserved : goal.loop-row-preserved

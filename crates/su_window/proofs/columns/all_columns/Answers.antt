@@ -1,5 +1,5 @@
 use Rattle.su_base.proofs.Items.{map-range_push}
-use Rattle.su_window.specs.inside.Reading.{columns_of}
+use Rattle.su_window.specs.inside.Readings.{columns_of}
 use Rattle.su_window.proofs.columns.all_columns.Goals as goal
 
 pub loop-object-preserved : goal.loop-object-preserved

@@ -1,6 +1,6 @@
 use Rattle.std.proofs.Common.{◌≡◌, map}
 use Rattle.std.specs.List.{range_with_len}
-use Rattle.su_window.specs.inside.Reading.{columns_of}
+use Rattle.su_window.specs.inside.Readings.{columns_of}
 use Rattle.su_window.proofs.columns.all_columns.Given as goal
 
 abbrev pub invariant-loop-object : goal.invariant-loop-object

@@ -1,5 +1,5 @@
 use Rattle.std.proofs.Common.{◌≡◌, take}
-use Rattle.su_window.specs.inside.Reading.{values_in}
+use Rattle.su_window.specs.inside.Readings.{values_in}
 use Rattle.su_window.proofs.columns.values_in.Given as goal
 
 abbrev pub invariant-loop-column : goal.invariant-loop-column

@@ -1,6 +1,6 @@
 use Rattle.std.proofs.Common.{◌+◌, get_or, None}
 use Rattle.su_base.proofs.Items.{map-range_push}
-use Rattle.su_window.specs.inside.Reading.{symbol_in}
+use Rattle.su_window.specs.inside.Readings.{symbol_in}
 use Rattle.su_window.proofs.padding.padded_row.Goals as goal
 
 pub loop-a-preserved : goal.loop-a-preserved

@@ -1,6 +1,6 @@
 use Rattle.std.proofs.Common.{◌≡◌, ◌+◌, map, get_or, None}
 use Rattle.std.specs.List.{range_with_len}
-use Rattle.su_window.specs.inside.Reading.{symbol_in}
+use Rattle.su_window.specs.inside.Readings.{symbol_in}
 use Rattle.su_window.proofs.padding.padded_row.Given as goal
 
 abbrev pub invariant-loop-a : goal.invariant-loop-a

@@ -8,7 +8,7 @@ use Rattle.su_schema.specs.SchemaValue.{SchemaValue, AttributeEntry}
 use Rattle.su_schema.specs.Entries.{column_of}
 use Rattle.su_schema.specs.Cuts.{width}
 use Rattle.su_window.specs.Padded.{object_at, row_read, padded_row, IsReading}
-use Rattle.su_window.specs.inside.Reading.{columns_of}
+use Rattle.su_window.specs.inside.Readings.{columns_of}
 use Rattle.su_window.specs.declared.readings.Reading.{Reading}
 use Rattle.su_window.proofs.Rows.{none, reading_at}
 use Rattle.su_window.proofs.RowRead.{columns_length, columns_at, row_is, within}

@@ -1,6 +1,6 @@
 use Rattle.std.proofs.Common.{◌↔◌, ◌≤◌, List, length, Contains}
 use Rattle.su_base.specs.declared.values.Value.{Value}
-use Rattle.su_window.specs.inside.Reading.{lists_before, AreSoFar}
+use Rattle.su_window.specs.inside.Readings.{lists_before, AreSoFar}
 use Rattle.su_window.proofs.readings.read_object.Given as goal
 
 abbrev pub invariant-loop-position : goal.invariant-loop-position

@@ -5,7 +5,7 @@ use Rattle.std.proofs.lemmas.Result.{err_from_is_err_and}
 use Rattle.su_window.specs.declared.faults.WindowFault.{WindowFault}
 use Rattle.su_window.specs.declared.readings.Reading.{Reading}
 use Rattle.su_window.specs.Padded.{row_read, member_read, IsReading}
-use Rattle.su_window.specs.inside.Reading.{AreSoFar}
+use Rattle.su_window.specs.inside.Readings.{AreSoFar}
 use Rattle.su_window.specs.Refusals.{IsWindowRefusal}
 use Rattle.su_window.proofs.RowRead.{row_is, within, values_are, seen_more, unchanged, grown, refused}
 use Rattle.su_window.proofs.readings.read_row.Goals as goal

@@ -1,5 +1,5 @@
 use Rattle.std.proofs.Common.{◌≤◌, length}
-use Rattle.su_window.specs.inside.Reading.{AreSoFar}
+use Rattle.su_window.specs.inside.Readings.{AreSoFar}
 use Rattle.su_window.proofs.readings.readings_of.Given as goal
 
 abbrev pub invariant-loop-object : goal.invariant-loop-object

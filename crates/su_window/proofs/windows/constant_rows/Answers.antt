@@ -3,7 +3,7 @@ use Rattle.su_base.specs.declared.values.Value.{Value}
 use Rattle.std.proofs.Math.Seq.{take-length}
 use Rattle.su_tableau.specs.declared.symbols.Sym.{Sym}
 use Rattle.su_tableau.specs.Tableaux.{AreBelow}
-use Rattle.su_window.specs.inside.Reading.{AreConstants}
+use Rattle.su_window.specs.inside.Readings.{AreConstants}
 use Rattle.su_window.proofs.Constants.{rows_more}
 use Rattle.su_window.proofs.windows.constant_rows.Goals as goal
 

@@ -1,7 +1,7 @@
 use Rattle.std.proofs.Common.{◌↔◌, List, take, Contains}
 use Rattle.su_base.specs.declared.values.Value.{Value}
 use Rattle.su_tableau.specs.declared.symbols.Sym.{Sym}
-use Rattle.su_window.specs.inside.Reading.{AreConstants}
+use Rattle.su_window.specs.inside.Readings.{AreConstants}
 use Rattle.su_window.proofs.windows.constant_rows.Given as goal
 
 abbrev pub invariant-loop-row : goal.invariant-loop-row

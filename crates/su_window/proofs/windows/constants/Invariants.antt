@@ -1,5 +1,5 @@
 use Rattle.std.proofs.Common.{take}
-use Rattle.su_window.specs.inside.Reading.{AreConstants}
+use Rattle.su_window.specs.inside.Readings.{AreConstants}
 use Rattle.su_window.proofs.windows.constants.Given as goal
 
 abbrev pub invariant-loop-a : goal.invariant-loop-a

@@ -1,6 +1,6 @@
 use Rattle.std.proofs.Common.{List, Option, MatchOption, subst}
 use Rattle.su_base.specs.declared.values.Value.{Value}
-use Rattle.su_window.specs.inside.Reading.{AreConstants}
+use Rattle.su_window.specs.inside.Readings.{AreConstants}
 use Rattle.su_window.proofs.Constants.{added}
 use Rattle.su_window.proofs.windows.push_constants.Goals as goal
 

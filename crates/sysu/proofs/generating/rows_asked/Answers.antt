@@ -1,6 +1,6 @@
 use Rattle.std.proofs.Common.{◌∙◌, sym}
 use Rattle.std.specs.Cmp.Lexicographic.{same_text}
-use Rattle.sysu.proofs.Asking.{asked_by}
+use Rattle.sysu.proofs.BankWords.{asked_by}
 use Rattle.sysu.proofs.generating.rows_asked.Goals as goal
 
 pub returns-in-len2 : goal.returns-in-len2

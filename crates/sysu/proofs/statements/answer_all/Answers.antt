@@ -1,7 +1,7 @@
 use Rattle.std.proofs.Common.{◌∙◌, refl, inl, arith, true, false}
 use Rattle.su_lex.specs.Pieces.{Pieces}
-use Rattle.sysu.proofs.Answering.{none_yet, one_more}
-use Rattle.sysu.proofs.Stopping.{script_done, script_stops, took_more}
+use Rattle.sysu.proofs.RepliesSoFar.{none_yet, one_more}
+use Rattle.sysu.proofs.ScriptEnds.{script_done, script_stops, took_more}
 use Rattle.sysu.proofs.statements.answer_all.Goals as goal
 
 pub loop-span-preserved : goal.loop-span-preserved

@@ -1,5 +1,5 @@
 use Rattle.std.proofs.Common.{◌≡◌, take}
-use Rattle.sysu.proofs.Answering.{SoFar}
+use Rattle.sysu.proofs.RepliesSoFar.{SoFar}
 use Rattle.sysu.specs.Statements.{TookLoads}
 use Rattle.sysu.proofs.statements.answer_all.Given as goal
 

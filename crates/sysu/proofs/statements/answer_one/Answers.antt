@@ -1,7 +1,7 @@
 use Rattle.std.proofs.Common.{refl, subst, sym, ap, ◌∙◌, Err}
 use Rattle.std.proofs.lemmas.Result.{err_from_is_err_and}
 use Rattle.sysu.specs.inside.Turns.{TurnEnds}
-use Rattle.sysu.proofs.Turning.{handed_well, turn_fault}
+use Rattle.sysu.proofs.HandedFiles.{handed_well, turn_fault}
 use Rattle.sysu.proofs.statements.answer_one.Goals as goal
 
 pub returns-in-Ok-write_all-clause-ends : goal.returns-in-Ok-write_all-clause-ends

@@ -1,8 +1,8 @@
 use Rattle.std.proofs.Common.{refl, subst, sym, ap, ◌∙◌, Err}
 use Rattle.std.proofs.lemmas.Result.{err_from_is_err_and}
-use Rattle.su_session.specs.Wanting.{Wants}
-use Rattle.sysu.specs.inside.Handing.{Shelved, HandingEnds}
-use Rattle.sysu.proofs.Turning.{handed_file, handed_fault}
+use Rattle.su_session.specs.WantedFiles.{Wants}
+use Rattle.sysu.specs.inside.HandedFiles.{Shelved, HandingEnds}
+use Rattle.sysu.proofs.HandedFiles.{handed_file, handed_fault}
 use Rattle.sysu.proofs.statements.handed.Goals as goal
 
 pub returns-in-Ok-Nothing-clause-ends : goal.returns-in-Ok-Nothing-clause-ends

@@ -1,5 +1,5 @@
 use Rattle.std.proofs.Common.{refl}
-use Rattle.sysu.proofs.Unfailing.{no_read_fault, no_write_fault, ends}
+use Rattle.sysu.proofs.FaultlessRuns.{no_read_fault, no_write_fault, ends}
 use Rattle.sysu.proofs.steady.run_steadily.Goals as goal
 
 pub returns-clause-no_read_fault : goal.returns-clause-no_read_fault

@@ -1,7 +1,7 @@
 use Rattle.std.proofs.Common.{refl}
 use Rattle.sysu.specs.Statuses.{Comes}
-use Rattle.sysu.proofs.Closing.{handed_over}
-use Rattle.sysu.proofs.Completing.{caused_over, complete}
+use Rattle.sysu.proofs.HandOver.{handed_over}
+use Rattle.sysu.proofs.Completeness.{caused_over, complete}
 use Rattle.sysu.proofs.Promised.{headline_of}
 use Rattle.sysu.proofs.top.run.Goals as goal
 

@@ -1,5 +1,5 @@
 use Rattle.std.proofs.Common.{◌∙◌, refl}
-use Rattle.sysu.proofs.Ending.{schema_refused, script_fails, script_answered}
+use Rattle.sysu.proofs.RunEnds.{schema_refused, script_fails, script_answered}
 use Rattle.sysu.proofs.top.run_files.Goals as goal
 
 pub returns-in-Ok-read_file-clause-ends : goal.returns-in-Ok-read_file-clause-ends

@@ -1,6 +1,6 @@
 use Rattle.std.proofs.Common.{refl, sym}
-use Rattle.sysu.proofs.Completing.{run_caused, check_caused}
-use Rattle.sysu.proofs.Running.{run_is, check_is, generate_is}
+use Rattle.sysu.proofs.Completeness.{run_caused, check_caused}
+use Rattle.sysu.proofs.Commands.{run_is, check_is, generate_is}
 use Rattle.sysu.proofs.top.run_words.Goals as goal
 
 pub returns-in-Some-clause-comes : goal.returns-in-Some-clause-comes

@@ -1,5 +1,5 @@
 use Rattle.std.proofs.Common.{◌<◌, length}
-use Rattle.su_classes.specs.inside.Rushing.{IsSame}
+use Rattle.su_classes.specs.inside.Worklists.{IsSame}
 use Rattle.su_classes.proofs.worklist.Worklist.change_marks.Given as goal
 
 abbrev pub invariant-loop : goal.invariant-loop

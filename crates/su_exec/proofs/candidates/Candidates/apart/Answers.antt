@@ -1,4 +1,4 @@
-use Rattle.su_exec.proofs.Reading.{real_from_widths}
+use Rattle.su_exec.proofs.RealEdges.{real_from_widths}
 use Rattle.su_exec.proofs.candidates.Candidates.apart.Goals as goal
 
 pub new-requires-clause-real : goal.new-requires-clause-real

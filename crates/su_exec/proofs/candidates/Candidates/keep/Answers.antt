@@ -1,6 +1,6 @@
 use Rattle.std.proofs.Common.{◌≡◌, ◌∙◌, ℕ, List, map, sym, subst}
 use Rattle.std.specs.Prelude.{All}
-use Rattle.su_exec.proofs.Filtering.{All-marked}
+use Rattle.su_exec.proofs.SemijoinRows.{All-marked}
 use Rattle.su_exec.proofs.candidates.Candidates.keep.Goals as goal
 
 pub invariant_of-self : goal.invariant_of-self

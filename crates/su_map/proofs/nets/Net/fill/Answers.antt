@@ -10,8 +10,8 @@ use Rattle.su_map.specs.inside.Targets.{AreNoted, AreAlike, IsTold}
 use Rattle.su_map.proofs.Members.{no_member}
 use Rattle.su_map.proofs.Ranks.{choice_by}
 use Rattle.su_map.proofs.Roomy.{refill_length}
-use Rattle.su_map.proofs.Sending.{mapping_sends}
-use Rattle.su_map.proofs.Telling.{told_agrees}
+use Rattle.su_map.proofs.Sendings.{mapping_sends}
+use Rattle.su_map.proofs.AgreementTable.{told_agrees}
 use Rattle.su_map.proofs.nets.Net.fill.Goals as goal
 
 pub returns-then-not-are_any-clause-net : goal.returns-then-not-are_any-clause-net

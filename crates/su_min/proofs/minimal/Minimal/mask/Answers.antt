@@ -1,6 +1,6 @@
 use Rattle.std.proofs.Common.{ap, arith}
 use Rattle.su_min.specs.Kept.{Minimised}
-use Rattle.su_min.proofs.Keeping.{kept_within}
+use Rattle.su_min.proofs.KeptRows.{kept_within}
 use Rattle.su_min.proofs.minimal.Minimal.mask.Goals as goal
 
 pub returns-clause-within : goal.returns-clause-within

@@ -1,6 +1,6 @@
 use Rattle.std.proofs.Common.{◌≡◌, Some, slice_get, sym, ap, ◌∙◌}
 use Rattle.su_base.proofs.Same.{value_eq-Decides}
-use Rattle.su_reduce.proofs.Coding.{found}
+use Rattle.su_reduce.proofs.FoundCodes.{found}
 use Rattle.su_reduce.proofs.codes.Codes.code.Goals as goal
 
 pub returns-in-Some-clause-code : goal.returns-in-Some-clause-code

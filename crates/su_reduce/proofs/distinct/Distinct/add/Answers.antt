@@ -5,7 +5,7 @@ use Rattle.std.proofs.lemmas.Nat.{mod_below}
 use Rattle.std.proofs.lemmas.List.Elements.{Contains-push, Contains-push_cases}
 use Rattle.su_reduce.specs.Chains.{IsHashed, hash_of}
 use Rattle.su_reduce.specs.Sheets.{pick, Rows}
-use Rattle.su_reduce.proofs.Hashing.{hashed_more}
+use Rattle.su_reduce.proofs.HashedRows.{hashed_more}
 use Rattle.su_reduce.proofs.distinct.Distinct.add.Goals as goal
 
 pub invariant_of-self-2 : goal.invariant_of-self-2

@@ -1,5 +1,5 @@
 use Rattle.std.proofs.Common.{sym}
-use Rattle.su_reduce.proofs.Cutting.{length-cut}
+use Rattle.su_reduce.proofs.ListPieces.{length-cut}
 use Rattle.su_reduce.proofs.sheets.Sheet.len.Goals as goal
 
 pub returns : goal.returns

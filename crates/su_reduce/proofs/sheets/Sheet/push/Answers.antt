@@ -1,5 +1,5 @@
 use Rattle.std.proofs.Common.{◌∙◌, ap}
-use Rattle.su_reduce.proofs.Cutting.{cut_more}
+use Rattle.su_reduce.proofs.ListPieces.{cut_more}
 use Rattle.su_reduce.specs.Sheets.{cut}
 use Rattle.su_reduce.proofs.sheets.Sheet.push.Goals as goal
 

@@ -1,5 +1,5 @@
 use Rattle.std.proofs.Common.{length, ap, ◌∙◌, arith}
-use Rattle.su_reduce.proofs.Cutting.{row_fits, row_is, row_wide}
+use Rattle.su_reduce.proofs.ListPieces.{row_fits, row_is, row_wide}
 use Rattle.su_reduce.proofs.sheets.Sheet.row.Goals as goal
 
 pub overflow_mul-start : goal.overflow_mul-start

@@ -1,4 +1,4 @@
-use Rattle.su_reduce.proofs.Cutting.{cut_widths}
+use Rattle.su_reduce.proofs.ListPieces.{cut_widths}
 use Rattle.su_reduce.proofs.sheets.Sheet.widths.Goals as goal
 
 pub returns : goal.returns

@@ -1,7 +1,7 @@
 use Rattle.std.proofs.Common.{◌<◌, ◌≤◌, All, length, get_or, arith}
 use lib.ListN.{length-map}
-use Rattle.su_schema.specs.Defining.{ascending}
-use Rattle.su_schema.proofs.Ascending.{IsBelow, ascending-IsBelow}
+use Rattle.su_schema.specs.Definitions.{ascending}
+use Rattle.su_schema.proofs.LinkOrder.{IsBelow, ascending-IsBelow}
 use Rattle.su_schema.proofs.schemas.Schema.joined.Goals as goal
 
 pub attributes_of-requires : goal.attributes_of-requires

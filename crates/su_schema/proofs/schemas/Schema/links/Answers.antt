@@ -3,7 +3,7 @@ use Rattle.std.proofs.Common.{◌≡◌, inl, inr, sym, ap, true, false, ◌==�
 use Rattle.std.specs.List.{list_any}
 use Rattle.std.proofs.lemmas.Result.{err_from_is_err_and}
 use Rattle.su_schema.specs.Known.{columns_at}
-use Rattle.su_schema.specs.Defining.{link_of}
+use Rattle.su_schema.specs.Definitions.{link_of}
 use Rattle.su_schema.proofs.PairsSoFar.{pair_unknown, attribute_twice, column_twice, kinds_differ, pair_next}
 use Rattle.su_schema.proofs.schemas.Schema.links.Goals as goal
 

@@ -11,7 +11,7 @@ use Rattle.su_schema.proofs.Numbers.{is_known-place_of, known-None, known-Some}
 use Rattle.su_schema.proofs.Accepted.{accepted, is_refused}
 use Rattle.su_schema.proofs.OneMore.{stays_valid, object_shape, sets_kept}
 use Rattle.su_schema.specs.inside.Kept.{object_on}
-use Rattle.su_schema.specs.Defining.{links_of}
+use Rattle.su_schema.specs.Definitions.{links_of}
 use Rattle.su_schema.proofs.schemas.Schema.object.Goals as goal
 
 pub returns-then-is_some-clause-refused : goal.returns-then-is_some-clause-refused

@@ -4,9 +4,9 @@ use Rattle.su_maxobj.specs.MaximalObjects.{AreMaximalObjects}
 use Rattle.su_state.specs.declared.faults.DefineFault.TheVariants.{Schema}
 use Rattle.su_state.specs.DatabaseValue.{DatabaseValue}
 use Rattle.su_show.specs.declared.statement_refusal.Refusal.TheVariants.{Define}
-use Rattle.su_session.specs.Telling.{Refuses}
+use Rattle.su_session.specs.Outcomes.{Refuses}
 use Rattle.su_session.specs.Reply.{AddsDefinition}
-use Rattle.su_session.proofs.Defining.{same_when_refused, refused_schema}
+use Rattle.su_session.proofs.DefinitionReplies.{same_when_refused, refused_schema}
 use Rattle.su_session.proofs.sessions.Session.add.Goals as goal
 
 pub returns-in-Err-clause-replied : goal.returns-in-Err-clause-replied

@@ -2,7 +2,7 @@ use Rattle.std.proofs.Common.{IfOk, sym, subst}
 use Rattle.su_query.specs.declared.statements.Statement.{Statement}
 use Rattle.su_state.specs.DatabaseValue.{DatabaseValue}
 use Rattle.su_session.specs.Statements.{Answers}
-use Rattle.su_session.specs.ChangingRows.{InRelation, InsertsRow}
+use Rattle.su_session.specs.RowStatements.{InRelation, InsertsRow}
 use Rattle.su_session.proofs.sessions.Session.answer.Goals as goal
 
 pub returns-in-Ok-clause-replied : goal.returns-in-Ok-clause-replied

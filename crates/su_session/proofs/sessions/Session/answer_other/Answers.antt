@@ -2,8 +2,8 @@ use Rattle.std.proofs.Common.{IfOk, sym, subst}
 use Rattle.su_query.specs.declared.statements.Statement.{Statement}
 use Rattle.su_state.specs.DatabaseValue.{DatabaseValue}
 use Rattle.su_session.specs.Statements.{Answers}
-use Rattle.su_session.specs.ChangingRows.{InRelation, DeletesRows}
-use Rattle.su_session.specs.Comparing.{Compares}
+use Rattle.su_session.specs.RowStatements.{InRelation, DeletesRows}
+use Rattle.su_session.specs.Comparisons.{Compares}
 use Rattle.su_session.proofs.sessions.Session.answer_other.Goals as goal
 
 pub returns-in-DeleteWhere-clause-replied : goal.returns-in-DeleteWhere-clause-replied

@@ -6,7 +6,7 @@ use Rattle.su_session.specs.Commands.{IsRead}
 use Rattle.su_session.specs.inside.Tasks.{of_task}
 use Rattle.su_session.specs.Reply.{AddsDefinition, Replied}
 use Rattle.su_session.specs.Statements.{Answers}
-use Rattle.su_session.specs.Telling.{Refuses}
+use Rattle.su_session.specs.Outcomes.{Refuses}
 use Rattle.su_session.proofs.Asked.{ready, replied_definition, replied_statement, replied_refusal}
 use Rattle.su_session.proofs.sessions.Session.carry_out.Goals as goal
 

@@ -1,6 +1,6 @@
 use Rattle.std.proofs.Common.{IfOk, subst}
 use Rattle.su_state.specs.DatabaseValue.{DatabaseValue}
-use Rattle.su_session.specs.Certifying.{Certifies}
+use Rattle.su_session.specs.Certificates.{Certifies}
 use Rattle.su_session.proofs.sessions.Session.certify.Goals as goal
 
 pub returns : goal.returns

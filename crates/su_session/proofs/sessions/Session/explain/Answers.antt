@@ -1,6 +1,6 @@
 use Rattle.std.proofs.Common.{IfOk, subst}
 use Rattle.su_state.specs.DatabaseValue.{DatabaseValue}
-use Rattle.su_session.specs.Explaining.{Explains}
+use Rattle.su_session.specs.Explanations.{Explains}
 use Rattle.su_session.proofs.sessions.Session.explain.Goals as goal
 
 pub returns : goal.returns

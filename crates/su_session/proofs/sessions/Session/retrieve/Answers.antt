@@ -1,6 +1,6 @@
 use Rattle.std.proofs.Common.{IfOk, subst}
 use Rattle.su_state.specs.DatabaseValue.{DatabaseValue}
-use Rattle.su_session.specs.Retrieving.{Retrieves}
+use Rattle.su_session.specs.Retrievals.{Retrieves}
 use Rattle.su_session.proofs.sessions.Session.retrieve.Goals as goal
 
 pub returns : goal.returns

@@ -1,6 +1,6 @@
 use Rattle.std.proofs.Common.{IfOk, subst}
 use Rattle.su_state.specs.DatabaseValue.{DatabaseValue}
-use Rattle.su_session.specs.Supporting.{Supports}
+use Rattle.su_session.specs.Supports.{Supports}
 use Rattle.su_session.proofs.sessions.Session.support.Goals as goal
 
 pub returns : goal.returns

@@ -1,7 +1,7 @@
 use Rattle.std.proofs.Common.{◌≡◌, ℕ, List, None, sym, subst}
 use Rattle.su_state.specs.DatabaseValue.{DatabaseValue}
-use Rattle.su_session.specs.Wanting.{IsLoad}
-use Rattle.su_session.specs.ChangingRows.{relation_number}
+use Rattle.su_session.specs.WantedFiles.{IsLoad}
+use Rattle.su_session.specs.RowStatements.{relation_number}
 use Rattle.su_session.proofs.Asked.{wants_nothing, unknown_wants}
 use Rattle.su_session.proofs.sessions.Session.wants.Goals as goal
 

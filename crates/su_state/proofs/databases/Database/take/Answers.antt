@@ -1,12 +1,12 @@
 use Rattle.std.proofs.Common.{◌≡◌, List, Ok, Err, Result, subst, sym, ap, ◌∙◌}
 use Rattle.std.proofs.lemmas.Result.{err_from_is_err_and}
 use Rattle.su_schema.specs.Valid.{IsValid}
-use Rattle.su_schema.specs.Defining.{applied}
+use Rattle.su_schema.specs.Definitions.{applied}
 use Rattle.su_rel.specs.Stored.{Stored}
 use Rattle.su_state.specs.DatabaseValue.{DatabaseValue, IsWellKept}
 use Rattle.su_state.specs.declared.faults.DefineFault.{DefineFault}
 use Rattle.su_state.specs.Definitions.{Defines, tables_with}
-use Rattle.su_state.specs.inside.Adding.{AddedHolds, IsAddedFault}
+use Rattle.su_state.specs.inside.AddedDefinitions.{AddedHolds, IsAddedFault}
 use Rattle.su_state.proofs.Added.{tables_there, added_there, narrow, refused_added, kept_added, none_breaks}
 use Rattle.su_state.proofs.databases.Database.take.Goals as goal
 
