@@ -9,7 +9,7 @@ pub mod Partners
 pub mod RealEdges
 pub mod CheckTests
 pub mod Labels
-pub mod Components
+pub mod ComponentLabels
 pub mod CutEdges
 pub mod PassingNumbers
 pub mod BodySteps

@@ -3,7 +3,7 @@ use Rattle.std.specs.List.{range_with_len}
 use Rattle.std.specs.Prelude.{cond, filter, map, nat_eq}
 use Rattle.su_exec.specs.Components.{AreComponents}
 use Rattle.su_exec.specs.inside.Labels.{label_of, rows_of}
-use Rattle.su_exec.proofs.Components.{are_components}
+use Rattle.su_exec.proofs.ComponentLabels.{are_components}
 use Rattle.su_exec.proofs.PassingNumbers.{parts_more}
 use Rattle.su_exec.proofs.connecting.components.Goals as goal
 
