@@ -10,7 +10,8 @@ use Rattle.su_query.specs.declared.statements.Query.{Query as AQuery}
 use Rattle.su_query.specs.declared.statements.Statement.{Statement}
 use Rattle.su_query.specs.declared.statements.Statement.TheVariants.{Insert, Delete, DeleteWhere, Load, Print, Schema, Closure, Retrieve, Explain, Certify, Support, Compare, Window}
 use Rattle.su_lex.specs.Names.{Begins}
-use Rattle.su_query.specs.Lists.{Several, opens_second}
+use Rattle.su_query.specs.inside.Fronts.{opens_second}
+use Rattle.su_query.specs.Lists.{Several}
 use Rattle.su_query.specs.Operands.{ReadsName, ReadsValue}
 use Rattle.su_query.specs.Grammar.{ReadsCond}
 use Rattle.su_query.specs.Refs.{NamedCond}

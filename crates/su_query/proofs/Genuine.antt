@@ -19,7 +19,7 @@ use Rattle.su_query.specs.Refs.{NamedCond}
 use Rattle.su_where.specs.declared.conditions.Condition.TheVariants.{Compare, Not, All, Any}
 use Rattle.su_query.specs.Grammar as g
 use Rattle.su_query.specs.Grammar.{ReadsCond, ReadsOrs, ReadsConj, ReadsAnds, ReadsFactor, ReadsPrimary, compared, ReadsComparison, any_of, all_of}
-use Rattle.su_query.specs.Operands.{ReadsOperand, ReadsRef, ReadsValue, ReadsName, op_sym, value_sym, qualified}
+use Rattle.su_query.specs.Operands.{ReadsOperand, ReadsRef, ReadsValue, ReadsName, op_sym, qualified}
 use Rattle.su_query.specs.ShownConditions.{ShownCond, shown_cond, cond_symbols, part, inner, joined}
 use Rattle.su_lex.specs.Wordings.{in_parens}
 use Rattle.su_query.specs.ShownParts.{name_symbols, value_symbols, ref_symbols, operand_symbols}

@@ -2,6 +2,7 @@
 use Rattle.std.proofs.Common.{◌≡◌, ◌<◌, ◌≤◌, ℕ, Bool, true, false, cond, Option, Some, None, List, [], ◌∷◌, ◌++◌, length, get_or, refl, sym, ap, subst, ◌∙◌, arith, All as Each}
 use Rattle.std.specs.Prelude.{option_map, unwrap_or, slice_index_or, position}
 use Rattle.std.specs.List.{list_any}
+use Rattle.std.specs.Option.{option_or}
 use Rattle.std.specs.Str.{bytes_eq}
 use Rattle.std.proofs.lemmas.Bool.Decides.{nat_tests}
 use Rattle.std.proofs.lemmas.List.{length-map, get_or-map}
@@ -24,7 +25,10 @@ use Rattle.su_query.specs.Limits.{AreFew}
 use Rattle.su_query.specs.Scopes.{names_in, kinds_in, is_unknown, first_unknown, number_among, kind_in}
 use Rattle.su_query.specs.Places.{place_in, same_place, places_of, number_in, places_in}
 use Rattle.su_query.specs.NumberedConditions.{resolved_of, with_columns}
-use Rattle.su_query.specs.Lookup.{IsKnownQuery, IsColumnCondition}
+use Rattle.su_query.specs.declared.conditions.Comparison.{Comparison}
+use Rattle.su_query.specs.declared.faults.QueryFault.TheVariants.{Kinds}
+use Rattle.su_query.specs.KindDifferences.{differing_kinds}
+use Rattle.su_query.specs.Lookup.{unknown_in, first_fault, IsKnownQuery, IsColumnCondition}
 use Rattle.su_query.specs.Ranges.{IsPlaceAmong, place_kinds, IsResolved, IsOnColumns}
 use Rattle.su_base.proofs.Items.{All-append_left, All-append_right}
 use Rattle.su_query.proofs.Hits.{Hit, hit_any, hit_some, any-push, any-last, none_found}
@@ -104,6 +108,16 @@ known_hit names r e = hit_some (λ n. bytes_eq r.attribute n) names e
 all_known : (names : List (List ℕ)) (refs : List ARef) → first_unknown names refs ≡ None → Each (λ r. is_unknown names r ≡ false) refs
 all_known names refs e = none_found (λ r. r.attribute) (is_unknown names) refs e
 
+neither : {A B C : Type 0} (f : A → C) (g : B → C) (a : Option A) (b : Option B) → option_or (option_map f a) (option_map g b) ≡ None → (a ≡ None) × (b ≡ None)
+neither f g None None e = (refl, refl)
+neither f g None (Some y) e = absurd (cc)
+neither f g (Some x) b e = absurd (cc)
+
+-- without a fault no name is unknown, and no comparison of two kinds
+module _ (schema : SchemaValue) (scope : Scope) (refs : List ARef) (comparisons : List Comparison) where
+  faultless : first_fault schema scope refs comparisons ≡ None → (first_unknown (names_in schema scope) refs ≡ None) × (differing_kinds schema scope comparisons ≡ None)
+  faultless e = neither (unknown_in scope) (λ k. Kinds k.0 k.1) (first_unknown (names_in schema scope) refs) (differing_kinds schema scope comparisons) e
+
 -- the kind of a known name is that of its number
 known_kind : (schema : SchemaValue) (scope : Scope) (r : ARef) → is_unknown (names_in schema scope) r ≡ false
     → slice_index_or (kinds_in schema scope) (number_among (names_in schema scope) r.attribute) IntKind ≡ kind_in schema scope (Ref r)
@@ -142,7 +156,8 @@ query_resolved schema q few known =
     let kinds = place_kinds schema places in
     let f = number_in schema Attributes vs places in
     let refs = all_refs q in
-    let all = all_known (attribute_names schema) refs known.known in
+    let passed = faultless schema Attributes refs (comparisons_of q.cond) known in
+    let all = all_known (attribute_names schema) refs passed.0 in
     let among : Each (λ r. IsPlaceAmong schema vs (place_in schema vs r)) refs = λ k d l. place_among schema vs (get_or refs k d) (mentions-has [] refs k d l) (all k d l) in
     let numbers : Each (IsNumbered schema Attributes kinds f) refs = λ k d l. ref_numbered schema vs places (get_or refs k d) (places-has schema vs [] refs k d l) (all k d l) in
     let outputs = All-append_left (IsNumbered schema Attributes kinds f) q.outputs (refs_of q.cond) numbers in
@@ -153,7 +168,7 @@ query_resolved schema q few known =
       few_places = few_places schema vs q few;
       places = places-among schema vs [] refs (All-nil (IsPlaceAmong schema vs)) among;
       outputs = All-map (λ (o : ℕ). o < length places) f q.outputs (λ k d l. subst (λ (n : ℕ). f (get_or q.outputs k d) < n) count (outputs k d l).below);
-      cond = typed schema Attributes kinds f q.cond few.few_comparisons (All-append_right (IsNumbered schema Attributes kinds f) q.outputs (refs_of q.cond) numbers) known.kinds;
+      cond = typed schema Attributes kinds f q.cond few.few_comparisons (All-append_right (IsNumbered schema Attributes kinds f) q.outputs (refs_of q.cond) numbers) passed.1;
     }
 
 -- ---- a condition on a relation
@@ -163,7 +178,8 @@ columns_typed schema r c few known =
     let names = names_in schema (Columns r) in
     let kinds = kinds_in schema (Columns r) in
     let f = λ (ref : ARef). number_among names ref.attribute in
-    let all = all_known names (refs_of c) known.known in
+    let passed = faultless schema (Columns r) (refs_of c) (comparisons_of c) known in
+    let all = all_known names (refs_of c) passed.0 in
     let count : length names ≡ length kinds = length-map (columns_at schema r) (λ x. x.name) ∙ sym (length-map (columns_at schema r) (λ x. x.kind)) in
     typed schema (Columns r) kinds f c few
     (λ k d l.
@@ -172,4 +188,4 @@ columns_typed schema r c few known =
     record {
       below = subst (λ (n : ℕ). number_among names ref.attribute < n) count (hit_number (λ n. bytes_eq ref.attribute n) names (known_hit names ref known_ref));
       kind = known_kind schema (Columns r) ref known_ref;
-    }) known.kinds
+    }) passed.1

@@ -9,7 +9,8 @@ use Rattle.su_query.specs.Refs.{NamedCond}
 use Rattle.su_query.specs.declared.statements.Query.{Query}
 use Rattle.su_query.specs.declared.statements.Statement.{Statement}
 use Rattle.su_query.specs.declared.statements.Statement.TheVariants.{Insert, Delete, DeleteWhere, Load, Print, Closure, Retrieve, Explain, Certify, Support, Compare, Window}
-use Rattle.su_query.specs.Lists.{opens_second, Several}
+use Rattle.su_query.specs.inside.Fronts.{opens_second}
+use Rattle.su_query.specs.Lists.{Several}
 use Rattle.su_query.specs.Operands.{ReadsName, ReadsValue}
 use Rattle.su_query.specs.Grammar.{ReadsCond}
 use Rattle.su_query.specs.Forms as g
@@ -125,7 +126,7 @@ limit_refusal text st (Limit Nesting) h p = absurd (parts_pass_none (Limit Nesti
 limit_refusal text st (Limit Variables) h p = (st, h, p)
 limit_refusal text st (Limit Outputs) h p = (st, h, p)
 limit_refusal text st (Limit Comparisons) h p = (st, h, p)
-limit_refusal text st NoMemory h p = tt
+limit_refusal text st NoMemory h p = parts_pass_none NoMemory (λ q passed. passed) (parts_of st) p
 limit_refusal text st (Unknown name) h p = parts_pass_none (Unknown name) (λ q passed. passed) (parts_of st) p
 limit_refusal text st (Kinds left right) h p = parts_pass_none (Kinds left right) (λ q passed. passed) (parts_of st) p
 limit_refusal text st (UnknownColumn name) h p = parts_pass_none (UnknownColumn name) (λ q passed. passed) (parts_of st) p

@@ -12,10 +12,6 @@ use Rattle.su_query.specs.Scopes.{kind_in}
 abbrev pub differs : SchemaValue → Scope → Comparison → Bool
 differs schema scope c = not (same_kind (kind_in schema scope c.left) (kind_in schema scope c.right))
 
--- the first comparison whose sides differ in kind
-abbrev pub first_differing : SchemaValue → Scope → List Comparison → Option Comparison
-first_differing schema scope comparisons = find (differs schema scope) comparisons
-
--- its kinds
+-- the kinds of the first comparison whose sides differ in kind
 abbrev pub differing_kinds : SchemaValue → Scope → List Comparison → Option (Kind × Kind)
-differing_kinds schema scope comparisons = option_map (λ c. (kind_in schema scope c.left, kind_in schema scope c.right)) (first_differing schema scope comparisons)
+differing_kinds schema scope comparisons = option_map (λ c. (kind_in schema scope c.left, kind_in schema scope c.right)) (find (differs schema scope) comparisons)

@@ -8,7 +8,7 @@ use Rattle.su_query.specs.declared.statements.Query.{Query}
 use Rattle.su_query.specs.declared.statements.Statement.{Statement}
 use Rattle.su_query.specs.declared.statements.Statement.TheVariants.{DeleteWhere, Retrieve, Explain, Certify, Support, Compare, Window}
 use Rattle.su_query.specs.declared.faults.QueryFault.{QueryFault}
-use Rattle.su_query.specs.declared.faults.QueryFault.TheVariants.{Limit, NoMemory}
+use Rattle.su_query.specs.declared.faults.QueryFault.TheVariants.{Limit}
 use Rattle.su_query.specs.declared.faults.QueryLimit.TheVariants.{Variables, Outputs, Comparisons}
 use Rattle.su_where.specs.Truth.{comparisons_of}
 use Rattle.su_query.specs.Refs.{NamedCond, refs_of}
@@ -49,7 +49,6 @@ abbrev pub Passes : List Ref → NamedCond → QueryFault → Type 0
 Passes outputs cond (Limit Variables) = 8 < variable_count outputs cond
 Passes outputs cond (Limit Outputs) = (variable_count outputs cond ≤ 8) × (128 < length outputs)
 Passes outputs cond (Limit Comparisons) = (variable_count outputs cond ≤ 8) × (length outputs ≤ 128) × (256 < length (comparisons_of cond))
-Passes outputs cond NoMemory = Unit {0}
 Passes outputs cond _ = ⊥
 
 -- the first part that doesn't keep the limits passes this one

@@ -1,10 +1,10 @@
 -- Lists with commas: item { "," item }. "From s to r": the symbols s are that, and then r.
 -- item: what stands between two commas, read by a relation of its own
-use Rattle.std.specs.Prelude.{◌≡◌, Bool, true, false, List, [], ◌∷◌}
+use Rattle.std.specs.Prelude.{◌≡◌, List, [], ◌∷◌}
 use Rattle.su_lex.specs.Names.{Begins}
 use Rattle.su_lex.specs.declared.signs.Sign.TheVariants as sign
 use Rattle.su_lex.specs.declared.meaning.Symbol.{Symbol}
-use Rattle.su_lex.specs.declared.meaning.Symbol.TheVariants.{Word, Sign}
+use Rattle.su_lex.specs.declared.meaning.Symbol.TheVariants.{Sign}
 
 -- { "," item }, as many as there are
 pub data More {A : Type 0} (Item : A → List Symbol → List Symbol → Type 0) : List A → List Symbol → List Symbol → Type 0 where
@@ -14,13 +14,3 @@ pub data More {A : Type 0} (Item : A → List Symbol → List Symbol → Type 0)
 -- item { "," item }
 abbrev pub Several : {A : Type 0} (Item : A → List Symbol → List Symbol → Type 0) → List A → List Symbol → List Symbol → Type 0
 Several {A} Item items s r = (b : A) × (bs : List A) × (t : List Symbol) × (items ≡ b ∷ bs) × Item b s t × More Item bs t r
-
--- the first symbol is a word
-abbrev pub begins_word : List Symbol → Bool
-begins_word (Word w ∷ s) = true
-begins_word _ = false
-
--- whether the second symbol opens a parenthesis
-abbrev pub opens_second : List Symbol → Bool
-opens_second (x ∷ Sign sign.Open ∷ s) = true
-opens_second _ = false

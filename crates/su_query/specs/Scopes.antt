@@ -1,6 +1,6 @@
 -- Names that are looked up, and the first that isn't known.
 -- scope: where names are looked up: the attributes of a schema, or the columns of one of its relations
-use Rattle.std.specs.Prelude.{◌<◌, ℕ, Bool, List, length, map, Option, is_none, unwrap_or, option_map, find, slice_index_or}
+use Rattle.std.specs.Prelude.{ℕ, Bool, List, map, Option, is_none, unwrap_or, option_map, find, slice_index_or}
 use Rattle.su_base.specs.declared.values.Kind.{Kind}
 use Rattle.su_base.specs.declared.values.Kind.TheVariants.{Int as IntKind}
 use Rattle.su_base.specs.Value.{kind_of}
@@ -12,11 +12,6 @@ use Rattle.su_query.specs.declared.refs.NamedOperand.{NamedOperand}
 use Rattle.su_query.specs.declared.refs.NamedOperand.TheVariants.{Ref, Const}
 use Rattle.su_query.specs.declared.scopes.Scope.{Scope}
 use Rattle.su_query.specs.declared.scopes.Scope.TheVariants.{Attributes, Columns}
-
--- the relation of a scope is one of the schema
-abbrev pub IsScope : SchemaValue → Scope → Type 0
-IsScope schema Attributes = Unit {0}
-IsScope schema (Columns r) = r < length schema.relations
 
 -- the names of a scope, in the order of their numbers
 abbrev pub names_in : SchemaValue → Scope → List (List ℕ)

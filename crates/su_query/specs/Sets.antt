@@ -7,7 +7,7 @@ use Rattle.su_schema.specs.SchemaValue.{SchemaValue}
 use Rattle.su_schema.specs.Entries.{attribute_names}
 use Rattle.su_query.specs.declared.places.Place.{Place}
 use Rattle.su_query.specs.declared.faults.QueryFault.{QueryFault}
-use Rattle.su_query.specs.declared.faults.QueryFault.TheVariants.{NoMemory, Unknown}
+use Rattle.su_query.specs.declared.faults.QueryFault.TheVariants.{Unknown}
 use Rattle.su_query.specs.Scopes.{first_unknown_name, number_among}
 
 -- the attributes with these names
@@ -17,7 +17,6 @@ attributes_named schema names = from_list (map (number_among (attribute_names sc
 -- why names are refused: the first of them that is not known
 abbrev pub IsNameRefusal : SchemaValue → List (List ℕ) → QueryFault → Type 0
 IsNameRefusal schema names (Unknown name) = first_unknown_name (attribute_names schema) names ≡ Some name
-IsNameRefusal schema names NoMemory = Unit {0}
 IsNameRefusal schema names _ = ⊥
 
 -- the attributes of the places of a variable

@@ -5,8 +5,8 @@ use Rattle.su_lex.specs.declared.meaning.Symbol.{Symbol}
 use Rattle.su_query.specs.declared.statements.Statement.{Statement}
 use Rattle.su_query.specs.declared.statements.Statement.TheVariants.{DeleteWhere, Retrieve, Explain, Certify, Support, Compare, Window}
 use Rattle.su_query.specs.declared.faults.QueryFault.{QueryFault}
-use Rattle.su_query.specs.declared.faults.QueryFault.TheVariants.{Syntax, Limit, NoMemory}
-use Rattle.su_query.specs.declared.faults.QueryLimit.TheVariants.{Nesting, Variables, Outputs, Comparisons}
+use Rattle.su_query.specs.declared.faults.QueryFault.TheVariants.{Syntax, Limit}
+use Rattle.su_query.specs.declared.faults.QueryLimit.TheVariants.{Nesting}
 use Rattle.su_lex.specs.Symbols.{Symbols}
 use Rattle.su_lex.specs.Nesting.{IsDeep}
 use Rattle.su_query.specs.Forms.{IsForm}
@@ -40,14 +40,11 @@ IsFormless text = ((symbols : List Symbol) → ¬ (Symbols text symbols)) ⊎ ((
 abbrev pub NestsTooDeep : List ℕ → Type 0
 NestsTooDeep text = (symbols : List Symbol) × Symbols text symbols × IsDeep symbols
 
--- when a text is refused with this fault; want of memory may come at any time
+-- when a text is refused with this fault
 abbrev pub IsTextRefusal : List ℕ → QueryFault → Type 0
 IsTextRefusal text Syntax = IsFormless text
 IsTextRefusal text (Limit Nesting) = NestsTooDeep text
-IsTextRefusal text (Limit Variables) = (st : Statement) × IsStatement text st × PartsPass (parts_of st) (Limit Variables)
-IsTextRefusal text (Limit Outputs) = (st : Statement) × IsStatement text st × PartsPass (parts_of st) (Limit Outputs)
-IsTextRefusal text (Limit Comparisons) = (st : Statement) × IsStatement text st × PartsPass (parts_of st) (Limit Comparisons)
-IsTextRefusal text NoMemory = Unit {0}
+IsTextRefusal text (Limit limit) = (st : Statement) × IsStatement text st × PartsPass (parts_of st) (Limit limit)
 IsTextRefusal text _ = ⊥
 
 -- a text that is this statement is one whose shown text is this statement too, where that nests at most 64 deep

@@ -1,5 +1,5 @@
 //! The names of a condition on a relation as numbers.
-ghost use Rattle.std.specs.Prelude.{◌≡◌, ◌<◌, ◌≤◌, true, length, IfOk, IfErr, OnOk};
+ghost use Rattle.std.specs.Prelude.{◌≡◌, ◌⊎◌, ◌<◌, ◌≤◌, true, length, IfOk, IfErr, OnOk};
 ghost use Rattle.su_where.specs.Truth.{comparisons_of};
 ghost use Rattle.su_query.specs.Mentions.{are_columns};
 ghost use Rattle.su_query.specs.NumberedConditions.{with_columns};
@@ -8,7 +8,7 @@ ghost use Rattle.su_query.specs.Ranges.{IsOnColumns};
 
 use crate::conditions::NamedCond;
 use crate::faults::QueryFault;
-use crate::lookups::{differing_among, unknown_among};
+use crate::lookups::check;
 use crate::mentions::references;
 use crate::numbering::numbered;
 use crate::scopes::Scope;
@@ -31,17 +31,18 @@ pub fn resolve_columns(
     ensures numbers { IfOk result (λ c. c ≡ with_columns schema.now relation cond.now) }
     ensures known { OnOk result (IsColumnCondition schema.now relation cond.now) }
     ensures in_range { IfOk result (λ c. IsOnColumns schema.now relation c) }
-    ensures refused { IfErr result (IsColumnRefusal schema.now relation cond.now) }
+    ensures refused { IfErr result (λ fault. (fault ≡ QueryFault.NoMemory) ⊎ IsColumnRefusal schema.now relation cond.now fault) }
 {
     let refs = references(alloc, &[], cond)?;
-    match unknown_among(alloc, schema, Scope::Columns(relation), refs.as_slice())? {
-        Some(name) => return Err(QueryFault::UnknownColumn(name)),
-        None => {}
-    }
     let compared = comparisons(alloc, cond)?;
-    match differing_among(schema, Scope::Columns(relation), compared.as_slice()) {
-        Some((left, right)) => return Err(QueryFault::Kinds { left, right }),
-        None => {}
+    match check(
+        alloc,
+        schema,
+        Scope::Columns(relation),
+        refs.as_slice(),
+        compared.as_slice(),
+    ) {
+        Ok(()) => Ok(numbered(alloc, schema, Scope::Columns(relation), &[], &[], cond)?),
+        Err(fault) => Err(fault),
     }
-    Ok(numbered(alloc, schema, Scope::Columns(relation), &[], &[], cond)?)
 }

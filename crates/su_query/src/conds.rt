@@ -3,7 +3,7 @@ ghost use Rattle.std.specs.Prelude.{◌≡◌, ◌<◌, ◌∷◌, length, Some,
 ghost use Rattle.su_where.specs.declared.operators.Op.{Op as AnOp};
 ghost use Rattle.su_query.specs.Grammar.{ReadsCond, ReadsConj, ReadsFactor, ReadsPrimary, ReadsComparison, any_of, all_of};
 ghost use Rattle.su_query.specs.Operands.{ReadsOperand, op_sym};
-ghost use Rattle.su_query.specs.Lists.{begins_word};
+ghost use Rattle.su_query.specs.inside.Fronts.{begins_word};
 ghost use Rattle.su_lex.specs.declared.meaning.Symbol.{Symbol as ASymbol};
 ghost use Rattle.su_query.specs.declared.refs.NamedOperand.{NamedOperand as AnOperand};
 ghost use Rattle.su_query.specs.Refs.{NamedCond as ACond};

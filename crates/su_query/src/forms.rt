@@ -2,7 +2,7 @@
 ghost use Rattle.std.specs.Prelude.{◌≡◌, ℕ, ◌∷◌, codes, IfOk, IsErrOf, List as Items};
 ghost use Rattle.su_base.specs.declared.values.Value.{Value as AValue};
 ghost use Rattle.su_lex.specs.declared.meaning.Symbol.{Symbol as ASymbol};
-ghost use Rattle.su_query.specs.Lists.{opens_second};
+ghost use Rattle.su_query.specs.inside.Fronts.{opens_second};
 ghost use Rattle.su_query.specs.RelationForms.{RowForm, ConditionForm, FileForm, NamesForm};
 ghost use Rattle.su_query.specs.QueryForms.{ReadsWhere, ReadsQuery, ReadsEnclosed, PairForm, QueryForm};
 ghost use Rattle.su_query.specs.Forms.{IsForm};

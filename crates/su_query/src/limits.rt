@@ -1,5 +1,5 @@
 //! The limits of a statement: 8 variables, 128 outputs, 256 comparisons, tried in this order.
-ghost use Rattle.std.specs.Prelude.{◌≡◌, ◌<◌, ◌≤◌, true, false, [], map, OnOk, IfOk, IfErr};
+ghost use Rattle.std.specs.Prelude.{◌≡◌, ◌⊎◌, ◌<◌, ◌≤◌, true, false, [], map, OnOk, IfOk, IfErr};
 ghost use Rattle.su_where.specs.declared.conditions.Condition.TheVariants.{All};
 ghost use Rattle.su_query.specs.Limits.{AreFew, HasFew, Passes, PartsPass, plain_ref, variable_count, parts_of};
 
@@ -23,7 +23,7 @@ fn has_few_variables(alloc: Global, outputs: &[Ref], cond: &NamedCond) -> Result
 
 fn check(alloc: Global, outputs: &[Ref], cond: &NamedCond) -> Result<(), QueryFault>
     ensures few { OnOk result (AreFew outputs.now cond.now) }
-    ensures passed { IfErr result (Passes outputs.now cond.now) }
+    ensures passed { IfErr result (λ fault. (fault ≡ QueryFault.NoMemory) ⊎ Passes outputs.now cond.now fault) }
 {
     if !has_few_variables(alloc, outputs, cond)? {
         return Err(QueryFault::Limit(QueryLimit::Variables));
@@ -39,7 +39,7 @@ fn check(alloc: Global, outputs: &[Ref], cond: &NamedCond) -> Result<(), QueryFa
 
 fn check_query(alloc: Global, query: &Query) -> Result<(), QueryFault>
     ensures few { OnOk result (AreFew query.now.outputs query.now.cond) }
-    ensures passed { IfErr result (Passes query.now.outputs query.now.cond) }
+    ensures passed { IfErr result (λ fault. (fault ≡ QueryFault.NoMemory) ⊎ Passes query.now.outputs query.now.cond fault) }
 {
     check(alloc, query.outputs.as_slice(), &query.cond)
 }
@@ -58,7 +58,7 @@ fn check_names(names: &[Str]) -> Result<(), QueryFault>
 /// Whether each part of the statement keeps the limits, and if not, the first that the first such part passes.
 pub(crate) fn check_limits(alloc: Global, statement: &Statement) -> Result<(), QueryFault>
     ensures few { OnOk result (HasFew statement.now) }
-    ensures passed { IfErr result (PartsPass (parts_of statement.now)) }
+    ensures passed { IfErr result (λ fault. (fault ≡ QueryFault.NoMemory) ⊎ PartsPass (parts_of statement.now) fault) }
 {
     match statement {
         Statement::Retrieve(query) => check_query(alloc, query),

@@ -1,6 +1,7 @@
 //! Refs as numbers: of places among the attributes, of columns in a relation.
 ghost use Rattle.std.specs.Prelude.{◌≡◌, ◌<◌, ◌≤◌, length, map, IfOk};
-ghost use Rattle.su_query.specs.Scopes.{IsScope, names_in, number_among};
+ghost use Rattle.su_query.specs.inside.SchemaScopes.{IsScope};
+ghost use Rattle.su_query.specs.Scopes.{names_in, number_among};
 ghost use Rattle.su_query.specs.NumberedConditions.{literal_of, numbered, numbered_operand};
 ghost use Rattle.su_query.specs.Places.{number_in};
 

@@ -1,5 +1,5 @@
 //! One statement from its text.
-ghost use Rattle.std.specs.Prelude.{◌≡◌, ℕ, IfOk, IfErr, List as Items};
+ghost use Rattle.std.specs.Prelude.{◌≡◌, ◌⊎◌, ℕ, IfOk, IfErr, List as Items};
 ghost use Rattle.su_lex.specs.Symbols.{Symbols};
 ghost use Rattle.su_query.specs.StatementTexts.{IsStatement, IsReady, IsTextRefusal};
 ghost use Rattle.su_query.specs.Limits.{HasFew};
@@ -16,7 +16,7 @@ use su_lex::{LexEnd, Reader, Symbol, symbols};
 
 fn read_form(alloc: Global, symbols: List<Symbol>) -> Result<Statement, QueryFault>
     ensures found { IfOk result (λ st. (text : Items ℕ) → Symbols text symbols → IsStatement text st) }
-    ensures refused { IfErr result (λ fault. (text : Items ℕ) → Symbols text symbols → IsTextRefusal text fault) }
+    ensures refused { IfErr result (λ fault. (fault ≡ QueryFault.NoMemory) ⊎ ((text : Items ℕ) → Symbols text symbols → IsTextRefusal text fault)) }
 {
     if nests_too_deep(symbols.as_slice()) {
         return Err(QueryFault::Limit(QueryLimit::Nesting));
@@ -33,7 +33,7 @@ fn read_form(alloc: Global, symbols: List<Symbol>) -> Result<Statement, QueryFau
 pub fn statement_of(alloc: Global, symbols: List<Symbol>) -> Result<Statement, QueryFault>
     ensures found { IfOk result (λ st. (text : Items ℕ) → Symbols text symbols → IsStatement text st) }
     ensures few { IfOk result HasFew }
-    ensures refused { IfErr result (λ fault. (text : Items ℕ) → Symbols text symbols → IsTextRefusal text fault) }
+    ensures refused { IfErr result (λ fault. (fault ≡ QueryFault.NoMemory) ⊎ ((text : Items ℕ) → Symbols text symbols → IsTextRefusal text fault)) }
 {
     let statement = read_form(alloc, symbols)?;
     match check_limits(alloc, &statement) {
@@ -54,7 +54,7 @@ pub fn read(alloc: Global, text: &[u8]) -> Result<Statement, QueryFault>
     ensures few { IfOk result HasFew }
     ensures ready { IfOk result IsReady }
     ensures only { IfOk result (λ st. (other : AStatement) → IsStatement text.now other → other ≡ st) }
-    ensures refused { IfErr result (IsTextRefusal text.now) }
+    ensures refused { IfErr result (λ fault. (fault ≡ QueryFault.NoMemory) ⊎ IsTextRefusal text.now fault) }
 {
     let symbols = match symbols(alloc, text) {
         Ok(symbols) => symbols,

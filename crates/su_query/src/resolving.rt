@@ -1,15 +1,14 @@
 //! Queries over numbers.
 ghost use Rattle.su_query.specs.NumberedConditions.{resolved_of};
 ghost use Rattle.su_query.specs.Lookup.{IsKnownQuery, IsQueryRefusal};
-ghost use Rattle.std.specs.Prelude.{◌≡◌, ◌≤◌, [], None, length, map, IfOk, IfErr, OnOk, MatchOption};
-ghost use Rattle.su_query.specs.inside.Faults.{IsFirstFault};
+ghost use Rattle.std.specs.Prelude.{◌≡◌, ◌≤◌, ◌⊎◌, [], length, map, IfOk, IfErr, OnOk};
 ghost use Rattle.su_query.specs.Mentions.{mentions, all_refs};
 ghost use Rattle.su_query.specs.Limits.{AreFew};
 ghost use Rattle.su_query.specs.Places.{number_in, places_of};
 ghost use Rattle.su_query.specs.Ranges.{IsResolved};
 
 use crate::faults::QueryFault;
-use crate::lookups::{differing_among, unknown_among};
+use crate::lookups::check;
 use crate::mentions::references;
 use crate::numbering::{number, numbered};
 use crate::places::Place;
@@ -18,7 +17,7 @@ use crate::scopes::Scope;
 use crate::statements::Query;
 use crate::{mentions, places};
 use std::alloc::Global;
-use su_base::{Kind, List, NoMemory, Str};
+use su_base::{List, NoMemory, Str};
 use su_schema::Schema;
 use su_where::{Cond, comparisons};
 
@@ -50,17 +49,6 @@ fn numbers(
     Ok(numbers)
 }
 
-/// What a query with this unknown name and with this comparison of two kinds is refused for.
-fn refusal(unknown: Option<Str>, kinds: Option<(Kind, Kind)>) -> Option<QueryFault>
-    ensures { MatchOption result ((unknown ≡ None) × (kinds ≡ None)) (IsFirstFault unknown kinds) }
-{
-    match (unknown, kinds) {
-        (Some(name), _) => Some(QueryFault::Unknown(name)),
-        (None, Some((left, right))) => Some(QueryFault::Kinds { left, right }),
-        (None, None) => None,
-    }
-}
-
 /// The query over numbers.
 ///
 /// A name that is no attribute comes before a comparison of two kinds, and of each the first by
@@ -70,15 +58,19 @@ pub fn resolve(alloc: Global, schema: &Schema, query: &Query) -> Result<Resolved
     ensures resolved { IfOk result (λ r. r ≡ resolved_of schema.now query.now) }
     ensures known { OnOk result (IsKnownQuery schema.now query.now) }
     ensures in_range { IfOk result (λ r. IsResolved schema.now r) }
-    ensures refused { IfErr result (IsQueryRefusal schema.now query.now) }
+    ensures refused { IfErr result (λ fault. (fault ≡ QueryFault.NoMemory) ⊎ IsQueryRefusal schema.now query.now fault) }
 {
     let refs = references(alloc, query.outputs.as_slice(), &query.cond)?;
-    let unknown = unknown_among(alloc, schema, Scope::Attributes, refs.as_slice())?;
     let compared = comparisons(alloc, &query.cond)?;
-    let kinds = differing_among(schema, Scope::Attributes, compared.as_slice());
-    match refusal(unknown, kinds) {
-        Some(fault) => Err(fault),
-        None => Ok(made(alloc, schema, query, refs.as_slice())?),
+    match check(
+        alloc,
+        schema,
+        Scope::Attributes,
+        refs.as_slice(),
+        compared.as_slice(),
+    ) {
+        Ok(()) => Ok(made(alloc, schema, query, refs.as_slice())?),
+        Err(fault) => Err(fault),
     }
 }
 

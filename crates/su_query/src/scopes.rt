@@ -1,7 +1,8 @@
 //! Where names are looked up.
 ghost use Rattle.std.specs.Prelude.{◌≡◌, ◌<◌, length, slice_index_or};
 ghost use Rattle.su_schema.specs.Entries.{place_of};
-ghost use Rattle.su_query.specs.Scopes.{IsScope, names_in, kinds_in, kind_in};
+ghost use Rattle.su_query.specs.inside.SchemaScopes.{IsScope};
+ghost use Rattle.su_query.specs.Scopes.{names_in, kinds_in, kind_in};
 
 use crate::refs::NamedOperand;
 use su_base::Kind;

@@ -1,5 +1,5 @@
 //! Sets of attributes: those with given names, and those that a variable is mentioned with.
-ghost use Rattle.std.specs.Prelude.{◌≡◌, ◌<◌, None, IfOk, IfErr, OnOk, All as Each};
+ghost use Rattle.std.specs.Prelude.{◌≡◌, ◌⊎◌, ◌<◌, None, IfOk, IfErr, OnOk, All as Each};
 ghost use Rattle.su_schema.specs.Entries.{attribute_names};
 ghost use Rattle.su_query.specs.Scopes.{first_unknown_name};
 ghost use Rattle.su_query.specs.Sets.{attributes_named, mentioned_with, IsNameRefusal};
@@ -18,7 +18,7 @@ pub fn resolve_attributes(
 ) -> Result<AttrSet, QueryFault>
     ensures attributes { IfOk result (λ set. set ≡ attributes_named schema.now names.now) }
     ensures known { OnOk result (first_unknown_name (attribute_names schema.now) names.now ≡ None) }
-    ensures refused { IfErr result (IsNameRefusal schema.now names.now) }
+    ensures refused { IfErr result (λ fault. (fault ≡ QueryFault.NoMemory) ⊎ IsNameRefusal schema.now names.now fault) }
 {
     schema.keeps_its_rules();
     let mut set = AttrSet::empty();

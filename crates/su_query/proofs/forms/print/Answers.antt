@@ -3,7 +3,6 @@ use Rattle.std.proofs.lemmas.Result.{err_from_is_err_and}
 use Rattle.su_lex.specs.declared.ends.LexEnd.TheVariants.{Syntax}
 use Rattle.su_lex.specs.declared.meaning.Symbol.TheVariants.{Word}
 use Rattle.su_query.specs.Forms as g
-use Rattle.su_query.specs.QueryForms.{QueryForm}
 use Rattle.su_query.proofs.Exits.{print_inv}
 use Rattle.su_query.proofs.Items.{no_name}
 use Rattle.su_query.proofs.forms.print.Goals as goal

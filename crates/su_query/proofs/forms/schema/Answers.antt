@@ -1,7 +1,6 @@
 use Rattle.std.proofs.Common.{◌∷◌, refl, ap, codes}
 use Rattle.su_lex.specs.declared.meaning.Symbol.TheVariants.{Word}
 use Rattle.su_query.specs.Forms as g
-use Rattle.su_query.specs.QueryForms.{QueryForm}
 use Rattle.su_query.proofs.forms.schema.Goals as goal
 
 pub returns-clause-found : goal.returns-clause-found

@@ -1,10 +1,10 @@
-use Rattle.std.proofs.Common.{Err, ap, inl}
+use Rattle.std.proofs.Common.{Err, ap, inl, inr}
 use Rattle.su_query.proofs.Ready.{form_ready}
 use Rattle.su_query.proofs.Uniqueness.{statement_unique}
 use Rattle.su_query.proofs.reading.read.Goals as goal
 
 pub returns-in-Err-Syntax-clause-refused : goal.returns-in-Err-Syntax-clause-refused
-returns-in-Err-Syntax-clause-refused c = inl (c.in-Err-Syntax.ensures.syntax (ap Err c.in-Err-Syntax.field-0-is))
+returns-in-Err-Syntax-clause-refused c = inr (inl (c.in-Err-Syntax.ensures.syntax (ap Err c.in-Err-Syntax.field-0-is)))
 
 pub returns-in-Ok-statement_of-clause-only : goal.returns-in-Ok-statement_of-clause-only
 returns-in-Ok-statement_of-clause-only c other h =
@@ -17,4 +17,8 @@ returns-in-Ok-statement_of-clause-ready c =
     form_ready c.in-Ok-statement_of.statement is.symbols is.form
 
 pub returns-in-Err-clause-refused : goal.returns-in-Err-clause-refused
-returns-in-Err-clause-refused c = c.in-Err.ensures.refused c.args.text.now c.in-Ok.ensures.symbols
+returns-in-Err-clause-refused c =
+    elim c.in-Err.ensures.refused [
+      | inl e ↦ inl e
+      | inr refused ↦ inr (refused c.args.text.now c.in-Ok.ensures.symbols)
+    ]

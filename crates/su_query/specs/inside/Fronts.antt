@@ -1,0 +1,16 @@
+-- What symbols begin with, where a form is told by it.
+-- No public contract cites this module.
+use Rattle.std.specs.Prelude.{Bool, true, false, List, ◌∷◌}
+use Rattle.su_lex.specs.declared.signs.Sign.TheVariants as sign
+use Rattle.su_lex.specs.declared.meaning.Symbol.{Symbol}
+use Rattle.su_lex.specs.declared.meaning.Symbol.TheVariants.{Word, Sign}
+
+-- the first symbol is a word
+abbrev pub begins_word : List Symbol → Bool
+begins_word (Word w ∷ s) = true
+begins_word _ = false
+
+-- the second symbol opens a parenthesis
+abbrev pub opens_second : List Symbol → Bool
+opens_second (x ∷ Sign sign.Open ∷ s) = true
+opens_second _ = false
