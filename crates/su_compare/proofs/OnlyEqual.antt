@@ -12,7 +12,8 @@ use Rattle.su_where.specs.declared.conditions.Condition.TheVariants.{Compare, No
 use Rattle.su_where.specs.declared.conditions.Condition.TheFolds.{map-Condition, ind-Condition, fold-roll-Condition}
 use Rattle.su_where.specs.Operator.{complement_of}
 use Rattle.su_where.specs.Truth.{Cond}
-use Rattle.su_where.specs.Disjunct.{opposite_of, pairs_of, combinations_of, joined, form_of}
+use Rattle.su_where.specs.Disjunct.{opposite_of, form_of}
+use Rattle.su_where.specs.inside.Joined.{pairs_of, combinations_of, joined}
 use Rattle.su_where.proofs.Disjunctive.{forms, form_of-Compare, form_of-Not, form_of-All, form_of-Any}
 use Rattle.su_compare.specs.Equalities.{asks_equality, equalities_step, asks_equalities}
 

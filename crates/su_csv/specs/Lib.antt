@@ -1,5 +1,6 @@
 pub mod Field
 pub mod File
 pub mod inside
+pub mod ReadBack
 pub mod Record
 pub mod Written

@@ -2,6 +2,7 @@
 ghost use Rattle.std.specs.Prelude.{◌≡◌, ◌<◌, ◌≤◌, ◌&&◌, Some, is_none, length, slice_get, MatchOption, true};
 ghost use Rattle.csv.specs.Records.{AllText, fields_of};
 ghost use Rattle.su_csv.specs.Record.{place_without, record_limit, row_or_fault};
+ghost use Rattle.su_csv.specs.inside.Faults.{IsFaultAt};
 ghost use Rattle.su_csv.specs.inside.OneAnswer.{Answers};
 ghost use Rattle.su_base.specs.Value.{same_kind};
 ghost use Rattle.su_csv.specs.Field.{field_value};
@@ -55,7 +56,7 @@ fn fault_at(columns: &[Column], fields: &ByteRecord, number: u64, place: usize) 
     requires width { length (fields_of fields.now) ≡ length columns.now }
     requires few { length columns.now ≤ 32 }
     requires within { place < length columns.now }
-    ensures { MatchOption (place_without Kind.Int 0 columns.now (fields_of fields.now)) (result ≡ CsvFault.NotText number place) (λ column. result ≡ CsvFault.NotInt number column) }
+    ensures { IsFaultAt columns.now (fields_of fields.now) number place result }
 {
     match first_without_number(columns, fields) {
         Some(column) => CsvFault::NotInt { number, column },

@@ -2,10 +2,9 @@
 ghost use Rattle.std.specs.Prelude.{◌≡◌, [], ◌∷◌, ◌++◌, List, Ok, map, All, OnOk, IfOk};
 ghost use Rattle.csv.specs.Records.{fields_of, partial_of};
 ghost use Rattle.csv.specs.Writing.{default_writer, row_text};
-ghost use Rattle.su_csv.specs.Written.{CanBeRead, field_of, text_of};
+ghost use Rattle.su_csv.specs.Written.{field_of, text_of};
+ghost use Rattle.su_csv.specs.ReadBack.{ReadsBack};
 ghost use Rattle.su_csv.specs.inside.Writers.{IsStored};
-ghost use Rattle.su_csv.specs.File.{reading};
-ghost use Rattle.su_base.specs.declared.values.Column.{Column};
 ghost use Rattle.su_csv.specs.inside.Writers.{IsIdle, text_so_far};
 
 use csv::{ByteRecord, Writer, WriterBuilder};
@@ -97,7 +96,7 @@ pub fn write_behind(
     rows: &[Row],
 ) -> Result<List<u8>, NoMemory>
     ensures text { IfOk result (λ text. text ≡ front ++ text_of header.now rows.now) }
-    ensures reads_back { (columns : List Column) → map (λ column. column.name) columns ≡ header.now → CanBeRead columns rows.now → OnOk result (reading columns (text_of header.now rows.now) ≡ Ok rows.now) }
+    ensures reads_back { OnOk result (ReadsBack header.now rows.now (text_of header.now rows.now)) }
 {
     let mut writer = WriterBuilder::new()
         .flexible(true)
@@ -115,7 +114,7 @@ pub fn write_behind(
 /// are held beside it.
 pub fn write(alloc: Global, header: &[Str], rows: &[Row]) -> Result<List<u8>, NoMemory>
     ensures text { IfOk result (λ text. text ≡ text_of header.now rows.now) }
-    ensures reads_back { (columns : List Column) → map (λ column. column.name) columns ≡ header.now → CanBeRead columns rows.now → IfOk result (λ text. reading columns text ≡ Ok rows.now) }
+    ensures reads_back { IfOk result (ReadsBack header.now rows.now) }
 {
     write_behind(alloc, List::new(alloc), header, rows)
 }

@@ -8,12 +8,13 @@ use Rattle.std.proofs.lemmas.List.FromFn.{length-range_with_len}
 use Rattle.std.proofs.lemmas.List.Sums.{length-filter, count_by-le-length}
 use Rattle.su_schema.specs.SchemaValue.{SchemaValue}
 use Rattle.su_schema.specs.Valid.{IsValid}
-use Rattle.su_maxobj.specs.MaximalObjects.{grown_at, is_listed, computed, AreMaximalObjects}
+use Rattle.su_maxobj.specs.AdjoinableObjects.{set_at}
+use Rattle.su_maxobj.specs.MaximalObjects.{is_listed, computed, AreMaximalObjects}
 
 few_computed : (declared grown : List (FinSet nat_cmp)) → length (computed declared grown) ≤ length grown
 few_computed declared grown =
     let seeds = range_with_len 0 (length grown) in
-    let a = length-map (filter (is_listed declared grown) seeds) (grown_at grown) in
+    let a = length-map (filter (is_listed declared grown) seeds) (set_at grown) in
     let b = length-filter (is_listed declared grown) seeds in
     let c = count_by-le-length (is_listed declared grown) seeds in
     let d = length-range_with_len 0 (length grown) in

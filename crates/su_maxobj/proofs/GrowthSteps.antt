@@ -6,7 +6,7 @@ use Rattle.std.specs.FinSet.{FinSet, contains, insert, union, intersection, is_s
 use Rattle.std.proofs.lemmas.Bool.{cases_eq, cases_order, false≢true}
 use Rattle.su_base.proofs.Subsets.{subset_at}
 use Rattle.su_fd.specs.declared.Fd.{Fd}
-use Rattle.su_maxobj.specs.AdjoinableObjects.{object_at, IsAttributesOf, Adjoinable}
+use Rattle.su_maxobj.specs.AdjoinableObjects.{set_at, IsAttributesOf, Adjoinable}
 use Rattle.su_maxobj.specs.Growth.{IsFirstAdjoinable, IsGrowth, IsGrown}
 use Rattle.su_maxobj.specs.inside.Ruled.{AreNotAdjoinable}
 use Rattle.su_maxobj.specs.Laws.{GrowthIsUnique}
@@ -71,8 +71,8 @@ pub not_adjoinable_none : (fds : List Fd) (objects : List (FinSet nat_cmp)) (hav
 not_adjoinable_none fds objects have these e k one = absurd (false≢true (sym (contains-empty nat_cmp k) ∙ ap (λ z. contains z k) (sym e) ∙ one))
 
 -- what is known not to be adjoinable, after o has joined
-pub not_adjoinable_still : (fds : List Fd) (objects : List (FinSet nat_cmp)) (have more s t d these kept : FinSet nat_cmp) (o : ℕ) → IsAttributesOf objects have s → o < length objects → object_at objects o ≡ d
+pub not_adjoinable_still : (fds : List Fd) (objects : List (FinSet nat_cmp)) (have more s t d these kept : FinSet nat_cmp) (o : ℕ) → IsAttributesOf objects have s → o < length objects → set_at objects o ≡ d
     → more ≡ insert have o → t ≡ union s d → AreNotAdjoinable fds objects have these
-    → is_subset kept these ≡ true → ((r : ℕ) → contains kept r ≡ true → is_subset (intersection (object_at objects r) d) s ≡ true) → AreNotAdjoinable fds objects more kept
+    → is_subset kept these ≡ true → ((r : ℕ) → contains kept r ≡ true → is_subset (intersection (set_at objects r) d) s ≡ true) → AreNotAdjoinable fds objects more kept
 not_adjoinable_still fds objects have more s t d these kept o s_is h d_is more_is t_is before within unmoved k one =
     still_not fds objects have more s t d o k s_is (attributes_of_more objects o have more s t d s_is h d_is more_is t_is) more_is t_is (unmoved k one) (before k (subset_at kept these k within one))

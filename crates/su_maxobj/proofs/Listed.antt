@@ -8,32 +8,33 @@ use Rattle.std.specs.FinSet.{FinSet, empty}
 use Rattle.su_fd.specs.declared.Fd.{Fd}
 use Rattle.su_maxobj.specs.Laws.{MaximalObjectsAreUnique}
 use Rattle.su_maxobj.specs.Growth.{IsGrown}
-use Rattle.su_maxobj.specs.MaximalObjects.{object_sets, grown_at, is_listed, computed}
+use Rattle.su_maxobj.specs.AdjoinableObjects.{set_at}
+use Rattle.su_maxobj.specs.MaximalObjects.{object_sets, is_listed, computed}
 use Rattle.su_maxobj.proofs.Lists.{passing_push, passing_skip}
 use Rattle.su_maxobj.proofs.Members.{object_at_read}
 use Rattle.su_maxobj.proofs.GrowthSteps.{one_grown}
 
 abbrev pub ListedBelow : List (FinSet nat_cmp) → List (FinSet nat_cmp) → ℕ → List (FinSet nat_cmp)
-ListedBelow declared grown n = declared ++ map (grown_at grown) (filter (is_listed declared grown) (range_with_len 0 n))
+ListedBelow declared grown n = declared ++ map (set_at grown) (filter (is_listed declared grown) (range_with_len 0 n))
 
 module _ (declared grown sets t : List (FinSet nat_cmp)) (n : ℕ) (before : sets ≡ ListedBelow declared grown n) where
   pub listed_push : is_listed declared grown n ≡ true → n < length grown → (v : FinSet nat_cmp) → v ≡ get_or grown n v → t ≡ sets ++ v ∷ [] → t ≡ ListedBelow declared grown (n + 1)
   listed_push passes h v v_is t_is =
-      let own : v ≡ grown_at grown n = sym (object_at_read grown n v h v_is) in
-      let so_far : List (FinSet nat_cmp) = map (grown_at grown) (filter (is_listed declared grown) (range_with_len 0 n)) in
-      t_is ∙ ap (λ z. z ++ v ∷ []) before ∙ append_assoc declared so_far (v ∷ []) ∙ ap (λ z. declared ++ (so_far ++ z ∷ [])) own ∙ ap (λ z. declared ++ z) (sym (passing_push (grown_at grown) (is_listed declared grown) n passes))
+      let own : v ≡ set_at grown n = sym (object_at_read grown n v h v_is) in
+      let so_far : List (FinSet nat_cmp) = map (set_at grown) (filter (is_listed declared grown) (range_with_len 0 n)) in
+      t_is ∙ ap (λ z. z ++ v ∷ []) before ∙ append_assoc declared so_far (v ∷ []) ∙ ap (λ z. declared ++ (so_far ++ z ∷ [])) own ∙ ap (λ z. declared ++ z) (sym (passing_push (set_at grown) (is_listed declared grown) n passes))
 
   pub listed_skip : is_listed declared grown n ≡ false → t ≡ sets → t ≡ ListedBelow declared grown (n + 1)
-  listed_skip fails t_is = t_is ∙ before ∙ ap (λ z. declared ++ z) (sym (passing_skip (grown_at grown) (is_listed declared grown) n fails))
+  listed_skip fails t_is = t_is ∙ before ∙ ap (λ z. declared ++ z) (sym (passing_skip (set_at grown) (is_listed declared grown) n fails))
 
 -- the grown sets of the first seeds, with one seed more
-pub grown_push : (fds : List Fd) (objects grown : List (FinSet nat_cmp)) (n : ℕ) (v : FinSet nat_cmp) → length grown ≡ n → ((k : ℕ) → k < n → IsGrown fds objects k (grown_at grown k)) → IsGrown fds objects n v
-    → (k : ℕ) → k < n + 1 → IsGrown fds objects k (grown_at (grown ++ v ∷ []) k)
+pub grown_push : (fds : List Fd) (objects grown : List (FinSet nat_cmp)) (n : ℕ) (v : FinSet nat_cmp) → length grown ≡ n → ((k : ℕ) → k < n → IsGrown fds objects k (set_at grown k)) → IsGrown fds objects n v
+    → (k : ℕ) → k < n + 1 → IsGrown fds objects k (set_at (grown ++ v ∷ []) k)
 grown_push fds objects grown n v seeds each own k h = elim (cases_lt k n) [
   | inl lt ↦ subst (IsGrown fds objects k) (sym (get_or_append_left grown (v ∷ []) empty k (omega (arith, seeds)))) (each k lt)
   | inr ge ↦
       let same : k ≡ n = omega arith in
-      let last : grown_at (grown ++ v ∷ []) k ≡ v = get_or_push grown v empty k (seeds ∙ sym same) in
+      let last : set_at (grown ++ v ∷ []) k ≡ v = get_or_push grown v empty k (seeds ∙ sym same) in
       subst (IsGrown fds objects k) (sym last) (subst (λ m. IsGrown fds objects m v) (sym same) own)
 ]
 
@@ -43,8 +44,8 @@ one_list schema sets other a b =
     let same : b.grown ≡ a.grown =
     same_lists b.grown a.grown (b.seeds ∙ sym a.seeds)
     (λ k d h.
-    let x : IsGrown schema.fds (object_sets schema) k (grown_at b.grown k) = b.each k (omega (arith, b.seeds)) in
-    let y : IsGrown schema.fds (object_sets schema) k (grown_at a.grown k) = a.each k (omega (arith, b.seeds)) in
+    let x : IsGrown schema.fds (object_sets schema) k (set_at b.grown k) = b.each k (omega (arith, b.seeds)) in
+    let y : IsGrown schema.fds (object_sets schema) k (set_at a.grown k) = a.each k (omega (arith, b.seeds)) in
     get_or_default b.grown k d empty h ∙ one_grown _ _ _ _ _ x y ∙ get_or_default a.grown k empty d (omega (arith, a.seeds, b.seeds)))
     in
     b.sets_are ∙ ap (λ g. schema.declared ++ computed schema.declared g) same ∙ sym a.sets_are

@@ -10,9 +10,8 @@ use Rattle.std.proofs.lemmas.List.{get_or-set_other, get_or_default}
 use Rattle.std.proofs.lemmas.List.Elements.{All-contains, All-push, Contains-append_left, Contains-append_right}
 use Rattle.su_fd.specs.declared.Fd.{Fd}
 use Rattle.su_fd.specs.Closure.{IsClosed, IsClosureOf}
-use Rattle.su_maxobj.specs.AdjoinableObjects.{HangTogether, Adjoinable}
+use Rattle.su_maxobj.specs.AdjoinableObjects.{set_at, HangTogether, Adjoinable}
 use Rattle.su_maxobj.specs.Growth.{IsFirstAdjoinable, IsGrowth, IsGrown}
-use Rattle.su_maxobj.specs.MaximalObjects.{grown_at}
 use Rattle.su_maxobj.specs.inside.Ordered.{HaveSameMembers}
 
 -- how many flags are set
@@ -85,6 +84,6 @@ module _ (fds others : List Fd) (same : HaveSameMembers fds others) (objects : L
 
 -- what each object grows to is the same under dependencies in another order
 pub grown_by_others : {E : Type 0} (fds others : List Fd) (objects : List (FinSet nat_cmp)) → HaveSameMembers fds others → (r : Result (List (FinSet nat_cmp)) E)
-    → IfOk r (λ grown. (seed : ℕ) → seed < length objects → IsGrown others objects seed (grown_at grown seed)) → IfOk r (λ grown. (seed : ℕ) → seed < length objects → IsGrown fds objects seed (grown_at grown seed))
-grown_by_others fds others objects same (Ok grown) each = λ seed h. grown_same others fds (turned fds others same) objects seed (grown_at grown seed) (each seed h)
+    → IfOk r (λ grown. (seed : ℕ) → seed < length objects → IsGrown others objects seed (set_at grown seed)) → IfOk r (λ grown. (seed : ℕ) → seed < length objects → IsGrown fds objects seed (set_at grown seed))
+grown_by_others fds others objects same (Ok grown) each = λ seed h. grown_same others fds (turned fds others same) objects seed (set_at grown seed) (each seed h)
 grown_by_others fds others objects same (Err e) each = tt

@@ -8,7 +8,7 @@ use Rattle.su_base.proofs.Subsets.{subset_at, subset_by, subset_refl, subset_ant
 use Rattle.su_fd.specs.declared.Fd.{Fd}
 use Rattle.su_fd.specs.Closure.{IsClosureOf}
 use Rattle.su_maxobj.specs.Apart.{shares, IsChain, Apart}
-use Rattle.su_maxobj.specs.AdjoinableObjects.{object_at, IsAttributesOf, HangTogether, Adjoinable}
+use Rattle.su_maxobj.specs.AdjoinableObjects.{set_at, IsAttributesOf, HangTogether, Adjoinable}
 use Rattle.su_maxobj.proofs.Members.{same_by}
 use Rattle.su_maxobj.proofs.Spread.{shares_more}
 
@@ -34,11 +34,11 @@ hang_by fds objects s t m x m_is x_is some r r_is =
     )
 
 -- being adjoinable, where the attributes of the members are known
-pub joins_by : (fds : List Fd) (objects : List (FinSet nat_cmp)) (have s t : FinSet nat_cmp) (o : ℕ) → IsAttributesOf objects have s → object_at objects o ≡ t → contains have o ≡ false
+pub joins_by : (fds : List Fd) (objects : List (FinSet nat_cmp)) (have s t : FinSet nat_cmp) (o : ℕ) → IsAttributesOf objects have s → set_at objects o ≡ t → contains have o ≡ false
     → (r : Bool) → (IsTrue r ↔ HangTogether fds objects s t) → IsTrue r ↔ Adjoinable fds objects have o
 joins_by fds objects have s t o s_is t_is out r r_is = (
   λ one. record { outside = λ in'. false≢true (sym out ∙ in'); attributes = s; attributes_is = s_is; together = rw t_is (r_is.0 one) },
-  λ adj. r_is.1 (subst (λ z. HangTogether fds objects s z) t_is (subst (λ z. HangTogether fds objects z (object_at objects o)) (same_by _ adj.attributes s adj.attributes_is s_is) adj.together)),
+  λ adj. r_is.1 (subst (λ z. HangTogether fds objects s z) t_is (subst (λ z. HangTogether fds objects z (set_at objects o)) (same_by _ adj.attributes s adj.attributes_is s_is) adj.together)),
 )
 
 chain_more : (x s t q : FinSet nat_cmp) (os : List (FinSet nat_cmp)) → is_subset s t ≡ true → IsChain x s q os → IsChain x t q os
@@ -70,9 +70,9 @@ same_shared s d q unmoved =
 
 -- what isn't adjoinable isn't so either after another has joined that shares nothing new with it
 pub still_not : (fds : List Fd) (objects : List (FinSet nat_cmp)) (have more s t d : FinSet nat_cmp) (o r : ℕ) → IsAttributesOf objects have s → IsAttributesOf objects more t
-    → more ≡ insert have o → t ≡ union s d → is_subset (intersection (object_at objects r) d) s ≡ true → ¬ Adjoinable fds objects have r → ¬ Adjoinable fds objects more r
+    → more ≡ insert have o → t ≡ union s d → is_subset (intersection (set_at objects r) d) s ≡ true → ¬ Adjoinable fds objects have r → ¬ Adjoinable fds objects more r
 still_not fds objects have more s t d o r s_is t_is more_is t_eq unmoved never adj =
-    let q : FinSet nat_cmp = object_at objects r in
+    let q : FinSet nat_cmp = set_at objects r in
     let same_t : adj.attributes ≡ t = same_by _ adj.attributes t adj.attributes_is t_is in
     let same : intersection s q ≡ intersection t q = rw t_eq (same_shared s d q unmoved) in
     never

@@ -9,19 +9,13 @@ use Rattle.su_fd.specs.declared.Fd.{Fd}
 use Rattle.su_fd.specs.Closure.{IsClosureOf}
 use Rattle.su_maxobj.specs.Apart.{shares, Apart}
 
--- the attributes of an object
-abbrev pub object_at : List (FinSet nat_cmp) → ℕ → FinSet nat_cmp
-object_at objects o = slice_index_or objects o empty
-
--- o is a member of have, and a is an attribute of o
-pub record IsMemberWith (objects : List (FinSet nat_cmp)) (have : FinSet nat_cmp) (a o : ℕ) : Type 0 where
-  pub in_range : o < length objects
-  pub member : IsTrue (contains have o)
-  pub attribute : IsTrue (contains (object_at objects o) a)
+-- the set with this number: the attributes of an object, or the objects that a seed grows to
+abbrev pub set_at : List (FinSet nat_cmp) → ℕ → FinSet nat_cmp
+set_at sets i = slice_index_or sets i empty
 
 -- s has the attributes of the members of have
 abbrev pub IsAttributesOf : List (FinSet nat_cmp) → FinSet nat_cmp → FinSet nat_cmp → Type 0
-IsAttributesOf objects have s = (a : ℕ) → IsTrue (contains s a) ↔ ((o : ℕ) × IsMemberWith objects have a o)
+IsAttributesOf objects have s = (a : ℕ) → IsTrue (contains s a) ↔ ((o : ℕ) × (o < length objects) × IsTrue (contains have o) × IsTrue (contains (set_at objects o) a))
 
 -- s and t share an attribute, and by the closure of all that they share they are apart
 pub record HangTogether (fds : List Fd) (objects : List (FinSet nat_cmp)) (s t : FinSet nat_cmp) : Type 0 where
@@ -35,4 +29,4 @@ pub record Adjoinable (fds : List Fd) (objects : List (FinSet nat_cmp)) (have : 
   pub outside : ¬ IsTrue (contains have o)
   pub attributes : FinSet nat_cmp
   pub attributes_is : IsAttributesOf objects have attributes
-  pub together : HangTogether fds objects attributes (object_at objects o)
+  pub together : HangTogether fds objects attributes (set_at objects o)

@@ -1,12 +1,13 @@
 -- The maximal objects of a schema: sets of objects, each seen as a set of numbers.
 -- declared: stated in the schema; computed: grown from a seed
--- listed seed: what it grows to is in no declared set, properly in no grown set, and no earlier seed grows to it
-use Rattle.std.specs.Prelude.{◌≡◌, ℕ, ◌<◌, Bool, not, ◌&&◌, List, ◌++◌, length, map, filter, take, slice_index_or}
+-- listed seed: what it grows to is in no declared set and in no earlier grown one, and properly in no later one
+use Rattle.std.specs.Prelude.{◌≡◌, ℕ, ◌<◌, Bool, not, ◌&&◌, List, ◌++◌, length, map, filter, take}
 use Rattle.std.specs.List.{list_any, range_with_len}
 use Rattle.std.specs.Ordering.{nat_cmp}
-use Rattle.std.specs.FinSet.{FinSet, is_subset, empty}
+use Rattle.std.specs.FinSet.{FinSet, is_subset}
 use Rattle.su_schema.specs.SchemaValue.{SchemaValue}
 use Rattle.su_schema.specs.Entries.{attributes_of}
+use Rattle.su_maxobj.specs.AdjoinableObjects.{set_at}
 use Rattle.su_maxobj.specs.Growth.{IsGrown}
 
 -- the attributes of each object
@@ -17,28 +18,20 @@ object_sets schema = map attributes_of schema.objects
 abbrev pub is_proper_subset : FinSet nat_cmp → FinSet nat_cmp → Bool
 is_proper_subset s t = is_subset s t && not (is_subset t s)
 
--- whether s and t have the same members
-abbrev pub has_same_members : FinSet nat_cmp → FinSet nat_cmp → Bool
-has_same_members s t = is_subset s t && is_subset t s
-
--- the set that a seed grows to
-abbrev pub grown_at : List (FinSet nat_cmp) → ℕ → FinSet nat_cmp
-grown_at grown seed = slice_index_or grown seed empty
-
 -- whether the grown set of this seed is a maximal object of its own
 abbrev pub is_listed : List (FinSet nat_cmp) → List (FinSet nat_cmp) → ℕ → Bool
 is_listed declared grown seed =
-    not (list_any (is_subset (grown_at grown seed)) declared)
-    && not (list_any (is_proper_subset (grown_at grown seed)) grown)
-    && not (list_any (has_same_members (grown_at grown seed)) (take seed grown))
+    not (list_any (is_subset (set_at grown seed)) declared)
+    && not (list_any (is_subset (set_at grown seed)) (take seed grown))
+    && not (list_any (is_proper_subset (set_at grown seed)) grown)
 
 -- the computed ones, in the order of their seeds
 abbrev pub computed : List (FinSet nat_cmp) → List (FinSet nat_cmp) → List (FinSet nat_cmp)
-computed declared grown = map (grown_at grown) (filter (is_listed declared grown) (range_with_len 0 (length grown)))
+computed declared grown = map (set_at grown) (filter (is_listed declared grown) (range_with_len 0 (length grown)))
 
 -- all declared ones in the order of declaration, then the computed ones
 pub record AreMaximalObjects (schema : SchemaValue) (sets : List (FinSet nat_cmp)) : Type 0 where
   pub grown : List (FinSet nat_cmp)
   pub seeds : length grown ≡ length schema.objects
-  pub each : (seed : ℕ) → seed < length schema.objects → IsGrown schema.fds (object_sets schema) seed (grown_at grown seed)
+  pub each : (seed : ℕ) → seed < length schema.objects → IsGrown schema.fds (object_sets schema) seed (set_at grown seed)
   pub sets_are : sets ≡ schema.declared ++ computed schema.declared grown

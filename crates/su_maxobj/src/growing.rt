@@ -2,7 +2,7 @@
 ghost use Rattle.std.specs.Prelude.{ℕ, ◌≡◌, ◌<◌, ◌≤◌, IsTrue, MatchOption, length};
 ghost use Rattle.std.specs.Ordering.{nat_cmp};
 ghost use Rattle.std.specs.FinSet as set;
-ghost use Rattle.su_maxobj.specs.AdjoinableObjects.{object_at, IsAttributesOf};
+ghost use Rattle.su_maxobj.specs.AdjoinableObjects.{set_at, IsAttributesOf};
 ghost use Rattle.su_maxobj.specs.Growth.{IsFull, IsFirstAdjoinable, IsGrown};
 ghost use Rattle.su_maxobj.specs.inside.Ruled.{AreNotAdjoinable};
 
@@ -43,7 +43,7 @@ fn first_adjoinable(
 fn unmoved(objects: &[AttrSet], members: AttrSet, ruled_out: ObjSet, added: AttrSet) -> ObjSet
     requires { length objects.now ≤ 64 }
     ensures within { IsTrue (set.is_subset result ruled_out) }
-    ensures unmoved { (r : ℕ) → IsTrue (set.contains result r) → IsTrue (set.is_subset (set.intersection (object_at objects.now r) added) members) }
+    ensures unmoved { (r : ℕ) → IsTrue (set.contains result r) → IsTrue (set.is_subset (set.intersection (set_at objects.now r) added) members) }
 {
     let mut kept = ObjSet::empty();
     for (r, object) in objects.iter().enumerate() {

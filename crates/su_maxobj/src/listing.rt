@@ -2,8 +2,9 @@
 ghost use Rattle.std.specs.Prelude.{ℕ, ◌≡◌, ◌<◌, ◌≤◌, ◌++◌, IfOk, length};
 ghost use Rattle.std.specs.List.{list_any};
 ghost use Rattle.std.specs.FinSet as set;
+ghost use Rattle.su_maxobj.specs.AdjoinableObjects.{set_at};
 ghost use Rattle.su_maxobj.specs.Growth.{IsGrown};
-ghost use Rattle.su_maxobj.specs.MaximalObjects.{is_proper_subset, has_same_members, grown_at, is_listed as listed, computed};
+ghost use Rattle.su_maxobj.specs.MaximalObjects.{is_proper_subset, is_listed as listed, computed};
 
 use crate::growing::grown_from;
 use crate::ordering::ordered;
@@ -24,13 +25,6 @@ fn is_properly_within_any(own: ObjSet, sets: &[ObjSet]) -> bool
         .any(|other| own.within(*other) && !other.within(own))
 }
 
-fn is_among(own: ObjSet, sets: &[ObjSet]) -> bool
-    ensures { result ≡ list_any (has_same_members own) sets.now }
-{
-    sets.iter()
-        .any(|other| own.within(*other) && other.within(own))
-}
-
 /// Whether what the seed grows to is a maximal object that no other stands for.
 fn is_listed(declared: &[ObjSet], grown: &[ObjSet], seed: usize) -> bool
     requires { seed < length grown.now }
@@ -38,15 +32,15 @@ fn is_listed(declared: &[ObjSet], grown: &[ObjSet], seed: usize) -> bool
 {
     let own = grown[seed];
     !is_within_any(own, declared)
+        && !is_within_any(own, &grown[..seed])
         && !is_properly_within_any(own, grown)
-        && !is_among(own, &grown[..seed])
 }
 
 /// What each object grows to.
 fn grown_by(alloc: Global, fds: &[Fd], objects: &[AttrSet]) -> Result<List<ObjSet>, NoMemory>
     requires { length objects.now ≤ 64 }
     ensures seeds { IfOk result (λ grown. length grown ≡ length objects.now) }
-    ensures each { IfOk result (λ grown. (seed : ℕ) → seed < length objects.now → IsGrown fds.now objects.now seed (grown_at grown seed)) }
+    ensures each { IfOk result (λ grown. (seed : ℕ) → seed < length objects.now → IsGrown fds.now objects.now seed (set_at grown seed)) }
 {
     let mut grown = List::new(alloc);
     for seed in 0..objects.len() as u8 {
@@ -60,7 +54,7 @@ fn grown_by(alloc: Global, fds: &[Fd], objects: &[AttrSet]) -> Result<List<ObjSe
 pub fn grown_sets(alloc: Global, fds: &[Fd], objects: &[AttrSet]) -> Result<List<ObjSet>, NoMemory>
     requires { length objects.now ≤ 64 }
     ensures seeds { IfOk result (λ grown. length grown ≡ length objects.now) }
-    ensures each { IfOk result (λ grown. (seed : ℕ) → seed < length objects.now → IsGrown fds.now objects.now seed (grown_at grown seed)) }
+    ensures each { IfOk result (λ grown. (seed : ℕ) → seed < length objects.now → IsGrown fds.now objects.now seed (set_at grown seed)) }
 {
     let fds = ordered(alloc, fds)?;
     grown_by(alloc, fds.as_slice(), objects)

@@ -1,11 +1,16 @@
 -- How a set of rows changes.
 -- put in: the row is last unless it was there; taken out: the row is gone, every other row is there
-use Rattle.std.specs.Prelude.{◌≡◌, ◌⊎◌, List, [], ◌∷◌, ◌++◌, Contains, ◌↔◌}
+use Rattle.std.specs.Prelude.{◌≡◌, ◌⊎◌, Bool, MatchBool, List, [], ◌∷◌, ◌++◌, Contains, ◌↔◌}
 use Rattle.su_base.specs.declared.values.Value.{Value}
+use Rattle.su_rel.specs.Stored.{Stored}
 
 -- one row is put in
 abbrev pub PutIn : List (List Value) → List Value → List (List Value) → Type 0
 PutIn old row new = (Contains old row × (new ≡ old)) ⊎ ((¬ Contains old row) × (new ≡ old ++ row ∷ []))
+
+-- a row is put in, and it is told whether it is new; one that was there changes nothing
+abbrev pub TellsNew : Bool → Stored → List Value → Stored → Type 0
+TellsNew new old row now = MatchBool new ((¬ Contains old.rows row) × (now.rows ≡ old.rows ++ row ∷ [])) (Contains old.rows row × (now ≡ old))
 
 -- rows are put in one after another
 abbrev pub PutInAll : List (List Value) → List (List Value) → List (List Value) → Type 0

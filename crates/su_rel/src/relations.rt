@@ -2,7 +2,7 @@
 ghost use Rattle.std.specs.Prelude.{◌≡◌, ◌<◌, ◌+◌, ◌↔◌, false, [], ◌∷◌, ◌++◌, length, take, drop, slice_index_or, Contains, IsTrue, IfOk, IfErr, OnErr, MatchBool, MatchOption, slice_get, if◌then◌else◌};
 ghost use Rattle.std.specs.Bool.{OnFalse};
 ghost use Rattle.std.specs.List.{items_where_true, swap_remove};
-ghost use Rattle.su_rel.specs.Changes.{PutInAll, TakenOut};
+ghost use Rattle.su_rel.specs.Changes.{PutInAll, TakenOut, TellsNew};
 ghost use Rattle.su_rel.specs.Stored.{HaveWidth, IsRelation};
 
 use indexmap::IndexSet;
@@ -95,7 +95,7 @@ impl Relation {
     pub fn insert(&mut self, row: Row) -> Result<bool, (Row, NoMemory)>
         requires { length row ≡ self.old.width }
         ensures width { self.new.width ≡ self.old.width }
-        ensures ok { IfOk result (λ new. MatchBool new ((¬ Contains self.old.rows row) × (self.new.rows ≡ self.old.rows ++ row ∷ [])) (Contains self.old.rows row × (self.new ≡ self.old))) }
+        ensures ok { IfOk result (λ new. TellsNew new self.old row self.new) }
         ensures unchanged { OnErr result (self.new ≡ self.old) }
         ensures handed_back { IfErr result (λ e. e.0 ≡ row) }
     {

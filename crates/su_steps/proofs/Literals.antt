@@ -7,7 +7,8 @@ use Rattle.su_where.specs.declared.conditions.Condition.TheOpen as open'
 use Rattle.su_where.specs.declared.conditions.Condition.TheVariants.{Compare, Not, All, Any, rolls-Compare, rolls-Not, rolls-All, rolls-Any}
 use Rattle.su_where.specs.declared.conditions.Condition.TheFolds.{map-Condition, ind-Condition}
 use Rattle.su_where.specs.Truth.{Cond, comparisons_of}
-use Rattle.su_where.specs.Disjunct.{opposite_of, pairs_of, combinations_of, joined, form_of, disjuncts_of}
+use Rattle.su_where.specs.Disjunct.{opposite_of, form_of, disjuncts_of}
+use Rattle.su_where.specs.inside.Joined.{pairs_of, combinations_of, joined}
 use Rattle.su_where.proofs.Layers.{comparisons_of-Compare, comparisons_of-Not, comparisons_of-All, comparisons_of-Any}
 use Rattle.su_where.proofs.Disjunctive.{forms, form_of-Compare, form_of-Not, form_of-All, form_of-Any}
 use Rattle.su_steps.proofs.Lists.{all_append, all_front, all_back}

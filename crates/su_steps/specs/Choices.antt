@@ -1,9 +1,10 @@
 -- Choices of one maximal object per variable, and the rows that a choice asks for.
 -- choice: for each variable, in order, the number of a maximal object that covers it; origin of a row: its variable and its object
-use Rattle.std.specs.Prelude.{ℕ, suc, List, [], ◌∷◌, ◌++◌, length, map, filter, flat_map, get_or}
+use Rattle.std.specs.Prelude.{ℕ, suc, List, [], ◌∷◌, ◌++◌, length, map, filter, get_or}
 use Rattle.std.specs.List.{range_with_len}
 use Rattle.std.specs.Ordering.{nat_cmp}
 use Rattle.std.specs.FinSet.{FinSet, empty}
+pub use Rattle.su_where.specs.Disjunct.{combinations}
 use Rattle.su_schema.specs.SchemaValue.{SchemaValue}
 use Rattle.su_query.specs.declared.resolving.Resolved.{Resolved}
 use Rattle.su_query.specs.Sets.{mentioned_with}
@@ -17,11 +18,6 @@ coverings_of schema maximal q v = filter (λ m. covers schema (get_or maximal m 
 -- the same for each variable
 abbrev pub coverings : SchemaValue → List (FinSet nat_cmp) → Resolved → List (List ℕ)
 coverings schema maximal q = map (coverings_of schema maximal q) (range_with_len 0 (length q.variables))
-
--- one of each list, the first list slowest
-abbrev pub combinations : List (List ℕ) → List (List ℕ)
-combinations [] = [] ∷ []
-combinations (xs ∷ xss) = flat_map (λ x. map (λ ys. x ∷ ys) (combinations xss)) xs
 
 -- the choices, in lexicographic order
 abbrev pub choices : SchemaValue → List (FinSet nat_cmp) → Resolved → List (List ℕ)

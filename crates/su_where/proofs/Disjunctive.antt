@@ -1,7 +1,8 @@
 -- The disjuncts of a condition from those of its parts, how many there are, and which one stands where.
 use Rattle.std.proofs.Common.{◌≡◌, ℕ, ◌+◌, ◌*◌, ◌/◌, ◌%◌, ◌<◌, ◌≤◌, min, suc, Bool, true, false, not, if◌then◌else◌, List, [], ◌∷◌, ◌++◌, map, length, get_or, take, drop, refl, sym, ap, subst, add-one, drop-cons, append_assoc, ◌∙◌, arith}
 use Rattle.std.proofs.Math.Seq.{take-suc}
-use Rattle.std.proofs.lemmas.List.{length-append}
+use Rattle.std.specs.List.{flat_map}
+use Rattle.std.proofs.lemmas.List.{length-append, map-append}
 use Rattle.std.proofs.Math.Nat.{mul_assoc}
 use Rattle.su_base.proofs.Combinations.{length-pairs, get_or-pairs, min-mul_both, split as place_of}
 use Rattle.su_where.specs.declared.literals.Literal.{Literal}
@@ -9,7 +10,8 @@ use Rattle.su_where.specs.declared.conditions.Condition.TheOpen as open'
 use Rattle.su_where.specs.declared.conditions.Condition.TheVariants.{Compare, Not, All, Any, rolls-Compare, rolls-Not, rolls-All, rolls-Any}
 use Rattle.su_where.specs.declared.conditions.Condition.TheFolds.{fold-roll-Condition}
 use Rattle.su_where.specs.Truth.{Cond}
-use Rattle.su_where.specs.Disjunct.{opposite_of, combinations_of, joined, form_of, form_step}
+use Rattle.su_where.specs.Disjunct.{opposite_of, combinations, combined, form_of, form_step}
+use Rattle.su_where.specs.inside.Joined.{pairs_of, combinations_of, joined}
 
 -- the disjuncts of each of several conditions
 abbrev pub forms : Bool → List Cond → List (List (List Literal))
@@ -25,15 +27,41 @@ form_of-Compare l b = ap (λ d. form_of d b) (sym (rolls-Compare l)) ∙ ap (λ 
 pub form_of-Not : (part : Cond) (b : Bool) → form_of (Not part) b ≡ form_of part (not b)
 form_of-Not part b = ap (λ d. form_of d b) (sym (rolls-Not part)) ∙ ap (λ f. f b) (fold-roll-Condition Literal (Bool → List (List Literal)) form_step (open'.Not part))
 
+-- the disjuncts of all parts, one part after the other, are the joined ones
+each-joined : (b : Bool) (cs : List Cond) → flat_map (λ p. p b) (map form_of cs) ≡ joined (forms b cs)
+each-joined b [] = refl
+each-joined b (c ∷ cs) = ap (λ ds. form_of c b ++ ds) (each-joined b cs)
+
+-- a combination with a member in front
+fronted : (d : List Literal) (cs : List (List (List Literal))) → map (flat_map (λ d. d)) (map (λ ys. d ∷ ys) cs) ≡ map (λ e. d ++ e) (map (flat_map (λ d. d)) cs)
+fronted d [] = refl
+fronted d (c ∷ cs) = ap (λ es. (d ++ flat_map (λ d. d) c) ∷ es) (fronted d cs)
+
+all-fronted : (ds : List (List Literal)) (cs : List (List (List Literal))) → map (flat_map (λ d. d)) (flat_map (λ x. map (λ ys. x ∷ ys) cs) ds) ≡ pairs_of ds (map (flat_map (λ d. d)) cs)
+all-fronted [] cs = refl
+all-fronted (d ∷ ds) cs =
+    map-append (flat_map (λ d. d)) (map (λ ys. d ∷ ys) cs) (flat_map (λ x. map (λ ys. x ∷ ys) cs) ds)
+    ∙ ap (λ es. es ++ map (flat_map (λ d. d)) (flat_map (λ x. map (λ ys. x ∷ ys) cs) ds)) (fronted d cs)
+    ∙ ap (λ es. map (λ e. d ++ e) (map (flat_map (λ d. d)) cs) ++ es) (all-fronted ds cs)
+
+-- combinations whose members are joined are made step by step
+pub combined-is : (fs : List (List (List Literal))) → combined fs ≡ combinations_of fs
+combined-is [] = refl
+combined-is (f ∷ fs) = all-fronted f (combinations fs) ∙ ap (pairs_of f) (combined-is fs)
+
 pub form_of-All : (parts : List Cond) (b : Bool) → form_of (All parts) b ≡ (if b then joined (forms b parts) else combinations_of (forms b parts))
-form_of-All parts b =
-    ap (λ d. form_of d b) (sym (rolls-All parts)) ∙ ap (λ f. f b) (fold-roll-Condition Literal (Bool → List (List Literal)) form_step (open'.All parts))
-    ∙ ap (λ fs. if b then joined fs else combinations_of fs) (forms-map b parts)
+form_of-All parts true =
+    ap (λ d. form_of d true) (sym (rolls-All parts)) ∙ ap (λ f. f true) (fold-roll-Condition Literal (Bool → List (List Literal)) form_step (open'.All parts)) ∙ each-joined true parts
+form_of-All parts false =
+    ap (λ d. form_of d false) (sym (rolls-All parts)) ∙ ap (λ f. f false) (fold-roll-Condition Literal (Bool → List (List Literal)) form_step (open'.All parts))
+    ∙ ap combined (forms-map false parts) ∙ combined-is (forms false parts)
 
 pub form_of-Any : (parts : List Cond) (b : Bool) → form_of (Any parts) b ≡ (if b then combinations_of (forms b parts) else joined (forms b parts))
-form_of-Any parts b =
-    ap (λ d. form_of d b) (sym (rolls-Any parts)) ∙ ap (λ f. f b) (fold-roll-Condition Literal (Bool → List (List Literal)) form_step (open'.Any parts))
-    ∙ ap (λ fs. if b then combinations_of fs else joined fs) (forms-map b parts)
+form_of-Any parts true =
+    ap (λ d. form_of d true) (sym (rolls-Any parts)) ∙ ap (λ f. f true) (fold-roll-Condition Literal (Bool → List (List Literal)) form_step (open'.Any parts))
+    ∙ ap combined (forms-map true parts) ∙ combined-is (forms true parts)
+form_of-Any parts false =
+    ap (λ d. form_of d false) (sym (rolls-Any parts)) ∙ ap (λ f. f false) (fold-roll-Condition Literal (Bool → List (List Literal)) form_step (open'.Any parts)) ∙ each-joined false parts
 
 -- a disjunct with another behind it
 abbrev both : List Literal → List Literal → List Literal

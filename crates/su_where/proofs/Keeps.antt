@@ -15,7 +15,8 @@ use Rattle.su_where.specs.declared.conditions.Condition.TheVariants.{Compare, No
 use Rattle.su_where.specs.declared.conditions.Condition.TheFolds.{map-Condition, ind-Condition}
 use Rattle.su_where.specs.Operator.{holds_in, complement_of}
 use Rattle.su_where.specs.Truth.{Cond, value_of_operand, holds, truth_of}
-use Rattle.su_where.specs.Disjunct.{opposite_of, pairs_of, combinations_of, joined, form_of, all_hold, some_holds, KeepsTruth}
+use Rattle.su_where.specs.Disjunct.{opposite_of, form_of, all_hold, some_holds, KeepsTruth}
+use Rattle.su_where.specs.inside.Joined.{pairs_of, combinations_of, joined}
 use Rattle.su_where.proofs.Layers.{truth_of-Compare, truth_of-Not, truth_of-All, truth_of-Any}
 use Rattle.su_where.proofs.Disjunctive.{forms, form_of-Compare, form_of-Not, form_of-All, form_of-Any}
 

@@ -1,6 +1,6 @@
 -- The disjunctive form of a condition.
 -- disjunct: a list of comparisons, all of which are to hold; disjuncts: a list of them, one of which is to hold
-use Rattle.std.specs.Prelude.{◌≡◌, Bool, false, not, if◌then◌else◌, List, [], ◌∷◌, ◌++◌, map, flat_map}
+use Rattle.std.specs.Prelude.{◌≡◌, Bool, true, false, not, if◌then◌else◌, List, [], ◌∷◌, map, flat_map}
 use Rattle.std.specs.List.{list_all, list_any}
 use Rattle.su_base.specs.declared.values.Value.{Value}
 use Rattle.su_where.specs.declared.literals.Literal.{Literal}
@@ -13,25 +13,21 @@ use Rattle.su_where.specs.Truth.{Cond, holds, truth_of}
 abbrev pub opposite_of : Literal → Literal
 opposite_of l = record l { op = complement_of l.op }
 
--- each of the first disjuncts joined with each of the second, the first slowest
-abbrev pub pairs_of : List (List Literal) → List (List Literal) → List (List Literal)
-pairs_of firsts seconds = flat_map (λ d. map (λ e. d ++ e) seconds) firsts
+-- all combinations of one member of each list, the first list slowest
+abbrev pub combinations : {A : Type 0} → List (List A) → List (List A)
+combinations [] = [] ∷ []
+combinations (xs ∷ xss) = flat_map (λ x. map (λ ys. x ∷ ys) (combinations xss)) xs
 
--- all combinations of one disjunct of each part, the first part slowest
-abbrev pub combinations_of : List (List (List Literal)) → List (List Literal)
-combinations_of [] = [] ∷ []
-combinations_of (part ∷ parts) = pairs_of part (combinations_of parts)
-
--- the disjuncts of the parts, one part after the other
-abbrev pub joined : List (List (List Literal)) → List (List Literal)
-joined parts = flat_map (λ p. p) parts
+-- one disjunct of each part, joined: all combinations, where these are the disjuncts of the parts
+abbrev pub combined : List (List (List Literal)) → List (List Literal)
+combined parts = map (flat_map (λ d. d)) (combinations parts)
 
 -- the disjuncts of a condition or, if negated, of its negation, where these are those of its parts
 abbrev pub form_step : Condition-F Literal (Bool → List (List Literal)) → Bool → List (List Literal)
 form_step (Compare l) negated = ((if negated then opposite_of l else l) ∷ []) ∷ []
 form_step (Not part) negated = part (not negated)
-form_step (All parts) negated = if negated then joined (map (λ p. p negated) parts) else combinations_of (map (λ p. p negated) parts)
-form_step (Any parts) negated = if negated then combinations_of (map (λ p. p negated) parts) else joined (map (λ p. p negated) parts)
+form_step (All parts) negated = if negated then flat_map (λ p. p true) parts else combined (map (λ p. p false) parts)
+form_step (Any parts) negated = if negated then combined (map (λ p. p true) parts) else flat_map (λ p. p false) parts
 
 -- the disjuncts of a condition or, if negated, of its negation
 abbrev pub form_of : Cond → Bool → List (List Literal)

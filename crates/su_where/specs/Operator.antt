@@ -1,8 +1,8 @@
 -- What a comparison of two values says.
 -- operator: `=`, `!=`, `<`, `<=`, `>` or `>=`; complement: the operator that holds exactly where another doesn't
-use Rattle.std.specs.Prelude.{Bool, true, false}
+use Rattle.std.specs.Prelude.{Bool}
 use Rattle.std.specs.declared.cmp.Ordering.{Ordering}
-use Rattle.std.specs.declared.cmp.Ordering.TheVariants.{Less as Before, Equal as Same, Greater as After}
+use Rattle.std.specs.Ordering.{is_eq, is_ne, is_lt, is_le, is_gt, is_ge}
 use Rattle.su_base.specs.declared.values.Value.{Value}
 use Rattle.su_base.specs.Value.{compare_values}
 use Rattle.su_where.specs.declared.operators.Op.{Op}
@@ -10,16 +10,12 @@ use Rattle.su_where.specs.declared.operators.Op.TheVariants.{Equal, NotEqual, Le
 
 -- whether an operator holds of two values whose order is this
 abbrev pub holds_in : Op → Ordering → Bool
-holds_in Equal Same = true
-holds_in NotEqual Before = true
-holds_in NotEqual After = true
-holds_in Less Before = true
-holds_in LessEqual Before = true
-holds_in LessEqual Same = true
-holds_in Greater After = true
-holds_in GreaterEqual Same = true
-holds_in GreaterEqual After = true
-holds_in _ _ = false
+holds_in Equal order = is_eq order
+holds_in NotEqual order = is_ne order
+holds_in Less order = is_lt order
+holds_in LessEqual order = is_le order
+holds_in Greater order = is_gt order
+holds_in GreaterEqual order = is_ge order
 
 -- whether an operator holds of two values
 abbrev pub compares : Op → Value → Value → Bool

@@ -3,7 +3,8 @@ ghost use Rattle.std.specs.Prelude.{◌≡◌, [], ◌++◌, ◌<◌, ◌≤◌,
 ghost use Rattle.su_base.specs.declared.values.Value.{Value as AValue};
 ghost use Rattle.std.specs.Prelude.{List as Items};
 ghost use Rattle.su_where.specs.Truth.{truth_of};
-ghost use Rattle.su_where.specs.Disjunct.{form_of, joined, combinations_of, disjuncts_of, some_holds};
+ghost use Rattle.su_where.specs.Disjunct.{form_of, disjuncts_of, some_holds};
+ghost use Rattle.su_where.specs.inside.Joined.{joined, combinations_of};
 
 use crate::conditions::Cond;
 use crate::literals::Literal;

@@ -1,5 +1,6 @@
 use Rattle.std.proofs.Common.{◌≡◌, min, map, length, take}
-use Rattle.su_where.specs.Disjunct.{form_of, joined, combinations_of}
+use Rattle.su_where.specs.Disjunct.{form_of}
+use Rattle.su_where.specs.inside.Joined.{joined, combinations_of}
 use Rattle.su_where.proofs.forms.+count.Given as goal
 
 abbrev pub invariant-count_joined-loop-part : goal.invariant-count_joined-loop-part

@@ -1,5 +1,6 @@
 use Rattle.std.proofs.Common.{◌≡◌, ◌<◌, ◌≤◌, ◌++◌, [], map, length, drop, get_or}
-use Rattle.su_where.specs.Disjunct.{form_of, joined, combinations_of}
+use Rattle.su_where.specs.Disjunct.{form_of}
+use Rattle.su_where.specs.inside.Joined.{joined, combinations_of}
 use Rattle.su_where.proofs.forms.+push.Given as goal
 
 abbrev pub invariant-push_joined-loop-part : goal.invariant-push_joined-loop-part
