@@ -11,9 +11,9 @@ use Rattle.su_base.proofs.Items.{Contains-map, Contains-map_source, AllZip-lengt
 use Rattle.su_tableau.specs.declared.symbols.Sym.{Sym}
 use Rattle.su_tableau.specs.declared.symbols.Sym.TheVariants.{Var}
 use Rattle.su_tableau.specs.Tableaux.{Tab, IsValid, IsSmall}
-use Rattle.su_tableau.specs.Parts.{part, select, keep_if}
+use Rattle.su_tableau.specs.Parts.{part, keep_if}
 use Rattle.su_tableau.specs.Essential.{HasSymbol, in_head}
-use Rattle.su_tableau.proofs.Sets.{select-from}
+use Rattle.su_tableau.proofs.Sets.{select, select-from}
 use Rattle.su_index.specs.Tables.{table_at}
 use Rattle.su_schema.specs.Entries.{column_of}
 use Rattle.su_state.specs.DatabaseValue.{DatabaseValue, IsWellKept}

@@ -12,8 +12,7 @@ use Rattle.su_where.specs.declared.operators.Op.TheVariants.{Equal}
 use Rattle.su_where.specs.Operator.{compares}
 use Rattle.su_tableau.specs.declared.symbols.Sym.TheVariants.{Var}
 use Rattle.su_tableau.specs.Tableaux.{Tab, IsValid}
-use Rattle.su_tableau.specs.Valuations.{nth, value_of, values_of, AreCompared, Cut}
-use Rattle.su_tableau.proofs.ValuationLists.{listed}
+use Rattle.su_tableau.specs.Valuations.{value_of, values_of, AreCompared, Cut}
 use Rattle.su_map.specs.Lists.{row_numbers}
 use Rattle.su_map.proofs.Ranks.{rank, rank_in, rank_at, ranked_at}
 use Rattle.su_state.specs.DatabaseValue.{DatabaseValue, IsWellKept}
@@ -35,23 +34,6 @@ of_rows t m i c =
     let r = ranked_at m (length t.rows) c.0 c.1 in
     let same : r.number ≡ i = sym r.is ∙ get_or_default (row_numbers t m) c.0 0 i c.1 ∙ c.2 in
     (subst (λ k. k < length t.rows) same r.below, subst (λ k. bit_at m k ≡ 1) same r.member)
-
--- ---- a read row under a valuation with the same values
-
-read_under : (db : DatabaseValue) (t : Tab) (m i : ℕ) (v w : ℕ → Value) → values_of w (get_or t.rows i []) ≡ values_of v (get_or t.rows i []) → IsRead db t m v i → IsRead db t m w i
-read_under db t m i v w same r = record {
-  source = r.source;
-  is_source = r.is_source;
-  object = r.object;
-  is = r.is;
-  row = r.row;
-  stored = r.stored;
-  agrees = λ c x h e.
-      let row = get_or t.rows i [] in
-      let value : value_of w x ≡ value_of v x =
-      ap (value_of w) (sym (h.is x)) ∙ sym (get_or-map (value_of w) row c x (Int (pos 0)) h.column_in) ∙ ap (λ xs. get_or xs c (Int (pos 0))) same ∙ get_or-map (value_of v) row c x (Int (pos 0)) h.column_in ∙ ap (value_of v) (h.is x) in
-      r.agrees c x h e ∙ ap Some (sym value);
-}
 
 -- ---- comparisons
 
@@ -94,21 +76,14 @@ module _ (db : DatabaseValue) (t : Tab) (m : ℕ) (task : Task) (kept : IsWellKe
 
   pub outputs_are_answers : (h : List Value) → IsOutput db.tables task h ↔ Cut t (StoredAnswer db t m) h
   outputs_are_answers h = (
-    λ o.
-        let l = listed t o.valuation in
-        record {
-          head = values_of o.valuation t.head;
-          member = record {
-            values = l.0;
-            valuation = l.1.below;
-            reads = λ i low set. read_under db t m i o.valuation (nth l.0) (l.1.rows i [] low) (all_read o.valuation o.agrees i low set);
-            gives = l.1.head;
-          };
-          compared = all_hold o.valuation o.holds;
-          outputs = take-map (value_of o.valuation) t.outputs t.head ∙ ap (values_of o.valuation) (sym is.outputs) ∙ o.gives;
-        },
+    λ o. record {
+      head = values_of o.valuation t.head;
+      member = record { valuation = o.valuation; reads = all_read o.valuation o.agrees; gives = refl };
+      compared = all_hold o.valuation o.holds;
+      outputs = take-map (value_of o.valuation) t.outputs t.head ∙ ap (values_of o.valuation) (sym is.outputs) ∙ o.gives;
+    },
     λ c.
-        let v = nth c.member.values in
+        let v = c.member.valuation in
         record {
           valuation = v;
           agrees = agrees_all v c.member.reads;

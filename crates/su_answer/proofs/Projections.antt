@@ -15,7 +15,7 @@ use Rattle.su_base.specs.Value.{kind_of}
 use Rattle.su_base.proofs.Items.{Contains-map, Contains-map_source, get_or-map_range}
 use Rattle.su_tableau.specs.declared.symbols.Sym.{Sym}
 use Rattle.su_tableau.specs.Tableaux.{Tab}
-use Rattle.su_tableau.specs.Valuations.{nth, value_of}
+use Rattle.su_tableau.specs.Valuations.{value_of}
 use Rattle.su_tableau.specs.Kinds.{IsUniverse}
 use Rattle.su_tableau.specs.Essential.{HasSymbol, AgreesOn, ExtByEssential}
 use Rattle.su_schema.specs.SchemaValue.{ObjectEntry}
@@ -107,11 +107,10 @@ module _ (db : DatabaseValue) (t : Tab) (m : ℕ) (universe : List (List Value))
 
   pub stored_is_ext : HaveSources db.schema t m → (h : List Value) → StoredAnswer db t m h ↔ ExtByEssential t m universe h
   stored_is_ext sources h = (
-    λ a. record { values = a.values; valuation = a.valuation; agrees = λ i low set. read_agrees (nth a.values) i (a.reads i low set); gives = a.gives },
+    λ a. record { valuation = a.valuation; agrees = λ i low set. read_agrees a.valuation i (a.reads i low set); gives = a.gives },
     λ e. record {
-      values = e.values;
       valuation = e.valuation;
-      reads = λ i low set. let w = e.agrees i low set in agrees_read (nth e.values) i w.0 (sources i low set) w.1 w.2;
+      reads = λ i low set. let w = e.agrees i low set in agrees_read e.valuation i w.0 (sources i low set) w.1 w.2;
       gives = e.gives;
     },
   )

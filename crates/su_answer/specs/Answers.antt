@@ -7,8 +7,8 @@ use Rattle.std.specs.List.Sorted.{IsStrictlySortedBy}
 use Rattle.su_base.specs.declared.values.Value.{Value}
 use Rattle.su_base.specs.Value.{compare_lists}
 use Rattle.su_tableau.specs.declared.symbols.Sym.{Sym}
-use Rattle.su_tableau.specs.Tableaux.{Tab, AreVarsBelow}
-use Rattle.su_tableau.specs.Valuations.{nth, value_of, values_of, Cut}
+use Rattle.su_tableau.specs.Tableaux.{Tab}
+use Rattle.su_tableau.specs.Valuations.{value_of, values_of, Cut}
 use Rattle.su_tableau.specs.Essential.{HasSymbol, IsEssential}
 use Rattle.su_schema.specs.SchemaValue.{ObjectEntry}
 use Rattle.su_state.specs.DatabaseValue.{DatabaseValue, rows_of}
@@ -30,10 +30,9 @@ pub record IsRead (db : DatabaseValue) (t : Tab) (m : ℕ) (v : ℕ → Value) (
 
 -- h is a stored answer of the rows of m
 pub record StoredAnswer (db : DatabaseValue) (t : Tab) (m : ℕ) (h : List Value) : Type 0 where
-  pub values : List Value
-  pub valuation : AreVarsBelow (length values) t
-  pub reads : (i : ℕ) → i < length t.rows → bit_at m i ≡ 1 → IsRead db t m (nth values) i
-  pub gives : values_of (nth values) t.head ≡ h
+  pub valuation : ℕ → Value
+  pub reads : (i : ℕ) → i < length t.rows → bit_at m i ≡ 1 → IsRead db t m valuation i
+  pub gives : values_of valuation t.head ≡ h
 
 -- h has the outputs of a stored answer of the kept rows whose comparisons hold
 abbrev pub IsTermAnswer : DatabaseValue → Minimised → List Value → Type 0

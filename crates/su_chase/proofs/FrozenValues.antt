@@ -20,7 +20,6 @@ use Rattle.su_tableau.specs.Tableaux.{Tab, Occurs, IsValid}
 use Rattle.su_tableau.specs.Valuations.{Ext, nth, value_of, values_of}
 use Rattle.su_tableau.specs.Kinds.{Kinds, sym_kind, IsUniverse, IsTyped}
 use Rattle.su_tableau.specs.Mapping.{images_of, Maps}
-use Rattle.su_tableau.proofs.ValuationLists.{by_list, from_list}
 use Rattle.su_classes.specs.inside.Symbols.{same_value}
 use Rattle.su_classes.proofs.ValueOrder.{same_itself, same_is}
 use Rattle.su_classes.proofs.Listed.{map_same}
@@ -124,12 +123,11 @@ module _ (kinds : Kinds) (t : Tab) (avoid : List Value) (valid : IsValid t) (var
   frozen_universe = All-map (λ row. map kind_of row ≡ kinds) (values_of v) t.rows (λ i d l. row_kinds (get_or t.rows i d) (Contains-get_or t.rows i d l))
 
   pub frozen_answer : Ext t universe (values_of v t.head)
-  frozen_answer =
-      by_list t universe (values_of v t.head) (record {
-        valuation = v;
-        sends = λ i d l. (i, subst (λ n. i < n) (sym (length-map t.rows (values_of v))) l, get_or-map (values_of v) t.rows i d (values_of v (get_or t.rows i d)) l);
-        gives = refl;
-      })
+  frozen_answer = record {
+    valuation = v;
+    sends = λ i d l. (i, subst (λ n. i < n) (sym (length-map t.rows (values_of v))) l, get_or-map (values_of v) t.rows i d (values_of v (get_or t.rows i d)) l);
+    gives = refl;
+  }
 
   not_avoided : (k : ℕ) → Occurs t.rows k → ¬ Contains avoid (v k)
   not_avoided k occurs c = let f = each k occurs in f.free (inl (subst (Contains avoid) f.is c))
@@ -170,8 +168,7 @@ module _ (kinds : Kinds) (t : Tab) (avoid : List Value) (valid : IsValid t) (var
     head_back (Var k) cx = back_variable k (valid.head_occurs k cx)
 
     pub frozen_maps : (s : Tab) → AreAvoided avoid s → Ext s universe (values_of v t.head) → Maps s t
-    frozen_maps s avoided ext =
-        let e = from_list s universe (values_of v t.head) ext in
+    frozen_maps s avoided e =
         let w = e.valuation in
         record {
           symbols = λ k. back (w k);

@@ -18,7 +18,6 @@ use Rattle.su_tableau.specs.declared.symbols.Sym.TheVariants.{Const, Var}
 use Rattle.su_tableau.specs.Tableaux.{Tab, IsValid, IsSmall, Occurs, AreBelow}
 use Rattle.su_tableau.specs.Valuations.{value_of, values_of, Sends, Ext}
 use Rattle.su_tableau.specs.Kinds.{Kinds, sym_kind, IsTyped}
-use Rattle.su_tableau.proofs.ValuationLists.{by_list, from_list}
 use Rattle.su_classes.proofs.ValueOrder.{at_most_both, compare_itself}
 use Rattle.su_fd.specs.MetDependencies.{Agree, Meets}
 use Rattle.su_chase.specs.Chase.{SameLabels, IsClosedPartition, InOneClass, IsNoLater, IsName, IsConsistent, IsClash}
@@ -89,30 +88,28 @@ module _ (fds : List Fd) (t : Tab) (names : List Sym) (are : (x : Sym) → IsNam
   named_value w (Var k) = refl
 
   pub to_chased : (universe : List (List Value)) (h : List Value) → Meets fds universe → Ext t universe h → Ext (named_tab name t) universe h
-  to_chased universe h meets ext =
-      let e = from_list t universe h ext in
+  to_chased universe h meets e =
       let w = e.valuation in
       let same : (x : Sym) → value_of w (name x) ≡ value_of w x = λ x. sym (one_value fds t.rows universe meets w e.sends x (name x) (are x).member) in
-      by_list (named_tab name t) universe h (record {
+      record {
         valuation = w;
         sends = All-map (λ row. Contains universe (values_of w row)) (map name) t.rows (λ k d l. subst (Contains universe) (sym (map-map_equal name (value_of w) (value_of w) same (get_or t.rows k d))) (e.sends k d l));
         gives = map-map_equal name (value_of w) (value_of w) same t.head ∙ e.gives;
-      })
+      }
 
   pub from_chased : (universe : List (List Value)) (h : List Value) → Ext (named_tab name t) universe h → Ext t universe h
-  from_chased universe h ext =
-      let e = from_list (named_tab name t) universe h ext in
+  from_chased universe h e =
       let w = e.valuation in
       let v : ℕ → Value = λ k. value_of w (name (Var k)) in
       let same : (x : Sym) → value_of w (name x) ≡ value_of v x = λ x. sym (named_value w x) in
-      by_list t universe h (record {
+      record {
         valuation = v;
         sends = λ k d l.
             let row = get_or t.rows k d in
             let c = e.sends k (map name d) (subst (λ (n : ℕ). k < n) (sym (length-map t.rows (map name))) l) in
             subst (Contains universe) (ap (values_of w) (map_read (map name) t.rows k d) ∙ map-map_equal name (value_of w) (value_of v) same row) c;
         gives = sym (map-map_equal name (value_of w) (value_of v) same t.head) ∙ e.gives;
-      })
+      }
 
   -- a label for each kind
   abbrev sample : Kind → Sym
@@ -236,9 +233,7 @@ module _ (fds : List Fd) (rows : List (List Sym)) (names : List Sym) (all : All 
 -- ---- a clash leaves no answer
 
 pub no_answer : (fds : List Fd) (t : Tab) (a b : Value) → a ≢ b → InOneClass fds t.rows (Const a) (Const b) → (universe : List (List Value)) (h : List Value) → Meets fds universe → Ext t universe h → ⊥
-no_answer fds t a b ne c universe h meets ext =
-    let e = from_list t universe h ext in
-    ne (one_value fds t.rows universe meets e.valuation e.sends (Const a) (Const b) c)
+no_answer fds t a b ne c universe h meets e = ne (one_value fds t.rows universe meets e.valuation e.sends (Const a) (Const b) c)
 
 -- ---- the whole
 

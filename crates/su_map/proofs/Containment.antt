@@ -7,15 +7,16 @@ use Rattle.std.proofs.lemmas.List.Elements.{All-contains, recursion_from_All}
 use Rattle.su_tableau.specs.declared.symbols.Sym.{Sym}
 use Rattle.su_tableau.specs.Tableaux.{Tab, IsValid}
 use Rattle.su_tableau.specs.Kinds.{Kinds, IsTyped, sym_kind}
-use Rattle.su_tableau.specs.Parts.{part, select}
+use Rattle.su_tableau.specs.Parts.{part}
 use Rattle.su_tableau.specs.Mapping.{images_of, Maps}
 use Rattle.su_tableau.specs.Equivalent.{IsWithin}
 use Rattle.su_tableau.proofs.Containment.{maps_within}
 use Rattle.su_tableau.proofs.FrozenTableaux.{within_maps}
-use Rattle.su_tableau.proofs.Sets.{select-has, select-from, choose}
+use Rattle.su_tableau.proofs.Sets.{select, select-has, select-from, choose}
 use Rattle.su_map.specs.Lists.{row_numbers, row_of, IsMapping}
 use Rattle.su_map.proofs.Members.{full_member}
 use Rattle.su_map.proofs.Ranks.{ranked_at, choice_by}
+use Rattle.su_map.proofs.RowLists.{from_rows}
 use Rattle.su_map.proofs.RowTargets.{mapping_by}
 use Rattle.su_base.proofs.Items.{AllZip-length, AllZip-get_or}
 
@@ -51,13 +52,13 @@ maps_list s t m k f =
     let c = choose R ns (recursion_from_All (λ x. (y : ℕ) × R x y) ns each) in
     let len = AllZip-length R ns c.0 c.1 in (
       c.0,
-      record {
+      from_rows s m t k c.0 (record {
         symbols = f.symbols;
         one_each = sym len;
         head = f.head;
         rows = λ p h. (AllZip-get_or R ns c.0 p 0 0 c.1 (omega arith)).2;
         targets = λ p h. let r = AllZip-get_or R ns c.0 p 0 0 c.1 (omega arith) in (r.0, r.1);
-      },
+      }),
     )
 
 -- ---- parts of tableaux

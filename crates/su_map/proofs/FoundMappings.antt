@@ -3,12 +3,13 @@ use Rattle.std.proofs.Common.{◌≡◌, ◌⊎◌, ◌<◌, ◌≤◌, ◌+◌,
 use Rattle.std.specs.Int.{bit_at}
 use Rattle.std.proofs.lemmas.Bool.{cases_Bool}
 use Rattle.su_tableau.specs.Tableaux.{Tab}
-use Rattle.su_map.specs.Lists.{IsMapping, IsFirst, IsBefore}
+use Rattle.su_map.specs.Lists.{IsMapping, IsFirst}
 use Rattle.su_map.specs.Candidates.{IsWithinProducts}
 use Rattle.su_map.specs.Netted.{Netted, base_of}
 use Rattle.su_map.specs.Nets.{IsNet, IsNetFor}
-use Rattle.su_map.specs.inside.Choices.{IsChoiceInto, IsFound, IsFirstOf, tries, ArePassed}
+use Rattle.su_map.specs.inside.Choices.{IsBefore, IsChoiceInto, IsFound, IsFirstOf, tries, ArePassed}
 use Rattle.su_map.proofs.Ranks.{choice_by, list_by}
+use Rattle.su_map.proofs.RowLists.{row_by_row, list_upto}
 use Rattle.su_map.proofs.RowTargets.{mapping_by, by_mapping, maps_choice, choice_maps}
 
 -- both tableaux have rows of one width, and heads of one length
@@ -26,8 +27,8 @@ pub found_first : (s t : Tab) (m k : ℕ) (net : Netted) (list : List ℕ) → I
 found_first s t m k net list for like f first = record {
   maps = found_mapping s t m k net list for like f;
   first = λ other map'.
-      let is = list_by m (length s.rows) other map'.one_each in
-      subst (λ l. (l ≡ list) ⊎ IsBefore list l) is (first (choice_by m other) (maps_choice s t m k net (choice_by m other) for (mapping_by s t m k other map')));
+      let is = list_by m (length s.rows) other (row_by_row s m t k other map').one_each in
+      list_upto list other (subst (λ l. (l ≡ list) ⊎ IsBefore list l) is (first (choice_by m other) (maps_choice s t m k net (choice_by m other) for (mapping_by s t m k other map'))));
 }
 
 pub none_mapping : (s t : Tab) (m k : ℕ) (net : Netted) → IsNetFor s m t k net → ((other : ℕ → ℕ) → IsChoiceInto net (length s.rows) m k other → ⊥) → (list : List ℕ) → IsMapping s m t k list → ⊥

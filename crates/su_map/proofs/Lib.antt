@@ -2,6 +2,7 @@ pub mod Cells
 pub mod Members
 pub mod NotedRows
 pub mod Ranks
+pub mod RowLists
 pub mod RowTargets
 pub mod AgreementTable
 pub mod ShrunkDomains

@@ -15,6 +15,7 @@ use Rattle.su_map.specs.Nets.{IsNetFor}
 use Rattle.su_map.specs.inside.Choices.{IsChoiceInto}
 use Rattle.su_map.proofs.Cells.{cell_from, cell_contains}
 use Rattle.su_map.proofs.Ranks.{rank, choice_by, rank_in, rank_at, ranked_at}
+use Rattle.su_map.proofs.RowLists.{row_by_row, from_rows}
 
 -- a mapping by a target for each row
 pub record MapsBy (s : Tab) (m : ℕ) (t : Tab) (k : ℕ) (a : ℕ → ℕ) : Type 0 where
@@ -24,7 +25,8 @@ pub record MapsBy (s : Tab) (m : ℕ) (t : Tab) (k : ℕ) (a : ℕ → ℕ) : Ty
   pub targets : (i : ℕ) → i < length s.rows → bit_at m i ≡ 1 → (a i < length t.rows) × (bit_at k (a i) ≡ 1)
 
 pub mapping_by : (s t : Tab) (m k : ℕ) (list : List ℕ) → IsMapping s m t k list → MapsBy s m t k (choice_by m list)
-mapping_by s t m k list f =
+mapping_by s t m k list map' =
+    let f = row_by_row s m t k list map' in
     let len = f.one_each in
     record {
       symbols = f.symbols;
@@ -38,7 +40,7 @@ mapping_by s t m k list f =
 pub by_mapping : (s t : Tab) (m k : ℕ) (a : ℕ → ℕ) → MapsBy s m t k a → IsMapping s m t k (map a (row_numbers s m))
 by_mapping s t m k a f =
     let len = length-map (row_numbers s m) a in
-    record {
+    from_rows s m t k (map a (row_numbers s m)) (record {
       symbols = f.symbols;
       one_each = len;
       head = f.head;
@@ -50,7 +52,7 @@ by_mapping s t m k a f =
           let low : p < length (row_numbers s m) = omega arith in
           let r = ranked_at m (length s.rows) p low in
           subst (λ j. (j < length t.rows) × (bit_at k j ≡ 1)) (ap a (sym r.is) ∙ sym (get_or-map a (row_numbers s m) p 0 0 low)) (f.targets r.number r.below r.member);
-    }
+    })
 
 -- ---- one list of symbols, line by line
 

@@ -5,10 +5,10 @@ use Rattle.std.proofs.Math.Nat.{mul-le-mul_right}
 use Rattle.std.proofs.lemmas.Bool.{cases_lt, cases_eq}
 use Rattle.std.proofs.lemmas.List.{length-map, get_or-map}
 use Rattle.std.proofs.lemmas.Nat.Bits.{bit_at-lt}
-use Rattle.su_map.specs.Lists.{numbers_of, IsBefore}
+use Rattle.su_map.specs.Lists.{numbers_of}
 use Rattle.su_map.specs.Candidates.{count_below, sum_of_products}
 use Rattle.su_map.specs.Netted.{Netted, base_of}
-use Rattle.su_map.specs.inside.Choices.{IsChoice, IsChoiceInto, Shrinks, AreSame, IsLess, Stands, IsInOrder, tries, ArePassed}
+use Rattle.su_map.specs.inside.Choices.{IsBefore, IsChoice, IsChoiceInto, Shrinks, AreSame, IsLess, Stands, IsInOrder, tries, ArePassed}
 use Rattle.su_map.proofs.Ranks.{numbers_same, numbers_step, map_at, map_same, rank, rank_in, ranked_at, rank_less}
 
 -- the rows of a mask that are below n

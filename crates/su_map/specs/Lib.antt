@@ -1,5 +1,6 @@
 pub mod Candidates
 pub mod inside
+pub mod Laws
 pub mod Lists
 pub mod Nets
 pub mod Rooms

@@ -1,4 +1,5 @@
 -- Definitions that only contracts of private functions need.
 pub mod Choices
+pub mod SearchEnds
 pub mod Sendings
 pub mod Targets

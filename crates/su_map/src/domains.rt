@@ -3,6 +3,7 @@ ghost use Rattle.std.specs.Prelude.{◌≡◌, ◌<◌, ◌≤◌, ◌+◌, ◌*
 ghost use Rattle.std.specs.Int.{bit_at};
 ghost use Rattle.su_map.specs.Netted.{HasRoom, agree_of};
 ghost use Rattle.su_map.specs.inside.Choices.{IsChoice, Shrinks, IsAssigned};
+ghost use Rattle.su_map.specs.inside.SearchEnds.{KeepsChoices};
 
 use crate::bits::{both, either, lowest, with, without};
 use crate::nets::Net;
@@ -91,7 +92,7 @@ fn revise(net: &Net, mask: u64, row: usize, domains: &mut [u64]) -> Option<u64>
     requires row { bit_at mask row ≡ 1 }
     ensures shrinks { Shrinks (length domains.old) domains.old domains.new }
     ensures alive { (q : ℕ) → 0 < get_or domains.old q 0 → 0 < get_or domains.new q 0 }
-    ensures all { (choice : ℕ → ℕ) → IsChoice net.now (length domains.old) mask domains.old choice → IsChoice net.now (length domains.old) mask domains.new choice }
+    ensures all { KeepsChoices net.now (length domains.old) mask domains.old domains.new }
     ensures none { result ≡ None → (choice : ℕ → ℕ) → IsChoice net.now (length domains.old) mask domains.old choice → ⊥ }
     ensures within { IfSome result (λ shrunk. (q : ℕ) → bit_at shrunk q ≡ 1 → bit_at mask q ≡ 1) }
 {
@@ -126,7 +127,7 @@ pub fn propagate(net: &Net, mask: u64, start: u64, domains: &mut [u64]) -> bool
     requires start { (q : ℕ) → bit_at start q ≡ 1 → bit_at mask q ≡ 1 }
     ensures shrinks { Shrinks (length domains.old) domains.old domains.new }
     ensures alive { (q : ℕ) → 0 < get_or domains.old q 0 → 0 < get_or domains.new q 0 }
-    ensures all { (choice : ℕ → ℕ) → IsChoice net.now (length domains.old) mask domains.old choice → IsChoice net.now (length domains.old) mask domains.new choice }
+    ensures all { KeepsChoices net.now (length domains.old) mask domains.old domains.new }
     ensures none { IsFalse result → (choice : ℕ → ℕ) → IsChoice net.now (length domains.old) mask domains.old choice → ⊥ }
 {
     let mut changed = start;

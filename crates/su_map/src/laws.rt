@@ -1,10 +1,9 @@
 //! Theorems on mappings: each is the contract of a function that does nothing.
-ghost use Rattle.std.specs.Prelude.{◌≡◌, ◌^◌, ◌+◌, ◌≤◌, ◌↔◌, ℕ, List, length, All};
-ghost use Rattle.su_tableau.specs.Tableaux.{Tab, IsValid};
-ghost use Rattle.su_tableau.specs.Kinds.{Kinds, IsTyped};
+ghost use Rattle.std.specs.Prelude.{ℕ, List};
+ghost use Rattle.su_tableau.specs.Tableaux.{Tab};
 ghost use Rattle.su_tableau.specs.Parts.{part};
 ghost use Rattle.su_tableau.specs.Mapping.{Maps};
-ghost use Rattle.su_tableau.specs.Equivalent.{IsWithin};
+ghost use Rattle.su_map.specs.Laws.{MappingsAreContainment};
 ghost use Rattle.su_map.specs.Lists.{IsMapping};
 
 /// A mapping after a mapping is a mapping.
@@ -22,5 +21,5 @@ pub fn row_lists_are_mappings()
 /// mapping from all rows of the one into all rows of the other exactly where over every universal
 /// relation of these kinds each answer of the other is one of the one. (Chandra and Merlin.)
 pub fn mappings_are_containment()
-    ensures { (kinds : Kinds) (s : Tab) (t : Tab) (m : ℕ) (k : ℕ) → IsValid s → IsValid t → IsTyped kinds s → IsTyped kinds t → length s.head ≡ length t.head → m + 1 ≡ 2 ^ length s.rows → k + 1 ≡ 2 ^ length t.rows → ((list : List ℕ) × IsMapping s m t k list) ↔ IsWithin kinds t s }
+    ensures { MappingsAreContainment }
 {}

@@ -8,7 +8,7 @@ ghost use Rattle.su_map.specs.Netted.{Netted, HasRoom, base_of, near_of, agree_o
 ghost use Rattle.su_map.specs.Nets.{HasBase, HasNear, IsNet};
 ghost use Rattle.su_map.specs.Rooms.{AreRoomy};
 ghost use Rattle.su_map.specs.inside.Sendings.{AreRows, IsSending};
-ghost use Rattle.su_map.specs.inside.Targets.{AreNoted, AreSides, IsTold};
+ghost use Rattle.su_map.specs.inside.Targets.{AreNoted, AreSides, AreAllTold};
 
 use crate::columns::line_fits;
 use crate::notes::Notes;
@@ -221,7 +221,7 @@ fn fill_pairs(
     requires base { length sides.now.from.now.rows ≤ length base.now }
     requires near { length sides.now.from.now.rows ≤ length near.now }
     requires rows { AreRows sides.now.from.now sides.now.mask sides.now.to.now base.now }
-    ensures agree { IsTrue result → (i q : ℕ) → i < length sides.now.from.now.rows → q < length sides.now.from.now.rows → i ≢ q → bit_at sides.now.mask i ≡ 1 → bit_at sides.now.mask q ≡ 1 → bit_at (get_or near.now i 0) q ≡ 1 → IsTold sides.now.from.now sides.now.to.now base.now i q agree.new }
+    ensures agree { IsTrue result → AreAllTold sides.now.from.now sides.now.mask sides.now.to.now base.now near.now agree.new }
     ensures none { IsFalse result → (a : ℕ → ℕ) → IsSending sides.now.from.now sides.now.mask sides.now.to.now base.now a → ⊥ }
 {
     copy_targets(domains, base, sides.from.row_count());

@@ -1,7 +1,7 @@
 //! The room of a search, and the searches in it.
 ghost use Rattle.std.specs.Prelude.{◌≡◌, ◌≤◌, ◌<◌, ◌+◌, ◌*◌, ◌↔◌, ◌⊎◌, ℕ, Bool, IsTrue, IsFalse, IfOk, IfSome, None, List as Items, length, get_or, take, map};
 ghost use Rattle.std.specs.Int.{bit_at};
-ghost use Rattle.su_tableau.specs.Kinds.{Kinds, IsTyped};
+ghost use Rattle.su_tableau.specs.Kinds.{Kinds};
 ghost use Rattle.su_tableau.specs.Parts.{part};
 ghost use Rattle.su_tableau.specs.Equivalent.{IsWithin};
 ghost use Rattle.su_map.specs.declared.search.Order.TheVariants.{Ascending};
@@ -9,7 +9,9 @@ ghost use Rattle.su_map.specs.Lists.{IsMapping, IsFirst, numbers_of};
 ghost use Rattle.su_map.specs.Candidates.{IsWithinProducts};
 ghost use Rattle.su_map.specs.Netted.{HasRoom, base_of};
 ghost use Rattle.su_map.specs.Nets.{IsNet, IsNetFor};
-ghost use Rattle.su_map.specs.inside.Choices.{IsChoiceInto, AreSame, IsLess, choice_of, tries, ArePassed, IsFound, IsFirstOf};
+ghost use Rattle.su_map.specs.inside.Choices.{IsChoiceInto, choice_of, IsFound, IsFirstOf};
+ghost use Rattle.su_map.specs.inside.SearchEnds.{AreAtStart, LacksTarget, IsFirstInto, IsWithinTries, IsCounted};
+ghost use Rattle.su_map.specs.Laws.{TellsContainment};
 ghost use Rattle.su_map.specs.Rooms.{IsRoomFor, HasSizesOf};
 
 use crate::aims::Aim;
@@ -108,9 +110,9 @@ fn settle<L: Ledger>(
     requires levels { length domains.old * length domains.old ≤ length levels.old }
     requires targets { (r x : ℕ) → r < length domains.old → bit_at aim.now.mask r ≡ 1 → bit_at (base_of aim.now.net.now r) x ≡ 1 → x < aim.now.net.now.targets }
     ensures found { IsTrue result → IsChoiceInto aim.now.net.now (length domains.old) aim.now.mask to_mask (choice_of choice.new) }
-    ensures first { IsTrue result → aim.now.order ≡ Ascending → (other : ℕ → ℕ) → IsChoiceInto aim.now.net.now (length domains.old) aim.now.mask to_mask other → AreSame (length domains.old) aim.now.mask other (choice_of choice.new) ⊎ IsLess (length domains.old) aim.now.mask (choice_of choice.new) other }
+    ensures first { IsTrue result → aim.now.order ≡ Ascending → IsFirstInto aim.now.net.now (length domains.old) aim.now.mask to_mask (choice_of choice.new) }
     ensures none { IsFalse result → (other : ℕ → ℕ) → IsChoiceInto aim.now.net.now (length domains.old) aim.now.mask to_mask other → ⊥ }
-    ensures cost { (passes : ℕ → ℕ → Bool) → ArePassed aim.now.net.now (length domains.old) aim.now.mask passes → aim.now.order ≡ Ascending → steps.new ≤ steps.old + tries passes aim.now.net.now.targets (length domains.old) aim.now.mask }
+    ensures cost { IsWithinTries aim.now.order aim.now.net.now (length domains.old) aim.now.mask aim.now.mask steps.old steps.new }
 {
     let rows = both(aim.mask, full(domains.len()));
     if !begin(aim.net, rows, to_mask, domains) {
@@ -132,8 +134,8 @@ fn settle<L: Ledger>(
 fn begin(net: &Net, rows: u64, to_mask: u64, domains: &mut [u64]) -> bool
     requires room { HasRoom (length domains.old) net.now }
     requires rows { length domains.old ≤ 64 }
-    ensures domains { IsTrue result → (r : ℕ) → r < length domains.old → bit_at rows r ≡ 1 → (x : ℕ) → (bit_at (get_or domains.new r 0) x ≡ 1) ↔ ((bit_at (base_of net.now r) x ≡ 1) × (bit_at to_mask x ≡ 1)) }
-    ensures none { IsFalse result → (r : ℕ) × (r < length domains.old) × (bit_at rows r ≡ 1) × ((x : ℕ) → bit_at (base_of net.now r) x ≡ 1 → bit_at to_mask x ≡ 1 → ⊥) }
+    ensures domains { IsTrue result → AreAtStart net.now (length domains.old) rows to_mask domains.new }
+    ensures none { IsFalse result → LacksTarget net.now (length domains.old) rows to_mask }
 {
     for r in 0..domains.len() {
         if has(rows, r) {
@@ -186,7 +188,7 @@ fn settle_list<L: Ledger>(
     ensures found { IfSome result (λ count. IsFound aim.now.net.now aim.now.rows aim.now.mask to_mask (take count list.new)) }
     ensures first { IfSome result (λ count. aim.now.order ≡ Ascending → IsFirstOf aim.now.net.now aim.now.rows aim.now.mask to_mask (take count list.new)) }
     ensures none { result ≡ None → (other : ℕ → ℕ) → IsChoiceInto aim.now.net.now aim.now.rows aim.now.mask to_mask other → ⊥ }
-    ensures cost { (passes : ℕ → ℕ → Bool) → ArePassed aim.now.net.now aim.now.rows aim.now.mask passes → aim.now.order ≡ Ascending → steps.new ≤ steps.old + tries passes aim.now.net.now.targets aim.now.rows aim.now.mask }
+    ensures cost { IsWithinTries aim.now.order aim.now.net.now aim.now.rows aim.now.mask aim.now.mask steps.old steps.new }
 {
     let domains = &mut domains[..aim.rows];
     let choice = &mut choice[..aim.rows];
@@ -213,7 +215,7 @@ fn search_in<L: Ledger>(
     ensures found { IsTrue result → IsMapping from.now from_mask to.now to_mask room.new.list }
     ensures first { IsTrue result → order ≡ Ascending → IsFirst from.now from_mask to.now to_mask room.new.list }
     ensures none { IsFalse result → (list : Items ℕ) → IsMapping from.now from_mask to.now to_mask list → ⊥ }
-    ensures cost { order ≡ Ascending → IsNet from.now from_mask to.now to_mask room.old.net → IsWithinProducts from.now from_mask to.now to_mask steps.old steps.new }
+    ensures cost { order ≡ Ascending → IsCounted from.now from_mask to.now to_mask room.old.net steps.old steps.new }
     ensures sizes { HasSizesOf room.old room.new }
     ensures prepared { room.new.net ≡ room.old.net }
 {
@@ -256,7 +258,7 @@ pub fn first<L: Ledger>(
     requires heads { length from.now.head ≡ length to.now.head }
     ensures found { IsTrue result → IsFirst from.now from_mask to.now to_mask room.new.list }
     ensures none { IsFalse result ↔ ((list : Items ℕ) → IsMapping from.now from_mask to.now to_mask list → ⊥) }
-    ensures contains { (kinds : Kinds) → IsTyped kinds from.now → IsTyped kinds to.now → IsTrue result ↔ IsWithin kinds (part to.now to_mask) (part from.now from_mask) }
+    ensures contains { TellsContainment result from.now from_mask to.now to_mask }
     ensures cost { IsWithinProducts from.now from_mask to.now to_mask steps.old steps.new }
     ensures sizes { HasSizesOf room.old room.new }
 {

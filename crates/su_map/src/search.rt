@@ -4,7 +4,8 @@ ghost use Rattle.std.specs.Int.{bit_at};
 ghost use Rattle.su_map.specs.declared.search.Order.TheVariants.{Ascending};
 ghost use Rattle.su_map.specs.Lists.{numbers_of};
 ghost use Rattle.su_map.specs.Netted.{HasRoom};
-ghost use Rattle.su_map.specs.inside.Choices.{IsChoice, AreSame, IsLess, choice_of, Stands, IsInOrder, AreKept, tries, ArePassed};
+ghost use Rattle.su_map.specs.inside.Choices.{IsChoice, choice_of, Stands, IsInOrder, AreKept};
+ghost use Rattle.su_map.specs.inside.SearchEnds.{IsFirstChoice, IsWithinTries};
 
 use crate::aims::Aim;
 use crate::bits::{lowest, without};
@@ -71,9 +72,9 @@ pub fn search<L: Ledger>(
     requires targets { (r x : ℕ) → r < length domains.now → bit_at aim.now.mask r ≡ 1 → bit_at (get_or domains.now r 0) x ≡ 1 → x < aim.now.net.now.targets }
     ensures kept { AreKept (length domains.now) aim.now.mask todo (choice_of choice.old) (choice_of choice.new) }
     ensures found { IsTrue result → IsChoice aim.now.net.now (length domains.now) aim.now.mask domains.now (choice_of choice.new) }
-    ensures first { IsTrue result → aim.now.order ≡ Ascending → (other : ℕ → ℕ) → IsChoice aim.now.net.now (length domains.now) aim.now.mask domains.now other → AreSame (length domains.now) aim.now.mask other (choice_of choice.new) ⊎ IsLess (length domains.now) aim.now.mask (choice_of choice.new) other }
+    ensures first { IsTrue result → aim.now.order ≡ Ascending → IsFirstChoice aim.now.net.now aim.now.mask domains.now (choice_of choice.new) }
     ensures none { IsFalse result → (other : ℕ → ℕ) → IsChoice aim.now.net.now (length domains.now) aim.now.mask domains.now other → ⊥ }
-    ensures cost { (passes : ℕ → ℕ → Bool) → ArePassed aim.now.net.now (length domains.now) aim.now.mask passes → aim.now.order ≡ Ascending → steps.new ≤ steps.old + tries passes aim.now.net.now.targets (length domains.now) todo }
+    ensures cost { IsWithinTries aim.now.order aim.now.net.now (length domains.now) aim.now.mask todo steps.old steps.new }
 {
     if todo == 0 {
         return true;

@@ -2,7 +2,7 @@
 ghost use Rattle.std.specs.Prelude.{◌≡◌, ◌≤◌, ◌<◌, ℕ, IsTrue, IsFalse, IfSome, None, length, get_or};
 ghost use Rattle.std.specs.Int.{bit_at};
 ghost use Rattle.su_map.specs.inside.Targets.{AreSides};
-ghost use Rattle.su_map.specs.inside.Sendings.{AreRows, IsSending};
+ghost use Rattle.su_map.specs.inside.Sendings.{AreRows, IsSending, KeepsSendings, KeepsSendingsTo};
 
 use crate::bits::{lowest, without};
 use crate::sides::Sides;
@@ -56,7 +56,7 @@ fn leave(
     requires other { q < length sides.now.from.now.rows }
     requires rows { AreRows sides.now.from.now sides.now.mask sides.now.to.now domains.old }
     ensures rows { AreRows sides.now.from.now sides.now.mask sides.now.to.now domains.new }
-    ensures all { (a : ℕ → ℕ) → IsSending sides.now.from.now sides.now.mask sides.now.to.now domains.old a → a row ≡ target → IsSending sides.now.from.now sides.now.mask sides.now.to.now domains.new a }
+    ensures all { KeepsSendingsTo sides.now.from.now sides.now.mask sides.now.to.now row target domains.old domains.new }
     ensures none { IsFalse result → (a : ℕ → ℕ) → IsSending sides.now.from.now sides.now.mask sides.now.to.now domains.old a → a row ≡ target → ⊥ }
 {
     let from = sides.from;
@@ -98,7 +98,7 @@ fn leave_near(
     requires target { target < length sides.now.to.now.rows }
     requires rows { AreRows sides.now.from.now sides.now.mask sides.now.to.now domains.old }
     ensures rows { AreRows sides.now.from.now sides.now.mask sides.now.to.now domains.new }
-    ensures all { (a : ℕ → ℕ) → IsSending sides.now.from.now sides.now.mask sides.now.to.now domains.old a → a row ≡ target → IsSending sides.now.from.now sides.now.mask sides.now.to.now domains.new a }
+    ensures all { KeepsSendingsTo sides.now.from.now sides.now.mask sides.now.to.now row target domains.old domains.new }
     ensures none { IsFalse result → (a : ℕ → ℕ) → IsSending sides.now.from.now sides.now.mask sides.now.to.now domains.old a → a row ≡ target → ⊥ }
 {
     for q in 0..sides.from.row_count() {
@@ -125,7 +125,7 @@ fn leave_by(
     requires row { row < length sides.now.from.now.rows }
     requires rows { AreRows sides.now.from.now sides.now.mask sides.now.to.now domains.old }
     ensures rows { AreRows sides.now.from.now sides.now.mask sides.now.to.now domains.new }
-    ensures all { (a : ℕ → ℕ) → IsSending sides.now.from.now sides.now.mask sides.now.to.now domains.old a → IsSending sides.now.from.now sides.now.mask sides.now.to.now domains.new a }
+    ensures all { KeepsSendings sides.now.from.now sides.now.mask sides.now.to.now domains.old domains.new }
     ensures none { result ≡ None → (a : ℕ → ℕ) → IsSending sides.now.from.now sides.now.mask sides.now.to.now domains.old a → ⊥ }
 {
     sides.from.keeps_its_rules();
@@ -160,7 +160,7 @@ fn leave_all(
     requires near { length sides.now.from.now.rows ≤ length near.now }
     requires rows { AreRows sides.now.from.now sides.now.mask sides.now.to.now domains.old }
     ensures rows { AreRows sides.now.from.now sides.now.mask sides.now.to.now domains.new }
-    ensures all { (a : ℕ → ℕ) → IsSending sides.now.from.now sides.now.mask sides.now.to.now domains.old a → IsSending sides.now.from.now sides.now.mask sides.now.to.now domains.new a }
+    ensures all { KeepsSendings sides.now.from.now sides.now.mask sides.now.to.now domains.old domains.new }
     ensures none { result ≡ None → (a : ℕ → ℕ) → IsSending sides.now.from.now sides.now.mask sides.now.to.now domains.old a → ⊥ }
 {
     let mut waits = waiting;

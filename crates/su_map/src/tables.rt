@@ -7,7 +7,8 @@ ghost use Rattle.su_tableau.specs.Tableaux.{AreBelow, AreVarsBelow};
 ghost use Rattle.su_map.specs.Lists.{row_of};
 ghost use Rattle.su_map.specs.Nets.{HasNear};
 ghost use Rattle.su_map.specs.Candidates.{Cell};
-ghost use Rattle.su_map.specs.inside.Targets.{IsPlain, AreNoted, AreShared, AreAlike, AreSides, AreTold, IsToldAt, IsTold};
+ghost use Rattle.su_map.specs.inside.Targets.{IsPlain, AreNoted, AreShared, AreAlike, AreSides, AreTold, IsToldAt, AreToldAt, IsTold, IsRowTold, AreAllTold, HasNearby};
+ghost use Rattle.su_map.specs.inside.Sendings.{AreRows};
 
 use crate::bits::{both, either, with, without};
 use crate::columns::{column_of, holding};
@@ -124,7 +125,7 @@ fn rows_near(rows_of: &[u64], head: &[Sym], row: &[Sym], i: usize) -> u64
 fn nearby(rows_of: &[u64], from: &Tableau, mask: u64, i: usize) -> u64
     requires row { i < length from.now.rows }
     requires symbols { AreVarsBelow (length rows_of.now) from.now }
-    ensures { bit_at mask i ≡ 1 → (k q : ℕ) → Contains (row_of from.now i) (Var k) → (Contains from.now.head (Var k) → ⊥) → i ≢ q → bit_at (get_or rows_of.now k 0) q ≡ 1 → bit_at result q ≡ 1 }
+    ensures { HasNearby from.now mask rows_of.now i result }
 {
     from.keeps_its_rules();
     if !has(mask, i) {
@@ -268,7 +269,7 @@ fn agree_at(
     requires shared { (c : ℕ) → shared ≡ Some c → c < to.now.width }
     requires within { (p j : ℕ) → p < length to.now.rows → bit_at targets p ≡ 1 → bit_at (get_or agree.old (start + p) 0) j ≡ 1 → j < length to.now.rows }
     ensures before { (x : ℕ) → x < start → get_or agree.new x 0 ≡ get_or agree.old x 0 }
-    ensures told { (p : ℕ) → p < length to.now.rows → bit_at targets p ≡ 1 → IsToldAt to.now shared column p (get_or agree.old (start + p) 0) (get_or agree.new (start + p) 0) }
+    ensures told { AreToldAt to.now targets shared column start agree.old agree.new }
 {
     match shared {
         None => return,
@@ -322,9 +323,9 @@ fn fill_row(
     requires row { i < length sides.now.from.now.rows }
     requires in_mask { bit_at sides.now.mask i ≡ 1 }
     requires base { length sides.now.from.now.rows ≤ length base.now }
-    requires within { (q j : ℕ) → q < length sides.now.from.now.rows → bit_at sides.now.mask q ≡ 1 → bit_at (get_or base.now q 0) j ≡ 1 → j < length sides.now.to.now.rows }
+    requires within { AreRows sides.now.from.now sides.now.mask sides.now.to.now base.now }
     ensures before { (x : ℕ) → x < i * 4096 → get_or agree.new x 0 ≡ get_or agree.old x 0 }
-    ensures filled { (q : ℕ) → q < length sides.now.from.now.rows → i ≢ q → bit_at sides.now.mask q ≡ 1 → bit_at near q ≡ 1 → IsTold sides.now.from.now sides.now.to.now base.now i q agree.new }
+    ensures filled { IsRowTold sides.now.from.now sides.now.mask sides.now.to.now base.now i near agree.new }
 {
     let from = sides.from;
     for q in 0..from.row_count() {
@@ -363,8 +364,8 @@ pub fn fill_agree(
     requires sides { AreSides sides.now.from.now sides.now.mask sides.now.to.now sides.now.rows_of.now sides.now.alike.now }
     requires base { length sides.now.from.now.rows ≤ length base.now }
     requires near { length sides.now.from.now.rows ≤ length near.now }
-    requires within { (q j : ℕ) → q < length sides.now.from.now.rows → bit_at sides.now.mask q ≡ 1 → bit_at (get_or base.now q 0) j ≡ 1 → j < length sides.now.to.now.rows }
-    ensures { (i q : ℕ) → i < length sides.now.from.now.rows → q < length sides.now.from.now.rows → i ≢ q → bit_at sides.now.mask i ≡ 1 → bit_at sides.now.mask q ≡ 1 → bit_at (get_or near.now i 0) q ≡ 1 → IsTold sides.now.from.now sides.now.to.now base.now i q agree.new }
+    requires within { AreRows sides.now.from.now sides.now.mask sides.now.to.now base.now }
+    ensures { AreAllTold sides.now.from.now sides.now.mask sides.now.to.now base.now near.now agree.new }
 {
     for i in 0..sides.from.row_count() {
         if has(sides.mask, i) {

@@ -5,7 +5,7 @@ ghost use Rattle.su_map.specs.Lists.{row_of};
 ghost use Rattle.su_map.specs.Candidates.{MapAlike};
 ghost use Rattle.su_map.specs.Nets.{HasBase};
 ghost use Rattle.su_map.specs.Netted.{IsTarget};
-ghost use Rattle.su_map.specs.inside.Targets.{CellFits, IsPlain};
+ghost use Rattle.su_map.specs.inside.Targets.{CellFits, HasFitting, HasNoTarget, IsPlain};
 
 use crate::bits::both;
 use crate::columns::{alike, column_of, holding};
@@ -17,7 +17,7 @@ fn fitting(head: &[Sym], to: &Tableau, row: &[Sym], repeats: bool, column: usize
     requires column { column < length row.now }
     requires width { length row.now ≡ to.now.width }
     requires heads { length head.now ≡ length to.now.head }
-    ensures { (j : ℕ) → (bit_at result j ≡ 1) ↔ ((j < length to.now.rows) × (bit_at set j ≡ 1) × CellFits head.now to.now.head row.now (row_of to.now j) column) }
+    ensures { HasFitting head.now to.now row.now column set result }
 {
     match &row[column] {
         Sym::Const(_) => holding(to, column, &row[column], set),
@@ -69,7 +69,7 @@ pub fn fill_base(
     requires heads { length from.now.head ≡ length to.now.head }
     requires head_agrees { MapAlike from.now.head to.now.head from.now.head to.now.head }
     ensures base { IsTrue result → HasBase from.now from_mask to.now to_mask base.new }
-    ensures none { IsFalse result → (i : ℕ) × (i < length from.now.rows) × (bit_at from_mask i ≡ 1) × ((j : ℕ) → j < length to.now.rows → bit_at to_mask j ≡ 1 → IsTarget from.now to.now i j → ⊥) }
+    ensures none { IsFalse result → HasNoTarget from.now from_mask to.now to_mask }
 {
     for row in 0..from.row_count() {
         if has(from_mask, row) {

@@ -7,12 +7,12 @@ use Rattle.su_tableau.specs.declared.symbols.Sym.{Sym}
 use Rattle.su_tableau.specs.declared.symbols.Sym.TheVariants.{Var}
 use Rattle.su_tableau.specs.Tableaux.{Tab, IsValid, Occurs}
 use Rattle.su_tableau.specs.Kinds.{Kinds, IsTyped}
-use Rattle.su_tableau.specs.Parts.{part, select}
+use Rattle.su_tableau.specs.Parts.{part}
 use Rattle.su_tableau.specs.Mapping.{image_of, images_of, Maps}
 use Rattle.su_tableau.specs.Equivalent.{IsLeast}
 use Rattle.su_tableau.proofs.Containment.{maps_compose, maps_within}
 use Rattle.su_tableau.proofs.FrozenTableaux.{within_maps}
-use Rattle.su_tableau.proofs.Sets.{sub_le, mark, mark-has, mark-sub, select-mark, select-has, select-from, choose, all_chosen}
+use Rattle.su_tableau.proofs.Sets.{sub_le, mark, mark-has, mark-sub, select, select-mark, select-has, select-from, choose, all_chosen}
 use Rattle.su_map.proofs.Containment.{part_typed}
 use Rattle.su_min.specs.Kept.{IsKept, IsLeastPart}
 use Rattle.su_min.proofs.Parts.{into_maps, maps_into, part_maps}

@@ -10,7 +10,7 @@ use Rattle.su_where.specs.contracts.operators.OpPartialEq.TheImpl.{ghosts}
 use Rattle.su_tableau.specs.declared.symbols.Sym.{Sym}
 use Rattle.su_tableau.specs.Mapping.{image_of, images_of}
 use Rattle.su_tableau.specs.declared.symbols.Sym.TheVariants.{Var}
-use Rattle.su_min.specs.Cover.{constant_of}
+use Rattle.su_min.specs.inside.Constants.{constant_of}
 
 op_eq-Decides : (a b : Op) → Decides (ghosts.eq a b) (a ≡ b)
 op_eq-Decides Equal Equal = (λ h. refl, λ e. refl)

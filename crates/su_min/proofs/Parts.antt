@@ -5,9 +5,9 @@ use Rattle.std.proofs.lemmas.Nat.Bits.{bit_at-lt}
 use Rattle.su_tableau.specs.declared.symbols.Sym.{Sym}
 use Rattle.su_tableau.specs.declared.symbols.Sym.TheVariants.{Const, Var}
 use Rattle.su_tableau.specs.Tableaux.{Tab}
-use Rattle.su_tableau.specs.Parts.{part, select}
+use Rattle.su_tableau.specs.Parts.{part}
 use Rattle.su_tableau.specs.Mapping.{image_of, images_of, Maps}
-use Rattle.su_tableau.proofs.Sets.{IsSub, select-has, select-from}
+use Rattle.su_tableau.proofs.Sets.{IsSub, select, select-has, select-from}
 use Rattle.su_tableau.proofs.Containment.{maps_compose}
 use Rattle.su_map.proofs.Members.{full_member}
 use Rattle.su_map.proofs.Containment.{list_maps, maps_list}

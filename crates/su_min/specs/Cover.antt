@@ -1,22 +1,17 @@
 -- Terms that are alike, and which of them cover which.
 -- alike: as many columns and outputs, the same operators in order, and at each compared place both a variable or both the same constant
 -- covers: the two are alike, and the kept rows of the one map into the kept rows of the other; each answer of the other is then one of the one
-use Rattle.std.specs.Prelude.{◌≡◌, ℕ, List, map, drop, Option, Some, None}
-use Rattle.su_base.specs.declared.values.Value.{Value}
+use Rattle.std.specs.Prelude.{◌≡◌, ℕ, List, drop}
 use Rattle.su_tableau.specs.declared.symbols.Sym.{Sym}
-use Rattle.su_tableau.specs.declared.symbols.Sym.TheVariants.{Const, Var}
+use Rattle.su_tableau.specs.declared.symbols.Sym.TheVariants.{Var}
 use Rattle.su_tableau.specs.Tableaux.{Tab}
+use Rattle.su_tableau.specs.Mapping.{images_of}
 use Rattle.su_map.specs.Lists.{IsMapping}
 use Rattle.su_min.specs.Kept.{Minimised}
 
--- the constant, or none for a variable
-abbrev pub constant_of : Sym → Option Value
-constant_of (Const c) = Some c
-constant_of (Var k) = None
-
--- what stands at the compared places, which follow the outputs
-abbrev pub compared : Tab → List (Option Value)
-compared t = map constant_of (drop t.outputs t.head)
+-- what stands at the compared places, which follow the outputs, with one variable in place of all
+abbrev pub compared : Tab → List Sym
+compared t = images_of (λ k. Var 0) (drop t.outputs t.head)
 
 -- tableaux of one width, with as many outputs, the same operators, and the same constants at the same compared places
 pub record AreAlike (s t : Tab) : Type 0 where

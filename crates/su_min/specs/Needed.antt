@@ -1,11 +1,11 @@
 -- No kept term can be spared, whatever other tableaux one takes.
 -- class of term c: the terms that are alike to it
 -- a list has the answers of a class: over every universal relation each answer of some term of the class is one of some tableau of the list, and each of these is one of those
-use Rattle.std.specs.Prelude.{◌≡◌, ◌<◌, ◌≤◌, ◌↔◌, ℕ, List, length, Contains}
+use Rattle.std.specs.Prelude.{◌≡◌, ◌<◌, ◌≤◌, ◌↔◌, ℕ, List, length, All, Contains}
 use Rattle.su_base.specs.declared.values.Value.{Value}
-use Rattle.su_tableau.specs.Tableaux.{Tab}
+use Rattle.su_tableau.specs.Tableaux.{Tab, IsValid}
 use Rattle.su_tableau.specs.Valuations.{Ext}
-use Rattle.su_tableau.specs.Kinds.{Kinds, IsUniverse}
+use Rattle.su_tableau.specs.Kinds.{Kinds, IsUniverse, IsTyped}
 use Rattle.su_tableau.specs.Equivalent.{IsEquivalent}
 use Rattle.su_min.specs.Kept.{Minimised}
 use Rattle.su_min.specs.Cover.{AreAlike}
@@ -47,3 +47,8 @@ pub record AreNeeded (kinds : Kinds) (terms : List Minimised) (kept : List ℕ) 
   pub members : (i : ℕ) → Contains kept i → IsInClass terms c i → HasMember kinds terms tableaux i
   pub apart : (i j : ℕ) → Contains kept i → Contains kept j → IsInClass terms c i → IsInClass terms c j → IsEquivalent kinds (tableau_at terms i) (tableau_at terms j) → i ≡ j
   pub count : (numbers : List ℕ) → IsListOf (λ i. Contains kept i × IsInClass terms c i) (length terms) numbers → length numbers ≤ length tableaux
+
+-- no kept term can be spared, whatever kinds fit the terms and whatever valid tableaux of these kinds one takes for those of a class
+abbrev pub NoneIsSpare : List Minimised → List ℕ → Type 0
+NoneIsSpare terms kept = (kinds : Kinds) (c : ℕ) (tableaux : List Tab) → All (λ m. IsTyped kinds m.tableau) terms → All (λ t. IsValid t × IsTyped kinds t) tableaux → HasAnswersOf kinds terms c tableaux
+    → AreNeeded kinds terms kept c tableaux

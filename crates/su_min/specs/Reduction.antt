@@ -31,12 +31,8 @@ pub record IsLeastCover (terms : List Minimised) (i k : ℕ) : Type 0 where
   pub least : (j : ℕ) → IsKeptTerm terms j → Covers (term_at terms j) (term_at terms i) → k ≤ j
 
 -- the first mapping of the kept rows of the one into the kept rows of the other
-pub record IsFirstMapping (one other : Minimised) (m : Certified) : Type 0 where
-  pub from : m.from ≡ one.tableau
-  pub from_mask : m.from_mask ≡ one.mask
-  pub to : m.to ≡ other.tableau
-  pub to_mask : m.to_mask ≡ other.mask
-  pub first : IsFirst one.tableau one.mask other.tableau other.mask m.list
+abbrev pub IsFirstMapping : Minimised → Minimised → Certified → Type 0
+IsFirstMapping one other m = (m ≡ record { from = one.tableau; from_mask = one.mask; to = other.tableau; to_mask = other.mask; list = m.list }) × IsFirst one.tableau one.mask other.tableau other.mask m.list
 
 -- the cover of a dropped term, with its mapping
 pub record IsCover (terms : List Minimised) (c : Cover) : Type 0 where

@@ -2,7 +2,8 @@
 ghost use Rattle.std.specs.Prelude.{◌≡◌, ◌↔◌, ℕ, IsTrue, IsFalse, length, map, drop};
 ghost use Rattle.su_tableau.specs.declared.symbols.Sym.{Sym as ASym};
 ghost use Rattle.su_tableau.specs.Mapping.{image_of, images_of};
-ghost use Rattle.su_min.specs.Cover.{constant_of, AreAlike};
+ghost use Rattle.su_min.specs.Cover.{AreAlike};
+ghost use Rattle.su_min.specs.inside.Constants.{constant_of};
 
 use su_tableau::{Sym, Tableau};
 use su_where::Op;

@@ -1,10 +1,8 @@
 //! Which terms of a union are kept.
-ghost use Rattle.std.specs.Prelude.{◌≡◌, ◌<◌, ◌≤◌, ◌↔◌, ℕ, IsTrue, IfOk, List as Items, length, All};
-ghost use Rattle.su_tableau.specs.Tableaux.{Tab, IsValid};
-ghost use Rattle.su_tableau.specs.Kinds.{Kinds, IsTyped};
+ghost use Rattle.std.specs.Prelude.{◌≡◌, ◌<◌, ◌≤◌, ◌↔◌, IsTrue, IfOk, length};
 ghost use Rattle.su_min.specs.Reduction.{term_at, IsFirstMapping, IsReduced};
 ghost use Rattle.su_min.specs.Cover.{Covers};
-ghost use Rattle.su_min.specs.Needed.{HasAnswersOf, AreNeeded};
+ghost use Rattle.su_min.specs.Needed.{NoneIsSpare};
 ghost use Rattle.su_min.specs.inside.Matrix.{entry, IsSquare, IsDroppedIn, IsPreorder, IsFirstCover, AreMarks};
 ghost use Rattle.su_min.specs.inside.Rooms.{IsRoomOf};
 
@@ -110,7 +108,7 @@ fn reduce_counted<R: Threads + Sync, L: Ledger>(
     requires parts { blank.parts ≡ L.parts }
     requires some { 0 < blank.parts }
     ensures reduced { IfOk result (IsReduced terms.now) }
-    ensures needed { IfOk result (λ r. (kinds : Kinds) (c : ℕ) (tableaux : Items Tab) → All (λ m. IsTyped kinds m.tableau) terms.now → All (λ t. IsValid t × IsTyped kinds t) tableaux → HasAnswersOf kinds terms.now c tableaux → AreNeeded kinds terms.now r.kept c tableaux) }
+    ensures needed { IfOk result (λ r. NoneIsSpare terms.now r.kept) }
 {
     let mut room = None;
     let mut steps = Steps::<L>::new(blank);
@@ -142,7 +140,7 @@ pub fn reduce<R: Threads + Sync>(
 ) -> Result<Reduced, NoMemory>
     requires { length terms.now ≤ 256 }
     ensures reduced { IfOk result (IsReduced terms.now) }
-    ensures needed { IfOk result (λ r. (kinds : Kinds) (c : ℕ) (tableaux : Items Tab) → All (λ m. IsTyped kinds m.tableau) terms.now → All (λ t. IsValid t × IsTyped kinds t) tableaux → HasAnswersOf kinds terms.now c tableaux → AreNeeded kinds terms.now r.kept c tableaux) }
+    ensures needed { IfOk result (λ r. NoneIsSpare terms.now r.kept) }
 {
     reduce_counted::<R, Brand>(rt, alloc, terms, Blank::new(1))
 }

@@ -1,34 +1,25 @@
 -- Of a tableau there is one kept set and one fold, and of a union one list of kept terms and of covers.
-use Rattle.std.proofs.Common.{◌≡◌, ◌<◌, ℕ, List, [], ◌∷◌, map, get_or, refl, sym, ◌∙◌, subst, All, inl, inr, arith}
-use Rattle.std.proofs.lemmas.Bool.{cases_lt}
+use Rattle.std.proofs.Common.{◌≡◌, ℕ, List, [], ◌∷◌, map, refl, sym, ap, ◌∙◌, subst, All, true, true≢false, arith}
+use Rattle.std.specs.declared.cmp.Ordering.{Ordering}
+use Rattle.std.specs.Ordering.{nat_cmp, is_le, is_eq, ordering_reverse}
+use Rattle.std.specs.declared.cmp.Ordering.TheVariants.{Less, Equal, Greater}
+use Rattle.std.specs.Cmp.Lexicographic.{slice_cmp, nat_list_cmp_total, texts_ties, same_text}
 use Rattle.std.proofs.lemmas.List.Elements.{All-head, All-tail}
 use Rattle.su_tableau.specs.Tableaux.{Tab}
-use Rattle.su_map.specs.Lists.{IsBefore}
 use Rattle.su_min.specs.declared.reduced.Cover.{Cover}
 use Rattle.su_min.specs.Kept.{all_rows, IsKept, IsFold, Minimised, IsMinimised}
 use Rattle.su_min.specs.Reduction.{term_at, IsListOf, IsLeastCover, IsFirstMapping, IsCover}
 use Rattle.su_once.specs.Tableaux.{OneFirstMapping, OneKeptSet, OneFold, OneReduction}
 use Rattle.su_once.proofs.Lists.{one_list_of_numbers}
 
--- neither of two lists is before the other, where each is before the other
-never_before : (a b : List ℕ) → IsBefore a b → IsBefore b a → ⊥
-never_before a b x y = elim (cases_lt x.place y.place) [
-  | inl less ↦ let same = y.same x.place less in let one = x.less in absurd (omega arith)
-  | inr from ↦ elim (cases_lt y.place x.place) [
-    | inl less ↦ let same = x.same y.place less in let one = y.less in absurd (omega arith)
-    | inr upto ↦
-        let at : y.place ≡ x.place = omega (arith, from, upto) in
-        let one : get_or a x.place 0 < get_or b x.place 0 = x.less in
-        let other : get_or b x.place 0 < get_or a x.place 0 = subst (λ (p : ℕ). get_or b p 0 < get_or a p 0) at y.less in
-        absurd (omega (arith, one, other))
-  ]
-]
+-- lists of which neither is behind the other are one
+neither_behind : (a b : List ℕ) (o : Ordering) → slice_cmp nat_cmp b a ≡ o → is_le (slice_cmp nat_cmp a b) ≡ true → is_le o ≡ true → a ≡ b
+neither_behind a b Less e x y = absurd (true≢false (sym x ∙ ap is_le (nat_list_cmp_total.antisymm a b ∙ ap ordering_reverse e)))
+neither_behind a b Equal e x y = sym (same_text b a (sym (texts_ties b a ∙ ap is_eq e)))
+neither_behind a b Greater e x y = absurd (true≢false (sym y))
 
 pub one_first : OneFirstMapping
-one_first s m t k list other x y = elim (x.first other y.maps) [
-  | inl same ↦ sym same
-  | inr before ↦ elim (y.first list x.maps) [ inl same ↦ same | inr after ↦ absurd (never_before list other before after) ]
-]
+one_first s m t k list other x y = neither_behind list other (slice_cmp nat_cmp other list) refl (x.first other y.maps) (y.first list x.maps)
 
 pub one_kept : OneKeptSet
 one_kept t m n x y = let a = x.least n y.maps in let b = y.least m x.maps in omega (arith, a, b)
@@ -55,12 +46,11 @@ one_cover terms c d same x y =
     let by : c.by ≡ d.by = one_least_cover terms d.dropped c.by d.by (subst (λ (i : ℕ). IsLeastCover terms i c.by) same x.least) y.least in
     let one = subst (λ (k : ℕ). IsFirstMapping (term_at terms k) (term_at terms d.dropped) c.mapping) by (subst (λ (i : ℕ). IsFirstMapping (term_at terms c.by) (term_at terms i) c.mapping) same x.mapping) in
     let other = y.mapping in
-    let list = one_first _ _ _ _ c.mapping.list d.mapping.list one.first other.first in
-    let from = one.from ∙ sym other.from in
-    let from_mask = one.from_mask ∙ sym other.from_mask in
-    let to = one.to ∙ sym other.to in
-    let to_mask = one.to_mask ∙ sym other.to_mask in
-    λ i. record { dropped = same i; by = by i; mapping = record { from = from i; from_mask = from_mask i; to = to i; to_mask = to_mask i; list = list i } }
+    let a = term_at terms d.by in
+    let b = term_at terms d.dropped in
+    let list = one_first _ _ _ _ c.mapping.list d.mapping.list one.1 other.1 in
+    let mapping : c.mapping ≡ d.mapping = one.0 ∙ ap (λ l. record { from = a.tableau; from_mask = a.mask; to = b.tableau; to_mask = b.mask; list = l }) list ∙ sym other.0 in
+    λ i. record { dropped = same i; by = by i; mapping = mapping i }
 
 one_list_of_covers : (terms : List Minimised) (cs ds : List Cover) → map (λ c. c.dropped) cs ≡ map (λ c. c.dropped) ds → All (IsCover terms) cs → All (IsCover terms) ds → cs ≡ ds
 one_list_of_covers terms [] [] same a b = refl

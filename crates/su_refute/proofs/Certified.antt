@@ -14,6 +14,7 @@ use Rattle.su_tableau.specs.Kinds.{Kinds}
 use Rattle.su_map.specs.Lists.{row_numbers, numbers_of, row_of}
 use Rattle.su_map.proofs.Members.{full_member}
 use Rattle.su_map.proofs.Ranks.{rank_at, numbers_step}
+use Rattle.su_map.proofs.RowLists.{row_by_row}
 use Rattle.su_min.specs.Kept.{Minimised, all_rows}
 use Rattle.su_min.proofs.Parts.{all_is}
 use Rattle.su_check.specs.declared.nodes.Node.{Node}
@@ -85,7 +86,7 @@ full_at all n i e h =
 fold_good : (m : Minimised) → IsSound m → IsFoldInto (lines_of m) m.fold
 fold_good m s =
     let t = m.tableau in let n = length t.rows in let all = all_rows t in
-    let maps = s.minimised.fold.maps in
+    let maps = row_by_row t all t m.mask m.fold s.minimised.fold.maps in
     let len : length m.fold ≡ n = maps.one_each ∙ full_length all n n (all_is t) (omega arith) in
     record {
       symbols = maps.symbols;

@@ -7,9 +7,9 @@ use Rattle.std.proofs.lemmas.List.Elements.{All-nil, All-cons, All-contains}
 use Rattle.std.proofs.Math.Pow.{pow_mono}
 use Rattle.su_base.proofs.Items.{All-members}
 use Rattle.su_tableau.specs.Tableaux.{Tab, IsValid, IsSmall}
-use Rattle.su_tableau.specs.Parts.{part, select}
+use Rattle.su_tableau.specs.Parts.{part}
 use Rattle.su_tableau.specs.Mapping.{images_of, Maps}
-use Rattle.su_tableau.proofs.Sets.{sub_le, select-has, select-from}
+use Rattle.su_tableau.proofs.Sets.{sub_le, select, select-has, select-from}
 use Rattle.su_tableau.proofs.Containment.{maps_compose}
 use Rattle.su_map.specs.Lists.{row_numbers}
 use Rattle.su_map.proofs.Members.{without_same, without_out}

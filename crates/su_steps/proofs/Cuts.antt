@@ -10,7 +10,6 @@ use Rattle.su_where.specs.declared.operators.Op.TheVariants.{Equal}
 use Rattle.su_where.specs.Operator.{compares}
 use Rattle.su_tableau.specs.Tableaux.{Tab}
 use Rattle.su_tableau.specs.Valuations.{value_of, values_of, Ext, Cut}
-use Rattle.su_tableau.proofs.ValuationLists.{ExtBy, by_list, from_list}
 use Rattle.su_steps.proofs.Lists.{all_by}
 use Rattle.su_steps.proofs.ClassNames.{AllHold, CutBy}
 
@@ -72,14 +71,14 @@ module _ (t : Tab) (universe : List (List Value)) (h : List Value) where
   pub to_cut : CutBy t.rows t.head t.outputs t.operators universe h → Cut t (Ext t universe) h
   to_cut c = record {
     head = h ++ c.compared;
-    member = by_list t universe (h ++ c.compared) (record { valuation = c.valuation; sends = All-from_recursion (λ row. Contains universe (values_of c.valuation row)) t.rows c.sends; gives = c.gives });
+    member = record { valuation = c.valuation; sends = All-from_recursion (λ row. Contains universe (values_of c.valuation row)) t.rows c.sends; gives = c.gives };
     compared = λ i l. cut_compared h c.compared i c.outputs_are ∙ hold_at t.operators c.compared c.holds i l;
     outputs = taken h c.compared t.outputs c.outputs_are;
   }
 
   pub from_cut : length t.head ≡ t.outputs + 2 * length t.operators → Cut t (Ext t universe) h → CutBy t.rows t.head t.outputs t.operators universe h
   from_cut head_length c =
-      let e : ExtBy t universe c.head = from_list t universe c.head c.member in
+      let e = c.member in
       let long : length c.head ≡ t.outputs + 2 * length t.operators = sym (ap length e.gives) ∙ length-map t.head (value_of e.valuation) ∙ head_length in
       let front = take t.outputs c.head in
       let back = drop t.outputs c.head in

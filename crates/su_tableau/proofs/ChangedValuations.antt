@@ -8,11 +8,10 @@ use Rattle.su_base.specs.declared.values.Value.{Value}
 use Rattle.su_tableau.specs.declared.symbols.Sym.{Sym}
 use Rattle.su_tableau.specs.declared.symbols.Sym.TheVariants.{Const, Var}
 use Rattle.su_tableau.specs.Tableaux.{Tab, IsValid}
-use Rattle.su_tableau.specs.Valuations.{nth, value_of, values_of, Ext}
-use Rattle.su_tableau.specs.Parts.{part, select}
+use Rattle.su_tableau.specs.Valuations.{value_of, values_of, Ext}
+use Rattle.su_tableau.specs.Parts.{part}
 use Rattle.su_tableau.specs.Essential.{HasSymbol, constant, in_head, twice, AgreesOn, ExtByEssential}
-use Rattle.su_tableau.proofs.ValuationLists.{by_list, from_list, listed}
-use Rattle.su_tableau.proofs.Sets.{select-has, select-from}
+use Rattle.su_tableau.proofs.Sets.{select, select-has, select-from}
 
 -- ---- whether a variable stands somewhere
 
@@ -173,12 +172,12 @@ chosen_good t m universe v choice i (inr le) b h s = absurd (omega arith)
 
 pub essential_ext : (t : Tab) (m : ℕ) (universe : List (List Value)) (h : List Value) → IsValid (part t m) → All (λ row. length row ≡ t.width) t.rows → All (λ u. length u ≡ t.width) universe → ExtByEssential t m universe h → Ext (part t m) universe h
 essential_ext t m universe h valid widths wide s =
-    let v = nth s.values in
+    let v = s.valuation in
     let us = λ (i : ℕ). chosen t m universe v s.agrees i (cases_lt i (length t.rows)) (cases_eq (bit_at m i) 1) in
     let good = λ (i : ℕ) (l : i < length t.rows) (b : bit_at m i ≡ 1). chosen_good t m universe v s.agrees i (cases_lt i (length t.rows)) (cases_eq (bit_at m i) 1) l b in
     let agrees = λ (i : ℕ) (l : i < length t.rows) (b : bit_at m i ≡ 1). (good i l b).1 in
     let w = changed t m v us agrees in
-    by_list (part t m) universe h (record {
+    record {
       valuation = w;
       sends = λ q d l.
           let row = get_or (select m t.rows) q d in
@@ -192,23 +191,17 @@ essential_ext t m universe h valid widths wide s =
           same_lists (values_of w t.head) (values_of v t.head) (length-map t.head (value_of w) ∙ sym (length-map t.head (value_of v)))
           (λ c d low. changed_head t m v us agrees valid c d (let l = length-map t.head (value_of w) in omega arith))
           ∙ s.gives;
-    })
+    }
 
 pub ext_essential : (t : Tab) (m : ℕ) (universe : List (List Value)) (h : List Value) → Ext (part t m) universe h → ExtByEssential t m universe h
-ext_essential t m universe h ext =
-    let e = from_list (part t m) universe h ext in
-    let l = listed t e.valuation in
-    let v = nth l.0 in
-    record {
-      values = l.0;
-      valuation = l.1.below;
-      agrees = λ i low set.
-          let row = get_or t.rows i [] in
-          let has = All-contains (λ row. Contains universe (values_of e.valuation row)) (select m t.rows) row e.sends (select-has m t.rows i [] low set) in (
-            values_of e.valuation row,
-            has,
-            λ c x holds essential d.
-                ap (λ u. get_or u c d) (sym (l.1.rows i [] low)) ∙ get_or-map (value_of v) row c (Var 0) d holds.column_in ∙ ap (value_of v) (holds.is (Var 0)),
-          );
-      gives = l.1.head ∙ e.gives;
-    }
+ext_essential t m universe h e = record {
+  valuation = e.valuation;
+  agrees = λ i low set.
+      let row = get_or t.rows i [] in
+      let has = All-contains (λ row. Contains universe (values_of e.valuation row)) (select m t.rows) row e.sends (select-has m t.rows i [] low set) in (
+        values_of e.valuation row,
+        has,
+        λ c x holds essential d. get_or-map (value_of e.valuation) row c (Var 0) d holds.column_in ∙ ap (value_of e.valuation) (holds.is (Var 0)),
+      );
+  gives = e.gives;
+}

@@ -9,7 +9,6 @@ use Rattle.su_tableau.specs.Valuations.{value_of, values_of}
 use Rattle.su_tableau.specs.Kinds.{Kinds}
 use Rattle.su_tableau.specs.Mapping.{image_of, images_of, Maps}
 use Rattle.su_tableau.specs.Equivalent.{IsWithin}
-use Rattle.su_tableau.proofs.ValuationLists.{by_list, from_list}
 use Rattle.su_base.proofs.Items.{map-map_equal}
 
 -- ---- composing
@@ -30,12 +29,10 @@ maps_compose r s t f g = record {
 }
 
 pub maps_within : (kinds : Kinds) (s t : Tab) → Maps s t → IsWithin kinds t s
-maps_within kinds s t f universe h typed ext =
-    let e = from_list t universe h ext in
-    by_list s universe h (record {
-      valuation = λ k. value_of e.valuation (f.symbols k);
-      sends = λ k d l.
-          let c = All-contains (λ row. Contains universe (values_of e.valuation row)) t.rows (images_of f.symbols (get_or s.rows k d)) e.sends (f.rows k d l) in
-          subst (Contains universe) (values_after e.valuation f.symbols (get_or s.rows k d)) c;
-      gives = sym (values_after e.valuation f.symbols s.head) ∙ ap (values_of e.valuation) f.head ∙ e.gives;
-    })
+maps_within kinds s t f universe h typed e = record {
+  valuation = λ k. value_of e.valuation (f.symbols k);
+  sends = λ k d l.
+      let c = All-contains (λ row. Contains universe (values_of e.valuation row)) t.rows (images_of f.symbols (get_or s.rows k d)) e.sends (f.rows k d l) in
+      subst (Contains universe) (values_after e.valuation f.symbols (get_or s.rows k d)) c;
+  gives = sym (values_after e.valuation f.symbols s.head) ∙ ap (values_of e.valuation) f.head ∙ e.gives;
+}

@@ -15,7 +15,6 @@ use Rattle.su_tableau.specs.Kinds.{Kinds, sym_kind, IsUniverse, IsTyped}
 use Rattle.su_tableau.specs.Mapping.{image_of, images_of, Maps}
 use Rattle.su_tableau.specs.Equivalent.{IsWithin}
 use Rattle.su_tableau.specs.FrozenTableaux.{size, new_value, frozen, frozen_head, frozen_rows, top, row_top, rows_top, tab_top}
-use Rattle.su_tableau.proofs.ValuationLists.{by_list, from_list}
 use Rattle.su_base.proofs.Items.{map-map_equal}
 
 -- ---- new values
@@ -81,17 +80,16 @@ frozen_typed kinds t typed n =
 -- the frozen head is an answer of t over the frozen rows
 pub frozen_answer : (t : Tab) (f : ℕ → Kind) (n : ℕ) → Ext t (frozen_rows f n t) (frozen_head f n t)
 frozen_answer t f n =
-    by_list t (frozen_rows f n t) (frozen_head f n t) (record {
+    record {
       valuation = frozen f n;
       sends = λ k d h.
           (k, subst (λ l. k < l) (sym (length-map t.rows (values_of (frozen f n)))) h, get_or-map (values_of (frozen f n)) t.rows k d (values_of (frozen f n) (get_or t.rows k d)) h);
       gives = refl;
-    })
+    }
 
 -- where it is one of s, s has a mapping to t
 pub frozen_maps : (s t : Tab) (f : ℕ → Kind) (n : ℕ) → tab_top s ≤ n → tab_top t ≤ n → Ext s (frozen_rows f n t) (frozen_head f n t) → Maps s t
-frozen_maps s t f n low_s low_t ext =
-    let e = from_list s (frozen_rows f n t) (frozen_head f n t) ext in
+frozen_maps s t f n low_s low_t e =
     let z = frozen f n in
     let v = e.valuation in
     record {

@@ -1,4 +1,4 @@
--- A valuation may be a function: only the values of the tableau's variables matter.
+-- A valuation may be a list: only the values of the tableau's variables matter.
 use Rattle.std.proofs.Common.{◌≡◌, ℕ, zero, suc, ◌+◌, ◌<◌, ◌≤◌, List, [], ◌∷◌, ◌++◌, length, get_or, pos, Contains, refl, sym, ap, ◌∙◌, subst, ⊎_elim, arith}
 use Rattle.std.proofs.lemmas.Bool.{cases_lt}
 use Rattle.std.proofs.lemmas.List.{length_push, get_or_push, get_or_append_left}
@@ -8,12 +8,6 @@ use Rattle.su_tableau.specs.declared.symbols.Sym.{Sym}
 use Rattle.su_tableau.specs.declared.symbols.Sym.TheVariants.{Const, Var}
 use Rattle.su_tableau.specs.Tableaux.{Tab, AreBelow, AreVarsBelow}
 use Rattle.su_tableau.specs.Valuations.{nth, values_of, Sends, Ext}
-
--- h is an answer by a function from variables to values
-pub record ExtBy (t : Tab) (universe : List (List Value)) (h : List Value) : Type 0 where
-  pub valuation : ℕ → Value
-  pub sends : Sends valuation t.rows universe
-  pub gives : values_of valuation t.head ≡ h
 
 -- the values of the first n variables
 firsts : (ℕ → Value) → ℕ → List Value
@@ -93,15 +87,22 @@ listed t v =
       },
     )
 
-pub by_list : (t : Tab) (universe : List (List Value)) (h : List Value) → ExtBy t universe h → Ext t universe h
+-- h is an answer by a list of values that is longer than every variable number, and gives variable k the k-th value
+pub record ExtByList (t : Tab) (universe : List (List Value)) (h : List Value) : Type 0 where
+  pub values : List Value
+  pub below : AreVarsBelow (length values) t
+  pub sends : Sends (nth values) t.rows universe
+  pub gives : values_of (nth values) t.head ≡ h
+
+pub by_list : (t : Tab) (universe : List (List Value)) (h : List Value) → Ext t universe h → ExtByList t universe h
 by_list t universe h e =
     let l = listed t e.valuation in
     record {
       values = l.0;
-      valuation = l.1.below;
+      below = l.1.below;
       sends = λ i d low. subst (Contains universe) (sym (l.1.rows i d low)) (e.sends i d low);
       gives = l.1.head ∙ e.gives;
     }
 
-pub from_list : (t : Tab) (universe : List (List Value)) (h : List Value) → Ext t universe h → ExtBy t universe h
+pub from_list : (t : Tab) (universe : List (List Value)) (h : List Value) → ExtByList t universe h → Ext t universe h
 from_list t universe h e = record { valuation = nth e.values; sends = e.sends; gives = e.gives }

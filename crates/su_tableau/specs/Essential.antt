@@ -7,8 +7,8 @@ use Rattle.std.specs.FinSet.{FinSet, contains, empty}
 use Rattle.su_base.specs.declared.values.Value.{Value}
 use Rattle.su_tableau.specs.declared.symbols.Sym.{Sym}
 use Rattle.su_tableau.specs.declared.symbols.Sym.TheVariants.{Const, Var}
-use Rattle.su_tableau.specs.Tableaux.{Tab, AreVarsBelow}
-use Rattle.su_tableau.specs.Valuations.{nth, value_of, values_of}
+use Rattle.su_tableau.specs.Tableaux.{Tab}
+use Rattle.su_tableau.specs.Valuations.{value_of, values_of}
 
 -- row i is in the set and its column c holds the symbol
 pub record HasSymbol (t : Tab) (m i c : ℕ) (x : Sym) : Type 0 where
@@ -40,10 +40,9 @@ AgreesOn t m v i u = (c : ℕ) (x : Sym) → HasSymbol t m i c x → IsEssential
 
 -- h is the values of the head under a valuation for which each row of the set agrees at its essential columns with some row of the universe
 pub record ExtByEssential (t : Tab) (m : ℕ) (universe : List (List Value)) (h : List Value) : Type 0 where
-  pub values : List Value
-  pub valuation : AreVarsBelow (length values) t
-  pub agrees : (i : ℕ) → i < length t.rows → bit_at m i ≡ 1 → (u : List Value) × Contains universe u × AgreesOn t m (nth values) i u
-  pub gives : values_of (nth values) t.head ≡ h
+  pub valuation : ℕ → Value
+  pub agrees : (i : ℕ) → i < length t.rows → bit_at m i ≡ 1 → (u : List Value) × Contains universe u × AgreesOn t m valuation i u
+  pub gives : values_of valuation t.head ≡ h
 
 -- the row holds the variable, at another column than the one that is left out
 pub record StandsElsewhere (row : List Sym) (k : ℕ) (but : Option ℕ) : Type 0 where

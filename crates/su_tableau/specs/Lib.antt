@@ -6,5 +6,6 @@ pub mod Equivalent
 pub mod FrozenTableaux
 pub mod Essential
 pub mod Bytes
+pub mod Laws
 pub mod inside
 pub mod Valuations

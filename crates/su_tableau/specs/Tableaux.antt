@@ -13,6 +13,10 @@ pub record Tab : Type 0 where
   pub outputs : ℕ
   pub operators : List Op
 
+-- the tableau of these parts
+abbrev pub tab_of : ℕ → List (List Sym) → List Sym → ℕ → List Op → Tab
+tab_of width rows head outputs operators = record { width = width; rows = rows; head = head; outputs = outputs; operators = operators }
+
 -- the variable stands in one of the rows
 abbrev pub Occurs : List (List Sym) → ℕ → Type 0
 Occurs rows k = (i : ℕ) × (i < length rows) × Contains (get_or rows i []) (Var k)

@@ -1,5 +1,5 @@
 -- What a tableau says of a relation.
--- valuation: a list of values longer than every variable number; it gives variable k the k-th value and keeps constants
+-- valuation: a value for each variable; it keeps constants
 -- answer: the values of the head under a valuation that sends every row to a row of the relation
 use Rattle.std.specs.Prelude.{◌≡◌, ℕ, ◌+◌, ◌*◌, ◌<◌, pos, IsTrue, List, map, take, length, get_or, All, Contains}
 use Rattle.su_base.specs.declared.values.Value.{Value}
@@ -8,7 +8,7 @@ use Rattle.su_where.specs.declared.operators.Op.TheVariants.{Equal}
 use Rattle.su_where.specs.Operator.{compares}
 use Rattle.su_tableau.specs.declared.symbols.Sym.{Sym}
 use Rattle.su_tableau.specs.declared.symbols.Sym.TheVariants.{Const, Var}
-use Rattle.su_tableau.specs.Tableaux.{Tab, AreVarsBelow}
+use Rattle.su_tableau.specs.Tableaux.{Tab}
 
 -- the k-th value of a list, which is that of variable k
 abbrev pub nth : List Value → ℕ → Value
@@ -29,10 +29,9 @@ Sends v rows universe = All (λ row. Contains universe (values_of v row)) rows
 
 -- h is an answer of the tableau over the universe
 pub record Ext (t : Tab) (universe : List (List Value)) (h : List Value) : Type 0 where
-  pub values : List Value
-  pub valuation : AreVarsBelow (length values) t
-  pub sends : Sends (nth values) t.rows universe
-  pub gives : values_of (nth values) t.head ≡ h
+  pub valuation : ℕ → Value
+  pub sends : Sends valuation t.rows universe
+  pub gives : values_of valuation t.head ≡ h
 
 -- the head's values meet its comparisons: operator i compares the two values from place outputs + 2 i on
 abbrev pub AreCompared : Tab → List Value → Type 0

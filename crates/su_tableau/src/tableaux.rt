@@ -1,7 +1,7 @@
 //! The tableau.
 ghost use Rattle.std.specs.Prelude.{◌≡◌, ◌<◌, ◌≤◌, ◌^◌, ℕ, [], length, get_or, IfOk, IfSome, None};
 ghost use Rattle.su_tableau.specs.declared.symbols.Sym.{Sym as ASym};
-ghost use Rattle.su_tableau.specs.Tableaux.{IsValid, IsSmall, AreBelow, IsSymbolCount};
+ghost use Rattle.su_tableau.specs.Tableaux.{IsValid, IsSmall, AreBelow, IsSymbolCount, tab_of};
 
 use crate::rules::are_valid;
 use crate::symbols::Sym;
@@ -39,9 +39,9 @@ impl Tableau {
         outputs: u16,
         operators: List<Op>,
     ) -> Tableau
-        requires valid { IsValid (record { width = width; rows = rows; head = head; outputs = outputs; operators = operators }) }
-        requires small { IsSmall (record { width = width; rows = rows; head = head; outputs = outputs; operators = operators }) }
-        ensures { result ≡ record { width = width; rows = rows; head = head; outputs = outputs; operators = operators } }
+        requires valid { IsValid (tab_of width rows head outputs operators) }
+        requires small { IsSmall (tab_of width rows head outputs operators) }
+        ensures { result ≡ tab_of width rows head outputs operators }
     {
         Tableau {
             width,
@@ -61,8 +61,8 @@ impl Tableau {
         outputs: u16,
         operators: List<Op>,
     ) -> Option<Tableau>
-        ensures is { IfSome result (λ t. t ≡ record { width = width; rows = rows; head = head; outputs = outputs; operators = operators }) }
-        ensures none { result ≡ None → IsValid (record { width = width; rows = rows; head = head; outputs = outputs; operators = operators }) → IsSmall (record { width = width; rows = rows; head = head; outputs = outputs; operators = operators }) → ⊥ }
+        ensures is { IfSome result (λ t. t ≡ tab_of width rows head outputs operators) }
+        ensures none { result ≡ None → IsValid (tab_of width rows head outputs operators) → IsSmall (tab_of width rows head outputs operators) → ⊥ }
     {
         if are_valid(
             width,

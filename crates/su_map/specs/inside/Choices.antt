@@ -1,11 +1,18 @@
 -- Choices of a target for each row, that a net allows.
 -- choice: for each row of a set a target in its domain, each two of which agree; domain: a set of targets for each row
 -- No public contract cites this module.
-use Rattle.std.specs.Prelude.{◌≡◌, ◌≢◌, ℕ, ◌<◌, ◌⊎◌, Bool, true, List, get_or, map}
-use Rattle.su_map.specs.Lists.{numbers_of, IsBefore}
+use Rattle.std.specs.Prelude.{◌≡◌, ◌≢◌, ℕ, ◌<◌, ◌⊎◌, Bool, true, List, get_or, length, map}
+use Rattle.su_map.specs.Lists.{numbers_of}
 use Rattle.su_map.specs.Candidates.{count_below, sum_of_products}
 use Rattle.std.specs.Int.{bit_at}
 use Rattle.su_map.specs.Netted.{Netted, base_of, near_of, agree_of}
+
+-- a is less at the first place where they differ
+pub record IsBefore (a b : List ℕ) : Type 0 where
+  pub place : ℕ
+  pub in_both : (place < length a) × (place < length b)
+  pub same : (i : ℕ) → i < place → get_or a i 0 ≡ get_or b i 0
+  pub less : get_or a place 0 < get_or b place 0
 
 -- target p of row r and target j of row q agree
 abbrev pub AreFit : Netted → ℕ → ℕ → ℕ → ℕ → Type 0

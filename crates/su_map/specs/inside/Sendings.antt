@@ -17,3 +17,11 @@ pub record IsSending (s : Tab) (m : ℕ) (t : Tab) (domains : List ℕ) (a : ℕ
   pub within : (i : ℕ) → i < length s.rows → bit_at m i ≡ 1 → bit_at (get_or domains i 0) (a i) ≡ 1
   pub own : (i : ℕ) → i < length s.rows → bit_at m i ≡ 1 → IsTarget s t i (a i)
   pub agree : (i q : ℕ) → i < length s.rows → q < length s.rows → bit_at m i ≡ 1 → bit_at m q ≡ 1 → MapAlike (row_of s i) (row_of t (a i)) (row_of s q) (row_of t (a q))
+
+-- each sending from the old domains is one from the new
+abbrev pub KeepsSendings : Tab → ℕ → Tab → List ℕ → List ℕ → Type 0
+KeepsSendings s m t old new = (a : ℕ → ℕ) → IsSending s m t old a → IsSending s m t new a
+
+-- each of those that send the row to the target
+abbrev pub KeepsSendingsTo : Tab → ℕ → Tab → ℕ → ℕ → List ℕ → List ℕ → Type 0
+KeepsSendingsTo s m t row target old new = (a : ℕ → ℕ) → IsSending s m t old a → a row ≡ target → IsSending s m t new a

@@ -1,6 +1,6 @@
 -- Targets of a row, cell by cell.
 -- No public contract cites this module.
-use Rattle.std.specs.Prelude.{◌≡◌, ℕ, ◌+◌, ◌*◌, ◌<◌, ◌≤◌, ◌↔◌, List, length, get_or, Contains, Option, Some, None}
+use Rattle.std.specs.Prelude.{◌≡◌, ◌≢◌, ℕ, ◌+◌, ◌*◌, ◌<◌, ◌≤◌, ◌↔◌, List, length, get_or, Contains, Option, Some, None}
 use Rattle.std.specs.Int.{bit_at}
 use Rattle.su_base.specs.declared.values.Value.{Value}
 use Rattle.su_tableau.specs.declared.symbols.Sym.{Sym}
@@ -8,6 +8,7 @@ use Rattle.su_tableau.specs.declared.symbols.Sym.TheVariants.{Const, Var}
 use Rattle.su_tableau.specs.Tableaux.{Tab, AreVarsBelow}
 use Rattle.su_map.specs.Lists.{row_of}
 use Rattle.su_map.specs.Candidates.{Cell}
+use Rattle.su_map.specs.Netted.{IsTarget}
 
 -- the column is the first one of the row that holds the variable
 pub record IsFirstAt (row : List Sym) (column k : ℕ) : Type 0 where
@@ -57,6 +58,33 @@ pub record IsTold (s t : Tab) (base : List ℕ) (i q : ℕ) (agree : List ℕ) :
   pub columns : List (Option ℕ)
   pub shared : AreShared s.head (row_of s i) (row_of s q) columns
   pub told : (p : ℕ) → p < length t.rows → bit_at (get_or base i 0) p ≡ 1 → AreTold t columns p (get_or base q 0) (get_or agree (i * 4096 + q * 64 + p) 0)
+
+-- the same for row i and each row of m that is near to it
+abbrev pub IsRowTold : Tab → ℕ → Tab → List ℕ → ℕ → ℕ → List ℕ → Type 0
+IsRowTold s m t base i near agree = (q : ℕ) → q < length s.rows → i ≢ q → bit_at m q ≡ 1 → bit_at near q ≡ 1 → IsTold s t base i q agree
+
+-- the same for each two rows of m that are near to each other
+abbrev pub AreAllTold : Tab → ℕ → Tab → List ℕ → List ℕ → List ℕ → Type 0
+AreAllTold s m t base near agree =
+    (i q : ℕ) → i < length s.rows → q < length s.rows → i ≢ q → bit_at m i ≡ 1 → bit_at m q ≡ 1 → bit_at (get_or near i 0) q ≡ 1 → IsTold s t base i q agree
+
+-- from the place on the new table tells of each target what is left of the old at the column shared
+abbrev pub AreToldAt : Tab → ℕ → Option ℕ → ℕ → ℕ → List ℕ → List ℕ → Type 0
+AreToldAt t targets shared column start old new =
+    (p : ℕ) → p < length t.rows → bit_at targets p ≡ 1 → IsToldAt t shared column p (get_or old (start + p) 0) (get_or new (start + p) 0)
+
+-- the result has those of the set that the cell of the row at the column fits
+abbrev pub HasFitting : List Sym → Tab → List Sym → ℕ → ℕ → ℕ → Type 0
+HasFitting head t row column set result = (j : ℕ) → (bit_at result j ≡ 1) ↔ ((j < length t.rows) × (bit_at set j ≡ 1) × CellFits head t.head row (row_of t j) column)
+
+-- some row of s in m goes by itself to no row of t in k
+abbrev pub HasNoTarget : Tab → ℕ → Tab → ℕ → Type 0
+HasNoTarget s m t k = (i : ℕ) × (i < length s.rows) × (bit_at m i ≡ 1) × ((j : ℕ) → j < length t.rows → bit_at k j ≡ 1 → IsTarget s t i j → ⊥)
+
+-- where row i is in m, near has the other rows that are noted at one of its variables outside the head
+abbrev pub HasNearby : Tab → ℕ → List ℕ → ℕ → ℕ → Type 0
+HasNearby s m rows_of i near =
+    bit_at m i ≡ 1 → (k q : ℕ) → Contains (row_of s i) (Var k) → (Contains s.head (Var k) → ⊥) → i ≢ q → bit_at (get_or rows_of k 0) q ≡ 1 → bit_at near q ≡ 1
 
 -- each row is noted at each of its variables, for each of which there is a place
 pub record AreAllNoted (t : Tab) (rows_at : List ℕ) : Type 0 where

@@ -1,8 +1,8 @@
 use Rattle.std.proofs.Common.{◌≡◌, ◌⊎◌, ◌≤◌, ◌+◌, ◌*◌, ◌∙◌, length, map, sym, ap, subst, arith}
 use Rattle.std.proofs.lemmas.List.{length-take-le}
-use Rattle.su_map.specs.Lists.{numbers_of, IsBefore}
+use Rattle.su_map.specs.Lists.{numbers_of}
 use Rattle.su_map.specs.Netted.{HasRoom}
-use Rattle.su_map.specs.inside.Choices.{IsChoiceInto, AreSame, IsLess, choice_of, tries, ArePassed}
+use Rattle.su_map.specs.inside.Choices.{IsBefore, IsChoiceInto, AreSame, IsLess, choice_of, tries, ArePassed}
 use Rattle.su_map.proofs.SearchStart.{lists_first}
 use Rattle.su_map.proofs.rooms.settle_list.Goals as goal
 

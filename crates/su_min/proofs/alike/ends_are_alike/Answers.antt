@@ -1,6 +1,6 @@
 use Rattle.std.proofs.Common.{◌∙◌, refl, sym, ap, arith, true≢false}
 use Rattle.std.proofs.lemmas.List.{get_or_default}
-use Rattle.su_min.specs.Cover.{constant_of}
+use Rattle.su_min.specs.inside.Constants.{constant_of}
 use Rattle.su_min.proofs.Likeness.{ends_same, ends_at}
 use Rattle.su_min.proofs.alike.ends_are_alike.Goals as goal
 

@@ -1,6 +1,6 @@
 use Rattle.std.proofs.Common.{◌≡◌, ◌<◌, ◌≤◌, ℕ, get_or}
 use Rattle.su_tableau.specs.declared.symbols.Sym.{Sym}
-use Rattle.su_min.specs.Cover.{constant_of}
+use Rattle.su_min.specs.inside.Constants.{constant_of}
 use Rattle.su_min.proofs.alike.ends_are_alike.Given as goal
 
 abbrev pub invariant-loop-i : goal.invariant-loop-i

@@ -26,13 +26,13 @@ returns-clause-first g c =
     first_found one other c.tableau-from.result.now c.tableau-to.result.now c.mask.result c.mask-2.result c.first.result c.first.new.room.list
     c.tableau-from.ensures c.tableau-to.ensures c.mask.ensures.is c.mask-2.ensures.is c.requires.covers c.first.ensures.found c.first.ensures.none.0 in
     let e = c.in_ok-mapping.ensures.is in
-    record {
-      from = ap (λ m. m.from) e ∙ c.tableau-from.ensures;
-      from_mask = ap (λ m. m.from_mask) e ∙ c.mask-3.ensures.is;
-      to = ap (λ m. m.to) e ∙ c.tableau-to.ensures;
-      to_mask = ap (λ m. m.to_mask) e ∙ c.mask-4.ensures.is;
-      first = subst (IsFirst one.tableau one.mask other.tableau other.mask) (sym (ap (λ m. m.list) e)) f;
-    }
+    let from = ap (λ m. m.from) e ∙ c.tableau-from.ensures in
+    let from_mask = ap (λ m. m.from_mask) e ∙ c.mask-3.ensures.is in
+    let to = ap (λ m. m.to) e ∙ c.tableau-to.ensures in
+    let to_mask = ap (λ m. m.to_mask) e ∙ c.mask-4.ensures.is in (
+      λ i. record { from = from i; from_mask = from_mask i; to = to i; to_mask = to_mask i; list = c.in_ok-mapping.mapping.list },
+      subst (IsFirst one.tableau one.mask other.tableau other.mask) (sym (ap (λ m. m.list) e)) f,
+    )
 
 pub returns-clause-room : goal.returns-clause-room
 returns-clause-room g c = room_all_same c.args.terms.now c.in_ok-own.own c.first.new.room c.in_ok-own.ensures.taken c.first.ensures.sizes
