@@ -7,7 +7,7 @@ use Rattle.std.proofs.lemmas.Bool.Decides.{nat_tests}
 use Rattle.su_lex.proofs.Runs.{run_split, run_is}
 use Rattle.su_lex.specs.Blanks.{begins}
 use Rattle.su_lex.specs.TokenForms.{IsToken, lengthens, sign_bytes}
-use Rattle.su_lex.specs.Tokens.{IsFirstToken, HasNoFirstToken}
+use Rattle.su_lex.specs.inside.Firsts.{IsFirstToken, HasNoFirstToken}
 use Rattle.su_lex.specs.inside.Classes.{class_at, class_of, sign_at}
 use Rattle.su_base.specs.Name.{is_letter, is_letter_or_digit, IsWord}
 use Rattle.su_lex.specs.declared.kinds.TokenKind.{TokenKind}

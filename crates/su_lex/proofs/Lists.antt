@@ -4,7 +4,8 @@ use Rattle.std.specs.Char.{is_ascii_digit}
 use Rattle.std.specs.List.{prefix_len}
 use Rattle.std.specs.Str.Parse.{signed_digits_value}
 use Rattle.std.proofs.lemmas.List.Elements.{All-cons, All-nil}
-use Rattle.su_lex.specs.Tokens.{InText, slice_of, IsFirstToken, HasNoFirstToken, TokensAt, Tokens}
+use Rattle.su_lex.specs.Tokens.{InText, slice_of, TokensAt, Tokens}
+use Rattle.su_lex.specs.inside.Firsts.{IsFirstToken, HasNoFirstToken}
 use Rattle.std.proofs.lemmas.Bool.Decides.{nat_tests}
 use Rattle.std.proofs.lemmas.List.{take_at, drop_at, length-append, append_cancel_left, append-nil}
 use Rattle.su_lex.proofs.Runs.{run_take}

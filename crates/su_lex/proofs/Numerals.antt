@@ -11,7 +11,7 @@ use Rattle.std.proofs.lemmas.List.{take_at}
 use Rattle.su_lex.proofs.Runs.{Split, run_split, run_take}
 use Rattle.su_lex.specs.Blanks.{begins}
 use Rattle.su_lex.specs.TokenForms.{IsToken, IsNumeral}
-use Rattle.su_lex.specs.Tokens.{IsFirstToken, HasNoFirstToken}
+use Rattle.su_lex.specs.inside.Firsts.{IsFirstToken, HasNoFirstToken}
 use Rattle.su_lex.specs.inside.Classes.{class_at, class_of}
 use Rattle.su_base.specs.Name.{is_letter_or_digit, IsWord}
 use Rattle.su_lex.specs.declared.kinds.TokenKind.{TokenKind}

@@ -3,9 +3,8 @@ use Rattle.std.proofs.Common.{◌≡◌, ◌<◌, ◌≤◌, ℕ, List, [], ◌�
 use Rattle.std.proofs.lemmas.List.{take_at, drop_at}
 use Rattle.su_lex.specs.Blanks.{Gap}
 use Rattle.su_lex.specs.Blanks as b
-use Rattle.su_lex.specs.Tokens.{IsFirstToken, HasNoFirstToken}
 use Rattle.su_lex.specs.Symbols.{symbol_at}
-use Rattle.su_lex.specs.inside.Firsts.{IsTokenOf, IsFirstSymbol}
+use Rattle.su_lex.specs.inside.Firsts.{IsFirstToken, HasNoFirstToken, IsTokenOf, IsFirstSymbol}
 use Rattle.su_lex.specs.declared.kinds.TokenKind.{TokenKind}
 use Rattle.su_lex.specs.declared.meaning.Symbol.{Symbol}
 use Rattle.su_lex.proofs.Gaps.{IsSolid, gap_same, gap_solid, gap_trans}

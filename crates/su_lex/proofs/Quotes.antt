@@ -4,7 +4,7 @@ use Rattle.std.proofs.lemmas.Bool.{false≢true}
 use Rattle.std.proofs.lemmas.Bool.Decides.{nat_tests}
 use Rattle.su_lex.specs.Blanks.{begins}
 use Rattle.su_lex.specs.TokenForms.{IsToken, quoted, doubled, twice}
-use Rattle.su_lex.specs.Tokens.{IsFirstToken, HasNoFirstToken}
+use Rattle.su_lex.specs.inside.Firsts.{IsFirstToken, HasNoFirstToken}
 use Rattle.su_lex.specs.inside.Classes.{class_at, class_of, place_at}
 use Rattle.su_lex.specs.declared.kinds.TokenKind.{TokenKind}
 use Rattle.su_lex.specs.declared.kinds.TokenKind.TheVariants.{Word, Int, Text, Sign as ASign}

@@ -3,7 +3,6 @@
 use Rattle.std.specs.Prelude.{◌≡◌, ◌≤◌, ℕ, ◌+◌, ◌-◌, List, [], ◌∷◌, ◌++◌, length, take, drop}
 use Rattle.su_base.specs.Name.{IsWord}
 use Rattle.su_lex.specs.Blanks.{Gap}
-use Rattle.su_lex.specs.declared.kinds.TokenKind.{TokenKind}
 use Rattle.su_lex.specs.declared.kinds.TokenKind.TheVariants.{Word}
 use Rattle.su_lex.specs.declared.kinds.Token.{Token}
 use Rattle.su_lex.specs.TokenForms.{IsToken}
@@ -27,11 +26,3 @@ pub record InText (text : List ℕ) (t : Token) : Type 0 where
   pub ordered : t.span.start ≤ t.span.end
   pub within : t.span.end ≤ length text
   pub word : t.kind ≡ Word → IsWord (slice_of text t.span.start t.span.end)
-
--- the text's first token, and how many bytes it takes
-abbrev pub IsFirstToken : List ℕ → TokenKind → ℕ → Type 0
-IsFirstToken text kind n = (front : List ℕ) × (rest : List ℕ) × (text ≡ front ++ rest) × (n ≡ length front) × IsToken kind front rest
-
--- no token stands at the front
-abbrev pub HasNoFirstToken : List ℕ → Type 0
-HasNoFirstToken text = (kind : TokenKind) (front rest : List ℕ) → text ≡ front ++ rest → ¬ (IsToken kind front rest)

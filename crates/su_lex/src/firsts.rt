@@ -1,6 +1,6 @@
 //! The first token of a text, told by its first bytes.
 ghost use Rattle.std.specs.Prelude.{◌≡◌, IfOk, IsErrOf};
-ghost use Rattle.su_lex.specs.Tokens.{IsFirstToken, HasNoFirstToken};
+ghost use Rattle.su_lex.specs.inside.Firsts.{IsFirstToken, HasNoFirstToken};
 ghost use Rattle.su_lex.specs.inside.Classes.{class_at};
 
 use crate::ends::LexEnd;

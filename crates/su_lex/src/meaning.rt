@@ -1,9 +1,8 @@
 //! A text as symbols: its tokens with the bytes of the words, and without their places.
-ghost use Rattle.std.specs.Prelude.{◌≡◌, IfOk, IsErrOf, List as Items};
+ghost use Rattle.std.specs.Prelude.{◌≡◌, [], IfOk, IsErrOf, List as Items};
 ghost use Rattle.su_base.specs.Name.{IsWord};
-ghost use Rattle.su_lex.specs.Tokens.{HasNoFirstToken};
 ghost use Rattle.su_lex.specs.Symbols.{Symbols, symbol_at};
-ghost use Rattle.su_lex.specs.inside.Firsts.{IsFirstSymbol};
+ghost use Rattle.su_lex.specs.inside.Firsts.{HasNoFirstToken, IsFirstSymbol};
 ghost use Rattle.su_lex.specs.declared.meaning.Symbol.{Symbol as ASymbol};
 
 use crate::comments::after_blanks;
@@ -50,12 +49,19 @@ fn first_symbol(alloc: Global, text: &[u8]) -> Result<(Symbol, usize), LexEnd>
     Ok((symbol, n))
 }
 
+/// No symbols, with room for as many as an insert of two values has: most texts are that short.
+fn few_at_first(alloc: Global) -> Result<List<Symbol>, NoMemory>
+    ensures { IfOk result (λ xs. xs ≡ []) }
+{
+    Ok(List::from_vec(Vec::with_capacity(alloc, 8)?))
+}
+
 /// The symbols of a text, in order, made as the text is gone through.
 pub fn symbols(alloc: Global, text: &[u8]) -> Result<List<Symbol>, LexEnd>
     ensures symbols { IfOk result (λ xs. Symbols text.now xs) }
     ensures syntax { IsErrOf result LexEnd.Syntax → (xs : Items ASymbol) → ¬ (Symbols text.now xs) }
 {
-    let mut symbols = List::new(alloc);
+    let mut symbols = few_at_first(alloc)?;
     let mut rest = after_blanks(text);
     while !rest.is_empty() {
         let (symbol, n) = first_symbol(alloc, rest)?;

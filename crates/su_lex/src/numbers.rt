@@ -5,7 +5,7 @@ ghost use Rattle.std.specs.Char.{is_ascii_digit};
 ghost use Rattle.std.specs.Int.{w64};
 ghost use Rattle.std.specs.Int.RustNames.{FitsSigned};
 ghost use Rattle.std.specs.Str.Parse.{signed_digits_value};
-ghost use Rattle.su_lex.specs.Tokens.{IsFirstToken, HasNoFirstToken};
+ghost use Rattle.su_lex.specs.inside.Firsts.{IsFirstToken, HasNoFirstToken};
 ghost use Rattle.su_lex.specs.TokenForms.{IsNumeral};
 ghost use Rattle.su_lex.specs.inside.Classes.{class_at};
 ghost use Rattle.su_lex.specs.declared.firsts.Class.TheVariants.{Number as OfNumber};

@@ -1,7 +1,7 @@
 //! The text in quotes at the front of a text.
 ghost use Rattle.std.specs.Prelude.{◌≡◌, ◌≤◌, length, IfOk, IsErrOf};
 ghost use Rattle.std.specs.Str.{IsUtf8};
-ghost use Rattle.su_lex.specs.Tokens.{IsFirstToken, HasNoFirstToken};
+ghost use Rattle.su_lex.specs.inside.Firsts.{IsFirstToken, HasNoFirstToken};
 ghost use Rattle.su_lex.specs.TokenForms.{twice};
 ghost use Rattle.su_lex.specs.inside.Classes.{class_at, place_at};
 ghost use Rattle.su_lex.specs.declared.firsts.Class.TheVariants.{Text as OfText};

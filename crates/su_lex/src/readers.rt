@@ -55,6 +55,13 @@ impl Reader {
         self.alloc
     }
 
+    /// How many symbols are left.
+    pub fn len(&self) -> usize
+        ensures { result ≡ length self.now }
+    {
+        self.rest.len()
+    }
+
     /// The next symbol, which stays.
     pub fn peek(&self) -> Option<&Symbol>
         ensures { MatchOption result (self.now ≡ []) (λ x. (more : Items ASymbol) × (self.now ≡ x.now ∷ more)) }

@@ -1,6 +1,6 @@
 //! The word at the front of a text.
 ghost use Rattle.std.specs.Prelude.{◌≡◌, IfOk, IsErrOf};
-ghost use Rattle.su_lex.specs.Tokens.{IsFirstToken, HasNoFirstToken};
+ghost use Rattle.su_lex.specs.inside.Firsts.{IsFirstToken, HasNoFirstToken};
 ghost use Rattle.su_lex.specs.inside.Classes.{class_at};
 ghost use Rattle.su_lex.specs.declared.firsts.Class.TheVariants.{Word as OfWord};
 

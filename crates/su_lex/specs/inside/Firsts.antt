@@ -1,10 +1,19 @@
--- The first symbol of a text.
+-- The first token and the first symbol of a text.
 -- No public contract cites this module.
 use Rattle.std.specs.Prelude.{◌≡◌, ℕ, List, ◌++◌, length}
 use Rattle.su_lex.specs.TokenForms.{IsToken}
+use Rattle.su_lex.specs.declared.kinds.TokenKind.{TokenKind}
 use Rattle.su_lex.specs.declared.kinds.TokenKind.TheVariants as kind
 use Rattle.su_lex.specs.declared.meaning.Symbol.{Symbol}
 use Rattle.su_lex.specs.declared.meaning.Symbol.TheVariants.{Word, Int, Text, Sign}
+
+-- the text's first token, and how many bytes it takes
+abbrev pub IsFirstToken : List ℕ → TokenKind → ℕ → Type 0
+IsFirstToken text kind n = (front : List ℕ) × (rest : List ℕ) × (text ≡ front ++ rest) × (n ≡ length front) × IsToken kind front rest
+
+-- no token stands at the front
+abbrev pub HasNoFirstToken : List ℕ → Type 0
+HasNoFirstToken text = (kind : TokenKind) (front rest : List ℕ) → text ≡ front ++ rest → ¬ (IsToken kind front rest)
 
 -- the front is the token of this symbol, and for a word its own bytes
 abbrev pub IsTokenOf : Symbol → List ℕ → List ℕ → Type 0

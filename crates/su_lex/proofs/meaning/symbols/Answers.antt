@@ -17,8 +17,8 @@ loop-rest-init c =
     let stays : IsSolid rest = record { no_space = blanks.no_space; no_comment = blanks.no_comment } in
     record {
       solid = stays;
-      before = λ more xs. rw c.new-symbols.ensures (symbols_before text rest more blanks.behind xs);
-      only = λ all a. (all, rw c.new-symbols.ensures refl, symbols_behind text rest all blanks.behind stays a);
+      before = λ more xs. rw c.in_ok-symbols.ensures (symbols_before text rest more blanks.behind xs);
+      only = λ all a. (all, rw c.in_ok-symbols.ensures refl, symbols_behind text rest all blanks.behind stays a);
     }
 
 pub loop-rest-preserved : goal.loop-rest-preserved
@@ -47,7 +47,7 @@ loop-rest-preserved c =
 pub returns-in_err-symbol-clause-syntax : goal.returns-in_err-symbol-clause-syntax
 returns-in_err-symbol-clause-syntax c =
     let some : 0 < length c.loop-rest.rest.now = grind (arith, nat_tests, c.loop-rest-test.ensures) in
-    let p = err_from_is_err_and c.from_residual.result c.from_residual.ensures.1 in
+    let p = err_from_is_err_and c.from_residual-in_err-symbol.result c.from_residual-in_err-symbol.ensures.1 in
     rw (p.1, p.2)
     (λ s xs all.
     let m = c.loop-rest.invariant.only xs (symbols_to c.args.text.now xs all) in
