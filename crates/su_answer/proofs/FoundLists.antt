@@ -8,7 +8,7 @@ use Rattle.su_base.specs.declared.values.Value.{Value}
 use Rattle.su_base.specs.Value.{compare_lists}
 use Rattle.su_base.proofs.Items.{Contains-cases, Contains-nil, All-members}
 use Rattle.su_answer.specs.declared.found.Found.{Found}
-use Rattle.su_answer.specs.QueryAnswers.{AreMoreThan}
+use Rattle.su_state.specs.MoreThan.{AreMoreThan}
 use Rattle.su_answer.specs.inside.Executed.{IsInSome}
 
 -- how far the lists are gone through: what is left, and the rows so far with those of the others
@@ -103,11 +103,11 @@ last_in lists before left f so_far all g e = g.of_lists f (subst (λ (ls : List 
 -- the rows of the last list and those so far are too many
 pub too_many : (lists before left : List Found) (f : Found) (so_far rows all : List (List Value)) → AreGathered lists before so_far all → before ≡ left ++ f ∷ [] → f.rows ≡ Some rows → AreMoreThan 1000000 (λ h. Contains all h ⊎ Contains rows h) → AreMoreThan 1000000 (λ h. Contains so_far h ⊎ IsInSome lists h)
 too_many lists before left f so_far rows all g e is many = record {
-  list = many.list;
+  member = many.member;
   each = λ i l.
       ⊎_elim
-      (λ (a : Contains all (many.list i)). (g.rows (many.list i)).0 (inl a))
-      (λ (r : Contains rows (many.list i)). (g.rows (many.list i)).0 (inr (subst (λ (ls : List Found). IsInSome ls (many.list i)) (sym e) (record { found = f; member = Contains-append_right left (f ∷ []) f (0, omega arith, refl); rows = rows; is = is; has = r }))))
+      (λ (a : Contains all (many.member i)). (g.rows (many.member i)).0 (inl a))
+      (λ (r : Contains rows (many.member i)). (g.rows (many.member i)).0 (inr (subst (λ (ls : List Found). IsInSome ls (many.member i)) (sym e) (record { found = f; member = Contains-append_right left (f ∷ []) f (0, omega arith, refl); rows = rows; is = is; has = r }))))
       (many.each i l);
   differ = many.differ;
 }

@@ -18,13 +18,15 @@ use Rattle.su_query.specs.declared.resolving.Resolved.{Resolved}
 use Rattle.su_min.specs.Kept.{Minimised, IsMinimised}
 use Rattle.su_steps.specs.declared.results.Term.{Term}
 use Rattle.su_steps.specs.Choices.{choices}
-use Rattle.su_steps.specs.Cases.{Case, GivesNone, Gives}
-use Rattle.su_steps.specs.Terms.{case_of, cases, AreTermsOf, AreTerms}
+use Rattle.su_steps.specs.Cases.{Case, Gives}
+use Rattle.su_steps.specs.Terms.{case_of, cases, AreTerms}
 use Rattle.su_steps.specs.Refusals.{IsAccepted}
 use Rattle.su_steps.specs.Laws.{TermsAreValidAndTyped}
+use Rattle.su_steps.specs.inside.Outs.{GivesNone, AreTermsOf}
 use Rattle.su_answer.specs.declared.preparing.Prepared.{Prepared}
 use Rattle.su_answer.specs.Prepared.{IsMinimisedOf, IsPrepared}
 use Rattle.su_answer.proofs.PairedLists.{zip_second}
+use Rattle.su_steps.proofs.Outs.{terms_of}
 
 terms_count : (schema : SchemaValue) (maximal : List (FinSet nat_cmp)) (q : Resolved) (cs : List Case) (ts : List Term) → AreTermsOf schema maximal q cs ts → length ts ≤ length cs
 terms_count schema maximal q [] ts h = let e = ap (λ (xs : List Term). length xs) h in omega arith
@@ -47,7 +49,7 @@ length-pairs f ys (x ∷ xs) =
 
 pub few_terms : (schema : SchemaValue) (maximal : List (FinSet nat_cmp)) (q : Resolved) (ts : List Term) → AreTerms schema maximal q ts → IsAccepted schema maximal q → length ts ≤ 256
 few_terms schema maximal q ts terms accepted =
-    let count = terms_count schema maximal q (cases schema maximal q) ts terms in
+    let count = terms_count schema maximal q (cases schema maximal q) ts (terms_of schema maximal q ts terms) in
     let pairs = length-pairs case_of (choices schema maximal q) (range_with_len 0 (length (disjuncts_of q.cond))) in
     let range = length-range_with_len 0 (length (disjuncts_of q.cond)) in
     let product : length (cases schema maximal q) ≡ length (disjuncts_of q.cond) * length (choices schema maximal q) = pairs ∙ ap (λ n. n * length (choices schema maximal q)) range in

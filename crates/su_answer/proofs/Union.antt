@@ -25,7 +25,7 @@ use Rattle.su_answer.specs.declared.found.Found.{Found}
 use Rattle.su_answer.specs.declared.preparing.Prepared.{Prepared}
 use Rattle.su_answer.specs.Joined.{IsTaskOf}
 use Rattle.su_answer.specs.Answers.{IsTermAnswer, IsAnswer, AreAnswers}
-use Rattle.su_answer.specs.QueryAnswers.{AreMoreThan}
+use Rattle.su_state.specs.MoreThan.{AreMoreThan}
 use Rattle.su_answer.specs.inside.Executed.{Join, IsFound, IsJoinOf, AreTermAnswers, IsFoundFor, IsInSome}
 use Rattle.su_answer.proofs.Joined.{outputs_are_answers}
 use Rattle.su_answer.proofs.PairedLists.{zip_first, zip_second}
@@ -35,7 +35,7 @@ use Rattle.su_answer.proofs.PairedLists.{zip_first, zip_second}
 found_by : (db : DatabaseValue) (m : Minimised) (task : Task) → IsWellKept db → IsValid m.tableau → IsTask db.tables task → IsTaskOf db.schema m.tableau m.mask task
     → (o : Option (List (List Value))) → MatchOption o (AreMore db.tables task 1000000) (AreOutputs db.tables task) → MatchOption o (AreMoreThan 1000000 (IsTermAnswer db m)) (AreTermAnswers db m)
 found_by db m task kept valid fits is None more = record {
-  list = more.output;
+  member = more.output;
   each = λ i l. (outputs_are_answers db m.tableau m.mask task kept valid fits is (more.output i)).0 (more.outputs i l);
   differ = more.differ;
 }
@@ -85,7 +85,7 @@ module _ (db : DatabaseValue) (minimals : List Minimised) (kept : List ℕ) (lis
   one_more f member none P all =
       let w = zip_second (λ k f. IsFoundFor db (term_at minimals k) f) kept lists f found member in
       let more : AreMoreThan 1000000 (IsTermAnswer db (term_at minimals w.0)) = subst (λ (o : Option (List (List Value))). MatchOption o (AreMoreThan 1000000 (IsTermAnswer db (term_at minimals w.0))) (AreTermAnswers db (term_at minimals w.0))) none w.2 in
-      record { list = more.list; each = λ i l. all w.0 (more.list i) w.1 (more.each i l); differ = more.differ }
+      record { member = more.member; each = λ i l. all w.0 (more.member i) w.1 (more.each i l); differ = more.differ }
 
 -- the lists of terms ascend
 pub lists_ascend : (db : DatabaseValue) (minimals : List Minimised) (kept : List ℕ) (lists : List Found) → AllZip (λ k f. IsFoundFor db (term_at minimals k) f) kept lists → All (λ (f : Found). IfSome f.rows (IsStrictlySortedBy compare_lists)) lists
@@ -98,7 +98,7 @@ lists_ascend db minimals kept lists found =
 
 pub rows_more : (n : ℕ) (P : List Value → Type 0) (rows : List (List Value)) → IsStrictlySortedBy compare_lists rows → ((h : List Value) → Contains rows h → P h) → n < length rows → AreMoreThan n P
 rows_more n P rows sorted each many = record {
-  list = λ i. get_or rows i [];
+  member = λ i. get_or rows i [];
   each = λ i l. each (get_or rows i []) (Contains-get_or rows i [] (omega arith));
   differ = λ i j l m same.
       let less = Less-from_sorted compare_lists rows i j [] sorted l (omega arith) in
@@ -202,13 +202,13 @@ module _ (db : DatabaseValue) (minimals : List Minimised) (kept left now later :
   pub wave_more : ((f : Found) × Contains lists f × (f.rows ≡ None)) ⊎ AreMoreThan 1000000 (λ h. Contains rows h ⊎ IsInSome lists h) → AreMoreThan 1000000 (OfTerms db minimals kept)
   wave_more s = ⊎_elim
       (λ (m : (f : Found) × Contains lists f × (f.rows ≡ None)). one_more db minimals now lists found m.0 m.1 m.2 (OfTerms db minimals kept) (λ k h c a. (before.exact h).0 (inr (record { term = k; member = now_left k c; answer = a }))))
-      (λ (m : AreMoreThan 1000000 (λ h. Contains rows h ⊎ IsInSome lists h)). record { list = m.list; each = λ i l. of_either (m.list i) (m.each i l); differ = m.differ })
+      (λ (m : AreMoreThan 1000000 (λ h. Contains rows h ⊎ IsInSome lists h)). record { member = m.member; each = λ i l. of_either (m.member i) (m.each i l); differ = m.differ })
       s
 
 -- ---- the answers of a prepared query
 
 pub more_answers : (db : DatabaseValue) (p : Prepared) → AreMoreThan 1000000 (OfTerms db p.minimals p.reduced.kept) → AreMoreThan 1000000 (IsAnswer db p)
-more_answers db p m = record { list = m.list; each = λ i l. let o = m.each i l in record { term = o.term; kept = o.member; answer = o.answer }; differ = m.differ }
+more_answers db p m = record { member = m.member; each = λ i l. let o = m.each i l in record { term = o.term; kept = o.member; answer = o.answer }; differ = m.differ }
 
 pub are_answers : (db : DatabaseValue) (p : Prepared) (left : List ℕ) (rows : List (List Value)) → AreUnited db p.minimals p.reduced.kept left rows → left ≡ [] → AreAnswers db p rows
 are_answers db p left rows united none = record {

@@ -1,20 +1,15 @@
 -- The answer of a query, which is prepared, and one that is too long.
 -- answer: the rows of the kept terms of a prepared query, ascending, each once
-use Rattle.std.specs.Prelude.{◌≡◌, ◌<◌, ◌≤◌, ℕ, List}
+use Rattle.std.specs.Prelude.{List}
 use Rattle.std.specs.Ordering.{nat_cmp}
 use Rattle.std.specs.FinSet.{FinSet}
 use Rattle.su_base.specs.declared.values.Value.{Value}
 use Rattle.su_query.specs.declared.resolving.Resolved.{Resolved}
 use Rattle.su_state.specs.DatabaseValue.{DatabaseValue}
+use Rattle.su_state.specs.MoreThan.{AreMoreThan}
 use Rattle.su_answer.specs.declared.preparing.Prepared.{Prepared}
 use Rattle.su_answer.specs.Prepared.{IsPrepared}
 use Rattle.su_answer.specs.Answers.{IsAnswer, AreAnswers}
-
--- there are more than n such lists: those numbered from 0 to n, all different
-pub record AreMoreThan (n : ℕ) (P : List Value → Type 0) : Type 0 where
-  pub list : ℕ → List Value
-  pub each : (i : ℕ) → i ≤ n → P (list i)
-  pub differ : (i j : ℕ) → i < j → j ≤ n → ¬ (list i ≡ list j)
 
 -- the rows are the answer of the query
 pub record IsAnswerOf (db : DatabaseValue) (maximal : List (FinSet nat_cmp)) (q : Resolved) (rows : List (List Value)) : Type 0 where

@@ -1,5 +1,5 @@
 //! Terms that are minimised and compared.
-ghost use Rattle.std.specs.Prelude.{◌≡◌, ◌≤◌, length, IfOk, IfErr, OnOk};
+ghost use Rattle.std.specs.Prelude.{◌≡◌, ◌⊎◌, ◌≤◌, length, IfOk, IfErr, OnOk};
 ghost use Rattle.std.specs.List.{AllZip};
 ghost use Rattle.su_query.specs.Ranges.{IsResolved};
 ghost use Rattle.su_steps.specs.Refusals.{IsAccepted, IsStepRefusal};
@@ -85,7 +85,7 @@ pub fn prepare<R: Threads + Sync, G: Gate>(
     requires most { workers ≤ 16 }
     ensures prepared { IfOk result (IsPrepared db.now.schema maximal.now resolved.now) }
     ensures accepted { OnOk result (IsAccepted db.now.schema maximal.now resolved.now) }
-    ensures refused { IfErr result (IsStepRefusal db.now.schema maximal.now resolved.now) }
+    ensures refused { IfErr result (λ fault. (fault ≡ StepFault.NoMemory) ⊎ IsStepRefusal db.now.schema maximal.now resolved.now fault) }
 {
     let terms = terms(alloc, db.schema(), maximal, resolved)?;
     let minimals = minimals(rt, alloc, terms.as_slice(), workers, gate)?;

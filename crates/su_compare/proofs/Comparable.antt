@@ -21,19 +21,21 @@ use Rattle.su_steps.specs.declared.results.Term.{Term}
 use Rattle.su_steps.specs.Objects.{width}
 use Rattle.su_steps.specs.Choices.{choices, origins_of}
 use Rattle.su_steps.specs.PairSymbols.{SymbolComparison, compared}
-use Rattle.su_steps.specs.Classes.{IsNaming}
 use Rattle.su_steps.specs.Evaluated.{is_evaluated, left_over}
-use Rattle.su_steps.specs.Cases.{Case, comparisons_of, GivesNone, Gives}
-use Rattle.su_steps.specs.Terms.{case_of, cases, AreTermsOf}
+use Rattle.su_tableau.specs.Tableaux.{Tab}
+use Rattle.su_steps.specs.Cases.{Case, comparisons_of, HaveTableau, Gives}
+use Rattle.su_steps.specs.Terms.{case_of, cases}
 use Rattle.su_steps.specs.Limits.{disjunct_count}
 use Rattle.su_steps.specs.Refusals.{IsAccepted}
 use Rattle.su_steps.specs.Laws.{TermsAreValidAndTyped}
+use Rattle.su_steps.specs.inside.Outs.{GivesNone, AreTermsOf}
 use Rattle.su_compare.specs.Equalities.{asks_equality, has_only_equalities}
 use Rattle.su_compare.specs.Outputs.{output_kinds}
 use Rattle.su_compare.specs.Within.{AreOf}
 use Rattle.su_compare.specs.Comparable.{IsPlain}
 use Rattle.su_compare.specs.Laws.{TermsAreComparable}
 use Rattle.su_compare.proofs.OnlyEqual.{are_equalities, all_equalities, and-left, and-right, only_equalities}
+use Rattle.su_steps.proofs.Outs.{terms_of}
 
 -- ---- comparisons
 
@@ -74,15 +76,15 @@ disjunct_at (d ∷ ds) (suc i) all = disjunct_at ds i (and-right (are_equalities
 
 module _ (schema : SchemaValue) (maximal : List (FinSet nat_cmp)) (q : Resolved) (only : has_only_equalities q.cond ≡ true) where
   -- no comparison of a case is left over
-  case_plain : (case : Case) (name : Sym → Sym) → IsNaming schema (origins_of schema maximal case.choice) (comparisons_of schema q case.disjunct) name → left_over name (comparisons_of schema q case.disjunct) ≡ []
-  case_plain case name naming =
+  case_plain : (case : Case) (t : Tab) → (h : HaveTableau schema q (origins_of schema maximal case.choice) (comparisons_of schema q case.disjunct) t) → left_over h.name (comparisons_of schema q case.disjunct) ≡ []
+  case_plain case t h =
       let d = comparisons_of schema q case.disjunct in
       let literals = get_or (disjuncts_of q.cond) case.disjunct [] in
       let all : are_equalities literals ≡ true = disjunct_at (disjuncts_of q.cond) case.disjunct (only_equalities q.cond only) in
-      none_left_over name d (λ c has.
+      none_left_over h.name d (λ c has.
       let l = Contains-map_source (compared (width schema) q.places) literals c has in
       let equal : c.op ≡ Equal = ap (λ x. x.op) (sym l.2) ∙ is_equal l.0.op (literal_at literals l.0 all l.1) in
-      naming.one_name c.left c.right (λ label closed. closed.equalities c has equal))
+      h.naming.one_name c.left c.right (λ label closed. closed.equalities c has equal))
 
   -- the term has the query's outputs and compares nothing
   abbrev Bare : Term → Type 0
@@ -91,7 +93,7 @@ module _ (schema : SchemaValue) (maximal : List (FinSet nat_cmp)) (q : Resolved)
   gives_bare : (case : Case) (t : Term) → Gives schema maximal q case t → Bare t
   gives_bare case t gives =
       let h = gives.tableau in
-      (ap (λ x. x.outputs) h.is, ap (λ x. x.operators) h.is ∙ ap (map (λ c. c.op)) (case_plain case h.name h.naming))
+      (ap (λ x. x.outputs) h.is, ap (λ x. x.operators) h.is ∙ ap (map (λ c. c.op)) (case_plain case t.tableau h))
 
   terms_bare : (cs : List Case) (ts : List Term) → AreTermsOf schema maximal q cs ts → All Bare ts × (length ts ≤ length cs)
   terms_bare [] ts is = (subst (All Bare) (sym is) (All-nil Bare), let n : length ts ≡ 0 = ap length is in omega arith)
@@ -118,7 +120,7 @@ length-cases schema maximal q =
 terms_plain : TermsAreValidAndTyped → (schema : SchemaValue) (maximal : List (FinSet nat_cmp)) (q : Resolved) (terms : List Term) → schemas.IsValid schema → AreOf schema maximal q terms → IsAccepted schema maximal q → has_only_equalities q.cond ≡ true
     → All (IsPlain schema (length q.outputs)) terms × (length terms ≤ 256)
 terms_plain typing schema maximal q terms valid of' accepted only =
-    let bare = terms_bare schema maximal q only (cases schema maximal q) terms of'.terms_are in
+    let bare = terms_bare schema maximal q only (cases schema maximal q) terms (terms_of schema maximal q terms of'.terms_are) in
     let typed = typing schema maximal q terms valid of'.resolved of'.terms_are in
     let few = accepted.few_terms in
     let n = length-cases schema maximal q in

@@ -22,11 +22,11 @@ use Rattle.su_index.specs.Tables.{table_at}
 use Rattle.su_state.specs.DatabaseValue.{DatabaseValue, rows_in, HasColumnKinds, IsWellKept}
 use Rattle.su_state.specs.Enforced.{HoldsOn}
 use Rattle.su_state.specs.Definitions.{tables_with, Defines}
-use Rattle.su_state.specs.Breaks.{BreaksThrough, HoldsThrough, NewBreaks}
 use Rattle.su_state.specs.declared.faults.DefineFault.{DefineFault}
 use Rattle.su_state.specs.declared.faults.DefineFault.TheVariants.{Schema, Breaks, NoMemory}
 use Rattle.su_state.specs.inside.AddedDefinitions.{HaveTables, HasAdded, IsNarrow, AddedHolds, IsAddedFault}
 use Rattle.su_state.proofs.Columns.{object_on}
+use Rattle.su_state.proofs.FirstBreaches.{first_new}
 use Rattle.su_state.proofs.Empty.{empty_table, no_rows, at_width}
 use Rattle.su_state.proofs.Kept.{blank}
 
@@ -209,17 +209,6 @@ tables_there db schema (Maximal objects) kept valid is =
     let e : schema ≡ extended db.schema (Maximal objects) = extended_is db.schema schema (Maximal objects) is in
     same_relations db schema kept valid (ap (λ s. s.relations) e)
 
--- what holds does not break
-holds_not_breaks : (schema : SchemaValue) (tables : List Stored) (f o : ℕ) (fd : Dependency) (name : List ℕ) (first second : List Value) → HoldsThrough schema tables f o → ¬ BreaksThrough schema tables f o fd name first second
-holds_not_breaks schema tables f o fd name first second holds breaks = holds fd breaks.object breaks.numbered breaks.placed first second breaks.rows.stored.0 breaks.rows.stored.1 breaks.rows.broken
-
-pub none_breaks : (schema : SchemaValue) (tables : List Stored) (definition : Definition) → AddedHolds schema tables definition → (fd : Dependency) (name : List ℕ) (first second : List Value) → ¬ NewBreaks schema tables definition fd name first second
-none_breaks schema tables (Attribute own kind) holds fd name first second breaks = breaks
-none_breaks schema tables (Relation own columns) holds fd name first second breaks = breaks
-none_breaks schema tables (Object own relation pairs) holds fd name first second breaks = holds_not_breaks schema tables breaks.place (length schema.objects - 1) fd name first second (holds breaks.place) breaks.through
-none_breaks schema tables (Fd left right) holds fd name first second breaks = holds_not_breaks schema tables (length schema.fds - 1) breaks.place fd name first second (holds breaks.place) breaks.through
-none_breaks schema tables (Maximal objects) holds fd name first second breaks = breaks
-
 pub narrow : (schema new : SchemaValue) (definition : Definition) → applied schema definition ≡ Ok new → IsValid new → IsNarrow definition
 narrow schema new (Attribute name kind) is valid = tt
 narrow schema new (Relation name columns) is valid =
@@ -233,7 +222,9 @@ narrow schema new (Fd left right) is valid = tt
 narrow schema new (Maximal objects) is valid = tt
 
 -- a refusal of what was added
-pub refused_added : (db : DatabaseValue) (schema : SchemaValue) (definition : Definition) (fault : DefineFault) → applied db.schema definition ≡ Ok schema → IsAddedFault schema db.tables definition fault → Defines db definition (Err fault) db
+pub refused_added : (db : DatabaseValue) (schema : SchemaValue) (definition : Definition) (fault : DefineFault) → applied db.schema definition ≡ Ok schema → IsAddedFault schema db.tables definition fault → (fault ≡ NoMemory) ⊎ Defines db definition (Err fault) db
 refused_added db schema definition (Schema fault) is refused = absurd refused
-refused_added db schema definition (Breaks fd name first second) is refused = ((schema, is, refused), refl)
-refused_added db schema definition NoMemory is refused = refl
+refused_added db schema definition (Breaks fd name first second) is refused =
+    let (b, first_of, same) = first_new schema db.tables definition fd name first second refused in
+    inr ((schema, b, is, first_of, same), refl)
+refused_added db schema definition NoMemory is refused = inl refl

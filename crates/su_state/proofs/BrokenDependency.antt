@@ -16,14 +16,14 @@ use Rattle.su_state.specs.Enforced.{Break}
 use Rattle.su_state.specs.declared.sides.Sides.{Sides}
 use Rattle.su_state.specs.inside.Sides.{AreSidesOf, Clash, IsLeastClash, row_at}
 use Rattle.su_state.specs.inside.Pairs.{IsLeastPair}
-use Rattle.su_state.specs.Breaches.{IsBreach, IsLeastBreach}
-use Rattle.su_state.specs.Breaks.{IsLeastBreak, BreaksThrough, HoldsThrough}
+use Rattle.su_state.specs.inside.RowBreaks.{BreaksWith, BreaksWithLeast}
+use Rattle.su_state.specs.inside.AddedBreaks.{IsLeastBreak, BreaksThrough, HoldsThrough}
 use Rattle.su_state.specs.inside.AddedDefinitions.{HaveTables}
 use Rattle.su_state.proofs.Columns.{break_from_clash, clash_from_break}
 
 module _ (schema : SchemaValue) (relation : ℕ) (rows : List (List Value)) (row : List Value) (f o : ℕ) (fd : Fd) (entry : ObjectEntry) (numbered : slice_get schema.fds f ≡ Some fd) (placed : slice_get schema.objects o ≡ Some entry) where
   -- the dependency and the object of these numbers are no others
-  breaks_own : (other : List Value) → IsBreach schema relation rows row f o other → Break fd entry row other × (entry.relation ≡ relation)
+  breaks_own : (other : List Value) → BreaksWith schema relation rows row f o other → Break fd entry row other × (entry.relation ≡ relation)
   breaks_own other b =
       let one : Some b.dependency ≡ Some fd = sym b.numbered ∙ numbered in
       let two : Some b.through ≡ Some entry = sym b.placed ∙ placed in
@@ -31,16 +31,16 @@ module _ (schema : SchemaValue) (relation : ℕ) (rows : List (List Value)) (row
       let same_object : b.through ≡ entry = cc in
       (subst (λ (d : Fd). Break d entry row other) same_fd (subst (λ (e : ObjectEntry). Break b.dependency e row other) same_object b.broken), sym (ap (λ e. e.relation) same_object) ∙ b.on)
 
-  pub elsewhere : entry.relation ≢ relation → (other : List Value) → ¬ IsBreach schema relation rows row f o other
+  pub elsewhere : entry.relation ≢ relation → (other : List Value) → ¬ BreaksWith schema relation rows row f o other
   elsewhere apart other b = apart (breaks_own other b).1
 
-  pub not_enforced : (¬ LiesIn fd (attributes_of entry)) → (other : List Value) → ¬ IsBreach schema relation rows row f o other
+  pub not_enforced : (¬ LiesIn fd (attributes_of entry)) → (other : List Value) → ¬ BreaksWith schema relation rows row f o other
   not_enforced out other b = out (breaks_own other b).0.lies
 
-  pub no_clash : (sides : Sides) → AreSidesOf entry fd sides → ((other : List Value) → Contains rows other → ¬ Clash sides row other) → (other : List Value) → ¬ IsBreach schema relation rows row f o other
+  pub no_clash : (sides : Sides) → AreSidesOf entry fd sides → ((other : List Value) → Contains rows other → ¬ Clash sides row other) → (other : List Value) → ¬ BreaksWith schema relation rows row f o other
   no_clash sides are none other b = none other b.stored (clash_from_break entry fd sides row other are (breaks_own other b).0)
 
-  pub least_breach : (sides : Sides) (other : List Value) → AreSidesOf entry fd sides → entry.relation ≡ relation → IsLeastClash sides rows row other → IsLeastBreach schema relation rows row f o other
+  pub least_breach : (sides : Sides) (other : List Value) → AreSidesOf entry fd sides → entry.relation ≡ relation → IsLeastClash sides rows row other → BreaksWithLeast schema relation rows row f o other
   least_breach sides other are on least = record {
     breach = record { dependency = fd; through = entry; numbered = numbered; placed = placed; on = on; stored = least.stored; broken = break_from_clash entry fd sides row other are least.clash };
     least = λ stored b. least.least stored b.stored (clash_from_break entry fd sides row stored are (breaks_own stored b).0);
@@ -56,7 +56,7 @@ module _ (schema : SchemaValue) (relation : ℕ) (rows : List (List Value)) (row
   -- from clashes of the sides to breaches of the dependency
   pub through_answer : (sides : Sides) (answer : Option ℕ) → AreSidesOf entry fd sides → entry.relation ≡ relation
       → MatchOption answer ((other : List Value) → Contains rows other → ¬ Clash sides row other) (λ p. (p < length rows) × IsLeastClash sides rows row (row_at rows p))
-      → MatchOption answer ((other : List Value) → ¬ IsBreach schema relation rows row f o other) (λ p. (p < length rows) × IsLeastBreach schema relation rows row f o (row_at rows p))
+      → MatchOption answer ((other : List Value) → ¬ BreaksWith schema relation rows row f o other) (λ p. (p < length rows) × BreaksWithLeast schema relation rows row f o (row_at rows p))
   through_answer sides None are on none = no_clash schema relation rows row f o fd entry numbered placed sides are none
   through_answer sides (Some p) are on found = (found.0, least_breach schema relation rows row f o fd entry numbered placed sides (row_at rows p) are on found.1)
 

@@ -19,7 +19,7 @@ use Rattle.su_state.specs.DatabaseValue.{DatabaseValue, table_of, rows_of, colum
 use Rattle.su_state.specs.Enforced.{Break, HoldsOn}
 use Rattle.su_state.specs.declared.sides.Sides.{Sides}
 use Rattle.su_state.specs.inside.Sides.{AreSidesOf, Clash}
-use Rattle.su_state.specs.Breaches.{NoBreach}
+use Rattle.su_state.specs.inside.RowBreaks.{BreaksNothing}
 use Rattle.su_state.specs.RowChanges.{InsertAnswers, Inserts}
 use Rattle.su_state.specs.Loads.{InsertsAll}
 use Rattle.su_state.specs.inside.Parts.{HaveOneWidth}
@@ -27,6 +27,7 @@ use Rattle.su_state.specs.AdmissibleRows.{KeepThrough, MayTake}
 use Rattle.su_state.proofs.Columns.{clash_from_break, columns_few}
 use Rattle.su_state.proofs.DifferentRows.{differ_put}
 use Rattle.su_state.proofs.Kept.{with_table, MayHave, flipped, holds_at, table_here, holds_fewer, kept_with, added_with, unchanged_with, table_read}
+use Rattle.su_state.proofs.FirstBreaches.{no_breach}
 
 Contains-first : (row : List Value) (rows : List (List Value)) → Contains (row ∷ rows) row
 Contains-first row rows = (0, omega arith, refl)
@@ -49,7 +50,7 @@ put_length (row ∷ rows) old new (between, inl (stored, same), rest) = omega (a
 put_length (row ∷ rows) old new (between, inr (out, is), rest) = omega (arith, put_length rows between new rest, ap length is, length_push old row)
 
 -- the first of the rows breaks nothing
-none_broken : (db : DatabaseValue) (r : ℕ) (row : List Value) (rows : List (List Value)) → MayTake db r (row ∷ rows) → NoBreach db.schema r (rows_of db r) row
+none_broken : (db : DatabaseValue) (r : ℕ) (row : List Value) (rows : List (List Value)) → MayTake db r (row ∷ rows) → BreaksNothing db.schema r (rows_of db r) row
 none_broken db r row rows may f o other breach =
     may.enforced f o breach.dependency breach.through breach.numbered breach.placed breach.on row other
     (Contains-append_right (rows_of db r) (row ∷ rows) row (Contains-first row rows))
@@ -78,11 +79,11 @@ none_found None P Q none given = given
 none_found (Some x) P Q some given = absurd (false≢true (sym some))
 
 -- rows of which none breaks anything with a row that is there, nor with one another
-pub keeps_few : (db : DatabaseValue) (r : ℕ) (rows : List (List Value)) → IsWellKept db → r < length db.tables → All (NoBreach db.schema r (rows_of db r)) rows
+pub keeps_few : (db : DatabaseValue) (r : ℕ) (rows : List (List Value)) → IsWellKept db → r < length db.tables → All (BreaksNothing db.schema r (rows_of db r)) rows
     → ((f o : ℕ) → KeepThrough db.schema r rows f o) → (f o : ℕ) → KeepThrough db.schema r (rows_of db r ++ rows) f o
 keeps_few db r rows kept within none among f o fd object numbered placed on row other here there broken =
     let breach : (x y : List Value) → Contains rows x → Contains (rows_of db r) y → Break fd object x y → ⊥ =
-    λ x y given stored bad. All-contains (NoBreach db.schema r (rows_of db r)) rows x none given f o y (record { dependency = fd; through = object; numbered = numbered; placed = placed; on = on; stored = stored; broken = bad }) in
+    λ x y given stored bad. All-contains (BreaksNothing db.schema r (rows_of db r)) rows x none given f o y (record { dependency = fd; through = object; numbered = numbered; placed = placed; on = on; stored = stored; broken = bad }) in
     elim (Contains-append_cases (rows_of db r) rows row here) [
       | inl one ↦ elim (Contains-append_cases (rows_of db r) rows other there) [
         | inl two ↦ holds_at db r kept within f o fd object numbered placed on row other one two broken
@@ -133,7 +134,7 @@ inserted_all (row ∷ rows) db r table within width (between, inr (out, is), res
     (λ x there. subst (λ (rs : List (List Value)). Contains rs x) assoc (subst (λ (b : List (List Value)). Contains (b ++ rows) x) its_rows there))
     (omega (arith, ap length its_rows, length_push (rows_of db r) row))) in
     let last : with_table mid r table ≡ with_table db r table = λ i. record { schema = db.schema; tables = set-set db.tables r mid_table table i } in
-    let answers : InsertAnswers db r row (Ok true) = (All-head (HasColumnKinds (columns_of db r)) row rows may.typed, out, none_broken db r row rows may, omega (arith, may.few)) in
+    let answers : InsertAnswers db r row (Ok true) = (All-head (HasColumnKinds (columns_of db r)) row rows may.typed, out, no_breach db r row (none_broken db r row rows may), omega (arith, may.few)) in
     let one : Inserts db r row (Ok true) mid = (answers, added_with db r row mid_table within refl refl) in
     (1 + more.0, omega (arith, more.1, ap length its_rows, length_push (rows_of db r) row), (mid, true, more.0, one, subst (λ (d : DatabaseValue). InsertsAll mid r rows more.0 d) last more.2, refl))
 

@@ -1,5 +1,5 @@
 -- Inserts one after another.
-use Rattle.std.proofs.Common.{◌≡◌, ◌<◌, ◌+◌, ℕ, Bool, true, false, List, [], ◌∷◌, ◌++◌, length, get_or, set, Ok, Err, refl, sym, subst, ◌∙◌, inl, inr, arith}
+use Rattle.std.proofs.Common.{◌≡◌, ◌⊎◌, ◌<◌, ◌+◌, ℕ, Bool, true, false, List, [], ◌∷◌, ◌++◌, length, get_or, set, Ok, Err, refl, sym, subst, ◌∙◌, inl, inr, arith}
 use Rattle.std.proofs.lemmas.Bool.{cases_eq}
 use Rattle.std.proofs.lemmas.List.{length-set, get_or-set_same, get_or-set_other, same_lists, get_or_default}
 use Rattle.std.proofs.lemmas.Option.{slice_get-get_or, get_or_from_slice_get}
@@ -7,10 +7,11 @@ use Rattle.su_base.specs.declared.values.Value.{Value}
 use Rattle.su_rel.specs.Stored.{Stored}
 use Rattle.su_state.specs.DatabaseValue.{DatabaseValue, table_of}
 use Rattle.su_state.specs.Changes.{ChangesOnly}
-use Rattle.su_state.specs.RowChanges.{InsertAnswers, Inserts}
-use Rattle.su_state.specs.Loads.{InsertsAll, InsertsSome, Loads, added_by}
-use Rattle.su_state.specs.inside.LoadEnds.{IsEnd}
+use Rattle.su_state.specs.RowChanges.{Inserts}
+use Rattle.su_state.specs.Loads.{InsertsAll, Loads, added_by}
+use Rattle.su_state.specs.inside.LoadEnds.{IsEnd, InsertsSome}
 use Rattle.su_state.specs.declared.faults.StateFault.{StateFault}
+use Rattle.su_state.specs.declared.faults.StateFault.TheVariants.{NoMemory}
 use Rattle.su_state.specs.declared.faults.LoadEnd.{LoadEnd}
 use Rattle.su_state.specs.declared.faults.LoadEnd.TheVariants.{Refused, NoMemory as OutOfMemory}
 use Rattle.su_state.proofs.Kept.{blank, with_table}
@@ -61,22 +62,23 @@ changes_by_inserts [] db new r count (none, same) = changes_nothing db new r sam
 changes_by_inserts (row ∷ rows) db new r count (between, is_new, more, head, tail, counted) = changes_then db between new r (changes_by_insert db between r row is_new head) (changes_by_inserts rows between new r more tail)
 
 -- inserts that end at a refused row
-pub refused_at : (db mid new : DatabaseValue) (r : ℕ) (rows before after : List (List Value)) (row : List Value) (count number : ℕ) (fault : StateFault) (end : LoadEnd) → InsertsAll db r before count mid → Inserts mid r row (Err fault) new → rows ≡ before ++ row ∷ after → number ≡ length before + 1 → IsEnd number fault end → InsertsSome db r rows (Err end) new
-refused_at db mid new r rows before after row count number fault end accepted refused split numbered (inl (want, is)) =
-    subst (λ (e : LoadEnd). InsertsSome db r rows (Err e) new) (sym is) (changes_then db mid new r (changes_by_inserts before db mid r count accepted) (changes_nothing mid new r refused.1))
-refused_at db mid new r rows before after row count number fault end accepted refused split numbered (inr (cause, is)) =
+pub refused_at : (db mid new : DatabaseValue) (r : ℕ) (rows before after : List (List Value)) (row : List Value) (count number : ℕ) (fault : StateFault) (end : LoadEnd) → InsertsAll db r before count mid → (fault ≡ NoMemory) ⊎ Inserts mid r row (Err fault) new → new ≡ mid → rows ≡ before ++ row ∷ after → number ≡ length before + 1 → IsEnd number fault end → InsertsSome db r rows (Err end) new
+refused_at db mid new r rows before after row count number fault end accepted why same split numbered (inl (want, is)) =
+    subst (λ (e : LoadEnd). InsertsSome db r rows (Err e) new) (sym is) (changes_then db mid new r (changes_by_inserts before db mid r count accepted) (changes_nothing mid new r same))
+refused_at db mid new r rows before after row count number fault end accepted (inl want) same split numbered (inr (cause, is)) = absurd (cause want)
+refused_at db mid new r rows before after row count number fault end accepted (inr refused) same split numbered (inr (cause, is)) =
     subst (λ (e : LoadEnd). InsertsSome db r rows (Err e) new) (sym is) (
-      changes_then db mid new r (changes_by_inserts before db mid r count accepted) (changes_nothing mid new r refused.1),
+      changes_then db mid new r (changes_by_inserts before db mid r count accepted) (changes_nothing mid new r same),
       record {
         before = before;
         row = row;
         after = after;
         count = count;
+        between = mid;
         split = split;
         number = numbered;
-        accepted = subst (InsertsAll db r before count) (sym refused.1) accepted;
-        refused = (subst (λ (d : DatabaseValue). InsertAnswers d r row (Err fault)) (sym refused.1) refused.0, refl);
-        has_cause = cause;
+        accepted = accepted;
+        refused = subst (λ (d : DatabaseValue). Inserts mid r row (Err fault) d) same refused;
       },
     )
 
@@ -86,6 +88,6 @@ changes_some db new r rows OutOfMemory only = only
 changes_some db new r rows (Refused refusal) (only, first) = only
 
 -- and once the table is put back they are a refused load
-pub load_refused : (db between new : DatabaseValue) (r : ℕ) (rows : List (List Value)) (end : LoadEnd) → InsertsSome db r rows (Err end) between → new ≡ db → Loads db r rows (Err end) new
-load_refused db between new r rows OutOfMemory only same = same
-load_refused db between new r rows (Refused refusal) (only, first) same = (same, (between, first))
+pub load_refused : (db between new : DatabaseValue) (r : ℕ) (rows : List (List Value)) (end : LoadEnd) → InsertsSome db r rows (Err end) between → new ≡ db → (end ≡ OutOfMemory) ⊎ Loads db r rows (Err end) new
+load_refused db between new r rows OutOfMemory only same = inl refl
+load_refused db between new r rows (Refused refusal) (only, first) same = inr (first, same)

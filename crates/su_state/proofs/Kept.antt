@@ -16,10 +16,10 @@ use Rattle.su_schema.specs.Entries.{relation_columns}
 use Rattle.su_state.specs.DatabaseValue.{DatabaseValue, table_of, rows_of, columns_of, HasColumnKinds, IsWellKept}
 use Rattle.su_state.specs.Enforced.{read, Break, HoldsOn}
 use Rattle.su_state.specs.Changes.{ChangesOnly, Added, Removed}
-use Rattle.su_state.specs.Breaches.{NoBreach}
+use Rattle.su_state.specs.inside.RowBreaks.{BreaksNothing}
 use Rattle.su_state.specs.RowChanges.{Deletes, InsertAnswers, Inserts}
-use Rattle.su_state.specs.declared.faults.StateFault.TheVariants.{NoMemory}
 use Rattle.su_state.proofs.DifferentRows.{differ_push}
+use Rattle.su_state.proofs.FirstBreaches.{breaks_nothing}
 
 abbrev pub blank : Stored
 blank = record { width = 0; rows = [] }
@@ -76,7 +76,7 @@ flipped fd object row other broken = record {
 }
 
 -- a dependency that held holds with one more row, which breaks nothing
-holds_added : (schema : SchemaValue) (r : ℕ) (rows : List (List Value)) (row : List Value) (f o : ℕ) (fd : Fd) (object : ObjectEntry) → slice_get schema.fds f ≡ Some fd → slice_get schema.objects o ≡ Some object → object.relation ≡ r → NoBreach schema r rows row → HoldsOn fd object rows → HoldsOn fd object (rows ++ row ∷ [])
+holds_added : (schema : SchemaValue) (r : ℕ) (rows : List (List Value)) (row : List Value) (f o : ℕ) (fd : Fd) (object : ObjectEntry) → slice_get schema.fds f ≡ Some fd → slice_get schema.objects o ≡ Some object → object.relation ≡ r → BreaksNothing schema r rows row → HoldsOn fd object rows → HoldsOn fd object (rows ++ row ∷ [])
 holds_added schema r rows row f o fd object numbered placed on none holds x y in_x in_y broken =
     let breach : (other : List Value) → Contains rows other → Break fd object row other → ⊥ =
     λ other stored bad. none f o other (record { dependency = fd; through = object; numbered = numbered; placed = placed; on = on; stored = stored; broken = bad }) in
@@ -102,7 +102,7 @@ module _ (db : DatabaseValue) (r : ℕ) (kept : IsWellKept db) (within : r < len
       let old = kept.enforced f fd (slice_get_within db.schema.fds f fd numbered) o object (slice_get_within db.schema.objects o object placed) in
       subst (λ (k : ℕ). HoldsOn fd object (rows_of db k)) on (rw (is_fd, is_object) at old)
 
-  pub may_add : (row : List Value) (table : Stored) → HasColumnKinds (columns_of db r) row → (¬ Contains (rows_of db r) row) → NoBreach db.schema r (rows_of db r) row → length (rows_of db r) < 1000000
+  pub may_add : (row : List Value) (table : Stored) → HasColumnKinds (columns_of db r) row → (¬ Contains (rows_of db r) row) → BreaksNothing db.schema r (rows_of db r) row → length (rows_of db r) < 1000000
       → table.width ≡ (table_of db r).width → table.rows ≡ rows_of db r ++ row ∷ [] → MayHave db r table
   may_add row table typed out none few width rows = record {
     width = width ∙ kept.widths r within;
@@ -208,13 +208,10 @@ module _ (db : DatabaseValue) (r : ℕ) (row : List Value) (old new : Stored) (k
   pub kept_inserted : {E : Type 0} (result : Result Bool E) → IfOk result (λ b. MatchBool b ((¬ Contains old.rows row) × (new.rows ≡ old.rows ++ row ∷ [])) (Contains old.rows row × (new ≡ old))) → OnErr result (new ≡ old) → IsWellKept (with_table db r new)
   kept_inserted (Ok true) (out, rows) unchanged =
       kept_with db r new kept within
-      (may_add db r kept within row new answers.0 answers.1 answers.2 answers.3 (width ∙ ap (λ t. t.width) put_into) (rows ∙ ap (λ t. t.rows ++ row ∷ []) put_into))
+      (may_add db r kept within row new answers.0 answers.1 (breaks_nothing db r row answers.2) answers.3 (width ∙ ap (λ t. t.width) put_into) (rows ∙ ap (λ t. t.rows ++ row ∷ []) put_into))
   kept_inserted (Ok false) (there, same) unchanged = kept_same same
   kept_inserted (Err e) ok unchanged = kept_same unchanged
 
   pub inserted : (b : Bool) → MatchBool b ((¬ Contains old.rows row) × (new.rows ≡ old.rows ++ row ∷ [])) (Contains old.rows row × (new ≡ old)) → Inserts db r row (Ok true) (with_table db r new)
   inserted true (out, rows) = (answers, added_with db r row new within (width ∙ ap (λ t. t.width) put_into) (rows ∙ ap (λ t. t.rows ++ row ∷ []) put_into))
   inserted false (there, same) = absurd (answers.1 (subst (λ (t : Stored). Contains t.rows row) put_into there))
-
-  pub not_inserted : new ≡ old → Inserts db r row (Err NoMemory) (with_table db r new)
-  not_inserted same = (tt, unchanged_with db r new (same ∙ put_into))

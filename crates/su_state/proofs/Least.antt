@@ -16,7 +16,7 @@ use Rattle.su_base.specs.Value.{compare_lists}
 use Rattle.su_base.proofs.Rows.{rows_total}
 use Rattle.su_index.specs.Matches.{matches, IsMatch}
 use Rattle.su_index.proofs.Matched.{has_value-decides, match_of, match_unique}
-use Rattle.su_state.specs.Enforced.{IsAtMost}
+use Rattle.su_state.specs.inside.RowBreaks.{IsAtMost}
 use Rattle.su_state.specs.declared.sides.Sides.{Sides}
 use Rattle.su_state.specs.inside.Sides.{Clash, IsLeastClash, IsLesser, row_at}
 

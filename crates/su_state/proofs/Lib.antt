@@ -6,6 +6,7 @@ pub mod RowsPutIn
 pub mod DifferentRows
 pub mod Empty
 pub mod Filled
+pub mod FirstBreaches
 pub mod TwoConditions
 pub mod Kept
 pub mod Least

@@ -1,48 +1,48 @@
--- What stands in the way of a row.
--- unfit: of another width, or of other kinds than the columns
--- breach: a dependency and an object of the relation through which a new row would break it with one of the rows there
-use Rattle.std.specs.Prelude.{◌≡◌, ◌≢◌, ℕ, ◌<◌, List, length, slice_get, Contains, Some}
+-- Rows that break an enforced dependency, and which of them is told.
+-- breach: two rows that break a dependency through an object
+-- first of some breaches: that which no other comes before
+use Rattle.std.specs.Prelude.{◌≡◌, ◌≢◌, ℕ, List, slice_get, slice_index_or, Contains, Some}
+use Rattle.std.specs.FinSet.{empty}
+use Rattle.std.specs.Ordering.{nat_cmp, ordering_then}
+use Rattle.std.specs.declared.cmp.Ordering.{Ordering}
+use Rattle.std.specs.declared.cmp.Ordering.TheVariants.{Greater}
 use Rattle.su_base.specs.declared.values.Value.{Value}
-use Rattle.su_base.specs.declared.values.Column.{Column}
-use Rattle.su_base.specs.Value.{kind_of}
+use Rattle.su_base.specs.Value.{compare_lists}
 use Rattle.su_fd.specs.declared.dependencies.Fd.{Fd}
 use Rattle.su_schema.specs.SchemaValue.{SchemaValue, ObjectEntry}
-use Rattle.su_state.specs.declared.faults.StateFault.{StateFault}
-use Rattle.su_state.specs.declared.faults.StateFault.TheVariants.{Width, Kind}
-use Rattle.su_state.specs.Enforced.{Break, IsAtMost}
+use Rattle.su_state.specs.DatabaseValue.{DatabaseValue, rows_of}
+use Rattle.su_state.specs.Enforced.{Break}
 
--- the first column whose value has another kind
-pub record IsFirstOtherKind (columns : List Column) (row : List Value) (place : ℕ) : Type 0 where
-  pub other : (column : Column) × (value : Value) × (slice_get columns place ≡ Some column) × (slice_get row place ≡ Some value) × (kind_of value ≢ column.kind)
-  pub before : (k : ℕ) (column : Column) (value : Value) → k < place → slice_get columns k ≡ Some column → slice_get row k ≡ Some value → kind_of value ≡ column.kind
+-- a dependency and an object, by number, and two rows
+pub record Breach : Type 0 where
+  pub dependency : ℕ
+  pub object : ℕ
+  pub first : List Value
+  pub second : List Value
 
--- a row has another width, or its values have not the columns' kinds
-abbrev pub IsUnfit : ℕ → List Column → List Value → StateFault → Type 0
-IsUnfit relation columns row (Width r given) = (length row ≢ length columns) × (r ≡ relation) × (given ≡ length row)
-IsUnfit relation columns row (Kind r column) = (length row ≡ length columns) × IsFirstOtherKind columns row column × (r ≡ relation)
-IsUnfit relation columns row _ = ⊥
+-- the dependency of this number
+abbrev pub fd_at : SchemaValue → ℕ → Fd
+fd_at schema number = slice_index_or schema.fds number (record { left = empty; right = empty })
 
--- one of the rows with which a row breaks the dependency with this number through the object with this number
-pub record IsBreach (schema : SchemaValue) (relation : ℕ) (rows : List (List Value)) (row : List Value) (fd object : ℕ) (other : List Value) : Type 0 where
-  pub dependency : Fd
-  pub through : ObjectEntry
-  pub numbered : slice_get schema.fds fd ≡ Some dependency
-  pub placed : slice_get schema.objects object ≡ Some through
-  pub on : through.relation ≡ relation
-  pub stored : Contains rows other
-  pub broken : Break dependency through row other
+-- the order of breaches: by the dependency, by the object, by the first row, by the second
+abbrev pub compare_breaches : Breach → Breach → Ordering
+compare_breaches a b = ordering_then (nat_cmp a.dependency b.dependency) (ordering_then (nat_cmp a.object b.object) (ordering_then (compare_lists a.first b.first) (compare_lists a.second b.second)))
 
--- and it is the least of these rows
-pub record IsLeastBreach (schema : SchemaValue) (relation : ℕ) (rows : List (List Value)) (row : List Value) (fd object : ℕ) (other : List Value) : Type 0 where
-  pub breach : IsBreach schema relation rows row fd object other
-  pub least : (stored : List Value) → IsBreach schema relation rows row fd object stored → IsAtMost other stored
+-- the first of these breaches
+abbrev pub IsFirstOf : (Breach → Type 0) → Breach → Type 0
+IsFirstOf Among b = Among b × ((other : Breach) → Among other → compare_breaches b other ≢ Greater)
 
--- the first dependency, then the first object, then the least row
-pub record IsFirstBreach (schema : SchemaValue) (relation : ℕ) (rows : List (List Value)) (row : List Value) (fd object : ℕ) (other : List Value) : Type 0 where
-  pub first_fd : (f o : ℕ) (stored : List Value) → f < fd → ¬ IsBreach schema relation rows row f o stored
-  pub first_object : (o : ℕ) (stored : List Value) → o < object → ¬ IsBreach schema relation rows row fd o stored
-  pub least : IsLeastBreach schema relation rows row fd object other
+-- the rows break the dependency through the object, and the object stands on the relation
+pub record IsBreach (schema : SchemaValue) (relation : ℕ) (b : Breach) : Type 0 where
+  pub fd : Fd
+  pub object : ObjectEntry
+  pub numbered : slice_get schema.fds b.dependency ≡ Some fd
+  pub placed : slice_get schema.objects b.object ≡ Some object
+  pub on : object.relation ≡ relation
+  pub broken : Break fd object b.first b.second
 
--- an insert of the row breaks nothing
-abbrev pub NoBreach : SchemaValue → ℕ → List (List Value) → List Value → Type 0
-NoBreach schema relation rows row = (fd object : ℕ) (other : List Value) → ¬ IsBreach schema relation rows row fd object other
+-- a row breaks something with a row of the relation
+pub record IsBreachBy (db : DatabaseValue) (relation : ℕ) (row : List Value) (b : Breach) : Type 0 where
+  pub breach : IsBreach db.schema relation b
+  pub first : b.first ≡ row
+  pub stored : Contains (rows_of db relation) b.second

@@ -2,12 +2,10 @@
 -- read: the value that an object takes for an attribute from a row, through its column
 -- agree: two rows have one value for each of some attributes, read through an object
 -- lies in: all attributes of both sides of a dependency are the object's; it is then enforced on the object's relation
-use Rattle.std.specs.Prelude.{◌≡◌, ◌≢◌, ℕ, List, slice_get, Contains, Option, option_and_then, IsTrue}
+use Rattle.std.specs.Prelude.{◌≡◌, ℕ, List, slice_get, Contains, Option, option_and_then, IsTrue}
 use Rattle.std.specs.Ordering.{nat_cmp}
 use Rattle.std.specs.FinSet.{FinSet, contains}
-use Rattle.std.specs.declared.cmp.Ordering.TheVariants.{Greater}
 use Rattle.su_base.specs.declared.values.Value.{Value}
-use Rattle.su_base.specs.Value.{compare_lists}
 use Rattle.su_fd.specs.declared.dependencies.Fd.{Fd}
 use Rattle.su_fd.specs.MetDependencies.{LiesIn}
 use Rattle.su_schema.specs.SchemaValue.{ObjectEntry}
@@ -30,7 +28,3 @@ pub record Break (fd : Fd) (object : ObjectEntry) (row other : List Value) : Typ
 -- no two of these rows break the dependency through the object
 abbrev pub HoldsOn : Fd → ObjectEntry → List (List Value) → Type 0
 HoldsOn fd object rows = (row other : List Value) → Contains rows row → Contains rows other → ¬ Break fd object row other
-
--- not after the other in the order of rows
-abbrev pub IsAtMost : List Value → List Value → Type 0
-IsAtMost row other = compare_lists row other ≢ Greater

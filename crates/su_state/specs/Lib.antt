@@ -4,8 +4,10 @@ pub mod Definitions
 pub mod AdmissibleRows
 pub mod inside
 pub mod Loads
+pub mod MoreThan
 pub mod Views
 pub mod Breaches
 pub mod RowChanges
 pub mod Enforced
-pub mod Breaks
+pub mod NewBreaches
+pub mod UnfitRows

@@ -5,7 +5,8 @@ use Rattle.su_base.specs.declared.values.Value.{Value}
 use Rattle.su_state.specs.declared.faults.StateFault.{StateFault}
 use Rattle.su_state.specs.declared.faults.StateFault.TheVariants.{UnknownRelation, Width, Kind, Breaks, Limit, NoMemory}
 use Rattle.su_state.specs.DatabaseValue.{DatabaseValue, rows_of, columns_of, HasColumnKinds}
-use Rattle.su_state.specs.Breaches.{IsUnfit, IsFirstBreach, NoBreach}
+use Rattle.su_state.specs.UnfitRows.{IsUnfit}
+use Rattle.su_state.specs.Breaches.{Breach, IsFirstOf, IsBreachBy}
 use Rattle.su_state.specs.Changes.{Added, Removed}
 
 -- what an insert of a row answers
@@ -14,12 +15,12 @@ InsertAnswers db relation row (Err (Width r given)) = IsUnfit relation (columns_
 InsertAnswers db relation row (Err (Kind r column)) = IsUnfit relation (columns_of db relation) row (Kind r column)
 InsertAnswers db relation row (Ok false) = HasColumnKinds (columns_of db relation) row × Contains (rows_of db relation) row
 InsertAnswers db relation row (Err (Breaks r fd object other)) =
-    HasColumnKinds (columns_of db relation) row × (¬ Contains (rows_of db relation) row) × IsFirstBreach db.schema relation (rows_of db relation) row fd object other × (r ≡ relation)
+    HasColumnKinds (columns_of db relation) row × (¬ Contains (rows_of db relation) row) × IsFirstOf (IsBreachBy db relation row) (record { dependency = fd; object = object; first = row; second = other }) × (r ≡ relation)
 InsertAnswers db relation row (Err (Limit r)) =
-    HasColumnKinds (columns_of db relation) row × (¬ Contains (rows_of db relation) row) × NoBreach db.schema relation (rows_of db relation) row × (1000000 ≤ length (rows_of db relation)) × (r ≡ relation)
+    HasColumnKinds (columns_of db relation) row × (¬ Contains (rows_of db relation) row) × ((b : Breach) → ¬ IsBreachBy db relation row b) × (1000000 ≤ length (rows_of db relation)) × (r ≡ relation)
 InsertAnswers db relation row (Ok true) =
-    HasColumnKinds (columns_of db relation) row × (¬ Contains (rows_of db relation) row) × NoBreach db.schema relation (rows_of db relation) row × (length (rows_of db relation) < 1000000)
-InsertAnswers db relation row (Err NoMemory) = Unit {0}
+    HasColumnKinds (columns_of db relation) row × (¬ Contains (rows_of db relation) row) × ((b : Breach) → ¬ IsBreachBy db relation row b) × (length (rows_of db relation) < 1000000)
+InsertAnswers db relation row (Err NoMemory) = ⊥
 InsertAnswers db relation row (Err (UnknownRelation name)) = ⊥
 
 -- an insert of a row, its answer and the database after it: as before, unless the row is new and not refused

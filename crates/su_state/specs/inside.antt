@@ -1,5 +1,7 @@
 -- Definitions that only contracts of private functions need.
 pub mod AddedDefinitions
+pub mod AddedBreaks
+pub mod RowBreaks
 pub mod LoadEnds
 pub mod Leads
 pub mod Pairs

@@ -1,5 +1,5 @@
 //! Inserts and deletes of single rows.
-ghost use Rattle.std.specs.Prelude.{◌≡◌, ◌<◌, length};
+ghost use Rattle.std.specs.Prelude.{◌≡◌, ◌⊎◌, ◌<◌, length, IfOk, IfErr, OnErr};
 ghost use Rattle.su_state.specs.RowChanges.{InsertAnswers, Inserts, Deletes};
 
 use crate::breaches::first_breach;
@@ -15,7 +15,8 @@ impl Database {
     /// What an insert of the row answers.
     fn insert_answer(&self, relation: u8, row: &Row) -> Result<bool, StateFault>
         requires { relation < length self.now.schema.relations }
-        ensures { InsertAnswers self.now relation row.now result }
+        ensures answer { IfOk result (λ is_new. InsertAnswers self.now relation row.now (Ok is_new)) }
+        ensures refused { IfErr result (λ fault. (fault ≡ StateFault.NoMemory) ⊎ InsertAnswers self.now relation row.now (Err fault)) }
     {
         self.schema.keeps_its_rules();
         check_row(relation, self.schema.columns(relation), row)?;
@@ -44,7 +45,9 @@ impl Database {
     /// where it breaks the dependency. The first insert after a load notes all rows.
     pub fn insert(&mut self, relation: u8, row: Row) -> Result<bool, StateFault>
         requires { relation < length self.old.schema.relations }
-        ensures { Inserts self.old relation row result self.new }
+        ensures done { IfOk result (λ is_new. Inserts self.old relation row (Ok is_new) self.new) }
+        ensures refused { IfErr result (λ fault. (fault ≡ StateFault.NoMemory) ⊎ Inserts self.old relation row (Err fault) self.new) }
+        ensures unchanged { OnErr result (self.new ≡ self.old) }
     {
         if !self.insert_answer(relation, &row)? {
             return Ok(false);

@@ -2,7 +2,7 @@
 ghost use Rattle.std.specs.Prelude.{◌≡◌, ◌≤◌, ◌↔◌, length, IsTrue, OnOk, IfErr};
 ghost use Rattle.su_base.specs.Value.{kind_of};
 ghost use Rattle.su_state.specs.DatabaseValue.{HasColumnKinds};
-ghost use Rattle.su_state.specs.Breaches.{IsUnfit};
+ghost use Rattle.su_state.specs.UnfitRows.{IsUnfit};
 
 use crate::faults::StateFault;
 use su_base::{Column, Kind, Row, Value};

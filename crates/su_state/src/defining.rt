@@ -1,8 +1,8 @@
 //! Definitions in a database.
-ghost use Rattle.std.specs.Prelude.{◌≡◌, ◌<◌, ℕ, length, IfOk, OnOk, IfErr, OnErr};
+ghost use Rattle.std.specs.Prelude.{◌≡◌, ◌⊎◌, ◌<◌, ℕ, length, IfOk, OnOk, IfErr, OnErr};
 ghost use Rattle.su_schema.specs.Definitions.{IsDefinitionRefusal, applied};
 ghost use Rattle.su_schema.specs.WellNamed.{IsWellNamed};
-ghost use Rattle.su_state.specs.Breaks.{HoldsThrough};
+ghost use Rattle.su_state.specs.inside.AddedBreaks.{HoldsThrough};
 ghost use Rattle.su_state.specs.Definitions.{Defines, tables_with};
 ghost use Rattle.su_state.specs.inside.AddedDefinitions.{HaveTables, HasAdded, IsNarrow, AddedHolds, IsThroughFault, IsFdFault, IsObjectFault, IsAddedFault};
 
@@ -150,7 +150,9 @@ impl Database {
     fn take(&mut self, definition: &Definition, schema: Schema) -> Result<(), DefineFault>
         requires named { IsWellNamed definition.now }
         requires extended { applied self.old.schema definition.now ≡ Ok schema }
-        ensures { Defines self.old definition.now result self.new }
+        ensures done { IfOk result (λ done. Defines self.old definition.now (Ok done) self.new) }
+        ensures refused { IfErr result (λ fault. (fault ≡ DefineFault.NoMemory) ⊎ Defines self.old definition.now (Err fault) self.new) }
+        ensures unchanged { OnErr result (self.new ≡ self.old) }
     {
         schema.keeps_its_rules();
         check_added(self.alloc, &schema, self.tables.as_slice(), definition)?;
@@ -167,7 +169,9 @@ impl Database {
     pub fn adopt(&mut self, definition: &Definition, schema: Schema) -> Result<(), DefineFault>
         requires named { IsWellNamed definition.now }
         requires extended { applied self.old.schema definition.now ≡ Ok schema }
-        ensures { Defines self.old definition.now result self.new }
+        ensures done { IfOk result (λ done. Defines self.old definition.now (Ok done) self.new) }
+        ensures refused { IfErr result (λ fault. (fault ≡ DefineFault.NoMemory) ⊎ Defines self.old definition.now (Err fault) self.new) }
+        ensures unchanged { OnErr result (self.new ≡ self.old) }
     {
         self.take(definition, schema)?;
         self.note_sides();
@@ -177,7 +181,9 @@ impl Database {
     /// `extended` of its schema, and then `adopt`.
     pub fn define(&mut self, definition: &Definition) -> Result<(), DefineFault>
         requires { IsWellNamed definition.now }
-        ensures { Defines self.old definition.now result self.new }
+        ensures done { IfOk result (λ done. Defines self.old definition.now (Ok done) self.new) }
+        ensures refused { IfErr result (λ fault. (fault ≡ DefineFault.NoMemory) ⊎ Defines self.old definition.now (Err fault) self.new) }
+        ensures unchanged { OnErr result (self.new ≡ self.old) }
     {
         match extended(&self.schema, definition) {
             Ok(schema) => self.adopt(definition, schema),

@@ -4,7 +4,7 @@ ghost use Rattle.std.specs.Bool.{OnTrue};
 ghost use Rattle.su_rel.specs.Stored.{HaveWidth};
 ghost use Rattle.su_schema.specs.Known.{columns_at};
 ghost use Rattle.su_state.specs.DatabaseValue.{HasColumnKinds, columns_of, rows_of};
-ghost use Rattle.su_state.specs.Breaches.{NoBreach};
+ghost use Rattle.su_state.specs.inside.RowBreaks.{BreaksNothing};
 ghost use Rattle.su_state.specs.inside.Parts.{HaveOneWidth};
 ghost use Rattle.su_state.specs.AdmissibleRows.{KeepThrough, MayTake};
 
@@ -104,7 +104,7 @@ fn none_breaks(schema: &Schema, table: &Table, relation: u8, rows: &[Row]) -> bo
     requires width { table.now.width ≡ length (columns_at schema.now relation) }
     requires rows { HaveWidth table.now.width rows.now }
     requires keeps { (f o : ℕ) → KeepThrough schema.now relation table.now.rows f o }
-    ensures { OnTrue result (All (NoBreach schema.now relation table.now.rows) rows.now) }
+    ensures { OnTrue result (All (BreaksNothing schema.now relation table.now.rows) rows.now) }
 {
     for row in rows {
         if first_breach(schema, table, relation, row).is_some() {

@@ -1,7 +1,7 @@
 //! Loads of many rows.
-ghost use Rattle.std.specs.Prelude.{◌<◌, length};
-ghost use Rattle.su_state.specs.Loads.{Loads, InsertsSome};
-ghost use Rattle.su_state.specs.inside.LoadEnds.{IsEnd};
+ghost use Rattle.std.specs.Prelude.{◌≡◌, ◌⊎◌, ◌<◌, length, IfOk, IfErr, OnErr};
+ghost use Rattle.su_state.specs.Loads.{Loads};
+ghost use Rattle.su_state.specs.inside.LoadEnds.{IsEnd, InsertsSome};
 ghost use Rattle.su_state.specs.AdmissibleRows.{MayTake};
 
 use crate::copies::copy_table;
@@ -43,7 +43,9 @@ impl Database {
     fn put_all(&mut self, relation: u8, rows: List<Row>) -> Result<u64, LoadEnd>
         requires relation { relation < length self.old.schema.relations }
         requires may { MayTake self.old relation rows }
-        ensures { Loads self.old relation rows result self.new }
+        ensures done { IfOk result (λ count. Loads self.old relation rows (Ok count) self.new) }
+        ensures refused { IfErr result (λ end. (end ≡ LoadEnd.NoMemory) ⊎ Loads self.old relation rows (Err end) self.new) }
+        ensures unchanged { OnErr result (self.new ≡ self.old) }
     {
         let new = self.tables[relation as usize].insert_all(rows)?;
         Ok(new as u64)
@@ -52,7 +54,9 @@ impl Database {
     /// Inserts the rows one after another into a copy of the table, which a refused row drops.
     pub(crate) fn load_each(&mut self, relation: u8, rows: List<Row>) -> Result<u64, LoadEnd>
         requires { relation < length self.old.schema.relations }
-        ensures { Loads self.old relation rows result self.new }
+        ensures done { IfOk result (λ count. Loads self.old relation rows (Ok count) self.new) }
+        ensures refused { IfErr result (λ end. (end ≡ LoadEnd.NoMemory) ⊎ Loads self.old relation rows (Err end) self.new) }
+        ensures unchanged { OnErr result (self.new ≡ self.old) }
     {
         let place = relation as usize;
         let copy = copy_table(self.alloc, &self.tables[place])?;
@@ -76,7 +80,9 @@ impl Database {
     /// were new.
     pub fn load(&mut self, relation: u8, rows: List<Row>) -> Result<u64, LoadEnd>
         requires { relation < length self.old.schema.relations }
-        ensures { Loads self.old relation rows result self.new }
+        ensures done { IfOk result (λ count. Loads self.old relation rows (Ok count) self.new) }
+        ensures refused { IfErr result (λ end. (end ≡ LoadEnd.NoMemory) ⊎ Loads self.old relation rows (Err end) self.new) }
+        ensures unchanged { OnErr result (self.new ≡ self.old) }
     {
         if self.may_take(relation, rows.as_slice())? {
             self.put_all(relation, rows)

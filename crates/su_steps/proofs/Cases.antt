@@ -15,10 +15,11 @@ use Rattle.su_query.specs.Sets.{mentioned_with}
 use Rattle.su_steps.specs.declared.results.Term.{Term}
 use Rattle.su_steps.specs.Objects.{covers}
 use Rattle.su_steps.specs.Choices.{coverings_of, coverings, choices, origin, origins_of}
-use Rattle.su_steps.specs.Cases.{Case, GivesNone, Gives}
-use Rattle.su_steps.specs.Terms.{case_of, AreTermsOf}
+use Rattle.su_steps.specs.Cases.{Case, Gives}
+use Rattle.su_steps.specs.Terms.{case_of}
 use Rattle.su_steps.specs.Limits.{row_count, disjunct_count, HasFewTerms}
 use Rattle.su_steps.specs.inside.Ready.{FitOrigins, IsShown, IsChoice}
+use Rattle.su_steps.specs.inside.Outs.{GivesNone, AreTermsOf}
 use Rattle.su_steps.proofs.ResolvedQueries.{of_range, place_in}
 use Rattle.su_steps.proofs.Chosen.{coverings_count, choice_of, origin_in, place_object, has_origin}
 use Rattle.su_steps.proofs.TermsSoFar.{choice_push, choice_pass}

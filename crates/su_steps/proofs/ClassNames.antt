@@ -24,7 +24,8 @@ use Rattle.su_steps.specs.Objects.{width, attributes_at}
 use Rattle.su_steps.specs.Expression.{Agree, Meets}
 use Rattle.su_steps.specs.Choices.{origins_from}
 use Rattle.su_steps.specs.PairSymbols.{SymbolComparison}
-use Rattle.su_steps.specs.Classes.{IsClosedForCase, InClass, IsNaming}
+use Rattle.su_classes.specs.ClassNames.{InClass, IsNaming}
+use Rattle.su_steps.specs.Classes.{IsClosedForCase}
 use Rattle.su_steps.specs.Evaluated.{is_evaluated, outcome, left_over, sides, EvaluatesFalse}
 use Rattle.su_steps.specs.Cases.{IsContradictory}
 use Rattle.su_steps.proofs.Lists.{all_at, all_by, all_map, all_of_map, all_weaker}
@@ -103,7 +104,7 @@ module _ (schema : SchemaValue) (universe : List (List Value)) (choice : List (L
           ap Const (sym (r.2 a (Int (pos 0)) (fit o.object a or') or') ∙ right ∙ s.2 a (Int (pos 0)) (fit q.object a qr) qr);
     }
 
-    one_value : (x y : Sym) → InClass schema os d x y → value_of w x ≡ value_of w y
+    one_value : (x y : Sym) → InClass (IsClosedForCase schema os d) x y → value_of w x ≡ value_of w y
     one_value x y c = const_same (value_of w x) (value_of w y) (c (by_value w) values_closed)
 
 -- ---- the head's compared values
@@ -156,7 +157,7 @@ all_true w v name e (c ∷ cs) g h =
 
 -- ---- the law
 
-module _ (schema : SchemaValue) (universe : List (List Value)) (choice : List (List ℕ)) (outputs : List Sym) (d : List SymbolComparison) (name : Sym → Sym) (naming : IsNaming schema (origins_from 0 choice) d name) (h : List Value) where
+module _ (schema : SchemaValue) (universe : List (List Value)) (choice : List (List ℕ)) (outputs : List Sym) (d : List SymbolComparison) (name : Sym → Sym) (naming : IsNaming (IsClosedForCase schema (origins_from 0 choice) d) name) (h : List Value) where
   abbrev raws : List (List Sym)
   raws = raw_rows schema (length choice * width schema) (origins_from 0 choice)
 
@@ -184,7 +185,7 @@ module _ (schema : SchemaValue) (universe : List (List Value)) (choice : List (L
       let w = r.valuation in
       let same = one_value schema universe choice d meets fit w r.sends r.holds in
       ⊎_elim
-      (λ (b : (a : Value) × (c : Value) × (a ≢ c) × InClass schema (origins_from 0 choice) d (Const a) (Const c)). b.2 (same (Const b.0) (Const b.1) b.3))
+      (λ (b : (a : Value) × (c : Value) × (a ≢ c) × InClass (IsClosedForCase schema (origins_from 0 choice) d) (Const a) (Const c)). b.2 (same (Const b.0) (Const b.1) b.3))
       (λ (b : (c : SymbolComparison) × Contains d c × EvaluatesFalse name c).
       let c = b.0 in
       let t = all_at (λ c. compares c.op (value_of w c.left) (value_of w c.right) ≡ true) d c r.holds b.1 in
@@ -198,7 +199,7 @@ module _ (schema : SchemaValue) (universe : List (List Value)) (choice : List (L
     named_const a (Const b) e =
         ⊎_elim
         (λ (s : a ≡ b). ap Const (sym s))
-        (λ (o : a ≢ b). absurd (fine (inl (a, b, o, subst (InClass schema (origins_from 0 choice) d (Const a)) e (naming.member (Const a))))))
+        (λ (o : a ≢ b). absurd (fine (inl (a, b, o, subst (InClass (IsClosedForCase schema (origins_from 0 choice) d) (Const a)) e (naming.member (Const a))))))
         (same_or a b)
     named_const a (Var p) e = absurd (naming.least (Const a) p e (Const a) (λ label closed. refl))
 

@@ -25,7 +25,8 @@ use Rattle.su_steps.specs.declared.results.Origin.{Origin}
 use Rattle.su_fd.specs.MetDependencies.{LiesIn}
 use Rattle.su_steps.specs.Objects.{width, attributes_at}
 use Rattle.su_steps.specs.PairSymbols.{SymbolComparison, pair}
-use Rattle.su_steps.specs.Classes.{SameLabels, IsClosedForCase, InClass, IsNaming}
+use Rattle.su_classes.specs.ClassNames.{InClass, IsNaming}
+use Rattle.su_steps.specs.Classes.{SameLabels, IsClosedForCase}
 use Rattle.su_steps.specs.Evaluated.{EvaluatesFalse}
 use Rattle.su_steps.specs.Cases.{IsContradictory}
 use Rattle.su_steps.specs.inside.Numbers.{is_equality, equals, placed_of}
@@ -191,21 +192,21 @@ module _ (schema : SchemaValue) (vs : List Value) (limit : ℕ) (os : List Origi
           one_name (at o a) (at q a) (at_known o co a l) (at_known q cq a l) (ap (rep table) (sym (cell_is o a l)) ∙ right ∙ ap (rep table) (cell_is q a l));
     }
 
-    pub names : IsNaming schema os d name
+    pub names : IsNaming (IsClosedForCase schema os d) name
     names = table_names (IsClosedForCase schema os d) schema.fds rows (equals vs d) (length vs) table (is_known vs limit) (symbol_number vs) (symbol_at vs) numbers least labels_kept names_closed
 
     -- a constant whose item has another constant's for its representative is in the other's class
-    pub clash_class : (i : ℕ) → i < length table → (a b : Value) → symbol_at vs i ≡ Const a → symbol_at vs (rep table i) ≡ Const b → InClass schema os d (Const a) (Const b)
+    pub clash_class : (i : ℕ) → i < length table → (a b : Value) → symbol_at vs i ≡ Const a → symbol_at vs (rep table i) ≡ Const b → InClass (IsClosedForCase schema os d) (Const a) (Const b)
     clash_class i l a b ea eb label p =
         ap label (sym ea) ∙ item_class (IsClosedForCase schema os d) schema.fds rows (equals vs d) (length vs) table (is_known vs limit) (symbol_number vs) (symbol_at vs) numbers least labels_kept i l label p ∙ ap label eb
 
 -- ---- contradictions
 
-module _ (schema : SchemaValue) (os : List Origin) (d : List SymbolComparison) (name : Sym → Sym) (naming : IsNaming schema os d name) where
+module _ (schema : SchemaValue) (os : List Origin) (d : List SymbolComparison) (name : Sym → Sym) (naming : IsNaming (IsClosedForCase schema os d) name) where
   -- two constants with different names of their own are in different classes
   pub no_clash : ((a : Value) → name (Const a) ≡ Const a) → ((c : SymbolComparison) → Contains d c → ¬ EvaluatesFalse name c) → ¬ IsContradictory schema os d name
   no_clash own none bad =
       ⊎_elim
-      (λ (b : (a : Value) × (c : Value) × (a ≢ c) × InClass schema os d (Const a) (Const c)). b.2 (const_same b.0 b.1 (sym (own b.0) ∙ naming.one_name (Const b.0) (Const b.1) b.3 ∙ own b.1)))
+      (λ (b : (a : Value) × (c : Value) × (a ≢ c) × InClass (IsClosedForCase schema os d) (Const a) (Const c)). b.2 (const_same b.0 b.1 (sym (own b.0) ∙ naming.one_name (Const b.0) (Const b.1) b.3 ∙ own b.1)))
       (λ (b : (c : SymbolComparison) × Contains d c × EvaluatesFalse name c). none b.0 b.1 b.2)
       bad

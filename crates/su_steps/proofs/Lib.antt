@@ -15,6 +15,7 @@ pub mod ChoiceCounts
 pub mod ConstantNames
 pub mod ItemLabels
 pub mod TermsSoFar
+pub mod Outs
 pub mod Whole
 pub mod Equal
 pub mod Made

@@ -19,12 +19,14 @@ use Rattle.su_steps.specs.declared.results.Term.{Term}
 use Rattle.su_steps.specs.Objects.{width, attributes_at}
 use Rattle.su_steps.specs.Choices.{origins_of}
 use Rattle.su_steps.specs.PairSymbols.{SymbolComparison, pair, place_symbol}
-use Rattle.su_steps.specs.Classes.{IsNaming}
+use Rattle.su_classes.specs.ClassNames.{IsNaming}
+use Rattle.su_steps.specs.Classes.{IsClosedForCase}
 use Rattle.su_steps.specs.Evaluated.{left_over, sides}
 use Rattle.su_steps.specs.CaseTableaux.{cell_of, origin_row, rows_of, tableau_of}
-use Rattle.su_steps.specs.Cases.{Case, comparisons_of, GivesNone, Gives}
-use Rattle.su_steps.specs.Terms.{cases, AreTermsOf, AreTerms}
+use Rattle.su_steps.specs.Cases.{Case, comparisons_of, Gives}
+use Rattle.su_steps.specs.Terms.{cases, AreTerms}
 use Rattle.su_steps.specs.Sources.{IsSource}
+use Rattle.su_steps.specs.inside.Outs.{GivesNone, AreTermsOf}
 use Rattle.std.specs.List.{AllByRecursion}
 use Rattle.su_base.proofs.Items.{Contains-cases, Contains-nil, Contains-map_source, get_or-map_range}
 use Rattle.su_schema.specs.Valid as schemas
@@ -36,10 +38,11 @@ use Rattle.su_steps.proofs.Chosen.{origin_in, pairs_below}
 use Rattle.su_steps.proofs.Union.{IsCase, of_cases}
 use Rattle.su_steps.proofs.Shape.{AreBelow, IsPairBelow}
 use Rattle.su_steps.proofs.Valid.{length-rows, of_sides}
+use Rattle.su_steps.proofs.Outs.{terms_of}
 
 -- ---- symbols of classes
 
-module _ (schema : SchemaValue) (os : List Origin) (d : List SymbolComparison) (name : Sym → Sym) (limit : ℕ) (naming : IsNaming schema os d name) where
+module _ (schema : SchemaValue) (os : List Origin) (d : List SymbolComparison) (name : Sym → Sym) (limit : ℕ) (naming : IsNaming (IsClosedForCase schema os d) name) where
   -- the name of a pair is no own symbol
   named_low : (y : Sym) (k : ℕ) → IsPairBelow limit y → name y ≡ Var k → k < limit
   named_low (Const c) k low e = absurd (naming.least (Const c) k e (Const c) (λ label closed. refl))
@@ -193,4 +196,4 @@ module _ (schema : SchemaValue) (maximal : List (FinSet nat_cmp)) (q : Resolved)
       terms
 
   pub rows_have_sources : (ts : List Term) → AreTerms schema maximal q ts → (t : Term) (m i : ℕ) → Contains ts t → i < length t.tableau.rows → (o : ℕ) × IsSource schema t.tableau m i o
-  rows_have_sources ts terms t m i c l = terms_have (cases schema maximal q) ts (all_by (IsCase schema maximal q resolved (within schema valid)) (cases schema maximal q) (of_cases schema maximal q resolved (within schema valid))) terms t m i c l
+  rows_have_sources ts terms t m i c l = terms_have (cases schema maximal q) ts (all_by (IsCase schema maximal q resolved (within schema valid)) (cases schema maximal q) (of_cases schema maximal q resolved (within schema valid))) (terms_of schema maximal q ts terms) t m i c l

@@ -22,7 +22,8 @@ use Rattle.su_query.specs.declared.resolving.Resolved.{Resolved}
 use Rattle.su_steps.specs.declared.results.Origin.{Origin}
 use Rattle.su_steps.specs.Objects.{width, attributes_at}
 use Rattle.su_steps.specs.PairSymbols.{SymbolComparison, pair}
-use Rattle.su_steps.specs.Classes.{IsClosedForCase, IsNaming}
+use Rattle.su_classes.specs.ClassNames.{IsNaming}
+use Rattle.su_steps.specs.Classes.{IsClosedForCase}
 use Rattle.su_steps.specs.CaseTableaux.{cell_of, origin_row, rows_of, tableau_of}
 use Rattle.su_steps.proofs.Cells.{itself, raw_rows}
 use Rattle.su_steps.proofs.Raw.{AreWithin}
@@ -56,7 +57,7 @@ pub record AreBelow (schema : SchemaValue) (limit : ℕ) (os : List Origin) (d :
   pub sides : (c : SymbolComparison) → Contains d c → IsPairBelow limit c.left × IsPairBelow limit c.right
   pub pairs : (o : Origin) (a : ℕ) → Contains os o → contains (attributes_at schema o.object) a ≡ true → o.variable * width schema + a < limit
 
-pub own_name : (schema : SchemaValue) (os : List Origin) (d : List SymbolComparison) (name : Sym → Sym) (limit p : ℕ) → IsNaming schema os d name → AreBelow schema limit os d → limit ≤ p → name (Var p) ≡ Var p
+pub own_name : (schema : SchemaValue) (os : List Origin) (d : List SymbolComparison) (name : Sym → Sym) (limit p : ℕ) → IsNaming (IsClosedForCase schema os d) name → AreBelow schema limit os d → limit ≤ p → name (Var p) ≡ Var p
 own_name schema os d name limit p naming below l =
     let closed : IsClosedForCase schema os d (marks p) = record {
       equalities = λ c has e. let s = below.sides c has in marks_low p limit l c.left s.0 ∙ sym (marks_low p limit l c.right s.1);
@@ -111,7 +112,7 @@ same_kind TextKind TextKind h = refl
 next : (own r n : ℕ) → own ≡ r * n → own + n ≡ suc r * n
 next own r n e = grind arith
 
-module _ (schema : SchemaValue) (os : List Origin) (d : List SymbolComparison) (name : Sym → Sym) (naming : IsNaming schema os d name) (fit : AreWithin schema) (one_kind : HaveOneKind schema d) where
+module _ (schema : SchemaValue) (os : List Origin) (d : List SymbolComparison) (name : Sym → Sym) (naming : IsNaming (IsClosedForCase schema os d) name) (fit : AreWithin schema) (one_kind : HaveOneKind schema d) where
   abbrev kind_by : Sym → Kind
   kind_by x = sym_kind (column_kind schema) x
 

@@ -26,7 +26,8 @@ use Rattle.su_steps.specs.declared.results.Origin.{Origin}
 use Rattle.su_steps.specs.declared.classes.Classes.{Classes}
 use Rattle.su_steps.specs.Objects.{width}
 use Rattle.su_steps.specs.PairSymbols.{SymbolComparison, pair, place_symbol, operand_symbol, compared, comparisons}
-use Rattle.su_steps.specs.Classes.{IsNaming}
+use Rattle.su_classes.specs.ClassNames.{IsNaming}
+use Rattle.su_steps.specs.Classes.{IsClosedForCase}
 use Rattle.su_steps.specs.CaseTableaux.{tableau_of}
 use Rattle.su_steps.specs.Cases.{HaveNone, HaveTableau}
 use Rattle.su_steps.specs.inside.Numbers.{IsNoted, AreNoted, equals, placed_of, class_name, AreClasses}
@@ -133,7 +134,7 @@ module _ (schema : SchemaValue) (q : Resolved) (ls : List Literal) (os : List Or
     least : IsLeastTable schema.fds (map (placed_of schema c.constants) os) (equals c.constants d) c.table.items
     least = subst (λ e. IsLeastTable schema.fds (map (placed_of schema c.constants) os) e c.table.items) ready.equal closed.least
 
-    pub naming : IsNaming schema os d name
+    pub naming : IsNaming (IsClosedForCase schema os d) name
     naming = names schema c.constants edge os d (numbered ready) c.table.items ready.size least
 
     pub none_by_clash : ((i : ℕ) × (i < length c.constants) × (rep c.table.items i < i)) → HaveNone schema os d

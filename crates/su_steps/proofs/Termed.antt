@@ -13,9 +13,10 @@ use Rattle.su_steps.specs.Objects.{width}
 use Rattle.su_steps.specs.Choices.{origins_of}
 use Rattle.su_steps.specs.PairSymbols.{comparisons}
 use Rattle.su_steps.specs.Terms.{case_of}
-use Rattle.su_steps.specs.Cases.{HaveNone, HaveTableau, GivesNone, Gives}
+use Rattle.su_steps.specs.Cases.{HaveNone, HaveTableau, Gives}
 use Rattle.su_steps.specs.Limits.{row_count}
 use Rattle.su_steps.specs.inside.Ready.{FitOrigins, IsShown, IsChoice}
+use Rattle.su_steps.specs.inside.Outs.{GivesNone}
 use Rattle.su_steps.proofs.Cases.{fit_origins, shown_rows}
 
 module _ (schema : SchemaValue) (maximal : List (FinSet nat_cmp)) (q : Resolved) (choice : List ℕ) (os : List Origin) (is : os ≡ origins_of schema maximal choice) where

@@ -10,8 +10,9 @@ use Rattle.su_schema.specs.SchemaValue.{SchemaValue}
 use Rattle.su_query.specs.declared.resolving.Resolved.{Resolved}
 use Rattle.su_steps.specs.declared.results.Term.{Term}
 use Rattle.su_steps.specs.Choices.{choices}
-use Rattle.su_steps.specs.Cases.{Case, GivesNone, Gives}
-use Rattle.su_steps.specs.Terms.{case_of, AreTermsOf}
+use Rattle.su_steps.specs.Cases.{Case, Gives}
+use Rattle.su_steps.specs.Terms.{case_of}
+use Rattle.su_steps.specs.inside.Outs.{GivesNone, AreTermsOf}
 
 module _ (schema : SchemaValue) (maximal : List (FinSet nat_cmp)) (q : Resolved) where
   abbrev Are : List Case → List Term → Type 0

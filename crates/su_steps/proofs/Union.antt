@@ -36,9 +36,10 @@ use Rattle.su_steps.specs.Choices.{choices, chosen_objects, origins_of}
 use Rattle.su_steps.specs.PairSymbols.{SymbolComparison, place_symbol, operand_symbol, comparisons}
 use Rattle.su_steps.specs.Evaluated.{left_over, sides}
 use Rattle.su_steps.specs.CaseTableaux.{rows_of, tableau_of}
-use Rattle.su_steps.specs.Cases.{HaveTableau, Case, comparisons_of, GivesNone, Gives}
-use Rattle.su_steps.specs.Terms.{case_of, cases, AreTermsOf, AreTerms, InUnion}
+use Rattle.su_steps.specs.Cases.{HaveTableau, Case, comparisons_of, Gives}
+use Rattle.su_steps.specs.Terms.{case_of, cases, AreTerms, InUnion}
 use Rattle.su_steps.specs.inside.Ready.{IsChoice}
+use Rattle.su_steps.specs.inside.Outs.{GivesNone, AreTermsOf}
 use Rattle.su_steps.proofs.Lists.{all_at, all_by}
 use Rattle.su_steps.proofs.Cells.{raw_rows}
 use Rattle.su_steps.proofs.Raw.{AreWithin, AllTrue, pair_value, InLists, RawAnswer}
@@ -49,6 +50,7 @@ use Rattle.su_steps.proofs.Shape.{own_name, rows_named, tableau_typed}
 use Rattle.su_steps.proofs.Valid.{head_length}
 use Rattle.su_steps.proofs.ResolvedQueries.{of_range, in_range, in_objects, of_objects, no_place, place_at, place_in, literals_fit, one_kind}
 use Rattle.su_steps.proofs.Chosen.{pick, choice_of, of_choice, objects_count, objects_at, shown, pairs_below}
+use Rattle.su_steps.proofs.Outs.{terms_of}
 
 module _ (schema : SchemaValue) (maximal : List (FinSet nat_cmp)) (q : Resolved) (resolved : IsResolved schema q) (fit : AreWithin schema) where
   abbrev n : ℕ
@@ -270,14 +272,14 @@ module _ (schema : SchemaValue) (maximal : List (FinSet nat_cmp)) (q : Resolved)
       pub union_law : Meets schema.fds universe → (ts : List Term) → AreTerms schema maximal q ts → (InUnion ts universe h ↔ InExpression schema maximal q (cuts schema universe) h)
       union_law meets ts terms = (
         λ u.
-            let w = union_from (cases schema maximal q) ts all_cases terms u in
+            let w = union_from (cases schema maximal q) ts all_cases (terms_of schema maximal q ts terms) u in
             let is = of_cases w.0 w.1 in
             let fits = literals_fit schema q resolved w.0.disjunct is.disjunct_in in
             from_lists w.0 is ((choice_law schema universe (chosen_objects schema maximal w.0.choice) outputs (comparisons_of schema q w.0.disjunct) h typed fit (shown schema maximal q w.0.choice is.is_choice resolved fit _ fits)).0 w.2),
         λ e.
             let f = to_lists e in
             let fits = literals_fit schema q resolved f.case.disjunct f.is.disjunct_in in
-            union_to meets (cases schema maximal q) ts all_cases terms f.case (in_cases f.case.disjunct f.case.choice f.is.disjunct_in f.is.is_choice)
+            union_to meets (cases schema maximal q) ts all_cases (terms_of schema maximal q ts terms) f.case (in_cases f.case.disjunct f.case.choice f.is.disjunct_in f.is.is_choice)
             ((choice_law schema universe (chosen_objects schema maximal f.case.choice) outputs (comparisons_of schema q f.case.disjunct) h typed fit (shown schema maximal q f.case.choice f.is.is_choice resolved fit _ fits)).1 f.lists),
       )
 

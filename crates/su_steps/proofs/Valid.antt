@@ -15,7 +15,8 @@ use Rattle.su_query.specs.declared.resolving.Resolved.{Resolved}
 use Rattle.su_steps.specs.declared.results.Origin.{Origin}
 use Rattle.su_steps.specs.Objects.{width, attributes_at}
 use Rattle.su_steps.specs.PairSymbols.{SymbolComparison, pair, place_symbol}
-use Rattle.su_steps.specs.Classes.{IsNaming}
+use Rattle.su_classes.specs.ClassNames.{IsNaming}
+use Rattle.su_steps.specs.Classes.{IsClosedForCase}
 use Rattle.su_steps.specs.Evaluated.{is_evaluated, left_over, sides}
 use Rattle.su_steps.specs.CaseTableaux.{cell_of, origin_row, rows_of, tableau_of}
 use Rattle.su_steps.proofs.Raw.{AreWithin}
@@ -92,7 +93,7 @@ abbrev pub Stands : SchemaValue → List Origin → Sym → Type 0
 Stands schema os (Const c) = Unit {0}
 Stands schema os (Var k) = StandsIn schema os k
 
-module _ (schema : SchemaValue) (q : Resolved) (os : List Origin) (d : List SymbolComparison) (name : Sym → Sym) (naming : IsNaming schema os d name) (fit : AreWithin schema)
+module _ (schema : SchemaValue) (q : Resolved) (os : List Origin) (d : List SymbolComparison) (name : Sym → Sym) (naming : IsNaming (IsClosedForCase schema os d) name) (fit : AreWithin schema)
     (outputs : (i : ℕ) → Contains q.outputs i → Stands schema os (place_symbol (width schema) q.places i))
     (side : (c : SymbolComparison) → Contains d c → Stands schema os c.left × Stands schema os c.right) where
   abbrev rows : List (List Sym)

@@ -13,14 +13,16 @@ use Rattle.su_query.specs.declared.resolving.Resolved.{Resolved}
 use Rattle.su_query.specs.Ranges.{IsResolved}
 use Rattle.su_steps.specs.declared.results.Term.{Term}
 use Rattle.su_steps.specs.Choices.{origins_of}
-use Rattle.su_steps.specs.Cases.{Case, comparisons_of, GivesNone, Gives}
-use Rattle.su_steps.specs.Terms.{cases, AreTermsOf, AreTerms}
+use Rattle.su_steps.specs.Cases.{Case, comparisons_of, Gives}
+use Rattle.su_steps.specs.Terms.{cases, AreTerms}
+use Rattle.su_steps.specs.inside.Outs.{GivesNone, AreTermsOf}
 use Rattle.su_steps.proofs.Lists.{all_by}
 use Rattle.su_steps.proofs.ResolvedQueries.{within, literals_fit}
 use Rattle.su_steps.proofs.Cases.{shown_rows}
 use Rattle.su_steps.proofs.Tabled.{outputs_stand, sides_stand}
 use Rattle.su_steps.proofs.Union.{IsCase, of_cases}
 use Rattle.su_steps.proofs.Valid.{tableau_valid}
+use Rattle.su_steps.proofs.Outs.{terms_of}
 
 module _ (schema : SchemaValue) (maximal : List (FinSet nat_cmp)) (q : Resolved) (valid : schemas.IsValid schema) (resolved : IsResolved schema q) where
   abbrev HasValid : Term → Type 0
@@ -48,4 +50,4 @@ module _ (schema : SchemaValue) (maximal : List (FinSet nat_cmp)) (q : Resolved)
   pub all_valid : (ts : List Term) → AreTerms schema maximal q ts → All HasValid ts
   all_valid ts terms =
       All-from_recursion HasValid ts
-      (valid_of (cases schema maximal q) ts (all_by (IsCase schema maximal q resolved (within schema valid)) (cases schema maximal q) (of_cases schema maximal q resolved (within schema valid))) terms)
+      (valid_of (cases schema maximal q) ts (all_by (IsCase schema maximal q resolved (within schema valid)) (cases schema maximal q) (of_cases schema maximal q resolved (within schema valid))) (terms_of schema maximal q ts terms))

@@ -17,6 +17,7 @@ use Rattle.su_steps.specs.Terms.{cases, AreTerms, InUnion}
 use Rattle.su_steps.proofs.Lists.{all_by}
 use Rattle.su_steps.proofs.ResolvedQueries.{within}
 use Rattle.su_steps.proofs.Union.{IsCase, of_cases, union_law, typed_of}
+use Rattle.su_steps.proofs.Outs.{terms_of}
 
 module _ (schema : SchemaValue) (maximal : List (FinSet nat_cmp)) (q : Resolved) (valid : IsValid schema) (resolved : IsResolved schema q) (ts : List Term) (terms : AreTerms schema maximal q ts) where
   pub whole : (universe : List (List Value)) (h : List Value) → IsUniverse (attribute_kinds schema) universe → Meets schema.fds universe → (InUnion ts universe h ↔ InExpression schema maximal q (cuts schema universe) h)
@@ -25,4 +26,4 @@ module _ (schema : SchemaValue) (maximal : List (FinSet nat_cmp)) (q : Resolved)
   pub all_typed : All (λ (t : Term). IsTyped (attribute_kinds schema) t.tableau) ts
   all_typed =
       All-from_recursion (λ (t : Term). IsTyped (attribute_kinds schema) t.tableau) ts
-      (typed_of schema maximal q resolved (within schema valid) (cases schema maximal q) ts (all_by (IsCase schema maximal q resolved (within schema valid)) (cases schema maximal q) (of_cases schema maximal q resolved (within schema valid))) terms)
+      (typed_of schema maximal q resolved (within schema valid) (cases schema maximal q) ts (all_by (IsCase schema maximal q resolved (within schema valid)) (cases schema maximal q) (of_cases schema maximal q resolved (within schema valid))) (terms_of schema maximal q ts terms))

@@ -1,6 +1,6 @@
 -- What a case gives: no term, or a tableau closed under the dependencies.
--- case: a disjunct, by its number, and a choice
-use Rattle.std.specs.Prelude.{◌≡◌, ◌≢◌, ◌⊎◌, ℕ, List, [], get_or, Contains}
+-- case: a disjunct, by its number, and a choice; its out is a term, or none
+use Rattle.std.specs.Prelude.{◌≡◌, ◌≢◌, ◌⊎◌, ℕ, List, [], get_or, Contains, Option, Some, None}
 use Rattle.std.specs.Ordering.{nat_cmp}
 use Rattle.std.specs.FinSet.{FinSet}
 use Rattle.su_base.specs.declared.values.Value.{Value}
@@ -15,7 +15,8 @@ use Rattle.su_steps.specs.declared.results.Term.{Term}
 use Rattle.su_steps.specs.Objects.{width}
 use Rattle.su_steps.specs.Choices.{origins_of}
 use Rattle.su_steps.specs.PairSymbols.{SymbolComparison, comparisons}
-use Rattle.su_steps.specs.Classes.{InClass, IsNaming}
+use Rattle.su_classes.specs.ClassNames.{InClass, IsNaming}
+use Rattle.su_steps.specs.Classes.{IsClosedForCase}
 use Rattle.su_steps.specs.Evaluated.{EvaluatesFalse}
 use Rattle.su_steps.specs.CaseTableaux.{tableau_of}
 
@@ -30,24 +31,20 @@ comparisons_of schema q i = comparisons (width schema) q.places (get_or (disjunc
 
 -- two different constants are in one class, or a comparison is evaluated and false
 abbrev pub IsContradictory : SchemaValue → List Origin → List SymbolComparison → (Sym → Sym) → Type 0
-IsContradictory schema os d name = ((a : Value) × (b : Value) × (a ≢ b) × InClass schema os d (Const a) (Const b)) ⊎ ((c : SymbolComparison) × Contains d c × EvaluatesFalse name c)
+IsContradictory schema os d name = ((a : Value) × (b : Value) × (a ≢ b) × InClass (IsClosedForCase schema os d) (Const a) (Const b)) ⊎ ((c : SymbolComparison) × Contains d c × EvaluatesFalse name c)
 
 -- rows of these origins with these comparisons have no tableau
 pub record HaveNone (schema : SchemaValue) (os : List Origin) (d : List SymbolComparison) : Type 0 where
   pub name : Sym → Sym
-  pub naming : IsNaming schema os d name
+  pub naming : IsNaming (IsClosedForCase schema os d) name
   pub contradictory : IsContradictory schema os d name
 
 -- rows of these origins with these comparisons have the tableau t
 pub record HaveTableau (schema : SchemaValue) (q : Resolved) (os : List Origin) (d : List SymbolComparison) (t : Tab) : Type 0 where
   pub name : Sym → Sym
-  pub naming : IsNaming schema os d name
+  pub naming : IsNaming (IsClosedForCase schema os d) name
   pub consistent : ¬ IsContradictory schema os d name
   pub is : t ≡ tableau_of schema q name os d
-
--- the case gives no term
-abbrev pub GivesNone : SchemaValue → List (FinSet nat_cmp) → Resolved → Case → Type 0
-GivesNone schema maximal q case = HaveNone schema (origins_of schema maximal case.choice) (comparisons_of schema q case.disjunct)
 
 -- the case gives the term
 pub record Gives (schema : SchemaValue) (maximal : List (FinSet nat_cmp)) (q : Resolved) (case : Case) (t : Term) : Type 0 where
@@ -55,3 +52,8 @@ pub record Gives (schema : SchemaValue) (maximal : List (FinSet nat_cmp)) (q : R
   pub choice : t.choice ≡ case.choice
   pub origins : t.origins ≡ origins_of schema maximal case.choice
   pub tableau : HaveTableau schema q (origins_of schema maximal case.choice) (comparisons_of schema q case.disjunct) t.tableau
+
+-- what comes out of a case: no term, or one
+abbrev pub IsOutOf : SchemaValue → List (FinSet nat_cmp) → Resolved → Case → Option Term → Type 0
+IsOutOf schema maximal q case None = HaveNone schema (origins_of schema maximal case.choice) (comparisons_of schema q case.disjunct)
+IsOutOf schema maximal q case (Some t) = Gives schema maximal q case t

@@ -1,7 +1,7 @@
 -- Classes of pairs and constants.
 -- partition: a label for each symbol; symbols with one label are together
 -- closed: the sides of each equality are together, and rows that agree on a dependency's left side agree on its right side
--- class: symbols that every closed partition puts together; its name is its constant, or else its least pair
+-- Classes and names are those of su_classes, for partitions that are closed in this sense.
 use Rattle.std.specs.Prelude.{◌≡◌, ℕ, IsTrue, List, Contains}
 use Rattle.std.specs.Ordering.{nat_cmp}
 use Rattle.std.specs.FinSet.{FinSet, contains}
@@ -9,7 +9,6 @@ use Rattle.su_fd.specs.declared.dependencies.Fd.{Fd}
 use Rattle.su_where.specs.declared.operators.Op.TheVariants.{Equal}
 use Rattle.su_tableau.specs.declared.symbols.Sym.{Sym}
 use Rattle.su_tableau.specs.declared.symbols.Sym.TheVariants.{Var}
-use Rattle.su_classes.specs.ClassNames as naming
 use Rattle.su_schema.specs.SchemaValue.{SchemaValue}
 use Rattle.su_steps.specs.declared.results.Origin.{Origin}
 use Rattle.su_fd.specs.MetDependencies.{LiesIn}
@@ -25,11 +24,3 @@ pub record IsClosedForCase (schema : SchemaValue) (os : List Origin) (d : List S
   pub equalities : (c : SymbolComparison) → Contains d c → c.op ≡ Equal → label c.left ≡ label c.right
   pub dependencies : (f : Fd) (o p : Origin) → Contains schema.fds f → Contains os o → Contains os p → LiesIn f (attributes_at schema o.object) → LiesIn f (attributes_at schema p.object)
       → SameLabels (width schema) label f.left o.variable p.variable → SameLabels (width schema) label f.right o.variable p.variable
-
--- every closed partition puts x and y together
-abbrev pub InClass : SchemaValue → List Origin → List SymbolComparison → Sym → Sym → Type 0
-InClass schema os d x y = naming.InClass (IsClosedForCase schema os d) x y
-
--- the name of each symbol is a constant of its class or, where the class has none, its least variable
-abbrev pub IsNaming : SchemaValue → List Origin → List SymbolComparison → (Sym → Sym) → Type 0
-IsNaming schema os d name = naming.IsNaming (IsClosedForCase schema os d) name

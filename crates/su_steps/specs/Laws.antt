@@ -16,12 +16,16 @@ use Rattle.su_steps.specs.Expression.{Meets, cuts, InExpression}
 use Rattle.su_steps.specs.Terms.{AreTerms, InUnion}
 use Rattle.su_steps.specs.Sources.{IsSource}
 
--- the terms are the expression, over every universal relation that meets the dependencies
+-- the terms together have the lists of the expression, over every universal relation that meets the dependencies
+abbrev pub AreTheExpression : SchemaValue → List (FinSet nat_cmp) → Resolved → List Term → Type 0
+AreTheExpression schema maximal q ts = (universe : List (List Value)) (h : List Value) → IsUniverse (attribute_kinds schema) universe → Meets schema.fds universe
+    → (InUnion ts universe h ↔ InExpression schema maximal q (cuts schema universe) h)
+
+-- so are the terms of each query
 abbrev pub TermsAreTheExpression : Type 0
 TermsAreTheExpression =
     (schema : SchemaValue) (maximal : List (FinSet nat_cmp)) (q : Resolved) (ts : List Term) → IsValid schema → IsResolved schema q → AreTerms schema maximal q ts
-    → (universe : List (List Value)) (h : List Value) → IsUniverse (attribute_kinds schema) universe → Meets schema.fds universe
-    → (InUnion ts universe h ↔ InExpression schema maximal q (cuts schema universe) h)
+    → AreTheExpression schema maximal q ts
 
 -- each row of a term has a source, among whichever rows
 abbrev pub RowsHaveSources : Type 0

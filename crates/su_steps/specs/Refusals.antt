@@ -26,9 +26,9 @@ pub record IsAccepted (schema : SchemaValue) (maximal : List (FinSet nat_cmp)) (
   pub few_rows : HasFewRows schema maximal q
   pub few_terms : HasFewTerms schema maximal q
 
--- why the query is refused: memory is wanting, or this is the first cause
+-- why the query is refused: the first cause; want of memory is none
 abbrev pub IsStepRefusal : SchemaValue → List (FinSet nat_cmp) → Resolved → StepFault → Type 0
 IsStepRefusal schema maximal q (NotCovered variable mentioned) =
     (v : ℕ) × (first_uncovered schema maximal q ≡ Some v) × (slice_get q.variables v ≡ Some variable) × (mentioned ≡ mentioned_with q.places v)
 IsStepRefusal schema maximal q (Limit limit) = IsCovered schema maximal q × IsLimitPassed schema maximal q limit
-IsStepRefusal schema maximal q NoMemory = Unit {0}
+IsStepRefusal schema maximal q NoMemory = ⊥

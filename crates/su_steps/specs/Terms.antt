@@ -1,7 +1,7 @@
 -- The terms of a query: one tableau for each disjunct and each choice, closed under the dependencies.
 -- case: a disjunct and a choice; the cases stand disjunct by disjunct, choice by choice
-use Rattle.std.specs.Prelude.{◌≡◌, ◌⊎◌, ℕ, List, [], ◌∷◌, length, map, flat_map, Contains}
-use Rattle.std.specs.List.{range_with_len}
+use Rattle.std.specs.Prelude.{◌≡◌, ℕ, List, length, map, flat_map, Contains, Option}
+use Rattle.std.specs.List.{range_with_len, filter_map, AllZip}
 use Rattle.std.specs.Ordering.{nat_cmp}
 use Rattle.std.specs.FinSet.{FinSet}
 use Rattle.su_base.specs.declared.values.Value.{Value}
@@ -11,7 +11,7 @@ use Rattle.su_schema.specs.SchemaValue.{SchemaValue}
 use Rattle.su_query.specs.declared.resolving.Resolved.{Resolved}
 use Rattle.su_steps.specs.declared.results.Term.{Term}
 use Rattle.su_steps.specs.Choices.{choices}
-use Rattle.su_steps.specs.Cases.{Case, GivesNone, Gives}
+use Rattle.su_steps.specs.Cases.{Case, IsOutOf}
 
 -- a disjunct with a choice
 abbrev pub case_of : ℕ → List ℕ → Case
@@ -21,15 +21,11 @@ case_of i choice = record { disjunct = i; choice = choice }
 abbrev pub cases : SchemaValue → List (FinSet nat_cmp) → Resolved → List Case
 cases schema maximal q = flat_map (λ i. map (case_of i) (choices schema maximal q)) (range_with_len 0 (length (disjuncts_of q.cond)))
 
--- the terms that the cases give, in their order
-abbrev pub AreTermsOf : SchemaValue → List (FinSet nat_cmp) → Resolved → List Case → List Term → Type 0
-AreTermsOf schema maximal q [] ts = ts ≡ []
-AreTermsOf schema maximal q (case ∷ rest) ts = (GivesNone schema maximal q case × AreTermsOf schema maximal q rest ts)
-    ⊎ ((t : Term) × (later : List Term) × (ts ≡ t ∷ later) × Gives schema maximal q case t × AreTermsOf schema maximal q rest later)
-
--- the terms of the query
-abbrev pub AreTerms : SchemaValue → List (FinSet nat_cmp) → Resolved → List Term → Type 0
-AreTerms schema maximal q ts = AreTermsOf schema maximal q (cases schema maximal q) ts
+-- the terms of the query: the outs of the cases, one after another
+pub record AreTerms (schema : SchemaValue) (maximal : List (FinSet nat_cmp)) (q : Resolved) (ts : List Term) : Type 0 where
+  pub outs : List (Option Term)
+  pub each : AllZip (IsOutOf schema maximal q) (cases schema maximal q) outs
+  pub are : ts ≡ filter_map (λ out. out) outs
 
 -- h has the outputs of an answer of some term over the universe whose compared values meet the term's comparisons
 abbrev pub InUnion : List Term → List (List Value) → List Value → Type 0

@@ -1,22 +1,22 @@
 //! The terms of a query.
-ghost use Rattle.std.specs.Prelude.{◌≡◌, ◌↔◌, ℕ, ◌<◌, ◌≤◌, ◌++◌, ◌∷◌, List as Items, [], length, get_or, map, slice_get, Option, Some, All, IfOk, IfErr, OnOk, MatchOption};
-ghost use Rattle.su_base.specs.declared.values.Value.{Value as AValue};
+ghost use Rattle.std.specs.Prelude.{◌≡◌, ◌⊎◌, ℕ, ◌<◌, ◌≤◌, ◌++◌, ◌∷◌, List as Items, [], length, get_or, map, slice_get, Option, Some, All, IfOk, IfErr, OnOk, MatchOption};
 ghost use Rattle.su_where.specs.Fitting.{HasPlacesBelow};
 ghost use Rattle.su_where.specs.Disjunct.{disjuncts_of};
-ghost use Rattle.su_tableau.specs.Kinds.{IsUniverse, IsTyped};
+ghost use Rattle.su_tableau.specs.Kinds.{IsTyped};
 ghost use Rattle.su_schema.specs.Entries.{attribute_kinds};
 ghost use Rattle.su_query.specs.Ranges.{IsResolved};
 ghost use Rattle.su_query.specs.Sets.{mentioned_with};
 ghost use Rattle.su_steps.specs.declared.faults.StepFault.TheVariants.{NotCovered};
-ghost use Rattle.su_steps.specs.Expression.{Meets, cuts, InExpression};
+ghost use Rattle.su_steps.specs.Laws.{AreTheExpression};
 ghost use Rattle.su_steps.specs.Choices.{coverings as coverings_in, choices};
 ghost use Rattle.su_steps.specs.Objects.{width};
 ghost use Rattle.su_steps.specs.PairSymbols.{comparisons};
-ghost use Rattle.su_steps.specs.Cases.{Case, HaveNone, HaveTableau, GivesNone, Gives};
-ghost use Rattle.su_steps.specs.Terms.{case_of, AreTermsOf, AreTerms, InUnion};
+ghost use Rattle.su_steps.specs.Cases.{Case, HaveNone, HaveTableau, Gives};
+ghost use Rattle.su_steps.specs.Terms.{case_of, AreTerms};
 ghost use Rattle.su_steps.specs.Limits.{row_count};
 ghost use Rattle.su_steps.specs.Refusals.{IsAccepted, IsStepRefusal};
 ghost use Rattle.su_steps.specs.inside.Ready.{IsReady, AreClosed, FitLiterals, FitOrigins, IsShown, IsChoice};
+ghost use Rattle.su_steps.specs.inside.Outs.{GivesNone, AreTermsOf};
 
 use crate::building::{build_head, rows};
 use crate::choosing::{choice_at, choice_count, coverings, first_empty, most_rows};
@@ -281,9 +281,9 @@ pub fn terms(
     requires resolved { IsResolved schema.now resolved.now }
     ensures terms { IfOk result (AreTerms schema.now maximal.now resolved.now) }
     ensures accepted { OnOk result (IsAccepted schema.now maximal.now resolved.now) }
-    ensures refused { IfErr result (IsStepRefusal schema.now maximal.now resolved.now) }
+    ensures refused { IfErr result (λ fault. (fault ≡ StepFault.NoMemory) ⊎ IsStepRefusal schema.now maximal.now resolved.now fault) }
     ensures typed { IfOk result (λ ts. All (λ t. IsTyped (attribute_kinds schema.now) t.tableau) ts) }
-    ensures expression { IfOk result (λ ts. (universe : Items (Items AValue)) (h : Items AValue) → IsUniverse (attribute_kinds schema.now) universe → Meets schema.now.fds universe → (InUnion ts universe h ↔ InExpression schema.now maximal.now resolved.now (cuts schema.now universe) h)) }
+    ensures expression { IfOk result (AreTheExpression schema.now maximal.now resolved.now) }
 {
     schema.keeps_its_rules();
     let coverings = coverings(alloc, schema, maximal, resolved)?;

@@ -11,7 +11,8 @@ use Rattle.std.proofs.Math.Seq.{take-length}
 use Rattle.su_state.specs.DatabaseValue.{DatabaseValue}
 use Rattle.su_window.specs.declared.readings.Reading.{Reading}
 use Rattle.su_state.specs.Views.{taken, view_of, view_through}
-use Rattle.su_window.specs.Members.{Member, IsMember, AllDiffer, HasMany}
+use Rattle.su_state.specs.MoreThan.{AreMoreThan}
+use Rattle.su_window.specs.Members.{Member, IsMember, AllDiffer}
 use Rattle.su_window.specs.Padded.{object_at, rows_under, member_read, IsReading, AreReadings}
 use Rattle.su_window.specs.inside.Readings.{lists_before, IsBefore, AreSoFar}
 use Rattle.su_window.proofs.Objects.{placed_at}
@@ -158,7 +159,7 @@ module _ (db : DatabaseValue) (o p : ℕ) (low : o < length db.schema.objects) (
             once = subst AllDiffer (sym pushed) (differ_more members member so_far.once not_read);
           }
 
-      pub many : 20000 ≤ length readings → HasMany db
+      pub many : 20000 ≤ length readings → AreMoreThan 20000 (IsMember db)
       many full =
           let all : List Member = members ++ member ∷ [] in
           let long : length all ≡ length readings + 1 = length_push members member ∙ ap (λ (n : ℕ). n + 1) (length-map readings (member_read db)) in

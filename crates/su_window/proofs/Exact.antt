@@ -4,9 +4,10 @@ use Rattle.std.proofs.lemmas.Bool.{cases_lt}
 use Rattle.std.proofs.lemmas.List.{get_or_default}
 use Rattle.su_base.proofs.Numbers.{pigeonhole}
 use Rattle.su_state.specs.DatabaseValue.{DatabaseValue}
-use Rattle.su_window.specs.Members.{Member, HasFew, HasMany}
+use Rattle.su_state.specs.MoreThan.{AreMoreThan}
+use Rattle.su_window.specs.Members.{Member, IsMember, HasFew}
 
-module _ (db : DatabaseValue) (few : HasFew db) (many : HasMany db) where
+module _ (db : DatabaseValue) (few : HasFew db) (many : AreMoreThan 20000 (IsMember db)) where
   abbrev members : List Member
   members = few.0
 

@@ -72,9 +72,6 @@ module _ (db : DatabaseValue) (r : Reading) (is : IsReading db r) (old new : Lis
     pub grown : IsTrue added → (more : List Reading) → more ≡ readings ++ r ∷ [] → AreSoFar db r.object (r.position + 1) more
     grown t more push = grows db r.object r.position is.object is.position readings so_far (new_list t) more push
 
-    pub refused : IsTrue added → (fault : WindowFault) → (fault ≡ NoMemory) ⊎ ((fault ≡ Limit) × (20000 ≤ length readings)) → IsWindowRefusal db fault
-    refused t fault why =
-        ⊎_elim
-        (λ (e : fault ≡ NoMemory). subst (IsWindowRefusal db) (sym e) tt)
-        (λ (w : (fault ≡ Limit) × (20000 ≤ length readings)). subst (IsWindowRefusal db) (sym w.0) (many db r.object r.position is.object is.position readings so_far (new_list t) w.1))
-        why
+    pub refused : IsTrue added → (fault : WindowFault) → (fault ≡ NoMemory) ⊎ ((fault ≡ Limit) × (20000 ≤ length readings)) → (fault ≡ NoMemory) ⊎ IsWindowRefusal db fault
+    refused t fault (inl none) = inl none
+    refused t fault (inr (limit, full)) = inr (subst (IsWindowRefusal db) (sym limit) (many db r.object r.position is.object is.position readings so_far (new_list t) full))

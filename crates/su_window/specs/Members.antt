@@ -26,9 +26,3 @@ pub record AreMembers (db : DatabaseValue) (members : List Member) : Type 0 wher
 -- there are at most 20000 members
 abbrev pub HasFew : DatabaseValue → Type 0
 HasFew db = (members : List Member) × AreMembers db members × (length members ≤ 20000)
-
--- there are more than 20000: those numbered from 0 to 20000, all different
-pub record HasMany (db : DatabaseValue) : Type 0 where
-  pub member : ℕ → Member
-  pub each : (i : ℕ) → i ≤ 20000 → IsMember db (member i)
-  pub differ : (i j : ℕ) → i < j → j ≤ 20000 → ¬ (member i ≡ member j)

@@ -66,7 +66,7 @@ fn read_row(
     ensures seen { OnOk result ((x : Items Value) → Contains seen.new.keys x ↔ Contains (lists_before db.now reading.object (reading.position + 1)) x) }
     ensures so_far { OnOk result (AreSoFar db.now reading.object (reading.position + 1) readings.new) }
     ensures few { OnOk result (length readings.new ≤ 20000) }
-    ensures refused { IfErr result (IsWindowRefusal db.now) }
+    ensures refused { IfErr result (λ fault. (fault ≡ OutOfMemory) ⊎ IsWindowRefusal db.now fault) }
 {
     db.keeps_its_rules();
     let rows = rows_under(db, reading.object);
@@ -91,7 +91,7 @@ fn read_object(
     requires few { length readings.old ≤ 20000 }
     ensures so_far { OnOk result (AreSoFar db.now (object + 1) 0 readings.new) }
     ensures few { OnOk result (length readings.new ≤ 20000) }
-    ensures refused { IfErr result (IsWindowRefusal db.now) }
+    ensures refused { IfErr result (λ fault. (fault ≡ OutOfMemory) ⊎ IsWindowRefusal db.now fault) }
 {
     let mut seen = HashSet::new(alloc);
     let rows = rows_under(db, object);
@@ -112,7 +112,7 @@ pub fn readings_of(
     requires { columns.now ≡ all_columns db.now.schema }
     ensures readings { IfOk result (AreReadings db.now) }
     ensures few { IfOk result (λ readings. length readings ≤ 20000) }
-    ensures refused { IfErr result (IsWindowRefusal db.now) }
+    ensures refused { IfErr result (λ fault. (fault ≡ OutOfMemory) ⊎ IsWindowRefusal db.now fault) }
 {
     db.keeps_its_rules();
     let mut readings = List::new(alloc);

@@ -8,6 +8,7 @@ ghost use Rattle.su_tableau.specs.declared.symbols.Sym.TheVariants.{Const, Var};
 ghost use Rattle.su_tableau.specs.Tableaux.{AreBelow};
 ghost use Rattle.su_chase.specs.inside.Rows.{name_by};
 ghost use Rattle.su_schema.specs.Cuts.{width};
+ghost use Rattle.su_window.specs.declared.faults.WindowFault.TheVariants.{NoMemory as OutOfMemory};
 ghost use Rattle.su_window.specs.Window.{Fits, InWindow};
 ghost use Rattle.su_window.specs.Members.{HasFew};
 ghost use Rattle.su_window.specs.Refusals.{IsWindowRefusal};
@@ -104,7 +105,7 @@ pub fn window(alloc: Global, db: &Database, attributes: &[u8]) -> Result<List<Ro
     ensures exact { IfOk result (λ rows. (h : Items AValue) → Contains rows h ↔ InWindow db.now attributes.now h) }
     ensures ascending { IfOk result (λ rows. IsStrictlySortedBy compare_lists rows) }
     ensures fits { IfOk result (λ _. HasFew db.now × ((universe : Items (Items AValue)) × Fits db.now universe)) }
-    ensures refused { IfErr result (IsWindowRefusal db.now) }
+    ensures refused { IfErr result (λ fault. (fault ≡ OutOfMemory) ⊎ IsWindowRefusal db.now fault) }
 {
     db.keeps_its_rules();
     let columns = all_columns(alloc, db.schema())?;

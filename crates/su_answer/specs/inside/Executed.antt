@@ -13,7 +13,7 @@ use Rattle.su_min.specs.Kept.{Minimised}
 use Rattle.su_answer.specs.declared.found.Found.{Found}
 use Rattle.su_answer.specs.Joined.{IsTaskOf}
 use Rattle.su_answer.specs.Answers.{IsTermAnswer}
-use Rattle.su_answer.specs.QueryAnswers.{AreMoreThan}
+use Rattle.su_state.specs.MoreThan.{AreMoreThan}
 
 -- a task and the tables over which it is joined
 pub record Join : Type 0 where

@@ -10,7 +10,7 @@ use Rattle.su_schema.specs.Known.{columns_at}
 use Rattle.su_state.specs.declared.faults.DefineFault.{DefineFault}
 use Rattle.su_state.specs.declared.faults.DefineFault.TheVariants.{Schema, Breaks, NoMemory}
 use Rattle.su_index.specs.Tables.{table_at}
-use Rattle.su_state.specs.Breaks.{BreaksThrough, HoldsThrough, FdBreaks, ObjectBreaks, NewBreaks}
+use Rattle.su_state.specs.inside.AddedBreaks.{BreaksThrough, HoldsThrough, FdBreaks, ObjectBreaks, AddedBreaks}
 
 -- each object stands on one of the tables, of its relation's width
 abbrev pub HaveTables : SchemaValue → List Stored → Type 0
@@ -54,6 +54,6 @@ IsObjectFault schema tables o (Schema fault) = ⊥
 
 -- why what was added is refused
 abbrev pub IsAddedFault : SchemaValue → List Stored → Definition → DefineFault → Type 0
-IsAddedFault schema tables definition (Breaks fd name first second) = NewBreaks schema tables definition fd name first second
+IsAddedFault schema tables definition (Breaks fd name first second) = AddedBreaks schema tables definition fd name first second
 IsAddedFault schema tables definition NoMemory = Unit {0}
 IsAddedFault schema tables definition (Schema fault) = ⊥

@@ -13,7 +13,7 @@ use Rattle.su_fd.specs.MetDependencies.{LiesIn}
 use Rattle.su_schema.specs.SchemaValue.{ObjectEntry}
 use Rattle.su_schema.specs.Entries.{attributes_of, column_of}
 use Rattle.su_state.specs.declared.sides.Sides.{Sides}
-use Rattle.su_state.specs.Enforced.{IsAtMost}
+use Rattle.su_state.specs.inside.RowBreaks.{IsAtMost}
 
 -- exactly the columns from which the object takes one of the attributes
 abbrev pub AreColumnsOf : ObjectEntry → FinSet nat_cmp → FinSet nat_cmp → Type 0

@@ -2,12 +2,12 @@ use Rattle.std.proofs.Common.{◌<◌, ℕ, List, length, ap, arith}
 use borrow.Author.Count.{below_more}
 use Rattle.std.proofs.lemmas.Option.{slice_get_within}
 use Rattle.su_base.specs.declared.values.Value.{Value}
-use Rattle.su_state.specs.Breaches.{IsBreach}
+use Rattle.su_state.specs.inside.RowBreaks.{BreaksWith}
 use Rattle.su_state.proofs.breaches.first_breach.Goals as goal
 
 pub loop-fd-preserved : goal.loop-fd-preserved
 loop-fd-preserved c =
-    below_more (λ f. (o : ℕ) (other : List Value) → ¬ IsBreach c.args.schema.now c.args.relation c.args.table.now.rows c.args.row.now f o other) c.loop-fd.fd c.loop-fd.invariant c.in_default.ensures
+    below_more (λ f. (o : ℕ) (other : List Value) → ¬ BreaksWith c.args.schema.now c.args.relation c.args.table.now.rows c.args.row.now f o other) c.loop-fd.fd c.loop-fd.invariant c.in_default.ensures
 
 pub returns : goal.returns
 returns c = λ f o other breach.

@@ -2,7 +2,7 @@ use Rattle.std.proofs.Common.{◌-◌, ℕ, List, length, subst, sym}
 use Rattle.std.specs.Prelude.{OnOk}
 use Rattle.su_fd.specs.declared.dependencies.Fd.{Fd as Dependency}
 use Rattle.su_schema.specs.declared.definitions.Definition.{Definition}
-use Rattle.su_state.specs.Breaks.{HoldsThrough}
+use Rattle.su_state.specs.inside.AddedBreaks.{HoldsThrough}
 use Rattle.su_state.specs.inside.AddedDefinitions.{AddedHolds}
 use Rattle.su_state.proofs.defining.check_added.Goals as goal
 

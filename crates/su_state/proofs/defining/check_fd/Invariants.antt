@@ -1,5 +1,5 @@
 use Rattle.std.proofs.Common.{◌<◌, ℕ}
-use Rattle.su_state.specs.Breaks.{HoldsThrough}
+use Rattle.su_state.specs.inside.AddedBreaks.{HoldsThrough}
 use Rattle.su_state.proofs.defining.check_fd.Given as goal
 
 abbrev pub invariant-loop-object : goal.invariant-loop-object

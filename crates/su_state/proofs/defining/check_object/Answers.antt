@@ -1,7 +1,7 @@
 use Rattle.std.proofs.Common.{◌<◌, length, ap, arith}
 use borrow.Author.Count.{below_more}
 use Rattle.std.proofs.lemmas.Option.{slice_get_within}
-use Rattle.su_state.specs.Breaks.{HoldsThrough}
+use Rattle.su_state.specs.inside.AddedBreaks.{HoldsThrough}
 use Rattle.su_state.proofs.defining.check_object.Goals as goal
 
 pub loop-fd-preserved : goal.loop-fd-preserved

@@ -1,5 +1,5 @@
 -- The refusals are tested in their order, so that each tells the first cause; the terms of what is accepted are the expression.
-use Rattle.std.proofs.Common.{◌≡◌, ◌∙◌, ◌<◌, ◌≤◌, ℕ, sym, ap, subst, length, min, arith}
+use Rattle.std.proofs.Common.{◌≡◌, ◌∙◌, ◌<◌, ◌≤◌, inr, ℕ, sym, ap, subst, length, min, arith}
 use Rattle.std.specs.Prelude.{All}
 use Rattle.std.proofs.lemmas.Nat.{mul-le}
 use Rattle.su_where.specs.Disjunct.{disjuncts_of}
@@ -43,13 +43,13 @@ not_covered-requires-clause-places c = λ k p l. let low = (c.requires.resolved.
 pub returns-in-Some-clause-refused : goal.returns-in-Some-clause-refused
 returns-in-Some-clause-refused c =
     let all = c.as_slice-coverings.ensures ∙ c.in_ok-coverings.ensures in
-    refused_cover c.args.schema.now c.args.maximal.now c.args.resolved.now c.as_slice-coverings.result.now all c.in-Some.v c.in_ok-not_covered-in-Some.field-0 (sym c.in-Some.is ∙ c.first_empty.ensures) c.in_ok-not_covered-in-Some.ensures
+    inr (refused_cover c.args.schema.now c.args.maximal.now c.args.resolved.now c.as_slice-coverings.result.now all c.in-Some.v c.in_ok-not_covered-in-Some.field-0 (sym c.in-Some.is ∙ c.first_empty.ensures) c.in_ok-not_covered-in-Some.ensures)
 
 pub returns-then-disjuncts-gt64-clause-refused : goal.returns-then-disjuncts-gt64-clause-refused
 returns-then-disjuncts-gt64-clause-refused c =
     let all = c.as_slice-coverings.ensures ∙ c.in_ok-coverings.ensures in
     let none = sym c.in-None.is ∙ c.first_empty.ensures in
-    (covered_is c.args.schema.now c.args.maximal.now c.args.resolved.now c.as_slice-coverings.result.now all none, many_disjuncts c.args.schema.now c.args.maximal.now c.args.resolved.now c.as_slice-coverings.result.now all c.disjunct_count-disjuncts.result c.disjunct_count-disjuncts.ensures c.if-disjuncts-gt64.true)
+    inr (covered_is c.args.schema.now c.args.maximal.now c.args.resolved.now c.as_slice-coverings.result.now all none, many_disjuncts c.args.schema.now c.args.maximal.now c.args.resolved.now c.as_slice-coverings.result.now all c.disjunct_count-disjuncts.result c.disjunct_count-disjuncts.ensures c.if-disjuncts-gt64.true)
 
 pub most_rows-requires-clause-few : goal.most_rows-requires-clause-few
 most_rows-requires-clause-few c =
@@ -65,7 +65,7 @@ pub returns-then-most_rows-gt64-clause-refused : goal.returns-then-most_rows-gt6
 returns-then-most_rows-gt64-clause-refused c =
     let all = c.as_slice-coverings.ensures ∙ c.in_ok-coverings.ensures in
     let none = sym c.in-None.is ∙ c.first_empty.ensures in
-    (covered_is c.args.schema.now c.args.maximal.now c.args.resolved.now c.as_slice-coverings.result.now all none, (few_disjuncts c.args.schema.now c.args.maximal.now c.args.resolved.now c.as_slice-coverings.result.now all c.disjunct_count-disjuncts.result c.disjunct_count-disjuncts.ensures c.if-disjuncts-gt64.false, many_rows c.args.schema.now c.args.maximal.now c.args.resolved.now c.as_slice-coverings.result.now all c.most_rows.result none c.most_rows.ensures c.if-most_rows-gt64.true))
+    inr (covered_is c.args.schema.now c.args.maximal.now c.args.resolved.now c.as_slice-coverings.result.now all none, (few_disjuncts c.args.schema.now c.args.maximal.now c.args.resolved.now c.as_slice-coverings.result.now all c.disjunct_count-disjuncts.result c.disjunct_count-disjuncts.ensures c.if-disjuncts-gt64.false, many_rows c.args.schema.now c.args.maximal.now c.args.resolved.now c.as_slice-coverings.result.now all c.most_rows.result none c.most_rows.ensures c.if-most_rows-gt64.true))
 
 pub choice_count-requires : goal.choice_count-requires
 choice_count-requires c = subst (All (λ ms. length ms ≤ 128)) (sym (c.as_slice-coverings.ensures ∙ c.in_ok-coverings.ensures)) (coverings_few c.args.schema.now c.args.maximal.now c.args.resolved.now c.requires.few)
@@ -83,7 +83,7 @@ returns-then-disjuncts-choice_count-gt256-clause-refused c =
     let none = sym c.in-None.is ∙ c.first_empty.ensures in
     let exact = exactly c.args.resolved.now c.disjunct_count-disjuncts.result c.disjunct_count-disjuncts.ensures c.if-disjuncts-gt64.false in
     let count = c.choice_count.ensures ∙ ap (λ xs. min (length (combinations xs)) 257) all in
-    (covered_is c.args.schema.now c.args.maximal.now c.args.resolved.now c.as_slice-coverings.result.now all none, (few_disjuncts c.args.schema.now c.args.maximal.now c.args.resolved.now c.as_slice-coverings.result.now all c.disjunct_count-disjuncts.result c.disjunct_count-disjuncts.ensures c.if-disjuncts-gt64.false, few_rows c.args.schema.now c.args.maximal.now c.args.resolved.now c.as_slice-coverings.result.now all c.most_rows.result c.most_rows.ensures c.if-most_rows-gt64.false, many_terms c.args.schema.now c.args.maximal.now c.args.resolved.now c.disjunct_count-disjuncts.result c.choice_count.result exact count c.if-disjuncts-choice_count-gt256.true))
+    inr (covered_is c.args.schema.now c.args.maximal.now c.args.resolved.now c.as_slice-coverings.result.now all none, (few_disjuncts c.args.schema.now c.args.maximal.now c.args.resolved.now c.as_slice-coverings.result.now all c.disjunct_count-disjuncts.result c.disjunct_count-disjuncts.ensures c.if-disjuncts-gt64.false, few_rows c.args.schema.now c.args.maximal.now c.args.resolved.now c.as_slice-coverings.result.now all c.most_rows.result c.most_rows.ensures c.if-most_rows-gt64.false, many_terms c.args.schema.now c.args.maximal.now c.args.resolved.now c.disjunct_count-disjuncts.result c.choice_count.result exact count c.if-disjuncts-choice_count-gt256.true))
 
 pub accepted_terms-requires-clause-few : goal.accepted_terms-requires-clause-few
 accepted_terms-requires-clause-few c = c.requires.few

@@ -1,5 +1,5 @@
 -- The readings are the members, their padded rows chased are the representative instance, and its rows of constants on the attributes are the window.
-use Rattle.std.proofs.Common.{rules, ◌≡◌, List, length, ap, subst, sym, ◌∙◌}
+use Rattle.std.proofs.Common.{rules, ◌≡◌, inr, List, length, ap, subst, sym, ◌∙◌}
 use Rattle.std.specs.Prelude.{All}
 use Rattle.su_schema.specs.SchemaValue.{SchemaValue}
 use Rattle.su_tableau.specs.declared.symbols.Sym.{Sym}
@@ -24,7 +24,7 @@ returns-in-Some-clause-refused c =
     let fds : c.fds.result.now ≡ db.schema.fds = c.fds.ensures ∙ ap (λ (s : SchemaValue). s.fds) c.schema-2.ensures in
     let rows : c.as_slice-4.result.now ≡ padded_rows db readings = c.as_slice-4.ensures ∙ c.in_ok-rows.ensures ∙ ap (padded_rows db) c.as_slice-3.ensures in
     let clash : IsClash c.fds.result.now c.as_slice-4.result.now c.in-Some.less c.in-Some.greater = search rules in
-    refused_told db c.keeps_its_rules.ensures readings c.in_ok-readings.ensures.readings c.in_ok-readings.ensures.few c.fds.result.now fds c.as_slice-4.result.now rows c.in-Some.less c.in-Some.greater clash
+    inr (refused_told db c.keeps_its_rules.ensures readings c.in_ok-readings.ensures.readings c.in_ok-readings.ensures.few c.fds.result.now fds c.as_slice-4.result.now rows c.in-Some.less c.in-Some.greater clash)
 
 pub constant_rows-requires-clause-below : goal.constant_rows-requires-clause-below
 constant_rows-requires-clause-below c =

@@ -1,34 +1,58 @@
-use Rattle.std.proofs.Common.{◌≡◌, ◌<◌, length, subst, sym, ap, refl, Contains, arith}
+use Rattle.std.proofs.Common.{◌≡◌, ◌<◌, ◌∙◌, inr, List, length, subst, sym, ap, refl, Contains, arith}
 use Rattle.std.proofs.lemmas.Bool.{false≢true}
+use Rattle.su_base.specs.declared.values.Value.{Value}
 use Rattle.su_rel.specs.Stored.{Stored}
-use Rattle.su_state.specs.DatabaseValue.{DatabaseValue, table_of}
+use Rattle.su_state.specs.DatabaseValue.{DatabaseValue, table_of, rows_of}
 use Rattle.su_state.specs.Enforced.{HoldsOn}
-use Rattle.su_state.specs.Breaches.{NoBreach}
+use Rattle.su_state.specs.inside.RowBreaks.{BreaksFirst, BreaksNothing}
+use Rattle.su_state.specs.inside.Sides.{row_at}
+use Rattle.su_state.proofs.Least.{row_there}
 use Rattle.su_state.proofs.Kept.{has_table, table_read, columns_read, holds_at}
+use Rattle.su_state.proofs.FirstBreaches.{no_breach, first_by_row}
 use Rattle.su_state.proofs.databases.Database.insert_answer.Goals as goal
 
-pub returns-then-len-ge-MOST : goal.returns-then-len-ge-MOST
-returns-then-len-ge-MOST c =
+pub returns-in-Some-clause-refused : goal.returns-in-Some-clause-refused
+returns-in-Some-clause-refused c =
+    let db : DatabaseValue = record { schema = c.self.inside.schema; tables = c.self.inside.tables.items } in
+    let r = c.args.relation in
+    let row = c.args.row.now in
+    let breach = c.in-Some.breach in
+    let rows = c.index-table.result.now.rows in
+    let within : r < length db.tables = has_table db c.args.self.now r c.self.view_is c.self.invariant c.requires in
+    let table : c.index-table.result.now ≡ table_of db r = table_read db r c.index-table.result.now within c.index-table.ensures in
+    let other : row_at rows breach.position ≡ c.in_ok-row.row = row_there rows breach.position c.row.result.now c.row.ensures ∙ sym c.in_ok-row.ensures in
+    let first : BreaksFirst db.schema r (rows_of db r) row breach.fd breach.object c.in_ok-row.row =
+    subst (λ (x : List Value). BreaksFirst db.schema r (rows_of db r) row breach.fd breach.object x) other
+    (subst (λ (t : Stored). BreaksFirst db.schema r t.rows row breach.fd breach.object (row_at rows breach.position)) table c.in-Some.ensures.1) in
+    inr (rw (← c.self.view_is) (
+      rw (columns_read db r c.columns.result.now c.columns.ensures.at) c.in_ok-check_row.ensures.ok,
+      subst (λ (t : Stored). ¬ Contains t.rows row) table (λ there. false≢true (c.if-has.ensures.1 there)),
+      first_by_row db r row breach.fd breach.object c.in_ok-row.row first,
+      refl,
+    ))
+
+pub returns-then-len-ge-MOST-clause-refused : goal.returns-then-len-ge-MOST-clause-refused
+returns-then-len-ge-MOST-clause-refused c =
     let db : DatabaseValue = record { schema = c.self.inside.schema; tables = c.self.inside.tables.items } in
     let within : c.args.relation < length db.tables = has_table db c.args.self.now c.args.relation c.self.view_is c.self.invariant c.requires in
     let table : c.index-table.result.now ≡ table_of db c.args.relation = table_read db c.args.relation c.index-table.result.now within c.index-table.ensures in
-    rw (← c.self.view_is) (
+    inr (rw (← c.self.view_is) (
       rw (columns_read db c.args.relation c.columns.result.now c.columns.ensures.at) c.in_ok-check_row.ensures.ok,
       subst (λ (t : Stored). ¬ Contains t.rows c.args.row.now) table (λ there. false≢true (c.if-has.ensures.1 there)),
-      subst (λ (t : Stored). NoBreach db.schema c.args.relation t.rows c.args.row.now) table c.in_default.ensures,
+      no_breach db c.args.relation c.args.row.now (subst (λ (t : Stored). BreaksNothing db.schema c.args.relation t.rows c.args.row.now) table c.in_default.ensures),
       omega (arith, ap (λ t. length t.rows) table, c.len.ensures, c.if-len-ge-MOST.true),
       refl,
-    )
+    ))
 
-pub returns : goal.returns
-returns c =
+pub returns-clause-answer : goal.returns-clause-answer
+returns-clause-answer c =
     let db : DatabaseValue = record { schema = c.self.inside.schema; tables = c.self.inside.tables.items } in
     let within : c.args.relation < length db.tables = has_table db c.args.self.now c.args.relation c.self.view_is c.self.invariant c.requires in
     let table : c.index-table.result.now ≡ table_of db c.args.relation = table_read db c.args.relation c.index-table.result.now within c.index-table.ensures in
     rw (← c.self.view_is) (
       rw (columns_read db c.args.relation c.columns.result.now c.columns.ensures.at) c.in_ok-check_row.ensures.ok,
       subst (λ (t : Stored). ¬ Contains t.rows c.args.row.now) table (λ there. false≢true (c.if-has.ensures.1 there)),
-      subst (λ (t : Stored). NoBreach db.schema c.args.relation t.rows c.args.row.now) table c.in_default.ensures,
+      no_breach db c.args.relation c.args.row.now (subst (λ (t : Stored). BreaksNothing db.schema c.args.relation t.rows c.args.row.now) table c.in_default.ensures),
       omega (arith, ap (λ t. length t.rows) table, c.len.ensures, c.if-len-ge-MOST.false),
     )
 

@@ -9,7 +9,7 @@ pub loop-row-preserved-in-Ok-true : goal.loop-row-preserved-in-Ok-true
 loop-row-preserved-in-Ok-true c =
     let old = c.loop-row.invariant in
     let whole : c.args.rows ≡ c.loop-row.yielded ++ (c.in-Some.row ∷ into_iter_items c.next.new.self) = old.rest ∙ ap (λ xs. c.loop-row.yielded ++ xs) c.in-Some.ensures.steps.0 in
-    let done : Inserts c.loop-row.self c.args.relation c.in-Some.row (Ok true) c.insert.new.self = subst (λ (b : Bool). Inserts c.loop-row.self c.args.relation c.in-Some.row (Ok b) c.insert.new.self) c.in-Ok-true.field-0-test c.in-Ok-true.ensures in
+    let done : Inserts c.loop-row.self c.args.relation c.in-Some.row (Ok true) c.insert.new.self = subst (λ (b : Bool). Inserts c.loop-row.self c.args.relation c.in-Some.row (Ok b) c.insert.new.self) c.in-Ok-true.field-0-test c.in-Ok-true.ensures.done in
     record {
       can_next = tt;
       finite = tt;
@@ -24,7 +24,7 @@ pub loop-row-preserved : goal.loop-row-preserved
 loop-row-preserved c =
     let old = c.loop-row.invariant in
     let whole : c.args.rows ≡ c.loop-row.yielded ++ (c.in-Some.row ∷ into_iter_items c.next.new.self) = old.rest ∙ ap (λ xs. c.loop-row.yielded ++ xs) c.in-Some.ensures.steps.0 in
-    let done : Inserts c.loop-row.self c.args.relation c.in-Some.row (Ok false) c.insert.new.self = subst (λ (b : Bool). Inserts c.loop-row.self c.args.relation c.in-Some.row (Ok b) c.insert.new.self) c.in-Ok-false.field-0-test c.in-Ok-false.ensures in
+    let done : Inserts c.loop-row.self c.args.relation c.in-Some.row (Ok false) c.insert.new.self = subst (λ (b : Bool). Inserts c.loop-row.self c.args.relation c.in-Some.row (Ok b) c.insert.new.self) c.in-Ok-false.field-0-test c.in-Ok-false.ensures.done in
     let all = inserts_push c.loop-row.yielded c.args.self.now c.loop-row.self c.insert.new.self c.args.relation c.in-Some.row c.loop-row.new false old.inserts done in
     record {
       can_next = tt;
@@ -40,4 +40,4 @@ pub returns-in-Err : goal.returns-in-Err
 returns-in-Err c =
     let old = c.loop-row.invariant in
     let whole : c.args.rows ≡ c.loop-row.yielded ++ (c.in-Some.row ∷ into_iter_items c.next.new.self) = old.rest ∙ ap (λ xs. c.loop-row.yielded ++ xs) c.in-Some.ensures.steps.0 in
-    refused_at c.args.self.now c.loop-row.self c.insert.new.self c.args.relation c.args.rows c.loop-row.yielded (into_iter_items c.next.new.self) c.in-Some.row c.loop-row.new (c.loop-row.number + 1) c.in-Err.fault c.end_of.result old.inserts c.in-Err.ensures whole (ap (λ n. n + 1) old.number) c.end_of.ensures
+    refused_at c.args.self.now c.loop-row.self c.insert.new.self c.args.relation c.args.rows c.loop-row.yielded (into_iter_items c.next.new.self) c.in-Some.row c.loop-row.new (c.loop-row.number + 1) c.in-Err.fault c.end_of.result old.inserts c.in-Err.ensures.refused c.in-Err.ensures.unchanged whole (ap (λ n. n + 1) old.number) c.end_of.ensures

@@ -4,7 +4,7 @@ use Rattle.std.proofs.lemmas.Result.{IfOk-weaker}
 use Rattle.su_rel.specs.Stored.{Stored}
 use Rattle.su_state.specs.DatabaseValue.{DatabaseValue, table_of, rows_of, columns_of, HasColumnKinds}
 use Rattle.su_state.specs.Enforced.{HoldsOn}
-use Rattle.su_state.specs.Breaches.{NoBreach}
+use Rattle.su_state.specs.inside.RowBreaks.{BreaksNothing}
 use Rattle.su_state.specs.AdmissibleRows.{KeepThrough}
 use Rattle.su_state.proofs.Kept.{has_table, table_read, holds_at}
 use Rattle.su_state.proofs.Filled.{keeps_few, wide, short, narrow}
@@ -15,8 +15,8 @@ returns c =
     let db : DatabaseValue = record { schema = c.self.inside.schema; tables = c.self.inside.tables.items } in
     let within : c.args.relation < length db.tables = has_table db c.args.self.now c.args.relation c.self.view_is c.self.invariant c.requires.relation in
     let table : c.index-table.result.now ≡ table_of db c.args.relation = table_read db c.args.relation c.index-table.result.now within c.index-table.ensures in
-    let none : All (NoBreach db.schema c.args.relation (rows_of db c.args.relation)) c.args.rows.now =
-    subst (λ (t : Stored). All (NoBreach db.schema c.args.relation t.rows) c.args.rows.now) table (OnTrue_at c.if-not-none_breaks.false c.none_breaks.ensures) in
+    let none : All (BreaksNothing db.schema c.args.relation (rows_of db c.args.relation)) c.args.rows.now =
+    subst (λ (t : Stored). All (BreaksNothing db.schema c.args.relation t.rows) c.args.rows.now) table (OnTrue_at c.if-not-none_breaks.false c.none_breaks.ensures) in
     IfOk-weaker c.keep_all.result _ _
     (λ kept given. OnTrue_from kept _ (λ yes.
     let all : (f o : ℕ) → KeepThrough db.schema c.args.relation c.args.rows.now f o = OnTrue_at yes given in

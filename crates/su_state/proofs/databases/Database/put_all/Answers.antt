@@ -20,8 +20,8 @@ invariant_of-self-2 c =
     let may : MayTake db c.args.relation c.args.rows = subst (λ (d : DatabaseValue). MayTake d c.args.relation c.args.rows) (sym c.self.view_is) c.requires.may in
     kept_filled db c.args.relation c.args.rows c.index_mut.result.now c.insert_all.new.self c.self.invariant within c.index_mut.ensures.value may c.insert_all.ensures.width c.in_ok-new.ensures.rows
 
-pub returns : goal.returns
-returns c =
+pub returns-clause-done : goal.returns-clause-done
+returns-clause-done c =
     let db : DatabaseValue = record { schema = c.self.inside.schema; tables = c.self.inside.tables.items } in
     let within : c.args.relation < length db.tables = has_table db c.args.self.now c.args.relation c.self.view_is c.self.invariant c.requires.relation in
     let may : MayTake db c.args.relation c.args.rows = subst (λ (d : DatabaseValue). MayTake d c.args.relation c.args.rows) (sym c.self.view_is) c.requires.may in

@@ -1,13 +1,16 @@
-use Rattle.std.proofs.Common.{◌≡◌, List, Ok, Err, Result, subst, sym, ap, ◌∙◌}
+use Rattle.std.proofs.Common.{◌≡◌, ◌⊎◌, List, Ok, Err, Result, subst, sym, ap, ◌∙◌}
+use Rattle.std.specs.Prelude.{IfErr, OnErr}
 use Rattle.std.proofs.lemmas.Result.{err_from_is_err_and}
 use Rattle.su_schema.specs.Valid.{IsValid}
 use Rattle.su_schema.specs.Definitions.{applied}
 use Rattle.su_rel.specs.Stored.{Stored}
 use Rattle.su_state.specs.DatabaseValue.{DatabaseValue, IsWellKept}
 use Rattle.su_state.specs.declared.faults.DefineFault.{DefineFault}
+use Rattle.su_state.specs.declared.faults.DefineFault.TheVariants.{NoMemory}
 use Rattle.su_state.specs.Definitions.{Defines, tables_with}
 use Rattle.su_state.specs.inside.AddedDefinitions.{AddedHolds, IsAddedFault}
-use Rattle.su_state.proofs.Added.{tables_there, added_there, narrow, refused_added, kept_added, none_breaks}
+use Rattle.su_state.proofs.Added.{tables_there, added_there, narrow, refused_added, kept_added}
+use Rattle.su_state.proofs.FirstBreaches.{none_new}
 use Rattle.su_state.proofs.databases.Database.take.Goals as goal
 
 pub check_added-requires-clause-tables : goal.check_added-requires-clause-tables
@@ -24,26 +27,25 @@ add_table-requires c =
     let valid : IsValid c.args.schema = c.keeps_its_rules.ensures in
     narrow c.self.inside.schema c.args.schema c.args.definition.now (subst (λ (d : DatabaseValue). applied d.schema c.args.definition.now ≡ Ok c.args.schema) (sym c.self.view_is) c.requires.extended) valid
 
-pub returns-in_err-check_added : goal.returns-in_err-check_added
-returns-in_err-check_added c =
+pub returns-in_err-check_added-clause-refused : goal.returns-in_err-check_added-clause-refused
+returns-in_err-check_added-clause-refused c =
     let p = err_from_is_err_and c.from_residual.result c.from_residual.ensures.1 in
     let fault : DefineFault = c.in_err-check_added.field-0.0 in
     let is = c.requires.extended in
     let here : IsAddedFault c.args.schema c.self.inside.tables.items c.args.definition.now fault = subst (λ (tables : List Stored). IsAddedFault c.args.schema tables c.args.definition.now fault) c.as_slice.ensures.value c.in_err-check_added.ensures.refused in
     let refused : IsAddedFault c.args.schema c.args.self.now.tables c.args.definition.now fault = subst (λ (d : DatabaseValue). IsAddedFault c.args.schema d.tables c.args.definition.now fault) c.self.view_is here in
-    subst (λ (r : Result (Unit {0}) DefineFault). Defines c.args.self.now c.args.definition.now r c.args.self.now) (sym p.1)
-    (subst (λ (f : DefineFault). Defines c.args.self.now c.args.definition.now (Err f) c.args.self.now) (sym p.2)
+    subst (λ (r : Result (Unit {0}) DefineFault). IfErr r (λ f. (f ≡ NoMemory) ⊎ Defines c.args.self.now c.args.definition.now (Err f) c.args.self.now)) (sym p.1)
+    (subst (λ (f : DefineFault). (f ≡ NoMemory) ⊎ Defines c.args.self.now c.args.definition.now (Err f) c.args.self.now) (sym p.2)
     (refused_added c.args.self.now c.args.schema c.args.definition.now fault is refused))
 
-pub returns-in_err-add_table : goal.returns-in_err-add_table
-returns-in_err-add_table c =
+pub returns-in_err-add_table-clause-unchanged : goal.returns-in_err-add_table-clause-unchanged
+returns-in_err-add_table-clause-unchanged c =
     let p = err_from_is_err_and c.from_residual-in_err-add_table.result c.from_residual-in_err-add_table.ensures.1 in
     let new : DatabaseValue = record { schema = c.self.inside.schema; tables = c.add_table.new.tables.items } in
     let unchanged : c.add_table.new.tables.items ≡ c.self.inside.tables.items = c.in_err-add_table.ensures.unchanged in
     let back : ◌≡◌ {A = DatabaseValue} new (record { schema = c.self.inside.schema; tables = c.self.inside.tables.items }) = λ i. record { schema = c.self.inside.schema; tables = unchanged i } in
     let same : new ≡ c.args.self.now = back ∙ c.self.view_is in
-    subst (λ (r : Result (Unit {0}) DefineFault). Defines c.args.self.now c.args.definition.now r new) (sym p.1)
-    (subst (λ (f : DefineFault). Defines c.args.self.now c.args.definition.now (Err f) new) (sym p.2) same)
+    subst (λ (r : Result (Unit {0}) DefineFault). OnErr r (new ≡ c.args.self.now)) (sym p.1) same
 
 pub invariant_of-self-2 : goal.invariant_of-self-2
 invariant_of-self-2 c =
@@ -53,9 +55,9 @@ invariant_of-self-2 c =
     subst (λ (tables : List Stored). IsWellKept (record { schema = c.args.schema; tables = tables })) (sym c.in_ok-add_table.ensures.ok)
     (kept_added db c.args.schema c.args.definition.now c.self.invariant valid (subst (λ (d : DatabaseValue). applied d.schema c.args.definition.now ≡ Ok c.args.schema) (sym c.self.view_is) c.requires.extended) holds)
 
-pub returns : goal.returns
-returns c =
+pub returns-clause-done : goal.returns-clause-done
+returns-clause-done c =
     let is = c.requires.extended in
     let here : AddedHolds c.args.schema c.self.inside.tables.items c.args.definition.now = subst (λ (tables : List Stored). AddedHolds c.args.schema tables c.args.definition.now) c.as_slice.ensures.value c.in_ok-check_added.ensures.holds in
     let holds : AddedHolds c.args.schema c.args.self.now.tables c.args.definition.now = subst (λ (d : DatabaseValue). AddedHolds c.args.schema d.tables c.args.definition.now) c.self.view_is here in
-    (is, c.in_ok-add_table.ensures.ok ∙ ap (λ d. tables_with c.args.definition.now d.tables) c.self.view_is, none_breaks c.args.schema c.args.self.now.tables c.args.definition.now holds)
+    (is, c.in_ok-add_table.ensures.ok ∙ ap (λ d. tables_with c.args.definition.now d.tables) c.self.view_is, none_new c.args.schema c.args.self.now.tables c.args.definition.now holds)

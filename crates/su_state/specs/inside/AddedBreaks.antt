@@ -1,5 +1,6 @@
--- Stored rows that break what a definition adds.
+-- Stored rows that break what a definition adds, step by step: one dependency, one object, one pair of rows.
 -- least break: the least row that breaks a dependency with some row, and the least row with which it does
+-- No public contract cites this module.
 use Rattle.std.specs.Prelude.{◌≡◌, ℕ, ◌<◌, ◌-◌, List, length, slice_get, Contains, Some}
 use Rattle.su_base.specs.declared.values.Value.{Value}
 use Rattle.su_fd.specs.declared.dependencies.Fd.{Fd as Dependency}
@@ -8,7 +9,8 @@ use Rattle.su_schema.specs.declared.definitions.Definition.{Definition}
 use Rattle.su_schema.specs.declared.definitions.Definition.TheVariants.{Object, Fd}
 use Rattle.su_schema.specs.SchemaValue.{SchemaValue, ObjectEntry}
 use Rattle.su_state.specs.DatabaseValue.{rows_in}
-use Rattle.su_state.specs.Enforced.{Break, HoldsOn, IsAtMost}
+use Rattle.su_state.specs.Enforced.{Break, HoldsOn}
+use Rattle.su_state.specs.inside.RowBreaks.{IsAtMost}
 
 -- the first row is the least that breaks the dependency with some row, the second its least partner
 pub record IsLeastBreak (fd : Dependency) (object : ObjectEntry) (rows : List (List Value)) (first second : List Value) : Type 0 where
@@ -43,7 +45,7 @@ pub record ObjectBreaks (schema : SchemaValue) (tables : List Stored) (o : ℕ) 
   pub before : (f : ℕ) → f < place → HoldsThrough schema tables f o
 
 -- which stored rows break what a definition adds, the last dependency or the last object of the schema with it
-abbrev pub NewBreaks : SchemaValue → List Stored → Definition → Dependency → List ℕ → List Value → List Value → Type 0
-NewBreaks schema tables (Fd left right) fd name first second = FdBreaks schema tables (length schema.fds - 1) fd name first second
-NewBreaks schema tables (Object own relation pairs) fd name first second = ObjectBreaks schema tables (length schema.objects - 1) fd name first second
-NewBreaks schema tables _ fd name first second = ⊥
+abbrev pub AddedBreaks : SchemaValue → List Stored → Definition → Dependency → List ℕ → List Value → List Value → Type 0
+AddedBreaks schema tables (Fd left right) fd name first second = FdBreaks schema tables (length schema.fds - 1) fd name first second
+AddedBreaks schema tables (Object own relation pairs) fd name first second = ObjectBreaks schema tables (length schema.objects - 1) fd name first second
+AddedBreaks schema tables _ fd name first second = ⊥

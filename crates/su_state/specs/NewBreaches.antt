@@ -1,0 +1,29 @@
+-- Stored rows that break what a definition adds.
+-- added: the last dependency or the last object of the schema with the definition
+use Rattle.std.specs.Prelude.{◌≡◌, ◌-◌, ℕ, List, [], length, slice_index_or, Contains}
+use Rattle.su_rel.specs.Stored.{Stored}
+use Rattle.su_schema.specs.declared.definitions.Definition.{Definition}
+use Rattle.su_schema.specs.declared.definitions.Definition.TheVariants.{Object, Fd}
+use Rattle.su_schema.specs.SchemaValue.{SchemaValue}
+use Rattle.su_schema.specs.Entries.{object_names}
+use Rattle.su_state.specs.declared.faults.DefineFault.{DefineFault}
+use Rattle.su_state.specs.declared.faults.DefineFault.TheVariants.{Breaks}
+use Rattle.su_state.specs.DatabaseValue.{rows_in}
+use Rattle.su_state.specs.Breaches.{Breach, fd_at, IsBreach}
+
+-- the breach is one of what the definition adds
+abbrev pub IsOfAdded : SchemaValue → Definition → Breach → Type 0
+IsOfAdded schema (Fd left right) b = b.dependency ≡ length schema.fds - 1
+IsOfAdded schema (Object own relation pairs) b = b.object ≡ length schema.objects - 1
+IsOfAdded schema _ b = ⊥
+
+-- two stored rows of a relation break what the definition adds
+pub record IsNewBreach (schema : SchemaValue) (tables : List Stored) (definition : Definition) (b : Breach) : Type 0 where
+  pub relation : ℕ
+  pub breach : IsBreach schema relation b
+  pub added : IsOfAdded schema definition b
+  pub stored : Contains (rows_in tables relation) b.first × Contains (rows_in tables relation) b.second
+
+-- how a breach is told: the dependency itself, the object by its name, and the rows
+abbrev pub told : SchemaValue → Breach → DefineFault
+told schema b = Breaks (fd_at schema b.dependency) (slice_index_or (object_names schema) b.object []) b.first b.second
