@@ -1,4 +1,9 @@
 pub mod Causes
 pub mod Ends
 pub mod Files
+pub mod HandOver
+pub mod Moments
+pub mod Programs
+pub mod Reading
 pub mod Wholes
+pub mod Writing

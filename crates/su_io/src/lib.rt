@@ -1,5 +1,8 @@
 //! The outside: a shelf of files, a sink of bytes, and whole reads and writes over them.
 //!
+//! `Outside` is both as one value, over which programs are run: it reads files whole, tells texts, and
+//! hands over at the end; `Status` is how a program ends.
+//!
 //! Each object counts its faults, and a call answers `Failed` only where that count rose in the
 //! call. What was read and written is told by the objects in memory, and by no real file or stream:
 //! `FileShelf` and `StreamSink` are the trusted edge, a few lines each. A whole read takes memory
@@ -11,10 +14,12 @@ mod file_shelf;
 mod files;
 mod memory_shelf;
 mod memory_sink;
+mod outside;
 mod pieces;
 mod rooms;
 mod shelf;
 mod sink;
+mod status;
 mod steady_shelf;
 mod steady_sink;
 mod stream_sink;
@@ -25,8 +30,10 @@ pub use file_shelf::FileShelf;
 pub use files::File;
 pub use memory_shelf::MemoryShelf;
 pub use memory_sink::MemorySink;
+pub use outside::Outside;
 pub use shelf::Shelf;
 pub use sink::Sink;
+pub use status::Status;
 pub use steady_shelf::SteadyShelf;
 pub use steady_sink::SteadySink;
 pub use stream_sink::StreamSink;

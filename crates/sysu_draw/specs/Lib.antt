@@ -1,3 +1,3 @@
 pub mod Ends
-pub mod Moments
-pub mod TextEnds
+pub mod Replies
+pub mod inside

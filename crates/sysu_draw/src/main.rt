@@ -5,14 +5,12 @@
 #![tactic(auto)]
 
 mod replying;
-mod status;
 mod top;
 
-use status::Status;
 use std::process::ExitCode;
 use std::{env, io};
 use su_base::{List, NoMemory, Str};
-use su_io::{FileShelf, StreamSink};
+use su_io::{FileShelf, Outside, Status, StreamSink};
 use top::run;
 
 /// The words after the program's name; none where one is no text.
@@ -33,10 +31,12 @@ fn words(rt: &HostRuntime) -> Result<List<Str>, NoMemory> {
 }
 
 fn main(rt: HostRuntime) -> ExitCode {
-    let mut shelf = FileShelf::new(rt);
-    let mut out = StreamSink::new(rt);
+    let mut outside = Outside {
+        shelf: FileShelf::new(rt),
+        sink: StreamSink::new(rt),
+    };
     let status = match words(&rt) {
-        Ok(words) => run(rt.alloc(), words.as_slice(), &mut shelf, &mut out),
+        Ok(words) => run(rt.alloc(), words.as_slice(), &mut outside),
         Err(NoMemory) => Status::NoMemory,
     };
     ExitCode::from(status as u8)

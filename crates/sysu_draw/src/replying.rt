@@ -1,15 +1,14 @@
 //! The reply to a text.
-ghost use Rattle.std.specs.Prelude.{◌≡◌, ◌≤◌, IfOk, length};
-ghost use Rattle.su_io.specs.Ends.{Grew};
-ghost use Rattle.sysu_draw.specs.Moments.{Output, Wrote, WroteFront};
-ghost use Rattle.sysu_draw.specs.TextEnds.{IsReply, TextEnds, fault_line};
+ghost use Rattle.std.specs.Prelude.{◌≡◌, ◌≢◌, IfOk};
+ghost use Rattle.su_io.specs.Moments.{Moment};
+ghost use Rattle.sysu_draw.specs.Replies.{IsReply, fault_line};
 ghost use Rattle.sysu_draw.specs.Ends.{UsageEnds};
+ghost use Rattle.sysu_draw.specs.inside.Tellings.{ReplyEnds};
 
-use crate::status::Status;
 use std::alloc::Global;
 use su_base::{List, NoMemory};
 use su_draw::{Fault, picture_of};
-use su_io::{Sink, write_all};
+use su_io::{Outside, Shelf, Sink, Status};
 
 /// What is written for a text, and the status of a run that writes it.
 #[derive(Drop)]
@@ -27,7 +26,8 @@ fn fault_reply(alloc: Global, number: usize) -> Result<List<u8>, NoMemory>
 }
 
 fn reply_to(alloc: Global, text: &[u8]) -> Result<Reply, NoMemory>
-    ensures { IfOk result (λ reply. IsReply text.now reply.status reply.bytes) }
+    ensures reply { IfOk result (λ reply. IsReply text.now reply.status reply.bytes) }
+    ensures status { IfOk result (λ reply. reply.status ≢ Status.WriteFault) }
 {
     match picture_of(alloc, text) {
         Ok(bytes) => Ok(Reply {
@@ -37,7 +37,7 @@ fn reply_to(alloc: Global, text: &[u8]) -> Result<Reply, NoMemory>
         Err(Fault::Line(number)) => {
             let bytes = fault_reply(alloc, number)?;
             Ok(Reply {
-                status: Status::Refused,
+                status: Status::SomeRefused,
                 bytes,
             })
         }
@@ -46,30 +46,25 @@ fn reply_to(alloc: Global, text: &[u8]) -> Result<Reply, NoMemory>
 }
 
 /// Writes the reply to a text.
-pub(crate) fn draw_text<K: Sink>(alloc: Global, text: &[u8], out: &mut K) -> Status
-    ensures { TextEnds text.now
-        (record { written = K.written out.old; faults = K.faults out.old })
-        (record { written = K.written out.new; faults = K.faults out.new }) result }
+pub(crate) fn draw_text<H: Shelf, K: Sink>(
+    alloc: Global,
+    text: &[u8],
+    outside: &mut Outside<H, K>,
+) -> Status
+    ensures { ReplyEnds text.now outside.old outside.new result }
 {
-    let Ok(reply) = reply_to(alloc, text) else {
-        return Status::NoMemory;
-    };
-    match write_all(out, reply.bytes.as_slice()) {
-        Ok(()) => reply.status,
-        Err(_) => Status::WriteFault,
+    match reply_to(alloc, text) {
+        Ok(reply) => outside.tell(reply.bytes.as_slice(), reply.status),
+        Err(NoMemory) => Status::NoMemory,
     }
 }
 
 const USAGE: &str = "usage: sysu_draw FILE\n";
 
 /// Writes the usage line.
-pub(crate) fn tell_usage<K: Sink>(out: &mut K) -> Status
-    ensures { UsageEnds
-        (record { written = K.written out.old; faults = K.faults out.old })
-        (record { written = K.written out.new; faults = K.faults out.new }) result }
+pub(crate) fn tell_usage<H: Shelf, K: Sink>(outside: &mut Outside<H, K>) -> Status
+    ensures files { outside.new.files ≡ outside.old.files }
+    ensures ends { UsageEnds outside.old outside.new result }
 {
-    match write_all(out, USAGE.as_bytes()) {
-        Ok(()) => Status::Usage,
-        Err(_) => Status::WriteFault,
-    }
+    outside.tell(USAGE.as_bytes(), Status::Usage)
 }
