@@ -1,5 +1,6 @@
 pub mod Changes
 pub mod Explanations
+pub mod inside
 pub mod Lines
 pub mod MinimalLines
 pub mod Refusals

@@ -6,7 +6,3 @@ use Rattle.std.specs.Prelude.{◌≡◌, ℕ, List, [], ◌∷◌, ◌++◌}
 abbrev pub AreLines : {A : Type 0} → (A → List ℕ → Type 0) → List A → List ℕ → Type 0
 AreLines P [] text = text ≡ []
 AreLines P (x ∷ xs) text = (line : List ℕ) × (rest : List ℕ) × (text ≡ line ++ rest) × P x line × AreLines P xs rest
-
--- such a text stands behind what was there
-abbrev pub Adds : (List ℕ → Type 0) → List ℕ → List ℕ → Type 0
-Adds P old new = (text : List ℕ) × (new ≡ old ++ text) × P text

@@ -1,10 +1,9 @@
 -- The replies to statements that are accepted. Each line ends with a line feed.
 -- header: the names above the rows; used: the dependencies of a derivation, by number
-use Rattle.std.specs.Prelude.{◌≡◌, ℕ, ◌+◌, List, [], ◌∷◌, ◌++◌, length, map, flat_map, codes, decimal, nat_lt, if◌then◌else◌, slice_index_or}
+use Rattle.std.specs.Prelude.{◌≡◌, ℕ, ◌+◌, List, [], ◌∷◌, ◌++◌, length, map, flat_map, codes, decimal, nat_lt, if◌then◌else◌}
 use Rattle.std.specs.Ordering.{nat_cmp}
-use Rattle.std.specs.FinSet.{FinSet, empty}
+use Rattle.std.specs.FinSet.{FinSet}
 use Rattle.su_base.specs.declared.values.Value.{Value}
-use Rattle.su_fd.specs.declared.dependencies.Fd.{Fd}
 use Rattle.su_fd.specs.Closure.{IsClosureOf}
 use Rattle.su_fd.specs.Derivation.{IsDerivation}
 use Rattle.su_csv.specs.Written.{text_of}
@@ -13,6 +12,7 @@ use Rattle.su_schema.specs.SchemaValue.{SchemaValue}
 use Rattle.su_ddl.specs.Shown.{schema_text}
 use Rattle.su_query.specs.declared.statements.Query.{Query}
 use Rattle.su_query.specs.ShownParts.{ref_symbols}
+use Rattle.su_state.specs.Breaches.{fd_at}
 use Rattle.su_show.specs.Values.{attributes_text, objects_text, fd_text}
 
 -- the outputs of a query as they are shown
@@ -36,10 +36,6 @@ maximal_lines schema number (set ∷ sets) = maximal_line schema number set ++ m
 -- the schema as it is written, and its maximal objects; the declared ones come first
 abbrev pub schema_reply : SchemaValue → List (FinSet nat_cmp) → List ℕ
 schema_reply schema sets = schema_text schema ++ maximal_lines schema 0 sets
-
--- the dependency of this number
-abbrev pub fd_at : SchemaValue → ℕ → Fd
-fd_at schema number = slice_index_or schema.fds number (record { left = empty; right = empty })
 
 -- the line of a step of a derivation
 abbrev pub by_line : SchemaValue → ℕ → List ℕ

@@ -8,7 +8,7 @@ use Rattle.su_csv.specs.declared.faults.CsvFault.{CsvFault}
 use Rattle.su_csv.specs.declared.faults.CsvFault.TheVariants as csv
 use Rattle.su_state.specs.declared.faults.StateFault.{StateFault}
 use Rattle.su_state.specs.declared.faults.StateFault.TheVariants as state
-use Rattle.su_show.specs.Replies.{fd_at}
+use Rattle.su_state.specs.Breaches.{fd_at}
 use Rattle.su_show.specs.Values.{fd_text, row_text}
 
 -- the name of a column of a relation

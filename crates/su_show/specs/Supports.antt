@@ -15,8 +15,8 @@ left_text (Some n) = codes " left " ++ decimal n
 left_text None = []
 
 -- the number of a kept row
-abbrev pub row_text : ℕ → List ℕ
-row_text r = codes "  row " ++ decimal r
+abbrev pub row_number_text : ℕ → List ℕ
+row_number_text r = codes "  row " ++ decimal r
 
 -- how many candidates it has
 abbrev pub candidates_text : ℕ → List ℕ
@@ -24,7 +24,7 @@ candidates_text n = codes " candidates " ++ decimal n
 
 -- a row and its counts
 abbrev pub counted_line : Counted → List ℕ
-counted_line c = row_text c.row ++ candidates_text c.candidates ++ left_text c.left ++ codes "\n"
+counted_line c = row_number_text c.row ++ candidates_text c.candidates ++ left_text c.left ++ codes "\n"
 
 -- a term and its rows
 abbrev pub support_lines : Support → List ℕ

@@ -1,6 +1,7 @@
 //! A closure and how it comes about.
 ghost use Rattle.std.specs.Prelude.{◌≡◌, ◌++◌, flat_map, IfOk, OnOk};
-ghost use Rattle.su_show.specs.Replies.{fd_at, by_line, closure_reply, IsClosureReply};
+ghost use Rattle.su_state.specs.Breaches.{fd_at};
+ghost use Rattle.su_show.specs.Replies.{by_line, closure_reply, IsClosureReply};
 
 use crate::parts::push;
 use crate::values::{push_attributes, push_fd};

@@ -5,7 +5,8 @@ ghost use Rattle.std.specs.Int.{bit_at};
 ghost use Rattle.su_tableau.specs.Essential.{IsEssential};
 ghost use Rattle.su_tableau.specs.Parts.{keep_if};
 ghost use Rattle.su_map.specs.Lists.{row_numbers};
-ghost use Rattle.su_show.specs.Lines.{Adds, AreLines};
+ghost use Rattle.su_show.specs.Lines.{AreLines};
+ghost use Rattle.su_show.specs.inside.Adding.{Adds};
 ghost use Rattle.su_lex.specs.Wordings.{numbers_text};
 ghost use Rattle.su_show.specs.MinimalLines.{minimal_lines, cover_line, cover_of, cover_text, sources_line, IsSourcesLine, IsEnd};
 

@@ -1,6 +1,6 @@
 //! The counts of candidates, and of what is left of them.
 ghost use Rattle.std.specs.Prelude.{◌≡◌, ◌++◌, flat_map, IfOk, OnOk};
-ghost use Rattle.su_show.specs.Supports.{shape_text, left_text, row_text, candidates_text, counted_line, support_lines, supports_text};
+ghost use Rattle.su_show.specs.Supports.{shape_text, left_text, row_number_text, candidates_text, counted_line, support_lines, supports_text};
 
 use crate::parts::{push, push_number};
 use std::alloc::Global;
@@ -26,7 +26,7 @@ fn push_left(alloc: Global, out: &mut Vec<u8>, left: Option<u64>) -> Result<(), 
 }
 
 fn push_row(alloc: Global, out: &mut Vec<u8>, row: u8) -> Result<(), NoMemory>
-    ensures { OnOk result (out.new.items ≡ out.old.items ++ row_text row) }
+    ensures { OnOk result (out.new.items ≡ out.old.items ++ row_number_text row) }
 {
     push(out, "  row ")?;
     push_number(alloc, out, row as u64)
