@@ -1,9 +1,10 @@
-ghost use Rattle.std.specs.Prelude.{◌≡◌, ◌*◌, ◌%◌, ◌^◌, Some};
+ghost use Rattle.std.specs.Prelude.{◌≡◌, ◌≤◌, ◌*◌, ◌%◌, ◌^◌, Some};
 
 use std::alloc::Global;
-use std::sync::atomic::{AtomicU64, Ordering};
 use std::test::Fail;
+use std::thread::Threads;
 use su_base::{List, NoMemory};
+use su_gates::{InTurn, Meeting};
 use su_par::{Gate, Job, OpenGate, each};
 
 #[derive(Drop)]
@@ -19,8 +20,49 @@ impl Job for Twice {
     }
 }
 
+fn numbers(alloc: Global, count: u64) -> Result<List<Twice>, NoMemory> {
+    let mut jobs = List::new(alloc);
+    for number in 0..count {
+        jobs.push(Twice(number))?;
+    }
+    Ok(jobs)
+}
+
+/// What comes of so many jobs.
+fn doubled<R: Threads + Sync, G: Gate>(
+    rt: &R,
+    alloc: Global,
+    count: u64,
+    workers: u8,
+    gate: &G,
+) -> Result<List<u64>, NoMemory>
+    requires least { 1 ≤ workers }
+    requires most { workers ≤ 16 }
+{
+    each(rt, alloc, numbers(alloc, count)?, workers, gate)
+}
+
+#[test]
+fn outs_stand_in_the_order_of_the_jobs(rt: HostRuntime) -> Result<(), Fail> {
+    for workers in [1u8, 2, 3, 8, 16] {
+        let outs = doubled(&rt, rt.alloc(), 5, workers, &OpenGate)?;
+        assert!(rt;
+            outs.as_slice() == [0, 2, 4, 6, 8].as_slice(),
+            "{workers} workers"
+        );
+    }
+    Ok(())
+}
+
+#[test]
+fn of_no_job_nothing_comes(rt: HostRuntime) -> Result<(), Fail> {
+    let outs = doubled(&rt, rt.alloc(), 0, 2, &OpenGate)?;
+    assert!(rt; outs.is_empty());
+    Ok(())
+}
+
 /// A job that finds memory only where there is a number.
-#[derive(Debug, Drop)]
+#[derive(Drop)]
 struct Found(Option<u64>);
 
 impl Job for Found {
@@ -33,110 +75,39 @@ impl Job for Found {
     }
 }
 
-fn numbers(alloc: Global, count: u64) -> Result<List<Twice>, NoMemory> {
+/// Three jobs, of which the middle one finds no memory.
+fn starving(alloc: Global) -> Result<List<Found>, NoMemory> {
     let mut jobs = List::new(alloc);
-    for number in 0..count {
-        jobs.push(Twice(number))?;
+    for number in [Some(1), None, Some(3)] {
+        jobs.push(Found(number))?;
     }
     Ok(jobs)
 }
 
 #[test]
-fn outs_stand_in_the_order_of_the_jobs(rt: HostRuntime) -> Result<(), Fail> {
-    let alloc = rt.alloc();
-    for workers in [1u8, 2, 3, 8, 16] {
-        let outs = each(&rt, alloc, numbers(alloc, 5)?, workers, &OpenGate)?;
-        assert_eq!(rt;
-            outs.as_slice(),
-            [0, 2, 4, 6, 8].as_slice(),
-            "{workers} workers"
-        );
-        let none = each(&rt, alloc, numbers(alloc, 0)?, workers, &OpenGate)?;
-        assert!(rt; none.is_empty(), "{workers} workers");
-    }
-    Ok(())
-}
-
-#[test]
 fn a_job_without_memory_is_want_of_memory_of_the_call(rt: HostRuntime) -> Result<(), Fail> {
-    let alloc = rt.alloc();
     for workers in [1u8, 2, 16] {
-        let mut jobs = List::new(alloc);
-        jobs.push(Found(Some(1)))?;
-        jobs.push(Found(None))?;
-        jobs.push(Found(Some(3)))?;
-        let outs = each(&rt, alloc, jobs, workers, &OpenGate);
+        let jobs = starving(rt.alloc())?;
+        let outs = each(&rt, rt.alloc(), jobs, workers, &OpenGate);
         assert!(rt; outs.is_err(), "{workers} workers");
     }
     Ok(())
 }
 
-/// A gate at which two jobs wait for each other, for a bounded number of turns.
-#[derive(Drop)]
-struct Meeting {
-    first: AtomicU64,
-    second: AtomicU64,
-    missed: AtomicU64,
-}
-
-impl Gate for Meeting {
-    fn pass(&self, job: usize) {
-        let (own, other) = if job == 0 {
-            (&self.first, &self.second)
-        } else {
-            (&self.second, &self.first)
-        };
-        let passes = own.fetch_add(1, Ordering::SeqCst).wrapping_add(1);
-        for _ in 0..500_000_000u32 {
-            if other.load(Ordering::SeqCst) >= passes {
-                return;
-            }
-        }
-        self.missed.fetch_add(1, Ordering::SeqCst);
-    }
-}
-
 #[test]
 fn two_jobs_meet_at_the_gate(rt: HostRuntime) -> Result<(), Fail> {
-    let alloc = rt.alloc();
-    let gate = Meeting {
-        first: AtomicU64::new(0),
-        second: AtomicU64::new(0),
-        missed: AtomicU64::new(0),
-    };
-    let outs = each(&rt, alloc, numbers(alloc, 2)?, 2, &gate)?;
-    assert_eq!(rt; outs.as_slice(), [0, 2].as_slice());
-    assert_eq!(rt; gate.missed.load(Ordering::SeqCst), 0);
-    assert_eq!(rt; gate.first.load(Ordering::SeqCst), 1);
-    assert_eq!(rt; gate.second.load(Ordering::SeqCst), 1);
+    let gate = Meeting::default();
+    let outs = doubled(&rt, rt.alloc(), 2, 2, &gate)?;
+    assert!(rt; outs.as_slice() == [0, 2].as_slice());
+    assert!(rt; gate.passes() == (1, 1, 0));
     Ok(())
-}
-
-/// A gate that notes whether a job is passed out of turn.
-#[derive(Drop)]
-struct InTurn {
-    next: AtomicU64,
-    late: AtomicU64,
-}
-
-impl Gate for InTurn {
-    fn pass(&self, job: usize) {
-        if self.next.fetch_add(1, Ordering::SeqCst) != job as u64 {
-            self.late.fetch_add(1, Ordering::SeqCst);
-        }
-    }
 }
 
 #[test]
 fn one_worker_takes_the_jobs_one_after_another(rt: HostRuntime) -> Result<(), Fail> {
-    let alloc = rt.alloc();
-    let gate = InTurn {
-        next: AtomicU64::new(0),
-        late: AtomicU64::new(0),
-    };
-    let outs = each(&rt, alloc, numbers(alloc, 9)?, 1, &gate)?;
-    assert_eq!(rt; outs.len(), 9);
-    assert_eq!(rt; gate.next.load(Ordering::SeqCst), 9);
-    assert_eq!(rt; gate.late.load(Ordering::SeqCst), 0);
+    let gate = InTurn::default();
+    let outs = doubled(&rt, rt.alloc(), 9, 1, &gate)?;
+    assert!(rt; outs.len() == 9);
+    assert!(rt; gate.passes() == (9, 0));
     Ok(())
 }
