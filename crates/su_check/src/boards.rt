@@ -15,10 +15,20 @@ use su_tableau::Sym;
 
 /// The variables of the rows, ascending, and for each cell the number of its variable: the place
 /// where it stands first. Constants and symbols of the head have none.
-#[derive(Debug, Drop)]
+#[derive(Debug)]
 pub struct Board {
     pub variables: List<u32>,
     pub numbers: List<List<Option<usize>>>,
+}
+
+/// Not derived, so that it is a single call wherever a board goes out of scope.
+impl Drop for Board {
+    fn drop(self) {
+        let Board {
+            variables: _,
+            numbers: _,
+        } = self;
+    }
 }
 
 /// Adds the variables of the row.

@@ -11,7 +11,7 @@ pub struct RowTree {
 }
 
 /// A tableau with its kept rows, its fold, and a tree for each kept row.
-#[derive(Debug, Drop)]
+#[derive(Debug)]
 pub struct Term {
     pub number: u32,
     pub head: List<Sym>,
@@ -19,6 +19,20 @@ pub struct Term {
     pub kept: List<u8>,
     pub fold: List<u8>,
     pub trees: List<RowTree>,
+}
+
+/// Not derived, so that it is a single call wherever a term goes out of scope.
+impl Drop for Term {
+    fn drop(self) {
+        let Term {
+            number: _,
+            head: _,
+            rows: _,
+            kept: _,
+            fold: _,
+            trees: _,
+        } = self;
+    }
 }
 
 /// The kinds of the columns, and the terms.

@@ -22,11 +22,22 @@ use su_tableau::{Sym, full};
 /// For each row the kept rows to which it can go alone, and for each cell the rows that have its symbol
 /// there, as sets in the bits of words. The telling columns are those in which not all rows are alike:
 /// the others tell no targets apart.
-#[derive(Debug, Drop)]
+#[derive(Debug)]
 pub struct Guide {
     pub alone: List<u64>,
     pub alike: List<List<u64>>,
     pub telling: List<usize>,
+}
+
+/// Not derived, so that it is a single call wherever a guide goes out of scope.
+impl Drop for Guide {
+    fn drop(self) {
+        let Guide {
+            alone: _,
+            alike: _,
+            telling: _,
+        } = self;
+    }
 }
 
 /// The rows that have the symbol in the column.

@@ -135,11 +135,11 @@ impl Schema {
     fn copy_parts(&self) -> Result<Schema, SchemaFault>
         ensures { IfOk result (λ schema. schema ≡ self.now) }
     {
+        let fds = copy_fds(self.alloc, self.fds.as_slice())?;
+        let declared = copy_declared(self.alloc, self.declared.as_slice())?;
         let attributes = copy_attributes(self.alloc, &self.attributes)?;
         let relations = copy_relations(self.alloc, &self.relations)?;
         let objects = copy_objects(self.alloc, &self.objects)?;
-        let fds = copy_fds(self.alloc, self.fds.as_slice())?;
-        let declared = copy_declared(self.alloc, self.declared.as_slice())?;
         Ok(Schema {
             alloc: self.alloc,
             attributes,

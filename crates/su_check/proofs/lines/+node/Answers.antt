@@ -1,3 +1,4 @@
+-- A node is read in the one way that its symbols allow: the branches read so far and what is left are together what stood there, so each refusal and each end agrees with any node that the symbols spell.
 use Rattle.std.proofs.Common.{◌≡◌, ◌∷◌, Err, refl, sym, ap, ◌∙◌, arith}
 use Rattle.std.proofs.lemmas.List.Elements.{All-nil, All-push}
 use Rattle.std.proofs.lemmas.Result.{err_from_is_err_and}

@@ -1,3 +1,4 @@
+-- The symbols of a certificate determine it: each part is read as the one that any certificate of these symbols has, so a refusal contradicts there being one.
 use Rattle.std.proofs.Common.{◌≡◌, length, All, codes, Err, sym, ap, subst, ◌∙◌, arith}
 use Rattle.std.proofs.lemmas.Result.{err_from_is_err_and}
 use Rattle.su_check.specs.Ranges.{IsTermInRange}
