@@ -1,21 +1,20 @@
 //! How the rows of a source are reached with few fetches.
-ghost use Rattle.std.specs.Prelude.{◌≡◌, ◌<◌, ◌≤◌, ℕ, Some, List, [], ◌∷◌, length, All, Contains, IfOk, IfSome, slice_get, slice_index_or};
+ghost use Rattle.std.specs.Prelude.{◌≡◌, ◌<◌, ◌≤◌, ◌++◌, ℕ, Some, List, [], ◌∷◌, length, Contains, IfOk, IfSome, slice_get, slice_index_or};
 ghost use Rattle.su_base.specs.declared.values.Value.{Value as AValue};
 ghost use Rattle.su_tableau.specs.declared.symbols.Sym.TheVariants.{Const};
 ghost use Rattle.su_index.specs.Matches.{matches};
 ghost use Rattle.su_index.specs.Tables.{table_at};
-ghost use Rattle.su_exec.specs.inside.Coded.{AreCoded, IsCoded};
-ghost use Rattle.su_reduce.specs.Codes.{Extends};
 ghost use Rattle.su_exec.specs.Shares.{share};
 ghost use Rattle.su_exec.specs.Tasks.{FitsTables, HasSources};
-ghost use Rattle.su_exec.specs.inside.Ways.{IsCheapest, IsWay, matches_all};
+ghost use Rattle.su_exec.specs.inside.Edges.{Edge};
+ghost use Rattle.su_exec.specs.inside.Ways.{AreOfCodes, IsCheapest, IsWay};
 
 use crate::candidates::Candidates;
 use crate::places::place_of;
 use crate::tasks::{Source, TaskRow};
 use std::alloc::{AllocError, Global};
 use su_base::Value;
-use su_index::Rows;
+use su_index::{Found, Rows};
 use su_reduce::{Codes, Distinct, Sheet, variable_of};
 use su_tableau::Sym;
 
@@ -26,11 +25,18 @@ pub struct Access {
     pub cost: usize,
 }
 
-/// All rows, or those with one of these codes' values in a column.
+/// All rows, or those at these positions.
 #[derive(Drop)]
 pub enum Way {
     All,
-    Values { column: u8, codes: Sheet },
+    Listed(Vec<usize>),
+}
+
+/// What is known of the variables so far.
+#[derive(Clone, Copy)]
+pub struct Known<'a> {
+    pub codes: &'a Codes,
+    pub edges: &'a [Candidates],
 }
 
 /// The place of the constant that the fewest rows have, if there is one, and how many these are.
@@ -40,14 +46,14 @@ pub struct Cheapest {
     pub cost: usize,
 }
 
-/// The code alone.
-fn one_code(alloc: Global, code: u32) -> Result<Sheet, AllocError>
-    ensures width { IfOk result (λ codes. codes.width ≡ 1) }
-    ensures rows { IfOk result (λ codes. codes.rows ≡ (code ∷ []) ∷ []) }
+/// Puts the positions behind those that are there.
+fn add_found(found: &Found, positions: &mut Vec<usize>) -> Result<(), AllocError>
+    ensures { IfOk result (λ _. positions.new.items ≡ positions.old.items ++ found.now) }
 {
-    let mut codes = Sheet::new(alloc, 1);
-    codes.push(&[code])?;
-    Ok(codes)
+    for k in 0..found.len() {
+        positions.push(found.position(k))?;
+    }
+    Ok(())
 }
 
 /// The codes at a place of the candidates, each once.
@@ -55,7 +61,6 @@ fn codes_at(alloc: Global, edge: &Candidates, place: usize) -> Result<Sheet, All
     requires { place < length edge.now.vars }
     ensures width { IfOk result (λ codes. codes.width ≡ 1) }
     ensures all { IfOk result (λ codes. (i : ℕ) → i < length edge.now.rows → Contains codes.rows (slice_index_or (slice_index_or edge.now.rows i []) place 0 ∷ [])) }
-    ensures only { IfOk result (λ codes. All (λ r. (i : ℕ) × (i < length edge.now.rows) × (place < length (slice_index_or edge.now.rows i [])) × (r ≡ slice_index_or (slice_index_or edge.now.rows i []) place 0 ∷ [])) codes.rows) }
 {
     let mut codes = Distinct::new(alloc, 1)?;
     for i in 0..edge.len() {
@@ -65,29 +70,35 @@ fn codes_at(alloc: Global, edge: &Candidates, place: usize) -> Result<Sheet, All
     Ok(codes.into_rows())
 }
 
-/// How many rows have one of the codes' values in the column; some number from `most` on where there
-/// are so many.
-fn matching_all<R: Rows>(
+/// The positions of the rows that have one of the codes' values in the column, unless they are `most` or
+/// more. Each value is searched once.
+fn positions_of<R: Rows>(
+    alloc: Global,
     rows: &R,
     table: u8,
     column: u8,
     codes: &Codes,
     values: &Sheet,
     most: usize,
-) -> usize
+) -> Result<Option<Vec<usize>>, AllocError>
     requires table { table < length (R.tables rows.now) }
     requires column { column < (table_at (R.tables rows.now) table).width }
     requires one { values.now.width ≡ 1 }
-    ensures { result < most → matches_all codes.now column (table_at (R.tables rows.now) table).rows values.now.rows ≤ result }
+    ensures few { IfOk result (λ found. IfSome found (λ positions. length positions.items ≤ most)) }
+    ensures listed { IfOk result (λ found. IfSome found (λ positions. AreOfCodes (table_at (R.tables rows.now) table).rows column codes.now values.now.rows (length values.now.rows) positions.items)) }
 {
-    let mut count = 0usize;
+    let mut positions = Vec::new(alloc);
     for i in 0..values.len() {
+        let found = rows.found(table, column, codes.value(values.row(i)[0]));
+        let before = positions.len();
+        let more = found.len();
+        let count = before.saturating_add(more);
         if count >= most {
-            return count;
+            return Ok(None);
         }
-        count = count.saturating_add(rows.matching(table, column, codes.value(values.row(i)[0])));
+        add_found(&found, &mut positions)?;
     }
-    count
+    Ok(Some(positions))
 }
 
 /// The candidates with the variable that have the fewest rows, and the variable's place.
@@ -162,13 +173,10 @@ fn by_constants<R: Rows>(
     rows: &R,
     row: &TaskRow,
     source: &Source,
-    codes: &mut Codes,
-    edges: &[Candidates],
 ) -> Result<Access, AllocError>
-    requires source { FitsTables (R.tables rows.now) (length row.now.cells) source.now }
-    ensures way { IfOk result (λ access. IsWay (R.tables rows.now) codes.new edges.now row.now source.now access.way access.cost) }
+    requires { FitsTables (R.tables rows.now) (length row.now.cells) source.now }
+    ensures way { IfOk result (λ access. (values : List AValue) (es : List (Edge ℕ)) → IsWay (R.tables rows.now) values es row.now source.now access.way access.cost) }
     ensures share { IfOk result (λ access. access.cost ≤ share (R.tables rows.now) row.now.cells source.now) }
-    ensures codes { IfOk result (λ _. Extends codes.old codes.new) }
 {
     let best = cheapest_of(rows, row, source);
     let Some(p) = best.place else {
@@ -177,13 +185,14 @@ fn by_constants<R: Rows>(
             cost: best.cost,
         });
     };
-    let code = codes.code(alloc, constant_of(row.cells.get(p)))?;
-    let alone = one_code(alloc, code)?;
+    // For the proof: the table is a relation.
+    let _count = rows.len(source.relation);
+    let value = constant_of(row.cells.get(p));
+    let found = rows.found(source.relation, *source.columns.get(p), value);
+    let mut positions = Vec::new(alloc);
+    add_found(&found, &mut positions)?;
     Ok(Access {
-        way: Way::Values {
-            column: *source.columns.get(p),
-            codes: alone,
-        },
+        way: Way::Listed(positions),
         cost: best.cost,
     })
 }
@@ -201,42 +210,49 @@ fn by_variable<R: Rows>(
     rows: &R,
     row: &TaskRow,
     source: &Source,
-    codes: &Codes,
-    edges: &[Candidates],
+    known: &Known,
     p: usize,
     best: Access,
 ) -> Result<Access, AllocError>
     requires source { FitsTables (R.tables rows.now) (length row.now.cells) source.now }
-    requires coded { All (IsCoded codes.now) edges.now }
     requires place { p < length row.now.cells }
-    requires so_far { IsWay (R.tables rows.now) codes.now edges.now row.now source.now best.way best.cost }
-    ensures way { IfOk result (λ access. IsWay (R.tables rows.now) codes.now edges.now row.now source.now access.way access.cost) }
+    requires so_far { IsWay (R.tables rows.now) known.now.codes.now known.now.edges.now row.now source.now best.way best.cost }
+    ensures way { IfOk result (λ access. IsWay (R.tables rows.now) known.now.codes.now known.now.edges.now row.now source.now access.way access.cost) }
     ensures less { IfOk result (λ access. access.cost ≤ best.cost) }
 {
     let Some(k) = variable_of(row.cells.get(p)) else {
         return Ok(best);
     };
-    let Some((e, place)) = fewest(edges, k) else {
+    let Some((e, place)) = fewest(known.edges, k) else {
         return Ok(best);
     };
-    let edge = &edges[e];
+    let edge = &known.edges[e];
     if edge.len() >= best.cost / WORTH {
         return Ok(best);
     }
+    // For the proof: the table is a relation.
+    let _count = rows.len(source.relation);
     let column = *source.columns.get(p);
     let values = codes_at(alloc, edge, place)?;
     let most = best.cost / LEAVES;
-    let cost = matching_all(rows, source.relation, column, codes, &values, most);
-    if cost >= most {
-        return Ok(best);
+    match positions_of(
+        alloc,
+        rows,
+        source.relation,
+        column,
+        known.codes,
+        &values,
+        most,
+    )? {
+        None => Ok(best),
+        Some(positions) => {
+            let cost = positions.len();
+            Ok(Access {
+                way: Way::Listed(positions),
+                cost,
+            })
+        }
     }
-    Ok(Access {
-        way: Way::Values {
-            column,
-            codes: values,
-        },
-        cost,
-    })
 }
 
 /// A way to the rows of the source that fit the row, at the cost of its share or less.
@@ -245,18 +261,15 @@ pub fn access_of<R: Rows>(
     rows: &R,
     row: &TaskRow,
     source: &Source,
-    codes: &mut Codes,
-    edges: &[Candidates],
+    known: &Known,
 ) -> Result<Access, AllocError>
-    requires source { FitsTables (R.tables rows.now) (length row.now.cells) source.now }
-    requires coded { All (IsCoded codes.old) edges.now }
-    ensures way { IfOk result (λ access. IsWay (R.tables rows.now) codes.new edges.now row.now source.now access.way access.cost) }
+    requires { FitsTables (R.tables rows.now) (length row.now.cells) source.now }
+    ensures way { IfOk result (λ access. IsWay (R.tables rows.now) known.now.codes.now known.now.edges.now row.now source.now access.way access.cost) }
     ensures share { IfOk result (λ access. access.cost ≤ share (R.tables rows.now) row.now.cells source.now) }
-    ensures codes { IfOk result (λ _. Extends codes.old codes.new) }
 {
-    let mut best = by_constants(alloc, rows, row, source, codes, edges)?;
+    let mut best = by_constants(alloc, rows, row, source)?;
     for p in 0..row.cells.len() {
-        best = by_variable(alloc, rows, row, source, codes, edges, p, best)?;
+        best = by_variable(alloc, rows, row, source, known, p, best)?;
     }
     Ok(best)
 }

@@ -45,7 +45,7 @@ fn row_at(alloc: Global, codes: &Codes, spots: &[Spot], row: &[u32]) -> Result<R
     requires { All (IsSpotIn (length row.now) 0) spots.now }
     ensures { IfOk result (λ values. values ≡ spot_values codes.now spots.now row.now) }
 {
-    let mut values = List::new(alloc);
+    let mut values = List::from_vec(Vec::with_capacity(alloc, spots.len())?);
     for spot in spots {
         let value = codes.value(code_at(*spot, row, &[])).copy(alloc)?;
         values.push(value)?;

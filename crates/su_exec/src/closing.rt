@@ -15,6 +15,14 @@ use crate::threes::{BLOCKS, blocks_of};
 use std::alloc::{AllocError, Global};
 use su_reduce::{Codes, Distinct, Sheet};
 
+/// Three that close a cycle.
+#[derive(Clone, Copy)]
+struct Three<'a> {
+    first: &'a Candidates,
+    second: &'a Candidates,
+    third: &'a Candidates,
+}
+
 /// The natural join.
 fn natural_join(
     alloc: Global,
@@ -149,28 +157,27 @@ fn block(
 fn add_block(
     alloc: Global,
     codes: &Codes,
-    part: &Candidates,
-    b: &Candidates,
-    c: &Candidates,
+    three: &Three,
     n: usize,
     vars: &[u32],
     out: &mut Distinct,
 ) -> Result<(), AllocError>
-    requires within { (k : ℕ) → has vars.now k ≡ true → among (part.now ∷ b.now ∷ c.now ∷ []) k ≡ true }
+    requires within { (k : ℕ) → has vars.now k ≡ true → among (three.now.first.now ∷ three.now.second.now ∷ three.now.third.now ∷ []) k ≡ true }
     requires width { out.old.width ≡ length vars.now }
     ensures width { IfOk result (λ _. out.new.width ≡ out.old.width) }
     ensures kept { IfOk result (λ _. (r : List ℕ) → Contains out.old.rows r → Contains out.new.rows r) }
-    ensures only { IfOk result (λ _. (r : List ℕ) → Contains out.new.rows r → Contains out.old.rows r ⊎ IsGiven vars.now (part.now ∷ b.now ∷ c.now ∷ []) always r) }
-    ensures all { IfOk result (λ _. (r : List ℕ) → IsGiven vars.now (part.now ∷ b.now ∷ c.now ∷ []) always r → Contains out.new.rows r) }
+    ensures only { IfOk result (λ _. (r : List ℕ) → Contains out.new.rows r → Contains out.old.rows r ⊎ IsGiven vars.now (three.now.first.now ∷ three.now.second.now ∷ three.now.third.now ∷ []) always r) }
+    ensures all { IfOk result (λ _. (r : List ℕ) → IsGiven vars.now (three.now.first.now ∷ three.now.second.now ∷ three.now.third.now ∷ []) always r → Contains out.new.rows r) }
 {
-    if part.len() == 0 {
+    let (a, b, c) = (three.first, three.second, three.third);
+    if a.len() == 0 {
         return Ok(());
     }
     if n % 2 == 0 {
-        add_three(alloc, codes, part, b, c, vars, out)?;
+        add_three(alloc, codes, a, b, c, vars, out)?;
         return Ok(());
     }
-    add_turned(alloc, codes, part, b, c, vars, out)?;
+    add_turned(alloc, codes, a, b, c, vars, out)?;
     Ok(())
 }
 
@@ -224,24 +231,27 @@ fn wanted_of(
 fn add_blocks(
     alloc: Global,
     codes: &Codes,
-    a: &Candidates,
-    b: &Candidates,
-    c: &Candidates,
+    three: &Three,
     blocks: &[usize],
     vars: &[u32],
     out: &mut Distinct,
 ) -> Result<(), AllocError>
-    requires blocks { length blocks.now ≡ length a.now.rows }
+    requires blocks { length blocks.now ≡ length three.now.first.now.rows }
     requires below { All (λ n. n < 64) blocks.now }
-    requires within { (k : ℕ) → has vars.now k ≡ true → among (a.now ∷ b.now ∷ c.now ∷ []) k ≡ true }
+    requires within { (k : ℕ) → has vars.now k ≡ true → among (three.now.first.now ∷ three.now.second.now ∷ three.now.third.now ∷ []) k ≡ true }
     requires width { out.old.width ≡ length vars.now }
     ensures width { IfOk result (λ _. out.new.width ≡ out.old.width) }
-    ensures only { IfOk result (λ _. (r : List ℕ) → Contains out.new.rows r → Contains out.old.rows r ⊎ IsGiven vars.now (a.now ∷ b.now ∷ c.now ∷ []) always r) }
-    ensures all { IfOk result (λ _. (r : List ℕ) → IsGiven vars.now (a.now ∷ b.now ∷ c.now ∷ []) always r → Contains out.new.rows r) }
+    ensures only { IfOk result (λ _. (r : List ℕ) → Contains out.new.rows r → Contains out.old.rows r ⊎ IsGiven vars.now (three.now.first.now ∷ three.now.second.now ∷ three.now.third.now ∷ []) always r) }
+    ensures all { IfOk result (λ _. (r : List ℕ) → IsGiven vars.now (three.now.first.now ∷ three.now.second.now ∷ three.now.third.now ∷ []) always r → Contains out.new.rows r) }
 {
     for n in 0..BLOCKS {
-        let part = block(alloc, a, blocks, n)?;
-        add_block(alloc, codes, &part, b, c, n, vars, out)?;
+        let part = block(alloc, three.first, blocks, n)?;
+        let some = Three {
+            first: &part,
+            second: three.second,
+            third: three.third,
+        };
+        add_block(alloc, codes, &some, n, vars, out)?;
     }
     Ok(())
 }
@@ -261,6 +271,11 @@ pub fn join_three(
     let vars = wanted_of(alloc, a, b, c, wanted)?;
     let blocks = blocks_of(alloc, a, b, c)?;
     let mut out = Distinct::new(alloc, vars.len())?;
-    add_blocks(alloc, codes, a, b, c, &blocks, &vars, &mut out)?;
+    let three = Three {
+        first: a,
+        second: b,
+        third: c,
+    };
+    add_blocks(alloc, codes, &three, &blocks, &vars, &mut out)?;
     Ok(Candidates::new(vars, out.into_rows()))
 }

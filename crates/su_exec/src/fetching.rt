@@ -2,7 +2,6 @@
 ghost use Rattle.std.specs.Prelude.{◌≡◌, ◌<◌, ◌≤◌, ◌+◌, ℕ, Some, List, [], map, length, slice_get, All, IfOk, MatchOption};
 ghost use Rattle.su_base.specs.declared.values.Value.{Value as AValue};
 ghost use Rattle.su_rel.specs.Stored.{IsRelation};
-ghost use Rattle.su_index.specs.Matches.{matches};
 ghost use Rattle.su_index.specs.Tables.{table_at};
 ghost use Rattle.su_reduce.specs.Codes.{decode, Extends};
 ghost use Rattle.su_reduce.specs.Shapes.{IsShape};
@@ -11,18 +10,27 @@ ghost use Rattle.su_reduce.specs.Sheets.{AreBelow};
 ghost use Rattle.su_exec.specs.Outputs.{values_at};
 ghost use Rattle.su_exec.specs.Shares.{row_share, share, task_share};
 ghost use Rattle.su_exec.specs.Tasks.{FitsTables, HasSources};
-ghost use Rattle.su_exec.specs.inside.Ways.{AreValues, IsAgreed, IsFrom, IsFromCodes, IsFromValue, matches_all};
+ghost use Rattle.su_exec.specs.inside.Ways.{IsAgreed, IsFrom, IsFromListed};
 
-use crate::access::{Way, access_of, share_of};
+use crate::access::{Known, Way, access_of, share_of};
 use crate::candidates::Candidates;
 use crate::connecting::own_labels;
+use crate::gathered::Gathered;
 use crate::places::is_in;
 use crate::tasks::{Source, Task, TaskRow};
 use std::alloc::{AllocError, Global};
-use su_base::{List, Row, Value};
+use su_base::{List, Row};
 use su_index::Rows;
-use su_reduce::{Codes, Columns, Distinct, Shape, Sheet, fits, shape_of, value_at};
+use su_reduce::{Codes, Columns, Shape, fits, shape_of, value_at};
 use su_tableau::Sym;
+
+/// A row that candidates are fetched for, its shape, and one of its sources.
+#[derive(Clone, Copy)]
+struct Aim<'a> {
+    row: &'a TaskRow,
+    shape: &'a Shape,
+    source: &'a Source,
+}
 
 /// Puts in the codes of the stored row's values at these places.
 fn code_row(
@@ -51,27 +59,32 @@ fn code_row(
 fn select(
     alloc: Global,
     codes: &mut Codes,
-    row: &TaskRow,
-    shape: &Shape,
-    columns: &List<u8>,
+    aim: &Aim,
     stored: &Row,
-    cells: &mut Vec<u32>,
-    out: &mut Distinct,
+    out: &mut Gathered,
 ) -> Result<(), AllocError>
-    requires shape { IsShape row.now.cells shape.now }
-    requires columns { length columns.now ≡ length row.now.cells }
-    requires within { All (λ column. column < length stored.now) columns.now }
-    requires width { out.old.width ≡ length shape.now.firsts.items }
-    requires coded { AreCoded codes.old out.old.rows }
-    ensures width { IfOk result (λ _. out.new.width ≡ out.old.width) }
-    ensures gathered { IfOk result (λ _. IsGathered (IsTaken row.now.cells shape.now.firsts.items columns.now stored.now) (IsTaken row.now.cells shape.now.firsts.items columns.now stored.now) codes.old out.old.rows codes.new out.new.rows) }
+    requires columns { length aim.now.source.now.columns ≡ length aim.now.row.now.cells }
+    requires within { All (λ column. column < length stored.now) aim.now.source.now.columns }
+    requires shape { IsShape aim.now.row.now.cells aim.now.shape.now }
+    requires width { out.old.rows.width ≡ length aim.now.shape.now.firsts.items }
+    requires coded { AreCoded codes.old out.old.rows.rows }
+    ensures width { IfOk result (λ _. out.new.rows.width ≡ out.old.rows.width) }
+    ensures gathered { IfOk result (λ _. IsGathered (IsTaken aim.now.row.now.cells aim.now.shape.now.firsts.items aim.now.source.now.columns stored.now) (IsTaken aim.now.row.now.cells aim.now.shape.now.firsts.items aim.now.source.now.columns stored.now) codes.old out.old.rows.rows codes.new out.new.rows.rows) }
 {
-    if !fits(&row.cells, shape, &Columns::Listed(columns), stored) {
+    let columns = &aim.source.columns;
+    if !fits(&aim.row.cells, aim.shape, &Columns::Listed(columns), stored) {
         return Ok(());
     }
-    cells.clear();
-    code_row(alloc, codes, &shape.firsts, columns, stored, cells)?;
-    out.add(alloc, cells)?;
+    out.cells.clear();
+    code_row(
+        alloc,
+        codes,
+        &aim.shape.firsts,
+        columns,
+        stored,
+        &mut out.cells,
+    )?;
+    out.rows.add(alloc, &out.cells)?;
     Ok(())
 }
 
@@ -80,35 +93,23 @@ fn fetch_one<R: Rows>(
     alloc: Global,
     rows: &mut R,
     codes: &mut Codes,
-    row: &TaskRow,
-    shape: &Shape,
-    source: &Source,
+    aim: &Aim,
     position: usize,
-    cells: &mut Vec<u32>,
-    out: &mut Distinct,
+    out: &mut Gathered,
 ) -> Result<(), AllocError>
-    requires source { FitsTables (R.tables rows.old) (length row.now.cells) source.now }
-    requires relation { IsRelation (table_at (R.tables rows.old) source.now.relation) }
-    requires position { position < length (table_at (R.tables rows.old) source.now.relation).rows }
-    requires shape { IsShape row.now.cells shape.now }
-    requires width { out.old.width ≡ length shape.now.firsts.items }
-    requires coded { AreCoded codes.old out.old.rows }
-    ensures width { IfOk result (λ _. out.new.width ≡ out.old.width) }
-    ensures gathered { IfOk result (λ _. (stored : List AValue) → slice_get (table_at (R.tables rows.old) source.now.relation).rows position ≡ Some stored → IsGathered (IsTaken row.now.cells shape.now.firsts.items source.now.columns stored) (IsTaken row.now.cells shape.now.firsts.items source.now.columns stored) codes.old out.old.rows codes.new out.new.rows) }
+    requires source { FitsTables (R.tables rows.old) (length aim.now.row.now.cells) aim.now.source.now }
+    requires relation { IsRelation (table_at (R.tables rows.old) aim.now.source.now.relation) }
+    requires position { position < length (table_at (R.tables rows.old) aim.now.source.now.relation).rows }
+    requires shape { IsShape aim.now.row.now.cells aim.now.shape.now }
+    requires width { out.old.rows.width ≡ length aim.now.shape.now.firsts.items }
+    requires coded { AreCoded codes.old out.old.rows.rows }
+    ensures width { IfOk result (λ _. out.new.rows.width ≡ out.old.rows.width) }
+    ensures gathered { IfOk result (λ _. (stored : List AValue) → slice_get (table_at (R.tables rows.old) aim.now.source.now.relation).rows position ≡ Some stored → IsGathered (IsTaken aim.now.row.now.cells aim.now.shape.now.firsts.items aim.now.source.now.columns stored) (IsTaken aim.now.row.now.cells aim.now.shape.now.firsts.items aim.now.source.now.columns stored) codes.old out.old.rows.rows codes.new out.new.rows.rows) }
     ensures tables { R.tables rows.new ≡ R.tables rows.old }
     ensures fetches { R.fetches rows.new ≤ R.fetches rows.old + 1 }
 {
-    let stored = rows.fetch(source.relation, position);
-    select(
-        alloc,
-        codes,
-        row,
-        shape,
-        &source.columns,
-        stored,
-        cells,
-        out,
-    )?;
+    let stored = rows.fetch(aim.source.relation, position);
+    select(alloc, codes, aim, stored, out)?;
     Ok(())
 }
 
@@ -117,90 +118,47 @@ fn fetch_all<R: Rows>(
     alloc: Global,
     rows: &mut R,
     codes: &mut Codes,
-    row: &TaskRow,
-    shape: &Shape,
-    source: &Source,
-    cells: &mut Vec<u32>,
-    out: &mut Distinct,
+    aim: &Aim,
+    out: &mut Gathered,
 ) -> Result<(), AllocError>
-    requires source { FitsTables (R.tables rows.old) (length row.now.cells) source.now }
-    requires shape { IsShape row.now.cells shape.now }
-    requires width { out.old.width ≡ length shape.now.firsts.items }
-    requires coded { AreCoded codes.old out.old.rows }
-    ensures width { IfOk result (λ _. out.new.width ≡ out.old.width) }
-    ensures gathered { IfOk result (λ _. let stored = (table_at (R.tables rows.old) source.now.relation).rows in IsGathered (IsFrom row.now.cells shape.now.firsts.items source.now.columns stored (length stored)) (IsFrom row.now.cells shape.now.firsts.items source.now.columns stored (length stored)) codes.old out.old.rows codes.new out.new.rows) }
+    requires source { FitsTables (R.tables rows.old) (length aim.now.row.now.cells) aim.now.source.now }
+    requires shape { IsShape aim.now.row.now.cells aim.now.shape.now }
+    requires width { out.old.rows.width ≡ length aim.now.shape.now.firsts.items }
+    requires coded { AreCoded codes.old out.old.rows.rows }
+    ensures width { IfOk result (λ _. out.new.rows.width ≡ out.old.rows.width) }
+    ensures gathered { IfOk result (λ _. let stored = (table_at (R.tables rows.old) aim.now.source.now.relation).rows in IsGathered (IsFrom aim.now.row.now.cells aim.now.shape.now.firsts.items aim.now.source.now.columns stored (length stored)) (IsFrom aim.now.row.now.cells aim.now.shape.now.firsts.items aim.now.source.now.columns stored (length stored)) codes.old out.old.rows.rows codes.new out.new.rows.rows) }
     ensures tables { R.tables rows.new ≡ R.tables rows.old }
-    ensures fetches { R.fetches rows.new ≤ R.fetches rows.old + length (table_at (R.tables rows.old) source.now.relation).rows }
+    ensures fetches { R.fetches rows.new ≤ R.fetches rows.old + length (table_at (R.tables rows.old) aim.now.source.now.relation).rows }
 {
-    for i in 0..rows.len(source.relation) {
-        fetch_one(alloc, rows, codes, row, shape, source, i, cells, out)?;
+    for i in 0..rows.len(aim.source.relation) {
+        fetch_one(alloc, rows, codes, aim, i, out)?;
     }
     Ok(())
 }
 
-/// Selects from the rows of the source's table with the value in the column.
-fn fetch_matching<R: Rows>(
+/// Selects from the rows of the source's table at the positions.
+fn fetch_listed<R: Rows>(
     alloc: Global,
     rows: &mut R,
     codes: &mut Codes,
-    row: &TaskRow,
-    shape: &Shape,
-    source: &Source,
-    column: u8,
-    value: &Value,
-    cells: &mut Vec<u32>,
-    out: &mut Distinct,
+    aim: &Aim,
+    positions: &[usize],
+    out: &mut Gathered,
 ) -> Result<(), AllocError>
-    requires source { FitsTables (R.tables rows.old) (length row.now.cells) source.now }
-    requires column { column < (table_at (R.tables rows.old) source.now.relation).width }
-    requires shape { IsShape row.now.cells shape.now }
-    requires width { out.old.width ≡ length shape.now.firsts.items }
-    requires coded { AreCoded codes.old out.old.rows }
-    ensures width { IfOk result (λ _. out.new.width ≡ out.old.width) }
-    ensures gathered { IfOk result (λ _. let stored = (table_at (R.tables rows.old) source.now.relation).rows in IsGathered (IsFromValue row.now.cells shape.now.firsts.items source.now.columns stored column value.now) (IsFromValue row.now.cells shape.now.firsts.items source.now.columns stored column value.now) codes.old out.old.rows codes.new out.new.rows) }
+    requires source { FitsTables (R.tables rows.old) (length aim.now.row.now.cells) aim.now.source.now }
+    requires positions { All (λ p. p < length (table_at (R.tables rows.old) aim.now.source.now.relation).rows) positions.now }
+    requires shape { IsShape aim.now.row.now.cells aim.now.shape.now }
+    requires width { out.old.rows.width ≡ length aim.now.shape.now.firsts.items }
+    requires coded { AreCoded codes.old out.old.rows.rows }
+    ensures width { IfOk result (λ _. out.new.rows.width ≡ out.old.rows.width) }
+    ensures gathered { IfOk result (λ _. IsGathered (IsFromListed aim.now.row.now.cells aim.now.shape.now.firsts.items aim.now.source.now.columns (table_at (R.tables rows.old) aim.now.source.now.relation).rows positions.now (length positions.now)) (IsFromListed aim.now.row.now.cells aim.now.shape.now.firsts.items aim.now.source.now.columns (table_at (R.tables rows.old) aim.now.source.now.relation).rows positions.now (length positions.now)) codes.old out.old.rows.rows codes.new out.new.rows.rows) }
     ensures tables { R.tables rows.new ≡ R.tables rows.old }
-    ensures fetches { R.fetches rows.new ≤ R.fetches rows.old + matches column value.now (table_at (R.tables rows.old) source.now.relation).rows }
+    ensures fetches { R.fetches rows.new ≤ R.fetches rows.old + length positions.now }
 {
-    let _all = rows.len(source.relation);
-    for k in 0..rows.matching(source.relation, column, value) {
-        let position = rows.matched(source.relation, column, value, k);
-        fetch_one(alloc, rows, codes, row, shape, source, position, cells, out)?;
-    }
-    Ok(())
-}
-
-/// Selects from the rows of the source's table with one of the values in the column.
-fn fetch_values<R: Rows>(
-    alloc: Global,
-    rows: &mut R,
-    codes: &mut Codes,
-    row: &TaskRow,
-    shape: &Shape,
-    source: &Source,
-    column: u8,
-    values: &Sheet,
-    cells: &mut Vec<u32>,
-    out: &mut Distinct,
-) -> Result<(), AllocError>
-    requires source { FitsTables (R.tables rows.old) (length row.now.cells) source.now }
-    requires column { column < (table_at (R.tables rows.old) source.now.relation).width }
-    requires one { values.now.width ≡ 1 }
-    requires values { AreCoded codes.old values.now.rows }
-    requires shape { IsShape row.now.cells shape.now }
-    requires width { out.old.width ≡ length shape.now.firsts.items }
-    requires coded { AreCoded codes.old out.old.rows }
-    ensures width { IfOk result (λ _. out.new.width ≡ out.old.width) }
-    ensures gathered { IfOk result (λ _. let stored = (table_at (R.tables rows.old) source.now.relation).rows in IsGathered (IsFromCodes row.now.cells shape.now.firsts.items source.now.columns stored column codes.old values.now.rows (length values.now.rows)) (IsFromCodes row.now.cells shape.now.firsts.items source.now.columns stored column codes.old values.now.rows (length values.now.rows)) codes.old out.old.rows codes.new out.new.rows) }
-    ensures tables { R.tables rows.new ≡ R.tables rows.old }
-    ensures fetches { R.fetches rows.new ≤ R.fetches rows.old + matches_all codes.old column (table_at (R.tables rows.old) source.now.relation).rows values.now.rows }
-{
-    for i in 0..values.len() {
-        let Ok(value) = codes.value(values.row(i)[0]).copy(alloc) else {
-            return Err(AllocError);
-        };
-        fetch_matching(
-            alloc, rows, codes, row, shape, source, column, &value, cells, out,
-        )?;
+    // For the proof: the table is a relation.
+    let _count = rows.len(aim.source.relation);
+    for k in 0..positions.len() {
+        fetch_one(alloc, rows, codes, aim, positions[k], out)?;
     }
     Ok(())
 }
@@ -210,37 +168,28 @@ fn fetch_source<R: Rows>(
     alloc: Global,
     rows: &mut R,
     codes: &mut Codes,
-    row: &TaskRow,
-    shape: &Shape,
-    source: &Source,
+    aim: &Aim,
     edges: &[Candidates],
-    cells: &mut Vec<u32>,
-    out: &mut Distinct,
+    out: &mut Gathered,
 ) -> Result<(), AllocError>
-    requires source { FitsTables (R.tables rows.old) (length row.now.cells) source.now }
-    requires edges { All (IsCoded codes.old) edges.now }
-    requires shape { IsShape row.now.cells shape.now }
-    requires width { out.old.width ≡ length shape.now.firsts.items }
-    requires coded { AreCoded codes.old out.old.rows }
-    ensures width { IfOk result (λ _. out.new.width ≡ out.old.width) }
-    ensures gathered { IfOk result (λ _. let stored = (table_at (R.tables rows.old) source.now.relation).rows in IsGathered (IsFrom row.now.cells shape.now.firsts.items source.now.columns stored (length stored)) (IsAgreed (R.tables rows.old) codes.old edges.now row.now.cells shape.now.firsts.items source.now) codes.old out.old.rows codes.new out.new.rows) }
+    requires source { FitsTables (R.tables rows.old) (length aim.now.row.now.cells) aim.now.source.now }
+    requires shape { IsShape aim.now.row.now.cells aim.now.shape.now }
+    requires width { out.old.rows.width ≡ length aim.now.shape.now.firsts.items }
+    requires coded { AreCoded codes.old out.old.rows.rows }
+    ensures width { IfOk result (λ _. out.new.rows.width ≡ out.old.rows.width) }
+    ensures gathered { IfOk result (λ _. let stored = (table_at (R.tables rows.old) aim.now.source.now.relation).rows in IsGathered (IsFrom aim.now.row.now.cells aim.now.shape.now.firsts.items aim.now.source.now.columns stored (length stored)) (IsAgreed (R.tables rows.old) codes.old edges.now aim.now.row.now.cells aim.now.shape.now.firsts.items aim.now.source.now) codes.old out.old.rows.rows codes.new out.new.rows.rows) }
     ensures tables { R.tables rows.new ≡ R.tables rows.old }
-    ensures fetches { R.fetches rows.new ≤ R.fetches rows.old + share (R.tables rows.old) row.now.cells source.now }
+    ensures fetches { R.fetches rows.new ≤ R.fetches rows.old + share (R.tables rows.old) aim.now.row.now.cells aim.now.source.now }
 {
-    let _all = rows.len(source.relation);
-    let access = access_of(alloc, rows, row, source, codes, edges)?;
+    let known = Known { codes, edges };
+    let access = access_of(alloc, rows, aim.row, aim.source, &known)?;
     match &access.way {
         Way::All => {
-            fetch_all(alloc, rows, codes, row, shape, source, cells, out)?;
+            fetch_all(alloc, rows, codes, aim, out)?;
             Ok(())
         }
-        Way::Values {
-            column,
-            codes: values,
-        } => {
-            fetch_values(
-                alloc, rows, codes, row, shape, source, *column, values, cells, out,
-            )?;
+        Way::Listed(positions) => {
+            fetch_listed(alloc, rows, codes, aim, positions, out)?;
             Ok(())
         }
     }
@@ -262,15 +211,16 @@ fn candidates_of<R: Rows>(
     ensures fetches { R.fetches rows.new ≤ R.fetches rows.old + row_share (R.tables rows.old) row.now }
 {
     let shape = shape_of(alloc, &row.cells)?;
-    let mut out = Distinct::new(alloc, shape.firsts.len())?;
-    let mut cells = Vec::new(alloc);
+    let mut out = Gathered::new(alloc, shape.firsts.len())?;
     for s in 0..row.sources.len() {
-        let source = row.sources.get(s);
-        fetch_source(
-            alloc, rows, codes, row, &shape, source, edges, &mut cells, &mut out,
-        )?;
+        let aim = Aim {
+            row,
+            shape: &shape,
+            source: row.sources.get(s),
+        };
+        fetch_source(alloc, rows, codes, &aim, edges, &mut out)?;
     }
-    Ok(Candidates::apart(shape.vars, out.into_rows()))
+    Ok(Candidates::apart(shape.vars, out.rows.into_rows()))
 }
 
 /// Whether a variable of the row is in one of the candidates.

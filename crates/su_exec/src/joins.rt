@@ -6,8 +6,9 @@ ghost use Rattle.su_exec.specs.inside.Joins.{Gives, IsJoin, IsUpTo};
 ghost use Rattle.su_exec.specs.inside.Plans.{FitsPlan, IsMade, columns_of, made_of, passes_of};
 
 use crate::checks::{Test, passes};
+use crate::gathered::Gathered;
 use std::alloc::{AllocError, Global};
-use su_reduce::{Codes, Distinct, Sheet, bucket, fill, same_key};
+use su_reduce::{Codes, Sheet, bucket, fill, same_key};
 
 /// Which columns have to be equal, what else a pair of rows has to pass, and which columns are kept.
 #[derive(Drop)]
@@ -27,6 +28,15 @@ pub fn is_past(count: usize, most: Option<usize>) -> bool
         Some(most) => count > most,
         None => false,
     }
+}
+
+/// Rows in buckets by their keys: per bucket the number after its last row, and per row the number after
+/// the row before it in its bucket.
+#[derive(Clone, Copy)]
+struct Bucketed<'a> {
+    rows: &'a Sheet,
+    heads: &'a [usize],
+    next: &'a [usize],
 }
 
 /// Puts the cells at these places after what is there.
@@ -65,22 +75,21 @@ fn add_pair(
     plan: &Plan,
     row: &[u32],
     other: &[u32],
-    out: &mut Distinct,
-    cells: &mut Vec<u32>,
+    out: &mut Gathered,
 ) -> Result<bool, AllocError>
     requires fits { FitsPlan plan.now (length row.now) (length other.now) }
-    requires wide { out.old.width ≡ length plan.now.left_out.items + length plan.now.right_out.items }
-    ensures width { out.new.width ≡ out.old.width }
-    ensures kept { (r : List ℕ) → Contains out.old.rows r → Contains out.new.rows r }
-    ensures only { (r : List ℕ) → Contains out.new.rows r → Contains out.old.rows r ⊎ IsMade codes.now plan.now row.now other.now r }
-    ensures had { IfOk result (λ _. (r : List ℕ) → IsMade codes.now plan.now row.now other.now r → Contains out.new.rows r) }
-    ensures added { IfOk result (λ added. IsTrue added → Contains out.new.rows (made_of plan.now row.now other.now)) }
+    requires wide { out.old.rows.width ≡ length plan.now.left_out.items + length plan.now.right_out.items }
+    ensures width { out.new.rows.width ≡ out.old.rows.width }
+    ensures kept { (r : List ℕ) → Contains out.old.rows.rows r → Contains out.new.rows.rows r }
+    ensures only { (r : List ℕ) → Contains out.new.rows.rows r → Contains out.old.rows.rows r ⊎ IsMade codes.now plan.now row.now other.now r }
+    ensures had { IfOk result (λ _. (r : List ℕ) → IsMade codes.now plan.now row.now other.now r → Contains out.new.rows.rows r) }
+    ensures added { IfOk result (λ added. IsTrue added → Contains out.new.rows.rows (made_of plan.now row.now other.now)) }
 {
     if !matches(codes, plan, row, other) {
         return Ok(false);
     }
-    make_row(plan, row, other, cells)?;
-    out.add(alloc, cells)?;
+    make_row(plan, row, other, &mut out.cells)?;
+    out.rows.add(alloc, &out.cells)?;
     Ok(true)
 }
 
@@ -90,34 +99,31 @@ fn add_matches(
     codes: &Codes,
     plan: &Plan,
     row: &[u32],
-    right: &Sheet,
-    heads: &[usize],
-    next: &[usize],
+    right: &Bucketed,
     most: Option<usize>,
-    out: &mut Distinct,
-    cells: &mut Vec<u32>,
+    out: &mut Gathered,
 ) -> Result<(), AllocError>
-    requires fits { FitsPlan plan.now (length row.now) right.now.width }
-    requires wide { out.old.width ≡ length plan.now.left_out.items + length plan.now.right_out.items }
-    requires some { 0 < length heads.now }
-    requires room { length next.now ≡ length right.now.rows }
-    requires heads { (h : ℕ) → h < length heads.now → get_or heads.now h 0 ≡ last (in_bucket right.now.rows plan.now.right_key.items (length heads.now) h) (length right.now.rows) }
-    requires next { (h : ℕ) → IsChain right.now.rows plan.now.right_key.items (length heads.now) h next.now }
-    ensures width { out.new.width ≡ out.old.width }
-    ensures kept { (r : List ℕ) → Contains out.old.rows r → Contains out.new.rows r }
-    ensures only { (r : List ℕ) → Contains out.new.rows r → Contains out.old.rows r ⊎ Gives row.now right.now.rows (columns_of plan.now) (passes_of codes.now plan.now) r }
-    ensures all { IfOk result (λ _. IsUpTo most (length out.new.rows) → (r : List ℕ) → Gives row.now right.now.rows (columns_of plan.now) (passes_of codes.now plan.now) r → Contains out.new.rows r) }
+    requires fits { FitsPlan plan.now (length row.now) right.now.rows.now.width }
+    requires wide { out.old.rows.width ≡ length plan.now.left_out.items + length plan.now.right_out.items }
+    requires some { 0 < length right.now.heads.now }
+    requires room { length right.now.next.now ≡ length right.now.rows.now.rows }
+    requires heads { (h : ℕ) → h < length right.now.heads.now → get_or right.now.heads.now h 0 ≡ last (in_bucket right.now.rows.now.rows plan.now.right_key.items (length right.now.heads.now) h) (length right.now.rows.now.rows) }
+    requires next { (h : ℕ) → IsChain right.now.rows.now.rows plan.now.right_key.items (length right.now.heads.now) h right.now.next.now }
+    ensures width { out.new.rows.width ≡ out.old.rows.width }
+    ensures kept { (r : List ℕ) → Contains out.old.rows.rows r → Contains out.new.rows.rows r }
+    ensures only { (r : List ℕ) → Contains out.new.rows.rows r → Contains out.old.rows.rows r ⊎ Gives row.now right.now.rows.now.rows (columns_of plan.now) (passes_of codes.now plan.now) r }
+    ensures all { IfOk result (λ _. IsUpTo most (length out.new.rows.rows) → (r : List ℕ) → Gives row.now right.now.rows.now.rows (columns_of plan.now) (passes_of codes.now plan.now) r → Contains out.new.rows.rows r) }
 {
-    let mut at = heads[bucket(row, &plan.left_key, heads.len())];
+    let mut at = right.heads[bucket(row, &plan.left_key, right.heads.len())];
     while at > 0 {
-        let added = add_pair(alloc, codes, plan, row, right.row(at - 1), out, cells)?;
+        let added = add_pair(alloc, codes, plan, row, right.rows.row(at - 1), out)?;
         if added && plan.right_out.is_empty() {
             return Ok(());
         }
-        if is_past(out.len(), most) {
+        if is_past(out.rows.len(), most) {
             return Ok(());
         }
-        at = next[at - 1];
+        at = right.next[at - 1];
     }
     Ok(())
 }
@@ -140,24 +146,17 @@ pub fn join(
     let mut heads = vec![in alloc; 0; right.len().saturating_mul(2).max(1)]?;
     let mut next = vec![in alloc; 0; right.len()]?;
     fill(right, &plan.right_key, &mut heads, &mut next);
-    let mut out = Distinct::new(alloc, plan.left_out.len() + plan.right_out.len())?;
-    let mut cells = Vec::new(alloc);
+    let bucketed = Bucketed {
+        rows: right,
+        heads: &heads,
+        next: &next,
+    };
+    let mut out = Gathered::new(alloc, plan.left_out.len() + plan.right_out.len())?;
     for i in 0..left.len() {
-        add_matches(
-            alloc,
-            codes,
-            plan,
-            left.row(i),
-            right,
-            &heads,
-            &next,
-            most,
-            &mut out,
-            &mut cells,
-        )?;
-        if is_past(out.len(), most) {
-            return Ok(out.into_rows());
+        add_matches(alloc, codes, plan, left.row(i), &bucketed, most, &mut out)?;
+        if is_past(out.rows.len(), most) {
+            return Ok(out.rows.into_rows());
         }
     }
-    Ok(out.into_rows())
+    Ok(out.rows.into_rows())
 }

@@ -1,7 +1,8 @@
 //! Joins by decomposition: from rows of symbols with their sources to the outputs of all valuations.
 //!
 //! Each row's candidates are fetched once: by the constant that the fewest stored rows have, or by the
-//! values that candidates fetched before give one of its variables, where these are fewer. The rows
+//! values that candidates fetched before give one of its variables, where these are fewer; each value is
+//! searched once, for the positions of its rows. The rows
 //! with the fewest are taken first. Values are numbers from then on. A comparison of order takes away
 //! candidates that the least or greatest value of its other side excludes, until nothing changes or
 //! much was looked at. Semijoins along an order of ears take away candidates without a partner, and ears
@@ -22,6 +23,7 @@ mod crossing;
 mod cycles;
 mod executing;
 mod fetching;
+mod gathered;
 mod joins;
 mod merging;
 mod narrowing;

@@ -1,8 +1,9 @@
 -- Entries in chunks: where they stand, and what edits of one chunk do to the whole.
-use Rattle.std.proofs.Common.{Result, Ok, Err, OnOk, is_ok, true, add-one, ◌≡◌, ◌<◌, ◌≤◌, ◌+◌, ◌-◌, ℕ, zero, suc, List, [], ◌∷◌, ◌++◌, length, get_or, take, drop, set, ap, subst, refl, sym, ◌∙◌, arith, inl, inr}
+use Rattle.std.proofs.Common.{Result, Ok, Err, OnOk, is_ok, true, add-one, ◌≡◌, ◌<◌, ◌≤◌, ◌+◌, ◌-◌, ℕ, zero, suc, List, [], ◌∷◌, ◌++◌, length, get_or, take, drop, map, set, ap, subst, refl, sym, ◌∙◌, arith, inl, inr}
 use Rattle.std.specs.List.{insert, remove}
 use Rattle.std.proofs.lemmas.Bool.{cases_eq, false≢true}
-use Rattle.std.proofs.lemmas.List.{append_assoc, append-nil, nil_from_length, length-append, length-take-le, length-drop, take-append-drop, get_or_default, get_or_append_left, get_or-append-add, length_push}
+use Rattle.std.proofs.lemmas.List.{append_assoc, append-nil, nil_from_length, length-append, length-take-le, length-drop, drop-map, take-append-drop, get_or_default, get_or_append_left, get_or-append-add, length_push}
+use Rattle.std.proofs.Math.Seq.{drop-append-add}
 use Rattle.std.proofs.lemmas.List.Concat.{get_or-flat_map, flat_map-append}
 use Rattle.std.proofs.lemmas.List.Edits.{get_or-insert_below, insert-append_left, insert-append_right, remove-append_left, remove-append_right}
 use Rattle.su_index.proofs.Spans.{le_or}
@@ -11,6 +12,7 @@ use Rattle.su_index.specs.declared.entry.Entry.{Entry}
 use Rattle.su_index.specs.declared.chunk.Chunk.{Chunk}
 use Rattle.su_index.specs.declared.place.ChunkPlace.{ChunkPlace}
 use Rattle.su_index.specs.Chunks.{entries_of, len_at, HaveEntries}
+use Rattle.su_index.specs.Entries.{positions, stretch}
 use Rattle.su_index.specs.inside.Chunks.{capacity_at, before_chunk, rank_in, IsGap, IsPlace, HasRoomFrom}
 
 -- ---- where an entry stands
@@ -49,6 +51,23 @@ before-set (y ∷ chunks) (suc c) (suc k) x h = omega (arith, length-append y.en
 
 pub entry-at : (chunks : List Chunk) (c j : ℕ) (d : Chunk) (e : Entry) → c < length chunks → j < len_at chunks c d → get_or (entries_of chunks) (before_chunk chunks c + j) e ≡ get_or (get_or chunks c d).entries.items j e
 entry-at chunks c j d e h l = get_or-flat_map (λ chunk. chunk.entries.items) chunks c j d e h (omega (arith, l, (get_or chunks c d).entries.ok.0))
+
+-- ---- the entries from a place on
+
+pub later-entries : (chunks : List Chunk) (c at : ℕ) → drop at (entries_of (drop c chunks)) ≡ drop (before_chunk chunks c + at) (entries_of chunks)
+later-entries chunks c at =
+    let parts : entries_of (take c chunks) ++ entries_of (drop c chunks) ≡ entries_of chunks = sym (flat_map-append (λ chunk. chunk.entries.items) (take c chunks) (drop c chunks)) ∙ ap entries_of (take-append-drop c chunks) in
+    sym (drop-append-add (entries_of (take c chunks)) (entries_of (drop c chunks)) at) ∙ ap (drop (before_chunk chunks c + at)) parts
+
+pub later-length : (chunks : List Chunk) (c : ℕ) → length (entries_of (drop c chunks)) + before_chunk chunks c ≡ length (entries_of chunks)
+later-length chunks c =
+    let parts : entries_of (take c chunks) ++ entries_of (drop c chunks) ≡ entries_of chunks = sym (flat_map-append (λ chunk. chunk.entries.items) (take c chunks) (drop c chunks)) ∙ ap entries_of (take-append-drop c chunks) in
+    omega (arith, ap length parts, length-append (entries_of (take c chunks)) (entries_of (drop c chunks)))
+
+pub stretch-later : (chunks : List Chunk) (c at n : ℕ) → stretch (entries_of (drop c chunks)) at n ≡ take n (drop (before_chunk chunks c + at) (positions (entries_of chunks)))
+stretch-later chunks c at n =
+    let position : Entry → ℕ = λ e. e.position in
+    ap (take n) (drop-map position at (entries_of (drop c chunks)) ∙ ap (map position) (later-entries chunks c at) ∙ sym (drop-map position (before_chunk chunks c + at) (entries_of chunks)))
 
 -- ---- edits of one chunk
 

@@ -1,18 +1,18 @@
 -- The places of a value in a list of positions in order, and how many they are.
-use Rattle.std.proofs.Common.{◌≡◌, ◌<◌, ◌≤◌, ◌+◌, ◌-◌, ◌&&◌, ℕ, zero, suc, Bool, true, false, cond, List, [], ◌∷◌, length, get_or, take, slice_index, ap, refl, sym, ◌∙◌, arith, inl, inr, ◌⊎◌, count_by, nat_lt, nat_le, not, pos, add-one}
+use Rattle.std.proofs.Common.{◌≡◌, ◌<◌, ◌≤◌, ◌+◌, ◌-◌, ◌&&◌, ℕ, zero, suc, Bool, true, false, cond, List, [], ◌∷◌, length, get_or, take, drop, slice_index, ap, refl, sym, ◌∙◌, arith, inl, inr, ◌⊎◌, count_by, nat_lt, nat_le, not, pos, add-one}
 use Rattle.std.specs.List.Sorted.{IsStrictlySortedBy}
 use Rattle.std.specs.Ordering.{nat_cmp, ordering_then, ordering_reverse, is_lt, is_eq}
 use Rattle.std.specs.declared.cmp.Ordering.{Ordering}
 use Rattle.std.specs.declared.cmp.Ordering.TheVariants.{Less, Equal, Greater}
 use Rattle.std.proofs.lemmas.Bool.{false≢true, cases_eq}
 use Rattle.std.proofs.lemmas.Bool.Decides.{nat_tests}
-use Rattle.std.proofs.lemmas.List.{take_all, get_or_default}
+use Rattle.std.proofs.lemmas.List.{take_all, get_or_default, get_or-take, get_or-drop, length-drop, length-take-le}
 use Rattle.std.proofs.lemmas.List.Sums.{sum_by_more}
-use Rattle.std.proofs.lemmas.Option.{slice_get-get_or}
+use Rattle.std.proofs.lemmas.Option.{slice_get-get_or, slice_get_within, get_or_from_slice_get}
 use Rattle.std.proofs.lemmas.Map.Keys.{Less-from_sorted}
 use Rattle.su_base.specs.declared.values.Value.{Value}
 use Rattle.su_base.specs.declared.values.Value.TheVariants.{Int}
-use Rattle.su_index.specs.Matches.{has_value, matches, IsMatch}
+use Rattle.su_index.specs.Matches.{has_value, matches, AreMatches, IsMatch}
 use Rattle.su_index.specs.Order.{compare_keys, compare_places, value_at, count_below, IsRun, IsIndex}
 use Rattle.su_index.specs.inside.Order.{comes_before, has_at, HaveColumn, ArePositions, IsSpan}
 use Rattle.su_index.proofs.Leads.{same_values}
@@ -211,3 +211,15 @@ module _ (rows : List (List Value)) (column : ℕ) (run : List ℕ) (columns : H
   pub IsMatch-span : (a b k r : ℕ) → IsSpan (value_at rows column) v run a b → a + k < b → r ≡ slice_index run (a + k) → IsMatch column v rows k r
   IsMatch-span a b k r s h e =
       match_at k r (rw e (index_positions _ _ run index (a + k) 0 (omega (arith, s.end)))) (rw e (s.among (a + k) (omega arith) h)) (rank_at _ _ run index v a b k r s h e)
+
+  pub AreMatches-span : (a b n : ℕ) → IsSpan (value_at rows column) v run a b → n + a ≡ b → AreMatches column v rows (take n (drop a run))
+  AreMatches-span a b n s e =
+      let behind = length-drop a run in
+      let len : length (take n (drop a run)) ≡ n = length-take-le n (drop a run) (omega (arith, behind, s.end)) in
+      record {
+        count = omega (arith, len, matches-span a b s);
+        each = λ k p is.
+            let less : k < n = omega (arith, len, slice_get_within (take n (drop a run)) k p is) in
+            let at : get_or (take n (drop a run)) k 0 ≡ slice_index run (a + k) = get_or-take n (drop a run) k 0 less ∙ get_or-drop a run k 0 in
+            IsMatch-span a b k p s (omega arith) (sym (get_or_from_slice_get (take n (drop a run)) k p 0 is) ∙ at);
+      }

@@ -1,7 +1,7 @@
 -- How an index is cut into chunks.
 -- chunk: entries that follow one another, as many as it has memory for at most
 -- place: where an entry stands, or past the last one of a chunk; rank: how many entries stand before it
-use Rattle.std.specs.Prelude.{◌<◌, ◌+◌, ◌-◌, ℕ, List, length, slice_index_or, flat_map}
+use Rattle.std.specs.Prelude.{◌<◌, ◌+◌, ℕ, List, length, slice_index_or, flat_map}
 use Rattle.std.specs.VecDeque.{deque_len}
 use Rattle.su_index.specs.declared.entry.Entry.{Entry}
 use Rattle.su_index.specs.declared.chunk.Chunk.{Chunk}

@@ -1,6 +1,6 @@
 -- Which rows have a value in a column.
 -- matches: how many rows have it; match: one of these rows, by its position and by how many come before it
-use Rattle.std.specs.Prelude.{◌≡◌, ◌<◌, ℕ, Bool, false, IsTrue, List, [], length, take, slice_get, slice_index_or, count_by}
+use Rattle.std.specs.Prelude.{◌≡◌, ◌<◌, ℕ, Bool, false, IsTrue, List, [], Some, length, take, slice_get, slice_index_or, count_by}
 use Rattle.std.specs.Option.{option_map_or}
 use Rattle.std.specs.Ordering.{is_eq}
 use Rattle.su_base.specs.declared.values.Value.{Value}
@@ -19,3 +19,8 @@ pub record IsMatch (column : ℕ) (value : Value) (rows : List (List Value)) (k 
   pub within : p < length rows
   pub has : IsTrue (has_value column value (slice_index_or rows p []))
   pub rank : matches column value (take p rows) ≡ k
+
+-- the positions of the rows that have the value, ascending
+pub record AreMatches (column : ℕ) (value : Value) (rows : List (List Value)) (found : List ℕ) : Type 0 where
+  pub count : length found ≡ matches column value rows
+  pub each : (k p : ℕ) → slice_get found k ≡ Some p → IsMatch column value rows k p

@@ -342,15 +342,13 @@ pub(crate) fn between(chunks: &[Chunk], first: ChunkPlace, past: ChunkPlace) -> 
     count - first.at
 }
 
-/// The entry that stands `k` behind the place.
-pub(crate) fn entry_behind(chunks: &[Chunk], place: ChunkPlace, k: usize) -> Entry
-    requires place { IsGap chunks.now place }
-    requires within { rank_in chunks.now place + k < length (entries_of chunks.now) }
-    requires small { length (entries_of chunks.now) < 2 ^ 32 }
-    ensures { result ≡ slice_index_or (entries_of chunks.now) (rank_in chunks.now place + k) result }
+/// The entry at the rank.
+pub(crate) fn entry_at(chunks: &[Chunk], rank: usize) -> Entry
+    requires within { rank < length (entries_of chunks.now) }
+    ensures { result ≡ slice_index_or (entries_of chunks.now) rank result }
 {
-    let mut chunk = place.chunk;
-    let mut at = place.at + k;
+    let mut chunk = 0;
+    let mut at = rank;
     while at >= chunks[chunk].entries.len() {
         at -= chunks[chunk].entries.len();
         chunk += 1;

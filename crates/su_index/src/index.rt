@@ -4,14 +4,15 @@ ghost use Rattle.su_index.specs.inside.Chunks.{HasRoom};
 ghost use Rattle.su_index.specs.Indexed.{IsIndexBelow, IsIndexAt, entries_in};
 ghost use Rattle.su_index.specs.inside.Indexed.{IsIndexOf};
 ghost use Rattle.su_index.specs.inside.Entries.{IsRunWithLeads};
-ghost use Rattle.su_index.specs.Matches.{matches, IsMatch};
+ghost use Rattle.su_index.specs.Matches.{matches, AreMatches, IsMatch};
 ghost use Rattle.su_index.specs.Order.{value_at};
 ghost use Rattle.su_index.specs.inside.Order.{HaveColumn, with_value};
 
 use crate::chunk::Chunk;
-use crate::chunks::{between, chunks_of, entry_behind, flat, is_sparse, make_room};
+use crate::chunks::{between, chunks_of, flat, is_sparse, make_room};
 use crate::edits::{put_in, rename, take_out};
 use crate::finding::span;
+use crate::found::Found;
 use crate::order::value;
 use crate::sorting::{merged, sorted};
 use std::alloc::Global;
@@ -77,17 +78,28 @@ impl Index {
         make_room(alloc, &mut self.chunks, self.latest)
     }
 
+    /// The positions of the rows that have the value, ascending.
+    pub(crate) fn found<'a>(&'a self, rows: &[Row], column: usize, wanted: &Value) -> Found<'a>
+        requires columns { HaveColumn column rows.now }
+        requires index { IsIndexOf rows.now column self.now }
+        ensures { AreMatches column wanted.now rows.now result }
+    {
+        let chunks = self.chunks.as_slice();
+        if chunks.is_empty() {
+            return Found::new(chunks, 0, 0);
+        }
+        let (first, past) = span(rows, column, chunks, wanted);
+        let count = between(chunks, first, past);
+        Found::new(&chunks[first.chunk..], first.at, count)
+    }
+
     /// How many rows have the value.
     pub(crate) fn matching(&self, rows: &[Row], column: usize, wanted: &Value) -> usize
         requires columns { HaveColumn column rows.now }
         requires index { IsIndexOf rows.now column self.now }
         ensures { result ≡ matches column wanted.now rows.now }
     {
-        if self.chunks.is_empty() {
-            return 0;
-        }
-        let (first, past) = span(rows, column, self.chunks.as_slice(), wanted);
-        between(self.chunks.as_slice(), first, past)
+        self.found(rows, column, wanted).len()
     }
 
     /// The position of the k-th row that has the value.
@@ -97,8 +109,7 @@ impl Index {
         requires within { k < matches column wanted.now rows.now }
         ensures { IsMatch column wanted.now rows.now k result }
     {
-        let (first, _past) = span(rows, column, self.chunks.as_slice(), wanted);
-        entry_behind(self.chunks.as_slice(), first, k).position as usize
+        self.found(rows, column, wanted).position(k)
     }
 
     /// Takes in the last row.

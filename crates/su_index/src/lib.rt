@@ -10,7 +10,7 @@
 //! a chunk and an offset in it. A look-up is a binary search among the last entries of the chunks and
 //! one within a chunk, by lead: they read a row only where the leads are equal, and the second no more
 //! once rows on both sides of the place are known to have the value. A count of matches, and the k-th of
-//! them, add up the lengths of the chunks between.
+//! them, add up the lengths of the chunks between; one search serves both, and the k-th for each k.
 //!
 //! A remove moves the entries of one chunk and takes no memory; a chunk that it empties is let go. An
 //! insert moves the entries of one chunk. One that fills a chunk lets the next insert split it into two
@@ -34,6 +34,7 @@ mod crossing;
 mod edits;
 mod entry;
 mod finding;
+mod found;
 mod index;
 mod keeping;
 pub mod laws;
@@ -46,5 +47,6 @@ mod sorting;
 mod tables;
 
 pub use alike::Alike;
+pub use found::Found;
 pub use rows::{Rows, TableRows};
 pub use tables::Table;

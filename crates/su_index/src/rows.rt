@@ -3,9 +3,10 @@ ghost use Rattle.std.specs.Prelude.{◌≡◌, ◌<◌, ◌+◌, ℕ, List, leng
 ghost use Rattle.std.specs.Borrow.{sem};
 ghost use Rattle.std.specs.Io.BufRead.{Rests};
 ghost use Rattle.su_rel.specs.Stored.{Stored, IsRelation};
-ghost use Rattle.su_index.specs.Matches.{matches, IsMatch};
+ghost use Rattle.su_index.specs.Matches.{matches, AreMatches};
 ghost use Rattle.su_index.specs.Tables.{table_at};
 
+use crate::found::Found;
 use crate::tables::Table;
 use std::sync::ledger::{Blank, Ledger};
 use su_base::{Row, Steps, Value};
@@ -29,12 +30,11 @@ pub trait Rows {
         requires column { column < (table_at (tables self.now) table).width }
         ensures { result ≡ matches column value.now (table_at (tables self.now) table).rows };
 
-    /// The position of the k-th of these rows, from 0 by ascending position.
-    fn matched(&self, table: u8, column: u8, value: &Value, k: usize) -> usize
+    /// The positions of these rows, ascending. The value is searched once.
+    fn found<'a>(&'a self, table: u8, column: u8, value: &Value) -> Found<'a>
         requires table { table < length (tables self.now) }
         requires column { column < (table_at (tables self.now) table).width }
-        requires within { k < matches column value.now (table_at (tables self.now) table).rows }
-        ensures { IsMatch column value.now (table_at (tables self.now) table).rows k result };
+        ensures { AreMatches column value.now (table_at (tables self.now) table).rows result };
 
     /// The row at the position; it counts as fetched.
     fn fetch(&mut self, table: u8, i: usize) -> &Row
@@ -80,8 +80,8 @@ impl<'a, L: Ledger> Rows for TableRows<'a, L> {
         self.tables[table as usize].matching(column, value)
     }
 
-    fn matched(&self, table: u8, column: u8, value: &Value, k: usize) -> usize {
-        self.tables[table as usize].matched(column, value, k)
+    fn found<'b>(&'b self, table: u8, column: u8, value: &Value) -> Found<'b> {
+        self.tables[table as usize].found(column, value)
     }
 
     fn fetch(&mut self, table: u8, i: usize) -> &Row {

@@ -5,10 +5,11 @@ ghost use Rattle.std.specs.List.{items_where_true};
 ghost use Rattle.su_rel.specs.Changes.{PutInAll, TakenOut};
 ghost use Rattle.su_rel.specs.Stored.{HaveWidth, IsRelation};
 ghost use Rattle.su_index.specs.Notes.{Tells};
-ghost use Rattle.su_index.specs.Matches.{matches, IsMatch};
+ghost use Rattle.su_index.specs.Matches.{matches, AreMatches, IsMatch};
 
 use crate::alike::Alike;
 use crate::columns::{add, grown, make_room, take_out};
+use crate::found::Found;
 use crate::index::Index;
 use crate::keeping::{kept_indexes, ranks};
 use crate::notes::{Notes, add_notes, forget, take_in, told};
@@ -196,6 +197,15 @@ impl Table {
         self.indexes = indexes;
         forget(&mut self.notes);
         Ok(())
+    }
+
+    /// The positions of the rows that have the value in the column, ascending. It is searched once.
+    pub fn found<'a>(&'a self, column: u8, value: &Value) -> Found<'a>
+        requires { column < self.now.width }
+        ensures { AreMatches column value.now self.now.rows result }
+    {
+        let column = column as usize;
+        self.indexes[column].found(self.rows.as_slice(), column, value)
     }
 
     /// How many rows have the value in the column.

@@ -1,7 +1,7 @@
 -- Ways to the stored rows of a source that a row may agree with.
--- way: all rows of the table, or those with one of some codes' values in a column; reached: beside the candidates so far no other stored row agrees
+-- way: all rows of the table, or those at some positions; reached: beside the candidates so far no other stored row agrees
 -- No public contract cites this module.
-use Rattle.std.specs.Prelude.{◌≡◌, ◌<◌, ◌≤◌, ℕ, Some, Option, None, IsTrue, List, [], map, sum, length, slice_get, slice_index_or, Contains}
+use Rattle.std.specs.Prelude.{◌≡◌, ◌<◌, ◌≤◌, ℕ, Some, Option, None, IsTrue, List, [], All, map, length, slice_get, slice_index_or, Contains}
 use Rattle.su_base.specs.declared.values.Value.{Value}
 use Rattle.su_rel.specs.Stored.{Stored}
 use Rattle.su_tableau.specs.declared.symbols.Sym.{Sym}
@@ -12,20 +12,16 @@ use Rattle.su_index.specs.Tables.{table_at}
 use Rattle.su_exec.specs.declared.tasks.Source.{Source}
 use Rattle.su_exec.specs.declared.tasks.TaskRow.{TaskRow}
 use Rattle.su_exec.specs.declared.access.Way.{Way}
-use Rattle.su_exec.specs.declared.access.Way.TheVariants.{All as Whole, Values}
+use Rattle.su_exec.specs.declared.access.Way.TheVariants.{All as Whole, Listed}
 use Rattle.su_exec.specs.declared.access.Cheapest.{Cheapest}
 use Rattle.su_reduce.specs.Codes.{decode}
-use Rattle.su_exec.specs.inside.Coded.{AreCoded, IsTaken, meanings, picked}
+use Rattle.su_exec.specs.inside.Coded.{IsTaken, meanings, picked}
 use Rattle.su_exec.specs.inside.Edges.{Edge, FitsAll}
 use Rattle.su_exec.specs.Outputs.{values_at}
 
 -- the code of a row of one code
 abbrev pub only_code : List ℕ → ℕ
 only_code r = slice_index_or r 0 0
-
--- how many stored rows have one of the codes' values in the column
-abbrev pub matches_all : List Value → ℕ → List (List Value) → List (List ℕ) → ℕ
-matches_all values column rows codes = sum (map (λ r. matches column (decode values (only_code r)) rows) codes)
 
 -- one of the codes stands for the value of the column's cell, under each valuation that fits the candidates so far
 pub record IsReached (values : List Value) (es : List (Edge ℕ)) (cells : List Sym) (columns : List ℕ) (column : ℕ) (codes : List (List ℕ)) : Type 0 where
@@ -36,18 +32,22 @@ pub record IsReached (values : List Value) (es : List (Edge ℕ)) (cells : List 
   pub column_is : slice_get columns place ≡ Some column
   pub reaches : (v : ℕ → Value) → FitsAll v (meanings values es) → Contains (map (λ r. decode values (only_code r)) codes) (value_of v cell)
 
--- one of some values in a column, each with a code
-pub record AreValues (tables : List Stored) (values : List Value) (es : List (Edge ℕ)) (row : TaskRow) (source : Source) (column width : ℕ) (codes : List (List ℕ)) (cost : ℕ) : Type 0 where
-  pub within : column < (table_at tables source.relation).width
-  pub few : matches_all values column (table_at tables source.relation).rows codes ≤ cost
-  pub one : width ≡ 1
-  pub coded : AreCoded values codes
-  pub reached : IsReached values es row.cells source.columns column codes
+-- positions of rows, and those of all with the value of one of the first n codes in the column
+pub record AreOfCodes (rows : List (List Value)) (column : ℕ) (values : List Value) (codes : List (List ℕ)) (n : ℕ) (positions : List ℕ) : Type 0 where
+  pub within : All (λ p. p < length rows) positions
+  pub all : (i p : ℕ) → i < n → p < length rows → IsTrue (has_value column (decode values (only_code (slice_index_or codes i []))) (slice_index_or rows p [])) → Contains positions p
+
+-- positions of rows, and those of all that agree, under each valuation that fits the candidates so far
+pub record AreReached (tables : List Stored) (values : List Value) (es : List (Edge ℕ)) (row : TaskRow) (source : Source) (positions : List ℕ) : Type 0 where
+  pub within : All (λ p. p < length (table_at tables source.relation).rows) positions
+  pub all :
+      (v : ℕ → Value) (p : ℕ) (stored : List Value) → FitsAll v (meanings values es) → slice_get (table_at tables source.relation).rows p ≡ Some stored
+      → values_at source.columns stored ≡ values_of v row.cells → Contains positions p
 
 -- the way reaches what agrees, with at most so many fetches
 abbrev pub IsWay : List Stored → List Value → List (Edge ℕ) → TaskRow → Source → Way → ℕ → Type 0
 IsWay tables values es row source Whole cost = length (table_at tables source.relation).rows ≤ cost
-IsWay tables values es row source (Values column codes) cost = AreValues tables values es row source column codes.width codes.rows cost
+IsWay tables values es row source (Listed positions) cost = AreReached tables values es row source positions.items × (length positions.items ≤ cost)
 
 -- the cell at the place is a constant, which at most so many rows have
 pub record IsConstantAt (tables : List Stored) (row : TaskRow) (source : Source) (p cost : ℕ) : Type 0 where
@@ -76,19 +76,15 @@ pub record IsFrom (cells : List Sym) (firsts columns : List ℕ) (rows : List (L
   pub at : slice_get rows position ≡ Some stored
   pub taken : IsTaken cells firsts columns stored h
 
--- a stored row with the value in the column gives them
-pub record IsFromValue (cells : List Sym) (firsts columns : List ℕ) (rows : List (List Value)) (column : ℕ) (value : Value) (h : List Value) : Type 0 where
-  pub position : ℕ
-  pub stored : List Value
-  pub at : slice_get rows position ≡ Some stored
-  pub has : IsTrue (has_value column value stored)
-  pub taken : IsTaken cells firsts columns stored h
-
--- a stored row with the value of one of the first n codes in the column gives them
-pub record IsFromCodes (cells : List Sym) (firsts columns : List ℕ) (rows : List (List Value)) (column : ℕ) (values : List Value) (codes : List (List ℕ)) (n : ℕ) (h : List Value) : Type 0 where
+-- the stored row at one of the first n positions gives them
+pub record IsFromListed (cells : List Sym) (firsts columns : List ℕ) (rows : List (List Value)) (positions : List ℕ) (n : ℕ) (h : List Value) : Type 0 where
   pub number : ℕ
   pub below : number < n
-  pub given : IsFromValue cells firsts columns rows column (decode values (only_code (slice_index_or codes number []))) h
+  pub position : ℕ
+  pub is : slice_get positions number ≡ Some position
+  pub stored : List Value
+  pub at : slice_get rows position ≡ Some stored
+  pub taken : IsTaken cells firsts columns stored h
 
 -- a stored row of the source that agrees beside the candidates so far gives them
 pub record IsAgreed (tables : List Stored) (values : List Value) (es : List (Edge ℕ)) (cells : List Sym) (firsts : List ℕ) (source : Source) (h : List Value) : Type 0 where

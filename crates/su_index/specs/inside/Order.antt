@@ -1,6 +1,6 @@
 -- Of Order: what only contracts of private functions need.
 -- No public contract cites this module.
-use Rattle.std.specs.Prelude.{◌≡◌, ◌<◌, ◌≤◌, ℕ, Bool, true, false, slice_index, cond, nat_eq, List, [], length, slice_index_or, All}
+use Rattle.std.specs.Prelude.{◌≡◌, ◌<◌, ◌≤◌, ℕ, Bool, true, false, slice_index, cond, nat_eq, List, length, slice_index_or, All}
 use Rattle.std.specs.Ordering.{is_lt, is_eq}
 use Rattle.su_base.specs.declared.values.Value.{Value}
 use Rattle.su_index.specs.Order.{compare_keys, compare_entries, count_below}

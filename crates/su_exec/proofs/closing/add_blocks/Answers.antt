@@ -10,13 +10,13 @@ pub loop-n-init : goal.loop-n-init
 loop-n-init c = record { width = refl; only = λ r h. inl h; all = λ v i f l at less. absurd (omega arith) }
 
 pub add_block-requires-clause-within : goal.add_block-requires-clause-within
-add_block-requires-clause-within c = λ k h. block_among c.args.a.now c.args.b.now c.args.c.now c.in_ok-part.part c.args.blocks.now c.loop-n.n c.args.vars.now c.in_ok-part.ensures k (c.requires.within k h)
+add_block-requires-clause-within c = λ k h. block_among c.args.three.now.first.now c.args.three.now.second.now c.args.three.now.third.now c.in_ok-part.part c.args.blocks.now c.loop-n.n c.args.vars.now c.in_ok-part.ensures k (c.requires.within k h)
 
 pub loop-n-preserved : goal.loop-n-preserved
 loop-n-preserved c =
-    let a : Edge ℕ = c.args.a.now in
-    let b : Edge ℕ = c.args.b.now in
-    let d : Edge ℕ = c.args.c.now in
+    let a : Edge ℕ = c.args.three.now.first.now in
+    let b : Edge ℕ = c.args.three.now.second.now in
+    let d : Edge ℕ = c.args.three.now.third.now in
     let vars : List ℕ = c.args.vars.now in
     let blocks : List ℕ = c.args.blocks.now in
     let n = c.loop-n.n in
@@ -36,9 +36,9 @@ loop-n-preserved c =
 
 pub returns-clause-all : goal.returns-clause-all
 returns-clause-all c = λ r x.
-    let a : Edge ℕ = c.args.a.now in
+    let a : Edge ℕ = c.args.three.now.first.now in
     let v = x.valuation in
-    let s = stands_at a c.args.b.now c.args.c.now v x.fits in
+    let s = stands_at a c.args.three.now.second.now c.args.three.now.third.now v x.fits in
     let l = s.low in
     let len = c.requires.blocks in
     let n = c.loop-n.n in

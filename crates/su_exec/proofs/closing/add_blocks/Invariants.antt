@@ -7,6 +7,6 @@ use Rattle.su_exec.proofs.closing.add_blocks.Given as goal
 abbrev pub invariant-loop-n : goal.invariant-loop-n
 invariant-loop-n l = record {
   width : l.out.width ≡ l.initial.out.width;
-  only : (r : List ℕ) → Contains l.out.rows r → Contains l.initial.out.rows r ⊎ IsGiven l.vars (l.a ∷ l.b ∷ l.c ∷ []) always r;
-  all : (v : ℕ → ℕ) (i : ℕ) → FitsAll v (l.a ∷ l.b ∷ l.c ∷ []) → i < length l.a.rows → get_or l.a.rows i [] ≡ map v l.a.vars → get_or l.blocks i 0 < l.n → Contains l.out.rows (map v l.vars);
+  only : (r : List ℕ) → Contains l.out.rows r → Contains l.initial.out.rows r ⊎ IsGiven l.vars (l.three.first.now ∷ l.three.second.now ∷ l.three.third.now ∷ []) always r;
+  all : (v : ℕ → ℕ) (i : ℕ) → FitsAll v (l.three.first.now ∷ l.three.second.now ∷ l.three.third.now ∷ []) → i < length l.three.first.now.rows → get_or l.three.first.now.rows i [] ≡ map v l.three.first.now.vars → get_or l.blocks i 0 < l.n → Contains l.out.rows (map v l.vars);
 }

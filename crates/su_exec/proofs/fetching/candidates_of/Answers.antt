@@ -39,9 +39,9 @@ pub fetch_source-requires-clause-source : goal.fetch_source-requires-clause-sour
 fetch_source-requires-clause-source g c =
     let row = c.args.row.now in
     let s = c.loop-s.s in
-    let source : Source = c.get-source.result.now in
+    let source : Source = c.get.result.now in
     let old : FitsTables (g.R.Rows.tables c.args.rows.now) (length row.cells) source =
-    subst (FitsTables (g.R.Rows.tables c.args.rows.now) (length row.cells)) (get_or_from_slice_get row.sources s source source c.get-source.ensures) (c.requires.sources s source (slice_get_within row.sources s source c.get-source.ensures)) in
+    subst (FitsTables (g.R.Rows.tables c.args.rows.now) (length row.cells)) (get_or_from_slice_get row.sources s source source c.get.ensures) (c.requires.sources s source (slice_get_within row.sources s source c.get.ensures)) in
     subst (λ (T : List Stored). FitsTables T (length row.cells) source) (sym c.loop-s.invariant.tables) old
 
 pub loop-s-preserved : goal.loop-s-preserved
@@ -54,9 +54,9 @@ loop-s-preserved g c =
     let news : List Value = c.fetch_source.new.codes in
     let es : List (Edge ℕ) = c.args.edges.now in
     let s = c.loop-s.s in
-    let source : Source = c.get-source.result.now in
-    let mid_rows = c.loop-s.out.rows in
-    let most = c.fetch_source.new.out.rows in
+    let source : Source = c.get.result.now in
+    let mid_rows = c.loop-s.out.rows.rows in
+    let most = c.fetch_source.new.out.rows.rows in
     let P : List Value → Type 0 = IsOfSources T row firsts s in
     let Q : List Value → Type 0 = AgreesBySources T olds es row firsts s in
     let P' : List Value → Type 0 = IsFrom row.cells firsts source.columns (table_at T source.relation).rows (length (table_at T source.relation).rows) in
@@ -70,7 +70,7 @@ loop-s-preserved g c =
     let end = c.len-s-end.ensures in
     let F : Source → ℕ = share T row.cells in
     let more : sum (map F (take (s + 1) row.sources)) ≡ sum (map F (take s row.sources)) + F source =
-    sum_more F row.sources s source (omega arith) ∙ ap (λ x. sum (map F (take s row.sources)) + F x) (get_or_from_slice_get row.sources s source source c.get-source.ensures) in
+    sum_more F row.sources s source (omega arith) ∙ ap (λ x. sum (map F (take s row.sources)) + F x) (get_or_from_slice_get row.sources s source source c.get.ensures) in
     let before = c.loop-s.invariant.fetches in
     let cost : g.R.Rows.fetches c.fetch_source.new.rows ≤ g.R.Rows.fetches c.loop-s.rows + share T row.cells source =
     subst (λ (T : List Stored). g.R.Rows.fetches c.fetch_source.new.rows ≤ g.R.Rows.fetches c.loop-s.rows + share T row.cells source) c.loop-s.invariant.tables c.in_ok-fetch_source.ensures.fetches in
@@ -78,12 +78,12 @@ loop-s-preserved g c =
       tables = c.in_ok-fetch_source.ensures.tables ∙ c.loop-s.invariant.tables;
       fetches = omega arith;
       width = c.in_ok-fetch_source.ensures.width ∙ c.loop-s.invariant.width;
-      gathered = gathered_then P Q P' Q' R S olds mids news [] mid_rows most old new (sources_before T olds es row firsts s) (λ h x. sources_here T olds es row firsts s source h c.get-source.ensures x)
+      gathered = gathered_then P Q P' Q' R S olds mids news [] mid_rows most old new (sources_before T olds es row firsts s) (λ h x. sources_here T olds es row firsts s source h c.get.ensures x)
           (λ h x.
           ⊎_elim
           (λ (q : Q h). inl q)
           (λ (q : IsAgreed T olds es row.cells firsts source h). inr (agreed_up T olds mids es row.cells firsts source h old.codes c.requires.coded q))
-          (sources_cases T olds es row firsts s source h c.get-source.ensures x));
+          (sources_cases T olds es row firsts s source h c.get.ensures x));
     }
 
 pub apart-requires-clause-width : goal.apart-requires-clause-width
@@ -101,7 +101,7 @@ returns-clause-edge g c =
     let olds : List Value = c.args.codes.now in
     let news : List Value = c.loop-s.codes in
     let es : List (Edge ℕ) = c.args.edges.now in
-    let rows = c.loop-s.out.rows in
+    let rows = c.loop-s.out.rows.rows in
     let test = c.loop-s-test.false in
     let end = c.len-s-end.ensures in
     let n : c.loop-s.s ≡ length row.sources = omega arith in
@@ -125,12 +125,12 @@ returns-in_err-fetch_source-clause-fetches g c =
     let T : List Stored = g.R.Rows.tables c.args.rows.now in
     let row = c.args.row.now in
     let s = c.loop-s.s in
-    let source : Source = c.get-source.result.now in
+    let source : Source = c.get.result.now in
     let test = c.loop-s-test.true in
     let end = c.len-s-end.ensures in
     let F : Source → ℕ = share T row.cells in
     let more : sum (map F (take (s + 1) row.sources)) ≡ sum (map F (take s row.sources)) + F source =
-    sum_more F row.sources s source (omega arith) ∙ ap (λ x. sum (map F (take s row.sources)) + F x) (get_or_from_slice_get row.sources s source source c.get-source.ensures) in
+    sum_more F row.sources s source (omega arith) ∙ ap (λ x. sum (map F (take s row.sources)) + F x) (get_or_from_slice_get row.sources s source source c.get.ensures) in
     let part : sum (map F (take (s + 1) row.sources)) ≤ sum (map F row.sources) = sum_take F row.sources (s + 1) in
     let before = c.loop-s.invariant.fetches in
     let cost : g.R.Rows.fetches c.fetch_source.new.rows ≤ g.R.Rows.fetches c.loop-s.rows + share T row.cells source =

@@ -9,6 +9,6 @@ abbrev pub invariant-loop-s : goal.invariant-loop-s
 invariant-loop-s g l = record {
   tables : g.R.Rows.tables l.rows ≡ g.R.Rows.tables l.fn.rows;
   fetches : g.R.Rows.fetches l.rows ≤ g.R.Rows.fetches l.fn.rows + sum (map (share (g.R.Rows.tables l.fn.rows) l.row.cells) (take l.s l.row.sources));
-  width : l.out.width ≡ length l.shape.firsts.items;
-  gathered : IsGathered (IsOfSources (g.R.Rows.tables l.fn.rows) l.row l.shape.firsts.items l.s) (AgreesBySources (g.R.Rows.tables l.fn.rows) l.fn.codes l.edges l.row l.shape.firsts.items l.s) l.fn.codes [] l.codes l.out.rows;
+  width : l.out.rows.width ≡ length l.shape.firsts.items;
+  gathered : IsGathered (IsOfSources (g.R.Rows.tables l.fn.rows) l.row l.shape.firsts.items l.s) (AgreesBySources (g.R.Rows.tables l.fn.rows) l.fn.codes l.edges l.row l.shape.firsts.items l.s) l.fn.codes [] l.codes l.out.rows.rows;
 }

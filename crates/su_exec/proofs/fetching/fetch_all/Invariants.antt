@@ -8,6 +8,6 @@ abbrev pub invariant-loop-i : goal.invariant-loop-i
 invariant-loop-i g l = record {
   tables : g.R.Rows.tables l.rows ≡ g.R.Rows.tables l.fn.rows;
   fetches : g.R.Rows.fetches l.rows ≤ g.R.Rows.fetches l.fn.rows + l.i;
-  width : l.out.width ≡ l.fn.out.width;
-  gathered : IsGathered (IsFrom l.row.cells l.shape.firsts.items l.source.columns (table_at (g.R.Rows.tables l.fn.rows) l.source.relation).rows l.i) (IsFrom l.row.cells l.shape.firsts.items l.source.columns (table_at (g.R.Rows.tables l.fn.rows) l.source.relation).rows l.i) l.fn.codes l.fn.out.rows l.codes l.out.rows;
+  width : l.out.rows.width ≡ l.fn.out.rows.width;
+  gathered : IsGathered (IsFrom l.aim.row.now.cells l.aim.shape.now.firsts.items l.aim.source.now.columns (table_at (g.R.Rows.tables l.fn.rows) l.aim.source.now.relation).rows l.i) (IsFrom l.aim.row.now.cells l.aim.shape.now.firsts.items l.aim.source.now.columns (table_at (g.R.Rows.tables l.fn.rows) l.aim.source.now.relation).rows l.i) l.fn.codes l.fn.out.rows.rows l.codes l.out.rows.rows;
 }

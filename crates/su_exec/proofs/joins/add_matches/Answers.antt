@@ -13,15 +13,15 @@ pub loop-at-init : goal.loop-at-init
 loop-at-init c =
     let plan = c.args.plan.now in
     let row = c.args.row.now in
-    let rs = c.args.right.now.rows in
-    let n = length c.args.heads.now in
+    let rs = c.args.right.now.rows.now.rows in
+    let n = length c.args.right.now.heads.now in
     let key = pick plan.left_key.items row in
     let h = hash_of key % n in
     let p = in_bucket rs plan.right_key.items n h in
     let some = c.requires.some in
     let low : h < n = omega arith in
     let b : c.bucket.result ≡ h = c.bucket.ensures ∙ ap (λ ps. hash_of (pick ps row) % n) c.deref.ensures.value in
-    let e : get_or c.args.heads.now c.bucket.result 0 ≡ last p (length rs) = ap (λ h. get_or c.args.heads.now h 0) b ∙ c.requires.heads h low in
+    let e : get_or c.args.right.now.heads.now c.bucket.result 0 ≡ last p (length rs) = ap (λ h. get_or c.args.right.now.heads.now h 0) b ∙ c.requires.heads h low in
     let l = last_le p (length rs) in
     record {
       width = refl;
@@ -35,29 +35,29 @@ loop-at-init c =
 pub loop-at-smaller : goal.loop-at-smaller
 loop-at-smaller c =
     let plan = c.args.plan.now in
-    let rs = c.args.right.now.rows in
-    let n = length c.args.heads.now in
+    let rs = c.args.right.now.rows.now.rows in
+    let n = length c.args.right.now.heads.now in
     let h = hash_of (pick plan.left_key.items c.args.row.now) % n in
     let p = in_bucket rs plan.right_key.items n h in
     let low = c.loop-at.invariant.low in
     let some = c.loop-at-test.true in
-    (next_is p (c.loop-at.at - 1) c.loop-at.at (get_or c.args.next.now (c.loop-at.at - 1) 0) (omega arith) c.loop-at.invariant.again (c.requires.next h (c.loop-at.at - 1) (omega arith))).below
+    (next_is p (c.loop-at.at - 1) c.loop-at.at (get_or c.args.right.now.next.now (c.loop-at.at - 1) 0) (omega arith) c.loop-at.invariant.again (c.requires.next h (c.loop-at.at - 1) (omega arith))).below
 
 pub loop-at-preserved : goal.loop-at-preserved
 loop-at-preserved c =
     let plan = c.args.plan.now in
     let values = c.args.codes.now in
     let row = c.args.row.now in
-    let rs = c.args.right.now.rows in
-    let n = length c.args.heads.now in
+    let rs = c.args.right.now.rows.now.rows in
+    let n = length c.args.right.now.heads.now in
     let key = pick plan.left_key.items row in
     let h = hash_of key % n in
     let p = in_bucket rs plan.right_key.items n h in
     let low = c.loop-at.invariant.low in
     let some = c.loop-at-test.true in
     let j = c.loop-at.at - 1 in
-    let nx = get_or c.args.next.now j 0 in
-    let rows = c.add_pair.new.out.rows in
+    let nx = get_or c.args.right.now.next.now j 0 in
+    let rows = c.add_pair.new.out.rows.rows in
     let e : c.loop-at.at ≡ suc j = omega arith in
     let next = next_is p j c.loop-at.at nx e c.loop-at.invariant.again (c.requires.next h j (omega arith)) in
     let below = next.below in
@@ -79,30 +79,30 @@ returns-in_err-added-clause-only c = λ r has.
     let plan = c.args.plan.now in
     let low = c.loop-at.invariant.low in
     let some = c.loop-at-test.true in
-    ⊎_elim (λ old. c.loop-at.invariant.only r old) (λ made. inr (made_gives c.args.codes.now plan c.args.row.now c.row.result.now r c.args.right.now.rows (c.loop-at.at - 1) (omega arith) c.row.ensures.is made)) (c.add_pair.ensures.only r has)
+    ⊎_elim (λ old. c.loop-at.invariant.only r old) (λ made. inr (made_gives c.args.codes.now plan c.args.row.now c.row.result.now r c.args.right.now.rows.now.rows (c.loop-at.at - 1) (omega arith) c.row.ensures.is made)) (c.add_pair.ensures.only r has)
 
 pub returns-then-is_empty-clause-only : goal.returns-then-is_empty-clause-only
 returns-then-is_empty-clause-only c = λ r has.
     let plan = c.args.plan.now in
     let low = c.loop-at.invariant.low in
     let some = c.loop-at-test.true in
-    ⊎_elim (λ old. c.loop-at.invariant.only r old) (λ made. inr (made_gives c.args.codes.now plan c.args.row.now c.row.result.now r c.args.right.now.rows (c.loop-at.at - 1) (omega arith) c.row.ensures.is made)) (c.add_pair.ensures.only r has)
+    ⊎_elim (λ old. c.loop-at.invariant.only r old) (λ made. inr (made_gives c.args.codes.now plan c.args.row.now c.row.result.now r c.args.right.now.rows.now.rows (c.loop-at.at - 1) (omega arith) c.row.ensures.is made)) (c.add_pair.ensures.only r has)
 
 pub returns-then-is_empty-clause-all : goal.returns-then-is_empty-clause-all
 returns-then-is_empty-clause-all c = λ few r g.
     let plan = c.args.plan.now in
     let row = c.args.row.now in
-    let rs = c.args.right.now.rows in
+    let rs = c.args.right.now.rows.now.rows in
     let none : plan.right_out.items ≡ [] = nil_from_length plan.right_out.items (search (rules, c.if-is_empty.true, c.is_empty.ensures)) in
     let made = gives_made c.args.codes.now plan row r rs g in
-    subst (λ (x : List ℕ). Contains c.add_pair.new.out.rows x) (one_row plan row c.row.result.now (get_or rs g.right []) none ∙ made.is) (c.in_ok-added.ensures.added c.if-added.true)
+    subst (λ (x : List ℕ). Contains c.add_pair.new.out.rows.rows x) (one_row plan row c.row.result.now (get_or rs g.right []) none ∙ made.is) (c.in_ok-added.ensures.added c.if-added.true)
 
 pub returns-then-is_past-clause-only : goal.returns-then-is_past-clause-only
 returns-then-is_past-clause-only c = λ r has.
     let plan = c.args.plan.now in
     let low = c.loop-at.invariant.low in
     let some = c.loop-at-test.true in
-    ⊎_elim (λ old. c.loop-at.invariant.only r old) (λ made. inr (made_gives c.args.codes.now plan c.args.row.now c.row.result.now r c.args.right.now.rows (c.loop-at.at - 1) (omega arith) c.row.ensures.is made)) (c.add_pair.ensures.only r has)
+    ⊎_elim (λ old. c.loop-at.invariant.only r old) (λ made. inr (made_gives c.args.codes.now plan c.args.row.now c.row.result.now r c.args.right.now.rows.now.rows (c.loop-at.at - 1) (omega arith) c.row.ensures.is made)) (c.add_pair.ensures.only r has)
 
 pub returns-then-is_past-clause-all : goal.returns-then-is_past-clause-all
 returns-then-is_past-clause-all c = λ few r g.
@@ -112,4 +112,4 @@ returns-then-is_past-clause-all c = λ few r g.
 pub returns-clause-all : goal.returns-clause-all
 returns-clause-all c = λ few r g.
     let none = c.loop-at-test.false in
-    c.loop-at.invariant.all g.right (omega arith) g.right_in r (gives_made c.args.codes.now c.args.plan.now c.args.row.now r c.args.right.now.rows g)
+    c.loop-at.invariant.all g.right (omega arith) g.right_in r (gives_made c.args.codes.now c.args.plan.now c.args.row.now r c.args.right.now.rows.now.rows g)
