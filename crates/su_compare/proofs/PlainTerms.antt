@@ -8,7 +8,7 @@ use Rattle.std.proofs.lemmas.List.Elements.{All-contains, Contains-get_or}
 use Rattle.su_base.specs.declared.values.Value.{Value}
 use Rattle.su_base.proofs.Numbers.{ord_max-numbers}
 use Rattle.su_tableau.specs.Tableaux.{Tab, IsValid, AreVarsBelow}
-use Rattle.su_tableau.specs.Valuations.{Ext, Cut, value_of, nth}
+use Rattle.su_tableau.specs.Valuations.{Ext, Cut, value_of}
 use Rattle.su_tableau.specs.Kinds.{IsUniverse, IsTyped}
 use Rattle.su_fd.specs.MetDependencies.{Meets}
 use Rattle.su_chase.specs.Chased.{IsFdBelow}
@@ -110,7 +110,7 @@ cut_plain t u h valid none =
     let ops : length t.operators ≡ 0 = ap length none in
     let long = valid.head_length in
     let len : (g : List Value) → Ext t u g → length g ≤ t.outputs =
-    λ g e. let n : length g ≡ length t.head = ap length (sym e.gives) ∙ length-map t.head (value_of (nth e.values)) in omega arith in (
+    λ g e. let n : length g ≡ length t.head = ap length (sym e.gives) ∙ length-map t.head (value_of e.valuation) in omega arith in (
       λ c. subst (Ext t u) (sym (take_all t.outputs c.head (len c.head c.member)) ∙ c.outputs) c.member,
       λ e. record {
         head = h;
