@@ -7,7 +7,7 @@ ghost use Rattle.su_lex.specs.declared.meaning.Symbol.{Symbol as ASymbol};
 ghost use Rattle.su_query.specs.declared.refs.Ref.{Ref as ARef};
 
 use crate::refs::Ref;
-use su_base::{List, Str, Value};
+use su_base::{List, NoMemory, Row, Str, Value};
 use su_lex::{LexEnd, Reader, Sign, Symbol};
 
 /// Nothing is left.
@@ -61,12 +61,21 @@ pub(crate) fn reference(reader: &mut Reader) -> Result<Ref, LexEnd>
     })
 }
 
+/// No values, with room for those that stand before a `)` at the end of the symbols: a row is stored as it
+/// is read, and takes no more than its values.
+fn room(reader: &Reader) -> Result<Row, NoMemory>
+    ensures { IfOk result (λ row. row ≡ []) }
+{
+    let most = reader.len() / 2;
+    Ok(List::from_vec(Vec::with_capacity(reader.alloc(), most)?))
+}
+
 /// value { "," value }
-pub(crate) fn values(reader: &mut Reader) -> Result<List<Value>, LexEnd>
+pub(crate) fn values(reader: &mut Reader) -> Result<Row, LexEnd>
     ensures found { IfOk result (λ vs. Several ReadsValue vs reader.old reader.new) }
     ensures syntax { IsErrOf result LexEnd.Syntax → (vs : Items AValue) (r : Items ASymbol) → ¬ (Several ReadsValue vs reader.old r) }
 {
-    let mut values = List::new(reader.alloc());
+    let mut values = room(reader)?;
     values.push(value(reader)?)?;
     while reader.takes_sign(Sign::Comma) {
         values.push(value(reader)?)?;

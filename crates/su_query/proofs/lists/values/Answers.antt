@@ -8,7 +8,7 @@ use Rattle.su_query.proofs.lists.values.Goals as goal
 
 pub loop-values-init : goal.loop-values-init
 loop-values-init c =
-    let parts = rw c.new-values.ensures at c.in_ok-push.ensures.ok in
+    let parts = rw c.in_ok-values.ensures at c.in_ok-push.ensures.ok in
     record {
       before = first_then ReadsValue _ c.in_ok-value.field-0 _ _ parts c.in_ok-value.ensures.found;
       only = first_only ReadsValue value_unique _ c.in_ok-value.field-0 _ _ parts c.in_ok-value.ensures.found;
