@@ -82,5 +82,5 @@ pub not_too_long : TooLongOrAnswered
 not_too_long a b maximal q rows alike long h few =
     let same : long.prepared ≡ h.prepared = same_preparation a b maximal q long.prepared h.prepared alike long.is_prepared h.is_prepared in
     let answers : AreAnswers b long.prepared rows = subst (λ (p : Prepared). AreAnswers b p rows) (sym same) h.answers in
-    let many = no_more 1000001 long.many.list rows (λ i below. (answers.exact (long.many.list i)).1 (answer_moves a b alike long.prepared (long.many.list i) (long.many.each i (omega (arith, below))))) (λ i j less within. long.many.differ i j less (omega (arith, within))) in
+    let many = no_more 1000001 long.many.member rows (λ i below. (answers.exact (long.many.member i)).1 (answer_moves a b alike long.prepared (long.many.member i) (long.many.each i (omega (arith, below))))) (λ i j less within. long.many.differ i j less (omega (arith, within))) in
     absurd (omega (arith, many, few))

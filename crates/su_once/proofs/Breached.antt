@@ -1,55 +1,51 @@
--- A row has one first breach, and one first value of another kind.
-use Rattle.std.proofs.Common.{◌≡◌, ℕ, List, map, slice_get, Some, ap, sym, ◌∙◌, subst, Contains, inl, inr, arith}
+-- Of some breaches one is the first, and a row has one first value of another kind.
+use Rattle.std.proofs.Common.{◌≡◌, ℕ, List, map, slice_get, Some, refl, ap, sym, ◌∙◌, inl, inr, arith}
 use Rattle.std.specs.Prelude.{option_map}
 use Rattle.std.proofs.lemmas.Bool.{cases_lt}
 use Rattle.std.proofs.lemmas.Option.{slice_get-map}
+use Rattle.std.specs.Cmp.{IsTotalOrder}
+use Rattle.std.specs.Ordering.{nat_cmp, ordering_then}
+use Rattle.std.specs.declared.cmp.Ordering.{Ordering}
+use Rattle.std.specs.declared.cmp.Ordering.TheVariants.{Less, Equal, Greater}
+use Rattle.std.proofs.lemmas.Cmp.{nat_cmp_total, on_total, then_total}
 use Rattle.su_base.specs.declared.values.Value.{Value}
 use Rattle.su_base.specs.declared.values.Column.{Column}
-use Rattle.su_base.specs.Value.{kind_of}
-use Rattle.su_schema.specs.SchemaValue.{SchemaValue}
+use Rattle.su_base.specs.Value.{kind_of, compare_lists}
+use Rattle.su_base.proofs.Rows.{rows_total, equal_rows}
 use Rattle.su_state.specs.declared.faults.StateFault.{StateFault}
 use Rattle.su_state.specs.declared.faults.StateFault.TheVariants.{UnknownRelation, Width, Kind as OtherKind, Breaks, Limit, NoMemory}
 use Rattle.su_state.specs.DatabaseValue.{HasColumnKinds}
-use Rattle.su_state.specs.Breaches.{IsFirstOtherKind, IsUnfit, IsBreach, IsFirstBreach}
+use Rattle.su_state.specs.UnfitRows.{IsFirstOtherKind, IsUnfit}
+use Rattle.su_state.specs.Breaches.{Breach, compare_breaches, IsFirstOf}
 use Rattle.su_state.proofs.Filled.{typed_width}
-use Rattle.su_once.proofs.Rows.{one_least}
+use Rattle.su_state.proofs.FirstBreaches.{number_tied}
+use Rattle.su_once.proofs.Rows.{at_most_both}
 
--- ---- breaches, over the same rows
+-- ---- the first of some breaches
 
-module _ (schema : SchemaValue) (r : ℕ) (row : List Value) where
-  pub breach_among : (rows others : List (List Value)) → ((x : List Value) → Contains rows x → Contains others x) → (f o : ℕ) (x : List Value) → IsBreach schema r rows row f o x → IsBreach schema r others row f o x
-  breach_among rows others within f o x b = record { dependency = b.dependency; through = b.through; numbered = b.numbered; placed = b.placed; on = b.on; stored = within x b.stored; broken = b.broken }
+then_tied : (a b : Ordering) → ordering_then a b ≡ Equal → (a ≡ Equal) × (b ≡ Equal)
+then_tied Less b tied = absurd (cc)
+then_tied Equal b tied = (refl, tied)
+then_tied Greater b tied = absurd (cc)
 
-  pub first_among : (rows others : List (List Value)) → ((x : List Value) → Contains rows x → Contains others x) → ((x : List Value) → Contains others x → Contains rows x) → (f o : ℕ) (x : List Value) → IsFirstBreach schema r rows row f o x → IsFirstBreach schema r others row f o x
-  first_among rows others f g fd object x b = record {
-    first_fd = λ i j y less breach. b.first_fd i j y less (breach_among others rows g i j y breach);
-    first_object = λ j y less breach. b.first_object j y less (breach_among others rows g fd j y breach);
-    least = record {
-      breach = breach_among rows others f fd object x b.least.breach;
-      least = λ y breach. b.least.least y (breach_among others rows g fd object y breach);
-    };
-  }
+breaches_total : IsTotalOrder compare_breaches
+breaches_total = then_total (on_total (λ b. b.dependency) nat_cmp_total) (then_total (on_total (λ b. b.object) nat_cmp_total) (then_total (on_total (λ b. b.first) rows_total) (on_total (λ b. b.second) rows_total)))
 
-  module _ (rows : List (List Value)) where
-    one_fd : (f g o p : ℕ) (x y : List Value) → IsFirstBreach schema r rows row f o x → IsFirstBreach schema r rows row g p y → f ≡ g
-    one_fd f g o p x y a b = elim (cases_lt f g) [
-      | inl less ↦ absurd (b.first_fd f o x less a.least.breach)
-      | inr from ↦ elim (cases_lt g f) [ inl less ↦ absurd (a.first_fd g p y less b.least.breach) | inr upto ↦ omega (arith, from, upto) ]
-    ]
+pub one_first : (Among : Breach → Type 0) (b c : Breach) → IsFirstOf Among b → IsFirstOf Among c → b ≡ c
+one_first Among b c h k =
+    let tied : compare_breaches b c ≡ Equal = at_most_both (compare_breaches b c) (compare_breaches c b) (h.1 c k.0) (k.1 b h.0) (breaches_total.antisymm b c) in
+    let (f, later) = then_tied (nat_cmp b.dependency c.dependency) _ tied in
+    let (o, rows) = then_tied (nat_cmp b.object c.object) _ later in
+    let (x, y) = then_tied (compare_lists b.first c.first) (compare_lists b.second c.second) rows in
+    let fd = number_tied b.dependency c.dependency f in
+    let object = number_tied b.object c.object o in
+    let first = equal_rows b.first c.first x in
+    let second = equal_rows b.second c.second y in
+    λ i. record { dependency = fd i; object = object i; first = first i; second = second i }
 
-    one_object : (f o p : ℕ) (x y : List Value) → IsFirstBreach schema r rows row f o x → IsFirstBreach schema r rows row f p y → o ≡ p
-    one_object f o p x y a b = elim (cases_lt o p) [
-      | inl less ↦ absurd (b.first_object o x less a.least.breach)
-      | inr from ↦ elim (cases_lt p o) [ inl less ↦ absurd (a.first_object p y less b.least.breach) | inr upto ↦ omega (arith, from, upto) ]
-    ]
-
-    pub one_breach : (f g o p : ℕ) (x y : List Value) → IsFirstBreach schema r rows row f o x → IsFirstBreach schema r rows row g p y → (f ≡ g) × (o ≡ p) × (x ≡ y)
-    one_breach f g o p x y a b =
-        let fd = one_fd f g o p x y a b in
-        let c = subst (λ (n : ℕ). IsFirstBreach schema r rows row n p y) (sym fd) b in
-        let object = one_object f o p x y a c in
-        let d = subst (λ (n : ℕ). IsFirstBreach schema r rows row f n y) (sym object) c in
-        (fd, object, one_least x y (a.least.least y d.least.breach) (d.least.least x a.least.breach))
+-- the same breaches have the same first one
+pub first_among : (Among Others : Breach → Type 0) → ((c : Breach) → Among c → Others c) → ((c : Breach) → Others c → Among c) → (b : Breach) → IsFirstOf Among b → IsFirstOf Others b
+first_among Among Others forth back b h = (forth b h.0, λ c other. h.1 c (back c other))
 
 -- ---- rows that don't fit
 

@@ -11,12 +11,13 @@ use Rattle.su_state.specs.declared.faults.StateFault.{StateFault}
 use Rattle.su_state.specs.declared.faults.StateFault.TheVariants.{UnknownRelation, Width, Kind as OtherKind, Breaks, Limit, NoMemory}
 use Rattle.su_state.specs.DatabaseValue.{DatabaseValue, HasColumnKinds, columns_of, rows_of, rows_in}
 use Rattle.su_state.specs.Changes.{ChangesOnly, Added, Removed}
-use Rattle.su_state.specs.Breaches.{IsUnfit, IsFirstBreach, NoBreach}
+use Rattle.su_state.specs.UnfitRows.{IsUnfit}
+use Rattle.su_state.specs.Breaches.{Breach, IsFirstOf, IsBreachBy}
 use Rattle.su_state.specs.RowChanges.{InsertAnswers, Inserts, DeleteAnswers, Deletes}
 use Rattle.su_once.specs.States.{AreAlike, OneOrder, OneInsert, OneDelete, OneDeleteWhere}
 use Rattle.su_once.proofs.Rows.{one_sorted_list}
 use Rattle.su_once.proofs.Counted.{one_count}
-use Rattle.su_once.proofs.Breached.{breach_among, first_among, one_breach, not_unfit, one_unfit}
+use Rattle.su_once.proofs.Breached.{first_among, one_first, not_unfit, one_unfit}
 
 -- ---- one answer on a database
 
@@ -24,71 +25,75 @@ module _ (db : DatabaseValue) (r : ℕ) (row : List Value) where
   abbrev Answers : Result Bool StateFault → Type 0
   Answers y = InsertAnswers db r row y
 
+  -- a breach by the row
+  abbrev with_row : ℕ → ℕ → List Value → Breach
+  with_row fd object other = record { dependency = fd; object = object; first = row; second = other }
+
   module _ (typed : HasColumnKinds (columns_of db r) row) where
-    when_there : Contains (rows_of db r) row → (y : Result Bool StateFault) → y ≢ Err NoMemory → Answers y → Ok false ≡ y
-    when_there there (Ok false) n h = refl
-    when_there there (Ok true) n h = absurd (h.1 there)
-    when_there there (Err (Width s given)) n h = absurd (not_unfit r (columns_of db r) row (Width s given) typed h)
-    when_there there (Err (OtherKind s column)) n h = absurd (not_unfit r (columns_of db r) row (OtherKind s column) typed h)
-    when_there there (Err (Breaks s f o x)) n h = absurd (h.1 there)
-    when_there there (Err (Limit s)) n h = absurd (h.1 there)
-    when_there there (Err NoMemory) n h = absurd (n refl)
-    when_there there (Err (UnknownRelation name)) n h = absurd h
+    when_there : Contains (rows_of db r) row → (y : Result Bool StateFault) → Answers y → Ok false ≡ y
+    when_there there (Ok false) h = refl
+    when_there there (Ok true) h = absurd (h.1 there)
+    when_there there (Err (Width s given)) h = absurd (not_unfit r (columns_of db r) row (Width s given) typed h)
+    when_there there (Err (OtherKind s column)) h = absurd (not_unfit r (columns_of db r) row (OtherKind s column) typed h)
+    when_there there (Err (Breaks s f o x)) h = absurd (h.1 there)
+    when_there there (Err (Limit s)) h = absurd (h.1 there)
+    when_there there (Err NoMemory) h = absurd h
+    when_there there (Err (UnknownRelation name)) h = absurd h
 
     module _ (new : ¬ Contains (rows_of db r) row) where
-      when_breaking : (s fd object : ℕ) (other : List Value) → IsFirstBreach db.schema r (rows_of db r) row fd object other → s ≡ r → (y : Result Bool StateFault) → y ≢ Err NoMemory → Answers y → Err (Breaks s fd object other) ≡ y
-      when_breaking s fd object other b at (Ok false) n h = absurd (new h.1)
-      when_breaking s fd object other b at (Ok true) n h = absurd (h.2 fd object other b.least.breach)
-      when_breaking s fd object other b at (Err (Width t given)) n h = absurd (not_unfit r (columns_of db r) row (Width t given) typed h)
-      when_breaking s fd object other b at (Err (OtherKind t column)) n h = absurd (not_unfit r (columns_of db r) row (OtherKind t column) typed h)
-      when_breaking s fd object other b at (Err (Breaks t f o x)) n h =
-          let same = one_breach db.schema r row (rows_of db r) fd f object o other x b h.2 in
+      when_breaking : (s fd object : ℕ) (other : List Value) → IsFirstOf (IsBreachBy db r row) (with_row fd object other) → s ≡ r → (y : Result Bool StateFault) → Answers y → Err (Breaks s fd object other) ≡ y
+      when_breaking s fd object other b at (Ok false) h = absurd (new h.1)
+      when_breaking s fd object other b at (Ok true) h = absurd (h.2 (with_row fd object other) b.0)
+      when_breaking s fd object other b at (Err (Width t given)) h = absurd (not_unfit r (columns_of db r) row (Width t given) typed h)
+      when_breaking s fd object other b at (Err (OtherKind t column)) h = absurd (not_unfit r (columns_of db r) row (OtherKind t column) typed h)
+      when_breaking s fd object other b at (Err (Breaks t f o x)) h =
+          let same = one_first (IsBreachBy db r row) (with_row fd object other) (with_row f o x) b h.2 in
           let on : s ≡ t = at ∙ sym h.3 in
-          λ i. Err (Breaks (on i) (same.0 i) (same.1 i) (same.2 i))
-      when_breaking s fd object other b at (Err (Limit t)) n h = absurd (h.2 fd object other b.least.breach)
-      when_breaking s fd object other b at (Err NoMemory) n h = absurd (n refl)
-      when_breaking s fd object other b at (Err (UnknownRelation name)) n h = absurd h
+          λ i. Err (Breaks (on i) (same i).dependency (same i).object (same i).second)
+      when_breaking s fd object other b at (Err (Limit t)) h = absurd (h.2 (with_row fd object other) b.0)
+      when_breaking s fd object other b at (Err NoMemory) h = absurd h
+      when_breaking s fd object other b at (Err (UnknownRelation name)) h = absurd h
 
-      module _ (none : NoBreach db.schema r (rows_of db r) row) where
-        when_full : (s : ℕ) → 1000000 ≤ length (rows_of db r) → s ≡ r → (y : Result Bool StateFault) → y ≢ Err NoMemory → Answers y → Err (Limit s) ≡ y
-        when_full s many at (Ok false) n h = absurd (new h.1)
-        when_full s many at (Ok true) n h = absurd (let few = h.3 in omega (arith, many, few))
-        when_full s many at (Err (Width t given)) n h = absurd (not_unfit r (columns_of db r) row (Width t given) typed h)
-        when_full s many at (Err (OtherKind t column)) n h = absurd (not_unfit r (columns_of db r) row (OtherKind t column) typed h)
-        when_full s many at (Err (Breaks t f o x)) n h = absurd (none f o x h.2.least.breach)
-        when_full s many at (Err (Limit t)) n h = let on : s ≡ t = at ∙ sym h.4 in λ i. Err (Limit (on i))
-        when_full s many at (Err NoMemory) n h = absurd (n refl)
-        when_full s many at (Err (UnknownRelation name)) n h = absurd h
+      module _ (none : (b : Breach) → ¬ IsBreachBy db r row b) where
+        when_full : (s : ℕ) → 1000000 ≤ length (rows_of db r) → s ≡ r → (y : Result Bool StateFault) → Answers y → Err (Limit s) ≡ y
+        when_full s many at (Ok false) h = absurd (new h.1)
+        when_full s many at (Ok true) h = absurd (let few = h.3 in omega (arith, many, few))
+        when_full s many at (Err (Width t given)) h = absurd (not_unfit r (columns_of db r) row (Width t given) typed h)
+        when_full s many at (Err (OtherKind t column)) h = absurd (not_unfit r (columns_of db r) row (OtherKind t column) typed h)
+        when_full s many at (Err (Breaks t f o x)) h = absurd (none (with_row f o x) h.2.0)
+        when_full s many at (Err (Limit t)) h = let on : s ≡ t = at ∙ sym h.4 in λ i. Err (Limit (on i))
+        when_full s many at (Err NoMemory) h = absurd h
+        when_full s many at (Err (UnknownRelation name)) h = absurd h
 
-        when_added : length (rows_of db r) < 1000000 → (y : Result Bool StateFault) → y ≢ Err NoMemory → Answers y → Ok true ≡ y
-        when_added few (Ok false) n h = absurd (new h.1)
-        when_added few (Ok true) n h = refl
-        when_added few (Err (Width t given)) n h = absurd (not_unfit r (columns_of db r) row (Width t given) typed h)
-        when_added few (Err (OtherKind t column)) n h = absurd (not_unfit r (columns_of db r) row (OtherKind t column) typed h)
-        when_added few (Err (Breaks t f o x)) n h = absurd (none f o x h.2.least.breach)
-        when_added few (Err (Limit t)) n h = absurd (let many = h.3 in omega (arith, many, few))
-        when_added few (Err NoMemory) n h = absurd (n refl)
-        when_added few (Err (UnknownRelation name)) n h = absurd h
+        when_added : length (rows_of db r) < 1000000 → (y : Result Bool StateFault) → Answers y → Ok true ≡ y
+        when_added few (Ok false) h = absurd (new h.1)
+        when_added few (Ok true) h = refl
+        when_added few (Err (Width t given)) h = absurd (not_unfit r (columns_of db r) row (Width t given) typed h)
+        when_added few (Err (OtherKind t column)) h = absurd (not_unfit r (columns_of db r) row (OtherKind t column) typed h)
+        when_added few (Err (Breaks t f o x)) h = absurd (none (with_row f o x) h.2.0)
+        when_added few (Err (Limit t)) h = absurd (let many = h.3 in omega (arith, many, few))
+        when_added few (Err NoMemory) h = absurd h
+        when_added few (Err (UnknownRelation name)) h = absurd h
 
-  when_unfit : (fault : StateFault) → IsUnfit r (columns_of db r) row fault → (y : Result Bool StateFault) → y ≢ Err NoMemory → Answers y → Err fault ≡ y
-  when_unfit fault u (Ok false) n h = absurd (not_unfit r (columns_of db r) row fault h.0 u)
-  when_unfit fault u (Ok true) n h = absurd (not_unfit r (columns_of db r) row fault h.0 u)
-  when_unfit fault u (Err (Width t given)) n h = ap Err (one_unfit r (columns_of db r) row fault (Width t given) u h)
-  when_unfit fault u (Err (OtherKind t column)) n h = ap Err (one_unfit r (columns_of db r) row fault (OtherKind t column) u h)
-  when_unfit fault u (Err (Breaks t f o x)) n h = absurd (not_unfit r (columns_of db r) row fault h.0 u)
-  when_unfit fault u (Err (Limit t)) n h = absurd (not_unfit r (columns_of db r) row fault h.0 u)
-  when_unfit fault u (Err NoMemory) n h = absurd (n refl)
-  when_unfit fault u (Err (UnknownRelation name)) n h = absurd h
+  when_unfit : (fault : StateFault) → IsUnfit r (columns_of db r) row fault → (y : Result Bool StateFault) → Answers y → Err fault ≡ y
+  when_unfit fault u (Ok false) h = absurd (not_unfit r (columns_of db r) row fault h.0 u)
+  when_unfit fault u (Ok true) h = absurd (not_unfit r (columns_of db r) row fault h.0 u)
+  when_unfit fault u (Err (Width t given)) h = ap Err (one_unfit r (columns_of db r) row fault (Width t given) u h)
+  when_unfit fault u (Err (OtherKind t column)) h = ap Err (one_unfit r (columns_of db r) row fault (OtherKind t column) u h)
+  when_unfit fault u (Err (Breaks t f o x)) h = absurd (not_unfit r (columns_of db r) row fault h.0 u)
+  when_unfit fault u (Err (Limit t)) h = absurd (not_unfit r (columns_of db r) row fault h.0 u)
+  when_unfit fault u (Err NoMemory) h = absurd h
+  when_unfit fault u (Err (UnknownRelation name)) h = absurd h
 
-  one_answer : (x y : Result Bool StateFault) → x ≢ Err NoMemory → y ≢ Err NoMemory → Answers x → Answers y → x ≡ y
-  one_answer (Ok false) y m n a b = when_there a.0 a.1 y n b
-  one_answer (Ok true) y m n a b = when_added a.0 a.1 a.2 a.3 y n b
-  one_answer (Err (Width s given)) y m n a b = when_unfit (Width s given) a y n b
-  one_answer (Err (OtherKind s column)) y m n a b = when_unfit (OtherKind s column) a y n b
-  one_answer (Err (Breaks s f o x)) y m n a b = when_breaking a.0 a.1 s f o x a.2 a.3 y n b
-  one_answer (Err (Limit s)) y m n a b = when_full a.0 a.1 a.2 s a.3 a.4 y n b
-  one_answer (Err NoMemory) y m n a b = absurd (m refl)
-  one_answer (Err (UnknownRelation name)) y m n a b = absurd a
+  one_answer : (x y : Result Bool StateFault) → Answers x → Answers y → x ≡ y
+  one_answer (Ok false) y a b = when_there a.0 a.1 y b
+  one_answer (Ok true) y a b = when_added a.0 a.1 a.2 a.3 y b
+  one_answer (Err (Width s given)) y a b = when_unfit (Width s given) a y b
+  one_answer (Err (OtherKind s column)) y a b = when_unfit (OtherKind s column) a y b
+  one_answer (Err (Breaks s f o x)) y a b = when_breaking a.0 a.1 s f o x a.2 a.3 y b
+  one_answer (Err (Limit s)) y a b = when_full a.0 a.1 a.2 s a.3 a.4 y b
+  one_answer (Err NoMemory) y a b = absurd a
+  one_answer (Err (UnknownRelation name)) y a b = absurd a
 
   answer_of : (x : Result Bool StateFault) (new : DatabaseValue) → Inserts db r row x new → Answers x
   answer_of (Ok true) new h = h.0
@@ -130,17 +135,23 @@ module _ (a : DatabaseValue) (tables : List Stored) (rows : (r : ℕ) (row : Lis
   abbrev b : DatabaseValue
   b = record { schema = a.schema; tables = tables }
 
-  none_there : NoBreach a.schema r (rows_of a r) row → NoBreach a.schema r (rows_in tables r) row
-  none_there none f o x breach = none f o x (breach_among a.schema r row (rows_in tables r) (rows_of a r) (λ z. (rows r z).1) f o x breach)
+  forth : (x : Breach) → IsBreachBy a r row x → IsBreachBy b r row x
+  forth x by = record { breach = by.breach; first = by.first; stored = (rows r x.second).0 by.stored }
+
+  back : (x : Breach) → IsBreachBy b r row x → IsBreachBy a r row x
+  back x by = record { breach = by.breach; first = by.first; stored = (rows r x.second).1 by.stored }
+
+  none_there : ((x : Breach) → ¬ IsBreachBy a r row x) → (x : Breach) → ¬ IsBreachBy b r row x
+  none_there none x by = none x (back x by)
 
   insert_moves : (x : Result Bool StateFault) → InsertAnswers a r row x → InsertAnswers b r row x
   insert_moves (Ok false) h = (h.0, (rows r row).0 h.1)
   insert_moves (Ok true) h = (h.0, λ there. h.1 ((rows r row).1 there), none_there h.2, subst (λ (n : ℕ). n < 1000000) (counts r) h.3)
   insert_moves (Err (Width s given)) h = h
   insert_moves (Err (OtherKind s column)) h = h
-  insert_moves (Err (Breaks s f o x)) h = (h.0, λ there. h.1 ((rows r row).1 there), first_among a.schema r row (rows_of a r) (rows_in tables r) (λ z. (rows r z).0) (λ z. (rows r z).1) f o x h.2, h.3)
+  insert_moves (Err (Breaks s f o x)) h = (h.0, λ there. h.1 ((rows r row).1 there), first_among (IsBreachBy a r row) (IsBreachBy b r row) forth back (record { dependency = f; object = o; first = row; second = x }) h.2, h.3)
   insert_moves (Err (Limit s)) h = (h.0, λ there. h.1 ((rows r row).1 there), none_there h.2, subst (λ (n : ℕ). 1000000 ≤ n) (counts r) h.3, h.4)
-  insert_moves (Err NoMemory) h = tt
+  insert_moves (Err NoMemory) h = h
   insert_moves (Err (UnknownRelation name)) h = h
 
   delete_moves : (x : Result Bool StateFault) → DeleteAnswers a r row x → DeleteAnswers b r row x
@@ -225,10 +236,10 @@ module _ (a b c d : DatabaseValue) (r : ℕ) (alike : AreAlike a b) where
     alike_deleted (Err fault) h k = alike_same h.1 k.1
 
 pub one_insert : OneInsert
-one_insert a b c d r row x y alike m n h k =
+one_insert a b c d r row x y alike h k =
     let other : DatabaseValue = record { schema = a.schema; tables = b.tables } in
     let k' : Inserts other r row y d = subst (λ (v : DatabaseValue). Inserts v r row y d) (same_schema a b alike.schema) k in
-    let same : x ≡ y = one_answer other r row x y m n (insert_moves a b.tables alike.rows alike.counts r row x (answer_of a r row x c h)) (answer_of other r row y d k') in
+    let same : x ≡ y = one_answer other r row x y (insert_moves a b.tables alike.rows alike.counts r row x (answer_of a r row x c h)) (answer_of other r row y d k') in
     (same, alike_inserted a b c d r alike row x h (subst (λ (v : Result Bool StateFault). Inserts b r row v d) (sym same) k))
 
 pub one_delete : OneDelete

@@ -14,12 +14,15 @@ use Rattle.su_query.specs.declared.resolving.Resolved.{Resolved}
 use Rattle.su_steps.specs.declared.results.Origin.{Origin}
 use Rattle.su_steps.specs.declared.results.Term.{Term}
 use Rattle.su_steps.specs.PairSymbols.{SymbolComparison}
-use Rattle.su_steps.specs.Classes.{InClass, IsNaming}
+use Rattle.su_classes.specs.ClassNames.{InClass, IsNaming}
+use Rattle.su_steps.specs.Classes.{IsClosedForCase}
 use Rattle.su_steps.specs.CaseTableaux.{tableau_of}
 use Rattle.su_steps.specs.Evaluated.{EvaluatesFalse}
 use Rattle.su_steps.specs.Cases.{HaveNone, HaveTableau, Case, Gives}
-use Rattle.su_steps.specs.Terms.{cases, AreTermsOf}
+use Rattle.su_steps.specs.Terms.{cases}
+use Rattle.su_steps.specs.inside.Outs.{AreTermsOf}
 use Rattle.su_once.specs.Terms.{OneNaming, OneListOfTerms}
+use Rattle.su_steps.proofs.Outs.{terms_of}
 
 both_ways : (a b : Value) (e : Bool) → Decides e (a ≡ b) → ((a ≢ b) → ⊥) → a ≡ b
 both_ways a b true d not_not = d.0 refl
@@ -30,21 +33,21 @@ same_value a b not_not = both_ways a b (ghosts.eq a b) (value_eq-Decides a b) no
 
 module _ (schema : SchemaValue) (os : List Origin) (d : List SymbolComparison) where
   abbrev OneConstant : Type 0
-  OneConstant = ¬ ((a : Value) × (b : Value) × (a ≢ b) × InClass schema os d (Const a) (Const b))
+  OneConstant = ¬ ((a : Value) × (b : Value) × (a ≢ b) × InClass (IsClosedForCase schema os d) (Const a) (Const b))
 
-  module _ (one : OneConstant) (name other : Sym → Sym) (h : IsNaming schema os d name) (k : IsNaming schema os d other) (x : Sym) where
+  module _ (one : OneConstant) (name other : Sym → Sym) (h : IsNaming (IsClosedForCase schema os d) name) (k : IsNaming (IsClosedForCase schema os d) other) (x : Sym) where
     named_by : (u v : Sym) → name x ≡ u → other x ≡ v → u ≡ v
     named_by (Const a) (Const b) e f =
         ap Const (same_value a b (λ differ. one (a, b, differ, λ label closed. ap label (sym e) ∙ sym (h.member x label closed) ∙ k.member x label closed ∙ ap label f)))
-    named_by (Const a) (Var j) e f = absurd (k.least x j f (Const a) (subst (InClass schema os d x) e (h.member x)))
-    named_by (Var i) (Const b) e f = absurd (h.least x i e (Const b) (subst (InClass schema os d x) f (k.member x)))
+    named_by (Const a) (Var j) e f = absurd (k.least x j f (Const a) (subst (InClass (IsClosedForCase schema os d) x) e (h.member x)))
+    named_by (Var i) (Const b) e f = absurd (h.least x i e (Const b) (subst (InClass (IsClosedForCase schema os d) x) f (k.member x)))
     named_by (Var i) (Var j) e f =
-        let upto : i ≤ j = h.least x i e (Var j) (subst (InClass schema os d x) f (k.member x)) in
-        let from : j ≤ i = k.least x j f (Var i) (subst (InClass schema os d x) e (h.member x)) in
+        let upto : i ≤ j = h.least x i e (Var j) (subst (InClass (IsClosedForCase schema os d) x) f (k.member x)) in
+        let from : j ≤ i = k.least x j f (Var i) (subst (InClass (IsClosedForCase schema os d) x) e (h.member x)) in
         let same : i ≡ j = omega (arith, upto, from) in
         ap Var same
 
-  one_naming : OneConstant → (name other : Sym → Sym) → IsNaming schema os d name → IsNaming schema os d other → name ≡ other
+  one_naming : OneConstant → (name other : Sym → Sym) → IsNaming (IsClosedForCase schema os d) name → IsNaming (IsClosedForCase schema os d) other → name ≡ other
   one_naming one name other h k = λ i x. named_by one name other h k x (name x) (other x) refl refl i
 
   not_both : (q : Resolved) (t : Tab) → HaveNone schema os d → HaveTableau schema q os d t → ⊥
@@ -82,4 +85,4 @@ one_list schema maximal q (c ∷ cs) ts us (inr (t, later, is, gives, a)) (inr (
     is ∙ (λ i. first i ∷ rest i) ∙ sym same
 
 pub one_list_of_terms : OneListOfTerms
-one_list_of_terms schema maximal q ts us a b = one_list schema maximal q (cases schema maximal q) ts us a b
+one_list_of_terms schema maximal q ts us a b = one_list schema maximal q (cases schema maximal q) ts us (terms_of schema maximal q ts a) (terms_of schema maximal q us b)

@@ -1,7 +1,6 @@
 -- A text is read in one way, or refused for one cause.
-use Rattle.std.proofs.Common.{◌≡◌, ◌≢◌, ℕ, List, [], ◌∷◌, Option, Some, refl, ap, sym, ◌∙◌, subst, inl, inr, arith}
+use Rattle.std.proofs.Common.{◌≡◌, ℕ, List, [], ◌∷◌, refl, ap, sym, ◌∙◌, subst, inl, inr, arith}
 use Rattle.std.specs.List.{AllByRecursion}
-use Rattle.su_base.specs.declared.values.Kind.{Kind}
 use Rattle.su_lex.specs.declared.meaning.Symbol.{Symbol}
 use Rattle.su_lex.proofs.Written.{one_list_of_symbols}
 use Rattle.su_ddl.proofs.Files.{one_outcome as same_outcome}
@@ -85,16 +84,16 @@ pub data Cause (text : List ℕ) (why : QueryFault) : Type 0 where
   deep : NestsTooDeep text → why ≡ Limit Nesting → Cause text why
   passes : (st : Statement) (limit : QueryLimit) → IsStatement text st → PartsPass (parts_of st) (Limit limit) → why ≡ Limit limit → Cause text why
 
-cause_of : (text : List ℕ) (why : QueryFault) → why ≢ NoMemory → IsTextRefusal text why → Cause text why
-cause_of text Syntax m h = formless h refl
-cause_of text (Limit Nesting) m h = deep h refl
-cause_of text (Limit Variables) m (st, is, passed) = passes st Variables is passed refl
-cause_of text (Limit Outputs) m (st, is, passed) = passes st Outputs is passed refl
-cause_of text (Limit Comparisons) m (st, is, passed) = passes st Comparisons is passed refl
-cause_of text NoMemory m h = absurd (m refl)
-cause_of text (Unknown name) m h = absurd h
-cause_of text (Kinds left right) m h = absurd h
-cause_of text (UnknownColumn name) m h = absurd h
+cause_of : (text : List ℕ) (why : QueryFault) → IsTextRefusal text why → Cause text why
+cause_of text Syntax h = formless h refl
+cause_of text (Limit Nesting) h = deep h refl
+cause_of text (Limit Variables) (st, is, passed) = passes st Variables is passed refl
+cause_of text (Limit Outputs) (st, is, passed) = passes st Outputs is passed refl
+cause_of text (Limit Comparisons) (st, is, passed) = passes st Comparisons is passed refl
+cause_of text NoMemory h = absurd h
+cause_of text (Unknown name) h = absurd h
+cause_of text (Kinds left right) h = absurd h
+cause_of text (UnknownColumn name) h = absurd h
 
 one_cause : (text : List ℕ) (why other : QueryFault) → Cause text why → Cause text other → why ≡ other
 one_cause text why other (formless h e) (formless k f) = e ∙ sym f
@@ -110,7 +109,7 @@ one_cause text why other (passes st limit h passed e) (passes also more k past f
     e ∙ ap Limit (one_passed (parts_of st) limit more passed (subst (λ (x : Statement). PartsPass (parts_of x) (Limit more)) same past)) ∙ sym f
 
 pub one_refusal : OneRefusal
-one_refusal text why other m n h k = one_cause text why other (cause_of text why m h) (cause_of text other n k)
+one_refusal text why other h k = one_cause text why other (cause_of text why h) (cause_of text other k)
 
 refused_or_few : (text : List ℕ) (why : QueryFault) (st : Statement) → Cause text why → IsStatement text st → HasFew st → ⊥
 refused_or_few text why st (formless h e) k few = formless_or_read text st h k
@@ -119,61 +118,18 @@ refused_or_few text why st (passes also limit h passed e) k few =
     parts_or_few (parts_of st) limit (subst (λ (x : Statement). PartsPass (parts_of x) (Limit limit)) (statement_unique text st also k h) passed) few
 
 pub not_refused : RefusedOrRead
-not_refused text why st m h k few = refused_or_few text why st (cause_of text why m h) k few
+not_refused text why st h k few = refused_or_few text why st (cause_of text why h) k few
 
 -- ---- names
 
-same_kinds : (a b c d : Kind) (o : Option (Kind × Kind)) → o ≡ Some (a, b) → o ≡ Some (c, d) → ◌≡◌ {A = QueryFault} (Kinds a b) (Kinds c d)
-same_kinds a b c d o e f = let pairs : (a, b) ≡ (c, d) = same_some (a, b) (c, d) o e f in λ i. Kinds (pairs i).0 (pairs i).1
-
 pub one_query_refusal : OneQueryRefusal
-one_query_refusal schema q (Unknown name) (Unknown other) m n h k = ap Unknown (same_some name other _ h k)
-one_query_refusal schema q (Unknown name) (Kinds left right) m n h k = absurd (none_or_some name _ k.0 h)
-one_query_refusal schema q (Kinds left right) (Unknown name) m n h k = absurd (none_or_some name _ h.0 k)
-one_query_refusal schema q (Kinds a b) (Kinds c d) m n h k = same_kinds a b c d _ h.1 k.1
-one_query_refusal schema q NoMemory other m n h k = absurd (m refl)
-one_query_refusal schema q Syntax other m n h k = absurd h
-one_query_refusal schema q (Limit limit) other m n h k = absurd h
-one_query_refusal schema q (UnknownColumn name) other m n h k = absurd h
-one_query_refusal schema q (Unknown name) NoMemory m n h k = absurd (n refl)
-one_query_refusal schema q (Unknown name) Syntax m n h k = absurd k
-one_query_refusal schema q (Unknown name) (Limit limit) m n h k = absurd k
-one_query_refusal schema q (Unknown name) (UnknownColumn other) m n h k = absurd k
-one_query_refusal schema q (Kinds left right) NoMemory m n h k = absurd (n refl)
-one_query_refusal schema q (Kinds left right) Syntax m n h k = absurd k
-one_query_refusal schema q (Kinds left right) (Limit limit) m n h k = absurd k
-one_query_refusal schema q (Kinds left right) (UnknownColumn other) m n h k = absurd k
+one_query_refusal schema q why other h k = same_some why other _ h k
 
 pub query_not_refused : QueryIsRefusedOrKnown
-query_not_refused schema q (Unknown name) m h known = none_or_some name _ known.known h
-query_not_refused schema q (Kinds left right) m h known = none_or_some (left, right) _ known.kinds h.1
-query_not_refused schema q NoMemory m h known = absurd (m refl)
-query_not_refused schema q Syntax m h known = h
-query_not_refused schema q (Limit limit) m h known = h
-query_not_refused schema q (UnknownColumn name) m h known = h
+query_not_refused schema q why h known = none_or_some why _ known h
 
 pub one_column_refusal : OneColumnRefusal
-one_column_refusal schema r c (UnknownColumn name) (UnknownColumn other) m n h k = ap UnknownColumn (same_some name other _ h k)
-one_column_refusal schema r c (UnknownColumn name) (Kinds left right) m n h k = absurd (none_or_some name _ k.0 h)
-one_column_refusal schema r c (Kinds left right) (UnknownColumn name) m n h k = absurd (none_or_some name _ h.0 k)
-one_column_refusal schema r c (Kinds a b) (Kinds a' b') m n h k = same_kinds a b a' b' _ h.1 k.1
-one_column_refusal schema r c NoMemory other m n h k = absurd (m refl)
-one_column_refusal schema r c Syntax other m n h k = absurd h
-one_column_refusal schema r c (Limit limit) other m n h k = absurd h
-one_column_refusal schema r c (Unknown name) other m n h k = absurd h
-one_column_refusal schema r c (UnknownColumn name) NoMemory m n h k = absurd (n refl)
-one_column_refusal schema r c (UnknownColumn name) Syntax m n h k = absurd k
-one_column_refusal schema r c (UnknownColumn name) (Limit limit) m n h k = absurd k
-one_column_refusal schema r c (UnknownColumn name) (Unknown other) m n h k = absurd k
-one_column_refusal schema r c (Kinds left right) NoMemory m n h k = absurd (n refl)
-one_column_refusal schema r c (Kinds left right) Syntax m n h k = absurd k
-one_column_refusal schema r c (Kinds left right) (Limit limit) m n h k = absurd k
-one_column_refusal schema r c (Kinds left right) (Unknown other) m n h k = absurd k
+one_column_refusal schema r c why other h k = same_some why other _ h k
 
 pub condition_not_refused : ConditionIsRefusedOrKnown
-condition_not_refused schema r c (UnknownColumn name) m h known = none_or_some name _ known.known h
-condition_not_refused schema r c (Kinds left right) m h known = none_or_some (left, right) _ known.kinds h.1
-condition_not_refused schema r c NoMemory m h known = absurd (m refl)
-condition_not_refused schema r c Syntax m h known = h
-condition_not_refused schema r c (Limit limit) m h known = h
-condition_not_refused schema r c (Unknown name) m h known = h
+condition_not_refused schema r c why h known = none_or_some why _ known h

@@ -1,18 +1,16 @@
 -- Two queries are compared in one way, or refused for one cause.
-use Rattle.std.proofs.Common.{◌≡◌, ◌≢◌, List, All, refl, ap, sym, ◌∙◌, subst, inl, inr}
+use Rattle.std.proofs.Common.{◌≡◌, List, All, refl, ap, sym, ◌∙◌, subst, inl, inr}
 use Rattle.std.specs.Ordering.{nat_cmp}
 use Rattle.std.specs.FinSet.{FinSet}
 use Rattle.su_tableau.specs.Tableaux as tableaux
 use Rattle.su_schema.specs.SchemaValue.{SchemaValue}
 use Rattle.su_schema.specs.Valid.{IsValid}
 use Rattle.su_query.specs.declared.faults.QueryFault.{QueryFault}
-use Rattle.su_query.specs.declared.faults.QueryFault.TheVariants as query
 use Rattle.su_query.specs.declared.statements.Query.{Query as AQuery}
 use Rattle.su_query.specs.declared.resolving.Resolved.{Resolved}
 use Rattle.su_query.specs.Lookup.{IsKnownQuery, IsQueryRefusal}
 use Rattle.su_query.specs.NumberedConditions.{resolved_of}
 use Rattle.su_steps.specs.declared.faults.StepFault.{StepFault}
-use Rattle.su_steps.specs.declared.faults.StepFault.TheVariants as step
 use Rattle.su_steps.specs.declared.results.Term.{Term}
 use Rattle.su_steps.specs.Refusals.{IsAccepted}
 use Rattle.su_steps.proofs.Validity.{all_valid}
@@ -21,7 +19,6 @@ use Rattle.su_compare.specs.Verdict.{IsVerdict}
 use Rattle.su_compare.specs.Texts.{verdicts_text}
 use Rattle.su_show.specs.declared.statement_refusal.Refusal.{Refusal}
 use Rattle.su_show.specs.declared.statement_refusal.Refusal.TheVariants as refusal
-use Rattle.su_show.specs.RefusalLines.{IsNoMemory}
 use Rattle.su_session.specs.declared.replies.Reply.{Reply}
 use Rattle.su_session.specs.ComparableQueries.{AreKnown, AskEqualities, OutputsAgree, AreOfOneForm, IsFormRefusal}
 use Rattle.su_session.specs.Comparisons.{IsTermsRefusal, ShowsVerdicts}
@@ -29,74 +26,73 @@ use Rattle.su_once.proofs.Compared.{one_verdict}
 use Rattle.su_once.proofs.Named.{one_list_of_terms}
 use Rattle.su_once.proofs.OneOutcome.{one_query_refusal, query_not_refused}
 use Rattle.su_once.proofs.Refused.{one_step_refusal, not_refused}
-use Rattle.su_once.proofs.Told.{query_told}
 
 -- ---- of one form
 
 data Cause (schema : SchemaValue) (first second : AQuery) (why : Refusal) : Type 0 where
-  of_first : (fault : QueryFault) → IsQueryRefusal schema first fault → fault ≢ query.NoMemory → why ≡ refusal.Query fault → Cause schema first second why
-  of_second : (fault : QueryFault) → IsKnownQuery schema first → IsQueryRefusal schema second fault → fault ≢ query.NoMemory → why ≡ refusal.Query fault → Cause schema first second why
+  of_first : (fault : QueryFault) → IsQueryRefusal schema first fault → why ≡ refusal.Query fault → Cause schema first second why
+  of_second : (fault : QueryFault) → IsKnownQuery schema first → IsQueryRefusal schema second fault → why ≡ refusal.Query fault → Cause schema first second why
   asks_more : AreKnown schema first second → (¬ AskEqualities (resolved_of schema first) (resolved_of schema second)) → why ≡ refusal.OnlyEqual → Cause schema first second why
   differ : AreKnown schema first second → AskEqualities (resolved_of schema first) (resolved_of schema second) → (¬ OutputsAgree schema (resolved_of schema first) (resolved_of schema second)) → why ≡ refusal.OutputsDiffer → Cause schema first second why
 
 module _ (schema : SchemaValue) (first second : AQuery) where
-  cause_of : (why : Refusal) → ¬ IsNoMemory why → IsFormRefusal schema first second why → Cause schema first second why
-  cause_of (refusal.Query fault) told (inl h) = of_first fault h (query_told fault told) refl
-  cause_of (refusal.Query fault) told (inr (known, h)) = of_second fault known h (query_told fault told) refl
-  cause_of refusal.OnlyEqual told (known, more) = asks_more known more refl
-  cause_of refusal.OutputsDiffer told (known, asks, apart) = differ known asks apart refl
-  cause_of (refusal.Steps fault) told h = absurd h
-  cause_of (refusal.State fault) told h = absurd h
-  cause_of (refusal.Record fault) told h = absurd h
-  cause_of (refusal.Csv r fault) told h = absurd h
-  cause_of refusal.Answer told h = absurd h
-  cause_of refusal.Nodes told h = absurd h
-  cause_of (refusal.Define fault) told h = absurd h
-  cause_of refusal.WindowLimit told h = absurd h
-  cause_of (refusal.Inconsistent less greater) told h = absurd h
+  cause_of : (why : Refusal) → IsFormRefusal schema first second why → Cause schema first second why
+  cause_of (refusal.Query fault) (inl h) = of_first fault h refl
+  cause_of (refusal.Query fault) (inr (known, h)) = of_second fault known h refl
+  cause_of refusal.OnlyEqual (known, more) = asks_more known more refl
+  cause_of refusal.OutputsDiffer (known, asks, apart) = differ known asks apart refl
+  cause_of (refusal.Steps fault) h = absurd h
+  cause_of (refusal.State fault) h = absurd h
+  cause_of (refusal.Record fault) h = absurd h
+  cause_of (refusal.Csv r fault) h = absurd h
+  cause_of refusal.Answer h = absurd h
+  cause_of refusal.Nodes h = absurd h
+  cause_of (refusal.Define fault) h = absurd h
+  cause_of refusal.WindowLimit h = absurd h
+  cause_of (refusal.Inconsistent less greater) h = absurd h
 
   one_cause : (why other : Refusal) → Cause schema first second why → Cause schema first second other → why ≡ other
-  one_cause why other (of_first f h m e) (of_first g k n e') = e ∙ ap refusal.Query (one_query_refusal schema first f g m n h k) ∙ sym e'
-  one_cause why other (of_first f h m e) (of_second g known k n e') = absurd (query_not_refused schema first f m h known)
-  one_cause why other (of_first f h m e) (asks_more known k e') = absurd (query_not_refused schema first f m h known.0)
-  one_cause why other (of_first f h m e) (differ known asks k e') = absurd (query_not_refused schema first f m h known.0)
-  one_cause why other (of_second f known h m e) (of_first g k n e') = absurd (query_not_refused schema first g n k known)
-  one_cause why other (of_second f known h m e) (of_second g also k n e') = e ∙ ap refusal.Query (one_query_refusal schema second f g m n h k) ∙ sym e'
-  one_cause why other (of_second f also h m e) (asks_more known k e') = absurd (query_not_refused schema second f m h known.1)
-  one_cause why other (of_second f also h m e) (differ known asks k e') = absurd (query_not_refused schema second f m h known.1)
-  one_cause why other (asks_more known h e) (of_first g k n e') = absurd (query_not_refused schema first g n k known.0)
-  one_cause why other (asks_more known h e) (of_second g also k n e') = absurd (query_not_refused schema second g n k known.1)
+  one_cause why other (of_first f h e) (of_first g k e') = e ∙ ap refusal.Query (one_query_refusal schema first f g h k) ∙ sym e'
+  one_cause why other (of_first f h e) (of_second g known k e') = absurd (query_not_refused schema first f h known)
+  one_cause why other (of_first f h e) (asks_more known k e') = absurd (query_not_refused schema first f h known.0)
+  one_cause why other (of_first f h e) (differ known asks k e') = absurd (query_not_refused schema first f h known.0)
+  one_cause why other (of_second f known h e) (of_first g k e') = absurd (query_not_refused schema first g k known)
+  one_cause why other (of_second f known h e) (of_second g also k e') = e ∙ ap refusal.Query (one_query_refusal schema second f g h k) ∙ sym e'
+  one_cause why other (of_second f also h e) (asks_more known k e') = absurd (query_not_refused schema second f h known.1)
+  one_cause why other (of_second f also h e) (differ known asks k e') = absurd (query_not_refused schema second f h known.1)
+  one_cause why other (asks_more known h e) (of_first g k e') = absurd (query_not_refused schema first g k known.0)
+  one_cause why other (asks_more known h e) (of_second g also k e') = absurd (query_not_refused schema second g k known.1)
   one_cause why other (asks_more known h e) (asks_more also k e') = e ∙ sym e'
   one_cause why other (asks_more known h e) (differ also asks k e') = absurd (h asks)
-  one_cause why other (differ known asks h e) (of_first g k n e') = absurd (query_not_refused schema first g n k known.0)
-  one_cause why other (differ known asks h e) (of_second g also k n e') = absurd (query_not_refused schema second g n k known.1)
+  one_cause why other (differ known asks h e) (of_first g k e') = absurd (query_not_refused schema first g k known.0)
+  one_cause why other (differ known asks h e) (of_second g also k e') = absurd (query_not_refused schema second g k known.1)
   one_cause why other (differ known asks h e) (asks_more also k e') = absurd (k asks)
   one_cause why other (differ known asks h e) (differ also too k e') = e ∙ sym e'
 
-  pub one_form_refusal : (why other : Refusal) → ¬ IsNoMemory why → ¬ IsNoMemory other → IsFormRefusal schema first second why → IsFormRefusal schema first second other → why ≡ other
-  one_form_refusal why other m n h k = one_cause why other (cause_of why m h) (cause_of other n k)
+  pub one_form_refusal : (why other : Refusal) → IsFormRefusal schema first second why → IsFormRefusal schema first second other → why ≡ other
+  one_form_refusal why other h k = one_cause why other (cause_of why h) (cause_of other k)
 
   refused_by : (why : Refusal) → Cause schema first second why → AreOfOneForm schema first second → ⊥
-  refused_by why (of_first f h m e) form = query_not_refused schema first f m h form.known.0
-  refused_by why (of_second f also h m e) form = query_not_refused schema second f m h form.known.1
+  refused_by why (of_first f h e) form = query_not_refused schema first f h form.known.0
+  refused_by why (of_second f also h e) form = query_not_refused schema second f h form.known.1
   refused_by why (asks_more known h e) form = h form.equalities
   refused_by why (differ known asks h e) form = h form.outputs
 
-  pub refused_or_formed : (why : Refusal) → ¬ IsNoMemory why → IsFormRefusal schema first second why → AreOfOneForm schema first second → ⊥
-  refused_or_formed why told h form = refused_by why (cause_of why told h) form
+  pub refused_or_formed : (why : Refusal) → IsFormRefusal schema first second why → AreOfOneForm schema first second → ⊥
+  refused_or_formed why h form = refused_by why (cause_of why h) form
 
 -- ---- their terms
 
 module _ (schema : SchemaValue) (maximal : List (FinSet nat_cmp)) (p q : Resolved) where
-  pub one_terms_refusal : (f g : StepFault) → f ≢ step.NoMemory → g ≢ step.NoMemory → IsTermsRefusal schema maximal p q f → IsTermsRefusal schema maximal p q g → f ≡ g
-  one_terms_refusal f g m n (inl h) (inl k) = one_step_refusal schema maximal p f g m n h k
-  one_terms_refusal f g m n (inl h) (inr (accepted, k)) = absurd (not_refused schema maximal p f m h accepted)
-  one_terms_refusal f g m n (inr (accepted, h)) (inl k) = absurd (not_refused schema maximal p g n k accepted)
-  one_terms_refusal f g m n (inr (accepted, h)) (inr (also, k)) = one_step_refusal schema maximal q f g m n h k
+  pub one_terms_refusal : (f g : StepFault) → IsTermsRefusal schema maximal p q f → IsTermsRefusal schema maximal p q g → f ≡ g
+  one_terms_refusal f g (inl h) (inl k) = one_step_refusal schema maximal p f g h k
+  one_terms_refusal f g (inl h) (inr (accepted, k)) = absurd (not_refused schema maximal p f h accepted)
+  one_terms_refusal f g (inr (accepted, h)) (inl k) = absurd (not_refused schema maximal p g k accepted)
+  one_terms_refusal f g (inr (accepted, h)) (inr (also, k)) = one_step_refusal schema maximal q f g h k
 
-  pub refused_or_accepted : (f : StepFault) → f ≢ step.NoMemory → IsTermsRefusal schema maximal p q f → IsAccepted schema maximal p → IsAccepted schema maximal q → ⊥
-  refused_or_accepted f m (inl h) first second = not_refused schema maximal p f m h first
-  refused_or_accepted f m (inr (accepted, h)) first second = not_refused schema maximal q f m h second
+  pub refused_or_accepted : (f : StepFault) → IsTermsRefusal schema maximal p q f → IsAccepted schema maximal p → IsAccepted schema maximal q → ⊥
+  refused_or_accepted f (inl h) first second = not_refused schema maximal p f h first
+  refused_or_accepted f (inr (accepted, h)) first second = not_refused schema maximal q f h second
 
   module _ (valid : IsValid schema) where
     valid_terms : (r : Resolved) (terms : List Term) → AreOf schema maximal r terms → All (λ (t : Term). tableaux.IsValid t.tableau) terms

@@ -1,5 +1,5 @@
 -- A query that has no terms is refused for one cause.
-use Rattle.std.proofs.Common.{◌≡◌, ◌≢◌, ◌≤◌, ℕ, List, slice_get, Some, refl, ap, sym, ◌∙◌, subst, arith}
+use Rattle.std.proofs.Common.{◌≡◌, ◌≤◌, ℕ, List, slice_get, Some, refl, ap, sym, ◌∙◌, subst, arith}
 use Rattle.std.specs.Ordering.{nat_cmp}
 use Rattle.std.specs.FinSet.{FinSet}
 use Rattle.std.proofs.lemmas.List.Elements.{All-contains}
@@ -38,26 +38,26 @@ module _ (schema : SchemaValue) (maximal : List (FinSet nat_cmp)) (q : Resolved)
   not_passed Rows h ok = many_or_few h.1 ok.few_rows
   not_passed Terms h ok = absurd (let many = h.2 in let few = ok.few_terms in omega (arith, many, few))
 
-  one_cause : (x y : StepFault) → x ≢ NoMemory → y ≢ NoMemory → IsStepRefusal schema maximal q x → IsStepRefusal schema maximal q y → x ≡ y
-  one_cause (NotCovered variable mentioned) (NotCovered other also) m n (v, first, named, is) (w, too, called, same) =
+  one_cause : (x y : StepFault) → IsStepRefusal schema maximal q x → IsStepRefusal schema maximal q y → x ≡ y
+  one_cause (NotCovered variable mentioned) (NotCovered other also) (v, first, named, is) (w, too, called, same) =
       let at : v ≡ w = same_some v w (first_uncovered schema maximal q) first too in
       let who : variable ≡ other = same_some variable other (slice_get q.variables v) named (subst (λ (k : ℕ). slice_get q.variables k ≡ Some other) (sym at) called) in
       let with : mentioned ≡ also = is ∙ ap (λ k. mentioned_with q.places k) at ∙ sym same in
       λ i. NotCovered (who i) (with i)
-  one_cause (NotCovered variable mentioned) (Limit limit) m n h k = absurd (none_or_some h.0 (first_uncovered schema maximal q) k.0 h.1)
-  one_cause (Limit limit) (NotCovered variable mentioned) m n h k = absurd (none_or_some k.0 (first_uncovered schema maximal q) h.0 k.1)
-  one_cause (Limit limit) (Limit other) m n h k = ap Limit (one_limit limit other h.1 k.1)
-  one_cause NoMemory y m n h k = absurd (m refl)
-  one_cause (NotCovered variable mentioned) NoMemory m n h k = absurd (n refl)
-  one_cause (Limit limit) NoMemory m n h k = absurd (n refl)
+  one_cause (NotCovered variable mentioned) (Limit limit) h k = absurd (none_or_some h.0 (first_uncovered schema maximal q) k.0 h.1)
+  one_cause (Limit limit) (NotCovered variable mentioned) h k = absurd (none_or_some k.0 (first_uncovered schema maximal q) h.0 k.1)
+  one_cause (Limit limit) (Limit other) h k = ap Limit (one_limit limit other h.1 k.1)
+  one_cause NoMemory y h k = absurd h
+  one_cause (NotCovered variable mentioned) NoMemory h k = absurd k
+  one_cause (Limit limit) NoMemory h k = absurd k
 
-  refused_or_accepted : (x : StepFault) → x ≢ NoMemory → IsStepRefusal schema maximal q x → IsAccepted schema maximal q → ⊥
-  refused_or_accepted (NotCovered variable mentioned) m h ok = none_or_some h.0 (first_uncovered schema maximal q) ok.covered h.1
-  refused_or_accepted (Limit limit) m h ok = not_passed limit h.1 ok
-  refused_or_accepted NoMemory m h ok = absurd (m refl)
+  refused_or_accepted : (x : StepFault) → IsStepRefusal schema maximal q x → IsAccepted schema maximal q → ⊥
+  refused_or_accepted (NotCovered variable mentioned) h ok = none_or_some h.0 (first_uncovered schema maximal q) ok.covered h.1
+  refused_or_accepted (Limit limit) h ok = not_passed limit h.1 ok
+  refused_or_accepted NoMemory h ok = h
 
 pub one_step_refusal : OneStepRefusal
-one_step_refusal schema maximal q why other m n h k = one_cause schema maximal q why other m n h k
+one_step_refusal schema maximal q why other h k = one_cause schema maximal q why other h k
 
 pub not_refused : RefusedOrAccepted
-not_refused schema maximal q why m h ok = refused_or_accepted schema maximal q why m h ok
+not_refused schema maximal q why h ok = refused_or_accepted schema maximal q why h ok

@@ -1,5 +1,5 @@
 -- A statement wants one file, and has one reply on databases that are alike, which it leaves alike.
-use Rattle.std.proofs.Common.{◌≡◌, ◌≢◌, ◌≤◌, ◌⊎◌, ℕ, Bool, List, [], length, Option, Some, unwrap_or, Result, Ok, Err, refl, ap, sym, ◌∙◌, subst, inl, inr}
+use Rattle.std.proofs.Common.{◌≡◌, ◌≤◌, ◌⊎◌, ℕ, Bool, List, [], length, Option, Some, unwrap_or, Result, Ok, Err, refl, ap, sym, ◌∙◌, subst, inl, inr}
 use Rattle.std.specs.Ordering.{nat_cmp}
 use Rattle.std.specs.FinSet.{FinSet}
 use Rattle.su_base.specs.declared.values.Value.{Value}
@@ -34,7 +34,6 @@ use Rattle.su_window.specs.declared.faults.WindowFault.{WindowFault}
 use Rattle.su_window.specs.declared.faults.WindowFault.TheVariants as window
 use Rattle.su_show.specs.declared.statement_refusal.Refusal.{Refusal}
 use Rattle.su_show.specs.declared.statement_refusal.Refusal.TheVariants as refusal
-use Rattle.su_show.specs.RefusalLines.{IsNoMemory}
 use Rattle.su_show.specs.Replies.{rows_text, header_of, schema_reply}
 use Rattle.su_show.specs.Changes.{deleted_text}
 use Rattle.su_show.specs.Explanations.{IsExplanation}
@@ -65,38 +64,38 @@ use Rattle.su_once.proofs.Windowed.{one_window, one_window_refusal, refused_or_f
 use Rattle.su_once.proofs.OneOutcome.{one_statement, one_refusal, not_refused, one_query_refusal, query_not_refused, one_column_refusal, condition_not_refused}
 use Rattle.su_once.proofs.Refused.{one_step_refusal, not_refused as has_terms}
 use Rattle.su_once.proofs.Options.{same_some, none_or_some}
-use Rattle.su_once.proofs.Told.{accept, query_told, step_told, still, refuse, insert_told, one_insert_told, one_delete_told, load_told, one_load_told, definition_told, one_definition_told}
+use Rattle.su_once.proofs.Told.{accept, still, refuse, one_insert_told, one_delete_told, one_load_told, one_definition_told}
 
 -- ---- the cause of a refused query
 
 data Cause (schema : SchemaValue) (maximal : List (FinSet nat_cmp)) (q : AQuery) (why : Refusal) : Type 0 where
-  of_names : (fault : QueryFault) → IsRefusalOf schema maximal q (refusal.Query fault) → ¬ IsNoMemory (refusal.Query fault) → why ≡ refusal.Query fault → Cause schema maximal q why
-  of_steps : (fault : StepFault) → IsRefusalOf schema maximal q (refusal.Steps fault) → ¬ IsNoMemory (refusal.Steps fault) → why ≡ refusal.Steps fault → Cause schema maximal q why
+  of_names : (fault : QueryFault) → IsRefusalOf schema maximal q (refusal.Query fault) → why ≡ refusal.Query fault → Cause schema maximal q why
+  of_steps : (fault : StepFault) → IsRefusalOf schema maximal q (refusal.Steps fault) → why ≡ refusal.Steps fault → Cause schema maximal q why
 
 module _ (schema : SchemaValue) (maximal : List (FinSet nat_cmp)) (q : AQuery) where
-  cause_of : (why : Refusal) → ¬ IsNoMemory why → IsRefusalOf schema maximal q why → Cause schema maximal q why
-  cause_of (refusal.Query fault) told h = of_names fault h told refl
-  cause_of (refusal.Steps fault) told h = of_steps fault h told refl
-  cause_of (refusal.State fault) told h = absurd h
-  cause_of (refusal.Record fault) told h = absurd h
-  cause_of (refusal.Csv r fault) told h = absurd h
-  cause_of refusal.Answer told h = absurd h
-  cause_of refusal.Nodes told h = absurd h
-  cause_of (refusal.Define fault) told h = absurd h
-  cause_of refusal.OnlyEqual told h = absurd h
-  cause_of refusal.OutputsDiffer told h = absurd h
-  cause_of refusal.WindowLimit told h = absurd h
-  cause_of (refusal.Inconsistent less greater) told h = absurd h
+  cause_of : (why : Refusal) → IsRefusalOf schema maximal q why → Cause schema maximal q why
+  cause_of (refusal.Query fault) h = of_names fault h refl
+  cause_of (refusal.Steps fault) h = of_steps fault h refl
+  cause_of (refusal.State fault) h = absurd h
+  cause_of (refusal.Record fault) h = absurd h
+  cause_of (refusal.Csv r fault) h = absurd h
+  cause_of refusal.Answer h = absurd h
+  cause_of refusal.Nodes h = absurd h
+  cause_of (refusal.Define fault) h = absurd h
+  cause_of refusal.OnlyEqual h = absurd h
+  cause_of refusal.OutputsDiffer h = absurd h
+  cause_of refusal.WindowLimit h = absurd h
+  cause_of (refusal.Inconsistent less greater) h = absurd h
 
   one_cause : (why other : Refusal) → Cause schema maximal q why → Cause schema maximal q other → why ≡ other
-  one_cause why other (of_names f h t e) (of_names g k u e') = e ∙ ap refusal.Query (one_query_refusal schema q f g (query_told f t) (query_told g u) h k) ∙ sym e'
-  one_cause why other (of_names f h t e) (of_steps g k u e') = absurd (query_not_refused schema q f (query_told f t) h k.0)
-  one_cause why other (of_steps f h t e) (of_names g k u e') = absurd (query_not_refused schema q g (query_told g u) k h.0)
-  one_cause why other (of_steps f h t e) (of_steps g k u e') = e ∙ ap refusal.Steps (one_step_refusal schema maximal (resolved_of schema q) f g (step_told f t) (step_told g u) h.1 k.1) ∙ sym e'
+  one_cause why other (of_names f h e) (of_names g k e') = e ∙ ap refusal.Query (one_query_refusal schema q f g h k) ∙ sym e'
+  one_cause why other (of_names f h e) (of_steps g k e') = absurd (query_not_refused schema q f h k.0)
+  one_cause why other (of_steps f h e) (of_names g k e') = absurd (query_not_refused schema q g k h.0)
+  one_cause why other (of_steps f h e) (of_steps g k e') = e ∙ ap refusal.Steps (one_step_refusal schema maximal (resolved_of schema q) f g h.1 k.1) ∙ sym e'
 
   refused_or_terms : (why : Refusal) → Cause schema maximal q why → HasTerms schema maximal q → ⊥
-  refused_or_terms why (of_names f h t e) terms = query_not_refused schema q f (query_told f t) h terms.known
-  refused_or_terms why (of_steps f h t e) terms = has_terms schema maximal (resolved_of schema q) f (step_told f t) h.1 terms.accepted
+  refused_or_terms why (of_names f h e) terms = query_not_refused schema q f h terms.known
+  refused_or_terms why (of_steps f h e) terms = has_terms schema maximal (resolved_of schema q) f h.1 terms.accepted
 
 -- ---- one reply, over two databases of one schema
 
@@ -121,7 +120,7 @@ module _ (a : DatabaseValue) (tables : List Stored) (alike : AreAlike a (record 
 
   inserts : (row : List Value) (n : ℕ) → InsertsRow a row r c n → InsertsRow b row s d n → Same
   inserts row n (x, h, t) (y, k, u) =
-      let one = one_insert a b c d n row x y alike (insert_told a tables r s c d a c r x t) (insert_told a tables r s c d b d s y u) h k in
+      let one = one_insert a b c d n row x y alike h k in
       (one_insert_told a tables r s c d x t (subst (λ (z : Result Bool _). TellsInsert b z s d) (sym one.0) u), one.1)
 
   deletes : (row : List Value) (n : ℕ) → DeletesRow a row r c n → DeletesRow b row s d n → Same
@@ -130,9 +129,9 @@ module _ (a : DatabaseValue) (tables : List Stored) (alike : AreAlike a (record 
       (one_delete_told a tables r s c d x t (subst (λ (z : Result Bool _). TellsDelete b z s d) (sym one.0) u), one.1)
 
   deletes_where : (cond : NamedCond) (n : ℕ) → DeletesRows a cond r c n → DeletesRows b cond s d n → Same
-  deletes_where cond n (inl (f, h, t)) (inl (g, k, u)) = refuse a tables r s c d alike _ _ t u (ap refusal.Query (one_column_refusal a.schema n cond f g (query_told f t.told) (query_told g u.told) h k))
-  deletes_where cond n (inl (f, h, t)) (inr (known, (count, k, u))) = absurd (condition_not_refused a.schema n cond f (query_told f t.told) h known)
-  deletes_where cond n (inr (known, (count, h, t))) (inl (g, k, u)) = absurd (condition_not_refused a.schema n cond g (query_told g u.told) k known)
+  deletes_where cond n (inl (f, h, t)) (inl (g, k, u)) = refuse a tables r s c d alike _ _ t u (ap refusal.Query (one_column_refusal a.schema n cond f g h k))
+  deletes_where cond n (inl (f, h, t)) (inr (known, (count, k, u))) = absurd (condition_not_refused a.schema n cond f h known)
+  deletes_where cond n (inr (known, (count, h, t))) (inl (g, k, u)) = absurd (condition_not_refused a.schema n cond g k known)
   deletes_where cond n (inr (known, (count, h, t))) (inr (same, (number, k, u))) =
       let one = one_delete_where a b c d n (with_columns a.schema n cond) count number alike kept also h k in
       (accept r s _ _ t u (ap deleted_text one.0), one.1)
@@ -149,7 +148,7 @@ module _ (a : DatabaseValue) (tables : List Stored) (alike : AreAlike a (record 
       let same : others ≡ rows = cc in
       let m' : Loads b n rows y d = subst (λ (z : List (List Value)). Loads b n z y d) same m in
       let u' : TellsLoad b (length rows) y s d = subst (λ (z : List (List Value)). TellsLoad b (length z) y s d) same u in
-      let one = one_load a b c d n rows x y alike (load_told a tables r s c d a c r (length rows) x t) (load_told a tables r s c d b d s (length rows) y u') l m' in
+      let one = one_load a b c d n rows x y alike l m' in
       (one_load_told a tables r s c d (length rows) x t (subst (λ (z : Result ℕ _). TellsLoad b (length rows) z s d) (sym one.0) u'), one.1)
 
   prints : (n : ℕ) → PrintsRows a r c n → PrintsRows b s d n → Same
@@ -169,9 +168,9 @@ module _ (a : DatabaseValue) (tables : List Stored) (alike : AreAlike a (record 
       let same : maximal ≡ others = sym (one_list_of_maximal a.schema maximal others are these) in
       at h (subst (λ (m : List (FinSet nat_cmp)). ((why : Refusal) × IsRefusalOf a.schema m q why × Refuses b why s d) ⊎ (HasTerms a.schema m q × L m)) (sym same) k) where
         at : ((why : Refusal) × IsRefusalOf a.schema maximal q why × Refuses a why r c) ⊎ (HasTerms a.schema maximal q × K maximal) → ((why : Refusal) × IsRefusalOf a.schema maximal q why × Refuses b why s d) ⊎ (HasTerms a.schema maximal q × L maximal) → Same
-        at (inl (why, is, t)) (inl (other, too, u)) = refuse a tables r s c d alike why other t u (one_cause a.schema maximal q why other (cause_of a.schema maximal q why t.told is) (cause_of a.schema maximal q other u.told too))
-        at (inl (why, is, t)) (inr (terms, l)) = absurd (refused_or_terms a.schema maximal q why (cause_of a.schema maximal q why t.told is) terms)
-        at (inr (terms, l)) (inl (why, is, u)) = absurd (refused_or_terms a.schema maximal q why (cause_of a.schema maximal q why u.told is) terms)
+        at (inl (why, is, t)) (inl (other, too, u)) = refuse a tables r s c d alike why other t u (one_cause a.schema maximal q why other (cause_of a.schema maximal q why is) (cause_of a.schema maximal q other too))
+        at (inl (why, is, t)) (inr (terms, l)) = absurd (refused_or_terms a.schema maximal q why (cause_of a.schema maximal q why is) terms)
+        at (inr (terms, l)) (inl (why, is, u)) = absurd (refused_or_terms a.schema maximal q why (cause_of a.schema maximal q why is) terms)
         at (inr (terms, l)) (inr (these', m)) = f maximal l m
 
   retrieves : (q : AQuery) → Retrieves a q r c → Retrieves b q s d → Same
@@ -226,21 +225,16 @@ module _ (a : DatabaseValue) (tables : List Stored) (alike : AreAlike a (record 
       (subst (λ (m : List (FinSet nat_cmp)). ((fault : StepFault) × IsTermsRefusal a.schema m p q fault × Refuses b (refusal.Steps fault) s d) ⊎ (IsAccepted a.schema m p × IsAccepted a.schema m q × ShowsVerdicts a.schema m p q s × (d ≡ b))) same k) where
         at : ((fault : StepFault) × IsTermsRefusal a.schema maximal p q fault × Refuses a (refusal.Steps fault) r c) ⊎ (IsAccepted a.schema maximal p × IsAccepted a.schema maximal q × ShowsVerdicts a.schema maximal p q r × (c ≡ a))
             → ((fault : StepFault) × IsTermsRefusal a.schema maximal p q fault × Refuses b (refusal.Steps fault) s d) ⊎ (IsAccepted a.schema maximal p × IsAccepted a.schema maximal q × ShowsVerdicts a.schema maximal p q s × (d ≡ b)) → Same
-        at (inl (f, is, t)) (inl (g, too, u)) = refuse a tables r s c d alike _ _ t u (ap refusal.Steps (one_terms_refusal a.schema maximal p q f g (step_told f t.told) (step_told g u.told) is too))
-        at (inl (f, is, t)) (inr (first, second, l, same')) = absurd (refused_or_accepted a.schema maximal p q f (step_told f t.told) is first second)
-        at (inr (first, second, l, same')) (inl (g, too, u)) = absurd (refused_or_accepted a.schema maximal p q g (step_told g u.told) too first second)
+        at (inl (f, is, t)) (inl (g, too, u)) = refuse a tables r s c d alike _ _ t u (ap refusal.Steps (one_terms_refusal a.schema maximal p q f g is too))
+        at (inl (f, is, t)) (inr (first, second, l, same')) = absurd (refused_or_accepted a.schema maximal p q f is first second)
+        at (inr (first, second, l, same')) (inl (g, too, u)) = absurd (refused_or_accepted a.schema maximal p q g too first second)
         at (inr (first, second, x, one)) (inr (also, too, y, two)) = agree _ _ x.text y.text (one_verdicts_text a.schema maximal p q kept.valid r s x y) one two
 
   compares : (first second : AQuery) → Compares a first second r c → Compares b first second s d → Same
-  compares first second (inl (why, h, t)) (inl (other, k, u)) = refuse a tables r s c d alike why other t u (one_form_refusal a.schema first second why other t.told u.told h k)
-  compares first second (inl (why, h, t)) (inr (form, k)) = absurd (refused_or_formed a.schema first second why t.told h form)
-  compares first second (inr (form, h)) (inl (why, k, u)) = absurd (refused_or_formed a.schema first second why u.told k form)
+  compares first second (inl (why, h, t)) (inl (other, k, u)) = refuse a tables r s c d alike why other t u (one_form_refusal a.schema first second why other h k)
+  compares first second (inl (why, h, t)) (inr (form, k)) = absurd (refused_or_formed a.schema first second why h form)
+  compares first second (inr (form, h)) (inl (why, k, u)) = absurd (refused_or_formed a.schema first second why k form)
   compares first second (inr (form, h)) (inr (these, k)) = compares_terms (resolved_of a.schema first) (resolved_of a.schema second) h k
-
-  window_told : (db new : DatabaseValue) (reply : Reply) (f : WindowFault) → TellsWindowFault db f reply new → f ≢ window.NoMemory
-  window_told db new reply window.Limit h is = absurd (cc)
-  window_told db new reply (window.Inconsistent less greater) h is = absurd (cc)
-  window_told db new reply window.NoMemory h is = h
 
   one_window_told : (f : WindowFault) → TellsWindowFault a f r c → TellsWindowFault b f s d → Same
   one_window_told window.Limit h k = refuse a tables r s c d alike _ _ h k refl
@@ -252,10 +246,10 @@ module _ (a : DatabaseValue) (tables : List Stored) (alike : AreAlike a (record 
   shows_window names (inl (name, h, t)) (inr (none, k)) = absurd (none_or_some name _ none h)
   shows_window names (inr (none, h)) (inl (name, k, u)) = absurd (none_or_some name _ none k)
   shows_window names (inr (none, inl (f, h, t))) (inr (gone, inl (g, k, u))) =
-      let same = one_window_refusal a b f g alike (window_told a c r f t) (window_told b d s g u) h k in
+      let same = one_window_refusal a b f g alike h k in
       one_window_told f t (subst (λ (z : WindowFault). TellsWindowFault b z s d) (sym same) u)
-  shows_window names (inr (none, inl (f, h, t))) (inr (gone, inr (y, two))) = absurd (refused_or_fitting a b f y.universe alike (window_told a c r f t) h y.few y.fits)
-  shows_window names (inr (none, inr (x, one))) (inr (gone, inl (g, k, u))) = absurd (refused_or_fitting b a g x.universe (back alike) (window_told b d s g u) k x.few x.fits)
+  shows_window names (inr (none, inl (f, h, t))) (inr (gone, inr (y, two))) = absurd (refused_or_fitting a b f y.universe alike h y.few y.fits)
+  shows_window names (inr (none, inr (x, one))) (inr (gone, inl (g, k, u))) = absurd (refused_or_fitting b a g x.universe (back alike) k x.few x.fits)
   shows_window names (inr (none, inr (x, one))) (inr (gone, inr (y, two))) =
       let same = one_window a b (attribute_numbers a.schema names) x.rows y.rows alike (record { exact = x.exact; ascending = x.ascending }) (record { exact = y.exact; ascending = y.ascending }) in
       agree _ _ x.text y.text (ap (rows_text names) same) one two
@@ -281,13 +275,13 @@ module _ (a : DatabaseValue) (tables : List Stored) (alike : AreAlike a (record 
   definition text (inr (e, is, adds)) (inl (none, u)) = absurd (none e is)
   definition text (inr (e, is, (x, h, t))) (inr (f, too, (y, k, u))) =
       let same : f ≡ e = one_definition text f e too is in
-      let one = one_defined a b c d e x y alike (definition_told a tables r s c d a c r x t) (definition_told a tables r s c d b d s y u) h (subst (λ (v : Definition). Defines b v y d) same k) in
+      let one = one_defined a b c d e x y alike h (subst (λ (v : Definition). Defines b v y d) same k) in
       (one_definition_told a tables r s c d x t (subst (λ (z : Result (Unit {0}) _). TellsDefine b z s d) (sym one.0) u), one.1)
 
   statement : (text file : List ℕ) → RepliesStatement a text file r c → RepliesStatement b text file s d → Same
-  statement text file (inl (f, h, t)) (inl (g, k, u)) = refuse a tables r s c d alike _ _ t u (ap refusal.Query (one_refusal text f g (query_told f t.told) (query_told g u.told) h k))
-  statement text file (inl (f, h, t)) (inr (st, is, few, k)) = absurd (not_refused text f st (query_told f t.told) h is few)
-  statement text file (inr (st, is, few, h)) (inl (g, k, u)) = absurd (not_refused text g st (query_told g u.told) k is few)
+  statement text file (inl (f, h, t)) (inl (g, k, u)) = refuse a tables r s c d alike _ _ t u (ap refusal.Query (one_refusal text f g h k))
+  statement text file (inl (f, h, t)) (inr (st, is, few, k)) = absurd (not_refused text f st h is few)
+  statement text file (inr (st, is, few, h)) (inl (g, k, u)) = absurd (not_refused text g st k is few)
   statement text file (inr (st, is, few, h)) (inr (other, too, less, k)) = answers file st h (subst (λ (v : Statement). Answers b file v s d) (one_statement text other st too is) k)
 
   replied : (text : List ℕ) (file : Option (List ℕ)) → Replied a text file r c → Replied b text file s d → Same

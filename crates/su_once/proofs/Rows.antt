@@ -12,7 +12,6 @@ use Rattle.su_base.specs.declared.values.Value.{Value}
 use Rattle.su_base.specs.Value.{compare_lists}
 use Rattle.su_base.proofs.Rows.{rows_total, equal_rows}
 use Rattle.su_rel.specs.Stored.{AllDiffer}
-use Rattle.su_state.specs.Enforced.{IsAtMost}
 use Rattle.su_once.proofs.Lists.{Ascends, one_ascending, ascends_from}
 
 abbrev Row : Type 0
@@ -26,16 +25,12 @@ never_before a b less more =
     let other : Less ≡ Greater = sym less ∙ rows_total.antisymm a b ∙ ap ordering_reverse more in
     cc
 
-at_most_both : (o p : Ordering) → o ≢ Greater → p ≢ Greater → o ≡ ordering_reverse p → o ≡ Equal
+pub at_most_both : (o p : Ordering) → o ≢ Greater → p ≢ Greater → o ≡ ordering_reverse p → o ≡ Equal
 at_most_both Equal p a b e = refl
 at_most_both Greater p a b e = absurd (a refl)
 at_most_both Less Less a b e = absurd (cc)
 at_most_both Less Equal a b e = absurd (cc)
 at_most_both Less Greater a b e = absurd (b refl)
-
--- neither of two rows is after the other
-pub one_least : (a b : Row) → IsAtMost a b → IsAtMost b a → a ≡ b
-one_least a b first second = equal_rows a b (at_most_both (compare_lists a b) (compare_lists b a) first second (rows_total.antisymm a b))
 
 each_of : (x : Row) (xs : List Row) → AllByRecursion (λ y. compare_lists x y ≡ Less) xs → (y : Row) → Contains xs y → Before x y
 each_of x [] all y (k, within, is) = absurd (omega (arith, within))

@@ -1,21 +1,14 @@
 -- Replies that tell the same are equal.
-use Rattle.std.proofs.Common.{◌≡◌, ◌≢◌, ℕ, Bool, true, false, List, Result, Ok, Err, refl, ap, sym, ◌∙◌, subst}
+use Rattle.std.proofs.Common.{◌≡◌, ℕ, Bool, true, false, List, Result, Ok, Err, refl, ap, sym, ◌∙◌, subst}
 use Rattle.su_rel.specs.Stored.{Stored}
-use Rattle.su_query.specs.declared.faults.QueryFault.{QueryFault}
-use Rattle.su_query.specs.declared.faults.QueryFault.TheVariants as query
-use Rattle.su_steps.specs.declared.faults.StepFault.{StepFault}
-use Rattle.su_steps.specs.declared.faults.StepFault.TheVariants as step
 use Rattle.su_state.specs.declared.faults.StateFault.{StateFault}
-use Rattle.su_state.specs.declared.faults.StateFault.TheVariants as state
 use Rattle.su_state.specs.declared.faults.LoadEnd.{LoadEnd}
 use Rattle.su_state.specs.declared.faults.LoadEnd.TheVariants as load
 use Rattle.su_state.specs.declared.faults.DefineFault.{DefineFault}
-use Rattle.su_state.specs.declared.faults.DefineFault.TheVariants as define
 use Rattle.su_state.specs.DatabaseValue.{DatabaseValue}
 use Rattle.su_show.specs.declared.statement_refusal.Refusal.{Refusal}
-use Rattle.su_show.specs.declared.statement_refusal.Refusal.TheVariants.{Query, State, Record, Steps, Define}
-use Rattle.std.proofs.Common.{inl}
-use Rattle.su_show.specs.RefusalLines.{refusal_line, IsNoMemory}
+use Rattle.su_show.specs.declared.statement_refusal.Refusal.TheVariants.{State, Record, Define}
+use Rattle.su_show.specs.RefusalLines.{refusal_line}
 use Rattle.su_session.specs.declared.replies.Reply.{Reply}
 use Rattle.su_session.specs.Outcomes.{Accepts, Refuses, TellsInsert, TellsDelete, TellsLoad, TellsDefine}
 use Rattle.su_once.specs.States.{AreAlike}
@@ -25,19 +18,6 @@ accept r s text other h k same =
     let refused = h.accepted ∙ sym k.accepted in
     let bytes = h.text_is ∙ same ∙ sym k.text_is in
     λ i. record { refused = refused i; bytes = bytes i }
-
--- want of memory is never told
-pub query_told : (fault : QueryFault) → ¬ IsNoMemory (Query fault) → fault ≢ query.NoMemory
-query_told fault told is = told is
-
-pub state_told : (fault : StateFault) → ¬ IsNoMemory (State fault) → fault ≢ state.NoMemory
-state_told fault told is = told is
-
-pub step_told : (fault : StepFault) → ¬ IsNoMemory (Steps fault) → fault ≢ step.NoMemory
-step_told fault told is = told is
-
-pub define_told : (fault : DefineFault) → ¬ IsNoMemory (Define fault) → fault ≢ define.NoMemory
-define_told fault told is = told (inl is)
 
 -- over two databases of one schema
 module _ (a : DatabaseValue) (tables : List Stored) (r s : Reply) (c d : DatabaseValue) where
@@ -56,11 +36,6 @@ module _ (a : DatabaseValue) (tables : List Stored) (r s : Reply) (c d : Databas
   pub refuse : AreAlike a b → (why other : Refusal) → Refuses a why r c → Refuses b other s d → why ≡ other → (r ≡ s) × AreAlike c d
   refuse alike why other h k same = (one_line why other h k same, still alike h.same k.same)
 
-  pub insert_told : (db new : DatabaseValue) (reply : Reply) (x : Result Bool StateFault) → TellsInsert db x reply new → x ≢ Err state.NoMemory
-  insert_told db new reply (Ok true) h is = absurd (cc)
-  insert_told db new reply (Ok false) h is = absurd (cc)
-  insert_told db new reply (Err fault) h is = state_told fault h.told (let e : fault ≡ state.NoMemory = cc in e)
-
   pub one_insert_told : (x : Result Bool StateFault) → TellsInsert a x r c → TellsInsert b x s d → r ≡ s
   one_insert_told (Ok true) h k = accept r s _ _ h k refl
   one_insert_told (Ok false) h k = accept r s _ _ h k refl
@@ -71,19 +46,10 @@ module _ (a : DatabaseValue) (tables : List Stored) (r s : Reply) (c d : Databas
   one_delete_told (Ok false) h k = accept r s _ _ h k refl
   one_delete_told (Err fault) h k = one_line (State fault) (State fault) h k refl
 
-  pub load_told : (db new : DatabaseValue) (reply : Reply) (records : ℕ) (x : Result ℕ LoadEnd) → TellsLoad db records x reply new → x ≢ Err load.NoMemory
-  load_told db new reply records (Ok count) h is = absurd (cc)
-  load_told db new reply records (Err (load.Refused fault)) h is = absurd (cc)
-  load_told db new reply records (Err load.NoMemory) h is = h
-
   pub one_load_told : (records : ℕ) (x : Result ℕ LoadEnd) → TellsLoad a records x r c → TellsLoad b records x s d → r ≡ s
   one_load_told records (Ok count) h k = accept r s _ _ h k refl
   one_load_told records (Err (load.Refused fault)) h k = one_line (Record fault) (Record fault) h k refl
   one_load_told records (Err load.NoMemory) h k = absurd h
-
-  pub definition_told : (db new : DatabaseValue) (reply : Reply) (x : Result (Unit {0}) DefineFault) → TellsDefine db x reply new → x ≢ Err define.NoMemory
-  definition_told db new reply (Ok i) h is = absurd (cc)
-  definition_told db new reply (Err fault) h is = define_told fault h.told (let e : fault ≡ define.NoMemory = cc in e)
 
   pub one_definition_told : (x : Result (Unit {0}) DefineFault) → TellsDefine a x r c → TellsDefine b x s d → r ≡ s
   one_definition_told (Ok i) h k = accept r s _ _ h k refl

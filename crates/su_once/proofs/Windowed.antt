@@ -1,5 +1,5 @@
 -- Databases that are alike have one window on some attributes, or none for one cause.
-use Rattle.std.proofs.Common.{◌≡◌, ◌≢◌, ◌↔◌, ◌⊎◌, ◌<◌, ◌≤◌, ◌+◌, ◌*◌, ◌/◌, ◌%◌, ℕ, Bool, true, false, cond, List, [], map, length, get_or, slice_get, Contains, Option, Some, None, inl, inr, refl, ap, sym, ◌∙◌, subst, arith}
+use Rattle.std.proofs.Common.{◌≡◌, ◌↔◌, ◌⊎◌, ◌<◌, ◌≤◌, ◌+◌, ◌*◌, ◌/◌, ◌%◌, ℕ, Bool, true, false, cond, List, [], map, length, get_or, slice_get, Contains, Option, Some, None, inl, inr, refl, ap, sym, ◌∙◌, subst, arith}
 use Rattle.std.specs.Prelude.{IsTrue}
 use Rattle.std.specs.List.{range_with_len}
 use Rattle.std.specs.FinSet.{contains, empty}
@@ -24,7 +24,8 @@ use Rattle.su_window.specs.declared.faults.WindowFault.TheVariants.{Limit, Incon
 use Rattle.su_window.specs.declared.readings.Reading.{Reading}
 use Rattle.su_schema.specs.Cuts.{width, attributes_at}
 use Rattle.su_state.specs.Views.{value_for, taken, view_through, view_of}
-use Rattle.su_window.specs.Members.{Member, IsMember, AreMembers, HasFew, HasMany}
+use Rattle.su_state.specs.MoreThan.{AreMoreThan}
+use Rattle.su_window.specs.Members.{Member, IsMember, AreMembers, HasFew}
 use Rattle.su_window.specs.Window.{Fits, InWindow}
 use Rattle.su_window.specs.Padded.{object_at, row_read, member_read, AreReadings, padded, padded_row, padded_rows}
 use Rattle.su_window.specs.Refusals.{Clashes, IsWindowRefusal}
@@ -62,7 +63,7 @@ module _ (schema : SchemaValue) (left right : List Stored) (rows : (r : ℕ) (ro
   in_window_moves : (attributes : List ℕ) (h : List Value) → InWindow a attributes h → InWindow b attributes h
   in_window_moves attributes h inside universe fits = inside universe (fits_back universe fits)
 
-  many_or_few : HasMany a → (members : List Member) → AreMembers b members → length members ≤ 20000 → ⊥
+  many_or_few : AreMoreThan 20000 (IsMember a) → (members : List Member) → AreMembers b members → length members ≤ 20000 → ⊥
   many_or_few many members are few =
       let enough = no_more 20001 many.member members (λ i low. (are.exact (many.member i)).1 (member_moves (many.member i) (many.each i (omega (arith, low))))) (λ i j less low. many.differ i j less (omega (arith, low))) in
       absurd (omega (arith, enough, few))
@@ -224,36 +225,36 @@ module _ (a : DatabaseValue) (tables : List Stored) (rows : (r : ℕ) (row : Lis
       (λ z there. (k.exact z).1 (in_window_moves a.schema a.tables tables forth attributes z ((h.exact z).0 there)))
       (λ z there. (h.exact z).1 (in_window_moves a.schema tables a.tables back attributes z ((k.exact z).0 there)))
 
-  too_many_here : HasMany a → (less greater : Value) → Clashes beside less greater → ⊥
+  too_many_here : AreMoreThan 20000 (IsMember a) → (less greater : Value) → Clashes beside less greater → ⊥
   too_many_here many less greater clash = many_or_few a.schema a.tables tables forth many _ clash.are.members (let few = clash.few in let l = length-map clash.readings (member_read beside) in omega (arith, few, l))
 
-  too_many_there : HasMany beside → (less greater : Value) → Clashes a less greater → ⊥
+  too_many_there : AreMoreThan 20000 (IsMember beside) → (less greater : Value) → Clashes a less greater → ⊥
   too_many_there many less greater clash = many_or_few a.schema tables a.tables back many _ clash.are.members (let few = clash.few in let l = length-map clash.readings (member_read a) in omega (arith, few, l))
 
-  one_cause : (why other : WindowFault) → why ≢ NoMemory → other ≢ NoMemory → IsWindowRefusal a why → IsWindowRefusal beside other → why ≡ other
-  one_cause Limit Limit m n h k = refl
-  one_cause Limit (Inconsistent v w) m n h k = absurd (too_many_here h v w k.0)
-  one_cause (Inconsistent v w) Limit m n h k = absurd (too_many_there k v w h.0)
-  one_cause (Inconsistent v w) (Inconsistent x y) m n h k =
+  one_cause : (why other : WindowFault) → IsWindowRefusal a why → IsWindowRefusal beside other → why ≡ other
+  one_cause Limit Limit h k = refl
+  one_cause Limit (Inconsistent v w) h k = absurd (too_many_here h v w k.0)
+  one_cause (Inconsistent v w) Limit h k = absurd (too_many_there k v w h.0)
+  one_cause (Inconsistent v w) (Inconsistent x y) h k =
       let moved' = clash_moves a.schema a.tables tables rows h.0.readings k.0.readings h.0.are k.0.are v w h.0.clash in
       let (less, greater) = one_clash a.schema.fds (padded_rows beside k.0.readings) v w x y moved' k.0.clash in
       λ i. Inconsistent (less i) (greater i)
-  one_cause NoMemory other m n h k = absurd (m refl)
-  one_cause Limit NoMemory m n h k = absurd (n refl)
-  one_cause (Inconsistent v w) NoMemory m n h k = absurd (n refl)
+  one_cause NoMemory other h k = absurd h
+  one_cause Limit NoMemory h k = absurd k
+  one_cause (Inconsistent v w) NoMemory h k = absurd k
 
-  refused_or_fits : (why : WindowFault) → why ≢ NoMemory → IsWindowRefusal a why → HasFew beside → (universe : List (List Value)) → Fits beside universe → ⊥
-  refused_or_fits Limit m h (members, are, few) universe fits = many_or_few a.schema a.tables tables forth h members are few
-  refused_or_fits (Inconsistent v w) m h few universe fits = h.1 universe (fits_back a.schema a.tables tables forth universe fits)
-  refused_or_fits NoMemory m h few universe fits = m refl
+  refused_or_fits : (why : WindowFault) → IsWindowRefusal a why → HasFew beside → (universe : List (List Value)) → Fits beside universe → ⊥
+  refused_or_fits Limit h (members, are, few) universe fits = many_or_few a.schema a.tables tables forth h members are few
+  refused_or_fits (Inconsistent v w) h few universe fits = h.1 universe (fits_back a.schema a.tables tables forth universe fits)
+  refused_or_fits NoMemory h few universe fits = h
 
 pub one_window : OneWindow
 one_window a b attributes xs ys alike h k = same_rows a b.tables alike.rows attributes xs ys h (subst (λ v. IsWindow v attributes ys) (same_schema a b alike.schema) k)
 
 pub one_window_refusal : OneWindowRefusal
-one_window_refusal a b why other alike m n h k = one_cause a b.tables alike.rows why other m n h (subst (λ v. IsWindowRefusal v other) (same_schema a b alike.schema) k)
+one_window_refusal a b why other alike h k = one_cause a b.tables alike.rows why other h (subst (λ v. IsWindowRefusal v other) (same_schema a b alike.schema) k)
 
 pub refused_or_fitting : RefusedOrFitting
-refused_or_fitting a b why universe alike m h few fits =
+refused_or_fitting a b why universe alike h few fits =
     let same = same_schema a b alike.schema in
-    refused_or_fits a b.tables alike.rows why m h (subst HasFew same few) universe (subst (λ v. Fits v universe) same fits)
+    refused_or_fits a b.tables alike.rows why h (subst HasFew same few) universe (subst (λ v. Fits v universe) same fits)

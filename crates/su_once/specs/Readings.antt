@@ -1,12 +1,11 @@
 -- A text is read in one way, or refused for one cause.
 -- refused: for the first cause
-use Rattle.std.specs.Prelude.{◌≡◌, ◌≢◌, ℕ, List, Result}
+use Rattle.std.specs.Prelude.{◌≡◌, ℕ, List, Result}
 use Rattle.su_schema.specs.SchemaValue.{SchemaValue}
 use Rattle.su_ddl.specs.declared.faults.DdlFault.{DdlFault}
 use Rattle.su_ddl.specs.Files.{Reads}
 use Rattle.su_query.specs.Refs.{NamedCond}
 use Rattle.su_query.specs.declared.faults.QueryFault.{QueryFault}
-use Rattle.su_query.specs.declared.faults.QueryFault.TheVariants.{NoMemory}
 use Rattle.su_query.specs.declared.statements.Query.{Query}
 use Rattle.su_query.specs.declared.statements.Statement.{Statement}
 use Rattle.su_query.specs.Lookup.{IsQueryRefusal, IsKnownQuery, IsColumnRefusal, IsColumnCondition}
@@ -23,24 +22,24 @@ OneStatement = (text : List ℕ) (st other : Statement) → IsStatement text st 
 
 -- a text has one refusal
 abbrev pub OneRefusal : Type 0
-OneRefusal = (text : List ℕ) (why other : QueryFault) → why ≢ NoMemory → other ≢ NoMemory → IsTextRefusal text why → IsTextRefusal text other → why ≡ other
+OneRefusal = (text : List ℕ) (why other : QueryFault) → IsTextRefusal text why → IsTextRefusal text other → why ≡ other
 
 -- and none, where it is a statement within the limits
 abbrev pub RefusedOrRead : Type 0
-RefusedOrRead = (text : List ℕ) (why : QueryFault) (st : Statement) → why ≢ NoMemory → IsTextRefusal text why → IsStatement text st → ¬ HasFew st
+RefusedOrRead = (text : List ℕ) (why : QueryFault) (st : Statement) → IsTextRefusal text why → IsStatement text st → ¬ HasFew st
 
 -- the names of a query are refused for one cause, or all are known
 abbrev pub OneQueryRefusal : Type 0
-OneQueryRefusal = (schema : SchemaValue) (q : Query) (why other : QueryFault) → why ≢ NoMemory → other ≢ NoMemory → IsQueryRefusal schema q why → IsQueryRefusal schema q other → why ≡ other
+OneQueryRefusal = (schema : SchemaValue) (q : Query) (why other : QueryFault) → IsQueryRefusal schema q why → IsQueryRefusal schema q other → why ≡ other
 
 -- a query whose names are refused isn't one whose names are known
 abbrev pub QueryIsRefusedOrKnown : Type 0
-QueryIsRefusedOrKnown = (schema : SchemaValue) (q : Query) (why : QueryFault) → why ≢ NoMemory → IsQueryRefusal schema q why → ¬ IsKnownQuery schema q
+QueryIsRefusedOrKnown = (schema : SchemaValue) (q : Query) (why : QueryFault) → IsQueryRefusal schema q why → ¬ IsKnownQuery schema q
 
 -- so are those of a deletion's condition
 abbrev pub OneColumnRefusal : Type 0
-OneColumnRefusal = (schema : SchemaValue) (r : ℕ) (c : NamedCond) (why other : QueryFault) → why ≢ NoMemory → other ≢ NoMemory → IsColumnRefusal schema r c why → IsColumnRefusal schema r c other → why ≡ other
+OneColumnRefusal = (schema : SchemaValue) (r : ℕ) (c : NamedCond) (why other : QueryFault) → IsColumnRefusal schema r c why → IsColumnRefusal schema r c other → why ≡ other
 
 -- a condition whose names are refused isn't one whose names are known
 abbrev pub ConditionIsRefusedOrKnown : Type 0
-ConditionIsRefusedOrKnown = (schema : SchemaValue) (r : ℕ) (c : NamedCond) (why : QueryFault) → why ≢ NoMemory → IsColumnRefusal schema r c why → ¬ IsColumnCondition schema r c
+ConditionIsRefusedOrKnown = (schema : SchemaValue) (r : ℕ) (c : NamedCond) (why : QueryFault) → IsColumnRefusal schema r c why → ¬ IsColumnCondition schema r c

@@ -1,15 +1,12 @@
 -- Databases that are alike stay so under equal changes, which have equal answers.
 -- alike: the same schema, and in each relation the same set of rows, in whichever order
-use Rattle.std.specs.Prelude.{◌≡◌, ◌≢◌, ◌↔◌, ℕ, Bool, List, length, Contains, Result, Err}
+use Rattle.std.specs.Prelude.{◌≡◌, ◌↔◌, ℕ, Bool, List, length, Contains, Result}
 use Rattle.su_base.specs.declared.values.Value.{Value}
 use Rattle.su_where.specs.Truth.{Cond}
 use Rattle.su_schema.specs.declared.definitions.Definition.{Definition}
 use Rattle.su_state.specs.declared.faults.StateFault.{StateFault}
-use Rattle.su_state.specs.declared.faults.StateFault.TheVariants.{NoMemory}
 use Rattle.su_state.specs.declared.faults.LoadEnd.{LoadEnd}
-use Rattle.su_state.specs.declared.faults.LoadEnd.TheVariants as load
 use Rattle.su_state.specs.declared.faults.DefineFault.{DefineFault}
-use Rattle.su_state.specs.declared.faults.DefineFault.TheVariants as define
 use Rattle.su_state.specs.DatabaseValue.{DatabaseValue, rows_of, IsWellKept}
 use Rattle.su_state.specs.Changes.{AreInOrder, DeletesWhere}
 use Rattle.su_state.specs.RowChanges.{Inserts, Deletes}
@@ -29,7 +26,7 @@ OneOrder = (a b : DatabaseValue) (r : ℕ) (rows others : List (List Value)) →
 
 -- an insert has one answer, and leaves databases that are alike
 abbrev pub OneInsert : Type 0
-OneInsert = (a b c d : DatabaseValue) (r : ℕ) (row : List Value) (x y : Result Bool StateFault) → AreAlike a b → x ≢ Err NoMemory → y ≢ Err NoMemory
+OneInsert = (a b c d : DatabaseValue) (r : ℕ) (row : List Value) (x y : Result Bool StateFault) → AreAlike a b
     → Inserts a r row x c → Inserts b r row y d → (x ≡ y) × AreAlike c d
 
 -- a delete has one answer, and leaves databases that are alike
@@ -44,10 +41,10 @@ OneDeleteWhere = (a b c d : DatabaseValue) (r : ℕ) (condition : Cond) (m n : �
 
 -- a load has one answer, and leaves databases that are alike
 abbrev pub OneLoad : Type 0
-OneLoad = (a b c d : DatabaseValue) (r : ℕ) (rows : List (List Value)) (x y : Result ℕ LoadEnd) → AreAlike a b → x ≢ Err load.NoMemory → y ≢ Err load.NoMemory
+OneLoad = (a b c d : DatabaseValue) (r : ℕ) (rows : List (List Value)) (x y : Result ℕ LoadEnd) → AreAlike a b
     → Loads a r rows x c → Loads b r rows y d → (x ≡ y) × AreAlike c d
 
 -- a definition has one answer, and leaves databases that are alike
 abbrev pub OneDefinition : Type 0
-OneDefinition = (a b c d : DatabaseValue) (definition : Definition) (x y : Result (Unit {0}) DefineFault) → AreAlike a b → x ≢ Err define.NoMemory → y ≢ Err define.NoMemory
+OneDefinition = (a b c d : DatabaseValue) (definition : Definition) (x y : Result (Unit {0}) DefineFault) → AreAlike a b
     → Defines a definition x c → Defines b definition y d → (x ≡ y) × AreAlike c d

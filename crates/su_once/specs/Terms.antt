@@ -9,19 +9,19 @@ use Rattle.su_tableau.specs.declared.symbols.Sym.TheVariants.{Const}
 use Rattle.su_schema.specs.SchemaValue.{SchemaValue}
 use Rattle.su_query.specs.declared.resolving.Resolved.{Resolved}
 use Rattle.su_steps.specs.declared.faults.StepFault.{StepFault}
-use Rattle.su_steps.specs.declared.faults.StepFault.TheVariants.{NoMemory}
 use Rattle.su_steps.specs.declared.results.Origin.{Origin}
 use Rattle.su_steps.specs.declared.results.Term.{Term}
 use Rattle.su_steps.specs.PairSymbols.{SymbolComparison}
-use Rattle.su_steps.specs.Classes.{InClass, IsNaming}
+use Rattle.su_classes.specs.ClassNames.{InClass, IsNaming}
+use Rattle.su_steps.specs.Classes.{IsClosedForCase}
 use Rattle.su_steps.specs.Terms.{AreTerms}
 use Rattle.su_steps.specs.Refusals.{IsStepRefusal, IsAccepted}
 
 -- a symbol has one name, where no class has two constants
 abbrev pub OneNaming : Type 0
 OneNaming = (schema : SchemaValue) (os : List Origin) (d : List SymbolComparison) (name other : Sym → Sym)
-    → ¬ ((a : Value) × (b : Value) × (a ≢ b) × InClass schema os d (Const a) (Const b))
-    → IsNaming schema os d name → IsNaming schema os d other → (x : Sym) → name x ≡ other x
+    → ¬ ((a : Value) × (b : Value) × (a ≢ b) × InClass (IsClosedForCase schema os d) (Const a) (Const b))
+    → IsNaming (IsClosedForCase schema os d) name → IsNaming (IsClosedForCase schema os d) other → (x : Sym) → name x ≡ other x
 
 -- a query has at most one list of terms
 abbrev pub OneListOfTerms : Type 0
@@ -30,9 +30,9 @@ OneListOfTerms = (schema : SchemaValue) (maximal : List (FinSet nat_cmp)) (q : R
 -- no query is refused for two causes
 abbrev pub OneStepRefusal : Type 0
 OneStepRefusal = (schema : SchemaValue) (maximal : List (FinSet nat_cmp)) (q : Resolved) (why other : StepFault)
-    → why ≢ NoMemory → other ≢ NoMemory → IsStepRefusal schema maximal q why → IsStepRefusal schema maximal q other → why ≡ other
+    → IsStepRefusal schema maximal q why → IsStepRefusal schema maximal q other → why ≡ other
 
 -- nor is one that gets terms
 abbrev pub RefusedOrAccepted : Type 0
 RefusedOrAccepted = (schema : SchemaValue) (maximal : List (FinSet nat_cmp)) (q : Resolved) (why : StepFault)
-    → why ≢ NoMemory → IsStepRefusal schema maximal q why → ¬ IsAccepted schema maximal q
+    → IsStepRefusal schema maximal q why → ¬ IsAccepted schema maximal q

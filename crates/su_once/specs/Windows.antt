@@ -1,12 +1,11 @@
 -- Databases that are alike have one window on some attributes, or none for one cause.
 -- alike: databases of one schema with the same sets of rows; window: as in su_window
-use Rattle.std.specs.Prelude.{◌≡◌, ◌≢◌, ◌↔◌, ℕ, List, Contains}
+use Rattle.std.specs.Prelude.{◌≡◌, ◌↔◌, ℕ, List, Contains}
 use Rattle.std.specs.List.Sorted.{IsStrictlySortedBy}
 use Rattle.su_base.specs.declared.values.Value.{Value}
 use Rattle.su_base.specs.Value.{compare_lists}
 use Rattle.su_state.specs.DatabaseValue.{DatabaseValue}
 use Rattle.su_window.specs.declared.faults.WindowFault.{WindowFault}
-use Rattle.su_window.specs.declared.faults.WindowFault.TheVariants.{NoMemory}
 use Rattle.su_window.specs.Window.{Fits, InWindow}
 use Rattle.su_window.specs.Members.{HasFew}
 use Rattle.su_window.specs.Refusals.{IsWindowRefusal}
@@ -23,8 +22,8 @@ OneWindow = (a b : DatabaseValue) (attributes : List ℕ) (rows others : List (L
 
 -- a window is refused for at most one cause
 abbrev pub OneWindowRefusal : Type 0
-OneWindowRefusal = (a b : DatabaseValue) (why other : WindowFault) → AreAlike a b → why ≢ NoMemory → other ≢ NoMemory → IsWindowRefusal a why → IsWindowRefusal b other → why ≡ other
+OneWindowRefusal = (a b : DatabaseValue) (why other : WindowFault) → AreAlike a b → IsWindowRefusal a why → IsWindowRefusal b other → why ≡ other
 
 -- a window that is refused has too many members, or no universal relation fits
 abbrev pub RefusedOrFitting : Type 0
-RefusedOrFitting = (a b : DatabaseValue) (why : WindowFault) (universe : List (List Value)) → AreAlike a b → why ≢ NoMemory → IsWindowRefusal a why → HasFew b → ¬ Fits b universe
+RefusedOrFitting = (a b : DatabaseValue) (why : WindowFault) (universe : List (List Value)) → AreAlike a b → IsWindowRefusal a why → HasFew b → ¬ Fits b universe

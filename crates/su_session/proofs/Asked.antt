@@ -61,7 +61,7 @@ module _ (db new : DatabaseValue) (text : List ℕ) (file : Option (List ℕ)) (
 
   pub replied_refusal : (fault : QueryFault) → IsRead text (Refused fault) → Refuses db (Query fault) reply new → Replied db text file reply new
   replied_refusal fault (inl (defining, syntax, none)) refuses = inl (defining, inl (none, subst (λ (f : QueryFault). Refuses db (Query f) reply new) syntax refuses))
-  replied_refusal fault (inr (other, refusal, cause)) refuses = inr (other, inl (fault, refusal, refuses))
+  replied_refusal fault (inr (other, refusal)) refuses = inr (other, inl (fault, refusal, refuses))
 
 -- ---- the file that it wants is that of the text
 
@@ -70,7 +70,7 @@ module _ (db : DatabaseValue) (text : List ℕ) where
   wants_nothing (Definition d) none is path (name, r, load, known) = no_definition text (Load name path) load is.0
   wants_nothing (Statement st) none is path load = other_wants_nothing db text st (λ other h. statement_unique text st other is.1 h) (λ name file e. none name file (ap Statement e)) path load
   wants_nothing (Refused fault) none (inl h) path (name, r, load, known) = no_definition text (Load name path) load h.0
-  wants_nothing (Refused fault) none (inr h) path load = refused_wants_nothing db text fault h.1 h.2 path load
+  wants_nothing (Refused fault) none (inr h) path load = refused_wants_nothing db text fault h.1 path load
 
   pub unknown_wants : (command : Command) (relation file : List ℕ) → command ≡ Statement (Load relation file) → relation_number db relation ≡ None → IsRead text command → (path : List ℕ) → ¬ IsLoad db text path
   unknown_wants command relation file e unknown is path load =

@@ -1,17 +1,16 @@
 -- The reply to a change, by how it ends.
-use Rattle.std.proofs.Common.{◌≡◌, ℕ, Bool, true, false, List, [], ◌∷◌, slice_get, Some, None, Ok, Err, inl, inr, ◌⊎◌, ap, ◌∙◌, subst, length}
+use Rattle.std.proofs.Common.{◌≡◌, ℕ, Bool, true, false, List, [], ◌∷◌, slice_get, Some, None, Ok, Err, inl, inr, ap, ◌∙◌, subst, length}
 use Rattle.su_base.specs.declared.values.Value.{Value}
 use Rattle.su_base.specs.declared.values.Column.{Column}
 use Rattle.su_where.specs.Truth.{Cond}
 use Rattle.su_schema.specs.Entries.{place_of, relation_names, relation_columns}
 use Rattle.su_csv.specs.File.{reading}
 use Rattle.su_csv.specs.declared.faults.CsvFault.{CsvFault}
-use Rattle.su_csv.specs.declared.faults.CsvFault.TheVariants as csv
 use Rattle.su_query.specs.Refs.{NamedCond}
 use Rattle.su_query.specs.Lookup.{IsColumnCondition}
 use Rattle.su_query.specs.NumberedConditions.{with_columns}
 use Rattle.su_state.specs.declared.faults.StateFault.{StateFault}
-use Rattle.su_state.specs.declared.faults.StateFault.TheVariants.{NoMemory, UnknownRelation}
+use Rattle.su_state.specs.declared.faults.StateFault.TheVariants.{UnknownRelation}
 use Rattle.su_state.specs.declared.faults.LoadFault.{LoadFault}
 use Rattle.su_state.specs.declared.faults.LoadEnd.TheVariants as load
 use Rattle.su_state.specs.DatabaseValue.{DatabaseValue, columns_of}
@@ -25,11 +24,13 @@ use Rattle.su_session.specs.Outcomes.{Accepts, Refuses}
 use Rattle.su_session.specs.RowStatements.{InRelation, InsertsRow, DeletesRow, DeletesRows, LoadsRows}
 use Rattle.su_session.proofs.Relations.{columns_are}
 
+-- no relation has the name, and the fault says so
+abbrev pub IsUnknown : DatabaseValue → List ℕ → StateFault → Type 0
+IsUnknown db name fault = (fault ≡ UnknownRelation name) × (place_of (relation_names db.schema) name ≡ None)
+
 module _ (db : DatabaseValue) (name : List ℕ) (reply : Reply) where
-  pub unknown : (new : DatabaseValue) (Known : ℕ → Type 0) (fault : StateFault) → (fault ≡ NoMemory) ⊎ ((fault ≡ UnknownRelation name) × (place_of (relation_names db.schema) name ≡ None))
-      → Refuses db (State fault) reply new → InRelation db name reply new Known
-  unknown new Known fault (inl memory) refuses = absurd (refuses.told memory)
-  unknown new Known fault (inr (is, none)) refuses = inl (none, subst (λ (f : StateFault). Refuses db (State f) reply new) is refuses)
+  pub unknown : (new : DatabaseValue) (Known : ℕ → Type 0) (fault : StateFault) → Refuses db (State fault) reply new → IsUnknown db name fault → InRelation db name reply new Known
+  unknown new Known fault refuses (is, none) = inl (none, subst (λ (f : StateFault). Refuses db (State f) reply new) is refuses)
 
   pub refused_insert : (new : DatabaseValue) (r : ℕ) (row : List Value) (fault : StateFault) → Inserts db r row (Err fault) new → Refuses new (State fault) reply new → InsertsRow db row reply new r
   refused_insert new r row fault h refuses = (Err fault, h, subst (λ (old : DatabaseValue). Refuses old (State fault) reply new) h.1 refuses)
@@ -46,14 +47,13 @@ module _ (db : DatabaseValue) (name : List ℕ) (reply : Reply) where
     own : columns ≡ columns_of db r
     own = columns_are db.schema r columns at
 
-    pub refused_file : (fault : CsvFault) → (fault ≡ csv.NoMemory) ⊎ (reading columns bytes ≡ Err fault) → Refuses db (Csv r fault) reply db → InRelation db name reply db (LoadsRows db bytes reply db)
-    refused_file fault (inl memory) refuses = absurd (refuses.told memory)
-    refused_file fault (inr fails) refuses = inr (r, placed, inl (fault, subst (λ (cs : List Column). reading cs bytes ≡ Err fault) own fails, refuses))
+    pub refused_file : (fault : CsvFault) → reading columns bytes ≡ Err fault → Refuses db (Csv r fault) reply db → InRelation db name reply db (LoadsRows db bytes reply db)
+    refused_file fault fails refuses = inr (r, placed, inl (fault, subst (λ (cs : List Column). reading cs bytes ≡ Err fault) own fails, refuses))
 
     module _ (new : DatabaseValue) (rows : List (List Value)) (read : reading columns bytes ≡ Ok rows) where
       pub refused_load : (fault : LoadFault) → Loads db r rows (Err (load.Refused fault)) new → Refuses new (Record fault) reply new → InRelation db name reply new (LoadsRows db bytes reply new)
       refused_load fault h refuses =
-          inr (r, placed, inr (rows, subst (λ (cs : List Column). reading cs bytes ≡ Ok rows) own read, (Err (load.Refused fault), h, subst (λ (old : DatabaseValue). Refuses old (Record fault) reply new) h.0 refuses)))
+          inr (r, placed, inr (rows, subst (λ (cs : List Column). reading cs bytes ≡ Ok rows) own read, (Err (load.Refused fault), h, subst (λ (old : DatabaseValue). Refuses old (Record fault) reply new) h.1 refuses)))
 
       pub loaded_rows : (count records : ℕ) → records ≡ length rows → Loads db r rows (Ok count) new → Accepts (loaded_text count records) reply → InRelation db name reply new (LoadsRows db bytes reply new)
       loaded_rows count records many h accepts =

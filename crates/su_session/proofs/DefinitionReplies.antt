@@ -1,9 +1,9 @@
 -- The reply to a definition, by how it ends.
-use Rattle.std.proofs.Common.{◌≡◌, List, Ok, Err, Result, inl, inr, ap, sym, ◌∙◌, subst}
+use Rattle.std.proofs.Common.{◌≡◌, List, Ok, Err, Result, sym, ◌∙◌, subst}
 use Rattle.std.specs.Ordering.{nat_cmp}
 use Rattle.std.specs.FinSet.{FinSet}
 use Rattle.su_schema.specs.SchemaValue.{SchemaValue}
-use Rattle.su_schema.specs.Definitions.{applied, IsDefinitionRefusal}
+use Rattle.su_schema.specs.Definitions.{applied}
 use Rattle.su_schema.specs.declared.definitions.Definition.{Definition}
 use Rattle.su_schema.specs.declared.faults.SchemaFault.{SchemaFault}
 use Rattle.su_maxobj.specs.MaximalObjects.{AreMaximalObjects}
@@ -23,12 +23,11 @@ same_Ok a b e = cc
 pub same_when_refused : (db new : DatabaseValue) (d : Definition) (fault : DefineFault) → Defines db d (Err fault) new → new ≡ db
 same_when_refused db new d (Schema fault) h = h.1
 same_when_refused db new d (Breaks fd name first second) h = h.1
-same_when_refused db new d NoMemory h = h
+same_when_refused db new d NoMemory h = absurd h
 
 module _ (db new : DatabaseValue) (d : Definition) (reply : Reply) where
-  pub refused_schema : (fault : SchemaFault) → IsDefinitionRefusal db.schema d fault → Refuses db (Define (Schema fault)) reply new → AddsDefinition db d reply new
-  refused_schema fault (inl memory) refuses = absurd (refuses.told (inr (ap Schema memory)))
-  refused_schema fault (inr fails) refuses = (Err (Schema fault), (fails, refuses.same), refuses)
+  pub refused_schema : (fault : SchemaFault) → applied db.schema d ≡ Err fault → Refuses db (Define (Schema fault)) reply new → AddsDefinition db d reply new
+  refused_schema fault fails refuses = (Err (Schema fault), (fails, refuses.same), refuses)
 
   pub refused_rows : (fault : DefineFault) → Defines db d (Err fault) new → Refuses new (Define fault) reply new → AddsDefinition db d reply new
   refused_rows fault defines refuses = (Err fault, defines, subst (λ (old : DatabaseValue). Refuses old (Define fault) reply new) (same_when_refused db new d fault defines) refuses)

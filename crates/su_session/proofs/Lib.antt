@@ -4,6 +4,7 @@ pub mod ChangeReplies
 pub mod Compared
 pub mod DefinitionReplies
 pub mod Loads
+pub mod NameRefusals
 pub mod Relations
 pub mod Retrieved
 pub mod Texts

@@ -1,10 +1,10 @@
 -- What a text is read as.
 -- command: a definition, a statement, or why the text is neither of them
-use Rattle.std.specs.Prelude.{◌≡◌, ◌≢◌, ◌⊎◌, ℕ, List}
+use Rattle.std.specs.Prelude.{◌≡◌, ◌⊎◌, ℕ, List}
 use Rattle.su_schema.specs.declared.definitions.Definition.{Definition as ADefinition}
 use Rattle.su_ddl.specs.Grammar.{IsDefinition}
 use Rattle.su_query.specs.declared.faults.QueryFault.{QueryFault}
-use Rattle.su_query.specs.declared.faults.QueryFault.TheVariants.{Syntax, NoMemory}
+use Rattle.su_query.specs.declared.faults.QueryFault.TheVariants.{Syntax}
 use Rattle.su_query.specs.StatementTexts.{IsStatement, IsTextRefusal}
 use Rattle.su_query.specs.Limits.{HasFew}
 use Rattle.su_session.specs.declared.commands.Command.{Command}
@@ -17,7 +17,7 @@ IsRead text (Definition d) = IsDefining text × IsDefinition text d
 IsRead text (Statement st) = (¬ IsDefining text) × IsStatement text st × HasFew st
 IsRead text (Refused fault) =
     (IsDefining text × (fault ≡ Syntax) × ((d : ADefinition) → ¬ IsDefinition text d))
-    ⊎ ((¬ IsDefining text) × IsTextRefusal text fault × (fault ≢ NoMemory))
+    ⊎ ((¬ IsDefining text) × IsTextRefusal text fault)
 
 -- some text is read as the command
 abbrev pub WasRead : Command → Type 0

@@ -8,7 +8,7 @@ use Rattle.su_state.specs.declared.faults.LoadEnd.TheVariants as load
 use Rattle.su_state.specs.declared.faults.DefineFault.{DefineFault}
 use Rattle.su_show.specs.declared.statement_refusal.Refusal.{Refusal}
 use Rattle.su_show.specs.declared.statement_refusal.Refusal.TheVariants.{State, Record, Define}
-use Rattle.su_show.specs.RefusalLines.{refusal_line, IsNoMemory}
+use Rattle.su_show.specs.RefusalLines.{refusal_line}
 use Rattle.su_show.specs.Changes.{inserted_text, deleted_text, loaded_text, defined_text}
 use Rattle.su_session.specs.declared.replies.Reply.{Reply}
 
@@ -21,7 +21,6 @@ pub record Accepts (text : List ℕ) (reply : Reply) : Type 0 where
 pub record Refuses (db : DatabaseValue) (refusal : Refusal) (reply : Reply) (new : DatabaseValue) : Type 0 where
   pub refused : reply.refused ≡ true
   pub line : reply.bytes ≡ refusal_line db.schema refusal
-  pub told : ¬ IsNoMemory refusal
   pub same : new ≡ db
 
 -- the answer to an insert

@@ -1,11 +1,12 @@
 //! Two queries compared.
-ghost use Rattle.std.specs.Prelude.{◌≡◌, ◌↔◌, ◌≤◌, length, IsTrue, OnOk, IfOk, IfErr};
+ghost use Rattle.std.specs.Prelude.{◌≡◌, ◌↔◌, ◌⊎◌, ◌≤◌, length, IsTrue, OnOk, IfOk, IfErr};
 ghost use Rattle.su_maxobj.specs.MaximalObjects.{AreMaximalObjects};
 ghost use Rattle.su_query.specs.NumberedConditions.{resolved_of};
 ghost use Rattle.su_query.specs.Ranges.{IsResolved};
 ghost use Rattle.su_query.specs.Limits.{AreFew};
 ghost use Rattle.su_steps.specs.Refusals.{IsAccepted};
 ghost use Rattle.su_compare.specs.Within.{AreOf};
+ghost use Rattle.su_show.specs.RefusalLines.{IsNoMemory};
 ghost use Rattle.su_session.specs.ComparableQueries.{AskEqualities, AreOfOneForm, IsFormRefusal};
 ghost use Rattle.su_session.specs.Comparisons.{IsTermsRefusal, Compares};
 
@@ -71,7 +72,7 @@ fn resolve_both(
     ensures first { IfOk result (λ pair. (pair.first ≡ resolved_of schema.now first.now) × IsResolved schema.now pair.first) }
     ensures second { IfOk result (λ pair. (pair.second ≡ resolved_of schema.now second.now) × IsResolved schema.now pair.second) }
     ensures form { OnOk result (AreOfOneForm schema.now first.now second.now) }
-    ensures refused { IfErr result (IsFormRefusal schema.now first.now second.now) }
+    ensures refused { IfErr result (λ why. IsNoMemory why ⊎ IsFormRefusal schema.now first.now second.now why) }
 {
     let first = match resolve(alloc, schema, first) {
         Ok(first) => first,
@@ -102,7 +103,7 @@ fn terms_of_both(
     requires second { IsResolved schema.now pair.now.second }
     ensures first { IfOk result (λ terms. AreOf schema.now maximal.now pair.now.first terms.first × IsAccepted schema.now maximal.now pair.now.first) }
     ensures second { IfOk result (λ terms. AreOf schema.now maximal.now pair.now.second terms.second × IsAccepted schema.now maximal.now pair.now.second) }
-    ensures refused { IfErr result (IsTermsRefusal schema.now maximal.now pair.now.first pair.now.second) }
+    ensures refused { IfErr result (λ fault. (fault ≡ StepFault.NoMemory) ⊎ IsTermsRefusal schema.now maximal.now pair.now.first pair.now.second fault) }
 {
     let first = terms(alloc, schema, maximal, &pair.first)?;
     let second = terms(alloc, schema, maximal, &pair.second)?;

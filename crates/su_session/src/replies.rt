@@ -1,5 +1,5 @@
 //! The reply to a statement.
-ghost use Rattle.std.specs.Prelude.{◌≡◌, ◌++◌, IfOk};
+ghost use Rattle.std.specs.Prelude.{◌≡◌, ◌++◌, IfOk, OnOk};
 ghost use Rattle.su_show.specs.RefusalLines.{refusal_line, IsNoMemory};
 ghost use Rattle.su_session.specs.Outcomes.{Accepts, Refuses};
 
@@ -28,7 +28,8 @@ pub(crate) fn accepted(bytes: List<u8>) -> Reply
 
 /// The reply to a refused statement. Want of memory is handed on.
 pub(crate) fn refused(alloc: Global, db: &Database, why: Refusal) -> Result<Reply, NoMemory>
-    ensures { IfOk result (λ reply. Refuses db.now why reply db.now) }
+    ensures refuses { IfOk result (λ reply. Refuses db.now why reply db.now) }
+    ensures told { OnOk result (¬ IsNoMemory why) }
 {
     let bytes = refusal(alloc, db.schema(), &why)?;
     Ok(Reply {

@@ -1,5 +1,5 @@
 //! The window of the stored rows on some attributes.
-ghost use Rattle.std.specs.Prelude.{◌≡◌, ◌<◌, All, None, IfOk, IfErr, OnOk};
+ghost use Rattle.std.specs.Prelude.{◌≡◌, ◌⊎◌, ◌<◌, All, None, IfOk, IfErr, OnOk};
 ghost use Rattle.su_schema.specs.Entries.{attribute_names};
 ghost use Rattle.su_query.specs.Scopes.{first_unknown_name};
 ghost use Rattle.su_query.specs.Sets.{IsNameRefusal};
@@ -20,7 +20,7 @@ fn numbers(alloc: Global, schema: &Schema, names: &[Str]) -> Result<List<u8>, Qu
     ensures numbers { IfOk result (λ numbers. numbers ≡ attribute_numbers schema.now names.now) }
     ensures below { IfOk result (All (λ a. a < width schema.now)) }
     ensures known { OnOk result (first_unknown_name (attribute_names schema.now) names.now ≡ None) }
-    ensures refused { IfErr result (IsNameRefusal schema.now names.now) }
+    ensures refused { IfErr result (λ fault. (fault ≡ QueryFault.NoMemory) ⊎ IsNameRefusal schema.now names.now fault) }
 {
     schema.keeps_its_rules();
     let mut numbers = List::new(alloc);

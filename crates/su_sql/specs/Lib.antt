@@ -5,6 +5,7 @@ pub mod Texts
 pub mod Queries
 pub mod Changes
 pub mod Statements
+pub mod inside
 pub mod Comments
 pub mod Cells
 pub mod Tables

@@ -1,9 +1,8 @@
 -- What is written for a statement.
 -- Each statement is taken as `sysu` takes it, on the rows that the script itself inserted: where that refuses it, the line of the refusal is a comment.
 -- A retrieve is written as the selects of its kept terms, and a load as a comment; neither is executed.
-use Rattle.std.specs.Prelude.{◌≡◌, ◌≢◌, ◌⊎◌, ℕ, Bool, true, false, List, ◌++◌, Some, None}
+use Rattle.std.specs.Prelude.{◌≡◌, ◌⊎◌, ℕ, Bool, true, false, List, Some, None}
 use Rattle.su_query.specs.declared.faults.QueryFault.{QueryFault}
-use Rattle.su_query.specs.declared.faults.QueryFault.TheVariants.{NoMemory}
 use Rattle.su_query.specs.declared.statements.Statement.{Statement}
 use Rattle.su_query.specs.declared.statements.Statement.TheVariants.{Load, Retrieve}
 use Rattle.su_query.specs.StatementTexts.{IsStatement, IsTextRefusal}
@@ -45,11 +44,4 @@ WritesDefinition d db text reply new = (said : Reply) × Replied db text None sa
 abbrev pub Writes : Dialect → DatabaseValue → List ℕ → Reply → DatabaseValue → Type 0
 Writes d db text reply new =
     ((st : Statement) × IsStatement text st × WritesStatement d db text st reply new)
-    ⊎ ((fault : QueryFault) × IsTextRefusal text fault × (fault ≢ NoMemory) × WritesDefinition d db text reply new)
-
--- what is written for a text is added, and this tells whether it is a refusal
-pub record IsAdded (d : Dialect) (db : DatabaseValue) (text : List ℕ) (new : DatabaseValue) (before after : List ℕ) (refused : Bool) : Type 0 where
-  pub reply : Reply
-  pub written : Writes d db text reply new
-  pub refused_is : refused ≡ reply.refused
-  pub added : after ≡ before ++ reply.bytes
+    ⊎ ((fault : QueryFault) × IsTextRefusal text fault × WritesDefinition d db text reply new)

@@ -1,5 +1,5 @@
 //! One statement of a script as SQL.
-ghost use Rattle.std.specs.Prelude.{◌≡◌, ◌≤◌, if◌then◌else◌, nat_lt, length, IfOk, IfErr, OnOk};
+ghost use Rattle.std.specs.Prelude.{◌≡◌, ◌⊎◌, ◌≤◌, if◌then◌else◌, nat_lt, length, IfOk, IfErr, OnOk};
 ghost use Rattle.su_maxobj.specs.MaximalObjects.{AreMaximalObjects};
 ghost use Rattle.su_query.specs.NumberedConditions.{resolved_of};
 ghost use Rattle.su_query.specs.Limits.{AreFew, HasFew};
@@ -73,7 +73,7 @@ fn selects_of<R: Threads + Sync, G: Gate>(
     requires maximal { AreMaximalObjects db.now.schema maximal.now }
     ensures selects { IfOk result (AreSelectsOf db.now.schema maximal.now (resolved_of db.now.schema query.now)) }
     ensures terms { OnOk result (HasTerms db.now.schema maximal.now query.now) }
-    ensures refused { IfErr result (IsRefusalOf db.now.schema maximal.now query.now) }
+    ensures refused { IfErr result (λ why. IsNoMemory why ⊎ IsRefusalOf db.now.schema maximal.now query.now why) }
 {
     db.keeps_its_rules();
     a_schema_has_few_maximal_objects();

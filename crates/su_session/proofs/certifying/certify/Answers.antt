@@ -7,7 +7,11 @@ use Rattle.su_check.specs.declared.nodes.Node.{Node}
 use Rattle.su_refute.specs.AllTrees.{AreTrees}
 use Rattle.su_refute.specs.Written.{certificate_of, certificate_text}
 use Rattle.su_answer.specs.Prepared.{IsPrepared}
-use Rattle.su_session.proofs.Certified.{if_ok}
+use Rattle.su_session.proofs.Certified.{if_ok, if_told}
+use Rattle.su_show.specs.RefusalLines.{IsNoMemory}
+use Rattle.su_session.specs.Outcomes.{Refuses}
+use Rattle.su_session.specs.Retrievals.{IsRefusalOf}
+use Rattle.su_session.specs.Certificates.{Certifies}
 use Rattle.su_session.proofs.certifying.certify.Goals as goal
 
 pub returns-in-Err-Nodes : goal.returns-in-Err-Nodes
@@ -27,7 +31,7 @@ returns-in-Err-Nodes g c =
           refuses,
         ),
       ),
-    )) c.refused-in-Err-Nodes.ensures
+    )) c.refused-in-Err-Nodes.ensures.refuses
 
 pub returns : goal.returns
 returns g c =
@@ -57,3 +61,11 @@ returns g c =
         ),
       ),
     )
+
+pub returns-in-Err : goal.returns-in-Err
+returns-in-Err g c =
+    let db = c.args.db.now in
+    let q = c.args.query.now in
+    let why = c.in-Err.why in
+    if_told c.refused.result (λ reply. Refuses db why reply db) (λ reply. Certifies db q reply db) (IsNoMemory why) (IsRefusalOf db.schema c.args.maximal.now q why) c.in-Err.ensures.refused c.refused.ensures.told c.refused.ensures.refuses
+    (λ reply h is. (c.args.maximal.now, c.requires.maximal, inl (why, is, h)))

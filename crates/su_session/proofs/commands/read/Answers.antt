@@ -11,4 +11,4 @@ returns-in-Ok c = IfOk-weaker c.command_of.result (λ command. (text : List ℕ)
 pub returns-in-Err-Syntax : goal.returns-in-Err-Syntax
 returns-in-Err-Syntax c =
     let none = c.in-Err-Syntax.ensures.syntax (ap Err c.in-Err-Syntax.field-0-is) in
-    inr ((λ is. none is.0 is.1), inl none, λ e. absurd (cc))
+    inr ((λ is. none is.0 is.1), inl none)

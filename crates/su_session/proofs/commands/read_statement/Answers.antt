@@ -1,4 +1,4 @@
-use Rattle.std.proofs.Common.{◌≡◌, ◌≢◌, ℕ, List, inr, sym, subst}
+use Rattle.std.proofs.Common.{◌≡◌, ◌≢◌, ℕ, List, inl, inr, sym, subst}
 use Rattle.std.proofs.lemmas.Result.{IfOk-weaker}
 use Rattle.su_lex.specs.Symbols.{Symbols}
 use Rattle.su_query.specs.declared.faults.QueryFault.TheVariants.{NoMemory}
@@ -16,4 +16,7 @@ returns-in-Err c =
     let symbols = c.args.symbols in
     let fault = c.in-Err.fault in
     IfOk-weaker c.refused.result (λ command. (command ≡ Refused fault) × (fault ≢ NoMemory)) (λ command. (text : List ℕ) → Symbols text symbols → IsRead text command)
-    (λ command h text spelled. subst (λ (k : Command). IsRead text k) (sym h.0) (inr (not_defining text symbols spelled c.requires, c.in-Err.ensures.refused text spelled, h.1))) c.refused.ensures
+    (λ command h text spelled. elim c.in-Err.ensures.refused [
+      | inl memory ↦ absurd (h.1 memory)
+      | inr refused ↦ subst (λ (k : Command). IsRead text k) (sym h.0) (inr (not_defining text symbols spelled c.requires, refused text spelled))
+    ]) c.refused.ensures

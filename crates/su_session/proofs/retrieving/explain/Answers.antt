@@ -1,6 +1,19 @@
-use Rattle.std.proofs.Common.{length, ap, sym, ◌∙◌}
+use Rattle.std.proofs.Common.{length, ap, sym, ◌∙◌, inl}
+use Rattle.su_show.specs.RefusalLines.{IsNoMemory}
+use Rattle.su_session.specs.Outcomes.{Refuses}
+use Rattle.su_session.specs.Retrievals.{IsRefusalOf}
+use Rattle.su_session.specs.Explanations.{Explains}
+use Rattle.su_session.proofs.Certified.{if_told}
 use Rattle.su_session.proofs.retrieving.explain.Goals as goal
 use Rattle.su_base.proofs.Items.{AllZip-length}
 
 pub explanation-requires : goal.explanation-requires
 explanation-requires g c = record { one_each = ap (λ ms. length ms) c.as_slice-2.ensures ∙ sym (AllZip-length _ _ _ c.in-Ok.ensures.prepared.minimals) ∙ ap (λ ts. length ts) (sym c.as_slice.ensures) }
+
+pub returns-in-Err : goal.returns-in-Err
+returns-in-Err g c =
+    let db = c.args.db.now in
+    let q = c.args.query.now in
+    let why = c.in-Err.why in
+    if_told c.refused.result (λ reply. Refuses db why reply db) (λ reply. Explains db q reply db) (IsNoMemory why) (IsRefusalOf db.schema c.args.maximal.now q why) c.in-Err.ensures.refused c.refused.ensures.told c.refused.ensures.refuses
+    (λ reply h is. (c.args.maximal.now, c.requires.maximal, inl (why, is, h)))

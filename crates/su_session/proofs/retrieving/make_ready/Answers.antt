@@ -1,4 +1,4 @@
-use Rattle.std.proofs.Common.{◌≡◌, subst}
+use Rattle.std.proofs.Common.{◌≡◌, inl, inr, subst}
 use Rattle.su_query.specs.declared.resolving.Resolved.{Resolved}
 use Rattle.su_query.specs.Lookup.{IsKnownQuery}
 use Rattle.su_query.specs.NumberedConditions.{resolved_of}
@@ -27,4 +27,10 @@ returns-in-Err-prepare-clause-refused g c =
     let q = c.args.query.now in
     let is : c.in-Ok.resolved ≡ resolved_of schema q = rw c.schema.ensures at c.in-Ok.ensures.resolved in
     let known : IsKnownQuery schema q = rw c.schema.ensures at c.in-Ok.ensures.known in
-    (known, subst (λ (r : Resolved). IsStepRefusal schema c.args.maximal.now r c.in-Err-prepare.fault) is c.in-Err-prepare.ensures.refused)
+    elim c.in-Err-prepare.ensures.refused [
+      | inl memory ↦ inl memory
+      | inr refused ↦ inr (known, subst (λ (r : Resolved). IsStepRefusal schema c.args.maximal.now r c.in-Err-prepare.fault) is refused)
+    ]
+
+pub returns-in-Err-clause-refused : goal.returns-in-Err-clause-refused
+returns-in-Err-clause-refused g c = rw c.schema.ensures at c.in-Err.ensures.refused

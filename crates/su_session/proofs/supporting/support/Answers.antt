@@ -1,8 +1,13 @@
-use Rattle.std.proofs.Common.{◌∙◌, refl, sym, ap, subst, inr}
+use Rattle.std.proofs.Common.{◌∙◌, refl, sym, ap, subst, inr, inl}
 use Rattle.su_query.specs.declared.resolving.Resolved.{Resolved}
 use Rattle.su_query.specs.Ranges.{IsResolved}
 use Rattle.su_answer.specs.Prepared.{IsPrepared}
 use Rattle.su_show.specs.Supports.{supports_text}
+use Rattle.su_show.specs.RefusalLines.{IsNoMemory}
+use Rattle.su_session.specs.Outcomes.{Refuses}
+use Rattle.su_session.specs.Retrievals.{IsRefusalOf}
+use Rattle.su_session.specs.Supports.{Supports}
+use Rattle.su_session.proofs.Certified.{if_told}
 use Rattle.su_session.proofs.supporting.support.Goals as goal
 
 pub support-requires : goal.support-requires
@@ -35,3 +40,11 @@ returns g c =
         ),
       ),
     )
+
+pub returns-in-Err : goal.returns-in-Err
+returns-in-Err g c =
+    let db = c.args.db.now in
+    let q = c.args.query.now in
+    let why = c.in-Err.why in
+    if_told c.refused.result (λ reply. Refuses db why reply db) (λ reply. Supports db q reply db) (IsNoMemory why) (IsRefusalOf db.schema c.args.maximal.now q why) c.in-Err.ensures.refused c.refused.ensures.told c.refused.ensures.refuses
+    (λ reply h is. (c.args.maximal.now, c.requires.maximal, inl (why, is, h)))

@@ -1,24 +1,43 @@
-use Rattle.std.proofs.Common.{IfOk, sym, subst}
-use Rattle.std.proofs.lemmas.Result.{IfOk-weaker}
+use Rattle.std.proofs.Common.{◌≡◌, Ok, Err, IfOk, inl, inr, sym, ap, subst}
 use Rattle.su_maxobj.specs.MaximalObjects.{AreMaximalObjects}
+use Rattle.su_schema.specs.Definitions.{applied}
 use Rattle.su_state.specs.declared.faults.DefineFault.TheVariants.{Schema}
 use Rattle.su_state.specs.DatabaseValue.{DatabaseValue}
+use Rattle.su_state.specs.Definitions.{Defines}
 use Rattle.su_show.specs.declared.statement_refusal.Refusal.TheVariants.{Define}
+use Rattle.su_show.specs.RefusalLines.{IsNoMemory}
 use Rattle.su_session.specs.Outcomes.{Refuses}
 use Rattle.su_session.specs.Reply.{AddsDefinition}
-use Rattle.su_session.proofs.DefinitionReplies.{same_when_refused, refused_schema}
+use Rattle.su_session.proofs.Certified.{if_told}
+use Rattle.su_session.proofs.DefinitionReplies.{refused_schema, refused_rows}
 use Rattle.su_session.proofs.sessions.Session.add.Goals as goal
 
 pub returns-in-Err-clause-replied : goal.returns-in-Err-clause-replied
 returns-in-Err-clause-replied c =
     let old : DatabaseValue = c.self.inside.db in
     let d = c.args.definition.now in
+    let fault = c.in-Err.fault in
     subst (λ (db : DatabaseValue). IfOk c.refused.result (λ reply. AddsDefinition db d reply db)) c.self.view_is
-    (IfOk-weaker c.refused.result (λ reply. Refuses old (Define (Schema c.in-Err.fault)) reply old) (λ reply. AddsDefinition old d reply old)
-    (λ reply h. refused_schema old old d reply c.in-Err.fault (rw c.schema.ensures at c.in-Err.ensures.refused) h) c.refused.ensures)
+    (if_told c.refused.result (λ reply. Refuses old (Define (Schema fault)) reply old) (λ reply. AddsDefinition old d reply old) (IsNoMemory (Define (Schema fault))) (applied old.schema d ≡ Err fault)
+    (elim (rw c.schema.ensures at c.in-Err.ensures.refused) [ inl memory ↦ inl (inr (ap Schema memory)) | inr fails ↦ inr fails ]) c.refused.ensures.told c.refused.ensures.refuses
+    (λ reply h fails. refused_schema old old d reply fault fails h))
 
 pub invariant_of-self-in-Err-adopt : goal.invariant_of-self-in-Err-adopt
-invariant_of-self-in-Err-adopt c =
+invariant_of-self-in-Err-adopt c = subst (λ (db : DatabaseValue). AreMaximalObjects db.schema c.self.inside.maximal) (sym c.in-Err-adopt.ensures.unchanged) c.self.invariant
+
+pub returns-in-Err-adopt-clause-replied : goal.returns-in-Err-adopt-clause-replied
+returns-in-Err-adopt-clause-replied c =
     let old : DatabaseValue = c.self.inside.db in
     let new : DatabaseValue = c.adopt.new.self in
-    subst (λ (db : DatabaseValue). AreMaximalObjects db.schema c.self.inside.maximal) (sym (same_when_refused old new c.args.definition.now c.in-Err-adopt.fault c.in-Err-adopt.ensures)) c.self.invariant
+    let d = c.args.definition.now in
+    let fault = c.in-Err-adopt.fault in
+    subst (λ (db : DatabaseValue). IfOk c.refused-in-Err-adopt.result (λ reply. AddsDefinition db d reply new)) c.self.view_is
+    (if_told c.refused-in-Err-adopt.result (λ reply. Refuses new (Define fault) reply new) (λ reply. AddsDefinition old d reply new) (IsNoMemory (Define fault)) (Defines old d (Err fault) new)
+    (elim c.in-Err-adopt.ensures.refused [ inl memory ↦ inl (inl memory) | inr defines ↦ inr defines ]) c.refused-in-Err-adopt.ensures.told c.refused-in-Err-adopt.ensures.refuses
+    (λ reply h defines. refused_rows old new d reply fault defines h))
+
+pub returns-in-Ok-adopt-clause-replied : goal.returns-in-Ok-adopt-clause-replied
+returns-in-Ok-adopt-clause-replied c =
+    let d = c.args.definition.now in
+    let done = c.in-Ok-adopt.field-0 in
+    (Ok done, subst (λ (db : DatabaseValue). Defines db d (Ok done) c.adopt.new.self) c.self.view_is c.in-Ok-adopt.ensures.done, rw c.defined.ensures at c.accepted.ensures)
