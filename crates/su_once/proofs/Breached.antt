@@ -29,7 +29,7 @@ then_tied Equal b tied = (refl, tied)
 then_tied Greater b tied = absurd (cc)
 
 breaches_total : IsTotalOrder compare_breaches
-breaches_total = then_total (on_total (λ b. b.dependency) nat_cmp_total) (then_total (on_total (λ b. b.object) nat_cmp_total) (then_total (on_total (λ b. b.first) rows_total) (on_total (λ b. b.second) rows_total)))
+breaches_total = then_total (on_total (λ (b : Breach). b.dependency) nat_cmp_total) (then_total (on_total (λ (b : Breach). b.object) nat_cmp_total) (then_total (on_total (λ (b : Breach). b.first) rows_total) (on_total (λ (b : Breach). b.second) rows_total)))
 
 pub one_first : (Among : Breach → Type 0) (b c : Breach) → IsFirstOf Among b → IsFirstOf Among c → b ≡ c
 one_first Among b c h k =
