@@ -3,12 +3,11 @@ ghost use Rattle.su_rel.specs.Stored.{HaveWidth};
 ghost use Rattle.su_index.specs.Tables.{table_at};
 
 use std::alloc::Global;
-use std::process::Abort;
 use std::test::Fail;
-use su_base::{AttrSet, List, Row, Str, Value};
+use su_base::{AttrSet, List, NoMemory, Row, Str, Value};
 use su_index::{Alike, Rows, Table};
 
-fn row(alloc: Global, number: i64, text: &str) -> Result<Row, Fail>
+fn row(alloc: Global, number: i64, text: &str) -> Result<Row, NoMemory>
     ensures { IfOk result (λ row. length row ≡ 2) }
 {
     let mut row = List::new(alloc);
@@ -17,144 +16,93 @@ fn row(alloc: Global, number: i64, text: &str) -> Result<Row, Fail>
     Ok(row)
 }
 
-fn put(rt: &impl Abort, table: &mut Table, row: Row) -> Result<bool, Fail> {
-    assert_eq!(rt; row.len(), table.width() as usize);
-    match table.insert(row) {
-        Ok(new) => Ok(new),
-        Err((_, refused)) => Err(Fail::from(refused)),
+/// Whether the row is put in, and was not there.
+fn is_new(table: &mut Table, row: Row) -> bool {
+    if row.len() != table.width() as usize {
+        return false;
+    }
+    matches!(table.insert(row), Ok(true))
+}
+
+/// What is done with a row.
+#[derive(Clone, Copy, PartialEq, Eq)]
+enum Act {
+    Put,
+    Take,
+}
+
+/// What is done, with which number and text, and whether that changes the table.
+type Step = (Act, i64, &'static str, bool);
+
+const STEPS: &[Step] = &[
+    (Act::Put, 7, "a", true),
+    (Act::Put, 3, "b", true),
+    (Act::Put, 7, "b", true),
+    (Act::Put, 7, "a", false),
+    (Act::Put, 7, "", true),
+    (Act::Put, -7, "a", true),
+    (Act::Take, 3, "b", true),
+    (Act::Take, 3, "b", false),
+    (Act::Take, 3, "a", false),
+];
+
+fn changes(alloc: Global, table: &mut Table, step: &Step) -> Result<bool, NoMemory> {
+    let (act, number, text, _) = *step;
+    let row = row(alloc, number, text)?;
+    match act {
+        Act::Put => Ok(is_new(table, row)),
+        Act::Take => Ok(table.remove(&row)),
     }
 }
 
-fn count(rt: &impl Abort, table: &Table, column: u8, value: &Value) -> usize {
-    assert!(rt; column < table.width());
-    table.matching(column, value)
-}
-
-fn position(rt: &impl Abort, table: &Table, column: u8, value: &Value, k: usize) -> usize {
-    assert!(rt; column < table.width());
-    assert!(rt; k < table.matching(column, value));
-    table.matched(column, value, k)
-}
-
-/// The number and the text of a row, and what is answered to it.
-type Answered = (i64, &'static str, bool);
-
-/// Puts the rows in one by one: each is new or not, as it says.
-fn put_each(
-    rt: &impl Abort,
-    alloc: Global,
-    table: &mut Table,
-    rows: &[Answered],
-) -> Result<(), Fail> {
-    for (number, text, new) in rows {
-        assert_eq!(rt; put(rt, table, row(alloc, *number, text)?)?, *new);
+/// The number of the first step that does otherwise, or how many there are.
+fn first_otherwise(alloc: Global, table: &mut Table) -> Result<usize, NoMemory> {
+    for (k, step) in STEPS.iter().enumerate() {
+        if changes(alloc, table, step)? != step.3 {
+            return Ok(k);
+        }
     }
-    Ok(())
+    Ok(STEPS.len())
 }
 
-/// Takes the rows out one by one: each was there or not, as it says.
-fn take_each(
-    rt: &impl Abort,
-    alloc: Global,
-    table: &mut Table,
-    rows: &[Answered],
-) -> Result<(), Fail> {
-    for (number, text, there) in rows {
-        assert_eq!(rt; table.remove(&row(alloc, *number, text)?), *there);
+/// In how many rows the number stands.
+fn count(table: &Table, number: i64) -> usize {
+    if table.width() == 0 {
+        return 0;
     }
-    Ok(())
+    table.matching(0, &Value::Int(number))
 }
 
-/// Takes the rows of the numbers from 0 on with the text out.
-fn take_below(alloc: Global, table: &mut Table, end: i64, text: &str) -> Result<(), Fail> {
-    for number in 0..end {
-        let _there = table.remove(&row(alloc, number, text)?);
+/// In how many rows the text stands, in the column.
+fn count_text(alloc: Global, table: &Table, column: u8, text: &str) -> Result<usize, NoMemory> {
+    if column >= table.width() {
+        return Ok(0);
     }
-    Ok(())
+    Ok(table.matching(column, &Value::Text(Str::new(alloc, text)?)))
 }
 
-/// That each number stands in so many rows.
-fn have_numbers(rt: &impl Abort, table: &Table, counts: &[(i64, usize)]) {
-    for (number, wanted) in counts {
-        assert_eq!(rt; count(rt, table, 0, &Value::Int(*number)), *wanted);
-    }
-}
-
-/// That the text stands in so many rows in the column.
-fn has_text(
-    rt: &impl Abort,
-    alloc: Global,
-    table: &Table,
-    column: u8,
-    text: &str,
-    wanted: usize,
-) -> Result<(), Fail> {
-    let text = Value::Text(Str::new(alloc, text)?);
-    assert_eq!(rt; count(rt, table, column, &text), wanted);
-    Ok(())
-}
-
-/// That the rows with the number stand at these places, and at more of them perhaps.
-fn stands_at(rt: &impl Abort, table: &Table, number: i64, places: &[usize]) {
+/// The place of a row with the number.
+fn place(table: &Table, number: i64, k: usize) -> Option<usize> {
     let number = Value::Int(number);
-    for (k, place) in places.iter().enumerate() {
-        assert_eq!(rt; position(rt, table, 0, &number, k), *place);
+    if table.width() == 0 || k >= table.matching(0, &number) {
+        return None;
     }
+    Some(table.matched(0, &number, k))
 }
 
-const SEVENS: &[Answered] = &[
-    (7, "a", true),
-    (3, "b", true),
-    (7, "b", true),
-    (7, "a", false),
-    (7, "", true),
-];
-
 #[test]
-fn a_value_in_many_rows_is_found_by_position(rt: HostRuntime) -> Result<(), Fail> {
-    let alloc = rt.alloc();
-    let mut table = Table::new(alloc, 2)?;
-    put_each(&rt, alloc, &mut table, SEVENS)?;
-    stands_at(&rt, &table, 7, &[0, 2, 3]);
-    has_text(&rt, alloc, &table, 1, "b", 2)?;
-    has_text(&rt, alloc, &table, 0, "b", 0)
-}
-
-const FIVES: &[Answered] = &[(5, "a", true), (-5, "a", true), (5, "b", true)];
-
-#[test]
-fn a_number_and_its_opposite_are_told_apart(rt: HostRuntime) -> Result<(), Fail> {
+fn rows_are_found_by_their_values(rt: HostRuntime) -> Result<(), Fail> {
     let mut table = Table::new(rt.alloc(), 2)?;
-    put_each(&rt, rt.alloc(), &mut table, FIVES)?;
-    have_numbers(&rt, &table, &[(-5, 1)]);
-    stands_at(&rt, &table, 5, &[0, 2]);
+    assert_eq!(rt; first_otherwise(rt.alloc(), &mut table)?, STEPS.len());
+    // the last row went to the place of the one that was taken out
+    assert!(rt; (count(&table, 7), count(&table, -7), count(&table, 3)) == (3, 1, 0));
+    assert!(rt; (place(&table, 7, 0), place(&table, 7, 2)) == (Some(0), Some(3)));
+    assert!(rt; place(&table, -7, 0) == Some(1));
     Ok(())
 }
 
-const PUT: &[Answered] = &[
-    (4, "a", true),
-    (5, "a", true),
-    (6, "a", true),
-    (4, "b", true),
-];
-
-const TAKEN: &[Answered] = &[
-    (4, "a", true),
-    (4, "a", false),
-    (9, "a", false),
-    (4, "b", true),
-];
-
-#[test]
-fn a_row_that_is_taken_out_is_in_no_index(rt: HostRuntime) -> Result<(), Fail> {
-    let mut table = Table::new(rt.alloc(), 2)?;
-    put_each(&rt, rt.alloc(), &mut table, PUT)?;
-    take_each(&rt, rt.alloc(), &mut table, TAKEN)?;
-    have_numbers(&rt, &table, &[(4, 0), (5, 1), (6, 1)]);
-    Ok(())
-}
-
-fn rows(alloc: Global) -> Result<List<Row>, Fail>
+/// 100,000 rows, of which 2,000 are different: the first half with a and the later one with b.
+fn rows(alloc: Global) -> Result<List<Row>, NoMemory>
     ensures { IfOk result (HaveWidth 2) }
 {
     let mut rows = List::new(alloc);
@@ -164,46 +112,49 @@ fn rows(alloc: Global) -> Result<List<Row>, Fail>
     Ok(rows)
 }
 
-/// A table of the rows, of which 2,000 are different.
-fn filled(rt: &impl Abort, alloc: Global) -> Result<Table, Fail> {
+fn filled(alloc: Global) -> Result<Table, NoMemory> {
     let mut table = Table::new(alloc, 2)?;
-    assert_eq!(rt; table.insert_all(rows(alloc)?)?, 2000);
+    let _new = table.insert_all(rows(alloc)?)?;
     Ok(table)
 }
 
-#[test]
-fn many_rows_go_in_at_once(rt: HostRuntime) -> Result<(), Fail> {
-    let table = filled(&rt, rt.alloc())?;
-    assert_eq!(rt; position(&rt, &table, 0, &Value::Int(17), 1), 1017);
-    has_text(&rt, rt.alloc(), &table, 1, "a", 1000)
+/// Takes the rows of the numbers from 0 on with a out.
+fn take_below(alloc: Global, table: &mut Table, end: i64) -> Result<(), NoMemory> {
+    for number in 0..end {
+        let _there = table.remove(&row(alloc, number, "a")?);
+    }
+    Ok(())
 }
 
-/// Keeps the rows from 1,000 on of 1,500.
-fn keep_the_last(rt: &impl Abort, alloc: Global, table: &mut Table) -> Result<(), Fail> {
-    let mut kept = Vec::new(alloc);
-    for place in 0..1500 {
-        kept.push(place >= 1000)?;
+/// Keeps the rows from this place on, if there are so many.
+fn keep_from(alloc: Global, table: &mut Table, first: usize) -> Result<(), NoMemory> {
+    let mut kept = List::new(alloc);
+    for place in 0..table.len() {
+        kept.push(place >= first)?;
     }
-    assert_eq!(rt; kept.len(), table.len());
-    table.keep(kept.as_slice())?;
-    assert_eq!(rt; table.len(), 500);
+    if kept.len() == table.len() {
+        table.keep(kept.as_slice())?;
+    }
     Ok(())
 }
 
 #[test]
-fn many_rows_go_out_again(rt: HostRuntime) -> Result<(), Fail> {
-    let mut table = filled(&rt, rt.alloc())?;
-    take_below(rt.alloc(), &mut table, 500, "a")?;
-    has_text(&rt, rt.alloc(), &table, 1, "a", 500)?;
-    keep_the_last(&rt, rt.alloc(), &mut table)?;
-    has_text(&rt, rt.alloc(), &table, 1, "a", 0)
+fn many_rows_go_in_at_once_and_out_again(rt: HostRuntime) -> Result<(), Fail> {
+    let mut table = filled(rt.alloc())?;
+    assert!(rt; (table.len(), place(&table, 17, 1)) == (2000, Some(1017)));
+    take_below(rt.alloc(), &mut table, 500)?;
+    assert_eq!(rt; count_text(rt.alloc(), &table, 1, "a")?, 500);
+    keep_from(rt.alloc(), &mut table, 1000)?;
+    assert_eq!(rt; count_text(rt.alloc(), &table, 1, "a")?, 0);
+    assert!(rt; (table.len(), count(&table, 499)) == (500, 1));
+    Ok(())
 }
 
 /// Puts 10,000 rows in one by one, the first half with a and the later one with b.
-fn put_many(rt: &impl Abort, alloc: Global, table: &mut Table) -> Result<(), Fail> {
+fn put_many(alloc: Global, table: &mut Table) -> Result<(), NoMemory> {
     for number in 0..10000 {
         let text = if number < 5000 { "a" } else { "b" };
-        let _new = put(rt, table, row(alloc, number % 5000, text)?)?;
+        let _new = is_new(table, row(alloc, number % 5000, text)?);
     }
     Ok(())
 }
@@ -211,46 +162,51 @@ fn put_many(rt: &impl Abort, alloc: Global, table: &mut Table) -> Result<(), Fai
 #[test]
 fn rows_of_many_chunks_go_in_and_out_one_by_one(rt: HostRuntime) -> Result<(), Fail> {
     let mut table = Table::new(rt.alloc(), 2)?;
-    put_many(&rt, rt.alloc(), &mut table)?;
-    take_below(rt.alloc(), &mut table, 3000, "a")?;
-    assert_eq!(rt; table.len(), 7000);
-    have_numbers(
-        &rt,
-        &table,
-        &[(0, 1), (2999, 1), (3000, 2), (4999, 2), (5000, 0)],
-    );
-    has_text(&rt, rt.alloc(), &table, 1, "b", 5000)
+    put_many(rt.alloc(), &mut table)?;
+    take_below(rt.alloc(), &mut table, 3000)?;
+    assert_eq!(rt; count_text(rt.alloc(), &table, 1, "b")?, 5000);
+    assert!(rt; (table.len(), count(&table, 2999), count(&table, 3000)) == (7000, 1, 2));
+    assert!(rt; (count(&table, 4999), count(&table, 5000)) == (2, 0));
+    Ok(())
 }
 
-fn told(rt: &impl Abort, table: &Table, row: &Row) -> Alike {
-    assert_eq!(rt; row.len(), table.width() as usize);
-    table.alike(AttrSet::empty().insert(0).insert(1), row)
+/// What is told of the row of 1 and a by both values.
+fn told(alloc: Global, table: &Table) -> Result<Option<Alike>, NoMemory> {
+    let row = row(alloc, 1, "a")?;
+    if row.len() != table.width() as usize {
+        return Ok(None);
+    }
+    Ok(Some(table.alike(AttrSet::empty().insert(0).insert(1), &row)))
 }
 
 /// What is told of the row of 1 and a, once the row of the number and the text is put in.
 fn told_beside(
-    rt: &impl Abort,
     alloc: Global,
     table: &mut Table,
     number: i64,
     text: &str,
-) -> Result<Alike, Fail> {
-    let _new = put(rt, table, row(alloc, number, text)?)?;
-    Ok(told(rt, table, &row(alloc, 1, "a")?))
+) -> Result<Option<Alike>, NoMemory> {
+    let _new = is_new(table, row(alloc, number, text)?);
+    told(alloc, table)
 }
 
 #[test]
 fn a_noted_row_is_found_by_all_its_values(rt: HostRuntime) -> Result<(), Fail> {
     let alloc = rt.alloc();
     let mut table = Table::new(alloc, 2)?;
-    let _new = put(&rt, &mut table, row(alloc, 1, "b")?)?;
+    let _new = is_new(&mut table, row(alloc, 1, "b")?);
     table.note(AttrSet::empty().insert(0).insert(1))?;
-    assert!(rt; matches!(told(&rt, &table, &row(alloc, 1, "a")?), Alike::Unknown));
-    assert!(rt; matches!(told_beside(&rt, alloc, &mut table, 2, "a")?, Alike::Nowhere));
+    assert!(rt; matches!(told(alloc, &table)?, Some(Alike::Unknown)));
     assert!(rt;
         matches!(
-            told_beside(&rt, alloc, &mut table, 1, "a")?,
-            Alike::MaybeAt(2)
+            told_beside(alloc, &mut table, 2, "a")?,
+            Some(Alike::Nowhere)
+        )
+    );
+    assert!(rt;
+        matches!(
+            told_beside(alloc, &mut table, 1, "a")?,
+            Some(Alike::MaybeAt(2))
         )
     );
     Ok(())

@@ -3,165 +3,84 @@ use std::test::Fail;
 use su_base::{Kind, List, NoMemory, Str, Value};
 use su_check::{Checked, check};
 use su_min::{Minimal, minimise};
-use su_refute::{RefuteFault, certify, refute, write};
-use su_tableau::{Sym, Tableau};
+use su_refute::{certify, refute, write};
+use su_tableau::{Sym, Tableau, has};
 
-/// Stands for the text Jones among the numbers of variables.
-const JONES: u32 = 99;
-
-fn symbols(alloc: Global, numbers: &[u32]) -> Result<List<Sym>, NoMemory> {
-    let mut symbols = List::new(alloc);
-    for number in numbers {
-        if *number == JONES {
-            symbols.push(Sym::Const(Value::Text(Str::new(alloc, "Jones")?)))?;
-        } else {
-            symbols.push(Sym::Var(*number))?;
-        }
-    }
-    Ok(symbols)
-}
-
-/// The minimised tableau of these rows, at the end of the list.
-fn add(
+/// The minimised tableau of the rows, in a list of its own; an empty one where they make none.
+fn minimised(
     alloc: Global,
-    minimals: &mut List<Minimal>,
-    width: u8,
-    rows: &[&[u32]],
-    head: &[u32],
-) -> Result<(), NoMemory> {
-    let mut list = List::new(alloc);
-    for row in rows {
-        list.push(symbols(alloc, row)?)?;
-    }
-    add_tableau(alloc, minimals, width, list, symbols(alloc, head)?)
-}
-
-fn add_tableau(
-    alloc: Global,
-    minimals: &mut List<Minimal>,
     width: u8,
     rows: List<List<Sym>>,
     head: List<Sym>,
-) -> Result<(), NoMemory> {
+) -> Result<List<Minimal>, NoMemory> {
+    let mut minimals = List::new(alloc);
     let outputs = head.len().min(128) as u16;
     if let Some(t) = Tableau::checked(width, rows, head, outputs, List::new(alloc)) {
         minimals.push(minimise(alloc, t)?)?;
     }
-    Ok(())
-}
-
-/// How many terms a good certificate has.
-fn good_terms(alloc: Global, bytes: &[u8]) -> Result<Option<u32>, NoMemory> {
-    if bytes.len() >= 1 << 32 {
-        return Ok(None);
-    }
-    match check(alloc, bytes)? {
-        Checked::Yes { terms } => Ok(Some(terms)),
-        Checked::No(_) => Ok(None),
-    }
-}
-
-/// All customers: attributes BANK, ACCT, CUST, BAL, LOAN, AMT, ADDR.
-fn customers(alloc: Global) -> Result<List<Minimal>, NoMemory> {
-    let accounts = [
-        [0, 1, 9, 10, 11, 12, 13].as_slice(),
-        [14, 1, 2, 17, 18, 19, 20].as_slice(),
-        [21, 1, 23, 3, 25, 26, 27].as_slice(),
-        [28, 29, 2, 31, 32, 33, 6].as_slice(),
-    ];
-    let loans = [
-        [0, 8, 9, 10, 4, 12, 13].as_slice(),
-        [14, 15, 2, 17, 4, 19, 20].as_slice(),
-        [21, 22, 23, 24, 4, 5, 27].as_slice(),
-        [28, 29, 2, 31, 32, 33, 6].as_slice(),
-    ];
-    let mut minimals = List::new(alloc);
-    add(alloc, &mut minimals, 7, &accounts, &[2])?;
-    add(alloc, &mut minimals, 7, &loans, &[2])?;
     Ok(minimals)
 }
 
-/// Who else is in a room with a course of Jones: attributes C, T, H, R, S, G.
+fn variables(alloc: Global, numbers: &[u32]) -> Result<List<Sym>, NoMemory> {
+    let mut variables = List::new(alloc);
+    for number in numbers {
+        variables.push(Sym::Var(*number))?;
+    }
+    Ok(variables)
+}
+
+/// Who else is in a room with a course, of which a student is asked for: attributes C, T, H, R, S, G.
+const COURSES: &[&[u32]] = &[
+    &[0, 1, 14, 15, 16, 17],
+    &[0, 19, 2, 3, 22, 23],
+    &[0, 25, 26, 27, 4, 5],
+    &[6, 7, 32, 33, 34, 35],
+    &[6, 37, 8, 3, 40, 41],
+    &[6, 43, 44, 45, 9, 11],
+];
+
+/// The courses, minimised: rows 1, 4 and 5 are kept, and have trees of 1, 3 and 1 nodes.
 fn courses(alloc: Global) -> Result<List<Minimal>, NoMemory> {
-    let rows = [
-        [0, 1, 14, 15, 16, 17].as_slice(),
-        [0, 19, 2, 3, 22, 23].as_slice(),
-        [0, 25, 26, 27, 4, 5].as_slice(),
-        [6, 7, 32, 33, 34, 35].as_slice(),
-        [6, 37, 8, 3, 40, 41].as_slice(),
-        [6, 43, 44, 45, JONES, 11].as_slice(),
-    ];
-    let mut minimals = List::new(alloc);
-    add(alloc, &mut minimals, 6, &rows, &[0])?;
-    Ok(minimals)
+    let mut rows = List::new(alloc);
+    for numbers in COURSES {
+        rows.push(variables(alloc, numbers)?)?;
+    }
+    minimised(alloc, 6, rows, variables(alloc, &[0, 9])?)
 }
 
-#[test]
-fn customers_have_a_certificate(rt: HostRuntime) -> Result<(), Fail> {
-    let alloc = rt.alloc();
-    let minimals = customers(alloc)?;
-    let trees = certify(alloc, minimals.as_slice(), 2).expect(&rt, "two nodes");
-    let kinds = [
-        Kind::Text,
-        Kind::Int,
-        Kind::Text,
-        Kind::Int,
-        Kind::Int,
-        Kind::Int,
-        Kind::Text,
-    ];
-    let text = write(alloc, &kinds, minimals.as_slice(), trees.as_slice())?;
-    let expected = "certificate 7\nkinds text int text int int int text\n\
-        term 0\nhead v2\nrows\n\
-        (v0 v1 v9 v10 v11 v12 v13)\n(v14 v1 v2 v17 v18 v19 v20)\n\
-        (v21 v1 v23 v3 v25 v26 v27)\n(v28 v29 v2 v31 v32 v33 v6)\n\
-        kept 1\nfold 1 1 1 1\ntree 1 (1)\n\
-        term 1\nhead v2\nrows\n\
-        (v0 v8 v9 v10 v4 v12 v13)\n(v14 v15 v2 v17 v4 v19 v20)\n\
-        (v21 v22 v23 v24 v4 v5 v27)\n(v28 v29 v2 v31 v32 v33 v6)\n\
-        kept 1\nfold 1 1 1 1\ntree 1 (1)\n";
-    assert!(rt; text.as_slice() == expected.as_bytes());
-    assert!(rt; good_terms(alloc, text.as_slice())? == Some(2));
-    Ok(())
-}
+/// Kept rows and budgets, and of how many nodes the row's tree is, none where they are too many.
+const BUDGETS: &[(u8, u32, Option<u32>)] = &[
+    (4, 3, Some(3)),
+    (4, 2, None),
+    (1, 1, Some(1)),
+    (1, 0, None),
+];
 
-#[test]
-fn three_trees_share_a_room(rt: HostRuntime) -> Result<(), Fail> {
-    let alloc = rt.alloc();
-    let minimals = courses(alloc)?;
-    let trees = certify(alloc, minimals.as_slice(), 5).expect(&rt, "five nodes");
-    let kinds = [Kind::Text; 6];
-    let text = write(alloc, &kinds, minimals.as_slice(), trees.as_slice())?;
-    let expected = "certificate 6\nkinds text text text text text text\n\
-        term 0\nhead v0\nrows\n\
-        (v0 v1 v14 v15 v16 v17)\n(v0 v19 v2 v3 v22 v23)\n(v0 v25 v26 v27 v4 v5)\n\
-        (v6 v7 v32 v33 v34 v35)\n(v6 v37 v8 v3 v40 v41)\n(v6 v43 v44 v45 'Jones' v11)\n\
-        kept 1 4 5\nfold 1 1 1 4 4 5\n\
-        tree 1 (1)\ntree 4 (1 1 (4 1 (5)))\ntree 5 (5)\n";
-    assert!(rt; text.as_slice() == expected.as_bytes());
-    assert!(rt; good_terms(alloc, text.as_slice())? == Some(1));
-    Ok(())
+/// How many nodes the tree of the row has, if it is within the budget.
+fn nodes(alloc: Global, minimals: &[Minimal], row: u8, budget: u32) -> Option<u32> {
+    let minimal = minimals.first()?;
+    if row >= 64 {
+        return None;
+    }
+    if !has(minimal.mask(), row as usize) {
+        return None;
+    }
+    match refute(alloc, minimal, row, budget) {
+        Ok(tree) => Some(tree.nodes),
+        Err(_) => None,
+    }
 }
 
 #[test]
 fn a_budget_is_of_nodes(rt: HostRuntime) -> Result<(), Fail> {
-    let alloc = rt.alloc();
-    let minimals = courses(alloc)?;
-    let one = minimals.as_slice().first().expect(&rt, "a tableau");
-    assert!(rt; one.mask() == 50);
-    assert!(rt; refute(alloc, one, 4, 3).expect(&rt, "three nodes").nodes == 3);
-    assert!(rt; refute(alloc, one, 4, 2).err() == Some(RefuteFault::Nodes));
-    assert!(rt; refute(alloc, one, 1, 0).err() == Some(RefuteFault::Nodes));
-    // the trees of all rows of all tableaux count together
-    assert!(rt; certify(alloc, minimals.as_slice(), 4).err() == Some(RefuteFault::Nodes));
-    let both = customers(alloc)?;
-    assert!(rt; certify(alloc, both.as_slice(), 1).err() == Some(RefuteFault::Nodes));
-    assert!(rt;
-        certify(alloc, both.as_slice(), 2)
-            .expect(&rt, "two nodes")
-            .len()
-            == 2
-    );
+    let minimals = courses(rt.alloc())?;
+    for (row, budget, want) in BUDGETS {
+        let found = nodes(rt.alloc(), minimals.as_slice(), *row, *budget);
+        assert!(rt; found == *want, "row {row}");
+    }
+    // the trees of all rows count together
+    assert!(rt; certify(rt.alloc(), minimals.as_slice(), 4).is_err());
+    assert!(rt; certify(rt.alloc(), minimals.as_slice(), 5).is_ok());
     Ok(())
 }
 
@@ -174,26 +93,51 @@ fn long_text(alloc: Global, bytes: usize) -> Result<Str, NoMemory> {
     Str::new(alloc, text.as_str())
 }
 
+/// The least number, a text with apostrophes, a long one, and a variable.
+fn constants(alloc: Global) -> Result<List<Sym>, NoMemory> {
+    let mut row = List::new(alloc);
+    row.push(Sym::Const(Value::Int(i64::MIN)))?;
+    row.push(Sym::Const(Value::Text(Str::new(alloc, "it's '")?)))?;
+    row.push(Sym::Const(Value::Text(long_text(alloc, 4096)?)))?;
+    row.push(Sym::Var(70_000))?;
+    Ok(row)
+}
+
+/// The tableau of one row, which is of constants.
+fn constant_row(alloc: Global) -> Result<List<Minimal>, NoMemory> {
+    let mut rows = List::new(alloc);
+    rows.push(constants(alloc)?)?;
+    minimised(alloc, 4, rows, variables(alloc, &[70_000])?)
+}
+
+const KINDS: [Kind; 4] = [Kind::Int, Kind::Text, Kind::Text, Kind::Text];
+
+/// The text of the certificate; none where there are more than so many nodes.
+fn certificate(
+    alloc: Global,
+    minimals: &[Minimal],
+    budget: u32,
+) -> Result<Option<List<u8>>, NoMemory> {
+    match certify(alloc, minimals, budget) {
+        Ok(trees) => Ok(Some(write(alloc, &KINDS, minimals, trees.as_slice())?)),
+        Err(_) => Ok(None),
+    }
+}
+
+/// Whether the text is a good certificate of one term.
+fn is_good(alloc: Global, text: &[u8]) -> Result<bool, NoMemory> {
+    if text.len() >= 1 << 32 {
+        return Ok(false);
+    }
+    Ok(check(alloc, text)? == Checked::Yes { terms: 1 })
+}
+
 #[test]
 fn constants_are_read_as_written(rt: HostRuntime) -> Result<(), Fail> {
-    let alloc = rt.alloc();
-    for bytes in [0, 1, 4096] {
-        let mut row = List::new(alloc);
-        row.push(Sym::Const(Value::Int(i64::MIN)))?;
-        row.push(Sym::Const(Value::Text(Str::new(alloc, "it's '")?)))?;
-        row.push(Sym::Const(Value::Text(long_text(alloc, bytes)?)))?;
-        row.push(Sym::Var(70_000))?;
-        let mut head = List::new(alloc);
-        head.push(Sym::Const(Value::Int(-1)))?;
-        head.push(Sym::Var(70_000))?;
-        let mut rows = List::new(alloc);
-        rows.push(row)?;
-        let mut minimals = List::new(alloc);
-        add_tableau(alloc, &mut minimals, 4, rows, head)?;
-        let trees = certify(alloc, minimals.as_slice(), 1).expect(&rt, "a node");
-        let kinds = [Kind::Int, Kind::Text, Kind::Text, Kind::Text];
-        let text = write(alloc, &kinds, minimals.as_slice(), trees.as_slice())?;
-        assert!(rt; good_terms(alloc, text.as_slice())? == Some(1));
-    }
+    let minimals = constant_row(rt.alloc())?;
+    let Some(text) = certificate(rt.alloc(), minimals.as_slice(), 1)? else {
+        return Err(Fail::from("more than a node"));
+    };
+    assert!(rt; is_good(rt.alloc(), text.as_slice())?);
     Ok(())
 }
