@@ -3,10 +3,10 @@ use Rattle.std.proofs.Common.{◌≡◌, ◌∙◌, ℕ, List, [], ◌∷◌, Op
 use Rattle.std.specs.Prelude.{unwrap_or}
 use Rattle.std.proofs.lemmas.Option.{none-some}
 use Rattle.std.proofs.lemmas.Fmt.{decimal_injective}
-use Rattle.sysu.specs.declared.status.Status.{Status}
-use Rattle.sysu.specs.Moments.{Moment}
+use Rattle.su_io.specs.declared.status.Status.{Status}
+use Rattle.su_io.specs.Moments.{Moment}
 use Rattle.sysu.specs.Checks.{CheckEnds}
-use Rattle.sysu.specs.Banks.{GenerateEnds}
+use Rattle.sysu.specs.Banks.{BankEnds}
 use Rattle.sysu.specs.Statuses.{Comes, RunEnds, UsageEnds}
 use Rattle.sysu.specs.Words.{Named, named, checks, Generates}
 
@@ -45,19 +45,19 @@ check_is words file old new status known ends = record {
 }
 
 -- the words ask for a bank of n rows, and its making ends so
-pub generate_is : (words : List (List ℕ)) (n : ℕ) (old new : Moment) (status : Status) → Generates words n → GenerateEnds n old new status → Comes words old new status
+pub generate_is : (words : List (List ℕ)) (n : ℕ) (old new : Moment) (status : Status) → Generates words n → BankEnds n old new status → Comes words old new status
 generate_is words n old new status asked ends = record {
   usage = λ none no_check no_number. absurd (no_number n asked);
   ran = λ names same. absurd (none-some names (sym (no_bank words n asked).0 ∙ same));
   checked = λ file same. absurd (none-some file (sym (no_bank words n asked).1 ∙ same));
-  generated = λ other also. subst (λ (k : ℕ). GenerateEnds k old new status) (same_number words n other asked also) ends;
+  generated = λ other also. subst (λ (k : ℕ). BankEnds k old new status) (same_number words n other asked also) ends;
 }
 
 -- the words ask for nothing, and the usage line ends so
-pub usage_is : (words : List (List ℕ)) (old new : Moment) (status : Status) → named words ≡ None → checks words ≡ None → ((n : ℕ) → ¬ Generates words n) → new.reads ≡ old.reads → new.begun ≡ old.begun → new.taken ≡ old.taken
-    → UsageEnds old.told old.writes new.told new.writes status → Comes words old new status
-usage_is words old new status no_run no_check no_number reads begun taken ends = record {
-  usage = λ _ _ _. (reads, begun, taken, ends);
+pub usage_is : (words : List (List ℕ)) (old new : Moment) (status : Status) → named words ≡ None → checks words ≡ None → ((n : ℕ) → ¬ Generates words n)
+    → UsageEnds old new status → Comes words old new status
+usage_is words old new status no_run no_check no_number ends = record {
+  usage = λ _ _ _. ends;
   ran = λ names same. absurd (none-some names (sym no_run ∙ same));
   checked = λ file same. absurd (none-some file (sym no_check ∙ same));
   generated = λ n asked. absurd (no_number n asked);

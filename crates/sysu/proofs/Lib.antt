@@ -5,10 +5,10 @@ pub mod RunEnds
 pub mod Commands
 pub mod Promised
 pub mod Verdicts
-pub mod HandOver
 pub mod Completeness
 pub mod BankWords
 pub mod OneBank
 pub mod OneList
 pub mod TwoRuns
 pub mod FaultlessRuns
+pub mod Lines

@@ -1,9 +1,10 @@
 -- Replies to the same statements are one list, also where they stop at a load from a file that is too long.
-use Rattle.std.proofs.Common.{◌≡◌, ◌<◌, ℕ, zero, suc, List, [], ◌∷◌, length, take, slice_get, Option, Some, None, refl, ap, sym, ◌∙◌, subst, arith}
+use Rattle.std.proofs.Common.{◌≡◌, ◌<◌, ◌++◌, ℕ, List, [], ◌∷◌, length, Option, Some, None, Ok, refl, ap, sym, ◌∙◌, subst, append-nil, arith}
 use Rattle.su_io.specs.declared.files.File.{File as AFile}
 use Rattle.su_io.specs.Files.{contents}
-use Rattle.su_lex.specs.declared.spans.Span.{Span}
+use Rattle.su_lex.specs.Pieces.{Pieces}
 use Rattle.su_lex.proofs.Cuts.{one_list_of_pieces}
+use Rattle.su_ddl.proofs.Files.{one_outcome}
 use Rattle.su_schema.specs.SchemaValue.{SchemaValue}
 use Rattle.su_state.specs.DatabaseValue.{DatabaseValue, IsWellKept}
 use Rattle.su_session.specs.EmptyDatabase.{empty_database}
@@ -14,8 +15,10 @@ use Rattle.su_session.specs.WantedFiles.{Wants}
 use Rattle.su_once.specs.States.{AreAlike}
 use Rattle.su_once.proofs.Replied.{one_reply, one_want}
 use Rattle.sysu.specs.Handed.{IsHanded, load_limit}
-use Rattle.sysu.specs.Output.{Answered, text_at, texts_of}
-use Rattle.sysu.specs.Scripts.{AnswersAll, AnswersBefore}
+use Rattle.sysu.specs.Output.{Answered, texts_of}
+use Rattle.sysu.specs.Scripts.{Answers}
+use Rattle.sysu.specs.Words.{Named}
+use Rattle.sysu.proofs.Completeness.{ok_schema, schema_reads}
 use Rattle.sysu.proofs.OneBank.{itself}
 
 not_nothing : (path : List ℕ) → Nothing ≡ File path → ⊥
@@ -24,12 +27,11 @@ not_nothing path same = absurd (cc)
 same_path : (path other : List ℕ) → File path ≡ File other → path ≡ other
 same_path path other same = cc
 
-none_there : (count : ℕ) (span : Span) → slice_get [] count ≡ Some span → ⊥
-none_there zero span next = absurd (cc)
-none_there (suc count) span next = absurd (cc)
+first_same : (x y : List ℕ) (xs ys : List (List ℕ)) → x ∷ xs ≡ y ∷ ys → x ≡ y
+first_same x y xs ys same = cc
 
-first_there : (s span : Span) (ss : List Span) → slice_get (s ∷ ss) zero ≡ Some span → span ≡ s
-first_there s span ss next = cc
+rest_same : (x y : List ℕ) (xs ys : List (List ℕ)) → x ∷ xs ≡ y ∷ ys → xs ≡ ys
+rest_same x y xs ys same = cc
 
 module _ (files : List AFile) where
   one_file : (a b : DatabaseValue) (text : List ℕ) (x y : Option (List ℕ)) → a.schema ≡ b.schema → IsHanded (Some files) a text x → IsHanded (Some files) b text y → x ≡ y
@@ -65,64 +67,79 @@ module _ (files : List AFile) where
       let later = one_list ts next then c d rs ss one.1 more rest in
       λ i. one.0 i ∷ later i
 
-  module _ (script : List ℕ) where
-    -- a load that is due in one answering is not passed in another
-    not_passed : (spans : List Span) (count : ℕ) (span : Span) (path : List ℕ) (a b c d : DatabaseValue) (replies others : List Reply) → AreAlike a b → slice_get spans count ≡ Some span
-        → Answered (Some files) a (texts_of script (take count spans)) replies c → Wants c (text_at script span) (File path) → load_limit < length (contents files path)
-        → Answered (Some files) b (texts_of script spans) others d → ⊥
-    not_passed [] count span path a b c d replies others alike next h wants over k = none_there count span next
-    not_passed (s ∷ ss) zero span path a b c d (r ∷ rs) others alike next h wants over k = h
-    not_passed (s ∷ ss) zero span path a b c d [] [] alike next h wants over k = k
-    not_passed (s ∷ ss) zero span path a b c d [] (o ∷ os) alike next h wants over (also, (file, hands, rest)) =
-        let first = first_there s span ss next in
-        not_handed a b (text_at script s) path file alike.schema (subst (λ (v : DatabaseValue). Wants v (text_at script s) (File path)) h (subst (λ (x : Span). Wants c (text_at script x) (File path)) first wants)) over hands
-    not_passed (s ∷ ss) (suc count) span path a b c d [] others alike next h wants over k = h
-    not_passed (s ∷ ss) (suc count) span path a b c d (r ∷ rs) [] alike next h wants over k = k
-    not_passed (s ∷ ss) (suc count) span path a b c d (r ∷ rs) (o ∷ os) alike next (kept, (file, handed, (mid, replied, more))) wants over (also, (same, hands, (then, answers, rest))) =
-        let one = one_turn (text_at script s) a b mid then file same r o alike kept also handed hands replied answers in
-        not_passed ss count span path mid then c d rs os one.1 next more wants over rest
+  -- a load that is due in one answering is not passed in another
+  not_passed : (done left : List (List ℕ)) (load path : List ℕ) (a b c d : DatabaseValue) (replies others : List Reply) → AreAlike a b → Answered (Some files) a done replies c → Wants c load (File path) → load_limit < length (contents files path)
+      → Answered (Some files) b (done ++ load ∷ left) others d → ⊥
+  not_passed [] left load path a b c d (r ∷ rs) others alike h wants over k = h
+  not_passed [] left load path a b c d [] [] alike h wants over k = k
+  not_passed [] left load path a b c d [] (o ∷ os) alike h wants over (also, (file, hands, rest)) =
+      not_handed a b load path file alike.schema (subst (λ (v : DatabaseValue). Wants v load (File path)) h wants) over hands
+  not_passed (t ∷ ts) left load path a b c d [] others alike h wants over k = h
+  not_passed (t ∷ ts) left load path a b c d (r ∷ rs) [] alike h wants over k = k
+  not_passed (t ∷ ts) left load path a b c d (r ∷ rs) (o ∷ os) alike (kept, (file, handed, (mid, replied, more))) wants over (also, (same, hands, (then, answers, rest))) =
+      let one = one_turn t a b mid then file same r o alike kept also handed hands replied answers in
+      not_passed ts left load path mid then c d rs os one.1 more wants over rest
 
-    one_stop : (spans : List Span) (m n : ℕ) (x y : Span) (path other : List ℕ) (a b c d : DatabaseValue) (replies others : List Reply) → AreAlike a b
-        → slice_get spans m ≡ Some x → Answered (Some files) a (texts_of script (take m spans)) replies c → Wants c (text_at script x) (File path) → load_limit < length (contents files path)
-        → slice_get spans n ≡ Some y → Answered (Some files) b (texts_of script (take n spans)) others d → Wants d (text_at script y) (File other) → load_limit < length (contents files other) → replies ≡ others
-    one_stop [] m n x y path other a b c d replies others alike next h wants over then k asks long = absurd (none_there m x next)
-    one_stop (s ∷ ss) zero zero x y path other a b c d [] [] alike next h wants over then k asks long = refl
-    one_stop (s ∷ ss) zero zero x y path other a b c d [] (o ∷ os) alike next h wants over then k asks long = absurd k
-    one_stop (s ∷ ss) zero n x y path other a b c d (r ∷ rs) others alike next h wants over then k asks long = absurd h
-    one_stop (s ∷ ss) zero (suc n) x y path other a b c d [] [] alike next h wants over then k asks long = absurd k
-    one_stop (s ∷ ss) zero (suc n) x y path other a b c d [] (o ∷ os) alike next h wants over then (also, (file, hands, rest)) asks long =
-        let first = first_there s x ss next in
-        absurd (not_handed a b (text_at script s) path file alike.schema (subst (λ (v : DatabaseValue). Wants v (text_at script s) (File path)) h (subst (λ (z : Span). Wants c (text_at script z) (File path)) first wants)) over hands)
-    one_stop (s ∷ ss) (suc m) n x y path other a b c d [] others alike next h wants over then k asks long = absurd h
-    one_stop (s ∷ ss) (suc m) zero x y path other a b c d (r ∷ rs) (o ∷ os) alike next h wants over then k asks long = absurd k
-    one_stop (s ∷ ss) (suc m) zero x y path other a b c d (r ∷ rs) [] alike next (kept, (file, handed, rest)) wants over then k asks long =
-        let first = first_there s y ss then in
-        absurd (not_handed b a (text_at script s) other file (sym alike.schema) (subst (λ (v : DatabaseValue). Wants v (text_at script s) (File other)) k (subst (λ (z : Span). Wants d (text_at script z) (File other)) first asks)) long handed)
-    one_stop (s ∷ ss) (suc m) (suc n) x y path other a b c d (r ∷ rs) [] alike next h wants over then k asks long = absurd k
-    one_stop (s ∷ ss) (suc m) (suc n) x y path other a b c d (r ∷ rs) (o ∷ os) alike next (kept, (file, handed, (mid, replied, more))) wants over then (also, (same, hands, (after, answers, rest))) asks long =
-        let one = one_turn (text_at script s) a b mid after file same r o alike kept also handed hands replied answers in
-        let later = one_stop ss m n x y path other mid after c d rs os one.1 next more wants over then rest asks long in
-        λ i. one.0 i ∷ later i
+  one_stop : (done past left behind : List (List ℕ)) (x y path other : List ℕ) (a b c d : DatabaseValue) (replies others : List Reply) → AreAlike a b → done ++ x ∷ left ≡ past ++ y ∷ behind
+      → Answered (Some files) a done replies c → Wants c x (File path) → load_limit < length (contents files path)
+      → Answered (Some files) b past others d → Wants d y (File other) → load_limit < length (contents files other) → replies ≡ others
+  one_stop [] [] left behind x y path other a b c d [] [] alike same h wants over k asks long = refl
+  one_stop [] [] left behind x y path other a b c d [] (o ∷ os) alike same h wants over k asks long = absurd k
+  one_stop [] past left behind x y path other a b c d (r ∷ rs) others alike same h wants over k asks long = absurd h
+  one_stop [] (t ∷ ts) left behind x y path other a b c d [] [] alike same h wants over k asks long = absurd k
+  one_stop [] (t ∷ ts) left behind x y path other a b c d [] (o ∷ os) alike same h wants over (also, (file, hands, rest)) asks long =
+      let first = first_same x t left (ts ++ y ∷ behind) same in
+      absurd (not_handed a b t path file alike.schema (subst (λ (v : DatabaseValue). Wants v t (File path)) h (subst (λ (z : List ℕ). Wants c z (File path)) first wants)) over hands)
+  one_stop (s ∷ ss) past left behind x y path other a b c d [] others alike same h wants over k asks long = absurd h
+  one_stop (s ∷ ss) [] left behind x y path other a b c d (r ∷ rs) (o ∷ os) alike same h wants over k asks long = absurd k
+  one_stop (s ∷ ss) [] left behind x y path other a b c d (r ∷ rs) [] alike same (kept, (file, handed, rest)) wants over k asks long =
+      let first = first_same s y (ss ++ x ∷ left) behind same in
+      absurd (not_handed b a s other file (sym alike.schema) (subst (λ (v : DatabaseValue). Wants v s (File other)) k (subst (λ (z : List ℕ). Wants d z (File other)) (sym first) asks)) long handed)
+  one_stop (s ∷ ss) (t ∷ ts) left behind x y path other a b c d (r ∷ rs) [] alike same h wants over k asks long = absurd k
+  one_stop (s ∷ ss) (t ∷ ts) left behind x y path other a b c d (r ∷ rs) (o ∷ os) alike same h wants over k asks long =
+      let first = first_same s t (ss ++ x ∷ left) (ts ++ y ∷ behind) same in
+      let rest = rest_same s t (ss ++ x ∷ left) (ts ++ y ∷ behind) same in
+      let k' : Answered (Some files) b (s ∷ ts) (o ∷ os) d = subst (λ (z : List ℕ). Answered (Some files) b (z ∷ ts) (o ∷ os) d) (sym first) k in
+      let (kept, (file, handed, (mid, replied, more))) = h in
+      let (also, (again, hands, (then, answers, later))) = k' in
+      let one = one_turn s a b mid then file again r o alike kept also handed hands replied answers in
+      let tails = one_stop ss ts left behind x y path other mid then c d rs os one.1 rest more wants over later asks long in
+      λ i. one.0 i ∷ tails i
 
-module _ (files : List AFile) (schema : SchemaValue) (script : List ℕ) (replies others : List Reply) where
-  abbrev first : DatabaseValue
-  first = empty_database schema
+-- ---- of the same run
 
-  pub one_list_of_replies : AnswersAll (Some files) schema script replies → AnswersAll (Some files) schema script others → replies ≡ others
-  one_list_of_replies h k =
-      let spans : k.spans ≡ h.spans = one_list_of_pieces script k.spans h.spans k.pieces h.pieces in
-      one_list files (texts_of script h.spans) first first h.last k.last replies others (itself first) h.answered (subst (λ (s : List Span). Answered (Some files) first (texts_of script s) others k.last) spans k.answered)
+module _ (names : Named) (files : List AFile) where
+  module _ (replies others : List Reply) (a b : DatabaseValue) (left behind : List (List ℕ)) (h : Answers names (Some files) replies a left) (k : Answers names (Some files) others b behind) where
+    one_schema : k.schema ≡ h.schema
+    one_schema = ok_schema k.schema h.schema (one_outcome (contents files names.schema) (Ok k.schema) (Ok h.schema) (schema_reads names files (Ok k.schema) k.read.accepted) (schema_reads names files (Ok h.schema) h.read.accepted))
 
-  pub stopped_or_all : (path : List ℕ) → AnswersBefore (Some files) schema script replies path → load_limit < length (contents files path) → AnswersAll (Some files) schema script others → ⊥
-  stopped_or_all path h over k =
-      let spans : k.spans ≡ h.spans = one_list_of_pieces script k.spans h.spans k.pieces h.pieces in
-      not_passed files script h.spans h.count h.span path first first h.last k.last replies others (itself first) h.next h.answered h.wanted over
-      (subst (λ (s : List Span). Answered (Some files) first (texts_of script s) others k.last) spans k.answered)
+    one_script : k.script ≡ h.script
+    one_script = k.read.is_script ∙ sym h.read.is_script
 
-  pub one_list_before : (path other : List ℕ) → AnswersBefore (Some files) schema script replies path → load_limit < length (contents files path) → AnswersBefore (Some files) schema script others other → load_limit < length (contents files other) → replies ≡ others
-  one_list_before path other h over k long =
-      let spans : k.spans ≡ h.spans = one_list_of_pieces script k.spans h.spans k.pieces h.pieces in
-      one_stop files script h.spans h.count k.count h.span k.span path other first first h.last k.last replies others (itself first) h.next h.answered h.wanted over
-      (subst (λ (s : List Span). slice_get s k.count ≡ Some k.span) spans k.next)
-      (subst (λ (s : List Span). Answered (Some files) first (texts_of script (take k.count s)) others k.last) spans k.answered)
-      k.wanted long
+    one_list_of_texts : h.done ++ left ≡ k.done ++ behind
+    one_list_of_texts =
+        let spans : k.spans ≡ h.spans = one_list_of_pieces h.script k.spans h.spans (subst (λ (s : List ℕ). Pieces s k.spans) one_script k.pieces) h.pieces in
+        sym h.statements ∙ ap (texts_of h.script) (sym spans) ∙ ap (λ (s : List ℕ). texts_of s k.spans) (sym one_script) ∙ k.statements
+
+    from_there : Answered (Some files) (empty_database h.schema) k.done others b
+    from_there = subst (λ (s : SchemaValue). Answered (Some files) (empty_database s) k.done others b) one_schema k.answered
+
+  pub one_list_of_replies : (replies others : List Reply) (a b : DatabaseValue) → Answers names (Some files) replies a [] → Answers names (Some files) others b [] → replies ≡ others
+  one_list_of_replies replies others a b h k =
+      let texts : h.done ≡ k.done = sym (append-nil h.done) ∙ one_list_of_texts replies others a b [] [] h k ∙ append-nil k.done in
+      one_list files h.done (empty_database h.schema) (empty_database h.schema) a b replies others (itself (empty_database h.schema)) h.answered
+      (subst (λ (ts : List (List ℕ)). Answered (Some files) (empty_database h.schema) ts others b) (sym texts) (from_there replies others a b [] [] h k))
+
+  pub stopped_or_all : (replies others : List Reply) (a b : DatabaseValue) (load path : List ℕ) (left : List (List ℕ)) → Answers names (Some files) replies a (load ∷ left) → Wants a load (File path) → load_limit < length (contents files path)
+      → Answers names (Some files) others b [] → ⊥
+  stopped_or_all replies others a b load path left h wants over k =
+      let texts : k.done ≡ h.done ++ load ∷ left = sym (append-nil k.done) ∙ sym (one_list_of_texts replies others a b (load ∷ left) [] h k) in
+      not_passed files h.done left load path (empty_database h.schema) (empty_database h.schema) a b replies others (itself (empty_database h.schema)) h.answered wants over
+      (subst (λ (ts : List (List ℕ)). Answered (Some files) (empty_database h.schema) ts others b) texts (from_there replies others a b (load ∷ left) [] h k))
+
+  pub one_list_before : (replies others : List Reply) (a b : DatabaseValue) (load also path other : List ℕ) (left behind : List (List ℕ))
+      → Answers names (Some files) replies a (load ∷ left) → Wants a load (File path) → load_limit < length (contents files path)
+      → Answers names (Some files) others b (also ∷ behind) → Wants b also (File other) → load_limit < length (contents files other) → replies ≡ others
+  one_list_before replies others a b load also path other left behind h wants over k asks long =
+      one_stop files h.done k.done left behind load also path other (empty_database h.schema) (empty_database h.schema) a b replies others (itself (empty_database h.schema))
+      (one_list_of_texts replies others a b (load ∷ left) (also ∷ behind) h k) h.answered wants over (from_there replies others a b (load ∷ left) (also ∷ behind) h k) asks long

@@ -7,15 +7,18 @@ use Rattle.su_answer.specs.Laws.{PreparedRowsAreLeast, AnswersAreTheExpression}
 use Rattle.su_session.specs.declared.replies.Reply.{Reply}
 use Rattle.su_session.specs.Reply.{Replied}
 use Rattle.su_session.specs.Laws.{RetrieveIsAnswered, RetrievesAreAnswered}
-use Rattle.sysu.specs.declared.status.Status.{Status}
-use Rattle.sysu.specs.declared.status.Status.TheVariants.{Done, SomeRefused}
-use Rattle.sysu.specs.Moments.{Moment}
-use Rattle.sysu.specs.HandOver.{HandsOver}
-use Rattle.sysu.specs.Written.{WroteAll}
-use Rattle.sysu.specs.RunFiles.{OfFiles}
+use Rattle.su_io.specs.declared.status.Status.{Status}
+use Rattle.su_io.specs.declared.status.Status.TheVariants.{Done, SomeRefused, NoMemory}
+use Rattle.su_io.specs.HandOver.{HandsOver}
+use Rattle.su_io.specs.Moments.{Moment}
+use Rattle.su_io.specs.Writing.{Wrote}
+use Rattle.su_session.specs.EmptyDatabase.{empty_database}
+use Rattle.sysu.specs.Output.{reply_texts}
+use Rattle.sysu.specs.Scripts.{Answers}
 use Rattle.sysu.specs.Statuses.{RunEnds, Comes}
 use Rattle.sysu.specs.RepliesTo.{IsReplyTo}
-use Rattle.sysu.specs.Headline.{QueriesAreAnswered, IsAnsweredRun, Headline}
+use Rattle.sysu.specs.Headline.{IsAnsweredRun, Headline}
+use Rattle.sysu.specs.inside.Queries.{QueriesAreAnswered}
 use Rattle.sysu.specs.Words.{Named}
 
 module _ (answered : RetrievesAreAnswered) (least : PreparedRowsAreLeast) (expression : AnswersAreTheExpression) where
@@ -49,29 +52,26 @@ module _ (answered : RetrievesAreAnswered) (least : PreparedRowsAreLeast) (expre
       (later.0, record { answered = (chain.0, (rest.0, rest.1, (rest.2.0, rest.2.1, later.1.answered))); well_kept = later.1.well_kept }, later.2)
 
 module _ (law : QueriesAreAnswered) (names : Named) (old new : Moment) where
-  of_all : (refused : Bool) → OfFiles names old (λ schema script. WroteAll old.files schema script old.told new.told refused) → OfFiles names old (λ schema script. IsAnsweredRun schema script old new)
-  of_all refused files = record {
-    schema = files.schema;
-    accepted = files.accepted;
-    script = files.script;
-    is_script = files.is_script;
-    script_fits = files.script_fits;
-    holds = record {
-      spans = files.holds.answers.spans;
-      pieces = files.holds.answers.pieces;
-      replies = files.holds.replies;
-      last = files.holds.answers.last;
-      answered = files.holds.answers.answered;
-      wrote = files.holds.wrote;
-      handed = files.holds.handed;
-      queries = law old.files _ files.holds.answers.last _ files.holds.replies files.holds.answers.answered;
-    };
+  of_all : (replies : List Reply) (last : DatabaseValue) → Answers names old.files replies last [] → Wrote old.told new.told (reply_texts replies) → IsAnsweredRun names old new
+  of_all replies last answers wrote = record {
+    replies = replies;
+    last = last;
+    answers = answers;
+    wrote = wrote;
+    queries = law old.files (empty_database answers.schema) last answers.done replies answers.answered;
   }
 
-  of_run : (status : Status) → (status ≡ Done) ⊎ (status ≡ SomeRefused) → RunEnds names old new status → OfFiles names old (λ schema script. IsAnsweredRun schema script old new)
-  of_run status (inl done) ends = of_all false (subst (RunEnds names old new) done ends).2
-  of_run status (inr some) ends = of_all _ (subst (RunEnds names old new) some ends).2
+  texts_told : (texts : List (List ℕ)) (replies : List Reply) → texts ≡ reply_texts replies → Wrote old.told new.told texts → Wrote old.told new.told (reply_texts replies)
+  texts_told texts replies are wrote = subst (Wrote old.told new.told) are wrote
+
+  of_done : RunEnds names old new Done → IsAnsweredRun names old new
+  of_done (inl ends) = let (due, (replies, last, answers, some, are)) = ends.holds in of_all replies last answers (texts_told ends.texts replies are ends.writing.1)
+  of_done (inr none) = absurd (let is : Done ≡ NoMemory = none.0 in cc)
+
+  of_some : RunEnds names old new SomeRefused → IsAnsweredRun names old new
+  of_some (inl ends) = let (due, (replies, last, answers, some, are)) = ends.holds in of_all replies last answers (texts_told ends.texts replies are ends.writing.1)
+  of_some (inr none) = absurd (let is : SomeRefused ≡ NoMemory = none.0 in cc)
 
 pub headline_of : QueriesAreAnswered → (words : List (List ℕ)) (old new : Moment) (status : Status) → HandsOver (Comes words old) new status → Headline words old new status
-headline_of law words old new status ends names known (inl done) = of_run law names old new Done (inl refl) ((subst (HandsOver (Comes words old) new) done ends).ran names known)
-headline_of law words old new status ends names known (inr some) = of_run law names old new SomeRefused (inr refl) ((subst (HandsOver (Comes words old) new) some ends).ran names known)
+headline_of law words old new status ends names known (inl done) = of_done law names old new ((subst (HandsOver (Comes words old) new) done ends).ran names known)
+headline_of law words old new status ends names known (inr some) = of_some law names old new ((subst (HandsOver (Comes words old) new) some ends).ran names known)

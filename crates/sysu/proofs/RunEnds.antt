@@ -1,87 +1,143 @@
--- How a run ends once its schema is read.
-use Rattle.std.proofs.Common.{◌≡◌, ◌≤◌, ◌∙◌, ◌⊎◌, ℕ, List, Option, Some, Ok, Err, length, inl, inr, subst}
+-- How a run ends, from how its files are read and its lines are told.
+use Rattle.std.proofs.Common.{◌≡◌, ◌≢◌, ◌≤◌, ◌∙◌, ◌⊎◌, ℕ, List, [], ◌∷◌, Option, Some, Ok, Err, length, refl, sym, ap, subst, inl, inr}
 use Rattle.su_io.specs.declared.files.File.{File}
+use Rattle.su_io.specs.declared.status.Status.{Status}
+use Rattle.su_io.specs.declared.status.Status.TheVariants.{Done, SomeRefused, Usage, BadSchema, ReadFault, WriteFault, TooLong, NoMemory}
+use Rattle.su_io.specs.Moments.{Moment, Told}
+use Rattle.su_io.specs.Programs.{ReadsAndTells}
+use Rattle.su_io.specs.Reading.{IsFile, FileEnds}
+use Rattle.su_io.specs.Writing.{Wrote, IsTold, WritingEnds}
+use Rattle.su_io.proofs.Programs.{ReadingEnds-from, WritingEnds-from}
+use Rattle.su_io.proofs.WrittenTexts.{Wrote-none}
 use Rattle.su_ddl.specs.Files.{Reads}
 use Rattle.su_ddl.specs.declared.faults.DdlFault.{DdlFault}
 use Rattle.su_ddl.specs.declared.faults.DdlFault.TheVariants.{NoMemory as OutOfMemory}
-use Rattle.su_show.specs.Refusals.{IsOfText}
 use Rattle.su_schema.specs.SchemaValue.{SchemaValue}
-use Rattle.su_session.specs.EmptyDatabase.{empty_database}
-use Rattle.sysu.specs.declared.status.Status.{Status}
-use Rattle.sysu.specs.declared.status.Status.TheVariants.{Done, SomeRefused, Usage, BadSchema, ReadFault, WriteFault, TooLong, NoMemory}
-use Rattle.sysu.specs.Moments.{Moment, NoFault}
-use Rattle.sysu.specs.Handed.{IsFile}
-use Rattle.sysu.specs.inside.Reads.{FileEnds}
-use Rattle.sysu.specs.Statements.{ScriptEnds, TookLoads}
-use Rattle.sysu.specs.RunFiles.{SchemaIs, OfFiles, schema_limit, script_limit}
-use Rattle.sysu.specs.Statuses.{RefusalEnds, RunEnds}
-use Rattle.sysu.specs.Taken.{TookWithin}
+use Rattle.su_show.specs.Refusals.{IsOfText, schema_line}
+use Rattle.sysu.specs.Due.{FallsDue}
+use Rattle.sysu.specs.inside.Lines.{LineEnds}
+use Rattle.sysu.specs.inside.Turns.{IsAtScript, ScriptEnds}
+use Rattle.sysu.specs.RunFiles.{SchemaIs, schema_limit, script_limit}
+use Rattle.sysu.specs.Statuses.{RunHas, RunEnds}
 use Rattle.sysu.specs.Words.{Named}
 
--- the schema file was read, and is refused
-module _ (names : Named) (old new : Moment) (bytes : List ℕ) (fault : DdlFault) (is_schema : IsFile old.files names.schema bytes) (fits : length bytes ≤ schema_limit)
-    (at_fault : (fault ≡ OutOfMemory) ⊎ Reads bytes (Err fault)) (reads : new.reads ≡ old.reads) (begun : new.begun ≡ Some names.schema) (taken : new.taken ≤ schema_limit) where
-  refused : IsOfText fault → SchemaIs names old (Err fault)
-  refused text = record {
-    bytes = bytes;
-    is_schema = is_schema;
-    fits = fits;
-    reads = elim at_fault [
-      | inl none ↦ absurd (subst IsOfText none text)
-      | inr read ↦ read
-    ];
+not_memory : (status : Status) → (status ≡ BadSchema) ⊎ (status ≡ WriteFault) → status ≢ NoMemory
+not_memory status (inl same) none = absurd (let both : BadSchema ≡ NoMemory = sym same ∙ none in cc)
+not_memory status (inr same) none = absurd (let both : WriteFault ≡ NoMemory = sym same ∙ none in cc)
+
+-- ---- a file that is due before anything is written
+
+module _ (names : Named) (old mid new : Moment) (path : List ℕ) (limit : ℕ) (due : FallsDue names old.files [] path limit) (files : mid.files ≡ old.files) (reads : mid.reads ≡ old.reads)
+    (begun : new.begun ≡ Some path) (told : new.told ≡ old.told) (writes : new.writes ≡ old.writes) where
+  nothing : Wrote old.told new.told []
+  nothing = rw told (Wrote-none old.told)
+
+  -- there was no memory behind it
+  pub no_memory : new.reads ≡ old.reads → new.taken ≤ limit → RunEnds names old new NoMemory
+  no_memory same taken =
+      inl record { path = path; limit = limit; texts = []; holds = (([], due), inl refl); begun = begun; reading = (same, taken); writing = (writes, nothing) }
+
+  -- it was not read
+  pub file_fails : (status : Status) → FileEnds path limit mid new (Err status) → RunEnds names old new status
+  file_fails ReadFault ends =
+      inl record { path = path; limit = limit; texts = []; holds = due; begun = begun; reading = ReadingEnds-from path limit old mid new files reads ReadFault ends; writing = (writes, nothing) }
+  file_fails TooLong ends =
+      inl record { path = path; limit = limit; texts = []; holds = due; begun = begun; reading = ReadingEnds-from path limit old mid new files reads TooLong ends; writing = (writes, nothing) }
+  file_fails NoMemory ends = no_memory (ends.0 ∙ reads) ends.1
+  file_fails Done ends = absurd ends
+  file_fails SomeRefused ends = absurd ends
+  file_fails Usage ends = absurd ends
+  file_fails BadSchema ends = absurd ends
+  file_fails WriteFault ends = absurd ends
+
+-- ---- the schema's file was read
+
+module _ (names : Named) (old mid new : Moment) (bytes : List ℕ) (is_schema : IsFile old.files names.schema bytes) (fits : length bytes ≤ schema_limit)
+    (reads : mid.reads ≡ old.reads) (begun : mid.begun ≡ Some names.schema) (taken : mid.taken ≤ schema_limit) (same_told : mid.told ≡ old.told) (writes : mid.writes ≡ old.writes) where
+  schema_due : FallsDue names old.files [] names.schema schema_limit
+  schema_due = inl (refl, refl, refl)
+
+  -- there was no memory for what it says
+  pub none_opened : RunEnds names old mid NoMemory
+  none_opened = inl record {
+    path = names.schema;
+    limit = schema_limit;
+    texts = [];
+    holds = (([], schema_due), inl refl);
+    begun = begun;
+    reading = (reads, taken);
+    writing = (writes, rw same_told (Wrote-none old.told));
   }
 
-  pub schema_refused : (status : Status) → RefusalEnds fault old.told old.writes new.told new.writes status → RunEnds names old new status
-  schema_refused BadSchema ends = (record { reads = reads; writes = ends.1 }, begun, taken, (fault, refused ends.0, ends.2))
-  schema_refused WriteFault ends = (reads, ends.1, inr (inl (begun, taken)), inl (fault, refused ends.0, ends.2))
-  schema_refused NoMemory ends = (record { reads = reads; writes = ends.0 }, inr (inl (begun, taken)), inl ends.1)
-  schema_refused Done ends = absurd ends
-  schema_refused SomeRefused ends = absurd ends
-  schema_refused Usage ends = absurd ends
-  schema_refused ReadFault ends = absurd ends
-  schema_refused TooLong ends = absurd ends
+  -- it is refused
+  module _ (fault : DdlFault) (at_fault : (fault ≡ OutOfMemory) ⊎ Reads bytes (Err fault)) where
+    refused : IsOfText fault → SchemaIs names old.files (Err fault)
+    refused text = record {
+      bytes = bytes;
+      is_schema = is_schema;
+      fits = fits;
+      reads = elim at_fault [
+        | inl none ↦ absurd (subst IsOfText none text)
+        | inr read ↦ read
+      ];
+    }
 
--- the script was not read
-pub script_fails : (names : Named) (old new : Moment) (files : Option (List File)) (between : ℕ) → files ≡ old.files → (schema : SchemaValue) × SchemaIs names old (Ok schema) → between ≡ old.reads → new.begun ≡ Some names.script
-    → new.writes ≡ old.writes → new.told ≡ old.told
-    → (status : Status) → FileEnds files names.script script_limit between new.reads new.taken new.failed (Err status) → RunEnds names old new status
-script_fails names old new files between stay accepts same begun writes written ReadFault ends = (rw (← same) ends.0, writes, ends.1, inl (inr (begun, accepts), written))
-script_fails names old new files between stay accepts same begun writes written TooLong ends = (record { reads = ends.0 ∙ same; writes = writes }, inl (inr (begun, ends.1, rw (← stay) ends.2, accepts), written))
-script_fails names old new files between stay accepts same begun writes written NoMemory ends = (record { reads = ends.0 ∙ same; writes = writes }, inr (inr (inl (begun, ends.1))), inl written)
-script_fails names old new files between stay accepts same begun writes written Done ends = absurd ends
-script_fails names old new files between stay accepts same begun writes written SomeRefused ends = absurd ends
-script_fails names old new files between stay accepts same begun writes written Usage ends = absurd ends
-script_fails names old new files between stay accepts same begun writes written BadSchema ends = absurd ends
-script_fails names old new files between stay accepts same begun writes written WriteFault ends = absurd ends
+    -- its line is told
+    line_told : (status : Status) → (status ≡ BadSchema) ⊎ (status ≡ WriteFault) → IsOfText fault → IsTold (schema_line fault) BadSchema mid new status → RunEnds names old new status
+    line_told status (inl same) text told = subst (RunEnds names old new) (sym same) (inl record {
+      path = names.schema;
+      limit = schema_limit;
+      texts = schema_line fault ∷ [];
+      holds = (refl, refl, (fault, refused text, refl));
+      begun = ap (λ (m : Moment). m.begun) told.rest ∙ begun;
+      reading = (ap (λ (m : Moment). m.reads) told.rest ∙ reads, rw (ap (λ (m : Moment). m.taken) told.rest) taken);
+      writing = WritingEnds-from (schema_line fault ∷ []) old mid new same_told writes BadSchema (subst (WritingEnds (schema_line fault ∷ []) mid new) same told.writing);
+    })
+    line_told status (inr same) text told = subst (RunEnds names old new) (sym same) (inl record {
+      path = names.schema;
+      limit = schema_limit;
+      texts = schema_line fault ∷ [];
+      holds = inl (refl, refl, (fault, refused text, refl));
+      begun = ap (λ (m : Moment). m.begun) told.rest ∙ begun;
+      reading = (ap (λ (m : Moment). m.reads) told.rest ∙ reads, rw (ap (λ (m : Moment). m.taken) told.rest) taken);
+      writing = WritingEnds-from (schema_line fault ∷ []) old mid new same_told writes WriteFault (subst (WritingEnds (schema_line fault ∷ []) mid new) same told.writing);
+    })
 
--- the script was read, and its statements were answered from there on
-module _ (names : Named) (old mid new : Moment) (bytes : List ℕ) (schema : SchemaValue) (script : List ℕ) (is_schema : IsFile old.files names.schema bytes) (schema_fits : length bytes ≤ schema_limit) (accepted : Reads bytes (Ok schema))
-    (is_script : IsFile old.files names.script script) (script_fits : length script ≤ script_limit) (files : mid.files ≡ old.files) (reads : mid.reads ≡ old.reads) (writes : mid.writes ≡ old.writes) (told : mid.told ≡ old.told)
-    (begun : mid.begun ≡ Some names.script) (taken : mid.taken ≤ script_limit) where
-  of_files : {P : SchemaValue → List ℕ → Type 0} → P schema script → OfFiles names old P
-  of_files holds = record { schema = schema; accepted = record { bytes = bytes; is_schema = is_schema; fits = schema_fits; reads = accepted }; script = script; is_script = is_script; script_fits = script_fits; holds = holds }
+    pub schema_refused : (status : Status) → (status ≢ NoMemory → IsOfText fault) → LineEnds (schema_line fault) BadSchema mid new status → RunEnds names old new status
+    schema_refused status text (inl told) = line_told status told.status_is (text (not_memory status told.status_is)) told
+    schema_refused status text (inr none) =
+        subst (RunEnds names old new) (sym none.0) (subst (λ (m : Moment). RunEnds names old m NoMemory) (sym none.1) none_opened)
 
-  no_fault : NoFault mid new → NoFault old new
-  no_fault none = record { reads = none.reads ∙ reads; writes = none.writes ∙ writes }
+-- ---- the script was read
 
-  took_within : TookLoads mid.files (empty_database schema) script mid.begun mid.taken new.begun new.taken → TookWithin names old new
-  took_within (inl same) = inr (inr (inl (same.0 ∙ begun, rw same.1 taken)))
-  took_within (inr load) = inr (inr (inr (of_files (rw (← files) load))))
+-- what its statements come to is what the run comes to
+pub script_answered : (names : Named) (old mid new : Moment) → mid.files ≡ old.files → mid.reads ≡ old.reads → mid.told ≡ old.told → mid.writes ≡ old.writes → (status : Status) → ScriptEnds names mid new status → RunEnds names old new status
+script_answered names old mid new files reads told writes status ends = inl record {
+  path = ends.path;
+  limit = ends.limit;
+  texts = ends.texts;
+  holds = subst (λ (fs : Option (List File)). RunHas names fs status ends.path ends.limit ends.texts) files ends.holds;
+  begun = ends.begun;
+  reading = ReadingEnds-from ends.path ends.limit old mid new files reads status ends.reading;
+  writing = WritingEnds-from ends.texts old mid new told writes status ends.writing;
+}
 
-  pub script_answered : (status : Status) → ScriptEnds schema script mid new status → RunEnds names old new status
-  script_answered Done ends = (no_fault ends.0, took_within ends.1, of_files (rw (← files, ← told) ends.2))
-  script_answered SomeRefused ends = (no_fault ends.0, took_within ends.1, of_files (rw (← files, ← told) ends.2))
-  script_answered ReadFault ends = (rw (← reads) ends.0, ends.1 ∙ writes, ends.2, inr (of_files (rw (← files, ← told) ends.3)))
-  script_answered WriteFault ends = (ends.0 ∙ reads, rw (← writes) ends.1, took_within ends.2, inr (of_files (rw (← files, ← told) ends.3)))
-  script_answered TooLong ends = (no_fault ends.0, inr (of_files (rw (← files, ← told) ends.2, ends.1, rw (← files) ends.3)))
-  script_answered NoMemory ends = (
-    no_fault ends.0,
-    took_within ends.1,
-    elim ends.2 [
-      | inl same ↦ inl (same ∙ told)
-      | inr first ↦ inr (of_files (rw (← files, ← told) first))
-    ],
-  )
-  script_answered Usage ends = absurd ends
-  script_answered BadSchema ends = absurd ends
+-- the script is read, and answered from there on
+pub script_read : (names : Named) (old mid late new : Moment) (bytes : List ℕ) (schema : SchemaValue) (script : List ℕ) → IsFile old.files names.schema bytes → length bytes ≤ schema_limit → Reads bytes (Ok schema)
+    → mid.files ≡ old.files → mid.reads ≡ old.reads → mid.told ≡ old.told → mid.writes ≡ old.writes
+    → late ≡ record mid { begun = Some names.script; taken = late.taken; failed = late.failed; reads = late.reads } → FileEnds names.script script_limit mid late (Ok script)
+    → (status : Status) → (IsAtScript names schema script late → ScriptEnds names late new status) → RunEnds names old new status
+script_read names old mid late new bytes schema script is_schema fits accepted files reads told writes again ends status answered =
+    let same_files : late.files ≡ mid.files = ap (λ (m : Moment). m.files) again in
+    let same_told : late.told ≡ mid.told = ap (λ (m : Moment). m.told) again in
+    let same_writes : late.writes ≡ mid.writes = ap (λ (m : Moment). m.writes) again in
+    let own_files : late.files ≡ old.files = same_files ∙ files in
+    script_answered names old late new own_files (ends.0 ∙ reads) (same_told ∙ told) (same_writes ∙ writes) status (answered record {
+      read = record {
+        accepted = record { bytes = bytes; is_schema = rw own_files is_schema; fits = fits; reads = accepted };
+        is_script = rw same_files ends.2;
+        fits = ends.3;
+      };
+      begun = ap (λ (m : Moment). m.begun) again;
+      taken = ends.1;
+    })

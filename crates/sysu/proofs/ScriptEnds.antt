@@ -1,123 +1,220 @@
--- How a script ends at a statement that stops it.
+-- How a script ends: behind its last statement, or at one that stops it.
 use Rattle.std.proofs.lemmas.List.{take_all}
-use Rattle.std.proofs.Common.{◌≡◌, ◌<◌, ◌≤◌, ◌∙◌, ℕ, List, Option, Bool, Err, take, length, get_or, ap, inl, inr}
-use Rattle.std.proofs.lemmas.Option.{slice_get-get_or}
+use Rattle.std.proofs.Common.{◌≡◌, ◌<◌, ◌≤◌, ◌∙◌, ◌⊎◌, ◌++◌, ℕ, List, [], ◌∷◌, Option, Some, Bool, true, false, Err, take, drop, length, get_or, suc, refl, sym, ap, inl, inr, append-nil, append_assoc}
+use Rattle.su_io.specs.declared.files.File.{File as AFile}
+use Rattle.su_io.specs.declared.status.Status.{Status}
+use Rattle.su_io.specs.declared.status.Status.TheVariants.{Done, SomeRefused, Usage, BadSchema, ReadFault, WriteFault, TooLong, NoMemory}
+use Rattle.su_io.specs.Moments.{Moment, Told}
+use Rattle.su_io.specs.Writing.{Wrote}
+use Rattle.su_io.proofs.Programs.{ReadingEnds-from}
+use Rattle.su_io.proofs.WrittenTexts.{Wrote-none, WroteFront-behind}
 use Rattle.su_lex.specs.declared.spans.Span.{Span}
 use Rattle.su_lex.specs.Pieces.{Pieces}
 use Rattle.su_schema.specs.SchemaValue.{SchemaValue}
 use Rattle.su_state.specs.DatabaseValue.{DatabaseValue}
 use Rattle.su_session.specs.EmptyDatabase.{empty_database}
 use Rattle.su_session.specs.declared.replies.Reply.{Reply}
-use Rattle.su_io.specs.declared.files.File.{File}
-use Rattle.sysu.proofs.RepliesSoFar.{SoFar, front_more}
-use Rattle.sysu.specs.declared.status.Status.{Status}
-use Rattle.sysu.specs.declared.status.Status.TheVariants.{Done, SomeRefused, Usage, BadSchema, ReadFault, WriteFault, TooLong, NoMemory}
-use Rattle.sysu.specs.inside.HandedFiles.{Shelved, Began, TookOne}
-use Rattle.sysu.specs.Moments.{Moment, NoFault}
-use Rattle.sysu.specs.Output.{Answered, text_at, texts_of}
-use Rattle.sysu.specs.Statements.{ScriptEnds, TookLoads}
-use Rattle.sysu.specs.Written.{StoppedAtLoad, WroteAll}
-use Rattle.sysu.specs.inside.Turns.{Sunk, TurnEnds}
+use Rattle.su_session.specs.declared.wants.Want.TheVariants.{File}
+use Rattle.su_session.specs.WantedFiles.{Wants}
+use Rattle.sysu.proofs.RepliesSoFar.{SoFar, answered_more, reply_texts-push, texts_around}
+use Rattle.sysu.specs.Due.{FallsDue, IsDue}
+use Rattle.sysu.specs.Handed.{load_limit}
+use Rattle.sysu.specs.inside.HandedFiles.{HasTaken}
+use Rattle.sysu.specs.inside.Turns.{AnsweredOne, IsAtScript, ScriptEnds, StopsAtFile, TurnEnds}
+use Rattle.sysu.specs.Output.{Answered, reply_texts, text_at, texts_of}
+use Rattle.sysu.specs.RunFiles.{script_limit}
+use Rattle.sysu.specs.Scripts.{Answers}
+use Rattle.sysu.specs.Words.{Named}
 
-abbrev pub place_of : Moment → Shelved
-place_of m = record { begun = m.begun; taken = m.taken; failed = m.failed; faults = m.reads }
+-- a statement of the script is a load from this file
+pub record Loads (files : Option (List AFile)) (script : List ℕ) (spans : List Span) (first : DatabaseValue) (path : List ℕ) : Type 0 where
+  pub done : List (List ℕ)
+  pub load : List ℕ
+  pub left : List (List ℕ)
+  pub statements : texts_of script spans ≡ done ++ load ∷ left
+  pub replies : List Reply
+  pub last : DatabaseValue
+  pub answered : Answered files first done replies last
+  pub wanted : Wants last load (File path)
 
-abbrev pub sink_of : Moment → Sunk
-sink_of m = record { told = m.told; faults = m.writes }
+-- no file was begun, or no more than the limit was taken of that of a load
+abbrev pub TookLoads : List ℕ → List Span → DatabaseValue → Moment → Moment → Type 0
+TookLoads script spans first old new =
+    ((new.begun ≡ old.begun) × (new.taken ≡ old.taken)) ⊎ ((path : List ℕ) × Loads old.files script spans first path × (new.begun ≡ Some path) × (new.taken ≤ load_limit))
 
 -- after one more statement, the one at place i, which took the file of a load or none
-pub took_more : (files : Option (List File)) (first : DatabaseValue) (script : List ℕ) (spans : List Span) (i : ℕ) (d : Span) (replies : List Reply) (db : DatabaseValue)
-    (begun : Option (List ℕ)) (taken : ℕ) (before after : Shelved)
-    → Pieces script spans → i < length spans → Answered files first (texts_of script (take i spans)) replies db
-    → TookLoads files first script begun taken before.begun before.taken → TookOne db (text_at script (get_or spans i d)) before after
-    → TookLoads files first script begun taken after.begun after.taken
-took_more files first script spans i d replies db begun taken before after pieces within answered took (inl same) = rw (same.begun, same.taken) took
-took_more files first script spans i d replies db begun taken before after pieces within answered took (inr one) = inr (
-  one.0,
-  record {
+pub took_more : (script : List ℕ) (spans : List Span) (i : ℕ) (d : Span) (replies : List Reply) (first db : DatabaseValue) (old between new : Moment) → i < length spans → Answered old.files first (texts_of script (take i spans)) replies db
+    → TookLoads script spans first old between → HasTaken db (text_at script (get_or spans i d)) between new → TookLoads script spans first old new
+took_more script spans i d replies first db old between new within answered took taken = elim taken.took [
+  | inl same ↦ elim took [
+    | inl before ↦ inl (same.0 ∙ before.0, same.1 ∙ before.1)
+    | inr load ↦ inr (load.0, load.1, same.0 ∙ load.2, rw same.1 load.3)
+  ]
+  | inr one ↦ inr (
+    one.0,
+    record {
+      done = texts_of script (take i spans);
+      load = text_at script (get_or spans i d);
+      left = texts_of script (drop (suc i) spans);
+      statements = texts_around script spans i d within;
+      replies = replies;
+      last = db;
+      answered = answered;
+      wanted = one.1.wanted;
+    },
+    one.1.begun,
+    one.2,
+  )
+]
+
+-- the file begun last, of which no more than its limit was taken
+record LastFile (names : Named) (files : Option (List AFile)) (new : Moment) : Type 0 where
+  pub path : List ℕ
+  pub limit : ℕ
+  pub due : IsDue names files path limit
+  pub begun : new.begun ≡ Some path
+  pub taken : new.taken ≤ limit
+
+-- there was no memory for the statements
+pub none_answered : (names : Named) (schema : SchemaValue) (script : List ℕ) (old : Moment) → IsAtScript names schema script old → ScriptEnds names old old NoMemory
+none_answered names schema script old at = record {
+  path = names.script;
+  limit = script_limit;
+  texts = [];
+  holds = (([], inr (inl (refl, refl, refl, (schema, at.read.accepted)))), inl refl);
+  begun = at.begun;
+  reading = (refl, at.taken);
+  writing = (refl, Wrote-none old.told);
+}
+
+module _ (names : Named) (schema : SchemaValue) (script : List ℕ) (spans : List Span) (first : DatabaseValue) (old : Moment)
+    (opened : first ≡ empty_database schema) (at : IsAtScript names schema script old) (pieces : Pieces script spans) where
+  answers : (done left : List (List ℕ)) (replies : List Reply) (last : DatabaseValue) → texts_of script spans ≡ done ++ left → Answered old.files first done replies last → Answers names old.files replies last left
+  answers done left replies last statements answered = record {
+    schema = schema;
+    script = script;
+    read = at.read;
     spans = spans;
     pieces = pieces;
-    count = i;
-    span = get_or spans i d;
-    next = slice_get-get_or spans i d within;
-    replies = replies;
-    db = db;
-    answered = answered;
-    wanted = one.1.wanted;
-  },
-  one.1.begun,
-  one.3,
-)
-
--- the statement at place i stops the script
-module _ (script : List ℕ) (spans : List Span) (i : ℕ) (d : Span) (first mid last : DatabaseValue) (refused : Bool) (schema : SchemaValue) (old between new : Moment)
-    (opened : first ≡ empty_database schema) (pieces : Pieces script spans) (within : i < length spans) (files : between.files ≡ old.files) (reads : between.reads ≡ old.reads) (writes : between.writes ≡ old.writes)
-    (took : TookLoads old.files first script old.begun old.taken between.begun between.taken)
-    (so_far : SoFar old.files script (take i spans) first mid refused old.told between.told) where
-  took_here : TookOne mid (text_at script (get_or spans i d)) (place_of between) (place_of new) → TookLoads old.files (empty_database schema) script old.begun old.taken new.begun new.taken
-  took_here one = rw (← opened) (took_more old.files first script spans i d so_far.replies mid old.begun old.taken (place_of between) (place_of new) pieces within so_far.answered took one)
-
-  stopped_at : (path : List ℕ) → Began mid (text_at script (get_or spans i d)) path (place_of new) → sink_of new ≡ sink_of between
-      → StoppedAtLoad old.files schema script new.begun old.told new.told
-  stopped_at path began same = record {
-    path = path;
-    begun_is = began.begun;
-    replies = so_far.replies;
-    answers = record {
-      spans = spans;
-      pieces = pieces;
-      count = i;
-      span = get_or spans i d;
-      next = slice_get-get_or spans i d within;
-      last = mid;
-      answered = rw (← opened) so_far.answered;
-      wanted = began.wanted;
-    };
-    wrote = rw (ap (λ (s : Sunk). s.told) same) so_far.wrote;
-    handed = rw (ap (λ (s : Sunk). s.told) same) so_far.handed;
+    done = done;
+    statements = statements;
+    answered = rw (← opened) answered;
   }
 
-  pub script_stops : (status : Status) → TurnEnds between.files mid (text_at script (get_or spans i d)) last (place_of between) (place_of new) (sink_of between) (sink_of new) (Err status)
-      → ScriptEnds schema script old new status
-  script_stops ReadFault ends = (rw (← reads) ends.0.2, ap (λ (s : Sunk). s.faults) ends.1 ∙ writes, ends.0.3, stopped_at ends.0.0 ends.0.1 ends.1)
-  script_stops TooLong ends =
-      (record { reads = ends.0.2 ∙ reads; writes = ap (λ (s : Sunk). s.faults) ends.1 ∙ writes }, ends.0.3, stopped_at ends.0.0 ends.0.1 ends.1, (ends.0.0, ends.0.1.begun, rw (← files) ends.0.4))
-  script_stops WriteFault ends = (
-    ends.0 ∙ reads,
-    rw (← writes) ends.1,
-    took_here ends.2,
-    front_more old.files script spans i d first mid last refused ends.3.1.file ends.3.0 old.told between.told within so_far ends.3.1.kept (rw (← files) ends.3.1.handed) ends.3.1.replied schema opened pieces new.told
-        ends.3.2.0 ends.3.2.1 ends.3.2.2,
-  )
-  script_stops NoMemory ends = (
-    record { reads = ends.0 ∙ reads; writes = ap (λ (s : Sunk). s.faults) ends.2 ∙ writes },
-    took_here ends.1,
-    inr record {
-      replies = so_far.replies;
-      answers = record { spans = spans; pieces = pieces; count = i; last = mid; answered = rw (← opened) so_far.answered };
-      wrote = rw (ap (λ (s : Sunk). s.told) ends.2) so_far.wrote;
-      handed = rw (ap (λ (s : Sunk). s.told) ends.2) so_far.handed;
-    },
-  )
-  script_stops Done ends = absurd ends
-  script_stops SomeRefused ends = absurd ends
-  script_stops Usage ends = absurd ends
-  script_stops BadSchema ends = absurd ends
+  last_file : (new : Moment) → TookLoads script spans first old new → LastFile names old.files new
+  last_file new (inl same) = record {
+    path = names.script;
+    limit = script_limit;
+    due = ([], inr (inl (refl, refl, refl, (schema, at.read.accepted))));
+    begun = same.0 ∙ at.begun;
+    taken = rw same.1 at.taken;
+  }
+  last_file new (inr (path, loads, begun, taken)) = record {
+    path = path;
+    limit = load_limit;
+    due = (
+      reply_texts loads.replies,
+      inr (inr ((loads.replies, loads.last, loads.load, loads.left, answers loads.done (loads.load ∷ loads.left) loads.replies loads.last loads.statements loads.answered, loads.wanted, refl), refl)),
+    );
+    begun = begun;
+    taken = taken;
+  }
 
--- all statements of the script were answered
-module _ (script : List ℕ) (spans : List Span) (i : ℕ) (first last : DatabaseValue) (refused : Bool) (schema : SchemaValue) (old new : Moment)
-    (opened : first ≡ empty_database schema) (pieces : Pieces script spans) (all : length spans ≤ i) (reads : new.reads ≡ old.reads) (writes : new.writes ≡ old.writes)
-    (took : TookLoads old.files first script old.begun old.taken new.begun new.taken)
-    (so_far : SoFar old.files script (take i spans) first last refused old.told new.told) where
-  pub script_done : (b : Bool) → refused ≡ b → NoFault old new × TookLoads old.files (empty_database schema) script old.begun old.taken new.begun new.taken × WroteAll old.files schema script old.told new.told b
-  script_done b same = (
-    record { reads = reads; writes = writes },
-    rw (← opened) took,
-    record {
-      replies = so_far.replies;
-      answers = record { spans = spans; pieces = pieces; last = last; answered = rw (← opened) (rw (take_all i spans all) at so_far.answered) };
-      refused_is = so_far.refused_is ∙ same;
-      wrote = so_far.wrote;
-      handed = so_far.handed;
-    },
-  )
+  -- all statements were answered
+  module _ (i : ℕ) (last : DatabaseValue) (refused : Bool) (new : Moment) (all : length spans ≤ i) (reads : new.reads ≡ old.reads) (writes : new.writes ≡ old.writes)
+      (took : TookLoads script spans first old new) (so_far : SoFar old.files script (take i spans) first last refused old.told new.told) where
+    all_answers : Answers names old.files so_far.replies last []
+    all_answers = answers (texts_of script spans) [] so_far.replies last (sym (append-nil (texts_of script spans))) (rw (take_all i spans all) at so_far.answered)
+
+    pub done_well : refused ≡ false → ScriptEnds names old new Done
+    done_well same = let file = last_file new took in record {
+      path = file.path;
+      limit = file.limit;
+      texts = reply_texts so_far.replies;
+      holds = (file.due, (so_far.replies, last, all_answers, so_far.refused_is ∙ same, refl));
+      begun = file.begun;
+      reading = (reads, file.taken);
+      writing = (writes, so_far.wrote);
+    }
+
+    pub done_refused : refused ≡ true → ScriptEnds names old new SomeRefused
+    done_refused same = let file = last_file new took in record {
+      path = file.path;
+      limit = file.limit;
+      texts = reply_texts so_far.replies;
+      holds = (file.due, (so_far.replies, last, all_answers, so_far.refused_is ∙ same, refl));
+      begun = file.begun;
+      reading = (reads, file.taken);
+      writing = (writes, so_far.wrote);
+    }
+
+  -- the statement at place i stops the script
+  module _ (i : ℕ) (d : Span) (mid next : DatabaseValue) (refused : Bool) (between new : Moment) (within : i < length spans) (files : between.files ≡ old.files) (reads : between.reads ≡ old.reads) (writes : between.writes ≡ old.writes)
+      (took : TookLoads script spans first old between) (so_far : SoFar old.files script (take i spans) first mid refused old.told between.told) where
+    abbrev text : List ℕ
+    text = text_at script (get_or spans i d)
+
+    abbrev left : List (List ℕ)
+    left = texts_of script (drop (suc i) spans)
+
+    file_here : HasTaken mid text between new → LastFile names old.files new
+    file_here taken = last_file new (took_more script spans i d so_far.replies first mid old between new within so_far.answered took taken)
+
+    here : Answers names old.files so_far.replies mid (text ∷ left)
+    here = answers (texts_of script (take i spans)) (text ∷ left) so_far.replies mid (texts_around script spans i d within) so_far.answered
+
+    due_here : (path : List ℕ) → Wants mid text (File path) → FallsDue names old.files (reply_texts so_far.replies) path load_limit
+    due_here path wanted = inr (inr ((so_far.replies, mid, text, left, here, wanted, refl), refl))
+
+    wrote_here : new.told ≡ between.told → Wrote old.told new.told (reply_texts so_far.replies)
+    wrote_here same = rw same so_far.wrote
+
+    behind : (reply : Reply) → AnsweredOne old.files mid text next reply → Answers names old.files (so_far.replies ++ reply ∷ []) next left
+    behind reply one = answers (texts_of script (take i spans) ++ text ∷ []) left (so_far.replies ++ reply ∷ []) next
+        (texts_around script spans i d within ∙ sym (append_assoc (texts_of script (take i spans)) (text ∷ []) left))
+        (answered_more old.files script spans i d first mid next refused one.file reply old.told between.told within so_far one.kept one.handed one.replied)
+
+    pub script_stops : (status : Status) → TurnEnds mid text next between new (Err status) → ScriptEnds names old new status
+    script_stops ReadFault ends = record {
+      path = ends.path;
+      limit = load_limit;
+      texts = reply_texts so_far.replies;
+      holds = due_here ends.path ends.began.wanted;
+      begun = ends.began.begun;
+      reading = ReadingEnds-from ends.path load_limit old between new files reads ReadFault ends.reading;
+      writing = (ends.writes ∙ writes, wrote_here ends.told);
+    }
+    script_stops TooLong ends = record {
+      path = ends.path;
+      limit = load_limit;
+      texts = reply_texts so_far.replies;
+      holds = due_here ends.path ends.began.wanted;
+      begun = ends.began.begun;
+      reading = ReadingEnds-from ends.path load_limit old between new files reads TooLong ends.reading;
+      writing = (ends.writes ∙ writes, wrote_here ends.told);
+    }
+    script_stops WriteFault ends =
+        let file = file_here ends.0 in
+        let reply = ends.2.0 in
+        record {
+          path = file.path;
+          limit = file.limit;
+          texts = reply_texts (so_far.replies ++ reply ∷ []);
+          holds = inr (file.due, (so_far.replies ++ reply ∷ [], next, left, behind reply (rw (← files) ends.2.1), refl));
+          begun = file.begun;
+          reading = (ends.0.reads ∙ reads, file.taken);
+          writing = (rw (← writes) ends.1, rw (reply_texts-push so_far.replies reply) (WroteFront-behind old.told between.told new.told (reply_texts so_far.replies) (reply.bytes ∷ []) so_far.wrote ends.2.2));
+        }
+    script_stops NoMemory ends = let file = file_here ends.0 in record {
+      path = file.path;
+      limit = file.limit;
+      texts = reply_texts so_far.replies;
+      holds = (file.due, inr (so_far.replies, mid, text ∷ left, here, refl));
+      begun = file.begun;
+      reading = (ends.0.reads ∙ reads, file.taken);
+      writing = (ends.1 ∙ writes, wrote_here ends.2);
+    }
+    script_stops Done ends = absurd ends
+    script_stops SomeRefused ends = absurd ends
+    script_stops Usage ends = absurd ends
+    script_stops BadSchema ends = absurd ends

@@ -1,41 +1,38 @@
 -- Two runs agree: each of them is one of the same few outcomes, which its files and words alone determine.
-use Rattle.std.proofs.Common.{◌≡◌, ◌≢◌, ◌≤◌, ◌<◌, ◌⊎◌, ℕ, Bool, true, false, List, [], ◌++◌, length, Option, Some, None, Result, Ok, Err, append-nil, refl, ap, sym, ◌∙◌, subst, inl, inr, arith}
+use Rattle.std.proofs.Common.{◌≡◌, ◌≢◌, ◌≤◌, ◌<◌, ◌⊎◌, ℕ, Bool, true, false, List, [], ◌∷◌, ◌++◌, length, Option, Some, None, Result, Ok, Err, append-nil, refl, ap, sym, ◌∙◌, subst, inl, inr, arith}
 use Rattle.std.proofs.lemmas.List.{append_cancel_left}
 use Rattle.su_io.specs.declared.files.File.{File as AFile}
+use Rattle.su_io.specs.declared.status.Status.{Status}
+use Rattle.su_io.specs.declared.status.Status.TheVariants.{Done, SomeRefused, Usage, BadSchema, ReadFault, WriteFault, TooLong, NoMemory}
 use Rattle.su_io.specs.Causes.{Rose}
 use Rattle.su_io.specs.Ends.{Grew}
 use Rattle.su_io.specs.Files.{contents}
-use Rattle.su_check.specs.declared.verdicts.Checked.{Checked}
-use Rattle.su_check.specs.declared.verdicts.Checked.TheVariants.{Yes, No}
+use Rattle.su_io.specs.HandOver.{HandsOver}
+use Rattle.su_io.specs.Moments.{Moment}
+use Rattle.su_io.specs.Programs.{Tells}
+use Rattle.su_io.specs.Writing.{joined, Wrote}
 use Rattle.su_check.specs.Verdict.{IsVerdict}
 use Rattle.su_check.proofs.OneVerdict.{one_verdict}
 use Rattle.su_ddl.specs.declared.faults.DdlFault.{DdlFault}
-use Rattle.su_ddl.specs.Files.{Reads}
+use Rattle.su_ddl.proofs.Files.{one_outcome}
 use Rattle.su_schema.specs.SchemaValue.{SchemaValue}
 use Rattle.su_show.specs.Refusals.{schema_line}
 use Rattle.su_show.specs.Verdicts.{verdict_line}
+use Rattle.su_state.specs.DatabaseValue.{DatabaseValue}
 use Rattle.su_session.specs.declared.replies.Reply.{Reply}
-use Rattle.su_once.proofs.OneOutcome.{one_outcome}
 use Rattle.su_bank.specs.Banks.{IsBankText}
-use Rattle.sysu.specs.declared.status.Status.{Status}
-use Rattle.sysu.specs.declared.status.Status.TheVariants.{Done, SomeRefused, Usage, BadSchema, ReadFault, WriteFault, TooLong, NoMemory}
 use Rattle.sysu.specs.TwoRuns.{Ran, AreEqualButForWorkers, TwoRunsAgree}
 use Rattle.sysu.specs.Causes.{Caused}
-use Rattle.sysu.specs.Checks.{IsYes, IsNo, OfVerdict, check_limit}
-use Rattle.sysu.specs.HandOver.{HandsOver}
-use Rattle.sysu.specs.Moments.{Moment, Told, WroteWhole}
-use Rattle.sysu.specs.Handed.{IsFile, IsOver, load_limit}
-use Rattle.sysu.specs.Scripts.{AnswersAll, AnswersBefore}
-use Rattle.sysu.specs.Output.{output_of, some_refused}
-use Rattle.sysu.specs.Written.{WroteAll, StoppedAtLoad, BeganOver}
-use Rattle.sysu.specs.RunFiles.{OfFiles, SchemaIs, schema_limit, script_limit}
-use Rattle.sysu.specs.Taken.{TookTooMuch}
-use Rattle.sysu.specs.Statuses.{Comes}
+use Rattle.sysu.specs.Checks.{status_by, IsVerdictLine, CheckEnds, check_limit}
+use Rattle.sysu.specs.Due.{FallsDue}
+use Rattle.sysu.specs.Output.{reply_texts, some_refused}
+use Rattle.sysu.specs.RunFiles.{SchemaIs, schema_limit, script_limit}
+use Rattle.sysu.specs.Scripts.{Answers}
+use Rattle.sysu.specs.Statuses.{Comes, RunEnds}
 use Rattle.sysu.specs.Words.{Named, named, checks, Generates, usage_line}
+use Rattle.sysu.proofs.Completeness.{schema_reads, not_both as read_or_refused}
 use Rattle.sysu.proofs.OneBank.{Asks, for_bank, for_none, asked, one_bank}
 use Rattle.sysu.proofs.OneList.{one_list_of_replies, one_list_before, stopped_or_all}
-use Rattle.su_ddl.proofs.Files.{one_outcome as same_outcome}
-use Rattle.sysu.proofs.Completeness.{ok_schema, not_both as read_or_refused}
 
 -- ---- outcomes
 
@@ -43,96 +40,94 @@ abbrev status_of : Bool → Status
 status_of true = SomeRefused
 status_of false = Done
 
-abbrev status_by : Checked → Status
-status_by (Yes count) = Done
-status_by (No fault) = SomeRefused
-
--- neither file of a run is past its limit
-record Fit (files : List AFile) (names : Named) : Type 0 where
-  pub schema : length (contents files names.schema) ≤ schema_limit
-  pub script : length (contents files names.script) ≤ script_limit
-
--- of a run: its replies, the line for its schema, or nothing or the replies before a load where a file is too long
-data Outcome (files : List AFile) (names : Named) (text : List ℕ) (status : Status) : Type 0 where
-  finished : Fit files names → (schema : SchemaValue) → Reads (contents files names.schema) (Ok schema) → (replies : List Reply) → AnswersAll (Some files) schema (contents files names.script) replies
-      → text ≡ output_of replies → status ≡ status_of (some_refused replies) → Outcome files names text status
-  bad_schema : length (contents files names.schema) ≤ schema_limit → (fault : DdlFault) → Reads (contents files names.schema) (Err fault) → text ≡ schema_line fault → status ≡ BadSchema → Outcome files names text status
-  long_schema : schema_limit < length (contents files names.schema) → text ≡ [] → status ≡ TooLong → Outcome files names text status
-  long_script : script_limit < length (contents files names.script) → (schema : SchemaValue) → Reads (contents files names.schema) (Ok schema) → length (contents files names.schema) ≤ schema_limit
-      → text ≡ [] → status ≡ TooLong → Outcome files names text status
-  long_load : Fit files names → (schema : SchemaValue) → Reads (contents files names.schema) (Ok schema) → (path : List ℕ) → (replies : List Reply) → AnswersBefore (Some files) schema (contents files names.script) replies path
-      → load_limit < length (contents files path) → text ≡ output_of replies → status ≡ TooLong → Outcome files names text status
+-- of a run: its replies, the line for its schema, or the texts before a file that is too long
+data Outcome (names : Named) (files : List AFile) (text : List ℕ) (status : Status) : Type 0 where
+  finished : (replies : List Reply) → (last : DatabaseValue) → Answers names (Some files) replies last [] → text ≡ joined (reply_texts replies) → status ≡ status_of (some_refused replies) → Outcome names files text status
+  bad_schema : (fault : DdlFault) → SchemaIs names (Some files) (Err fault) → text ≡ joined (schema_line fault ∷ []) → status ≡ BadSchema → Outcome names files text status
+  too_long : (texts : List (List ℕ)) → (path : List ℕ) → (limit : ℕ) → FallsDue names (Some files) texts path limit → limit < length (contents files path) → text ≡ joined texts → status ≡ TooLong → Outcome names files text status
 
 -- of a check
 data Verdict (files : List AFile) (file text : List ℕ) (status : Status) : Type 0 where
-  told : length (contents files file) ≤ check_limit → (verdict : Checked) → IsVerdict (contents files file) verdict → text ≡ verdict_line verdict → status ≡ status_by verdict → Verdict files file text status
-  long : check_limit < length (contents files file) → text ≡ [] → status ≡ TooLong → Verdict files file text status
+  has_verdict : (came : Status) → (line : List ℕ) → IsVerdictLine file (Some files) came line → text ≡ joined (line ∷ []) → status ≡ came → Verdict files file text status
+  over_limit : check_limit < length (contents files file) → text ≡ [] → status ≡ TooLong → Verdict files file text status
 
 same_fault : (x y : DdlFault) → ◌≡◌ {A = Result SchemaValue DdlFault} (Err x) (Err y) → x ≡ y
 same_fault x y e = cc
 
-past : (n limit : ℕ) → n ≤ limit → limit < n → ⊥
-past n limit upto over = absurd (omega (arith, upto, over))
+past : (file : List ℕ) (limit : ℕ) (bytes : List ℕ) → bytes ≡ file → length bytes ≤ limit → limit < length file → ⊥
+past file limit bytes is upto over = absurd (let same : length bytes ≡ length file = ap (λ (x : List ℕ). length x) is in omega (arith, upto, over, same))
 
-module _ (files : List AFile) (names : Named) where
-  abbrev schema_file : List ℕ
-  schema_file = contents files names.schema
+module _ (names : Named) (files : List AFile) where
+  -- the schema's file is within its limit
+  schema_fits : (outcome : Result SchemaValue DdlFault) → SchemaIs names (Some files) outcome → schema_limit < length (contents files names.schema) → ⊥
+  schema_fits outcome is over = past (contents files names.schema) schema_limit is.bytes is.is_schema is.fits over
 
-  abbrev script_file : List ℕ
-  script_file = contents files names.script
+  read_once : (x y : Result SchemaValue DdlFault) → SchemaIs names (Some files) x → SchemaIs names (Some files) y → x ≡ y
+  read_once x y h k = one_outcome (contents files names.schema) x y (schema_reads names files x h) (schema_reads names files y k)
 
-  read_twice : (x y : SchemaValue) → Reads schema_file (Ok x) → Reads schema_file (Ok y) → y ≡ x
-  read_twice x y h k = ok_schema y x (same_outcome schema_file (Ok y) (Ok x) k h)
+  not_both : (x : SchemaValue) (y : DdlFault) → SchemaIs names (Some files) (Ok x) → SchemaIs names (Some files) (Err y) → ⊥
+  not_both x y h k = read_or_refused x y (read_once (Ok x) (Err y) h k)
 
-  not_both : (x : SchemaValue) (y : DdlFault) → Reads schema_file (Ok x) → Reads schema_file (Err y) → ⊥
-  not_both x y h k = read_or_refused x y (same_outcome schema_file (Ok x) (Err y) h k)
+  script_fits : (replies : List Reply) (last : DatabaseValue) (left : List (List ℕ)) → Answers names (Some files) replies last left → script_limit < length (contents files names.script) → ⊥
+  script_fits replies last left h over = past (contents files names.script) script_limit h.script h.read.is_script h.read.fits over
 
-  -- the same replies, all of them or those before a load
-  all_or_before : (schema also : SchemaValue) (replies others : List Reply) (path : List ℕ) → Reads schema_file (Ok schema) → Reads schema_file (Ok also) → AnswersAll (Some files) schema script_file replies
-      → AnswersBefore (Some files) also script_file others path → load_limit < length (contents files path) → ⊥
-  all_or_before schema also replies others path reads too all before over =
-      stopped_or_all files schema script_file others replies path (subst (λ (v : SchemaValue). AnswersBefore (Some files) v script_file others path) (read_twice schema also reads too) before) over all
+  -- a file that is too long ends a run that would finish
+  not_finished : (replies : List Reply) (last : DatabaseValue) (texts : List (List ℕ)) (path : List ℕ) (limit : ℕ) → Answers names (Some files) replies last [] → FallsDue names (Some files) texts path limit → limit < length (contents files path) → ⊥
+  not_finished replies last texts path limit all (inl (none, is, most)) over = schema_fits (Ok all.schema) all.read.accepted (rw (is, most) at over)
+  not_finished replies last texts path limit all (inr (inl (none, is, most, accepted))) over = script_fits replies last [] all (rw (is, most) at over)
+  not_finished replies last texts path limit all (inr (inr ((others, db, load, left, before, wants, are), most))) over =
+      stopped_or_all names files others replies db last load path left before wants (rw most at over) all
 
-  one_outcome_of_run : (text other : List ℕ) (s t : Status) → Outcome files names text s → Outcome files names other t → (text ≡ other) × (s ≡ t)
-  one_outcome_of_run text other s t (finished fit schema reads replies answers is ends) (finished fits also too others all same end) =
-      let list = one_list_of_replies files schema script_file replies others answers (subst (λ (v : SchemaValue). AnswersAll (Some files) v script_file others) (read_twice schema also reads too) all) in
-      (is ∙ ap output_of list ∙ sym same, ends ∙ ap (λ rs. status_of (some_refused rs)) list ∙ sym end)
-  one_outcome_of_run text other s t (bad_schema fit fault refused is ends) (bad_schema fits also too same end) =
-      let one = same_fault fault also (same_outcome schema_file (Err fault) (Err also) refused too) in
-      (is ∙ ap schema_line one ∙ sym same, ends ∙ sym end)
-  one_outcome_of_run text other s t (long_load fit schema reads path replies answers over is ends) (long_load fits also too to others before past_it same end) =
-      let list = one_list_before files schema script_file replies others path to answers over (subst (λ (v : SchemaValue). AnswersBefore (Some files) v script_file others to) (read_twice schema also reads too) before) past_it in
-      (is ∙ ap output_of list ∙ sym same, ends ∙ sym end)
-  one_outcome_of_run text other s t (long_schema over is ends) (long_schema more same end) = (is ∙ sym same, ends ∙ sym end)
-  one_outcome_of_run text other s t (long_schema over is ends) (long_script more schema reads fits same end) = (is ∙ sym same, ends ∙ sym end)
-  one_outcome_of_run text other s t (long_script over schema reads fits is ends) (long_schema more same end) = (is ∙ sym same, ends ∙ sym end)
-  one_outcome_of_run text other s t (long_script over schema reads fits is ends) (long_script more also too fit same end) = (is ∙ sym same, ends ∙ sym end)
-  one_outcome_of_run text other s t (finished fit schema reads replies answers is ends) (bad_schema fits fault refused same end) = absurd (not_both schema fault reads refused)
-  one_outcome_of_run text other s t (finished fit schema reads replies answers is ends) (long_schema over same end) = absurd (past _ _ fit.schema over)
-  one_outcome_of_run text other s t (finished fit schema reads replies answers is ends) (long_script over also too fits same end) = absurd (past _ _ fit.script over)
-  one_outcome_of_run text other s t (finished fit schema reads replies answers is ends) (long_load fits also too path others before over same end) = absurd (all_or_before schema also replies others path reads too answers before over)
-  one_outcome_of_run text other s t (bad_schema fit fault refused is ends) (finished fits schema reads others all same end) = absurd (not_both schema fault reads refused)
-  one_outcome_of_run text other s t (bad_schema fit fault refused is ends) (long_schema over same end) = absurd (past _ _ fit over)
-  one_outcome_of_run text other s t (bad_schema fit fault refused is ends) (long_script over schema reads fits same end) = absurd (not_both schema fault reads refused)
-  one_outcome_of_run text other s t (bad_schema fit fault refused is ends) (long_load fits schema reads path others before over same end) = absurd (not_both schema fault reads refused)
-  one_outcome_of_run text other s t (long_schema over is ends) (finished fits schema reads others all same end) = absurd (past _ _ fits.schema over)
-  one_outcome_of_run text other s t (long_schema over is ends) (bad_schema fits fault refused same end) = absurd (past _ _ fits over)
-  one_outcome_of_run text other s t (long_schema over is ends) (long_load fits schema reads path others before more same end) = absurd (past _ _ fits.schema over)
-  one_outcome_of_run text other s t (long_script over schema reads fits is ends) (finished fit also too others all same end) = absurd (past _ _ fit.script over)
-  one_outcome_of_run text other s t (long_script over schema reads fits is ends) (bad_schema fit fault refused same end) = absurd (not_both schema fault reads refused)
-  one_outcome_of_run text other s t (long_script over schema reads fits is ends) (long_load fit also too path others before more same end) = absurd (past _ _ fit.script over)
-  one_outcome_of_run text other s t (long_load fit schema reads path replies before over is ends) (finished fits also too others all same end) = absurd (all_or_before also schema others replies path too reads all before over)
-  one_outcome_of_run text other s t (long_load fit schema reads path replies before over is ends) (bad_schema fits fault refused same end) = absurd (not_both schema fault reads refused)
-  one_outcome_of_run text other s t (long_load fit schema reads path replies before over is ends) (long_schema more same end) = absurd (past _ _ fit.schema more)
-  one_outcome_of_run text other s t (long_load fit schema reads path replies before over is ends) (long_script more also too fits same end) = absurd (past _ _ fit.script more)
+  -- and one whose schema would be refused is past the schema's limit, or never comes there
+  not_refused : (fault : DdlFault) (texts : List (List ℕ)) (path : List ℕ) (limit : ℕ) → SchemaIs names (Some files) (Err fault) → FallsDue names (Some files) texts path limit → limit < length (contents files path) → ⊥
+  not_refused fault texts path limit refused (inl (none, is, most)) over = schema_fits (Err fault) refused (rw (is, most) at over)
+  not_refused fault texts path limit refused (inr (inl (none, is, most, (schema, accepted)))) over = not_both schema fault accepted refused
+  not_refused fault texts path limit refused (inr (inr ((others, db, load, left, before, wants, are), most))) over = not_both before.schema fault before.read.accepted refused
+
+  -- the texts before the first file that is too long
+  one_list_of_texts : (texts : List (List ℕ)) (path : List ℕ) (limit : ℕ) (also : List (List ℕ)) (other : List ℕ) (most : ℕ) → FallsDue names (Some files) texts path limit → limit < length (contents files path)
+      → FallsDue names (Some files) also other most → most < length (contents files other) → texts ≡ also
+  one_list_of_texts texts path limit also other most (inl (none, h, j)) over (inl (empty, k, l)) long = none ∙ sym empty
+  one_list_of_texts texts path limit also other most (inl (none, h, j)) over (inr (inl (empty, k, l, n))) long = none ∙ sym empty
+  one_list_of_texts texts path limit also other most (inl (none, is, upto)) over (inr (inr ((others, db, load, left, before, wants, are), end))) long =
+      absurd (schema_fits (Ok before.schema) before.read.accepted (rw (is, upto) at over))
+  one_list_of_texts texts path limit also other most (inr (inl (none, h, j, m))) over (inl (empty, k, l)) long = none ∙ sym empty
+  one_list_of_texts texts path limit also other most (inr (inl (none, h, j, m))) over (inr (inl (empty, k, l, n))) long = none ∙ sym empty
+  one_list_of_texts texts path limit also other most (inr (inl (none, is, upto, accepted))) over (inr (inr ((others, db, load, left, before, wants, are), end))) long =
+      absurd (script_fits others db (load ∷ left) before (rw (is, upto) at over))
+  one_list_of_texts texts path limit also other most (inr (inr ((replies, last, due, rest, first, asks, told), end))) over (inl (empty, is, upto)) long =
+      absurd (schema_fits (Ok first.schema) first.read.accepted (rw (is, upto) at long))
+  one_list_of_texts texts path limit also other most (inr (inr ((replies, last, due, rest, first, asks, told), end))) over (inr (inl (empty, is, upto, accepted))) long =
+      absurd (script_fits replies last (due ∷ rest) first (rw (is, upto) at long))
+  one_list_of_texts texts path limit also other most (inr (inr ((replies, last, due, rest, first, asks, told), end))) over (inr (inr ((others, db, load, left, before, wants, are), upto))) long =
+      told ∙ ap reply_texts (one_list_before names files replies others last db due load path other rest left first asks (rw end at over) before wants (rw upto at long)) ∙ sym are
+
+  one_outcome_of_run : (text other : List ℕ) (s t : Status) → Outcome names files text s → Outcome names files other t → (text ≡ other) × (s ≡ t)
+  one_outcome_of_run text other s t (finished replies last answers is ends) (finished others db all same end) =
+      let list = one_list_of_replies names files replies others last db answers all in
+      (is ∙ ap (λ rs. joined (reply_texts rs)) list ∙ sym same, ends ∙ ap (λ rs. status_of (some_refused rs)) list ∙ sym end)
+  one_outcome_of_run text other s t (bad_schema fault refused is ends) (bad_schema also too same end) =
+      let one = same_fault fault also (read_once (Err fault) (Err also) refused too) in
+      (is ∙ ap (λ f. joined (schema_line f ∷ [])) one ∙ sym same, ends ∙ sym end)
+  one_outcome_of_run text other s t (too_long texts path limit due over is ends) (too_long also to most falls long same end) =
+      (is ∙ ap joined (one_list_of_texts texts path limit also to most due over falls long) ∙ sym same, ends ∙ sym end)
+  one_outcome_of_run text other s t (finished replies last answers is ends) (bad_schema fault refused same end) = absurd (not_both answers.schema fault answers.read.accepted refused)
+  one_outcome_of_run text other s t (finished replies last answers is ends) (too_long texts path limit due over same end) = absurd (not_finished replies last texts path limit answers due over)
+  one_outcome_of_run text other s t (bad_schema fault refused is ends) (finished replies last answers same end) = absurd (not_both answers.schema fault answers.read.accepted refused)
+  one_outcome_of_run text other s t (bad_schema fault refused is ends) (too_long texts path limit due over same end) = absurd (not_refused fault texts path limit refused due over)
+  one_outcome_of_run text other s t (too_long texts path limit due over is ends) (finished replies last answers same end) = absurd (not_finished replies last texts path limit answers due over)
+  one_outcome_of_run text other s t (too_long texts path limit due over is ends) (bad_schema fault refused same end) = absurd (not_refused fault texts path limit refused due over)
 
 one_outcome_of_check : (files : List AFile) (file text other : List ℕ) (s t : Status) → Verdict files file text s → Verdict files file other t → (text ≡ other) × (s ≡ t)
-one_outcome_of_check files file text other s t (told fit verdict h is ends) (told fits also k same end) =
-    let one = one_verdict (contents files file) verdict also h k in
-    (is ∙ ap verdict_line one ∙ sym same, ends ∙ ap status_by one ∙ sym end)
-one_outcome_of_check files file text other s t (told fit verdict h is ends) (long over same end) = absurd (past _ _ fit over)
-one_outcome_of_check files file text other s t (long over is ends) (told fit verdict h same end) = absurd (past _ _ fit over)
-one_outcome_of_check files file text other s t (long over is ends) (long more same end) = (is ∙ sym same, ends ∙ sym end)
+one_outcome_of_check files file text other s t (has_verdict came line h is ends) (has_verdict comes also k same end) =
+    let first = subst (λ (b : List ℕ). IsVerdict b h.verdict) h.is_file h.is_verdict in
+    let second = subst (λ (b : List ℕ). IsVerdict b k.verdict) k.is_file k.is_verdict in
+    let one = one_verdict (contents files file) h.verdict k.verdict first second in
+    let lines : line ≡ also = h.text_is ∙ ap verdict_line one ∙ sym k.text_is in
+    (is ∙ ap (λ (l : List ℕ). joined (l ∷ [])) lines ∙ sym same, ends ∙ h.came_is ∙ ap status_by one ∙ sym k.came_is ∙ sym end)
+one_outcome_of_check files file text other s t (has_verdict came line h is ends) (over_limit over same end) = absurd (past (contents files file) check_limit h.bytes h.is_file h.fits over)
+one_outcome_of_check files file text other s t (over_limit over is ends) (has_verdict came line h same end) = absurd (past (contents files file) check_limit h.bytes h.is_file h.fits over)
+one_outcome_of_check files file text other s t (over_limit over is ends) (over_limit more same end) = (is ∙ sym same, ends ∙ sym end)
 
 -- ---- what a run comes to
 
@@ -140,141 +135,94 @@ grown : (before appended text : List ℕ) (old new : Option (List ℕ)) → old 
 grown before appended text old new e f h =
     append_cancel_left before appended text (subst (λ (x : Option (List ℕ)). Grew (Some before) x text) f (subst (λ (x : Option (List ℕ)). Grew x new text) e h))
 
-nothing_more : (before appended : List ℕ) (old new : Option (List ℕ)) → old ≡ Some before → new ≡ Some (before ++ appended) → new ≡ old → appended ≡ []
-nothing_more before appended old new e f same =
-    let both : Some (before ++ appended) ≡ Some before = sym f ∙ same ∙ e in
-    let longer : before ++ appended ≡ before = cc in
-    append_cancel_left before appended [] (longer ∙ sym (append-nil before))
-
 module _ (files : List AFile) (words : List (List ℕ)) (old new : Moment) (files_are : old.files ≡ Some files) (before appended : List ℕ) (from : old.told.written ≡ Some before) (upto : new.told.written ≡ Some (before ++ appended)) where
-  own : (name bytes : List ℕ) → IsFile old.files name bytes → bytes ≡ contents files name
-  own name bytes is = subst (λ (fs : Option (List AFile)). IsFile fs name bytes) files_are is
-
-  is_over : (name : List ℕ) (limit : ℕ) → IsOver old.files name limit → limit < length (contents files name)
-  is_over name limit over = subst (λ (fs : Option (List AFile)). IsOver fs name limit) files_are over
-
-  within : (name bytes : List ℕ) (limit : ℕ) → IsFile old.files name bytes → length bytes ≤ limit → length (contents files name) ≤ limit
-  within name bytes limit is fits = subst (λ (b : List ℕ). length b ≤ limit) (own name bytes is) fits
-
-  appended_is : (text : List ℕ) → Grew old.told.written new.told.written text → appended ≡ text
-  appended_is text h = grown before appended text old.told.written new.told.written from upto h
-
-  appended_none : new.told ≡ old.told → appended ≡ []
-  appended_none same = nothing_more before appended old.told.written new.told.written from upto (ap (λ (x : Told). x.written) same)
-
-  module _ (names : Named) where
-    both_fit : (P : SchemaValue → List ℕ → Type 0) → OfFiles names old P → Fit files names
-    both_fit P h = record { schema = within names.schema h.accepted.bytes schema_limit h.accepted.is_schema h.accepted.fits; script = within names.script h.script script_limit h.is_script h.script_fits }
-
-    reads : (bytes : List ℕ) (outcome : Result SchemaValue DdlFault) → IsFile old.files names.schema bytes → Reads bytes outcome → Reads (contents files names.schema) outcome
-    reads bytes outcome is h = subst (λ (b : List ℕ). Reads b outcome) (own names.schema bytes is) h
-
-    accepted : (schema : SchemaValue) → SchemaIs names old (Ok schema) → Reads (contents files names.schema) (Ok schema)
-    accepted schema h = reads h.bytes (Ok schema) h.is_schema h.reads
-
-    answered : (refused : Bool) → OfFiles names old (λ schema script. WroteAll old.files schema script old.told new.told refused) → Outcome files names appended (status_of refused)
-    answered refused h =
-        let answers = subst (λ (fs : Option (List AFile)). AnswersAll fs h.schema h.script h.holds.replies) files_are h.holds.answers in
-        finished (both_fit _ h) h.schema (accepted h.schema h.accepted) h.holds.replies
-        (subst (λ (b : List ℕ). AnswersAll (Some files) h.schema b h.holds.replies) (own names.script h.script h.is_script) answers)
-        (appended_is (output_of h.holds.replies) h.holds.wrote)
-        (ap status_of (sym h.holds.refused_is))
-
-    refused : (fault : DdlFault) → SchemaIs names old (Err fault) → WroteWhole old.told new.told (schema_line fault) → Outcome files names appended BadSchema
-    refused fault h wrote = bad_schema (within names.schema h.bytes schema_limit h.is_schema h.fits) fault (reads h.bytes (Err fault) h.is_schema h.reads) (appended_is (schema_line fault) wrote.0) refl
-
-    too_long_now : TookTooMuch names old new → new.told ≡ old.told → Outcome files names appended TooLong
-    too_long_now (inl (begun, taken, over)) same = long_schema (is_over names.schema schema_limit over) (appended_none same) refl
-    too_long_now (inr (begun, taken, over, (schema, h))) same =
-        long_script (is_over names.script script_limit over) schema (accepted schema h) (within names.schema h.bytes schema_limit h.is_schema h.fits) (appended_none same) refl
-
-    too_long_load : OfFiles names old (λ schema script. StoppedAtLoad old.files schema script new.begun old.told new.told × (load_limit < new.taken) × BeganOver old.files new.begun load_limit) → Outcome files names appended TooLong
-    too_long_load h =
-        let (stopped, taken, (path, begun, over)) = h.holds in
-        let both : Some path ≡ Some stopped.path = sym begun ∙ stopped.begun_is in
-        let at : path ≡ stopped.path = cc in
-        let answers = subst (λ (fs : Option (List AFile)). AnswersBefore fs h.schema h.script stopped.replies stopped.path) files_are stopped.answers in
-        long_load (both_fit _ h) h.schema (accepted h.schema h.accepted) stopped.path stopped.replies
-        (subst (λ (b : List ℕ). AnswersBefore (Some files) h.schema b stopped.replies stopped.path) (own names.script h.script h.is_script) answers)
-        (subst (λ (p : List ℕ). load_limit < length (contents files p)) at (is_over path load_limit over))
-        (appended_is (output_of stopped.replies) stopped.wrote)
-        refl
-
-    too_long : (TookTooMuch names old new × (new.told ≡ old.told)) ⊎ OfFiles names old (λ schema script. StoppedAtLoad old.files schema script new.begun old.told new.told × (load_limit < new.taken) × BeganOver old.files new.begun load_limit) → Outcome files names appended TooLong
-    too_long (inl (much, same)) = too_long_now much same
-    too_long (inr h) = too_long_load h
-
-  module _ (file : List ℕ) where
-    yes_status : (v : Checked) → IsYes v → Done ≡ status_by v
-    yes_status (Yes count) holds = refl
-    yes_status (No fault) fails = absurd fails
-
-    no_status : (v : Checked) → IsNo v → SomeRefused ≡ status_by v
-    no_status (Yes count) fails = absurd fails
-    no_status (No fault) holds = refl
-
-    checked : (P : Checked → Type 0) (status : Status) → ((v : Checked) → P v → status ≡ status_by v) → OfVerdict file old (λ verdict. P verdict × WroteWhole old.told new.told (verdict_line verdict)) → Verdict files file appended status
-    checked P status is h =
-        told (within file h.bytes check_limit h.is_file h.fits) h.verdict (subst (λ (b : List ℕ). IsVerdict b h.verdict) (own file h.bytes h.is_file) h.is_verdict)
-        (appended_is (verdict_line h.verdict) h.holds.1.0) (is h.verdict h.holds.0)
+  appended_is : (texts : List (List ℕ)) → Wrote old.told new.told texts → appended ≡ joined texts
+  appended_is texts h = grown before appended (joined texts) old.told.written new.told.written from upto h.grew
 
   module _ (no_read : ¬ Rose old.reads new.reads) (no_write : ¬ Rose old.writes new.writes) where
-    of_run : (names : Named) → named words ≡ Some names → (status : Status) → HandsOver (Comes words old) new status → Caused old.reads new.reads old.writes new.writes status → status ≢ NoMemory → Outcome files names appended status
-    of_run names e Done ends caused memory = let r = ends.ran names e in answered names false r.2
-    of_run names e SomeRefused ends caused memory = let r = ends.ran names e in answered names true r.2
-    of_run names e Usage ends caused memory = absurd (ends.ran names e)
-    of_run names e BadSchema ends caused memory = let (faultless, begun, taken, (fault, is, wrote)) = ends.ran names e in refused names fault is wrote
-    of_run names e ReadFault ends caused memory = absurd (no_read caused.0)
-    of_run names e WriteFault ends caused memory = absurd (no_write caused)
-    of_run names e TooLong ends caused memory = let r = ends.ran names e in too_long names r.1
-    of_run names e NoMemory ends caused memory = absurd (memory refl)
+    ran : (names : Named) (status : Status) → status ≢ NoMemory → RunEnds names old new status → Outcome names files appended status
+    ran names status memory (inr none) = absurd (memory none.0)
+    ran names Done memory (inl ends) =
+        let (due, (replies, last, answers, some, are)) = ends.holds in
+        finished replies last (rw files_are at answers) (appended_is ends.texts ends.writing.1 ∙ ap joined are) (ap status_of (sym some))
+    ran names SomeRefused memory (inl ends) =
+        let (due, (replies, last, answers, some, are)) = ends.holds in
+        finished replies last (rw files_are at answers) (appended_is ends.texts ends.writing.1 ∙ ap joined are) (ap status_of (sym some))
+    ran names Usage memory (inl ends) = absurd ends.holds
+    ran names BadSchema memory (inl ends) =
+        let (path, limit, (fault, is, are)) = ends.holds in
+        bad_schema fault (rw files_are at is) (appended_is ends.texts ends.writing.1 ∙ ap joined are) refl
+    ran names ReadFault memory (inl ends) = absurd (no_read ends.reading.0)
+    ran names WriteFault memory (inl ends) = absurd (no_write ends.writing.0)
+    ran names TooLong memory (inl ends) =
+        too_long ends.texts ends.path ends.limit (rw files_are at ends.holds) (rw files_are at ends.reading.2) (appended_is ends.texts ends.writing.1) refl
+    ran names NoMemory memory (inl ends) = absurd (memory refl)
 
-    of_check : (file : List ℕ) → checks words ≡ Some file → (status : Status) → HandsOver (Comes words old) new status → Caused old.reads new.reads old.writes new.writes status → status ≢ NoMemory → Verdict files file appended status
-    of_check file e Done ends caused memory = let r = ends.checked file e in checked file IsYes Done (yes_status file) r.2
-    of_check file e SomeRefused ends caused memory = let r = ends.checked file e in checked file IsNo SomeRefused (no_status file) r.2
-    of_check file e Usage ends caused memory = absurd (ends.checked file e)
-    of_check file e BadSchema ends caused memory = absurd (ends.checked file e)
-    of_check file e ReadFault ends caused memory = absurd (no_read caused.0)
-    of_check file e WriteFault ends caused memory = absurd (no_write caused)
-    of_check file e TooLong ends caused memory = let r = ends.checked file e in long (is_over file check_limit r.3) (appended_none r.4) refl
-    of_check file e NoMemory ends caused memory = absurd (memory refl)
+    check_told : (file : List ℕ) (came : Status) (texts : List (List ℕ)) → Wrote old.told new.told texts → (text : List ℕ) × IsVerdictLine file old.files came text × (texts ≡ text ∷ []) → Verdict files file appended came
+    check_told file came texts wrote (line, is, are) = has_verdict came line (rw files_are at is) (appended_is texts wrote ∙ ap joined are) refl
 
-    of_usage : named words ≡ None → checks words ≡ None → ((n : ℕ) → ¬ Generates words n) → (status : Status) → HandsOver (Comes words old) new status → Caused old.reads new.reads old.writes new.writes status → status ≢ NoMemory → (appended ≡ usage_line) × (status ≡ Usage)
-    of_usage e f g Usage ends caused memory = let r = ends.usage e f g in (appended_is usage_line r.3.1.0, refl)
-    of_usage e f g Done ends caused memory = absurd (ends.usage e f g).3
-    of_usage e f g SomeRefused ends caused memory = absurd (ends.usage e f g).3
-    of_usage e f g BadSchema ends caused memory = absurd (ends.usage e f g).3
-    of_usage e f g ReadFault ends caused memory = absurd (no_read caused.0)
-    of_usage e f g WriteFault ends caused memory = absurd (no_write caused)
-    of_usage e f g TooLong ends caused memory = absurd (ends.usage e f g).3
-    of_usage e f g NoMemory ends caused memory = absurd (memory refl)
+    checked : (file : List ℕ) (status : Status) → status ≢ NoMemory → CheckEnds file old new status → Verdict files file appended status
+    checked file status memory (inr none) = absurd (memory none.0)
+    checked file Done memory (inl ends) = check_told file Done ends.texts ends.writing.1 ends.holds.2
+    checked file SomeRefused memory (inl ends) = check_told file SomeRefused ends.texts ends.writing.1 ends.holds.2
+    checked file Usage memory (inl ends) = check_told file Usage ends.texts ends.writing.1 ends.holds.2
+    checked file BadSchema memory (inl ends) = check_told file BadSchema ends.texts ends.writing.1 ends.holds.2
+    checked file ReadFault memory (inl ends) = absurd (no_read ends.reading.0)
+    checked file WriteFault memory (inl ends) = absurd (no_write ends.writing.0)
+    checked file TooLong memory (inl ends) =
+        let (path, limit, none) = ends.holds in
+        let over : ends.limit < length (contents files ends.path) = rw files_are at ends.reading.2 in
+        over_limit (rw (path, limit) at over) (appended_is ends.texts ends.writing.1 ∙ ap joined none) refl
+    checked file NoMemory memory (inl ends) = absurd (memory refl)
 
-    of_bank : (n : ℕ) → Generates words n → (status : Status) → HandsOver (Comes words old) new status → Caused old.reads new.reads old.writes new.writes status → status ≢ NoMemory → IsBankText n appended × (status ≡ Done)
-    of_bank n g Done ends caused memory =
-        let (reads, begun, taken, (kept, (text, is, wrote))) = ends.generated n g in
-        (subst (IsBankText n) (sym (appended_is text wrote.0)) is, refl)
-    of_bank n g SomeRefused ends caused memory = absurd (ends.generated n g).3
-    of_bank n g Usage ends caused memory = absurd (ends.generated n g).3
-    of_bank n g BadSchema ends caused memory = absurd (ends.generated n g).3
-    of_bank n g TooLong ends caused memory = absurd (ends.generated n g).3
-    of_bank n g ReadFault ends caused memory = absurd (no_read caused.0)
-    of_bank n g WriteFault ends caused memory = absurd (no_write caused)
-    of_bank n g NoMemory ends caused memory = absurd (memory refl)
+    module _ (Says : Status → List ℕ → Type 0) (came : Status) (only : (s : Status) (text : List ℕ) → Says s text → s ≡ came) where
+      one_told : (status : Status) (texts : List (List ℕ)) → Wrote old.told new.told texts → (text : List ℕ) × Says status text × (texts ≡ text ∷ []) → (text : List ℕ) × Says came text × (appended ≡ joined (text ∷ [])) × (status ≡ came)
+      one_told status texts wrote (text, says, are) =
+          let is = only status text says in
+          (text, subst (λ (s : Status). Says s text) is says, appended_is texts wrote ∙ ap joined are, is)
+
+      tells : (status : Status) → status ≢ NoMemory → Tells Says old new status → (text : List ℕ) × Says came text × (appended ≡ joined (text ∷ [])) × (status ≡ came)
+      tells Done memory ends = one_told Done ends.texts ends.writing.1 ends.holds
+      tells SomeRefused memory ends = one_told SomeRefused ends.texts ends.writing.1 ends.holds
+      tells Usage memory ends = one_told Usage ends.texts ends.writing.1 ends.holds
+      tells BadSchema memory ends = one_told BadSchema ends.texts ends.writing.1 ends.holds
+      tells ReadFault memory ends = absurd (ends.no_file.0 refl)
+      tells WriteFault memory ends = absurd (no_write ends.writing.0)
+      tells TooLong memory ends = absurd (ends.no_file.1 refl)
+      tells NoMemory memory ends = absurd (memory refl)
+
+-- the hand-over did not fail
+came_so : (words : List (List ℕ)) (old new : Moment) → ¬ Rose old.writes new.writes → (status : Status) → HandsOver (Comes words old) new status → Caused old new status → Comes words old new status
+came_so words old new no_write Done ends caused = ends
+came_so words old new no_write SomeRefused ends caused = ends
+came_so words old new no_write Usage ends caused = ends
+came_so words old new no_write BadSchema ends caused = ends
+came_so words old new no_write ReadFault ends caused = ends
+came_so words old new no_write WriteFault ends caused = absurd (no_write caused)
+came_so words old new no_write TooLong ends caused = ends
+came_so words old new no_write NoMemory ends caused = ends
 
 -- ---- two runs
 
 module _ (files : List AFile) (words : List (List ℕ)) (appended : List ℕ) (status : Status) (h : Ran files words appended status) where
-  run_of : (names : Named) → named words ≡ Some names → Outcome files names appended status
-  run_of names e = of_run files words h.old h.new h.files_are h.before appended h.told h.wrote h.no_read_fault h.no_write_fault names e status h.ends h.caused h.has_memory
+  comes : Comes words h.old h.new status
+  comes = came_so words h.old h.new h.no_write_fault status h.ends h.caused
+
+  run_of : (names : Named) → named words ≡ Some names → Outcome names files appended status
+  run_of names e = ran files words h.old h.new h.files_are h.before appended h.told h.wrote h.no_read_fault h.no_write_fault names status h.has_memory (comes.ran names e)
 
   check_of : (file : List ℕ) → checks words ≡ Some file → Verdict files file appended status
-  check_of file e = of_check files words h.old h.new h.files_are h.before appended h.told h.wrote h.no_read_fault h.no_write_fault file e status h.ends h.caused h.has_memory
+  check_of file e = checked files words h.old h.new h.files_are h.before appended h.told h.wrote h.no_read_fault h.no_write_fault file status h.has_memory (comes.checked file e)
 
   bank_of : (n : ℕ) → Generates words n → IsBankText n appended × (status ≡ Done)
-  bank_of n g = of_bank files words h.old h.new h.files_are h.before appended h.told h.wrote h.no_read_fault h.no_write_fault n g status h.ends h.caused h.has_memory
+  bank_of n g =
+      let (text, says, is, done) = tells files words h.old h.new h.files_are h.before appended h.told h.wrote h.no_read_fault h.no_write_fault (λ came text. (came ≡ Done) × IsBankText n text) Done (λ s text says. says.0) status h.has_memory (comes.generated n g) in
+      (subst (IsBankText n) (sym (is ∙ append-nil text)) says.1, done)
 
   usage_of : named words ≡ None → checks words ≡ None → ((n : ℕ) → ¬ Generates words n) → (appended ≡ usage_line) × (status ≡ Usage)
-  usage_of e f g = of_usage files words h.old h.new h.files_are h.before appended h.told h.wrote h.no_read_fault h.no_write_fault e f g status h.ends h.caused h.has_memory
+  usage_of e f g =
+      let (text, says, is, done) = tells files words h.old h.new h.files_are h.before appended h.told h.wrote h.no_read_fault h.no_write_fault (λ came text. (came ≡ Usage) × (text ≡ usage_line)) Usage (λ s text says. says.0) status h.has_memory (comes.usage e f g).1 in
+      (is ∙ append-nil text ∙ says.1, done)
 
 module _ (files : List AFile) (words others : List (List ℕ)) (one other : List ℕ) (s t : Status) (same : AreEqualButForWorkers words others) (h : Ran files words one s) (k : Ran files others other t) where
   bank_or_usage : named words ≡ None → checks words ≡ None → Asks words → (one ≡ other) × (s ≡ t)
@@ -293,7 +241,7 @@ module _ (files : List AFile) (words others : List (List ℕ)) (one other : List
 
   agree : (names : Option Named) → named words ≡ names → (one ≡ other) × (s ≡ t)
   agree None e = neither e (checks words) refl
-  agree (Some names) e = one_outcome_of_run files names one other s t (run_of files words one s h names e) (run_of files others other t k names (sym same.names ∙ e))
+  agree (Some names) e = one_outcome_of_run names files one other s t (run_of files words one s h names e) (run_of files others other t k names (sym same.names ∙ e))
 
 pub two_runs_agree : TwoRunsAgree
 two_runs_agree files words others one other s t same h k = agree files words others one other s t same h k (named words) refl

@@ -1,19 +1,11 @@
 -- The bytes that a statement is handed: those of the file that it wants, none where it wants none.
--- told: the files of the shelf, where it tells them
-use Rattle.std.specs.Prelude.{◌≡◌, ◌<◌, ◌≤◌, ◌^◌, ℕ, List, Option, Some, None, length}
+-- files: those of the shelf, where it tells them
+use Rattle.std.specs.Prelude.{◌≤◌, ◌^◌, ℕ, List, Option, Some, None, length}
 use Rattle.su_io.specs.declared.files.File.{File as AFile}
-use Rattle.su_io.specs.Ends.{OfFile}
+use Rattle.su_io.specs.Reading.{IsFile}
 use Rattle.su_state.specs.DatabaseValue.{DatabaseValue}
 use Rattle.su_session.specs.declared.wants.Want.TheVariants.{Nothing, File}
 use Rattle.su_session.specs.WantedFiles.{Wants}
-
--- the bytes are those of the named file, where the files are told
-abbrev pub IsFile : Option (List AFile) → List ℕ → List ℕ → Type 0
-IsFile files name bytes = OfFile files name (λ file. bytes ≡ file)
-
--- the named file has more than so many bytes, where the files are told
-abbrev pub IsOver : Option (List AFile) → List ℕ → ℕ → Type 0
-IsOver files name limit = OfFile files name (λ file. limit < length file)
 
 -- 64 MiB
 abbrev pub load_limit : ℕ

@@ -1,7 +1,7 @@
 -- What a run of a script writes: the replies to its statements, in order.
 -- answered: on the database that the statements before it left, which is well kept
 use Rattle.std.specs.Prelude.{◌≡◌, ℕ, List, [], ◌∷◌, Option, Bool, map}
-use Rattle.std.specs.List.{list_any, flat_map}
+use Rattle.std.specs.List.{list_any}
 use Rattle.su_io.specs.declared.files.File.{File as AFile}
 use Rattle.su_lex.specs.declared.spans.Span.{Span}
 use Rattle.su_lex.specs.Tokens.{slice_of}
@@ -18,9 +18,9 @@ Answered files old (text ∷ texts) [] new = ⊥
 Answered files old (text ∷ texts) (reply ∷ replies) new =
     IsWellKept old × ((file : Option (List ℕ)) × IsHanded files old text file × ((next : DatabaseValue) × Replied old text file reply next × Answered files next texts replies new))
 
--- the replies one after another
-abbrev pub output_of : List Reply → List ℕ
-output_of replies = flat_map (λ reply. reply.bytes) replies
+-- what is written for the replies, a text each
+abbrev pub reply_texts : List Reply → List (List ℕ)
+reply_texts replies = map (λ reply. reply.bytes) replies
 
 -- some reply is a refusal
 abbrev pub some_refused : List Reply → Bool

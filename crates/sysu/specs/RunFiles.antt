@@ -1,12 +1,12 @@
 -- The two files of a run, within their limits.
--- refused, accepted: what the schema file is read as
-use Rattle.std.specs.Prelude.{◌≤◌, ◌^◌, ℕ, List, Result, Ok, length}
-use Rattle.sysu.specs.Moments.{Moment}
-use Rattle.sysu.specs.Words.{Named}
+-- files: those of the shelf, where it tells them; refused, accepted: what the schema's file is read as
+use Rattle.std.specs.Prelude.{◌≤◌, ◌^◌, ℕ, List, Option, Result, Ok, length}
+use Rattle.su_io.specs.declared.files.File.{File}
+use Rattle.su_io.specs.Reading.{IsFile}
 use Rattle.su_ddl.specs.declared.faults.DdlFault.{DdlFault}
 use Rattle.su_ddl.specs.Files.{Reads}
 use Rattle.su_schema.specs.SchemaValue.{SchemaValue}
-use Rattle.sysu.specs.Handed.{IsFile}
+use Rattle.sysu.specs.Words.{Named}
 
 -- 1 MiB
 abbrev pub schema_limit : ℕ
@@ -16,18 +16,15 @@ schema_limit = 2 ^ 20
 abbrev pub script_limit : ℕ
 script_limit = 2 ^ 24
 
--- the schema file is within its limit, and is read as this
-pub record SchemaIs (names : Named) (old : Moment) (outcome : Result SchemaValue DdlFault) : Type 0 where
+-- the schema's file is within its limit, and is read as this
+pub record SchemaIs (names : Named) (files : Option (List File)) (outcome : Result SchemaValue DdlFault) : Type 0 where
   pub bytes : List ℕ
-  pub is_schema : IsFile old.files names.schema bytes
+  pub is_schema : IsFile files names.schema bytes
   pub fits : length bytes ≤ schema_limit
   pub reads : Reads bytes outcome
 
--- the schema file is accepted, and a fact of the schema and of the bytes of the script; neither file is past its limit
-pub record OfFiles (names : Named) (old : Moment) (P : SchemaValue → List ℕ → Type 0) : Type 0 where
-  pub schema : SchemaValue
-  pub accepted : SchemaIs names old (Ok schema)
-  pub script : List ℕ
-  pub is_script : IsFile old.files names.script script
-  pub script_fits : length script ≤ script_limit
-  pub holds : P schema script
+-- the schema is accepted, and the script's file, within its limit, has these bytes
+pub record AreRead (names : Named) (files : Option (List File)) (schema : SchemaValue) (script : List ℕ) : Type 0 where
+  pub accepted : SchemaIs names files (Ok schema)
+  pub is_script : IsFile files names.script script
+  pub fits : length script ≤ script_limit

@@ -1,6 +1,6 @@
 -- The replies to the first statements of a script, or to all of them.
--- due: the statement behind those that were answered
-use Rattle.std.specs.Prelude.{◌≡◌, ℕ, List, Option, Some, take, slice_get}
+-- done: the statements that were answered; left: those behind them; texts: of replies, one after another
+use Rattle.std.specs.Prelude.{◌≡◌, ◌++◌, ◌∷◌, [], ℕ, List, Option, Bool}
 use Rattle.su_io.specs.declared.files.File.{File as AFile}
 use Rattle.su_lex.specs.declared.spans.Span.{Span}
 use Rattle.su_lex.specs.Pieces.{Pieces}
@@ -10,42 +10,30 @@ use Rattle.su_session.specs.EmptyDatabase.{empty_database}
 use Rattle.su_session.specs.declared.replies.Reply.{Reply}
 use Rattle.su_session.specs.declared.wants.Want.TheVariants.{File}
 use Rattle.su_session.specs.WantedFiles.{Wants}
-use Rattle.sysu.specs.Output.{Answered, text_at, texts_of}
+use Rattle.sysu.specs.Output.{Answered, some_refused, reply_texts, texts_of}
+use Rattle.sysu.specs.RunFiles.{AreRead}
+use Rattle.sysu.specs.Words.{Named}
 
--- the replies are those to the first statements of the script, all of them or fewer
-pub record AnswersFirst (files : Option (List AFile)) (schema : SchemaValue) (script : List ℕ) (replies : List Reply) : Type 0 where
+-- the first statements of the script have these replies, which leave the database `last`, and these statements are left
+pub record Answers (names : Named) (files : Option (List AFile)) (replies : List Reply) (last : DatabaseValue) (left : List (List ℕ)) : Type 0 where
+  pub schema : SchemaValue
+  pub script : List ℕ
+  pub read : AreRead names files schema script
   pub spans : List Span
   pub pieces : Pieces script spans
-  pub count : ℕ
-  pub last : DatabaseValue
-  pub answered : Answered files (empty_database schema) (texts_of script (take count spans)) replies last
+  pub done : List (List ℕ)
+  pub statements : texts_of script spans ≡ done ++ left
+  pub answered : Answered files (empty_database schema) done replies last
 
--- the replies are those to all statements of the script
-pub record AnswersAll (files : Option (List AFile)) (schema : SchemaValue) (script : List ℕ) (replies : List Reply) : Type 0 where
-  pub spans : List Span
-  pub pieces : Pieces script spans
-  pub last : DatabaseValue
-  pub answered : Answered files (empty_database schema) (texts_of script spans) replies last
+-- the replies to the first statements
+abbrev pub AreFirst : Named → Option (List AFile) → List (List ℕ) → Type 0
+AreFirst names files texts = (replies : List Reply) × (last : DatabaseValue) × (left : List (List ℕ)) × Answers names files replies last left × (texts ≡ reply_texts replies)
 
--- the replies are those to the statements before a load from this file, which is due
-pub record AnswersBefore (files : Option (List AFile)) (schema : SchemaValue) (script : List ℕ) (replies : List Reply) (path : List ℕ) : Type 0 where
-  pub spans : List Span
-  pub pieces : Pieces script spans
-  pub count : ℕ
-  pub span : Span
-  pub next : slice_get spans count ≡ Some span
-  pub last : DatabaseValue
-  pub answered : Answered files (empty_database schema) (texts_of script (take count spans)) replies last
-  pub wanted : Wants last (text_at script span) (File path)
+-- the replies to all statements, of which some is a refusal or none
+abbrev pub AreAll : Named → Option (List AFile) → Bool → List (List ℕ) → Type 0
+AreAll names files refused texts = (replies : List Reply) × (last : DatabaseValue) × Answers names files replies last [] × (some_refused replies ≡ refused) × (texts ≡ reply_texts replies)
 
--- some statement of the script is a load from this file, on the database that the statements before it left
-pub record LoadsFrom (files : Option (List AFile)) (first : DatabaseValue) (script path : List ℕ) : Type 0 where
-  pub spans : List Span
-  pub pieces : Pieces script spans
-  pub count : ℕ
-  pub span : Span
-  pub next : slice_get spans count ≡ Some span
-  pub replies : List Reply
-  pub db : DatabaseValue
-  pub answered : Answered files first (texts_of script (take count spans)) replies db
-  pub wanted : Wants db (text_at script span) (File path)
+-- the replies to the statements before a load from this file
+abbrev pub AreBefore : Named → Option (List AFile) → List ℕ → List (List ℕ) → Type 0
+AreBefore names files path texts = (replies : List Reply) × (last : DatabaseValue) × (load : List ℕ) × (left : List (List ℕ))
+    × Answers names files replies last (load ∷ left) × Wants last load (File path) × (texts ≡ reply_texts replies)

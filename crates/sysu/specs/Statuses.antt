@@ -1,50 +1,47 @@
--- How a run ends: each status with its cause, and what was written.
--- ends: by the status, what the shelf and the sink tell before and after
-use Rattle.std.specs.Prelude.{◌≡◌, ◌<◌, ◌≤◌, ◌⊎◌, ℕ, List, Some, None, true, false, Err}
-use Rattle.su_io.specs.Causes.{Rose}
-use Rattle.sysu.specs.declared.status.Status.{Status}
-use Rattle.sysu.specs.declared.status.Status.TheVariants.{Done, SomeRefused, Usage, BadSchema, ReadFault, WriteFault, TooLong, NoMemory}
-use Rattle.sysu.specs.Moments.{Told, Moment, NoFault, WroteFront, WroteWhole}
-use Rattle.sysu.specs.Words.{Named, named, checks, Generates, usage_line}
+-- How a run ends: by its status, which file was begun last, and what was written.
+-- texts: each is handed over by one whole write; old, new: the outside before and after
+use Rattle.std.specs.Prelude.{◌≡◌, ◌≢◌, ◌⊎◌, ℕ, List, [], ◌∷◌, Option, Some, None, true, false, Err}
+use Rattle.su_io.specs.declared.files.File.{File}
+use Rattle.su_io.specs.declared.status.Status.{Status}
+use Rattle.su_io.specs.declared.status.Status.TheVariants.{Done, SomeRefused, Usage, BadSchema, ReadFault, WriteFault, TooLong, NoMemory}
+use Rattle.su_io.specs.Moments.{Moment}
+use Rattle.su_io.specs.Programs.{Ends, Tells}
 use Rattle.su_ddl.specs.declared.faults.DdlFault.{DdlFault}
-use Rattle.su_show.specs.Refusals.{schema_line, IsOfText}
-use Rattle.sysu.specs.Handed.{load_limit}
+use Rattle.su_show.specs.Refusals.{schema_line}
+use Rattle.sysu.specs.Banks.{BankEnds}
 use Rattle.sysu.specs.Checks.{CheckEnds}
-use Rattle.sysu.specs.Banks.{GenerateEnds}
-use Rattle.sysu.specs.Written.{BeganOver, StoppedAtLoad, WroteAll, WroteFirst, WroteFrontOf}
-use Rattle.sysu.specs.RunFiles.{schema_limit, SchemaIs, OfFiles}
-use Rattle.sysu.specs.Taken.{BeganDue, TookTooMuch, TookWithin}
+use Rattle.sysu.specs.Due.{FallsDue, IsDue}
+use Rattle.sysu.specs.RunFiles.{schema_limit, SchemaIs}
+use Rattle.sysu.specs.Scripts.{AreAll, AreFirst}
+use Rattle.sysu.specs.Words.{Named, named, checks, Generates, usage_line}
 
--- how the line for a refused schema ends: what was written, and the sink's count of faults before and after
-abbrev pub RefusalEnds : DdlFault → Told → ℕ → Told → ℕ → Status → Type 0
-RefusalEnds fault old before new after BadSchema = IsOfText fault × (after ≡ before) × WroteWhole old new (schema_line fault)
-RefusalEnds fault old before new after WriteFault = IsOfText fault × Rose before after × WroteFront old new (schema_line fault)
-RefusalEnds fault old before new after NoMemory = (after ≡ before) × (new ≡ old)
-RefusalEnds fault old before new after _ = ⊥
+-- the schema's file, and the line for a schema that is refused
+abbrev pub IsRefusal : Named → Option (List File) → List ℕ → ℕ → List (List ℕ) → Type 0
+IsRefusal names files path limit texts = (path ≡ names.schema) × (limit ≡ schema_limit) × ((fault : DdlFault) × SchemaIs names files (Err fault) × (texts ≡ schema_line fault ∷ []))
+
+-- by the status of a run on two files: the file begun last, its limit, and the texts, all or, where they are a front, those that
+-- were written or begun
+abbrev pub RunHas : Named → Option (List File) → Status → List ℕ → ℕ → List (List ℕ) → Type 0
+RunHas names files Done path limit texts = IsDue names files path limit × AreAll names files false texts
+RunHas names files SomeRefused path limit texts = IsDue names files path limit × AreAll names files true texts
+RunHas names files Usage path limit texts = ⊥
+RunHas names files BadSchema path limit texts = IsRefusal names files path limit texts
+RunHas names files ReadFault path limit texts = FallsDue names files texts path limit
+RunHas names files WriteFault path limit texts = IsRefusal names files path limit texts ⊎ (IsDue names files path limit × AreFirst names files texts)
+RunHas names files TooLong path limit texts = FallsDue names files texts path limit
+RunHas names files NoMemory path limit texts = IsDue names files path limit × ((texts ≡ []) ⊎ AreFirst names files texts)
 
 -- how a run on these two files ends
 abbrev pub RunEnds : Named → Moment → Moment → Status → Type 0
-RunEnds names old new Done = NoFault old new × TookWithin names old new × OfFiles names old (λ schema script. WroteAll old.files schema script old.told new.told false)
-RunEnds names old new SomeRefused = NoFault old new × TookWithin names old new × OfFiles names old (λ schema script. WroteAll old.files schema script old.told new.told true)
-RunEnds names old new Usage = ⊥
-RunEnds names old new BadSchema = NoFault old new × (new.begun ≡ Some names.schema) × (new.taken ≤ schema_limit) × ((fault : DdlFault) × SchemaIs names old (Err fault) × WroteWhole old.told new.told (schema_line fault))
-RunEnds names old new ReadFault = Rose old.reads new.reads × (new.writes ≡ old.writes) × (new.failed ≡ true)
-    × ((BeganDue names old new × (new.told ≡ old.told)) ⊎ OfFiles names old (λ schema script. StoppedAtLoad old.files schema script new.begun old.told new.told))
-RunEnds names old new WriteFault = (new.reads ≡ old.reads) × Rose old.writes new.writes × TookWithin names old new
-    × (((fault : DdlFault) × SchemaIs names old (Err fault) × WroteFront old.told new.told (schema_line fault)) ⊎ OfFiles names old (λ schema script. WroteFrontOf old.files schema script old.told new.told))
-RunEnds names old new TooLong = NoFault old new
-    × ((TookTooMuch names old new × (new.told ≡ old.told)) ⊎ OfFiles names old (λ schema script. StoppedAtLoad old.files schema script new.begun old.told new.told × (load_limit < new.taken) × BeganOver old.files new.begun load_limit))
-RunEnds names old new NoMemory = NoFault old new × TookWithin names old new × ((new.told ≡ old.told) ⊎ OfFiles names old (λ schema script. WroteFirst old.files schema script old.told new.told))
+RunEnds names old new status = Ends (RunHas names old.files status) old new status
 
--- how the usage line ends: what was written, and the sink's count of faults before and after
-abbrev pub UsageEnds : Told → ℕ → Told → ℕ → Status → Type 0
-UsageEnds old before new after Usage = (after ≡ before) × WroteWhole old new usage_line
-UsageEnds old before new after WriteFault = Rose before after × WroteFront old new usage_line
-UsageEnds old before new after _ = ⊥
+-- the usage line is told
+abbrev pub UsageEnds : Moment → Moment → Status → Type 0
+UsageEnds old new status = (status ≢ NoMemory) × Tells (λ came text. (came ≡ Usage) × (text ≡ usage_line)) old new status
 
 -- how a run, a check or the making of a bank comes to its end, by its words
 pub record Comes (words : List (List ℕ)) (old new : Moment) (status : Status) : Type 0 where
-  pub usage : named words ≡ None → checks words ≡ None → ((n : ℕ) → ¬ Generates words n) → (new.reads ≡ old.reads) × (new.begun ≡ old.begun) × (new.taken ≡ old.taken) × UsageEnds old.told old.writes new.told new.writes status
+  pub usage : named words ≡ None → checks words ≡ None → ((n : ℕ) → ¬ Generates words n) → UsageEnds old new status
   pub ran : (names : Named) → named words ≡ Some names → RunEnds names old new status
   pub checked : (file : List ℕ) → checks words ≡ Some file → CheckEnds file old new status
-  pub generated : (n : ℕ) → Generates words n → GenerateEnds n old new status
+  pub generated : (n : ℕ) → Generates words n → BankEnds n old new status

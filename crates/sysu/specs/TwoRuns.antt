@@ -3,11 +3,11 @@
 use Rattle.std.specs.Prelude.{◌≡◌, ◌≢◌, ◌↔◌, ℕ, List, ◌++◌, Some}
 use Rattle.su_io.specs.declared.files.File.{File as AFile}
 use Rattle.su_io.specs.Causes.{Rose}
-use Rattle.sysu.specs.declared.status.Status.{Status}
-use Rattle.sysu.specs.declared.status.Status.TheVariants.{NoMemory}
+use Rattle.su_io.specs.declared.status.Status.{Status}
+use Rattle.su_io.specs.declared.status.Status.TheVariants.{NoMemory}
 use Rattle.sysu.specs.Causes.{Caused}
-use Rattle.sysu.specs.HandOver.{HandsOver}
-use Rattle.sysu.specs.Moments.{Moment}
+use Rattle.su_io.specs.HandOver.{HandsOver}
+use Rattle.su_io.specs.Moments.{Moment}
 use Rattle.sysu.specs.Statuses.{Comes}
 use Rattle.sysu.specs.Words.{named, checks, Generates}
 
@@ -16,7 +16,7 @@ pub record Ran (files : List AFile) (words : List (List ℕ)) (appended : List �
   pub old : Moment
   pub new : Moment
   pub ends : HandsOver (Comes words old) new status
-  pub caused : Caused old.reads new.reads old.writes new.writes status
+  pub caused : Caused old new status
   pub files_are : old.files ≡ Some files
   pub before : List ℕ
   pub told : old.told.written ≡ Some before

@@ -1,4 +1,5 @@
 -- Definitions that only contracts of private functions need.
 pub mod HandedFiles
-pub mod Reads
+pub mod Lines
+pub mod Queries
 pub mod Turns

@@ -1,49 +1,56 @@
 //! The check of a certificate.
-ghost use Rattle.std.specs.Prelude.{◌≡◌};
-ghost use Rattle.sysu.specs.Moments.{Moment};
-ghost use Rattle.sysu.specs.Checks.{CheckEnds, LineEnds};
+ghost use Rattle.std.specs.Prelude.{◌≡◌, ◌≢◌};
+ghost use Rattle.su_io.specs.Moments.{Moment};
+ghost use Rattle.su_show.specs.Verdicts.{verdict_line};
+ghost use Rattle.sysu.specs.Checks.{CheckEnds, status_by};
+ghost use Rattle.sysu.specs.inside.Lines.{LineEnds};
 
-use crate::reading::read_file;
-use crate::status::Status;
 use std::alloc::Global;
 use su_base::Str;
 use su_check::{Checked, check};
-use su_io::{Shelf, Sink, write_all};
+use su_io::{Outside, Shelf, Sink, Status};
 use su_show::verdict;
 
 /// How many bytes a certificate may have.
 const CHECK_LIMIT: u64 = 1 << 24;
 
-/// Writes the line of a verdict.
-fn tell_verdict<K: Sink>(alloc: Global, checked: Checked, out: &mut K) -> Status
-    ensures { LineEnds checked (record { written = K.written out.old; handed = K.handed out.old }) (K.faults out.old) (record { written = K.written out.new; handed = K.handed out.new }) (K.faults out.new) result }
+/// The status that a verdict is told with.
+fn status_of(checked: &Checked) -> Status
+    ensures by { result ≡ status_by checked.now }
+    ensures own { result ≢ Status.WriteFault }
 {
-    let Ok(line) = verdict(alloc, checked) else {
-        return Status::NoMemory;
-    };
-    if write_all(out, line.as_slice()).is_err() {
-        return Status::WriteFault;
-    }
     match checked {
         Checked::Yes { .. } => Status::Done,
         Checked::No(_) => Status::SomeRefused,
     }
 }
 
-/// Reads the file and tells the verdict on it.
-fn check_named<H: Shelf, K: Sink>(alloc: Global, file: Str, shelf: &mut H, out: &mut K) -> Status
-    ensures files { H.files shelf.new ≡ H.files shelf.old }
-    ensures ends { CheckEnds file
-        (record { files = H.files shelf.old; begun = H.begun shelf.old; taken = H.taken shelf.old; failed = H.failed shelf.old; reads = H.faults shelf.old; told = record { written = K.written out.old; handed = K.handed out.old }; writes = K.faults out.old })
-        (record { files = H.files shelf.new; begun = H.begun shelf.new; taken = H.taken shelf.new; failed = H.failed shelf.new; reads = H.faults shelf.new; told = record { written = K.written out.new; handed = K.handed out.new }; writes = K.faults out.new })
-        result }
+/// Writes the line of a verdict.
+fn tell_verdict<H: Shelf, K: Sink>(
+    alloc: Global,
+    checked: Checked,
+    outside: &mut Outside<H, K>,
+) -> Status
+    ensures { LineEnds (verdict_line checked) (status_by checked) outside.old outside.new result }
 {
-    let bytes = match read_file(alloc, shelf, file, CHECK_LIMIT) {
+    let status = status_of(&checked);
+    match verdict(alloc, checked) {
+        Ok(line) => outside.tell(line.as_slice(), status),
+        Err(_) => Status::NoMemory,
+    }
+}
+
+/// Reads the file and tells the verdict on it.
+fn check_named<H: Shelf, K: Sink>(alloc: Global, file: Str, outside: &mut Outside<H, K>) -> Status
+    ensures files { outside.new.files ≡ outside.old.files }
+    ensures ends { CheckEnds file outside.old outside.new result }
+{
+    let bytes = match outside.read(alloc, file, CHECK_LIMIT) {
         Ok(bytes) => bytes,
         Err(status) => return status,
     };
     match check(alloc, bytes.as_slice()) {
-        Ok(checked) => tell_verdict(alloc, checked, out),
+        Ok(checked) => tell_verdict(alloc, checked, outside),
         Err(_) => Status::NoMemory,
     }
 }
@@ -52,17 +59,13 @@ fn check_named<H: Shelf, K: Sink>(alloc: Global, file: Str, shelf: &mut H, out: 
 pub(crate) fn check_file<H: Shelf, K: Sink>(
     alloc: Global,
     file: &Str,
-    shelf: &mut H,
-    out: &mut K,
+    outside: &mut Outside<H, K>,
 ) -> Status
-    ensures files { H.files shelf.new ≡ H.files shelf.old }
-    ensures ends { CheckEnds file.now
-        (record { files = H.files shelf.old; begun = H.begun shelf.old; taken = H.taken shelf.old; failed = H.failed shelf.old; reads = H.faults shelf.old; told = record { written = K.written out.old; handed = K.handed out.old }; writes = K.faults out.old })
-        (record { files = H.files shelf.new; begun = H.begun shelf.new; taken = H.taken shelf.new; failed = H.failed shelf.new; reads = H.faults shelf.new; told = record { written = K.written out.new; handed = K.handed out.new }; writes = K.faults out.new })
-        result }
+    ensures files { outside.new.files ≡ outside.old.files }
+    ensures ends { CheckEnds file.now outside.old outside.new result }
 {
     match file.copy(alloc) {
-        Ok(name) => check_named(alloc, name, shelf, out),
+        Ok(name) => check_named(alloc, name, outside),
         Err(_) => Status::NoMemory,
     }
 }

@@ -1,10 +1,9 @@
 //! Runs over an outside that fails at one call. The bank has a print before a load and one behind it.
-use crate::status::Status;
 use crate::top::run;
 use std::alloc::Global;
 use std::test::Fail;
 use su_base::{List, NoMemory, Str};
-use su_io::{File, MemoryShelf, MemorySink, SteadyShelf, SteadySink};
+use su_io::{File, MemoryShelf, MemorySink, Outside, Status, SteadyShelf, SteadySink};
 use su_par::OpenGate;
 
 const BANK: &str =
@@ -77,14 +76,15 @@ fn each_failing_call_of_the_shelf_leaves_the_replies_before_it(
     let all = before.wrapping_add(calls(LOADED));
     for k in 0..all.wrapping_add(1) {
         let fails = List::from_vec([k].as_slice().to_vec(alloc)?);
-        let mut shelf = MemoryShelf::new(bank_files(alloc)?, fails, 100);
-        let mut out = SteadySink::new(alloc, 1000)?;
+        let mut outside = Outside {
+            shelf: MemoryShelf::new(bank_files(alloc)?, fails, 100),
+            sink: SteadySink::new(alloc, 1000)?,
+        };
         let got = run(
             &rt,
             alloc,
             words(alloc, &["run", "s", "t"])?.as_slice(),
-            &mut shelf,
-            &mut out,
+            &mut outside,
             &OpenGate,
         );
         if k == all {
@@ -98,8 +98,12 @@ fn each_failing_call_of_the_shelf_leaves_the_replies_before_it(
                 (REPLIES[0], "g.csv")
             };
             assert_eq!(rt; got, Status::ReadFault, "call {k}");
-            assert_eq!(rt; out.written(), left.as_bytes(), "call {k}");
-            assert_eq!(rt; shelf.begun().map(Str::as_str), Some(begun), "call {k}");
+            assert_eq!(rt; outside.sink.written(), left.as_bytes(), "call {k}");
+            assert_eq!(rt;
+                outside.shelf.begun().map(Str::as_str),
+                Some(begun),
+                "call {k}"
+            );
         }
     }
     Ok(())
@@ -120,18 +124,19 @@ fn each_failing_call_of_the_sink_leaves_a_front(rt: HostRuntime) -> Result<(), F
     fronts.push(front)?;
     for (k, front) in fronts.as_slice().iter().enumerate() {
         let fails = List::from_vec([k as u64].as_slice().to_vec(alloc)?);
-        let mut shelf = SteadyShelf::new(bank_files(alloc)?);
-        let mut out = MemorySink::new(alloc, fails, 4, 1000)?;
+        let mut outside = Outside {
+            shelf: SteadyShelf::new(bank_files(alloc)?),
+            sink: MemorySink::new(alloc, fails, 4, 1000)?,
+        };
         let got = run(
             &rt,
             alloc,
             words(alloc, &["run", "s", "t"])?.as_slice(),
-            &mut shelf,
-            &mut out,
+            &mut outside,
             &OpenGate,
         );
         assert_eq!(rt; got, Status::WriteFault, "call {k}");
-        assert_eq!(rt; out.written(), front.as_slice(), "call {k}");
+        assert_eq!(rt; outside.sink.written(), front.as_slice(), "call {k}");
     }
     Ok(())
 }
@@ -150,20 +155,21 @@ fn each_failing_call_of_the_sink_leaves_a_front_of_one_line(rt: HostRuntime) -> 
     for (all, line) in cases {
         for k in 0..line.len().div_ceil(4).wrapping_add(1) {
             let fails = List::from_vec([k as u64].as_slice().to_vec(alloc)?);
-            let mut shelf = SteadyShelf::new(bank_files(alloc)?);
-            let mut out = MemorySink::new(alloc, fails, 4, 100)?;
+            let mut outside = Outside {
+                shelf: SteadyShelf::new(bank_files(alloc)?),
+                sink: MemorySink::new(alloc, fails, 4, 100)?,
+            };
             let got = run(
                 &rt,
                 alloc,
                 words(alloc, all)?.as_slice(),
-                &mut shelf,
-                &mut out,
+                &mut outside,
                 &OpenGate,
             );
             let front = line.len().min(k.saturating_mul(4));
             assert_eq!(rt; got, Status::WriteFault, "call {k}");
             assert_eq!(rt;
-                out.written(),
+                outside.sink.written(),
                 line.as_bytes().split_at(front).0,
                 "call {k}"
             );
@@ -181,19 +187,24 @@ fn a_file_past_its_limit_is_the_last_begun(rt: HostRuntime) -> Result<(), Fail> 
         ("g.csv", 67108865, REPLIES[0]),
     ];
     for (long, spaces, left) in cases {
-        let mut shelf = SteadyShelf::new(files_of(alloc, long, spaces)?);
-        let mut out = SteadySink::new(alloc, 1000)?;
+        let mut outside = Outside {
+            shelf: SteadyShelf::new(files_of(alloc, long, spaces)?),
+            sink: SteadySink::new(alloc, 1000)?,
+        };
         let got = run(
             &rt,
             alloc,
             words(alloc, &["run", "s", "t"])?.as_slice(),
-            &mut shelf,
-            &mut out,
+            &mut outside,
             &OpenGate,
         );
         assert_eq!(rt; got, Status::TooLong, "{long}");
-        assert_eq!(rt; out.written(), left.as_bytes(), "{long}");
-        assert_eq!(rt; shelf.begun().map(Str::as_str), Some(long), "{long}");
+        assert_eq!(rt; outside.sink.written(), left.as_bytes(), "{long}");
+        assert_eq!(rt;
+            outside.shelf.begun().map(Str::as_str),
+            Some(long),
+            "{long}"
+        );
     }
     Ok(())
 }
@@ -205,32 +216,34 @@ fn each_fault_ends_the_check(rt: HostRuntime) -> Result<(), Fail> {
     for k in 0..3u64 {
         let fails = List::from_vec([k].as_slice().to_vec(alloc)?);
         let certificate = files(alloc, "certificate 1 kinds int", "")?;
-        let mut shelf = MemoryShelf::new(certificate, fails, 100);
-        let mut out = SteadySink::new(alloc, 100)?;
+        let mut outside = Outside {
+            shelf: MemoryShelf::new(certificate, fails, 100),
+            sink: SteadySink::new(alloc, 100)?,
+        };
         let got = run(
             &rt,
             alloc,
             words(alloc, &["check", "s"])?.as_slice(),
-            &mut shelf,
-            &mut out,
+            &mut outside,
             &OpenGate,
         );
         assert_eq!(rt; got, Status::ReadFault, "call {k}");
-        assert!(rt; out.written().is_empty(), "call {k}");
+        assert!(rt; outside.sink.written().is_empty(), "call {k}");
         let fails = List::from_vec([k].as_slice().to_vec(alloc)?);
-        let mut shelf = SteadyShelf::new(files(alloc, "certificate 1 kinds int", "")?);
-        let mut out = MemorySink::new(alloc, fails, 4, 100)?;
+        let mut outside = Outside {
+            shelf: SteadyShelf::new(files(alloc, "certificate 1 kinds int", "")?),
+            sink: MemorySink::new(alloc, fails, 4, 100)?,
+        };
         let got = run(
             &rt,
             alloc,
             words(alloc, &["check", "s"])?.as_slice(),
-            &mut shelf,
-            &mut out,
+            &mut outside,
             &OpenGate,
         );
         assert_eq!(rt; got, Status::WriteFault, "call {k}");
         let front = "yes terms 0\n".as_bytes().split_at(4 * k as usize).0;
-        assert_eq!(rt; out.written(), front, "call {k}");
+        assert_eq!(rt; outside.sink.written(), front, "call {k}");
     }
     Ok(())
 }

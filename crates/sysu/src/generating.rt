@@ -1,15 +1,14 @@
 //! The generator: what is told of a bank with so many rows in each relation.
-ghost use Rattle.std.specs.Prelude.{◌≤◌, ℕ, MatchOption};
+ghost use Rattle.std.specs.Prelude.{◌≡◌, ◌≤◌, ℕ, MatchOption};
+ghost use Rattle.su_io.specs.Moments.{Moment};
 ghost use Rattle.sysu.specs.Banks.{BankEnds};
-ghost use Rattle.sysu.specs.Moments.{Told};
 ghost use Rattle.sysu.specs.Words.{Generates};
 
-use crate::status::Status;
 use std::alloc::Global;
 use std::thread::Threads;
 use su_bank::{bank_text, row_count};
 use su_base::Str;
-use su_io::{Sink, write_all};
+use su_io::{Outside, Shelf, Sink, Status};
 use su_par::Gate;
 
 /// How many rows the words ask for, where they are `generate N`.
@@ -24,21 +23,19 @@ pub(crate) fn rows_asked(words: &[Str]) -> Option<u32>
 
 /// Makes a bank with n rows in each relation, and writes by one whole write how many terms, kept terms
 /// and rows each of four queries has in it.
-pub(crate) fn generate<R: Threads + Sync, K: Sink, G: Gate>(
+pub(crate) fn generate<R: Threads + Sync, H: Shelf, K: Sink, G: Gate>(
     rt: &R,
     alloc: Global,
     n: u32,
-    out: &mut K,
+    outside: &mut Outside<H, K>,
     gate: &G,
 ) -> Status
     requires { n ≤ 1000 }
-    ensures { BankEnds n (record { written = K.written out.old; handed = K.handed out.old }) (K.faults out.old) (record { written = K.written out.new; handed = K.handed out.new }) (K.faults out.new) result }
+    ensures files { outside.new.files ≡ outside.old.files }
+    ensures ends { BankEnds n outside.old outside.new result }
 {
-    let Ok(text) = bank_text(rt, alloc, n, gate) else {
-        return Status::NoMemory;
-    };
-    match write_all(out, text.as_slice()) {
-        Ok(()) => Status::Done,
-        Err(_) => Status::WriteFault,
+    match bank_text(rt, alloc, n, gate) {
+        Ok(text) => outside.tell(text.as_slice(), Status::Done),
+        Err(_) => Status::NoMemory,
     }
 }

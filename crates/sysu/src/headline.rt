@@ -1,5 +1,5 @@
 //! What is promised of the queries of a run.
-ghost use Rattle.sysu.specs.Headline.{QueriesAreAnswered};
+ghost use Rattle.sysu.specs.inside.Queries.{QueriesAreAnswered};
 
 use su_answer::laws::{answers_are_the_expression, prepared_rows_are_least};
 use su_session::laws::retrieves_are_answered;

@@ -11,17 +11,14 @@ mod agreeing;
 mod checking;
 mod generating;
 mod headline;
-mod reading;
 mod statements;
-mod status;
 mod steady;
 mod top;
 
-use status::Status;
 use std::process::ExitCode;
 use std::{env, io};
 use su_base::{List, NoMemory, Str};
-use su_io::{FileShelf, StreamSink};
+use su_io::{FileShelf, Outside, Status, StreamSink};
 use su_par::OpenGate;
 use top::run;
 
@@ -43,17 +40,12 @@ fn words(rt: &HostRuntime) -> Result<List<Str>, NoMemory> {
 }
 
 fn main(rt: HostRuntime) -> ExitCode {
-    let mut shelf = FileShelf::new(rt);
-    let mut out = StreamSink::new(rt);
+    let mut outside = Outside {
+        shelf: FileShelf::new(rt),
+        sink: StreamSink::new(rt),
+    };
     let status = match words(&rt) {
-        Ok(words) => run(
-            &rt,
-            rt.alloc(),
-            words.as_slice(),
-            &mut shelf,
-            &mut out,
-            &OpenGate,
-        ),
+        Ok(words) => run(&rt, rt.alloc(), words.as_slice(), &mut outside, &OpenGate),
         Err(NoMemory) => Status::NoMemory,
     };
     ExitCode::from(status as u8)

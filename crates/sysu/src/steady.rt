@@ -1,14 +1,15 @@
 //! Runs over files in memory and a sink in memory, of which no call fails.
-ghost use Rattle.std.specs.Prelude.{◌≡◌, ◌≢◌, ◌⊎◌, Some};
-ghost use Rattle.sysu.specs.Complete.{AreAccepted};
+ghost use Rattle.std.specs.Prelude.{◌≡◌, ◌≢◌, List, Some, IsSome};
+ghost use Rattle.su_io.specs.declared.files.File.{File};
+ghost use Rattle.su_io.specs.Moments.{Moment};
+ghost use Rattle.sysu.specs.Complete.{AreAccepted, IsFinished};
 ghost use Rattle.sysu.specs.Words.{Named, named};
 
-use crate::status::Status;
 use crate::top::run;
 use std::alloc::Global;
 use std::thread::Threads;
 use su_base::Str;
-use su_io::{SteadyShelf, SteadySink};
+use su_io::{Outside, Status, SteadyShelf, SteadySink};
 use su_par::Gate;
 
 /// A run over a shelf and a sink that never fail. No status is that of a fault, and where the schema is
@@ -17,13 +18,16 @@ pub fn run_steadily<R: Threads + Sync, G: Gate>(
     rt: &R,
     alloc: Global,
     words: &[Str],
-    shelf: &mut SteadyShelf,
-    out: &mut SteadySink,
+    outside: &mut Outside<SteadyShelf, SteadySink>,
     gate: &G,
 ) -> Status
+    ensures told { IsSome outside.old.files }
     ensures no_read_fault { result ≢ Status.ReadFault }
     ensures no_write_fault { result ≢ Status.WriteFault }
-    ensures ends { (names : Named) → named words.now ≡ Some names → AreAccepted names shelf.old.files → (result ≡ Status.Done) ⊎ ((result ≡ Status.SomeRefused) ⊎ (result ≡ Status.NoMemory)) }
+    ensures ends { (names : Named) (files : List File) → named words.now ≡ Some names → outside.old.files ≡ Some files → AreAccepted names files → IsFinished result }
 {
-    run(rt, alloc, words, shelf, out, gate)
+    let _before = &outside.shelf;
+    let status = run(rt, alloc, words, outside, gate);
+    let _after = &outside.shelf;
+    status
 }

@@ -1,24 +1,24 @@
 //! The run of the program over any shelf and sink.
-ghost use Rattle.std.specs.Prelude.{◌≡◌, ◌≤◌, ◌&&◌, nat_eq, nat_lt, true, false, Some, ◌<◌, ◌^◌, ◌++◌, ◌∷◌, [], IfOk, IfSome, MatchOption, option_map, string_bytes};
-ghost use Rattle.sysu.specs.Moments.{Moment};
+ghost use Rattle.std.specs.Prelude.{◌≡◌, ◌≢◌, ◌≤◌, ◌&&◌, nat_eq, nat_lt, true, false, Some, ◌<◌, ◌^◌, ◌++◌, ◌∷◌, [], IfOk, IfSome, MatchOption, option_map, string_bytes};
+ghost use Rattle.su_io.specs.HandOver.{HandsOver};
+ghost use Rattle.su_io.specs.Moments.{Moment};
+ghost use Rattle.su_show.specs.Refusals.{schema_line, IsOfText};
 ghost use Rattle.sysu.specs.Causes.{Caused};
-ghost use Rattle.sysu.specs.HandOver.{Closes, HandsOver};
 ghost use Rattle.sysu.specs.Complete.{IsComplete};
-ghost use Rattle.sysu.specs.Statuses.{Comes, RefusalEnds, RunEnds, UsageEnds};
-ghost use Rattle.sysu.specs.Words.{named, checks, is_count};
 ghost use Rattle.sysu.specs.Headline.{Headline};
+ghost use Rattle.sysu.specs.inside.Lines.{LineEnds};
+ghost use Rattle.sysu.specs.Statuses.{Comes, RunEnds, UsageEnds};
+ghost use Rattle.sysu.specs.Words.{named, checks, is_count};
 
 use crate::checking::check_file;
 use crate::generating::{generate, rows_asked};
 use crate::headline::queries_are_answered;
-use crate::reading::read_file;
 use crate::statements::answer_all;
-use crate::status::Status;
 use std::alloc::Global;
 use std::thread::Threads;
 use su_base::Str;
 use su_ddl::{DdlFault, read};
-use su_io::{Shelf, Sink, write_all};
+use su_io::{Outside, Shelf, Sink, Status};
 use su_par::Gate;
 use su_session::Session;
 use su_show::ddl_fault;
@@ -105,26 +105,26 @@ fn check_of(words: &[Str]) -> Option<&Str>
 }
 
 /// Writes the line for a refused schema.
-fn tell_refusal<K: Sink>(alloc: Global, fault: &DdlFault, out: &mut K) -> Status
-    ensures { RefusalEnds fault.now (record { written = K.written out.old; handed = K.handed out.old }) (K.faults out.old) (record { written = K.written out.new; handed = K.handed out.new }) (K.faults out.new) result }
+fn tell_refusal<H: Shelf, K: Sink>(
+    alloc: Global,
+    fault: &DdlFault,
+    outside: &mut Outside<H, K>,
+) -> Status
+    ensures of_text { result ≢ Status.NoMemory → IsOfText fault.now }
+    ensures ends { LineEnds (schema_line fault.now) Status.BadSchema outside.old outside.new result }
 {
-    let Ok(line) = ddl_fault(alloc, fault) else {
-        return Status::NoMemory;
-    };
-    match write_all(out, line.as_slice()) {
-        Ok(()) => Status::BadSchema,
-        Err(_) => Status::WriteFault,
+    match ddl_fault(alloc, fault) {
+        Ok(line) => outside.tell(line.as_slice(), Status::BadSchema),
+        Err(_) => Status::NoMemory,
     }
 }
 
 /// Writes the usage line.
-fn tell_usage<K: Sink>(out: &mut K) -> Status
-    ensures { UsageEnds (record { written = K.written out.old; handed = K.handed out.old }) (K.faults out.old) (record { written = K.written out.new; handed = K.handed out.new }) (K.faults out.new) result }
+fn tell_usage<H: Shelf, K: Sink>(outside: &mut Outside<H, K>) -> Status
+    ensures files { outside.new.files ≡ outside.old.files }
+    ensures ends { UsageEnds outside.old outside.new result }
 {
-    match write_all(out, USAGE.as_bytes()) {
-        Ok(()) => Status::Usage,
-        Err(_) => Status::WriteFault,
-    }
+    outside.tell(USAGE.as_bytes(), Status::Usage)
 }
 
 /// Runs the script on the schema.
@@ -134,40 +134,27 @@ fn run_files<R: Threads + Sync, H: Shelf, K: Sink, G: Gate>(
     schema: Str,
     script: Str,
     workers: u8,
-    shelf: &mut H,
-    out: &mut K,
+    outside: &mut Outside<H, K>,
     gate: &G,
 ) -> Status
     requires least { 1 ≤ workers }
     requires most { workers ≤ 16 }
-    ensures files { H.files shelf.new ≡ H.files shelf.old }
-    ensures ends { RunEnds (record { schema = schema; script = script })
-        (record { files = H.files shelf.old; begun = H.begun shelf.old; taken = H.taken shelf.old; failed = H.failed shelf.old; reads = H.faults shelf.old; told = record { written = K.written out.old; handed = K.handed out.old }; writes = K.faults out.old })
-        (record { files = H.files shelf.new; begun = H.begun shelf.new; taken = H.taken shelf.new; failed = H.failed shelf.new; reads = H.faults shelf.new; told = record { written = K.written out.new; handed = K.handed out.new }; writes = K.faults out.new })
-        result }
+    ensures files { outside.new.files ≡ outside.old.files }
+    ensures ends { RunEnds (record { schema = schema; script = script }) outside.old outside.new result }
 {
-    let bytes = match read_file(alloc, shelf, schema, SCHEMA_LIMIT) {
+    let bytes = match outside.read(alloc, schema, SCHEMA_LIMIT) {
         Ok(bytes) => bytes,
         Err(status) => return status,
     };
     let schema = match read(alloc, bytes.as_slice()) {
         Ok(schema) => schema,
-        Err(fault) => return tell_refusal(alloc, &fault, out),
+        Err(fault) => return tell_refusal(alloc, &fault, outside),
     };
     let Ok(session) = Session::open(alloc, schema) else {
         return Status::NoMemory;
     };
-    match read_file(alloc, shelf, script, SCRIPT_LIMIT) {
-        Ok(bytes) => answer_all(
-            rt,
-            alloc,
-            session,
-            bytes.as_slice(),
-            workers,
-            shelf,
-            out,
-            gate,
-        ),
+    match outside.read(alloc, script, SCRIPT_LIMIT) {
+        Ok(bytes) => answer_all(rt, alloc, session, bytes.as_slice(), workers, outside, gate),
         Err(status) => status,
     }
 }
@@ -177,46 +164,26 @@ fn run_words<R: Threads + Sync, H: Shelf, K: Sink, G: Gate>(
     rt: &R,
     alloc: Global,
     words: &[Str],
-    shelf: &mut H,
-    out: &mut K,
+    outside: &mut Outside<H, K>,
     gate: &G,
 ) -> Status
-    ensures files { H.files shelf.new ≡ H.files shelf.old }
-    ensures comes { Comes words.now
-        (record { files = H.files shelf.old; begun = H.begun shelf.old; taken = H.taken shelf.old; failed = H.failed shelf.old; reads = H.faults shelf.old; told = record { written = K.written out.old; handed = K.handed out.old }; writes = K.faults out.old })
-        (record { files = H.files shelf.new; begun = H.begun shelf.new; taken = H.taken shelf.new; failed = H.failed shelf.new; reads = H.faults shelf.new; told = record { written = K.written out.new; handed = K.handed out.new }; writes = K.faults out.new })
-        result }
-    ensures caused { Caused (H.faults shelf.old) (H.faults shelf.new) (K.faults out.old) (K.faults out.new) result }
+    ensures files { outside.new.files ≡ outside.old.files }
+    ensures comes { Comes words.now outside.old outside.new result }
+    ensures caused { Caused outside.old outside.new result }
 {
     if let Some(file) = check_of(words) {
-        return check_file(alloc, file, shelf, out);
+        return check_file(alloc, file, outside);
     }
     if let Some(n) = rows_asked(words) {
-        return generate(rt, alloc, n, out, gate);
+        return generate(rt, alloc, n, outside, gate);
     }
     let Some(asked) = command_of(words) else {
-        return tell_usage(out);
+        return tell_usage(outside);
     };
     let (Ok(schema), Ok(script)) = (asked.schema.copy(alloc), asked.script.copy(alloc)) else {
         return Status::NoMemory;
     };
-    run_files(rt, alloc, schema, script, asked.workers, shelf, out, gate)
-}
-
-/// Hands over what the sink holds back, and gives the status of the whole run. After a failed write
-/// nothing more is handed over.
-fn hand_over<K: Sink>(out: &mut K, came: Status) -> Status
-    ensures written { K.written out.new ≡ K.written out.old }
-    ensures handed { K.handed out.new ≡ K.handed out.old }
-    ensures closes { Closes came (K.faults out.old) (K.faults out.new) result }
-{
-    if came == Status::WriteFault {
-        return came;
-    }
-    match out.flush() {
-        Ok(()) => came,
-        Err(_) => Status::WriteFault,
-    }
+    run_files(rt, alloc, schema, script, asked.workers, outside, gate)
 }
 
 /// The whole program over any shelf and sink. The words, without the program's name, are
@@ -234,26 +201,16 @@ pub fn run<R: Threads + Sync, H: Shelf, K: Sink, G: Gate>(
     rt: &R,
     alloc: Global,
     words: &[Str],
-    shelf: &mut H,
-    out: &mut K,
+    outside: &mut Outside<H, K>,
     gate: &G,
 ) -> Status
-    ensures files { H.files shelf.new ≡ H.files shelf.old }
-    ensures ends { HandsOver (Comes words.now
-        (record { files = H.files shelf.old; begun = H.begun shelf.old; taken = H.taken shelf.old; failed = H.failed shelf.old; reads = H.faults shelf.old; told = record { written = K.written out.old; handed = K.handed out.old }; writes = K.faults out.old }))
-        (record { files = H.files shelf.new; begun = H.begun shelf.new; taken = H.taken shelf.new; failed = H.failed shelf.new; reads = H.faults shelf.new; told = record { written = K.written out.new; handed = K.handed out.new }; writes = K.faults out.new })
-        result }
-    ensures caused { Caused (H.faults shelf.old) (H.faults shelf.new) (K.faults out.old) (K.faults out.new) result }
-    ensures complete { IsComplete words.now
-        (record { files = H.files shelf.old; begun = H.begun shelf.old; taken = H.taken shelf.old; failed = H.failed shelf.old; reads = H.faults shelf.old; told = record { written = K.written out.old; handed = K.handed out.old }; writes = K.faults out.old })
-        (record { files = H.files shelf.new; begun = H.begun shelf.new; taken = H.taken shelf.new; failed = H.failed shelf.new; reads = H.faults shelf.new; told = record { written = K.written out.new; handed = K.handed out.new }; writes = K.faults out.new })
-        result }
-    ensures headline { Headline words.now
-        (record { files = H.files shelf.old; begun = H.begun shelf.old; taken = H.taken shelf.old; failed = H.failed shelf.old; reads = H.faults shelf.old; told = record { written = K.written out.old; handed = K.handed out.old }; writes = K.faults out.old })
-        (record { files = H.files shelf.new; begun = H.begun shelf.new; taken = H.taken shelf.new; failed = H.failed shelf.new; reads = H.faults shelf.new; told = record { written = K.written out.new; handed = K.handed out.new }; writes = K.faults out.new })
-        result }
+    ensures files { outside.new.files ≡ outside.old.files }
+    ensures ends { HandsOver (Comes words.now outside.old) outside.new result }
+    ensures caused { Caused outside.old outside.new result }
+    ensures complete { IsComplete words.now outside.old outside.new result }
+    ensures headline { Headline words.now outside.old outside.new result }
 {
     queries_are_answered();
-    let came = run_words(rt, alloc, words, shelf, out, gate);
-    hand_over(out, came)
+    let came = run_words(rt, alloc, words, outside, gate);
+    outside.hand_over(came)
 }

@@ -1,17 +1,23 @@
--- How one statement of a script ends.
+-- How one statement of a script ends, and all of them.
 -- No public contract cites this module.
-use Rattle.std.specs.Prelude.{◌≡◌, ◌<◌, ◌≤◌, ℕ, List, Option, Bool, true, Result, Ok, Err, length, take}
+use Rattle.std.specs.Prelude.{◌≡◌, ◌≤◌, ◌∷◌, [], ℕ, List, Option, Some, Bool, Result, Ok, Err, length}
 use Rattle.su_io.specs.Causes.{Rose}
-use Rattle.su_io.specs.Ends.{Grew}
 use Rattle.su_io.specs.declared.files.File.{File}
+use Rattle.su_io.specs.declared.status.Status.{Status}
+use Rattle.su_io.specs.declared.status.Status.TheVariants.{ReadFault, WriteFault, TooLong, NoMemory}
+use Rattle.su_io.specs.Moments.{Moment}
+use Rattle.su_io.specs.Programs.{ReadsAndTells}
+use Rattle.su_io.specs.Reading.{IsFile, ReadingEnds}
+use Rattle.su_io.specs.Writing.{Wrote, WroteFront}
+use Rattle.su_schema.specs.SchemaValue.{SchemaValue}
 use Rattle.su_session.specs.declared.replies.Reply.{Reply}
 use Rattle.su_session.specs.Reply.{Replied}
 use Rattle.su_state.specs.DatabaseValue.{DatabaseValue, IsWellKept}
-use Rattle.sysu.specs.declared.status.Status.{Status}
-use Rattle.sysu.specs.declared.status.Status.TheVariants.{ReadFault, WriteFault, TooLong, NoMemory}
-use Rattle.sysu.specs.inside.HandedFiles.{Shelved, Began, TookOne}
-use Rattle.sysu.specs.Moments.{Told, WroteWhole}
-use Rattle.sysu.specs.Handed.{IsHanded, IsOver, load_limit}
+use Rattle.sysu.specs.inside.HandedFiles.{Began, HasTaken}
+use Rattle.sysu.specs.Handed.{IsHanded, load_limit}
+use Rattle.sysu.specs.RunFiles.{AreRead, script_limit}
+use Rattle.sysu.specs.Statuses.{RunHas}
+use Rattle.sysu.specs.Words.{Named}
 
 -- the statement was handed what it wants and answered, on a well kept database
 pub record AnsweredOne (files : Option (List File)) (old : DatabaseValue) (text : List ℕ) (new : DatabaseValue) (reply : Reply) : Type 0 where
@@ -20,22 +26,31 @@ pub record AnsweredOne (files : Option (List File)) (old : DatabaseValue) (text 
   pub replied : Replied old text file reply new
   pub kept : IsWellKept old
 
--- of the sink: what it tells, and its count of faults
-pub record Sunk : Type 0 where
-  pub told : Told
-  pub faults : ℕ
+-- the run ends at the file that the statement wants
+pub record StopsAtFile (db : DatabaseValue) (text : List ℕ) (old new : Moment) (status : Status) : Type 0 where
+  pub path : List ℕ
+  pub began : Began db text path new
+  pub reading : ReadingEnds path load_limit old new status
+  pub told : new.told ≡ old.told
+  pub writes : new.writes ≡ old.writes
 
 -- how one statement ends: with its reply, or with the run
-abbrev pub TurnEnds : Option (List File) → DatabaseValue → List ℕ → DatabaseValue → Shelved → Shelved → Sunk → Sunk → Result Bool Status → Type 0
-TurnEnds files old text new before after from to (Ok refused) =
-    (after.faults ≡ before.faults) × (to.faults ≡ from.faults) × TookOne old text before after
-    × ((reply : Reply) × AnsweredOne files old text new reply × (reply.refused ≡ refused) × WroteWhole from.told to.told reply.bytes)
-TurnEnds files old text new before after from to (Err ReadFault) =
-    ((path : List ℕ) × Began old text path after × Rose before.faults after.faults × (after.failed ≡ true)) × (to ≡ from)
-TurnEnds files old text new before after from to (Err TooLong) =
-    ((path : List ℕ) × Began old text path after × (after.faults ≡ before.faults) × (load_limit < after.taken) × IsOver files path load_limit) × (to ≡ from)
-TurnEnds files old text new before after from to (Err WriteFault) =
-    (after.faults ≡ before.faults) × Rose from.faults to.faults × TookOne old text before after
-    × ((reply : Reply) × AnsweredOne files old text new reply × ((count : ℕ) × (count ≤ length reply.bytes) × Grew from.told.written to.told.written (take count reply.bytes)))
-TurnEnds files old text new before after from to (Err NoMemory) = (after.faults ≡ before.faults) × TookOne old text before after × (to ≡ from)
-TurnEnds files old text new before after from to (Err _) = ⊥
+abbrev pub TurnEnds : DatabaseValue → List ℕ → DatabaseValue → Moment → Moment → Result Bool Status → Type 0
+TurnEnds db text next old new (Ok refused) =
+    HasTaken db text old new × (new.writes ≡ old.writes) × ((reply : Reply) × AnsweredOne old.files db text next reply × (reply.refused ≡ refused) × Wrote old.told new.told (reply.bytes ∷ []))
+TurnEnds db text next old new (Err ReadFault) = StopsAtFile db text old new ReadFault
+TurnEnds db text next old new (Err TooLong) = StopsAtFile db text old new TooLong
+TurnEnds db text next old new (Err WriteFault) =
+    HasTaken db text old new × Rose old.writes new.writes × ((reply : Reply) × AnsweredOne old.files db text next reply × WroteFront old.told new.told (reply.bytes ∷ []))
+TurnEnds db text next old new (Err NoMemory) = HasTaken db text old new × (new.writes ≡ old.writes) × (new.told ≡ old.told)
+TurnEnds db text next old new (Err _) = ⊥
+
+-- the schema was accepted, and the script was read last
+pub record IsAtScript (names : Named) (schema : SchemaValue) (script : List ℕ) (now : Moment) : Type 0 where
+  pub read : AreRead names now.files schema script
+  pub begun : now.begun ≡ Some names.script
+  pub taken : now.taken ≤ script_limit
+
+-- how the statements of a script end
+abbrev pub ScriptEnds : Named → Moment → Moment → Status → Type 0
+ScriptEnds names old new status = ReadsAndTells (RunHas names old.files status) old new status

@@ -1,12 +1,19 @@
-use Rattle.std.proofs.Common.{refl}
-use Rattle.sysu.proofs.FaultlessRuns.{no_read_fault, no_write_fault, ends}
+use Rattle.std.proofs.Common.{ap, sym}
+use Rattle.su_io.specs.Moments.{Moment}
+use Rattle.sysu.proofs.FaultlessRuns.{no_read_fault, no_write_fault, finishes}
 use Rattle.sysu.proofs.steady.run_steadily.Goals as goal
 
 pub returns-clause-no_read_fault : goal.returns-clause-no_read_fault
-returns-clause-no_read_fault g c = no_read_fault c.run.result c.run.ensures.caused
+returns-clause-no_read_fault g c =
+    no_read_fault c.args.outside.now c.run-status.new.outside (ap (λ (m : Moment). m.reads) (sym c.outside.view_is)) (ap (λ (m : Moment). m.reads) (sym c.outside-2.view_is))
+    (ap (λ (m : Moment). m.writes) (sym c.outside.view_is)) (ap (λ (m : Moment). m.writes) (sym c.outside-2.view_is)) c.run-status.result c.run-status.ensures.caused
 
 pub returns-clause-no_write_fault : goal.returns-clause-no_write_fault
-returns-clause-no_write_fault g c = no_write_fault c.run.result c.run.ensures.caused
+returns-clause-no_write_fault g c =
+    no_write_fault c.args.outside.now c.run-status.new.outside (ap (λ (m : Moment). m.reads) (sym c.outside.view_is)) (ap (λ (m : Moment). m.reads) (sym c.outside-2.view_is))
+    (ap (λ (m : Moment). m.writes) (sym c.outside.view_is)) (ap (λ (m : Moment). m.writes) (sym c.outside-2.view_is)) c.run-status.result c.run-status.ensures.caused
 
 pub returns-clause-ends : goal.returns-clause-ends
-returns-clause-ends g c = ends c.args.words.now _ _ _ c.run.result refl refl refl refl refl c.run.ensures.complete
+returns-clause-ends g c =
+    finishes c.args.outside.now c.run-status.new.outside (ap (λ (m : Moment). m.reads) (sym c.outside.view_is)) (ap (λ (m : Moment). m.reads) (sym c.outside-2.view_is))
+    (ap (λ (m : Moment). m.writes) (sym c.outside.view_is)) (ap (λ (m : Moment). m.writes) (sym c.outside-2.view_is)) c.args.words.now c.run-status.result c.run-status.ensures.complete

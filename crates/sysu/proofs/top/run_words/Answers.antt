@@ -1,17 +1,19 @@
-use Rattle.std.proofs.Common.{refl, sym}
-use Rattle.sysu.proofs.Completeness.{run_caused, check_caused}
-use Rattle.sysu.proofs.Commands.{run_is, check_is, generate_is}
+use Rattle.std.proofs.Common.{refl, sym, inr}
+use Rattle.sysu.proofs.Completeness.{ends_caused, tells_caused}
+use Rattle.sysu.proofs.Commands.{run_is, check_is, generate_is, usage_is}
 use Rattle.sysu.proofs.top.run_words.Goals as goal
 
 pub returns-in-Some-clause-comes : goal.returns-in-Some-clause-comes
 returns-in-Some-clause-comes g c = check_is c.args.words.now c.in-Some.file.now _ _ c.check_file.result (sym c.in-Some.ensures) c.check_file.ensures.ends
 
 pub returns-in-Some-clause-caused : goal.returns-in-Some-clause-caused
-returns-in-Some-clause-caused g c = check_caused c.in-Some.file.now _ _ c.check_file.result c.check_file.ensures.ends
+returns-in-Some-clause-caused g c = ends_caused _ _ c.check_file.result c.check_file.ensures.ends
 
 pub returns-in-Some-rows_asked-clause-comes : goal.returns-in-Some-rows_asked-clause-comes
-returns-in-Some-rows_asked-clause-comes g c =
-    generate_is c.args.words.now c.in-Some-rows_asked.n _ _ c.generate.result c.in-Some-rows_asked.ensures (refl, refl, refl, c.generate.ensures)
+returns-in-Some-rows_asked-clause-comes g c = generate_is c.args.words.now c.in-Some-rows_asked.n _ _ c.generate.result c.in-Some-rows_asked.ensures c.generate.ensures.ends
+
+pub returns-in-Some-rows_asked-clause-caused : goal.returns-in-Some-rows_asked-clause-caused
+returns-in-Some-rows_asked-clause-caused g c = tells_caused _ _ c.generate.result c.generate.ensures.ends
 
 pub returns-clause-comes : goal.returns-clause-comes
 returns-clause-comes g c =
@@ -20,4 +22,4 @@ returns-clause-comes g c =
     (rw (← c.in-Ok-Ok.ensures, ← c.in-Ok-Ok.ensures') c.run_files.ensures.ends)
 
 pub returns-clause-caused : goal.returns-clause-caused
-returns-clause-caused g c = run_caused _ _ _ c.run_files.result c.run_files.ensures.ends
+returns-clause-caused g c = ends_caused _ _ c.run_files.result c.run_files.ensures.ends
