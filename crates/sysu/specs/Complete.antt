@@ -1,5 +1,5 @@
 -- What a run, or the making of a bank, comes to where nothing of the outside stands in its way.
--- untroubled: no call of the outside fails, and no file is past its limit
+-- untroubled: no call of the outside fails, and no file that falls due is past its limit
 use Rattle.std.specs.Prelude.{◌≡◌, ◌≤◌, ◌⊎◌, ℕ, List, Some, Ok, length}
 use Rattle.su_io.specs.Causes.{Rose}
 use Rattle.su_io.specs.declared.files.File.{File as AFile}
@@ -29,7 +29,7 @@ pub record IsUntroubled (names : Named) (files : List AFile) (old new : Moment) 
 abbrev pub IsFinished : Status → Type 0
 IsFinished status = (status ≡ Done) ⊎ ((status ≡ SomeRefused) ⊎ (status ≡ NoMemory))
 
--- such a run finishes, or ends for want of memory; so does the making of a bank where no write fails
+-- so such a run ends; and the making of a bank, where no write fails, with its text told or for want of memory
 pub record IsComplete (words : List (List ℕ)) (old new : Moment) (status : Status) : Type 0 where
   pub ran : (names : Named) (files : List AFile) → named words ≡ Some names → IsUntroubled names files old new → IsFinished status
   pub generated : (n : ℕ) → Generates words n → ¬ Rose old.writes new.writes → (status ≡ Done) ⊎ (status ≡ NoMemory)

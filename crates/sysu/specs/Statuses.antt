@@ -1,5 +1,5 @@
 -- How a run ends: by its status, which file was begun last, and what was written.
--- texts: each is handed over by one whole write; old, new: the outside before and after
+-- texts: handed over one after another, each by one whole write where no write fails; old, new: the outside before and after
 use Rattle.std.specs.Prelude.{◌≡◌, ◌≢◌, ◌⊎◌, ℕ, List, [], ◌∷◌, Option, Some, None, true, false, Err}
 use Rattle.su_io.specs.declared.files.File.{File}
 use Rattle.su_io.specs.declared.status.Status.{Status}
@@ -19,8 +19,8 @@ use Rattle.sysu.specs.Words.{Named, named, checks, Generates, usage_line}
 abbrev pub IsRefusal : Named → Option (List File) → List ℕ → ℕ → List (List ℕ) → Type 0
 IsRefusal names files path limit texts = (path ≡ names.schema) × (limit ≡ schema_limit) × ((fault : DdlFault) × SchemaIs names files (Err fault) × (texts ≡ schema_line fault ∷ []))
 
--- by the status of a run on two files: the file begun last, its limit, and the texts, all or, where they are a front, those that
--- were written or begun
+-- by the status of a run on two files: a file that falls due, its limit, and the texts: all that were written or, where a write
+-- failed, those of which a front was
 abbrev pub RunHas : Named → Option (List File) → Status → List ℕ → ℕ → List (List ℕ) → Type 0
 RunHas names files Done path limit texts = IsDue names files path limit × AreAll names files false texts
 RunHas names files SomeRefused path limit texts = IsDue names files path limit × AreAll names files true texts

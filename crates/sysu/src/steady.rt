@@ -26,8 +26,10 @@ pub fn run_steadily<R: Threads + Sync, G: Gate>(
     ensures no_write_fault { result ≢ Status.WriteFault }
     ensures ends { (names : Named) (files : List File) → named words.now ≡ Some names → outside.old.files ≡ Some files → AreAccepted names files → IsFinished result }
 {
+    // For the proof: the shelf tells its files, and no call of it fails.
     let _before = &outside.shelf;
     let status = run(rt, alloc, words, outside, gate);
+    // For the proof: nor did one.
     let _after = &outside.shelf;
     status
 }
