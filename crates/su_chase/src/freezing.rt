@@ -13,7 +13,7 @@ ghost use Rattle.su_tableau.specs.Mapping.{Maps};
 ghost use Rattle.su_chase.specs.Chase.{IsClosedPartition};
 ghost use Rattle.su_fd.specs.MetDependencies.{Meets};
 ghost use Rattle.su_chase.specs.Frozen.{IsFrozen, AreAvoided};
-ghost use Rattle.su_chase.specs.inside.Rows.{variable_of, value_in};
+ghost use Rattle.su_chase.specs.inside.Rows.{variable_of, value_in, AreKindsOf};
 
 use crate::candidates::{free_values, sorted_copies};
 use crate::chasing::rows_of;
@@ -111,7 +111,7 @@ fn kinds_of(
     requires widths { All (λ row. length row ≡ length kinds.now) rows.now }
     requires occur { (k : ℕ) → Contains variables.now k → Occurs rows.now k }
     ensures each { IfOk result (λ found. length found ≡ length variables.now) }
-    ensures kinds { IfOk result (λ found. (var_kind : ℕ → AKind) → All (λ row. map (sym_kind var_kind) row ≡ kinds.now) rows.now → found ≡ map var_kind variables.now) }
+    ensures kinds { IfOk result (AreKindsOf kinds.now rows.now variables.now) }
 {
     let mut found = List::new(alloc);
     for k in variables {

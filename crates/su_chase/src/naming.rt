@@ -9,7 +9,7 @@ ghost use Rattle.su_classes.specs.Tables.{rep};
 ghost use Rattle.su_classes.specs.inside.Symbols.{symbol_at as symbol_numbered};
 ghost use Rattle.su_chase.specs.Chase.{IsName, IsConsistent, IsClash};
 ghost use Rattle.su_chase.specs.Chased.{AreRows};
-ghost use Rattle.su_chase.specs.inside.Rows.{constants_in, IsTableOf, IsFirstClash, TakesLesser, ClashesAt};
+ghost use Rattle.su_chase.specs.inside.Rows.{constants_in, IsTableOf, IsFirstClash, TakesLesser, ClashesAt, AreNamesBelow};
 
 use crate::numbering::{constants_of, limit_of, placed_rows};
 use std::alloc::Global;
@@ -122,7 +122,7 @@ fn names_of(
     requires small { limit ≤ 2 ^ 32 }
     requires below { (i : ℕ) → i < length table.now → rep table.now i ≤ i }
     ensures each { IfOk result (λ names. length names ≡ limit) }
-    ensures names { IfOk result (λ names. (k : ℕ) → k < limit → get_or names k (Var k) ≡ symbol_numbered constants.now (rep table.now (length constants.now + k))) }
+    ensures names { IfOk result (AreNamesBelow limit constants.now table.now) }
 {
     let mut names = List::new(alloc);
     for k in 0..limit {

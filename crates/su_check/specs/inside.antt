@@ -1,7 +1,9 @@
 -- Definitions that only contracts of private functions need.
 pub mod Agreement
 pub mod Boards
+pub mod Branches
 pub mod Cells
+pub mod Forms
 pub mod Guides
 pub mod LineReaders
 pub mod Trees

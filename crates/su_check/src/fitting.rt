@@ -1,10 +1,9 @@
 //! Whether a row can go to a target, beside the rows that have theirs.
-ghost use Rattle.std.specs.Prelude.{◌≡◌, ◌<◌, ◌↔◌, ℕ, IsTrue, IfOk, MatchOption, Some, None, false, length, get_or, All, List as Items};
-ghost use Rattle.su_tableau.specs.declared.symbols.Sym.{Sym as ASym};
+ghost use Rattle.std.specs.Prelude.{◌≡◌, ◌<◌, ◌↔◌, ℕ, IsTrue, IfOk, MatchOption, Some, None, false, length, All, List as Items};
 ghost use Rattle.su_check.specs.Certificate.{lines_of};
 ghost use Rattle.su_check.specs.SentRows.{AreSent, sent_too};
 ghost use Rattle.su_check.specs.inside.Widths.{AreWide, IsWithin};
-ghost use Rattle.su_check.specs.inside.Boards.{no_place, IsFixed, IsImage, Sends, Covers, Keeps, IsReady};
+ghost use Rattle.su_check.specs.inside.Boards.{IsFixed, IsImage, Sends, Covers, Keeps, IsReady, HasNoImage, KeepsImages};
 ghost use Rattle.su_check.specs.declared.sending.Sent.{Sent as ASent};
 
 use crate::boards::Board;
@@ -18,7 +17,7 @@ use su_tableau::Sym;
 pub fn image<'a>(term: &'a Term, sent: &[Sent], place: StepColumn, x: &Sym) -> Option<&'a Sym>
     requires wide { AreWide term.now.rows }
     requires within { All (IsWithin (lines_of term.now)) sent.now }
-    ensures { MatchOption result ((y : ASym) → ¬ (IsImage (lines_of term.now) sent.now place x.now y)) (λ y. IsImage (lines_of term.now) sent.now place x.now y.now) }
+    ensures { MatchOption result (HasNoImage (lines_of term.now) sent.now place x.now) (λ y. IsImage (lines_of term.now) sent.now place x.now y.now) }
 {
     if place.step >= sent.len() {
         return None;
@@ -49,7 +48,7 @@ fn cell_goes(
     requires here { IsImage (lines_of term.now) sent.now here x.now y.now }
     ensures yes { IsTrue result → Sends (lines_of term.now) sent.now places.new x.now y.now number }
     ensures no { result ≡ false → ¬ (AreSent (lines_of term.now) sent.now) }
-    ensures keeps { (n : ℕ) (z w : ASym) → (number ≡ Some n → z ≡ x.now) → IsImage (lines_of term.now) sent.now (get_or places.old n no_place) z w → get_or places.new n no_place ≡ get_or places.old n no_place }
+    ensures keeps { KeepsImages (lines_of term.now) sent.now number x.now places.old places.new }
     ensures len { length places.new ≡ length places.old }
 {
     match number {

@@ -1,7 +1,6 @@
 //! Whether a term is good in form.
-ghost use Rattle.std.specs.Prelude.{◌≡◌, ◌↔◌, IsTrue, IfOk, MatchOption, length, All};
-ghost use Rattle.su_check.specs.inside.Boards.{IsBoard};
-ghost use Rattle.su_check.specs.Certificate.{lines_of, IsGoodForm};
+ghost use Rattle.std.specs.Prelude.{◌≡◌, ◌↔◌, IsTrue, IfOk, length, All};
+ghost use Rattle.su_check.specs.inside.Forms.{IsBoardIfGood};
 
 use crate::boards::{Board, board_of, variables_in};
 use crate::certificates::Term;
@@ -25,7 +24,7 @@ pub fn board_of_form(
     place: u32,
     term: &Term,
 ) -> Result<Option<Board>, NoMemory>
-    ensures { IfOk result (λ o. MatchOption o (¬ (IsGoodForm kinds.now place term.now)) (λ b. IsGoodForm kinds.now place term.now × IsBoard (lines_of term.now) b)) }
+    ensures { IfOk result (IsBoardIfGood kinds.now place term.now) }
 {
     let rows = term.rows.as_slice();
     if term.number != place || rows.len() > 64 || !are_wide(rows, kinds.len()) {

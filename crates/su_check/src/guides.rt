@@ -1,13 +1,9 @@
 //! Which rows come into question as targets. Whether one is a target is for the test of fitting to say.
 ghost use Rattle.std.specs.Prelude.{◌≡◌, ◌<◌, ◌≤◌, ℕ, IfOk, [], length, get_or, All};
-ghost use Rattle.std.specs.Int.{bit_at};
-ghost use Rattle.su_tableau.specs.declared.symbols.Sym.{Sym as ASym};
 ghost use Rattle.su_check.specs.Certificate.{lines_of};
-ghost use Rattle.su_check.specs.inside.Cells.{cell_at};
-ghost use Rattle.su_check.specs.SentRows.{numbered_row};
 ghost use Rattle.su_check.specs.inside.Widths.{AreWide, IsWithin};
-ghost use Rattle.su_check.specs.inside.Boards.{IsImage, IsReady};
-ghost use Rattle.su_check.specs.inside.Guides.{HasCarriers, AreAlike, HasTargets, IsGuide};
+ghost use Rattle.su_check.specs.inside.Boards.{IsReady};
+ghost use Rattle.su_check.specs.inside.Guides.{HasCarriers, AreAlike, HasTargets, IsGuide, HasRowsWithImage};
 
 use crate::boards::Board;
 use crate::cells::{at, row_at};
@@ -171,7 +167,7 @@ fn with_image(
     requires within { All (IsWithin (lines_of term.now)) sent.now }
     requires guide { IsGuide (lines_of term.now) guide.now }
     requires column { (i : ℕ) → i < length term.now.rows → column < length (get_or term.now.rows i []) }
-    ensures { (j : ℕ) → j < length term.now.rows → ((y : ASym) → IsImage (lines_of term.now) sent.now place x.now y → cell_at (numbered_row (lines_of term.now) j) column ≡ y) → bit_at result j ≡ 1 }
+    ensures { HasRowsWithImage (lines_of term.now) sent.now place x.now column result }
 {
     match image(term, sent, place, x) {
         None => u64::MAX,

@@ -2,7 +2,7 @@
 ghost use Rattle.std.specs.Prelude.{◌≡◌, ◌≤◌, ◌++◌, ◌∷◌, [], ℕ, length, codes, flat_map, All, IfOk, List as Items};
 ghost use Rattle.su_lex.specs.Names.{Begins};
 ghost use Rattle.su_lex.specs.declared.meaning.Symbol.{Symbol as ASymbol};
-ghost use Rattle.su_lex.specs.declared.meaning.Symbol.TheVariants.{Word as AWord, Sign as ASign};
+ghost use Rattle.su_lex.specs.declared.meaning.Symbol.TheVariants.{Word as AWord};
 ghost use Rattle.su_lex.specs.declared.signs.Sign.TheVariants.{Open};
 ghost use Rattle.su_tableau.specs.declared.symbols.Sym.{Sym as ASym};
 ghost use Rattle.su_check.specs.declared.nodes.Node.{Node as ANode};
@@ -12,7 +12,7 @@ ghost use Rattle.su_check.specs.declared.certificates.Certificate.{Certificate a
 ghost use Rattle.su_check.specs.Ranges.{IsByteNode, IsTermInRange, IsInRange};
 ghost use Rattle.su_check.specs.NodeSymbols.{node_symbols};
 ghost use Rattle.su_check.specs.Grammar.{row_line, tree_line, certificate_symbols};
-ghost use Rattle.su_check.specs.inside.LineReaders.{EndsTerm, Gives, IsRow, IsByteTree, row_before, tree_before, term_before, term_symbols};
+ghost use Rattle.su_check.specs.inside.LineReaders.{EndsTerm, Gives, IsRow, IsByteTree, row_before, tree_before, term_before, term_symbols, GivesBefore, AreOnlyRows};
 
 use crate::certificates::{Certificate, RowTree, Term};
 use crate::items::{bytes, expect_number, kinds, symbols, takes_number};
@@ -24,7 +24,7 @@ use su_tableau::Sym;
 /// The row of this width whose parenthesis is open.
 fn row(reader: &mut Reader, width: usize) -> Result<List<Sym>, LexEnd>
     ensures found { IfOk result (λ xs. (reader.old ≡ row_before xs reader.new) × IsRow width xs) }
-    ensures only { (xs : Items ASym) (r : Items ASymbol) → IsRow width xs → reader.old ≡ row_before xs r → Gives result (λ ys. (ys ≡ xs) × (reader.new ≡ r)) }
+    ensures only { (xs : Items ASym) (r : Items ASymbol) → IsRow width xs → reader.old ≡ row_before xs r → GivesBefore result reader.new xs r }
 {
     let row = symbols(reader)?;
     if row.len() != width {
@@ -37,8 +37,7 @@ fn row(reader: &mut Reader, width: usize) -> Result<List<Sym>, LexEnd>
 /// The rows that come next.
 fn rows(reader: &mut Reader, width: usize) -> Result<List<List<Sym>>, LexEnd>
     ensures found { IfOk result (λ rows. (reader.old ≡ flat_map row_line rows ++ reader.new) × All (IsRow width) rows) }
-    ensures only { (rows : Items (Items ASym)) (r : Items ASymbol) → All (IsRow width) rows → ¬ (Begins (ASign Open) r) → reader.old ≡ flat_map row_line rows ++ r
-        → Gives result (λ ys. (ys ≡ rows) × (reader.new ≡ r)) }
+    ensures only { AreOnlyRows width reader.old result reader.new }
 {
     let mut rows = List::new(reader.alloc());
     while reader.takes_sign(Sign::Open) {
@@ -50,7 +49,7 @@ fn rows(reader: &mut Reader, width: usize) -> Result<List<List<Sym>>, LexEnd>
 /// The node that comes next.
 fn node(reader: &mut Reader) -> Result<Node, LexEnd>
     ensures found { IfOk result (λ n. (reader.old ≡ node_symbols n ++ reader.new) × IsByteNode n) }
-    ensures only { (n : ANode) (r : Items ASymbol) → IsByteNode n → reader.old ≡ node_symbols n ++ r → Gives result (λ m. (m ≡ n) × (reader.new ≡ r)) }
+    ensures only { (n : ANode) (r : Items ASymbol) → IsByteNode n → reader.old ≡ node_symbols n ++ r → GivesBefore result reader.new n r }
 {
     reader.expect_sign(Sign::Open)?;
     let row = expect_number(reader, 255)? as u8;
@@ -69,7 +68,7 @@ fn node(reader: &mut Reader) -> Result<Node, LexEnd>
 /// The tree whose word is read.
 fn tree(reader: &mut Reader) -> Result<RowTree, LexEnd>
     ensures found { IfOk result (λ t. (reader.old ≡ tree_before t reader.new) × IsByteTree t) }
-    ensures only { (t : ARowTree) (r : Items ASymbol) → IsByteTree t → reader.old ≡ tree_before t r → Gives result (λ u. (u ≡ t) × (reader.new ≡ r)) }
+    ensures only { (t : ARowTree) (r : Items ASymbol) → IsByteTree t → reader.old ≡ tree_before t r → GivesBefore result reader.new t r }
 {
     let row = expect_number(reader, 255)? as u8;
     let node = node(reader)?;
@@ -80,7 +79,7 @@ fn tree(reader: &mut Reader) -> Result<RowTree, LexEnd>
 fn trees(reader: &mut Reader) -> Result<List<RowTree>, LexEnd>
     ensures found { IfOk result (λ ts. (reader.old ≡ flat_map tree_line ts ++ reader.new) × All IsByteTree ts) }
     ensures only { (ts : Items ARowTree) (r : Items ASymbol) → All IsByteTree ts → ¬ (Begins (AWord (codes "tree")) r) → reader.old ≡ flat_map tree_line ts ++ r
-        → Gives result (λ us. (us ≡ ts) × (reader.new ≡ r)) }
+        → GivesBefore result reader.new ts r }
 {
     let mut trees = List::new(reader.alloc());
     while reader.takes_word("tree") {
@@ -92,7 +91,7 @@ fn trees(reader: &mut Reader) -> Result<List<RowTree>, LexEnd>
 /// The term whose word is read.
 fn term(reader: &mut Reader, width: usize) -> Result<Term, LexEnd>
     ensures found { IfOk result (λ x. (reader.old ≡ term_before x reader.new) × IsTermInRange width x) }
-    ensures only { (x : ATerm) (r : Items ASymbol) → IsTermInRange width x → EndsTerm r → reader.old ≡ term_before x r → Gives result (λ y. (y ≡ x) × (reader.new ≡ r)) }
+    ensures only { (x : ATerm) (r : Items ASymbol) → IsTermInRange width x → EndsTerm r → reader.old ≡ term_before x r → GivesBefore result reader.new x r }
 {
     let number = expect_number(reader, u32::MAX)?;
     reader.expect_word("head")?;
@@ -117,7 +116,7 @@ fn term(reader: &mut Reader, width: usize) -> Result<Term, LexEnd>
 /// The terms up to the end.
 fn terms(reader: &mut Reader, width: usize) -> Result<List<Term>, LexEnd>
     ensures found { IfOk result (λ xs. (reader.old ≡ flat_map term_symbols xs ++ reader.new) × All (IsTermInRange width) xs) }
-    ensures only { (xs : Items ATerm) → All (IsTermInRange width) xs → reader.old ≡ flat_map term_symbols xs ++ [] → Gives result (λ ys. (ys ≡ xs) × (reader.new ≡ [])) }
+    ensures only { (xs : Items ATerm) → All (IsTermInRange width) xs → reader.old ≡ flat_map term_symbols xs ++ [] → GivesBefore result reader.new xs [] }
 {
     let mut terms = List::new(reader.alloc());
     while reader.takes_word("term") {

@@ -4,7 +4,8 @@ ghost use Rattle.su_check.specs.Certificate.{lines_of};
 ghost use Rattle.su_check.specs.SentRows.{sent_too};
 ghost use Rattle.su_check.specs.inside.Boards.{Keeps, IsReady};
 ghost use Rattle.su_check.specs.inside.Guides.{HasTargets, IsGuide};
-ghost use Rattle.su_check.specs.Refutations.{IsOpen, IsFitting, Refutes, target_of, node_of};
+ghost use Rattle.su_check.specs.Refutations.{IsOpen, IsFitting, Refutes};
+ghost use Rattle.su_check.specs.inside.Branches.{BranchRefutes};
 
 use crate::certificates::Term;
 use crate::claims::Claim;
@@ -108,7 +109,7 @@ fn branch_refutes(
     requires ready { IsReady (lines_of claim.now.term.now) claim.now.board.now (sent_too sent.old row target) places.old }
     requires guide { IsGuide (lines_of claim.now.term.now) claim.now.guide.now }
     ensures same { IfOk result (λ _. sent.new ≡ sent.old) }
-    ensures tells { IfOk result (λ b. IsTrue b ↔ ((target_of branch.now ≡ target) × Refutes (lines_of claim.now.term.now) claim.now.left_out (node_of branch.now) (sent_too sent.old row target))) }
+    ensures tells { IfOk result (λ b. IsTrue b ↔ BranchRefutes (lines_of claim.now.term.now) claim.now.left_out sent.old row target branch.now) }
     ensures keeps { IfOk result (λ _. Keeps (lines_of claim.now.term.now) claim.now.board.now sent.old places.old places.new) }
 {
     if branch.target != target {

@@ -2,10 +2,11 @@
 ghost use Rattle.std.specs.Prelude.{◌≡◌, ℕ, ◌<◌, ◌≤◌, IsTrue, All, Contains, length, IfOk, OnOk};
 ghost use Rattle.su_tableau.specs.declared.symbols.Sym.{Sym};
 ghost use Rattle.su_fd.specs.MetDependencies.{LiesIn};
-ghost use Rattle.su_classes.specs.Items.{item_of, SameItemLabels, Keeps, IsPlacedBelow};
+ghost use Rattle.su_classes.specs.Items.{item_of, Keeps, IsPlacedBelow};
 ghost use Rattle.su_classes.specs.Tables.{IsSound};
 ghost use Rattle.su_classes.specs.inside.Tables.{IsForest, IsShortened, IsMerging};
 ghost use Rattle.su_classes.specs.inside.Worklists.{IsRule, IsWell, IsSame, IsFor};
+ghost use Rattle.su_classes.specs.inside.Firsts.{HaveSameLabels, KeepsOnTwo};
 
 use crate::firsts::lies_in;
 use crate::items::{Placed, item_at};
@@ -24,7 +25,7 @@ fn agree(table: &mut [usize], attributes: &[u8], row: &Placed, other: &Placed) -
     requires left { All (λ a. (a < length row.now.cells) × (item_of row.now a < length table.old)) attributes.now }
     requires right { All (λ a. (a < length other.now.cells) × (item_of other.now a < length table.old)) attributes.now }
     ensures shortened { IsShortened table.old table.new }
-    ensures together { IsTrue result → (label : ℕ → Sym) → IsSound table.old label → All (λ a. label (item_of row.now a) ≡ label (item_of other.now a)) attributes.now }
+    ensures together { IsTrue result → (label : ℕ → Sym) → IsSound table.old label → HaveSameLabels label attributes.now row.now other.now }
 {
     for a in attributes {
         if root(table, item_at(row, *a)) != root(table, item_at(other, *a)) {
@@ -47,7 +48,7 @@ fn merge(
     requires items { length work.old.marks.items ≡ length table.old }
     requires left { All (λ a. (a < length row.now.cells) × (item_of row.now a < length table.old)) attributes.now }
     requires right { All (λ a. (a < length other.now.cells) × (item_of other.now a < length table.old)) attributes.now }
-    ensures merging { OnOk result (IsMerging (λ label. All (λ a. label (item_of row.now a) ≡ label (item_of other.now a)) attributes.now) table.old table.new) }
+    ensures merging { OnOk result (IsMerging (λ label. HaveSameLabels label attributes.now row.now other.now) table.old table.new) }
     ensures same { OnOk result (IsSame work.old work.new) }
 {
     for a in attributes {
@@ -76,7 +77,7 @@ fn bring_together(
     requires other { IsPlacedBelow (length table.old) other.now }
     requires in_row { LiesIn rule.now.fd row.now.has }
     requires in_other { LiesIn rule.now.fd other.now.has }
-    ensures merging { OnOk result (IsMerging (λ label. SameItemLabels label rule.now.fd.left row.now other.now → SameItemLabels label rule.now.fd.right row.now other.now) table.old table.new) }
+    ensures merging { OnOk result (IsMerging (λ label. KeepsOnTwo label rule.now.fd row.now other.now) table.old table.new) }
     ensures same { OnOk result (IsSame work.old work.new) }
 {
     let left = rule.left.as_slice();

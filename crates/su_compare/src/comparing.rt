@@ -2,15 +2,11 @@
 ghost use Rattle.std.specs.Prelude.{◌≡◌, ◌↔◌, ◌<◌, List as Items, length, IfOk};
 ghost use Rattle.std.specs.Ordering.{nat_cmp};
 ghost use Rattle.std.specs.FinSet.{FinSet};
-ghost use Rattle.su_base.specs.declared.values.Value.{Value as AValue};
-ghost use Rattle.su_tableau.specs.Kinds.{IsUniverse};
-ghost use Rattle.su_schema.specs.Entries.{attribute_kinds};
 ghost use Rattle.su_query.specs.declared.resolving.Resolved.{Resolved as AResolved};
-ghost use Rattle.su_fd.specs.MetDependencies.{Meets};
 ghost use Rattle.su_compare.specs.Within.{IsQueryWithin, IsCounterexample, AreOf};
 ghost use Rattle.su_compare.specs.Comparable.{AreComparable};
 ghost use Rattle.su_compare.specs.Verdict.{IsVerdict, IsYes, IfApart};
-ghost use Rattle.su_compare.specs.inside.Settlements.{HasRoomFor, IsAnswer, IsApartOver};
+ghost use Rattle.su_compare.specs.inside.Settlements.{HasRoomFor, IsApartOver, AreWithin};
 
 use crate::settling::{Settled, settle};
 use crate::shown::show_apart;
@@ -46,7 +42,7 @@ fn compared(
 ) -> Result<Verdict, NoMemory>
     requires comparable { AreComparable schema.now first.now second.now }
     ensures verdict { IfOk result (IsVerdict schema.now first.now second.now) }
-    ensures within { IfOk result (λ v. IsYes v → (u : Items (Items AValue)) (h : Items AValue) → IsUniverse (attribute_kinds schema.now) u → Meets schema.now.fds u → IsAnswer first.now u h → IsAnswer second.now u h) }
+    ensures within { IfOk result (λ v. IsYes v → AreWithin schema.now first.now second.now) }
     ensures apart { IfOk result (λ v. IfApart v (IsApartOver schema.now first.now second.now)) }
 {
     schema.keeps_its_rules();

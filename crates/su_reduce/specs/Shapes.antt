@@ -1,9 +1,8 @@
 -- Shapes of cells: their variables, and which values fit them.
 -- place of a variable: the number of cells before the first one that holds it
 -- to fit: to be the values that some valuation gives the cells
-use Rattle.std.specs.Prelude.{◌≡◌, ◌<◌, ◌↔◌, ℕ, suc, pos, cond, nat_eq, List, [], ◌∷◌, map, length, get_or, All, Contains}
+use Rattle.std.specs.Prelude.{◌≡◌, ◌<◌, ◌↔◌, ℕ, suc, cond, nat_eq, List, [], ◌∷◌, map, length, get_or, All, Contains}
 use Rattle.su_base.specs.declared.values.Value.{Value}
-use Rattle.su_base.specs.declared.values.Value.TheVariants.{Int}
 use Rattle.su_tableau.specs.declared.symbols.Sym.{Sym}
 use Rattle.su_tableau.specs.declared.symbols.Sym.TheVariants.{Const, Var}
 use Rattle.su_tableau.specs.Valuations.{values_at, values_of}

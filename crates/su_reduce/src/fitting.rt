@@ -1,8 +1,7 @@
 //! Which candidates some valuation gives an edge.
-ghost use Rattle.std.specs.Prelude.{◌≡◌, ◌↔◌, ◌<◌, ℕ, IsTrue, IfOk, length};
-ghost use Rattle.su_reduce.specs.Left.{cells_at, candidates_at};
+ghost use Rattle.std.specs.Prelude.{◌≡◌, ◌↔◌, ◌<◌, IsTrue, IfOk, length};
 ghost use Rattle.su_reduce.specs.Shapes.{Fits, IsShape};
-ghost use Rattle.su_reduce.specs.inside.Marks.{AreMarks, IsMarked, candidate_at, mark, row_at};
+ghost use Rattle.su_reduce.specs.inside.Marks.{AreMarks, TellFitting, FittingAreMarked};
 
 use crate::edges::Edge;
 use crate::shapes::{Columns, Shape, fits, shape_of};
@@ -24,7 +23,7 @@ fn fits_whole(cells: &List<Sym>, shape: &Shape, row: &Row) -> bool
 /// Which candidates of an edge fit it.
 fn fitting_rows(alloc: Global, edge: &Edge) -> Result<List<bool>, NoMemory>
     ensures length { IfOk result (λ marks. length marks ≡ length edge.now.candidates) }
-    ensures exact { IfOk result (λ marks. (p : ℕ) → p < length edge.now.candidates → IsTrue (mark marks p) ↔ Fits edge.now.cells (row_at edge.now.candidates p)) }
+    ensures exact { IfOk result (TellFitting edge.now) }
 {
     let shape = shape_of(alloc, &edge.cells)?;
     let mut marks = List::from_vec(Vec::with_capacity(alloc, edge.candidates.len())?);
@@ -37,7 +36,7 @@ fn fitting_rows(alloc: Global, edge: &Edge) -> Result<List<bool>, NoMemory>
 /// Which candidates of each edge fit it.
 pub fn fitting_marks(alloc: Global, edges: &[Edge]) -> Result<Vec<List<bool>>, NoMemory>
     ensures marks { IfOk result (λ marks. AreMarks edges.now marks.items) }
-    ensures all { IfOk result (λ marks. (i p : ℕ) → i < length edges.now → p < length (candidates_at edges.now i) → Fits (cells_at edges.now i) (candidate_at edges.now i p) → IsMarked marks.items i p) }
+    ensures all { IfOk result (λ marks. FittingAreMarked edges.now marks.items) }
 {
     let mut marks = List::new(alloc);
     for edge in edges {

@@ -1,7 +1,7 @@
 //! An ear order.
-ghost use Rattle.std.specs.Prelude.{◌≡◌, ◌↔◌, ◌<◌, ◌≤◌, ℕ, IfOk, length, get_or, [], Option, MatchOption};
+ghost use Rattle.std.specs.Prelude.{◌≡◌, ◌↔◌, ◌<◌, ◌≤◌, ℕ, IfOk, length, [], Option, MatchOption};
 ghost use Rattle.su_reduce.specs.Ears.{AreAcyclic, IsEarOrder, cells_of};
-ghost use Rattle.su_reduce.specs.inside.Partners.{In, IsParentBy, without};
+ghost use Rattle.su_reduce.specs.inside.Partners.{In, without, IsEarAmong};
 
 use crate::edges::{Ear, Edge};
 use crate::sharing::{parent_of, table_of};
@@ -32,7 +32,7 @@ fn take_out(set: ObjSet, e: u8) -> ObjSet
 fn find_ear(table: &[List<ObjSet>], left: ObjSet) -> Option<Ear>
     requires few { length table.now ≤ 64 }
     requires within { (j : ℕ) → In left j → j < length table.now }
-    ensures { MatchOption result ((e : ℕ) (parent : Option ℕ) → In left e → ¬ IsParentBy (get_or table.now e []) (without left e) parent) (λ ear. In left ear.edge × IsParentBy (get_or table.now ear.edge []) (without left ear.edge) ear.parent) }
+    ensures { IsEarAmong table.now left result }
 {
     for e in 0..table.len() {
         let edge = e as u8;

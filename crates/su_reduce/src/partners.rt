@@ -3,7 +3,7 @@
 //! greatest one, else it is a hash table.
 ghost use Rattle.std.specs.Prelude.{◌≡◌, ◌↔◌, ◌<◌, ◌+◌, ℕ, false, List, [], IfOk, IsTrue, length, get_or};
 ghost use Rattle.su_reduce.specs.Sheets.{pick, AreBelow, IsMarkedKey};
-ghost use Rattle.su_reduce.specs.inside.Partnered.{AreCodes, AreKeys, HasKey, width_of};
+ghost use Rattle.su_reduce.specs.inside.Partnered.{HasKey, width_of, AreKeysOf, AreCodesOf, IsKeyOf, IsMarkedWith};
 
 use crate::distinct::Distinct;
 use crate::sheets::Sheet;
@@ -49,7 +49,7 @@ fn add_key(
     requires row { i < length side.now.rows.now.rows }
     requires width { keys.old.width ≡ length side.now.key.now }
     ensures width { IfOk result (λ _. keys.new.width ≡ keys.old.width) }
-    ensures keys { IfOk result (λ _. AreKeys side.now.rows.now.rows side.now.marks.now side.now.key.now i keys.old.rows → AreKeys side.now.rows.now.rows side.now.marks.now side.now.key.now (i + 1) keys.new.rows) }
+    ensures keys { IfOk result (λ _. AreKeysOf side.now i keys.old.rows → AreKeysOf side.now (i + 1) keys.new.rows) }
 {
     if !side.marks[i] {
         return Ok(());
@@ -64,7 +64,7 @@ fn rows_of(alloc: Global, side: &Side) -> Result<Distinct, AllocError>
     requires key { AreBelow side.now.key.now side.now.rows.now.width }
     requires marks { length side.now.marks.now ≡ length side.now.rows.now.rows }
     ensures width { IfOk result (λ keys. keys.width ≡ length side.now.key.now) }
-    ensures keys { IfOk result (λ keys. AreKeys side.now.rows.now.rows side.now.marks.now side.now.key.now (length side.now.rows.now.rows) keys.rows) }
+    ensures keys { IfOk result (λ keys. AreKeysOf side.now (length side.now.rows.now.rows) keys.rows) }
 {
     let mut keys = Distinct::new(alloc, side.key.len())?;
     let mut cells = Vec::new(alloc);
@@ -94,7 +94,7 @@ fn mark_code(side: &Side, i: usize, codes: &mut Vec<bool>)
     requires row { i < length side.now.rows.now.rows }
     requires room { get_or (get_or side.now.rows.now.rows i []) (get_or side.now.key.now 0 0) 0 < length codes.old.items }
     ensures length { length codes.new.items ≡ length codes.old.items }
-    ensures codes { AreCodes side.now.rows.now.rows side.now.marks.now side.now.key.now i codes.old.items → AreCodes side.now.rows.now.rows side.now.marks.now side.now.key.now (i + 1) codes.new.items }
+    ensures codes { AreCodesOf side.now i codes.old.items → AreCodesOf side.now (i + 1) codes.new.items }
 {
     let code = side.rows.row(i)[side.key[0]] as usize;
     if side.marks[i] {
@@ -107,7 +107,7 @@ fn codes_of(alloc: Global, side: &Side) -> Result<Vec<bool>, AllocError>
     requires one { length side.now.key.now ≡ 1 }
     requires key { AreBelow side.now.key.now side.now.rows.now.width }
     requires marks { length side.now.marks.now ≡ length side.now.rows.now.rows }
-    ensures { IfOk result (λ codes. AreCodes side.now.rows.now.rows side.now.marks.now side.now.key.now (length side.now.rows.now.rows) codes.items) }
+    ensures { IfOk result (λ codes. AreCodesOf side.now (length side.now.rows.now.rows) codes.items) }
 {
     let mut codes = vec![in alloc; false; past_codes(side.rows, side.key[0])]?;
     for i in 0..side.rows.len() {
@@ -121,7 +121,7 @@ fn keys_of(alloc: Global, side: &Side) -> Result<Keys, AllocError>
     requires key { AreBelow side.now.key.now side.now.rows.now.width }
     requires marks { length side.now.marks.now ≡ length side.now.rows.now.rows }
     ensures width { IfOk result (λ keys. width_of keys ≡ length side.now.key.now) }
-    ensures keys { IfOk result (λ keys. (key : List ℕ) → HasKey keys key ↔ IsMarkedKey side.now.rows.now.rows side.now.marks.now side.now.key.now (length side.now.rows.now.rows) key) }
+    ensures keys { IfOk result (λ keys. (key : List ℕ) → HasKey keys key ↔ IsKeyOf side.now key) }
 {
     if side.key.len() == 1 {
         let codes = codes_of(alloc, side)?;
@@ -158,7 +158,7 @@ fn has_partner(side: &Side, i: usize, keys: &Keys, cells: &mut Vec<u32>) -> Resu
     requires marks { length side.now.marks.now ≡ length side.now.rows.now.rows }
     requires row { i < length side.now.rows.now.rows }
     requires width { width_of keys.now ≡ length side.now.key.now }
-    ensures { IfOk result (λ has. IsTrue has ↔ (IsTrue (get_or side.now.marks.now i false) × HasKey keys.now (pick side.now.key.now (get_or side.now.rows.now.rows i [])))) }
+    ensures { IfOk result (λ has. IsTrue has ↔ IsMarkedWith side.now i (HasKey keys.now)) }
 {
     if !side.marks[i] {
         return Ok(false);
@@ -173,7 +173,7 @@ fn marks_by(alloc: Global, side: &Side, keys: &Keys) -> Result<Vec<bool>, AllocE
     requires marks { length side.now.marks.now ≡ length side.now.rows.now.rows }
     requires width { width_of keys.now ≡ length side.now.key.now }
     ensures length { IfOk result (λ marks. length marks.items ≡ length side.now.rows.now.rows) }
-    ensures exact { IfOk result (λ marks. (i : ℕ) → i < length side.now.rows.now.rows → IsTrue (get_or marks.items i false) ↔ (IsTrue (get_or side.now.marks.now i false) × HasKey keys.now (pick side.now.key.now (get_or side.now.rows.now.rows i [])))) }
+    ensures exact { IfOk result (λ marks. (i : ℕ) → i < length side.now.rows.now.rows → IsTrue (get_or marks.items i false) ↔ IsMarkedWith side.now i (HasKey keys.now)) }
 {
     let mut marks = Vec::with_capacity(alloc, side.rows.len())?;
     let mut cells = Vec::new(alloc);

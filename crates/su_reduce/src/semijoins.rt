@@ -1,9 +1,8 @@
 //! A semijoin: an edge loses the candidates that have no partner in another.
-ghost use Rattle.std.specs.Prelude.{◌≡◌, ◌↔◌, ◌<◌, ◌+◌, ℕ, IsTrue, IfOk, OnOk, length};
+ghost use Rattle.std.specs.Prelude.{◌≡◌, ◌↔◌, ◌<◌, ◌+◌, IfOk, OnOk, length};
 ghost use Rattle.su_reduce.specs.inside.Coded.{AreCoded, AreSheets};
 ghost use Rattle.su_reduce.specs.inside.Keys.{AreShared};
-ghost use Rattle.su_reduce.specs.Shapes.{Fits};
-ghost use Rattle.su_reduce.specs.inside.Marks.{AreMarks, HasPartner, IsSemijoin, mark, row_at};
+ghost use Rattle.su_reduce.specs.inside.Marks.{AreMarks, IsSemijoin, MarkedFit, AreLeftBeside};
 
 use crate::edges::Edge;
 use crate::partners::{Side, partner_marks};
@@ -62,10 +61,10 @@ struct Coded<'a> {
 fn partnered(alloc: Global, left: &Coded, right: &Coded) -> Result<List<bool>, NoMemory>
     requires coded { AreCoded left.now.edge.now left.now.sheet.now right.now.edge.now right.now.sheet.now }
     requires lengths { (length left.now.marks.now ≡ length left.now.edge.now.candidates) × (length right.now.marks.now ≡ length right.now.edge.now.candidates) }
-    requires left { (p : ℕ) → p < length left.now.edge.now.candidates → IsTrue (mark left.now.marks.now p) → Fits left.now.edge.now.cells (row_at left.now.edge.now.candidates p) }
-    requires right { (p : ℕ) → p < length right.now.edge.now.candidates → IsTrue (mark right.now.marks.now p) → Fits right.now.edge.now.cells (row_at right.now.edge.now.candidates p) }
+    requires left { MarkedFit left.now.edge.now left.now.marks.now }
+    requires right { MarkedFit right.now.edge.now right.now.marks.now }
     ensures length { IfOk result (λ kept. length kept ≡ length left.now.edge.now.candidates) }
-    ensures exact { IfOk result (λ kept. (p : ℕ) → p < length left.now.edge.now.candidates → IsTrue (mark kept p) ↔ (IsTrue (mark left.now.marks.now p) × HasPartner left.now.edge.now.cells right.now.edge.now.cells right.now.edge.now.candidates right.now.marks.now (row_at left.now.edge.now.candidates p))) }
+    ensures exact { IfOk result (AreLeftBeside left.now.edge.now left.now.marks.now right.now.edge.now right.now.marks.now) }
 {
     let places = shared(
         alloc,

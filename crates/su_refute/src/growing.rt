@@ -1,9 +1,8 @@
 //! Trees, node by node.
-ghost use Rattle.std.specs.Prelude.{◌≡◌, ◌≤◌, ◌<◌, ◌+◌, ◌↔◌, ℕ, IfOk, IsErrOf, length, get_or};
+ghost use Rattle.std.specs.Prelude.{◌≡◌, ◌≤◌, ◌<◌, ◌+◌, ◌↔◌, ℕ, IfOk, IsErrOf, length};
 ghost use Rattle.std.specs.Int.{bit_at};
-ghost use Rattle.su_check.specs.declared.nodes.Node.{Node as ANode};
 ghost use Rattle.su_refute.specs.Trees.{node_count};
-ghost use Rattle.su_refute.specs.inside.Positions.{Stands, IsFewestOf, IsTreeFor};
+ghost use Rattle.su_refute.specs.inside.Positions.{Stands, IsFewestOf, IsTreeFor, AreLeftAndAgree, NeedMoreThan};
 
 use crate::bits::{both, without};
 use crate::faults::RefuteFault;
@@ -40,7 +39,7 @@ fn fewest(todo: u64, left: &[u64]) -> usize
 fn narrowed(alloc: Global, left: &[u64], agree: &[u64]) -> Result<List<u64>, NoMemory>
     requires { length left.now ≡ length agree.now }
     ensures one_each { IfOk result (λ next. length next ≡ length left.now) }
-    ensures both { IfOk result (λ next. (q i : ℕ) → q < length left.now → (bit_at (get_or next q 0) i ≡ 1) ↔ ((bit_at (get_or left.now q 0) i ≡ 1) × (bit_at (get_or agree.now q 0) i ≡ 1))) }
+    ensures both { IfOk result (AreLeftAndAgree left.now agree.now) }
 {
     let mut next = List::new(alloc);
     for q in 0..left.len() {
@@ -61,7 +60,7 @@ pub fn grow(
     requires stands { Stands net.now todo left.now }
     ensures tree { IfOk result (λ g. (s : Stands net.now todo left.now) → IsTreeFor net.now todo left.now s g.node) }
     ensures counted { IfOk result (λ g. g.unused + node_count g.node ≡ budget) }
-    ensures over { IsErrOf result RefuteFault.Nodes → (s : Stands net.now todo left.now) (n : ANode) → IsTreeFor net.now todo left.now s n → budget < node_count n }
+    ensures over { IsErrOf result RefuteFault.Nodes → NeedMoreThan budget net.now todo left.now }
 {
     if budget == 0 {
         return Err(RefuteFault::Nodes);

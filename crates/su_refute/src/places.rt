@@ -1,8 +1,6 @@
 //! Where two lists of symbols hold one symbol.
-ghost use Rattle.std.specs.Prelude.{◌≡◌, ◌<◌, ◌↔◌, ◌⊎◌, IfOk, OnOk, IsTrue, length, Contains};
-ghost use Rattle.su_check.specs.inside.Cells.{cell_at};
-ghost use Rattle.su_refute.specs.declared.places.Places.{Places as APlaces};
-ghost use Rattle.su_refute.specs.inside.Nets.{AreWithin, AreShared, AgreeAt};
+ghost use Rattle.std.specs.Prelude.{◌≡◌, ◌<◌, ◌↔◌, ◌⊎◌, IfOk, OnOk, IsTrue, length};
+ghost use Rattle.su_refute.specs.inside.Nets.{AreWithin, AreShared, AgreeAt, AddsPlaces};
 
 use std::alloc::Global;
 use su_base::{List, NoMemory};
@@ -17,7 +15,7 @@ pub struct Places {
 
 /// Adds the places of the symbol, which stands at `first`.
 fn add_places(places: &mut List<Places>, first: usize, x: &Sym, ys: &[Sym]) -> Result<(), NoMemory>
-    ensures { OnOk result ((p : APlaces) → Contains places.new p ↔ (Contains places.old p ⊎ ((p.first ≡ first) × (p.second < length ys.now) × (x.now ≡ cell_at ys.now p.second)))) }
+    ensures { OnOk result (AddsPlaces places.old first x.now ys.now places.new) }
 {
     for second in 0..ys.len() {
         if x.same(&ys[second]) {

@@ -1,11 +1,11 @@
 //! The text of a certificate.
-ghost use Rattle.std.specs.Prelude.{◌≡◌, ◌<◌, [], ◌∷◌, ◌++◌, ℕ, List as Items, OnOk, IfOk, map, length, get_or, codes, ◌^◌};
+ghost use Rattle.std.specs.Prelude.{◌≡◌, ◌<◌, [], ◌∷◌, ◌++◌, ℕ, List as Items, OnOk, IfOk, map, get_or, ◌^◌};
 ghost use Rattle.su_lex.specs.declared.meaning.Symbol.TheVariants.{Word};
 ghost use Rattle.su_map.specs.Lists.{row_numbers};
 ghost use Rattle.su_check.specs.NodeSymbols.{number, sym_symbol};
-ghost use Rattle.su_lex.specs.Wordings.{kind_symbol};
 ghost use Rattle.su_check.specs.Grammar.{line, row_line, tree_line, term_lines};
 ghost use Rattle.su_refute.specs.Written.{row_trees, term_of, certificate_of, certificate_text, line_text, lines_text};
+ghost use Rattle.su_refute.specs.inside.Fronts.{front_text};
 
 use crate::symbols::{push_kinds, push_node, push_number, push_numbers, push_row, push_syms};
 use std::alloc::Global;
@@ -134,7 +134,7 @@ fn push_term(
 
 /// Adds the lines of the width and the kinds.
 fn push_front(alloc: Global, out: &mut Vec<u8>, kinds: &[Kind]) -> Result<(), NoMemory>
-    ensures { OnOk result (out.new.items ≡ out.old.items ++ (line_text (line (codes "certificate") (number (length kinds.now) ∷ [])) ++ line_text (line (codes "kinds") (map kind_symbol kinds.now)))) }
+    ensures { OnOk result (out.new.items ≡ out.old.items ++ front_text kinds.now) }
 {
     push_count(alloc, out, "certificate", kinds.len())?;
     let mut symbols = begun(alloc, "kinds")?;

@@ -2,6 +2,7 @@
 pub mod AddedDefinitions
 pub mod AddedBreaks
 pub mod RowBreaks
+pub mod Found
 pub mod LoadEnds
 pub mod Leads
 pub mod Pairs

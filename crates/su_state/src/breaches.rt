@@ -1,10 +1,8 @@
 //! The first dependency that a new row would break.
-ghost use Rattle.std.specs.Prelude.{◌≡◌, ◌<◌, ℕ, List, length, MatchOption};
-ghost use Rattle.su_base.specs.declared.values.Value.{Value};
+ghost use Rattle.std.specs.Prelude.{◌≡◌, ◌<◌, ℕ, length};
 ghost use Rattle.su_schema.specs.Known.{columns_at};
-ghost use Rattle.su_state.specs.inside.RowBreaks.{BreaksWith, BreaksWithLeast, BreaksFirst, BreaksNothing};
 ghost use Rattle.su_state.specs.AdmissibleRows.{KeepThrough};
-ghost use Rattle.su_state.specs.inside.Sides.{row_at};
+ghost use Rattle.su_state.specs.inside.Found.{IsLeastBreach, IsFirstThrough, IsFirstBreach};
 
 use crate::clashes::least_breach;
 use crate::sides::sides_through;
@@ -44,7 +42,7 @@ fn breach_through(
     requires fd { fd < length schema.now.fds }
     requires object { object < length schema.now.objects }
     requires keeps { KeepThrough schema.now relation table.now.rows fd object }
-    ensures { MatchOption result ((other : List Value) → ¬ BreaksWith schema.now relation table.now.rows row.now fd object other) (λ p. (p < length table.now.rows) × BreaksWithLeast schema.now relation table.now.rows row.now fd object (row_at table.now.rows p)) }
+    ensures { IsLeastBreach schema.now relation table.now.rows row.now fd object result }
 {
     schema.keeps_its_rules();
     if schema.object_relation(object) != relation {
@@ -63,7 +61,7 @@ fn breach_of(schema: &Schema, table: &Table, relation: u8, row: &Row, fd: u16) -
     requires row { length row.now ≡ table.now.width }
     requires fd { fd < length schema.now.fds }
     requires keeps { (o : ℕ) → KeepThrough schema.now relation table.now.rows fd o }
-    ensures { MatchOption result ((o : ℕ) (other : List Value) → ¬ BreaksWith schema.now relation table.now.rows row.now fd o other) (λ b. (b.position < length table.now.rows) × BreaksWithLeast schema.now relation table.now.rows row.now fd b.object (row_at table.now.rows b.position) × ((o : ℕ) (other : List Value) → o < b.object → ¬ BreaksWith schema.now relation table.now.rows row.now fd o other)) }
+    ensures { IsFirstThrough schema.now relation table.now.rows row.now fd result }
 {
     schema.keeps_its_rules();
     for object in 0..schema.objects() as u8 {
@@ -80,7 +78,7 @@ pub fn first_breach(schema: &Schema, table: &Table, relation: u8, row: &Row) -> 
     requires width { table.now.width ≡ length (columns_at schema.now relation) }
     requires row { length row.now ≡ table.now.width }
     requires keeps { (f o : ℕ) → KeepThrough schema.now relation table.now.rows f o }
-    ensures { MatchOption result (BreaksNothing schema.now relation table.now.rows row.now) (λ b. (b.position < length table.now.rows) × BreaksFirst schema.now relation table.now.rows row.now b.fd b.object (row_at table.now.rows b.position)) }
+    ensures { IsFirstBreach schema.now relation table.now.rows row.now result }
 {
     schema.keeps_its_rules();
     for fd in 0..schema.fds().len() as u16 {

@@ -1,10 +1,10 @@
 //! The least row of a table with which a row clashes.
-ghost use Rattle.std.specs.Prelude.{◌≡◌, ◌<◌, ◌≤◌, ℕ, List, length, slice_get, Some, IsTrue, MatchOption, Contains};
+ghost use Rattle.std.specs.Prelude.{◌≡◌, ◌<◌, ◌≤◌, ℕ, length, slice_get, Some, IsTrue, MatchOption};
 ghost use Rattle.std.specs.Ordering.{is_lt};
 ghost use Rattle.std.specs.FinSet as set;
 ghost use Rattle.su_base.specs.Value.{compare_lists};
-ghost use Rattle.su_base.specs.declared.values.Value.{Value as Stored};
-ghost use Rattle.su_state.specs.inside.Sides.{AgreeAt, Clash, IsLeastClash, IsLesser, row_at};
+ghost use Rattle.su_state.specs.inside.Sides.{IsLesser};
+ghost use Rattle.su_state.specs.inside.Found.{IsLeastClashAt, IsAlikeAt, NoneClash};
 
 use crate::sides::{Sides, agree, clash};
 use std::cmp::Ordering;
@@ -80,7 +80,7 @@ pub fn least_clash(table: &Table, sides: &Sides, row: &Row) -> Option<usize>
     requires width { length row.now ≡ table.now.width }
     requires few { table.now.width ≤ 32 }
     requires some { (c : ℕ) × IsTrue (set.contains sides.now.left c) × (c < table.now.width) }
-    ensures { MatchOption result ((other : List Stored) → Contains table.now.rows other → ¬ Clash sides.now row.now other) (λ p. (p < length table.now.rows) × IsLeastClash sides.now table.now.rows row.now (row_at table.now.rows p)) }
+    ensures { IsLeastClashAt sides.now table.now.rows row.now result }
 {
     let column = fewest(table, sides.left, row);
     let value = row.get(column as usize);
@@ -98,7 +98,7 @@ fn alike_by_column(table: &Table, columns: AttrSet, row: &Row) -> Option<usize>
     requires width { length row.now ≡ table.now.width }
     requires few { table.now.width ≤ 32 }
     requires some { (c : ℕ) × IsTrue (set.contains columns c) × (c < table.now.width) }
-    ensures { MatchOption result ((other : List Stored) → Contains table.now.rows other → ¬ AgreeAt columns row.now other) (λ p. (p < length table.now.rows) × AgreeAt columns row.now (row_at table.now.rows p)) }
+    ensures { IsAlikeAt columns table.now.rows row.now result }
 {
     // For the proof: each row is as wide as the table.
     let _rows = table.as_slice();
@@ -118,7 +118,7 @@ fn alike(table: &Table, columns: AttrSet, row: &Row) -> Option<usize>
     requires width { length row.now ≡ table.now.width }
     requires few { table.now.width ≤ 32 }
     requires some { (c : ℕ) × IsTrue (set.contains columns c) × (c < table.now.width) }
-    ensures { MatchOption result ((other : List Stored) → Contains table.now.rows other → ¬ AgreeAt columns row.now other) (λ p. (p < length table.now.rows) × AgreeAt columns row.now (row_at table.now.rows p)) }
+    ensures { IsAlikeAt columns table.now.rows row.now result }
 {
     // For the proof: each row is as wide as the table.
     let _rows = table.as_slice();
@@ -141,8 +141,8 @@ pub fn least_breach(table: &Table, sides: &Sides, row: &Row) -> Option<usize>
     requires width { length row.now ≡ table.now.width }
     requires few { table.now.width ≤ 32 }
     requires some { (c : ℕ) × IsTrue (set.contains sides.now.left c) × (c < table.now.width) }
-    requires keeps { (one other : List Stored) → Contains table.now.rows one → Contains table.now.rows other → ¬ Clash sides.now one other }
-    ensures { MatchOption result ((other : List Stored) → Contains table.now.rows other → ¬ Clash sides.now row.now other) (λ p. (p < length table.now.rows) × IsLeastClash sides.now table.now.rows row.now (row_at table.now.rows p)) }
+    requires keeps { NoneClash sides.now table.now.rows }
+    ensures { IsLeastClashAt sides.now table.now.rows row.now result }
 {
     // For the proof: each row is as wide as the table.
     let _rows = table.as_slice();

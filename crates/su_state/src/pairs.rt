@@ -1,10 +1,10 @@
 //! The least pair of rows that clash.
-ghost use Rattle.std.specs.Prelude.{◌≡◌, ◌<◌, ◌≤◌, ℕ, List, length, All, MatchOption, Contains, IsTrue, IfOk};
+ghost use Rattle.std.specs.Prelude.{◌≡◌, ◌<◌, ◌≤◌, ℕ, List, length, All, MatchOption, IsTrue, IfOk};
 ghost use Rattle.std.specs.FinSet as set;
-ghost use Rattle.su_base.specs.declared.values.Value.{Value};
-ghost use Rattle.su_state.specs.inside.Sides.{Clash, TakesLesser, row_at};
+ghost use Rattle.su_state.specs.inside.Sides.{TakesLesser};
 ghost use Rattle.su_state.specs.inside.Parts.{HaveOneWidth};
-ghost use Rattle.su_state.specs.inside.Pairs.{first_at, AreFirsts, AreMarks, IsLeastMarked, IsLeastPair};
+ghost use Rattle.su_state.specs.inside.Pairs.{first_at, AreFirsts, AreMarks, IsLeastMarked};
+ghost use Rattle.su_state.specs.inside.Found.{IsLeastPairAt};
 
 use crate::clashes::{is_before, least_clash};
 use crate::parts::first_with;
@@ -95,7 +95,7 @@ fn least_marked(rows: &[Row], firsts: &[usize], marks: &[bool]) -> Option<usize>
 pub fn least_pair(alloc: Global, table: &Table, sides: &Sides) -> Result<Option<Pair>, NoMemory>
     requires few { table.now.width ≤ 32 }
     requires some { (c : ℕ) × IsTrue (set.contains sides.now.left c) × (c < table.now.width) }
-    ensures { IfOk result (λ least. MatchOption least ((row other : List Value) → Contains table.now.rows row → Contains table.now.rows other → ¬ Clash sides.now row other) (λ pair. (pair.first < length table.now.rows) × (pair.second < length table.now.rows) × IsLeastPair sides.now table.now.rows (row_at table.now.rows pair.first) (row_at table.now.rows pair.second))) }
+    ensures { IfOk result (IsLeastPairAt sides.now table.now.rows) }
 {
     let rows = table.as_slice();
     let firsts = firsts_of(alloc, sides.left, rows)?;

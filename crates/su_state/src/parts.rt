@@ -1,9 +1,9 @@
 //! Whether a dependency holds on many rows, in one pass.
-ghost use Rattle.std.specs.Prelude.{◌≡◌, ◌<◌, ◌≤◌, ◌++◌, List, length, All, Contains, IfOk};
+ghost use Rattle.std.specs.Prelude.{◌≡◌, ◌<◌, ◌≤◌, ◌++◌, List, length, All, IfOk};
 ghost use Rattle.std.specs.Bool.{OnTrue};
-ghost use Rattle.su_base.specs.declared.values.Value.{Value};
-ghost use Rattle.su_state.specs.inside.Sides.{Clash, row_at};
+ghost use Rattle.su_state.specs.inside.Sides.{row_at};
 ghost use Rattle.su_state.specs.inside.Parts.{part_of, noted_in, Notes, HaveOneWidth};
+ghost use Rattle.su_state.specs.inside.Found.{NoneClash};
 
 use crate::sides::{Sides, agree};
 use std::alloc::Global;
@@ -68,7 +68,7 @@ pub fn none_clash(
     requires stored { All (λ row. length row ≤ 32) stored.now }
     requires more { All (λ row. length row ≤ 32) more.now }
     requires width { HaveOneWidth (stored.now ++ more.now) }
-    ensures { IfOk result (λ none. OnTrue none ((row other : List Value) → Contains (stored.now ++ more.now) row → Contains (stored.now ++ more.now) other → ¬ Clash sides.now row other)) }
+    ensures { IfOk result (λ none. OnTrue none (NoneClash sides.now (stored.now ++ more.now))) }
 {
     let mut notes = HashMap::new(alloc);
     for position in 0..stored.len() + more.len() {

@@ -1,10 +1,9 @@
 //! The sides of a dependency as columns, through an object.
-ghost use Rattle.std.specs.Prelude.{◌≡◌, ◌<◌, ◌≤◌, ◌↔◌, ◌==◌, ℕ, length, slice_get, Some, IsTrue, MatchOption};
+ghost use Rattle.std.specs.Prelude.{◌≡◌, ◌<◌, ◌≤◌, ◌↔◌, ◌==◌, ℕ, length, slice_get, Some, IsTrue};
 ghost use Rattle.std.specs.FinSet as set;
 ghost use Rattle.su_schema.specs.SchemaValue.{ObjectEntry};
-ghost use Rattle.su_schema.specs.Entries.{attributes_of, column_of};
-ghost use Rattle.su_fd.specs.MetDependencies.{LiesIn};
-ghost use Rattle.su_state.specs.inside.Sides.{AreColumnsOf, AreSidesOf, AgreeAt, Clash};
+ghost use Rattle.su_state.specs.inside.Sides.{AreColumnsOf, AgreeAt, Clash};
+ghost use Rattle.su_state.specs.inside.Found.{AddsColumn, AreSidesIfAny};
 
 use su_base::{AttrSet, Row, Value};
 use su_fd::Fd;
@@ -20,7 +19,7 @@ pub struct Sides {
 /// The columns, with that from which the object takes the attribute.
 fn with_column(schema: &Schema, object: u8, a: u8, columns: AttrSet) -> AttrSet
     requires { object < length schema.now.objects }
-    ensures { (entry : ObjectEntry) → slice_get schema.now.objects object ≡ Some entry → MatchOption (column_of entry a) (result ≡ columns) (λ c. result ≡ set.insert columns c) }
+    ensures { AddsColumn schema.now object a columns result }
 {
     schema.keeps_its_rules();
     match schema.object_column(object, a) {
@@ -50,7 +49,7 @@ pub fn sides_through(schema: &Schema, fd: &Fd, object: u8) -> Option<Sides>
     requires object { object < length schema.now.objects }
     requires left { (a : ℕ) → IsTrue (set.contains fd.now.left a) → a < length schema.now.attributes }
     requires right { (a : ℕ) → IsTrue (set.contains fd.now.right a) → a < length schema.now.attributes }
-    ensures { (entry : ObjectEntry) → slice_get schema.now.objects object ≡ Some entry → MatchOption result (¬ LiesIn fd.now (attributes_of entry)) (AreSidesOf entry fd.now) }
+    ensures { AreSidesIfAny schema.now fd.now object result }
 {
     let attributes = schema.object_attributes(object);
     if !fd.left.within(attributes) {

@@ -1,15 +1,15 @@
 //! The rows and the head of a term.
-ghost use Rattle.std.specs.Prelude.{◌≡◌, ◌≢◌, ℕ, ◌+◌, ◌*◌, ◌<◌, ◌≤◌, ◌^◌, ◌++◌, IsTrue, true, false, if◌then◌else◌, [], ◌∷◌, All, Contains, length, map, IfOk, MatchOption};
+ghost use Rattle.std.specs.Prelude.{◌≡◌, ◌≢◌, ℕ, ◌+◌, ◌*◌, ◌<◌, ◌≤◌, ◌^◌, ◌++◌, IsTrue, true, false, if◌then◌else◌, [], ◌∷◌, All, Contains, length, IfOk};
 ghost use Rattle.std.specs.FinSet as set;
 ghost use Rattle.su_where.specs.Fitting.{HasPlacesBelow};
 ghost use Rattle.su_tableau.specs.declared.symbols.Sym.TheVariants.{Var};
 ghost use Rattle.su_steps.specs.declared.building.Head.{Head as AHead};
 ghost use Rattle.su_steps.specs.Objects.{width, attributes_at};
-ghost use Rattle.su_steps.specs.PairSymbols.{pair, place_symbol, compared, comparisons};
-ghost use Rattle.su_steps.specs.Evaluated.{is_evaluated, outcome, left_over, sides, EvaluatesFalse};
+ghost use Rattle.su_steps.specs.PairSymbols.{pair, compared};
+ghost use Rattle.su_steps.specs.Evaluated.{left_over, sides, EvaluatesFalse};
 ghost use Rattle.su_steps.specs.CaseTableaux.{origin_row, rows_of};
-ghost use Rattle.su_steps.specs.inside.Numbers.{class_name, AreClasses};
-ghost use Rattle.su_steps.specs.inside.Heads.{with_compared, head_of, IsSomeFalse, IsNoneFalse};
+ghost use Rattle.su_steps.specs.inside.Numbers.{AreClasses, name_by};
+ghost use Rattle.su_steps.specs.inside.Heads.{IsSaid, with_literals, names_at, IsHeadIfAny};
 
 use crate::classes::Classes;
 use crate::objects::object_attributes;
@@ -42,7 +42,7 @@ fn cell(
     requires variable { v < variables }
     requires attribute { a < classes.now.width }
     requires fits { own + a < 2 ^ 32 }
-    ensures { IfOk result (λ s. s ≡ (if set.contains attributes a then class_name (variables * classes.now.width) classes.now (Var (pair classes.now.width v a)) else Var (own + a))) }
+    ensures { IfOk result (λ s. s ≡ (if set.contains attributes a then name_by variables classes.now (Var (pair classes.now.width v a)) else Var (own + a))) }
 {
     if attributes.contains(a) {
         return classes.pair_name(alloc, variables, v, a);
@@ -64,7 +64,7 @@ fn row(
     requires variable { origin.now.variable < variables }
     requires object { origin.now.object < length schema.now.objects }
     requires fits { own + classes.now.width ≤ 2 ^ 32 }
-    ensures { IfOk result (λ cells. cells ≡ origin_row schema.now (class_name (variables * classes.now.width) classes.now) own origin.now) }
+    ensures { IfOk result (λ cells. cells ≡ origin_row schema.now (name_by variables classes.now) own origin.now) }
 {
     let attributes = object_attributes(schema, origin.object);
     let mut cells = List::new(alloc);
@@ -94,7 +94,7 @@ pub fn rows(
     requires width { classes.now.width ≡ width schema.now }
     requires origins { All (λ o. (o.variable < variables) × (o.object < length schema.now.objects)) origins.now }
     requires few { length origins.now ≤ 64 }
-    ensures { IfOk result (λ rows. rows ≡ rows_of schema.now (class_name (variables * classes.now.width) classes.now) (variables * classes.now.width) origins.now) }
+    ensures { IfOk result (λ rows. rows ≡ rows_of schema.now (name_by variables classes.now) (variables * classes.now.width) origins.now) }
 {
     let mut rows = List::new(alloc);
     let mut own = variables as u32 * classes.width as u32;
@@ -108,7 +108,7 @@ pub fn rows(
 /// What a comparison says, where it is evaluated: one between two constants, or of a symbol with
 /// itself.
 fn evaluated(left: &Sym, op: Op, right: &Sym) -> Option<bool>
-    ensures { MatchOption result (is_evaluated left.now right.now ≡ false) (λ b. (is_evaluated left.now right.now ≡ true) × (b ≡ outcome op left.now right.now)) }
+    ensures { IsSaid op left.now right.now result }
 {
     match (left, right) {
         (Sym::Const(a), Sym::Const(b)) => Some(op.compares(a, b)),
@@ -131,9 +131,9 @@ fn push_compared(
     requires classes { AreClasses variables classes.now }
     requires places { HasPlacesBelow (length places.now) literal.now }
     requires pairs { All (λ p. (p.variable < variables) × (p.attribute < classes.now.width)) places.now }
-    ensures is_false { IfOk result (λ b. b ≡ false → EvaluatesFalse (class_name (variables * classes.now.width) classes.now) (compared classes.now.width places.now literal.now)) }
-    ensures not_false { IfOk result (λ b. b ≡ true → ¬ EvaluatesFalse (class_name (variables * classes.now.width) classes.now) (compared classes.now.width places.now literal.now)) }
-    ensures pushed { IfOk result (λ b. b ≡ true → head.new ≡ with_compared (class_name (variables * classes.now.width) classes.now) head.old (comparisons classes.now.width places.now (literal.now ∷ []))) }
+    ensures is_false { IfOk result (λ b. b ≡ false → EvaluatesFalse (name_by variables classes.now) (compared classes.now.width places.now literal.now)) }
+    ensures not_false { IfOk result (λ b. b ≡ true → ¬ EvaluatesFalse (name_by variables classes.now) (compared classes.now.width places.now literal.now)) }
+    ensures pushed { IfOk result (λ b. b ≡ true → head.new ≡ with_literals variables classes.now places.now head.old (literal.now ∷ [])) }
 {
     let left = classes.operand_name(alloc, variables, places, &literal.left)?;
     let right = classes.operand_name(alloc, variables, places, &literal.right)?;
@@ -158,7 +158,7 @@ fn output_symbols(
     requires classes { AreClasses variables classes.now }
     requires outputs { All (λ i. i < length places.now) outputs.now }
     requires pairs { All (λ p. (p.variable < variables) × (p.attribute < classes.now.width)) places.now }
-    ensures { IfOk result (λ xs. xs ≡ map (λ i. class_name (variables * classes.now.width) classes.now (place_symbol classes.now.width places.now i)) outputs.now) }
+    ensures { IfOk result (λ xs. xs ≡ names_at variables classes.now places.now outputs.now) }
 {
     let mut symbols = List::new(alloc);
     for i in outputs {
@@ -181,7 +181,7 @@ pub fn build_head(
     requires outputs { All (λ i. i < length places.now) outputs.now }
     requires places { All (HasPlacesBelow (length places.now)) literals.now }
     requires pairs { All (λ p. (p.variable < variables) × (p.attribute < classes.now.width)) places.now }
-    ensures { IfOk result (λ h. MatchOption h (IsSomeFalse (class_name (variables * classes.now.width) classes.now) (comparisons classes.now.width places.now literals.now)) (λ h. IsNoneFalse (class_name (variables * classes.now.width) classes.now) (comparisons classes.now.width places.now literals.now) × (h ≡ head_of (class_name (variables * classes.now.width) classes.now) (map (λ i. class_name (variables * classes.now.width) classes.now (place_symbol classes.now.width places.now i)) outputs.now) (comparisons classes.now.width places.now literals.now)))) }
+    ensures { IfOk result (IsHeadIfAny variables classes.now places.now outputs.now literals.now) }
 {
     let mut head = Head {
         symbols: output_symbols(alloc, classes, variables, places, outputs)?,

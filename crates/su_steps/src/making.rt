@@ -1,22 +1,19 @@
 //! The terms of a query.
-ghost use Rattle.std.specs.Prelude.{◌≡◌, ◌⊎◌, ℕ, ◌<◌, ◌≤◌, ◌++◌, ◌∷◌, List as Items, [], length, get_or, map, slice_get, Option, Some, All, IfOk, IfErr, OnOk, MatchOption};
+ghost use Rattle.std.specs.Prelude.{◌≡◌, ◌⊎◌, ◌<◌, ◌≤◌, ◌++◌, ◌∷◌, [], length, get_or, map, Option, Some, All, IfOk, IfErr, OnOk, MatchOption};
 ghost use Rattle.su_where.specs.Fitting.{HasPlacesBelow};
 ghost use Rattle.su_where.specs.Disjunct.{disjuncts_of};
 ghost use Rattle.su_tableau.specs.Kinds.{IsTyped};
 ghost use Rattle.su_schema.specs.Entries.{attribute_kinds};
 ghost use Rattle.su_query.specs.Ranges.{IsResolved};
-ghost use Rattle.su_query.specs.Sets.{mentioned_with};
 ghost use Rattle.su_steps.specs.declared.faults.StepFault.TheVariants.{NotCovered};
 ghost use Rattle.su_steps.specs.Laws.{AreTheExpression};
 ghost use Rattle.su_steps.specs.Choices.{coverings as coverings_in, choices};
 ghost use Rattle.su_steps.specs.Objects.{width};
-ghost use Rattle.su_steps.specs.PairSymbols.{comparisons};
-ghost use Rattle.su_steps.specs.Cases.{Case, HaveNone, HaveTableau, Gives};
 ghost use Rattle.su_steps.specs.Terms.{case_of, AreTerms};
 ghost use Rattle.su_steps.specs.Limits.{row_count};
 ghost use Rattle.su_steps.specs.Refusals.{IsAccepted, IsStepRefusal};
 ghost use Rattle.su_steps.specs.inside.Ready.{IsReady, AreClosed, FitLiterals, FitOrigins, IsShown, IsChoice};
-ghost use Rattle.su_steps.specs.inside.Outs.{GivesNone, AreTermsOf};
+ghost use Rattle.su_steps.specs.inside.Outs.{IsTableauIfAny, IsTermIfAny, AddsTerms, IsNotCovered};
 
 use crate::building::{build_head, rows};
 use crate::choosing::{choice_at, choice_count, coverings, first_empty, most_rows};
@@ -100,7 +97,7 @@ fn tableau(
     requires covered { IsShown schema.now resolved.now origins.now }
     requires ready { IsReady (width schema.now) resolved.now literals.now classes.old }
     ensures ready { OnOk result (IsReady (width schema.now) resolved.now literals.now classes.new) }
-    ensures tableau { IfOk result (λ t. MatchOption t (HaveNone schema.now origins.now (comparisons (width schema.now) resolved.now.places literals.now)) (HaveTableau schema.now resolved.now origins.now (comparisons (width schema.now) resolved.now.places literals.now))) }
+    ensures tableau { IfOk result (IsTableauIfAny schema.now resolved.now origins.now literals.now) }
 {
     schema.keeps_its_rules();
     let variables = resolved.variables.len() as u8;
@@ -140,7 +137,7 @@ fn term(
     requires disjunct { get_or (disjuncts_of question.now.resolved.now.cond) disjunct [] ≡ literals.now }
     requires ready { IsReady (width question.now.schema.now) question.now.resolved.now literals.now classes.old }
     ensures ready { OnOk result (IsReady (width question.now.schema.now) question.now.resolved.now literals.now classes.new) }
-    ensures term { IfOk result (λ t. MatchOption t (GivesNone question.now.schema.now question.now.maximal.now question.now.resolved.now (case_of disjunct choice)) (Gives question.now.schema.now question.now.maximal.now question.now.resolved.now (case_of disjunct choice))) }
+    ensures term { IfOk result (IsTermIfAny question.now (case_of disjunct choice)) }
 {
     let schema = question.schema;
     let origins = origins(alloc, schema, question.maximal, choice.as_slice())?;
@@ -191,7 +188,7 @@ fn push_terms(
     requires literals { FitLiterals question.now.schema.now question.now.resolved.now literals.now }
     requires disjunct { get_or (disjuncts_of question.now.resolved.now.cond) disjunct [] ≡ literals.now }
     requires place { disjunct < length (disjuncts_of question.now.resolved.now.cond) }
-    ensures { OnOk result ((cs : Items Case) → AreTermsOf question.now.schema.now question.now.maximal.now question.now.resolved.now cs terms.old → AreTermsOf question.now.schema.now question.now.maximal.now question.now.resolved.now (cs ++ map (case_of disjunct) (choices question.now.schema.now question.now.maximal.now question.now.resolved.now)) terms.new) }
+    ensures { OnOk result (AddsTerms question.now (map (case_of disjunct) (choices question.now.schema.now question.now.maximal.now question.now.resolved.now)) terms.old terms.new) }
 {
     let count = choice_count(coverings);
     let mut classes = open_classes(
@@ -256,7 +253,7 @@ fn copy_name(alloc: Global, name: &Option<Str>) -> Result<Option<Str>, NoMemory>
 fn not_covered(alloc: Global, resolved: &Resolved, v: u8) -> Result<StepFault, NoMemory>
     requires variable { v < length resolved.now.variables }
     requires places { All (λ p. p.attribute < 128) resolved.now.places }
-    ensures { IfOk result (λ fault. (variable : Option (Items ℕ)) × (slice_get resolved.now.variables v ≡ Some variable) × (fault ≡ NotCovered variable (mentioned_with resolved.now.places v))) }
+    ensures { IfOk result (IsNotCovered resolved.now v) }
 {
     Ok(StepFault::NotCovered {
         variable: copy_name(alloc, resolved.variables.get(v as usize))?,

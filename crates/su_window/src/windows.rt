@@ -3,7 +3,6 @@ ghost use Rattle.std.specs.Prelude.{◌≡◌, ◌↔◌, ◌⊎◌, ◌<◌, �
 ghost use Rattle.std.specs.List.Sorted.{IsStrictlySortedBy};
 ghost use Rattle.su_base.specs.declared.values.Value.{Value as AValue};
 ghost use Rattle.su_base.specs.Value.{compare_lists};
-ghost use Rattle.su_tableau.specs.declared.symbols.Sym.{Sym as ASym};
 ghost use Rattle.su_tableau.specs.declared.symbols.Sym.TheVariants.{Const, Var};
 ghost use Rattle.su_tableau.specs.Tableaux.{AreBelow};
 ghost use Rattle.su_chase.specs.inside.Rows.{name_by};
@@ -12,7 +11,7 @@ ghost use Rattle.su_window.specs.declared.faults.WindowFault.TheVariants.{NoMemo
 ghost use Rattle.su_window.specs.Window.{Fits, InWindow};
 ghost use Rattle.su_window.specs.Members.{HasFew};
 ghost use Rattle.su_window.specs.Refusals.{IsWindowRefusal};
-ghost use Rattle.su_window.specs.inside.Readings.{AreConstants};
+ghost use Rattle.su_window.specs.inside.Readings.{AreConstants, AreConstantsIfAny, AreConstantsIn};
 
 use crate::columns::all_columns;
 use crate::faults::WindowFault;
@@ -48,7 +47,7 @@ fn constants(
 ) -> Result<Option<Row>, NoMemory>
     requires below { AreBelow (length names.now) row.now }
     requires within { All (λ a. a < length row.now) attributes.now }
-    ensures { IfOk result (λ found. MatchOption found ((h : Items AValue) → ¬ AreConstants names.now row.now attributes.now h) (AreConstants names.now row.now attributes.now)) }
+    ensures { IfOk result (AreConstantsIfAny names.now row.now attributes.now) }
 {
     let mut values = List::new(alloc);
     for a in attributes {
@@ -87,7 +86,7 @@ fn constant_rows(
 ) -> Result<List<Row>, NoMemory>
     requires below { All (AreBelow (length names.now)) rows.now }
     requires within { All (λ row. All (λ a. a < length row) attributes.now) rows.now }
-    ensures { IfOk result (λ found. (h : Items AValue) → Contains found h ↔ ((row : Items ASym) × Contains rows.now row × AreConstants names.now row attributes.now h)) }
+    ensures { IfOk result (λ found. (h : Items AValue) → Contains found h ↔ AreConstantsIn names.now rows.now attributes.now h) }
 {
     let mut found = List::new(alloc);
     for row in rows {

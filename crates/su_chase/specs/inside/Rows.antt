@@ -10,9 +10,10 @@ use Rattle.su_fd.specs.declared.dependencies.Fd.{Fd}
 use Rattle.su_tableau.specs.declared.symbols.Sym.{Sym}
 use Rattle.su_tableau.specs.declared.symbols.Sym.TheVariants.{Const, Var}
 use Rattle.su_tableau.specs.Tableaux.{Tab}
+use Rattle.su_tableau.specs.Kinds.{sym_kind}
 use Rattle.su_tableau.specs.Valuations.{nth}
 use Rattle.su_classes.specs.declared.items.Placed.{Placed}
-use Rattle.su_classes.specs.inside.Symbols.{symbol_number}
+use Rattle.su_classes.specs.inside.Symbols.{symbol_number, symbol_at}
 use Rattle.su_classes.specs.Tables.{rep, IsLeastTable}
 use Rattle.su_chase.specs.declared.candidates.Next.{Next}
 use Rattle.su_chase.specs.Frozen.{candidate}
@@ -99,3 +100,11 @@ count_of next TextKind = next.text
 pub record IsPast (next : Next) (kind : Kind) (number : ℕ) (new : Next) : Type 0 where
   pub here : count_of new kind ≡ number + 1
   pub others : (k : Kind) → k ≢ kind → count_of new k ≡ count_of next k
+
+-- the kinds of these variables, however variables have kinds so that each row is of the kinds
+abbrev pub AreKindsOf : List Kind → List (List Sym) → List ℕ → List Kind → Type 0
+AreKindsOf kinds rows variables found = (var_kind : ℕ → Kind) → All (λ row. map (sym_kind var_kind) row ≡ kinds) rows → found ≡ map var_kind variables
+
+-- the names of the variables below the limit, by the constants and a table of representatives
+abbrev pub AreNamesBelow : ℕ → List Value → List ℕ → List Sym → Type 0
+AreNamesBelow limit constants table names = (k : ℕ) → k < limit → get_or names k (Var k) ≡ symbol_at constants (rep table (length constants + k))

@@ -59,6 +59,14 @@ pub record IsImage (t : Lines) (p : List Sent) (place : StepColumn) (x y : Sym) 
   pub symbol : cell_at (numbered_row t (get_or p place.step no_pair).row) place.column ≡ x
   pub image : cell_at (numbered_row t (get_or p place.step no_pair).target) place.column ≡ y
 
+-- the place gives the symbol no image
+abbrev pub HasNoImage : Lines → List Sent → StepColumn → Sym → Type 0
+HasNoImage t p place x = (y : Sym) → ¬ IsImage t p place x y
+
+-- the place of a number stays as it is where it gives a symbol an image: at one number that of x alone
+abbrev pub KeepsImages : Lines → List Sent → Option ℕ → Sym → List StepColumn → List StepColumn → Type 0
+KeepsImages t p number x old new = (n : ℕ) (z w : Sym) → (number ≡ Some n → z ≡ x) → IsImage t p (get_or old n no_place) z w → get_or new n no_place ≡ get_or old n no_place
+
 -- the symbol x goes to y: a fixed one is y, another one has its image at its place
 abbrev pub Sends : Lines → List Sent → List StepColumn → Sym → Sym → Option ℕ → Type 0
 Sends t p places x y None = x ≡ y

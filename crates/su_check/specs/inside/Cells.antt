@@ -1,6 +1,6 @@
 -- Cells of rows, their variables and their kinds.
 -- No public contract cites this module.
-use Rattle.std.specs.Prelude.{◌≡◌, ◌<◌, ℕ, Bool, true, false, Option, None, Some, List, length, map, get_or, All}
+use Rattle.std.specs.Prelude.{◌≡◌, ◌<◌, ℕ, Bool, true, false, Option, None, Some, List, [], length, map, get_or, All}
 use Rattle.su_base.specs.declared.values.Kind.{Kind}
 use Rattle.su_base.specs.declared.values.Kind.TheVariants.{Int as IntKind}
 use Rattle.su_base.specs.Value.{kind_of}
@@ -30,6 +30,14 @@ kind_at kinds c = get_or kinds c IntKind
 abbrev pub HasFound : List ℕ → List (Option Kind) → Sym → Kind → Type 0
 HasFound variables found (Const v) kind = kind_of v ≡ kind
 HasFound variables found (Var k) kind = (n : ℕ) × IsFirstPlace variables k n × (get_or found n None ≡ Some kind)
+
+-- the kinds are found for the symbols of the row
+abbrev pub HaveFound : List ℕ → List (Option Kind) → List Kind → List Sym → Type 0
+HaveFound variables found kinds row = (c : ℕ) → c < length row → HasFound variables found (cell_at row c) (kind_at kinds c)
+
+-- so they are for each of the rows
+abbrev pub AllHaveFound : List ℕ → List (Option Kind) → List Kind → List (List Sym) → Type 0
+AllHaveFound variables found kinds rows = (i c : ℕ) → i < length rows → c < length (get_or rows i []) → HasFound variables found (cell_at (get_or rows i []) c) (kind_at kinds c)
 
 -- the kinds found are those that f gives
 abbrev pub AreFound : (ℕ → Kind) → List ℕ → List (Option Kind) → Type 0

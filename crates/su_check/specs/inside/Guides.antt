@@ -6,6 +6,8 @@ use Rattle.std.specs.Int.{bit_at}
 use Rattle.su_tableau.specs.declared.symbols.Sym.{Sym}
 use Rattle.su_check.specs.declared.guides.Guide.{Guide}
 use Rattle.su_check.specs.declared.sending.Sent.{Sent}
+use Rattle.su_check.specs.declared.sending.StepColumn.{StepColumn}
+use Rattle.su_check.specs.inside.Boards.{IsImage}
 use Rattle.su_check.specs.inside.Cells.{cell_at}
 use Rattle.su_check.specs.SentRows.{Lines, numbered_row, AreSent, sent_too}
 
@@ -17,6 +19,10 @@ HasCarriers rows c x set = (i : ℕ) → i < length rows → cell_at (get_or row
 pub record AreAlike (rows : List (List Sym)) (row : List Sym) (sets : List ℕ) : Type 0 where
   pub one_each : length sets ≡ length row
   pub cells : (c : ℕ) → c < length row → HasCarriers rows c (cell_at row c) (get_or sets c 0)
+
+-- where the place gives x an image, the set has all rows with this image in the column; else it has all rows
+abbrev pub HasRowsWithImage : Lines → List Sent → StepColumn → Sym → ℕ → ℕ → Type 0
+HasRowsWithImage t p place x column set = (j : ℕ) → j < length t.rows → ((y : Sym) → IsImage t p place x y → cell_at (numbered_row t j) column ≡ y) → bit_at set j ≡ 1
 
 -- the set has all kept rows to which row s can go, beside the rows of the partial list
 abbrev pub HasTargets : Lines → List Sent → ℕ → ℕ → Type 0

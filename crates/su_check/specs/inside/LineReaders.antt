@@ -21,6 +21,10 @@ Gives (Ok x) P = P x
 Gives (Err Syntax) P = ⊥
 Gives (Err NoMemory) P = Unit {0}
 
+-- the value that came out is x, and what is left is r; it isn't refused
+abbrev pub GivesBefore : {X : Type 0} → Result X LexEnd → List Symbol → X → List Symbol → Type 0
+GivesBefore result left x r = Gives result (λ y. (y ≡ x) × (left ≡ r))
+
 -- what is left begins with no member of the kind that was read
 abbrev pub Stops : {X : Type 0} → (X → Symbol) → (X → Type 0) → List Symbol → Type 0
 Stops {X = X} spell In r = (x : X) → In x → ¬ (Begins (spell x) r)
@@ -58,3 +62,7 @@ IsRow width row = (length row ≡ width) × All IsNamed row
 -- a tree whose row numbers are at most 255
 abbrev pub IsByteTree : RowTree → Type 0
 IsByteTree t = IsByte t.row × IsByteNode t.node
+
+-- where rows of the width are in front, and behind them no row, these come out
+abbrev pub AreOnlyRows : ℕ → List Symbol → Result (List (List Sym)) LexEnd → List Symbol → Type 0
+AreOnlyRows width old result new = (rows : List (List Sym)) (r : List Symbol) → All (IsRow width) rows → ¬ (Begins (Sign sign.Open) r) → old ≡ flat_map row_line rows ++ r → GivesBefore result new rows r

@@ -1,7 +1,7 @@
 -- For each row the first one with its left side.
 -- key: the labels of a row at listed attributes; noted: the position of the first row with a key
 -- No public contract cites this module.
-use Rattle.std.specs.Prelude.{◌≡◌, ◌↔◌, ◌⊎◌, ℕ, ◌<◌, IsTrue, List, [], length, map, get_or, Contains, Option, Some, nat_eq}
+use Rattle.std.specs.Prelude.{◌≡◌, ◌↔◌, ◌⊎◌, ℕ, ◌<◌, IsTrue, List, [], length, map, get_or, All, Contains, Option, Some, nat_eq}
 use Rattle.std.specs.Ordering.{nat_cmp}
 use Rattle.std.specs.FinSet.{FinSet, contains, empty}
 use Rattle.std.specs.HashMap.{HashMap, get}
@@ -26,6 +26,14 @@ AreMembersBelow n s list = (a : ℕ) → Contains list a ↔ ((a < n) × IsTrue 
 -- the labels of a row at the attributes
 abbrev pub key : (ℕ → ℕ) → List ℕ → Placed → List ℕ
 key label list r = map (λ a. label (item_of r a)) list
+
+-- two rows have the same labels at the listed attributes
+abbrev pub HaveSameLabels : {L : Type 0} → (ℕ → L) → List ℕ → Placed → Placed → Type 0
+HaveSameLabels label list r q = All (λ a. label (item_of r a) ≡ label (item_of q a)) list
+
+-- the labels keep the dependency on the two rows
+abbrev pub KeepsOnTwo : {L : Type 0} → (ℕ → L) → Fd → Placed → Placed → Type 0
+KeepsOnTwo label f r q = SameItemLabels label f.left r q → SameItemLabels label f.right r q
 
 -- for each row in which the dependency lies the position of one that agrees with it on the left side, the same for all that agree
 pub record AreFirsts (label : ℕ → ℕ) (f : Fd) (rows : List Placed) (firsts : List ℕ) : Type 0 where

@@ -75,3 +75,11 @@ tab_constants t = constants_in t.head ++ flat_map constants_in t.rows
 -- the constants of all terms
 abbrev pub terms_constants : List Term → List Value
 terms_constants terms = flat_map (λ t. tab_constants t.tableau) terms
+
+-- over each universal relation that meets the dependencies the answers of the first terms are answers of the second
+abbrev pub AreWithin : SchemaValue → List Term → List Term → Type 0
+AreWithin schema first second = (universe : List (List Value)) (h : List Value) → IsUniverse (attribute_kinds schema) universe → Meets schema.fds universe → IsAnswer first universe h → IsAnswer second universe h
+
+-- so the tableau answers as it is settled, over each universal relation of any kinds
+abbrev pub AlwaysAnswers : List Fd → List Term → Tab → Settled → Type 0
+AlwaysAnswers fds second t s = (kinds : Kinds) (universe : List (List Value)) (h : List Value) → IsUniverse kinds universe → Meets fds universe → Answers second t s universe h

@@ -52,3 +52,19 @@ pub record IsSemijoin (edges : List Edge) (a b : ℕ) (old new : List (List Bool
   pub marks : AreMarks edges new
   pub others : (i : ℕ) → i ≢ a → marks_at new i ≡ marks_at old i
   pub exact : (p : ℕ) → p < length (candidates_at edges a) → IsMarked new a p ↔ (IsMarked old a p × HasPartner (cells_at edges a) (cells_at edges b) (candidates_at edges b) (marks_at old b) (candidate_at edges a p))
+
+-- the marks tell which candidates of the edge fit it
+abbrev pub TellFitting : Edge → List Bool → Type 0
+TellFitting edge marks = (p : ℕ) → p < length edge.candidates → IsTrue (mark marks p) ↔ Fits edge.cells (row_at edge.candidates p)
+
+-- the marked candidates of the edge fit it
+abbrev pub MarkedFit : Edge → List Bool → Type 0
+MarkedFit edge marks = (p : ℕ) → p < length edge.candidates → IsTrue (mark marks p) → Fits edge.cells (row_at edge.candidates p)
+
+-- each candidate of each edge that fits it is marked
+abbrev pub FittingAreMarked : List Edge → List (List Bool) → Type 0
+FittingAreMarked edges marks = (i p : ℕ) → i < length edges → p < length (candidates_at edges i) → Fits (cells_at edges i) (candidate_at edges i p) → IsMarked marks i p
+
+-- the marks that are left to an edge: those of candidates with a partner among the marked ones of the other edge
+abbrev pub AreLeftBeside : Edge → List Bool → Edge → List Bool → List Bool → Type 0
+AreLeftBeside edge marks other others kept = (p : ℕ) → p < length edge.candidates → IsTrue (mark kept p) ↔ (IsTrue (mark marks p) × HasPartner edge.cells other.cells other.candidates others (row_at edge.candidates p))

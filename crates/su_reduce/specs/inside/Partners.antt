@@ -1,10 +1,11 @@
 -- Which edges have the variables of an edge. No public clause cites this module.
 -- sets: for each cell of an edge the edges that have its variable, none for a constant
-use Rattle.std.specs.Prelude.{◌≡◌, ℕ, ◌<◌, ◌↔◌, IsTrue, List, [], length, get_or, Option, None, Some}
+use Rattle.std.specs.Prelude.{◌≡◌, ℕ, ◌<◌, ◌↔◌, IsTrue, List, [], length, get_or, Option, MatchOption, None, Some}
 use Rattle.std.specs.Ordering.{nat_cmp}
 use Rattle.std.specs.FinSet.{FinSet, contains, empty, insert, difference}
 use Rattle.su_tableau.specs.declared.symbols.Sym.{Sym}
 use Rattle.su_tableau.specs.declared.symbols.Sym.TheVariants.{Var}
+use Rattle.su_reduce.specs.declared.edges.Ear.{Ear}
 use Rattle.su_reduce.specs.Ears.{HasVar}
 use Rattle.su_reduce.specs.Shapes.{cell_at}
 
@@ -42,3 +43,9 @@ IsParentBy sets others (Some p) = In others p × ((c j : ℕ) → c < length set
 -- the set without a member
 abbrev pub without : FinSet nat_cmp → ℕ → FinSet nat_cmp
 without s e = difference s (insert empty e)
+
+-- an edge of the set with its parent beside the others of it, by the table; or no edge of the set has one
+abbrev pub IsEarAmong : List (List (FinSet nat_cmp)) → FinSet nat_cmp → Option Ear → Type 0
+IsEarAmong table left found =
+    MatchOption found ((e : ℕ) (parent : Option ℕ) → In left e → ¬ IsParentBy (get_or table e []) (without left e) parent)
+    (λ ear. In left ear.edge × IsParentBy (get_or table ear.edge []) (without left ear.edge) ear.parent)

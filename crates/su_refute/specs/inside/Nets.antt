@@ -2,7 +2,7 @@
 -- m: the kept rows of the tableau t
 -- places: where two lists of symbols hold one symbol
 -- No public contract cites this module.
-use Rattle.std.specs.Prelude.{◌≡◌, ◌<◌, ◌↔◌, ℕ, List, [], length, get_or, All, Contains}
+use Rattle.std.specs.Prelude.{◌≡◌, ◌<◌, ◌↔◌, ◌⊎◌, ℕ, List, [], length, get_or, All, Contains}
 use Rattle.std.specs.Int.{bit_at}
 use Rattle.su_tableau.specs.declared.symbols.Sym.{Sym}
 use Rattle.su_tableau.specs.Tableaux.{Tab}
@@ -23,6 +23,10 @@ IsShared xs ys x = (x.first < length xs) × (x.second < length ys) × (cell_at x
 -- all places at which they do
 abbrev pub AreShared : List Sym → List Sym → List Places → Type 0
 AreShared xs ys places = (x : Places) → Contains places x ↔ IsShared xs ys x
+
+-- the places, and those at which the second list holds the symbol that stands at `first` in the first one
+abbrev pub AddsPlaces : List Places → ℕ → Sym → List Sym → List Places → Type 0
+AddsPlaces old first x ys new = (p : Places) → Contains new p ↔ (Contains old p ⊎ ((p.first ≡ first) × (p.second < length ys) × (x ≡ cell_at ys p.second)))
 
 -- the lists hold one symbol at each of the places
 abbrev pub AgreeAt : List Places → List Sym → List Sym → Type 0

@@ -11,7 +11,7 @@ use Rattle.su_check.specs.Refutations.{IsOpen, IsFitting, IsAscending}
 use Rattle.su_refute.specs.declared.nets.Net.{Net}
 use Rattle.su_refute.specs.inside.Nets.{IsNet}
 use Rattle.su_check.specs.declared.nodes.Node.{Node}
-use Rattle.su_refute.specs.Trees.{lines_in, IsTreeAt}
+use Rattle.su_refute.specs.Trees.{lines_in, node_count, IsTreeAt}
 
 -- rows of one width, kept rows that ascend, and a partial list of rows that go to rows under one list of symbols
 pub record IsReady (t : Lines) (p : List Sent) : Type 0 where
@@ -56,3 +56,11 @@ IsTreeFor net todo left s n = IsTreeAt (lines_in s.tableau s.mask) s.left_out n 
 pub record IsFewestOf (left : List ℕ) (set s : ℕ) : Type 0 where
   pub member : bit_at set s ≡ 1
   pub fewest : (q : ℕ) → bit_at set q ≡ 1 → (count_ones (get_or left s 0) < count_ones (get_or left q 0)) ⊎ ((count_ones (get_or left s 0) ≡ count_ones (get_or left q 0)) × (s ≤ q))
+
+-- of each row the targets that are left to it and agree
+abbrev pub AreLeftAndAgree : List ℕ → List ℕ → List ℕ → Type 0
+AreLeftAndAgree left agree next = (q i : ℕ) → q < length left → (bit_at (get_or next q 0) i ≡ 1) ↔ ((bit_at (get_or left q 0) i ≡ 1) × (bit_at (get_or agree q 0) i ≡ 1))
+
+-- each tree for where the search stands has more nodes than so many
+abbrev pub NeedMoreThan : ℕ → Net → ℕ → List ℕ → Type 0
+NeedMoreThan budget net todo left = (s : Stands net todo left) (n : Node) → IsTreeFor net todo left s n → budget < node_count n

@@ -2,7 +2,7 @@
 -- columns of attributes: those from which an object takes them; sides: the columns of both sides of a dependency
 -- clash: two rows agree at the left columns and differ at the right ones
 -- No public contract cites this module.
-use Rattle.std.specs.Prelude.{◌≡◌, ◌≢◌, ◌⊎◌, ◌↔◌, ℕ, List, [], slice_get, slice_index_or, Contains, Option, Some, None, IsTrue}
+use Rattle.std.specs.Prelude.{◌≡◌, ◌≢◌, ◌⊎◌, ◌↔◌, ℕ, List, [], slice_index_or, Contains, Option, Some, None, IsTrue}
 use Rattle.std.specs.Ordering.{nat_cmp}
 use Rattle.std.specs.FinSet.{FinSet, contains}
 use Rattle.std.specs.declared.cmp.Ordering.TheVariants.{Less}

@@ -47,6 +47,10 @@ placed_of schema vs o = record { has = attributes_at schema o.object; cells = ma
 abbrev pub class_name : ℕ → Classes → Sym → Sym
 class_name limit c x = name_in c.constants limit c.table.items x
 
+-- the name of a symbol by the classes of the pairs of so many variables
+abbrev pub name_by : ℕ → Classes → Sym → Sym
+name_by variables c = class_name (variables * c.width) c
+
 -- the table is one of the constants and of the pairs of so many variables
 pub record AreClasses (variables : ℕ) (c : Classes) : Type 0 where
   pub size : length c.table.items ≡ length c.constants + variables * c.width

@@ -1,7 +1,7 @@
 -- How the members are read, and the chased rows. No public clause cites this module.
 -- columns of an object: for each attribute the column from which the object takes it, if it is its own
 -- so far: the members of the objects before one, and its own by the first rows of its relation, are read
-use Rattle.std.specs.Prelude.{◌≡◌, ◌↔◌, ◌⊎◌, ℕ, ◌<◌, pos, Bool, false, IsTrue, List, [], ◌∷◌, map, flat_map, take, length, get_or, Contains, Option, Some, None, All}
+use Rattle.std.specs.Prelude.{◌≡◌, ◌↔◌, ◌⊎◌, ℕ, ◌<◌, pos, Bool, false, IsTrue, List, [], ◌∷◌, map, flat_map, take, length, get_or, Contains, Option, MatchOption, Some, None, All}
 use Rattle.std.specs.List.{range_with_len}
 use Rattle.su_base.specs.declared.values.Value.{Value}
 use Rattle.su_base.specs.declared.values.Value.TheVariants.{Int}
@@ -66,3 +66,11 @@ pub record AreSoFar (db : DatabaseValue) (o p : ℕ) (readings : List Reading) :
 -- the names of a row's symbols at the attributes are these constants
 abbrev pub AreConstants : List Sym → List Sym → List ℕ → List Value → Type 0
 AreConstants names row attributes h = map (λ a. name_by names (get_or row a (Var 0))) attributes ≡ map Const h
+
+-- the constants that name a row's symbols at the attributes, or some name is no constant
+abbrev pub AreConstantsIfAny : List Sym → List Sym → List ℕ → Option (List Value) → Type 0
+AreConstantsIfAny names row attributes found = MatchOption found ((h : List Value) → ¬ AreConstants names row attributes h) (AreConstants names row attributes)
+
+-- the constants of some of the rows
+abbrev pub AreConstantsIn : List Sym → List (List Sym) → List ℕ → List Value → Type 0
+AreConstantsIn names rows attributes h = (row : List Sym) × Contains rows row × AreConstants names row attributes h
