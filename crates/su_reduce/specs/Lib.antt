@@ -5,3 +5,4 @@ pub mod inside
 pub mod Left
 pub mod Shapes
 pub mod Sheets
+pub mod Sides

@@ -2,8 +2,9 @@
 //! side, and a pass over the other. Where a key is one code the table has a mark for each code up to the
 //! greatest one, else it is a hash table.
 ghost use Rattle.std.specs.Prelude.{◌≡◌, ◌↔◌, ◌<◌, ◌+◌, ℕ, false, List, [], IfOk, IsTrue, length, get_or};
-ghost use Rattle.su_reduce.specs.Sheets.{pick, AreBelow, IsMarkedKey};
-ghost use Rattle.su_reduce.specs.inside.Partnered.{HasKey, width_of, AreKeysOf, AreCodesOf, IsKeyOf, IsMarkedWith};
+ghost use Rattle.su_reduce.specs.Sheets.{pick, AreBelow};
+ghost use Rattle.su_reduce.specs.inside.Partnered.{HasKey, width_of, AreKeysOf, AreCodesOf};
+ghost use Rattle.su_reduce.specs.Sides.{IsKeyOf, IsMarkedWith, AreMarkedWith};
 
 use crate::distinct::Distinct;
 use crate::sheets::Sheet;
@@ -173,7 +174,7 @@ fn marks_by(alloc: Global, side: &Side, keys: &Keys) -> Result<Vec<bool>, AllocE
     requires marks { length side.now.marks.now ≡ length side.now.rows.now.rows }
     requires width { width_of keys.now ≡ length side.now.key.now }
     ensures length { IfOk result (λ marks. length marks.items ≡ length side.now.rows.now.rows) }
-    ensures exact { IfOk result (λ marks. (i : ℕ) → i < length side.now.rows.now.rows → IsTrue (get_or marks.items i false) ↔ IsMarkedWith side.now i (HasKey keys.now)) }
+    ensures exact { IfOk result (λ marks. AreMarkedWith side.now (HasKey keys.now) marks.items) }
 {
     let mut marks = Vec::with_capacity(alloc, side.rows.len())?;
     let mut cells = Vec::new(alloc);
@@ -192,7 +193,7 @@ pub fn partner_marks(alloc: Global, left: &Side, right: &Side) -> Result<Vec<boo
     requires right_marks { length right.now.marks.now ≡ length right.now.rows.now.rows }
     requires keys { length left.now.key.now ≡ length right.now.key.now }
     ensures length { IfOk result (λ marks. length marks.items ≡ length left.now.rows.now.rows) }
-    ensures exact { IfOk result (λ marks. (i : ℕ) → i < length left.now.rows.now.rows → IsTrue (get_or marks.items i false) ↔ (IsTrue (get_or left.now.marks.now i false) × IsMarkedKey right.now.rows.now.rows right.now.marks.now right.now.key.now (length right.now.rows.now.rows) (pick left.now.key.now (get_or left.now.rows.now.rows i [])))) }
+    ensures exact { IfOk result (λ marks. AreMarkedWith left.now (IsKeyOf right.now) marks.items) }
 {
     let keys = keys_of(alloc, right)?;
     let marks = marks_by(alloc, left, &keys)?;

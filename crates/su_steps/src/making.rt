@@ -1,5 +1,5 @@
 //! The terms of a query.
-ghost use Rattle.std.specs.Prelude.{◌≡◌, ◌⊎◌, ◌<◌, ◌≤◌, ◌++◌, ◌∷◌, [], length, get_or, map, Option, Some, All, IfOk, IfErr, OnOk, MatchOption};
+ghost use Rattle.std.specs.Prelude.{◌≡◌, ◌⊎◌, ◌<◌, ◌≤◌, ◌++◌, ◌∷◌, [], length, get_or, Option, Some, All, IfOk, IfErr, OnOk, MatchOption};
 ghost use Rattle.su_where.specs.Fitting.{HasPlacesBelow};
 ghost use Rattle.su_where.specs.Disjunct.{disjuncts_of};
 ghost use Rattle.su_tableau.specs.Kinds.{IsTyped};
@@ -7,7 +7,7 @@ ghost use Rattle.su_schema.specs.Entries.{attribute_kinds};
 ghost use Rattle.su_query.specs.Ranges.{IsResolved};
 ghost use Rattle.su_steps.specs.declared.faults.StepFault.TheVariants.{NotCovered};
 ghost use Rattle.su_steps.specs.Laws.{AreTheExpression};
-ghost use Rattle.su_steps.specs.Choices.{coverings as coverings_in, choices};
+ghost use Rattle.su_steps.specs.Choices.{coverings as coverings_in};
 ghost use Rattle.su_steps.specs.Objects.{width};
 ghost use Rattle.su_steps.specs.Terms.{case_of, AreTerms};
 ghost use Rattle.su_steps.specs.Limits.{row_count};
@@ -188,7 +188,7 @@ fn push_terms(
     requires literals { FitLiterals question.now.schema.now question.now.resolved.now literals.now }
     requires disjunct { get_or (disjuncts_of question.now.resolved.now.cond) disjunct [] ≡ literals.now }
     requires place { disjunct < length (disjuncts_of question.now.resolved.now.cond) }
-    ensures { OnOk result (AddsTerms question.now (map (case_of disjunct) (choices question.now.schema.now question.now.maximal.now question.now.resolved.now)) terms.old terms.new) }
+    ensures { OnOk result (AddsTerms question.now disjunct terms.old terms.new) }
 {
     let count = choice_count(coverings);
     let mut classes = open_classes(

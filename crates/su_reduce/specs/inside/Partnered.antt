@@ -1,9 +1,9 @@
 -- Keys of marked rows. No public clause cites this module.
-use Rattle.std.specs.Prelude.{◌≡◌, ◌↔◌, ℕ, Bool, false, IsTrue, List, [], ◌∷◌, get_or, length, Contains}
+use Rattle.std.specs.Prelude.{◌≡◌, ◌↔◌, ℕ, Bool, false, IsTrue, List, [], ◌∷◌, get_or, Contains}
 use Rattle.su_reduce.specs.declared.partners.Keys.{Keys as AKeys}
 use Rattle.su_reduce.specs.declared.partners.Keys.TheVariants.{Codes, Rows}
 use Rattle.su_reduce.specs.declared.partners.Side.{Side}
-use Rattle.su_reduce.specs.Sheets.{pick, IsMarkedKey}
+use Rattle.su_reduce.specs.Sheets.{IsMarkedKey}
 
 -- the keys of the marked ones of the first n rows
 abbrev pub AreKeys : List (List ℕ) → List Bool → List ℕ → ℕ → List (List ℕ) → Type 0
@@ -32,11 +32,3 @@ AreKeysOf side n keys = AreKeys side.rows.now.rows side.marks.now side.key.now n
 -- so the codes that are such keys have a mark
 abbrev pub AreCodesOf : Side → ℕ → List Bool → Type 0
 AreCodesOf side n codes = AreCodes side.rows.now.rows side.marks.now side.key.now n codes
-
--- the key of one of its marked rows
-abbrev pub IsKeyOf : Side → List ℕ → Type 0
-IsKeyOf side key = IsMarkedKey side.rows.now.rows side.marks.now side.key.now (length side.rows.now.rows) key
-
--- its row i is marked, and the key of that row is such
-abbrev pub IsMarkedWith : Side → ℕ → (List ℕ → Type 0) → Type 0
-IsMarkedWith side i IsSuch = IsTrue (get_or side.marks.now i false) × IsSuch (pick side.key.now (get_or side.rows.now.rows i []))

@@ -1,13 +1,14 @@
 -- The terms of some cases, one case after another, and what is made on the way to them.
 -- question: a resolved query, its schema and the maximal objects to choose from
 -- No public contract cites this module.
-use Rattle.std.specs.Prelude.{◌≡◌, ◌⊎◌, ℕ, List, [], ◌∷◌, ◌++◌, slice_get, Option, MatchOption, Some}
+use Rattle.std.specs.Prelude.{◌≡◌, ◌⊎◌, ℕ, List, [], ◌∷◌, ◌++◌, map, slice_get, Option, MatchOption, Some}
 use Rattle.std.specs.Ordering.{nat_cmp}
 use Rattle.std.specs.FinSet.{FinSet}
 use Rattle.su_schema.specs.SchemaValue.{SchemaValue}
 use Rattle.su_query.specs.declared.resolving.Resolved.{Resolved}
 use Rattle.su_steps.specs.declared.results.Term.{Term}
-use Rattle.su_steps.specs.Choices.{origins_of}
+use Rattle.su_steps.specs.Choices.{choices, origins_of}
+use Rattle.su_steps.specs.Terms.{case_of}
 use Rattle.su_tableau.specs.Tableaux.{Tab}
 use Rattle.su_where.specs.declared.literals.Literal.{Literal}
 use Rattle.su_query.specs.Sets.{mentioned_with}
@@ -39,11 +40,15 @@ abbrev pub IsTermIfAny : Question → Case → Option Term → Type 0
 IsTermIfAny question case found =
     MatchOption found (GivesNone question.schema.now question.maximal.now question.resolved.now case) (Gives question.schema.now question.maximal.now question.resolved.now case)
 
--- behind the terms of any cases stand those of the added ones
-abbrev pub AddsTerms : Question → List Case → List Term → List Term → Type 0
-AddsTerms question added old new =
+-- the cases of a disjunct, choice by choice
+abbrev pub cases_of : Question → ℕ → List Case
+cases_of question disjunct = map (case_of disjunct) (choices question.schema.now question.maximal.now question.resolved.now)
+
+-- behind the terms of any cases stand those of the disjunct
+abbrev pub AddsTerms : Question → ℕ → List Term → List Term → Type 0
+AddsTerms question disjunct old new =
     (cases : List Case) → AreTermsOf question.schema.now question.maximal.now question.resolved.now cases old
-    → AreTermsOf question.schema.now question.maximal.now question.resolved.now (cases ++ added) new
+    → AreTermsOf question.schema.now question.maximal.now question.resolved.now (cases ++ cases_of question disjunct) new
 
 -- the refusal of variable v, which isn't covered
 abbrev pub IsNotCovered : Resolved → ℕ → StepFault → Type 0
