@@ -30,7 +30,7 @@ pub trait Rows {
         requires column { column < (table_at (tables self.now) table).width }
         ensures { result ≡ matches column value.now (table_at (tables self.now) table).rows };
 
-    /// The positions of these rows, ascending. The value is searched once.
+    /// The positions of these rows, ascending. The value is looked up once.
     fn found<'a>(&'a self, table: u8, column: u8, value: &Value) -> Found<'a>
         requires table { table < length (tables self.now) }
         requires column { column < (table_at (tables self.now) table).width }
