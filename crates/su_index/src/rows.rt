@@ -31,12 +31,8 @@ pub trait Rows {
         requires column { column < (table_at (tables self.now) table).width }
         ensures { result ≡ matches column value.now (table_at (tables self.now) table).rows };
 
-<<<<<<< HEAD
-    /// The positions of these rows, ascending. The value is looked up once.
-    fn found<'a>(&'a self, table: u8, column: u8, value: &Value) -> Found<'a>
-=======
     /// Puts the positions of these rows, ascending, behind those that are there, and answers true; where
-    /// there are more than `most` of them it answers false. The value is searched once.
+    /// there are more than `most` of them it answers false. The value is looked up once.
     fn add_positions(
         &self,
         table: u8,
@@ -45,7 +41,6 @@ pub trait Rows {
         most: usize,
         positions: &mut Vec<usize>,
     ) -> Result<bool, AllocError>
->>>>>>> d8b856ef3a9f0348b6e74ccdee39c5004394f524
         requires table { table < length (tables self.now) }
         requires column { column < (table_at (tables self.now) table).width }
         ensures few { IfOk result (λ few. IsTrue few ↔ (matches column value.now (table_at (tables self.now) table).rows ≤ most)) }
