@@ -1,3 +1,4 @@
 -- Definitions that only contracts of private functions need.
 pub mod Nets
 pub mod Positions
+pub mod TermParts
