@@ -9,6 +9,7 @@ use Rattle.su_base.specs.Value.{compare_values}
 use Rattle.su_fd.specs.declared.dependencies.Fd.{Fd}
 use Rattle.su_tableau.specs.declared.symbols.Sym.{Sym}
 use Rattle.su_tableau.specs.declared.symbols.Sym.TheVariants.{Const, Var}
+use Rattle.su_tableau.proofs.SymbolParts.{same_const}
 use Rattle.su_classes.specs.declared.items.Placed.{Placed}
 use Rattle.su_classes.specs.Tables.{rep, IsTable, IsLeastTable}
 use Rattle.su_classes.specs.inside.Symbols.{has_constant, place_of, is_known, symbol_number, symbol_at, name_in}
@@ -18,9 +19,6 @@ use Rattle.su_classes.proofs.Named.{name_known, name_unknown, same_rep, known_to
 use Rattle.su_chase.specs.Chase.{IsClosedPartition, InOneClass, IsNoLater, IsName, IsConsistent, IsClash}
 use Rattle.su_chase.specs.inside.Rows.{IsFirstClash}
 use Rattle.su_chase.proofs.ItemLabels.{AreNumbered, labels_kept, numbers, names_closed}
-
-pub same_const : (a b : Value) → Const a ≡ Const b → a ≡ b
-same_const a b h = cc
 
 -- ---- numbers by the order of symbols
 

@@ -13,6 +13,7 @@ use Rattle.su_where.specs.declared.operators.Op.{Op}
 use Rattle.su_where.specs.declared.operators.Op.TheVariants.{Equal, NotEqual, Less, LessEqual, Greater, GreaterEqual}
 use Rattle.su_tableau.specs.declared.symbols.Sym.{Sym}
 use Rattle.su_tableau.specs.declared.symbols.Sym.TheVariants.{Const, Var}
+use Rattle.su_tableau.proofs.SymbolParts.{same_const}
 use Rattle.su_classes.specs.declared.items.Placed.{Placed}
 use Rattle.su_classes.specs.declared.items.Together.{Together}
 use Rattle.su_classes.specs.Items.{cell, SameAt, Keeps, IsKept, IsPlacedBelow}
@@ -31,7 +32,6 @@ use Rattle.su_steps.specs.Evaluated.{EvaluatesFalse}
 use Rattle.su_steps.specs.Cases.{IsContradictory}
 use Rattle.su_steps.specs.inside.Numbers.{is_equality, equals, placed_of}
 use Rattle.su_steps.proofs.Raw.{AreWithin}
-use Rattle.su_steps.proofs.ClassNames.{const_same}
 
 -- ---- the equalities
 
@@ -207,6 +207,6 @@ module _ (schema : SchemaValue) (os : List Origin) (d : List SymbolComparison) (
   pub no_clash : ((a : Value) → name (Const a) ≡ Const a) → ((c : SymbolComparison) → Contains d c → ¬ EvaluatesFalse name c) → ¬ IsContradictory schema os d name
   no_clash own none bad =
       ⊎_elim
-      (λ (b : (a : Value) × (c : Value) × (a ≢ c) × InClass (IsClosedForCase schema os d) (Const a) (Const c)). b.2 (const_same b.0 b.1 (sym (own b.0) ∙ naming.one_name (Const b.0) (Const b.1) b.3 ∙ own b.1)))
+      (λ (b : (a : Value) × (c : Value) × (a ≢ c) × InClass (IsClosedForCase schema os d) (Const a) (Const c)). b.2 (same_const b.0 b.1 (sym (own b.0) ∙ naming.one_name (Const b.0) (Const b.1) b.3 ∙ own b.1)))
       (λ (b : (c : SymbolComparison) × Contains d c × EvaluatesFalse name c). none b.0 b.1 b.2)
       bad

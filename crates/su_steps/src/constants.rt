@@ -2,7 +2,7 @@
 ghost use Rattle.std.specs.Prelude.{◌≡◌, ℕ, ◌+◌, ◌<◌, ◌≤◌, ◌^◌, [], ◌∷◌, ◌++◌, List as Items, length, true, All, OnOk, IfOk};
 ghost use Rattle.su_base.specs.declared.values.Value.{Value as AValue};
 ghost use Rattle.su_where.specs.declared.literals.Operand.TheVariants as operand;
-ghost use Rattle.su_where.specs.Fitting.{HasPlacesBelow, IsBelow};
+ghost use Rattle.su_where.specs.Places.{HasPlacesBelow, IsBelow};
 ghost use Rattle.su_steps.specs.PairSymbols.{operand_symbol, comparisons};
 ghost use Rattle.su_classes.specs.inside.Symbols.{place_of, symbol_number, has_constant, AreDistinct};
 ghost use Rattle.su_steps.specs.inside.Numbers.{IsNoted, AreNoted, equals};
