@@ -12,7 +12,8 @@ use Rattle.su_schema.specs.Entries.{column_of}
 use Rattle.su_state.specs.DatabaseValue.{DatabaseValue, IsWellKept}
 use Rattle.su_exec.specs.declared.tasks.Source.{Source}
 use Rattle.su_exec.specs.declared.tasks.TaskRow.{TaskRow}
-use Rattle.su_exec.specs.Outputs.{values_at, AreMore}
+use Rattle.su_rel.specs.MoreThan.{AreMoreThan}
+use Rattle.su_exec.specs.Outputs.{IsOutput, values_at}
 use Rattle.su_answer.specs.Joined.{numbers_in, IsSourceOf, IsTaskRowOf}
 use Rattle.su_answer.specs.Support.{IsCandidate}
 use Rattle.su_answer.specs.inside.Alone.{alone}
@@ -83,24 +84,24 @@ module _ (db : DatabaseValue) (t : Tab) (m i : ℕ) (r : TaskRow) (kept : IsWell
         },
       )
 
-  module _ (n : ℕ) (more : AreMore db.tables (alone r) n) where
-    from : (a : ℕ) → a < n + 1 → (k : ℕ) × ComesFrom db columns (more.output a) k
-    from a l = comes (more.output a) ((output_is db.tables r (more.output a)).0 (more.outputs a (omega (arith, l))))
+  module _ (n : ℕ) (more : AreMoreThan n (IsOutput db.tables (alone r))) where
+    from : (a : ℕ) → a < n + 1 → (k : ℕ) × ComesFrom db columns (more.member a) k
+    from a l = comes (more.member a) ((output_is db.tables r (more.member a)).0 (more.each a (omega (arith, l))))
 
     abbrev place : (a : ℕ) → (a < n + 1) ⊎ (n + 1 ≤ a) → ℕ
     place a (inl l) = (from a l).0
     place a (inr g) = 0
 
-    place_is : (a : ℕ) (c : (a < n + 1) ⊎ (n + 1 ≤ a)) → a < n + 1 → ComesFrom db columns (more.output a) (place a c)
+    place_is : (a : ℕ) (c : (a < n + 1) ⊎ (n + 1 ≤ a)) → a < n + 1 → ComesFrom db columns (more.member a) (place a c)
     place_is a (inl l) low = (from a l).1
     place_is a (inr g) low = absurd (let no : ⊥ = omega (arith, g, low) in no)
 
     at_most : n + 1 ≤ 64000000
     at_most = pigeonhole 64000000 (n + 1) (λ a. place a (cases_lt a (n + 1)))
         (λ a l. let w = place_is a (cases_lt a (n + 1)) l in let e = w.number in let o = w.few_objects in let p = w.few_rows in omega (arith, e, o, p))
-        (λ a b l h e. more.differ a b l (omega (arith, h)) (same_values db columns (more.output a) (more.output b) (place a (cases_lt a (n + 1))) (place_is a (cases_lt a (n + 1)) (omega (arith, l, h)))
-        (subst (λ k. ComesFrom db columns (more.output b) k) (sym e) (place_is b (cases_lt b (n + 1)) h))))
+        (λ a b l h e. more.differ a b l (omega (arith, h)) (same_values db columns (more.member a) (more.member b) (place a (cases_lt a (n + 1))) (place_is a (cases_lt a (n + 1)) (omega (arith, l, h)))
+        (subst (λ k. ComesFrom db columns (more.member b) k) (sym e) (place_is b (cases_lt b (n + 1)) h))))
 
   -- there are never more candidates than 64 objects have rows
-  pub never_more : (n : ℕ) → 64000000 ≤ n → ¬ AreMore db.tables (alone r) n
+  pub never_more : (n : ℕ) → 64000000 ≤ n → ¬ AreMoreThan n (IsOutput db.tables (alone r))
   never_more n big more = let few = at_most n more in absurd (let no : ⊥ = omega (arith, big, few) in no)

@@ -8,7 +8,7 @@ use Rattle.su_base.specs.declared.values.Value.{Value}
 use Rattle.su_base.specs.Value.{compare_lists}
 use Rattle.su_base.proofs.Items.{Contains-cases, Contains-nil, All-members}
 use Rattle.su_answer.specs.declared.found.Found.{Found}
-use Rattle.su_state.specs.MoreThan.{AreMoreThan}
+use Rattle.su_rel.specs.MoreThan.{AreMoreThan}
 use Rattle.su_answer.specs.inside.Executed.{IsInSome}
 
 -- how far the lists are gone through: what is left, and the rows so far with those of the others

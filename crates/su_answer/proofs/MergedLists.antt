@@ -9,7 +9,7 @@ use Rattle.std.proofs.lemmas.Map.Keys.{sorted_head, sorted_tail}
 use Rattle.su_base.specs.declared.values.Value.{Value}
 use Rattle.su_base.specs.Value.{compare_lists}
 use Rattle.su_base.proofs.Items.{Contains-cases, Contains-later, Contains-nil}
-use Rattle.su_state.specs.MoreThan.{AreMoreThan}
+use Rattle.su_rel.specs.MoreThan.{AreMoreThan}
 use Rattle.su_answer.specs.inside.Merged.{IsTakenFrom, IsGreatestOf}
 use Rattle.su_steps.proofs.Lists.{all_by}
 use Rattle.su_answer.proofs.Union.{rows_more}

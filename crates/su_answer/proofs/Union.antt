@@ -16,7 +16,7 @@ use Rattle.su_rel.specs.Stored.{Stored}
 use Rattle.su_tableau.specs.Tableaux.{IsValid}
 use Rattle.su_exec.specs.declared.tasks.Task.{Task}
 use Rattle.su_exec.specs.Tasks.{IsTask}
-use Rattle.su_exec.specs.Outputs.{AreOutputs, AreMore}
+use Rattle.su_exec.specs.Outputs.{IsOutput, AreOutputs}
 use Rattle.su_base.proofs.Rows.{rows_total}
 use Rattle.su_state.specs.DatabaseValue.{DatabaseValue, IsWellKept}
 use Rattle.su_min.specs.Kept.{Minimised}
@@ -25,7 +25,7 @@ use Rattle.su_answer.specs.declared.found.Found.{Found}
 use Rattle.su_answer.specs.declared.preparing.Prepared.{Prepared}
 use Rattle.su_answer.specs.Joined.{IsTaskOf}
 use Rattle.su_answer.specs.Answers.{IsTermAnswer, IsAnswer, AreAnswers}
-use Rattle.su_state.specs.MoreThan.{AreMoreThan}
+use Rattle.su_rel.specs.MoreThan.{AreMoreThan}
 use Rattle.su_answer.specs.inside.Executed.{Join, IsFound, IsJoinOf, AreTermAnswers, IsFoundFor, IsInSome}
 use Rattle.su_answer.proofs.Joined.{outputs_are_answers}
 use Rattle.su_answer.proofs.PairedLists.{zip_first, zip_second}
@@ -33,10 +33,10 @@ use Rattle.su_answer.proofs.PairedLists.{zip_first, zip_second}
 -- ---- what a job gives
 
 found_by : (db : DatabaseValue) (m : Minimised) (task : Task) → IsWellKept db → IsValid m.tableau → IsTask db.tables task → IsTaskOf db.schema m.tableau m.mask task
-    → (o : Option (List (List Value))) → MatchOption o (AreMore db.tables task 1000000) (AreOutputs db.tables task) → MatchOption o (AreMoreThan 1000000 (IsTermAnswer db m)) (AreTermAnswers db m)
+    → (o : Option (List (List Value))) → MatchOption o (AreMoreThan 1000000 (IsOutput db.tables task)) (AreOutputs db.tables task) → MatchOption o (AreMoreThan 1000000 (IsTermAnswer db m)) (AreTermAnswers db m)
 found_by db m task kept valid fits is None more = record {
-  member = more.output;
-  each = λ i l. (outputs_are_answers db m.tableau m.mask task kept valid fits is (more.output i)).0 (more.outputs i l);
+  member = more.member;
+  each = λ i l. (outputs_are_answers db m.tableau m.mask task kept valid fits is (more.member i)).0 (more.each i l);
   differ = more.differ;
 }
 found_by db m task kept valid fits is (Some rows) are = record {
@@ -49,7 +49,7 @@ found_by db m task kept valid fits is (Some rows) are = record {
 pub found_for : (db : DatabaseValue) (m : Minimised) (join : Join) (found : Found) → IsWellKept db → IsValid m.tableau → IsJoinOf db m join → IsFound join found → IsFoundFor db m found
 found_for db m join found kept valid is f =
     found_by db m join.task kept valid is.fits is.task found.rows
-    (subst (λ (tables : List Stored). MatchOption found.rows (AreMore tables join.task 1000000) (AreOutputs tables join.task)) is.tables f)
+    (subst (λ (tables : List Stored). MatchOption found.rows (AreMoreThan 1000000 (IsOutput tables join.task)) (AreOutputs tables join.task)) is.tables f)
 
 -- ---- all lists together
 

@@ -11,7 +11,8 @@ use Rattle.su_tableau.specs.Tableaux.{Tab}
 use Rattle.su_tableau.specs.Essential.{IsEssential}
 use Rattle.su_schema.specs.SchemaValue.{SchemaValue, ObjectEntry}
 use Rattle.su_schema.specs.Entries.{column_of}
-use Rattle.su_map.specs.Lists.{row_numbers}
+use Rattle.su_tableau.specs.Parts.{cell_at}
+use Rattle.su_map.specs.Lists.{row_numbers, row_of}
 use Rattle.su_steps.specs.Sources.{IsSource}
 use Rattle.su_exec.specs.declared.tasks.Source.{Source}
 use Rattle.su_exec.specs.declared.tasks.TaskRow.{TaskRow}
@@ -24,7 +25,7 @@ numbers_in s n = filter (contains s) (range_with_len 0 n)
 
 -- the symbol of row i in column c
 abbrev pub cell : Tab → ℕ → ℕ → Sym
-cell t i c = get_or (get_or t.rows i []) c (Var 0)
+cell t i = cell_at (row_of t i)
 
 -- the source is the object's relation, with its columns for these attributes
 pub record IsSourceOf (schema : SchemaValue) (attributes : List ℕ) (o : ℕ) (s : Source) : Type 0 where

@@ -3,7 +3,7 @@ ghost use Rattle.std.specs.Prelude.{◌≡◌, ◌≤◌, length, IfOk, IfErr};
 ghost use Rattle.su_answer.specs.declared.faults.AnswerFault.TheVariants.{Limit};
 ghost use Rattle.su_answer.specs.Prepared.{IsPreparedFor};
 ghost use Rattle.su_answer.specs.Answers.{IsAnswer, AreAnswers};
-ghost use Rattle.su_state.specs.MoreThan.{AreMoreThan};
+ghost use Rattle.su_rel.specs.MoreThan.{AreMoreThan};
 
 use crate::executing::found;
 use crate::faults::AnswerFault;

@@ -5,7 +5,7 @@ ghost use Rattle.su_base.specs.declared.values.Value.{Value as AValue};
 ghost use Rattle.su_base.specs.Value.{compare_lists};
 ghost use Rattle.su_answer.specs.declared.found.Found.{Found as AFound};
 ghost use Rattle.su_answer.specs.declared.faults.AnswerFault.TheVariants.{Limit};
-ghost use Rattle.su_state.specs.MoreThan.{AreMoreThan};
+ghost use Rattle.su_rel.specs.MoreThan.{AreMoreThan};
 ghost use Rattle.su_answer.specs.inside.Executed.{IsInSome};
 ghost use Rattle.su_answer.specs.inside.Merged.{compare_last, IsGreatestOf};
 

@@ -9,7 +9,7 @@ use Rattle.su_tableau.specs.declared.symbols.Sym.TheVariants.{Var}
 use Rattle.su_tableau.specs.Tableaux.{Occurs}
 use Rattle.su_check.specs.declared.certificates.Term.{Term}
 use Rattle.su_check.specs.Certificate.{lines_of}
-use Rattle.su_check.specs.inside.Cells.{cell, IsFirstPlace}
+use Rattle.su_check.specs.inside.Cells.{cell_at, IsFirstPlace}
 use Rattle.su_check.specs.inside.Boards.{AreMarks, IsNumber, AreNumbers, IsBoard}
 
 pub only_one : {X : Type 0} (x k : X) → Contains (x ∷ []) k → x ≡ k
@@ -113,10 +113,10 @@ marks_done variables head i marks end m = (
 -- ---- numbers of cells
 
 pub number_push : (head : List Sym) (variables : List ℕ) (row : List Sym) (numbers numbers' : List (Option ℕ)) (i : ℕ) (x : Sym) (n : Option ℕ) → i < length row → x ≡ get_or row i x → length numbers ≡ i → numbers' ≡ numbers ++ n ∷ []
-    → ((c : ℕ) → c < i → IsNumber head variables (cell row c) (get_or numbers c None)) → IsNumber head variables x n → (c : ℕ) → c < i + 1 → IsNumber head variables (cell row c) (get_or numbers' c None)
+    → ((c : ℕ) → c < i → IsNumber head variables (cell_at row c) (get_or numbers c None)) → IsNumber head variables x n → (c : ℕ) → c < i + 1 → IsNumber head variables (cell_at row c) (get_or numbers' c None)
 number_push head variables row numbers numbers' i x n h is len e before here =
-    below_more (λ c. IsNumber head variables (cell row c) (get_or numbers' c None)) i
-    (λ c l. subst (IsNumber head variables (cell row c)) (sym (ap (λ ns. get_or ns c None) e ∙ get_or_append_left numbers (n ∷ []) None c (omega arith))) (before c l))
+    below_more (λ c. IsNumber head variables (cell_at row c) (get_or numbers' c None)) i
+    (λ c l. subst (IsNumber head variables (cell_at row c)) (sym (ap (λ ns. get_or ns c None) e ∙ get_or_append_left numbers (n ∷ []) None c (omega arith))) (before c l))
     (subst (λ y. IsNumber head variables y (get_or numbers' i None)) (sym (item_is row i x (Var 0) h is)) (subst (IsNumber head variables x) (sym (ap (λ ns. get_or ns i None) e ∙ get_or_push numbers n None i len)) here))
 
 pub numbers_push : (head : List Sym) (variables : List ℕ) (rows : List (List Sym)) (all all' : List (List (Option ℕ))) (i : ℕ) (numbers : List (Option ℕ)) → length all ≡ i → all' ≡ all ++ numbers ∷ []

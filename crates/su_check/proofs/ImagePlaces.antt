@@ -9,7 +9,7 @@ use Rattle.su_tableau.specs.declared.symbols.Sym.TheVariants.{Var}
 use Rattle.su_check.specs.declared.boards.Board.{Board}
 use Rattle.su_check.specs.declared.sending.Sent.{Sent}
 use Rattle.su_check.specs.declared.sending.StepColumn.{StepColumn}
-use Rattle.su_check.specs.inside.Cells.{cell, is_const, IsFirstPlace}
+use Rattle.su_check.specs.inside.Cells.{cell_at, is_const, IsFirstPlace}
 use Rattle.su_check.specs.SentRows.{Lines, numbered_row, AreSent, sent_too}
 use Rattle.su_check.specs.inside.Boards.{no_pair, no_place, IsFixed, IsFree, IsNumber, IsImage, Sends, SendsRow, Covers, Keeps, IsReady}
 use Rattle.su_check.proofs.Boarded.{first_one}
@@ -52,8 +52,8 @@ image_grows t q w place x y m =
     record {
       step = let l = length-append q (w ∷ []) in let s = m.step in omega arith;
       column = subst (λ (o : Sent). place.column < length (numbered_row t o.row)) e m.column;
-      symbol = subst (λ (o : Sent). cell (numbered_row t o.row) place.column ≡ x) e m.symbol;
-      image = subst (λ (o : Sent). cell (numbered_row t o.target) place.column ≡ y) e m.image;
+      symbol = subst (λ (o : Sent). cell_at (numbered_row t o.row) place.column ≡ x) e m.symbol;
+      image = subst (λ (o : Sent). cell_at (numbered_row t o.target) place.column ≡ y) e m.image;
     }
 
 sends_grows : (t : Lines) (q : List Sent) (w : Sent) (places : List StepColumn) (x y : Sym) (n : Option ℕ) → Sends t q places x y n → Sends t (q ++ w ∷ []) places x y n
@@ -88,7 +88,7 @@ keeps_cell t b p old new x number is len stays = record {
 
 -- ---- the last row has gone to its target
 
-numbers_at : (t : Lines) (b : Board) (p : List Sent) (places : List StepColumn) → IsReady t b p places → (i c : ℕ) → i < length t.rows → c < length (numbered_row t i) → IsNumber t.head b.variables (cell (numbered_row t i) c) (get_or (get_or b.numbers i []) c None)
+numbers_at : (t : Lines) (b : Board) (p : List Sent) (places : List StepColumn) → IsReady t b p places → (i c : ℕ) → i < length t.rows → c < length (numbered_row t i) → IsNumber t.head b.variables (cell_at (numbered_row t i) c) (get_or (get_or b.numbers i []) c None)
 numbers_at t b p places ready i c hi hc = (ready.board.rows i hi).cells c hc
 
 pub covers_more : (t : Lines) (b : Board) (q : List Sent) (s j : ℕ) (old new : List StepColumn) → IsReady t b q old → Keeps t b (sent_too q s j) old new → SendsRow t b (sent_too q s j) new s j → Covers t b (sent_too q s j) new
@@ -99,8 +99,8 @@ covers_more t b q s j old new ready keeps here =
     let x = get_or q k d in
     let low = ready.within k d h in
     let at = numbers_at t b q old ready x.row c low.row l in
-    sends_kept t b (sent_too q s j) old new (cell (numbered_row t x.row) c) (cell (numbered_row t x.target) c) (get_or (get_or b.numbers x.row []) c None) keeps at
-    (sends_grows t q w old (cell (numbered_row t x.row) c) (cell (numbered_row t x.target) c) (get_or (get_or b.numbers x.row []) c None) (ready.covers k d h c l)))
+    sends_kept t b (sent_too q s j) old new (cell_at (numbered_row t x.row) c) (cell_at (numbered_row t x.target) c) (get_or (get_or b.numbers x.row []) c None) keeps at
+    (sends_grows t q w old (cell_at (numbered_row t x.row) c) (cell_at (numbered_row t x.target) c) (get_or (get_or b.numbers x.row []) c None) (ready.covers k d h c l)))
     here
 
 -- where two rows have one symbol, their targets have one
@@ -109,8 +109,8 @@ agree t b q p old new i u s j ready hi hs first second c hc e he same =
     let a = numbers_at t b q old ready i c hi hc in
     let d = numbers_at t b q old ready s e hs he in
     let n = number_same t.head b.variables _ _ _ _ same a d in
-    sends_one t p new (cell (numbered_row t s) e) (cell (numbered_row t u) c) (cell (numbered_row t j) e) (get_or (get_or b.numbers s []) e None)
-    (subst (λ n. Sends t p new (cell (numbered_row t s) e) (cell (numbered_row t u) c) n) n (subst (λ x. Sends t p new x (cell (numbered_row t u) c) (get_or (get_or b.numbers i []) c None)) same (first c hc))) (second e he)
+    sends_one t p new (cell_at (numbered_row t s) e) (cell_at (numbered_row t u) c) (cell_at (numbered_row t j) e) (get_or (get_or b.numbers s []) e None)
+    (subst (λ n. Sends t p new (cell_at (numbered_row t s) e) (cell_at (numbered_row t u) c) n) n (subst (λ x. Sends t p new x (cell_at (numbered_row t u) c) (get_or (get_or b.numbers i []) c None)) same (first c hc))) (second e he)
 
 -- a fixed symbol has no number, and goes to itself
 fixed_goes : (t : Lines) (b : Board) (p : List Sent) (places : List StepColumn) (x y : Sym) (n : Option ℕ) → IsFixed t.head x → IsNumber t.head b.variables x n → Sends t p places x y n → x ≡ y
@@ -123,11 +123,11 @@ all_sent t b q s j old new ready hs hj keeps here =
     let all = covers_more t b q s j old new ready keeps here in
     sent_more t q s j (ready.wide s j hs hj) ready.sent
     (record {
-      constants = λ c h const. fixed_goes t b p new (cell (numbered_row t s) c) (cell (numbered_row t j) c) (get_or (get_or b.numbers s []) c None) (inl const) (numbers_at t b q old ready s c hs h) (here c h);
+      constants = λ c h const. fixed_goes t b p new (cell_at (numbered_row t s) c) (cell_at (numbered_row t j) c) (get_or (get_or b.numbers s []) c None) (inl const) (numbers_at t b q old ready s c hs h) (here c h);
       itself = agree t b q p old new s j s j ready hs hs here here;
       head_symbols = λ c h e l same.
-          let has : Contains t.head (cell (numbered_row t s) e) = subst (Contains t.head) same (c, h, get_or_default t.head c (cell t.head c) (Var 0) h) in
-          same ∙ fixed_goes t b p new (cell (numbered_row t s) e) (cell (numbered_row t j) e) (get_or (get_or b.numbers s []) e None) (inr has) (numbers_at t b q old ready s e hs l) (here e l);
+          let has : Contains t.head (cell_at (numbered_row t s) e) = subst (Contains t.head) same (c, h, get_or_default t.head c (cell_at t.head c) (Var 0) h) in
+          same ∙ fixed_goes t b p new (cell_at (numbered_row t s) e) (cell_at (numbered_row t j) e) (get_or (get_or b.numbers s []) e None) (inr has) (numbers_at t b q old ready s e hs l) (here e l);
     })
     (λ k d h. let low = ready.within k d h in agree t b q p old new (get_or q k d).row (get_or q k d).target s j ready low.row hs (before k d h all) here)
   where
@@ -140,21 +140,21 @@ all_sent t b q s j old new ready hs hj keeps here =
 
 -- the first c columns
 abbrev pub SendsTo : Lines → Board → List Sent → List StepColumn → ℕ → ℕ → ℕ → Type 0
-SendsTo t b p places s j n = (c : ℕ) → c < n → Sends t p places (cell (numbered_row t s) c) (cell (numbered_row t j) c) (get_or (get_or b.numbers s []) c None)
+SendsTo t b p places s j n = (c : ℕ) → c < n → Sends t p places (cell_at (numbered_row t s) c) (cell_at (numbered_row t j) c) (get_or (get_or b.numbers s []) c None)
 
 pub column_keeps : (t : Lines) (b : Board) (q p : List Sent) (start mid new : List StepColumn) (s c : ℕ) (x : Sym) (number : Option ℕ) → IsReady t b q start → s < length t.rows → c < length (numbered_row t s)
-    → x ≡ cell (numbered_row t s) c → number ≡ get_or (get_or b.numbers s []) c None → Keeps t b p start mid → length new ≡ length mid
+    → x ≡ cell_at (numbered_row t s) c → number ≡ get_or (get_or b.numbers s []) c None → Keeps t b p start mid → length new ≡ length mid
     → ((n : ℕ) (z w : Sym) → (number ≡ Some n → z ≡ x) → IsImage t p (get_or mid n no_place) z w → get_or new n no_place ≡ get_or mid n no_place) → Keeps t b p mid new
 column_keeps t b q p start mid new s c x number ready hs hc ex en keeps len stays =
     let at = numbers_at t b q start ready s c hs hc in
     keeps_cell t b p mid new x number (subst (IsNumber t.head b.variables x) (sym en) (subst (λ x. IsNumber t.head b.variables x (get_or (get_or b.numbers s []) c None)) (sym ex) at)) len stays
 
 pub column_done : (t : Lines) (b : Board) (q p : List Sent) (start mid new : List StepColumn) (s j c : ℕ) (x y : Sym) (number : Option ℕ) → IsReady t b q start → s < length t.rows → c < length (numbered_row t s)
-    → x ≡ cell (numbered_row t s) c → y ≡ cell (numbered_row t j) c → number ≡ get_or (get_or b.numbers s []) c None → Keeps t b p mid new → SendsTo t b p mid s j c → Sends t p new x y number → SendsTo t b p new s j (c + 1)
+    → x ≡ cell_at (numbered_row t s) c → y ≡ cell_at (numbered_row t j) c → number ≡ get_or (get_or b.numbers s []) c None → Keeps t b p mid new → SendsTo t b p mid s j c → Sends t p new x y number → SendsTo t b p new s j (c + 1)
 column_done t b q p start mid new s j c x y number ready hs hc ex ey en keeps before here =
-    below_more (λ c. Sends t p new (cell (numbered_row t s) c) (cell (numbered_row t j) c) (get_or (get_or b.numbers s []) c None)) c
-    (λ a h. sends_kept t b p mid new (cell (numbered_row t s) a) (cell (numbered_row t j) a) (get_or (get_or b.numbers s []) a None) keeps (numbers_at t b q start ready s a hs (omega arith)) (before a h))
-    (subst (λ x. Sends t p new x (cell (numbered_row t j) c) (get_or (get_or b.numbers s []) c None)) ex
+    below_more (λ c. Sends t p new (cell_at (numbered_row t s) c) (cell_at (numbered_row t j) c) (get_or (get_or b.numbers s []) c None)) c
+    (λ a h. sends_kept t b p mid new (cell_at (numbered_row t s) a) (cell_at (numbered_row t j) a) (get_or (get_or b.numbers s []) a None) keeps (numbers_at t b q start ready s a hs (omega arith)) (before a h))
+    (subst (λ x. Sends t p new x (cell_at (numbered_row t j) c) (get_or (get_or b.numbers s []) c None)) ex
     (subst (λ y. Sends t p new x y (get_or (get_or b.numbers s []) c None)) ey (subst (Sends t p new x y) en here)))
 
 -- ---- what stays as the tests go on
@@ -174,7 +174,7 @@ ready_kept t b p p' old new ready keeps e = subst (λ p. IsReady t b p new) (sym
   covers = λ k d h c l.
       let x = get_or p k d in
       let low = ready.within k d h in
-      sends_kept t b p old new (cell (numbered_row t x.row) c) (cell (numbered_row t x.target) c) (get_or (get_or b.numbers x.row []) c None) keeps (numbers_at t b p old ready x.row c low.row l) (ready.covers k d h c l);
+      sends_kept t b p old new (cell_at (numbered_row t x.row) c) (cell_at (numbered_row t x.target) c) (get_or (get_or b.numbers x.row []) c None) keeps (numbers_at t b p old ready x.row c low.row l) (ready.covers k d h c l);
 })
 
 pub ready_none : (t : Lines) (b : Board) (p : List Sent) (places : List StepColumn) → IsReady t b p places → IsReady t b [] places

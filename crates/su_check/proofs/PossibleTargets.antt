@@ -5,13 +5,13 @@ use Rattle.su_tableau.specs.declared.symbols.Sym.{Sym}
 use Rattle.su_tableau.specs.Mapping.{image_of, images_of}
 use Rattle.su_check.specs.declared.sending.Sent.{Sent}
 use Rattle.su_check.specs.declared.sending.StepColumn.{StepColumn}
-use Rattle.su_check.specs.inside.Cells.{cell}
+use Rattle.su_check.specs.inside.Cells.{cell_at}
 use Rattle.su_check.specs.SentRows.{Lines, numbered_row, AreSent, sent_too}
 use Rattle.su_check.specs.inside.Boards.{no_pair, IsImage}
 use Rattle.su_check.proofs.TargetsTogether.{all_front, all_last, image_cell}
 
 -- a target of the row has the image of the row's symbol
-pub image_told : (t : Lines) (p : List Sent) (s j c : ℕ) (place : StepColumn) (x y : Sym) → c < length (numbered_row t s) → x ≡ cell (numbered_row t s) c → IsImage t p place x y → AreSent t (sent_too p s j) → cell (numbered_row t j) c ≡ y
+pub image_told : (t : Lines) (p : List Sent) (s j c : ℕ) (place : StepColumn) (x y : Sym) → c < length (numbered_row t s) → x ≡ cell_at (numbered_row t s) c → IsImage t p place x y → AreSent t (sent_too p s j) → cell_at (numbered_row t j) c ≡ y
 image_told t p s j c place x y h ex m a =
     let f = a.symbols in
     let o = get_or p place.step no_pair in

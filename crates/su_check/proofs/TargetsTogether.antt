@@ -8,7 +8,7 @@ use Rattle.su_tableau.specs.declared.symbols.Sym.TheVariants.{Const, Var}
 use Rattle.su_tableau.specs.Mapping.{image_of, images_of}
 use Rattle.su_tableau.proofs.ChangedValuations.{InRow, in_row}
 use Rattle.su_check.specs.declared.sending.Sent.{Sent}
-use Rattle.su_check.specs.inside.Cells.{cell, is_const}
+use Rattle.su_check.specs.inside.Cells.{cell_at, is_const}
 use Rattle.su_check.specs.SentRows.{Lines, numbered_row, AreSent, sent_too}
 use Rattle.su_check.specs.inside.Agreement.{KeepsConstants, GoAlike, Goes, AgreesWith}
 
@@ -22,15 +22,15 @@ all_last P xs x all = All-contains P (xs ++ x ∷ []) x all (Contains-push xs x)
 
 -- ---- what images tell
 
-pub image_cell : (f : ℕ → Sym) (xs us : List Sym) (c : ℕ) → images_of f xs ≡ us → c < length xs → cell us c ≡ image_of f (cell xs c)
-image_cell f xs us c e h = ap (λ r. cell r c) (sym e) ∙ get_or-map (image_of f) xs c (Var 0) (Var 0) h
+pub image_cell : (f : ℕ → Sym) (xs us : List Sym) (c : ℕ) → images_of f xs ≡ us → c < length xs → cell_at us c ≡ image_of f (cell_at xs c)
+image_cell f xs us c e h = ap (λ r. cell_at r c) (sym e) ∙ get_or-map (image_of f) xs c (Var 0) (Var 0) h
 
 pub const_image : (f : ℕ → Sym) (x : Sym) → is_const x ≡ true → image_of f x ≡ x
 const_image f (Const v) e = refl
 const_image f (Var k) e = absurd (false≢true e)
 
 pub images_keep : (f : ℕ → Sym) (xs us : List Sym) → images_of f xs ≡ us → KeepsConstants xs us
-images_keep f xs us e c h const = sym (image_cell f xs us c e h ∙ const_image f (cell xs c) const)
+images_keep f xs us e c h const = sym (image_cell f xs us c e h ∙ const_image f (cell_at xs c) const)
 
 pub images_agree : (f : ℕ → Sym) (xs us ys vs : List Sym) → images_of f xs ≡ us → images_of f ys ≡ vs → GoAlike xs us ys vs
 images_agree f xs us ys vs e g c h b l same = image_cell f xs us c e h ∙ ap (image_of f) same ∙ sym (image_cell f ys vs b g l)
@@ -39,41 +39,41 @@ images_agree f xs us ys vs e g c h b l same = image_cell f xs us c e h ∙ ap (i
 
 -- what the row's target has at the variable, or what there was
 abbrev found : (f : ℕ → Sym) (xs us : List Sym) (k : ℕ) → InRow xs k ⊎ (InRow xs k → ⊥) → Sym
-found f xs us k (inl r) = cell us r.column
+found f xs us k (inl r) = cell_at us r.column
 found f xs us k (inr none) = f k
 
 abbrev joined : (ℕ → Sym) → List Sym → List Sym → ℕ → Sym
 joined f xs us k = found f xs us k (in_row xs k)
 
-images_by : (g : ℕ → Sym) (ys vs : List Sym) → length ys ≡ length vs → ((e : ℕ) → e < length ys → image_of g (cell ys e) ≡ cell vs e) → images_of g ys ≡ vs
+images_by : (g : ℕ → Sym) (ys vs : List Sym) → length ys ≡ length vs → ((e : ℕ) → e < length ys → image_of g (cell_at ys e) ≡ cell_at vs e) → images_of g ys ≡ vs
 images_by g ys vs len same =
     let l = length-map ys (image_of g) in
     same_lists (images_of g ys) vs (l ∙ len) (λ e d h.
     let low : e < length ys = omega arith in
     get_or-map (image_of g) ys e (Var 0) d low ∙ same e low ∙ get_or_default vs e (Var 0) d (omega arith))
 
-own_cell : (f : ℕ → Sym) (xs us : List Sym) (c : ℕ) (x : Sym) → x ≡ cell xs c → c < length xs → KeepsConstants xs us → GoAlike xs us xs us → image_of (joined f xs us) x ≡ cell us c
+own_cell : (f : ℕ → Sym) (xs us : List Sym) (c : ℕ) (x : Sym) → x ≡ cell_at xs c → c < length xs → KeepsConstants xs us → GoAlike xs us xs us → image_of (joined f xs us) x ≡ cell_at us c
 own_cell f xs us c (Const v) e h keeps agree = e ∙ keeps c h (ap is_const (sym e))
 own_cell f xs us c (Var k) e h keeps agree = go (in_row xs k)
   where
-    go : (r : InRow xs k ⊎ (InRow xs k → ⊥)) → found f xs us k r ≡ cell us c
+    go : (r : InRow xs k ⊎ (InRow xs k → ⊥)) → found f xs us k r ≡ cell_at us c
     go (inl r) = agree r.column r.below c h (r.is (Var 0) ∙ e)
     go (inr none) = absurd (none (record { column = c; below = h; is = λ d. get_or_default xs c d (Var 0) h ∙ sym e }))
 
-other_cell : (f : ℕ → Sym) (xs us ys vs : List Sym) (b : ℕ) (y : Sym) → y ≡ cell ys b → b < length ys → images_of f ys ≡ vs → GoAlike ys vs xs us → image_of (joined f xs us) y ≡ cell vs b
+other_cell : (f : ℕ → Sym) (xs us ys vs : List Sym) (b : ℕ) (y : Sym) → y ≡ cell_at ys b → b < length ys → images_of f ys ≡ vs → GoAlike ys vs xs us → image_of (joined f xs us) y ≡ cell_at vs b
 other_cell f xs us ys vs b (Const v) e h images agree = sym (image_cell f ys vs b images h ∙ ap (image_of f) (sym e))
 other_cell f xs us ys vs b (Var k) e h images agree = go (in_row xs k)
   where
-    go : (r : InRow xs k ⊎ (InRow xs k → ⊥)) → found f xs us k r ≡ cell vs b
+    go : (r : InRow xs k ⊎ (InRow xs k → ⊥)) → found f xs us k r ≡ cell_at vs b
     go (inl r) = sym (agree b h r.column r.below (sym e ∙ sym (r.is (Var 0))))
     go (inr none) = sym (image_cell f ys vs b images h ∙ ap (image_of f) (sym e))
 
 own_images : (f : ℕ → Sym) (xs us : List Sym) → length xs ≡ length us → KeepsConstants xs us → GoAlike xs us xs us → images_of (joined f xs us) xs ≡ us
-own_images f xs us len keeps agree = images_by (joined f xs us) xs us len (λ c h. own_cell f xs us c (cell xs c) refl h keeps agree)
+own_images f xs us len keeps agree = images_by (joined f xs us) xs us len (λ c h. own_cell f xs us c (cell_at xs c) refl h keeps agree)
 
 other_images : (f : ℕ → Sym) (xs us ys vs : List Sym) → images_of f ys ≡ vs → GoAlike ys vs xs us → images_of (joined f xs us) ys ≡ vs
 other_images f xs us ys vs images agree =
-    images_by (joined f xs us) ys vs (sym (length-map ys (image_of f)) ∙ ap length images) (λ b h. other_cell f xs us ys vs b (cell ys b) refl h images agree)
+    images_by (joined f xs us) ys vs (sym (length-map ys (image_of f)) ∙ ap length images) (λ b h. other_cell f xs us ys vs b (cell_at ys b) refl h images agree)
 
 -- ---- one row more
 

@@ -11,7 +11,7 @@ use Rattle.su_tableau.specs.Tableaux.{Occurs}
 use Rattle.su_tableau.specs.Kinds.{Kinds, sym_kind}
 use Rattle.su_tableau.proofs.ChangedValuations.{Stands, stands}
 use Rattle.su_check.specs.declared.certificates.Term.{Term}
-use Rattle.su_check.specs.inside.Cells.{cell, kind_at, HasFound, AreFound, AreTyped}
+use Rattle.su_check.specs.inside.Cells.{cell_at, kind_at, HasFound, AreFound, AreTyped}
 use Rattle.su_check.specs.Refutations.{IsAscending}
 use Rattle.su_check.specs.declared.boards.Board.{Board}
 use Rattle.su_check.specs.declared.sending.StepColumn.{StepColumn}
@@ -27,15 +27,15 @@ HasKind (Var k) kind = Unit {0}
 
 -- the constants of the row have the kinds of their columns
 abbrev HaveKinds : List Kind → List Sym → Type 0
-HaveKinds kinds xs = (c : ℕ) → c < length xs → HasKind (cell xs c) (kind_at kinds c)
+HaveKinds kinds xs = (c : ℕ) → c < length xs → HasKind (cell_at xs c) (kind_at kinds c)
 
 -- where the row has the symbol x, its column has this kind
 abbrev Meets : List Kind → Sym → Kind → List Sym → Type 0
-Meets kinds x kind ys = (e : ℕ) → e < length ys → x ≡ cell ys e → kind ≡ kind_at kinds e
+Meets kinds x kind ys = (e : ℕ) → e < length ys → x ≡ cell_at ys e → kind ≡ kind_at kinds e
 
 -- where two rows have one symbol, the columns have one kind
 abbrev Meet : List Kind → List Sym → List Sym → Type 0
-Meet kinds xs ys = (c : ℕ) → c < length xs → Meets kinds (cell xs c) (kind_at kinds c) ys
+Meet kinds xs ys = (c : ℕ) → c < length xs → Meets kinds (cell_at xs c) (kind_at kinds c) ys
 
 -- the row has the right constants, and its symbols stand in columns of their kinds alone
 pub record IsTypedRow (kinds : List Kind) (rows : List (List Sym)) (xs : List Sym) : Type 0 where
@@ -56,7 +56,7 @@ kind_found kinds rows k (inr none) = IntKind
 abbrev var_kind : Kinds → List (List Sym) → ℕ → Kind
 var_kind kinds rows k = kind_found kinds rows k (stands (line rows) each_row (length rows) k)
 
-kind_cell : (kinds : Kinds) (rows : List (List Sym)) (i c : ℕ) (x : Sym) → x ≡ cell (line rows i) c → i < length rows → c < length (line rows i) → ((j : ℕ) → j < length rows → IsTypedRow kinds rows (line rows j)) → sym_kind (var_kind kinds rows) x ≡ kind_at kinds c
+kind_cell : (kinds : Kinds) (rows : List (List Sym)) (i c : ℕ) (x : Sym) → x ≡ cell_at (line rows i) c → i < length rows → c < length (line rows i) → ((j : ℕ) → j < length rows → IsTypedRow kinds rows (line rows j)) → sym_kind (var_kind kinds rows) x ≡ kind_at kinds c
 kind_cell kinds rows i c (Const v) e hi hc typed = subst (λ x. HasKind x (kind_at kinds c)) (sym e) ((typed i hi).constants c hc)
 kind_cell kinds rows i c (Var k) e hi hc typed = go (stands (line rows) each_row (length rows) k)
   where
@@ -71,23 +71,23 @@ row_kinds kinds rows wide typed i hi =
     let l = length-map row (sym_kind (var_kind kinds rows)) in
     same_lists (map (sym_kind (var_kind kinds rows)) row) kinds (l ∙ w) (λ c d h.
     let low : c < length row = omega arith in
-    get_or-map (sym_kind (var_kind kinds rows)) row c (Var 0) d low ∙ kind_cell kinds rows i c (cell row c) refl hi low typed ∙ get_or_default kinds c IntKind d (omega arith))
+    get_or-map (sym_kind (var_kind kinds rows)) row c (Var 0) d low ∙ kind_cell kinds rows i c (cell_at row c) refl hi low typed ∙ get_or_default kinds c IntKind d (omega arith))
 
 typed_from : (kinds : Kinds) (rows : List (List Sym)) → All (λ r. length r ≡ length kinds) rows → ((j : ℕ) → j < length rows → IsTypedRow kinds rows (line rows j)) → All (λ row. map (sym_kind (var_kind kinds rows)) row ≡ kinds) rows
 typed_from kinds rows wide typed i d h = subst (λ row. map (sym_kind (var_kind kinds rows)) row ≡ kinds) (get_or_default rows i [] d h) (row_kinds kinds rows wide typed i h)
 
-pub kind_of_cell : (kinds : Kinds) (f : ℕ → Kind) (row : List Sym) (c : ℕ) → map (sym_kind f) row ≡ kinds → c < length row → sym_kind f (cell row c) ≡ kind_at kinds c
+pub kind_of_cell : (kinds : Kinds) (f : ℕ → Kind) (row : List Sym) (c : ℕ) → map (sym_kind f) row ≡ kinds → c < length row → sym_kind f (cell_at row c) ≡ kind_at kinds c
 kind_of_cell kinds f row c e h = sym (get_or-map (sym_kind f) row c (Var 0) IntKind h) ∙ ap (λ ks. kind_at ks c) e
 
 -- ---- kinds that were found
 
 pub cells_typed : (kinds : Kinds) (rows : List (List Sym)) (variables : List ℕ) (found : List (Option Kind)) → All (λ r. length r ≡ length kinds) rows
-    → ((i c : ℕ) → i < length rows → c < length (line rows i) → HasFound variables found (cell (line rows i) c) (kind_at kinds c)) → AreTyped kinds rows
+    → ((i c : ℕ) → i < length rows → c < length (line rows i) → HasFound variables found (cell_at (line rows i) c) (kind_at kinds c)) → AreTyped kinds rows
 cells_typed kinds rows variables found wide has = (
   var_kind kinds rows,
   typed_from kinds rows wide (λ j hj. record {
-    constants = λ c hc. constant (cell (line rows j) c) (kind_at kinds c) (has j c hj hc);
-    symbols = λ i hi c hc e he same. one (cell (line rows j) c) (cell (line rows i) e) (kind_at kinds c) (kind_at kinds e) same (has j c hj hc) (has i e hi he);
+    constants = λ c hc. constant (cell_at (line rows j) c) (kind_at kinds c) (has j c hj hc);
+    symbols = λ i hi c hc e he same. one (cell_at (line rows j) c) (cell_at (line rows i) e) (kind_at kinds c) (kind_at kinds e) same (has j c hj hc) (has i e hi he);
   }),
 )
   where

@@ -1,6 +1,6 @@
 //! Cells of rows.
 ghost use Rattle.std.specs.Prelude.{◌≡◌, ◌<◌, [], length, get_or};
-ghost use Rattle.su_check.specs.inside.Cells.{cell};
+ghost use Rattle.su_check.specs.inside.Cells.{cell_at};
 
 use su_base::List;
 use su_tableau::Sym;
@@ -16,7 +16,7 @@ pub fn row_at(rows: &[List<Sym>], i: usize) -> &[Sym]
 /// The symbol at a column.
 pub fn at(row: &[Sym], c: usize) -> &Sym
     requires { c < length row.now }
-    ensures { result.now ≡ cell row.now c }
+    ensures { result.now ≡ cell_at row.now c }
 {
     &row[c]
 }

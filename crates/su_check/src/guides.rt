@@ -3,7 +3,7 @@ ghost use Rattle.std.specs.Prelude.{◌≡◌, ◌<◌, ◌≤◌, ℕ, IfOk, []
 ghost use Rattle.std.specs.Int.{bit_at};
 ghost use Rattle.su_tableau.specs.declared.symbols.Sym.{Sym as ASym};
 ghost use Rattle.su_check.specs.Certificate.{lines_of};
-ghost use Rattle.su_check.specs.inside.Cells.{cell};
+ghost use Rattle.su_check.specs.inside.Cells.{cell_at};
 ghost use Rattle.su_check.specs.SentRows.{numbered_row};
 ghost use Rattle.su_check.specs.inside.Widths.{AreWide, IsWithin};
 ghost use Rattle.su_check.specs.inside.Boards.{IsImage, IsReady};
@@ -171,7 +171,7 @@ fn with_image(
     requires within { All (IsWithin (lines_of term.now)) sent.now }
     requires guide { IsGuide (lines_of term.now) guide.now }
     requires column { (i : ℕ) → i < length term.now.rows → column < length (get_or term.now.rows i []) }
-    ensures { (j : ℕ) → j < length term.now.rows → ((y : ASym) → IsImage (lines_of term.now) sent.now place x.now y → cell (numbered_row (lines_of term.now) j) column ≡ y) → bit_at result j ≡ 1 }
+    ensures { (j : ℕ) → j < length term.now.rows → ((y : ASym) → IsImage (lines_of term.now) sent.now place x.now y → cell_at (numbered_row (lines_of term.now) j) column ≡ y) → bit_at result j ≡ 1 }
 {
     match image(term, sent, place, x) {
         None => u64::MAX,

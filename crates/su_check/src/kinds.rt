@@ -5,7 +5,7 @@ ghost use Rattle.su_base.specs.declared.values.Kind.{Kind as AKind};
 ghost use Rattle.su_tableau.specs.declared.symbols.Sym.TheVariants.{Var};
 ghost use Rattle.su_tableau.specs.Kinds.{sym_kind};
 ghost use Rattle.su_tableau.specs.Tableaux.{Occurs};
-ghost use Rattle.su_check.specs.inside.Cells.{cell, kind_at, HasFound, AreFound, AreTyped};
+ghost use Rattle.su_check.specs.inside.Cells.{cell_at, kind_at, HasFound, AreFound, AreTyped};
 
 use crate::boards::number_of;
 use crate::cells::at;
@@ -46,7 +46,7 @@ fn have_kinds(kinds: &[Kind], row: &[Sym], variables: &[u32], found: &mut [Optio
     requires there { (k : ℕ) → Contains row.now (Var k) → Contains variables.now k }
     requires len { length found.old ≡ length variables.now }
     requires width { length row.now ≡ length kinds.now }
-    ensures yes { IsTrue result → (c : ℕ) → c < length row.now → HasFound variables.now found.new (cell row.now c) (kind_at kinds.now c) }
+    ensures yes { IsTrue result → (c : ℕ) → c < length row.now → HasFound variables.now found.new (cell_at row.now c) (kind_at kinds.now c) }
     ensures no { result ≡ false → (f : ℕ → AKind) → AreFound f variables.now found.old → ¬ (map (sym_kind f) row.now ≡ kinds.now) }
     ensures only { (f : ℕ → AKind) → AreFound f variables.now found.old → map (sym_kind f) row.now ≡ kinds.now → AreFound f variables.now found.new }
     ensures keeps { (n : ℕ) (k : AKind) → get_or found.old n None ≡ Some k → get_or found.new n None ≡ Some k }
@@ -71,7 +71,7 @@ fn all_have_kinds(
     requires there { (k : ℕ) → Occurs rows.now k → Contains variables.now k }
     requires len { length found.old ≡ length variables.now }
     requires widths { All (λ r. length r ≡ length kinds.now) rows.now }
-    ensures yes { IsTrue result → (i c : ℕ) → i < length rows.now → c < length (get_or rows.now i []) → HasFound variables.now found.new (cell (get_or rows.now i []) c) (kind_at kinds.now c) }
+    ensures yes { IsTrue result → (i c : ℕ) → i < length rows.now → c < length (get_or rows.now i []) → HasFound variables.now found.new (cell_at (get_or rows.now i []) c) (kind_at kinds.now c) }
     ensures no { result ≡ false → (f : ℕ → AKind) → AreFound f variables.now found.old → ¬ (All (λ row. map (sym_kind f) row ≡ kinds.now) rows.now) }
 {
     for row in rows {

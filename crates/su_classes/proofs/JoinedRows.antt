@@ -13,7 +13,7 @@ use Rattle.su_tableau.proofs.SymbolParts.{same_var}
 use Rattle.su_classes.specs.declared.items.Placed.{Placed}
 use Rattle.su_classes.specs.declared.items.Together.{Together}
 use Rattle.su_fd.specs.MetDependencies.{LiesIn}
-use Rattle.su_classes.specs.Items.{cell, SameAt, Keeps, IsPlacedBelow}
+use Rattle.su_classes.specs.Items.{item_of, SameItemLabels, Keeps, IsPlacedBelow}
 use Rattle.su_classes.specs.Tables.{rep, IsTable, IsSound}
 use Rattle.su_classes.specs.inside.Tables.{IsForest, IsJoining, IsShortened, IsMerging, IsProgress}
 use Rattle.su_classes.specs.inside.Firsts.{row_at, first_at, AreMembersBelow, AreFirsts}
@@ -63,7 +63,7 @@ merging_shortened P a b c m s = record {
 pub record IsBound (f : Fd) (rows : List Placed) (firsts : List ℕ) (old t : List ℕ) (n : ℕ) (changed : Bool) : Type 0 where
   pub merging : IsMerging (λ label. Keeps label rows f) old t
   pub progress : IsProgress old t changed
-  pub settled : changed ≡ false → (p : ℕ) → p < n → LiesIn f (row_at rows p).has → SameAt (rep t) f.right (row_at rows p) (row_at rows (first_at firsts p))
+  pub settled : changed ≡ false → (p : ℕ) → p < n → LiesIn f (row_at rows p).has → SameItemLabels (rep t) f.right (row_at rows p) (row_at rows (first_at firsts p))
 
 module _ (f : Fd) (rows : List Placed) (firsts : List ℕ) (old : List ℕ) (flat : IsTable old) (placed : All (IsPlacedBelow (length old)) rows) (are : AreFirsts (rep old) f rows firsts) where
   row_in : (p : ℕ) → p < length rows → Contains rows (row_at rows p)
@@ -80,13 +80,13 @@ module _ (f : Fd) (rows : List Placed) (firsts : List ℕ) (old : List ℕ) (fla
   sound_same label s i j i_in j_in e = s i i_in ∙ ap label e ∙ sym (s j j_in)
 
   -- so labels that keep the dependency have the row and its first together at the right side
-  forced : (p : ℕ) → p < length rows → LiesIn f (row_at rows p).has → (label : ℕ → Sym) → IsSound old label → Keeps label rows f → SameAt label f.right (row_at rows p) (row_at rows (first_at firsts p))
+  forced : (p : ℕ) → p < length rows → LiesIn f (row_at rows p).has → (label : ℕ → Sym) → IsSound old label → Keeps label rows f → SameItemLabels label f.right (row_at rows p) (row_at rows (first_at firsts p))
   forced p l lies label s keeps =
       let first = first_at firsts p in
       let first_in = are.within p l in
       let first_lies = are.lies p l lies in
       keeps (row_at rows p) (row_at rows first) (row_in p l) (row_in first first_in) lies first_lies
-      (λ a h. sound_same label s (cell (row_at rows p) a) (cell (row_at rows first) a) ((placed_at p l).below a (in_left (row_at rows p) lies a h)) ((placed_at first first_in).below a (in_left (row_at rows first) first_lies a h)) (are.alike p l lies a h))
+      (λ a h. sound_same label s (item_of (row_at rows p) a) (item_of (row_at rows first) a) ((placed_at p l).below a (in_left (row_at rows p) lies a h)) ((placed_at first first_in).below a (in_left (row_at rows first) first_lies a h)) (are.alike p l lies a h))
 
   pub bound_none : IsBound f rows firsts old old 0 false
   bound_none = record {
@@ -97,28 +97,28 @@ module _ (f : Fd) (rows : List Placed) (firsts : List ℕ) (old : List ℕ) (fla
 
   -- a row in which the dependency lies is joined with its first
   pub bound_more : (t new : List ℕ) (n : ℕ) (x y : Bool) (right : List ℕ) → n < length rows → LiesIn f (row_at rows n).has → AreMembersBelow 128 f.right right → IsBound f rows firsts old t n x
-      → IsJoining (λ label. All (λ a. label (cell (row_at rows n) a) ≡ label (cell (row_at rows (first_at firsts n)) a)) right) t new → IsProgress t new y → IsBound f rows firsts old new (n + 1) (x || y)
+      → IsJoining (λ label. All (λ a. label (item_of (row_at rows n) a) ≡ label (item_of (row_at rows (first_at firsts n)) a)) right) t new → IsProgress t new y → IsBound f rows firsts old new (n + 1) (x || y)
   bound_more t new n x y right l lies members so_far j p =
       let first = first_at firsts n in
       let progress = progress_then old t new x y so_far.progress p in
       let low : (a : ℕ) → contains f.right a ≡ true → Contains right a = λ a h. (members a).1 (right_low (length old) f (row_at rows n) (placed_at n l) lies a h, h) in
       record {
         merging = merging_then (λ label. Keeps label rows f) old t new so_far.merging
-            (merging_by (λ label. All (λ a. label (cell (row_at rows n) a) ≡ label (cell (row_at rows first) a)) right) (λ label. Keeps label rows f) t new
+            (merging_by (λ label. All (λ a. label (item_of (row_at rows n) a) ≡ label (item_of (row_at rows first) a)) right) (λ label. Keeps label rows f) t new
             (λ label s keeps i d below.
             let a = get_or right i d in
             forced n l lies label (so_far.merging.finer label s) keeps a ((members a).0 (Contains-get_or right i d below)).1)
-            (merging_joining (λ label. All (λ a. label (cell (row_at rows n) a) ≡ label (cell (row_at rows first) a)) right) t new j));
+            (merging_joining (λ label. All (λ a. label (item_of (row_at rows n) a) ≡ label (item_of (row_at rows first) a)) right) t new j));
         progress = progress;
         settled = λ e.
             let t_is : t ≡ old = progress_same old t x flat so_far.progress (or_left x y e) in
             let new_is : new ≡ old = progress_same old new (x || y) flat progress e in
             let own : IsSound new (λ i. Var (rep new i)) = own_labels new (subst IsTable (sym new_is) flat) in
-            below_more (λ p. LiesIn f (row_at rows p).has → SameAt (rep new) f.right (row_at rows p) (row_at rows (first_at firsts p))) n
-            (λ p below is. subst (λ (u : List ℕ). SameAt (rep u) f.right (row_at rows p) (row_at rows (first_at firsts p))) (t_is ∙ sym new_is) (so_far.settled (or_left x y e) p below is))
+            below_more (λ p. LiesIn f (row_at rows p).has → SameItemLabels (rep new) f.right (row_at rows p) (row_at rows (first_at firsts p))) n
+            (λ p below is. subst (λ (u : List ℕ). SameItemLabels (rep u) f.right (row_at rows p) (row_at rows (first_at firsts p))) (t_is ∙ sym new_is) (so_far.settled (or_left x y e) p below is))
             (λ is a h.
             same_var _ _
-            (All-contains (λ a. Var (rep new (cell (row_at rows n) a)) ≡ Var (rep new (cell (row_at rows first) a))) right a ((j.exact (λ i. Var (rep new i))).0 own).1 (low a h)));
+            (All-contains (λ a. Var (rep new (item_of (row_at rows n) a)) ≡ Var (rep new (item_of (row_at rows first) a))) right a ((j.exact (λ i. Var (rep new i))).0 own).1 (low a h)));
       }
 
   -- another row is passed
@@ -126,7 +126,7 @@ module _ (f : Fd) (rows : List Placed) (firsts : List ℕ) (old : List ℕ) (fla
   bound_pass t n x out so_far = record {
     merging = so_far.merging;
     progress = so_far.progress;
-    settled = λ e. below_more (λ p. LiesIn f (row_at rows p).has → SameAt (rep t) f.right (row_at rows p) (row_at rows (first_at firsts p))) n (so_far.settled e) (λ lies. absurd (out lies));
+    settled = λ e. below_more (λ p. LiesIn f (row_at rows p).has → SameItemLabels (rep t) f.right (row_at rows p) (row_at rows (first_at firsts p))) n (so_far.settled e) (λ lies. absurd (out lies));
   }
 
   -- where nothing was merged, the dependency is kept
@@ -138,13 +138,13 @@ module _ (f : Fd) (rows : List Placed) (firsts : List ℕ) (old : List ℕ) (fla
       let is_q : row_at rows cq.0 ≡ q = get_or_default rows cq.0 d q cq.1 ∙ cq.2 in
       let lies_r = subst (λ (z : Placed). LiesIn f z.has) (sym is_r) r_lies in
       let lies_q = subst (λ (z : Placed). LiesIn f z.has) (sym is_q) q_lies in
-      let left : SameAt (rep old) f.left (row_at rows cr.0) (row_at rows cq.0) =
-      subst (λ (z : Placed). SameAt (rep old) f.left z (row_at rows cq.0)) (sym is_r) (subst (λ (z : Placed). SameAt (rep old) f.left r z) (sym is_q) (subst (λ (u : List ℕ). SameAt (rep u) f.left r q) t_is same)) in
+      let left : SameItemLabels (rep old) f.left (row_at rows cr.0) (row_at rows cq.0) =
+      subst (λ (z : Placed). SameItemLabels (rep old) f.left z (row_at rows cq.0)) (sym is_r) (subst (λ (z : Placed). SameItemLabels (rep old) f.left r z) (sym is_q) (subst (λ (u : List ℕ). SameItemLabels (rep u) f.left r q) t_is same)) in
       let firsts_same = are.same cr.0 cq.0 cr.1 cq.1 lies_r lies_q left in
       let one = so_far.settled e cr.0 (omega (arith, cr.1, all)) lies_r in
       let two = so_far.settled e cq.0 (omega (arith, cq.1, all)) lies_q in
-      let right : SameAt (rep t) f.right (row_at rows cr.0) (row_at rows cq.0) = λ a h. one a h ∙ ap (λ p. rep t (cell (row_at rows p) a)) firsts_same ∙ sym (two a h) in
-      subst (λ (z : Placed). SameAt (rep t) f.right r z) is_q (subst (λ (z : Placed). SameAt (rep t) f.right z (row_at rows cq.0)) is_r right)
+      let right : SameItemLabels (rep t) f.right (row_at rows cr.0) (row_at rows cq.0) = λ a h. one a h ∙ ap (λ p. rep t (item_of (row_at rows p) a)) firsts_same ∙ sym (two a h) in
+      subst (λ (z : Placed). SameItemLabels (rep t) f.right r z) is_q (subst (λ (z : Placed). SameItemLabels (rep t) f.right z (row_at rows cq.0)) is_r right)
 
 -- ---- all dependencies
 

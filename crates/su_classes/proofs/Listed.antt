@@ -10,7 +10,7 @@ use Rattle.su_base.proofs.Items.{Contains-later, Contains-cases, Contains-nil}
 use Rattle.su_fd.specs.declared.dependencies.Fd.{Fd}
 use Rattle.su_classes.specs.declared.items.Placed.{Placed}
 use Rattle.su_fd.specs.MetDependencies.{LiesIn}
-use Rattle.su_classes.specs.Items.{cell, IsPlacedBelow}
+use Rattle.su_classes.specs.Items.{item_of, IsPlacedBelow}
 use Rattle.su_classes.specs.inside.Firsts.{AreMembersBelow}
 
 -- two functions give one list where they give the same at each member, and only there
@@ -77,13 +77,13 @@ module _ (n : ℕ) (f : Fd) (r : Placed) (placed : IsPlacedBelow n r) (lies : Li
   pub right_low : (a : ℕ) → contains f.right a ≡ true → a < 128
   right_low a h = let w = placed.wide a (subset_at f.right r.has a lies.right h) in let k = placed.narrow in omega arith
 
-  pub left_cells : (list : List ℕ) → AreMembersBelow 128 f.left list → All (λ a. (a < length r.cells) × (cell r a < n)) list
+  pub left_cells : (list : List ℕ) → AreMembersBelow 128 f.left list → All (λ a. (a < length r.cells) × (item_of r a < n)) list
   left_cells list members i d l =
       let a = get_or list i d in
       let h = subset_at f.left r.has a lies.left ((members a).0 (Contains-get_or list i d l)).1 in
       (placed.wide a h, placed.below a h)
 
-  pub right_cells : (list : List ℕ) → AreMembersBelow 128 f.right list → All (λ a. (a < length r.cells) × (cell r a < n)) list
+  pub right_cells : (list : List ℕ) → AreMembersBelow 128 f.right list → All (λ a. (a < length r.cells) × (item_of r a < n)) list
   right_cells list members i d l =
       let a = get_or list i d in
       let h = subset_at f.right r.has a lies.right ((members a).0 (Contains-get_or list i d l)).1 in

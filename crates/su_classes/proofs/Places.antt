@@ -7,13 +7,13 @@ use Rattle.su_base.specs.declared.values.Value.TheVariants.{Text}
 use Rattle.su_tableau.specs.declared.symbols.Sym.{Sym}
 use Rattle.su_tableau.specs.declared.symbols.Sym.TheVariants.{Const, Var}
 use Rattle.su_classes.specs.Tables.{rep}
-use Rattle.su_classes.specs.inside.Symbols.{same_value, has_constant, place_of, AreDistinct, is_known, symbol_number, symbol_at, name_in}
+use Rattle.su_classes.specs.inside.Symbols.{same_value, has_constant, constant_place, AreDistinct, is_known, symbol_number, symbol_at, name_in}
 use Rattle.su_classes.proofs.ValueOrder.{same_itself, same_is}
 
-pub place_is : (vs : List Value) (c : Value) → has_constant vs c ≡ true → (place_of vs c < length vs) × (get_or vs (place_of vs c) (Text []) ≡ c)
+pub place_is : (vs : List Value) (c : Value) → has_constant vs c ≡ true → (constant_place vs c < length vs) × (get_or vs (constant_place vs c) (Text []) ≡ c)
 place_is [] c h = absurd (false≢true h)
 place_is (v ∷ vs) c h =
-    elim (same_value v c) as (λ b. same_value v c ≡ b → cond b true (has_constant vs c) ≡ true → (cond b 0 (suc (place_of vs c)) < suc (length vs)) × (get_or (v ∷ vs) (cond b 0 (suc (place_of vs c))) (Text []) ≡ c)) [
+    elim (same_value v c) as (λ b. same_value v c ≡ b → cond b true (has_constant vs c) ≡ true → (cond b 0 (suc (constant_place vs c)) < suc (length vs)) × (get_or (v ∷ vs) (cond b 0 (suc (constant_place vs c))) (Text []) ≡ c)) [
       | true ↦ λ t k. (omega arith, same_is v c t)
       | false ↦ λ f k. let w = place_is vs c k in ((let l = w.0 in omega arith), w.1)
     ] refl h
@@ -26,23 +26,23 @@ has_at (v ∷ vs) (suc i) l =
     let c = get_or vs i (Text []) in
     elim (same_value v c) as (λ b. cond b true (has_constant vs c) ≡ true) [ true ↦ refl | false ↦ r ]
 
-pub place_at : (vs : List Value) → AreDistinct vs → (i : ℕ) → i < length vs → place_of vs (get_or vs i (Text [])) ≡ i
+pub place_at : (vs : List Value) → AreDistinct vs → (i : ℕ) → i < length vs → constant_place vs (get_or vs i (Text [])) ≡ i
 place_at [] d i l = absurd (omega arith)
-place_at (v ∷ vs) d zero l = cond-true (same_value v v) 0 (suc (place_of vs v)) (same_itself v)
+place_at (v ∷ vs) d zero l = cond-true (same_value v v) 0 (suc (constant_place vs v)) (same_itself v)
 place_at (v ∷ vs) d (suc i) l =
     let c = get_or vs i (Text []) in
     let r = place_at vs d.1 i (omega arith) in
     let has = has_at vs i (omega arith) in
-    elim (same_value v c) as (λ b. same_value v c ≡ b → cond b 0 (suc (place_of vs c)) ≡ suc i) [
+    elim (same_value v c) as (λ b. same_value v c ≡ b → cond b 0 (suc (constant_place vs c)) ≡ suc i) [
       | true ↦ λ t. absurd (true≢false (sym has ∙ ap (has_constant vs) (sym (same_is v c t)) ∙ d.0))
       | false ↦ λ f. ap (λ k. suc k) r
     ] refl
 
 -- a value that is not there has the number of values for its place
-pub place_none : (vs : List Value) (c : Value) → has_constant vs c ≡ false → place_of vs c ≡ length vs
+pub place_none : (vs : List Value) (c : Value) → has_constant vs c ≡ false → constant_place vs c ≡ length vs
 place_none [] c h = refl
 place_none (v ∷ vs) c h =
-    elim (same_value v c) as (λ b. cond b true (has_constant vs c) ≡ false → cond b 0 (suc (place_of vs c)) ≡ suc (length vs)) [
+    elim (same_value v c) as (λ b. cond b true (has_constant vs c) ≡ false → cond b 0 (suc (constant_place vs c)) ≡ suc (length vs)) [
       | true ↦ λ k. absurd (true≢false k)
       | false ↦ λ k. ap (λ k. suc k) (place_none vs c k)
     ] h
@@ -66,7 +66,7 @@ module _ (vs : List Value) (limit : ℕ) where
   symbol_high i p e = cond-false (nat_lt i (length vs)) (Const (get_or vs i (Text []))) (Var (i - length vs)) (le-ltb i (length vs) (omega arith)) ∙ ap Var (omega arith)
 
   back : (x : Sym) → is_known vs limit x ≡ true → symbol_at vs (symbol_number vs x) ≡ x
-  back (Const c) k = let w = place_is vs c k in symbol_low (place_of vs c) w.0 ∙ ap Const w.1
+  back (Const c) k = let w = place_is vs c k in symbol_low (constant_place vs c) w.0 ∙ ap Const w.1
   back (Var p) k = symbol_high (length vs + p) p refl
 
   number_in : (x : Sym) → is_known vs limit x ≡ true → symbol_number vs x < length vs + limit
@@ -106,6 +106,6 @@ own_constant vs limit table c own =
     ⊎_elim
     (λ (t : has_constant vs c ≡ true).
     let w = place_is vs c t in
-    cond-true (has_constant vs c) (symbol_at vs (rep table (place_of vs c))) (Const c) t ∙ ap (symbol_at vs) (own (place_of vs c) w.0) ∙ symbol_low vs limit (place_of vs c) w.0 ∙ ap Const w.1)
-    (λ (f : has_constant vs c ≡ false). cond-false (has_constant vs c) (symbol_at vs (rep table (place_of vs c))) (Const c) f)
+    cond-true (has_constant vs c) (symbol_at vs (rep table (constant_place vs c))) (Const c) t ∙ ap (symbol_at vs) (own (constant_place vs c) w.0) ∙ symbol_low vs limit (constant_place vs c) w.0 ∙ ap Const w.1)
+    (λ (f : has_constant vs c ≡ false). cond-false (has_constant vs c) (symbol_at vs (rep table (constant_place vs c))) (Const c) f)
     (cases_Bool (has_constant vs c))

@@ -9,7 +9,7 @@ use Rattle.su_tableau.specs.declared.symbols.Sym.{Sym}
 use Rattle.su_classes.specs.declared.items.Placed.{Placed}
 use Rattle.su_classes.specs.declared.rules.Rule.{Rule}
 use Rattle.su_fd.specs.MetDependencies.{LiesIn}
-use Rattle.su_classes.specs.Items.{cell, SameAt, Keeps, IsPlacedBelow}
+use Rattle.su_classes.specs.Items.{item_of, SameItemLabels, Keeps, IsPlacedBelow}
 use Rattle.su_classes.specs.Tables.{IsSound}
 use Rattle.su_classes.specs.inside.Tables.{IsForest, IsJoining, IsShortened, IsMerging}
 use Rattle.su_classes.specs.inside.Firsts.{AreMembersBelow}
@@ -58,24 +58,24 @@ rules_given rows fds rules old new given m =
 -- ---- two rows
 
 module _ (n : ℕ) (f : Fd) (left right : List ℕ) (r q : Placed) (placed : IsPlacedBelow n r) (lies : LiesIn f r.has) (members_left : AreMembersBelow 128 f.left left) (members_right : AreMembersBelow 128 f.right right) where
-  same_left : (label : ℕ → Sym) → All (λ a. label (cell r a) ≡ label (cell q a)) left → SameAt label f.left r q
-  same_left label all a h = All-contains (λ a. label (cell r a) ≡ label (cell q a)) left a all ((members_left a).1 (left_low n f r placed lies a h, h))
+  same_left : (label : ℕ → Sym) → All (λ a. label (item_of r a) ≡ label (item_of q a)) left → SameItemLabels label f.left r q
+  same_left label all a h = All-contains (λ a. label (item_of r a) ≡ label (item_of q a)) left a all ((members_left a).1 (left_low n f r placed lies a h, h))
 
-  same_right : (label : ℕ → Sym) → SameAt label f.right r q → All (λ a. label (cell r a) ≡ label (cell q a)) right
+  same_right : (label : ℕ → Sym) → SameItemLabels label f.right r q → All (λ a. label (item_of r a) ≡ label (item_of q a)) right
   same_right label same i d l = same (get_or right i d) ((members_right (get_or right i d)).0 (Contains-get_or right i d l)).1
 
   -- rows that agree on the left side were merged at the right side
-  pub brought : (old a new : List ℕ) → IsForest old → IsShortened old a → ((label : ℕ → Sym) → IsSound old label → All (λ a. label (cell r a) ≡ label (cell q a)) left) → IsMerging (λ label. All (λ a. label (cell r a) ≡ label (cell q a)) right) a new
-      → IsMerging (λ label. SameAt label f.left r q → SameAt label f.right r q) old new
+  pub brought : (old a new : List ℕ) → IsForest old → IsShortened old a → ((label : ℕ → Sym) → IsSound old label → All (λ a. label (item_of r a) ≡ label (item_of q a)) left) → IsMerging (λ label. All (λ a. label (item_of r a) ≡ label (item_of q a)) right) a new
+      → IsMerging (λ label. SameItemLabels label f.left r q → SameItemLabels label f.right r q) old new
   brought old a new forest s agree m =
-      let P : (ℕ → Sym) → Type 0 = λ label. SameAt label f.left r q → SameAt label f.right r q in
+      let P : (ℕ → Sym) → Type 0 = λ label. SameItemLabels label f.left r q → SameItemLabels label f.right r q in
       merging_then P old a new (merging_shortened P old old a (merging_none P old forest) s)
-      (merging_by (λ label. All (λ a. label (cell r a) ≡ label (cell q a)) right) P a new (λ label sound p. same_right label (p (same_left label (agree label ((s.exact label).0 sound))))) m)
+      (merging_by (λ label. All (λ a. label (item_of r a) ≡ label (item_of q a)) right) P a new (λ label sound p. same_right label (p (same_left label (agree label ((s.exact label).0 sound))))) m)
 
   -- nothing was merged
-  pub brought_none : (old a : List ℕ) → IsForest old → IsShortened old a → IsMerging (λ label. SameAt label f.left r q → SameAt label f.right r q) old a
-  brought_none old a forest s = merging_shortened (λ label. SameAt label f.left r q → SameAt label f.right r q) old old a (merging_none (λ label. SameAt label f.left r q → SameAt label f.right r q) old forest) s
+  pub brought_none : (old a : List ℕ) → IsForest old → IsShortened old a → IsMerging (λ label. SameItemLabels label f.left r q → SameItemLabels label f.right r q) old a
+  brought_none old a forest s = merging_shortened (λ label. SameItemLabels label f.left r q → SameItemLabels label f.right r q) old old a (merging_none (λ label. SameItemLabels label f.left r q → SameItemLabels label f.right r q) old forest) s
 
 -- what a dependency says of all rows it says of two of them
-pub looked : (rows : List Placed) (f : Fd) (r q : Placed) (old new : List ℕ) → Contains rows r → Contains rows q → LiesIn f r.has → LiesIn f q.has → IsMerging (λ label. SameAt label f.left r q → SameAt label f.right r q) old new → IsMerging (λ label. Keeps label rows f) old new
-looked rows f r q old new r_in q_in r_lies q_lies m = merging_by (λ label. SameAt label f.left r q → SameAt label f.right r q) (λ label. Keeps label rows f) old new (λ label s keeps. keeps r q r_in q_in r_lies q_lies) m
+pub looked : (rows : List Placed) (f : Fd) (r q : Placed) (old new : List ℕ) → Contains rows r → Contains rows q → LiesIn f r.has → LiesIn f q.has → IsMerging (λ label. SameItemLabels label f.left r q → SameItemLabels label f.right r q) old new → IsMerging (λ label. Keeps label rows f) old new
+looked rows f r q old new r_in q_in r_lies q_lies m = merging_by (λ label. SameItemLabels label f.left r q → SameItemLabels label f.right r q) (λ label. Keeps label rows f) old new (λ label s keeps. keeps r q r_in q_in r_lies q_lies) m

@@ -10,16 +10,16 @@ use Rattle.su_classes.specs.declared.items.Placed.{Placed}
 use Rattle.su_classes.specs.declared.items.Together.{Together}
 
 -- the item of a row at an attribute
-abbrev pub cell : Placed → ℕ → ℕ
-cell r a = get_or r.cells a 0
+abbrev pub item_of : Placed → ℕ → ℕ
+item_of r a = get_or r.cells a 0
 
 -- the two rows have the same labels at the attributes of the set
-abbrev pub SameAt : {L : Type 0} → (ℕ → L) → FinSet nat_cmp → Placed → Placed → Type 0
-SameAt label s r q = (a : ℕ) → IsTrue (contains s a) → label (cell r a) ≡ label (cell q a)
+abbrev pub SameItemLabels : {L : Type 0} → (ℕ → L) → FinSet nat_cmp → Placed → Placed → Type 0
+SameItemLabels label s r q = (a : ℕ) → IsTrue (contains s a) → label (item_of r a) ≡ label (item_of q a)
 
 -- the labels keep a dependency
 abbrev pub Keeps : {L : Type 0} → (ℕ → L) → List Placed → Fd → Type 0
-Keeps label rows f = (r q : Placed) → Contains rows r → Contains rows q → LiesIn f r.has → LiesIn f q.has → SameAt label f.left r q → SameAt label f.right r q
+Keeps label rows f = (r q : Placed) → Contains rows r → Contains rows q → LiesIn f r.has → LiesIn f q.has → SameItemLabels label f.left r q → SameItemLabels label f.right r q
 
 -- equal items have one label, and the dependencies are kept
 pub record IsKept {L : Type 0} (fds : List Fd) (rows : List Placed) (equal : List Together) (label : ℕ → L) : Type 0 where
@@ -30,4 +30,4 @@ pub record IsKept {L : Type 0} (fds : List Fd) (rows : List Placed) (equal : Lis
 pub record IsPlacedBelow (n : ℕ) (r : Placed) : Type 0 where
   pub narrow : length r.cells ≤ 128
   pub wide : (a : ℕ) → IsTrue (contains r.has a) → a < length r.cells
-  pub below : (a : ℕ) → IsTrue (contains r.has a) → cell r a < n
+  pub below : (a : ℕ) → IsTrue (contains r.has a) → item_of r a < n

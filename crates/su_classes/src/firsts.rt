@@ -1,7 +1,7 @@
 //! For each row the first one with its left side.
 ghost use Rattle.std.specs.Prelude.{◌≡◌, ◌↔◌, ℕ, ◌<◌, ◌≤◌, ◌++◌, ◌∷◌, [], if◌then◌else◌, IsTrue, All, length, IfOk, OnOk};
 ghost use Rattle.su_fd.specs.MetDependencies.{LiesIn};
-ghost use Rattle.su_classes.specs.Items.{cell, IsPlacedBelow};
+ghost use Rattle.su_classes.specs.Items.{item_of, IsPlacedBelow};
 ghost use Rattle.su_classes.specs.Tables.{rep};
 ghost use Rattle.su_classes.specs.inside.Firsts.{AreMembersBelow, key, AreFirsts, noted_in, Notes, IsFirstNoted};
 
@@ -40,7 +40,7 @@ fn key_of(
     attributes: &[u8],
     row: &Placed,
 ) -> Result<List<usize>, NoMemory>
-    requires { All (λ a. (a < length row.now.cells) × (cell row.now a < length table.now)) attributes.now }
+    requires { All (λ a. (a < length row.now.cells) × (item_of row.now a < length table.now)) attributes.now }
     ensures { IfOk result (λ k. k ≡ key (rep table.now) attributes.now row.now) }
 {
     let mut labels = List::new(alloc);

@@ -1,6 +1,6 @@
 //! Rows of items, and pairs of items.
 ghost use Rattle.std.specs.Prelude.{◌≡◌, ◌<◌, length};
-ghost use Rattle.su_classes.specs.Items.{cell};
+ghost use Rattle.su_classes.specs.Items.{item_of};
 
 use su_base::{AttrSet, List};
 
@@ -21,7 +21,7 @@ pub struct Together {
 /// The item of a row at an attribute.
 pub fn item_at(row: &Placed, a: u8) -> usize
     requires { a < length row.now.cells }
-    ensures { result ≡ cell row.now a }
+    ensures { result ≡ item_of row.now a }
 {
     *row.cells.get(a as usize)
 }

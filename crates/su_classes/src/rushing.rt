@@ -2,7 +2,7 @@
 ghost use Rattle.std.specs.Prelude.{◌≡◌, ℕ, ◌<◌, ◌≤◌, IsTrue, All, Contains, length, IfOk, OnOk};
 ghost use Rattle.su_tableau.specs.declared.symbols.Sym.{Sym};
 ghost use Rattle.su_fd.specs.MetDependencies.{LiesIn};
-ghost use Rattle.su_classes.specs.Items.{cell, SameAt, Keeps, IsPlacedBelow};
+ghost use Rattle.su_classes.specs.Items.{item_of, SameItemLabels, Keeps, IsPlacedBelow};
 ghost use Rattle.su_classes.specs.Tables.{IsSound};
 ghost use Rattle.su_classes.specs.inside.Tables.{IsForest, IsShortened, IsMerging};
 ghost use Rattle.su_classes.specs.inside.Worklists.{IsRule, IsWell, IsSame, IsFor};
@@ -21,10 +21,10 @@ use su_fd::Fd;
 /// Whether the two rows have the same classes at these attributes.
 fn agree(table: &mut [usize], attributes: &[u8], row: &Placed, other: &Placed) -> bool
     requires ordered { IsForest table.old }
-    requires left { All (λ a. (a < length row.now.cells) × (cell row.now a < length table.old)) attributes.now }
-    requires right { All (λ a. (a < length other.now.cells) × (cell other.now a < length table.old)) attributes.now }
+    requires left { All (λ a. (a < length row.now.cells) × (item_of row.now a < length table.old)) attributes.now }
+    requires right { All (λ a. (a < length other.now.cells) × (item_of other.now a < length table.old)) attributes.now }
     ensures shortened { IsShortened table.old table.new }
-    ensures together { IsTrue result → (label : ℕ → Sym) → IsSound table.old label → All (λ a. label (cell row.now a) ≡ label (cell other.now a)) attributes.now }
+    ensures together { IsTrue result → (label : ℕ → Sym) → IsSound table.old label → All (λ a. label (item_of row.now a) ≡ label (item_of other.now a)) attributes.now }
 {
     for a in attributes {
         if root(table, item_at(row, *a)) != root(table, item_at(other, *a)) {
@@ -45,9 +45,9 @@ fn merge(
     requires ordered { IsForest table.old }
     requires well { IsWell work.old }
     requires items { length work.old.marks.items ≡ length table.old }
-    requires left { All (λ a. (a < length row.now.cells) × (cell row.now a < length table.old)) attributes.now }
-    requires right { All (λ a. (a < length other.now.cells) × (cell other.now a < length table.old)) attributes.now }
-    ensures merging { OnOk result (IsMerging (λ label. All (λ a. label (cell row.now a) ≡ label (cell other.now a)) attributes.now) table.old table.new) }
+    requires left { All (λ a. (a < length row.now.cells) × (item_of row.now a < length table.old)) attributes.now }
+    requires right { All (λ a. (a < length other.now.cells) × (item_of other.now a < length table.old)) attributes.now }
+    ensures merging { OnOk result (IsMerging (λ label. All (λ a. label (item_of row.now a) ≡ label (item_of other.now a)) attributes.now) table.old table.new) }
     ensures same { OnOk result (IsSame work.old work.new) }
 {
     for a in attributes {
@@ -76,7 +76,7 @@ fn bring_together(
     requires other { IsPlacedBelow (length table.old) other.now }
     requires in_row { LiesIn rule.now.fd row.now.has }
     requires in_other { LiesIn rule.now.fd other.now.has }
-    ensures merging { OnOk result (IsMerging (λ label. SameAt label rule.now.fd.left row.now other.now → SameAt label rule.now.fd.right row.now other.now) table.old table.new) }
+    ensures merging { OnOk result (IsMerging (λ label. SameItemLabels label rule.now.fd.left row.now other.now → SameItemLabels label rule.now.fd.right row.now other.now) table.old table.new) }
     ensures same { OnOk result (IsSame work.old work.new) }
 {
     let left = rule.left.as_slice();

@@ -1,6 +1,6 @@
 //! Passes over the rows that merge what the dependencies put together.
 ghost use Rattle.std.specs.Prelude.{◌≡◌, ℕ, ◌<◌, ◌≤◌, false, All, length, IfOk, OnOk};
-ghost use Rattle.su_classes.specs.Items.{cell, Keeps, IsPlacedBelow};
+ghost use Rattle.su_classes.specs.Items.{item_of, Keeps, IsPlacedBelow};
 ghost use Rattle.su_classes.specs.Tables.{rep, IsTable};
 ghost use Rattle.su_classes.specs.inside.Tables.{IsForest, IsJoining, IsMerging, IsProgress};
 ghost use Rattle.su_classes.specs.inside.Firsts.{AreMembersBelow, AreFirsts};
@@ -15,9 +15,9 @@ use su_fd::Fd;
 /// Merges the items of the two rows at these attributes; whether some were apart.
 fn join_at(table: &mut [usize], attributes: &[u8], row: &Placed, other: &Placed) -> bool
     requires ordered { IsForest table.old }
-    requires left { All (λ a. (a < length row.now.cells) × (cell row.now a < length table.old)) attributes.now }
-    requires right { All (λ a. (a < length other.now.cells) × (cell other.now a < length table.old)) attributes.now }
-    ensures joining { IsJoining (λ label. All (λ a. label (cell row.now a) ≡ label (cell other.now a)) attributes.now) table.old table.new }
+    requires left { All (λ a. (a < length row.now.cells) × (item_of row.now a < length table.old)) attributes.now }
+    requires right { All (λ a. (a < length other.now.cells) × (item_of other.now a < length table.old)) attributes.now }
+    ensures joining { IsJoining (λ label. All (λ a. label (item_of row.now a) ≡ label (item_of other.now a)) attributes.now) table.old table.new }
     ensures progress { IsProgress table.old table.new result }
 {
     let mut changed = false;

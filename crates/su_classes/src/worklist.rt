@@ -1,6 +1,6 @@
 //! The cells that are to be looked at again, and the marks of classes by which rows are found.
 ghost use Rattle.std.specs.Prelude.{◌≡◌, ◌<◌, ◌++◌, ◌∷◌, [], All, Contains, length, IfOk, IfSome, OnOk};
-ghost use Rattle.su_classes.specs.Items.{cell, IsPlacedBelow};
+ghost use Rattle.su_classes.specs.Items.{item_of, IsPlacedBelow};
 ghost use Rattle.su_classes.specs.inside.Tables.{IsForest};
 ghost use Rattle.su_classes.specs.inside.Worklists.{IsWell, IsSame, IsSpot, IsFor};
 
@@ -159,7 +159,7 @@ impl Worklist {
     /// A number for the marks at these attributes: rows with the same marks have the same number, and others
     /// seldom.
     pub fn key(&self, attributes: &[u8], row: &Placed) -> u64
-        requires { All (λ a. (a < length row.now.cells) × (cell row.now a < length self.now.marks.items)) attributes.now }
+        requires { All (λ a. (a < length row.now.cells) × (item_of row.now a < length self.now.marks.items)) attributes.now }
     {
         let mut key = 0u64;
         for a in attributes {

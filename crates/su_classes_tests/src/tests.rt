@@ -1,6 +1,6 @@
 ghost use Rattle.std.specs.Prelude.{◌≡◌, ◌↔◌, ℕ, ◌<◌, ◌≤◌, IsTrue, All, length};
 ghost use Rattle.std.specs.FinSet.{contains};
-ghost use Rattle.su_classes.specs.Items.{IsPlacedBelow, cell};
+ghost use Rattle.su_classes.specs.Items.{IsPlacedBelow, item_of};
 
 use std::alloc::Global;
 use std::test::Fail;
@@ -60,7 +60,7 @@ fn attributes_below(width: u8) -> AttrSet
 
 fn item_at(row: &Placed, a: u8) -> usize
     requires { a < length row.now.cells }
-    ensures { result ≡ cell row.now a }
+    ensures { result ≡ item_of row.now a }
 {
     *row.cells.get(a as usize)
 }

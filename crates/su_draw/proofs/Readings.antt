@@ -10,7 +10,8 @@ use Rattle.su_draw.specs.States.{at_start}
 use Rattle.su_draw.specs.Pieces.{cut_of}
 use Rattle.su_draw.specs.declared.reading.Line.{Line}
 use Rattle.su_draw.specs.TextLines.{behind_words, IsLineOf, AreRead, is_whole_cut, AreLinesOf}
-use Rattle.su_draw.specs.LineFaults.{IsLineAtFault, IsEndAtFault, IsFaultOf, IsFaultAmong}
+use Rattle.su_draw.specs.LineFaults.{IsLineAtFault, IsEndAtFault, IsFaultOf}
+use Rattle.su_draw.specs.inside.PieceFaults.{IsFaultAmong}
 
 module _ (p : Piece) (l : Line) (next : State) (line : IsLineOf l p.words) where
   pub are_read-one : (s : State) (ps : List Piece) (ls : List Line) (mid : State) → AreRead s ps ls mid → behind_words mid p.words ≡ Some next → AreRead s (ps ++ p ∷ []) (ls ++ l ∷ []) next

@@ -40,8 +40,3 @@ IsAtFault text number = IsLineAtFault (cut_of text).pieces number ⊎ IsEndAtFau
 abbrev pub IsFaultOf : List ℕ → Fault → Type 0
 IsFaultOf text (AtLine number) = IsAtFault text number × ((lines : List Line) → AreLinesOf text lines → ⊥)
 IsFaultOf text NoMemory = Unit {0}
-
--- the fault is a line's, where it isn't want of memory
-abbrev pub IsFaultAmong : List Piece → Fault → Type 0
-IsFaultAmong pieces (AtLine number) = IsLineAtFault pieces number
-IsFaultAmong pieces NoMemory = Unit {0}

@@ -4,7 +4,8 @@ ghost use Rattle.su_draw.specs.declared.reading.Fault.TheVariants.{NoMemory as O
 ghost use Rattle.su_draw.specs.Order.{may_end};
 ghost use Rattle.su_draw.specs.States.{at_start};
 ghost use Rattle.su_draw.specs.TextLines.{behind_words, IsLineOf, AreRead, AreLinesOf};
-ghost use Rattle.su_draw.specs.LineFaults.{IsFaultOf, IsFaultAmong};
+ghost use Rattle.su_draw.specs.LineFaults.{IsFaultOf};
+ghost use Rattle.su_draw.specs.inside.PieceFaults.{IsFaultAmong};
 
 use crate::kinds::{Kind, kind_of};
 use crate::order::{is_end, step};

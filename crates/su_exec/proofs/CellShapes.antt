@@ -12,7 +12,7 @@ use Rattle.su_tableau.specs.declared.symbols.Sym.{Sym}
 use Rattle.su_tableau.specs.declared.symbols.Sym.TheVariants.{Var}
 use Rattle.su_tableau.specs.Valuations.{values_of}
 use Rattle.su_reduce.specs.Sheets.{AreBelow}
-use Rattle.su_reduce.specs.Shapes.{IsShapeOf, cell_at, place_of}
+use Rattle.su_reduce.specs.Shapes.{IsShapeOf, cell_at, variable_place}
 use Rattle.su_reduce.proofs.Places.{contains_at, place_holds, read_value}
 use Rattle.su_reduce.proofs.ShapeSteps.{first_at, shape_length}
 use Rattle.su_exec.specs.inside.Coded.{picked}
@@ -38,7 +38,7 @@ module _ (cells : List Sym) (vars firsts places : List ℕ) (shape : IsShapeOf c
   shape_apart = apart_from vars shape.differ
 
   -- each variable stands at its place
-  stands : (j : ℕ) → j < length vars → (place_of cells (get_or vars j 0) < length cells) × (cell_at cells (place_of cells (get_or vars j 0)) ≡ Var (get_or vars j 0))
+  stands : (j : ℕ) → j < length vars → (variable_place cells (get_or vars j 0) < length cells) × (cell_at cells (variable_place cells (get_or vars j 0)) ≡ Var (get_or vars j 0))
   stands j l =
       let k = get_or vars j 0 in
       let x = (shape.each k).0 (Contains-get_or vars j 0 l) in
@@ -66,4 +66,4 @@ module _ (cells : List Sym) (vars firsts places : List ℕ) (shape : IsShapeOf c
       let low : j < length vars = omega (arith, l, f, n) in
       let k = get_or vars j 0 in
       let at = stands j low in
-      get_or-map read firsts j 0 d (omega (arith, low, n)) ∙ ap read (first_at cells (length cells) vars firsts places shape j 0 low) ∙ read_value v cells xs (place_of cells k) k (sym e) at.0 at.1 ∙ sym (get_or-map v vars j 0 d low))
+      get_or-map read firsts j 0 d (omega (arith, low, n)) ∙ ap read (first_at cells (length cells) vars firsts places shape j 0 low) ∙ read_value v cells xs (variable_place cells k) k (sym e) at.0 at.1 ∙ sym (get_or-map v vars j 0 d low))

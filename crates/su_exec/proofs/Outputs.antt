@@ -17,6 +17,7 @@ use Rattle.su_base.specs.declared.values.Value.{Value}
 use Rattle.su_base.specs.declared.values.Value.TheVariants.{Int}
 use Rattle.su_base.specs.Value.{compare_lists}
 use Rattle.su_rel.specs.Stored.{Stored}
+use Rattle.su_rel.specs.MoreThan.{AreMoreThan}
 use Rattle.su_where.specs.Operator.{compares}
 use Rattle.su_index.proofs.Runs.{sorted_nil}
 use Rattle.su_tableau.specs.declared.symbols.Sym.{Sym}
@@ -39,7 +40,7 @@ use Rattle.su_exec.specs.inside.Coded.{AreRowEdges, IsCoded, NoneAgrees, meaning
 use Rattle.su_exec.specs.inside.Edges.{Edge, Fits, FitsAll, HaveSameValues, Keeps, always, among, has}
 use Rattle.su_reduce.specs.Sheets.{AreBelow}
 use Rattle.su_exec.specs.inside.Joins.{IsReal}
-use Rattle.su_exec.specs.Outputs.{Agrees, AreMore, AreOutputs, HoldsUnder, IsOutput}
+use Rattle.su_exec.specs.Outputs.{Agrees, AreOutputs, HoldsUnder, IsOutput}
 use Rattle.su_exec.specs.inside.Shown.{AreChecksOf, AreSpotsOf, AreTermsOf, HasSomeEdge, HasVars, IsCheckOf, IsMoreBy, IsShown, IsShownBy, IsTermOf, ShowsMore, spot_values, term_values, term_vars}
 use Rattle.su_exec.specs.Tasks.{IsTask, Occurs}
 use Rattle.su_exec.proofs.CodedValuations.{code_back, fits_all_codes, fits_all_values, place_in, placed}
@@ -420,7 +421,7 @@ module _ (tables : List Stored) (values : List Value) (task : Task) (es : List (
           },
     )
 
-    pub shown_more : (g : Edge ℕ) (n : ℕ) → Keeps needed es (all_hold values checks) (g ∷ []) always → ShowsMore values g terms n → AreMore tables task n
+    pub shown_more : (g : Edge ℕ) (n : ℕ) → Keeps needed es (all_hold values checks) (g ∷ []) always → ShowsMore values g terms n → AreMoreThan n (IsOutput tables task)
     shown_more g n keeps more = record { output = more.shown; outputs = λ i l. (shown_outputs g keeps (more.shown i)).0 (more.each i l); differ = more.differ }
 
     module _ (n : ℕ) (more : HasMore needed (Some n) es (all_hold values checks)) where
@@ -455,10 +456,10 @@ module _ (tables : List Stored) (values : List Value) (task : Task) (es : List (
           code_back values body.apart (v k) vl ∙ ap (place_in values) (values_back values terms v w e k h') ∙ sym (code_back values body.apart (w k) wl))
           ∙ b.gives
 
-      pub more_outputs : AreMore tables task n
+      pub more_outputs : AreMoreThan n (IsOutput tables task)
       more_outputs = record {
-        output = λ i. output_by i (cases_lt n i);
-        outputs = λ i l. is_output i (cases_lt n i) l;
+        member = λ i. output_by i (cases_lt n i);
+        each = λ i l. is_output i (cases_lt n i) l;
         differ = λ i j l m e. more.differ i j l (let b = bound_is in omega arith) (codes_same i j (cases_lt n i) (cases_lt n j) (omega arith) m e);
       }
 
@@ -515,7 +516,7 @@ module _ (tables : List Stored) (values : List Value) (task : Task) (es : List (
   outputs_by Over rows m s = absurd s
   outputs_by Nothing rows m s = none_are_outputs tables task rows s (no_outputs tables values task es checks terms is body m)
 
-  more_by : (merged : Merged) → IsMerged needed (Some cap) es (all_hold values checks) merged → IsMoreBy values terms cap merged → AreMore tables task cap
+  more_by : (merged : Merged) → IsMerged needed (Some cap) es (all_hold values checks) merged → IsMoreBy values terms cap merged → AreMoreThan cap (IsOutput tables task)
   more_by (Whole g) m s = shown_more tables values task es checks terms is body needed needed_is g cap m.0 s
   more_by Over m s = more_outputs tables values task es checks terms is body needed needed_is cap m
   more_by Nothing m s = absurd s
@@ -524,6 +525,6 @@ module _ (tables : List Stored) (values : List Value) (task : Task) (es : List (
   outputs_of merged (Ok rows) m s = outputs_by merged rows m s
   outputs_of merged (Err e) m s = tt
 
-  pub more_of : (merged : Merged) (r : Result (List (List Value)) ExecFault) → IsMerged needed (Some cap) es (all_hold values checks) merged → IfErr r (λ fault. fault ≡ More → IsMoreBy values terms cap merged) → IfErr r (λ fault. fault ≡ More → AreMore tables task cap)
+  pub more_of : (merged : Merged) (r : Result (List (List Value)) ExecFault) → IsMerged needed (Some cap) es (all_hold values checks) merged → IfErr r (λ fault. fault ≡ More → IsMoreBy values terms cap merged) → IfErr r (λ fault. fault ≡ More → AreMoreThan cap (IsOutput tables task))
   more_of merged (Ok rows) m s = tt
   more_of merged (Err fault) m s = λ e. more_by merged m (s e)

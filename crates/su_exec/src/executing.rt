@@ -3,7 +3,8 @@ ghost use Rattle.std.specs.Prelude.{◌≡◌, ◌≤◌, ◌+◌, length, IfOk,
 ghost use Rattle.su_reduce.specs.Codes.{Extends};
 ghost use Rattle.su_exec.specs.inside.Shown.{AreChecksOf, AreTermsOf, HasSomeEdge, HasVars, IsCheckOf, IsMoreBy, IsShownBy, IsTermOf, term_vars};
 ghost use Rattle.su_exec.specs.Tasks.{IsTask};
-ghost use Rattle.su_exec.specs.Outputs.{AreOutputs, AreMore};
+ghost use Rattle.su_exec.specs.Outputs.{IsOutput, AreOutputs};
+ghost use Rattle.su_rel.specs.MoreThan.{AreMoreThan};
 ghost use Rattle.su_exec.specs.Shares.{task_share};
 ghost use Rattle.su_exec.specs.declared.tasks.ExecFault.TheVariants.{More};
 
@@ -132,7 +133,7 @@ fn execute_by<R: Rows>(
     requires { IsTask (R.tables rows.old) task.now }
     ensures outputs { IfOk result (AreOutputs (R.tables rows.old) task.now) }
     ensures cap { IfOk result (λ outputs. length outputs ≤ cap) }
-    ensures more { IfErr result (λ fault. fault ≡ More → AreMore (R.tables rows.old) task.now cap) }
+    ensures more { IfErr result (λ fault. fault ≡ More → AreMoreThan cap (IsOutput (R.tables rows.old) task.now)) }
     ensures tables { R.tables rows.new ≡ R.tables rows.old }
     ensures fetches { R.fetches rows.new ≤ R.fetches rows.old + task_share (R.tables rows.old) task.now }
 {
@@ -166,7 +167,7 @@ pub fn execute<R: Rows>(
     requires { IsTask (R.tables rows.old) task.now }
     ensures outputs { IfOk result (AreOutputs (R.tables rows.old) task.now) }
     ensures cap { IfOk result (λ outputs. length outputs ≤ cap) }
-    ensures more { IfErr result (λ fault. fault ≡ More → AreMore (R.tables rows.old) task.now cap) }
+    ensures more { IfErr result (λ fault. fault ≡ More → AreMoreThan cap (IsOutput (R.tables rows.old) task.now)) }
     ensures tables { R.tables rows.new ≡ R.tables rows.old }
     ensures fetches { R.fetches rows.new ≤ R.fetches rows.old + task_share (R.tables rows.old) task.now }
 {

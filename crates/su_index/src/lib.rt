@@ -9,8 +9,9 @@
 //! of any length, of which only the last may have none; a load fills 2048 entries into each. A place is
 //! a chunk and an offset in it. A look-up is a binary search among the last entries of the chunks and
 //! one within a chunk, by lead: they read a row only where the leads are equal, and the second no more
-//! once rows on both sides of the place are known to have the value. A count of matches, and the k-th of
-//! them, add up the lengths of the chunks between; one search serves both, and the k-th for each k.
+//! once rows on both sides of the place are known to have the value. `found` looks up once where the entries
+//! of a value begin and where they end; their number, and the k-th of them for each k, add up the lengths
+//! of the chunks between.
 //!
 //! A remove moves the entries of one chunk and takes no memory; a chunk that it empties is let go. An
 //! insert moves the entries of one chunk. One that fills a chunk lets the next insert split it into two

@@ -199,7 +199,8 @@ impl Table {
         Ok(())
     }
 
-    /// The positions of the rows that have the value in the column, ascending. It is searched once.
+    /// The positions of the rows that have the value in the column, ascending. The value is looked
+    /// up once, whatever is then asked of the positions.
     pub fn found<'a>(&'a self, column: u8, value: &Value) -> Found<'a>
         requires { column < self.now.width }
         ensures { AreMatches column value.now self.now.rows result }
@@ -217,7 +218,8 @@ impl Table {
         self.indexes[column].matching(self.rows.as_slice(), column, value)
     }
 
-    /// The position of the k-th row that has the value in the column, from 0 by ascending position.
+    /// The position of the k-th row that has the value in the column, from 0 by ascending position. Each
+    /// call looks the value up anew, where `found` does so once.
     pub fn matched(&self, column: u8, value: &Value, k: usize) -> usize
         requires column { column < self.now.width }
         requires within { k < matches column value.now self.now.rows }

@@ -1,6 +1,6 @@
--- The maximal objects of a schema: sets of objects, each seen as a set of numbers.
--- declared: stated in the schema; computed: grown from a seed
--- listed seed: what it grows to is in no declared set and in no earlier grown one, and properly in no later one
+-- The maximal objects of a schema: sets of objects, which are told by their numbers.
+-- declared: stated in the schema; seed: an object, of which the grown set is what it grows to
+-- computed: the grown sets that lie in no declared one and properly in no grown one, of equal ones that of the first seed
 use Rattle.std.specs.Prelude.{◌≡◌, ℕ, ◌<◌, Bool, not, ◌&&◌, List, ◌++◌, length, map, filter, take}
 use Rattle.std.specs.List.{list_any, range_with_len}
 use Rattle.std.specs.Ordering.{nat_cmp}
@@ -18,18 +18,18 @@ object_sets schema = map attributes_of schema.objects
 abbrev pub is_proper_subset : FinSet nat_cmp → FinSet nat_cmp → Bool
 is_proper_subset s t = is_subset s t && not (is_subset t s)
 
--- whether the grown set of this seed is a maximal object of its own
+-- whether the grown set of this seed is computed: it lies in no declared set, in no grown one of an earlier seed, and properly in no grown one
 abbrev pub is_listed : List (FinSet nat_cmp) → List (FinSet nat_cmp) → ℕ → Bool
 is_listed declared grown seed =
     not (list_any (is_subset (set_at grown seed)) declared)
     && not (list_any (is_subset (set_at grown seed)) (take seed grown))
     && not (list_any (is_proper_subset (set_at grown seed)) grown)
 
--- the computed ones, in the order of their seeds
+-- the computed sets, in the order of their seeds
 abbrev pub computed : List (FinSet nat_cmp) → List (FinSet nat_cmp) → List (FinSet nat_cmp)
 computed declared grown = map (set_at grown) (filter (is_listed declared grown) (range_with_len 0 (length grown)))
 
--- all declared ones in the order of declaration, then the computed ones
+-- all declared sets in the order of declaration, then the computed ones
 pub record AreMaximalObjects (schema : SchemaValue) (sets : List (FinSet nat_cmp)) : Type 0 where
   pub grown : List (FinSet nat_cmp)
   pub seeds : length grown ≡ length schema.objects

@@ -71,8 +71,8 @@ pub fn grown(schema: &Schema, seed: u8) -> ObjSet
 
 /// The maximal objects of the schema: all declared ones in order of declaration, as many as
 /// `schema.declared()` has, then the computed ones in the order of their seeds. A computed one is
-/// what a seed grows to, where that is in no declared one, properly in no grown one, and not what
-/// an earlier seed grows to.
+/// what an object, its seed, grows to, where that lies in no declared one and properly in nothing that
+/// an object grows to; of seeds that grow to one set the first counts.
 ///
 /// At most n³ tries for n objects, each of one closure and one spreading; see the crate's head for a
 /// figure.

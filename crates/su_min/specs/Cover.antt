@@ -9,7 +9,7 @@ use Rattle.su_tableau.specs.Mapping.{images_of}
 use Rattle.su_map.specs.Lists.{IsMapping}
 use Rattle.su_min.specs.Kept.{Minimised}
 
--- what stands at the compared places, which follow the outputs, with one variable in place of all
+-- the symbols at the compared places, which stand behind the outputs in the head; `Var 0` stands for each variable, so that constants alone are told apart
 abbrev pub compared : Tab → List Sym
 compared t = images_of (λ k. Var 0) (drop t.outputs t.head)
 

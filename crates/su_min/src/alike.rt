@@ -3,14 +3,14 @@ ghost use Rattle.std.specs.Prelude.{◌≡◌, ◌↔◌, ℕ, IsTrue, IsFalse, 
 ghost use Rattle.su_tableau.specs.declared.symbols.Sym.{Sym as ASym};
 ghost use Rattle.su_tableau.specs.Mapping.{image_of, images_of};
 ghost use Rattle.su_min.specs.Cover.{AreAlike};
-ghost use Rattle.su_min.specs.inside.Constants.{constant_of};
+ghost use Rattle.su_min.specs.inside.Constants.{with_one_variable};
 
 use su_tableau::{Sym, Tableau};
 use su_where::Op;
 
 /// Whether both are variables, or both are the same constant.
 fn is_alike(x: &Sym, y: &Sym) -> bool
-    ensures { IsTrue result ↔ (constant_of x.now ≡ constant_of y.now) }
+    ensures { IsTrue result ↔ (with_one_variable x.now ≡ with_one_variable y.now) }
 {
     match (x, y) {
         (Sym::Const(a), Sym::Const(b)) => a == b,
@@ -22,7 +22,7 @@ fn is_alike(x: &Sym, y: &Sym) -> bool
 /// Whether the symbols from the place on are alike, one by one.
 fn ends_are_alike(xs: &[Sym], ys: &[Sym], start: usize) -> bool
     requires { length xs.now ≡ length ys.now }
-    ensures { IsTrue result ↔ (map constant_of (drop start xs.now) ≡ map constant_of (drop start ys.now)) }
+    ensures { IsTrue result ↔ (map with_one_variable (drop start xs.now) ≡ map with_one_variable (drop start ys.now)) }
 {
     for i in start..xs.len() {
         if !is_alike(&xs[i], &ys[i]) {

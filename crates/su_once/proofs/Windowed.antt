@@ -24,7 +24,7 @@ use Rattle.su_window.specs.declared.faults.WindowFault.TheVariants.{Limit, Incon
 use Rattle.su_window.specs.declared.readings.Reading.{Reading}
 use Rattle.su_schema.specs.Cuts.{width, attributes_at}
 use Rattle.su_state.specs.Views.{value_for, taken, view_through, view_of}
-use Rattle.su_state.specs.MoreThan.{AreMoreThan}
+use Rattle.su_rel.specs.MoreThan.{AreMoreThan}
 use Rattle.su_window.specs.Members.{Member, IsMember, AreMembers, HasFew}
 use Rattle.su_window.specs.Window.{Fits, InWindow}
 use Rattle.su_window.specs.Padded.{object_at, row_read, member_read, AreReadings, padded, padded_row, padded_rows}

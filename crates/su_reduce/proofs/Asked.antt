@@ -7,7 +7,7 @@ use Rattle.su_base.specs.declared.values.Value.TheVariants.{Int}
 use Rattle.su_tableau.specs.declared.symbols.Sym.{Sym}
 use Rattle.su_tableau.specs.declared.symbols.Sym.TheVariants.{Const, Var}
 use Rattle.su_tableau.specs.Valuations.{value_of, values_of}
-use Rattle.su_reduce.specs.Shapes.{Fits, cell_at, place_of}
+use Rattle.su_reduce.specs.Shapes.{Fits, cell_at, variable_place}
 use Rattle.su_reduce.specs.inside.Keys.{FitsAt, assigned, value_at}
 use Rattle.su_reduce.proofs.Places.{assigned_is, contains_at}
 
@@ -39,7 +39,7 @@ module _ (cells : List Sym) (xs : List Value) where
       (λ t. asks ∙ (sym (same.0 t) ∙ at), λ f. same.1 (at ∙ (sym f ∙ asks)))
 
   -- a variable asks for the value at its place
-  pub fits_variable : (p k q : ℕ) (r : Bool) → IsTrue r ↔ (value_at xs p ≡ value_at xs q) → cell_at cells p ≡ Var k → q ≡ place_of cells k → IsTrue r ↔ FitsAt cells xs p
+  pub fits_variable : (p k q : ℕ) (r : Bool) → IsTrue r ↔ (value_at xs p ≡ value_at xs q) → cell_at cells p ≡ Var k → q ≡ variable_place cells k → IsTrue r ↔ FitsAt cells xs p
   fits_variable p k q r same is place =
       let asks : value_of (assigned cells xs) (cell_at cells p) ≡ value_at xs q = ap (value_of (assigned cells xs)) is ∙ ap (value_at xs) (sym place) in
       (λ t. asks ∙ sym (same.0 t), λ f. same.1 (sym f ∙ asks))

@@ -10,13 +10,13 @@ use Rattle.su_tableau.proofs.Rows.{below_more}
 use Rattle.su_tableau.specs.declared.symbols.Sym.{Sym}
 use Rattle.su_tableau.specs.declared.symbols.Sym.TheVariants.{Const, Var}
 use Rattle.su_tableau.specs.Valuations.{value_of, values_of}
-use Rattle.su_reduce.specs.Shapes.{cell_at, place_of, AreFirsts}
+use Rattle.su_reduce.specs.Shapes.{cell_at, variable_place, AreFirsts}
 use Rattle.su_reduce.specs.inside.Keys.{value_at, assigned, IsPair, AreShared}
 use Rattle.su_reduce.proofs.MeetingSets.{pushed_each, pushed_length}
 use Rattle.su_reduce.proofs.Exact.{no_variable}
 
 -- the first cell that holds the variable is at its place
-pub place_is : (cells : List Sym) (k n : ℕ) → ((i : ℕ) → i < n → cell_at cells i ≡ Var k → ⊥) → n < length cells → cell_at cells n ≡ Var k → place_of cells k ≡ n
+pub place_is : (cells : List Sym) (k n : ℕ) → ((i : ℕ) → i < n → cell_at cells i ≡ Var k → ⊥) → n < length cells → cell_at cells n ≡ Var k → variable_place cells k ≡ n
 place_is [] k n none l is = absurd (omega (arith, l))
 place_is (Const d ∷ cells) k zero none l is = absurd (no_variable d k is)
 place_is (Var j ∷ cells) k zero none l is = let same : j ≡ k = cc in grind (arith, nat_tests, same)
@@ -27,7 +27,7 @@ place_is (Var j ∷ cells) k (suc n) none l is =
     grind (arith, nat_tests, other, rest)
 
 -- where none holds it, the place is their number
-pub place_none : (cells : List Sym) (k : ℕ) → ((i : ℕ) → i < length cells → cell_at cells i ≡ Var k → ⊥) → place_of cells k ≡ length cells
+pub place_none : (cells : List Sym) (k : ℕ) → ((i : ℕ) → i < length cells → cell_at cells i ≡ Var k → ⊥) → variable_place cells k ≡ length cells
 place_none [] k none = refl
 place_none (Const d ∷ cells) k none = ap suc (place_none cells k (λ i h. none (suc i) (omega (arith, h))))
 place_none (Var j ∷ cells) k none =
@@ -36,7 +36,7 @@ place_none (Var j ∷ cells) k none =
     grind (arith, nat_tests, other, rest)
 
 -- a variable that stands there stands at its place
-pub place_holds : (cells : List Sym) (k : ℕ) → Contains cells (Var k) → (place_of cells k < length cells) × (cell_at cells (place_of cells k) ≡ Var k)
+pub place_holds : (cells : List Sym) (k : ℕ) → Contains cells (Var k) → (variable_place cells k < length cells) × (cell_at cells (variable_place cells k) ≡ Var k)
 place_holds [] k c = absurd (Contains-nil (Var k) c)
 place_holds (Const d ∷ cells) k c =
     ⊎_elim
@@ -45,12 +45,12 @@ place_holds (Const d ∷ cells) k c =
     (Contains-cases (Const d) cells (Var k) c)
 place_holds (Var j ∷ cells) k c =
     ⊎_elim
-    (λ (e : j ≡ k). let here : place_of (Var j ∷ cells) k ≡ 0 = grind (arith, nat_tests, e) in (omega (arith, here), ap (cell_at (Var j ∷ cells)) here ∙ ap Var e))
+    (λ (e : j ≡ k). let here : variable_place (Var j ∷ cells) k ≡ 0 = grind (arith, nat_tests, e) in (omega (arith, here), ap (cell_at (Var j ∷ cells)) here ∙ ap Var e))
     (λ (other : j ≡ k → ⊥).
     let there : Contains cells (Var k) = ⊎_elim (λ (e : Var j ≡ Var k). let same : j ≡ k = cc in absurd (other same)) (λ (t : Contains cells (Var k)). t) (Contains-cases (Var j) cells (Var k) c) in
     let rest = place_holds cells k there in
     let l = rest.0 in
-    let next : place_of (Var j ∷ cells) k ≡ suc (place_of cells k) = grind (arith, nat_tests, other) in
+    let next : variable_place (Var j ∷ cells) k ≡ suc (variable_place cells k) = grind (arith, nat_tests, other) in
     (omega (arith, l, next), ap (cell_at (Var j ∷ cells)) next ∙ rest.1))
     (cases_eq j k)
 
@@ -62,43 +62,43 @@ pub read_value : (v : ℕ → Value) (cells : List Sym) (row : List Value) (p k 
 read_value v cells row p k gives l is = ap (λ (xs : List Value). value_at xs p) (sym gives) ∙ get_or-map (value_of v) cells p (Var 0) (Int (pos 0)) l ∙ ap (value_of v) is
 
 -- a variable's place is the least that holds it
-pub place_least : (cells : List Sym) (k p : ℕ) → p < length cells → cell_at cells p ≡ Var k → place_of cells k ≤ p
+pub place_least : (cells : List Sym) (k p : ℕ) → p < length cells → cell_at cells p ≡ Var k → variable_place cells k ≤ p
 place_least [] k p l is = absurd (omega (arith, l))
 place_least (Const d ∷ cells) k zero l is = absurd (no_variable d k is)
 place_least (Const d ∷ cells) k (suc p) l is = let rest = place_least cells k p (omega (arith, l)) is in omega (arith, rest)
-place_least (Var j ∷ cells) k zero l is = let same : j ≡ k = cc in let here : place_of (Var j ∷ cells) k ≡ 0 = grind (arith, nat_tests, same) in omega (arith, here)
+place_least (Var j ∷ cells) k zero l is = let same : j ≡ k = cc in let here : variable_place (Var j ∷ cells) k ≡ 0 = grind (arith, nat_tests, same) in omega (arith, here)
 place_least (Var j ∷ cells) k (suc p) l is =
     let rest = place_least cells k p (omega (arith, l)) is in
     ⊎_elim
-    (λ (e : j ≡ k). let here : place_of (Var j ∷ cells) k ≡ 0 = grind (arith, nat_tests, e) in omega (arith, here))
-    (λ (other : j ≡ k → ⊥). let next : place_of (Var j ∷ cells) k ≡ suc (place_of cells k) = grind (arith, nat_tests, other) in omega (arith, next, rest))
+    (λ (e : j ≡ k). let here : variable_place (Var j ∷ cells) k ≡ 0 = grind (arith, nat_tests, e) in omega (arith, here))
+    (λ (other : j ≡ k → ⊥). let next : variable_place (Var j ∷ cells) k ≡ suc (variable_place cells k) = grind (arith, nat_tests, other) in omega (arith, next, rest))
     (cases_eq j k)
 
 -- what is read at the places is what the valuation gives
 pub assigned_is : (v : ℕ → Value) (cells : List Sym) (row : List Value) (k : ℕ) → values_of v cells ≡ row → Contains cells (Var k) → assigned cells row k ≡ v k
-assigned_is v cells row k gives c = let at = place_holds cells k c in read_value v cells row (place_of cells k) k gives at.0 at.1
+assigned_is v cells row k gives c = let at = place_holds cells k c in read_value v cells row (variable_place cells k) k gives at.0 at.1
 
 -- the symbol that is read at n
 pub cell_is : (cells : List Sym) (n : ℕ) (x : Sym) → n < length cells → x ≡ get_or cells n x → x ≡ cell_at cells n
 cell_is cells n x l is = is ∙ get_or_default cells n x (Var 0) l
 
 -- where a place is found, the variable stands there
-pub place_found : (cells : List Sym) (k : ℕ) → place_of cells k < length cells → cell_at cells (place_of cells k) ≡ Var k
+pub place_found : (cells : List Sym) (k : ℕ) → variable_place cells k < length cells → cell_at cells (variable_place cells k) ≡ Var k
 place_found [] k l = absurd (omega (arith, l))
 place_found (Const d ∷ cells) k l = place_found cells k (omega (arith, l))
 place_found (Var j ∷ cells) k l =
     ⊎_elim
-    (λ (e : j ≡ k). let here : place_of (Var j ∷ cells) k ≡ 0 = grind (arith, nat_tests, e) in ap (cell_at (Var j ∷ cells)) here ∙ ap Var e)
+    (λ (e : j ≡ k). let here : variable_place (Var j ∷ cells) k ≡ 0 = grind (arith, nat_tests, e) in ap (cell_at (Var j ∷ cells)) here ∙ ap Var e)
     (λ (other : j ≡ k → ⊥).
-    let next : place_of (Var j ∷ cells) k ≡ suc (place_of cells k) = grind (arith, nat_tests, other) in
+    let next : variable_place (Var j ∷ cells) k ≡ suc (variable_place cells k) = grind (arith, nat_tests, other) in
     ap (cell_at (Var j ∷ cells)) next ∙ place_found cells k (omega (arith, l, next)))
     (cases_eq j k)
 
-pub firsts_more : (cells : List Sym) (n : ℕ) (places : List ℕ) (q : ℕ) → AreFirsts cells n places → q < length cells → ((k : ℕ) → cell_at cells n ≡ Var k → q ≡ place_of cells k) → AreFirsts cells (n + 1) (places ++ q ∷ [])
+pub firsts_more : (cells : List Sym) (n : ℕ) (places : List ℕ) (q : ℕ) → AreFirsts cells n places → q < length cells → ((k : ℕ) → cell_at cells n ≡ Var k → q ≡ variable_place cells k) → AreFirsts cells (n + 1) (places ++ q ∷ [])
 firsts_more cells n places q so_far low is = record {
   same_length = pushed_length places q n so_far.same_length;
   below = pushed_each (λ i p. p < length cells) 0 places q n so_far.same_length so_far.below low;
-  is_place = λ p k l. pushed_each (λ i r. cell_at cells i ≡ Var k → r ≡ place_of cells k) 0 places q n so_far.same_length (λ i h. so_far.is_place i k h) (is k) p l;
+  is_place = λ p k l. pushed_each (λ i r. cell_at cells i ≡ Var k → r ≡ variable_place cells k) 0 places q n so_far.same_length (λ i h. so_far.is_place i k h) (is k) p l;
 }
 
 -- the first place of a variable has the value that the valuation gives it
@@ -112,7 +112,7 @@ first_value v cells firsts row p x first k are l gives x_is first_is var =
 pub same_var : (x : Sym) (j k : ℕ) → x ≡ Var j → x ≡ Var k → j ≡ k
 same_var x j k a b = cc
 
-pub shared_none : (left right : List Sym) (p k : ℕ) (ls rs : List ℕ) → AreShared left right p ls rs → cell_at left p ≡ Var k → length right ≤ place_of right k → AreShared left right (p + 1) ls rs
+pub shared_none : (left right : List Sym) (p k : ℕ) (ls rs : List ℕ) → AreShared left right p ls rs → cell_at left p ≡ Var k → length right ≤ variable_place right k → AreShared left right (p + 1) ls rs
 shared_none left right p k ls rs so_far is high = record {
   same_length = so_far.same_length;
   left_below = so_far.left_below;
@@ -123,7 +123,7 @@ shared_none left right p k ls rs so_far is high = record {
       q l;
 }
 
-module _ (left right : List Sym) (p k q : ℕ) (ls rs : List ℕ) (so_far : AreShared left right p ls rs) (low : p < length left) (is : cell_at left p ≡ Var k) (q_is : q ≡ place_of right k) (q_low : q < length right) where
+module _ (left right : List Sym) (p k q : ℕ) (ls rs : List ℕ) (so_far : AreShared left right p ls rs) (low : p < length left) (is : cell_at left p ≡ Var k) (q_is : q ≡ variable_place right k) (q_low : q < length right) where
   longer : length (ls ++ p ∷ []) ≡ length ls + 1
   longer = pushed_length ls p (length ls) refl
 

@@ -6,13 +6,13 @@ use Rattle.std.proofs.lemmas.List.{get_or_append_left, get_or_push, length_push,
 use Rattle.std.proofs.lemmas.List.Elements.{Contains-get_or}
 use Rattle.su_tableau.specs.declared.symbols.Sym.{Sym}
 use Rattle.su_tableau.specs.declared.symbols.Sym.TheVariants.{Var}
-use Rattle.su_reduce.specs.Shapes.{IsShapeOf, cell_at, place_of}
+use Rattle.su_reduce.specs.Shapes.{IsShapeOf, cell_at, variable_place}
 use Rattle.su_reduce.proofs.Places.{contains_at, firsts_more, place_holds, place_least, same_var}
 
 -- ---- one cell more
 
 -- the cell adds no variable
-pub shape_on : (cells : List Sym) (n q : ℕ) (vars firsts places : List ℕ) → IsShapeOf cells n vars firsts places → q < length cells → ((k : ℕ) → cell_at cells n ≡ Var k → q ≡ place_of cells k) → ((k : ℕ) → cell_at cells n ≡ Var k → Contains vars k) → IsShapeOf cells (n + 1) vars firsts (places ++ q ∷ [])
+pub shape_on : (cells : List Sym) (n q : ℕ) (vars firsts places : List ℕ) → IsShapeOf cells n vars firsts places → q < length cells → ((k : ℕ) → cell_at cells n ≡ Var k → q ≡ variable_place cells k) → ((k : ℕ) → cell_at cells n ≡ Var k → Contains vars k) → IsShapeOf cells (n + 1) vars firsts (places ++ q ∷ [])
 shape_on cells n q vars firsts places shape low is here = record {
   differ = shape.differ;
   each = λ k. (
@@ -29,13 +29,13 @@ shape_on cells n q vars firsts places shape low is here = record {
 }
 
 -- a variable whose place is before the cell is there already
-pub shape_again : (cells : List Sym) (n k : ℕ) (vars firsts places : List ℕ) → IsShapeOf cells n vars firsts places → n < length cells → cell_at cells n ≡ Var k → (place_of cells k ≡ n → ⊥) → Contains vars k
+pub shape_again : (cells : List Sym) (n k : ℕ) (vars firsts places : List ℕ) → IsShapeOf cells n vars firsts places → n < length cells → cell_at cells n ≡ Var k → (variable_place cells k ≡ n → ⊥) → Contains vars k
 shape_again cells n k vars firsts places shape low is other =
     let most = place_least cells k n low is in
-    (shape.each k).1 (place_of cells k, omega (arith, most, other), (place_holds cells k (contains_at cells n k low is)).1)
+    (shape.each k).1 (variable_place cells k, omega (arith, most, other), (place_holds cells k (contains_at cells n k low is)).1)
 
 -- a variable whose place is the cell is new
-pub shape_new : (cells : List Sym) (n k : ℕ) (vars firsts places : List ℕ) → IsShapeOf cells n vars firsts places → n < length cells → cell_at cells n ≡ Var k → place_of cells k ≡ n → IsShapeOf cells (n + 1) (vars ++ k ∷ []) (firsts ++ n ∷ []) (places ++ n ∷ [])
+pub shape_new : (cells : List Sym) (n k : ℕ) (vars firsts places : List ℕ) → IsShapeOf cells n vars firsts places → n < length cells → cell_at cells n ≡ Var k → variable_place cells k ≡ n → IsShapeOf cells (n + 1) (vars ++ k ∷ []) (firsts ++ n ∷ []) (places ++ n ∷ [])
 shape_new cells n k vars firsts places shape low is first =
     let none : Contains vars k → ⊥ = λ c.
     let x = (shape.each k).0 c in
@@ -79,8 +79,8 @@ shape_new cells n k vars firsts places shape low is first =
             (length vars, omega (arith, long), get_or_push vars k y (length vars) refl ∙ it))
             (cases_lt x.0 n),
       );
-      firsts_are = ap (λ ps. ps ++ n ∷ []) shape.firsts_are ∙ (ap (λ p. map (place_of cells) vars ++ p ∷ []) (sym first) ∙ sym (map_push (place_of cells) vars k));
-      places_are = firsts_more cells n places n shape.places_are low (λ j other. sym first ∙ ap (place_of cells) (same_var (cell_at cells n) k j is other));
+      firsts_are = ap (λ ps. ps ++ n ∷ []) shape.firsts_are ∙ (ap (λ p. map (variable_place cells) vars ++ p ∷ []) (sym first) ∙ sym (map_push (variable_place cells) vars k));
+      places_are = firsts_more cells n places n shape.places_are low (λ j other. sym first ∙ ap (variable_place cells) (same_var (cell_at cells n) k j is other));
     }
 
 -- ---- what a shape says
@@ -88,7 +88,7 @@ shape_new cells n k vars firsts places shape low is first =
 module _ (cells : List Sym) (n : ℕ) (vars firsts places : List ℕ) (shape : IsShapeOf cells n vars firsts places) where
   -- each variable has a place
   pub shape_length : length firsts ≡ length vars
-  shape_length = ap length shape.firsts_are ∙ length-map vars (place_of cells)
+  shape_length = ap length shape.firsts_are ∙ length-map vars (variable_place cells)
 
-  pub first_at : (j d : ℕ) → j < length vars → get_or firsts j d ≡ place_of cells (get_or vars j 0)
-  first_at j d l = ap (λ ps. get_or ps j d) shape.firsts_are ∙ get_or-map (place_of cells) vars j 0 d l
+  pub first_at : (j d : ℕ) → j < length vars → get_or firsts j d ≡ variable_place cells (get_or vars j 0)
+  first_at j d l = ap (λ ps. get_or ps j d) shape.firsts_are ∙ get_or-map (variable_place cells) vars j 0 d l

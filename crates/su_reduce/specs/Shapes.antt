@@ -6,32 +6,29 @@ use Rattle.su_base.specs.declared.values.Value.{Value}
 use Rattle.su_base.specs.declared.values.Value.TheVariants.{Int}
 use Rattle.su_tableau.specs.declared.symbols.Sym.{Sym}
 use Rattle.su_tableau.specs.declared.symbols.Sym.TheVariants.{Const, Var}
-use Rattle.su_tableau.specs.Valuations.{values_of}
+use Rattle.su_tableau.specs.Valuations.{values_at, values_of}
+pub use Rattle.su_tableau.specs.Parts.{cell_at}
 use Rattle.su_reduce.specs.declared.shapes.Columns.{Columns}
 use Rattle.su_reduce.specs.declared.shapes.Columns.TheVariants.{Whole, Listed}
 use Rattle.su_reduce.specs.declared.shapes.Shape.{Shape}
 
--- cell c
-abbrev pub cell_at : List Sym → ℕ → Sym
-cell_at cells c = get_or cells c (Var 0)
-
 -- the place of a variable; their number where no cell holds it
-abbrev pub place_of : List Sym → ℕ → ℕ
-place_of [] k = 0
-place_of (Const c ∷ cells) k = suc (place_of cells k)
-place_of (Var j ∷ cells) k = cond (nat_eq j k) 0 (suc (place_of cells k))
+abbrev pub variable_place : List Sym → ℕ → ℕ
+variable_place [] k = 0
+variable_place (Const c ∷ cells) k = suc (variable_place cells k)
+variable_place (Var j ∷ cells) k = cond (nat_eq j k) 0 (suc (variable_place cells k))
 
 -- for each of the first n cells the place of its variable
 pub record AreFirsts (cells : List Sym) (n : ℕ) (places : List ℕ) : Type 0 where
   pub same_length : length places ≡ n
   pub below : (p : ℕ) → p < n → get_or places p 0 < length cells
-  pub is_place : (p k : ℕ) → p < n → cell_at cells p ≡ Var k → get_or places p 0 ≡ place_of cells k
+  pub is_place : (p k : ℕ) → p < n → cell_at cells p ≡ Var k → get_or places p 0 ≡ variable_place cells k
 
 -- the variables of the first n cells, each once, their places, and for each of these cells the place of its variable
 pub record IsShapeOf (cells : List Sym) (n : ℕ) (vars firsts places : List ℕ) : Type 0 where
   pub differ : (i j : ℕ) → i < j → j < length vars → ¬ (get_or vars i 0 ≡ get_or vars j 0)
   pub each : (k : ℕ) → Contains vars k ↔ ((p : ℕ) × (p < n) × (cell_at cells p ≡ Var k))
-  pub firsts_are : firsts ≡ map (place_of cells) vars
+  pub firsts_are : firsts ≡ map (variable_place cells) vars
   pub places_are : AreFirsts cells n places
 
 -- the shape of the cells
@@ -41,7 +38,7 @@ IsShape cells shape = IsShapeOf cells (length cells) shape.vars.items shape.firs
 -- the values of a row in these columns
 abbrev pub values_in : Columns → List Value → List Value
 values_in Whole row = row
-values_in (Listed listed) row = map (λ column. get_or row column (Int (pos 0))) listed.now
+values_in (Listed listed) row = values_at listed.now row
 
 -- the row has these columns
 abbrev pub HasColumns : Columns → List Value → Type 0

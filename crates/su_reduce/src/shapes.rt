@@ -2,7 +2,7 @@
 ghost use Rattle.std.specs.Prelude.{◌≡◌, ◌↔◌, ◌<◌, ◌+◌, ℕ, pos, IsTrue, IfOk, MatchOption, length, get_or};
 ghost use Rattle.su_base.specs.declared.values.Value.TheVariants.{Int};
 ghost use Rattle.su_tableau.specs.declared.symbols.Sym.TheVariants.{Var};
-ghost use Rattle.su_reduce.specs.Shapes.{Fits, HasColumns, IsShape, IsShapeOf, place_of, values_in};
+ghost use Rattle.su_reduce.specs.Shapes.{Fits, HasColumns, IsShape, IsShapeOf, variable_place, values_in};
 ghost use Rattle.su_reduce.specs.inside.Keys.{FitsAt, value_at};
 
 use std::alloc::{AllocError, Global};
@@ -47,7 +47,7 @@ fn is_var(x: &Sym, k: u32) -> bool
 
 /// The place of the variable; the number of cells where none holds it.
 pub fn place(cells: &[Sym], k: u32) -> usize
-    ensures { result ≡ place_of cells.now k }
+    ensures { result ≡ variable_place cells.now k }
 {
     for p in 0..cells.len() {
         if is_var(&cells[p], k) {

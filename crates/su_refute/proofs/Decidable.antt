@@ -8,7 +8,7 @@ use Rattle.su_tableau.specs.declared.symbols.Sym.{Sym}
 use Rattle.su_tableau.specs.declared.symbols.Sym.TheVariants.{Const, Var}
 use Rattle.su_tableau.proofs.Same.{value_same}
 use Rattle.su_check.specs.declared.sending.Sent.{Sent}
-use Rattle.su_check.specs.inside.Cells.{cell, is_const}
+use Rattle.su_check.specs.inside.Cells.{cell_at, is_const}
 use Rattle.su_check.specs.inside.Agreement.{KeepsConstants, Gives, GoAlike, Goes, AgreesWith}
 use Rattle.su_check.specs.SentRows.{Lines, numbered_row, AreSent, sent_too}
 use Rattle.su_check.specs.Refutations.{IsOpen, IsFitting}
@@ -83,14 +83,14 @@ decided_contains (x ∷ xs) j =
 
 decided_agree : (xs us ys vs : List Sym) → Decided (GoAlike xs us ys vs)
 decided_agree xs us ys vs =
-    decided_below (λ c. Gives (cell xs c) (cell us c) ys vs) (length xs) (λ c hc.
-    decided_below (λ e. cell xs c ≡ cell ys e → cell us c ≡ cell vs e) (length ys) (λ e he.
-    decided_implies (cell xs c ≡ cell ys e) (cell us c ≡ cell vs e) (decided_symbols (cell xs c) (cell ys e)) (decided_symbols (cell us c) (cell vs e))))
+    decided_below (λ c. Gives (cell_at xs c) (cell_at us c) ys vs) (length xs) (λ c hc.
+    decided_below (λ e. cell_at xs c ≡ cell_at ys e → cell_at us c ≡ cell_at vs e) (length ys) (λ e he.
+    decided_implies (cell_at xs c ≡ cell_at ys e) (cell_at us c ≡ cell_at vs e) (decided_symbols (cell_at xs c) (cell_at ys e)) (decided_symbols (cell_at us c) (cell_at vs e))))
 
 decided_keeps : (xs us : List Sym) → Decided (KeepsConstants xs us)
 decided_keeps xs us =
-    decided_below (λ c. is_const (cell xs c) ≡ true → cell xs c ≡ cell us c) (length xs) (λ c hc.
-    decided_implies (is_const (cell xs c) ≡ true) (cell xs c ≡ cell us c) (decided_true (is_const (cell xs c))) (decided_symbols (cell xs c) (cell us c)))
+    decided_below (λ c. is_const (cell_at xs c) ≡ true → cell_at xs c ≡ cell_at us c) (length xs) (λ c hc.
+    decided_implies (is_const (cell_at xs c) ≡ true) (cell_at xs c ≡ cell_at us c) (decided_true (is_const (cell_at xs c))) (decided_symbols (cell_at xs c) (cell_at us c)))
   where
     decided_true : (b : Bool) → Decided (b ≡ true)
     decided_true b = ⊎_elim (λ (t : b ≡ true). inl t) (λ f. inr (λ t. true≢false (sym t ∙ f))) (cases_Bool b)

@@ -12,7 +12,7 @@ use Rattle.su_tableau.specs.declared.symbols.Sym.{Sym}
 use Rattle.su_tableau.specs.declared.symbols.Sym.TheVariants.{Var}
 use Rattle.su_tableau.specs.Tableaux.{Tab, IsValid}
 use Rattle.su_map.specs.Lists.{row_of}
-use Rattle.su_check.specs.inside.Cells.{cell}
+use Rattle.su_check.specs.inside.Cells.{cell_at}
 use Rattle.su_check.specs.inside.Agreement.{GoAlike, Goes}
 use Rattle.su_refute.specs.declared.places.Places.{Places}
 use Rattle.su_refute.specs.inside.Nets.{AreWithin, AreShared, AgreeAt, IsSetOf, IsTold}
@@ -25,23 +25,23 @@ shared_within xs ys n m places h en em =
 
 pub at_agree : (xs us ys vs : List Sym) (places : List Places) → AreShared xs ys places → AgreeAt places us vs → GoAlike xs us ys vs
 at_agree xs us ys vs places h all c hc e he same =
-    All-contains (λ x. cell us x.first ≡ cell vs x.second) places (record { first = c; second = e }) all ((h (record { first = c; second = e })).1 (hc, he, same))
+    All-contains (λ x. cell_at us x.first ≡ cell_at vs x.second) places (record { first = c; second = e }) all ((h (record { first = c; second = e })).1 (hc, he, same))
 
 pub agree_at : (xs us ys vs : List Sym) (places : List Places) → AreShared xs ys places → GoAlike xs us ys vs → AgreeAt places us vs
 agree_at xs us ys vs places h agree =
-    All-members (λ x. cell us x.first ≡ cell vs x.second) places (λ x has. let s = (h x).0 has in agree x.first s.0 x.second s.1 s.2)
+    All-members (λ x. cell_at us x.first ≡ cell_at vs x.second) places (λ x has. let s = (h x).0 has in agree x.first s.0 x.second s.1 s.2)
 
 -- ---- places, one after another
 
 -- the symbol at an index
-pub at_cell : (ys : List Sym) (n : ℕ) (y : Sym) → y ≡ get_or ys n y → n < length ys → y ≡ cell ys n
+pub at_cell : (ys : List Sym) (n : ℕ) (y : Sym) → y ≡ get_or ys n y → n < length ys → y ≡ cell_at ys n
 at_cell ys n y is h = is ∙ get_or_default ys n y (Var 0) h
 
 abbrev places_at : ℕ → ℕ → Places
 places_at f k = record { first = f; second = k }
 
-pub places_more : (old now : List Places) (first : ℕ) (x : Sym) (ys : List Sym) (n : ℕ) → x ≡ cell ys n → ((p : Places) → Contains now p ↔ (Contains old p ⊎ ((p.first ≡ first) × (p.second < n) × (x ≡ cell ys p.second))))
-    → (p : Places) → Contains (now ++ record { first = first; second = n } ∷ []) p ↔ (Contains old p ⊎ ((p.first ≡ first) × (p.second < n + 1) × (x ≡ cell ys p.second)))
+pub places_more : (old now : List Places) (first : ℕ) (x : Sym) (ys : List Sym) (n : ℕ) → x ≡ cell_at ys n → ((p : Places) → Contains now p ↔ (Contains old p ⊎ ((p.first ≡ first) × (p.second < n) × (x ≡ cell_at ys p.second))))
+    → (p : Places) → Contains (now ++ record { first = first; second = n } ∷ []) p ↔ (Contains old p ⊎ ((p.first ≡ first) × (p.second < n + 1) × (x ≡ cell_at ys p.second)))
 places_more old now first x ys n same h p =
     let new : Places = record { first = first; second = n } in (
       λ has.
@@ -49,14 +49,14 @@ places_more old now first x ys n same h p =
           (λ (before : Contains now p).
           ⊎_elim
           (λ (o : Contains old p). inl o)
-          (λ (o : (p.first ≡ first) × (p.second < n) × (x ≡ cell ys p.second)). let l = o.1 in inr (o.0, omega arith, o.2))
+          (λ (o : (p.first ≡ first) × (p.second < n) × (x ≡ cell_at ys p.second)). let l = o.1 in inr (o.0, omega arith, o.2))
           ((h p).0 before))
-          (λ (e : new ≡ p). inr (ap (λ (p : Places). p.first) (sym e), (let s = ap (λ (p : Places). p.second) e in omega arith), same ∙ ap (λ (p : Places). cell ys p.second) e))
+          (λ (e : new ≡ p). inr (ap (λ (p : Places). p.first) (sym e), (let s = ap (λ (p : Places). p.second) e in omega arith), same ∙ ap (λ (p : Places). cell_at ys p.second) e))
           (Contains-push_cases now new p has),
       λ f.
           ⊎_elim
           (λ (o : Contains old p). Contains-append_left now (new ∷ []) p ((h p).1 (inl o)))
-          (λ (o : (p.first ≡ first) × (p.second < n + 1) × (x ≡ cell ys p.second)).
+          (λ (o : (p.first ≡ first) × (p.second < n + 1) × (x ≡ cell_at ys p.second)).
           let l = o.1 in
           ⊎_elim
           (λ (lt : p.second < n). Contains-append_left now (new ∷ []) p ((h p).1 (inr (o.0, lt, o.2))))
@@ -68,51 +68,51 @@ places_more old now first x ys n same h p =
           f,
     )
 
-pub places_pushed : (old now new : List Places) (first : ℕ) (x : Sym) (ys : List Sym) (n : ℕ) → new ≡ now ++ record { first = first; second = n } ∷ [] → x ≡ cell ys n → ((p : Places) → Contains now p ↔ (Contains old p ⊎ ((p.first ≡ first) × (p.second < n) × (x ≡ cell ys p.second))))
-    → (p : Places) → Contains new p ↔ (Contains old p ⊎ ((p.first ≡ first) × (p.second < n + 1) × (x ≡ cell ys p.second)))
+pub places_pushed : (old now new : List Places) (first : ℕ) (x : Sym) (ys : List Sym) (n : ℕ) → new ≡ now ++ record { first = first; second = n } ∷ [] → x ≡ cell_at ys n → ((p : Places) → Contains now p ↔ (Contains old p ⊎ ((p.first ≡ first) × (p.second < n) × (x ≡ cell_at ys p.second))))
+    → (p : Places) → Contains new p ↔ (Contains old p ⊎ ((p.first ≡ first) × (p.second < n + 1) × (x ≡ cell_at ys p.second)))
 places_pushed old now new first x ys n is same h =
-    subst (λ (ps : List Places). (p : Places) → Contains ps p ↔ (Contains old p ⊎ ((p.first ≡ first) × (p.second < n + 1) × (x ≡ cell ys p.second)))) (sym is) (places_more old now first x ys n same h)
+    subst (λ (ps : List Places). (p : Places) → Contains ps p ↔ (Contains old p ⊎ ((p.first ≡ first) × (p.second < n + 1) × (x ≡ cell_at ys p.second)))) (sym is) (places_more old now first x ys n same h)
 
-pub places_same : (old now : List Places) (first : ℕ) (x : Sym) (ys : List Sym) (n : ℕ) → (x ≡ cell ys n → ⊥) → ((p : Places) → Contains now p ↔ (Contains old p ⊎ ((p.first ≡ first) × (p.second < n) × (x ≡ cell ys p.second))))
-    → (p : Places) → Contains now p ↔ (Contains old p ⊎ ((p.first ≡ first) × (p.second < n + 1) × (x ≡ cell ys p.second)))
+pub places_same : (old now : List Places) (first : ℕ) (x : Sym) (ys : List Sym) (n : ℕ) → (x ≡ cell_at ys n → ⊥) → ((p : Places) → Contains now p ↔ (Contains old p ⊎ ((p.first ≡ first) × (p.second < n) × (x ≡ cell_at ys p.second))))
+    → (p : Places) → Contains now p ↔ (Contains old p ⊎ ((p.first ≡ first) × (p.second < n + 1) × (x ≡ cell_at ys p.second)))
 places_same old now first x ys n other h p = (
   λ has.
       ⊎_elim
       (λ (o : Contains old p). inl o)
-      (λ (o : (p.first ≡ first) × (p.second < n) × (x ≡ cell ys p.second)). let l = o.1 in inr (o.0, omega arith, o.2))
+      (λ (o : (p.first ≡ first) × (p.second < n) × (x ≡ cell_at ys p.second)). let l = o.1 in inr (o.0, omega arith, o.2))
       ((h p).0 has),
   λ f.
       ⊎_elim
       (λ (o : Contains old p). (h p).1 (inl o))
-      (λ (o : (p.first ≡ first) × (p.second < n + 1) × (x ≡ cell ys p.second)).
+      (λ (o : (p.first ≡ first) × (p.second < n + 1) × (x ≡ cell_at ys p.second)).
       let l = o.1 in
       ⊎_elim
       (λ (lt : p.second < n). (h p).1 (inr (o.0, lt, o.2)))
-      (λ (le : n ≤ p.second). let e : p.second ≡ n = omega arith in absurd (other (o.2 ∙ ap (cell ys) e)))
+      (λ (le : n ≤ p.second). let e : p.second ≡ n = omega arith in absurd (other (o.2 ∙ ap (cell_at ys) e)))
       (cases_lt p.second n))
       f,
 )
 
-pub places_kept : (old now new : List Places) (first : ℕ) (x : Sym) (ys : List Sym) (n : ℕ) → new ≡ now → (x ≡ cell ys n → ⊥) → ((p : Places) → Contains now p ↔ (Contains old p ⊎ ((p.first ≡ first) × (p.second < n) × (x ≡ cell ys p.second))))
-    → (p : Places) → Contains new p ↔ (Contains old p ⊎ ((p.first ≡ first) × (p.second < n + 1) × (x ≡ cell ys p.second)))
+pub places_kept : (old now new : List Places) (first : ℕ) (x : Sym) (ys : List Sym) (n : ℕ) → new ≡ now → (x ≡ cell_at ys n → ⊥) → ((p : Places) → Contains now p ↔ (Contains old p ⊎ ((p.first ≡ first) × (p.second < n) × (x ≡ cell_at ys p.second))))
+    → (p : Places) → Contains new p ↔ (Contains old p ⊎ ((p.first ≡ first) × (p.second < n + 1) × (x ≡ cell_at ys p.second)))
 places_kept old now new first x ys n is other h =
-    subst (λ (ps : List Places). (p : Places) → Contains ps p ↔ (Contains old p ⊎ ((p.first ≡ first) × (p.second < n + 1) × (x ≡ cell ys p.second)))) (sym is) (places_same old now first x ys n other h)
+    subst (λ (ps : List Places). (p : Places) → Contains ps p ↔ (Contains old p ⊎ ((p.first ≡ first) × (p.second < n + 1) × (x ≡ cell_at ys p.second)))) (sym is) (places_same old now first x ys n other h)
 
 -- the places of one symbol more
-pub shared_more : (xs ys : List Sym) (old now : List Places) (n : ℕ) (x : Sym) → x ≡ cell xs n → ((p : Places) → Contains old p ↔ ((p.first < n) × (p.second < length ys) × (cell xs p.first ≡ cell ys p.second)))
-    → ((p : Places) → Contains now p ↔ (Contains old p ⊎ ((p.first ≡ n) × (p.second < length ys) × (x ≡ cell ys p.second))))
-    → (p : Places) → Contains now p ↔ ((p.first < n + 1) × (p.second < length ys) × (cell xs p.first ≡ cell ys p.second))
+pub shared_more : (xs ys : List Sym) (old now : List Places) (n : ℕ) (x : Sym) → x ≡ cell_at xs n → ((p : Places) → Contains old p ↔ ((p.first < n) × (p.second < length ys) × (cell_at xs p.first ≡ cell_at ys p.second)))
+    → ((p : Places) → Contains now p ↔ (Contains old p ⊎ ((p.first ≡ n) × (p.second < length ys) × (x ≡ cell_at ys p.second))))
+    → (p : Places) → Contains now p ↔ ((p.first < n + 1) × (p.second < length ys) × (cell_at xs p.first ≡ cell_at ys p.second))
 shared_more xs ys old now n x is before h p = (
   λ has.
       ⊎_elim
       (λ (o : Contains old p). let b = (before p).0 o in let l = b.0 in (omega arith, b.1, b.2))
-      (λ (o : (p.first ≡ n) × (p.second < length ys) × (x ≡ cell ys p.second)). let e = o.0 in (omega arith, o.1, ap (cell xs) e ∙ sym is ∙ o.2))
+      (λ (o : (p.first ≡ n) × (p.second < length ys) × (x ≡ cell_at ys p.second)). let e = o.0 in (omega arith, o.1, ap (cell_at xs) e ∙ sym is ∙ o.2))
       ((h p).0 has),
   λ f.
       let l = f.0 in
       ⊎_elim
       (λ (lt : p.first < n). (h p).1 (inl ((before p).1 (lt, f.1, f.2))))
-      (λ (le : n ≤ p.first). let e : p.first ≡ n = omega arith in (h p).1 (inr (e, f.1, is ∙ ap (cell xs) (sym e) ∙ f.2)))
+      (λ (le : n ≤ p.first). let e : p.first ≡ n = omega arith in (h p).1 (inr (e, f.1, is ∙ ap (cell_at xs) (sym e) ∙ f.2)))
       (cases_lt p.first n),
 )
 

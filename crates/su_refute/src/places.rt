@@ -1,6 +1,6 @@
 //! Where two lists of symbols hold one symbol.
 ghost use Rattle.std.specs.Prelude.{◌≡◌, ◌<◌, ◌↔◌, ◌⊎◌, IfOk, OnOk, IsTrue, length, Contains};
-ghost use Rattle.su_check.specs.inside.Cells.{cell};
+ghost use Rattle.su_check.specs.inside.Cells.{cell_at};
 ghost use Rattle.su_refute.specs.declared.places.Places.{Places as APlaces};
 ghost use Rattle.su_refute.specs.inside.Nets.{AreWithin, AreShared, AgreeAt};
 
@@ -17,7 +17,7 @@ pub struct Places {
 
 /// Adds the places of the symbol, which stands at `first`.
 fn add_places(places: &mut List<Places>, first: usize, x: &Sym, ys: &[Sym]) -> Result<(), NoMemory>
-    ensures { OnOk result ((p : APlaces) → Contains places.new p ↔ (Contains places.old p ⊎ ((p.first ≡ first) × (p.second < length ys.now) × (x.now ≡ cell ys.now p.second)))) }
+    ensures { OnOk result ((p : APlaces) → Contains places.new p ↔ (Contains places.old p ⊎ ((p.first ≡ first) × (p.second < length ys.now) × (x.now ≡ cell_at ys.now p.second)))) }
 {
     for second in 0..ys.len() {
         if x.same(&ys[second]) {

@@ -10,7 +10,7 @@ PutIn old row new = (Contains old row × (new ≡ old)) ⊎ ((¬ Contains old ro
 
 -- a row is put in, and it is told whether it is new; one that was there changes nothing
 abbrev pub TellsNew : Bool → Stored → List Value → Stored → Type 0
-TellsNew new old row now = MatchBool new ((¬ Contains old.rows row) × (now.rows ≡ old.rows ++ row ∷ [])) (Contains old.rows row × (now ≡ old))
+TellsNew is_new old row new = MatchBool is_new ((¬ Contains old.rows row) × (new.rows ≡ old.rows ++ row ∷ [])) (Contains old.rows row × (new ≡ old))
 
 -- rows are put in one after another
 abbrev pub PutInAll : List (List Value) → List (List Value) → List (List Value) → Type 0

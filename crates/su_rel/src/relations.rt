@@ -95,7 +95,7 @@ impl Relation {
     pub fn insert(&mut self, row: Row) -> Result<bool, (Row, NoMemory)>
         requires { length row ≡ self.old.width }
         ensures width { self.new.width ≡ self.old.width }
-        ensures ok { IfOk result (λ new. TellsNew new self.old row self.new) }
+        ensures ok { IfOk result (λ is_new. TellsNew is_new self.old row self.new) }
         ensures unchanged { OnErr result (self.new ≡ self.old) }
         ensures handed_back { IfErr result (λ e. e.0 ≡ row) }
     {

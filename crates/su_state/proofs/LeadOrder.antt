@@ -11,18 +11,18 @@ use Rattle.su_base.specs.declared.values.Value.{Value}
 use Rattle.su_base.specs.declared.values.Value.TheVariants.{Int, Text}
 use Rattle.su_base.specs.Value.{compare_values}
 use Rattle.su_base.proofs.Rows.{values_total, equal_values}
-use Rattle.su_state.specs.inside.Leads.{lead_of_number, lead_of_bytes, IsSortLead, IsRowLead}
+use Rattle.su_state.specs.inside.Leads.{sort_lead_of_number, sort_lead_of_bytes, IsSortLead, IsRowLead}
 
 -- the seven bytes written out
-pub lead_of_bytes-seven : (s : List ℕ) → lead_of_bytes 7 s ≡ (((slice_index s 0 * 256 + slice_index s 1) * 256 + slice_index s 2) * 16777216 + ((slice_index s 3 * 256 + slice_index s 4) * 256 + slice_index s 5)) * 256 + slice_index s 6
-lead_of_bytes-seven [] = refl
-lead_of_bytes-seven (a ∷ []) = omega arith
-lead_of_bytes-seven (a ∷ b ∷ []) = omega arith
-lead_of_bytes-seven (a ∷ b ∷ c ∷ []) = omega arith
-lead_of_bytes-seven (a ∷ b ∷ c ∷ d ∷ []) = omega arith
-lead_of_bytes-seven (a ∷ b ∷ c ∷ d ∷ e ∷ []) = omega arith
-lead_of_bytes-seven (a ∷ b ∷ c ∷ d ∷ e ∷ f ∷ []) = omega arith
-lead_of_bytes-seven (a ∷ b ∷ c ∷ d ∷ e ∷ f ∷ g ∷ s) = omega arith
+pub sort_lead_of_bytes-seven : (s : List ℕ) → sort_lead_of_bytes 7 s ≡ (((slice_index s 0 * 256 + slice_index s 1) * 256 + slice_index s 2) * 16777216 + ((slice_index s 3 * 256 + slice_index s 4) * 256 + slice_index s 5)) * 256 + slice_index s 6
+sort_lead_of_bytes-seven [] = refl
+sort_lead_of_bytes-seven (a ∷ []) = omega arith
+sort_lead_of_bytes-seven (a ∷ b ∷ []) = omega arith
+sort_lead_of_bytes-seven (a ∷ b ∷ c ∷ []) = omega arith
+sort_lead_of_bytes-seven (a ∷ b ∷ c ∷ d ∷ []) = omega arith
+sort_lead_of_bytes-seven (a ∷ b ∷ c ∷ d ∷ e ∷ []) = omega arith
+sort_lead_of_bytes-seven (a ∷ b ∷ c ∷ d ∷ e ∷ f ∷ []) = omega arith
+sort_lead_of_bytes-seven (a ∷ b ∷ c ∷ d ∷ e ∷ f ∷ g ∷ s) = omega arith
 
 suc_times : (x w : ℕ) → (x + 1) * w ≡ x * w + w
 suc_times x w = grind arith
@@ -31,12 +31,12 @@ pow_some : (k : ℕ) → 0 < 256 ^ k
 pow_some zero = omega arith
 pow_some (suc k) = omega (arith, pow-suc 256 k, pow_some k)
 
-bytes_less : (k : ℕ) (s : List ℕ) → All (λ b. b < 256) s → lead_of_bytes k s < 256 ^ k
+bytes_less : (k : ℕ) (s : List ℕ) → All (λ b. b < 256) s → sort_lead_of_bytes k s < 256 ^ k
 bytes_less zero s all = omega arith
 bytes_less (suc k) [] all = pow_some (suc k)
 bytes_less (suc k) (b ∷ s) all =
     let h : b < 256 = All-head (λ x. x < 256) b s all in
-    let t : lead_of_bytes k s < 256 ^ k = bytes_less k s (All-tail (λ x. x < 256) b s all) in
+    let t : sort_lead_of_bytes k s < 256 ^ k = bytes_less k s (All-tail (λ x. x < 256) b s all) in
     let p : 256 ^ suc k ≡ 256 ^ k * 256 = pow-suc 256 k in
     let q : b * 256 ^ k ≤ 255 * 256 ^ k = mul-le-mul_right (256 ^ k) (omega arith) in
     omega (arith, h, t, p, q)
@@ -47,12 +47,12 @@ less_of x y e = grind (arith, nat_tests, e)
 equal_of : (x y : ℕ) → nat_cmp x y ≡ Equal → x ≡ y
 equal_of x y e = grind (arith, nat_tests, e)
 
-bytes_rise : (k : ℕ) (s t : List ℕ) → All (λ b. b < 256) s → All (λ b. b < 256) t → slice_cmp nat_cmp s t ≡ Less → lead_of_bytes k s ≤ lead_of_bytes k t
+bytes_rise : (k : ℕ) (s t : List ℕ) → All (λ b. b < 256) s → All (λ b. b < 256) t → slice_cmp nat_cmp s t ≡ Less → sort_lead_of_bytes k s ≤ sort_lead_of_bytes k t
 bytes_rise zero s t a b e = omega arith
 bytes_rise (suc k) [] t a b e = omega arith
 bytes_rise (suc k) (x ∷ s) [] a b e = absurd (cc)
 bytes_rise (suc k) (x ∷ s) (y ∷ t) a b e =
-    elim (nat_cmp x y) as (λ o. nat_cmp x y ≡ o → ordering_then o (slice_cmp nat_cmp s t) ≡ Less → x * 256 ^ k + lead_of_bytes k s ≤ y * 256 ^ k + lead_of_bytes k t) [
+    elim (nat_cmp x y) as (λ o. nat_cmp x y ≡ o → ordering_then o (slice_cmp nat_cmp s t) ≡ Less → x * 256 ^ k + sort_lead_of_bytes k s ≤ y * 256 ^ k + sort_lead_of_bytes k t) [
       | Less ↦ λ o f.
           let less : x < y = less_of x y o in
           let q : (x + 1) * 256 ^ k ≤ y * 256 ^ k = mul-le-mul_right (256 ^ k) (omega arith) in
@@ -64,11 +64,11 @@ bytes_rise (suc k) (x ∷ s) (y ∷ t) a b e =
       | Greater ↦ λ o f. absurd (cc)
     ] refl e
 
-number_less : (z : ℤ) → lead_of_number z < 2 ^ 63
+number_less : (z : ℤ) → sort_lead_of_number z < 2 ^ 63
 number_less (pos n) = omega arith
 number_less (negsuc n) = omega arith
 
-number_rise : (y z : ℤ) → int_cmp y z ≡ Less → lead_of_number y ≤ lead_of_number z
+number_rise : (y z : ℤ) → int_cmp y z ≡ Less → sort_lead_of_number y ≤ sort_lead_of_number z
 number_rise (pos m) (pos n) e = grind (arith, nat_tests, e)
 number_rise (pos m) (negsuc n) e = absurd (cc)
 number_rise (negsuc m) (pos n) e = omega arith

@@ -13,7 +13,7 @@ use Rattle.su_schema.specs.SchemaValue.{SchemaValue, ObjectEntry}
 use Rattle.su_state.specs.DatabaseValue.{DatabaseValue, rows_of}
 use Rattle.su_state.specs.Enforced.{Break}
 
--- a dependency and an object, by number, and two rows
+-- a dependency and an object, by number, and two rows; whether these break it is said by IsBreach
 pub record Breach : Type 0 where
   pub dependency : ℕ
   pub object : ℕ

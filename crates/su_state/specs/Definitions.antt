@@ -1,5 +1,6 @@
--- A definition in a database: refused by the first check that fails, or by stored rows that break what it adds; else all rows stay.
--- tables: a relation that is new has no rows yet
+-- A definition on a database: it is added to the schema and the stored rows stay, or it is refused and nothing changes.
+-- refused: by the first check of the schema that fails or, where none does, by the first breach of what it adds
+-- tables: the stored rows of each relation; a relation that is new has none yet
 use Rattle.std.specs.Prelude.{◌≡◌, List, [], ◌∷◌, ◌++◌, length, Result, Ok, Err}
 use Rattle.su_rel.specs.Stored.{Stored}
 use Rattle.su_schema.specs.declared.definitions.Definition.{Definition}

@@ -4,7 +4,6 @@ pub mod Definitions
 pub mod AdmissibleRows
 pub mod inside
 pub mod Loads
-pub mod MoreThan
 pub mod Views
 pub mod Breaches
 pub mod RowChanges

@@ -11,7 +11,7 @@ use Rattle.su_state.specs.declared.faults.DefineFault.TheVariants.{Breaks}
 use Rattle.su_state.specs.DatabaseValue.{rows_in}
 use Rattle.su_state.specs.Breaches.{Breach, fd_at, IsBreach}
 
--- the breach is one of what the definition adds
+-- it is a breach of the dependency, or through the object, that the definition adds: the last of the schema
 abbrev pub IsOfAdded : SchemaValue → Definition → Breach → Type 0
 IsOfAdded schema (Fd left right) b = b.dependency ≡ length schema.fds - 1
 IsOfAdded schema (Object own relation pairs) b = b.object ≡ length schema.objects - 1

@@ -22,7 +22,7 @@ pub struct Through {
 /// The first dependency that a row would break, the first object through which it would, and the
 /// position of the least stored row with which it would.
 #[derive(Drop)]
-pub struct Breach {
+pub struct FirstBreach {
     pub fd: u16,
     pub object: u8,
     pub position: usize,
@@ -75,7 +75,7 @@ fn breach_of(schema: &Schema, table: &Table, relation: u8, row: &Row, fd: u16) -
 }
 
 /// The first breach of an enforced dependency, where the stored rows keep them all.
-pub fn first_breach(schema: &Schema, table: &Table, relation: u8, row: &Row) -> Option<Breach>
+pub fn first_breach(schema: &Schema, table: &Table, relation: u8, row: &Row) -> Option<FirstBreach>
     requires relation { relation < length schema.now.relations }
     requires width { table.now.width ≡ length (columns_at schema.now relation) }
     requires row { length row.now ≡ table.now.width }
@@ -85,7 +85,7 @@ pub fn first_breach(schema: &Schema, table: &Table, relation: u8, row: &Row) -> 
     schema.keeps_its_rules();
     for fd in 0..schema.fds().len() as u16 {
         if let Some(through) = breach_of(schema, table, relation, row, fd) {
-            return Some(Breach {
+            return Some(FirstBreach {
                 fd,
                 object: through.object,
                 position: through.position,

@@ -3,7 +3,7 @@
 ghost use Rattle.std.specs.Prelude.{◌≡◌, ◌<◌, ◌^◌, slice_index, All, map, IfOk};
 ghost use Rattle.su_rel.specs.Stored.{AllDiffer};
 ghost use Rattle.su_state.specs.Changes.{AreInOrder};
-ghost use Rattle.su_state.specs.inside.Leads.{lead_of_number, lead_of_bytes, IsSortLead, IsRowLead};
+ghost use Rattle.su_state.specs.inside.Leads.{sort_lead_of_number, sort_lead_of_bytes, IsSortLead, IsRowLead};
 
 use std::alloc::Global;
 use su_base::{List, NoMemory, Row, Value, copy_row};
@@ -13,7 +13,7 @@ const HALF: u64 = 4611686018427387904;
 const TEXTS: u64 = 9223372036854775808;
 
 fn of_number(number: i64) -> u64
-    ensures { result ≡ lead_of_number number }
+    ensures { result ≡ sort_lead_of_number number }
 {
     let size = number.unsigned_abs();
     if number < 0 {
@@ -34,7 +34,7 @@ fn byte(bytes: &[u8], k: usize) -> u64
 }
 
 fn of_bytes(bytes: &[u8]) -> u64
-    ensures value { result ≡ lead_of_bytes 7 bytes.now }
+    ensures value { result ≡ sort_lead_of_bytes 7 bytes.now }
     ensures bytes { All (λ b. b < 256) bytes.now }
     ensures small { result < 2 ^ 56 }
 {

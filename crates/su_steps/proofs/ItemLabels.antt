@@ -27,7 +27,7 @@ use Rattle.su_fd.specs.MetDependencies.{LiesIn}
 use Rattle.su_steps.specs.Objects.{width, attributes_at}
 use Rattle.su_steps.specs.PairSymbols.{SymbolComparison, pair}
 use Rattle.su_classes.specs.ClassNames.{InClass, IsNaming}
-use Rattle.su_steps.specs.Classes.{SameLabels, IsClosedForCase}
+use Rattle.su_steps.specs.Classes.{SamePairLabels, IsClosedForCase}
 use Rattle.su_steps.specs.Evaluated.{EvaluatesFalse}
 use Rattle.su_steps.specs.Cases.{IsContradictory}
 use Rattle.su_steps.specs.inside.Numbers.{is_equality, equals, placed_of}
@@ -144,7 +144,7 @@ module _ (schema : SchemaValue) (vs : List Value) (limit : ℕ) (os : List Origi
     kept_at f o q cf co cq o_lies q_lies same a h =
         let io : LiesIn f (attributes_at schema o.object) = o_lies in
         let iq : LiesIn f (attributes_at schema q.object) = q_lies in
-        let left : SameLabels (width schema) label f.left o.variable q.variable = λ b g.
+        let left : SamePairLabels (width schema) label f.left o.variable q.variable = λ b g.
         let l = left_below f o io b g in
         ap label (sym (symbol_is o co b l)) ∙ same b g ∙ ap label (symbol_is q cq b l) in
         let l = right_below f o io a h in

@@ -7,6 +7,7 @@ use Rattle.su_base.specs.declared.values.Value.{Value}
 use Rattle.su_base.specs.declared.values.Value.TheVariants.{Int}
 use Rattle.su_base.specs.Value.{kind_of}
 use Rattle.su_where.specs.Truth.{truth_of}
+use Rattle.su_tableau.specs.Valuations.{values_at}
 use Rattle.su_schema.specs.SchemaValue.{SchemaValue}
 use Rattle.su_schema.specs.Entries.{attribute_kinds}
 pub use Rattle.su_fd.specs.MetDependencies.{Agree, Meets}
@@ -29,4 +30,4 @@ pub record InExpression (schema : SchemaValue) (maximal : List (FinSet nat_cmp))
   pub typed : (v : ℕ) → v < length q.variables → map kind_of (lists v) ≡ attribute_kinds schema
   pub within : (v o : ℕ) → v < length q.variables → o < length schema.objects → IsTrue (contains (chosen v) o) → Contains (family o) (cut (attributes_at schema o) (lists v))
   pub holds : IsTrue (truth_of q.cond (place_values lists q.places))
-  pub gives : map (λ i. get_or (place_values lists q.places) i (Int (pos 0))) q.outputs ≡ h
+  pub gives : values_at q.outputs (place_values lists q.places) ≡ h

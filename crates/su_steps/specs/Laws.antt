@@ -21,19 +21,19 @@ abbrev pub AreTheExpression : SchemaValue → List (FinSet nat_cmp) → Resolved
 AreTheExpression schema maximal q ts = (universe : List (List Value)) (h : List Value) → IsUniverse (attribute_kinds schema) universe → Meets schema.fds universe
     → (InUnion ts universe h ↔ InExpression schema maximal q (cuts schema universe) h)
 
--- so are the terms of each query
+-- the terms of each query of each valid schema have the lists of its expression
 abbrev pub TermsAreTheExpression : Type 0
 TermsAreTheExpression =
     (schema : SchemaValue) (maximal : List (FinSet nat_cmp)) (q : Resolved) (ts : List Term) → IsValid schema → IsResolved schema q → AreTerms schema maximal q ts
     → AreTheExpression schema maximal q ts
 
--- each row of a term has a source, among whichever rows
+-- each row of a term has a source, whatever set of the rows it is looked at among
 abbrev pub RowsHaveSources : Type 0
 RowsHaveSources =
     (schema : SchemaValue) (maximal : List (FinSet nat_cmp)) (q : Resolved) (ts : List Term) → IsValid schema → IsResolved schema q → AreTerms schema maximal q ts
     → (t : Term) (m i : ℕ) → Contains ts t → i < length t.tableau.rows → (o : ℕ) × IsSource schema t.tableau m i o
 
--- the terms are valid tableaux, well typed for the kinds of the attributes
+-- the terms of each query of each valid schema are valid tableaux, well typed for the kinds of the attributes
 abbrev pub TermsAreValidAndTyped : Type 0
 TermsAreValidAndTyped =
     (schema : SchemaValue) (maximal : List (FinSet nat_cmp)) (q : Resolved) (ts : List Term) → IsValid schema → IsResolved schema q → AreTerms schema maximal q ts

@@ -26,7 +26,7 @@ pub record IsAccepted (schema : SchemaValue) (maximal : List (FinSet nat_cmp)) (
   pub few_rows : HasFewRows schema maximal q
   pub few_terms : HasFewTerms schema maximal q
 
--- why the query is refused: the first cause; want of memory is none
+-- why the query is refused: the first cause that stands against it; want of memory is no cause
 abbrev pub IsStepRefusal : SchemaValue → List (FinSet nat_cmp) → Resolved → StepFault → Type 0
 IsStepRefusal schema maximal q (NotCovered variable mentioned) =
     (v : ℕ) × (first_uncovered schema maximal q ≡ Some v) × (slice_get q.variables v ≡ Some variable) × (mentioned ≡ mentioned_with q.places v)

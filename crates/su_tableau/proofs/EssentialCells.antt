@@ -9,7 +9,8 @@ use Rattle.std.proofs.lemmas.List.{get_or_default}
 use Rattle.su_tableau.specs.declared.symbols.Sym.{Sym}
 use Rattle.su_tableau.specs.declared.symbols.Sym.TheVariants.{Const, Var}
 use Rattle.su_tableau.specs.Tableaux.{Tab}
-use Rattle.su_tableau.specs.Essential.{HasSymbol, IsElsewhere, IsEssential, constant, in_head, twice, StandsElsewhere}
+use Rattle.su_tableau.specs.Essential.{HasSymbol, IsElsewhere, IsEssential, constant, in_head, twice}
+use Rattle.su_tableau.specs.inside.Elsewhere.{StandsElsewhere}
 
 -- row i holds the variable at another cell
 pub elsewhere_found : (t : Tab) (m row column k i : ℕ) (r : List Sym) (but : Option ℕ) → r ≡ get_or t.rows i [] → i < length t.rows → bit_at m i ≡ 1 → ((c : ℕ) → (but ≡ Some c) ↔ ((i ≡ row) × (c ≡ column))) → StandsElsewhere r k but → IsElsewhere t m row column k

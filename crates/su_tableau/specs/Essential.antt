@@ -1,6 +1,6 @@
 -- Essential columns of a row, within a set of the tableau's rows.
 -- cell: a row number and a column; essential: the cell holds a constant, a head variable, or a variable of another cell too
-use Rattle.std.specs.Prelude.{◌≡◌, ◌≢◌, ℕ, ◌<◌, ◌↔◌, IsTrue, List, [], length, get_or, Contains, Option, Some}
+use Rattle.std.specs.Prelude.{◌≡◌, ◌≢◌, ℕ, ◌<◌, ◌↔◌, IsTrue, List, [], length, get_or, Contains}
 use Rattle.std.specs.Int.{bit_at}
 use Rattle.std.specs.Ordering.{nat_cmp}
 use Rattle.std.specs.FinSet.{FinSet, contains, empty}
@@ -43,10 +43,3 @@ pub record ExtByEssential (t : Tab) (m : ℕ) (universe : List (List Value)) (h 
   pub valuation : ℕ → Value
   pub agrees : (i : ℕ) → i < length t.rows → bit_at m i ≡ 1 → (u : List Value) × Contains universe u × AgreesOn t m valuation i u
   pub gives : values_of valuation t.head ≡ h
-
--- the row holds the variable, at another column than the one that is left out
-pub record StandsElsewhere (row : List Sym) (k : ℕ) (but : Option ℕ) : Type 0 where
-  pub column : ℕ
-  pub below : column < length row
-  pub is : (d : Sym) → get_or row column d ≡ Var k
-  pub other : but ≢ Some column

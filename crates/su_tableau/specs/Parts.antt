@@ -3,6 +3,7 @@
 use Rattle.std.specs.Prelude.{ℕ, zero, suc, List, [], ◌∷◌, ◌++◌, map, length, get_or}
 use Rattle.std.specs.Int.{bit_at}
 use Rattle.su_tableau.specs.declared.symbols.Sym.{Sym}
+use Rattle.su_tableau.specs.declared.symbols.Sym.TheVariants.{Var}
 use Rattle.su_tableau.specs.Tableaux.{Tab}
 
 -- the element in front, where the bit is 1
@@ -18,6 +19,10 @@ numbers_of m (suc n) = numbers_of m n ++ keep_if (bit_at m n) n []
 -- the rows of the tableau in the set
 abbrev pub row_numbers : Tab → ℕ → List ℕ
 row_numbers t m = numbers_of m (length t.rows)
+
+-- the symbol of a row in a column
+abbrev pub cell_at : List Sym → ℕ → Sym
+cell_at row c = get_or row c (Var 0)
 
 -- row i of a tableau
 abbrev pub row_of : Tab → ℕ → List Sym

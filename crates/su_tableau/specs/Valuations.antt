@@ -14,6 +14,10 @@ use Rattle.su_tableau.specs.Tableaux.{Tab}
 abbrev pub nth : List Value → ℕ → Value
 nth values k = get_or values k (Int (pos 0))
 
+-- the values of a list at these places
+abbrev pub values_at : List ℕ → List Value → List Value
+values_at places values = map (λ place. get_or values place (Int (pos 0))) places
+
 -- the value of a symbol, where each variable has one
 abbrev pub value_of : (ℕ → Value) → Sym → Value
 value_of v (Const c) = c

@@ -4,7 +4,8 @@ ghost use Rattle.std.specs.Int.{bit_at};
 ghost use Rattle.std.specs.FinSet as set;
 ghost use Rattle.su_tableau.specs.declared.symbols.Sym.{Sym as ASym};
 ghost use Rattle.su_tableau.specs.declared.symbols.Sym.TheVariants.{Var};
-ghost use Rattle.su_tableau.specs.Essential.{HasSymbol, IsElsewhere, IsEssential, StandsElsewhere};
+ghost use Rattle.su_tableau.specs.Essential.{HasSymbol, IsElsewhere, IsEssential};
+ghost use Rattle.su_tableau.specs.inside.Elsewhere.{StandsElsewhere};
 
 use crate::masks::has;
 use crate::symbols::Sym;

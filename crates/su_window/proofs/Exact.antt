@@ -4,7 +4,7 @@ use Rattle.std.proofs.lemmas.Bool.{cases_lt}
 use Rattle.std.proofs.lemmas.List.{get_or_default}
 use Rattle.su_base.proofs.Numbers.{pigeonhole}
 use Rattle.su_state.specs.DatabaseValue.{DatabaseValue}
-use Rattle.su_state.specs.MoreThan.{AreMoreThan}
+use Rattle.su_rel.specs.MoreThan.{AreMoreThan}
 use Rattle.su_window.specs.Members.{Member, IsMember, HasFew}
 
 module _ (db : DatabaseValue) (few : HasFew db) (many : AreMoreThan 20000 (IsMember db)) where

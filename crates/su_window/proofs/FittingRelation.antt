@@ -14,7 +14,7 @@ use Rattle.su_base.proofs.Items.{Contains-map, Contains-map_source, All-members,
 use Rattle.su_fd.specs.declared.dependencies.Fd.{Fd}
 use Rattle.su_tableau.specs.declared.symbols.Sym.{Sym}
 use Rattle.su_tableau.specs.declared.symbols.Sym.TheVariants.{Const, Var}
-use Rattle.su_tableau.specs.Valuations.{value_of, values_of}
+use Rattle.su_tableau.specs.Valuations.{values_at, value_of, values_of}
 use Rattle.su_tableau.specs.Kinds.{IsTyped}
 use Rattle.su_tableau.specs.FrozenTableaux.{size, new_value, frozen, top, row_top, rows_top}
 use Rattle.su_tableau.proofs.FrozenTableaux.{frozen_typed, size-new_value}
@@ -31,7 +31,7 @@ use Rattle.su_chase.proofs.Images.{map_read}
 use Rattle.su_window.specs.declared.readings.Reading.{Reading}
 use Rattle.su_schema.specs.Cuts.{width, attributes_at, cut, cuts}
 use Rattle.su_state.specs.Views.{value_for, taken}
-use Rattle.su_window.specs.Window.{Fits, Includes, values_at, InWindow}
+use Rattle.su_window.specs.Window.{Fits, Includes, InWindow}
 use Rattle.su_window.specs.Members.{Member}
 use Rattle.su_window.specs.Padded.{object_at, row_read, member_read, IsReading, AreReadings, padded_row, padded_rows}
 use Rattle.su_window.specs.inside.Readings.{AreConstants}

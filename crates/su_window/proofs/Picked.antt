@@ -15,7 +15,7 @@ use Rattle.su_base.specs.Value.{kind_of}
 use Rattle.su_base.proofs.Items.{Contains-map, Contains-map_source, All-members, get_or-map_range, map-map_equal}
 use Rattle.su_tableau.specs.declared.symbols.Sym.{Sym}
 use Rattle.su_tableau.specs.declared.symbols.Sym.TheVariants.{Const, Var}
-use Rattle.su_tableau.specs.Valuations.{value_of, values_of, Sends}
+use Rattle.su_tableau.specs.Valuations.{values_at, value_of, values_of, Sends}
 use Rattle.su_classes.proofs.Listed.{map_same}
 use Rattle.su_schema.specs.SchemaValue.{ObjectEntry}
 use Rattle.su_schema.specs.Entries.{attribute_kinds}
@@ -28,7 +28,7 @@ use Rattle.su_chase.proofs.Images.{map_read}
 use Rattle.su_window.specs.declared.readings.Reading.{Reading}
 use Rattle.su_schema.specs.Cuts.{width, attributes_at, cut}
 use Rattle.su_state.specs.Views.{value_for, taken}
-use Rattle.su_window.specs.Window.{Fits, values_at}
+use Rattle.su_window.specs.Window.{Fits}
 use Rattle.su_window.specs.Members.{IsMember}
 use Rattle.su_window.specs.Padded.{object_at, row_read, member_read, IsReading, AreReadings, padded, padded_row, padded_rows}
 use Rattle.su_window.specs.inside.Readings.{AreConstants}

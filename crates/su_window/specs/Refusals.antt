@@ -4,7 +4,7 @@ use Rattle.std.specs.Prelude.{◌≤◌, List, length}
 use Rattle.su_base.specs.declared.values.Value.{Value}
 use Rattle.su_chase.specs.Chase.{IsClash}
 use Rattle.su_state.specs.DatabaseValue.{DatabaseValue}
-use Rattle.su_state.specs.MoreThan.{AreMoreThan}
+use Rattle.su_rel.specs.MoreThan.{AreMoreThan}
 use Rattle.su_window.specs.declared.faults.WindowFault.{WindowFault}
 use Rattle.su_window.specs.declared.faults.WindowFault.TheVariants.{Limit, Inconsistent, NoMemory}
 use Rattle.su_window.specs.declared.readings.Reading.{Reading}

@@ -1,10 +1,10 @@
 -- Windows: the rows over given attributes that are in every universal relation.
 -- includes: the view of each object is within the universal relation, cut to the object
 -- fits: a universal relation that meets the dependencies and includes the stored rows
-use Rattle.std.specs.Prelude.{◌≡◌, ℕ, ◌<◌, pos, List, map, length, get_or, Contains}
+use Rattle.std.specs.Prelude.{◌≡◌, ℕ, ◌<◌, List, length, Contains}
 use Rattle.su_base.specs.declared.values.Value.{Value}
-use Rattle.su_base.specs.declared.values.Value.TheVariants.{Int}
 use Rattle.su_tableau.specs.Kinds.{IsUniverse}
+use Rattle.su_tableau.specs.Valuations.{values_at}
 use Rattle.su_schema.specs.Entries.{attribute_kinds}
 use Rattle.su_fd.specs.MetDependencies.{Meets}
 use Rattle.su_state.specs.DatabaseValue.{DatabaseValue}
@@ -20,10 +20,6 @@ pub record Fits (db : DatabaseValue) (universe : List (List Value)) : Type 0 whe
   pub kinds : IsUniverse (attribute_kinds db.schema) universe
   pub meets : Meets db.schema.fds universe
   pub includes : Includes db universe
-
--- the values of a row at these attributes
-abbrev pub values_at : List ℕ → List Value → List Value
-values_at attributes row = map (λ a. get_or row a (Int (pos 0))) attributes
 
 -- each fitting universal relation has a row with these values at the attributes
 abbrev pub InWindow : DatabaseValue → List ℕ → List Value → Type 0

@@ -3,10 +3,11 @@
 use Rattle.std.specs.Prelude.{◌≡◌, ◌↔◌, List, [], ◌∷◌, Contains}
 use Rattle.su_base.specs.declared.values.Value.{Value}
 use Rattle.su_rel.specs.Stored.{Stored, AllDiffer}
+use Rattle.su_rel.specs.MoreThan.{AreMoreThan}
 use Rattle.su_reduce.specs.declared.edges.Edge.{Edge}
 use Rattle.su_exec.specs.declared.tasks.TaskRow.{TaskRow}
 use Rattle.su_exec.specs.declared.tasks.Task.{Task}
-use Rattle.su_exec.specs.Outputs.{AreMore}
+use Rattle.su_exec.specs.Outputs.{IsOutput}
 use Rattle.su_answer.specs.Support.{IsCandidate}
 
 -- the row alone, whose cells are asked for
@@ -21,4 +22,4 @@ pub record IsEdgeOf (tables : List Stored) (row : TaskRow) (edge : Edge) : Type 
 
 -- the row's candidates can be told in 64 bits
 abbrev pub AreCountable : List Stored → TaskRow → Type 0
-AreCountable tables row = ¬ AreMore tables (alone row) 18446744073709551615
+AreCountable tables row = ¬ AreMoreThan 18446744073709551615 (IsOutput tables (alone row))

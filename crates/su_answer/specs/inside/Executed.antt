@@ -7,13 +7,13 @@ use Rattle.su_base.specs.Value.{compare_lists}
 use Rattle.su_rel.specs.Stored.{Stored}
 use Rattle.su_exec.specs.declared.tasks.Task.{Task}
 use Rattle.su_exec.specs.Tasks.{IsTask}
-use Rattle.su_exec.specs.Outputs.{AreOutputs, AreMore}
+use Rattle.su_exec.specs.Outputs.{IsOutput, AreOutputs}
 use Rattle.su_state.specs.DatabaseValue.{DatabaseValue}
 use Rattle.su_min.specs.Kept.{Minimised}
 use Rattle.su_answer.specs.declared.found.Found.{Found}
 use Rattle.su_answer.specs.Joined.{IsTaskOf}
 use Rattle.su_answer.specs.Answers.{IsTermAnswer}
-use Rattle.su_state.specs.MoreThan.{AreMoreThan}
+use Rattle.su_rel.specs.MoreThan.{AreMoreThan}
 
 -- a task and the tables over which it is joined
 pub record Join : Type 0 where
@@ -22,7 +22,7 @@ pub record Join : Type 0 where
 
 -- the outputs of the task, or there are more than there may be
 abbrev pub IsFound : Join → Found → Type 0
-IsFound join found = MatchOption found.rows (AreMore join.tables join.task 1000000) (AreOutputs join.tables join.task)
+IsFound join found = MatchOption found.rows (AreMoreThan 1000000 (IsOutput join.tables join.task)) (AreOutputs join.tables join.task)
 
 -- a minimised term of a query, and the database over which its rows are joined
 pub record TermOver : Type 0 where

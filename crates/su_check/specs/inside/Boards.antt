@@ -8,7 +8,7 @@ use Rattle.su_tableau.specs.declared.symbols.Sym.TheVariants.{Var}
 use Rattle.su_check.specs.declared.boards.Board.{Board}
 use Rattle.su_check.specs.declared.sending.Sent.{Sent}
 use Rattle.su_check.specs.declared.sending.StepColumn.{StepColumn}
-use Rattle.su_check.specs.inside.Cells.{cell, is_const, IsFirstPlace}
+use Rattle.su_check.specs.inside.Cells.{cell_at, is_const, IsFirstPlace}
 use Rattle.su_check.specs.SentRows.{Lines, AreSent, numbered_row}
 use Rattle.su_check.specs.inside.Widths.{AreWide, IsWithin}
 use Rattle.su_check.specs.Refutations.{IsAscending}
@@ -45,7 +45,7 @@ IsNumber head variables x (Some n) = IsFree head variables x n
 -- the numbers of a row's cells
 pub record AreNumbers (head : List Sym) (variables : List ℕ) (row : List Sym) (numbers : List (Option ℕ)) : Type 0 where
   pub one_each : length numbers ≡ length row
-  pub cells : (c : ℕ) → c < length row → IsNumber head variables (cell row c) (get_or numbers c None)
+  pub cells : (c : ℕ) → c < length row → IsNumber head variables (cell_at row c) (get_or numbers c None)
 
 -- the numbers of the symbols of each row
 pub record IsBoard (t : Lines) (b : Board) : Type 0 where
@@ -56,8 +56,8 @@ pub record IsBoard (t : Lines) (b : Board) : Type 0 where
 pub record IsImage (t : Lines) (p : List Sent) (place : StepColumn) (x y : Sym) : Type 0 where
   pub step : place.step < length p
   pub column : place.column < length (numbered_row t (get_or p place.step no_pair).row)
-  pub symbol : cell (numbered_row t (get_or p place.step no_pair).row) place.column ≡ x
-  pub image : cell (numbered_row t (get_or p place.step no_pair).target) place.column ≡ y
+  pub symbol : cell_at (numbered_row t (get_or p place.step no_pair).row) place.column ≡ x
+  pub image : cell_at (numbered_row t (get_or p place.step no_pair).target) place.column ≡ y
 
 -- the symbol x goes to y: a fixed one is y, another one has its image at its place
 abbrev pub Sends : Lines → List Sent → List StepColumn → Sym → Sym → Option ℕ → Type 0
@@ -66,7 +66,7 @@ Sends t p places x y (Some n) = IsImage t p (get_or places n no_place) x y
 
 -- the symbols of the row go to those of the target
 abbrev pub SendsRow : Lines → Board → List Sent → List StepColumn → ℕ → ℕ → Type 0
-SendsRow t b p places s j = (c : ℕ) → c < length (numbered_row t s) → Sends t p places (cell (numbered_row t s) c) (cell (numbered_row t j) c) (get_or (get_or b.numbers s []) c None)
+SendsRow t b p places s j = (c : ℕ) → c < length (numbered_row t s) → Sends t p places (cell_at (numbered_row t s) c) (cell_at (numbered_row t j) c) (get_or (get_or b.numbers s []) c None)
 
 -- so they do for each pair of the list
 abbrev pub Covers : Lines → Board → List Sent → List StepColumn → Type 0

@@ -7,10 +7,7 @@ use Rattle.su_base.specs.Value.{kind_of}
 use Rattle.su_tableau.specs.declared.symbols.Sym.{Sym}
 use Rattle.su_tableau.specs.declared.symbols.Sym.TheVariants.{Const, Var}
 use Rattle.su_tableau.specs.Kinds.{sym_kind}
-
--- the symbol at a column
-abbrev pub cell : List Sym → ℕ → Sym
-cell row c = get_or row c (Var 0)
+pub use Rattle.su_tableau.specs.Parts.{cell_at}
 
 -- the symbol is a constant
 abbrev pub is_const : Sym → Bool

@@ -6,17 +6,17 @@ use Rattle.std.specs.Int.{bit_at}
 use Rattle.su_tableau.specs.declared.symbols.Sym.{Sym}
 use Rattle.su_check.specs.declared.guides.Guide.{Guide}
 use Rattle.su_check.specs.declared.sending.Sent.{Sent}
-use Rattle.su_check.specs.inside.Cells.{cell}
+use Rattle.su_check.specs.inside.Cells.{cell_at}
 use Rattle.su_check.specs.SentRows.{Lines, numbered_row, AreSent, sent_too}
 
 -- the set has all rows with the symbol in the column
 abbrev pub HasCarriers : List (List Sym) → ℕ → Sym → ℕ → Type 0
-HasCarriers rows c x set = (i : ℕ) → i < length rows → cell (get_or rows i []) c ≡ x → bit_at set i ≡ 1
+HasCarriers rows c x set = (i : ℕ) → i < length rows → cell_at (get_or rows i []) c ≡ x → bit_at set i ≡ 1
 
 -- for each cell of the row a set with all rows that have its symbol there
 pub record AreAlike (rows : List (List Sym)) (row : List Sym) (sets : List ℕ) : Type 0 where
   pub one_each : length sets ≡ length row
-  pub cells : (c : ℕ) → c < length row → HasCarriers rows c (cell row c) (get_or sets c 0)
+  pub cells : (c : ℕ) → c < length row → HasCarriers rows c (cell_at row c) (get_or sets c 0)
 
 -- the set has all kept rows to which row s can go, beside the rows of the partial list
 abbrev pub HasTargets : Lines → List Sent → ℕ → ℕ → Type 0

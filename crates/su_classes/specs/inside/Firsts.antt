@@ -9,7 +9,7 @@ use Rattle.std.specs.Cmp.Lexicographic.{pointwise}
 use Rattle.su_fd.specs.declared.dependencies.Fd.{Fd}
 use Rattle.su_classes.specs.declared.items.Placed.{Placed}
 use Rattle.su_fd.specs.MetDependencies.{LiesIn}
-use Rattle.su_classes.specs.Items.{cell, SameAt}
+use Rattle.su_classes.specs.Items.{item_of, SameItemLabels}
 
 -- the row at a position
 abbrev pub row_at : List Placed → ℕ → Placed
@@ -25,16 +25,16 @@ AreMembersBelow n s list = (a : ℕ) → Contains list a ↔ ((a < n) × IsTrue 
 
 -- the labels of a row at the attributes
 abbrev pub key : (ℕ → ℕ) → List ℕ → Placed → List ℕ
-key label list r = map (λ a. label (cell r a)) list
+key label list r = map (λ a. label (item_of r a)) list
 
 -- for each row in which the dependency lies the position of one that agrees with it on the left side, the same for all that agree
 pub record AreFirsts (label : ℕ → ℕ) (f : Fd) (rows : List Placed) (firsts : List ℕ) : Type 0 where
   pub each : length firsts ≡ length rows
   pub within : (p : ℕ) → p < length rows → first_at firsts p < length rows
   pub lies : (p : ℕ) → p < length rows → LiesIn f (row_at rows p).has → LiesIn f (row_at rows (first_at firsts p)).has
-  pub alike : (p : ℕ) → p < length rows → LiesIn f (row_at rows p).has → SameAt label f.left (row_at rows p) (row_at rows (first_at firsts p))
+  pub alike : (p : ℕ) → p < length rows → LiesIn f (row_at rows p).has → SameItemLabels label f.left (row_at rows p) (row_at rows (first_at firsts p))
   pub same : (p q : ℕ) → p < length rows → q < length rows → LiesIn f (row_at rows p).has → LiesIn f (row_at rows q).has
-      → SameAt label f.left (row_at rows p) (row_at rows q) → first_at firsts p ≡ first_at firsts q
+      → SameItemLabels label f.left (row_at rows p) (row_at rows q) → first_at firsts p ≡ first_at firsts q
 
 -- the position that is noted under a key
 abbrev pub noted_in : {S : Type 0} → HashMap (List ℕ) ℕ S → List ℕ → Option ℕ

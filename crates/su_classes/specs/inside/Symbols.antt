@@ -20,9 +20,9 @@ has_constant [] c = false
 has_constant (v ∷ vs) c = cond (same_value v c) true (has_constant vs c)
 
 -- the place of a constant, or the number of constants
-abbrev pub place_of : List Value → Value → ℕ
-place_of [] c = 0
-place_of (v ∷ vs) c = cond (same_value v c) 0 (suc (place_of vs c))
+abbrev pub constant_place : List Value → Value → ℕ
+constant_place [] c = 0
+constant_place (v ∷ vs) c = cond (same_value v c) 0 (suc (constant_place vs c))
 
 -- no value stands twice
 abbrev pub AreDistinct : List Value → Type 0
@@ -36,7 +36,7 @@ is_known vs limit (Var k) = nat_lt k limit
 
 -- the number of a symbol: constants come first
 abbrev pub symbol_number : List Value → Sym → ℕ
-symbol_number vs (Const c) = place_of vs c
+symbol_number vs (Const c) = constant_place vs c
 symbol_number vs (Var k) = length vs + k
 
 -- the symbol with this number

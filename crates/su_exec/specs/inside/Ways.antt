@@ -32,12 +32,12 @@ pub record IsReached (values : List Value) (es : List (Edge ℕ)) (cells : List 
   pub column_is : slice_get columns place ≡ Some column
   pub reaches : (v : ℕ → Value) → FitsAll v (meanings values es) → Contains (map (λ r. decode values (only_code r)) codes) (value_of v cell)
 
--- positions of rows, and those of all with the value of one of the first n codes in the column
+-- the positions are of rows, and among them is that of each row which has, in the column, the value of one of the first n codes
 pub record AreOfCodes (rows : List (List Value)) (column : ℕ) (values : List Value) (codes : List (List ℕ)) (n : ℕ) (positions : List ℕ) : Type 0 where
   pub within : All (λ p. p < length rows) positions
   pub all : (i p : ℕ) → i < n → p < length rows → IsTrue (has_value column (decode values (only_code (slice_index_or codes i []))) (slice_index_or rows p [])) → Contains positions p
 
--- positions of rows, and those of all that agree, under each valuation that fits the candidates so far
+-- the positions are of stored rows, and among them is that of each which agrees, under a valuation that fits the candidates so far
 pub record AreReached (tables : List Stored) (values : List Value) (es : List (Edge ℕ)) (row : TaskRow) (source : Source) (positions : List ℕ) : Type 0 where
   pub within : All (λ p. p < length (table_at tables source.relation).rows) positions
   pub all :

@@ -1,5 +1,6 @@
--- How a search begins and ends: its domains at the start, the first choice, and what was counted.
--- in order: row by row in ascending order, targets from the least up
+-- How a search begins and ends: its domains at the start, the first choice, and how many tries it counted.
+-- domain of a row: the targets that it may still have; choice: a target for each row, as in Choices
+-- in order: the rows by their numbers, ascending, and the targets of each from the least up
 -- No public contract cites this module.
 use Rattle.std.specs.Prelude.{◌≡◌, ℕ, ◌+◌, ◌<◌, ◌≤◌, ◌↔◌, ◌⊎◌, Bool, List, length, get_or}
 use Rattle.std.specs.Int.{bit_at}
@@ -11,27 +12,27 @@ use Rattle.su_map.specs.Nets.{IsNet}
 use Rattle.su_map.specs.Candidates.{IsWithinProducts}
 use Rattle.su_map.specs.inside.Choices.{IsChoice, IsChoiceInto, AreSame, IsLess, tries, ArePassed}
 
--- of the n rows those in the set have their targets in k as their domains
+-- each of the n rows that is in the set has its targets in k as its domain
 abbrev pub AreAtStart : Netted → ℕ → ℕ → ℕ → List ℕ → Type 0
 AreAtStart net n rows k domains = (r : ℕ) → r < n → bit_at rows r ≡ 1 → (x : ℕ) → (bit_at (get_or domains r 0) x ≡ 1) ↔ ((bit_at (base_of net r) x ≡ 1) × (bit_at k x ≡ 1))
 
--- of the n rows one in the set has no target in k
+-- one of the n rows is in the set and has no target in k
 abbrev pub LacksTarget : Netted → ℕ → ℕ → ℕ → Type 0
 LacksTarget net n rows k = (r : ℕ) × (r < n) × (bit_at rows r ≡ 1) × ((x : ℕ) → bit_at (base_of net r) x ≡ 1 → bit_at k x ≡ 1 → ⊥)
 
--- each choice from the old domains is one from the new
+-- each choice of targets from the old domains is one from the new
 abbrev pub KeepsChoices : Netted → ℕ → ℕ → List ℕ → List ℕ → Type 0
 KeepsChoices net n m old new = (choice : ℕ → ℕ) → IsChoice net n m old choice → IsChoice net n m new choice
 
--- each choice from the domains is this one on the rows in m, or comes after it
+-- on the rows in m each choice from the domains is this one, or comes after it
 abbrev pub IsFirstChoice : Netted → ℕ → List ℕ → (ℕ → ℕ) → Type 0
 IsFirstChoice net m domains a = (other : ℕ → ℕ) → IsChoice net (length domains) m domains other → AreSame (length domains) m other a ⊎ IsLess (length domains) m a other
 
--- each choice into k is this one on the rows in m, or comes after it
+-- on the rows in m each choice into k is this one, or comes after it
 abbrev pub IsFirstInto : Netted → ℕ → ℕ → ℕ → (ℕ → ℕ) → Type 0
 IsFirstInto net n m k a = (other : ℕ → ℕ) → IsChoiceInto net n m k other → AreSame n m other a ⊎ IsLess n m a other
 
--- in order at most the tries of the rows in todo were counted, whichever test tells the targets
+-- a search in order counted at most the tries of the rows in todo, whichever test tells the targets
 abbrev pub IsWithinTries : Order → Netted → ℕ → ℕ → ℕ → ℕ → ℕ → Type 0
 IsWithinTries order net n m todo old new = (passes : ℕ → ℕ → Bool) → ArePassed net n m passes → order ≡ Ascending → new ≤ old + tries passes net.targets n todo
 

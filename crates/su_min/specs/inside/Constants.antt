@@ -4,6 +4,6 @@ use Rattle.su_tableau.specs.declared.symbols.Sym.{Sym}
 use Rattle.su_tableau.specs.declared.symbols.Sym.TheVariants.{Var}
 use Rattle.su_tableau.specs.Mapping.{image_of}
 
--- a constant, or the one variable
-abbrev pub constant_of : Sym → Sym
-constant_of = image_of (λ k. Var 0)
+-- the symbol, with `Var 0` in place of any variable
+abbrev pub with_one_variable : Sym → Sym
+with_one_variable = image_of (λ k. Var 0)

@@ -6,7 +6,7 @@ use Rattle.su_base.specs.declared.values.Value.TheVariants.{Int}
 use Rattle.su_tableau.specs.declared.symbols.Sym.{Sym}
 use Rattle.su_tableau.specs.declared.symbols.Sym.TheVariants.{Var}
 use Rattle.su_tableau.specs.Valuations.{value_of}
-use Rattle.su_reduce.specs.Shapes.{cell_at, place_of}
+use Rattle.su_reduce.specs.Shapes.{cell_at, variable_place}
 
 -- the value at a place of a row
 abbrev pub value_at : List Value → ℕ → Value
@@ -14,7 +14,7 @@ value_at row p = get_or row p (Int (pos 0))
 
 -- each variable has the value at its place
 abbrev pub assigned : List Sym → List Value → ℕ → Value
-assigned cells row k = value_at row (place_of cells k)
+assigned cells row k = value_at row (variable_place cells k)
 
 -- the value at place p is what the cell asks for, where variables have the values at their places
 abbrev pub FitsAt : List Sym → List Value → ℕ → Type 0

@@ -7,7 +7,7 @@ use Rattle.std.specs.Int.{bit_at}
 use Rattle.su_tableau.specs.declared.symbols.Sym.{Sym}
 use Rattle.su_tableau.specs.Tableaux.{Tab}
 use Rattle.su_map.specs.Lists.{row_of}
-use Rattle.su_check.specs.inside.Cells.{cell}
+use Rattle.su_check.specs.inside.Cells.{cell_at}
 use Rattle.su_check.specs.inside.Agreement.{GoAlike, Goes}
 use Rattle.su_refute.specs.declared.places.Places.{Places}
 use Rattle.su_refute.specs.declared.nets.Net.{Net}
@@ -18,7 +18,7 @@ AreWithin n k places = All (λ x. (x.first < n) × (x.second < k)) places
 
 -- the lists hold one symbol at the places
 abbrev pub IsShared : List Sym → List Sym → Places → Type 0
-IsShared xs ys x = (x.first < length xs) × (x.second < length ys) × (cell xs x.first ≡ cell ys x.second)
+IsShared xs ys x = (x.first < length xs) × (x.second < length ys) × (cell_at xs x.first ≡ cell_at ys x.second)
 
 -- all places at which they do
 abbrev pub AreShared : List Sym → List Sym → List Places → Type 0
@@ -26,7 +26,7 @@ AreShared xs ys places = (x : Places) → Contains places x ↔ IsShared xs ys x
 
 -- the lists hold one symbol at each of the places
 abbrev pub AgreeAt : List Places → List Sym → List Sym → Type 0
-AgreeAt places us vs = All (λ x. cell us x.first ≡ cell vs x.second) places
+AgreeAt places us vs = All (λ x. cell_at us x.first ≡ cell_at vs x.second) places
 
 -- the members of the set are the rows of m with the property
 abbrev pub IsSetOf : Tab → ℕ → (ℕ → Type 0) → ℕ → Type 0

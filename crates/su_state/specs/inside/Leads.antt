@@ -7,20 +7,20 @@ use Rattle.su_base.specs.declared.values.Value.{Value}
 use Rattle.su_base.specs.declared.values.Value.TheVariants.{Int, Text}
 
 -- from 0 to 2 ^ 63 - 1
-abbrev pub lead_of_number : ℤ → ℕ
-lead_of_number (pos n) = 2 ^ 62 + min n (2 ^ 62 - 1)
-lead_of_number (negsuc n) = 2 ^ 62 - min (n + 1) (2 ^ 62)
+abbrev pub sort_lead_of_number : ℤ → ℕ
+sort_lead_of_number (pos n) = 2 ^ 62 + min n (2 ^ 62 - 1)
+sort_lead_of_number (negsuc n) = 2 ^ 62 - min (n + 1) (2 ^ 62)
 
 -- the first k bytes as one number, the first byte most
-abbrev pub lead_of_bytes : ℕ → List ℕ → ℕ
-lead_of_bytes zero bytes = 0
-lead_of_bytes (suc k) [] = 0
-lead_of_bytes (suc k) (b ∷ bytes) = b * 256 ^ k + lead_of_bytes k bytes
+abbrev pub sort_lead_of_bytes : ℕ → List ℕ → ℕ
+sort_lead_of_bytes zero bytes = 0
+sort_lead_of_bytes (suc k) [] = 0
+sort_lead_of_bytes (suc k) (b ∷ bytes) = b * 256 ^ k + sort_lead_of_bytes k bytes
 
 -- the number is the value's lead
 abbrev pub IsSortLead : ℕ → Value → Type 0
-IsSortLead lead (Int z) = lead ≡ lead_of_number z
-IsSortLead lead (Text bytes) = (lead ≡ 2 ^ 63 + lead_of_bytes 7 bytes) × All (λ b. b < 256) bytes
+IsSortLead lead (Int z) = lead ≡ sort_lead_of_number z
+IsSortLead lead (Text bytes) = (lead ≡ 2 ^ 63 + sort_lead_of_bytes 7 bytes) × All (λ b. b < 256) bytes
 
 -- the number is the lead of the row's first value
 abbrev pub IsRowLead : ℕ → List Value → Type 0

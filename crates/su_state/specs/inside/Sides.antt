@@ -10,6 +10,7 @@ use Rattle.su_base.specs.declared.values.Value.{Value}
 use Rattle.su_base.specs.Value.{compare_lists}
 use Rattle.su_fd.specs.declared.dependencies.Fd.{Fd}
 use Rattle.su_fd.specs.MetDependencies.{LiesIn}
+pub use Rattle.su_index.specs.Notes.{AgreeAt}
 use Rattle.su_schema.specs.SchemaValue.{ObjectEntry}
 use Rattle.su_schema.specs.Entries.{attributes_of, column_of}
 use Rattle.su_state.specs.declared.sides.Sides.{Sides}
@@ -24,10 +25,6 @@ pub record AreSidesOf (object : ObjectEntry) (fd : Fd) (sides : Sides) : Type 0 
   pub lies : LiesIn fd (attributes_of object)
   pub left : AreColumnsOf object fd.left sides.left
   pub right : AreColumnsOf object fd.right sides.right
-
--- one value in each of the columns
-abbrev pub AgreeAt : FinSet nat_cmp → List Value → List Value → Type 0
-AgreeAt columns row other = (c : ℕ) → IsTrue (contains columns c) → slice_get row c ≡ slice_get other c
 
 -- two rows agree on the left side and not on the right one
 abbrev pub Clash : Sides → List Value → List Value → Type 0

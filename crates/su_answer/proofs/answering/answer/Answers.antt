@@ -13,7 +13,7 @@ use Rattle.su_min.specs.Reduction.{term_at}
 use Rattle.su_answer.specs.declared.faults.AnswerFault.{AnswerFault}
 use Rattle.su_answer.specs.declared.faults.AnswerFault.TheVariants.{Limit}
 use Rattle.su_answer.specs.Answers.{IsAnswer}
-use Rattle.su_state.specs.MoreThan.{AreMoreThan}
+use Rattle.su_rel.specs.MoreThan.{AreMoreThan}
 use Rattle.su_answer.specs.inside.Executed.{IsFoundFor}
 use Rattle.su_answer.proofs.Minimals.{minimals_fit}
 use Rattle.su_answer.proofs.Union.{AreUnited, kept_low, all_left, halves, wave_low, wave_united, wave_more, lists_ascend, more_answers, are_answers}

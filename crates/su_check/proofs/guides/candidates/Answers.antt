@@ -2,7 +2,7 @@ use Rattle.std.proofs.Common.{◌≡◌, ◌<◌, ℕ, All, [], length, get_or, 
 use Rattle.std.specs.Int.{bit_at}
 use Rattle.std.proofs.lemmas.List.Elements.{All-contains}
 use Rattle.su_check.specs.Certificate.{lines_of}
-use Rattle.su_check.specs.inside.Cells.{cell}
+use Rattle.su_check.specs.inside.Cells.{cell_at}
 use Rattle.su_check.specs.SentRows.{numbered_row}
 use Rattle.su_check.specs.inside.Guides.{HasTargets}
 use Rattle.su_check.proofs.PossibleTargets.{image_told, sent_alone}
@@ -22,7 +22,7 @@ loop-at_column-preserved c = λ j kept sent.
     let low = All-contains (λ k. k < length c.args.term.now.rows) c.args.term.now.kept j c.requires.ready.kept kept in
     elim c.match-numbers-column.branch [
       | in-Some w ↦
-          let x = w.at.ensures ∙ ap (λ r. cell r i) from in
+          let x = w.at.ensures ∙ ap (λ r. cell_at r i) from in
           subst (λ a. bit_at a j ≡ 1) (sym w.set-is) (w.both-set.ensures j (c.loop-at_column.invariant j kept sent) (w.with_image.ensures j low (λ y m. image_told t c.args.sent.now s j i _ w.at.result.now y wide x m sent)))
       | in_default w ↦ subst (λ a. bit_at a j ≡ 1) (sym w.set-is) (c.loop-at_column.invariant j kept sent)
     ]

@@ -3,7 +3,7 @@ use Rattle.std.specs.Int.{bit_at}
 use Rattle.std.proofs.lemmas.List.{get_or_default}
 use Rattle.std.proofs.lemmas.Nat.Bits.{bit_at_ones}
 use Rattle.su_check.specs.Certificate.{lines_of}
-use Rattle.su_check.specs.inside.Cells.{cell}
+use Rattle.su_check.specs.inside.Cells.{cell_at}
 use Rattle.su_check.specs.SentRows.{numbered_row}
 use Rattle.su_check.specs.inside.Boards.{no_pair}
 use Rattle.su_check.specs.inside.Guides.{HasCarriers}
@@ -22,7 +22,7 @@ returns-in-Some c = λ j h told.
     let same = c.as_slice.ensures in
     let len = ap length same in
     let below : o.target < length c.as_slice.result.now = let l = low.target in omega (arith, each, len) in
-    let here = (c.requires.guide.alike o.target low.target).cells c.args.column (c.requires.column o.target low.target) j h (told c.in-Some.field-0.now m ∙ sym m.image ∙ ap (cell (numbered_row t o.target)) c.if-place-column.true) in
+    let here = (c.requires.guide.alike o.target low.target).cells c.args.column (c.requires.column o.target low.target) j h (told c.in-Some.field-0.now m ∙ sym m.image ∙ ap (cell_at (numbered_row t o.target)) c.if-place-column.true) in
     let sets = c.as_slice-in-Some.ensures ∙ c.index-as_slice-target.is ∙ get_or_default c.as_slice.result.now o.target c.index-as_slice-target.result [] below ∙ ap (λ a. get_or a o.target []) same in
     subst (λ s. bit_at (get_or s c.args.column 0) j ≡ 1) (sym sets) here
 

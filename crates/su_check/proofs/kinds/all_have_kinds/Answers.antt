@@ -2,7 +2,7 @@ use Rattle.std.proofs.Common.{◌<◌, [], length, map, get_or, sym, ap, subst, 
 use Rattle.std.proofs.lemmas.List.{get_or_default}
 use borrow.Author.Count.{below_more}
 use Rattle.su_tableau.specs.Kinds.{sym_kind}
-use Rattle.su_check.specs.inside.Cells.{cell, kind_at, HasFound}
+use Rattle.su_check.specs.inside.Cells.{cell_at, kind_at, HasFound}
 use Rattle.su_check.proofs.WellTyped.{found_kept}
 use Rattle.su_check.proofs.kinds.all_have_kinds.Goals as goal
 
@@ -17,9 +17,9 @@ loop-row-preserved c =
     let is = c.as_slice.ensures ∙ c.row-item.is ∙ get_or_default rows i c.row-item.result [] c.loop-row-test.true in
     record {
       done = λ a k.
-          below_more (λ a. k < length (get_or rows a []) → HasFound vs c.have_kinds.new.found (cell (get_or rows a []) k) (kind_at kinds k)) i
-          (λ a h l. found_kept vs c.loop-row.found c.have_kinds.new.found (cell (get_or rows a []) k) (kind_at kinds k) c.have_kinds.ensures.keeps (c.loop-row.invariant.done a k h l))
-          (λ l. subst (λ r. HasFound vs c.have_kinds.new.found (cell r k) (kind_at kinds k)) is (c.have_kinds.ensures.yes c.if-not-have_kinds.false k (subst (λ r. k < length r) (sym is) l))) a;
+          below_more (λ a. k < length (get_or rows a []) → HasFound vs c.have_kinds.new.found (cell_at (get_or rows a []) k) (kind_at kinds k)) i
+          (λ a h l. found_kept vs c.loop-row.found c.have_kinds.new.found (cell_at (get_or rows a []) k) (kind_at kinds k) c.have_kinds.ensures.keeps (c.loop-row.invariant.done a k h l))
+          (λ l. subst (λ r. HasFound vs c.have_kinds.new.found (cell_at r k) (kind_at kinds k)) is (c.have_kinds.ensures.yes c.if-not-have_kinds.false k (subst (λ r. k < length r) (sym is) l))) a;
       only = λ f are typed. c.have_kinds.ensures.only f (c.loop-row.invariant.only f are typed) (ap (map (sym_kind f)) is ∙ typed i [] c.loop-row-test.true);
       len = c.have_kinds.ensures.len ∙ c.loop-row.invariant.len;
     }

@@ -1,7 +1,7 @@
 use Rattle.std.proofs.Common.{ap, subst, ◌∙◌}
 use borrow.Author.Count.{below_more}
 use Rattle.su_tableau.specs.Kinds.{sym_kind}
-use Rattle.su_check.specs.inside.Cells.{cell, kind_at, HasFound}
+use Rattle.su_check.specs.inside.Cells.{cell_at, kind_at, HasFound}
 use Rattle.su_check.proofs.WellTyped.{kind_of_cell, found_kept}
 use Rattle.su_check.proofs.kinds.have_kinds.Goals as goal
 
@@ -18,8 +18,8 @@ returns-then-not-has_kind-clause-only c = λ f are typed.
 pub loop-c-preserved : goal.loop-c-preserved
 loop-c-preserved c = record {
   done =
-      below_more (λ a. HasFound c.args.variables.now c.has_kind.new.found (cell c.args.row.now a) (kind_at c.args.kinds.now a)) c.loop-c.c
-      (λ a h. found_kept c.args.variables.now c.loop-c.found c.has_kind.new.found (cell c.args.row.now a) (kind_at c.args.kinds.now a) c.has_kind.ensures.keeps (c.loop-c.invariant.done a h))
+      below_more (λ a. HasFound c.args.variables.now c.has_kind.new.found (cell_at c.args.row.now a) (kind_at c.args.kinds.now a)) c.loop-c.c
+      (λ a h. found_kept c.args.variables.now c.loop-c.found c.has_kind.new.found (cell_at c.args.row.now a) (kind_at c.args.kinds.now a) c.has_kind.ensures.keeps (c.loop-c.invariant.done a h))
       (subst (λ x. HasFound c.args.variables.now c.has_kind.new.found x (kind_at c.args.kinds.now c.loop-c.c)) c.at.ensures (c.has_kind.ensures.yes c.if-not-has_kind.false));
   only = λ f are typed.
       let here = ap (sym_kind f) c.at.ensures ∙ kind_of_cell c.args.kinds.now f c.args.row.now c.loop-c.c typed c.loop-c-test.true in

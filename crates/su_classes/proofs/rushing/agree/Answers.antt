@@ -1,6 +1,6 @@
 use Rattle.std.proofs.Common.{◌≡◌, get_or, sym, ap, ◌∙◌, arith}
 use Rattle.std.proofs.lemmas.List.{get_or_default}
-use Rattle.su_classes.specs.Items.{cell}
+use Rattle.su_classes.specs.Items.{item_of}
 use Rattle.su_classes.proofs.Trees.{shortened_then}
 use Rattle.su_classes.proofs.Rushed.{same_roots, first_more}
 use Rattle.su_classes.proofs.rushing.agree.Goals as goal
@@ -22,7 +22,7 @@ loop-a-preserved c =
     record {
       shortened = shortened_then old mid new to_mid c.root-in-loop-a.ensures.shortened;
       together = λ label sound.
-          first_more (λ a. label (cell c.args.row.now a) ≡ label (cell c.args.other.now a)) xs i (get_or xs i 0) c.loop-a-test.true
+          first_more (λ a. label (item_of c.args.row.now a) ≡ label (item_of c.args.other.now a)) xs i (get_or xs i 0) c.loop-a-test.true
           (get_or_default xs i 0 (get_or xs i 0) c.loop-a-test.true) (c.loop-a.invariant.together label sound)
           (ap label (sym c.item_at.ensures)
           ∙ same_roots old mid new c.item_at.result c.item_at-in-loop-a.result c.root.result c.root-in-loop-a.result to_mid c.root-in-loop-a.ensures.shortened c.root.ensures.of c.root-in-loop-a.ensures.of c.if-root.false label sound

@@ -6,7 +6,7 @@ use Rattle.std.proofs.lemmas.Bool.{true≢false}
 use Rattle.std.proofs.lemmas.List.{get_or_read}
 use Rattle.su_classes.specs.declared.items.Placed.{Placed}
 use Rattle.su_fd.specs.MetDependencies.{LiesIn}
-use Rattle.su_classes.specs.Items.{cell, IsPlacedBelow}
+use Rattle.su_classes.specs.Items.{item_of, IsPlacedBelow}
 use Rattle.su_classes.specs.inside.Tables.{IsJoining}
 use Rattle.su_classes.specs.inside.Firsts.{row_at, first_at}
 use Rattle.su_classes.proofs.Listed.{right_cells}
@@ -60,9 +60,9 @@ loop-position-preserved c =
           let other : Placed = w.index-rows-firsts.result in
           let other_is : other ≡ row_at rows first = get_or_read rows first other (c.requires.firsts.within n c.loop-position-test.true) w.index-rows-firsts.is d in
           let lies : LiesIn fd (row_at rows n).has = subst (λ (r : Placed). LiesIn fd r.has) is (w.if-lies_in.ensures.0 refl) in
-          let joining : IsJoining (λ label. All (λ a. label (cell (row_at rows n) a) ≡ label (cell (row_at rows first) a)) right) t new =
-          subst (λ (r : Placed). IsJoining (λ label. All (λ a. label (cell r a) ≡ label (cell (row_at rows first) a)) right) t new) is
-          (subst (λ (q : Placed). IsJoining (λ label. All (λ a. label (cell row a) ≡ label (cell q a)) right) t new) other_is w.join_at-changed.ensures.joining) in
+          let joining : IsJoining (λ label. All (λ a. label (item_of (row_at rows n) a) ≡ label (item_of (row_at rows first) a)) right) t new =
+          subst (λ (r : Placed). IsJoining (λ label. All (λ a. label (item_of r a) ≡ label (item_of (row_at rows first) a)) right) t new) is
+          (subst (λ (q : Placed). IsJoining (λ label. All (λ a. label (item_of row a) ≡ label (item_of q a)) right) t new) other_is w.join_at-changed.ensures.joining) in
           rw (w.table-is, w.changed-is) (
           bound_more fd rows firsts old c.requires.flat c.requires.cells c.requires.firsts t new n c.loop-position.changed w.join_at-changed.result right c.loop-position-test.true lies c.requires.right c.loop-position.invariant joining w.join_at-changed.ensures.progress)
       | else-lies_in w ↦

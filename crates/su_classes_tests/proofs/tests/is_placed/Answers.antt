@@ -1,6 +1,6 @@
 use Rattle.std.proofs.Common.{◌≡◌, ◌<◌, length, sym, arith}
 use Rattle.su_base.proofs.Subsets.{subset_at}
-use Rattle.su_classes.specs.Items.{cell}
+use Rattle.su_classes.specs.Items.{item_of}
 use Rattle.su_classes_tests.proofs.tests.is_placed.Goals as goal
 
 pub returns : goal.returns

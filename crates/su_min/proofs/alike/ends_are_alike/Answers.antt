@@ -1,6 +1,6 @@
 use Rattle.std.proofs.Common.{◌∙◌, refl, sym, ap, arith, true≢false}
 use Rattle.std.proofs.lemmas.List.{get_or_default}
-use Rattle.su_min.specs.inside.Constants.{constant_of}
+use Rattle.su_min.specs.inside.Constants.{with_one_variable}
 use Rattle.su_min.proofs.Likeness.{ends_same, ends_at}
 use Rattle.su_min.proofs.alike.ends_are_alike.Goals as goal
 
@@ -10,8 +10,8 @@ returns-then-not-is_alike c =
       λ none. absurd (true≢false (sym none)),
       λ same.
           let e = ends_at xs ys c.args.start i c.index-xs-i.result c.requires same (omega arith) (omega arith) in
-          let x = ap constant_of c.index-xs-i.is in
-          let y = ap constant_of (c.index-ys-i.is ∙ get_or_default ys i c.index-ys-i.result c.index-xs-i.result (let l = c.requires in omega arith)) in
+          let x = ap with_one_variable c.index-xs-i.is in
+          let y = ap with_one_variable (c.index-ys-i.is ∙ get_or_default ys i c.index-ys-i.result c.index-xs-i.result (let l = c.requires in omega arith)) in
           absurd (true≢false (sym (c.is_alike.ensures.1 (x ∙ e ∙ sym y)) ∙ c.if-not-is_alike.true)),
     )
 

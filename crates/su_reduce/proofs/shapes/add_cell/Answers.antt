@@ -1,7 +1,7 @@
 use Rattle.std.proofs.Common.{◌≡◌, ◌<◌, ◌+◌, ℕ, [], ◌∷◌, ◌++◌, length, Contains, sym, ap, subst, ◌∙◌}
 use Rattle.std.proofs.lemmas.Option.{get_or_from_slice_get}
 use Rattle.su_tableau.specs.declared.symbols.Sym.TheVariants.{Var}
-use Rattle.su_reduce.specs.Shapes.{IsShapeOf, cell_at, place_of}
+use Rattle.su_reduce.specs.Shapes.{IsShapeOf, cell_at, variable_place}
 use Rattle.su_reduce.proofs.Places.{contains_at, place_holds, same_var}
 use Rattle.su_reduce.proofs.ShapeSteps.{shape_again, shape_new, shape_on}
 use Rattle.su_reduce.proofs.shapes.add_cell.Goals as goal
@@ -23,7 +23,7 @@ returns-in_ok-push-4 c =
     let firsts = c.args.shape.now.firsts.items in
     let places = c.args.shape.now.places.items in
     let is : cell_at cells p ≡ Var k = get_or_from_slice_get cells p c.get.result.now (Var 0) c.get.ensures ∙ c.in-Some.ensures in
-    let first : c.place-first.result ≡ place_of cells k = c.place-first.ensures ∙ ap (λ cs. place_of cs k) c.as_slice.ensures in
+    let first : c.place-first.result ≡ variable_place cells k = c.place-first.ensures ∙ ap (λ cs. variable_place cs k) c.as_slice.ensures in
     let more = shape_new cells p k vars firsts places c.requires.so_far c.requires.within is (sym first ∙ c.if-first-p.true) in
     rw (c.in_ok-push-2.ensures.items, c.in_ok-push-3.ensures.items, c.in_ok-push-4.ensures.items)
     (subst (λ (q : ℕ). IsShapeOf cells (p + 1) (vars ++ k ∷ []) (firsts ++ p ∷ []) (places ++ q ∷ [])) (sym c.if-first-p.true) more)
@@ -38,8 +38,8 @@ returns-else-first-p c =
     let places = c.args.shape.now.places.items in
     let low = c.requires.within in
     let is : cell_at cells p ≡ Var k = get_or_from_slice_get cells p c.get.result.now (Var 0) c.get.ensures ∙ c.in-Some.ensures in
-    let first : c.place-first.result ≡ place_of cells k = c.place-first.ensures ∙ ap (λ cs. place_of cs k) c.as_slice.ensures in
+    let first : c.place-first.result ≡ variable_place cells k = c.place-first.ensures ∙ ap (λ cs. variable_place cs k) c.as_slice.ensures in
     let there = shape_again cells p k vars firsts places c.requires.so_far low is (λ e. c.if-first-p.false (first ∙ e)) in
     rw c.in_ok-push-2.ensures.items
     (shape_on cells p c.place-first.result vars firsts places c.requires.so_far (subst (λ q. q < length cells) (sym first) (place_holds cells k (contains_at cells p k low is)).0)
-    (λ j other. first ∙ ap (place_of cells) (same_var (cell_at cells p) k j is other)) (λ j other. subst (λ y. Contains vars y) (same_var (cell_at cells p) k j is other) there))
+    (λ j other. first ∙ ap (variable_place cells) (same_var (cell_at cells p) k j is other)) (λ j other. subst (λ y. Contains vars y) (same_var (cell_at cells p) k j is other) there))

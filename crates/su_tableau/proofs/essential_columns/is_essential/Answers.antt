@@ -1,6 +1,7 @@
 use Rattle.std.proofs.Common.{refl, sym, ◌∙◌, subst, Contains, None, true≢false}
 use Rattle.su_tableau.specs.declared.symbols.Sym.TheVariants.{Const, Var}
-use Rattle.su_tableau.specs.Essential.{HasSymbol, constant, in_head, twice, StandsElsewhere}
+use Rattle.su_tableau.specs.Essential.{HasSymbol, constant, in_head, twice}
+use Rattle.su_tableau.specs.inside.Elsewhere.{StandsElsewhere}
 use Rattle.su_tableau.proofs.EssentialCells.{cell_holds, contains_stands, stands_contains, essential_else}
 use Rattle.su_tableau.proofs.essential_columns.is_essential.Goals as goal
 use Rattle.su_tableau.proofs.essential_columns.is_essential.Goals.{In-Var}

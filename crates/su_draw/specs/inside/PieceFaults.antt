@@ -1,0 +1,12 @@
+-- The first line at fault among the pieces of a text.
+-- No public contract cites this module.
+use Rattle.std.specs.Prelude.{List}
+use Rattle.su_draw.specs.declared.pieces.Piece.{Piece}
+use Rattle.su_draw.specs.declared.reading.Fault.{Fault}
+use Rattle.su_draw.specs.declared.reading.Fault.TheVariants.{Line as AtLine, NoMemory}
+use Rattle.su_draw.specs.LineFaults.{IsLineAtFault}
+
+-- the fault is a line's, where it isn't want of memory
+abbrev pub IsFaultAmong : List Piece → Fault → Type 0
+IsFaultAmong pieces (AtLine number) = IsLineAtFault pieces number
+IsFaultAmong pieces NoMemory = Unit {0}
