@@ -28,8 +28,8 @@ use Rattle.su_state.proofs.Columns.{column_within}
 use Rattle.su_answer.proofs.Columns.{object_is}
 use Rattle.su_answer.proofs.PairedLists.{zip_first, zip_second}
 use Rattle.su_answer.proofs.RowAgreement.{essential_has}
-use Rattle.su_answer.proofs.Joined.{in_rows}
 use Rattle.su_map.proofs.SearchStart.{numbers_few}
+use Rattle.su_map.proofs.RowLists.{in_rows}
 
 keep_few : (b n : ℕ) → b < 2 → length (keep_if b n []) ≤ 1
 keep_few zero n l = omega arith

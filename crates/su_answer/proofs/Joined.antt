@@ -14,7 +14,7 @@ use Rattle.su_tableau.specs.declared.symbols.Sym.TheVariants.{Var}
 use Rattle.su_tableau.specs.Tableaux.{Tab, IsValid}
 use Rattle.su_tableau.specs.Valuations.{value_of, values_of, AreCompared, Cut}
 use Rattle.su_map.specs.Lists.{row_numbers}
-use Rattle.su_map.proofs.Ranks.{rank, rank_in, rank_at, ranked_at}
+use Rattle.su_map.proofs.RowLists.{in_rows, of_rows}
 use Rattle.su_state.specs.DatabaseValue.{DatabaseValue, IsWellKept}
 use Rattle.su_exec.specs.declared.tasks.Task.{Task}
 use Rattle.su_exec.specs.Tasks.{HasSources, IsTask}
@@ -23,17 +23,6 @@ use Rattle.su_answer.specs.Answers.{IsRead, StoredAnswer}
 use Rattle.su_answer.specs.Joined.{IsTaskRowOf, comparison_at, IsTaskOf}
 use Rattle.su_answer.proofs.PairedLists.{zip_first, zip_second}
 use Rattle.su_answer.proofs.RowAgreement.{row_read, read_row}
-
--- ---- rows of a set
-
-pub in_rows : (t : Tab) (m i : ℕ) → i < length t.rows → bit_at m i ≡ 1 → Contains (row_numbers t m) i
-in_rows t m i l b = (rank m i, rank_in m (length t.rows) i l b, get_or_default (row_numbers t m) (rank m i) i 0 (rank_in m (length t.rows) i l b) ∙ rank_at m (length t.rows) i l b)
-
-pub of_rows : (t : Tab) (m i : ℕ) → Contains (row_numbers t m) i → (i < length t.rows) × (bit_at m i ≡ 1)
-of_rows t m i c =
-    let r = ranked_at m (length t.rows) c.0 c.1 in
-    let same : r.number ≡ i = sym r.is ∙ get_or_default (row_numbers t m) c.0 0 i c.1 ∙ c.2 in
-    (subst (λ k. k < length t.rows) same r.below, subst (λ k. bit_at m k ≡ 1) same r.member)
 
 -- ---- comparisons
 

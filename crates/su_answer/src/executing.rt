@@ -84,7 +84,7 @@ fn executed<L: Ledger>(
 }
 
 /// The task of the kept rows.
-fn task_for(alloc: Global, db: &Database, minimal: &Minimal) -> Result<Task, NoMemory>
+pub(crate) fn task_for(alloc: Global, db: &Database, minimal: &Minimal) -> Result<Task, NoMemory>
     requires { IsTyped (attribute_kinds db.now.schema) minimal.now.tableau }
     ensures { IfOk result (λ task. IsJoinOf db.now minimal.now (record { tables = db.now.tables; task = task })) }
 {

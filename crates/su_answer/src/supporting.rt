@@ -14,8 +14,8 @@ ghost use Rattle.su_answer.specs.inside.Alone.{AreCountable, IsEdgeOf};
 ghost use Rattle.su_answer.specs.inside.Supported.{AreEdgesOf, IsKeptTask, count_left, counted_at};
 
 use crate::alone::candidates;
+use crate::executing::task_for;
 use crate::preparing::Prepared;
-use crate::tasks::task_of;
 use std::alloc::Global;
 use std::marker::Brand;
 use std::sync::ledger::{Blank, Ledger};
@@ -23,7 +23,6 @@ use su_base::{List, NoMemory, Row};
 use su_exec::Task;
 use su_index::{Table, TableRows};
 use su_min::Minimal;
-use su_min::laws::kept_rows_are_least;
 use su_reduce::{Counted, Edge, Support, ears, reduce};
 use su_state::Database;
 use su_steps::laws::terms_are_valid_and_typed;
@@ -53,11 +52,7 @@ fn kept_task(alloc: Global, db: &Database, minimal: &Minimal) -> Result<Task, No
     ensures { IfOk result (IsKeptTask db.now minimal.now) }
 {
     db.keeps_its_rules();
-    minimal.keeps_its_rules();
-    let t = minimal.tableau();
-    t.keeps_its_rules();
-    kept_rows_are_least();
-    let task = task_of(alloc, db.schema(), t, minimal.mask())?;
+    let task = task_for(alloc, db, minimal)?;
     Ok(task)
 }
 

@@ -1,14 +1,8 @@
 -- Pieces of a script, one after another.
-use Rattle.std.proofs.Common.{◌≡◌, ◌+◌, ℕ, zero, suc, List, [], ◌∷◌, ◌++◌, sym, ap, append_assoc, arith, ◌∙◌}
+use Rattle.std.proofs.Common.{◌≡◌, ◌+◌, ℕ, zero, suc, List, [], ◌∷◌, ◌++◌, refl, sym, ap, append_assoc, arith, ◌∙◌}
 use Rattle.std.specs.List.{flat_map, range_with_len}
 use Rattle.std.proofs.lemmas.List.{flat_map_more}
-
--- one more place of a range
-range_more : (a n : ℕ) → range_with_len a (suc n) ≡ range_with_len a n ++ (a + n) ∷ []
-range_more a zero = ap (λ k. k ∷ []) (omega arith)
-range_more a (suc n) =
-    let there : (a + 1) + n ≡ a + suc n = omega arith in
-    ap (λ rest. a ∷ rest) (range_more (a + 1) n ∙ ap (λ k. range_with_len (a + 1) n ++ k ∷ []) there)
+use Rattle.su_base.proofs.Items.{range-suc}
 
 -- the piece of one more number
 pub pieces_more : (f : ℕ → List ℕ) (front : List ℕ) (n : ℕ) → (front ++ flat_map f (range_with_len 1 n)) ++ f (n + 1) ≡ front ++ flat_map f (range_with_len 1 (n + 1))
@@ -16,7 +10,7 @@ pieces_more f front n =
     let one : n + 1 ≡ 1 + n = omega arith in
     let next : suc n ≡ n + 1 = omega arith in
     flat_map_more f front (range_with_len 1 n) (n + 1)
-    ∙ ap (λ xs. front ++ flat_map f xs) (ap (λ k. range_with_len 1 n ++ k ∷ []) one ∙ sym (range_more 1 n) ∙ ap (range_with_len 1) next)
+    ∙ ap (λ xs. front ++ flat_map f xs) (ap (λ k. range_with_len 1 n ++ k ∷ []) one ∙ sym (range-suc 1 n (1 + n) refl) ∙ ap (range_with_len 1) next)
 
 -- seven pieces
 pub seven : (s t u v w x y z a b c d e f g : List ℕ) → t ≡ s ++ a → u ≡ t ++ b → v ≡ u ++ c → w ≡ v ++ d → x ≡ w ++ e → y ≡ x ++ f → z ≡ y ++ g

@@ -19,7 +19,7 @@ use Rattle.su_base.proofs.Rows.{cmp-values, values_total}
 use Rattle.su_tableau.specs.declared.symbols.Sym.{Sym}
 use Rattle.su_tableau.specs.declared.symbols.Sym.TheVariants.{Const, Var}
 use Rattle.su_classes.specs.Tables.{rep}
-use Rattle.su_classes.specs.inside.Symbols.{has_constant, place_of}
+use Rattle.su_classes.specs.inside.Symbols.{has_constant, constant_place}
 use Rattle.su_classes.proofs.ValueOrder.{compare_itself, compare_same, sorted_distinct, less_before}
 use Rattle.su_classes.proofs.Places.{place_is, place_at, place_none, has_at}
 use Rattle.su_chase.specs.inside.Rows.{constant_of, constants_in, IsFirstClash, TakesLesser}
@@ -62,17 +62,17 @@ sorted_plainly vs h k d z l =
     let more : compare_values (get_or vs (k + 1) d) (get_or vs k d) ≡ Greater = values_total.antisymm (get_or vs (k + 1) d) (get_or vs k d) ∙ ap ordering_reverse less in
     ap is_lt more
 
-pub place_searched : (vs : List Value) (c : Value) (r : Result ℕ ℕ) → IsStrictlySortedBy compare_values vs → IsSearchInRange r (length vs) → IsBinarySearchResult (λ y. cmp_ghosts.cmp y c) vs r → MatchResult r (λ i. i ≡ place_of vs c) (λ _. length vs ≡ place_of vs c)
+pub place_searched : (vs : List Value) (c : Value) (r : Result ℕ ℕ) → IsStrictlySortedBy compare_values vs → IsSearchInRange r (length vs) → IsBinarySearchResult (λ y. cmp_ghosts.cmp y c) vs r → MatchResult r (λ i. i ≡ constant_place vs c) (λ _. length vs ≡ constant_place vs c)
 place_searched vs c (Ok i) sorted range found =
     let e : get_or vs i (Text []) ≡ c = compare_same (get_or vs i (Text [])) c (sym (cmp-values (get_or vs i (Text [])) c) ∙ found (Text [])) in
-    sym (place_at vs (sorted_distinct vs sorted) i range) ∙ ap (place_of vs) e
+    sym (place_at vs (sorted_distinct vs sorted) i range) ∙ ap (constant_place vs) e
 place_searched vs c (Err i) sorted range found =
     let plain : IsBinarySearchResult (λ y. compare_values y c) vs (Err i) = subst (λ (o : Value → Ordering). IsBinarySearchResult o vs (Err i)) (λ j y. cmp-values y c j) found in
     let parted = plain (searchable_from_sorted values_total (λ v. v) vs c (sorted_plainly vs sorted)) in
     ⊎_elim
     (λ (t : has_constant vs c ≡ true).
     let w = place_is vs c t in
-    let p : ℕ = place_of vs c in
+    let p : ℕ = constant_place vs c in
     let same : compare_values (get_or vs p (Text [])) c ≡ Same = ap (λ v. compare_values v c) w.1 ∙ compare_itself c in
     ⊎_elim
     (λ (lt : p < i). let less : compare_values (get_or vs p (Text [])) c ≡ Less = parted.0 p (Text []) (omega arith) lt in let o : Same ≡ Less = sym same ∙ less in absurd (cc))

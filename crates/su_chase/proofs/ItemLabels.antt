@@ -11,7 +11,7 @@ use Rattle.su_tableau.specs.declared.symbols.Sym.{Sym}
 use Rattle.su_tableau.specs.declared.symbols.Sym.TheVariants.{Var}
 use Rattle.su_classes.specs.declared.items.Placed.{Placed}
 use Rattle.su_fd.specs.MetDependencies.{LiesIn}
-use Rattle.su_classes.specs.Items.{cell, SameAt, Keeps, IsKept, IsPlacedBelow}
+use Rattle.su_classes.specs.Items.{item_of, SameItemLabels, Keeps, IsKept, IsPlacedBelow}
 use Rattle.su_classes.specs.Tables.{rep, IsLeastTable}
 use Rattle.su_classes.specs.inside.Symbols.{AreDistinct, is_known, symbol_number, symbol_at, name_in}
 use Rattle.su_classes.proofs.Places.{IsNumbering, numbering}
@@ -50,10 +50,10 @@ module _ (vs : List Value) (limit width : ℕ) (fds : List Fd) (rows : List (Lis
       (get_or rows i [], Contains-get_or rows i [] l, subst (λ (q : Placed). IsPlacedRow vs (get_or rows i []) q) c.2 (n.are i p l))
 
   -- the item at an attribute is the number of the symbol there
-  cell_is : (r : List Sym) (p : Placed) (a : ℕ) (d : Sym) → IsPlacedRow vs r p → a < length r → cell p a ≡ symbol_number vs (get_or r a d)
+  cell_is : (r : List Sym) (p : Placed) (a : ℕ) (d : Sym) → IsPlacedRow vs r p → a < length r → item_of p a ≡ symbol_number vs (get_or r a d)
   cell_is r p a d is l = ap (λ (cells : List ℕ). get_or cells a 0) is.cells ∙ get_or-map (symbol_number vs) r a d 0 l
 
-  symbol_is : (r : List Sym) (p : Placed) (a : ℕ) (d : Sym) → Contains rows r → IsPlacedRow vs r p → a < length r → symbol_at vs (cell p a) ≡ get_or r a d
+  symbol_is : (r : List Sym) (p : Placed) (a : ℕ) (d : Sym) → Contains rows r → IsPlacedRow vs r p → a < length r → symbol_at vs (item_of p a) ≡ get_or r a d
   symbol_is r p a d c is l = ap (symbol_at vs) (cell_is r p a d is l) ∙ (numbering vs limit n.distinct).back (get_or r a d) (n.known r c (get_or r a d) (Contains-get_or r a d l))
 
   pub labels_kept : (label : Sym → Sym) → IsClosedPartition fds rows label → IsKept fds placed [] (λ i. label (symbol_at vs i))
@@ -115,7 +115,7 @@ module _ (vs : List Value) (limit width : ℕ) (fds : List Fd) (rows : List (Lis
         let keeps = All-contains (Keeps (rep table) placed) fds f least.kept.dependencies cf in
         let known_r : (b : ℕ) (e : Sym) → b < width → is_known vs limit (get_or r b e) ≡ true = λ b e l. n.known r cr (get_or r b e) (Contains-get_or r b e (omega arith)) in
         let known_s : (b : ℕ) (e : Sym) → b < width → is_known vs limit (get_or s b e) ≡ true = λ b e l. n.known s cs (get_or s b e) (Contains-get_or s b e (omega arith)) in
-        let left : SameAt (rep table) f.left p.0 q.0 = λ b has.
+        let left : SameItemLabels (rep table) f.left p.0 q.0 = λ b has.
         let l = low.left b has in
         ap (rep table) (cell_is r p.0 b (Var 0) p.2 (omega arith))
         ∙ same_rep (length vs) table (is_known vs limit) (symbol_number vs) (symbol_at vs) numbers least.ordered (get_or r b (Var 0)) (get_or s b (Var 0)) (known_r b (Var 0) l) (known_s b (Var 0) l) (same b (Var 0) has)

@@ -9,18 +9,16 @@ use Rattle.su_base.specs.Value.{compare_values}
 use Rattle.su_fd.specs.declared.dependencies.Fd.{Fd}
 use Rattle.su_tableau.specs.declared.symbols.Sym.{Sym}
 use Rattle.su_tableau.specs.declared.symbols.Sym.TheVariants.{Const, Var}
+use Rattle.su_tableau.proofs.SymbolParts.{same_const}
 use Rattle.su_classes.specs.declared.items.Placed.{Placed}
 use Rattle.su_classes.specs.Tables.{rep, IsTable, IsLeastTable}
-use Rattle.su_classes.specs.inside.Symbols.{has_constant, place_of, is_known, symbol_number, symbol_at, name_in}
+use Rattle.su_classes.specs.inside.Symbols.{has_constant, constant_place, is_known, symbol_number, symbol_at, name_in}
 use Rattle.su_classes.proofs.ValueOrder.{compare_itself, less_before}
 use Rattle.su_classes.proofs.Places.{place_is, place_at, symbol_low, symbol_high, own_constant}
 use Rattle.su_classes.proofs.Named.{name_known, name_unknown, same_rep, known_too, item_class, name_member}
 use Rattle.su_chase.specs.Chase.{IsClosedPartition, InOneClass, IsNoLater, IsName, IsConsistent, IsClash}
 use Rattle.su_chase.specs.inside.Rows.{IsFirstClash}
 use Rattle.su_chase.proofs.ItemLabels.{AreNumbered, labels_kept, numbers, names_closed}
-
-pub same_const : (a b : Value) → Const a ≡ Const b → a ≡ b
-same_const a b h = cc
 
 -- ---- numbers by the order of symbols
 
@@ -57,12 +55,12 @@ no_later vs limit sorted i j le =
 
 -- different constants in one class have different places and one representative
 pub record Meeting (vs : List Value) (table : List ℕ) (a b : Value) : Type 0 where
-  pub a_in : place_of vs a < length vs
-  pub b_in : place_of vs b < length vs
-  pub apart : place_of vs a ≢ place_of vs b
-  pub one : rep table (place_of vs a) ≡ rep table (place_of vs b)
-  pub a_is : get_or vs (place_of vs a) (Text []) ≡ a
-  pub b_is : get_or vs (place_of vs b) (Text []) ≡ b
+  pub a_in : constant_place vs a < length vs
+  pub b_in : constant_place vs b < length vs
+  pub apart : constant_place vs a ≢ constant_place vs b
+  pub one : rep table (constant_place vs a) ≡ rep table (constant_place vs b)
+  pub a_is : get_or vs (constant_place vs a) (Text []) ≡ a
+  pub b_is : get_or vs (constant_place vs b) (Text []) ≡ b
 
 -- ---- names
 
@@ -155,17 +153,17 @@ module _ (vs : List Value) (limit width : ℕ) (fds : List Fd) (rows : List (Lis
       let r_in : r < length vs = omega arith in
       let less : Value = get_or vs r (Text []) in
       let greater : Value = get_or vs g (Text []) in
-      let less_at : place_of vs less ≡ r = place_at vs n.distinct r r_in in
-      let greater_at : place_of vs greater ≡ g = place_at vs n.distinct g g_in in
+      let less_at : constant_place vs less ≡ r = place_at vs n.distinct r r_in in
+      let greater_at : constant_place vs greater ≡ g = place_at vs n.distinct g g_in in
       record {
-        differ = λ e. let p : r ≡ g = sym less_at ∙ ap (place_of vs) e ∙ greater_at in omega arith;
+        differ = λ e. let p : r ≡ g = sym less_at ∙ ap (constant_place vs) e ∙ greater_at in omega arith;
         together = λ label p.
             let c = item_class (IsClosedPartition fds rows) fds placed [] (length vs) table (is_known vs limit) (symbol_number vs) (symbol_at vs) (numbers vs limit width fds rows placed n table size least) least (labels_kept vs limit width fds rows placed n) g (let e = size in omega arith) label p in
             ap label (sym (symbol_low vs limit r r_in)) ∙ sym c ∙ ap label (symbol_low vs limit g g_in);
         least = λ a b ne c.
             let m = meeting a b ne c in
-            let i : ℕ = place_of vs a in
-            let j : ℕ = place_of vs b in
+            let i : ℕ = constant_place vs a in
+            let j : ℕ = constant_place vs b in
             let i_low = low i m.a_in in
             let j_low = low j m.b_in in
             let r_le : r ≤ i =
@@ -176,7 +174,7 @@ module _ (vs : List Value) (limit width : ℕ) (fds : List Fd) (rows : List (Lis
             subst (λ (x : Value). compare_values less x ≢ Greater) m.a_is (constants_at_most vs sorted r i r_le m.a_in);
         other = λ b ne c.
             let m = meeting less b ne c in
-            let j : ℕ = place_of vs b in
+            let j : ℕ = constant_place vs b in
             let j_low = low j m.b_in in
             let one : rep table j ≡ r = sym m.one ∙ ap (rep table) less_at ∙ t.own g (let e = size in omega arith) in
             let j_ne : j ≢ r = λ e. m.apart (less_at ∙ sym e) in

@@ -11,20 +11,19 @@ use Rattle.su_base.specs.declared.values.Value.TheVariants.{Int, Text}
 use Rattle.su_base.specs.Value.{compare_values}
 use Rattle.std.specs.declared.cmp.Ordering.TheVariants.{Equal as Same, Greater}
 use Rattle.su_base.proofs.Items.{Contains-map, Contains-map_source, map-map_equal}
-use Rattle.su_classes.proofs.Merges.{same_var}
 use Rattle.su_fd.specs.declared.dependencies.Fd.{Fd}
 use Rattle.su_tableau.specs.declared.symbols.Sym.{Sym}
 use Rattle.su_tableau.specs.declared.symbols.Sym.TheVariants.{Const, Var}
 use Rattle.su_tableau.specs.Tableaux.{Tab, IsValid, IsSmall, Occurs, AreBelow}
 use Rattle.su_tableau.specs.Valuations.{value_of, values_of, Sends, Ext}
 use Rattle.su_tableau.specs.Kinds.{Kinds, sym_kind, IsTyped}
+use Rattle.su_tableau.proofs.SymbolParts.{same_const, same_var}
 use Rattle.su_classes.proofs.ValueOrder.{at_most_both, compare_itself}
 use Rattle.su_fd.specs.MetDependencies.{Agree, Meets}
 use Rattle.su_chase.specs.Chase.{SameLabels, IsClosedPartition, InOneClass, IsNoLater, IsName, IsConsistent, IsClash}
 use Rattle.su_chase.specs.Chased.{IsFdBelow, AreRows, IsChased}
 use Rattle.su_chase.specs.inside.Rows.{name_by, named_tab}
 use Rattle.su_chase.proofs.Images.{map_read}
-use Rattle.su_chase.proofs.Named.{same_const}
 
 -- ---- names are unique
 

@@ -5,7 +5,7 @@ ghost use Rattle.std.specs.FinSet.{contains};
 ghost use Rattle.su_base.specs.declared.values.Value.{Value as AValue};
 ghost use Rattle.su_base.specs.Value.{compare_values};
 ghost use Rattle.su_tableau.specs.Tableaux.{AreBelow};
-ghost use Rattle.su_classes.specs.inside.Symbols.{place_of, symbol_number};
+ghost use Rattle.su_classes.specs.inside.Symbols.{constant_place, symbol_number};
 ghost use Rattle.su_classes.specs.declared.items.Placed.{Placed as APlaced};
 ghost use Rattle.su_chase.specs.inside.Rows.{constant_of, constants_in, IsPlacedRow};
 
@@ -82,7 +82,7 @@ pub fn limit_of(rows: &[List<Sym>]) -> usize
 /// The place of a constant, or their number where it is not there.
 fn place(constants: &[Value], value: &Value) -> usize
     requires { IsStrictlySortedBy compare_values constants.now }
-    ensures { result ≡ place_of constants.now value.now }
+    ensures { result ≡ constant_place constants.now value.now }
 {
     match constants.binary_search(value) {
         Ok(place) => place,

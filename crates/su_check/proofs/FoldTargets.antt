@@ -5,7 +5,8 @@ use Rattle.std.proofs.lemmas.List.{get_or_default}
 use Rattle.std.proofs.lemmas.List.Elements.{All-nil, All-push}
 use Rattle.su_tableau.specs.declared.symbols.Sym.{Sym}
 use Rattle.su_tableau.specs.declared.symbols.Sym.TheVariants.{Const, Var}
-use Rattle.su_tableau.specs.Mapping.{image_of, images_of}
+use Rattle.su_tableau.specs.Mapping.{images_of}
+use Rattle.su_tableau.proofs.Containment.{images_of-Var}
 use Rattle.su_check.specs.declared.sending.Sent.{Sent}
 use Rattle.su_check.specs.SentRows.{Lines, numbered_row, AreSent, sent_too}
 use Rattle.su_check.specs.inside.Widths.{IsWithin}
@@ -20,14 +21,6 @@ fold_sent fold (suc n) = sent_too (fold_sent fold n) n (get_or fold n 0)
 -- the first n targets are kept
 abbrev pub IntoKept : Lines → List ℕ → ℕ → Type 0
 IntoKept t fold n = (i : ℕ) → i < n → Contains t.kept (get_or fold i 0)
-
-image_of-Var : (x : Sym) → image_of Var x ≡ x
-image_of-Var (Const c) = refl
-image_of-Var (Var k) = refl
-
-pub images_of-Var : (xs : List Sym) → images_of Var xs ≡ xs
-images_of-Var [] = refl
-images_of-Var (x ∷ xs) = let i = images_of-Var xs in let j = image_of-Var x in cc
 
 -- the empty list is sent
 pub none_sent : (t : Lines) → AreSent t []

@@ -11,7 +11,7 @@ use Rattle.su_tableau.specs.Tableaux.{Tab, IsValid, Occurs}
 use Rattle.su_tableau.specs.Kinds.{Kinds, IsTyped, sym_kind}
 use Rattle.su_tableau.specs.Mapping.{image_of, images_of, Maps}
 use Rattle.su_tableau.specs.Equivalent.{IsLeast}
-use Rattle.su_tableau.proofs.Containment.{maps_compose, maps_within, images_after}
+use Rattle.su_tableau.proofs.Containment.{maps_compose, maps_to_more, maps_within, images_after}
 use Rattle.su_tableau.proofs.FrozenTableaux.{within_maps}
 use Rattle.su_tableau.proofs.Sets.{choose}
 use Rattle.su_check.specs.declared.nodes.Node.{Node}
@@ -21,7 +21,6 @@ use Rattle.su_check.specs.SentRows.{Lines, numbered_row, sent_too}
 use Rattle.su_check.specs.Refutations.{IsAscending, IsFitting, Refutes, refuting, row_named, branches_of, target_of, node_of}
 use Rattle.su_check.specs.LeastParts.{part_of, IsLeastPart}
 use Rattle.su_check.specs.Certificate.{IsFoldInto}
-use Rattle.su_check.proofs.FoldTargets.{images_of-Var}
 
 -- ---- a tree refutes each map that leaves the row out
 
@@ -81,14 +80,11 @@ module _ (t : Tab) (kept : List ℕ) where
 
   pub part_maps : All (λ k. k < length t.rows) kept → Maps (part_of t kept) t
   unfolding row
-  part_maps within = record {
-    symbols = Var;
-    head = images_of-Var t.head;
-    rows = λ k d h.
-        let r = part_at k d h in
-        let low = All-contains (λ k. k < length t.rows) kept r.0 within r.1 in
-        subst (Contains t.rows) (sym (images_of-Var (get_or (part_of t kept).rows k d))) (r.0, low, get_or_default t.rows r.0 (get_or (part_of t kept).rows k d) [] low ∙ sym r.2);
-  }
+  part_maps within =
+      maps_to_more (part_of t kept) t refl (λ k d h.
+      let r = part_at k d h in
+      let low = All-contains (λ k. k < length t.rows) kept r.0 within r.1 in
+      (r.0, low, get_or_default t.rows r.0 (get_or (part_of t kept).rows k d) [] low ∙ sym r.2))
 
   part_typed : (kinds : Kinds) → All (λ k. k < length t.rows) kept → IsTyped kinds t → IsTyped kinds (part_of t kept)
   unfolding row

@@ -22,7 +22,6 @@ mod items;
 mod kinds;
 pub mod laws;
 mod lines;
-mod nesting;
 mod nodes;
 mod numbers;
 mod reading;

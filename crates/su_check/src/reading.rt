@@ -6,9 +6,8 @@ ghost use Rattle.su_check.specs.inside.LineReaders.{Gives};
 
 use crate::certificates::Certificate;
 use crate::lines::certificate;
-use crate::nesting::nests_too_deep;
 use std::alloc::Global;
-use su_lex::{LexEnd, Reader};
+use su_lex::{LexEnd, Reader, nests_too_deep};
 
 /// The certificate that the bytes spell, if they spell one.
 pub fn read(alloc: Global, bytes: &[u8]) -> Result<Certificate, LexEnd>

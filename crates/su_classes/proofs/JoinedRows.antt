@@ -9,6 +9,7 @@ use Rattle.std.proofs.lemmas.List.Elements.{All-contains, Contains-get_or}
 use Rattle.su_fd.specs.declared.dependencies.Fd.{Fd}
 use Rattle.su_tableau.specs.declared.symbols.Sym.{Sym}
 use Rattle.su_tableau.specs.declared.symbols.Sym.TheVariants.{Var}
+use Rattle.su_tableau.proofs.SymbolParts.{same_var}
 use Rattle.su_classes.specs.declared.items.Placed.{Placed}
 use Rattle.su_classes.specs.declared.items.Together.{Together}
 use Rattle.su_fd.specs.MetDependencies.{LiesIn}
@@ -18,7 +19,7 @@ use Rattle.su_classes.specs.inside.Tables.{IsForest, IsJoining, IsShortened, IsM
 use Rattle.su_classes.specs.inside.Firsts.{row_at, first_at, AreMembersBelow, AreFirsts}
 use Rattle.su_classes.proofs.Listed.{right_low}
 use Rattle.su_base.proofs.Subsets.{subset_at}
-use Rattle.su_classes.proofs.Merges.{own_labels, same_var, progress_none, progress_then, progress_same}
+use Rattle.su_classes.proofs.Merges.{own_labels, progress_none, progress_then, progress_same}
 
 or_left : (x y : Bool) → (x || y) ≡ false → x ≡ false
 or_left true y e = absurd (true≢false e)

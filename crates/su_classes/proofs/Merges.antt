@@ -71,9 +71,6 @@ joining_cells f g xs i e x y old t new l ex ey first next =
 pub own_labels : (t : List ℕ) → IsTable t → IsSound t (λ i. Var (rep t i))
 own_labels t is i l = ap Var (sym (is.own i l))
 
-pub same_var : (j k : ℕ) → Var j ≡ Var k → j ≡ k
-same_var j k e = cc
-
 -- ---- progress
 
 pub progress_none : (t : List ℕ) → IsProgress t t false

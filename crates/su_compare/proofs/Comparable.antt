@@ -1,6 +1,7 @@
 -- The terms of queries that ask for equalities alone compare nothing.
 use Rattle.std.proofs.Common.{◌≡◌, ⊎_elim, ℕ, zero, suc, ◌*◌, ◌≤◌, true, false, cond, List, [], ◌∷◌, map, flat_map, length, get_or, Contains, All, refl, sym, ap, ◌∙◌, subst, arith}
 use Rattle.std.specs.List.{range_with_len}
+use Rattle.std.specs.Cmp.{first_so, second_so}
 use Rattle.std.specs.Ordering.{nat_cmp}
 use Rattle.std.specs.FinSet.{FinSet}
 use Rattle.std.proofs.lemmas.Bool.Decides.{nat_tests}
@@ -34,7 +35,7 @@ use Rattle.su_compare.specs.Outputs.{output_kinds}
 use Rattle.su_compare.specs.Within.{AreOf}
 use Rattle.su_compare.specs.Comparable.{IsPlain}
 use Rattle.su_compare.specs.Laws.{TermsAreComparable}
-use Rattle.su_compare.proofs.OnlyEqual.{are_equalities, all_equalities, and-left, and-right, only_equalities}
+use Rattle.su_compare.proofs.OnlyEqual.{are_equalities, all_equalities, only_equalities}
 use Rattle.su_steps.proofs.Outs.{terms_of}
 
 -- ---- comparisons
@@ -63,14 +64,14 @@ literal_at : (d : List Literal) (l : Literal) → are_equalities d ≡ true → 
 literal_at [] l all has = let low = has.1 in absurd (omega arith)
 literal_at (x ∷ xs) l all has =
     ⊎_elim
-    (λ (e : x ≡ l). subst (λ y. asks_equality y.op false ≡ true) e (and-left (asks_equality x.op false) (are_equalities xs) all))
-    (λ (later : Contains xs l). literal_at xs l (and-right (asks_equality x.op false) (are_equalities xs) all) later)
+    (λ (e : x ≡ l). subst (λ y. asks_equality y.op false ≡ true) e (first_so (asks_equality x.op false) (are_equalities xs) all))
+    (λ (later : Contains xs l). literal_at xs l (second_so (asks_equality x.op false) (are_equalities xs) all) later)
     (Contains-cases x xs l has)
 
 disjunct_at : (ds : List (List Literal)) (i : ℕ) → all_equalities ds ≡ true → are_equalities (get_or ds i []) ≡ true
 disjunct_at [] i all = refl
-disjunct_at (d ∷ ds) zero all = and-left (are_equalities d) (all_equalities ds) all
-disjunct_at (d ∷ ds) (suc i) all = disjunct_at ds i (and-right (are_equalities d) (all_equalities ds) all)
+disjunct_at (d ∷ ds) zero all = first_so (are_equalities d) (all_equalities ds) all
+disjunct_at (d ∷ ds) (suc i) all = disjunct_at ds i (second_so (are_equalities d) (all_equalities ds) all)
 
 -- ---- terms
 

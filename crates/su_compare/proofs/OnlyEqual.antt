@@ -1,6 +1,7 @@
 -- The disjuncts of a condition that asks for equalities alone have only equalities.
 use Rattle.std.proofs.Common.{◌≡◌, Bool, true, false, not, ◌&&◌, List, [], ◌∷◌, ◌++◌, map, refl, sym, ap, subst, ◌∙◌}
 use Rattle.std.specs.List.{list_all}
+use Rattle.std.specs.Cmp.{first_so, second_so}
 use Rattle.std.proofs.lemmas.List.Folds.{list_all-append}
 use Rattle.std.proofs.lemmas.Bool.{and_from}
 use Rattle.su_where.specs.declared.operators.Op.{Op}
@@ -47,39 +48,31 @@ are_equalities d = list_all (λ l. asks_equality l.op false) d
 abbrev pub all_equalities : List (List Literal) → Bool
 all_equalities ds = list_all are_equalities ds
 
-pub and-left : (a b : Bool) → (a && b) ≡ true → a ≡ true
-and-left true b e = refl
-and-left false b e = e
-
-pub and-right : (a b : Bool) → (a && b) ≡ true → b ≡ true
-and-right true b e = e
-and-right false b e = absurd (cc)
-
 all-append : (xs ys : List (List Literal)) → all_equalities xs ≡ true → all_equalities ys ≡ true → all_equalities (xs ++ ys) ≡ true
 all-append xs ys e f = list_all-append are_equalities xs ys ∙ and_from (all_equalities xs) (all_equalities ys) e f
 
 all-joined : (fs : List (List (List Literal))) → list_all all_equalities fs ≡ true → all_equalities (joined fs) ≡ true
 all-joined [] e = refl
 all-joined (f ∷ fs) e =
-    all-append f (joined fs) (and-left (all_equalities f) (list_all all_equalities fs) e) (all-joined fs (and-right (all_equalities f) (list_all all_equalities fs) e))
+    all-append f (joined fs) (first_so (all_equalities f) (list_all all_equalities fs) e) (all-joined fs (second_so (all_equalities f) (list_all all_equalities fs) e))
 
 all-each : (d : List Literal) (es : List (List Literal)) → are_equalities d ≡ true → all_equalities es ≡ true → all_equalities (map (λ e. d ++ e) es) ≡ true
 all-each d [] h k = refl
 all-each d (e ∷ es) h k =
     and_from (are_equalities (d ++ e)) (all_equalities (map (λ e. d ++ e) es))
-    (list_all-append (λ l. asks_equality l.op false) d e ∙ and_from (are_equalities d) (are_equalities e) h (and-left (are_equalities e) (all_equalities es) k))
-    (all-each d es h (and-right (are_equalities e) (all_equalities es) k))
+    (list_all-append (λ l. asks_equality l.op false) d e ∙ and_from (are_equalities d) (are_equalities e) h (first_so (are_equalities e) (all_equalities es) k))
+    (all-each d es h (second_so (are_equalities e) (all_equalities es) k))
 
 all-pairs : (ds es : List (List Literal)) → all_equalities ds ≡ true → all_equalities es ≡ true → all_equalities (pairs_of ds es) ≡ true
 all-pairs [] es h k = refl
 all-pairs (d ∷ ds) es h k =
-    all-append (map (λ e. d ++ e) es) (pairs_of ds es) (all-each d es (and-left (are_equalities d) (all_equalities ds) h) k)
-    (all-pairs ds es (and-right (are_equalities d) (all_equalities ds) h) k)
+    all-append (map (λ e. d ++ e) es) (pairs_of ds es) (all-each d es (first_so (are_equalities d) (all_equalities ds) h) k)
+    (all-pairs ds es (second_so (are_equalities d) (all_equalities ds) h) k)
 
 all-combinations : (fs : List (List (List Literal))) → list_all all_equalities fs ≡ true → all_equalities (combinations_of fs) ≡ true
 all-combinations [] e = refl
 all-combinations (f ∷ fs) e =
-    all-pairs f (combinations_of fs) (and-left (all_equalities f) (list_all all_equalities fs) e) (all-combinations fs (and-right (all_equalities f) (list_all all_equalities fs) e))
+    all-pairs f (combinations_of fs) (first_so (all_equalities f) (list_all all_equalities fs) e) (all-combinations fs (second_so (all_equalities f) (list_all all_equalities fs) e))
 
 -- ---- layer by layer
 
@@ -94,8 +87,8 @@ kept_parts : (b : Bool) (es : List ((c : Cond) × IsKept c)) → list_all (λ c.
 kept_parts b [] h = refl
 kept_parts b (e ∷ es) h =
     and_from (all_equalities (form_of e.0 b)) (list_all all_equalities (forms b (parts es)))
-    (e.1 b (and-left (asks_equalities e.0 b) (list_all (λ c. asks_equalities c b) (parts es)) h))
-    (kept_parts b es (and-right (asks_equalities e.0 b) (list_all (λ c. asks_equalities c b) (parts es)) h))
+    (e.1 b (first_so (asks_equalities e.0 b) (list_all (λ c. asks_equalities c b) (parts es)) h))
+    (kept_parts b es (second_so (asks_equalities e.0 b) (list_all (λ c. asks_equalities c b) (parts es)) h))
 
 asked : (op : Op) → asks_equality op true ≡ true → asks_equality (complement_of op) false ≡ true
 asked Equal h = absurd (cc)

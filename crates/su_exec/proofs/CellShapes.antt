@@ -14,7 +14,7 @@ use Rattle.su_tableau.specs.Valuations.{values_of}
 use Rattle.su_reduce.specs.Sheets.{AreBelow}
 use Rattle.su_reduce.specs.Shapes.{IsShapeOf, cell_at, variable_place}
 use Rattle.su_reduce.proofs.Places.{contains_at, place_holds, read_value}
-use Rattle.su_reduce.proofs.Shaping.{first_at, shape_length}
+use Rattle.su_reduce.proofs.ShapeSteps.{first_at, shape_length}
 use Rattle.su_exec.specs.inside.Coded.{picked}
 use Rattle.su_exec.specs.inside.Edges.{has}
 use Rattle.su_exec.specs.inside.Joins.{IsApart}

@@ -1,6 +1,7 @@
 -- Edges that lose rows, one step after another.
 use Rattle.std.proofs.Common.{◌≡◌, ◌≢◌, ℕ, zero, suc, ◌+◌, ◌<◌, ◌≤◌, ◌++◌, Bool, true, false, Option, None, Some, List, [], ◌∷◌, length, get_or, set, Contains, refl, sym, ap, subst, ◌∙◌, ⊎_elim, true≢false, arith}
 use Rattle.std.specs.Prelude.{IfSome, cond, map}
+use Rattle.std.specs.Cmp.{first_so, second_so}
 use Rattle.std.proofs.lemmas.Bool.{cases_eq, cases_lt}
 use Rattle.std.proofs.lemmas.List.{get_or_default, get_or-map, get_or-set_same, get_or-set_other, length-set}
 use Rattle.std.proofs.lemmas.List.Elements.{Contains-append_cases, Contains-append_left, Contains-append_right}
@@ -14,7 +15,6 @@ use Rattle.su_exec.specs.inside.Checks.{all_hold, check_holds, test_passes}
 use Rattle.su_reduce.specs.Codes.{decode}
 use Rattle.su_exec.specs.inside.Edges.{Edge, Fits, Keeps, has}
 use Rattle.su_exec.specs.inside.Ranges.{AreCut, ArePassing, IsBound, IsSide, IsWidest, meets, meets_code}
-use Rattle.su_exec.proofs.PartSteps.{and_first, and_second}
 use Rattle.su_exec.proofs.MergeSteps.{among_set}
 
 pub none_lost : (t : (ℕ → ℕ) → Bool) (es : List (Edge ℕ)) → AreCut t es es
@@ -149,5 +149,5 @@ cut_at values es i a g place x op bound rows il ae ge within at pass =
 
 pub holds_at : (values : List Value) (checks : List Check) (i : ℕ) (d : Check) (v : ℕ → ℕ) → i < length checks → all_hold values checks v ≡ true → check_holds values v (get_or checks i d) ≡ true
 holds_at values [] i d v low h = absurd (omega arith)
-holds_at values (c ∷ checks) zero d v low h = and_first (check_holds values v c) (all_hold values checks v) h
-holds_at values (c ∷ checks) (suc i) d v low h = holds_at values checks i d v (omega arith) (and_second (check_holds values v c) (all_hold values checks v) h)
+holds_at values (c ∷ checks) zero d v low h = first_so (check_holds values v c) (all_hold values checks v) h
+holds_at values (c ∷ checks) (suc i) d v low h = holds_at values checks i d v (omega arith) (second_so (check_holds values v c) (all_hold values checks v) h)

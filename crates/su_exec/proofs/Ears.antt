@@ -15,7 +15,7 @@ use Rattle.su_exec.specs.inside.Edges.{Edge, Fits, FitsAll, Keeps, Reaches, Same
 use Rattle.su_exec.proofs.PartSteps.{agree_from, fits_agree, keeps_refl, keeps_trans, patched, patched_in, patched_out, same_keeps}
 use Rattle.su_exec.proofs.Parts.{alone, one_out, put_in}
 use Rattle.su_exec.proofs.BodySteps.{among_first, among_last, has_either, hold_agree}
-use Rattle.su_exec.proofs.MergeSteps.{among_set}
+use Rattle.su_exec.proofs.MergeSteps.{among_removed, among_set}
 
 -- ---- bodies that leave the same
 
@@ -46,24 +46,6 @@ leaves_same needed es fs cs same long vars = record {
 }
 
 -- ---- an ear
-
--- a variable of a body is one of the edge that is taken out, or of the rest
-among_rest : (es : List (Edge ℕ)) (i : ℕ) (a : Edge ℕ) (k : ℕ) → i < length es → a ≡ get_or es i a → among es k ≡ true → (has a.vars k ≡ true) ⊎ (among (remove es i) k ≡ true)
-among_rest es i a k l e h =
-    let T : Edge ℕ → Bool = λ e. has e.vars k in
-    let x = Any-from_list_any T es h in
-    let n = length-remove es i l in
-    let xl = x.2 in
-    ⊎_elim
-    (λ (s : x.0 ≡ i). inl (ap T (e ∙ get_or_default es i a x.1 l ∙ ap (λ j. get_or es j x.1) (sym s) ∙ x.3) ∙ x.4))
-    (λ (ne : x.0 ≡ i → ⊥).
-    ⊎_elim
-    (λ (b : x.0 < i). inr (list_any_at T (remove es i) x.0 x.1 (omega arith) (ap T (get_or-remove_below es i x.1 x.0 b l ∙ x.3) ∙ x.4)))
-    (λ (b : i ≤ x.0).
-    let f : x.0 - 1 + 1 ≡ x.0 = omega arith in
-    inr (list_any_at T (remove es i) (x.0 - 1) x.1 (omega arith) (ap T (get_or-remove_above es i x.1 (x.0 - 1) (omega arith) l ∙ ap (λ j. get_or es j x.1) f ∙ x.3) ∙ x.4)))
-    (cases_lt x.0 i))
-    (cases_eq x.0 i)
 
 module _ (needed : List ℕ) (cs : List Check) (es rest : List (Edge ℕ)) (i p : ℕ) (a b g : Edge ℕ) (il : i < length es) (ae : a ≡ get_or es i a) (re : rest ≡ remove es i) (pl : p < length rest) (be : b ≡ get_or rest p b) (semi : IsSemijoin b a g) where
   abbrev after : List (Edge ℕ)
@@ -98,7 +80,7 @@ module _ (needed : List ℕ) (cs : List Check) (es rest : List (Edge ℕ)) (i p 
   some_after = let n = length-set rest p g in omega arith
 
   parts : (k : ℕ) → among es k ≡ true → (has a.vars k ≡ true) ⊎ (among rest k ≡ true)
-  parts k h = subst (λ (xs : List (Edge ℕ)). (has a.vars k ≡ true) ⊎ (among xs k ≡ true)) (sym re) (among_rest es i a k il ae h)
+  parts k h = subst (λ (xs : List (Edge ℕ)). (has a.vars k ≡ true) ⊎ (among xs k ≡ true)) (sym re) (among_removed es i a k il ae h)
 
   -- put last
   last_same : Same es (after ++ a ∷ [])

@@ -2,6 +2,7 @@
 use Rattle.std.proofs.Common.{◌≡◌, ℕ, ◌+◌, ◌-◌, ◌<◌, ◌≤◌, ◌⊎◌, Bool, true, false, Option, None, List, [], ◌∷◌, ◌++◌, length, get_or, set, sym, ap, subst, ◌∙◌, inl, inr, ⊎_elim, arith}
 use Rattle.std.specs.Prelude.{map, nat_lt, MatchBool, ◌&&◌, ◌||◌}
 use Rattle.std.specs.List.{remove}
+use Rattle.std.specs.Cmp.{second_so}
 use Rattle.std.proofs.lemmas.Bool.{cases_Bool, cases_eq, cases_lt, true≢false}
 use Rattle.std.proofs.lemmas.Bool.Decides.{nat_tests}
 use Rattle.std.proofs.lemmas.List.{get_or_default, get_or-set_same, get_or-set_other, length-set}
@@ -15,7 +16,7 @@ use Rattle.su_exec.specs.inside.Checks.{all_hold, all_pass, check_vars}
 use Rattle.su_exec.specs.inside.Edges.{Edge, Fits, FitsAll, Keeps, Splits, among, always, has}
 use Rattle.su_exec.specs.inside.Joins.{IsJoinOf, IsReal, IsUpTo, test_at}
 use Rattle.su_exec.proofs.ProjectedJoins.{is_test, first_among, second_among}
-use Rattle.su_exec.proofs.PartSteps.{agree_from, and_both, and_second, fits_agree, patched, patched_in, patched_out}
+use Rattle.su_exec.proofs.PartSteps.{agree_from, and_both, fits_agree, patched, patched_in, patched_out}
 use Rattle.su_exec.proofs.Parts.{alone, one_of, put_step, shrunk, test_once, twice}
 use Rattle.su_exec.proofs.BodySteps.{front_out, front_parts, has_first, has_second, hold_test, moved_back, same_body, there_step}
 
@@ -70,6 +71,7 @@ all_of_one needed olds a there k h = let e = alone a k (there k (has_second need
 
 -- ---- two edges
 
+-- a variable of a body is one of the edge that is taken out, or of the rest
 pub among_removed : (es : List (Edge ℕ)) (i : ℕ) (a : Edge ℕ) (k : ℕ) → i < length es → a ≡ get_or es i a → among es k ≡ true → (has a.vars k ≡ true) ⊎ (among (remove es i) k ≡ true)
 among_removed es i a k l e h =
     let T : Edge ℕ → Bool = λ e. has e.vars k in
@@ -166,7 +168,7 @@ module _ (values : List Value) (needed : List ℕ) (olds news : List Check) (tes
         each = λ i l v f p. given_by real i l v f p;
         none = λ v f p.
             let q = sym (same values v) ∙ p in
-            (((splits v).0 f).1, and_second (all_pass values tests (map v a.vars) (map v b.vars)) (all_hold values news v) q);
+            (((splits v).0 f).1, second_so (all_pass values tests (map v a.vars) (map v b.vars)) (all_hold values news v) q);
       }
 
 -- where nothing else is left, all checks are of the two

@@ -1,6 +1,7 @@
 -- Steps on a part of a body.
 use Rattle.std.proofs.Common.{◌≡◌, ℕ, ◌<◌, Bool, true, false, List, [], ◌∷◌, length, get_or, Contains, refl, sym, ap, subst, ◌∙◌, ⊎_elim, arith}
 use Rattle.std.specs.Prelude.{nat_eq, cond, ◌&&◌}
+use Rattle.std.specs.Cmp.{first_so, second_so}
 use Rattle.std.proofs.lemmas.Bool.Decides.{nat_tests}
 use Rattle.std.proofs.lemmas.Bool.{cases_eq, cases_Bool, true≢false}
 use Rattle.std.proofs.lemmas.List.Folds.{list_any_at}
@@ -61,14 +62,6 @@ same_keeps ks es fs s same = (λ v f p. record { valuation = v; fits = (same v).
 
 -- ---- tests
 
-pub and_first : (a b : Bool) → (a && b) ≡ true → a ≡ true
-and_first true b h = refl
-and_first false b h = h
-
-pub and_second : (a b : Bool) → (a && b) ≡ true → b ≡ true
-and_second true b h = h
-and_second false b h = absurd (true≢false (sym h))
-
 pub and_both : (a b : Bool) → a ≡ true → b ≡ true → (a && b) ≡ true
 and_both true b h k = k
 and_both false b h k = h
@@ -97,9 +90,9 @@ step_on_part needed ks us es fs gs hs rs st s u left right both keeps within eno
   λ v f p.
       let parts = (left v).0 f in
       let q = sym (both v) ∙ p in
-      let w = keeps.0 v parts.0 (and_first (s v) (u v) q) in
+      let w = keeps.0 v parts.0 (first_so (s v) (u v) q) in
       let here = fits_agree w.valuation v hs (λ k h. sym (agree_at v w.valuation ks w.same k (within k h))) w.fits in
-      record { valuation = v; fits = (right v).1 (here, parts.1); passes = and_second (s v) (u v) q; same = refl },
+      record { valuation = v; fits = (right v).1 (here, parts.1); passes = second_so (s v) (u v) q; same = refl },
   λ v f p.
       let parts = (right v).0 f in
       let w = keeps.1 v parts.0 refl in

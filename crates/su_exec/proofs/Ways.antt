@@ -85,12 +85,6 @@ found_contains column value rows found p all low has =
     let within : m.0 < length found = let e = all.count in let l = m.1 in omega arith in
     (m.0, within, match_unique rows column value m.0 (get_or found m.0 p) p (all.each m.0 (get_or found m.0 p) (slice_get-get_or found m.0 p within)) m.2)
 
--- one more position
-pub found_more : (xs found : List ℕ) (k p : ℕ) → slice_get found k ≡ Some p → (xs ++ take k found) ++ p ∷ [] ≡ xs ++ take (k + 1) found
-found_more xs found k p is =
-    let one : suc k ≡ k + 1 = omega arith in
-    append_assoc xs (take k found) (p ∷ []) ∙ ap (λ x. xs ++ (take k found ++ x ∷ [])) (sym (get_or_from_slice_get found k p 0 is)) ∙ ap (λ ys. xs ++ ys) (sym (take-suc found k 0 (slice_get_within found k p is)) ∙ ap (λ n. take n found) one)
-
 pub found_within : (column : ℕ) (value : Value) (rows : List (List Value)) (found : List ℕ) → AreMatches column value rows found → All (λ p. p < length rows) found
 found_within column value rows found all k d low = (all.each k (get_or found k d) (slice_get-get_or found k d low)).within
 

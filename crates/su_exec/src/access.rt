@@ -1,8 +1,8 @@
 //! How the rows of a source are reached with few fetches.
-ghost use Rattle.std.specs.Prelude.{◌≡◌, ◌<◌, ◌≤◌, ◌++◌, ℕ, Some, List, [], ◌∷◌, length, Contains, IfOk, IfSome, slice_get, slice_index_or};
+ghost use Rattle.std.specs.Prelude.{◌≡◌, ◌<◌, ◌≤◌, ℕ, Some, List, [], ◌∷◌, length, Contains, IfOk, IfSome, slice_get, slice_index_or};
 ghost use Rattle.su_base.specs.declared.values.Value.{Value as AValue};
 ghost use Rattle.su_tableau.specs.declared.symbols.Sym.TheVariants.{Const};
-ghost use Rattle.su_index.specs.Matches.{matches};
+ghost use Rattle.su_index.specs.Matches.{matches, AreMatches};
 ghost use Rattle.su_index.specs.Tables.{table_at};
 ghost use Rattle.su_exec.specs.Shares.{share};
 ghost use Rattle.su_exec.specs.Tasks.{FitsTables, HasSources};
@@ -14,7 +14,7 @@ use crate::places::place_of;
 use crate::tasks::{Source, TaskRow};
 use std::alloc::{AllocError, Global};
 use su_base::Value;
-use su_index::{Found, Rows};
+use su_index::Rows;
 use su_reduce::{Codes, Distinct, Sheet, variable_of};
 use su_tableau::Sym;
 
@@ -46,16 +46,6 @@ pub struct Cheapest {
     pub cost: usize,
 }
 
-/// Puts the positions behind those that are there.
-fn add_found(found: &Found, positions: &mut Vec<usize>) -> Result<(), AllocError>
-    ensures { IfOk result (λ _. positions.new.items ≡ positions.old.items ++ found.now) }
-{
-    for k in 0..found.len() {
-        positions.push(found.position(k))?;
-    }
-    Ok(())
-}
-
 /// The codes at a place of the candidates, each once.
 fn codes_at(alloc: Global, edge: &Candidates, place: usize) -> Result<Sheet, AllocError>
     requires { place < length edge.now.vars }
@@ -70,8 +60,8 @@ fn codes_at(alloc: Global, edge: &Candidates, place: usize) -> Result<Sheet, All
     Ok(codes.into_rows())
 }
 
-/// The positions of the rows that have one of the codes' values in the column, unless they are `most` or
-/// more. Each value is searched once.
+/// The positions of the rows that have one of the codes' values in the column, unless they are more than
+/// `most`. Each value is searched once.
 fn positions_of<R: Rows>(
     alloc: Global,
     rows: &R,
@@ -89,14 +79,11 @@ fn positions_of<R: Rows>(
 {
     let mut positions = Vec::new(alloc);
     for i in 0..values.len() {
-        let found = rows.found(table, column, codes.value(values.row(i)[0]));
-        let before = positions.len();
-        let more = found.len();
-        let count = before.saturating_add(more);
-        if count >= most {
+        let value = codes.value(values.row(i)[0]);
+        let left = most - positions.len();
+        if !rows.add_positions(table, column, value, left, &mut positions)? {
             return Ok(None);
         }
-        add_found(&found, &mut positions)?;
     }
     Ok(Some(positions))
 }
@@ -167,6 +154,28 @@ fn constant_of(cell: &Sym) -> &Value
     }
 }
 
+/// The positions of the rows that have the value in the column, which are `most` or fewer.
+fn positions_with<R: Rows>(
+    alloc: Global,
+    rows: &R,
+    table: u8,
+    column: u8,
+    value: &Value,
+    most: usize,
+) -> Result<Vec<usize>, AllocError>
+    requires table { table < length (R.tables rows.now) }
+    requires column { column < (table_at (R.tables rows.now) table).width }
+    requires few { matches column value.now (table_at (R.tables rows.now) table).rows ≤ most }
+    ensures found { IfOk result (λ positions. AreMatches column value.now (table_at (R.tables rows.now) table).rows positions.items) }
+    ensures few { IfOk result (λ positions. length positions.items ≤ most) }
+{
+    let mut positions = Vec::new(alloc);
+    if rows.add_positions(table, column, value, most, &mut positions)? {
+        return Ok(positions);
+    }
+    unreachable!()
+}
+
 /// The way by the cheapest of the row's constants.
 fn by_constants<R: Rows>(
     alloc: Global,
@@ -188,9 +197,14 @@ fn by_constants<R: Rows>(
     // For the proof: the table is a relation.
     let _count = rows.len(source.relation);
     let value = constant_of(row.cells.get(p));
-    let found = rows.found(source.relation, *source.columns.get(p), value);
-    let mut positions = Vec::new(alloc);
-    add_found(&found, &mut positions)?;
+    let positions = positions_with(
+        alloc,
+        rows,
+        source.relation,
+        *source.columns.get(p),
+        value,
+        best.cost,
+    )?;
     Ok(Access {
         way: Way::Listed(positions),
         cost: best.cost,
@@ -200,7 +214,7 @@ fn by_constants<R: Rows>(
 /// An index is asked for at most one value for so many rows that it may save.
 const WORTH: usize = 8;
 
-/// An index is used where it leaves fewer than one row of so many: a row that it gives is searched for, and
+/// An index is used where it leaves at most one row of so many: a row that it gives is searched for, and
 /// read out of order.
 const LEAVES: usize = 2;
 

@@ -2,4 +2,6 @@
 #![tactic(auto)]
 
 #[cfg(test)]
+mod plain;
+#[cfg(test)]
 mod tests;

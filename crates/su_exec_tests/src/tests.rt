@@ -3,6 +3,7 @@ ghost use Rattle.std.specs.Bool.{OnTrue};
 ghost use Rattle.su_tableau.specs.declared.symbols.Sym.TheVariants.{Var};
 ghost use Rattle.su_exec.specs.Tasks.{FitsTables, HasSources, IsTask, Occurs};
 
+use crate::plain::{PlainRows, plain_tables};
 use std::alloc::Global;
 use std::marker::Brand;
 use std::process::Abort;
@@ -323,45 +324,61 @@ fn answer_of<L: Ledger>(
     execute(alloc, task, &mut rows, cap)
 }
 
+/// The answer to the task over copies of the tables' rows.
+fn plain_answer_of<L: Ledger>(
+    alloc: Global,
+    tables: &[Table],
+    task: &Task,
+    cap: u64,
+    blank: Blank,
+) -> Result<List<Row>, ExecFault>
+    requires task { IsTask tables.now task.now }
+    requires name { blank.name ≡ L.name }
+    requires parts { blank.parts ≡ L.parts }
+    requires some { 0 < blank.parts }
+{
+    let plain = plain_tables(alloc, tables)?;
+    let mut rows = PlainRows::<L>::new(plain.as_slice(), blank);
+    execute(alloc, task, &mut rows, cap)
+}
+
+/// Which store the rows come from.
+#[derive(Clone, Copy)]
+enum Store {
+    Tables,
+    Plain,
+}
+
 /// The answer to the task, which is to be one over the tables.
 fn answer(
     rt: &impl Abort,
     alloc: Global,
+    store: Store,
     tables: &[Table],
     task: &Task,
     cap: u64,
 ) -> Result<List<Row>, ExecFault> {
     assert!(rt; fits(tables, task));
-    answer_of::<Brand>(alloc, tables, task, cap, Blank::new(1))
+    match store {
+        Store::Tables => answer_of::<Brand>(alloc, tables, task, cap, Blank::new(1)),
+        Store::Plain => plain_answer_of::<Brand>(alloc, tables, task, cap, Blank::new(1)),
+    }
 }
 
 /// The answer to the task, as words; that there are more answers than the cap.
 fn told(
     rt: &impl Abort,
     alloc: Global,
+    store: Store,
     tables: &[Table],
     task: &Task,
     cap: u64,
 ) -> Result<String, Fail> {
-    match answer(rt, alloc, tables, task, cap) {
+    match answer(rt, alloc, store, tables, task, cap) {
         Ok(found) => words(alloc, &found),
         Err(ExecFault::More) => Ok(format!(in alloc; "more")?),
         Err(fault) => Err(Fail::from(fault)),
     }
-}
-
-/// The answer to a task that is given as words.
-fn answered(
-    rt: &impl Abort,
-    alloc: Global,
-    tables: &[Table],
-    rows: &str,
-    outputs: &str,
-    comparisons: &str,
-    cap: u64,
-) -> Result<String, Fail> {
-    let asked = task(alloc, rows, outputs, comparisons)?;
-    told(rt, alloc, tables, &asked, cap)
 }
 
 /// Bank and account, account and balance, account and customer, bank and loan, loan and customer.
@@ -463,16 +480,11 @@ fn rows_are_joined_over_their_sources(rt: HostRuntime) -> Result<(), Fail> {
         ("", "5", "", 1, "5"),
         ("", "5", "", 0, "more"),
     ] {
-        let found = answered(
-            &rt,
-            alloc,
-            tables.as_slice(),
-            rows,
-            outputs,
-            comparisons,
-            cap,
-        )?;
-        assert_eq!(rt; found.as_str(), wanted);
+        let asked = task(alloc, rows, outputs, comparisons)?;
+        for store in [Store::Tables, Store::Plain] {
+            let found = told(&rt, alloc, store, tables.as_slice(), &asked, cap)?;
+            assert_eq!(rt; found.as_str(), wanted);
+        }
     }
     Ok(())
 }

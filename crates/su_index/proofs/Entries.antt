@@ -3,12 +3,12 @@ use Rattle.std.proofs.Common.{◌≡◌, ◌<◌, ◌≤◌, ◌+◌, ◌-◌, �
 use Rattle.std.specs.List.{insert, remove}
 use Rattle.std.specs.List.Sorted.{IsStrictlySortedBy, IsPermutation, IsSorted}
 use Rattle.std.proofs.lemmas.Bool.{cases_eq}
-use Rattle.std.proofs.lemmas.List.{length-map, get_or-map, map-append, take-map, drop-map, get_or_default}
+use Rattle.std.proofs.lemmas.List.{append_assoc, length-drop, length-map, length-take-le, get_or-drop, get_or-map, get_or-take, map-append, take_more, take-map, drop-map, get_or_default}
 use Rattle.std.proofs.lemmas.List.Elements.{All-nil, All-cons, All-append, All-push, All-take, All-drop, All-head, All-tail, All-map}
 use Rattle.std.proofs.lemmas.List.Sorted.{All-permutation}
 use Rattle.su_base.specs.declared.values.Value.{Value}
 use Rattle.su_index.specs.declared.entry.Entry.{Entry}
-use Rattle.su_index.specs.Entries.{positions, HaveLeads, IsIndexWithLeads}
+use Rattle.su_index.specs.Entries.{positions, stretch, HaveLeads, IsIndexWithLeads}
 use Rattle.su_index.specs.inside.Entries.{IsRunWithLeads, kept_entry, kept_entries}
 use Rattle.su_index.specs.Lead.{IsLead}
 use Rattle.su_index.specs.Order.{compare_keys, compare_places, count_below, IsRun}
@@ -33,6 +33,18 @@ position_within n run k d all h = omega (arith, at_position run k d h, all k 0 (
 -- what a comparison with an entry says of its position
 pub before_at : (at : ℕ → Value) (v : Value) (p : ℕ) (run : List Entry) (k : ℕ) (d : Entry) (b t : Bool) → k < length run → b ≡ comes_before at v p (get_or run k d).position → b ≡ t → comes_before at v p (get_or (positions run) k 0) ≡ t
 before_at at v p run k d b t h e f = ap (λ q. comes_before at v p q) (at_position run k d h) ∙ sym e ∙ f
+
+-- one more of the positions past the first ones
+pub stretch_more : (xs : List ℕ) (run : List Entry) (at n k : ℕ) (e : Entry) → k < n → at + n ≤ length run → e ≡ get_or run (at + k) e → (xs ++ take k (stretch run at n)) ++ e.position ∷ [] ≡ xs ++ take (k + 1) (stretch run at n)
+stretch_more xs run at n k e below within is =
+    let all = positions_length run in
+    let late : length (drop at (positions run)) ≡ length (positions run) - at = length-drop at (positions run) in
+    let long : length (stretch run at n) ≡ n = length-take-le n (drop at (positions run)) (omega (arith, all, late, within)) in
+    let here : get_or (stretch run at n) k 0 ≡ e.position =
+    get_or-take n (drop at (positions run)) k 0 below ∙ get_or-drop at (positions run) k 0 ∙ at_position run (at + k) e (omega arith) ∙ ap (λ (x : Entry). x.position) (sym is) in
+    append_assoc xs (take k (stretch run at n)) (e.position ∷ [])
+    ∙ ap (λ x. xs ++ (take k (stretch run at n) ++ x ∷ [])) (sym here)
+    ∙ ap (λ ys. xs ++ ys) (sym (take_more (stretch run at n) k 0 (omega (arith, long, below))))
 
 -- an entry that stands in the run
 pub entry_within : (n : ℕ) (run : List Entry) (k : ℕ) (e : Entry) → ArePositions n (positions run) → k < length run → e ≡ get_or run k e → e.position < n

@@ -1,6 +1,6 @@
 -- Which rows have a value in a column.
 -- matches: how many rows have it; match: one of these rows, by its position and by how many come before it
-use Rattle.std.specs.Prelude.{◌≡◌, ◌<◌, ℕ, Bool, false, IsTrue, List, [], Some, length, take, slice_get, slice_index_or, count_by}
+use Rattle.std.specs.Prelude.{◌≡◌, ◌<◌, ℕ, Bool, false, IsTrue, List, [], ◌++◌, Some, length, take, slice_get, slice_index_or, count_by}
 use Rattle.std.specs.Option.{option_map_or}
 use Rattle.std.specs.Ordering.{is_eq}
 use Rattle.su_base.specs.declared.values.Value.{Value}
@@ -24,3 +24,9 @@ pub record IsMatch (column : ℕ) (value : Value) (rows : List (List Value)) (k 
 pub record AreMatches (column : ℕ) (value : Value) (rows : List (List Value)) (found : List ℕ) : Type 0 where
   pub count : length found ≡ matches column value rows
   pub each : (k p : ℕ) → slice_get found k ≡ Some p → IsMatch column value rows k p
+
+-- behind the positions before, those of the rows that have the value
+pub record AreAdded (column : ℕ) (value : Value) (rows : List (List Value)) (before after : List ℕ) : Type 0 where
+  pub found : List ℕ
+  pub matches : AreMatches column value rows found
+  pub behind : after ≡ before ++ found

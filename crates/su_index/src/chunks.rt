@@ -6,13 +6,14 @@ ghost use Rattle.std.specs.Bool.{OnTrue, OnFalse};
 ghost use Rattle.std.specs.List.{insert, remove};
 ghost use Rattle.std.specs.VecDeque.{deque_len, deque_capacity};
 ghost use Rattle.su_index.specs.Chunks.{entries_of, len_at, HaveEntries};
+ghost use Rattle.su_index.specs.Entries.{stretch};
 ghost use Rattle.su_index.specs.inside.Chunks.{capacity_at, before_chunk, rank_in, IsGap, IsPlace, HasRoom, HasRoomFrom};
 ghost use Rattle.su_index.specs.declared.chunk.Chunk.{Chunk as Piece};
 
 use crate::chunk::Chunk;
 use crate::entry::Entry;
 use crate::place::ChunkPlace;
-use std::alloc::Global;
+use std::alloc::{AllocError, Global};
 use std::collections::VecDeque;
 use su_base::NoMemory;
 
@@ -342,16 +343,47 @@ pub(crate) fn between(chunks: &[Chunk], first: ChunkPlace, past: ChunkPlace) -> 
     count - first.at
 }
 
+/// The place of the entry that is to be found at the place or, past the end of its chunk, so many
+/// entries on.
+pub(crate) fn settled(chunks: &[Chunk], place: ChunkPlace) -> ChunkPlace
+    requires within { rank_in chunks.now place < length (entries_of chunks.now) }
+    ensures rank { rank_in chunks.now result ≡ rank_in chunks.now place }
+    ensures within { result.chunk < length chunks.now }
+    ensures there { (d : Piece) → result.at < len_at chunks.now result.chunk d }
+{
+    let mut chunk = place.chunk;
+    let mut at = place.at;
+    while at >= chunks[chunk].entries.len() {
+        at -= chunks[chunk].entries.len();
+        chunk += 1;
+    }
+    ChunkPlace { chunk, at }
+}
+
 /// The entry at the rank.
 pub(crate) fn entry_at(chunks: &[Chunk], rank: usize) -> Entry
     requires within { rank < length (entries_of chunks.now) }
     ensures { result ≡ slice_index_or (entries_of chunks.now) rank result }
 {
-    let mut chunk = 0;
-    let mut at = rank;
-    while at >= chunks[chunk].entries.len() {
-        at -= chunks[chunk].entries.len();
-        chunk += 1;
+    entry(chunks, settled(chunks, ChunkPlace { chunk: 0, at: rank }))
+}
+
+/// Puts the positions of `count` entries past the first `at` ones behind those that are there.
+pub(crate) fn add_stretch(
+    chunks: &[Chunk],
+    at: usize,
+    count: usize,
+    positions: &mut Vec<usize>,
+) -> Result<(), AllocError>
+    requires within { at + count ≤ length (entries_of chunks.now) }
+    requires small { length (entries_of chunks.now) < 2 ^ 32 }
+    ensures { IfOk result (λ _. positions.new.items ≡ positions.old.items ++ stretch (entries_of chunks.now) at count) }
+{
+    let mut place = ChunkPlace { chunk: 0, at };
+    for _ in 0..count {
+        place = settled(chunks, place);
+        positions.push(entry(chunks, place).position as usize)?;
+        place.at += 1;
     }
-    entry(chunks, ChunkPlace { chunk, at })
+    Ok(())
 }

@@ -1,10 +1,11 @@
 //! The rows that have a value in a column.
-ghost use Rattle.std.specs.Prelude.{◌≡◌, ◌≤◌, ◌<◌, ◌+◌, ◌↔◌, ◌^◌, IsTrue, Some, length, slice_get};
+ghost use Rattle.std.specs.Prelude.{◌≡◌, ◌≤◌, ◌<◌, ◌+◌, ◌↔◌, ◌^◌, ◌++◌, IsTrue, IfOk, Some, length, slice_get};
 ghost use Rattle.su_index.specs.Chunks.{entries_of};
 ghost use Rattle.su_index.specs.Entries.{stretch};
 
 use crate::chunk::Chunk;
-use crate::chunks::entry_at;
+use crate::chunks::{add_stretch, entry_at};
+use std::alloc::AllocError;
 use std::marker::Model;
 
 /// The entries of a value in the index of its column, found by one search. Contracts see the positions
@@ -60,5 +61,12 @@ impl<'a> Found<'a> {
         ensures { slice_get self.now k ≡ Some result }
     {
         entry_at(self.chunks, self.at + k).position as usize
+    }
+
+    /// Puts the positions behind those that are there, in one pass over the entries.
+    pub fn list(&self, positions: &mut Vec<usize>) -> Result<(), AllocError>
+        ensures { IfOk result (λ _. positions.new.items ≡ positions.old.items ++ self.now) }
+    {
+        add_stretch(self.chunks, self.at, self.count, positions)
     }
 }

@@ -1,13 +1,14 @@
 //! Rows as an executor reads them: counted.
-ghost use Rattle.std.specs.Prelude.{◌≡◌, ◌<◌, ◌+◌, ℕ, List, length, slice_get, map};
+ghost use Rattle.std.specs.Prelude.{◌≡◌, ◌<◌, ◌≤◌, ◌+◌, ◌↔◌, ℕ, List, length, slice_get, map, IsTrue, IfOk};
+ghost use Rattle.std.specs.Bool.{OnTrue, OnFalse};
 ghost use Rattle.std.specs.Borrow.{sem};
 ghost use Rattle.std.specs.Io.BufRead.{Rests};
 ghost use Rattle.su_rel.specs.Stored.{Stored, IsRelation};
-ghost use Rattle.su_index.specs.Matches.{matches, AreMatches};
+ghost use Rattle.su_index.specs.Matches.{matches, AreAdded};
 ghost use Rattle.su_index.specs.Tables.{table_at};
 
-use crate::found::Found;
 use crate::tables::Table;
+use std::alloc::AllocError;
 use std::sync::ledger::{Blank, Ledger};
 use su_base::{Row, Steps, Value};
 
@@ -30,11 +31,21 @@ pub trait Rows {
         requires column { column < (table_at (tables self.now) table).width }
         ensures { result ≡ matches column value.now (table_at (tables self.now) table).rows };
 
-    /// The positions of these rows, ascending. The value is looked up once.
-    fn found<'a>(&'a self, table: u8, column: u8, value: &Value) -> Found<'a>
+    /// Puts the positions of these rows, ascending, behind those that are there, and answers true; where
+    /// there are more than `most` of them it answers false. The value is looked up once.
+    fn add_positions(
+        &self,
+        table: u8,
+        column: u8,
+        value: &Value,
+        most: usize,
+        positions: &mut Vec<usize>,
+    ) -> Result<bool, AllocError>
         requires table { table < length (tables self.now) }
         requires column { column < (table_at (tables self.now) table).width }
-        ensures { AreMatches column value.now (table_at (tables self.now) table).rows result };
+        ensures few { IfOk result (λ few. IsTrue few ↔ (matches column value.now (table_at (tables self.now) table).rows ≤ most)) }
+        ensures added { IfOk result (λ few. OnTrue few (AreAdded column value.now (table_at (tables self.now) table).rows positions.old.items positions.new.items)) }
+        ensures unchanged { IfOk result (λ few. OnFalse few (positions.new.items ≡ positions.old.items)) };
 
     /// The row at the position; it counts as fetched.
     fn fetch(&mut self, table: u8, i: usize) -> &Row
@@ -80,8 +91,20 @@ impl<'a, L: Ledger> Rows for TableRows<'a, L> {
         self.tables[table as usize].matching(column, value)
     }
 
-    fn found<'b>(&'b self, table: u8, column: u8, value: &Value) -> Found<'b> {
-        self.tables[table as usize].found(column, value)
+    fn add_positions(
+        &self,
+        table: u8,
+        column: u8,
+        value: &Value,
+        most: usize,
+        positions: &mut Vec<usize>,
+    ) -> Result<bool, AllocError> {
+        let found = self.tables[table as usize].found(column, value);
+        if found.len() > most {
+            return Ok(false);
+        }
+        found.list(positions)?;
+        Ok(true)
     }
 
     fn fetch(&mut self, table: u8, i: usize) -> &Row {

@@ -3,9 +3,9 @@ use Rattle.std.proofs.Common.{◌≡◌, ◌≢◌, ◌≤◌, ◌⊎◌, ◌∙
 use Rattle.su_io.specs.declared.status.Status.{Status}
 use Rattle.su_io.specs.declared.status.Status.TheVariants.{Done, SomeRefused, Usage, BadSchema, ReadFault, WriteFault, TooLong, NoMemory}
 use Rattle.su_io.specs.Moments.{Moment}
-use Rattle.su_io.specs.Programs.{OneText, Tells, TellsOfFile}
+use Rattle.su_io.specs.Programs.{OneText, Tells, TellsOfFile, UsageEnds}
 use Rattle.su_io.specs.Reading.{FileEnds}
-use Rattle.su_io.specs.Writing.{Wrote, IsTold, WritingEnds}
+use Rattle.su_io.specs.Writing.{Wrote, IsTold}
 use Rattle.su_io.proofs.Programs.{WritingEnds-from, read_within}
 use Rattle.su_io.proofs.WrittenTexts.{Wrote-none}
 
@@ -38,6 +38,15 @@ module _ (Says : Status → List ℕ → Type 0) (came : Status) (text : List �
     reading = read_within file most old new status (own_of status told.status_is).0 (own_of status told.status_is).1 (ap (λ (m : Moment). m.reads) told.rest ∙ reads) (rw (ap (λ (m : Moment). m.taken) told.rest) taken);
     writing = WritingEnds-from (text ∷ []) old mid new same writes status told.writing;
   }
+
+pub usage_told : (line : List ℕ) (old new : Moment) (status : Status) → IsTold line Usage old new status → UsageEnds line old new status
+usage_told line old new status told = (
+  elim told.status_is [
+    | inl same ↦ λ none. absurd (let both : Usage ≡ NoMemory = sym same ∙ none in cc)
+    | inr same ↦ λ none. absurd (let both : WriteFault ≡ NoMemory = sym same ∙ none in cc)
+  ],
+  tells (λ came text. (came ≡ Usage) × (text ≡ line)) Usage line (refl, refl) (line, (refl, refl), refl) (λ e. absurd (cc), λ e. absurd (cc)) old new status told,
+)
 
 -- there was no memory for the text
 pub tells_nothing : (Says : Status → List ℕ → Type 0) (old : Moment) → Tells Says old old NoMemory

@@ -2,7 +2,7 @@
 -- text: what is handed over by one whole write; old, new: the outside before and after; Says: which text is told with which status
 use Rattle.std.specs.Prelude.{◌≡◌, ◌≢◌, ◌⊎◌, ◌∷◌, [], ℕ, List, Some}
 use Rattle.su_io.specs.declared.status.Status.{Status}
-use Rattle.su_io.specs.declared.status.Status.TheVariants.{ReadFault, WriteFault, TooLong, NoMemory}
+use Rattle.su_io.specs.declared.status.Status.TheVariants.{Usage, ReadFault, WriteFault, TooLong, NoMemory}
 use Rattle.su_io.specs.Moments.{Moment}
 use Rattle.su_io.specs.Reading.{ReadingEnds}
 use Rattle.su_io.specs.Writing.{WritingEnds}
@@ -41,3 +41,7 @@ pub record Tells (Says : Status → List ℕ → Type 0) (old new : Moment) (sta
   pub no_file : (status ≢ ReadFault) × (status ≢ TooLong)
   pub rest : new ≡ record old { told = new.told; writes = new.writes }
   pub writing : WritingEnds texts old new status
+
+-- the usage line is told
+abbrev pub UsageEnds : List ℕ → Moment → Moment → Status → Type 0
+UsageEnds line old new status = (status ≢ NoMemory) × Tells (λ came text. (came ≡ Usage) × (text ≡ line)) old new status

@@ -8,9 +8,9 @@ use Rattle.su_io.specs.Causes.{Rose}
 use Rattle.su_io.specs.Ends.{OfFile}
 use Rattle.su_io.specs.Moments.{Moment}
 
--- the bytes are those of the named file, where the files are told
-abbrev pub IsFile : Option (List File) → List ℕ → List ℕ → Type 0
-IsFile files path bytes = OfFile files path (λ file. bytes ≡ file)
+-- the bytes are those of the named file, where the files are told, and no more than the limit
+abbrev pub IsFile : Option (List File) → List ℕ → ℕ → List ℕ → Type 0
+IsFile files path limit bytes = OfFile files path (λ file. bytes ≡ file) × (length bytes ≤ limit)
 
 -- the named file has more than so many bytes, where the files are told
 abbrev pub IsOver : Option (List File) → List ℕ → ℕ → Type 0
@@ -25,7 +25,7 @@ ReadingEnds path limit old new status = (new.reads ≡ old.reads) × (new.taken 
 
 -- the whole file, or the status that its reading gives
 abbrev pub FileEnds : List ℕ → ℕ → Moment → Moment → Result (List ℕ) Status → Type 0
-FileEnds path limit old new (Ok bytes) = (new.reads ≡ old.reads) × (new.taken ≤ limit) × IsFile old.files path bytes × (length bytes ≤ limit)
+FileEnds path limit old new (Ok bytes) = (new.reads ≡ old.reads) × (new.taken ≤ limit) × IsFile old.files path limit bytes
 FileEnds path limit old new (Err ReadFault) = ReadingEnds path limit old new ReadFault
 FileEnds path limit old new (Err TooLong) = ReadingEnds path limit old new TooLong
 FileEnds path limit old new (Err NoMemory) = ReadingEnds path limit old new NoMemory

@@ -1,7 +1,7 @@
 //! The outside: a shelf of files, a sink of bytes, and whole reads and writes over them.
 //!
 //! `Outside` is both as one value, over which programs are run: it reads files whole, tells texts, and
-//! hands over at the end; `Status` is how a program ends.
+//! hands over at the end; `Status` is how a program ends, and `command_words` what it was called with.
 //!
 //! Each object counts its faults, and a call answers `Failed` only where that count rose in the
 //! call. What was read and written is told by the objects in memory, and by no real file or stream:
@@ -24,6 +24,7 @@ mod steady_shelf;
 mod steady_sink;
 mod stream_sink;
 mod whole;
+mod words;
 
 pub use ends::{Failed, ReadEnd};
 pub use file_shelf::FileShelf;
@@ -38,3 +39,4 @@ pub use steady_shelf::SteadyShelf;
 pub use steady_sink::SteadySink;
 pub use stream_sink::StreamSink;
 pub use whole::{read_all, write_all};
+pub use words::command_words;

@@ -5,7 +5,8 @@
 //! contents of quoted texts are copied. `symbols` makes the tokens with the bytes of their words, and
 //! without their places, in one pass of its own; a `Reader` hands them out from the left, so that a name
 //! or a literal is moved from there to where it stays. `push_word` and `push_sign` make symbols, and
-//! `push_spaced` writes them. None of it knows the statements.
+//! `push_spaced` writes them; `nests_too_deep` counts their parentheses. None of it knows the
+//! statements.
 #![tactic(auto)]
 
 mod bytes;
@@ -18,6 +19,7 @@ mod kinds;
 mod laws;
 mod lexer;
 mod meaning;
+mod nesting;
 mod numbers;
 mod pushing;
 mod quoting;
@@ -36,6 +38,7 @@ pub use laws::{
 };
 pub use lexer::tokens;
 pub use meaning::{Symbol, symbols};
+pub use nesting::nests_too_deep;
 pub use pushing::{push_sign, push_word};
 pub use readers::Reader;
 pub use signs::Sign;

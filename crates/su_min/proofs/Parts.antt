@@ -8,35 +8,19 @@ use Rattle.su_tableau.specs.Tableaux.{Tab}
 use Rattle.su_tableau.specs.Parts.{part}
 use Rattle.su_tableau.specs.Mapping.{image_of, images_of, Maps}
 use Rattle.su_tableau.proofs.Sets.{IsSub, select, select-has, select-from}
-use Rattle.su_tableau.proofs.Containment.{maps_compose}
+use Rattle.su_tableau.proofs.Containment.{maps_compose, maps_to_more}
 use Rattle.su_map.proofs.Members.{full_member}
 use Rattle.su_map.proofs.Containment.{list_maps, maps_list}
 use Rattle.su_min.specs.Kept.{all_rows, MapsInto}
 
-same_sym : (x : Sym) → image_of Var x ≡ x
-same_sym (Const c) = refl
-same_sym (Var k) = refl
-
-same_row : (xs : List Sym) → images_of Var xs ≡ xs
-same_row [] = refl
-same_row (x ∷ xs) = let i = same_row xs in let j = same_sym x in cc
-
--- what the rows contain, the identity sends there
-by_identity : (s t : Tab) → s.head ≡ t.head → ((k : ℕ) (d : List Sym) → k < length s.rows → Contains t.rows (get_or s.rows k d)) → Maps s t
-by_identity s t head f = record {
-  symbols = Var;
-  head = same_row s.head ∙ head;
-  rows = λ k d h. subst (Contains t.rows) (sym (same_row (get_or s.rows k d))) (f k d h);
-}
-
 -- a tableau maps to itself
 pub same_maps : (t : Tab) → Maps t t
-same_maps t = by_identity t t refl (λ k d h. (k, h, get_or_default t.rows k (get_or t.rows k d) d h))
+same_maps t = maps_to_more t t refl (λ k d h. (k, h, get_or_default t.rows k (get_or t.rows k d) d h))
 
 -- a part maps to the whole
 pub part_maps : (t : Tab) (m : ℕ) → Maps (part t m) t
 part_maps t m =
-    by_identity (part t m) t refl (λ k d h.
+    maps_to_more (part t m) t refl (λ k d h.
     let row = get_or (select m t.rows) k d in
     let r = select-from m t.rows row (k, h, get_or_default (select m t.rows) k row d h) in
     (r.place, r.below, r.is row))
@@ -44,7 +28,7 @@ part_maps t m =
 -- a part maps to a part with more rows
 pub sub_maps : (t : Tab) (a b : ℕ) → IsSub a b → Maps (part t a) (part t b)
 sub_maps t a b sub =
-    by_identity (part t a) (part t b) refl (λ k d h.
+    maps_to_more (part t a) (part t b) refl (λ k d h.
     let row = get_or (select a t.rows) k d in
     let r = select-from a t.rows row (k, h, get_or_default (select a t.rows) k row d h) in
     let l = sub r.place in let low = bit_at-lt b r.place in let one = r.is_in in
@@ -61,7 +45,7 @@ all_is t = let p = pow_pos (length t.rows) in omega arith
 -- the whole maps to the part of all rows
 pub whole_maps : (t : Tab) → Maps t (part t (all_rows t))
 whole_maps t =
-    by_identity t (part t (all_rows t)) refl (λ k d h.
+    maps_to_more t (part t (all_rows t)) refl (λ k d h.
     select-has (all_rows t) t.rows k d h ((full_member (all_rows t) (length t.rows) k (all_is t)).1 h))
 
 -- ---- a tableau maps into a set of its rows

@@ -6,6 +6,7 @@ use Rattle.su_fd.specs.declared.dependencies.Fd.{Fd}
 use Rattle.su_tableau.specs.declared.symbols.Sym.{Sym}
 use Rattle.su_tableau.specs.declared.symbols.Sym.TheVariants.{Const, Var}
 use Rattle.su_tableau.specs.Tableaux.{Tab, IsValid, Occurs}
+use Rattle.su_tableau.proofs.SymbolParts.{same_const}
 use Rattle.su_chase.specs.Chase.{InOneClass, IsNoLater, IsName, IsConsistent, IsClash}
 use Rattle.su_chase.specs.Chased.{IsChased}
 use Rattle.su_chase.specs.inside.Rows.{named_tab}
@@ -13,7 +14,6 @@ use Rattle.su_chase.proofs.NamedAnswers.{one_symbol}
 use Rattle.su_chase.proofs.Images.{map_read}
 use Rattle.su_base.proofs.Items.{Contains-map as contains_map}
 use Rattle.su_base.proofs.Items.{Contains-map_source as of_map}
-use Rattle.su_chase.proofs.Named.{same_const}
 use Rattle.su_once.specs.Verdicts.{OneClassName, OneClash, OneChase}
 
 pub one_class_name : OneClassName

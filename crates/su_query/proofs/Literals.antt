@@ -7,7 +7,7 @@ use Rattle.std.proofs.lemmas.List.Elements.{All-nil, All-cons, All-head, All-tai
 use Rattle.su_base.specs.declared.values.Kind.{Kind}
 use Rattle.su_base.specs.declared.values.Kind.TheVariants.{Int as IntKind, Text as TextKind}
 use Rattle.su_where.specs.declared.literals.Literal.{Literal}
-use Rattle.su_where.specs.Fitting.{IsBelow, HasPlacesBelow}
+use Rattle.su_where.specs.Places.{IsBelow, HasPlacesBelow}
 use Rattle.su_where.proofs.Layers.{comparisons_of-Compare, comparisons_of-Not, comparisons_of-All, comparisons_of-Any}
 use Rattle.su_schema.specs.SchemaValue.{SchemaValue}
 use Rattle.su_base.specs.Value.{same_kind}

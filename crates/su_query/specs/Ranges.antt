@@ -8,7 +8,7 @@ use Rattle.su_where.specs.declared.literals.Operand.{Operand}
 use Rattle.su_where.specs.declared.literals.Operand.TheVariants.{Place as At, Const}
 use Rattle.su_where.specs.declared.literals.Literal.{Literal}
 use Rattle.su_where.specs.Truth.{Cond, comparisons_of}
-use Rattle.su_where.specs.Fitting.{Fits}
+use Rattle.su_where.specs.Places.{Fits}
 use Rattle.su_schema.specs.SchemaValue.{SchemaValue}
 use Rattle.su_schema.specs.Entries.{attribute_kinds}
 use Rattle.su_query.specs.declared.places.Place.{Place}

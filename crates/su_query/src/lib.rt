@@ -17,7 +17,6 @@ mod limits;
 mod lists;
 mod lookups;
 mod mentions;
-mod nesting;
 mod numbering;
 mod places;
 mod pushing;

@@ -8,11 +8,10 @@ ghost use Rattle.su_query.specs.declared.statements.Statement.{Statement as ASta
 use crate::faults::{QueryFault, QueryLimit};
 use crate::forms::statement;
 use crate::limits::check_limits;
-use crate::nesting::nests_too_deep;
 use crate::statements::Statement;
 use std::alloc::Global;
 use su_base::List;
-use su_lex::{LexEnd, Reader, Symbol, symbols};
+use su_lex::{LexEnd, Reader, Symbol, nests_too_deep, symbols};
 
 fn read_form(alloc: Global, symbols: List<Symbol>) -> Result<Statement, QueryFault>
     ensures found { IfOk result (λ st. (text : Items ℕ) → Symbols text symbols → IsStatement text st) }

@@ -15,6 +15,6 @@ pub mod ListPieces
 pub mod CodeExtensions
 pub mod HashedRows
 pub mod Partnered
-pub mod Shaping
+pub mod ShapeSteps
 pub mod CodeRows
 pub mod Asked

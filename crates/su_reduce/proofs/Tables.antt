@@ -8,14 +8,12 @@ use Rattle.su_tableau.specs.declared.symbols.Sym.TheVariants.{Var}
 use Rattle.su_reduce.specs.Ears.{HasVar, IsParent}
 use Rattle.su_reduce.specs.Shapes.{cell_at}
 use Rattle.su_reduce.specs.inside.Partners.{In, AreSets, IsParentBy}
+use Rattle.su_tableau.proofs.SymbolParts.{same_var}
 use Rattle.su_reduce.proofs.Places.{contains_at}
 
 -- a cell that has the variable
 cell_with : (cells : List Sym) (k : ℕ) → Contains cells (Var k) → (c : ℕ) × (c < length cells) × (cell_at cells c ≡ Var k)
 cell_with cells k (c, l, e) = (c, l, get_or_default cells c (Var 0) (Var k) l ∙ e)
-
-pub same_var : (j k : ℕ) → Var j ≡ Var k → j ≡ k
-same_var j k e = cc
 
 pub parent_from : (edges : List (List Sym)) (e : ℕ) (sets : List (FinSet nat_cmp)) (others : FinSet nat_cmp) → AreSets edges (get_or edges e []) sets → (parent : Option ℕ) → IsParentBy sets others parent → IsParent edges e (In others) parent
 parent_from edges e sets others t None h = λ j k o s.

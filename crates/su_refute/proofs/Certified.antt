@@ -14,7 +14,7 @@ use Rattle.su_tableau.specs.Kinds.{Kinds}
 use Rattle.su_map.specs.Lists.{row_numbers, numbers_of, row_of}
 use Rattle.su_map.proofs.Members.{full_member}
 use Rattle.su_map.proofs.Ranks.{rank_at, numbers_step}
-use Rattle.su_map.proofs.RowLists.{row_by_row}
+use Rattle.su_map.proofs.RowLists.{in_rows, of_rows, row_by_row}
 use Rattle.su_min.specs.Kept.{Minimised, all_rows}
 use Rattle.su_min.proofs.Parts.{all_is}
 use Rattle.su_check.specs.declared.nodes.Node.{Node}
@@ -35,7 +35,6 @@ use Rattle.su_refute.specs.AllTrees.{IsSound, lines_of, AreTreesOf, AreTrees}
 use Rattle.su_refute.specs.Written.{row_trees, term_of, terms_from, certificate_of, certificate_text, lines_text}
 use Rattle.su_refute.specs.Laws.{IsSpelled, IsWritable, WrittenCertificatesAreGood}
 use Rattle.su_refute.proofs.Needed.{ready_first}
-use Rattle.su_refute.proofs.TreeSoFar.{kept_in, in_kept}
 use Rattle.su_refute.proofs.Nested.{nests_flat, not_deep}
 use Rattle.su_refute.proofs.Lined.{lines_are_read}
 use Rattle.su_refute.proofs.Validity.{all_flat, IsLine, numbers_line, head_line, kinds_line, row_is_line, tree_is_line, tree_bytes, certificate_word, kinds_word, term_word, head_word, rows_word, kept_word, fold_word}
@@ -93,7 +92,7 @@ fold_good m s =
       one_each = len;
       head = maps.head;
       rows = λ i h. subst (λ k. images_of maps.symbols (row_of t k) ≡ row_of t (get_or m.fold i 0)) (full_at all n i (all_is t) h) (maps.rows i (omega arith));
-      into = λ k d h. let to = maps.targets k h in subst (Contains (row_numbers t m.mask)) (get_or_default m.fold k 0 d h) (in_kept t m.mask (get_or m.fold k 0) to.0 to.1);
+      into = λ k d h. let to = maps.targets k h in subst (Contains (row_numbers t m.mask)) (get_or_default m.fold k 0 d h) (in_rows t m.mask (get_or m.fold k 0) to.0 to.1);
     }
 
 -- ---- one term
@@ -121,7 +120,7 @@ term_good kinds j m trees w are = record {
 }
 
 small_kept : (m : Minimised) → IsSound m → (r : ℕ) → Contains (row_numbers m.tableau m.mask) r → r < 64
-small_kept m s r has = let h = (kept_in m.tableau m.mask r has).0 in let l = s.small.rows in omega arith
+small_kept m s r has = let h = (of_rows m.tableau m.mask r has).0 in let l = s.small.rows in omega arith
 
 -- numbers of rows
 all_rows_small : (P : ℕ → Type 0) (m : Minimised) → IsSound m → ((r : ℕ) → r < 64 → P r) → All P (row_numbers m.tableau m.mask)

@@ -14,7 +14,7 @@ use Rattle.su_refute.specs.Laws.{KeptRowsHaveOneTree}
 use Rattle.su_refute.proofs.Needed.{needed, begin_small, row_small, ready_first}
 use Rattle.su_refute.proofs.There.{a_tree}
 use Rattle.su_refute.proofs.OneTree.{one_tree}
-use Rattle.su_refute.proofs.TreeSoFar.{kept_in}
+use Rattle.su_map.proofs.RowLists.{of_rows}
 
 pub kept_tree : (m : Minimised) (r : ℕ) → IsValid m.tableau → IsSmall m.tableau → IsKept m.tableau m.mask → bit_at m.mask r ≡ 1 → (n : Node) × IsTree (lines_of m) r n
 kept_tree m r valid small kept one =
@@ -27,7 +27,7 @@ trees_there t [] f = ([], tt)
 trees_there t (r ∷ rs) f = let x = f r (Contains-head r rs) in let more = trees_there t rs (λ q h. f q (Contains-later r rs q h)) in (x.0 ∷ more.0, (x.1, more.1))
 
 pub kept_trees : (m : Minimised) → IsValid m.tableau → IsSmall m.tableau → IsKept m.tableau m.mask → (trees : List Node) × AreTreesOf m trees
-kept_trees m valid small kept = trees_there (lines_of m) (row_numbers m.tableau m.mask) (λ r has. kept_tree m r valid small kept (kept_in m.tableau m.mask r has).1)
+kept_trees m valid small kept = trees_there (lines_of m) (row_numbers m.tableau m.mask) (λ r has. kept_tree m r valid small kept (of_rows m.tableau m.mask r has).1)
 
 pub one_list : (t : Lines) (rs : List ℕ) (trees others : List Node) → AllZip (IsTree t) rs trees → AllZip (IsTree t) rs others → trees ≡ others
 one_list t [] [] [] h k = refl

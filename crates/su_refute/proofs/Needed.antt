@@ -28,7 +28,7 @@ use Rattle.su_refute.proofs.MemberCounts.{numbers_exactly}
 use Rattle.su_refute.proofs.SharedPlaces.{member_below}
 use Rattle.su_check.proofs.FoldTargets.{none_sent}
 use Rattle.su_refute.proofs.Fits.{fits_first}
-use Rattle.su_refute.proofs.TreeSoFar.{kept_in, in_kept}
+use Rattle.su_map.proofs.RowLists.{in_rows, of_rows}
 
 -- whether a row has a target
 target_there : (p : List Sent) (s : ℕ) → All (λ x. x.row ≢ s) p ⊎ ((x : Sent) × Contains p x × (x.row ≡ s))
@@ -57,12 +57,12 @@ needed t m r kept small hr one p sent free all =
       rows = λ k d hk.
           let row = get_or (select m t.rows) k d in
           let at = select-from m t.rows row (k, hk, get_or_default (select m t.rows) k row d hk) in
-          let member = in_kept t m at.place at.below at.is_in in
+          let member = in_rows t m at.place at.below at.is_in in
           ⊎_elim
           (λ (none : All (λ x. x.row ≢ at.place) p). absurd (all at.place member (record { member = member; free = none })))
           (λ (x : (x : Sent) × Contains p x × (x.row ≡ at.place)).
           let target = All-contains (IsFree (lines_in t m) r) p x.0 free x.1 in
-          let ht = kept_in t m x.0.target target.0 in
+          let ht = of_rows t m x.0.target target.0 in
           let image : images_of sent.symbols (numbered_row (lines_in t m) x.0.row) ≡ numbered_row (lines_in t m) x.0.target = All-contains (λ x. images_of sent.symbols (numbered_row (lines_in t m) x.row) ≡ numbered_row (lines_in t m) x.target) p x.0 sent.rows x.1 in
           let here : images_of sent.symbols row ≡ get_or t.rows x.0.target [] = ap (images_of sent.symbols) (sym (at.is []) ∙ ap (λ q. get_or t.rows q []) (sym x.2)) ∙ image in
           subst (Contains (select n t.rows)) (sym here) (select-has n t.rows x.0.target [] ht.0 (same x.0.target target.1 ∙ ht.1)))
@@ -87,7 +87,7 @@ pub ready_first : (t : Tab) (m : ℕ) → IsValid t → IsReady (lines_in t m) [
 ready_first t m valid = record {
   wide = wide_rows t valid;
   ascending = (numbers_exactly m (length t.rows)).ascends;
-  kept = All-members (λ k. k < length t.rows) (row_numbers t m) (λ k has. (kept_in t m k has).0);
+  kept = All-members (λ k. k < length t.rows) (row_numbers t m) (λ k has. (of_rows t m k has).0);
   within = λ k d h. absurd (omega arith);
   sent = none_sent (lines_in t m);
 }
@@ -119,8 +119,8 @@ at_first t m r net left g =
       ready = ready_first t m g.valid;
       free = λ k d h. absurd (omega arith);
       open_rows = λ q. (
-        λ b. record { member = in_kept t m q (member_below m (length t.rows) q within b) b; free = λ k d h. absurd (omega arith) },
-        λ o. (kept_in t m q o.member).1,
+        λ b. record { member = in_rows t m q (member_below m (length t.rows) q within b) b; free = λ k d h. absurd (omega arith) },
+        λ o. (of_rows t m q o.member).1,
       );
       targets = λ q i b.
           let hq = member_below m (length t.rows) q within b in
@@ -129,9 +129,9 @@ at_first t m r net left g =
             λ x.
                 let ne = λ (e : i ≡ r). let z = ap (bit_at (get_or left q 0)) e ∙ g.out q hb in let n : ⊥ = absurd (omega arith) in n in
                 let h = base.0 (sym (g.same q i hb ne) ∙ x) in
-                (fits_first L r q i wide hq h.0).1 (in_kept t m i h.0 h.1, ne, h.2),
+                (fits_first L r q i wide hq h.0).1 (in_rows t m i h.0 h.1, ne, h.2),
             λ fit.
-                let hi = kept_in t m i fit.member in
+                let hi = of_rows t m i fit.member in
                 let h = (fits_first L r q i wide hq hi.0).0 fit in
                 g.same q i hb h.1 ∙ base.1 (hi.0, hi.1, h.2),
           );

@@ -7,7 +7,7 @@ use Rattle.std.proofs.lemmas.List.Elements.{All-push}
 use Rattle.std.proofs.lemmas.Nat.Bits.{bit_at-zero}
 use Rattle.su_tableau.specs.Tableaux.{Tab}
 use Rattle.su_map.specs.Lists.{row_numbers}
-use Rattle.su_map.proofs.Ranks.{rank, rank_in, rank_at, ranked_at}
+use Rattle.su_map.proofs.RowLists.{of_rows}
 use Rattle.su_check.specs.declared.sending.Sent.{Sent}
 use Rattle.su_check.specs.SentRows.{sent_too}
 use Rattle.su_check.specs.Refutations.{IsOpen, IsFitting}
@@ -21,23 +21,11 @@ use Rattle.su_refute.proofs.Fits.{fits_next}
 use Rattle.su_refute.proofs.AscendingNumbers.{exactly_as}
 use Rattle.su_refute.proofs.MemberCounts.{count_set}
 
--- the kept rows are the rows in the set
-pub kept_in : (t : Tab) (m i : ℕ) → Contains (row_numbers t m) i → (i < length t.rows) × (bit_at m i ≡ 1)
-kept_in t m i h =
-    let r = ranked_at m (length t.rows) h.0 h.1 in
-    let e : r.number ≡ i = sym r.is ∙ get_or_default (row_numbers t m) h.0 0 i h.1 ∙ h.2 in
-    (subst (λ i. i < length t.rows) e r.below, subst (λ i. bit_at m i ≡ 1) e r.member)
-
-pub in_kept : (t : Tab) (m i : ℕ) → i < length t.rows → bit_at m i ≡ 1 → Contains (row_numbers t m) i
-in_kept t m i h one =
-    let low = rank_in m (length t.rows) i h one in
-    (rank m i, low, get_or_default (row_numbers t m) (rank m i) i 0 low ∙ rank_at m (length t.rows) i h one)
-
 pub open_in : (t : Tab) (m : ℕ) (p : List Sent) (q : ℕ) → IsOpen (lines_in t m) p q → (q < length t.rows) × (bit_at m q ≡ 1)
-open_in t m p q h = kept_in t m q h.member
+open_in t m p q h = of_rows t m q h.member
 
 pub fitting_in : (t : Tab) (m r : ℕ) (p : List Sent) (q i : ℕ) → IsFitting (lines_in t m) r p q i → (i < length t.rows) × (bit_at m i ≡ 1)
-fitting_in t m r p q i h = kept_in t m i h.member
+fitting_in t m r p q i h = of_rows t m i h.member
 
 pub at_next : (net : Net) (t : Tab) (m r : ℕ) (p : List Sent) (todo rest : ℕ) (left next : List ℕ) (s j : ℕ) → IsNet t m net → IsAt t m r p todo left → length left ≡ length t.rows
     → bit_at todo s ≡ 1 → bit_at (get_or left s 0) j ≡ 1 → ((q : ℕ) → q ≢ s → bit_at rest q ≡ bit_at todo q) → bit_at rest s ≡ 0

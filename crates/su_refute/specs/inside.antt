@@ -2,3 +2,4 @@
 pub mod Fronts
 pub mod Nets
 pub mod Positions
+pub mod TermParts

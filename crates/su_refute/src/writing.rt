@@ -5,7 +5,11 @@ ghost use Rattle.su_map.specs.Lists.{row_numbers};
 ghost use Rattle.su_check.specs.NodeSymbols.{number, sym_symbol};
 ghost use Rattle.su_check.specs.Grammar.{line, row_line, tree_line, term_lines};
 ghost use Rattle.su_refute.specs.Written.{row_trees, term_of, certificate_of, certificate_text, line_text, lines_text};
+<<<<<<< HEAD
 ghost use Rattle.su_refute.specs.inside.Fronts.{front_text};
+=======
+ghost use Rattle.su_refute.specs.inside.TermParts.{tableau_lines, kept_lines};
+>>>>>>> a484a65d6360df45406b158a82c2c62772c77122
 
 use crate::symbols::{push_kinds, push_node, push_number, push_numbers, push_row, push_syms};
 use std::alloc::Global;
@@ -110,6 +114,32 @@ fn kept_rows(alloc: Global, minimal: &Minimal) -> Result<List<u8>, NoMemory>
     Ok(kept)
 }
 
+/// Adds the lines of a term's tableau.
+fn push_tableau(alloc: Global, out: &mut Vec<u8>, i: usize, t: &Tableau) -> Result<(), NoMemory>
+    requires { i < 2 ^ 63 }
+    ensures { OnOk result (out.new.items ≡ out.old.items ++ lines_text (tableau_lines i t.now)) }
+{
+    push_count(alloc, out, "term", i)?;
+    push_head(alloc, out, "head", t.head())?;
+    push_list(alloc, out, "rows", &[])?;
+    push_rows(alloc, out, t)
+}
+
+/// Adds the lines of what is kept.
+fn push_kept(
+    alloc: Global,
+    out: &mut Vec<u8>,
+    minimal: &Minimal,
+    trees: &[Node],
+) -> Result<(), NoMemory>
+    ensures { OnOk result (out.new.items ≡ out.old.items ++ lines_text (kept_lines minimal.now trees.now)) }
+{
+    let kept = kept_rows(alloc, minimal)?;
+    push_list(alloc, out, "kept", kept.as_slice())?;
+    push_list(alloc, out, "fold", minimal.fold())?;
+    push_trees(alloc, out, kept.as_slice(), trees)
+}
+
 /// Adds the lines of a term.
 fn push_term(
     alloc: Global,
@@ -121,15 +151,8 @@ fn push_term(
     requires { i < 2 ^ 63 }
     ensures { OnOk result (out.new.items ≡ out.old.items ++ lines_text (term_lines (term_of i minimal.now trees.now))) }
 {
-    let kept = kept_rows(alloc, minimal)?;
-    let t = minimal.tableau();
-    push_count(alloc, out, "term", i)?;
-    push_head(alloc, out, "head", t.head())?;
-    push_list(alloc, out, "rows", &[])?;
-    push_rows(alloc, out, t)?;
-    push_list(alloc, out, "kept", kept.as_slice())?;
-    push_list(alloc, out, "fold", minimal.fold())?;
-    push_trees(alloc, out, kept.as_slice(), trees)
+    push_tableau(alloc, out, i, minimal.tableau())?;
+    push_kept(alloc, out, minimal, trees)
 }
 
 /// Adds the lines of the width and the kinds.

@@ -4,7 +4,7 @@ use Rattle.std.proofs.lemmas.List.{length-map}
 use Rattle.std.proofs.lemmas.Option.{get_or_from_slice_get}
 use Rattle.su_base.specs.declared.values.Column.{Column}
 use Rattle.su_where.specs.Truth.{Cond}
-use Rattle.su_where.specs.Fitting.{Fits}
+use Rattle.su_where.specs.Places.{Fits}
 use Rattle.su_schema.specs.SchemaValue.{SchemaValue}
 use Rattle.su_schema.specs.Entries.{relation_names, relation_columns, place_of}
 use Rattle.su_schema.specs.Known.{columns_at}

@@ -10,10 +10,6 @@ use Rattle.su_tableau.specs.Parts.{keep_if}
 use Rattle.su_map.specs.Lists.{numbers_of}
 use Rattle.su_base.proofs.Items.{range-push_zero}
 
-range-from : (a n : ℕ) → range_with_len a (suc n) ≡ range_with_len a n ++ (a + n) ∷ []
-range-from a zero = ap (λ k. k ∷ []) (let e : a ≡ a + 0 = omega arith in e)
-range-from a (suc n) = ap (λ ks. a ∷ ks) (range-from (a + 1) n ∙ ap (λ k. range_with_len (a + 1) n ++ k ∷ []) (let e : (a + 1) + n ≡ a + suc n = omega arith in e))
-
 -- a row that is in the mask, and one that isn't
 pub keep_if-in : (m r : ℕ) → bit_at m r ≡ 1 → keep_if (bit_at m r) r [] ≡ r ∷ []
 keep_if-in m r e = ap (λ b. keep_if b r []) e

@@ -32,7 +32,7 @@ use Rattle.su_exec.specs.Outputs.{Agrees, HoldsUnder as HoldsFor, IsOutput}
 use Rattle.su_steps.proofs.Lists.{all_by, contains_map, of_map, contains_filter, of_filter}
 use Rattle.su_answer.specs.Answers.{IsRead, StoredAnswer}
 use Rattle.su_answer.specs.Joined.{numbers_in, cell, IsTaskRowOf, comparison_at, IsTaskOf}
-use Rattle.su_answer.proofs.Joined.{in_rows, of_rows}
+use Rattle.su_map.proofs.RowLists.{in_rows, of_rows}
 use Rattle.su_answer.proofs.ColumnValues.{reads_each, each_read}
 use Rattle.su_base.proofs.Items.{Contains-range, Contains-range_below}
 use Rattle.su_answer.proofs.PairedLists.{zip_first, zip_second}

@@ -6,7 +6,7 @@ use Rattle.su_base.specs.declared.values.Value.{Value}
 use Rattle.std.proofs.lemmas.List.Elements.{All-append, All-nil}
 use Rattle.su_where.specs.declared.conditions.Condition.TheVariants.{All as AllOf}
 use Rattle.su_where.specs.Truth.{Cond, truth_of, comparisons_of}
-use Rattle.su_where.specs.Fitting.{HasPlacesBelow, Fits}
+use Rattle.su_where.specs.Places.{HasPlacesBelow, Fits}
 use Rattle.su_where.proofs.Layers.{comparisons_of-All}
 use Rattle.su_rel.specs.Stored.{Stored, HaveWidth}
 use Rattle.su_state.specs.DatabaseValue.{DatabaseValue, table_of, rows_of, IsWellKept}

@@ -4,7 +4,7 @@ use Rattle.std.specs.List.{flat_map}
 use Rattle.std.proofs.lemmas.List.Elements.{All-nil, All-append}
 use Rattle.su_where.specs.declared.conditions.Condition.TheVariants.{All}
 use Rattle.su_where.specs.Truth.{Cond, comparisons_of}
-use Rattle.su_where.specs.Fitting.{HasPlacesBelow, Fits}
+use Rattle.su_where.specs.Places.{HasPlacesBelow, Fits}
 use Rattle.su_where.proofs.Layers.{comparisons_of-All}
 
 pub both_fit : (n : ℕ) (a b : Cond) → Fits n a → Fits n b → Fits n (All (a ∷ b ∷ []))

@@ -2,7 +2,7 @@
 ghost use Rattle.std.specs.Prelude.{◌≡◌, ◌<◌, List, All, not, map, length, IfOk, OnErr};
 ghost use Rattle.su_base.specs.declared.values.Value.{Value};
 ghost use Rattle.su_where.specs.Truth.{truth_of};
-ghost use Rattle.su_where.specs.Fitting.{Fits};
+ghost use Rattle.su_where.specs.Places.{Fits};
 ghost use Rattle.su_state.specs.DatabaseValue.{columns_of};
 ghost use Rattle.su_state.specs.Changes.{DeletesWhere};
 

@@ -1,4 +1,4 @@
-ghost use Rattle.su_where.specs.Fitting.{Fits};
+ghost use Rattle.su_where.specs.Places.{Fits};
 ghost use Rattle.std.specs.Prelude.{IfOk};
 
 use std::alloc::Global;

@@ -13,7 +13,7 @@ use Rattle.su_base.proofs.Items.{Contains-cases, Contains-nil, Contains-map, Con
 use Rattle.su_where.specs.declared.literals.Operand.{Operand}
 use Rattle.su_where.specs.declared.literals.Operand.TheVariants as operand
 use Rattle.su_where.specs.declared.literals.Literal.{Literal}
-use Rattle.su_where.specs.Fitting.{IsBelow, HasPlacesBelow}
+use Rattle.su_where.specs.Places.{IsBelow, HasPlacesBelow}
 use Rattle.su_schema.specs.SchemaValue.{SchemaValue}
 use Rattle.su_query.specs.declared.places.Place.{Place}
 use Rattle.su_query.specs.declared.resolving.Resolved.{Resolved}

@@ -17,6 +17,7 @@ use Rattle.su_where.specs.Operator.{compares, holds_in}
 use Rattle.su_tableau.specs.declared.symbols.Sym.{Sym}
 use Rattle.su_tableau.specs.declared.symbols.Sym.TheVariants.{Const, Var}
 use Rattle.su_tableau.specs.Valuations.{value_of, values_of}
+use Rattle.su_tableau.proofs.SymbolParts.{same_const}
 use Rattle.su_classes.proofs.ValueOrder.{compare_itself, compare_same, same_or}
 use Rattle.su_schema.specs.SchemaValue.{SchemaValue}
 use Rattle.su_steps.specs.declared.results.Origin.{Origin}
@@ -71,9 +72,6 @@ outcome_is w op (Var p) (Var q) h = ap (holds_in op) (sym (ap (λ k. compare_val
 
 -- ---- the values of a valuation are a closed partition
 
-pub const_same : (a b : Value) → Const a ≡ Const b → a ≡ b
-const_same a b h = cc
-
 equal_values : (op : Op) (x y : Value) → compares op x y ≡ true → op ≡ Equal → x ≡ y
 equal_values op x y h e = compare_same x y (holds_same op (compare_values x y) e h)
 
@@ -99,13 +97,13 @@ module _ (schema : SchemaValue) (universe : List (List Value)) (choice : List (L
           let or' = subset_at f.right (attributes_at schema o.object) a io.right h in
           let qr = subset_at f.right (attributes_at schema q.object) a iq.right h in
           let left : Agree f.left r.0 s.0 = λ b e g.
-          r.2 b e (fit o.object b (ol b g)) (ol b g) ∙ const_same (w (o.variable * width schema + b)) (w (q.variable * width schema + b)) (same b g) ∙ sym (s.2 b e (fit q.object b (ql b g)) (ql b g)) in
+          r.2 b e (fit o.object b (ol b g)) (ol b g) ∙ same_const (w (o.variable * width schema + b)) (w (q.variable * width schema + b)) (same b g) ∙ sym (s.2 b e (fit q.object b (ql b g)) (ql b g)) in
           let right = meets f r.0 s.0 cf r.1 s.1 left a (Int (pos 0)) h in
           ap Const (sym (r.2 a (Int (pos 0)) (fit o.object a or') or') ∙ right ∙ s.2 a (Int (pos 0)) (fit q.object a qr) qr);
     }
 
     one_value : (x y : Sym) → InClass (IsClosedForCase schema os d) x y → value_of w x ≡ value_of w y
-    one_value x y c = const_same (value_of w x) (value_of w y) (c (by_value w) values_closed)
+    one_value x y c = same_const (value_of w x) (value_of w y) (c (by_value w) values_closed)
 
 -- ---- the head's compared values
 

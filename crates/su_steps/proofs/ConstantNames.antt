@@ -5,19 +5,19 @@ use Rattle.su_base.specs.declared.values.Value.{Value}
 use Rattle.su_base.specs.declared.values.Value.TheVariants.{Text}
 use Rattle.su_tableau.specs.declared.symbols.Sym.TheVariants.{Const}
 use Rattle.su_classes.specs.Tables.{rep}
-use Rattle.su_classes.specs.inside.Symbols.{same_value, has_constant, place_of, AreDistinct, symbol_at, name_in}
+use Rattle.su_classes.specs.inside.Symbols.{same_value, has_constant, constant_place, AreDistinct, symbol_at, name_in}
 use Rattle.su_classes.proofs.ValueOrder.{same_itself, same_is}
 use Rattle.su_classes.proofs.Places.{place_is, place_at}
 
-pub place_has : (vs : List Value) (c : Value) → place_of vs c < length vs → has_constant vs c ≡ true
+pub place_has : (vs : List Value) (c : Value) → constant_place vs c < length vs → has_constant vs c ≡ true
 place_has [] c h = absurd (omega arith)
 place_has (v ∷ vs) c h =
-    elim (same_value v c) as (λ b. cond b 0 (suc (place_of vs c)) < suc (length vs) → cond b true (has_constant vs c) ≡ true) [
+    elim (same_value v c) as (λ b. cond b 0 (suc (constant_place vs c)) < suc (length vs) → cond b true (has_constant vs c) ≡ true) [
       | true ↦ λ k. refl
       | false ↦ λ k. place_has vs c (omega arith)
     ] h
 
-pub place_out : (vs : List Value) (c : Value) → length vs ≤ place_of vs c → has_constant vs c ≡ false
+pub place_out : (vs : List Value) (c : Value) → length vs ≤ constant_place vs c → has_constant vs c ≡ false
 place_out vs c h =
     ⊎_elim
     (λ (t : has_constant vs c ≡ true). absurd (let l = (place_is vs c t).0 in omega arith))
@@ -60,18 +60,18 @@ kept_push (x ∷ xs) c v h =
 
 -- ---- names of constants
 
-pub known_name : (vs : List Value) (limit : ℕ) (table : List ℕ) (c : Value) (item : ℕ) → item ≡ place_of vs c → item < length vs → symbol_at vs (rep table item) ≡ name_in vs limit table (Const c)
+pub known_name : (vs : List Value) (limit : ℕ) (table : List ℕ) (c : Value) (item : ℕ) → item ≡ constant_place vs c → item < length vs → symbol_at vs (rep table item) ≡ name_in vs limit table (Const c)
 known_name vs limit table c item e l =
     let has = place_has vs c (omega arith) in
-    ap (λ k. symbol_at vs (rep table k)) e ∙ sym (cond-true (has_constant vs c) (symbol_at vs (rep table (place_of vs c))) (Const c) has)
+    ap (λ k. symbol_at vs (rep table k)) e ∙ sym (cond-true (has_constant vs c) (symbol_at vs (rep table (constant_place vs c))) (Const c) has)
 
-pub other_name : (vs : List Value) (limit : ℕ) (table : List ℕ) (c : Value) (item : ℕ) → item ≡ place_of vs c → length vs ≤ item → name_in vs limit table (Const c) ≡ Const c
-other_name vs limit table c item e l = cond-false (has_constant vs c) (symbol_at vs (rep table (place_of vs c))) (Const c) (place_out vs c (omega arith))
+pub other_name : (vs : List Value) (limit : ℕ) (table : List ℕ) (c : Value) (item : ℕ) → item ≡ constant_place vs c → length vs ≤ item → name_in vs limit table (Const c) ≡ Const c
+other_name vs limit table c item e l = cond-false (has_constant vs c) (symbol_at vs (rep table (constant_place vs c))) (Const c) (place_out vs c (omega arith))
 
 -- a constant that isn't its own representative stands for another
 pub clash_of : (vs : List Value) (table : List ℕ) → AreDistinct vs → (i : ℕ) → i < length vs → rep table i < i → (get_or vs i (Text []) ≡ get_or vs (rep table i) (Text []) → ⊥)
 clash_of vs table d i l less e =
     let a = place_at vs d i l in
     let b = place_at vs d (rep table i) (omega arith) in
-    let c = ap (place_of vs) e in
+    let c = ap (constant_place vs) e in
     omega arith

@@ -13,9 +13,10 @@ use Rattle.su_where.specs.declared.operators.Op.{Op}
 use Rattle.su_where.specs.declared.operators.Op.TheVariants.{Equal, NotEqual, Less, LessEqual, Greater, GreaterEqual}
 use Rattle.su_tableau.specs.declared.symbols.Sym.{Sym}
 use Rattle.su_tableau.specs.declared.symbols.Sym.TheVariants.{Const, Var}
+use Rattle.su_tableau.proofs.SymbolParts.{same_const}
 use Rattle.su_classes.specs.declared.items.Placed.{Placed}
 use Rattle.su_classes.specs.declared.items.Together.{Together}
-use Rattle.su_classes.specs.Items.{cell, SameAt, Keeps, IsKept, IsPlacedBelow}
+use Rattle.su_classes.specs.Items.{item_of, SameItemLabels, Keeps, IsKept, IsPlacedBelow}
 use Rattle.su_classes.specs.Tables.{rep, IsLeastTable}
 use Rattle.su_classes.specs.inside.Symbols.{AreDistinct, is_known, symbol_number, symbol_at, name_in}
 use Rattle.su_classes.proofs.Places.{IsNumbering, numbering}
@@ -31,7 +32,6 @@ use Rattle.su_steps.specs.Evaluated.{EvaluatesFalse}
 use Rattle.su_steps.specs.Cases.{IsContradictory}
 use Rattle.su_steps.specs.inside.Numbers.{is_equality, equals, placed_of}
 use Rattle.su_steps.proofs.Raw.{AreWithin}
-use Rattle.su_steps.proofs.ClassNames.{const_same}
 
 -- ---- the equalities
 
@@ -98,10 +98,10 @@ module _ (schema : SchemaValue) (vs : List Value) (limit : ℕ) (os : List Origi
   at_known o c a l = lt-ltb (pair (width schema) o.variable a) limit (n.pairs o c a l)
 
   -- the item at an attribute is the number of the pair
-  cell_is : (o : Origin) (a : ℕ) → a < width schema → cell (placed o) a ≡ symbol_number vs (at o a)
+  cell_is : (o : Origin) (a : ℕ) → a < width schema → item_of (placed o) a ≡ symbol_number vs (at o a)
   cell_is o a l = get_or-map_range (λ b. symbol_number vs (at o b)) (width schema) a 0 l
 
-  symbol_is : (o : Origin) → Contains os o → (a : ℕ) → a < width schema → symbol_at vs (cell (placed o) a) ≡ at o a
+  symbol_is : (o : Origin) → Contains os o → (a : ℕ) → a < width schema → symbol_at vs (item_of (placed o) a) ≡ at o a
   symbol_is o c a l = ap (symbol_at vs) (cell_is o a l) ∙ (numbering vs limit n.distinct).back (at o a) (at_known o c a l)
 
   left_below : (f : Fd) (o : Origin) → LiesIn f (attributes_at schema o.object) → (a : ℕ) → contains f.left a ≡ true → a < width schema
@@ -140,7 +140,7 @@ module _ (schema : SchemaValue) (vs : List Value) (limit : ℕ) (os : List Origi
         let b = (numbering vs limit n.distinct).back in
         subst (λ (t : Together). by_item t.left ≡ by_item t.right) w.3 (ap label (b c.left s.0) ∙ closed.equalities c w.1 w.2 ∙ ap label (sym (b c.right s.1)))
 
-    kept_at : (f : Fd) (o q : Origin) → Contains schema.fds f → Contains os o → Contains os q → LiesIn f (placed o).has → LiesIn f (placed q).has → SameAt by_item f.left (placed o) (placed q) → SameAt by_item f.right (placed o) (placed q)
+    kept_at : (f : Fd) (o q : Origin) → Contains schema.fds f → Contains os o → Contains os q → LiesIn f (placed o).has → LiesIn f (placed q).has → SameItemLabels by_item f.left (placed o) (placed q) → SameItemLabels by_item f.right (placed o) (placed q)
     kept_at f o q cf co cq o_lies q_lies same a h =
         let io : LiesIn f (attributes_at schema o.object) = o_lies in
         let iq : LiesIn f (attributes_at schema q.object) = q_lies in
@@ -157,8 +157,8 @@ module _ (schema : SchemaValue) (vs : List Value) (limit : ℕ) (os : List Origi
           let g = get_or schema.fds k f in
           let o = Contains-map_source placed os r cr in
           let q = Contains-map_source placed os s cs in
-          subst (λ (x : Placed). LiesIn g x.has → LiesIn g s.has → SameAt by_item g.left x s → SameAt by_item g.right x s) o.2
-          (subst (λ (y : Placed). LiesIn g (placed o.0).has → LiesIn g y.has → SameAt by_item g.left (placed o.0) y → SameAt by_item g.right (placed o.0) y) q.2
+          subst (λ (x : Placed). LiesIn g x.has → LiesIn g s.has → SameItemLabels by_item g.left x s → SameItemLabels by_item g.right x s) o.2
+          (subst (λ (y : Placed). LiesIn g (placed o.0).has → LiesIn g y.has → SameItemLabels by_item g.left (placed o.0) y → SameItemLabels by_item g.right (placed o.0) y) q.2
           (kept_at g o.0 q.0 (Contains-get_or schema.fds k f l) o.1 q.1));
     }
 
@@ -184,7 +184,7 @@ module _ (schema : SchemaValue) (vs : List Value) (limit : ℕ) (os : List Origi
           one_name c.left c.right s.0 s.1 (All-contains (λ (t : Together). rep table t.left ≡ rep table t.right) (equals vs d) (sides_of vs c) least.kept.equalities (equals_to vs d c has e));
       dependencies = λ f o q cf co cq io iq same a h.
           let keeps = All-contains (Keeps (rep table) rows) schema.fds f least.kept.dependencies cf in
-          let left : SameAt (rep table) f.left (placed o) (placed q) = λ b g.
+          let left : SameItemLabels (rep table) f.left (placed o) (placed q) = λ b g.
           let l = left_below f o io b g in
           ap (rep table) (cell_is o b l) ∙ one_rep (at o b) (at q b) (at_known o co b l) (at_known q cq b l) (same b g) ∙ ap (rep table) (sym (cell_is q b l)) in
           let right = keeps (placed o) (placed q) (Contains-map placed os o co) (Contains-map placed os q cq) (record { left = io.left; right = io.right }) (record { left = iq.left; right = iq.right }) left a h in
@@ -207,6 +207,6 @@ module _ (schema : SchemaValue) (os : List Origin) (d : List SymbolComparison) (
   pub no_clash : ((a : Value) → name (Const a) ≡ Const a) → ((c : SymbolComparison) → Contains d c → ¬ EvaluatesFalse name c) → ¬ IsContradictory schema os d name
   no_clash own none bad =
       ⊎_elim
-      (λ (b : (a : Value) × (c : Value) × (a ≢ c) × InClass (IsClosedForCase schema os d) (Const a) (Const c)). b.2 (const_same b.0 b.1 (sym (own b.0) ∙ naming.one_name (Const b.0) (Const b.1) b.3 ∙ own b.1)))
+      (λ (b : (a : Value) × (c : Value) × (a ≢ c) × InClass (IsClosedForCase schema os d) (Const a) (Const c)). b.2 (same_const b.0 b.1 (sym (own b.0) ∙ naming.one_name (Const b.0) (Const b.1) b.3 ∙ own b.1)))
       (λ (b : (c : SymbolComparison) × Contains d c × EvaluatesFalse name c). none b.0 b.1 b.2)
       bad

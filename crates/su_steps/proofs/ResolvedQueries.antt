@@ -16,7 +16,7 @@ use Rattle.su_base.proofs.Items.{Contains-later, Contains-cases, Contains-nil, C
 use Rattle.su_where.specs.declared.literals.Operand.{Operand}
 use Rattle.su_where.specs.declared.literals.Operand.TheVariants as operand
 use Rattle.su_where.specs.declared.literals.Literal.{Literal}
-use Rattle.su_where.specs.Fitting.{IsBelow, HasPlacesBelow}
+use Rattle.su_where.specs.Places.{IsBelow, HasPlacesBelow}
 use Rattle.su_where.specs.Truth.{comparisons_of}
 use Rattle.su_where.specs.Disjunct.{disjuncts_of}
 use Rattle.su_tableau.specs.Kinds.{sym_kind}

@@ -11,7 +11,7 @@ use Rattle.su_base.specs.declared.values.Kind.{Kind}
 use Rattle.su_base.specs.declared.values.Kind.TheVariants.{Int as IntKind, Text as TextKind}
 use Rattle.su_base.proofs.Subsets.{subset_at}
 use Rattle.su_base.proofs.Items.{map-map_equal, map-equal}
-use Rattle.su_classes.proofs.Merges.{same_var}
+use Rattle.su_tableau.proofs.SymbolParts.{same_var}
 use Rattle.su_where.specs.declared.operators.Op.TheVariants.{Equal}
 use Rattle.su_tableau.specs.declared.symbols.Sym.{Sym}
 use Rattle.su_tableau.specs.declared.symbols.Sym.TheVariants.{Const, Var}

@@ -10,7 +10,7 @@ use Rattle.su_where.specs.declared.operators.Op.TheVariants.{Equal}
 use Rattle.su_where.specs.declared.literals.Operand.{Operand}
 use Rattle.su_where.specs.declared.literals.Operand.TheVariants as operand
 use Rattle.su_where.specs.declared.literals.Literal.{Literal}
-use Rattle.su_where.specs.Fitting.{IsBelow, HasPlacesBelow}
+use Rattle.su_where.specs.Places.{IsBelow, HasPlacesBelow}
 use Rattle.su_tableau.specs.declared.symbols.Sym.{Sym}
 use Rattle.su_tableau.specs.Tableaux.{Tab, IsValid}
 use Rattle.su_classes.specs.declared.items.Together.{Together}

@@ -16,7 +16,7 @@ use Rattle.su_where.specs.declared.literals.Operand.TheVariants as operand
 use Rattle.su_where.specs.declared.literals.Literal.{Literal}
 use Rattle.su_where.specs.Operator.{compares}
 use Rattle.su_where.specs.Truth as truth
-use Rattle.su_where.specs.Fitting.{IsBelow, HasPlacesBelow}
+use Rattle.su_where.specs.Places.{IsBelow, HasPlacesBelow}
 use Rattle.su_where.specs.Disjunct.{disjuncts_of, all_hold}
 use Rattle.su_where.proofs.Keeps.{keeps_truth}
 use Rattle.su_tableau.specs.declared.symbols.Sym.{Sym}

@@ -1,7 +1,7 @@
 //! The rows and the head of a term.
 ghost use Rattle.std.specs.Prelude.{◌≡◌, ◌≢◌, ℕ, ◌+◌, ◌*◌, ◌<◌, ◌≤◌, ◌^◌, ◌++◌, IsTrue, true, false, if◌then◌else◌, [], ◌∷◌, All, Contains, length, IfOk};
 ghost use Rattle.std.specs.FinSet as set;
-ghost use Rattle.su_where.specs.Fitting.{HasPlacesBelow};
+ghost use Rattle.su_where.specs.Places.{HasPlacesBelow};
 ghost use Rattle.su_tableau.specs.declared.symbols.Sym.TheVariants.{Var};
 ghost use Rattle.su_steps.specs.declared.building.Head.{Head as AHead};
 ghost use Rattle.su_steps.specs.Objects.{width, attributes_at};

@@ -1,6 +1,6 @@
 //! The classes of a disjunct's constants and of the pairs of variables and attributes.
 ghost use Rattle.std.specs.Prelude.{◌≡◌, ◌↔◌, ℕ, ◌+◌, ◌*◌, ◌<◌, ◌≤◌, ◌^◌, IsTrue, All, length, IfOk, OnOk};
-ghost use Rattle.su_where.specs.Fitting.{IsBelow as IsPlaceBelow};
+ghost use Rattle.su_where.specs.Places.{IsBelow as IsPlaceBelow};
 ghost use Rattle.su_tableau.specs.declared.symbols.Sym.TheVariants.{Var, Const};
 ghost use Rattle.su_query.specs.declared.places.Place.{Place as APlace};
 ghost use Rattle.su_classes.specs.Items.{IsPlacedBelow};

@@ -2,9 +2,9 @@
 ghost use Rattle.std.specs.Prelude.{◌≡◌, ℕ, ◌+◌, ◌<◌, ◌≤◌, ◌^◌, [], ◌∷◌, ◌++◌, List as Items, length, true, All, OnOk, IfOk};
 ghost use Rattle.su_base.specs.declared.values.Value.{Value as AValue};
 ghost use Rattle.su_where.specs.declared.literals.Operand.TheVariants as operand;
-ghost use Rattle.su_where.specs.Fitting.{HasPlacesBelow, IsBelow};
+ghost use Rattle.su_where.specs.Places.{HasPlacesBelow, IsBelow};
 ghost use Rattle.su_steps.specs.PairSymbols.{operand_symbol, comparisons};
-ghost use Rattle.su_classes.specs.inside.Symbols.{place_of, symbol_number, has_constant, AreDistinct};
+ghost use Rattle.su_classes.specs.inside.Symbols.{constant_place, symbol_number, has_constant, AreDistinct};
 ghost use Rattle.su_steps.specs.inside.Numbers.{IsNoted, AreNoted, equals};
 
 use std::alloc::Global;
@@ -15,7 +15,7 @@ use su_where::{Literal, Op, Operand};
 
 /// The place of a constant, or their number where it is not there.
 pub fn place(constants: &[Value], value: &Value) -> usize
-    ensures { result ≡ place_of constants.now value.now }
+    ensures { result ≡ constant_place constants.now value.now }
 {
     for (i, constant) in constants.iter().enumerate() {
         if constant.compare(value).is_eq() {

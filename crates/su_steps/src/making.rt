@@ -1,6 +1,6 @@
 //! The terms of a query.
 ghost use Rattle.std.specs.Prelude.{◌≡◌, ◌⊎◌, ◌<◌, ◌≤◌, ◌++◌, ◌∷◌, [], length, get_or, Option, Some, All, IfOk, IfErr, OnOk, MatchOption};
-ghost use Rattle.su_where.specs.Fitting.{HasPlacesBelow};
+ghost use Rattle.su_where.specs.Places.{HasPlacesBelow};
 ghost use Rattle.su_where.specs.Disjunct.{disjuncts_of};
 ghost use Rattle.su_tableau.specs.Kinds.{IsTyped};
 ghost use Rattle.su_schema.specs.Entries.{attribute_kinds};
@@ -25,7 +25,7 @@ use crate::questions::Question;
 use crate::results::{Origin, Term};
 use crate::rows::{origins, placed_rows};
 use std::alloc::Global;
-use su_base::{List, NoMemory, ObjSet, Str};
+use su_base::{List, NoMemory, ObjSet, copy_name};
 use su_query::{Resolved, mentioned};
 use su_schema::Schema;
 use su_tableau::Tableau;
@@ -237,16 +237,6 @@ fn accepted_terms(
         )?;
     }
     Ok(terms)
-}
-
-/// A copy of a variable's name; the blank variable has none.
-fn copy_name(alloc: Global, name: &Option<Str>) -> Result<Option<Str>, NoMemory>
-    ensures { IfOk result (λ n. n ≡ name.now) }
-{
-    match name {
-        Some(text) => Ok(Some(text.copy(alloc)?)),
-        None => Ok(None),
-    }
 }
 
 /// The refusal of a variable that isn't covered.

@@ -1,5 +1,5 @@
 -- Mappings are containment.
-use Rattle.std.proofs.Common.{◌≡◌, ℕ, List, [], ◌∷◌, map, get_or, Contains, refl, sym, ap, ◌∙◌, subst}
+use Rattle.std.proofs.Common.{◌≡◌, ℕ, ◌<◌, List, [], ◌∷◌, map, length, get_or, Contains, refl, sym, ap, ◌∙◌, subst}
 use Rattle.std.proofs.lemmas.List.Elements.{All-contains}
 use Rattle.su_base.specs.declared.values.Value.{Value}
 use Rattle.su_tableau.specs.declared.symbols.Sym.{Sym}
@@ -10,6 +10,24 @@ use Rattle.su_tableau.specs.Kinds.{Kinds}
 use Rattle.su_tableau.specs.Mapping.{image_of, images_of, Maps}
 use Rattle.su_tableau.specs.Equivalent.{IsWithin}
 use Rattle.su_base.proofs.Items.{map-map_equal}
+
+-- ---- the identity
+
+image_of-Var : (x : Sym) → image_of Var x ≡ x
+image_of-Var (Const c) = refl
+image_of-Var (Var k) = refl
+
+pub images_of-Var : (xs : List Sym) → images_of Var xs ≡ xs
+images_of-Var [] = refl
+images_of-Var (x ∷ xs) = let i = images_of-Var xs in let j = image_of-Var x in cc
+
+-- a tableau maps to one with the same head that has its rows
+pub maps_to_more : (s t : Tab) → s.head ≡ t.head → ((k : ℕ) (d : List Sym) → k < length s.rows → Contains t.rows (get_or s.rows k d)) → Maps s t
+maps_to_more s t head has = record {
+  symbols = Var;
+  head = images_of-Var s.head ∙ head;
+  rows = λ k d h. subst (Contains t.rows) (sym (images_of-Var (get_or s.rows k d))) (has k d h);
+}
 
 -- ---- composing
 

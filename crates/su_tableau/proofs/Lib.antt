@@ -3,6 +3,7 @@ pub mod Containment
 pub mod FrozenTableaux
 pub mod Rows
 pub mod Same
+pub mod SymbolParts
 pub mod Sets
 pub mod EssentialCells
 pub mod ValuationLists

@@ -10,7 +10,7 @@ use Rattle.su_where.specs.declared.conditions.Condition.TheOpen as open'
 use Rattle.su_where.specs.declared.conditions.Condition.TheVariants.{Compare, Not, All, Any, rolls-Compare, rolls-Not, rolls-All, rolls-Any}
 use Rattle.su_where.specs.declared.conditions.Condition.TheFolds.{fold-roll-Condition}
 use Rattle.su_where.specs.Truth.{Cond, holds, truth_of, truth_step, comparisons_of, comparisons_step}
-use Rattle.su_where.specs.Fitting.{HasPlacesBelow, Fits}
+use Rattle.su_where.specs.Places.{HasPlacesBelow, Fits}
 
 all-map : (vs : List Value) (cs : List Cond) → list_all (λ p. p vs) (map truth_of cs) ≡ list_all (λ c. truth_of c vs) cs
 all-map vs [] = refl

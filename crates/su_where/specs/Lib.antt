@@ -1,5 +1,5 @@
 pub mod Disjunct
 pub mod Operator
 pub mod Truth
-pub mod Fitting
+pub mod Places
 pub mod inside

@@ -2,7 +2,7 @@
 ghost use Rattle.std.specs.Prelude.{◌≡◌, IfOk, length, All as Each};
 ghost use Rattle.std.specs.List.{list_all, list_any};
 ghost use Rattle.su_where.specs.Truth.{truth_of};
-ghost use Rattle.su_where.specs.Fitting.{Fits};
+ghost use Rattle.su_where.specs.Places.{Fits};
 
 use crate::literals::Literal;
 use std::alloc::Global;

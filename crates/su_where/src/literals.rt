@@ -1,7 +1,7 @@
 //! Comparisons between places and constants.
 ghost use Rattle.std.specs.Prelude.{◌≡◌, IfOk, length, if◌then◌else◌};
 ghost use Rattle.su_where.specs.Truth.{value_of_operand, holds};
-ghost use Rattle.su_where.specs.Fitting.{IsBelow, HasPlacesBelow};
+ghost use Rattle.su_where.specs.Places.{IsBelow, HasPlacesBelow};
 ghost use Rattle.su_where.specs.Disjunct.{opposite_of};
 
 use crate::operators::Op;

@@ -1,4 +1,4 @@
-ghost use Rattle.su_where.specs.Fitting.{Fits};
+ghost use Rattle.su_where.specs.Places.{Fits};
 
 use std::alloc::Global;
 use std::test::Fail;

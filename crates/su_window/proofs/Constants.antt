@@ -5,8 +5,8 @@ use Rattle.su_base.specs.declared.values.Value.{Value}
 use Rattle.su_base.specs.declared.values.Value.TheVariants.{Int}
 use Rattle.su_tableau.specs.declared.symbols.Sym.{Sym}
 use Rattle.su_tableau.specs.declared.symbols.Sym.TheVariants.{Const, Var}
+use Rattle.su_tableau.proofs.SymbolParts.{same_const}
 use Rattle.su_chase.specs.inside.Rows.{name_by}
-use Rattle.su_chase.proofs.Named.{same_const}
 use Rattle.su_window.specs.inside.Readings.{AreConstants}
 use Rattle.su_window.proofs.Counted.{in_pushed, of_pushed}
 

@@ -5,10 +5,11 @@ use Rattle.std.proofs.lemmas.Option.{none-some}
 use Rattle.std.proofs.lemmas.Fmt.{decimal_injective}
 use Rattle.su_io.specs.declared.status.Status.{Status}
 use Rattle.su_io.specs.Moments.{Moment}
+use Rattle.su_io.specs.Programs.{UsageEnds}
 use Rattle.sysu.specs.Checks.{CheckEnds}
 use Rattle.sysu.specs.Banks.{BankEnds}
-use Rattle.sysu.specs.Statuses.{Comes, RunEnds, UsageEnds}
-use Rattle.sysu.specs.Words.{Named, named, checks, Generates}
+use Rattle.sysu.specs.Statuses.{Comes, RunEnds}
+use Rattle.sysu.specs.Words.{Named, named, checks, Generates, usage_line}
 
 -- no words ask for both
 not_both : (words : List (List ℕ)) (names : Named) (file : List ℕ) → named words ≡ Some names → checks words ≡ Some file → ⊥
@@ -55,7 +56,7 @@ generate_is words n old new status asked ends = record {
 
 -- the words ask for nothing, and the usage line ends so
 pub usage_is : (words : List (List ℕ)) (old new : Moment) (status : Status) → named words ≡ None → checks words ≡ None → ((n : ℕ) → ¬ Generates words n)
-    → UsageEnds old new status → Comes words old new status
+    → UsageEnds usage_line old new status → Comes words old new status
 usage_is words old new status no_run no_check no_number ends = record {
   usage = λ _ _ _. ends;
   ran = λ names same. absurd (none-some names (sym no_run ∙ same));

@@ -73,7 +73,7 @@ not_both s f same = cc
 
 -- what the schema's file is read as, where the files are told
 pub schema_reads : (names : Named) (files : List AFile) (outcome : Result SchemaValue DdlFault) → SchemaIs names (Some files) outcome → Reads (contents files names.schema) outcome
-schema_reads names files outcome is = subst (λ (b : List ℕ). Reads b outcome) is.is_schema is.reads
+schema_reads names files outcome is = subst (λ (b : List ℕ). Reads b outcome) is.is_schema.0 is.reads
 
 module _ (names : Named) (files : List AFile) (old new : Moment) (is : IsUntroubled names files old new) where
   told : (status : Status) → Caused old new status → ReadsAndTells (RunHas names old.files status) old new status → IsFinished status

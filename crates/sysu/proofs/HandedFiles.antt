@@ -19,7 +19,7 @@ untouched db text old new same = record { reads = ap (λ (m : Moment). m.reads) 
 -- no fault, no more than the limit was taken, and the bytes are those of the file that is wanted
 pub handed_well : (db : DatabaseValue) (text : List ℕ) (old new : Moment) (file : Option (List ℕ)) → HandingEnds db text old new (Ok file) → HasTaken db text old new × IsHanded old.files db text file
 handed_well db text old new None ends = (untouched db text old new ends.1, ends.0)
-handed_well db text old new (Some bytes) ends = (record { reads = ends.2.0; took = inr (ends.0, ends.1, ends.2.1) }, (ends.0, ends.1.wanted, ends.2.2, ends.2.3))
+handed_well db text old new (Some bytes) ends = (record { reads = ends.2.0; took = inr (ends.0, ends.1, ends.2.1) }, (ends.0, ends.1.wanted, ends.2.2))
 
 -- where the file isn't handed over, the statement ends as its handing does
 module _ (db : DatabaseValue) (text : List ℕ) (old new : Moment) (told : new.told ≡ old.told) (writes : new.writes ≡ old.writes) where

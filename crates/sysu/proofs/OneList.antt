@@ -36,19 +36,19 @@ rest_same x y xs ys same = cc
 module _ (files : List AFile) where
   one_file : (a b : DatabaseValue) (text : List ℕ) (x y : Option (List ℕ)) → a.schema ≡ b.schema → IsHanded (Some files) a text x → IsHanded (Some files) b text y → x ≡ y
   one_file a b text None None same h k = refl
-  one_file a b text None (Some bytes) same h (path, wants, is, fits) = absurd (not_nothing path (one_want a b text Nothing (File path) same h wants))
-  one_file a b text (Some bytes) None same (path, wants, is, fits) k = absurd (not_nothing path (sym (one_want a b text (File path) Nothing same wants k)))
-  one_file a b text (Some bytes) (Some more) same (path, wants, is, fits) (other, asks, too, upto) =
+  one_file a b text None (Some bytes) same h (path, wants, is) = absurd (not_nothing path (one_want a b text Nothing (File path) same h wants))
+  one_file a b text (Some bytes) None same (path, wants, is) k = absurd (not_nothing path (sym (one_want a b text (File path) Nothing same wants k)))
+  one_file a b text (Some bytes) (Some more) same (path, wants, is) (other, asks, too) =
       let at = same_path path other (one_want a b text (File path) (File other) same wants asks) in
-      ap Some (is ∙ ap (contents files) at ∙ sym too)
+      ap Some (is.0 ∙ ap (contents files) at ∙ sym too.0)
 
   -- a file past the limit is not handed
   not_handed : (a b : DatabaseValue) (text path : List ℕ) (file : Option (List ℕ)) → a.schema ≡ b.schema → Wants a text (File path) → load_limit < length (contents files path) → IsHanded (Some files) b text file → ⊥
   not_handed a b text path None same wants over h = not_nothing path (sym (one_want a b text (File path) Nothing same wants h))
-  not_handed a b text path (Some bytes) same wants over (other, asks, is, fits) =
+  not_handed a b text path (Some bytes) same wants over (other, asks, is) =
       let at = same_path path other (one_want a b text (File path) (File other) same wants asks) in
-      let long : length bytes ≡ length (contents files path) = ap (λ (x : List ℕ). length x) (is ∙ ap (contents files) (sym at)) in
-      absurd (omega (arith, over, long, fits))
+      let long : length bytes ≡ length (contents files path) = ap (λ (x : List ℕ). length x) (is.0 ∙ ap (contents files) (sym at)) in
+      absurd (omega (arith, over, long, is.1))
 
   one_turn : (text : List ℕ) (a b next then : DatabaseValue) (file same : Option (List ℕ)) (r s : Reply) → AreAlike a b → IsWellKept a → IsWellKept b → IsHanded (Some files) a text file → IsHanded (Some files) b text same
       → Replied a text file r next → Replied b text same s then → (r ≡ s) × AreAlike next then
@@ -114,7 +114,7 @@ module _ (names : Named) (files : List AFile) where
     one_schema = ok_schema k.schema h.schema (one_outcome (contents files names.schema) (Ok k.schema) (Ok h.schema) (schema_reads names files (Ok k.schema) k.read.accepted) (schema_reads names files (Ok h.schema) h.read.accepted))
 
     one_script : k.script ≡ h.script
-    one_script = k.read.is_script ∙ sym h.read.is_script
+    one_script = k.read.is_script.0 ∙ sym h.read.is_script.0
 
     one_list_of_texts : h.done ++ left ≡ k.done ++ behind
     one_list_of_texts =

@@ -1,5 +1,5 @@
 -- How a run ends, from how its files are read and its lines are told.
-use Rattle.std.proofs.Common.{◌≡◌, ◌≢◌, ◌≤◌, ◌∙◌, ◌⊎◌, ℕ, List, [], ◌∷◌, Option, Some, Ok, Err, length, refl, sym, ap, subst, inl, inr}
+use Rattle.std.proofs.Common.{◌≡◌, ◌≢◌, ◌≤◌, ◌∙◌, ◌⊎◌, ℕ, List, [], ◌∷◌, Option, Some, Ok, Err, refl, sym, ap, subst, inl, inr}
 use Rattle.su_io.specs.declared.files.File.{File}
 use Rattle.su_io.specs.declared.status.Status.{Status}
 use Rattle.su_io.specs.declared.status.Status.TheVariants.{Done, SomeRefused, Usage, BadSchema, ReadFault, WriteFault, TooLong, NoMemory}
@@ -52,7 +52,7 @@ module _ (names : Named) (old mid new : Moment) (path : List ℕ) (limit : ℕ) 
 
 -- ---- the schema's file was read
 
-module _ (names : Named) (old mid new : Moment) (bytes : List ℕ) (is_schema : IsFile old.files names.schema bytes) (fits : length bytes ≤ schema_limit)
+module _ (names : Named) (old mid new : Moment) (bytes : List ℕ) (is_schema : IsFile old.files names.schema schema_limit bytes)
     (reads : mid.reads ≡ old.reads) (begun : mid.begun ≡ Some names.schema) (taken : mid.taken ≤ schema_limit) (same_told : mid.told ≡ old.told) (writes : mid.writes ≡ old.writes) where
   schema_due : FallsDue names old.files [] names.schema schema_limit
   schema_due = inl (refl, refl, refl)
@@ -75,7 +75,6 @@ module _ (names : Named) (old mid new : Moment) (bytes : List ℕ) (is_schema : 
     refused text = record {
       bytes = bytes;
       is_schema = is_schema;
-      fits = fits;
       reads = elim at_fault [
         | inl none ↦ absurd (subst IsOfText none text)
         | inr read ↦ read
@@ -123,20 +122,19 @@ script_answered names old mid new files reads told writes status ends = inl reco
 }
 
 -- the script is read, and answered from there on
-pub script_read : (names : Named) (old mid late new : Moment) (bytes : List ℕ) (schema : SchemaValue) (script : List ℕ) → IsFile old.files names.schema bytes → length bytes ≤ schema_limit → Reads bytes (Ok schema)
+pub script_read : (names : Named) (old mid late new : Moment) (bytes : List ℕ) (schema : SchemaValue) (script : List ℕ) → IsFile old.files names.schema schema_limit bytes → Reads bytes (Ok schema)
     → mid.files ≡ old.files → mid.reads ≡ old.reads → mid.told ≡ old.told → mid.writes ≡ old.writes
     → late ≡ record mid { begun = Some names.script; taken = late.taken; failed = late.failed; reads = late.reads } → FileEnds names.script script_limit mid late (Ok script)
     → (status : Status) → (IsAtScript names schema script late → ScriptEnds names late new status) → RunEnds names old new status
-script_read names old mid late new bytes schema script is_schema fits accepted files reads told writes again ends status answered =
+script_read names old mid late new bytes schema script is_schema accepted files reads told writes again ends status answered =
     let same_files : late.files ≡ mid.files = ap (λ (m : Moment). m.files) again in
     let same_told : late.told ≡ mid.told = ap (λ (m : Moment). m.told) again in
     let same_writes : late.writes ≡ mid.writes = ap (λ (m : Moment). m.writes) again in
     let own_files : late.files ≡ old.files = same_files ∙ files in
     script_answered names old late new own_files (ends.0 ∙ reads) (same_told ∙ told) (same_writes ∙ writes) status (answered record {
       read = record {
-        accepted = record { bytes = bytes; is_schema = rw own_files is_schema; fits = fits; reads = accepted };
+        accepted = record { bytes = bytes; is_schema = rw own_files is_schema; reads = accepted };
         is_script = rw same_files ends.2;
-        fits = ends.3;
       };
       begun = ap (λ (m : Moment). m.begun) again;
       taken = ends.1;

@@ -60,7 +60,7 @@ past file limit bytes is upto over = absurd (let same : length bytes ≡ length 
 module _ (names : Named) (files : List AFile) where
   -- the schema's file is within its limit
   schema_fits : (outcome : Result SchemaValue DdlFault) → SchemaIs names (Some files) outcome → schema_limit < length (contents files names.schema) → ⊥
-  schema_fits outcome is over = past (contents files names.schema) schema_limit is.bytes is.is_schema is.fits over
+  schema_fits outcome is over = past (contents files names.schema) schema_limit is.bytes is.is_schema.0 is.is_schema.1 over
 
   read_once : (x y : Result SchemaValue DdlFault) → SchemaIs names (Some files) x → SchemaIs names (Some files) y → x ≡ y
   read_once x y h k = one_outcome (contents files names.schema) x y (schema_reads names files x h) (schema_reads names files y k)
@@ -69,7 +69,7 @@ module _ (names : Named) (files : List AFile) where
   not_both x y h k = read_or_refused x y (read_once (Ok x) (Err y) h k)
 
   script_fits : (replies : List Reply) (last : DatabaseValue) (left : List (List ℕ)) → Answers names (Some files) replies last left → script_limit < length (contents files names.script) → ⊥
-  script_fits replies last left h over = past (contents files names.script) script_limit h.script h.read.is_script h.read.fits over
+  script_fits replies last left h over = past (contents files names.script) script_limit h.script h.read.is_script.0 h.read.is_script.1 over
 
   -- a file that is too long ends a run that would finish
   not_finished : (replies : List Reply) (last : DatabaseValue) (texts : List (List ℕ)) (path : List ℕ) (limit : ℕ) → Answers names (Some files) replies last [] → FallsDue names (Some files) texts path limit → limit < length (contents files path) → ⊥
@@ -120,13 +120,13 @@ module _ (names : Named) (files : List AFile) where
 
 one_outcome_of_check : (files : List AFile) (file text other : List ℕ) (s t : Status) → Verdict files file text s → Verdict files file other t → (text ≡ other) × (s ≡ t)
 one_outcome_of_check files file text other s t (has_verdict came line h is ends) (has_verdict comes also k same end) =
-    let first = subst (λ (b : List ℕ). IsVerdict b h.verdict) h.is_file h.is_verdict in
-    let second = subst (λ (b : List ℕ). IsVerdict b k.verdict) k.is_file k.is_verdict in
+    let first = subst (λ (b : List ℕ). IsVerdict b h.verdict) h.is_file.0 h.is_verdict in
+    let second = subst (λ (b : List ℕ). IsVerdict b k.verdict) k.is_file.0 k.is_verdict in
     let one = one_verdict (contents files file) h.verdict k.verdict first second in
     let lines : line ≡ also = h.text_is ∙ ap verdict_line one ∙ sym k.text_is in
     (is ∙ ap (λ (l : List ℕ). joined (l ∷ [])) lines ∙ sym same, ends ∙ h.came_is ∙ ap status_by one ∙ sym k.came_is ∙ sym end)
-one_outcome_of_check files file text other s t (has_verdict came line h is ends) (over_limit over same end) = absurd (past (contents files file) check_limit h.bytes h.is_file h.fits over)
-one_outcome_of_check files file text other s t (over_limit over is ends) (has_verdict came line h same end) = absurd (past (contents files file) check_limit h.bytes h.is_file h.fits over)
+one_outcome_of_check files file text other s t (has_verdict came line h is ends) (over_limit over same end) = absurd (past (contents files file) check_limit h.bytes h.is_file.0 h.is_file.1 over)
+one_outcome_of_check files file text other s t (over_limit over is ends) (has_verdict came line h same end) = absurd (past (contents files file) check_limit h.bytes h.is_file.0 h.is_file.1 over)
 one_outcome_of_check files file text other s t (over_limit over is ends) (over_limit more same end) = (is ∙ sym same, ends ∙ sym end)
 
 -- ---- what a run comes to

@@ -1,5 +1,5 @@
 -- How the check of a certificate ends, from how its line is told.
-use Rattle.std.proofs.Common.{◌≡◌, ◌≤◌, ℕ, List, [], ◌∷◌, Some, length, refl, sym, subst, inl, inr}
+use Rattle.std.proofs.Common.{◌≡◌, ◌≤◌, ℕ, List, [], ◌∷◌, Some, refl, sym, subst, inl, inr}
 use Rattle.su_io.specs.declared.status.Status.{Status}
 use Rattle.su_io.specs.declared.status.Status.TheVariants.{NoMemory}
 use Rattle.su_io.specs.Moments.{Moment}
@@ -14,10 +14,10 @@ use Rattle.sysu.specs.Checks.{check_limit, status_by, IsVerdictLine, CheckEnds}
 use Rattle.sysu.specs.inside.Lines.{LineEnds}
 
 -- the file was read, and its verdict is told
-module _ (file : List ℕ) (old mid new : Moment) (bytes : List ℕ) (verdict : Checked) (is_file : IsFile old.files file bytes) (fits : length bytes ≤ check_limit) (is_verdict : IsVerdict bytes verdict)
+module _ (file : List ℕ) (old mid new : Moment) (bytes : List ℕ) (verdict : Checked) (is_file : IsFile old.files file check_limit bytes) (is_verdict : IsVerdict bytes verdict)
     (reads : mid.reads ≡ old.reads) (begun : mid.begun ≡ Some file) (taken : mid.taken ≤ check_limit) (told : mid.told ≡ old.told) (writes : mid.writes ≡ old.writes) where
   is_line : IsVerdictLine file old.files (status_by verdict) (verdict_line verdict)
-  is_line = record { bytes = bytes; is_file = is_file; fits = fits; verdict = verdict; is_verdict = is_verdict; came_is = refl; text_is = refl }
+  is_line = record { bytes = bytes; is_file = is_file; verdict = verdict; is_verdict = is_verdict; came_is = refl; text_is = refl }
 
   one_text : (v : Checked) → IsVerdictLine file old.files (status_by v) (verdict_line v) → OneText (IsVerdictLine file old.files) (status_by v) (verdict_line v ∷ [])
   one_text (Yes count) is = (verdict_line (Yes count), is, refl)

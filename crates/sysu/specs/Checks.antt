@@ -1,6 +1,6 @@
 -- How the check of a certificate ends.
 -- file: the name of the certificate's file
-use Rattle.std.specs.Prelude.{◌≡◌, ◌≤◌, ◌^◌, ℕ, List, Option, length}
+use Rattle.std.specs.Prelude.{◌≡◌, ◌^◌, ℕ, List, Option}
 use Rattle.su_io.specs.declared.files.File.{File}
 use Rattle.su_io.specs.declared.status.Status.{Status}
 use Rattle.su_io.specs.declared.status.Status.TheVariants.{Done, SomeRefused}
@@ -21,11 +21,10 @@ abbrev pub status_by : Checked → Status
 status_by (Yes count) = Done
 status_by (No fault) = SomeRefused
 
--- the file is within its limit, and this is the line of the verdict on its bytes, with its status
+-- this is the line of the verdict on the file's bytes, with its status
 pub record IsVerdictLine (file : List ℕ) (files : Option (List File)) (came : Status) (text : List ℕ) : Type 0 where
   pub bytes : List ℕ
-  pub is_file : IsFile files file bytes
-  pub fits : length bytes ≤ check_limit
+  pub is_file : IsFile files file check_limit bytes
   pub verdict : Checked
   pub is_verdict : IsVerdict bytes verdict
   pub came_is : came ≡ status_by verdict

@@ -1,6 +1,6 @@
 -- The two files of a run, within their limits.
 -- files: those of the shelf, where it tells them; refused, accepted: what the schema's file is read as
-use Rattle.std.specs.Prelude.{◌≤◌, ◌^◌, ℕ, List, Option, Result, Ok, length}
+use Rattle.std.specs.Prelude.{◌^◌, ℕ, List, Option, Result, Ok}
 use Rattle.su_io.specs.declared.files.File.{File}
 use Rattle.su_io.specs.Reading.{IsFile}
 use Rattle.su_ddl.specs.declared.faults.DdlFault.{DdlFault}
@@ -16,15 +16,13 @@ schema_limit = 2 ^ 20
 abbrev pub script_limit : ℕ
 script_limit = 2 ^ 24
 
--- the schema's file is within its limit, and is read as this
+-- the schema's file is read as this
 pub record SchemaIs (names : Named) (files : Option (List File)) (outcome : Result SchemaValue DdlFault) : Type 0 where
   pub bytes : List ℕ
-  pub is_schema : IsFile files names.schema bytes
-  pub fits : length bytes ≤ schema_limit
+  pub is_schema : IsFile files names.schema schema_limit bytes
   pub reads : Reads bytes outcome
 
--- the schema is accepted, and the script's file, within its limit, has these bytes
+-- the schema is accepted, and the script's file has these bytes
 pub record AreRead (names : Named) (files : Option (List File)) (schema : SchemaValue) (script : List ℕ) : Type 0 where
   pub accepted : SchemaIs names files (Ok schema)
-  pub is_script : IsFile files names.script script
-  pub fits : length script ≤ script_limit
+  pub is_script : IsFile files names.script script_limit script

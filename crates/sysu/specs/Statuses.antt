@@ -1,11 +1,11 @@
 -- How a run ends: by its status, which file was begun last, and what was written.
 -- texts: handed over one after another, each by one whole write where no write fails; old, new: the outside before and after
-use Rattle.std.specs.Prelude.{◌≡◌, ◌≢◌, ◌⊎◌, ℕ, List, [], ◌∷◌, Option, Some, None, true, false, Err}
+use Rattle.std.specs.Prelude.{◌≡◌, ◌⊎◌, ℕ, List, [], ◌∷◌, Option, Some, None, true, false, Err}
 use Rattle.su_io.specs.declared.files.File.{File}
 use Rattle.su_io.specs.declared.status.Status.{Status}
 use Rattle.su_io.specs.declared.status.Status.TheVariants.{Done, SomeRefused, Usage, BadSchema, ReadFault, WriteFault, TooLong, NoMemory}
 use Rattle.su_io.specs.Moments.{Moment}
-use Rattle.su_io.specs.Programs.{Ends, Tells}
+use Rattle.su_io.specs.Programs.{Ends, UsageEnds}
 use Rattle.su_ddl.specs.declared.faults.DdlFault.{DdlFault}
 use Rattle.su_show.specs.Refusals.{schema_line}
 use Rattle.sysu.specs.Banks.{BankEnds}
@@ -35,13 +35,9 @@ RunHas names files NoMemory path limit texts = IsDue names files path limit × (
 abbrev pub RunEnds : Named → Moment → Moment → Status → Type 0
 RunEnds names old new status = Ends (RunHas names old.files status) old new status
 
--- the usage line is told
-abbrev pub UsageEnds : Moment → Moment → Status → Type 0
-UsageEnds old new status = (status ≢ NoMemory) × Tells (λ came text. (came ≡ Usage) × (text ≡ usage_line)) old new status
-
 -- how a run, a check or the making of a bank comes to its end, by its words
 pub record Comes (words : List (List ℕ)) (old new : Moment) (status : Status) : Type 0 where
-  pub usage : named words ≡ None → checks words ≡ None → ((n : ℕ) → ¬ Generates words n) → UsageEnds old new status
+  pub usage : named words ≡ None → checks words ≡ None → ((n : ℕ) → ¬ Generates words n) → UsageEnds usage_line old new status
   pub ran : (names : Named) → named words ≡ Some names → RunEnds names old new status
   pub checked : (file : List ℕ) → checks words ≡ Some file → CheckEnds file old new status
   pub generated : (n : ℕ) → Generates words n → BankEnds n old new status

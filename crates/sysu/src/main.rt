@@ -16,35 +16,17 @@ mod steady;
 mod top;
 
 use std::process::ExitCode;
-use std::{env, io};
-use su_base::{List, NoMemory, Str};
-use su_io::{FileShelf, Outside, Status, StreamSink};
+use su_base::NoMemory;
+use su_io::{FileShelf, Outside, Status, StreamSink, command_words};
 use su_par::OpenGate;
 use top::run;
-
-/// The words after the program's name; none where one is no text.
-fn words(rt: &HostRuntime) -> Result<List<Str>, NoMemory> {
-    let mut words = List::new(rt.alloc());
-    match env::args(rt) {
-        Ok(args) => {
-            for arg in args.skip(1) {
-                words.push(Str::new(rt.alloc(), arg.as_str())?)?;
-            }
-            Ok(words)
-        }
-        Err(error) => match error.kind() {
-            io::ErrorKind::OutOfMemory => Err(NoMemory),
-            _ => Ok(words),
-        },
-    }
-}
 
 fn main(rt: HostRuntime) -> ExitCode {
     let mut outside = Outside {
         shelf: FileShelf::new(rt),
         sink: StreamSink::new(rt),
     };
-    let status = match words(&rt) {
+    let status = match command_words(&rt) {
         Ok(words) => run(&rt, rt.alloc(), words.as_slice(), &mut outside, &OpenGate),
         Err(NoMemory) => Status::NoMemory,
     };

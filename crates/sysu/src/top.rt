@@ -2,13 +2,14 @@
 ghost use Rattle.std.specs.Prelude.{◌≡◌, ◌≢◌, ◌≤◌, ◌&&◌, nat_eq, nat_lt, true, false, Some, ◌<◌, ◌^◌, ◌++◌, ◌∷◌, [], IfOk, IfSome, MatchOption, option_map, string_bytes};
 ghost use Rattle.su_io.specs.HandOver.{HandsOver};
 ghost use Rattle.su_io.specs.Moments.{Moment};
+ghost use Rattle.su_io.specs.Programs.{UsageEnds};
 ghost use Rattle.su_show.specs.Refusals.{schema_line, IsOfText};
 ghost use Rattle.sysu.specs.Causes.{Caused};
 ghost use Rattle.sysu.specs.Complete.{IsComplete};
 ghost use Rattle.sysu.specs.Headline.{Headline};
 ghost use Rattle.sysu.specs.inside.Lines.{LineEnds};
-ghost use Rattle.sysu.specs.Statuses.{Comes, RunEnds, UsageEnds};
-ghost use Rattle.sysu.specs.Words.{named, checks, is_count};
+ghost use Rattle.sysu.specs.Statuses.{Comes, RunEnds};
+ghost use Rattle.sysu.specs.Words.{named, checks, is_count, usage_line};
 
 use crate::checking::check_file;
 use crate::generating::{generate, rows_asked};
@@ -122,7 +123,7 @@ fn tell_refusal<H: Shelf, K: Sink>(
 /// Writes the usage line.
 fn tell_usage<H: Shelf, K: Sink>(outside: &mut Outside<H, K>) -> Status
     ensures files { outside.new.files ≡ outside.old.files }
-    ensures ends { UsageEnds outside.old outside.new result }
+    ensures ends { UsageEnds usage_line outside.old outside.new result }
 {
     outside.tell(USAGE.as_bytes(), Status::Usage)
 }

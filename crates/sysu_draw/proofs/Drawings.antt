@@ -1,34 +1,24 @@
 -- How a run ends, from how its reply is told.
-use Rattle.std.proofs.Common.{◌≡◌, ◌≤◌, ◌∙◌, ℕ, List, [], ◌∷◌, Some, length, refl, sym, subst, inl, inr}
+use Rattle.std.proofs.Common.{◌≡◌, ◌≤◌, ◌∙◌, ℕ, List, [], ◌∷◌, Some, refl, sym, subst, inl, inr}
 use Rattle.su_io.specs.declared.status.Status.{Status}
 use Rattle.su_io.specs.declared.status.Status.TheVariants.{Done, SomeRefused, Usage, BadSchema, ReadFault, WriteFault, TooLong, NoMemory}
 use Rattle.su_io.specs.Moments.{Moment}
-use Rattle.su_io.specs.Programs.{OneText}
 use Rattle.su_io.specs.Reading.{IsFile}
 use Rattle.su_io.specs.Writing.{IsTold}
-use Rattle.su_io.proofs.OneText.{IsOwn, tells, tells_of_file, no_memory}
-use Rattle.sysu_draw.specs.Ends.{DrawingEnds, UsageEnds}
+use Rattle.su_io.proofs.OneText.{tells_of_file, no_memory}
+use Rattle.sysu_draw.specs.Ends.{DrawingEnds}
 use Rattle.sysu_draw.specs.inside.Tellings.{ReplyEnds}
-use Rattle.sysu_draw.specs.Replies.{text_limit, usage_line, IsReply, IsReplyTo}
-
-pub usage_told : (old new : Moment) (status : Status) → IsTold usage_line Usage old new status → UsageEnds old new status
-usage_told old new status told = (
-  elim told.status_is [
-    | inl same ↦ λ none. absurd (let both : Usage ≡ NoMemory = sym same ∙ none in cc)
-    | inr same ↦ λ none. absurd (let both : WriteFault ≡ NoMemory = sym same ∙ none in cc)
-  ],
-  tells (λ came text. (came ≡ Usage) × (text ≡ usage_line)) Usage usage_line (refl, refl) (usage_line, (refl, refl), refl) (λ e. absurd (cc), λ e. absurd (cc)) old new status told,
-)
+use Rattle.sysu_draw.specs.Replies.{text_limit, IsReply, IsReplyTo}
 
 -- the file was read
-module _ (path : List ℕ) (old mid new : Moment) (text : List ℕ) (is_file : IsFile old.files path text) (fits : length text ≤ text_limit)
+module _ (path : List ℕ) (old mid new : Moment) (text : List ℕ) (is_file : IsFile old.files path text_limit text)
     (reads : mid.reads ≡ old.reads) (begun : mid.begun ≡ Some path) (taken : mid.taken ≤ text_limit) (same : mid.told ≡ old.told) (writes : mid.writes ≡ old.writes) where
   reply_told : (came : Status) (bytes : List ℕ) → IsReply text came bytes → (status : Status) → IsTold bytes came mid new status → DrawingEnds path old new status
   reply_told Done bytes reply status told =
-      let is : IsReplyTo path old.files Done bytes = record { text = text; is_file = is_file; fits = fits; reply = reply } in
+      let is : IsReplyTo path old.files Done bytes = (text, is_file, reply) in
       tells_of_file (IsReplyTo path old.files) Done bytes is (bytes, is, refl) (λ e. absurd (cc), λ e. absurd (cc)) path text_limit old mid new reads begun taken same writes status told
   reply_told SomeRefused bytes reply status told =
-      let is : IsReplyTo path old.files SomeRefused bytes = record { text = text; is_file = is_file; fits = fits; reply = reply } in
+      let is : IsReplyTo path old.files SomeRefused bytes = (text, is_file, reply) in
       tells_of_file (IsReplyTo path old.files) SomeRefused bytes is (bytes, is, refl) (λ e. absurd (cc), λ e. absurd (cc)) path text_limit old mid new reads begun taken same writes status told
   reply_told Usage bytes reply status told = absurd reply
   reply_told BadSchema bytes reply status told = absurd reply

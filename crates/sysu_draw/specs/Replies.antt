@@ -1,6 +1,6 @@
 -- The text that is drawn, and what is written for it.
 -- reply: the document of its picture, or the line that tells its first line at fault
-use Rattle.std.specs.Prelude.{◌≡◌, ◌≤◌, ◌^◌, ℕ, List, Option, ◌++◌, length, codes, decimal}
+use Rattle.std.specs.Prelude.{◌≡◌, ◌^◌, ℕ, List, Option, ◌++◌, codes, decimal}
 use Rattle.su_io.specs.declared.files.File.{File}
 use Rattle.su_io.specs.declared.status.Status.{Status}
 use Rattle.su_io.specs.declared.status.Status.TheVariants.{Done, SomeRefused}
@@ -26,9 +26,6 @@ IsReply text Done bytes = IsPictureOf text bytes
 IsReply text SomeRefused bytes = (number : ℕ) × IsAtFault text number × (bytes ≡ fault_line number)
 IsReply text _ bytes = ⊥
 
--- the reply to the text of this file, which is within the limit; the files may not be told
-pub record IsReplyTo (path : List ℕ) (files : Option (List File)) (came : Status) (bytes : List ℕ) : Type 0 where
-  pub text : List ℕ
-  pub is_file : IsFile files path text
-  pub fits : length text ≤ text_limit
-  pub reply : IsReply text came bytes
+-- the reply to the text of this file
+abbrev pub IsReplyTo : List ℕ → Option (List File) → Status → List ℕ → Type 0
+IsReplyTo path files came bytes = (text : List ℕ) × IsFile files path text_limit text × IsReply text came bytes

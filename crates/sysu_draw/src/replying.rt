@@ -1,8 +1,8 @@
 //! The reply to a text.
 ghost use Rattle.std.specs.Prelude.{◌≡◌, ◌≢◌, IfOk};
 ghost use Rattle.su_io.specs.Moments.{Moment};
-ghost use Rattle.sysu_draw.specs.Replies.{IsReply, fault_line};
-ghost use Rattle.sysu_draw.specs.Ends.{UsageEnds};
+ghost use Rattle.su_io.specs.Programs.{UsageEnds};
+ghost use Rattle.sysu_draw.specs.Replies.{IsReply, fault_line, usage_line};
 ghost use Rattle.sysu_draw.specs.inside.Tellings.{ReplyEnds};
 
 use std::alloc::Global;
@@ -64,7 +64,7 @@ const USAGE: &str = "usage: sysu_draw FILE\n";
 /// Writes the usage line.
 pub(crate) fn tell_usage<H: Shelf, K: Sink>(outside: &mut Outside<H, K>) -> Status
     ensures files { outside.new.files ≡ outside.old.files }
-    ensures ends { UsageEnds outside.old outside.new result }
+    ensures ends { UsageEnds usage_line outside.old outside.new result }
 {
     outside.tell(USAGE.as_bytes(), Status::Usage)
 }

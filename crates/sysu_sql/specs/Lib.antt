@@ -1,6 +1,4 @@
-pub mod Words
-pub mod Moments
-pub mod Reads
-pub mod Ends
-pub mod Runs
 pub mod RunFiles
+pub mod Runs
+pub mod Words
+pub mod inside

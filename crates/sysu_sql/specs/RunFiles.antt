@@ -1,11 +1,11 @@
 -- The two files of a run, within their limits.
--- refusal, script: what the schema file is read as, and the script behind an accepted one
-use Rattle.std.specs.Prelude.{◌^◌, ℕ, Ok, Err}
+-- files: those of the shelf, where it tells them; refused, accepted: what the schema's file is read as
+use Rattle.std.specs.Prelude.{◌^◌, ℕ, List, Option, Result, Ok}
+use Rattle.su_io.specs.declared.files.File.{File}
+use Rattle.su_io.specs.Reading.{IsFile}
 use Rattle.su_ddl.specs.declared.faults.DdlFault.{DdlFault}
 use Rattle.su_ddl.specs.Files.{Reads}
 use Rattle.su_schema.specs.SchemaValue.{SchemaValue}
-use Rattle.sysu_sql.specs.Moments.{Moment}
-use Rattle.sysu_sql.specs.Reads.{OfText}
 use Rattle.sysu_sql.specs.Words.{Named}
 
 -- 1 MiB
@@ -16,10 +16,13 @@ schema_limit = 2 ^ 20
 abbrev pub script_limit : ℕ
 script_limit = 2 ^ 24
 
--- the schema's file is accepted, and a fact of the schema
-abbrev pub OfSchema : Named → Moment → (SchemaValue → Type 0) → Type 0
-OfSchema names old P = OfText old.files names.schema schema_limit (λ bytes. (schema : SchemaValue) × Reads bytes (Ok schema) × P schema)
+-- the schema's file is read as this
+pub record SchemaIs (names : Named) (files : Option (List File)) (outcome : Result SchemaValue DdlFault) : Type 0 where
+  pub bytes : List ℕ
+  pub is_schema : IsFile files names.schema schema_limit bytes
+  pub reads : Reads bytes outcome
 
--- the schema's file is refused, and a fact of the fault
-abbrev pub OfRefusal : Named → Moment → (DdlFault → Type 0) → Type 0
-OfRefusal names old P = OfText old.files names.schema schema_limit (λ bytes. (fault : DdlFault) × Reads bytes (Err fault) × P fault)
+-- the schema is accepted, and the script's file has these bytes
+pub record AreRead (names : Named) (files : Option (List File)) (schema : SchemaValue) (script : List ℕ) : Type 0 where
+  pub accepted : SchemaIs names files (Ok schema)
+  pub is_script : IsFile files names.script script_limit script

@@ -5,49 +5,23 @@
 //! and standard output, and ends with the status as its exit code. Nothing goes to standard error.
 #![tactic(auto)]
 
-mod reading;
-mod status;
 mod telling;
 mod top;
 mod words;
 
-use status::Status;
 use std::process::ExitCode;
-use std::{env, io};
-use su_base::{List, NoMemory, Str};
-use su_io::{FileShelf, StreamSink};
+use su_base::NoMemory;
+use su_io::{FileShelf, Outside, Status, StreamSink, command_words};
 use su_par::OpenGate;
 use top::run;
 
-/// The words after the program's name; none where one is no text.
-fn words_of(rt: &HostRuntime) -> Result<List<Str>, NoMemory> {
-    let mut words = List::new(rt.alloc());
-    match env::args(rt) {
-        Ok(args) => {
-            for arg in args.skip(1) {
-                words.push(Str::new(rt.alloc(), arg.as_str())?)?;
-            }
-            Ok(words)
-        }
-        Err(error) => match error.kind() {
-            io::ErrorKind::OutOfMemory => Err(NoMemory),
-            _ => Ok(words),
-        },
-    }
-}
-
 fn main(rt: HostRuntime) -> ExitCode {
-    let mut shelf = FileShelf::new(rt);
-    let mut out = StreamSink::new(rt);
-    let status = match words_of(&rt) {
-        Ok(words) => run(
-            &rt,
-            rt.alloc(),
-            words.as_slice(),
-            &mut shelf,
-            &mut out,
-            &OpenGate,
-        ),
+    let mut outside = Outside {
+        shelf: FileShelf::new(rt),
+        sink: StreamSink::new(rt),
+    };
+    let status = match command_words(&rt) {
+        Ok(words) => run(&rt, rt.alloc(), words.as_slice(), &mut outside, &OpenGate),
         Err(NoMemory) => Status::NoMemory,
     };
     ExitCode::from(status as u8)

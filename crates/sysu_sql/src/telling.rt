@@ -1,14 +1,15 @@
 //! What a run writes.
-ghost use Rattle.std.specs.Prelude.{◌≡◌};
-ghost use Rattle.sysu_sql.specs.Moments.{Output};
-ghost use Rattle.sysu_sql.specs.Ends.{Closes, UsageEnds};
-ghost use Rattle.sysu_sql.specs.Runs.{RefusalEnds, ScriptEnds};
+ghost use Rattle.std.specs.Prelude.{◌≡◌, ◌≢◌};
+ghost use Rattle.su_io.specs.Moments.{Moment};
+ghost use Rattle.su_io.specs.Programs.{UsageEnds};
+ghost use Rattle.su_show.specs.Refusals.{schema_line, IsOfText};
+ghost use Rattle.sysu_sql.specs.inside.Tellings.{LineEnds, SqlEnds, status_by};
+ghost use Rattle.sysu_sql.specs.Words.{usage_line};
 
-use crate::status::Status;
 use std::alloc::Global;
 use std::thread::Threads;
 use su_ddl::DdlFault;
-use su_io::{Sink, write_all};
+use su_io::{Outside, Shelf, Sink, Status};
 use su_par::Gate;
 use su_schema::Schema;
 use su_show::ddl_fault;
@@ -17,67 +18,53 @@ use su_sql::{Dialect, script};
 const USAGE: &str = "usage: sysu_sql SCHEMA SCRIPT [--dialect postgres|sqlite|spark]\n";
 
 /// Writes the usage line.
-pub(crate) fn tell_usage<K: Sink>(out: &mut K) -> Status
-    ensures { UsageEnds
-        (record { written = K.written out.old; faults = K.faults out.old })
-        (record { written = K.written out.new; faults = K.faults out.new }) result }
+pub(crate) fn tell_usage<H: Shelf, K: Sink>(outside: &mut Outside<H, K>) -> Status
+    ensures files { outside.new.files ≡ outside.old.files }
+    ensures ends { UsageEnds usage_line outside.old outside.new result }
 {
-    match write_all(out, USAGE.as_bytes()) {
-        Ok(()) => Status::Usage,
-        Err(_) => Status::WriteFault,
-    }
+    outside.tell(USAGE.as_bytes(), Status::Usage)
 }
 
 /// Writes the line for a refused schema.
-pub(crate) fn tell_refusal<K: Sink>(alloc: Global, fault: &DdlFault, out: &mut K) -> Status
-    ensures { RefusalEnds fault.now
-        (record { written = K.written out.old; faults = K.faults out.old })
-        (record { written = K.written out.new; faults = K.faults out.new }) result }
+pub(crate) fn tell_refusal<H: Shelf, K: Sink>(
+    alloc: Global,
+    fault: &DdlFault,
+    outside: &mut Outside<H, K>,
+) -> Status
+    ensures of_text { result ≢ Status.NoMemory → IsOfText fault.now }
+    ensures ends { LineEnds (schema_line fault.now) Status.BadSchema outside.old outside.new result }
 {
-    let Ok(line) = ddl_fault(alloc, fault) else {
-        return Status::NoMemory;
-    };
-    match write_all(out, line.as_slice()) {
-        Ok(()) => Status::BadSchema,
-        Err(_) => Status::WriteFault,
+    match ddl_fault(alloc, fault) {
+        Ok(line) => outside.tell(line.as_slice(), Status::BadSchema),
+        Err(_) => Status::NoMemory,
     }
 }
 
+/// The status of a script, by whether a statement was refused.
+fn status_of(refused: bool) -> Status
+    ensures by { result ≡ status_by refused }
+    ensures own { result ≢ Status.WriteFault }
+{
+    if refused {
+        return Status::SomeRefused;
+    }
+    Status::Done
+}
+
 /// Writes the script as SQL.
-pub(crate) fn tell_script<R: Threads + Sync, K: Sink, G: Gate>(
+pub(crate) fn tell_script<R: Threads + Sync, H: Shelf, K: Sink, G: Gate>(
     rt: &R,
     alloc: Global,
     dialect: Dialect,
     schema: Schema,
     bytes: &[u8],
-    out: &mut K,
+    outside: &mut Outside<H, K>,
     gate: &G,
 ) -> Status
-    ensures { ScriptEnds dialect schema bytes.now
-        (record { written = K.written out.old; faults = K.faults out.old })
-        (record { written = K.written out.new; faults = K.faults out.new }) result }
+    ensures { SqlEnds dialect schema bytes.now outside.old outside.new result }
 {
-    let Ok(reply) = script(rt, alloc, dialect, schema, bytes, gate) else {
-        return Status::NoMemory;
-    };
-    match write_all(out, reply.bytes.as_slice()) {
-        Ok(()) if reply.refused => Status::SomeRefused,
-        Ok(()) => Status::Done,
-        Err(_) => Status::WriteFault,
-    }
-}
-
-/// Hands over what the sink holds back, and gives the status of the whole run. After a failed write
-/// nothing more is handed over.
-pub(crate) fn hand_over<K: Sink>(out: &mut K, came: Status) -> Status
-    ensures written { K.written out.new ≡ K.written out.old }
-    ensures closes { Closes came (K.faults out.old) (K.faults out.new) result }
-{
-    if came == Status::WriteFault {
-        return came;
-    }
-    match out.flush() {
-        Ok(()) => came,
-        Err(_) => Status::WriteFault,
+    match script(rt, alloc, dialect, schema, bytes, gate) {
+        Ok(reply) => outside.tell(reply.bytes.as_slice(), status_of(reply.refused)),
+        Err(_) => Status::NoMemory,
     }
 }

@@ -1,19 +1,18 @@
 //! The run of the program over any shelf and sink.
 ghost use Rattle.std.specs.Prelude.{◌≡◌, ◌<◌, ◌^◌};
-ghost use Rattle.sysu_sql.specs.Moments.{Output, Moment};
-ghost use Rattle.sysu_sql.specs.Ends.{Comes, Ends};
-ghost use Rattle.sysu_sql.specs.Runs.{RunEnds};
+ghost use Rattle.su_io.specs.HandOver.{HandsOver};
+ghost use Rattle.su_io.specs.Moments.{Moment};
+ghost use Rattle.sysu_sql.specs.Runs.{Comes, RunEnds};
 
-use crate::reading::read_file;
-use crate::status::Status;
-use crate::telling::{hand_over, tell_refusal, tell_script, tell_usage};
-use crate::words::{Asked, command_of};
+use crate::telling::{tell_refusal, tell_script, tell_usage};
+use crate::words::command_of;
 use std::alloc::Global;
 use std::thread::Threads;
 use su_base::Str;
 use su_ddl::read;
-use su_io::{Shelf, Sink};
+use su_io::{Outside, Shelf, Sink, Status};
 use su_par::Gate;
+use su_sql::Dialect;
 
 /// How many bytes a schema and a script may have.
 const SCHEMA_LIMIT: u64 = 1 << 20;
@@ -21,33 +20,30 @@ const SCHEMA_LIMIT: u64 = 1 << 20;
 const SCRIPT_LIMIT: u64 = 1 << 24;
 
 /// Writes the script's file as SQL on the schema of its file.
-fn run_files<R: Threads + Sync, H: Shelf, K: Sink, G: Gate>(
+fn run_named<R: Threads + Sync, H: Shelf, K: Sink, G: Gate>(
     rt: &R,
     alloc: Global,
-    asked: Asked,
-    shelf: &mut H,
-    out: &mut K,
+    schema: Str,
+    script: Str,
+    dialect: Dialect,
+    outside: &mut Outside<H, K>,
     gate: &G,
 ) -> Status
-    ensures files { H.files shelf.new ≡ H.files shelf.old }
-    ensures ends { RunEnds (record { schema = asked.entry.schema.now; script = asked.entry.script.now; dialect = asked.entry.dialect })
-        (record { files = H.files shelf.old; faults = H.faults shelf.old; output = record { written = K.written out.old; faults = K.faults out.old } })
-        (record { files = H.files shelf.new; faults = H.faults shelf.new; output = record { written = K.written out.new; faults = K.faults out.new } }) result }
+    ensures files { outside.new.files ≡ outside.old.files }
+    ensures ends { RunEnds (record { schema = schema; script = script; dialect = dialect }) outside.old outside.new result }
 {
-    let bytes = match read_file(alloc, shelf, asked.schema, SCHEMA_LIMIT) {
+    let bytes = match outside.read(alloc, schema, SCHEMA_LIMIT) {
         Ok(bytes) => bytes,
         Err(status) => return status,
     };
     let schema = match read(alloc, bytes.as_slice()) {
         Ok(schema) => schema,
-        Err(fault) => return tell_refusal(alloc, &fault, out),
+        Err(fault) => return tell_refusal(alloc, &fault, outside),
     };
-    let bytes = match read_file(alloc, shelf, asked.script, SCRIPT_LIMIT) {
-        Ok(bytes) => bytes,
-        Err(status) => return status,
-    };
-    let bytes = bytes.as_slice();
-    tell_script(rt, alloc, asked.dialect, schema, bytes, out, gate)
+    match outside.read(alloc, script, SCRIPT_LIMIT) {
+        Ok(bytes) => tell_script(rt, alloc, dialect, schema, bytes.as_slice(), outside, gate),
+        Err(status) => status,
+    }
 }
 
 /// What the words ask for, up to the hand-over at the end.
@@ -55,19 +51,19 @@ fn run_words<R: Threads + Sync, H: Shelf, K: Sink, G: Gate>(
     rt: &R,
     alloc: Global,
     words: &[Str],
-    shelf: &mut H,
-    out: &mut K,
+    outside: &mut Outside<H, K>,
     gate: &G,
 ) -> Status
-    ensures files { H.files shelf.new ≡ H.files shelf.old }
-    ensures comes { Comes words.now
-        (record { files = H.files shelf.old; faults = H.faults shelf.old; output = record { written = K.written out.old; faults = K.faults out.old } })
-        (record { files = H.files shelf.new; faults = H.faults shelf.new; output = record { written = K.written out.new; faults = K.faults out.new } }) result }
+    ensures files { outside.new.files ≡ outside.old.files }
+    ensures comes { Comes words.now outside.old outside.new result }
 {
-    match command_of(words) {
-        Some(asked) => run_files(rt, alloc, asked, shelf, out, gate),
-        None => tell_usage(out),
-    }
+    let Some(asked) = command_of(words) else {
+        return tell_usage(outside);
+    };
+    let (Ok(schema), Ok(script)) = (asked.schema.copy(alloc), asked.script.copy(alloc)) else {
+        return Status::NoMemory;
+    };
+    run_named(rt, alloc, schema, script, asked.dialect, outside, gate)
 }
 
 /// The whole program over any shelf and sink. The words, without the program's name, are
@@ -78,15 +74,12 @@ pub fn run<R: Threads + Sync, H: Shelf, K: Sink, G: Gate>(
     rt: &R,
     alloc: Global,
     words: &[Str],
-    shelf: &mut H,
-    out: &mut K,
+    outside: &mut Outside<H, K>,
     gate: &G,
 ) -> Status
-    ensures files { H.files shelf.new ≡ H.files shelf.old }
-    ensures ends { Ends words.now
-        (record { files = H.files shelf.old; faults = H.faults shelf.old; output = record { written = K.written out.old; faults = K.faults out.old } })
-        (record { files = H.files shelf.new; faults = H.faults shelf.new; output = record { written = K.written out.new; faults = K.faults out.new } }) result }
+    ensures files { outside.new.files ≡ outside.old.files }
+    ensures ends { HandsOver (Comes words.now outside.old) outside.new result }
 {
-    let came = run_words(rt, alloc, words, shelf, out, gate);
-    hand_over(out, came)
+    let came = run_words(rt, alloc, words, outside, gate);
+    outside.hand_over(came)
 }

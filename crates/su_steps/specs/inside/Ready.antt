@@ -3,7 +3,7 @@ use Rattle.std.specs.Prelude.{◌≡◌, ℕ, ◌+◌, ◌*◌, ◌<◌, ◌≤�
 use Rattle.std.specs.Ordering.{nat_cmp}
 use Rattle.std.specs.FinSet.{FinSet, contains, empty}
 use Rattle.su_where.specs.declared.literals.Literal.{Literal}
-use Rattle.su_where.specs.Fitting.{HasPlacesBelow}
+use Rattle.su_where.specs.Places.{HasPlacesBelow}
 use Rattle.su_classes.specs.Tables.{IsLeastTable}
 use Rattle.su_classes.specs.inside.Symbols.{AreDistinct}
 use Rattle.su_schema.specs.SchemaValue.{SchemaValue}

@@ -1,3 +1,4 @@
+-- The edges so far are those of the rows so far, one for each, and what was fetched is at most their shares.
 use Rattle.std.proofs.Common.{◌≡◌, ◌<◌, ◌≤◌, ◌+◌, List, length, get_or, sym, ap, subst, ◌∙◌}
 use Rattle.su_rel.specs.Stored.{Stored}
 use Rattle.su_reduce.specs.declared.edges.Edge.{Edge}

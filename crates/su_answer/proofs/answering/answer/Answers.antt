@@ -1,3 +1,4 @@
+-- The rows so far are the answers of the kept terms before those that are left. A term's task gives the term's answers, and a list that is missing, or a merge past the limit, shows more answers than may be.
 use Rattle.std.proofs.Common.{◌≡◌, ℕ, ◌<◌, List, [], length, All, Result, sym, subst, arith}
 use Rattle.std.specs.Prelude.{IfErr}
 use Rattle.std.specs.List.{AllZip}

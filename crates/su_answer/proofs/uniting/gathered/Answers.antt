@@ -1,3 +1,4 @@
+-- The rows so far and those of the lists that are left are together what was asked for; a missing list is one of them.
 use Rattle.std.proofs.Common.{◌≡◌, ◌⊎◌, inl, inr, List, Contains, Result, None, sym, subst}
 use Rattle.std.specs.Prelude.{IfErr}
 use Rattle.std.proofs.lemmas.Result.{err_from_is_err_and}

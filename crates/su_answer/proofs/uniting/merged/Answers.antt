@@ -1,3 +1,4 @@
+-- The merged rows are the greatest of both lists, and what is left comes before them; so a row more than an answer may have shows that many different ones.
 use Rattle.std.proofs.Common.{◌≡◌, [], ◌∷◌, ◌++◌, List, length, sym, ap, ◌∙◌, subst, arith}
 use Rattle.std.specs.Prelude.{reverse}
 use Rattle.std.specs.List.Sorted.{IsStrictlySortedBy}

@@ -1,7 +1,7 @@
 use Rattle.std.proofs.Common.{◌≡◌, ℕ, length, subst}
 use Rattle.std.specs.Prelude.{Result}
 use Rattle.std.specs.Result.{MatchResult}
-use Rattle.su_classes.specs.inside.Symbols.{place_of}
+use Rattle.su_classes.specs.inside.Symbols.{constant_place}
 use Rattle.su_chase.proofs.FirstClash.{place_searched}
 use Rattle.su_chase.proofs.numbering.place.Goals as goal
 
@@ -9,12 +9,12 @@ pub returns-in-Ok : goal.returns-in-Ok
 returns-in-Ok c =
     let vs = c.args.constants.now in
     let v = c.args.value.now in
-    subst (λ (r : Result ℕ ℕ). MatchResult r (λ i. i ≡ place_of vs v) (λ _. length vs ≡ place_of vs v)) c.in-Ok.is
+    subst (λ (r : Result ℕ ℕ). MatchResult r (λ i. i ≡ constant_place vs v) (λ _. length vs ≡ constant_place vs v)) c.in-Ok.is
     (place_searched vs v c.binary_search.result c.requires c.binary_search.ensures.bound c.binary_search.ensures.position)
 
 pub returns-in-Err : goal.returns-in-Err
 returns-in-Err c =
     let vs = c.args.constants.now in
     let v = c.args.value.now in
-    subst (λ (r : Result ℕ ℕ). MatchResult r (λ i. i ≡ place_of vs v) (λ _. length vs ≡ place_of vs v)) c.in-Err.is
+    subst (λ (r : Result ℕ ℕ). MatchResult r (λ i. i ≡ constant_place vs v) (λ _. length vs ≡ constant_place vs v)) c.in-Err.is
     (place_searched vs v c.binary_search.result c.requires c.binary_search.ensures.bound c.binary_search.ensures.position)

@@ -1,3 +1,4 @@
+-- No term before maps into the tableau, so the first that does is the first of all; the room stays wide enough for each search.
 use Rattle.std.proofs.Common.{◌≡◌, ◌+◌, ◌^◌, ◌∙◌, ℕ, length, get_or, ap, sym, subst, below_more}
 use Rattle.su_tableau.specs.Tableaux.{Tab}
 use Rattle.su_tableau.specs.Mapping.{Maps}

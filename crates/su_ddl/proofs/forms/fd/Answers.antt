@@ -1,3 +1,4 @@
+-- A refusal contradicts the form: if the symbols spelled a dependency, its sides are the only lists of names there, and what follows each of them would have been read.
 use Rattle.std.proofs.Common.{◌≡◌, ◌∷◌, ◌++◌, [], sym, ap, ◌∙◌, arith, length, Err, codes, append-nil}
 use Rattle.std.proofs.lemmas.List.{nil_from_length}
 use Rattle.std.proofs.lemmas.Result.{err_from_is_err_and}

@@ -1,3 +1,4 @@
+-- A refusal contradicts the form: if the symbols spelled an object, its name, its attributes, its relation and its columns are the only ones there, and each would have been read.
 use Rattle.std.proofs.Common.{◌≡◌, ◌∷◌, [], sym, ap, ◌∙◌, arith, length, Err, codes, map}
 use Rattle.std.proofs.lemmas.List.{nil_from_length}
 use Rattle.std.proofs.lemmas.Result.{err_from_is_err_and}

@@ -1,3 +1,4 @@
+-- The rows of the first edge are cut into blocks. What is put in is given by the three, and what they give through a row of a block so far is in; each row has a block.
 use Rattle.std.proofs.Common.{◌≡◌, ◌<◌, ◌≤◌, ◌∙◌, List, ℕ, get_or, Contains, subst, refl, inl, inr, ⊎_elim, arith}
 use Rattle.std.specs.Prelude.{map}
 use Rattle.std.proofs.lemmas.Bool.{cases_lt}

@@ -1,3 +1,4 @@
+-- The rows that are put in are the wanted columns of the candidates so far, and that is what they give the variables.
 use Rattle.std.proofs.Common.{◌≡◌, ◌<◌, ◌≤◌, ◌∷◌, ◌∙◌, [], List, ℕ, length, get_or, Contains, ap, sym, subst, inr, ⊎_elim, rules, arith}
 use Rattle.std.proofs.lemmas.Bool.{cases_lt}
 use Rattle.su_exec.specs.inside.Bodies.{IsGiven}

@@ -1,3 +1,4 @@
+-- The rows that are put in are exactly what the three give the wanted variables, so one edge of them takes the place of the three.
 use Rattle.std.proofs.Common.{◌≡◌, ◌∷◌, [], List, ℕ, Contains, ap, sym, subst, refl, ⊎_elim, arith}
 use Rattle.std.specs.Prelude.{map}
 use Rattle.su_exec.specs.inside.Bodies.{IsGiven}

@@ -1,3 +1,4 @@
+-- Rows with one label are connected by what was looked at so far. In the end each row has the label of the first row of each of its variables, and what a comparison compares has one label, so that connected rows have one label.
 use Rattle.std.proofs.Common.{◌≡◌, ◌<◌, ◌≤◌, List, ℕ, length, get_or, sym, ap, subst, ◌∙◌, ⊎_elim, arith}
 use Rattle.std.specs.List.{range_with_len}
 use Rattle.std.proofs.lemmas.Bool.{cases_lt}

@@ -1,3 +1,4 @@
+-- The body is the three edges and the rest; their join has each variable of theirs that is still needed, so that it takes their place.
 use Rattle.std.proofs.Common.{◌≡◌, ◌∷◌, ◌++◌, ◌⊎◌, ◌<◌, ◌+◌, [], List, ℕ, true, length, refl, ap, ◌∙◌, inl, inr, ⊎_elim, arith, length-append}
 use Rattle.std.proofs.lemmas.List.Edits.{length-remove}
 use Rattle.su_exec.specs.declared.checks.Check.{Check}

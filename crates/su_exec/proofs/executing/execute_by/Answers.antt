@@ -1,3 +1,4 @@
+-- The candidates say which valuations agree with the stored rows, merging keeps what they give the outputs' variables, and the outputs are read off what is merged; so each step is an equality of what the valuations give.
 use Rattle.std.proofs.Common.{◌≡◌, List, ℕ, Some, sym, ap, subst, ◌∙◌}
 use Rattle.std.specs.Prelude.{IfOk, IfErr}
 use Rattle.su_base.specs.declared.values.Value.{Value}

@@ -1,3 +1,4 @@
+-- The rows gathered so far are those that the sources so far give: each agrees with a stored row, and each that agrees with the candidates of the rows before is among them. What was fetched is at most the shares of these sources.
 use Rattle.std.proofs.Common.{◌≡◌, ◌≤◌, ◌+◌, [], List, ℕ, length, take, map, refl, sym, ap, subst, ◌∙◌, inl, inr, ⊎_elim, arith}
 use Rattle.std.specs.Prelude.{sum}
 use Rattle.std.proofs.lemmas.List.Elements.{All-nil}
@@ -14,7 +15,7 @@ use Rattle.su_exec.specs.Tasks.{FitsTables}
 use Rattle.su_exec.specs.inside.Ways.{AgreesBySources, IsAgreed, IsFrom, IsOfSources}
 use Rattle.su_exec.proofs.Ways.{sum_more, sum_take}
 use Rattle.su_exec.proofs.GatheredRows.{gathered_none, gathered_then}
-use Rattle.su_reduce.proofs.Shaping.{shape_length}
+use Rattle.su_reduce.proofs.ShapeSteps.{shape_length}
 use Rattle.su_exec.proofs.CellShapes.{shape_apart}
 use Rattle.su_exec.proofs.Sources.{agreed_up, row_edge, sources_before, sources_cases, sources_here, sources_none}
 use Rattle.su_exec.proofs.fetching.candidates_of.Goals as goal

@@ -1,3 +1,4 @@
+-- What is gathered so far is what the stored rows at the positions so far give, one fetch for each.
 use Rattle.std.proofs.Common.{◌≡◌, ◌<◌, ◌+◌, [], List, ℕ, length, get_or, Some, slice_get, refl, sym, ap, subst, ◌∙◌, arith}
 use Rattle.std.proofs.lemmas.Option.{slice_get-get_or}
 use Rattle.su_base.specs.declared.values.Value.{Value}

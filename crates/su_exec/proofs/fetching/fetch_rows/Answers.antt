@@ -1,3 +1,4 @@
+-- The edges so far say that each row that isn't left agrees with a stored row, and what was fetched is at most the shares of these rows; a row without candidates shows that no valuation agrees with the stored rows.
 use Rattle.std.proofs.Common.{◌≡◌, ◌<◌, ◌≤◌, ◌+◌, List, ℕ, length, get_or, refl, sym, ap, subst, ◌∙◌, arith}
 use Rattle.std.specs.Prelude.{All}
 use Rattle.std.specs.List.{range_with_len, remove}

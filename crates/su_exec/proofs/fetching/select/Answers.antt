@@ -1,3 +1,4 @@
+-- A stored row that fits the cells gives the codes of its values at each variable's first cell; one that doesn't fit gives nothing.
 use Rattle.std.proofs.Common.{◌≡◌, List, ℕ, length, get_or, Contains, refl, sym, ap, subst, ◌∙◌, inl, inr, ⊎_elim}
 use Rattle.std.specs.Prelude.{pos}
 use Rattle.std.proofs.lemmas.Bool.{true≢false}

@@ -1,3 +1,4 @@
+-- The rows of a bucket are gone through from the last to the first by the chain of its rows: those behind the place have been paired, and a row of another bucket has another key. Where nothing on the right is kept, one pair tells what all others would.
 use Rattle.std.proofs.Common.{◌≡◌, ◌-◌, ◌%◌, ◌<◌, suc, List, [], ℕ, length, get_or, Contains, subst, ap, sym, refl, ◌∙◌, ⊎_elim, inl, inr, rules, arith}
 use Rattle.std.proofs.lemmas.Bool.{true≢false}
 use Rattle.std.proofs.lemmas.List.{nil_from_length}

@@ -1,3 +1,4 @@
+-- The rows so far are those that the rows so far on the left make with all on the right. Each bucket's chain begins at its last row, so that a row meets all with its key.
 use Rattle.std.proofs.Common.{◌≡◌, ◌++◌, ◌<◌, ◌≤◌, List, [], ℕ, length, get_or, take, drop, subst, ap, sym, ◌∙◌, ⊎_elim, arith}
 use Rattle.std.proofs.lemmas.Bool.{cases_lt}
 use Rattle.std.proofs.lemmas.List.{append-nil, drop_all, take_all}

@@ -1,3 +1,4 @@
+-- Each step keeps what the body gives the needed variables, and leaves an edge less; it ends with one edge, with one that has no rows, or with two that are past the bound and have nothing to do with the rest.
 use Rattle.std.proofs.Common.{◌≡◌, ◌+◌, List, ℕ, length, sym, subst, arith}
 use Rattle.su_exec.specs.declared.checks.Check.{Check}
 use Rattle.su_exec.specs.inside.Bodies.{AreThere}

@@ -1,3 +1,4 @@
+-- The body is the two that are joined and the rest, and the checks are the tests of the two and those of the rest: so the join takes the place of both, or it is past the bound, which only two that share nothing with the rest are given.
 use Rattle.std.proofs.Common.{◌≡◌, ◌∷◌, ◌++◌, ◌&&◌, ◌||◌, ◌⊎◌, ◌<◌, ◌+◌, [], List, ℕ, Option, None, true, length, map, sym, ap, subst, ◌∙◌, ⊎_elim, arith, length-append}
 use Rattle.std.proofs.lemmas.List.Edits.{length-remove}
 use Rattle.su_base.specs.declared.values.Value.{Value}

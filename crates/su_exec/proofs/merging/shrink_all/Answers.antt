@@ -1,3 +1,4 @@
+-- Each edge is taken from the front, shrunk and put at the end, which keeps what the body gives the needed variables; after as many steps as there are edges each was shrunk.
 use Rattle.std.proofs.Common.{◌≡◌, ◌∷◌, ◌++◌, ◌<◌, ◌+◌, [], List, ℕ, length, refl, ap, sym, subst, rules, arith, length-append}
 use Rattle.std.proofs.lemmas.List.Edits.{length-remove}
 use Rattle.su_exec.specs.declared.checks.Check.{Check}

@@ -1,3 +1,4 @@
+-- Joined with itself, an edge keeps the rows that pass the tests on it alone, and of its columns those that the rest or the outputs need; where there are no tests and all columns are needed it stays.
 use Rattle.std.proofs.Common.{◌≡◌, ◌∷◌, ◌&&◌, ◌||◌, [], List, ℕ, map, refl, sym, ap, ◌∙◌}
 use Rattle.su_base.specs.declared.values.Value.{Value}
 use Rattle.su_exec.specs.declared.checks.Check.{Check}

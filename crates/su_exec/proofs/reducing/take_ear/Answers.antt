@@ -1,3 +1,4 @@
+-- A row of the parent without partner in the ear is in no valuation, so the parent loses it; an ear whose needed variables are all the parent's then says nothing more, and goes.
 use Rattle.std.proofs.Common.{◌≡◌, ◌<◌, ◌+◌, ◌∙◌, List, ℕ, true, length, get_or, sym, ap, subst, arith}
 use Rattle.std.specs.List.{remove}
 use Rattle.std.proofs.lemmas.List.{get_or-set_same}

@@ -1,3 +1,4 @@
+-- The pieces so far are a front of every list of pieces that the file has, and what is left has the others.
 use Rattle.std.proofs.Common.{◌++◌, [], sym, ap, ◌∙◌, arith, length, append-nil, List, ℕ, subst}
 use Rattle.std.proofs.lemmas.Bool.Decides.{nat_tests}
 use Rattle.std.proofs.lemmas.List.{nil_from_length, length-drop}

@@ -1,3 +1,4 @@
+-- The tokens so far are a front of every list of tokens that the text has, and what is left begins with a token or is empty; so an end without a token refutes every list.
 use Rattle.std.proofs.Common.{◌≡◌, ◌+◌, ◌-◌, ◌<◌, ◌∷◌, ◌++◌, [], sym, refl, ap, ◌∙◌, arith, length, append_assoc, append-nil, drop, Err}
 use Rattle.su_lex.specs.Blanks as b
 use Rattle.su_lex.specs.declared.ends.LexEnd.TheVariants.{Syntax}

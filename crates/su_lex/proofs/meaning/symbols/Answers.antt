@@ -1,3 +1,4 @@
+-- The symbols so far are a front of every list of symbols that the text has, and what is left begins with a symbol or is empty; so an end without a symbol refutes every list.
 use Rattle.std.proofs.Common.{◌≡◌, ◌<◌, ◌∷◌, ◌++◌, [], sym, refl, ap, ◌∙◌, arith, length, append_assoc, append-nil, drop, Err}
 use Rattle.std.proofs.lemmas.Bool.Decides.{nat_tests}
 use Rattle.std.proofs.lemmas.List.{take_rest, nil_from_length}

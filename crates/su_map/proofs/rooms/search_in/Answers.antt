@@ -1,3 +1,4 @@
+-- The room's parts are as long as the rows need, and a choice of targets over its net is a mapping of the tableau, and the first choice the first mapping.
 use Rattle.std.proofs.Common.{◌≤◌, ◌+◌, ◌∙◌, ℕ, length, take, sym, ap, subst, arith}
 use Rattle.std.proofs.lemmas.List.{with_items_is}
 use Rattle.su_map.specs.Lists.{IsMapping, IsFirst}

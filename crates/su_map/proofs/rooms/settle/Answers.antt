@@ -1,3 +1,4 @@
+-- The choices into the masked targets are those within the domains that are begun and narrowed, so what the search finds there, first or none, is what there is at all.
 use Rattle.std.proofs.Common.{◌≡◌, ◌⊎◌, ◌+◌, ◌*◌, ◌≤◌, ◌∙◌, ℕ, length, sym, subst, arith}
 use Rattle.su_map.specs.Lists.{numbers_of}
 use Rattle.su_map.specs.inside.Choices.{IsChoice, IsChoiceInto, AreSame, IsLess, Shrinks, choice_of, Stands, tries, ArePassed}

@@ -1,3 +1,4 @@
+-- The search uses the front of each part of the room, of as many places as there are rows, and the list of targets is what it chose at the masked rows; so what is said of choices holds of lists.
 use Rattle.std.proofs.Common.{◌≡◌, ◌⊎◌, ◌≤◌, ◌+◌, ◌*◌, ◌∙◌, length, map, sym, ap, subst, arith}
 use Rattle.std.proofs.lemmas.List.{length-take-le}
 use Rattle.su_map.specs.Lists.{numbers_of}

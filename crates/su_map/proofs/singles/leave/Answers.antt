@@ -1,3 +1,4 @@
+-- A sending that sends the row to the target sends row q to a target that agrees with it, so that none is lost where the domain of q is cut to these; an empty domain shows that there is none.
 use Rattle.std.proofs.Common.{◌≡◌, ◌∙◌, ℕ, [], Contains, refl, subst, arith}
 use Rattle.std.specs.Int.{bit_at}
 use Rattle.su_tableau.specs.declared.symbols.Sym.TheVariants.{Var}

@@ -1,3 +1,4 @@
+-- The tables of the rows before stay, and those of row i with each row so far tell which targets of the two agree in what the rows share.
 use Rattle.std.proofs.Common.{◌≡◌, ◌≢◌, ◌+◌, ◌*◌, ◌∙◌, ℕ, [], get_or, Contains, sym, ap, subst, true≢false, arith}
 use borrow.Author.Count.{below_more}
 use Rattle.std.specs.Int.{bit_at}

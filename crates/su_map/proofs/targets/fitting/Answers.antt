@@ -1,3 +1,4 @@
+-- A cell fits a target whose cell there is the constant, or the image that the head gives the variable, or what the target has at the first cell of the variable; a first cell fits everything.
 use Rattle.std.proofs.Common.{◌≡◌, ◌∙◌, ◌^◌, length, refl, sym, ap, get_or, arith}
 use Rattle.std.specs.Int.{bit_at}
 use Rattle.su_tableau.specs.declared.symbols.Sym.{Sym}

@@ -1,3 +1,4 @@
+-- Rows are left out from the last to the first wherever the tableau still maps into the rest, which gives the least set; the net of all rows serves each of these searches.
 use Rattle.std.proofs.Common.{◌≡◌, ◌-◌, ◌^◌, ◌∙◌, suc, refl, sym, ap, subst, arith}
 use Rattle.su_map.specs.Nets.{IsNet}
 use Rattle.su_min.proofs.Parts.{maps_sub}

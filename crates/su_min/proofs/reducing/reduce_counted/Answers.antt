@@ -1,3 +1,4 @@
+-- Of the terms so far each is kept or has its cover among the kept ones, as the table of coverings tells; the dropped ones are those that another covers, the earlier of two that cover each other first.
 use Rattle.std.proofs.Common.{◌∙◌, ◌+◌, ◌<◌, length, true≢false, sym, subst, arith}
 use Rattle.su_min.specs.inside.Matrix.{entry, IsMatrix, IsDroppedIn, AreMarks}
 use Rattle.su_min.specs.inside.Rooms.{IsRoomOf}

@@ -1,3 +1,4 @@
+-- The rows of a bucket are gone through from the last to the first by the chain of its rows: none at or behind the place is the row, and a row that is equal has the same hash, so that it is in the same bucket.
 use Rattle.std.proofs.Common.{◌≡◌, ◌≢◌, ◌-◌, ◌<◌, suc, [], ℕ, length, get_or, ap, sym, ◌∙◌, arith}
 use Rattle.std.proofs.lemmas.Bool.{true≢false}
 use Rattle.std.proofs.lemmas.List.{get_or_default}

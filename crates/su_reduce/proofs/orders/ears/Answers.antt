@@ -1,3 +1,4 @@
+-- An order of the edges that are left makes, behind the order so far, one of all edges; and where the edges are acyclic those that are left have one, so that edges without an ear show a cycle.
 use Rattle.std.proofs.Common.{◌≡◌, ◌<◌, length, true≢false, subst, sym, ◌∙◌, arith}
 use Rattle.std.proofs.lemmas.List.{length-map}
 use Rattle.std.specs.Ordering.{nat_cmp}

@@ -1,3 +1,4 @@
+-- Codes are equal where their values are, so that two candidates agree where both edges have a variable exactly where their rows of codes have one key; the marks by keys are the marks by partners.
 use Rattle.std.proofs.Common.{◌↔◌, ◌∙◌, ◌<◌, List, [], ℕ, Bool, false, IsTrue, length, get_or, sym, ap, subst, arith}
 use Rattle.su_reduce.specs.declared.edges.Edge.{Edge}
 use Rattle.su_reduce.specs.Sheets.{AreBelow, IsMarkedKey, Rows, pick}

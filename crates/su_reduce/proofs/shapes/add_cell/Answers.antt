@@ -3,7 +3,7 @@ use Rattle.std.proofs.lemmas.Option.{get_or_from_slice_get}
 use Rattle.su_tableau.specs.declared.symbols.Sym.TheVariants.{Var}
 use Rattle.su_reduce.specs.Shapes.{IsShapeOf, cell_at, variable_place}
 use Rattle.su_reduce.proofs.Places.{contains_at, place_holds, same_var}
-use Rattle.su_reduce.proofs.Shaping.{shape_again, shape_new, shape_on}
+use Rattle.su_reduce.proofs.ShapeSteps.{shape_again, shape_new, shape_on}
 use Rattle.su_reduce.proofs.shapes.add_cell.Goals as goal
 
 pub returns-in_default : goal.returns-in_default

@@ -1,6 +1,6 @@
 use Rattle.std.proofs.Common.{List, length, subst, sym}
 use Rattle.su_base.specs.declared.values.Value.{Value}
-use Rattle.su_where.specs.Fitting.{Fits}
+use Rattle.su_where.specs.Places.{Fits}
 use Rattle.su_state.proofs.conditions.marks.Goals as goal
 
 pub truth-requires : goal.truth-requires

@@ -1,7 +1,7 @@
 use Rattle.std.proofs.Common.{◌≡◌, ℕ, length, slice_get, Some, subst, sym, ap, ◌∙◌}
 use Rattle.su_schema.specs.SchemaValue.{SchemaValue}
 use Rattle.su_schema.specs.Entries.{relation_columns}
-use Rattle.su_where.specs.Fitting.{Fits}
+use Rattle.su_where.specs.Places.{Fits}
 use Rattle.su_state.specs.DatabaseValue.{columns_of}
 use Rattle.su_state.proofs.Kept.{columns_read}
 use Rattle.su_state_tests.proofs.tests.delete_some.Goals as goal

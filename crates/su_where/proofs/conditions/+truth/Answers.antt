@@ -3,7 +3,7 @@ use Rattle.std.specs.List.{list_all, list_any}
 use Rattle.su_where.specs.declared.conditions.Condition.{the_lemmas}
 use Rattle.su_where.specs.declared.conditions.Condition.TheVariants.{Not}
 use Rattle.su_where.specs.Truth.{Cond, truth_of}
-use Rattle.su_where.specs.Fitting.{Fits}
+use Rattle.su_where.specs.Places.{Fits}
 use Rattle.su_where.proofs.Layers.{truth_of-All, truth_of-Any, fits_compare, fits_not, fits_all, fits_any}
 use Rattle.su_where.proofs.conditions.+truth.Goals as goal
 

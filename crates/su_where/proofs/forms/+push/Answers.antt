@@ -1,3 +1,4 @@
+-- The k-th disjunct of a list of parts: of joined parts it stands in the first whose count it is below; of combined ones the place is divided by the number of combinations of the parts behind, which gives the place in the first part and in the others.
 use Rattle.std.proofs.Common.{◌<◌, ◌≤◌, ◌/◌, ◌%◌, ℕ, sym, subst, length, rules, arith}
 use Rattle.su_where.specs.declared.conditions.Condition.{the_lemmas}
 use Rattle.su_where.specs.Disjunct.{form_of}

@@ -9,7 +9,7 @@ pub returns-in-Ok-check-clause-ends : goal.returns-in-Ok-check-clause-ends
 returns-in-Ok-check-clause-ends g c =
     let first = c.in-Ok.ensures.ends in
     let shelf = c.in-Ok.ensures.rest in
-    verdict_told c.args.file c.args.outside.now _ _ c.as_slice.result.now c.in-Ok-check.checked (rw c.as_slice.ensures first.2) (rw c.as_slice.ensures first.3) c.in-Ok-check.ensures.verdict
+    verdict_told c.args.file c.args.outside.now _ _ c.as_slice.result.now c.in-Ok-check.checked (rw c.as_slice.ensures first.2) c.in-Ok-check.ensures.verdict
     first.0 (ap (λ (m : Moment). m.begun) shelf) first.1 (ap (λ (m : Moment). m.told) shelf) (ap (λ (m : Moment). m.writes) shelf) c.tell_verdict.result c.tell_verdict.ensures
 
 pub returns-in-Err-clause-ends : goal.returns-in-Err-clause-ends

@@ -15,7 +15,7 @@ pub returns-in-Err-read-clause-ends : goal.returns-in-Err-read-clause-ends
 returns-in-Err-read-clause-ends g c =
     let first = c.in-Ok.ensures.ends in
     let shelf = c.in-Ok.ensures.rest in
-    schema_refused (record { schema = c.args.schema; script = c.args.script }) c.args.outside.now _ _ c.as_slice.result.now (rw c.as_slice.ensures first.2) (rw c.as_slice.ensures first.3)
+    schema_refused (record { schema = c.args.schema; script = c.args.script }) c.args.outside.now _ _ c.as_slice.result.now (rw c.as_slice.ensures first.2)
     first.0 (ap (λ (m : Moment). m.begun) shelf) first.1 (ap (λ (m : Moment). m.told) shelf) (ap (λ (m : Moment). m.writes) shelf)
     c.in-Err-read.fault c.in-Err-read.ensures.fault c.tell_refusal.result c.tell_refusal.ensures.of_text c.tell_refusal.ensures.ends
 
@@ -26,7 +26,7 @@ returns-clause-ends g c =
     let shelf = c.in-Ok.ensures.rest in
     let again = c.in-Err-read-2.ensures.rest in
     file_fails (record { schema = c.args.schema; script = c.args.script }) c.args.outside.now c.read.new.self _ c.args.script _
-    (inr (inl (refl, refl, refl, (c.in-Ok-read.schema, record { bytes = c.as_slice.result.now; is_schema = rw c.as_slice.ensures first.2; fits = rw c.as_slice.ensures first.3; reads = c.in-Ok-read.ensures.schema }))))
+    (inr (inl (refl, refl, refl, (c.in-Ok-read.schema, record { bytes = c.as_slice.result.now; is_schema = rw c.as_slice.ensures first.2; reads = c.in-Ok-read.ensures.schema }))))
     (ap (λ (m : Moment). m.files) shelf) first.0 (ap (λ (m : Moment). m.begun) again) (ap (λ (m : Moment). m.told) again ∙ ap (λ (m : Moment). m.told) shelf)
     (ap (λ (m : Moment). m.writes) again ∙ ap (λ (m : Moment). m.writes) shelf) c.in-Err-read-2.status c.in-Err-read-2.ensures.ends
 
@@ -35,7 +35,7 @@ pub returns-in_default-clause-ends : goal.returns-in_default-clause-ends
 returns-in_default-clause-ends g c =
     let first = c.in-Ok.ensures.ends in
     let shelf = c.in-Ok.ensures.rest in
-    none_opened (record { schema = c.args.schema; script = c.args.script }) c.args.outside.now c.read.new.self c.read.new.self c.as_slice.result.now (rw c.as_slice.ensures first.2) (rw c.as_slice.ensures first.3)
+    none_opened (record { schema = c.args.schema; script = c.args.script }) c.args.outside.now c.read.new.self c.read.new.self c.as_slice.result.now (rw c.as_slice.ensures first.2)
     first.0 (ap (λ (m : Moment). m.begun) shelf) first.1 (ap (λ (m : Moment). m.told) shelf) (ap (λ (m : Moment). m.writes) shelf)
 
 -- the script is answered
@@ -44,6 +44,6 @@ returns-in-Ok-read-2-clause-ends g c =
     let first = c.in-Ok.ensures.ends in
     let shelf = c.in-Ok.ensures.rest in
     script_read (record { schema = c.args.schema; script = c.args.script }) c.args.outside.now c.read.new.self _ _ c.as_slice.result.now c.in-Ok-read.schema c.as_slice-in-Ok-read-2.result.now
-    (rw c.as_slice.ensures first.2) (rw c.as_slice.ensures first.3) c.in-Ok-read.ensures.schema
+    (rw c.as_slice.ensures first.2) c.in-Ok-read.ensures.schema
     (ap (λ (m : Moment). m.files) shelf) first.0 (ap (λ (m : Moment). m.told) shelf) (ap (λ (m : Moment). m.writes) shelf)
     c.in-Ok-read-2.ensures.rest (rw c.as_slice-in-Ok-read-2.ensures c.in-Ok-read-2.ensures.ends) c.answer_all.result (c.answer_all.ensures.ends _ c.in-Ok-read.schema c.in-Ok-open.ensures)

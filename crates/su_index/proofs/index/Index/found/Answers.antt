@@ -1,3 +1,4 @@
+-- The entries are in the order of their values, so that those of one value are a stretch of them: from the first that doesn't come before the value to the first that comes behind it.
 use Rattle.std.proofs.Common.{◌≡◌, ◌+◌, ◌≤◌, ◌<◌, ◌∙◌, List, ℕ, length, take, drop, sym, ap, subst, arith}
 use Rattle.std.proofs.lemmas.List.{take_rest}
 use Rattle.su_index.specs.declared.chunk.Chunk.{Chunk}

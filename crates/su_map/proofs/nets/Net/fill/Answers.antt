@@ -1,3 +1,4 @@
+-- The net is filled table by table: the targets of each row by itself, then those that agree where two rows share a variable; where rows share none, the tables of pairs say nothing.
 use Rattle.std.proofs.Common.{◌≡◌, ◌∙◌, ◌≤◌, ◌<◌, ◌*◌, [], length, get_or, refl, sym, ap, subst, arith}
 use Rattle.std.specs.Int.{bit_at}
 use Rattle.std.specs.Vec.{with_items}

@@ -1,3 +1,4 @@
+-- The row is looked for in its bucket alone. A new one goes behind all others and becomes the head of its bucket, so that each chain still goes through its bucket's rows.
 use Rattle.std.proofs.Common.{◌≡◌, ◌≢◌, ◌<◌, ◌%◌, ◌++◌, ◌∷◌, [], List, ℕ, suc, length, get_or, set, take, Contains, sym, ap, subst, ◌∙◌, ⊎_elim, inl, inr, arith, length-append}
 use Rattle.std.proofs.lemmas.Bool.{true≢false}
 use Rattle.std.proofs.lemmas.List.{get_or_default}

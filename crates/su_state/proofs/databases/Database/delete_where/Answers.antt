@@ -1,6 +1,7 @@
+-- A row stays where the condition doesn't hold of it. Fewer rows still meet the dependencies, so the database stays well kept.
 use Rattle.std.proofs.Common.{◌≡◌, ◌<◌, ◌-◌, length, map, not, subst, sym, ap, ◌∙◌, arith}
 use Rattle.std.proofs.lemmas.List.{get_or-set_same}
-use Rattle.su_where.specs.Fitting.{Fits}
+use Rattle.su_where.specs.Places.{Fits}
 use Rattle.su_where.specs.Truth.{truth_of}
 use Rattle.su_state.specs.DatabaseValue.{DatabaseValue, table_of, rows_of, columns_of}
 use Rattle.su_state.specs.Changes.{DeletesWhere}

@@ -1,3 +1,4 @@
+-- The causes are tested in their order: a row that isn't typed, one that is there, one that breaks a dependency, a relation that is full. Where a test passes its cause doesn't hold, so each answer is the one that the definition gives.
 use Rattle.std.proofs.Common.{◌≡◌, ◌<◌, ◌∙◌, inr, List, length, subst, sym, ap, refl, Contains, arith}
 use Rattle.std.proofs.lemmas.Bool.{false≢true}
 use Rattle.su_base.specs.declared.values.Value.{Value}

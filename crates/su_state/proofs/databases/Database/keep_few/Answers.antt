@@ -1,3 +1,4 @@
+-- The stored rows keep the dependencies already; so it is enough that no new row breaks one with a stored row, and that the new rows keep them among themselves.
 use Rattle.std.proofs.Common.{◌≡◌, ◌<◌, ◌++◌, ℕ, length, subst, sym, All}
 use Rattle.std.proofs.lemmas.Bool.{OnTrue_at, OnTrue_from}
 use Rattle.std.proofs.lemmas.Result.{IfOk-weaker}

@@ -1,3 +1,4 @@
+-- Stored rows and new ones are looked at together, dependency by dependency, and what holds of both is what is to be kept.
 use Rattle.std.proofs.Common.{◌≡◌, ◌<◌, ◌++◌, ℕ, List, length, subst, sym, ap, ◌∙◌, All}
 use Rattle.std.proofs.lemmas.Bool.{OnTrue_at, OnTrue_from}
 use Rattle.std.proofs.lemmas.List.Elements.{All-append}

@@ -1,3 +1,4 @@
+-- The rows are put into a copy of the table, so that a refusal puts the old table back, and the database is what it was.
 use Rattle.std.proofs.Common.{◌≡◌, ◌⊎◌, ◌<◌, length, Err, subst, sym, ◌∙◌}
 use Rattle.su_state.specs.DatabaseValue.{DatabaseValue, IsWellKept, table_of}
 use Rattle.su_state.specs.Changes.{ChangesOnly}

@@ -1,3 +1,4 @@
+-- The schema with the definition is valid, and the tables keep what it demands of them, or the first cause that they don't is told; a table of no rows comes with a new relation, so the database is well kept.
 use Rattle.std.proofs.Common.{◌≡◌, ◌⊎◌, List, Ok, Err, Result, subst, sym, ap, ◌∙◌}
 use Rattle.std.specs.Prelude.{IfErr, OnErr}
 use Rattle.std.proofs.lemmas.Result.{err_from_is_err_and}

@@ -2,28 +2,23 @@
 ghost use Rattle.std.specs.Prelude.{◌≡◌, ◌↔◌, IsTrue};
 ghost use Rattle.su_lex.specs.Nesting.{is_open, is_close, IsDeep};
 
-use su_lex::{Sign, Symbol};
+use crate::meaning::Symbol;
+use crate::signs::Sign;
 
 fn is_open(symbol: &Symbol) -> bool
     ensures { result ≡ is_open symbol.now }
 {
-    match symbol {
-        Symbol::Sign(Sign::Open) => true,
-        _ => false,
-    }
+    matches!(symbol, Symbol::Sign(Sign::Open))
 }
 
 fn is_close(symbol: &Symbol) -> bool
     ensures { result ≡ is_close symbol.now }
 {
-    match symbol {
-        Symbol::Sign(Sign::Close) => true,
-        _ => false,
-    }
+    matches!(symbol, Symbol::Sign(Sign::Close))
 }
 
 /// Whether some front has over 64 more opening parentheses than closing ones.
-pub(crate) fn nests_too_deep(symbols: &[Symbol]) -> bool
+pub fn nests_too_deep(symbols: &[Symbol]) -> bool
     ensures { IsTrue result ↔ IsDeep symbols.now }
 {
     let mut opened = 0usize;

@@ -1,7 +1,7 @@
 use Rattle.std.proofs.Common.{◌≡◌, ◌≤◌, ℕ, take}
 use Rattle.std.specs.List.{count_by}
 use Rattle.su_lex.specs.Nesting.{IsDeepAt, is_open, is_close}
-use Rattle.su_check.proofs.nesting.nests_too_deep.Given as goal
+use Rattle.su_lex.proofs.nesting.nests_too_deep.Given as goal
 
 abbrev pub invariant-loop-symbol : goal.invariant-loop-symbol
 invariant-loop-symbol l = record {

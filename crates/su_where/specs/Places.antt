@@ -1,4 +1,4 @@
--- When a condition fits lists of values.
+-- Which places of a list of values a condition reads.
 -- place: of a value in the list, from 0
 use Rattle.std.specs.Prelude.{ℕ, ◌<◌, All as Each}
 use Rattle.su_where.specs.declared.literals.Operand.{Operand}

@@ -1,0 +1,5 @@
+use Rattle.su_io.proofs.OneText.{usage_told}
+use Rattle.sysu_sql.proofs.telling.tell_usage.Goals as goal
+
+pub returns-clause-ends : goal.returns-clause-ends
+returns-clause-ends g c = usage_told _ _ _ c.tell.result (rw c.as_bytes.ensures.value at c.tell.ensures)

@@ -1,0 +1,6 @@
+use Rattle.su_io.proofs.Programs.{handed_over}
+use Rattle.sysu_sql.specs.Runs.{Comes}
+use Rattle.sysu_sql.proofs.top.run.Goals as goal
+
+pub returns-clause-ends : goal.returns-clause-ends
+returns-clause-ends g c = handed_over (Comes c.args.words.now c.args.outside.now) _ _ c.run_words-came.result c.run_words-came.ensures.comes c.hand_over.result c.hand_over.ensures
