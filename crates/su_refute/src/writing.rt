@@ -5,11 +5,8 @@ ghost use Rattle.su_map.specs.Lists.{row_numbers};
 ghost use Rattle.su_check.specs.NodeSymbols.{number, sym_symbol};
 ghost use Rattle.su_check.specs.Grammar.{line, row_line, tree_line, term_lines};
 ghost use Rattle.su_refute.specs.Written.{row_trees, term_of, certificate_of, certificate_text, line_text, lines_text};
-<<<<<<< HEAD
 ghost use Rattle.su_refute.specs.inside.Fronts.{front_text};
-=======
 ghost use Rattle.su_refute.specs.inside.TermParts.{tableau_lines, kept_lines};
->>>>>>> a484a65d6360df45406b158a82c2c62772c77122
 
 use crate::symbols::{push_kinds, push_node, push_number, push_numbers, push_row, push_syms};
 use std::alloc::Global;

@@ -23,7 +23,7 @@ use Rattle.su_state.specs.inside.RowBreaks.{BreaksNothing}
 use Rattle.su_state.specs.RowChanges.{InsertAnswers, Inserts}
 use Rattle.su_state.specs.Loads.{InsertsAll}
 use Rattle.su_state.specs.inside.Parts.{HaveOneWidth}
-use Rattle.su_state.specs.AdmissibleRows.{KeepThrough, MayTake}
+use Rattle.su_state.specs.inside.AdmissibleRows.{KeepThrough, MayTake}
 use Rattle.su_state.proofs.Columns.{clash_from_break, columns_few}
 use Rattle.su_state.proofs.DifferentRows.{differ_put}
 use Rattle.su_state.proofs.Kept.{with_table, MayHave, flipped, holds_at, table_here, holds_fewer, kept_with, added_with, unchanged_with, table_read}

@@ -1,7 +1,6 @@
 pub mod Changes
 pub mod DatabaseValue
 pub mod Definitions
-pub mod AdmissibleRows
 pub mod inside
 pub mod Loads
 pub mod Views

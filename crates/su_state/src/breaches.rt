@@ -1,7 +1,7 @@
 //! The first dependency that a new row would break.
 ghost use Rattle.std.specs.Prelude.{◌≡◌, ◌<◌, ℕ, length};
 ghost use Rattle.su_schema.specs.Known.{columns_at};
-ghost use Rattle.su_state.specs.AdmissibleRows.{KeepThrough};
+ghost use Rattle.su_state.specs.inside.AdmissibleRows.{KeepThrough};
 ghost use Rattle.su_state.specs.inside.Found.{IsLeastBreach, IsFirstThrough, IsFirstBreach};
 
 use crate::clashes::least_breach;

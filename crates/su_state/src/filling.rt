@@ -6,7 +6,7 @@ ghost use Rattle.su_schema.specs.Known.{columns_at};
 ghost use Rattle.su_state.specs.DatabaseValue.{HasColumnKinds, columns_of, rows_of};
 ghost use Rattle.su_state.specs.inside.RowBreaks.{BreaksNothing};
 ghost use Rattle.su_state.specs.inside.Parts.{HaveOneWidth};
-ghost use Rattle.su_state.specs.AdmissibleRows.{KeepThrough, MayTake};
+ghost use Rattle.su_state.specs.inside.AdmissibleRows.{KeepThrough, MayTake};
 
 use crate::breaches::first_breach;
 use crate::changes::MOST;

@@ -2,7 +2,7 @@
 ghost use Rattle.std.specs.Prelude.{◌≡◌, ◌⊎◌, ◌<◌, length, IfOk, IfErr, OnErr};
 ghost use Rattle.su_state.specs.Loads.{Loads};
 ghost use Rattle.su_state.specs.inside.LoadEnds.{IsEnd, InsertsSome};
-ghost use Rattle.su_state.specs.AdmissibleRows.{MayTake};
+ghost use Rattle.su_state.specs.inside.AdmissibleRows.{MayTake};
 
 use crate::copies::copy_table;
 use crate::databases::Database;

@@ -2,7 +2,7 @@ use Rattle.std.proofs.Common.{◌<◌, ◌++◌, ℕ, length, ap, arith}
 use borrow.Author.Count.{below_more}
 use Rattle.std.proofs.lemmas.Bool.{OnTrue_at}
 use Rattle.std.proofs.lemmas.Option.{slice_get_within}
-use Rattle.su_state.specs.AdmissibleRows.{KeepThrough}
+use Rattle.su_state.specs.inside.AdmissibleRows.{KeepThrough}
 use Rattle.su_state.proofs.filling.keep_all.Goals as goal
 
 pub loop-fd-preserved : goal.loop-fd-preserved

@@ -1,5 +1,5 @@
 use Rattle.std.proofs.Common.{◌<◌, ◌++◌, ℕ}
-use Rattle.su_state.specs.AdmissibleRows.{KeepThrough}
+use Rattle.su_state.specs.inside.AdmissibleRows.{KeepThrough}
 use Rattle.su_state.proofs.filling.keep_all.Given as goal
 
 abbrev pub invariant-loop-fd : goal.invariant-loop-fd

@@ -6,7 +6,7 @@ use Rattle.std.proofs.lemmas.Result.{IfOk-weaker}
 use Rattle.su_base.specs.declared.values.Value.{Value}
 use Rattle.su_rel.specs.Stored.{HaveWidth}
 use Rattle.su_state.specs.DatabaseValue.{DatabaseValue, rows_of, columns_of, HasColumnKinds}
-use Rattle.su_state.specs.AdmissibleRows.{KeepThrough}
+use Rattle.su_state.specs.inside.AdmissibleRows.{KeepThrough}
 use Rattle.su_state.proofs.Kept.{has_table, table_read}
 use Rattle.su_state.proofs.Filled.{one_width, wide, short, narrow}
 use Rattle.su_state.proofs.databases.Database.keep_many.Goals as goal

@@ -1,7 +1,7 @@
 use Rattle.std.proofs.Common.{◌<◌, length, subst, sym}
 use Rattle.su_state.specs.DatabaseValue.{DatabaseValue}
 use Rattle.su_state.specs.Loads.{InsertsAll}
-use Rattle.su_state.specs.AdmissibleRows.{MayTake}
+use Rattle.su_state.specs.inside.AdmissibleRows.{MayTake}
 use Rattle.su_state.proofs.Kept.{with_table, has_table}
 use Rattle.su_state.proofs.Filled.{wide, kept_filled, filled_all}
 use Rattle.su_state.proofs.databases.Database.put_all.Goals as goal

@@ -1,5 +1,6 @@
 -- When rows may all be put into a relation at once.
 -- fill: put rows in at once, whichever of them are there
+-- No public contract cites this module.
 use Rattle.std.specs.Prelude.{◌≡◌, ℕ, ◌+◌, ◌≤◌, List, ◌++◌, All, length, slice_get, Some}
 use Rattle.su_base.specs.declared.values.Value.{Value}
 use Rattle.su_fd.specs.declared.dependencies.Fd.{Fd}
