@@ -422,7 +422,7 @@ module _ (tables : List Stored) (values : List Value) (task : Task) (es : List (
     )
 
     pub shown_more : (g : Edge ℕ) (n : ℕ) → Keeps needed es (all_hold values checks) (g ∷ []) always → ShowsMore values g terms n → AreMoreThan n (IsOutput tables task)
-    shown_more g n keeps more = record { output = more.shown; outputs = λ i l. (shown_outputs g keeps (more.shown i)).0 (more.each i l); differ = more.differ }
+    shown_more g n keeps more = record { member = more.shown; each = λ i l. (shown_outputs g keeps (more.shown i)).0 (more.each i l); differ = more.differ }
 
     module _ (n : ℕ) (more : HasMore needed (Some n) es (all_hold values checks)) where
       bound_is : more.bound ≡ n
