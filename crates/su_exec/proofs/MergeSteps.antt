@@ -47,13 +47,13 @@ module _ (values : List Value) (needed : List ℕ) (olds news : List Check) (tes
         let pass : (ℕ → ℕ) → Bool = test_at (all_pass values tests) a.vars a.vars in
         moved (λ es. Keeps needed (a ∷ rest) (all_hold values olds) es (all_hold values news)) g (
           λ v f p.
-          let both = sym (same values v) ∙ p in
-          let fit : Fits v g = (sifted.rows v).1 (All-head (Fits v) a rest f, and_first (pass v) (all_hold values news v) both) in
-          record { valuation = v; fits = (moved_back g rest v).0 (All-cons (Fits v) g rest fit (All-tail (Fits v) a rest f)); passes = and_second (pass v) (all_hold values news v) both; same = refl },
+              let both = sym (same values v) ∙ p in
+              let fit : Fits v g = (sifted.rows v).1 (All-head (Fits v) a rest f, and_first (pass v) (all_hold values news v) both) in
+              record { valuation = v; fits = (moved_back g rest v).0 (All-cons (Fits v) g rest fit (All-tail (Fits v) a rest f)); passes = and_second (pass v) (all_hold values news v) both; same = refl },
           λ v f p.
-          let all : FitsAll v (g ∷ rest) = (moved_back g rest v).1 f in
-          let fit = (sifted.rows v).0 (All-head (Fits v) g rest all) in
-          record { valuation = v; fits = All-cons (Fits v) a rest fit.0 (All-tail (Fits v) g rest all); passes = same values v ∙ and_both (pass v) (all_hold values news v) fit.1 p; same = refl },
+              let all : FitsAll v (g ∷ rest) = (moved_back g rest v).1 f in
+              let fit = (sifted.rows v).0 (All-head (Fits v) g rest all) in
+              record { valuation = v; fits = All-cons (Fits v) a rest fit.0 (All-tail (Fits v) g rest all); passes = same values v ∙ and_both (pass v) (all_hold values news v) fit.1 p; same = refl },
         )
 
     pub sifted_there : AreThere needed olds (a ∷ rest) → AreThere needed news (after ++ g ∷ [])

@@ -28,14 +28,14 @@ pub sifted : (t : List ℕ → List ℕ → Bool) (a : Edge ℕ) (marks : List B
 sifted t a marks exact = record {
   vars = refl;
   rows = λ v. (
-      λ f.
-      let s = marked_from marks a.rows (map v a.vars) f in
-      ((s.0, s.1, get_or_default a.rows s.0 (map v a.vars) [] s.1 ∙ s.3), ap (λ r. t r r) (sym s.3) ∙ sym (exact s.0 s.1) ∙ s.2),
-      λ both.
-      let f = both.0 in
-      let at : get_or a.rows f.0 [] ≡ map v a.vars = get_or_default a.rows f.0 [] (map v a.vars) f.1 ∙ f.2 in
-      subst (λ r. Contains (marked marks a.rows) r) at (marked_has marks a.rows f.0 f.1 (exact f.0 f.1 ∙ ap (λ r. t r r) at ∙ both.1)),
-    );
+    λ f.
+        let s = marked_from marks a.rows (map v a.vars) f in
+        ((s.0, s.1, get_or_default a.rows s.0 (map v a.vars) [] s.1 ∙ s.3), ap (λ r. t r r) (sym s.3) ∙ sym (exact s.0 s.1) ∙ s.2),
+    λ both.
+        let f = both.0 in
+        let at : get_or a.rows f.0 [] ≡ map v a.vars = get_or_default a.rows f.0 [] (map v a.vars) f.1 ∙ f.2 in
+        subst (λ r. Contains (marked marks a.rows) r) at (marked_has marks a.rows f.0 f.1 (exact f.0 f.1 ∙ ap (λ r. t r r) at ∙ both.1)),
+  );
 }
 
 -- where every pair passes, nothing is lost

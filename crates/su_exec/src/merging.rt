@@ -169,12 +169,7 @@ fn passing_marks(
 }
 
 /// Takes the rows out that fail the tests.
-fn sift(
-    alloc: Global,
-    codes: &Codes,
-    a: &mut Candidates,
-    tests: &[Test],
-) -> Result<(), AllocError>
+fn sift(alloc: Global, codes: &Codes, a: &mut Candidates, tests: &[Test]) -> Result<(), AllocError>
     requires { All (IsTestIn (length a.old.vars) (length a.old.vars)) tests.now }
     ensures { IfOk result (λ _. IsSifted (all_pass codes.now tests.now) a.old a.new) }
 {
