@@ -64,12 +64,6 @@ moved_back a rs v = (
   λ all. (front_out a rs v).1 ((put_in rs a v).0 all),
 )
 
-pub same_body : (ks : List ℕ) (es fs : List (Edge ℕ)) (s u : (ℕ → ℕ) → Bool) → Same es fs → ((v : ℕ → ℕ) → s v ≡ u v) → Keeps ks es s fs u
-same_body ks es fs s u same tests = (
-  λ v f p. record { valuation = v; fits = (same v).0 f; passes = sym (tests v) ∙ p; same = refl },
-  λ v f p. record { valuation = v; fits = (same v).1 f; passes = tests v ∙ p; same = refl },
-)
-
 -- ---- needed variables stay
 
 pub among_first : (es fs : List (Edge ℕ)) (k : ℕ) → among es k ≡ true → among (es ++ fs) k ≡ true

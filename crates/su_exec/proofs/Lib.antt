@@ -19,6 +19,7 @@ pub mod Meanings
 pub mod GatheredRows
 pub mod CellShapes
 pub mod Sides
+pub mod Sifted
 pub mod Ways
 pub mod Sources
 pub mod RemainingRows

@@ -1,12 +1,13 @@
 -- Steps of merging: one edge shrinks, two are joined, or are taken out.
-use Rattle.std.proofs.Common.{◌≡◌, ℕ, ◌+◌, ◌-◌, ◌<◌, ◌≤◌, ◌⊎◌, Bool, true, false, Option, None, List, [], ◌∷◌, ◌++◌, length, get_or, set, sym, ap, subst, ◌∙◌, inl, inr, ⊎_elim, arith}
+use Rattle.std.proofs.Common.{◌≡◌, ℕ, ◌+◌, ◌-◌, ◌<◌, ◌≤◌, ◌⊎◌, Bool, true, false, Option, None, List, [], ◌∷◌, ◌++◌, length, get_or, set, refl, sym, ap, subst, ◌∙◌, inl, inr, ⊎_elim, arith}
 use Rattle.std.specs.Prelude.{map, nat_lt, MatchBool, ◌&&◌, ◌||◌}
 use Rattle.std.specs.List.{remove}
-use Rattle.std.specs.Cmp.{second_so}
+use Rattle.std.specs.Cmp.{first_so, second_so}
 use Rattle.std.proofs.lemmas.Bool.{cases_Bool, cases_eq, cases_lt, true≢false}
 use Rattle.std.proofs.lemmas.Bool.Decides.{nat_tests}
 use Rattle.std.proofs.lemmas.List.{get_or_default, get_or-set_same, get_or-set_other, length-set}
 use Rattle.std.proofs.lemmas.List.Edits.{length-remove, get_or-remove_below, get_or-remove_above}
+use Rattle.std.proofs.lemmas.List.Elements.{All-cons, All-head, All-tail}
 use Rattle.std.proofs.lemmas.List.Folds.{Any-from_list_any, list_any_at}
 use Rattle.su_base.specs.declared.values.Value.{Value}
 use Rattle.su_exec.specs.declared.checks.Check.{Check}
@@ -15,10 +16,11 @@ use Rattle.su_exec.specs.inside.Bodies.{AreAlone, AreThere, IsGiven, IsOver, IsW
 use Rattle.su_exec.specs.inside.Checks.{all_hold, all_pass, check_vars}
 use Rattle.su_exec.specs.inside.Edges.{Edge, Fits, FitsAll, Keeps, Splits, among, always, has}
 use Rattle.su_exec.specs.inside.Joins.{IsJoinOf, IsReal, IsUpTo, test_at}
+use Rattle.su_exec.specs.inside.Sifts.{IsSifted}
 use Rattle.su_exec.proofs.ProjectedJoins.{is_test, first_among, second_among}
 use Rattle.su_exec.proofs.PartSteps.{agree_from, and_both, fits_agree, patched, patched_in, patched_out}
 use Rattle.su_exec.proofs.Parts.{alone, one_of, put_step, shrunk, test_once, twice}
-use Rattle.su_exec.proofs.BodySteps.{front_out, front_parts, has_first, has_second, hold_test, moved_back, same_body, there_step}
+use Rattle.su_exec.proofs.BodySteps.{front_out, front_parts, has_first, has_second, hold_test, moved_back, there_step}
 
 -- ---- fronts
 
@@ -39,16 +41,27 @@ module _ (values : List Value) (needed : List ℕ) (olds news : List Check) (tes
   moved : (P : List (Edge ℕ) → Type 0) (g : Edge ℕ) → P (rest ++ g ∷ []) → P (after ++ g ∷ [])
   moved P g p = subst (λ (es : List (Edge ℕ)). P (es ++ g ∷ [])) (sym kept) p
 
-  -- an edge that stays as it is
-  pub stays_keeps : tests ≡ [] → Keeps needed (a ∷ rest) (all_hold values olds) (after ++ a ∷ []) (all_hold values news)
-  stays_keeps none =
-      moved (λ es. Keeps needed (a ∷ rest) (all_hold values olds) es (all_hold values news)) a
-      (same_body needed (a ∷ rest) (rest ++ a ∷ []) (all_hold values olds) (all_hold values news) (moved_back a rest) (λ v. same values v ∙ ap (λ ts. all_pass values ts (map v a.vars) (map v a.vars) && all_hold values news v) none))
+  -- an edge that loses the rows that fail the tests
+  module _ (g : Edge ℕ) (sifted : IsSifted (all_pass values tests) a g) where
+    pub sifted_keeps : Keeps needed (a ∷ rest) (all_hold values olds) (after ++ g ∷ []) (all_hold values news)
+    sifted_keeps =
+        let pass : (ℕ → ℕ) → Bool = test_at (all_pass values tests) a.vars a.vars in
+        moved (λ es. Keeps needed (a ∷ rest) (all_hold values olds) es (all_hold values news)) g (
+          λ v f p.
+              let both = sym (same values v) ∙ p in
+              let fit : Fits v g = (sifted.rows v).1 (All-head (Fits v) a rest f, first_so (pass v) (all_hold values news v) both) in
+              record { valuation = v; fits = (moved_back g rest v).0 (All-cons (Fits v) g rest fit (All-tail (Fits v) a rest f)); passes = second_so (pass v) (all_hold values news v) both; same = refl },
+          λ v f p.
+              let all : FitsAll v (g ∷ rest) = (moved_back g rest v).1 f in
+              let fit = (sifted.rows v).0 (All-head (Fits v) g rest all) in
+              record { valuation = v; fits = All-cons (Fits v) a rest fit.0 (All-tail (Fits v) g rest all); passes = same values v ∙ and_both (pass v) (all_hold values news v) fit.1 p; same = refl },
+        )
 
-  pub stays_there : AreThere needed olds (a ∷ rest) → AreThere needed news (after ++ a ∷ [])
-  stays_there there =
-      moved (λ es. AreThere needed news es) a
-      (there_step needed olds news (a ∷ rest) (a ∷ []) rest a there (front_parts a rest) fewer (λ k h n. alone a k h) (λ k h n. alone a k h))
+    pub sifted_there : AreThere needed olds (a ∷ rest) → AreThere needed news (after ++ g ∷ [])
+    sifted_there there =
+        let out : (k : ℕ) → among (a ∷ []) k ≡ true → has g.vars k ≡ true = λ k h. ap (λ ks. has ks k) sifted.vars ∙ alone a k h in
+        moved (λ es. AreThere needed news es) g
+        (there_step needed olds news (a ∷ rest) (a ∷ []) rest g there (front_parts a rest) fewer (λ k h n. out k h) (λ k h n. out k h))
 
   -- an edge that is joined with itself
   module _ (wanted : List ℕ) (g : Edge ℕ) (in_needed : (k : ℕ) → has needed k ≡ true → has wanted k ≡ true) (in_rest : (k : ℕ) → among rest k ≡ true → has wanted k ≡ true) (in_checks : (k : ℕ) → has (check_vars news) k ≡ true → has wanted k ≡ true)

@@ -9,5 +9,6 @@ pub mod Plans
 pub mod Ranges
 pub mod Semijoins
 pub mod Shown
+pub mod Sifts
 pub mod Threes
 pub mod Ways

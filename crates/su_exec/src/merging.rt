@@ -1,11 +1,12 @@
 //! A body: candidates that are to agree, and checks that are to hold. It is merged to one.
-ghost use Rattle.std.specs.Prelude.{◌≡◌, ◌<◌, ◌+◌, ◌++◌, ◌⊎◌, ℕ, true, [], ◌∷◌, length, None, IfOk, IsTrue, MatchBool};
+ghost use Rattle.std.specs.Prelude.{◌≡◌, ◌<◌, ◌+◌, ◌++◌, ◌⊎◌, ℕ, true, [], ◌∷◌, length, All, None, IfOk, IsTrue, MatchBool};
 ghost use Rattle.su_exec.specs.inside.Bodies.{AreAlone, AreThere, IsEmpty, IsEnd, IsGiven, IsMerged, IsRest, IsStep, IsTold, IsWanted, gone, still};
-ghost use Rattle.su_exec.specs.inside.Checks.{all_hold, check_vars, vars_of};
+ghost use Rattle.su_exec.specs.inside.Checks.{IsTestIn, all_hold, all_pass, check_vars, vars_of};
 ghost use Rattle.su_exec.specs.inside.Edges.{Fits, Keeps, always, among, has};
+ghost use Rattle.su_exec.specs.inside.Sifts.{AreMarks, IsSifted};
 
 use crate::candidates::{Candidates, join_all};
-use crate::checks::{Check, CodedSymbol, Test, take_tests};
+use crate::checks::{Check, CodedSymbol, Test, passes, take_tests};
 use crate::cycles::close_cycles;
 use crate::joins::is_past;
 use crate::narrowing::narrow;
@@ -143,14 +144,41 @@ fn bound_of(left: &[u32], right: &[u32], others: &[u32], most: Option<usize>) ->
     None
 }
 
-/// Whether there is nothing to test and nothing to leave out.
-fn is_whole(tests: &[Test], vars: &[u32], wanted: &[u32]) -> bool
-    ensures { IsTrue result → tests.now ≡ [] }
-{
-    if !tests.is_empty() {
-        return false;
-    }
+/// Whether each variable is wanted.
+fn are_wanted(vars: &[u32], wanted: &[u32]) -> bool {
     vars.iter().all(|x| is_in(wanted, *x))
+}
+
+/// Which rows pass the tests, each beside itself.
+fn passing_marks(
+    alloc: Global,
+    codes: &Codes,
+    a: &Candidates,
+    tests: &[Test],
+) -> Result<Vec<bool>, AllocError>
+    requires { All (IsTestIn (length a.now.vars) (length a.now.vars)) tests.now }
+    ensures length { IfOk result (λ marks. length marks.items ≡ length a.now.rows) }
+    ensures exact { IfOk result (λ marks. AreMarks (all_pass codes.now tests.now) a.now.rows (length a.now.rows) marks.items) }
+{
+    let mut marks = Vec::with_capacity(alloc, a.len())?;
+    for i in 0..a.len() {
+        let row = a.rows().row(i);
+        marks.push(passes(codes, tests, row, row))?;
+    }
+    Ok(marks)
+}
+
+/// Takes the rows out that fail the tests.
+fn sift(alloc: Global, codes: &Codes, a: &mut Candidates, tests: &[Test]) -> Result<(), AllocError>
+    requires { All (IsTestIn (length a.old.vars) (length a.old.vars)) tests.now }
+    ensures { IfOk result (λ _. IsSifted (all_pass codes.now tests.now) a.old a.new) }
+{
+    if tests.is_empty() {
+        return Ok(());
+    }
+    let marks = passing_marks(alloc, codes, a, tests)?;
+    a.keep(&marks);
+    Ok(())
 }
 
 /// The candidates that meet the checks on them alone, without the columns that nothing needs.
@@ -168,8 +196,10 @@ fn shrunk(
 {
     let tests = take_tests(alloc, &mut rest.checks, a.vars(), a.vars())?;
     let wanted = wanted_by(alloc, rest, needed)?;
-    if is_whole(&tests, a.vars(), &wanted) {
-        return Ok(a);
+    if are_wanted(a.vars(), &wanted) {
+        let mut sifted = a;
+        sift(alloc, codes, &mut sifted, &tests)?;
+        return Ok(sifted);
     }
     let joined = join_all(alloc, codes, &a, &a, tests, &wanted, None)?;
     Ok(joined)

@@ -25,7 +25,7 @@ returns-clause-way g c = λ values es.
     let source = c.args.source.now in
     let value : Value = c.constant_of-value.result.now in
     let is : slice_get c.args.row.now.cells c.in-Some.p ≡ Some (Const value) = rw c.constant_of-value.ensures at c.get.ensures in
-    let positions : List ℕ = c.in_ok-positions.items in
+    let positions : List ℕ = c.in_ok-positions.positions.items in
     let all : AreMatches c.get-2.result.now value (table_at T source.relation).rows positions = c.in_ok-positions.ensures.found in (
       constant_way T c.args.row.now source c.in-Some.p c.get-2.result.now c.requires c.len-count.ensures.relation c.get-2.ensures values es value positions is all,
       c.in_ok-positions.ensures.few,

@@ -1,8 +1,7 @@
-use Rattle.std.proofs.Common.{◌≡◌, ◌<◌, ◌+◌, ◌∙◌, ◌++◌, ◌∷◌, [], ap, arith}
+use Rattle.std.proofs.Common.{◌≡◌, ◌+◌, ◌∙◌, ◌++◌, ◌∷◌, List, [], get_or, ap, arith}
 use Rattle.su_index.specs.declared.entry.Entry.{Entry}
 use Rattle.su_index.specs.Chunks.{entries_of}
 use Rattle.su_index.specs.inside.Chunks.{rank_in}
-use Rattle.std.proofs.Common.{List, get_or}
 use Rattle.su_index.proofs.Entries.{stretch_more}
 use Rattle.su_index.proofs.chunks.add_stretch.Goals as goal
 
