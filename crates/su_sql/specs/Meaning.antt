@@ -1,6 +1,6 @@
 -- What the selects of a query mean.
 -- They are made for the kept terms of the prepared query, one for each, and give its answer over any stored rows.
-use Rattle.std.specs.Prelude.{◌≡◌, ◌↔◌, List, []}
+use Rattle.std.specs.Prelude.{◌≡◌, ◌↔◌, List}
 use Rattle.std.specs.List.{AllZip}
 use Rattle.std.specs.Ordering.{nat_cmp}
 use Rattle.std.specs.FinSet.{FinSet}

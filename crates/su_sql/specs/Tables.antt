@@ -26,10 +26,14 @@ source_columns d schema s = map (source_column d schema s) (range_with_len 0 (le
 abbrev pub source_text : Dialect → SchemaValue → Source → List ℕ
 source_text d schema s = led (codes "select ") (codes ", ") (one_at_least (source_columns d schema s)) ++ codes " from " ++ relation_text d schema s.relation
 
--- the relation of the one source, or the union of the columns of several
+-- the union of the columns of several sources
+abbrev pub united_text : Dialect → SchemaValue → List Source → List ℕ
+united_text d schema sources = codes "(" ++ led [] (codes " union ") (map (source_text d schema) sources) ++ codes ")"
+
+-- the relation of the one source, or the union of several
 abbrev pub sources_text : Dialect → SchemaValue → List Source → List ℕ
 sources_text d schema (s ∷ []) = relation_text d schema s.relation
-sources_text d schema sources = codes "(" ++ led [] (codes " union ") (map (source_text d schema) sources) ++ codes ")"
+sources_text d schema sources = united_text d schema sources
 
 -- stands where there is no such table
 abbrev pub no_table : Table

@@ -9,7 +9,7 @@ use su_exec::TaskRow;
 use su_tableau::Sym;
 
 /// A symbol at its place.
-#[derive(Debug, Drop)]
+#[derive(Drop)]
 pub struct Cell {
     pub place: CellPlace,
     pub symbol: Sym,

@@ -1,9 +1,9 @@
 //! Tables of a select as SQL.
-ghost use Rattle.std.specs.Prelude.{◌≡◌, ◌++◌, [], length, map, get_or, codes, OnOk, IfOk};
+ghost use Rattle.std.specs.Prelude.{◌≡◌, ◌++◌, length, map, get_or, codes, OnOk, IfOk};
 ghost use Rattle.su_sql.specs.Names.{led};
 ghost use Rattle.su_sql.specs.Queries.{tables_of};
 ghost use Rattle.su_sql.specs.Operands.{value_name, kind_from};
-ghost use Rattle.su_sql.specs.Tables.{source_column, one_at_least, source_columns, source_text, sources_text, table_text, no_table};
+ghost use Rattle.su_sql.specs.Tables.{source_column, one_at_least, source_columns, source_text, united_text, sources_text, table_text, no_table};
 
 use crate::columns::{column_kind, push_column, push_relation};
 use crate::dialects::Dialect;
@@ -103,7 +103,7 @@ fn push_union(
     schema: &Schema,
     sources: &[Source],
 ) -> Result<(), NoMemory>
-    ensures { OnOk result (out.new.items ≡ out.old.items ++ codes "(" ++ led [] (codes " union ") (map (source_text dialect schema.now) sources.now) ++ codes ")") }
+    ensures { OnOk result (out.new.items ≡ out.old.items ++ united_text dialect schema.now sources.now) }
 {
     let parts = source_parts(alloc, dialect, schema, sources)?;
     push(out, "(")?;

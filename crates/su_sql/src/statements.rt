@@ -1,13 +1,12 @@
 //! One statement of a script as SQL.
-ghost use Rattle.std.specs.Prelude.{◌≡◌, ◌⊎◌, ◌≤◌, if◌then◌else◌, nat_lt, length, IfOk, IfErr, OnOk};
+ghost use Rattle.std.specs.Prelude.{◌≡◌, ◌⊎◌, ◌≤◌, IfOk, IfErr, OnOk};
 ghost use Rattle.su_maxobj.specs.MaximalObjects.{AreMaximalObjects};
 ghost use Rattle.su_query.specs.NumberedConditions.{resolved_of};
 ghost use Rattle.su_query.specs.Limits.{AreFew, HasFew};
-ghost use Rattle.su_sql.specs.Changes.{create_text};
-ghost use Rattle.su_sql.specs.Comments.{comment_text};
 ghost use Rattle.su_sql.specs.QueryReplies.{RefusesWith, WritesQuery};
 ghost use Rattle.su_sql.specs.Statements.{WritesReply, WritesStatement, WritesDefinition, Writes};
 ghost use Rattle.su_sql.specs.Accepted.{accepted_text};
+ghost use Rattle.su_sql.specs.inside.DefinedText.{IsDefinedText};
 ghost use Rattle.su_show.specs.RefusalLines.{refusal_line, IsNoMemory};
 ghost use Rattle.su_session.specs.Retrievals.{IsRefusalOf, HasTerms};
 ghost use Rattle.su_session.specs.Outcomes.{Accepts};
@@ -210,7 +209,7 @@ fn defined_text(
     said: &[u8],
 ) -> Result<List<u8>, NoMemory>
     requires { before ≤ 64 }
-    ensures { IfOk result (λ text. text ≡ (if nat_lt before (length schema.now.relations) then create_text dialect schema.now before else comment_text said.now)) }
+    ensures { IfOk result (IsDefinedText dialect before schema.now said.now) }
 {
     if before < schema.relations() {
         return create(alloc, dialect, schema, before as u8);

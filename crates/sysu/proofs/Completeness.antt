@@ -1,5 +1,5 @@
 -- Causes of faults, and what a run without any comes to.
-use Rattle.std.proofs.Common.{◌≡◌, ◌≢◌, ◌<◌, ◌≤◌, ◌∙◌, ◌⊎◌, ℕ, List, Option, Some, Ok, Err, length, refl, sym, ap, subst, inl, inr, arith}
+use Rattle.std.proofs.Common.{◌≡◌, ◌≢◌, ◌<◌, ◌⊎◌, ℕ, List, Some, Ok, Err, length, refl, sym, ap, subst, inl, inr, arith}
 use Rattle.std.specs.Prelude.{Result}
 use Rattle.su_io.specs.Causes.{Rose}
 use Rattle.su_io.specs.declared.files.File.{File as AFile}
@@ -9,7 +9,6 @@ use Rattle.su_io.specs.Files.{contents}
 use Rattle.su_io.specs.HandOver.{Closes, HandsOver}
 use Rattle.su_io.specs.Moments.{Moment}
 use Rattle.su_io.specs.Programs.{ReadsAndTells, Ends, Tells}
-use Rattle.su_io.specs.Reading.{IsOver}
 use Rattle.su_ddl.specs.declared.faults.DdlFault.{DdlFault}
 use Rattle.su_ddl.specs.Files.{Reads}
 use Rattle.su_ddl.proofs.Files.{one_outcome}
@@ -17,10 +16,9 @@ use Rattle.su_schema.specs.SchemaValue.{SchemaValue}
 use Rattle.sysu.specs.Banks.{BankEnds}
 use Rattle.sysu.specs.Causes.{Caused}
 use Rattle.sysu.specs.Complete.{IsUntroubled, IsFinished, IsComplete}
-use Rattle.sysu.specs.Due.{IsDue}
 use Rattle.sysu.specs.RunFiles.{SchemaIs}
 use Rattle.sysu.specs.Statuses.{Comes, RunEnds, RunHas}
-use Rattle.sysu.specs.Words.{Named, named, Generates}
+use Rattle.sysu.specs.Words.{Named}
 
 module _ {P : List ℕ → ℕ → List (List ℕ) → Type 0} (old new : Moment) where
   told_caused : (status : Status) → ReadsAndTells P old new status → Caused old new status

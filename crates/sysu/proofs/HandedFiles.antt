@@ -1,5 +1,5 @@
 -- What a statement was handed.
-use Rattle.std.proofs.Common.{◌≡◌, ◌≤◌, ◌∙◌, ℕ, List, [], ◌∷◌, Option, Some, None, Err, Ok, inl, inr, refl, sym, ap, subst}
+use Rattle.std.proofs.Common.{◌≡◌, ◌∙◌, ℕ, List, [], ◌∷◌, Option, Some, None, Err, Ok, inl, inr, refl, sym, ap, subst}
 use Rattle.su_io.specs.Causes.{Rose}
 use Rattle.su_io.specs.declared.status.Status.{Status}
 use Rattle.su_io.specs.declared.status.Status.TheVariants.{Done, SomeRefused, Usage, BadSchema, ReadFault, WriteFault, TooLong, NoMemory}
@@ -10,7 +10,7 @@ use Rattle.su_session.specs.declared.replies.Reply.{Reply}
 use Rattle.su_session.specs.Reply.{Replied}
 use Rattle.su_state.specs.DatabaseValue.{DatabaseValue, IsWellKept}
 use Rattle.sysu.specs.inside.HandedFiles.{Began, HandingEnds, HasTaken}
-use Rattle.sysu.specs.inside.Turns.{AnsweredOne, StopsAtFile, TurnEnds}
+use Rattle.sysu.specs.inside.Turns.{AnsweredOne, TurnEnds}
 use Rattle.sysu.specs.Handed.{IsHanded, load_limit}
 
 untouched : (db : DatabaseValue) (text : List ℕ) (old new : Moment) → new ≡ old → HasTaken db text old new

@@ -1,5 +1,5 @@
 -- From the replies of a run to what is promised of its queries.
-use Rattle.std.proofs.Common.{◌≡◌, ◌⊎◌, ℕ, zero, suc, Bool, false, List, [], ◌∷◌, Option, Some, refl, subst, inl, inr}
+use Rattle.std.proofs.Common.{◌≡◌, ℕ, zero, suc, List, [], ◌∷◌, Option, Some, refl, subst, inl, inr}
 use Rattle.std.proofs.lemmas.Option.{none-some}
 use Rattle.su_query.specs.declared.statements.Query.{Query}
 use Rattle.su_state.specs.DatabaseValue.{DatabaseValue, IsWellKept}

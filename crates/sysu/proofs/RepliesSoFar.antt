@@ -1,5 +1,5 @@
 -- The replies so far, one statement after another.
-use Rattle.std.proofs.Common.{◌≡◌, ◌++◌, ◌||◌, ◌+◌, ◌<◌, ◌≤◌, ℕ, List, [], ◌∷◌, Option, Bool, false, take, drop, length, get_or, zero, suc, refl, sym, None, Some, ◌∙◌, ap, arith, append_assoc}
+use Rattle.std.proofs.Common.{◌≡◌, ◌++◌, ◌||◌, ◌+◌, ◌<◌, ℕ, List, [], ◌∷◌, Option, Bool, false, take, drop, length, get_or, zero, suc, refl, ◌∙◌, ap, arith}
 use Rattle.std.proofs.Math.Seq.{take-suc}
 use Rattle.std.proofs.lemmas.Grind.{common_steps}
 use Rattle.su_io.specs.declared.files.File.{File}

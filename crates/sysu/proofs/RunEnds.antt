@@ -3,8 +3,7 @@ use Rattle.std.proofs.Common.{◌≡◌, ◌≢◌, ◌≤◌, ◌∙◌, ◌⊎
 use Rattle.su_io.specs.declared.files.File.{File}
 use Rattle.su_io.specs.declared.status.Status.{Status}
 use Rattle.su_io.specs.declared.status.Status.TheVariants.{Done, SomeRefused, Usage, BadSchema, ReadFault, WriteFault, TooLong, NoMemory}
-use Rattle.su_io.specs.Moments.{Moment, Told}
-use Rattle.su_io.specs.Programs.{ReadsAndTells}
+use Rattle.su_io.specs.Moments.{Moment}
 use Rattle.su_io.specs.Reading.{IsFile, FileEnds}
 use Rattle.su_io.specs.Writing.{Wrote, IsTold, WritingEnds}
 use Rattle.su_io.proofs.Programs.{ReadingEnds-from, WritingEnds-from}

@@ -1,10 +1,10 @@
 -- How a script ends: behind its last statement, or at one that stops it.
 use Rattle.std.proofs.lemmas.List.{take_all}
-use Rattle.std.proofs.Common.{◌≡◌, ◌<◌, ◌≤◌, ◌∙◌, ◌⊎◌, ◌++◌, ℕ, List, [], ◌∷◌, Option, Some, Bool, true, false, Err, take, drop, length, get_or, suc, refl, sym, ap, inl, inr, append-nil, append_assoc}
+use Rattle.std.proofs.Common.{◌≡◌, ◌<◌, ◌≤◌, ◌∙◌, ◌⊎◌, ◌++◌, ℕ, List, [], ◌∷◌, Option, Some, Bool, true, false, Err, take, drop, length, get_or, suc, refl, sym, inl, inr, append-nil, append_assoc}
 use Rattle.su_io.specs.declared.files.File.{File as AFile}
 use Rattle.su_io.specs.declared.status.Status.{Status}
 use Rattle.su_io.specs.declared.status.Status.TheVariants.{Done, SomeRefused, Usage, BadSchema, ReadFault, WriteFault, TooLong, NoMemory}
-use Rattle.su_io.specs.Moments.{Moment, Told}
+use Rattle.su_io.specs.Moments.{Moment}
 use Rattle.su_io.specs.Writing.{Wrote}
 use Rattle.su_io.proofs.Programs.{ReadingEnds-from}
 use Rattle.su_io.proofs.WrittenTexts.{Wrote-none, WroteFront-behind}
@@ -20,7 +20,7 @@ use Rattle.sysu.proofs.RepliesSoFar.{SoFar, answered_more, reply_texts-push, tex
 use Rattle.sysu.specs.Due.{FallsDue, IsDue}
 use Rattle.sysu.specs.Handed.{load_limit}
 use Rattle.sysu.specs.inside.HandedFiles.{HasTaken}
-use Rattle.sysu.specs.inside.Turns.{AnsweredOne, IsAtScript, ScriptEnds, StopsAtFile, TurnEnds}
+use Rattle.sysu.specs.inside.Turns.{AnsweredOne, IsAtScript, ScriptEnds, TurnEnds}
 use Rattle.sysu.specs.Output.{Answered, reply_texts, text_at, texts_of}
 use Rattle.sysu.specs.RunFiles.{script_limit}
 use Rattle.sysu.specs.Scripts.{Answers}

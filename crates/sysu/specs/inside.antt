@@ -1,4 +1,6 @@
 -- Definitions that only contracts of private functions need.
+pub mod Answering
+pub mod Counts
 pub mod HandedFiles
 pub mod Lines
 pub mod Queries

@@ -2,8 +2,9 @@
 use crate::top::run;
 use std::alloc::Global;
 use std::test::Fail;
+use std::thread::Threads;
 use su_base::{List, NoMemory, Str};
-use su_io::{File, MemoryShelf, MemorySink, Outside, Status, SteadyShelf, SteadySink};
+use su_io::{File, MemoryShelf, MemorySink, Outside, Shelf, Sink, Status, SteadyShelf, SteadySink};
 use su_par::OpenGate;
 
 const BANK: &str =
@@ -30,36 +31,73 @@ fn words(alloc: Global, all: &[&str]) -> Result<List<Str>, NoMemory> {
     Ok(words)
 }
 
-fn files(alloc: Global, schema: &str, script: &str) -> Result<List<File>, NoMemory> {
-    let mut files = List::new(alloc);
-    for (name, text) in [("s", schema), ("t", script)] {
-        files.push(File {
-            name: Str::new(alloc, name)?,
-            bytes: List::from_vec(text.as_bytes().to_vec(alloc)?),
-        })?;
-    }
-    Ok(files)
+/// How a run of these words ends.
+fn ran<R: Threads + Sync, H: Shelf, K: Sink>(
+    rt: &R,
+    alloc: Global,
+    all: &[&str],
+    outside: &mut Outside<H, K>,
+) -> Result<Status, NoMemory> {
+    let words = words(alloc, all)?;
+    Ok(run(rt, alloc, words.as_slice(), outside, &OpenGate))
 }
 
-/// The bank's files. One of them is a text of so many spaces where there are any.
-fn files_of(alloc: Global, long: &str, spaces: usize) -> Result<List<File>, NoMemory> {
-    let mut files = List::new(alloc);
-    for (name, text) in [("s", BANK), ("t", SCRIPT), ("g.csv", LOADED)] {
-        let bytes = if name == long {
-            vec![in alloc; b' '; spaces]?
-        } else {
-            text.as_bytes().to_vec(alloc)?
-        };
-        files.push(File {
-            name: Str::new(alloc, name)?,
-            bytes: List::from_vec(bytes),
-        })?;
-    }
-    Ok(files)
+fn file(alloc: Global, name: &str, text: &str) -> Result<File, NoMemory> {
+    Ok(File {
+        name: Str::new(alloc, name)?,
+        bytes: List::from_vec(text.as_bytes().to_vec(alloc)?),
+    })
 }
 
 fn bank_files(alloc: Global) -> Result<List<File>, NoMemory> {
-    files_of(alloc, "", 0)
+    let mut files = List::new(alloc);
+    files.push(file(alloc, "s", BANK)?)?;
+    files.push(file(alloc, "t", SCRIPT)?)?;
+    files.push(file(alloc, "g.csv", LOADED)?)?;
+    Ok(files)
+}
+
+/// The bank's files, behind a text of so many spaces under one of their names.
+fn files_behind(alloc: Global, long: &str, spaces: usize) -> Result<List<File>, NoMemory> {
+    let mut files = List::new(alloc);
+    files.push(File {
+        name: Str::new(alloc, long)?,
+        bytes: List::from_vec(vec![in alloc; b' '; spaces]?),
+    })?;
+    files.append(bank_files(alloc)?)?;
+    Ok(files)
+}
+
+fn certificate(alloc: Global) -> Result<List<File>, NoMemory> {
+    let mut files = List::new(alloc);
+    files.push(file(alloc, "s", "certificate 1 kinds int")?)?;
+    Ok(files)
+}
+
+/// The shelf reads in pieces of 100, and call number k fails.
+fn failing_shelf(
+    alloc: Global,
+    files: List<File>,
+    k: u64,
+) -> Result<Outside<MemoryShelf, SteadySink>, NoMemory> {
+    let fails = List::from_vec([k].as_slice().to_vec(alloc)?);
+    Ok(Outside {
+        shelf: MemoryShelf::new(files, fails, 100),
+        sink: SteadySink::new(alloc, 1000)?,
+    })
+}
+
+/// The sink takes pieces of 4, and call number k fails.
+fn failing_sink(
+    alloc: Global,
+    files: List<File>,
+    k: u64,
+) -> Result<Outside<SteadyShelf, MemorySink>, NoMemory> {
+    let fails = List::from_vec([k].as_slice().to_vec(alloc)?);
+    Ok(Outside {
+        shelf: SteadyShelf::new(files),
+        sink: MemorySink::new(alloc, fails, 4, 1000)?,
+    })
 }
 
 /// How many calls a file takes in pieces of 100: one to begin it, one a piece, and one to find its end.
@@ -67,52 +105,42 @@ fn calls(text: &str) -> u64 {
     (text.len() as u64).div_ceil(100).wrapping_add(2)
 }
 
+/// What is written, and which file was begun last, where call number k of the shelf fails.
+fn left_at(k: u64) -> (&'static str, &'static str) {
+    if k < calls(BANK) {
+        return ("", "s");
+    }
+    if k < calls(BANK).wrapping_add(calls(SCRIPT)) {
+        return ("", "t");
+    }
+    (REPLIES[0], "g.csv")
+}
+
 #[test]
 fn each_failing_call_of_the_shelf_leaves_the_replies_before_it(
     rt: HostRuntime,
 ) -> Result<(), Fail> {
     let alloc = rt.alloc();
-    let before = calls(BANK).wrapping_add(calls(SCRIPT));
-    let all = before.wrapping_add(calls(LOADED));
-    for k in 0..all.wrapping_add(1) {
-        let fails = List::from_vec([k].as_slice().to_vec(alloc)?);
-        let mut outside = Outside {
-            shelf: MemoryShelf::new(bank_files(alloc)?, fails, 100),
-            sink: SteadySink::new(alloc, 1000)?,
-        };
-        let got = run(
-            &rt,
-            alloc,
-            words(alloc, &["run", "s", "t"])?.as_slice(),
-            &mut outside,
-            &OpenGate,
-        );
-        if k == all {
-            assert_eq!(rt; got, Status::Done);
-        } else {
-            let (left, begun) = if k < calls(BANK) {
-                ("", "s")
-            } else if k < before {
-                ("", "t")
-            } else {
-                (REPLIES[0], "g.csv")
-            };
-            assert_eq!(rt; got, Status::ReadFault, "call {k}");
-            assert_eq!(rt; outside.sink.written(), left.as_bytes(), "call {k}");
-            assert_eq!(rt;
-                outside.shelf.begun().map(Str::as_str),
-                Some(begun),
-                "call {k}"
-            );
-        }
+    let all = calls(BANK)
+        .wrapping_add(calls(SCRIPT))
+        .wrapping_add(calls(LOADED));
+    for k in 0..all {
+        let mut outside = failing_shelf(alloc, bank_files(alloc)?, k)?;
+        let got = ran(&rt, alloc, &["run", "s", "t"], &mut outside)?;
+        let (left, begun) = left_at(k);
+        assert_eq!(rt; got, Status::ReadFault, "call {k}");
+        assert_eq!(rt; outside.sink.written(), left.as_bytes(), "call {k}");
+        let last = outside.shelf.begun().map(Str::as_str);
+        assert_eq!(rt; last, Some(begun), "call {k}");
     }
+    let mut outside = failing_shelf(alloc, bank_files(alloc)?, all)?;
+    let got = ran(&rt, alloc, &["run", "s", "t"], &mut outside)?;
+    assert_eq!(rt; got, Status::Done);
     Ok(())
 }
 
-/// The sink takes pieces of 4; behind the last piece comes the hand-over.
-#[test]
-fn each_failing_call_of_the_sink_leaves_a_front(rt: HostRuntime) -> Result<(), Fail> {
-    let alloc = rt.alloc();
+/// What was written before each call of the sink, the hand-over behind the last piece among them.
+fn fronts(alloc: Global) -> Result<Vec<Vec<u8>>, Fail> {
     let mut fronts = Vec::new(alloc);
     let mut front = Vec::new(alloc);
     for reply in REPLIES {
@@ -122,19 +150,16 @@ fn each_failing_call_of_the_sink_leaves_a_front(rt: HostRuntime) -> Result<(), F
         }
     }
     fronts.push(front)?;
+    Ok(fronts)
+}
+
+#[test]
+fn each_failing_call_of_the_sink_leaves_a_front(rt: HostRuntime) -> Result<(), Fail> {
+    let alloc = rt.alloc();
+    let fronts = fronts(alloc)?;
     for (k, front) in fronts.as_slice().iter().enumerate() {
-        let fails = List::from_vec([k as u64].as_slice().to_vec(alloc)?);
-        let mut outside = Outside {
-            shelf: SteadyShelf::new(bank_files(alloc)?),
-            sink: MemorySink::new(alloc, fails, 4, 1000)?,
-        };
-        let got = run(
-            &rt,
-            alloc,
-            words(alloc, &["run", "s", "t"])?.as_slice(),
-            &mut outside,
-            &OpenGate,
-        );
+        let mut outside = failing_sink(alloc, bank_files(alloc)?, k as u64)?;
+        let got = ran(&rt, alloc, &["run", "s", "t"], &mut outside)?;
         assert_eq!(rt; got, Status::WriteFault, "call {k}");
         assert_eq!(rt; outside.sink.written(), front.as_slice(), "call {k}");
     }
@@ -154,25 +179,14 @@ fn each_failing_call_of_the_sink_leaves_a_front_of_one_line(rt: HostRuntime) -> 
     ];
     for (all, line) in cases {
         for k in 0..line.len().div_ceil(4).wrapping_add(1) {
-            let fails = List::from_vec([k as u64].as_slice().to_vec(alloc)?);
-            let mut outside = Outside {
-                shelf: SteadyShelf::new(bank_files(alloc)?),
-                sink: MemorySink::new(alloc, fails, 4, 100)?,
-            };
-            let got = run(
-                &rt,
-                alloc,
-                words(alloc, all)?.as_slice(),
-                &mut outside,
-                &OpenGate,
-            );
-            let front = line.len().min(k.saturating_mul(4));
+            let mut outside = failing_sink(alloc, bank_files(alloc)?, k as u64)?;
+            let got = ran(&rt, alloc, all, &mut outside)?;
+            let front = line
+                .as_bytes()
+                .split_at(line.len().min(k.saturating_mul(4)))
+                .0;
             assert_eq!(rt; got, Status::WriteFault, "call {k}");
-            assert_eq!(rt;
-                outside.sink.written(),
-                line.as_bytes().split_at(front).0,
-                "call {k}"
-            );
+            assert_eq!(rt; outside.sink.written(), front, "call {k}");
         }
     }
     Ok(())
@@ -188,62 +202,45 @@ fn a_file_past_its_limit_is_the_last_begun(rt: HostRuntime) -> Result<(), Fail> 
     ];
     for (long, spaces, left) in cases {
         let mut outside = Outside {
-            shelf: SteadyShelf::new(files_of(alloc, long, spaces)?),
+            shelf: SteadyShelf::new(files_behind(alloc, long, spaces)?),
             sink: SteadySink::new(alloc, 1000)?,
         };
-        let got = run(
-            &rt,
-            alloc,
-            words(alloc, &["run", "s", "t"])?.as_slice(),
-            &mut outside,
-            &OpenGate,
-        );
+        let got = ran(&rt, alloc, &["run", "s", "t"], &mut outside)?;
         assert_eq!(rt; got, Status::TooLong, "{long}");
         assert_eq!(rt; outside.sink.written(), left.as_bytes(), "{long}");
-        assert_eq!(rt;
-            outside.shelf.begun().map(Str::as_str),
-            Some(long),
-            "{long}"
-        );
+        let last = outside.shelf.begun().map(Str::as_str);
+        assert_eq!(rt; last, Some(long), "{long}");
     }
     Ok(())
 }
 
-/// The file is begun by call 0 and read by the other two; the line is written in three pieces.
+/// The file is begun by call 0 and read by the other two.
 #[test]
-fn each_fault_ends_the_check(rt: HostRuntime) -> Result<(), Fail> {
+fn each_failing_call_of_the_shelf_ends_the_check(rt: HostRuntime) -> Result<(), Fail> {
     let alloc = rt.alloc();
-    for k in 0..3u64 {
-        let fails = List::from_vec([k].as_slice().to_vec(alloc)?);
-        let certificate = files(alloc, "certificate 1 kinds int", "")?;
-        let mut outside = Outside {
-            shelf: MemoryShelf::new(certificate, fails, 100),
-            sink: SteadySink::new(alloc, 100)?,
-        };
-        let got = run(
-            &rt,
-            alloc,
-            words(alloc, &["check", "s"])?.as_slice(),
-            &mut outside,
-            &OpenGate,
-        );
+    for k in 0..3 {
+        let mut outside = failing_shelf(alloc, certificate(alloc)?, k)?;
+        let got = ran(&rt, alloc, &["check", "s"], &mut outside)?;
         assert_eq!(rt; got, Status::ReadFault, "call {k}");
         assert!(rt; outside.sink.written().is_empty(), "call {k}");
-        let fails = List::from_vec([k].as_slice().to_vec(alloc)?);
-        let mut outside = Outside {
-            shelf: SteadyShelf::new(files(alloc, "certificate 1 kinds int", "")?),
-            sink: MemorySink::new(alloc, fails, 4, 100)?,
-        };
-        let got = run(
-            &rt,
-            alloc,
-            words(alloc, &["check", "s"])?.as_slice(),
-            &mut outside,
-            &OpenGate,
-        );
+    }
+    Ok(())
+}
+
+/// The line is written in three pieces; behind them comes the hand-over.
+#[test]
+fn each_failing_call_of_the_sink_leaves_a_front_of_the_verdict(
+    rt: HostRuntime,
+) -> Result<(), Fail> {
+    let alloc = rt.alloc();
+    for (k, front) in ["", "yes ", "yes term", "yes terms 0\n"]
+        .into_iter()
+        .enumerate()
+    {
+        let mut outside = failing_sink(alloc, certificate(alloc)?, k as u64)?;
+        let got = ran(&rt, alloc, &["check", "s"], &mut outside)?;
         assert_eq!(rt; got, Status::WriteFault, "call {k}");
-        let front = "yes terms 0\n".as_bytes().split_at(4 * k as usize).0;
-        assert_eq!(rt; outside.sink.written(), front, "call {k}");
+        assert_eq!(rt; outside.sink.written(), front.as_bytes(), "call {k}");
     }
     Ok(())
 }

@@ -1,12 +1,10 @@
 //! The statements of a script, answered one after another.
 ghost use Rattle.std.specs.Prelude.{◌≡◌, ◌≤◌, ℕ, List as Items, Some, option_map};
 ghost use Rattle.su_io.specs.Moments.{Moment};
-ghost use Rattle.su_schema.specs.SchemaValue.{SchemaValue};
 ghost use Rattle.su_session.specs.Commands.{IsRead};
-ghost use Rattle.su_session.specs.EmptyDatabase.{empty_database};
-ghost use Rattle.sysu.specs.inside.HandedFiles.{HandingEnds};
-ghost use Rattle.sysu.specs.inside.Turns.{IsAtScript, ScriptEnds, TurnEnds};
-ghost use Rattle.sysu.specs.Words.{Named};
+ghost use Rattle.sysu.specs.inside.Answering.{AnswersScript};
+ghost use Rattle.sysu.specs.inside.HandedFiles.{HandingEnds, OnlyRead};
+ghost use Rattle.sysu.specs.inside.Turns.{TurnEnds};
 
 use std::alloc::Global;
 use std::thread::Threads;
@@ -25,7 +23,7 @@ fn handed<H: Shelf, K: Sink>(
     command: &Command,
     outside: &mut Outside<H, K>,
 ) -> Result<Option<List<u8>>, Status>
-    ensures rest { outside.new ≡ record outside.old { begun = outside.new.begun; taken = outside.new.taken; failed = outside.new.failed; reads = outside.new.reads } }
+    ensures rest { OnlyRead outside.old outside.new }
     ensures ends { (text : Items ℕ) → IsRead text command.now → HandingEnds session.now text outside.old outside.new result }
 {
     match session.wants(command) {
@@ -89,7 +87,7 @@ pub(crate) fn answer_all<R: Threads + Sync, H: Shelf, K: Sink, G: Gate>(
     requires least { 1 ≤ workers }
     requires most { workers ≤ 16 }
     ensures files { outside.new.files ≡ outside.old.files }
-    ensures ends { (names : Named) (schema : SchemaValue) → session ≡ empty_database schema → IsAtScript names schema script.now outside.old → ScriptEnds names outside.old outside.new result }
+    ensures ends { AnswersScript session script.now outside.old outside.new result }
 {
     let mut session = session;
     let Ok(spans) = cut(alloc, script) else {

@@ -7,6 +7,7 @@ ghost use Rattle.su_show.specs.Refusals.{schema_line, IsOfText};
 ghost use Rattle.sysu.specs.Causes.{Caused};
 ghost use Rattle.sysu.specs.Complete.{IsComplete};
 ghost use Rattle.sysu.specs.Headline.{Headline};
+ghost use Rattle.sysu.specs.inside.Counts.{IsCountWhere};
 ghost use Rattle.sysu.specs.inside.Lines.{LineEnds};
 ghost use Rattle.sysu.specs.Statuses.{Comes, RunEnds};
 ghost use Rattle.sysu.specs.Words.{named, checks, is_count, usage_line};
@@ -34,7 +35,7 @@ const SCRIPT_LIMIT: u64 = 1 << 24;
 
 /// The digit, from 1 to 9.
 fn digit(d: u8) -> Option<u8>
-    ensures { MatchOption result ((nat_lt 48 d && nat_lt d 58) ≡ false) (λ n. ((nat_lt 48 d && nat_lt d 58) ≡ true) × (1 ≤ n) × (n ≤ 16)) }
+    ensures { IsCountWhere (nat_lt 48 d && nat_lt d 58) result }
 {
     if b'0' < d && d <= b'9' {
         return Some(d - b'0');
@@ -44,7 +45,7 @@ fn digit(d: u8) -> Option<u8>
 
 /// The number of a 1 and a digit, from 10 to 16.
 fn two_digits(one: u8, d: u8) -> Option<u8>
-    ensures { MatchOption result ((nat_eq one 49 && (nat_lt 47 d && nat_lt d 55)) ≡ false) (λ n. ((nat_eq one 49 && (nat_lt 47 d && nat_lt d 55)) ≡ true) × (1 ≤ n) × (n ≤ 16)) }
+    ensures { IsCountWhere (nat_eq one 49 && (nat_lt 47 d && nat_lt d 55)) result }
 {
     if one == b'1' && b'0' <= d && d <= b'6' {
         return Some(d - b'0' + 10);
@@ -54,7 +55,7 @@ fn two_digits(one: u8, d: u8) -> Option<u8>
 
 /// The number of workers, from 1 to 16, where the digits are its decimal.
 fn worker_count(digits: &[u8]) -> Option<u8>
-    ensures { MatchOption result (is_count digits.now ≡ false) (λ n. (is_count digits.now ≡ true) × (1 ≤ n) × (n ≤ 16)) }
+    ensures { IsCountWhere (is_count digits.now) result }
 {
     match digits {
         [d] => digit(*d),

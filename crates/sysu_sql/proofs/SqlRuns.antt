@@ -1,5 +1,5 @@
 -- How a run ends, from how its files are read and its text is told.
-use Rattle.std.proofs.Common.{◌≡◌, ◌≢◌, ◌≤◌, ◌⊎◌, ◌∙◌, ℕ, List, [], ◌∷◌, Some, Ok, Err, Bool, true, false, refl, sym, ap, subst, inl, inr}
+use Rattle.std.proofs.Common.{◌≡◌, ◌≢◌, ◌≤◌, ◌⊎◌, ◌∙◌, ℕ, List, [], ◌∷◌, Some, Err, Bool, true, false, refl, sym, ap, subst, inl, inr}
 use Rattle.su_io.specs.declared.status.Status.{Status}
 use Rattle.su_io.specs.declared.status.Status.TheVariants.{Done, SomeRefused, Usage, BadSchema, ReadFault, WriteFault, TooLong, NoMemory}
 use Rattle.su_io.specs.Moments.{Moment}

@@ -10,6 +10,10 @@ use Rattle.su_session.specs.declared.wants.Want.TheVariants.{Nothing, File}
 use Rattle.su_session.specs.WantedFiles.{Wants}
 use Rattle.sysu.specs.Handed.{load_limit}
 
+-- no more changed than what the shelf tells of its reading
+abbrev pub OnlyRead : Moment → Moment → Type 0
+OnlyRead old new = new ≡ record old { begun = new.begun; taken = new.taken; failed = new.failed; reads = new.reads }
+
 -- the statement wants this file, and it was the last one begun
 pub record Began (db : DatabaseValue) (text path : List ℕ) (new : Moment) : Type 0 where
   pub wanted : Wants db text (File path)

@@ -1,13 +1,13 @@
 -- How one statement of a script ends, and all of them.
 -- No public contract cites this module.
-use Rattle.std.specs.Prelude.{◌≡◌, ◌≤◌, ◌∷◌, [], ℕ, List, Option, Some, Bool, Result, Ok, Err, length}
+use Rattle.std.specs.Prelude.{◌≡◌, ◌≤◌, ◌∷◌, [], ℕ, List, Option, Some, Bool, Result, Ok, Err}
 use Rattle.su_io.specs.Causes.{Rose}
 use Rattle.su_io.specs.declared.files.File.{File}
 use Rattle.su_io.specs.declared.status.Status.{Status}
 use Rattle.su_io.specs.declared.status.Status.TheVariants.{ReadFault, WriteFault, TooLong, NoMemory}
 use Rattle.su_io.specs.Moments.{Moment}
 use Rattle.su_io.specs.Programs.{ReadsAndTells}
-use Rattle.su_io.specs.Reading.{IsFile, ReadingEnds}
+use Rattle.su_io.specs.Reading.{ReadingEnds}
 use Rattle.su_io.specs.Writing.{Wrote, WroteFront}
 use Rattle.su_schema.specs.SchemaValue.{SchemaValue}
 use Rattle.su_session.specs.declared.replies.Reply.{Reply}

@@ -1,4 +1,4 @@
-use Rattle.std.proofs.Common.{refl, subst, sym, ap, ◌∙◌, Err}
+use Rattle.std.proofs.Common.{subst, sym, ap, ◌∙◌, Err}
 use Rattle.std.proofs.lemmas.Result.{err_from_is_err_and}
 use Rattle.su_io.specs.Moments.{Moment}
 use Rattle.sysu.specs.inside.Turns.{TurnEnds}

@@ -1,4 +1,3 @@
-use Rattle.std.proofs.Common.{refl}
 use Rattle.su_io.proofs.Programs.{handed_over}
 use Rattle.sysu.specs.Statuses.{Comes}
 use Rattle.sysu.proofs.Completeness.{caused_over, complete}

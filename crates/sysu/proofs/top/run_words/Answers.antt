@@ -1,6 +1,6 @@
-use Rattle.std.proofs.Common.{refl, sym, inr}
+use Rattle.std.proofs.Common.{sym}
 use Rattle.sysu.proofs.Completeness.{ends_caused, tells_caused}
-use Rattle.sysu.proofs.Commands.{run_is, check_is, generate_is, usage_is}
+use Rattle.sysu.proofs.Commands.{run_is, check_is, generate_is}
 use Rattle.sysu.proofs.top.run_words.Goals as goal
 
 pub returns-in-Some-clause-comes : goal.returns-in-Some-clause-comes
