@@ -6,7 +6,7 @@ use Rattle.std.proofs.lemmas.List.Sums.{count_by_more_no, count_by_more_yes}
 use Rattle.std.proofs.lemmas.Option.{slice_get_within, slice_get-get_or, get_or_from_slice_get}
 use Rattle.su_base.specs.declared.values.Value.{Value}
 use Rattle.su_index.specs.Matches.{has_value, matches, AreAdded, AreMatches, IsMatch}
-use Rattle.su_exec_tests.specs.Scans.{AreAddedBelow}
+use Rattle.su_exec_tests.specs.inside.Scans.{AreAddedBelow}
 
 module _ (column : ℕ) (value : Value) (rows : List (List Value)) where
   pub added_none : (before : List ℕ) → AreAddedBelow column value rows 0 before before

@@ -2,7 +2,7 @@
 ghost use Rattle.std.specs.Prelude.{◌≡◌, ◌<◌, ◌≤◌, ◌+◌, List as Items, ℕ, IfOk, length, slice_index_or};
 ghost use Rattle.su_rel.specs.Stored.{Stored, IsRelation};
 ghost use Rattle.su_index.specs.Matches.{AreAdded, has_value, matches};
-ghost use Rattle.su_exec_tests.specs.Scans.{AreAddedBelow};
+ghost use Rattle.su_exec_tests.specs.inside.Scans.{AreAddedBelow};
 
 use std::alloc::{AllocError, Global};
 use std::marker::Model;

@@ -4,10 +4,10 @@ use Rattle.su_schema.specs.Entries.{relation_columns}
 use Rattle.su_where.specs.Places.{Fits}
 use Rattle.su_state.specs.DatabaseValue.{columns_of}
 use Rattle.su_state.proofs.Kept.{columns_read}
-use Rattle.su_state_tests.proofs.tests.delete_some.Goals as goal
+use Rattle.su_state_tests.proofs.tests.delete_ascending.Goals as goal
 
 pub delete_where-requires-clause-places : goal.delete_where-requires-clause-places
 delete_where-requires-clause-places c =
     let at = subst (λ (s : SchemaValue). slice_get (relation_columns s) 0 ≡ Some c.columns.result.now) c.schema-2.ensures c.columns.ensures.at in
     let two : length (columns_of c.args.db.now 0) ≡ 2 = ap length (columns_read c.args.db.now 0 c.columns.result.now at) ∙ c.if-columns-ne2.false in
-    subst (λ (n : ℕ). Fits n c.in_ok-condition.condition) (sym two) c.in_ok-condition.ensures
+    subst (λ (n : ℕ). Fits n c.first_is_at_most_second.result) (sym two) c.first_is_at_most_second.ensures
