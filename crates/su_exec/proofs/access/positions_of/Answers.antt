@@ -19,7 +19,7 @@ loop-i-preserved g c =
     let after : List ℕ = c.add_positions.new.positions.items in
     let added : AreAdded c.args.column value rows before after = OnTrue_at c.if-not-branch.false c.in_ok-add_positions.ensures.added in
     let found : List ℕ = added.found in
-    let long : length after ≡ length (before ++ found) = ap {y = before ++ found} length added.behind in
+    let long : length after ≡ length (before ++ found) = ap length added.behind in
     let count = added.matches.count in
     let few = c.in_ok-add_positions.ensures.few.0 c.if-not-branch.false in
     record {
