@@ -1,15 +1,12 @@
 -- Names that are looked up, one ref after the other.
-use Rattle.std.proofs.Common.{◌≡◌, ◌<◌, ◌+◌, ◌⊎◌, ℕ, Some, None, cond, List, [], ◌∷◌, ◌++◌, map, length, get_or, take, drop, Bor, inl, inr, sym, ap, ◌∙◌}
+use Rattle.std.proofs.Common.{◌≡◌, ◌<◌, ◌+◌, ℕ, Some, cond, List, [], ◌∷◌, ◌++◌, map, length, get_or, take, drop, Bor, sym, ap, ◌∙◌}
 use Rattle.std.specs.Prelude.{is_none, find, option_map}
 use Rattle.std.proofs.lemmas.List.{map_push, take_more}
 use Rattle.su_schema.specs.SchemaValue.{SchemaValue}
 use Rattle.su_schema.specs.Entries.{place_of}
 use Rattle.su_query.specs.declared.refs.Ref.{Ref}
 use Rattle.su_query.specs.declared.scopes.Scope.{Scope}
-use Rattle.su_query.specs.declared.faults.QueryFault.{QueryFault}
-use Rattle.su_query.specs.declared.faults.QueryFault.TheVariants.{NoMemory}
 use Rattle.su_query.specs.Scopes.{names_in, is_unknown, first_unknown}
-use Rattle.su_query.specs.Lookup.{unknown_in}
 use Rattle.su_query.proofs.Found.{lent-drop}
 
 abbrev lent : List (Bor Ref) → List Ref
@@ -26,15 +23,3 @@ module _ (refs : List (Bor Ref)) (i : ℕ) (r : Bor Ref) (h : i < length refs) (
     known_here n is =
         ap (first_unknown (names_in schema scope)) (lent-drop refs i r h e)
         ∙ ap (λ o. option_map (λ (x : Ref). x.attribute) (cond (is_none o) (Some r.now) (find (is_unknown (names_in schema scope)) (lent (drop (i + 1) refs))))) is
-
-    unknown_here : place_of (names_in schema scope) r.now.attribute ≡ None → first_unknown (names_in schema scope) (lent (drop i refs)) ≡ Some r.now.attribute
-    unknown_here is =
-        ap (first_unknown (names_in schema scope)) (lent-drop refs i r h e)
-        ∙ ap (λ o. option_map (λ (x : Ref). x.attribute) (cond (is_none o) (Some r.now) (find (is_unknown (names_in schema scope)) (lent (drop (i + 1) refs))))) is
-
-    -- where this is the first unknown name
-    pub refused_here : (fault : QueryFault) → first_unknown (names_in schema scope) (lent (drop i refs)) ≡ first_unknown (names_in schema scope) (lent refs)
-        → (fault ≡ NoMemory) ⊎ ((place_of (names_in schema scope) r.now.attribute ≡ None) × (fault ≡ unknown_in scope r.now.attribute))
-        → (fault ≡ NoMemory) ⊎ (option_map (unknown_in scope) (first_unknown (names_in schema scope) (lent refs)) ≡ Some fault)
-    refused_here fault known (inl memory) = inl memory
-    refused_here fault known (inr (none, is)) = inr (ap (option_map (unknown_in scope)) (sym known ∙ unknown_here none) ∙ ap Some (sym is))

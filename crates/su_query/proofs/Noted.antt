@@ -1,5 +1,5 @@
 -- The number of a place stays when more places are noted.
-use Rattle.std.proofs.Common.{◌≡◌, ◌<◌, ◌+◌, ℕ, Bool, true, false, not, cond, suc, Option, Some, None, List, [], ◌∷◌, ◌++◌, length, refl, sym, ap, ◌∙◌, arith, length-append}
+use Rattle.std.proofs.Common.{◌≡◌, ◌<◌, ◌+◌, ℕ, Bool, true, false, not, cond, suc, Option, Some, None, List, [], ◌∷◌, ◌++◌, length, refl, sym, ap, arith, length-append}
 use Rattle.std.specs.List.{position, position_or_len, list_any}
 use Rattle.std.proofs.lemmas.Bool.Decides.{nat_tests}
 use Rattle.su_schema.specs.SchemaValue.{SchemaValue}
@@ -44,7 +44,7 @@ module _ {X : Type 0} (p : X → Bool) (xs : List X) where
 
 -- ---- places
 
-same_place-refl : (p : Place) → same_place p p ≡ true
+pub same_place-refl : (p : Place) → same_place p p ≡ true
 same_place-refl p = grind (arith, nat_tests)
 
 module _ (place : Place) (seen : List Place) where

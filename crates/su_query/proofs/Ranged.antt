@@ -32,6 +32,7 @@ use Rattle.su_query.specs.KindDifferences.{differing_kinds}
 use Rattle.su_query.specs.Lookup.{unknown_in, first_fault, IsKnownQuery, IsColumnCondition}
 use Rattle.su_query.specs.Ranges.{IsPlaceAmong, place_kinds, IsResolved, IsOnColumns}
 use Rattle.su_base.proofs.Items.{All-append_left, All-append_right}
+use Rattle.su_query.proofs.Noted.{same_place-refl}
 use Rattle.su_query.proofs.Hits.{Hit, hit_any, hit_some, any-push, any-last, none_found}
 use Rattle.su_query.proofs.Placed.{few_variables, few_places}
 use Rattle.su_query.proofs.Literals.{IsNumbered, typed}
@@ -61,9 +62,6 @@ mentions-has seen (x ∷ xs) =
           (mentions-keep (same_variable x.variable) (seen ++ x.variable ∷ []) xs (any-last (same_variable x.variable) seen x.variable (same_variable-refl x.variable)))
           (mentions-has (seen ++ x.variable ∷ []) xs)
     ] refl
-
-same_place-refl : (p : Place) → same_place p p ≡ true
-same_place-refl p = grind (arith, nat_tests)
 
 module _ (schema : SchemaValue) (vs : List (Option (List ℕ))) where
   places-keep : (p : Place → Bool) (seen : List Place) (xs : List ARef) → list_any p seen ≡ true → list_any p (places_of schema vs seen xs) ≡ true
@@ -210,6 +208,3 @@ columns_typed schema r c few known =
 module _ (schema : SchemaValue) (scope : Scope) (refs : List ARef) (comparisons : List Comparison) (known : first_unknown (names_in schema scope) refs ≡ None) where
   pub fault_of_kinds : (o : Option QueryFault) → option_map (λ k. Kinds k.0 k.1) (differing_kinds schema scope comparisons) ≡ o → first_fault schema scope refs comparisons ≡ o
   fault_of_kinds o is = ap (λ n. option_or (option_map (unknown_in scope) n) (option_map (λ k. Kinds k.0 k.1) (differing_kinds schema scope comparisons))) known ∙ is
-
-pub fault_of_names : (schema : SchemaValue) (scope : Scope) (refs : List ARef) (comparisons : List Comparison) (fault : QueryFault) → option_map (unknown_in scope) (first_unknown (names_in schema scope) refs) ≡ Some fault → first_fault schema scope refs comparisons ≡ Some fault
-fault_of_names schema scope refs comparisons fault is = ap (λ o. option_or o (option_map (λ k. Kinds k.0 k.1) (differing_kinds schema scope comparisons))) is

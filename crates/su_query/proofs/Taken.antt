@@ -1,23 +1,15 @@
 -- Numbers of refs, taken from the front of a list.
 use Rattle.std.proofs.Common.{◌≡◌, ℕ, List, [], ◌∷◌, ◌++◌, map, refl, sym, ap, subst, ◌∙◌}
 use Rattle.std.specs.List.{flat_map}
-use Rattle.std.proofs.lemmas.List.{append-nil}
 use Rattle.std.proofs.lemmas.List.Concat.{flat_map-append}
-use Rattle.su_where.specs.declared.conditions.Condition.TheVariants.{Compare, Not, All, Any}
+use Rattle.su_where.specs.declared.conditions.Condition.TheVariants.{All, Any}
 use Rattle.su_where.specs.Truth.{comparisons_of}
-use Rattle.su_where.proofs.Layers.{comparisons_of-Compare, comparisons_of-Not, comparisons_of-All, comparisons_of-Any}
+use Rattle.su_where.proofs.Layers.{comparisons_of-All, comparisons_of-Any}
 use Rattle.su_query.specs.declared.refs.Ref.{Ref as ARef}
-use Rattle.su_query.specs.declared.conditions.Comparison.{Comparison}
 use Rattle.su_query.specs.Refs.{NamedCond, refs_beside, refs_of}
 use Rattle.su_query.specs.inside.RefNumbers.{HasNumbers, Takes}
 
 -- ---- the refs of a condition, by its form
-
-pub refs_of-Compare : (k : Comparison) → refs_of (Compare k) ≡ refs_beside k
-refs_of-Compare k = ap (flat_map refs_beside) (comparisons_of-Compare k) ∙ append-nil (refs_beside k)
-
-pub refs_of-Not : (c : NamedCond) → refs_of (Not c) ≡ refs_of c
-refs_of-Not c = ap (flat_map refs_beside) (comparisons_of-Not c)
 
 flat : (cs : List NamedCond) → flat_map refs_beside (flat_map comparisons_of cs) ≡ flat_map refs_of cs
 flat [] = refl

@@ -1,9 +1,8 @@
-use Rattle.std.proofs.Common.{rules, ◌≡◌, ◌∙◌, ◌∷◌, [], ℕ, List, map, take, sym, ap, subst, arith}
+use Rattle.std.proofs.Common.{rules, ◌∙◌, List, map, sym, ap, subst, arith}
 use Rattle.std.specs.List.{flat_map}
 use Rattle.std.proofs.lemmas.List.{take_all}
 use Rattle.su_where.specs.declared.conditions.Condition.{the_lemmas}
 use Rattle.su_where.specs.declared.conditions.Condition.TheVariants.{All, Any}
-use Rattle.su_where.specs.Truth.{Cond}
 use Rattle.su_query.specs.Refs.{NamedCond, refs_of}
 use Rattle.su_query.specs.NumberedConditions.{numbered}
 use Rattle.su_query.specs.inside.RefNumbers.{Takes}

@@ -1,4 +1,4 @@
-use Rattle.std.proofs.Common.{◌≡◌, ◌≤◌, ◌<◌, ◌⊎◌, ◌∙◌, ◌++◌, ℕ, Bor, Option, List, [], None, Some, inl, inr, length, map, sym, ap, subst, arith, All as Each}
+use Rattle.std.proofs.Common.{◌≡◌, ◌≤◌, ◌<◌, ◌∙◌, ◌++◌, ℕ, Bor, Option, List, [], None, Some, inl, inr, length, map, sym, ap, subst, arith, All as Each}
 use Rattle.std.specs.Prelude.{option_map}
 use Rattle.std.proofs.lemmas.List.{append-nil, length-map}
 use Rattle.su_base.specs.declared.values.Kind.{Kind}
@@ -6,7 +6,6 @@ use Rattle.su_schema.specs.Entries.{attribute_names}
 use Rattle.su_where.specs.Truth.{comparisons_of}
 use Rattle.su_query.specs.declared.refs.Ref.{Ref}
 use Rattle.su_query.specs.declared.places.Place.{Place}
-use Rattle.su_query.specs.declared.resolving.Resolved.{Resolved}
 use Rattle.su_query.specs.declared.scopes.Scope.TheVariants.{Attributes}
 use Rattle.su_query.specs.declared.faults.QueryFault.TheVariants.{Kinds}
 use Rattle.su_query.specs.Refs.{refs_of}
