@@ -9,6 +9,8 @@ pub mod Items
 pub mod Joined
 pub mod Listed
 pub mod Literals
+pub mod LookedUp
+pub mod Noted
 pub mod Placed
 pub mod Ranged
 pub mod Queries
@@ -17,5 +19,6 @@ pub mod Ready
 pub mod Round
 pub mod Seen
 pub mod Steps
+pub mod Taken
 pub mod Unique
 pub mod Uniqueness

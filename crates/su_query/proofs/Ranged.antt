@@ -26,11 +26,13 @@ use Rattle.su_query.specs.Scopes.{names_in, kinds_in, is_unknown, first_unknown,
 use Rattle.su_query.specs.Places.{place_in, same_place, places_of, number_in, places_in}
 use Rattle.su_query.specs.NumberedConditions.{resolved_of, with_columns}
 use Rattle.su_query.specs.declared.conditions.Comparison.{Comparison}
+use Rattle.su_query.specs.declared.faults.QueryFault.{QueryFault}
 use Rattle.su_query.specs.declared.faults.QueryFault.TheVariants.{Kinds}
 use Rattle.su_query.specs.KindDifferences.{differing_kinds}
 use Rattle.su_query.specs.Lookup.{unknown_in, first_fault, IsKnownQuery, IsColumnCondition}
 use Rattle.su_query.specs.Ranges.{IsPlaceAmong, place_kinds, IsResolved, IsOnColumns}
 use Rattle.su_base.proofs.Items.{All-append_left, All-append_right}
+use Rattle.su_query.proofs.Noted.{same_place-refl}
 use Rattle.su_query.proofs.Hits.{Hit, hit_any, hit_some, any-push, any-last, none_found}
 use Rattle.su_query.proofs.Placed.{few_variables, few_places}
 use Rattle.su_query.proofs.Literals.{IsNumbered, typed}
@@ -60,9 +62,6 @@ mentions-has seen (x ∷ xs) =
           (mentions-keep (same_variable x.variable) (seen ++ x.variable ∷ []) xs (any-last (same_variable x.variable) seen x.variable (same_variable-refl x.variable)))
           (mentions-has (seen ++ x.variable ∷ []) xs)
     ] refl
-
-same_place-refl : (p : Place) → same_place p p ≡ true
-same_place-refl p = grind (arith, nat_tests)
 
 module _ (schema : SchemaValue) (vs : List (Option (List ℕ))) where
   places-keep : (p : Place → Bool) (seen : List Place) (xs : List ARef) → list_any p seen ≡ true → list_any p (places_of schema vs seen xs) ≡ true
@@ -149,43 +148,63 @@ module _ (schema : SchemaValue) (vs : List (Option (List ℕ))) where
             ∙ ap (λ n. slice_index_or (attribute_kinds schema) n IntKind) (sym e) ∙ known_kind schema Attributes r k;
       }
 
+-- where each name is known, the places are in range, and each ref is numbered by its place
+module _ (schema : SchemaValue) (q : Query) (known : first_unknown (attribute_names schema) (all_refs q) ≡ None) where
+  pub query_places : Each (IsPlaceAmong schema (variables_of q)) (places_in schema q)
+  query_places =
+      let vs = variables_of q in
+      let refs = all_refs q in
+      let all = all_known (attribute_names schema) refs known in
+      places-among schema vs [] refs (All-nil (IsPlaceAmong schema vs)) (λ k d l. place_among schema vs (get_or refs k d) (mentions-has [] refs k d l) (all k d l))
+
+  query_numbers : Each (IsNumbered schema Attributes (place_kinds schema (places_in schema q)) (number_in schema Attributes (variables_of q) (places_in schema q))) (all_refs q)
+  query_numbers k d l =
+      let vs = variables_of q in
+      let refs = all_refs q in
+      ref_numbered schema vs (places_in schema q) (get_or refs k d) (places-has schema vs [] refs k d l) (all_known (attribute_names schema) refs known k d l)
+
+  pub cond_numbers : Each (IsNumbered schema Attributes (place_kinds schema (places_in schema q)) (number_in schema Attributes (variables_of q) (places_in schema q))) (refs_of q.cond)
+  cond_numbers = All-append_right (IsNumbered schema Attributes (place_kinds schema (places_in schema q)) (number_in schema Attributes (variables_of q) (places_in schema q))) q.outputs (refs_of q.cond) query_numbers
+
 pub query_resolved : (schema : SchemaValue) (q : Query) → AreFew q.outputs q.cond → IsKnownQuery schema q → IsResolved schema (resolved_of schema q)
 query_resolved schema q few known =
     let vs = variables_of q in
     let places = places_in schema q in
     let kinds = place_kinds schema places in
     let f = number_in schema Attributes vs places in
-    let refs = all_refs q in
-    let passed = faultless schema Attributes refs (comparisons_of q.cond) known in
-    let all = all_known (attribute_names schema) refs passed.0 in
-    let among : Each (λ r. IsPlaceAmong schema vs (place_in schema vs r)) refs = λ k d l. place_among schema vs (get_or refs k d) (mentions-has [] refs k d l) (all k d l) in
-    let numbers : Each (IsNumbered schema Attributes kinds f) refs = λ k d l. ref_numbered schema vs places (get_or refs k d) (places-has schema vs [] refs k d l) (all k d l) in
-    let outputs = All-append_left (IsNumbered schema Attributes kinds f) q.outputs (refs_of q.cond) numbers in
+    let passed = faultless schema Attributes (all_refs q) (comparisons_of q.cond) known in
+    let outputs = All-append_left (IsNumbered schema Attributes kinds f) q.outputs (refs_of q.cond) (query_numbers schema q passed.0) in
     let count : length kinds ≡ length places = length-map places (λ p. slice_index_or (attribute_kinds schema) p.attribute IntKind) in
     record {
       few_variables = few_variables q few;
       few_outputs = subst (λ (n : ℕ). n ≤ 128) (sym (length-map q.outputs f)) few.few_outputs;
       few_places = few_places schema vs q few;
-      places = places-among schema vs [] refs (All-nil (IsPlaceAmong schema vs)) among;
+      places = query_places schema q passed.0;
       outputs = All-map (λ (o : ℕ). o < length places) f q.outputs (λ k d l. subst (λ (n : ℕ). f (get_or q.outputs k d) < n) count (outputs k d l).below);
-      cond = typed schema Attributes kinds f q.cond few.few_comparisons (All-append_right (IsNumbered schema Attributes kinds f) q.outputs (refs_of q.cond) numbers) passed.1;
+      cond = typed schema Attributes kinds f q.cond few.few_comparisons (cond_numbers schema q passed.0) passed.1;
     }
 
 -- ---- a condition on a relation
 
-pub columns_typed : (schema : SchemaValue) (r : ℕ) (c : NamedCond) → length (comparisons_of c) ≤ 256 → IsColumnCondition schema r c → IsOnColumns schema r (with_columns schema r c)
-columns_typed schema r c few known =
+-- where each name is known, each ref is numbered by its column
+pub column_numbers : (schema : SchemaValue) (r : ℕ) (c : NamedCond) → first_unknown (names_in schema (Columns r)) (refs_of c) ≡ None → Each (IsNumbered schema (Columns r) (kinds_in schema (Columns r)) (number_in schema (Columns r) [] [])) (refs_of c)
+column_numbers schema r c known k d l =
     let names = names_in schema (Columns r) in
-    let kinds = kinds_in schema (Columns r) in
-    let f = λ (ref : ARef). number_among names ref.attribute in
-    let passed = faultless schema (Columns r) (refs_of c) (comparisons_of c) known in
-    let all = all_known names (refs_of c) passed.0 in
-    let count : length names ≡ length kinds = length-map (columns_at schema r) (λ x. x.name) ∙ sym (length-map (columns_at schema r) (λ x. x.kind)) in
-    typed schema (Columns r) kinds f c few
-    (λ k d l.
     let ref = get_or (refs_of c) k d in
-    let known_ref = all k d l in
+    let known_ref = all_known names (refs_of c) known k d l in
+    let count : length names ≡ length (kinds_in schema (Columns r)) = length-map (columns_at schema r) (λ x. x.name) ∙ sym (length-map (columns_at schema r) (λ x. x.kind)) in
     record {
       below = subst (λ (n : ℕ). number_among names ref.attribute < n) count (hit_number (λ n. bytes_eq ref.attribute n) names (known_hit names ref known_ref));
       kind = known_kind schema (Columns r) ref known_ref;
-    }) passed.1
+    }
+
+pub columns_typed : (schema : SchemaValue) (r : ℕ) (c : NamedCond) → length (comparisons_of c) ≤ 256 → IsColumnCondition schema r c → IsOnColumns schema r (with_columns schema r c)
+columns_typed schema r c few known =
+    let passed = faultless schema (Columns r) (refs_of c) (comparisons_of c) known in
+    typed schema (Columns r) (kinds_in schema (Columns r)) (number_in schema (Columns r) [] []) c few (column_numbers schema r c passed.0) passed.1
+
+-- ---- where each name is known, the fault is that of the kinds
+
+module _ (schema : SchemaValue) (scope : Scope) (refs : List ARef) (comparisons : List Comparison) (known : first_unknown (names_in schema scope) refs ≡ None) where
+  pub fault_of_kinds : (o : Option QueryFault) → option_map (λ k. Kinds k.0 k.1) (differing_kinds schema scope comparisons) ≡ o → first_fault schema scope refs comparisons ≡ o
+  fault_of_kinds o is = ap (λ n. option_or (option_map (unknown_in scope) n) (option_map (λ k. Kinds k.0 k.1) (differing_kinds schema scope comparisons))) known ∙ is

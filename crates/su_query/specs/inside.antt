@@ -1,3 +1,5 @@
 -- Definitions that only contracts of private functions need.
 pub mod Fronts
+pub mod RefNumbers
 pub mod SchemaScopes
+pub mod TwoKinds

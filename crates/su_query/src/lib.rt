@@ -2,9 +2,9 @@
 //!
 //! `read` takes exactly the texts of the grammar, in time linear in the text; parentheses may nest
 //! 64 deep, and nothing else makes it recurse. What was read is the one statement of its text. It
-//! takes memory for what it returns and for the text's symbols. `resolve` and `resolve_columns` find
-//! the names of a schema; a query has at most 640 places, which are looked through one by one. No
-//! name is looked up while reading, and no stored row is read or changed.
+//! takes memory for what it returns and for the text's symbols. `resolve` and `resolve_columns` look
+//! each name up once; a query has at most 640 places, which are looked through one by one. No name is
+//! looked up while reading, and no stored row is read or changed.
 #![tactic(auto)]
 
 mod columns;
@@ -13,6 +13,7 @@ mod conds;
 mod crossing;
 mod faults;
 mod forms;
+mod kinds;
 mod limits;
 mod lists;
 mod lookups;

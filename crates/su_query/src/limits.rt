@@ -1,37 +1,43 @@
 //! The limits of a statement: 8 variables, 128 outputs, 256 comparisons, tried in this order.
 ghost use Rattle.std.specs.Prelude.{◌≡◌, ◌⊎◌, ◌<◌, ◌≤◌, true, false, [], map, OnOk, IfOk, IfErr};
 ghost use Rattle.su_where.specs.declared.conditions.Condition.TheVariants.{All};
+ghost use Rattle.su_where.specs.Truth.{comparisons_of};
+ghost use Rattle.su_query.specs.Refs.{NamedCond as ACond};
 ghost use Rattle.su_query.specs.Limits.{AreFew, HasFew, Passes, PartsPass, plain_ref, variable_count, parts_of};
 
-use crate::conditions::NamedCond;
+use crate::conditions::{Comparison, NamedCond};
 use crate::faults::{QueryFault, QueryLimit};
-use crate::mentions::{note_refs, references};
+use crate::mentions::{have_few_variables, references};
 use crate::refs::Ref;
 use crate::statements::{Query, Statement};
 use std::alloc::Global;
-use su_base::{List, NoMemory, Str};
+use su_base::{NoMemory, Str};
 use su_where::comparisons;
 
-fn has_few_variables(alloc: Global, outputs: &[Ref], cond: &NamedCond) -> Result<bool, NoMemory>
-    ensures few { IfOk result (λ few. few ≡ true → variable_count outputs.now cond.now ≤ 8) }
-    ensures many { IfOk result (λ few. few ≡ false → 8 < variable_count outputs.now cond.now) }
+fn has_few_variables(
+    alloc: Global,
+    outputs: &[Ref],
+    compared: &[&Comparison],
+) -> Result<bool, NoMemory>
+    ensures few { IfOk result (λ few. (cond : ACond) → comparisons_of cond ≡ map (λ c. c.now) compared.now → few ≡ true → variable_count outputs.now cond ≤ 8) }
+    ensures many { IfOk result (λ few. (cond : ACond) → comparisons_of cond ≡ map (λ c. c.now) compared.now → few ≡ false → 8 < variable_count outputs.now cond) }
 {
-    let refs = references(alloc, outputs, cond)?;
-    let mut seen = List::new(alloc);
-    note_refs(alloc, &mut seen, refs.as_slice())
+    let refs = references(alloc, outputs, compared)?;
+    have_few_variables(alloc, refs.as_slice())
 }
 
 fn check(alloc: Global, outputs: &[Ref], cond: &NamedCond) -> Result<(), QueryFault>
     ensures few { OnOk result (AreFew outputs.now cond.now) }
     ensures passed { IfErr result (λ fault. (fault ≡ QueryFault.NoMemory) ⊎ Passes outputs.now cond.now fault) }
 {
-    if !has_few_variables(alloc, outputs, cond)? {
+    let compared = comparisons(alloc, cond)?;
+    if !has_few_variables(alloc, outputs, compared.as_slice())? {
         return Err(QueryFault::Limit(QueryLimit::Variables));
     }
     if outputs.len() > 128 {
         return Err(QueryFault::Limit(QueryLimit::Outputs));
     }
-    if comparisons(alloc, cond)?.len() > 256 {
+    if compared.len() > 256 {
         return Err(QueryFault::Limit(QueryLimit::Comparisons));
     }
     Ok(())

@@ -41,8 +41,22 @@ fn push_sides<'a>(refs: &mut List<&'a Ref>, compared: &[&'a Comparison]) -> Resu
     Ok(())
 }
 
-/// The refs of the outputs, and then those of the condition, from left to right.
+/// The refs of the outputs, and then those of the comparisons, from left to right.
 pub(crate) fn references<'a>(
+    alloc: Global,
+    outputs: &'a [Ref],
+    compared: &[&'a Comparison],
+) -> Result<List<&'a Ref>, NoMemory>
+    ensures { IfOk result (λ refs. map (λ r. r.now) refs ≡ outputs.now ++ flat_map refs_beside (map (λ c. c.now) compared.now)) }
+{
+    let mut refs = List::new(alloc);
+    push_outputs(&mut refs, outputs)?;
+    push_sides(&mut refs, compared)?;
+    Ok(refs)
+}
+
+/// The refs of the outputs, and then those of the condition, from left to right.
+pub(crate) fn all_references<'a>(
     alloc: Global,
     outputs: &'a [Ref],
     cond: &'a NamedCond,
@@ -50,10 +64,7 @@ pub(crate) fn references<'a>(
     ensures { IfOk result (λ refs. map (λ r. r.now) refs ≡ outputs.now ++ refs_of cond.now) }
 {
     let compared = comparisons(alloc, cond)?;
-    let mut refs = List::new(alloc);
-    push_outputs(&mut refs, outputs)?;
-    push_sides(&mut refs, compared.as_slice())?;
-    Ok(refs)
+    references(alloc, outputs, compared.as_slice())
 }
 
 fn have_no_variables(references: &[&Ref]) -> bool
@@ -66,7 +77,7 @@ fn have_no_variables(references: &[&Ref]) -> bool
 pub(crate) fn are_columns(alloc: Global, cond: &NamedCond) -> Result<bool, NoMemory>
     ensures { IfOk result (λ are. are ≡ are_columns cond.now) }
 {
-    let refs = references(alloc, &[], cond)?;
+    let refs = all_references(alloc, &[], cond)?;
     Ok(have_no_variables(refs.as_slice()))
 }
 
@@ -87,34 +98,37 @@ pub(crate) fn is_among(seen: &[Option<Str>], variable: &Option<Str>) -> bool
     seen.iter().any(|s| is_same(variable, s))
 }
 
-/// Adds the variable of the ref, unless it was seen. False where it would be the ninth.
-fn note(alloc: Global, seen: &mut List<Option<Str>>, reference: &Ref) -> Result<bool, NoMemory>
-    requires { length seen.old ≤ 8 }
-    ensures kept { IfOk result (λ fits. fits ≡ true → (seen.new ≡ mentions seen.old (reference.now ∷ [])) × (length seen.new ≤ 8)) }
-    ensures passed { IfOk result (λ fits. fits ≡ false → 8 < length (mentions seen.old (reference.now ∷ []))) }
+/// Adds the variable of the ref, unless it was seen.
+fn note(alloc: Global, seen: &mut List<Option<Str>>, reference: &Ref) -> Result<(), NoMemory>
+    ensures { OnOk result (seen.new ≡ mentions seen.old (reference.now ∷ [])) }
 {
     if is_among(seen.as_slice(), &reference.variable) {
-        return Ok(true);
-    }
-    if seen.len() == 8 {
-        return Ok(false);
+        return Ok(());
     }
     seen.push(copy_name(alloc, &reference.variable)?)?;
-    Ok(true)
+    Ok(())
 }
 
-/// Adds the variables of the refs that were not seen. False where they would be more than 8.
-pub(crate) fn note_refs(
-    alloc: Global,
-    seen: &mut List<Option<Str>>,
-    references: &[&Ref],
-) -> Result<bool, NoMemory>
-    requires { length seen.old ≤ 8 }
-    ensures kept { IfOk result (λ fits. fits ≡ true → (seen.new ≡ mentions seen.old (map (λ r. r.now) references.now)) × (length seen.new ≤ 8)) }
-    ensures passed { IfOk result (λ fits. fits ≡ false → 8 < length (mentions seen.old (map (λ r. r.now) references.now))) }
+/// The variables of the refs, each once, in the order of their first mention.
+pub(crate) fn variables(alloc: Global, references: &[&Ref]) -> Result<List<Option<Str>>, NoMemory>
+    ensures { IfOk result (λ seen. seen ≡ mentions [] (map (λ r. r.now) references.now)) }
 {
+    let mut seen = List::new(alloc);
     for reference in references {
-        if !note(alloc, seen, *reference)? {
+        note(alloc, &mut seen, *reference)?;
+    }
+    Ok(seen)
+}
+
+/// Whether the refs have at most 8 variables. No ref behind the ninth variable is looked at.
+pub(crate) fn have_few_variables(alloc: Global, references: &[&Ref]) -> Result<bool, NoMemory>
+    ensures few { IfOk result (λ few. few ≡ true → length (mentions [] (map (λ r. r.now) references.now)) ≤ 8) }
+    ensures many { IfOk result (λ few. few ≡ false → 8 < length (mentions [] (map (λ r. r.now) references.now))) }
+{
+    let mut seen = List::new(alloc);
+    for reference in references {
+        note(alloc, &mut seen, *reference)?;
+        if seen.len() > 8 {
             return Ok(false);
         }
     }

@@ -1,168 +1,111 @@
-//! Refs as numbers: of places among the attributes, of columns in a relation.
-ghost use Rattle.std.specs.Prelude.{◌≡◌, ◌<◌, ◌≤◌, length, map, IfOk};
-ghost use Rattle.su_query.specs.inside.SchemaScopes.{IsScope};
-ghost use Rattle.su_query.specs.Scopes.{names_in, number_among};
+//! Conditions with numbers in place of refs.
+ghost use Rattle.std.specs.Prelude.{◌≡◌, ◌<◌, ◌∷◌, length, map, flat_map, IfOk};
+ghost use Rattle.su_query.specs.inside.RefNumbers.{HasNumbers, Takes};
+ghost use Rattle.su_query.specs.Refs.{refs_in, refs_beside, refs_of};
 ghost use Rattle.su_query.specs.NumberedConditions.{literal_of, numbered, numbered_operand};
-ghost use Rattle.su_query.specs.Places.{number_in};
 
 use crate::conditions::{Comparison, NamedCond};
-use crate::places::{Place, find_place, place_of};
-use crate::refs::{NamedOperand, Ref};
-use crate::scopes::{Scope, find};
+use crate::refs::NamedOperand;
 use std::alloc::Global;
-use su_base::{Boxed, List, NoMemory, Str};
-use su_schema::Schema;
+use std::marker::Model;
+use su_base::{Boxed, List, NoMemory};
 use su_where::{Cond, Literal, Operand};
 
-/// The number of the ref's place.
-fn place_number(
-    schema: &Schema,
-    variables: &[Option<Str>],
-    places: &[Place],
-    reference: &Ref,
-) -> u16
-    requires variables { length variables.now ≤ 8 }
-    requires places { length places.now ≤ 640 }
-    ensures { result ≡ number_in schema.now Scope.Attributes variables.now places.now reference.now }
-{
-    match find_place(places, &place_of(schema, variables, reference)) {
-        Some(i) => i as u16,
-        None => 0,
-    }
+/// The numbers of refs that were not met yet, in the order of the refs.
+#[derive(Drop)]
+pub(crate) struct Numbers<'a> {
+    left: &'a [u16],
 }
 
-/// The number of the column.
-fn column_number(schema: &Schema, relation: u8, name: &str) -> u16
-    requires { relation < length schema.now.relations }
-    ensures { result ≡ number_among (names_in schema.now (Scope.Columns relation)) name.now }
-{
-    match find(schema, Scope::Columns(relation), name) {
-        Some(number) => number as u16,
-        None => 0,
-    }
+impl<'a> Model for Numbers<'a> {
+    ghost use Rattle.std.specs.Prelude.{ℕ, List};
+
+    ghost Value = { List ℕ };
+
+    ghost view = { λ n. n.left.now };
 }
 
-/// The number that stands for the ref in the scope.
-pub(crate) fn number(
-    schema: &Schema,
-    scope: Scope,
-    variables: &[Option<Str>],
-    places: &[Place],
-    reference: &Ref,
-) -> u16
-    requires scope { IsScope schema.now scope }
-    requires variables { length variables.now ≤ 8 }
-    requires places { length places.now ≤ 640 }
-    ensures { result ≡ number_in schema.now scope variables.now places.now reference.now }
-{
-    match scope {
-        Scope::Attributes => place_number(schema, variables, places, reference),
-        Scope::Columns(relation) => column_number(schema, relation, reference.attribute.as_str()),
+impl<'a> Numbers<'a> {
+    pub(crate) fn new(numbers: &'a [u16]) -> Numbers<'a>
+        ensures { result ≡ numbers.now }
+    {
+        Numbers { left: numbers }
+    }
+
+    /// The next number.
+    fn next(&mut self) -> u16
+        requires { 0 < length self.old }
+        ensures { self.old ≡ result ∷ self.new }
+    {
+        let number = self.left[0];
+        self.left = &self.left[1..];
+        number
     }
 }
 
 fn numbered_operand(
     alloc: Global,
-    schema: &Schema,
-    scope: Scope,
-    variables: &[Option<Str>],
-    places: &[Place],
+    numbers: &mut Numbers,
     operand: &NamedOperand,
 ) -> Result<Operand, NoMemory>
-    requires scope { IsScope schema.now scope }
-    requires variables { length variables.now ≤ 8 }
-    requires places { length places.now ≤ 640 }
-    ensures { IfOk result (λ o. o ≡ numbered_operand (number_in schema.now scope variables.now places.now) operand.now) }
+    requires { HasNumbers (refs_in operand.now) numbers.old }
+    ensures { IfOk result (λ o. Takes (refs_in operand.now) numbers.old numbers.new (λ number. numbered_operand number operand.now) o) }
 {
     match operand {
-        NamedOperand::Ref(reference) => Ok(Operand::Place(number(
-            schema, scope, variables, places, reference,
-        ))),
+        NamedOperand::Ref(_) => Ok(Operand::Place(numbers.next())),
         NamedOperand::Const(value) => Ok(Operand::Const(value.copy(alloc)?)),
     }
 }
 
 fn literal(
     alloc: Global,
-    schema: &Schema,
-    scope: Scope,
-    variables: &[Option<Str>],
-    places: &[Place],
+    numbers: &mut Numbers,
     comparison: &Comparison,
 ) -> Result<Literal, NoMemory>
-    requires scope { IsScope schema.now scope }
-    requires variables { length variables.now ≤ 8 }
-    requires places { length places.now ≤ 640 }
-    ensures { IfOk result (λ l. l ≡ literal_of (number_in schema.now scope variables.now places.now) comparison.now) }
+    requires { HasNumbers (refs_beside comparison.now) numbers.old }
+    ensures { IfOk result (λ l. Takes (refs_beside comparison.now) numbers.old numbers.new (λ number. literal_of number comparison.now) l) }
 {
     Ok(Literal {
-        left: numbered_operand(alloc, schema, scope, variables, places, &comparison.left)?,
+        left: numbered_operand(alloc, numbers, &comparison.left)?,
         op: comparison.op,
-        right: numbered_operand(alloc, schema, scope, variables, places, &comparison.right)?,
+        right: numbered_operand(alloc, numbers, &comparison.right)?,
     })
 }
 
-/// The condition with a number in place of each ref. In the scope of a relation's columns, variables and
-/// places are not looked at.
+/// The condition with the next numbers in place of its refs.
 #[cycle(numbered)]
 #[tactic(auto, using(crate::proofs::Found::layers))]
 pub(crate) fn numbered(
     alloc: Global,
-    schema: &Schema,
-    scope: Scope,
-    variables: &[Option<Str>],
-    places: &[Place],
+    numbers: &mut Numbers,
     cond: &NamedCond,
 ) -> Result<Cond, NoMemory>
-    requires scope { IsScope schema.now scope }
-    requires variables { length variables.now ≤ 8 }
-    requires places { length places.now ≤ 640 }
-    ensures { IfOk result (λ c. c ≡ numbered (number_in schema.now scope variables.now places.now) cond.now) }
+    requires { HasNumbers (refs_of cond.now) numbers.old }
+    ensures { IfOk result (λ c. Takes (refs_of cond.now) numbers.old numbers.new (λ number. numbered number cond.now) c) }
 {
     match cond {
-        NamedCond::Compare(comparison) => Ok(Cond::Compare(literal(
-            alloc, schema, scope, variables, places, comparison,
-        )?)),
+        NamedCond::Compare(comparison) => Ok(Cond::Compare(literal(alloc, numbers, comparison)?)),
         NamedCond::Not(part) => Ok(Cond::Not(Boxed::new(
             alloc,
-            numbered(alloc, schema, scope, variables, places, part.get())?,
+            numbered(alloc, numbers, part.get())?,
         )?)),
-        NamedCond::All(parts) => Ok(Cond::All(numbered_all(
-            alloc,
-            schema,
-            scope,
-            variables,
-            places,
-            parts.as_slice(),
-        )?)),
-        NamedCond::Any(parts) => Ok(Cond::Any(numbered_all(
-            alloc,
-            schema,
-            scope,
-            variables,
-            places,
-            parts.as_slice(),
-        )?)),
+        NamedCond::All(parts) => Ok(Cond::All(numbered_all(alloc, numbers, parts.as_slice())?)),
+        NamedCond::Any(parts) => Ok(Cond::Any(numbered_all(alloc, numbers, parts.as_slice())?)),
     }
 }
 
 #[cycle(numbered)]
 fn numbered_all(
     alloc: Global,
-    schema: &Schema,
-    scope: Scope,
-    variables: &[Option<Str>],
-    places: &[Place],
+    numbers: &mut Numbers,
     parts: &[NamedCond],
 ) -> Result<List<Cond>, NoMemory>
-    requires scope { IsScope schema.now scope }
-    requires variables { length variables.now ≤ 8 }
-    requires places { length places.now ≤ 640 }
-    ensures { IfOk result (λ cs. cs ≡ map (numbered (number_in schema.now scope variables.now places.now)) parts.now) }
+    requires { HasNumbers (flat_map refs_of parts.now) numbers.old }
+    ensures { IfOk result (λ cs. Takes (flat_map refs_of parts.now) numbers.old numbers.new (λ number. map (numbered number) parts.now) cs) }
 {
     let mut conds = List::new(alloc);
     for part in parts {
-        conds.push(numbered(alloc, schema, scope, variables, places, part)?)?;
+        conds.push(numbered(alloc, numbers, part)?)?;
     }
     Ok(conds)
 }

@@ -1,12 +1,20 @@
 //! Places: a variable and an attribute, by their numbers.
-ghost use Rattle.std.specs.Prelude.{◌≡◌, ◌≤◌, [], ◌∷◌, ◌++◌, length, position, unwrap_or, map, if◌then◌else◌, OnOk};
+ghost use Rattle.std.specs.Prelude.{◌≡◌, ◌⊎◌, ◌<◌, ◌≤◌, [], ◌∷◌, ◌++◌, Some, None, All, length, position, unwrap_or, map, option_map, if◌then◌else◌, slice_index_or, IfOk, IfErr, OnOk};
 ghost use Rattle.std.specs.List.{list_any};
+ghost use Rattle.su_schema.specs.Entries.{attribute_kinds};
 ghost use Rattle.su_query.specs.Mentions.{same_variable};
-ghost use Rattle.su_query.specs.Places.{place_in, same_place, places_of};
+ghost use Rattle.su_query.specs.Places.{number_in, same_place, places_of};
+ghost use Rattle.su_query.specs.Scopes.{names_in, first_unknown};
+ghost use Rattle.su_query.specs.Lookup.{unknown_in};
+ghost use Rattle.su_query.specs.Ranges.{place_kinds};
 
+use crate::faults::QueryFault;
+use crate::lookups::look_up;
 use crate::mentions::is_same;
 use crate::refs::Ref;
-use su_base::{List, NoMemory, Str};
+use crate::scopes::Scope;
+use std::alloc::Global;
+use su_base::{Kind, List, NoMemory, Str};
 use su_schema::Schema;
 
 /// An attribute of a tuple variable, both by number: the variable in the order of first mention,
@@ -33,21 +41,6 @@ fn variable_number(variables: &[Option<Str>], variable: &Option<Str>) -> u8
     }
 }
 
-/// The place of the ref.
-pub(crate) fn place_of(schema: &Schema, variables: &[Option<Str>], reference: &Ref) -> Place
-    requires { length variables.now ≤ 8 }
-    ensures { result ≡ place_in schema.now variables.now reference.now }
-{
-    let attribute = match schema.find_attribute(reference.attribute.as_str()) {
-        Some(a) => a,
-        None => 0,
-    };
-    Place {
-        variable: variable_number(variables, &reference.variable),
-        attribute,
-    }
-}
-
 fn same(p: &Place, q: &Place) -> bool
     ensures { result ≡ same_place p.now q.now }
 {
@@ -55,40 +48,88 @@ fn same(p: &Place, q: &Place) -> bool
 }
 
 /// Which of the places it is.
-pub(crate) fn find_place(places: &[Place], place: &Place) -> Option<usize>
+fn find_place(places: &[Place], place: &Place) -> Option<usize>
     ensures { result ≡ position (same_place place.now) places.now }
 {
     places.iter().position(|p| same(place, p))
 }
 
-fn has_place(places: &[Place], place: &Place) -> bool
-    ensures { result ≡ list_any (same_place place.now) places.now }
+/// The number of the place, which is added where it is new.
+fn note(seen: &mut List<Place>, place: Place) -> Result<usize, NoMemory>
+    ensures seen { OnOk result (seen.new ≡ (if list_any (same_place place) seen.old then seen.old else seen.old ++ place ∷ [])) }
+    ensures number { IfOk result (λ number. position (same_place place) seen.new ≡ Some number) }
 {
-    places.iter().any(|p| same(place, p))
-}
-
-fn note(seen: &mut List<Place>, place: Place) -> Result<(), NoMemory>
-    ensures { OnOk result (seen.new ≡ (if list_any (same_place place) seen.old then seen.old else seen.old ++ place ∷ [])) }
-{
-    if has_place(seen.as_slice(), &place) {
-        return Ok(());
+    match find_place(seen.as_slice(), &place) {
+        Some(number) => Ok(number),
+        None => {
+            let number = seen.len();
+            seen.push(place)?;
+            Ok(number)
+        }
     }
-    seen.push(place)?;
-    Ok(())
 }
 
-/// Adds the places of the refs that were not seen.
-pub(crate) fn note_refs(
+/// The places that refs mention, each once, and the number of each ref's place.
+#[derive(Drop)]
+pub(crate) struct Placed {
+    pub(crate) places: List<Place>,
+    pub(crate) numbers: List<u16>,
+}
+
+/// The places of the refs, or the first name that is no attribute. Each name is looked up once.
+pub(crate) fn place_all(
+    alloc: Global,
     schema: &Schema,
     variables: &[Option<Str>],
-    seen: &mut List<Place>,
     references: &[&Ref],
-) -> Result<(), NoMemory>
-    requires { length variables.now ≤ 8 }
-    ensures { OnOk result (seen.new ≡ places_of schema.now variables.now seen.old (map (λ r. r.now) references.now)) }
+) -> Result<Placed, QueryFault>
+    requires variables { length variables.now ≤ 8 }
+    requires few { length references.now ≤ 640 }
+    ensures places { IfOk result (λ placed. placed.places ≡ places_of schema.now variables.now [] (map (λ r. r.now) references.now)) }
+    ensures numbers { IfOk result (λ placed. placed.numbers ≡ map (number_in schema.now Scope.Attributes variables.now placed.places) (map (λ r. r.now) references.now)) }
+    ensures known { OnOk result (first_unknown (names_in schema.now Scope.Attributes) (map (λ r. r.now) references.now) ≡ None) }
+    ensures refused { IfErr result (λ fault. (fault ≡ QueryFault.NoMemory) ⊎ (option_map (unknown_in Scope.Attributes) (first_unknown (names_in schema.now Scope.Attributes) (map (λ r. r.now) references.now)) ≡ Some fault)) }
 {
+    let mut places = List::new(alloc);
+    let mut numbers = List::new(alloc);
     for reference in references {
-        note(seen, place_of(schema, variables, *reference))?;
+        let attribute = match look_up(alloc, schema, Scope::Attributes, *reference) {
+            Ok(attribute) => attribute,
+            Err(fault) => return Err(fault),
+        };
+        let variable = variable_number(variables, &reference.variable);
+        let number = note(
+            &mut places,
+            Place {
+                variable,
+                attribute,
+            },
+        )?;
+        numbers.push(number as u16)?;
     }
-    Ok(())
+    Ok(Placed { places, numbers })
+}
+
+/// The kind of the place's attribute.
+fn kind_at(schema: &Schema, place: &Place) -> Kind
+    requires { place.now.attribute < length schema.now.attributes }
+    ensures { result ≡ slice_index_or (attribute_kinds schema.now) place.now.attribute Kind.Int }
+{
+    schema.attribute_kind(place.attribute)
+}
+
+/// The kinds of the places' attributes.
+pub(crate) fn kinds_of(
+    alloc: Global,
+    schema: &Schema,
+    places: &[Place],
+) -> Result<List<Kind>, NoMemory>
+    requires { All (λ p. p.attribute < length schema.now.attributes) places.now }
+    ensures { IfOk result (λ kinds. kinds ≡ place_kinds schema.now places.now) }
+{
+    let mut kinds = List::new(alloc);
+    for place in places {
+        kinds.push(kind_at(schema, place))?;
+    }
+    Ok(kinds)
 }

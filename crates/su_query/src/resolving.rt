@@ -1,25 +1,23 @@
 //! Queries over numbers.
-ghost use Rattle.su_query.specs.NumberedConditions.{resolved_of};
+ghost use Rattle.std.specs.Prelude.{◌≡◌, ◌⊎◌, ℕ, map, IfOk, IfErr, OnOk};
+ghost use Rattle.su_query.specs.declared.refs.Ref.{Ref as ARef};
+ghost use Rattle.su_query.specs.NumberedConditions.{numbered, resolved_of};
 ghost use Rattle.su_query.specs.Lookup.{IsKnownQuery, IsQueryRefusal};
-ghost use Rattle.std.specs.Prelude.{◌≡◌, ◌≤◌, ◌⊎◌, [], length, map, IfOk, IfErr, OnOk};
-ghost use Rattle.su_query.specs.Mentions.{mentions, all_refs};
+ghost use Rattle.su_query.specs.Mentions.{all_refs};
 ghost use Rattle.su_query.specs.Limits.{AreFew};
-ghost use Rattle.su_query.specs.Places.{number_in, places_of};
 ghost use Rattle.su_query.specs.Ranges.{IsResolved};
+ghost use Rattle.su_query.specs.inside.RefNumbers.{HasNumbers};
 
 use crate::faults::QueryFault;
-use crate::lookups::check;
-use crate::mentions::references;
-use crate::numbering::{number, numbered};
-use crate::places::Place;
-use crate::refs::Ref;
-use crate::scopes::Scope;
+use crate::kinds::check;
+use crate::mentions::{all_references, variables};
+use crate::numbering::{Numbers, numbered};
+use crate::places::{Place, Placed, kinds_of, place_all};
 use crate::statements::Query;
-use crate::{mentions, places};
 use std::alloc::Global;
 use su_base::{List, NoMemory, Str};
 use su_schema::Schema;
-use su_where::{Cond, comparisons};
+use su_where::Cond;
 
 /// A query whose names are numbers. Variables and places stand in the order of their first mention,
 /// the outputs first; an output and a `Place` of the condition are the number of a place.
@@ -29,24 +27,6 @@ pub struct Resolved {
     pub places: List<Place>,
     pub outputs: List<u16>,
     pub cond: Cond,
-}
-
-fn numbers(
-    alloc: Global,
-    schema: &Schema,
-    variables: &[Option<Str>],
-    places: &[Place],
-    references: &[Ref],
-) -> Result<List<u16>, NoMemory>
-    requires variables { length variables.now ≤ 8 }
-    requires places { length places.now ≤ 640 }
-    ensures { IfOk result (λ ns. ns ≡ map (number_in schema.now Scope.Attributes variables.now places.now) references.now) }
-{
-    let mut numbers = List::new(alloc);
-    for reference in references {
-        numbers.push(number(schema, Scope::Attributes, variables, places, reference))?;
-    }
-    Ok(numbers)
 }
 
 /// The query over numbers.
@@ -60,70 +40,37 @@ pub fn resolve(alloc: Global, schema: &Schema, query: &Query) -> Result<Resolved
     ensures in_range { IfOk result (λ r. IsResolved schema.now r) }
     ensures refused { IfErr result (λ fault. (fault ≡ QueryFault.NoMemory) ⊎ IsQueryRefusal schema.now query.now fault) }
 {
-    let refs = references(alloc, query.outputs.as_slice(), &query.cond)?;
-    let compared = comparisons(alloc, &query.cond)?;
-    match check(
-        alloc,
-        schema,
-        Scope::Attributes,
-        refs.as_slice(),
-        compared.as_slice(),
-    ) {
-        Ok(()) => Ok(made(alloc, schema, query, refs.as_slice())?),
+    let refs = all_references(alloc, query.outputs.as_slice(), &query.cond)?;
+    let variables = variables(alloc, refs.as_slice())?;
+    let placed = match place_all(alloc, schema, variables.as_slice(), refs.as_slice()) {
+        Ok(placed) => placed,
+        Err(fault) => return Err(fault),
+    };
+    let resolved = numbered_query(alloc, query, variables, placed)?;
+    let kinds = kinds_of(alloc, schema, resolved.places.as_slice())?;
+    match check(alloc, kinds.as_slice(), &resolved.cond) {
+        Ok(()) => Ok(resolved),
         Err(fault) => Err(fault),
     }
 }
 
-/// The variables of the refs, which are at most 8.
-fn variables(alloc: Global, refs: &[&Ref]) -> Result<List<Option<Str>>, NoMemory>
-    requires { length (mentions [] (map (λ r. r.now) refs.now)) ≤ 8 }
-    ensures { IfOk result (λ vs. vs ≡ mentions [] (map (λ r. r.now) refs.now)) }
-{
-    let mut seen = List::new(alloc);
-    if !mentions::note_refs(alloc, &mut seen, refs)? {
-        unreachable!();
-    }
-    Ok(seen)
-}
-
-/// The places of the refs.
-fn places_of(
+/// The query with the numbers of its refs, where these are its variables and places.
+fn numbered_query(
     alloc: Global,
-    schema: &Schema,
-    variables: &[Option<Str>],
-    refs: &[&Ref],
-) -> Result<List<Place>, NoMemory>
-    requires { length variables.now ≤ 8 }
-    ensures { IfOk result (λ ps. ps ≡ places_of schema.now variables.now [] (map (λ r. r.now) refs.now)) }
+    query: &Query,
+    variables: List<Option<Str>>,
+    placed: Placed,
+) -> Result<Resolved, NoMemory>
+    requires { HasNumbers (all_refs query.now) placed.numbers }
+    ensures variables { IfOk result (λ r. r.variables ≡ variables) }
+    ensures places { IfOk result (λ r. r.places ≡ placed.places) }
+    ensures outputs { IfOk result (λ r. (number : ARef → ℕ) → placed.numbers ≡ map number (all_refs query.now) → r.outputs ≡ map number query.now.outputs) }
+    ensures cond { IfOk result (λ r. (number : ARef → ℕ) → placed.numbers ≡ map number (all_refs query.now) → r.cond ≡ numbered number query.now.cond) }
 {
-    let mut seen = List::new(alloc);
-    places::note_refs(schema, variables, &mut seen, refs)?;
-    Ok(seen)
-}
-
-/// The query over numbers, with all its refs.
-fn made(alloc: Global, schema: &Schema, query: &Query, refs: &[&Ref]) -> Result<Resolved, NoMemory>
-    requires few { AreFew query.now.outputs query.now.cond }
-    requires refs { map (λ r. r.now) refs.now ≡ all_refs query.now }
-    ensures { IfOk result (λ r. r ≡ resolved_of schema.now query.now) }
-{
-    let variables = variables(alloc, refs)?;
-    let places = places_of(alloc, schema, variables.as_slice(), refs)?;
-    let outputs = numbers(
-        alloc,
-        schema,
-        variables.as_slice(),
-        places.as_slice(),
-        query.outputs.as_slice(),
-    )?;
-    let cond = numbered(
-        alloc,
-        schema,
-        Scope::Attributes,
-        variables.as_slice(),
-        places.as_slice(),
-        &query.cond,
-    )?;
+    let Placed { places, numbers } = placed;
+    let (front, behind) = numbers.as_slice().split_at(query.outputs.len());
+    let outputs = List::from_vec(front.to_vec(alloc)?);
+    let cond = numbered(alloc, &mut Numbers::new(behind), &query.cond)?;
     Ok(Resolved {
         variables,
         places,

@@ -1,7 +1,4 @@
 //! The statements of a script.
-ghost use Rattle.std.specs.Prelude.{◌≡◌, ◌≢◌, ℕ, List as Items, IfOk, IfErr};
-ghost use Rattle.su_base.specs.declared.values.Value.{Value as AValue};
-
 use crate::conditions::NamedCond;
 use crate::refs::Ref;
 use su_base::{List, Row, Str};
@@ -78,20 +75,6 @@ impl Drop for Statement {
                 second: _,
             } => {}
             Statement::Window { attributes: _ } => {}
-        }
-    }
-}
-
-impl Statement {
-    /// The relation and the row of an insert. Any other statement comes back.
-    pub fn into_insert(self) -> Result<(Str, Row), Statement>
-        ensures insert { IfOk result (λ parts. self ≡ Statement.Insert parts.0 parts.1) }
-        ensures other { IfErr result (λ statement. statement ≡ self) }
-        ensures none { IfErr result (λ statement. (relation : Items ℕ) (row : Items AValue) → statement ≢ Statement.Insert relation row) }
-    {
-        match self {
-            Statement::Insert { relation, row } => Ok((relation, row)),
-            other => Err(other),
         }
     }
 }

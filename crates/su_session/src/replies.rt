@@ -1,11 +1,10 @@
 //! The reply to a statement.
-ghost use Rattle.std.specs.Prelude.{◌≡◌, ◌++◌, IfOk, OnOk};
-ghost use Rattle.su_show.specs.RefusalLines.{refusal_line, IsNoMemory};
+ghost use Rattle.std.specs.Prelude.{IfOk, OnOk};
+ghost use Rattle.su_show.specs.RefusalLines.{IsNoMemory};
 ghost use Rattle.su_session.specs.Outcomes.{Accepts, Refuses};
 
 use std::alloc::Global;
 use su_base::{List, NoMemory};
-use su_schema::Schema;
 use su_show::{Refusal, refusal};
 use su_state::Database;
 

@@ -1,6 +1,5 @@
 //! The session: a database, its maximal objects, and one command after another.
-ghost use Rattle.std.specs.Prelude.{◌≡◌, ◌≢◌, ◌≤◌, ℕ, List as Items, IfOk, OnErr, option_map, unwrap_or, []};
-ghost use Rattle.su_base.specs.declared.values.Value.{Value as AValue};
+ghost use Rattle.std.specs.Prelude.{◌≡◌, ◌≤◌, ℕ, List as Items, IfOk, OnErr, option_map, unwrap_or, []};
 
 use crate::certifying::certify;
 use crate::changes::{delete, delete_where, insert, load};
@@ -14,6 +13,7 @@ use crate::wants::Want;
 use crate::windowing::show_window;
 use std::alloc::Global;
 use std::marker::Model;
+use std::mem::replace;
 use std::thread::Threads;
 use su_base::{List, NoMemory, ObjSet};
 use su_maxobj::maximal_objects;
@@ -178,31 +178,12 @@ impl Session {
         ensures replied { IfOk result (λ reply. Answers self.old file.now statement reply self.new) }
         ensures unchanged { OnErr result (self.new ≡ self.old) }
     {
-        match statement.into_insert() {
-            Ok((relation, row)) => insert(self.alloc, &mut self.db, &relation, row),
-            Err(statement) => self.answer_other(rt, &statement, file, workers, gate),
-        }
-    }
-
-    /// Any statement but an insert, which hands over its row.
-    fn answer_other<R: Threads + Sync, G: Gate>(
-        &mut self,
-        rt: &R,
-        statement: &Statement,
-        file: &[u8],
-        workers: u8,
-        gate: &G,
-    ) -> Result<Reply, NoMemory>
-        requires least { 1 ≤ workers }
-        requires most { workers ≤ 16 }
-        requires few { HasFew statement.now }
-        requires ready { IsReady statement.now }
-        requires other { (relation : Items ℕ) (row : Items AValue) → statement.now ≢ Statement.Insert relation row }
-        ensures replied { IfOk result (λ reply. Answers self.old file.now statement.now reply self.new) }
-        ensures unchanged { OnErr result (self.new ≡ self.old) }
-    {
-        match statement {
-            Statement::Insert { .. } => unreachable!(),
+        let mut statement = statement;
+        match &mut statement {
+            Statement::Insert { relation, row } => {
+                let row = replace(row, List::new(self.alloc));
+                insert(self.alloc, &mut self.db, relation, row)
+            }
             Statement::Delete { relation, row } => delete(self.alloc, &mut self.db, relation, row),
             Statement::DeleteWhere { relation, cond } => {
                 delete_where(self.alloc, &mut self.db, relation, cond)

@@ -1,4 +1,4 @@
-use Rattle.std.proofs.Common.{◌≡◌, ◌≤◌, take, length}
+use Rattle.std.proofs.Common.{◌≡◌, take, length}
 use Rattle.su_schema.specs.Entries.{attribute_kinds}
 use Rattle.su_session.proofs.certifying.kinds_of.Given as goal
 

@@ -1,9 +1,0 @@
-use Rattle.std.proofs.Common.{◌≡◌, ◌≤◌, length, map, drop}
-use Rattle.su_query.specs.Mentions.{mentions}
-use Rattle.su_query.proofs.mentions.note_refs.Given as goal
-
-abbrev pub invariant-loop-reference : goal.invariant-loop-reference
-invariant-loop-reference l = record {
-  whole : mentions l.seen (map (λ r. r.now) (drop l.reference-index l.references)) ≡ mentions l.fn.seen (map (λ r. r.now) l.references);
-  few : length l.seen ≤ 8;
-}
