@@ -1,5 +1,5 @@
 -- Steps of a body with checks.
-use Rattle.std.proofs.Common.{◌≡◌, ℕ, ◌⊎◌, ◌++◌, Bool, true, false, List, [], ◌∷◌, refl, sym, ap, ◌∙◌, inl, inr, ⊎_elim, arith}
+use Rattle.std.proofs.Common.{◌≡◌, ℕ, ◌⊎◌, ◌++◌, true, false, List, [], ◌∷◌, refl, ap, ◌∙◌, inl, inr, ⊎_elim, arith}
 use Rattle.std.specs.Prelude.{nat_eq, ◌&&◌}
 use Rattle.std.proofs.lemmas.Bool.{cases_Bool}
 use Rattle.std.proofs.lemmas.Bool.Decides.{nat_tests}
@@ -13,7 +13,7 @@ use Rattle.su_exec.specs.declared.checks.Check.{Check}
 use Rattle.su_exec.specs.inside.Bodies.{AreThere}
 use Rattle.su_exec.specs.inside.Checks.{all_hold, check_holds, check_vars, code_of, vars_of}
 use Rattle.su_reduce.specs.Codes.{decode}
-use Rattle.su_exec.specs.inside.Edges.{Edge, Fits, has, among, HaveSameValues, Keeps, Splits, Same}
+use Rattle.su_exec.specs.inside.Edges.{Edge, Fits, has, among, HaveSameValues, Splits, Same}
 use Rattle.su_exec.proofs.PartSteps.{agree_at}
 use Rattle.su_exec.proofs.Parts.{put_in}
 

@@ -1,8 +1,8 @@
-use Rattle.std.proofs.Common.{◌≡◌, ◌≤◌, List, ℕ, length, slice_get, Some, arith}
+use Rattle.std.proofs.Common.{◌≡◌, List, ℕ, slice_get, Some}
 use Rattle.su_base.specs.declared.values.Value.{Value}
 use Rattle.su_rel.specs.Stored.{Stored}
 use Rattle.su_tableau.specs.declared.symbols.Sym.TheVariants.{Const}
-use Rattle.su_index.specs.Matches.{AreMatches, matches}
+use Rattle.su_index.specs.Matches.{AreMatches}
 use Rattle.su_index.specs.Tables.{table_at}
 use Rattle.su_exec.specs.inside.Ways.{IsConstantAt}
 use Rattle.su_exec.proofs.Ways.{constant_way}

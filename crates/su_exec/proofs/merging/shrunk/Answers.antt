@@ -1,5 +1,5 @@
--- Joined with itself, an edge keeps the rows that pass the tests on it alone, and of its columns those that the rest or the outputs need; where there are no tests and all columns are needed it stays.
-use Rattle.std.proofs.Common.{◌≡◌, ◌∷◌, ◌&&◌, ◌||◌, [], List, ℕ, map, refl, sym, ap, subst, ◌∙◌}
+-- An edge keeps the rows that pass the tests on it alone: where all its columns are needed it is sifted where it stands, else it is joined with itself and keeps the columns that the rest or the outputs need.
+use Rattle.std.proofs.Common.{◌≡◌, ◌∷◌, ◌&&◌, ◌||◌, [], List, ℕ, map, refl, ap, subst, ◌∙◌}
 use Rattle.su_base.specs.declared.values.Value.{Value}
 use Rattle.su_exec.specs.declared.checks.Check.{Check}
 use Rattle.su_exec.specs.declared.checks.Test.{Test}
