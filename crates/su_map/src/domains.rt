@@ -42,8 +42,9 @@ fn assign(
     ensures none { result ≡ None → (choice : ℕ → ℕ) → IsChoice net.now (length domains.now) mask domains.now choice → choice row ≡ target → ⊥ }
 {
     next.copy_from_slice(domains);
-    next[row] = bit(target);
-    let mut changed = bit(row);
+    let left = bit(target);
+    next[row] = left;
+    let mut changed = noted(0, row, domains[row], left);
     let mut rest = without(both(mask, net.near(row)), row);
     while rest != 0 {
         let q = lowest(rest);

@@ -23,7 +23,7 @@ pub enum Order {
     FewestFirst,
 }
 
-/// The row of the set with the fewest targets.
+/// The row of the set with the fewest targets; the first that has one only.
 fn fewest(todo: u64, domains: &[u64]) -> usize
     requires some { 0 < todo }
     requires within { (r : ℕ) → bit_at todo r ≡ 1 → r < length domains.now }
@@ -31,9 +31,15 @@ fn fewest(todo: u64, domains: &[u64]) -> usize
     ensures { bit_at todo result ≡ 1 }
 {
     let mut row = lowest(todo);
+    let mut least = domains[row].count_ones();
     for r in 0..domains.len() {
-        if has(todo, r) && domains[r].count_ones() < domains[row].count_ones() {
+        if least < 2 {
+            return row;
+        }
+        let count = domains[r].count_ones();
+        if has(todo, r) && count < least {
             row = r;
+            least = count;
         }
     }
     row

@@ -55,12 +55,28 @@ impl Codes {
         }
     }
 
-    /// The code of the value, which gets one where it has none.
+    /// The code of a value of its own, which is looked for and put in at once.
+    fn put(&mut self, value: Value) -> Result<u32, AllocError>
+        ensures code { IfOk result (λ code. slice_get self.new code ≡ Some value) }
+        ensures extends { Extends self.old self.new }
+        ensures kept { (self.new ≡ self.old) ⊎ (self.new ≡ self.old ++ value ∷ []) }
+    {
+        let Ok(added) = self.values.insert_full(value) else {
+            return Err(AllocError);
+        };
+        let code = short(added.0)?;
+        Ok(code)
+    }
+
+    /// The code of the value, which gets one where it has none. A text is copied only then.
     pub fn code(&mut self, alloc: Global, value: &Value) -> Result<u32, AllocError>
         ensures code { IfOk result (λ code. slice_get self.new code ≡ Some value.now) }
         ensures extends { Extends self.old self.new }
         ensures kept { (self.new ≡ self.old) ⊎ (self.new ≡ self.old ++ value.now ∷ []) }
     {
+        if let Value::Int(number) = value {
+            return self.put(Value::Int(*number));
+        }
         if let Some(position) = self.values.get_index_of(value) {
             let code = short(position)?;
             return Ok(code);
@@ -68,11 +84,7 @@ impl Codes {
         let Ok(copied) = value.copy(alloc) else {
             return Err(AllocError);
         };
-        let Ok(added) = self.values.insert_full(copied) else {
-            return Err(AllocError);
-        };
-        let code = short(added.0)?;
-        Ok(code)
+        self.put(copied)
     }
 }
 

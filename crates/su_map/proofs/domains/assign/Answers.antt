@@ -1,5 +1,5 @@
 -- A choice that sends the row to the target keeps the targets that agree with it, so no choice is lost where a domain is cut to them; an empty domain shows that there is none.
-use Rattle.std.proofs.Common.{◌≡◌, ◌≢◌, ◌<◌, ◌∙◌, ℕ, length, length-set, get_or, set, inl, inr, sym, ap, subst, ⊎_elim, arith, get_or-set_other, get_or-set_same}
+use Rattle.std.proofs.Common.{◌≡◌, ◌≢◌, ◌<◌, ◌∙◌, ℕ, length, length-set, get_or, set, inl, inr, refl, sym, ap, subst, ⊎_elim, arith, get_or-set_other, get_or-set_same}
 use Rattle.std.specs.Int.{bit_at}
 use Rattle.su_map.specs.Netted.{agree_of}
 use Rattle.std.proofs.lemmas.Bool.{cases_eq}
@@ -12,9 +12,9 @@ use Rattle.su_map.proofs.domains.assign.Goals.{After-both-left}
 
 pub loop-rest-init : goal.loop-rest-init
 loop-rest-init c =
-    let n = length c.args.domains.now in let m = c.args.mask in let row = c.args.row in let v = c.bit.result in
+    let n = length c.args.domains.now in let m = c.args.mask in let row = c.args.row in let v = c.bit-left.result in
     let low : row < n = c.requires.mask row c.requires.row in
-    let a = begun_by c.args.net.now n m row c.args.target v c.args.domains.now c.copy_from_slice.new.self c.copy_from_slice.ensures.after low c.bit.ensures c.requires.in_domain in
+    let a = begun_by c.args.net.now n m row c.args.target v c.args.domains.now c.copy_from_slice.new.self c.copy_from_slice.ensures.after low c.bit-left.ensures c.requires.in_domain in
     record {
       rest = λ q one.
           let ne : q ≢ row = λ e. absurd (let z = ap (bit_at c.without-rest.result) e ∙ c.without-rest.ensures.out in omega arith) in
@@ -26,7 +26,7 @@ loop-rest-init c =
       only = a.only;
       alive = a.alive;
       all = a.all;
-      changed = λ q one. subst (λ q. bit_at m q ≡ 1) (sym ((pow_member c.bit-changed.result row q c.bit-changed.ensures).0 one)) c.requires.row;
+      changed = λ q one. ⊎_elim (λ (e : bit_at 0 q ≡ 1). absurd (no_member 0 q refl e)) (λ (e : q ≡ row). subst (λ q. bit_at m q ≡ 1) (sym e) c.requires.row) (c.noted-changed.ensures q one);
     }
 
 -- what a choice has for row q stays
@@ -79,7 +79,7 @@ loop-rest-preserved c =
           ⊎_elim
           (λ (before : bit_at c.loop-rest.changed p ≡ 1). c.loop-rest.invariant.changed p before)
           (λ (e : p ≡ q). subst (λ p. bit_at c.args.mask p ≡ 1) (sym e) r.0)
-          (c.noted-changed.ensures p one);
+          (c.noted-changed-in-loop-rest.ensures p one);
     }
 
 pub loop-rest-smaller : goal.loop-rest-smaller
