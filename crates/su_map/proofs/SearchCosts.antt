@@ -9,15 +9,8 @@ use Rattle.su_map.proofs.Ranks.{numbers_first}
 count_more : (p : ℕ → Bool) (n : ℕ) → count_below p (n + 1) ≡ count_below p n + cond (p n) 1 0
 count_more p n = ap (count_below p) (add-one n)
 
-over_numbers : (start now a x k : ℕ) → now ≤ start + a * suc k → now ≤ start + (a + x) * suc k
-over_numbers start now a x k h = omega arith
-
 tried_numbers : (start now new a t : ℕ) → now ≤ start + a * suc t → new ≤ now + 1 + t → new ≤ start + (a + 1) * suc t
 tried_numbers start now new a t h l = omega arith
-
--- one target further, which wasn't tried
-pub cost_passed : (p : ℕ → Bool) (n start now k : ℕ) → now ≤ start + count_below p n * suc k → now ≤ start + count_below p (n + 1) * suc k
-cost_passed p n start now k h = subst (λ a. now ≤ start + a * suc k) (sym (count_more p n)) (over_numbers start now (count_below p n) (cond (p n) 1 0) k h)
 
 -- one target further, which passes and was tried
 pub cost_tried : (p : ℕ → Bool) (n start now new t : ℕ) → p n ≡ true → now ≤ start + count_below p n * suc t → new ≤ now + 1 + t → new ≤ start + count_below p (n + 1) * suc t
@@ -31,6 +24,14 @@ count_mono p m (suc d) =
     let e : m + suc d ≡ suc (m + d) = omega arith in
     let i = count_mono p m d in
     subst (λ n. count_below p m ≤ count_below p n) (sym e) (omega arith)
+
+-- the bound up to a target that comes later is no lower
+pub cost_later : (p : ℕ → Bool) (m n start now k : ℕ) → m ≤ n → now ≤ start + count_below p m * suc k → now ≤ start + count_below p n * suc k
+cost_later p m n start now k low h =
+    let up : m + (n - m) ≡ n = omega arith in
+    let more : count_below p m ≤ count_below p n = subst (λ i. count_below p m ≤ count_below p i) up (count_mono p m (n - m)) in
+    let wide = mul-le-mul_right (suc k) more in
+    omega arith
 
 -- the bound over the targets so far is within that over the rows of the set
 pub cost_all : (passes : ℕ → ℕ → Bool) (targets n m new r j start now : ℕ) → j ≤ targets → r < n → bit_at m r ≡ 1 → bit_at new r ≡ 0 → ((i : ℕ) → i ≢ r → bit_at new i ≡ bit_at m i) → ((i : ℕ) → bit_at m i ≡ 1 → r ≤ i) → now ≤ start + count_below (passes r) j * suc (tries passes targets n new) → now ≤ start + tries passes targets n m

@@ -32,7 +32,7 @@ fn fewest(todo: u64, domains: &[u64]) -> usize
 {
     let mut row = lowest(todo);
     let mut least = domains[row].count_ones();
-    for r in 0..domains.len() {
+    for r in row..domains.len() {
         if least < 2 {
             return row;
         }
@@ -87,16 +87,18 @@ pub fn search<L: Ledger>(
     }
     let row = next_row(aim.order, todo, domains);
     let rest = without(todo, row);
-    for target in 0..aim.net.targets() {
-        if has(domains[row], target) {
-            steps.tick();
-            choice[row] = target as u8;
-            let (next, more) = room.split_at_mut(domains.len());
-            if descend(aim.net, aim.mask, row, target, domains, next)
-                && search(aim, rest, next, more, choice, steps)
-            {
-                return true;
-            }
+    let mut left = domains[row];
+    while left != 0 {
+        let target = lowest(left);
+        let later = without(left, target);
+        left = later;
+        steps.tick();
+        choice[row] = target as u8;
+        let (next, more) = room.split_at_mut(domains.len());
+        if descend(aim.net, aim.mask, row, target, domains, next)
+            && search(aim, rest, next, more, choice, steps)
+        {
+            return true;
         }
     }
     false

@@ -5,7 +5,7 @@ use Rattle.su_map.specs.Netted.{agree_of}
 use Rattle.std.proofs.lemmas.Bool.{cases_eq}
 use Rattle.su_map.specs.inside.Choices.{IsChoice}
 use Rattle.su_map.proofs.Members.{no_member, without_in}
-use Rattle.su_map.proofs.ShrunkDomains.{pow_member, begun_by, agreed, set_choice, set_shrinks, set_alive}
+use Rattle.su_map.proofs.ShrunkDomains.{begun_by, agreed, set_choice, set_shrinks, set_alive}
 use Rattle.su_map.proofs.SearchStates.{without_less}
 use Rattle.su_map.proofs.domains.assign.Goals as goal
 use Rattle.su_map.proofs.domains.assign.Goals.{After-both-left}
