@@ -10,4 +10,4 @@ pub delete_where-requires-clause-places : goal.delete_where-requires-clause-plac
 delete_where-requires-clause-places c =
     let at = subst (λ (s : SchemaValue). slice_get (relation_columns s) 0 ≡ Some c.columns.result.now) c.schema-2.ensures c.columns.ensures.at in
     let two : length (columns_of c.args.db.now 0) ≡ 2 = ap length (columns_read c.args.db.now 0 c.columns.result.now at) ∙ c.if-columns-ne2.false in
-    subst (λ (n : ℕ). Fits n c.first_is_at_most_second.result) (sym two) c.first_is_at_most_second.ensures
+    subst (λ (n : ℕ). Fits n c.first_is_at_most_second-condition.result) (sym two) c.first_is_at_most_second-condition.ensures
