@@ -1,9 +1,5 @@
-<<<<<<< ours
 -- One row is sent to each of its targets in turn: a choice goes on from one of them or from none, those before have been tried in full, and the room for deeper levels shrinks with the rows that are left.
-use Rattle.std.proofs.Common.{◌≡◌, ◌≢◌, ◌⊎◌, ◌+◌, ◌*◌, ◌<◌, ◌≤◌, ℕ, Bool, length, length-set, get_or, set, sym, ap, ◌∙◌, subst, true≢false, arith}
-=======
 use Rattle.std.proofs.Common.{◌≡◌, ◌≢◌, ◌⊎◌, ◌+◌, ◌*◌, ◌<◌, ◌≤◌, ℕ, Bool, length, length-set, set, sym, ap, ◌∙◌, subst, arith}
->>>>>>> theirs
 use Rattle.std.specs.Int.{bit_at}
 use Rattle.su_map.specs.declared.search.Order.TheVariants.{Ascending}
 use Rattle.su_map.specs.Lists.{numbers_of}
