@@ -1,4 +1,5 @@
-use Rattle.std.proofs.Common.{IfOk, sym, subst}
+use Rattle.std.proofs.Common.{IfOk, List, sym, subst}
+use Rattle.su_base.specs.declared.values.Value.{Value}
 use Rattle.su_query.specs.declared.statements.Statement.{Statement}
 use Rattle.su_state.specs.DatabaseValue.{DatabaseValue}
 use Rattle.su_session.specs.Statements.{Answers}
@@ -11,7 +12,8 @@ returns-in-Insert-clause-replied g c =
     let old : DatabaseValue = c.args.self.now in
     let new : DatabaseValue = c.insert.new.db in
     subst (λ (st : Statement). IfOk c.insert.result (λ reply. Answers old c.args.file.now st reply new)) (sym c.in-Insert.is)
-    (subst (λ (db : DatabaseValue). IfOk c.insert.result (λ reply. InRelation db c.in-Insert.relation reply new (InsertsRow db c.in-Insert.row reply new))) c.self.view_is c.insert.ensures.replied)
+    (subst (λ (row : List Value). IfOk c.insert.result (λ reply. InRelation old c.in-Insert.relation reply new (InsertsRow old row reply new))) c.replace-row.ensures.value
+    (subst (λ (db : DatabaseValue). IfOk c.insert.result (λ reply. InRelation db c.in-Insert.relation reply new (InsertsRow db c.replace-row.result reply new))) c.self.view_is c.insert.ensures.replied))
 
 pub returns-in-DeleteWhere-clause-replied : goal.returns-in-DeleteWhere-clause-replied
 returns-in-DeleteWhere-clause-replied g c =
