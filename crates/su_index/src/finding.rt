@@ -1,13 +1,13 @@
 //! Searches in the chunks of an index.
 ghost use Rattle.std.specs.Prelude.{◌≡◌, ◌<◌, ◌≤◌, ◌+◌, ◌-◌, ◌^◌, length, slice_index_or};
 ghost use Rattle.su_index.specs.Chunks.{entries_of, len_at, HaveEntries};
-ghost use Rattle.su_index.specs.inside.Chunks.{before_chunk, rank_in, IsGap, IsPlace};
+ghost use Rattle.su_index.specs.inside.Chunks.{before_chunk, rank_in, IsPlace};
 ghost use Rattle.su_index.specs.Entries.{positions, HaveLeads};
 ghost use Rattle.su_index.specs.Lead.{IsLead};
 ghost use Rattle.su_index.specs.Order.{value_at};
 ghost use Rattle.su_index.specs.inside.Entries.{AreOrdered};
 ghost use Rattle.su_index.specs.inside.Order.{HaveColumn, ArePositions};
-ghost use Rattle.su_index.specs.inside.Searches.{AreBefore, AreBehind, EndsBehind, IsSpanIn};
+ghost use Rattle.su_index.specs.inside.Searches.{AreBefore, NoneBefore, NoneBeforeAtEnd, IsSpanIn};
 ghost use Rattle.su_index.specs.declared.chunk.Chunk.{Chunk as Piece};
 
 use crate::chunk::Chunk;
@@ -49,7 +49,7 @@ fn chunk_for(
     requires chunks { 0 < length chunks.now }
     ensures within { result < length chunks.now }
     ensures below { AreBefore (value_at rows.now column) wanted.now position (entries_of chunks.now) (before_chunk chunks.now result) }
-    ensures above { EndsBehind (value_at rows.now column) wanted.now position chunks.now result }
+    ensures above { NoneBeforeAtEnd (value_at rows.now column) wanted.now position chunks.now result }
 {
     let mut low = 0;
     let mut high = chunks.len() - 1;
@@ -83,10 +83,10 @@ fn place_in(
     requires lead { IsLead lead wanted.now }
     requires within { chunk < length chunks.now }
     requires below { AreBefore (value_at rows.now column) wanted.now position (entries_of chunks.now) (before_chunk chunks.now chunk) }
-    requires above { EndsBehind (value_at rows.now column) wanted.now position chunks.now chunk }
+    requires above { NoneBeforeAtEnd (value_at rows.now column) wanted.now position chunks.now chunk }
     ensures most { (d : Piece) → result ≤ len_at chunks.now chunk d }
     ensures below { AreBefore (value_at rows.now column) wanted.now position (entries_of chunks.now) (before_chunk chunks.now chunk + result) }
-    ensures above { AreBehind (value_at rows.now column) wanted.now position (entries_of chunks.now) (before_chunk chunks.now chunk + result) }
+    ensures above { NoneBefore (value_at rows.now column) wanted.now position (entries_of chunks.now) (before_chunk chunks.now chunk + result) }
 {
     let mut low = 0;
     let mut high = len_of(chunks, chunk);
@@ -125,7 +125,7 @@ pub(crate) fn find(
     requires chunks { 0 < length chunks.now }
     ensures place { IsPlace chunks.now result }
     ensures below { AreBefore (value_at rows.now column) wanted.now position (entries_of chunks.now) (rank_in chunks.now result) }
-    ensures above { AreBehind (value_at rows.now column) wanted.now position (entries_of chunks.now) (rank_in chunks.now result) }
+    ensures above { NoneBefore (value_at rows.now column) wanted.now position (entries_of chunks.now) (rank_in chunks.now result) }
 {
     let chunk = chunk_for(rows, column, chunks, lead, wanted, position);
     let at = place_in(rows, column, chunks, chunk, lead, wanted, position);
@@ -153,7 +153,7 @@ fn past(
     requires below { AreBefore (value_at rows.now column) wanted.now 0 (entries_of chunks.now) (rank_in chunks.now first) }
     ensures place { IsPlace chunks.now result }
     ensures below { AreBefore (value_at rows.now column) wanted.now (length rows.now) (entries_of chunks.now) (rank_in chunks.now result) }
-    ensures above { AreBehind (value_at rows.now column) wanted.now (length rows.now) (entries_of chunks.now) (rank_in chunks.now result) }
+    ensures above { NoneBefore (value_at rows.now column) wanted.now (length rows.now) (entries_of chunks.now) (rank_in chunks.now result) }
 {
     let top = rows.len() as u32;
     let len = len_of(chunks, first.chunk);

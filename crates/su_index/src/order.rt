@@ -7,7 +7,7 @@ ghost use Rattle.su_index.specs.Lead.{IsLead};
 ghost use Rattle.su_index.specs.Order.{value_at, compare_keys};
 ghost use Rattle.su_index.specs.inside.Entries.{AreOrdered};
 ghost use Rattle.su_index.specs.inside.Order.{comes_before, has_at, HaveColumn, ArePositions};
-ghost use Rattle.su_index.specs.inside.Searches.{AreBefore, AreBehind};
+ghost use Rattle.su_index.specs.inside.Searches.{AreBefore, NoneBefore};
 
 use crate::entry::Entry;
 use std::cmp::Ordering;
@@ -105,7 +105,7 @@ pub(crate) fn place(
     requires lead { IsLead lead wanted.now }
     ensures within { result ≤ length run.now }
     ensures below { AreBefore (value_at rows.now column) wanted.now position run.now result }
-    ensures above { AreBehind (value_at rows.now column) wanted.now position run.now result }
+    ensures above { NoneBefore (value_at rows.now column) wanted.now position run.now result }
 {
     let mut low = 0;
     let mut high = run.len();

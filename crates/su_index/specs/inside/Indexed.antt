@@ -25,7 +25,9 @@ AreIndexesWithout rows p indexes = (column : ℕ) (d : Index) → column < lengt
 
 -- the entries of each index are a run of its column, from the first row on
 abbrev pub AreRuns : List (List Value) → List Index → Type 0
-AreRuns rows indexes = (column : ℕ) (d : Index) → column < length indexes → IsRunWithLeads (value_at rows column) 0 (entries_in (slice_index_or indexes column d))
+AreRuns rows indexes =
+    (column : ℕ) (d : Index) → column < length indexes
+    → IsRunWithLeads (value_at rows column) 0 (entries_in (slice_index_or indexes column d))
 
 -- each index can take one more position without memory
 abbrev pub HaveRoom : List Index → Type 0

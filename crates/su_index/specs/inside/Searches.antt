@@ -15,13 +15,13 @@ use Rattle.su_index.specs.inside.Order.{comes_before, IsSpan}
 abbrev pub AreBefore : (ℕ → Value) → Value → ℕ → List Entry → ℕ → Type 0
 AreBefore at v p run n = (k : ℕ) → k < n → comes_before at v p (slice_index (positions run) k) ≡ true
 
--- no entry from the n-th on does
-abbrev pub AreBehind : (ℕ → Value) → Value → ℕ → List Entry → ℕ → Type 0
-AreBehind at v p run n = (k : ℕ) → n ≤ k → k < length run → comes_before at v p (slice_index (positions run) k) ≡ false
+-- no entry behind the first n does
+abbrev pub NoneBefore : (ℕ → Value) → Value → ℕ → List Entry → ℕ → Type 0
+NoneBefore at v p run n = (k : ℕ) → n ≤ k → k < length run → comes_before at v p (slice_index (positions run) k) ≡ false
 
 -- no entry from the last one of the chunk on does, unless the chunk is the last one
-abbrev pub EndsBehind : (ℕ → Value) → Value → ℕ → List Chunk → ℕ → Type 0
-EndsBehind at v p chunks chunk =
+abbrev pub NoneBeforeAtEnd : (ℕ → Value) → Value → ℕ → List Chunk → ℕ → Type 0
+NoneBeforeAtEnd at v p chunks chunk =
     (k : ℕ) → chunk + 1 < length chunks → before_chunk chunks (chunk + 1) ≤ k + 1 → k < length (entries_of chunks)
     → comes_before at v p (slice_index (positions (entries_of chunks)) k) ≡ false
 
