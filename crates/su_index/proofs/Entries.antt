@@ -14,7 +14,8 @@ use Rattle.su_index.specs.Lead.{IsLead}
 use Rattle.su_index.specs.Order.{compare_keys, compare_places, count_below, IsRun}
 use Rattle.su_index.specs.inside.Order.{ArePositions, comes_before, with_value, is_kept, rank_of}
 use Rattle.su_index.proofs.Changed.{index-same, index_add, index_of_run, index_removed, with_value-itself, with_value-other, with_value-same, empty_run}
-use Rattle.su_index.proofs.Keys.{Key, key_cmp, IsRun-sorted}
+use Rattle.su_index.specs.inside.Keys.{Key}
+use Rattle.su_index.proofs.Keys.{key_cmp, IsRun-sorted}
 use Rattle.su_index.proofs.MergedRuns.{Merging, merge_none, merge_step, merge_end}
 use Rattle.su_index.proofs.Ranks.{new_run, kept_index}
 use Rattle.su_index.proofs.Spans.{later_too, index_positions}

@@ -1,5 +1,5 @@
 -- Positions with their values: what is added to such a list, and what a sort makes of it.
-use Rattle.std.proofs.Common.{◌≡◌, ◌<◌, ◌≤◌, ◌+◌, ℕ, zero, suc, Bool, true, false, cond, List, [], ◌∷◌, ◌++◌, map, length, get_or, ap, refl, sym, ◌∙◌, arith, All, Bor, count_by, nat_eq, add-one, subst}
+use Rattle.std.proofs.Common.{◌≡◌, ◌<◌, ◌≤◌, ◌+◌, ℕ, zero, suc, Bool, true, false, cond, List, [], ◌∷◌, ◌++◌, map, length, get_or, ap, refl, sym, ◌∙◌, arith, All, count_by, nat_eq, add-one, subst}
 use Rattle.std.specs.List.Sorted.{IsPermutation, IsSorted}
 use Rattle.std.specs.Ordering.{nat_cmp, ordering_then, ordering_reverse, is_lt}
 use Rattle.std.specs.declared.cmp.Ordering.{Ordering}
@@ -14,13 +14,11 @@ use Rattle.su_base.specs.declared.values.Value.{Value}
 use Rattle.su_base.specs.contracts.values.ValueOrd.TheImpl.{ghosts}
 use Rattle.su_base.specs.Value.{compare_values}
 use Rattle.su_base.proofs.Rows.{cmp-values}
+use Rattle.su_index.specs.inside.Keys.{Key}
 use Rattle.su_index.specs.Lead.{lead_of, IsLead}
 use Rattle.su_index.specs.Order.{compare_keys, compare_places, count_below, IsRun}
 use Rattle.su_index.proofs.Runs.{places_total, count_by-cons, count_below-suc}
 use Rattle.su_index.proofs.Changed.{after, count_below_one}
-
-abbrev pub Key : Type 0
-Key = ℕ × Bor Value × ℕ
 
 pub each_pushed : (keys news : List Key) (key : Key) (from n : ℕ) → news ≡ keys ++ key ∷ [] → key.2 ≡ n → ((test : ℕ → Bool) → count_below test from + count_by (λ (k : Key). test k.2) keys ≡ count_below test n) → (test : ℕ → Bool) → count_below test from + count_by (λ (k : Key). test k.2) news ≡ count_below test (n + 1)
 each_pushed keys news key from n e is each test =

@@ -9,8 +9,8 @@ use Rattle.su_base.specs.declared.values.Value.TheVariants.{Int}
 use Rattle.su_rel.specs.Changes.{PutInAll}
 use Rattle.su_rel.specs.Stored.{Stored}
 use Rattle.su_index.specs.declared.index.Index.{Index}
-use Rattle.su_index.specs.Indexed.{AreIndexesBelow, IsIndexAt, IsIndexed, entries_in}
-use Rattle.su_index.specs.inside.Indexed.{HavePositions, AreKept}
+use Rattle.su_index.specs.Indexed.{AreIndexesBelow, IsIndexed, entries_in}
+use Rattle.su_index.specs.inside.Indexed.{AreIndexesWithout, HavePositions, AreKept}
 use Rattle.su_index.specs.inside.Entries.{IsRunWithLeads}
 use Rattle.su_index.specs.Order.{value_at}
 use Rattle.su_index.specs.inside.Order.{rank_of, with_value}
@@ -50,7 +50,7 @@ length-swap_remove rows i row h =
     length-take-le (length rows - 1) (set rows i (get_or rows (length rows - 1) row)) (omega (arith, length-set rows i (get_or rows (length rows - 1) row)))
 
 pub indexed_removed : (old new : Stored) (i : ℕ) (row : List Value) (indexes : List Index) → i < length old.rows → length old.rows < 2 ^ 32 → new.rows ≡ swap_remove old.rows i row → length indexes ≡ new.width
-    → ((column : ℕ) (d : Index) → column < length indexes → IsIndexAt (with_value (value_at old.rows column) i (value_at old.rows column (length old.rows - 1))) (length old.rows - 1) (get_or indexes column d))
+    → AreIndexesWithout old.rows i indexes
     → IsIndexed new indexes
 indexed_removed old new i row indexes h small e count all =
     let len : length new.rows ≡ length old.rows - 1 = ap length e ∙ length-swap_remove old.rows i row (omega arith) in

@@ -3,11 +3,11 @@
 //! one with room; before the next entry comes, the full chunk is split.
 ghost use Rattle.std.specs.Prelude.{◌≡◌, ◌≢◌, ◌<◌, ◌≤◌, ◌+◌, ◌++◌, ◌-◌, ◌^◌, ◌∷◌, [], ℕ, length, drop, slice_index_or, IfOk, OnOk};
 ghost use Rattle.std.specs.Bool.{OnTrue, OnFalse};
-ghost use Rattle.std.specs.List.{insert, remove};
+ghost use Rattle.std.specs.List.{insert};
 ghost use Rattle.std.specs.VecDeque.{deque_len, deque_capacity};
 ghost use Rattle.su_index.specs.Chunks.{entries_of, len_at, HaveEntries};
 ghost use Rattle.su_index.specs.Entries.{stretch};
-ghost use Rattle.su_index.specs.inside.Chunks.{capacity_at, before_chunk, rank_in, IsGap, IsPlace, HasRoom, HasRoomFrom};
+ghost use Rattle.su_index.specs.inside.Chunks.{capacity_at, before_chunk, rank_in, with_entry, without_entry, IsGap, IsPlace, HasRoom, HasRoomFrom};
 ghost use Rattle.su_index.specs.declared.chunk.Chunk.{Chunk as Piece};
 
 use crate::chunk::Chunk;
@@ -226,7 +226,7 @@ fn push_through(held: &mut VecDeque<Entry>, at: usize, entry: Entry) -> Entry
 fn displace(chunks: &mut Vec<Chunk>, place: ChunkPlace, entry: Entry) -> Entry
     requires place { IsGap chunks.old.items place }
     ensures count { length chunks.new.items ≡ length chunks.old.items }
-    ensures entries { insert (entries_of chunks.new.items) (before_chunk chunks.new.items (place.chunk + 1)) result ≡ insert (entries_of chunks.old.items) (rank_in chunks.old.items place) entry }
+    ensures entries { insert (entries_of chunks.new.items) (before_chunk chunks.new.items (place.chunk + 1)) result ≡ with_entry chunks.old.items place entry }
     ensures lens { (k : ℕ) (d : Piece) → len_at chunks.new.items k d ≡ len_at chunks.old.items k d }
     ensures capacities { (k : ℕ) (d : Piece) → capacity_at chunks.old.items k d ≤ capacity_at chunks.new.items k d }
 {
@@ -247,7 +247,7 @@ fn fill(chunks: &mut Vec<Chunk>, place: ChunkPlace, entry: Entry)
     requires place { IsGap chunks.old.items place }
     requires room { (d : Piece) → len_at chunks.old.items place.chunk d < capacity_at chunks.old.items place.chunk d }
     ensures count { length chunks.new.items ≡ length chunks.old.items }
-    ensures entries { entries_of chunks.new.items ≡ insert (entries_of chunks.old.items) (rank_in chunks.old.items place) entry }
+    ensures entries { entries_of chunks.new.items ≡ with_entry chunks.old.items place entry }
     ensures lens { (k : ℕ) (d : Piece) → len_at chunks.old.items k d ≤ len_at chunks.new.items k d }
 {
     if chunks[place.chunk].entries.insert(place.at, entry).is_err() {
@@ -260,7 +260,7 @@ pub(crate) fn put_at(chunks: &mut Vec<Chunk>, place: ChunkPlace, entry: Entry)
     requires place { IsGap chunks.old.items place }
     requires room { HasRoomFrom place.chunk chunks.old.items }
     ensures count { length chunks.new.items ≡ length chunks.old.items }
-    ensures entries { entries_of chunks.new.items ≡ insert (entries_of chunks.old.items) (rank_in chunks.old.items place) entry }
+    ensures entries { entries_of chunks.new.items ≡ with_entry chunks.old.items place entry }
     ensures lens { (k : ℕ) (d : Piece) → len_at chunks.old.items k d ≤ len_at chunks.new.items k d }
 {
     let mut place = place;
@@ -280,7 +280,7 @@ fn dig(chunks: &mut Vec<Chunk>, place: ChunkPlace)
     requires within { place.chunk < length chunks.old.items }
     requires there { (d : Piece) → place.at < len_at chunks.old.items place.chunk d }
     ensures count { length chunks.new.items ≡ length chunks.old.items }
-    ensures entries { entries_of chunks.new.items ≡ remove (entries_of chunks.old.items) (rank_in chunks.old.items place) }
+    ensures entries { entries_of chunks.new.items ≡ without_entry chunks.old.items place }
     ensures before { (k : ℕ) → k ≤ place.chunk → before_chunk chunks.new.items k ≡ before_chunk chunks.old.items k }
     ensures len { (d : Piece) → len_at chunks.new.items place.chunk d + 1 ≡ len_at chunks.old.items place.chunk d }
     ensures lens { (k : ℕ) (d : Piece) → k ≢ place.chunk → len_at chunks.new.items k d ≡ len_at chunks.old.items k d }
@@ -306,7 +306,7 @@ pub(crate) fn take_at(chunks: &mut Vec<Chunk>, place: ChunkPlace)
     requires some { HaveEntries chunks.old.items }
     requires within { place.chunk < length chunks.old.items }
     requires there { (d : Piece) → place.at < len_at chunks.old.items place.chunk d }
-    ensures entries { entries_of chunks.new.items ≡ remove (entries_of chunks.old.items) (rank_in chunks.old.items place) }
+    ensures entries { entries_of chunks.new.items ≡ without_entry chunks.old.items place }
     ensures some { HaveEntries chunks.new.items }
 {
     dig(chunks, place);
@@ -320,7 +320,7 @@ pub(crate) fn shift(chunks: &mut Vec<Chunk>, from: ChunkPlace, to: ChunkPlace, e
     requires there { (d : Piece) → from.at < len_at chunks.old.items from.chunk d }
     requires place { IsPlace chunks.old.items to }
     requires order { rank_in chunks.old.items to ≤ rank_in chunks.old.items from }
-    ensures entries { entries_of chunks.new.items ≡ insert (remove (entries_of chunks.old.items) (rank_in chunks.old.items from)) (rank_in chunks.old.items to) entry }
+    ensures entries { entries_of chunks.new.items ≡ insert (without_entry chunks.old.items from) (rank_in chunks.old.items to) entry }
     ensures some { HaveEntries chunks.new.items }
 {
     dig(chunks, from);

@@ -1,12 +1,9 @@
 //! The indexes of all columns.
-ghost use Rattle.std.specs.Prelude.{◌≡◌, ◌<◌, ◌≤◌, ◌+◌, ◌-◌, ◌^◌, ℕ, length, slice_index_or, IfOk, OnOk};
+ghost use Rattle.std.specs.Prelude.{◌≡◌, ◌<◌, ◌≤◌, ◌+◌, ◌^◌, ℕ, length, slice_index_or, IfOk, OnOk};
 ghost use Rattle.su_rel.specs.Stored.{HaveWidth};
-ghost use Rattle.su_index.specs.Indexed.{AreIndexesBelow, IsIndexAt, entries_in};
-ghost use Rattle.su_index.specs.inside.Indexed.{HaveRoom};
+ghost use Rattle.su_index.specs.Indexed.{AreIndexesBelow, entries_in};
+ghost use Rattle.su_index.specs.inside.Indexed.{HaveRoom, AreIndexesWithout, AreRuns};
 ghost use Rattle.su_index.specs.declared.index.Index.{Index as Indexed};
-ghost use Rattle.su_index.specs.inside.Entries.{IsRunWithLeads};
-ghost use Rattle.su_index.specs.Order.{value_at};
-ghost use Rattle.su_index.specs.inside.Order.{with_value};
 
 use crate::index::Index;
 use std::alloc::Global;
@@ -51,7 +48,7 @@ pub(crate) fn take_out(rows: &[Row], position: u32, indexes: &mut Vec<Index>)
     requires within { position < length rows.now }
     requires indexes { AreIndexesBelow rows.now (length rows.now) indexes.old.items }
     ensures len { length indexes.new.items ≡ length indexes.old.items }
-    ensures indexes { (column : ℕ) (d : Indexed) → column < length indexes.new.items → IsIndexAt (with_value (value_at rows.now column) position (value_at rows.now column (length rows.now - 1))) (length rows.now - 1) (slice_index_or indexes.new.items column d) }
+    ensures indexes { AreIndexesWithout rows.now position indexes.new.items }
 {
     for column in 0..indexes.len() {
         indexes[column].take_out(rows, column, position);
@@ -67,7 +64,7 @@ pub(crate) fn grown(
 ) -> Result<Vec<Index>, NoMemory>
     requires columns { HaveWidth (length indexes.now) rows.now }
     requires small { length rows.now < 2 ^ 32 }
-    requires runs { (column : ℕ) (d : Indexed) → column < length indexes.now → IsRunWithLeads (value_at rows.now column) 0 (entries_in (slice_index_or indexes.now column d)) }
+    requires runs { AreRuns rows.now indexes.now }
     requires before { (column : ℕ) (d : Indexed) → column < length indexes.now → before ≡ length (entries_in (slice_index_or indexes.now column d)) }
     requires within { before ≤ length rows.now }
     ensures len { IfOk result (λ grown. length grown.items ≡ length indexes.now) }

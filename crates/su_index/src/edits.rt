@@ -1,10 +1,11 @@
 //! One entry into an index, or out of it.
-ghost use Rattle.std.specs.Prelude.{◌≡◌, ◌<◌, ◌+◌, ℕ, Bool, cond, length, Contains, count_by};
-ghost use Rattle.std.specs.List.Sorted.{IsStrictlySortedBy};
+ghost use Rattle.std.specs.Prelude.{◌≡◌, ◌<◌, ◌+◌, length, Contains};
 ghost use Rattle.su_index.specs.Chunks.{entries_of, HaveEntries};
 ghost use Rattle.su_index.specs.inside.Chunks.{HasRoom};
 ghost use Rattle.su_index.specs.Entries.{positions, HaveLeads};
-ghost use Rattle.su_index.specs.Order.{value_at, compare_places};
+ghost use Rattle.su_index.specs.inside.Edits.{LacksOne, HasOneMore, HasOther};
+ghost use Rattle.su_index.specs.inside.Entries.{AreOrdered};
+ghost use Rattle.su_index.specs.Order.{value_at};
 ghost use Rattle.su_index.specs.inside.Order.{with_value, HaveColumn, ArePositions};
 
 use crate::chunk::Chunk;
@@ -20,12 +21,12 @@ pub(crate) fn take_out(rows: &[Row], column: usize, chunks: &mut Vec<Chunk>, pos
     requires columns { HaveColumn column rows.now }
     requires some { HaveEntries chunks.old.items }
     requires positions { ArePositions (length rows.now) (positions (entries_of chunks.old.items)) }
-    requires ordered { IsStrictlySortedBy (compare_places (value_at rows.now column)) (positions (entries_of chunks.old.items)) }
+    requires ordered { AreOrdered (value_at rows.now column) (entries_of chunks.old.items) }
     requires leads { HaveLeads (value_at rows.now column) (entries_of chunks.old.items) }
     requires there { Contains (positions (entries_of chunks.old.items)) position }
     ensures some { HaveEntries chunks.new.items }
-    ensures ordered { IsStrictlySortedBy (compare_places (value_at rows.now column)) (positions (entries_of chunks.new.items)) }
-    ensures count { (test : ℕ → Bool) → count_by test (positions (entries_of chunks.new.items)) + cond (test position) 1 0 ≡ count_by test (positions (entries_of chunks.old.items)) }
+    ensures ordered { AreOrdered (value_at rows.now column) (entries_of chunks.new.items) }
+    ensures count { LacksOne position (entries_of chunks.old.items) (entries_of chunks.new.items) }
     ensures len { length (entries_of chunks.new.items) + 1 ≡ length (entries_of chunks.old.items) }
     ensures leads { HaveLeads (value_at rows.now column) (entries_of chunks.new.items) }
 {
@@ -47,13 +48,13 @@ pub(crate) fn put_in(
     requires columns { HaveColumn column rows.now }
     requires some { HaveEntries chunks.old.items }
     requires positions { ArePositions (length rows.now) (positions (entries_of chunks.old.items)) }
-    requires ordered { IsStrictlySortedBy (compare_places (value_at rows.now column)) (positions (entries_of chunks.old.items)) }
+    requires ordered { AreOrdered (value_at rows.now column) (entries_of chunks.old.items) }
     requires leads { HaveLeads (value_at rows.now column) (entries_of chunks.old.items) }
     requires apart { ¬ Contains (positions (entries_of chunks.old.items)) position }
     requires room { HasRoom chunks.old.items }
     ensures some { HaveEntries chunks.new.items }
-    ensures ordered { IsStrictlySortedBy (compare_places (with_value (value_at rows.now column) position wanted.now)) (positions (entries_of chunks.new.items)) }
-    ensures count { (test : ℕ → Bool) → count_by test (positions (entries_of chunks.new.items)) ≡ count_by test (positions (entries_of chunks.old.items)) + cond (test position) 1 0 }
+    ensures ordered { AreOrdered (with_value (value_at rows.now column) position wanted.now) (entries_of chunks.new.items) }
+    ensures count { HasOneMore position (entries_of chunks.old.items) (entries_of chunks.new.items) }
     ensures len { length (entries_of chunks.new.items) ≡ length (entries_of chunks.old.items) + 1 }
     ensures leads { HaveLeads (with_value (value_at rows.now column) position wanted.now) (entries_of chunks.new.items) }
 {
@@ -69,14 +70,14 @@ pub(crate) fn rename(rows: &[Row], column: usize, chunks: &mut Vec<Chunk>, from:
     requires columns { HaveColumn column rows.now }
     requires some { HaveEntries chunks.old.items }
     requires positions { ArePositions (length rows.now) (positions (entries_of chunks.old.items)) }
-    requires ordered { IsStrictlySortedBy (compare_places (value_at rows.now column)) (positions (entries_of chunks.old.items)) }
+    requires ordered { AreOrdered (value_at rows.now column) (entries_of chunks.old.items) }
     requires leads { HaveLeads (value_at rows.now column) (entries_of chunks.old.items) }
     requires there { Contains (positions (entries_of chunks.old.items)) from }
     requires apart { ¬ Contains (positions (entries_of chunks.old.items)) to }
     requires earlier { to < from }
     ensures some { HaveEntries chunks.new.items }
-    ensures ordered { IsStrictlySortedBy (compare_places (with_value (value_at rows.now column) to (value_at rows.now column from))) (positions (entries_of chunks.new.items)) }
-    ensures count { (test : ℕ → Bool) → count_by test (positions (entries_of chunks.new.items)) + cond (test from) 1 0 ≡ count_by test (positions (entries_of chunks.old.items)) + cond (test to) 1 0 }
+    ensures ordered { AreOrdered (with_value (value_at rows.now column) to (value_at rows.now column from)) (entries_of chunks.new.items) }
+    ensures count { HasOther from to (entries_of chunks.old.items) (entries_of chunks.new.items) }
     ensures len { length (entries_of chunks.new.items) ≡ length (entries_of chunks.old.items) }
     ensures leads { HaveLeads (with_value (value_at rows.now column) to (value_at rows.now column from)) (entries_of chunks.new.items) }
 {

@@ -1,12 +1,13 @@
 //! Searches in the chunks of an index.
-ghost use Rattle.std.specs.Prelude.{◌≡◌, ◌<◌, ◌≤◌, ◌+◌, ◌-◌, ◌^◌, ℕ, true, false, length, slice_index, slice_index_or};
-ghost use Rattle.std.specs.List.Sorted.{IsStrictlySortedBy};
+ghost use Rattle.std.specs.Prelude.{◌≡◌, ◌<◌, ◌≤◌, ◌+◌, ◌-◌, ◌^◌, length, slice_index_or};
 ghost use Rattle.su_index.specs.Chunks.{entries_of, len_at, HaveEntries};
-ghost use Rattle.su_index.specs.inside.Chunks.{before_chunk, rank_in, IsGap, IsPlace};
+ghost use Rattle.su_index.specs.inside.Chunks.{before_chunk, rank_in, IsPlace};
 ghost use Rattle.su_index.specs.Entries.{positions, HaveLeads};
 ghost use Rattle.su_index.specs.Lead.{IsLead};
-ghost use Rattle.su_index.specs.Order.{value_at, compare_places};
-ghost use Rattle.su_index.specs.inside.Order.{comes_before, IsSpan, HaveColumn, ArePositions};
+ghost use Rattle.su_index.specs.Order.{value_at};
+ghost use Rattle.su_index.specs.inside.Entries.{AreOrdered};
+ghost use Rattle.su_index.specs.inside.Order.{HaveColumn, ArePositions};
+ghost use Rattle.su_index.specs.inside.Searches.{AreBefore, NoneBefore, NoneBeforeAtEnd, IsSpanIn};
 ghost use Rattle.su_index.specs.declared.chunk.Chunk.{Chunk as Piece};
 
 use crate::chunk::Chunk;
@@ -41,14 +42,14 @@ fn chunk_for(
 ) -> usize
     requires columns { HaveColumn column rows.now }
     requires positions { ArePositions (length rows.now) (positions (entries_of chunks.now)) }
-    requires ordered { IsStrictlySortedBy (compare_places (value_at rows.now column)) (positions (entries_of chunks.now)) }
+    requires ordered { AreOrdered (value_at rows.now column) (entries_of chunks.now) }
     requires leads { HaveLeads (value_at rows.now column) (entries_of chunks.now) }
     requires lead { IsLead lead wanted.now }
     requires some { HaveEntries chunks.now }
     requires chunks { 0 < length chunks.now }
     ensures within { result < length chunks.now }
-    ensures below { (k : ℕ) → k < before_chunk chunks.now result → comes_before (value_at rows.now column) wanted.now position (slice_index (positions (entries_of chunks.now)) k) ≡ true }
-    ensures above { (k : ℕ) → result + 1 < length chunks.now → before_chunk chunks.now (result + 1) ≤ k + 1 → k < length (entries_of chunks.now) → comes_before (value_at rows.now column) wanted.now position (slice_index (positions (entries_of chunks.now)) k) ≡ false }
+    ensures below { AreBefore (value_at rows.now column) wanted.now position (entries_of chunks.now) (before_chunk chunks.now result) }
+    ensures above { NoneBeforeAtEnd (value_at rows.now column) wanted.now position chunks.now result }
 {
     let mut low = 0;
     let mut high = chunks.len() - 1;
@@ -77,15 +78,15 @@ fn place_in(
 ) -> usize
     requires columns { HaveColumn column rows.now }
     requires positions { ArePositions (length rows.now) (positions (entries_of chunks.now)) }
-    requires ordered { IsStrictlySortedBy (compare_places (value_at rows.now column)) (positions (entries_of chunks.now)) }
+    requires ordered { AreOrdered (value_at rows.now column) (entries_of chunks.now) }
     requires leads { HaveLeads (value_at rows.now column) (entries_of chunks.now) }
     requires lead { IsLead lead wanted.now }
     requires within { chunk < length chunks.now }
-    requires below { (k : ℕ) → k < before_chunk chunks.now chunk → comes_before (value_at rows.now column) wanted.now position (slice_index (positions (entries_of chunks.now)) k) ≡ true }
-    requires above { (k : ℕ) → chunk + 1 < length chunks.now → before_chunk chunks.now (chunk + 1) ≤ k + 1 → k < length (entries_of chunks.now) → comes_before (value_at rows.now column) wanted.now position (slice_index (positions (entries_of chunks.now)) k) ≡ false }
+    requires below { AreBefore (value_at rows.now column) wanted.now position (entries_of chunks.now) (before_chunk chunks.now chunk) }
+    requires above { NoneBeforeAtEnd (value_at rows.now column) wanted.now position chunks.now chunk }
     ensures most { (d : Piece) → result ≤ len_at chunks.now chunk d }
-    ensures below { (k : ℕ) → k < before_chunk chunks.now chunk + result → comes_before (value_at rows.now column) wanted.now position (slice_index (positions (entries_of chunks.now)) k) ≡ true }
-    ensures above { (k : ℕ) → before_chunk chunks.now chunk + result ≤ k → k < length (entries_of chunks.now) → comes_before (value_at rows.now column) wanted.now position (slice_index (positions (entries_of chunks.now)) k) ≡ false }
+    ensures below { AreBefore (value_at rows.now column) wanted.now position (entries_of chunks.now) (before_chunk chunks.now chunk + result) }
+    ensures above { NoneBefore (value_at rows.now column) wanted.now position (entries_of chunks.now) (before_chunk chunks.now chunk + result) }
 {
     let mut low = 0;
     let mut high = len_of(chunks, chunk);
@@ -117,14 +118,14 @@ pub(crate) fn find(
 ) -> ChunkPlace
     requires columns { HaveColumn column rows.now }
     requires positions { ArePositions (length rows.now) (positions (entries_of chunks.now)) }
-    requires ordered { IsStrictlySortedBy (compare_places (value_at rows.now column)) (positions (entries_of chunks.now)) }
+    requires ordered { AreOrdered (value_at rows.now column) (entries_of chunks.now) }
     requires leads { HaveLeads (value_at rows.now column) (entries_of chunks.now) }
     requires lead { IsLead lead wanted.now }
     requires some { HaveEntries chunks.now }
     requires chunks { 0 < length chunks.now }
     ensures place { IsPlace chunks.now result }
-    ensures below { (k : ℕ) → k < rank_in chunks.now result → comes_before (value_at rows.now column) wanted.now position (slice_index (positions (entries_of chunks.now)) k) ≡ true }
-    ensures above { (k : ℕ) → rank_in chunks.now result ≤ k → k < length (entries_of chunks.now) → comes_before (value_at rows.now column) wanted.now position (slice_index (positions (entries_of chunks.now)) k) ≡ false }
+    ensures below { AreBefore (value_at rows.now column) wanted.now position (entries_of chunks.now) (rank_in chunks.now result) }
+    ensures above { NoneBefore (value_at rows.now column) wanted.now position (entries_of chunks.now) (rank_in chunks.now result) }
 {
     let chunk = chunk_for(rows, column, chunks, lead, wanted, position);
     let at = place_in(rows, column, chunks, chunk, lead, wanted, position);
@@ -144,15 +145,15 @@ fn past(
     requires small { length rows.now < 2 ^ 32 }
     requires columns { HaveColumn column rows.now }
     requires positions { ArePositions (length rows.now) (positions (entries_of chunks.now)) }
-    requires ordered { IsStrictlySortedBy (compare_places (value_at rows.now column)) (positions (entries_of chunks.now)) }
+    requires ordered { AreOrdered (value_at rows.now column) (entries_of chunks.now) }
     requires leads { HaveLeads (value_at rows.now column) (entries_of chunks.now) }
     requires lead { IsLead lead wanted.now }
     requires some { HaveEntries chunks.now }
     requires first { IsPlace chunks.now first }
-    requires below { (k : ℕ) → k < rank_in chunks.now first → comes_before (value_at rows.now column) wanted.now 0 (slice_index (positions (entries_of chunks.now)) k) ≡ true }
+    requires below { AreBefore (value_at rows.now column) wanted.now 0 (entries_of chunks.now) (rank_in chunks.now first) }
     ensures place { IsPlace chunks.now result }
-    ensures below { (k : ℕ) → k < rank_in chunks.now result → comes_before (value_at rows.now column) wanted.now (length rows.now) (slice_index (positions (entries_of chunks.now)) k) ≡ true }
-    ensures above { (k : ℕ) → rank_in chunks.now result ≤ k → k < length (entries_of chunks.now) → comes_before (value_at rows.now column) wanted.now (length rows.now) (slice_index (positions (entries_of chunks.now)) k) ≡ false }
+    ensures below { AreBefore (value_at rows.now column) wanted.now (length rows.now) (entries_of chunks.now) (rank_in chunks.now result) }
+    ensures above { NoneBefore (value_at rows.now column) wanted.now (length rows.now) (entries_of chunks.now) (rank_in chunks.now result) }
 {
     let top = rows.len() as u32;
     let len = len_of(chunks, first.chunk);
@@ -189,13 +190,13 @@ pub(crate) fn span(
     requires small { length rows.now < 2 ^ 32 }
     requires columns { HaveColumn column rows.now }
     requires positions { ArePositions (length rows.now) (positions (entries_of chunks.now)) }
-    requires ordered { IsStrictlySortedBy (compare_places (value_at rows.now column)) (positions (entries_of chunks.now)) }
+    requires ordered { AreOrdered (value_at rows.now column) (entries_of chunks.now) }
     requires leads { HaveLeads (value_at rows.now column) (entries_of chunks.now) }
     requires some { HaveEntries chunks.now }
     requires chunks { 0 < length chunks.now }
     ensures first { IsPlace chunks.now result.0 }
     ensures past { IsPlace chunks.now result.1 }
-    ensures span { IsSpan (value_at rows.now column) wanted.now (positions (entries_of chunks.now)) (rank_in chunks.now result.0) (rank_in chunks.now result.1) }
+    ensures span { IsSpanIn (value_at rows.now column) wanted.now chunks.now result.0 result.1 }
 {
     let lead = lead(wanted);
     let first = find(rows, column, chunks, lead, wanted, 0);

@@ -1,12 +1,12 @@
 //! The index of one column.
-ghost use Rattle.std.specs.Prelude.{◌≡◌, ◌<◌, ◌≤◌, ◌+◌, ◌-◌, ◌^◌, length, [], IfOk, OnOk};
+ghost use Rattle.std.specs.Prelude.{◌≡◌, ◌<◌, ◌≤◌, ◌+◌, ◌^◌, length, [], IfOk, OnOk};
 ghost use Rattle.su_index.specs.inside.Chunks.{HasRoom};
-ghost use Rattle.su_index.specs.Indexed.{IsIndexBelow, IsIndexAt, entries_in};
-ghost use Rattle.su_index.specs.inside.Indexed.{IsIndexOf};
+ghost use Rattle.su_index.specs.Indexed.{IsIndexBelow, entries_in};
+ghost use Rattle.su_index.specs.inside.Indexed.{IsIndexOf, IsIndexWithout};
 ghost use Rattle.su_index.specs.inside.Entries.{IsRunWithLeads};
 ghost use Rattle.su_index.specs.Matches.{matches, AreMatches, IsMatch};
 ghost use Rattle.su_index.specs.Order.{value_at};
-ghost use Rattle.su_index.specs.inside.Order.{HaveColumn, with_value};
+ghost use Rattle.su_index.specs.inside.Order.{HaveColumn};
 
 use crate::chunk::Chunk;
 use crate::chunks::{between, chunks_of, flat, is_sparse, make_room};
@@ -130,7 +130,7 @@ impl Index {
         requires columns { HaveColumn column rows.now }
         requires index { IsIndexOf rows.now column self.old }
         requires within { position < length rows.now }
-        ensures { IsIndexAt (with_value (value_at rows.now column) position (value_at rows.now column (length rows.now - 1))) (length rows.now - 1) self.new }
+        ensures { IsIndexWithout rows.now column position self.new }
     {
         take_out(rows, column, &mut self.chunks, position);
         let last = (rows.len() - 1) as u32;

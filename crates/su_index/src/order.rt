@@ -1,12 +1,13 @@
 //! The order of an index.
-ghost use Rattle.std.specs.Prelude.{◌≡◌, ◌<◌, ◌≤◌, ℕ, true, false, IsTrue, length, slice_index};
-ghost use Rattle.std.specs.List.Sorted.{IsStrictlySortedBy};
+ghost use Rattle.std.specs.Prelude.{◌≡◌, ◌<◌, ◌≤◌, true, IsTrue, length};
 ghost use Rattle.std.specs.Ordering.{nat_cmp, ordering_then, is_lt};
 ghost use Rattle.su_base.specs.Value.{compare_values};
 ghost use Rattle.su_index.specs.Entries.{positions, HaveLeads};
 ghost use Rattle.su_index.specs.Lead.{IsLead};
-ghost use Rattle.su_index.specs.Order.{value_at, compare_keys, compare_places};
+ghost use Rattle.su_index.specs.Order.{value_at, compare_keys};
+ghost use Rattle.su_index.specs.inside.Entries.{AreOrdered};
 ghost use Rattle.su_index.specs.inside.Order.{comes_before, has_at, HaveColumn, ArePositions};
+ghost use Rattle.su_index.specs.inside.Searches.{AreBefore, NoneBefore};
 
 use crate::entry::Entry;
 use std::cmp::Ordering;
@@ -99,12 +100,12 @@ pub(crate) fn place(
 ) -> usize
     requires columns { HaveColumn column rows.now }
     requires positions { ArePositions (length rows.now) (positions run.now) }
-    requires ordered { IsStrictlySortedBy (compare_places (value_at rows.now column)) (positions run.now) }
+    requires ordered { AreOrdered (value_at rows.now column) run.now }
     requires leads { HaveLeads (value_at rows.now column) run.now }
     requires lead { IsLead lead wanted.now }
     ensures within { result ≤ length run.now }
-    ensures below { (k : ℕ) → k < result → comes_before (value_at rows.now column) wanted.now position (slice_index (positions run.now) k) ≡ true }
-    ensures above { (k : ℕ) → result ≤ k → k < length run.now → comes_before (value_at rows.now column) wanted.now position (slice_index (positions run.now) k) ≡ false }
+    ensures below { AreBefore (value_at rows.now column) wanted.now position run.now result }
+    ensures above { NoneBefore (value_at rows.now column) wanted.now position run.now result }
 {
     let mut low = 0;
     let mut high = run.len();

@@ -1,8 +1,9 @@
 //! Runs made at once: by a sort, and of two runs.
-ghost use Rattle.std.specs.Prelude.{◌≡◌, ◌<◌, ◌≤◌, ◌+◌, ◌^◌, ℕ, Bool, length, map, All, count_by, IfOk};
+ghost use Rattle.std.specs.Prelude.{◌≡◌, ◌<◌, ◌≤◌, ◌+◌, ◌^◌, length, map, All, IfOk};
 ghost use Rattle.su_index.specs.inside.Entries.{IsRunWithLeads};
 ghost use Rattle.su_index.specs.Lead.{IsLead};
-ghost use Rattle.su_index.specs.Order.{value_at, count_below};
+ghost use Rattle.su_index.specs.inside.Keys.{AreEachOnce};
+ghost use Rattle.su_index.specs.Order.{value_at};
 ghost use Rattle.su_index.specs.inside.Order.{HaveColumn};
 
 use crate::entry::Entry;
@@ -59,7 +60,7 @@ fn keys_of<'a>(
     requires small { length rows.now < 2 ^ 32 }
     requires from { from ≤ length rows.now }
     ensures values { IfOk result (λ keys. All (λ key. IsLead key.0 key.1.now × (key.1.now ≡ value_at rows.now column key.2)) keys.items) }
-    ensures each { IfOk result (λ keys. (test : ℕ → Bool) → count_below test from + count_by (λ key. test key.2) keys.items ≡ count_below test (length rows.now)) }
+    ensures each { IfOk result (λ keys. AreEachOnce from (length rows.now) keys.items) }
     ensures len { IfOk result (λ keys. from + length keys.items ≡ length rows.now) }
 {
     let mut keys = Vec::with_capacity(alloc, rows.len() - from)?;

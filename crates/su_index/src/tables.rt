@@ -1,8 +1,8 @@
 //! A relation with an index for each column.
-ghost use Rattle.std.specs.Prelude.{◌≡◌, ◌<◌, ◌+◌, ◌↔◌, [], ◌∷◌, ◌++◌, length, Contains, IsTrue, IfOk, IfErr, OnOk, OnErr, MatchBool, slice_get, if◌then◌else◌};
+ghost use Rattle.std.specs.Prelude.{◌≡◌, ◌<◌, ◌+◌, ◌↔◌, [], length, Contains, IsTrue, IfOk, IfErr, OnOk, OnErr, slice_get, if◌then◌else◌};
 ghost use Rattle.std.specs.Bool.{OnFalse};
 ghost use Rattle.std.specs.List.{items_where_true};
-ghost use Rattle.su_rel.specs.Changes.{PutInAll, TakenOut};
+ghost use Rattle.su_rel.specs.Changes.{PutInAll, TakenOut, TellsNew};
 ghost use Rattle.su_rel.specs.Stored.{HaveWidth, IsRelation};
 ghost use Rattle.su_index.specs.Notes.{Tells};
 ghost use Rattle.su_index.specs.Matches.{matches, AreMatches, IsMatch};
@@ -112,7 +112,7 @@ impl Table {
     pub fn insert(&mut self, row: Row) -> Result<bool, (Row, NoMemory)>
         requires { length row ≡ self.old.width }
         ensures width { self.new.width ≡ self.old.width }
-        ensures ok { IfOk result (λ new. MatchBool new ((¬ Contains self.old.rows row) × (self.new.rows ≡ self.old.rows ++ row ∷ [])) (Contains self.old.rows row × (self.new ≡ self.old))) }
+        ensures ok { IfOk result (λ is_new. TellsNew is_new self.old row self.new) }
         ensures unchanged { OnErr result (self.new ≡ self.old) }
         ensures handed_back { IfErr result (λ e. e.0 ≡ row) }
     {

@@ -1,8 +1,10 @@
 -- Of Chunks: what only contracts of private functions need.
 -- No public contract cites this module.
 use Rattle.std.specs.Prelude.{◌<◌, ◌≤◌, ◌+◌, ◌-◌, ℕ, List, length, take, slice_index_or}
+use Rattle.std.specs.List.{insert, remove}
 use Rattle.std.specs.VecDeque.{deque_capacity}
 use Rattle.su_index.specs.declared.chunk.Chunk.{Chunk}
+use Rattle.su_index.specs.declared.entry.Entry.{Entry}
 use Rattle.su_index.specs.declared.place.ChunkPlace.{ChunkPlace}
 use Rattle.su_index.specs.Chunks.{entries_of, len_at}
 
@@ -17,6 +19,14 @@ before_chunk chunks k = length (entries_of (take k chunks))
 -- how many entries stand before the place
 abbrev pub rank_in : List Chunk → ChunkPlace → ℕ
 rank_in chunks p = before_chunk chunks p.chunk + p.at
+
+-- the entries, with one put in at the place
+abbrev pub with_entry : List Chunk → ChunkPlace → Entry → List Entry
+with_entry chunks place entry = insert (entries_of chunks) (rank_in chunks place) entry
+
+-- the entries without the one at the place
+abbrev pub without_entry : List Chunk → ChunkPlace → List Entry
+without_entry chunks place = remove (entries_of chunks) (rank_in chunks place)
 
 -- an entry can be put in at the place
 pub record IsGap (chunks : List Chunk) (p : ChunkPlace) : Type 0 where

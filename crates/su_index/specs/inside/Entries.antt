@@ -1,11 +1,16 @@
 -- Of Entries: what only contracts of private functions need.
 -- No public contract cites this module.
 use Rattle.std.specs.Prelude.{ℕ, Bool, List, map, filter}
+use Rattle.std.specs.List.Sorted.{IsStrictlySortedBy}
 use Rattle.su_base.specs.declared.values.Value.{Value}
 use Rattle.su_index.specs.declared.entry.Entry.{Entry}
-use Rattle.su_index.specs.Order.{IsRun}
+use Rattle.su_index.specs.Order.{compare_places, IsRun}
 use Rattle.su_index.specs.inside.Order.{is_kept, rank_of}
 use Rattle.su_index.specs.Entries.{positions, HaveLeads}
+
+-- the entries are in order
+abbrev pub AreOrdered : (ℕ → Value) → List Entry → Type 0
+AreOrdered at run = IsStrictlySortedBy (compare_places at) (positions run)
 
 -- a run of entries
 pub record IsRunWithLeads (at : ℕ → Value) (from : ℕ) (run : List Entry) : Type 0 where

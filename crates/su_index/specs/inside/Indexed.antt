@@ -1,18 +1,33 @@
 -- Of Indexed: what only contracts of private functions need.
 -- No public contract cites this module.
-use Rattle.std.specs.Prelude.{◌≡◌, ◌<◌, ℕ, List, length, slice_index_or, All, Bool}
+use Rattle.std.specs.Prelude.{◌≡◌, ◌<◌, ◌-◌, ℕ, List, length, slice_index_or, All, Bool}
 use Rattle.su_base.specs.declared.values.Value.{Value}
 use Rattle.su_index.specs.declared.index.Index.{Index}
 use Rattle.su_index.specs.Chunks.{HaveEntries}
 use Rattle.su_index.specs.inside.Chunks.{HasRoom}
 use Rattle.su_index.specs.Entries.{positions}
-use Rattle.su_index.specs.inside.Entries.{kept_entries}
-use Rattle.su_index.specs.inside.Order.{ArePositions}
-use Rattle.su_index.specs.Indexed.{entries_in, IsIndexBelow}
+use Rattle.su_index.specs.inside.Entries.{kept_entries, IsRunWithLeads}
+use Rattle.su_index.specs.inside.Order.{ArePositions, with_value}
+use Rattle.su_index.specs.Order.{value_at}
+use Rattle.su_index.specs.Indexed.{entries_in, IsIndexAt, IsIndexBelow}
 
 -- the index of the column, over all rows
 abbrev pub IsIndexOf : List (List Value) → ℕ → Index → Type 0
 IsIndexOf rows column index = IsIndexBelow rows column (length rows) index
+
+-- the same once the last row has come to position p, in place of the one there
+abbrev pub IsIndexWithout : List (List Value) → ℕ → ℕ → Index → Type 0
+IsIndexWithout rows column p index = IsIndexAt (with_value (value_at rows column) p (value_at rows column (length rows - 1))) (length rows - 1) index
+
+-- such an index for each column
+abbrev pub AreIndexesWithout : List (List Value) → ℕ → List Index → Type 0
+AreIndexesWithout rows p indexes = (column : ℕ) (d : Index) → column < length indexes → IsIndexWithout rows column p (slice_index_or indexes column d)
+
+-- the entries of each index are a run of its column, from the first row on
+abbrev pub AreRuns : List (List Value) → List Index → Type 0
+AreRuns rows indexes =
+    (column : ℕ) (d : Index) → column < length indexes
+    → IsRunWithLeads (value_at rows column) 0 (entries_in (slice_index_or indexes column d))
 
 -- each index can take one more position without memory
 abbrev pub HaveRoom : List Index → Type 0
