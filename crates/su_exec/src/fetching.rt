@@ -1,6 +1,5 @@
 //! The candidates of each row, fetched once.
-ghost use Rattle.std.specs.Prelude.{◌≡◌, ◌<◌, ◌≤◌, ◌+◌, ℕ, Some, List, [], map, length, slice_get, All, IfOk, MatchOption};
-ghost use Rattle.su_base.specs.declared.values.Value.{Value as AValue};
+ghost use Rattle.std.specs.Prelude.{◌≡◌, ◌<◌, ◌≤◌, ◌+◌, [], map, length, All, IfOk};
 ghost use Rattle.su_rel.specs.Stored.{IsRelation};
 ghost use Rattle.su_index.specs.Tables.{table_at};
 ghost use Rattle.su_reduce.specs.Codes.{decode, Extends};

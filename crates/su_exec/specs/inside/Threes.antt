@@ -11,6 +11,6 @@ pub record IsBlock (e : Edge ℕ) (blocks : List ℕ) (n : ℕ) (part : Edge ℕ
   pub only : (r : List ℕ) → Contains part.rows r → Contains e.rows r
   pub all : (i : ℕ) → i < length e.rows → slice_index_or blocks i 0 ≡ n → Contains part.rows (slice_index_or e.rows i [])
 
--- the three that close a cycle
+-- the edges of three that close a cycle
 abbrev pub edges_of : Three → List (Edge ℕ)
 edges_of three = three.first.now ∷ three.second.now ∷ three.third.now ∷ []
