@@ -1,9 +1,12 @@
 -- Definitions that only contracts of private functions need.
+pub mod Additions
 pub mod Bodies
 pub mod Checks
 pub mod Coded
 pub mod Edges
+pub mod Gatherings
 pub mod Joins
+pub mod Kept
 pub mod Labels
 pub mod Plans
 pub mod Ranges

@@ -1,13 +1,12 @@
 //! How the rows of a source are reached with few fetches.
-ghost use Rattle.std.specs.Prelude.{◌≡◌, ◌<◌, ◌≤◌, ℕ, Some, List, [], ◌∷◌, length, Contains, IfOk, IfSome, slice_get, slice_index_or};
+ghost use Rattle.std.specs.Prelude.{◌≡◌, ◌<◌, ◌≤◌, length, IfOk, IfSome};
 ghost use Rattle.su_base.specs.declared.values.Value.{Value as AValue};
 ghost use Rattle.su_tableau.specs.declared.symbols.Sym.TheVariants.{Const};
 ghost use Rattle.su_index.specs.Matches.{matches, AreMatches};
 ghost use Rattle.su_index.specs.Tables.{table_at};
 ghost use Rattle.su_exec.specs.Shares.{share};
 ghost use Rattle.su_exec.specs.Tasks.{FitsTables, HasSources};
-ghost use Rattle.su_exec.specs.inside.Edges.{Edge};
-ghost use Rattle.su_exec.specs.inside.Ways.{AreOfCodes, IsCheapest, IsWay};
+ghost use Rattle.su_exec.specs.inside.Ways.{AreOfTable, HasAt, HasCodesAt, IsCheapest, IsSureWay, IsUpToMatches, IsWay};
 
 use crate::candidates::Candidates;
 use crate::places::place_of;
@@ -50,7 +49,7 @@ pub struct Cheapest {
 fn codes_at(alloc: Global, edge: &Candidates, place: usize) -> Result<Sheet, AllocError>
     requires { place < length edge.now.vars }
     ensures width { IfOk result (λ codes. codes.width ≡ 1) }
-    ensures all { IfOk result (λ codes. (i : ℕ) → i < length edge.now.rows → Contains codes.rows (slice_index_or (slice_index_or edge.now.rows i []) place 0 ∷ [])) }
+    ensures all { IfOk result (λ codes. HasCodesAt edge.now place codes.rows) }
 {
     let mut codes = Distinct::new(alloc, 1)?;
     for i in 0..edge.len() {
@@ -75,7 +74,7 @@ fn positions_of<R: Rows>(
     requires column { column < (table_at (R.tables rows.now) table).width }
     requires one { values.now.width ≡ 1 }
     ensures few { IfOk result (λ found. IfSome found (λ positions. length positions.items ≤ most)) }
-    ensures listed { IfOk result (λ found. IfSome found (λ positions. AreOfCodes (table_at (R.tables rows.now) table).rows column codes.now values.now.rows (length values.now.rows) positions.items)) }
+    ensures listed { IfOk result (λ found. IfSome found (λ positions. AreOfTable (R.tables rows.now) table column codes.now values.now.rows positions.items)) }
 {
     let mut positions = Vec::new(alloc);
     for i in 0..values.len() {
@@ -90,7 +89,7 @@ fn positions_of<R: Rows>(
 
 /// The candidates with the variable that have the fewest rows, and the variable's place.
 fn fewest(edges: &[Candidates], k: u32) -> Option<(usize, usize)>
-    ensures { IfSome result (λ r. (r.0 < length edges.now) × (r.1 < length (slice_index_or edges.now r.0 (record { vars = []; rows = [] })).vars) × (slice_index_or (slice_index_or edges.now r.0 (record { vars = []; rows = [] })).vars r.1 0 ≡ k)) }
+    ensures { IfSome result (λ r. HasAt edges.now k r.0 r.1) }
 {
     let mut best = None;
     let mut least = usize::MAX;
@@ -112,7 +111,7 @@ fn cheaper<R: Rows>(rows: &R, row: &TaskRow, source: &Source, p: usize, best: Ch
     requires so_far { IsCheapest (R.tables rows.now) row.now source.now best }
     ensures way { IsCheapest (R.tables rows.now) row.now source.now result }
     ensures less { result.cost ≤ best.cost }
-    ensures here { (value : AValue) (column : ℕ) → slice_get row.now.cells p ≡ Some (Const value) → slice_get source.now.columns p ≡ Some column → result.cost ≤ matches column value (table_at (R.tables rows.now) source.now.relation).rows }
+    ensures here { IsUpToMatches (R.tables rows.now) row.now source.now p result.cost }
 {
     let Sym::Const(value) = row.cells.get(p) else {
         return best;
@@ -184,7 +183,7 @@ fn by_constants<R: Rows>(
     source: &Source,
 ) -> Result<Access, AllocError>
     requires { FitsTables (R.tables rows.now) (length row.now.cells) source.now }
-    ensures way { IfOk result (λ access. (values : List AValue) (es : List (Edge ℕ)) → IsWay (R.tables rows.now) values es row.now source.now access.way access.cost) }
+    ensures way { IfOk result (λ access. IsSureWay (R.tables rows.now) row.now source.now access.way access.cost) }
     ensures share { IfOk result (λ access. access.cost ≤ share (R.tables rows.now) row.now.cells source.now) }
 {
     let best = cheapest_of(rows, row, source);

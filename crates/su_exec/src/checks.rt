@@ -1,8 +1,7 @@
 //! Comparisons of codes, and where a pair of rows has what they compare.
-ghost use Rattle.std.specs.Prelude.{◌≡◌, ◌&&◌, ◌||◌, ℕ, true, false, List, [], ◌∷◌, map, length, All, IfSome, IfNone, IfOk};
-ghost use Rattle.su_base.specs.declared.values.Value.{Value as AValue};
+ghost use Rattle.std.specs.Prelude.{◌≡◌, ℕ, true, false, [], ◌∷◌, length, All, IfSome, IfNone, IfOk};
 ghost use Rattle.su_exec.specs.inside.Edges.{has};
-ghost use Rattle.su_exec.specs.inside.Checks.{all_hold, all_pass, check_holds, check_vars, vars_of, spot_code, test_passes, HasTerm, IsSpotIn, IsTestIn};
+ghost use Rattle.su_exec.specs.inside.Checks.{all_pass, check_vars, vars_of, spot_code, test_passes, AreOver, AreTestsIn, HasTerm, IsSpotIn, IsTestIn, IsTestFor, TakesAll, TakesOne};
 
 use crate::places::place_of;
 use std::alloc::{AllocError, Global};
@@ -60,7 +59,7 @@ pub fn spot_of(term: CodedSymbol, left: &[u32], right: &[u32]) -> Option<Spot>
 
 /// The test of the check in pairs of rows over these variables, if both its terms have a spot.
 fn test_of(check: Check, left: &[u32], right: &[u32]) -> Option<Test>
-    ensures test { IfSome result (λ test. (values : List AValue) (v : ℕ → ℕ) → test_passes values (map v left.now) (map v right.now) test ≡ check_holds values v check) }
+    ensures test { IfSome result (IsTestFor left.now right.now check) }
     ensures within { IfSome result (λ test. IsTestIn (length left.now) (length right.now) test) }
     ensures none { IfNone result ((k : ℕ) × (has (check_vars (check ∷ [])) k ≡ true) × (has left.now k ≡ false) × (has right.now k ≡ false)) }
 {
@@ -81,10 +80,10 @@ fn take_one(
     tests: &mut Vec<Test>,
     later: &mut Vec<Check>,
 ) -> Result<(), AllocError>
-    ensures same { IfOk result (λ _. (values : List AValue) (v : ℕ → ℕ) → (all_pass values tests.new.items (map v left.now) (map v right.now) && all_hold values later.new.items v) ≡ ((all_pass values tests.old.items (map v left.now) (map v right.now) && all_hold values later.old.items v) && check_holds values v check)) }
-    ensures within { IfOk result (λ _. All (IsTestIn (length left.now) (length right.now)) tests.old.items → All (IsTestIn (length left.now) (length right.now)) tests.new.items) }
-    ensures vars { IfOk result (λ _. (k : ℕ) → has (check_vars later.new.items) k ≡ true → (has (check_vars later.old.items) k || has (check_vars (check ∷ [])) k) ≡ true) }
-    ensures all { IfOk result (λ _. ((k : ℕ) → has (check_vars (check ∷ [])) k ≡ true → (has left.now k || has right.now k) ≡ true) → later.new.items ≡ later.old.items) }
+    ensures same { IfOk result (λ _. TakesOne left.now right.now check tests.old.items later.old.items tests.new.items later.new.items) }
+    ensures within { IfOk result (λ _. AreTestsIn left.now right.now tests.old.items → AreTestsIn left.now right.now tests.new.items) }
+    ensures vars { IfOk result (λ _. AreOver (check_vars later.old.items) (check_vars (check ∷ [])) later.new.items) }
+    ensures all { IfOk result (λ _. AreOver left.now right.now (check ∷ []) → later.new.items ≡ later.old.items) }
 {
     match test_of(check, left, right) {
         Some(test) => {
@@ -105,10 +104,10 @@ pub fn take_tests(
     left: &[u32],
     right: &[u32],
 ) -> Result<Vec<Test>, AllocError>
-    ensures same { IfOk result (λ tests. (values : List AValue) (v : ℕ → ℕ) → all_hold values checks.old.items v ≡ (all_pass values tests.items (map v left.now) (map v right.now) && all_hold values checks.new.items v)) }
-    ensures within { IfOk result (λ tests. All (IsTestIn (length left.now) (length right.now)) tests.items) }
+    ensures same { IfOk result (λ tests. TakesAll left.now right.now checks.old.items tests.items checks.new.items) }
+    ensures within { IfOk result (λ tests. AreTestsIn left.now right.now tests.items) }
     ensures vars { IfOk result (λ _. (k : ℕ) → has (check_vars checks.new.items) k ≡ true → has (check_vars checks.old.items) k ≡ true) }
-    ensures all { IfOk result (λ _. ((k : ℕ) → has (check_vars checks.old.items) k ≡ true → (has left.now k || has right.now k) ≡ true) → checks.new.items ≡ []) }
+    ensures all { IfOk result (λ _. AreOver left.now right.now checks.old.items → checks.new.items ≡ []) }
 {
     let mut tests = Vec::new(alloc);
     let mut later = Vec::new(alloc);

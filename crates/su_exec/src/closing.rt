@@ -2,10 +2,11 @@
 //! which it has fewer matches, and what they make is tried against the third before it is kept; so a
 //! pair of edges is never joined whole.
 ghost use Rattle.std.specs.Prelude.{◌≡◌, ◌↔◌, ◌⊎◌, ◌<◌, ℕ, true, List, [], ◌∷◌, length, slice_index_or, All, Contains, IfOk, IsTrue};
+ghost use Rattle.su_exec.specs.inside.Additions.{AddsOnly, HasEach};
 ghost use Rattle.su_exec.specs.inside.Bodies.{IsGiven};
 ghost use Rattle.su_exec.specs.inside.Edges.{Fits, Keeps, always, among, has};
 ghost use Rattle.su_reduce.specs.Sheets.{AreBelow, pick};
-ghost use Rattle.su_exec.specs.inside.Threes.{IsBlock};
+ghost use Rattle.su_exec.specs.inside.Threes.{IsBlock, edges_of};
 
 use crate::candidates::{Candidates, join_all};
 use crate::joins::add_cells;
@@ -67,8 +68,8 @@ fn add_given(
     requires width { out.old.width ≡ length vars.now }
     ensures width { IfOk result (λ _. out.new.width ≡ out.old.width) }
     ensures kept { IfOk result (λ _. (r : List ℕ) → Contains out.old.rows r → Contains out.new.rows r) }
-    ensures only { IfOk result (λ _. (r : List ℕ) → Contains out.new.rows r → Contains out.old.rows r ⊎ IsGiven vars.now (g.now ∷ []) always r) }
-    ensures all { IfOk result (λ _. (r : List ℕ) → IsGiven vars.now (g.now ∷ []) always r → Contains out.new.rows r) }
+    ensures only { IfOk result (λ _. AddsOnly (IsGiven vars.now (g.now ∷ []) always) out.old.rows out.new.rows) }
+    ensures all { IfOk result (λ _. HasEach (IsGiven vars.now (g.now ∷ []) always) out.new.rows) }
 {
     let places = places_of(alloc, g.vars(), vars)?;
     let rows = g.rows();
@@ -95,8 +96,8 @@ fn add_three(
     requires width { out.old.width ≡ length vars.now }
     ensures width { IfOk result (λ _. out.new.width ≡ out.old.width) }
     ensures kept { IfOk result (λ _. (r : List ℕ) → Contains out.old.rows r → Contains out.new.rows r) }
-    ensures only { IfOk result (λ _. (r : List ℕ) → Contains out.new.rows r → Contains out.old.rows r ⊎ IsGiven vars.now (a.now ∷ b.now ∷ c.now ∷ []) always r) }
-    ensures all { IfOk result (λ _. (r : List ℕ) → IsGiven vars.now (a.now ∷ b.now ∷ c.now ∷ []) always r → Contains out.new.rows r) }
+    ensures only { IfOk result (λ _. AddsOnly (IsGiven vars.now (a.now ∷ b.now ∷ c.now ∷ []) always) out.old.rows out.new.rows) }
+    ensures all { IfOk result (λ _. HasEach (IsGiven vars.now (a.now ∷ b.now ∷ c.now ∷ []) always) out.new.rows) }
 {
     let pairs = natural_join(alloc, codes, a, b)?;
     let closed = join_all(alloc, codes, &pairs, c, Vec::new(alloc), vars, None)?;
@@ -118,8 +119,8 @@ fn add_turned(
     requires width { out.old.width ≡ length vars.now }
     ensures width { IfOk result (λ _. out.new.width ≡ out.old.width) }
     ensures kept { IfOk result (λ _. (r : List ℕ) → Contains out.old.rows r → Contains out.new.rows r) }
-    ensures only { IfOk result (λ _. (r : List ℕ) → Contains out.new.rows r → Contains out.old.rows r ⊎ IsGiven vars.now (a.now ∷ b.now ∷ c.now ∷ []) always r) }
-    ensures all { IfOk result (λ _. (r : List ℕ) → IsGiven vars.now (a.now ∷ b.now ∷ c.now ∷ []) always r → Contains out.new.rows r) }
+    ensures only { IfOk result (λ _. AddsOnly (IsGiven vars.now (a.now ∷ b.now ∷ c.now ∷ []) always) out.old.rows out.new.rows) }
+    ensures all { IfOk result (λ _. HasEach (IsGiven vars.now (a.now ∷ b.now ∷ c.now ∷ []) always) out.new.rows) }
 {
     add_three(alloc, codes, a, c, b, vars, out)?;
     Ok(())
@@ -162,12 +163,12 @@ fn add_block(
     vars: &[u32],
     out: &mut Distinct,
 ) -> Result<(), AllocError>
-    requires within { (k : ℕ) → has vars.now k ≡ true → among (three.now.first.now ∷ three.now.second.now ∷ three.now.third.now ∷ []) k ≡ true }
+    requires within { (k : ℕ) → has vars.now k ≡ true → among (edges_of three.now) k ≡ true }
     requires width { out.old.width ≡ length vars.now }
     ensures width { IfOk result (λ _. out.new.width ≡ out.old.width) }
     ensures kept { IfOk result (λ _. (r : List ℕ) → Contains out.old.rows r → Contains out.new.rows r) }
-    ensures only { IfOk result (λ _. (r : List ℕ) → Contains out.new.rows r → Contains out.old.rows r ⊎ IsGiven vars.now (three.now.first.now ∷ three.now.second.now ∷ three.now.third.now ∷ []) always r) }
-    ensures all { IfOk result (λ _. (r : List ℕ) → IsGiven vars.now (three.now.first.now ∷ three.now.second.now ∷ three.now.third.now ∷ []) always r → Contains out.new.rows r) }
+    ensures only { IfOk result (λ _. AddsOnly (IsGiven vars.now (edges_of three.now) always) out.old.rows out.new.rows) }
+    ensures all { IfOk result (λ _. HasEach (IsGiven vars.now (edges_of three.now) always) out.new.rows) }
 {
     let (a, b, c) = (three.first, three.second, three.third);
     if a.len() == 0 {
@@ -238,11 +239,11 @@ fn add_blocks(
 ) -> Result<(), AllocError>
     requires blocks { length blocks.now ≡ length three.now.first.now.rows }
     requires below { All (λ n. n < 64) blocks.now }
-    requires within { (k : ℕ) → has vars.now k ≡ true → among (three.now.first.now ∷ three.now.second.now ∷ three.now.third.now ∷ []) k ≡ true }
+    requires within { (k : ℕ) → has vars.now k ≡ true → among (edges_of three.now) k ≡ true }
     requires width { out.old.width ≡ length vars.now }
     ensures width { IfOk result (λ _. out.new.width ≡ out.old.width) }
-    ensures only { IfOk result (λ _. (r : List ℕ) → Contains out.new.rows r → Contains out.old.rows r ⊎ IsGiven vars.now (three.now.first.now ∷ three.now.second.now ∷ three.now.third.now ∷ []) always r) }
-    ensures all { IfOk result (λ _. (r : List ℕ) → IsGiven vars.now (three.now.first.now ∷ three.now.second.now ∷ three.now.third.now ∷ []) always r → Contains out.new.rows r) }
+    ensures only { IfOk result (λ _. AddsOnly (IsGiven vars.now (edges_of three.now) always) out.old.rows out.new.rows) }
+    ensures all { IfOk result (λ _. HasEach (IsGiven vars.now (edges_of three.now) always) out.new.rows) }
 {
     for n in 0..BLOCKS {
         let part = block(alloc, three.first, blocks, n)?;

@@ -4,7 +4,7 @@ ghost use Rattle.std.specs.List.{range_with_len};
 ghost use Rattle.su_exec.specs.Tasks.{StandsIn};
 ghost use Rattle.su_tableau.specs.declared.symbols.Sym.TheVariants.{Var};
 ghost use Rattle.su_exec.specs.Components.{AreComponents, AreConnected, IsLabelling};
-ghost use Rattle.su_exec.specs.inside.Labels.{AreLabels, IsFirstRow, IsFirstOf, KeepsLabels, label_of, relabelled, rows_of};
+ghost use Rattle.su_exec.specs.inside.Labels.{AreLabels, IsFirstRow, IsFirstOf, JoinsCompared, KeepsLabels, label_of, relabelled, rows_of};
 
 use crate::tasks::{Compared, Task};
 use std::alloc::{AllocError, Global};
@@ -103,7 +103,7 @@ fn join_compared(task: &Task, compared: &Compared, labels: &mut [usize])
     requires compared { Contains task.now.comparisons compared.now }
     ensures labels { AreLabels task.now labels.new }
     ensures kept { KeepsLabels labels.old labels.new }
-    ensures joined { (k l i j : ℕ) → compared.now.left ≡ Var k → compared.now.right ≡ Var l → IsFirstRow task.now k i → IsFirstRow task.now l j → label_of labels.new i ≡ label_of labels.new j }
+    ensures joined { JoinsCompared task.now compared.now labels.new }
 {
     let Some(i) = first_of(task, &compared.left) else {
         return;

@@ -1,8 +1,7 @@
 //! Cycles of a body are closed, three edges at a time.
 ghost use Rattle.std.specs.Prelude.{◌≡◌, ◌<◌, ◌≤◌, ◌+◌, length, IfOk};
 ghost use Rattle.su_exec.specs.inside.Bodies.{AreThere};
-ghost use Rattle.su_exec.specs.inside.Checks.{all_hold};
-ghost use Rattle.su_exec.specs.inside.Edges.{Keeps};
+ghost use Rattle.su_exec.specs.inside.Kept.{KeepsWith};
 
 use crate::candidates::Candidates;
 use crate::closing::join_three;
@@ -43,7 +42,7 @@ fn close(
     requires third { three.2 + 2 < length body.old.edges.items }
     requires there { AreThere needed.now body.old.checks.items body.old.edges.items }
     ensures checks { IfOk result (λ _. body.new.checks.items ≡ body.old.checks.items) }
-    ensures keeps { IfOk result (λ _. Keeps needed.now body.old.edges.items (all_hold codes.now body.old.checks.items) body.new.edges.items (all_hold codes.now body.old.checks.items)) }
+    ensures keeps { IfOk result (λ _. KeepsWith needed.now codes.now body.old body.new.edges.items) }
     ensures there { IfOk result (λ _. AreThere needed.now body.old.checks.items body.new.edges.items) }
     ensures some { IfOk result (λ _. 0 < length body.new.edges.items) }
     ensures fewer { IfOk result (λ _. length body.new.edges.items ≤ length body.old.edges.items) }
@@ -81,7 +80,7 @@ pub fn close_cycles(
     requires some { 0 < length body.old.edges.items }
     requires there { AreThere needed.now body.old.checks.items body.old.edges.items }
     ensures checks { IfOk result (λ _. body.new.checks.items ≡ body.old.checks.items) }
-    ensures keeps { IfOk result (λ _. Keeps needed.now body.old.edges.items (all_hold codes.now body.old.checks.items) body.new.edges.items (all_hold codes.now body.old.checks.items)) }
+    ensures keeps { IfOk result (λ _. KeepsWith needed.now codes.now body.old body.new.edges.items) }
     ensures there { IfOk result (λ _. AreThere needed.now body.old.checks.items body.new.edges.items) }
     ensures some { IfOk result (λ _. 0 < length body.new.edges.items) }
     ensures fewer { IfOk result (λ _. length body.new.edges.items ≤ length body.old.edges.items) }

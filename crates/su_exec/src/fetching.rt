@@ -1,16 +1,15 @@
 //! The candidates of each row, fetched once.
-ghost use Rattle.std.specs.Prelude.{◌≡◌, ◌<◌, ◌≤◌, ◌+◌, ℕ, Some, List, [], map, length, slice_get, All, IfOk, MatchOption};
-ghost use Rattle.su_base.specs.declared.values.Value.{Value as AValue};
+ghost use Rattle.std.specs.Prelude.{◌≡◌, ◌<◌, ◌≤◌, ◌+◌, [], map, length, All, IfOk};
 ghost use Rattle.su_rel.specs.Stored.{IsRelation};
 ghost use Rattle.su_index.specs.Tables.{table_at};
 ghost use Rattle.su_reduce.specs.Codes.{decode, Extends};
 ghost use Rattle.su_reduce.specs.Shapes.{IsShape};
-ghost use Rattle.su_exec.specs.inside.Coded.{AreCoded, AreRowEdges, AreSoFar, IsCoded, IsGathered, IsRowEdge, IsTaken, NoneAgrees, picked};
+ghost use Rattle.su_exec.specs.inside.Coded.{AreCoded, AreFetched, IsCoded, IsRowEdge, picked};
 ghost use Rattle.su_reduce.specs.Sheets.{AreBelow};
 ghost use Rattle.su_exec.specs.Outputs.{values_at};
 ghost use Rattle.su_exec.specs.Shares.{row_share, share, task_share};
 ghost use Rattle.su_exec.specs.Tasks.{FitsTables, HasSources};
-ghost use Rattle.su_exec.specs.inside.Ways.{IsAgreed, IsFrom, IsFromListed};
+ghost use Rattle.su_exec.specs.inside.Gatherings.{Gathers, GathersRow, GathersSource, IsFromPositions, IsFromSource, IsTakenFor};
 
 use crate::access::{Known, Way, access_of, share_of};
 use crate::candidates::Candidates;
@@ -69,7 +68,7 @@ fn select(
     requires width { out.old.rows.width ≡ length aim.now.shape.now.firsts.items }
     requires coded { AreCoded codes.old out.old.rows.rows }
     ensures width { IfOk result (λ _. out.new.rows.width ≡ out.old.rows.width) }
-    ensures gathered { IfOk result (λ _. IsGathered (IsTaken aim.now.row.now.cells aim.now.shape.now.firsts.items aim.now.source.now.columns stored.now) (IsTaken aim.now.row.now.cells aim.now.shape.now.firsts.items aim.now.source.now.columns stored.now) codes.old out.old.rows.rows codes.new out.new.rows.rows) }
+    ensures gathered { IfOk result (λ _. Gathers (IsTakenFor aim.now stored.now) codes.old out.old codes.new out.new) }
 {
     let columns = &aim.source.columns;
     if !fits(&aim.row.cells, aim.shape, &Columns::Listed(columns), stored) {
@@ -104,7 +103,7 @@ fn fetch_one<R: Rows>(
     requires width { out.old.rows.width ≡ length aim.now.shape.now.firsts.items }
     requires coded { AreCoded codes.old out.old.rows.rows }
     ensures width { IfOk result (λ _. out.new.rows.width ≡ out.old.rows.width) }
-    ensures gathered { IfOk result (λ _. (stored : List AValue) → slice_get (table_at (R.tables rows.old) aim.now.source.now.relation).rows position ≡ Some stored → IsGathered (IsTaken aim.now.row.now.cells aim.now.shape.now.firsts.items aim.now.source.now.columns stored) (IsTaken aim.now.row.now.cells aim.now.shape.now.firsts.items aim.now.source.now.columns stored) codes.old out.old.rows.rows codes.new out.new.rows.rows) }
+    ensures gathered { IfOk result (λ _. GathersRow (R.tables rows.old) aim.now position codes.old out.old codes.new out.new) }
     ensures tables { R.tables rows.new ≡ R.tables rows.old }
     ensures fetches { R.fetches rows.new ≤ R.fetches rows.old + 1 }
 {
@@ -126,7 +125,7 @@ fn fetch_all<R: Rows>(
     requires width { out.old.rows.width ≡ length aim.now.shape.now.firsts.items }
     requires coded { AreCoded codes.old out.old.rows.rows }
     ensures width { IfOk result (λ _. out.new.rows.width ≡ out.old.rows.width) }
-    ensures gathered { IfOk result (λ _. let stored = (table_at (R.tables rows.old) aim.now.source.now.relation).rows in IsGathered (IsFrom aim.now.row.now.cells aim.now.shape.now.firsts.items aim.now.source.now.columns stored (length stored)) (IsFrom aim.now.row.now.cells aim.now.shape.now.firsts.items aim.now.source.now.columns stored (length stored)) codes.old out.old.rows.rows codes.new out.new.rows.rows) }
+    ensures gathered { IfOk result (λ _. Gathers (IsFromSource (R.tables rows.old) aim.now) codes.old out.old codes.new out.new) }
     ensures tables { R.tables rows.new ≡ R.tables rows.old }
     ensures fetches { R.fetches rows.new ≤ R.fetches rows.old + length (table_at (R.tables rows.old) aim.now.source.now.relation).rows }
 {
@@ -151,7 +150,7 @@ fn fetch_listed<R: Rows>(
     requires width { out.old.rows.width ≡ length aim.now.shape.now.firsts.items }
     requires coded { AreCoded codes.old out.old.rows.rows }
     ensures width { IfOk result (λ _. out.new.rows.width ≡ out.old.rows.width) }
-    ensures gathered { IfOk result (λ _. IsGathered (IsFromListed aim.now.row.now.cells aim.now.shape.now.firsts.items aim.now.source.now.columns (table_at (R.tables rows.old) aim.now.source.now.relation).rows positions.now (length positions.now)) (IsFromListed aim.now.row.now.cells aim.now.shape.now.firsts.items aim.now.source.now.columns (table_at (R.tables rows.old) aim.now.source.now.relation).rows positions.now (length positions.now)) codes.old out.old.rows.rows codes.new out.new.rows.rows) }
+    ensures gathered { IfOk result (λ _. Gathers (IsFromPositions (R.tables rows.old) aim.now positions.now) codes.old out.old codes.new out.new) }
     ensures tables { R.tables rows.new ≡ R.tables rows.old }
     ensures fetches { R.fetches rows.new ≤ R.fetches rows.old + length positions.now }
 {
@@ -177,7 +176,7 @@ fn fetch_source<R: Rows>(
     requires width { out.old.rows.width ≡ length aim.now.shape.now.firsts.items }
     requires coded { AreCoded codes.old out.old.rows.rows }
     ensures width { IfOk result (λ _. out.new.rows.width ≡ out.old.rows.width) }
-    ensures gathered { IfOk result (λ _. let stored = (table_at (R.tables rows.old) aim.now.source.now.relation).rows in IsGathered (IsFrom aim.now.row.now.cells aim.now.shape.now.firsts.items aim.now.source.now.columns stored (length stored)) (IsAgreed (R.tables rows.old) codes.old edges.now aim.now.row.now.cells aim.now.shape.now.firsts.items aim.now.source.now) codes.old out.old.rows.rows codes.new out.new.rows.rows) }
+    ensures gathered { IfOk result (λ _. GathersSource (R.tables rows.old) edges.now aim.now codes.old out.old codes.new out.new) }
     ensures tables { R.tables rows.new ≡ R.tables rows.old }
     ensures fetches { R.fetches rows.new ≤ R.fetches rows.old + share (R.tables rows.old) aim.now.row.now.cells aim.now.source.now }
 {
@@ -271,7 +270,7 @@ pub fn fetch_rows<R: Rows>(
     codes: &mut Codes,
 ) -> Result<Option<Vec<Candidates>>, AllocError>
     requires { All (HasSources (R.tables rows.old)) task.now.rows }
-    ensures edges { IfOk result (λ found. MatchOption found (NoneAgrees (R.tables rows.old) task.now) (λ edges. AreRowEdges (R.tables rows.old) codes.new task.now edges.items)) }
+    ensures edges { IfOk result (AreFetched (R.tables rows.old) codes.new task.now) }
     ensures tables { R.tables rows.new ≡ R.tables rows.old }
     ensures fetches { R.fetches rows.new ≤ R.fetches rows.old + task_share (R.tables rows.old) task.now }
 {

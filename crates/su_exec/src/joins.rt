@@ -1,9 +1,10 @@
 //! The join of two lists of rows of codes, of which some columns are kept.
-ghost use Rattle.std.specs.Prelude.{◌≡◌, ◌↔◌, ◌⊎◌, ℕ, ◌+◌, ◌<◌, ◌≤◌, List, [], ◌++◌, length, get_or, Contains, IsTrue, IfOk, MatchBool};
-ghost use Rattle.su_reduce.specs.Chains.{IsChain, in_bucket, last};
+ghost use Rattle.std.specs.Prelude.{◌≡◌, ◌↔◌, ◌⊎◌, ℕ, ◌+◌, ◌<◌, List, ◌++◌, length, Contains, IsTrue, IfOk, MatchBool};
+ghost use Rattle.su_reduce.specs.Chains.{IsChain};
 ghost use Rattle.su_reduce.specs.Sheets.{pick, AllDiffer, AreBelow};
-ghost use Rattle.su_exec.specs.inside.Joins.{Gives, IsJoin, IsUpTo};
-ghost use Rattle.su_exec.specs.inside.Plans.{FitsPlan, IsMade, columns_of, made_of, passes_of};
+ghost use Rattle.su_exec.specs.inside.Additions.{AddsOnly, HasEachUpTo};
+ghost use Rattle.su_exec.specs.inside.Joins.{IsJoin, IsUpTo};
+ghost use Rattle.su_exec.specs.inside.Plans.{AreHeads, FitsPlan, GivesBy, IsMade, columns_of, made_of, passes_of};
 
 use crate::checks::{Test, passes};
 use crate::gathered::Gathered;
@@ -107,12 +108,12 @@ fn add_matches(
     requires wide { out.old.rows.width ≡ length plan.now.left_out.items + length plan.now.right_out.items }
     requires some { 0 < length right.now.heads.now }
     requires room { length right.now.next.now ≡ length right.now.rows.now.rows }
-    requires heads { (h : ℕ) → h < length right.now.heads.now → get_or right.now.heads.now h 0 ≡ last (in_bucket right.now.rows.now.rows plan.now.right_key.items (length right.now.heads.now) h) (length right.now.rows.now.rows) }
+    requires heads { AreHeads plan.now right.now.rows.now.rows right.now.heads.now }
     requires next { (h : ℕ) → IsChain right.now.rows.now.rows plan.now.right_key.items (length right.now.heads.now) h right.now.next.now }
     ensures width { out.new.rows.width ≡ out.old.rows.width }
     ensures kept { (r : List ℕ) → Contains out.old.rows.rows r → Contains out.new.rows.rows r }
-    ensures only { (r : List ℕ) → Contains out.new.rows.rows r → Contains out.old.rows.rows r ⊎ Gives row.now right.now.rows.now.rows (columns_of plan.now) (passes_of codes.now plan.now) r }
-    ensures all { IfOk result (λ _. IsUpTo most (length out.new.rows.rows) → (r : List ℕ) → Gives row.now right.now.rows.now.rows (columns_of plan.now) (passes_of codes.now plan.now) r → Contains out.new.rows.rows r) }
+    ensures only { AddsOnly (GivesBy codes.now plan.now row.now right.now.rows.now.rows) out.old.rows.rows out.new.rows.rows }
+    ensures all { IfOk result (λ _. HasEachUpTo most (GivesBy codes.now plan.now row.now right.now.rows.now.rows) out.new.rows.rows) }
 {
     let mut at = right.heads[bucket(row, &plan.left_key, right.heads.len())];
     while at > 0 {

@@ -1,8 +1,9 @@
 //! A body: candidates that are to agree, and checks that are to hold. It is merged to one.
 ghost use Rattle.std.specs.Prelude.{◌≡◌, ◌<◌, ◌+◌, ◌++◌, ◌⊎◌, ℕ, true, [], ◌∷◌, length, All, None, IfOk, IsTrue, MatchBool};
-ghost use Rattle.su_exec.specs.inside.Bodies.{AreAlone, AreThere, IsEmpty, IsEnd, IsGiven, IsMerged, IsRest, IsStep, IsTold, IsWanted, gone, still};
+ghost use Rattle.su_exec.specs.inside.Bodies.{AreAlone, AreThere, IsMerged, IsRest, IsTold, IsWanted, gone, still};
 ghost use Rattle.su_exec.specs.inside.Checks.{IsTestIn, all_hold, all_pass, check_vars, vars_of};
 ghost use Rattle.su_exec.specs.inside.Edges.{Fits, Keeps, always, among, has};
+ghost use Rattle.su_exec.specs.inside.Kept.{AreStillThere, GivesNone, GivesSome, IsEndOf, IsStepOf, KeepsBody, KeepsShrunk};
 ghost use Rattle.su_exec.specs.inside.Sifts.{AreMarks, IsSifted};
 
 use crate::candidates::{Candidates, join_all};
@@ -189,9 +190,9 @@ fn shrunk(
     rest: &mut Body,
     needed: &[u32],
 ) -> Result<Candidates, AllocError>
-    ensures keeps { IfOk result (λ g. Keeps needed.now (a ∷ rest.old.edges.items) (all_hold codes.now rest.old.checks.items) (rest.new.edges.items ++ g ∷ []) (all_hold codes.now rest.new.checks.items)) }
+    ensures keeps { IfOk result (λ g. KeepsShrunk needed.now codes.now a rest.old g rest.new) }
     ensures edges { rest.new.edges.items ≡ rest.old.edges.items }
-    ensures there { IfOk result (λ g. AreThere needed.now rest.old.checks.items (a ∷ rest.old.edges.items) → AreThere needed.now rest.new.checks.items (rest.new.edges.items ++ g ∷ [])) }
+    ensures there { IfOk result (λ g. AreStillThere needed.now a rest.old g rest.new) }
     ensures settled { IfOk result (λ _. rest.old.edges.items ≡ [] → AreThere needed.now rest.old.checks.items (a ∷ []) → rest.new.checks.items ≡ []) }
 {
     let tests = take_tests(alloc, &mut rest.checks, a.vars(), a.vars())?;
@@ -213,7 +214,7 @@ fn shrink_all(
     needed: &[u32],
 ) -> Result<(), AllocError>
     requires { AreThere needed.now body.old.checks.items body.old.edges.items }
-    ensures keeps { IfOk result (λ _. Keeps needed.now body.old.edges.items (all_hold codes.now body.old.checks.items) body.new.edges.items (all_hold codes.now body.new.checks.items)) }
+    ensures keeps { IfOk result (λ _. KeepsBody needed.now codes.now body.old body.new) }
     ensures there { IfOk result (λ _. AreThere needed.now body.new.checks.items body.new.edges.items) }
     ensures length { IfOk result (λ _. length body.new.edges.items ≡ length body.old.edges.items) }
 {
@@ -236,7 +237,7 @@ fn merge_next(
 ) -> Result<Step, AllocError>
     requires some { 1 < length body.old.edges.items }
     requires there { AreThere needed.now body.old.checks.items body.old.edges.items }
-    ensures merged { IfOk result (IsStep needed.now most body.old.edges.items (all_hold codes.now body.old.checks.items) body.new.edges.items (all_hold codes.now body.new.checks.items)) }
+    ensures merged { IfOk result (IsStepOf needed.now most codes.now body.old body.new) }
     ensures there { IfOk result (λ step. AreThere (still needed.now step) body.new.checks.items body.new.edges.items) }
     ensures length { IfOk result (λ step. length body.new.edges.items + gone step ≡ length body.old.edges.items) }
     ensures last { IfOk result (λ _. body.new.edges.items ≡ [] → body.new.checks.items ≡ []) }
@@ -284,7 +285,7 @@ fn merge_down(
 ) -> Result<End, AllocError>
     requires some { 0 < length body.old.edges.items }
     requires there { AreThere needed.now body.old.checks.items body.old.edges.items }
-    ensures end { IfOk result (IsEnd needed.now most body.old.edges.items (all_hold codes.now body.old.checks.items) body.new.edges.items (all_hold codes.now body.new.checks.items)) }
+    ensures end { IfOk result (IsEndOf needed.now most codes.now body.old body.new) }
     ensures there { IfOk result (IsRest needed.now body.new.edges.items body.new.checks.items) }
 {
     let times = cyclic_count(alloc, &body.edges)?;
@@ -332,7 +333,7 @@ fn has_rows(edge: &Candidates) -> bool
 fn exists(alloc: Global, codes: &Codes, body: Body) -> Result<bool, AllocError>
     requires there { AreThere [] body.checks.items body.edges.items }
     requires last { body.edges.items ≡ [] → body.checks.items ≡ [] }
-    ensures { IfOk result (λ some. MatchBool some (IsGiven [] body.edges.items (all_hold codes.now body.checks.items) []) (IsEmpty body.edges.items (all_hold codes.now body.checks.items))) }
+    ensures { IfOk result (λ some. MatchBool some (GivesSome codes.now body) (GivesNone codes.now body)) }
 {
     if body.edges.is_empty() {
         return Ok(true);

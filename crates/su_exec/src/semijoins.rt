@@ -1,7 +1,7 @@
 //! Which rows of codes have a partner among others, by the semijoin of su_reduce.
-ghost use Rattle.std.specs.Prelude.{◌≡◌, ◌↔◌, ◌<◌, ℕ, false, [], IfOk, IsTrue, length, get_or};
-ghost use Rattle.su_reduce.specs.Sheets.{AreBelow, pick};
-ghost use Rattle.su_exec.specs.inside.Semijoins.{HasKey};
+ghost use Rattle.std.specs.Prelude.{◌≡◌, ◌<◌, ℕ, false, IfOk, IsTrue, length, get_or};
+ghost use Rattle.su_reduce.specs.Sheets.{AreBelow};
+ghost use Rattle.su_exec.specs.inside.Semijoins.{ArePartnered};
 
 use std::alloc::{AllocError, Global};
 use su_reduce::{Sheet, Side, partner_marks};
@@ -27,7 +27,7 @@ pub fn with_partners(
     requires right { AreBelow right_key.now right.now.width }
     requires keys { length left_key.now ≡ length right_key.now }
     ensures length { IfOk result (λ marks. length marks.items ≡ length left.now.rows) }
-    ensures exact { IfOk result (λ marks. (i : ℕ) → i < length left.now.rows → IsTrue (get_or marks.items i false) ↔ HasKey right.now.rows right_key.now (length right.now.rows) (pick left_key.now (get_or left.now.rows i []))) }
+    ensures exact { IfOk result (λ marks. ArePartnered left.now.rows left_key.now right.now.rows right_key.now marks.items) }
 {
     let all_left = all_marked(alloc, left.len())?;
     let all_right = all_marked(alloc, right.len())?;

@@ -2,7 +2,7 @@
 -- term: a code, or a variable; check: a comparison of two terms
 -- spot: where a pair of rows has a term; test: a comparison of two spots
 -- No public contract cites this module.
-use Rattle.std.specs.Prelude.{◌≡◌, ◌<◌, ℕ, Bool, List, [], ◌∷◌, ◌++◌, map, slice_index_or}
+use Rattle.std.specs.Prelude.{◌≡◌, ◌<◌, ◌&&◌, ◌||◌, ℕ, Bool, true, List, [], ◌∷◌, ◌++◌, map, length, slice_index_or, All}
 use Rattle.std.specs.List.{list_all}
 use Rattle.su_base.specs.declared.values.Value.{Value}
 use Rattle.su_where.specs.Operator.{compares}
@@ -13,6 +13,7 @@ use Rattle.su_exec.specs.declared.checks.Check.{Check}
 use Rattle.su_exec.specs.declared.checks.Spot.{Spot}
 use Rattle.su_exec.specs.declared.checks.Spot.TheVariants.{Code as Given, Left, Right}
 use Rattle.su_exec.specs.declared.checks.Test.{Test}
+use Rattle.su_exec.specs.inside.Edges.{has}
 
 -- the code of a term
 abbrev pub code_of : (ℕ → ℕ) → CodedSymbol → ℕ
@@ -64,3 +65,29 @@ all_pass values tests row other = list_all (test_passes values row other) tests
 -- where each valuation has the term, in what it gives these variables
 abbrev pub HasTerm : List ℕ → List ℕ → CodedSymbol → Spot → Type 0
 HasTerm xs ys term spot = (v : ℕ → ℕ) → spot_code spot (map v xs) (map v ys) ≡ code_of v term
+
+-- ---- checks that become tests of rows over variables
+
+-- the test says of what a valuation gives these variables what the check says of the valuation
+abbrev pub IsTestFor : List ℕ → List ℕ → Check → Test → Type 0
+IsTestFor xs ys check test = (values : List Value) (v : ℕ → ℕ) → test_passes values (map v xs) (map v ys) test ≡ check_holds values v check
+
+-- the tests lie within rows over these variables
+abbrev pub AreTestsIn : List ℕ → List ℕ → List Test → Type 0
+AreTestsIn xs ys tests = All (IsTestIn (length xs) (length ys)) tests
+
+-- what a valuation gives these variables passes the tests, and the checks hold under it
+abbrev pub both_hold : List ℕ → List ℕ → List Value → (ℕ → ℕ) → List Test → List Check → Bool
+both_hold xs ys values v tests checks = all_pass values tests (map v xs) (map v ys) && all_hold values checks v
+
+-- the new tests and checks say what the old ones and the check say
+abbrev pub TakesOne : List ℕ → List ℕ → Check → List Test → List Check → List Test → List Check → Type 0
+TakesOne xs ys check tests later news rest = (values : List Value) (v : ℕ → ℕ) → both_hold xs ys values v news rest ≡ (both_hold xs ys values v tests later && check_holds values v check)
+
+-- the tests and what is left of the checks say what the checks say
+abbrev pub TakesAll : List ℕ → List ℕ → List Check → List Test → List Check → Type 0
+TakesAll xs ys checks tests left = (values : List Value) (v : ℕ → ℕ) → all_hold values checks v ≡ both_hold xs ys values v tests left
+
+-- each variable of the checks is one of these
+abbrev pub AreOver : List ℕ → List ℕ → List Check → Type 0
+AreOver xs ys checks = (k : ℕ) → has (check_vars checks) k ≡ true → (has xs k || has ys k) ≡ true

@@ -1,6 +1,7 @@
 -- Candidates as values: what their codes stand for.
 -- No public contract cites this module.
-use Rattle.std.specs.Prelude.{◌≡◌, ◌<◌, ◌⊎◌, ◌↔◌, ℕ, pos, true, Some, List, [], map, sum, length, slice_get, slice_index_or, All, Contains}
+use Rattle.std.specs.Prelude.{◌≡◌, ◌<◌, ◌⊎◌, ◌↔◌, ℕ, pos, true, Option, Some, MatchOption, List, Vec, [], map, sum, length, slice_get, slice_index_or, All, Contains}
+use Rattle.std.specs.declared.alloc.Global.{Global}
 use Rattle.su_base.specs.declared.values.Value.{Value}
 use Rattle.su_base.specs.declared.values.Value.TheVariants.{Int}
 use Rattle.su_rel.specs.Stored.{Stored}
@@ -82,6 +83,10 @@ pub record AreRowEdges (tables : List Stored) (values : List Value) (task : Task
 -- no valuation gives each row a stored row
 abbrev pub NoneAgrees : List Stored → Task → Type 0
 NoneAgrees tables task = (v : ℕ → Value) → ¬ All (Agrees tables v) task.rows
+
+-- the candidates of all rows, or that there are none
+abbrev pub AreFetched : List Stored → List Value → Task → Option (Vec (Edge ℕ) Global) → Type 0
+AreFetched tables values task found = MatchOption found (NoneAgrees tables task) (λ edges. AreRowEdges tables values task edges.items)
 
 -- the shares of the rows that are left
 abbrev pub left_share : List Stored → Task → List ℕ → ℕ

@@ -5,6 +5,7 @@ use Rattle.std.specs.Prelude.{◌≡◌, ◌<◌, ◌≤◌, ℕ, min, max, nat_
 use Rattle.std.specs.List.{range_with_len}
 use Rattle.su_tableau.specs.declared.symbols.Sym.{Sym}
 use Rattle.su_tableau.specs.declared.symbols.Sym.TheVariants.{Var}
+use Rattle.su_exec.specs.declared.tasks.Compared.{Compared}
 use Rattle.su_exec.specs.declared.tasks.Task.{Task}
 use Rattle.su_exec.specs.Tasks.{StandsIn}
 use Rattle.su_exec.specs.Components.{AreConnected}
@@ -46,3 +47,7 @@ own_rows labels = filter (λ i. nat_eq (label_of labels i) i) (range_with_len 0 
 -- rows with one label still have one
 abbrev pub KeepsLabels : List ℕ → List ℕ → Type 0
 KeepsLabels old new = (i j : ℕ) → i < length old → j < length old → label_of old i ≡ label_of old j → label_of new i ≡ label_of new j
+
+-- the first rows with the two variables of the comparison have one label
+abbrev pub JoinsCompared : Task → Compared → List ℕ → Type 0
+JoinsCompared task compared labels = (k l i j : ℕ) → compared.left ≡ Var k → compared.right ≡ Var l → IsFirstRow task k i → IsFirstRow task l j → label_of labels i ≡ label_of labels j

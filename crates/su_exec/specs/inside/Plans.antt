@@ -1,10 +1,11 @@
 -- Plans: how two lists of rows are joined.
 -- No public contract cites this module.
-use Rattle.std.specs.Prelude.{◌≡◌, ℕ, Bool, true, List, ◌++◌, length, All}
+use Rattle.std.specs.Prelude.{◌≡◌, ◌<◌, ℕ, Bool, true, List, ◌++◌, length, get_or, All}
 use Rattle.su_base.specs.declared.values.Value.{Value}
 use Rattle.su_exec.specs.declared.joins.Plan.{Plan}
+use Rattle.su_reduce.specs.Chains.{in_bucket, last}
 use Rattle.su_reduce.specs.Sheets.{pick, AreBelow}
-use Rattle.su_exec.specs.inside.Joins.{Columns}
+use Rattle.su_exec.specs.inside.Joins.{Columns, Gives}
 use Rattle.su_exec.specs.inside.Checks.{IsTestIn, all_pass}
 
 -- the columns of a plan
@@ -33,3 +34,11 @@ pub record IsMade (values : List Value) (plan : Plan) (row other r : List ℕ) :
   pub keys : pick plan.left_key.items row ≡ pick plan.right_key.items other
   pub passes : passes_of values plan row other ≡ true
   pub is : made_of plan row other ≡ r
+
+-- a row on the right gives the row together with this one by the plan
+abbrev pub GivesBy : List Value → Plan → List ℕ → List (List ℕ) → List ℕ → Type 0
+GivesBy values plan row rs r = Gives row rs (columns_of plan) (passes_of values plan) r
+
+-- each head is the number after the last row of its bucket
+abbrev pub AreHeads : Plan → List (List ℕ) → List ℕ → Type 0
+AreHeads plan rs heads = (h : ℕ) → h < length heads → get_or heads h 0 ≡ last (in_bucket rs plan.right_key.items (length heads) h) (length rs)

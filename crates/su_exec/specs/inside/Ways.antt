@@ -1,7 +1,7 @@
 -- Ways to the stored rows of a source that a row may agree with.
 -- way: all rows of the table, or those at some positions; reached: beside the candidates so far no other stored row agrees
 -- No public contract cites this module.
-use Rattle.std.specs.Prelude.{◌≡◌, ◌<◌, ◌≤◌, ℕ, Some, Option, None, IsTrue, List, [], All, map, length, slice_get, slice_index_or, Contains}
+use Rattle.std.specs.Prelude.{◌≡◌, ◌<◌, ◌≤◌, ℕ, Some, Option, None, IsTrue, List, [], ◌∷◌, All, map, length, slice_get, slice_index_or, Contains}
 use Rattle.su_base.specs.declared.values.Value.{Value}
 use Rattle.su_rel.specs.Stored.{Stored}
 use Rattle.su_tableau.specs.declared.symbols.Sym.{Sym}
@@ -37,6 +37,19 @@ pub record AreOfCodes (rows : List (List Value)) (column : ℕ) (values : List V
   pub within : All (λ p. p < length rows) positions
   pub all : (i p : ℕ) → i < n → p < length rows → IsTrue (has_value column (decode values (only_code (slice_index_or codes i []))) (slice_index_or rows p [])) → Contains positions p
 
+-- the positions are of the table's rows, and among them is that of each which has, in the column, the value of one of the codes
+abbrev pub AreOfTable : List Stored → ℕ → ℕ → List Value → List (List ℕ) → List ℕ → Type 0
+AreOfTable tables table column values codes positions = AreOfCodes (table_at tables table).rows column values codes (length codes) positions
+
+-- among the codes are those at the place of the edge's rows
+abbrev pub HasCodesAt : Edge ℕ → ℕ → List (List ℕ) → Type 0
+HasCodesAt edge place codes = (i : ℕ) → i < length edge.rows → Contains codes (slice_index_or (slice_index_or edge.rows i []) place 0 ∷ [])
+
+-- edge e has the variable at place p
+abbrev pub HasAt : List (Edge ℕ) → ℕ → ℕ → ℕ → Type 0
+HasAt edges k e p =
+    (e < length edges) × (p < length (slice_index_or edges e (record { vars = []; rows = [] })).vars) × (slice_index_or (slice_index_or edges e (record { vars = []; rows = [] })).vars p 0 ≡ k)
+
 -- the positions are of stored rows, and among them is that of each which agrees, under a valuation that fits the candidates so far
 pub record AreReached (tables : List Stored) (values : List Value) (es : List (Edge ℕ)) (row : TaskRow) (source : Source) (positions : List ℕ) : Type 0 where
   pub within : All (λ p. p < length (table_at tables source.relation).rows) positions
@@ -49,6 +62,10 @@ abbrev pub IsWay : List Stored → List Value → List (Edge ℕ) → TaskRow �
 IsWay tables values es row source Whole cost = length (table_at tables source.relation).rows ≤ cost
 IsWay tables values es row source (Listed positions) cost = AreReached tables values es row source positions.items × (length positions.items ≤ cost)
 
+-- it is a way whatever is known of the variables
+abbrev pub IsSureWay : List Stored → TaskRow → Source → Way → ℕ → Type 0
+IsSureWay tables row source way cost = (values : List Value) (es : List (Edge ℕ)) → IsWay tables values es row source way cost
+
 -- the cell at the place is a constant, which at most so many rows have
 pub record IsConstantAt (tables : List Stored) (row : TaskRow) (source : Source) (p cost : ℕ) : Type 0 where
   pub value : Value
@@ -56,6 +73,11 @@ pub record IsConstantAt (tables : List Stored) (row : TaskRow) (source : Source)
   pub is : slice_get row.cells p ≡ Some (Const value)
   pub column_is : slice_get source.columns p ≡ Some column
   pub few : matches column value (table_at tables source.relation).rows ≤ cost
+
+-- if the cell at the place is a constant, at least so many rows have it
+abbrev pub IsUpToMatches : List Stored → TaskRow → Source → ℕ → ℕ → Type 0
+IsUpToMatches tables row source p cost =
+    (value : Value) (column : ℕ) → slice_get row.cells p ≡ Some (Const value) → slice_get source.columns p ≡ Some column → cost ≤ matches column value (table_at tables source.relation).rows
 
 -- at most so many rows have the constant at the place, or are there at all where there is no place
 abbrev pub CostsAt : List Stored → TaskRow → Source → Option ℕ → ℕ → Type 0
