@@ -1,9 +1,8 @@
 //! The definitions that a schema is made of, by their numbers.
-ghost use Rattle.std.specs.Prelude.{◌≡◌, ◌<◌, ◌++◌, ◌∷◌, [], length, map, slice_get, filter_map, IfOk, OnOk, if◌then◌else◌};
-ghost use Rattle.std.specs.List.{range_with_len};
+ghost use Rattle.std.specs.Prelude.{◌≡◌, ◌<◌, ◌++◌, ◌∷◌, [], length, map, slice_get, IfOk, OnOk, if◌then◌else◌};
 ghost use Rattle.su_schema.specs.Entries.{attribute_names, object_names, column_names};
 ghost use Rattle.su_ddl.specs.ShownDefinitions.{names_in, attribute_definition, relation_definition, object_definition, fd_definition, maximal_definition, pair_of, name_at};
-ghost use Rattle.su_ddl.specs.inside.PairAlone.{listed};
+ghost use Rattle.su_ddl.specs.inside.PairAlone.{listed, pairs_of};
 ghost use Rattle.su_schema.specs.Known.{columns_at};
 
 use std::alloc::Global;
@@ -109,7 +108,7 @@ fn pairs_at(alloc: Global, schema: &Schema, o: u8, r: u8) -> Result<List<Pair>, 
     requires object { o < length schema.now.objects }
     requires relation { slice_get (map (λ x. x.relation) schema.now.objects) o ≡ Some r }
     requires stored { r < length schema.now.relations }
-    ensures { IfOk result (λ ps. slice_get (map (λ x. filter_map (pair_of schema.now x) (range_with_len 0 (length schema.now.attributes))) schema.now.objects) o ≡ Some ps) }
+    ensures { IfOk result (λ ps. slice_get (map (pairs_of schema.now) schema.now.objects) o ≡ Some ps) }
 {
     schema.keeps_its_rules();
     let mut pairs = List::new(alloc);

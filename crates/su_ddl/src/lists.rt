@@ -3,7 +3,7 @@ ghost use Rattle.std.specs.Prelude.{◌≡◌, ℕ, ◌∷◌, ◌++◌, IfOk, I
 ghost use Rattle.su_lex.specs.Names.{Begins, AreNames};
 ghost use Rattle.su_ddl.specs.Grammar.{in_parens, columns_symbols};
 ghost use Rattle.su_lex.specs.Wordings.{kind_symbol};
-ghost use Rattle.su_ddl.specs.inside.Columns.{AreColumns};
+ghost use Rattle.su_ddl.specs.inside.Columns.{AreColumns, column_before};
 ghost use Rattle.su_base.specs.Name.{IsName};
 ghost use Rattle.su_lex.specs.declared.meaning.Symbol.{Symbol as ASymbol};
 ghost use Rattle.su_base.specs.declared.values.Kind.{Kind as AKind};
@@ -37,8 +37,8 @@ pub fn kind(reader: &mut Reader) -> Result<Kind, LexEnd>
 
 /// NAME kind
 fn column(reader: &mut Reader) -> Result<Column, LexEnd>
-    ensures found { IfOk result (λ c. (reader.old ≡ Symbol.Word c.name ∷ kind_symbol c.kind ∷ reader.new) × IsName c.name) }
-    ensures syntax { IsErrOf result LexEnd.Syntax → (c : AColumn) (r : Items ASymbol) → IsName c.name → ¬ (reader.old ≡ Symbol.Word c.name ∷ kind_symbol c.kind ∷ r) }
+    ensures found { IfOk result (λ c. (reader.old ≡ column_before c reader.new) × IsName c.name) }
+    ensures syntax { IsErrOf result LexEnd.Syntax → (c : AColumn) (r : Items ASymbol) → IsName c.name → ¬ (reader.old ≡ column_before c r) }
 {
     let name = reader.name()?;
     let kind = kind(reader)?;

@@ -1,7 +1,7 @@
 //! A sink in memory, some of whose calls fail.
-ghost use Rattle.std.specs.Prelude.{◌++◌, ◌&&◌, nat_le, ◌^◌, min, ◌-◌, ◌≡◌, ◌≤◌, ◌<◌, ◌+◌, ◌↔◌, IsErr, OnErr, Contains, take, length, cond, [], Some, None, true, IfOk, vec_len, vec_capacity};
+ghost use Rattle.std.specs.Prelude.{◌++◌, ◌&&◌, nat_le, ◌^◌, min, ◌-◌, ◌≡◌, ◌≤◌, ◌<◌, ◌+◌, ◌↔◌, IsErr, OnErr, Contains, take, length, [], None, true, IfOk, vec_len, vec_capacity};
 ghost use Rattle.su_io.specs.Causes.{HasCause};
-ghost use Rattle.su_io.specs.Ends.{Grew};
+ghost use Rattle.su_io.specs.Ends.{Grew, told_bytes};
 
 use crate::rooms::keep;
 use crate::{Failed, Sink};
@@ -72,7 +72,7 @@ impl MemorySink {
 }
 
 impl Sink for MemorySink {
-    ghost written = { λ s. cond s.told (Some s.bytes.items) None };
+    ghost written = { λ s. told_bytes s.told s.bytes.items };
 
     ghost handed = { λ s. None };
 
@@ -82,7 +82,7 @@ impl Sink for MemorySink {
     fn write(&mut self, bytes: &[u8]) -> Result<usize, Failed>
         ensures bound { IfOk result (λ count. count ≤ length bytes.now) }
         ensures progress { IfOk result (λ count. 0 < length bytes.now → 0 < count) }
-        ensures grew { IfOk result (λ count. Grew (cond self.old.told (Some self.old.bytes.items) None) (cond self.new.told (Some self.new.bytes.items) None) (take count bytes.now)) }
+        ensures grew { IfOk result (λ count. Grew (told_bytes self.old.told self.old.bytes.items) (told_bytes self.new.told self.new.bytes.items) (take count bytes.now)) }
         ensures kept { OnErr result ((self.new.bytes ≡ self.old.bytes) × (self.new.told ≡ self.old.told)) }
         ensures cause { HasCause self.old.faults self.new.faults result }
         ensures when { IsErr result ↔ Contains self.old.fails self.old.calls }

@@ -1,12 +1,13 @@
 //! The names of a condition on a relation as numbers.
-ghost use Rattle.std.specs.Prelude.{◌≡◌, ◌⊎◌, ◌<◌, ◌≤◌, true, [], None, Some, length, map, option_map, IfOk, IfErr, OnOk};
+ghost use Rattle.std.specs.Prelude.{◌≡◌, ◌⊎◌, ◌<◌, ◌≤◌, true, [], None, length, map, IfOk, IfErr, OnOk};
 ghost use Rattle.su_where.specs.Truth.{comparisons_of};
 ghost use Rattle.su_query.specs.Mentions.{are_columns};
 ghost use Rattle.su_query.specs.NumberedConditions.{with_columns};
 ghost use Rattle.su_query.specs.Scopes.{names_in, first_unknown};
 ghost use Rattle.su_query.specs.Places.{number_in};
-ghost use Rattle.su_query.specs.Lookup.{unknown_in, IsColumnCondition, IsColumnRefusal};
+ghost use Rattle.su_query.specs.Lookup.{IsColumnCondition, IsColumnRefusal};
 ghost use Rattle.su_query.specs.Ranges.{IsOnColumns};
+ghost use Rattle.su_query.specs.inside.Unknowns.{IsRefRefusal};
 
 use crate::conditions::NamedCond;
 use crate::faults::QueryFault;
@@ -31,7 +32,7 @@ fn column_numbers(
     requires { relation < length schema.now.relations }
     ensures numbers { IfOk result (λ numbers. numbers ≡ map (number_in schema.now (Scope.Columns relation) [] []) (map (λ r. r.now) references.now)) }
     ensures known { OnOk result (first_unknown (names_in schema.now (Scope.Columns relation)) (map (λ r. r.now) references.now) ≡ None) }
-    ensures refused { IfErr result (λ fault. (fault ≡ QueryFault.NoMemory) ⊎ (option_map (unknown_in (Scope.Columns relation)) (first_unknown (names_in schema.now (Scope.Columns relation)) (map (λ r. r.now) references.now)) ≡ Some fault)) }
+    ensures refused { IfErr result (IsRefRefusal schema.now (Scope.Columns relation) (map (λ r. r.now) references.now)) }
 {
     let mut numbers = List::new(alloc);
     for reference in references {

@@ -191,7 +191,7 @@ fn closure(reader: &mut Reader) -> Result<Statement, LexEnd>
 
 fn certify(reader: &mut Reader) -> Result<Statement, LexEnd>
     ensures found { IfOk result (λ st. IsForm st (Symbol.Word (codes "explain") ∷ Symbol.Word (codes "with") ∷ reader.old)) }
-    ensures syntax { IsErrOf result LexEnd.Syntax → (st : AStatement) → IsForm st (Symbol.Word (codes "explain") ∷ Symbol.Word (codes "with") ∷ reader.old) → ⊥ }
+    ensures syntax { IsErrOf result LexEnd.Syntax → (st : AStatement) → ¬ IsForm st (Symbol.Word (codes "explain") ∷ Symbol.Word (codes "with") ∷ reader.old) }
 {
     let query = query_form(reader)?;
     Ok(Statement::Certify(query))
@@ -199,7 +199,7 @@ fn certify(reader: &mut Reader) -> Result<Statement, LexEnd>
 
 fn support(reader: &mut Reader) -> Result<Statement, LexEnd>
     ensures found { IfOk result (λ st. IsForm st (Symbol.Word (codes "explain") ∷ Symbol.Word (codes "from") ∷ reader.old)) }
-    ensures syntax { IsErrOf result LexEnd.Syntax → (st : AStatement) → IsForm st (Symbol.Word (codes "explain") ∷ Symbol.Word (codes "from") ∷ reader.old) → ⊥ }
+    ensures syntax { IsErrOf result LexEnd.Syntax → (st : AStatement) → ¬ IsForm st (Symbol.Word (codes "explain") ∷ Symbol.Word (codes "from") ∷ reader.old) }
 {
     let query = query_form(reader)?;
     Ok(Statement::Support(query))

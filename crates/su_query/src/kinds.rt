@@ -1,9 +1,9 @@
 //! The first comparison of two kinds, in a condition over numbers.
-ghost use Rattle.std.specs.Prelude.{◌≡◌, ◌⊎◌, Some, None, map, option_map, length, IfErr, OnOk, ◌∷◌, [], All};
+ghost use Rattle.std.specs.Prelude.{◌≡◌, ◌⊎◌, None, map, length, IfErr, OnOk, ◌∷◌, [], All};
 ghost use Rattle.su_where.specs.Truth.{comparisons_of};
 ghost use Rattle.su_where.specs.Places.{IsBelow, HasPlacesBelow, Fits};
 ghost use Rattle.su_query.specs.Ranges.{operand_kind};
-ghost use Rattle.su_query.specs.inside.TwoKinds.{two_kinds};
+ghost use Rattle.su_query.specs.inside.TwoKinds.{two_kinds, TellsTwoKinds};
 
 use crate::faults::QueryFault;
 use std::alloc::Global;
@@ -51,7 +51,7 @@ fn differing_among(kinds: &[Kind], compared: &[&Literal]) -> Option<(Kind, Kind)
 pub(crate) fn check(alloc: Global, kinds: &[Kind], cond: &Cond) -> Result<(), QueryFault>
     requires { Fits (length kinds.now) cond.now }
     ensures alike { OnOk result (two_kinds kinds.now (comparisons_of cond.now) ≡ None) }
-    ensures refused { IfErr result (λ fault. (fault ≡ QueryFault.NoMemory) ⊎ (option_map (λ k. QueryFault.Kinds k.0 k.1) (two_kinds kinds.now (comparisons_of cond.now)) ≡ Some fault)) }
+    ensures refused { IfErr result (λ fault. (fault ≡ QueryFault.NoMemory) ⊎ TellsTwoKinds kinds.now (comparisons_of cond.now) fault) }
 {
     let compared = comparisons(alloc, cond)?;
     match differing_among(kinds, compared.as_slice()) {

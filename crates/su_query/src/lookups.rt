@@ -1,7 +1,8 @@
 //! Names that are looked up in a schema.
-ghost use Rattle.std.specs.Prelude.{◌≡◌, ◌⊎◌, Some, None, IfOk, IfErr};
+ghost use Rattle.std.specs.Prelude.{◌≡◌, ◌⊎◌, Some, IfOk, IfErr};
 ghost use Rattle.su_schema.specs.Entries.{place_of};
 ghost use Rattle.su_query.specs.inside.SchemaScopes.{IsScope};
+ghost use Rattle.su_query.specs.inside.Unknowns.{IsUnknown};
 ghost use Rattle.su_query.specs.Scopes.{names_in};
 ghost use Rattle.su_query.specs.Lookup.{unknown_in};
 
@@ -31,7 +32,7 @@ pub(crate) fn look_up(
 ) -> Result<u8, QueryFault>
     requires { IsScope schema.now scope }
     ensures found { IfOk result (λ number. place_of (names_in schema.now scope) reference.now.attribute ≡ Some number) }
-    ensures refused { IfErr result (λ fault. (fault ≡ QueryFault.NoMemory) ⊎ ((place_of (names_in schema.now scope) reference.now.attribute ≡ None) × (fault ≡ unknown_in scope reference.now.attribute))) }
+    ensures refused { IfErr result (λ fault. (fault ≡ QueryFault.NoMemory) ⊎ IsUnknown schema.now scope reference.now.attribute fault) }
 {
     match find(schema, scope, reference.attribute.as_str()) {
         Some(number) => Ok(number),

@@ -1,12 +1,13 @@
 //! Places: a variable and an attribute, by their numbers.
-ghost use Rattle.std.specs.Prelude.{◌≡◌, ◌⊎◌, ◌<◌, ◌≤◌, [], ◌∷◌, ◌++◌, Some, None, All, length, position, unwrap_or, map, option_map, if◌then◌else◌, slice_index_or, IfOk, IfErr, OnOk};
+ghost use Rattle.std.specs.Prelude.{◌≡◌, ◌⊎◌, ◌<◌, ◌≤◌, [], ◌∷◌, ◌++◌, Some, None, All, length, position, unwrap_or, map, if◌then◌else◌, slice_index_or, IfOk, IfErr, OnOk};
 ghost use Rattle.std.specs.List.{list_any};
 ghost use Rattle.su_schema.specs.Entries.{attribute_kinds};
 ghost use Rattle.su_query.specs.Mentions.{same_variable};
-ghost use Rattle.su_query.specs.Places.{number_in, same_place, places_of};
+ghost use Rattle.su_query.specs.Places.{same_place, places_of};
 ghost use Rattle.su_query.specs.Scopes.{names_in, first_unknown};
-ghost use Rattle.su_query.specs.Lookup.{unknown_in};
 ghost use Rattle.su_query.specs.Ranges.{place_kinds};
+ghost use Rattle.su_query.specs.inside.PlaceNumbers.{attribute_numbers};
+ghost use Rattle.su_query.specs.inside.Unknowns.{IsRefRefusal};
 
 use crate::faults::QueryFault;
 use crate::lookups::look_up;
@@ -86,9 +87,9 @@ pub(crate) fn place_all(
     requires variables { length variables.now ≤ 8 }
     requires few { length references.now ≤ 640 }
     ensures places { IfOk result (λ placed. placed.places ≡ places_of schema.now variables.now [] (map (λ r. r.now) references.now)) }
-    ensures numbers { IfOk result (λ placed. placed.numbers ≡ map (number_in schema.now Scope.Attributes variables.now placed.places) (map (λ r. r.now) references.now)) }
+    ensures numbers { IfOk result (λ placed. placed.numbers ≡ attribute_numbers schema.now variables.now placed.places (map (λ r. r.now) references.now)) }
     ensures known { OnOk result (first_unknown (names_in schema.now Scope.Attributes) (map (λ r. r.now) references.now) ≡ None) }
-    ensures refused { IfErr result (λ fault. (fault ≡ QueryFault.NoMemory) ⊎ (option_map (unknown_in Scope.Attributes) (first_unknown (names_in schema.now Scope.Attributes) (map (λ r. r.now) references.now)) ≡ Some fault)) }
+    ensures refused { IfErr result (IsRefRefusal schema.now Scope.Attributes (map (λ r. r.now) references.now)) }
 {
     let mut places = List::new(alloc);
     let mut numbers = List::new(alloc);

@@ -26,11 +26,19 @@ last p (suc n) = cond (p n) (suc n) (last p n)
 abbrev pub IsChain : List (List ℕ) → List ℕ → ℕ → ℕ → List ℕ → Type 0
 IsChain rows places n h next = (j : ℕ) → j < length rows → in_bucket rows places n h j ≡ true → get_or next j 0 ≡ last (in_bucket rows places n h) j
 
+-- so in each bucket of n
+abbrev pub AreChains : List (List ℕ) → List ℕ → ℕ → List ℕ → Type 0
+AreChains rows places n next = (h : ℕ) → IsChain rows places n h next
+
+-- for each bucket the number after its last row
+abbrev pub AreHeads : List (List ℕ) → List ℕ → List ℕ → Type 0
+AreHeads rows places heads = (h : ℕ) → h < length heads → get_or heads h 0 ≡ last (in_bucket rows places (length heads) h) (length rows)
+
 -- rows that differ, in buckets
 pub record IsHashed (rows : Rows) (places heads next : List ℕ) : Type 0 where
   pub below : AreBelow places rows.width
   pub some : 0 < length heads
   pub room : length rows.rows ≤ length next
-  pub each_head : (h : ℕ) → h < length heads → get_or heads h 0 ≡ last (in_bucket rows.rows places (length heads) h) (length rows.rows)
-  pub chains : (h : ℕ) → IsChain rows.rows places (length heads) h next
+  pub each_head : AreHeads rows.rows places heads
+  pub chains : AreChains rows.rows places (length heads) next
   pub differ : AllDiffer rows.rows

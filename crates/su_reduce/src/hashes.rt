@@ -1,6 +1,6 @@
 //! Hashes of rows at some places, and chains of the rows with one hash.
-ghost use Rattle.std.specs.Prelude.{◌≡◌, ◌↔◌, ℕ, ◌%◌, ◌<◌, true, length, get_or, IsTrue};
-ghost use Rattle.su_reduce.specs.Chains.{hash_of, in_bucket, last};
+ghost use Rattle.std.specs.Prelude.{◌≡◌, ◌↔◌, ℕ, ◌%◌, ◌<◌, length, get_or, IsTrue};
+ghost use Rattle.su_reduce.specs.Chains.{hash_of, AreHeads, AreChains};
 ghost use Rattle.su_reduce.specs.Sheets.{pick, AreBelow};
 
 use crate::sheets::Sheet;
@@ -36,8 +36,8 @@ pub fn fill(rows: &Sheet, places: &[usize], heads: &mut [usize], next: &mut [usi
     requires blank { (h : ℕ) → h < length heads.old → get_or heads.old h 0 ≡ 0 }
     requires room { length next.old ≡ length rows.now.rows }
     ensures lengths { (length heads.new ≡ length heads.old) × (length next.new ≡ length next.old) }
-    ensures heads { (h : ℕ) → h < length heads.new → get_or heads.new h 0 ≡ last (in_bucket rows.now.rows places.now (length heads.new) h) (length rows.now.rows) }
-    ensures next { (j h : ℕ) → j < length rows.now.rows → in_bucket rows.now.rows places.now (length heads.new) h j ≡ true → get_or next.new j 0 ≡ last (in_bucket rows.now.rows places.now (length heads.new) h) j }
+    ensures heads { AreHeads rows.now.rows places.now heads.new }
+    ensures next { AreChains rows.now.rows places.now (length heads.new) next.new }
 {
     for j in 0..rows.len() {
         let h = bucket(rows.row(j), places, heads.len());

@@ -1,10 +1,11 @@
 //! The calls that add to a schema. Each adds its definition whole, or changes nothing.
-ghost use Rattle.std.specs.Prelude.{◌≡◌, ◌<◌, [], ◌⊎◌, length, IfOk, IfErr, OnOk, OnErr};
+ghost use Rattle.std.specs.Prelude.{◌≡◌, ◌<◌, [], length, IfOk, IfErr, OnOk, OnErr};
 ghost use Rattle.su_base.specs.Name.{IsName};
 ghost use Rattle.su_schema.specs.Entries.{column_names};
 ghost use Rattle.su_schema.specs.NameChecks.{first_failing, apart_checks};
 ghost use Rattle.su_schema.specs.Definitions.{applied, IsDefinitionRefusal};
 ghost use Rattle.su_schema.specs.WellNamed.{IsWellNamed};
+ghost use Rattle.su_schema.specs.inside.Refusals.{IsRefusalBy};
 
 use crate::copying::copy_columns;
 use crate::definitions::{Definition, Pair};
@@ -18,7 +19,7 @@ use su_fd::Fd;
 /// Refuses the first column whose name stands before it.
 fn check_names(alloc: Global, columns: &[Column]) -> Result<(), SchemaFault>
     ensures passed { OnOk result (first_failing (apart_checks [] (column_names columns.now)) ≡ None) }
-    ensures refused { IfErr result (λ fault. (fault ≡ SchemaFault.NoMemory) ⊎ (first_failing (apart_checks [] (column_names columns.now)) ≡ Some fault)) }
+    ensures refused { IfErr result (IsRefusalBy (apart_checks [] (column_names columns.now))) }
 {
     for (c, column) in columns.iter().enumerate() {
         if place_among(&columns[..c], column.name.as_str()).is_some() {

@@ -1,5 +1,5 @@
 //! The pairs of an object as links, each checked in its turn.
-ghost use Rattle.std.specs.Prelude.{◌≡◌, ◌<◌, ◌==◌, [], ◌∷◌, ◌⊎◌, map, length, IfOk, IfErr, OnOk};
+ghost use Rattle.std.specs.Prelude.{◌≡◌, ◌<◌, ◌==◌, [], ◌∷◌, map, length, IfOk, IfErr, OnOk};
 ghost use Rattle.std.specs.List.{list_any};
 ghost use Rattle.su_base.specs.Value.{same_kind};
 ghost use Rattle.su_schema.specs.NameChecks.{first_failing};
@@ -7,6 +7,7 @@ ghost use Rattle.su_schema.specs.Checks.{known_checks, pair_checks, one_kind};
 ghost use Rattle.su_schema.specs.Known.{columns_at};
 ghost use Rattle.su_schema.specs.inside.Kept.{object_on};
 ghost use Rattle.su_schema.specs.Definitions.{link_of, links_of};
+ghost use Rattle.su_schema.specs.inside.Refusals.{IsRefusalBy};
 
 use crate::definitions::Pair;
 use crate::faults::SchemaFault;
@@ -41,7 +42,7 @@ impl Schema {
         requires { relation < length self.now.relations }
         ensures passed { OnOk result (first_failing (known_checks self.now (columns_at self.now relation) pair.now) ≡ None) }
         ensures numbers { IfOk result (λ link. link ≡ link_of self.now (columns_at self.now relation) pair.now) }
-        ensures refused { IfErr result (λ fault. (fault ≡ SchemaFault.NoMemory) ⊎ (first_failing (known_checks self.now (columns_at self.now relation) pair.now) ≡ Some fault)) }
+        ensures refused { IfErr result (IsRefusalBy (known_checks self.now (columns_at self.now relation) pair.now)) }
     {
         let attribute = match self.find_attribute(pair.attribute.as_str()) {
             Some(a) => a,
@@ -60,7 +61,7 @@ impl Schema {
         requires known { first_failing (known_checks self.now (columns_at self.now relation) pair.now) ≡ None }
         requires link { link ≡ link_of self.now (columns_at self.now relation) pair.now }
         ensures passed { OnOk result (first_failing (one_kind self.now (columns_at self.now relation) pair.now ∷ []) ≡ None) }
-        ensures refused { IfErr result (λ fault. (fault ≡ SchemaFault.NoMemory) ⊎ (first_failing (one_kind self.now (columns_at self.now relation) pair.now ∷ []) ≡ Some fault)) }
+        ensures refused { IfErr result (IsRefusalBy (one_kind self.now (columns_at self.now relation) pair.now ∷ [])) }
     {
         let column = &self.columns(relation)[link.column as usize];
         if is_one_kind(self.attribute_kind(link.attribute), column.kind) {
@@ -77,7 +78,7 @@ impl Schema {
         requires { relation < length self.now.relations }
         ensures passed { OnOk result (first_failing (pair_checks self.now (columns_at self.now relation) [] pairs.now) ≡ None) }
         ensures numbers { IfOk result (λ links. links ≡ map (link_of self.now (columns_at self.now relation)) pairs.now) }
-        ensures refused { IfErr result (λ fault. (fault ≡ SchemaFault.NoMemory) ⊎ (first_failing (pair_checks self.now (columns_at self.now relation) [] pairs.now) ≡ Some fault)) }
+        ensures refused { IfErr result (IsRefusalBy (pair_checks self.now (columns_at self.now relation) [] pairs.now)) }
     {
         let mut links = List::new(self.alloc);
         for pair in pairs {
@@ -99,7 +100,7 @@ impl Schema {
         requires { relation < length self.now.relations }
         ensures passed { OnOk result (first_failing (pair_checks self.now (columns_at self.now relation) [] pairs.now) ≡ None) }
         ensures object { IfOk result (λ object. object ≡ object_on relation (links_of self.now (columns_at self.now relation) pairs.now)) }
-        ensures refused { IfErr result (λ fault. (fault ≡ SchemaFault.NoMemory) ⊎ (first_failing (pair_checks self.now (columns_at self.now relation) [] pairs.now) ≡ Some fault)) }
+        ensures refused { IfErr result (IsRefusalBy (pair_checks self.now (columns_at self.now relation) [] pairs.now)) }
     {
         let named = self.links(relation, pairs)?;
         let links = in_order(self.alloc, self.attributes.len() as u8, named.as_slice())?;

@@ -1,8 +1,9 @@
 //! Names as numbers, each checked in its turn.
-ghost use Rattle.std.specs.Prelude.{◌≡◌, [], ◌⊎◌, IfOk, IfErr, OnOk};
+ghost use Rattle.std.specs.Prelude.{◌≡◌, [], IfOk, IfErr, OnOk};
 ghost use Rattle.su_schema.specs.Entries.{attribute_names, object_names, place_of};
 ghost use Rattle.su_schema.specs.NameChecks.{first_failing, name_checks};
 ghost use Rattle.su_schema.specs.Definitions.{numbers_of};
+ghost use Rattle.su_schema.specs.inside.Refusals.{IsRefusalBy};
 
 use crate::faults::SchemaFault;
 use crate::schemas::Schema;
@@ -23,7 +24,7 @@ impl Schema {
     pub(crate) fn attributes_named(&self, names: &[Str]) -> Result<AttrSet, SchemaFault>
         ensures passed { OnOk result (first_failing (name_checks (attribute_names self.now) [] names.now) ≡ None) }
         ensures numbers { IfOk result (λ set. set ≡ numbers_of (attribute_names self.now) names.now) }
-        ensures refused { IfErr result (λ fault. (fault ≡ SchemaFault.NoMemory) ⊎ (first_failing (name_checks (attribute_names self.now) [] names.now) ≡ Some fault)) }
+        ensures refused { IfErr result (IsRefusalBy (name_checks (attribute_names self.now) [] names.now)) }
     {
         let mut set = AttrSet::empty();
         for name in names {
@@ -43,7 +44,7 @@ impl Schema {
     pub(crate) fn objects_named(&self, names: &[Str]) -> Result<ObjSet, SchemaFault>
         ensures passed { OnOk result (first_failing (name_checks (object_names self.now) [] names.now) ≡ None) }
         ensures numbers { IfOk result (λ set. set ≡ numbers_of (object_names self.now) names.now) }
-        ensures refused { IfErr result (λ fault. (fault ≡ SchemaFault.NoMemory) ⊎ (first_failing (name_checks (object_names self.now) [] names.now) ≡ Some fault)) }
+        ensures refused { IfErr result (IsRefusalBy (name_checks (object_names self.now) [] names.now)) }
     {
         let mut set = ObjSet::empty();
         for name in names {

@@ -1,7 +1,7 @@
 //! Whether the parts of a tableau are valid.
 ghost use Rattle.std.specs.Prelude.{◌≡◌, ◌+◌, ◌*◌, ◌↔◌, IsTrue, ℕ, length, All, Contains};
 ghost use Rattle.su_tableau.specs.declared.symbols.Sym.TheVariants.{Var};
-ghost use Rattle.su_tableau.specs.Tableaux.{Occurs, IsValid, IsSmall, tab_of};
+ghost use Rattle.su_tableau.specs.Tableaux.{Occurs, IsValidAndSmall, tab_of};
 
 use crate::essential_columns::is_var;
 use crate::symbols::Sym;
@@ -16,7 +16,7 @@ pub fn are_valid(
     outputs: u16,
     operators: &[Op],
 ) -> bool
-    ensures { IsTrue result ↔ (IsValid (tab_of width rows.now head.now outputs operators.now) × IsSmall (tab_of width rows.now head.now outputs operators.now)) }
+    ensures { IsTrue result ↔ IsValidAndSmall (tab_of width rows.now head.now outputs operators.now) }
 {
     rows.len() <= 64
         && width <= 128

@@ -21,13 +21,13 @@ pub struct Tableau {
 }
 
 impl Model for Tableau {
-    ghost use Rattle.su_tableau.specs.Tableaux.{Tab, IsValid, IsSmall};
+    ghost use Rattle.su_tableau.specs.Tableaux.{Tab, IsValidAndSmall, tab_of};
 
     ghost Value = { Tab };
 
     ghost view = { λ t. record { width = t.width; rows = t.rows; head = t.head; outputs = t.outputs; operators = t.operators } };
 
-    ghost invariant = { λ t. IsValid (record { width = t.width; rows = t.rows; head = t.head; outputs = t.outputs; operators = t.operators }) × IsSmall (record { width = t.width; rows = t.rows; head = t.head; outputs = t.outputs; operators = t.operators }) };
+    ghost invariant = { λ t. IsValidAndSmall (tab_of t.width t.rows t.head t.outputs t.operators) };
 }
 
 impl Tableau {
