@@ -1,9 +1,9 @@
 //! A shelf in memory, some of whose calls fail.
-ghost use Rattle.std.specs.Prelude.{min, ◌-◌, take, ◌++◌, OnOk, OnErr, option_map, is_err, IsErr, ◌⊎◌, ◌≡◌, ◌≤◌, ◌<◌, ◌^◌, length, Some, None, false, true, IsTrue, ◌↔◌, Contains, IfSome, IfNone, [], IsSome, IfOk, ◌+◌};
+ghost use Rattle.std.specs.Prelude.{min, ◌-◌, take, ◌++◌, OnOk, OnErr, option_map, is_err, IsErr, ◌⊎◌, ◌≡◌, ◌≤◌, ◌<◌, ◌^◌, drop, length, Some, None, false, true, IsTrue, ◌↔◌, Contains, IfSome, IfNone, [], IsSome, IfOk, ◌+◌};
 ghost use Rattle.std.specs.Io.{ReadsAtMost};
 ghost use Rattle.std.specs.Io.KnownBytes.{ReadConsumes};
 ghost use Rattle.su_io.specs.Causes.{HasCause, Rose};
-ghost use Rattle.su_io.specs.Files.{contents, has_file, bytes_at, rest_at};
+ghost use Rattle.su_io.specs.Files.{contents, has_file, bytes_at, left};
 
 use crate::pieces::{find, rest_of, take_front};
 use crate::{Failed, File, Shelf};
@@ -78,7 +78,7 @@ impl MemoryShelf {
 impl Shelf for MemoryShelf {
     ghost files = { λ s. Some s.files };
 
-    ghost rest = { λ s. Some (rest_at s.files s.place s.taken) };
+    ghost rest = { λ s. left s.files s.place s.taken };
 
     ghost taken = { λ s. s.taken };
 
@@ -92,7 +92,7 @@ impl Shelf for MemoryShelf {
     fn begin(&mut self, name: Str) -> Result<(), Failed>
         ensures files { self.new.files ≡ self.old.files }
         ensures begun { self.new.begun ≡ Some name }
-        ensures rest { OnOk result (rest_at self.new.files self.new.place self.new.taken ≡ contents self.old.files name) }
+        ensures rest { OnOk result (drop self.new.taken (bytes_at self.new.files self.new.place) ≡ contents self.old.files name) }
         ensures taken { OnOk result (self.new.taken ≡ 0) }
         ensures kept { OnErr result ((self.new.place ≡ self.old.place) × (self.new.taken ≡ self.old.taken)) }
         ensures failed { self.new.failed ≡ is_err result }
@@ -124,7 +124,7 @@ impl Shelf for MemoryShelf {
         ensures files { self.new.files ≡ self.old.files }
         ensures begun { self.new.begun ≡ self.old.begun }
         ensures bound { ReadsAtMost result buf.new }
-        ensures bytes { ReadConsumes (Some (rest_at self.old.files self.old.place self.old.taken)) (Some (rest_at self.new.files self.new.place self.new.taken)) result buf.new }
+        ensures bytes { ReadConsumes (left self.old.files self.old.place self.old.taken) (left self.new.files self.new.place self.new.taken) result buf.new }
         ensures taken { IfOk result (λ count. self.new.taken ≡ self.old.taken + count) }
         ensures kept { OnErr result ((self.new.place ≡ self.old.place) × (self.new.taken ≡ self.old.taken)) }
         ensures failed { self.new.failed ≡ is_err result }

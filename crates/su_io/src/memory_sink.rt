@@ -1,7 +1,7 @@
 //! A sink in memory, some of whose calls fail.
 ghost use Rattle.std.specs.Prelude.{◌++◌, ◌&&◌, nat_le, ◌^◌, min, ◌-◌, ◌≡◌, ◌≤◌, ◌<◌, ◌+◌, ◌↔◌, IsErr, OnErr, Contains, take, length, [], None, true, IfOk, vec_len, vec_capacity};
 ghost use Rattle.su_io.specs.Causes.{HasCause};
-ghost use Rattle.su_io.specs.Ends.{Grew, told_bytes};
+ghost use Rattle.su_io.specs.Ends.{Grew, says};
 
 use crate::rooms::keep;
 use crate::{Failed, Sink};
@@ -72,7 +72,7 @@ impl MemorySink {
 }
 
 impl Sink for MemorySink {
-    ghost written = { λ s. told_bytes s.told s.bytes.items };
+    ghost written = { λ s. says s.told s.bytes.items };
 
     ghost handed = { λ s. None };
 
@@ -82,7 +82,7 @@ impl Sink for MemorySink {
     fn write(&mut self, bytes: &[u8]) -> Result<usize, Failed>
         ensures bound { IfOk result (λ count. count ≤ length bytes.now) }
         ensures progress { IfOk result (λ count. 0 < length bytes.now → 0 < count) }
-        ensures grew { IfOk result (λ count. Grew (told_bytes self.old.told self.old.bytes.items) (told_bytes self.new.told self.new.bytes.items) (take count bytes.now)) }
+        ensures grew { IfOk result (λ count. Grew (says self.old.told self.old.bytes.items) (says self.new.told self.new.bytes.items) (take count bytes.now)) }
         ensures kept { OnErr result ((self.new.bytes ≡ self.old.bytes) × (self.new.told ≡ self.old.told)) }
         ensures cause { HasCause self.old.faults self.new.faults result }
         ensures when { IsErr result ↔ Contains self.old.fails self.old.calls }

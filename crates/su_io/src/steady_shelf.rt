@@ -1,6 +1,6 @@
 //! A shelf in memory whose calls never fail.
 ghost use Rattle.std.specs.Prelude.{option_map, ◌≡◌, ◌≤◌, [], length, Some, None, false};
-ghost use Rattle.su_io.specs.Files.{bytes_at, rest_at};
+ghost use Rattle.su_io.specs.Files.{bytes_at, left};
 
 use crate::pieces::{find, rest_of, take_front};
 use crate::{Failed, File, Shelf};
@@ -44,7 +44,7 @@ impl SteadyShelf {
 impl Shelf for SteadyShelf {
     ghost files = { λ s. Some s.files };
 
-    ghost rest = { λ s. Some (rest_at s.files s.place s.taken) };
+    ghost rest = { λ s. left s.files s.place s.taken };
 
     ghost taken = { λ s. s.taken };
 

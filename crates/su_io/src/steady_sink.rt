@@ -1,7 +1,7 @@
 //! A sink in memory whose calls never fail.
 ghost use Rattle.std.specs.Prelude.{◌≡◌, ◌≤◌, ◌<◌, ◌+◌, ◌++◌, ◌&&◌, nat_le, take, length, OnErr, [], None, true, IfOk, vec_len, vec_capacity};
 ghost use Rattle.su_io.specs.Causes.{HasCause};
-ghost use Rattle.su_io.specs.Ends.{Grew, told_bytes};
+ghost use Rattle.su_io.specs.Ends.{Grew, says};
 
 use crate::rooms::keep;
 use crate::{Failed, Sink};
@@ -40,7 +40,7 @@ impl SteadySink {
 }
 
 impl Sink for SteadySink {
-    ghost written = { λ s. told_bytes s.told s.bytes.items };
+    ghost written = { λ s. says s.told s.bytes.items };
 
     ghost handed = { λ s. None };
 
@@ -50,7 +50,7 @@ impl Sink for SteadySink {
     fn write(&mut self, bytes: &[u8]) -> Result<usize, Failed>
         ensures bound { IfOk result (λ count. count ≤ length bytes.now) }
         ensures progress { IfOk result (λ count. 0 < length bytes.now → 0 < count) }
-        ensures grew { IfOk result (λ count. Grew (told_bytes self.old.told self.old.bytes.items) (told_bytes self.new.told self.new.bytes.items) (take count bytes.now)) }
+        ensures grew { IfOk result (λ count. Grew (says self.old.told self.old.bytes.items) (says self.new.told self.new.bytes.items) (take count bytes.now)) }
         ensures kept { OnErr result ((self.new.bytes ≡ self.old.bytes) × (self.new.told ≡ self.old.told)) }
         ensures cause { HasCause 0 0 result }
         ensures whole { IfOk result (λ count. count ≡ length bytes.now) }

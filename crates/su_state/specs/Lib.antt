@@ -9,3 +9,4 @@ pub mod RowChanges
 pub mod Enforced
 pub mod NewBreaches
 pub mod UnfitRows
+pub mod UnknownRelations

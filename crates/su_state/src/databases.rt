@@ -1,8 +1,9 @@
 //! The database itself.
-ghost use Rattle.std.specs.Prelude.{◌≡◌, ◌⊎◌, ◌<◌, [], length, map, All, Some, None, IfOk, IfErr};
+ghost use Rattle.std.specs.Prelude.{◌≡◌, ◌⊎◌, ◌<◌, [], length, map, All, Some, IfOk, IfErr};
 ghost use Rattle.su_schema.specs.Entries.{relation_names, place_of};
 ghost use Rattle.su_schema.specs.Valid.{IsValid};
 ghost use Rattle.su_state.specs.DatabaseValue.{IsWellKept, empty_tables};
+ghost use Rattle.su_state.specs.UnknownRelations.{IsUnknownRelation};
 
 use crate::faults::StateFault;
 use std::alloc::Global;
@@ -91,7 +92,7 @@ impl Database {
     /// The number of the relation with this name.
     pub fn relation(&self, name: &str) -> Result<u8, StateFault>
         ensures found { IfOk result (λ r. place_of (relation_names self.now.schema) name.now ≡ Some r) }
-        ensures refused { IfErr result (λ fault. (fault ≡ StateFault.NoMemory) ⊎ ((fault ≡ StateFault.UnknownRelation name.now) × (place_of (relation_names self.now.schema) name.now ≡ None))) }
+        ensures refused { IfErr result (λ fault. (fault ≡ StateFault.NoMemory) ⊎ IsUnknownRelation self.now.schema name.now fault) }
     {
         match self.schema.find_relation(name) {
             Some(r) => Ok(r),
