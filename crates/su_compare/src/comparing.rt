@@ -1,11 +1,7 @@
 //! Two queries compared by their terms.
-ghost use Rattle.std.specs.Prelude.{◌≡◌, ◌↔◌, ◌<◌, List as Items, length, IfOk};
-ghost use Rattle.std.specs.Ordering.{nat_cmp};
-ghost use Rattle.std.specs.FinSet.{FinSet};
-ghost use Rattle.su_query.specs.declared.resolving.Resolved.{Resolved as AResolved};
-ghost use Rattle.su_compare.specs.Within.{IsQueryWithin, IsCounterexample, AreOf};
+ghost use Rattle.std.specs.Prelude.{IfOk};
 ghost use Rattle.su_compare.specs.Comparable.{AreComparable};
-ghost use Rattle.su_compare.specs.Verdict.{IsVerdict, IsYes, IfApart};
+ghost use Rattle.su_compare.specs.Verdict.{IsVerdict, IsYes, IfApart, Decides, ShowsApart};
 ghost use Rattle.su_compare.specs.inside.Settlements.{HasRoomFor, IsApartOver, AreWithin};
 
 use crate::settling::{Settled, settle};
@@ -77,8 +73,8 @@ pub fn within(
 ) -> Result<Verdict, NoMemory>
     requires comparable { AreComparable schema.now first.now second.now }
     ensures verdict { IfOk result (IsVerdict schema.now first.now second.now) }
-    ensures decides { IfOk result (λ v. (maximal : Items (FinSet nat_cmp)) (p q : AResolved) → AreOf schema.now maximal p first.now → AreOf schema.now maximal q second.now → (IsYes v ↔ IsQueryWithin schema.now maximal p q)) }
-    ensures apart { IfOk result (λ v. (maximal : Items (FinSet nat_cmp)) (p q : AResolved) → AreOf schema.now maximal p first.now → AreOf schema.now maximal q second.now → IfApart v (IsCounterexample schema.now maximal p q)) }
+    ensures decides { IfOk result (Decides schema.now first.now second.now) }
+    ensures apart { IfOk result (ShowsApart schema.now first.now second.now) }
 {
     schema.keeps_its_rules();
     terms_are_the_expression();
