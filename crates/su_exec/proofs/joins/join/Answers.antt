@@ -59,4 +59,4 @@ add_matches-requires-clause-next c h j lt is =
     let heads_is : c.deref-2.result.now ≡ c.fill.new.heads = c.deref-2.ensures.value ∙ written c.fill.new.heads c.in_ok-heads.heads.items c.in_ok-heads.heads.len c.in_ok-heads.heads.ok.0 (c.fill.ensures.lengths.0 ∙ ap length c.deref_mut.ensures.value) in
     let next_is : c.deref-3.result.now ≡ c.fill.new.next = c.deref-3.ensures.value ∙ written c.fill.new.next c.in_ok-next.next.items c.in_ok-next.next.len c.in_ok-next.next.ok.0 (c.fill.ensures.lengths.1 ∙ ap length c.deref_mut-2.ensures.value) in
     let filled = rw c.deref.ensures.value at c.fill.ensures.next in
-    rw (heads_is, next_is) (filled j h lt (rw heads_is at is))
+    rw (heads_is, next_is) (filled h j lt (rw heads_is at is))
