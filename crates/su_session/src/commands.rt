@@ -4,7 +4,7 @@ ghost use Rattle.su_lex.specs.Symbols.{Symbols};
 ghost use Rattle.su_query.specs.declared.statements.Statement.TheVariants.{Load};
 ghost use Rattle.su_session.specs.Reply.{is_definition_word, begins_definition};
 ghost use Rattle.su_session.specs.Commands.{IsRead};
-ghost use Rattle.su_session.specs.inside.Tasks.{of_task};
+ghost use Rattle.su_session.specs.inside.Tasks.{of_task, IsNoLoad};
 
 use std::alloc::Global;
 use su_base::{List, NoMemory, Str};
@@ -129,7 +129,7 @@ pub fn read(alloc: Global, text: &[u8]) -> Result<Command, NoMemory>
 
 /// The relation and the file of a load.
 pub(crate) fn load_of(command: &Command) -> Option<(&Str, &Str)>
-    ensures { MatchOption result ((name path : Items ℕ) → command.now ≢ Command.Statement (Load name path)) (λ load. command.now ≡ Command.Statement (Load load.0.now load.1.now)) }
+    ensures { MatchOption result (IsNoLoad command.now) (λ load. command.now ≡ Command.Statement (Load load.0.now load.1.now)) }
 {
     match command {
         Command::Statement(Statement::Load { relation, file }) => Some((relation, file)),

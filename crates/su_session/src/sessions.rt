@@ -72,7 +72,7 @@ fn content<'a>(file: Option<&'a [u8]>) -> &'a [u8]
 
 impl Session {
     ghost use Rattle.su_session.specs.EmptyDatabase.{empty_database};
-    ghost use Rattle.su_session.specs.Commands.{IsRead, WasRead};
+    ghost use Rattle.su_session.specs.Commands.{IsRead, WasRead, RepliedTo};
     ghost use Rattle.su_session.specs.Reply.{Replied};
     ghost use Rattle.su_session.specs.WantedFiles.{Wants};
     ghost use Rattle.su_session.specs.Statements.{Answers};
@@ -149,7 +149,7 @@ impl Session {
         requires least { 1 ≤ workers }
         requires most { workers ≤ 16 }
         requires read { WasRead command }
-        ensures replied { IfOk result (λ reply. (text : Items ℕ) → IsRead text command → Replied self.old text (option_map (λ bytes. bytes.now) file.entry) reply self.new) }
+        ensures replied { IfOk result (λ reply. RepliedTo self.old command (option_map (λ bytes. bytes.now) file.entry) reply self.new) }
         ensures unchanged { OnErr result (self.new ≡ self.old) }
         ensures kept { IsWellKept self.old }
     {

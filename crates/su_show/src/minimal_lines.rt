@@ -1,12 +1,12 @@
 //! The lines of what is kept of a term.
-ghost use Rattle.std.specs.Prelude.{◌≡◌, ◌++◌, ◌<◌, ◌↔◌, ℕ, [], IsTrue, length, Contains, codes, decimal, OnOk};
+ghost use Rattle.std.specs.Prelude.{◌≡◌, ◌++◌, ◌<◌, ◌↔◌, ℕ, [], IsTrue, Contains, codes, decimal, OnOk};
 ghost use Rattle.std.specs.FinSet.{contains};
 ghost use Rattle.std.specs.Int.{bit_at};
 ghost use Rattle.su_tableau.specs.Essential.{IsEssential};
 ghost use Rattle.su_tableau.specs.Parts.{keep_if};
 ghost use Rattle.su_map.specs.Lists.{row_numbers};
-ghost use Rattle.su_show.specs.Lines.{AreLines};
 ghost use Rattle.su_show.specs.inside.Adding.{Adds};
+ghost use Rattle.su_show.specs.inside.TermParts.{AreSourcesLines};
 ghost use Rattle.su_lex.specs.Wordings.{numbers_text};
 ghost use Rattle.su_show.specs.MinimalLines.{minimal_lines, cover_line, cover_of, cover_text, sources_line, IsSourcesLine, IsEnd};
 
@@ -97,7 +97,7 @@ fn push_all_sources(
     schema: &Schema,
     minimal: &Minimal,
 ) -> Result<(), NoMemory>
-    ensures { OnOk result (Adds (AreLines (IsSourcesLine schema.now minimal.now) (row_numbers minimal.now.tableau minimal.now.mask)) out.old.items out.new.items) }
+    ensures { OnOk result (Adds (AreSourcesLines schema.now minimal.now) out.old.items out.new.items) }
 {
     let kept = minimal.mask();
     let columns = all_essential(alloc, minimal.tableau(), kept)?;

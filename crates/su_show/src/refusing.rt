@@ -1,9 +1,8 @@
 //! The line of a refused statement.
 ghost use Rattle.std.specs.Prelude.{◌≡◌, ◌≢◌, ◌++◌, codes, decimal, flat_map, IfOk, OnOk};
-ghost use Rattle.su_show.specs.QueryCauses.{kind_text, query_limit_text, query_fault_text, variable_text, step_limit_text, step_text};
+ghost use Rattle.su_show.specs.QueryCauses.{kind_text, query_limit_text, query_fault_text, step_limit_text, step_text};
 ghost use Rattle.su_show.specs.RowCauses.{column_text, state_text, record_text, csv_text};
 ghost use Rattle.su_show.specs.RefusalLines.{define_text, inconsistent_text, refusal_text, refusal_line, IsNoMemory};
-ghost use Rattle.su_show.specs.Values.{attributes_text};
 ghost use Rattle.su_show.specs.Refusals.{cause_text};
 
 use crate::closures::fd_at;
@@ -70,7 +69,7 @@ fn push_not_covered(
     name: &Option<Str>,
     mentioned: AttrSet,
 ) -> Result<(), NoMemory>
-    ensures { OnOk result (out.new.items ≡ out.old.items ++ codes "no maximal object covers " ++ variable_text name.now ++ codes ":" ++ attributes_text schema.now mentioned) }
+    ensures { OnOk result (out.new.items ≡ out.old.items ++ step_text schema.now (StepFault.NotCovered name.now mentioned)) }
 {
     push(out, "no maximal object covers ")?;
     push(out, variable(name))?;

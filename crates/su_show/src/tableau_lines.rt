@@ -1,15 +1,10 @@
 //! The lines of a term: its number, its rows and its head.
-ghost use Rattle.std.specs.Prelude.{◌≡◌, ◌++◌, ◌∷◌, ◌<◌, [], length, flat_map, filter, get_or, codes, decimal, OnOk};
-ghost use Rattle.std.specs.FinSet.{contains};
-ghost use Rattle.std.specs.List.{range_with_len};
+ghost use Rattle.std.specs.Prelude.{◌≡◌, ◌++◌, ◌<◌, [], length, flat_map, get_or, OnOk};
 ghost use Rattle.su_lex.specs.Spelling.{spelled};
-ghost use Rattle.su_schema.specs.Entries.{object_names};
-ghost use Rattle.su_ddl.specs.ShownDefinitions.{name_at};
 ghost use Rattle.su_query.specs.Operands.{op_sym};
-ghost use Rattle.su_show.specs.QueryCauses.{variable_text};
-ghost use Rattle.su_show.specs.Symbols.{variable_at};
 ghost use Rattle.su_lex.specs.Wordings.{numbers_text};
 ghost use Rattle.su_show.specs.RowLines.{symbols_text, cell_text, row_lines};
+ghost use Rattle.su_show.specs.inside.TermParts.{origin_text, attributes_of};
 ghost use Rattle.su_show.specs.TableauLines.{term_line, head_line, operator_at, compare_line, compare_lines, tableau_lines};
 
 use crate::parts::{push, push_number};
@@ -66,7 +61,7 @@ fn push_origin(
     row: usize,
     origin: Origin,
 ) -> Result<(), NoMemory>
-    ensures { OnOk result (out.new.items ≡ out.old.items ++ codes "  row " ++ decimal row ++ 32 ∷ variable_text (variable_at resolved.now origin.variable) ++ 32 ∷ name_at (object_names schema.now) origin.object) }
+    ensures { OnOk result (out.new.items ≡ out.old.items ++ origin_text schema.now resolved.now row origin) }
 {
     push(out, "  row ")?;
     push_number(alloc, out, row as u64)?;
@@ -101,7 +96,7 @@ fn push_cells(
     cells: &[Sym],
     set: AttrSet,
 ) -> Result<(), NoMemory>
-    ensures { OnOk result (out.new.items ≡ out.old.items ++ flat_map (cell_text schema.now resolved.now cells.now) (filter (contains set) (range_with_len 0 (length schema.now.attributes)))) }
+    ensures { OnOk result (out.new.items ≡ out.old.items ++ flat_map (cell_text schema.now resolved.now cells.now) (attributes_of schema.now set)) }
 {
     schema.keeps_its_rules();
     for attribute in 0..schema.attributes() as u8 {

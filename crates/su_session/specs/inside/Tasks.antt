@@ -1,4 +1,6 @@
 -- What a command gives to do.
+use Rattle.std.specs.Prelude.{◌≢◌, ℕ, List}
+use Rattle.su_query.specs.declared.statements.Statement.TheVariants.{Load}
 use Rattle.su_session.specs.declared.commands.Command.{Command}
 use Rattle.su_session.specs.declared.commands.Command.TheVariants.{Definition, Statement}
 use Rattle.su_session.specs.declared.commands.Task.{Task}
@@ -8,3 +10,7 @@ use Rattle.su_session.specs.declared.commands.Task.TheVariants as task
 abbrev pub of_task : Task → Command
 of_task (task.Definition d) = Definition d
 of_task (task.Statement st) = Statement st
+
+-- the command is no load
+abbrev pub IsNoLoad : Command → Type 0
+IsNoLoad command = (name path : List ℕ) → command ≢ Statement (Load name path)

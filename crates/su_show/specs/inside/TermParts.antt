@@ -1,0 +1,29 @@
+-- Parts of the lines of a term.
+-- No public contract cites this module.
+use Rattle.std.specs.Prelude.{ℕ, List, ◌∷◌, ◌++◌, length, filter, codes, decimal}
+use Rattle.std.specs.List.{range_with_len}
+use Rattle.std.specs.Ordering.{nat_cmp}
+use Rattle.std.specs.FinSet.{FinSet, contains}
+use Rattle.su_map.specs.Lists.{row_numbers}
+use Rattle.su_min.specs.Kept.{Minimised}
+use Rattle.su_schema.specs.SchemaValue.{SchemaValue}
+use Rattle.su_schema.specs.Entries.{object_names}
+use Rattle.su_ddl.specs.ShownDefinitions.{name_at}
+use Rattle.su_query.specs.declared.resolving.Resolved.{Resolved}
+use Rattle.su_steps.specs.declared.results.Origin.{Origin}
+use Rattle.su_show.specs.Lines.{AreLines}
+use Rattle.su_show.specs.MinimalLines.{IsSourcesLine}
+use Rattle.su_show.specs.QueryCauses.{variable_text}
+use Rattle.su_show.specs.Symbols.{variable_at}
+
+-- what a row is for: its number, and the variable and the object of its origin
+abbrev pub origin_text : SchemaValue → Resolved → ℕ → Origin → List ℕ
+origin_text schema q r o = codes "  row " ++ decimal r ++ 32 ∷ variable_text (variable_at q o.variable) ++ 32 ∷ name_at (object_names schema) o.object
+
+-- the attributes of a set, in the order of declaration
+abbrev pub attributes_of : SchemaValue → FinSet nat_cmp → List ℕ
+attributes_of schema set = filter (contains set) (range_with_len 0 (length schema.attributes))
+
+-- the lines of the kept rows and their sources
+abbrev pub AreSourcesLines : SchemaValue → Minimised → List ℕ → Type 0
+AreSourcesLines schema m text = AreLines (IsSourcesLine schema m) (row_numbers m.tableau m.mask) text
