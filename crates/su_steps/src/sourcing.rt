@@ -3,9 +3,7 @@ ghost use Rattle.std.specs.Prelude.{◌≡◌, ◌<◌, ◌↔◌, ℕ, IsTrue, 
 ghost use Rattle.std.specs.Int.{bit_at};
 ghost use Rattle.std.specs.FinSet as set;
 ghost use Rattle.su_tableau.specs.Tableaux.{Tab};
-ghost use Rattle.su_tableau.specs.Essential.{IsEssential};
-ghost use Rattle.su_steps.specs.Objects.{attributes_at};
-ghost use Rattle.su_steps.specs.Sources.{IsSource};
+ghost use Rattle.su_steps.specs.Sources.{IsSource, HasAttributes, IsEssentialSet};
 
 use crate::objects::object_attributes;
 use su_base::{AttrSet, ObjSet};
@@ -15,8 +13,8 @@ use su_tableau::{Tableau, essential};
 /// The objects that have these attributes: the sources of each row whose essential columns they
 /// are. Takes no memory.
 pub fn sources_within(schema: &Schema, columns: AttrSet) -> ObjSet
-    ensures objects { (o : ℕ) → IsTrue (set.contains result o) ↔ ((o < length schema.now.objects) × IsTrue (set.is_subset columns (attributes_at schema.now o))) }
-    ensures sources { (t : Tab) (m row : ℕ) → ((c : ℕ) → IsTrue (set.contains columns c) ↔ IsEssential t m row c) → (o : ℕ) → IsTrue (set.contains result o) ↔ IsSource schema.now t m row o }
+    ensures objects { (o : ℕ) → IsTrue (set.contains result o) ↔ HasAttributes schema.now columns o }
+    ensures sources { (t : Tab) (m row : ℕ) → IsEssentialSet t m row columns → (o : ℕ) → IsTrue (set.contains result o) ↔ IsSource schema.now t m row o }
 {
     schema.keeps_its_rules();
     let mut found = ObjSet::empty();
