@@ -28,7 +28,7 @@ use Rattle.su_sql.specs.Choices.{IsRowOf, value_at, operand_value, Joins, Fixes,
 use Rattle.su_sql.specs.Selects.{IsSelected}
 use Rattle.su_sql.specs.TaskJoins.{operand_of, comparison_of, joins_for, joins_at, joins_of, fixed_for, fixed_at, fixed_of}
 use Rattle.su_sql.specs.TermSelects.{table_of, select_of, IsJoined}
-use Rattle.su_sql.specs.Cells.{no_row, place, cell_at, cells_in, cells_of, is_variable, is_same, place_of, first_place}
+use Rattle.su_sql.specs.Cells.{no_row, place, cell_at, cells_in, cells_of, is_variable, is_same, found_place, first_place}
 
 -- ---- symbols and places
 
@@ -57,7 +57,7 @@ cell p x = record { place = p; symbol = x }
 first_found : (cells : List Cell) (k : ℕ) (c : Cell) → Contains cells c → c.symbol ≡ Var k → (d : Cell) × Contains cells d × (d.symbol ≡ Var k) × (first_place cells k ≡ d.place)
 first_found [] k c m e = absurd (contains_none c m)
 first_found (x ∷ xs) k c m e =
-    elim (is_variable k x.symbol) as (λ b. is_variable k x.symbol ≡ b → (d : Cell) × Contains (x ∷ xs) d × (d.symbol ≡ Var k) × (place_of (cond b (Some x) (find (λ y. is_variable k y.symbol) xs)) ≡ d.place)) [
+    elim (is_variable k x.symbol) as (λ b. is_variable k x.symbol ≡ b → (d : Cell) × Contains (x ∷ xs) d × (d.symbol ≡ Var k) × (found_place (cond b (Some x) (find (λ y. is_variable k y.symbol) xs)) ≡ d.place)) [
       | true ↦ λ t. (x, (0, omega arith, refl), variable_is k x.symbol t, refl)
       | false ↦ λ f. ⊎_elim
           (λ (h : x ≡ c). absurd (true≢false (sym (variable_there k) ∙ sym (ap (is_variable k) (ap (λ (y : Cell). y.symbol) h ∙ e)) ∙ f)))

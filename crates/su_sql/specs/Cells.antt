@@ -39,10 +39,10 @@ abbrev pub is_same : CellPlace → CellPlace → Bool
 is_same p q = (p.table == q.table) && (p.cell == q.cell)
 
 -- the place of the cell, if there is one
-abbrev pub place_of : Option Cell → CellPlace
-place_of (Some c) = c.place
-place_of None = place 0 0
+abbrev pub found_place : Option Cell → CellPlace
+found_place (Some c) = c.place
+found_place None = place 0 0
 
 -- the first place where the variable stands
 abbrev pub first_place : List Cell → ℕ → CellPlace
-first_place cells k = place_of (find (λ c. is_variable k c.symbol) cells)
+first_place cells k = found_place (find (λ c. is_variable k c.symbol) cells)
