@@ -45,7 +45,14 @@ impl<'a> Model for Joining<'a> {
 
     ghost Value = { TermOver };
 
-    ghost coded = { Prim.hlevel (codes, databases.the_row.coded, schemas.the_row.coded, minimals.the_row.coded, attr_set.the_row.coded, set.code {R = nat_cmp} coded_ℕ) };
+    ghost coded = { Prim.hlevel (
+      codes,
+      databases.the_row.coded,
+      schemas.the_row.coded,
+      minimals.the_row.coded,
+      attr_set.the_row.coded,
+      set.code {R = nat_cmp} coded_ℕ,
+    ) };
 
     ghost view = { λ j. record { db = j.db.now; minimal = j.minimal.now } };
 

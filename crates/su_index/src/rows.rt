@@ -5,7 +5,7 @@ ghost use Rattle.std.specs.Borrow.{sem};
 ghost use Rattle.std.specs.Io.BufRead.{Rests};
 ghost use Rattle.su_rel.specs.Stored.{Stored, IsRelation};
 ghost use Rattle.su_index.specs.Matches.{matches, AreAdded};
-ghost use Rattle.su_index.specs.Tables.{table_at};
+ghost use Rattle.su_index.specs.Tables.{rows_at, table_at};
 
 use crate::tables::Table;
 use std::alloc::AllocError;
@@ -22,14 +22,14 @@ pub trait Rows {
     /// How many rows the table has.
     fn len(&self, table: u8) -> usize
         requires { table < length (tables self.now) }
-        ensures rows { result ≡ length (table_at (tables self.now) table).rows }
+        ensures rows { result ≡ length (rows_at (tables self.now) table) }
         ensures relation { IsRelation (table_at (tables self.now) table) };
 
     /// How many of its rows have the value in the column.
     fn matching(&self, table: u8, column: u8, value: &Value) -> usize
         requires table { table < length (tables self.now) }
         requires column { column < (table_at (tables self.now) table).width }
-        ensures { result ≡ matches column value.now (table_at (tables self.now) table).rows };
+        ensures { result ≡ matches column value.now (rows_at (tables self.now) table) };
 
     /// Puts the positions of these rows, ascending, behind those that are there, and answers true; where
     /// there are more than `most` of them it answers false. The value is looked up once.
@@ -43,15 +43,15 @@ pub trait Rows {
     ) -> Result<bool, AllocError>
         requires table { table < length (tables self.now) }
         requires column { column < (table_at (tables self.now) table).width }
-        ensures few { IfOk result (λ few. IsTrue few ↔ (matches column value.now (table_at (tables self.now) table).rows ≤ most)) }
-        ensures added { IfOk result (λ few. OnTrue few (AreAdded column value.now (table_at (tables self.now) table).rows positions.old.items positions.new.items)) }
+        ensures few { IfOk result (λ few. IsTrue few ↔ (matches column value.now (rows_at (tables self.now) table) ≤ most)) }
+        ensures added { IfOk result (λ few. OnTrue few (AreAdded column value.now (rows_at (tables self.now) table) positions.old.items positions.new.items)) }
         ensures unchanged { IfOk result (λ few. OnFalse few (positions.new.items ≡ positions.old.items)) };
 
     /// The row at the position; it counts as fetched.
     fn fetch(&mut self, table: u8, i: usize) -> &Row
         requires table { table < length (tables self.old) }
-        requires within { i < length (table_at (tables self.old) table).rows }
-        ensures row { slice_get (table_at (tables self.old) table).rows i ≡ Some result.now }
+        requires within { i < length (rows_at (tables self.old) table) }
+        ensures row { slice_get (rows_at (tables self.old) table) i ≡ Some result.now }
         ensures* counted { sem 𝓛 (Rests Self.row self.entry (λ after. (tables after ≡ tables self.old) × (fetches after ≡ fetches self.old + 1))) };
 }
 

@@ -23,7 +23,15 @@ impl<H: Shelf, K: Sink> Model for Outside<H, K> {
 
     ghost Value = { Moment };
 
-    ghost view = { λ o. record { files = H.files o.shelf; begun = H.begun o.shelf; taken = H.taken o.shelf; failed = H.failed o.shelf; reads = H.faults o.shelf; told = record { written = K.written o.sink; handed = K.handed o.sink }; writes = K.faults o.sink } };
+    ghost view = { λ o. record {
+      files = H.files o.shelf;
+      begun = H.begun o.shelf;
+      taken = H.taken o.shelf;
+      failed = H.failed o.shelf;
+      reads = H.faults o.shelf;
+      told = record { written = K.written o.sink; handed = K.handed o.sink };
+      writes = K.faults o.sink;
+    } };
 }
 
 impl<H: Shelf, K: Sink> Outside<H, K> {

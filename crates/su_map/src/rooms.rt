@@ -50,7 +50,9 @@ impl Model for Room {
 
     ghost view = { λ r. record { rows = r.rows; symbols = length r.notes.rows_of.items; list = take r.count r.list.items; net = r.net } };
 
-    ghost invariant = { λ r. IsSound r.net r.notes r.rows (length r.list.items) (length r.domains.items) (length r.levels.items) (length r.choice.items) r.count };
+    ghost invariant = { λ r. IsSound r.net r.notes r.rows
+        (length r.list.items) (length r.domains.items) (length r.levels.items) (length r.choice.items)
+        r.count };
 }
 
 impl Room {

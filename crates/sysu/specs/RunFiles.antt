@@ -1,5 +1,5 @@
 -- The two files of a run, within their limits.
--- files: those of the shelf, where it tells them; refused, accepted: what the schema's file is read as
+-- files: those of the shelf, where it tells them; accepted: the schema's file is read as a schema
 use Rattle.std.specs.Prelude.{◌^◌, ℕ, List, Option, Result, Ok}
 use Rattle.su_io.specs.declared.files.File.{File}
 use Rattle.su_io.specs.Reading.{IsFile}

@@ -4,4 +4,5 @@ pub mod Counts
 pub mod HandedFiles
 pub mod Lines
 pub mod Queries
+pub mod Steady
 pub mod Turns

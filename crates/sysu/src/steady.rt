@@ -1,9 +1,7 @@
 //! Runs over files in memory and a sink in memory, of which no call fails.
-ghost use Rattle.std.specs.Prelude.{◌≡◌, ◌≢◌, List, Some, IsSome};
-ghost use Rattle.su_io.specs.declared.files.File.{File};
+ghost use Rattle.std.specs.Prelude.{◌≢◌, IsSome};
 ghost use Rattle.su_io.specs.Moments.{Moment};
-ghost use Rattle.sysu.specs.Complete.{AreAccepted, IsFinished};
-ghost use Rattle.sysu.specs.Words.{Named, named};
+ghost use Rattle.sysu.specs.inside.Steady.{FinishesOver};
 
 use crate::top::run;
 use std::alloc::Global;
@@ -24,7 +22,7 @@ pub fn run_steadily<R: Threads + Sync, G: Gate>(
     ensures told { IsSome outside.old.files }
     ensures no_read_fault { result ≢ Status.ReadFault }
     ensures no_write_fault { result ≢ Status.WriteFault }
-    ensures ends { (names : Named) (files : List File) → named words.now ≡ Some names → outside.old.files ≡ Some files → AreAccepted names files → IsFinished result }
+    ensures ends { FinishesOver words.now outside.old.files result }
 {
     // For the proof: the shelf tells its files, and no call of it fails.
     let _before = &outside.shelf;
