@@ -1,3 +1,4 @@
+-- A mapping shows containment, and the certificate holds the very tableaux and list it is one of.
 use Rattle.std.proofs.Common.{◌≡◌, sym, subst, rules}
 use Rattle.su_tableau.specs.Parts.{part}
 use Rattle.su_tableau.specs.Equivalent.{IsWithin}
