@@ -1,3 +1,4 @@
+-- The net without the row left out tells the targets that each kept row has, as a kept row can't be mapped away; so the tree that grows from there is the one of the row.
 use Rattle.std.proofs.Common.{ℕ, sym, subst}
 use Rattle.std.proofs.lemmas.Result.{IfOk-weaker}
 use Rattle.su_tableau.specs.Tableaux.{IsSmall}
