@@ -1,4 +1,4 @@
--- The net without the row left out tells the targets that each kept row has, as a kept row can't be mapped away; so the tree that grows from there is the one of the row.
+-- A kept row can't be left out, and the net tells which targets the kept rows have without it; so the tree that grows from these is the row's own.
 use Rattle.std.proofs.Common.{ℕ, sym, subst}
 use Rattle.std.proofs.lemmas.Result.{IfOk-weaker}
 use Rattle.su_tableau.specs.Tableaux.{IsSmall}
