@@ -1,4 +1,4 @@
--- The rows that have the image in the column are those alike with the target that gave it, which the guide notes for its own column; without an image no row is left out.
+-- In the column that gave the image the guide notes the rows alike with the target, and in another the rows that carry it are looked for; without an image no row is left out.
 use Rattle.std.proofs.Common.{◌≡◌, ◌<◌, [], length, get_or, sym, ap, subst, ◌∙◌, arith}
 use Rattle.std.specs.Int.{bit_at}
 use Rattle.std.proofs.lemmas.List.{get_or_default}
