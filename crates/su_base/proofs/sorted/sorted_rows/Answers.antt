@@ -1,3 +1,4 @@
+-- Sorting moves the rows alone, and equal rows of a sorted list stand side by side; so leaving out repeats keeps the members and makes the order strict.
 use Rattle.std.proofs.Common.{◌≡◌, List, Contains, sym, subst}
 use Rattle.std.specs.List.{dedup}
 use Rattle.std.specs.List.Sorted.{IsPermutation, IsStrictlySortedBy}

@@ -1,3 +1,4 @@
+-- All candidates so far are avoided, so the first that isn't among them is free and the least one.
 use Rattle.std.proofs.Common.{rules, ◌≡◌, ◌<◌, ◌≤◌, Contains, IsTrue, ⊎_elim, subst, ap, ◌∙◌, arith}
 use Rattle.std.proofs.lemmas.Bool.{cases_lt}
 use Rattle.su_chase.specs.Frozen.{candidate}

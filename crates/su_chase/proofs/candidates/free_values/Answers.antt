@@ -1,3 +1,4 @@
+-- The values so far are free and differ, and the next number of each kind is past those given; so a candidate tried later was neither avoided nor given.
 use Rattle.std.proofs.Common.{rules, ◌≡◌, ◌+◌, List, [], ◌∷◌, ◌++◌, subst, sym, arith}
 use Rattle.std.proofs.lemmas.List.{get_or_default}
 use Rattle.su_base.specs.declared.values.Kind.TheVariants.{Int as IntKind}

@@ -1,3 +1,4 @@
+-- All values are copied in the end, and putting them in order, each once, keeps the members.
 use Rattle.std.proofs.Common.{◌≡◌, ◌∙◌, List, Contains, subst, sym, arith}
 use Rattle.std.proofs.lemmas.List.{take_all}
 use Rattle.su_base.specs.declared.values.Value.{Value}

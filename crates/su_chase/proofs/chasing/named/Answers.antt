@@ -1,3 +1,4 @@
+-- Each symbol of the row is below the number of names, so it has one.
 use Rattle.std.proofs.Common.{sym, ◌∙◌}
 use Rattle.std.proofs.lemmas.List.{get_or_default}
 use Rattle.su_tableau.specs.declared.symbols.Sym.TheVariants.{Var}

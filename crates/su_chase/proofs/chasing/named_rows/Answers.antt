@@ -1,3 +1,4 @@
+-- Each row has variables below the number of names, so that it can be named.
 use Rattle.std.proofs.Common.{length, subst, sym, ◌∙◌}
 use Rattle.su_tableau.specs.Tableaux.{AreBelow}
 use Rattle.su_chase.proofs.chasing.named_rows.Goals as goal

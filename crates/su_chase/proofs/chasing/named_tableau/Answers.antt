@@ -1,3 +1,4 @@
+-- The head's variables stand in the rows, so they have names too, and naming symbols alike leaves the tableau valid.
 use Rattle.std.proofs.Common.{List, length, subst, sym}
 use Rattle.std.specs.Prelude.{All}
 use Rattle.su_tableau.specs.declared.symbols.Sym.{Sym}

@@ -1,3 +1,4 @@
+-- Sorting moves the numbers alone, and repeats of a sorted list stand side by side, so leaving them out keeps the members and makes the order strict.
 use Rattle.std.proofs.Common.{◌≡◌, ℕ, List, Contains, eqb, sym, subst}
 use Rattle.std.specs.List.{dedup}
 use Rattle.std.specs.Ordering.{nat_cmp}

@@ -1,3 +1,4 @@
+-- Free values are new and differ, so they name the variables one to one; the frozen rows are the rows read by a valuation, and each symbol can be read back from its value.
 use Rattle.std.proofs.Common.{ℕ, List, Contains, subst, ◌∙◌}
 use Rattle.su_chase.proofs.FrozenValues.{freeze_told}
 use Rattle.su_chase.proofs.freezing.freeze.Goals as goal

@@ -1,3 +1,4 @@
+-- In the ascending list a search finds the variable's own place, at which its value stands, or tells that it has none.
 use Rattle.std.proofs.Common.{◌≡◌, ℕ, pos, IfOk, ap, ◌∙◌, sym, subst, arith}
 use Rattle.std.specs.Prelude.{Result}
 use Rattle.std.specs.Result.{MatchResult}

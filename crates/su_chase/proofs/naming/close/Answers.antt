@@ -1,3 +1,4 @@
+-- The constants found are those of the rows, ascending and each once.
 use Rattle.std.proofs.Common.{◌↔◌, List, Contains, subst, sym}
 use Rattle.su_base.specs.declared.values.Value.{Value}
 use Rattle.su_chase.specs.inside.Rows.{constants_in}

@@ -1,3 +1,4 @@
+-- Each symbol of the rows is numbered as an item of its own, constants before variables, all below the size of the table; so the least classes of items are those of symbols.
 use Rattle.std.proofs.Common.{◌≡◌, ◌+◌, List, length, subst, sym, arith}
 use Rattle.std.specs.Prelude.{All}
 use Rattle.su_classes.specs.declared.items.Placed.{Placed}

@@ -1,3 +1,4 @@
+-- The number is above the variables of the cells so far and no less than the one given; a greater variable lifts it just past itself.
 use Rattle.std.proofs.Common.{◌∙◌, arith}
 use Rattle.std.proofs.lemmas.List.{get_or_default}
 use Rattle.su_tableau.specs.declared.symbols.Sym.TheVariants.{Var}

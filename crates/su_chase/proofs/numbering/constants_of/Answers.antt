@@ -1,3 +1,4 @@
+-- What is gathered are the constants of the rows so far, of all in the end; putting them in order, each once, keeps the members.
 use Rattle.std.proofs.Common.{◌≡◌, List, Contains, subst, sym, arith}
 use Rattle.su_base.specs.declared.values.Value.{Value}
 use Rattle.su_chase.specs.inside.Rows.{constants_in}

@@ -1,3 +1,4 @@
+-- The number is above the variables of the rows so far, and what rises above one row's stays above those of the rows before.
 use Rattle.std.proofs.Common.{◌≡◌, ℕ, ◌<◌, ◌≤◌, ◌∙◌, List, [], get_or, ⊎_elim, subst, sym, ap, arith}
 use Rattle.std.proofs.lemmas.Bool.{cases_lt}
 use Rattle.std.proofs.lemmas.List.{get_or_default}

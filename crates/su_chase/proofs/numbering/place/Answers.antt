@@ -1,3 +1,4 @@
+-- In an ascending list a search finds a constant's own place, and where it finds none the constant isn't there.
 use Rattle.std.proofs.Common.{◌≡◌, ℕ, length, subst}
 use Rattle.std.specs.Prelude.{Result}
 use Rattle.std.specs.Result.{MatchResult}

@@ -1,3 +1,4 @@
+-- The numbers so far are those of the cells of the rows so far, and each variable of a row is among the variables, so that it has one.
 use Rattle.std.proofs.Common.{◌+◌, [], length, ap, subst, ◌∙◌, arith, Contains}
 use Rattle.std.proofs.lemmas.List.{get_or_default, length_push}
 use Rattle.su_tableau.specs.declared.symbols.Sym.TheVariants.{Var}

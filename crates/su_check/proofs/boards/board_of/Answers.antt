@@ -1,3 +1,4 @@
+-- The marks are given exactly where the rows have each variable of the head, and with them the numbers of the cells make the board.
 use Rattle.std.proofs.Common.{sym, subst, Contains}
 use Rattle.std.proofs.lemmas.Option.{MatchOption-at_none, MatchOption-at_some}
 use Rattle.su_tableau.specs.Tableaux.{Occurs}

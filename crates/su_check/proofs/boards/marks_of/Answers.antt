@@ -1,3 +1,4 @@
+-- The marks set so far are those of the head's variables so far; one that has no number isn't in the rows, so there are no marks to give.
 use Rattle.std.proofs.Common.{sym, ap, subst, arith}
 use Rattle.su_check.proofs.Boarded.{Marked, mark_var, mark_const, marks_done}
 use Rattle.su_check.proofs.boards.marks_of.Goals as goal

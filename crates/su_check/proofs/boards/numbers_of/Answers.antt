@@ -1,3 +1,4 @@
+-- Each cell so far has its number, and one number more leaves those before it at their places.
 use Rattle.std.proofs.Common.{◌≡◌, ◌+◌, length, ap, ◌∙◌, arith}
 use Rattle.std.proofs.lemmas.List.{length_push}
 use Rattle.su_check.proofs.Boarded.{number_push}

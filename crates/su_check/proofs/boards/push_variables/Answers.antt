@@ -1,3 +1,4 @@
+-- What was there stays, the variables of the cells so far are there, and nothing else has come.
 use Rattle.std.proofs.Common.{[], ◌∷◌, Contains, sym, subst, ◌∙◌}
 use Rattle.std.proofs.lemmas.List.Elements.{Contains-append_left}
 use Rattle.su_check.proofs.Boarded.{var_row, var_only, const_row}

@@ -1,3 +1,4 @@
+-- What is gathered are the variables of the rows so far and no others, and sorting them keeps the members.
 use Rattle.std.proofs.Common.{◌≡◌, [], get_or, Contains, sym, subst, ◌∙◌, ⊎_elim, arith}
 use Rattle.std.specs.List.Sorted.{IsNonDecreasingBy}
 use Rattle.std.proofs.lemmas.List.{get_or_default}

@@ -1,3 +1,4 @@
+-- The bytes spell at most one certificate; where they spell one the verdict is that on its terms, and a certificate whose terms are all good has least ones.
 use Rattle.std.proofs.Common.{◌≡◌, ℕ, length, refl, ap, arith}
 use Rattle.std.proofs.lemmas.Result.{IfOk-weaker}
 use Rattle.su_check.specs.Verdict.{IsVerdict, IsVerdictOn, AreLeast, no_certificate, on_certificate}

@@ -1,3 +1,4 @@
+-- Form, fold and trees are tested in this order, so the first that fails is the term's fault, and a term that passes all three is good.
 use Rattle.std.proofs.Common.{refl, ◌∙◌}
 use Rattle.std.proofs.lemmas.Option.{MatchOption-at_some}
 use Rattle.su_check.specs.Verdict.{IsTreeFault}

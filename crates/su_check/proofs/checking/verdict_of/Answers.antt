@@ -1,3 +1,4 @@
+-- The terms so far are good, so the first fault that is met is that of the first bad term.
 use Rattle.std.proofs.Common.{◌≡◌, slice_get, Some, refl, subst, ◌∙◌, arith}
 use Rattle.std.specs.Option.{MatchOption}
 use Rattle.std.proofs.lemmas.Option.{get_or_from_slice_get}

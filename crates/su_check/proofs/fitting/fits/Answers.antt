@@ -1,3 +1,4 @@
+-- With the pair tried as the last one sent, the test tells whether all of them go; places kept for one pair more serve for the pairs before it.
 use Rattle.std.proofs.Common.{subst, ◌∙◌}
 use Rattle.su_check.specs.Certificate.{lines_of}
 use Rattle.su_check.specs.inside.Boards.{Keeps}

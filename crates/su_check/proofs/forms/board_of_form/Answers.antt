@@ -1,3 +1,4 @@
+-- The tests are the conditions of a good form one by one, so one that fails refutes it, and after all of them a board exists just where the head's variables stand in rows.
 use Rattle.std.proofs.Common.{◌<◌, ◌≤◌, ℕ, length, All, Contains, ◌↔◌, refl, sym, subst}
 use Rattle.std.specs.Option.{MatchOption}
 use Rattle.std.proofs.lemmas.Result.{IfOk-weaker}

@@ -1,3 +1,4 @@
+-- A kept row to which this one can go is in the set so far: it is among the targets of the row alone, and it has each image that the rows already sent force.
 use Rattle.std.proofs.Common.{◌≡◌, ◌<◌, ℕ, All, [], length, get_or, sym, ap, subst, ◌∙◌}
 use Rattle.std.specs.Int.{bit_at}
 use Rattle.std.proofs.lemmas.List.Elements.{All-contains}

@@ -1,3 +1,4 @@
+-- In the column that gave the image the guide notes the rows alike with the target, and in another the rows that carry it are looked for; without an image no row is left out.
 use Rattle.std.proofs.Common.{◌≡◌, ◌<◌, [], length, get_or, sym, ap, subst, ◌∙◌, arith}
 use Rattle.std.specs.Int.{bit_at}
 use Rattle.std.proofs.lemmas.List.{get_or_default}

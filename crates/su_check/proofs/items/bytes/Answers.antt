@@ -1,3 +1,4 @@
+-- What was read are the bytes so far, and where no byte comes next the run ends; so no other list of bytes could be read.
 use Rattle.std.proofs.Common.{refl, arith}
 use Rattle.su_check.specs.NodeSymbols.{number}
 use Rattle.su_check.specs.Ranges.{IsByte}

@@ -1,3 +1,4 @@
+-- Where no number within the bound comes next, none could be read.
 use Rattle.std.proofs.Common.{refl}
 use Rattle.su_check.proofs.items.expect_number.Goals as goal
 

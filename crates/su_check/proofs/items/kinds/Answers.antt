@@ -1,3 +1,4 @@
+-- What was read are the words of the kinds so far, and where no such word comes next the run ends; so no other list of kinds could be read.
 use Rattle.std.proofs.Common.{refl}
 use Rattle.su_base.specs.declared.values.Kind.{Kind}
 use Rattle.su_lex.specs.Wordings.{kind_symbol}

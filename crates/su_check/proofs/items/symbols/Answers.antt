@@ -1,3 +1,4 @@
+-- What was read are the symbols so far, each named as it should be, and where none comes next the run ends; so no other list could be read.
 use Rattle.std.proofs.lemmas.Option.{MatchOption-at_none}
 use Rattle.su_check.specs.NodeSymbols.{sym_symbol}
 use Rattle.su_check.specs.Ranges.{IsNamed}

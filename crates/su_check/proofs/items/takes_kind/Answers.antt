@@ -1,3 +1,4 @@
+-- A kind is spelled by one of two words, so where neither of them comes next no kind does, and the symbols stop there.
 use Rattle.std.proofs.Common.{◌∙◌}
 use Rattle.su_base.specs.declared.values.Kind.TheVariants.{Int, Text}
 use Rattle.su_check.proofs.items.takes_kind.Goals as goal

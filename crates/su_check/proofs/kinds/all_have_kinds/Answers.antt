@@ -1,3 +1,4 @@
+-- The cells of the rows so far have the kinds found, and a typing of all rows agrees with what was found; so a cell that can't have its kind refutes every typing.
 use Rattle.std.proofs.Common.{◌<◌, [], length, map, get_or, sym, ap, subst, ◌∙◌}
 use Rattle.std.proofs.lemmas.List.{get_or_default}
 use borrow.Author.Count.{below_more}

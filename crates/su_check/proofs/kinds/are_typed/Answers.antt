@@ -1,3 +1,4 @@
+-- At the start no kind is found, so every typing agrees with it; kinds found for all cells make a typing, and a refusal leaves none.
 use Rattle.std.proofs.Common.{◌≡◌, Bool, true, false, None, Some, refl, ◌∙◌}
 use Rattle.su_check.proofs.WellTyped.{cells_typed, nothing_found}
 use Rattle.su_check.proofs.kinds.are_typed.Goals as goal

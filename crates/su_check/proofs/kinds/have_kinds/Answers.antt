@@ -1,3 +1,4 @@
+-- The cells so far have the kinds found, which only come to be more; a typing of the row agrees with each of them, so a cell of another kind refutes it.
 use Rattle.std.proofs.Common.{ap, subst, ◌∙◌}
 use borrow.Author.Count.{below_more}
 use Rattle.su_tableau.specs.Kinds.{sym_kind}

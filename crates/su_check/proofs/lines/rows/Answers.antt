@@ -1,3 +1,4 @@
+-- What was read are the lines of the rows so far, and any list that the symbols spell has these as a front; a sign that opens shows that it has a further row, and none that it ends.
 use Rattle.std.proofs.Common.{◌∷◌, All, refl, sym, ap, subst, ◌∙◌, Err}
 use Rattle.std.proofs.lemmas.List.Elements.{All-push}
 use Rattle.std.proofs.lemmas.Result.{err_from_is_err_and}

@@ -1,3 +1,4 @@
+-- Each word and list of the term is what any spelling must have there, as a run of items ends where the next word stands; so a refusal refutes every term.
 use Rattle.std.proofs.Common.{codes, Err, ap, ◌∙◌, arith}
 use Rattle.std.proofs.lemmas.Result.{err_from_is_err_and}
 use Rattle.su_check.proofs.Runs.{gives_on}

@@ -1,3 +1,4 @@
+-- A tree begins with the number of its row, a byte, so that a refused number refutes every tree.
 use Rattle.std.proofs.Common.{Err, ap, ◌∙◌, arith}
 use Rattle.std.proofs.lemmas.Result.{err_from_is_err_and}
 use Rattle.su_check.proofs.Runs.{gives_on}

@@ -1,3 +1,4 @@
+-- What was read are the trees so far, and any list that the symbols spell has these as a front; the word for a tree shows that it has one more, and else it ends.
 use Rattle.std.proofs.Common.{◌≡◌, ◌∷◌, ◌++◌, List, codes, All, refl, sym, ap, subst, ◌∙◌, Err}
 use Rattle.std.proofs.lemmas.List.Elements.{All-push}
 use Rattle.std.proofs.lemmas.Result.{err_from_is_err_and}

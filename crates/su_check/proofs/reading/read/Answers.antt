@@ -1,3 +1,4 @@
+-- A text has one list of symbols, so whatever certificate the bytes spell is spelled by the list that was read, and a list that nests too deep spells none.
 use Rattle.std.proofs.Common.{Err, ap, subst, ◌∙◌}
 use Rattle.std.proofs.lemmas.Result.{err_from_is_err_and}
 use Rattle.su_lex.proofs.Written.{one_list_of_symbols}

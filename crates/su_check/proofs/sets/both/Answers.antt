@@ -1,3 +1,4 @@
+-- A bit that is set in both numbers is set in their conjunction.
 use Rattle.std.proofs.Common.{arith}
 use Rattle.std.proofs.lemmas.Nat.Bits.{bit_at_and, bit_at-lt}
 use Rattle.su_check.proofs.sets.both.Goals as goal

@@ -1,3 +1,4 @@
+-- A bit set in the set stays set in the disjunction, and bit i is set by the number that has it alone.
 use Rattle.std.proofs.Common.{◌*◌, ◌^◌, ◌%◌, arith}
 use Rattle.std.specs.Int.{w64}
 use Rattle.std.proofs.lemmas.Nat.Bits.{bit_at_or, bit_at-lt, bit_at_set_same}

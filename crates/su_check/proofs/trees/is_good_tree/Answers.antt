@@ -1,3 +1,4 @@
+-- With no row sent yet the tree refutes by itself, and it is good where it does so for the kept row at its own place.
 use Rattle.std.proofs.Common.{◌≡◌, ◌↔◌, true, refl, sym}
 use Rattle.std.proofs.lemmas.Result.{IfOk-weaker}
 use Rattle.su_check.specs.inside.Boards.{Keeps, IsReady}

@@ -1,3 +1,4 @@
+-- A number below the bound is parsed from its own decimal, so what is parsed and written again tells whether the digits were that decimal.
 use Rattle.std.proofs.Common.{◌≡◌, decimal, Ok, sym, ap, ◌∙◌, true≢false, arith}
 use Rattle.std.proofs.lemmas.Fmt.{parse-decimal}
 use Rattle.su_check.proofs.variables.number_written.Goals as goal

@@ -1,3 +1,4 @@
+-- Each labelling that keeps the dependencies and the equalities is constant on the classes so far; a sweep that changes nothing shows that the classes keep them, and others leave fewer classes.
 use Rattle.std.proofs.Common.{◌≡◌, ◌<◌, ℕ, length, ◌∙◌, arith}
 use Rattle.su_classes.specs.Tables.{rep}
 use Rattle.su_classes.proofs.JoinedRows.{own_sound, own_equal}

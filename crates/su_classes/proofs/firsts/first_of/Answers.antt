@@ -1,3 +1,4 @@
+-- A dependency that lies in the row has its left cells among the row's own, so the key of their labels can be read and noted.
 use Rattle.std.proofs.Common.{refl, length}
 use Rattle.su_classes.proofs.Listed.{left_cells}
 use Rattle.su_classes.proofs.firsts.first_of.Goals as goal

@@ -1,3 +1,4 @@
+-- A key that is noted has the position noted under it, and a new one is noted with this position and changes no other.
 use Rattle.std.proofs.Common.{sym}
 use Rattle.su_classes.specs.inside.Firsts.{noted_in}
 use Rattle.su_classes.proofs.Noted.{noted_there, noted_new}

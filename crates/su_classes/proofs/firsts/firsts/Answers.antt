@@ -1,3 +1,4 @@
+-- The attributes listed are the members of the left side, by which the rows are told apart.
 use Rattle.std.proofs.Common.{ℕ, List, sym, subst}
 use Rattle.su_classes.specs.inside.Firsts.{AreMembersBelow}
 use Rattle.su_classes.proofs.firsts.firsts.Goals as goal

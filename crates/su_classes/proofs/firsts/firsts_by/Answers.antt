@@ -1,3 +1,4 @@
+-- The notes tell, for each left side met so far, the first row with it; so each position so far is that of the first row that agrees with its own.
 use Rattle.std.proofs.Common.{◌≡◌, [], length, subst, sym, arith}
 use Rattle.std.specs.FinSet.{empty}
 use Rattle.std.proofs.lemmas.List.{get_or_read}

@@ -1,3 +1,4 @@
+-- The list has the members of the set below the next number, and each number is added where the set has it.
 use Rattle.std.proofs.Common.{◌≡◌, ℕ, subst, arith}
 use Rattle.su_classes.specs.inside.Firsts.{AreMembersBelow}
 use Rattle.su_classes.proofs.Listed.{members_if}

@@ -1,3 +1,4 @@
+-- Each rule so far has the attributes of its dependency, and this is one of those given.
 use Rattle.std.proofs.Common.{◌∷◌, [], List, Contains, subst, sym}
 use Rattle.std.specs.Prelude.{All}
 use Rattle.std.proofs.lemmas.List.Elements.{All-append}

@@ -1,3 +1,4 @@
+-- Looking for roots only shortens ways, which keeps the labellings; items with one root have one label, so rows with the same roots so far have the same labels there.
 use Rattle.std.proofs.Common.{◌≡◌, get_or, sym, ap, ◌∙◌, arith}
 use Rattle.std.proofs.lemmas.List.{get_or_default}
 use Rattle.su_classes.specs.Items.{item_of}

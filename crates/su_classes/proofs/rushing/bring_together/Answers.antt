@@ -1,3 +1,4 @@
+-- Rows whose left sides have the same labels are merged at the right side, which is what the dependency asks of the two; where they differ there is nothing to do.
 use Rattle.std.proofs.Common.{ℕ, List, length, refl, subst, sym}
 use Rattle.su_classes.specs.inside.Firsts.{AreMembersBelow}
 use Rattle.su_classes.specs.Items.{IsPlacedBelow}

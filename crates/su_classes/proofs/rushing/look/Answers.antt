@@ -1,3 +1,4 @@
+-- The row found under the number may be any, but what is merged agrees on the left side; so only what the dependency puts together is merged, whatever the notes tell.
 use Rattle.std.proofs.Common.{ℕ, List, Contains, length, refl, subst, sym}
 use Rattle.std.proofs.lemmas.List.Elements.{All-contains}
 use Rattle.su_classes.specs.declared.items.Placed.{Placed}

@@ -1,3 +1,4 @@
+-- The merges for the rows so far follow from the dependencies, and one merging after another is a merging; the worklist stays one for these items.
 use Rattle.std.specs.Prelude.{All}
 use Rattle.su_classes.specs.Items.{Keeps}
 use Rattle.su_classes.proofs.JoinedRows.{merging_then}

@@ -1,3 +1,4 @@
+-- The merges under the dependencies so far follow from all of them, since what one dependency puts together all do.
 use Rattle.std.proofs.Common.{sym, ◌∙◌}
 use Rattle.std.proofs.lemmas.List.{length-set}
 use Rattle.std.proofs.lemmas.List.Elements.{All-contains}

@@ -1,3 +1,4 @@
+-- The merges so far follow from the dependencies, however many spots are still pending; taking one and looking its row up again keeps that.
 use Rattle.std.proofs.Common.{length}
 use Rattle.std.specs.Prelude.{All}
 use Rattle.su_classes.specs.Items.{Keeps}

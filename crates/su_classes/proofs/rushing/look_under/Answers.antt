@@ -1,3 +1,4 @@
+-- The numbers are those of given dependencies, and merges under one of these follow from all; so the merges so far do.
 use Rattle.std.proofs.Common.{get_or, sym, ◌∙◌}
 use Rattle.std.proofs.lemmas.List.{length-set}
 use Rattle.std.proofs.lemmas.List.Elements.{All-contains}

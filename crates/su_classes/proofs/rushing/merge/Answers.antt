@@ -1,3 +1,4 @@
+-- The two rows are to have the same labels at these attributes, so that each pair of items joined so far is forced to be together.
 use Rattle.std.proofs.Common.{◌≡◌, ℕ, sym, ap, ◌∙◌}
 use Rattle.std.specs.Prelude.{All}
 use Rattle.su_tableau.specs.declared.symbols.Sym.{Sym}

@@ -1,3 +1,4 @@
+-- The rules are of the given dependencies, so what they put together these do too; for few rows nothing is merged.
 use Rattle.std.proofs.Common.{List, Contains, subst, sym}
 use Rattle.std.specs.Prelude.{All}
 use Rattle.su_classes.specs.declared.rules.Rule.{Rule}

@@ -1,3 +1,4 @@
+-- One merging after another is a merging: each follows from the same rules.
 use Rattle.std.specs.Prelude.{All}
 use Rattle.su_classes.specs.Items.{Keeps}
 use Rattle.su_classes.proofs.JoinedRows.{merging_then}

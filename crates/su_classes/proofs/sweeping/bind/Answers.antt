@@ -1,3 +1,4 @@
+-- Each row and its first one agree on the left side, so joining their right sides is forced; flattening the table afterwards keeps its classes.
 use Rattle.std.proofs.Common.{ℕ, List, sym, subst}
 use Rattle.su_classes.specs.Items.{Keeps}
 use Rattle.su_classes.specs.inside.Firsts.{AreMembersBelow}

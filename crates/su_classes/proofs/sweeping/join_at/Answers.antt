@@ -1,3 +1,4 @@
+-- The table so far is the least in which the items at the attributes so far are together, and it changed exactly where classes became fewer.
 use Rattle.std.proofs.Common.{◌≡◌, arith}
 use Rattle.su_classes.specs.Items.{item_of}
 use Rattle.su_classes.proofs.Merges.{joining_cells, joining_all, progress_then}

@@ -1,3 +1,4 @@
+-- The merges so far follow from the dependencies; while nothing has changed the table is still the one that keeps those looked at so far.
 use Rattle.su_classes.proofs.Merges.{progress_then}
 use Rattle.su_classes.proofs.JoinedRows.{sweep_merging, sweep_more}
 use Rattle.su_classes.proofs.sweeping.sweep.Goals as goal

@@ -1,3 +1,4 @@
+-- Parents of lesser items are roots already, so the parent's parent is the root of the item; shortening the ways keeps the classes.
 use Rattle.std.proofs.Common.{◌<◌, length, arith}
 use Rattle.su_classes.proofs.Trees.{shortened_then, shortened_step, flat_more}
 use Rattle.su_classes.proofs.tables.flatten.Goals as goal

@@ -1,3 +1,4 @@
+-- The roots have the labels of their items, so putting one below the other is what makes the two items equal, and the classes are one less; where the roots are one nothing is to do.
 use Rattle.std.proofs.Common.{arith}
 use Rattle.su_classes.proofs.Merges.{joined_same, progress_same_roots, joined_left, progress_left, joined_right, progress_right}
 use Rattle.su_classes.proofs.tables.join.Goals as goal

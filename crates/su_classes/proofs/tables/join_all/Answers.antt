@@ -1,3 +1,4 @@
+-- The table so far is the least that has the pairs so far together, and joining the next pair makes it so for one more.
 use Rattle.std.proofs.Common.{◌≡◌, arith}
 use Rattle.su_classes.proofs.Merges.{joining_at, joining_all}
 use Rattle.su_classes.proofs.tables.join_all.Goals as goal

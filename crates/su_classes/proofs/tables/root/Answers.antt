@@ -1,3 +1,4 @@
+-- Each step goes to a lesser item of the same label and shortens the way there, which keeps what labellings are sound; an item that is its own parent is the root.
 use Rattle.std.proofs.Common.{◌≤◌, ◌∙◌, arith}
 use Rattle.su_classes.specs.Tables.{rep}
 use Rattle.su_classes.proofs.Trees.{shortened_then, shortened_step}

@@ -1,3 +1,4 @@
+-- The number of the digits so far, gone on with by those left, is that of all; at most 18 digits keep it below ten to the eighteenth, so no sum is past the range.
 use Rattle.std.proofs.Common.{◌≤◌, ◌<◌, ◌^◌, ℕ, arith}
 use Rattle.std.proofs.lemmas.Grind.{common_steps}
 use Rattle.std.proofs.Math.Nat.{pow-le-pow_right}

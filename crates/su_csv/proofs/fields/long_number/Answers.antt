@@ -1,3 +1,4 @@
+-- A field that has no plus sign writes what the library parses, and one that isn't UTF-8 writes no number.
 use Rattle.std.proofs.Common.{◌∙◌, sym}
 use Rattle.su_csv.proofs.Numbers.{parsed, not-text}
 use Rattle.su_csv.proofs.fields.long_number.Goals as goal

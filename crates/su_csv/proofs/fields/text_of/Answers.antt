@@ -1,3 +1,4 @@
+-- A field is a text exactly where it is short enough and UTF-8, and what is known to be UTF-8 passes the test that is left out.
 use Rattle.std.proofs.Common.{ap, Some}
 use Rattle.su_csv.proofs.Texts.{is-text, not-utf8}
 use Rattle.su_csv.proofs.fields.text_of.Goals as goal

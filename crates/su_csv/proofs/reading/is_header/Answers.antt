@@ -1,3 +1,4 @@
+-- The names and fields so far agree, so the whole is a header exactly where the rest is; a name that differs shows that it is none.
 use Rattle.std.proofs.Common.{◌∙◌, sym, length, refl}
 use Rattle.csv.specs.Records.{fields_of}
 use Rattle.std.proofs.lemmas.Bool.{not-false}

@@ -1,3 +1,4 @@
+-- The answer for all records is the rows so far and what the records left give, numbered on; each record is one row more, or the fault that ends it.
 use Rattle.csv.specs.Records.{fields_of}
 use Rattle.su_csv.specs.inside.Records.{records_left}
 use Rattle.su_csv.proofs.RecordsSoFar.{more-rows}

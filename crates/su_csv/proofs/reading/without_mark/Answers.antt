@@ -1,3 +1,4 @@
+-- The mark is three bytes, and stripping it leaves what stands behind them; without one nothing is stripped.
 use Rattle.std.proofs.Common.{◌≡◌, ◌∙◌, ◌-◌, sym, take, drop, length}
 use Rattle.std.proofs.lemmas.List.{length-drop}
 use Rattle.std.proofs.Math.Seq.{take-length}

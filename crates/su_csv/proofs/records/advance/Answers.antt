@@ -1,3 +1,4 @@
+-- The reader stands at a text of which it takes the first record, if there is one, and the records that are left are those of the text behind it.
 use Rattle.csv.specs.Records.{fields_of}
 use Rattle.su_csv.proofs.TextLeft.{advanced}
 use Rattle.su_csv.proofs.records.advance.Goals as goal

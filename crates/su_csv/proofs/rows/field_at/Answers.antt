@@ -1,3 +1,4 @@
+-- A place below the number of fields has a field, so it is there to be got.
 use Rattle.std.proofs.Common.{◌∙◌, sym}
 use Rattle.su_csv.proofs.RowSoFar.{field-at, present}
 use Rattle.su_csv.proofs.rows.field_at.Goals as goal

@@ -1,3 +1,4 @@
+-- No column so far lacks a number, so the one sought is sought among the rest, numbered on from here.
 use Rattle.std.proofs.Common.{◌∙◌, sym, length, refl}
 use Rattle.std.proofs.lemmas.Option.{slice_get_read}
 use Rattle.csv.specs.Records.{fields_of}

@@ -1,3 +1,4 @@
+-- Fields are cut from the record's bytes, so where these are ASCII each of them is.
 use Rattle.su_csv.proofs.RowSoFar.{ascii-fields}
 use Rattle.su_csv.proofs.rows.is_ascii.Goals as goal
 

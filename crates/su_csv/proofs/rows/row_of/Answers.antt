@@ -1,3 +1,4 @@
+-- The values so far go on with those of the fields left to the whole row, and no column so far lacks its kind; so a field without a value is where the fault is sought.
 use Rattle.std.proofs.Common.{◌∙◌, inr, arith, length, refl}
 use Rattle.std.proofs.lemmas.Option.{slice_get_read}
 use Rattle.csv.specs.Records.{fields_of}

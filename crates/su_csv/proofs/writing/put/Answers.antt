@@ -1,3 +1,4 @@
+-- The writer's style isn't the one that quotes fields by their kind, and a flexible writer writes a record as the standard one does.
 use Rattle.std.proofs.Common.{◌≢◌}
 use Rattle.csv.specs.Records.{fields_of}
 use Rattle.csv.specs.declared.writer.QuoteStyle.TheVariants as style

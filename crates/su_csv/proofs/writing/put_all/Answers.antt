@@ -1,3 +1,4 @@
+-- What was written is the text of the header and of the rows so far, and each of them has only values that are stored ones.
 use Rattle.std.proofs.Common.{◌∙◌, All}
 use Rattle.su_csv.specs.inside.Writers.{IsStored}
 use Rattle.su_csv.specs.inside.Writers.{text_so_far}

@@ -1,3 +1,4 @@
+-- The record has the fields of the values so far, none half done, and each of these values is a stored one.
 use Rattle.std.proofs.Common.{◌≡◌, ◌∙◌, ◌<◌, length, get_or}
 use Rattle.su_csv.specs.Written.{field_of}
 use Rattle.su_csv.specs.inside.Writers.{IsStored}

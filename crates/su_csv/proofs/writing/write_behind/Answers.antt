@@ -1,3 +1,4 @@
+-- Where the values are stored ones, reading the text written gives back the header's rows.
 use Rattle.std.proofs.Common.{◌∙◌, ap, sym}
 use Rattle.su_csv.specs.File.{reading}
 use Rattle.su_csv.specs.Written.{text_of}

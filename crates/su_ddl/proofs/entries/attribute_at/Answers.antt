@@ -1,3 +1,4 @@
+-- Name and kind are read from one entry, so together they are its definition.
 use Rattle.su_schema.specs.declared.definitions.Definition.TheVariants.{Attribute}
 use Rattle.su_ddl.proofs.Lines.{two_fields}
 use Rattle.su_ddl.proofs.entries.attribute_at.Goals as goal

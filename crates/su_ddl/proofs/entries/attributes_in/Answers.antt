@@ -1,3 +1,4 @@
+-- The names so far are those of the set's members below the next number, and each attribute adds its name where the set has it.
 use Rattle.std.proofs.Common.{[]}
 use Rattle.std.specs.FinSet.{contains}
 use Rattle.std.proofs.lemmas.Option.{get_or_from_slice_get}

@@ -1,3 +1,4 @@
+-- A column within the relation has its own name, and one past the columns has none, for which the empty name stands.
 use Rattle.std.proofs.Common.{◌≡◌, [], ◌≤◌, ◌<◌, sym, ap, ◌∙◌, arith, length}
 use Rattle.std.proofs.lemmas.Bool.Decides.{nat_tests}
 use Rattle.std.proofs.lemmas.Option.{get_or_from_slice_get}

@@ -1,3 +1,4 @@
+-- Name, relation and pairs are read from one entry, whose relation is one of the schema's by its rules; so together they are its definition.
 use Rattle.std.proofs.Common.{◌≡◌, [], length}
 use Rattle.std.specs.List.{range_with_len, filter_map}
 use Rattle.std.proofs.lemmas.Option.{get_or_from_slice_get}

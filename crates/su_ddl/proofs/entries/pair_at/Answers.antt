@@ -1,3 +1,4 @@
+-- The object has a pair of the attribute exactly where it takes it from a column, and the pair has the names of the two.
 use Rattle.std.proofs.Common.{◌≡◌, [], Some, None}
 use Rattle.std.proofs.lemmas.Option.{get_or_from_slice_get}
 use Rattle.su_schema.specs.Entries.{attribute_names, column_of}

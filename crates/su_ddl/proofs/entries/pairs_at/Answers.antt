@@ -1,3 +1,4 @@
+-- The pairs so far are those that the object has of the attributes so far, and each attribute adds its own or none.
 use Rattle.std.proofs.Common.{[]}
 use Rattle.su_ddl.proofs.Lines.{one_pair, none_yet}
 use Rattle.su_ddl.proofs.entries.pairs_at.Goals as goal

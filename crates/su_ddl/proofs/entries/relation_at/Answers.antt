@@ -1,3 +1,4 @@
+-- Name and columns are read from one entry, so they make its definition.
 use Rattle.su_schema.specs.declared.definitions.Definition.TheVariants.{Relation}
 use Rattle.su_ddl.proofs.Lines.{two_fields}
 use Rattle.su_ddl.proofs.entries.relation_at.Goals as goal

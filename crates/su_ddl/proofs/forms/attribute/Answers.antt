@@ -1,3 +1,4 @@
+-- The form has one name and one kind behind its word, so where no kind can be read no such definition is there.
 use Rattle.std.proofs.Common.{◌≡◌, [], ap, Err}
 use Rattle.std.proofs.lemmas.Result.{err_from_is_err_and}
 use Rattle.su_lex.specs.declared.ends.LexEnd.TheVariants.{Syntax}

@@ -1,3 +1,4 @@
+-- A text has one list of symbols, and symbols are one definition at most; so what the reader refuses or gives is what there is.
 use Rattle.std.proofs.Common.{◌≡◌, ap, List, Err, subst}
 use Rattle.std.proofs.lemmas.Result.{err_from_is_err_and}
 use Rattle.su_lex.specs.declared.ends.LexEnd.TheVariants.{Syntax}

@@ -1,3 +1,4 @@
+-- Each form begins with a word of its own, so symbols that begin with none of the five are no definition, and the first word tells which form may be there.
 use Rattle.std.proofs.Common.{◌≡◌, List, sym, ◌∙◌, refl, subst, codes}
 use Rattle.su_lex.specs.Names.{Begins}
 use Rattle.su_lex.specs.declared.meaning.Symbol.{Symbol}

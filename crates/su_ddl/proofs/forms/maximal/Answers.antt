@@ -1,3 +1,4 @@
+-- The names in parentheses can be read in one way, and the form ends behind them; so a refusal at the names or at the end refutes it.
 use Rattle.std.proofs.Common.{◌≡◌, [], sym, ap, ◌∙◌, arith, length, Err}
 use Rattle.std.proofs.lemmas.Result.{err_from_is_err_and}
 use Rattle.su_lex.specs.declared.ends.LexEnd.TheVariants.{Syntax}

@@ -1,3 +1,4 @@
+-- A column is a name and a kind behind it, so where no kind follows the name no column begins there.
 use Rattle.std.proofs.Common.{◌≡◌, ap, Err}
 use Rattle.std.proofs.lemmas.Result.{err_from_is_err_and}
 use Rattle.su_lex.specs.declared.ends.LexEnd.TheVariants.{Syntax}

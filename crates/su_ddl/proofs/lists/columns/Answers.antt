@@ -1,3 +1,4 @@
+-- What was taken is the written form of the columns so far; a comma without a column behind it is no front of a longer list, and without a comma the list ends.
 use Rattle.std.proofs.Common.{◌≡◌, ◌∷◌, refl, ap, ◌∙◌, Err}
 use Rattle.std.proofs.lemmas.Result.{err_from_is_err_and}
 use Rattle.su_lex.specs.declared.ends.LexEnd.TheVariants.{Syntax}

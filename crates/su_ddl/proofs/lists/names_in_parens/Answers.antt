@@ -1,3 +1,4 @@
+-- The names behind the opening sign can be read in one way, as no comma follows them; so a sign other than the closing one refutes every list.
 use Rattle.std.proofs.Common.{◌≡◌, ◌∷◌, sym, ap, ◌∙◌, Err}
 use Rattle.std.proofs.lemmas.Result.{err_from_is_err_and}
 use Rattle.su_lex.specs.declared.ends.LexEnd.TheVariants.{Syntax}

@@ -1,3 +1,4 @@
+-- A text that is no definition is at fault by its syntax, and one that is a definition is at fault as the schema's refusal says, unless memory was wanting.
 use Rattle.std.proofs.Common.{inl, inr, refl, sym, ap, subst, Err}
 use Rattle.su_ddl.specs.Files.{IsAtFault}
 use Rattle.su_ddl.specs.declared.faults.DdlFault.{DdlFault}

@@ -1,3 +1,4 @@
+-- A file makes one outcome at most, and no refusal of a statement is for want of memory.
 use Rattle.su_ddl.proofs.Causes.{never_memory}
 use Rattle.su_ddl.proofs.Files.{only_outcome}
 use Rattle.su_ddl.proofs.reading.read.Goals as goal

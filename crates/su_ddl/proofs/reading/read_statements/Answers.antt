@@ -1,3 +1,4 @@
+-- The schema so far is that of the statements so far, each of them added by its definition; the first that can't be added is the file's fault.
 use Rattle.std.proofs.Common.{◌≡◌, ◌≤◌, ◌<◌, refl, get_or, sym, arith, length, subst}
 use Rattle.std.proofs.lemmas.Result.{err_from_is_err_and}
 use Rattle.su_lex.specs.Pieces.{Pieces}

@@ -1,3 +1,4 @@
+-- What is written are the lines of the attributes so far, each by its definition.
 use Rattle.std.proofs.Common.{map}
 use Rattle.su_ddl.specs.ShownDefinitions.{attribute_definition}
 use Rattle.su_ddl.proofs.Lines.{one_line}

@@ -1,3 +1,4 @@
+-- What is written are the lines of the declared sets so far, each as the names of its objects.
 use Rattle.std.proofs.Common.{ap, ◌∙◌, map}
 use Rattle.su_ddl.specs.ShownDefinitions.{maximal_definition}
 use Rattle.su_ddl.proofs.Lines.{listed_at, one_line}

@@ -1,3 +1,4 @@
+-- What is written are the lines of the dependencies so far, each as the names on its two sides.
 use Rattle.std.proofs.Common.{ap, ◌∙◌, map}
 use Rattle.su_ddl.specs.ShownDefinitions.{fd_definition}
 use Rattle.su_ddl.proofs.Lines.{listed_at, one_line}

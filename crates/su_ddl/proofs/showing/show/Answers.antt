@@ -1,3 +1,4 @@
+-- The five kinds of lines make up the text, in their order, and reading it adds the definitions again in the order in which the schema numbers them.
 use Rattle.std.proofs.Common.{◌<◌, ◌^◌, length, ◌∙◌, map, sym, subst, List, ℕ}
 use Rattle.std.specs.Prelude.{Ok}
 use Rattle.su_ddl.specs.Files.{Reads}

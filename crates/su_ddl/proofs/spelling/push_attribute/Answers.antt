@@ -1,3 +1,4 @@
+-- The symbols added one after another are the word, the name and the kind, which is how the definition is spelled.
 use Rattle.std.proofs.Common.{◌∷◌, [], codes}
 use Rattle.su_lex.specs.declared.meaning.Symbol.TheVariants.{Word}
 use Rattle.su_lex.specs.Wordings.{kind_symbol}

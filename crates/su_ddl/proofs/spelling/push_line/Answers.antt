@@ -1,3 +1,4 @@
+-- The symbols of the definition with their spaces come first and the end of the line behind them, so a refusal leaves a front of the line.
 use Rattle.std.proofs.Common.{◌∷◌, ◌++◌, [], ◌∙◌, ℕ, List, ap, subst}
 use Rattle.std.proofs.lemmas.Result.{err_from_is_err_and}
 use Rattle.su_lex.specs.AddedFronts.{AddsFront}

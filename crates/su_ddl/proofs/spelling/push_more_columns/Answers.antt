@@ -1,3 +1,4 @@
+-- What is added are the columns so far, each with its comma.
 use Rattle.su_ddl.proofs.Lines.{one_column}
 use Rattle.su_ddl.proofs.spelling.push_more_columns.Goals as goal
 

@@ -1,3 +1,4 @@
+-- What is added are the names so far, each with its comma before it; so a refusal at a comma or at a name leaves a front of them all.
 use Rattle.std.proofs.lemmas.Result.{err_from_is_err_and}
 use Rattle.su_ddl.proofs.Lines.{comma_front, names_front, one_name}
 use Rattle.su_ddl.proofs.spelling.push_more_names.Goals as goal

@@ -1,3 +1,4 @@
+-- Every closed set over the start is over what is reached, and a pass that adds nothing shows that this is closed itself; a pass that adds leaves fewer right sides out.
 use Rattle.std.proofs.Common.{sym, inl, inr, ◌∙◌}
 use Rattle.std.proofs.lemmas.Bool.{false≢true}
 use Rattle.su_base.proofs.Subsets.{subset_refl, subset_trans, subset_at}

@@ -1,3 +1,4 @@
+-- A set is within the closure exactly where each of its attributes is in it.
 use Rattle.std.proofs.Common.{sym, ◌∙◌}
 use Rattle.su_base.proofs.Subsets.{subset_at, subset_by}
 use Rattle.su_fd.proofs.closures.determines.Goals as goal

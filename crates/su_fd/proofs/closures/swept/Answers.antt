@@ -1,3 +1,4 @@
+-- A pass stays within each closed set over the start and takes in the right side of every left side within the start; so the start is closed where nothing is added.
 use Rattle.std.proofs.Common.{sym, ◌∙◌}
 use Rattle.su_fd.proofs.OnePass.{swept_start, swept_skip, swept_push, swept_closed}
 use Rattle.su_fd.proofs.closures.swept.Goals as goal

@@ -1,3 +1,4 @@
+-- What derives the rest derives the whole after the dependencies used so far; each of these adds a right side, so that fewer are left.
 use Rattle.std.proofs.Common.{[], ◌∷◌, append_assoc, append-nil, sym}
 use Rattle.su_fd.proofs.Growth.{step_smaller, step_derived}
 use Rattle.su_fd.proofs.derivations.derivation.Goals as goal

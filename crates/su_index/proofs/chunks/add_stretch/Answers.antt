@@ -1,3 +1,4 @@
+-- The place is past as many entries as were taken, and what was added is the front of the stretch; so the entry at the place is the next of the stretch.
 use Rattle.std.proofs.Common.{◌≡◌, ◌+◌, ◌∙◌, ◌++◌, ◌∷◌, List, [], get_or, ap, arith}
 use Rattle.su_index.specs.declared.entry.Entry.{Entry}
 use Rattle.su_index.specs.Chunks.{entries_of}

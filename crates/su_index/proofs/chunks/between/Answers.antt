@@ -1,3 +1,4 @@
+-- The count and the entries before the first chunk make up those before the chunk that is counted next and the ones before the last place; so it is the distance of the two places.
 use Rattle.std.proofs.Common.{◌≡◌, ◌≤◌, ◌+◌, ap, arith}
 use Rattle.su_index.specs.inside.Chunks.{before_chunk}
 use Rattle.su_index.proofs.Chunked.{before-next, before-most, chunk-order}

@@ -1,3 +1,4 @@
+-- The entries of the chunks so far and the rest are the whole run, and each chunk so far has entries, since one is cut off only where more than a full one is left.
 use Rattle.std.proofs.Common.{◌∙◌, ap, length, arith}
 use Rattle.su_index.proofs.Chunked.{pushed-entries, pushed-all}
 use Rattle.su_index.proofs.chunks.chunks_of.Goals as goal

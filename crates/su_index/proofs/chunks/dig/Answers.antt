@@ -1,3 +1,4 @@
+-- The entries of all chunks are those of the chunks one behind another, so removing one from its chunk removes it from the whole at its rank.
 use Rattle.std.proofs.Common.{◌∙◌, ap, arith}
 use Rattle.std.specs.List.{remove}
 use Rattle.su_index.specs.declared.entry.Entry.{Entry}

@@ -1,3 +1,4 @@
+-- The entry goes into its chunk and the last one of it comes out; put in before the next chunk, that one makes the entries those with the new one at its rank.
 use Rattle.std.proofs.Common.{◌∙◌, add-one, ap, set, arith}
 use Rattle.std.specs.List.{insert}
 use Rattle.su_index.specs.declared.chunk.Chunk.{Chunk}

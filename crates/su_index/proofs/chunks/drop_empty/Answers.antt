@@ -1,3 +1,4 @@
+-- A chunk without entries adds none to the whole, so leaving it out keeps the entries of all chunks.
 use Rattle.std.proofs.Common.{◌∙◌, ap, arith}
 use Rattle.std.proofs.lemmas.Bool.Decides.{nat_tests}
 use Rattle.su_index.specs.Chunks.{entries_of}

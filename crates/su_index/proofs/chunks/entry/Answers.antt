@@ -1,3 +1,4 @@
+-- The rank of a place counts the entries before its chunk and in it, so the entry there is that of the whole at the rank.
 use Rattle.std.proofs.Common.{sym, ◌∙◌}
 use Rattle.su_index.proofs.Chunked.{entry-at}
 use Rattle.su_index.proofs.chunks.entry.Goals as goal

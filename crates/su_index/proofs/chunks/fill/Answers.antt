@@ -1,3 +1,4 @@
+-- The chunk has room, so the insert succeeds, and inserting in one chunk inserts in the whole at the place's rank.
 use Rattle.std.proofs.Common.{◌∙◌, ap, not, arith}
 use Rattle.std.specs.List.{insert}
 use Rattle.su_index.proofs.Chunked.{insert-entries, ok_holds}

@@ -1,3 +1,4 @@
+-- Making room changes how much a chunk may hold and none of its entries, so the entries of all chunks stay.
 use Rattle.std.proofs.Common.{◌<◌, ◌-◌, ◌∙◌, ap, length, arith}
 use Rattle.su_index.proofs.Chunked.{same-entries}
 use Rattle.su_index.proofs.chunks.open_last.Goals as goal

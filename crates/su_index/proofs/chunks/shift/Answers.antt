@@ -1,3 +1,4 @@
+-- The place to put in is no later than the one taken from, so its rank stays as entries are taken out, and the chunk that lost one has the room.
 use Rattle.std.proofs.Common.{◌≡◌, ◌≤◌, ◌+◌, ◌∙◌, ap, arith}
 use Rattle.std.specs.List.{insert}
 use Rattle.su_index.specs.Chunks.{entries_of}

@@ -1,3 +1,4 @@
+-- The earlier part stays in its chunk and the later part makes the chunk behind it; together they are the entries that the chunk had, and neither is empty.
 use Rattle.std.proofs.Common.{◌≡◌, ◌<◌, ◌+◌, ◌∙◌, add-one, ap, not, set, subst, sym}
 use Rattle.std.specs.List.{insert}
 use Rattle.std.specs.VecDeque.{deque_len}

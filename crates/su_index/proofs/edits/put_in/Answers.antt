@@ -1,3 +1,4 @@
+-- The entries before the place found are those that come before the value at the position, so inserting there keeps the order, and each entry keeps its lead.
 use Rattle.std.proofs.Common.{◌≡◌, arith}
 use Rattle.std.specs.List.{insert}
 use Rattle.su_index.specs.declared.entry.Entry.{Entry}

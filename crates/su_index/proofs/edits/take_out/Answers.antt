@@ -1,3 +1,4 @@
+-- The place found for the position's own value is that of its entry, since all entries differ in position; removing it leaves the others in order.
 use Rattle.std.proofs.Common.{arith}
 use Rattle.su_index.specs.Chunks.{entries_of}
 use Rattle.su_index.specs.inside.Chunks.{rank_in, IsPlace}

@@ -1,3 +1,4 @@
+-- A binary search over the last entries of the chunks: those before `low` come before the value, and the last of the chunk `high` does not, unless it is the last chunk.
 use Rattle.std.proofs.Common.{◌<◌, ◌+◌, ◌-◌, ◌/◌, true, false, length, arith}
 use Rattle.su_index.specs.Chunks.{entries_of}
 use Rattle.su_index.specs.inside.Chunks.{before_chunk}

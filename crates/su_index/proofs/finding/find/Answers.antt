@@ -1,3 +1,4 @@
+-- The last entry of the chunk found doesn't come before the value, so the place in it isn't past its entries, and its rank parts those before the value from the others.
 use Rattle.std.proofs.Common.{◌<◌, ◌+◌, ◌-◌, ◌∙◌, sym, inl, inr, arith}
 use Rattle.std.proofs.lemmas.Bool.{false≢true}
 use Rattle.su_index.specs.Chunks.{len_at}

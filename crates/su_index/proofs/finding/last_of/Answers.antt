@@ -1,3 +1,4 @@
+-- A chunk with a chunk behind it has entries, so its last one stands right before the first of the next chunk.
 use Rattle.std.proofs.Common.{◌≡◌, ◌<◌, ◌+◌, ◌-◌, ◌∙◌, ap, get_or, arith}
 use Rattle.su_index.specs.Chunks.{entries_of}
 use Rattle.su_index.specs.inside.Chunks.{before_chunk}

@@ -1,3 +1,4 @@
+-- The entries before the first place come before the value at position 0 and those from the other on come behind the value, so the ones between are those of the value.
 use Rattle.std.proofs.Common.{arith, length}
 use Rattle.su_index.specs.Chunks.{entries_of}
 use Rattle.su_index.specs.Entries.{positions}

@@ -1,3 +1,4 @@
+-- The positions of an index's run are those of the rows, so each has a mark and a rank.
 use Rattle.std.proofs.Common.{arith}
 use Rattle.su_index.proofs.keeping.kept_indexes.Goals as goal
 

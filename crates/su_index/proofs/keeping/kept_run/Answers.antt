@@ -1,3 +1,4 @@
+-- Each entry's position is below the number of marks, so it has a mark and a rank.
 use Rattle.std.proofs.Common.{arith, length}
 use Rattle.su_index.proofs.Entries.{position_within}
 use Rattle.su_index.proofs.keeping.kept_run.Goals as goal

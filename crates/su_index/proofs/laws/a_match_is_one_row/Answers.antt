@@ -1,3 +1,4 @@
+-- The k-th match is the row with the value and with k such rows before it.
 use Rattle.su_index.proofs.Matched.{match_unique}
 use Rattle.su_index.proofs.laws.a_match_is_one_row.Goals as goal
 

@@ -1,3 +1,4 @@
+-- Values are equal only where they are the same.
 use Rattle.su_index.proofs.Matched.{has_value-decides}
 use Rattle.su_index.proofs.laws.a_row_has_what_stands_in_it.Goals as goal
 

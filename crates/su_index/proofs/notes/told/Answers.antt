@@ -1,3 +1,4 @@
+-- What notes by fewer columns tell holds of the wider set too, since rows that agree in it agree in these.
 use Rattle.su_index.proofs.Digests.{Tells-more}
 use Rattle.su_index.proofs.notes.told.Goals as goal
 

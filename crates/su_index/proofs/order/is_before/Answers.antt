@@ -1,3 +1,4 @@
+-- Leads that differ are in the order of their values, and equal leads leave it to the values and positions, so either way the entry's order is told.
 use Rattle.std.proofs.Common.{◌≡◌, arith, sym, ◌∙◌}
 use Rattle.std.specs.Ordering.{nat_cmp}
 use Rattle.std.proofs.lemmas.Bool.Decides.{nat_tests}

@@ -1,3 +1,4 @@
+-- A binary search: the entries below `low` come before the value and none from `high` on does, as the order of the run carries the answer at the middle to one side.
 use Rattle.std.proofs.Common.{◌+◌, ◌-◌, ◌/◌, true, false, arith, length}
 use Rattle.su_index.specs.Entries.{positions}
 use Rattle.su_index.specs.Order.{value_at}

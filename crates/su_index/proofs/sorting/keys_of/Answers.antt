@@ -1,3 +1,4 @@
+-- Each key so far has its row's own value with its lead, and the positions so far from the start on stand there once each.
 use Rattle.std.proofs.Common.{◌≡◌, ◌++◌, ◌∷◌, [], arith, ap, length, refl}
 use Rattle.std.proofs.lemmas.List.{length_push}
 use Rattle.std.proofs.lemmas.List.Elements.{All-push}

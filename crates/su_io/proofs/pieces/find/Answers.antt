@@ -1,3 +1,4 @@
+-- The files so far have other names, so the name's contents are those in the files left.
 use Rattle.std.proofs.Common.{sym, ◌∙◌, arith, rules}
 use Rattle.su_io.proofs.FileContents.{front}
 use Rattle.su_io.proofs.pieces.find.Goals as goal

@@ -1,3 +1,4 @@
+-- Where no line feed is found every byte belongs to the line.
 use Rattle.std.proofs.Common.{sym, not, ◌==◌}
 use Rattle.su_lex.proofs.Runs.{none_other}
 use Rattle.su_lex.proofs.bytes.line_bytes.Goals as goal

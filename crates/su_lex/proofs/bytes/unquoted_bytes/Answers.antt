@@ -1,3 +1,4 @@
+-- Where no quote is found every byte stands before the first one.
 use Rattle.std.proofs.Common.{sym, not, ◌==◌}
 use Rattle.su_lex.proofs.Runs.{none_other}
 use Rattle.su_lex.proofs.bytes.unquoted_bytes.Goals as goal

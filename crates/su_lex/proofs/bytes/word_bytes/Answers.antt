@@ -1,3 +1,4 @@
+-- Where no other byte is found every byte is a letter, a digit or `_`.
 use Rattle.std.proofs.Common.{sym}
 use Rattle.su_base.specs.Name.{is_letter_or_digit}
 use Rattle.su_lex.proofs.Runs.{none_other}

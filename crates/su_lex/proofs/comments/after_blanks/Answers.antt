@@ -1,3 +1,4 @@
+-- Whatever gap begins at the rest extends to one from the text's front, since a space and a comment each lengthen it; the empty gap at the end gives the whole.
 use Rattle.std.proofs.Common.{arith, refl, sym}
 use Rattle.su_lex.specs.Blanks as b
 use Rattle.su_lex.proofs.Gaps.{space_step, behind_within}

@@ -1,3 +1,4 @@
+-- A comment is its two signs and all that stands before the line feed behind them.
 use Rattle.std.proofs.lemmas.List.{take_rest}
 use Rattle.su_lex.proofs.Gaps.{comment_at}
 use Rattle.su_lex.proofs.comments.after_comment.Goals as goal

@@ -1,3 +1,4 @@
+-- Whatever parts lead on from the rest lead there from the front too, since a quoted text, a comment and a plain byte each are one part; none are needed at the end.
 use Rattle.std.proofs.Common.{refl, sym, arith}
 use Rattle.su_lex.specs.Pieces as p
 use Rattle.su_lex.proofs.Gaps.{behind_within}

@@ -1,3 +1,4 @@
+-- A quoted part is its first quote, the bytes before the next one, and that quote; where no quote follows, it takes the whole rest.
 use Rattle.std.proofs.Common.{drop, arith, List, ℕ, subst, ◌∷◌}
 use Rattle.std.proofs.lemmas.List.{take_rest, nil_from_length}
 use Rattle.su_lex.specs.Pieces.{Part}

@@ -1,3 +1,4 @@
+-- A piece is blank exactly where the gap at its front reaches its end, so what is left behind that gap is no longer than what is left behind the piece.
 use Rattle.std.proofs.Common.{◌<◌, ◌≤◌, length, arith}
 use Rattle.su_lex.proofs.Gaps.{IsSolid}
 use Rattle.su_lex.proofs.Cuts.{blank_piece, no_blank_piece, parts_within}

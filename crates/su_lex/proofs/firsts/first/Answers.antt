@@ -1,3 +1,4 @@
+-- A sign found at the front is a token of its own length.
 use Rattle.std.proofs.Common.{sym}
 use Rattle.su_lex.proofs.Fronts.{sign_found}
 use Rattle.su_lex.proofs.firsts.first.Goals as goal

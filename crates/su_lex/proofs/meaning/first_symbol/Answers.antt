@@ -1,3 +1,4 @@
+-- The bytes of the first token are the front that it takes; where it is a word these bytes are one, so that what the token says is the first symbol.
 use Rattle.std.proofs.Common.{◌≡◌, ap, sym, ◌∙◌, subst, take}
 use Rattle.std.proofs.lemmas.List.{take_at}
 use Rattle.su_base.specs.Name.{IsWord}

@@ -1,3 +1,4 @@
+-- A token that begins as a number is a numeral up to its last letter or digit; so a letter in it, or a value out of range, shows that the text has no first token.
 use Rattle.std.proofs.Common.{sym}
 use Rattle.std.proofs.lemmas.List.{take_rest}
 use Rattle.std.proofs.lemmas.Int.{to_z-of_z}

@@ -1,3 +1,4 @@
+-- A numeral is ASCII and one that the library reads too, so a refusal of the library can only mean that the value is out of range.
 use Rattle.std.proofs.Common.{ℕ, List, sym, subst}
 use Rattle.std.specs.Int.{w64}
 use Rattle.std.specs.Int.RustNames.{FitsSigned}

@@ -1,3 +1,4 @@
+-- The text is a quote, the content so far with its quotes doubled, and the rest; a lone quote closes it, so it is a token, and one that never closes is none.
 use Rattle.std.proofs.Common.{◌≡◌, ◌-◌, ◌+◌, Err, sym, ap, arith, length, length-append, drop}
 use Rattle.std.proofs.lemmas.List.{take_rest}
 use Rattle.std.proofs.lemmas.Result.{err_from_is_err_and}

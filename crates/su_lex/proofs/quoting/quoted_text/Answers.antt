@@ -1,3 +1,4 @@
+-- Bytes without a quote are their own doubled form, so the quote behind them closes the text; two quotes leave the case to the slow way, and no quote means no token.
 use Rattle.std.proofs.Common.{◌≡◌, ◌+◌, Err, refl, sym, ap, arith, length, length-drop, take, drop}
 use Rattle.std.proofs.lemmas.List.{take_rest}
 use Rattle.std.proofs.lemmas.Result.{err_from_is_err_and}

@@ -1,3 +1,4 @@
+-- What was written is the quote and the doubled bytes so far, which are a front of the quoted text, so that a refusal leaves a front behind.
 use Rattle.std.proofs.Common.{◌∙◌}
 use Rattle.std.proofs.lemmas.Result.{err_from_is_err_and, on_err_weaker}
 use Rattle.su_lex.proofs.Printed.{quoted_more, quoted_front}

@@ -1,3 +1,4 @@
+-- What was written is the spaced form of the symbols so far, with whether the last one opens; so a refusal at the space or within the next symbol leaves a front of the whole.
 use Rattle.std.proofs.lemmas.Result.{err_from_is_err_and}
 use Rattle.su_lex.proofs.Printed.{one_behind, spaced_front, symbol_front}
 use Rattle.su_lex.proofs.spelling.push_spaced.Goals as goal

@@ -1,3 +1,4 @@
+-- A word reaches as far as letters and digits do, so one of more than 64 bytes is no token and leaves the text without a first one.
 use Rattle.std.proofs.Common.{arith, ◌<◌, ◌≤◌}
 use Rattle.std.specs.List.{prefix_len}
 use Rattle.su_base.specs.Name.{is_letter_or_digit}

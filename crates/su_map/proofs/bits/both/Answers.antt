@@ -1,3 +1,4 @@
+-- A bit of the conjunction is set where the bits of both are.
 use Rattle.su_map.proofs.Members.{and_both}
 use Rattle.su_map.proofs.bits.both.Goals as goal
 

@@ -1,3 +1,4 @@
+-- A number that has bit i alone changes no bit but i, and sets that.
 use Rattle.su_map.proofs.Members.{with_same, with_member}
 use Rattle.su_map.proofs.bits.with.Goals as goal
 

@@ -1,3 +1,4 @@
+-- The complement of bit i alone clears that bit and keeps the others below 64.
 use Rattle.su_map.proofs.Members.{without_same, without_out}
 use Rattle.su_map.proofs.bits.without.Goals as goal
 

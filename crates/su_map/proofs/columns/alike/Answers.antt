@@ -1,3 +1,4 @@
+-- The set so far has the members below the next that hold one symbol at both columns; a column is like itself at every target, so there only the rows bound the set.
 use Rattle.std.proofs.Common.{◌≡◌, ◌+◌, ◌^◌, length, get_or, sym, ap, ◌∙◌, ℕ, true≢false, arith}
 use Rattle.std.specs.Int.{bit_at}
 use Rattle.su_map.specs.Lists.{row_of}

@@ -1,3 +1,4 @@
+-- A constant fits the same constant and a variable fits what the target has at its first cell; so a cell is judged by one comparison.
 use Rattle.std.proofs.Common.{[], sym, ◌∙◌, arith}
 use Rattle.su_tableau.specs.declared.symbols.Sym.TheVariants.{Const, Var}
 use Rattle.su_map.proofs.Cells.{cell_read, line_holds, const_fits, alike_fits}

@@ -1,3 +1,4 @@
+-- No cell before this one holds the variable, so the first one that is met is the first column that has it.
 use Rattle.std.proofs.Common.{◌∙◌, ap}
 use Rattle.su_tableau.specs.declared.symbols.Sym.TheVariants.{Var}
 use Rattle.su_map.proofs.Cells.{cell_read}

@@ -1,3 +1,4 @@
+-- The set so far has exactly the members below the next whose row holds the symbol at the column, and each row adds itself or nothing.
 use Rattle.std.proofs.Common.{◌≡◌, ℕ, sym, ap, ◌∙◌, true≢false, arith}
 use Rattle.std.specs.Int.{bit_at}
 use Rattle.su_map.specs.inside.Targets.{HoldsAt}

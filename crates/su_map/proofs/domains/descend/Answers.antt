@@ -1,3 +1,4 @@
+-- Propagating keeps every choice and only shrinks domains, so what was assigned stays so, and a choice that sends the row to the target would be left at the end.
 use Rattle.std.proofs.Common.{◌≡◌, ◌∙◌, ℕ, length, sym, subst}
 use Rattle.su_map.specs.inside.Choices.{IsChoice, Shrinks}
 use Rattle.su_map.proofs.ShrunkDomains.{assigned_then}

@@ -1,3 +1,4 @@
+-- A number other than the row is in the new set exactly where it was in the old one.
 use Rattle.std.proofs.Common.{◌≡◌, ◌≢◌, ◌∙◌, inl, inr, sym, ⊎_elim}
 use Rattle.std.proofs.lemmas.Bool.{cases_eq}
 use Rattle.su_map.proofs.domains.noted.Goals as goal

@@ -1,3 +1,4 @@
+-- Each row that is near keeps the targets that agree with one in the row's domain; a choice sends both to targets that agree, so it keeps its own, and an empty set leaves no choice.
 use Rattle.std.proofs.Common.{◌≡◌, ◌∙◌, ℕ, length, sym, ap, arith}
 use Rattle.std.specs.Int.{bit_at}
 use Rattle.su_map.specs.inside.Choices.{IsChoice}

@@ -1,3 +1,4 @@
+-- A row list says where each row goes, and so where each symbol does.
 use Rattle.su_map.proofs.Containment.{list_maps, maps_list}
 use Rattle.su_map.proofs.laws.row_lists_are_mappings.Goals as goal
 

@@ -1,3 +1,4 @@
+-- The entries so far are copied, and writing the next leaves them.
 use Rattle.std.proofs.Common.{◌≡◌, refl, get_or, arith}
 use Rattle.su_map.proofs.Members.{set_entries}
 use Rattle.su_map.proofs.nets.copy_targets.Goals as goal

@@ -1,3 +1,4 @@
+-- A mapping sends the head to the head and each masked row to a target of its own; so a head that doesn't fit or a row without a target shows that there is none.
 use Rattle.std.proofs.Common.{◌∙◌, sym, true≢false}
 use Rattle.su_map.proofs.RowTargets.{heads_are, mapping_head, mapping_target}
 use Rattle.su_map.proofs.nets.fill_own.Goals as goal

@@ -1,3 +1,4 @@
+-- The domains begin as the rows' own targets, so a sending by these is one within the domains, and where narrowing leaves none there is none.
 use Rattle.std.proofs.Common.{arith}
 use Rattle.su_map.proofs.Sendings.{rows_copied, sending_copied}
 use Rattle.su_map.proofs.nets.fill_pairs.Goals as goal

@@ -1,3 +1,4 @@
+-- A mapping of the rows of one tableau into those of the other shows containment, and the certificate holds these tableaux and this list.
 use Rattle.std.proofs.Common.{◌≡◌, sym, subst, rules}
 use Rattle.su_tableau.specs.Parts.{part}
 use Rattle.su_tableau.specs.Equivalent.{IsWithin}

@@ -1,3 +1,4 @@
+-- A list that is a mapping refutes that there is none, so false says this.
 use Rattle.su_map.proofs.FoundMappings.{none_iff}
 use Rattle.su_map.proofs.rooms.exists_prepared.Goals as goal
 

@@ -1,3 +1,4 @@
+-- Where the net can't be filled there is no mapping, and else the search tells; a mapping exists exactly where the other tableau is contained.
 use Rattle.std.proofs.Common.{true≢false, sym, ◌∙◌}
 use Rattle.su_map.proofs.FoundMappings.{none_iff}
 use Rattle.su_map.proofs.Containment.{tells_within}

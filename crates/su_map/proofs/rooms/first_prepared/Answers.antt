@@ -1,3 +1,4 @@
+-- A first list is a mapping, so the search says none only if there is none.
 use Rattle.su_map.proofs.FoundMappings.{none_iff}
 use Rattle.su_map.proofs.rooms.first_prepared.Goals as goal
 

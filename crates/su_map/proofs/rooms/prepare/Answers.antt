@@ -1,3 +1,4 @@
+-- A room for so many rows has room for fewer, in its net as in its notes, so the tableau's own number of rows fits.
 use Rattle.std.proofs.Common.{◌≤◌, length, ap, arith}
 use Rattle.su_map.specs.Rooms.{Space}
 use Rattle.su_map.proofs.ShrunkDomains.{less_room}

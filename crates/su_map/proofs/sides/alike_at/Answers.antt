@@ -1,3 +1,4 @@
+-- The rows that hold the symbol at the column are among those noted at it; where no other is, the row is the only one, and else each of them is compared.
 use Rattle.std.proofs.Common.{◌∙◌, sym, arith}
 use Rattle.su_map.proofs.Cells.{read_holds}
 use Rattle.su_map.proofs.NotedRows.{only_one}

@@ -1,3 +1,4 @@
+-- The entries of the columns so far tell which rows are alike there, and filling a column leaves those of the columns before it as they are.
 use Rattle.std.proofs.Common.{◌≡◌, ◌+◌, ◌*◌, ◌<◌, ◌↔◌, length, get_or, sym, subst, arith}
 use borrow.Author.Count.{below_more}
 use Rattle.std.specs.Int.{bit_at}

@@ -1,3 +1,4 @@
+-- There is a place for each variable, since their count is no more than the places, and all rows are in the mask; so each is noted at its variables.
 use Rattle.std.proofs.Common.{◌^◌, ◌∙◌, length, ap, sym, subst, arith}
 use Rattle.su_tableau.specs.Tableaux.{AreVarsBelow}
 use Rattle.su_map.proofs.Members.{full_member}

@@ -1,3 +1,4 @@
+-- A row that holds the same variable was noted at it, so it is in the set read there; without notes the set of all rows will do.
 use Rattle.std.proofs.Common.{◌^◌, ◌∙◌, [], length, ap, arith}
 use Rattle.su_map.proofs.Cells.{read_holds}
 use Rattle.su_map.proofs.Members.{full_member}

@@ -1,3 +1,4 @@
+-- A row with one target is sent there by every sending, so what the near rows keep beside that target they keep in every sending.
 use Rattle.su_map.proofs.singles.leave_by.Goals as goal
 
 pub leave_near-requires-clause-target : goal.leave_near-requires-clause-target

@@ -1,3 +1,4 @@
+-- Without its least member the set is empty, so another member would be left in it.
 use Rattle.std.proofs.Common.{◌≡◌, ◌≢◌, ◌∙◌, ⊎_elim}
 use Rattle.std.proofs.lemmas.Bool.{cases_eq}
 use Rattle.su_map.proofs.Members.{no_member}

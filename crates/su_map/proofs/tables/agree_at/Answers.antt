@@ -1,3 +1,4 @@
+-- The entries of the targets so far are cut down to what agrees at the column and the later ones are as they were; where no column is shared nothing is to be cut.
 use Rattle.std.proofs.Common.{◌≡◌, ◌+◌, ◌∙◌, ℕ, get_or, sym, ap, subst, true≢false, arith, get_or-set_other, get_or-set_same}
 use borrow.Author.Count.{below_more}
 use Rattle.std.specs.Int.{bit_at}

@@ -1,3 +1,4 @@
+-- What is left so far agrees with the target at the columns so far, of which each cuts down the set by its own column; after all it agrees in all that is shared.
 use Rattle.std.proofs.Common.{arith}
 use Rattle.su_map.proofs.AgreementTable.{told_none, told_next, told_all}
 use Rattle.su_map.proofs.tables.agreeing.Goals as goal

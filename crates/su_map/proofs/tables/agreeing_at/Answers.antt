@@ -1,3 +1,4 @@
+-- The targets that hold at the column what the target holds at the shared one: the table has them where the columns are the same, and else they are looked for.
 use Rattle.std.proofs.Common.{◌∙◌, get_or, sym, ap, arith}
 use Rattle.su_map.specs.Lists.{row_of}
 use Rattle.su_map.proofs.Cells.{read_holds, same_some}

@@ -1,3 +1,4 @@
+-- Each row's entry so far has the rows noted at its variables, and a row that shares a variable with it was noted there; so the entry has all rows that are near.
 use Rattle.std.proofs.Common.{◌≡◌, ◌≢◌, ℕ, get_or, Contains, arith}
 use Rattle.std.specs.Int.{bit_at}
 use Rattle.su_tableau.specs.declared.symbols.Sym.TheVariants.{Var}

@@ -1,3 +1,4 @@
+-- For each target the entry is what agrees with it at the columns so far: at none it is all of the others, and each column cuts down every entry alike.
 use Rattle.std.proofs.Common.{◌+◌, ◌∙◌, get_or, sym, subst, arith}
 use Rattle.su_map.proofs.AgreementTable.{AreToldTo, told_none, told_next, told_all}
 use Rattle.su_map.proofs.tables.fill_pair.Goals as goal

@@ -1,3 +1,4 @@
+-- For each cell so far the column told is one of its variable in the other row, and none is told only where its variable isn't there or is the head's.
 use Rattle.std.proofs.Common.{◌≡◌, ◌∙◌, ℕ, subst, Option, Some, None, Contains, arith}
 use Rattle.std.specs.Option.{IfSome}
 use Rattle.su_tableau.specs.declared.symbols.Sym.TheVariants.{Var}

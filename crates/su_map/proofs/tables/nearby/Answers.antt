@@ -1,3 +1,4 @@
+-- A masked row's variables are below the count, and the rows noted at those outside the head are what is near; for another row nothing is asked.
 use Rattle.std.proofs.Common.{[], sym, subst, Contains}
 use Rattle.su_tableau.specs.declared.symbols.Sym.TheVariants.{Var}
 use Rattle.su_map.proofs.tables.nearby.Goals as goal

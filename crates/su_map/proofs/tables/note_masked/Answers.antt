@@ -1,3 +1,4 @@
+-- A row outside the mask has nothing to be noted, and a masked one is noted at each variable that it has, all of which have their places.
 use Rattle.std.proofs.Common.{[], ◌∙◌, sym, subst, Contains, true≢false}
 use Rattle.su_tableau.specs.declared.symbols.Sym.TheVariants.{Var}
 use Rattle.su_map.specs.inside.Targets.{IsPlain}

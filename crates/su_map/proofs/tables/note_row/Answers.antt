@@ -1,3 +1,4 @@
+-- What was noted stays, and the row is noted at the variables of its cells so far; no repetition so far means that no two of these cells have one variable.
 use Rattle.std.proofs.Common.{arith}
 use Rattle.su_tableau.specs.declared.symbols.Sym.TheVariants.{Var}
 use Rattle.su_tableau.proofs.Rows.{contains_read}

@@ -1,3 +1,4 @@
+-- Where no member but the row itself is left, no other row was noted at the variable.
 use Rattle.std.proofs.Common.{◌∙◌, sym}
 use Rattle.su_map.proofs.Members.{no_member}
 use Rattle.su_map.proofs.tables.rows_besides.Goals as goal

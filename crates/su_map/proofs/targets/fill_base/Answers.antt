@@ -1,3 +1,4 @@
+-- The entries so far are the targets of their rows in the mask; a masked row of which the set is empty has no target.
 use Rattle.std.proofs.Common.{◌≡◌, ◌<◌, ◌↔◌, ℕ, length, get_or, sym, ◌∙◌, subst, true≢false, arith}
 use borrow.Author.Count.{below_more}
 use Rattle.std.specs.Int.{bit_at}

@@ -1,3 +1,4 @@
+-- The union so far is that of the members among the objects so far, and each object adds its attributes where it is a member.
 use Rattle.std.proofs.Common.{sym, ap, ◌∙◌, arith}
 use Rattle.std.specs.FinSet.{union}
 use Rattle.su_maxobj.proofs.Members.{below_added, below_kept, below_none, below_all, object_at_read}

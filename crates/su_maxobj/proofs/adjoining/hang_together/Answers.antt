@@ -1,3 +1,4 @@
+-- Sets that share nothing don't hang together, and others do exactly where no objects lead from one to the other outside the closure of what they share.
 use Rattle.std.proofs.Common.{sym, refl, ◌∙◌}
 use Rattle.std.proofs.lemmas.Bool.{false≢true}
 use Rattle.su_maxobj.proofs.Together.{not_sharing, hang_by}

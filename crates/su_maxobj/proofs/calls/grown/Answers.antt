@@ -1,3 +1,4 @@
+-- The dependencies and objects read are those of the schema, of which a seed has one growth.
 use Rattle.su_maxobj.proofs.calls.grown.Goals as goal
 
 pub returns-clause-only : goal.returns-clause-only

@@ -1,3 +1,4 @@
+-- At most 64 sets are declared and at most 64 objects are seeds, of which each gives at most one more, so the list has no more than 128.
 use Rattle.std.proofs.Common.{◌≡◌, ◌≤◌, ◌++◌, length, ap, arith}
 use Rattle.std.proofs.lemmas.Result.{IfOk-weaker}
 use Rattle.std.proofs.lemmas.List.{length-map}

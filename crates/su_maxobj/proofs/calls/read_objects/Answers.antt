@@ -1,3 +1,4 @@
+-- The sets written so far are those of the objects so far, and with as many written as there are objects the front of the array has them all.
 use Rattle.std.proofs.Common.{◌≡◌, ◌≤◌, refl, length, take, sym, ap, ◌∙◌, arith}
 use Rattle.std.proofs.lemmas.List.{take_all, length-map}
 use Rattle.su_schema.specs.Entries.{attributes_of}

@@ -1,3 +1,4 @@
+-- None of the objects so far may join, whether it was ruled out before or tried now; so one that may is the first, and at the end the set is full.
 use Rattle.std.proofs.Common.{below_more, refl, sym, arith}
 use Rattle.std.proofs.lemmas.Bool.{false≢true}
 use Rattle.su_maxobj.specs.AdjoinableObjects.{Adjoinable}

@@ -1,3 +1,4 @@
+-- The set comes from the seed by first adjoinable objects, and an object ruled out stays so while what joins shares nothing new with it; each step leaves fewer objects outside.
 use Rattle.std.proofs.Common.{◌++◌, [], ◌∷◌, length, ap, sym, ◌∙◌}
 use Rattle.std.proofs.lemmas.Bool.{false_from_ne_true}
 use Rattle.std.specs.FinSet.{insert}

@@ -1,3 +1,4 @@
+-- The kept ones so far are ruled out, and share with what is added nothing beyond what the members have already.
 use Rattle.std.proofs.Common.{sym, ap, ◌∙◌}
 use Rattle.std.specs.FinSet.{is_subset}
 use Rattle.su_maxobj.proofs.Members.{unmoved_none, unmoved_push, object_at_read}

@@ -1,3 +1,4 @@
+-- The sets so far are what the seeds so far grow to, each at its seed's place, and one more comes at the end.
 use Rattle.std.proofs.Common.{length-append, arith}
 use Rattle.su_maxobj.proofs.Listed.{grown_push}
 use Rattle.su_maxobj.proofs.listing.grown_by.Goals as goal

@@ -1,3 +1,4 @@
+-- Dependencies in another order have the same closures, and so the same growths.
 use Rattle.su_maxobj.proofs.OtherOrder.{grown_by_others}
 use Rattle.su_maxobj.proofs.listing.grown_sets.Goals as goal
 

@@ -1,3 +1,4 @@
+-- The list so far is the declared sets and then those of the seeds so far that are listed; each seed adds what it grows to, or nothing.
 use Rattle.std.proofs.Common.{sym, ◌∙◌}
 use Rattle.su_maxobj.proofs.Listed.{listed_push, listed_skip}
 use Rattle.su_maxobj.proofs.listing.listed_sets.Goals as goal

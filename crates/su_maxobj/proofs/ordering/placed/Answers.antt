@@ -1,3 +1,4 @@
+-- What is listed is among the dependencies, and one that doesn't wait any more is listed; so when none waits the list has the same members.
 use Rattle.std.proofs.Common.{◌∙◌}
 use Rattle.std.proofs.lemmas.List.{length-set}
 use Rattle.su_maxobj.proofs.OtherOrder.{place_less, place_from, place_all}

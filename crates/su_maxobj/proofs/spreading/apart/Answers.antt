@@ -1,3 +1,4 @@
+-- What is reached comes from p by objects that share something outside x; one that shares so with q leads there, and a pass that adds nothing shows that none does.
 use Rattle.std.proofs.Common.{sym, inl, inr, refl, ◌∙◌}
 use Rattle.std.proofs.lemmas.Bool.{false≢true}
 use Rattle.su_base.proofs.Subsets.{subset_refl, subset_trans}

@@ -1,3 +1,4 @@
+-- Lists of operators are equal as the test of their members says.
 use Rattle.su_min.proofs.Likeness.{ops_eq-Decides}
 use Rattle.su_min.proofs.alike.are_same.Goals as goal
 

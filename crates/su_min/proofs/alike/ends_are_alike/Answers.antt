@@ -1,3 +1,4 @@
+-- The symbols so far are alike from the place on; lists of one length are alike exactly where each pair of symbols is, and a pair that isn't tells them apart.
 use Rattle.std.proofs.Common.{◌∙◌, refl, sym, ap, arith, true≢false}
 use Rattle.std.proofs.lemmas.List.{get_or_default}
 use Rattle.su_min.specs.inside.Constants.{with_one_variable}

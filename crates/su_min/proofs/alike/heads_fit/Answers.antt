@@ -1,3 +1,4 @@
+-- A mapping sends each symbol of the head to the one at its place, so a pair that can't go refutes it.
 use Rattle.su_min.proofs.Likeness.{head_at}
 use Rattle.su_min.proofs.alike.heads_fit.Goals as goal
 

@@ -1,3 +1,4 @@
+-- A tableau with the same answers passes through rows that the whole maps into; none are fewer.
 use Rattle.su_min.proofs.Least.{kept_least_part}
 use Rattle.su_min.proofs.laws.kept_rows_are_least.Goals as goal
 

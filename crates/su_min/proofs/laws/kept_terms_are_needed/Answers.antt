@@ -1,3 +1,4 @@
+-- A term that gives a kept one's frozen head covers it, and no other kept term does that.
 use Rattle.su_min.proofs.Spared.{needed}
 use Rattle.su_min.proofs.laws.kept_terms_are_needed.Goals as goal
 

@@ -1,3 +1,4 @@
+-- Both tests are asked one after the other, so both hold where the answer is yes.
 use Rattle.std.proofs.Common.{◌≡◌, ◌∙◌, true, sym, rules}
 use Rattle.su_min.proofs.matrix.is_through.Goals as goal
 

@@ -1,3 +1,4 @@
+-- The entries so far tell whether the term covers their terms; covers compose, so an entry known from the first term needs no search.
 use Rattle.std.proofs.Common.{◌≡◌, ◌<◌, ◌↔◌, ◌∙◌, true, [], ◌∷◌, length, true≢false, ap, sym, subst, arith}
 use Rattle.std.proofs.lemmas.List.{length-append}
 use Rattle.su_min.specs.Kept.{IsMinimised}

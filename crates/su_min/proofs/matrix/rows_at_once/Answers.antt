@@ -1,3 +1,4 @@
+-- The marks are the row of the first term, so what they tell is known; each thread makes the row of its own number, and the collected rows are the matrix.
 use Rattle.std.proofs.Common.{◌≡◌, ◌<◌, ◌-◌, ◌∙◌, ℕ, Bool, List, Result, ap, length, subst, sym, arith}
 use Rattle.std.specs.Prelude.{IfOk}
 use Rattle.std.specs.List.{AllZip, range_with_len}

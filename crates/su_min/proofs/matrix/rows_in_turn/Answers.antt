@@ -1,3 +1,4 @@
+-- The rows so far are those of their terms, and the first term's row, which knows of no marks, is what the marks of the others rest on.
 use Rattle.std.proofs.Common.{◌∙◌, [], ◌∷◌, length, ap, subst, sym, arith}
 use Rattle.std.proofs.lemmas.List.{length-append}
 use Rattle.su_min.specs.inside.Matrix.{AreKnown}

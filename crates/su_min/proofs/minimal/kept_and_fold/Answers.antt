@@ -1,3 +1,4 @@
+-- The net filled for all rows serves for fewer targets, and a fold of all rows into the kept ones is among its mappings; so the first one found is the fold.
 use Rattle.std.proofs.Common.{◌^◌, ◌∙◌, sym, ap, subst, arith}
 use Rattle.su_map.specs.Nets.{IsNet}
 use Rattle.su_min.specs.Kept.{IsFold}

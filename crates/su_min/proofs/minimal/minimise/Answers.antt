@@ -1,3 +1,4 @@
+-- The kept rows can't be mapped into fewer, so no tableau with the same answers has fewer rows.
 use Rattle.su_min.proofs.Least.{kept_least_part}
 use Rattle.su_min.proofs.minimal.minimise.Goals as goal
 

@@ -1,3 +1,4 @@
+-- A mark pushed for each term, so the marks tell which are dropped.
 use Rattle.std.proofs.Common.{length}
 use Rattle.su_min.specs.inside.Matrix.{entry, IsDroppedIn}
 use Rattle.su_min.proofs.MatrixRows.{marks_more}

@@ -1,3 +1,4 @@
+-- No kept term so far covers the term, and since covering is a preorder some kept term does; so the search ends at one, and that is the first.
 use Rattle.std.proofs.Common.{◌≡◌, ◌∙◌, length, get_or, true, false, below_more, true≢false, rules, sym, arith}
 use Rattle.su_min.specs.inside.Matrix.{entry, IsDroppedIn}
 use Rattle.su_min.proofs.KeptCovers.{has_cover}

@@ -1,3 +1,4 @@
+-- A cover is alike and its head goes to the other head, so a pair that fails either is no cover; for the others a mapping of the kept rows decides.
 use Rattle.std.proofs.Common.{◌∙◌, length, true≢false, sym, ap, subst, arith}
 use Rattle.su_tableau.specs.Mapping.{images_of}
 use Rattle.su_min.specs.Cover.{AreAlike}

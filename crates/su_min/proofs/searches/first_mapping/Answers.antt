@@ -1,3 +1,4 @@
+-- The one covers the other, so a mapping exists and the search finds the first one; the room for all the terms has room for each of them.
 use Rattle.std.proofs.Common.{◌∙◌, sym, ap, subst}
 use Rattle.su_map.specs.Lists.{IsMapping, IsFirst}
 use Rattle.su_map.specs.Rooms.{IsRoomFor}

@@ -1,3 +1,4 @@
+-- Of terms that are alike one covers the other exactly where its kept rows have a mapping, and the room for all terms has room for this one.
 use Rattle.std.proofs.Common.{sym, subst}
 use Rattle.su_map.specs.Rooms.{IsRoomFor}
 use Rattle.su_min.proofs.Rooming.{room_of_one}

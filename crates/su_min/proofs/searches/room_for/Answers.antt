@@ -1,3 +1,4 @@
+-- The greatest counts of rows and symbols so far are enough for the terms so far, so a room of the greatest of all is one for each.
 use Rattle.std.proofs.Common.{◌∙◌, length, ap, subst, arith}
 use Rattle.su_base.proofs.Numbers.{ord_max-numbers}
 use Rattle.su_tableau.specs.Tableaux.{AreVarsBelow}

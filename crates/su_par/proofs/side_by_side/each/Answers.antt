@@ -1,3 +1,4 @@
+-- Each place has its job, the run gives it an out that the job may give, and what is taken out at the end is that; three relations along the list make one.
 use Rattle.std.proofs.Common.{◌≡◌, Some, arith, length}
 use Rattle.std.proofs.lemmas.Result.{IfOk-weaker}
 use Rattle.std.proofs.Math.Seq.{take-append_seam}

@@ -1,3 +1,4 @@
+-- The outs so far are those that the places so far have, in order.
 use Rattle.std.proofs.Common.{◌≡◌, Some}
 use Rattle.su_base.proofs.Items.{AllZip-push}
 use Rattle.su_par.proofs.side_by_side.outs.Goals as goal

@@ -1,3 +1,4 @@
+-- The places so far have the jobs so far, in order.
 use Rattle.std.proofs.Common.{◌≡◌, Some, refl}
 use Rattle.su_base.proofs.Items.{AllZip-push}
 use Rattle.su_par.proofs.side_by_side.places.Goals as goal

@@ -1,3 +1,4 @@
+-- Each place is run by one thread by itself, so that it holds for each pair of places holds along the list.
 use Rattle.std.proofs.Common.{◌≡◌, Some, IfSome, subst}
 use Rattle.su_par.specs.declared.side_by_side.JobSlot.{JobSlot}
 use Rattle.su_par.proofs.Zips.{zip-each}

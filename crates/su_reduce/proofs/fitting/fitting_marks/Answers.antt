@@ -1,3 +1,4 @@
+-- Each edge so far has as many marks as candidates, and each of them tells whether the candidate fits; one list more leaves those before it at their places.
 use Rattle.std.proofs.Common.{◌≡◌, ◌↔◌, ◌<◌, ℕ, Bool, IsTrue, List, [], length, subst}
 use Rattle.su_reduce.specs.declared.edges.Edge.{Edge}
 use Rattle.su_reduce.specs.Left.{cells_at, candidates_at}

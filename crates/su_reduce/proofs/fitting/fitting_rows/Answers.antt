@@ -1,3 +1,4 @@
+-- Each mark so far tells whether its candidate fits the edge's cells, and pushing one more leaves those before it at their places.
 use Rattle.std.proofs.Common.{◌↔◌, ℕ, Bool, false, IsTrue}
 use Rattle.su_reduce.specs.Shapes.{Fits}
 use Rattle.su_reduce.specs.inside.Marks.{row_at}

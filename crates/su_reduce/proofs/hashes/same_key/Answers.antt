@@ -1,3 +1,4 @@
+-- The keys agree at the places so far; lists of one length that agree at every place are equal, and a place where the codes differ tells them apart.
 use Rattle.std.proofs.Common.{refl, sym}
 use Rattle.std.proofs.lemmas.Bool.{true≢false}
 use Rattle.su_reduce.proofs.Buckets.{keys_same, keys_differ}

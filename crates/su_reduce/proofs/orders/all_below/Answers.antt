@@ -1,3 +1,4 @@
+-- The set has exactly the numbers below the next.
 use Rattle.std.proofs.Common.{arith}
 use Rattle.su_reduce.proofs.MeetingSets.{empty_in, below_next}
 use Rattle.su_reduce.proofs.orders.all_below.Goals as goal

@@ -1,3 +1,4 @@
+-- No edge so far is an ear among those left, as none of them could be its parent; so where the edges end without one there is no ear.
 use Rattle.std.proofs.Common.{ℕ, ◌<◌, List, [], length, get_or, true≢false, sym, subst, ◌∙◌, arith}
 use Rattle.std.specs.Ordering.{nat_cmp}
 use Rattle.std.specs.FinSet.{FinSet}

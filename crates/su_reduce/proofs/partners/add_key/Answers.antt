@@ -1,3 +1,4 @@
+-- A marked row's key is one of the keys after it, new or had before, and a row that isn't marked adds none.
 use Rattle.std.proofs.Common.{◌≡◌, ◌∙◌, [], get_or, ap}
 use Rattle.su_reduce.specs.Sheets.{pick}
 use Rattle.su_reduce.proofs.Partnered.{keys_more, keys_same}

@@ -1,3 +1,4 @@
+-- The key that is looked up is the picked cells of the row, so the row has a partner exactly where it is marked and the keys have it.
 use Rattle.std.proofs.Common.{◌≡◌, ◌∙◌, [], get_or, ap, sym, subst}
 use Rattle.su_reduce.specs.Sheets.{pick}
 use Rattle.su_reduce.specs.inside.Partnered.{HasKey}

@@ -1,3 +1,4 @@
+-- A key of one place is a single code, so the codes marked are the keys, and keys of more places are kept as rows.
 use Rattle.std.proofs.Common.{length}
 use Rattle.su_reduce.proofs.Partnered.{codes_are_keys}
 use Rattle.su_reduce.proofs.partners.keys_of.Goals as goal

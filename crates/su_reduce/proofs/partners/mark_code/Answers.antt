@@ -1,3 +1,4 @@
+-- A key of one place picks one code, so marking the code adds the key of the row, where that is marked.
 use Rattle.std.proofs.Common.{◌≡◌, ◌<◌, ◌∙◌, ℕ, [], ◌∷◌, length, get_or, ap, sym, subst}
 use Rattle.su_reduce.specs.Sheets.{pick}
 use Rattle.su_reduce.proofs.Partnered.{codes_more, picked_one}

@@ -1,3 +1,4 @@
+-- Each mark so far tells whether its row was marked and has one of the keys; a mark more leaves those before it at their places.
 use Rattle.std.proofs.Common.{◌↔◌, ℕ, Bool, [], false, IsTrue, get_or, arith}
 use Rattle.su_reduce.specs.Sheets.{pick}
 use Rattle.su_reduce.specs.inside.Partnered.{HasKey}

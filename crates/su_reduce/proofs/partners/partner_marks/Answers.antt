@@ -1,3 +1,4 @@
+-- A left row is kept where it is marked and its key is among the keys of the right side, which are those of its marked rows.
 use Rattle.std.proofs.Common.{[], get_or}
 use Rattle.su_reduce.specs.Sheets.{pick}
 use Rattle.su_reduce.proofs.partners.partner_marks.Goals as goal

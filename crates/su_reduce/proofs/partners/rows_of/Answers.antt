@@ -1,3 +1,4 @@
+-- The keys so far are those of the marked rows before this one: none at the start, and each row adds its own.
 use Rattle.std.proofs.Common.{◌≡◌, ◌∙◌, ℕ, length, subst, arith, rules}
 use Rattle.su_reduce.specs.inside.Partnered.{AreKeys}
 use Rattle.su_reduce.proofs.Partnered.{no_keys}

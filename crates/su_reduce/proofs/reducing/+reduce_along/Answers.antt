@@ -1,3 +1,4 @@
+-- What an ear shares with the edges behind it, its parent has; so the parent is joined with it, the edges behind are reduced, and the ear is joined with what its parent has left.
 use Rattle.std.proofs.Common.{◌≡◌, ◌-◌, List, take, drop, length, take_all, ap, ◌∙◌, arith}
 use Rattle.std.proofs.lemmas.List.{length-drop}
 use Rattle.su_reduce.specs.declared.edges.Ear.{Ear}

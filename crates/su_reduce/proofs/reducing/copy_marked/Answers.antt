@@ -1,3 +1,4 @@
+-- The copies are the marked ones among the rows so far, and a row more is copied or left out as its mark says.
 use Rattle.std.proofs.Common.{[], get_or, sym, ◌∙◌}
 use Rattle.std.proofs.lemmas.List.{get_or_default}
 use Rattle.su_reduce.proofs.Along.{marked_in, marked_out}

@@ -1,3 +1,4 @@
+-- Of the candidates that fit, those that the semijoins along the ear order leave are the ones that take part, and what is copied are these.
 use Rattle.std.proofs.Common.{List, Bool, [], get_or, ap, subst, ◌∙◌}
 use Rattle.std.proofs.lemmas.List.{with_items_is}
 use Rattle.su_reduce.specs.Ears.{numbers}

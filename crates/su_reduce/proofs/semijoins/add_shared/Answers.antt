@@ -1,3 +1,4 @@
+-- The places so far are those of the variables that stand on both sides; a cell adds a pair where its variable has a place on the right, and else nothing.
 use Rattle.std.proofs.Common.{sym, ◌∙◌, arith}
 use Rattle.su_reduce.proofs.Places.{cell_is, shared_none, shared_more}
 use Rattle.su_reduce.proofs.semijoins.add_shared.Goals as goal

@@ -1,3 +1,4 @@
+-- Both sheets code their edges by one list of values that differ, so rows have the same key in codes exactly where they agree in what the edges share.
 use Rattle.std.proofs.Common.{arith}
 use Rattle.su_reduce.proofs.CodeRows.{sheet_is}
 use Rattle.su_reduce.proofs.semijoins.semijoin.Goals as goal

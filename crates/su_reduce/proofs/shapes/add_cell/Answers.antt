@@ -1,3 +1,4 @@
+-- The shape so far is that of the cells before; the next cell adds the first place of its variable, and the variable itself only where that place is its own.
 use Rattle.std.proofs.Common.{◌≡◌, ◌<◌, ◌+◌, ℕ, [], ◌∷◌, ◌++◌, length, Contains, sym, ap, subst, ◌∙◌}
 use Rattle.std.proofs.lemmas.Option.{get_or_from_slice_get}
 use Rattle.su_tableau.specs.declared.symbols.Sym.TheVariants.{Var}

@@ -1,3 +1,4 @@
+-- Each cell so far has the value that a constant or the first cell of its variable asks for; values that pass at every cell come from a valuation, and one that fails from none.
 use Rattle.std.proofs.Common.{◌<◌, length, true≢false, refl, sym, ◌∙◌, arith}
 use Rattle.su_reduce.specs.Shapes.{values_in}
 use Rattle.su_reduce.proofs.Asked.{fits_from, fits_to}

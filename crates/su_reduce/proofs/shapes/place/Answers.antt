@@ -1,3 +1,4 @@
+-- No cell so far holds the variable, so the one that does is its place, and where none does the number of cells stands for it.
 use Rattle.std.proofs.Common.{sym, ◌∙◌, arith}
 use Rattle.su_reduce.proofs.Places.{cell_is, place_is, place_none}
 use Rattle.su_reduce.proofs.shapes.place.Goals as goal

@@ -1,3 +1,4 @@
+-- For each cell so far whose variable another edge has, p has it too; a set that meets the others without p is what tells against it.
 use Rattle.std.proofs.Common.{ℕ, true≢false, subst, sym, ◌∙◌}
 use Rattle.std.specs.Ordering.{nat_cmp}
 use Rattle.std.specs.FinSet.{FinSet}

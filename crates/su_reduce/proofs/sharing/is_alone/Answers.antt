@@ -1,3 +1,4 @@
+-- No other edge is in the sets of the cells so far; a set that meets the others shows that a variable is shared.
 use Rattle.std.proofs.Common.{ℕ, true≢false, subst, sym, ◌∙◌}
 use Rattle.std.specs.Ordering.{nat_cmp}
 use Rattle.std.specs.FinSet.{FinSet}

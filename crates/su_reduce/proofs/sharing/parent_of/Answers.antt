@@ -1,3 +1,4 @@
+-- No number so far is a parent, and the others are below 64; so at the end there is none.
 use Rattle.std.proofs.Common.{true≢false, sym, ◌∙◌, arith}
 use Rattle.su_reduce.proofs.MeetingSets.{no_parent}
 use Rattle.su_reduce.proofs.sharing.parent_of.Goals as goal

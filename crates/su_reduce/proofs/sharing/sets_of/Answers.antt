@@ -1,3 +1,4 @@
+-- The sets so far are those of the edges that have the variables of their cells, and one set more leaves them at their places.
 use Rattle.std.proofs.Common.{ℕ, subst, ◌∙◌}
 use Rattle.std.specs.Ordering.{nat_cmp}
 use Rattle.std.specs.FinSet.{FinSet, empty}

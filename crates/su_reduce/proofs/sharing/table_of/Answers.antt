@@ -1,3 +1,4 @@
+-- Each edge so far has the sets of its own cells in the table, and one list more leaves those before it at their places.
 use Rattle.std.proofs.Common.{ℕ, List, [], get_or, subst, ap, ◌∙◌}
 use Rattle.std.specs.Ordering.{nat_cmp}
 use Rattle.std.specs.FinSet.{FinSet}

@@ -1,3 +1,4 @@
+-- The set has exactly the edges below the next in which the symbol stands as a variable, and each edge adds itself or nothing.
 use Rattle.std.proofs.Common.{true≢false, sym, ap, ◌∙◌, arith}
 use Rattle.su_reduce.specs.declared.edges.Edge.{Edge}
 use Rattle.su_tableau.proofs.EssentialCells.{set_more, set_same}

@@ -1,3 +1,4 @@
+-- The blank row is the one more row, whatever it holds.
 use Rattle.su_reduce.proofs.sheeting.push_blank.Goals as goal
 
 pub returns : goal.returns

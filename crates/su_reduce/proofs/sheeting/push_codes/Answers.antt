@@ -1,3 +1,4 @@
+-- A row of the sheet's width is pushed as its codes, and for one of another width nothing is claimed of the codes.
 use Rattle.std.proofs.Common.{◌∙◌, ap, sym}
 use Rattle.su_reduce.specs.Sheets.{Rows}
 use Rattle.su_reduce.proofs.CodeExtensions.{extends_self}

@@ -1,3 +1,4 @@
+-- The codes so far read as the values so far; codes only come to the list at its end, so what was coded before still reads as the same value.
 use Rattle.std.proofs.Common.{◌<◌, ◌++◌, ◌∷◌, [], List, ℕ, length, take, map, sym, ap, subst, ◌∙◌}
 use Rattle.std.proofs.lemmas.List.{take_more}
 use Rattle.std.proofs.lemmas.List.Elements.{All-nil}

@@ -1,3 +1,4 @@
+-- The rows so far are the codes of the candidates so far by the codes of now, since later codes leave what the earlier ones read as.
 use Rattle.std.proofs.Common.{◌≡◌, ◌∙◌, List, ℕ, length, refl, ap, subst, arith}
 use Rattle.su_base.specs.declared.values.Value.{Value}
 use Rattle.su_reduce.specs.inside.Coded.{AreRowsOf}

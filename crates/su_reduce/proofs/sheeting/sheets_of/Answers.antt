@@ -1,3 +1,4 @@
+-- Each sheet so far codes its edge by the codes of now, for codes that come later change none before; at the end all sheets share one list of values that differ.
 use Rattle.std.proofs.Common.{◌≡◌, ◌∙◌, List, ℕ, [], length, subst, arith}
 use Rattle.su_base.specs.declared.values.Value.{Value}
 use Rattle.su_reduce.specs.declared.edges.Edge.{Edge}

@@ -1,3 +1,4 @@
+-- The number with bit i alone adds that bit to the set and no other.
 use Rattle.su_map.proofs.Members.{with_same, with_member}
 use Rattle.su_refute.proofs.bits.with.Goals as goal
 

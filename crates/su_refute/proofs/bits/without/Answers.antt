@@ -1,3 +1,4 @@
+-- Without bit i the set has all of its other bits below 64 still.
 use Rattle.su_map.proofs.Members.{without_same, without_out}
 use Rattle.su_refute.proofs.bits.without.Goals as goal
 

@@ -1,3 +1,4 @@
+-- The trees so far are those of the tableaux so far, and with what is unused their nodes make up the budget; so trees that don't fit in what is left are more than the budget.
 use Rattle.std.proofs.Common.{◌≡◌, List, Err, ap, subst, arith}
 use Rattle.std.proofs.lemmas.List.{take_all}
 use Rattle.std.proofs.lemmas.Result.{err_from_is_err_and}

@@ -1,3 +1,4 @@
+-- The tableaux so far are valid, small and minimised, as the type of each keeps it.
 use Rattle.std.proofs.Common.{subst}
 use Rattle.su_tableau.specs.Tableaux.{IsValid, IsSmall}
 use Rattle.su_refute.proofs.TreeLists.{sound_item}

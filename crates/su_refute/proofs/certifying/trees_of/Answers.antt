@@ -1,3 +1,4 @@
+-- The trees so far are those of the kept rows so far, and with what is unused their nodes make up the budget; a row has one tree, so one that doesn't fit is over it for any list.
 use Rattle.std.proofs.Common.{◌≡◌, ℕ, Err, ap, sym, subst, ◌∙◌, true≢false, length, arith}
 use Rattle.std.specs.List.{AllZip}
 use Rattle.std.proofs.lemmas.Result.{err_from_is_err_and}

@@ -1,3 +1,4 @@
+-- The row has the fewest targets among the rows so far, the least of those alike, and no row still to come is less; it begins as the least row of the set.
 use Rattle.std.proofs.Common.{arith}
 use Rattle.su_map.proofs.Members.{lowest_is, lowest_least}
 use Rattle.su_refute.proofs.growing.fewest.Goals as goal

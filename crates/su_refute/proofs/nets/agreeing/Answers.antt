@@ -1,3 +1,4 @@
+-- The set has exactly the masked rows so far that hold what the target holds at the places; where there are no places every masked row agrees.
 use Rattle.std.proofs.Common.{◌≡◌, ℕ, sym, ap, ◌∙◌, subst, true≢false, arith}
 use Rattle.std.specs.Int.{bit_at}
 use Rattle.su_map.specs.Lists.{row_of}

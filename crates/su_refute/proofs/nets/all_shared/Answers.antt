@@ -1,3 +1,4 @@
+-- The lists so far are the places that the row shares with the rows so far, and one list more leaves them at their places.
 use Rattle.std.proofs.Common.{[], arith}
 use Rattle.su_map.specs.Lists.{row_of}
 use Rattle.su_refute.specs.inside.Nets.{AreShared}

@@ -1,3 +1,4 @@
+-- The set has exactly the masked rows so far to which the row goes by itself, tested at the places that it shares with itself and with the head.
 use Rattle.std.proofs.Common.{◌≡◌, ℕ, sym, ap, ◌∙◌, true≢false, arith}
 use Rattle.std.specs.Int.{bit_at}
 use Rattle.su_map.specs.Lists.{row_of}

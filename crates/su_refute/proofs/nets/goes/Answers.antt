@@ -1,3 +1,4 @@
+-- Rows go to a target where constants are kept and equal symbols go to equal ones, which is agreement at the shared places, with itself and with the head.
 use Rattle.std.proofs.Common.{refl, sym, ◌∙◌, true≢false}
 use Rattle.su_refute.proofs.SharedPlaces.{shared_within, at_agree, agree_at}
 use Rattle.su_refute.proofs.nets.goes.Goals as goal

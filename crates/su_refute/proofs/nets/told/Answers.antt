@@ -1,3 +1,4 @@
+-- The sets so far are the targets of the rows so far that agree with this target; the places shared lie within the width, so they can be compared in any two rows.
 use Rattle.std.proofs.Common.{arith}
 use Rattle.su_map.specs.Lists.{row_of}
 use Rattle.su_refute.specs.inside.Nets.{IsTold}

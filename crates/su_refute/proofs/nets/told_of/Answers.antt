@@ -1,3 +1,4 @@
+-- For each target so far the sets are those that agree with it, and one list more leaves those before it at their places.
 use Rattle.std.proofs.Common.{[]}
 use Rattle.su_refute.specs.inside.Nets.{AreTold}
 use Rattle.su_refute.proofs.SharedPlaces.{push_entries, push_length}

@@ -1,3 +1,4 @@
+-- What was added are exactly the places of the symbol's equals among the cells so far, each with the symbol's own place.
 use Rattle.std.proofs.Common.{inl, inr, sym, ◌∙◌, true≢false, arith}
 use Rattle.su_refute.proofs.SharedPlaces.{at_cell, places_pushed, places_kept}
 use Rattle.su_refute.proofs.places.add_places.Goals as goal

@@ -1,3 +1,4 @@
+-- The places so far are exactly those at which a symbol of the first list so far equals one of the second; each symbol adds its own.
 use Rattle.std.proofs.Common.{arith}
 use Rattle.su_refute.proofs.SharedPlaces.{at_cell, shared_more}
 use Rattle.su_refute.proofs.places.shared.Goals as goal

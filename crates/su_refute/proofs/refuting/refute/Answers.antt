@@ -1,3 +1,4 @@
+-- A kept row has one tree, so where that doesn't fit in the budget it is a larger tree, and where it does no other one is larger.
 use Rattle.std.proofs.Common.{◌≡◌, Err, ap, subst, arith}
 use Rattle.std.proofs.lemmas.Result.{err_from_is_err_and}
 use Rattle.su_tableau.specs.Tableaux.{IsValid, IsSmall}

@@ -1,3 +1,4 @@
+-- A kept row can't be left out, and the net tells which targets the kept rows have without it; so the tree that grows from these is the row's own.
 use Rattle.std.proofs.Common.{ℕ, sym, subst}
 use Rattle.std.proofs.lemmas.Result.{IfOk-weaker}
 use Rattle.su_tableau.specs.Tableaux.{IsSmall}

@@ -1,3 +1,4 @@
+-- A node is spelled by its sign, its row, its branches one after another, and the sign that closes.
 use Rattle.std.proofs.lemmas.Result.{on_ok_weaker}
 use Rattle.su_refute.proofs.Texts.{node_pushed}
 use Rattle.su_refute.proofs.symbols.+nodes.Goals as goal

@@ -1,3 +1,4 @@
+-- What is written are the lines of the rows and trees so far, paired one by one; the pairs end where either list ends.
 use Rattle.std.proofs.Common.{inl, inr, arith}
 use Rattle.su_refute.proofs.Texts.{trees_next, trees_done}
 use Rattle.su_refute.proofs.writing.push_trees.Goals as goal

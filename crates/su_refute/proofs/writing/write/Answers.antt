@@ -1,3 +1,4 @@
+-- What is written is the front and the lines of the terms so far, numbered from 0.
 use Rattle.su_refute.proofs.Texts.{front_text, terms_next}
 use Rattle.su_refute.proofs.writing.write.Goals as goal
 

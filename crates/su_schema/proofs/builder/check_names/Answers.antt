@@ -1,3 +1,4 @@
+-- The names so far differ, so the next column fails its check exactly where its name stands among the columns before it, and that is the first check to fail.
 use Rattle.std.proofs.Common.{◌≡◌, take, is_some, inr, sym, ap, ◌∙◌}
 use Rattle.su_schema.specs.Entries.{column_names, place_of}
 use Rattle.su_schema.proofs.Entries.{position-map}

@@ -1,3 +1,4 @@
+-- The copied entries show the first relations so far; as the names are distinct, the next one is no key yet and comes at the end.
 use Rattle.std.proofs.Common.{◌≡◌, ◌+◌, Some, map, take, slice_get, refl, ◌∙◌}
 use Rattle.std.proofs.lemmas.Option.{slice_get-map}
 use Rattle.su_schema.specs.Shown.{shown_relation}

@@ -1,3 +1,4 @@
+-- The set so far is that of the attributes of the links so far, and one link more inserts its own attribute.
 use Rattle.std.proofs.Common.{◌≡◌, ◌+◌, map, take, sym}
 use Rattle.std.specs.FinSet.{from_list}
 use Rattle.su_schema.proofs.Numbers.{from_list-more}

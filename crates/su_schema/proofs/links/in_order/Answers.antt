@@ -1,3 +1,4 @@
+-- The list so far has the links whose attributes are below the next number, in ascending order; each attribute adds the link found for it, or none.
 use Rattle.std.proofs.Common.{◌≡◌, ◌+◌, ap, sym, ◌∙◌, ◌++◌, ◌∷◌, []}
 use Rattle.su_schema.specs.Definitions.{ascending}
 use Rattle.su_schema.proofs.LinkOrder.{ascending-Some, ascending-None}

@@ -1,3 +1,4 @@
+-- Columns that aren't none are well named where the name of each is a name.
 use Rattle.std.proofs.Common.{arith, rules}
 use Rattle.std.proofs.lemmas.Bool.Decides.{nat_tests}
 use Rattle.su_schema.proofs.NamesGiven.{given_test}

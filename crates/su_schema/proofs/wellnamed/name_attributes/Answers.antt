@@ -1,3 +1,4 @@
+-- Pairs that aren't none name attributes well where each attribute is a name.
 use Rattle.std.proofs.Common.{arith, rules}
 use Rattle.std.proofs.lemmas.Bool.Decides.{nat_tests}
 use Rattle.su_schema.proofs.NamesGiven.{given_test}

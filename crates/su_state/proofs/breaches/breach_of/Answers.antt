@@ -1,3 +1,4 @@
+-- The row breaks the dependency through no object so far, and a breach is through an object of the schema; so at the end there is none.
 use Rattle.std.proofs.Common.{◌<◌, List, length, arith}
 use borrow.Author.Count.{below_more}
 use Rattle.std.proofs.lemmas.Option.{slice_get_within}

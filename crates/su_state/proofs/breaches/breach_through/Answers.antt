@@ -1,3 +1,4 @@
+-- A breach through the object is a clash of the row with a stored one on the columns of the two sides, where the dependency lies in the object; else nothing is enforced.
 use Rattle.std.proofs.Common.{◌≡◌, length, slice_get, get_or, Some, refl, sym, ap, ◌∙◌, arith}
 use Rattle.std.proofs.lemmas.Option.{slice_get-get_or, slice_get_read}
 use Rattle.su_schema.specs.SchemaValue.{ObjectEntry}

@@ -1,3 +1,4 @@
+-- The row breaks none of the dependencies so far through any object, and a breach is of a dependency of the schema; so at the end there is none.
 use Rattle.std.proofs.Common.{◌<◌, ℕ, List, length, ap, arith}
 use borrow.Author.Count.{below_more}
 use Rattle.std.proofs.lemmas.Option.{slice_get_within}

@@ -1,3 +1,4 @@
+-- A row that has the values in all the columns has that in one of them, and none of the rows met so far agrees; so at the end no row does.
 use Rattle.std.proofs.Common.{◌≡◌, refl, arith}
 use Rattle.std.proofs.lemmas.Bool.{false≢true}
 use Rattle.su_state.specs.inside.Sides.{row_at}

@@ -1,3 +1,4 @@
+-- The best so far is one of the columns below the next, if there is any among them; so, as there is one, the end has one too.
 use Rattle.std.proofs.Common.{sym, arith}
 use Rattle.su_state.proofs.Columns.{rare_skip, rare_stays}
 use Rattle.su_state.proofs.clashes.fewest.Goals as goal

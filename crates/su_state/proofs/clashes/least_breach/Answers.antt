@@ -1,3 +1,4 @@
+-- Stored rows that agree on the left side agree on the right side as well, so one of them tells for all whether the new row clashes with any.
 use Rattle.std.proofs.Common.{◌≡◌, List, [], Contains, refl}
 use Rattle.std.proofs.lemmas.List.Elements.{Contains-get_or}
 use Rattle.su_base.specs.declared.values.Value.{Value}

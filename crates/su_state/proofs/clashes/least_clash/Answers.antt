@@ -1,3 +1,4 @@
+-- A row that clashes has the new row's value in every left column, so it is met; the least so far is the least of those met that clash.
 use Rattle.std.proofs.Common.{arith}
 use Rattle.su_state.proofs.Least.{least_more, least_of_all}
 use Rattle.su_state.proofs.clashes.least_clash.Goals as goal

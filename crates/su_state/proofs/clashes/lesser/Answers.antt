@@ -1,3 +1,4 @@
+-- A row that doesn't clash leaves the least as it is, and one that does takes its place where it comes before it in the order of rows.
 use Rattle.std.proofs.Common.{◌≡◌, inl, inr, refl, sym}
 use Rattle.std.proofs.lemmas.Bool.{false≢true}
 use Rattle.su_base.specs.Value.{compare_lists}

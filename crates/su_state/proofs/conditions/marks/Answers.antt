@@ -1,3 +1,4 @@
+-- The condition fits each of the rows, so its truth can be asked of it.
 use Rattle.std.proofs.Common.{List, length, subst, sym}
 use Rattle.su_base.specs.declared.values.Value.{Value}
 use Rattle.su_where.specs.Places.{Fits}

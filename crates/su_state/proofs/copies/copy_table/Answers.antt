@@ -1,3 +1,4 @@
+-- The rows of a table differ, so putting copies of them into an empty one makes the same rows in their order.
 use Rattle.std.proofs.Common.{◌∙◌}
 use Rattle.su_state.proofs.RowsPutIn.{copied_is}
 use Rattle.su_state.proofs.copies.copy_table.Goals as goal

@@ -1,3 +1,4 @@
+-- The dependency or object that was added is the last of its list, so checking that one checks what the definition added; the other definitions add nothing that rows could break.
 use Rattle.std.proofs.Common.{◌-◌, ℕ, List, length, subst, sym}
 use Rattle.std.specs.Prelude.{OnOk}
 use Rattle.su_fd.specs.declared.dependencies.Fd.{Fd as Dependency}

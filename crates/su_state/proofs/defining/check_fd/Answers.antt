@@ -1,3 +1,4 @@
+-- The dependency holds through the objects so far, and it can be broken only through an object of the schema; so at the end it holds through all.
 use Rattle.std.proofs.Common.{◌<◌, length, arith}
 use borrow.Author.Count.{below_more}
 use Rattle.std.proofs.lemmas.Option.{slice_get_within}

@@ -1,3 +1,4 @@
+-- The dependencies so far hold through the object, and only one of the schema's can be broken; so at the end all of them hold through it.
 use Rattle.std.proofs.Common.{◌<◌, length, ap, arith}
 use borrow.Author.Count.{below_more}
 use Rattle.std.proofs.lemmas.Option.{slice_get_within}

@@ -1,3 +1,4 @@
+-- The rows so far have their columns' kinds, and one that is refused ends the test.
 use Rattle.std.proofs.Common.{subst, sym, arith}
 use Rattle.std.proofs.lemmas.List.Elements.{All-more, All-same}
 use Rattle.std.proofs.lemmas.List.{take_all}

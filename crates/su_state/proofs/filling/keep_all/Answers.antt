@@ -1,3 +1,4 @@
+-- The dependencies so far are kept through every object, and what could be broken is one of the schema's; so at the end all are kept.
 use Rattle.std.proofs.Common.{◌<◌, ◌++◌, ℕ, length, ap, arith}
 use borrow.Author.Count.{below_more}
 use Rattle.std.proofs.lemmas.Bool.{OnTrue_at}

@@ -1,3 +1,4 @@
+-- The dependency is kept through the objects so far, and it could be broken only through one of the schema's; so at the end it is kept.
 use Rattle.std.proofs.Common.{◌<◌, ◌++◌, length, arith}
 use borrow.Author.Count.{below_more}
 use Rattle.std.proofs.lemmas.Bool.{OnTrue_at}

@@ -1,3 +1,4 @@
+-- Where the dependency lies in the object it is kept exactly where no two rows clash on the columns of its sides, and elsewhere it isn't enforced.
 use Rattle.std.proofs.Common.{◌≡◌, ◌++◌, length, slice_get, get_or, Some, refl, ap, ◌∙◌}
 use Rattle.std.proofs.lemmas.Bool.{OnTrue_at, OnTrue_from}
 use Rattle.std.proofs.lemmas.Option.{slice_get-get_or, slice_get_read}

@@ -1,3 +1,4 @@
+-- None of the rows so far breaks a dependency with a stored row, and one for which a breach is found ends the test.
 use Rattle.std.proofs.Common.{◌∙◌, subst, sym, arith}
 use Rattle.std.proofs.lemmas.List.Elements.{All-more, All-same}
 use Rattle.std.proofs.lemmas.List.{take_all}

@@ -1,3 +1,4 @@
+-- A table sees no change where it notes its rows, so putting it back leaves all tables as they are.
 use Rattle.std.proofs.Common.{◌≡◌, arith, slice_get, Some, get_or, subst, length, ◌<◌, ℕ}
 use Rattle.std.proofs.lemmas.Option.{slice_get-get_or}
 use Rattle.su_schema.specs.SchemaValue.{ObjectEntry}

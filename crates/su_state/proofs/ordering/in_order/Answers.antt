@@ -1,3 +1,4 @@
+-- Keys are in the order of their rows, since leads are in that of the first values; so rows that differ, read off sorted keys, are in strict order.
 use Rattle.std.proofs.Common.{◌≡◌}
 use Rattle.std.proofs.lemmas.Result.{IfOk-weaker}
 use Rattle.su_rel.specs.Stored.{AllDiffer}

@@ -1,3 +1,4 @@
+-- The notes tell for each left part met so far the first row with it, so each position so far is that of the first row with the same left part.
 use Rattle.std.proofs.Common.{◌≡◌, List, [], subst, arith}
 use Rattle.std.proofs.lemmas.List.{get_or_read}
 use Rattle.su_base.specs.declared.values.Value.{Value}

@@ -1,3 +1,4 @@
+-- The row is the least of those so far whose first one is marked, and a further one takes its place where it is less.
 use Rattle.std.proofs.Common.{◌≡◌, ℕ, length, subst, arith}
 use Rattle.su_state.specs.inside.Pairs.{IsLeastMarked}
 use Rattle.su_state.proofs.Paired.{not_marked, is_marked}

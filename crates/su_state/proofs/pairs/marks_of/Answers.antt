@@ -1,3 +1,4 @@
+-- A first one is marked exactly where one of the rows so far with its left part differs from it on the right side.
 use Rattle.std.proofs.Common.{◌≡◌, ◌<◌, ℕ, false, List, [], length, refl, ap, subst, ◌∙◌, inl, inr, arith}
 use Rattle.std.proofs.lemmas.Bool.{cases_lt, false≢true}
 use Rattle.std.proofs.lemmas.List.{get_or_read, get_or-replicate, get_or_past, length-replicate}

@@ -1,3 +1,4 @@
+-- A left part that is noted has the position noted under it; a new one is noted with this position, and no other note changes.
 use Rattle.std.proofs.Common.{sym}
 use Rattle.su_state.specs.inside.Parts.{noted_in}
 use Rattle.su_state.proofs.Noted.{noted_there, noted_new}

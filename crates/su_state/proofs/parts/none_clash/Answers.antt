@@ -1,3 +1,4 @@
+-- The rows so far agree on the right side with the first one of their left part, so any two of them with one left part agree with each other.
 use Rattle.std.proofs.Common.{◌++◌, ◌<◌, ◌≤◌, ◌+◌, List, [], length, refl, subst, sym, ap, ◌∙◌, arith}
 use Rattle.std.proofs.lemmas.List.{length-append}
 use Rattle.std.proofs.lemmas.List.Elements.{All-append, Contains-get_or}

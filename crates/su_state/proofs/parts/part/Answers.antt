@@ -1,3 +1,4 @@
+-- The copies are the values of the columns among the cells so far, and a cell more is copied where its column is one of them.
 use Rattle.std.proofs.Common.{◌≡◌, ◌<◌, ◌+◌, length, slice_get, Some, sym, ap, ◌∙◌, arith}
 use Rattle.su_state.proofs.Noted.{part_pushed, part_passed}
 use Rattle.su_state.proofs.parts.part.Goals as goal

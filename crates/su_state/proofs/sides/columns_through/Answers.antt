@@ -1,3 +1,4 @@
+-- The columns so far are those from which the object takes the attributes below the next; all attributes asked for are the schema's, so at the end none is missing.
 use Rattle.std.proofs.Common.{sym, ◌∙◌, arith}
 use Rattle.std.proofs.lemmas.Bool.{false≢true}
 use Rattle.su_state.proofs.Columns.{columns_none, columns_skip, columns_with, columns_all}

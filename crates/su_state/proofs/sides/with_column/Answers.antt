@@ -1,3 +1,4 @@
+-- A column of the schema is below 32, so a set has room for it, and an attribute has one column in the object or none.
 use Rattle.std.proofs.Common.{Some, None, refl}
 use Rattle.su_state.proofs.Columns.{column_small, column_answered}
 use Rattle.su_state.proofs.sides.with_column.Goals as goal

@@ -1,3 +1,4 @@
+-- The columns so far are the essential ones below the next; and an essential column is below the width, since every row is as wide as the tableau.
 use Rattle.std.proofs.Common.{[], sym, ap, ◌∙◌, true≢false, arith}
 use Rattle.std.specs.FinSet.{contains, contains-empty}
 use Rattle.std.specs.Ordering.{nat_cmp}

@@ -1,3 +1,4 @@
+-- A cell is essential by what its symbol is: a constant is, and a variable is where the head has it or another cell of the masked rows does.
 use Rattle.std.proofs.Common.{refl, sym, ◌∙◌, subst, Contains, None, true≢false}
 use Rattle.su_tableau.specs.declared.symbols.Sym.TheVariants.{Const, Var}
 use Rattle.su_tableau.specs.Essential.{HasSymbol, constant, in_head, twice}

@@ -1,3 +1,4 @@
+-- No masked row so far has the variable at another cell than the one left out, and only the row itself has a cell to leave out.
 use Rattle.std.proofs.Common.{◌≡◌, ◌≢◌, ℕ, arith, refl, sym, ◌∙◌, true≢false}
 use Rattle.su_tableau.specs.Essential.{HasSymbol}
 use Rattle.su_tableau.specs.declared.symbols.Sym.TheVariants.{Var}

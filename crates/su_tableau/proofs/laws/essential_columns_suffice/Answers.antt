@@ -1,3 +1,4 @@
+-- A valuation may change the variables that stand once, so that cells not essential fit.
 use Rattle.su_tableau.proofs.ChangedValuations.{essential_ext, ext_essential}
 use Rattle.su_tableau.proofs.laws.essential_columns_suffice.Goals as goal
 

@@ -1,3 +1,4 @@
+-- Of a row outside the mask nothing is asked.
 use Rattle.std.proofs.Common.{sym, ◌∙◌, true≢false}
 use Rattle.su_tableau.proofs.occurrences.columns_at.Goals as goal
 

@@ -1,3 +1,4 @@
+-- The columns so far are the essential ones below the next: a cell of a masked row is essential exactly where its symbol is a constant or a variable that was met again.
 use Rattle.std.proofs.Common.{[], sym, ap, ◌∙◌, refl, true≢false, arith}
 use Rattle.std.specs.FinSet.{contains, contains-empty}
 use Rattle.std.specs.Ordering.{nat_cmp}

@@ -1,3 +1,4 @@
+-- The sets written so far are the essential columns of their rows, and writing the next one leaves those of the rows before as they are.
 use Rattle.std.proofs.Common.{◌≡◌, ◌↔◌, ℕ, IsTrue, arith}
 use Rattle.std.specs.Int.{bit_at}
 use Rattle.std.specs.FinSet.{FinSet, contains}

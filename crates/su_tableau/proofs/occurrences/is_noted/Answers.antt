@@ -1,3 +1,4 @@
+-- A constant is noted always, and a variable exactly where its own entry says that it was met again.
 use Rattle.std.proofs.Common.{refl}
 use Rattle.su_tableau.specs.inside.Occurrences.{a_constant, a_variable}
 use Rattle.su_tableau.proofs.VariableCounts.{noted_again}

@@ -1,3 +1,4 @@
+-- What is read from the head at a place is one of its variables, which are all below the count.
 use Rattle.std.proofs.Common.{arith}
 use Rattle.su_tableau.specs.declared.symbols.Sym.TheVariants.{Var}
 use Rattle.su_tableau.proofs.Rows.{contains_read}

@@ -1,3 +1,4 @@
+-- The counts so far tell how often each variable stands in the cells before this one, and the next cell adds one for its own variable and none for the others.
 use Rattle.std.proofs.Common.{[], subst, Contains, arith}
 use Rattle.su_tableau.specs.declared.symbols.Sym.TheVariants.{Var}
 use Rattle.su_tableau.proofs.Rows.{contains_read}

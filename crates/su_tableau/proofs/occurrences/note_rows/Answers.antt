@@ -1,3 +1,4 @@
+-- The counts tell how often each variable stands in the masked rows so far; a row outside the mask has no cell to count, and after all rows twice means at two cells.
 use Rattle.std.proofs.Common.{◌+◌, sym, ◌∙◌, subst, true≢false, arith}
 use Rattle.su_tableau.specs.inside.Occurrences.{AreCounted}
 use Rattle.su_tableau.proofs.VariableCounts.{row_skipped, all_counted}

@@ -1,3 +1,4 @@
+-- The sets so far are as many as the rows before, each with the essential columns of its row; pushing one more keeps them at their places.
 use Rattle.std.proofs.Common.{◌≡◌, ◌↔◌, ℕ, ◌<◌, ◌+◌, length, IsTrue, get_or, sym, ap, ◌∙◌, subst, arith}
 use Rattle.std.proofs.lemmas.List.{length_push}
 use Rattle.std.specs.Int.{bit_at}

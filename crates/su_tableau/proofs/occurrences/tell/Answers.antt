@@ -1,3 +1,4 @@
+-- A variable is met again where the head has it or where two cells of the masked rows hold it, and the two passes note one of these each.
 use Rattle.std.proofs.Common.{◌≡◌, inl, inr, sym, subst, Contains, ⊎_elim, arith}
 use Rattle.su_tableau.specs.declared.symbols.Sym.TheVariants.{Var}
 use Rattle.su_tableau.specs.declared.occurrences.Times.TheVariants.{Again}

@@ -1,3 +1,4 @@
+-- No row so far has the variable; so where the rows end without it, a row that had it would be one of those looked at.
 use Rattle.std.proofs.Common.{[], get_or, Contains, sym, ◌∙◌, subst, arith, true≢false}
 use Rattle.std.proofs.lemmas.List.{get_or_default}
 use Rattle.su_tableau.specs.declared.symbols.Sym.TheVariants.{Var}

@@ -1,3 +1,4 @@
+-- A variable below the length of the values has the value at its number.
 use Rattle.su_tableau.proofs.Rows.{has_var_value}
 use Rattle.su_tableau.proofs.valuations.has_value.Goals as goal
 

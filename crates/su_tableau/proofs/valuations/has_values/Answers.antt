@@ -1,3 +1,4 @@
+-- The cells so far have the wanted values; lists of one length that agree at every place are equal, and one place that differs tells them apart.
 use Rattle.std.proofs.Common.{refl}
 use Rattle.su_tableau.specs.declared.symbols.Sym.TheVariants.{Var}
 use Rattle.su_tableau.specs.Valuations.{nth}

@@ -1,3 +1,4 @@
+-- The rows so far are sent to rows of the universe; a row that is not sent there shows that the valuation doesn't send them all.
 use Rattle.std.proofs.Common.{◌≡◌, [], get_or, Contains, refl, sym, ◌∙◌, subst, arith, true≢false}
 use Rattle.std.proofs.lemmas.List.{get_or_default}
 use Rattle.su_tableau.specs.Valuations.{nth, values_of}

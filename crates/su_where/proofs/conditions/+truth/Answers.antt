@@ -1,3 +1,4 @@
+-- A condition fits the values where its parts do, and its truth is that of all or of some of its parts; so each call on a part is allowed and says its share.
 use Rattle.std.proofs.Common.{List, length, rules, ap, subst, sym, ◌∙◌, All as Each}
 use Rattle.std.specs.List.{list_all, list_any}
 use Rattle.su_where.specs.declared.conditions.Condition.{the_lemmas}

@@ -1,3 +1,4 @@
+-- A part more multiplies the combinations by its disjuncts, and the bound passes through.
 use Rattle.std.proofs.Common.{◌∙◌}
 use Rattle.su_where.proofs.Disjunctive.{counted_more}
 use Rattle.su_where.proofs.forms.+count.Goals as goal

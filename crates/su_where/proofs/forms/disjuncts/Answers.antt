@@ -1,3 +1,4 @@
+-- What is made is all disjuncts in their order, and a condition is true exactly where one of its disjuncts holds.
 use Rattle.std.proofs.Common.{◌≡◌, ◌∙◌, sym, ap, arith}
 use Rattle.std.proofs.lemmas.Grind.{common_steps}
 use Rattle.su_where.specs.Disjunct.{disjuncts_of, some_holds}

@@ -1,3 +1,4 @@
+-- What is held is UTF-8, by the invariant of a held text.
 use Rattle.std.proofs.lemmas.Str.{IsUtf8-had}
 use Rattle.su_base.proofs.texts.Held.as_str.Goals as goal
 

@@ -1,3 +1,4 @@
+-- The place of the item put at the end is the old length, so filling that item changes the last one and no other.
 use Rattle.std.proofs.Common.{◌≡◌, List, [], ◌∷◌, ◌++◌, length, slice_set, refl, ap}
 use Rattle.su_base.proofs.values.List+Value.push_text.Goals as goal
 

@@ -1,3 +1,4 @@
+-- Exchanging the next members of x and y, which both lie in the list, leaves it a list of members, and the spots stay.
 use Rattle.std.proofs.Common.{◌<◌, ℕ, length, set, subst, sym, ◌∙◌, arith}
 use Rattle.std.proofs.lemmas.List.{length-set}
 use Rattle.su_classes.proofs.Rings.{ring_set}

@@ -1,3 +1,4 @@
+-- A member past the items is a spot, and what is pushed as pending is one of the spots; marks stay below the items.
 use Rattle.std.proofs.Common.{◌-◌, ◌∷◌, [], List, Contains, refl, subst, sym}
 use Rattle.std.specs.Prelude.{All}
 use Rattle.std.proofs.lemmas.List.Elements.{All-append}

@@ -1,3 +1,4 @@
+-- The new member is the last, and it goes into its item's ring between the item and what came next; so all of them still point to members.
 use Rattle.std.proofs.Common.{◌<◌, ◌++◌, ◌∷◌, [], List, ℕ, length, set, Contains, subst, sym, ap, ◌∙◌, arith}
 use Rattle.std.specs.Prelude.{All}
 use Rattle.std.proofs.lemmas.List.{length-set, length-append}

@@ -1,3 +1,4 @@
+-- What is pending are spots of the list, so the one that is taken is a spot, and those that are left still are.
 use Rattle.std.proofs.Common.{Contains, refl}
 use Rattle.su_classes.proofs.Rings.{all_popped}
 use Rattle.su_classes.proofs.worklist.Worklist.next_pending.Goals as goal

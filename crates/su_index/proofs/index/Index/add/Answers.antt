@@ -1,3 +1,4 @@
+-- The last row's position is none of the index's, so with its entry put in the index has each position below the count once and in order.
 use Rattle.std.proofs.Common.{arith, length, sym}
 use Rattle.su_index.specs.Indexed.{entries_in}
 use Rattle.su_index.specs.Order.{value_at}

@@ -1,3 +1,4 @@
+-- Neither putting the chunks together anew nor splitting one changes the entries, so the index of the rows it was is the index that it is.
 use Rattle.std.proofs.Common.{◌≡◌, ◌∙◌, ap}
 use Rattle.su_index.specs.Chunks.{entries_of}
 use Rattle.su_index.specs.Indexed.{entries_in}

@@ -1,3 +1,4 @@
+-- Each position has one entry: that of the row goes, and that of the last row takes its position; this leaves an index of the rows as they are with the last one moved.
 use Rattle.std.proofs.Common.{◌≡◌, ◌-◌, arith, length, sym}
 use Rattle.su_index.specs.Chunks.{entries_of}
 use Rattle.su_index.specs.Entries.{positions}

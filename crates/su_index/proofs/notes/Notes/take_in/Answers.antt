@@ -1,3 +1,4 @@
+-- What was noted stays noted, and the new row is noted behind it.
 use Rattle.std.proofs.Common.{BuildHasherDefault, FoldHasher}
 use Rattle.su_index.proofs.Digests.{noted_more}
 use Rattle.su_index.proofs.notes.Notes.take_in.Goals as goal

@@ -1,3 +1,4 @@
+-- Rows that agree in the columns have one digest, so a row with no note of its digest agrees with none of the rows, which all have their notes.
 use Rattle.std.proofs.Common.{◌≡◌, None, length, nat_eq, arith, ◌∙◌, ap, sym}
 use Rattle.std.specs.HashMap.{get}
 use Rattle.std.specs.Option.{is_some}

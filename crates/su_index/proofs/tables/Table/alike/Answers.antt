@@ -1,3 +1,4 @@
+-- All rows of the table are as wide as it is, and the width is below 256, so the notes may be asked.
 use Rattle.std.proofs.Common.{arith, ap, sym, ◌∙◌}
 use Rattle.su_index.proofs.tables.Table.alike.Goals as goal
 

@@ -1,3 +1,4 @@
+-- The indexes have room and the notes the row before it is put in; a new row stands at the end, so what they held is of the rows before it and they need only its entry.
 use Rattle.std.proofs.Common.{◌≡◌, ◌++◌, ◌∷◌, [], length, length-append, arith, ap, sym, ◌∙◌}
 use Rattle.su_index.specs.Notes.{AllAreNotes}
 use Rattle.su_index.proofs.Chunked.{ok_holds}

@@ -1,3 +1,4 @@
+-- The old rows are a front of the new ones, so cutting back to their number restores the relation, and the indexes of old are runs of that front to which the rest is added.
 use Rattle.std.proofs.Common.{◌≡◌, ◌∙◌, length, arith, ap, sym}
 use Rattle.su_rel.specs.Stored.{Stored}
 use Rattle.su_index.proofs.Whole.{restored, run_first, run_length, run_within}

@@ -1,3 +1,4 @@
+-- The indexes of what is kept are made of the entries whose rows are kept, before any row goes; so they are those of the rows that stay.
 use Rattle.std.proofs.Common.{◌≡◌, length, ◌∙◌, ap, sym}
 use Rattle.su_index.proofs.Whole.{indexed_positions, indexed_kept}
 use Rattle.su_index.proofs.tables.Table.keep.Goals as goal

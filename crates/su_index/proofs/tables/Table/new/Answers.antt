@@ -1,3 +1,4 @@
+-- Each column has an index without entries, which is the index of no rows; and there are no notes to be kept.
 use Rattle.std.proofs.Common.{arith}
 use Rattle.su_index.proofs.Whole.{indexed_none}
 use Rattle.su_index.proofs.tables.Table.new.Goals as goal

@@ -1,3 +1,4 @@
+-- Notes that are begun tell nothing yet, so they are notes of the rows whatever those are.
 use Rattle.su_index.proofs.tables.Table.note.Goals as goal
 
 pub invariant_of-self : goal.invariant_of-self

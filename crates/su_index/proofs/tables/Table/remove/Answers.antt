@@ -1,3 +1,4 @@
+-- The row's position is found in the relation, so its entries can go; notes of more rows than there are remain right, and the indexes follow the last row's move.
 use Rattle.std.proofs.Common.{◌≡◌, arith, refl, sym, ◌∙◌}
 use Rattle.std.proofs.lemmas.Option.{slice_get_within}
 use Rattle.su_index.proofs.Digests.{notes_fewer}

@@ -1,3 +1,4 @@
+-- A text that was written whole is one text more, told as the pieces that made it up, and no fault rose.
 use Rattle.su_io.proofs.WrittenTexts.{wrote_one}
 use Rattle.su_io.proofs.outside.Outside.write.Goals as goal
 

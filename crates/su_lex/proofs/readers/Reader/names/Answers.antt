@@ -1,3 +1,4 @@
+-- What was taken so far is the written form of the names so far; a comma without a name behind it can't be the front of a longer list, and without a comma the list ends.
 use Rattle.std.proofs.Common.{◌≡◌, ◌∷◌, [], refl, ap, sym, ◌∙◌, Err}
 use Rattle.std.proofs.lemmas.Result.{err_from_is_err_and}
 use Rattle.su_lex.specs.Names.{names_symbols}

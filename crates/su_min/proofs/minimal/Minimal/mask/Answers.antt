@@ -1,3 +1,4 @@
+-- By its rules the term keeps rows of its own tableau alone, so the mask has no bit past them.
 use Rattle.std.proofs.Common.{ap, arith}
 use Rattle.su_min.specs.Kept.{Minimised}
 use Rattle.su_min.proofs.KeptRows.{kept_within}

@@ -1,3 +1,4 @@
+-- The codes are the distinct keys of a map, and values are equal only where they are the same.
 use Rattle.std.specs.Prelude.{pos}
 use Rattle.std.proofs.lemmas.Map.Made.{AllPairs-from_IsDistinct}
 use Rattle.su_base.proofs.Same.{value_eq-Decides}

@@ -1,3 +1,4 @@
+-- The key stored at the place tells itself equal to the value, and values are equal only where they are the same.
 use Rattle.std.proofs.Common.{◌≡◌, Some, slice_get, sym, ap, ◌∙◌}
 use Rattle.su_base.proofs.Same.{value_eq-Decides}
 use Rattle.su_reduce.proofs.codes.Codes.put.Goals as goal

@@ -1,3 +1,4 @@
+-- With the marked rows side by side at the front, cutting the cells behind them leaves just the marked rows.
 use Rattle.std.proofs.Common.{◌≡◌, ◌*◌, ◌∙◌, List, ℕ, length, ap, sym, arith}
 use Rattle.std.proofs.lemmas.List.{length-take-le}
 use Rattle.su_reduce.specs.Left.{marked}

@@ -1,3 +1,4 @@
+-- The cells of a row behind the others, which fill whole rows, are one row more when they are cut.
 use Rattle.std.proofs.Common.{◌∙◌, ap}
 use Rattle.su_reduce.proofs.ListPieces.{cut_more}
 use Rattle.su_reduce.specs.Sheets.{cut}

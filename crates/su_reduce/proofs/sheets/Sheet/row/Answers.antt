@@ -1,3 +1,4 @@
+-- Cut at the width, the cells have row i as the piece of that width from i times the width on, which lies within them.
 use Rattle.std.proofs.Common.{length, ap, ◌∙◌, arith}
 use Rattle.su_reduce.proofs.ListPieces.{row_fits, row_is, row_wide}
 use Rattle.su_reduce.proofs.sheets.Sheet.row.Goals as goal

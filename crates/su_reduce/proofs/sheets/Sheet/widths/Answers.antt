@@ -1,3 +1,4 @@
+-- The cells are cut into rows of the width, and there are enough for all of them.
 use Rattle.su_reduce.proofs.ListPieces.{cut_widths}
 use Rattle.su_reduce.proofs.sheets.Sheet.widths.Goals as goal
 

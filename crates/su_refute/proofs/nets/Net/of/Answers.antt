@@ -1,3 +1,4 @@
+-- The net so far has, for each row so far, its targets and what agrees with each of them; pushing those of the next row leaves them at their places.
 use Rattle.std.proofs.Common.{◌≡◌, []}
 use Rattle.std.specs.Int.{bit_at}
 use Rattle.su_refute.specs.inside.Nets.{IsBase, AreToldOf}

@@ -1,3 +1,4 @@
+-- The rows are the distinct keys of the set, and each is as wide as the invariant says.
 use Rattle.su_rel.proofs.Rows.{AllDiffer-from_distinct}
 use Rattle.su_rel.proofs.relations.Relation.as_slice.Goals as goal
 

@@ -1,3 +1,4 @@
+-- The set of rows finds a key exactly where an equal row is in it, and rows are equal only where they are the same.
 use Rattle.std.proofs.Common.{Contains, sym, ◌∙◌}
 use Rattle.std.specs.Bool.{Decides}
 use Rattle.su_base.proofs.Same.{has_row}

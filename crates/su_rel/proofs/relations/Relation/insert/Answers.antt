@@ -1,3 +1,4 @@
+-- The set has the row already or puts it at the end, as a search for the row decides; that is what being new tells.
 use Rattle.su_base.proofs.Same.{has_row}
 use Rattle.su_rel.proofs.Rows.{inserted}
 use Rattle.su_rel.proofs.relations.Relation.insert.Goals as goal

@@ -1,3 +1,4 @@
+-- The rows put in so far lead from the old rows to those of now, and the old rows are their front; so cutting back to the old length undoes them all.
 use Rattle.std.proofs.Common.{◌≡◌, ◌++◌, ◌∷◌, [], arith, length, sym, ◌∙◌, ap, append_assoc}
 use Rattle.std.specs.Vec.Iter.{into_iter_items}
 use Rattle.su_base.proofs.Same.{has_row}

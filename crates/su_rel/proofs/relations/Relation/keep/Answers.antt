@@ -1,3 +1,4 @@
+-- The closure reads the next mark for each row, so the rows that stay are those whose own mark is set; all of them keep their width.
 use Rattle.std.proofs.Common.{rules, ◌≡◌, refl, length, sym, ◌∙◌, ap}
 use Rattle.std.specs.List.{items_where_true}
 use Rattle.su_rel.proofs.Rows.{kept_marks, All-items_where_true}

@@ -1,3 +1,4 @@
+-- A place found among the distinct keys has the row, and where none is found it is no key.
 use Rattle.su_rel.proofs.Rows.{found}
 use Rattle.su_rel.proofs.relations.Relation.position.Goals as goal
 

@@ -1,3 +1,4 @@
+-- The row taken out is the row at the place found for it, which is the one asked for.
 use Rattle.std.proofs.Common.{◌≡◌}
 use Rattle.su_rel.proofs.relations.Relation.remove.Goals as goal
 

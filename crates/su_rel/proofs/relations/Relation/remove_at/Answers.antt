@@ -1,3 +1,4 @@
+-- The rows differ, so putting the last row in the place of one takes out that row alone.
 use Rattle.std.proofs.Common.{sym}
 use Rattle.su_rel.proofs.Rows.{TakenOut-swap_remove}
 use Rattle.su_rel.proofs.relations.Relation.remove_at.Goals as goal

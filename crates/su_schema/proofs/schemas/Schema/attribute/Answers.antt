@@ -1,3 +1,4 @@
+-- Each test is one of the definition's checks, in their order: where one fails those before it have passed, and where none fails the schema has one attribute more.
 use Rattle.std.proofs.Common.{◌≡◌, ◌<◌, ◌≤◌, None, true, false, inr, nat_le, length, is_some, refl, sym, ap, ◌∙◌, arith}
 use Rattle.std.proofs.lemmas.Bool.Decides.{nat_tests}
 use Rattle.su_schema.specs.declared.definitions.Definition.TheVariants.{Attribute}

@@ -1,3 +1,4 @@
+-- The set has the numbers of the names so far, all known and distinct; so the next name fails as unknown, or as given twice where its number is in the set, or adds its number.
 use Rattle.std.proofs.Common.{◌≡◌, Some, None, inr, sym}
 use Rattle.su_schema.specs.Entries.{attribute_names, place_of}
 use Rattle.su_schema.proofs.NamesSoFar.{names_unknown, names_twice, names_next}

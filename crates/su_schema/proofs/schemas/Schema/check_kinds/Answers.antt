@@ -1,3 +1,4 @@
+-- The link has the numbers of what the pair names, so the two kinds that are compared are those of the pair's own attribute and column.
 use Rattle.std.proofs.Common.{◌≡◌, inr, ap, refl}
 use Rattle.su_schema.specs.Known.{columns_at, attribute_kind, column_kind}
 use Rattle.su_schema.proofs.PairsSoFar.{columns_there, attribute_within, column_within, kind_of_attribute, kind_of_column}

@@ -1,3 +1,4 @@
+-- The schema shows its relations in the order of their entries, and by its invariant each has at most 32 columns.
 use Rattle.std.proofs.Common.{◌≡◌, Some, ap, sym, refl, slice_get}
 use Rattle.std.specs.String.{string_bytes}
 use Rattle.std.proofs.lemmas.Option.{slice_get-map}

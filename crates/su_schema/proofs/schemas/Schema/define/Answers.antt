@@ -1,3 +1,4 @@
+-- The definition is an object with these names and pairs, as its form says.
 use Rattle.std.proofs.Common.{◌≡◌}
 use Rattle.su_schema.specs.declared.definitions.Definition.TheVariants.{Object}
 use Rattle.su_schema.proofs.schemas.Schema.define.Goals as goal

@@ -1,3 +1,4 @@
+-- The names shown are the keys of the attributes in order, so a key's place is its name's.
 use Rattle.std.proofs.Common.{◌∙◌, sym, refl}
 use Rattle.su_schema.proofs.Entries.{place_of-shown}
 use Rattle.su_schema.proofs.schemas.Schema.find_attribute.Goals as goal

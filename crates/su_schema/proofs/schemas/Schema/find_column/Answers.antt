@@ -1,3 +1,4 @@
+-- The place among the columns is that among their names, which the schema shows.
 use Rattle.std.proofs.Common.{Some, ap, sym, ◌∙◌}
 use Rattle.std.proofs.lemmas.Option.{slice_get-map}
 use Rattle.su_schema.proofs.Entries.{position-map}

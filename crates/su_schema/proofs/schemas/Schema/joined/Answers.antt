@@ -1,3 +1,4 @@
+-- The ordered links have attributes below the schema's count, which is at most 128, so a set has room for each of them.
 use Rattle.std.proofs.Common.{◌<◌, ◌≤◌, All, length, get_or, arith}
 use lib.ListN.{length-map}
 use Rattle.su_schema.specs.Definitions.{ascending}

@@ -1,3 +1,4 @@
+-- The pair's checks ask for its attribute and then for its column; the first that isn't found is the check that fails, and where both are found their numbers make the link.
 use Rattle.std.proofs.Common.{◌≡◌, ◌<◌, length, Some, None, inr, sym}
 use lib.ListN.{length-map}
 use Rattle.su_schema.specs.Entries.{attribute_names, column_names, relation_columns, place_of}

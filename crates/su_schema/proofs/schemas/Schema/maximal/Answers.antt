@@ -1,3 +1,4 @@
+-- Where fewer than 64 sets are declared and the names pass their checks, the whole definition does; so the schema with one set more is valid.
 use Rattle.std.proofs.Common.{◌≡◌, ◌<◌, None, false, nat_le, length, refl, arith}
 use Rattle.std.proofs.lemmas.Bool.Decides.{nat_tests}
 use Rattle.su_schema.specs.declared.definitions.Definition.TheVariants.{Maximal}

@@ -1,3 +1,4 @@
+-- By the invariant the set kept with an object is that of its links' attributes, which is what the schema shows of it.
 use Rattle.std.proofs.Common.{Some, ap, sym}
 use Rattle.std.proofs.lemmas.Option.{slice_get-map}
 use Rattle.su_schema.specs.Shown.{HasItsSet}

@@ -1,3 +1,4 @@
+-- An object is shown with the relation that its entry has.
 use Rattle.std.proofs.Common.{refl}
 use Rattle.std.proofs.lemmas.Option.{slice_get-map}
 use Rattle.su_schema.proofs.schemas.Schema.object_relation.Goals as goal

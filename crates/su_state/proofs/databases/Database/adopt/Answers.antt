@@ -1,3 +1,4 @@
+-- Taking notes of rows leaves the database what it is.
 use Rattle.std.proofs.Common.{Ok, sym, subst}
 use Rattle.su_state.specs.DatabaseValue.{DatabaseValue}
 use Rattle.su_state.specs.Definitions.{Defines}

@@ -1,3 +1,4 @@
+-- Dependencies that hold on the stored rows hold on fewer of them, so the database stays well kept, and only the one table changes.
 use Rattle.std.proofs.Common.{◌≡◌, ◌<◌, ◌≤◌, length, Ok, subst, ◌∙◌, arith}
 use Rattle.std.proofs.lemmas.List.{get_or-set_same}
 use Rattle.su_rel.specs.Stored.{Stored, AllDiffer}

@@ -1,3 +1,4 @@
+-- The answer that a new row may be put in says that it fits and breaks nothing; so the table with it keeps every dependency, and one refused leaves all as it was.
 use Rattle.std.proofs.Common.{◌<◌, ◌∙◌, inl, refl, length, Bool, Ok, true, subst, sym}
 use Rattle.su_state.specs.DatabaseValue.{DatabaseValue}
 use Rattle.su_state.specs.RowChanges.{InsertAnswers}

@@ -1,3 +1,4 @@
+-- The database so far is the first with the rows so far inserted one after another, of which so many were new; the row refused next is what ends the load.
 use Rattle.std.proofs.Common.{Bool, Ok, subst, ◌≡◌, ◌++◌, ◌∷◌, [], length, sym, ap, ◌∙◌, append_assoc, add-zero, ◌+◌, true, false, arith}
 use Rattle.std.proofs.lemmas.List.{length_push}
 use Rattle.std.specs.Vec.Iter.{into_iter_items}

@@ -1,3 +1,4 @@
+-- It is well kept by the invariant of its type.
 use Rattle.su_state.proofs.databases.Database.keeps_its_rules.Goals as goal
 
 pub returns : goal.returns

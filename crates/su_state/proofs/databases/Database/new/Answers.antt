@@ -1,3 +1,4 @@
+-- The tables so far are the empty ones of the relations so far, and tables without rows keep every dependency.
 use Rattle.std.proofs.Common.{◌≡◌, ◌+◌, ◌++◌, ◌∷◌, [], ℕ, take, length, sym, ap, ◌∙◌, arith}
 use Rattle.std.proofs.Math.Seq.{take-length}
 use lib.ListN.{length-map}

@@ -1,3 +1,4 @@
+-- The rows may all be put in, so each fits and all of them together keep the dependencies; thus the table with them is well kept, and it is what inserting each makes.
 use Rattle.std.proofs.Common.{◌<◌, length, subst, sym}
 use Rattle.su_state.specs.DatabaseValue.{DatabaseValue}
 use Rattle.su_state.specs.Loads.{InsertsAll}

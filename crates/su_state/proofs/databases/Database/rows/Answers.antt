@@ -1,3 +1,4 @@
+-- The rows of a table differ, as it is a relation, so their copies in order are the relation's rows in order.
 use Rattle.std.proofs.Common.{◌≡◌, ◌<◌, length, ap, subst, sym, ◌∙◌}
 use Rattle.std.proofs.lemmas.Result.{IfOk-weaker}
 use Rattle.su_rel.specs.Stored.{AllDiffer}

@@ -1,3 +1,4 @@
+-- The number is above all variables of the head and the rows so far, and each bound of the tableau's variables is no less than it.
 use Rattle.std.proofs.Common.{[], get_or, subst, sym, arith}
 use Rattle.std.proofs.lemmas.List.Elements.{All-from_get_or}
 use Rattle.su_tableau.specs.Tableaux.{AreBelow}
