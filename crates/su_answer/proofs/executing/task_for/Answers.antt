@@ -1,3 +1,4 @@
+-- The kept rows are a valid tableau and the least ones, so that they are safe to join by their essential columns; a task of them then fits the tables.
 use Rattle.std.proofs.Common.{refl, subst}
 use Rattle.su_schema.specs.SchemaValue.{SchemaValue}
 use Rattle.su_schema.specs.Entries.{attribute_kinds}
