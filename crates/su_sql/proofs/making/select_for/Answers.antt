@@ -1,3 +1,4 @@
+-- A task of the kept rows fits any tables of the schema, and of a task that fits the choices of the select are the valuations; the rows may be joined so since they are the least ones.
 use Rattle.std.proofs.Common.{subst}
 use Rattle.su_schema.specs.SchemaValue.{SchemaValue}
 use Rattle.su_schema.specs.Entries.{attribute_kinds}
