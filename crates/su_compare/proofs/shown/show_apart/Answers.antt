@@ -1,4 +1,4 @@
--- The chased term is frozen away from the constants of all terms, so it answers its frozen head, and a term that did as well would be mapped into it; sorting changes no row of the universe.
+-- The chased term answers its frozen head; as it is frozen away from all constants, a term of the second that did so too would map into it. Sorting leaves the universe the rows that it has.
 use Rattle.std.proofs.Common.{List, sym, subst, ◌∙◌}
 use Rattle.su_base.specs.declared.values.Kind.{Kind}
 use Rattle.su_schema.specs.Entries.{attribute_kinds}

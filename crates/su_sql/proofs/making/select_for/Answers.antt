@@ -1,4 +1,4 @@
--- A task of the kept rows fits any tables of the schema, and of a task that fits the choices of the select are the valuations; the rows may be joined so since they are the least ones.
+-- As the kept rows are least they are a valid tableau by themselves, so that a task of them fits the tables; of a task that fits, the choices that the select takes are the valuations.
 use Rattle.std.proofs.Common.{subst}
 use Rattle.su_schema.specs.SchemaValue.{SchemaValue}
 use Rattle.su_schema.specs.Entries.{attribute_kinds}
