@@ -1,3 +1,4 @@
+-- One row by itself is a task that fits the tables, and what this task puts out are exactly the row's candidates at its cells.
 use Rattle.std.proofs.Common.{List, sym, subst, ◌∙◌}
 use Rattle.su_base.specs.declared.values.Value.{Value}
 use Rattle.su_rel.specs.Stored.{Stored}

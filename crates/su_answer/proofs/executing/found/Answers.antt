@@ -1,3 +1,4 @@
+-- Each number has its job and each job its answers, in the same order; a job is over the term of its number, so the answers are that term's.
 use Rattle.std.proofs.Common.{◌≡◌, subst}
 use Rattle.su_min.specs.Reduction.{term_at}
 use Rattle.su_answer.specs.inside.Executed.{TermOver, IsFoundFor}

@@ -1,3 +1,4 @@
+-- The jobs so far are for the numbers so far, one each; the next number is below the terms' count, so the term at it is the one its job gets.
 use Rattle.std.proofs.Common.{◌≡◌, ◌∙◌, ℕ, [], subst, get_or}
 use Rattle.std.proofs.lemmas.List.{get_or_default}
 use Rattle.su_min.specs.Kept.{Minimised}

@@ -1,3 +1,4 @@
+-- A task that fits the term's kept rows answers, over the tables of a well kept database, what these rows answer in it.
 use Rattle.std.proofs.Common.{List, subst}
 use Rattle.su_rel.specs.Stored.{Stored}
 use Rattle.su_tableau.specs.Tableaux.{IsValid}

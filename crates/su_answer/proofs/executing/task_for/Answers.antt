@@ -1,3 +1,4 @@
+-- As the kept rows are least they are a valid tableau by themselves, which has every symbol of the head; so a task of them, each at its essential columns, fits the tables.
 use Rattle.std.proofs.Common.{refl, subst}
 use Rattle.su_schema.specs.SchemaValue.{SchemaValue}
 use Rattle.su_schema.specs.Entries.{attribute_kinds}

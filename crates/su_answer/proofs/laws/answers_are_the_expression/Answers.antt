@@ -1,3 +1,4 @@
+-- The exact answers are those of the kept terms, which over the projections of a universal relation are what all terms answer, and the terms are the expression; each step is a law cited.
 use Rattle.su_answer.proofs.Expression.{Laws, answers_are_the_expression}
 use Rattle.su_answer.proofs.laws.answers_are_the_expression.Goals as goal
 

@@ -1,3 +1,4 @@
+-- The minimals are those of valid and typed terms, and of such no kept one can be spared.
 use Rattle.su_answer.proofs.Minimals.{all_minimised, minimals_fit}
 use Rattle.su_answer.proofs.laws.prepared_terms_are_needed.Goals as goal
 

@@ -1,3 +1,4 @@
+-- The jobs so far are for the terms so far, each with its term's tableau.
 use Rattle.std.proofs.Common.{◌≡◌, refl}
 use Rattle.su_answer.proofs.PairedLists.{zip_more}
 use Rattle.su_answer.proofs.making.jobs.Goals as goal

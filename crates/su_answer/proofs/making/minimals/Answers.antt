@@ -1,3 +1,4 @@
+-- Each term has its job and each job its minimal, in the same order; the job's tableau is its term's, so the minimal is too.
 use Rattle.std.proofs.Common.{◌≡◌, subst}
 use Rattle.su_tableau.specs.Tableaux.{Tab}
 use Rattle.su_answer.specs.Prepared.{IsMinimisedOf}

@@ -1,3 +1,4 @@
+-- There are as many minimals as terms, and of an accepted query there are few of these; terms, minimals and the reduction are each made from the one before.
 use Rattle.std.proofs.Common.{List, length, ap, subst, arith}
 use Rattle.std.specs.List.{AllZip}
 use Rattle.su_schema.specs.SchemaValue.{SchemaValue}

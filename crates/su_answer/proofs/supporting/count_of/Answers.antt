@@ -1,3 +1,4 @@
+-- The edge read is the one at its place, so that the count of its candidates and of those left are what the definition counts there.
 use Rattle.std.proofs.Common.{◌≡◌, [], ◌∙◌}
 use Rattle.std.proofs.lemmas.List.{get_or_default}
 use Rattle.su_reduce.specs.Left.{edge_at}

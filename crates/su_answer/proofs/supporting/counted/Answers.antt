@@ -1,3 +1,4 @@
+-- The counts so far are those of the edges so far, and each is the definition's.
 use Rattle.su_base.proofs.Items.{map-range_push}
 use Rattle.su_answer.specs.inside.Supported.{counted_at}
 use Rattle.su_answer.proofs.supporting.counted.Goals as goal

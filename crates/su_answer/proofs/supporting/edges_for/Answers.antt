@@ -1,3 +1,4 @@
+-- The kept rows make a task that fits the tables and whose rows are countable, so each row has its edge, and there are as few edges as rows.
 use Rattle.std.proofs.Common.{List, All, sym, subst, arith}
 use Rattle.std.specs.List.{AllZip}
 use Rattle.su_base.proofs.Items.{AllZip-length}

@@ -1,3 +1,4 @@
+-- The numbers so far are the rows below the place that are in the mask; the next is added exactly if it is in it too.
 use Rattle.std.proofs.Common.{List, [], ◌∷◌, ◌++◌, ℕ, sym, ap, ◌∙◌}
 use Rattle.std.proofs.lemmas.Bool.{true≢false}
 use Rattle.su_answer.proofs.TaskRows.{numbers_next, numbers_stay}

@@ -1,3 +1,4 @@
+-- A row's candidates come from relations whose sizes are limited, so that there are never more than 64 bits can count.
 use Rattle.std.proofs.Common.{All, subst, arith}
 use Rattle.su_base.proofs.Items.{All-members}
 use Rattle.su_schema.specs.SchemaValue.{SchemaValue}

@@ -1,3 +1,4 @@
+-- The list of edge k is the one that stands at its place, so the count is its length.
 use Rattle.std.proofs.Common.{List, [], Some, length, sym, ap, ◌∙◌}
 use Rattle.std.proofs.lemmas.Option.{get_or_from_slice_get}
 use Rattle.su_base.specs.declared.values.Value.{Value}

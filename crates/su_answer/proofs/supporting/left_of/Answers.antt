@@ -1,3 +1,4 @@
+-- An order of ears is the witness that the edges are acyclic, and it is what reducing needs; that none was found is the refutation.
 use Rattle.std.proofs.Common.{List, sym, subst}
 use Rattle.su_reduce.specs.declared.edges.Ear.{Ear}
 use Rattle.su_reduce.specs.Ears.{IsEarOrder, cells_of}

@@ -1,3 +1,4 @@
+-- The prepared terms are typed and the kept numbers lie below their count, so that each kept number gets the support of its own term.
 use Rattle.std.proofs.Common.{◌≡◌, ◌<◌, ℕ, List, length, All, sym, subst}
 use Rattle.std.specs.List.{AllZip}
 use Rattle.su_tableau.specs.Kinds.{IsTyped}

@@ -1,3 +1,4 @@
+-- There is a number for each edge, since both go by the kept rows; so the acyclicity, the counts and what is left of the candidates are those of these edges.
 use Rattle.std.proofs.Common.{◌≤◌, ◌∙◌, ℕ, List, map, length, sym, ap, subst}
 use Rattle.std.specs.List.{range_with_len}
 use Rattle.su_reduce.specs.declared.edges.Edge.{Edge}

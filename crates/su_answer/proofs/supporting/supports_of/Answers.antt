@@ -1,3 +1,4 @@
+-- The supports so far are those of the numbers so far, one each; the term at the next number is within the list, so its support is of that term.
 use Rattle.std.proofs.Common.{◌≡◌, ◌∙◌, ℕ, [], subst, get_or}
 use Rattle.std.proofs.lemmas.List.{get_or_default}
 use Rattle.su_reduce.specs.declared.support.Support.{Support}

@@ -1,3 +1,4 @@
+-- The attribute is the object's own, so one of its links gives it a column; that it had none would contradict this.
 use Rattle.std.proofs.Common.{◌∙◌, ap, Some}
 use Rattle.su_state.proofs.Columns.{column_answered}
 use Rattle.su_answer.proofs.Columns.{column_there}

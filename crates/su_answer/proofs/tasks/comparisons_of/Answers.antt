@@ -1,3 +1,4 @@
+-- The comparisons so far are those that the head has at the places so far.
 use Rattle.su_base.proofs.Items.{map-range_push}
 use Rattle.su_answer.specs.Joined.{comparison_at}
 use Rattle.su_answer.proofs.tasks.comparisons_of.Goals as goal

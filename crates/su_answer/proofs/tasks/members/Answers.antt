@@ -1,3 +1,4 @@
+-- The numbers so far are the members of the set below the place.
 use Rattle.std.specs.FinSet.{contains}
 use Rattle.su_steps.proofs.PassingNumbers.{passing_push}
 use Rattle.su_answer.proofs.tasks.members.Goals as goal

@@ -1,3 +1,4 @@
+-- The rows so far are those of the mask below the place, each with its own essential columns; the next is added exactly if it is in the mask.
 use Rattle.std.proofs.Common.{sym, ◌∙◌, ◌<◌, length, arith}
 use Rattle.std.proofs.lemmas.Bool.{true≢false}
 use Rattle.su_steps.proofs.Sourced.{own_columns}

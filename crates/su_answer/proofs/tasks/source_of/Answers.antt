@@ -1,3 +1,4 @@
+-- The object's entry gives its relation and the column of each attribute; once all attributes are gone through, the columns are all of the source's.
 use Rattle.std.proofs.Common.{◌≡◌, [], Some, map, get_or, take, sym, ap, ◌∙◌, arith}
 use Rattle.std.specs.Prelude.{slice_get, option_map}
 use Rattle.std.proofs.lemmas.List.{take_all}

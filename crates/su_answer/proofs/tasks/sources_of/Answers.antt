@@ -1,3 +1,4 @@
+-- The sources so far are those of the set's objects below the number; the next object gives its source exactly if it is in the set.
 use Rattle.std.proofs.Common.{sym, ◌∙◌}
 use Rattle.su_answer.proofs.TaskRows.{sources_more, sources_same}
 use Rattle.su_answer.proofs.tasks.sources_of.Goals as goal

@@ -1,3 +1,4 @@
+-- The objects found have all of the columns, so each has a column for every attribute of the row; where the columns are the essential ones, these objects are exactly its sources.
 use Rattle.std.proofs.Common.{ℕ, ◌<◌, List, map, All, ap, sym, ◌∙◌, subst}
 use Rattle.std.specs.Prelude.{IsTrue}
 use Rattle.std.specs.FinSet.{contains}

@@ -1,3 +1,4 @@
+-- Of two ascending lists the greatest row is the last of the one whose last row is greater, and the last of both where these two are equal.
 use Rattle.su_answer.proofs.Greatest.{of_one, of_other, of_both, order_of}
 use Rattle.su_answer.proofs.uniting.take_greatest.Goals as goal
 

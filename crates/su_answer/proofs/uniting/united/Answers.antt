@@ -1,3 +1,4 @@
+-- Where the rows of one list are all among the other's, the other is their union: each row of either list is in it.
 use Rattle.std.proofs.Common.{inl, inr, ⊎_elim, List, Contains, refl, sym, subst}
 use Rattle.su_base.specs.declared.values.Value.{Value}
 use Rattle.su_answer.proofs.uniting.united.Goals as goal

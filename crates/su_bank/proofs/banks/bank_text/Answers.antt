@@ -1,3 +1,4 @@
+-- The session was made by the script's statements on the empty database, and the four lines found in it stand behind the line that tells the bank's size.
 use Rattle.std.proofs.Common.{◌≡◌, ◌++◌, ◌∙◌, ap, refl}
 use Rattle.std.specs.Prelude.{string_bytes}
 use Rattle.su_ddl.specs.Files.{no_definitions}

@@ -1,3 +1,4 @@
+-- The query is explained and then answered, each a step of the session, and the line is made of these two replies.
 use Rattle.std.proofs.Common.{◌∙◌, ℕ, List, None, ap, subst}
 use Rattle.std.proofs.lemmas.Result.{IfOk-weaker}
 use Rattle.su_session.specs.Reply.{Replied}

@@ -1,3 +1,4 @@
+-- Each of the four queries finds its line in the session that the one before left, and the lines stand in their order behind the text.
 use Rattle.std.proofs.Common.{◌++◌, []}
 use Rattle.su_bank.proofs.FourQueries.{lines_of, found_of}
 use Rattle.su_bank.proofs.banks.push_lines.Goals as goal

@@ -1,3 +1,4 @@
+-- The statements so far were taken one after another; at the end these are all pieces of the script.
 use Rattle.std.proofs.Common.{arith}
 use Rattle.su_bank.proofs.Statements.{takes_more, takes_all}
 use Rattle.su_bank.proofs.banks.take_script.Goals as goal

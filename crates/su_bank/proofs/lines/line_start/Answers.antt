@@ -1,3 +1,4 @@
+-- No byte behind the place is a line feed, and the place is at the front or behind one; so what is behind is the last line.
 use Rattle.std.proofs.Common.{arith, eq-eqb}
 use Rattle.su_bank.proofs.LastLine.{starts_at}
 use Rattle.su_bank.proofs.lines.line_start.Goals as goal

@@ -1,3 +1,4 @@
+-- The script so far is the definitions and then the inserts of the rows so far.
 use Rattle.std.proofs.Common.{◌+◌, ◌++◌, ap, ◌∙◌}
 use Rattle.su_bank.specs.Scripts.{bank_definitions, inserts_of}
 use Rattle.su_bank.proofs.ScriptPieces.{pieces_more}

@@ -1,3 +1,4 @@
+-- Seven pieces appended one after another are the seven together behind what was there.
 use Rattle.std.specs.Prelude.{◌*◌, ◌%◌, codes, string_bytes}
 use Rattle.su_bank.specs.declared.scripts.Cell.TheVariants.{Number, Bank, Customer, Street}
 use Rattle.su_bank.specs.Scripts.{insert}

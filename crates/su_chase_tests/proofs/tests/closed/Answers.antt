@@ -1,3 +1,4 @@
+-- What closing asks of rows and dependencies was tested before it.
 use Rattle.std.proofs.Common.{◌≤◌, refl, length, arith}
 use Rattle.su_chase_tests.proofs.tests.closed.Goals as goal
 

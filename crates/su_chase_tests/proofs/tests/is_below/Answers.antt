@@ -1,3 +1,4 @@
+-- The set of all below the width contains both sides, so every member is below it.
 use Rattle.std.proofs.Common.{refl, sym}
 use Rattle.su_base.proofs.Subsets.{subset_at}
 use Rattle.su_chase_tests.proofs.tests.is_below.Goals as goal

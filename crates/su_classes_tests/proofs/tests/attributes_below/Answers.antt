@@ -1,3 +1,4 @@
+-- The members so far are the attributes below the number, and inserting the number makes it those below the next.
 use Rattle.std.proofs.Common.{◌↔◌, ◌<◌, ◌+◌, ℕ, false, sym, ap, subst, ◌∙◌, arith}
 use Rattle.std.specs.Prelude.{IsTrue}
 use Rattle.std.specs.Ordering.{nat_cmp}

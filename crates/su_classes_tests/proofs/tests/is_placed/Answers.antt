@@ -1,3 +1,4 @@
+-- The attributes that the row has are among those below its width, and at each of these its item was tested to be below the bound.
 use Rattle.std.proofs.Common.{◌≡◌, ◌<◌, length, sym, arith}
 use Rattle.su_base.proofs.Subsets.{subset_at}
 use Rattle.su_classes_tests.proofs.tests.is_placed.Goals as goal

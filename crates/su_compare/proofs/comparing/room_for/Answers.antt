@@ -1,3 +1,4 @@
+-- The room is as great as the greatest of the terms so far, and a bound that holds of a tableau holds as well when it is raised; so it is enough for each of the terms.
 use Rattle.std.proofs.Common.{◌≡◌, ℕ, ◌≤◌, length, sym, ap, ◌∙◌, subst, below_more, arith}
 use Rattle.su_tableau.specs.Tableaux.{Tab, AreVarsBelow}
 use Rattle.su_tableau.proofs.Rows.{vars_up}

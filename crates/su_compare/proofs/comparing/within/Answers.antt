@@ -1,3 +1,4 @@
+-- Terms stand for their queries over each universe that meets the dependencies, so that what the verdict says of the terms, either way, is so of the two queries.
 use Rattle.su_compare.proofs.PlainTerms.{within_queries, counterexamples, yes_if_within}
 use Rattle.su_compare.proofs.comparing.within.Goals as goal
 

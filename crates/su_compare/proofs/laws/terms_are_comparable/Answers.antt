@@ -1,3 +1,4 @@
+-- The terms of accepted queries are valid and typed, which equal output kinds make alike.
 use Rattle.su_compare.proofs.Comparable.{comparable}
 use Rattle.su_compare.proofs.laws.terms_are_comparable.Goals as goal
 

@@ -1,3 +1,4 @@
+-- The kinds of the outputs so far are the same on both sides, and lists of one length that are the same at each place are equal; one place that differs shows that they aren't.
 use Rattle.std.proofs.Common.{◌≡◌, true, false, true≢false, get_or, below_more, rules, refl, sym, ap, ◌∙◌, arith}
 use Rattle.std.proofs.lemmas.List.{length-map}
 use Rattle.su_base.specs.declared.values.Kind.{Kind}

@@ -1,3 +1,4 @@
+-- The output's kind is read through two lists, that of the outputs for its place and that of the places for its attribute, whose kind it is.
 use Rattle.std.proofs.Common.{ℕ, ap, ◌∙◌}
 use Rattle.std.specs.Prelude.{slice_index_or}
 use Rattle.std.proofs.lemmas.List.{get_or-map}

@@ -1,3 +1,4 @@
+-- Over a universe that meets the dependencies a term answers what its chased tableau does: nothing where that clashes, and no more than a term does that is mapped into it.
 use Rattle.std.proofs.Common.{◌↔◌, ℕ, ◌<◌, length, subst}
 use Rattle.std.specs.Prelude.{Option, MatchOption}
 use Rattle.su_tableau.specs.Valuations.{Ext}

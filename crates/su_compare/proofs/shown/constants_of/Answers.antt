@@ -1,3 +1,4 @@
+-- What was gathered are the constants of the first's terms and then the second's, and sorting keeps which values are among them.
 use Rattle.std.proofs.Common.{◌++◌, ap, ◌∙◌}
 use Rattle.su_compare.specs.inside.Settlements.{terms_constants}
 use Rattle.su_compare.proofs.Gathered.{of_both}

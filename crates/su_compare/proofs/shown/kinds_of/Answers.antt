@@ -1,3 +1,4 @@
+-- The kinds so far are the first of the attributes' kinds, as many as attributes were gone through; at the end these are all.
 use Rattle.std.proofs.Common.{◌≤◌, length, ◌∙◌, arith}
 use Rattle.std.proofs.lemmas.List.{take_all, length-map}
 use Rattle.su_schema.specs.Entries.{attribute_kinds}

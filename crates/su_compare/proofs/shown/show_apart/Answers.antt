@@ -1,3 +1,4 @@
+-- The chased term answers its frozen head; as it is frozen away from all constants, a term of the second that did so too would map into it. Sorting leaves the universe the rows that it has.
 use Rattle.std.proofs.Common.{List, sym, subst, ◌∙◌}
 use Rattle.su_base.specs.declared.values.Kind.{Kind}
 use Rattle.su_schema.specs.Entries.{attribute_kinds}

@@ -1,3 +1,4 @@
+-- The row at i has the value, so the positions below i + 1 that match are those below i and then i itself.
 use Rattle.std.proofs.Common.{◌∙◌, ◌+◌, List, sym, subst}
 use Rattle.su_base.specs.declared.values.Value.{Value}
 use Rattle.su_exec_tests.specs.inside.Scans.{AreAddedBelow}

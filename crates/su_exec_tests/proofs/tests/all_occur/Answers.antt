@@ -1,3 +1,4 @@
+-- The symbols so far occur, by a test of each; those of the last round are all of them.
 use Rattle.std.proofs.Common.{◌≡◌, ℕ, subst, sym, arith}
 use Rattle.std.proofs.lemmas.Bool.{OnTrue_at}
 use Rattle.std.proofs.lemmas.List.Elements.{All-more, All-same}

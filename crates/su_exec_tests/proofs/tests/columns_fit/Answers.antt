@@ -1,3 +1,4 @@
+-- The columns so far are below the width, each of them tested; at the end the columns so far are all of them.
 use Rattle.std.proofs.Common.{◌<◌, sym, arith}
 use Rattle.std.proofs.lemmas.List.Elements.{All-more, All-same}
 use Rattle.std.proofs.lemmas.List.{take_all}

@@ -1,3 +1,4 @@
+-- The comparisons so far have sides that occur, both sides of each tested; after the last one this holds of all comparisons.
 use Rattle.std.proofs.Common.{◌≡◌, ℕ, subst, sym, arith}
 use Rattle.std.proofs.lemmas.Bool.{OnTrue_at}
 use Rattle.std.proofs.lemmas.List.Elements.{All-more, All-same}

@@ -1,3 +1,4 @@
+-- What makes it a task was tested of lists: few rows, sources that fit, outputs and sides that occur; what holds of a whole list holds of each member.
 use Rattle.std.proofs.Common.{◌≡◌, ◌≤◌, ℕ, All, List, length, refl, subst, arith}
 use Rattle.std.proofs.lemmas.Bool.{OnTrue_at, OnTrue_from}
 use Rattle.std.proofs.lemmas.List.Elements.{All-contains}

@@ -1,3 +1,4 @@
+-- The rows so far have sources that fit the tables, as many columns as the row has cells; at the end these are all rows.
 use Rattle.std.proofs.Common.{List, length, All, subst, sym, arith}
 use Rattle.std.proofs.lemmas.Bool.{OnTrue_at}
 use Rattle.std.proofs.lemmas.List.Elements.{All-more, All-same}

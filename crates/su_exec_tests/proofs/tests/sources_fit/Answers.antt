@@ -1,3 +1,4 @@
+-- The sources so far fit the tables, as each was tested alone; those before the end are all of them.
 use Rattle.std.proofs.Common.{subst, sym, arith}
 use Rattle.std.proofs.lemmas.Bool.{OnTrue_at}
 use Rattle.std.proofs.lemmas.List.Elements.{All-more, All-same}

@@ -1,3 +1,4 @@
+-- A row in which the variable was found is a witness that it occurs.
 use Rattle.std.proofs.Common.{Contains, subst}
 use Rattle.su_tableau.specs.declared.symbols.Sym.TheVariants.{Var}
 use Rattle.su_exec.proofs.Labels.{stands_at}

@@ -1,3 +1,4 @@
+-- The query is ready with terms; then either trees are made of its minimals and the certificate is their text, or their nodes are too many; any cause before is the one defined, and is told.
 use Rattle.std.proofs.Common.{◌≡◌, ◌∙◌, refl, ap, subst, inl, inr, Err, List}
 use Rattle.su_base.specs.declared.values.Kind.{Kind}
 use Rattle.su_schema.specs.Entries.{attribute_kinds}

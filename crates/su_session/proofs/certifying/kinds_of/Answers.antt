@@ -1,3 +1,4 @@
+-- The kinds so far are a front of the attributes' kinds, and the next is the one that stands behind it.
 use Rattle.std.proofs.Common.{◌∙◌, ap, sym, List, [], ◌∷◌, ◌++◌, take}
 use Rattle.std.proofs.lemmas.List.{take_more}
 use Rattle.std.proofs.lemmas.Option.{slice_get_within, get_or_from_slice_get}

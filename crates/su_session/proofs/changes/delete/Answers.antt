@@ -1,3 +1,4 @@
+-- A relation's name that isn't found is the one refusal made here; any other end is what the database's own delete told.
 use Rattle.std.proofs.Common.{◌≡◌}
 use Rattle.su_state.specs.declared.faults.StateFault.TheVariants.{NoMemory}
 use Rattle.su_show.specs.declared.statement_refusal.Refusal.TheVariants.{State}

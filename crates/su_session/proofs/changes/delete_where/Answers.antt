@@ -1,3 +1,4 @@
+-- Three ends, each as defined: no such relation, a condition with a name that isn't a column's, or the rows deleted where the condition over numbers holds, which is the one that was read.
 use Rattle.std.proofs.Common.{◌≡◌, inl, inr}
 use Rattle.su_query.specs.declared.faults.QueryFault.TheVariants as query
 use Rattle.su_query.specs.Lookup.{IsColumnRefusal}

@@ -1,3 +1,4 @@
+-- The name is unknown, or it gives the relation's number, and what the database says of the insert there, done or refused, is what is replied.
 use Rattle.std.proofs.Common.{◌≡◌, Err, inr}
 use Rattle.su_state.specs.declared.faults.StateFault.TheVariants.{NoMemory}
 use Rattle.su_state.specs.RowChanges.{Inserts}

@@ -1,3 +1,4 @@
+-- Each end is at its own step: no such relation, a file at fault, an insert of some record refused, or all rows loaded; the columns that the file is read by are those of the relation found.
 use Rattle.std.proofs.Common.{◌≡◌, Err, inl, inr}
 use Rattle.su_csv.specs.declared.faults.CsvFault.TheVariants as csv
 use Rattle.su_csv.specs.File.{reading}

@@ -1,3 +1,4 @@
+-- The symbols are those that the text spells, so that what is read of them is read of it; a text without symbols is neither a definition nor a statement.
 use Rattle.std.proofs.Common.{Err, ℕ, List, inl, inr, ap}
 use Rattle.std.proofs.lemmas.Result.{IfOk-weaker}
 use Rattle.su_lex.specs.Symbols.{Symbols}

@@ -1,3 +1,4 @@
+-- What spells these symbols begins a definition, and has a form if they have.
 use Rattle.std.proofs.Common.{Err, inl, refl, ap}
 use Rattle.su_session.proofs.Texts.{no_form}
 use Rattle.su_session.proofs.commands.read_definition.Goals as goal

@@ -1,3 +1,4 @@
+-- No text of these symbols begins a definition, so it is a statement or at fault; a fault that isn't want of memory is the definition's refusal, and the reply tells it.
 use Rattle.std.proofs.Common.{◌≡◌, ◌≢◌, ℕ, List, inl, inr, sym, subst}
 use Rattle.std.proofs.lemmas.Result.{IfOk-weaker}
 use Rattle.su_lex.specs.Symbols.{Symbols}

@@ -1,3 +1,4 @@
+-- The queries are of one form, so their terms are comparable in either order; the verdicts forth and back, or the first cause to refuse them, are what the definition asks the reply to tell.
 use Rattle.std.proofs.Common.{◌≡◌, List, sym, ◌∙◌, subst}
 use Rattle.su_schema.specs.Valid.{IsValid}
 use Rattle.su_steps.specs.declared.results.Term.{Term}

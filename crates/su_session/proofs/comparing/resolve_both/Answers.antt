@@ -1,3 +1,4 @@
+-- A refusal is the first query's, or the second's where the first one is known.
 use Rattle.std.proofs.Common.{inl, inr}
 use Rattle.su_session.proofs.comparing.resolve_both.Goals as goal
 

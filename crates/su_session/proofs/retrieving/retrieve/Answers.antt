@@ -1,3 +1,4 @@
+-- The query is prepared and in range, as answering needs; its ends are a refusal told, an answer that would be too long, or the rows.
 use Rattle.std.proofs.Common.{sym, subst, inl, inr}
 use Rattle.su_query.specs.declared.resolving.Resolved.{Resolved}
 use Rattle.su_query.specs.Ranges.{IsResolved}

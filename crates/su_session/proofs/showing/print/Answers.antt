@@ -1,3 +1,4 @@
+-- The one refusal is that there is no such relation, since want of memory is handed on and never told.
 use Rattle.std.proofs.Common.{◌≡◌}
 use Rattle.su_state.specs.declared.faults.StateFault.TheVariants.{NoMemory}
 use Rattle.su_show.specs.declared.statement_refusal.Refusal.TheVariants.{State}

@@ -1,3 +1,4 @@
+-- The query is prepared and in range, as counting needs; the text tells the supports of that preparation, and a query that isn't ready is refused for the cause defined.
 use Rattle.std.proofs.Common.{◌∙◌, refl, sym, ap, subst, inr, inl}
 use Rattle.su_query.specs.declared.resolving.Resolved.{Resolved}
 use Rattle.su_query.specs.Ranges.{IsResolved}

@@ -1,3 +1,4 @@
+-- The names are all known and the window is over their numbers; its ends, exact rows, too many members or a clash, are those of the definition, as want of memory is handed on.
 use Rattle.std.proofs.Common.{◌≡◌, ◌↔◌, ℕ, List, Contains, None, refl, ap, ◌∙◌, subst, inl, inr}
 use Rattle.su_base.specs.declared.values.Value.{Value}
 use Rattle.su_schema.specs.SchemaValue.{SchemaValue}

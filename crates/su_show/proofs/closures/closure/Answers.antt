@@ -1,3 +1,4 @@
+-- The text is written from the closure and from the dependencies that were used, which are what the reply's definition asks for.
 use Rattle.std.proofs.Common.{◌≡◌}
 use Rattle.std.proofs.lemmas.Result.{IfOk-weaker}
 use Rattle.su_show.specs.Replies.{closure_reply, IsClosureReply}

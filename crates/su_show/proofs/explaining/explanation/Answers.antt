@@ -1,3 +1,4 @@
+-- The text so far is the query's lines and then the text of each term so far; the next term's tableau, minimal rows and end are its text, which comes behind.
 use Rattle.std.proofs.Common.{◌++◌, arith}
 use Rattle.su_show.specs.Explanations.{query_line, variables_line, IsTermText}
 use Rattle.su_show.proofs.Lines.{adds_next}

@@ -1,3 +1,4 @@
+-- The lines so far are those of the kept rows so far; the next row adds its line exactly if it is kept, and the columns read at its place are its essential ones.
 use Rattle.std.proofs.Common.{◌↔◌, ◌<◌, ap, sym, ◌∙◌, subst, length, arith, IsTrue}
 use Rattle.std.specs.Ordering.{nat_cmp}
 use Rattle.std.specs.FinSet.{FinSet, contains, empty}

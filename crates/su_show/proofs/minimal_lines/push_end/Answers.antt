@@ -1,3 +1,4 @@
+-- A term that isn't kept has its cover's line for its end; that it were kept after all contradicts the test.
 use Rattle.std.proofs.Common.{inr, refl, sym, ◌∙◌}
 use Rattle.std.proofs.lemmas.Bool.{true≢false}
 use Rattle.std.proofs.lemmas.Result.{on_ok_weaker}

@@ -1,3 +1,4 @@
+-- The columns are the row's essential ones, so the objects that have them are its sources, whose line is added.
 use Rattle.std.proofs.Common.{refl}
 use Rattle.std.proofs.lemmas.Result.{on_ok_weaker}
 use Rattle.su_show.specs.MinimalLines.{sources_line}

@@ -1,3 +1,4 @@
+-- Appending nothing behind the column's name changes no text.
 use Rattle.std.proofs.Common.{append-nil}
 use Rattle.std.proofs.lemmas.Result.{on_ok_weaker}
 use Rattle.su_show.proofs.refusing.push_kind_of.Goals as goal

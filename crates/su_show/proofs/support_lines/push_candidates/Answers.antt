@@ -1,3 +1,4 @@
+-- The label and then the decimal count are one text, as appending associates.
 use Rattle.std.proofs.Common.{◌++◌, ap, ◌∙◌, append_assoc, codes, decimal}
 use Rattle.std.proofs.lemmas.Result.{on_ok_weaker}
 use Rattle.su_show.proofs.support_lines.push_candidates.Goals as goal

@@ -1,3 +1,4 @@
+-- The text so far is that of the set's attributes below the number; the next attribute adds its cell's text exactly if it is in the set.
 use Rattle.std.proofs.Common.{ap, sym, ◌∙◌}
 use Rattle.std.specs.FinSet.{contains}
 use Rattle.su_show.specs.RowLines.{cell_text}

@@ -1,3 +1,4 @@
+-- The lines so far are those of the comparisons before the number.
 use Rattle.su_show.specs.TableauLines.{compare_line}
 use Rattle.su_show.proofs.Numbers.{text-next}
 use Rattle.su_show.proofs.tableau_lines.push_compares.Goals as goal

@@ -1,3 +1,4 @@
+-- The cells so far are those of the rows so far, each at its table's number and its place; the next row's cells come behind them.
 use Rattle.std.proofs.Common.{◌≡◌, ◌++◌, List, get_or, ap, ◌∙◌}
 use Rattle.std.proofs.lemmas.List.{get_or_default}
 use Rattle.su_exec.specs.declared.tasks.TaskRow.{TaskRow}

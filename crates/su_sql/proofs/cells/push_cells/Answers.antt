@@ -1,3 +1,4 @@
+-- The cells so far are those of the row so far, each with its place, behind those that were there; the next symbol's cell comes behind them.
 use Rattle.std.proofs.Common.{◌≡◌, List, get_or, ap, ◌∙◌}
 use Rattle.std.proofs.lemmas.List.{get_or_default}
 use Rattle.su_tableau.specs.declared.symbols.Sym.{Sym}

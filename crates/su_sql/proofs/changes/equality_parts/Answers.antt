@@ -1,3 +1,4 @@
+-- The parts so far are the row's equalities in the columns so far.
 use Rattle.su_sql.specs.Changes.{equality_text}
 use Rattle.su_sql.proofs.ImageLists.{images_next}
 use Rattle.su_sql.proofs.changes.equality_parts.Goals as goal

@@ -1,3 +1,4 @@
+-- The parts so far are the shown columns of the relation so far.
 use Rattle.su_sql.specs.Changes.{shown_column}
 use Rattle.su_sql.proofs.ImageLists.{images_next}
 use Rattle.su_sql.proofs.changes.shown_parts.Goals as goal

@@ -1,3 +1,4 @@
+-- Five pieces appended one after another, the path as a literal of SQLite and the relation by its name, are the load's command.
 use Rattle.std.proofs.Common.{◌∷◌, [], codes}
 use Rattle.std.proofs.lemmas.Result.{on_ok_weaker}
 use Rattle.su_sql.specs.Texts.{literal_text}

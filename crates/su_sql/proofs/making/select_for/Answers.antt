@@ -1,3 +1,4 @@
+-- As the kept rows are least they are a valid tableau by themselves, so that a task of them fits the tables; of a task that fits, the choices that the select takes are the valuations.
 use Rattle.std.proofs.Common.{subst}
 use Rattle.su_schema.specs.SchemaValue.{SchemaValue}
 use Rattle.su_schema.specs.Entries.{attribute_kinds}

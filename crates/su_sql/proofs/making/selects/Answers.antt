@@ -1,3 +1,4 @@
+-- The terms kept are valid and typed, so each select gives what its term answers over any rows of the schema; the union of the selects is then the union of the terms' answers, the query's.
 use Rattle.std.proofs.Common.{ℕ, ◌<◌, List, [], length, All, sym, subst}
 use Rattle.std.specs.List.{AllZip}
 use Rattle.std.proofs.lemmas.List.Elements.{All-contains}

@@ -1,3 +1,4 @@
+-- The selects so far are those of the numbers so far, one each, and the term at the next number is the one that its select is made of.
 use Rattle.std.proofs.Common.{◌∙◌, ℕ, [], subst, get_or}
 use Rattle.std.proofs.lemmas.List.{get_or_default}
 use Rattle.su_min.specs.Kept.{Minimised}

@@ -1,3 +1,4 @@
+-- The text so far is the tables and what was written for the statements so far, each in the session that the one before left; at the end these are all of the script's.
 use Rattle.std.proofs.Common.{◌≡◌, ◌++◌, List, ℕ, map, take, sym, ap, ◌∙◌, subst, arith}
 use Rattle.std.proofs.lemmas.List.{take_all}
 use Rattle.su_lex.specs.declared.spans.Span.{Span}

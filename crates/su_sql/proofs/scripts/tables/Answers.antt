@@ -1,3 +1,4 @@
+-- The text so far is that of the tables of the relations so far.
 use Rattle.su_sql.specs.Changes.{create_text}
 use Rattle.su_sql.proofs.ImageLists.{flat_next}
 use Rattle.su_sql.proofs.scripts.tables.Goals as goal

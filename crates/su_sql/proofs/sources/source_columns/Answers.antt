@@ -1,3 +1,4 @@
+-- The parts so far are the columns of the source so far.
 use Rattle.su_sql.specs.Tables.{source_column}
 use Rattle.su_sql.proofs.ImageLists.{images_next}
 use Rattle.su_sql.proofs.sources.source_columns.Goals as goal

@@ -1,3 +1,4 @@
+-- The parts so far are the texts of the tables before the number.
 use Rattle.su_sql.specs.Tables.{table_text}
 use Rattle.su_sql.proofs.ImageLists.{images_next}
 use Rattle.su_sql.proofs.sources.table_parts.Goals as goal

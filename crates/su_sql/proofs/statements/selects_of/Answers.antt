@@ -1,3 +1,4 @@
+-- The numbers made of the names are those that the definition gives the query, so that the selects of what is prepared give the query's answer, and each refusal is one of the query's.
 use Rattle.std.proofs.Common.{◌≡◌, inl, inr, subst}
 use Rattle.su_query.specs.declared.resolving.Resolved.{Resolved}
 use Rattle.su_query.specs.Lookup.{IsKnownQuery}

@@ -1,3 +1,4 @@
+-- The parts so far are the numbers of the places so far, counted from 1.
 use Rattle.su_sql.specs.Queries.{place_number}
 use Rattle.su_sql.proofs.ImageLists.{images_next}
 use Rattle.su_sql.proofs.writing.number_parts.Goals as goal

@@ -1,3 +1,4 @@
+-- The parts so far are the outputs of the select so far, each with its name.
 use Rattle.su_sql.specs.Clauses.{output_text}
 use Rattle.su_sql.proofs.ImageLists.{images_next}
 use Rattle.su_sql.proofs.writing.output_parts.Goals as goal

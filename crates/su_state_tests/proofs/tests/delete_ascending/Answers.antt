@@ -1,3 +1,4 @@
+-- Relation 0 was tested to have two columns, so a condition on two places fits it.
 use Rattle.std.proofs.Common.{◌≡◌, ℕ, length, slice_get, Some, subst, sym, ap, ◌∙◌}
 use Rattle.su_schema.specs.SchemaValue.{SchemaValue}
 use Rattle.su_schema.specs.Entries.{relation_columns}

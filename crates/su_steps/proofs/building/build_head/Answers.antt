@@ -1,3 +1,4 @@
+-- The head so far names the outputs and the unevaluated sides of the comparisons so far, none of which is false by the names; so one that says false leaves the disjunct without a head.
 use Rattle.std.proofs.Common.{◌*◌, map}
 use Rattle.su_steps.specs.PairSymbols.{place_symbol}
 use Rattle.su_steps.specs.inside.Numbers.{class_name}

@@ -1,3 +1,4 @@
+-- The cells so far are those of the origin's row; the next is a pair's name or the row's own symbol.
 use Rattle.std.proofs.Common.{◌*◌}
 use Rattle.su_steps.specs.inside.Numbers.{class_name}
 use Rattle.su_steps.proofs.Made.{cells_more}

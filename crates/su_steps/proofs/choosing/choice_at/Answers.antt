@@ -1,3 +1,4 @@
+-- The count of a list of coverings is the number at its head times the count of the rest, so that a place divides into the choice's first number and its place among the choices of the rest.
 use Rattle.su_steps.proofs.ChoiceCounts.{step}
 use Rattle.su_steps.proofs.choosing.choice_at.Goals as goal
 

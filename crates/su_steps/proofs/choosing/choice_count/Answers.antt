@@ -1,3 +1,4 @@
+-- The choices are the product of the coverings' lengths, and 257 once they are beyond it.
 use Rattle.std.proofs.Common.{◌∙◌}
 use Rattle.su_steps.proofs.ChoiceCounts.{counted_more}
 use Rattle.su_steps.proofs.choosing.choice_count.Goals as goal

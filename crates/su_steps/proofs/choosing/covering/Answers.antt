@@ -1,3 +1,4 @@
+-- The numbers so far are the maximal objects that cover the attributes.
 use Rattle.su_steps.proofs.Covered.{covering_more}
 use Rattle.su_steps.proofs.choosing.covering.Goals as goal
 

@@ -1,3 +1,4 @@
+-- The coverings so far are those of the variables so far, and the next variable's covering is that of the attributes that it is mentioned with.
 use Rattle.std.proofs.Common.{◌∙◌, ap, length, get_or}
 use Rattle.std.specs.List.{range_with_len, filter}
 use Rattle.std.specs.FinSet.{empty}

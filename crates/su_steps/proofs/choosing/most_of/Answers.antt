@@ -1,3 +1,4 @@
+-- The greatest so far is that of the maximal objects so far; the next one's count is at most 64, and so is the greater of the two.
 use Rattle.std.proofs.Common.{◌∙◌, arith}
 use Rattle.su_base.proofs.Numbers.{ord_max-numbers}
 use Rattle.su_steps.proofs.ChoiceCounts.{most_step}

@@ -1,3 +1,4 @@
+-- The pairs so far are the sides, by their numbers, of the equalities so far.
 use Rattle.su_steps.proofs.Equal.{equals_more}
 use Rattle.su_steps.proofs.constants.equalities.Goals as goal
 

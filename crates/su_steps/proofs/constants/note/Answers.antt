@@ -1,3 +1,4 @@
+-- A place below the length is where the constant stands; one at the length shows that it is in none, so that it can be put at the end and the constants are still distinct.
 use Rattle.std.proofs.Common.{◌++◌, ◌∷◌, [], ◌∙◌, sym, ap, subst, arith}
 use Rattle.su_classes.specs.inside.Symbols.{constant_place, has_constant, AreDistinct}
 use Rattle.su_steps.proofs.ConstantNames.{place_has, place_out, has_push, kept_push, distinct_push}

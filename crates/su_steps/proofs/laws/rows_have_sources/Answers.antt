@@ -1,3 +1,4 @@
+-- A row of a term is that of an origin, whose object has the row's essential columns.
 use Rattle.su_steps.proofs.Origins.{rows_have_sources}
 use Rattle.su_steps.proofs.laws.rows_have_sources.Goals as goal
 

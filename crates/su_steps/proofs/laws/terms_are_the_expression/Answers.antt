@@ -1,3 +1,4 @@
+-- What the terms answer in union is what the combinations of the disjuncts' choices do.
 use Rattle.su_steps.proofs.Whole.{whole}
 use Rattle.su_steps.proofs.laws.terms_are_the_expression.Goals as goal
 

@@ -1,3 +1,4 @@
+-- Each term is made of the rows and the head of a case, which are valid and typed.
 use Rattle.su_steps.proofs.Validity.{all_valid}
 use Rattle.su_steps.proofs.Whole.{all_typed}
 use Rattle.su_steps.proofs.laws.terms_are_valid_and_typed.Goals as goal

@@ -1,3 +1,4 @@
+-- The rows to close are those of the origins by numbers; the resolved query has its places, and so the items of its equalities and rows, within the table.
 use Rattle.std.proofs.Common.{◌≡◌, List, map, length, sym, ap, subst, ◌∙◌}
 use Rattle.std.specs.Prelude.{All}
 use Rattle.su_base.specs.declared.values.Value.{Value}

@@ -1,3 +1,4 @@
+-- The union so far is that of the attributes of the set's objects below the number; the next object adds its own exactly if it is in the set.
 use Rattle.std.proofs.Common.{sym, ◌∙◌}
 use Rattle.su_steps.proofs.PassingNumbers.{together_more, together_same}
 use Rattle.su_steps.proofs.objects.attributes_together.Goals as goal

@@ -1,3 +1,4 @@
+-- The count so far is how many objects below the number are in the set, and no more than the number, of which there are at most 64.
 use Rattle.std.proofs.Common.{sym, arith}
 use Rattle.std.specs.FinSet.{contains}
 use Rattle.su_steps.proofs.PassingNumbers.{count_more, count_same}

@@ -1,3 +1,4 @@
+-- The items so far are the numbers of the variable's pairs with the attributes so far.
 use Rattle.std.proofs.Common.{arith}
 use Rattle.su_base.proofs.Items.{map-range_push}
 use Rattle.su_tableau.specs.declared.symbols.Sym.TheVariants.{Var}

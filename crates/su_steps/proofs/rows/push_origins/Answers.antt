@@ -1,3 +1,4 @@
+-- The origins so far are those of the set's objects so far, each with the variable.
 use Rattle.std.specs.FinSet.{contains}
 use Rattle.su_steps.specs.Choices.{origin}
 use Rattle.su_steps.proofs.PassingNumbers.{images_if}

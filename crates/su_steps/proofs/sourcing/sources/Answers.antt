@@ -1,3 +1,4 @@
+-- The essential columns are the row's, so the objects that have them are its sources.
 use Rattle.su_steps.proofs.sourcing.sources.Goals as goal
 
 pub returns : goal.returns

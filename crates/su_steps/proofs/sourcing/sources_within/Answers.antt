@@ -1,3 +1,4 @@
+-- The objects found so far are those below the number that have the columns; where these are the essential columns of a row, having them is being one of its sources.
 use Rattle.std.proofs.Common.{◌≡◌, ℕ, true, sym, ap, ◌∙◌, arith}
 use Rattle.std.specs.FinSet.{contains, is_subset, contains-empty}
 use Rattle.std.specs.Ordering.{nat_cmp}

@@ -1,3 +1,4 @@
+-- The values are at least as many as the symbols, so each variable has one.
 use Rattle.std.proofs.Common.{arith}
 use Rattle.su_tableau.proofs.Rows.{vars_up}
 use Rattle.su_tableau_tests.proofs.tests.a_valuation_sends_rows_to_rows.Goals as goal

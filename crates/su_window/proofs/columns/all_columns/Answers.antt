@@ -1,3 +1,4 @@
+-- The columns so far are those of the objects so far.
 use Rattle.su_base.proofs.Items.{map-range_push}
 use Rattle.su_window.specs.inside.Readings.{columns_of}
 use Rattle.su_window.proofs.columns.all_columns.Goals as goal

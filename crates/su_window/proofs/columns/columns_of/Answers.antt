@@ -1,3 +1,4 @@
+-- The columns so far are those from which the object takes the attributes so far.
 use Rattle.su_window.proofs.TakenValues.{columns_more}
 use Rattle.su_window.proofs.columns.columns_of.Goals as goal
 

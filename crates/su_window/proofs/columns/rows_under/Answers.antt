@@ -1,3 +1,4 @@
+-- A well kept database has a table for each relation of its schema, and each object names one of these; so the table there has the object's rows.
 use Rattle.std.proofs.Common.{◌≡◌, map, Some, subst}
 use Rattle.std.specs.Prelude.{slice_get}
 use Rattle.su_schema.specs.SchemaValue.{SchemaValue}

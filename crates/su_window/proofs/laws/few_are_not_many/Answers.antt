@@ -1,3 +1,4 @@
+-- Of more members than the list of all is long, two would stand at one place of it.
 use Rattle.su_window.proofs.Exact.{not_both}
 use Rattle.su_window.proofs.laws.few_are_not_many.Goals as goal
 

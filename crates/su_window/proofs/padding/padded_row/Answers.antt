@@ -1,3 +1,4 @@
+-- The cells so far are the row's values, or the padding variable where it has none.
 use Rattle.std.proofs.Common.{◌+◌, get_or, None}
 use Rattle.su_base.proofs.Items.{map-range_push}
 use Rattle.su_window.specs.inside.Readings.{symbol_in}

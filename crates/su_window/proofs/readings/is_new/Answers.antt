@@ -1,3 +1,4 @@
+-- Inserting tells whether the key was there, so that it says whether these values were seen, and afterwards they are.
 use Rattle.su_window.proofs.Seen.{sees}
 use Rattle.su_window.proofs.readings.is_new.Goals as goal
 use Rattle.su_window.proofs.readings.is_new.Goals.{in-Ok, in-Err}

@@ -1,3 +1,4 @@
+-- Once the readings are those of the object's rows up to its last, they are those so far up to the next object with no row of it read.
 use Rattle.std.proofs.Common.{◌≡◌, List, length, ap, arith}
 use Rattle.su_base.specs.declared.values.Value.{Value}
 use Rattle.su_window.specs.Padded.{rows_under}

@@ -1,3 +1,4 @@
+-- The readings so far are those of the objects so far, each read by its own columns; after the last object they are the readings of the whole database.
 use Rattle.std.proofs.Common.{◌≡◌, length, ap, arith, ◌∙◌}
 use Rattle.su_schema.specs.SchemaValue.{SchemaValue}
 use Rattle.su_window.proofs.RowRead.{columns_length, columns_at}

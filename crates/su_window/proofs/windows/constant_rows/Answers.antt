@@ -1,3 +1,4 @@
+-- What is found so far are the constants of the rows so far that have constants at all of the attributes; at the end the rows so far are all rows.
 use Rattle.std.proofs.Common.{◌≡◌, ◌↔◌, ◌∙◌, ℕ, List, take, length, Contains, sym, ap, subst, arith}
 use Rattle.su_base.specs.declared.values.Value.{Value}
 use Rattle.std.proofs.Math.Seq.{take-length}

@@ -1,3 +1,4 @@
+-- Each symbol read is in a row, and so has a name; where one of the names isn't a constant, the row has no constants at these attributes.
 use Rattle.std.proofs.Common.{◌∙◌, ℕ, get_or, sym}
 use Rattle.std.proofs.lemmas.List.{get_or_default}
 use Rattle.su_tableau.specs.declared.symbols.Sym.TheVariants.{Var}

@@ -1,3 +1,4 @@
+-- A row has at most one list of constants at the attributes, so what the list gains is this one, and nothing where there is none.
 use Rattle.std.proofs.Common.{List, Option, MatchOption, subst}
 use Rattle.su_base.specs.declared.values.Value.{Value}
 use Rattle.su_window.specs.inside.Readings.{AreConstants}

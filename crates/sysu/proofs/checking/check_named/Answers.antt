@@ -1,3 +1,4 @@
+-- The file is not read, there is no memory, or its bytes are checked and the verdict told; reading changes nothing that is told, so each end is that of the definition.
 use Rattle.std.proofs.Common.{ap}
 use Rattle.su_io.specs.Moments.{Moment}
 use Rattle.su_io.proofs.OneText.{file_fails, no_memory}

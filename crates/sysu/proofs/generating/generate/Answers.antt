@@ -1,3 +1,4 @@
+-- The text told is the bank's; for want of memory nothing is told at all.
 use Rattle.su_io.proofs.OneText.{tells_nothing}
 use Rattle.sysu.proofs.Lines.{bank_told}
 use Rattle.sysu.proofs.generating.generate.Goals as goal

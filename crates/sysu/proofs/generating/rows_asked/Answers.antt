@@ -1,3 +1,4 @@
+-- Words of which the first is `generate` and the second a row count.
 use Rattle.std.proofs.Common.{◌∙◌, sym}
 use Rattle.std.specs.Cmp.Lexicographic.{same_text}
 use Rattle.sysu.proofs.BankWords.{asked_by}

@@ -1,3 +1,4 @@
+-- The script's databases follow each other, so a retrieve is answered on the one before it.
 use Rattle.sysu.proofs.Promised.{queries}
 use Rattle.sysu.proofs.headline.queries_are_answered.Goals as goal
 

@@ -1,3 +1,4 @@
+-- The replies so far are written one after another, and each statement was handed the file that it wants; so a stop at some statement, or the end behind the last, is an end of the script.
 use Rattle.std.proofs.Common.{◌∙◌, refl, inl, arith}
 use Rattle.su_lex.specs.Pieces.{Pieces}
 use Rattle.sysu.proofs.RepliesSoFar.{none_yet, one_more}

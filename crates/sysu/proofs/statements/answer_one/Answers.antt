@@ -1,3 +1,4 @@
+-- Whatever was handed over, the reply is to this text and this file, told whole or as a front where the write fails; where no reply is made, the turn ends before it, and nothing is told.
 use Rattle.std.proofs.Common.{subst, sym, ap, ◌∙◌, Err}
 use Rattle.std.proofs.lemmas.Result.{err_from_is_err_and}
 use Rattle.su_io.specs.Moments.{Moment}

@@ -1,3 +1,4 @@
+-- The command was read of the text, so that the file it wants is the one the text wants, and how its reading ends is how the handing ends.
 use Rattle.std.proofs.Common.{refl, subst, sym, ap, ◌∙◌, Err, inr}
 use Rattle.std.proofs.lemmas.Result.{err_from_is_err_and}
 use Rattle.su_io.specs.Moments.{Moment}

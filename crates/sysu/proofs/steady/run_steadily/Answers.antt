@@ -1,3 +1,4 @@
+-- No count of faults has risen, since a steady shelf and sink fail in no call; a status for a fault would need one that has, and so the run comes to its end.
 use Rattle.std.proofs.Common.{ap, sym}
 use Rattle.su_io.specs.Moments.{Moment}
 use Rattle.sysu.proofs.FaultlessRuns.{no_read_fault, no_write_fault, finishes}

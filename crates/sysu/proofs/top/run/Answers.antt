@@ -1,3 +1,4 @@
+-- The hand-over leaves what the run came to, or fails and so has its own cause; the headline and the completeness follow from how the run ends and from what is proved of queries.
 use Rattle.su_io.proofs.Programs.{handed_over}
 use Rattle.sysu.specs.Statuses.{Comes}
 use Rattle.sysu.proofs.Completeness.{caused_over, complete}

@@ -1,3 +1,4 @@
+-- Each file is read in turn, and reading tells nothing; so where a file or memory fails, or the schema is refused, the run ends with what had been read, and else the script's end is its own.
 use Rattle.std.proofs.Common.{◌∙◌, refl, ap, inl, inr}
 use Rattle.su_io.specs.Moments.{Moment}
 use Rattle.sysu.proofs.RunEnds.{file_fails, none_opened, schema_refused, script_read}

@@ -1,3 +1,4 @@
+-- The words are those of a check, of a bank, of a run or of none, and each form excludes the others; so how the one asked for ends is how the words come out, and each fault has its cause.
 use Rattle.std.proofs.Common.{sym}
 use Rattle.sysu.proofs.Completeness.{ends_caused, tells_caused}
 use Rattle.sysu.proofs.Commands.{run_is, check_is, generate_is}

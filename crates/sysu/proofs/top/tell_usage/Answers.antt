@@ -1,3 +1,4 @@
+-- What is told is the usage line, by one whole write or a front of it.
 use Rattle.su_io.proofs.OneText.{usage_told}
 use Rattle.sysu.proofs.top.tell_usage.Goals as goal
 

@@ -1,3 +1,4 @@
+-- What is told is the reply to the text, with the status that it has.
 use Rattle.std.proofs.Common.{inl}
 use Rattle.sysu_draw.proofs.replying.draw_text.Goals as goal
 

@@ -1,3 +1,4 @@
+-- What is told is this program's usage line, whole or a front of it.
 use Rattle.su_io.proofs.OneText.{usage_told}
 use Rattle.sysu_draw.proofs.replying.tell_usage.Goals as goal
 

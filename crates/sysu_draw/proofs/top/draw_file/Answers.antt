@@ -1,3 +1,4 @@
+-- Reading tells nothing, so the end is that of a file that isn't read, or that of telling the reply to the bytes that were read.
 use Rattle.std.proofs.Common.{ap}
 use Rattle.su_io.specs.Moments.{Moment}
 use Rattle.su_io.proofs.OneText.{file_fails}

@@ -1,3 +1,4 @@
+-- What the words come to is left so by the hand-over, unless this fails.
 use Rattle.su_io.proofs.Programs.{handed_over}
 use Rattle.sysu_draw.specs.Ends.{Comes}
 use Rattle.sysu_draw.proofs.top.run.Goals as goal

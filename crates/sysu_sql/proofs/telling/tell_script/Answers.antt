@@ -1,3 +1,4 @@
+-- What is told is the reply that writes the script, with its status.
 use Rattle.std.proofs.Common.{inl}
 use Rattle.sysu_sql.proofs.telling.tell_script.Goals as goal
 

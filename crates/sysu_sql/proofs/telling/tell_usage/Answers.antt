@@ -1,3 +1,4 @@
+-- What is told is the usage line of this program, or a front of it.
 use Rattle.su_io.proofs.OneText.{usage_told}
 use Rattle.sysu_sql.proofs.telling.tell_usage.Goals as goal
 

@@ -1,3 +1,4 @@
+-- The run comes to an end, and the hand-over leaves it so or fails by itself.
 use Rattle.su_io.proofs.Programs.{handed_over}
 use Rattle.sysu_sql.specs.Runs.{Comes}
 use Rattle.sysu_sql.proofs.top.run.Goals as goal

@@ -1,3 +1,4 @@
+-- Both files are read before anything is told; so a file that isn't read or a schema that is refused ends the run with nothing written of the script, and else its end is that of telling the SQL.
 use Rattle.std.proofs.Common.{◌∙◌, Ok, refl, ap, inl, inr}
 use Rattle.su_io.specs.Moments.{Moment}
 use Rattle.sysu_sql.specs.RunFiles.{SchemaIs}

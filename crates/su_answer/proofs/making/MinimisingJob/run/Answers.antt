@@ -1,3 +1,4 @@
+-- The tableau minimised is a copy, so it equals the job's own.
 use Rattle.std.proofs.Common.{◌∙◌}
 use Rattle.su_answer.proofs.making.MinimisingJob.run.Goals as goal
 

@@ -1,3 +1,4 @@
+-- A definition fails by the schema or by the stored rows, or is done; where it isn't done the database is what it was, so its maximal objects still are.
 use Rattle.std.proofs.Common.{◌≡◌, Ok, Err, IfOk, inl, inr, sym, ap, subst}
 use Rattle.su_maxobj.specs.MaximalObjects.{AreMaximalObjects}
 use Rattle.su_schema.specs.Definitions.{applied}

@@ -1,3 +1,4 @@
+-- The session's database is the one inside it, so the reply to each kind of statement, made over the inner one, is the session's reply.
 use Rattle.std.proofs.Common.{List, IfOk, sym, subst}
 use Rattle.su_base.specs.declared.values.Value.{Value}
 use Rattle.su_query.specs.declared.statements.Statement.{Statement}

@@ -1,3 +1,4 @@
+-- A command that was read of a text is a definition, a statement or a refusal of that text, and what each of them replies is the reply to any text that is read as this command.
 use Rattle.std.proofs.Common.{List, ℕ, IfOk, option_map, ap, subst, ◌∙◌}
 use Rattle.std.proofs.lemmas.Result.{IfOk-weaker}
 use Rattle.su_state.specs.DatabaseValue.{DatabaseValue}

@@ -1,3 +1,4 @@
+-- The command was read of this text, and carrying it out replies to every text that is read as it; so it replies to this one.
 use Rattle.std.proofs.Common.{List, ℕ, option_map}
 use Rattle.std.proofs.lemmas.Result.{IfOk-weaker}
 use Rattle.su_session.specs.Commands.{IsRead}

@@ -1,3 +1,4 @@
+-- The session's database is the one whose candidates were counted.
 use Rattle.std.proofs.Common.{IfOk, subst}
 use Rattle.su_state.specs.DatabaseValue.{DatabaseValue}
 use Rattle.su_session.specs.Supports.{Supports}

@@ -1,3 +1,4 @@
+-- Only a load of a known relation wants a file: a text read as any other command is no load, and an unknown name gives no relation to load.
 use Rattle.std.proofs.Common.{◌≡◌, ℕ, List, None, sym, subst}
 use Rattle.su_state.specs.DatabaseValue.{DatabaseValue}
 use Rattle.su_session.specs.WantedFiles.{IsLoad}

@@ -1,3 +1,4 @@
+-- A constant that the disjunct's equalities have is an item, named by its class; any other is in no class and stands for itself.
 use Rattle.std.proofs.Common.{◌≡◌, ◌*◌, ◌∙◌, sym, ap, subst, IfOk, arith}
 use Rattle.su_tableau.specs.declared.symbols.Sym.TheVariants.{Const}
 use Rattle.su_classes.specs.inside.Symbols.{constant_place}
