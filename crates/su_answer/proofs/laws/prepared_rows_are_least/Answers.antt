@@ -1,4 +1,4 @@
--- The minimal of each term is made of that term, which is valid and typed, so its kept rows are least.
+-- Each minimal is made of its term, which is valid and typed, so its kept rows are least.
 use Rattle.su_answer.proofs.Minimals.{all_minimised, minimals_fit}
 use Rattle.su_answer.proofs.laws.prepared_rows_are_least.Goals as goal
 

@@ -1,4 +1,4 @@
--- The cells so far are those of the origin's row; the next is a pair's name or the row's own symbol.
+-- The cells so far are the row's: the name of a pair, or a symbol of the row's own.
 use Rattle.std.proofs.Common.{◌*◌}
 use Rattle.su_steps.specs.inside.Numbers.{class_name}
 use Rattle.su_steps.proofs.Made.{cells_more}
