@@ -2,12 +2,11 @@ ghost use Rattle.std.specs.Prelude.{◌≡◌, IfOk, length};
 ghost use Rattle.su_rel.specs.Stored.{HaveWidth};
 
 use std::alloc::Global;
-use std::process::Abort;
 use std::test::Fail;
-use su_base::{List, Row, Str, Value};
+use su_base::{List, NoMemory, Row, Str, Value};
 use su_rel::Relation;
 
-fn row(alloc: Global, number: i64, text: &str) -> Result<Row, Fail>
+fn row(alloc: Global, number: i64, text: &str) -> Result<Row, NoMemory>
     ensures { IfOk result (λ row. length row ≡ 2) }
 {
     let mut row = List::new(alloc);
@@ -16,49 +15,73 @@ fn row(alloc: Global, number: i64, text: &str) -> Result<Row, Fail>
     Ok(row)
 }
 
-fn put(rt: &impl Abort, relation: &mut Relation, row: Row) -> Result<bool, Fail> {
-    assert_eq!(rt; row.len(), relation.width() as usize);
-    match relation.insert(row) {
-        Ok(new) => Ok(new),
-        Err((_, refused)) => Err(Fail::from(refused)),
+/// What is done with the row of a text, and what is answered.
+#[derive(Clone, Copy)]
+enum Step {
+    Insert(bool),
+    Remove(bool),
+    Find(Option<usize>),
+}
+
+use Step::{Find, Insert, Remove};
+
+/// Steps one after another: the last row moves to where one is taken out.
+const STEPS: &[(&str, Step)] = &[
+    ("a", Insert(true)),
+    ("", Insert(true)),
+    ("a", Insert(false)),
+    ("b", Insert(true)),
+    ("c", Insert(true)),
+    ("b", Insert(false)),
+    ("b", Find(Some(2))),
+    ("d", Remove(false)),
+    ("", Remove(true)),
+    ("", Remove(false)),
+    ("b", Remove(true)),
+    ("a", Find(Some(0))),
+    ("c", Find(Some(1))),
+    ("b", Find(None)),
+    ("b", Insert(true)),
+    ("b", Find(Some(2))),
+];
+
+/// Whether the row is new; nothing where it is refused.
+fn put(relation: &mut Relation, row: Row) -> Option<bool> {
+    if row.len() != relation.width() as usize {
+        return None;
     }
+    relation.insert(row).ok()
+}
+
+/// Whether the step answers so.
+fn is_answered(relation: &mut Relation, row: Row, step: Step) -> bool {
+    match step {
+        Insert(new) => put(relation, row) == Some(new),
+        Remove(there) => relation.remove(&row) == there,
+        Find(place) => relation.position(&row) == place,
+    }
+}
+
+/// The number of the first step with another answer, or how many there are.
+fn first_otherwise(alloc: Global, relation: &mut Relation) -> Result<usize, NoMemory> {
+    for (k, (text, step)) in STEPS.iter().enumerate() {
+        let row = row(alloc, 7, text)?;
+        if !is_answered(relation, row, *step) {
+            return Ok(k);
+        }
+    }
+    Ok(STEPS.len())
 }
 
 #[test]
 fn a_relation_holds_each_row_once(rt: HostRuntime) -> Result<(), Fail> {
-    let alloc = rt.alloc();
-    let mut relation = Relation::new(alloc, 2);
-    for (text, new) in [
-        ("a", true),
-        ("", true),
-        ("a", false),
-        ("b", true),
-        ("b", false),
-    ] {
-        assert_eq!(rt; put(&rt, &mut relation, row(alloc, 7, text)?)?, new);
-    }
-    assert_eq!(rt; relation.len(), 3);
-    assert_eq!(rt; relation.position(&row(alloc, 7, "b")?), Some(2));
+    let mut relation = Relation::new(rt.alloc(), 2);
+    let reached = first_otherwise(rt.alloc(), &mut relation)?;
+    assert_eq!(rt; reached, STEPS.len());
     Ok(())
 }
 
-#[test]
-fn a_row_that_is_taken_out_leaves_the_others(rt: HostRuntime) -> Result<(), Fail> {
-    let alloc = rt.alloc();
-    let mut relation = Relation::new(alloc, 2);
-    for text in ["a", "b", "c", "d"] {
-        let _new = put(&rt, &mut relation, row(alloc, 7, text)?)?;
-    }
-    for (text, there) in [("e", false), ("b", true), ("b", false), ("c", true)] {
-        assert_eq!(rt; relation.remove(&row(alloc, 7, text)?), there);
-    }
-    for (text, place) in [("a", Some(0)), ("b", None), ("c", None), ("d", Some(1))] {
-        assert_eq!(rt; relation.position(&row(alloc, 7, text)?), place);
-    }
-    Ok(())
-}
-
-fn rows(alloc: Global) -> Result<List<Row>, Fail>
+fn rows(alloc: Global) -> Result<List<Row>, NoMemory>
     ensures { IfOk result (HaveWidth 2) }
 {
     let mut rows = List::new(alloc);
@@ -68,21 +91,47 @@ fn rows(alloc: Global) -> Result<List<Row>, Fail>
     Ok(rows)
 }
 
-#[test]
-fn many_rows_go_in_and_out_at_once(rt: HostRuntime) -> Result<(), Fail> {
-    let alloc = rt.alloc();
+/// The rows, each once.
+fn filled(alloc: Global) -> Result<Relation, NoMemory> {
+    let rows = rows(alloc)?;
     let mut relation = Relation::new(alloc, 2);
-    assert_eq!(rt; relation.insert_all(rows(alloc)?)?, 50000);
-    let mut kept = Vec::new(alloc);
-    for place in 0..50000 {
+    let _new = relation.insert_all(rows)?;
+    Ok(relation)
+}
+
+/// Keeps the first ten rows.
+fn keep_ten(alloc: Global, relation: &mut Relation) -> Result<(), NoMemory> {
+    let mut kept = List::new(alloc);
+    for place in 0..relation.len() {
         kept.push(place < 10)?;
     }
-    assert_eq!(rt; kept.len(), relation.len());
-    relation.keep(kept.as_slice());
-    assert_eq!(rt; relation.len(), 10);
-    for number in 0..100000 {
-        let _there = relation.remove(&row(alloc, number, "a")?);
+    if kept.len() == relation.len() {
+        relation.keep(kept.as_slice());
     }
-    assert!(rt; relation.is_empty());
+    Ok(())
+}
+
+fn remove_all(alloc: Global, relation: &mut Relation) -> Result<(), NoMemory> {
+    for number in 0..100000 {
+        let row = row(alloc, number, "a")?;
+        let _there = relation.remove(&row);
+    }
+    Ok(())
+}
+
+/// How many rows there are at first, of the first ten, and in the end.
+fn lengths(alloc: Global, relation: &mut Relation) -> Result<[usize; 3], NoMemory> {
+    let all = relation.len();
+    keep_ten(alloc, relation)?;
+    let ten = relation.len();
+    remove_all(alloc, relation)?;
+    Ok([all, ten, relation.len()])
+}
+
+#[test]
+fn many_rows_go_in_and_out_at_once(rt: HostRuntime) -> Result<(), Fail> {
+    let mut relation = filled(rt.alloc())?;
+    let lengths = lengths(rt.alloc(), &mut relation)?;
+    assert_eq!(rt; lengths, [50000, 10, 0]);
     Ok(())
 }
