@@ -3,123 +3,193 @@ use std::test::Fail;
 use su_base::{AttrSet, List, NoMemory, Row, Str, Value};
 use su_tableau::{Sym, Tableau, all_essential, essential, has, holds};
 
-/// A row of variables, where `None` is the text Jones.
-fn symbols(alloc: Global, cells: &[Option<u32>]) -> Result<List<Sym>, NoMemory> {
-    let mut row = List::new(alloc);
-    for cell in cells {
-        match cell {
-            Some(k) => row.push(Sym::Var(*k))?,
-            None => row.push(Sym::Const(Value::Text(Str::new(alloc, "Jones")?)))?,
-        }
+/// Stands for the text Jones among the numbers of variables.
+const JONES: u32 = 99;
+
+fn symbol(alloc: Global, number: u32) -> Result<Sym, NoMemory> {
+    if number == JONES {
+        Ok(Sym::Const(Value::Text(Str::new(alloc, "Jones")?)))
+    } else {
+        Ok(Sym::Var(number))
     }
-    Ok(row)
 }
 
-fn tableau(
-    alloc: Global,
-    width: u8,
-    rows: &[&[Option<u32>]],
-    head: &[Option<u32>],
-    outputs: u16,
-) -> Result<Option<Tableau>, NoMemory> {
+fn symbols(alloc: Global, numbers: &[u32]) -> Result<List<Sym>, NoMemory> {
+    let mut symbols = List::new(alloc);
+    for number in numbers {
+        symbols.push(symbol(alloc, *number)?)?;
+    }
+    Ok(symbols)
+}
+
+fn rows_of(alloc: Global, rows: &[&[u32]]) -> Result<List<List<Sym>>, NoMemory> {
     let mut list = List::new(alloc);
     for row in rows {
         list.push(symbols(alloc, row)?)?;
     }
-    let head = symbols(alloc, head)?;
-    Ok(Tableau::checked(width, list, head, outputs, List::new(alloc)))
+    Ok(list)
+}
+
+/// The parts of a tableau.
+#[derive(Clone, Copy)]
+struct Parts {
+    width: u8,
+    rows: &'static [&'static [u32]],
+    head: &'static [u32],
+    outputs: u16,
+}
+
+/// The tableau of the parts; none where they do not fit.
+fn tableau(alloc: Global, parts: &Parts) -> Result<Option<Tableau>, NoMemory> {
+    let head = symbols(alloc, parts.head)?;
+    let rows = rows_of(alloc, parts.rows)?;
+    let operators = List::new(alloc);
+    Ok(Tableau::checked(parts.width, rows, head, parts.outputs, operators))
 }
 
 /// Who else is in a room with a course of Jones: attributes C, T, H, R, S, G.
-fn courses(alloc: Global) -> Result<Option<Tableau>, NoMemory> {
-    let rows: [&[Option<u32>]; 6] = [
-        &[Some(0), Some(1), Some(14), Some(15), Some(16), Some(17)],
-        &[Some(0), Some(19), Some(2), Some(3), Some(22), Some(23)],
-        &[Some(0), Some(25), Some(26), Some(27), Some(4), Some(5)],
-        &[Some(6), Some(7), Some(32), Some(33), Some(34), Some(35)],
-        &[Some(6), Some(37), Some(8), Some(3), Some(40), Some(41)],
-        &[Some(6), Some(43), Some(44), Some(45), None, Some(11)],
-    ];
-    tableau(alloc, 6, &rows, &[Some(0)], 1)
+const COURSES: Parts = Parts {
+    width: 6,
+    rows: &[
+        &[0, 1, 14, 15, 16, 17],
+        &[0, 19, 2, 3, 22, 23],
+        &[0, 25, 26, 27, 4, 5],
+        &[6, 7, 32, 33, 34, 35],
+        &[6, 37, 8, 3, 40, 41],
+        &[6, 43, 44, 45, JONES, 11],
+    ],
+    head: &[0],
+    outputs: 1,
+};
+
+const KEPT: u64 = 0b110010;
+
+/// The kept rows, each with its essential columns.
+const ESSENTIAL: &[(usize, &[u8])] = &[(1, &[0, 3]), (4, &[0, 3]), (5, &[0, 4])];
+
+fn set_of(members: &[u8]) -> AttrSet {
+    let mut all = AttrSet::empty();
+    for member in members {
+        if *member < 128 {
+            all = all.insert(*member);
+        }
+    }
+    all
+}
+
+fn is_set(set: AttrSet, members: &[u8]) -> bool {
+    set.within(set_of(members)) && set_of(members).within(set)
+}
+
+/// Whether the kept rows have their essential columns, asked for one by one and all at once.
+fn are_essential(t: &Tableau, all: &[AttrSet]) -> bool {
+    for (row, columns) in ESSENTIAL {
+        if *row >= t.row_count() || *row >= all.len() || !has(KEPT, *row) {
+            return false;
+        }
+        if !is_set(essential(t, KEPT, *row), columns) || !is_set(all[*row], columns) {
+            return false;
+        }
+    }
+    true
+}
+
+/// Whether a copy of the tableau has these essential columns.
+fn copy_is_essential(alloc: Global, t: &Tableau) -> Result<bool, NoMemory> {
+    let t = t.copy(alloc)?;
+    let all = all_essential(alloc, &t, KEPT)?;
+    Ok(are_essential(&t, all.as_slice()))
 }
 
 #[test]
 fn constants_head_symbols_and_shared_ones_are_essential(rt: HostRuntime) -> Result<(), Fail> {
-    let t = courses(rt.alloc())?.expect(&rt, "valid parts");
-    let kept = 0b110010;
-    let all = all_essential(rt.alloc(), &t, kept)?;
-    for (row, other) in [(1, 3), (4, 3), (5, 4)] {
-        assert!(rt; row < t.row_count() && has(kept, row));
-        let wanted = AttrSet::empty().insert(0).insert(other);
-        let columns = essential(&t, kept, row);
-        assert!(rt;
-            columns.within(wanted) && wanted.within(columns),
-            "row {row}"
-        );
-        let told = *all.get(row);
-        assert!(rt; told.within(wanted) && wanted.within(told), "row {row}");
-    }
+    let Some(t) = tableau(rt.alloc(), &COURSES)? else {
+        return Err(Fail::from("no tableau"));
+    };
+    let right = copy_is_essential(rt.alloc(), &t)?;
+    assert!(rt; right);
     Ok(())
 }
 
-#[test]
-fn a_copy_has_the_same_parts(rt: HostRuntime) -> Result<(), Fail> {
-    let t = courses(rt.alloc())?.expect(&rt, "valid parts");
-    let t = t.copy(rt.alloc())?;
-    assert_eq!(rt; (t.width(), t.row_count(), t.symbols()), (6, 6, 46));
-    assert_eq!(rt;
-        (t.head().len(), t.outputs(), t.operators().len()),
-        (1, 1, 0)
-    );
-    assert!(rt;
-        t.row_count() > 5
-            && t.width() > 4
-            && t.cell(5, 4)
-                .same(&Sym::Const(Value::Text(Str::new(rt.alloc(), "Jones")?)))
-    );
-    Ok(())
-}
+/// Width, head and outputs of one row, and whether they fit.
+const FIT: &[(u8, &[u32], u16, bool)] = &[
+    (2, &[1], 1, true),
+    (2, &[JONES], 1, true),
+    (2, &[2], 1, false),
+    (3, &[1], 1, false),
+    (2, &[1], 2, false),
+    (2, &[1], 0, false),
+];
 
 #[test]
 fn parts_that_do_not_fit_make_no_tableau(rt: HostRuntime) -> Result<(), Fail> {
-    let row: [&[Option<u32>]; 1] = [&[Some(0), Some(1)]];
-    let cases = [
-        (2, [Some(1)], 1, true),
-        (2, [None], 1, true),
-        (2, [Some(2)], 1, false),
-        (3, [Some(1)], 1, false),
-        (2, [Some(1)], 2, false),
-        (2, [Some(1)], 0, false),
-    ];
-    for (width, head, outputs, want) in cases {
-        let t = tableau(rt.alloc(), width, &row, &head, outputs)?;
-        assert_eq!(rt; t.is_some(), want, "width {width} outputs {outputs}");
+    for (k, (width, head, outputs, want)) in FIT.iter().enumerate() {
+        let parts = Parts {
+            width: *width,
+            rows: &[&[0, 1]],
+            head: *head,
+            outputs: *outputs,
+        };
+        let made = tableau(rt.alloc(), &parts)?.is_some();
+        assert!(rt; made == *want, "parts {k}");
     }
     Ok(())
 }
 
-fn numbers(alloc: Global, values: [i64; 2]) -> Result<Row, NoMemory> {
+/// Two rows, of which each is the other turned round.
+const TURNED: Parts = Parts {
+    width: 2,
+    rows: &[&[0, 1], &[1, 0]],
+    head: &[0],
+    outputs: 1,
+};
+
+const UNIVERSE: &[&[i64]] = &[&[1, 2], &[2, 1], &[2, 3]];
+
+/// The values of the two variables, and whether they send the rows to rows of the universe.
+const VALUATIONS: &[(&[i64], bool)] = &[(&[1, 2], true), (&[2, 1], true), (&[2, 3], false)];
+
+fn numbers(alloc: Global, values: &[i64]) -> Result<Row, NoMemory> {
     let mut row = List::new(alloc);
     for value in values {
-        row.push(Value::Int(value))?;
+        row.push(Value::Int(*value))?;
     }
     Ok(row)
 }
 
+fn universe(alloc: Global) -> Result<List<Row>, NoMemory> {
+    let mut rows = List::new(alloc);
+    for values in UNIVERSE {
+        rows.push(numbers(alloc, values)?)?;
+    }
+    Ok(rows)
+}
+
+fn sends_rows_to_rows(t: &Tableau, universe: &[Row], values: &Row) -> bool {
+    if t.symbols() > values.len() {
+        return false;
+    }
+    holds(t, universe, values)
+}
+
+/// The number of the first valuation that is told otherwise, or how many there are.
+fn first_otherwise(alloc: Global, t: &Tableau, universe: &[Row]) -> Result<usize, NoMemory> {
+    for (k, (values, want)) in VALUATIONS.iter().enumerate() {
+        let values = numbers(alloc, values)?;
+        if sends_rows_to_rows(t, universe, &values) != *want {
+            return Ok(k);
+        }
+    }
+    Ok(VALUATIONS.len())
+}
+
 #[test]
 fn a_valuation_sends_rows_to_rows(rt: HostRuntime) -> Result<(), Fail> {
-    let alloc = rt.alloc();
-    let rows: [&[Option<u32>]; 2] = [&[Some(0), Some(1)], &[Some(1), Some(0)]];
-    let t = tableau(alloc, 2, &rows, &[Some(0)], 1)?.expect(&rt, "valid parts");
-    let universe = [
-        numbers(alloc, [1, 2])?,
-        numbers(alloc, [2, 1])?,
-        numbers(alloc, [2, 3])?,
-    ];
-    for (values, want) in [([1, 2], true), ([2, 1], true), ([2, 3], false)] {
-        let values = numbers(alloc, values)?;
-        assert!(rt; t.symbols() <= values.len());
-        assert_eq!(rt; holds(&t, &universe, &values), want);
-    }
+    let universe = universe(rt.alloc())?;
+    let Some(t) = tableau(rt.alloc(), &TURNED)? else {
+        return Err(Fail::from("no tableau"));
+    };
+    let reached = first_otherwise(rt.alloc(), &t, universe.as_slice())?;
+    assert_eq!(rt; reached, VALUATIONS.len());
     Ok(())
 }
