@@ -1,6 +1,6 @@
 -- Sets of attributes, one name or one place more.
 use Rattle.std.proofs.Common.{◌≡◌, ◌<◌, ◌+◌, ℕ, true, false, cond, Some, List, [], ◌∷◌, ◌++◌, map, take, drop, length, get_or, sym, ap, ◌∙◌, subst, arith}
-use Rattle.std.specs.Prelude.{filter, is_none, unwrap_or, ◌==◌}
+use Rattle.std.specs.Prelude.{filter, is_none, ◌==◌}
 use Rattle.std.specs.Ordering.{nat_cmp}
 use Rattle.std.specs.FinSet.{FinSet, insert, from_list}
 use Rattle.std.proofs.lemmas.List.{take_more, map_push, append-nil, at_drop_more, length-map, get_or_default}
@@ -9,9 +9,10 @@ use Rattle.std.proofs.lemmas.List.Elements.{filter_more}
 use Rattle.su_schema.specs.SchemaValue.{SchemaValue}
 use Rattle.su_schema.specs.Valid.{IsValid}
 use Rattle.su_schema.specs.Entries.{attribute_names, place_of}
+use Rattle.su_schema.specs.Known.{number_of}
 use Rattle.su_schema.proofs.Numbers.{known-Some, from_list-push}
 use Rattle.su_query.specs.declared.places.Place.{Place}
-use Rattle.su_query.specs.Scopes.{first_unknown_name, number_among}
+use Rattle.su_query.specs.Scopes.{first_unknown_name}
 use Rattle.su_query.specs.Sets.{attributes_named, mentioned_with}
 
 pub attribute_small : (schema : SchemaValue) (name : List ℕ) (a : ℕ) → IsValid schema → place_of (attribute_names schema) name ≡ Some a → a < 128
@@ -27,10 +28,10 @@ unknown_step known names i name h e =
 pub named_step : (schema : SchemaValue) (names : List (List ℕ)) (i : ℕ) (name : List ℕ) (a : ℕ) → i < length names → name ≡ get_or names i name → place_of (attribute_names schema) name ≡ Some a
     → insert (attributes_named schema (take i names)) a ≡ attributes_named schema (take (i + 1) names)
 named_step schema names i name a h e k =
-    let number = number_among (attribute_names schema) in
+    let number = number_of (attribute_names schema) in
     let more : map number (take (i + 1) names) ≡ map number (take i names) ++ number name ∷ [] =
     ap (map number) (take_more names i name h ∙ ap (λ x. take i names ++ x ∷ []) (sym e)) ∙ map_push number (take i names) name in
-    ap (λ n. insert (attributes_named schema (take i names)) n) (ap (λ o. unwrap_or o 0) (sym k)) ∙ sym (ap (from_list {R = nat_cmp}) more ∙ from_list-push (map number (take i names)) (number name))
+    ap (λ n. insert (attributes_named schema (take i names)) n) (sym (known-Some (attribute_names schema) name a k).1) ∙ sym (ap (from_list {R = nat_cmp}) more ∙ from_list-push (map number (take i names)) (number name))
 
 module _ (places : List Place) (variable i : ℕ) (place : Place) (h : i < length places) (e : place ≡ get_or places i place) where
   more : filter (λ p. p.variable == variable) (take (i + 1) places) ≡ filter (λ p. p.variable == variable) (take i places) ++ cond (place.variable == variable) (place ∷ []) []

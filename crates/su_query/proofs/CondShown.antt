@@ -8,7 +8,8 @@ use Rattle.su_query.specs.Refs.{NamedCond}
 use Rattle.su_where.specs.declared.conditions.Condition.TheOpen as open'
 use Rattle.su_where.specs.declared.conditions.Condition.TheVariants.{Compare, Not, All, Any, rolls-Compare, rolls-Not, rolls-All, rolls-Any}
 use Rattle.su_where.specs.declared.conditions.Condition.TheFolds.{fold-roll-Condition}
-use Rattle.su_query.specs.ShownConditions.{ShownCond, shown_cond, shown_step, joined, inner, comparison_symbols}
+use Rattle.su_query.specs.ShownConditions.{ShownCond, shown_cond, shown_step, joined, inner}
+use Rattle.su_query.specs.ShownParts.{comparison_symbols}
 use Rattle.su_query.specs.Shown.{is_nothing, nothing_step}
 
 pub shown-Compare : (k : Comparison) → shown_cond (Compare k) ≡ record { many = false; compare = true; symbols = comparison_symbols k }

@@ -11,15 +11,14 @@ use Rattle.su_query.specs.declared.statements.Statement.{Statement}
 use Rattle.su_query.specs.declared.statements.Statement.TheVariants.{Insert, Delete, DeleteWhere, Load, Print, Schema, Closure, Retrieve, Explain, Certify, Support, Compare, Window}
 use Rattle.su_lex.specs.Names.{Begins}
 use Rattle.su_query.specs.inside.Fronts.{opens_second}
-use Rattle.su_query.specs.Lists.{Several}
-use Rattle.su_query.specs.Operands.{ReadsName, ReadsValue}
-use Rattle.su_query.specs.Grammar.{ReadsCond}
+use Rattle.su_query.specs.inside.ReadItems.{Several, ReadsName, ReadsValue}
+use Rattle.su_query.specs.inside.ReadConditions.{ReadsCond}
 use Rattle.su_query.specs.Refs.{NamedCond}
 use Rattle.su_query.specs.Mentions.{are_columns}
-use Rattle.su_query.specs.Forms as g
-use Rattle.su_query.specs.RelationForms.{RowForm, ConditionForm, FileForm, NamesForm}
-use Rattle.su_query.specs.QueryForms.{PairForm, QueryForm}
-use Rattle.su_query.specs.Forms.{IsForm}
+use Rattle.su_query.specs.inside.ReadForms as g
+use Rattle.su_query.specs.inside.ReadRelations.{RowForm, ConditionForm, FileForm, NamesForm}
+use Rattle.su_query.specs.inside.ReadQueries.{PairForm, QueryForm}
+use Rattle.su_query.specs.inside.ReadForms.{ReadsForm}
 use Rattle.su_query.proofs.Items.{name_unique, value_unique}
 use Rattle.su_query.proofs.Listed.{several_unique}
 use Rattle.su_query.proofs.Unique.{same_cond}
@@ -46,7 +45,7 @@ apart_behind v w s t u e e' d =
     let k : second_byte v ≡ second_byte w = ap second_byte h in
     absurd (grind (arith, nat_tests, k, d))
 
-pub insert_inv : (st : Statement) (s t : List Symbol) → s ≡ Word (codes "insert") ∷ t → IsForm st s → (relation : List ℕ) × (row : List Value) × (st ≡ Insert relation row) × RowForm relation row t
+pub insert_inv : (st : Statement) (s t : List Symbol) → s ≡ Word (codes "insert") ∷ t → ReadsForm st s → (relation : List ℕ) × (row : List Value) × (st ≡ Insert relation row) × RowForm relation row t
 insert_inv st s t w (g.insert _ relation row _ t' e e' h) = let at : t' ≡ t = cc in (relation, row, e, subst (λ (x : List Symbol). RowForm relation row x) at h)
 insert_inv st s t w (g.delete _ relation row _ t' e e' h) = absurd (apart (codes "insert") (codes "delete") s t t' w e' refl)
 insert_inv st s t w (g.delete_where _ relation cond _ t' e e' h) = absurd (apart (codes "insert") (codes "delete") s t t' w e' refl)
@@ -61,7 +60,7 @@ insert_inv st s t w (g.support _ q _ t' e e' h) = absurd (apart (codes "insert")
 insert_inv st s t w (g.compare _ p q _ t' e e' h) = absurd (apart (codes "insert") (codes "compare") s t t' w e' refl)
 insert_inv st s t w (g.window _ names _ t' e e' h) = absurd (apart (codes "insert") (codes "window") s t t' w e' refl)
 
-pub delete_inv : (st : Statement) (s t : List Symbol) → s ≡ Word (codes "delete") ∷ t → IsForm st s → ((relation : List ℕ) × (row : List Value) × (st ≡ Delete relation row) × RowForm relation row t) ⊎ ((relation : List ℕ) × (cond : NamedCond) × (st ≡ DeleteWhere relation cond) × ConditionForm relation cond t)
+pub delete_inv : (st : Statement) (s t : List Symbol) → s ≡ Word (codes "delete") ∷ t → ReadsForm st s → ((relation : List ℕ) × (row : List Value) × (st ≡ Delete relation row) × RowForm relation row t) ⊎ ((relation : List ℕ) × (cond : NamedCond) × (st ≡ DeleteWhere relation cond) × ConditionForm relation cond t)
 delete_inv st s t w (g.insert _ relation row _ t' e e' h) = absurd (apart (codes "delete") (codes "insert") s t t' w e' refl)
 delete_inv st s t w (g.delete _ relation row _ t' e e' h) = let at : t' ≡ t = cc in inl (relation, row, e, subst (λ (x : List Symbol). RowForm relation row x) at h)
 delete_inv st s t w (g.delete_where _ relation cond _ t' e e' h) = let at : t' ≡ t = cc in inr (relation, cond, e, subst (λ (x : List Symbol). ConditionForm relation cond x) at h)
@@ -76,7 +75,7 @@ delete_inv st s t w (g.support _ q _ t' e e' h) = absurd (apart (codes "delete")
 delete_inv st s t w (g.compare _ p q _ t' e e' h) = absurd (apart (codes "delete") (codes "compare") s t t' w e' refl)
 delete_inv st s t w (g.window _ names _ t' e e' h) = absurd (apart (codes "delete") (codes "window") s t t' w e' refl)
 
-pub load_inv : (st : Statement) (s t : List Symbol) → s ≡ Word (codes "load") ∷ t → IsForm st s → (relation : List ℕ) × (file : List ℕ) × (st ≡ Load relation file) × FileForm relation file t
+pub load_inv : (st : Statement) (s t : List Symbol) → s ≡ Word (codes "load") ∷ t → ReadsForm st s → (relation : List ℕ) × (file : List ℕ) × (st ≡ Load relation file) × FileForm relation file t
 load_inv st s t w (g.insert _ relation row _ t' e e' h) = absurd (apart (codes "load") (codes "insert") s t t' w e' refl)
 load_inv st s t w (g.delete _ relation row _ t' e e' h) = absurd (apart (codes "load") (codes "delete") s t t' w e' refl)
 load_inv st s t w (g.delete_where _ relation cond _ t' e e' h) = absurd (apart (codes "load") (codes "delete") s t t' w e' refl)
@@ -91,7 +90,7 @@ load_inv st s t w (g.support _ q _ t' e e' h) = absurd (apart (codes "load") (co
 load_inv st s t w (g.compare _ p q _ t' e e' h) = absurd (apart (codes "load") (codes "compare") s t t' w e' refl)
 load_inv st s t w (g.window _ names _ t' e e' h) = absurd (apart (codes "load") (codes "window") s t t' w e' refl)
 
-pub print_inv : (st : Statement) (s t : List Symbol) → s ≡ Word (codes "print") ∷ t → IsForm st s → (relation : List ℕ) × (st ≡ Print relation) × (t ≡ Word relation ∷ []) × IsName relation
+pub print_inv : (st : Statement) (s t : List Symbol) → s ≡ Word (codes "print") ∷ t → ReadsForm st s → (relation : List ℕ) × (st ≡ Print relation) × (t ≡ Word relation ∷ []) × IsName relation
 print_inv st s t w (g.insert _ relation row _ t' e e' h) = absurd (apart (codes "print") (codes "insert") s t t' w e' refl)
 print_inv st s t w (g.delete _ relation row _ t' e e' h) = absurd (apart (codes "print") (codes "delete") s t t' w e' refl)
 print_inv st s t w (g.delete_where _ relation cond _ t' e e' h) = absurd (apart (codes "print") (codes "delete") s t t' w e' refl)
@@ -106,7 +105,7 @@ print_inv st s t w (g.support _ q _ t' e e' h) = absurd (apart (codes "print") (
 print_inv st s t w (g.compare _ p q _ t' e e' h) = absurd (apart (codes "print") (codes "compare") s t t' w e' refl)
 print_inv st s t w (g.window _ names _ t' e e' h) = absurd (apart (codes "print") (codes "window") s t t' w e' refl)
 
-pub schema_inv : (st : Statement) (s t : List Symbol) → s ≡ Word (codes "schema") ∷ t → IsForm st s → (st ≡ Schema) × (t ≡ [])
+pub schema_inv : (st : Statement) (s t : List Symbol) → s ≡ Word (codes "schema") ∷ t → ReadsForm st s → (st ≡ Schema) × (t ≡ [])
 schema_inv st s t w (g.insert _ relation row _ t' e e' h) = absurd (apart (codes "schema") (codes "insert") s t t' w e' refl)
 schema_inv st s t w (g.delete _ relation row _ t' e e' h) = absurd (apart (codes "schema") (codes "delete") s t t' w e' refl)
 schema_inv st s t w (g.delete_where _ relation cond _ t' e e' h) = absurd (apart (codes "schema") (codes "delete") s t t' w e' refl)
@@ -121,7 +120,7 @@ schema_inv st s t w (g.support _ q _ t' e e' h) = absurd (apart (codes "schema")
 schema_inv st s t w (g.compare _ p q _ t' e e' h) = absurd (apart (codes "schema") (codes "compare") s t t' w e' refl)
 schema_inv st s t w (g.window _ names _ t' e e' h) = absurd (apart (codes "schema") (codes "window") s t t' w e' refl)
 
-pub closure_inv : (st : Statement) (s t : List Symbol) → s ≡ Word (codes "closure") ∷ t → IsForm st s → (names : List (List ℕ)) × (st ≡ Closure names) × NamesForm names t
+pub closure_inv : (st : Statement) (s t : List Symbol) → s ≡ Word (codes "closure") ∷ t → ReadsForm st s → (names : List (List ℕ)) × (st ≡ Closure names) × NamesForm names t
 closure_inv st s t w (g.insert _ relation row _ t' e e' h) = absurd (apart (codes "closure") (codes "insert") s t t' w e' refl)
 closure_inv st s t w (g.delete _ relation row _ t' e e' h) = absurd (apart (codes "closure") (codes "delete") s t t' w e' refl)
 closure_inv st s t w (g.delete_where _ relation cond _ t' e e' h) = absurd (apart (codes "closure") (codes "delete") s t t' w e' refl)
@@ -136,7 +135,7 @@ closure_inv st s t w (g.support _ q _ t' e e' h) = absurd (apart (codes "closure
 closure_inv st s t w (g.compare _ p q _ t' e e' h) = absurd (apart_behind (codes "closure") (codes "compare") s t t' w e' refl)
 closure_inv st s t w (g.window _ names _ t' e e' h) = absurd (apart (codes "closure") (codes "window") s t t' w e' refl)
 
-pub explain_inv : (st : Statement) (s t : List Symbol) → s ≡ Word (codes "explain") ∷ t → IsForm st s → ((q : AQuery) × (st ≡ Explain q) × QueryForm q t)
+pub explain_inv : (st : Statement) (s t : List Symbol) → s ≡ Word (codes "explain") ∷ t → ReadsForm st s → ((q : AQuery) × (st ≡ Explain q) × QueryForm q t)
     ⊎ (((q : AQuery) × (u : List Symbol) × (st ≡ Certify q) × (t ≡ Word (codes "with") ∷ u) × QueryForm q u)
     ⊎ ((q : AQuery) × (u : List Symbol) × (st ≡ Support q) × (t ≡ Word (codes "from") ∷ u) × QueryForm q u))
 explain_inv st s t w (g.insert _ relation row _ t' e e' h) = absurd (apart (codes "explain") (codes "insert") s t t' w e' refl)
@@ -160,7 +159,7 @@ no_query_with q s t w h = apart (codes "with") (codes "retrieve") s t (Sign sign
 pub no_query_from : (q : AQuery) (s t : List Symbol) → s ≡ Word (codes "from") ∷ t → QueryForm q s → ⊥
 no_query_from q s t w h = apart (codes "from") (codes "retrieve") s t (Sign sign.Open ∷ h.refs) w h.begins refl
 
-pub certify_inv : (st : Statement) (s t : List Symbol) → s ≡ Word (codes "explain") ∷ Word (codes "with") ∷ t → IsForm st s → (q : AQuery) × (st ≡ Certify q) × QueryForm q t
+pub certify_inv : (st : Statement) (s t : List Symbol) → s ≡ Word (codes "explain") ∷ Word (codes "with") ∷ t → ReadsForm st s → (q : AQuery) × (st ≡ Certify q) × QueryForm q t
 certify_inv st s t w h = elim (explain_inv st s (Word (codes "with") ∷ t) w h) [
   | inl i ↦ absurd (no_query_with i.0 (Word (codes "with") ∷ t) t refl i.2)
   | inr others ↦ elim others [
@@ -169,7 +168,7 @@ certify_inv st s t w h = elim (explain_inv st s (Word (codes "with") ∷ t) w h)
   ]
 ]
 
-pub support_inv : (st : Statement) (s t : List Symbol) → s ≡ Word (codes "explain") ∷ Word (codes "from") ∷ t → IsForm st s → (q : AQuery) × (st ≡ Support q) × QueryForm q t
+pub support_inv : (st : Statement) (s t : List Symbol) → s ≡ Word (codes "explain") ∷ Word (codes "from") ∷ t → ReadsForm st s → (q : AQuery) × (st ≡ Support q) × QueryForm q t
 support_inv st s t w h = elim (explain_inv st s (Word (codes "from") ∷ t) w h) [
   | inl i ↦ absurd (no_query_from i.0 (Word (codes "from") ∷ t) t refl i.2)
   | inr others ↦ elim others [
@@ -178,7 +177,7 @@ support_inv st s t w h = elim (explain_inv st s (Word (codes "from") ∷ t) w h)
   ]
 ]
 
-pub retrieve_inv : (st : Statement) (s t : List Symbol) → s ≡ Word (codes "retrieve") ∷ t → IsForm st s → (q : AQuery) × (st ≡ Retrieve q) × QueryForm q s
+pub retrieve_inv : (st : Statement) (s t : List Symbol) → s ≡ Word (codes "retrieve") ∷ t → ReadsForm st s → (q : AQuery) × (st ≡ Retrieve q) × QueryForm q s
 retrieve_inv st s t w (g.insert _ relation row _ t' e e' h) = absurd (apart (codes "retrieve") (codes "insert") s t t' w e' refl)
 retrieve_inv st s t w (g.delete _ relation row _ t' e e' h) = absurd (apart (codes "retrieve") (codes "delete") s t t' w e' refl)
 retrieve_inv st s t w (g.delete_where _ relation cond _ t' e e' h) = absurd (apart (codes "retrieve") (codes "delete") s t t' w e' refl)
@@ -193,7 +192,7 @@ retrieve_inv st s t w (g.support _ q _ t' e e' h) = absurd (apart (codes "retrie
 retrieve_inv st s t w (g.compare _ p q _ t' e e' h) = absurd (apart (codes "retrieve") (codes "compare") s t t' w e' refl)
 retrieve_inv st s t w (g.window _ names _ t' e e' h) = absurd (apart (codes "retrieve") (codes "window") s t t' w e' refl)
 
-pub compare_inv : (st : Statement) (s t : List Symbol) → s ≡ Word (codes "compare") ∷ t → IsForm st s → (first : AQuery) × (second : AQuery) × (st ≡ Compare first second) × PairForm first second t
+pub compare_inv : (st : Statement) (s t : List Symbol) → s ≡ Word (codes "compare") ∷ t → ReadsForm st s → (first : AQuery) × (second : AQuery) × (st ≡ Compare first second) × PairForm first second t
 compare_inv st s t w (g.insert _ relation row _ t' e e' h) = absurd (apart (codes "compare") (codes "insert") s t t' w e' refl)
 compare_inv st s t w (g.delete _ relation row _ t' e e' h) = absurd (apart (codes "compare") (codes "delete") s t t' w e' refl)
 compare_inv st s t w (g.delete_where _ relation cond _ t' e e' h) = absurd (apart (codes "compare") (codes "delete") s t t' w e' refl)
@@ -208,7 +207,7 @@ compare_inv st s t w (g.support _ q _ t' e e' h) = absurd (apart (codes "compare
 compare_inv st s t w (g.compare _ p q _ t' e e' h) = let at : t' ≡ t = cc in (p, q, e, subst (λ (x : List Symbol). PairForm p q x) at h)
 compare_inv st s t w (g.window _ names _ t' e e' h) = absurd (apart (codes "compare") (codes "window") s t t' w e' refl)
 
-pub window_inv : (st : Statement) (s t : List Symbol) → s ≡ Word (codes "window") ∷ t → IsForm st s → (names : List (List ℕ)) × (st ≡ Window names) × NamesForm names t
+pub window_inv : (st : Statement) (s t : List Symbol) → s ≡ Word (codes "window") ∷ t → ReadsForm st s → (names : List (List ℕ)) × (st ≡ Window names) × NamesForm names t
 window_inv st s t w (g.insert _ relation row _ t' e e' h) = absurd (apart (codes "window") (codes "insert") s t t' w e' refl)
 window_inv st s t w (g.delete _ relation row _ t' e e' h) = absurd (apart (codes "window") (codes "delete") s t t' w e' refl)
 window_inv st s t w (g.delete_where _ relation cond _ t' e e' h) = absurd (apart (codes "window") (codes "delete") s t t' w e' refl)
@@ -224,7 +223,7 @@ window_inv st s t w (g.compare _ p q _ t' e e' h) = absurd (apart (codes "window
 window_inv st s t w (g.window _ names _ t' e e' h) = let at : t' ≡ t = cc in (names, e, subst (λ (x : List Symbol). NamesForm names x) at h)
 
 -- where the first word is of no other form, a statement is a query
-pub none_left : (s : List Symbol) → ¬ (Begins (Word (codes "insert")) s) → ¬ (Begins (Word (codes "delete")) s) → ¬ (Begins (Word (codes "load")) s) → ¬ (Begins (Word (codes "print")) s) → ¬ (Begins (Word (codes "schema")) s) → ¬ (Begins (Word (codes "closure")) s) → ¬ (Begins (Word (codes "explain")) s) → ¬ (Begins (Word (codes "compare")) s) → ¬ (Begins (Word (codes "window")) s) → ((q : AQuery) → QueryForm q s → ⊥) → (st : Statement) → IsForm st s → ⊥
+pub none_left : (s : List Symbol) → ¬ (Begins (Word (codes "insert")) s) → ¬ (Begins (Word (codes "delete")) s) → ¬ (Begins (Word (codes "load")) s) → ¬ (Begins (Word (codes "print")) s) → ¬ (Begins (Word (codes "schema")) s) → ¬ (Begins (Word (codes "closure")) s) → ¬ (Begins (Word (codes "explain")) s) → ¬ (Begins (Word (codes "compare")) s) → ¬ (Begins (Word (codes "window")) s) → ((q : AQuery) → QueryForm q s → ⊥) → (st : Statement) → ReadsForm st s → ⊥
 none_left s n1 n2 n3 n4 n5 n6 n7 n8 n9 bad st (g.insert _ relation row _ t' e e' h) = n1 (t', e')
 none_left s n1 n2 n3 n4 n5 n6 n7 n8 n9 bad st (g.delete _ relation row _ t' e e' h) = n2 (t', e')
 none_left s n1 n2 n3 n4 n5 n6 n7 n8 n9 bad st (g.delete_where _ relation cond _ t' e e' h) = n2 (t', e')

@@ -1,65 +1,43 @@
--- A condition that was read from symbols of a text is shown in symbols that a text can have.
-use Rattle.std.proofs.Common.{◌≡◌, ℕ, true, false, cond, Option, Some, None, List, [], ◌∷◌, ◌++◌, map, length, nat_lt, refl, sym, subst, codes, arith}
+-- A condition of symbols that a text can have is shown in such symbols.
+use Rattle.std.proofs.Common.{◌≡◌, ℕ, true, false, cond, List, [], ◌∷◌, ◌++◌, map, length, nat_lt, refl, ap, sym, ◌∙◌, subst, codes, arith}
 use Rattle.std.specs.List.{AllByRecursion, list_all}
 use Rattle.std.specs.Prelude.{◌&&◌, IsTrue}
 use Rattle.std.proofs.lemmas.Bool.Decides.{nat_tests}
 use Rattle.std.proofs.lemmas.List.Elements.{All-from_recursion}
 use Rattle.su_base.specs.Name.{IsWord, is_letter, is_letter_or_digit}
-use Rattle.su_base.specs.declared.values.Value.{Value}
 use Rattle.su_lex.specs.declared.signs.Sign.TheVariants as sign
 use Rattle.su_lex.specs.declared.meaning.Symbol.{Symbol}
 use Rattle.su_lex.specs.declared.meaning.Symbol.TheVariants.{Word, Sign}
 use Rattle.su_lex.specs.Symbols.{IsSymbol}
-use Rattle.su_where.specs.declared.operators.Op.{Op}
-use Rattle.su_where.specs.declared.operators.Op.TheVariants as op
-use Rattle.su_query.specs.declared.refs.Ref.{Ref as ARef}
-use Rattle.su_query.specs.declared.refs.NamedOperand.{NamedOperand}
-use Rattle.su_query.specs.declared.refs.NamedOperand.TheVariants.{Ref, Const}
-use Rattle.su_query.specs.Refs.{NamedCond}
-use Rattle.su_where.specs.declared.conditions.Condition.TheVariants.{Compare, Not, All, Any}
-use Rattle.su_query.specs.Grammar as g
-use Rattle.su_query.specs.Grammar.{ReadsCond, ReadsOrs, ReadsConj, ReadsAnds, ReadsFactor, ReadsPrimary, compared, ReadsComparison, any_of, all_of}
-use Rattle.su_query.specs.Operands.{ReadsOperand, ReadsRef, ReadsValue, ReadsName, op_sym, qualified}
-use Rattle.su_query.specs.ShownConditions.{ShownCond, shown_cond, cond_symbols, part, inner, joined}
 use Rattle.su_lex.specs.Wordings.{in_parens}
-use Rattle.su_query.specs.ShownParts.{name_symbols, value_symbols, ref_symbols, operand_symbols}
+use Rattle.su_where.specs.declared.conditions.Condition.TheVariants.{Compare, Not, All, Any}
+use Rattle.su_query.specs.Refs.{NamedCond}
+use Rattle.su_query.specs.Grammar as g
+use Rattle.su_query.specs.Grammar.{IsCond, AreConjs, IsConj, AreFactors, IsFactor, IsPrimary, any_of, all_of}
+use Rattle.su_query.specs.ShownConditions.{ShownCond, shown_cond, cond_symbols, part, inner, joined}
 use Rattle.su_query.proofs.CondShown.{shown-Compare, shown-Not, shown-All, shown-Any}
 
 abbrev pub AreSymbols : List Symbol → Type 0
 AreSymbols = AllByRecursion IsSymbol
 
--- those of a part that was read, and those that follow it
-pub record Both (here behind : List Symbol) : Type 0 where
-  pub shown : AreSymbols here
-  pub left : AreSymbols behind
-
 pub both-append : (xs ys : List Symbol) → AreSymbols xs → AreSymbols ys → AreSymbols (xs ++ ys)
 both-append [] ys a b = b
 both-append (x ∷ xs) ys a b = (a.0, both-append xs ys a.1 b)
 
+-- those in front, and those behind
+pub front_of : (xs ys : List Symbol) → AreSymbols (xs ++ ys) → AreSymbols xs
+front_of [] ys a = tt
+front_of (x ∷ xs) ys a = (a.0, front_of xs ys a.1)
+
+pub behind_of : (xs ys : List Symbol) → AreSymbols (xs ++ ys) → AreSymbols ys
+behind_of [] ys a = a
+behind_of (x ∷ xs) ys a = behind_of xs ys a.1
+
 pub parens_are : (s : List Symbol) → AreSymbols s → AreSymbols (in_parens s)
 parens_are s a = (tt, both-append s (Sign sign.Close ∷ []) a (tt, tt))
 
--- ---- names, values and refs
-
-pub name_both : (n : List ℕ) (s r : List Symbol) → ReadsName n s r → AreSymbols s → Both (name_symbols n) r
-name_both n s r h v = let w = subst AreSymbols h.0 v in record { shown = (w.0, tt); left = w.1 }
-
-pub value_both : (x : Value) (s r : List Symbol) → ReadsValue x s r → AreSymbols s → Both (value_symbols x) r
-value_both x s r h v = let w = subst AreSymbols h v in record { shown = (w.0, tt); left = w.1 }
-
-qualified_both : (v : Option (List ℕ)) (x : Symbol) (r : List Symbol) → AreSymbols (qualified v (x ∷ r)) → Both (qualified v (x ∷ [])) r
-qualified_both None x r a = record { shown = (a.0, tt); left = a.1 }
-qualified_both (Some v) x r a = record { shown = (a.0, (a.1.0, (a.1.1.0, tt))); left = a.1.1.1 }
-
-pub ref_both : (ref : ARef) (s r : List Symbol) → ReadsRef ref s r → AreSymbols s → Both (ref_symbols ref) r
-ref_both ref s r h v = qualified_both ref.variable (Word ref.attribute) r (subst AreSymbols h.0 v)
-
-operand_both : (a : NamedOperand) (s r : List Symbol) → ReadsOperand a s r → AreSymbols s → Both (operand_symbols a) r
-operand_both (Ref ref) s r h v = ref_both ref s r h v
-operand_both (Const x) s r h v = value_both x s r h v
-
--- ---- conditions
+pub within_parens : (s : List Symbol) → AreSymbols (in_parens s) → AreSymbols s
+within_parens s a = front_of s (Sign sign.Close ∷ []) a.1
 
 letters : (w : List ℕ) → list_all is_letter_or_digit w ≡ true → AllByRecursion (λ c. IsTrue (is_letter_or_digit c)) w
 letters [] e = tt
@@ -103,60 +81,40 @@ all_genuine : (c : NamedCond) (cs : List NamedCond) → IsGenuine c → AllByRec
 all_genuine c [] a more = a
 all_genuine c (d ∷ ds) a more = by_shown (All (c ∷ d ∷ ds)) _ (shown-All (c ∷ d ∷ ds)) (joined_are (Word (codes "and")) and_is (c ∷ d ∷ ds) (a, more))
 
-op_is : (o : Op) → IsSymbol (op_sym o)
-op_is op.Equal = tt
-op_is op.NotEqual = tt
-op_is op.Less = tt
-op_is op.LessEqual = tt
-op_is op.Greater = tt
-op_is op.GreaterEqual = tt
+-- ---- by the derivation
 
-compare_genuine : (a : NamedOperand) (o : Op) (b : NamedOperand) → AreSymbols (operand_symbols a) → AreSymbols (operand_symbols b) → IsGenuine (Compare (compared a o b))
-compare_genuine a o b va vb = by_shown (Compare (compared a o b)) _ (shown-Compare (compared a o b)) (both-append (operand_symbols a) (op_sym o ∷ operand_symbols b) va (op_is o, vb))
+-- parts, one at least, that are shown so
+abbrev AreGenuine : List NamedCond → Type 0
+AreGenuine cs = (p : NamedCond) × (ps : List NamedCond) × (cs ≡ p ∷ ps) × IsGenuine p × AllByRecursion IsGenuine ps
 
-pub record Parts (cs : List NamedCond) (behind : List Symbol) : Type 0 where
-  pub shown : AllByRecursion IsGenuine cs
-  pub left : AreSymbols behind
+more_genuine : (cs : List NamedCond) (c : NamedCond) (ds : List NamedCond) → cs ≡ c ∷ ds → IsGenuine c → AreGenuine ds → AreGenuine cs
+more_genuine cs c ds e a (p, ps, w, one, more) = (c, ds, e, a, subst (AllByRecursion IsGenuine) (sym w) (one, more))
 
 mutual
-  pub cond_both : (c : NamedCond) (s r : List Symbol) → ReadsCond c s r → AreSymbols s → Both (cond_symbols c) r
-  cond_both c s r (g.cond _ d ds _ t _ e h hs) v =
-      let p = conj_both d s t h v in
-      let q = ors_both ds t r hs p.left in
-      record { shown = subst IsGenuine (sym e) (any_genuine d ds p.shown q.shown); left = q.left }
+  pub genuine_cond : (c : NamedCond) (s : List Symbol) → IsCond c s → AreSymbols s → IsGenuine c
+  genuine_cond c s (g.cond _ cs _ e hs) v = let p = genuine_conjs cs s hs v in subst IsGenuine (sym (e ∙ ap any_of p.2)) (any_genuine p.0 p.1 p.3 p.4)
 
-  ors_both : (cs : List NamedCond) (s r : List Symbol) → ReadsOrs cs s r → AreSymbols s → Parts cs r
-  ors_both cs s r (g.no_or _ _ _ e same none) v = record { shown = subst (AllByRecursion IsGenuine) (sym e) tt; left = subst AreSymbols same v }
-  ors_both cs s r (g.one_or _ d ds _ t u _ e w h hs) v =
-      let p = conj_both d t u h (subst AreSymbols w v).1 in
-      let q = ors_both ds u r hs p.left in
-      record { shown = subst (AllByRecursion IsGenuine) (sym e) (p.shown, q.shown); left = q.left }
+  genuine_conjs : (cs : List NamedCond) (s : List Symbol) → AreConjs cs s → AreSymbols s → AreGenuine cs
+  genuine_conjs cs s (g.one_conj _ c _ e h) v = (c, [], e, genuine_conj c s h v, tt)
+  genuine_conjs cs s (g.or _ c ds _ t u e w h hs) v =
+      let a = subst AreSymbols w v in
+      more_genuine cs c ds e (genuine_conj c t h (front_of t (Word (codes "or") ∷ u) a)) (genuine_conjs ds u hs (behind_of t (Word (codes "or") ∷ u) a).1)
 
-  conj_both : (c : NamedCond) (s r : List Symbol) → ReadsConj c s r → AreSymbols s → Both (cond_symbols c) r
-  conj_both c s r (g.conj _ d ds _ t _ e h hs) v =
-      let p = factor_both d s t h v in
-      let q = ands_both ds t r hs p.left in
-      record { shown = subst IsGenuine (sym e) (all_genuine d ds p.shown q.shown); left = q.left }
+  genuine_conj : (c : NamedCond) (s : List Symbol) → IsConj c s → AreSymbols s → IsGenuine c
+  genuine_conj c s (g.conj _ cs _ e hs) v = let p = genuine_factors cs s hs v in subst IsGenuine (sym (e ∙ ap all_of p.2)) (all_genuine p.0 p.1 p.3 p.4)
 
-  ands_both : (cs : List NamedCond) (s r : List Symbol) → ReadsAnds cs s r → AreSymbols s → Parts cs r
-  ands_both cs s r (g.no_and _ _ _ e same none) v = record { shown = subst (AllByRecursion IsGenuine) (sym e) tt; left = subst AreSymbols same v }
-  ands_both cs s r (g.one_and _ d ds _ t u _ e w h hs) v =
-      let p = factor_both d t u h (subst AreSymbols w v).1 in
-      let q = ands_both ds u r hs p.left in
-      record { shown = subst (AllByRecursion IsGenuine) (sym e) (p.shown, q.shown); left = q.left }
+  genuine_factors : (cs : List NamedCond) (s : List Symbol) → AreFactors cs s → AreSymbols s → AreGenuine cs
+  genuine_factors cs s (g.one_factor _ c _ e h) v = (c, [], e, genuine_factor c s h v, tt)
+  genuine_factors cs s (g.and _ c ds _ t u e w h hs) v =
+      let a = subst AreSymbols w v in
+      more_genuine cs c ds e (genuine_factor c t h (front_of t (Word (codes "and") ∷ u) a)) (genuine_factors ds u hs (behind_of t (Word (codes "and") ∷ u) a).1)
 
-  factor_both : (c : NamedCond) (s r : List Symbol) → ReadsFactor c s r → AreSymbols s → Both (cond_symbols c) r
-  factor_both c s r (g.plain _ _ _ h) v = primary_both c s r h v
-  factor_both c s r (g.negated _ d _ t _ e w h) v =
-      let w' = subst AreSymbols w v in
-      let p = primary_both d t r h w'.1 in
-      record { shown = subst IsGenuine (sym e) (by_shown (Not d) _ (shown-Not d) (w'.0, inner_are (shown_cond d) p.shown)); left = p.left }
+  genuine_factor : (c : NamedCond) (s : List Symbol) → IsFactor c s → AreSymbols s → IsGenuine c
+  genuine_factor c s (g.plain _ _ h) v = genuine_primary c s h v
+  genuine_factor c s (g.negated _ d _ t e w h) v =
+      let a = subst AreSymbols w v in
+      subst IsGenuine (sym e) (by_shown (Not d) _ (shown-Not d) (a.0, inner_are (shown_cond d) (genuine_primary d t h a.1)))
 
-  primary_both : (c : NamedCond) (s r : List Symbol) → ReadsPrimary c s r → AreSymbols s → Both (cond_symbols c) r
-  primary_both c s r (g.nested _ _ t u _ e h w) v =
-      let p = cond_both c t u h (subst AreSymbols e v).1 in
-      record { shown = p.shown; left = (subst AreSymbols w p.left).1 }
-  primary_both c s r (g.compare _ _ _ h) v =
-      let p = operand_both h.0 s h.3 h.5 v in
-      let q = operand_both h.2 h.4 r h.7 (subst AreSymbols h.6 p.left).1 in
-      record { shown = subst IsGenuine (sym h.8) (compare_genuine h.0 h.1 h.2 p.shown q.shown); left = q.left }
+  genuine_primary : (c : NamedCond) (s : List Symbol) → IsPrimary c s → AreSymbols s → IsGenuine c
+  genuine_primary c s (g.nested _ _ t e h) v = genuine_cond c t h (within_parens t (subst AreSymbols e v))
+  genuine_primary c s (g.compare _ k _ e w left right) v = subst IsGenuine (sym e) (by_shown (Compare k) _ (shown-Compare k) (subst AreSymbols w v))

@@ -14,8 +14,9 @@ use Rattle.su_query.specs.declared.refs.NamedOperand.TheVariants.{Ref, Const}
 use Rattle.su_query.specs.Refs.{NamedCond}
 use Rattle.su_where.specs.declared.conditions.Condition.TheVariants.{Compare}
 use Rattle.su_lex.specs.Names.{Begins}
-use Rattle.su_query.specs.Operands.{value_sym, op_sym, qualified, IsVariable, ReadsName, ReadsValue, ReadsRef, ReadsOperand}
-use Rattle.su_query.specs.Grammar.{compared, ReadsComparison}
+use Rattle.su_query.specs.Operands.{value_sym, op_sym, qualified, IsVariable}
+use Rattle.su_query.specs.inside.ReadItems.{ReadsName, ReadsValue, ReadsRef, ReadsOperand}
+use Rattle.su_query.specs.inside.ReadConditions.{compared, ReadsComparison}
 
 pub record SameItem {A : Type 0} (a b : A) (r q : List Symbol) : Type 0 where
   pub item : a ≡ b

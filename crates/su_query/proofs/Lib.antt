@@ -13,11 +13,13 @@ pub mod LookedUp
 pub mod Noted
 pub mod Placed
 pub mod Ranged
+pub mod Readable
 pub mod Queries
 pub mod ReadBack
 pub mod Ready
 pub mod Round
 pub mod Seen
+pub mod Spelled
 pub mod Steps
 pub mod Taken
 pub mod Unique

@@ -3,12 +3,11 @@ use Rattle.std.proofs.Common.{◌≡◌, ℕ, List, [], ◌∷◌, ◌++◌, ref
 use Rattle.su_lex.specs.declared.signs.Sign.TheVariants as sign
 use Rattle.su_lex.specs.declared.meaning.Symbol.{Symbol}
 use Rattle.su_lex.specs.declared.meaning.Symbol.TheVariants.{Sign, Word}
-use Rattle.su_query.specs.Lists as g
+use Rattle.su_query.specs.inside.ReadItems as g
 use Rattle.std.specs.List.{AllByRecursion}
 use Rattle.su_base.specs.Name.{IsName}
 use Rattle.su_lex.specs.Names.{AreNames, Begins, more_names, names_symbols}
-use Rattle.su_query.specs.Operands.{ReadsName}
-use Rattle.su_query.specs.Lists.{More, Several}
+use Rattle.su_query.specs.inside.ReadItems.{ReadsName, More, Several}
 use Rattle.su_query.proofs.Items.{SameItem}
 
 -- an item is read in one way

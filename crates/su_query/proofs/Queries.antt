@@ -7,11 +7,10 @@ use Rattle.su_lex.specs.Names.{Begins}
 use Rattle.su_query.specs.declared.refs.Ref.{Ref as ARef}
 use Rattle.su_query.specs.Refs.{NamedCond}
 use Rattle.su_query.specs.declared.statements.Query.{Query as AQuery}
-use Rattle.su_query.specs.Lists.{Several}
-use Rattle.su_query.specs.Operands.{ReadsRef}
-use Rattle.su_query.specs.Grammar.{ReadsCond}
-use Rattle.su_query.specs.QueryForms as g
-use Rattle.su_query.specs.QueryForms.{ReadsWhere, ReadsQuery, ReadsEnclosed, PairForm, QueryForm}
+use Rattle.su_query.specs.inside.ReadItems.{Several, ReadsRef}
+use Rattle.su_query.specs.inside.ReadConditions.{ReadsCond}
+use Rattle.su_query.specs.inside.ReadQueries as g
+use Rattle.su_query.specs.inside.ReadQueries.{ReadsWhere, ReadsQuery, ReadsEnclosed, PairForm, QueryForm}
 use Rattle.su_query.proofs.Items.{SameItem, ref_unique}
 use Rattle.su_query.proofs.Listed.{several_unique}
 use Rattle.su_query.proofs.Unique.{same_cond}

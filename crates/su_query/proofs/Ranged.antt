@@ -11,9 +11,9 @@ use Rattle.std.proofs.lemmas.Slice.Eq.{bytes_eq-Decides}
 use Rattle.su_base.specs.declared.values.Kind.TheVariants.{Int as IntKind}
 use Rattle.su_schema.specs.SchemaValue.{SchemaValue}
 use Rattle.su_schema.specs.Entries.{attribute_names, attribute_kinds}
-use Rattle.su_schema.specs.Known.{columns_at}
+use Rattle.su_schema.specs.Known.{columns_at, number_of}
+use Rattle.su_schema.proofs.Numbers.{known-Some}
 use Rattle.su_query.specs.declared.refs.Ref.{Ref as ARef}
-use Rattle.su_query.specs.declared.refs.NamedOperand.TheVariants.{Ref}
 use Rattle.su_query.specs.declared.places.Place.{Place}
 use Rattle.su_query.specs.declared.scopes.Scope.{Scope}
 use Rattle.su_query.specs.declared.scopes.Scope.TheVariants.{Attributes, Columns}
@@ -22,7 +22,7 @@ use Rattle.su_where.specs.Truth.{comparisons_of}
 use Rattle.su_query.specs.Refs.{NamedCond, refs_of}
 use Rattle.su_query.specs.Mentions.{same_variable, mentions, variables_of, all_refs}
 use Rattle.su_query.specs.Limits.{AreFew}
-use Rattle.su_query.specs.Scopes.{names_in, kinds_in, is_unknown, first_unknown, number_among, kind_in}
+use Rattle.su_query.specs.Scopes.{names_in, kinds_in, is_unknown, first_unknown}
 use Rattle.su_query.specs.Places.{place_in, same_place, places_of, number_in, places_in}
 use Rattle.su_query.specs.NumberedConditions.{resolved_of, with_columns}
 use Rattle.su_query.specs.declared.conditions.Comparison.{Comparison}
@@ -104,6 +104,11 @@ hit_number p xs h = subst (λ (n : ℕ). n < length xs) (sym (ap (λ o. unwrap_o
 pub known_hit : (names : List (List ℕ)) (r : ARef) → is_unknown names r ≡ false → Hit (λ n. bytes_eq r.attribute n) names
 known_hit names r e = hit_some (λ n. bytes_eq r.attribute n) names e
 
+known_number : (names : List (List ℕ)) (r : ARef) → is_unknown names r ≡ false → number_of names r.attribute < length names
+known_number names r e =
+    let h = known_hit names r e in
+    subst (λ (n : ℕ). n < length names) (sym (known-Some names r.attribute h.at h.is).1) h.below
+
 all_known : (names : List (List ℕ)) (refs : List ARef) → first_unknown names refs ≡ None → Each (λ r. is_unknown names r ≡ false) refs
 all_known names refs e = none_found (λ r. r.attribute) (is_unknown names) refs e
 
@@ -117,21 +122,13 @@ module _ (schema : SchemaValue) (scope : Scope) (refs : List ARef) (comparisons 
   faultless : first_fault schema scope refs comparisons ≡ None → (first_unknown (names_in schema scope) refs ≡ None) × (differing_kinds schema scope comparisons ≡ None)
   faultless e = neither (unknown_in scope) (λ k. Kinds k.0 k.1) (first_unknown (names_in schema scope) refs) (differing_kinds schema scope comparisons) e
 
--- the kind of a known name is that of its number
-known_kind : (schema : SchemaValue) (scope : Scope) (r : ARef) → is_unknown (names_in schema scope) r ≡ false
-    → slice_index_or (kinds_in schema scope) (number_among (names_in schema scope) r.attribute) IntKind ≡ kind_in schema scope (Ref r)
-known_kind schema scope r e =
-    let h = known_hit (names_in schema scope) r e in
-    ap (λ o. slice_index_or (kinds_in schema scope) (unwrap_or o 0) IntKind) h.is ∙ sym (ap (λ o. unwrap_or (option_map (λ n. slice_index_or (kinds_in schema scope) n IntKind) o) IntKind) h.is)
-
 -- ---- a query
 
 module _ (schema : SchemaValue) (vs : List (Option (List ℕ))) where
   place_among : (r : ARef) → list_any (same_variable r.variable) vs ≡ true → is_unknown (attribute_names schema) r ≡ false → IsPlaceAmong schema vs (place_in schema vs r)
   place_among r h k = record {
     variable = hit_number (same_variable r.variable) vs (hit_any (same_variable r.variable) vs h);
-    attribute = subst (λ (n : ℕ). number_among (attribute_names schema) r.attribute < n) (length-map schema.attributes (λ a. a.name))
-        (hit_number (λ n. bytes_eq r.attribute n) (attribute_names schema) (known_hit (attribute_names schema) r k));
+    attribute = subst (λ (n : ℕ). number_of (attribute_names schema) r.attribute < n) (length-map schema.attributes (λ a. a.name)) (known_number (attribute_names schema) r k);
   }
 
   ref_numbered : (places : List Place) (r : ARef) → list_any (same_place (place_in schema vs r)) places ≡ true → is_unknown (attribute_names schema) r ≡ false
@@ -141,11 +138,11 @@ module _ (schema : SchemaValue) (vs : List (Option (List ℕ))) where
       let hit = hit_any p places h in
       let kind = λ (x : Place). slice_index_or (attribute_kinds schema) x.attribute IntKind in
       let d = place_in schema vs r in
-      let e : number_among (attribute_names schema) r.attribute ≡ (get_or places hit.at d).attribute = grind (arith, nat_tests, hit.passes d) in
+      let e : number_of (attribute_names schema) r.attribute ≡ (get_or places hit.at d).attribute = grind (arith, nat_tests, hit.passes d) in
       record {
         below = subst (λ (n : ℕ). number_in schema Attributes vs places r < n) (sym (length-map places kind)) (hit_number p places hit);
         kind = ap (λ o. slice_index_or (place_kinds schema places) (unwrap_or o 0) IntKind) hit.is ∙ get_or-map kind places hit.at d IntKind hit.below
-            ∙ ap (λ n. slice_index_or (attribute_kinds schema) n IntKind) (sym e) ∙ known_kind schema Attributes r k;
+            ∙ ap (λ n. slice_index_or (attribute_kinds schema) n IntKind) (sym e);
       }
 
 -- where each name is known, the places are in range, and each ref is numbered by its place
@@ -194,8 +191,8 @@ column_numbers schema r c known k d l =
     let known_ref = all_known names (refs_of c) known k d l in
     let count : length names ≡ length (kinds_in schema (Columns r)) = length-map (columns_at schema r) (λ x. x.name) ∙ sym (length-map (columns_at schema r) (λ x. x.kind)) in
     record {
-      below = subst (λ (n : ℕ). number_among names ref.attribute < n) count (hit_number (λ n. bytes_eq ref.attribute n) names (known_hit names ref known_ref));
-      kind = known_kind schema (Columns r) ref known_ref;
+      below = subst (λ (n : ℕ). number_of names ref.attribute < n) count (known_number names ref known_ref);
+      kind = refl;
     }
 
 pub columns_typed : (schema : SchemaValue) (r : ℕ) (c : NamedCond) → length (comparisons_of c) ≤ 256 → IsColumnCondition schema r c → IsOnColumns schema r (with_columns schema r c)

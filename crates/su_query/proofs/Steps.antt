@@ -4,8 +4,9 @@ use Rattle.su_lex.specs.declared.signs.Sign.TheVariants as sign
 use Rattle.su_lex.specs.declared.meaning.Symbol.{Symbol}
 use Rattle.su_lex.specs.declared.meaning.Symbol.TheVariants.{Word, Sign}
 use Rattle.su_query.specs.Refs.{NamedCond}
-use Rattle.su_query.specs.Grammar as g
-use Rattle.su_query.specs.Grammar.{ReadsCond, ReadsOrs, ReadsConj, ReadsAnds, ReadsFactor, ReadsPrimary, any_of, all_of, ReadsComparison}
+use Rattle.su_query.specs.inside.ReadConditions as g
+use Rattle.su_query.specs.Grammar.{any_of, all_of}
+use Rattle.su_query.specs.inside.ReadConditions.{ReadsCond, ReadsOrs, ReadsConj, ReadsAnds, ReadsFactor, ReadsPrimary, ReadsComparison}
 use Rattle.su_lex.specs.Names.{Begins}
 use Rattle.su_query.proofs.Items.{comparison_open}
 use Rattle.su_query.proofs.Unique.{same_cond, same_conj, same_factor, primary_not}

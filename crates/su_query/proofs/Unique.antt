@@ -4,8 +4,9 @@ use Rattle.su_lex.specs.declared.meaning.Symbol.{Symbol}
 use Rattle.su_lex.specs.declared.meaning.Symbol.TheVariants.{Word}
 use Rattle.su_query.specs.Refs.{NamedCond}
 use Rattle.su_where.specs.declared.conditions.Condition.TheVariants.{Not}
-use Rattle.su_query.specs.Grammar as g
-use Rattle.su_query.specs.Grammar.{ReadsCond, ReadsOrs, ReadsConj, ReadsAnds, ReadsFactor, ReadsPrimary, any_of, all_of}
+use Rattle.su_query.specs.inside.ReadConditions as g
+use Rattle.su_query.specs.Grammar.{any_of, all_of}
+use Rattle.su_query.specs.inside.ReadConditions.{ReadsCond, ReadsOrs, ReadsConj, ReadsAnds, ReadsFactor, ReadsPrimary}
 use Rattle.su_query.proofs.Items.{comparison_not, comparison_open, comparison_unique}
 
 pub record Same (c c' : NamedCond) (r r' : List Symbol) : Type 0 where

@@ -10,20 +10,21 @@ use Rattle.su_query.specs.declared.statements.Query.{Query}
 use Rattle.su_query.specs.declared.statements.Statement.{Statement}
 use Rattle.su_query.specs.declared.statements.Statement.TheVariants.{Insert, Delete, DeleteWhere, Load, Print, Closure, Retrieve, Explain, Certify, Support, Compare, Window}
 use Rattle.su_query.specs.inside.Fronts.{opens_second}
-use Rattle.su_query.specs.Lists.{Several}
-use Rattle.su_query.specs.Operands.{ReadsName, ReadsValue}
-use Rattle.su_query.specs.Grammar.{ReadsCond}
-use Rattle.su_query.specs.Forms as g
-use Rattle.su_query.specs.RelationForms.{RowForm, ConditionForm, FileForm, NamesForm}
-use Rattle.su_query.specs.Forms.{IsForm}
+use Rattle.su_query.specs.inside.ReadItems.{Several, ReadsName, ReadsValue}
+use Rattle.su_query.specs.inside.ReadConditions.{ReadsCond}
+use Rattle.su_query.specs.inside.ReadForms as g
+use Rattle.su_query.specs.inside.ReadRelations.{RowForm, ConditionForm, FileForm, NamesForm}
+use Rattle.su_query.specs.inside.ReadForms.{ReadsForm}
 use Rattle.su_query.specs.declared.faults.QueryFault.{QueryFault}
 use Rattle.su_query.specs.declared.faults.QueryFault.TheVariants.{Syntax, Limit, NoMemory, Unknown, Kinds, UnknownColumn}
 use Rattle.su_query.specs.declared.faults.QueryLimit.TheVariants.{Nesting, Variables, Outputs, Comparisons}
+use Rattle.su_query.specs.Forms.{IsForm}
 use Rattle.su_query.specs.StatementTexts.{IsStatement, IsTextRefusal}
 use Rattle.su_query.specs.Limits.{Passes, PartsPass, parts_of}
 use Rattle.su_query.proofs.Items.{name_unique, value_unique}
 use Rattle.su_query.proofs.Listed.{several_unique}
 use Rattle.su_query.proofs.Queries.{query_unique, pair_unique}
+use Rattle.su_query.proofs.Readable.{form_readable}
 use Rattle.su_query.proofs.Unique.{same_cond}
 use Rattle.su_query.proofs.Exits.{insert_inv, delete_inv, load_inv, print_inv, schema_inv, closure_inv, retrieve_inv, explain_inv, certify_inv, support_inv, compare_inv, window_inv, no_query_with, no_query_from, condition_not_row}
 
@@ -58,7 +59,7 @@ names_unique ns ms s h k =
     let at : k.rest ≡ h.rest = cc in
     (several_unique ReadsName name_unique ns ms h.rest _ _ h.reads (subst (λ (x : List Symbol). Several ReadsName ms x (Sign sign.Close ∷ [])) at k.reads)).item
 
-pub form_unique : (st other : Statement) (s : List Symbol) → IsForm st s → IsForm other s → other ≡ st
+pub form_unique : (st other : Statement) (s : List Symbol) → ReadsForm st s → ReadsForm other s → other ≡ st
 form_unique st other s (g.insert _ relation row _ t e w h) k =
     let i = insert_inv other s t w k in
     let p = row_unique relation i.0 row i.1 t h i.3 in
@@ -111,7 +112,8 @@ form_unique st other s (g.window _ names _ t e w h) k =
 
 pub statement_unique : (text : List ℕ) (st other : Statement) → IsStatement text st → IsStatement text other → other ≡ st
 statement_unique text st other h k =
-    form_unique st other h.symbols h.form (subst (IsForm other) (one_list_of_symbols text k.symbols h.symbols k.spelled h.spelled).0 k.form)
+    let same = (one_list_of_symbols text k.symbols h.symbols k.spelled h.spelled).0 in
+    form_unique st other h.symbols (form_readable st h.symbols h.form) (form_readable other h.symbols (subst (IsForm other) same k.form))
 
 -- no limit has another cause
 parts_pass_none : (fault : QueryFault) → ((q : Query) → Passes q.outputs q.cond fault → ⊥) → (qs : List Query) → PartsPass qs fault → ⊥

@@ -1,28 +1,46 @@
--- The forms of statements, over their symbols. "From s to r": the symbols s are that, and then r.
-use Rattle.std.specs.Prelude.{◌≡◌, ℕ, codes, List, [], ◌∷◌}
-use Rattle.su_base.specs.declared.values.Value.{Value}
+-- The grammar of statements: which symbols are which statement.
+-- query: "retrieve" "(" ref { "," ref } ")" [ "where" cond ]
+use Rattle.std.specs.Prelude.{◌≡◌, ◌⊎◌, true, ◌<◌, codes, List, [], ◌∷◌, ◌++◌, length}
+use Rattle.std.specs.List.{AllByRecursion}
 use Rattle.su_base.specs.Name.{IsName}
 use Rattle.su_lex.specs.declared.meaning.Symbol.{Symbol}
-use Rattle.su_lex.specs.declared.meaning.Symbol.TheVariants.{Word}
+use Rattle.su_lex.specs.declared.meaning.Symbol.TheVariants.{Word, Text}
+use Rattle.su_lex.specs.Names.{AreNames}
+use Rattle.su_lex.specs.Wordings.{in_parens}
+use Rattle.su_where.specs.declared.conditions.Condition.TheVariants.{All}
 use Rattle.su_query.specs.declared.statements.Query.{Query as AQuery}
 use Rattle.su_query.specs.declared.statements.Statement.{Statement}
 use Rattle.su_query.specs.declared.statements.Statement.TheVariants.{Insert, Delete, DeleteWhere, Load, Print, Schema, Closure, Retrieve, Explain, Certify, Support, Compare, Window}
 use Rattle.su_query.specs.Refs.{NamedCond}
-use Rattle.su_query.specs.RelationForms.{RowForm, ConditionForm, FileForm, NamesForm}
-use Rattle.su_query.specs.QueryForms.{QueryForm, PairForm}
+use Rattle.su_query.specs.Mentions.{are_columns}
+use Rattle.su_query.specs.Operands.{IsRef}
+use Rattle.su_query.specs.ShownParts.{name_symbols, value_symbols, ref_symbols, listed}
+use Rattle.su_query.specs.Grammar.{IsCond}
+
+-- [ "where" cond ]
+abbrev pub IsWhere : NamedCond → List Symbol → Type 0
+IsWhere c s = ((c ≡ All []) × (s ≡ [])) ⊎ ((t : List Symbol) × IsCond c t × (s ≡ Word (codes "where") ∷ t))
+
+-- the symbols are this query
+pub record IsQuery (q : AQuery) (s : List Symbol) : Type 0 where
+  pub some : 0 < length q.outputs
+  pub refs : AllByRecursion IsRef q.outputs
+  pub rest : List Symbol
+  pub wanted : IsWhere q.cond rest
+  pub whole : s ≡ Word (codes "retrieve") ∷ (in_parens (listed ref_symbols q.outputs) ++ rest)
 
 -- the symbols are this statement
-pub data IsForm : Statement → List Symbol → Type 0 where
-  insert : (st : Statement) (relation : List ℕ) (row : List Value) (s t : List Symbol) → st ≡ Insert relation row → s ≡ Word (codes "insert") ∷ t → RowForm relation row t → IsForm st s
-  delete : (st : Statement) (relation : List ℕ) (row : List Value) (s t : List Symbol) → st ≡ Delete relation row → s ≡ Word (codes "delete") ∷ t → RowForm relation row t → IsForm st s
-  delete_where : (st : Statement) (relation : List ℕ) (cond : NamedCond) (s t : List Symbol) → st ≡ DeleteWhere relation cond → s ≡ Word (codes "delete") ∷ t → ConditionForm relation cond t → IsForm st s
-  load : (st : Statement) (relation file : List ℕ) (s t : List Symbol) → st ≡ Load relation file → s ≡ Word (codes "load") ∷ t → FileForm relation file t → IsForm st s
-  print : (st : Statement) (relation : List ℕ) (s : List Symbol) → st ≡ Print relation → s ≡ Word (codes "print") ∷ Word relation ∷ [] → IsName relation → IsForm st s
-  schema : (st : Statement) (s : List Symbol) → st ≡ Schema → s ≡ Word (codes "schema") ∷ [] → IsForm st s
-  closure : (st : Statement) (names : List (List ℕ)) (s t : List Symbol) → st ≡ Closure names → s ≡ Word (codes "closure") ∷ t → NamesForm names t → IsForm st s
-  retrieve : (st : Statement) (q : AQuery) (s : List Symbol) → st ≡ Retrieve q → QueryForm q s → IsForm st s
-  explain : (st : Statement) (q : AQuery) (s t : List Symbol) → st ≡ Explain q → s ≡ Word (codes "explain") ∷ t → QueryForm q t → IsForm st s
-  certify : (st : Statement) (q : AQuery) (s t : List Symbol) → st ≡ Certify q → s ≡ Word (codes "explain") ∷ Word (codes "with") ∷ t → QueryForm q t → IsForm st s
-  support : (st : Statement) (q : AQuery) (s t : List Symbol) → st ≡ Support q → s ≡ Word (codes "explain") ∷ Word (codes "from") ∷ t → QueryForm q t → IsForm st s
-  compare : (st : Statement) (first second : AQuery) (s t : List Symbol) → st ≡ Compare first second → s ≡ Word (codes "compare") ∷ t → PairForm first second t → IsForm st s
-  window : (st : Statement) (names : List (List ℕ)) (s t : List Symbol) → st ≡ Window names → s ≡ Word (codes "window") ∷ t → NamesForm names t → IsForm st s
+abbrev pub IsForm : Statement → List Symbol → Type 0
+IsForm (Insert relation row) s = IsName relation × (0 < length row) × (s ≡ Word (codes "insert") ∷ Word relation ∷ in_parens (listed value_symbols row))
+IsForm (Delete relation row) s = IsName relation × (0 < length row) × (s ≡ Word (codes "delete") ∷ Word relation ∷ in_parens (listed value_symbols row))
+IsForm (DeleteWhere relation c) s = IsName relation × (are_columns c ≡ true) × (t : List Symbol) × IsCond c t × (s ≡ Word (codes "delete") ∷ Word relation ∷ Word (codes "where") ∷ t)
+IsForm (Load relation file) s = IsName relation × (s ≡ Word (codes "load") ∷ Word relation ∷ Word (codes "from") ∷ Text file ∷ [])
+IsForm (Print relation) s = IsName relation × (s ≡ Word (codes "print") ∷ Word relation ∷ [])
+IsForm Schema s = s ≡ Word (codes "schema") ∷ []
+IsForm (Closure names) s = AreNames names × (s ≡ Word (codes "closure") ∷ in_parens (listed name_symbols names))
+IsForm (Retrieve q) s = IsQuery q s
+IsForm (Explain q) s = (t : List Symbol) × IsQuery q t × (s ≡ Word (codes "explain") ∷ t)
+IsForm (Certify q) s = (t : List Symbol) × IsQuery q t × (s ≡ Word (codes "explain") ∷ Word (codes "with") ∷ t)
+IsForm (Support q) s = (t : List Symbol) × IsQuery q t × (s ≡ Word (codes "explain") ∷ Word (codes "from") ∷ t)
+IsForm (Compare first second) s = (t : List Symbol) × (u : List Symbol) × IsQuery first t × IsQuery second u × (s ≡ Word (codes "compare") ∷ (in_parens t ++ Word (codes "with") ∷ in_parens u))
+IsForm (Window names) s = AreNames names × (s ≡ Word (codes "window") ∷ in_parens (listed name_symbols names))

@@ -1,26 +1,15 @@
--- The grammar of conditions. "From s to r": the symbols s are that, and then r.
+-- The grammar of conditions: which symbols are which condition.
 -- cond: conj { "or" conj }; conj: factor { "and" factor };
 -- factor: [ "not" ] primary; primary: "(" cond ")" or operand op operand
-use Rattle.std.specs.Prelude.{◌≡◌, codes, List, [], ◌∷◌}
-use Rattle.su_lex.specs.declared.signs.Sign.TheVariants as sign
-use Rattle.su_where.specs.declared.operators.Op.{Op}
+use Rattle.std.specs.Prelude.{◌≡◌, codes, List, [], ◌∷◌, ◌++◌}
 use Rattle.su_lex.specs.declared.meaning.Symbol.{Symbol}
-use Rattle.su_lex.specs.declared.meaning.Symbol.TheVariants.{Word, Sign}
-use Rattle.su_query.specs.declared.refs.NamedOperand.{NamedOperand}
+use Rattle.su_lex.specs.declared.meaning.Symbol.TheVariants.{Word}
+use Rattle.su_lex.specs.Wordings.{in_parens}
+use Rattle.su_where.specs.declared.conditions.Condition.TheVariants.{Compare, Not, All, Any}
 use Rattle.su_query.specs.declared.conditions.Comparison.{Comparison}
 use Rattle.su_query.specs.Refs.{NamedCond}
-use Rattle.su_where.specs.declared.conditions.Condition.TheVariants.{Compare, Not, All, Any}
-use Rattle.su_lex.specs.Names.{Begins}
-use Rattle.su_query.specs.Operands.{op_sym, ReadsOperand}
-
--- a comparison of two sides
-abbrev pub compared : NamedOperand → Op → NamedOperand → Comparison
-compared a o b = record { left = a; op = o; right = b }
-
--- operand op operand
-abbrev pub ReadsComparison : NamedCond → List Symbol → List Symbol → Type 0
-ReadsComparison c s r = (a : NamedOperand) × (o : Op) × (b : NamedOperand) × (t : List Symbol) × (u : List Symbol)
-    × ReadsOperand a s t × (t ≡ op_sym o ∷ u) × ReadsOperand b u r × (c ≡ Compare (compared a o b))
+use Rattle.su_query.specs.Operands.{IsOperand}
+use Rattle.su_query.specs.ShownParts.{comparison_symbols}
 
 -- parts make a node only where they are several
 abbrev pub any_of : List NamedCond → NamedCond
@@ -33,28 +22,30 @@ all_of (c ∷ []) = c
 all_of cs = All cs
 
 mutual
-  -- conj { "or" conj }
-  pub data ReadsCond : NamedCond → List Symbol → List Symbol → Type 0 where
-    cond : (c d : NamedCond) (ds : List NamedCond) (s t r : List Symbol) → c ≡ any_of (d ∷ ds) → ReadsConj d s t → ReadsOrs ds t r → ReadsCond c s r
+  -- conj { "or" conj }: any of the conjunctions
+  pub data IsCond : NamedCond → List Symbol → Type 0 where
+    cond : (c : NamedCond) (cs : List NamedCond) (s : List Symbol) → c ≡ any_of cs → AreConjs cs s → IsCond c s
 
-  pub data ReadsOrs : List NamedCond → List Symbol → List Symbol → Type 0 where
-    no_or : (cs : List NamedCond) (s r : List Symbol) → cs ≡ [] → s ≡ r → ¬ (Begins (Word (codes "or")) s) → ReadsOrs cs s r
-    one_or : (cs : List NamedCond) (d : NamedCond) (ds : List NamedCond) (s t u r : List Symbol) → cs ≡ d ∷ ds → s ≡ Word (codes "or") ∷ t → ReadsConj d t u → ReadsOrs ds u r → ReadsOrs cs s r
+  -- conjunctions, with `or` between two
+  pub data AreConjs : List NamedCond → List Symbol → Type 0 where
+    one_conj : (cs : List NamedCond) (c : NamedCond) (s : List Symbol) → cs ≡ c ∷ [] → IsConj c s → AreConjs cs s
+    or : (cs : List NamedCond) (c : NamedCond) (ds : List NamedCond) (s t u : List Symbol) → cs ≡ c ∷ ds → s ≡ t ++ Word (codes "or") ∷ u → IsConj c t → AreConjs ds u → AreConjs cs s
 
-  -- factor { "and" factor }
-  pub data ReadsConj : NamedCond → List Symbol → List Symbol → Type 0 where
-    conj : (c d : NamedCond) (ds : List NamedCond) (s t r : List Symbol) → c ≡ all_of (d ∷ ds) → ReadsFactor d s t → ReadsAnds ds t r → ReadsConj c s r
+  -- factor { "and" factor }: all of the factors
+  pub data IsConj : NamedCond → List Symbol → Type 0 where
+    conj : (c : NamedCond) (cs : List NamedCond) (s : List Symbol) → c ≡ all_of cs → AreFactors cs s → IsConj c s
 
-  pub data ReadsAnds : List NamedCond → List Symbol → List Symbol → Type 0 where
-    no_and : (cs : List NamedCond) (s r : List Symbol) → cs ≡ [] → s ≡ r → ¬ (Begins (Word (codes "and")) s) → ReadsAnds cs s r
-    one_and : (cs : List NamedCond) (d : NamedCond) (ds : List NamedCond) (s t u r : List Symbol) → cs ≡ d ∷ ds → s ≡ Word (codes "and") ∷ t → ReadsFactor d t u → ReadsAnds ds u r → ReadsAnds cs s r
+  -- factors, with `and` between two
+  pub data AreFactors : List NamedCond → List Symbol → Type 0 where
+    one_factor : (cs : List NamedCond) (c : NamedCond) (s : List Symbol) → cs ≡ c ∷ [] → IsFactor c s → AreFactors cs s
+    and : (cs : List NamedCond) (c : NamedCond) (ds : List NamedCond) (s t u : List Symbol) → cs ≡ c ∷ ds → s ≡ t ++ Word (codes "and") ∷ u → IsFactor c t → AreFactors ds u → AreFactors cs s
 
   -- [ "not" ] primary
-  pub data ReadsFactor : NamedCond → List Symbol → List Symbol → Type 0 where
-    plain : (c : NamedCond) (s r : List Symbol) → ReadsPrimary c s r → ReadsFactor c s r
-    negated : (c d : NamedCond) (s t r : List Symbol) → c ≡ Not d → s ≡ Word (codes "not") ∷ t → ReadsPrimary d t r → ReadsFactor c s r
+  pub data IsFactor : NamedCond → List Symbol → Type 0 where
+    plain : (c : NamedCond) (s : List Symbol) → IsPrimary c s → IsFactor c s
+    negated : (c d : NamedCond) (s t : List Symbol) → c ≡ Not d → s ≡ Word (codes "not") ∷ t → IsPrimary d t → IsFactor c s
 
-  -- "(" cond ")", or a comparison
-  pub data ReadsPrimary : NamedCond → List Symbol → List Symbol → Type 0 where
-    nested : (c : NamedCond) (s t u r : List Symbol) → s ≡ Sign sign.Open ∷ t → ReadsCond c t u → u ≡ Sign sign.Close ∷ r → ReadsPrimary c s r
-    compare : (c : NamedCond) (s r : List Symbol) → ReadsComparison c s r → ReadsPrimary c s r
+  -- "(" cond ")", or operand op operand
+  pub data IsPrimary : NamedCond → List Symbol → Type 0 where
+    nested : (c : NamedCond) (s t : List Symbol) → s ≡ in_parens t → IsCond c t → IsPrimary c s
+    compare : (c : NamedCond) (k : Comparison) (s : List Symbol) → c ≡ Compare k → s ≡ comparison_symbols k → IsOperand k.left → IsOperand k.right → IsPrimary c s

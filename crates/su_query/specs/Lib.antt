@@ -1,15 +1,12 @@
 pub mod Forms
 pub mod Grammar
 pub mod inside
-pub mod Lists
 pub mod Lookup
 pub mod Mentions
 pub mod Ranges
 pub mod StatementTexts
 pub mod Sets
 pub mod Shown
-pub mod RelationForms
-pub mod QueryForms
 pub mod Operands
 pub mod Scopes
 pub mod KindDifferences

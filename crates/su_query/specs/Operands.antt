@@ -1,6 +1,6 @@
--- The grammar of names, values and refs. "From s to r": the symbols s are that, and then r.
+-- Values, operators and refs, and their symbols.
 -- ref: A or t.A; operand: a ref or a value
-use Rattle.std.specs.Prelude.{◌≡◌, ℕ, List, ◌∷◌, Option, Some, None}
+use Rattle.std.specs.Prelude.{ℕ, List, ◌∷◌, Option, Some, None}
 use Rattle.su_base.specs.declared.values.Value.{Value}
 use Rattle.su_base.specs.declared.values.Value.TheVariants as value
 use Rattle.su_base.specs.Name.{IsName}
@@ -12,7 +12,6 @@ use Rattle.su_lex.specs.declared.meaning.Symbol.TheVariants.{Word, Int, Text, Si
 use Rattle.su_query.specs.declared.refs.Ref.{Ref as ARef}
 use Rattle.su_query.specs.declared.refs.NamedOperand.{NamedOperand}
 use Rattle.su_query.specs.declared.refs.NamedOperand.TheVariants.{Ref, Const}
-use Rattle.su_lex.specs.Names.{Begins}
 
 -- the symbol of a value
 abbrev pub value_sym : Value → Symbol
@@ -38,19 +37,11 @@ abbrev pub IsVariable : Option (List ℕ) → Type 0
 IsVariable None = Unit {0}
 IsVariable (Some variable) = IsName variable
 
--- a name
-abbrev pub ReadsName : List ℕ → List Symbol → List Symbol → Type 0
-ReadsName name s r = (s ≡ Word name ∷ r) × IsName name
+-- its variable and its attribute have names
+abbrev pub IsRef : ARef → Type 0
+IsRef ref = IsVariable ref.variable × IsName ref.attribute
 
--- a value
-abbrev pub ReadsValue : Value → List Symbol → List Symbol → Type 0
-ReadsValue v s r = s ≡ value_sym v ∷ r
-
--- an attribute, with or without its variable, and no dot behind it
-abbrev pub ReadsRef : ARef → List Symbol → List Symbol → Type 0
-ReadsRef ref s r = (s ≡ qualified ref.variable (Word ref.attribute ∷ r)) × IsVariable ref.variable × IsName ref.attribute × ¬ (Begins (Sign sign.Dot) r)
-
--- a side of a comparison: an attribute or a value
-abbrev pub ReadsOperand : NamedOperand → List Symbol → List Symbol → Type 0
-ReadsOperand (Ref ref) s r = ReadsRef ref s r
-ReadsOperand (Const v) s r = ReadsValue v s r
+-- a ref, or any value
+abbrev pub IsOperand : NamedOperand → Type 0
+IsOperand (Ref ref) = IsRef ref
+IsOperand (Const v) = Unit {0}

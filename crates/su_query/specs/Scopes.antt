@@ -1,12 +1,12 @@
 -- Names that are looked up, and the first that isn't known.
 -- scope: where names are looked up: the attributes of a schema, or the columns of one of its relations
-use Rattle.std.specs.Prelude.{ℕ, Bool, List, map, Option, is_none, unwrap_or, option_map, find, slice_index_or}
+use Rattle.std.specs.Prelude.{ℕ, Bool, List, map, Option, is_none, option_map, find, slice_index_or}
 use Rattle.su_base.specs.declared.values.Kind.{Kind}
 use Rattle.su_base.specs.declared.values.Kind.TheVariants.{Int as IntKind}
 use Rattle.su_base.specs.Value.{kind_of}
 use Rattle.su_schema.specs.SchemaValue.{SchemaValue}
 use Rattle.su_schema.specs.Entries.{attribute_names, attribute_kinds, column_names, place_of}
-use Rattle.su_schema.specs.Known.{columns_at}
+use Rattle.su_schema.specs.Known.{columns_at, number_of}
 use Rattle.su_query.specs.declared.refs.Ref.{Ref as ARef}
 use Rattle.su_query.specs.declared.refs.NamedOperand.{NamedOperand}
 use Rattle.su_query.specs.declared.refs.NamedOperand.TheVariants.{Ref, Const}
@@ -31,13 +31,9 @@ is_unknown names ref = is_none (place_of names ref.attribute)
 abbrev pub first_unknown : List (List ℕ) → List ARef → Option (List ℕ)
 first_unknown names refs = option_map (λ ref. ref.attribute) (find (is_unknown names) refs)
 
--- the number of a known name
-abbrev pub number_among : List (List ℕ) → List ℕ → ℕ
-number_among names name = unwrap_or (place_of names name) 0
-
 -- the kind of an operand; an unknown name counts as a whole number
 abbrev pub kind_in : SchemaValue → Scope → NamedOperand → Kind
-kind_in schema scope (Ref ref) = unwrap_or (option_map (λ n. slice_index_or (kinds_in schema scope) n IntKind) (place_of (names_in schema scope) ref.attribute)) IntKind
+kind_in schema scope (Ref ref) = slice_index_or (kinds_in schema scope) (number_of (names_in schema scope) ref.attribute) IntKind
 kind_in schema scope (Const v) = kind_of v
 
 -- the first of these names that is not known

@@ -7,13 +7,8 @@ use Rattle.su_query.specs.declared.conditions.Comparison.{Comparison}
 use Rattle.su_query.specs.Refs.{NamedCond}
 use Rattle.su_where.specs.declared.conditions.Condition.TheOpen.{Condition-F, Compare, Not, All, Any}
 use Rattle.su_where.specs.declared.conditions.Condition.TheFolds.{fold-Condition}
-use Rattle.su_query.specs.Operands.{op_sym}
-use Rattle.su_query.specs.ShownParts.{operand_symbols}
+use Rattle.su_query.specs.ShownParts.{comparison_symbols}
 use Rattle.su_lex.specs.Wordings.{in_parens}
-
--- the symbols of a comparison
-abbrev pub comparison_symbols : Comparison → List Symbol
-comparison_symbols k = operand_symbols k.left ++ op_sym k.op ∷ operand_symbols k.right
 
 -- a condition's symbols, and what decides on the parentheses round them: whether it is all or any of parts, or a comparison
 pub record ShownCond : Type 0 where

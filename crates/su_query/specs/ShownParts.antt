@@ -1,4 +1,4 @@
--- The symbols of names, values and refs, as they are shown.
+-- The symbols of names, values, refs and comparisons.
 -- listed: with a comma between two
 use Rattle.std.specs.Prelude.{ℕ, List, [], ◌∷◌, ◌++◌, flat_map}
 use Rattle.su_base.specs.declared.values.Value.{Value}
@@ -8,7 +8,8 @@ use Rattle.su_lex.specs.declared.meaning.Symbol.TheVariants.{Word, Sign}
 use Rattle.su_query.specs.declared.refs.Ref.{Ref as ARef}
 use Rattle.su_query.specs.declared.refs.NamedOperand.{NamedOperand}
 use Rattle.su_query.specs.declared.refs.NamedOperand.TheVariants.{Ref, Const}
-use Rattle.su_query.specs.Operands.{value_sym, qualified}
+use Rattle.su_query.specs.declared.conditions.Comparison.{Comparison}
+use Rattle.su_query.specs.Operands.{value_sym, op_sym, qualified}
 
 -- the symbol of a name
 abbrev pub name_symbols : List ℕ → List Symbol
@@ -26,6 +27,10 @@ ref_symbols ref = qualified ref.variable (Word ref.attribute ∷ [])
 abbrev pub operand_symbols : NamedOperand → List Symbol
 operand_symbols (Ref ref) = ref_symbols ref
 operand_symbols (Const v) = value_symbols v
+
+-- operand op operand
+abbrev pub comparison_symbols : Comparison → List Symbol
+comparison_symbols k = operand_symbols k.left ++ op_sym k.op ∷ operand_symbols k.right
 
 -- with a comma between two
 abbrev pub listed : {A : Type 0} → (A → List Symbol) → List A → List Symbol

@@ -1,6 +1,12 @@
 -- Definitions that only contracts of private functions need.
+pub mod Comparing
 pub mod Fronts
 pub mod PlaceNumbers
+pub mod ReadConditions
+pub mod ReadForms
+pub mod ReadItems
+pub mod ReadQueries
+pub mod ReadRelations
 pub mod RefNumbers
 pub mod SchemaScopes
 pub mod TwoKinds

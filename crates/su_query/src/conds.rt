@@ -1,8 +1,10 @@
 //! Conditions, by descent: `or` over `and` over `not` over parentheses and comparisons.
 ghost use Rattle.std.specs.Prelude.{◌≡◌, ◌<◌, ◌∷◌, length, Some, None, IfOk, IfSome, IsErrOf, List as Items};
 ghost use Rattle.su_where.specs.declared.operators.Op.{Op as AnOp};
-ghost use Rattle.su_query.specs.Grammar.{ReadsCond, ReadsConj, ReadsFactor, ReadsPrimary, ReadsComparison, any_of, all_of};
-ghost use Rattle.su_query.specs.Operands.{ReadsOperand, op_sym};
+ghost use Rattle.su_query.specs.Grammar.{any_of, all_of};
+ghost use Rattle.su_query.specs.inside.ReadConditions.{ReadsCond, ReadsConj, ReadsFactor, ReadsPrimary, ReadsComparison};
+ghost use Rattle.su_query.specs.Operands.{op_sym};
+ghost use Rattle.su_query.specs.inside.ReadItems.{ReadsOperand};
 ghost use Rattle.su_query.specs.inside.Fronts.{begins_word};
 ghost use Rattle.su_lex.specs.declared.meaning.Symbol.{Symbol as ASymbol};
 ghost use Rattle.su_query.specs.declared.refs.NamedOperand.{NamedOperand as AnOperand};

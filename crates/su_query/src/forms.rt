@@ -2,10 +2,11 @@
 ghost use Rattle.std.specs.Prelude.{◌≡◌, ℕ, ◌∷◌, codes, IfOk, IsErrOf, List as Items};
 ghost use Rattle.su_base.specs.declared.values.Value.{Value as AValue};
 ghost use Rattle.su_lex.specs.declared.meaning.Symbol.{Symbol as ASymbol};
+ghost use Rattle.su_lex.specs.declared.meaning.Symbol.TheVariants.{Word};
 ghost use Rattle.su_query.specs.inside.Fronts.{opens_second};
-ghost use Rattle.su_query.specs.RelationForms.{RowForm, ConditionForm, FileForm, NamesForm};
-ghost use Rattle.su_query.specs.QueryForms.{ReadsWhere, ReadsQuery, ReadsEnclosed, PairForm, QueryForm};
-ghost use Rattle.su_query.specs.Forms.{IsForm};
+ghost use Rattle.su_query.specs.inside.ReadRelations.{RowForm, ConditionForm, FileForm, NamesForm};
+ghost use Rattle.su_query.specs.inside.ReadQueries.{ReadsWhere, ReadsQuery, ReadsEnclosed, PairForm, QueryForm};
+ghost use Rattle.su_query.specs.inside.ReadForms.{ReadsForm};
 ghost use Rattle.su_query.specs.Refs.{NamedCond as ACond};
 ghost use Rattle.su_query.specs.declared.statements.Query.{Query as AQuery};
 ghost use Rattle.su_query.specs.declared.statements.Statement.{Statement as AStatement};
@@ -137,16 +138,16 @@ fn opens_second(reader: &Reader) -> bool
 }
 
 fn insert(reader: &mut Reader) -> Result<Statement, LexEnd>
-    ensures found { IfOk result (λ st. IsForm st (Symbol.Word (codes "insert") ∷ reader.old)) }
-    ensures syntax { IsErrOf result LexEnd.Syntax → (st : AStatement) → IsForm st (Symbol.Word (codes "insert") ∷ reader.old) → ⊥ }
+    ensures found { IfOk result (λ st. ReadsForm st (Word (codes "insert") ∷ reader.old)) }
+    ensures syntax { IsErrOf result LexEnd.Syntax → (st : AStatement) → ReadsForm st (Word (codes "insert") ∷ reader.old) → ⊥ }
 {
     let (relation, row) = row_form(reader)?;
     Ok(Statement::Insert { relation, row })
 }
 
 fn delete(reader: &mut Reader) -> Result<Statement, LexEnd>
-    ensures found { IfOk result (λ st. IsForm st (Symbol.Word (codes "delete") ∷ reader.old)) }
-    ensures syntax { IsErrOf result LexEnd.Syntax → (st : AStatement) → IsForm st (Symbol.Word (codes "delete") ∷ reader.old) → ⊥ }
+    ensures found { IfOk result (λ st. ReadsForm st (Word (codes "delete") ∷ reader.old)) }
+    ensures syntax { IsErrOf result LexEnd.Syntax → (st : AStatement) → ReadsForm st (Word (codes "delete") ∷ reader.old) → ⊥ }
 {
     if opens_second(reader) {
         let (relation, row) = row_form(reader)?;
@@ -157,16 +158,16 @@ fn delete(reader: &mut Reader) -> Result<Statement, LexEnd>
 }
 
 fn load(reader: &mut Reader) -> Result<Statement, LexEnd>
-    ensures found { IfOk result (λ st. IsForm st (Symbol.Word (codes "load") ∷ reader.old)) }
-    ensures syntax { IsErrOf result LexEnd.Syntax → (st : AStatement) → IsForm st (Symbol.Word (codes "load") ∷ reader.old) → ⊥ }
+    ensures found { IfOk result (λ st. ReadsForm st (Word (codes "load") ∷ reader.old)) }
+    ensures syntax { IsErrOf result LexEnd.Syntax → (st : AStatement) → ReadsForm st (Word (codes "load") ∷ reader.old) → ⊥ }
 {
     let (relation, file) = file_form(reader)?;
     Ok(Statement::Load { relation, file })
 }
 
 fn print(reader: &mut Reader) -> Result<Statement, LexEnd>
-    ensures found { IfOk result (λ st. IsForm st (Symbol.Word (codes "print") ∷ reader.old)) }
-    ensures syntax { IsErrOf result LexEnd.Syntax → (st : AStatement) → IsForm st (Symbol.Word (codes "print") ∷ reader.old) → ⊥ }
+    ensures found { IfOk result (λ st. ReadsForm st (Word (codes "print") ∷ reader.old)) }
+    ensures syntax { IsErrOf result LexEnd.Syntax → (st : AStatement) → ReadsForm st (Word (codes "print") ∷ reader.old) → ⊥ }
 {
     let relation = reader.name()?;
     expect_end(reader)?;
@@ -174,40 +175,40 @@ fn print(reader: &mut Reader) -> Result<Statement, LexEnd>
 }
 
 fn schema(reader: &mut Reader) -> Result<Statement, LexEnd>
-    ensures found { IfOk result (λ st. IsForm st (Symbol.Word (codes "schema") ∷ reader.old)) }
-    ensures syntax { IsErrOf result LexEnd.Syntax → (st : AStatement) → IsForm st (Symbol.Word (codes "schema") ∷ reader.old) → ⊥ }
+    ensures found { IfOk result (λ st. ReadsForm st (Word (codes "schema") ∷ reader.old)) }
+    ensures syntax { IsErrOf result LexEnd.Syntax → (st : AStatement) → ReadsForm st (Word (codes "schema") ∷ reader.old) → ⊥ }
 {
     expect_end(reader)?;
     Ok(Statement::Schema)
 }
 
 fn closure(reader: &mut Reader) -> Result<Statement, LexEnd>
-    ensures found { IfOk result (λ st. IsForm st (Symbol.Word (codes "closure") ∷ reader.old)) }
-    ensures syntax { IsErrOf result LexEnd.Syntax → (st : AStatement) → IsForm st (Symbol.Word (codes "closure") ∷ reader.old) → ⊥ }
+    ensures found { IfOk result (λ st. ReadsForm st (Word (codes "closure") ∷ reader.old)) }
+    ensures syntax { IsErrOf result LexEnd.Syntax → (st : AStatement) → ReadsForm st (Word (codes "closure") ∷ reader.old) → ⊥ }
 {
     let attributes = names_form(reader)?;
     Ok(Statement::Closure { attributes })
 }
 
 fn certify(reader: &mut Reader) -> Result<Statement, LexEnd>
-    ensures found { IfOk result (λ st. IsForm st (Symbol.Word (codes "explain") ∷ Symbol.Word (codes "with") ∷ reader.old)) }
-    ensures syntax { IsErrOf result LexEnd.Syntax → (st : AStatement) → ¬ IsForm st (Symbol.Word (codes "explain") ∷ Symbol.Word (codes "with") ∷ reader.old) }
+    ensures found { IfOk result (λ st. ReadsForm st (Word (codes "explain") ∷ Word (codes "with") ∷ reader.old)) }
+    ensures syntax { IsErrOf result LexEnd.Syntax → (st : AStatement) → ¬ ReadsForm st (Word (codes "explain") ∷ Word (codes "with") ∷ reader.old) }
 {
     let query = query_form(reader)?;
     Ok(Statement::Certify(query))
 }
 
 fn support(reader: &mut Reader) -> Result<Statement, LexEnd>
-    ensures found { IfOk result (λ st. IsForm st (Symbol.Word (codes "explain") ∷ Symbol.Word (codes "from") ∷ reader.old)) }
-    ensures syntax { IsErrOf result LexEnd.Syntax → (st : AStatement) → ¬ IsForm st (Symbol.Word (codes "explain") ∷ Symbol.Word (codes "from") ∷ reader.old) }
+    ensures found { IfOk result (λ st. ReadsForm st (Word (codes "explain") ∷ Word (codes "from") ∷ reader.old)) }
+    ensures syntax { IsErrOf result LexEnd.Syntax → (st : AStatement) → ¬ ReadsForm st (Word (codes "explain") ∷ Word (codes "from") ∷ reader.old) }
 {
     let query = query_form(reader)?;
     Ok(Statement::Support(query))
 }
 
 fn explain(reader: &mut Reader) -> Result<Statement, LexEnd>
-    ensures found { IfOk result (λ st. IsForm st (Symbol.Word (codes "explain") ∷ reader.old)) }
-    ensures syntax { IsErrOf result LexEnd.Syntax → (st : AStatement) → IsForm st (Symbol.Word (codes "explain") ∷ reader.old) → ⊥ }
+    ensures found { IfOk result (λ st. ReadsForm st (Word (codes "explain") ∷ reader.old)) }
+    ensures syntax { IsErrOf result LexEnd.Syntax → (st : AStatement) → ReadsForm st (Word (codes "explain") ∷ reader.old) → ⊥ }
 {
     if reader.takes_word("with") {
         return certify(reader);
@@ -220,16 +221,16 @@ fn explain(reader: &mut Reader) -> Result<Statement, LexEnd>
 }
 
 fn compare(reader: &mut Reader) -> Result<Statement, LexEnd>
-    ensures found { IfOk result (λ st. IsForm st (Symbol.Word (codes "compare") ∷ reader.old)) }
-    ensures syntax { IsErrOf result LexEnd.Syntax → (st : AStatement) → IsForm st (Symbol.Word (codes "compare") ∷ reader.old) → ⊥ }
+    ensures found { IfOk result (λ st. ReadsForm st (Word (codes "compare") ∷ reader.old)) }
+    ensures syntax { IsErrOf result LexEnd.Syntax → (st : AStatement) → ReadsForm st (Word (codes "compare") ∷ reader.old) → ⊥ }
 {
     let (first, second) = pair_form(reader)?;
     Ok(Statement::Compare { first, second })
 }
 
 fn window(reader: &mut Reader) -> Result<Statement, LexEnd>
-    ensures found { IfOk result (λ st. IsForm st (Symbol.Word (codes "window") ∷ reader.old)) }
-    ensures syntax { IsErrOf result LexEnd.Syntax → (st : AStatement) → IsForm st (Symbol.Word (codes "window") ∷ reader.old) → ⊥ }
+    ensures found { IfOk result (λ st. ReadsForm st (Word (codes "window") ∷ reader.old)) }
+    ensures syntax { IsErrOf result LexEnd.Syntax → (st : AStatement) → ReadsForm st (Word (codes "window") ∷ reader.old) → ⊥ }
 {
     let attributes = names_form(reader)?;
     Ok(Statement::Window { attributes })
@@ -237,8 +238,8 @@ fn window(reader: &mut Reader) -> Result<Statement, LexEnd>
 
 /// The statement that the symbols are.
 pub(crate) fn statement(reader: &mut Reader) -> Result<Statement, LexEnd>
-    ensures found { IfOk result (λ st. IsForm st reader.old) }
-    ensures syntax { IsErrOf result LexEnd.Syntax → (st : AStatement) → IsForm st reader.old → ⊥ }
+    ensures found { IfOk result (λ st. ReadsForm st reader.old) }
+    ensures syntax { IsErrOf result LexEnd.Syntax → (st : AStatement) → ReadsForm st reader.old → ⊥ }
 {
     if reader.takes_word("insert") {
         return insert(reader);

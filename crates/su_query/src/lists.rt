@@ -1,8 +1,7 @@
 //! Values, texts and refs, lists of them, and the end of a statement.
 ghost use Rattle.std.specs.Prelude.{◌≡◌, ℕ, ◌∷◌, [], IfOk, OnOk, IsErrOf, List as Items};
 ghost use Rattle.su_base.specs.declared.values.Value.{Value as AValue};
-ghost use Rattle.su_query.specs.Lists.{Several};
-ghost use Rattle.su_query.specs.Operands.{ReadsValue, ReadsRef};
+ghost use Rattle.su_query.specs.inside.ReadItems.{Several, ReadsValue, ReadsRef};
 ghost use Rattle.su_lex.specs.declared.meaning.Symbol.{Symbol as ASymbol};
 ghost use Rattle.su_query.specs.declared.refs.Ref.{Ref as ARef};
 

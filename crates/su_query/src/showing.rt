@@ -2,10 +2,10 @@
 ghost use Rattle.std.specs.Prelude.{◌≡◌, [], ◌∷◌, ◌++◌, map, IfOk, OnOk};
 ghost use Rattle.su_lex.specs.Spelling.{spaced};
 ghost use Rattle.su_query.specs.StatementTexts.{ReadsAgain};
-ghost use Rattle.su_query.specs.ShownConditions.{comparison_symbols, cond_symbols, joined, shown_cond};
+ghost use Rattle.su_query.specs.ShownConditions.{cond_symbols, joined, shown_cond};
 ghost use Rattle.su_lex.specs.Wordings.{in_parens};
 ghost use Rattle.su_query.specs.Shown.{is_nothing, query_symbols, query_text, statement_symbols, statement_text, where_symbols};
-ghost use Rattle.su_query.specs.ShownParts.{listed, name_symbols, value_symbols};
+ghost use Rattle.su_query.specs.ShownParts.{comparison_symbols, listed, name_symbols, value_symbols};
 
 use crate::conditions::{Comparison, NamedCond};
 use crate::pushing::{

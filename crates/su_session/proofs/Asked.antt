@@ -6,9 +6,8 @@ use Rattle.su_lex.proofs.Written.{one_list_of_symbols}
 use Rattle.su_schema.specs.declared.definitions.Definition.{Definition as ADefinition}
 use Rattle.su_query.specs.declared.faults.QueryFault.{QueryFault}
 use Rattle.su_query.specs.declared.statements.Statement.{Statement as AStatement}
-use Rattle.su_query.specs.declared.statements.Statement.TheVariants.{Load}
+use Rattle.su_query.specs.declared.statements.Statement.TheVariants.{Insert, Delete, DeleteWhere, Load, Print, Schema, Closure, Retrieve, Explain, Certify, Support, Compare, Window}
 use Rattle.su_query.specs.Forms.{IsForm}
-use Rattle.su_query.specs.Forms as g
 use Rattle.su_query.specs.StatementTexts.{IsStatement, IsReady}
 use Rattle.su_query.proofs.Ready.{form_ready}
 use Rattle.su_query.proofs.Uniqueness.{statement_unique}
@@ -28,19 +27,19 @@ use Rattle.su_session.proofs.Loads.{refused_wants_nothing, other_wants_nothing, 
 -- ---- no statement begins as a definition
 
 form_begins : (st : AStatement) (s : List Symbol) → IsForm st s → begins_definition s ≡ false
-form_begins st s (g.insert _ relation row _ t e w h) = ap begins_definition w
-form_begins st s (g.delete _ relation row _ t e w h) = ap begins_definition w
-form_begins st s (g.delete_where _ relation cond _ t e w h) = ap begins_definition w
-form_begins st s (g.load _ relation file _ t e w h) = ap begins_definition w
-form_begins st s (g.print _ relation _ e w named) = ap begins_definition w
-form_begins st s (g.schema _ _ e w) = ap begins_definition w
-form_begins st s (g.closure _ names _ t e w h) = ap begins_definition w
-form_begins st s (g.retrieve _ q _ e h) = ap begins_definition h.begins
-form_begins st s (g.explain _ q _ t e w h) = ap begins_definition w
-form_begins st s (g.certify _ q _ t e w h) = ap begins_definition w
-form_begins st s (g.support _ q _ t e w h) = ap begins_definition w
-form_begins st s (g.compare _ first second _ t e w h) = ap begins_definition w
-form_begins st s (g.window _ names _ t e w h) = ap begins_definition w
+form_begins (Insert relation row) s form = ap begins_definition form.2
+form_begins (Delete relation row) s form = ap begins_definition form.2
+form_begins (DeleteWhere relation cond) s form = ap begins_definition form.4
+form_begins (Load relation file) s form = ap begins_definition form.1
+form_begins (Print relation) s form = ap begins_definition form.1
+form_begins Schema s form = ap begins_definition form
+form_begins (Closure names) s form = ap begins_definition form.1
+form_begins (Retrieve q) s form = ap begins_definition form.whole
+form_begins (Explain q) s form = ap begins_definition form.2
+form_begins (Certify q) s form = ap begins_definition form.2
+form_begins (Support q) s form = ap begins_definition form.2
+form_begins (Compare first second) s form = ap begins_definition form.4
+form_begins (Window names) s form = ap begins_definition form.1
 
 pub no_definition : (text : List ℕ) (st : AStatement) → IsStatement text st → ¬ IsDefining text
 no_definition text st is (symbols, spelled, begins) =

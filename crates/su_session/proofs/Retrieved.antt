@@ -1,44 +1,21 @@
 -- A retrieve is no definition, and its reply is its answer unless it is refused.
-use Rattle.std.proofs.Common.{◌≡◌, ℕ, false, List, Option, sym, ap, ◌∙◌, subst, inl, inr}
+use Rattle.std.proofs.Common.{◌≡◌, ℕ, false, List, Option, sym, ◌∙◌, subst, inl, inr}
 use Rattle.std.specs.Prelude.{unwrap_or, []}
 use Rattle.std.proofs.lemmas.Bool.{false≢true}
-use Rattle.su_lex.specs.declared.meaning.Symbol.{Symbol}
-use Rattle.su_lex.proofs.Written.{one_list_of_symbols}
 use Rattle.su_query.specs.declared.statements.Query.{Query as AQuery}
 use Rattle.su_query.specs.declared.statements.Statement.{Statement}
 use Rattle.su_query.specs.declared.statements.Statement.TheVariants.{Retrieve}
-use Rattle.su_query.specs.Forms.{IsForm, insert, delete, delete_where, load, print, schema, closure, retrieve, explain, certify, support, compare, window}
 use Rattle.su_query.specs.StatementTexts.{IsStatement}
 use Rattle.su_query.proofs.Uniqueness.{statement_unique}
 use Rattle.su_state.specs.DatabaseValue.{DatabaseValue}
 use Rattle.su_show.specs.declared.statement_refusal.Refusal.{Refusal}
 use Rattle.su_session.specs.declared.replies.Reply.{Reply}
 use Rattle.su_session.specs.Outcomes.{Refuses}
-use Rattle.su_session.specs.Reply.{begins_definition, IsDefining, RepliesStatement, Replied}
+use Rattle.su_session.specs.Reply.{RepliesStatement, Replied}
 use Rattle.su_session.specs.Statements.{Answers}
 use Rattle.su_session.specs.Retrievals.{Retrieves}
 use Rattle.su_session.specs.Laws.{RetrieveIsAnswered}
-
--- the symbols of a statement begin no definition
-no_definition : (st : Statement) (s : List Symbol) → IsForm st s → begins_definition s ≡ false
-no_definition st s (insert _ relation row _ t e is form) = ap begins_definition is
-no_definition st s (delete _ relation row _ t e is form) = ap begins_definition is
-no_definition st s (delete_where _ relation cond _ t e is form) = ap begins_definition is
-no_definition st s (load _ relation file _ t e is form) = ap begins_definition is
-no_definition st s (print _ relation _ e is named) = ap begins_definition is
-no_definition st s (schema _ _ e is) = ap begins_definition is
-no_definition st s (closure _ names _ t e is form) = ap begins_definition is
-no_definition st s (retrieve _ q _ e form) = ap begins_definition form.begins
-no_definition st s (explain _ q _ t e is form) = ap begins_definition is
-no_definition st s (certify _ q _ t e is form) = ap begins_definition is
-no_definition st s (support _ q _ t e is form) = ap begins_definition is
-no_definition st s (compare _ first second _ t e is form) = ap begins_definition is
-no_definition st s (window _ names _ t e is form) = ap begins_definition is
-
-pub not_defining : (text : List ℕ) (st : Statement) → IsStatement text st → IsDefining text → ⊥
-not_defining text st is (symbols, spelled, begins) =
-    let same : symbols ≡ is.symbols = (one_list_of_symbols text symbols is.symbols spelled is.spelled).0 in
-    false≢true (sym (no_definition st is.symbols is.form) ∙ ap begins_definition (sym same) ∙ begins)
+use Rattle.su_session.proofs.Asked.{no_definition}
 
 -- a refusal says that it is one
 told : (db new : DatabaseValue) (why : Refusal) (reply : Reply) → Refuses db why reply new → reply.refused ≡ false → ⊥
@@ -55,5 +32,5 @@ answered db new text file q reply is (inr (st, other, few, answers)) accepted =
     retrieved db new q reply (subst (λ (s : Statement). Answers db file s reply new) (statement_unique text (Retrieve q) st is other) answers) accepted
 
 pub retrieves_answered : (db new : DatabaseValue) (text : List ℕ) (file : Option (List ℕ)) (q : AQuery) (reply : Reply) → IsStatement text (Retrieve q) → Replied db text file reply new → reply.refused ≡ false → RetrieveIsAnswered db q reply new
-retrieves_answered db new text file q reply is (inl (defining, definition)) accepted = absurd (not_defining text (Retrieve q) is defining)
+retrieves_answered db new text file q reply is (inl (defining, definition)) accepted = absurd (no_definition text (Retrieve q) is defining)
 retrieves_answered db new text file q reply is (inr (other, replied)) accepted = answered db new text (unwrap_or file []) q reply is replied accepted

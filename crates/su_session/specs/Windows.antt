@@ -6,8 +6,9 @@ use Rattle.su_base.specs.declared.values.Value.{Value}
 use Rattle.su_base.specs.Value.{compare_lists}
 use Rattle.su_schema.specs.SchemaValue.{SchemaValue}
 use Rattle.su_schema.specs.Entries.{attribute_names}
+use Rattle.su_schema.specs.Known.{number_of}
 use Rattle.su_query.specs.declared.faults.QueryFault.TheVariants.{Unknown}
-use Rattle.su_query.specs.Scopes.{first_unknown_name, number_among}
+use Rattle.su_query.specs.Scopes.{first_unknown_name}
 use Rattle.su_state.specs.DatabaseValue.{DatabaseValue}
 use Rattle.su_window.specs.declared.faults.WindowFault.{WindowFault}
 use Rattle.su_window.specs.declared.faults.WindowFault.TheVariants as fault
@@ -21,7 +22,7 @@ use Rattle.su_session.specs.Outcomes.{Accepts, Refuses}
 
 -- the numbers of the attributes with these names, in their order
 abbrev pub attribute_numbers : SchemaValue → List (List ℕ) → List ℕ
-attribute_numbers schema names = map (number_among (attribute_names schema)) names
+attribute_numbers schema names = map (number_of (attribute_names schema)) names
 
 -- why there is no window
 abbrev pub TellsWindowFault : DatabaseValue → WindowFault → Reply → DatabaseValue → Type 0

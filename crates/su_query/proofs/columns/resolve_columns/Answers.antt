@@ -1,3 +1,4 @@
+-- Each ref of the condition has the number of its column, so the condition over numbers is that over names with the columns for its refs, and its first two kinds are those of the names.
 use Rattle.std.proofs.Common.{◌≡◌, ◌∙◌, Bor, List, [], None, Some, inl, inr, map, sym, ap, subst}
 use Rattle.std.specs.Prelude.{option_map}
 use Rattle.std.proofs.lemmas.List.{append-nil}

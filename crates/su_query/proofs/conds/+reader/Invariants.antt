@@ -1,5 +1,5 @@
 use Rattle.std.proofs.Common.{◌≡◌, ◌<◌, ◌+◌, ◌*◌, ◌++◌, length, List}
-use Rattle.su_query.specs.Grammar.{ReadsOrs, ReadsAnds}
+use Rattle.su_query.specs.inside.ReadConditions.{ReadsOrs, ReadsAnds}
 use Rattle.su_query.specs.Refs.{NamedCond}
 use Rattle.su_lex.specs.declared.meaning.Symbol.{Symbol}
 use Rattle.su_query.proofs.Steps.{ReadsConjs, ReadsFactors}

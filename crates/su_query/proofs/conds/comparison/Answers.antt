@@ -1,3 +1,4 @@
+-- A comparison is read in one way, so where its operator or its right side fails no other comparison is there.
 use Rattle.std.proofs.Common.{◌≡◌, ap, Err}
 use Rattle.std.proofs.lemmas.Result.{err_from_is_err_and}
 use Rattle.su_lex.specs.declared.ends.LexEnd.TheVariants.{Syntax}

@@ -1,3 +1,4 @@
+-- The condition is the only one that can be read there, so what is left behind it, or a ref of it that is no column, refuses the statement.
 use Rattle.std.proofs.Common.{◌≡◌, ◌∙◌, sym, ap, Err}
 use Rattle.std.proofs.lemmas.Result.{err_from_is_err_and}
 use Rattle.su_lex.specs.declared.ends.LexEnd.TheVariants.{Syntax}

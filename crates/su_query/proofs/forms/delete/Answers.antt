@@ -1,7 +1,8 @@
+-- The second symbol tells the two forms apart: it opens a parenthesis exactly where a row follows.
 use Rattle.std.proofs.Common.{◌≡◌, inl, inr, refl, sym, ap, Err}
 use Rattle.std.proofs.lemmas.Result.{err_from_is_err_and}
 use Rattle.su_lex.specs.declared.ends.LexEnd.TheVariants.{Syntax}
-use Rattle.su_query.specs.Forms as g
+use Rattle.su_query.specs.inside.ReadForms as g
 use Rattle.su_query.proofs.Exits.{delete_inv, condition_not_row, row_not_condition}
 use Rattle.su_query.proofs.forms.delete.Goals as goal
 

@@ -1,3 +1,4 @@
+-- The query behind the parenthesis is the only one that can be read there, so what follows it decides.
 use Rattle.std.proofs.Common.{◌≡◌, ap, Err}
 use Rattle.std.proofs.lemmas.Result.{err_from_is_err_and}
 use Rattle.su_lex.specs.declared.ends.LexEnd.TheVariants.{Syntax}

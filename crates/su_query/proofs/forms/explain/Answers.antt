@@ -1,9 +1,10 @@
+-- Behind `explain`, neither `with` nor `from` begins a query, so a word that is neither leaves the plain form.
 use Rattle.std.proofs.Common.{◌≡◌, refl, ap, sym, ◌∙◌, subst, Err, List, inl, inr}
 use Rattle.std.proofs.lemmas.Result.{err_from_is_err_and}
 use Rattle.su_lex.specs.declared.ends.LexEnd.TheVariants.{Syntax}
 use Rattle.su_lex.specs.declared.meaning.Symbol.{Symbol}
-use Rattle.su_query.specs.Forms as g
-use Rattle.su_query.specs.QueryForms.{QueryForm}
+use Rattle.su_query.specs.inside.ReadForms as g
+use Rattle.su_query.specs.inside.ReadQueries.{QueryForm}
 use Rattle.su_query.proofs.Exits.{explain_inv}
 use Rattle.su_query.proofs.forms.explain.Goals as goal
 

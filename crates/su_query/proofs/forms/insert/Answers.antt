@@ -1,7 +1,8 @@
+-- Behind `insert` stand a name and a row, since no other statement begins with this word.
 use Rattle.std.proofs.Common.{◌≡◌, refl, ap, Err}
 use Rattle.std.proofs.lemmas.Result.{err_from_is_err_and}
 use Rattle.su_lex.specs.declared.ends.LexEnd.TheVariants.{Syntax}
-use Rattle.su_query.specs.Forms as g
+use Rattle.su_query.specs.inside.ReadForms as g
 use Rattle.su_query.proofs.Exits.{insert_inv}
 use Rattle.su_query.proofs.forms.insert.Goals as goal
 

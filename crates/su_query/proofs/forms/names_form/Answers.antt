@@ -1,11 +1,11 @@
+-- The reader's list of names is the only one that can be read there, so what follows it decides.
 use Rattle.std.proofs.Common.{◌≡◌, ◌∷◌, ◌∙◌, List, ap, subst, Err}
 use Rattle.std.proofs.lemmas.Result.{err_from_is_err_and}
 use Rattle.su_lex.specs.declared.ends.LexEnd.TheVariants.{Syntax}
 use Rattle.su_lex.specs.declared.meaning.Symbol.{Symbol}
 use Rattle.su_lex.specs.declared.meaning.Symbol.TheVariants.{Sign}
 use Rattle.su_lex.specs.declared.signs.Sign.TheVariants as sign
-use Rattle.su_query.specs.Operands.{ReadsName}
-use Rattle.su_query.specs.Lists.{Several}
+use Rattle.su_query.specs.inside.ReadItems.{ReadsName, Several}
 use Rattle.su_query.proofs.Exits.{names_no_names, names_no_close, names_no_end}
 use Rattle.su_query.proofs.Listed.{no_names, several_names}
 use Rattle.su_query.proofs.forms.names_form.Goals as goal

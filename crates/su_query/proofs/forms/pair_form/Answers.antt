@@ -1,3 +1,4 @@
+-- The first query is the only one that can be read there, and so is the second behind it, so each failure refuses the pair.
 use Rattle.std.proofs.Common.{◌≡◌, ◌∷◌, codes, ap, Err}
 use Rattle.std.proofs.lemmas.Result.{err_from_is_err_and}
 use Rattle.su_lex.specs.declared.ends.LexEnd.TheVariants.{Syntax}

@@ -1,8 +1,9 @@
+-- Behind `print` stands a name and nothing else, since no other statement begins with this word.
 use Rattle.std.proofs.Common.{◌≡◌, ◌∷◌, [], refl, ap, ◌∙◌, Err, codes}
 use Rattle.std.proofs.lemmas.Result.{err_from_is_err_and}
 use Rattle.su_lex.specs.declared.ends.LexEnd.TheVariants.{Syntax}
 use Rattle.su_lex.specs.declared.meaning.Symbol.TheVariants.{Word}
-use Rattle.su_query.specs.Forms as g
+use Rattle.su_query.specs.inside.ReadForms as g
 use Rattle.su_query.proofs.Exits.{print_inv}
 use Rattle.su_query.proofs.Items.{no_name}
 use Rattle.su_query.proofs.forms.print.Goals as goal

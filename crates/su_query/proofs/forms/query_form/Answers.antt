@@ -1,3 +1,4 @@
+-- The query is the only one that can be read there, so where symbols are left behind it none is read to the end.
 use Rattle.std.proofs.Common.{◌≡◌, [], ap, Err}
 use Rattle.std.proofs.lemmas.Result.{err_from_is_err_and}
 use Rattle.su_lex.specs.declared.ends.LexEnd.TheVariants.{Syntax}

@@ -1,3 +1,4 @@
+-- The name and the values are the only ones that can be read there, so what follows them decides.
 use Rattle.std.proofs.Common.{◌≡◌, ap, Err}
 use Rattle.std.proofs.lemmas.Result.{err_from_is_err_and}
 use Rattle.su_lex.specs.declared.ends.LexEnd.TheVariants.{Syntax}

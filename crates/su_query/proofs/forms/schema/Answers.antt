@@ -1,6 +1,7 @@
+-- The statement `schema` is this word alone.
 use Rattle.std.proofs.Common.{◌∷◌, refl, ap, codes}
 use Rattle.su_lex.specs.declared.meaning.Symbol.TheVariants.{Word}
-use Rattle.su_query.specs.Forms as g
+use Rattle.su_query.specs.inside.ReadForms as g
 use Rattle.su_query.proofs.forms.schema.Goals as goal
 
 pub returns-clause-found : goal.returns-clause-found

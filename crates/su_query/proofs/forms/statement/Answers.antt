@@ -1,3 +1,4 @@
+-- The first word tells the form; where it is none of nine words, only a query is left.
 use Rattle.std.proofs.Common.{◌≡◌, refl, ap, ◌∙◌, subst, Err, List, codes}
 use Rattle.std.proofs.lemmas.Result.{err_from_is_err_and}
 use Rattle.su_lex.specs.declared.ends.LexEnd.TheVariants.{Syntax}
@@ -5,8 +6,8 @@ use Rattle.su_lex.specs.declared.meaning.Symbol.{Symbol}
 use Rattle.su_lex.specs.declared.meaning.Symbol.TheVariants.{Word}
 use Rattle.su_lex.specs.Names.{Begins}
 use Rattle.su_query.specs.declared.statements.Query.{Query as AQuery}
-use Rattle.su_query.specs.Forms as g
-use Rattle.su_query.specs.QueryForms.{QueryForm}
+use Rattle.su_query.specs.inside.ReadForms as g
+use Rattle.su_query.specs.inside.ReadQueries.{QueryForm}
 use Rattle.su_query.proofs.Exits.{none_left}
 use Rattle.su_query.proofs.forms.statement.Goals as goal
 

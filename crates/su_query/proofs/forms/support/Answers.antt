@@ -1,7 +1,8 @@
+-- Behind `explain from` stands a query and nothing else.
 use Rattle.std.proofs.Common.{◌≡◌, refl, ap, Err}
 use Rattle.std.proofs.lemmas.Result.{err_from_is_err_and}
 use Rattle.su_lex.specs.declared.ends.LexEnd.TheVariants.{Syntax}
-use Rattle.su_query.specs.Forms as g
+use Rattle.su_query.specs.inside.ReadForms as g
 use Rattle.su_query.proofs.Exits.{support_inv}
 use Rattle.su_query.proofs.forms.support.Goals as goal
 

@@ -1,9 +1,10 @@
+-- Without `where` the condition is all of nothing; behind it a condition is read.
 use Rattle.std.proofs.Common.{refl, sym, ap}
 use Rattle.std.proofs.lemmas.Result.{IfOk-weaker}
 use Rattle.su_where.specs.declared.conditions.Condition.TheVariants.{All}
-use Rattle.su_query.specs.Grammar.{ReadsCond}
-use Rattle.su_query.specs.QueryForms as g
-use Rattle.su_query.specs.QueryForms.{ReadsWhere}
+use Rattle.su_query.specs.inside.ReadConditions.{ReadsCond}
+use Rattle.su_query.specs.inside.ReadQueries as g
+use Rattle.su_query.specs.inside.ReadQueries.{ReadsWhere}
 use Rattle.su_query.proofs.forms.wanted.Goals as goal
 
 pub returns-then-not-takes_word-clause-found : goal.returns-then-not-takes_word-clause-found

@@ -1,3 +1,4 @@
+-- The comparisons before this one have sides of one kind, so the first of two kinds among all is the first from here on.
 use Rattle.std.proofs.Common.{◌∙◌, length, sym}
 use Rattle.su_where.specs.Places.{HasPlacesBelow}
 use Rattle.su_query.proofs.Found.{of_lent, kinds_here, kinds_later}

@@ -1,3 +1,4 @@
+-- Names without variables mention at most the blank one, and they compare nothing, so only their number can pass a limit.
 use Rattle.std.proofs.Common.{arith}
 use Rattle.std.proofs.lemmas.List.{length-map}
 use Rattle.su_query.specs.Limits.{plain_ref}

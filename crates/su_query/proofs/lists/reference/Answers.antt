@@ -1,3 +1,4 @@
+-- A ref begins with a name, and a dot behind the first name asks for a second one.
 use Rattle.std.proofs.Common.{◌≡◌, refl, ap, Err}
 use Rattle.std.proofs.lemmas.Result.{err_from_is_err_and}
 use Rattle.su_lex.specs.declared.ends.LexEnd.TheVariants.{Syntax}

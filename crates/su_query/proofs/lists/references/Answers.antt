@@ -1,7 +1,8 @@
+-- The refs so far and any that may follow are a list from the start, and a list from the start begins with the refs so far.
 use Rattle.std.proofs.Common.{◌≡◌, ◌∷◌, ◌++◌, [], sym, refl, ap, ◌∙◌, append_assoc, Err}
 use Rattle.std.proofs.lemmas.Result.{err_from_is_err_and}
 use Rattle.su_lex.specs.declared.ends.LexEnd.TheVariants.{Syntax}
-use Rattle.su_query.specs.Operands.{ReadsRef}
+use Rattle.su_query.specs.inside.ReadItems.{ReadsRef}
 use Rattle.su_query.proofs.Items.{ref_unique}
 use Rattle.su_query.proofs.Listed.{first_then, first_only, next_then, next_only, next_none, last, whole}
 use Rattle.su_query.proofs.lists.references.Goals as goal

@@ -1,8 +1,7 @@
 use Rattle.std.proofs.Common.{◌≡◌, ◌++◌, length, List}
 use Rattle.su_lex.specs.declared.meaning.Symbol.{Symbol}
 use Rattle.su_query.specs.declared.refs.Ref.{Ref}
-use Rattle.su_query.specs.Lists.{More, Several}
-use Rattle.su_query.specs.Operands.{ReadsRef}
+use Rattle.su_query.specs.inside.ReadItems.{More, Several, ReadsRef}
 use Rattle.su_query.proofs.lists.references.Given as goal
 
 abbrev pub invariant-loop-references : goal.invariant-loop-references

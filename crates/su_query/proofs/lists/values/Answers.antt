@@ -1,7 +1,8 @@
+-- The values so far and any that may follow are a list from the start, and a list from the start begins with the values so far.
 use Rattle.std.proofs.Common.{◌≡◌, ◌∷◌, ◌++◌, [], sym, refl, ap, ◌∙◌, append_assoc, Err}
 use Rattle.std.proofs.lemmas.Result.{err_from_is_err_and}
 use Rattle.su_lex.specs.declared.ends.LexEnd.TheVariants.{Syntax}
-use Rattle.su_query.specs.Operands.{ReadsValue}
+use Rattle.su_query.specs.inside.ReadItems.{ReadsValue}
 use Rattle.su_query.proofs.Items.{value_unique}
 use Rattle.su_query.proofs.Listed.{first_then, first_only, next_then, next_only, next_none, last, whole}
 use Rattle.su_query.proofs.lists.values.Goals as goal

@@ -1,8 +1,7 @@
 use Rattle.std.proofs.Common.{◌≡◌, ◌++◌, length, List}
 use Rattle.su_base.specs.declared.values.Value.{Value}
 use Rattle.su_lex.specs.declared.meaning.Symbol.{Symbol}
-use Rattle.su_query.specs.Lists.{More, Several}
-use Rattle.su_query.specs.Operands.{ReadsValue}
+use Rattle.su_query.specs.inside.ReadItems.{More, Several, ReadsValue}
 use Rattle.su_query.proofs.lists.values.Given as goal
 
 abbrev pub invariant-loop-values : goal.invariant-loop-values

@@ -1,3 +1,4 @@
+-- The refs that are gone through are those of the condition.
 use Rattle.std.proofs.Common.{◌∙◌, Bor, map, sym, ap}
 use Rattle.std.specs.Prelude.{is_none}
 use Rattle.std.specs.List.{list_all}

@@ -1,3 +1,4 @@
+-- What was seen is never lost, so once there are too many variables there are too many at the end.
 use Rattle.std.proofs.Common.{◌<◌, ◌+◌, ◌∙◌, sym, subst, length, map, drop, List, arith}
 use Rattle.su_query.proofs.Seen.{refs_step, stays}
 use Rattle.su_query.proofs.mentions.have_few_variables.Goals as goal

@@ -1,3 +1,4 @@
+-- The parts take their numbers from the front, one part after the other, as the refs of the whole condition stand.
 use Rattle.std.proofs.Common.{rules, ◌∙◌, List, map, sym, ap, subst, arith}
 use Rattle.std.specs.List.{flat_map}
 use Rattle.std.proofs.lemmas.List.{take_all}

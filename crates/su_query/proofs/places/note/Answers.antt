@@ -1,3 +1,4 @@
+-- A place that was seen keeps its number, and a new one gets the next.
 use Rattle.std.proofs.Common.{◌≡◌, ◌∙◌, Some, None, sym, ap}
 use Rattle.std.specs.Prelude.{position}
 use Rattle.su_query.specs.Places.{same_place}

@@ -1,11 +1,13 @@
+-- The places so far are those of the refs so far; a place keeps its number when others are added, so the numbers so far are those among all places.
 use Rattle.std.proofs.Common.{◌≡◌, ◌+◌, ◌∙◌, ◌++◌, ◌∷◌, [], Bor, Some, List, length, sym, ap, map, take, drop, arith}
 use Rattle.std.specs.Prelude.{if◌then◌else◌, position, unwrap_or}
 use Rattle.std.specs.List.{list_any}
 use Rattle.su_schema.specs.Entries.{attribute_names}
+use Rattle.su_schema.specs.Known.{number_of}
+use Rattle.su_schema.proofs.Numbers.{known-Some}
 use Rattle.su_query.specs.declared.refs.Ref.{Ref}
 use Rattle.su_query.specs.declared.places.Place.{Place}
 use Rattle.su_query.specs.declared.scopes.Scope.TheVariants.{Attributes}
-use Rattle.su_query.specs.Scopes.{number_among}
 use Rattle.su_query.specs.Places.{place_in, same_place, places_of, number_in}
 use Rattle.su_query.proofs.Placed.{refs_step, places-few}
 use Rattle.su_query.proofs.Noted.{number_stays}
@@ -25,7 +27,8 @@ loop-reference-preserved c =
     let seen = c.note.new.seen in
     let rest : List Ref = map (λ (x : Bor Ref). x.now) (drop (i + 1) refs) in
     let all : List Place = places_of schema vs [] (map (λ (x : Bor Ref). x.now) refs) in
-    let attribute : number_among (attribute_names schema) r.now.attribute ≡ c.in-Ok.attribute = ap (λ o. unwrap_or o 0) c.in-Ok.ensures.found in
+    let attribute : number_of (attribute_names schema) r.now.attribute ≡ c.in-Ok.attribute =
+    (known-Some (attribute_names schema) r.now.attribute c.in-Ok.attribute c.in-Ok.ensures.found).1 in
     let variable = c.variable_number-variable.ensures in
     let here : record { variable = c.variable_number-variable.result; attribute = c.in-Ok.attribute } ≡ place_in schema vs r.now = λ j. record { variable = variable j; attribute = sym attribute j } in
     let noted : seen ≡ places_of schema vs l.places (r.now ∷ []) = c.in_ok-number.ensures.seen ∙ ap (λ (p : Place). if list_any (same_place p) l.places then l.places else l.places ++ p ∷ []) here in

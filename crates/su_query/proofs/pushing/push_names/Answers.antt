@@ -1,3 +1,4 @@
+-- One more name stands behind a comma, unless it is the first.
 use Rattle.su_query.specs.ShownParts.{name_symbols}
 use Rattle.su_query.proofs.Joined.{listed_more}
 use Rattle.su_query.proofs.pushing.push_names.Goals as goal

@@ -1,3 +1,4 @@
+-- One more ref stands behind a comma, unless it is the first.
 use Rattle.su_query.specs.ShownParts.{ref_symbols}
 use Rattle.su_query.proofs.Joined.{listed_more}
 use Rattle.su_query.proofs.pushing.push_refs.Goals as goal

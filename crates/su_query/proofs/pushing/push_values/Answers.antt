@@ -1,3 +1,4 @@
+-- One more value stands behind a comma, unless it is the first.
 use Rattle.su_query.specs.ShownParts.{value_symbols}
 use Rattle.su_query.proofs.Joined.{listed_more}
 use Rattle.su_query.proofs.pushing.push_values.Goals as goal

@@ -1,3 +1,4 @@
+-- A text is one list of symbols, and these are one statement at most, so what was read is the only one.
 use Rattle.std.proofs.Common.{Err, ap, inl, inr}
 use Rattle.su_query.proofs.Ready.{form_ready}
 use Rattle.su_query.proofs.Uniqueness.{statement_unique}

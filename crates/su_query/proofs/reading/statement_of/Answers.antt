@@ -1,3 +1,4 @@
+-- A limit that the statement passes refuses each text of its symbols.
 use Rattle.std.proofs.Common.{inl, inr}
 use Rattle.su_query.proofs.Uniqueness.{limit_refusal}
 use Rattle.su_query.proofs.reading.statement_of.Goals as goal

@@ -1,3 +1,4 @@
+-- Each known ref has the number of its place among the places of the query, so outputs and condition over numbers are those over names, in range and of the same kinds.
 use Rattle.std.proofs.Common.{◌≡◌, ◌≤◌, ◌<◌, ◌∙◌, ◌++◌, ℕ, Bor, Option, List, [], None, Some, inl, inr, length, map, sym, ap, subst, arith, All as Each}
 use Rattle.std.specs.Prelude.{option_map}
 use Rattle.std.proofs.lemmas.List.{append-nil, length-map}

@@ -1,3 +1,4 @@
+-- A place of the variable adds its attribute to the set, another place adds nothing.
 use Rattle.std.proofs.Common.{◌∙◌}
 use Rattle.su_query.proofs.AttributeSets.{one_here, one_elsewhere}
 use Rattle.su_query.proofs.sets.mentioned.Goals as goal

@@ -1,3 +1,4 @@
+-- The names so far are known, and the set holds their numbers.
 use Rattle.std.proofs.Common.{◌≡◌, ◌∙◌, ◌+◌, ℕ, Some, Option, cond, sym, ap, drop}
 use Rattle.std.specs.Prelude.{is_none}
 use Rattle.std.specs.FinSet.{insert}

@@ -1,3 +1,4 @@
+-- One more part stands behind the word, unless it is the first, and in parentheses where it is many itself.
 use Rattle.su_lex.specs.declared.meaning.Symbol.TheVariants.{Word}
 use Rattle.su_query.proofs.Joined.{joined_more}
 use Rattle.su_query.proofs.showing.+show.Goals as goal

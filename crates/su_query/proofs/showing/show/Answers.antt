@@ -1,3 +1,4 @@
+-- Whatever memory there is, the shown text of a statement that was read is this statement again.
 use Rattle.su_query.proofs.ReadBack.{reads_again}
 use Rattle.su_query.proofs.showing.show.Goals as goal
 

@@ -1,5 +1,6 @@
--- The forms of queries. "From s to r": the symbols s are that, and then r.
+-- How queries are read. "From s to r": the symbols s are that, and then r.
 -- enclosed: in parentheses; pair: two enclosed queries, with `with` between them
+-- No public contract cites this module.
 use Rattle.std.specs.Prelude.{◌≡◌, codes, List, [], ◌∷◌}
 use Rattle.su_lex.specs.declared.signs.Sign.TheVariants as sign
 use Rattle.su_lex.specs.declared.meaning.Symbol.{Symbol}
@@ -7,9 +8,8 @@ use Rattle.su_lex.specs.declared.meaning.Symbol.TheVariants.{Word, Sign}
 use Rattle.su_where.specs.declared.conditions.Condition.TheVariants.{All}
 use Rattle.su_query.specs.declared.statements.Query.{Query as AQuery}
 use Rattle.su_lex.specs.Names.{Begins}
-use Rattle.su_query.specs.Lists.{Several}
-use Rattle.su_query.specs.Operands.{ReadsRef}
-use Rattle.su_query.specs.Grammar.{ReadsCond}
+use Rattle.su_query.specs.inside.ReadItems.{Several, ReadsRef}
+use Rattle.su_query.specs.inside.ReadConditions.{ReadsCond}
 use Rattle.su_query.specs.Refs.{NamedCond}
 
 -- [ "where" cond ], from s to r

@@ -1,14 +1,14 @@
--- The forms of statements on one relation, and of lists of names.
+-- How statements on one relation are read, and lists of names.
 -- row form: INSERT or DELETE, a name and values in parentheses
+-- No public contract cites this module.
 use Rattle.std.specs.Prelude.{◌≡◌, true, ℕ, codes, List, [], ◌∷◌}
 use Rattle.su_base.specs.declared.values.Value.{Value}
 use Rattle.su_base.specs.Name.{IsName}
 use Rattle.su_lex.specs.declared.signs.Sign.TheVariants as sign
 use Rattle.su_lex.specs.declared.meaning.Symbol.{Symbol}
 use Rattle.su_lex.specs.declared.meaning.Symbol.TheVariants.{Word, Text, Sign}
-use Rattle.su_query.specs.Lists.{Several}
-use Rattle.su_query.specs.Operands.{ReadsName, ReadsValue}
-use Rattle.su_query.specs.Grammar.{ReadsCond}
+use Rattle.su_query.specs.inside.ReadItems.{Several, ReadsName, ReadsValue}
+use Rattle.su_query.specs.inside.ReadConditions.{ReadsCond}
 use Rattle.su_query.specs.Refs.{NamedCond}
 use Rattle.su_query.specs.Mentions.{are_columns}
 

@@ -1,0 +1,11 @@
+-- Which comparisons a condition has.
+-- No public contract cites this module.
+use denote.Ref.{Bor}
+use Rattle.std.specs.Prelude.{◌≡◌, List, map}
+use Rattle.su_where.specs.Truth.{comparisons_of}
+use Rattle.su_query.specs.declared.conditions.Comparison.{Comparison}
+use Rattle.su_query.specs.Refs.{NamedCond}
+
+-- the condition has these comparisons, from left to right
+abbrev pub Compares : NamedCond → List (Bor Comparison) → Type 0
+Compares cond compared = comparisons_of cond ≡ map (λ k. k.now) compared
