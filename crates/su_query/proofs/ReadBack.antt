@@ -1,5 +1,5 @@
 -- A statement is shown in a text that is this statement.
-use Rattle.std.proofs.Common.{◌≡◌, inl, inr, false, List, [], ◌∷◌, ◌++◌, refl, ap, ◌∙◌, sym, subst, codes}
+use Rattle.std.proofs.Common.{◌≡◌, inl, inr, false, List, [], ◌∷◌, refl, ap, ◌∙◌, sym, subst, codes}
 use Rattle.std.specs.Prelude.{if◌then◌else◌}
 use Rattle.std.proofs.lemmas.List.Elements.{All-from_recursion, recursion_from_All}
 use Rattle.su_lex.specs.declared.meaning.Symbol.{Symbol}
