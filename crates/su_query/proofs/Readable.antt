@@ -186,13 +186,13 @@ query_readable : (q : AQuery) (s : List Symbol) → IsQuery q s → (r : List Sy
 query_readable q s h r follows =
     let outputs = listed ref_symbols q.outputs in
     let close = Sign sign.Close ∷ [] in
-    let rest = h.rest ++ r in
+    let rest = h.condition ++ r in
     record {
       refs = outputs ++ Sign sign.Close ∷ rest;
       rest = rest;
-      begins = ap (λ x. x ++ r) h.whole ∙ ap (λ x. Word (codes "retrieve") ∷ Sign sign.Open ∷ x) (append_assoc (outputs ++ close) h.rest r ∙ append_assoc outputs close rest);
+      begins = ap (λ x. x ++ r) h.whole ∙ ap (λ x. Word (codes "retrieve") ∷ Sign sign.Open ∷ x) (append_assoc (outputs ++ close) h.condition r ∙ append_assoc outputs close rest);
       reads = several_readable ReadsRef IsRef ref_symbols ref_readable q.outputs h.some h.refs (Sign sign.Close ∷ rest) (close_stops rest);
-      wanted = where_readable q.cond h.rest h.wanted r follows;
+      wanted = where_readable q.cond h.condition h.wanted r follows;
     }
 
 query_whole : (q : AQuery) (s : List Symbol) → IsQuery q s → ReadsQuery q s []

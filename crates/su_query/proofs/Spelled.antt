@@ -162,7 +162,7 @@ query_spelled q s r h =
     let close = Sign sign.Close ∷ [] in
     record {
       front = Word (codes "retrieve") ∷ (in_parens outputs ++ w.front);
-      is = record { some = refs.0; refs = refs.1; rest = w.front; wanted = w.is; whole = refl };
+      is = record { some = refs.0; refs = refs.1; condition = w.front; wanted = w.is; whole = refl };
       whole = h.begins ∙ ap (λ x. Word (codes "retrieve") ∷ Sign sign.Open ∷ x)
           (refs.2 ∙ ap (λ x. outputs ++ Sign sign.Close ∷ x) w.whole ∙ sym (append_assoc outputs close (w.front ++ r)) ∙ sym (append_assoc (outputs ++ close) w.front r));
     }

@@ -17,7 +17,7 @@ use Rattle.su_query.specs.Operands.{IsRef}
 use Rattle.su_query.specs.ShownParts.{value_symbols, ref_symbols, listed}
 use Rattle.su_query.specs.Grammar.{IsCond}
 
--- [ "where" cond ]
+-- [ "where" cond ]; without it the condition is all of nothing
 abbrev pub IsWhere : NamedCond → List Symbol → Type 0
 IsWhere c s = ((c ≡ All []) × (s ≡ [])) ⊎ ((t : List Symbol) × IsCond c t × (s ≡ Word (codes "where") ∷ t))
 
@@ -25,9 +25,9 @@ IsWhere c s = ((c ≡ All []) × (s ≡ [])) ⊎ ((t : List Symbol) × IsCond c 
 pub record IsQuery (q : AQuery) (s : List Symbol) : Type 0 where
   pub some : 0 < length q.outputs
   pub refs : AllByRecursion IsRef q.outputs
-  pub rest : List Symbol
-  pub wanted : IsWhere q.cond rest
-  pub whole : s ≡ Word (codes "retrieve") ∷ (in_parens (listed ref_symbols q.outputs) ++ rest)
+  pub condition : List Symbol
+  pub wanted : IsWhere q.cond condition
+  pub whole : s ≡ Word (codes "retrieve") ∷ (in_parens (listed ref_symbols q.outputs) ++ condition)
 
 -- the symbols are this statement
 abbrev pub IsForm : Statement → List Symbol → Type 0
