@@ -9,7 +9,7 @@ use Rattle.su_draw.specs.Order.{may_end}
 use Rattle.su_draw.specs.States.{at_start}
 use Rattle.su_draw.specs.Pieces.{cut_of}
 use Rattle.su_draw.specs.declared.reading.Line.{Line}
-use Rattle.su_draw.specs.TextLines.{behind_words, IsLineOf, AreRead, is_whole_cut, AreLinesOf}
+use Rattle.su_draw.specs.TextLines.{behind_words, IsLineOf, AreRead, is_whole_cut}
 use Rattle.su_draw.specs.LineFaults.{IsLineAtFault, IsEndAtFault, IsFaultOf}
 use Rattle.su_draw.specs.inside.PieceFaults.{IsFaultAmong}
 

@@ -1,5 +1,5 @@
 -- The text of a picture is a document.
-use Rattle.std.proofs.Common.{◌≡◌, ℕ, Bool, true, false, cond, List, [], ◌∷◌, ◌++◌, flat_map, refl, sym, ap, ◌∙◌, subst, append_assoc, append-nil}
+use Rattle.std.proofs.Common.{◌≡◌, ℕ, Bool, true, false, List, [], ◌∷◌, ◌++◌, flat_map, refl, sym, ap, subst, append_assoc}
 use Rattle.std.specs.Prelude.{◌==◌, ◌-◌, codes, decimal}
 use Rattle.su_draw.specs.declared.things.What.{What}
 use Rattle.su_draw.specs.declared.things.What.TheVariants.{Label, Row, Symbol, Fold, Source, Cover, Attribute as Column, Object, Member, Part}
@@ -9,9 +9,9 @@ use Rattle.su_draw.specs.declared.shapes.Help.{Help}
 use Rattle.su_draw.specs.declared.shapes.Help.TheVariants.{Heading, Band, Rule}
 use Rattle.su_draw.specs.declared.shapes.Picture.{Picture}
 use Rattle.su_draw.specs.EscapedBytes.{escaped}
-use Rattle.su_draw.specs.Xml.{Attribute, AreAttributes, IsContent, nothing, plain, IsDocument}
+use Rattle.su_draw.specs.Xml.{IsContent, nothing, plain, IsDocument}
 use Rattle.su_draw.specs.Svg.{help_text, svg_attributes, ground_line, svg_inside, svg_text}
-use Rattle.su_draw.specs.Shapes.{text_pairs, text_attributes, text_line, way_of, arrow_line, dot_line, square_line, lines_as, shape_text}
+use Rattle.su_draw.specs.Shapes.{text_attributes, text_line, way_of, arrow_line, dot_line, square_line, lines_as, shape_text}
 use Rattle.su_draw.specs.Looks.{word_of, number_attribute, colour_of, opacity_of, weight_of}
 use Rattle.su_draw.proofs.Plain.{ArePlain, plain-append, plain-if, decimal-plain, escaped-content, element_line-content}
 

@@ -1,8 +1,7 @@
 -- What words of lines must be.
 -- word: bytes without a space; decimal: without leading zeros
-use Rattle.std.specs.Prelude.{ℕ, ◌==◌, ◌-◌, ◌&&◌, nat_lt, length, slice_get, Bool, true, false, List, [], ◌∷◌, Option, Some, None}
+use Rattle.std.specs.Prelude.{ℕ, ◌==◌, ◌-◌, ◌&&◌, nat_lt, length, slice_get, Bool, false, List, [], ◌∷◌, Option, Some, None}
 use Rattle.std.specs.List.{list_all, list_any}
-use Rattle.std.specs.Str.{bytes_eq}
 use Rattle.su_draw.specs.Numbers.{number_in}
 
 -- there is such a number
@@ -11,11 +10,11 @@ some_is p None = false
 some_is p (Some n) = p n
 
 -- the word is the decimal of this number
-abbrev pub is_decimal : ℕ → List ℕ → Bool
+unfoldable pub is_decimal : ℕ → List ℕ → Bool
 is_decimal number word = some_is (λ n. n == number) (number_in word)
 
 -- the word is the decimal of a number below this one
-abbrev pub is_decimal_below : ℕ → List ℕ → Bool
+unfoldable pub is_decimal_below : ℕ → List ℕ → Bool
 is_decimal_below end word = some_is (λ n. nat_lt n end) (number_in word)
 
 -- the last byte is this one
@@ -34,7 +33,7 @@ separated byte (w ∷ []) = ends byte w
 separated byte (w ∷ v ∷ ws) = ends 44 w && separated byte (v ∷ ws)
 
 -- behind an opening parenthesis (40) the words are separated by commas, the last ends with this byte
-abbrev pub listed : ℕ → List (List ℕ) → Bool
+unfoldable pub listed : ℕ → List (List ℕ) → Bool
 listed byte [] = false
 listed byte (w ∷ ws) = begins 40 w && separated byte (w ∷ ws)
 

@@ -15,7 +15,7 @@ abbrev pub attribute_count_of : ℕ → ℕ
 attribute_count_of words = (words - 4) / 2
 
 -- behind the attributes: `from RELATION (COLUMN, ..);`; 59 is a semicolon
-abbrev pub columns_fit : List (List ℕ) → Bool
+unfoldable pub columns_fit : List (List ℕ) → Bool
 columns_fit (from ∷ relation ∷ columns) = bytes_eq from (codes "from") && listed 59 columns
 columns_fit _ = false
 
@@ -26,11 +26,11 @@ object_fits words =
     (length words == 2 * n + 4) && listed 41 (take n (drop 2 words)) && columns_fit (drop n (drop 2 words))
 
 -- says where a maximal object comes from
-abbrev pub is_origin_word : List ℕ → Bool
+unfoldable pub is_origin_word : List ℕ → Bool
 is_origin_word word = bytes_eq word (codes "declared") || bytes_eq word (codes "computed")
 
 -- `K declared OBJECT ..`, or `computed`
-abbrev pub is_maximal_object : State → List (List ℕ) → Bool
+unfoldable pub is_maximal_object : State → List (List ℕ) → Bool
 is_maximal_object s (number ∷ kind ∷ name ∷ names) = is_decimal s.maximal number && is_origin_word kind
 is_maximal_object s _ = false
 

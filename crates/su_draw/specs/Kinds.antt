@@ -6,7 +6,7 @@ use Rattle.su_draw.specs.declared.kinds.Kind.{Kind}
 use Rattle.su_draw.specs.declared.kinds.Kind.TheVariants.{Query, Variables, Term, Row, Head, Compare, Kept, Fold, Sources, Covered, Count, Attribute, Relation, Object, Dependency, Declared, Maximal}
 
 -- the kind of a line that stands at the margin, by its first word
-abbrev pub outer_kind_of : List ℕ → Option Kind
+unfoldable pub outer_kind_of : List ℕ → Option Kind
 outer_kind_of word =
     if bytes_eq word (codes "query:") then Some Query else
     (if bytes_eq word (codes "variables") then Some Variables else
@@ -20,7 +20,7 @@ outer_kind_of word =
     (if bytes_eq word (codes "--") then Some Maximal else None)))))))))
 
 -- the kind of a line that stands below a term, by its third word; the first two are empty
-abbrev pub inner_kind_of : List ℕ → Option Kind
+unfoldable pub inner_kind_of : List ℕ → Option Kind
 inner_kind_of word =
     if bytes_eq word (codes "row") then Some Row else
     (if bytes_eq word (codes "head") then Some Head else
@@ -31,7 +31,7 @@ inner_kind_of word =
     (if bytes_eq word (codes "covered") then Some Covered else None))))))
 
 -- what a line with these words is
-abbrev pub kind_in : List (List ℕ) → Option Kind
+unfoldable pub kind_in : List (List ℕ) → Option Kind
 kind_in (one ∷ two ∷ word ∷ words) = if length one == 0 && length two == 0 then inner_kind_of word else outer_kind_of one
 kind_in (one ∷ words) = outer_kind_of one
 kind_in [] = None

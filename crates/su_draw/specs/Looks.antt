@@ -1,6 +1,6 @@
 -- How a text looks: its attributes of colour and weight.
 -- What is light is paler; the number and the symbols of a row are bold where they aren't light.
-use Rattle.std.specs.Prelude.{ℕ, ◌-◌, ◌==◌, if◌then◌else◌, Bool, true, false, List, [], codes, decimal}
+use Rattle.std.specs.Prelude.{ℕ, ◌==◌, if◌then◌else◌, Bool, true, false, List, codes, decimal}
 use Rattle.su_draw.specs.declared.things.What.{What}
 use Rattle.su_draw.specs.declared.things.What.TheVariants.{Row, Symbol}
 use Rattle.su_draw.specs.Xml.{Attribute}

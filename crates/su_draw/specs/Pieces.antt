@@ -2,8 +2,7 @@
 -- word: what stands up to a blank or the line's end; from a quote to the next one neither ends it
 -- line: its number, as an editor counts from 1, and its words; number: a line feed between quotes is counted too
 -- cut: what has been cut of a text: the lines that have ended, and the line and the word that have begun
-use Rattle.std.specs.Prelude.{ℕ, ◌+◌, ◌==◌, ◌||◌, not, if◌then◌else◌, Bool, false, List, [], ◌∷◌, ◌++◌, flat_map}
-use Rattle.su_draw.specs.declared.pieces.Piece.{Piece}
+use Rattle.std.specs.Prelude.{ℕ, ◌+◌, ◌==◌, ◌||◌, not, if◌then◌else◌, false, List, [], ◌∷◌, ◌++◌, flat_map}
 use Rattle.su_draw.specs.declared.pieces.Cut.{Cut}
 
 -- before the first byte, on line 1

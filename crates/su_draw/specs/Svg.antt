@@ -1,6 +1,6 @@
 -- A picture as SVG, one element a line.
 -- help: what helps the eye and stands for no word; ground: the white under all of it
-use Rattle.std.specs.Prelude.{ℕ, ◌-◌, List, [], ◌∷◌, ◌++◌, flat_map, codes}
+use Rattle.std.specs.Prelude.{ℕ, List, [], ◌∷◌, ◌++◌, flat_map, codes}
 use Rattle.su_draw.specs.declared.shapes.Help.{Help}
 use Rattle.su_draw.specs.declared.shapes.Help.TheVariants.{Heading, Band, Rule}
 use Rattle.su_draw.specs.declared.shapes.Picture.{Picture}
@@ -9,14 +9,26 @@ use Rattle.su_draw.specs.Xml.{Attribute}
 use Rattle.su_draw.specs.Shapes.{element_line, shape_text}
 use Rattle.su_draw.specs.Looks.{word_of, number_attribute}
 
+-- the name above a column
+abbrev pub heading_line : ℕ → ℕ → List ℕ → List ℕ
+heading_line x y text =
+    element_line (codes "text") (number_attribute (codes "x") x ∷ number_attribute (codes "y") y ∷ word_of (codes "text-decoration") (codes "underline") ∷ []) (escaped text)
+
+-- the ground of a row
+abbrev pub band_line : ℕ → ℕ → ℕ → List ℕ
+band_line x y width =
+    element_line (codes "rect") (number_attribute (codes "x") x ∷ number_attribute (codes "y") y ∷ number_attribute (codes "width") width ∷ word_of (codes "height") (codes "20") ∷ word_of (codes "fill") (codes "#e8e8e8") ∷ []) []
+
+-- a line from one place to another
+abbrev pub rule_line : ℕ → ℕ → ℕ → ℕ → List ℕ
+rule_line x y to_x to_y =
+    element_line (codes "line") (number_attribute (codes "x1") x ∷ number_attribute (codes "y1") y ∷ number_attribute (codes "x2") to_x ∷ number_attribute (codes "y2") to_y ∷ word_of (codes "stroke") (codes "#999999") ∷ []) []
+
 -- what helps the eye and stands for no word: headings, bands, lines
 abbrev pub help_text : Help → List ℕ
-help_text (Heading x y text) =
-    element_line (codes "text") (number_attribute (codes "x") x ∷ number_attribute (codes "y") y ∷ word_of (codes "text-decoration") (codes "underline") ∷ []) (escaped text)
-help_text (Band x y width) =
-    element_line (codes "rect") (number_attribute (codes "x") x ∷ number_attribute (codes "y") y ∷ number_attribute (codes "width") width ∷ word_of (codes "height") (codes "20") ∷ word_of (codes "fill") (codes "#e8e8e8") ∷ []) []
-help_text (Rule x y to_x to_y) =
-    element_line (codes "line") (number_attribute (codes "x1") x ∷ number_attribute (codes "y1") y ∷ number_attribute (codes "x2") to_x ∷ number_attribute (codes "y2") to_y ∷ word_of (codes "stroke") (codes "#999999") ∷ []) []
+help_text (Heading x y text) = heading_line x y text
+help_text (Band x y width) = band_line x y width
+help_text (Rule x y to_x to_y) = rule_line x y to_x to_y
 
 -- the attributes of the picture
 abbrev pub svg_attributes : Picture → List Attribute

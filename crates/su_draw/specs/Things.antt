@@ -1,7 +1,6 @@
 -- What is drawn for the words of a text.
 -- thing: what a word is drawn as, by the word's place: the number of its line and its number in the line, both from 0
-use Rattle.std.specs.Prelude.{ℕ, ◌+◌, ◌-◌, ◌==◌, if◌then◌else◌, List, [], ◌∷◌, ◌++◌, length, Option, Some, None}
-use Rattle.su_draw.specs.declared.kinds.Kind.TheVariants as kind
+use Rattle.std.specs.Prelude.{ℕ, ◌+◌, ◌==◌, if◌then◌else◌, List, [], ◌∷◌, ◌++◌, length, Option, Some, None}
 use Rattle.su_draw.specs.declared.things.What.{What}
 use Rattle.su_draw.specs.declared.things.What.TheVariants.{Symbol}
 use Rattle.su_draw.specs.declared.things.Thing.{Thing}

@@ -1,12 +1,13 @@
 //! What a line is, by its first word, or by its third behind two empty ones.
-ghost use Rattle.std.specs.Prelude.{◌≡◌};
+ghost use Rattle.std.specs.Prelude.{◌≡◌, if◌then◌else◌, Some};
+ghost use Rattle.std.specs.Str.{bytes_eq};
 ghost use Rattle.su_draw.specs.Kinds.{outer_kind_of, inner_kind_of, kind_in};
 
 use crate::checks::are_same;
 use su_base::List;
 
 /// What a line says. The first eleven are those of an explanation, the others those of a schema.
-#[derive(Clone, Copy, PartialEq, Eq, Debug)]
+#[derive(Clone, Copy, PartialEq, Eq)]
 pub enum Kind {
     Query,
     Variables,
@@ -30,54 +31,41 @@ pub enum Kind {
     Maximal,
 }
 
+/// This kind where the word is its name, else the other.
+fn named(word: &[u8], name: &str, kind: Kind, other: Option<Kind>) -> Option<Kind>
+    ensures { result ≡ (if bytes_eq word.now name.now then Some kind else other) }
+{
+    if are_same(word, name.as_bytes()) {
+        return Some(kind);
+    }
+    other
+}
+
 fn outer_kind(word: &[u8]) -> Option<Kind>
     ensures { result ≡ outer_kind_of word.now }
 {
-    if are_same(word, "query:".as_bytes()) {
-        Some(Kind::Query)
-    } else if are_same(word, "variables".as_bytes()) {
-        Some(Kind::Variables)
-    } else if are_same(word, "term".as_bytes()) {
-        Some(Kind::Term)
-    } else if are_same(word, "terms".as_bytes()) {
-        Some(Kind::Count)
-    } else if are_same(word, "attribute".as_bytes()) {
-        Some(Kind::Attribute)
-    } else if are_same(word, "relation".as_bytes()) {
-        Some(Kind::Relation)
-    } else if are_same(word, "object".as_bytes()) {
-        Some(Kind::Object)
-    } else if are_same(word, "fd".as_bytes()) {
-        Some(Kind::Dependency)
-    } else if are_same(word, "maximal".as_bytes()) {
-        Some(Kind::Declared)
-    } else if are_same(word, "--".as_bytes()) {
-        Some(Kind::Maximal)
-    } else {
-        None
-    }
+    let kind = named(word, "--", Kind::Maximal, None);
+    let kind = named(word, "maximal", Kind::Declared, kind);
+    let kind = named(word, "fd", Kind::Dependency, kind);
+    let kind = named(word, "object", Kind::Object, kind);
+    let kind = named(word, "relation", Kind::Relation, kind);
+    let kind = named(word, "attribute", Kind::Attribute, kind);
+    let kind = named(word, "terms", Kind::Count, kind);
+    let kind = named(word, "term", Kind::Term, kind);
+    let kind = named(word, "variables", Kind::Variables, kind);
+    named(word, "query:", Kind::Query, kind)
 }
 
 fn inner_kind(word: &[u8]) -> Option<Kind>
     ensures { result ≡ inner_kind_of word.now }
 {
-    if are_same(word, "row".as_bytes()) {
-        Some(Kind::Row)
-    } else if are_same(word, "head".as_bytes()) {
-        Some(Kind::Head)
-    } else if are_same(word, "compare".as_bytes()) {
-        Some(Kind::Compare)
-    } else if are_same(word, "kept".as_bytes()) {
-        Some(Kind::Kept)
-    } else if are_same(word, "fold".as_bytes()) {
-        Some(Kind::Fold)
-    } else if are_same(word, "sources".as_bytes()) {
-        Some(Kind::Sources)
-    } else if are_same(word, "covered".as_bytes()) {
-        Some(Kind::Covered)
-    } else {
-        None
-    }
+    let kind = named(word, "covered", Kind::Covered, None);
+    let kind = named(word, "sources", Kind::Sources, kind);
+    let kind = named(word, "fold", Kind::Fold, kind);
+    let kind = named(word, "kept", Kind::Kept, kind);
+    let kind = named(word, "compare", Kind::Compare, kind);
+    let kind = named(word, "head", Kind::Head, kind);
+    named(word, "row", Kind::Row, kind)
 }
 
 /// What a line with these words is.

@@ -53,17 +53,18 @@ fn is_between_terms(state: &State) -> bool
 fn may_follow(state: &State, kind: Kind) -> bool
     ensures { result ≡ follows state.now kind state.now.last }
 {
-    match (kind, state.last) {
-        (Kind::Query, last) => last.is_none(),
-        (Kind::Variables, Some(Kind::Query)) => true,
-        (Kind::Term | Kind::Count, _) => is_between_terms(state),
-        (Kind::Row, Some(Kind::Term | Kind::Row)) => true,
-        (Kind::Head, Some(Kind::Row)) => true,
-        (Kind::Compare | Kind::Kept, Some(Kind::Head | Kind::Compare)) => true,
-        (Kind::Fold, Some(Kind::Kept)) => true,
-        (Kind::Sources, Some(Kind::Fold | Kind::Sources)) => true,
-        (Kind::Covered, Some(Kind::Fold)) => true,
-        (kind, last) => 0 < rank(kind) && may_define(last, kind),
+    let last = state.last;
+    match kind {
+        Kind::Query => last.is_none(),
+        Kind::Variables => matches!(last, Some(Kind::Query)),
+        Kind::Term | Kind::Count => is_between_terms(state),
+        Kind::Row => matches!(last, Some(Kind::Term | Kind::Row)),
+        Kind::Head => matches!(last, Some(Kind::Row)),
+        Kind::Compare | Kind::Kept => matches!(last, Some(Kind::Head | Kind::Compare)),
+        Kind::Fold => matches!(last, Some(Kind::Kept)),
+        Kind::Sources => matches!(last, Some(Kind::Fold | Kind::Sources)),
+        Kind::Covered => matches!(last, Some(Kind::Fold)),
+        _ => may_define(last, kind),
     }
 }
 

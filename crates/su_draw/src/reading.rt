@@ -15,14 +15,20 @@ use std::alloc::Global;
 use su_base::{List, NoMemory};
 
 /// A line of the text: what it is, and its words.
-#[derive(Drop)]
 pub struct Line {
     pub kind: Kind,
     pub words: List<List<u8>>,
 }
 
+/// Not derived, so that it is a single call wherever a line goes out of scope.
+impl Drop for Line {
+    fn drop(self) {
+        let Line { kind: _, words: _ } = self;
+    }
+}
+
 /// Why a text is not read.
-#[derive(Clone, Copy, PartialEq, Eq, Debug)]
+#[derive(Clone, Copy, PartialEq, Eq)]
 pub enum Fault {
     /// The line with this number, as an editor counts from 1, can't stand there.
     Line(usize),

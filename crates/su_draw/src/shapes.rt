@@ -47,10 +47,21 @@ pub enum Help {
 }
 
 /// A picture.
-#[derive(Drop)]
 pub struct Picture {
     pub width: u32,
     pub height: u32,
     pub helps: List<Help>,
     pub shapes: List<Shape>,
+}
+
+/// Not derived, so that it is a single call wherever a picture goes out of scope.
+impl Drop for Picture {
+    fn drop(self) {
+        let Picture {
+            width: _,
+            height: _,
+            helps: _,
+            shapes: _,
+        } = self;
+    }
 }

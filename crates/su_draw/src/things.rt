@@ -13,7 +13,7 @@ use std::alloc::Global;
 use su_base::{List, NoMemory};
 
 /// What a word is drawn as.
-#[derive(Clone, Copy, PartialEq, Eq, Debug)]
+#[derive(Clone, Copy, PartialEq, Eq)]
 pub enum What {
     /// A word as it is.
     Label,

@@ -1,6 +1,6 @@
 //! A picture as SVG.
 ghost use Rattle.std.specs.Prelude.{◌≡◌, ◌++◌, flat_map, codes, decimal, OnOk, IfOk, string_bytes};
-ghost use Rattle.su_draw.specs.Svg.{help_text, ground_line, svg_attributes, svg_inside, svg_text};
+ghost use Rattle.su_draw.specs.Svg.{heading_line, band_line, rule_line, help_text, ground_line, svg_attributes, svg_inside, svg_text};
 ghost use Rattle.su_draw.specs.Shapes.{text_line, way_of, arrow_line, dot_line, square_line, shape_text};
 ghost use Rattle.su_draw.specs.Looks.{colour_of, opacity_of, weight_of};
 ghost use Rattle.su_draw.specs.Xml.{attribute_text, IsDocument};
@@ -145,38 +145,67 @@ fn shape_element(alloc: Global, out: &mut Vec<u8>, shape: &Shape) -> Result<(), 
     }
 }
 
+fn heading_element(
+    alloc: Global,
+    out: &mut Vec<u8>,
+    x: u32,
+    y: u32,
+    text: &[u8],
+) -> Result<(), NoMemory>
+    ensures { OnOk result (out.new.items ≡ out.old.items ++ heading_line x y text.now) }
+{
+    let pairs = [
+        Number("x", x),
+        Number("y", y),
+        Word("text-decoration", "underline"),
+    ];
+    element(alloc, out, "text", &pairs, text)
+}
+
+fn band_element(
+    alloc: Global,
+    out: &mut Vec<u8>,
+    x: u32,
+    y: u32,
+    width: u32,
+) -> Result<(), NoMemory>
+    ensures { OnOk result (out.new.items ≡ out.old.items ++ band_line x y width) }
+{
+    let pairs = [
+        Number("x", x),
+        Number("y", y),
+        Number("width", width),
+        Word("height", "20"),
+        Word("fill", "#e8e8e8"),
+    ];
+    element(alloc, out, "rect", &pairs, &[])
+}
+
+fn rule_element(
+    alloc: Global,
+    out: &mut Vec<u8>,
+    from: (u32, u32),
+    to: (u32, u32),
+) -> Result<(), NoMemory>
+    ensures { OnOk result (out.new.items ≡ out.old.items ++ rule_line from.0 from.1 to.0 to.1) }
+{
+    let pairs = [
+        Number("x1", from.0),
+        Number("y1", from.1),
+        Number("x2", to.0),
+        Number("y2", to.1),
+        Word("stroke", "#999999"),
+    ];
+    element(alloc, out, "line", &pairs, &[])
+}
+
 fn help_element(alloc: Global, out: &mut Vec<u8>, help: &Help) -> Result<(), NoMemory>
     ensures { OnOk result (out.new.items ≡ out.old.items ++ help_text help.now) }
 {
     match help {
-        Help::Heading { x, y, text } => {
-            let pairs = [
-                Number("x", *x),
-                Number("y", *y),
-                Word("text-decoration", "underline"),
-            ];
-            element(alloc, out, "text", &pairs, text.as_slice())
-        }
-        Help::Band { x, y, width } => {
-            let pairs = [
-                Number("x", *x),
-                Number("y", *y),
-                Number("width", *width),
-                Word("height", "20"),
-                Word("fill", "#e8e8e8"),
-            ];
-            element(alloc, out, "rect", &pairs, &[])
-        }
-        Help::Rule { x, y, to_x, to_y } => {
-            let pairs = [
-                Number("x1", *x),
-                Number("y1", *y),
-                Number("x2", *to_x),
-                Number("y2", *to_y),
-                Word("stroke", "#999999"),
-            ];
-            element(alloc, out, "line", &pairs, &[])
-        }
+        Help::Heading { x, y, text } => heading_element(alloc, out, *x, *y, text.as_slice()),
+        Help::Band { x, y, width } => band_element(alloc, out, *x, *y, *width),
+        Help::Rule { x, y, to_x, to_y } => rule_element(alloc, out, (*x, *y), (*to_x, *to_y)),
     }
 }
 

@@ -41,7 +41,7 @@ use Rattle.su_exec.specs.inside.Edges.{Edge, Fits, FitsAll, HaveSameValues, Keep
 use Rattle.su_reduce.specs.Sheets.{AreBelow}
 use Rattle.su_exec.specs.inside.Joins.{IsReal}
 use Rattle.su_exec.specs.Outputs.{Agrees, AreOutputs, HoldsUnder, IsOutput}
-use Rattle.su_exec.specs.inside.Shown.{AreChecksOf, AreSpotsOf, AreTermsOf, HasSomeEdge, HasVars, IsCheckOf, IsMoreBy, IsShown, IsShownBy, IsTermOf, ShowsMore, spot_values, term_values, term_vars}
+use Rattle.su_exec.specs.inside.Shown.{AreChecksOf, AreSpotsOf, AreTermsOf, HasSomeEdge, HasVars, IsCheckOf, IsMoreBy, IsShown, IsShownBy, IsTermOf, spot_values, term_values, term_vars}
 use Rattle.su_exec.specs.Tasks.{IsTask, Occurs}
 use Rattle.su_exec.proofs.CodedValuations.{code_back, fits_all_codes, fits_all_values, place_in, placed}
 use Rattle.su_exec.proofs.Meanings.{edges_up, meanings_same}
@@ -95,9 +95,9 @@ less_before (r ∷ rows) zero (suc j) sorted l m = All-from_recursion (λ y. com
 less_before (r ∷ rows) (suc i) (suc j) sorted l m = less_before rows i j (sorted_tail compare_lists r rows sorted) (omega arith) (omega arith)
 
 -- ascending rows past the bound that are shown are more than it
-pub shows_more : (values : List Value) (e : Edge ℕ) (terms : List CodedSymbol) (n : ℕ) (rows : List (List Value)) → IsStrictlySortedBy compare_lists rows → ((h : List Value) → Contains rows h → IsShown values e terms h) → n < length rows → ShowsMore values e terms n
+pub shows_more : (values : List Value) (e : Edge ℕ) (terms : List CodedSymbol) (n : ℕ) (rows : List (List Value)) → IsStrictlySortedBy compare_lists rows → ((h : List Value) → Contains rows h → IsShown values e terms h) → n < length rows → AreMoreThan n (IsShown values e terms)
 shows_more values e terms n rows sorted each many = record {
-  shown = λ i. get_or rows i [];
+  member = λ i. get_or rows i [];
   each = λ i l. each (get_or rows i []) (Contains-get_or rows i [] (omega arith));
   differ = λ i j l m same.
       let less = less_before rows i j sorted l (omega arith) in
@@ -421,15 +421,15 @@ module _ (tables : List Stored) (values : List Value) (task : Task) (es : List (
           },
     )
 
-    pub shown_more : (g : Edge ℕ) (n : ℕ) → Keeps needed es (all_hold values checks) (g ∷ []) always → ShowsMore values g terms n → AreMoreThan n (IsOutput tables task)
-    shown_more g n keeps more = record { member = more.shown; each = λ i l. (shown_outputs g keeps (more.shown i)).0 (more.each i l); differ = more.differ }
+    pub shown_more : (g : Edge ℕ) (n : ℕ) → Keeps needed es (all_hold values checks) (g ∷ []) always → AreMoreThan n (IsShown values g terms) → AreMoreThan n (IsOutput tables task)
+    shown_more g n keeps more = record { member = more.member; each = λ i l. (shown_outputs g keeps (more.member i)).0 (more.each i l); differ = more.differ }
 
     module _ (n : ℕ) (more : HasMore needed (Some n) es (all_hold values checks)) where
       bound_is : more.bound ≡ n
       bound_is = sym (same_Some n more.bound more.is)
 
-      given_at : (i : ℕ) → i ≤ n → IsGiven needed es (all_hold values checks) (more.codes i)
-      given_at i l = more.given i (let e = bound_is in omega arith)
+      given_at : (i : ℕ) → i ≤ n → IsGiven needed es (all_hold values checks) (more.many.member i)
+      given_at i l = more.many.each i (let e = bound_is in omega arith)
 
       abbrev output_by : (i : ℕ) → (n < i) ⊎ (i ≤ n) → List Value
       output_by i (inl l) = []
@@ -439,7 +439,7 @@ module _ (tables : List Stored) (values : List Value) (task : Task) (es : List (
       is_output i (inl l) m = absurd (omega arith)
       is_output i (inr l) m = let g = given_at i l in to_output g.valuation g.fits g.passes
 
-      codes_same : (i j : ℕ) (x : (n < i) ⊎ (i ≤ n)) (y : (n < j) ⊎ (j ≤ n)) → i ≤ n → j ≤ n → output_by i x ≡ output_by j y → more.codes i ≡ more.codes j
+      codes_same : (i j : ℕ) (x : (n < i) ⊎ (i ≤ n)) (y : (n < j) ⊎ (j ≤ n)) → i ≤ n → j ≤ n → output_by i x ≡ output_by j y → more.many.member i ≡ more.many.member j
       codes_same i j (inl l) y il jl e = absurd (omega arith)
       codes_same i j (inr l) (inl m) il jl e = absurd (omega arith)
       codes_same i j (inr l) (inr m) il jl e =
@@ -460,7 +460,7 @@ module _ (tables : List Stored) (values : List Value) (task : Task) (es : List (
       more_outputs = record {
         member = λ i. output_by i (cases_lt n i);
         each = λ i l. is_output i (cases_lt n i) l;
-        differ = λ i j l m e. more.differ i j l (let b = bound_is in omega arith) (codes_same i j (cases_lt n i) (cases_lt n j) (omega arith) m e);
+        differ = λ i j l m e. more.many.differ i j l (let b = bound_is in omega arith) (codes_same i j (cases_lt n i) (cases_lt n j) (omega arith) m e);
       }
 
 -- ---- no outputs
@@ -495,7 +495,7 @@ pub whole_shown :
     → IfOk r (IsShownBy values terms merged)
 whole_shown values terms g merged r e a b = subst (λ (m : Merged). IfOk r (IsShownBy values terms m)) (sym e) (both_shown values terms g r a b)
 
-pub whole_more : (values : List Value) (terms : List CodedSymbol) (n : ℕ) (g : Edge ℕ) (merged : Merged) (r : Result (List (List Value)) ExecFault) → merged ≡ Whole g → IfErr r (λ fault. fault ≡ More → ShowsMore values g terms n) → IfErr r (λ fault. fault ≡ More → IsMoreBy values terms n merged)
+pub whole_more : (values : List Value) (terms : List CodedSymbol) (n : ℕ) (g : Edge ℕ) (merged : Merged) (r : Result (List (List Value)) ExecFault) → merged ≡ Whole g → IfErr r (λ fault. fault ≡ More → AreMoreThan n (IsShown values g terms)) → IfErr r (λ fault. fault ≡ More → IsMoreBy values terms n merged)
 whole_more values terms n g merged r e a = subst (λ (m : Merged). IfErr r (λ fault. fault ≡ More → IsMoreBy values terms n m)) (sym e) a
 
 pub has_vars : (needed : List ℕ) (terms : List CodedSymbol) (most : Option ℕ) (es : List (Edge ℕ)) (s : (ℕ → ℕ) → Bool) (merged : Merged) → needed ≡ term_vars terms → IsMerged needed most es s merged → HasVars terms merged

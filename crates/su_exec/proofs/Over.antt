@@ -35,24 +35,28 @@ module _ (needed : List ℕ) (bound : ℕ) (es rest : List (Edge ℕ)) (s u : (�
 
   pub over_more : HasMore needed (Some bound) es s
   over_more = record {
-    codes = λ i. codes_by i (cases_lt i (length over.rows));
     bound = bound;
     is = refl;
-    given = λ i h. given_by i (cases_lt i (length over.rows)) (low i h);
-    differ = λ i j l h e. over.differ i j l (low j h) (row_by i j (cases_lt i (length over.rows)) (cases_lt j (length over.rows)) (low i (omega arith)) (low j h) e);
+    many = record {
+      member = λ i. codes_by i (cases_lt i (length over.rows));
+      each = λ i h. given_by i (cases_lt i (length over.rows)) (low i h);
+      differ = λ i j l h e. over.differ i j l (low j h) (row_by i j (cases_lt i (length over.rows)) (cases_lt j (length over.rows)) (low i (omega arith)) (low j h) e);
+    };
   }
 
 -- what a later body gives, the first gives
 pub more_back : (needed : List ℕ) (most : Option ℕ) (es fs : List (Edge ℕ)) (s t : (ℕ → ℕ) → Bool) → Keeps needed es s fs t → HasMore needed most fs t → HasMore needed most es s
 more_back needed most es fs s t keeps more = record {
-  codes = more.codes;
   bound = more.bound;
   is = more.is;
-  given = λ i h.
-      let g = more.given i h in
-      let w = keeps.1 g.valuation g.fits g.passes in
-      record { valuation = w.valuation; fits = w.fits; passes = w.passes; gives = sym w.same ∙ g.gives };
-  differ = more.differ;
+  many = record {
+    member = more.many.member;
+    each = λ i h.
+        let g = more.many.each i h in
+        let w = keeps.1 g.valuation g.fits g.passes in
+        record { valuation = w.valuation; fits = w.fits; passes = w.passes; gives = sym w.same ∙ g.gives };
+    differ = more.many.differ;
+  };
 }
 
 pub empty_back : (needed : List ℕ) (es fs : List (Edge ℕ)) (s t : (ℕ → ℕ) → Bool) → Keeps needed es s fs t → IsEmpty fs t → IsEmpty es s

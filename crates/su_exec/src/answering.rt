@@ -5,7 +5,8 @@ ghost use Rattle.su_base.specs.declared.values.Value.{Value as AValue};
 ghost use Rattle.su_base.specs.Value.{compare_lists};
 ghost use Rattle.su_exec.specs.inside.Checks.{HasTerm, IsSpotIn, vars_of};
 ghost use Rattle.su_exec.specs.inside.Edges.{has};
-ghost use Rattle.su_exec.specs.inside.Shown.{AreSpotsOf, IsShown, ShowsMore, spot_values, term_vars};
+ghost use Rattle.su_exec.specs.inside.Shown.{AreSpotsOf, IsShown, spot_values, term_vars};
+ghost use Rattle.su_rel.specs.MoreThan.{AreMoreThan};
 ghost use Rattle.su_exec.specs.declared.tasks.ExecFault.TheVariants.{More};
 
 use crate::candidates::Candidates;
@@ -86,7 +87,7 @@ pub fn answers(
     ensures exact { IfOk result (λ rows. (h : List AValue) → Contains rows h ↔ IsShown codes.now last.now outputs.now h) }
     ensures ascending { IfOk result (IsStrictlySortedBy compare_lists) }
     ensures cap { IfOk result (λ rows. length rows ≤ cap) }
-    ensures more { IfErr result (λ fault. fault ≡ More → ShowsMore codes.now last.now outputs.now cap) }
+    ensures more { IfErr result (λ fault. fault ≡ More → AreMoreThan cap (IsShown codes.now last.now outputs.now)) }
 {
     last.rows();
     let spots = spots_of(alloc, outputs, last.vars())?;

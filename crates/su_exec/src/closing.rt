@@ -105,27 +105,6 @@ fn add_three(
     Ok(())
 }
 
-/// Adds what the three give the variables: the first meets the third, and the pairs the second.
-fn add_turned(
-    alloc: Global,
-    codes: &Codes,
-    a: &Candidates,
-    b: &Candidates,
-    c: &Candidates,
-    vars: &[u32],
-    out: &mut Distinct,
-) -> Result<(), AllocError>
-    requires within { (k : ℕ) → has vars.now k ≡ true → among (a.now ∷ b.now ∷ c.now ∷ []) k ≡ true }
-    requires width { out.old.width ≡ length vars.now }
-    ensures width { IfOk result (λ _. out.new.width ≡ out.old.width) }
-    ensures kept { IfOk result (λ _. (r : List ℕ) → Contains out.old.rows r → Contains out.new.rows r) }
-    ensures only { IfOk result (λ _. AddsOnly (IsGiven vars.now (a.now ∷ b.now ∷ c.now ∷ []) always) out.old.rows out.new.rows) }
-    ensures all { IfOk result (λ _. HasEach (IsGiven vars.now (a.now ∷ b.now ∷ c.now ∷ []) always) out.new.rows) }
-{
-    add_three(alloc, codes, a, c, b, vars, out)?;
-    Ok(())
-}
-
 /// Whether the i-th row is in the block.
 fn is_in_block(blocks: &[usize], i: usize, n: usize) -> bool
     requires { i < length blocks.now }
@@ -154,7 +133,8 @@ fn block(
     Ok(part)
 }
 
-/// Adds what the three give the variables, by way of the second where the number is even.
+/// Adds what the three give the variables: the first meets the second where the number is even, else
+/// the third.
 fn add_block(
     alloc: Global,
     codes: &Codes,
@@ -178,7 +158,7 @@ fn add_block(
         add_three(alloc, codes, a, b, c, vars, out)?;
         return Ok(());
     }
-    add_turned(alloc, codes, a, b, c, vars, out)?;
+    add_three(alloc, codes, a, c, b, vars, out)?;
     Ok(())
 }
 

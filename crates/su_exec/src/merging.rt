@@ -363,31 +363,20 @@ fn told(alloc: Global, codes: &Codes, rest: Body) -> Result<Merged, AllocError>
     Ok(Merged::Nothing)
 }
 
-/// What the body gives the needed variables, or that it gives them more lists than the bound of values.
-fn merge_all(
-    alloc: Global,
-    codes: &Codes,
-    body: Body,
-    needed: &[u32],
-    most: Option<usize>,
-) -> Result<Merged, AllocError>
+/// The body shrunk, without rows that are in no valuation and edges that say nothing more.
+fn cut_down(alloc: Global, codes: &Codes, body: Body, needed: &[u32]) -> Result<Body, AllocError>
     requires some { 0 < length body.edges.items }
     requires there { AreThere needed.now body.checks.items body.edges.items }
-    ensures { IfOk result (IsMerged needed.now most body.edges.items (all_hold codes.now body.checks.items)) }
+    ensures some { IfOk result (λ rest. 0 < length rest.edges.items) }
+    ensures there { IfOk result (λ rest. AreThere needed.now rest.checks.items rest.edges.items) }
+    ensures keeps { IfOk result (KeepsBody needed.now codes.now body) }
 {
-    let mut rest = body;
-    let end = merge_down(alloc, codes, &mut rest, needed, most)?;
-    match end {
-        End::Empty => Ok(Merged::Nothing),
-        End::Past => {
-            let merged = told(alloc, codes, rest)?;
-            Ok(merged)
-        }
-        End::One => {
-            let whole = last_of(alloc, codes, rest, needed)?;
-            Ok(Merged::Whole(whole))
-        }
-    }
+    let mut body = body;
+    shrink_all(alloc, codes, &mut body, needed)?;
+    let Body { mut edges, checks } = body;
+    narrow(alloc, codes, &mut edges, &checks)?;
+    let rest = reduce(alloc, Body { edges, checks }, needed)?;
+    Ok(rest)
 }
 
 /// What the body gives the needed variables, or that it gives them more lists than the bound of values.
@@ -402,12 +391,17 @@ pub fn run(
     requires there { AreThere needed.now body.checks.items body.edges.items }
     ensures { IfOk result (IsMerged needed.now most body.edges.items (all_hold codes.now body.checks.items)) }
 {
-    let mut body = body;
-    shrink_all(alloc, codes, &mut body, needed)?;
-    let Body { mut edges, checks } = body;
-    narrow(alloc, codes, &mut edges, &checks)?;
-    let cut = Body { edges, checks };
-    let rest = reduce(alloc, cut, needed)?;
-    let merged = merge_all(alloc, codes, rest, needed, most)?;
-    Ok(merged)
+    let mut rest = cut_down(alloc, codes, body, needed)?;
+    let end = merge_down(alloc, codes, &mut rest, needed, most)?;
+    match end {
+        End::Empty => Ok(Merged::Nothing),
+        End::Past => {
+            let merged = told(alloc, codes, rest)?;
+            Ok(merged)
+        }
+        End::One => {
+            let whole = last_of(alloc, codes, rest, needed)?;
+            Ok(Merged::Whole(whole))
+        }
+    }
 }

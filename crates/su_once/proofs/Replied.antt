@@ -50,6 +50,7 @@ use Rattle.su_session.specs.Windows.{attribute_numbers, TellsWindowFault, ShowsW
 use Rattle.su_session.specs.RowStatements.{InRelation, InsertsRow, DeletesRow, DeletesRows, LoadsRows, relation_number}
 use Rattle.su_session.specs.Statements.{PrintsRows, ShowsSchema, ShowsClosure, Answers}
 use Rattle.su_session.specs.Reply.{RepliesDefinition, RepliesStatement, Replied}
+use Rattle.su_session.specs.Reply as said
 use Rattle.su_session.specs.WantedFiles.{IsLoad}
 use Rattle.su_once.specs.States.{AreAlike}
 use Rattle.su_once.specs.Replies.{OneWant, OneReply}
@@ -285,10 +286,10 @@ module _ (a : DatabaseValue) (tables : List Stored) (alike : AreAlike a (record 
   statement text file (inr (st, is, few, h)) (inr (other, too, less, k)) = answers file st h (subst (λ (v : Statement). Answers b file v s d) (one_statement text other st too is) k)
 
   replied : (text : List ℕ) (file : Option (List ℕ)) → Replied a text file r c → Replied b text file s d → Same
-  replied text file (inl (begins, h)) (inl (also, k)) = definition text h k
-  replied text file (inl (begins, h)) (inr (none, k)) = absurd (none begins)
-  replied text file (inr (none, h)) (inl (begins, k)) = absurd (none begins)
-  replied text file (inr (none, h)) (inr (gone, k)) = statement text (unwrap_or file []) h k
+  replied text file (said.definition begins h) (said.definition also k) = definition text h k
+  replied text file (said.definition begins h) (said.statement none k) = absurd (none begins)
+  replied text file (said.statement none h) (said.definition begins k) = absurd (none begins)
+  replied text file (said.statement none h) (said.statement gone k) = statement text (unwrap_or file []) h k
 
 pub one_reply : OneReply
 one_reply a b c d text file reply other alike kept also h k =

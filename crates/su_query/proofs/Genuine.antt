@@ -20,9 +20,9 @@ use Rattle.su_query.proofs.CondShown.{shown-Compare, shown-Not, shown-All, shown
 abbrev pub AreSymbols : List Symbol → Type 0
 AreSymbols = AllByRecursion IsSymbol
 
-pub both-append : (xs ys : List Symbol) → AreSymbols xs → AreSymbols ys → AreSymbols (xs ++ ys)
-both-append [] ys a b = b
-both-append (x ∷ xs) ys a b = (a.0, both-append xs ys a.1 b)
+pub append_are : (xs ys : List Symbol) → AreSymbols xs → AreSymbols ys → AreSymbols (xs ++ ys)
+append_are [] ys a b = b
+append_are (x ∷ xs) ys a b = (a.0, append_are xs ys a.1 b)
 
 -- those in front, and those behind
 pub front_of : (xs ys : List Symbol) → AreSymbols (xs ++ ys) → AreSymbols xs
@@ -34,7 +34,7 @@ behind_of [] ys a = a
 behind_of (x ∷ xs) ys a = behind_of xs ys a.1
 
 pub parens_are : (s : List Symbol) → AreSymbols s → AreSymbols (in_parens s)
-parens_are s a = (tt, both-append s (Sign sign.Close ∷ []) a (tt, tt))
+parens_are s a = (tt, append_are s (Sign sign.Close ∷ []) a (tt, tt))
 
 pub within_parens : (s : List Symbol) → AreSymbols (in_parens s) → AreSymbols s
 within_parens s a = front_of s (Sign sign.Close ∷ []) a.1
@@ -68,7 +68,7 @@ IsGenuine c = AreSymbols (cond_symbols c)
 joined_are : (w : Symbol) → IsSymbol w → (cs : List NamedCond) → AllByRecursion IsGenuine cs → AreSymbols (joined w (map shown_cond cs))
 joined_are w v [] a = tt
 joined_are w v (c ∷ []) a = part_are (shown_cond c) a.0
-joined_are w v (c ∷ d ∷ ds) a = both-append (part (shown_cond c)) (w ∷ joined w (map shown_cond (d ∷ ds))) (part_are (shown_cond c) a.0) (v, joined_are w v (d ∷ ds) a.1)
+joined_are w v (c ∷ d ∷ ds) a = append_are (part (shown_cond c)) (w ∷ joined w (map shown_cond (d ∷ ds))) (part_are (shown_cond c) a.0) (v, joined_are w v (d ∷ ds) a.1)
 
 by_shown : (c : NamedCond) (x : ShownCond) → shown_cond c ≡ x → AreSymbols x.symbols → IsGenuine c
 by_shown c x e a = subst (λ (y : ShownCond). AreSymbols y.symbols) (sym e) a

@@ -1,5 +1,5 @@
 -- Names, values, refs, operands and comparisons are read in one way.
-use Rattle.std.proofs.Common.{◌≡◌, ℕ, Some, None, Option, true, List, ◌∷◌, refl, ap, sym, ◌∙◌, subst, codes}
+use Rattle.std.proofs.Common.{◌≡◌, ℕ, Some, None, Option, true, List, ◌++◌, [], ◌∷◌, refl, ap, sym, ◌∙◌, subst, codes}
 use Rattle.su_base.specs.declared.values.Value.{Value}
 use Rattle.su_base.specs.declared.values.Value.TheVariants as value
 use Rattle.su_base.specs.Name.{IsName, is_reserved_word}
@@ -53,6 +53,11 @@ pub ref_unique : (a b : ARef) (s r q : List Symbol) → ReadsRef a s r → Reads
 ref_unique a b s r q h k =
     let p = ref_same a.variable b.variable a.attribute b.attribute r q h.3 k.3 (sym h.0 ∙ k.0) in
     record { item = λ i. record { variable = p.variable i; attribute = p.attribute i }; rest = p.rest }
+
+-- a ref's symbols are in front of what follows
+pub qualified-append : (v : Option (List ℕ)) (x : Symbol) (r : List Symbol) → qualified v (x ∷ []) ++ r ≡ qualified v (x ∷ r)
+qualified-append None x r = refl
+qualified-append (Some v) x r = refl
 
 -- a ref begins with a word, a value doesn't
 ref_word : (v : Option (List ℕ)) (t : List Symbol) (a : List ℕ) → (w : List ℕ) × (u : List Symbol) × (qualified v (Word a ∷ t) ≡ Word w ∷ u)

@@ -7,7 +7,8 @@ use Rattle.std.proofs.lemmas.Grind.{flat_map-append}
 use Rattle.std.proofs.lemmas.Bool.Decides.{nat_tests}
 use Rattle.su_lex.specs.declared.signs.Sign.TheVariants as sign
 use Rattle.su_lex.specs.declared.meaning.Symbol.{Symbol}
-use Rattle.su_lex.specs.declared.meaning.Symbol.TheVariants.{Sign}
+use Rattle.su_lex.specs.declared.meaning.Symbol.TheVariants.{Word, Sign}
+use Rattle.su_lex.specs.Names.{names_symbols, more_names}
 use Rattle.su_query.specs.Refs.{NamedCond}
 use Rattle.su_query.specs.ShownConditions.{ShownCond, shown_cond, cond_symbols, part, joined}
 use Rattle.su_lex.specs.Wordings.{in_parens}
@@ -60,3 +61,17 @@ listed_more f xs i x start out o1 o2 l at e e1 e2 =
     let more : take (i + 1) xs ≡ take i xs ++ x ∷ [] = take_more xs i x l ∙ ap (λ y. take i xs ++ y ∷ []) (sym at) in
     let all : o2 ≡ start ++ (listed f (take i xs) ++ (q ++ f x)) = rw (e2, e1, e) (simp append_assoc) in
     all ∙ ap (λ s. start ++ s) (sym (listed_push f (take i xs) x (nat_lt 0 i) (ap (nat_lt 0) (sym count)))) ∙ ap (λ ys. start ++ listed f ys) (sym more)
+
+-- names are such a list too
+more-behind : (names : List (List ℕ)) → more_names names ≡ flat_map (λ n. Sign sign.Comma ∷ Word n ∷ []) names
+more-behind [] = refl
+more-behind (n ∷ names) = ap (λ x. Sign sign.Comma ∷ Word n ∷ x) (more-behind names)
+
+names-listed : (names : List (List ℕ)) → names_symbols names ≡ listed (λ n. Word n ∷ []) names
+names-listed [] = refl
+names-listed (n ∷ names) = ap (λ x. Word n ∷ x) (more-behind names)
+
+pub names_listed_more : (names : List (List ℕ)) (i : ℕ) (n : List ℕ) (start out o1 o2 : List Symbol) → i < length names → n ≡ get_or names i n → out ≡ start ++ names_symbols (take i names)
+    → o1 ≡ out ++ (if nat_lt 0 i then Sign sign.Comma ∷ [] else []) → o2 ≡ o1 ++ Word n ∷ [] → o2 ≡ start ++ names_symbols (take (i + 1) names)
+names_listed_more names i n start out o1 o2 l at e e1 e2 =
+    listed_more (λ m. Word m ∷ []) names i n start out o1 o2 l at (e ∙ ap (λ s. start ++ s) (names-listed (take i names))) e1 e2 ∙ ap (λ s. start ++ s) (sym (names-listed (take (i + 1) names)))

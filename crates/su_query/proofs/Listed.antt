@@ -88,6 +88,12 @@ are_more names s r (g.more _ n ns _ t u _ e w h hs) =
       none = m.none;
     }
 
+-- names that are read are in front
+pub names_front : (names : List (List ℕ)) (s r : List Symbol) → Several ReadsName names s r → (s ≡ names_symbols names ++ r) × AreNames names
+names_front names s r (n, ns, t, e, h, hs) =
+    let m = are_more ns t r hs in
+    (h.0 ∙ ap (λ x. Word n ∷ x) m.whole ∙ ap (λ x. names_symbols x ++ r) (sym e), subst AreNames (sym e) (h.1, m.are))
+
 -- names that don't begin the symbols aren't read from them
 pub no_names : (s : List Symbol) → ((names : List (List ℕ)) (r : List Symbol) → AreNames names → ¬ (Begins (Sign sign.Comma) r) → ¬ (s ≡ names_symbols names ++ r)) → (names : List (List ℕ)) (r : List Symbol)
     → ¬ (Several ReadsName names s r)

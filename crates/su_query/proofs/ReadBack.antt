@@ -1,5 +1,5 @@
 -- A statement is shown in a text that is this statement.
-use Rattle.std.proofs.Common.{◌≡◌, inl, inr, false, List, [], ◌∷◌, ◌++◌, refl, ap, ◌∙◌, sym, subst, codes}
+use Rattle.std.proofs.Common.{◌≡◌, inl, inr, false, List, [], ◌∷◌, refl, ap, ◌∙◌, sym, subst, codes}
 use Rattle.std.specs.Prelude.{if◌then◌else◌}
 use Rattle.std.proofs.lemmas.List.Elements.{All-from_recursion, recursion_from_All}
 use Rattle.su_lex.specs.declared.meaning.Symbol.{Symbol}
@@ -19,7 +19,7 @@ use Rattle.su_query.specs.ShownConditions.{cond_symbols}
 use Rattle.su_query.specs.Shown.{is_nothing, where_symbols, query_symbols, statement_symbols}
 use Rattle.su_query.proofs.CondShown.{nothing-All}
 use Rattle.su_query.proofs.Round.{good_cond}
-use Rattle.su_query.proofs.Genuine.{AreSymbols, both-append, front_of, behind_of, parens_are, within_parens, genuine_cond}
+use Rattle.su_query.proofs.Genuine.{AreSymbols, append_are, front_of, behind_of, parens_are, within_parens, genuine_cond}
 
 where_nothing : (c : NamedCond) → c ≡ All [] → where_symbols c ≡ []
 where_nothing c e = ap where_symbols e ∙ ap (λ b. if b then [] else Word (codes "where") ∷ cond_symbols (All [])) (nothing-All [])
@@ -34,7 +34,7 @@ where_shown c s (inl (nothing, e)) = inl (nothing, where_nothing c nothing)
 where_shown c s (inr (t, h, e)) = let good = good_cond c t h in inr (cond_symbols c, good.bare, where_some c good.some)
 
 query_shown : (q : AQuery) (s : List Symbol) → IsQuery q s → IsQuery q (query_symbols q)
-query_shown q s h = record { some = h.some; refs = h.refs; rest = where_symbols q.cond; wanted = where_shown q.cond h.rest h.wanted; whole = refl }
+query_shown q s h = record { some = h.some; refs = h.refs; condition = where_symbols q.cond; wanted = where_shown q.cond h.condition h.wanted; whole = refl }
 
 form_shown : (st : Statement) (s : List Symbol) → IsForm st s → IsForm st (statement_symbols st)
 form_shown (Insert relation row) s (named, some, w) = (named, some, refl)
@@ -61,7 +61,7 @@ query_kept : (q : AQuery) (s : List Symbol) → IsQuery q s → AreSymbols s →
 query_kept q s h v =
     let a = subst AreSymbols h.whole v in
     let refs = in_parens (listed ref_symbols q.outputs) in
-    (a.0, both-append refs (where_symbols q.cond) (front_of refs h.rest a.1) (where_kept q.cond h.rest h.wanted (behind_of refs h.rest a.1)))
+    (a.0, append_are refs (where_symbols q.cond) (front_of refs h.condition a.1) (where_kept q.cond h.condition h.wanted (behind_of refs h.condition a.1)))
 
 form_kept : (st : Statement) (s : List Symbol) → IsForm st s → AreSymbols s → AreSymbols (statement_symbols st)
 form_kept (Insert relation row) s (named, some, w) v = subst AreSymbols w v
@@ -80,7 +80,7 @@ form_kept (Compare first second) s (t, u, h, k, w) v =
     let behind = behind_of (in_parens t) (Word (codes "with") ∷ in_parens u) a.1 in
     let one = query_kept first t h (within_parens t (front_of (in_parens t) (Word (codes "with") ∷ in_parens u) a.1)) in
     let other = query_kept second u k (within_parens u behind.1) in
-    (a.0, both-append (in_parens (query_symbols first)) (Word (codes "with") ∷ in_parens (query_symbols second)) (parens_are (query_symbols first) one) (behind.0, parens_are (query_symbols second) other))
+    (a.0, append_are (in_parens (query_symbols first)) (Word (codes "with") ∷ in_parens (query_symbols second)) (parens_are (query_symbols first) one) (behind.0, parens_are (query_symbols second) other))
 form_kept (Window names) s (are, w) v = subst AreSymbols w v
 
 pub reads_again : (st : Statement) → ReadsAgain st

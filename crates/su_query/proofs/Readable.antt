@@ -1,31 +1,29 @@
 -- What is spelled as the grammar has it is read, whatever follows that doesn't carry it on.
-use Rattle.std.proofs.Common.{◌≡◌, ◌<◌, inl, inr, ℕ, Some, None, Option, List, [], ◌∷◌, ◌++◌, length, refl, ap, sym, ◌∙◌, subst, codes, append_assoc, append-nil, arith}
+use Rattle.std.proofs.Common.{◌≡◌, ◌<◌, inl, inr, ℕ, List, [], ◌∷◌, ◌++◌, length, refl, ap, sym, ◌∙◌, subst, codes, append_assoc, append-nil, arith}
 use Rattle.std.specs.List.{AllByRecursion, flat_map}
 use Rattle.su_base.specs.declared.values.Value.{Value}
 use Rattle.su_base.specs.Name.{IsName}
 use Rattle.su_lex.specs.declared.signs.Sign.TheVariants as sign
 use Rattle.su_lex.specs.declared.meaning.Symbol.{Symbol}
-use Rattle.su_lex.specs.declared.meaning.Symbol.TheVariants.{Word, Text, Sign}
-use Rattle.su_lex.specs.Names.{AreNames, Begins}
+use Rattle.su_lex.specs.declared.meaning.Symbol.TheVariants.{Word, Sign}
+use Rattle.su_lex.specs.Names.{AreNames, Begins, names_symbols}
 use Rattle.su_lex.specs.Wordings.{in_parens}
 use Rattle.su_where.specs.declared.operators.Op.{Op}
 use Rattle.su_where.specs.declared.operators.Op.TheVariants as op
 use Rattle.su_query.specs.declared.conditions.Comparison.{Comparison}
-use Rattle.su_query.specs.declared.refs.Ref.{Ref as ARef}
-use Rattle.su_query.specs.declared.refs.NamedOperand.{NamedOperand}
 use Rattle.su_query.specs.declared.refs.NamedOperand.TheVariants.{Ref, Const}
 use Rattle.su_query.specs.declared.statements.Query.{Query as AQuery}
 use Rattle.su_query.specs.declared.statements.Statement.{Statement}
 use Rattle.su_query.specs.declared.statements.Statement.TheVariants.{Insert, Delete, DeleteWhere, Load, Print, Schema, Closure, Retrieve, Explain, Certify, Support, Compare, Window}
 use Rattle.su_where.specs.declared.conditions.Condition.TheVariants.{Compare as Compared}
 use Rattle.su_query.specs.Refs.{NamedCond}
-use Rattle.su_query.specs.Operands.{op_sym, qualified, IsRef, IsOperand}
-use Rattle.su_query.specs.ShownParts.{name_symbols, value_symbols, ref_symbols, operand_symbols, comparison_symbols, listed}
+use Rattle.su_query.specs.Operands.{op_sym, IsRef, IsOperand}
+use Rattle.su_query.specs.ShownParts.{value_symbols, ref_symbols, operand_symbols, comparison_symbols, listed}
 use Rattle.su_query.specs.Grammar as g
 use Rattle.su_query.specs.Grammar.{any_of, all_of, IsCond, AreConjs, IsConj, AreFactors, IsFactor, IsPrimary}
 use Rattle.su_query.specs.Forms.{IsWhere, IsQuery, IsForm}
 use Rattle.su_query.specs.inside.ReadItems as items
-use Rattle.su_query.specs.inside.ReadItems.{ReadsName, ReadsValue, ReadsRef, ReadsOperand, More, Several}
+use Rattle.su_query.specs.inside.ReadItems.{ReadsValue, ReadsRef, ReadsOperand, More, Several}
 use Rattle.su_query.specs.inside.ReadConditions as read
 use Rattle.su_query.specs.inside.ReadConditions.{ReadsCond, ReadsConj, ReadsFactor, ReadsPrimary}
 use Rattle.su_query.specs.inside.ReadQueries as queries
@@ -33,26 +31,21 @@ use Rattle.su_query.specs.inside.ReadQueries.{ReadsWhere, ReadsQuery, ReadsEnclo
 use Rattle.su_query.specs.inside.ReadRelations.{RowForm, NamesForm}
 use Rattle.su_query.specs.inside.ReadForms as forms
 use Rattle.su_query.specs.inside.ReadForms.{ReadsForm}
+use Rattle.su_query.proofs.Items.{qualified-append}
+use Rattle.su_query.proofs.Listed.{several_names}
 use Rattle.su_query.proofs.Steps.{ReadsConjs, ReadsFactors, or_last, and_last}
 
 -- ---- names, values and refs: no dot follows
-
-append-qualified : (v : Option (List ℕ)) (x : Symbol) (r : List Symbol) → qualified v (x ∷ []) ++ r ≡ qualified v (x ∷ r)
-append-qualified None x r = refl
-append-qualified (Some v) x r = refl
 
 -- an item with this property is read from its symbols
 abbrev IsReadable : {A : Type 0} → (A → List Symbol → List Symbol → Type 0) → (A → Type 0) → (A → List Symbol) → Type 0
 IsReadable {A} Item Is symbols = (x : A) → Is x → (r : List Symbol) → ¬ (Begins (Sign sign.Dot) r) → Item x (symbols x ++ r) r
 
-name_readable : IsReadable ReadsName IsName name_symbols
-name_readable n is r no_dot = (refl, is)
-
 value_readable : IsReadable ReadsValue (λ v. Unit {0}) value_symbols
 value_readable v is r no_dot = refl
 
 ref_readable : IsReadable ReadsRef IsRef ref_symbols
-ref_readable ref is r no_dot = (append-qualified ref.variable (Word ref.attribute) r, is.0, is.1, no_dot)
+ref_readable ref is r no_dot = (qualified-append ref.variable (Word ref.attribute) r, is.0, is.1, no_dot)
 
 operand_readable : IsReadable ReadsOperand IsOperand operand_symbols
 operand_readable (Ref ref) is r no_dot = ref_readable ref is r no_dot
@@ -193,13 +186,13 @@ query_readable : (q : AQuery) (s : List Symbol) → IsQuery q s → (r : List Sy
 query_readable q s h r follows =
     let outputs = listed ref_symbols q.outputs in
     let close = Sign sign.Close ∷ [] in
-    let rest = h.rest ++ r in
+    let rest = h.condition ++ r in
     record {
       refs = outputs ++ Sign sign.Close ∷ rest;
       rest = rest;
-      begins = ap (λ x. x ++ r) h.whole ∙ ap (λ x. Word (codes "retrieve") ∷ Sign sign.Open ∷ x) (append_assoc (outputs ++ close) h.rest r ∙ append_assoc outputs close rest);
+      begins = ap (λ x. x ++ r) h.whole ∙ ap (λ x. Word (codes "retrieve") ∷ Sign sign.Open ∷ x) (append_assoc (outputs ++ close) h.condition r ∙ append_assoc outputs close rest);
       reads = several_readable ReadsRef IsRef ref_symbols ref_readable q.outputs h.some h.refs (Sign sign.Close ∷ rest) (close_stops rest);
-      wanted = where_readable q.cond h.rest h.wanted r follows;
+      wanted = where_readable q.cond h.condition h.wanted r follows;
     }
 
 query_whole : (q : AQuery) (s : List Symbol) → IsQuery q s → ReadsQuery q s []
@@ -233,15 +226,11 @@ row_readable relation row named some = record {
   reads = several_readable ReadsValue (λ v. Unit {0}) value_symbols value_readable row some (values_are row) (Sign sign.Close ∷ []) (close_stops []);
 }
 
-names_several : (names : List (List ℕ)) → AreNames names → (r : List Symbol) → Stops r → Several ReadsName names (listed name_symbols names ++ r) r
-names_several [] are r stops = absurd are
-names_several (n ∷ names) are r stops = several_readable ReadsName IsName name_symbols name_readable (n ∷ names) (omega arith) are r stops
-
-names_readable : (names : List (List ℕ)) → AreNames names → NamesForm names (in_parens (listed name_symbols names))
+names_readable : (names : List (List ℕ)) → AreNames names → NamesForm names (in_parens (names_symbols names))
 names_readable names are = record {
-  rest = listed name_symbols names ++ Sign sign.Close ∷ [];
+  rest = names_symbols names ++ Sign sign.Close ∷ [];
   begins = refl;
-  reads = names_several names are (Sign sign.Close ∷ []) (close_stops []);
+  reads = several_names names _ (Sign sign.Close ∷ []) (refl, are) (close_stops []).no_comma;
 }
 
 pub form_readable : (st : Statement) (s : List Symbol) → IsForm st s → ReadsForm st s

@@ -17,7 +17,7 @@ use Rattle.su_query.specs.ShownConditions.{ShownCond, shown_cond, cond_symbols, 
 use Rattle.su_query.specs.Shown.{is_nothing}
 use Rattle.su_query.proofs.CondShown.{shown-Compare, shown-Not, shown-All, shown-Any, nothing-Compare, nothing-Not, nothing-All, nothing-Any}
 
--- a condition's symbols are it, alone, as a part and behind `not`
+-- the symbols of a condition are this condition: alone, as a part and behind `not`
 pub record Good (c : NamedCond) : Type 0 where
   pub some : is_nothing c ≡ false
   pub bare : IsCond c (cond_symbols c)
@@ -80,7 +80,7 @@ good_compare k left right =
 
 -- ---- by the derivation
 
--- parts, one at least, whose symbols are they
+-- parts, one at least, each shown in symbols that are this part
 abbrev AreGood : List NamedCond → Type 0
 AreGood cs = (p : NamedCond) × (ps : List NamedCond) × (cs ≡ p ∷ ps) × Good p × AllByRecursion Good ps
 

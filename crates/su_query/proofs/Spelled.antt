@@ -1,34 +1,34 @@
 -- What is read is spelled as the grammar has it, in front of what is left.
-use Rattle.std.proofs.Common.{◌≡◌, ◌<◌, inl, inr, true, ℕ, Some, None, Option, List, [], ◌∷◌, ◌++◌, length, refl, ap, sym, ◌∙◌, subst, codes, append_assoc, append-nil, arith}
+use Rattle.std.proofs.Common.{◌≡◌, ◌<◌, inl, inr, true, ℕ, List, [], ◌∷◌, ◌++◌, length, refl, ap, sym, ◌∙◌, subst, codes, append_assoc, append-nil, arith}
 use Rattle.std.specs.List.{AllByRecursion, flat_map}
 use Rattle.su_base.specs.declared.values.Value.{Value}
 use Rattle.su_base.specs.Name.{IsName}
 use Rattle.su_lex.specs.declared.signs.Sign.TheVariants as sign
 use Rattle.su_lex.specs.declared.meaning.Symbol.{Symbol}
 use Rattle.su_lex.specs.declared.meaning.Symbol.TheVariants.{Word, Sign}
-use Rattle.su_lex.specs.Names.{AreNames}
+use Rattle.su_lex.specs.Names.{AreNames, names_symbols}
 use Rattle.su_lex.specs.Wordings.{in_parens}
-use Rattle.su_query.specs.declared.refs.Ref.{Ref as ARef}
-use Rattle.su_query.specs.declared.refs.NamedOperand.{NamedOperand}
 use Rattle.su_query.specs.declared.refs.NamedOperand.TheVariants.{Ref, Const}
 use Rattle.su_query.specs.declared.statements.Query.{Query as AQuery}
 use Rattle.su_query.specs.declared.statements.Statement.{Statement}
 use Rattle.su_query.specs.Refs.{NamedCond}
 use Rattle.su_query.specs.Mentions.{are_columns}
-use Rattle.su_query.specs.Operands.{op_sym, qualified, IsRef, IsOperand}
-use Rattle.su_query.specs.ShownParts.{name_symbols, value_symbols, ref_symbols, operand_symbols, listed}
+use Rattle.su_query.specs.Operands.{op_sym, IsRef, IsOperand}
+use Rattle.su_query.specs.ShownParts.{value_symbols, ref_symbols, operand_symbols, listed}
 use Rattle.su_query.specs.Grammar as g
-use Rattle.su_query.specs.Grammar.{any_of, all_of, IsCond, AreConjs, IsConj, AreFactors, IsFactor, IsPrimary}
+use Rattle.su_query.specs.Grammar.{IsCond, AreConjs, IsConj, AreFactors, IsFactor, IsPrimary}
 use Rattle.su_query.specs.Forms.{IsWhere, IsQuery, IsForm}
 use Rattle.su_query.specs.inside.ReadItems as items
-use Rattle.su_query.specs.inside.ReadItems.{ReadsName, ReadsValue, ReadsRef, ReadsOperand, More, Several}
+use Rattle.su_query.specs.inside.ReadItems.{ReadsValue, ReadsRef, ReadsOperand, More, Several}
 use Rattle.su_query.specs.inside.ReadConditions as read
 use Rattle.su_query.specs.inside.ReadConditions.{ReadsCond, ReadsOrs, ReadsConj, ReadsAnds, ReadsFactor, ReadsPrimary, ReadsComparison, compared}
 use Rattle.su_query.specs.inside.ReadQueries as queries
 use Rattle.su_query.specs.inside.ReadQueries.{ReadsWhere, ReadsQuery, ReadsEnclosed, PairForm}
-use Rattle.su_query.specs.inside.ReadRelations.{RowForm, ConditionForm, FileForm, NamesForm}
+use Rattle.su_query.specs.inside.ReadRelations.{RowForm, ConditionForm, NamesForm}
 use Rattle.su_query.specs.inside.ReadForms as forms
 use Rattle.su_query.specs.inside.ReadForms.{ReadsForm}
+use Rattle.su_query.proofs.Items.{qualified-append}
+use Rattle.su_query.proofs.Listed.{names_front}
 
 -- symbols in front that are this, and what is left behind them
 record Front (Is : List Symbol → Type 0) (s r : List Symbol) : Type 0 where
@@ -38,22 +38,15 @@ record Front (Is : List Symbol → Type 0) (s r : List Symbol) : Type 0 where
 
 -- ---- names, values and refs
 
-qualified-append : (v : Option (List ℕ)) (x : Symbol) (r : List Symbol) → qualified v (x ∷ r) ≡ qualified v (x ∷ []) ++ r
-qualified-append None x r = refl
-qualified-append (Some v) x r = refl
-
 -- an item has this property, and its symbols are in front
 abbrev IsSpelled : {A : Type 0} → (A → List Symbol → List Symbol → Type 0) → (A → Type 0) → (A → List Symbol) → Type 0
 IsSpelled {A} Item Is symbols = (x : A) (s r : List Symbol) → Item x s r → Is x × (s ≡ symbols x ++ r)
-
-name_spelled : IsSpelled ReadsName IsName name_symbols
-name_spelled n s r h = (h.1, h.0)
 
 value_spelled : IsSpelled ReadsValue (λ v. Unit {0}) value_symbols
 value_spelled v s r h = (tt, h)
 
 ref_spelled : IsSpelled ReadsRef IsRef ref_symbols
-ref_spelled ref s r h = ((h.1, h.2), h.0 ∙ qualified-append ref.variable (Word ref.attribute) r)
+ref_spelled ref s r h = ((h.1, h.2), h.0 ∙ sym (qualified-append ref.variable (Word ref.attribute) r))
 
 operand_spelled : IsSpelled ReadsOperand IsOperand operand_symbols
 operand_spelled (Ref ref) s r h = ref_spelled ref s r h
@@ -169,7 +162,7 @@ query_spelled q s r h =
     let close = Sign sign.Close ∷ [] in
     record {
       front = Word (codes "retrieve") ∷ (in_parens outputs ++ w.front);
-      is = record { some = refs.0; refs = refs.1; rest = w.front; wanted = w.is; whole = refl };
+      is = record { some = refs.0; refs = refs.1; condition = w.front; wanted = w.is; whole = refl };
       whole = h.begins ∙ ap (λ x. Word (codes "retrieve") ∷ Sign sign.Open ∷ x)
           (refs.2 ∙ ap (λ x. outputs ++ Sign sign.Close ∷ x) w.whole ∙ sym (append_assoc outputs close (w.front ++ r)) ∙ sym (append_assoc (outputs ++ close) w.front r));
     }
@@ -193,14 +186,10 @@ module _ (w : Symbol) (s t : List Symbol) (begins : s ≡ w ∷ t) where
       let p = several_spelled ReadsValue (λ v. Unit {0}) value_symbols value_spelled row h.values (Sign sign.Close ∷ []) h.reads in
       (h.named, p.0, begins ∙ ap (λ x. w ∷ x) (h.begins ∙ ap (λ x. Word relation ∷ Sign sign.Open ∷ x) p.2))
 
-  are_names : (names : List (List ℕ)) → 0 < length names → AllByRecursion IsName names → AreNames names
-  are_names [] some are = absurd (omega (arith, some))
-  are_names (n ∷ names) some are = are
-
-  names_spelled : (names : List (List ℕ)) → NamesForm names t → AreNames names × (s ≡ w ∷ in_parens (listed name_symbols names))
+  names_spelled : (names : List (List ℕ)) → NamesForm names t → AreNames names × (s ≡ w ∷ in_parens (names_symbols names))
   names_spelled names h =
-      let p = several_spelled ReadsName IsName name_symbols name_spelled names h.rest (Sign sign.Close ∷ []) h.reads in
-      (are_names names p.0 p.1, begins ∙ ap (λ x. w ∷ x) (h.begins ∙ ap (λ x. Sign sign.Open ∷ x) p.2))
+      let p = names_front names h.rest (Sign sign.Close ∷ []) h.reads in
+      (p.1, begins ∙ ap (λ x. w ∷ x) (h.begins ∙ ap (λ x. Sign sign.Open ∷ x) p.0))
 
   condition_spelled : (relation : List ℕ) (c : NamedCond) → ConditionForm relation c t
       → IsName relation × (are_columns c ≡ true) × (u : List Symbol) × IsCond c u × (s ≡ w ∷ Word relation ∷ Word (codes "where") ∷ u)

@@ -5,7 +5,7 @@ use Rattle.std.specs.List.{AllByRecursion}
 use Rattle.su_base.specs.Name.{IsName}
 use Rattle.su_lex.specs.declared.meaning.Symbol.{Symbol}
 use Rattle.su_lex.specs.declared.meaning.Symbol.TheVariants.{Word, Text}
-use Rattle.su_lex.specs.Names.{AreNames}
+use Rattle.su_lex.specs.Names.{AreNames, names_symbols}
 use Rattle.su_lex.specs.Wordings.{in_parens}
 use Rattle.su_where.specs.declared.conditions.Condition.TheVariants.{All}
 use Rattle.su_query.specs.declared.statements.Query.{Query as AQuery}
@@ -14,10 +14,10 @@ use Rattle.su_query.specs.declared.statements.Statement.TheVariants.{Insert, Del
 use Rattle.su_query.specs.Refs.{NamedCond}
 use Rattle.su_query.specs.Mentions.{are_columns}
 use Rattle.su_query.specs.Operands.{IsRef}
-use Rattle.su_query.specs.ShownParts.{name_symbols, value_symbols, ref_symbols, listed}
+use Rattle.su_query.specs.ShownParts.{value_symbols, ref_symbols, listed}
 use Rattle.su_query.specs.Grammar.{IsCond}
 
--- [ "where" cond ]
+-- [ "where" cond ]; without it the condition is all of nothing
 abbrev pub IsWhere : NamedCond → List Symbol → Type 0
 IsWhere c s = ((c ≡ All []) × (s ≡ [])) ⊎ ((t : List Symbol) × IsCond c t × (s ≡ Word (codes "where") ∷ t))
 
@@ -25,9 +25,9 @@ IsWhere c s = ((c ≡ All []) × (s ≡ [])) ⊎ ((t : List Symbol) × IsCond c 
 pub record IsQuery (q : AQuery) (s : List Symbol) : Type 0 where
   pub some : 0 < length q.outputs
   pub refs : AllByRecursion IsRef q.outputs
-  pub rest : List Symbol
-  pub wanted : IsWhere q.cond rest
-  pub whole : s ≡ Word (codes "retrieve") ∷ (in_parens (listed ref_symbols q.outputs) ++ rest)
+  pub condition : List Symbol
+  pub wanted : IsWhere q.cond condition
+  pub whole : s ≡ Word (codes "retrieve") ∷ (in_parens (listed ref_symbols q.outputs) ++ condition)
 
 -- the symbols are this statement
 abbrev pub IsForm : Statement → List Symbol → Type 0
@@ -37,10 +37,10 @@ IsForm (DeleteWhere relation c) s = IsName relation × (are_columns c ≡ true) 
 IsForm (Load relation file) s = IsName relation × (s ≡ Word (codes "load") ∷ Word relation ∷ Word (codes "from") ∷ Text file ∷ [])
 IsForm (Print relation) s = IsName relation × (s ≡ Word (codes "print") ∷ Word relation ∷ [])
 IsForm Schema s = s ≡ Word (codes "schema") ∷ []
-IsForm (Closure names) s = AreNames names × (s ≡ Word (codes "closure") ∷ in_parens (listed name_symbols names))
+IsForm (Closure names) s = AreNames names × (s ≡ Word (codes "closure") ∷ in_parens (names_symbols names))
 IsForm (Retrieve q) s = IsQuery q s
 IsForm (Explain q) s = (t : List Symbol) × IsQuery q t × (s ≡ Word (codes "explain") ∷ t)
 IsForm (Certify q) s = (t : List Symbol) × IsQuery q t × (s ≡ Word (codes "explain") ∷ Word (codes "with") ∷ t)
 IsForm (Support q) s = (t : List Symbol) × IsQuery q t × (s ≡ Word (codes "explain") ∷ Word (codes "from") ∷ t)
 IsForm (Compare first second) s = (t : List Symbol) × (u : List Symbol) × IsQuery first t × IsQuery second u × (s ≡ Word (codes "compare") ∷ (in_parens t ++ Word (codes "with") ∷ in_parens u))
-IsForm (Window names) s = AreNames names × (s ≡ Word (codes "window") ∷ in_parens (listed name_symbols names))
+IsForm (Window names) s = AreNames names × (s ≡ Word (codes "window") ∷ in_parens (names_symbols names))

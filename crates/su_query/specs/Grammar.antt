@@ -11,12 +11,12 @@ use Rattle.su_query.specs.Refs.{NamedCond}
 use Rattle.su_query.specs.Operands.{IsOperand}
 use Rattle.su_query.specs.ShownParts.{comparison_symbols}
 
--- parts make a node only where they are several
+-- any of the parts; one part alone is itself
 abbrev pub any_of : List NamedCond → NamedCond
 any_of (c ∷ []) = c
 any_of cs = Any cs
 
--- one condition stands for itself
+-- all of the parts; one part alone is itself
 abbrev pub all_of : List NamedCond → NamedCond
 all_of (c ∷ []) = c
 all_of cs = All cs

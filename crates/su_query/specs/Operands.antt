@@ -32,12 +32,12 @@ abbrev pub qualified : Option (List ℕ) → List Symbol → List Symbol
 qualified None s = s
 qualified (Some variable) s = Word variable ∷ Sign sign.Dot ∷ s
 
--- no variable, or one whose name is a name
+-- no variable, or a name
 abbrev pub IsVariable : Option (List ℕ) → Type 0
 IsVariable None = Unit {0}
 IsVariable (Some variable) = IsName variable
 
--- its variable and its attribute have names
+-- its attribute is a name, and so is its variable where it has one
 abbrev pub IsRef : ARef → Type 0
 IsRef ref = IsVariable ref.variable × IsName ref.attribute
 

@@ -5,7 +5,7 @@ use Rattle.std.specs.Ordering.{nat_cmp}
 use Rattle.std.specs.FinSet.{FinSet, from_list}
 use Rattle.su_schema.specs.SchemaValue.{SchemaValue}
 use Rattle.su_schema.specs.Entries.{attribute_names}
-use Rattle.su_schema.specs.Known.{number_of}
+use Rattle.su_schema.specs.Definitions.{numbers_of}
 use Rattle.su_query.specs.declared.places.Place.{Place}
 use Rattle.su_query.specs.declared.faults.QueryFault.{QueryFault}
 use Rattle.su_query.specs.declared.faults.QueryFault.TheVariants.{Unknown}
@@ -13,7 +13,7 @@ use Rattle.su_query.specs.Scopes.{first_unknown_name}
 
 -- the attributes with these names
 abbrev pub attributes_named : SchemaValue → List (List ℕ) → FinSet nat_cmp
-attributes_named schema names = from_list (map (number_of (attribute_names schema)) names)
+attributes_named schema names = numbers_of (attribute_names schema) names
 
 -- why names are refused: the first of them that is not known
 abbrev pub IsNameRefusal : SchemaValue → List (List ℕ) → QueryFault → Type 0

@@ -3,6 +3,7 @@
 use Rattle.std.specs.Prelude.{ℕ, Bool, false, ◌==◌, if◌then◌else◌, codes, List, [], ◌∷◌, ◌++◌, length}
 use Rattle.su_lex.specs.declared.meaning.Symbol.{Symbol}
 use Rattle.su_lex.specs.declared.meaning.Symbol.TheVariants.{Word, Text}
+use Rattle.su_lex.specs.Names.{names_symbols}
 use Rattle.su_lex.specs.Spelling.{spaced}
 use Rattle.su_query.specs.declared.conditions.Comparison.{Comparison}
 use Rattle.su_query.specs.Refs.{NamedCond}
@@ -11,7 +12,7 @@ use Rattle.su_where.specs.declared.conditions.Condition.TheFolds.{fold-Condition
 use Rattle.su_query.specs.declared.statements.Query.{Query}
 use Rattle.su_query.specs.declared.statements.Statement.{Statement}
 use Rattle.su_query.specs.declared.statements.Statement.TheVariants.{Insert, Delete, DeleteWhere, Load, Print, Schema, Closure, Retrieve, Explain, Certify, Support, Compare as Comparing, Window}
-use Rattle.su_query.specs.ShownParts.{name_symbols, value_symbols, ref_symbols, listed}
+use Rattle.su_query.specs.ShownParts.{value_symbols, ref_symbols, listed}
 use Rattle.su_lex.specs.Wordings.{in_parens}
 use Rattle.su_query.specs.ShownConditions.{cond_symbols}
 
@@ -42,13 +43,13 @@ statement_symbols (DeleteWhere relation cond) = Word (codes "delete") ∷ Word r
 statement_symbols (Load relation file) = Word (codes "load") ∷ Word relation ∷ Word (codes "from") ∷ Text file ∷ []
 statement_symbols (Print relation) = Word (codes "print") ∷ Word relation ∷ []
 statement_symbols Schema = Word (codes "schema") ∷ []
-statement_symbols (Closure attributes) = Word (codes "closure") ∷ in_parens (listed name_symbols attributes)
+statement_symbols (Closure attributes) = Word (codes "closure") ∷ in_parens (names_symbols attributes)
 statement_symbols (Retrieve q) = query_symbols q
 statement_symbols (Explain q) = Word (codes "explain") ∷ query_symbols q
 statement_symbols (Certify q) = Word (codes "explain") ∷ Word (codes "with") ∷ query_symbols q
 statement_symbols (Support q) = Word (codes "explain") ∷ Word (codes "from") ∷ query_symbols q
 statement_symbols (Comparing first second) = Word (codes "compare") ∷ (in_parens (query_symbols first) ++ Word (codes "with") ∷ in_parens (query_symbols second))
-statement_symbols (Window attributes) = Word (codes "window") ∷ in_parens (listed name_symbols attributes)
+statement_symbols (Window attributes) = Word (codes "window") ∷ in_parens (names_symbols attributes)
 
 -- the text of a query
 abbrev pub query_text : Query → List ℕ

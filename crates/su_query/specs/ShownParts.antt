@@ -1,6 +1,6 @@
--- The symbols of names, values, refs and comparisons.
+-- The symbols of values, refs and comparisons.
 -- listed: with a comma between two
-use Rattle.std.specs.Prelude.{ℕ, List, [], ◌∷◌, ◌++◌, flat_map}
+use Rattle.std.specs.Prelude.{List, [], ◌∷◌, ◌++◌, flat_map}
 use Rattle.su_base.specs.declared.values.Value.{Value}
 use Rattle.su_lex.specs.declared.signs.Sign.TheVariants as sign
 use Rattle.su_lex.specs.declared.meaning.Symbol.{Symbol}
@@ -10,10 +10,6 @@ use Rattle.su_query.specs.declared.refs.NamedOperand.{NamedOperand}
 use Rattle.su_query.specs.declared.refs.NamedOperand.TheVariants.{Ref, Const}
 use Rattle.su_query.specs.declared.conditions.Comparison.{Comparison}
 use Rattle.su_query.specs.Operands.{value_sym, op_sym, qualified}
-
--- the symbol of a name
-abbrev pub name_symbols : List ℕ → List Symbol
-name_symbols name = Word name ∷ []
 
 -- the symbol of a value
 abbrev pub value_symbols : Value → List Symbol

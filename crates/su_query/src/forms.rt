@@ -1,4 +1,4 @@
-//! The forms of statements. Each reads to the end of the symbols.
+//! The forms of statements. Each statement is read to the end of the symbols.
 ghost use Rattle.std.specs.Prelude.{◌≡◌, ℕ, ◌∷◌, codes, IfOk, IsErrOf, List as Items};
 ghost use Rattle.su_base.specs.declared.values.Value.{Value as AValue};
 ghost use Rattle.su_lex.specs.declared.meaning.Symbol.{Symbol as ASymbol};

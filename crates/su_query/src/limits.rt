@@ -3,7 +3,7 @@ ghost use Rattle.std.specs.Prelude.{◌≡◌, ◌⊎◌, ◌<◌, ◌≤◌, tr
 ghost use Rattle.su_where.specs.declared.conditions.Condition.TheVariants.{All};
 ghost use Rattle.su_query.specs.Refs.{NamedCond as ACond};
 ghost use Rattle.su_query.specs.Limits.{AreFew, HasFew, Passes, PartsPass, plain_ref, variable_count, parts_of};
-ghost use Rattle.su_query.specs.inside.Comparing.{Compares};
+ghost use Rattle.su_query.specs.inside.Comparing.{HasComparisons};
 
 use crate::conditions::{Comparison, NamedCond};
 use crate::faults::{QueryFault, QueryLimit};
@@ -19,8 +19,8 @@ fn has_few_variables(
     outputs: &[Ref],
     compared: &[&Comparison],
 ) -> Result<bool, NoMemory>
-    ensures few { IfOk result (λ few. (cond : ACond) → Compares cond compared.now → few ≡ true → variable_count outputs.now cond ≤ 8) }
-    ensures many { IfOk result (λ few. (cond : ACond) → Compares cond compared.now → few ≡ false → 8 < variable_count outputs.now cond) }
+    ensures few { IfOk result (λ few. (cond : ACond) → HasComparisons cond compared.now → few ≡ true → variable_count outputs.now cond ≤ 8) }
+    ensures many { IfOk result (λ few. (cond : ACond) → HasComparisons cond compared.now → few ≡ false → 8 < variable_count outputs.now cond) }
 {
     let refs = references(alloc, outputs, compared)?;
     have_few_variables(alloc, refs.as_slice())

@@ -1,7 +1,8 @@
 //! The symbols of names, values, refs and lists of them, added at the end of a list.
 ghost use Rattle.std.specs.Prelude.{◌≡◌, ◌<◌, [], ◌∷◌, ◌++◌, IfOk, OnOk, if◌then◌else◌};
+ghost use Rattle.su_lex.specs.Names.{names_symbols};
 ghost use Rattle.su_query.specs.Operands.{op_sym, value_sym};
-ghost use Rattle.su_query.specs.ShownParts.{name_symbols, value_symbols, ref_symbols, operand_symbols, listed};
+ghost use Rattle.su_query.specs.ShownParts.{value_symbols, ref_symbols, operand_symbols, listed};
 
 use crate::refs::{NamedOperand, Ref};
 use std::alloc::Global;
@@ -105,7 +106,7 @@ pub(crate) fn push_names(
     out: &mut List<Symbol>,
     names: &[Str],
 ) -> Result<(), NoMemory>
-    ensures { OnOk result (out.new ≡ out.old ++ listed name_symbols names.now) }
+    ensures { OnOk result (out.new ≡ out.old ++ names_symbols names.now) }
 {
     for (i, name) in names.iter().enumerate() {
         push_sign_if(out, i > 0, Sign::Comma)?;

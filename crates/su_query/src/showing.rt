@@ -1,11 +1,12 @@
 //! Statements as text.
 ghost use Rattle.std.specs.Prelude.{◌≡◌, [], ◌∷◌, ◌++◌, map, IfOk, OnOk};
+ghost use Rattle.su_lex.specs.Names.{names_symbols};
 ghost use Rattle.su_lex.specs.Spelling.{spaced};
 ghost use Rattle.su_query.specs.StatementTexts.{ReadsAgain};
 ghost use Rattle.su_query.specs.ShownConditions.{cond_symbols, joined, shown_cond};
 ghost use Rattle.su_lex.specs.Wordings.{in_parens};
 ghost use Rattle.su_query.specs.Shown.{is_nothing, query_symbols, query_text, statement_symbols, statement_text, where_symbols};
-ghost use Rattle.su_query.specs.ShownParts.{comparison_symbols, listed, name_symbols, value_symbols};
+ghost use Rattle.su_query.specs.ShownParts.{comparison_symbols, listed, value_symbols};
 
 use crate::conditions::{Comparison, NamedCond};
 use crate::pushing::{
@@ -170,7 +171,7 @@ fn push_named(
     word: &str,
     names: &[Str],
 ) -> Result<(), NoMemory>
-    ensures { OnOk result (out.new ≡ out.old ++ Symbol.Word word.now ∷ in_parens (listed name_symbols names.now)) }
+    ensures { OnOk result (out.new ≡ out.old ++ Symbol.Word word.now ∷ in_parens (names_symbols names.now)) }
 {
     push_word(alloc, out, word)?;
     push_sign(out, Sign::Open)?;

@@ -17,7 +17,7 @@ use Rattle.su_session.specs.declared.commands.Command.{Command}
 use Rattle.su_session.specs.declared.commands.Command.TheVariants.{Definition, Statement, Refused}
 use Rattle.su_session.specs.declared.replies.Reply.{Reply}
 use Rattle.su_session.specs.Commands.{IsRead}
-use Rattle.su_session.specs.Reply.{AddsDefinition, Replied, IsDefining, begins_definition}
+use Rattle.su_session.specs.Reply.{AddsDefinition, Replied, definition, statement, IsDefining, begins_definition}
 use Rattle.su_session.specs.WantedFiles.{IsLoad}
 use Rattle.su_session.specs.Statements.{Answers}
 use Rattle.su_session.specs.RowStatements.{relation_number}
@@ -53,14 +53,14 @@ ready text st is = form_ready st is.symbols is.form
 
 module _ (db new : DatabaseValue) (text : List ℕ) (file : Option (List ℕ)) (reply : Reply) where
   pub replied_definition : (d : ADefinition) → IsRead text (Definition d) → AddsDefinition db d reply new → Replied db text file reply new
-  replied_definition d is adds = inl (is.0, inr (d, is.1, adds))
+  replied_definition d is adds = definition is.0 (inr (d, is.1, adds))
 
   pub replied_statement : (st : AStatement) → IsRead text (Statement st) → Answers db (unwrap_or file []) st reply new → Replied db text file reply new
-  replied_statement st is answers = inr (is.0, inr (st, is.1, is.2, answers))
+  replied_statement st is answers = statement is.0 (inr (st, is.1, is.2, answers))
 
   pub replied_refusal : (fault : QueryFault) → IsRead text (Refused fault) → Refuses db (Query fault) reply new → Replied db text file reply new
-  replied_refusal fault (inl (defining, syntax, none)) refuses = inl (defining, inl (none, subst (λ (f : QueryFault). Refuses db (Query f) reply new) syntax refuses))
-  replied_refusal fault (inr (other, refusal)) refuses = inr (other, inl (fault, refusal, refuses))
+  replied_refusal fault (inl (defining, syntax, none)) refuses = definition defining (inl (none, subst (λ (f : QueryFault). Refuses db (Query f) reply new) syntax refuses))
+  replied_refusal fault (inr (other, refusal)) refuses = statement other (inl (fault, refusal, refuses))
 
 -- ---- the file that it wants is that of the text
 

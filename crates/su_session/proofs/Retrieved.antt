@@ -11,7 +11,7 @@ use Rattle.su_state.specs.DatabaseValue.{DatabaseValue}
 use Rattle.su_show.specs.declared.statement_refusal.Refusal.{Refusal}
 use Rattle.su_session.specs.declared.replies.Reply.{Reply}
 use Rattle.su_session.specs.Outcomes.{Refuses}
-use Rattle.su_session.specs.Reply.{RepliesStatement, Replied}
+use Rattle.su_session.specs.Reply.{RepliesStatement, Replied, definition, statement}
 use Rattle.su_session.specs.Statements.{Answers}
 use Rattle.su_session.specs.Retrievals.{Retrieves}
 use Rattle.su_session.specs.Laws.{RetrieveIsAnswered}
@@ -32,5 +32,5 @@ answered db new text file q reply is (inr (st, other, few, answers)) accepted =
     retrieved db new q reply (subst (λ (s : Statement). Answers db file s reply new) (statement_unique text (Retrieve q) st is other) answers) accepted
 
 pub retrieves_answered : (db new : DatabaseValue) (text : List ℕ) (file : Option (List ℕ)) (q : AQuery) (reply : Reply) → IsStatement text (Retrieve q) → Replied db text file reply new → reply.refused ≡ false → RetrieveIsAnswered db q reply new
-retrieves_answered db new text file q reply is (inl (defining, definition)) accepted = absurd (no_definition text (Retrieve q) is defining)
-retrieves_answered db new text file q reply is (inr (other, replied)) accepted = answered db new text (unwrap_or file []) q reply is replied accepted
+retrieves_answered db new text file q reply is (definition defining replied) accepted = absurd (no_definition text (Retrieve q) is defining)
+retrieves_answered db new text file q reply is (statement other replied) accepted = answered db new text (unwrap_or file []) q reply is replied accepted

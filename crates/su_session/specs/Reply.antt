@@ -50,6 +50,6 @@ RepliesStatement db text file reply new =
     ⊎ ((st : Statement) × IsStatement text st × HasFew st × Answers db file st reply new)
 
 -- the reply to a text; without a file an empty one is read
-abbrev pub Replied : DatabaseValue → List ℕ → Option (List ℕ) → Reply → DatabaseValue → Type 0
-Replied db text file reply new =
-    (IsDefining text × RepliesDefinition db text reply new) ⊎ ((¬ IsDefining text) × RepliesStatement db text (unwrap_or file []) reply new)
+pub data Replied (db : DatabaseValue) (text : List ℕ) (file : Option (List ℕ)) (reply : Reply) (new : DatabaseValue) : Type 0 where
+  definition : IsDefining text → RepliesDefinition db text reply new → Replied db text file reply new
+  statement : ¬ (IsDefining text) → RepliesStatement db text (unwrap_or file []) reply new → Replied db text file reply new

@@ -1,6 +1,6 @@
 -- Attributes of XML as they are handed to a writer.
 -- No public contract cites this module.
-use Rattle.std.specs.Prelude.{ℕ, List, map}
+use Rattle.std.specs.Prelude.{List, map}
 use Rattle.su_draw.specs.declared.elements.Pair.{Pair}
 use Rattle.su_draw.specs.declared.elements.Pair.TheVariants.{Number, Word}
 use Rattle.su_draw.specs.Xml.{Attribute}

@@ -12,6 +12,7 @@ use Rattle.su_exec.specs.declared.merging.Merged.TheVariants.{Whole, Over, Nothi
 use Rattle.su_exec.specs.inside.Checks.{check_vars}
 use Rattle.su_exec.specs.inside.Edges.{Edge, FitsAll, Keeps, among, always, has}
 use Rattle.su_reduce.specs.Sheets.{AllDiffer}
+use Rattle.su_rel.specs.MoreThan.{AreMoreThan}
 use Rattle.su_exec.specs.inside.Joins.{IsUpTo}
 
 -- each needed variable, and each that a check compares, is in an edge
@@ -37,13 +38,11 @@ pub record IsGiven (vars : List ℕ) (es : List (Edge ℕ)) (s : (ℕ → ℕ) �
 abbrev pub IsEmpty : List (Edge ℕ) → ((ℕ → ℕ) → Bool) → Type 0
 IsEmpty es s = (v : ℕ → ℕ) → FitsAll v es → s v ≡ true → ⊥
 
--- the body gives the variables more lists of codes than the bound: those numbered from 0 to it, all different
+-- there is a bound, and the body gives the variables more lists of codes than it
 pub record HasMore (vars : List ℕ) (most : Option ℕ) (es : List (Edge ℕ)) (s : (ℕ → ℕ) → Bool) : Type 0 where
-  pub codes : ℕ → List ℕ
   pub bound : ℕ
   pub is : most ≡ Some bound
-  pub given : (i : ℕ) → i ≤ bound → IsGiven vars es s (codes i)
-  pub differ : (i j : ℕ) → i < j → j ≤ bound → ¬ (codes i ≡ codes j)
+  pub many : AreMoreThan bound (IsGiven vars es s)
 
 -- more rows than the bound over needed variables, each of which a valuation of the body gives for each of the rest
 pub record IsOver (needed : List ℕ) (most : Option ℕ) (es : List (Edge ℕ)) (s : (ℕ → ℕ) → Bool) (rest : List (Edge ℕ)) (u : (ℕ → ℕ) → Bool) : Type 0 where

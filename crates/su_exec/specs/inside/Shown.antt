@@ -16,6 +16,7 @@ use Rattle.su_exec.specs.declared.checks.Spot.{Spot}
 use Rattle.su_exec.specs.declared.tasks.Compared.{Compared}
 use Rattle.su_exec.specs.inside.Checks.{HasTerm, IsSpotIn, code_of, spot_code, vars_of}
 use Rattle.su_reduce.specs.Codes.{decode}
+use Rattle.su_rel.specs.MoreThan.{AreMoreThan}
 use Rattle.su_exec.specs.inside.Edges.{Edge, Fits, has}
 
 -- the term stands for the symbol
@@ -64,12 +65,6 @@ pub record IsShown (values : List Value) (e : Edge ℕ) (terms : List CodedSymbo
   pub fits : Fits valuation e
   pub gives : term_values values terms valuation ≡ h
 
--- more than n lists of values are shown
-pub record ShowsMore (values : List Value) (e : Edge ℕ) (terms : List CodedSymbol) (n : ℕ) : Type 0 where
-  pub shown : ℕ → List Value
-  pub each : (i : ℕ) → i ≤ n → IsShown values e terms (shown i)
-  pub differ : (i j : ℕ) → i < j → j ≤ n → ¬ (shown i ≡ shown j)
-
 -- what a merged body is has each variable of the terms
 abbrev pub HasVars : List CodedSymbol → Merged → Type 0
 HasVars terms (Whole g) = (k : ℕ) → has (term_vars terms) k ≡ true → has g.vars k ≡ true
@@ -84,6 +79,6 @@ IsShownBy values terms Nothing rows = rows ≡ []
 
 -- a merged body shows more than n lists of values, or was found to do so
 abbrev pub IsMoreBy : List Value → List CodedSymbol → ℕ → Merged → Type 0
-IsMoreBy values terms n (Whole g) = ShowsMore values g terms n
+IsMoreBy values terms n (Whole g) = AreMoreThan n (IsShown values g terms)
 IsMoreBy values terms n Over = Unit {0}
 IsMoreBy values terms n Nothing = ⊥

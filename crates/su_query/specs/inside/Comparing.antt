@@ -7,5 +7,5 @@ use Rattle.su_query.specs.declared.conditions.Comparison.{Comparison}
 use Rattle.su_query.specs.Refs.{NamedCond}
 
 -- the condition has these comparisons, from left to right
-abbrev pub Compares : NamedCond → List (Bor Comparison) → Type 0
-Compares cond compared = comparisons_of cond ≡ map (λ k. k.now) compared
+abbrev pub HasComparisons : NamedCond → List (Bor Comparison) → Type 0
+HasComparisons cond compared = comparisons_of cond ≡ map (λ k. k.now) compared

@@ -30,6 +30,7 @@ mutual
   pub data ReadsCond : NamedCond → List Symbol → List Symbol → Type 0 where
     cond : (c d : NamedCond) (ds : List NamedCond) (s t r : List Symbol) → c ≡ any_of (d ∷ ds) → ReadsConj d s t → ReadsOrs ds t r → ReadsCond c s r
 
+  -- { "or" conj }, as many as there are
   pub data ReadsOrs : List NamedCond → List Symbol → List Symbol → Type 0 where
     no_or : (cs : List NamedCond) (s r : List Symbol) → cs ≡ [] → s ≡ r → ¬ (Begins (Word (codes "or")) s) → ReadsOrs cs s r
     one_or : (cs : List NamedCond) (d : NamedCond) (ds : List NamedCond) (s t u r : List Symbol) → cs ≡ d ∷ ds → s ≡ Word (codes "or") ∷ t → ReadsConj d t u → ReadsOrs ds u r → ReadsOrs cs s r
@@ -38,6 +39,7 @@ mutual
   pub data ReadsConj : NamedCond → List Symbol → List Symbol → Type 0 where
     conj : (c d : NamedCond) (ds : List NamedCond) (s t r : List Symbol) → c ≡ all_of (d ∷ ds) → ReadsFactor d s t → ReadsAnds ds t r → ReadsConj c s r
 
+  -- { "and" factor }, as many as there are
   pub data ReadsAnds : List NamedCond → List Symbol → List Symbol → Type 0 where
     no_and : (cs : List NamedCond) (s r : List Symbol) → cs ≡ [] → s ≡ r → ¬ (Begins (Word (codes "and")) s) → ReadsAnds cs s r
     one_and : (cs : List NamedCond) (d : NamedCond) (ds : List NamedCond) (s t u r : List Symbol) → cs ≡ d ∷ ds → s ≡ Word (codes "and") ∷ t → ReadsFactor d t u → ReadsAnds ds u r → ReadsAnds cs s r

@@ -12,7 +12,7 @@ use Rattle.su_query.specs.Refs.{NamedCond}
 use Rattle.su_query.specs.inside.ReadRelations.{RowForm, ConditionForm, FileForm, NamesForm}
 use Rattle.su_query.specs.inside.ReadQueries.{QueryForm, PairForm}
 
--- the symbols are this statement
+-- the symbols are read as this statement, to their end
 pub data ReadsForm : Statement → List Symbol → Type 0 where
   insert : (st : Statement) (relation : List ℕ) (row : List Value) (s t : List Symbol) → st ≡ Insert relation row → s ≡ Word (codes "insert") ∷ t → RowForm relation row t → ReadsForm st s
   delete : (st : Statement) (relation : List ℕ) (row : List Value) (s t : List Symbol) → st ≡ Delete relation row → s ≡ Word (codes "delete") ∷ t → RowForm relation row t → ReadsForm st s

@@ -1,5 +1,5 @@
 -- How statements on one relation are read, and lists of names.
--- row form: INSERT or DELETE, a name and values in parentheses
+-- row form: what follows `insert` or `delete`: a name, and values in parentheses
 -- No public contract cites this module.
 use Rattle.std.specs.Prelude.{◌≡◌, true, ℕ, codes, List, [], ◌∷◌}
 use Rattle.su_base.specs.declared.values.Value.{Value}

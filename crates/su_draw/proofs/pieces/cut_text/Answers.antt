@@ -1,3 +1,4 @@
+-- What has been cut of a text is put together to that text again.
 use Rattle.std.proofs.Common.{arith}
 use Rattle.std.proofs.lemmas.Grind.{common_steps}
 use Rattle.su_draw.proofs.Lossless.{cut_of-text}

@@ -1,6 +1,6 @@
-use Rattle.std.proofs.Common.{◌≡◌, ◌&&◌, ℕ, Bool, subst, false, IfErr}
+-- A line that can't stand there is the first one, since those before it were read; a text that ends too soon is at fault in the line behind its last.
+use Rattle.std.proofs.Common.{◌≡◌, ◌&&◌, Bool, subst, false, IfErr}
 use Rattle.su_draw.specs.Order.{may_end}
-use Rattle.su_draw.specs.declared.reading.Fault.{Fault}
 use Rattle.su_draw.specs.declared.reading.Fault.TheVariants.{Line as AtLine}
 use Rattle.su_draw.proofs.Readings.{line_fault, end_fault}
 use Rattle.su_draw.proofs.reading.read.Goals as goal

@@ -1,3 +1,4 @@
+-- The lines so far are what the pieces so far are read as, and what is left are the other pieces.
 use Rattle.std.proofs.Common.{◌≡◌, ◌++◌, ◌∷◌, [], sym, ap, ◌∙◌, append_assoc}
 use Rattle.std.specs.Vec.Iter.{into_iter_items}
 use Rattle.su_draw.specs.States.{at_start}

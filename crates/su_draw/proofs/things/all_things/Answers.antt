@@ -1,3 +1,4 @@
+-- The things are those of the lines one after another, so each drawn word has exactly one.
 use Rattle.std.proofs.Common.{arith}
 use Rattle.std.proofs.lemmas.Grind.{common_steps}
 use Rattle.su_draw.proofs.Exactly.{stand_once}

@@ -1,3 +1,4 @@
+-- What stands there grows by the four parts in turn.
 use Rattle.std.proofs.Common.{◌≡◌, ◌++◌, flat_map, List, ap, ◌∙◌}
 use Rattle.std.specs.Prelude.{codes}
 use Rattle.su_draw.specs.Svg.{ground_line, help_text}

@@ -1,9 +1,9 @@
+-- The attributes that are written are those of the definition, since each look-up gives what it says.
 use Rattle.std.proofs.Common.{◌≡◌, ◌++◌, List, ℕ, ap, ◌∙◌}
 use Rattle.std.specs.Prelude.{codes}
 use Rattle.su_draw.specs.Xml.{Attribute}
 use Rattle.su_draw.specs.EscapedBytes.{escaped}
 use Rattle.su_draw.specs.Shapes.{text_attributes, text_pairs, element_line}
-use Rattle.su_draw.specs.Looks.{colour_of, opacity_of, weight_of}
 use Rattle.su_draw.proofs.Assembled.{on_ok, same_pairs}
 use Rattle.su_draw.proofs.writing.text_element.Goals as goal
 

@@ -1,3 +1,4 @@
+-- The elements are well-formed each by itself, so the text that they make is a document.
 use Rattle.std.proofs.Common.{arith}
 use Rattle.std.proofs.lemmas.Grind.{common_steps}
 use Rattle.su_draw.proofs.WellFormed.{svg_document}

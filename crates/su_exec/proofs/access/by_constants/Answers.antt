@@ -1,3 +1,4 @@
+-- The cheapest constant's matches are all rows that the cell lets through, so their positions are a way at its cost, which is within the share.
 use Rattle.std.proofs.Common.{◌≡◌, List, ℕ, slice_get, Some}
 use Rattle.su_base.specs.declared.values.Value.{Value}
 use Rattle.su_rel.specs.Stored.{Stored}

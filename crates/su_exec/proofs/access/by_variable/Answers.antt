@@ -1,3 +1,4 @@
+-- A row that agrees has at the cell a value that an edge with the variable gives, so the positions of those values are a way; otherwise the way so far stays.
 use Rattle.std.proofs.Common.{◌≡◌, ◌<◌, ◌∙◌, [], ◌∷◌, List, ℕ, length, get_or, Contains, sym, subst, arith}
 use Rattle.std.proofs.lemmas.List.{get_or_default}
 use Rattle.su_base.specs.declared.values.Value.{Value}

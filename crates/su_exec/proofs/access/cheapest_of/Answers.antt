@@ -1,3 +1,4 @@
+-- The cost is that of all rows or less, and no constant of the row has fewer matches; so it is within the share, which is the least of these.
 use Rattle.std.proofs.Common.{length, arith}
 use Rattle.std.proofs.lemmas.Option.{slice_get_within}
 use Rattle.su_tableau.specs.declared.symbols.Sym.TheVariants.{Const}

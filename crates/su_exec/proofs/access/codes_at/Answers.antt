@@ -1,3 +1,4 @@
+-- The codes so far are those at the place of the rows so far.
 use Rattle.std.proofs.Common.{◌≡◌, ◌<◌, ◌≤◌, ◌∙◌, [], get_or, ⊎_elim, arith}
 use Rattle.std.proofs.lemmas.Bool.{cases_lt}
 use Rattle.su_exec.proofs.access.codes_at.Goals as goal

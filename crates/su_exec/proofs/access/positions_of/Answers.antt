@@ -1,3 +1,4 @@
+-- The positions so far are those of the rows with one of the values so far; the next value adds its own, while the room that is left allows.
 use Rattle.std.proofs.Common.{◌≡◌, ◌∙◌, ◌+◌, ◌++◌, [], List, ℕ, length, get_or, ap, sym, subst, arith}
 use Rattle.std.proofs.lemmas.Bool.{OnTrue_at}
 use Rattle.std.proofs.lemmas.List.{length-append}

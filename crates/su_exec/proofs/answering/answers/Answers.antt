@@ -1,3 +1,4 @@
+-- The rows found are the values of the terms in each row of the edge, so that sorted, each once, they are what it shows; more than the cap of them are that many different ones.
 use Rattle.std.proofs.Common.{◌≡◌, List, ℕ, length, map, Contains, sym, ap, subst, ◌∙◌, arith}
 use Rattle.su_base.specs.declared.values.Value.{Value}
 use Rattle.su_exec.specs.inside.Edges.{Edge}

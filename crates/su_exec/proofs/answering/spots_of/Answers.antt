@@ -1,3 +1,4 @@
+-- The spots so far are those of the terms so far; each next term has its variable in the edge, since the outputs have.
 use Rattle.std.proofs.Common.{arith}
 use Rattle.su_exec.proofs.Outputs.{spots_more, vars_at}
 use Rattle.su_exec.proofs.answering.spots_of.Goals as goal

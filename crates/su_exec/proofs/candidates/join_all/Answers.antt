@@ -1,3 +1,4 @@
+-- The columns of the join are the wanted ones of the left, and of the right those that the left has not; so it has each wanted variable of the two, and no other.
 use Rattle.std.proofs.Common.{◌≡◌, ◌++◌, List, ℕ, true, false, length, ap, sym, refl, subst, ◌∙◌, ⊎_elim}
 use Rattle.su_exec.specs.inside.Edges.{has, Edge}
 use Rattle.su_reduce.specs.Sheets.{pick, AreBelow}

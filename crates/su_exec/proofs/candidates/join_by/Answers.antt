@@ -1,3 +1,4 @@
+-- The rows that the join makes are those of the pairs with one key that pass the tests, so a valuation that gives such a pair gives the row, over the columns that the plan keeps.
 use Rattle.std.proofs.Common.{◌≡◌, ℕ, ap, ◌∙◌}
 use Rattle.su_exec.specs.inside.Edges.{Edge}
 use Rattle.su_exec.specs.inside.Joins.{out_vars}

@@ -1,3 +1,4 @@
+-- Two rows agree on the variables of both exactly where their keys at the shared places are equal, so the rows marked by key are those with a partner.
 use Rattle.std.proofs.Common.{◌≡◌, ◌↔◌, ◌<◌, ◌∙◌, false, IsTrue, ℕ, [], length, get_or, refl, ap}
 use Rattle.su_reduce.specs.Left.{marked}
 use Rattle.su_reduce.specs.Sheets.{pick}

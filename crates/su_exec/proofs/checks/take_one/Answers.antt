@@ -1,3 +1,4 @@
+-- A check with both its terms in the rows is the test of them, and moves from the one list to the other; else it is left, and says of the valuation what it said.
 use Rattle.std.proofs.Common.{◌&&◌, map, sym, ap, ◌∙◌}
 use Rattle.su_exec.specs.inside.Checks.{all_hold, all_pass, check_holds, check_vars, test_passes}
 use Rattle.su_exec.specs.inside.Edges.{has}

@@ -1,3 +1,4 @@
+-- The tests and what is left are together the checks so far; where the rows have all variables of the checks nothing is left.
 use Rattle.std.proofs.Common.{◌≡◌, ◌<◌, ◌&&◌, ◌||◌, ◌+◌, ℕ, List, [], ◌∷◌, length, get_or, take, sym, ap, ◌∙◌, arith}
 use Rattle.su_where.specs.declared.operators.Op.TheVariants.{Equal}
 use Rattle.su_exec.specs.declared.checks.Check.{Check}

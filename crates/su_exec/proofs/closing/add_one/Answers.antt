@@ -1,3 +1,4 @@
+-- A wanted variable is added if it isn't there, so afterwards it is, and nothing else has come in.
 use Rattle.std.proofs.Common.{◌≡◌, ◌∷◌, ◌++◌, true, [], ap, sym, ◌∙◌, inl, inr, ⊎_elim, arith}
 use Rattle.std.proofs.lemmas.Bool.Decides.{nat_tests}
 use Rattle.su_exec.specs.inside.Edges.{has}

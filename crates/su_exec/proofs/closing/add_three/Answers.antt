@@ -1,3 +1,4 @@
+-- A valuation that the pairs and the third give is one of all three and the other way round, since the pairs keep all variables of the first two.
 use Rattle.std.proofs.Common.{◌≡◌, ℕ, Bool, true, ap, inl, inr, ⊎_elim}
 use Rattle.std.specs.Prelude.{map}
 use Rattle.su_exec.specs.inside.Checks.{all_pass}

@@ -1,3 +1,4 @@
+-- The variables so far are those that were there and the wanted ones of the variables looked at so far.
 use Rattle.std.proofs.Common.{◌≡◌, ◌<◌, ℕ, true, List, length, get_or, take, sym, subst, inr, ⊎_elim}
 use Rattle.su_exec.specs.inside.Edges.{has}
 use Rattle.su_exec.proofs.ChosenVariables.{has_at, taken_more}

@@ -1,3 +1,4 @@
+-- The rows so far are those of the edge's rows so far that are in the block.
 use Rattle.std.proofs.Common.{◌≡◌, ◌<◌, ◌∙◌, [], List, ℕ, length, get_or, Contains, ap, sym, subst, arith}
 use Rattle.su_exec.specs.inside.Edges.{Edge}
 use Rattle.su_exec.proofs.Triples.{block_all, block_only}

@@ -1,3 +1,4 @@
+-- The join has no tests and keeps all variables of both, so a valuation fits it exactly where it fits the two.
 use Rattle.std.proofs.Common.{◌≡◌, ◌∷◌, ◌++◌, [], ℕ, Bool, true, ap, ◌∙◌, rules, ⊎_elim}
 use Rattle.std.specs.Prelude.{map}
 use Rattle.su_exec.specs.inside.Checks.{all_pass}

@@ -1,3 +1,4 @@
+-- Each of the three adds its wanted variables and no others, and what one has added stays.
 use Rattle.std.proofs.Common.{◌≡◌, ◌⊎◌, ℕ, true, ap, sym, ◌∙◌, ⊎_elim}
 use Rattle.std.proofs.lemmas.Bool.{true≢false}
 use Rattle.su_exec.specs.inside.Edges.{Edge, has}

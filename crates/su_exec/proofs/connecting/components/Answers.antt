@@ -1,3 +1,4 @@
+-- The parts so far are the rows of each label so far that is its own row's number; these are the classes of the labelling, ordered by their first rows.
 use Rattle.std.proofs.Common.{◌≡◌, ◌++◌, ◌∷◌, [], List, ℕ, length, sym, ap, subst, ◌∙◌, arith}
 use Rattle.std.specs.List.{range_with_len}
 use Rattle.std.specs.Prelude.{cond, filter, map, nat_eq}

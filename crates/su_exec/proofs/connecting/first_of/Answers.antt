@@ -1,3 +1,4 @@
+-- A symbol that is a variable stands where its variable does.
 use Rattle.su_exec.proofs.Labels.{first_told}
 use Rattle.su_exec.proofs.connecting.first_of.Goals as goal
 

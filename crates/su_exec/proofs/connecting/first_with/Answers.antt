@@ -1,3 +1,4 @@
+-- The variable is in no row so far, so a row that has it is the first.
 use Rattle.std.proofs.Common.{◌≡◌, ◌<◌, ◌≤◌, Contains, subst, sym, ◌∙◌, ⊎_elim, arith}
 use Rattle.std.proofs.lemmas.Bool.{cases_lt, true≢false}
 use Rattle.su_tableau.specs.declared.symbols.Sym.TheVariants.{Var}

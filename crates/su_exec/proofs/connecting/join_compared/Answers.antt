@@ -1,3 +1,4 @@
+-- The comparison connects the first rows of its variables, so they may get one label; each variable has only one first row.
 use Rattle.std.proofs.Common.{sym, ap, ◌∙◌, arith}
 use Rattle.su_exec.specs.inside.Labels.{IsFirstOf, label_of}
 use Rattle.su_exec.proofs.Labels.{compared_linked, first_is_one}

@@ -1,3 +1,4 @@
+-- The row has the variable or is compared with it, so it is connected to the first row with it, and one label for both is right.
 use Rattle.std.proofs.Common.{sym, ap, ◌∙◌, arith}
 use Rattle.su_exec.specs.inside.Labels.{IsFirstOf, label_of, relabelled}
 use Rattle.su_exec.proofs.Labels.{first_is_one, relabelled_joins, relabelled_keeps, relabelled_labels}

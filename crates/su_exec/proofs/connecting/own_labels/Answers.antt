@@ -1,3 +1,4 @@
+-- The labels so far are the numbers of the rows so far.
 use Rattle.std.proofs.Common.{[], ◌∷◌, ◌++◌, sym, ap, ◌∙◌}
 use Rattle.su_base.proofs.Items.{range-push_zero}
 use Rattle.su_exec.proofs.connecting.own_labels.Goals as goal

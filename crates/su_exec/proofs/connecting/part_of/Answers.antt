@@ -1,3 +1,4 @@
+-- The part so far has the rows so far with the label.
 use Rattle.std.proofs.Common.{ℕ, [], ◌∷◌, ◌++◌, sym, ap, ◌∙◌}
 use Rattle.std.specs.Prelude.{cond, nat_eq}
 use Rattle.su_exec.specs.inside.Labels.{label_of}

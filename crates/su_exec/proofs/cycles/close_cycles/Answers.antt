@@ -1,3 +1,4 @@
+-- Each round keeps what the body gives the needed variables and leaves fewer edges, and the checks stay what they were.
 use Rattle.std.proofs.Common.{◌≡◌, List, ℕ, refl, sym, subst, ◌∙◌, arith}
 use Rattle.su_exec.specs.declared.checks.Check.{Check}
 use Rattle.su_exec.specs.inside.Bodies.{AreThere}

@@ -1,3 +1,4 @@
+-- The codes of the left term stay what they were when the right one's value gets its own.
 use Rattle.std.proofs.Common.{refl}
 use Rattle.su_reduce.proofs.CodeExtensions.{extends_then}
 use Rattle.su_exec.proofs.Outputs.{term_up}

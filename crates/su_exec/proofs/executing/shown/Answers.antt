@@ -1,3 +1,4 @@
+-- What is shown follows what merging came to: the edge's answers, too many of them, or none.
 use Rattle.su_exec.proofs.Outputs.{whole_more, whole_shown}
 use Rattle.su_exec.proofs.executing.shown.Goals as goal
 

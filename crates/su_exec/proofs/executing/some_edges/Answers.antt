@@ -1,3 +1,4 @@
+-- An edge of no variables with the row of no values excludes nothing, so it may stand for no edges.
 use Rattle.std.proofs.Common.{◌≡◌, ◌<◌, ◌++◌, ◌∷◌, [], List, ℕ, length, refl, ap, ◌∙◌, inl, inr, rules, arith}
 use Rattle.std.proofs.lemmas.List.{nil_from_length}
 use Rattle.su_exec.specs.inside.Edges.{Edge}

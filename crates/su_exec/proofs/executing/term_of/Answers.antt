@@ -1,3 +1,4 @@
+-- A constant's code stands for its value from the moment that it is given; a variable needs no code.
 use Rattle.std.proofs.Common.{refl}
 use Rattle.su_reduce.proofs.CodeExtensions.{code_is, code_low, extends_self}
 use Rattle.su_exec.proofs.executing.term_of.Goals as goal

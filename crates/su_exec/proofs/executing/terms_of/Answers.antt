@@ -1,3 +1,4 @@
+-- The terms so far are those of the symbols so far, and stay right as the codes grow.
 use Rattle.std.proofs.Common.{take, sym, rules, arith}
 use Rattle.std.proofs.lemmas.Option.{get_or_from_slice_get}
 use Rattle.su_exec.specs.inside.Shown.{IsTermOf}

@@ -1,3 +1,4 @@
+-- The variables so far are those of the terms so far.
 use Rattle.std.proofs.Common.{arith}
 use Rattle.su_exec.proofs.Outputs.{vars_step}
 use Rattle.su_exec.proofs.executing.variables_of.Goals as goal

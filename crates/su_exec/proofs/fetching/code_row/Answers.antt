@@ -1,3 +1,4 @@
+-- The codes so far stand for the values at the first cells so far, and stay right as the codes grow.
 use Rattle.std.proofs.Common.{◌<◌, ◌++◌, ◌∷◌, [], List, ℕ, length, get_or, take, map, sym, ap, subst, ◌∙◌, arith}
 use Rattle.std.specs.Prelude.{pos}
 use Rattle.std.proofs.lemmas.List.{map_more}

@@ -1,3 +1,4 @@
+-- The row at the position is the one that is fetched, so what is taken from it is what is gathered.
 use Rattle.std.proofs.Common.{◌≡◌, List, length, sym, subst, ◌∙◌}
 use Rattle.std.proofs.lemmas.Option.{same_Some}
 use Rattle.su_base.specs.declared.values.Value.{Value}

@@ -1,3 +1,4 @@
+-- Either way reaches each row that agrees with the candidates so far, and costs no more than the share.
 use Rattle.std.proofs.Common.{◌≤◌, List, ℕ, length, arith}
 use Rattle.su_index.specs.Tables.{table_at}
 use Rattle.su_exec.specs.inside.Ways.{AreReached}

@@ -1,3 +1,4 @@
+-- The one row that comes in is made of the pair, which passes the tests; so it is one that the join has.
 use Rattle.std.proofs.Common.{◌∙◌, sym, subst, inl, inr, ⊎_elim}
 use Rattle.su_exec.specs.inside.Plans.{IsMade}
 use Rattle.su_exec.proofs.joins.add_pair.Goals as goal

@@ -1,3 +1,4 @@
+-- Without edges and checks every valuation will do; else merging ends with one edge, which has rows exactly where the body gives anything.
 use Rattle.std.proofs.Common.{◌≡◌, ◌∷◌, [], List, ℕ, length, refl, ap, sym, subst, rules}
 use Rattle.std.proofs.lemmas.List.{nil_from_length}
 use Rattle.std.proofs.lemmas.List.Elements.{All-nil}

@@ -1,3 +1,4 @@
+-- The rows are real, so a row is given by a valuation, and without rows none fits.
 use Rattle.std.proofs.Common.{◌≡◌, ℕ, length, ap, ◌∙◌}
 use Rattle.su_exec.specs.inside.Edges.{Edge}
 use Rattle.su_exec.proofs.MergeSteps.{rows_told}

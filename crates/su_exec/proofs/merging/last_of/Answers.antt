@@ -1,3 +1,4 @@
+-- A body of one edge gives what that edge gives, and shrinking it keeps that and leaves no check.
 use Rattle.std.proofs.Common.{◌≡◌, ◌∷◌, [], List, ℕ, sym, subst}
 use Rattle.su_exec.specs.declared.checks.Check.{Check}
 use Rattle.su_exec.specs.inside.Bodies.{AreThere}

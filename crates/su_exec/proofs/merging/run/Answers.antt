@@ -1,42 +1,57 @@
-use Rattle.std.proofs.Common.{List, ℕ, sym, subst, arith}
+-- The body cut down gives the needed variables the same, and the merging of it ends in one of three ways, each of which tells what it gives.
+use Rattle.std.proofs.Common.{◌∷◌, [], List, ℕ}
 use Rattle.su_exec.specs.declared.checks.Check.{Check}
-use Rattle.su_exec.specs.inside.Bodies.{AreThere}
+use Rattle.su_exec.specs.inside.Bodies.{IsMerged, IsPast}
 use Rattle.su_exec.specs.inside.Checks.{all_hold}
-use Rattle.su_exec.specs.inside.Edges.{Edge, Keeps}
-use Rattle.su_exec.specs.inside.Ranges.{AreCut}
+use Rattle.su_exec.specs.inside.Edges.{Edge, Keeps, always}
+use Rattle.su_exec.specs.declared.merging.Merged.{Merged}
+use Rattle.su_exec.specs.declared.merging.Merged.TheVariants.{Whole, Nothing}
 use Rattle.su_exec.proofs.PartSteps.{keeps_trans}
-use Rattle.su_exec.proofs.CutEdges.{lost_keeps}
-use Rattle.su_exec.proofs.Over.{merged_back}
+use Rattle.su_exec.proofs.Over.{merged_back, told_is}
 use Rattle.su_exec.proofs.merging.run.Goals as goal
+use Rattle.su_exec.proofs.merging.run.Goals.{In_ok-end}
 
-pub merge_all-requires-clause-some : goal.merge_all-requires-clause-some
-merge_all-requires-clause-some c =
-    let a = c.requires.some in
-    let b = c.in_ok-shrink_all.ensures.length in
-    let n = c.in_ok-narrow.ensures.len in
-    c.in_ok-rest.ensures.some (omega arith)
+-- what the body cut down comes to, the body comes to
+module _ (c : In_ok-end) where
+  back : (merged : Merged) → IsMerged c.args.needed.now c.args.most c.in_ok-rest.rest.edges.items (all_hold c.args.codes.now c.in_ok-rest.rest.checks.items) merged
+      → IsMerged c.args.needed.now c.args.most c.args.body.edges.items (all_hold c.args.codes.now c.args.body.checks.items) merged
+  back merged m = merged_back c.args.needed.now c.args.most c.args.body.edges.items c.in_ok-rest.rest.edges.items (all_hold c.args.codes.now c.args.body.checks.items) (all_hold c.args.codes.now c.in_ok-rest.rest.checks.items) merged c.in_ok-rest.ensures.keeps m
 
-pub merge_all-requires-clause-there : goal.merge_all-requires-clause-there
-merge_all-requires-clause-there c =
-    let left = c.in_ok-rest.ensures in
-    let es : List (Edge ℕ) = c.in_ok-rest.rest.edges.items in
-    subst (λ (cs : List Check). AreThere c.args.needed.now cs es) (sym left.checks) (left.there (λ k h. c.in_ok-narrow.ensures.vars k (c.in_ok-shrink_all.ensures.there k h)))
+pub returns-in-Empty : goal.returns-in-Empty
+returns-in-Empty c = back (goal.at.returns-in-Empty c).In_ok-end Nothing (rw c.in-Empty.is at c.in_ok-end.ensures.end)
 
-pub returns : goal.returns
-returns c =
+pub told-requires-clause-there : goal.told-requires-clause-there
+told-requires-clause-there c = (rw c.in-Past.is at c.in_ok-end.ensures.there).0
+
+pub told-requires-clause-last : goal.told-requires-clause-last
+told-requires-clause-last c = (rw c.in-Past.is at c.in_ok-end.ensures.there).1
+
+pub returns-in_ok-merged-in-Past : goal.returns-in_ok-merged-in-Past
+returns-in_ok-merged-in-Past c =
     let values = c.args.codes.now in
-    let needed = c.args.needed.now in
-    let start : List (Edge ℕ) = c.args.body.edges.items in
-    let first : List Check = c.args.body.checks.items in
-    let shrunk : List (Edge ℕ) = c.shrink_all.new.body.edges.items in
-    let news : List Check = c.shrink_all.new.body.checks.items in
-    let cut : List (Edge ℕ) = c.narrow.new.edges.items in
-    let reduced : List (Edge ℕ) = c.in_ok-rest.rest.edges.items in
-    let last : List Check = c.in_ok-rest.rest.checks.items in
-    let left = c.in_ok-rest.ensures in
-    let lost : AreCut (all_hold values news) shrunk cut = rw c.deref.ensures.value at c.in_ok-narrow.ensures in
-    let keeps : Keeps needed start (all_hold values first) reduced (all_hold values news) =
-    keeps_trans needed start cut reduced (all_hold values first) (all_hold values news) (all_hold values news)
-    (keeps_trans needed start shrunk cut (all_hold values first) (all_hold values news) (all_hold values news) c.in_ok-shrink_all.ensures.keeps (lost_keeps needed (all_hold values news) shrunk cut lost)) (left.keeps values) in
-    merged_back needed c.args.most start reduced (all_hold values first) (all_hold values last) c.in_ok-merged.merged
-    (subst (λ (cs : List Check). Keeps needed start (all_hold values first) reduced (all_hold values cs)) (sym left.checks) keeps) c.in_ok-merged.ensures
+    let start : List (Edge ℕ) = c.in_ok-rest.rest.edges.items in
+    let rest : List (Edge ℕ) = c.merge_down.new.body.edges.items in
+    let first : List Check = c.in_ok-rest.rest.checks.items in
+    let news : List Check = c.merge_down.new.body.checks.items in
+    let merged : Merged = c.in_ok-merged-in-Past.merged in
+    let past : IsPast c.args.needed.now c.args.most start (all_hold values first) rest (all_hold values news) = rw c.in-Past.is at c.in_ok-end.ensures.end in
+    back (goal.at.returns-in_ok-merged-in-Past c).In_ok-end merged
+    (told_is c.args.needed.now c.args.most start rest (all_hold values first) (all_hold values news) merged past c.in_ok-merged-in-Past.ensures)
+
+pub last_of-requires-clause-one : goal.last_of-requires-clause-one
+last_of-requires-clause-one c = (rw c.in-One.is at c.in_ok-end.ensures.there).0
+
+pub last_of-requires-clause-there : goal.last_of-requires-clause-there
+last_of-requires-clause-there c = (rw c.in-One.is at c.in_ok-end.ensures.there).1
+
+pub returns-in_ok-whole-in-One : goal.returns-in_ok-whole-in-One
+returns-in_ok-whole-in-One c =
+    let values = c.args.codes.now in
+    let start : List (Edge ℕ) = c.in_ok-rest.rest.edges.items in
+    let rest : List (Edge ℕ) = c.merge_down.new.body.edges.items in
+    let first : List Check = c.in_ok-rest.rest.checks.items in
+    let news : List Check = c.merge_down.new.body.checks.items in
+    let g : Edge ℕ = c.in_ok-whole-in-One.whole in
+    let keeps : Keeps c.args.needed.now start (all_hold values first) rest (all_hold values news) = rw c.in-One.is at c.in_ok-end.ensures.end in
+    back (goal.at.returns-in_ok-whole-in-One c).In_ok-end (Whole g)
+    (keeps_trans c.args.needed.now start rest (g ∷ []) (all_hold values first) (all_hold values news) always keeps c.in_ok-whole-in-One.ensures.keeps, c.in_ok-whole-in-One.ensures.vars)

@@ -1,3 +1,4 @@
+-- The marked rows are those that pass the tests beside themselves, so exactly the valuations that pass still fit.
 use Rattle.std.proofs.Common.{◌≡◌, ◌∙◌, Bool, ℕ, List, ap, sym, subst}
 use Rattle.su_reduce.specs.Left.{marked}
 use Rattle.su_exec.specs.inside.Checks.{all_pass}

@@ -1,3 +1,4 @@
+-- The variables so far are the needed ones, those of the edges and those of the checks so far.
 use Rattle.std.proofs.Common.{◌≡◌, ◌<◌, ◌++◌, ℕ, List, length, get_or, ap, ◌∙◌, arith}
 use Rattle.su_where.specs.declared.operators.Op.TheVariants.{Equal}
 use Rattle.su_exec.specs.declared.checks.Check.{Check}

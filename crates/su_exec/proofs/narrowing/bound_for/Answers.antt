@@ -1,3 +1,4 @@
+-- What a valuation gives the variable stands in the edge's column, and the widest value there is met by all that meets it.
 use Rattle.std.proofs.Common.{rules, ◌≡◌, ◌<◌, List, ℕ, length, get_or, subst}
 use Rattle.su_exec.specs.inside.Edges.{Edge}
 use Rattle.su_exec.specs.inside.Ranges.{IsBound, IsWidest}

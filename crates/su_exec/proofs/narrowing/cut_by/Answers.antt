@@ -1,3 +1,4 @@
+-- A row whose value doesn't meet the bound meets no value of the other variable, so each cut loses only rows that the comparison excludes.
 use Rattle.std.proofs.Common.{List, ℕ}
 use Rattle.su_exec.specs.inside.Edges.{Edge}
 use Rattle.su_exec.specs.inside.Ranges.{IsBound, meets_code}

@@ -1,3 +1,4 @@
+-- Where all checks hold each of them does, so what one excludes may go.
 use Rattle.std.proofs.Common.{rules, ◌<◌, List, length}
 use Rattle.su_exec.specs.declared.checks.Check.{Check}
 use Rattle.su_exec.specs.inside.Checks.{all_hold}

@@ -1,3 +1,4 @@
+-- The rows that stay are those whose value of the variable meets the bound, and a valuation that meets it gives such a row.
 use Rattle.std.proofs.Common.{rules, ◌≡◌, ◌<◌, ◌∙◌, List, ℕ, [], length, get_or, Contains, ap, subst}
 use Rattle.std.proofs.lemmas.List.{get_or_default}
 use Rattle.su_exec.specs.declared.checks.Spot.TheVariants.{Code as Given, Left}

@@ -1,3 +1,4 @@
+-- Each round loses only rows that the checks exclude, so all rounds together do.
 use Rattle.su_exec.specs.inside.Checks.{all_hold}
 use Rattle.su_exec.proofs.CutEdges.{lost_on, none_lost}
 use Rattle.su_exec.proofs.narrowing.narrow.Goals as goal

@@ -1,3 +1,4 @@
+-- The rows so far are those of the edge's rows so far that pass the test.
 use Rattle.std.proofs.Common.{◌≡◌, ◌∙◌, List, ℕ, [], length, get_or, ap, subst, arith}
 use Rattle.su_exec.specs.inside.Ranges.{ArePassing}
 use Rattle.su_exec.proofs.CutEdges.{pass_more}

@@ -1,3 +1,4 @@
+-- What is less than some value is less than each greater one, and the other way round: so the operators of order each have a side.
 use Rattle.std.proofs.Common.{◌≡◌, sym, subst, ⊎_elim}
 use Rattle.su_where.specs.declared.operators.Op.TheVariants.{Greater, GreaterEqual, Less, LessEqual}
 use Rattle.su_exec.specs.inside.Ranges.{IsSide}

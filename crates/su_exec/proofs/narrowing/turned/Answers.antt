@@ -1,3 +1,4 @@
+-- Each operator says of two values what its turned one says of them exchanged.
 use Rattle.std.proofs.Common.{◌≡◌, sym, subst}
 use Rattle.su_where.specs.Operator.{compares}
 use Rattle.su_where.specs.declared.operators.Op.TheVariants.{Equal, Greater, GreaterEqual, Less, LessEqual, NotEqual}

@@ -1,3 +1,4 @@
+-- Of two values the one farther on this side is met by all that meets the nearer one.
 use Rattle.std.proofs.Common.{◌≡◌, true, false, sym}
 use Rattle.su_where.specs.Operator.{compares}
 use Rattle.su_reduce.specs.Codes.{decode}

@@ -1,3 +1,4 @@
+-- Each semijoin leaves the same valuations and as many edges, so all of them do.
 use Rattle.std.proofs.Common.{◌∙◌}
 use Rattle.su_exec.proofs.Partners.{same_trans}
 use Rattle.su_exec.proofs.reducing.go_down.Goals as goal

@@ -1,3 +1,4 @@
+-- Each ear leaves what the body gives the needed variables, so all of them do.
 use Rattle.su_exec.proofs.Ears.{leaves_refl, leaves_trans}
 use Rattle.su_exec.proofs.reducing.go_up.Goals as goal
 

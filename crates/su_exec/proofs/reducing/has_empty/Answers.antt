@@ -1,3 +1,4 @@
+-- Each edge so far has rows; one that has none is fitted by no valuation.
 use Rattle.std.proofs.Common.{◌≡◌, ◌<◌, ◌∙◌, ℕ, length, get_or, ap, subst, sym, ⊎_elim, rules, arith}
 use Rattle.std.proofs.lemmas.Bool.{cases_eq}
 use Rattle.std.proofs.lemmas.List.{get_or_default}

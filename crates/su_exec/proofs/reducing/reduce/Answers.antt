@@ -1,3 +1,4 @@
+-- Going up and going down each leave what the body gives the needed variables.
 use Rattle.su_exec.proofs.Ears.{leaves_same, leaves_trans}
 use Rattle.su_exec.proofs.reducing.reduce.Goals as goal
 

@@ -1,3 +1,4 @@
+-- A row without a partner in the other edge is in no valuation of both, so the edges without it have the same valuations.
 use Rattle.std.proofs.Common.{◌≡◌, ◌<◌, ℕ, List, true, length, get_or, subst, sym, rules}
 use Rattle.su_exec.specs.inside.Edges.{Edge, has}
 use Rattle.su_exec.specs.inside.Semijoins.{IsSemijoin}

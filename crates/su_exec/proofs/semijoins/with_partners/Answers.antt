@@ -1,3 +1,4 @@
+-- All rows of both sides are marked, so that a marked partner is a partner.
 use Rattle.std.proofs.Common.{◌<◌, List, [], ℕ, Bool, false, IsTrue, length, get_or, ap, ◌∙◌, arith}
 use Rattle.su_reduce.specs.Sheets.{pick}
 use Rattle.su_exec.proofs.SemijoinRows.{all_marked}

@@ -1,6 +1,5 @@
 -- What the reader takes is what the grammar spells, and what it refuses nothing spells.
-use Rattle.std.proofs.Common.{List, ap, sym, inr, subst, Err}
-use Rattle.su_lex.specs.declared.meaning.Symbol.{Symbol}
+use Rattle.std.proofs.Common.{ap, sym, inr, subst, Err}
 use Rattle.su_lex.specs.Nesting.{IsDeep}
 use Rattle.su_query.specs.Forms.{IsForm}
 use Rattle.su_query.specs.inside.ReadForms.{ReadsForm}

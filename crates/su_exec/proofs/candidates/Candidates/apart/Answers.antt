@@ -1,3 +1,4 @@
+-- Over variables that differ each row of the right width is given by some valuation, so the rows are real.
 use Rattle.su_exec.proofs.RealEdges.{real_from_widths}
 use Rattle.su_exec.proofs.candidates.Candidates.apart.Goals as goal
 

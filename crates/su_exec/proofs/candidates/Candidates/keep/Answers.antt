@@ -1,3 +1,4 @@
+-- The marked rows are some of those that were there, so each is still given by some valuation.
 use Rattle.std.proofs.Common.{◌≡◌, ◌∙◌, ℕ, List, map, sym, subst}
 use Rattle.std.specs.Prelude.{All}
 use Rattle.su_exec.proofs.SemijoinRows.{All-marked}

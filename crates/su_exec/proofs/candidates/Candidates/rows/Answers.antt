@@ -1,3 +1,4 @@
+-- That the rows are real is the invariant of candidates.
 use Rattle.su_exec.proofs.candidates.Candidates.rows.Goals as goal
 
 pub returns-clause-real : goal.returns-clause-real
