@@ -101,12 +101,17 @@ fn copy_is_essential(alloc: Global, t: &Tableau) -> Result<bool, NoMemory> {
     Ok(are_essential(&t, all.as_slice()))
 }
 
+/// Whether a copy of the tableau of the courses has them.
+fn courses_are_essential(alloc: Global) -> Result<bool, NoMemory> {
+    match tableau(alloc, &COURSES)? {
+        Some(t) => copy_is_essential(alloc, &t),
+        None => Ok(false),
+    }
+}
+
 #[test]
 fn constants_head_symbols_and_shared_ones_are_essential(rt: HostRuntime) -> Result<(), Fail> {
-    let Some(t) = tableau(rt.alloc(), &COURSES)? else {
-        return Err(Fail::from("no tableau"));
-    };
-    let right = copy_is_essential(rt.alloc(), &t)?;
+    let right = courses_are_essential(rt.alloc())?;
     assert!(rt; right);
     Ok(())
 }
@@ -183,13 +188,23 @@ fn first_otherwise(alloc: Global, t: &Tableau, universe: &[Row]) -> Result<usize
     Ok(VALUATIONS.len())
 }
 
+/// The same over the universe of the table.
+fn first_in_universe(alloc: Global, t: &Tableau) -> Result<usize, NoMemory> {
+    let universe = universe(alloc)?;
+    first_otherwise(alloc, t, universe.as_slice())
+}
+
+/// The same of the two rows; 0 also where they make no tableau.
+fn first_of_turned(alloc: Global) -> Result<usize, NoMemory> {
+    match tableau(alloc, &TURNED)? {
+        Some(t) => first_in_universe(alloc, &t),
+        None => Ok(0),
+    }
+}
+
 #[test]
 fn a_valuation_sends_rows_to_rows(rt: HostRuntime) -> Result<(), Fail> {
-    let universe = universe(rt.alloc())?;
-    let Some(t) = tableau(rt.alloc(), &TURNED)? else {
-        return Err(Fail::from("no tableau"));
-    };
-    let reached = first_otherwise(rt.alloc(), &t, universe.as_slice())?;
+    let reached = first_of_turned(rt.alloc())?;
     assert_eq!(rt; reached, VALUATIONS.len());
     Ok(())
 }
