@@ -73,10 +73,15 @@ fn first_otherwise(alloc: Global, relation: &mut Relation) -> Result<usize, NoMe
     Ok(STEPS.len())
 }
 
+/// The same of a relation that has no row yet.
+fn first_of_a_new_one(alloc: Global) -> Result<usize, NoMemory> {
+    let mut relation = Relation::new(alloc, 2);
+    first_otherwise(alloc, &mut relation)
+}
+
 #[test]
 fn a_relation_holds_each_row_once(rt: HostRuntime) -> Result<(), Fail> {
-    let mut relation = Relation::new(rt.alloc(), 2);
-    let reached = first_otherwise(rt.alloc(), &mut relation)?;
+    let reached = first_of_a_new_one(rt.alloc())?;
     assert_eq!(rt; reached, STEPS.len());
     Ok(())
 }
@@ -128,10 +133,15 @@ fn lengths(alloc: Global, relation: &mut Relation) -> Result<[usize; 3], NoMemor
     Ok([all, ten, relation.len()])
 }
 
+/// The same of the relation that is filled.
+fn lengths_of_filled(alloc: Global) -> Result<[usize; 3], NoMemory> {
+    let mut relation = filled(alloc)?;
+    lengths(alloc, &mut relation)
+}
+
 #[test]
 fn many_rows_go_in_and_out_at_once(rt: HostRuntime) -> Result<(), Fail> {
-    let mut relation = filled(rt.alloc())?;
-    let lengths = lengths(rt.alloc(), &mut relation)?;
+    let lengths = lengths_of_filled(rt.alloc())?;
     assert_eq!(rt; lengths, [50000, 10, 0]);
     Ok(())
 }
