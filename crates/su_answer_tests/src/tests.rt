@@ -6,7 +6,7 @@ use std::alloc::Global;
 use std::test::Fail;
 use std::thread::{Threads, join};
 use su_answer::{Prepared, answer, prepare};
-use su_base::{List, NoMemory, Row};
+use su_base::Row;
 use su_cases::{BANK, query_of, stored, told};
 use su_gates::{InTurn, Meeting};
 use su_maxobj::maximal_objects;
@@ -55,43 +55,72 @@ fn prepared_by<R: Threads + Sync, G: Gate>(
     }
 }
 
-/// The answer of the query, by so many workers; one gate is for its terms, and one for the kept ones.
+/// Whether the rows are told so.
+fn are_told(alloc: Global, rows: &[Row], want: &str) -> bool {
+    match told(alloc, rows) {
+        Ok(text) => text.as_str() == want,
+        Err(_) => false,
+    }
+}
+
+/// Whether the query has these rows, by so many workers; one gate is for its terms, and one for the
+/// kept ones.
 fn answered_by<R: Threads + Sync, F: Gate, G: Gate>(
     rt: &R,
     alloc: Global,
     db: &Database,
     resolved: &Resolved,
+    want: &str,
     workers: u8,
     gates: (&F, &G),
-) -> Option<List<Row>>
+) -> bool
     requires resolved { IsResolved db.now.schema resolved.now }
     requires least { 1 ≤ workers }
     requires most { workers ≤ 16 }
 {
     match prepared_by(rt, alloc, db, resolved, workers, gates.0) {
         Some(prepared) => match answer(rt, alloc, db, &prepared, workers, gates.1) {
-            Ok(rows) => Some(rows),
-            Err(_) => None,
+            Ok(rows) => are_told(alloc, rows.as_slice(), want),
+            Err(_) => false,
         },
-        None => None,
+        None => false,
     }
 }
 
-/// The answer of the query of the text, through these gates.
-fn rows_by<R: Threads + Sync, F: Gate, G: Gate>(
+/// A query and the rows of its answer.
+type Question = (&'static str, &'static str);
+
+/// It takes two terms that are both kept.
+const BANKS: Question = ("retrieve (BANK) where CUST = 'Jones'", "B1 /B3 /");
+
+/// The accounts that are richer than the first: one term.
+const RICHER: Question = (
+    "retrieve (t.CUST) where t.BAL > BAL and ACCT = 1",
+    "Smith /",
+);
+
+/// The accounts whose balance is at least their own: one term.
+const ACCOUNTS: Question = (
+    "retrieve (t.ACCT) where t.ACCT = ACCT and t.BAL >= BAL",
+    "1 /2 /",
+);
+
+/// Whether the answer is found through these gates.
+fn finds<R: Threads + Sync, F: Gate, G: Gate>(
     rt: &R,
     alloc: Global,
     db: &Database,
-    text: &str,
+    question: Question,
     workers: u8,
     gates: (&F, &G),
-) -> Option<List<Row>>
+) -> bool
     requires least { 1 ≤ workers }
     requires most { workers ≤ 16 }
 {
+    let (text, want) = question;
     match query_of(alloc, db.schema(), text) {
-        Some(resolved) => answered_by(rt, alloc, db, &resolved, workers, gates),
-        None => None,
+        Some(resolved) => answered_by(rt, alloc, db, &resolved, want, workers, gates),
+        None => false,
     }
 }
 
@@ -108,14 +137,6 @@ impl<'a> Gate for Caller<'a> {
     }
 }
 
-/// Whether there are rows, and these are they.
-fn rows_are(alloc: Global, rows: &Option<List<Row>>, want: &str) -> Result<bool, NoMemory> {
-    match rows {
-        Some(rows) => Ok(told(alloc, rows.as_slice())?.as_str() == want),
-        None => Ok(false),
-    }
-}
-
 /// The bank with its rows.
 fn bank(alloc: Global) -> Result<Database, Fail> {
     match stored(alloc, BANK, &BANK_ROWS)? {
@@ -124,7 +145,7 @@ fn bank(alloc: Global) -> Result<Database, Fail> {
     }
 }
 
-/// Whether Jones' banks, which take two terms that are both kept, are found through these gates.
+/// Whether Jones' banks are found through these gates.
 fn finds_banks<R: Threads + Sync, G: Gate>(
     rt: &R,
     alloc: Global,
@@ -135,55 +156,50 @@ fn finds_banks<R: Threads + Sync, G: Gate>(
     requires most { workers ≤ 16 }
 {
     let db = bank(alloc)?;
-    let text = "retrieve (BANK) where CUST = 'Jones'";
-    let rows = rows_by(rt, alloc, &db, text, workers, gates);
-    Ok(rows_are(alloc, &rows, "B1 /B3 /")?)
+    Ok(finds(rt, alloc, &db, BANKS, workers, gates))
 }
 
 #[test]
 fn two_terms_are_minimised_and_executed_side_by_side(rt: HostRuntime) -> Result<(), Fail> {
     let (minimised, executed) = (Meeting::default(), Meeting::default());
-    assert!(rt; finds_banks(&rt, rt.alloc(), 2, (&minimised, &executed))?);
-    assert_eq!(rt; minimised.passes(), (1, 1, 0));
-    assert_eq!(rt; executed.passes(), (1, 1, 0));
+    let found = finds_banks(&rt, rt.alloc(), 2, (&minimised, &executed))?;
+    assert!(rt; found);
+    assert_eq!(rt;
+        (minimised.passes(), executed.passes()),
+        ((1, 1, 0), (1, 1, 0))
+    );
     Ok(())
 }
 
 #[test]
 fn one_worker_takes_the_terms_in_turn(rt: HostRuntime) -> Result<(), Fail> {
     let (minimised, executed) = (InTurn::default(), InTurn::default());
-    assert!(rt; finds_banks(&rt, rt.alloc(), 1, (&minimised, &executed))?);
-    assert_eq!(rt; minimised.passes(), (2, 0));
-    assert_eq!(rt; executed.passes(), (2, 0));
+    let found = finds_banks(&rt, rt.alloc(), 1, (&minimised, &executed))?;
+    assert!(rt; found);
+    assert_eq!(rt; (minimised.passes(), executed.passes()), ((2, 0), (2, 0)));
     Ok(())
 }
 
-/// The accounts that are richer than the first, and those whose balance is at least their own: each
-/// takes one term, and where the one is executed the other is minimised.
-fn answered_side_by_side<R: Threads + Sync>(
+/// Whether both answers are found, where the one term is executed while the other is minimised.
+fn find_side_by_side<R: Threads + Sync>(
     rt: &R,
     alloc: Global,
-    db: &Database,
     meeting: &Meeting,
-) -> (Option<List<Row>>, Option<List<Row>>) {
-    let richer = "retrieve (t.CUST) where t.BAL > BAL and ACCT = 1";
-    let accounts = "retrieve (t.ACCT) where t.ACCT = ACCT and t.BAL >= BAL";
+) -> Result<(bool, bool), Fail> {
+    let db = bank(alloc)?;
     let answers = Caller { meeting, number: 0 };
     let prepares = Caller { meeting, number: 1 };
-    join(
+    Ok(join(
         rt,
-        || rows_by(rt, alloc, db, richer, 1, (&OpenGate, &answers)),
-        || rows_by(rt, alloc, db, accounts, 1, (&prepares, &OpenGate)),
-    )
+        || finds(rt, alloc, &db, RICHER, 1, (&OpenGate, &answers)),
+        || finds(rt, alloc, &db, ACCOUNTS, 1, (&prepares, &OpenGate)),
+    ))
 }
 
 #[test]
 fn one_thread_answers_while_another_prepares(rt: HostRuntime) -> Result<(), Fail> {
-    let db = bank(rt.alloc())?;
     let meeting = Meeting::default();
-    let (richer, accounts) = answered_side_by_side(&rt, rt.alloc(), &db, &meeting);
-    assert!(rt; rows_are(rt.alloc(), &richer, "Smith /")?);
-    assert!(rt; rows_are(rt.alloc(), &accounts, "1 /2 /")?);
-    assert_eq!(rt; meeting.passes(), (1, 1, 0));
+    let found = find_side_by_side(&rt, rt.alloc(), &meeting)?;
+    assert_eq!(rt; (found, meeting.passes()), ((true, true), (1, 1, 0)));
     Ok(())
 }
