@@ -396,95 +396,110 @@ fn bank(rt: &impl Abort, alloc: Global) -> Result<Vec<Table>, Fail> {
     Ok(tables)
 }
 
+/// Rows with their sources, outputs, comparisons, a cap, and the answers or that there are more.
+const JOINS: &[(&str, &str, &str, u64, &str)] = &[
+    // constants and joins
+    ("B A : 001; A Jones : 201", "B", "", 9, "B1"),
+    ("B L : 301; L Jones : 401", "B", "", 9, "B3"),
+    (
+        "B A : 001; A C : 201",
+        "C B",
+        "",
+        9,
+        "Jones B1; Smith B1; Smith B2",
+    ),
+    // several sources, and a column taken from the other side
+    ("C : 21 41", "C", "", 9, "Jones; Smith"),
+    ("X Y : 001 110", "X Y", "", 9, "100 1; 250 2; B1 1; B2 2"),
+    // comparisons within a row, between rows, with a constant
+    ("A X : 101; B Y : 101", "A B", "X < Y", 9, "1 2"),
+    // comparisons that exclude one another, and that leave what is equal
+    ("A X : 101; B Y : 101", "A B", "X < Y; Y < X", 9, ""),
+    (
+        "A X : 101; B Y : 101",
+        "A B",
+        "X <= Y; Y <= X",
+        9,
+        "1 1; 2 2",
+    ),
+    ("A X : 101", "A", "X > 100", 9, "2"),
+    ("A X : 101", "A", "X >= 100; A != 2", 9, "1"),
+    ("A X : 101", "A", "1 < 2", 9, "1; 2"),
+    ("A X : 101", "A", "2 < 1", 9, ""),
+    // one variable twice in a row
+    ("A A : 101", "A", "", 9, ""),
+    ("A A : 110 001 211", "A", "", 9, "Jones; Smith"),
+    // rows that share nothing: all pairs, or only asked for
+    ("A : 10; B : 30", "A B", "", 9, "1 B1; 1 B3; 2 B1; 2 B3"),
+    ("A : 10; B : 30; C Jones : 401", "A", "", 9, "1; 2"),
+    ("A : 10; B : 30; C Robin : 401", "A", "", 9, ""),
+    // outputs: twice, constants, none
+    ("A : 10", "A A 7", "", 9, "1 1 7; 2 2 7"),
+    ("A : 10", "", "", 9, ""),
+    ("B 9 : 001", "", "", 9, ""),
+    ("", "5", "", 9, "5"),
+    // ears: of which nothing more is asked, an output, a comparison; on the way to another; of two columns
+    ("B A : 001; A C : 201; L C : 401", "B", "", 9, "B1; B2"),
+    (
+        "B A : 001; A X : 101; A C : 201",
+        "C",
+        "X > 100",
+        9,
+        "Smith",
+    ),
+    ("A C : 201; L C : 401; A X : 101", "L", "X > 100", 9, "7"),
+    ("B A : 001; A X : 101; C Y : 110", "B", "X < Y", 9, ""),
+    ("B A : 001; A C : 201; C D : 201", "B", "", 9, ""),
+    (
+        "A C : 201; A C : 201",
+        "A C",
+        "",
+        9,
+        "1 Jones; 1 Smith; 2 Smith",
+    ),
+    ("A C : 201; A C : 401", "A", "", 9, ""),
+    // a triangle
+    (
+        "A B : 001; B C : 201; C D : 410",
+        "A C D",
+        "",
+        9,
+        "B1 Jones 8; B1 Smith 7; B2 Smith 7",
+    ),
+    // the cap: as many answers as asked for, and one more
+    ("A : 10", "A", "", 2, "1; 2"),
+    ("A : 10", "A", "", 1, "more"),
+    ("A : 10; B : 30", "A B", "", 4, "1 B1; 1 B3; 2 B1; 2 B3"),
+    ("A : 10; B : 30", "A B", "", 3, "more"),
+    ("A : 10; B : 30; C Robin : 401", "A B", "", 3, ""),
+    ("A : 10; B : 30; C Jones : 401", "A B", "", 3, "more"),
+    ("A X : 101; B Y : 101", "A B", "X < Y", 0, "more"),
+    ("", "5", "", 1, "5"),
+    ("", "5", "", 0, "more"),
+];
+
+/// Whether the answers are those wanted, over either store.
+fn joins(
+    rt: &impl Abort,
+    alloc: Global,
+    tables: &[Table],
+    case: (&str, &str, &str, u64, &str),
+) -> Result<(), Fail> {
+    let (rows, outputs, comparisons, cap, wanted) = case;
+    let asked = task(alloc, rows, outputs, comparisons)?;
+    for store in [Store::Tables, Store::Plain] {
+        let found = told(rt, alloc, store, tables, &asked, cap)?;
+        assert_eq!(rt; found.as_str(), wanted);
+    }
+    Ok(())
+}
+
 #[test]
 fn rows_are_joined_over_their_sources(rt: HostRuntime) -> Result<(), Fail> {
     let alloc = rt.alloc();
     let tables = bank(&rt, alloc)?;
-    for (rows, outputs, comparisons, cap, wanted) in [
-        // constants and joins
-        ("B A : 001; A Jones : 201", "B", "", 9, "B1"),
-        ("B L : 301; L Jones : 401", "B", "", 9, "B3"),
-        (
-            "B A : 001; A C : 201",
-            "C B",
-            "",
-            9,
-            "Jones B1; Smith B1; Smith B2",
-        ),
-        // several sources, and a column taken from the other side
-        ("C : 21 41", "C", "", 9, "Jones; Smith"),
-        ("X Y : 001 110", "X Y", "", 9, "100 1; 250 2; B1 1; B2 2"),
-        // comparisons within a row, between rows, with a constant
-        ("A X : 101; B Y : 101", "A B", "X < Y", 9, "1 2"),
-        // comparisons that exclude one another, and that leave what is equal
-        ("A X : 101; B Y : 101", "A B", "X < Y; Y < X", 9, ""),
-        (
-            "A X : 101; B Y : 101",
-            "A B",
-            "X <= Y; Y <= X",
-            9,
-            "1 1; 2 2",
-        ),
-        ("A X : 101", "A", "X > 100", 9, "2"),
-        ("A X : 101", "A", "X >= 100; A != 2", 9, "1"),
-        ("A X : 101", "A", "1 < 2", 9, "1; 2"),
-        ("A X : 101", "A", "2 < 1", 9, ""),
-        // one variable twice in a row
-        ("A A : 101", "A", "", 9, ""),
-        ("A A : 110 001 211", "A", "", 9, "Jones; Smith"),
-        // rows that share nothing: all pairs, or only asked for
-        ("A : 10; B : 30", "A B", "", 9, "1 B1; 1 B3; 2 B1; 2 B3"),
-        ("A : 10; B : 30; C Jones : 401", "A", "", 9, "1; 2"),
-        ("A : 10; B : 30; C Robin : 401", "A", "", 9, ""),
-        // outputs: twice, constants, none
-        ("A : 10", "A A 7", "", 9, "1 1 7; 2 2 7"),
-        ("A : 10", "", "", 9, ""),
-        ("B 9 : 001", "", "", 9, ""),
-        ("", "5", "", 9, "5"),
-        // ears: of which nothing more is asked, an output, a comparison; on the way to another; of two columns
-        ("B A : 001; A C : 201; L C : 401", "B", "", 9, "B1; B2"),
-        (
-            "B A : 001; A X : 101; A C : 201",
-            "C",
-            "X > 100",
-            9,
-            "Smith",
-        ),
-        ("A C : 201; L C : 401; A X : 101", "L", "X > 100", 9, "7"),
-        ("B A : 001; A X : 101; C Y : 110", "B", "X < Y", 9, ""),
-        ("B A : 001; A C : 201; C D : 201", "B", "", 9, ""),
-        (
-            "A C : 201; A C : 201",
-            "A C",
-            "",
-            9,
-            "1 Jones; 1 Smith; 2 Smith",
-        ),
-        ("A C : 201; A C : 401", "A", "", 9, ""),
-        // a triangle
-        (
-            "A B : 001; B C : 201; C D : 410",
-            "A C D",
-            "",
-            9,
-            "B1 Jones 8; B1 Smith 7; B2 Smith 7",
-        ),
-        // the cap: as many answers as asked for, and one more
-        ("A : 10", "A", "", 2, "1; 2"),
-        ("A : 10", "A", "", 1, "more"),
-        ("A : 10; B : 30", "A B", "", 4, "1 B1; 1 B3; 2 B1; 2 B3"),
-        ("A : 10; B : 30", "A B", "", 3, "more"),
-        ("A : 10; B : 30; C Robin : 401", "A B", "", 3, ""),
-        ("A : 10; B : 30; C Jones : 401", "A B", "", 3, "more"),
-        ("A X : 101; B Y : 101", "A B", "X < Y", 0, "more"),
-        ("", "5", "", 1, "5"),
-        ("", "5", "", 0, "more"),
-    ] {
-        let asked = task(alloc, rows, outputs, comparisons)?;
-        for store in [Store::Tables, Store::Plain] {
-            let found = told(&rt, alloc, store, tables.as_slice(), &asked, cap)?;
-            assert_eq!(rt; found.as_str(), wanted);
-        }
+    for case in JOINS {
+        joins(&rt, alloc, tables.as_slice(), *case)?;
     }
     Ok(())
 }
@@ -511,23 +526,25 @@ fn parts(rt: &impl Abort, alloc: Global, rows: &str, compared: &str) -> Result<S
     shown(alloc, &parts)
 }
 
+/// Rows, comparisons, and the numbers of the rows of each component.
+const COMPONENTS: &[(&str, &str, &str)] = &[
+    ("A : 00; B : 10; C : 20", "", "0; 1; 2"),
+    ("A B : 001; C D : 101; B C : 201", "", "0 1 2"),
+    ("A : 00; B : 10; C : 20", "A < C", "0 2; 1"),
+    ("A : 00; B : 10; C : 20", "B < 5", "0; 1; 2"),
+    (
+        "A : 00; B : 10; C : 20; A D : 001; B D : 001",
+        "C = C",
+        "0 1 3 4; 2",
+    ),
+    ("", "", ""),
+];
+
 #[test]
 fn rows_that_hang_together_are_one_component(rt: HostRuntime) -> Result<(), Fail> {
-    let alloc = rt.alloc();
-    for (rows, comparisons, wanted) in [
-        ("A : 00; B : 10; C : 20", "", "0; 1; 2"),
-        ("A B : 001; C D : 101; B C : 201", "", "0 1 2"),
-        ("A : 00; B : 10; C : 20", "A < C", "0 2; 1"),
-        ("A : 00; B : 10; C : 20", "B < 5", "0; 1; 2"),
-        (
-            "A : 00; B : 10; C : 20; A D : 001; B D : 001",
-            "C = C",
-            "0 1 3 4; 2",
-        ),
-        ("", "", ""),
-    ] {
-        let found = parts(&rt, alloc, rows, comparisons)?;
-        assert_eq!(rt; found.as_str(), wanted);
+    for (rows, comparisons, wanted) in COMPONENTS {
+        let found = parts(&rt, rt.alloc(), rows, comparisons)?;
+        assert_eq!(rt; found.as_str(), *wanted);
     }
     Ok(())
 }
