@@ -1,10 +1,10 @@
-//! Runs over an outside that fails at one call. The bank has a print before a load and one behind it.
+//! Runs over an outside of which one call fails. The bank has a print before a load and one behind it.
 use crate::top::run;
 use std::alloc::Global;
 use std::test::Fail;
 use std::thread::Threads;
 use su_base::{List, NoMemory, Str};
-use su_io::{File, MemoryShelf, MemorySink, Outside, Shelf, Sink, Status, SteadyShelf, SteadySink};
+use su_io::{File, MemoryShelf, MemorySink, Outside, Shelf, Sink, Status};
 use su_par::OpenGate;
 
 const BANK: &str =
@@ -14,14 +14,58 @@ const SCRIPT: &str = "print BA; load AB from 'g.csv'; print AB;";
 
 const LOADED: &str = "ACCT,BAL\n1,100\n2,250\n";
 
-const REPLIES: [&str; 3] = [
-    "rows 0\nBANK,ACCT\n",
-    "loaded 2 of 2\n",
-    "rows 2\nACCT,BAL\n1,100\n2,250\n",
-];
+const CERTIFICATE: &str = "certificate 1 kinds int";
 
 const USAGE: &str =
     "usage: sysu run SCHEMA SCRIPT [--workers N] | sysu generate N | sysu check FILE\n";
+
+/// The files on the shelf, by their names.
+const FILES: &[(&str, &str)] = &[
+    ("s", BANK),
+    ("t", SCRIPT),
+    ("g.csv", LOADED),
+    ("c", CERTIFICATE),
+];
+
+/// What is asked for, and what it comes to where no call fails.
+struct Asked {
+    words: &'static [&'static str],
+    /// The files in the order they are read, each with how many replies are written before it.
+    reads: &'static [(&'static str, &'static str, usize)],
+    replies: &'static [&'static str],
+    status: Status,
+}
+
+const RUNS: &[Asked] = &[
+    Asked {
+        words: &["run", "s", "t"],
+        reads: &[("s", BANK, 0), ("t", SCRIPT, 0), ("g.csv", LOADED, 1)],
+        replies: &[
+            "rows 0\nBANK,ACCT\n",
+            "loaded 2 of 2\n",
+            "rows 2\nACCT,BAL\n1,100\n2,250\n",
+        ],
+        status: Status::Done,
+    },
+    Asked {
+        words: &["run", "g.csv", "t"],
+        reads: &[("g.csv", LOADED, 0)],
+        replies: &["schema refused: statement 1: syntax\n"],
+        status: Status::BadSchema,
+    },
+    Asked {
+        words: &["check", "c"],
+        reads: &[("c", CERTIFICATE, 0)],
+        replies: &["yes terms 0\n"],
+        status: Status::Done,
+    },
+    Asked {
+        words: &[],
+        reads: &[],
+        replies: &[USAGE],
+        status: Status::Usage,
+    },
+];
 
 fn words(alloc: Global, all: &[&str]) -> Result<List<Str>, NoMemory> {
     let mut words = List::new(alloc);
@@ -31,17 +75,6 @@ fn words(alloc: Global, all: &[&str]) -> Result<List<Str>, NoMemory> {
     Ok(words)
 }
 
-/// How a run of these words ends.
-fn ran<R: Threads + Sync, H: Shelf, K: Sink>(
-    rt: &R,
-    alloc: Global,
-    all: &[&str],
-    outside: &mut Outside<H, K>,
-) -> Result<Status, NoMemory> {
-    let words = words(alloc, all)?;
-    Ok(run(rt, alloc, words.as_slice(), outside, &OpenGate))
-}
-
 fn file(alloc: Global, name: &str, text: &str) -> Result<File, NoMemory> {
     Ok(File {
         name: Str::new(alloc, name)?,
@@ -49,55 +82,105 @@ fn file(alloc: Global, name: &str, text: &str) -> Result<File, NoMemory> {
     })
 }
 
-fn bank_files(alloc: Global) -> Result<List<File>, NoMemory> {
+fn files(alloc: Global) -> Result<List<File>, NoMemory> {
     let mut files = List::new(alloc);
-    files.push(file(alloc, "s", BANK)?)?;
-    files.push(file(alloc, "t", SCRIPT)?)?;
-    files.push(file(alloc, "g.csv", LOADED)?)?;
+    for (name, text) in FILES {
+        files.push(file(alloc, name, text)?)?;
+    }
     Ok(files)
 }
 
-/// The bank's files, behind a text of so many spaces under one of their names.
-fn files_behind(alloc: Global, long: &str, spaces: usize) -> Result<List<File>, NoMemory> {
-    let mut files = List::new(alloc);
-    files.push(File {
-        name: Str::new(alloc, long)?,
-        bytes: List::from_vec(vec![in alloc; b' '; spaces]?),
-    })?;
-    files.append(bank_files(alloc)?)?;
-    Ok(files)
+/// The shelf reads in pieces of 100, and its call number k fails.
+fn shelf_failing_at(alloc: Global, k: u64) -> Result<MemoryShelf, NoMemory> {
+    let mut fails = List::new(alloc);
+    fails.push(k)?;
+    Ok(MemoryShelf::new(files(alloc)?, fails, 100))
 }
 
-fn certificate(alloc: Global) -> Result<List<File>, NoMemory> {
-    let mut files = List::new(alloc);
-    files.push(file(alloc, "s", "certificate 1 kinds int")?)?;
-    Ok(files)
+/// The sink takes pieces of 4, and its call number k fails.
+fn sink_failing_at(alloc: Global, k: u64) -> Result<MemorySink, NoMemory> {
+    let mut fails = List::new(alloc);
+    fails.push(k)?;
+    MemorySink::new(alloc, fails, 4, 1000)
 }
 
-/// The shelf reads in pieces of 100, and call number k fails.
-fn failing_shelf(
+/// What a run comes to: its status, how many pieces of 4 bytes are written, and the file that is begun last.
+#[derive(Clone, Copy)]
+struct End {
+    status: Status,
+    pieces: u64,
+    begun: Option<&'static str>,
+}
+
+/// The first so many pieces of the replies.
+fn front(alloc: Global, replies: &[&str], pieces: u64) -> Result<Vec<u8>, NoMemory> {
+    let mut front = Vec::new(alloc);
+    let mut left = pieces;
+    for reply in replies {
+        for piece in reply.as_bytes().chunks(4) {
+            if left == 0 {
+                return Ok(front);
+            }
+            front.extend_from_slice(piece)?;
+            left -= 1;
+        }
+    }
+    Ok(front)
+}
+
+/// The bank's outside, of which a call of the shelf and one of the sink fail.
+fn failing_at(
     alloc: Global,
-    files: List<File>,
-    k: u64,
-) -> Result<Outside<MemoryShelf, SteadySink>, NoMemory> {
-    let fails = List::from_vec([k].as_slice().to_vec(alloc)?);
-    Ok(Outside {
-        shelf: MemoryShelf::new(files, fails, 100),
-        sink: SteadySink::new(alloc, 1000)?,
-    })
+    fails: (u64, u64),
+) -> Result<Outside<MemoryShelf, MemorySink>, NoMemory> {
+    let sink = sink_failing_at(alloc, fails.1)?;
+    let shelf = shelf_failing_at(alloc, fails.0)?;
+    Ok(Outside { shelf, sink })
 }
 
-/// The sink takes pieces of 4, and call number k fails.
-fn failing_sink(
+/// The run, without its promises.
+fn ran<R: Threads + Sync, H: Shelf, K: Sink>(
+    rt: &R,
     alloc: Global,
-    files: List<File>,
-    k: u64,
-) -> Result<Outside<SteadyShelf, MemorySink>, NoMemory> {
-    let fails = List::from_vec([k].as_slice().to_vec(alloc)?);
-    Ok(Outside {
-        shelf: SteadyShelf::new(files),
-        sink: MemorySink::new(alloc, fails, 4, 1000)?,
-    })
+    words: &[Str],
+    outside: &mut Outside<H, K>,
+) -> Status {
+    run(rt, alloc, words, outside, &OpenGate)
+}
+
+/// Whether these bytes are written and this file is begun last.
+fn is_left(
+    outside: &Outside<MemoryShelf, MemorySink>,
+    written: &[u8],
+    begun: Option<&str>,
+) -> bool {
+    outside.sink.written() == written && outside.shelf.begun().map(Str::as_str) == begun
+}
+
+/// Whether it ends so where a call of the shelf and one of the sink fail.
+fn ends_so<R: Threads + Sync>(
+    rt: &R,
+    alloc: Global,
+    asked: &Asked,
+    fails: (u64, u64),
+    end: End,
+) -> Result<bool, NoMemory> {
+    let written = front(alloc, asked.replies, end.pieces)?;
+    let words = words(alloc, asked.words)?;
+    let mut outside = failing_at(alloc, fails)?;
+    let status = ran(rt, alloc, words.as_slice(), &mut outside);
+    Ok(status == end.status && is_left(&outside, written.as_slice(), end.begun))
+}
+
+/// In how many pieces the first so many replies are written.
+fn pieces(replies: &[&str], count: usize) -> u64 {
+    let mut pieces = 0u64;
+    for (i, reply) in replies.iter().enumerate() {
+        if i < count {
+            pieces = pieces.wrapping_add((reply.len() as u64).div_ceil(4));
+        }
+    }
+    pieces
 }
 
 /// How many calls a file takes in pieces of 100: one to begin it, one a piece, and one to find its end.
@@ -105,142 +188,97 @@ fn calls(text: &str) -> u64 {
     (text.len() as u64).div_ceil(100).wrapping_add(2)
 }
 
-/// What is written, and which file was begun last, where call number k of the shelf fails.
-fn left_at(k: u64) -> (&'static str, &'static str) {
-    if k < calls(BANK) {
-        return ("", "s");
+/// How it ends where call number k of the shelf fails, or where there are fewer.
+fn end_at_shelf(asked: &Asked, k: u64) -> End {
+    let mut left = k;
+    let mut begun = None;
+    for (name, text, before) in asked.reads {
+        begun = Some(*name);
+        let needed = calls(text);
+        if left < needed {
+            return End {
+                status: Status::ReadFault,
+                pieces: pieces(asked.replies, *before),
+                begun,
+            };
+        }
+        left -= needed;
     }
-    if k < calls(BANK).wrapping_add(calls(SCRIPT)) {
-        return ("", "t");
+    End {
+        status: asked.status,
+        pieces: u64::MAX,
+        begun,
     }
-    (REPLIES[0], "g.csv")
+}
+
+/// How it ends where call number k of the sink fails, or where there are fewer: one call hands over
+/// behind the last piece.
+fn end_at_sink(asked: &Asked, k: u64) -> End {
+    let mut begun = None;
+    for (name, _, before) in asked.reads {
+        if pieces(asked.replies, *before) <= k {
+            begun = Some(*name);
+        }
+    }
+    let status = if k <= pieces(asked.replies, asked.replies.len()) {
+        Status::WriteFault
+    } else {
+        asked.status
+    };
+    End {
+        status,
+        pieces: k,
+        begun,
+    }
+}
+
+/// More calls than the shelf or the sink gets.
+const MANY: u64 = 24;
+
+/// The first failing call of the shelf with another end.
+fn otherwise_at_shelf<R: Threads + Sync>(
+    rt: &R,
+    alloc: Global,
+    asked: &Asked,
+) -> Result<Option<u64>, NoMemory> {
+    for k in 0..MANY {
+        if !ends_so(rt, alloc, asked, (k, MANY), end_at_shelf(asked, k))? {
+            return Ok(Some(k));
+        }
+    }
+    Ok(None)
+}
+
+/// The first failing call of the sink with another end.
+fn otherwise_at_sink<R: Threads + Sync>(
+    rt: &R,
+    alloc: Global,
+    asked: &Asked,
+) -> Result<Option<u64>, NoMemory> {
+    for k in 0..MANY {
+        if !ends_so(rt, alloc, asked, (MANY, k), end_at_sink(asked, k))? {
+            return Ok(Some(k));
+        }
+    }
+    Ok(None)
 }
 
 #[test]
 fn each_failing_call_of_the_shelf_leaves_the_replies_before_it(
     rt: HostRuntime,
 ) -> Result<(), Fail> {
-    let alloc = rt.alloc();
-    let all = calls(BANK)
-        .wrapping_add(calls(SCRIPT))
-        .wrapping_add(calls(LOADED));
-    for k in 0..all {
-        let mut outside = failing_shelf(alloc, bank_files(alloc)?, k)?;
-        let got = ran(&rt, alloc, &["run", "s", "t"], &mut outside)?;
-        let (left, begun) = left_at(k);
-        assert_eq!(rt; got, Status::ReadFault, "call {k}");
-        assert_eq!(rt; outside.sink.written(), left.as_bytes(), "call {k}");
-        let last = outside.shelf.begun().map(Str::as_str);
-        assert_eq!(rt; last, Some(begun), "call {k}");
+    for (i, asked) in RUNS.iter().enumerate() {
+        let call = otherwise_at_shelf(&rt, rt.alloc(), asked)?;
+        assert_eq!(rt; call, None, "run {i}");
     }
-    let mut outside = failing_shelf(alloc, bank_files(alloc)?, all)?;
-    let got = ran(&rt, alloc, &["run", "s", "t"], &mut outside)?;
-    assert_eq!(rt; got, Status::Done);
     Ok(())
-}
-
-/// What was written before each call of the sink, the hand-over behind the last piece among them.
-fn fronts(alloc: Global) -> Result<Vec<Vec<u8>>, Fail> {
-    let mut fronts = Vec::new(alloc);
-    let mut front = Vec::new(alloc);
-    for reply in REPLIES {
-        for piece in reply.as_bytes().chunks(4) {
-            fronts.push(front.as_slice().to_vec(alloc)?)?;
-            front.extend_from_slice(piece)?;
-        }
-    }
-    fronts.push(front)?;
-    Ok(fronts)
 }
 
 #[test]
 fn each_failing_call_of_the_sink_leaves_a_front(rt: HostRuntime) -> Result<(), Fail> {
-    let alloc = rt.alloc();
-    let fronts = fronts(alloc)?;
-    for (k, front) in fronts.as_slice().iter().enumerate() {
-        let mut outside = failing_sink(alloc, bank_files(alloc)?, k as u64)?;
-        let got = ran(&rt, alloc, &["run", "s", "t"], &mut outside)?;
-        assert_eq!(rt; got, Status::WriteFault, "call {k}");
-        assert_eq!(rt; outside.sink.written(), front.as_slice(), "call {k}");
-    }
-    Ok(())
-}
-
-/// The line of a refused schema and the usage line, each the whole output of its run.
-#[test]
-fn each_failing_call_of_the_sink_leaves_a_front_of_one_line(rt: HostRuntime) -> Result<(), Fail> {
-    let alloc = rt.alloc();
-    let cases = [
-        (
-            ["run", "g.csv", "t"].as_slice(),
-            "schema refused: statement 1: syntax\n",
-        ),
-        (&[], USAGE),
-    ];
-    for (all, line) in cases {
-        for k in 0..line.len().div_ceil(4).wrapping_add(1) {
-            let mut outside = failing_sink(alloc, bank_files(alloc)?, k as u64)?;
-            let got = ran(&rt, alloc, all, &mut outside)?;
-            let front = line
-                .as_bytes()
-                .split_at(line.len().min(k.saturating_mul(4)))
-                .0;
-            assert_eq!(rt; got, Status::WriteFault, "call {k}");
-            assert_eq!(rt; outside.sink.written(), front, "call {k}");
-        }
-    }
-    Ok(())
-}
-
-#[test]
-fn a_file_past_its_limit_is_the_last_begun(rt: HostRuntime) -> Result<(), Fail> {
-    let alloc = rt.alloc();
-    let cases = [
-        ("s", 1048577usize, ""),
-        ("t", 16777217, ""),
-        ("g.csv", 67108865, REPLIES[0]),
-    ];
-    for (long, spaces, left) in cases {
-        let mut outside = Outside {
-            shelf: SteadyShelf::new(files_behind(alloc, long, spaces)?),
-            sink: SteadySink::new(alloc, 1000)?,
-        };
-        let got = ran(&rt, alloc, &["run", "s", "t"], &mut outside)?;
-        assert_eq!(rt; got, Status::TooLong, "{long}");
-        assert_eq!(rt; outside.sink.written(), left.as_bytes(), "{long}");
-        let last = outside.shelf.begun().map(Str::as_str);
-        assert_eq!(rt; last, Some(long), "{long}");
-    }
-    Ok(())
-}
-
-/// The file is begun by call 0 and read by the other two.
-#[test]
-fn each_failing_call_of_the_shelf_ends_the_check(rt: HostRuntime) -> Result<(), Fail> {
-    let alloc = rt.alloc();
-    for k in 0..3 {
-        let mut outside = failing_shelf(alloc, certificate(alloc)?, k)?;
-        let got = ran(&rt, alloc, &["check", "s"], &mut outside)?;
-        assert_eq!(rt; got, Status::ReadFault, "call {k}");
-        assert!(rt; outside.sink.written().is_empty(), "call {k}");
-    }
-    Ok(())
-}
-
-/// The line is written in three pieces; behind them comes the hand-over.
-#[test]
-fn each_failing_call_of_the_sink_leaves_a_front_of_the_verdict(
-    rt: HostRuntime,
-) -> Result<(), Fail> {
-    let alloc = rt.alloc();
-    for (k, front) in ["", "yes ", "yes term", "yes terms 0\n"]
-        .into_iter()
-        .enumerate()
-    {
-        let mut outside = failing_sink(alloc, certificate(alloc)?, k as u64)?;
-        let got = ran(&rt, alloc, &["check", "s"], &mut outside)?;
-        assert_eq!(rt; got, Status::WriteFault, "call {k}");
-        assert_eq!(rt; outside.sink.written(), front.as_bytes(), "call {k}");
+    for (i, asked) in RUNS.iter().enumerate() {
+        let call = otherwise_at_sink(&rt, rt.alloc(), asked)?;
+        assert_eq!(rt; call, None, "run {i}");
     }
     Ok(())
 }
