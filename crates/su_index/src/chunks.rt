@@ -18,10 +18,10 @@ use std::collections::VecDeque;
 use su_base::NoMemory;
 
 /// How many entries a chunk has at most.
-const FULL: usize = 2048;
+const FULL: usize = 512;
 
 /// How many of them stay where a chunk is split.
-const HALF: usize = 1024;
+const HALF: usize = 256;
 
 /// The entry at the place.
 pub(crate) fn entry(chunks: &[Chunk], place: ChunkPlace) -> Entry
@@ -53,9 +53,9 @@ fn chunk_of(alloc: Global, entries: &[Entry], room: usize) -> Result<Chunk, NoMe
 
 /// The entries of a full chunk, and those behind them.
 fn parted(entries: &[Entry]) -> (&[Entry], &[Entry])
-    requires { 2048 < length entries.now }
+    requires { 512 < length entries.now }
     ensures parts { result.0.now ++ result.1.now ≡ entries.now }
-    ensures len { length result.0.now ≡ 2048 }
+    ensures len { length result.0.now ≡ 512 }
     ensures fewer { length result.1.now < length entries.now }
 {
     entries.split_at(FULL)
@@ -112,7 +112,7 @@ fn later_part(alloc: Global, chunk: &Chunk, at: usize) -> Result<Chunk, NoMemory
 /// Whether the chunk is full and isn't the last one.
 fn is_crowded(chunks: &[Chunk], chunk: usize) -> bool
     ensures within { OnTrue result (chunk + 1 < length chunks.now) }
-    ensures len { OnTrue result ((d : Piece) → 2048 ≤ len_at chunks.now chunk d) }
+    ensures len { OnTrue result ((d : Piece) → 512 ≤ len_at chunks.now chunk d) }
 {
     let count = chunks.len();
     count > 0 && chunk < count - 1 && chunks[chunk].entries.len() >= FULL

@@ -6,7 +6,7 @@
 //!
 //! An index holds an entry for each row in order of (lead, value, position). An entry is the position
 //! and the lead of the value, a number made of all of it: eight bytes. The entries are cut into chunks
-//! of any length, of which only the last may have none; a load fills 2048 entries into each. A place is
+//! of any length, of which only the last may have none; a load fills 512 entries into each. A place is
 //! a chunk and an offset in it. A look-up is a binary search among the last entries of the chunks and
 //! one within a chunk, by lead: they read a row only where the leads are equal, and the second no more
 //! once rows on both sides of the place are known to have the value. `found` looks up once where the entries
