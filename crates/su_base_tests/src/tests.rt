@@ -63,7 +63,7 @@ fn copies_of(alloc: Global, rows: &[Row]) -> Result<List<Row>, NoMemory> {
     Ok(copies)
 }
 
-fn is(value: &Value, cell: Cell) -> bool {
+fn is_cell(value: &Value, cell: Cell) -> bool {
     match (value, cell) {
         (Value::Int(number), I(want)) => *number == want,
         (Value::Text(text), T(want)) => text.as_str() == want,
@@ -74,8 +74,11 @@ fn is(value: &Value, cell: Cell) -> bool {
 /// Whether the rows have the values of the table.
 fn are_made(rows: &[Row]) -> bool {
     for (row, cells) in rows.iter().zip(ASCENDING) {
+        if row.len() != cells.len() {
+            return false;
+        }
         for (value, cell) in row.as_slice().iter().zip(*cells) {
-            if !is(value, *cell) {
+            if !is_cell(value, *cell) {
                 return false;
             }
         }

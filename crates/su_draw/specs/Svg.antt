@@ -14,7 +14,7 @@ abbrev pub heading_line : ℕ → ℕ → List ℕ → List ℕ
 heading_line x y text =
     element_line (codes "text") (number_attribute (codes "x") x ∷ number_attribute (codes "y") y ∷ word_of (codes "text-decoration") (codes "underline") ∷ []) (escaped text)
 
--- the ground of a row
+-- the grey behind a kept row
 abbrev pub band_line : ℕ → ℕ → ℕ → List ℕ
 band_line x y width =
     element_line (codes "rect") (number_attribute (codes "x") x ∷ number_attribute (codes "y") y ∷ number_attribute (codes "width") width ∷ word_of (codes "height") (codes "20") ∷ word_of (codes "fill") (codes "#e8e8e8") ∷ []) []

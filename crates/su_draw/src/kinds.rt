@@ -44,6 +44,7 @@ fn named(word: &[u8], name: &str, kind: Kind, other: Option<Kind>) -> Option<Kin
 fn outer_kind(word: &[u8]) -> Option<Kind>
     ensures { result ≡ outer_kind_of word.now }
 {
+    // From the last name to the first, so that the first that fits decides, as in the definition.
     let kind = named(word, "--", Kind::Maximal, None);
     let kind = named(word, "maximal", Kind::Declared, kind);
     let kind = named(word, "fd", Kind::Dependency, kind);
@@ -59,6 +60,7 @@ fn outer_kind(word: &[u8]) -> Option<Kind>
 fn inner_kind(word: &[u8]) -> Option<Kind>
     ensures { result ≡ inner_kind_of word.now }
 {
+    // From the last name to the first, as above.
     let kind = named(word, "covered", Kind::Covered, None);
     let kind = named(word, "sources", Kind::Sources, kind);
     let kind = named(word, "fold", Kind::Fold, kind);

@@ -363,7 +363,8 @@ fn told(alloc: Global, codes: &Codes, rest: Body) -> Result<Merged, AllocError>
     Ok(Merged::Nothing)
 }
 
-/// The body shrunk, without rows that are in no valuation and edges that say nothing more.
+/// The body shrunk: without rows that its checks or the lack of a partner exclude, and without ears of
+/// which nothing more is wanted.
 fn cut_down(alloc: Global, codes: &Codes, body: Body, needed: &[u32]) -> Result<Body, AllocError>
     requires some { 0 < length body.edges.items }
     requires there { AreThere needed.now body.checks.items body.edges.items }

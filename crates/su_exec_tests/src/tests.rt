@@ -478,7 +478,7 @@ const JOINS: &[(&str, &str, &str, u64, &str)] = &[
     ("", "5", "", 0, "more"),
 ];
 
-/// Whether the answers are those wanted, over either store.
+/// Asserts the answers, over either store.
 fn joins(
     rt: &impl Abort,
     alloc: Global,
@@ -489,7 +489,7 @@ fn joins(
     let asked = task(alloc, rows, outputs, comparisons)?;
     for store in [Store::Tables, Store::Plain] {
         let found = told(rt, alloc, store, tables, &asked, cap)?;
-        assert_eq!(rt; found.as_str(), wanted);
+        assert_eq!(rt; found.as_str(), wanted, "{rows}");
     }
     Ok(())
 }

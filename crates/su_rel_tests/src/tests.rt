@@ -96,12 +96,11 @@ fn rows(alloc: Global) -> Result<List<Row>, NoMemory>
     Ok(rows)
 }
 
-/// The rows, each once.
-fn filled(alloc: Global) -> Result<Relation, NoMemory> {
-    let rows = rows(alloc)?;
-    let mut relation = Relation::new(alloc, 2);
-    let _new = relation.insert_all(rows)?;
-    Ok(relation)
+/// Takes the rows in, and tells how many of them are new.
+fn fill(alloc: Global, relation: &mut Relation) -> Result<usize, NoMemory>
+    requires { relation.old.width ≡ 2 }
+{
+    relation.insert_all(rows(alloc)?)
 }
 
 /// Keeps the first ten rows.
@@ -124,24 +123,26 @@ fn remove_all(alloc: Global, relation: &mut Relation) -> Result<(), NoMemory> {
     Ok(())
 }
 
-/// How many rows there are at first, of the first ten, and in the end.
-fn lengths(alloc: Global, relation: &mut Relation) -> Result<[usize; 3], NoMemory> {
-    let all = relation.len();
+/// How many rows are new at first, how many are kept of them, and whether none is left in the end.
+fn counts(alloc: Global, relation: &mut Relation) -> Result<(usize, usize, bool), NoMemory>
+    requires { relation.old.width ≡ 2 }
+{
+    let new = fill(alloc, relation)?;
     keep_ten(alloc, relation)?;
     let ten = relation.len();
     remove_all(alloc, relation)?;
-    Ok([all, ten, relation.len()])
+    Ok((new, ten, relation.is_empty()))
 }
 
-/// The same of the relation that is filled.
-fn lengths_of_filled(alloc: Global) -> Result<[usize; 3], NoMemory> {
-    let mut relation = filled(alloc)?;
-    lengths(alloc, &mut relation)
+/// The same of a relation without rows.
+fn counts_of_new(alloc: Global) -> Result<(usize, usize, bool), NoMemory> {
+    let mut relation = Relation::new(alloc, 2);
+    counts(alloc, &mut relation)
 }
 
 #[test]
 fn many_rows_go_in_and_out_at_once(rt: HostRuntime) -> Result<(), Fail> {
-    let lengths = lengths_of_filled(rt.alloc())?;
-    assert_eq!(rt; lengths, [50000, 10, 0]);
+    let counts = counts_of_new(rt.alloc())?;
+    assert_eq!(rt; counts, (50000, 10, true));
     Ok(())
 }

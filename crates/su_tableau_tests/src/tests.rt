@@ -94,11 +94,20 @@ fn are_essential(t: &Tableau, all: &[AttrSet]) -> bool {
     true
 }
 
-/// Whether a copy of the tableau has these essential columns.
+/// Whether it has six columns, 46 symbols, one output and no comparison.
+fn has_its_parts(t: &Tableau) -> bool {
+    t.width() == 6
+        && t.symbols() == 46
+        && t.head().len() == 1
+        && t.outputs() == 1
+        && t.operators().is_empty()
+}
+
+/// Whether a copy of the tableau has its parts and these essential columns.
 fn copy_is_essential(alloc: Global, t: &Tableau) -> Result<bool, NoMemory> {
     let t = t.copy(alloc)?;
     let all = all_essential(alloc, &t, KEPT)?;
-    Ok(are_essential(&t, all.as_slice()))
+    Ok(has_its_parts(&t) && are_essential(&t, all.as_slice()))
 }
 
 /// Whether a copy of the tableau of the courses has them.

@@ -158,7 +158,8 @@ fn conditions_have_their_disjuncts_in_order(rt: HostRuntime) -> Result<(), Fail>
     Ok(())
 }
 
-/// How many disjuncts these pieces have before all of so many times "a or b".
+/// How many disjuncts the condition of these pieces has, with so many times "a or b" behind them as parts;
+/// 66 where they make no single condition.
 fn counted(alloc: Global, pieces: &[Piece], times: usize) -> Result<u32, NoMemory> {
     let mut stack = List::new(alloc);
     for _ in 0..times {

@@ -1,4 +1,4 @@
-//! Runs over an outside of which one call fails. The bank has a print before a load and one behind it.
+//! Runs over an outside of which one call fails. The script has a print before a load and one behind it.
 use crate::top::run;
 use std::alloc::Global;
 use std::test::Fail;

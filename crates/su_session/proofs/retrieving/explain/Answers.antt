@@ -1,4 +1,4 @@
--- There is one minimal for each term, as an explanation needs; where the query isn't made ready, the cause is the one defined, for want of memory never gets a reply.
+-- There is one minimal for each term, as an explanation needs; where the query isn't made ready, the cause is the one defined, since want of memory never gets a reply.
 use Rattle.std.proofs.Common.{length, ap, sym, ◌∙◌, inl}
 use Rattle.su_show.specs.RefusalLines.{IsNoMemory}
 use Rattle.su_session.specs.Outcomes.{Refuses}

@@ -1,4 +1,4 @@
--- Names that aren't all attributes are refused by the first unknown one, for want of memory never gets a reply.
+-- Names that aren't all attributes are refused by the first unknown one, since want of memory never gets a reply.
 use Rattle.std.proofs.Common.{◌≡◌, inl}
 use Rattle.su_query.specs.declared.faults.QueryFault.TheVariants.{NoMemory}
 use Rattle.su_query.specs.Sets.{IsNameRefusal}
