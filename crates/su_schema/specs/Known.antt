@@ -13,7 +13,7 @@ use Rattle.su_schema.specs.Entries.{attribute_names, attribute_kinds, relation_c
 abbrev pub is_known : List (List ℕ) → List ℕ → Bool
 is_known names name = list_any (λ n. bytes_eq name n) names
 
--- the number of a name that is known
+-- the place of a name among these, or how many they are where it is none of them
 abbrev pub number_of : List (List ℕ) → List ℕ → ℕ
 number_of names name = position_or_len (λ n. bytes_eq name n) names
 

@@ -1,4 +1,4 @@
--- Rows of symbols as rows of items, and variables with their new values. No public clause cites this module.
+-- Rows of symbols as rows of items, and variables with their new values. No public contract cites this module.
 -- numbered: the constants of the rows, ascending, each once, are the first items, and the variables follow
 use Rattle.std.specs.Prelude.{◌≡◌, ◌≢◌, ◌⊎◌, ◌↔◌, ℕ, ◌+◌, ◌<◌, ◌≤◌, cond, nat_eq, pos, IsTrue, Option, Some, None, List, [], ◌∷◌, map, flat_map, length, get_or, All, Contains}
 use Rattle.std.specs.FinSet.{contains}

@@ -1,4 +1,4 @@
--- The terms of two queries over one universal relation. No public clause cites this module.
+-- The terms of two queries over one universal relation. No public contract cites this module.
 use Rattle.std.specs.Prelude.{◌≡◌, ◌↔◌, ℕ, ◌<◌, List, [], ◌∷◌, ◌++◌, length, flat_map}
 use Rattle.su_base.specs.declared.values.Value.{Value}
 use Rattle.su_fd.specs.declared.dependencies.Fd.{Fd}

@@ -1,4 +1,4 @@
--- Candidates as rows of codes. No public clause cites this module.
+-- Candidates as rows of codes. No public contract cites this module.
 use Rattle.std.specs.Prelude.{◌≡◌, ◌<◌, ℕ, List, [], ◌∷◌, ◌++◌, map, length, get_or}
 use Rattle.su_base.specs.declared.values.Value.{Value}
 use Rattle.su_reduce.specs.declared.edges.Edge.{Edge}

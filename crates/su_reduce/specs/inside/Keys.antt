@@ -1,4 +1,4 @@
--- Places of variables. No public clause cites this module.
+-- Places of variables. No public contract cites this module.
 -- shared places: a place on either side for each variable of both
 use Rattle.std.specs.Prelude.{◌≡◌, ℕ, ◌<◌, pos, List, length, get_or, Contains}
 use Rattle.su_base.specs.declared.values.Value.{Value}

@@ -1,4 +1,4 @@
--- Marks of candidates, and what a semijoin leaves of them. No public clause cites this module.
+-- Marks of candidates, and what a semijoin leaves of them. No public contract cites this module.
 -- marks: for each edge, which of its candidates are not taken away yet
 use Rattle.std.specs.Prelude.{◌≡◌, ◌≢◌, ℕ, ◌<◌, ◌↔◌, Bool, false, IsTrue, List, [], length, get_or}
 use Rattle.su_base.specs.declared.values.Value.{Value}

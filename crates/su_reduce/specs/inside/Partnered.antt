@@ -1,4 +1,4 @@
--- Keys of marked rows. No public clause cites this module.
+-- Keys of marked rows. No public contract cites this module.
 use Rattle.std.specs.Prelude.{◌≡◌, ◌↔◌, ℕ, Bool, false, IsTrue, List, [], ◌∷◌, get_or, Contains}
 use Rattle.su_reduce.specs.declared.partners.Keys.{Keys as AKeys}
 use Rattle.su_reduce.specs.declared.partners.Keys.TheVariants.{Codes, Rows}

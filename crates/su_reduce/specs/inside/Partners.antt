@@ -1,4 +1,4 @@
--- Which edges have the variables of an edge. No public clause cites this module.
+-- Which edges have the variables of an edge. No public contract cites this module.
 -- sets: for each cell of an edge the edges that have its variable, none for a constant
 use Rattle.std.specs.Prelude.{◌≡◌, ℕ, ◌<◌, ◌↔◌, IsTrue, List, [], length, get_or, Option, MatchOption, None, Some}
 use Rattle.std.specs.Ordering.{nat_cmp}

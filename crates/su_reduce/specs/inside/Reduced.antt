@@ -1,4 +1,4 @@
--- What semijoins along an ear order leave. No public clause cites this module.
+-- What semijoins along an ear order leave. No public contract cites this module.
 use Rattle.std.specs.Prelude.{◌≡◌, ℕ, ◌<◌, Bool, List, [], ◌∷◌, length, Contains, Option, None, Some}
 use Rattle.su_base.specs.declared.values.Value.{Value}
 use Rattle.su_tableau.specs.Valuations.{values_of}

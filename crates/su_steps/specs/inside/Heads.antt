@@ -1,4 +1,4 @@
--- The head of a tableau beside its operators. No public clause cites this module.
+-- The head of a tableau beside its operators. No public contract cites this module.
 use Rattle.std.specs.Prelude.{◌≡◌, ℕ, Bool, true, false, List, [], ◌++◌, map, Option, MatchOption, Contains}
 use Rattle.su_tableau.specs.declared.symbols.Sym.{Sym}
 use Rattle.su_steps.specs.declared.building.Head.{Head}

@@ -1,4 +1,4 @@
--- What the parts of a term rest on. No public clause cites this module.
+-- What the parts of a term rest on. No public contract cites this module.
 use Rattle.std.specs.Prelude.{◌≡◌, ℕ, ◌+◌, ◌*◌, ◌<◌, ◌≤◌, IsTrue, List, length, map, get_or, All, Contains}
 use Rattle.std.specs.Ordering.{nat_cmp}
 use Rattle.std.specs.FinSet.{FinSet, contains, empty}

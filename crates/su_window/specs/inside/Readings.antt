@@ -1,4 +1,4 @@
--- How the members are read, and the chased rows. No public clause cites this module.
+-- How the members are read, and the chased rows. No public contract cites this module.
 -- columns of an object: for each attribute the column from which the object takes it, if it is its own
 -- so far: the members of the objects before one, and its own by the first rows of its relation, are read
 use Rattle.std.specs.Prelude.{◌≡◌, ◌↔◌, ◌⊎◌, ℕ, ◌<◌, pos, Bool, false, IsTrue, List, [], ◌∷◌, map, flat_map, take, length, get_or, Contains, Option, MatchOption, Some, None, All}

@@ -1,4 +1,5 @@
 -- A recursive type may hold itself through `Boxed`: it holds one value, that of the `Box` inside.
+-- the_former, the_weighed: what `Boxed<T>` holds for each T, in the form by which the checker admits a type that holds itself
 use mathlib.Core.Path.{refl}
 use mathlib.Core.Former.{Former, this, const, pair, via}
 use base.Stored.{gnil}

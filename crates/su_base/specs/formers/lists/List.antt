@@ -1,4 +1,5 @@
 -- A recursive type may hold itself through `List`: its items are those of the `Vec` inside, in order.
+-- the_former, the_weighed: what `List<T>` holds for each T, in the form by which the checker admits a type that holds itself
 use mathlib.Core.Path.{◌≡◌, refl, sym}
 use mathlib.Core.List.{List as Items, []}
 use mathlib.Core.Former.{Former, this, list, via, children}
