@@ -1,4 +1,6 @@
 -- A row's task by itself, and its candidates.
+-- task: rows to be joined, and the symbols whose values are asked for; tables: the stored relations, by number
+-- candidate: the values that a stored row of one of the row's sources gives its cells; edge: cells and their candidates; h: one value per cell
 -- No public contract cites this module.
 use Rattle.std.specs.Prelude.{◌≡◌, ◌↔◌, List, [], ◌∷◌, Contains}
 use Rattle.su_base.specs.declared.values.Value.{Value}

@@ -1,4 +1,6 @@
 -- What the jobs of kept terms give, one after another.
+-- kept term: one that the union of a query's terms keeps; m: a term with its kept rows and its fold; job: such a term over a database
+-- tables: the stored relations, by number; h: the values of a head; found: the rows that one join gives, none where they are too many
 -- No public contract cites this module.
 use Rattle.std.specs.Prelude.{◌≡◌, ◌↔◌, List, Contains, MatchOption, Some}
 use Rattle.std.specs.List.Sorted.{IsStrictlySortedBy}

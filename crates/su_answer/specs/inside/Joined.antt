@@ -1,4 +1,6 @@
 -- Sources of objects, gathered one after another.
+-- source: the relation of an object, with its columns for some attributes; o: an object, by its number from 0; attributes: by number, ascending
+-- m: a set of rows, as a number whose bit i is 1 where row i is in it
 -- No public contract cites this module.
 use Rattle.std.specs.Int.{bit_at}
 use Rattle.std.specs.Prelude.{◌≡◌, ◌<◌, ℕ, IsTrue, List, length, Contains}

@@ -1,4 +1,6 @@
 -- The greatest row of two lists that ascend.
+-- ascend: in the order of lists of values; taken: off the end of a list
+-- before, after: a list as it was, and what is left of it; one, other: the two lists
 -- No public contract cites this module.
 use Rattle.std.specs.Prelude.{◌≡◌, ◌⊎◌, ◌-◌, ◌++◌, ◌∷◌, [], List, Contains, Option, Some, None, length, slice_get}
 use Rattle.std.specs.declared.cmp.Ordering.{Ordering}

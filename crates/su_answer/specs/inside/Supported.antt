@@ -1,4 +1,6 @@
 -- The edges of a term's kept rows, and what is counted of them.
+-- edge: the cells of a kept row and its candidates; k: an edge, by its place among the kept rows, from 0; numbers: the kept rows, by their numbers
+-- m: a term's tableau with its kept rows; left: for each edge those of its candidates that a valuation of all edges takes
 -- No public contract cites this module.
 use Rattle.std.specs.Prelude.{ℕ, ◌≤◌, List, [], All, length, get_or, Option, None, Some}
 use Rattle.std.specs.List.{AllZip}

@@ -1,4 +1,6 @@
 -- Rows with their targets, cell by cell.
+-- target: the row to which a row goes; xs, ys: two rows; us, vs: their targets; c, e: columns, from 0
+-- t: the head, the rows and the kept rows of a term; sent: a row and its target, by their numbers
 -- No public contract cites this module.
 use Rattle.std.specs.Prelude.{◌≡◌, ◌<◌, ℕ, List, true, length}
 use Rattle.su_tableau.specs.declared.symbols.Sym.{Sym}

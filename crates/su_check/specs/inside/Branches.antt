@@ -1,4 +1,6 @@
 -- What a branch of a tree shows.
+-- node: a row that is to go somewhere, with a branch for each target that fits it; to refute a list: to show that not all kept rows get targets beside it
+-- t: the head, the rows and the kept rows of a term; r: the row that is left out; p: rows with their targets so far; s, target: rows, by number
 -- No public contract cites this module.
 use Rattle.std.specs.Prelude.{◌≡◌, ℕ, List}
 use Rattle.su_check.specs.declared.nodes.Branch.{Branch}

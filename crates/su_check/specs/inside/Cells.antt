@@ -1,4 +1,7 @@
 -- Cells of rows, their variables and their kinds.
+-- k: a variable, by its number; c: a column, from 0; n: a place in `variables`, from 0; f: a kind for each variable
+-- variables: those of the rows, ascending, each as often as it stands there; found: the kind found for each, at its first place, or none
+-- kinds: one for each column
 -- No public contract cites this module.
 use Rattle.std.specs.Prelude.{◌≡◌, ◌<◌, ℕ, Bool, true, false, Option, None, Some, List, [], length, map, get_or, All}
 use Rattle.su_base.specs.declared.values.Kind.{Kind}

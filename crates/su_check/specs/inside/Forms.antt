@@ -1,4 +1,6 @@
 -- The board of a term whose form is looked at.
+-- board: the variables of a term's rows, and for each cell the number of its variable; good in form: as in Certificate
+-- x: a term of a certificate; place: where it stands among the terms, from 0; kinds: one for each column
 -- No public contract cites this module.
 use Rattle.std.specs.Prelude.{ℕ, List, Option, MatchOption}
 use Rattle.su_base.specs.declared.values.Kind.{Kind}

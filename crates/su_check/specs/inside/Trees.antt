@@ -1,4 +1,6 @@
 -- When the trees of a term are good.
+-- x: a term of a certificate; tree: what shows that one kept row can't be left out
+-- k: a place among the kept rows, from 0, and among the trees; kept: the numbers of these rows
 -- No public contract cites this module.
 use Rattle.std.specs.Prelude.{◌<◌, ◌≤◌, ℕ, length}
 use Rattle.su_check.specs.declared.certificates.Term.{Term}

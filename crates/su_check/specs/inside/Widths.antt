@@ -1,4 +1,5 @@
 -- Rows of one width, and pairs of rows that are there.
+-- width: how many symbols a row has; t: the head, the rows and the kept rows of a term; sent: a row and the row to which it goes, by number
 -- No public contract cites this module.
 use Rattle.std.specs.Prelude.{◌≡◌, ◌<◌, ℕ, List, [], get_or, length}
 use Rattle.su_tableau.specs.declared.symbols.Sym.{Sym}

@@ -1,4 +1,7 @@
--- Of Tables: what only contracts of private functions need.
+-- Trees of items whose parents need not be roots, and what steps make of them.
+-- table: for each item, counted from 0, its parent; root: an item that is its own parent; class: the items of one tree
+-- label: a symbol for each item; sound: each item has its parent's label; flat: each parent is a root
+-- path: from an item to its root; old, new: the table before a step and after it
 -- No public contract cites this module.
 use Rattle.std.specs.Prelude.{◌≡◌, ◌↔◌, ◌⊎◌, ℕ, zero, suc, ◌+◌, ◌<◌, ◌≤◌, Bool, true, false, cond, nat_eq, List, length}
 use Rattle.su_tableau.specs.declared.symbols.Sym.{Sym}

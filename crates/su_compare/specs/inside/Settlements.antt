@@ -1,4 +1,8 @@
--- The terms of two queries over one universal relation. No public contract cites this module.
+-- The terms of two queries over one universal relation.
+-- settled: its chase clashes, or a term of the second query maps into its chased tableau; by: which of the two; open: not settled
+-- t, s: tableaux, but in the last definition s is how t is settled; c: a chased tableau, or a constant; h: the values of a head
+-- universe: the rows of a universal relation; room: memory for a search for mappings
+-- No public contract cites this module.
 use Rattle.std.specs.Prelude.{◌≡◌, ◌↔◌, ℕ, ◌<◌, List, [], ◌∷◌, ◌++◌, length, flat_map}
 use Rattle.su_base.specs.declared.values.Value.{Value}
 use Rattle.su_fd.specs.declared.dependencies.Fd.{Fd}
@@ -27,7 +31,7 @@ pub record IsAlike (t s : Tab) : Type 0 where
   pub outputs : s.outputs ≡ t.outputs
   pub operators : s.operators ≡ t.operators
 
--- the tableau has the width and the outputs of each of the terms
+-- each of the terms has the tableau's width, number of outputs and operators
 abbrev pub AreAlike : Tab → List Term → Type 0
 AreAlike t terms = (i : ℕ) → i < length terms → IsAlike t (tab_at terms i)
 

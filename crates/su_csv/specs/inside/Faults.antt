@@ -1,4 +1,6 @@
 -- The fault of a record of which some field has no value.
+-- record: the fields of one line; number: which record it is, from 1 after the header; place, column: which column, from 0
+-- columns: names and kinds; without a value: not written as its column's kind asks
 -- No public contract cites this module.
 use Rattle.std.specs.Prelude.{◌≡◌, ℕ, List, MatchOption}
 use Rattle.su_base.specs.declared.values.Column.{Column}

@@ -1,4 +1,5 @@
 -- How a row and the rows under a header are answered.
+-- result: what came out; answer: what the definitions ask for, a value or a fault
 -- No public contract cites this module.
 use Rattle.std.specs.Prelude.{◌≡◌, ◌⊎◌, MatchResult, Result, Ok, Err}
 use Rattle.su_csv.specs.declared.faults.CsvFault.{CsvFault}

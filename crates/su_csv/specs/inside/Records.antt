@@ -1,4 +1,6 @@
 -- The records that a reader has left.
+-- record: a list of fields, each a list of bytes; left: not read yet; state: what `csv` remembers of the bytes that it has read
+-- before, after: the records that are left before a step and after it
 -- No public contract cites this module.
 use Rattle.std.specs.Prelude.{◌≡◌, ◌+◌, ℕ, Bool, true, false, List, [], ◌∷◌, length, Option, Some, None, IsSome}
 use denote.Ref.{Bor}

@@ -1,4 +1,6 @@
 -- What a writer holds, and the values that it is given.
+-- writer: one of `csv`, into a list of bytes; pending: what it was given and hasn't handed on to the list
+-- n: a whole number; t: a text, as its bytes
 -- No public contract cites this module.
 use Rattle.std.specs.Prelude.{◌≡◌, ◌++◌, ℕ, true, false, List, Vec, IsUtf8}
 use Rattle.std.specs.declared.alloc.Global.{Global}

@@ -1,4 +1,5 @@
 -- Columns as a definition may name them.
+-- column: a name and a kind; name: a word that is not reserved; c, d: columns; symbol: what a token of the language means
 -- No public contract cites this module.
 use Rattle.std.specs.Prelude.{List, [], ◌∷◌}
 use Rattle.std.specs.List.{AllByRecursion}

@@ -1,4 +1,5 @@
 -- How the pairs of an object are collected.
+-- pair: an attribute of the object and the column that it is read from, both by name; o: an object, as the schema has it
 -- No public contract cites this module.
 use Rattle.std.specs.Prelude.{List, [], ◌∷◌, Option, Some, None, filter_map, length}
 use Rattle.std.specs.List.{range_with_len}

@@ -1,4 +1,5 @@
 -- Attributes of XML as they are handed to a writer.
+-- pair: a name with a number or with a word; attribute: a name and a value, both written out; n: a number, written as a decimal
 -- No public contract cites this module.
 use Rattle.std.specs.Prelude.{List, map}
 use Rattle.su_draw.specs.declared.elements.Pair.{Pair}

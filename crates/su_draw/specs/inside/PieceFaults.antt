@@ -1,4 +1,5 @@
 -- The first line at fault among the pieces of a text.
+-- piece: a line, with its number and its words; number: as an editor counts, from 1; at fault: it can't stand behind the lines before it
 -- No public contract cites this module.
 use Rattle.std.specs.Prelude.{List}
 use Rattle.su_draw.specs.declared.pieces.Piece.{Piece}

@@ -1,4 +1,5 @@
 -- What is added to rows of codes.
+-- code: a number that stands for a value; old, new: the rows before a step and after it; such: what is asked of new rows
 -- No public contract cites this module.
 use Rattle.std.specs.Prelude.{◌⊎◌, ℕ, Option, List, length, Contains}
 use Rattle.su_exec.specs.inside.Joins.{IsUpTo}

@@ -1,4 +1,7 @@
 -- Candidates as values: what their codes stand for.
+-- code: a value's place in `values`, from 0; edge: variables, and the rows that they may have together; e, g: edges; es: the candidates so far
+-- cells: the symbols of a row; firsts: for each variable the cell where it stands first; columns: of a source, one for each cell
+-- v: a valuation; h: a value for each variable of a row; left: rows of the task for which nothing is fetched yet, by number
 -- No public contract cites this module.
 use Rattle.std.specs.Prelude.{◌≡◌, ◌<◌, ◌⊎◌, ◌↔◌, ℕ, pos, true, Option, Some, MatchOption, List, Vec, [], map, sum, length, slice_get, slice_index_or, All, Contains}
 use Rattle.std.specs.declared.alloc.Global.{Global}

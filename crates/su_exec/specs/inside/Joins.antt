@@ -1,4 +1,7 @@
 -- Joins of lists of rows, with only some columns kept.
+-- key: the cells that are to be equal in both rows; out: the cells that are kept; both by place in their row, from 0
+-- ls, rs: the rows on the left and on the right; r: a row of the join; t: a test of a pair of rows; most: a bound of how many there may be
+-- edge: variables, and the rows of codes that they may have together; a, b, g: edges; xs, ys: the variables on the left and on the right
 -- No public contract cites this module.
 use Rattle.std.specs.Prelude.{◌≡◌, ℕ, ◌<◌, ◌≤◌, Bool, true, false, Option, None, Some, List, [], ◌∷◌, ◌++◌, map, length, slice_index_or, All, Contains}
 use Rattle.su_reduce.specs.Sheets.{pick, AreBelow, AllDiffer}

@@ -1,4 +1,7 @@
 -- Plans: how two lists of rows are joined.
+-- plan: which cells of two rows are to be equal, which tests they are to pass, and which cells are kept; place: of a cell in its row, from 0
+-- row, other: one on the left and one on the right; r: what they make; rs: the rows on the right
+-- bucket: those of the rows whose keys' hashes leave one rest; heads: one for each bucket, 0 where it has no row
 -- No public contract cites this module.
 use Rattle.std.specs.Prelude.{◌≡◌, ◌<◌, ℕ, Bool, true, List, ◌++◌, length, get_or, All}
 use Rattle.su_base.specs.declared.values.Value.{Value}

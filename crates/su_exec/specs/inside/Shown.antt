@@ -1,4 +1,7 @@
 -- What candidates show: the values of terms under the valuations that fit them.
+-- symbol: a constant or a variable; term: a code or a variable; code: a value's place in `values`, from 0; spot: where a row of codes has a term
+-- edge: variables, and the rows that they may have together; es, fs, e, g: edges; v: a code for each variable; h: a value for each term
+-- merged body: edges made one; over: there is more than was asked for; nothing: no valuation fits it
 -- No public contract cites this module.
 use Rattle.std.specs.Prelude.{◌≡◌, ◌<◌, ◌≤◌, ◌++◌, ◌⊎◌, ◌↔◌, ℕ, true, List, [], ◌∷◌, map, length, Contains}
 use Rattle.std.specs.List.{AllZip}

@@ -1,4 +1,6 @@
--- Of Chunks: what only contracts of private functions need.
+-- Places among the chunks of an index, and which chunks have room.
+-- chunk: entries that follow one another; k: a chunk, by its number from 0; d: what stands in where there is no such chunk
+-- place: a chunk, and how many of its entries stand before; room: for how many entries a chunk has memory
 -- No public contract cites this module.
 use Rattle.std.specs.Prelude.{◌<◌, ◌≤◌, ◌+◌, ◌-◌, ℕ, List, length, take, slice_index_or}
 use Rattle.std.specs.List.{insert, remove}

@@ -1,4 +1,6 @@
--- Of Entries: what only contracts of private functions need.
+-- Runs of entries, and what is left of them when rows go.
+-- entry: the position of a row, and the lead of its value; lead: a number of the value, the same for equal values; at: the value at each position
+-- run: a list of entries; in order: by lead, then by value, then by position; kept: whether the row at each position stays
 -- No public contract cites this module.
 use Rattle.std.specs.Prelude.{ℕ, Bool, List, map, filter}
 use Rattle.std.specs.List.Sorted.{IsStrictlySortedBy}

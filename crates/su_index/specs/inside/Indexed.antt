@@ -1,4 +1,7 @@
--- Of Indexed: what only contracts of private functions need.
+-- The indexes of a relation while rows come and go.
+-- index: of a column, an entry for each row, in order; column: of the relation, from 0; d: what stands in where there is no such index
+-- position: of a row among the stored ones, from 0; p: the position of a row that goes; kept: whether the row at each position stays
+-- run: positions from one on, each once and in order
 -- No public contract cites this module.
 use Rattle.std.specs.Prelude.{◌≡◌, ◌<◌, ◌-◌, ℕ, List, length, slice_index_or, All, Bool}
 use Rattle.su_base.specs.declared.values.Value.{Value}

@@ -1,4 +1,7 @@
--- Of Order: what only contracts of private functions need.
+-- Where the rows of a value stand in an index, and the positions to which rows come when others go.
+-- position: of a row among the stored ones, from 0; p, q: positions; at: the value at each position; v: a value
+-- run: a list of positions; in order: by the lead of the value, then by value, then by position; first, past: places in the run, from 0
+-- kept: whether the row at each position stays
 -- No public contract cites this module.
 use Rattle.std.specs.Prelude.{◌≡◌, ◌<◌, ◌≤◌, ℕ, Bool, true, false, slice_index, cond, nat_eq, List, length, slice_index_or, All}
 use Rattle.std.specs.Ordering.{is_lt, is_eq}

@@ -1,4 +1,6 @@
 -- What the first bytes of a text tell of its first token.
+-- class: of a token, by what its first bytes are: a word, a number, a text or a sign; quoted part: a byte of a text's content, its end, or none
+-- bytes: 33 !  39 '  40 (  41 )  44 ,  45 -  46 .  60 <  61 =  62 >
 -- No public contract cites this module.
 use Rattle.std.specs.Prelude.{Option, Some, None, ℕ, ◌&&◌, ◌||◌, if◌then◌else◌, ◌==◌, List, [], ◌∷◌}
 use Rattle.std.specs.Char.{is_ascii_digit}

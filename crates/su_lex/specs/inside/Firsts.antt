@@ -1,4 +1,6 @@
 -- The first token and the first symbol of a text.
+-- token: a word, a numeral, a text in quotes or a sign; kind: which of these, with its number, content or sign; symbol: the same, for a word with its bytes
+-- front: the bytes of the token; rest: those behind it, which may not make it longer
 -- No public contract cites this module.
 use Rattle.std.specs.Prelude.{◌≡◌, ℕ, List, ◌++◌, length}
 use Rattle.su_lex.specs.TokenForms.{IsToken}

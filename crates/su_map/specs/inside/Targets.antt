@@ -1,4 +1,7 @@
 -- Targets of a row, cell by cell.
+-- s, t: a tableau, and the one that it is mapped into; i, q: rows of s; j, p: rows of t; m, k: sets of these rows, k also a variable
+-- set: a number whose bit j is 1 where row j is in it; base: for each row of s a set of targets; near: a set of other rows, for one row or for each
+-- rows_of, rows_at: for each variable the rows noted there; b, c, e: columns, from 0; d: what stands in where there is no cell or row
 -- No public contract cites this module.
 use Rattle.std.specs.Prelude.{◌≡◌, ◌≢◌, ℕ, ◌+◌, ◌*◌, ◌<◌, ◌≤◌, ◌↔◌, List, length, get_or, Contains, Option, Some, None}
 use Rattle.std.specs.Int.{bit_at}

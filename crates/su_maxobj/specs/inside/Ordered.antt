@@ -1,4 +1,5 @@
 -- Two lists of dependencies that have the same members, and so the same closed sets.
+-- closed: a set that has the right side of each dependency whose left side it has
 -- No public contract cites this module.
 use Rattle.std.specs.Prelude.{List, All, Contains}
 use Rattle.su_fd.specs.declared.Fd.{Fd}
