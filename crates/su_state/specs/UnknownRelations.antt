@@ -1,4 +1,5 @@
 -- Names of relations that a schema doesn't have.
+-- name: a list of bytes; fault: why rows are not changed; place: a name's number among names, from 0
 use Rattle.std.specs.Prelude.{◌≡◌, ℕ, List, None}
 use Rattle.su_schema.specs.SchemaValue.{SchemaValue}
 use Rattle.su_schema.specs.Entries.{relation_names, place_of}

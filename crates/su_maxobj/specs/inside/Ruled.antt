@@ -1,4 +1,6 @@
 -- Objects that a search has ruled out.
+-- fds: the dependencies; objects: the attributes of each object, by number from 0
+-- have: the objects that the search has taken so far, by number; these: those that it need not try again; k: an object
 -- No public contract cites this module.
 use Rattle.std.specs.Prelude.{ℕ, IsTrue, List}
 use Rattle.std.specs.Ordering.{nat_cmp}

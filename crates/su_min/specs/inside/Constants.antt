@@ -1,4 +1,5 @@
 -- Symbols whose variables are not told apart.
+-- symbol: a constant, or a variable with a number; image_of: leaves constants as they are
 -- No public contract cites this module.
 use Rattle.su_tableau.specs.declared.symbols.Sym.{Sym}
 use Rattle.su_tableau.specs.declared.symbols.Sym.TheVariants.{Var}

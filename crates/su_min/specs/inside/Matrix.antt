@@ -1,4 +1,6 @@
 -- The matrix of coverings: entry j, i tells whether term j covers term i.
+-- term: a tableau with its kept rows and fold; i, j, k: terms by number, from 0; n: how many there are; covers: the entries, as a function
+-- marks: of each number whether something is known of it; past their end nothing is; dropped: not kept in the union of the terms
 -- No public contract cites this module.
 use Rattle.std.specs.Prelude.{◌≡◌, ◌<◌, ◌↔◌, ◌⊎◌, ℕ, Bool, true, false, List, [], length, get_or}
 use Rattle.su_min.specs.Kept.{Minimised, IsMinimised}

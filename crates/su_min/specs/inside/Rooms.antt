@@ -1,4 +1,6 @@
 -- A room that serves the searches of several terms.
+-- room: memory that a search needs, made once, for so many rows and symbols; none: it isn't made yet
+-- term: a tableau with its kept rows and fold; i: a term by number, from 0
 -- No public contract cites this module.
 use Rattle.std.specs.Prelude.{◌<◌, ℕ, List, Option, length, IfSome}
 use Rattle.su_map.specs.Rooms.{Space, IsRoomFor}

@@ -1,4 +1,5 @@
 -- Which comparisons a condition has.
+-- comparison: two sides, each a ref or a constant, and an operator; compared: comparisons that are borrowed; now: what is borrowed
 -- No public contract cites this module.
 use denote.Ref.{Bor}
 use Rattle.std.specs.Prelude.{◌≡◌, List, map}

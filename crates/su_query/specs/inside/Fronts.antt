@@ -1,4 +1,5 @@
 -- What symbols begin with, where a form is told by it.
+-- symbol: a word, a whole number, a text or a sign, as su_lex reads them; w: a word's bytes; x: a symbol of any kind; s: the symbols behind
 -- No public contract cites this module.
 use Rattle.std.specs.Prelude.{Bool, true, false, List, ◌∷◌}
 use Rattle.su_lex.specs.declared.signs.Sign.TheVariants as sign

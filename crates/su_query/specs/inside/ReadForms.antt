@@ -1,4 +1,6 @@
 -- How statements are read, each to the end of its symbols.
+-- st: a statement; s: all its symbols; t: those behind the words that it begins with; form: how these are written
+-- relation, file, names: lists of bytes; q, first, second: queries over names; cond: a condition over names
 -- No public contract cites this module.
 use Rattle.std.specs.Prelude.{◌≡◌, ℕ, codes, List, [], ◌∷◌}
 use Rattle.su_base.specs.declared.values.Value.{Value}

@@ -1,4 +1,6 @@
 -- Numbers that stand for refs, taken from the front of a list.
+-- ref: an attribute, with its variable or without; number: gives each ref its number; rest: the numbers that are not taken yet
+-- old, new: the list before and after; of: how the numbers make a thing; made: that thing
 -- No public contract cites this module.
 use Rattle.std.specs.Prelude.{◌≡◌, ℕ, List, ◌++◌, map}
 use Rattle.su_query.specs.declared.refs.Ref.{Ref as ARef}

@@ -1,4 +1,5 @@
 -- Which scopes a schema has: its attributes, and the columns of each of its relations.
+-- scope: the names among which a name is looked up; r: a relation by number, from 0
 -- No public contract cites this module.
 use Rattle.std.specs.Prelude.{◌<◌, length}
 use Rattle.su_schema.specs.SchemaValue.{SchemaValue}

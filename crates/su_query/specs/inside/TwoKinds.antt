@@ -1,4 +1,6 @@
 -- The first comparison over numbers whose sides are of two kinds.
+-- kind: whole numbers or texts; kinds: one for each place, in order; place: a number from 0 in a literal
+-- literal: a comparison of two operands, each a place or a constant; fault: why a query or a condition is refused
 -- No public contract cites this module.
 use Rattle.std.specs.Prelude.{◌≡◌, Bool, not, List, Option, Some, option_map, find}
 use Rattle.su_base.specs.declared.values.Kind.{Kind}

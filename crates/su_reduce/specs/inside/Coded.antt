@@ -1,4 +1,7 @@
--- Candidates as rows of codes. No public contract cites this module.
+-- Candidates as rows of codes.
+-- code: a value's position in `values`, from 0; sheet: rows of codes, all of one width; old, new: a sheet before and after
+-- edge: cells, and the candidates, lists of values that these may be given; i: an edge by number; p: a row by number, both from 0
+-- No public contract cites this module.
 use Rattle.std.specs.Prelude.{◌≡◌, ◌<◌, ℕ, List, [], ◌∷◌, ◌++◌, map, length, get_or}
 use Rattle.su_base.specs.declared.values.Value.{Value}
 use Rattle.su_reduce.specs.declared.edges.Edge.{Edge}

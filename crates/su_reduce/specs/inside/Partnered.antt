@@ -1,4 +1,7 @@
--- Keys of marked rows. No public contract cites this module.
+-- Keys of marked rows.
+-- places: numbers of cells, from 0; key: a row's codes at these places; code: the number that stands for a value; marked: not taken away yet
+-- side: rows of codes, their marks, and the places of their keys; Codes: for keys of one code a mark per code; Rows: each key, once
+-- No public contract cites this module.
 use Rattle.std.specs.Prelude.{◌≡◌, ◌↔◌, ℕ, Bool, false, IsTrue, List, [], ◌∷◌, get_or, Contains}
 use Rattle.su_reduce.specs.declared.partners.Keys.{Keys as AKeys}
 use Rattle.su_reduce.specs.declared.partners.Keys.TheVariants.{Codes, Rows}

@@ -1,4 +1,8 @@
--- What semijoins along an ear order leave. No public contract cites this module.
+-- What semijoins along an ear order leave.
+-- candidate: one of the value lists that an edge may be given; to choose: to give every edge one of its candidates
+-- marks: for each edge, which of its candidates are not taken away yet; i, j: edges by number; p: a candidate by number; ks: numbers of edges
+-- ear: an edge and its parent: one behind it in the order that has each variable which it shares with those; none only where it shares none
+-- No public contract cites this module.
 use Rattle.std.specs.Prelude.{◌≡◌, ℕ, ◌<◌, Bool, List, [], ◌∷◌, length, Contains, Option, None, Some}
 use Rattle.su_base.specs.declared.values.Value.{Value}
 use Rattle.su_tableau.specs.Valuations.{values_of}

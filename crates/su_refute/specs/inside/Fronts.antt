@@ -1,4 +1,5 @@
 -- How a certificate begins.
+-- kinds: those of the columns of the tableaux, in order; width: how many they are; line: a word and symbols, ended by a line feed
 -- No public contract cites this module.
 use Rattle.std.specs.Prelude.{ℕ, List, [], ◌∷◌, ◌++◌, length, map, codes}
 use Rattle.su_base.specs.declared.values.Kind.{Kind}

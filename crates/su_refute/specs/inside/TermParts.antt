@@ -1,4 +1,6 @@
 -- The lines of a term in two parts: those of its tableau, and those of what is kept of it.
+-- i: the term's number, from 0; t: its tableau; m: a tableau with its kept rows, as a mask, and its fold
+-- fold: for each row the kept row that it goes to; trees: for each kept row, ascending, why it can't be left out
 -- No public contract cites this module.
 use Rattle.std.specs.Prelude.{ℕ, List, [], ◌∷◌, map, codes}
 use Rattle.su_lex.specs.declared.meaning.Symbol.{Symbol}

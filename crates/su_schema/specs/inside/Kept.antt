@@ -1,4 +1,5 @@
 -- An object as it is kept: beside its links stands the set of their attributes.
+-- link: an attribute and the column that it is taken from; relation, attribute, column: numbers from 0
 -- No public contract cites this module.
 use Rattle.std.specs.Prelude.{ℕ, List, map}
 use Rattle.std.specs.FinSet.{from_list}

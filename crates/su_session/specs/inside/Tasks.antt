@@ -1,4 +1,7 @@
 -- What a command gives to do.
+-- command: what a text is read as: a definition, a statement or why it is neither; task: one of the first two
+-- d: a definition; st: a statement; load: a statement that reads a file; name, path: the bytes of the relation's and of the file's name
+-- No public contract cites this module.
 use Rattle.std.specs.Prelude.{◌≢◌, ℕ, List}
 use Rattle.su_query.specs.declared.statements.Statement.TheVariants.{Load}
 use Rattle.su_session.specs.declared.commands.Command.{Command}

@@ -1,4 +1,5 @@
 -- Texts that are put behind what is there.
+-- text: a list of bytes; P: what a text is to be; old, new: all bytes before and after
 -- No public contract cites this module.
 use Rattle.std.specs.Prelude.{◌≡◌, ◌++◌, ℕ, List}
 

@@ -1,4 +1,6 @@
--- Parts of the lines of a term.
+-- Parts of the lines of a term: what a row is for, the attributes of a set, and the sources.
+-- q: a query by numbers; r: a row by number, from 0; o: its origin, a variable and an object, by number; 32: a space
+-- m: a tableau with its kept rows and fold; source: an object that may answer for a kept row
 -- No public contract cites this module.
 use Rattle.std.specs.Prelude.{ℕ, List, ◌∷◌, ◌++◌, length, filter, codes, decimal}
 use Rattle.std.specs.List.{range_with_len}

@@ -1,4 +1,6 @@
 -- What is put behind what was written before.
+-- d: the dialect of SQL; db, new: the database before the text and after it; before, after: the bytes before and after
+-- reply: the bytes that are written, and whether they tell a refusal
 -- No public contract cites this module.
 use Rattle.std.specs.Prelude.{◌≡◌, ◌++◌, ℕ, Bool, List}
 use Rattle.su_state.specs.DatabaseValue.{DatabaseValue}

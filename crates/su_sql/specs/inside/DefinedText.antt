@@ -1,4 +1,6 @@
 -- What is written for an accepted definition.
+-- d: the dialect of SQL; before: how many relations there were before the definition; schema: the one after it
+-- said: the bytes of the session's reply to the definition
 -- No public contract cites this module.
 use Rattle.std.specs.Prelude.{◌≡◌, ℕ, List, length, nat_lt, if◌then◌else◌}
 use Rattle.su_schema.specs.SchemaValue.{SchemaValue}

@@ -1,4 +1,7 @@
 -- What a search among stored rows finds: the position of one, or that there is none.
+-- position: a row's number among rows, from 0; least: by the order of rows; first: of the least number; found: what the search gives
+-- relation, object, a, c: a relation, an object, an attribute, a column, by number from 0; fd: a dependency, or its number
+-- other: a row with which the row breaks it; sides: the columns of both sides of one; clash: two rows agree at the left ones, differ at the right ones
 -- No public contract cites this module.
 use Rattle.std.specs.Prelude.{◌≡◌, ◌<◌, ℕ, List, length, Contains, slice_get, Option, MatchOption, Some}
 use Rattle.std.specs.Ordering.{nat_cmp}

@@ -1,4 +1,8 @@
--- The head of a tableau beside its operators. No public contract cites this module.
+-- The head of a tableau beside its operators.
+-- name: gives each symbol the name of its class; cs: comparisons of symbols; c: one of these, or the classes; variables: how many there are
+-- place: a variable and an attribute; literal: a comparison of places, by number from 0, and constants
+-- evaluated: decided by the names of the two sides; left: not evaluated
+-- No public contract cites this module.
 use Rattle.std.specs.Prelude.{◌≡◌, ℕ, Bool, true, false, List, [], ◌++◌, map, Option, MatchOption, Contains}
 use Rattle.su_tableau.specs.declared.symbols.Sym.{Sym}
 use Rattle.su_steps.specs.declared.building.Head.{Head}

@@ -1,4 +1,8 @@
--- What the parts of a term rest on. No public contract cites this module.
+-- What the parts of a term rest on.
+-- q: a query by numbers; literals: the comparisons of a disjunct; n: how many attributes there are; v, p, m: a variable, a place, a maximal object
+-- c: the classes of items, first the constants and then the pairs of a variable and an attribute, with a table of representatives
+-- os: the origins, for each row of the tableau its variable and its object, by number from 0
+-- No public contract cites this module.
 use Rattle.std.specs.Prelude.{◌≡◌, ℕ, ◌+◌, ◌*◌, ◌<◌, ◌≤◌, IsTrue, List, length, map, get_or, All, Contains}
 use Rattle.std.specs.Ordering.{nat_cmp}
 use Rattle.std.specs.FinSet.{FinSet, contains, empty}

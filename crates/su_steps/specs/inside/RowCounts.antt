@@ -1,4 +1,6 @@
 -- How many rows a choice can have.
+-- choice: for each variable one of the maximal objects that cover it; it has a row for each object of each of these
+-- maximal: the maximal objects; m: one of these by number, from 0; ms: those that cover a variable; mss: such a list for each variable
 -- No public contract cites this module.
 use Rattle.std.specs.Prelude.{ℕ, ◌+◌, max, List, [], ◌∷◌, length, get_or}
 use Rattle.std.specs.Ordering.{nat_cmp}

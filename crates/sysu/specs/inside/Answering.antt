@@ -1,4 +1,6 @@
 -- How a script is answered from a new session on.
+-- session: the database of a session; script: its bytes; names: the run's two files; old, new: the outside before and after
+-- status: how the run ends
 -- No public contract cites this module.
 use Rattle.std.specs.Prelude.{◌≡◌, ℕ, List}
 use Rattle.su_io.specs.declared.status.Status.{Status}

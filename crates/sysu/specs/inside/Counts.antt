@@ -1,4 +1,5 @@
 -- Numbers of workers.
+-- test: whether some digits are the decimal of such a number; count, n: the number that they give
 -- No public contract cites this module.
 use Rattle.std.specs.Prelude.{◌≡◌, ◌≤◌, ℕ, Bool, true, false, Option, MatchOption}
 

@@ -1,4 +1,6 @@
 -- How a statement is handed the file that it wants.
+-- text: the statement's bytes; path: the file's name; old, new: the outside before and after
+-- of a moment: begun, the name last begun; taken, how many bytes were taken of it; failed, whether the last call failed; reads, the count of faults
 -- No public contract cites this module.
 use Rattle.std.specs.Prelude.{◌≡◌, ◌≤◌, ◌⊎◌, ℕ, List, Option, Some, None, Result, Ok, Err}
 use Rattle.su_io.specs.declared.status.Status.{Status}

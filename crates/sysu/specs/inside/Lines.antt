@@ -1,4 +1,5 @@
 -- How the writing of one line ends.
+-- line: its bytes; came: the status where no write fails; status: how the run ends; old, new: the outside before and after
 -- No public contract cites this module.
 use Rattle.std.specs.Prelude.{◌≡◌, ◌⊎◌, ℕ, List}
 use Rattle.su_io.specs.declared.status.Status.{Status}

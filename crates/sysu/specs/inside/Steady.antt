@@ -1,4 +1,6 @@
 -- What a run comes to over files that its shelf tells, where no call fails.
+-- words: those of the command line, without the program's name; names: the two files that they name; told: the shelf's files, where it tells them
+-- accepted: the schema's file is read as a schema, and no file that falls due is past its limit
 -- No public contract cites this module.
 use Rattle.std.specs.Prelude.{◌≡◌, ℕ, List, Option, Some}
 use Rattle.su_io.specs.declared.files.File.{File}

@@ -1,4 +1,7 @@
 -- How one statement of a script ends, and all of them.
+-- text: the statement's bytes; db, next: the database before it and after it; old, new: of a database or of the outside, before and after
+-- of a moment: begun, the file last begun; taken, how many bytes of it; told, what the sink says of itself; writes, its count of faults
+-- names: the run's two files; refused: whether the reply is a refusal; status: how the run ends
 -- No public contract cites this module.
 use Rattle.std.specs.Prelude.{◌≡◌, ◌≤◌, ◌∷◌, [], ℕ, List, Option, Some, Bool, Result, Ok, Err}
 use Rattle.su_io.specs.Causes.{Rose}

@@ -1,4 +1,6 @@
 -- How the telling of a reply ends.
+-- text: the bytes that are drawn; bytes: those of the reply; came: the status where no write fails; status: how the run ends
+-- old, new: the outside before and after
 -- No public contract cites this module.
 use Rattle.std.specs.Prelude.{◌≡◌, ◌⊎◌, ℕ, List}
 use Rattle.su_io.specs.declared.status.Status.{Status}

@@ -1,4 +1,6 @@
 -- How the telling of a text ends.
+-- d: the dialect of SQL; script: its bytes; came: the status where no write fails; status: how the run ends
+-- old, new: the outside before and after
 -- No public contract cites this module.
 use Rattle.std.specs.Prelude.{◌≡◌, ◌⊎◌, ℕ, List, Bool, true, false}
 use Rattle.su_io.specs.declared.status.Status.{Status}
