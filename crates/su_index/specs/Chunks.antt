@@ -10,7 +10,7 @@ use Rattle.su_index.specs.declared.chunk.Chunk.{Chunk}
 abbrev pub entries_of : List Chunk → List Entry
 entries_of chunks = flat_map (λ chunk. chunk.entries.items) chunks
 
--- how many entries the k-th chunk has, and how many it has memory for
+-- how many entries the k-th chunk has
 abbrev pub len_at : List Chunk → ℕ → Chunk → ℕ
 len_at chunks k d = deque_len (slice_index_or chunks k d).entries
 

@@ -1,5 +1,6 @@
--- Places of variables. No public contract cites this module.
+-- Places of variables.
 -- shared places: a place on either side for each variable of both
+-- No public contract cites this module.
 use Rattle.std.specs.Prelude.{◌≡◌, ℕ, ◌<◌, pos, List, length, get_or, Contains}
 use Rattle.su_base.specs.declared.values.Value.{Value}
 use Rattle.su_base.specs.declared.values.Value.TheVariants.{Int}

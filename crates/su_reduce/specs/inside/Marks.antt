@@ -1,5 +1,6 @@
--- Marks of candidates, and what a semijoin leaves of them. No public contract cites this module.
+-- Marks of candidates, and what a semijoin leaves of them.
 -- marks: for each edge, which of its candidates are not taken away yet
+-- No public contract cites this module.
 use Rattle.std.specs.Prelude.{◌≡◌, ◌≢◌, ℕ, ◌<◌, ◌↔◌, Bool, false, IsTrue, List, [], length, get_or}
 use Rattle.su_base.specs.declared.values.Value.{Value}
 use Rattle.su_tableau.specs.declared.symbols.Sym.{Sym}

@@ -1,5 +1,6 @@
--- Which edges have the variables of an edge. No public contract cites this module.
+-- Which edges have the variables of an edge.
 -- sets: for each cell of an edge the edges that have its variable, none for a constant
+-- No public contract cites this module.
 use Rattle.std.specs.Prelude.{◌≡◌, ℕ, ◌<◌, ◌↔◌, IsTrue, List, [], length, get_or, Option, MatchOption, None, Some}
 use Rattle.std.specs.Ordering.{nat_cmp}
 use Rattle.std.specs.FinSet.{FinSet, contains, empty, insert, difference}

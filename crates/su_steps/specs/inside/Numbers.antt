@@ -1,5 +1,6 @@
 -- How symbols are numbered as items: the constants of a disjunct's equalities, each once, and then the pairs.
--- placed: the row of items that stands for an origin, as su_classes closes it. No public contract cites this module.
+-- placed: the row of items that stands for an origin, as su_classes closes it
+-- No public contract cites this module.
 use Rattle.std.specs.Prelude.{◌≡◌, ℕ, ◌*◌, ◌+◌, ◌≤◌, Bool, true, false, cond, List, [], ◌∷◌, length, map}
 use Rattle.std.specs.List.{range_with_len}
 use Rattle.su_base.specs.declared.values.Value.{Value}
