@@ -1,12 +1,12 @@
-ghost use Rattle.std.specs.Prelude.{◌≡◌, ◌↔◌, ◌<◌, ◌≤◌, ℕ, IsTrue, All, length};
-ghost use Rattle.std.specs.FinSet.{contains};
+ghost use Rattle.std.specs.Prelude.{◌≡◌, IsTrue, All, length};
 ghost use Rattle.su_chase.specs.Chased.{IsFdBelow};
 
 use std::alloc::Global;
 use std::test::Fail;
-use su_base::{AttrSet, List, NoMemory, Value};
+use su_base::{List, NoMemory, Value};
 use su_chase::{Closed, close};
 use su_fd::Fd;
+use su_samples::{Sides, fds_of, is_below};
 use su_tableau::Sym;
 
 /// A symbol of a table.
@@ -17,30 +17,6 @@ enum Cell {
 }
 
 use Cell::{I, V};
-
-/// A dependency: its left and its right side.
-type Sides = (&'static [u8], &'static [u8]);
-
-fn set_of(members: &[u8]) -> AttrSet {
-    let mut all = AttrSet::empty();
-    for member in members {
-        if *member < 128 {
-            all = all.insert(*member);
-        }
-    }
-    all
-}
-
-fn fds_of(alloc: Global, sides: &[Sides]) -> Result<List<Fd>, NoMemory> {
-    let mut fds = List::new(alloc);
-    for (left, right) in sides {
-        fds.push(Fd {
-            left: set_of(left),
-            right: set_of(right),
-        })?;
-    }
-    Ok(fds)
-}
 
 fn symbol(cell: Cell) -> Sym {
     match cell {
@@ -65,37 +41,23 @@ fn rows_of(alloc: Global, cells: &[&[Cell]]) -> Result<List<List<Sym>>, NoMemory
     Ok(rows)
 }
 
-fn attributes_below(width: u8) -> AttrSet
-    requires { width ≤ 128 }
-    ensures { (a : ℕ) → IsTrue (contains result a) ↔ (a < width) }
-{
-    let mut all = AttrSet::empty();
-    for a in 0..width {
-        all = all.insert(a);
-    }
-    all
-}
-
-fn is_below(fd: &Fd, width: u8) -> bool
-    requires { width ≤ 128 }
+fn are_sides_below(fd: &Fd, width: u8) -> bool
     ensures { IsTrue result → IsFdBelow width fd.now }
 {
-    let all = attributes_below(width);
-    if !fd.left.within(all) {
+    if !is_below(fd.left, width) {
         return false;
     }
-    if !fd.right.within(all) {
+    if !is_below(fd.right, width) {
         return false;
     }
     true
 }
 
 fn are_below(fds: &[Fd], width: u8) -> bool
-    requires { width ≤ 128 }
     ensures { IsTrue result → All (IsFdBelow width) fds.now }
 {
     for fd in fds {
-        if !is_below(fd, width) {
+        if !are_sides_below(fd, width) {
             return false;
         }
     }

@@ -1,29 +1,12 @@
-ghost use Rattle.std.specs.Prelude.{◌≡◌, ◌↔◌, ℕ, ◌<◌, ◌≤◌, IsTrue, All, length};
-ghost use Rattle.std.specs.FinSet.{contains};
+ghost use Rattle.std.specs.Prelude.{◌≡◌, ◌<◌, IsTrue, All, length};
 ghost use Rattle.su_classes.specs.Items.{IsPlacedBelow, item_of};
 
 use std::alloc::Global;
 use std::test::Fail;
-use su_base::{AttrSet, List, NoMemory};
+use su_base::{List, NoMemory};
 use su_classes::{Placed, Together, close};
 use su_fd::Fd;
-
-fn set_of(members: &[u8]) -> AttrSet {
-    let mut all = AttrSet::empty();
-    for member in members {
-        if *member < 128 {
-            all = all.insert(*member);
-        }
-    }
-    all
-}
-
-fn fd(left: &[u8], right: &[u8]) -> Fd {
-    Fd {
-        left: set_of(left),
-        right: set_of(right),
-    }
-}
+use su_samples::{Sides, fds_of, is_below, set_of};
 
 fn placed(alloc: Global, has: &[u8], cells: &[usize]) -> Result<Placed, NoMemory> {
     let mut list = List::new(alloc);
@@ -47,17 +30,6 @@ fn are_within(equal: &[Together], items: usize) -> bool
     true
 }
 
-fn attributes_below(width: u8) -> AttrSet
-    requires { width ≤ 128 }
-    ensures { (a : ℕ) → IsTrue (contains result a) ↔ (a < width) }
-{
-    let mut all = AttrSet::empty();
-    for a in 0..width {
-        all = all.insert(a);
-    }
-    all
-}
-
 fn item_at(row: &Placed, a: u8) -> usize
     requires { a < length row.now.cells }
     ensures { result ≡ item_of row.now a }
@@ -72,8 +44,7 @@ fn is_placed(row: &Placed, items: usize) -> bool
         return false;
     }
     let width = row.cells.len() as u8;
-    let all = attributes_below(width);
-    if !row.has.within(all) {
+    if !is_below(row.has, width) {
         return false;
     }
     for a in 0..width {
@@ -116,9 +87,6 @@ fn closed(
 
 /// A row: its attributes and its cells.
 type Cells = (&'static [u8], &'static [usize]);
-
-/// A dependency: its left and its right side.
-type Sides = (&'static [u8], &'static [u8]);
 
 struct Case {
     rows: &'static [Cells],
@@ -200,21 +168,13 @@ fn equal_of(alloc: Global, case: &Case) -> Result<List<Together>, NoMemory> {
     Ok(equal)
 }
 
-fn fds_of(alloc: Global, case: &Case) -> Result<List<Fd>, NoMemory> {
-    let mut fds = List::new(alloc);
-    for (left, right) in case.fds {
-        fds.push(fd(left, right))?;
-    }
-    Ok(fds)
-}
-
 #[test]
 fn the_classes_are_the_least(rt: HostRuntime) -> Result<(), Fail> {
     let alloc = rt.alloc();
     for case in &CASES {
         let rows = rows_of(alloc, case)?;
         let equal = equal_of(alloc, case)?;
-        let fds = fds_of(alloc, case)?;
+        let fds = fds_of(alloc, case.fds)?;
         let items = case.classes.len();
         let table = closed(
             alloc,

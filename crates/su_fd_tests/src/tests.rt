@@ -1,7 +1,7 @@
 use std::process::Abort;
 use std::test::Fail;
-use su_base::AttrSet;
 use su_fd::*;
+use su_samples::{fd, set_of};
 
 /// The attributes of the bank's schema.
 const BANK: u8 = 0;
@@ -17,23 +17,6 @@ const LOAN: u8 = 4;
 const AMT: u8 = 5;
 
 const ADDR: u8 = 6;
-
-fn set_of(members: &[u8]) -> AttrSet {
-    let mut all = AttrSet::empty();
-    for member in members {
-        if *member < 128 {
-            all = all.insert(*member);
-        }
-    }
-    all
-}
-
-fn fd(left: &[u8], right: &[u8]) -> Fd {
-    Fd {
-        left: set_of(left),
-        right: set_of(right),
-    }
-}
 
 fn bank() -> [Fd; 5] {
     [

@@ -4,39 +4,10 @@ use std::alloc::Global;
 use std::marker::Brand;
 use std::sync::ledger::{Blank, Ledger};
 use std::test::Fail;
-use su_base::{List, NoMemory, Steps, Str, Value};
+use su_base::{NoMemory, Steps};
 use su_map::{Mapping, Room, certify, exists, first};
-use su_tableau::{Sym, Tableau, full};
-
-/// A row of variables, where `None` is the text Jones.
-fn symbols(alloc: Global, cells: &[Option<u32>]) -> Result<List<Sym>, NoMemory> {
-    let mut row = List::new(alloc);
-    for cell in cells {
-        match cell {
-            Some(k) => row.push(Sym::Var(*k))?,
-            None => row.push(Sym::Const(Value::Text(Str::new(alloc, "Jones")?)))?,
-        }
-    }
-    Ok(row)
-}
-
-/// Who else is in a room with a course of Jones: attributes C, T, H, R, S, G.
-fn courses(alloc: Global) -> Result<Option<Tableau>, NoMemory> {
-    let rows: [[Option<u32>; 6]; 6] = [
-        [Some(0), Some(1), Some(14), Some(15), Some(16), Some(17)],
-        [Some(0), Some(19), Some(2), Some(3), Some(22), Some(23)],
-        [Some(0), Some(25), Some(26), Some(27), Some(4), Some(5)],
-        [Some(6), Some(7), Some(32), Some(33), Some(34), Some(35)],
-        [Some(6), Some(37), Some(8), Some(3), Some(40), Some(41)],
-        [Some(6), Some(43), Some(44), Some(45), None, Some(11)],
-    ];
-    let mut list = List::new(alloc);
-    for row in &rows {
-        list.push(symbols(alloc, row)?)?;
-    }
-    let head = symbols(alloc, &[Some(0)])?;
-    Ok(Tableau::checked(6, list, head, 1, List::new(alloc)))
-}
+use su_samples::{COURSES, tableau};
+use su_tableau::{Tableau, full};
 
 /// The first mapping from all rows into these, where there is one.
 fn first_counted<L: Ledger>(
@@ -84,7 +55,7 @@ fn any_into(alloc: Global, t: &Tableau, to_mask: u64) -> Result<bool, NoMemory> 
 
 #[test]
 fn six_rows_fold_into_three(rt: HostRuntime) -> Result<(), Fail> {
-    let t = courses(rt.alloc())?.expect(&rt, "valid parts");
+    let t = tableau(rt.alloc(), &COURSES)?.expect(&rt, "valid parts");
     let fold = first_into(rt.alloc(), &t, 0b110010)?.expect(&rt, "a mapping");
     assert_eq!(rt; fold.list(), [1, 1, 1, 4, 4, 5].as_slice());
     Ok(())
@@ -92,7 +63,7 @@ fn six_rows_fold_into_three(rt: HostRuntime) -> Result<(), Fail> {
 
 #[test]
 fn the_first_list_into_all_rows_is_not_the_identity(rt: HostRuntime) -> Result<(), Fail> {
-    let t = courses(rt.alloc())?.expect(&rt, "valid parts");
+    let t = tableau(rt.alloc(), &COURSES)?.expect(&rt, "valid parts");
     let fold = first_into(rt.alloc(), &t, 0b111111)?.expect(&rt, "a mapping");
     assert_eq!(rt; fold.list(), [0, 1, 0, 3, 4, 5].as_slice());
     Ok(())
@@ -100,14 +71,14 @@ fn the_first_list_into_all_rows_is_not_the_identity(rt: HostRuntime) -> Result<(
 
 #[test]
 fn the_row_of_jones_goes_to_no_other(rt: HostRuntime) -> Result<(), Fail> {
-    let t = courses(rt.alloc())?.expect(&rt, "valid parts");
+    let t = tableau(rt.alloc(), &COURSES)?.expect(&rt, "valid parts");
     assert!(rt; first_into(rt.alloc(), &t, 0b010010)?.is_none());
     Ok(())
 }
 
 #[test]
 fn any_mapping_is_found_where_there_is_one(rt: HostRuntime) -> Result<(), Fail> {
-    let t = courses(rt.alloc())?.expect(&rt, "valid parts");
+    let t = tableau(rt.alloc(), &COURSES)?.expect(&rt, "valid parts");
     assert!(rt; any_into(rt.alloc(), &t, 0b110010)?);
     assert!(rt; !any_into(rt.alloc(), &t, 0b010010)?);
     Ok(())

@@ -1,81 +1,13 @@
 use std::alloc::Global;
 use std::test::Fail;
-use su_base::{AttrSet, List, NoMemory, Row, Str, Value};
-use su_tableau::{Sym, Tableau, all_essential, essential, has, holds};
-
-/// Stands for the text Jones among the numbers of variables.
-const JONES: u32 = 99;
-
-fn symbol(alloc: Global, number: u32) -> Result<Sym, NoMemory> {
-    if number == JONES {
-        Ok(Sym::Const(Value::Text(Str::new(alloc, "Jones")?)))
-    } else {
-        Ok(Sym::Var(number))
-    }
-}
-
-fn symbols(alloc: Global, numbers: &[u32]) -> Result<List<Sym>, NoMemory> {
-    let mut symbols = List::new(alloc);
-    for number in numbers {
-        symbols.push(symbol(alloc, *number)?)?;
-    }
-    Ok(symbols)
-}
-
-fn rows_of(alloc: Global, rows: &[&[u32]]) -> Result<List<List<Sym>>, NoMemory> {
-    let mut list = List::new(alloc);
-    for row in rows {
-        list.push(symbols(alloc, row)?)?;
-    }
-    Ok(list)
-}
-
-/// The parts of a tableau.
-#[derive(Clone, Copy)]
-struct Parts {
-    width: u8,
-    rows: &'static [&'static [u32]],
-    head: &'static [u32],
-    outputs: u16,
-}
-
-/// The tableau of the parts; none where they do not fit.
-fn tableau(alloc: Global, parts: &Parts) -> Result<Option<Tableau>, NoMemory> {
-    let head = symbols(alloc, parts.head)?;
-    let rows = rows_of(alloc, parts.rows)?;
-    let operators = List::new(alloc);
-    Ok(Tableau::checked(parts.width, rows, head, parts.outputs, operators))
-}
-
-/// Who else is in a room with a course of Jones: attributes C, T, H, R, S, G.
-const COURSES: Parts = Parts {
-    width: 6,
-    rows: &[
-        &[0, 1, 14, 15, 16, 17],
-        &[0, 19, 2, 3, 22, 23],
-        &[0, 25, 26, 27, 4, 5],
-        &[6, 7, 32, 33, 34, 35],
-        &[6, 37, 8, 3, 40, 41],
-        &[6, 43, 44, 45, JONES, 11],
-    ],
-    head: &[0],
-    outputs: 1,
-};
+use su_base::{AttrSet, List, NoMemory, Row, Value};
+use su_samples::{COURSES, JONES, Parts, set_of, tableau};
+use su_tableau::{Tableau, all_essential, essential, has, holds};
 
 const KEPT: u64 = 0b110010;
 
 /// The kept rows, each with its essential columns.
 const ESSENTIAL: &[(usize, &[u8])] = &[(1, &[0, 3]), (4, &[0, 3]), (5, &[0, 4])];
-
-fn set_of(members: &[u8]) -> AttrSet {
-    let mut all = AttrSet::empty();
-    for member in members {
-        if *member < 128 {
-            all = all.insert(*member);
-        }
-    }
-    all
-}
 
 fn is_set(set: AttrSet, members: &[u8]) -> bool {
     set.within(set_of(members)) && set_of(members).within(set)
@@ -143,6 +75,7 @@ fn parts_that_do_not_fit_make_no_tableau(rt: HostRuntime) -> Result<(), Fail> {
             rows: &[&[0, 1]],
             head: *head,
             outputs: *outputs,
+            operators: &[],
         };
         let made = tableau(rt.alloc(), &parts)?.is_some();
         assert!(rt; made == *want, "parts {k}");
@@ -156,6 +89,7 @@ const TURNED: Parts = Parts {
     rows: &[&[0, 1], &[1, 0]],
     head: &[0],
     outputs: 1,
+    operators: &[],
 };
 
 const UNIVERSE: &[&[i64]] = &[&[1, 2], &[2, 1], &[2, 3]];

@@ -1,11 +1,10 @@
--- The attributes that the row has are among those below its width, and at each of these its item was tested to be below the bound.
-use Rattle.std.proofs.Common.{◌≡◌, ◌<◌, length, sym, arith}
-use Rattle.su_base.proofs.Subsets.{subset_at}
+-- The attributes that the row has were tested to be below its width, and at each of these its item to be below the bound.
+use Rattle.std.proofs.Common.{◌≡◌, ◌<◌, length, refl, arith}
 use Rattle.su_classes_tests.proofs.tests.is_placed.Goals as goal
 
 pub returns : goal.returns
 returns c = λ _. record {
   narrow = omega arith;
-  wide = λ a h. let l = (c.attributes_below-all.ensures a).0 (subset_at c.args.row.now.has c.attributes_below-all.result a (sym c.if-not-within.ensures) h) in omega arith;
-  below = λ a h. let l = (c.attributes_below-all.ensures a).0 (subset_at c.args.row.now.has c.attributes_below-all.result a (sym c.if-not-within.ensures) h) in c.loop-a.invariant a (omega arith);
+  wide = λ a h. let l = c.if-not-is_below.ensures refl a h in omega arith;
+  below = λ a h. let l = c.if-not-is_below.ensures refl a h in c.loop-a.invariant a (omega arith);
 }
