@@ -1,5 +1,5 @@
 -- The disjuncts of a condition that asks for equalities alone have only equalities.
-use Rattle.std.proofs.Common.{◌≡◌, Bool, true, false, not, ◌&&◌, List, [], ◌∷◌, ◌++◌, map, refl, sym, ap, subst, ◌∙◌}
+use Rattle.std.proofs.Common.{◌≡◌, Bool, true, false, not, ◌&&◌, List, [], ◌∷◌, ◌++◌, map, refl, sym, ap, ◌∙◌}
 use Rattle.std.specs.List.{list_all}
 use Rattle.std.specs.Cmp.{first_so, second_so}
 use Rattle.std.proofs.lemmas.List.Folds.{list_all-append}
@@ -7,14 +7,14 @@ use Rattle.std.proofs.lemmas.Bool.{and_from}
 use Rattle.su_where.specs.declared.operators.Op.{Op}
 use Rattle.su_where.specs.declared.operators.Op.TheVariants.{Equal, NotEqual, Less, LessEqual, Greater, GreaterEqual}
 use Rattle.su_where.specs.declared.literals.Literal.{Literal}
-use Rattle.su_where.specs.declared.conditions.Condition.{roll-Condition}
 use Rattle.su_where.specs.declared.conditions.Condition.TheOpen as open'
 use Rattle.su_where.specs.declared.conditions.Condition.TheVariants.{Compare, Not, All, Any, rolls-Compare, rolls-Not, rolls-All, rolls-Any}
-use Rattle.su_where.specs.declared.conditions.Condition.TheFolds.{map-Condition, ind-Condition, fold-roll-Condition}
+use Rattle.su_where.specs.declared.conditions.Condition.TheFolds.{fold-roll-Condition}
 use Rattle.su_where.specs.Operator.{complement_of}
 use Rattle.su_where.specs.Truth.{Cond}
 use Rattle.su_where.specs.Disjunct.{opposite_of, form_of}
 use Rattle.su_where.specs.inside.Joined.{pairs_of, combinations_of, joined}
+use Rattle.su_where.proofs.Layers.{parts_of, by_layers}
 use Rattle.su_where.proofs.Disjunctive.{forms, form_of-Compare, form_of-Not, form_of-All, form_of-Any}
 use Rattle.su_compare.specs.Equalities.{asks_equality, equalities_step, asks_equalities}
 
@@ -77,18 +77,15 @@ all-combinations (f ∷ fs) e =
 -- ---- layer by layer
 
 -- the disjuncts of a condition, or of its negation, have only equalities where it asks for these alone
-abbrev IsKept : Cond → Type 0
-IsKept c = (b : Bool) → asks_equalities c b ≡ true → all_equalities (form_of c b) ≡ true
+abbrev IsOnlyEqual : Cond → Type 0
+IsOnlyEqual c = (b : Bool) → asks_equalities c b ≡ true → all_equalities (form_of c b) ≡ true
 
-abbrev parts : List ((c : Cond) × IsKept c) → List Cond
-parts es = map (λ e. e.0) es
-
-kept_parts : (b : Bool) (es : List ((c : Cond) × IsKept c)) → list_all (λ c. asks_equalities c b) (parts es) ≡ true → list_all all_equalities (forms b (parts es)) ≡ true
-kept_parts b [] h = refl
-kept_parts b (e ∷ es) h =
-    and_from (all_equalities (form_of e.0 b)) (list_all all_equalities (forms b (parts es)))
-    (e.1 b (first_so (asks_equalities e.0 b) (list_all (λ c. asks_equalities c b) (parts es)) h))
-    (kept_parts b es (second_so (asks_equalities e.0 b) (list_all (λ c. asks_equalities c b) (parts es)) h))
+only_parts : (b : Bool) (es : List ((c : Cond) × IsOnlyEqual c)) → list_all (λ c. asks_equalities c b) (parts_of es) ≡ true → list_all all_equalities (forms b (parts_of es)) ≡ true
+only_parts b [] h = refl
+only_parts b (e ∷ es) h =
+    and_from (all_equalities (form_of e.0 b)) (list_all all_equalities (forms b (parts_of es)))
+    (e.1 b (first_so (asks_equalities e.0 b) (list_all (λ c. asks_equalities c b) (parts_of es)) h))
+    (only_parts b es (second_so (asks_equalities e.0 b) (list_all (λ c. asks_equalities c b) (parts_of es)) h))
 
 asked : (op : Op) → asks_equality op true ≡ true → asks_equality (complement_of op) false ≡ true
 asked Equal h = absurd (cc)
@@ -101,29 +98,20 @@ asked GreaterEqual h = absurd (cc)
 one : (l : Literal) → asks_equality l.op false ≡ true → all_equalities ((l ∷ []) ∷ []) ≡ true
 one l h = and_from (asks_equality l.op false && true) true (and_from (asks_equality l.op false) true h refl) refl
 
-kept_compare : (l : Literal) → IsKept (Compare l)
-kept_compare l true h = ap all_equalities (form_of-Compare l true) ∙ one (opposite_of l) (asked l.op (sym (asks-Compare l true) ∙ h))
-kept_compare l false h = ap all_equalities (form_of-Compare l false) ∙ one l (sym (asks-Compare l false) ∙ h)
+only_compare : (l : Literal) → IsOnlyEqual (Compare l)
+only_compare l true h = ap all_equalities (form_of-Compare l true) ∙ one (opposite_of l) (asked l.op (sym (asks-Compare l true) ∙ h))
+only_compare l false h = ap all_equalities (form_of-Compare l false) ∙ one l (sym (asks-Compare l false) ∙ h)
 
-kept_not : (c : Cond) → IsKept c → IsKept (Not c)
-kept_not c kept b h = ap all_equalities (form_of-Not c b) ∙ kept (not b) (sym (asks-Not c b) ∙ h)
+only_not : (c : Cond) → IsOnlyEqual c → IsOnlyEqual (Not c)
+only_not c only b h = ap all_equalities (form_of-Not c b) ∙ only (not b) (sym (asks-Not c b) ∙ h)
 
-kept_All : (es : List ((c : Cond) × IsKept c)) → IsKept (All (parts es))
-kept_All es true h = ap all_equalities (form_of-All (parts es) true) ∙ all-joined (forms true (parts es)) (kept_parts true es (sym (asks-All (parts es) true) ∙ h))
-kept_All es false h = ap all_equalities (form_of-All (parts es) false) ∙ all-combinations (forms false (parts es)) (kept_parts false es (sym (asks-All (parts es) false) ∙ h))
+only_All : (es : List ((c : Cond) × IsOnlyEqual c)) → IsOnlyEqual (All (parts_of es))
+only_All es true h = ap all_equalities (form_of-All (parts_of es) true) ∙ all-joined (forms true (parts_of es)) (only_parts true es (sym (asks-All (parts_of es) true) ∙ h))
+only_All es false h = ap all_equalities (form_of-All (parts_of es) false) ∙ all-combinations (forms false (parts_of es)) (only_parts false es (sym (asks-All (parts_of es) false) ∙ h))
 
-kept_Any : (es : List ((c : Cond) × IsKept c)) → IsKept (Any (parts es))
-kept_Any es true h = ap all_equalities (form_of-Any (parts es) true) ∙ all-combinations (forms true (parts es)) (kept_parts true es (sym (asks-Any (parts es) true) ∙ h))
-kept_Any es false h = ap all_equalities (form_of-Any (parts es) false) ∙ all-joined (forms false (parts es)) (kept_parts false es (sym (asks-Any (parts es) false) ∙ h))
-
-kept_layer : (y : open'.Condition-F Literal ((c : Cond) × IsKept c)) → IsKept (roll-Condition Literal (map-Condition Literal ((c : Cond) × IsKept c) Cond (λ e. e.0) y))
-kept_layer (open'.Compare l) = subst IsKept (sym (rolls-Compare l)) (kept_compare l)
-kept_layer (open'.Not e) = subst IsKept (sym (rolls-Not e.0)) (kept_not e.0 e.1)
-kept_layer (open'.All es) = subst IsKept (sym (rolls-All (parts es))) (kept_All es)
-kept_layer (open'.Any es) = subst IsKept (sym (rolls-Any (parts es))) (kept_Any es)
-
-kept : (c : Cond) → IsKept c
-kept = ind-Condition Literal IsKept (λ x y is. subst (λ z. IsKept (roll-Condition Literal z)) is (kept_layer y))
+only_Any : (es : List ((c : Cond) × IsOnlyEqual c)) → IsOnlyEqual (Any (parts_of es))
+only_Any es true h = ap all_equalities (form_of-Any (parts_of es) true) ∙ all-combinations (forms true (parts_of es)) (only_parts true es (sym (asks-Any (parts_of es) true) ∙ h))
+only_Any es false h = ap all_equalities (form_of-Any (parts_of es) false) ∙ all-joined (forms false (parts_of es)) (only_parts false es (sym (asks-Any (parts_of es) false) ∙ h))
 
 pub only_equalities : (c : Cond) → asks_equalities c false ≡ true → all_equalities (form_of c false) ≡ true
-only_equalities c h = kept c false h
+only_equalities c h = by_layers IsOnlyEqual only_compare only_not only_All only_Any c false h

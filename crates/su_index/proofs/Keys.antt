@@ -45,9 +45,9 @@ counted_twice test [] j h e f = absurd (omega arith)
 counted_twice test (x ∷ xs) zero h e f = grind (arith, count_by-cons test x xs, e, counted test xs 0 (omega arith) f)
 counted_twice test (x ∷ xs) (suc j) h e f = omega (arith, count_by-cons test x xs, counted_twice test xs j (omega arith) e f)
 
-some_key : (keys : List Key) → 0 < length keys → Key
-some_key [] h = absurd (omega arith)
-some_key (key ∷ keys) h = key
+pub some_item : {X : Type 0} (xs : List X) → 0 < length xs → X
+some_item [] h = absurd (omega arith)
+some_item (x ∷ xs) h = x
 
 -- how keys are compared: by lead, then value, then position
 abbrev pub key_cmp : Key → Key → Ordering
@@ -89,7 +89,7 @@ module _ (at : ℕ → Value) (from n : ℕ) (keys sorted : List Key) (perm : Is
       omega (arith, run_each (λ x. nat_eq x p), twice, low) in
       let all : All (λ (key : Key). IsLead key.0 key.1.now × (key.1.now ≡ at key.2)) sorted = All-permutation (λ (key : Key). IsLead key.0 key.1.now × (key.1.now ≡ at key.2)) keys sorted perm values in
       let n' : length run ≡ length sorted = length-map sorted (λ k. k.2) in
-      let d : Key = some_key sorted (omega arith) in
+      let d : Key = some_item sorted (omega arith) in
       let a : Key = get_or sorted k d in
       let b : Key = get_or sorted (k + 1) d in
       let is_p : p ≡ a.2 = get_or-map sorted k d 0 (omega arith) in

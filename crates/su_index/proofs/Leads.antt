@@ -1,6 +1,7 @@
 -- Equal values have one lead: to compare it first changes nothing where values are equal.
 use Rattle.std.proofs.Common.{◌≡◌, ℕ, false, ap, refl, arith, nat_lt}
 use Rattle.std.specs.Ordering.{nat_cmp, ordering_then, is_lt, is_eq}
+use Rattle.std.specs.Cmp.{nat_cmp_is}
 use Rattle.std.specs.declared.cmp.Ordering.{Ordering}
 use Rattle.std.specs.declared.cmp.Ordering.TheVariants.{Less, Equal, Greater}
 use Rattle.std.proofs.lemmas.Bool.Decides.{nat_tests}
@@ -9,9 +10,6 @@ use Rattle.su_base.specs.Value.{compare_values}
 use Rattle.su_base.proofs.Rows.{equal_values}
 use Rattle.su_index.specs.Lead.{lead_of, IsLead}
 use Rattle.su_index.specs.Order.{compare_keys}
-
-tied : (m n : ℕ) → m ≡ n → nat_cmp m n ≡ Equal
-tied m n e = grind (arith, nat_tests, e)
 
 apart_still : (c o : Ordering) → is_eq o ≡ false → is_eq (ordering_then c o) ≡ false
 apart_still Less o e = refl
@@ -23,7 +21,7 @@ pub same_values : (v w : Value) → is_eq (compare_keys v w) ≡ is_eq (compare_
 same_values v w =
     elim (compare_values v w) as (λ o. compare_values v w ≡ o → is_eq (ordering_then (nat_cmp (lead_of v) (lead_of w)) o) ≡ is_eq o) [
       | Less ↦ λ e. apart_still (nat_cmp (lead_of v) (lead_of w)) Less refl
-      | Equal ↦ λ e. rw (tied (lead_of v) (lead_of w) (ap lead_of (equal_values v w e))) refl
+      | Equal ↦ λ e. rw (← nat_cmp_is (lead_of v) (lead_of w) Equal (ap lead_of (equal_values v w e))) refl
       | Greater ↦ λ e. apart_still (nat_cmp (lead_of v) (lead_of w)) Greater refl
     ] refl
 
@@ -42,4 +40,4 @@ lead_tells m n v w o a b apart =
 
 -- where they are the same the values do
 pub lead_tied : (m n : ℕ) (v w : Value) (o : Ordering) → IsLead m v → IsLead n w → m ≡ n → is_lt (ordering_then (compare_keys v w) o) ≡ is_lt (ordering_then (compare_values v w) o)
-lead_tied m n v w o a b e = rw (← a, ← b, tied m n e) refl
+lead_tied m n v w o a b e = rw (← a, ← b, ← nat_cmp_is m n Equal e) refl

@@ -6,9 +6,6 @@ use Rattle.su_map.specs.Candidates.{count_below, sum_of_products}
 use Rattle.su_map.specs.inside.Choices.{tries}
 use Rattle.su_map.proofs.Ranks.{numbers_first}
 
-count_more : (p : ℕ → Bool) (n : ℕ) → count_below p (n + 1) ≡ count_below p n + cond (p n) 1 0
-count_more p n = ap (count_below p) (add-one n)
-
 tried_numbers : (start now new a t : ℕ) → now ≤ start + a * suc t → new ≤ now + 1 + t → new ≤ start + (a + 1) * suc t
 tried_numbers start now new a t h l = omega arith
 
@@ -16,7 +13,7 @@ tried_numbers start now new a t h l = omega arith
 pub cost_tried : (p : ℕ → Bool) (n start now new t : ℕ) → p n ≡ true → now ≤ start + count_below p n * suc t → new ≤ now + 1 + t → new ≤ start + count_below p (n + 1) * suc t
 cost_tried p n start now new t pass h l =
     let one : count_below p n + cond (p n) 1 0 ≡ count_below p n + 1 = ap (λ b. count_below p n + cond b 1 0) pass in
-    subst (λ a. new ≤ start + a * suc t) (sym (count_more p n ∙ one)) (tried_numbers start now new (count_below p n) t h l)
+    subst (λ a. new ≤ start + a * suc t) (sym (ap (count_below p) (add-one n) ∙ one)) (tried_numbers start now new (count_below p n) t h l)
 
 count_mono : (p : ℕ → Bool) (m d : ℕ) → count_below p m ≤ count_below p (m + d)
 count_mono p m zero = let e : m + 0 ≡ m = omega arith in subst (λ n. count_below p m ≤ count_below p n) (sym e) (omega arith)

@@ -1,8 +1,8 @@
 -- Lists of the numbers with a property, one number more at a time.
-use Rattle.std.proofs.Common.{◌≡◌, ◌<◌, ◌≤◌, ◌+◌, ℕ, zero, suc, List, [], ◌∷◌, ◌++◌, length, get_or, Contains, refl, ap, subst, ⊎_elim, arith}
+use Rattle.std.proofs.Common.{◌≡◌, ◌<◌, ◌≤◌, ◌+◌, ℕ, List, [], ◌∷◌, ◌++◌, length, get_or, Contains, refl, ap, subst, ⊎_elim, arith}
 use Rattle.std.proofs.lemmas.Bool.{cases_lt}
 use Rattle.std.proofs.lemmas.List.{get_or_append_left, length-append, get_or_default}
-use Rattle.std.proofs.lemmas.List.Elements.{Contains-append_left, Contains-append_right, Contains-append_cases}
+use Rattle.std.proofs.lemmas.List.Elements.{Contains-append_left, Contains-append_right, Contains-push_cases}
 use Rattle.std.proofs.Math.Seq.{get_or-append_seam}
 use Rattle.su_min.specs.Reduction.{IsListOf}
 
@@ -25,10 +25,6 @@ list_same P n ns none l = record {
   );
 }
 
-one_member : (n i : ℕ) → Contains (n ∷ []) i → n ≡ i
-one_member n i (zero, l, e) = e
-one_member n i (suc k, l, e) = absurd (omega arith)
-
 pub list_more : (P : ℕ → Type 0) (n : ℕ) (ns : List ℕ) → P n → IsListOf P n ns → IsListOf P (n + 1) (ns ++ n ∷ [])
 list_more P n ns p l =
     let len : length (ns ++ n ∷ []) ≡ length ns + 1 = length-append ns (n ∷ []) in
@@ -50,8 +46,8 @@ list_more P n ns p l =
         λ c.
             ⊎_elim
             (λ (before : Contains ns i). let r = (l.members i).0 before in let lt = r.0 in let lt' : i < n + 1 = omega arith in (lt', r.1))
-            (λ (here : Contains (n ∷ []) i). let r = one_member n i here in let lt' : i < n + 1 = omega arith in (lt', subst P r p))
-            (Contains-append_cases ns (n ∷ []) i c),
+            (λ (here : n ≡ i). let lt' : i < n + 1 = omega arith in (lt', subst P here p))
+            (Contains-push_cases ns n i c),
         λ h.
             ⊎_elim
             (λ (lt : i < n). Contains-append_left ns (n ∷ []) i ((l.members i).1 (lt, h.1)))

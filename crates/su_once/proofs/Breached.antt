@@ -7,7 +7,7 @@ use Rattle.std.specs.Cmp.{IsTotalOrder}
 use Rattle.std.specs.Ordering.{nat_cmp, ordering_then}
 use Rattle.std.specs.declared.cmp.Ordering.{Ordering}
 use Rattle.std.specs.declared.cmp.Ordering.TheVariants.{Less, Equal, Greater}
-use Rattle.std.proofs.lemmas.Cmp.{nat_cmp_total, on_total, then_total}
+use Rattle.std.proofs.lemmas.Cmp.{nat_cmp_total, on_total, then_total, ranked}
 use Rattle.su_base.specs.declared.values.Value.{Value}
 use Rattle.su_base.specs.declared.values.Column.{Column}
 use Rattle.su_base.specs.Value.{kind_of, compare_lists}
@@ -18,7 +18,6 @@ use Rattle.su_state.specs.DatabaseValue.{HasColumnKinds}
 use Rattle.su_state.specs.UnfitRows.{IsFirstOtherKind, IsUnfit}
 use Rattle.su_state.specs.Breaches.{Breach, compare_breaches, IsFirstOf}
 use Rattle.su_state.proofs.Filled.{typed_width}
-use Rattle.su_state.proofs.FirstBreaches.{number_tied}
 use Rattle.su_once.proofs.Rows.{at_most_both}
 
 -- ---- the first of some breaches
@@ -37,8 +36,8 @@ one_first Among b c h k =
     let (f, later) = then_tied (nat_cmp b.dependency c.dependency) _ tied in
     let (o, rows) = then_tied (nat_cmp b.object c.object) _ later in
     let (x, y) = then_tied (compare_lists b.first c.first) (compare_lists b.second c.second) rows in
-    let fd = number_tied b.dependency c.dependency f in
-    let object = number_tied b.object c.object o in
+    let fd : b.dependency ≡ c.dependency = ranked b.dependency c.dependency Equal (sym f) in
+    let object : b.object ≡ c.object = ranked b.object c.object Equal (sym o) in
     let first = equal_rows b.first c.first x in
     let second = equal_rows b.second c.second y in
     λ i. record { dependency = fd i; object = object i; first = first i; second = second i }

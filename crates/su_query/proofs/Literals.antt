@@ -8,16 +8,13 @@ use Rattle.su_base.specs.declared.values.Kind.{Kind}
 use Rattle.su_base.specs.declared.values.Kind.TheVariants.{Int as IntKind, Text as TextKind}
 use Rattle.su_where.specs.declared.literals.Literal.{Literal}
 use Rattle.su_where.specs.Places.{IsBelow, HasPlacesBelow, Fits}
-use Rattle.su_where.proofs.Layers.{comparisons_of-Compare, comparisons_of-Not, comparisons_of-All, comparisons_of-Any}
+use Rattle.su_where.proofs.Layers.{comparisons_of-Compare, comparisons_of-Not, comparisons_of-All, comparisons_of-Any, parts_of, by_layers}
 use Rattle.su_schema.specs.SchemaValue.{SchemaValue}
 use Rattle.su_base.specs.Value.{same_kind}
 use Rattle.su_query.specs.declared.refs.Ref.{Ref as ARef}
 use Rattle.su_query.specs.declared.refs.NamedOperand.{NamedOperand}
 use Rattle.su_query.specs.declared.refs.NamedOperand.TheVariants.{Ref, Const}
-use Rattle.su_where.specs.declared.conditions.Condition.{roll-Condition}
-use Rattle.su_where.specs.declared.conditions.Condition.TheOpen as open'
-use Rattle.su_where.specs.declared.conditions.Condition.TheVariants.{Compare, Not, All, Any, rolls-Compare, rolls-Not, rolls-All, rolls-Any}
-use Rattle.su_where.specs.declared.conditions.Condition.TheFolds.{map-Condition, ind-Condition}
+use Rattle.su_where.specs.declared.conditions.Condition.TheVariants.{Compare, Not, All, Any}
 use Rattle.su_query.specs.declared.scopes.Scope.{Scope}
 use Rattle.su_query.specs.declared.conditions.Comparison.{Comparison}
 use Rattle.su_where.specs.Truth.{Cond, comparisons_of}
@@ -34,14 +31,11 @@ use Rattle.su_query.proofs.Hits.{none_found}
 abbrev IsSame : (ARef → ℕ) → NamedCond → Type 0
 IsSame f c = comparisons_of (numbered f c) ≡ map (literal_of f) (comparisons_of c)
 
-abbrev parts : (f : ARef → ℕ) → List ((c : NamedCond) × IsSame f c) → List NamedCond
-parts f es = map (λ e. e.0) es
-
-flat : (f : ARef → ℕ) (es : List ((c : NamedCond) × IsSame f c)) → flat_map comparisons_of (map (numbered f) (parts f es)) ≡ map (literal_of f) (flat_map comparisons_of (parts f es))
+flat : (f : ARef → ℕ) (es : List ((c : NamedCond) × IsSame f c)) → flat_map comparisons_of (map (numbered f) (parts_of es)) ≡ map (literal_of f) (flat_map comparisons_of (parts_of es))
 flat f [] = refl
 flat f (e ∷ es) =
-    ap (λ x. x ++ flat_map comparisons_of (map (numbered f) (parts f es))) e.1 ∙ ap (λ x. map (literal_of f) (comparisons_of e.0) ++ x) (flat f es)
-    ∙ sym (map-append (literal_of f) (comparisons_of e.0) (flat_map comparisons_of (parts f es)))
+    ap (λ x. x ++ flat_map comparisons_of (map (numbered f) (parts_of es))) e.1 ∙ ap (λ x. map (literal_of f) (comparisons_of e.0) ++ x) (flat f es)
+    ∙ sym (map-append (literal_of f) (comparisons_of e.0) (flat_map comparisons_of (parts_of es)))
 
 same_compare : (f : ARef → ℕ) (k : Comparison) → IsSame f (Compare k)
 same_compare f k = ap comparisons_of (numbered-Compare f k) ∙ comparisons_of-Compare (literal_of f k) ∙ sym (ap (map (literal_of f)) (comparisons_of-Compare k))
@@ -49,24 +43,18 @@ same_compare f k = ap comparisons_of (numbered-Compare f k) ∙ comparisons_of-C
 same_not : (f : ARef → ℕ) (c : NamedCond) → IsSame f c → IsSame f (Not c)
 same_not f c h = ap comparisons_of (numbered-Not f c) ∙ comparisons_of-Not (numbered f c) ∙ h ∙ sym (ap (map (literal_of f)) (comparisons_of-Not c))
 
-same_all : (f : ARef → ℕ) (es : List ((c : NamedCond) × IsSame f c)) → IsSame f (All (parts f es))
+same_all : (f : ARef → ℕ) (es : List ((c : NamedCond) × IsSame f c)) → IsSame f (All (parts_of es))
 same_all f es =
-    ap comparisons_of (numbered-All f (parts f es)) ∙ comparisons_of-All (map (numbered f) (parts f es)) ∙ flat f es
-    ∙ sym (ap (map (literal_of f)) (comparisons_of-All (parts f es)))
+    ap comparisons_of (numbered-All f (parts_of es)) ∙ comparisons_of-All (map (numbered f) (parts_of es)) ∙ flat f es
+    ∙ sym (ap (map (literal_of f)) (comparisons_of-All (parts_of es)))
 
-same_any : (f : ARef → ℕ) (es : List ((c : NamedCond) × IsSame f c)) → IsSame f (Any (parts f es))
+same_any : (f : ARef → ℕ) (es : List ((c : NamedCond) × IsSame f c)) → IsSame f (Any (parts_of es))
 same_any f es =
-    ap comparisons_of (numbered-Any f (parts f es)) ∙ comparisons_of-Any (map (numbered f) (parts f es)) ∙ flat f es
-    ∙ sym (ap (map (literal_of f)) (comparisons_of-Any (parts f es)))
-
-same_layer : (f : ARef → ℕ) (y : open'.Condition-F Comparison ((c : NamedCond) × IsSame f c)) → IsSame f (roll-Condition Comparison (map-Condition Comparison ((c : NamedCond) × IsSame f c) NamedCond (λ e. e.0) y))
-same_layer f (open'.Compare k) = subst (IsSame f) (sym (rolls-Compare k)) (same_compare f k)
-same_layer f (open'.Not e) = subst (IsSame f) (sym (rolls-Not e.0)) (same_not f e.0 e.1)
-same_layer f (open'.All es) = subst (IsSame f) (sym (rolls-All (parts f es))) (same_all f es)
-same_layer f (open'.Any es) = subst (IsSame f) (sym (rolls-Any (parts f es))) (same_any f es)
+    ap comparisons_of (numbered-Any f (parts_of es)) ∙ comparisons_of-Any (map (numbered f) (parts_of es)) ∙ flat f es
+    ∙ sym (ap (map (literal_of f)) (comparisons_of-Any (parts_of es)))
 
 pub comparisons_of-numbered : (f : ARef → ℕ) (c : NamedCond) → comparisons_of (numbered f c) ≡ map (literal_of f) (comparisons_of c)
-comparisons_of-numbered f = ind-Condition Comparison (IsSame f) (λ x y is. subst (λ z. IsSame f (roll-Condition Comparison z)) is (same_layer f y))
+comparisons_of-numbered f = by_layers (IsSame f) (same_compare f) (same_not f) (same_all f) (same_any f)
 
 same_first : {A B C : Type 0} (g : A → C) (g' : B → C) (x : A) (y : B) (m : Option A) (n : Option B) (b b' : Bool) → b ≡ b' → g x ≡ g' y → option_map g m ≡ option_map g' n → option_map g (cond b (Some x) m) ≡ option_map g' (cond b' (Some y) n)
 same_first g g' x y m n b b' e p q =

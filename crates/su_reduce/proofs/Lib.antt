@@ -4,7 +4,6 @@ pub mod Rounds
 pub mod MeetingSets
 pub mod Moving
 pub mod Exact
-pub mod Same
 pub mod Places
 pub mod Candidates
 pub mod Keyed

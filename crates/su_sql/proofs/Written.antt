@@ -1,6 +1,7 @@
 -- What is written for the statements of a script, one more at the end.
-use Rattle.std.proofs.Common.{◌≡◌, ℕ, ◌+◌, ◌<◌, ◌||◌, Bool, false, List, [], ◌∷◌, ◌++◌, map, take, length, get_or, refl, sym, ap, ◌∙◌, subst, append_assoc, append-nil, arith}
-use Rattle.std.proofs.lemmas.Grind.{flat_map-append, common_steps}
+use Rattle.std.proofs.Common.{◌≡◌, ℕ, ◌+◌, ◌<◌, ◌||◌, Bool, false, List, [], ◌∷◌, ◌++◌, map, take, length, get_or, refl, sym, ap, ◌∙◌, subst, append_assoc, append-nil}
+use Rattle.std.proofs.lemmas.Grind.{flat_map-append}
+use Rattle.std.proofs.lemmas.List.Recursion.{or_push}
 use Rattle.std.proofs.lemmas.List.{map_more}
 use Rattle.su_lex.specs.declared.spans.Span.{Span}
 use Rattle.su_state.specs.DatabaseValue.{DatabaseValue}
@@ -14,10 +15,6 @@ written_more d [] [] old mid new text reply h w = (new, subst (λ (x : DatabaseV
 written_more d [] (r ∷ rs) old mid new text reply h w = absurd h
 written_more d (t ∷ ts) [] old mid new text reply h w = absurd h
 written_more d (t ∷ ts) (r ∷ rs) old mid new text reply h w = (h.0, h.1, written_more d ts rs h.0 mid new text reply h.2 w)
-
-any_more : (replies : List Reply) (reply : Reply) → some_refused (replies ++ reply ∷ []) ≡ (some_refused replies || reply.refused)
-any_more [] reply = grind (arith, common_steps)
-any_more (r ∷ rs) reply = let rest = any_more rs reply in grind (arith, rest)
 
 -- the statements so far are written
 pub record SoFar (d : Dialect) (script : List ℕ) (spans : List Span) (begin : List ℕ) (old new : DatabaseValue) (refused : Bool) (text : List ℕ) : Type 0 where
@@ -41,6 +38,6 @@ one_more d script spans i none begin old mid new refused after text next reply l
     record {
       replies = replies ++ reply ∷ [];
       written = subst (λ (ts : List (List ℕ)). AreWritten d old ts (replies ++ reply ∷ []) new) (sym texts) (written_more d (map (text_at script) (take i spans)) replies old mid new here reply so.written w);
-      refused_is = ap (λ b. refused || b) ref ∙ ap (λ b. b || reply.refused) so.refused_is ∙ sym (any_more replies reply);
+      refused_is = ap (λ b. refused || b) ref ∙ ap (λ b. b || reply.refused) so.refused_is ∙ sym (or_push some_refused (λ (r : Reply). r.refused) refl (λ r rs. refl) replies reply);
       text_is = e ∙ ap (λ (t : List ℕ). t ++ reply.bytes) so.text_is ∙ append_assoc begin (output_of replies) reply.bytes ∙ ap (λ (t : List ℕ). begin ++ t) (sym more);
     }

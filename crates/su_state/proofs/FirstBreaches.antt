@@ -34,19 +34,16 @@ then_at_most Greater b out next = absurd (out refl)
 number_at_most : (m n : ℕ) → ¬ (n < m) → nat_cmp m n ≢ Greater
 number_at_most m n out greater = by_ranked (m < n) (m ≡ n) (n < m) (nat_cmp m n) (ranked m n (nat_cmp m n) refl) (λ less _. absurd (cc)) (λ same _. absurd (cc)) (λ more less. out less)
 
-pub number_tied : (m n : ℕ) → nat_cmp m n ≡ Equal → m ≡ n
-number_tied m n tied = by_ranked (m < n) (m ≡ n) (n < m) (nat_cmp m n) (ranked m n (nat_cmp m n) refl) (λ less _. absurd (cc)) (λ same is. is) (λ more _. absurd (cc))
-
 breach_at_most : (b c : Breach) → ¬ (c.dependency < b.dependency) → (b.dependency ≡ c.dependency → ¬ (c.object < b.object))
     → (b.dependency ≡ c.dependency → b.object ≡ c.object → compare_lists b.first c.first ≢ Greater)
     → (b.dependency ≡ c.dependency → b.object ≡ c.object → b.first ≡ c.first → compare_lists b.second c.second ≢ Greater) → compare_breaches b c ≢ Greater
 breach_at_most b c fd object first second =
     then_at_most (nat_cmp b.dependency c.dependency) _ (number_at_most b.dependency c.dependency fd)
     (λ f.
-    let one = number_tied b.dependency c.dependency f in
+    let one = ranked b.dependency c.dependency Equal (sym f) in
     then_at_most (nat_cmp b.object c.object) _ (number_at_most b.object c.object (object one))
     (λ o.
-    let two = number_tied b.object c.object o in
+    let two = ranked b.object c.object Equal (sym o) in
     then_at_most (compare_lists b.first c.first) (compare_lists b.second c.second) (first one two) (λ r. second one two (equal_rows b.first c.first r))))
 
 not_after : (a b : List Value) → a ≡ b → compare_lists a b ≢ Greater

@@ -10,6 +10,7 @@ use Rattle.su_base.specs.declared.values.Value.{Value}
 use Rattle.su_base.specs.contracts.values.ValueOrd.TheImpl.{ghosts}
 use Rattle.su_base.specs.Value.{compare_lists}
 use Rattle.su_base.proofs.Rows.{cmp-rows}
+use Rattle.su_index.proofs.Keys.{some_item}
 use Rattle.su_state.specs.Changes.{AreInOrder}
 use Rattle.su_state.specs.inside.Leads.{IsRowLead}
 use Rattle.su_rel.specs.Stored.{AllDiffer}
@@ -30,17 +31,13 @@ row_at [] i d e h = absurd (omega arith)
 row_at (k ∷ keys) zero d e h = refl
 row_at (k ∷ keys) (suc i) d e h = row_at keys i d e (omega arith)
 
-some_key : (keys : List Key) → 0 < length keys → Key
-some_key [] h = absurd (omega arith)
-some_key (key ∷ keys) h = key
-
 same_key : (a b : Key) → IsRowLead a.0 a.1.now → IsRowLead b.0 b.1.now → compare_lists b.1.now a.1.now ≡ key_cmp b a
 same_key a b e f = sym (lead_of_row_first b.0 a.0 b.1.now a.1.now f e) ∙ ap (λ o. ordering_then (nat_cmp b.0 a.0) o) (sym (cmp-rows b.1.now a.1.now))
 
 rows_sorted : (keys : List Key) → All (λ key. IsRowLead key.0 key.1.now) keys → IsSorted key_cmp keys → IsSorted compare_lists (rows_of_keys keys)
 rows_sorted keys leads order k d low h =
     let n : length (rows_of_keys keys) ≡ length keys = length-map keys (λ (key : Key). key.1.now) in
-    let e : Key = some_key keys (omega arith) in
+    let e : Key = some_item keys (omega arith) in
     let a : Key = slice_index_or keys k e in
     let b : Key = slice_index_or keys (k + 1) e in
     rw (row_at keys (k + 1) d e (omega arith), row_at keys k d e (omega arith))

@@ -5,6 +5,7 @@ use Rattle.std.specs.Ordering.{nat_cmp, int_cmp, ordering_then, ordering_reverse
 use Rattle.std.specs.declared.cmp.Ordering.{Ordering}
 use Rattle.std.specs.declared.cmp.Ordering.TheVariants.{Less, Equal, Greater}
 use Rattle.std.proofs.lemmas.Bool.Decides.{nat_tests}
+use Rattle.std.proofs.lemmas.Cmp.{ranked}
 use Rattle.std.proofs.Math.Nat.{pow-suc, mul-le-mul_right}
 use Rattle.std.proofs.lemmas.List.Elements.{All-head, All-tail}
 use Rattle.su_base.specs.declared.values.Value.{Value}
@@ -41,12 +42,6 @@ bytes_less (suc k) (b ∷ s) all =
     let q : b * 256 ^ k ≤ 255 * 256 ^ k = mul-le-mul_right (256 ^ k) (omega arith) in
     omega (arith, h, t, p, q)
 
-less_of : (x y : ℕ) → nat_cmp x y ≡ Less → x < y
-less_of x y e = grind (arith, nat_tests, e)
-
-equal_of : (x y : ℕ) → nat_cmp x y ≡ Equal → x ≡ y
-equal_of x y e = grind (arith, nat_tests, e)
-
 bytes_rise : (k : ℕ) (s t : List ℕ) → All (λ b. b < 256) s → All (λ b. b < 256) t → slice_cmp nat_cmp s t ≡ Less → sort_lead_of_bytes k s ≤ sort_lead_of_bytes k t
 bytes_rise zero s t a b e = omega arith
 bytes_rise (suc k) [] t a b e = omega arith
@@ -54,12 +49,12 @@ bytes_rise (suc k) (x ∷ s) [] a b e = absurd (cc)
 bytes_rise (suc k) (x ∷ s) (y ∷ t) a b e =
     elim (nat_cmp x y) as (λ o. nat_cmp x y ≡ o → ordering_then o (slice_cmp nat_cmp s t) ≡ Less → x * 256 ^ k + sort_lead_of_bytes k s ≤ y * 256 ^ k + sort_lead_of_bytes k t) [
       | Less ↦ λ o f.
-          let less : x < y = less_of x y o in
+          let less : x < y = ranked x y Less (sym o) in
           let q : (x + 1) * 256 ^ k ≤ y * 256 ^ k = mul-le-mul_right (256 ^ k) (omega arith) in
           let w : (x + 1) * 256 ^ k ≡ x * 256 ^ k + 256 ^ k = suc_times x (256 ^ k) in
           omega (arith, q, w, bytes_less k s (All-tail (λ b. b < 256) x s a))
       | Equal ↦ λ o f.
-          let same : x * 256 ^ k ≡ y * 256 ^ k = ap (λ z. z * 256 ^ k) (equal_of x y o) in
+          let same : x * 256 ^ k ≡ y * 256 ^ k = ap (λ z. z * 256 ^ k) (ranked x y Equal (sym o)) in
           omega (arith, same, bytes_rise k s t (All-tail (λ b. b < 256) x s a) (All-tail (λ b. b < 256) y t b) f)
       | Greater ↦ λ o f. absurd (cc)
     ] refl e

@@ -2,14 +2,11 @@
 use Rattle.std.proofs.Common.{Bool, true, false, not, List, [], ◌∷◌, ◌++◌, map, sym, subst}
 use Rattle.std.specs.List.{AllByRecursion, flat_map}
 use Rattle.su_where.specs.declared.literals.Literal.{Literal}
-use Rattle.su_where.specs.declared.conditions.Condition.{roll-Condition}
-use Rattle.su_where.specs.declared.conditions.Condition.TheOpen as open'
-use Rattle.su_where.specs.declared.conditions.Condition.TheVariants.{Compare, Not, All, Any, rolls-Compare, rolls-Not, rolls-All, rolls-Any}
-use Rattle.su_where.specs.declared.conditions.Condition.TheFolds.{map-Condition, ind-Condition}
+use Rattle.su_where.specs.declared.conditions.Condition.TheVariants.{Compare, Not, All, Any}
 use Rattle.su_where.specs.Truth.{Cond, comparisons_of}
 use Rattle.su_where.specs.Disjunct.{opposite_of, form_of, disjuncts_of}
 use Rattle.su_where.specs.inside.Joined.{pairs_of, combinations_of, joined}
-use Rattle.su_where.proofs.Layers.{comparisons_of-Compare, comparisons_of-Not, comparisons_of-All, comparisons_of-Any}
+use Rattle.su_where.proofs.Layers.{comparisons_of-Compare, comparisons_of-Not, comparisons_of-All, comparisons_of-Any, parts_of, by_layers}
 use Rattle.su_where.proofs.Disjunctive.{forms, form_of-Compare, form_of-Not, form_of-All, form_of-Any}
 use Rattle.su_steps.proofs.Lists.{all_append, all_front, all_back}
 
@@ -37,13 +34,10 @@ module _ (P : Literal → Type 0) (turned : (l : Literal) → P l → P (opposit
   abbrev IsKept : Cond → Type 0
   IsKept c = (b : Bool) → AllByRecursion P (comparisons_of c) → AllIn (form_of c b)
 
-  abbrev parts : List ((c : Cond) × IsKept c) → List Cond
-  parts es = map (λ e. e.0) es
-
-  kept_parts : (b : Bool) (es : List ((c : Cond) × IsKept c)) → AllByRecursion P (flat_map comparisons_of (parts es)) → AllByRecursion AllIn (forms b (parts es))
+  kept_parts : (b : Bool) (es : List ((c : Cond) × IsKept c)) → AllByRecursion P (flat_map comparisons_of (parts_of es)) → AllByRecursion AllIn (forms b (parts_of es))
   kept_parts b [] h = tt
   kept_parts b (e ∷ es) h =
-      (e.1 b (all_front P (comparisons_of e.0) (flat_map comparisons_of (parts es)) h), kept_parts b es (all_back P (comparisons_of e.0) (flat_map comparisons_of (parts es)) h))
+      (e.1 b (all_front P (comparisons_of e.0) (flat_map comparisons_of (parts_of es)) h), kept_parts b es (all_back P (comparisons_of e.0) (flat_map comparisons_of (parts_of es)) h))
 
   kept_compare : (l : Literal) → IsKept (Compare l)
   kept_compare l true h = subst AllIn (sym (form_of-Compare l true)) ((turned l (subst (AllByRecursion P) (comparisons_of-Compare l) h).0, tt), tt)
@@ -52,22 +46,13 @@ module _ (P : Literal → Type 0) (turned : (l : Literal) → P l → P (opposit
   kept_not : (c : Cond) → IsKept c → IsKept (Not c)
   kept_not c kept b h = subst AllIn (sym (form_of-Not c b)) (kept (not b) (subst (AllByRecursion P) (comparisons_of-Not c) h))
 
-  kept_All : (es : List ((c : Cond) × IsKept c)) → IsKept (All (parts es))
-  kept_All es true h = subst AllIn (sym (form_of-All (parts es) true)) (all_joined (forms true (parts es)) (kept_parts true es (subst (AllByRecursion P) (comparisons_of-All (parts es)) h)))
-  kept_All es false h = subst AllIn (sym (form_of-All (parts es) false)) (all_combinations (forms false (parts es)) (kept_parts false es (subst (AllByRecursion P) (comparisons_of-All (parts es)) h)))
+  kept_All : (es : List ((c : Cond) × IsKept c)) → IsKept (All (parts_of es))
+  kept_All es true h = subst AllIn (sym (form_of-All (parts_of es) true)) (all_joined (forms true (parts_of es)) (kept_parts true es (subst (AllByRecursion P) (comparisons_of-All (parts_of es)) h)))
+  kept_All es false h = subst AllIn (sym (form_of-All (parts_of es) false)) (all_combinations (forms false (parts_of es)) (kept_parts false es (subst (AllByRecursion P) (comparisons_of-All (parts_of es)) h)))
 
-  kept_Any : (es : List ((c : Cond) × IsKept c)) → IsKept (Any (parts es))
-  kept_Any es true h = subst AllIn (sym (form_of-Any (parts es) true)) (all_combinations (forms true (parts es)) (kept_parts true es (subst (AllByRecursion P) (comparisons_of-Any (parts es)) h)))
-  kept_Any es false h = subst AllIn (sym (form_of-Any (parts es) false)) (all_joined (forms false (parts es)) (kept_parts false es (subst (AllByRecursion P) (comparisons_of-Any (parts es)) h)))
-
-  kept_layer : (y : open'.Condition-F Literal ((c : Cond) × IsKept c)) → IsKept (roll-Condition Literal (map-Condition Literal ((c : Cond) × IsKept c) Cond (λ e. e.0) y))
-  kept_layer (open'.Compare l) = subst IsKept (sym (rolls-Compare l)) (kept_compare l)
-  kept_layer (open'.Not e) = subst IsKept (sym (rolls-Not e.0)) (kept_not e.0 e.1)
-  kept_layer (open'.All es) = subst IsKept (sym (rolls-All (parts es))) (kept_All es)
-  kept_layer (open'.Any es) = subst IsKept (sym (rolls-Any (parts es))) (kept_Any es)
-
-  kept : (c : Cond) → IsKept c
-  kept = ind-Condition Literal IsKept (λ x y is. subst (λ z. IsKept (roll-Condition Literal z)) is (kept_layer y))
+  kept_Any : (es : List ((c : Cond) × IsKept c)) → IsKept (Any (parts_of es))
+  kept_Any es true h = subst AllIn (sym (form_of-Any (parts_of es) true)) (all_combinations (forms true (parts_of es)) (kept_parts true es (subst (AllByRecursion P) (comparisons_of-Any (parts_of es)) h)))
+  kept_Any es false h = subst AllIn (sym (form_of-Any (parts_of es) false)) (all_joined (forms false (parts_of es)) (kept_parts false es (subst (AllByRecursion P) (comparisons_of-Any (parts_of es)) h)))
 
   pub literals_of : (c : Cond) → AllByRecursion P (comparisons_of c) → AllByRecursion (AllByRecursion P) (disjuncts_of c)
-  literals_of c h = kept c false h
+  literals_of c h = by_layers IsKept kept_compare kept_not kept_All kept_Any c false h

@@ -1,5 +1,5 @@
 -- A condition is true exactly where all comparisons of some of its disjuncts hold.
-use Rattle.std.proofs.Common.{◌≡◌, Bool, true, false, not, ◌&&◌, ◌||◌, List, [], ◌∷◌, ◌++◌, map, refl, sym, ap, subst, ◌∙◌}
+use Rattle.std.proofs.Common.{◌≡◌, Bool, true, false, not, ◌&&◌, ◌||◌, List, [], ◌∷◌, ◌++◌, map, refl, sym, ap, ◌∙◌}
 use Rattle.std.specs.List.{list_all, list_any}
 use Rattle.std.proofs.lemmas.List.Folds.{list_all-append, list_any-append}
 use Rattle.std.specs.declared.cmp.Ordering.{Ordering}
@@ -9,15 +9,12 @@ use Rattle.su_base.specs.Value.{compare_values}
 use Rattle.su_where.specs.declared.operators.Op.{Op}
 use Rattle.su_where.specs.declared.operators.Op.TheVariants.{Equal, NotEqual, Less, LessEqual, Greater, GreaterEqual}
 use Rattle.su_where.specs.declared.literals.Literal.{Literal}
-use Rattle.su_where.specs.declared.conditions.Condition.{roll-Condition}
-use Rattle.su_where.specs.declared.conditions.Condition.TheOpen as open'
-use Rattle.su_where.specs.declared.conditions.Condition.TheVariants.{Compare, Not, All, Any, rolls-Compare, rolls-Not, rolls-All, rolls-Any}
-use Rattle.su_where.specs.declared.conditions.Condition.TheFolds.{map-Condition, ind-Condition}
+use Rattle.su_where.specs.declared.conditions.Condition.TheVariants.{Compare, Not, All, Any}
 use Rattle.su_where.specs.Operator.{holds_in, complement_of}
 use Rattle.su_where.specs.Truth.{Cond, value_of_operand, holds, truth_of}
 use Rattle.su_where.specs.Disjunct.{opposite_of, form_of, all_hold, some_holds, KeepsTruth}
 use Rattle.su_where.specs.inside.Joined.{pairs_of, combinations_of, joined}
-use Rattle.su_where.proofs.Layers.{truth_of-Compare, truth_of-Not, truth_of-All, truth_of-Any}
+use Rattle.su_where.proofs.Layers.{truth_of-Compare, truth_of-Not, truth_of-All, truth_of-Any, parts_of, by_layers}
 use Rattle.su_where.proofs.Disjunctive.{forms, form_of-Compare, form_of-Not, form_of-All, form_of-Any}
 
 complement-holds : (op : Op) (o : Ordering) → holds_in (complement_of op) o ≡ not (holds_in op o)
@@ -95,28 +92,25 @@ not-or false b = refl
 abbrev IsKept : Cond → Type 0
 IsKept c = (b : Bool) (vs : List Value) → some_holds (form_of c b) vs ≡ under b (truth_of c vs)
 
-abbrev parts : List ((c : Cond) × IsKept c) → List Cond
-parts es = map (λ e. e.0) es
-
-kept_all : (vs : List Value) (es : List ((c : Cond) × IsKept c)) → list_all (λ f. some_holds f vs) (forms false (parts es)) ≡ list_all (λ c. truth_of c vs) (parts es)
+kept_all : (vs : List Value) (es : List ((c : Cond) × IsKept c)) → list_all (λ f. some_holds f vs) (forms false (parts_of es)) ≡ list_all (λ c. truth_of c vs) (parts_of es)
 kept_all vs [] = refl
-kept_all vs (e ∷ es) = ap (λ v. v && list_all (λ f. some_holds f vs) (forms false (parts es))) (e.1 false vs) ∙ ap (λ v. truth_of e.0 vs && v) (kept_all vs es)
+kept_all vs (e ∷ es) = ap (λ v. v && list_all (λ f. some_holds f vs) (forms false (parts_of es))) (e.1 false vs) ∙ ap (λ v. truth_of e.0 vs && v) (kept_all vs es)
 
-kept_any : (vs : List Value) (es : List ((c : Cond) × IsKept c)) → list_any (λ f. some_holds f vs) (forms false (parts es)) ≡ list_any (λ c. truth_of c vs) (parts es)
+kept_any : (vs : List Value) (es : List ((c : Cond) × IsKept c)) → list_any (λ f. some_holds f vs) (forms false (parts_of es)) ≡ list_any (λ c. truth_of c vs) (parts_of es)
 kept_any vs [] = refl
-kept_any vs (e ∷ es) = ap (λ v. v || list_any (λ f. some_holds f vs) (forms false (parts es))) (e.1 false vs) ∙ ap (λ v. truth_of e.0 vs || v) (kept_any vs es)
+kept_any vs (e ∷ es) = ap (λ v. v || list_any (λ f. some_holds f vs) (forms false (parts_of es))) (e.1 false vs) ∙ ap (λ v. truth_of e.0 vs || v) (kept_any vs es)
 
-kept_not_all : (vs : List Value) (es : List ((c : Cond) × IsKept c)) → list_any (λ f. some_holds f vs) (forms true (parts es)) ≡ not (list_all (λ c. truth_of c vs) (parts es))
+kept_not_all : (vs : List Value) (es : List ((c : Cond) × IsKept c)) → list_any (λ f. some_holds f vs) (forms true (parts_of es)) ≡ not (list_all (λ c. truth_of c vs) (parts_of es))
 kept_not_all vs [] = refl
 kept_not_all vs (e ∷ es) =
-    ap (λ v. v || list_any (λ f. some_holds f vs) (forms true (parts es))) (e.1 true vs) ∙ ap (λ v. not (truth_of e.0 vs) || v) (kept_not_all vs es)
-    ∙ not-and (truth_of e.0 vs) (list_all (λ c. truth_of c vs) (parts es))
+    ap (λ v. v || list_any (λ f. some_holds f vs) (forms true (parts_of es))) (e.1 true vs) ∙ ap (λ v. not (truth_of e.0 vs) || v) (kept_not_all vs es)
+    ∙ not-and (truth_of e.0 vs) (list_all (λ c. truth_of c vs) (parts_of es))
 
-kept_not_any : (vs : List Value) (es : List ((c : Cond) × IsKept c)) → list_all (λ f. some_holds f vs) (forms true (parts es)) ≡ not (list_any (λ c. truth_of c vs) (parts es))
+kept_not_any : (vs : List Value) (es : List ((c : Cond) × IsKept c)) → list_all (λ f. some_holds f vs) (forms true (parts_of es)) ≡ not (list_any (λ c. truth_of c vs) (parts_of es))
 kept_not_any vs [] = refl
 kept_not_any vs (e ∷ es) =
-    ap (λ v. v && list_all (λ f. some_holds f vs) (forms true (parts es))) (e.1 true vs) ∙ ap (λ v. not (truth_of e.0 vs) && v) (kept_not_any vs es)
-    ∙ not-or (truth_of e.0 vs) (list_any (λ c. truth_of c vs) (parts es))
+    ap (λ v. v && list_all (λ f. some_holds f vs) (forms true (parts_of es))) (e.1 true vs) ∙ ap (λ v. not (truth_of e.0 vs) && v) (kept_not_any vs es)
+    ∙ not-or (truth_of e.0 vs) (list_any (λ c. truth_of c vs) (parts_of es))
 
 not-not : (v : Bool) → not (not v) ≡ v
 not-not true = refl
@@ -144,26 +138,20 @@ kept_not : (c : Cond) → IsKept c → IsKept (Not c)
 kept_not c kept true vs = ap (λ ds. some_holds ds vs) (form_of-Not c true) ∙ kept false vs ∙ sym (not-not (truth_of c vs)) ∙ ap not (sym (truth_of-Not c vs))
 kept_not c kept false vs = ap (λ ds. some_holds ds vs) (form_of-Not c false) ∙ kept true vs ∙ sym (truth_of-Not c vs)
 
-kept_All : (es : List ((c : Cond) × IsKept c)) → IsKept (All (parts es))
+kept_All : (es : List ((c : Cond) × IsKept c)) → IsKept (All (parts_of es))
 kept_All es true vs =
-    ap (λ ds. some_holds ds vs) (form_of-All (parts es) true) ∙ some-joined vs (forms true (parts es)) ∙ kept_not_all vs es ∙ ap not (sym (truth_of-All (parts es) vs))
+    ap (λ ds. some_holds ds vs) (form_of-All (parts_of es) true) ∙ some-joined vs (forms true (parts_of es)) ∙ kept_not_all vs es ∙ ap not (sym (truth_of-All (parts_of es) vs))
 kept_All es false vs =
-    ap (λ ds. some_holds ds vs) (form_of-All (parts es) false) ∙ some-combinations vs (forms false (parts es)) ∙ kept_all vs es ∙ sym (truth_of-All (parts es) vs)
+    ap (λ ds. some_holds ds vs) (form_of-All (parts_of es) false) ∙ some-combinations vs (forms false (parts_of es)) ∙ kept_all vs es ∙ sym (truth_of-All (parts_of es) vs)
 
-kept_Any : (es : List ((c : Cond) × IsKept c)) → IsKept (Any (parts es))
+kept_Any : (es : List ((c : Cond) × IsKept c)) → IsKept (Any (parts_of es))
 kept_Any es true vs =
-    ap (λ ds. some_holds ds vs) (form_of-Any (parts es) true) ∙ some-combinations vs (forms true (parts es)) ∙ kept_not_any vs es ∙ ap not (sym (truth_of-Any (parts es) vs))
+    ap (λ ds. some_holds ds vs) (form_of-Any (parts_of es) true) ∙ some-combinations vs (forms true (parts_of es)) ∙ kept_not_any vs es ∙ ap not (sym (truth_of-Any (parts_of es) vs))
 kept_Any es false vs =
-    ap (λ ds. some_holds ds vs) (form_of-Any (parts es) false) ∙ some-joined vs (forms false (parts es)) ∙ kept_any vs es ∙ sym (truth_of-Any (parts es) vs)
-
-kept_layer : (y : open'.Condition-F Literal ((c : Cond) × IsKept c)) → IsKept (roll-Condition Literal (map-Condition Literal ((c : Cond) × IsKept c) Cond (λ e. e.0) y))
-kept_layer (open'.Compare l) = subst IsKept (sym (rolls-Compare l)) (kept_compare l)
-kept_layer (open'.Not e) = subst IsKept (sym (rolls-Not e.0)) (kept_not e.0 e.1)
-kept_layer (open'.All es) = subst IsKept (sym (rolls-All (parts es))) (kept_All es)
-kept_layer (open'.Any es) = subst IsKept (sym (rolls-Any (parts es))) (kept_Any es)
+    ap (λ ds. some_holds ds vs) (form_of-Any (parts_of es) false) ∙ some-joined vs (forms false (parts_of es)) ∙ kept_any vs es ∙ sym (truth_of-Any (parts_of es) vs)
 
 kept : (c : Cond) → IsKept c
-kept = ind-Condition Literal IsKept (λ x y is. subst (λ z. IsKept (roll-Condition Literal z)) is (kept_layer y))
+kept = by_layers IsKept kept_compare kept_not kept_All kept_Any
 
 pub keeps_truth : (c : Cond) → KeepsTruth c
 keeps_truth c vs = sym (kept c false vs)

@@ -5,10 +5,10 @@ use Rattle.std.proofs.lemmas.List.Elements.{All-nil, All-cons}
 use Rattle.su_base.specs.declared.values.Value.{Value}
 use Rattle.su_base.proofs.Items.{All-append_left, All-append_right}
 use Rattle.su_where.specs.declared.literals.Literal.{Literal}
-use Rattle.su_where.specs.declared.conditions.Condition.{Condition}
+use Rattle.su_where.specs.declared.conditions.Condition.{Condition, roll-Condition}
 use Rattle.su_where.specs.declared.conditions.Condition.TheOpen as open'
 use Rattle.su_where.specs.declared.conditions.Condition.TheVariants.{Compare, Not, All, Any, rolls-Compare, rolls-Not, rolls-All, rolls-Any}
-use Rattle.su_where.specs.declared.conditions.Condition.TheFolds.{fold-roll-Condition}
+use Rattle.su_where.specs.declared.conditions.Condition.TheFolds.{map-Condition, ind-Condition, fold-roll-Condition}
 use Rattle.su_where.specs.Truth.{Cond, holds, truth_of, truth_step, comparisons_of, comparisons_step}
 use Rattle.su_where.specs.Places.{HasPlacesBelow, Fits}
 
@@ -74,3 +74,20 @@ fits_any n c parts e fits = each_flat (HasPlacesBelow n) parts (subst (Each (Has
 pub compare_fits : (n : ℕ) (l : Literal) → HasPlacesBelow n l → Fits n (Compare l)
 compare_fits n l below =
     subst (Each (HasPlacesBelow n)) (sym (comparisons_of-Compare l)) (All-cons (HasPlacesBelow n) l [] below (All-nil (HasPlacesBelow n)))
+
+-- ---- what holds layer by layer
+
+-- conditions without what holds of each
+abbrev pub parts_of : {C : Type 0} {P : Condition C → Type 0} → List ((c : Condition C) × P c) → List (Condition C)
+parts_of es = map (λ e. e.0) es
+
+module _ {C : Type 0} (P : Condition C → Type 0) (compare : (l : C) → P (Compare l)) (negated : (c : Condition C) → P c → P (Not c)) (all : (es : List ((c : Condition C) × P c)) → P (All (parts_of es))) (any : (es : List ((c : Condition C) × P c)) → P (Any (parts_of es))) where
+  layer : (y : open'.Condition-F C ((c : Condition C) × P c)) → P (roll-Condition C (map-Condition C ((c : Condition C) × P c) (Condition C) (λ e. e.0) y))
+  layer (open'.Compare l) = subst P (sym (rolls-Compare l)) (compare l)
+  layer (open'.Not e) = subst P (sym (rolls-Not e.0)) (negated e.0 e.1)
+  layer (open'.All es) = subst P (sym (rolls-All (parts_of es))) (all es)
+  layer (open'.Any es) = subst P (sym (rolls-Any (parts_of es))) (any es)
+
+  -- what holds of a condition where it holds of its parts holds of each condition
+  pub by_layers : (c : Condition C) → P c
+  by_layers = ind-Condition C P (λ x y is. subst (λ z. P (roll-Condition C z)) is (layer y))

@@ -1,7 +1,7 @@
 -- The replies so far, one statement after another.
 use Rattle.std.proofs.Common.{◌≡◌, ◌++◌, ◌||◌, ◌+◌, ◌<◌, ℕ, List, [], ◌∷◌, Option, Bool, false, take, drop, length, get_or, zero, suc, refl, ◌∙◌, ap, arith}
 use Rattle.std.proofs.Math.Seq.{take-suc}
-use Rattle.std.proofs.lemmas.Grind.{common_steps}
+use Rattle.std.proofs.lemmas.List.Recursion.{or_push}
 use Rattle.su_io.specs.declared.files.File.{File}
 use Rattle.su_io.specs.Moments.{Told}
 use Rattle.su_io.specs.Writing.{Wrote}
@@ -45,10 +45,6 @@ texts_around script [] i d within = absurd (omega (arith, within))
 texts_around script (s ∷ ss) zero d within = refl
 texts_around script (s ∷ ss) (suc i) d within = ap (λ (ts : List (List ℕ)). text_at script s ∷ ts) (texts_around script ss i d (omega (arith, within)))
 
-some_refused-push : (replies : List Reply) (reply : Reply) → some_refused (replies ++ reply ∷ []) ≡ (some_refused replies || reply.refused)
-some_refused-push [] reply = grind (arith, common_steps)
-some_refused-push (r ∷ rs) reply = let rest = some_refused-push rs reply in grind (arith, rest)
-
 -- a turn: the statement at place i is answered
 module _ (files : Option (List File)) (script : List ℕ) (spans : List Span) (i : ℕ) (d : Span) (first mid last : DatabaseValue) (refused : Bool) (file : Option (List ℕ)) (reply : Reply)
     (old between : Told) (within : i < length spans) (so_far : SoFar files script (take i spans) first mid refused old between)
@@ -65,7 +61,7 @@ module _ (files : Option (List File)) (script : List ℕ) (spans : List Span) (i
   one_more new wrote = record {
     replies = so_far.replies ++ reply ∷ [];
     answered = rw texts_more answered_more;
-    refused_is = some_refused-push so_far.replies reply ∙ ap (λ b. b || reply.refused) so_far.refused_is;
+    refused_is = or_push some_refused (λ (r : Reply). r.refused) refl (λ r rs. refl) so_far.replies reply ∙ ap (λ b. b || reply.refused) so_far.refused_is;
     wrote = rw (reply_texts-push so_far.replies reply) (Wrote-trans old between new (reply_texts so_far.replies) (reply.bytes ∷ []) so_far.wrote wrote);
   }
 
