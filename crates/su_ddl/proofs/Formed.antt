@@ -7,7 +7,7 @@ use Rattle.su_lex.specs.declared.meaning.Symbol.{Symbol}
 use Rattle.su_lex.specs.declared.meaning.Symbol.TheVariants.{Word, Sign}
 use Rattle.su_lex.specs.declared.signs.Sign.TheVariants as sign
 use Rattle.su_lex.specs.Names.{AreNames, names_symbols}
-use Rattle.su_lex.proofs.Listed.{names_unique}
+use Rattle.su_lex.proofs.Listed.{SameNames, names_unique}
 use Rattle.su_lex.proofs.Written.{one_list_of_symbols}
 use Rattle.su_schema.specs.declared.definitions.Pair.{Pair}
 use Rattle.su_schema.specs.declared.definitions.Definition.{Definition}
@@ -79,6 +79,21 @@ object_form s (Attribute name kind) h = absurd (words_differ (λ b. b == 111) _ 
 object_form s (Relation name columns) h = absurd (words_differ (λ b. b == 111) _ _ _ _ h.0 refl refl)
 object_form s (Fd left right) h = absurd (words_differ (λ b. b == 111) _ _ _ _ h.0 refl refl)
 object_form s (Maximal objects) h = absurd (words_differ (λ b. b == 111) _ _ _ _ h.0 refl refl)
+
+-- where the parts of an object are read one after the other, each is the object's own, and so is what stands behind it
+module _ {s : List Symbol} {d : Definition} (f : ObjectForm s d) {name : List ℕ} {t : List Symbol} (named : s ≡ Word name ∷ t) where
+  pub behind_name : t ≡ in_parens (map (λ p. p.attribute) f.pairs) (Word (codes "from") ∷ Word f.relation ∷ in_parens (map (λ p. p.column) f.pairs) [])
+  behind_name = let w = f.whole in cc
+
+  module _ (attributes : List (List ℕ)) (u : List Symbol) (listed : (t ≡ in_parens attributes u) × AreNames attributes) where
+    pub same_attributes : SameNames attributes (map (λ p. p.attribute) f.pairs) u (Word (codes "from") ∷ Word f.relation ∷ in_parens (map (λ p. p.column) f.pairs) [])
+    same_attributes = parens_unique attributes _ u _ listed.1 f.attributes (sym listed.0 ∙ behind_name)
+
+    pub behind_from : {v : List Symbol} → u ≡ Word (codes "from") ∷ v → v ≡ Word f.relation ∷ in_parens (map (λ p. p.column) f.pairs) []
+    behind_from from = let r = same_attributes.rest in cc
+
+    pub behind_relation : {v w : List Symbol} {relation : List ℕ} → u ≡ Word (codes "from") ∷ v → v ≡ Word relation ∷ w → w ≡ in_parens (map (λ p. p.column) f.pairs) []
+    behind_relation from stored = let r = behind_from from in cc
 
 pub fd_form : (s : List Symbol) (d : Definition) → IsForm (Word (codes "fd") ∷ s) d → FdForm s d
 fd_form s (Fd left right) h = let e = h.0 in record { left = left; right = right; is = refl; whole = cc; left_given = given_are left h.1.0; right_given = given_are right h.1.1 }

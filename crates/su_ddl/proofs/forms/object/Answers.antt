@@ -1,12 +1,12 @@
 -- A refusal contradicts the form: if the symbols spelled an object, its name, its attributes, its relation and its columns are the only ones there, and each would have been read.
-use Rattle.std.proofs.Common.{◌≡◌, ◌∷◌, [], sym, ap, ◌∙◌, arith, length, Err, codes, map}
+use Rattle.std.proofs.Common.{◌≡◌, ◌∷◌, [], sym, ap, ◌∙◌, arith, length, Err, codes}
 use Rattle.std.proofs.lemmas.List.{nil_from_length}
 use Rattle.std.proofs.lemmas.Result.{err_from_is_err_and}
 use Rattle.su_lex.specs.declared.ends.LexEnd.TheVariants.{Syntax}
 use Rattle.su_lex.specs.declared.meaning.Symbol.TheVariants.{Word}
 use Rattle.su_ddl.specs.Grammar.{in_parens}
 use Rattle.su_ddl.proofs.NameLists.{are_given, parens_unique}
-use Rattle.su_ddl.proofs.Formed.{object_form, pairs_lengths}
+use Rattle.su_ddl.proofs.Formed.{object_form, behind_name, same_attributes, behind_from, behind_relation, pairs_lengths}
 use Rattle.su_ddl.proofs.forms.object.Goals as goal
 
 pub returns-in_err-attributes-clause-syntax : goal.returns-in_err-attributes-clause-syntax
@@ -15,11 +15,7 @@ returns-in_err-attributes-clause-syntax c =
     rw (p.1, p.2) (λ s d is.
     let h : c.in_err-attributes.field-0.0 ≡ Syntax = cc in
     let f = object_form _ d is in
-    let w = f.whole in
-    let a = c.in_ok-name.ensures.found.0 in
-    let columns = in_parens (map (λ p. p.column) f.pairs) [] in
-    let inner : c.name.new.self ≡ in_parens (map (λ p. p.attribute) f.pairs) (Word (codes "from") ∷ Word f.relation ∷ columns) = cc in
-    c.in_err-attributes.ensures.syntax (ap Err h) _ _ f.attributes inner
+    c.in_err-attributes.ensures.syntax (ap Err h) _ _ f.attributes (behind_name f c.in_ok-name.ensures.found.0)
     )
 
 pub returns-in_err-expect_word-clause-syntax : goal.returns-in_err-expect_word-clause-syntax
@@ -28,14 +24,8 @@ returns-in_err-expect_word-clause-syntax c =
     rw (p.1, p.2) (λ s d is.
     let h : c.in_err-expect_word.field-0.0 ≡ Syntax = cc in
     let f = object_form _ d is in
-    let w = f.whole in
-    let a = c.in_ok-name.ensures.found.0 in
-    let columns = in_parens (map (λ p. p.column) f.pairs) [] in
-    let inner : c.name.new.self ≡ in_parens (map (λ p. p.attribute) f.pairs) (Word (codes "from") ∷ Word f.relation ∷ columns) = cc in
-    let n = c.in_ok-attributes.ensures.found in
-    let u = parens_unique c.in_ok-attributes.attributes _ _ (Word (codes "from") ∷ Word f.relation ∷ columns) n.1 f.attributes (sym n.0 ∙ inner) in
-    let r = u.rest in
-    c.in_err-expect_word.ensures.syntax (ap Err h) (Word f.relation ∷ columns, r)
+    let u = same_attributes f c.in_ok-name.ensures.found.0 c.in_ok-attributes.attributes _ c.in_ok-attributes.ensures.found in
+    c.in_err-expect_word.ensures.syntax (ap Err h) (_, u.rest)
     )
 
 pub returns-in_err-relation-clause-syntax : goal.returns-in_err-relation-clause-syntax
@@ -44,15 +34,7 @@ returns-in_err-relation-clause-syntax c =
     rw (p.1, p.2) (λ s d is.
     let h : c.in_err-relation.field-0.0 ≡ Syntax = cc in
     let f = object_form _ d is in
-    let w = f.whole in
-    let a = c.in_ok-name.ensures.found.0 in
-    let columns = in_parens (map (λ p. p.column) f.pairs) [] in
-    let inner : c.name.new.self ≡ in_parens (map (λ p. p.attribute) f.pairs) (Word (codes "from") ∷ Word f.relation ∷ columns) = cc in
-    let n = c.in_ok-attributes.ensures.found in
-    let u = parens_unique c.in_ok-attributes.attributes _ _ (Word (codes "from") ∷ Word f.relation ∷ columns) n.1 f.attributes (sym n.0 ∙ inner) in
-    let r = u.rest in
-    let k = c.in_ok-expect_word.ensures.found in
-    c.in_err-relation.ensures.syntax (ap Err h) f.relation f.stored (columns, cc)
+    c.in_err-relation.ensures.syntax (ap Err h) f.relation f.stored (_, behind_from f c.in_ok-name.ensures.found.0 c.in_ok-attributes.attributes _ c.in_ok-attributes.ensures.found c.in_ok-expect_word.ensures.found)
     )
 
 pub returns-in_err-columns-clause-syntax : goal.returns-in_err-columns-clause-syntax
@@ -61,16 +43,7 @@ returns-in_err-columns-clause-syntax c =
     rw (p.1, p.2) (λ s d is.
     let h : c.in_err-columns.field-0.0 ≡ Syntax = cc in
     let f = object_form _ d is in
-    let w = f.whole in
-    let a = c.in_ok-name.ensures.found.0 in
-    let columns = in_parens (map (λ p. p.column) f.pairs) [] in
-    let inner : c.name.new.self ≡ in_parens (map (λ p. p.attribute) f.pairs) (Word (codes "from") ∷ Word f.relation ∷ columns) = cc in
-    let n = c.in_ok-attributes.ensures.found in
-    let u = parens_unique c.in_ok-attributes.attributes _ _ (Word (codes "from") ∷ Word f.relation ∷ columns) n.1 f.attributes (sym n.0 ∙ inner) in
-    let r = u.rest in
-    let k = c.in_ok-expect_word.ensures.found in
-    let m = c.in_ok-relation.ensures.found.0 in
-    let last : c.name-2.new.self ≡ columns = cc in
+    let last = behind_relation f c.in_ok-name.ensures.found.0 c.in_ok-attributes.attributes _ c.in_ok-attributes.ensures.found c.in_ok-expect_word.ensures.found c.in_ok-relation.ensures.found.0 in
     c.in_err-columns.ensures.syntax (ap Err h) _ [] f.columns last
     )
 
@@ -80,16 +53,7 @@ returns-in_err-end-clause-syntax c =
     rw (p.1, p.2) (λ s d is.
     let h : c.in_err-end.field-0.0 ≡ Syntax = cc in
     let f = object_form _ d is in
-    let w = f.whole in
-    let a = c.in_ok-name.ensures.found.0 in
-    let columns = in_parens (map (λ p. p.column) f.pairs) [] in
-    let inner : c.name.new.self ≡ in_parens (map (λ p. p.attribute) f.pairs) (Word (codes "from") ∷ Word f.relation ∷ columns) = cc in
-    let n = c.in_ok-attributes.ensures.found in
-    let u = parens_unique c.in_ok-attributes.attributes _ _ (Word (codes "from") ∷ Word f.relation ∷ columns) n.1 f.attributes (sym n.0 ∙ inner) in
-    let r = u.rest in
-    let k = c.in_ok-expect_word.ensures.found in
-    let m = c.in_ok-relation.ensures.found.0 in
-    let last : c.name-2.new.self ≡ columns = cc in
+    let last = behind_relation f c.in_ok-name.ensures.found.0 c.in_ok-attributes.attributes _ c.in_ok-attributes.ensures.found c.in_ok-expect_word.ensures.found c.in_ok-relation.ensures.found.0 in
     let o = c.in_ok-columns.ensures.found in
     let v = parens_unique c.in_ok-columns.columns _ _ [] o.1 f.columns (sym o.0 ∙ last) in
     let some = c.in_err-end.ensures.syntax (ap Err h) in
@@ -99,16 +63,8 @@ returns-in_err-end-clause-syntax c =
 pub returns-then-len-clause-syntax : goal.returns-then-len-clause-syntax
 returns-then-len-clause-syntax c = λ s d is.
     let f = object_form _ d is in
-    let w = f.whole in
-    let a = c.in_ok-name.ensures.found.0 in
-    let columns = in_parens (map (λ p. p.column) f.pairs) [] in
-    let inner : c.name.new.self ≡ in_parens (map (λ p. p.attribute) f.pairs) (Word (codes "from") ∷ Word f.relation ∷ columns) = cc in
-    let n = c.in_ok-attributes.ensures.found in
-    let u = parens_unique c.in_ok-attributes.attributes _ _ (Word (codes "from") ∷ Word f.relation ∷ columns) n.1 f.attributes (sym n.0 ∙ inner) in
-    let r = u.rest in
-    let k = c.in_ok-expect_word.ensures.found in
-    let m = c.in_ok-relation.ensures.found.0 in
-    let last : c.name-2.new.self ≡ columns = cc in
+    let u = same_attributes f c.in_ok-name.ensures.found.0 c.in_ok-attributes.attributes _ c.in_ok-attributes.ensures.found in
+    let last = behind_relation f c.in_ok-name.ensures.found.0 c.in_ok-attributes.attributes _ c.in_ok-attributes.ensures.found c.in_ok-expect_word.ensures.found c.in_ok-relation.ensures.found.0 in
     let o = c.in_ok-columns.ensures.found in
     let v = parens_unique c.in_ok-columns.columns _ _ [] o.1 f.columns (sym o.0 ∙ last) in
     c.if-len.true (c.len.ensures ∙ ap length u.names ∙ pairs_lengths f.pairs ∙ sym (ap length v.names) ∙ sym c.len-2.ensures)
