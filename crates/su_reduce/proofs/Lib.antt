@@ -4,6 +4,7 @@ pub mod Rounds
 pub mod MeetingSets
 pub mod Moving
 pub mod Exact
+pub mod Same
 pub mod Places
 pub mod Candidates
 pub mod Keyed

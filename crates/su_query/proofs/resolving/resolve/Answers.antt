@@ -24,7 +24,7 @@ use Rattle.su_query.proofs.Literals.{fits_here, kinds_here}
 use Rattle.su_query.proofs.Placed.{few_variables, few_refs, places_are, numbers_are}
 use Rattle.su_query.proofs.Ranged.{query_places, cond_numbers, query_resolved, fault_of_kinds}
 use Rattle.su_query.proofs.resolving.resolve.Goals as goal
-use Rattle.su_query.proofs.resolving.resolve.Goals.{After-as_slice-4, In-Ok, After-as_slice-6}
+use Rattle.su_query.proofs.resolving.resolve.Goals.{After-as_slice-4, In-Ok, After-check-arg}
 
 -- the number of a ref of the query
 abbrev number : SchemaValue → Query → Ref → ℕ
@@ -56,7 +56,7 @@ module _ (c : In-Ok) where
   are_numbers = numbers_are c.args.schema.now c.args.query.now (refs read) (are_refs read) c.as_slice-3.result.now (are_variables read) c.in-Ok.placed.places c.in-Ok.ensures.places c.in-Ok.placed.numbers c.in-Ok.ensures.numbers
 
 -- the query over numbers is what the names resolve to, and its fault is that of the kinds
-module _ (c : After-as_slice-6) where
+module _ (c : After-check-arg) where
   abbrev placed : In-Ok
   placed = (goal.at.check-requires c).In-Ok
 
@@ -101,19 +101,19 @@ check-requires c =
     fits_here schema Attributes (place_kinds schema (places_in schema q)) (number schema q) q.cond (cond_numbers schema q (known (placed c))) c.as_slice-6.result.now (are_kinds c) c.in_ok-resolved.resolved.cond (c.in_ok-resolved.ensures.cond (number schema q) (are_numbers (placed c)))
 
 pub returns-in-Ok-check-clause-resolved : goal.returns-in-Ok-check-clause-resolved
-returns-in-Ok-check-clause-resolved c = is_resolved (goal.at.returns-in-Ok-check-clause-resolved c).After-as_slice-6
+returns-in-Ok-check-clause-resolved c = is_resolved (goal.at.returns-in-Ok-check-clause-resolved c).After-check-arg
 
 pub returns-in-Ok-check-clause-known : goal.returns-in-Ok-check-clause-known
-returns-in-Ok-check-clause-known c = is_fault (goal.at.returns-in-Ok-check-clause-known c).After-as_slice-6 None (ap (option_map (λ (k : Kind × Kind). Kinds k.0 k.1)) c.in-Ok-check.ensures.alike)
+returns-in-Ok-check-clause-known c = is_fault (goal.at.returns-in-Ok-check-clause-known c).After-check-arg None (ap (option_map (λ (k : Kind × Kind). Kinds k.0 k.1)) c.in-Ok-check.ensures.alike)
 
 pub returns-in-Ok-check-clause-in_range : goal.returns-in-Ok-check-clause-in_range
 returns-in-Ok-check-clause-in_range c =
-    let d = (goal.at.returns-in-Ok-check-clause-in_range c).After-as_slice-6 in
+    let d = (goal.at.returns-in-Ok-check-clause-in_range c).After-check-arg in
     subst (IsResolved c.args.schema.now) (sym (is_resolved d))
     (query_resolved c.args.schema.now c.args.query.now c.requires (is_fault d None (ap (option_map (λ (k : Kind × Kind). Kinds k.0 k.1)) c.in-Ok-check.ensures.alike)))
 
 pub returns-clause-refused : goal.returns-clause-refused
 returns-clause-refused c = elim c.in-Err-check.ensures.refused [
   | inl memory ↦ inl memory
-  | inr told ↦ inr (is_fault (goal.at.returns-clause-refused c).After-as_slice-6 (Some c.in-Err-check.fault) told)
+  | inr told ↦ inr (is_fault (goal.at.returns-clause-refused c).After-check-arg (Some c.in-Err-check.fault) told)
 ]
