@@ -160,86 +160,89 @@ fn terms_are_valid_and_well_typed(rt: HostRuntime) -> Result<(), Fail> {
     Ok(())
 }
 
+const TERM: &str = "term 0 head v0 rows (v0) kept 0 fold 0 tree 0 (0)";
+
+/// Texts in two pieces that are no certificate.
+const NO_CERTIFICATES: &[(&str, &str)] = &[
+    ("", ""),
+    ("-- nothing", ""),
+    ("certificate 0 kinds", ""),
+    ("certificate 2 kinds int", ""),
+    ("certificate 1 kinds int int", ""),
+    ("certificate -1 kinds int", ""),
+    ("certificate 1 kinds real", ""),
+    ("\u{feff}certificate 1 kinds int ", TERM),
+    ("certificate 1 kinds int; ", TERM),
+    (
+        "certificate 1 kinds int ",
+        "term 4294967296 head rows kept fold",
+    ),
+    ("certificate 1 kinds int ", "term 0 head v01 rows kept fold"),
+    ("certificate 1 kinds int ", "term 0 head v 1 rows kept fold"),
+    (
+        "certificate 1 kinds int ",
+        "term 0 head v4294967296 rows kept fold",
+    ),
+    ("certificate 1 kinds int ", "term 0 head x0 rows kept fold"),
+    (
+        "certificate 1 kinds int ",
+        "term 0 head rows (v0 v1) kept 0 fold 0",
+    ),
+    (
+        "certificate 1 kinds int ",
+        "term 0 head rows () kept 0 fold 0",
+    ),
+    (
+        "certificate 1 kinds int ",
+        "term 0 head rows (v0 kept 0 fold 0",
+    ),
+    (
+        "certificate 1 kinds int ",
+        "term 0 head rows (v0) kept 256 fold 0",
+    ),
+    (
+        "certificate 1 kinds int ",
+        "term 0 head rows (v0) kept 0 fold 256",
+    ),
+    (
+        "certificate 1 kinds int ",
+        "term 0 head rows (v0) kept -1 fold 0",
+    ),
+    (
+        "certificate 1 kinds int ",
+        "term 0 head rows (v0) fold 0 kept 0",
+    ),
+    (
+        "certificate 1 kinds int ",
+        "term 0 head rows (v0) kept 0 fold 0 tree 256 (0)",
+    ),
+    (
+        "certificate 1 kinds int ",
+        "term 0 head rows (v0) kept 0 fold 0 tree 0 (256)",
+    ),
+    (
+        "certificate 1 kinds int ",
+        "term 0 head rows (v0) kept 0 fold 0 tree 0 (0 0)",
+    ),
+    (
+        "certificate 1 kinds int ",
+        "term 0 head rows (v0) kept 0 fold 0 tree 0 ()",
+    ),
+    (
+        "certificate 1 kinds int ",
+        "term 0 head rows (v0) kept 0 fold 0 tree (0)",
+    ),
+    (
+        "certificate 1 kinds int ",
+        "term 0 head rows kept fold more",
+    ),
+];
+
 #[test]
 fn other_bytes_are_no_certificate(rt: HostRuntime) -> Result<(), Fail> {
-    let term = "term 0 head v0 rows (v0) kept 0 fold 0 tree 0 (0)";
-    let cases = [
-        ("", ""),
-        ("-- nothing", ""),
-        ("certificate 0 kinds", ""),
-        ("certificate 2 kinds int", ""),
-        ("certificate 1 kinds int int", ""),
-        ("certificate -1 kinds int", ""),
-        ("certificate 1 kinds real", ""),
-        ("\u{feff}certificate 1 kinds int ", term),
-        ("certificate 1 kinds int; ", term),
-        (
-            "certificate 1 kinds int ",
-            "term 4294967296 head rows kept fold",
-        ),
-        ("certificate 1 kinds int ", "term 0 head v01 rows kept fold"),
-        ("certificate 1 kinds int ", "term 0 head v 1 rows kept fold"),
-        (
-            "certificate 1 kinds int ",
-            "term 0 head v4294967296 rows kept fold",
-        ),
-        ("certificate 1 kinds int ", "term 0 head x0 rows kept fold"),
-        (
-            "certificate 1 kinds int ",
-            "term 0 head rows (v0 v1) kept 0 fold 0",
-        ),
-        (
-            "certificate 1 kinds int ",
-            "term 0 head rows () kept 0 fold 0",
-        ),
-        (
-            "certificate 1 kinds int ",
-            "term 0 head rows (v0 kept 0 fold 0",
-        ),
-        (
-            "certificate 1 kinds int ",
-            "term 0 head rows (v0) kept 256 fold 0",
-        ),
-        (
-            "certificate 1 kinds int ",
-            "term 0 head rows (v0) kept 0 fold 256",
-        ),
-        (
-            "certificate 1 kinds int ",
-            "term 0 head rows (v0) kept -1 fold 0",
-        ),
-        (
-            "certificate 1 kinds int ",
-            "term 0 head rows (v0) fold 0 kept 0",
-        ),
-        (
-            "certificate 1 kinds int ",
-            "term 0 head rows (v0) kept 0 fold 0 tree 256 (0)",
-        ),
-        (
-            "certificate 1 kinds int ",
-            "term 0 head rows (v0) kept 0 fold 0 tree 0 (256)",
-        ),
-        (
-            "certificate 1 kinds int ",
-            "term 0 head rows (v0) kept 0 fold 0 tree 0 (0 0)",
-        ),
-        (
-            "certificate 1 kinds int ",
-            "term 0 head rows (v0) kept 0 fold 0 tree 0 ()",
-        ),
-        (
-            "certificate 1 kinds int ",
-            "term 0 head rows (v0) kept 0 fold 0 tree (0)",
-        ),
-        (
-            "certificate 1 kinds int ",
-            "term 0 head rows kept fold more",
-        ),
-    ];
-    assert!(rt; verdict(rt.alloc(), &["certificate 1 kinds int ", term])? == YES);
-    for (front, rest) in cases {
-        assert!(rt; verdict(rt.alloc(), &[front, rest])? == SYNTAX);
+    assert!(rt; verdict(rt.alloc(), &["certificate 1 kinds int ", TERM])? == YES);
+    for (front, rest) in NO_CERTIFICATES {
+        assert!(rt; verdict(rt.alloc(), &[*front, *rest])? == SYNTAX);
     }
     Ok(())
 }
