@@ -31,12 +31,11 @@ use Rattle.su_steps.specs.Laws.{TermsAreValidAndTyped, TermsAreTheExpression, Ro
 use Rattle.su_steps.specs.Objects.{attributes_at, width}
 use Rattle.su_answer.specs.declared.preparing.Prepared.{Prepared}
 use Rattle.su_answer.specs.Prepared.{IsPrepared}
-use Rattle.su_answer.specs.inside.Joined.{HaveSources}
 use Rattle.su_answer.specs.Answers.{StoredAnswer, IsAnswer}
 use Rattle.su_answer.specs.Projections.{view_of, AreProjections}
 use Rattle.su_answer.proofs.Minimals.{same_tableaux, all_minimised, minimals_fit}
 use Rattle.su_answer.proofs.Covered.{OfKept, OfTerm, kept_give_all}
-use Rattle.su_answer.proofs.Projections.{stored_is_ext}
+use Rattle.su_answer.proofs.Projections.{HaveSources, stored_is_ext}
 
 abbrev no_minimised : Minimised
 no_minimised = record { tableau = record { width = 0; rows = []; head = []; outputs = 0; operators = [] }; mask = 0; fold = [] }

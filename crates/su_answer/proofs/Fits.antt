@@ -11,7 +11,7 @@ use Rattle.su_base.proofs.Items.{Contains-map, Contains-map_source, AllZip-lengt
 use Rattle.su_tableau.specs.declared.symbols.Sym.{Sym}
 use Rattle.su_tableau.specs.declared.symbols.Sym.TheVariants.{Var}
 use Rattle.su_tableau.specs.Tableaux.{Tab, IsValid, IsSmall}
-use Rattle.su_tableau.specs.Parts.{part, keep_if}
+use Rattle.su_tableau.specs.Parts.{part, keep_if, cell_at, row_of}
 use Rattle.su_tableau.specs.Essential.{HasSymbol, in_head}
 use Rattle.su_tableau.proofs.Sets.{select, select-from}
 use Rattle.su_index.specs.Tables.{table_at}
@@ -23,7 +23,7 @@ use Rattle.su_exec.specs.declared.tasks.TaskRow.{TaskRow}
 use Rattle.su_exec.specs.declared.tasks.Compared.{Compared}
 use Rattle.su_exec.specs.declared.tasks.Task.{Task}
 use Rattle.su_exec.specs.Tasks.{Occurs, FitsTables, HasSources, IsTask}
-use Rattle.su_answer.specs.Joined.{numbers_in, cell, IsSourceOf, IsTaskRowOf, comparison_at, IsTaskOf}
+use Rattle.su_answer.specs.Joined.{numbers_in, IsSourceOf, IsTaskRowOf, comparison_at, IsTaskOf}
 use Rattle.su_state.proofs.Columns.{column_within}
 use Rattle.su_answer.proofs.Columns.{object_is}
 use Rattle.su_answer.proofs.PairedLists.{zip_first, zip_second}
@@ -61,7 +61,7 @@ module _ (db : DatabaseValue) (t : Tab) (m : ℕ) (task : Task) (kept : IsWellKe
   row_fits r c =
       let w = zip_second (IsTaskRowOf db.schema t m) (row_numbers t m) task.rows r is.rows c in
       let of' = w.2 in
-      let n : length r.cells ≡ length (numbers_in of'.attributes t.width) = ap (λ (xs : List Sym). length xs) of'.cells ∙ length-map (numbers_in of'.attributes t.width) (cell t w.0) in
+      let n : length r.cells ≡ length (numbers_in of'.attributes t.width) = ap (λ (xs : List Sym). length xs) of'.cells ∙ length-map (numbers_in of'.attributes t.width) (cell_at (row_of t w.0)) in
       All-members (FitsTables db.tables (length r.cells)) r.sources (λ s d.
       let f = of'.from s d in
       source_fits (length r.cells) (numbers_in of'.attributes t.width) f.0 s n f.2)
@@ -73,11 +73,11 @@ module _ (db : DatabaseValue) (t : Tab) (m : ℕ) (task : Task) (kept : IsWellKe
       let s = select-from m t.rows row (Contains-get_or (select m t.rows) o.0 [] o.1) in
       let j = s.place in
       let in_row : Contains (get_or t.rows j []) (Var k) = subst (λ (xs : List Sym). Contains xs (Var k)) (sym (s.is [])) o.2 in
-      let holds : HasSymbol t m j in_row.0 (Var k) = record { row_in = s.below; in_set = s.is_in; column_in = in_row.1; is = λ d. get_or_default (get_or t.rows j []) in_row.0 d (Var k) in_row.1 ∙ in_row.2 } in
+      let holds : HasSymbol t m j in_row.0 (Var k) = record { row_in = s.below; in_set = s.is_in; cell = record { below = in_row.1; is = λ d. get_or_default (get_or t.rows j []) in_row.0 d (Var k) in_row.1 ∙ in_row.2 } } in
       let w = zip_first (IsTaskRowOf db.schema t m) (row_numbers t m) task.rows j is.rows (in_rows t m j s.below s.is_in) in
       let r = w.0 in
       let e = essential_has db t m j r (λ n. Int (pos 0)) kept valid s.below s.is_in w.2 in_row.0 (Var k) holds (in_head k holds c) in
-      let has : Contains r.cells (Var k) = subst (λ (xs : List Sym). Contains xs (Var k)) (sym w.2.cells) (subst (λ (x : Sym). Contains (map (cell t j) (numbers_in w.2.attributes t.width)) x) (holds.is (Var 0)) (Contains-map (cell t j) (numbers_in w.2.attributes t.width) in_row.0 e)) in
+      let has : Contains r.cells (Var k) = subst (λ (xs : List Sym). Contains xs (Var k)) (sym w.2.cells) (subst (λ (x : Sym). Contains (map (cell_at (row_of t j)) (numbers_in w.2.attributes t.width)) x) (holds.cell.is (Var 0)) (Contains-map (cell_at (row_of t j)) (numbers_in w.2.attributes t.width) in_row.0 e)) in
       (w.1.0, record { row = r; below = w.1.1; is = λ d. get_or_default task.rows w.1.0 d r w.1.1 ∙ w.1.2; cell = has })
 
   side_has : (i n k : ℕ) → n < length t.head → get_or t.head n (Var 0) ≡ Var k → Occurs task k

@@ -17,6 +17,7 @@ use Rattle.su_map.specs.Lists.{row_numbers}
 use Rattle.su_map.proofs.RowLists.{in_rows, of_rows}
 use Rattle.su_state.specs.DatabaseValue.{DatabaseValue, IsWellKept}
 use Rattle.su_exec.specs.declared.tasks.Task.{Task}
+use Rattle.su_exec.specs.declared.tasks.TaskRow.{TaskRow}
 use Rattle.su_exec.specs.Tasks.{HasSources, IsTask}
 use Rattle.su_exec.specs.Outputs.{Agrees, HoldsUnder as HoldsFor, IsOutput}
 use Rattle.su_answer.specs.Answers.{IsRead, StoredAnswer}
@@ -38,7 +39,7 @@ compared_same t v i valid l =
     let right = head_value t v (t.outputs + 2 * i + 1) (omega arith) in
     ap (λ x. compares (get_or t.operators i Equal) x (get_or (values_of v t.head) (t.outputs + 2 * i + 1) (Int (pos 0)))) left ∙ ap (compares (get_or t.operators i Equal) (value_of v (get_or t.head (t.outputs + 2 * i) (Var 0)))) right
 
-module _ (db : DatabaseValue) (t : Tab) (m : ℕ) (task : Task) (kept : IsWellKept db) (valid : IsValid t) (fits : IsTask db.tables task) (is : IsTaskOf db.schema t m task) where
+module _ (db : DatabaseValue) (t : Tab) (m : ℕ) (task : Task) (valid : IsValid t) (is : IsTaskOf db.schema t m task) where
   holds_all : (v : ℕ → Value) → AreCompared t (values_of v t.head) → All (HoldsFor v) task.comparisons
   holds_all v h =
       subst (λ cs. All (HoldsFor v) cs) (sym is.comparisons)
@@ -52,31 +53,38 @@ module _ (db : DatabaseValue) (t : Tab) (m : ℕ) (task : Task) (kept : IsWellKe
       let there = Contains-map (comparison_at t) (range_with_len 0 (length t.operators)) i (Contains-range (length t.operators) i low) in
       subst IsTrue (sym (compared_same t v i valid low)) (All-contains (HoldsFor v) (map (comparison_at t) (range_with_len 0 (length t.operators))) (comparison_at t i) (subst (λ cs. All (HoldsFor v) cs) is.comparisons h) there)
 
-  agrees_all : (v : ℕ → Value) → ((i : ℕ) → i < length t.rows → bit_at m i ≡ 1 → IsRead db t m v i) → All (Agrees db.tables v) task.rows
-  agrees_all v h = All-members (Agrees db.tables v) task.rows (λ r c.
-      let w = zip_second (IsTaskRowOf db.schema t m) (row_numbers t m) task.rows r is.rows c in
-      let n = of_rows t m w.0 w.1 in
-      read_row db t m w.0 r v kept valid n.0 n.1 w.2 (h w.0 n.0 n.1))
+  -- where each of the task's rows has a match exactly where the term's row is read
+  module _ (agrees : (i : ℕ) (r : TaskRow) (v : ℕ → Value) → i < length t.rows → bit_at m i ≡ 1 → IsTaskRowOf db.schema t m i r → IsRead db t m v i → Agrees db.tables v r) (reads : (i : ℕ) (r : TaskRow) (v : ℕ → Value) → i < length t.rows → bit_at m i ≡ 1 → IsTaskRowOf db.schema t m i r → Contains task.rows r → Agrees db.tables v r → IsRead db t m v i) where
+    agrees_all : (v : ℕ → Value) → ((i : ℕ) → i < length t.rows → bit_at m i ≡ 1 → IsRead db t m v i) → All (Agrees db.tables v) task.rows
+    agrees_all v h = All-members (Agrees db.tables v) task.rows (λ r c.
+        let w = zip_second (IsTaskRowOf db.schema t m) (row_numbers t m) task.rows r is.rows c in
+        let n = of_rows t m w.0 w.1 in
+        agrees w.0 r v n.0 n.1 w.2 (h w.0 n.0 n.1))
 
-  all_read : (v : ℕ → Value) → All (Agrees db.tables v) task.rows → (i : ℕ) → i < length t.rows → bit_at m i ≡ 1 → IsRead db t m v i
-  all_read v h i low set =
-      let w = zip_first (IsTaskRowOf db.schema t m) (row_numbers t m) task.rows i is.rows (in_rows t m i low set) in
-      row_read db t m i w.0 v kept valid low set w.2 (All-contains (HasSources db.tables) task.rows w.0 fits.sources w.1) (All-contains (Agrees db.tables v) task.rows w.0 h w.1)
+    all_read : (v : ℕ → Value) → All (Agrees db.tables v) task.rows → (i : ℕ) → i < length t.rows → bit_at m i ≡ 1 → IsRead db t m v i
+    all_read v h i low set =
+        let w = zip_first (IsTaskRowOf db.schema t m) (row_numbers t m) task.rows i is.rows (in_rows t m i low set) in
+        reads i w.0 v low set w.2 w.1 (All-contains (Agrees db.tables v) task.rows w.0 h w.1)
 
-  pub outputs_are_answers : (h : List Value) → IsOutput db.tables task h ↔ Cut t (StoredAnswer db t m) h
-  outputs_are_answers h = (
-    λ o. record {
-      head = values_of o.valuation t.head;
-      member = record { valuation = o.valuation; reads = all_read o.valuation o.agrees; gives = refl };
-      compared = all_hold o.valuation o.holds;
-      outputs = take-map (value_of o.valuation) t.outputs t.head ∙ ap (values_of o.valuation) (sym is.outputs) ∙ o.gives;
-    },
-    λ c.
-        let v = c.member.valuation in
-        record {
-          valuation = v;
-          agrees = agrees_all v c.member.reads;
-          holds = holds_all v (subst (AreCompared t) (sym c.member.gives) c.compared);
-          gives = ap (values_of v) is.outputs ∙ sym (take-map (value_of v) t.outputs t.head) ∙ ap (take t.outputs) c.member.gives ∙ c.outputs;
-        },
-  )
+    pub answers_by_rows : (h : List Value) → IsOutput db.tables task h ↔ Cut t (StoredAnswer db t m) h
+    answers_by_rows h = (
+      λ o. record {
+        head = values_of o.valuation t.head;
+        member = record { valuation = o.valuation; holds = all_read o.valuation o.agrees; gives = refl };
+        compared = all_hold o.valuation o.holds;
+        outputs = take-map (value_of o.valuation) t.outputs t.head ∙ ap (values_of o.valuation) (sym is.outputs) ∙ o.gives;
+      },
+      λ c.
+          let v = c.member.valuation in
+          record {
+            valuation = v;
+            agrees = agrees_all v c.member.holds;
+            holds = holds_all v (subst (AreCompared t) (sym c.member.gives) c.compared);
+            gives = ap (values_of v) is.outputs ∙ sym (take-map (value_of v) t.outputs t.head) ∙ ap (take t.outputs) c.member.gives ∙ c.outputs;
+          },
+    )
+
+pub outputs_are_answers : (db : DatabaseValue) (t : Tab) (m : ℕ) (task : Task) → IsWellKept db → IsValid t → IsTask db.tables task → IsTaskOf db.schema t m task → (h : List Value) → IsOutput db.tables task h ↔ Cut t (StoredAnswer db t m) h
+outputs_are_answers db t m task kept valid fits is =
+    answers_by_rows db t m task valid is (λ i r v low set of' h. read_row db t m i r v kept valid low set of' h)
+    (λ i r v low set of' there h. row_read db t m i r v kept valid low set of' (All-contains (HasSources db.tables) task.rows r fits.sources there) h)

@@ -8,7 +8,7 @@ use Rattle.std.proofs.lemmas.List.Elements.{Contains-append_left, Contains-appen
 use Rattle.std.proofs.lemmas.Map.Keys.{sorted_head, sorted_tail}
 use Rattle.su_base.specs.declared.values.Value.{Value}
 use Rattle.su_base.specs.Value.{compare_lists}
-use Rattle.su_base.proofs.Items.{Contains-cases, Contains-later, Contains-nil}
+use Rattle.su_base.proofs.Items.{Contains-cases, Contains-later, Contains-nil, AllByRecursion-append_left}
 use Rattle.su_rel.specs.MoreThan.{AreMoreThan}
 use Rattle.su_answer.specs.inside.Merged.{IsTakenFrom, IsGreatestOf}
 use Rattle.su_steps.proofs.Lists.{all_by}
@@ -85,14 +85,10 @@ none_taken rows more s t = record {
   right_ascends = subst (λ (xs : List (List Value)). IsStrictlySortedBy compare_lists xs) (sym (append-nil more)) t;
 }
 
-all_front : (P : List Value → Type 0) (xs ys : List (List Value)) → AllByRecursion P (xs ++ ys) → AllByRecursion P xs
-all_front P [] ys a = tt
-all_front P (x ∷ xs) ys a = (a.0, all_front P xs ys a.1)
-
 sorted_front : (xs ys : List (List Value)) → IsStrictlySortedBy compare_lists (xs ++ ys) → IsStrictlySortedBy compare_lists xs
 unfolding IsStrictlySortedBy
 sorted_front [] ys s = tt
-sorted_front (x ∷ xs) ys s = (all_front (λ y. compare_lists x y ≡ Less) xs ys s.0, sorted_front xs ys s.1)
+sorted_front (x ∷ xs) ys s = (AllByRecursion-append_left (λ y. compare_lists x y ≡ Less) xs ys s.0, sorted_front xs ys s.1)
 
 module _ (rows more left right all : List (List Value)) (m : AreMerged rows more left right all) where
   pub left_sorted : IsStrictlySortedBy compare_lists left

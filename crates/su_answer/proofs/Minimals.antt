@@ -1,5 +1,5 @@
 -- How many terms there are, and what holds of their tableaux once they are minimised.
-use Rattle.std.proofs.Common.{◌≡◌, ⊎_elim, ℕ, ◌*◌, ◌≤◌, List, [], ◌∷◌, map, length, All, refl, sym, ap, ◌∙◌, subst, arith}
+use Rattle.std.proofs.Common.{◌≡◌, ⊎_elim, ℕ, ◌*◌, ◌≤◌, List, [], ◌∷◌, map, length, All, refl, sym, ap, ◌∙◌, subst, arith, None}
 use Rattle.std.specs.List.{AllZip, flat_map, range_with_len}
 use Rattle.std.specs.Ordering.{nat_cmp}
 use Rattle.std.specs.FinSet.{FinSet}
@@ -18,22 +18,21 @@ use Rattle.su_query.specs.declared.resolving.Resolved.{Resolved}
 use Rattle.su_min.specs.Kept.{Minimised, IsMinimised}
 use Rattle.su_steps.specs.declared.results.Term.{Term}
 use Rattle.su_steps.specs.Choices.{choices}
-use Rattle.su_steps.specs.Cases.{Case, Gives}
+use Rattle.su_steps.specs.Cases.{Case, Gives, IsOutOf}
 use Rattle.su_steps.specs.Terms.{case_of, cases, AreTerms}
 use Rattle.su_steps.specs.Refusals.{IsAccepted}
 use Rattle.su_steps.specs.Laws.{TermsAreValidAndTyped}
-use Rattle.su_steps.specs.inside.Outs.{GivesNone, AreTermsOf}
 use Rattle.su_answer.specs.declared.preparing.Prepared.{Prepared}
 use Rattle.su_answer.specs.Prepared.{IsMinimisedOf, IsPrepared}
 use Rattle.su_answer.proofs.PairedLists.{zip_second}
-use Rattle.su_steps.proofs.Outs.{terms_of}
+use Rattle.su_steps.proofs.Outs.{AreInTurn, terms_of}
 
-terms_count : (schema : SchemaValue) (maximal : List (FinSet nat_cmp)) (q : Resolved) (cs : List Case) (ts : List Term) → AreTermsOf schema maximal q cs ts → length ts ≤ length cs
+terms_count : (schema : SchemaValue) (maximal : List (FinSet nat_cmp)) (q : Resolved) (cs : List Case) (ts : List Term) → AreInTurn schema maximal q cs ts → length ts ≤ length cs
 terms_count schema maximal q [] ts h = let e = ap (λ (xs : List Term). length xs) h in omega arith
 terms_count schema maximal q (c ∷ cs) ts h =
     ⊎_elim
-    (λ (none : GivesNone schema maximal q c × AreTermsOf schema maximal q cs ts). let i = terms_count schema maximal q cs ts none.1 in omega arith)
-    (λ (some : (t : Term) × (later : List Term) × (ts ≡ t ∷ later) × Gives schema maximal q c t × AreTermsOf schema maximal q cs later).
+    (λ (none : IsOutOf schema maximal q c None × AreInTurn schema maximal q cs ts). let i = terms_count schema maximal q cs ts none.1 in omega arith)
+    (λ (some : (t : Term) × (later : List Term) × (ts ≡ t ∷ later) × Gives schema maximal q c t × AreInTurn schema maximal q cs later).
     let i = terms_count schema maximal q cs some.1 some.4 in
     let e = ap (λ (xs : List Term). length xs) some.2 in
     omega arith)
@@ -55,12 +54,6 @@ few_terms schema maximal q ts terms accepted =
     let product : length (cases schema maximal q) ≡ length (disjuncts_of q.cond) * length (choices schema maximal q) = pairs ∙ ap (λ n. n * length (choices schema maximal q)) range in
     let few = accepted.few_terms in
     omega (arith, count, product, few)
-
-pub same_count : (ts : List Term) (ms : List Minimised) → AllZip (λ t m. IsMinimisedOf t.tableau m) ts ms → length ts ≡ length ms
-same_count [] [] h = refl
-same_count [] (m ∷ ms) h = absurd h
-same_count (t ∷ ts) [] h = absurd h
-same_count (t ∷ ts) (m ∷ ms) h = let i = same_count ts ms h.1 in omega arith
 
 pub same_tableaux : (ts : List Term) (ms : List Minimised) → AllZip (λ t m. IsMinimisedOf t.tableau m) ts ms → map (λ (m : Minimised). m.tableau) ms ≡ map (λ (t : Term). t.tableau) ts
 same_tableaux [] [] h = refl

@@ -1,6 +1,7 @@
 -- Where the relations are projections of a universal relation, a row is read exactly where it agrees with a row of that.
 use Rattle.std.proofs.Common.{◌≡◌, ◌↔◌, ℕ, ◌<◌, true, List, [], map, length, get_or, Contains, Option, Some, All, sym, ap, ◌∙◌, subst, pos, arith}
 use Rattle.std.specs.Prelude.{slice_get, option_and_then, unwrap_or}
+use Rattle.std.specs.Int.{bit_at}
 use Rattle.std.specs.List.{range_with_len}
 use Rattle.std.specs.FinSet.{contains}
 use Rattle.std.proofs.lemmas.List.{length-map}
@@ -18,7 +19,7 @@ use Rattle.su_tableau.specs.Tableaux.{Tab}
 use Rattle.su_tableau.specs.Valuations.{value_of}
 use Rattle.su_tableau.specs.Kinds.{IsUniverse}
 use Rattle.su_tableau.specs.Essential.{HasSymbol, AgreesOn, ExtByEssential}
-use Rattle.su_schema.specs.SchemaValue.{ObjectEntry}
+use Rattle.su_schema.specs.SchemaValue.{SchemaValue, ObjectEntry}
 use Rattle.su_schema.specs.Entries.{attribute_kinds}
 use Rattle.su_schema.specs.Known.{columns_at}
 use Rattle.su_state.specs.DatabaseValue.{DatabaseValue, IsWellKept, HasColumnKinds, rows_of, columns_of}
@@ -27,11 +28,14 @@ use Rattle.su_steps.specs.Objects.{width, attributes_at}
 use Rattle.su_steps.specs.Expression.{cut, Agree}
 use Rattle.su_steps.specs.Sources.{IsSource}
 use Rattle.su_answer.specs.Answers.{IsRead, StoredAnswer}
-use Rattle.su_answer.specs.inside.Joined.{HaveSources}
 use Rattle.su_answer.specs.Projections.{value_for, taken, view_through, view_of, AreProjections}
 use Rattle.su_state.proofs.Columns.{column_within, column_of_attribute}
 use Rattle.su_answer.proofs.Columns.{object_is, attributes_by}
 use Rattle.su_steps.proofs.ValueCuts.{cut_agrees}
+
+-- every row of the set has a source
+abbrev pub HaveSources : SchemaValue → Tab → ℕ → Type 0
+HaveSources schema t m = (i : ℕ) → i < length t.rows → bit_at m i ≡ 1 → (o : ℕ) × IsSource schema t m i o
 
 module _ (db : DatabaseValue) (t : Tab) (m : ℕ) (universe : List (List Value)) (kept : IsWellKept db) (wide : t.width ≡ width db.schema) (rows_wide : All (λ row. length row ≡ t.width) t.rows) (kinds : IsUniverse (attribute_kinds db.schema) universe) (projections : AreProjections db universe) where
   spread : ObjectEntry → List Value → List Value
@@ -52,7 +56,7 @@ module _ (db : DatabaseValue) (t : Tab) (m : ℕ) (universe : List (List Value))
 
   column_low : (i c : ℕ) (x : Sym) → HasSymbol t m i c x → c < width db.schema
   column_low i c x h =
-      let l = h.column_in in
+      let l : c < length (get_or t.rows i []) = h.cell.below in
       let w : length (get_or t.rows i []) ≡ t.width = rows_wide i [] h.row_in in
       omega (arith, l, w, wide)
 
@@ -107,10 +111,10 @@ module _ (db : DatabaseValue) (t : Tab) (m : ℕ) (universe : List (List Value))
 
   pub stored_is_ext : HaveSources db.schema t m → (h : List Value) → StoredAnswer db t m h ↔ ExtByEssential t m universe h
   stored_is_ext sources h = (
-    λ a. record { valuation = a.valuation; agrees = λ i low set. read_agrees a.valuation i (a.reads i low set); gives = a.gives },
+    λ a. record { valuation = a.valuation; holds = λ i low set. read_agrees a.valuation i (a.holds i low set); gives = a.gives },
     λ e. record {
       valuation = e.valuation;
-      reads = λ i low set. let w = e.agrees i low set in agrees_read e.valuation i w.0 (sources i low set) w.1 w.2;
+      holds = λ i low set. let w = e.holds i low set in agrees_read e.valuation i w.0 (sources i low set) w.1 w.2;
       gives = e.gives;
     },
   )

@@ -23,7 +23,8 @@ use Rattle.su_exec.specs.declared.tasks.TaskRow.{TaskRow}
 use Rattle.su_exec.specs.Tasks.{FitsTables, HasSources}
 use Rattle.su_exec.specs.Outputs.{Agrees}
 use Rattle.su_answer.specs.Answers.{IsRead}
-use Rattle.su_answer.specs.Joined.{numbers_in, cell, IsTaskRowOf}
+use Rattle.su_tableau.specs.Parts.{cell_at, row_of}
+use Rattle.su_answer.specs.Joined.{numbers_in, IsTaskRowOf}
 use Rattle.su_answer.proofs.ColumnValues.{reads_each, each_read}
 
 -- a stored row is as wide as its table
@@ -38,22 +39,22 @@ module _ (db : DatabaseValue) (t : Tab) (m i : ℕ) (r : TaskRow) (v : ℕ → V
 
   pub essential_has : (c : ℕ) (x : Sym) → HasSymbol t m i c x → IsEssential t m i c → Contains (numbers_in is.attributes t.width) c
   essential_has c x h e =
-      let l = h.column_in in
+      let l : c < length (get_or t.rows i []) = h.cell.below in
       let w = row_wide in
       Contains-filter (contains is.attributes) (range_with_len 0 t.width) c (Contains-range t.width c (omega arith)) ((is.essential c).1 e)
 
-  holds_cell : (c : ℕ) → c < t.width → HasSymbol t m i c (cell t i c)
+  holds_cell : (c : ℕ) → c < t.width → HasSymbol t m i c (cell_at (row_of t i) c)
   holds_cell c low =
       let w = row_wide in
       let l : c < length (get_or t.rows i []) = omega arith in
-      record { row_in = row_in; in_set = in_set; column_in = l; is = λ d. get_or_default (get_or t.rows i []) c d (Var 0) l }
+      record { row_in = row_in; in_set = in_set; cell = record { below = l; is = λ d. get_or_default (get_or t.rows i []) c d (Var 0) l } }
 
   pub row_read : HasSources db.tables r → Agrees db.tables v r → IsRead db t m v i
   row_read has a =
       let s = is.from a.source a.of_row in
       let fits = All-contains (FitsTables db.tables (length r.cells)) r.sources a.source has a.of_row in
       let wide = stored_wide db a.source.relation a.stored kept fits.relation a.in_table in
-      let reads = reads_each s.2.object a.stored v (cell t i) (numbers_in is.attributes t.width) a.source.columns s.2.columns
+      let reads = reads_each s.2.object a.stored v (cell_at (row_of t i)) (numbers_in is.attributes t.width) a.source.columns s.2.columns
       (λ k c. let l = All-contains (λ column. column < (table_at db.tables a.source.relation).width) a.source.columns k fits.within c in omega (arith, wide, l))
       (a.same ∙ ap (values_of v) is.cells) in
       record {
@@ -63,20 +64,20 @@ module _ (db : DatabaseValue) (t : Tab) (m i : ℕ) (r : TaskRow) (v : ℕ → V
         is = s.2.is;
         row = a.stored;
         stored = subst (λ n. Contains (rows_of db n) a.stored) s.2.relation a.in_table;
-        agrees = λ c x h e. reads c (essential_has c x h e) ∙ ap (λ y. Some (value_of v y)) (h.is (Var 0));
+        agrees = λ c x h e. reads c (essential_has c x h e) ∙ ap (λ y. Some (value_of v y)) (h.cell.is (Var 0));
       }
 
   pub read_row : IsRead db t m v i → Agrees db.tables v r
   read_row k =
       let s = is.all k.source k.is_source in
       let one : k.object ≡ s.2.object = same_Some k.object s.2.object (sym k.is ∙ s.2.is) in
-      let reads : (c : ℕ) → Contains (numbers_in is.attributes t.width) c → read s.2.object c k.row ≡ Some (value_of v (cell t i c)) = λ c n.
+      let reads : (c : ℕ) → Contains (numbers_in is.attributes t.width) c → read s.2.object c k.row ≡ Some (value_of v (cell_at (row_of t i) c)) = λ c n.
       let f = Contains-filter_source (contains is.attributes) (range_with_len 0 t.width) c n in
-      ap (λ o. read o c k.row) (sym one) ∙ k.agrees c (cell t i c) (holds_cell c (Contains-range_below t.width c f.0)) ((is.essential c).0 f.1) in
+      ap (λ o. read o c k.row) (sym one) ∙ k.agrees c (cell_at (row_of t i) c) (holds_cell c (Contains-range_below t.width c f.0)) ((is.essential c).0 f.1) in
       record {
         source = s.0;
         of_row = s.1;
         stored = k.row;
         in_table = subst (λ n. Contains (rows_of db n) k.row) (ap (λ o. o.relation) one ∙ sym s.2.relation) k.stored;
-        same = each_read s.2.object k.row v (cell t i) (numbers_in is.attributes t.width) s.0.columns s.2.columns reads ∙ ap (values_of v) (sym is.cells);
+        same = each_read s.2.object k.row v (cell_at (row_of t i)) (numbers_in is.attributes t.width) s.0.columns s.2.columns reads ∙ ap (values_of v) (sym is.cells);
       }

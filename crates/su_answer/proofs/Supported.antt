@@ -7,6 +7,7 @@ use Rattle.std.proofs.lemmas.Bool.{true≢false}
 use Rattle.std.proofs.lemmas.List.Elements.{All-get_or, All-from_get_or}
 use Rattle.std.proofs.lemmas.List.FromFn.{length-range_with_len}
 use Rattle.su_base.specs.declared.values.Value.{Value}
+use Rattle.std.proofs.lemmas.Grind.{same_number_lists}
 use Rattle.su_base.proofs.Items.{AllZip-get_or, AllZip-length, get_or-map_range}
 use Rattle.su_rel.specs.Stored.{Stored, AllDiffer}
 use Rattle.su_tableau.specs.declared.symbols.Sym.{Sym}
@@ -43,20 +44,20 @@ marked_has (true ∷ ms) (x ∷ xs) (suc p) d l h m = let r = marked_has ms xs p
 marked_has (false ∷ ms) (x ∷ xs) zero d l h m = absurd (true≢false (sym m))
 marked_has (false ∷ ms) (x ∷ xs) (suc p) d l h m = marked_has ms xs p d (omega (arith, l)) (omega (arith, h)) m
 
-later_differ : (x : List Value) (xs : List (List Value)) → AllDiffer (x ∷ xs) → AllDiffer xs
-later_differ x xs differ i j d l h e = differ (suc i) (suc j) d (omega (arith, l)) (omega (arith, h)) e
+differ_tail : (x : List Value) (xs : List (List Value)) → AllDiffer (x ∷ xs) → AllDiffer xs
+differ_tail x xs differ i j d l h = differ (suc i) (suc j) d (omega (arith, l)) (omega (arith, h))
 
 pub marked_differ : (ms : List Bool) (xs : List (List Value)) → AllDiffer xs → AllDiffer (marked ms xs)
 marked_differ [] xs differ i j d l h e = absurd (omega (arith, h))
 marked_differ (m ∷ ms) [] differ i j d l h e = absurd (omega (arith, h))
-marked_differ (false ∷ ms) (x ∷ xs) differ i j d l h e = marked_differ ms xs (later_differ x xs differ) i j d l h e
+marked_differ (false ∷ ms) (x ∷ xs) differ i j d l h e = marked_differ ms xs (differ_tail x xs differ) i j d l h e
 marked_differ (true ∷ ms) (x ∷ xs) differ i zero d l h e = absurd (omega (arith, l))
 marked_differ (true ∷ ms) (x ∷ xs) differ zero (suc j) d l h e =
     let low : j < length (marked ms xs) = omega (arith, h) in
     let at = marked_from ms xs x (j, low, get_or_default (marked ms xs) j x d low ∙ sym e) in
     let p_low = at.1 in
     differ 0 (suc at.0) x (omega arith) (omega (arith, p_low)) (sym at.3)
-marked_differ (true ∷ ms) (x ∷ xs) differ (suc i) (suc j) d l h e = marked_differ ms xs (later_differ x xs differ) i j d (omega (arith, l)) (omega (arith, h)) e
+marked_differ (true ∷ ms) (x ∷ xs) differ (suc i) (suc j) d l h e = marked_differ ms xs (differ_tail x xs differ) i j d (omega (arith, l)) (omega (arith, h)) e
 
 -- ---- rows and their edges
 
@@ -152,15 +153,6 @@ zip_by R [] (y ∷ ys) d e l h = absurd (let no : ⊥ = omega (arith, l) in no)
 zip_by R (x ∷ xs) [] d e l h = absurd (let no : ⊥ = omega (arith, l) in no)
 zip_by R (x ∷ xs) (y ∷ ys) d e l h = (h 0 (omega arith), zip_by R xs ys d e (omega (arith, l)) (λ i low. h (suc i) (omega (arith, low))))
 
-same_by : (xs ys : List ℕ) → length xs ≡ length ys → ((i : ℕ) → i < length xs → get_or xs i 0 ≡ get_or ys i 0) → xs ≡ ys
-same_by [] [] l h = refl
-same_by [] (y ∷ ys) l h = absurd (let no : ⊥ = omega (arith, l) in no)
-same_by (x ∷ xs) [] l h = absurd (let no : ⊥ = omega (arith, l) in no)
-same_by (x ∷ xs) (y ∷ ys) l h =
-    let i = same_by xs ys (omega (arith, l)) (λ i low. h (suc i) (omega (arith, low))) in
-    let e : x ≡ y = h 0 (omega arith) in
-    cc
-
 -- ---- the whole
 
 pub numbers_long : (db : DatabaseValue) (m : Minimised) (edges : List Edge) → AreEdgesOf db m edges → length (row_numbers m.tableau m.mask) ≡ length edges
@@ -196,7 +188,7 @@ module _ (db : DatabaseValue) (m : Minimised) (edges : List Edge) (of_kept : Are
       let e = counts_long in
       let k = long db.tables task edges are in
       let a : length (map (λ (c : Counted). c.row) counts) ≡ length counts = length-map counts (λ (c : Counted). c.row) in
-      same_by (map (λ (c : Counted). c.row) counts) numbers (omega (arith, n, e, k, a)) (λ i low.
+      same_number_lists (map (λ (c : Counted). c.row) counts) numbers (omega (arith, n, e, k, a)) (λ i low.
       let within : i < length counts = omega (arith, low, a) in
       get_or-map (λ (c : Counted). c.row) counts i no_count 0 within ∙ ap (λ (c : Counted). c.row) (sym (count_is i (omega (arith, within, e)))))
 

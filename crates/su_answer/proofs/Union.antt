@@ -26,7 +26,7 @@ use Rattle.su_answer.specs.declared.preparing.Prepared.{Prepared}
 use Rattle.su_answer.specs.Joined.{IsTaskOf}
 use Rattle.su_answer.specs.Answers.{IsTermAnswer, IsAnswer, AreAnswers}
 use Rattle.su_rel.specs.MoreThan.{AreMoreThan}
-use Rattle.su_answer.specs.inside.Executed.{Join, IsFound, IsJoinOf, AreTermAnswers, IsFoundFor, IsInSome}
+use Rattle.su_answer.specs.inside.Executed.{Join, IsFound, IsJoinOf, AreTermAnswers, IsFoundFor, IsInSome, ArePastLimit}
 use Rattle.su_answer.proofs.Joined.{outputs_are_answers}
 use Rattle.su_answer.proofs.PairedLists.{zip_first, zip_second}
 
@@ -199,7 +199,7 @@ module _ (db : DatabaseValue) (minimals : List Minimised) (kept left now later :
   }
 
   -- a list is missing, or there are too many rows
-  pub wave_more : ((f : Found) × Contains lists f × (f.rows ≡ None)) ⊎ AreMoreThan 1000000 (λ h. Contains rows h ⊎ IsInSome lists h) → AreMoreThan 1000000 (OfTerms db minimals kept)
+  pub wave_more : ArePastLimit rows lists → AreMoreThan 1000000 (OfTerms db minimals kept)
   wave_more s = ⊎_elim
       (λ (m : (f : Found) × Contains lists f × (f.rows ≡ None)). one_more db minimals now lists found m.0 m.1 m.2 (OfTerms db minimals kept) (λ k h c a. (before.exact h).0 (inr (record { term = k; member = now_left k c; answer = a }))))
       (λ (m : AreMoreThan 1000000 (λ h. Contains rows h ⊎ IsInSome lists h)). record { member = m.member; each = λ i l. of_either (m.member i) (m.each i l); differ = m.differ })

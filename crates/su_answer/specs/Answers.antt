@@ -8,7 +8,7 @@ use Rattle.su_base.specs.declared.values.Value.{Value}
 use Rattle.su_base.specs.Value.{compare_lists}
 use Rattle.su_tableau.specs.declared.symbols.Sym.{Sym}
 use Rattle.su_tableau.specs.Tableaux.{Tab}
-use Rattle.su_tableau.specs.Valuations.{value_of, values_of, Cut}
+use Rattle.su_tableau.specs.Valuations.{value_of, IsHeadUnder, Cut}
 use Rattle.su_tableau.specs.Essential.{HasSymbol, IsEssential}
 use Rattle.su_schema.specs.SchemaValue.{ObjectEntry}
 use Rattle.su_state.specs.DatabaseValue.{DatabaseValue, rows_of}
@@ -28,11 +28,13 @@ pub record IsRead (db : DatabaseValue) (t : Tab) (m : ℕ) (v : ℕ → Value) (
   pub stored : Contains (rows_of db object.relation) row
   pub agrees : (c : ℕ) (x : Sym) → HasSymbol t m i c x → IsEssential t m i c → read object c row ≡ Some (value_of v x)
 
+-- under the valuation each row of m is read
+abbrev pub AreRowsRead : DatabaseValue → Tab → ℕ → (ℕ → Value) → Type 0
+AreRowsRead db t m v = (i : ℕ) → i < length t.rows → bit_at m i ≡ 1 → IsRead db t m v i
+
 -- h is a stored answer of the rows of m
-pub record StoredAnswer (db : DatabaseValue) (t : Tab) (m : ℕ) (h : List Value) : Type 0 where
-  pub valuation : ℕ → Value
-  pub reads : (i : ℕ) → i < length t.rows → bit_at m i ≡ 1 → IsRead db t m valuation i
-  pub gives : values_of valuation t.head ≡ h
+abbrev pub StoredAnswer : DatabaseValue → Tab → ℕ → List Value → Type 0
+StoredAnswer db t m h = IsHeadUnder (AreRowsRead db t m) t h
 
 -- h has the outputs of a stored answer of the kept rows whose comparisons hold
 abbrev pub IsTermAnswer : DatabaseValue → Minimised → List Value → Type 0

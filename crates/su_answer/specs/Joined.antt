@@ -5,7 +5,6 @@ use Rattle.std.specs.List.{AllZip, range_with_len}
 use Rattle.std.specs.Ordering.{nat_cmp}
 use Rattle.std.specs.FinSet.{FinSet, contains}
 use Rattle.su_where.specs.declared.operators.Op.TheVariants.{Equal}
-use Rattle.su_tableau.specs.declared.symbols.Sym.{Sym}
 use Rattle.su_tableau.specs.declared.symbols.Sym.TheVariants.{Var}
 use Rattle.su_tableau.specs.Tableaux.{Tab}
 use Rattle.su_tableau.specs.Essential.{IsEssential}
@@ -23,10 +22,6 @@ use Rattle.su_exec.specs.declared.tasks.Task.{Task}
 abbrev pub numbers_in : FinSet nat_cmp → ℕ → List ℕ
 numbers_in s n = filter (contains s) (range_with_len 0 n)
 
--- the symbol of row i in column c
-abbrev pub cell : Tab → ℕ → ℕ → Sym
-cell t i = cell_at (row_of t i)
-
 -- the source is the object's relation, with its columns for these attributes
 pub record IsSourceOf (schema : SchemaValue) (attributes : List ℕ) (o : ℕ) (s : Source) : Type 0 where
   pub object : ObjectEntry
@@ -38,7 +33,7 @@ pub record IsSourceOf (schema : SchemaValue) (attributes : List ℕ) (o : ℕ) (
 pub record IsTaskRowOf (schema : SchemaValue) (t : Tab) (m i : ℕ) (r : TaskRow) : Type 0 where
   pub attributes : FinSet nat_cmp
   pub essential : (c : ℕ) → IsTrue (contains attributes c) ↔ IsEssential t m i c
-  pub cells : r.cells ≡ map (cell t i) (numbers_in attributes t.width)
+  pub cells : r.cells ≡ map (cell_at (row_of t i)) (numbers_in attributes t.width)
   pub from : (s : Source) → Contains r.sources s → (o : ℕ) × IsSource schema t m i o × IsSourceOf schema (numbers_in attributes t.width) o s
   pub all : (o : ℕ) → IsSource schema t m i o → (s : Source) × Contains r.sources s × IsSourceOf schema (numbers_in attributes t.width) o s
 

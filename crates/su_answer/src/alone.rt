@@ -10,18 +10,7 @@ use su_base::{List, NoMemory};
 use su_exec::{ExecFault, Source, Task, TaskRow, execute};
 use su_index::Rows;
 use su_reduce::Edge;
-use su_tableau::Sym;
-
-/// Equal symbols of their own.
-fn copy_cells(alloc: Global, cells: &[Sym]) -> Result<List<Sym>, NoMemory>
-    ensures { IfOk result (λ copies. copies ≡ cells.now) }
-{
-    let mut copies = List::new(alloc);
-    for cell in cells {
-        copies.push(cell.copy(alloc)?)?;
-    }
-    Ok(copies)
-}
+use su_tableau::copy_symbols;
 
 /// Equal numbers of their own.
 fn copy_columns(alloc: Global, columns: &[u8]) -> Result<List<u8>, NoMemory>
@@ -61,12 +50,12 @@ fn task_alone(alloc: Global, row: &TaskRow) -> Result<Task, NoMemory>
 {
     let mut rows = List::new(alloc);
     rows.push(TaskRow {
-        cells: copy_cells(alloc, row.cells.as_slice())?,
+        cells: copy_symbols(alloc, row.cells.as_slice())?,
         sources: copy_sources(alloc, row.sources.as_slice())?,
     })?;
     Ok(Task {
         rows,
-        outputs: copy_cells(alloc, row.cells.as_slice())?,
+        outputs: copy_symbols(alloc, row.cells.as_slice())?,
         comparisons: List::new(alloc),
     })
 }
@@ -80,7 +69,7 @@ fn edge_of<R: Rows>(alloc: Global, row: &TaskRow, rows: &mut R) -> Result<Edge, 
     ensures fetches { R.fetches rows.new ≤ R.fetches rows.old + row_share (R.tables rows.old) row.now }
 {
     let own = row.cells.as_slice();
-    let cells = copy_cells(alloc, own)?;
+    let cells = copy_symbols(alloc, own)?;
     let task = task_alone(alloc, row)?;
     match execute(alloc, &task, rows, u64::MAX) {
         Ok(candidates) => Ok(Edge { cells, candidates }),

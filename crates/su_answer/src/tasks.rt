@@ -3,11 +3,12 @@ ghost use Rattle.std.specs.Prelude.{◌≡◌, ◌↔◌, ℕ, ◌<◌, ◌≤�
 ghost use Rattle.std.specs.List.{AllZip, range_with_len};
 ghost use Rattle.su_map.specs.Lists.{row_numbers};
 ghost use Rattle.std.specs.FinSet as set;
+ghost use Rattle.su_tableau.specs.Parts.{cell_at, row_of};
 ghost use Rattle.su_tableau.specs.Essential.{IsEssential};
 ghost use Rattle.su_schema.specs.SchemaValue.{ObjectEntry};
 ghost use Rattle.su_schema.specs.Entries.{column_of};
 ghost use Rattle.su_steps.specs.Objects.{width, attributes_at};
-ghost use Rattle.su_answer.specs.Joined.{numbers_in, cell, comparison_at, IsSourceOf, IsTaskRowOf, IsTaskOf};
+ghost use Rattle.su_answer.specs.Joined.{numbers_in, comparison_at, IsSourceOf, IsTaskRowOf, IsTaskOf};
 ghost use Rattle.su_answer.specs.inside.Joined.{AreSourcesOf};
 
 use std::alloc::Global;
@@ -71,7 +72,7 @@ fn cells_of(
 ) -> Result<List<Sym>, NoMemory>
     requires row { row < length t.now.rows }
     requires columns { All (λ a. a < t.now.width) attributes.now }
-    ensures { IfOk result (λ cells. cells ≡ map (cell t.now row) attributes.now) }
+    ensures { IfOk result (λ cells. cells ≡ map (cell_at (row_of t.now row)) attributes.now) }
 {
     let mut cells = List::new(alloc);
     for a in attributes {

@@ -1,12 +1,11 @@
 //! Rows of several lists, ascending, each once.
-ghost use Rattle.std.specs.Prelude.{◌≡◌, ◌↔◌, ◌⊎◌, ◌<◌, ◌≤◌, List, [], All, Contains, IsTrue, IfOk, IfErr, IfSome, IsSome, None, MatchOption, length};
+ghost use Rattle.std.specs.Prelude.{◌≡◌, ◌↔◌, ◌⊎◌, ◌<◌, ◌≤◌, List, [], All, Contains, IsTrue, IfOk, IfErr, IfSome, IsSome, MatchOption, length};
 ghost use Rattle.std.specs.List.Sorted.{IsStrictlySortedBy};
 ghost use Rattle.su_base.specs.declared.values.Value.{Value as AValue};
 ghost use Rattle.su_base.specs.Value.{compare_lists};
-ghost use Rattle.su_answer.specs.declared.found.Found.{Found as AFound};
 ghost use Rattle.su_answer.specs.declared.faults.AnswerFault.TheVariants.{Limit};
 ghost use Rattle.su_rel.specs.MoreThan.{AreMoreThan};
-ghost use Rattle.su_answer.specs.inside.Executed.{IsInSome};
+ghost use Rattle.su_answer.specs.inside.Executed.{ArePastLimit, IsInSome};
 ghost use Rattle.su_answer.specs.inside.Merged.{compare_last, IsGreatestOf};
 
 use crate::executing::MOST;
@@ -134,8 +133,7 @@ pub fn gathered(
     ensures ascending { IfOk result (λ rows. IsStrictlySortedBy compare_lists rows) }
     ensures few { IfOk result (λ rows. length rows ≤ 1000000) }
     ensures all { IfOk result (λ _. All (λ found. IsSome found.rows) lists) }
-    ensures limit { IfErr result (λ fault. fault ≡ Limit → ((found : AFound) × Contains lists found × (found.rows ≡ None))
-        ⊎ AreMoreThan 1000000 (λ h. Contains so_far h ⊎ IsInSome lists h)) }
+    ensures limit { IfErr result (λ fault. fault ≡ Limit → ArePastLimit so_far lists) }
 {
     let mut lists = lists;
     let mut all = so_far;

@@ -1,10 +1,11 @@
 -- Lists: their members, what holds of each item, two lists side by side, and lists made from numbers.
-use Rattle.std.proofs.Common.{◌≡◌, ℕ, zero, suc, ◌+◌, ◌<◌, List, [], ◌∷◌, ◌++◌, map, take, length, get_or, Contains, Some, refl, sym, ap, ◌∙◌, subst, arith, ◌⊎◌, inl, inr, ⊎_elim, add-one}
-use Rattle.std.specs.Prelude.{Bool, true, false, cond, All, slice_get}
-use Rattle.std.specs.List.{range_with_len, filter, flat_map, AllZip}
+use Rattle.std.proofs.Common.{◌≡◌, ℕ, zero, suc, ◌+◌, ◌<◌, ◌≤◌, List, [], ◌∷◌, ◌++◌, map, take, length, get_or, Contains, refl, sym, ap, ◌∙◌, subst, arith, ◌⊎◌, inl, inr, ⊎_elim, add-one, append-nil}
+use Rattle.std.specs.Prelude.{Bool, true, false, cond, All}
+use Rattle.std.specs.List.{range_with_len, filter, flat_map, AllZip, AllByRecursion}
 use Rattle.std.proofs.lemmas.Bool.{true≢false}
-use Rattle.std.proofs.lemmas.List.{length-append, get_or_append_left, get_or-append-add}
-use Rattle.std.proofs.lemmas.List.Elements.{Contains-append_left, Contains-append_right, Contains-append_cases, Contains-get_or}
+use Rattle.std.proofs.lemmas.Grind.{flat_map-append}
+use Rattle.std.proofs.lemmas.List.{length-append, get_or_append_left, get_or-append-add, get_or_default}
+use Rattle.std.proofs.lemmas.List.Elements.{All-contains, Contains-append_left, Contains-append_right, Contains-append_cases, Contains-get_or}
 use Rattle.std.proofs.lemmas.List.FromFn.{get_or-range_with_len, length-range_with_len, get_or-map-range_with_len, map-range_with_len_more}
 
 -- ---- members
@@ -89,6 +90,9 @@ Contains-take (suc n) (y ∷ ys) x c =
     (λ (r : Contains (take n ys) x). Contains-later y ys x (Contains-take n ys x r))
     (Contains-cases y (take n ys) x c)
 
+pub Contains-one : {X : Type 0} (x y : X) → Contains (x ∷ []) y → x ≡ y
+Contains-one x y c = ⊎_elim (λ (is : x ≡ y). is) (λ (later : Contains [] y). absurd (Contains-nil y later)) (Contains-cases x [] y c)
+
 -- ---- what holds of each item
 
 -- of all members
@@ -100,6 +104,25 @@ All-append_left P xs ys all k d within = subst P (get_or_append_left xs ys d k w
 
 pub All-append_right : {X : Type 0} (P : X → Type 0) (xs ys : List X) → All P (xs ++ ys) → All P ys
 All-append_right P xs ys all k d within = subst P (get_or-append-add xs ys k d) (all (length xs + k) d (omega (arith, length-append xs ys)))
+
+pub All-middle : {X : Type 0} (P : X → Type 0) (before : List X) (x : X) (after : List X) → All P (before ++ x ∷ after) → P x
+All-middle P before x after all = All-contains P (before ++ x ∷ after) x all (Contains-append_right before (x ∷ after) x (Contains-head x after))
+
+pub AllByRecursion-append : {X : Type 0} (P : X → Type 0) (xs ys : List X) → AllByRecursion P xs → AllByRecursion P ys → AllByRecursion P (xs ++ ys)
+AllByRecursion-append P [] ys h k = k
+AllByRecursion-append P (x ∷ xs) ys h k = (h.0, AllByRecursion-append P xs ys h.1 k)
+
+pub AllByRecursion-append_left : {X : Type 0} (P : X → Type 0) (xs ys : List X) → AllByRecursion P (xs ++ ys) → AllByRecursion P xs
+AllByRecursion-append_left P [] ys h = tt
+AllByRecursion-append_left P (x ∷ xs) ys h = (h.0, AllByRecursion-append_left P xs ys h.1)
+
+pub AllByRecursion-map : {X Y : Type 0} (P : Y → Type 0) (f : X → Y) (xs : List X) → AllByRecursion (λ x. P (f x)) xs → AllByRecursion P (map f xs)
+AllByRecursion-map P f [] h = tt
+AllByRecursion-map P f (x ∷ xs) h = (h.0, AllByRecursion-map P f xs h.1)
+
+pub AllByRecursion-weaker : {X : Type 0} (P Q : X → Type 0) (xs : List X) → ((x : X) → P x → Q x) → AllByRecursion P xs → AllByRecursion Q xs
+AllByRecursion-weaker P Q [] f h = tt
+AllByRecursion-weaker P Q (x ∷ xs) f h = (f x h.0, AllByRecursion-weaker P Q xs f h.1)
 
 -- ---- two lists side by side
 
@@ -131,6 +154,21 @@ pub map-map_equal : {A B C : Type 0} (f : A → B) (g : B → C) (h : A → C) �
 map-map_equal f g h e [] = refl
 map-map_equal f g h e (x ∷ xs) = let i = map-map_equal f g h e xs in let j = e x in cc
 
+pub flat_map-push : {A B : Type 0} (f : A → List B) (xs : List A) (x : A) → flat_map f (xs ++ x ∷ []) ≡ flat_map f xs ++ f x
+flat_map-push f xs x = flat_map-append f xs (x ∷ []) ∙ ap (λ ys. flat_map f xs ++ ys) (append-nil (f x))
+
+-- ---- those that pass, and the one at a place
+
+pub length-filter : {X : Type 0} (p : X → Bool) (xs : List X) → length (filter p xs) ≤ length xs
+length-filter p [] = omega arith
+length-filter p (x ∷ xs) =
+    let fewer = length-filter p xs in
+    elim (p x) as (λ b. length (cond b (x ∷ filter p xs) (filter p xs)) ≤ suc (length xs)) [ true ↦ omega (arith, fewer) | false ↦ omega (arith, fewer) ]
+
+-- what is read at a place, at every default
+pub get_or-is : {X : Type 0} (xs : List X) (i : ℕ) (x d : X) → i < length xs → x ≡ get_or xs i x → get_or xs i d ≡ x
+get_or-is xs i x d h is = get_or_default xs i d x h ∙ sym is
+
 -- ---- numbers in order
 
 pub range-suc : (a n j : ℕ) → a + n ≡ j → range_with_len a (suc n) ≡ range_with_len a n ++ j ∷ []
@@ -159,3 +197,9 @@ get_or-map_range f n a d h = get_or-map-range_with_len f 0 n a a d h (omega arit
 -- one more item of it
 pub map-range_push : {X : Type 0} (f : ℕ → X) (a : ℕ) (xs ys : List X) (x : X) → ys ≡ xs ++ x ∷ [] → xs ≡ map f (range_with_len 0 a) → x ≡ f a → ys ≡ map f (range_with_len 0 (a + 1))
 map-range_push f a xs ys x pushed before is = pushed ∙ ap (λ zs. zs ++ x ∷ []) before ∙ ap (λ z. map f (range_with_len 0 a) ++ z ∷ []) is ∙ sym (map-range_with_len_more f 0 a a (omega arith))
+
+-- ---- an item of a list that has some
+
+pub some_item : {X : Type 0} (xs : List X) → 0 < length xs → X
+some_item [] h = absurd (omega arith)
+some_item (x ∷ xs) h = x

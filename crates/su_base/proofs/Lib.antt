@@ -1,6 +1,8 @@
+pub mod BitSets
 pub mod Combinations
 pub mod Items
 pub mod Numbers
+pub mod PassingNumbers
 pub mod RemainingSets
 pub mod Rows
 pub mod Same

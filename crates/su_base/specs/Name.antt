@@ -28,3 +28,8 @@ is_reserved_word bs = list_any (λ word. pointwise ◌==◌ word bs) reserved
 -- a word that the language does not use itself
 abbrev pub IsName : List ℕ → Type 0
 IsName bs = IsWord bs × (is_reserved_word bs ≡ false)
+
+-- names, one at least
+pub record AreNames (names : List (List ℕ)) : Type 0 where
+  pub some : 0 < length names
+  pub named : All IsName names

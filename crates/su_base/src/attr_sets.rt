@@ -31,7 +31,7 @@ impl Model for AttrSet {
     ghost inverse_ok = { λ a h i. record { bits = bits_of_set-set_of_bits 128 a.bits h i } };
 }
 
-#[tactic(auto, using(crate::specs::BitSet::bit_sets))]
+#[tactic(auto, using(crate::proofs::BitSets::bit_sets))]
 impl AttrSet {
     /// The set without members.
     pub fn empty() -> AttrSet

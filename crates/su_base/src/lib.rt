@@ -12,6 +12,7 @@ mod crossing;
 mod lists;
 mod names;
 mod obj_sets;
+pub mod parts;
 mod sorted;
 mod steps;
 mod texts;

@@ -1,5 +1,5 @@
 -- Loops over items: the first clash so far, and lists with one element more.
-use Rattle.std.proofs.Common.{◌≡◌, ◌⊎◌, ℕ, ◌+◌, ◌<◌, ◌≤◌, inl, inr, ⊎_elim, true, false, Option, None, Some, MatchOption, List, [], ◌∷◌, ◌++◌, flat_map, length, take, get_or, Contains, refl, sym, ap, ◌∙◌, subst, arith}
+use Rattle.std.proofs.Common.{◌≡◌, ℕ, ◌+◌, ◌<◌, ◌≤◌, inl, inr, ⊎_elim, true, false, Option, None, Some, MatchOption, List, [], ◌∷◌, ◌++◌, flat_map, length, take, get_or, Contains, refl, sym, ap, ◌∙◌, subst, arith}
 use borrow.Author.Count.{below_more}
 use Rattle.std.specs.List.Sorted.{IsStrictlySortedBy, IsBinarySearchResult, IsSearchInRange, IsSorted}
 use Rattle.std.specs.Result.{MatchResult}
@@ -10,6 +10,7 @@ use Rattle.std.specs.declared.cmp.Ordering.TheVariants.{Less, Equal as Same, Gre
 use Rattle.std.proofs.lemmas.Bool.{cases_Bool, cases_lt}
 use Rattle.std.proofs.lemmas.List.{get_or_default, get_or_push, get_or_append_left, take_all}
 use Rattle.std.proofs.lemmas.List.Sorted.{searchable_from_sorted}
+use Rattle.std.proofs.lemmas.Map.Keys.{Less-from_sorted}
 use Rattle.su_base.specs.declared.values.Value.{Value}
 use Rattle.su_base.specs.declared.values.Value.TheVariants.{Text}
 use Rattle.su_base.specs.Value.{compare_values}
@@ -20,7 +21,7 @@ use Rattle.su_tableau.specs.declared.symbols.Sym.{Sym}
 use Rattle.su_tableau.specs.declared.symbols.Sym.TheVariants.{Const, Var}
 use Rattle.su_classes.specs.Tables.{rep}
 use Rattle.su_classes.specs.inside.Symbols.{has_constant, constant_place}
-use Rattle.su_classes.proofs.ValueOrder.{compare_itself, compare_same, sorted_distinct, less_before}
+use Rattle.su_classes.proofs.ValueOrder.{compare_itself, compare_same, sorted_distinct}
 use Rattle.su_classes.proofs.Places.{place_is, place_at, place_none, has_at}
 use Rattle.su_chase.specs.inside.Rows.{constant_of, constants_in, IsFirstClash, TakesLesser}
 
@@ -58,7 +59,7 @@ has_member vs c (i, l, e) = subst (λ (v : Value). has_constant vs v ≡ true) (
 
 sorted_plainly : (vs : List Value) → IsStrictlySortedBy compare_values vs → IsSorted compare_values vs
 sorted_plainly vs h k d z l =
-    let less = less_before vs k (k + 1) d h (omega arith) l in
+    let less = Less-from_sorted compare_values vs k (k + 1) d h (omega arith) l in
     let more : compare_values (get_or vs (k + 1) d) (get_or vs k d) ≡ Greater = values_total.antisymm (get_or vs (k + 1) d) (get_or vs k d) ∙ ap ordering_reverse less in
     ap is_lt more
 

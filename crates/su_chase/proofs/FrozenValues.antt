@@ -1,5 +1,5 @@
 -- Frozen tableaux: values that are read back as the symbols that they were made from.
-use Rattle.std.proofs.Common.{◌≡◌, ◌≢◌, ◌↔◌, ◌⊎◌, ℕ, zero, suc, ◌+◌, ◌<◌, ◌≤◌, inl, inr, ⊎_elim, true, false, cond, List, [], ◌∷◌, ◌++◌, Option, None, Some, MatchOption, map, flat_map, take, length, get_or, Contains, refl, sym, ap, ◌∙◌, subst, arith}
+use Rattle.std.proofs.Common.{◌≡◌, ◌≢◌, ◌↔◌, ℕ, zero, suc, ◌+◌, ◌<◌, ◌≤◌, inl, inr, ⊎_elim, true, false, cond, List, [], ◌∷◌, ◌++◌, Option, None, Some, MatchOption, map, flat_map, take, length, get_or, Contains, refl, sym, ap, ◌∙◌, subst, arith}
 use Rattle.std.specs.Prelude.{All}
 use Rattle.std.specs.Ordering.{nat_cmp}
 use Rattle.std.specs.List.Sorted.{IsStrictlySortedBy}
@@ -27,12 +27,16 @@ use Rattle.su_chase.specs.Chase.{IsClosedPartition}
 use Rattle.su_fd.specs.MetDependencies.{Meets}
 use Rattle.su_chase.specs.declared.freezing.Frozen.{Frozen}
 use Rattle.su_chase.specs.Frozen.{candidate, IsFirstFree, IsFrozen, AreAvoided}
-use Rattle.su_chase.specs.inside.Rows.{variable_of, variables_in, value_in, IsFreeAt}
+use Rattle.su_chase.specs.inside.Rows.{variable_of, value_in, IsFreeAt}
 use Rattle.su_chase.proofs.DistinctCandidates.{kind_candidate}
 use Rattle.su_chase.proofs.Images.{map_read}
 use Rattle.su_chase.proofs.Searches.{at_place, no_less}
 
 -- ---- the variables of rows
+
+-- the variables of the rows, each as often as it stands there
+abbrev pub variables_in : List (List Sym) → List ℕ
+variables_in rows = flat_map (λ row. flat_map variable_of row) rows
 
 pub variables_all : (rows : List (List Sym)) (n : ℕ) (found : List ℕ) → length rows ≤ n → found ≡ flat_map (λ row. flat_map variable_of row) (take n rows) → found ≡ variables_in rows
 variables_all rows n found l e = e ∙ ap (flat_map (λ row. flat_map variable_of row)) (take_all n rows l)
@@ -125,7 +129,7 @@ module _ (kinds : Kinds) (t : Tab) (avoid : List Value) (valid : IsValid t) (var
   pub frozen_answer : Ext t universe (values_of v t.head)
   frozen_answer = record {
     valuation = v;
-    sends = λ i d l. (i, subst (λ n. i < n) (sym (length-map t.rows (values_of v))) l, get_or-map (values_of v) t.rows i d (values_of v (get_or t.rows i d)) l);
+    holds = λ i d l. (i, subst (λ n. i < n) (sym (length-map t.rows (values_of v))) l, get_or-map (values_of v) t.rows i d (values_of v (get_or t.rows i d)) l);
     gives = refl;
   }
 
@@ -175,7 +179,7 @@ module _ (kinds : Kinds) (t : Tab) (avoid : List Value) (valid : IsValid t) (var
           head = images_back back w s.head (λ c l. back_avoided c (avoided.head c l)) ∙ ap (map back) e.gives ∙ all_back back v t.head head_back;
           rows = λ i d l.
               let row = get_or s.rows i d in
-              let sent = Contains-map_source (values_of v) t.rows (values_of w row) (e.sends i d l) in
+              let sent = Contains-map_source (values_of v) t.rows (values_of w row) (e.holds i d l) in
               let q = sent.0 in
               let image : images_of (λ k. back (w k)) row ≡ q =
               images_back back w row (λ c m. back_avoided c (avoided.rows i d l c m)) ∙ ap (map back) (sym sent.2) ∙ all_back back v q (row_back q sent.1) in

@@ -1,8 +1,9 @@
 -- Names and the clash, as the table of representatives tells them.
-use Rattle.std.proofs.Common.{◌≡◌, ◌≢◌, ℕ, ◌+◌, ◌-◌, ◌<◌, ◌≤◌, ⊎_elim, true, false, Option, None, Some, MatchOption, List, [], length, get_or, refl, sym, ap, ◌∙◌, subst, arith}
+use Rattle.std.proofs.Common.{◌≡◌, ◌≢◌, ℕ, ◌+◌, ◌-◌, ◌<◌, ◌≤◌, ⊎_elim, true, false, None, Some, List, [], length, get_or, sym, ap, ◌∙◌, subst, arith}
 use Rattle.std.specs.List.Sorted.{IsStrictlySortedBy}
 use Rattle.std.specs.declared.cmp.Ordering.TheVariants.{Less, Equal as Same, Greater}
-use Rattle.std.proofs.lemmas.Bool.{cases_Bool, cases_lt, cases_eq, lt-ltb}
+use Rattle.std.proofs.lemmas.Bool.{cases_Bool, cases_lt, lt-ltb}
+use Rattle.std.proofs.lemmas.Map.Keys.{Less-from_sorted}
 use Rattle.su_base.specs.declared.values.Value.{Value}
 use Rattle.su_base.specs.declared.values.Value.TheVariants.{Text}
 use Rattle.su_base.specs.Value.{compare_values}
@@ -12,8 +13,9 @@ use Rattle.su_tableau.specs.declared.symbols.Sym.TheVariants.{Const, Var}
 use Rattle.su_tableau.proofs.SymbolParts.{same_const}
 use Rattle.su_classes.specs.declared.items.Placed.{Placed}
 use Rattle.su_classes.specs.Tables.{rep, IsTable, IsLeastTable}
-use Rattle.su_classes.specs.inside.Symbols.{has_constant, constant_place, is_known, symbol_number, symbol_at, name_in}
-use Rattle.su_classes.proofs.ValueOrder.{compare_itself, less_before}
+use Rattle.su_classes.specs.Symbols.{symbol_at}
+use Rattle.su_classes.specs.inside.Symbols.{has_constant, constant_place, is_known, symbol_number, name_in}
+use Rattle.su_classes.proofs.ValueOrder.{compare_itself}
 use Rattle.su_classes.proofs.Places.{place_is, place_at, symbol_low, symbol_high, own_constant}
 use Rattle.su_classes.proofs.Named.{name_known, name_unknown, same_rep, known_too, item_class, name_member}
 use Rattle.su_chase.specs.Chase.{IsClosedPartition, InOneClass, IsNoLater, IsName, IsConsistent, IsClash}
@@ -25,7 +27,7 @@ use Rattle.su_chase.proofs.ItemLabels.{AreNumbered, labels_kept, numbers, names_
 constants_at_most : (vs : List Value) → IsStrictlySortedBy compare_values vs → (i j : ℕ) → i ≤ j → j < length vs → compare_values (get_or vs i (Text [])) (get_or vs j (Text [])) ≢ Greater
 constants_at_most vs sorted i j le l g =
     ⊎_elim
-    (λ (lt : i < j). let e = less_before vs i j (Text []) sorted lt l in let f : Less ≡ Greater = sym e ∙ g in absurd (cc))
+    (λ (lt : i < j). let e = Less-from_sorted compare_values vs i j (Text []) sorted lt l in let f : Less ≡ Greater = sym e ∙ g in absurd (cc))
     (λ (ge : j ≤ i).
     let is : i ≡ j = omega arith in
     let e : compare_values (get_or vs i (Text [])) (get_or vs j (Text [])) ≡ Same = ap (λ k. compare_values (get_or vs i (Text [])) (get_or vs k (Text []))) (sym is) ∙ compare_itself (get_or vs i (Text [])) in

@@ -89,10 +89,10 @@ module _ (fds : List Fd) (t : Tab) (names : List Sym) (are : (x : Sym) → IsNam
   pub to_chased : (universe : List (List Value)) (h : List Value) → Meets fds universe → Ext t universe h → Ext (named_tab name t) universe h
   to_chased universe h meets e =
       let w = e.valuation in
-      let same : (x : Sym) → value_of w (name x) ≡ value_of w x = λ x. sym (one_value fds t.rows universe meets w e.sends x (name x) (are x).member) in
+      let same : (x : Sym) → value_of w (name x) ≡ value_of w x = λ x. sym (one_value fds t.rows universe meets w e.holds x (name x) (are x).member) in
       record {
         valuation = w;
-        sends = All-map (λ row. Contains universe (values_of w row)) (map name) t.rows (λ k d l. subst (Contains universe) (sym (map-map_equal name (value_of w) (value_of w) same (get_or t.rows k d))) (e.sends k d l));
+        holds = All-map (λ row. Contains universe (values_of w row)) (map name) t.rows (λ k d l. subst (Contains universe) (sym (map-map_equal name (value_of w) (value_of w) same (get_or t.rows k d))) (e.holds k d l));
         gives = map-map_equal name (value_of w) (value_of w) same t.head ∙ e.gives;
       }
 
@@ -103,9 +103,9 @@ module _ (fds : List Fd) (t : Tab) (names : List Sym) (are : (x : Sym) → IsNam
       let same : (x : Sym) → value_of w (name x) ≡ value_of v x = λ x. sym (named_value w x) in
       record {
         valuation = v;
-        sends = λ k d l.
+        holds = λ k d l.
             let row = get_or t.rows k d in
-            let c = e.sends k (map name d) (subst (λ (n : ℕ). k < n) (sym (length-map t.rows (map name))) l) in
+            let c = e.holds k (map name d) (subst (λ (n : ℕ). k < n) (sym (length-map t.rows (map name))) l) in
             subst (Contains universe) (ap (values_of w) (map_read (map name) t.rows k d) ∙ map-map_equal name (value_of w) (value_of v) same row) c;
         gives = sym (map-map_equal name (value_of w) (value_of v) same t.head) ∙ e.gives;
       }
@@ -232,7 +232,7 @@ module _ (fds : List Fd) (rows : List (List Sym)) (names : List Sym) (all : All 
 -- ---- a clash leaves no answer
 
 pub no_answer : (fds : List Fd) (t : Tab) (a b : Value) → a ≢ b → InOneClass fds t.rows (Const a) (Const b) → (universe : List (List Value)) (h : List Value) → Meets fds universe → Ext t universe h → ⊥
-no_answer fds t a b ne c universe h meets e = ne (one_value fds t.rows universe meets e.valuation e.sends (Const a) (Const b) c)
+no_answer fds t a b ne c universe h meets e = ne (one_value fds t.rows universe meets e.valuation e.holds (Const a) (Const b) c)
 
 -- ---- the whole
 

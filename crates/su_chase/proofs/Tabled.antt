@@ -1,5 +1,5 @@
 -- What the table of the rows' items tells of their classes.
-use Rattle.std.proofs.Common.{◌≡◌, ◌↔◌, ℕ, ◌+◌, ◌<◌, ◌≤◌, true, Option, None, Some, MatchOption, List, [], length, get_or, Contains, refl, sym, ap, ◌∙◌, subst, arith}
+use Rattle.std.proofs.Common.{◌≡◌, ◌↔◌, ℕ, ◌+◌, ◌<◌, true, Option, None, Some, MatchOption, List, [], length, get_or, Contains, sym, subst}
 use Rattle.std.specs.Prelude.{All}
 use Rattle.std.specs.List.Sorted.{IsStrictlySortedBy}
 use Rattle.std.proofs.lemmas.Bool.{lt-ltb}
@@ -13,11 +13,12 @@ use Rattle.su_tableau.specs.declared.symbols.Sym.TheVariants.{Const, Var}
 use Rattle.su_tableau.specs.Tableaux.{AreBelow}
 use Rattle.su_classes.specs.declared.items.Placed.{Placed}
 use Rattle.su_classes.specs.Tables.{rep}
-use Rattle.su_classes.specs.inside.Symbols.{is_known, symbol_at}
+use Rattle.su_classes.specs.Symbols.{symbol_at}
+use Rattle.su_classes.specs.inside.Symbols.{is_known}
 use Rattle.su_classes.proofs.ValueOrder.{sorted_distinct}
 use Rattle.su_chase.specs.Chase.{IsName, IsConsistent, IsClash}
 use Rattle.su_chase.specs.Chased.{AreRows}
-use Rattle.su_chase.specs.inside.Rows.{constants_in, IsPlacedRow, IsTableOf, IsFirstClash, ClashesAt}
+use Rattle.su_chase.specs.inside.Rows.{constants_in, IsPlacedRow, IsTableOf, ClashesAt}
 use Rattle.su_chase.proofs.ItemLabels.{AreNumbered}
 use Rattle.su_chase.proofs.Named.{is_name, consistent, is_clash}
 use Rattle.su_chase.proofs.FirstClash.{constant_in, has_member}

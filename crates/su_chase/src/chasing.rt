@@ -13,7 +13,7 @@ use crate::naming::{Closed, close};
 use std::alloc::Global;
 use su_base::{List, NoMemory, Value};
 use su_fd::Fd;
-use su_tableau::{Sym, Tableau};
+use su_tableau::{Sym, Tableau, copy_symbols};
 use su_where::Op;
 
 /// A tableau whose rows and head have their names, or the two constants that meet in a class.
@@ -21,16 +21,6 @@ use su_where::Op;
 pub enum Chased {
     Closed(Tableau),
     Clash { less: Value, greater: Value },
-}
-
-fn copy_symbols(alloc: Global, symbols: &[Sym]) -> Result<List<Sym>, NoMemory>
-    ensures { IfOk result (λ copied. copied ≡ symbols.now) }
-{
-    let mut copied = List::new(alloc);
-    for x in symbols {
-        copied.push(x.copy(alloc)?)?;
-    }
-    Ok(copied)
 }
 
 /// Copies of the tableau's rows.

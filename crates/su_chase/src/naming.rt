@@ -6,7 +6,6 @@ ghost use Rattle.su_base.specs.Value.{compare_values};
 ghost use Rattle.su_tableau.specs.declared.symbols.Sym.TheVariants.{Var};
 ghost use Rattle.su_tableau.specs.Tableaux.{AreBelow};
 ghost use Rattle.su_classes.specs.Tables.{rep};
-ghost use Rattle.su_classes.specs.inside.Symbols.{symbol_at as symbol_numbered};
 ghost use Rattle.su_chase.specs.Chase.{IsName, IsConsistent, IsClash};
 ghost use Rattle.su_chase.specs.Chased.{AreRows};
 ghost use Rattle.su_chase.specs.inside.Rows.{constants_in, IsTableOf, IsFirstClash, TakesLesser, ClashesAt, AreNamesBelow};
@@ -14,6 +13,7 @@ ghost use Rattle.su_chase.specs.inside.Rows.{constants_in, IsTableOf, IsFirstCla
 use crate::numbering::{constants_of, limit_of, placed_rows};
 use std::alloc::Global;
 use su_base::{List, NoMemory, Value};
+use su_classes::symbol_at;
 use su_fd::Fd;
 use su_tableau::Sym;
 
@@ -44,18 +44,6 @@ fn table_of(
     let mut table = Vec::from_elem(alloc, 0, constants.len() + limit)?;
     su_classes::close(alloc, &mut table, &[], fds, placed.as_slice())?;
     Ok(table)
-}
-
-/// The symbol of an item.
-fn symbol_at(alloc: Global, constants: &[Value], item: usize) -> Result<Sym, NoMemory>
-    requires { item < length constants.now + 2 ^ 32 }
-    ensures { IfOk result (λ s. s ≡ symbol_numbered constants.now item) }
-{
-    if item < constants.len() {
-        Ok(Sym::Const(constants[item].copy(alloc)?))
-    } else {
-        Ok(Sym::Var((item - constants.len()) as u32))
-    }
 }
 
 /// The one of the two items that has the lesser representative; the one found so far, where they have

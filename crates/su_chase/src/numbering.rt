@@ -12,7 +12,7 @@ ghost use Rattle.su_chase.specs.inside.Rows.{constant_of, constants_in, IsPlaced
 use std::alloc::Global;
 use su_base::{AttrSet, List, NoMemory, Value, sorted_values};
 use su_classes::Placed;
-use su_tableau::Sym;
+use su_tableau::{Sym, above};
 
 fn push_constant(alloc: Global, x: &Sym, constants: &mut List<Value>) -> Result<(), NoMemory>
     ensures { OnOk result (constants.new ≡ constants.old ++ constant_of x.now) }
@@ -46,25 +46,6 @@ pub fn constants_of(alloc: Global, rows: &[List<Sym>]) -> Result<List<Value>, No
         push_constants(alloc, row.as_slice(), &mut constants)?;
     }
     Ok(sorted_values(constants))
-}
-
-/// A number above the row's variables that is no less than the one given.
-fn above(row: &[Sym], least: usize) -> usize
-    requires { least ≤ 2 ^ 32 }
-    ensures no_less { least ≤ result }
-    ensures small { result ≤ 2 ^ 32 }
-    ensures above { AreBelow result row.now }
-{
-    let mut top = least;
-    for x in row {
-        if let Sym::Var(k) = x {
-            let next = *k as usize + 1;
-            if top < next {
-                top = next;
-            }
-        }
-    }
-    top
 }
 
 /// A number above the variables of the rows: the greatest one plus one, or 0.

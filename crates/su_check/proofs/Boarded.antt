@@ -1,9 +1,10 @@
 -- Variables and their numbers.
-use Rattle.std.proofs.Common.{◌≡◌, ◌≢◌, ◌<◌, ◌≤◌, ◌+◌, ◌⊎◌, ◌↔◌, ℕ, zero, suc, true, false, Bool, List, [], ◌∷◌, ◌++◌, get_or, length, set, Contains, Option, None, inr, sym, ap, subst, ◌∙◌, ⊎_elim, arith}
+use Rattle.std.proofs.Common.{◌≡◌, ◌≢◌, ◌<◌, ◌≤◌, ◌+◌, ◌⊎◌, ◌↔◌, ℕ, true, false, Bool, List, [], ◌∷◌, ◌++◌, get_or, length, set, Contains, Option, None, inr, sym, ap, subst, ◌∙◌, ⊎_elim, arith}
 use Rattle.std.proofs.lemmas.Bool.{cases_lt, cases_eq}
 use Rattle.std.proofs.lemmas.List.{get_or_default, get_or-set_same, get_or-set_other, length-set, get_or_append_left, get_or_push}
 use Rattle.std.proofs.lemmas.List.Elements.{Contains-push, Contains-append_left, Contains-append_cases}
 use borrow.Author.Count.{below_more}
+use Rattle.su_base.proofs.Items.{Contains-one, get_or-is}
 use Rattle.su_tableau.specs.declared.symbols.Sym.{Sym}
 use Rattle.su_tableau.specs.declared.symbols.Sym.TheVariants.{Var}
 use Rattle.su_tableau.specs.Tableaux.{Occurs}
@@ -12,21 +13,13 @@ use Rattle.su_check.specs.Certificate.{lines_of}
 use Rattle.su_check.specs.inside.Cells.{cell_at, IsFirstPlace}
 use Rattle.su_check.specs.inside.Boards.{AreMarks, IsNumber, AreNumbers, IsBoard}
 
-pub only_one : {X : Type 0} (x k : X) → Contains (x ∷ []) k → x ≡ k
-only_one x k (zero, h, e) = e
-only_one x k (suc n, h, e) = absurd (omega arith)
-
--- what is read at a place, at every default
-pub item_is : (row : List Sym) (i : ℕ) (x y : Sym) → i < length row → x ≡ get_or row i x → get_or row i y ≡ x
-item_is row i x y h is = get_or_default row i y x h ∙ sym is
-
 pub var_row : (row : List Sym) (out out' : List ℕ) (i n : ℕ) (x : Sym) → i < length row → x ≡ get_or row i x → x ≡ Var n → out' ≡ out ++ n ∷ []
     → ((k j : ℕ) → j < i → get_or row j (Var k) ≡ Var k → Contains out k) → (k j : ℕ) → j < i + 1 → get_or row j (Var k) ≡ Var k → Contains out' k
 var_row row out out' i n x h is v pushed before k =
     below_more (λ j. get_or row j (Var k) ≡ Var k → Contains out' k) i
     (λ j l e. subst (λ o. Contains o k) (sym pushed) (Contains-append_left out (n ∷ []) k (before k j l e)))
     (λ e.
-    let same : Var n ≡ Var k = sym v ∙ sym (item_is row i x (Var k) h is) ∙ e in
+    let same : Var n ≡ Var k = sym v ∙ sym (get_or-is row i x (Var k) h is) ∙ e in
     let n_k : n ≡ k = cc in
     subst (λ o. Contains o k) (sym pushed) (subst (λ m. Contains (out ++ n ∷ []) m) n_k (Contains-push out n)))
 
@@ -35,12 +28,12 @@ pub var_only : (row : List Sym) (out out' old : List ℕ) (i n : ℕ) (x : Sym) 
 var_only row out out' old i n x h is v pushed before k has =
     ⊎_elim
     (λ (a : Contains out k). before k a)
-    (λ (b : Contains (n ∷ []) k). inr (i, h, item_is row i x (Var k) h is ∙ v ∙ ap Var (only_one n k b)))
+    (λ (b : Contains (n ∷ []) k). inr (i, h, get_or-is row i x (Var k) h is ∙ v ∙ ap Var (Contains-one n k b)))
     (Contains-append_cases out (n ∷ []) k (subst (λ o. Contains o k) pushed has))
 
 pub const_row : (row : List Sym) (i : ℕ) (x : Sym) (out : List ℕ) → i < length row → x ≡ get_or row i x → ((k : ℕ) → x ≡ Var k → ⊥)
     → ((k j : ℕ) → j < i → get_or row j (Var k) ≡ Var k → Contains out k) → (k j : ℕ) → j < i + 1 → get_or row j (Var k) ≡ Var k → Contains out k
-const_row row i x out h is none before k = below_more (λ j. get_or row j (Var k) ≡ Var k → Contains out k) i (before k) (λ e. absurd (none k (sym (item_is row i x (Var k) h is) ∙ e)))
+const_row row i x out h is none before k = below_more (λ j. get_or row j (Var k) ≡ Var k → Contains out k) i (before k) (λ e. absurd (none k (sym (get_or-is row i x (Var k) h is) ∙ e)))
 
 -- ---- first places
 
@@ -78,7 +71,7 @@ mark_var variables head i marks marks' x k n before h is v first e =
           ⊎_elim
           (λ (same : m ≡ n).
           let k_j : k ≡ j = sym first.is ∙ ap (λ m. get_or variables m 0) (sym same) ∙ f.is in
-          (i, h, item_is head i x (Var j) h is ∙ v ∙ ap Var k_j))
+          (i, h, get_or-is head i x (Var j) h is ∙ v ∙ ap Var k_j))
           (λ (other : m ≢ n). before.marked j m f (sym (get_or-set_other marks n m true false other) ∙ ap (λ ms. get_or ms m false) (sym e) ∙ is_set))
           (cases_eq m n);
       done = λ j m a f l at.
@@ -86,22 +79,22 @@ mark_var variables head i marks marks' x k n before h is v first e =
           (λ (lt : a < i). set_stays marks marks' n m low e (before.done j m a f lt at))
           (λ (le : i ≤ a).
           let same : a ≡ i = omega arith in
-          let both : Var k ≡ Var j = sym v ∙ sym (item_is head i x (Var j) h is) ∙ ap (λ a. get_or head a (Var j)) (sym same) ∙ at in
+          let both : Var k ≡ Var j = sym v ∙ sym (get_or-is head i x (Var j) h is) ∙ ap (λ a. get_or head a (Var j)) (sym same) ∙ at in
           let k_j : k ≡ j = cc in
           let n_m : n ≡ m = first_one variables j n m (subst (λ k. IsFirstPlace variables k n) k_j first) f in
           ap (λ ms. get_or ms m false) e ∙ ap (λ m. get_or (set marks n true) m false) (sym n_m) ∙ get_or-set_same marks n true false low)
           (cases_lt a i);
       there = λ j.
           below_more (λ a. get_or head a (Var j) ≡ Var j → Contains variables j) i (before.there j)
-          (λ at. let same : Var k ≡ Var j = sym v ∙ sym (item_is head i x (Var j) h is) ∙ at in let k_j : k ≡ j = cc in subst (Contains variables) k_j (first_there variables k n first));
+          (λ at. let same : Var k ≡ Var j = sym v ∙ sym (get_or-is head i x (Var j) h is) ∙ at in let k_j : k ≡ j = cc in subst (Contains variables) k_j (first_there variables k n first));
     }
 
 pub mark_const : (variables : List ℕ) (head : List Sym) (i : ℕ) (marks marks' : List Bool) (x : Sym) → Marked variables head i marks → i < length head → x ≡ get_or head i x → ((k : ℕ) → x ≡ Var k → ⊥) → marks' ≡ marks → Marked variables head (i + 1) marks'
 mark_const variables head i marks marks' x before h is none e = subst (Marked variables head (i + 1)) (sym e) (record {
   one_each = before.one_each;
   marked = before.marked;
-  done = λ j m a f l at. ⊎_elim (λ (lt : a < i). before.done j m a f lt at) (λ (le : i ≤ a). let same : a ≡ i = omega arith in absurd (none j (sym (item_is head i x (Var j) h is) ∙ ap (λ a. get_or head a (Var j)) (sym same) ∙ at))) (cases_lt a i);
-  there = λ j. below_more (λ a. get_or head a (Var j) ≡ Var j → Contains variables j) i (before.there j) (λ at. absurd (none j (sym (item_is head i x (Var j) h is) ∙ at)));
+  done = λ j m a f l at. ⊎_elim (λ (lt : a < i). before.done j m a f lt at) (λ (le : i ≤ a). let same : a ≡ i = omega arith in absurd (none j (sym (get_or-is head i x (Var j) h is) ∙ ap (λ a. get_or head a (Var j)) (sym same) ∙ at))) (cases_lt a i);
+  there = λ j. below_more (λ a. get_or head a (Var j) ≡ Var j → Contains variables j) i (before.there j) (λ at. absurd (none j (sym (get_or-is head i x (Var j) h is) ∙ at)));
 })
 
 pub marks_done : (variables : List ℕ) (head : List Sym) (i : ℕ) (marks : List Bool) → length head ≤ i → Marked variables head i marks → AreMarks variables head marks × ((k : ℕ) → Contains head (Var k) → Contains variables k)
@@ -117,7 +110,7 @@ pub number_push : (head : List Sym) (variables : List ℕ) (row : List Sym) (num
 number_push head variables row numbers numbers' i x n h is len e before here =
     below_more (λ c. IsNumber head variables (cell_at row c) (get_or numbers' c None)) i
     (λ c l. subst (IsNumber head variables (cell_at row c)) (sym (ap (λ ns. get_or ns c None) e ∙ get_or_append_left numbers (n ∷ []) None c (omega arith))) (before c l))
-    (subst (λ y. IsNumber head variables y (get_or numbers' i None)) (sym (item_is row i x (Var 0) h is)) (subst (IsNumber head variables x) (sym (ap (λ ns. get_or ns i None) e ∙ get_or_push numbers n None i len)) here))
+    (subst (λ y. IsNumber head variables y (get_or numbers' i None)) (sym (get_or-is row i x (Var 0) h is)) (subst (IsNumber head variables x) (sym (ap (λ ns. get_or ns i None) e ∙ get_or_push numbers n None i len)) here))
 
 pub numbers_push : (head : List Sym) (variables : List ℕ) (rows : List (List Sym)) (all all' : List (List (Option ℕ))) (i : ℕ) (numbers : List (Option ℕ)) → length all ≡ i → all' ≡ all ++ numbers ∷ []
     → ((j : ℕ) → j < i → AreNumbers head variables (get_or rows j []) (get_or all j [])) → AreNumbers head variables (get_or rows i []) numbers → (j : ℕ) → j < i + 1 → AreNumbers head variables (get_or rows j []) (get_or all' j [])

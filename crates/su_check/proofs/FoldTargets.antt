@@ -3,6 +3,7 @@ use Rattle.std.proofs.Common.{◌≡◌, ℕ, zero, suc, ◌<◌, ◌≤◌, ◌
 use Rattle.std.proofs.lemmas.Bool.{cases_lt}
 use Rattle.std.proofs.lemmas.List.{get_or_default}
 use Rattle.std.proofs.lemmas.List.Elements.{All-nil, All-push}
+use Rattle.su_base.proofs.Items.{All-append_left}
 use Rattle.su_tableau.specs.declared.symbols.Sym.{Sym}
 use Rattle.su_tableau.specs.declared.symbols.Sym.TheVariants.{Const, Var}
 use Rattle.su_tableau.specs.Mapping.{images_of}
@@ -11,7 +12,7 @@ use Rattle.su_check.specs.declared.sending.Sent.{Sent}
 use Rattle.su_check.specs.SentRows.{Lines, numbered_row, AreSent, sent_too}
 use Rattle.su_check.specs.inside.Widths.{IsWithin}
 use Rattle.su_check.specs.Certificate.{IsFoldInto}
-use Rattle.su_check.proofs.TargetsTogether.{all_front, all_last}
+use Rattle.su_check.proofs.TargetsTogether.{all_last}
 
 -- the first n rows with their targets
 abbrev pub fold_sent : List ℕ → ℕ → List Sent
@@ -38,7 +39,7 @@ all_rows : (P : Sent → Type 0) (fold : List ℕ) (n : ℕ) → All P (fold_sen
 all_rows P fold zero all i h = absurd (omega arith)
 all_rows P fold (suc n) all i h =
     ⊎_elim
-    (λ (lt : i < n). all_rows P fold n (all_front P (fold_sent fold n) (record { row = n; target = get_or fold n 0 }) all) i lt)
+    (λ (lt : i < n). all_rows P fold n (All-append_left P (fold_sent fold n) (record { row = n; target = get_or fold n 0 } ∷ []) all) i lt)
     (λ (le : n ≤ i).
     let e : n ≡ i = omega arith in
     subst (λ i. P (record { row = i; target = get_or fold i 0 })) e (all_last P (fold_sent fold n) (record { row = n; target = get_or fold n 0 }) all))

@@ -4,7 +4,7 @@ use Rattle.std.proofs.lemmas.Bool.{cases_eq}
 use Rattle.std.proofs.lemmas.List.{length-map, get_or-map, get_or_default}
 use Rattle.std.proofs.lemmas.List.Elements.{All-nil, All-push, All-contains, recursion_from_All}
 use Rattle.su_base.proofs.Numbers.{pigeonhole}
-use Rattle.su_base.proofs.Items.{Contains-map, AllZip-length, AllZip-get_or, map-map_equal}
+use Rattle.su_base.proofs.Items.{Contains-map, AllZip-length, AllZip-get_or, map-map_equal, Contains-map_source}
 use Rattle.su_tableau.specs.declared.symbols.Sym.{Sym}
 use Rattle.su_tableau.specs.declared.symbols.Sym.TheVariants.{Const, Var}
 use Rattle.su_tableau.specs.Tableaux.{Tab, IsValid, Occurs}
@@ -15,7 +15,6 @@ use Rattle.su_tableau.proofs.Containment.{maps_compose, maps_to_more, maps_withi
 use Rattle.su_tableau.proofs.FrozenTableaux.{within_maps}
 use Rattle.su_tableau.proofs.Sets.{choose}
 use Rattle.su_check.specs.declared.nodes.Node.{Node}
-use Rattle.su_check.specs.declared.nodes.Branch.{Branch}
 use Rattle.su_check.specs.declared.sending.Sent.{Sent}
 use Rattle.su_check.specs.SentRows.{Lines, numbered_row, sent_too}
 use Rattle.su_check.specs.Refutations.{IsAscending, IsFitting, Refutes, refuting, row_named, branches_of, target_of, node_of}
@@ -23,14 +22,6 @@ use Rattle.su_check.specs.LeastParts.{part_of, IsLeastPart}
 use Rattle.su_check.specs.Certificate.{IsFoldInto}
 
 -- ---- a tree refutes each map that leaves the row out
-
-branch_to : (bs : List Branch) (j : ℕ) → Contains (map target_of bs) j → (b : Branch) × Contains bs b × (target_of b ≡ j)
-branch_to [] j (k, h, e) = absurd (omega arith)
-branch_to (b ∷ bs) j (zero, h, e) = (b, (zero, omega arith, refl), e)
-branch_to (b ∷ bs) j (suc k, h, e) =
-    let r = branch_to bs j (k, omega arith, e) in
-    let c = r.1 in
-    (r.0, (suc c.0, (let l = c.1 in omega arith), c.2), r.2)
 
 -- under the symbols each kept row goes to a kept row other than r
 abbrev pub LeavesOut : Lines → ℕ → (ℕ → Sym) → Type 0
@@ -43,7 +34,7 @@ refuted t r f head goes n p (refuting _ _ open' _ exact each) sent =
     let g = goes s open'.member in
     let more : All P (sent_too p s g.0) = All-push P p (record { row = s; target = g.0 }) sent g.3 in
     let fit : IsFitting t r p s g.0 = record { member = g.1; other = g.2; sent = record { symbols = f; head = head; rows = more } } in
-    let b = branch_to (branches_of n) g.0 ((exact.members g.0).1 fit) in
+    let b = Contains-map_source target_of (branches_of n) g.0 ((exact.members g.0).1 fit) in
     refuted t r f head goes (node_of b.0) (sent_too p s (target_of b.0)) (each b.0 b.1) (subst (λ j. All P (sent_too p s j)) (sym b.2) more)
 
 -- ---- the tableau and its part

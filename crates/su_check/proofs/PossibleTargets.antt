@@ -1,6 +1,7 @@
 -- Which rows come into question as targets.
-use Rattle.std.proofs.Common.{◌≡◌, ◌<◌, ℕ, List, [], length, get_or, sym, ap, ◌∙◌, arith}
+use Rattle.std.proofs.Common.{◌≡◌, ◌<◌, ℕ, List, [], ◌∷◌, length, get_or, sym, ap, ◌∙◌, arith}
 use Rattle.std.proofs.lemmas.List.Elements.{All-push}
+use Rattle.su_base.proofs.Items.{All-append_left}
 use Rattle.su_tableau.specs.declared.symbols.Sym.{Sym}
 use Rattle.su_tableau.specs.Mapping.{image_of, images_of}
 use Rattle.su_check.specs.declared.sending.Sent.{Sent}
@@ -8,7 +9,7 @@ use Rattle.su_check.specs.declared.sending.StepColumn.{StepColumn}
 use Rattle.su_check.specs.inside.Cells.{cell_at}
 use Rattle.su_check.specs.SentRows.{Lines, numbered_row, AreSent, sent_too}
 use Rattle.su_check.specs.inside.Boards.{no_pair, IsImage}
-use Rattle.su_check.proofs.TargetsTogether.{all_front, all_last, image_cell}
+use Rattle.su_check.proofs.TargetsTogether.{all_last, image_cell}
 
 -- a target of the row has the image of the row's symbol
 pub image_told : (t : Lines) (p : List Sent) (s j c : ℕ) (place : StepColumn) (x y : Sym) → c < length (numbered_row t s) → x ≡ cell_at (numbered_row t s) c → IsImage t p place x y → AreSent t (sent_too p s j) → cell_at (numbered_row t j) c ≡ y
@@ -18,7 +19,7 @@ image_told t p s j c place x y h ex m a =
     let P : Sent → Type 0 = λ x. images_of f (numbered_row t x.row) ≡ numbered_row t x.target in
     let w : Sent = record { row = s; target = j } in
     let last : images_of f (numbered_row t s) ≡ numbered_row t j = all_last P p w a.rows in
-    let front : images_of f (numbered_row t o.row) ≡ numbered_row t o.target = all_front P p w a.rows place.step no_pair m.step in
+    let front : images_of f (numbered_row t o.row) ≡ numbered_row t o.target = All-append_left P p (w ∷ []) a.rows place.step no_pair m.step in
     image_cell f (numbered_row t s) (numbered_row t j) c last h ∙ ap (image_of f) (sym ex ∙ sym m.symbol) ∙ sym (image_cell f (numbered_row t o.row) (numbered_row t o.target) place.column front m.column) ∙ m.image
 
 -- a row that goes somewhere beside others goes there alone

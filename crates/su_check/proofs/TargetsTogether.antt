@@ -1,8 +1,10 @@
 -- A row can go to a target exactly where it goes there by itself and agrees with each row that has a target.
-use Rattle.std.proofs.Common.{◌≡◌, ℕ, ◌<◌, ◌⊎◌, true, List, [], ◌∷◌, ◌++◌, length, get_or, All, inl, inr, refl, sym, ap, subst, ◌∙◌, arith}
+-- t: the head, the rows and the kept rows of a term; sent: a row and its target, by their numbers
+use Rattle.std.proofs.Common.{◌≡◌, ℕ, ◌<◌, ◌⊎◌, true, List, [], ◌∷◌, ◌++◌, length, get_or, All, inl, inr, refl, sym, ap, ◌∙◌, arith}
 use Rattle.std.proofs.lemmas.Bool.{false≢true}
-use Rattle.std.proofs.lemmas.List.{length-map, length-append, get_or-map, get_or_default, get_or_append_left, same_lists}
+use Rattle.std.proofs.lemmas.List.{length-map, get_or-map, get_or_default, same_lists}
 use Rattle.std.proofs.lemmas.List.Elements.{All-push, All-contains, Contains-push}
+use Rattle.su_base.proofs.Items.{All-append_left}
 use Rattle.su_tableau.specs.declared.symbols.Sym.{Sym}
 use Rattle.su_tableau.specs.declared.symbols.Sym.TheVariants.{Const, Var}
 use Rattle.su_tableau.specs.Mapping.{image_of, images_of}
@@ -10,12 +12,13 @@ use Rattle.su_tableau.proofs.ChangedValuations.{InRow, in_row}
 use Rattle.su_check.specs.declared.sending.Sent.{Sent}
 use Rattle.su_check.specs.inside.Cells.{cell_at, is_const}
 use Rattle.su_check.specs.SentRows.{Lines, numbered_row, AreSent, sent_too}
-use Rattle.su_check.specs.inside.Agreement.{KeepsConstants, GoAlike, Goes, AgreesWith}
+use Rattle.su_check.specs.inside.Agreement.{KeepsConstants, GoAlike, Goes}
+
+-- a row that has a target agrees with the row and its target
+abbrev pub AgreesWith : Lines → List Sym → List Sym → Sent → Type 0
+AgreesWith t row target x = GoAlike (numbered_row t x.row) (numbered_row t x.target) row target
 
 -- ---- a list with one more at its end
-
-pub all_front : {X : Type 0} (P : X → Type 0) (xs : List X) (x : X) → All P (xs ++ x ∷ []) → All P xs
-all_front P xs x all k d h = let e = length-append xs (x ∷ []) in subst P (get_or_append_left xs (x ∷ []) d k h) (all k d (omega arith))
 
 pub all_last : {X : Type 0} (P : X → Type 0) (xs : List X) (x : X) → All P (xs ++ x ∷ []) → P x
 all_last P xs x all = All-contains P (xs ++ x ∷ []) x all (Contains-push xs x)
@@ -96,7 +99,7 @@ sent_less t p s j sent =
     let P : Sent → Type 0 = λ x. images_of f (numbered_row t x.row) ≡ numbered_row t x.target in
     let xs = numbered_row t s in let us = numbered_row t j in
     let here : images_of f xs ≡ us = all_last P p (record { row = s; target = j }) sent.rows in
-    let before : All P p = all_front P p (record { row = s; target = j }) sent.rows in (
+    let before : All P p = All-append_left P p (record { row = s; target = j } ∷ []) sent.rows in (
       record {
         constants = images_keep f xs us here;
         itself = images_agree f xs us xs us here here;

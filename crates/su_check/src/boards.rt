@@ -1,11 +1,11 @@
 //! The variables of a term's rows with their numbers.
-ghost use Rattle.std.specs.Prelude.{◌≡◌, ◌<◌, ◌↔◌, ◌⊎◌, ℕ, [], length, get_or, Contains, IfOk, OnOk, MatchOption, List as Items};
+ghost use Rattle.std.specs.Prelude.{◌≡◌, ◌<◌, ◌↔◌, ◌⊎◌, ℕ, length, Contains, IfOk, OnOk, MatchOption, List as Items};
 ghost use Rattle.std.specs.List.Sorted.{IsNonDecreasing};
 ghost use Rattle.su_tableau.specs.declared.symbols.Sym.{Sym as ASym};
 ghost use Rattle.su_tableau.specs.declared.symbols.Sym.TheVariants.{Var};
 ghost use Rattle.su_tableau.specs.Tableaux.{Occurs};
 ghost use Rattle.su_check.specs.Certificate.{lines_of};
-ghost use Rattle.su_check.specs.inside.Boards.{AreMarks, IsNumber, AreNumbers, IsBoard};
+ghost use Rattle.su_check.specs.inside.Boards.{AreMarks, AreMarksIfAll, IsNumber, AreNumbers, AreRowNumbers, IsBoardIfOccurs};
 ghost use Rattle.su_check.specs.inside.Cells.{IsFirstPlace};
 
 use crate::certificates::Term;
@@ -80,8 +80,7 @@ pub fn number_of(variables: &[u32], k: u32) -> Option<usize>
 /// Which variables the head has, if the rows have all of them.
 fn marks_of(alloc: Global, variables: &[u32], head: &[Sym]) -> Result<Option<List<bool>>, NoMemory>
     requires { IsNonDecreasing variables.now }
-    ensures { IfOk result (λ o. MatchOption o (¬ ((k : ℕ) → Contains head.now (Var k) → Contains variables.now k))
-        (λ marks. AreMarks variables.now head.now marks × ((k : ℕ) → Contains head.now (Var k) → Contains variables.now k))) }
+    ensures { IfOk result (AreMarksIfAll variables.now head.now) }
 {
     let mut marks = vec![in alloc; false; variables.len()]?;
     for x in head {
@@ -141,8 +140,7 @@ fn all_numbers(
     requires marks { length marks.now ≡ length variables.now }
     requires there { (k : ℕ) → Occurs rows.now k → Contains variables.now k }
     ensures one_each { IfOk result (λ all. length all ≡ length rows.now) }
-    ensures rows { IfOk result (λ all. (head : Items ASym) → AreMarks variables.now head marks.now
-        → (i : ℕ) → i < length rows.now → AreNumbers head variables.now (get_or rows.now i []) (get_or all i [])) }
+    ensures rows { IfOk result (AreRowNumbers variables.now marks.now rows.now) }
 {
     let mut all = List::new(alloc);
     for row in rows {
@@ -155,8 +153,7 @@ fn all_numbers(
 pub fn board_of(alloc: Global, term: &Term, variables: List<u32>) -> Result<Option<Board>, NoMemory>
     requires ascending { IsNonDecreasing variables }
     requires all { (k : ℕ) → Contains variables k ↔ Occurs term.now.rows k }
-    ensures { IfOk result (λ o. MatchOption o (¬ ((k : ℕ) → Contains term.now.head (Var k) → Occurs term.now.rows k))
-        (λ b. IsBoard (lines_of term.now) b × ((k : ℕ) → Contains term.now.head (Var k) → Occurs term.now.rows k))) }
+    ensures { IfOk result (IsBoardIfOccurs (lines_of term.now)) }
 {
     match marks_of(alloc, variables.as_slice(), term.head.as_slice())? {
         Some(marks) => {

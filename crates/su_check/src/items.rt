@@ -1,13 +1,11 @@
 //! Numbers, symbols and kinds, and lists of them.
 ghost use Rattle.std.specs.Prelude.{◌≡◌, ◌≤◌, ◌++◌, ◌∷◌, ℕ, None, map, All, IfOk, MatchOption, List as Items};
-ghost use Rattle.su_base.specs.declared.values.Kind.{Kind as AKind};
 ghost use Rattle.su_lex.specs.Names.{Begins};
 ghost use Rattle.su_lex.specs.declared.meaning.Symbol.{Symbol as ASymbol};
-ghost use Rattle.su_tableau.specs.declared.symbols.Sym.{Sym as ASym};
 ghost use Rattle.su_check.specs.NodeSymbols.{number, sym_symbol};
 ghost use Rattle.su_lex.specs.Wordings.{kind_symbol};
 ghost use Rattle.su_check.specs.Ranges.{IsByte, IsNamed};
-ghost use Rattle.su_check.specs.inside.LineReaders.{Gives, Stops};
+ghost use Rattle.su_check.specs.inside.LineReaders.{AreOnlyKinds, AreOnlySymbols, Gives, Stops};
 
 use crate::variables::variable;
 use su_base::{Kind, List, NoMemory, Value};
@@ -95,8 +93,7 @@ fn takes_symbol(reader: &mut Reader) -> Result<Option<Sym>, NoMemory>
 /// The symbols of a tableau that come next.
 pub fn symbols(reader: &mut Reader) -> Result<List<Sym>, NoMemory>
     ensures found { IfOk result (λ xs. (reader.old ≡ map sym_symbol xs ++ reader.new) × All IsNamed xs) }
-    ensures only { (xs : Items ASym) (r : Items ASymbol) → All IsNamed xs → Stops sym_symbol IsNamed r → reader.old ≡ map sym_symbol xs ++ r
-        → IfOk result (λ ys. (ys ≡ xs) × (reader.new ≡ r)) }
+    ensures only { AreOnlySymbols reader.old result reader.new }
 {
     let mut symbols = List::new(reader.alloc());
     while let Some(symbol) = takes_symbol(reader)? {
@@ -122,8 +119,7 @@ fn takes_kind(reader: &mut Reader) -> Option<Kind>
 /// The kinds that come next.
 pub fn kinds(reader: &mut Reader) -> Result<List<Kind>, NoMemory>
     ensures found { IfOk result (λ ks. reader.old ≡ map kind_symbol ks ++ reader.new) }
-    ensures only { (ks : Items AKind) (r : Items ASymbol) → Stops kind_symbol (λ k. Unit {0}) r → reader.old ≡ map kind_symbol ks ++ r
-        → IfOk result (λ ms. (ms ≡ ks) × (reader.new ≡ r)) }
+    ensures only { AreOnlyKinds reader.old result reader.new }
 {
     let mut kinds = List::new(reader.alloc());
     while let Some(kind) = takes_kind(reader) {

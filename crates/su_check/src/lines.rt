@@ -1,8 +1,6 @@
 //! The lines of a certificate: rows, trees, terms.
-ghost use Rattle.std.specs.Prelude.{◌≡◌, ◌≤◌, ◌++◌, ◌∷◌, [], ℕ, length, codes, flat_map, All, IfOk, List as Items};
-ghost use Rattle.su_lex.specs.Names.{Begins};
+ghost use Rattle.std.specs.Prelude.{◌≡◌, ◌++◌, [], flat_map, All, IfOk, List as Items};
 ghost use Rattle.su_lex.specs.declared.meaning.Symbol.{Symbol as ASymbol};
-ghost use Rattle.su_lex.specs.declared.meaning.Symbol.TheVariants.{Word as AWord};
 ghost use Rattle.su_lex.specs.declared.signs.Sign.TheVariants.{Open};
 ghost use Rattle.su_tableau.specs.declared.symbols.Sym.{Sym as ASym};
 ghost use Rattle.su_check.specs.declared.nodes.Node.{Node as ANode};
@@ -12,7 +10,7 @@ ghost use Rattle.su_check.specs.declared.certificates.Certificate.{Certificate a
 ghost use Rattle.su_check.specs.Ranges.{IsByteNode, IsTermInRange, IsInRange};
 ghost use Rattle.su_check.specs.NodeSymbols.{node_symbols};
 ghost use Rattle.su_check.specs.Grammar.{row_line, tree_line, certificate_symbols};
-ghost use Rattle.su_check.specs.inside.LineReaders.{EndsTerm, Gives, IsRow, IsByteTree, row_before, tree_before, term_before, term_symbols, GivesBefore, AreOnlyRows};
+ghost use Rattle.su_check.specs.inside.LineReaders.{EndsTerm, Gives, IsRow, IsByteTree, row_before, tree_before, term_before, term_symbols, GivesBefore, AreOnlyRows, AreOnlyTrees};
 
 use crate::certificates::{Certificate, RowTree, Term};
 use crate::items::{bytes, expect_number, kinds, symbols, takes_number};
@@ -78,8 +76,7 @@ fn tree(reader: &mut Reader) -> Result<RowTree, LexEnd>
 /// The trees that come next.
 fn trees(reader: &mut Reader) -> Result<List<RowTree>, LexEnd>
     ensures found { IfOk result (λ ts. (reader.old ≡ flat_map tree_line ts ++ reader.new) × All IsByteTree ts) }
-    ensures only { (ts : Items ARowTree) (r : Items ASymbol) → All IsByteTree ts → ¬ (Begins (AWord (codes "tree")) r) → reader.old ≡ flat_map tree_line ts ++ r
-        → GivesBefore result reader.new ts r }
+    ensures only { AreOnlyTrees reader.old result reader.new }
 {
     let mut trees = List::new(reader.alloc());
     while reader.takes_word("tree") {

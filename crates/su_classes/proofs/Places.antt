@@ -7,7 +7,8 @@ use Rattle.su_base.specs.declared.values.Value.TheVariants.{Text}
 use Rattle.su_tableau.specs.declared.symbols.Sym.{Sym}
 use Rattle.su_tableau.specs.declared.symbols.Sym.TheVariants.{Const, Var}
 use Rattle.su_classes.specs.Tables.{rep}
-use Rattle.su_classes.specs.inside.Symbols.{same_value, has_constant, constant_place, AreDistinct, is_known, symbol_number, symbol_at, name_in}
+use Rattle.su_classes.specs.Symbols.{symbol_at}
+use Rattle.su_classes.specs.inside.Symbols.{same_value, has_constant, constant_place, AreDistinct, is_known, symbol_number, name_in}
 use Rattle.su_classes.proofs.ValueOrder.{same_itself, same_is}
 
 pub place_is : (vs : List Value) (c : Value) → has_constant vs c ≡ true → (constant_place vs c < length vs) × (get_or vs (constant_place vs c) (Text []) ≡ c)

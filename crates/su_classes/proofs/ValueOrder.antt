@@ -1,5 +1,5 @@
--- Values that compare as equal are equal, and the order of a sorted list's places is that of its values.
-use Rattle.std.proofs.Common.{◌≡◌, ◌≢◌, ◌⊎◌, inl, inr, ⊎_elim, ℕ, zero, suc, ◌<◌, true, false, List, [], ◌∷◌, length, get_or, refl, sym, ap, ◌∙◌, arith}
+-- Values that compare as equal are equal, and the values of a sorted list are distinct.
+use Rattle.std.proofs.Common.{◌≡◌, ◌≢◌, ◌⊎◌, inl, inr, ⊎_elim, ℕ, true, false, List, [], ◌∷◌, refl, sym, ap, ◌∙◌}
 use Rattle.std.specs.Ordering.{nat_cmp, is_eq, ordering_reverse}
 use Rattle.std.specs.List.{AllByRecursion}
 use Rattle.std.specs.List.Sorted.{IsStrictlySortedBy}
@@ -7,7 +7,6 @@ use Rattle.std.specs.Cmp.Lexicographic.{slice_cmp}
 use Rattle.std.specs.declared.cmp.Ordering.{Ordering}
 use Rattle.std.specs.declared.cmp.Ordering.TheVariants.{Less, Equal as Same, Greater}
 use Rattle.std.proofs.lemmas.Cmp.{ranked, int_ranked, tied_itself, nat_cmp_total, int_cmp_total, lists_total}
-use Rattle.std.proofs.lemmas.List.Elements.{All-from_recursion}
 use Rattle.std.proofs.lemmas.Bool.{cases_Bool, cond-false}
 use Rattle.su_base.specs.declared.values.Value.{Value}
 use Rattle.su_base.specs.declared.values.Value.TheVariants.{Int, Text}
@@ -82,10 +81,3 @@ pub sorted_distinct : (vs : List Value) → IsStrictlySortedBy compare_values vs
 unfolding IsStrictlySortedBy
 sorted_distinct [] h = tt
 sorted_distinct (v ∷ vs) h = (not_greater v vs h.0, sorted_distinct vs h.1)
-
-pub less_before : (vs : List Value) (i j : ℕ) (d : Value) → IsStrictlySortedBy compare_values vs → i < j → j < length vs → compare_values (get_or vs i d) (get_or vs j d) ≡ Less
-unfolding IsStrictlySortedBy
-less_before [] i j d h l m = absurd (omega arith)
-less_before (v ∷ vs) i zero d h l m = absurd (omega arith)
-less_before (v ∷ vs) zero (suc j) d h l m = All-from_recursion (λ y. compare_values v y ≡ Less) vs h.0 j d (omega arith)
-less_before (v ∷ vs) (suc i) (suc j) d h l m = less_before vs i j d h.1 (omega arith) (omega arith)

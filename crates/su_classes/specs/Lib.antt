@@ -1,4 +1,5 @@
 pub mod inside
 pub mod Items
+pub mod Symbols
 pub mod ClassNames
 pub mod Tables

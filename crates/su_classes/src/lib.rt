@@ -20,8 +20,10 @@ mod ruled;
 mod rules;
 mod rushing;
 mod sweeping;
+mod symbols;
 mod tables;
 mod worklist;
 
 pub use closing::close;
 pub use items::{Placed, Together};
+pub use symbols::symbol_at;

@@ -1,5 +1,5 @@
 -- The terms of queries that ask for equalities alone compare nothing.
-use Rattle.std.proofs.Common.{◌≡◌, ⊎_elim, ℕ, zero, suc, ◌*◌, ◌≤◌, true, false, cond, List, [], ◌∷◌, map, flat_map, length, get_or, Contains, All, refl, sym, ap, ◌∙◌, subst, arith}
+use Rattle.std.proofs.Common.{◌≡◌, ⊎_elim, ℕ, zero, suc, ◌*◌, ◌≤◌, true, false, cond, List, [], ◌∷◌, map, flat_map, length, get_or, Contains, All, refl, sym, ap, ◌∙◌, subst, arith, None}
 use Rattle.std.specs.List.{range_with_len}
 use Rattle.std.specs.Cmp.{first_so, second_so}
 use Rattle.std.specs.Ordering.{nat_cmp}
@@ -24,19 +24,18 @@ use Rattle.su_steps.specs.Choices.{choices, origins_of}
 use Rattle.su_steps.specs.PairSymbols.{SymbolComparison, compared}
 use Rattle.su_steps.specs.Evaluated.{is_evaluated, left_over}
 use Rattle.su_tableau.specs.Tableaux.{Tab}
-use Rattle.su_steps.specs.Cases.{Case, comparisons_of, HaveTableau, Gives}
+use Rattle.su_steps.specs.Cases.{Case, comparisons_of, HaveTableau, Gives, IsOutOf}
 use Rattle.su_steps.specs.Terms.{case_of, cases}
 use Rattle.su_steps.specs.Limits.{disjunct_count}
 use Rattle.su_steps.specs.Refusals.{IsAccepted}
 use Rattle.su_steps.specs.Laws.{TermsAreValidAndTyped}
-use Rattle.su_steps.specs.inside.Outs.{GivesNone, AreTermsOf}
 use Rattle.su_compare.specs.Equalities.{asks_equality, has_only_equalities}
 use Rattle.su_compare.specs.Outputs.{output_kinds}
 use Rattle.su_compare.specs.Within.{AreOf}
 use Rattle.su_compare.specs.Comparable.{IsPlain}
 use Rattle.su_compare.specs.Laws.{TermsAreComparable}
 use Rattle.su_compare.proofs.OnlyEqual.{are_equalities, all_equalities, only_equalities}
-use Rattle.su_steps.proofs.Outs.{terms_of}
+use Rattle.su_steps.proofs.Outs.{AreInTurn, terms_of}
 
 -- ---- comparisons
 
@@ -96,12 +95,12 @@ module _ (schema : SchemaValue) (maximal : List (FinSet nat_cmp)) (q : Resolved)
       let h = gives.tableau in
       (ap (λ x. x.outputs) h.is, ap (λ x. x.operators) h.is ∙ ap (map (λ c. c.op)) (case_plain case t.tableau h))
 
-  terms_bare : (cs : List Case) (ts : List Term) → AreTermsOf schema maximal q cs ts → All Bare ts × (length ts ≤ length cs)
+  terms_bare : (cs : List Case) (ts : List Term) → AreInTurn schema maximal q cs ts → All Bare ts × (length ts ≤ length cs)
   terms_bare [] ts is = (subst (All Bare) (sym is) (All-nil Bare), let n : length ts ≡ 0 = ap length is in omega arith)
   terms_bare (case ∷ rest) ts are =
       ⊎_elim
-      (λ (none : GivesNone schema maximal q case × AreTermsOf schema maximal q rest ts). let r = terms_bare rest ts none.1 in let n = r.1 in (r.0, omega arith))
-      (λ (some : (t : Term) × (later : List Term) × (ts ≡ t ∷ later) × Gives schema maximal q case t × AreTermsOf schema maximal q rest later).
+      (λ (none : IsOutOf schema maximal q case None × AreInTurn schema maximal q rest ts). let r = terms_bare rest ts none.1 in let n = r.1 in (r.0, omega arith))
+      (λ (some : (t : Term) × (later : List Term) × (ts ≡ t ∷ later) × Gives schema maximal q case t × AreInTurn schema maximal q rest later).
       let r = terms_bare rest some.1 some.4 in
       let n = r.1 in
       let len : length ts ≡ suc (length some.1) = ap length some.2 in

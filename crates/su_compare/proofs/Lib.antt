@@ -1,5 +1,4 @@
 pub mod OnlyEqual
-pub mod Lists
 pub mod Members
 pub mod Constants
 pub mod Settled

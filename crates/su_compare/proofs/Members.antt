@@ -14,7 +14,7 @@ abbrev pub Includes : List (List Value) → List (List Value) → Type 0
 Includes w u = (x : List Value) → Contains u x → Contains w x
 
 pub ext_included : (t : Tab) (u w : List (List Value)) (h : List Value) → Includes w u → Ext t u h → Ext t w h
-ext_included t u w h i e = record { valuation = e.valuation; sends = λ k d low. i _ (e.sends k d low); gives = e.gives }
+ext_included t u w h i e = record { valuation = e.valuation; holds = λ k d low. i _ (e.holds k d low); gives = e.gives }
 
 pub universe_included : (kinds : Kinds) (u w : List (List Value)) → Includes w u → IsUniverse kinds w → IsUniverse kinds u
 universe_included kinds u w i is k d low = All-contains (λ row. map kind_of row ≡ kinds) w (get_or u k d) is (i _ (Contains-get_or u k d low))

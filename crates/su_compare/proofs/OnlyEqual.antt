@@ -12,10 +12,10 @@ use Rattle.su_where.specs.declared.conditions.Condition.TheVariants.{Compare, No
 use Rattle.su_where.specs.declared.conditions.Condition.TheFolds.{fold-roll-Condition}
 use Rattle.su_where.specs.Operator.{complement_of}
 use Rattle.su_where.specs.Truth.{Cond}
-use Rattle.su_where.specs.Disjunct.{opposite_of, form_of}
-use Rattle.su_where.specs.inside.Joined.{pairs_of, combinations_of, joined}
+use Rattle.su_where.specs.Disjunct.{opposite_of, combined, form_of}
+use Rattle.su_where.specs.inside.Joined.{joined}
 use Rattle.su_where.proofs.Layers.{parts_of, by_layers}
-use Rattle.su_where.proofs.Disjunctive.{forms, form_of-Compare, form_of-Not, form_of-All, form_of-Any}
+use Rattle.su_where.proofs.Disjunctive.{pairs_of, combined-cons, forms, form_of-Compare, form_of-Not, form_of-All, form_of-Any}
 use Rattle.su_compare.specs.Equalities.{asks_equality, equalities_step, asks_equalities}
 
 each-map : (b : Bool) (cs : List Cond) → list_all (λ p. p b) (map asks_equalities cs) ≡ list_all (λ c. asks_equalities c b) cs
@@ -69,10 +69,11 @@ all-pairs (d ∷ ds) es h k =
     all-append (map (λ e. d ++ e) es) (pairs_of ds es) (all-each d es (first_so (are_equalities d) (all_equalities ds) h) k)
     (all-pairs ds es (second_so (are_equalities d) (all_equalities ds) h) k)
 
-all-combinations : (fs : List (List (List Literal))) → list_all all_equalities fs ≡ true → all_equalities (combinations_of fs) ≡ true
-all-combinations [] e = refl
-all-combinations (f ∷ fs) e =
-    all-pairs f (combinations_of fs) (first_so (all_equalities f) (list_all all_equalities fs) e) (all-combinations fs (second_so (all_equalities f) (list_all all_equalities fs) e))
+all-combined : (fs : List (List (List Literal))) → list_all all_equalities fs ≡ true → all_equalities (combined fs) ≡ true
+all-combined [] e = refl
+all-combined (f ∷ fs) e =
+    ap all_equalities (combined-cons f fs)
+    ∙ all-pairs f (combined fs) (first_so (all_equalities f) (list_all all_equalities fs) e) (all-combined fs (second_so (all_equalities f) (list_all all_equalities fs) e))
 
 -- ---- layer by layer
 
@@ -107,10 +108,10 @@ only_not c only b h = ap all_equalities (form_of-Not c b) ∙ only (not b) (sym 
 
 only_All : (es : List ((c : Cond) × IsOnlyEqual c)) → IsOnlyEqual (All (parts_of es))
 only_All es true h = ap all_equalities (form_of-All (parts_of es) true) ∙ all-joined (forms true (parts_of es)) (only_parts true es (sym (asks-All (parts_of es) true) ∙ h))
-only_All es false h = ap all_equalities (form_of-All (parts_of es) false) ∙ all-combinations (forms false (parts_of es)) (only_parts false es (sym (asks-All (parts_of es) false) ∙ h))
+only_All es false h = ap all_equalities (form_of-All (parts_of es) false) ∙ all-combined (forms false (parts_of es)) (only_parts false es (sym (asks-All (parts_of es) false) ∙ h))
 
 only_Any : (es : List ((c : Cond) × IsOnlyEqual c)) → IsOnlyEqual (Any (parts_of es))
-only_Any es true h = ap all_equalities (form_of-Any (parts_of es) true) ∙ all-combinations (forms true (parts_of es)) (only_parts true es (sym (asks-Any (parts_of es) true) ∙ h))
+only_Any es true h = ap all_equalities (form_of-Any (parts_of es) true) ∙ all-combined (forms true (parts_of es)) (only_parts true es (sym (asks-Any (parts_of es) true) ∙ h))
 only_Any es false h = ap all_equalities (form_of-Any (parts_of es) false) ∙ all-joined (forms false (parts_of es)) (only_parts false es (sym (asks-Any (parts_of es) false) ∙ h))
 
 pub only_equalities : (c : Cond) → asks_equalities c false ≡ true → all_equalities (form_of c false) ≡ true

@@ -7,7 +7,7 @@ use Rattle.su_csv.specs.Written.{text_of}
 use Rattle.su_schema.specs.SchemaValue.{SchemaValue}
 use Rattle.su_schema.specs.Entries.{attribute_names}
 use Rattle.su_lex.specs.Wordings.{in_parens, numbers_text}
-use Rattle.su_query.specs.ShownParts.{listed, value_symbols}
+use Rattle.su_query.specs.ShownParts.{values_symbols}
 use Rattle.su_compare.specs.declared.verdicts.Found.{Found}
 use Rattle.su_compare.specs.declared.verdicts.Reason.{Reason}
 use Rattle.su_compare.specs.declared.verdicts.Verdict.{Verdict}
@@ -28,7 +28,7 @@ counts_text term rows = codes "  term " ++ decimal term ++ codes "\nrows " ++ de
 
 -- the row that is none of the other query
 abbrev pub head_text : List Value → List ℕ
-head_text head = codes "row " ++ spaced (in_parens (listed value_symbols head)) ++ codes "\n"
+head_text head = codes "row " ++ spaced (in_parens (values_symbols head)) ++ codes "\n"
 
 -- the rows between the two, as CSV over all attributes
 abbrev pub apart_text : SchemaValue → ℕ → List (List Value) → List Value → List ℕ

@@ -6,25 +6,12 @@ ghost use Rattle.su_compare.specs.Texts.{by_text, reason_line, counts_text, head
 
 use crate::verdicts::{Found, Reason, Verdict};
 use std::alloc::Global;
+use su_base::parts::{push, push_number};
 use su_base::{List, NoMemory, Row, Str};
 use su_csv::write_behind;
 use su_lex::push_spaced;
 use su_query::push_row as push_row_symbols;
 use su_schema::Schema;
-
-fn push(out: &mut Vec<u8>, part: &str) -> Result<(), NoMemory>
-    ensures { OnOk result (out.new.items ≡ out.old.items ++ part.now) }
-{
-    out.extend_from_slice(part.as_bytes())?;
-    Ok(())
-}
-
-fn push_number(alloc: Global, out: &mut Vec<u8>, number: u64) -> Result<(), NoMemory>
-    ensures { OnOk result (out.new.items ≡ out.old.items ++ decimal number) }
-{
-    let digits = number.to_string(alloc)?;
-    push(out, digits.as_str())
-}
 
 /// Each number behind a space.
 fn push_numbers(alloc: Global, out: &mut Vec<u8>, numbers: &[u8]) -> Result<(), NoMemory>

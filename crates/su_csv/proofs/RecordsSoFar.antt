@@ -1,5 +1,5 @@
 -- A file, record after record.
-use Rattle.std.proofs.Common.{◌≡◌, ◌∙◌, ◌+◌, ◌&&◌, ◌==◌, ℕ, suc, Bool, true, false, not, List, [], ◌∷◌, ◌++◌, length, drop, get_or, Some, Result, Ok, Err, refl, sym, ap, arith, append_assoc, add-one, leb}
+use Rattle.std.proofs.Common.{◌≡◌, ◌∙◌, ◌+◌, ◌&&◌, ◌==◌, ℕ, suc, Bool, true, false, List, [], ◌∷◌, ◌++◌, length, drop, get_or, Some, Result, Ok, Err, refl, sym, ap, arith, append_assoc, add-one, leb}
 use Rattle.std.proofs.lemmas.List.{append-nil}
 use Rattle.std.proofs.lemmas.Bool.{le-leb}
 use Rattle.std.specs.Cmp.Lexicographic.{pointwise}
@@ -66,7 +66,3 @@ module _ (columns : List Column) (fields : List (List ℕ)) (i : ℕ) (column : 
 
   pub other-name : (all : Bool) → pointwise ◌==◌ field column.name ≡ false → all ≡ is_header (drop i columns) (drop i fields) → all ≡ false
   other-name all other h = rw (drop-at columns i column at-column, drop-at fields i field at-field, other) at h
-
-pub not-true : (b : Bool) → not b ≡ true → b ≡ false
-not-true true h = absurd (cc h)
-not-true false h = refl

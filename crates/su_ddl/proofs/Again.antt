@@ -11,6 +11,7 @@ use Rattle.std.proofs.lemmas.List.Elements.{recursion_from_All}
 use Rattle.std.proofs.lemmas.Option.{slice_get_within, slice_get-map}
 use Rattle.su_base.specs.Name.{IsName}
 use Rattle.su_base.specs.declared.values.Column.{Column}
+use Rattle.su_base.proofs.Items.{All-middle, AllByRecursion-weaker}
 use Rattle.su_fd.specs.declared.Fd.{Fd as Dependency}
 use Rattle.su_schema.specs.declared.definitions.Pair.{Pair}
 use Rattle.su_schema.specs.declared.definitions.Definition.TheVariants.{Object}
@@ -30,7 +31,7 @@ use Rattle.su_schema.proofs.PairsSoFar.{columns_there, first_failing-passed}
 use Rattle.su_ddl.specs.Files.{Reads, no_definitions}
 use Rattle.su_ddl.specs.ShownDefinitions.{name_at, names_in, pair_of, attribute_definition, relation_definition, object_definition, fd_definition, maximal_definition, definitions_of}
 use Rattle.su_ddl.specs.Shown.{schema_text}
-use Rattle.su_ddl.proofs.Named.{middle, weaker, step, fresh, apart_pass, not_unknown, number_at, IsSide, side}
+use Rattle.su_ddl.proofs.Named.{step, fresh, apart_pass, not_unknown, number_at, IsSide, side}
 use Rattle.su_ddl.proofs.Linked.{pair_at, all_pass, links_are, attributes_given, columns_given, ascending_again}
 use Rattle.su_ddl.proofs.Steps.{Builds, builds_append, builds_all, lines_read}
 
@@ -48,7 +49,7 @@ new_entry name all done rest x are e =
     fresh (map name done) (map name rest) (name x) (subst (AllPairs (λ a b. a ≢ b)) (ap (map name) e ∙ map-append name done (x ∷ rest)) are.apart)
 
 named_entry : {X : Type 0} (name : X → List ℕ) (all done rest : List X) (x : X) (P : List ℕ → Type 0) → All P (map name all) → all ≡ done ++ x ∷ rest → P (name x)
-named_entry name all done rest x P named e = middle P (map name done) (map name rest) (name x) (subst (All P) (ap (map name) e ∙ map-append name done (x ∷ rest)) named)
+named_entry name all done rest x P named e = All-middle P (map name done) (name x) (map name rest) (subst (All P) (ap (map name) e ∙ map-append name done (x ∷ rest)) named)
 
 -- ---- pairs of an object
 
@@ -109,7 +110,7 @@ module _ (s : SchemaValue) (valid : IsValid s) where
   one_relation : (done rest : List RelationEntry) (x : RelationEntry) → s.relations ≡ done ++ x ∷ rest
       → IsWellNamed (relation_definition x) × (applied (with_relations done) (relation_definition x) ≡ Ok (with_relations (done ++ x ∷ [])))
   one_relation done rest x e =
-      let is : IsRelationEntry x = middle IsRelationEntry done rest x (subst (All IsRelationEntry) e valid.relations) in
+      let is : IsRelationEntry x = All-middle IsRelationEntry done x rest (subst (All IsRelationEntry) e valid.relations) in
       let new : is_known (relation_names (with_relations done)) x.name ≡ false = new_entry (λ (a : RelationEntry). a.name) s.relations done rest x valid.relation_names e in
       let few : nat_le 64 (length done) ≡ false = room 64 s.relations done rest x valid.few_relations e in
       let wide = is.few in
@@ -124,7 +125,7 @@ module _ (s : SchemaValue) (valid : IsValid s) where
       → IsWellNamed (object_definition s x) × (applied (with_objects done) (object_definition s x) ≡ Ok (with_objects (done ++ x ∷ [])))
   one_object done rest x e =
       let t = with_objects done in
-      let is : IsObject s x = middle (IsObject s) done rest x (subst (All (IsObject s)) e valid.objects) in
+      let is : IsObject s x = All-middle (IsObject s) done x rest (subst (All (IsObject s)) e valid.objects) in
       let columns = columns_at s x.relation in
       let columns_is : columns ≡ is.relation.columns = columns_there s x.relation is.relation.columns (slice_get-map (λ (r : RelationEntry). r.columns) s.relations x.relation ∙ ap (option_map (λ (r : RelationEntry). r.columns)) is.stored) in
       let stored : IsRelationEntry is.relation = All-at IsRelationEntry s.relations x.relation is.relation valid.relations is.stored in
@@ -135,7 +136,7 @@ module _ (s : SchemaValue) (valid : IsValid s) where
       let number : number_of (relation_names s) name ≡ x.relation = number_at (relation_names s) valid.relation_names.apart x.relation within in
       let pairs = map (pair_at s columns) x.links in
       let below : AllByRecursion (λ l. l.attribute < length s.attributes) x.links =
-      weaker (IsLink s columns) (λ l. l.attribute < length s.attributes) (λ l k. slice_get_within s.attributes l.attribute k.0 k.2) x.links (recursion_from_All (IsLink s columns) x.links joined) in
+      AllByRecursion-weaker (IsLink s columns) (λ l. l.attribute < length s.attributes) x.links (λ l k. slice_get_within s.attributes l.attribute k.0 k.2) (recursion_from_All (IsLink s columns) x.links joined) in
       let pairs_are : filter_map (pair_of s x) (range_with_len 0 (length s.attributes)) ≡ pairs =
       pairs_found s x (range_with_len 0 (length s.attributes)) ∙ ap (map (pair_at s columns)) (ascending_again (length s.attributes) x.links is.ascending below) in
       let new : is_known (object_names t) x.name ≡ false = new_entry (λ (a : ObjectEntry). a.name) s.objects done rest x valid.object_names e in
@@ -164,7 +165,7 @@ module _ (s : SchemaValue) (valid : IsValid s) where
   one_fd : (done rest : List Dependency) (x : Dependency) → s.fds ≡ done ++ x ∷ rest
       → IsWellNamed (fd_definition s x) × (applied (with_fds done) (fd_definition s x) ≡ Ok (with_fds (done ++ x ∷ [])))
   one_fd done rest x e =
-      let is : IsDependency s x = middle (IsDependency s) done rest x (subst (All (IsDependency s)) e valid.fds) in
+      let is : IsDependency s x = All-middle (IsDependency s) done x rest (subst (All (IsDependency s)) e valid.fds) in
       let l = attribute_side x.left is.left in
       let r = attribute_side x.right is.right in
       let names = attribute_names s in
@@ -179,7 +180,7 @@ module _ (s : SchemaValue) (valid : IsValid s) where
   one_declared : (done rest : List (FinSet nat_cmp)) (x : FinSet nat_cmp) → s.declared ≡ done ++ x ∷ rest
       → IsWellNamed (maximal_definition s x) × (applied (with_declared done) (maximal_definition s x) ≡ Ok (with_declared (done ++ x ∷ [])))
   one_declared done rest x e =
-      let is : IsSomeBelow (length s.objects) x = middle (IsSomeBelow (length s.objects)) done rest x (subst (All (IsSomeBelow (length s.objects))) e valid.declared) in
+      let is : IsSomeBelow (length s.objects) x = All-middle (IsSomeBelow (length s.objects)) done x rest (subst (All (IsSomeBelow (length s.objects))) e valid.declared) in
       let m = side (object_names s) x valid.object_names (subst (λ (n : ℕ). IsSomeBelow n x) (sym (length-map s.objects (λ o. o.name))) is) in
       let few : nat_le 64 (length done) ≡ false = room 64 s.declared done rest x valid.few_declared e in
       let none : first_failing (checks (with_declared done) (maximal_definition s x)) ≡ None = step _ _ _ few m.pass in

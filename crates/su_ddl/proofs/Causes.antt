@@ -3,6 +3,7 @@ use Rattle.std.proofs.Common.{◌≡◌, ◌≢◌, ◌⊎◌, inl, inr, ◌+◌
 use Rattle.std.specs.Prelude.{if◌then◌else◌, Result, Ok, Err, IfErr}
 use Rattle.std.specs.List.{AllByRecursion}
 use Rattle.su_base.specs.declared.values.Column.{Column}
+use Rattle.su_base.proofs.Items.{AllByRecursion-append}
 use Rattle.su_schema.specs.declared.faults.SchemaFault.{SchemaFault}
 use Rattle.su_schema.specs.declared.faults.SchemaFault.TheVariants.{NoMemory as Wanting}
 use Rattle.su_schema.specs.declared.definitions.Pair.{Pair}
@@ -21,10 +22,6 @@ use Rattle.su_ddl.specs.Files.{IsAtFault, ReadsFrom, Reads, no_definitions}
 abbrev IsNamed : Check → Type 0
 IsNamed check = check.fault ≢ Wanting
 
-both : (xs ys : List Check) → AllByRecursion IsNamed xs → AllByRecursion IsNamed ys → AllByRecursion IsNamed (xs ++ ys)
-both [] ys a c = c
-both (x ∷ xs) ys a c = (a.0, both xs ys a.1 c)
-
 apart_named : (before names : List (List ℕ)) → AllByRecursion IsNamed (apart_checks before names)
 apart_named before [] = tt
 apart_named before (n ∷ names) = (λ e. cc, apart_named (before ++ n ∷ []) names)
@@ -41,7 +38,7 @@ all_named : (schema : SchemaValue) (d : Definition) → AllByRecursion IsNamed (
 all_named schema (Attribute name kind) = (λ e. cc, (λ e. cc, tt))
 all_named schema (Relation name columns) = (λ e. cc, (λ e. cc, (λ e. cc, apart_named [] (column_names columns))))
 all_named schema (Object name relation pairs) = (λ e. cc, (λ e. cc, (λ e. cc, pairs_named schema (columns_at schema (number_of (relation_names schema) relation)) [] pairs)))
-all_named schema (Fd left right) = (λ e. cc, both (name_checks (attribute_names schema) [] left) (name_checks (attribute_names schema) [] right) (names_named (attribute_names schema) [] left) (names_named (attribute_names schema) [] right))
+all_named schema (Fd left right) = (λ e. cc, AllByRecursion-append IsNamed (name_checks (attribute_names schema) [] left) (name_checks (attribute_names schema) [] right) (names_named (attribute_names schema) [] left) (names_named (attribute_names schema) [] right))
 all_named schema (Maximal objects) = (λ e. cc, names_named (object_names schema) [] objects)
 
 first_named : (cs : List Check) (f : SchemaFault) → AllByRecursion IsNamed cs → first_failing cs ≡ Some f → f ≢ Wanting

@@ -1,18 +1,17 @@
 -- Lines and lists, one more at a time.
 use Rattle.std.proofs.Common.{Option, Some, None, ◌≡◌, ◌<◌, ◌≤◌, ◌+◌, ℕ, Bool, true, false, cond, List, [], ◌∷◌, ◌++◌, length, map, filter, take, get_or, slice_get, refl, ap, sym, ◌∙◌, arith, subst, zero, suc, append_assoc, append-nil, option_map, drop}
 use Rattle.std.specs.List.{range_with_len, filter_map, AllByRecursion, cons_option}
-use Rattle.std.proofs.lemmas.List.{take_all, take_more, take-append-drop}
+use Rattle.std.proofs.lemmas.List.{map-append, take_all, take_more, take-append-drop}
+use Rattle.std.proofs.lemmas.Grind.{flat_map-append}
 use Rattle.std.proofs.lemmas.List.Elements.{filter_map-append, recursion_from_All}
 use Rattle.std.proofs.lemmas.Option.{get_or_from_slice_get, slice_get_within, slice_get-map, slice_get-get_or, slice_get_past}
 use Rattle.su_base.specs.declared.values.Column.{Column}
 use Rattle.su_lex.specs.declared.meaning.Symbol.{Symbol}
-use Rattle.su_lex.specs.declared.meaning.Symbol.TheVariants.{Word, Sign}
+use Rattle.su_lex.specs.declared.meaning.Symbol.TheVariants.{Sign}
 use Rattle.su_lex.specs.declared.signs.Sign.TheVariants as sign
 use Rattle.su_lex.specs.AddedFronts.{AddsFront}
-use Rattle.su_lex.specs.Names.{more_names}
 use Rattle.su_schema.specs.declared.definitions.Definition.{Definition}
-use Rattle.su_lex.specs.Wordings.{kind_symbol}
-use Rattle.su_ddl.specs.Grammar.{more_columns}
+use Rattle.su_ddl.specs.inside.Columns.{behind_commas}
 use Rattle.su_schema.specs.Known.{columns_at}
 use Rattle.su_ddl.specs.Shown.{line_of, lines_of}
 use Rattle.su_ddl.specs.ShownDefinitions.{name_at, pair_of}
@@ -21,62 +20,52 @@ use Rattle.su_schema.specs.declared.definitions.Pair.{Pair}
 use Rattle.su_schema.specs.SchemaValue.{SchemaValue, ObjectEntry}
 use Rattle.su_schema.specs.Valid.{IsObject, IsValid}
 use Rattle.su_schema.specs.Entries.{column_names, attribute_names}
-use Rattle.su_base.proofs.Items.{map-equal, range-push_zero}
+use Rattle.su_base.proofs.Items.{flat_map-push, map-equal, range-push_zero}
 
 -- ---- two pieces behind one another
 
 pub chain : {A : Type 0} (o o1 o2 x y : List A) → o1 ≡ o ++ x → o2 ≡ o1 ++ y → o2 ≡ o ++ (x ++ y)
 chain o o1 o2 x y e f = f ∙ ap (λ v. v ++ y) e ∙ append_assoc o x y
 
--- ---- lists of names and columns
+-- ---- lists of names and columns: each item by its symbols, behind a comma
 
-more_names_push : (ns : List (List ℕ)) (n : List ℕ) → more_names (ns ++ n ∷ []) ≡ more_names ns ++ Sign sign.Comma ∷ Word n ∷ []
-more_names_push [] n = refl
-more_names_push (m ∷ ns) n = ap (λ x. Sign sign.Comma ∷ Word m ∷ x) (more_names_push ns n)
+module _ {X : Type 0} (f : X → List Symbol) where
+  items_append : (xs ys : List X) → behind_commas (map f (xs ++ ys)) ≡ behind_commas (map f xs) ++ behind_commas (map f ys)
+  items_append xs ys = ap behind_commas (map-append f xs ys) ∙ flat_map-append (λ symbols. Sign sign.Comma ∷ symbols) (map f xs) (map f ys)
 
-pub one_name : (ns : List (List ℕ)) (i : ℕ) (n none : List ℕ) (start out o1 o2 : List Symbol) → i < length ns → n ≡ get_or ns i none → out ≡ start ++ more_names (take i ns)
-    → o1 ≡ out ++ Sign sign.Comma ∷ [] → o2 ≡ o1 ++ Word n ∷ [] → o2 ≡ start ++ more_names (take (i + 1) ns)
-one_name ns i n none start out o1 o2 l at so e f =
-    let more : take (i + 1) ns ≡ take i ns ++ n ∷ [] = take_more ns i none l ∙ ap (λ x. take i ns ++ x ∷ []) (sym at) in
-    chain start out o2 (more_names (take i ns)) (Sign sign.Comma ∷ Word n ∷ []) so (chain out o1 o2 (Sign sign.Comma ∷ []) (Word n ∷ []) e f)
-    ∙ ap (λ x. start ++ x) (sym (more_names_push (take i ns) n) ∙ ap more_names (sym more))
+  items_push : (xs : List X) (x : X) → behind_commas (map f (xs ++ x ∷ [])) ≡ behind_commas (map f xs) ++ Sign sign.Comma ∷ f x
+  items_push xs x = ap behind_commas (map-append f xs (x ∷ [])) ∙ flat_map-push (λ symbols. Sign sign.Comma ∷ symbols) (map f xs) (f x)
 
-more_names_append : (ms ns : List (List ℕ)) → more_names (ms ++ ns) ≡ more_names ms ++ more_names ns
-more_names_append [] ns = refl
-more_names_append (m ∷ ms) ns = ap (λ x. Sign sign.Comma ∷ Word m ∷ x) (more_names_append ms ns)
+  one_more : (xs : List X) (i : ℕ) (x none : X) → i < length xs → x ≡ get_or xs i none → take (i + 1) xs ≡ take i xs ++ x ∷ []
+  one_more xs i x none l at = take_more xs i none l ∙ ap (λ y. take i xs ++ y ∷ []) (sym at)
 
-more_names_parts : (ns : List (List ℕ)) (i : ℕ) → more_names ns ≡ more_names (take i ns) ++ more_names (drop i ns)
-more_names_parts ns i = ap more_names (sym (take-append-drop i ns)) ∙ more_names_append (take i ns) (drop i ns)
+  items_parts : (xs : List X) (i : ℕ) → behind_commas (map f xs) ≡ behind_commas (map f (take i xs)) ++ behind_commas (map f (drop i xs))
+  items_parts xs i = ap (λ ys. behind_commas (map f ys)) (sym (take-append-drop i xs)) ∙ items_append (take i xs) (drop i xs)
 
--- so many names are a front
-pub names_front : (ns : List (List ℕ)) (i : ℕ) (start out new : List Symbol) → out ≡ start ++ more_names (take i ns) → new ≡ out → AddsFront start new (more_names ns)
-names_front ns i start out new so e = record { front = more_names (take i ns); rest = more_names (drop i ns); whole = more_names_parts ns i; added = e ∙ so }
+  pub one_item : (xs : List X) (i : ℕ) (x none : X) (start out o1 o2 : List Symbol) → i < length xs → x ≡ get_or xs i none → out ≡ start ++ behind_commas (map f (take i xs))
+      → o1 ≡ out ++ Sign sign.Comma ∷ [] → o2 ≡ o1 ++ f x → o2 ≡ start ++ behind_commas (map f (take (i + 1) xs))
+  one_item xs i x none start out o1 o2 l at so e g =
+      chain start out o2 (behind_commas (map f (take i xs))) (Sign sign.Comma ∷ f x) so (chain out o1 o2 (Sign sign.Comma ∷ []) (f x) e g)
+      ∙ ap (λ y. start ++ y) (sym (items_push (take i xs) x) ∙ ap (λ ys. behind_commas (map f ys)) (sym (one_more xs i x none l at)))
 
--- and so they are with the comma behind them
-pub comma_front : (ns : List (List ℕ)) (i : ℕ) (n none : List ℕ) (start out o1 new : List Symbol) → i < length ns → n ≡ get_or ns i none → out ≡ start ++ more_names (take i ns)
-    → o1 ≡ out ++ Sign sign.Comma ∷ [] → new ≡ o1 → AddsFront start new (more_names ns)
-comma_front ns i n none start out o1 new l at so e same =
-    let more : take (i + 1) ns ≡ take i ns ++ n ∷ [] = take_more ns i none l ∙ ap (λ x. take i ns ++ x ∷ []) (sym at) in
-    let next : more_names (take (i + 1) ns) ≡ (more_names (take i ns) ++ Sign sign.Comma ∷ []) ++ Word n ∷ [] =
-    ap more_names more ∙ more_names_push (take i ns) n ∙ sym (append_assoc (more_names (take i ns)) (Sign sign.Comma ∷ []) (Word n ∷ [])) in
-    record {
-      front = more_names (take i ns) ++ Sign sign.Comma ∷ [];
-      rest = Word n ∷ more_names (drop (i + 1) ns);
-      whole = more_names_parts ns (i + 1) ∙ ap (λ x. x ++ more_names (drop (i + 1) ns)) next
-          ∙ append_assoc (more_names (take i ns) ++ Sign sign.Comma ∷ []) (Word n ∷ []) (more_names (drop (i + 1) ns));
-      added = same ∙ chain start out o1 (more_names (take i ns)) (Sign sign.Comma ∷ []) so e;
-    }
+  -- so many items are a front
+  pub items_front : (xs : List X) (i : ℕ) (start out new : List Symbol) → out ≡ start ++ behind_commas (map f (take i xs)) → new ≡ out → AddsFront start new (behind_commas (map f xs))
+  items_front xs i start out new so e =
+      record { front = behind_commas (map f (take i xs)); rest = behind_commas (map f (drop i xs)); whole = items_parts xs i; added = e ∙ so }
 
-more_columns_push : (cs : List Column) (c : Column) → more_columns (cs ++ c ∷ []) ≡ more_columns cs ++ Sign sign.Comma ∷ Word c.name ∷ kind_symbol c.kind ∷ []
-more_columns_push [] c = refl
-more_columns_push (d ∷ cs) c = ap (λ x. Sign sign.Comma ∷ Word d.name ∷ kind_symbol d.kind ∷ x) (more_columns_push cs c)
-
-pub one_column : (cs : List Column) (i : ℕ) (c none : Column) (start out o1 o2 : List Symbol) → i < length cs → c ≡ get_or cs i none → out ≡ start ++ more_columns (take i cs)
-    → o1 ≡ out ++ Sign sign.Comma ∷ [] → o2 ≡ o1 ++ Word c.name ∷ kind_symbol c.kind ∷ [] → o2 ≡ start ++ more_columns (take (i + 1) cs)
-one_column cs i c none start out o1 o2 l at so e f =
-    let more : take (i + 1) cs ≡ take i cs ++ c ∷ [] = take_more cs i none l ∙ ap (λ x. take i cs ++ x ∷ []) (sym at) in
-    chain start out o2 (more_columns (take i cs)) (Sign sign.Comma ∷ Word c.name ∷ kind_symbol c.kind ∷ []) so (chain out o1 o2 (Sign sign.Comma ∷ []) (Word c.name ∷ kind_symbol c.kind ∷ []) e f)
-    ∙ ap (λ x. start ++ x) (sym (more_columns_push (take i cs) c) ∙ ap more_columns (sym more))
+  -- and so they are with the comma behind them
+  pub comma_front : (xs : List X) (i : ℕ) (x none : X) (start out o1 new : List Symbol) → i < length xs → x ≡ get_or xs i none → out ≡ start ++ behind_commas (map f (take i xs))
+      → o1 ≡ out ++ Sign sign.Comma ∷ [] → new ≡ o1 → AddsFront start new (behind_commas (map f xs))
+  comma_front xs i x none start out o1 new l at so e same =
+      let next : behind_commas (map f (take (i + 1) xs)) ≡ (behind_commas (map f (take i xs)) ++ Sign sign.Comma ∷ []) ++ f x =
+      ap (λ ys. behind_commas (map f ys)) (one_more xs i x none l at) ∙ items_push (take i xs) x ∙ sym (append_assoc (behind_commas (map f (take i xs))) (Sign sign.Comma ∷ []) (f x)) in
+      record {
+        front = behind_commas (map f (take i xs)) ++ Sign sign.Comma ∷ [];
+        rest = f x ++ behind_commas (map f (drop (i + 1) xs));
+        whole = items_parts xs (i + 1) ∙ ap (λ y. y ++ behind_commas (map f (drop (i + 1) xs))) next
+            ∙ append_assoc (behind_commas (map f (take i xs)) ++ Sign sign.Comma ∷ []) (f x) (behind_commas (map f (drop (i + 1) xs)));
+        added = same ∙ chain start out o1 (behind_commas (map f (take i xs))) (Sign sign.Comma ∷ []) so e;
+      }
 
 -- ---- lines
 
@@ -126,15 +115,11 @@ filter_push p (y ∷ xs) x = elim (p y) as (λ v. p y ≡ v → filter p (y ∷ 
   | false ↦ λ e. rw e (filter_push p xs x)
 ] refl
 
-map_push : {A B : Type 0} (f : A → B) (xs ys : List A) → map f (xs ++ ys) ≡ map f xs ++ map f ys
-map_push f [] ys = refl
-map_push f (x ∷ xs) ys = ap (λ v. f x ∷ v) (map_push f xs ys)
-
 pub one_wanted : {B : Type 0} (p : ℕ → Bool) (f : ℕ → B) (n : ℕ) (x : B) (names next : List B) → f n ≡ x → names ≡ map f (filter p (range_with_len 0 n)) → next ≡ names ++ cond (p n) (x ∷ []) []
     → next ≡ map f (filter p (range_with_len 0 (n + 1)))
 one_wanted p f n x names next at so e =
     let one : cond (p n) (x ∷ []) [] ≡ map f (cond (p n) (n ∷ []) []) = elim (p n) as (λ v. cond v (x ∷ []) [] ≡ map f (cond v (n ∷ []) [])) [ true ↦ ap (λ y. y ∷ []) (sym at) | false ↦ refl ] in
-    e ∙ ap (λ v. v ++ cond (p n) (x ∷ []) []) so ∙ ap (λ v. map f (filter p (range_with_len 0 n)) ++ v) one ∙ sym (map_push f (filter p (range_with_len 0 n)) (cond (p n) (n ∷ []) []))
+    e ∙ ap (λ v. v ++ cond (p n) (x ∷ []) []) so ∙ ap (λ v. map f (filter p (range_with_len 0 n)) ++ v) one ∙ sym (map-append f (filter p (range_with_len 0 n)) (cond (p n) (n ∷ []) []))
     ∙ ap (map f) (sym (filter_push p (range_with_len 0 n) n) ∙ ap (filter p) (sym (range-push_zero n)))
 
 -- ---- entries of a schema

@@ -10,6 +10,7 @@ use Rattle.su_base.specs.Name.{IsName}
 use Rattle.su_base.specs.declared.values.Kind.{Kind}
 use Rattle.su_base.specs.declared.values.Kind.TheVariants.{Int, Text}
 use Rattle.su_base.specs.declared.values.Column.{Column}
+use Rattle.su_base.proofs.Items.{All-middle, AllByRecursion-weaker}
 use Rattle.su_schema.specs.declared.definitions.Pair.{Pair}
 use Rattle.su_schema.specs.declared.links.Link.{Link}
 use Rattle.su_schema.specs.SchemaValue.{SchemaValue}
@@ -20,9 +21,9 @@ use Rattle.su_schema.specs.NameChecks.{first_failing}
 use Rattle.su_schema.specs.Known.{is_known, number_of, attribute_kind, column_kind}
 use Rattle.su_schema.specs.Checks.{pair_checks}
 use Rattle.su_schema.specs.Definitions.{link_of, links_of, ascending}
-use Rattle.su_schema.specs.WellNamed.{AreGiven}
+use Rattle.su_base.specs.Name.{AreNames}
 use Rattle.su_ddl.specs.ShownDefinitions.{name_at}
-use Rattle.su_ddl.proofs.Named.{middle, before, weaker, step, not_unknown, number_at, other_names}
+use Rattle.su_ddl.proofs.Named.{before, step, not_unknown, number_at, other_names}
 
 -- ---- links in ascending order
 
@@ -59,7 +60,7 @@ all_taken zero a (l ∷ ls) rises below = absurd (omega (arith, rises.0, below.0
 all_taken (suc m) a [] rises below = none_taken a (suc m)
 all_taken (suc m) a (l ∷ ls) rises below =
     let up : (x : Link) → x.attribute < a + suc m → x.attribute < a + 1 + m = λ x h. omega (arith, h) in
-    let below' : AllByRecursion (λ x. x.attribute < a + 1 + m) (l ∷ ls) = weaker (λ x. x.attribute < a + suc m) (λ x. x.attribute < a + 1 + m) up (l ∷ ls) below in
+    let below' : AllByRecursion (λ x. x.attribute < a + 1 + m) (l ∷ ls) = AllByRecursion-weaker (λ x. x.attribute < a + suc m) (λ x. x.attribute < a + 1 + m) (l ∷ ls) up below in
     elim (l.attribute == a) as (λ v. (l.attribute == a) ≡ v → taken (l ∷ ls) a (suc m) ≡ l ∷ ls) [
       | true ↦ λ h.
           let at : l.attribute ≡ a = grind (arith, nat_tests, h) in
@@ -86,7 +87,7 @@ all_low (l ∷ ls) = (omega arith, all_low ls)
 
 pub ascending_again : (n : ℕ) (links : List Link) → AllPairs (λ k l. k.attribute < l.attribute) links → AllByRecursion (λ l. l.attribute < n) links → ascending n links ≡ links
 ascending_again n links rising below =
-    all_taken n 0 links (rises_from 0 links (all_low links) rising) (weaker (λ l. l.attribute < n) (λ l. l.attribute < 0 + n) (λ l h. omega (arith, h)) links below)
+    all_taken n 0 links (rises_from 0 links (all_low links) rising) (AllByRecursion-weaker (λ l. l.attribute < n) (λ l. l.attribute < 0 + n) links (λ l h. omega (arith, h)) below)
 
 -- ---- pairs by numbers
 
@@ -139,12 +140,12 @@ module _ (schema : SchemaValue) (columns : List Column) where
           let attributes = attribute_names schema in
           let names = column_names columns in
           let split : All (IsLink schema columns) (done ++ l ∷ rest) = subst (All (IsLink schema columns)) e all_links in
-          let is : IsLink schema columns l = middle (IsLink schema columns) done rest l split in
+          let is : IsLink schema columns l = All-middle (IsLink schema columns) done l rest split in
           let a_in = attribute_within l is in
           let c_in = column_within l is in
           let lower = before (λ k m. k.attribute < m.attribute) done rest l (subst (AllPairs (λ k m. k.attribute < m.attribute)) e rising) in
           let others : AllByRecursion (λ k. (k.attribute < length attributes) × (k.attribute ≢ l.attribute)) done =
-          weaker (λ k. k.attribute < l.attribute) (λ k. (k.attribute < length attributes) × (k.attribute ≢ l.attribute)) (λ k h. (omega (arith, h, a_in), λ s. omega (arith, h, s))) done lower in
+          AllByRecursion-weaker (λ k. k.attribute < l.attribute) (λ k. (k.attribute < length attributes) × (k.attribute ≢ l.attribute)) done (λ k h. (omega (arith, h, a_in), λ s. omega (arith, h, s))) lower in
           let columns_before = before (λ k m. k.column ≢ m.column) done rest l (subst (AllPairs (λ k m. k.column ≢ m.column)) e apart) in
           let columns_in : AllByRecursion (IsLink schema columns) done = links_before done (l ∷ rest) split in
           let fresh_a : is_known (map (λ p. p.attribute) (map pair_at done)) (pair_at l).attribute ≡ false =
@@ -174,17 +175,17 @@ module _ (schema : SchemaValue) (columns : List Column) where
       links_are =
           let each = recursion_from_All (IsLink schema columns) links all_links in
           let within : AllByRecursion (λ l. l.attribute < length schema.attributes) links =
-          weaker (IsLink schema columns) (λ l. l.attribute < length schema.attributes) (λ l is. slice_get_within schema.attributes l.attribute is.0 is.2) links each in
+          AllByRecursion-weaker (IsLink schema columns) (λ l. l.attribute < length schema.attributes) links (λ l is. slice_get_within schema.attributes l.attribute is.0 is.2) each in
           ap (ascending (length schema.attributes)) (links_again links each) ∙ ascending_again (length schema.attributes) links rising within
 
-      pub attributes_given : 0 < length links → AreGiven (map (λ p. p.attribute) (map pair_at links))
+      pub attributes_given : 0 < length links → AreNames (map (λ p. p.attribute) (map pair_at links))
       attributes_given some = record {
         some = rw (length-map, length-map) some;
         named = All-map IsName (λ p. p.attribute) (map pair_at links)
             (All-map (λ p. IsName p.attribute) pair_at links (All-weaker (IsLink schema columns) (λ l. IsName (pair_at l).attribute) (λ l is. attributes_are.named l.attribute [] (attribute_within l is)) links all_links));
       }
 
-      pub columns_given : 0 < length links → AreGiven (map (λ p. p.column) (map pair_at links))
+      pub columns_given : 0 < length links → AreNames (map (λ p. p.column) (map pair_at links))
       columns_given some = record {
         some = rw (length-map, length-map) some;
         named = All-map IsName (λ p. p.column) (map pair_at links)

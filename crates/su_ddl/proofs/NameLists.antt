@@ -1,9 +1,9 @@
 -- Names and columns as the grammar lists them are read in one way.
-use Rattle.std.proofs.Common.{◌≡◌, ℕ, Bool, true, false, List, [], ◌∷◌, ◌++◌, ◌==◌, refl, ap, sym, ◌∙◌, arith, codes, append-nil}
+use Rattle.std.proofs.Common.{◌≡◌, ℕ, Bool, true, false, List, [], ◌∷◌, ◌++◌, ◌==◌, map, refl, ap, sym, ◌∙◌, subst, arith, codes, append-nil}
 use Rattle.std.specs.List.{AllByRecursion}
 use Rattle.std.proofs.lemmas.Bool.{false≢true}
-use Rattle.std.proofs.lemmas.List.Elements.{All-from_recursion, recursion_from_All}
-use Rattle.su_base.specs.Name.{IsName}
+use Rattle.std.proofs.lemmas.List.{map-append}
+use Rattle.su_base.specs.Name.{IsName, AreNames}
 use Rattle.su_base.specs.declared.values.Kind.{Kind}
 use Rattle.su_base.specs.declared.values.Kind.TheVariants as kind
 use Rattle.su_base.specs.declared.values.Column.{Column}
@@ -11,13 +11,12 @@ use Rattle.su_lex.specs.declared.meaning.Symbol.{Symbol}
 use Rattle.su_lex.specs.declared.meaning.Symbol.TheVariants.{Word, Sign}
 use Rattle.su_lex.specs.declared.signs.Sign.TheVariants as sign
 use Rattle.su_lex.specs.Blanks.{begins}
-use Rattle.su_lex.specs.Names.{Begins, AreNames, names_symbols}
-use Rattle.su_lex.proofs.Listed.{SameNames, names_unique}
+use Rattle.su_lex.specs.Names.{Begins, names_symbols}
+use Rattle.su_lex.proofs.Listed.{SameNames, are_push, each_name, names_unique}
 use Rattle.su_schema.specs.Entries.{column_names}
-use Rattle.su_schema.specs.WellNamed.{AreGiven}
 use Rattle.su_lex.specs.Wordings.{kind_symbol}
-use Rattle.su_ddl.specs.Grammar.{more_columns, columns_symbols, in_parens}
-use Rattle.su_ddl.specs.inside.Columns.{AreColumns}
+use Rattle.su_ddl.specs.Grammar.{column_symbols, columns_symbols, in_parens}
+use Rattle.su_ddl.specs.inside.Columns.{behind_commas}
 
 -- ---- words that differ
 
@@ -41,14 +40,6 @@ no_comma_end h = let e = h.1 in cc
 
 -- ---- lists of names
 
-pub are_given : (names : List (List ℕ)) → AreNames names → AreGiven names
-are_given [] are = absurd are
-are_given (n ∷ ns) are = record { some = omega arith; named = All-from_recursion IsName (n ∷ ns) (are.0, are.1) }
-
-pub given_are : (names : List (List ℕ)) → AreGiven names → AreNames names
-given_are [] given = absurd (omega (arith, given.some))
-given_are (n ∷ ns) given = let all = recursion_from_All IsName (n ∷ ns) given.named in (all.0, all.1)
-
 pub parens_unique : (ns ms : List (List ℕ)) (s r : List Symbol) → AreNames ns → AreNames ms → in_parens ns s ≡ in_parens ms r → SameNames ns ms s r
 parens_unique ns ms s r are are' e =
     let inner : names_symbols ns ++ Sign sign.Close ∷ s ≡ names_symbols ms ++ Sign sign.Close ∷ r = cc in
@@ -57,6 +48,13 @@ parens_unique ns ms s r are are' e =
     record { names = u.names; rest = cc }
 
 -- ---- lists of columns
+
+-- columns that each stand behind a comma
+abbrev pub more_columns : List Column → List Symbol
+more_columns columns = behind_commas (map column_symbols columns)
+
+no_columns : AreNames (column_names []) → ⊥
+no_columns are = let some = are.some in omega (arith, some)
 
 column_same : (c d : Column) → c.name ≡ d.name → c.kind ≡ d.kind → c ≡ d
 column_same c d n k i = record { name = n i; kind = k i }
@@ -67,31 +65,26 @@ column_at c d s r e =
     let kind : kind_symbol c.kind ≡ kind_symbol d.kind = cc in
     (column_same c d name (kind_same c.kind d.kind kind), cc)
 
-pub columns_push : (cs : List Column) (c : Column) (s r : List Symbol) → AreColumns cs → s ≡ Sign sign.Comma ∷ Word c.name ∷ kind_symbol c.kind ∷ r
+pub columns_push : (cs : List Column) (c : Column) (s r : List Symbol) → AreNames (column_names cs) → s ≡ Sign sign.Comma ∷ Word c.name ∷ kind_symbol c.kind ∷ r
     → columns_symbols cs ++ s ≡ columns_symbols (cs ++ c ∷ []) ++ r
-columns_push [] c s r are e = absurd are
+columns_push [] c s r are e = absurd (no_columns are)
 columns_push (d ∷ cs) c s r are e = ap (λ x. Word d.name ∷ kind_symbol d.kind ∷ x) (more cs)
   where
     more : (cs : List Column) → more_columns cs ++ s ≡ more_columns (cs ++ c ∷ []) ++ r
     more [] = e
     more (d ∷ cs) = ap (λ x. Sign sign.Comma ∷ Word d.name ∷ kind_symbol d.kind ∷ x) (more cs)
 
-all_push : (cs : List Column) (c : Column) → AllByRecursion (λ d. IsName d.name) cs → IsName c.name → AllByRecursion (λ d. IsName d.name) (cs ++ c ∷ [])
-all_push [] c are is = (is, tt)
-all_push (d ∷ cs) c are is = (are.0, all_push cs c are.1 is)
-
-pub columns_are_push : (cs : List Column) (c : Column) → AreColumns cs → IsName c.name → AreColumns (cs ++ c ∷ [])
-columns_are_push [] c are is = absurd are
-columns_are_push (d ∷ cs) c are is = (are.0, all_push cs c are.1 is)
+pub columns_are_push : (cs : List Column) (c : Column) → AreNames (column_names cs) → IsName c.name → AreNames (column_names (cs ++ c ∷ []))
+columns_are_push cs c are is = subst AreNames (sym (map-append (λ (d : Column). d.name) cs (c ∷ []))) (are_push (column_names cs) c.name are is)
 
 -- what is left of the columns behind those that were read
 pub record ColumnsLeft (done all : List Column) (s r : List Symbol) : Type 0 where
   pub more : List Column
   pub all_is : all ≡ done ++ more
   pub rest_is : s ≡ more_columns more ++ r
-  pub are : AllByRecursion (λ d. IsName d.name) more
+  pub are : AllByRecursion IsName (column_names more)
 
-more_left : (done all : List Column) (s r : List Symbol) → ¬ (Begins (Sign sign.Comma) r) → AllByRecursion (λ d. IsName d.name) all → more_columns done ++ s ≡ more_columns all ++ r → ColumnsLeft done all s r
+more_left : (done all : List Column) (s r : List Symbol) → ¬ (Begins (Sign sign.Comma) r) → AllByRecursion IsName (column_names all) → more_columns done ++ s ≡ more_columns all ++ r → ColumnsLeft done all s r
 more_left [] all s r none are e = record { more = all; all_is = refl; rest_is = e; are = are }
 more_left (c ∷ done) [] s r none are e = absurd (none (Word c.name ∷ kind_symbol c.kind ∷ (more_columns done ++ s), sym e))
 more_left (c ∷ done) (d ∷ all) s r none are e =
@@ -100,13 +93,13 @@ more_left (c ∷ done) (d ∷ all) s r none are e =
     let l = more_left done all s r none are.1 h.1 in
     record { more = l.more; all_is = ap (λ x. x ∷ all) (sym h.0) ∙ ap (λ x. c ∷ x) l.all_is; rest_is = l.rest_is; are = l.are }
 
-pub columns_left : (done all : List Column) (s r : List Symbol) → ¬ (Begins (Sign sign.Comma) r) → AreColumns done → AreColumns all → columns_symbols done ++ s ≡ columns_symbols all ++ r
+pub columns_left : (done all : List Column) (s r : List Symbol) → ¬ (Begins (Sign sign.Comma) r) → AreNames (column_names done) → AreNames (column_names all) → columns_symbols done ++ s ≡ columns_symbols all ++ r
     → ColumnsLeft done all s r
-columns_left [] all s r none are are' e = absurd are
-columns_left (c ∷ done) [] s r none are are' e = absurd are'
+columns_left [] all s r none are are' e = absurd (no_columns are)
+columns_left (c ∷ done) [] s r none are are' e = absurd (no_columns are')
 columns_left (c ∷ done) (d ∷ all) s r none are are' e =
     let h = column_at c d (more_columns done ++ s) (more_columns all ++ r) e in
-    let l = more_left done all s r none are'.1 h.1 in
+    let l = more_left done all s r none (each_name (column_names (d ∷ all)) are').1 h.1 in
     record { more = l.more; all_is = ap (λ x. x ∷ all) (sym h.0) ∙ ap (λ x. c ∷ x) l.all_is; rest_is = l.rest_is; are = l.are }
 
 pub record SameColumns (cs ds : List Column) (s r : List Symbol) : Type 0 where
@@ -114,7 +107,7 @@ pub record SameColumns (cs ds : List Column) (s r : List Symbol) : Type 0 where
   pub rest : s ≡ r
 
 -- columns are read in one way
-pub columns_unique : (cs ds : List Column) (s r : List Symbol) → ¬ (Begins (Sign sign.Comma) s) → ¬ (Begins (Sign sign.Comma) r) → AreColumns cs → AreColumns ds
+pub columns_unique : (cs ds : List Column) (s r : List Symbol) → ¬ (Begins (Sign sign.Comma) s) → ¬ (Begins (Sign sign.Comma) r) → AreNames (column_names cs) → AreNames (column_names ds)
     → columns_symbols cs ++ s ≡ columns_symbols ds ++ r → SameColumns cs ds s r
 columns_unique cs ds s r none none' are are' e =
     let l = columns_left cs ds s r none' are are' e in
@@ -125,33 +118,17 @@ columns_unique cs ds s r none none' are are' e =
     ended (d ∷ more) a b = absurd (none (Word d.name ∷ kind_symbol d.kind ∷ (more_columns more ++ r), b))
 
 -- where another column has to stand, and none does
-pub no_column : (done all : List Column) (e s t r : List Symbol) → ¬ (Begins (Sign sign.Comma) r) → AreColumns done → AreColumns all → e ≡ columns_symbols done ++ s → s ≡ Sign sign.Comma ∷ t
+pub no_column : (done all : List Column) (e s t r : List Symbol) → ¬ (Begins (Sign sign.Comma) r) → AreNames (column_names done) → AreNames (column_names all) → e ≡ columns_symbols done ++ s → s ≡ Sign sign.Comma ∷ t
     → ((c : Column) (u : List Symbol) → IsName c.name → ¬ (t ≡ Word c.name ∷ kind_symbol c.kind ∷ u)) → e ≡ columns_symbols all ++ r → ⊥
 no_column done all e s t r none are are' w comma bad k =
     let l = columns_left done all s r none are are' (sym w ∙ k) in
     ended l.more l.rest_is l.are
   where
-    ended : (more : List Column) → s ≡ more_columns more ++ r → AllByRecursion (λ d. IsName d.name) more → ⊥
+    ended : (more : List Column) → s ≡ more_columns more ++ r → AllByRecursion IsName (column_names more) → ⊥
     ended [] b is = none (t, sym b ∙ comma)
     ended (d ∷ more) b is = let h : t ≡ Word d.name ∷ kind_symbol d.kind ∷ (more_columns more ++ r) = cc in bad d (more_columns more ++ r) is.0 h
 
-pub no_first_column : (all : List Column) (e r : List Symbol) → AreColumns all → ((c : Column) (u : List Symbol) → IsName c.name → ¬ (e ≡ Word c.name ∷ kind_symbol c.kind ∷ u))
+pub no_first_column : (all : List Column) (e r : List Symbol) → AreNames (column_names all) → ((c : Column) (u : List Symbol) → IsName c.name → ¬ (e ≡ Word c.name ∷ kind_symbol c.kind ∷ u))
     → e ≡ columns_symbols all ++ r → ⊥
-no_first_column [] e r are bad k = are
-no_first_column (c ∷ all) e r are bad k = bad c (more_columns all ++ r) are.0 k
-
-names_of : (cs : List Column) → AllByRecursion (λ d. IsName d.name) cs → AllByRecursion IsName (column_names cs)
-names_of [] all = tt
-names_of (c ∷ cs) all = (all.0, names_of cs all.1)
-
-of_names : (cs : List Column) → AllByRecursion IsName (column_names cs) → AllByRecursion (λ d. IsName d.name) cs
-of_names [] all = tt
-of_names (c ∷ cs) all = (all.0, of_names cs all.1)
-
-pub columns_given : (cs : List Column) → AreColumns cs → AreGiven (column_names cs)
-columns_given [] are = absurd are
-columns_given (c ∷ cs) are = are_given (column_names (c ∷ cs)) (are.0, names_of cs are.1)
-
-pub given_columns : (cs : List Column) → AreGiven (column_names cs) → AreColumns cs
-given_columns [] given = absurd (omega (arith, given.some))
-given_columns (c ∷ cs) given = let are = given_are (column_names (c ∷ cs)) given in (are.0, of_names cs are.1)
+no_first_column [] e r are bad k = no_columns are
+no_first_column (c ∷ all) e r are bad k = bad c (more_columns all ++ r) (each_name (column_names (c ∷ all)) are).0 k

@@ -14,21 +14,18 @@ use Rattle.std.proofs.lemmas.List.Kept.{AllPairs-cons, AllPairs-filter}
 use Rattle.std.proofs.lemmas.List.Folds.{list_any_at}
 use Rattle.std.proofs.lemmas.Option.{get_or_from_slice_get}
 use Rattle.std.proofs.lemmas.Slice.Eq.{bytes_eq-Decides}
-use Rattle.su_base.specs.Name.{IsName}
+use Rattle.su_base.specs.Name.{IsName, AreNames}
+use Rattle.su_base.proofs.Items.{All-middle, AllByRecursion-weaker}
 use Rattle.su_schema.specs.declared.faults.SchemaFault.{SchemaFault}
 use Rattle.su_schema.specs.Entries.{AreDistinctNames, IsSomeBelow}
 use Rattle.su_schema.specs.NameChecks.{first_failing, apart_checks, name_checks}
 use Rattle.su_schema.specs.Known.{is_known, number_of}
 use Rattle.su_schema.specs.Definitions.{numbers_of}
-use Rattle.su_schema.specs.WellNamed.{AreGiven}
 use Rattle.su_schema.proofs.Numbers.{slice_get-number_of}
 use Rattle.su_schema.proofs.Validity.{number_below}
 use Rattle.su_ddl.specs.ShownDefinitions.{name_at, names_in}
 
 -- ---- lists that are split at an item
-
-pub middle : {X : Type 0} (P : X → Type 0) (done rest : List X) (x : X) → All P (done ++ x ∷ rest) → P x
-middle P done rest x all = subst P (get_or_at done x rest x (length done) refl) (all (length done) x (rw length-append (omega arith)))
 
 pub before : {X : Type 0} (R : X → X → Type 0) (done rest : List X) (x : X) → AllPairs R (done ++ x ∷ rest) → AllByRecursion (λ y. R y x) done
 before {X = X} R done rest x apart =
@@ -37,10 +34,6 @@ before {X = X} R done rest x apart =
     let one : get_or (done ++ x ∷ rest) k d ≡ get_or done k d = get_or_append_left done (x ∷ rest) d k within in
     let both : R (get_or (done ++ x ∷ rest) k d) (get_or (done ++ x ∷ rest) (length done) d) = apart k (length done) d within (rw length-append (omega arith)) in
     subst (λ (v : X). R (get_or done k d) v) at (subst (λ (v : X). R v (get_or (done ++ x ∷ rest) (length done) d)) one both))
-
-pub weaker : {X : Type 0} (P Q : X → Type 0) → ((x : X) → P x → Q x) → (xs : List X) → AllByRecursion P xs → AllByRecursion Q xs
-weaker P Q more [] all = tt
-weaker P Q more (x ∷ xs) all = (more x all.0, weaker P Q more xs all.1)
 
 -- ---- checks that pass
 
@@ -111,8 +104,8 @@ module _ (names : List (List ℕ)) where
         → first_failing (name_checks names (map (name_at names) done) (map (name_at names) rest)) ≡ None
     ascending_pass all done [] e rising below = refl
     ascending_pass all done (k ∷ rest) e rising below =
-        let within : k < length names = middle (λ i. i < length names) done rest k (subst (All (λ i. i < length names)) e below) in
-        let lower = weaker (λ i. i < k) (λ i. (i < length names) × (i ≢ k)) (λ i l. (omega (arith, l, within), λ s. omega (arith, l, s))) done (before (λ i j. i < j) done rest k (subst (AllPairs (λ i j. i < j)) e rising)) in
+        let within : k < length names = All-middle (λ i. i < length names) done k rest (subst (All (λ i. i < length names)) e below) in
+        let lower = AllByRecursion-weaker (λ i. i < k) (λ i. (i < length names) × (i ≢ k)) done (λ i l. (omega (arith, l, within), λ s. omega (arith, l, s))) (before (λ i j. i < j) done rest k (subst (AllPairs (λ i j. i < j)) e rising)) in
         let more = ascending_pass all (done ++ k ∷ []) rest (e ∙ sym (append_assoc done (k ∷ []) rest)) rising below in
         step (not (is_known names (name_at names k))) _ _ (not_unknown k within)
         (step (is_known (map (name_at names) done) (name_at names k)) _ _ (other_names (λ i. i) done k within lower)
@@ -127,13 +120,13 @@ module _ (names : List (List ℕ)) where
 range_above : (a m : ℕ) → AllByRecursion (λ k. (a ≤ k) × (k < a + m)) (range_with_len a m)
 range_above a zero = tt
 range_above a (suc m) =
-    ((omega arith, omega arith), weaker (λ k. (a + 1 ≤ k) × (k < a + 1 + m)) (λ k. (a ≤ k) × (k < a + suc m)) (λ k h. (omega (arith, h.0), omega (arith, h.1))) (range_with_len (a + 1) m) (range_above (a + 1) m))
+    ((omega arith, omega arith), AllByRecursion-weaker (λ k. (a + 1 ≤ k) × (k < a + 1 + m)) (λ k. (a ≤ k) × (k < a + suc m)) (range_with_len (a + 1) m) (λ k h. (omega (arith, h.0), omega (arith, h.1))) (range_above (a + 1) m))
 
 range_rising : (a m : ℕ) → AllPairs (λ i j. i < j) (range_with_len a m)
 range_rising a zero = λ i j d less within. absurd (omega arith)
 range_rising a (suc m) =
     AllPairs-cons (λ i j. i < j) a (range_with_len (a + 1) m)
-    (All-from_recursion (λ k. a < k) (range_with_len (a + 1) m) (weaker (λ k. (a + 1 ≤ k) × (k < a + 1 + m)) (λ k. a < k) (λ k h. omega (arith, h.0)) (range_with_len (a + 1) m) (range_above (a + 1) m)))
+    (All-from_recursion (λ k. a < k) (range_with_len (a + 1) m) (AllByRecursion-weaker (λ k. (a + 1 ≤ k) × (k < a + 1 + m)) (λ k. a < k) (range_with_len (a + 1) m) (λ k h. omega (arith, h.0)) (range_above (a + 1) m)))
     (range_rising (a + 1) m)
 
 range_has : (q a m : ℕ) → a ≤ q → q < a + m → list_any (λ y. nat_eq y q) (range_with_len a m) ≡ true
@@ -174,7 +167,7 @@ module _ (n : ℕ) (set : FinSet nat_cmp) where
   pub numbers_below : All (λ k. k < n) (numbers_in n set)
   numbers_below =
       All-filter (contains set) (λ k. k < n) (range_with_len 0 n)
-      (All-from_recursion (λ k. k < n) (range_with_len 0 n) (weaker (λ k. (0 ≤ k) × (k < 0 + n)) (λ k. k < n) (λ k h. omega (arith, h.1)) (range_with_len 0 n) (range_above 0 n)))
+      (All-from_recursion (λ k. k < n) (range_with_len 0 n) (AllByRecursion-weaker (λ k. (0 ≤ k) × (k < 0 + n)) (λ k. k < n) (range_with_len 0 n) (λ k h. omega (arith, h.1)) (range_above 0 n)))
 
   pub numbers_rising : AllPairs (λ i j. i < j) (numbers_in n set)
   numbers_rising = AllPairs-filter (λ i j. i < j) (contains set) (range_with_len 0 n) (range_rising 0 n)
@@ -194,7 +187,7 @@ some_names names [] set e some = absurd (some (sym e))
 some_names names (k ∷ ks) set e some = omega arith
 
 pub record IsSide (names : List (List ℕ)) (set : FinSet nat_cmp) : Type 0 where
-  pub given : AreGiven (names_in names set)
+  pub given : AreNames (names_in names set)
   pub pass : first_failing (name_checks names [] (names_in names set)) ≡ None
   pub again : numbers_of names (names_in names set) ≡ set
 

@@ -3,7 +3,8 @@ use Rattle.std.proofs.Common.{◌≡◌, ℕ, true, false, List, [], ◌∷◌, 
 use Rattle.std.specs.List.{AllByRecursion, list_all}
 use Rattle.std.proofs.lemmas.Bool.Decides.{nat_tests}
 use Rattle.std.proofs.lemmas.List.Sums.{AllPass-from_list_all}
-use Rattle.su_base.specs.Name.{IsName, IsWord, is_letter_or_digit}
+use Rattle.su_base.specs.Name.{IsName, AreNames, IsWord, is_letter_or_digit}
+use Rattle.su_base.proofs.Items.{AllByRecursion-append}
 use Rattle.su_base.specs.declared.values.Kind.{Kind}
 use Rattle.su_base.specs.declared.values.Kind.TheVariants as kind
 use Rattle.su_base.specs.declared.values.Column.{Column}
@@ -13,18 +14,19 @@ use Rattle.su_lex.specs.Pieces as p
 use Rattle.su_lex.specs.declared.meaning.Symbol.{Symbol}
 use Rattle.su_lex.specs.declared.meaning.Symbol.TheVariants.{Word, Int, Text, Sign}
 use Rattle.su_lex.specs.declared.signs.Sign.TheVariants as sign
-use Rattle.su_lex.specs.Names.{AreNames, names_symbols, more_names}
+use Rattle.su_lex.specs.Names.{names_symbols}
 use Rattle.su_lex.specs.Symbols.{IsSymbol}
 use Rattle.su_lex.specs.Spelling.{spelled, opens, closes, after, spaced}
 use Rattle.su_lex.proofs.Cuts.{parts_trans}
 use Rattle.su_lex.proofs.Fronts.{word_all}
+use Rattle.su_lex.proofs.Listed.{each_name, more_names}
 use Rattle.su_schema.specs.declared.definitions.Definition.{Definition}
 use Rattle.su_schema.specs.declared.definitions.Definition.TheVariants.{Attribute, Relation, Object, Fd, Maximal}
 use Rattle.su_schema.specs.WellNamed.{IsWellNamed}
-use Rattle.su_ddl.specs.inside.Columns.{AreColumns}
+use Rattle.su_schema.specs.Entries.{column_names}
 use Rattle.su_lex.specs.Wordings.{kind_symbol}
-use Rattle.su_ddl.specs.Grammar.{more_columns, columns_symbols, in_parens, definition_symbols}
-use Rattle.su_ddl.proofs.NameLists.{given_are, given_columns}
+use Rattle.su_ddl.specs.Grammar.{columns_symbols, in_parens, definition_symbols}
+use Rattle.su_ddl.proofs.NameLists.{more_columns}
 
 -- a word or a sign
 abbrev pub IsQuiet : Symbol → Type 0
@@ -45,10 +47,6 @@ quiet_symbols (x ∷ xs) qs = (quiet_symbol x qs.0, quiet_symbols xs qs.1)
 
 -- ---- the symbols of a well-named definition are quiet
 
-both : (xs ys : List Symbol) → AllByRecursion IsQuiet xs → AllByRecursion IsQuiet ys → AllByRecursion IsQuiet (xs ++ ys)
-both [] ys a c = c
-both (x ∷ xs) ys a c = (a.0, both xs ys a.1 c)
-
 kind_quiet : (k : Kind) → IsQuiet (kind_symbol k)
 kind_quiet kind.Int = (refl, AllPass-from_list_all is_letter_or_digit (110 ∷ 116 ∷ []) refl, omega arith)
 kind_quiet kind.Text = (refl, AllPass-from_list_all is_letter_or_digit (101 ∷ 120 ∷ 116 ∷ []) refl, omega arith)
@@ -58,19 +56,19 @@ more_quiet [] all = tt
 more_quiet (n ∷ ns) all = (tt, (all.0.0, more_quiet ns all.1))
 
 names_quiet : (names : List (List ℕ)) → AreNames names → AllByRecursion IsQuiet (names_symbols names)
-names_quiet [] are = absurd are
-names_quiet (n ∷ ns) are = (are.0.0, more_quiet ns are.1)
+names_quiet [] are = tt
+names_quiet (n ∷ ns) are = let all = each_name (n ∷ ns) are in (all.0.0, more_quiet ns all.1)
 
 parens_quiet : (names : List (List ℕ)) (behind : List Symbol) → AreNames names → AllByRecursion IsQuiet behind → AllByRecursion IsQuiet (in_parens names behind)
-parens_quiet names behind are qs = (tt, both (names_symbols names) (Sign sign.Close ∷ behind) (names_quiet names are) (tt, qs))
+parens_quiet names behind are qs = (tt, AllByRecursion-append IsQuiet (names_symbols names) (Sign sign.Close ∷ behind) (names_quiet names are) (tt, qs))
 
-more_columns_quiet : (cs : List Column) → AllByRecursion (λ d. IsName d.name) cs → AllByRecursion IsQuiet (more_columns cs)
+more_columns_quiet : (cs : List Column) → AllByRecursion IsName (column_names cs) → AllByRecursion IsQuiet (more_columns cs)
 more_columns_quiet [] all = tt
 more_columns_quiet (c ∷ cs) all = (tt, (all.0.0, (kind_quiet c.kind, more_columns_quiet cs all.1)))
 
-columns_quiet : (cs : List Column) → AreColumns cs → AllByRecursion IsQuiet (columns_symbols cs)
-columns_quiet [] are = absurd are
-columns_quiet (c ∷ cs) are = (are.0.0, (kind_quiet c.kind, more_columns_quiet cs are.1))
+columns_quiet : (cs : List Column) → AreNames (column_names cs) → AllByRecursion IsQuiet (columns_symbols cs)
+columns_quiet [] are = tt
+columns_quiet (c ∷ cs) are = let all = each_name (column_names (c ∷ cs)) are in (all.0.0, (kind_quiet c.kind, more_columns_quiet cs all.1))
 
 attribute_word : IsWord (codes "attribute")
 attribute_word = (refl, AllPass-from_list_all is_letter_or_digit (116 ∷ 116 ∷ 114 ∷ 105 ∷ 98 ∷ 117 ∷ 116 ∷ 101 ∷ []) refl, omega arith)
@@ -93,13 +91,13 @@ maximal_word = (refl, AllPass-from_list_all is_letter_or_digit (97 ∷ 120 ∷ 1
 pub definition_quiet : (d : Definition) → IsWellNamed d → AllByRecursion IsQuiet (definition_symbols d)
 definition_quiet (Attribute name kind) w = (attribute_word, (w.0, (kind_quiet kind, tt)))
 definition_quiet (Relation name columns) w =
-    (relation_word, (w.0.0, (tt, both (columns_symbols columns) (Sign sign.Close ∷ []) (columns_quiet columns (given_columns columns w.1)) (tt, tt))))
+    (relation_word, (w.0.0, (tt, AllByRecursion-append IsQuiet (columns_symbols columns) (Sign sign.Close ∷ []) (columns_quiet columns w.1) (tt, tt))))
 definition_quiet (Object name relation pairs) w =
-    let columns = parens_quiet (map (λ p. p.column) pairs) [] (given_are _ w.3) tt in
-    (object_word, (w.0.0, parens_quiet (map (λ p. p.attribute) pairs) _ (given_are _ w.2) (from_word, (w.1.0, columns))))
+    let columns = parens_quiet (map (λ p. p.column) pairs) [] w.3 tt in
+    (object_word, (w.0.0, parens_quiet (map (λ p. p.attribute) pairs) _ w.2 (from_word, (w.1.0, columns))))
 definition_quiet (Fd left right) w =
-    (fd_word, both (names_symbols left) (Sign sign.Arrow ∷ names_symbols right) (names_quiet left (given_are left w.0)) (tt, names_quiet right (given_are right w.1)))
-definition_quiet (Maximal objects) w = (maximal_word, parens_quiet objects [] (given_are objects w) tt)
+    (fd_word, AllByRecursion-append IsQuiet (names_symbols left) (Sign sign.Arrow ∷ names_symbols right) (names_quiet left w.0) (tt, names_quiet right w.1))
+definition_quiet (Maximal objects) w = (maximal_word, parens_quiet objects [] w tt)
 
 -- ---- what is quiet is made of parts
 

@@ -1,11 +1,12 @@
 -- The text of a valid schema is short enough to be read.
-use Rattle.std.proofs.Common.{◌≡◌, ◌<◌, ◌≤◌, ◌+◌, ◌*◌, ◌^◌, ℕ, Bool, true, false, ◌||◌, cond, List, [], ◌∷◌, ◌++◌, length, length-append, map, filter, Option, Some, None, refl, ap, ◌∙◌, suc, codes, arith}
+use Rattle.std.proofs.Common.{◌≡◌, ◌<◌, ◌≤◌, ◌+◌, ◌*◌, ◌^◌, ℕ, true, false, ◌||◌, List, [], ◌∷◌, ◌++◌, length, length-append, map, filter, Option, Some, None, refl, ap, ◌∙◌, suc, codes, arith}
 use lib.ListN.{length-map}
 use Rattle.std.specs.List.{AllByRecursion, range_with_len, filter_map, cons_option}
 use Rattle.std.specs.Ordering.{nat_cmp}
 use Rattle.std.specs.FinSet.{FinSet, contains}
 use Rattle.std.proofs.lemmas.List.Elements.{recursion_from_All}
 use Rattle.su_base.specs.Name.{IsWord}
+use Rattle.su_base.proofs.Items.{AllByRecursion-append, AllByRecursion-map, AllByRecursion-weaker, length-filter}
 use Rattle.su_base.specs.declared.values.Column.{Column}
 use Rattle.std.proofs.lemmas.List.FromFn.{length-range_with_len}
 use Rattle.su_fd.specs.declared.Fd.{Fd as Dependency}
@@ -13,7 +14,8 @@ use Rattle.su_lex.specs.declared.meaning.Symbol.{Symbol}
 use Rattle.su_lex.specs.declared.meaning.Symbol.TheVariants.{Word, Int, Text, Sign}
 use Rattle.su_lex.specs.declared.signs.Sign.{Sign as ASign}
 use Rattle.su_lex.specs.declared.signs.Sign.TheVariants as sign
-use Rattle.su_lex.specs.Names.{names_symbols, more_names}
+use Rattle.su_lex.specs.Names.{names_symbols}
+use Rattle.su_lex.proofs.Listed.{more_names}
 use Rattle.su_lex.specs.Spelling.{spelled, opens, closes, after, spaced}
 use Rattle.su_lex.specs.TokenForms.{sign_bytes}
 use Rattle.su_schema.specs.declared.definitions.Pair.{Pair}
@@ -23,12 +25,12 @@ use Rattle.su_schema.specs.SchemaValue.{SchemaValue, AttributeEntry, RelationEnt
 use Rattle.su_schema.specs.Valid.{IsValid, IsRelationEntry}
 use Rattle.su_schema.specs.Entries.{attribute_names, object_names}
 use Rattle.su_schema.specs.WellNamed.{IsWellNamed}
-use Rattle.su_ddl.specs.Grammar.{more_columns, columns_symbols, in_parens, definition_symbols}
+use Rattle.su_ddl.proofs.NameLists.{more_columns}
+use Rattle.su_ddl.specs.Grammar.{columns_symbols, in_parens, definition_symbols}
 use Rattle.su_ddl.specs.Files.{no_definitions}
 use Rattle.su_ddl.specs.ShownDefinitions.{name_at, names_in, pair_of, attribute_definition, relation_definition, object_definition, fd_definition, maximal_definition, definitions_of}
 use Rattle.su_ddl.specs.Shown.{line_of, lines_of, schema_text}
 use Rattle.su_ddl.proofs.Again.{definitions_build}
-use Rattle.su_ddl.proofs.Named.{weaker}
 use Rattle.su_ddl.proofs.Quiet.{IsQuiet, definition_quiet}
 use Rattle.su_ddl.proofs.Steps.{builds_well}
 
@@ -129,12 +131,6 @@ object_few name relation pairs few =
 
 -- ---- lists of names and pairs
 
-filter_few : (p : ℕ → Bool) (xs : List ℕ) → length (filter p xs) ≤ length xs
-filter_few p [] = omega arith
-filter_few p (x ∷ xs) =
-    let h = filter_few p xs in
-    elim (p x) as (λ v. length (cond v (x ∷ filter p xs) (filter p xs)) ≤ length (x ∷ xs)) [ true ↦ omega (arith, h) | false ↦ omega (arith, h) ]
-
 listed_few : {B : Type 0} (x : Option B) (ys : List B) (n : ℕ) → length ys ≤ n → length (cons_option x ys) ≤ suc n
 listed_few None ys n h = omega (arith, h)
 listed_few (Some y) ys n h = omega (arith, h)
@@ -145,20 +141,12 @@ filter_map_few f (x ∷ xs) = listed_few (f x) (filter_map f xs) (length xs) (fi
 
 names_in_few : (names : List (List ℕ)) (set : FinSet nat_cmp) → length (names_in names set) ≤ length names
 names_in_few names set =
-    let kept = filter_few (contains set) (range_with_len 0 (length names)) in
+    let kept = length-filter (contains set) (range_with_len 0 (length names)) in
     let all = length-range_with_len 0 (length names) in
     let one = length-map (filter (contains set) (range_with_len 0 (length names))) (name_at names) in
     omega (arith, kept, all, one)
 
 -- ---- every definition
-
-all_both : (ds es : List Definition) → AllByRecursion IsShort ds → AllByRecursion IsShort es → AllByRecursion IsShort (ds ++ es)
-all_both [] es a c = c
-all_both (d ∷ ds) es a c = (a.0, all_both ds es a.1 c)
-
-all_mapped : {X : Type 0} (f : X → Definition) (xs : List X) → AllByRecursion (λ x. IsShort (f x)) xs → AllByRecursion IsShort (map f xs)
-all_mapped f [] all = tt
-all_mapped f (x ∷ xs) all = (all.0, all_mapped f xs all.1)
 
 every : {X : Type 0} (P : X → Type 0) → ((x : X) → P x) → (xs : List X) → AllByRecursion P xs
 every P each [] = tt
@@ -209,12 +197,13 @@ module _ (s : SchemaValue) (valid : IsValid s) where
 
   all_short : AllByRecursion IsShort (definitions_of s)
   all_short =
-      let a = all_mapped attribute_definition s.attributes (every _ attribute_short s.attributes) in
-      let r = all_mapped relation_definition s.relations (weaker IsRelationEntry (λ x. IsShort (relation_definition x)) relation_short s.relations (recursion_from_All IsRelationEntry s.relations valid.relations)) in
-      let o = all_mapped (object_definition s) s.objects (every _ object_short s.objects) in
-      let f = all_mapped (fd_definition s) s.fds (every _ fd_short s.fds) in
-      let m = all_mapped (maximal_definition s) s.declared (every _ maximal_short s.declared) in
-      all_both _ _ (all_both _ _ (all_both _ _ (all_both _ _ a r) o) f) m
+      let a = AllByRecursion-map IsShort attribute_definition s.attributes (every _ attribute_short s.attributes) in
+      let r = AllByRecursion-map IsShort relation_definition s.relations (AllByRecursion-weaker IsRelationEntry (λ x. IsShort (relation_definition x)) s.relations relation_short (recursion_from_All IsRelationEntry s.relations valid.relations)) in
+      let o = AllByRecursion-map IsShort (object_definition s) s.objects (every _ object_short s.objects) in
+      let f = AllByRecursion-map IsShort (fd_definition s) s.fds (every _ fd_short s.fds) in
+      let m = AllByRecursion-map IsShort (maximal_definition s) s.declared (every _ maximal_short s.declared) in
+      let both = AllByRecursion-append IsShort in
+      both _ _ (both _ _ (both _ _ (both _ _ a r) o) f) m
 
   count : length (definitions_of s) ≤ 576
   count =

@@ -2,6 +2,7 @@
 -- definition: an attribute, a relation, an object, a dependency or a declared maximal object; its symbols are its one spelling
 use Rattle.std.specs.Prelude.{◌≡◌, ℕ, List, [], ◌∷◌, ◌++◌, map, codes}
 use Rattle.su_base.specs.declared.values.Column.{Column}
+use Rattle.std.specs.List.{join_by}
 use Rattle.su_lex.specs.declared.meaning.Symbol.{Symbol}
 use Rattle.su_lex.specs.declared.meaning.Symbol.TheVariants.{Word, Sign}
 use Rattle.su_lex.specs.declared.signs.Sign.TheVariants as sign
@@ -12,15 +13,13 @@ use Rattle.su_schema.specs.declared.definitions.Definition.TheVariants.{Attribut
 use Rattle.su_schema.specs.WellNamed.{IsWellNamed}
 use Rattle.su_lex.specs.Wordings.{kind_symbol}
 
--- { "," NAME kind }
-abbrev pub more_columns : List Column → List Symbol
-more_columns [] = []
-more_columns (c ∷ cs) = Sign sign.Comma ∷ Word c.name ∷ kind_symbol c.kind ∷ more_columns cs
+-- NAME kind
+abbrev pub column_symbols : Column → List Symbol
+column_symbols c = Word c.name ∷ kind_symbol c.kind ∷ []
 
 -- NAME kind { "," NAME kind }
 abbrev pub columns_symbols : List Column → List Symbol
-columns_symbols [] = []
-columns_symbols (c ∷ cs) = Word c.name ∷ kind_symbol c.kind ∷ more_columns cs
+columns_symbols columns = join_by (λ x. x) (Sign sign.Comma ∷ []) (map column_symbols columns)
 
 -- "(" NAME { "," NAME } ")", and what follows
 abbrev pub in_parens : List (List ℕ) → List Symbol → List Symbol

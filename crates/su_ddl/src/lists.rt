@@ -1,10 +1,11 @@
 //! Lists in definitions: names in parentheses, and columns.
 ghost use Rattle.std.specs.Prelude.{◌≡◌, ℕ, ◌∷◌, ◌++◌, IfOk, IsErrOf, List as Items};
-ghost use Rattle.su_lex.specs.Names.{Begins, AreNames};
-ghost use Rattle.su_ddl.specs.Grammar.{in_parens, columns_symbols};
+ghost use Rattle.su_lex.specs.Names.{Begins};
+ghost use Rattle.su_ddl.specs.Grammar.{in_parens, column_symbols, columns_symbols};
 ghost use Rattle.su_lex.specs.Wordings.{kind_symbol};
-ghost use Rattle.su_ddl.specs.inside.Columns.{AreColumns, column_before};
-ghost use Rattle.su_base.specs.Name.{IsName};
+ghost use Rattle.su_ddl.specs.inside.Columns.{ListsNoColumns};
+ghost use Rattle.su_schema.specs.Entries.{column_names};
+ghost use Rattle.su_base.specs.Name.{IsName, AreNames};
 ghost use Rattle.su_lex.specs.declared.meaning.Symbol.{Symbol as ASymbol};
 ghost use Rattle.su_base.specs.declared.values.Kind.{Kind as AKind};
 ghost use Rattle.su_base.specs.declared.values.Column.{Column as AColumn};
@@ -37,8 +38,8 @@ pub fn kind(reader: &mut Reader) -> Result<Kind, LexEnd>
 
 /// NAME kind
 fn column(reader: &mut Reader) -> Result<Column, LexEnd>
-    ensures found { IfOk result (λ c. (reader.old ≡ column_before c reader.new) × IsName c.name) }
-    ensures syntax { IsErrOf result LexEnd.Syntax → (c : AColumn) (r : Items ASymbol) → IsName c.name → ¬ (reader.old ≡ column_before c r) }
+    ensures found { IfOk result (λ c. (reader.old ≡ column_symbols c ++ reader.new) × IsName c.name) }
+    ensures syntax { IsErrOf result LexEnd.Syntax → (c : AColumn) (r : Items ASymbol) → IsName c.name → ¬ (reader.old ≡ column_symbols c ++ r) }
 {
     let name = reader.name()?;
     let kind = kind(reader)?;
@@ -47,10 +48,9 @@ fn column(reader: &mut Reader) -> Result<Column, LexEnd>
 
 /// NAME kind { "," NAME kind }
 pub fn columns(reader: &mut Reader) -> Result<List<Column>, LexEnd>
-    ensures found { IfOk result (λ cs. (reader.old ≡ columns_symbols cs ++ reader.new) × AreColumns cs) }
+    ensures found { IfOk result (λ cs. (reader.old ≡ columns_symbols cs ++ reader.new) × AreNames (column_names cs)) }
     ensures ends { IfOk result (λ _. ¬ (Begins (Symbol.Sign Sign.Comma) reader.new)) }
-    ensures syntax { IsErrOf result LexEnd.Syntax → (cs : Items AColumn) (r : Items ASymbol) → AreColumns cs → ¬ (Begins (Symbol.Sign Sign.Comma) r)
-        → ¬ (reader.old ≡ columns_symbols cs ++ r) }
+    ensures syntax { IsErrOf result LexEnd.Syntax → ListsNoColumns reader.old }
 {
     let mut columns = List::new(reader.alloc());
     columns.push(column(reader)?)?;

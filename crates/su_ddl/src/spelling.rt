@@ -1,8 +1,9 @@
 //! A definition as its symbols, and as a line of text.
 ghost use Rattle.std.specs.Prelude.{◌≡◌, ◌∷◌, ◌++◌, [], map, IfOk, OnErr, OnOk};
 ghost use Rattle.su_lex.specs.AddedFronts.{AddsFront};
-ghost use Rattle.su_lex.specs.Names.{names_symbols, more_names};
-ghost use Rattle.su_ddl.specs.Grammar.{definition_symbols, columns_symbols, more_columns, in_parens};
+ghost use Rattle.su_lex.specs.Names.{names_symbols};
+ghost use Rattle.su_ddl.specs.Grammar.{definition_symbols, column_symbols, columns_symbols, in_parens};
+ghost use Rattle.su_ddl.specs.inside.Columns.{behind_commas};
 ghost use Rattle.su_lex.specs.Wordings.{kind_symbol};
 ghost use Rattle.su_ddl.specs.Shown.{line_of};
 
@@ -22,8 +23,8 @@ fn push_kind(alloc: Global, out: &mut List<Symbol>, kind: Kind) -> Result<(), No
 
 /// { "," NAME }
 fn push_more_names(alloc: Global, out: &mut List<Symbol>, names: &[Str]) -> Result<(), NoMemory>
-    ensures ok { OnOk result (out.new ≡ out.old ++ more_names names.now) }
-    ensures front { OnErr result (AddsFront out.old out.new (more_names names.now)) }
+    ensures ok { OnOk result (out.new ≡ out.old ++ behind_commas (map (λ name. Symbol.Word name ∷ []) names.now)) }
+    ensures front { OnErr result (AddsFront out.old out.new (behind_commas (map (λ name. Symbol.Word name ∷ []) names.now))) }
 {
     for name in names {
         push_sign(out, Sign::Comma)?;
@@ -57,7 +58,7 @@ fn push_in_parens(alloc: Global, out: &mut List<Symbol>, names: &[Str]) -> Resul
 
 /// NAME kind
 fn push_column(alloc: Global, out: &mut List<Symbol>, column: &Column) -> Result<(), NoMemory>
-    ensures { OnOk result (out.new ≡ out.old ++ Symbol.Word column.now.name ∷ kind_symbol column.now.kind ∷ []) }
+    ensures { OnOk result (out.new ≡ out.old ++ column_symbols column.now) }
 {
     push_word(alloc, out, column.name.as_str())?;
     push_kind(alloc, out, column.kind)
@@ -69,7 +70,7 @@ fn push_more_columns(
     out: &mut List<Symbol>,
     columns: &[Column],
 ) -> Result<(), NoMemory>
-    ensures { OnOk result (out.new ≡ out.old ++ more_columns columns.now) }
+    ensures { OnOk result (out.new ≡ out.old ++ behind_commas (map column_symbols columns.now)) }
 {
     for column in columns {
         push_sign(out, Sign::Comma)?;

@@ -1,12 +1,7 @@
 -- Parts of a text, one behind the other.
 use Rattle.su_draw.specs.declared.shapes.Position.{Position}
 use Rattle.su_draw.specs.Shapes.{text_pairs}
-use Rattle.std.proofs.Common.{◌≡◌, ℕ, List, ◌++◌, Result, Ok, Err, OnOk, sym, ap, ◌∙◌, append_assoc}
-
--- a consequence of what is ensured at the end
-pub on_ok : {T E P Q : Type 0} (r : Result T E) → (P → Q) → OnOk r P → OnOk r Q
-on_ok (Ok x) f p = f p
-on_ok (Err e) f p = tt
+use Rattle.std.proofs.Common.{◌≡◌, ℕ, List, ◌++◌, sym, ap, ◌∙◌, append_assoc}
 
 pub four_parts : (old a b c d o1 o2 o3 new : List ℕ) → o1 ≡ old ++ a → o2 ≡ o1 ++ b → o3 ≡ o2 ++ c → new ≡ o3 ++ d → new ≡ old ++ (((a ++ b) ++ c) ++ d)
 four_parts old a b c d o1 o2 o3 new e1 e2 e3 e4 =

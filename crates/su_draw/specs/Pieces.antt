@@ -3,6 +3,7 @@
 -- line: its number, as an editor counts from 1, and its words; number: a line feed between quotes is counted too
 -- cut: what has been cut of a text: the lines that have ended, and the line and the word that have begun
 use Rattle.std.specs.Prelude.{ℕ, ◌+◌, ◌==◌, ◌||◌, not, if◌then◌else◌, false, List, [], ◌∷◌, ◌++◌, flat_map}
+use Rattle.std.specs.List.{join_by}
 use Rattle.su_draw.specs.declared.pieces.Cut.{Cut}
 
 -- before the first byte, on line 1
@@ -26,15 +27,15 @@ abbrev pub counted : Cut → ℕ → Cut
 counted c b = record c { next = (if b == 10 then c.next + 1 else c.next) }
 
 -- the next byte
-abbrev pub taken : Cut → ℕ → Cut
-taken c b =
+abbrev pub with_byte : Cut → ℕ → Cut
+with_byte c b =
     if c.quoted || not (b == 10 || b == 32) then grown (counted c b) b else
     (if b == 10 then line_ended (counted c b) else word_ended (counted c b))
 
 -- the bytes, one after another
 abbrev pub cut_on : Cut → List ℕ → Cut
 cut_on c [] = c
-cut_on c (b ∷ bs) = cut_on (taken c b) bs
+cut_on c (b ∷ bs) = cut_on (with_byte c b) bs
 
 -- the text cut into lines of words
 abbrev pub cut_of : List ℕ → Cut
@@ -43,8 +44,7 @@ cut_of text = cut_on nothing_cut text
 -- the words of a line that has ended, blanks between them, and a line feed
 abbrev pub line_text : List (List ℕ) → List ℕ
 line_text [] = []
-line_text (w ∷ []) = w ++ 10 ∷ []
-line_text (w ∷ v ∷ ws) = w ++ 32 ∷ line_text (v ∷ ws)
+line_text (w ∷ ws) = join_by (λ x. x) (32 ∷ []) (w ∷ ws) ++ 10 ∷ []
 
 -- the text that has been cut
 abbrev pub text_of : Cut → List ℕ

@@ -7,9 +7,9 @@ ghost use Rattle.su_draw.specs.Looks.{word_of, number_attribute};
 ghost use Rattle.su_draw.specs.inside.Pairs.{attribute_of, attributes_of};
 
 use crate::escaping::escape;
-use crate::parts::{push, push_number};
 use std::alloc::Global;
 use su_base::NoMemory;
+use su_base::parts::{push, push_number};
 
 /// An attribute: its name and its value.
 #[derive(Clone, Copy)]
@@ -24,7 +24,7 @@ fn number(alloc: Global, out: &mut Vec<u8>, name: &str, value: u32) -> Result<()
     push(out, " ")?;
     push(out, name)?;
     push(out, "=\"")?;
-    push_number(alloc, out, value)?;
+    push_number(alloc, out, u64::from(value))?;
     push(out, "\"")
 }
 

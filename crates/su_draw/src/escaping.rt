@@ -4,9 +4,9 @@ ghost use Rattle.su_draw.specs.Xml.{is_plain};
 ghost use Rattle.su_draw.specs.Characters.{shown_for, char_text};
 ghost use Rattle.su_draw.specs.EscapedBytes.{begun_with, bits_with, first_text, goes_on, byte_text, begun_behind, escaped};
 
-use crate::parts::{push, push_number};
 use std::alloc::Global;
 use su_base::NoMemory;
+use su_base::parts::{push, push_number};
 
 /// Whether the character stands for itself.
 fn is_plain_sign(code: u32) -> bool
@@ -45,7 +45,7 @@ fn push_code(alloc: Global, out: &mut Vec<u8>, code: u32) -> Result<(), NoMemory
         return Ok(());
     }
     push(out, "&#")?;
-    push_number(alloc, out, shown(code))?;
+    push_number(alloc, out, u64::from(shown(code)))?;
     push(out, ";")
 }
 

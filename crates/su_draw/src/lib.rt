@@ -17,7 +17,6 @@ mod kinds;
 mod measures;
 mod numbers;
 mod order;
-mod parts;
 mod pictures;
 mod pieces;
 mod reading;

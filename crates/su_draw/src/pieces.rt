@@ -1,6 +1,6 @@
 //! A text as lines of words.
 ghost use Rattle.std.specs.Prelude.{◌≡◌, ◌-◌, ◌<◌, ◌^◌, ◌==◌, ◌&&◌, length, IfOk, OnOk};
-ghost use Rattle.su_draw.specs.Pieces.{nothing_cut, word_ended, line_ended, grown, counted, taken, cut_of, text_of};
+ghost use Rattle.su_draw.specs.Pieces.{nothing_cut, word_ended, line_ended, grown, counted, with_byte, cut_of, text_of};
 
 use std::alloc::Global;
 use std::mem;
@@ -88,7 +88,7 @@ impl Cut {
     /// The next byte.
     fn take(&mut self, alloc: Global, byte: u8) -> Result<(), NoMemory>
         requires { self.old.next < 2 ^ 64 - 1 }
-        ensures { OnOk result (self.new ≡ taken self.old byte) }
+        ensures { OnOk result (self.new ≡ with_byte self.old byte) }
     {
         self.count(byte);
         if self.quoted || byte != b'\n' && byte != b' ' {

@@ -7,10 +7,10 @@ ghost use Rattle.su_draw.specs.Xml.{attribute_text, IsDocument};
 
 use crate::elements::Pair::{Number, Word};
 use crate::elements::{close, element, open};
-use crate::parts::push;
 use crate::shapes::{Help, Picture, Position, Shape};
 use crate::things::What;
 use std::alloc::Global;
+use su_base::parts::push;
 use su_base::{List, NoMemory};
 
 /// The colour with this number; each is dark enough on white.

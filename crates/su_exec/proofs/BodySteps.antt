@@ -13,9 +13,10 @@ use Rattle.su_exec.specs.declared.checks.Check.{Check}
 use Rattle.su_exec.specs.inside.Bodies.{AreThere}
 use Rattle.su_exec.specs.inside.Checks.{all_hold, check_holds, check_vars, code_of, vars_of}
 use Rattle.su_reduce.specs.Codes.{decode}
-use Rattle.su_exec.specs.inside.Edges.{Edge, Fits, has, among, HaveSameValues, Splits, Same}
+use Rattle.su_exec.specs.inside.Edges.{Edge, Fits, has, among, HaveSameValues, Same}
 use Rattle.su_exec.proofs.PartSteps.{agree_at}
 use Rattle.su_exec.proofs.Parts.{put_in}
+use Rattle.su_exec.proofs.Splits.{Splits}
 
 -- ---- checks depend on their variables
 

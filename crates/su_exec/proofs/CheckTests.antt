@@ -1,8 +1,8 @@
 -- Checks that are taken as tests, one after another.
-use Rattle.std.proofs.Common.{◌≡◌, ℕ, ◌+◌, ◌<◌, ◌⊎◌, Bool, true, false, List, [], ◌∷◌, ◌++◌, length, take, get_or, refl, sym, ap, ◌∙◌, inl, inr}
+use Rattle.std.proofs.Common.{◌≡◌, ℕ, ◌+◌, ◌<◌, Bool, true, false, List, [], ◌∷◌, ◌++◌, length, take, get_or, refl, sym, ap, ◌∙◌, append_assoc}
 use Rattle.std.specs.Prelude.{◌&&◌, ◌||◌, nat_eq}
 use Rattle.std.specs.List.{list_all}
-use Rattle.std.proofs.lemmas.Bool.{true≢false}
+use Rattle.std.proofs.lemmas.Bool.{or_left, or_right}
 use Rattle.std.proofs.lemmas.List.{take_more}
 use Rattle.std.proofs.lemmas.List.Folds.{list_any-append}
 use Rattle.su_base.specs.declared.values.Value.{Value}
@@ -10,7 +10,6 @@ use Rattle.su_exec.specs.declared.checks.Check.{Check}
 use Rattle.su_exec.specs.declared.checks.Test.{Test}
 use Rattle.su_exec.specs.inside.Edges.{has}
 use Rattle.su_exec.specs.inside.Checks.{all_hold, all_pass, check_holds, check_vars, test_passes, vars_of}
-use Rattle.su_exec.proofs.Outputs.{append_assoc}
 
 and_assoc : (a b c : Bool) → ((a && b) && c) ≡ (a && (b && c))
 and_assoc true b c = refl
@@ -41,10 +40,6 @@ hold_push values cs c v = all_push (check_holds values v) cs c
 pub pass_push : (values : List Value) (ts : List Test) (t : Test) (row other : List ℕ) → all_pass values (ts ++ t ∷ []) row other ≡ (all_pass values ts row other && test_passes values row other t)
 pass_push values ts t row other = all_push (test_passes values row other) ts t
 
-append_none : (xs : List ℕ) → xs ++ [] ≡ xs
-append_none [] = refl
-append_none (x ∷ xs) = ap (λ r. x ∷ r) (append_none xs)
-
 pub vars_push : (cs : List Check) (c : Check) → check_vars (cs ++ c ∷ []) ≡ check_vars cs ++ check_vars (c ∷ [])
 vars_push [] c = refl
 vars_push (d ∷ cs) c =
@@ -70,20 +65,8 @@ module _ (cs : List Check) (i : ℕ) (d : Check) (l : i < length cs) where
   pub has_more : (k : ℕ) → has (check_vars (take (i + 1) cs)) k ≡ (has (check_vars (take i cs)) k || has (check_vars (get_or cs i d ∷ [])) k)
   has_more k = ap (λ (xs : List Check). has (check_vars xs) k) (take_more cs i d l) ∙ has_push (take i cs) (get_or cs i d) k
 
-pub or_first : (a b : Bool) → a ≡ true → (a || b) ≡ true
-or_first true b h = refl
-or_first false b h = absurd (true≢false (sym h))
-
-pub or_second : (a b : Bool) → b ≡ true → (a || b) ≡ true
-or_second true b h = refl
-or_second false b h = h
-
-pub or_either : (a b : Bool) → (a || b) ≡ true → (a ≡ true) ⊎ (b ≡ true)
-or_either true b h = inl refl
-or_either false b h = inr h
-
 pub or_map : (a b c : Bool) → (a ≡ true → b ≡ true) → (a || c) ≡ true → (b || c) ≡ true
-or_map true b c f h = or_first b c (f refl)
-or_map false b c f h = or_second b c h
+or_map true b c f h = or_left b c (f refl)
+or_map false b c f h = or_right b c h
 
 pub ruleset check_steps = (has_push, list_any-append, take_more)

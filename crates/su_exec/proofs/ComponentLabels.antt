@@ -1,6 +1,6 @@
 -- Components are read off labels.
 use Rattle.std.proofs.Common.{◌≡◌, ℕ, zero, suc, ◌+◌, ◌<◌, ◌≤◌, List, [], ◌∷◌, length, get_or, Contains, refl, sym, ap, subst, ◌∙◌, ⊎_elim, arith}
-use Rattle.std.specs.Prelude.{nat_eq, map}
+use Rattle.std.specs.Prelude.{nat_eq, map, filter}
 use Rattle.std.specs.List.{range_with_len}
 use Rattle.std.specs.List.Sorted.{IsStrictlySortedBy}
 use Rattle.std.specs.Ordering.{nat_cmp}
@@ -13,7 +13,11 @@ use Rattle.std.proofs.lemmas.Map.Keys.{sorted_from_strictly_increasing, below_fr
 use Rattle.su_base.proofs.Items.{Contains-filter, Contains-filter_source, Contains-range, Contains-range_below}
 use Rattle.su_exec.specs.declared.tasks.Task.{Task}
 use Rattle.su_exec.specs.Components.{IsLabelling, AreTogether, AreComponents, first_of}
-use Rattle.su_exec.specs.inside.Labels.{label_of, AreLabels, rows_of, own_rows}
+use Rattle.su_exec.specs.inside.Labels.{label_of, AreLabels, rows_of}
+
+-- the rows with a label of their own
+abbrev pub own_rows : List ℕ → List ℕ
+own_rows labels = filter (λ i. nat_eq (label_of labels i) i) (range_with_len 0 (length labels))
 
 range_sorted : (n : ℕ) → IsStrictlySortedBy nat_cmp (range_with_len 0 n)
 range_sorted n = sorted_from_strictly_increasing (range_with_len 0 n) (λ k l.

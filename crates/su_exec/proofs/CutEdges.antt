@@ -1,11 +1,12 @@
 -- Edges that lose rows, one step after another.
-use Rattle.std.proofs.Common.{◌≡◌, ◌≢◌, ℕ, zero, suc, ◌+◌, ◌<◌, ◌≤◌, ◌++◌, Bool, true, false, Option, None, Some, List, [], ◌∷◌, length, get_or, set, Contains, refl, sym, ap, subst, ◌∙◌, ⊎_elim, true≢false, arith}
-use Rattle.std.specs.Prelude.{IfSome, cond, map}
+use Rattle.std.proofs.Common.{◌≡◌, ◌≢◌, ℕ, zero, suc, ◌+◌, ◌<◌, ◌≤◌, ◌++◌, Bool, true, false, List, [], ◌∷◌, length, get_or, set, Contains, refl, sym, ap, subst, ◌∙◌, ⊎_elim, true≢false, arith}
+use Rattle.std.specs.Prelude.{cond, map}
 use Rattle.std.specs.Cmp.{first_so, second_so}
 use Rattle.std.proofs.lemmas.Bool.{cases_eq, cases_lt}
 use Rattle.std.proofs.lemmas.List.{get_or_default, get_or-map, get_or-set_same, get_or-set_other, length-set}
 use Rattle.std.proofs.lemmas.List.Elements.{Contains-append_cases, Contains-append_left, Contains-append_right}
 use Rattle.su_base.specs.declared.values.Value.{Value}
+use Rattle.su_base.proofs.Items.{Contains-one}
 use Rattle.su_where.specs.Operator.{compares}
 use Rattle.su_where.specs.declared.operators.Op.{Op}
 use Rattle.su_exec.specs.declared.checks.Spot.TheVariants.{Code as Given, Left}
@@ -62,10 +63,6 @@ one_loses t es i a g il ae vars fewer stays =
 
 -- ---- bounds
 
-pub if_some : (found : Option ℕ) (P Q : ℕ → Type 0) → ((b : ℕ) → P b → Q b) → IfSome found P → IfSome found Q
-if_some None P Q f h = h
-if_some (Some b) P Q f h = f b h
-
 -- what bounds a column of an edge bounds its variable
 pub bound_by : (values : List Value) (es : List (Edge ℕ)) (e : Edge ℕ) (place y : ℕ) (side : Op) (i : ℕ) → i < length es → e ≡ get_or es i e → place < length e.vars → get_or e.vars place 0 ≡ y → (b : ℕ) → IsWidest values e place side b → IsBound values es y side b
 bound_by values es e place y side i low is within at b widest op ok v fits x h =
@@ -88,9 +85,6 @@ same_place es i a b low ae be = ae ∙ get_or_default es i a b low ∙ sym be
 
 -- ---- rows that pass
 
-only_one : (row r : List ℕ) → Contains (row ∷ []) r → row ≡ r
-only_one row r h = let l = h.1 in let z : h.0 ≡ 0 = omega arith in ap (λ i. get_or (row ∷ []) i r) (sym z) ∙ h.2
-
 pub none_pass : (values : List Value) (e : Edge ℕ) (test : Test) → ArePassing values e test 0 []
 none_pass values e test r = (λ c. let l = c.1 in absurd (omega arith), λ p. let l = p.1 in absurd (omega arith))
 
@@ -100,7 +94,7 @@ pass_more values e test n rows row true is holds old r = (
       ⊎_elim
       (λ (h : Contains rows r). let p = (old r).0 h in let l = p.1 in (p.0, omega arith, p.2, p.3))
       (λ (h : Contains (row ∷ []) r).
-      let same : row ≡ r = only_one row r h in
+      let same : row ≡ r = Contains-one row r h in
       (n, omega arith, sym is ∙ same, ap (λ s. test_passes values s [] test) (sym same) ∙ sym holds))
       (Contains-append_cases rows (row ∷ []) r c),
   λ p.

@@ -1,6 +1,7 @@
 pub mod ChosenVariables
 pub mod Triples
 pub mod ProjectedJoins
+pub mod Splits
 pub mod PartSteps
 pub mod Made
 pub mod JoinedEdges
@@ -11,7 +12,6 @@ pub mod CheckTests
 pub mod Labels
 pub mod ComponentLabels
 pub mod CutEdges
-pub mod PassingNumbers
 pub mod BodySteps
 pub mod Over
 pub mod CodedValuations

@@ -3,7 +3,7 @@ use Rattle.std.proofs.Common.{◌≡◌, ℕ, ◌+◌, ◌-◌, ◌<◌, ◌≤�
 use Rattle.std.specs.Prelude.{map, nat_lt, MatchBool, ◌&&◌, ◌||◌}
 use Rattle.std.specs.List.{remove}
 use Rattle.std.specs.Cmp.{first_so, second_so}
-use Rattle.std.proofs.lemmas.Bool.{cases_Bool, cases_eq, cases_lt, true≢false}
+use Rattle.std.proofs.lemmas.Bool.{cases_Bool, cases_eq, cases_lt, true≢false, and_from}
 use Rattle.std.proofs.lemmas.Bool.Decides.{nat_tests}
 use Rattle.std.proofs.lemmas.List.{get_or_default, get_or-set_same, get_or-set_other, length-set}
 use Rattle.std.proofs.lemmas.List.Edits.{length-remove, get_or-remove_below, get_or-remove_above}
@@ -14,13 +14,14 @@ use Rattle.su_exec.specs.declared.checks.Check.{Check}
 use Rattle.su_exec.specs.declared.checks.Test.{Test}
 use Rattle.su_exec.specs.inside.Bodies.{AreAlone, AreThere, IsGiven, IsOver, IsWanted}
 use Rattle.su_exec.specs.inside.Checks.{all_hold, all_pass, check_vars}
-use Rattle.su_exec.specs.inside.Edges.{Edge, Fits, FitsAll, Keeps, Splits, among, always, has}
+use Rattle.su_exec.specs.inside.Edges.{Edge, Fits, FitsAll, Keeps, among, always, has}
 use Rattle.su_exec.specs.inside.Joins.{IsJoinOf, IsReal, IsUpTo, test_at}
 use Rattle.su_exec.specs.inside.Sifts.{IsSifted}
 use Rattle.su_exec.proofs.ProjectedJoins.{is_test, first_among, second_among}
-use Rattle.su_exec.proofs.PartSteps.{agree_from, and_both, fits_agree, patched, patched_in, patched_out}
+use Rattle.su_exec.proofs.PartSteps.{agree_from, fits_agree, patched, patched_in, patched_out}
 use Rattle.su_exec.proofs.Parts.{alone, one_of, put_step, shrunk, test_once, twice}
 use Rattle.su_exec.proofs.BodySteps.{front_out, front_parts, has_first, has_second, hold_test, moved_back, there_step}
+use Rattle.su_exec.proofs.Splits.{Splits}
 
 -- ---- fronts
 
@@ -54,7 +55,7 @@ module _ (values : List Value) (needed : List ℕ) (olds news : List Check) (tes
           λ v f p.
               let all : FitsAll v (g ∷ rest) = (moved_back g rest v).1 f in
               let fit = (sifted.rows v).0 (All-head (Fits v) g rest all) in
-              record { valuation = v; fits = All-cons (Fits v) a rest fit.0 (All-tail (Fits v) g rest all); passes = same values v ∙ and_both (pass v) (all_hold values news v) fit.1 p; same = refl },
+              record { valuation = v; fits = All-cons (Fits v) a rest fit.0 (All-tail (Fits v) g rest all); passes = same values v ∙ and_from (pass v) (all_hold values news v) fit.1 p; same = refl },
         )
 
     pub sifted_there : AreThere needed olds (a ∷ rest) → AreThere needed news (after ++ g ∷ [])
@@ -162,7 +163,7 @@ module _ (values : List Value) (needed : List ℕ) (olds news : List Check) (tes
           record {
             valuation = x;
             fits = (splits x).1 (here, there);
-            passes = same values x ∙ and_both (s x) (all_hold values news x) ps pu;
+            passes = same values x ∙ and_from (s x) (all_hold values news x) ps pu;
             gives = agree_from x w.valuation g.vars (λ k h. patched_in gs w.valuation v k (within k h).1) ∙ sym w.same ∙ r.1;
           }
 

@@ -1,5 +1,5 @@
 -- From what candidates show to the outputs of a task.
-use Rattle.std.proofs.Common.{◌≡◌, ℕ, zero, suc, ◌+◌, ◌<◌, ◌≤◌, ◌⊎◌, ◌↔◌, Bool, true, false, Option, Some, List, [], ◌∷◌, ◌++◌, length, get_or, Contains, refl, sym, ap, subst, ◌∙◌, inl, inr, ⊎_elim, arith}
+use Rattle.std.proofs.Common.{◌≡◌, ℕ, zero, suc, ◌+◌, ◌<◌, ◌≤◌, ◌⊎◌, ◌↔◌, Bool, true, false, Option, Some, List, [], ◌∷◌, ◌++◌, length, get_or, Contains, refl, sym, ap, subst, ◌∙◌, inl, inr, ⊎_elim, arith, append_assoc}
 use Rattle.std.specs.Prelude.{map, All, pos, nat_eq, ◌&&◌, take, Result, Ok, Err, IfOk, IfErr}
 use Rattle.std.specs.List.{AllZip}
 use Rattle.std.specs.List.Sorted.{IsStrictlySortedBy}
@@ -8,9 +8,9 @@ use Rattle.std.proofs.lemmas.Bool.{cases_Bool, cases_lt, true≢false}
 use Rattle.std.proofs.lemmas.Bool.Decides.{nat_tests}
 use Rattle.std.proofs.lemmas.Cmp.{tied_itself}
 use Rattle.std.proofs.lemmas.List.{get_or-map, get_or_default, length-map, take_more}
-use Rattle.std.proofs.lemmas.List.Elements.{All-cons, All-nil, All-head, All-tail, All-contains, All-from_recursion, Contains-get_or}
+use Rattle.std.proofs.lemmas.List.Elements.{All-cons, All-nil, All-head, All-tail, All-contains, Contains-get_or}
 use Rattle.std.proofs.lemmas.List.Folds.{Any-from_list_any}
-use Rattle.std.proofs.lemmas.Map.Keys.{sorted_head, sorted_tail}
+use Rattle.std.proofs.lemmas.Map.Keys.{Less-from_sorted}
 use Rattle.std.proofs.lemmas.Option.{same_Some}
 use Rattle.su_base.proofs.Items.{AllZip-push, Contains-map}
 use Rattle.su_base.specs.declared.values.Value.{Value}
@@ -88,19 +88,13 @@ module _ (values : List Value) (e : Edge ℕ) (terms : List CodedSymbol) (spots 
     λ s. subst (λ (g : List Value). Contains (map (spot_values values spots) e.rows) g) (shown_values values e.vars terms spots s.valuation are ∙ s.gives) (Contains-map (spot_values values spots) e.rows (map s.valuation e.vars) s.fits),
   )
 
-less_before : (rows : List (List Value)) (i j : ℕ) → IsStrictlySortedBy compare_lists rows → i < j → j < length rows → compare_lists (get_or rows i []) (get_or rows j []) ≡ Less
-less_before [] i j sorted l m = absurd (omega arith)
-less_before (r ∷ rows) i zero sorted l m = absurd (omega arith)
-less_before (r ∷ rows) zero (suc j) sorted l m = All-from_recursion (λ y. compare_lists r y ≡ Less) rows (sorted_head compare_lists r rows sorted) j [] (omega arith)
-less_before (r ∷ rows) (suc i) (suc j) sorted l m = less_before rows i j (sorted_tail compare_lists r rows sorted) (omega arith) (omega arith)
-
 -- ascending rows past the bound that are shown are more than it
 pub shows_more : (values : List Value) (e : Edge ℕ) (terms : List CodedSymbol) (n : ℕ) (rows : List (List Value)) → IsStrictlySortedBy compare_lists rows → ((h : List Value) → Contains rows h → IsShown values e terms h) → n < length rows → AreMoreThan n (IsShown values e terms)
 shows_more values e terms n rows sorted each many = record {
   member = λ i. get_or rows i [];
   each = λ i l. each (get_or rows i []) (Contains-get_or rows i [] (omega arith));
   differ = λ i j l m same.
-      let less = less_before rows i j sorted l (omega arith) in
+      let less = Less-from_sorted compare_lists rows i j [] sorted l (omega arith) in
       let tied : compare_lists (get_or rows i []) (get_or rows i []) ≡ Equal = tied_itself rows_total (get_or rows i []) in
       let f : Less ≡ Equal = sym less ∙ ap (compare_lists (get_or rows i [])) (sym same) ∙ tied in
       cc;
@@ -131,10 +125,6 @@ checks_up a b (d ∷ comparisons) [] more h = absurd h
 checks_up a b (d ∷ comparisons) (c ∷ checks) more h =
     let first = h.0 in
     (record { left = term_up a b d.left c.left more first.left; op = first.op; right = term_up a b d.right c.right more first.right }, checks_up a b comparisons checks more h.1)
-
-pub append_assoc : (xs ys zs : List ℕ) → (xs ++ ys) ++ zs ≡ xs ++ (ys ++ zs)
-append_assoc [] ys zs = refl
-append_assoc (x ∷ xs) ys zs = ap (λ r. x ∷ r) (append_assoc xs ys zs)
 
 append_none : (xs : List ℕ) → xs ++ [] ≡ xs
 append_none [] = refl

@@ -3,9 +3,10 @@ use Rattle.std.proofs.Common.{◌≡◌, ℕ, ◌<◌, Bool, true, false, List, 
 use Rattle.std.specs.Prelude.{nat_eq, cond, ◌&&◌}
 use Rattle.std.specs.Cmp.{first_so, second_so}
 use Rattle.std.proofs.lemmas.Bool.Decides.{nat_tests}
-use Rattle.std.proofs.lemmas.Bool.{cases_eq, cases_Bool, true≢false}
+use Rattle.std.proofs.lemmas.Bool.{cases_eq, cases_Bool, true≢false, and_from}
 use Rattle.std.proofs.lemmas.List.Folds.{list_any_at}
-use Rattle.su_exec.specs.inside.Edges.{Edge, FitsAll, has, among, always, HaveSameValues, Goes, Keeps, Splits, Enough, IsWithin, IsTestOf, Same}
+use Rattle.su_exec.specs.inside.Edges.{Edge, FitsAll, has, among, always, HaveSameValues, Goes, Keeps, Same}
+use Rattle.su_exec.proofs.Splits.{Splits, Enough, IsWithin, IsTestOf}
 
 -- ---- agreeing
 
@@ -62,10 +63,6 @@ same_keeps ks es fs s same = (λ v f p. record { valuation = v; fits = (same v).
 
 -- ---- tests
 
-pub and_both : (a b : Bool) → a ≡ true → b ≡ true → (a && b) ≡ true
-and_both true b h k = k
-and_both false b h k = h
-
 -- w on the variables of the part, v elsewhere
 abbrev pub patched : {X : Type 0} → List (Edge X) → (ℕ → X) → (ℕ → X) → ℕ → X
 patched gs w v k = cond (among gs k) (w k) (v k)
@@ -104,7 +101,7 @@ step_on_part needed ks us es fs gs hs rs st s u left right both keeps within eno
       record {
         valuation = x;
         fits = (left x).1 (here, rest);
-        passes = both x ∙ and_both (s x) (u x) ps pu;
+        passes = both x ∙ and_from (s x) (u x) ps pu;
         same = agree_from v x needed (λ k h. patched_out gs w.valuation v k (λ g. agree_at v w.valuation ks w.same k (enough.in_needed k g h)));
       },
 )

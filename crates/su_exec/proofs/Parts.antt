@@ -7,9 +7,10 @@ use Rattle.std.specs.Prelude.{nat_eq, ◌&&◌}
 use Rattle.std.proofs.lemmas.List.Elements.{All-append, All-cons, All-nil, All-head, All-tail, All-take, All-drop}
 use Rattle.std.proofs.lemmas.List.Edits.{length-remove, get_or-remove_below, get_or-remove_above}
 use Rattle.std.proofs.lemmas.List.Folds.{list_any-append, list_any_at}
-use Rattle.su_exec.specs.inside.Edges.{Edge, Fits, has, among, always, HaveSameValues, Keeps, Splits, IsWithin, IsTestOf}
+use Rattle.su_exec.specs.inside.Edges.{Edge, Fits, has, among, always, HaveSameValues, Keeps}
 use Rattle.su_reduce.specs.Sheets.{pick, AreBelow}
 use Rattle.su_exec.proofs.PartSteps.{step_on_part}
+use Rattle.su_exec.proofs.Splits.{Splits, IsWithin, IsTestOf}
 
 pub All_removed : {X : Type 0} (P : X → Type 0) (xs : List X) (i : ℕ) → i < length xs → All P xs → All P (remove xs i)
 All_removed P xs i h all k d l =

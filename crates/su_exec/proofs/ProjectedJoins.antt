@@ -2,12 +2,13 @@
 use Rattle.std.proofs.Common.{◌≡◌, ℕ, ◌<◌, ◌++◌, Bool, true, false, List, [], ◌∷◌, length, get_or, Contains, refl, sym, ap, ◌∙◌, ⊎_elim, arith}
 use Rattle.std.specs.Prelude.{map, cond}
 use Rattle.std.proofs.lemmas.Bool.{cases_Bool}
-use Rattle.std.proofs.lemmas.List.{get_or-map, get_or_default}
+use Rattle.std.proofs.lemmas.List.{get_or-map, get_or_default, map-append}
 use Rattle.std.proofs.lemmas.List.Elements.{All-head, All-tail, All-cons, All-nil}
-use Rattle.su_exec.specs.inside.Edges.{Edge, Fits, FitsAll, has, among, always, Reaches, Keeps, IsTestOf}
+use Rattle.su_exec.specs.inside.Edges.{Edge, Fits, FitsAll, has, among, always, Reaches, Keeps}
 use Rattle.su_reduce.specs.Sheets.{pick, AreBelow}
 use Rattle.su_exec.specs.inside.Joins.{Columns, Joined, IsReal, FitColumns, out_vars, test_at}
 use Rattle.su_exec.proofs.PartSteps.{agree_from, agree_at}
+use Rattle.su_exec.proofs.Splits.{IsTestOf}
 
 pub pick_map : (v : ℕ → ℕ) (ps xs : List ℕ) → AreBelow ps (length xs) → pick ps (map v xs) ≡ map v (pick ps xs)
 pick_map v [] xs h = refl
@@ -15,10 +16,6 @@ pick_map v (p ∷ ps) xs h =
     let e = get_or-map v xs p 0 0 (All-head (λ p. p < length xs) p ps h) in
     let i = pick_map v ps xs (All-tail (λ p. p < length xs) p ps h) in
     cc
-
-pub map_append : (v : ℕ → ℕ) (xs ys : List ℕ) → map v (xs ++ ys) ≡ map v xs ++ map v ys
-map_append v [] ys = refl
-map_append v (x ∷ xs) ys = ap (λ r. v x ∷ r) (map_append v xs ys)
 
 -- the row at a place is what a valuation gives
 real_at : (e : Edge ℕ) → IsReal e → (i : ℕ) → i < length e.rows → (v : ℕ → ℕ) × (map v e.vars ≡ get_or e.rows i [])
@@ -62,7 +59,7 @@ outs : (c : Columns) (xs ys : List ℕ) (v : ℕ → ℕ) → FitColumns c xs ys
 outs c xs ys v fit =
     let a = pick_map v c.left_out xs fit.left_out in
     let b = pick_map v c.right_out ys fit.right_out in
-    let e = map_append v (pick c.left_out xs) (pick c.right_out ys) in
+    let e = map-append v (pick c.left_out xs) (pick c.right_out ys) in
     cc
 
 pub first_among : (a b : Edge ℕ) (k : ℕ) → has a.vars k ≡ true → among (a ∷ b ∷ []) k ≡ true

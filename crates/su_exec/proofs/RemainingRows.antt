@@ -1,6 +1,7 @@
 -- Rows are taken one by one from those that are left.
-use Rattle.std.proofs.Common.{◌≡◌, ℕ, ◌+◌, ◌-◌, ◌<◌, ◌≤◌, ◌⊎◌, true, List, [], ◌∷◌, ◌++◌, Some, length, get_or, slice_get, Contains, refl, sym, ap, subst, ◌∙◌, inl, inr, ⊎_elim, arith}
-use Rattle.std.specs.Prelude.{map, sum, All}
+-- left: rows of the task for which nothing is fetched yet, by number
+use Rattle.std.proofs.Common.{◌≡◌, ℕ, ◌+◌, ◌-◌, ◌<◌, ◌≤◌, ◌⊎◌, true, List, [], ◌∷◌, ◌++◌, Some, length, get_or, slice_get, Contains, refl, sym, ap, subst, ◌∙◌, inl, inr, ⊎_elim, arith, ◌↔◌}
+use Rattle.std.specs.Prelude.{map, sum, All, slice_index_or}
 use Rattle.std.specs.List.{range_with_len, remove}
 use Rattle.std.proofs.lemmas.Bool.{cases_eq, cases_lt}
 use Rattle.std.proofs.lemmas.List.{get_or-map, get_or_default, length-map, map_push, take_at, drop_at}
@@ -16,13 +17,29 @@ use Rattle.su_tableau.specs.declared.symbols.Sym.TheVariants.{Var}
 use Rattle.su_exec.specs.declared.tasks.Task.{Task}
 use Rattle.su_exec.specs.declared.tasks.TaskRow.{TaskRow}
 use Rattle.su_reduce.specs.Codes.{decode, Extends}
-use Rattle.su_exec.specs.inside.Coded.{AgreesAt, AreRowEdges, AreSoFar, IsCoded, IsRowEdge, NoneAgrees, left_share, meaning, meanings}
+use Rattle.su_exec.specs.inside.Coded.{AreRowEdges, IsCoded, IsRowEdge, NoneAgrees, meaning, meanings}
 use Rattle.su_exec.specs.inside.Edges.{Edge, Fits, FitsAll, among}
 use Rattle.su_exec.specs.Outputs.{Agrees}
 use Rattle.su_exec.specs.Shares.{row_share, task_share}
 use Rattle.su_exec.proofs.Meanings.{edges_up, meanings_same}
 use Rattle.su_exec.proofs.Parts.{All_removed, All_put_back}
 use Rattle.su_exec.proofs.BodySteps.{among_first, among_last}
+use Rattle.su_exec.specs.Tasks.{StandsIn}
+
+-- row i agrees with a stored row
+abbrev pub AgreesAt : List Stored → (ℕ → Value) → Task → ℕ → Type 0
+AgreesAt tables v task i = (row : TaskRow) → slice_get task.rows i ≡ Some row → Agrees tables v row
+
+-- the edges say that each row that isn't left agrees with a stored row
+pub record AreSoFar (tables : List Stored) (values : List Value) (task : Task) (es : List (Edge ℕ)) (left : List ℕ) : Type 0 where
+  pub exact : (v : ℕ → Value) → All (Agrees tables v) task.rows ↔ (FitsAll v (meanings values es) × All (AgreesAt tables v task) left)
+  pub coded : All (IsCoded values) es
+  pub all : (k i : ℕ) → StandsIn task k i → (among es k ≡ true) ⊎ Contains left i
+  pub within : All (λ i. i < length task.rows) left
+
+-- the shares of the rows that are left
+abbrev pub left_share : List Stored → Task → List ℕ → ℕ
+left_share tables task left = sum (map (λ i. row_share tables (slice_index_or task.rows i (record { cells = []; sources = [] }))) left)
 
 abbrev no_row : TaskRow
 no_row = record { cells = []; sources = [] }

@@ -1,6 +1,6 @@
 -- Semijoins: rows that have a partner, and what valuations say of them.
 use Rattle.std.proofs.Common.{◌≡◌, ◌↔◌, ◌⊎◌, ◌++◌, ◌+◌, ℕ, zero, suc, ◌<◌, ◌≤◌, Bool, true, false, IsTrue, cond, List, [], ◌∷◌, length, get_or, Contains, refl, sym, ap, subst, ◌∙◌, ⊎_elim, inl, inr, true≢false, append-nil, arith}
-use Rattle.std.specs.Prelude.{All, map, take}
+use Rattle.std.specs.Prelude.{All, map, take, slice_index_or}
 use Rattle.std.proofs.lemmas.Bool.{cases_eq}
 use Rattle.std.proofs.lemmas.List.{get_or_default, take_all}
 use Rattle.std.proofs.lemmas.List.Elements.{All-cons, All-head, All-nil, All-tail, Contains-append_left, Contains-push, Contains-push_cases}
@@ -9,9 +9,20 @@ use Rattle.su_reduce.specs.Left.{marked}
 use Rattle.su_reduce.specs.Sheets.{pick, AreBelow, IsMarkedKey}
 use Rattle.su_reduce.proofs.Along.{marked_more}
 use Rattle.su_exec.specs.inside.Joins.{IsReal}
-use Rattle.su_exec.specs.inside.Semijoins.{AgreesWith, AreKept, HasKey, IsKept, IsSemijoin}
+use Rattle.su_exec.specs.inside.Semijoins.{AgreesWith, HasKey, IsSemijoin}
 use Rattle.su_exec.proofs.ProjectedJoins.{pick_map}
 use Rattle.su_exec.proofs.PartSteps.{agree_at}
+
+-- one of the first n rows on the left, which has a partner
+pub record IsKept (ls rs : List (List ℕ)) (left_key right_key : List ℕ) (n : ℕ) (r : List ℕ) : Type 0 where
+  pub place : ℕ
+  pub below : place < n
+  pub is : slice_index_or ls place [] ≡ r
+  pub partner : HasKey rs right_key (length rs) (pick left_key r)
+
+-- those of the first n rows on the left that have a partner
+abbrev pub AreKept : List (List ℕ) → List (List ℕ) → List ℕ → List ℕ → ℕ → List (List ℕ) → Type 0
+AreKept ls rs left_key right_key n rows = (r : List ℕ) → Contains rows r ↔ IsKept ls rs left_key right_key n r
 
 -- ---- keys
 

@@ -15,12 +15,28 @@ use Rattle.su_exec.specs.inside.Coded.{IsCoded, IsGathered, IsRowEdge, IsTaken, 
 use Rattle.su_exec.specs.inside.Edges.{Edge, FitsAll}
 use Rattle.su_exec.specs.Outputs.{values_at}
 use Rattle.su_exec.specs.Tasks.{FitsTables}
-use Rattle.su_exec.specs.inside.Ways.{AgreesBySources, AreReached, IsAgreed, IsFrom, IsFromListed, IsOfSources}
+use Rattle.su_exec.specs.inside.Ways.{AreReached, IsAgreed, IsFrom, IsFromListed}
 use Rattle.su_exec.proofs.Meanings.{meanings_same, row_of}
 use Rattle.su_exec.proofs.GatheredRows.{gathered_as}
 use Rattle.su_exec.proofs.PartSteps.{agree_at}
 use Rattle.su_exec.proofs.CellShapes.{shape_has, taken_is}
 use Rattle.su_tableau.proofs.ValuationLists.{values_same}
+
+-- one of the first n sources gives them
+pub record IsOfSources (tables : List Stored) (row : TaskRow) (firsts : List ℕ) (n : ℕ) (h : List Value) : Type 0 where
+  pub number : ℕ
+  pub below : number < n
+  pub source : Source
+  pub is : slice_get row.sources number ≡ Some source
+  pub given : IsFrom row.cells firsts source.columns (table_at tables source.relation).rows (length (table_at tables source.relation).rows) h
+
+-- some source before number n gives the row these values
+pub record AgreesBySources (tables : List Stored) (values : List Value) (es : List (Edge ℕ)) (row : TaskRow) (firsts : List ℕ) (n : ℕ) (h : List Value) : Type 0 where
+  pub number : ℕ
+  pub below : number < n
+  pub source : Source
+  pub is : slice_get row.sources number ≡ Some source
+  pub agreed : IsAgreed tables values es row.cells firsts source h
 
 pub within_stored : (tables : List Stored) (n i : ℕ) (source : Source) (stored : List Value) → FitsTables tables n source → IsRelation (table_at tables source.relation) → slice_get (table_at tables source.relation).rows i ≡ Some stored → All (λ column. column < length stored) source.columns
 within_stored tables n i source stored fits relation at k d l =

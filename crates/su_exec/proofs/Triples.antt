@@ -5,13 +5,14 @@ use Rattle.std.proofs.lemmas.Bool.{cases_Bool, cases_lt}
 use Rattle.std.proofs.lemmas.List.{get_or_default}
 use Rattle.std.proofs.lemmas.List.Elements.{All-cons, All-nil, All-head, All-tail, Contains-push, Contains-push_cases, Contains-append_left}
 use Rattle.su_exec.specs.inside.Bodies.{IsGiven}
-use Rattle.su_exec.specs.inside.Edges.{HaveSameValues, Edge, Fits, FitsAll, Keeps, Splits, always, among, has}
+use Rattle.su_exec.specs.inside.Edges.{HaveSameValues, Edge, Fits, FitsAll, Keeps, always, among, has}
 use Rattle.su_reduce.specs.Sheets.{AreBelow, pick}
 use Rattle.su_exec.specs.inside.Joins.{IsReal}
 use Rattle.su_exec.specs.inside.Threes.{IsBlock}
 use Rattle.su_exec.proofs.ProjectedJoins.{first_among, pick_map, second_among, two as pair}
 use Rattle.su_exec.proofs.PartSteps.{agree_at, agree_from}
 use Rattle.su_exec.proofs.Parts.{one_of}
+use Rattle.su_exec.proofs.Splits.{Splits}
 
 -- ---- two edges and their join
 

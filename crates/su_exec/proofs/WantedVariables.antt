@@ -1,12 +1,12 @@
 -- Variables that checks compare are wanted.
 use Rattle.std.proofs.Common.{◌≡◌, ℕ, zero, suc, ◌+◌, ◌<◌, true, List, [], ◌∷◌, ◌++◌, length, take, get_or, sym, ap, ◌∙◌, inr, ⊎_elim, arith}
-use Rattle.std.proofs.lemmas.Bool.{true≢false}
+use Rattle.std.proofs.lemmas.Bool.{true≢false, or_cases}
 use Rattle.su_exec.specs.declared.checks.Check.{Check}
 use Rattle.su_exec.specs.inside.Bodies.{IsWanted}
 use Rattle.su_exec.specs.inside.Checks.{check_vars, vars_of}
 use Rattle.su_exec.specs.inside.Edges.{Edge, has}
 use Rattle.su_exec.proofs.BodySteps.{has_either, has_first, has_second}
-use Rattle.su_exec.proofs.CheckTests.{has_more, or_either}
+use Rattle.su_exec.proofs.CheckTests.{has_more}
 
 -- the variables of one of the checks
 vars_in : (cs : List Check) (i : ℕ) (d : Check) (k : ℕ) → i < length cs → has (vars_of (get_or cs i d).left ++ vars_of (get_or cs i d).right) k ≡ true → has (check_vars cs) k ≡ true
@@ -42,7 +42,7 @@ module _ (needed : List ℕ) (es : List (Edge ℕ)) (cs : List Check) (i : ℕ) 
       ⊎_elim
       (λ (x : has (check_vars (take i cs)) k ≡ true). stays_wanted k (before k x))
       (λ (x : has (check_vars (get_or cs i d ∷ [])) k ≡ true). of_check k x)
-      (or_either (has (check_vars (take i cs)) k) (has (check_vars (get_or cs i d ∷ [])) k) (sym (has_more cs i d l k) ∙ h))
+      (or_cases (has (check_vars (take i cs)) k) (has (check_vars (get_or cs i d ∷ [])) k) (sym (has_more cs i d l k) ∙ h))
 
   pub only_wanted : ((k : ℕ) → has olds k ≡ true → IsWanted needed es cs k) → (k : ℕ) → has news k ≡ true → IsWanted needed es cs k
   only_wanted before k h =

@@ -19,12 +19,21 @@ use Rattle.su_index.proofs.Matched.{has_value-decides, match_of, match_unique}
 use Rattle.su_exec.specs.declared.tasks.Source.{Source}
 use Rattle.su_exec.specs.declared.tasks.TaskRow.{TaskRow}
 use Rattle.su_reduce.specs.Codes.{decode}
-use Rattle.su_exec.specs.inside.Coded.{meaning}
-use Rattle.su_exec.specs.inside.Edges.{Edge, Fits}
+use Rattle.su_exec.specs.inside.Coded.{meaning, meanings}
+use Rattle.su_exec.specs.inside.Edges.{Edge, Fits, FitsAll}
 use Rattle.su_exec.specs.Outputs.{values_at}
 use Rattle.su_exec.specs.Shares.{least_matches}
 use Rattle.su_exec.specs.Tasks.{FitsTables}
-use Rattle.su_exec.specs.inside.Ways.{AreOfCodes, AreReached, IsReached, only_code}
+use Rattle.su_exec.specs.inside.Ways.{AreOfCodes, AreReached, only_code}
+
+-- one of the codes stands for the value of the column's cell, under each valuation that fits the candidates so far
+pub record IsReached (values : List Value) (es : List (Edge ℕ)) (cells : List Sym) (columns : List ℕ) (column : ℕ) (codes : List (List ℕ)) : Type 0 where
+  pub place : ℕ
+  pub cell : Sym
+  pub below : place < length cells
+  pub is : slice_get cells place ≡ Some cell
+  pub column_is : slice_get columns place ≡ Some column
+  pub reaches : (v : ℕ → Value) → FitsAll v (meanings values es) → Contains (map (λ r. decode values (only_code r)) codes) (value_of v cell)
 
 -- ---- sums
 

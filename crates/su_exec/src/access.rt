@@ -292,8 +292,8 @@ pub fn share_of<R: Rows>(rows: &R, row: &TaskRow) -> usize
     requires { HasSources (R.tables rows.now) row.now }
 {
     let mut share = 0usize;
-    for s in 0..row.sources.len() {
-        share = share.saturating_add(cheapest_of(rows, row, row.sources.get(s)).cost);
+    for source in row.sources.as_slice() {
+        share = share.saturating_add(cheapest_of(rows, row, source).cost);
     }
     share
 }

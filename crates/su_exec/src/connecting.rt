@@ -92,8 +92,8 @@ fn join_row(task: &Task, i: usize, labels: &mut [usize])
     ensures joined { (k first : ℕ) → StandsIn task.now k i → IsFirstRow task.now k first → label_of labels.new i ≡ label_of labels.new first }
 {
     let row = task.rows.get(i);
-    for p in 0..row.cells.len() {
-        join_first(task, row.cells.get(p), i, labels);
+    for cell in row.cells.as_slice() {
+        join_first(task, cell, i, labels);
     }
 }
 
@@ -131,20 +131,10 @@ fn labels_of(alloc: Global, task: &Task) -> Result<Vec<usize>, AllocError>
     for i in 0..task.rows.len() {
         join_row(task, i, &mut labels);
     }
-    for n in 0..task.comparisons.len() {
-        join_compared(task, task.comparisons.get(n), &mut labels);
+    for compared in task.comparisons.as_slice() {
+        join_compared(task, compared, &mut labels);
     }
     Ok(labels)
-}
-
-/// Puts the row last, if it passes.
-fn push_if(part: &mut List<u8>, passes: bool, row: u8) -> Result<(), NoMemory>
-    ensures { IfOk result (λ _. part.new ≡ part.old ++ cond passes (row ∷ []) []) }
-{
-    if passes {
-        part.push(row)?;
-    }
-    Ok(())
 }
 
 /// The rows with the label.
@@ -154,7 +144,7 @@ fn part_of(alloc: Global, labels: &[usize], label: usize) -> Result<List<u8>, No
 {
     let mut part = List::new(alloc);
     for i in 0..labels.len() {
-        push_if(&mut part, labels[i] == label, i as u8)?;
+        part.push_if(labels[i] == label, i as u8)?;
     }
     Ok(part)
 }

@@ -44,8 +44,8 @@ fn terms_of(
     ensures codes { IfOk result (λ _. Extends codes.old codes.new) }
 {
     let mut terms = Vec::new(alloc);
-    for i in 0..symbols.len() {
-        let term = term_of(alloc, codes, symbols.get(i))?;
+    for symbol in symbols.as_slice() {
+        let term = term_of(alloc, codes, symbol)?;
         terms.push(term)?;
     }
     Ok(terms)
@@ -71,8 +71,8 @@ fn checks_of(alloc: Global, codes: &mut Codes, task: &Task) -> Result<Vec<Check>
     ensures codes { IfOk result (λ _. Extends codes.old codes.new) }
 {
     let mut checks = Vec::new(alloc);
-    for i in 0..task.comparisons.len() {
-        let check = check_of(alloc, codes, task.comparisons.get(i))?;
+    for compared in task.comparisons.as_slice() {
+        let check = check_of(alloc, codes, compared)?;
         checks.push(check)?;
     }
     Ok(checks)

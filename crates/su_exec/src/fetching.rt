@@ -156,8 +156,8 @@ fn fetch_listed<R: Rows>(
 {
     // For the proof: the table is a relation.
     let _count = rows.len(aim.source.relation);
-    for k in 0..positions.len() {
-        fetch_one(alloc, rows, codes, aim, positions[k], out)?;
+    for position in positions {
+        fetch_one(alloc, rows, codes, aim, *position, out)?;
     }
     Ok(())
 }
@@ -256,8 +256,8 @@ fn shares_of<R: Rows>(alloc: Global, task: &Task, rows: &R) -> Result<Vec<usize>
     requires { All (HasSources (R.tables rows.now)) task.now.rows }
 {
     let mut shares = Vec::new(alloc);
-    for i in 0..task.rows.len() {
-        shares.push(share_of(rows, task.rows.get(i)))?;
+    for row in task.rows.as_slice() {
+        shares.push(share_of(rows, row))?;
     }
     Ok(shares)
 }

@@ -1,12 +1,12 @@
 -- What an insert and a remove in a list of positions in order leave.
-use Rattle.std.proofs.Common.{◌≡◌, ◌<◌, ◌≤◌, ◌+◌, ◌-◌, ◌^◌, ℕ, zero, suc, Bool, true, false, not, cond, List, [], ◌∷◌, ◌++◌, length, get_or, take, drop, ap, refl, sym, ◌∙◌, arith, inl, inr, ◌⊎◌, Contains, count_by, nat_lt, nat_le, nat_eq, add-one}
+use Rattle.std.proofs.Common.{◌≡◌, ◌<◌, ◌≤◌, ◌+◌, ◌-◌, ◌^◌, ℕ, zero, suc, Bool, true, false, not, cond, List, [], ◌∷◌, ◌++◌, length, get_or, take, drop, ap, refl, sym, ◌∙◌, arith, inl, inr, Contains, count_by, nat_lt, nat_eq, add-one}
 use Rattle.std.specs.List.{AllByRecursion, insert, remove}
 use Rattle.std.specs.List.Sorted.{IsStrictlySortedBy}
 use Rattle.std.specs.Ordering.{nat_cmp, ordering_then, ordering_reverse, is_lt}
 use Rattle.std.specs.declared.cmp.Ordering.{Ordering}
 use Rattle.std.specs.declared.cmp.Ordering.TheVariants.{Less, Equal, Greater}
 use Rattle.std.proofs.lemmas.Cmp.{tied_itself}
-use Rattle.std.proofs.lemmas.Bool.{false≢true, cases_eq}
+use Rattle.std.proofs.lemmas.Bool.{false≢true, cases_eq, cases_lt}
 use Rattle.std.proofs.lemmas.Bool.Decides.{nat_tests}
 use Rattle.std.proofs.lemmas.List.{take-append-drop, get_or-take, get_or-drop, length-take-le, length-drop, get_or_default, drop_more}
 use Rattle.std.proofs.lemmas.List.Elements.{recursion_from_All}
@@ -18,12 +18,6 @@ use Rattle.su_index.specs.Order.{compare_keys, compare_places, count_below, IsRu
 use Rattle.su_index.specs.inside.Order.{ArePositions, comes_before, with_value}
 use Rattle.su_index.proofs.Runs.{keys_total, places_total, count_below-suc, count_by-cons, count_by-append, count_by-none, sorted_nil, Before, AllBefore, sorted-append, sorted-append_left, sorted-append_right, sorted-append_before, sorted_cons}
 use Rattle.su_index.proofs.Spans.{index_positions, run_positions, count_by_zero}
-
-le_or_lt : (a b : ℕ) → (a ≤ b) ⊎ (b < a)
-le_or_lt a b = elim (nat_le a b) as (λ t. nat_le a b ≡ t → (a ≤ b) ⊎ (b < a)) [
-  | true ↦ λ e. inl (grind (arith, nat_tests, e))
-  | false ↦ λ e. inr (grind (arith, nat_tests, e))
-] refl
 
 -- ---- values that agree
 
@@ -130,9 +124,9 @@ place_found at run q p sorted within there below above =
     let j : ℕ = there.0 in
     let is : get_or run j 0 ≡ p = get_or_default run j 0 p there.1 ∙ there.2 in
     let itself : comes_before at (at p) p p ≡ false = ap is_lt (tied_itself (places_total at) p) in
-    elim (le_or_lt q j) [
-      | inr less ↦ absurd (false≢true (sym itself ∙ rw is at (below j less)))
-      | inl le ↦ elim (cases_eq q j) [
+    elim (cases_lt j q) [
+      | inl less ↦ absurd (false≢true (sym itself ∙ rw is at (below j less)))
+      | inr le ↦ elim (cases_eq q j) [
         | inl e ↦ (rw e there.1, rw e is)
         | inr apart ↦
             let first : compare_places at (get_or run q 0) (get_or run j 0) ≡ Less = Less-from_sorted (compare_places at) run q j 0 sorted (omega (arith, apart)) there.1 in
@@ -256,9 +250,9 @@ empty_run at = record { each = λ test. refl; ordered = sorted_nil (compare_plac
 pub renamed_order : (at : ℕ → Value) (run : List ℕ) (s t from to : ℕ) → to < from → s < length run → get_or run s 0 ≡ from
     → ((k : ℕ) → k < t → comes_before at (at from) to (get_or run k 0) ≡ true) → t ≤ s
 renamed_order at run s t from to less within is below =
-    elim (le_or_lt t s) [
-      | inl le ↦ le
-      | inr more ↦
+    elim (cases_lt s t) [
+      | inr le ↦ le
+      | inl more ↦
           let one : comes_before at (at from) to from ≡ true = rw is at (below s more) in
           let same : compare_keys (at from) (at from) ≡ Equal = tied_itself keys_total (at from) in
           absurd (grind (arith, nat_tests, less, rw same at one))
@@ -268,9 +262,9 @@ pub absent_removed : (run : List ℕ) (s p : ℕ) → s < length run → ¬ Cont
 absent_removed run s p within out there =
     let left : List ℕ = remove run s in
     let len : length left + 1 ≡ length run = length-remove run s within in
-    elim (le_or_lt s there.0) [
-      | inl le ↦ out (there.0 + 1, omega (arith, len, there.1), sym (get_or-remove_above run s p there.0 le within) ∙ there.2)
-      | inr less ↦ out (there.0, omega (arith, len, there.1), sym (get_or-remove_below run s p there.0 less within) ∙ there.2)
+    elim (cases_lt there.0 s) [
+      | inr le ↦ out (there.0 + 1, omega (arith, len, there.1), sym (get_or-remove_above run s p there.0 le within) ∙ there.2)
+      | inl less ↦ out (there.0, omega (arith, len, there.1), sym (get_or-remove_below run s p there.0 less within) ∙ there.2)
     ]
 
 pub ordered-renamed : (at : ℕ → Value) (run : List ℕ) (s t from to : ℕ) → IsStrictlySortedBy (compare_places at) run → s < length run → t ≤ s → ¬ Contains run to
@@ -285,7 +279,7 @@ ordered-renamed at run s t from to sorted within order out below above =
     let apart : ¬ Contains left to = absent_removed run s to within out in
     ordered-insert_with at (at from) left t to (ordered-remove at run s within sorted) (omega (arith, len)) apart
     (λ k h. rw (first k (omega arith)) (below k h))
-    (λ k h l. elim (le_or_lt s k) [
-      | inl le ↦ rw (later k le) (above (k + 1) (omega arith) (omega (arith, len, l)))
-      | inr less ↦ rw (first k less) (above k h (omega (arith, len, l)))
+    (λ k h l. elim (cases_lt k s) [
+      | inr le ↦ rw (later k le) (above (k + 1) (omega arith) (omega (arith, len, l)))
+      | inl less ↦ rw (first k less) (above k h (omega (arith, len, l)))
     ])

@@ -1,12 +1,11 @@
 -- Entries in chunks: where they stand, and what edits of one chunk do to the whole.
 use Rattle.std.proofs.Common.{Result, Ok, Err, OnOk, is_ok, true, add-one, ◌≡◌, ◌<◌, ◌≤◌, ◌+◌, ◌-◌, ℕ, zero, suc, List, [], ◌∷◌, ◌++◌, length, get_or, take, drop, map, set, ap, subst, refl, sym, ◌∙◌, arith, inl, inr}
 use Rattle.std.specs.List.{insert, remove}
-use Rattle.std.proofs.lemmas.Bool.{cases_eq, false≢true}
+use Rattle.std.proofs.lemmas.Bool.{cases_eq, false≢true, cases_lt}
 use Rattle.std.proofs.lemmas.List.{append_assoc, append-nil, nil_from_length, length-append, length-take-le, length-drop, drop-map, take-append-drop, get_or_default, get_or_append_left, get_or-append-add, length_push}
 use Rattle.std.proofs.Math.Seq.{drop-append-add}
 use Rattle.std.proofs.lemmas.List.Concat.{get_or-flat_map, flat_map-append}
 use Rattle.std.proofs.lemmas.List.Edits.{get_or-insert_below, insert-append_left, insert-append_right, remove-append_left, remove-append_right}
-use Rattle.su_index.proofs.Spans.{le_or}
 use Rattle.std.specs.VecDeque.{deque_len}
 use Rattle.su_index.specs.declared.entry.Entry.{Entry}
 use Rattle.su_index.specs.declared.chunk.Chunk.{Chunk}
@@ -216,9 +215,9 @@ chunk-within (x ∷ chunks) (suc c) j h = omega (arith, chunk-within chunks c j 
 
 pub chunk-order : (chunks : List Chunk) (a b : ChunkPlace) → IsPlace chunks a → IsPlace chunks b → rank_in chunks b ≤ rank_in chunks a → b.chunk ≤ a.chunk
 chunk-order [] a b p q order = absurd (omega (arith, p.gap.within))
-chunk-order (x ∷ chunks) a b p q order = elim (le_or b.chunk a.chunk) [
-  | inl le ↦ le
-  | inr less ↦ absurd (omega (arith, order, p.inner x (omega (arith, less, q.gap.within)), before-next (x ∷ chunks) a.chunk x p.gap.within, before-later (x ∷ chunks) (a.chunk + 1) b.chunk (omega (arith, less))))
+chunk-order (x ∷ chunks) a b p q order = elim (cases_lt a.chunk b.chunk) [
+  | inr le ↦ le
+  | inl less ↦ absurd (omega (arith, order, p.inner x (omega (arith, less, q.gap.within)), before-next (x ∷ chunks) a.chunk x p.gap.within, before-later (x ∷ chunks) (a.chunk + 1) b.chunk (omega (arith, less))))
 ]
 
 -- a chunk without room is not the one that has it
@@ -250,9 +249,9 @@ rank-end chunks c n h is last = sym (before-len chunks c n h is) ∙ before-all 
 
 pub place-end : (chunks : List Chunk) (p : ChunkPlace) (n : ℕ) → IsPlace chunks p → ((d : Chunk) → n ≡ len_at chunks p.chunk d) → p.at ≡ n → rank_in chunks p ≡ length (entries_of chunks)
 place-end [] p n place is e = absurd (omega (arith, place.gap.within))
-place-end (x ∷ chunks) p n place is e = elim (le_or (length (x ∷ chunks)) (p.chunk + 1)) [
-  | inl last ↦ ap (λ k. before_chunk (x ∷ chunks) p.chunk + k) e ∙ rank-end (x ∷ chunks) p.chunk n place.gap.within is last
-  | inr less ↦ absurd (omega (arith, place.inner x less, is x, e))
+place-end (x ∷ chunks) p n place is e = elim (cases_lt (p.chunk + 1) (length (x ∷ chunks))) [
+  | inr last ↦ ap (λ k. before_chunk (x ∷ chunks) p.chunk + k) e ∙ rank-end (x ∷ chunks) p.chunk n place.gap.within is last
+  | inl less ↦ absurd (omega (arith, place.inner x less, is x, e))
 ]
 
 pub rank-most : (chunks : List Chunk) (p : ChunkPlace) → IsGap chunks p → rank_in chunks p ≤ length (entries_of chunks)
@@ -265,7 +264,7 @@ at-most (x ∷ chunks) p n gap is = omega (arith, gap.most x, is x)
 
 -- a place before the end is that of an entry
 pub place-there : (chunks : List Chunk) (p : ChunkPlace) → IsPlace chunks p → rank_in chunks p < length (entries_of chunks) → (d : Chunk) → p.at < len_at chunks p.chunk d
-place-there chunks p place h d = elim (le_or (length chunks) (p.chunk + 1)) [
-  | inl last ↦ omega (arith, h, before-next chunks p.chunk d place.gap.within, before-all chunks (p.chunk + 1) last)
-  | inr less ↦ place.inner d less
+place-there chunks p place h d = elim (cases_lt (p.chunk + 1) (length chunks)) [
+  | inr last ↦ omega (arith, h, before-next chunks p.chunk d place.gap.within, before-all chunks (p.chunk + 1) last)
+  | inl less ↦ place.inner d less
 ]

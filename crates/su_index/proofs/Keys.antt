@@ -10,6 +10,7 @@ use Rattle.std.proofs.lemmas.List.Folds.{fold-map}
 use Rattle.std.proofs.lemmas.List.Sorted.{sum_by-IsPermutation, length_permutation, All-permutation}
 use Rattle.std.proofs.lemmas.List.Sums.{sum_by_push}
 use Rattle.std.proofs.lemmas.Map.Keys.{sorted_from_all_adjacent}
+use Rattle.su_base.proofs.Items.{some_item}
 use Rattle.su_base.specs.declared.values.Value.{Value}
 use Rattle.su_base.specs.contracts.values.ValueOrd.TheImpl.{ghosts}
 use Rattle.su_base.specs.Value.{compare_values}
@@ -44,10 +45,6 @@ counted_twice : (test : ℕ → Bool) (xs : List ℕ) (j : ℕ) → suc j < leng
 counted_twice test [] j h e f = absurd (omega arith)
 counted_twice test (x ∷ xs) zero h e f = grind (arith, count_by-cons test x xs, e, counted test xs 0 (omega arith) f)
 counted_twice test (x ∷ xs) (suc j) h e f = omega (arith, count_by-cons test x xs, counted_twice test xs j (omega arith) e f)
-
-pub some_item : {X : Type 0} (xs : List X) → 0 < length xs → X
-some_item [] h = absurd (omega arith)
-some_item (x ∷ xs) h = x
 
 -- how keys are compared: by lead, then value, then position
 abbrev pub key_cmp : Key → Key → Ordering

@@ -3,7 +3,7 @@ use Rattle.std.proofs.Common.{◌≡◌, ◌<◌, ◌≤◌, ◌+◌, ℕ, Bool,
 use Rattle.std.specs.Bool.{Decides}
 use Rattle.std.specs.Option.{option_map_or}
 use Rattle.std.specs.Ordering.{is_eq}
-use Rattle.std.proofs.lemmas.Bool.{false≢true, cases_eq}
+use Rattle.std.proofs.lemmas.Bool.{false≢true, cases_eq, cases_lt}
 use Rattle.std.proofs.lemmas.Cmp.{tied_itself}
 use Rattle.std.proofs.lemmas.List.{take_all}
 use Rattle.su_base.specs.declared.values.Value.{Value}
@@ -13,7 +13,7 @@ use Rattle.su_index.specs.Matches.{has_value, matches, IsMatch}
 use Rattle.su_index.specs.Order.{count_below}
 use Rattle.su_index.proofs.Ranks.{count_below-le}
 use Rattle.su_index.proofs.Runs.{count_below-suc}
-use Rattle.su_index.proofs.Spans.{count_rows, is_equal, le_or}
+use Rattle.su_index.proofs.Spans.{count_rows, is_equal}
 
 is_value : (found : Option Value) (value : Value) → Decides (option_map_or (λ v. is_eq (compare_values v value)) found false) (found ≡ Some value)
 is_value None value = (λ e. absurd (false≢true e), λ e. cc)
@@ -49,8 +49,8 @@ pub match_unique : (rows : List (List Value)) (column : ℕ) (value : Value) (k 
 match_unique rows column value k p q a b =
     elim (cases_eq p q) [
       | inl e ↦ e
-      | inr apart ↦ elim (le_or p q) [
-        | inl le ↦ absurd (match_not_before rows column value k p q a b (omega (arith, apart)))
-        | inr more ↦ absurd (match_not_before rows column value k q p b a more)
+      | inr apart ↦ elim (cases_lt q p) [
+        | inr le ↦ absurd (match_not_before rows column value k p q a b (omega (arith, apart)))
+        | inl more ↦ absurd (match_not_before rows column value k q p b a more)
       ]
     ]

@@ -1,10 +1,10 @@
 -- The places of a value in a list of positions in order, and how many they are.
-use Rattle.std.proofs.Common.{◌≡◌, ◌<◌, ◌≤◌, ◌+◌, ◌-◌, ◌&&◌, ℕ, zero, suc, Bool, true, false, cond, List, [], ◌∷◌, length, get_or, take, drop, slice_index, ap, refl, sym, ◌∙◌, arith, inl, inr, ◌⊎◌, count_by, nat_lt, nat_le, not, pos, add-one}
+use Rattle.std.proofs.Common.{◌≡◌, ◌<◌, ◌≤◌, ◌+◌, ◌-◌, ◌&&◌, ℕ, zero, suc, Bool, true, false, cond, List, [], ◌∷◌, length, get_or, take, drop, slice_index, ap, refl, sym, ◌∙◌, arith, inl, inr, count_by, nat_lt, not, pos, add-one}
 use Rattle.std.specs.List.Sorted.{IsStrictlySortedBy}
 use Rattle.std.specs.Ordering.{nat_cmp, ordering_then, ordering_reverse, is_lt, is_eq}
 use Rattle.std.specs.declared.cmp.Ordering.{Ordering}
 use Rattle.std.specs.declared.cmp.Ordering.TheVariants.{Less, Equal, Greater}
-use Rattle.std.proofs.lemmas.Bool.{false≢true, cases_eq}
+use Rattle.std.proofs.lemmas.Bool.{false≢true, cases_eq, cases_lt, and_right}
 use Rattle.std.proofs.lemmas.Bool.Decides.{nat_tests}
 use Rattle.std.proofs.lemmas.List.{take_all, get_or_default, get_or-take, get_or-drop, length-drop, length-take-le}
 use Rattle.std.proofs.lemmas.List.Sums.{sum_by_more}
@@ -18,18 +18,8 @@ use Rattle.su_index.specs.inside.Order.{comes_before, has_at, HaveColumn, ArePos
 use Rattle.su_index.proofs.Leads.{same_values}
 use Rattle.su_index.proofs.Runs.{keys_total, count_below-same, count_below-upto, count_by-cons, count_by-block}
 
-pub le_or : (a b : ℕ) → (a ≤ b) ⊎ (b < a)
-le_or a b = elim (nat_le a b) as (λ t. nat_le a b ≡ t → (a ≤ b) ⊎ (b < a)) [
-  | true ↦ λ e. inl (grind (arith, nat_tests, e))
-  | false ↦ λ e. inr (grind (arith, nat_tests, e))
-] refl
-
 at_default : (xs : List ℕ) (k d e : ℕ) → k < length xs → get_or xs k d ≡ get_or xs k e
 at_default xs k d e h = get_or_default xs k d e h
-
-and_false : (a b : Bool) → b ≡ false → (a && b) ≡ false
-and_false true b e = e
-and_false false b e = refl
 
 -- ---- one comparison
 
@@ -80,9 +70,9 @@ pub IsSpan-search : (at : ℕ → Value) (v : Value) (run : List ℕ) (top first
     → ((k : ℕ) → past ≤ k → k < length run → comes_before at v top (slice_index run k) ≡ false)
     → IsSpan at v run first past
 IsSpan-search at v run top first past positions a b below above below' above' = record {
-  start = elim (le_or first past) [
-    | inl le ↦ le
-    | inr less ↦ absurd (false≢true (sym (above' past (omega arith) (omega arith)) ∙ later_too (compare_keys (at (slice_index run past)) v) (slice_index run past) top (below past less)))
+  start = elim (cases_lt past first) [
+    | inr le ↦ le
+    | inl less ↦ absurd (false≢true (sym (above' past (omega arith) (omega arith)) ∙ later_too (compare_keys (at (slice_index run past)) v) (slice_index run past) top (below past less)))
   ];
   end = b;
   below = λ k h. eq_below (compare_keys (at (slice_index run k)) v) (slice_index run k) (below k h);
@@ -106,15 +96,15 @@ span_rank at v run first past k r sorted s h e =
     let has : has_at at v r ≡ true = rw e (s.among (first + k) (omega arith) h) in
     let counted : count_by (λ p. nat_lt p r && has_at at v p) run + first ≡ first + k =
     count_by-block (λ p. nat_lt p r && has_at at v p) run first (first + k) (omega arith) (omega (arith, s.end))
-    (λ j d l. rw (at_default run j d 0 (omega (arith, s.end))) (and_false _ _ (s.below j l)))
+    (λ j d l. rw (at_default run j d 0 (omega (arith, s.end))) (and_right _ _ (s.below j l)))
     (λ j d l m.
     let one : has_at at v (get_or run j 0) ≡ true = s.among j l (omega arith) in
     let less : get_or run j 0 < r = less_with_value at v (get_or run j 0) r one has (rw e (Less-from_sorted (compare_places at) run j (first + k) 0 sorted m (omega (arith, s.end)))) in
     rw (at_default run j d 0 (omega (arith, s.end))) (grind (arith, nat_tests, one, less)))
     (λ j d l m. rw (at_default run j d 0 m) (
-    elim (le_or past j) [
-      | inl out ↦ and_false _ _ (s.above j out m)
-      | inr in' ↦
+    elim (cases_lt j past) [
+      | inr out ↦ and_right _ _ (s.above j out m)
+      | inl in' ↦
           let one : has_at at v (get_or run j 0) ≡ true = s.among j (omega arith) in' in
           elim (cases_eq (first + k) j) [
             | inl same ↦ let f : get_or run j 0 ≡ r = ap (λ i. get_or run i 0) (sym same) ∙ sym e in grind (arith, nat_tests, f)

@@ -4,8 +4,8 @@ use Rattle.su_io.specs.declared.status.Status.{Status}
 use Rattle.su_io.specs.declared.status.Status.TheVariants.{Done, SomeRefused, Usage, BadSchema, ReadFault, WriteFault, TooLong, NoMemory}
 use Rattle.su_io.specs.Moments.{Moment}
 use Rattle.su_io.specs.Programs.{OneText, Tells, TellsOfFile, UsageEnds}
-use Rattle.su_io.specs.Reading.{FileEnds}
-use Rattle.su_io.specs.Writing.{Wrote, IsTold}
+use Rattle.su_io.specs.FileEnds.{FileEnds}
+use Rattle.su_io.specs.WrittenTexts.{Wrote, IsTold}
 use Rattle.su_io.proofs.Programs.{WritingEnds-from, read_within}
 use Rattle.su_io.proofs.WrittenTexts.{Wrote-none}
 

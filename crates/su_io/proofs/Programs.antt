@@ -4,8 +4,8 @@ use Rattle.su_io.specs.declared.status.Status.{Status}
 use Rattle.su_io.specs.declared.status.Status.TheVariants.{Done, SomeRefused, Usage, BadSchema, ReadFault, WriteFault, TooLong, NoMemory}
 use Rattle.su_io.specs.HandOver.{Closes, HandsOver}
 use Rattle.su_io.specs.Moments.{Told, Moment}
-use Rattle.su_io.specs.Reading.{ReadingEnds}
-use Rattle.su_io.specs.Writing.{Wrote, WritingEnds}
+use Rattle.su_io.specs.FileEnds.{ReadingEnds}
+use Rattle.su_io.specs.WrittenTexts.{Wrote, WritingEnds}
 
 -- ---- writing
 

@@ -7,7 +7,7 @@ use Rattle.std.specs.Prelude.{Result, Ok, Err, OnOk}
 use Rattle.su_io.specs.Ends.{Grew, WasHanded}
 use Rattle.su_io.specs.Moments.{Told}
 use Rattle.su_io.specs.Wholes.{IsWhole}
-use Rattle.su_io.specs.Writing.{joined, Wrote, WroteFront}
+use Rattle.su_io.specs.WrittenTexts.{joined, Wrote, WroteFront}
 use Rattle.su_io.proofs.WrittenPieces.{Grew-trans, WasHanded-trans, WasHanded-none}
 
 grew_none : (told : Option (List ℕ)) → Grew told told []

@@ -1,9 +1,10 @@
 pub mod Causes
 pub mod Ends
+pub mod FileEnds
 pub mod Files
 pub mod HandOver
+pub mod inside
 pub mod Moments
 pub mod Programs
-pub mod Reading
 pub mod Wholes
-pub mod Writing
+pub mod WrittenTexts

@@ -4,8 +4,8 @@ use Rattle.std.specs.Prelude.{◌≡◌, ◌≢◌, ◌⊎◌, ◌∷◌, [], �
 use Rattle.su_io.specs.declared.status.Status.{Status}
 use Rattle.su_io.specs.declared.status.Status.TheVariants.{Usage, ReadFault, WriteFault, TooLong, NoMemory}
 use Rattle.su_io.specs.Moments.{Moment}
-use Rattle.su_io.specs.Reading.{ReadingEnds}
-use Rattle.su_io.specs.Writing.{WritingEnds}
+use Rattle.su_io.specs.FileEnds.{ReadingEnds}
+use Rattle.su_io.specs.WrittenTexts.{WritingEnds}
 
 -- with its file begun last, that file's limit, and its texts, of which a fact is given; how the reading of the one and the
 -- writing of the others ended

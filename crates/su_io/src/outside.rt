@@ -3,8 +3,8 @@ ghost use Rattle.std.specs.Prelude.{◌≡◌, ◌≢◌, ◌<◌, ◌^◌, [], 
 ghost use Rattle.su_io.specs.Moments.{Moment};
 ghost use Rattle.su_io.specs.Causes.{Rose};
 ghost use Rattle.su_io.specs.HandOver.{Closes};
-ghost use Rattle.su_io.specs.Reading.{FileEnds};
-ghost use Rattle.su_io.specs.Writing.{Wrote, WroteFront, IsTold};
+ghost use Rattle.su_io.specs.FileEnds.{FileEnds};
+ghost use Rattle.su_io.specs.WrittenTexts.{Wrote, WroteFront, IsTold};
 
 use crate::{Failed, ReadEnd, Shelf, Sink, Status, read_all, write_all};
 use std::alloc::Global;

@@ -26,7 +26,7 @@ pub fn read_all<H: Shelf>(
     ensures begun { H.begun shelf.new ≡ Some name }
     ensures whole { IfOk result (λ bytes. OfFile (H.files shelf.old) name (λ file. bytes ≡ file)) }
     ensures too_long { result ≡ Err ReadEnd.TooLong → OfFile (H.files shelf.old) name (λ file. limit < length file) }
-    ensures ended { Ended limit (H.faults shelf.old) (H.faults shelf.new) (H.taken shelf.new) (H.failed shelf.new) result }
+    ensures ended { Ended limit (record { before = H.faults shelf.old; after = H.faults shelf.new; taken = H.taken shelf.new; failed = H.failed shelf.new }) result }
 {
     if shelf.begin(name).is_err() {
         return Err(ReadEnd::Failed);

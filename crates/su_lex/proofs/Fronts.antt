@@ -8,13 +8,21 @@ use Rattle.su_lex.proofs.Runs.{run_split, run_is}
 use Rattle.su_lex.specs.Blanks.{begins}
 use Rattle.su_lex.specs.TokenForms.{IsToken, lengthens, sign_bytes}
 use Rattle.su_lex.specs.inside.Firsts.{IsFirstToken, HasNoFirstToken}
-use Rattle.su_lex.specs.inside.Classes.{class_at, class_of, sign_at}
+use Rattle.su_lex.specs.inside.Classes.{class_at, sign_at}
 use Rattle.su_base.specs.Name.{is_letter, is_letter_or_digit, IsWord}
 use Rattle.su_lex.specs.declared.kinds.TokenKind.{TokenKind}
 use Rattle.su_lex.specs.declared.kinds.TokenKind.TheVariants.{Word, Int, Text, Sign as ASign}
+use Rattle.su_lex.specs.declared.firsts.Class.{Class}
 use Rattle.su_lex.specs.declared.firsts.Class.TheVariants.{Word as OfWord, Number as OfNumber, Text as OfText, Sign as OfSign}
 use Rattle.su_lex.specs.declared.signs.Sign.{Sign}
 use Rattle.su_lex.specs.declared.signs.Sign.TheVariants.{Open, Close, Comma, Dot, Arrow, Equal, NotEqual, Less, LessEqual, Greater, GreaterEqual}
+
+-- the class of a token's kind
+abbrev pub class_of : TokenKind → Class
+class_of Word = OfWord
+class_of (Int n) = OfNumber
+class_of (Text t) = OfText
+class_of (ASign s) = OfSign
 
 sign_class : (s : Sign) (rest : List ℕ) → class_at (sign_bytes s ++ rest) ≡ class_of (ASign s)
 sign_class Open rest = refl

@@ -14,12 +14,12 @@ use Rattle.su_lex.specs.TokenForms.{IsToken, quoted, sign_bytes}
 use Rattle.su_lex.proofs.Gaps.{IsSolid, gap_same, gap_solid, gap_trans, gap_suffix}
 use Rattle.su_lex.specs.Blanks as b
 use Rattle.su_base.specs.Name.{IsWord, is_letter_or_digit}
-use Rattle.su_lex.specs.inside.Classes.{class_at, class_of, sign_at}
+use Rattle.su_lex.specs.inside.Classes.{class_at, sign_at}
 use Rattle.su_lex.specs.declared.kinds.TokenKind.{TokenKind}
 use Rattle.su_lex.specs.declared.kinds.TokenKind.TheVariants.{Word, Int, Text, Sign as ASign}
 use Rattle.su_lex.specs.declared.signs.Sign.{Sign}
 use Rattle.su_lex.specs.declared.signs.Sign.TheVariants.{Open, Close, Comma, Dot, Arrow, Equal, NotEqual, Less, LessEqual, Greater, GreaterEqual}
-use Rattle.su_lex.proofs.Fronts.{class_at-is, sign_at-is, word_all}
+use Rattle.su_lex.proofs.Fronts.{class_of, class_at-is, sign_at-is, word_all}
 use Rattle.su_lex.proofs.Numerals.{number_there}
 use Rattle.su_lex.proofs.Quotes.{text_same}
 use Rattle.su_lex.specs.declared.kinds.Token.{Token}

@@ -12,14 +12,14 @@ use Rattle.su_lex.proofs.Runs.{Split, run_split, run_take}
 use Rattle.su_lex.specs.Blanks.{begins}
 use Rattle.su_lex.specs.TokenForms.{IsToken, IsNumeral}
 use Rattle.su_lex.specs.inside.Firsts.{IsFirstToken, HasNoFirstToken}
-use Rattle.su_lex.specs.inside.Classes.{class_at, class_of}
+use Rattle.su_lex.specs.inside.Classes.{class_at}
 use Rattle.su_base.specs.Name.{is_letter_or_digit, IsWord}
 use Rattle.su_lex.specs.declared.kinds.TokenKind.{TokenKind}
 use Rattle.su_lex.specs.declared.kinds.TokenKind.TheVariants.{Word, Int, Text, Sign as ASign}
 use Rattle.su_lex.specs.declared.firsts.Class.TheVariants.{Number as OfNumber}
 use Rattle.std.specs.Str.{IsAscii, IsUtf8}
 use Rattle.std.proofs.lemmas.Str.Ascii.{IsAscii-cons, IsAscii-nil}
-use Rattle.su_lex.proofs.Fronts.{class_at-is, word_all}
+use Rattle.su_lex.proofs.Fronts.{class_of, class_at-is, word_all}
 use Rattle.std.proofs.lemmas.Str.{IsUtf8-from_ascii}
 
 digits_are_word : (xs : List ℕ) → list_all is_ascii_digit xs ≡ true → list_all is_letter_or_digit xs ≡ true

@@ -5,7 +5,7 @@ use Rattle.std.proofs.lemmas.Bool.Decides.{nat_tests}
 use Rattle.su_lex.specs.Blanks.{begins}
 use Rattle.su_lex.specs.TokenForms.{IsToken, quoted, doubled, twice}
 use Rattle.su_lex.specs.inside.Firsts.{IsFirstToken, HasNoFirstToken}
-use Rattle.su_lex.specs.inside.Classes.{class_at, class_of, place_at}
+use Rattle.su_lex.specs.inside.Classes.{class_at, place_at}
 use Rattle.su_lex.specs.declared.kinds.TokenKind.{TokenKind}
 use Rattle.su_lex.specs.declared.kinds.TokenKind.TheVariants.{Word, Int, Text, Sign as ASign}
 use Rattle.su_lex.specs.declared.firsts.Class.TheVariants.{Text as OfText}
@@ -13,7 +13,7 @@ use Rattle.std.specs.Str.{IsUtf8}
 use Rattle.std.specs.List.{prefix_len, list_all}
 use Rattle.su_lex.proofs.Runs.{run_at}
 use Rattle.su_lex.specs.declared.quoting.QuotedPart.TheVariants.{Content, Close as AClose, Missing}
-use Rattle.su_lex.proofs.Fronts.{class_at-is}
+use Rattle.su_lex.proofs.Fronts.{class_of, class_at-is}
 use Rattle.su_lex.proofs.Printed.{doubled_push}
 
 is_quote : ℕ → Bool

@@ -1,8 +1,8 @@
 -- Names among the symbols of a text.
 -- name: a word that isn't reserved
-use Rattle.std.specs.Prelude.{◌≡◌, ℕ, List, [], ◌∷◌}
-use Rattle.std.specs.List.{AllByRecursion}
-use Rattle.su_base.specs.Name.{IsName}
+use Rattle.std.specs.Prelude.{◌≡◌, ℕ, List, [], ◌∷◌, ◌++◌, map}
+use Rattle.su_base.specs.Name.{AreNames}
+use Rattle.std.specs.List.{join_by}
 use Rattle.su_lex.specs.declared.meaning.Symbol.{Symbol}
 use Rattle.su_lex.specs.declared.meaning.Symbol.TheVariants.{Word, Sign}
 use Rattle.su_lex.specs.declared.signs.Sign.TheVariants as sign
@@ -11,17 +11,10 @@ use Rattle.su_lex.specs.declared.signs.Sign.TheVariants as sign
 abbrev pub Begins : Symbol → List Symbol → Type 0
 Begins x symbols = (others : List Symbol) × (symbols ≡ x ∷ others)
 
--- { "," NAME }
-abbrev pub more_names : List (List ℕ) → List Symbol
-more_names [] = []
-more_names (name ∷ names) = Sign sign.Comma ∷ Word name ∷ more_names names
-
 -- NAME { "," NAME }
 abbrev pub names_symbols : List (List ℕ) → List Symbol
-names_symbols [] = []
-names_symbols (name ∷ names) = Word name ∷ more_names names
+names_symbols names = join_by (λ x. x) (Sign sign.Comma ∷ []) (map (λ name. Word name ∷ []) names)
 
--- names, one at least
-abbrev pub AreNames : List (List ℕ) → Type 0
-AreNames [] = ⊥
-AreNames (name ∷ names) = IsName name × AllByRecursion IsName names
+-- no names are listed at the front of these symbols, up to a symbol that is no comma
+abbrev pub ListsNoNames : List Symbol → Type 0
+ListsNoNames symbols = (names : List (List ℕ)) (behind : List Symbol) → AreNames names → ¬ (Begins (Sign sign.Comma) behind) → ¬ (symbols ≡ names_symbols names ++ behind)

@@ -5,7 +5,7 @@
 //! contents of quoted texts are copied. `symbols` makes the tokens with the bytes of their words, and
 //! without their places, in one pass of its own; a `Reader` hands them out from the left, so that a name
 //! or a literal is moved from there to where it stays. `push_word` and `push_sign` make symbols, and
-//! `push_spaced` writes them; `nests_too_deep` counts their parentheses. None of it knows the
+//! `push_spaced` writes them, and `push_numbers` numbers; `nests_too_deep` counts their parentheses. None of it knows the
 //! statements.
 #![tactic(auto)]
 
@@ -43,4 +43,4 @@ pub use pushing::{push_sign, push_word};
 pub use readers::Reader;
 pub use signs::Sign;
 pub use spans::Span;
-pub use spelling::{push_spaced, push_symbol};
+pub use spelling::{push_numbers, push_spaced, push_symbol};

@@ -1,7 +1,7 @@
 //! A reader over symbols: what grammars of statements are read with.
 ghost use Rattle.std.specs.Prelude.{◌≡◌, ℕ, [], ◌∷◌, ◌++◌, ◌<◌, ◌≤◌, ◌==◌, ◌↔◌, length, false, IfErr, IfOk, IsTrue, IsErrOf, MatchOption, OnErr, List as Items};
-ghost use Rattle.su_base.specs.Name.{IsName};
-ghost use Rattle.su_lex.specs.Names.{Begins, AreNames, names_symbols};
+ghost use Rattle.su_base.specs.Name.{IsName, AreNames};
+ghost use Rattle.su_lex.specs.Names.{Begins, ListsNoNames, names_symbols};
 ghost use Rattle.su_lex.specs.declared.meaning.Symbol.{Symbol as ASymbol};
 
 use crate::ends::LexEnd;
@@ -189,8 +189,7 @@ impl Reader {
     pub fn names(&mut self) -> Result<List<Str>, LexEnd>
         ensures found { IfOk result (λ ns. (self.old ≡ names_symbols ns ++ self.new) × AreNames ns) }
         ensures ends { IfOk result (λ _. ¬ (Begins (Symbol.Sign Sign.Comma) self.new)) }
-        ensures syntax { IsErrOf result LexEnd.Syntax → (ns : Items (Items ℕ)) (r : Items ASymbol) → AreNames ns → ¬ (Begins (Symbol.Sign Sign.Comma) r)
-            → ¬ (self.old ≡ names_symbols ns ++ r) }
+        ensures syntax { IsErrOf result LexEnd.Syntax → ListsNoNames self.old }
         ensures behind { OnErr result ((front : Items ASymbol) × (self.old ≡ front ++ self.new)) }
     {
         let mut names = List::new(self.alloc());

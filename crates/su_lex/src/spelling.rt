@@ -3,11 +3,13 @@ ghost use Rattle.std.specs.Prelude.{◌≡◌, [], ◌∷◌, ◌++◌, ◌||◌
 ghost use Rattle.su_lex.specs.AddedFronts.{AddsFront};
 ghost use Rattle.su_lex.specs.TokenForms.{quoted, sign_bytes, twice};
 ghost use Rattle.su_lex.specs.Spelling.{closes, opens, spaced, spelled};
+ghost use Rattle.su_lex.specs.Wordings.{numbers_text};
 
 use crate::meaning::Symbol;
 use crate::signs::Sign;
 use std::alloc::Global;
 use su_base::NoMemory;
+use su_base::parts::{push, push_number};
 
 fn opens(symbol: &Symbol) -> bool
     ensures { result ≡ opens symbol.now }
@@ -116,6 +118,17 @@ pub fn push_spaced(alloc: Global, out: &mut Vec<u8>, symbols: &[Symbol]) -> Resu
         push_space_if(out, wants_space(tight, symbol))?;
         push_symbol(alloc, out, symbol)?;
         tight = opens(symbol);
+    }
+    Ok(())
+}
+
+/// Adds each number behind a space, at the end of `out`.
+pub fn push_numbers(alloc: Global, out: &mut Vec<u8>, numbers: &[u8]) -> Result<(), NoMemory>
+    ensures { OnOk result (out.new.items ≡ out.old.items ++ numbers_text numbers.now) }
+{
+    for number in numbers {
+        push(out, " ")?;
+        push_number(alloc, out, *number as u64)?;
     }
     Ok(())
 }

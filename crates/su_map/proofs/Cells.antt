@@ -1,13 +1,14 @@
 -- Cells of rows, and when a row goes to a target by itself.
-use Rattle.std.proofs.Common.{◌≡◌, ◌≢◌, ℕ, zero, suc, ◌<◌, ◌≤◌, ◌⊎◌, ◌↔◌, List, [], ◌∷◌, length, get_or, Contains, Option, Some, None, inl, inr, ⊎_elim, refl, sym, ap, subst, ◌∙◌, arith}
-use Rattle.std.proofs.lemmas.Bool.{cases_lt, cases_eq}
+use Rattle.std.proofs.Common.{◌≡◌, ℕ, zero, suc, ◌<◌, ◌≤◌, ◌⊎◌, ◌↔◌, List, [], ◌∷◌, length, get_or, Contains, Option, Some, None, inl, inr, ⊎_elim, refl, sym, ap, subst, ◌∙◌, arith}
+use Rattle.std.proofs.lemmas.Bool.{cases_lt}
 use Rattle.std.proofs.lemmas.List.{get_or_default}
 use Rattle.su_base.specs.declared.values.Value.{Value}
 use Rattle.su_tableau.specs.declared.symbols.Sym.{Sym}
 use Rattle.su_tableau.specs.declared.symbols.Sym.TheVariants.{Const, Var}
 use Rattle.su_tableau.specs.Tableaux.{Tab}
 use Rattle.su_map.specs.Lists.{row_of}
-use Rattle.su_map.specs.Candidates.{Cell, KeepsConstants, MapAlike}
+use Rattle.su_tableau.specs.Parts.{Cell}
+use Rattle.su_map.specs.Candidates.{KeepsConstants, MapAlike}
 use Rattle.su_map.specs.inside.Targets.{IsFirstAt, CellFits, IsPlain, AreShared}
 use Rattle.su_tableau.proofs.ChangedValuations.{is_var}
 
@@ -36,9 +37,6 @@ same_const row c v w a b = sym (a.is (Const v)) ∙ b.is (Const v)
 -- what a row that was read holds at a column
 pub read_holds : (t : Tab) (j column : ℕ) (r : List Sym) (y : Sym) → r ≡ row_of t j → column < length r → y ≡ get_or r column y → (d : Sym) → get_or (row_of t j) column d ≡ y
 read_holds t j column r y e h is d = ap (λ r. get_or r column d) (sym e) ∙ get_or_default r column d y h ∙ sym is
-
-pub line_holds : (r : List Sym) (column : ℕ) (y : Sym) → column < length r → y ≡ get_or r column y → (d : Sym) → get_or r column d ≡ y
-line_holds r column y h is d = get_or_default r column d y h ∙ sym is
 
 -- ---- the first place of a variable
 
@@ -163,9 +161,6 @@ pub among_same : (n : ℕ) (A B C : ℕ → Type 0) (R : ℕ → Type 0) → ((j
 among_same n A B C R f g j = (λ h. let r = (f j).0 h in (r.0, r.1, (g j).0 r.2), λ h. (f j).1 (h.0, h.1, (g j).1 h.2))
 
 -- ---- columns shared
-
-pub same_some : (a b : ℕ) (o : Option ℕ) → o ≡ Some a → o ≡ Some b → a ≡ b
-same_some a b o e f = let g : Some a ≡ Some b = sym e ∙ f in cc
 
 some_or_none : (o : Option ℕ) → ((a : ℕ) × (o ≡ Some a)) ⊎ (o ≡ None)
 some_or_none None = inr refl

@@ -1,8 +1,8 @@
 -- Members of a set of numbers, which are the bits of a number.
-use Rattle.std.proofs.Common.{◌≡◌, ◌≢◌, ℕ, ◌+◌, ◌-◌, ◌*◌, ◌%◌, ◌<◌, ◌≤◌, ◌^◌, ◌⊎◌, ◌↔◌, inl, inr, ⊎_elim, sym, ap, subst, ◌∙◌, bit_and, bit_or, arith, List, length, get_or, set, get_or-set_other, get_or-set_same}
+use Rattle.std.proofs.Common.{◌≡◌, ◌≢◌, ℕ, ◌+◌, ◌-◌, ◌<◌, ◌≤◌, ◌^◌, ◌⊎◌, ◌↔◌, inl, inr, ⊎_elim, sym, ap, subst, ◌∙◌, bit_or, arith, List, length, get_or, set, get_or-set_other, get_or-set_same}
 use borrow.Author.Count.{below_more}
-use Rattle.std.specs.Int.{bit_at, bit_not, trailing_zeros, w64}
-use Rattle.std.proofs.lemmas.Nat.Bits.{bit_at-trailing_zeros, bit_at-lt, bit_at_and, bit_at_or, bit_at_set_same, bit_at_set_other, bit_at_clear_same, bit_at_clear_other, bit_at_above, bit_at-zero, bit_at_ones, bit_at_ones_above}
+use Rattle.std.specs.Int.{bit_at, trailing_zeros, w64}
+use Rattle.std.proofs.lemmas.Nat.Bits.{bit_at-trailing_zeros, bit_at-lt, bit_at_or, bit_at_above, bit_at-zero, bit_at_ones, bit_at_ones_above}
 use Rattle.std.proofs.lemmas.Bool.{cases_lt, cases_eq}
 
 pub lowest_is : (n : ℕ) → 0 < n → n < 2 ^ 64 → (trailing_zeros w64 n < 64) × (bit_at n (trailing_zeros w64 n) ≡ 1) × ((i : ℕ) → i < trailing_zeros w64 n → bit_at n i ≡ 0)
@@ -14,11 +14,6 @@ lowest_least n low i none one =
     (λ (lt : i < low). absurd (let z = none i lt in omega arith))
     (λ (le : low ≤ i). le)
     (cases_lt i low)
-
-pub and_both : (a b j : ℕ) → (bit_at (bit_and a b) j ≡ 1) ↔ ((bit_at a j ≡ 1) × (bit_at b j ≡ 1))
-and_both a b j =
-    let e = bit_at_and a b j in let la = bit_at-lt a j in let lb = bit_at-lt b j in
-    (λ h. (omega arith, omega arith), λ h. let x = h.0 in let y = h.1 in omega arith)
 
 pub or_either : (a b j : ℕ) → (bit_at (bit_or a b) j ≡ 1) ↔ ((bit_at a j ≡ 1) ⊎ (bit_at b j ≡ 1))
 or_either a b j =
@@ -32,25 +27,6 @@ or_either a b j =
           (λ (one : bit_at a j ≡ 1). let r : bit_at (bit_or a b) j ≡ 1 = omega arith in r)
           (λ (one : bit_at b j ≡ 1). let r : bit_at (bit_or a b) j ≡ 1 = omega arith in r),
     )
-
-pub with_same : (n k j : ℕ) → k < 64 → j ≢ k → bit_at (bit_or n (1 * 2 ^ k % 2 ^ 64)) j ≡ bit_at n j
-with_same n k j h ne = bit_at_set_other w64 n k h j ne
-
-pub with_member : (n k : ℕ) → k < 64 → bit_at (bit_or n (1 * 2 ^ k % 2 ^ 64)) k ≡ 1
-with_member n k h = bit_at_set_same w64 n k h
-
-pub without_out : (n k : ℕ) → k < 64 → bit_at (bit_and n (bit_not w64 (1 * 2 ^ k % 2 ^ 64))) k ≡ 0
-without_out n k h = bit_at_clear_same w64 n k h
-
-pub without_same : (n k j : ℕ) → n < 2 ^ 64 → k < 64 → j ≢ k → bit_at (bit_and n (bit_not w64 (1 * 2 ^ k % 2 ^ 64))) j ≡ bit_at n j
-without_same n k j small h ne =
-    ⊎_elim
-    (λ (lt : j < 64). bit_at_clear_other w64 n k h j lt ne)
-    (λ (le : 64 ≤ j).
-    let none = bit_at_above n 64 j small le in
-    let e = bit_at_and n (bit_not w64 (1 * 2 ^ k % 2 ^ 64)) j in
-    let r : bit_at (bit_and n (bit_not w64 (1 * 2 ^ k % 2 ^ 64))) j ≡ bit_at n j = omega arith in r)
-    (cases_lt j 64)
 
 -- a number that is not 0 has a member, and one of 0 has none
 pub no_member : (n j : ℕ) → n ≡ 0 → bit_at n j ≡ 1 → ⊥

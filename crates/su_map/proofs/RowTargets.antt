@@ -9,7 +9,8 @@ use Rattle.su_tableau.specs.Tableaux.{Tab}
 use Rattle.su_tableau.specs.Mapping.{image_of, images_of}
 use Rattle.su_tableau.proofs.ChangedValuations.{InRow, in_row, Stands, stands}
 use Rattle.su_map.specs.Lists.{row_numbers, row_of, IsMapping}
-use Rattle.su_map.specs.Candidates.{Cell, KeepsConstants, MapAlike}
+use Rattle.su_tableau.specs.Parts.{Cell}
+use Rattle.su_map.specs.Candidates.{KeepsConstants, MapAlike}
 use Rattle.su_map.specs.Netted.{Netted, IsTarget}
 use Rattle.su_map.specs.Nets.{IsNetFor}
 use Rattle.su_map.specs.inside.Choices.{IsChoiceInto}

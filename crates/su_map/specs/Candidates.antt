@@ -6,12 +6,8 @@ use Rattle.su_base.specs.declared.values.Value.{Value}
 use Rattle.su_tableau.specs.declared.symbols.Sym.{Sym}
 use Rattle.su_tableau.specs.declared.symbols.Sym.TheVariants.{Const, Var}
 use Rattle.su_tableau.specs.Tableaux.{Tab}
+use Rattle.su_tableau.specs.Parts.{Cell}
 use Rattle.su_map.specs.Lists.{row_numbers, row_of}
-
--- the cell of a row holds the symbol
-pub record Cell (row : List Sym) (column : ℕ) (x : Sym) : Type 0 where
-  pub below : column < length row
-  pub is : (d : Sym) → get_or row column d ≡ x
 
 -- where xs has a constant, us has it too
 abbrev pub KeepsConstants : List Sym → List Sym → Type 0

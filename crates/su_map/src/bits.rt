@@ -1,5 +1,5 @@
 //! Members of a set of numbers below 64.
-ghost use Rattle.std.specs.Prelude.{◌≡◌, ◌≢◌, ◌<◌, ◌≤◌, ◌↔◌, ◌⊎◌, ℕ};
+ghost use Rattle.std.specs.Prelude.{◌≡◌, ◌<◌, ◌≤◌, ◌↔◌, ◌⊎◌, ℕ};
 ghost use Rattle.std.specs.Int.{bit_at};
 
 /// The least member.
@@ -11,31 +11,6 @@ pub fn lowest(set: u64) -> usize
     ensures least { (i : ℕ) → bit_at set i ≡ 1 → result ≤ i }
 {
     set.trailing_zeros() as usize
-}
-
-/// The set without the number.
-pub fn without(set: u64, i: usize) -> u64
-    requires small { i < 64 }
-    ensures same { (j : ℕ) → j ≢ i → bit_at result j ≡ bit_at set j }
-    ensures out { bit_at result i ≡ 0 }
-{
-    set & !(1 << i)
-}
-
-/// The set with the number.
-pub fn with(set: u64, i: usize) -> u64
-    requires small { i < 64 }
-    ensures same { (j : ℕ) → j ≢ i → bit_at result j ≡ bit_at set j }
-    ensures member { bit_at result i ≡ 1 }
-{
-    set | 1 << i
-}
-
-/// The members of both.
-pub fn both(a: u64, b: u64) -> u64
-    ensures { (j : ℕ) → (bit_at result j ≡ 1) ↔ ((bit_at a j ≡ 1) × (bit_at b j ≡ 1)) }
-{
-    a & b
 }
 
 /// The members of either.

@@ -4,11 +4,11 @@ ghost use Rattle.std.specs.Int.{bit_at};
 ghost use Rattle.su_tableau.specs.declared.symbols.Sym.{Sym as ASym};
 ghost use Rattle.su_tableau.specs.declared.symbols.Sym.TheVariants.{Var};
 ghost use Rattle.su_map.specs.Lists.{row_of};
-ghost use Rattle.su_map.specs.Candidates.{Cell, KeepsConstants, MapAlike};
+ghost use Rattle.su_tableau.specs.Parts.{Cell};
+ghost use Rattle.su_map.specs.Candidates.{KeepsConstants, MapAlike};
 ghost use Rattle.su_map.specs.inside.Targets.{IsFirstAt, HoldsAt, AlikeAt, CellFits};
 
-use crate::bits::{both, with};
-use su_tableau::{Sym, Tableau, full, has};
+use su_tableau::{Sym, Tableau, both, full, has, with};
 
 /// The first column of the row that holds the variable.
 pub fn column_of(row: &[Sym], k: u32) -> Option<usize>

@@ -5,9 +5,9 @@ ghost use Rattle.su_map.specs.Netted.{HasRoom, agree_of};
 ghost use Rattle.su_map.specs.inside.Choices.{IsChoice, Shrinks, IsAssigned};
 ghost use Rattle.su_map.specs.inside.SearchEnds.{KeepsChoices};
 
-use crate::bits::{both, either, lowest, with, without};
+use crate::bits::{either, lowest};
 use crate::nets::Net;
-use su_tableau::bit;
+use su_tableau::{bit, both, with, without};
 
 /// The set, with the row if its domain is not what it was.
 fn noted(set: u64, row: usize, before: u64, left: u64) -> u64

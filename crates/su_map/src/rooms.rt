@@ -15,7 +15,6 @@ ghost use Rattle.su_map.specs.Laws.{TellsContainment};
 ghost use Rattle.su_map.specs.Rooms.{IsRoomFor, HasSizesOf};
 
 use crate::aims::Aim;
-use crate::bits::both;
 use crate::domains::propagate;
 use crate::mappings::Mapping;
 use crate::nets::Net;
@@ -25,7 +24,7 @@ use std::alloc::{AllocError, Global};
 use std::marker::Model;
 use std::sync::ledger::Ledger;
 use su_base::{List, NoMemory, Steps};
-use su_tableau::{Tableau, full, has};
+use su_tableau::{Tableau, both, full, has};
 
 /// What a search reads and writes, so that it takes no memory: 33 KiB per row, 66 KiB for the columns
 /// and 16 bytes per variable.

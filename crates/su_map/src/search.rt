@@ -8,11 +8,11 @@ ghost use Rattle.su_map.specs.inside.Choices.{IsChoice, choice_of, Stands, IsInO
 ghost use Rattle.su_map.specs.inside.SearchEnds.{IsFirstChoice, IsWithinTries};
 
 use crate::aims::Aim;
-use crate::bits::{lowest, without};
+use crate::bits::lowest;
 use crate::domains::descend;
 use std::sync::ledger::Ledger;
 use su_base::Steps;
-use su_tableau::has;
+use su_tableau::{has, without};
 
 /// Which row is next.
 #[derive(Clone, Copy)]

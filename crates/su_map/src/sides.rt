@@ -5,10 +5,9 @@ ghost use Rattle.su_base.specs.declared.values.Value.{Value as AValue};
 ghost use Rattle.su_tableau.specs.declared.symbols.Sym.TheVariants.{Const, Var};
 ghost use Rattle.su_map.specs.inside.Targets.{AreAllNoted, HoldOne, AreAlike, AreAlikeAt};
 
-use crate::bits::{with, without};
 use crate::columns::holding;
 use crate::tables::note_rows;
-use su_tableau::{Sym, Tableau, full};
+use su_tableau::{Sym, Tableau, full, with, without};
 
 /// Two tableaux: the masked rows of the one, at each of its variables the rows of these that have it,
 /// and for each column and row of the other the rows that hold the same symbol at the column.

@@ -4,10 +4,10 @@ ghost use Rattle.std.specs.Int.{bit_at};
 ghost use Rattle.su_map.specs.inside.Targets.{AreSides};
 ghost use Rattle.su_map.specs.inside.Sendings.{AreRows, IsSending, KeepsSendings, KeepsSendingsTo};
 
-use crate::bits::{lowest, without};
+use crate::bits::lowest;
 use crate::sides::Sides;
 use crate::tables::{agreeing, fill_shared};
-use su_tableau::has;
+use su_tableau::{has, without};
 
 /// The target in the domain, where it has just one.
 fn one_target(domain: u64) -> Option<usize>

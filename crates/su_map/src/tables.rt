@@ -6,14 +6,14 @@ ghost use Rattle.su_tableau.specs.declared.symbols.Sym.TheVariants.{Var};
 ghost use Rattle.su_tableau.specs.Tableaux.{AreBelow, AreVarsBelow};
 ghost use Rattle.su_map.specs.Lists.{row_of};
 ghost use Rattle.su_map.specs.Nets.{HasNear};
-ghost use Rattle.su_map.specs.Candidates.{Cell};
+ghost use Rattle.su_tableau.specs.Parts.{Cell};
 ghost use Rattle.su_map.specs.inside.Targets.{IsPlain, AreNoted, AreShared, AreAlike, AreSides, AreTold, IsToldAt, AreToldAt, IsTold, IsRowTold, AreAllTold, HasNearby};
 ghost use Rattle.su_map.specs.inside.Sendings.{AreRows};
 
-use crate::bits::{both, either, with, without};
+use crate::bits::either;
 use crate::columns::{column_of, holding};
 use crate::sides::Sides;
-use su_tableau::{Sym, Tableau, has};
+use su_tableau::{Sym, Tableau, both, has, with, without};
 
 /// Notes the row at the symbol's variable; whether it was noted there before.
 fn note(rows_of: &mut [u64], x: &Sym, i: usize) -> bool

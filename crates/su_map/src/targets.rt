@@ -7,9 +7,8 @@ ghost use Rattle.su_map.specs.Nets.{HasBase};
 ghost use Rattle.su_map.specs.Netted.{IsTarget};
 ghost use Rattle.su_map.specs.inside.Targets.{CellFits, HasFitting, HasNoTarget, IsPlain};
 
-use crate::bits::both;
 use crate::columns::{alike, column_of, holding};
-use su_tableau::{Sym, Tableau, full, has};
+use su_tableau::{Sym, Tableau, both, full, has};
 
 /// The targets in the set which the cell of the row at the column fits.
 fn fitting(head: &[Sym], to: &Tableau, row: &[Sym], repeats: bool, column: usize, set: u64) -> u64

@@ -1,16 +1,15 @@
 -- The kept part is valid, has the answers of the whole, and has the fewest rows.
-use Rattle.std.proofs.Common.{◌≡◌, ◌∙◌, ◌<◌, ◌≤◌, ℕ, List, [], length, get_or, All, Contains, sym, ap, subst, arith}
+use Rattle.std.proofs.Common.{◌≡◌, ◌<◌, ◌≤◌, ℕ, List, [], length, get_or, All, Contains, refl, subst, arith}
 use Rattle.std.specs.Int.{bit_at}
 use Rattle.std.proofs.lemmas.List.Elements.{recursion_from_All}
-use Rattle.std.proofs.lemmas.List.{get_or-map, length-map, get_or_default}
+use Rattle.std.proofs.lemmas.List.{get_or_default}
 use Rattle.su_tableau.specs.declared.symbols.Sym.{Sym}
-use Rattle.su_tableau.specs.declared.symbols.Sym.TheVariants.{Var}
-use Rattle.su_tableau.specs.Tableaux.{Tab, IsValid, Occurs}
+use Rattle.su_tableau.specs.Tableaux.{Tab, IsValid}
 use Rattle.su_tableau.specs.Kinds.{Kinds, IsTyped}
 use Rattle.su_tableau.specs.Parts.{part}
-use Rattle.su_tableau.specs.Mapping.{image_of, images_of, Maps}
+use Rattle.su_tableau.specs.Mapping.{images_of, Maps}
 use Rattle.su_tableau.specs.Equivalent.{IsLeast}
-use Rattle.su_tableau.proofs.Containment.{maps_compose, maps_within}
+use Rattle.su_tableau.proofs.Containment.{mapped_occurs, maps_compose, maps_within}
 use Rattle.su_tableau.proofs.FrozenTableaux.{within_maps}
 use Rattle.su_tableau.proofs.Sets.{sub_le, mark, mark-has, mark-sub, select, select-mark, select-has, select-from, choose, all_chosen}
 use Rattle.su_map.proofs.Containment.{part_typed}
@@ -53,25 +52,6 @@ kept_least kinds t m typed kept s valid typed_s same =
     let back : Maps s (part t m) = within_maps kinds s (part t m) typed_s typed_k (λ u h w. (same u h w).1) in
     least_rows t s m kept (maps_compose t (part t m) s (into_maps t m kept.maps) to) (maps_compose s (part t m) t back (part_maps t m))
 
--- the image of a head variable is itself, and so the row to which a row with it goes has it too
-kept_occurs : (t : Tab) (m : ℕ) → IsValid t → Maps t (part t m) → (k : ℕ) → Contains t.head (Var k) → Occurs (select m t.rows) k
-kept_occurs t m valid f k in_head =
-    let s = f.symbols in
-    let fixed : s k ≡ Var k =
-    ap (image_of s) (sym in_head.2)
-    ∙ sym (get_or-map (image_of s) t.head in_head.0 (Var k) (Var k) in_head.1)
-    ∙ ap (λ xs. get_or xs in_head.0 (Var k)) f.head
-    ∙ in_head.2 in
-    let at = valid.head_occurs k in_head in
-    let row = get_or t.rows at.0 [] in
-    let cell = at.2 in
-    let c = f.rows at.0 [] at.1 in
-    let image = images_of s row in
-    let e : get_or image cell.0 (Var k) ≡ Var k = get_or-map (image_of s) row cell.0 (Var k) (Var k) cell.1 ∙ ap (image_of s) cell.2 ∙ fixed in
-    let l : cell.0 < length image = subst (λ n. cell.0 < n) (sym (length-map row (image_of s))) cell.1 in
-    let here : Contains image (Var k) = (cell.0, l, e) in
-    (c.0, c.1, subst (λ r. Contains r (Var k)) (sym (get_or_default (select m t.rows) c.0 [] image c.1 ∙ c.2)) here)
-
 kept_valid : (t : Tab) (m : ℕ) → IsValid t → IsKept t m → IsValid (part t m)
 kept_valid t m valid kept = record {
   widths = λ k d h.
@@ -79,7 +59,7 @@ kept_valid t m valid kept = record {
       let r = select-from m t.rows row (k, h, get_or_default (select m t.rows) k row d h) in
       subst (λ row. length row ≡ t.width) (r.is []) (valid.widths r.place [] r.below);
   head_length = valid.head_length;
-  head_occurs = kept_occurs t m valid (into_maps t m kept.maps);
+  head_occurs = mapped_occurs t (part t m) valid (into_maps t m kept.maps) refl;
 }
 
 pub kept_least_part : (kinds : Kinds) (t : Tab) (m : ℕ) → IsValid t → IsKept t m → IsTyped kinds t → IsLeastPart kinds t m

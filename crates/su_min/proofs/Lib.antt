@@ -11,5 +11,5 @@ pub mod KeptTerms
 pub mod Spared
 pub mod Likeness
 pub mod MatrixRows
-pub mod Rooming
+pub mod RoomsForAll
 pub mod ReducedTerms

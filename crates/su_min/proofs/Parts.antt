@@ -1,12 +1,10 @@
 -- A tableau and its parts map into each other.
-use Rattle.std.proofs.Common.{◌≡◌, ◌<◌, ◌+◌, ◌^◌, ◌∙◌, ℕ, List, [], ◌∷◌, length, get_or, Contains, refl, sym, subst, arith, pow_pos}
+use Rattle.std.proofs.Common.{◌≡◌, ◌+◌, ◌^◌, ℕ, length, get_or, Contains, refl, subst, arith, pow_pos}
 use Rattle.std.proofs.lemmas.List.{get_or_default}
 use Rattle.std.proofs.lemmas.Nat.Bits.{bit_at-lt}
-use Rattle.su_tableau.specs.declared.symbols.Sym.{Sym}
-use Rattle.su_tableau.specs.declared.symbols.Sym.TheVariants.{Const, Var}
 use Rattle.su_tableau.specs.Tableaux.{Tab}
 use Rattle.su_tableau.specs.Parts.{part}
-use Rattle.su_tableau.specs.Mapping.{image_of, images_of, Maps}
+use Rattle.su_tableau.specs.Mapping.{Maps}
 use Rattle.su_tableau.proofs.Sets.{IsSub, select, select-has, select-from}
 use Rattle.su_tableau.proofs.Containment.{maps_compose, maps_to_more}
 use Rattle.su_map.proofs.Members.{full_member}

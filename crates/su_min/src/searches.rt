@@ -17,8 +17,8 @@ fn room_for(alloc: Global, terms: &[Minimal]) -> Result<Room, NoMemory>
 {
     let mut rows = 0;
     let mut symbols = 0;
-    for i in 0..terms.len() {
-        let t = terms[i].tableau();
+    for term in terms {
+        let t = term.tableau();
         rows = rows.max(t.row_count());
         symbols = symbols.max(t.symbols());
     }

@@ -56,7 +56,7 @@ module _ (a b : DatabaseValue) (alike : AreAlike a b) where
   }
 
   stored_moves : (t : Tab) (m : ℕ) (h : List Value) → StoredAnswer a t m h → StoredAnswer b t m h
-  stored_moves t m h s = record { valuation = s.valuation; reads = λ i below one. read_moves t m _ i (s.reads i below one); gives = s.gives }
+  stored_moves t m h s = record { valuation = s.valuation; holds = λ i below one. read_moves t m _ i (s.holds i below one); gives = s.gives }
 
   term_moves : (m : Minimised) (h : List Value) → IsTermAnswer a m h → IsTermAnswer b m h
   term_moves m h x = record { head = x.head; member = stored_moves m.tableau m.mask x.head x.member; compared = x.compared; outputs = x.outputs }

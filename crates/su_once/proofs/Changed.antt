@@ -7,9 +7,10 @@ use Rattle.std.proofs.lemmas.Option.{unwrap_or-slice_get}
 use Rattle.su_base.specs.declared.values.Value.{Value}
 use Rattle.su_where.specs.Truth.{truth_of}
 use Rattle.su_rel.specs.Stored.{Stored}
+use Rattle.su_index.specs.Tables.{rows_at}
 use Rattle.su_state.specs.declared.faults.StateFault.{StateFault}
 use Rattle.su_state.specs.declared.faults.StateFault.TheVariants.{UnknownRelation, Width, Kind as OtherKind, Breaks, Limit, NoMemory}
-use Rattle.su_state.specs.DatabaseValue.{DatabaseValue, HasColumnKinds, columns_of, rows_of, rows_in}
+use Rattle.su_state.specs.DatabaseValue.{DatabaseValue, HasColumnKinds, columns_of, rows_of}
 use Rattle.su_state.specs.Changes.{ChangesOnly, Added, Removed}
 use Rattle.su_state.specs.UnfitRows.{IsUnfit}
 use Rattle.su_state.specs.Breaches.{Breach, IsFirstOf, IsBreachBy}
@@ -131,7 +132,7 @@ module _ (db : DatabaseValue) (r : ℕ) (row : List Value) where
 pub same_schema : (a b : DatabaseValue) → a.schema ≡ b.schema → b ≡ record { schema = a.schema; tables = b.tables }
 same_schema a b same = λ i. record { schema = sym same i; tables = b.tables }
 
-module _ (a : DatabaseValue) (tables : List Stored) (rows : (r : ℕ) (row : List Value) → Contains (rows_of a r) row ↔ Contains (rows_in tables r) row) (counts : (r : ℕ) → length (rows_of a r) ≡ length (rows_in tables r)) (r : ℕ) (row : List Value) where
+module _ (a : DatabaseValue) (tables : List Stored) (rows : (r : ℕ) (row : List Value) → Contains (rows_of a r) row ↔ Contains (rows_at tables r) row) (counts : (r : ℕ) → length (rows_of a r) ≡ length (rows_at tables r)) (r : ℕ) (row : List Value) where
   abbrev b : DatabaseValue
   b = record { schema = a.schema; tables = tables }
 
@@ -166,7 +167,7 @@ module _ (a : DatabaseValue) (tables : List Stored) (rows : (r : ℕ) (row : Lis
 
 -- ---- alike after changes of one relation
 
-rows_there : (t u : List Stored) (r : ℕ) → slice_get t r ≡ slice_get u r → rows_in t r ≡ rows_in u r
+rows_there : (t u : List Stored) (r : ℕ) → slice_get t r ≡ slice_get u r → rows_at t r ≡ rows_at u r
 rows_there t u r same =
     let none : Stored = record { width = 0; rows = [] } in
     let table = sym (unwrap_or-slice_get t r none) ∙ ap (λ o. unwrap_or o none) same ∙ unwrap_or-slice_get u r none in
@@ -183,9 +184,9 @@ module _ (a b c d : DatabaseValue) (r : ℕ) (alike : AreAlike a b) where
     old : (s : ℕ) → s ≢ r → (rows_of c s ≡ rows_of a s) × (rows_of d s ≡ rows_of b s)
     old s differ = (rows_there c.tables a.tables s (one.others s differ), rows_there d.tables b.tables s (other.others s differ))
 
-    rows_at : (s : ℕ) (z : List Value) → (s ≡ r) ⊎ (s ≢ r) → Contains (rows_of c s) z ↔ Contains (rows_of d s) z
-    rows_at s z (inl is) = subst (λ (n : ℕ). Contains (rows_of c n) z ↔ Contains (rows_of d n) z) (sym is) (here z)
-    rows_at s z (inr differ) =
+    rows_by : (s : ℕ) (z : List Value) → (s ≡ r) ⊎ (s ≢ r) → Contains (rows_of c s) z ↔ Contains (rows_of d s) z
+    rows_by s z (inl is) = subst (λ (n : ℕ). Contains (rows_of c n) z ↔ Contains (rows_of d n) z) (sym is) (here z)
+    rows_by s z (inr differ) =
         let same = old s differ in (
           λ x. subst (λ (rows : List (List Value)). Contains rows z) (sym same.1) ((alike.rows s z).0 (subst (λ (rows : List (List Value)). Contains rows z) same.0 x)),
           λ y. subst (λ (rows : List (List Value)). Contains rows z) (sym same.0) ((alike.rows s z).1 (subst (λ (rows : List (List Value)). Contains rows z) same.1 y)),
@@ -199,7 +200,7 @@ module _ (a b c d : DatabaseValue) (r : ℕ) (alike : AreAlike a b) where
     alike_changed = record {
       schema = one.schema ∙ alike.schema ∙ sym other.schema;
       tables = one.tables ∙ alike.tables ∙ sym other.tables;
-      rows = λ s z. rows_at s z (same_number s r);
+      rows = λ s z. rows_by s z (same_number s r);
       counts = λ s. count_at s (same_number s r);
     }
 

@@ -1,5 +1,6 @@
 -- Two lists of terms have one verdict.
 use Rattle.std.proofs.Common.{◌≡◌, ◌↔◌, ◌<◌, ℕ, List, [], length, get_or, Contains, Option, Some, None, All, inl, inr, refl, ap, sym, ◌∙◌, subst, arith}
+use Rattle.std.proofs.lemmas.List.{same_lists}
 use Rattle.std.proofs.lemmas.Bool.{cases_lt}
 use Rattle.su_base.specs.declared.values.Value.{Value}
 use Rattle.su_fd.specs.declared.dependencies.Fd.{Fd}
@@ -19,7 +20,6 @@ use Rattle.su_compare.specs.declared.verdicts.Verdict.TheVariants.{Within, Apart
 use Rattle.su_compare.specs.Settled.{tab_at, IsFirstMapping, IsFound, Clashes, IsBy, IsUnsettled}
 use Rattle.su_compare.specs.Verdict.{IsReason, AreReasons}
 use Rattle.su_compare.specs.Counterexamples.{IsShown, IsApart}
-use Rattle.su_compare.proofs.Lists.{same_lists}
 use Rattle.su_compare.proofs.Settled.{tab_here}
 use Rattle.su_once.specs.Verdicts.{OneVerdict}
 use Rattle.su_once.proofs.OneChase.{one_chase, no_clash, head_stands}

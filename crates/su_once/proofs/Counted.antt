@@ -1,5 +1,5 @@
 -- Different items stand in no shorter list, and so many pass a test as in any other list with just these items.
-use Rattle.std.proofs.Common.{◌≡◌, ◌<◌, ◌≤◌, ◌⊎◌, ℕ, zero, suc, Bool, true, false, cond, List, [], ◌∷◌, length, get_or, refl, ap, sym, ◌∙◌, subst, Contains, inl, inr, arith}
+use Rattle.std.proofs.Common.{◌≡◌, ◌<◌, ◌≤◌, ◌⊎◌, ℕ, zero, suc, Bool, true, false, cond, List, [], ◌∷◌, length, get_or, ap, sym, ◌∙◌, Contains, inl, inr, arith}
 use Rattle.std.specs.List.{filter, count_by}
 use Rattle.std.proofs.lemmas.Bool.{cases_lt}
 use Rattle.std.proofs.lemmas.List.{get_or_default}
@@ -8,7 +8,7 @@ use Rattle.std.proofs.lemmas.List.Sums.{length-filter}
 use Rattle.su_base.specs.declared.values.Value.{Value}
 use Rattle.su_rel.specs.Stored.{AllDiffer}
 use Rattle.su_min.proofs.Holes.{pigeonhole}
-use Rattle.su_base.proofs.Items.{Contains-cases, Contains-head, Contains-later}
+use Rattle.su_base.proofs.Items.{Contains-filter, Contains-filter_source}
 use Rattle.su_once.proofs.Lists.{Ascends, ascends_from}
 
 abbrev Row : Type 0
@@ -39,34 +39,8 @@ module _ {X : Type 0} (n : ℕ) (list : ℕ → X) (rows : List X) (there : (i :
 abbrev Apart : Row → Row → Type 0
 Apart a b = ¬ (a ≡ b)
 
-module _ (p : Row → Bool) (r : Row) (rs : List Row) (row : Row) where
-  among_more : (b : Bool) → p r ≡ b → (Contains (filter p rs) row → Contains rs row × (p row ≡ true)) → Contains (cond b (r ∷ filter p rs) (filter p rs)) row → Contains (r ∷ rs) row × (p row ≡ true)
-  among_more true passes rest inside = elim (Contains-cases r (filter p rs) row inside) [
-    | inl is ↦ (subst (λ (x : Row). Contains (r ∷ rs) x) is (Contains-head r rs), ap p (sym is) ∙ passes)
-    | inr there ↦ let more = rest there in (Contains-later r rs row more.0, more.1)
-  ]
-  among_more false fails rest inside = let more = rest inside in (Contains-later r rs row more.0, more.1)
-
-  stays_more : (b : Bool) → p r ≡ b → p row ≡ true → (Contains rs row → Contains (filter p rs) row) → Contains (r ∷ rs) row → Contains (cond b (r ∷ filter p rs) (filter p rs)) row
-  stays_more true is passes rest there = elim (Contains-cases r rs row there) [
-    | inl same ↦ subst (λ (x : Row). Contains (r ∷ filter p rs) x) same (Contains-head r (filter p rs))
-    | inr behind ↦ Contains-later r (filter p rs) row (rest behind)
-  ]
-  stays_more false is passes rest there = elim (Contains-cases r rs row there) [
-    | inl same ↦ absurd (let no : false ≡ true = sym is ∙ ap p same ∙ passes in cc)
-    | inr behind ↦ rest behind
-  ]
-
-among : (p : Row → Bool) (rows : List Row) (row : Row) → Contains (filter p rows) row → Contains rows row × (p row ≡ true)
-among p [] row (k, within, is) = absurd (omega (arith, within))
-among p (r ∷ rs) row there = among_more p r rs row (p r) refl (among p rs row) there
-
-stays : (p : Row → Bool) (rows : List Row) (row : Row) → Contains rows row → p row ≡ true → Contains (filter p rows) row
-stays p [] row there passes = absurd (omega (arith, there.1))
-stays p (r ∷ rs) row there passes = stays_more p r rs row (p r) refl passes (λ behind. stays p rs row behind passes) there
-
 apart_more : (p : Row → Bool) (r : Row) (rs : List Row) (b : Bool) → Ascends Apart (r ∷ rs) → Ascends Apart (filter p rs) → Ascends Apart (cond b (r ∷ filter p rs) (filter p rs))
-apart_more p r rs true differ rest = (λ y there. differ.0 y (among p rs y there).0, rest)
+apart_more p r rs true differ rest = (λ y there. differ.0 y (Contains-filter_source p rs y there).0, rest)
 apart_more p r rs false differ rest = rest
 
 still_apart : (p : Row → Bool) (rows : List Row) → Ascends Apart rows → Ascends Apart (filter p rows)
@@ -86,7 +60,7 @@ no_longer rows others differ within = no_more (length rows) (λ i. get_or rows i
 fewer : (p : Row → Bool) (rows others : List Row) → AllDiffer rows → ((row : Row) → Contains rows row → Contains others row) → length (filter p rows) ≤ length (filter p others)
 fewer p rows others differ within =
     no_longer (filter p rows) (filter p others) (still_apart p rows (ascends_from Apart rows [] (λ i j less inside. differ i j [] less inside)))
-    (λ row there. let inside = among p rows row there in stays p others row (within row inside.0) inside.1)
+    (λ row there. let inside = Contains-filter_source p rows row there in Contains-filter p others row (within row inside.0) inside.1)
 
 -- so many of the same different rows pass a test
 pub one_count : (p : Row → Bool) (rows others : List Row) → AllDiffer rows → AllDiffer others → ((row : Row) → Contains rows row → Contains others row) → ((row : Row) → Contains others row → Contains rows row) → count_by p rows ≡ count_by p others

@@ -9,9 +9,10 @@ use Rattle.su_schema.specs.declared.definitions.Definition.TheVariants.{Attribut
 use Rattle.su_schema.specs.declared.faults.SchemaFault.{SchemaFault}
 use Rattle.su_schema.specs.SchemaValue.{SchemaValue}
 use Rattle.su_schema.specs.Definitions.{applied}
+use Rattle.su_index.specs.Tables.{rows_at}
 use Rattle.su_state.specs.declared.faults.DefineFault.{DefineFault}
 use Rattle.su_state.specs.declared.faults.DefineFault.TheVariants.{Schema, Breaks, NoMemory}
-use Rattle.su_state.specs.DatabaseValue.{DatabaseValue, rows_in, rows_of}
+use Rattle.su_state.specs.DatabaseValue.{DatabaseValue, rows_of}
 use Rattle.su_state.specs.Definitions.{tables_with, Defines}
 use Rattle.su_state.specs.Breaches.{Breach, IsFirstOf}
 use Rattle.su_state.specs.NewBreaches.{IsNewBreach, told}
@@ -21,7 +22,7 @@ use Rattle.su_once.proofs.Breached.{first_among, one_first}
 use Rattle.su_once.proofs.Changed.{same_schema}
 
 abbrev pub HaveRows : List Stored → List Stored → Type 0
-HaveRows t u = (r : ℕ) (z : List Value) → Contains (rows_in t r) z ↔ Contains (rows_in u r) z
+HaveRows t u = (r : ℕ) (z : List Value) → Contains (rows_at t r) z ↔ Contains (rows_at u r) z
 
 -- what breaks an addition among some rows breaks it among the same rows
 new_among : (schema : SchemaValue) (t u : List Stored) → HaveRows t u → (definition : Definition) (b : Breach) → IsNewBreach schema t definition b → IsNewBreach schema u definition b
@@ -34,7 +35,7 @@ new_among schema t u same definition b h = record {
 
 -- ---- one answer
 
-same_rows : (definition : Definition) (t : List Stored) (r : ℕ) → rows_in (tables_with definition t) r ≡ rows_in t r
+same_rows : (definition : Definition) (t : List Stored) (r : ℕ) → rows_at (tables_with definition t) r ≡ rows_at t r
 same_rows (Relation name columns) t r = rows_more t (columns ∷ []) r
 same_rows (Attribute name kind) t r = refl
 same_rows (Object own relation pairs) t r = refl
@@ -60,7 +61,7 @@ one_fault s x y definition e f = let both : ◌≡◌ {A = Result SchemaValue Sc
 added_or_refused : (s x : SchemaValue) (y : SchemaFault) (definition : Definition) → applied s definition ≡ Ok x → applied s definition ≡ Err y → ⊥
 added_or_refused s x y definition e f = let both : ◌≡◌ {A = Result SchemaValue SchemaFault} (Ok x) (Err y) = sym e ∙ f in absurd (cc)
 
-module _ (a : DatabaseValue) (u : List Stored) (tables : length a.tables ≡ length u) (rows : HaveRows a.tables u) (counts : (r : ℕ) → length (rows_of a r) ≡ length (rows_in u r)) (definition : Definition) where
+module _ (a : DatabaseValue) (u : List Stored) (tables : length a.tables ≡ length u) (rows : HaveRows a.tables u) (counts : (r : ℕ) → length (rows_of a r) ≡ length (rows_at u r)) (definition : Definition) where
   abbrev b : DatabaseValue
   b = record { schema = a.schema; tables = u }
 
@@ -69,14 +70,14 @@ module _ (a : DatabaseValue) (u : List Stored) (tables : length a.tables ≡ len
     schema = schema;
     tables = ap (λ (t : List Stored). length t) one ∙ same_number definition a.tables u tables ∙ sym (ap (λ (t : List Stored). length t) other);
     rows = λ r z.
-        let x : rows_of c r ≡ rows_of a r = ap (λ t. rows_in t r) one ∙ same_rows definition a.tables r in
-        let y : rows_of d r ≡ rows_in u r = ap (λ t. rows_in t r) other ∙ same_rows definition u r in (
+        let x : rows_of c r ≡ rows_of a r = ap (λ t. rows_at t r) one ∙ same_rows definition a.tables r in
+        let y : rows_of d r ≡ rows_at u r = ap (λ t. rows_at t r) other ∙ same_rows definition u r in (
           λ h. subst (λ (v : List (List Value)). Contains v z) (sym y) ((rows r z).0 (subst (λ (v : List (List Value)). Contains v z) x h)),
           λ h. subst (λ (v : List (List Value)). Contains v z) (sym x) ((rows r z).1 (subst (λ (v : List (List Value)). Contains v z) y h)),
         );
     counts = λ r.
-        let x : rows_of c r ≡ rows_of a r = ap (λ t. rows_in t r) one ∙ same_rows definition a.tables r in
-        let y : rows_of d r ≡ rows_in u r = ap (λ t. rows_in t r) other ∙ same_rows definition u r in
+        let x : rows_of c r ≡ rows_of a r = ap (λ t. rows_at t r) one ∙ same_rows definition a.tables r in
+        let y : rows_of d r ≡ rows_at u r = ap (λ t. rows_at t r) other ∙ same_rows definition u r in
         ap (λ (v : List (List Value)). length v) x ∙ counts r ∙ sym (ap (λ (v : List (List Value)). length v) y);
   }
 

@@ -1,5 +1,6 @@
 -- What is shown of a query and of a closure is one text.
-use Rattle.std.proofs.Common.{◌≡◌, ℕ, List, [], ◌∷◌, ◌++◌, slice_get, ap, sym, ◌∙◌, subst, inl, inr}
+use Rattle.std.proofs.Common.{◌≡◌, ℕ, List, [], ◌∷◌, ◌++◌, ap, sym, ◌∙◌, subst, inl, inr}
+use Rattle.std.proofs.lemmas.Option.{same_Some}
 use Rattle.su_schema.specs.SchemaValue.{SchemaValue}
 use Rattle.su_query.specs.declared.resolving.Resolved.{Resolved}
 use Rattle.su_steps.specs.declared.results.Term.{Term}
@@ -13,7 +14,6 @@ use Rattle.su_show.specs.Replies.{closure_reply}
 use Rattle.su_show.specs.Explanations.{query_line, variables_line, last_line, IsTermText}
 use Rattle.su_once.specs.Texts.{OneClosureReply, OneExplanation}
 use Rattle.su_once.proofs.Closed.{one_set, one_closure, one_derivation}
-use Rattle.su_once.proofs.Options.{same_some}
 
 -- lines, where each item has one
 module _ {A : Type 0} (P : A → List ℕ → Type 0) (one : (x : A) (line other : List ℕ) → P x line → P x other → line ≡ other) where
@@ -38,8 +38,8 @@ one_end schema reduced i m end other (inr (dropped, h)) (inr (also, k)) = h ∙ 
 module _ (schema : SchemaValue) (q : Resolved) (terms : List Term) (minimals : List Minimised) (reduced : Reduced) where
   one_term_text : (i : ℕ) (text other : List ℕ) → IsTermText schema q terms minimals reduced i text → IsTermText schema q terms minimals reduced i other → text ≡ other
   one_term_text i text other h k =
-      let term = same_some h.term k.term (slice_get terms i) h.term_is k.term_is in
-      let minimal = same_some h.minimal k.minimal (slice_get minimals i) h.minimal_is k.minimal_is in
+      let term = same_Some h.term k.term (sym h.term_is ∙ k.term_is) in
+      let minimal = same_Some h.minimal k.minimal (sym h.minimal_is ∙ k.minimal_is) in
       let end = one_end schema reduced i h.minimal h.end k.end h.end_is (subst (λ (m : Minimised). IsEnd schema reduced i m k.end) (sym minimal) k.end_is) in
       h.is ∙ (λ t. tableau_lines schema q i (term t) ++ minimal_lines (minimal t) ++ end t) ∙ sym k.is
 

@@ -1,5 +1,4 @@
 pub mod Lists
-pub mod Options
 pub mod Closed
 pub mod Mapped
 pub mod Counted

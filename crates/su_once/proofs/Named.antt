@@ -20,9 +20,8 @@ use Rattle.su_steps.specs.CaseTableaux.{tableau_of}
 use Rattle.su_steps.specs.Evaluated.{EvaluatesFalse}
 use Rattle.su_steps.specs.Cases.{HaveNone, HaveTableau, Case, Gives}
 use Rattle.su_steps.specs.Terms.{cases}
-use Rattle.su_steps.specs.inside.Outs.{AreTermsOf}
 use Rattle.su_once.specs.Terms.{OneNaming, OneListOfTerms}
-use Rattle.su_steps.proofs.Outs.{terms_of}
+use Rattle.su_steps.proofs.Outs.{AreInTurn, terms_of}
 
 both_ways : (a b : Value) (e : Bool) → Decides e (a ≡ b) → ((a ≢ b) → ⊥) → a ≡ b
 both_ways a b true d not_not = d.0 refl
@@ -74,7 +73,7 @@ one_term schema maximal q case t u x y =
     let tableau = one_tableau schema _ _ q t.tableau u.tableau x.tableau y.tableau in
     λ i. record { disjunct = disjunct i; choice = choice i; origins = origins i; tableau = tableau i }
 
-one_list : (schema : SchemaValue) (maximal : List (FinSet nat_cmp)) (q : Resolved) (cs : List Case) (ts us : List Term) → AreTermsOf schema maximal q cs ts → AreTermsOf schema maximal q cs us → ts ≡ us
+one_list : (schema : SchemaValue) (maximal : List (FinSet nat_cmp)) (q : Resolved) (cs : List Case) (ts us : List Term) → AreInTurn schema maximal q cs ts → AreInTurn schema maximal q cs us → ts ≡ us
 one_list schema maximal q [] ts us a b = a ∙ sym b
 one_list schema maximal q (c ∷ cs) ts us (inl (none, a)) (inl (also, b)) = one_list schema maximal q cs ts us a b
 one_list schema maximal q (c ∷ cs) ts us (inl (none, a)) (inr (u, later, is, gives, b)) = absurd (not_both schema _ _ q u.tableau none gives.tableau)

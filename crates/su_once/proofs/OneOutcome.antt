@@ -1,5 +1,6 @@
 -- A text is read in one way, or refused for one cause.
 use Rattle.std.proofs.Common.{◌≡◌, ℕ, List, [], ◌∷◌, refl, ap, sym, ◌∙◌, subst, inl, inr, arith}
+use Rattle.std.proofs.lemmas.Option.{none-some, same_Some}
 use Rattle.std.specs.List.{AllByRecursion}
 use Rattle.su_lex.specs.declared.meaning.Symbol.{Symbol}
 use Rattle.su_lex.proofs.Written.{one_list_of_symbols}
@@ -16,7 +17,6 @@ use Rattle.su_query.specs.StatementTexts.{IsStatement, IsFormless, NestsTooDeep,
 use Rattle.su_query.specs.Limits.{Passes, PartsPass, AreFew, HasFew, parts_of}
 use Rattle.su_query.proofs.Uniqueness.{statement_unique}
 use Rattle.su_once.specs.Readings.{OneOutcome, OneStatement, OneRefusal, RefusedOrRead, OneQueryRefusal, QueryIsRefusedOrKnown, OneColumnRefusal, ConditionIsRefusedOrKnown}
-use Rattle.su_once.proofs.Options.{same_some, none_or_some}
 
 pub one_outcome : OneOutcome
 one_outcome file outcome other h k = same_outcome file outcome other h k
@@ -123,13 +123,13 @@ not_refused text why st h k few = refused_or_few text why st (cause_of text why 
 -- ---- names
 
 pub one_query_refusal : OneQueryRefusal
-one_query_refusal schema q why other h k = same_some why other _ h k
+one_query_refusal schema q why other h k = same_Some why other (sym h ∙ k)
 
 pub query_not_refused : QueryIsRefusedOrKnown
-query_not_refused schema q why h known = none_or_some why _ known h
+query_not_refused schema q why h known = none-some why (sym known ∙ h)
 
 pub one_column_refusal : OneColumnRefusal
-one_column_refusal schema r c why other h k = same_some why other _ h k
+one_column_refusal schema r c why other h k = same_Some why other (sym h ∙ k)
 
 pub condition_not_refused : ConditionIsRefusedOrKnown
-condition_not_refused schema r c why h known = none_or_some why _ known h
+condition_not_refused schema r c why h known = none-some why (sym known ∙ h)

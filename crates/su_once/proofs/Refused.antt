@@ -1,5 +1,6 @@
 -- A query that has no terms is refused for one cause.
 use Rattle.std.proofs.Common.{◌≡◌, ◌≤◌, ℕ, List, slice_get, Some, refl, ap, sym, ◌∙◌, subst, arith}
+use Rattle.std.proofs.lemmas.Option.{none-some, same_Some}
 use Rattle.std.specs.Ordering.{nat_cmp}
 use Rattle.std.specs.FinSet.{FinSet}
 use Rattle.std.proofs.lemmas.List.Elements.{All-contains}
@@ -11,10 +12,9 @@ use Rattle.su_steps.specs.declared.faults.StepFault.TheVariants.{NotCovered, Lim
 use Rattle.su_steps.specs.declared.faults.StepLimit.{StepLimit}
 use Rattle.su_steps.specs.declared.faults.StepLimit.TheVariants.{Disjuncts, Rows, Terms}
 use Rattle.su_steps.specs.Choices.{choices}
-use Rattle.su_steps.specs.Refusals.{first_uncovered, IsStepRefusal, IsAccepted}
+use Rattle.su_steps.specs.Refusals.{IsStepRefusal, IsAccepted}
 use Rattle.su_steps.specs.Limits.{row_count, HasFewRows, HasManyRows, IsLimitPassed}
 use Rattle.su_once.specs.Terms.{OneStepRefusal, RefusedOrAccepted}
-use Rattle.su_once.proofs.Options.{same_some, none_or_some}
 
 module _ (schema : SchemaValue) (maximal : List (FinSet nat_cmp)) (q : Resolved) where
   many_or_few : HasManyRows schema maximal q → HasFewRows schema maximal q → ⊥
@@ -39,20 +39,20 @@ module _ (schema : SchemaValue) (maximal : List (FinSet nat_cmp)) (q : Resolved)
   not_passed Terms h ok = absurd (let many = h.2 in let few = ok.few_terms in omega (arith, many, few))
 
   one_cause : (x y : StepFault) → IsStepRefusal schema maximal q x → IsStepRefusal schema maximal q y → x ≡ y
-  one_cause (NotCovered variable mentioned) (NotCovered other also) (v, first, named, is) (w, too, called, same) =
-      let at : v ≡ w = same_some v w (first_uncovered schema maximal q) first too in
-      let who : variable ≡ other = same_some variable other (slice_get q.variables v) named (subst (λ (k : ℕ). slice_get q.variables k ≡ Some other) (sym at) called) in
+  one_cause (NotCovered variable mentioned) (NotCovered other also) (v, first, (named, is)) (w, too, (called, same)) =
+      let at : v ≡ w = same_Some v w (sym first ∙ too) in
+      let who : variable ≡ other = same_Some variable other (sym named ∙ (subst (λ (k : ℕ). slice_get q.variables k ≡ Some other) (sym at) called)) in
       let with : mentioned ≡ also = is ∙ ap (λ k. mentioned_with q.places k) at ∙ sym same in
       λ i. NotCovered (who i) (with i)
-  one_cause (NotCovered variable mentioned) (Limit limit) h k = absurd (none_or_some h.0 (first_uncovered schema maximal q) k.0 h.1)
-  one_cause (Limit limit) (NotCovered variable mentioned) h k = absurd (none_or_some k.0 (first_uncovered schema maximal q) h.0 k.1)
+  one_cause (NotCovered variable mentioned) (Limit limit) h k = absurd (none-some h.0 (sym k.0 ∙ h.1))
+  one_cause (Limit limit) (NotCovered variable mentioned) h k = absurd (none-some k.0 (sym h.0 ∙ k.1))
   one_cause (Limit limit) (Limit other) h k = ap Limit (one_limit limit other h.1 k.1)
   one_cause NoMemory y h k = absurd h
   one_cause (NotCovered variable mentioned) NoMemory h k = absurd k
   one_cause (Limit limit) NoMemory h k = absurd k
 
   refused_or_accepted : (x : StepFault) → IsStepRefusal schema maximal q x → IsAccepted schema maximal q → ⊥
-  refused_or_accepted (NotCovered variable mentioned) h ok = none_or_some h.0 (first_uncovered schema maximal q) ok.covered h.1
+  refused_or_accepted (NotCovered variable mentioned) h ok = none-some h.0 (sym ok.covered ∙ h.1)
   refused_or_accepted (Limit limit) h ok = not_passed limit h.1 ok
   refused_or_accepted NoMemory h ok = h
 

@@ -1,5 +1,6 @@
 -- A statement wants one file, and has one reply on databases that are alike, which it leaves alike.
 use Rattle.std.proofs.Common.{◌≡◌, ◌≤◌, ◌⊎◌, ℕ, Bool, List, [], length, Option, Some, unwrap_or, Result, Ok, Err, refl, ap, sym, ◌∙◌, subst, inl, inr}
+use Rattle.std.proofs.lemmas.Option.{none-some, same_Some}
 use Rattle.std.specs.Ordering.{nat_cmp}
 use Rattle.std.specs.FinSet.{FinSet}
 use Rattle.su_base.specs.declared.values.Value.{Value}
@@ -47,7 +48,7 @@ use Rattle.su_session.specs.Certificates.{Certifies, node_limit}
 use Rattle.su_session.specs.Supports.{Supports}
 use Rattle.su_session.specs.Comparisons.{IsTermsRefusal, ShowsVerdicts, ComparesTerms, Compares}
 use Rattle.su_session.specs.Windows.{attribute_numbers, TellsWindowFault, ShowsWindow}
-use Rattle.su_session.specs.RowStatements.{InRelation, InsertsRow, DeletesRow, DeletesRows, LoadsRows, relation_number}
+use Rattle.su_session.specs.RowStatements.{InRelation, InsertsRow, DeletesRow, DeletesRows, LoadsRows}
 use Rattle.su_session.specs.Statements.{PrintsRows, ShowsSchema, ShowsClosure, Answers}
 use Rattle.su_session.specs.Reply.{RepliesDefinition, RepliesStatement, Replied}
 use Rattle.su_session.specs.Reply as said
@@ -64,7 +65,6 @@ use Rattle.su_once.proofs.Supported.{one_supports}
 use Rattle.su_once.proofs.Windowed.{one_window, one_window_refusal, refused_or_fitting}
 use Rattle.su_once.proofs.OneOutcome.{one_statement, one_refusal, not_refused, one_query_refusal, query_not_refused, one_column_refusal, condition_not_refused}
 use Rattle.su_once.proofs.Refused.{one_step_refusal, not_refused as has_terms}
-use Rattle.su_once.proofs.Options.{same_some, none_or_some}
 use Rattle.su_once.proofs.Told.{accept, still, refuse, one_insert_told, one_delete_told, one_load_told, one_definition_told}
 
 -- ---- the cause of a refused query
@@ -115,9 +115,9 @@ module _ (a : DatabaseValue) (tables : List Stored) (alike : AreAlike a (record 
 
   in_relation : (name : List ℕ) (K L : ℕ → Type 0) → InRelation a name r c K → InRelation b name s d L → ((n : ℕ) → K n → L n → Same) → Same
   in_relation name K L (inl (none, h)) (inl (gone, k)) f = refuse a tables r s c d alike _ _ h k refl
-  in_relation name K L (inl (none, h)) (inr (n, some, k)) f = absurd (none_or_some n (relation_number a name) none some)
-  in_relation name K L (inr (n, some, h)) (inl (none, k)) f = absurd (none_or_some n (relation_number a name) none some)
-  in_relation name K L (inr (n, some, h)) (inr (m, there, k)) f = f n h (subst L (same_some m n (relation_number a name) there some) k)
+  in_relation name K L (inl (none, h)) (inr (n, some, k)) f = absurd (none-some n (sym none ∙ some))
+  in_relation name K L (inr (n, some, h)) (inl (none, k)) f = absurd (none-some n (sym none ∙ some))
+  in_relation name K L (inr (n, some, h)) (inr (m, there, k)) f = f n h (subst L (same_Some m n (sym there ∙ some)) k)
 
   inserts : (row : List Value) (n : ℕ) → InsertsRow a row r c n → InsertsRow b row s d n → Same
   inserts row n (x, h, t) (y, k, u) =
@@ -159,9 +159,9 @@ module _ (a : DatabaseValue) (tables : List Stored) (alike : AreAlike a (record 
   shows_schema ((sets, h, t), one) ((others, k, u), two) = agree _ _ t u (ap (schema_reply a.schema) (sym (one_list_of_maximal a.schema sets others h k))) one two
 
   shows_closure : (names : List (List ℕ)) → ShowsClosure a names r c → ShowsClosure b names s d → Same
-  shows_closure names (inl (name, h, t)) (inl (other, k, u)) = refuse a tables r s c d alike _ _ t u (ap (λ n. refusal.Query (query.Unknown n)) (same_some name other _ h k))
-  shows_closure names (inl (name, h, t)) (inr (none, k, u)) = absurd (none_or_some name _ none h)
-  shows_closure names (inr (none, h, t)) (inl (name, k, u)) = absurd (none_or_some name _ none k)
+  shows_closure names (inl (name, h, t)) (inl (other, k, u)) = refuse a tables r s c d alike _ _ t u (ap (λ n. refusal.Query (query.Unknown n)) (same_Some name other (sym h ∙ k)))
+  shows_closure names (inl (name, h, t)) (inr (none, k, u)) = absurd (none-some name (sym none ∙ h))
+  shows_closure names (inr (none, h, t)) (inl (name, k, u)) = absurd (none-some name (sym none ∙ k))
   shows_closure names (inr (none, (text, h, t), one)) (inr (gone, (other, k, u), two)) = agree _ _ t u (one_closure_reply a.schema _ text other h k) one two
 
   after_terms : (q : AQuery) (K L : List (FinSet nat_cmp) → Type 0) → AfterTerms a q r c K → AfterTerms b q s d L → ((maximal : List (FinSet nat_cmp)) → K maximal → L maximal → Same) → Same
@@ -243,9 +243,9 @@ module _ (a : DatabaseValue) (tables : List Stored) (alike : AreAlike a (record 
   one_window_told window.NoMemory h k = absurd h
 
   shows_window : (names : List (List ℕ)) → ShowsWindow a names r c → ShowsWindow b names s d → Same
-  shows_window names (inl (name, h, t)) (inl (other, k, u)) = refuse a tables r s c d alike _ _ t u (ap (λ n. refusal.Query (query.Unknown n)) (same_some name other _ h k))
-  shows_window names (inl (name, h, t)) (inr (none, k)) = absurd (none_or_some name _ none h)
-  shows_window names (inr (none, h)) (inl (name, k, u)) = absurd (none_or_some name _ none k)
+  shows_window names (inl (name, h, t)) (inl (other, k, u)) = refuse a tables r s c d alike _ _ t u (ap (λ n. refusal.Query (query.Unknown n)) (same_Some name other (sym h ∙ k)))
+  shows_window names (inl (name, h, t)) (inr (none, k)) = absurd (none-some name (sym none ∙ h))
+  shows_window names (inr (none, h)) (inl (name, k, u)) = absurd (none-some name (sym none ∙ k))
   shows_window names (inr (none, inl (f, h, t))) (inr (gone, inl (g, k, u))) =
       let same = one_window_refusal a b f g alike h k in
       one_window_told f t (subst (λ (z : WindowFault). TellsWindowFault b z s d) (sym same) u)

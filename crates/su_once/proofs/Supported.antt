@@ -1,5 +1,6 @@
 -- Over databases that are alike the kept terms of a query have the same counts.
 use Rattle.std.proofs.Common.{◌≡◌, ℕ, Bool, true, false, List, [], ◌∷◌, map, Contains, Option, Some, None, refl, ap, sym, ◌∙◌, subst, arith}
+use Rattle.std.proofs.lemmas.Option.{same_Some}
 use Rattle.std.specs.List.{AllZip, AllByRecursion}
 use Rattle.std.proofs.lemmas.List.Elements.{recursion_from_All, All-from_recursion}
 use Rattle.std.specs.Ordering.{nat_cmp}
@@ -20,7 +21,8 @@ use Rattle.su_state.specs.DatabaseValue.{DatabaseValue}
 use Rattle.su_min.specs.Kept.{Minimised}
 use Rattle.su_min.specs.Reduction.{term_at}
 use Rattle.su_map.specs.Lists.{row_numbers}
-use Rattle.su_answer.specs.Joined.{numbers_in, cell, IsSourceOf, IsTaskRowOf, IsTaskOf}
+use Rattle.su_tableau.specs.Parts.{cell_at, row_of}
+use Rattle.su_answer.specs.Joined.{numbers_in, IsSourceOf, IsTaskRowOf, IsTaskOf}
 use Rattle.su_answer.specs.Support.{IsCandidate, IsLeftOver, IsCountOf, IsLeftCount, IsSupport}
 use Rattle.su_once.specs.States.{AreAlike}
 use Rattle.su_once.specs.Answers.{OneSupport}
@@ -28,7 +30,6 @@ use Rattle.su_once.proofs.Answered.{back}
 use Rattle.su_once.proofs.Closed.{same_test, one_set}
 use Rattle.su_once.proofs.Counted.{no_longer}
 use Rattle.su_once.proofs.Lists.{ascends_from}
-use Rattle.su_once.proofs.Options.{same_some}
 use Rattle.su_answer.proofs.Few.{same_columns}
 
 -- as many lists have a property as have one that is the same
@@ -59,7 +60,7 @@ all_turned (r ∷ rs) (q ∷ qs) h = (turned r q h.0, all_turned rs qs h.1)
 
 same_source : (schema : SchemaValue) (attributes : List ℕ) (o : ℕ) (s u : Source) → IsSourceOf schema attributes o s → IsSourceOf schema attributes o u → u ≡ s
 same_source schema attributes o s u h k =
-    let object = same_some k.object h.object _ k.is h.is in
+    let object = same_Some k.object h.object (sym k.is ∙ h.is) in
     let relation : u.relation ≡ s.relation = k.relation ∙ ap (λ x. x.relation) object ∙ sym h.relation in
     let columns : u.columns ≡ s.columns = same_columns u.columns s.columns (sym k.columns ∙ ap (λ x. map (column_of x) attributes) object ∙ h.columns) in
     λ i. record { relation = relation i; columns = columns i }
@@ -78,7 +79,7 @@ module _ (schema : SchemaValue) (t : Tab) (m : ℕ) where
 
   twin_row : (i : ℕ) (r q : TaskRow) → IsTaskRowOf schema t m i r → IsTaskRowOf schema t m i q → IsTwin r q
   twin_row i r q h k = record {
-    cells = h.cells ∙ ap (λ set. map (cell t i) (numbers_in set t.width)) (same_attributes i r q h k) ∙ sym k.cells;
+    cells = h.cells ∙ ap (λ set. map (cell_at (row_of t i)) (numbers_in set t.width)) (same_attributes i r q h k) ∙ sym k.cells;
     there = sources_move i r q h k;
     back = sources_move i q r k h;
   }

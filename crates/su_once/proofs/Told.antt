@@ -1,5 +1,5 @@
 -- Replies that tell the same are equal.
-use Rattle.std.proofs.Common.{◌≡◌, ℕ, Bool, true, false, List, Result, Ok, Err, refl, ap, sym, ◌∙◌, subst}
+use Rattle.std.proofs.Common.{◌≡◌, ℕ, Bool, true, false, List, Result, Ok, Err, refl, sym, ◌∙◌, subst}
 use Rattle.su_rel.specs.Stored.{Stored}
 use Rattle.su_state.specs.declared.faults.StateFault.{StateFault}
 use Rattle.su_state.specs.declared.faults.LoadEnd.{LoadEnd}
@@ -8,7 +8,8 @@ use Rattle.su_state.specs.declared.faults.DefineFault.{DefineFault}
 use Rattle.su_state.specs.DatabaseValue.{DatabaseValue}
 use Rattle.su_show.specs.declared.statement_refusal.Refusal.{Refusal}
 use Rattle.su_show.specs.declared.statement_refusal.Refusal.TheVariants.{State, Record, Define}
-use Rattle.su_show.specs.RefusalLines.{refusal_line}
+use Rattle.su_show.specs.RefusalLines.{IsRefusalLine}
+use Rattle.su_show.proofs.RefusalLines.{one_line as same_line}
 use Rattle.su_session.specs.declared.replies.Reply.{Reply}
 use Rattle.su_session.specs.Outcomes.{Accepts, Refuses, TellsInsert, TellsDelete, TellsLoad, TellsDefine}
 use Rattle.su_once.specs.States.{AreAlike}
@@ -27,7 +28,7 @@ module _ (a : DatabaseValue) (tables : List Stored) (r s : Reply) (c d : Databas
   pub one_line : (why other : Refusal) → Refuses a why r c → Refuses b other s d → why ≡ other → r ≡ s
   one_line why other h k same =
       let refused = h.refused ∙ sym k.refused in
-      let bytes = h.line ∙ ap (refusal_line a.schema) same ∙ sym k.line in
+      let bytes = same_line a.schema why r.bytes s.bytes h.line (subst (λ (w : Refusal). IsRefusalLine a.schema w s.bytes) (sym same) k.line) in
       λ i. record { refused = refused i; bytes = bytes i }
 
   pub still : AreAlike a b → c ≡ a → d ≡ b → AreAlike c d

@@ -18,7 +18,8 @@ use Rattle.su_chase.specs.Chase.{SameLabels, IsClosedPartition, InOneClass, IsCl
 use Rattle.su_base.proofs.Items.{Contains-map as contains_map, Contains-range, Contains-range_below, map-map_equal, Contains-map_source as of_map}
 use Rattle.su_schema.specs.SchemaValue.{SchemaValue, ObjectEntry}
 use Rattle.su_schema.specs.Entries.{attributes_of}
-use Rattle.su_state.specs.DatabaseValue.{DatabaseValue, rows_of, rows_in}
+use Rattle.su_index.specs.Tables.{rows_at}
+use Rattle.su_state.specs.DatabaseValue.{DatabaseValue, rows_of}
 use Rattle.su_window.specs.declared.faults.WindowFault.{WindowFault}
 use Rattle.su_window.specs.declared.faults.WindowFault.TheVariants.{Limit, Inconsistent, NoMemory}
 use Rattle.su_window.specs.declared.readings.Reading.{Reading}
@@ -38,7 +39,7 @@ use Rattle.su_once.proofs.Rows.{one_strict_list}
 
 -- ---- views, over two databases of one schema, of which the one has the other's rows
 
-module _ (schema : SchemaValue) (left right : List Stored) (rows : (r : ℕ) (row : List Value) → Contains (rows_in left r) row → Contains (rows_in right r) row) where
+module _ (schema : SchemaValue) (left right : List Stored) (rows : (r : ℕ) (row : List Value) → Contains (rows_at left r) row → Contains (rows_at right r) row) where
   abbrev a : DatabaseValue
   a = record { schema = schema; tables = left }
 
@@ -88,7 +89,7 @@ same_sides true false same x y h move keeps p q k = absurd (cc)
 same_sides false true same x y h move keeps p q k = absurd (cc)
 same_sides false false same x y h move keeps p q k = k
 
-module _ (schema : SchemaValue) (left right : List Stored) (rows : (r : ℕ) (row : List Value) → Contains (rows_in left r) row → Contains (rows_in right r) row) (mine others : List Reading) where
+module _ (schema : SchemaValue) (left right : List Stored) (rows : (r : ℕ) (row : List Value) → Contains (rows_at left r) row → Contains (rows_at right r) row) (mine others : List Reading) where
   abbrev from : DatabaseValue
   from = record { schema = schema; tables = left }
 
@@ -194,7 +195,7 @@ module _ (schema : SchemaValue) (left right : List Stored) (rows : (r : ℕ) (ro
     together fds v w h label closed = h (λ s. label (move s)) (closed_moves fds label closed)
 
 -- rows of two databases that are alike clash in the same way
-module _ (schema : SchemaValue) (left right : List Stored) (rows : (r : ℕ) (row : List Value) → Contains (rows_in left r) row ↔ Contains (rows_in right r) row) where
+module _ (schema : SchemaValue) (left right : List Stored) (rows : (r : ℕ) (row : List Value) → Contains (rows_at left r) row ↔ Contains (rows_at right r) row) where
   clash_moves : (mine others : List Reading) → AreReadings (record { schema = schema; tables = left }) mine → AreReadings (record { schema = schema; tables = right }) others → (less greater : Value)
       → IsClash schema.fds (padded_rows (record { schema = schema; tables = left }) mine) less greater → IsClash schema.fds (padded_rows (record { schema = schema; tables = right }) others) less greater
   clash_moves mine others are these less greater h =
@@ -209,14 +210,14 @@ module _ (schema : SchemaValue) (left right : List Stored) (rows : (r : ℕ) (ro
 
 -- ---- one window, or one cause
 
-module _ (a : DatabaseValue) (tables : List Stored) (rows : (r : ℕ) (row : List Value) → Contains (rows_of a r) row ↔ Contains (rows_in tables r) row) where
+module _ (a : DatabaseValue) (tables : List Stored) (rows : (r : ℕ) (row : List Value) → Contains (rows_of a r) row ↔ Contains (rows_at tables r) row) where
   abbrev beside : DatabaseValue
   beside = record { schema = a.schema; tables = tables }
 
-  forth : (r : ℕ) (row : List Value) → Contains (rows_in a.tables r) row → Contains (rows_in tables r) row
+  forth : (r : ℕ) (row : List Value) → Contains (rows_at a.tables r) row → Contains (rows_at tables r) row
   forth r row = (rows r row).0
 
-  back : (r : ℕ) (row : List Value) → Contains (rows_in tables r) row → Contains (rows_in a.tables r) row
+  back : (r : ℕ) (row : List Value) → Contains (rows_at tables r) row → Contains (rows_at a.tables r) row
   back r row = (rows r row).1
 
   same_rows : (attributes : List ℕ) (xs ys : List (List Value)) → IsWindow a attributes xs → IsWindow beside attributes ys → xs ≡ ys

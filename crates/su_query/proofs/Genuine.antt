@@ -67,7 +67,7 @@ IsGenuine c = AreSymbols (cond_symbols c)
 
 joined_are : (w : Symbol) → IsSymbol w → (cs : List NamedCond) → AllByRecursion IsGenuine cs → AreSymbols (joined w (map shown_cond cs))
 joined_are w v [] a = tt
-joined_are w v (c ∷ []) a = part_are (shown_cond c) a.0
+joined_are w v (c ∷ []) a = append_are (part (shown_cond c)) [] (part_are (shown_cond c) a.0) tt
 joined_are w v (c ∷ d ∷ ds) a = append_are (part (shown_cond c)) (w ∷ joined w (map shown_cond (d ∷ ds))) (part_are (shown_cond c) a.0) (v, joined_are w v (d ∷ ds) a.1)
 
 by_shown : (c : NamedCond) (x : ShownCond) → shown_cond c ≡ x → AreSymbols x.symbols → IsGenuine c

@@ -2,6 +2,7 @@ pub mod AttributeSets
 pub mod CondShown
 pub mod Counted
 pub mod Exits
+pub mod FirstMentions
 pub mod Found
 pub mod Genuine
 pub mod Hits
@@ -18,7 +19,6 @@ pub mod Queries
 pub mod ReadBack
 pub mod Ready
 pub mod Round
-pub mod Seen
 pub mod Spelled
 pub mod Steps
 pub mod Taken

@@ -1,12 +1,14 @@
 -- Lists with commas: one item more, and the ways in which there is none.
-use Rattle.std.proofs.Common.{◌≡◌, ℕ, List, [], ◌∷◌, ◌++◌, refl, ap, sym, ◌∙◌, subst, append-nil}
+use Rattle.std.proofs.Common.{◌≡◌, ℕ, List, [], ◌∷◌, ◌++◌, refl, ap, sym, ◌∙◌, subst, append-nil, arith}
 use Rattle.su_lex.specs.declared.signs.Sign.TheVariants as sign
 use Rattle.su_lex.specs.declared.meaning.Symbol.{Symbol}
 use Rattle.su_lex.specs.declared.meaning.Symbol.TheVariants.{Sign, Word}
 use Rattle.su_query.specs.inside.ReadItems as g
 use Rattle.std.specs.List.{AllByRecursion}
-use Rattle.su_base.specs.Name.{IsName}
-use Rattle.su_lex.specs.Names.{AreNames, Begins, more_names, names_symbols}
+use Rattle.std.proofs.lemmas.List.Elements.{All-from_recursion, recursion_from_All}
+use Rattle.su_base.specs.Name.{IsName, AreNames}
+use Rattle.su_lex.specs.Names.{Begins, ListsNoNames, names_symbols}
+use Rattle.su_lex.proofs.Listed.{more_names}
 use Rattle.su_query.specs.inside.ReadItems.{ReadsName, More, Several}
 use Rattle.su_query.proofs.Items.{SameItem}
 
@@ -69,8 +71,14 @@ more_of [] s r e are none = g.none [] s r refl e (subst (λ (x : List Symbol). �
 more_of (n ∷ names) s r e are none = g.more (n ∷ names) n names s (Word n ∷ (more_names names ++ r)) (more_names names ++ r) r refl e (refl, are.0) (more_of names (more_names names ++ r) r refl are.1 none)
 
 pub several_names : (names : List (List ℕ)) (s r : List Symbol) → (s ≡ names_symbols names ++ r) × AreNames names → ¬ (Begins (Sign sign.Comma) r) → Several ReadsName names s r
-several_names [] s r found none = absurd found.1
-several_names (n ∷ names) s r found none = (n, names, more_names names ++ r, refl, (found.0, found.1.0), more_of names (more_names names ++ r) r refl found.1.1 none)
+several_names [] s r found none = absurd (omega (arith, found.1.some))
+several_names (n ∷ names) s r found none =
+    let each = recursion_from_All IsName (n ∷ names) found.1.named in
+    (n, names, more_names names ++ r, refl, (found.0, each.0), more_of names (more_names names ++ r) r refl each.1 none)
+
+-- a name and more of them
+are_names : (n : List ℕ) (ns : List (List ℕ)) → IsName n → AllByRecursion IsName ns → AreNames (n ∷ ns)
+are_names n ns is are = record { some = omega arith; named = All-from_recursion IsName (n ∷ ns) (is, are) }
 
 record AreMore (names : List (List ℕ)) (s r : List Symbol) : Type 0 where
   whole : s ≡ more_names names ++ r
@@ -92,11 +100,10 @@ are_more names s r (g.more _ n ns _ t u _ e w h hs) =
 pub names_front : (names : List (List ℕ)) (s r : List Symbol) → Several ReadsName names s r → (s ≡ names_symbols names ++ r) × AreNames names
 names_front names s r (n, ns, t, e, h, hs) =
     let m = are_more ns t r hs in
-    (h.0 ∙ ap (λ x. Word n ∷ x) m.whole ∙ ap (λ x. names_symbols x ++ r) (sym e), subst AreNames (sym e) (h.1, m.are))
+    (h.0 ∙ ap (λ x. Word n ∷ x) m.whole ∙ ap (λ x. names_symbols x ++ r) (sym e), subst AreNames (sym e) (are_names n ns h.1 m.are))
 
 -- names that don't begin the symbols aren't read from them
-pub no_names : (s : List Symbol) → ((names : List (List ℕ)) (r : List Symbol) → AreNames names → ¬ (Begins (Sign sign.Comma) r) → ¬ (s ≡ names_symbols names ++ r)) → (names : List (List ℕ)) (r : List Symbol)
-    → ¬ (Several ReadsName names s r)
+pub no_names : (s : List Symbol) → ListsNoNames s → (names : List (List ℕ)) (r : List Symbol) → ¬ (Several ReadsName names s r)
 no_names s bad names r h =
     let m = are_more h.1 h.2 r h.5 in
-    bad (h.0 ∷ h.1) r (h.4.1, m.are) m.none (h.4.0 ∙ ap (λ x. Word h.0 ∷ x) m.whole)
+    bad (h.0 ∷ h.1) r (are_names h.0 h.1 h.4.1 m.are) m.none (h.4.0 ∙ ap (λ x. Word h.0 ∷ x) m.whole)

@@ -1,12 +1,10 @@
 -- The number of a place stays when more places are noted.
-use Rattle.std.proofs.Common.{◌≡◌, ◌<◌, ◌+◌, ℕ, Bool, true, false, not, cond, suc, Option, Some, None, List, [], ◌∷◌, ◌++◌, length, refl, sym, ap, arith, length-append}
+use Rattle.std.proofs.Common.{◌≡◌, ◌<◌, ◌+◌, ℕ, Bool, true, false, not, cond, suc, Some, None, List, [], ◌∷◌, ◌++◌, length, refl, sym, ap, arith, length-append}
 use Rattle.std.specs.List.{position, position_or_len, list_any}
 use Rattle.std.proofs.lemmas.Bool.Decides.{nat_tests}
-use Rattle.su_schema.specs.SchemaValue.{SchemaValue}
 use Rattle.su_schema.proofs.Numbers.{any_within}
-use Rattle.su_query.specs.declared.refs.Ref.{Ref}
 use Rattle.su_query.specs.declared.places.Place.{Place}
-use Rattle.su_query.specs.Places.{place_in, same_place, places_of}
+use Rattle.su_query.specs.Places.{same_place}
 
 -- ---- the first that passes
 
@@ -56,11 +54,3 @@ module _ (place : Place) (seen : List Place) where
 
   pub number_new : position (same_place place) seen ≡ None → position (same_place place) (seen ++ place ∷ []) ≡ Some (length seen)
   number_new e = position-last (same_place place) seen place e (same_place-refl place)
-
-pub number_stays : (schema : SchemaValue) (vs : List (Option (List ℕ))) (p : Place → Bool) (seen : List Place) (rs : List Ref) (n : ℕ) → position p seen ≡ Some n → position p (places_of schema vs seen rs) ≡ Some n
-number_stays schema vs p seen [] n e = e
-number_stays schema vs p seen (r ∷ rs) n e =
-    elim (list_any (same_place (place_in schema vs r)) seen) as (λ b. position p (cond b (places_of schema vs seen rs) (places_of schema vs (seen ++ place_in schema vs r ∷ []) rs)) ≡ Some n) [
-      | true ↦ number_stays schema vs p seen rs n e
-      | false ↦ number_stays schema vs p (seen ++ place_in schema vs r ∷ []) rs n (position-more p seen (place_in schema vs r ∷ []) n e)
-    ]

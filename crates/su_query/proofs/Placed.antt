@@ -1,6 +1,7 @@
--- Places that are mentioned: one ref after the other, and how many.
-use Rattle.std.proofs.Common.{◌≡◌, ◌<◌, ◌≤◌, ◌+◌, ◌*◌, ℕ, true, false, cond, suc, Option, List, [], ◌∷◌, ◌++◌, length, get_or, map, drop, Bor, refl, sym, ap, ◌∙◌, arith, add-one, drop-cons, length-append}
-use Rattle.std.specs.List.{list_any, flat_map}
+-- How many variables and places a query mentions, and which these are.
+use Rattle.std.proofs.Common.{◌≡◌, ◌≤◌, ◌*◌, ℕ, Option, List, [], ◌∷◌, length, map, ap, ◌∙◌, arith, length-append}
+use Rattle.std.specs.List.{flat_map}
+use Rattle.std.proofs.lemmas.List.{length-map}
 use Rattle.su_schema.specs.SchemaValue.{SchemaValue}
 use Rattle.su_query.specs.declared.refs.Ref.{Ref}
 use Rattle.su_query.specs.declared.refs.NamedOperand.{NamedOperand}
@@ -13,32 +14,8 @@ use Rattle.su_where.specs.Truth.{comparisons_of}
 use Rattle.su_query.specs.Refs.{refs_in, refs_beside, refs_of}
 use Rattle.su_query.specs.Mentions.{all_refs, variables_of}
 use Rattle.su_query.specs.Limits.{AreFew}
-use Rattle.su_query.proofs.Seen.{mentions-append}
 use Rattle.su_query.specs.Places.{place_in, same_place, places_of, places_in, number_in}
-
-pub places-append : (schema : SchemaValue) (vs : List (Option (List ℕ))) (seen : List Place) (xs ys : List Ref) → places_of schema vs seen (xs ++ ys) ≡ places_of schema vs (places_of schema vs seen xs) ys
-places-append schema vs seen [] ys = refl
-places-append schema vs seen (x ∷ xs) ys =
-    elim (list_any (same_place (place_in schema vs x)) seen)
-    as (λ b. cond b (places_of schema vs seen (xs ++ ys)) (places_of schema vs (seen ++ place_in schema vs x ∷ []) (xs ++ ys)) ≡ places_of schema vs (cond b (places_of schema vs seen xs) (places_of schema vs (seen ++ place_in schema vs x ∷ []) xs)) ys) [
-      | true ↦ places-append schema vs seen xs ys
-      | false ↦ places-append schema vs (seen ++ place_in schema vs x ∷ []) xs ys
-    ]
-
-pub places-few : (schema : SchemaValue) (vs : List (Option (List ℕ))) (seen : List Place) (xs : List Ref) → length (places_of schema vs seen xs) ≤ length seen + length xs
-places-few schema vs seen [] = omega arith
-places-few schema vs seen (x ∷ xs) =
-    elim (list_any (same_place (place_in schema vs x)) seen)
-    as (λ b. length (cond b (places_of schema vs seen xs) (places_of schema vs (seen ++ place_in schema vs x ∷ []) xs)) ≤ length seen + length (x ∷ xs)) [
-      | true ↦ omega (arith, places-few schema vs seen xs)
-      | false ↦ omega (arith, places-few schema vs (seen ++ place_in schema vs x ∷ []) xs, length-append seen (place_in schema vs x ∷ []))
-    ]
-
-pub refs_step : (schema : SchemaValue) (vs : List (Option (List ℕ))) (seen : List Place) (refs : List (Bor Ref)) (i : ℕ) (r : Bor Ref) → i < length refs → r ≡ get_or refs i r
-    → places_of schema vs seen (map (λ (b : Bor Ref). b.now) (drop i refs)) ≡ places_of schema vs (places_of schema vs seen (r.now ∷ [])) (map (λ (b : Bor Ref). b.now) (drop (i + 1) refs))
-refs_step schema vs seen refs i r h e =
-    ap (λ (bs : List (Bor Ref)). places_of schema vs seen (map (λ (b : Bor Ref). b.now) bs)) (drop-cons refs i r h ∙ ap (λ x. x ∷ drop (suc i) refs) (sym e) ∙ ap (λ n. r ∷ drop n refs) (sym (add-one i)))
-    ∙ places-append schema vs seen (r.now ∷ []) (map (λ (b : Bor Ref). b.now) (drop (i + 1) refs))
+use Rattle.su_query.proofs.FirstMentions.{mentions-append, first_mentions-few}
 
 refs_in-few : (a : NamedOperand) → length (refs_in a) ≤ 1
 refs_in-few (operand.Ref ref) = omega arith
@@ -55,7 +32,7 @@ few_variables q few = omega (arith, few.few_variables, ap length (mentions-appen
 
 pub few_places : (schema : SchemaValue) (vs : List (Option (List ℕ))) (q : Query) → AreFew q.outputs q.cond → length (places_of schema vs [] (all_refs q)) ≤ 640
 few_places schema vs q few =
-    omega (arith, places-few schema vs [] (all_refs q), length-append q.outputs (refs_of q.cond), refs-few (comparisons_of q.cond), few.few_outputs, few.few_comparisons)
+    omega (arith, first_mentions-few same_place [] (map (place_in schema vs) (all_refs q)), length-map (all_refs q) (place_in schema vs), length-append q.outputs (refs_of q.cond), refs-few (comparisons_of q.cond), few.few_outputs, few.few_comparisons)
 
 pub few_refs : (q : Query) → AreFew q.outputs q.cond → length (all_refs q) ≤ 640
 few_refs q few = omega (arith, length-append q.outputs (refs_of q.cond), refs-few (comparisons_of q.cond), few.few_outputs, few.few_comparisons)

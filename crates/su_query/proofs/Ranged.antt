@@ -1,12 +1,12 @@
 -- The numbers that names resolve to are in range.
-use Rattle.std.proofs.Common.{◌≡◌, ◌<◌, ◌≤◌, ℕ, Bool, true, false, cond, Option, Some, None, List, [], ◌∷◌, ◌++◌, length, get_or, refl, sym, ap, subst, ◌∙◌, arith, All as Each}
+use Rattle.std.proofs.Common.{◌≡◌, ◌<◌, ◌≤◌, ℕ, Bool, true, false, Option, Some, None, List, [], length, get_or, refl, sym, ap, subst, ◌∙◌, arith, All as Each}
 use Rattle.std.specs.Prelude.{option_map, unwrap_or, slice_index_or, position}
 use Rattle.std.specs.List.{list_any}
 use Rattle.std.specs.Option.{option_or}
 use Rattle.std.specs.Str.{bytes_eq}
 use Rattle.std.proofs.lemmas.Bool.Decides.{nat_tests}
 use Rattle.std.proofs.lemmas.List.{length-map, get_or-map}
-use Rattle.std.proofs.lemmas.List.Elements.{All-nil, All-cons, All-head, All-tail, All-map, All-push}
+use Rattle.std.proofs.lemmas.List.Elements.{All-nil, All-map}
 use Rattle.std.proofs.lemmas.Slice.Eq.{bytes_eq-Decides}
 use Rattle.su_base.specs.declared.values.Kind.TheVariants.{Int as IntKind}
 use Rattle.su_schema.specs.SchemaValue.{SchemaValue}
@@ -20,10 +20,10 @@ use Rattle.su_query.specs.declared.scopes.Scope.TheVariants.{Attributes, Columns
 use Rattle.su_query.specs.declared.statements.Query.{Query}
 use Rattle.su_where.specs.Truth.{comparisons_of}
 use Rattle.su_query.specs.Refs.{NamedCond, refs_of}
-use Rattle.su_query.specs.Mentions.{same_variable, mentions, variables_of, all_refs}
+use Rattle.su_query.specs.Mentions.{same_variable, variables_of, all_refs}
 use Rattle.su_query.specs.Limits.{AreFew}
 use Rattle.su_query.specs.Scopes.{names_in, kinds_in, is_unknown, first_unknown}
-use Rattle.su_query.specs.Places.{place_in, same_place, places_of, number_in, places_in}
+use Rattle.su_query.specs.Places.{place_in, same_place, number_in, places_in}
 use Rattle.su_query.specs.NumberedConditions.{resolved_of, with_columns}
 use Rattle.su_query.specs.declared.conditions.Comparison.{Comparison}
 use Rattle.su_query.specs.declared.faults.QueryFault.{QueryFault}
@@ -33,68 +33,14 @@ use Rattle.su_query.specs.Lookup.{unknown_in, first_fault, IsKnownQuery, IsColum
 use Rattle.su_query.specs.Ranges.{IsPlaceAmong, place_kinds, IsResolved, IsOnColumns}
 use Rattle.su_base.proofs.Items.{All-append_left, All-append_right}
 use Rattle.su_query.proofs.Noted.{same_place-refl}
-use Rattle.su_query.proofs.Hits.{Hit, hit_any, hit_some, any-push, any-last, none_found}
+use Rattle.su_query.proofs.FirstMentions.{first_mentions-has, first_mentions-all}
+use Rattle.su_query.proofs.Hits.{Hit, hit_any, hit_some, none_found}
 use Rattle.su_query.proofs.Placed.{few_variables, few_places}
 use Rattle.su_query.proofs.Literals.{IsNumbered, typed}
-
--- ---- each variable and each place that was mentioned is among them
 
 same_variable-refl : (v : Option (List ℕ)) → same_variable v v ≡ true
 same_variable-refl None = refl
 same_variable-refl (Some v) = (bytes_eq-Decides v v).1 refl
-
-mentions-keep : (p : Option (List ℕ) → Bool) (seen : List (Option (List ℕ))) (xs : List ARef) → list_any p seen ≡ true → list_any p (mentions seen xs) ≡ true
-mentions-keep p seen [] h = h
-mentions-keep p seen (x ∷ xs) h =
-    elim (list_any (same_variable x.variable) seen) as (λ b. list_any p (cond b (mentions seen xs) (mentions (seen ++ x.variable ∷ []) xs)) ≡ true) [
-      | true ↦ mentions-keep p seen xs h
-      | false ↦ mentions-keep p (seen ++ x.variable ∷ []) xs (any-push p seen x.variable h)
-    ]
-
-mentions-has : (seen : List (Option (List ℕ))) (xs : List ARef) → Each (λ x. list_any (same_variable x.variable) (mentions seen xs) ≡ true) xs
-mentions-has seen [] = All-nil (λ x. list_any (same_variable x.variable) seen ≡ true)
-mentions-has seen (x ∷ xs) =
-    elim (list_any (same_variable x.variable) seen)
-    as (λ b. list_any (same_variable x.variable) seen ≡ b → Each (λ y. list_any (same_variable y.variable) (cond b (mentions seen xs) (mentions (seen ++ x.variable ∷ []) xs)) ≡ true) (x ∷ xs)) [
-      | true ↦ λ e. All-cons (λ y. list_any (same_variable y.variable) (mentions seen xs) ≡ true) x xs (mentions-keep (same_variable x.variable) seen xs e) (mentions-has seen xs)
-      | false ↦ λ e.
-          All-cons (λ y. list_any (same_variable y.variable) (mentions (seen ++ x.variable ∷ []) xs) ≡ true) x xs
-          (mentions-keep (same_variable x.variable) (seen ++ x.variable ∷ []) xs (any-last (same_variable x.variable) seen x.variable (same_variable-refl x.variable)))
-          (mentions-has (seen ++ x.variable ∷ []) xs)
-    ] refl
-
-module _ (schema : SchemaValue) (vs : List (Option (List ℕ))) where
-  places-keep : (p : Place → Bool) (seen : List Place) (xs : List ARef) → list_any p seen ≡ true → list_any p (places_of schema vs seen xs) ≡ true
-  places-keep p seen [] h = h
-  places-keep p seen (x ∷ xs) h =
-      elim (list_any (same_place (place_in schema vs x)) seen) as (λ b. list_any p (cond b (places_of schema vs seen xs) (places_of schema vs (seen ++ place_in schema vs x ∷ []) xs)) ≡ true) [
-        | true ↦ places-keep p seen xs h
-        | false ↦ places-keep p (seen ++ place_in schema vs x ∷ []) xs (any-push p seen (place_in schema vs x) h)
-      ]
-
-  places-has : (seen : List Place) (xs : List ARef) → Each (λ x. list_any (same_place (place_in schema vs x)) (places_of schema vs seen xs) ≡ true) xs
-  places-has seen [] = All-nil (λ x. list_any (same_place (place_in schema vs x)) seen ≡ true)
-  places-has seen (x ∷ xs) =
-      elim (list_any (same_place (place_in schema vs x)) seen)
-      as (λ b. list_any (same_place (place_in schema vs x)) seen ≡ b → Each (λ y. list_any (same_place (place_in schema vs y)) (cond b (places_of schema vs seen xs) (places_of schema vs (seen ++ place_in schema vs x ∷ []) xs)) ≡ true) (x ∷ xs)) [
-        | true ↦ λ e.
-            All-cons (λ y. list_any (same_place (place_in schema vs y)) (places_of schema vs seen xs) ≡ true) x xs (places-keep (same_place (place_in schema vs x)) seen xs e) (places-has seen xs)
-        | false ↦ λ e.
-            All-cons (λ y. list_any (same_place (place_in schema vs y)) (places_of schema vs (seen ++ place_in schema vs x ∷ []) xs) ≡ true) x xs
-            (places-keep (same_place (place_in schema vs x)) (seen ++ place_in schema vs x ∷ []) xs (any-last (same_place (place_in schema vs x)) seen (place_in schema vs x) (same_place-refl (place_in schema vs x))))
-            (places-has (seen ++ place_in schema vs x ∷ []) xs)
-      ] refl
-
-  places-among : (seen : List Place) (xs : List ARef) → Each (IsPlaceAmong schema vs) seen → Each (λ x. IsPlaceAmong schema vs (place_in schema vs x)) xs → Each (IsPlaceAmong schema vs) (places_of schema vs seen xs)
-  places-among seen [] h k = h
-  places-among seen (x ∷ xs) h k =
-      let rest = All-tail (λ y. IsPlaceAmong schema vs (place_in schema vs y)) x xs k in
-      elim (list_any (same_place (place_in schema vs x)) seen) as (λ b. Each (IsPlaceAmong schema vs) (cond b (places_of schema vs seen xs) (places_of schema vs (seen ++ place_in schema vs x ∷ []) xs))) [
-        | true ↦ places-among seen xs h rest
-        | false ↦
-            places-among (seen ++ place_in schema vs x ∷ []) xs
-            (All-push (IsPlaceAmong schema vs) seen (place_in schema vs x) h (All-head (λ y. IsPlaceAmong schema vs (place_in schema vs y)) x xs k)) rest
-      ]
 
 -- ---- names that are known
 
@@ -152,13 +98,13 @@ module _ (schema : SchemaValue) (q : Query) (known : first_unknown (attribute_na
       let vs = variables_of q in
       let refs = all_refs q in
       let all = all_known (attribute_names schema) refs known in
-      places-among schema vs [] refs (All-nil (IsPlaceAmong schema vs)) (λ k d l. place_among schema vs (get_or refs k d) (mentions-has [] refs k d l) (all k d l))
+      first_mentions-all same_place (place_in schema vs) (IsPlaceAmong schema vs) [] refs (All-nil (IsPlaceAmong schema vs)) (λ k d l. place_among schema vs (get_or refs k d) (first_mentions-has same_variable (λ (r : ARef). r.variable) same_variable-refl [] refs k d l) (all k d l))
 
   query_numbers : Each (IsNumbered schema Attributes (place_kinds schema (places_in schema q)) (number_in schema Attributes (variables_of q) (places_in schema q))) (all_refs q)
   query_numbers k d l =
       let vs = variables_of q in
       let refs = all_refs q in
-      ref_numbered schema vs (places_in schema q) (get_or refs k d) (places-has schema vs [] refs k d l) (all_known (attribute_names schema) refs known k d l)
+      ref_numbered schema vs (places_in schema q) (get_or refs k d) (first_mentions-has same_place (place_in schema vs) same_place-refl [] refs k d l) (all_known (attribute_names schema) refs known k d l)
 
   pub cond_numbers : Each (IsNumbered schema Attributes (place_kinds schema (places_in schema q)) (number_in schema Attributes (variables_of q) (places_in schema q))) (refs_of q.cond)
   cond_numbers = All-append_right (IsNumbered schema Attributes (place_kinds schema (places_in schema q)) (number_in schema Attributes (variables_of q) (places_in schema q))) q.outputs (refs_of q.cond) query_numbers

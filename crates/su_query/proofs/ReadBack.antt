@@ -14,7 +14,7 @@ use Rattle.su_query.specs.declared.statements.Statement.TheVariants.{Insert, Del
 use Rattle.su_query.specs.Refs.{NamedCond}
 use Rattle.su_query.specs.Forms.{IsWhere, IsQuery, IsForm}
 use Rattle.su_query.specs.StatementTexts.{ReadsAgain}
-use Rattle.su_query.specs.ShownParts.{ref_symbols, listed}
+use Rattle.su_query.specs.ShownParts.{refs_symbols}
 use Rattle.su_query.specs.ShownConditions.{cond_symbols}
 use Rattle.su_query.specs.Shown.{is_nothing, where_symbols, query_symbols, statement_symbols}
 use Rattle.su_query.proofs.CondShown.{nothing-All}
@@ -60,7 +60,7 @@ where_kept c s (inr (t, h, e)) v = let a = subst AreSymbols e v in subst AreSymb
 query_kept : (q : AQuery) (s : List Symbol) → IsQuery q s → AreSymbols s → AreSymbols (query_symbols q)
 query_kept q s h v =
     let a = subst AreSymbols h.whole v in
-    let refs = in_parens (listed ref_symbols q.outputs) in
+    let refs = in_parens (refs_symbols q.outputs) in
     (a.0, append_are refs (where_symbols q.cond) (front_of refs h.condition a.1) (where_kept q.cond h.condition h.wanted (behind_of refs h.condition a.1)))
 
 form_kept : (st : Statement) (s : List Symbol) → IsForm st s → AreSymbols s → AreSymbols (statement_symbols st)

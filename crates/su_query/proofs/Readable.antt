@@ -1,12 +1,13 @@
 -- What is spelled as the grammar has it is read, whatever follows that doesn't carry it on.
-use Rattle.std.proofs.Common.{◌≡◌, ◌<◌, inl, inr, ℕ, List, [], ◌∷◌, ◌++◌, length, refl, ap, sym, ◌∙◌, subst, codes, append_assoc, append-nil, arith}
+use Rattle.std.proofs.Common.{◌≡◌, ◌<◌, inl, inr, ℕ, List, [], ◌∷◌, ◌++◌, map, length, refl, ap, sym, ◌∙◌, subst, codes, append_assoc, append-nil, arith}
 use Rattle.std.specs.List.{AllByRecursion, flat_map}
 use Rattle.su_base.specs.declared.values.Value.{Value}
-use Rattle.su_base.specs.Name.{IsName}
+use Rattle.su_base.specs.Name.{IsName, AreNames}
+use Rattle.std.specs.List.{join_by}
 use Rattle.su_lex.specs.declared.signs.Sign.TheVariants as sign
 use Rattle.su_lex.specs.declared.meaning.Symbol.{Symbol}
 use Rattle.su_lex.specs.declared.meaning.Symbol.TheVariants.{Word, Sign}
-use Rattle.su_lex.specs.Names.{AreNames, Begins, names_symbols}
+use Rattle.su_lex.specs.Names.{Begins, names_symbols}
 use Rattle.su_lex.specs.Wordings.{in_parens}
 use Rattle.su_where.specs.declared.operators.Op.{Op}
 use Rattle.su_where.specs.declared.operators.Op.TheVariants as op
@@ -18,7 +19,7 @@ use Rattle.su_query.specs.declared.statements.Statement.TheVariants.{Insert, Del
 use Rattle.su_where.specs.declared.conditions.Condition.TheVariants.{Compare as Compared}
 use Rattle.su_query.specs.Refs.{NamedCond}
 use Rattle.su_query.specs.Operands.{op_sym, IsRef, IsOperand}
-use Rattle.su_query.specs.ShownParts.{value_symbols, ref_symbols, operand_symbols, comparison_symbols, listed}
+use Rattle.su_query.specs.ShownParts.{value_symbols, ref_symbols, operand_symbols, comparison_symbols, values_symbols, refs_symbols}
 use Rattle.su_query.specs.Grammar as g
 use Rattle.su_query.specs.Grammar.{any_of, all_of, IsCond, AreConjs, IsConj, AreFactors, IsFactor, IsPrimary}
 use Rattle.su_query.specs.Forms.{IsWhere, IsQuery, IsForm}
@@ -73,7 +74,7 @@ close_stops r = record { no_comma = λ h. let e = h.1 in cc; no_dot = λ h. let 
 
 module _ {A : Type 0} (Item : A → List Symbol → List Symbol → Type 0) (Is : A → Type 0) (symbols : A → List Symbol) (readable : IsReadable Item Is symbols) where
   abbrev behind : List A → List Symbol
-  behind xs = flat_map (λ y. Sign sign.Comma ∷ symbols y) xs
+  behind xs = flat_map (λ y. (Sign sign.Comma ∷ []) ++ y) (map symbols xs)
 
   behind_no_dot : (xs : List A) (r : List Symbol) → Stops r → ¬ (Begins (Sign sign.Dot) (behind xs ++ r))
   behind_no_dot [] r stops = stops.no_dot
@@ -89,7 +90,7 @@ module _ {A : Type 0} (Item : A → List Symbol → List Symbol → Type 0) (Is 
   more_readable (x ∷ xs) are r stops =
       items.more (x ∷ xs) x xs (behind (x ∷ xs) ++ r) ((symbols x ++ behind xs) ++ r) (behind xs ++ r) r refl refl (first_readable x xs are.0 r stops) (more_readable xs are.1 r stops)
 
-  several_readable : (xs : List A) → 0 < length xs → AllByRecursion Is xs → (r : List Symbol) → Stops r → Several Item xs (listed symbols xs ++ r) r
+  several_readable : (xs : List A) → 0 < length xs → AllByRecursion Is xs → (r : List Symbol) → Stops r → Several Item xs (join_by (λ x. x) (Sign sign.Comma ∷ []) (map symbols xs) ++ r) r
   several_readable [] some are r stops = absurd (omega (arith, some))
   several_readable (x ∷ xs) some are r stops = (x, xs, behind xs ++ r, refl, first_readable x xs are.0 r stops, more_readable xs are.1 r stops)
 
@@ -184,7 +185,7 @@ where_readable c s (inr (t, h, e)) r follows = queries.condition c (s ++ r) (t +
 
 query_readable : (q : AQuery) (s : List Symbol) → IsQuery q s → (r : List Symbol) → Follows r → ReadsQuery q (s ++ r) r
 query_readable q s h r follows =
-    let outputs = listed ref_symbols q.outputs in
+    let outputs = refs_symbols q.outputs in
     let close = Sign sign.Close ∷ [] in
     let rest = h.condition ++ r in
     record {
@@ -218,9 +219,9 @@ values_are : (row : List Value) → AllByRecursion (λ (v : Value). Unit {0}) ro
 values_are [] = tt
 values_are (v ∷ row) = (tt, values_are row)
 
-row_readable : (relation : List ℕ) (row : List Value) → IsName relation → 0 < length row → RowForm relation row (Word relation ∷ in_parens (listed value_symbols row))
+row_readable : (relation : List ℕ) (row : List Value) → IsName relation → 0 < length row → RowForm relation row (Word relation ∷ in_parens (values_symbols row))
 row_readable relation row named some = record {
-  values = listed value_symbols row ++ Sign sign.Close ∷ [];
+  values = values_symbols row ++ Sign sign.Close ∷ [];
   begins = refl;
   named = named;
   reads = several_readable ReadsValue (λ v. Unit {0}) value_symbols value_readable row some (values_are row) (Sign sign.Close ∷ []) (close_stops []);

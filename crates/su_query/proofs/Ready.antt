@@ -1,15 +1,10 @@
 -- What a statement's form says of its condition and its outputs.
-use Rattle.std.proofs.Common.{◌<◌, ℕ, List, [], ◌∷◌, length, arith}
+use Rattle.std.proofs.Common.{List}
 use Rattle.su_lex.specs.declared.meaning.Symbol.{Symbol}
-use Rattle.su_lex.specs.Names.{AreNames}
 use Rattle.su_query.specs.declared.statements.Statement.{Statement}
 use Rattle.su_query.specs.declared.statements.Statement.TheVariants.{Insert, Delete, DeleteWhere, Load, Print, Schema, Closure, Retrieve, Explain, Certify, Support, Compare, Window}
 use Rattle.su_query.specs.Forms.{IsForm}
 use Rattle.su_query.specs.StatementTexts.{IsReady}
-
-some_names : (names : List (List ℕ)) → AreNames names → 0 < length names
-some_names [] are = absurd are
-some_names (n ∷ names) are = omega arith
 
 pub form_ready : (st : Statement) (s : List Symbol) → IsForm st s → IsReady st
 form_ready (Insert relation row) s form = tt
@@ -24,4 +19,4 @@ form_ready (Explain q) s (t, form, w) = form.some
 form_ready (Certify q) s (t, form, w) = form.some
 form_ready (Support q) s (t, form, w) = form.some
 form_ready (Compare first second) s (t, u, one, other, w) = (one.some, other.some)
-form_ready (Window names) s (are, w) = some_names names are
+form_ready (Window names) s (are, w) = are.some

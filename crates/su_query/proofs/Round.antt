@@ -1,5 +1,5 @@
 -- A condition is shown in symbols that are this condition.
-use Rattle.std.proofs.Common.{◌≡◌, true, false, List, [], ◌∷◌, map, refl, ap, sym, ◌∙◌, subst, codes, arith}
+use Rattle.std.proofs.Common.{◌≡◌, true, false, List, [], ◌∷◌, map, refl, ap, sym, ◌∙◌, subst, codes, append-nil, arith}
 use Rattle.std.specs.Prelude.{◌==◌, length}
 use Rattle.std.specs.List.{AllByRecursion}
 use Rattle.std.proofs.lemmas.Bool.Decides.{nat_tests}
@@ -35,11 +35,11 @@ one_cond : (c : NamedCond) (s : List Symbol) → IsConj c s → IsCond c s
 one_cond c s h = g.cond c (c ∷ []) s refl (g.one_conj (c ∷ []) c s refl h)
 
 ors : (p : NamedCond) (ps : List NamedCond) → Good p → AllByRecursion Good ps → AreConjs (p ∷ ps) (joined (Word (codes "or")) (map shown_cond (p ∷ ps)))
-ors p [] good more = g.one_conj (p ∷ []) p _ refl (one_conj p _ good.as_part)
+ors p [] good more = subst (AreConjs (p ∷ [])) (sym (append-nil (part (shown_cond p)))) (g.one_conj (p ∷ []) p _ refl (one_conj p _ good.as_part))
 ors p (q ∷ ps) good more = g.or (p ∷ q ∷ ps) p (q ∷ ps) _ (part (shown_cond p)) (joined (Word (codes "or")) (map shown_cond (q ∷ ps))) refl refl (one_conj p _ good.as_part) (ors q ps more.0 more.1)
 
 ands : (p : NamedCond) (ps : List NamedCond) → Good p → AllByRecursion Good ps → AreFactors (p ∷ ps) (joined (Word (codes "and")) (map shown_cond (p ∷ ps)))
-ands p [] good more = g.one_factor (p ∷ []) p _ refl good.as_part
+ands p [] good more = subst (AreFactors (p ∷ [])) (sym (append-nil (part (shown_cond p)))) (g.one_factor (p ∷ []) p _ refl good.as_part)
 ands p (q ∷ ps) good more = g.and (p ∷ q ∷ ps) p (q ∷ ps) _ (part (shown_cond p)) (joined (Word (codes "and")) (map shown_cond (q ∷ ps))) refl refl good.as_part (ands q ps more.0 more.1)
 
 from_shown : (c : NamedCond) (x : ShownCond) → shown_cond c ≡ x → is_nothing c ≡ false → IsCond c x.symbols → IsFactor c (part x) → IsPrimary c (inner x) → Good c

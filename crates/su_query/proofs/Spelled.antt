@@ -1,12 +1,13 @@
 -- What is read is spelled as the grammar has it, in front of what is left.
-use Rattle.std.proofs.Common.{◌≡◌, ◌<◌, inl, inr, true, ℕ, List, [], ◌∷◌, ◌++◌, length, refl, ap, sym, ◌∙◌, subst, codes, append_assoc, append-nil, arith}
+use Rattle.std.proofs.Common.{◌≡◌, ◌<◌, inl, inr, true, ℕ, List, [], ◌∷◌, ◌++◌, map, length, refl, ap, sym, ◌∙◌, subst, codes, append_assoc, append-nil, arith}
 use Rattle.std.specs.List.{AllByRecursion, flat_map}
 use Rattle.su_base.specs.declared.values.Value.{Value}
-use Rattle.su_base.specs.Name.{IsName}
+use Rattle.su_base.specs.Name.{IsName, AreNames}
+use Rattle.std.specs.List.{join_by}
 use Rattle.su_lex.specs.declared.signs.Sign.TheVariants as sign
 use Rattle.su_lex.specs.declared.meaning.Symbol.{Symbol}
 use Rattle.su_lex.specs.declared.meaning.Symbol.TheVariants.{Word, Sign}
-use Rattle.su_lex.specs.Names.{AreNames, names_symbols}
+use Rattle.su_lex.specs.Names.{names_symbols}
 use Rattle.su_lex.specs.Wordings.{in_parens}
 use Rattle.su_query.specs.declared.refs.NamedOperand.TheVariants.{Ref, Const}
 use Rattle.su_query.specs.declared.statements.Query.{Query as AQuery}
@@ -14,7 +15,7 @@ use Rattle.su_query.specs.declared.statements.Statement.{Statement}
 use Rattle.su_query.specs.Refs.{NamedCond}
 use Rattle.su_query.specs.Mentions.{are_columns}
 use Rattle.su_query.specs.Operands.{op_sym, IsRef, IsOperand}
-use Rattle.su_query.specs.ShownParts.{value_symbols, ref_symbols, operand_symbols, listed}
+use Rattle.su_query.specs.ShownParts.{value_symbols, ref_symbols, operand_symbols, values_symbols, refs_symbols}
 use Rattle.su_query.specs.Grammar as g
 use Rattle.su_query.specs.Grammar.{IsCond, AreConjs, IsConj, AreFactors, IsFactor, IsPrimary}
 use Rattle.su_query.specs.Forms.{IsWhere, IsQuery, IsForm}
@@ -56,7 +57,7 @@ operand_spelled (Const v) s r h = value_spelled v s r h
 
 module _ {A : Type 0} (Item : A → List Symbol → List Symbol → Type 0) (Is : A → Type 0) (symbols : A → List Symbol) (spelled : IsSpelled Item Is symbols) where
   abbrev behind : List A → List Symbol
-  behind xs = flat_map (λ y. Sign sign.Comma ∷ symbols y) xs
+  behind xs = flat_map (λ y. (Sign sign.Comma ∷ []) ++ y) (map symbols xs)
 
   more_spelled : (xs : List A) (s r : List Symbol) → More Item xs s r → AllByRecursion Is xs × (s ≡ behind xs ++ r)
   more_spelled xs s r (items.none _ _ _ e same none) = (subst (AllByRecursion Is) (sym e) tt, same ∙ ap (λ ys. behind ys ++ r) (sym e))
@@ -67,13 +68,13 @@ module _ {A : Type 0} (Item : A → List Symbol → List Symbol → Type 0) (Is 
         w ∙ ap (λ x. Sign sign.Comma ∷ x) (p.1 ∙ ap (λ x. symbols b ++ x) q.1 ∙ sym (append_assoc (symbols b) (behind bs) r)) ∙ ap (λ ys. behind ys ++ r) (sym e),
       )
 
-  several_spelled : (xs : List A) (s r : List Symbol) → Several Item xs s r → (0 < length xs) × AllByRecursion Is xs × (s ≡ listed symbols xs ++ r)
+  several_spelled : (xs : List A) (s r : List Symbol) → Several Item xs s r → (0 < length xs) × AllByRecursion Is xs × (s ≡ join_by (λ x. x) (Sign sign.Comma ∷ []) (map symbols xs) ++ r)
   several_spelled xs s r (b, bs, t, e, h, hs) =
       let p = spelled b s t h in
       let q = more_spelled bs t r hs in (
         subst (λ (ys : List A). 0 < length ys) (sym e) (omega arith),
         subst (AllByRecursion Is) (sym e) (p.0, q.0),
-        p.1 ∙ ap (λ x. symbols b ++ x) q.1 ∙ sym (append_assoc (symbols b) (behind bs) r) ∙ ap (λ ys. listed symbols ys ++ r) (sym e),
+        p.1 ∙ ap (λ x. symbols b ++ x) q.1 ∙ sym (append_assoc (symbols b) (behind bs) r) ∙ ap (λ ys. join_by (λ x. x) (Sign sign.Comma ∷ []) (map symbols ys) ++ r) (sym e),
       )
 
 -- ---- conditions
@@ -158,7 +159,7 @@ query_spelled : (q : AQuery) (s r : List Symbol) → ReadsQuery q s r → Front 
 query_spelled q s r h =
     let refs = several_spelled ReadsRef IsRef ref_symbols ref_spelled q.outputs h.refs (Sign sign.Close ∷ h.rest) h.reads in
     let w = where_spelled q.cond h.rest r h.wanted in
-    let outputs = listed ref_symbols q.outputs in
+    let outputs = refs_symbols q.outputs in
     let close = Sign sign.Close ∷ [] in
     record {
       front = Word (codes "retrieve") ∷ (in_parens outputs ++ w.front);
@@ -181,7 +182,7 @@ enclosed_spelled q s r h =
 -- ---- statements
 
 module _ (w : Symbol) (s t : List Symbol) (begins : s ≡ w ∷ t) where
-  row_spelled : (relation : List ℕ) (row : List Value) → RowForm relation row t → IsName relation × (0 < length row) × (s ≡ w ∷ Word relation ∷ in_parens (listed value_symbols row))
+  row_spelled : (relation : List ℕ) (row : List Value) → RowForm relation row t → IsName relation × (0 < length row) × (s ≡ w ∷ Word relation ∷ in_parens (values_symbols row))
   row_spelled relation row h =
       let p = several_spelled ReadsValue (λ v. Unit {0}) value_symbols value_spelled row h.values (Sign sign.Close ∷ []) h.reads in
       (h.named, p.0, begins ∙ ap (λ x. w ∷ x) (h.begins ∙ ap (λ x. Word relation ∷ Sign sign.Open ∷ x) p.2))

@@ -2,10 +2,10 @@
 -- query: "retrieve" "(" ref { "," ref } ")" [ "where" cond ]
 use Rattle.std.specs.Prelude.{◌≡◌, ◌⊎◌, true, ◌<◌, codes, List, [], ◌∷◌, ◌++◌, length}
 use Rattle.std.specs.List.{AllByRecursion}
-use Rattle.su_base.specs.Name.{IsName}
+use Rattle.su_base.specs.Name.{IsName, AreNames}
 use Rattle.su_lex.specs.declared.meaning.Symbol.{Symbol}
 use Rattle.su_lex.specs.declared.meaning.Symbol.TheVariants.{Word, Text}
-use Rattle.su_lex.specs.Names.{AreNames, names_symbols}
+use Rattle.su_lex.specs.Names.{names_symbols}
 use Rattle.su_lex.specs.Wordings.{in_parens}
 use Rattle.su_where.specs.declared.conditions.Condition.TheVariants.{All}
 use Rattle.su_query.specs.declared.statements.Query.{Query as AQuery}
@@ -14,7 +14,7 @@ use Rattle.su_query.specs.declared.statements.Statement.TheVariants.{Insert, Del
 use Rattle.su_query.specs.Refs.{NamedCond}
 use Rattle.su_query.specs.Mentions.{are_columns}
 use Rattle.su_query.specs.Operands.{IsRef}
-use Rattle.su_query.specs.ShownParts.{value_symbols, ref_symbols, listed}
+use Rattle.su_query.specs.ShownParts.{values_symbols, refs_symbols}
 use Rattle.su_query.specs.Grammar.{IsCond}
 
 -- [ "where" cond ]; without it the condition is all of nothing
@@ -27,12 +27,12 @@ pub record IsQuery (q : AQuery) (s : List Symbol) : Type 0 where
   pub refs : AllByRecursion IsRef q.outputs
   pub condition : List Symbol
   pub wanted : IsWhere q.cond condition
-  pub whole : s ≡ Word (codes "retrieve") ∷ (in_parens (listed ref_symbols q.outputs) ++ condition)
+  pub whole : s ≡ Word (codes "retrieve") ∷ (in_parens (refs_symbols q.outputs) ++ condition)
 
 -- the symbols are this statement
 abbrev pub IsForm : Statement → List Symbol → Type 0
-IsForm (Insert relation row) s = IsName relation × (0 < length row) × (s ≡ Word (codes "insert") ∷ Word relation ∷ in_parens (listed value_symbols row))
-IsForm (Delete relation row) s = IsName relation × (0 < length row) × (s ≡ Word (codes "delete") ∷ Word relation ∷ in_parens (listed value_symbols row))
+IsForm (Insert relation row) s = IsName relation × (0 < length row) × (s ≡ Word (codes "insert") ∷ Word relation ∷ in_parens (values_symbols row))
+IsForm (Delete relation row) s = IsName relation × (0 < length row) × (s ≡ Word (codes "delete") ∷ Word relation ∷ in_parens (values_symbols row))
 IsForm (DeleteWhere relation c) s = IsName relation × (are_columns c ≡ true) × (t : List Symbol) × IsCond c t × (s ≡ Word (codes "delete") ∷ Word relation ∷ Word (codes "where") ∷ t)
 IsForm (Load relation file) s = IsName relation × (s ≡ Word (codes "load") ∷ Word relation ∷ Word (codes "from") ∷ Text file ∷ [])
 IsForm (Print relation) s = IsName relation × (s ≡ Word (codes "print") ∷ Word relation ∷ [])

@@ -1,3 +1,4 @@
+pub mod FirstMentions
 pub mod Forms
 pub mod Grammar
 pub mod inside

@@ -1,10 +1,11 @@
 -- What a query mentions, from left to right.
--- mentions: each once, in the order of the first mention; the blank variable is none
-use Rattle.std.specs.Prelude.{ℕ, Bool, true, false, if◌then◌else◌, List, [], ◌∷◌, ◌++◌, Option, Some, None, is_none}
-use Rattle.std.specs.List.{list_any, list_all}
+-- mentions: each once, in the order of the first mention; the blank variable is none; seen: those mentioned before
+use Rattle.std.specs.Prelude.{ℕ, Bool, true, false, List, [], ◌++◌, map, Option, Some, None, is_none}
+use Rattle.std.specs.List.{list_all}
 use Rattle.std.specs.Str.{bytes_eq}
 use Rattle.su_query.specs.declared.refs.Ref.{Ref as ARef}
 use Rattle.su_query.specs.declared.statements.Query.{Query}
+use Rattle.su_query.specs.FirstMentions.{first_mentions}
 use Rattle.su_query.specs.Refs.{NamedCond, refs_of}
 
 -- the refs of a query, the outputs first
@@ -20,8 +21,7 @@ same_variable (Some v) (Some w) = bytes_eq v w
 
 -- those seen, and then the variables of these refs that were not seen before, each once
 abbrev pub mentions : List (Option (List ℕ)) → List ARef → List (Option (List ℕ))
-mentions seen [] = seen
-mentions seen (ref ∷ refs) = if list_any (same_variable ref.variable) seen then mentions seen refs else mentions (seen ++ ref.variable ∷ []) refs
+mentions seen refs = first_mentions same_variable seen (map (λ ref. ref.variable) refs)
 
 -- the variables of a query
 abbrev pub variables_of : Query → List (Option (List ℕ))

@@ -1,7 +1,6 @@
 -- The places of a query, and the number that stands for each ref.
 -- place: a variable, by its number, and an attribute
-use Rattle.std.specs.Prelude.{ℕ, ◌==◌, Bool, ◌&&◌, if◌then◌else◌, List, [], ◌∷◌, ◌++◌, Option, unwrap_or, position}
-use Rattle.std.specs.List.{list_any}
+use Rattle.std.specs.Prelude.{ℕ, ◌==◌, Bool, ◌&&◌, List, [], map, Option, unwrap_or, position}
 use Rattle.su_schema.specs.SchemaValue.{SchemaValue}
 use Rattle.su_schema.specs.Entries.{attribute_names}
 use Rattle.su_schema.specs.Known.{number_of}
@@ -10,6 +9,7 @@ use Rattle.su_query.specs.declared.scopes.Scope.{Scope}
 use Rattle.su_query.specs.declared.scopes.Scope.TheVariants.{Attributes, Columns}
 use Rattle.su_query.specs.declared.places.Place.{Place}
 use Rattle.su_query.specs.declared.statements.Query.{Query}
+use Rattle.su_query.specs.FirstMentions.{first_mentions}
 use Rattle.su_query.specs.Mentions.{same_variable, variables_of, all_refs}
 use Rattle.su_query.specs.Scopes.{names_in}
 
@@ -26,10 +26,7 @@ same_place p q = p.variable == q.variable && p.attribute == q.attribute
 
 -- those seen, and then the places of these refs that were not seen before, each once
 abbrev pub places_of : SchemaValue → List (Option (List ℕ)) → List Place → List ARef → List Place
-places_of schema variables seen [] = seen
-places_of schema variables seen (ref ∷ refs) =
-    if list_any (same_place (place_in schema variables ref)) seen then places_of schema variables seen refs
-    else places_of schema variables (seen ++ place_in schema variables ref ∷ []) refs
+places_of schema variables seen refs = first_mentions same_place seen (map (place_in schema variables) refs)
 
 -- the number that stands for a ref: that of its place, or that of its column
 abbrev pub number_in : SchemaValue → Scope → List (Option (List ℕ)) → List Place → ARef → ℕ

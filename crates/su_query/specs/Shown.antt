@@ -12,7 +12,7 @@ use Rattle.su_where.specs.declared.conditions.Condition.TheFolds.{fold-Condition
 use Rattle.su_query.specs.declared.statements.Query.{Query}
 use Rattle.su_query.specs.declared.statements.Statement.{Statement}
 use Rattle.su_query.specs.declared.statements.Statement.TheVariants.{Insert, Delete, DeleteWhere, Load, Print, Schema, Closure, Retrieve, Explain, Certify, Support, Compare as Comparing, Window}
-use Rattle.su_query.specs.ShownParts.{value_symbols, ref_symbols, listed}
+use Rattle.su_query.specs.ShownParts.{values_symbols, refs_symbols}
 use Rattle.su_lex.specs.Wordings.{in_parens}
 use Rattle.su_query.specs.ShownConditions.{cond_symbols}
 
@@ -33,12 +33,12 @@ where_symbols c = if is_nothing c then [] else Word (codes "where") ∷ cond_sym
 
 -- the symbols of a query
 abbrev pub query_symbols : Query → List Symbol
-query_symbols q = Word (codes "retrieve") ∷ (in_parens (listed ref_symbols q.outputs) ++ where_symbols q.cond)
+query_symbols q = Word (codes "retrieve") ∷ (in_parens (refs_symbols q.outputs) ++ where_symbols q.cond)
 
 -- the symbols of a statement, by its form
 abbrev pub statement_symbols : Statement → List Symbol
-statement_symbols (Insert relation row) = Word (codes "insert") ∷ Word relation ∷ in_parens (listed value_symbols row)
-statement_symbols (Delete relation row) = Word (codes "delete") ∷ Word relation ∷ in_parens (listed value_symbols row)
+statement_symbols (Insert relation row) = Word (codes "insert") ∷ Word relation ∷ in_parens (values_symbols row)
+statement_symbols (Delete relation row) = Word (codes "delete") ∷ Word relation ∷ in_parens (values_symbols row)
 statement_symbols (DeleteWhere relation cond) = Word (codes "delete") ∷ Word relation ∷ Word (codes "where") ∷ cond_symbols cond
 statement_symbols (Load relation file) = Word (codes "load") ∷ Word relation ∷ Word (codes "from") ∷ Text file ∷ []
 statement_symbols (Print relation) = Word (codes "print") ∷ Word relation ∷ []

@@ -1,6 +1,7 @@
 -- The symbols of a condition, as it is shown.
--- part: what stands under `and` or `or`; inner: what stands behind `not`
-use Rattle.std.specs.Prelude.{Bool, true, false, if◌then◌else◌, codes, List, [], ◌∷◌, ◌++◌}
+-- part: what stands under `and` or `or`; inner: what stands behind `not`; listed: items with a separator between each two
+use Rattle.std.specs.Prelude.{Bool, true, false, if◌then◌else◌, codes, List, [], ◌∷◌, map}
+use Rattle.std.specs.List.{join_by}
 use Rattle.su_lex.specs.declared.meaning.Symbol.{Symbol}
 use Rattle.su_lex.specs.declared.meaning.Symbol.TheVariants.{Word}
 use Rattle.su_query.specs.declared.conditions.Comparison.{Comparison}
@@ -24,11 +25,9 @@ part x = if x.many then in_parens x.symbols else x.symbols
 abbrev pub inner : ShownCond → List Symbol
 inner x = if x.compare then x.symbols else in_parens x.symbols
 
--- parts with a word between two
+-- parts with a word between each two
 abbrev pub joined : Symbol → List ShownCond → List Symbol
-joined w [] = []
-joined w (x ∷ []) = part x
-joined w (x ∷ y ∷ ys) = part x ++ w ∷ joined w (y ∷ ys)
+joined w parts = join_by (λ x. x) (w ∷ []) (map part parts)
 
 -- a condition from its parts, with its form
 abbrev pub shown_step : Condition-F Comparison ShownCond → ShownCond

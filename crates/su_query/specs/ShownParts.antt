@@ -1,6 +1,7 @@
 -- The symbols of values, refs and comparisons.
--- listed: with a comma between two
-use Rattle.std.specs.Prelude.{List, [], ◌∷◌, ◌++◌, flat_map}
+-- listed: items with a separator between each two
+use Rattle.std.specs.Prelude.{List, [], ◌∷◌, ◌++◌, map}
+use Rattle.std.specs.List.{join_by}
 use Rattle.su_base.specs.declared.values.Value.{Value}
 use Rattle.su_lex.specs.declared.signs.Sign.TheVariants as sign
 use Rattle.su_lex.specs.declared.meaning.Symbol.{Symbol}
@@ -28,7 +29,10 @@ operand_symbols (Const v) = value_symbols v
 abbrev pub comparison_symbols : Comparison → List Symbol
 comparison_symbols k = operand_symbols k.left ++ op_sym k.op ∷ operand_symbols k.right
 
--- with a comma between two
-abbrev pub listed : {A : Type 0} → (A → List Symbol) → List A → List Symbol
-listed f [] = []
-listed f (x ∷ xs) = f x ++ flat_map (λ y. Sign sign.Comma ∷ f y) xs
+-- values with a comma between each two
+abbrev pub values_symbols : List Value → List Symbol
+values_symbols row = join_by (λ x. x) (Sign sign.Comma ∷ []) (map value_symbols row)
+
+-- refs with a comma between each two
+abbrev pub refs_symbols : List ARef → List Symbol
+refs_symbols refs = join_by (λ x. x) (Sign sign.Comma ∷ []) (map ref_symbols refs)

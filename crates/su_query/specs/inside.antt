@@ -1,5 +1,5 @@
 -- Definitions that only contracts of private functions need.
-pub mod Comparing
+pub mod CondComparisons
 pub mod Fronts
 pub mod PlaceNumbers
 pub mod ReadConditions

@@ -3,7 +3,7 @@ ghost use Rattle.std.specs.Prelude.{◌≡◌, ◌⊎◌, ◌<◌, ◌≤◌, tr
 ghost use Rattle.su_where.specs.declared.conditions.Condition.TheVariants.{All};
 ghost use Rattle.su_query.specs.Refs.{NamedCond as ACond};
 ghost use Rattle.su_query.specs.Limits.{AreFew, HasFew, Passes, PartsPass, plain_ref, variable_count, parts_of};
-ghost use Rattle.su_query.specs.inside.Comparing.{HasComparisons};
+ghost use Rattle.su_query.specs.inside.CondComparisons.{HasComparisons};
 
 use crate::conditions::{Comparison, NamedCond};
 use crate::faults::{QueryFault, QueryLimit};

@@ -2,7 +2,7 @@
 ghost use Rattle.std.specs.Prelude.{◌≡◌, ◌<◌, [], ◌∷◌, ◌++◌, IfOk, OnOk, if◌then◌else◌};
 ghost use Rattle.su_lex.specs.Names.{names_symbols};
 ghost use Rattle.su_query.specs.Operands.{op_sym, value_sym};
-ghost use Rattle.su_query.specs.ShownParts.{value_symbols, ref_symbols, operand_symbols, listed};
+ghost use Rattle.su_query.specs.ShownParts.{value_symbols, ref_symbols, operand_symbols, values_symbols, refs_symbols};
 
 use crate::refs::{NamedOperand, Ref};
 use std::alloc::Global;
@@ -121,7 +121,7 @@ pub(crate) fn push_values(
     out: &mut List<Symbol>,
     values: &[Value],
 ) -> Result<(), NoMemory>
-    ensures { OnOk result (out.new ≡ out.old ++ listed value_symbols values.now) }
+    ensures { OnOk result (out.new ≡ out.old ++ values_symbols values.now) }
 {
     for (i, value) in values.iter().enumerate() {
         push_sign_if(out, i > 0, Sign::Comma)?;
@@ -136,7 +136,7 @@ pub(crate) fn push_refs(
     out: &mut List<Symbol>,
     references: &[Ref],
 ) -> Result<(), NoMemory>
-    ensures { OnOk result (out.new ≡ out.old ++ listed ref_symbols references.now) }
+    ensures { OnOk result (out.new ≡ out.old ++ refs_symbols references.now) }
 {
     for (i, reference) in references.iter().enumerate() {
         push_sign_if(out, i > 0, Sign::Comma)?;

@@ -48,7 +48,8 @@ pub fn resolve(alloc: Global, schema: &Schema, query: &Query) -> Result<Resolved
     };
     let resolved = numbered_query(alloc, query, variables, placed)?;
     let kinds = kinds_of(alloc, schema, resolved.places.as_slice())?;
-    match check(alloc, kinds.as_slice(), &resolved.cond) {
+    let cond = &resolved.cond;
+    match check(alloc, kinds.as_slice(), cond) {
         Ok(()) => Ok(resolved),
         Err(fault) => Err(fault),
     }

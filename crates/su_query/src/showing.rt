@@ -6,7 +6,7 @@ ghost use Rattle.su_query.specs.StatementTexts.{ReadsAgain};
 ghost use Rattle.su_query.specs.ShownConditions.{cond_symbols, joined, shown_cond};
 ghost use Rattle.su_lex.specs.Wordings.{in_parens};
 ghost use Rattle.su_query.specs.Shown.{is_nothing, query_symbols, query_text, statement_symbols, statement_text, where_symbols};
-ghost use Rattle.su_query.specs.ShownParts.{comparison_symbols, listed, value_symbols};
+ghost use Rattle.su_query.specs.ShownParts.{comparison_symbols, values_symbols};
 
 use crate::conditions::{Comparison, NamedCond};
 use crate::pushing::{
@@ -97,7 +97,7 @@ fn push_parts(
 
 /// Adds "(" value { "," value } ")" at the end of `out`.
 pub fn push_row(alloc: Global, out: &mut List<Symbol>, values: &[Value]) -> Result<(), NoMemory>
-    ensures { OnOk result (out.new ≡ out.old ++ in_parens (listed value_symbols values.now)) }
+    ensures { OnOk result (out.new ≡ out.old ++ in_parens (values_symbols values.now)) }
 {
     push_sign(out, Sign::Open)?;
     push_values(alloc, out, values)?;

@@ -1,8 +1,8 @@
 -- What semijoins along an ear order leave, one ear after another.
-use Rattle.std.proofs.Common.{◌≡◌, ◌≢◌, ◌<◌, ◌≤◌, ℕ, zero, suc, Bool, true, false, cond, List, [], ◌∷◌, ◌++◌, take, drop, length, get_or, Contains, Option, None, Some, ⊎_elim, refl, sym, ap, subst, ◌∙◌, ◌+◌, append-nil, arith}
+use Rattle.std.proofs.Common.{◌≡◌, ◌≢◌, ◌<◌, ◌≤◌, ℕ, zero, suc, Bool, true, false, cond, List, [], ◌∷◌, ◌++◌, take, drop, length, get_or, Contains, Option, None, Some, refl, sym, ap, subst, ◌∙◌, ◌+◌, append-nil, arith}
 use Rattle.std.proofs.lemmas.List.{length-map}
 use Rattle.std.proofs.lemmas.List.Elements.{Contains-get_or}
-use Rattle.su_base.proofs.Items.{Contains-cases, Contains-head, Contains-later, Contains-nil}
+use Rattle.su_base.proofs.Items.{Contains-head, Contains-later, Contains-nil, Contains-one}
 use Rattle.su_base.specs.declared.values.Value.{Value}
 use Rattle.su_tableau.specs.declared.symbols.Sym.{Sym}
 use Rattle.su_reduce.specs.declared.edges.Edge.{Edge}
@@ -29,9 +29,6 @@ joined_with edges e (Some p) next later is = record {
   shares = is.1;
 }
 
-only : (e i : ℕ) → Contains (e ∷ []) i → e ≡ i
-only e i c = ⊎_elim (λ (is : e ≡ i). is) (λ (there : Contains [] i). absurd (Contains-nil i there)) (Contains-cases e [] i c)
-
 -- with one ear, or with none, nothing has to be taken away
 pub alone : (edges : List Edge) (order : List Ear) (marks : List (List Bool)) → length order < 2 → AreMarks edges marks → ((i : ℕ) → Contains (numbers order) i → i < length edges) → AreReduced edges (numbers order) marks marks
 alone edges order marks few are within = record {
@@ -55,7 +52,7 @@ alone edges order marks few are within = record {
   where
     one : (order : List Ear) → length order < 2 → (i j : ℕ) → Contains (numbers order) i → Contains (numbers order) j → i ≡ j
     one [] few i j ci cj = absurd (Contains-nil i ci)
-    one (ear ∷ []) few i j ci cj = sym (only ear.edge i ci) ∙ only ear.edge j cj
+    one (ear ∷ []) few i j ci cj = sym (Contains-one ear.edge i ci) ∙ Contains-one ear.edge j cj
     one (ear ∷ next ∷ later) few i j ci cj = absurd (omega (arith, few))
 
 -- an ear is joined with one behind it, those behind it are reduced, and it is joined again

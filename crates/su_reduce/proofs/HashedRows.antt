@@ -3,7 +3,7 @@ use Rattle.std.proofs.Common.{◌≡◌, ◌≢◌, ℕ, zero, suc, ◌<◌, ◌
 use Rattle.std.specs.Prelude.{cond, nat_eq}
 use Rattle.std.proofs.lemmas.Bool.{cases_lt, cases_eq}
 use Rattle.std.proofs.lemmas.Bool.Decides.{nat_tests}
-use Rattle.std.proofs.lemmas.List.{get_or-set_same, get_or-set_other, length-set, length-take-le}
+use Rattle.std.proofs.lemmas.List.{get_or-set_same, get_or-set_other, length-set, length-take-le, get_or-take, get_or_append_left, get_or_push}
 use Rattle.su_reduce.specs.Sheets.{pick, AllDiffer}
 use Rattle.su_reduce.specs.Chains.{last, hash_of, in_bucket, IsHashed}
 
@@ -15,33 +15,6 @@ last_same p q (suc n) h =
     let i = last_same p q n (λ j l. h j (omega arith)) in
     ap (λ b. cond b (suc n) (last p n)) e ∙ ap (λ m. cond (q n) (suc n) m) i
 
-at_end : (xs : List ℕ) (x d : ℕ) → get_or (xs ++ x ∷ []) (length xs) d ≡ x
-at_end [] x d = refl
-at_end (y ∷ xs) x d = at_end xs x d
-
-row_at_end : (rows : List (List ℕ)) (row d : List ℕ) → get_or (rows ++ row ∷ []) (length rows) d ≡ row
-row_at_end [] row d = refl
-row_at_end (r ∷ rows) row d = row_at_end rows row d
-
-row_before : (rows : List (List ℕ)) (row d : List ℕ) (j : ℕ) → j < length rows → get_or (rows ++ row ∷ []) j d ≡ get_or rows j d
-row_before [] row d j h = absurd (omega arith)
-row_before (r ∷ rows) row d zero h = refl
-row_before (r ∷ rows) row d (suc j) h = row_before rows row d j (omega arith)
-
-before : (xs : List ℕ) (x d j : ℕ) → j < length xs → get_or (xs ++ x ∷ []) j d ≡ get_or xs j d
-before [] x d j h = absurd (omega arith)
-before (y ∷ xs) x d zero h = refl
-before (y ∷ xs) x d (suc j) h = before xs x d j (omega arith)
-
-taken : (xs : List ℕ) (n j d : ℕ) → j < n → get_or (take n xs) j d ≡ get_or xs j d
-taken xs zero j d h = absurd (omega arith)
-taken [] (suc n) j d h = refl
-taken (x ∷ xs) (suc n) zero d h = refl
-taken (x ∷ xs) (suc n) (suc j) d h = taken xs n j d (omega arith)
-
-length_taken : (xs : List ℕ) (n : ℕ) → n ≤ length xs → length (take n xs) ≡ n
-length_taken xs n h = length-take-le n xs h
-
 module _ (w : ℕ) (rows : List (List ℕ)) (places heads next row : List ℕ) (h : ℕ) (old : IsHashed (record { width = w; rows = rows }) places heads next) (is : h ≡ hash_of (pick places row) % length heads) where
   abbrev n : ℕ
   n = length rows
@@ -50,10 +23,10 @@ module _ (w : ℕ) (rows : List (List ℕ)) (places heads next row : List ℕ) (
   more = rows ++ row ∷ []
 
   test_before : (k j : ℕ) → j < n → in_bucket more places (length heads) k j ≡ in_bucket rows places (length heads) k j
-  test_before k j l = ap (λ r. nat_eq (hash_of (pick places r) % length heads) k) (row_before rows row [] j l)
+  test_before k j l = ap (λ r. nat_eq (hash_of (pick places r) % length heads) k) (get_or_append_left rows (row ∷ []) [] j l)
 
   test_here : (k : ℕ) → in_bucket more places (length heads) k n ≡ nat_eq h k
-  test_here k = ap (λ r. nat_eq (hash_of (pick places r) % length heads) k) (row_at_end rows row []) ∙ ap (λ m. nat_eq m k) (sym is)
+  test_here k = ap (λ r. nat_eq (hash_of (pick places r) % length heads) k) (get_or_push rows row [] (length rows) refl) ∙ ap (λ m. nat_eq m k) (sym is)
 
   last_before : (k j : ℕ) → j ≤ n → last (in_bucket more places (length heads) k) j ≡ last (in_bucket rows places (length heads) k) j
   last_before k j l = last_same (in_bucket more places (length heads) k) (in_bucket rows places (length heads) k) j (λ i m. test_before k i (omega arith))
@@ -66,13 +39,13 @@ module _ (w : ℕ) (rows : List (List ℕ)) (places heads next row : List ℕ) (
   low = let s = old.some in omega (arith, is)
 
   len_after : length after ≡ suc n
-  len_after = let a = length_taken next n old.room in let b = length-append (take n next) (get_or heads h 0 ∷ []) in omega arith
+  len_after = let a = length-take-le n next old.room in let b = length-append (take n next) (get_or heads h 0 ∷ []) in omega arith
 
   next_before : (j : ℕ) → j < n → get_or after j 0 ≡ get_or next j 0
-  next_before j l = let a = length_taken next n old.room in before (take n next) (get_or heads h 0) 0 j (omega arith) ∙ taken next n j 0 l
+  next_before j l = let a = length-take-le n next old.room in get_or_append_left (take n next) (get_or heads h 0 ∷ []) 0 j (omega arith) ∙ get_or-take n next j 0 l
 
   next_here : get_or after n 0 ≡ get_or heads h 0
-  next_here = let a = length_taken next n old.room in ap (λ m. get_or after m 0) (sym a) ∙ at_end (take n next) (get_or heads h 0) 0
+  next_here = let a = length-take-le n next old.room in ap (λ m. get_or after m 0) (sym a) ∙ get_or_push (take n next) (get_or heads h 0) 0 (length (take n next)) refl
 
   new_heads : (k : ℕ) → k < length heads → get_or (set heads h (suc n)) k 0 ≡ last (in_bucket more places (length heads) k) (suc n)
   new_heads k l =
@@ -103,10 +76,10 @@ module _ (w : ℕ) (rows : List (List ℕ)) (places heads next row : List ℕ) (
       let len = length-append rows (row ∷ []) in
       let a : i < n = omega arith in
       ⊎_elim
-      (λ (b : j < n). λ (e : get_or more i [] ≡ get_or more j []). old.differ i j l b (sym (row_before rows row [] i a) ∙ e ∙ row_before rows row [] j b))
+      (λ (b : j < n). λ (e : get_or more i [] ≡ get_or more j []). old.differ i j l b (sym (get_or_append_left rows (row ∷ []) [] i a) ∙ e ∙ get_or_append_left rows (row ∷ []) [] j b))
       (λ (b : n ≤ j). λ (e : get_or more i [] ≡ get_or more j []).
       let same : j ≡ n = omega arith in
-      none i a (sym (row_before rows row [] i a) ∙ e ∙ ap (λ j. get_or more j []) same ∙ row_at_end rows row []))
+      none i a (sym (get_or_append_left rows (row ∷ []) [] i a) ∙ e ∙ ap (λ j. get_or more j []) same ∙ get_or_push rows row [] (length rows) refl))
       (cases_lt j n)
 
   pub hashed_more : ((j : ℕ) → j < n → get_or rows j [] ≢ row) → IsHashed (record { width = w; rows = more }) places (set heads h (suc n)) after

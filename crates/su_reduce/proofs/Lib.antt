@@ -2,7 +2,7 @@ pub mod EarOrders
 pub mod Tables
 pub mod Rounds
 pub mod MeetingSets
-pub mod Moving
+pub mod ForwardRows
 pub mod Exact
 pub mod Same
 pub mod Places

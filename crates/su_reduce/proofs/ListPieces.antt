@@ -1,7 +1,7 @@
 -- Pieces of a list.
 use Rattle.std.proofs.Common.{◌≡◌, ℕ, zero, suc, ◌+◌, ◌*◌, ◌<◌, ◌≤◌, List, [], ◌∷◌, ◌++◌, length, get_or, take, drop, refl, sym, ap, ◌∙◌, arith, length-drop}
 use Rattle.std.proofs.lemmas.Grind.{common_steps}
-use Rattle.std.proofs.lemmas.List.{take-append-le, drop-append-le, drop-drop, take_all, length-take-le, get_or_default}
+use Rattle.std.proofs.lemmas.List.{take-append-le, drop-append-le, drop-drop, take_all, length-take-le, get_or_default, nil_from_length}
 use Rattle.su_reduce.specs.Sheets.{cut}
 
 pub times_le : (a b k : ℕ) → a ≤ b → a * k ≤ b * k
@@ -16,15 +16,11 @@ cut_at w zero cells i h = absurd (omega arith)
 cut_at w (suc n) cells zero h = grind (arith, common_steps)
 cut_at w (suc n) cells (suc i) h = cut_at w n (drop w cells) i (omega arith) ∙ ap (take w) (drop-drop (i * w) w cells ∙ ap (λ k. drop k cells) (grind arith))
 
-nothing : {X : Type 0} (xs : List X) → length xs ≡ 0 → xs ≡ []
-nothing [] h = refl
-nothing (x ∷ xs) h = absurd (omega arith)
-
 -- one row more
 pub cut_more : (w n : ℕ) (cells row : List ℕ) → length cells ≡ n * w → length row ≡ w → cut w (n + 1) (cells ++ row) ≡ cut w n cells ++ row ∷ []
 cut_more w zero cells row h l =
     let none : length cells ≡ 0 = grind (arith, h) in
-    let empty : cells ≡ [] = nothing cells none in
+    let empty : cells ≡ [] = nil_from_length cells none in
     let e : take w (cells ++ row) ≡ row = ap (λ cs. take w (cs ++ row)) empty ∙ take_all w row (omega arith) in
     ap (λ r. r ∷ []) e
 cut_more w (suc n) cells row h l =

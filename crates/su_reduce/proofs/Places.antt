@@ -78,10 +78,6 @@ place_least (Var j ∷ cells) k (suc p) l is =
 pub assigned_is : (v : ℕ → Value) (cells : List Sym) (row : List Value) (k : ℕ) → values_of v cells ≡ row → Contains cells (Var k) → assigned cells row k ≡ v k
 assigned_is v cells row k gives c = let at = place_holds cells k c in read_value v cells row (variable_place cells k) k gives at.0 at.1
 
--- the symbol that is read at n
-pub cell_is : (cells : List Sym) (n : ℕ) (x : Sym) → n < length cells → x ≡ get_or cells n x → x ≡ cell_at cells n
-cell_is cells n x l is = is ∙ get_or_default cells n x (Var 0) l
-
 -- where a place is found, the variable stands there
 pub place_found : (cells : List Sym) (k : ℕ) → variable_place cells k < length cells → cell_at cells (variable_place cells k) ≡ Var k
 place_found [] k l = absurd (omega (arith, l))

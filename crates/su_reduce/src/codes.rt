@@ -42,6 +42,7 @@ impl Codes {
     pub fn apart(&self)
         ensures { AreApart self.now }
     {
+        // For the proof: the values differ.
         let _count = self.values.len();
     }
 

@@ -7,7 +7,7 @@ ghost use Rattle.su_reduce.specs.inside.Keys.{FitsAt, value_at};
 
 use std::alloc::{AllocError, Global};
 use su_base::{List, Row, Value};
-use su_tableau::Sym;
+use su_tableau::{Sym, is_var};
 
 /// Which column of a row each cell stands for: the one at its own place, or the one listed there.
 #[derive(Clone, Copy)]
@@ -32,16 +32,6 @@ pub fn variable_of(cell: &Sym) -> Option<u32>
     match cell {
         Sym::Var(k) => Some(*k),
         Sym::Const(_) => None,
-    }
-}
-
-/// Whether the symbol is the variable.
-fn is_var(x: &Sym, k: u32) -> bool
-    ensures { IsTrue result ↔ (x.now ≡ Var k) }
-{
-    match x {
-        Sym::Const(_) => false,
-        Sym::Var(j) => *j == k,
     }
 }
 

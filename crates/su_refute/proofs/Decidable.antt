@@ -9,11 +9,11 @@ use Rattle.su_tableau.specs.declared.symbols.Sym.TheVariants.{Const, Var}
 use Rattle.su_tableau.proofs.Same.{value_same}
 use Rattle.su_check.specs.declared.sending.Sent.{Sent}
 use Rattle.su_check.specs.inside.Cells.{cell_at, is_const}
-use Rattle.su_check.specs.inside.Agreement.{KeepsConstants, Gives, GoAlike, Goes, AgreesWith}
+use Rattle.su_check.specs.inside.Agreement.{KeepsConstants, Gives, GoAlike, Goes}
 use Rattle.su_check.specs.SentRows.{Lines, numbered_row, AreSent, sent_too}
 use Rattle.su_check.specs.Refutations.{IsOpen, IsFitting}
 use Rattle.su_refute.specs.inside.Positions.{IsReady}
-use Rattle.su_check.proofs.TargetsTogether.{sent_more, sent_less}
+use Rattle.su_check.proofs.TargetsTogether.{sent_more, sent_less, AgreesWith}
 
 abbrev pub Decided : Type 0 → Type 0
 Decided P = P ⊎ (P → ⊥)

@@ -12,7 +12,7 @@ use Rattle.su_tableau.specs.Mapping.{images_of, Maps}
 use Rattle.su_tableau.proofs.Sets.{sub_le, select, select-has, select-from}
 use Rattle.su_tableau.proofs.Containment.{maps_compose}
 use Rattle.su_map.specs.Lists.{row_numbers}
-use Rattle.su_map.proofs.Members.{without_same, without_out}
+use Rattle.su_tableau.proofs.Members.{without_same, without_out}
 use Rattle.su_check.specs.declared.nodes.Node.{Node}
 use Rattle.su_check.specs.declared.sending.Sent.{Sent}
 use Rattle.su_check.specs.SentRows.{numbered_row}

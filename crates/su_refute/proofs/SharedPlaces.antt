@@ -9,7 +9,6 @@ use Rattle.std.proofs.lemmas.Nat.Bits.{bit_at_above}
 use Rattle.std.proofs.lemmas.List.Elements.{All-contains, Contains-push, Contains-push_cases, Contains-append_left}
 use Rattle.su_base.proofs.Items.{All-members}
 use Rattle.su_tableau.specs.declared.symbols.Sym.{Sym}
-use Rattle.su_tableau.specs.declared.symbols.Sym.TheVariants.{Var}
 use Rattle.su_tableau.specs.Tableaux.{Tab, IsValid}
 use Rattle.su_map.specs.Lists.{row_of}
 use Rattle.su_check.specs.inside.Cells.{cell_at}
@@ -32,10 +31,6 @@ agree_at xs us ys vs places h agree =
     All-members (λ x. cell_at us x.first ≡ cell_at vs x.second) places (λ x has. let s = (h x).0 has in agree x.first s.0 x.second s.1 s.2)
 
 -- ---- places, one after another
-
--- the symbol at an index
-pub at_cell : (ys : List Sym) (n : ℕ) (y : Sym) → y ≡ get_or ys n y → n < length ys → y ≡ cell_at ys n
-at_cell ys n y is h = is ∙ get_or_default ys n y (Var 0) h
 
 abbrev places_at : ℕ → ℕ → Places
 places_at f k = record { first = f; second = k }

@@ -2,6 +2,7 @@
 use Rattle.std.proofs.Common.{◌≡◌, ℕ, zero, suc, ◌+◌, ◌<◌, ◌≤◌, ◌⊎◌, List, [], ◌∷◌, ◌++◌, codes, map, flat_map, take, length, get_or, inl, inr, refl, sym, ap, ◌∙◌, append_assoc, arith}
 use Rattle.std.proofs.lemmas.List.{append-nil, length-take-le, take_more, map-append}
 use Rattle.su_base.specs.declared.values.Kind.{Kind}
+use Rattle.su_base.proofs.Items.{flat_map-push}
 use Rattle.su_lex.specs.declared.meaning.Symbol.{Symbol}
 use Rattle.su_lex.specs.declared.meaning.Symbol.TheVariants.{Sign}
 use Rattle.su_lex.specs.declared.signs.Sign.TheVariants as sign
@@ -9,7 +10,6 @@ use Rattle.su_min.specs.Kept.{Minimised}
 use Rattle.su_check.specs.declared.nodes.Node.{Node}
 use Rattle.su_check.specs.declared.nodes.Branch.{Branch}
 use Rattle.su_check.specs.declared.certificates.RowTree.{RowTree}
-use Rattle.su_check.specs.declared.certificates.Term.{Term}
 use Rattle.su_check.specs.Refutations.{row_named, branches_of}
 use Rattle.su_check.specs.NodeSymbols.{number, node_symbols}
 use Rattle.su_lex.specs.Wordings.{kind_symbol}
@@ -85,10 +85,6 @@ terms_push j (x ∷ ms) m (t ∷ lists) =
     let e : suc j + length ms ≡ j + suc (length ms) = omega arith in
     ap (λ xs. term_of j x t ∷ xs) (terms_push (suc j) ms m lists ∙ ap (λ k. terms_from (suc j) ms lists ++ term_of k m (get_or lists (length ms) []) ∷ []) e)
 
-flat_push : (xs : List Term) (x : Term) → flat_map term_lines (xs ++ x ∷ []) ≡ flat_map term_lines xs ++ term_lines x
-flat_push [] x = append-nil (term_lines x)
-flat_push (y ∷ xs) x = ap (λ zs. term_lines y ++ zs) (flat_push xs x) ∙ sym (append_assoc (term_lines y) (flat_map term_lines xs) (term_lines x))
-
 pub terms_next : (front out new : List ℕ) (ms : List Minimised) (lists : List (List Node)) (i : ℕ) (m : Minimised) (trees : List Node) → i < length ms → m ≡ get_or ms i m → trees ≡ get_or lists i []
     → out ≡ front ++ lines_text (flat_map term_lines (terms_from 0 (take i ms) lists)) → new ≡ out ++ lines_text (term_lines (term_of i m trees)) → new ≡ front ++ lines_text (flat_map term_lines (terms_from 0 (take (i + 1) ms) lists))
 terms_next front out new ms lists i m trees h em et before is =
@@ -99,4 +95,4 @@ terms_next front out new ms lists i m trees h em et before is =
     let terms : terms_from 0 (take (i + 1) ms) lists ≡ terms_from 0 (take i ms) lists ++ term_of i m trees ∷ [] = ap (λ xs. terms_from 0 xs lists) more ∙ terms_push 0 (take i ms) m lists ∙ ap (λ x. terms_from 0 (take i ms) lists ++ x ∷ []) last in
     let old = flat_map term_lines (terms_from 0 (take i ms) lists) in
     is ∙ ap (λ o. o ++ lines_text (term_lines (term_of i m trees))) before ∙ append_assoc front (lines_text old) (lines_text (term_lines (term_of i m trees)))
-    ∙ ap (λ o. front ++ o) (sym (ap (λ xs. lines_text (flat_map term_lines xs)) terms ∙ ap lines_text (flat_push (terms_from 0 (take i ms) lists) (term_of i m trees)) ∙ lines_append old (term_lines (term_of i m trees))))
+    ∙ ap (λ o. front ++ o) (sym (ap (λ xs. lines_text (flat_map term_lines xs)) terms ∙ ap lines_text (flat_map-push term_lines (terms_from 0 (take i ms) lists) (term_of i m trees)) ∙ lines_append old (term_lines (term_of i m trees))))

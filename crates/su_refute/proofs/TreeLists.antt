@@ -5,7 +5,7 @@ use Rattle.std.specs.List.{AllZip, sum_by}
 use Rattle.std.proofs.lemmas.Bool.{cases_lt}
 use Rattle.std.proofs.lemmas.List.{get_or_default, length-take-le, get_or-take, take_more}
 use Rattle.std.proofs.lemmas.List.Sums.{sum_by_push}
-use Rattle.su_base.proofs.Items.{AllZip-push, AllZip-length, AllZip-get_or}
+use Rattle.su_base.proofs.Items.{some_item, AllZip-push, AllZip-length, AllZip-get_or}
 use Rattle.su_map.specs.Lists.{numbers_of, row_numbers}
 use Rattle.su_map.proofs.Ranks.{rank_in, rank_at, ranked_at, numbers-more}
 use Rattle.su_check.specs.declared.nodes.Node.{Node}
@@ -48,10 +48,6 @@ front_over R f front xs ys zs a d e unused one low same next deeper hy hz =
     let more = deeper (get_or zs (length front) e) here in
     let at = ap (λ k. f (get_or zs k e)) ly in
     omega arith
-
-some_item : {X : Type 0} (xs : List X) → 0 < length xs → X
-some_item [] h = absurd (omega arith)
-some_item (x ∷ xs) h = x
 
 pub trees_over : (t : Lines) (m n row unused budget : ℕ) (trees others : List Node) → row < n → bit_at m row ≡ 1 → AllZip (IsTree t) (numbers_of m row) trees → unused + nodes_in trees ≡ budget → ((z : Node) → IsTree t row z → unused < node_count z) → AllZip (IsTree t) (numbers_of m n) others → budget < nodes_in others
 trees_over t m n row unused budget trees others low one zip counted deeper all =

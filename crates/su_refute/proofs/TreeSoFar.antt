@@ -1,17 +1,18 @@
 -- How the making of a tree stands after one row more.
-use Rattle.std.proofs.Common.{◌≡◌, ◌≢◌, ℕ, ◌<◌, ◌≤◌, ◌⊎◌, ◌↔◌, List, [], length, get_or, Contains, count_ones, sym, ap, subst, ◌∙◌, ⊎_elim, arith}
+use Rattle.std.proofs.Common.{◌∷◌, ◌≡◌, ◌≢◌, ℕ, ◌<◌, ◌≤◌, ◌⊎◌, ◌↔◌, List, [], length, get_or, Contains, count_ones, sym, ap, subst, ◌∙◌, ⊎_elim, arith}
 use Rattle.std.specs.Int.{bit_at}
 use Rattle.std.proofs.lemmas.Bool.{cases_eq}
 use Rattle.std.proofs.lemmas.List.{get_or_default}
 use Rattle.std.proofs.lemmas.List.Elements.{All-push}
 use Rattle.std.proofs.lemmas.Nat.Bits.{bit_at-zero}
+use Rattle.su_base.proofs.Items.{All-append_left}
 use Rattle.su_tableau.specs.Tableaux.{Tab}
 use Rattle.su_map.specs.Lists.{row_numbers}
 use Rattle.su_map.proofs.RowLists.{of_rows}
 use Rattle.su_check.specs.declared.sending.Sent.{Sent}
 use Rattle.su_check.specs.SentRows.{sent_too}
 use Rattle.su_check.specs.Refutations.{IsOpen, IsFitting}
-use Rattle.su_check.proofs.TargetsTogether.{all_front, all_last}
+use Rattle.su_check.proofs.TargetsTogether.{all_last}
 use Rattle.su_refute.proofs.Ready.{ready_more}
 use Rattle.su_refute.specs.declared.nets.Net.{Net}
 use Rattle.su_refute.specs.inside.Nets.{IsNet}
@@ -49,7 +50,7 @@ at_next net t m r p todo rest left next s j is_net at len one bit same out both 
             record { member = o.member; free = All-push (λ x. x.row ≢ q) p new o.free (λ e. ne (sym e)) },
         λ o.
             let ne = all_last (λ x. x.row ≢ q) p new o.free in
-            same q (λ e. ne (sym e)) ∙ (at.open_rows q).1 (record { member = o.member; free = all_front (λ x. x.row ≢ q) p new o.free }),
+            same q (λ e. ne (sym e)) ∙ (at.open_rows q).1 (record { member = o.member; free = All-append_left (λ x. x.row ≢ q) p (new ∷ []) o.free }),
       );
       targets = λ q i b.
           let ne = apart q b in

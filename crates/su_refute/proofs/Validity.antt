@@ -1,5 +1,5 @@
 -- The lines of a certificate are made of symbols, and nest no deeper than there are rows.
-use Rattle.std.proofs.Common.{◌≡◌, ℕ, zero, suc, ◌+◌, ◌%◌, ◌<◌, ◌≤◌, ◌^◌, Bool, true, List, [], ◌∷◌, ◌++◌, map, flat_map, length, get_or, codes, All, Contains, IsTrue, refl, sym, ap, subst, ◌∙◌, arith}
+use Rattle.std.proofs.Common.{◌≡◌, ℕ, ◌+◌, ◌%◌, ◌<◌, ◌≤◌, ◌^◌, Bool, true, List, [], ◌∷◌, ◌++◌, map, flat_map, length, get_or, codes, All, Contains, IsTrue, refl, sym, ap, subst, ◌∙◌, arith}
 use Rattle.std.specs.Fmt.{decimal}
 use Rattle.std.specs.List.{list_all}
 use Rattle.std.proofs.lemmas.Bool.Decides.{nat_tests}
@@ -10,7 +10,7 @@ use Rattle.su_base.specs.Name.{is_letter, is_letter_or_digit, IsWord}
 use Rattle.su_base.specs.declared.values.Kind.{Kind}
 use Rattle.su_base.specs.declared.values.Kind.TheVariants as kind
 use Rattle.su_base.specs.declared.values.Value.TheVariants as value
-use Rattle.su_base.proofs.Items.{Contains-head, Contains-later}
+use Rattle.su_base.proofs.Items.{Contains-head, Contains-later, Contains-map}
 use Rattle.su_lex.specs.declared.meaning.Symbol.{Symbol}
 use Rattle.su_lex.specs.declared.meaning.Symbol.TheVariants.{Word, Sign}
 use Rattle.su_lex.specs.declared.signs.Sign.TheVariants as sign
@@ -18,7 +18,6 @@ use Rattle.su_lex.specs.Symbols.{IsSymbol}
 use Rattle.su_tableau.specs.declared.symbols.Sym.{Sym}
 use Rattle.su_tableau.specs.declared.symbols.Sym.TheVariants.{Const, Var}
 use Rattle.su_check.specs.declared.nodes.Node.{Node}
-use Rattle.su_check.specs.declared.nodes.Branch.{Branch}
 use Rattle.su_check.specs.declared.sending.Sent.{Sent}
 use Rattle.su_check.specs.SentRows.{Lines, sent_too}
 use Rattle.su_check.specs.inside.Widths.{IsWithin}
@@ -160,18 +159,13 @@ node_valid n (of_bytes _ row targets nodes) =
     (All-cons IsSymbol (number (row_named n)) (flat_map branch_symbols (branches_of n)) (number_valid (row_named n) (omega arith))
     (all_flat IsSymbol branch_symbols (branches_of n) (λ b has. All-cons IsSymbol (number (target_of b)) (node_symbols (node_of b)) (number_valid (target_of b) (let t = targets b has in omega arith)) (node_valid (node_of b) (nodes b has))))))
 
-contains_target : (bs : List Branch) (b : Branch) → Contains bs b → Contains (map target_of bs) (target_of b)
-contains_target [] b has = absurd (let l = has.1 in omega arith)
-contains_target (x ∷ bs) b (zero, l, e) = (0, omega arith, ap target_of e)
-contains_target (x ∷ bs) b (suc k, l, e) = let m = contains_target bs b (k, omega arith, e) in (suc m.0, (let h = m.1 in omega arith), m.2)
-
 plain_step : (d i : ℕ) (x : Symbol) → i ≤ d → IsPlain x → IsStep d x i i
 plain_step d i x h p = record { within = h; level = rw (p.no_open, p.no_close) refl }
 
 pub tree_bytes : (t : Lines) (r : ℕ) (n : Node) (p : List Sent) → length t.rows ≤ 64 → All (λ k. k < length t.rows) t.kept → IsTreeAt t r n p → IsByteNode n
 tree_bytes t r n p small kept (refuting _ _ open' fewest exact each) =
     of_bytes n (let l = All-contains (λ k. k < length t.rows) t.kept (row_named n) kept open'.member in omega arith)
-    (λ b has. let fit = (exact.members (target_of b)).0 (contains_target (branches_of n) b has) in let l = All-contains (λ k. k < length t.rows) t.kept (target_of b) kept fit.member in omega arith)
+    (λ b has. let fit = (exact.members (target_of b)).0 (Contains-map target_of (branches_of n) b has) in let l = All-contains (λ k. k < length t.rows) t.kept (target_of b) kept fit.member in omega arith)
     (λ b has. tree_bytes t r (node_of b) (sent_too p (row_named n) (target_of b)) small kept (each b has))
 
 pub tree_nests : (t : Lines) (r : ℕ) (n : Node) (p : List Sent) (d i : ℕ) → IsReady t p → AreApart p → i + length t.rows ≤ d + length p → IsTreeAt t r n p → Nests d i (node_symbols n) i
@@ -187,7 +181,7 @@ tree_nests t r n p d i ready apart room (refuting _ _ open' fewest exact each) =
       plain_step d (i + 1) (number s) deep (number_plain s),
       nests_flat branch_symbols d (i + 1) (branches_of n) (λ b has.
           let new : Sent = record { row = s; target = target_of b } in
-          let fit = (exact.members (target_of b)).0 (contains_target (branches_of n) b has) in
+          let fit = (exact.members (target_of b)).0 (Contains-map target_of (branches_of n) b has) in
           let more = length-append p (new ∷ []) in
           (i + 1, plain_step d (i + 1) (number (target_of b)) deep (number_plain (target_of b)), tree_nests t r (node_of b) (sent_too p s (target_of b)) d (i + 1) (ready_more t r p s (target_of b) ready open'.member fit) (apart_more p new apart open'.free) (omega arith) (each b has))),
     ))

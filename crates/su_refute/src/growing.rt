@@ -4,13 +4,12 @@ ghost use Rattle.std.specs.Int.{bit_at};
 ghost use Rattle.su_refute.specs.Trees.{node_count};
 ghost use Rattle.su_refute.specs.inside.Positions.{Stands, IsFewestOf, IsTreeFor, AreLeftAndAgree, NeedMoreThan};
 
-use crate::bits::{both, without};
 use crate::faults::RefuteFault;
 use crate::nets::Net;
 use std::alloc::Global;
 use su_base::{List, NoMemory};
 use su_check::{Branch, Node};
-use su_tableau::has;
+use su_tableau::{both, has, without};
 
 /// A tree, and how many nodes of the budget it left.
 #[derive(Drop)]

@@ -8,7 +8,6 @@
 //! certificate is good is su_check's to say; this crate searches, and that one doesn't.
 #![tactic(auto)]
 
-mod bits;
 mod certifying;
 mod crossing;
 mod faults;

@@ -5,11 +5,10 @@ ghost use Rattle.su_map.specs.Lists.{row_of};
 ghost use Rattle.su_check.specs.inside.Agreement.{KeepsConstants, GoAlike, Goes};
 ghost use Rattle.su_refute.specs.inside.Nets.{AreWithin, AreShared, AgreeAt, IsSetOf, IsBase, AreTold, AreToldOf, IsNet};
 
-use crate::bits::with;
 use crate::places::{Places, agree_at, shared};
 use std::alloc::Global;
 use su_base::{List, NoMemory};
-use su_tableau::{Sym, Tableau, has};
+use su_tableau::{Sym, Tableau, has, with};
 
 /// For each kept row its targets by itself, and for each of its targets the targets of each row that agree.
 #[derive(Drop)]

@@ -6,7 +6,6 @@ ghost use Rattle.su_refute.specs.inside.Nets.{IsNet};
 ghost use Rattle.su_refute.specs.Trees.{IsTree, node_count};
 ghost use Rattle.su_refute.specs.AllTrees.{lines_of, HasLargerTree};
 
-use crate::bits::without;
 use crate::faults::RefuteFault;
 use crate::growing::{Grown, grow};
 use crate::nets::Net;
@@ -14,6 +13,7 @@ use std::alloc::Global;
 use su_base::{List, NoMemory};
 use su_check::Node;
 use su_min::Minimal;
+use su_tableau::without;
 
 /// The tree of a row, and how many nodes it has.
 #[derive(Debug, Drop)]

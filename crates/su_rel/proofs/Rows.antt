@@ -1,5 +1,5 @@
 -- What look-ups by `==` and the edits of an indexed set say of a set of rows.
-use Rattle.std.proofs.Common.{◌≡◌, ◌≤◌, ℕ, take, zero, Bool, true, false, not, List, [], ◌∷◌, ◌++◌, Option, None, Some, length, get_or, drop, ap, refl, sym, ◌∙◌, Contains, MatchOption, slice_get, arith, if◌then◌else◌, inl, inr, All}
+use Rattle.std.proofs.Common.{◌≡◌, ◌≤◌, ℕ, take, Bool, true, false, not, List, [], ◌∷◌, ◌++◌, Option, None, Some, length, get_or, drop, ap, refl, sym, ◌∙◌, Contains, MatchOption, slice_get, arith, if◌then◌else◌, inl, inr, All}
 use Rattle.std.specs.Bool.{Decides, MatchBool}
 use Rattle.std.specs.List.{position, swap_remove, items_where_true, IsDistinct}
 use Rattle.std.specs.List.Retain.{ReturnsInTurn}
@@ -7,7 +7,7 @@ use Rattle.std.specs.Cmp.Lexicographic.{pointwise}
 use Rattle.std.proofs.lemmas.Bool.{false≢true}
 use Rattle.std.proofs.lemmas.Option.{slice_get_read, slice_get_within, get_or_from_slice_get}
 use Rattle.std.proofs.lemmas.List.{take-append-le, length_push}
-use Rattle.std.proofs.lemmas.List.Elements.{All-push, Contains-append_right, All-nil, All-cons, All-head, All-tail, All-from_recursion, All-contains}
+use Rattle.std.proofs.lemmas.List.Elements.{All-push, All-nil, All-cons, All-head, All-tail, All-from_recursion, All-contains}
 use Rattle.std.proofs.lemmas.List.Quantifiers.{position-Some}
 use Rattle.std.proofs.lemmas.List.Sorted.{IsPermutation-swap_remove, IsPermutation-sym, Contains-permutation}
 use Rattle.std.proofs.lemmas.Map.Keys.{apart_from_distinct, IsDistinct-IsPermutation, IsDistinct-head}
@@ -112,6 +112,3 @@ length-inserted rows row false news e = omega (arith, ap length e, length_push r
 pub All-inserted : {X : Type 0} (P : X → Type 0) (rows : List X) (row : X) (b : Bool) (news : List X) → news ≡ (if b then rows else rows ++ row ∷ []) → All P rows → P row → All P news
 All-inserted P rows row true news e all one = rw e all
 All-inserted P rows row false news e all one = rw e (All-push P rows row all one)
-
-pub All-middle : {X : Type 0} (P : X → Type 0) (before : List X) (row : X) (after : List X) → All P (before ++ row ∷ after) → P row
-All-middle P before row after all = All-contains P (before ++ row ∷ after) row all (Contains-append_right before (row ∷ after) row (zero, omega arith, refl))

@@ -1,6 +1,7 @@
 -- What stands in a schema, by name and number.
 -- number: of an attribute, a relation, an object or a column, from 0; names of the language differ within each list
-use Rattle.std.specs.Prelude.{IsTrue, position, ◌≢◌, ℕ, ◌<◌, ◌==◌, List, All, AllPairs, map, Option, option_map, find}
+use Rattle.std.specs.Prelude.{IsTrue, ◌≢◌, ℕ, ◌<◌, nat_lt, ◌==◌, if◌then◌else◌, List, All, AllPairs, length, map, Option, Some, None, option_map, find}
+use Rattle.std.specs.List.{position_or_len}
 use Rattle.std.specs.Ordering.{nat_cmp}
 use Rattle.std.specs.FinSet.{FinSet, empty, from_list, contains}
 use Rattle.std.specs.Str.{bytes_eq}
@@ -33,9 +34,13 @@ column_names columns = map (λ c. c.name) columns
 abbrev pub object_names : SchemaValue → List (List ℕ)
 object_names schema = map (λ o. o.name) schema.objects
 
--- the place of a name among names
+-- the number of a name among names: its place there, or how many they are where it is none of them
+abbrev pub number_of : List (List ℕ) → List ℕ → ℕ
+number_of names name = position_or_len (λ n. bytes_eq name n) names
+
+-- the same, or none where it is none of them
 abbrev pub place_of : List (List ℕ) → List ℕ → Option ℕ
-place_of names name = position (λ n. bytes_eq name n) names
+place_of names name = if nat_lt (number_of names name) (length names) then Some (number_of names name) else None
 
 -- the attributes of an object
 abbrev pub attributes_of : ObjectEntry → FinSet nat_cmp

@@ -1,21 +1,18 @@
 -- Names among names, and what a schema knows by them.
 -- known: a name among names; its number is its place there
 use Rattle.std.specs.Prelude.{ℕ, Bool, List, [], map, slice_index_or}
-use Rattle.std.specs.List.{list_any, position_or_len}
+use Rattle.std.specs.List.{list_any}
 use Rattle.std.specs.Str.{bytes_eq}
 use Rattle.su_base.specs.declared.values.Kind.{Kind}
 use Rattle.su_base.specs.declared.values.Kind.TheVariants.{Int}
 use Rattle.su_base.specs.declared.values.Column.{Column}
 use Rattle.su_schema.specs.SchemaValue.{SchemaValue}
 use Rattle.su_schema.specs.Entries.{attribute_names, attribute_kinds, relation_columns, column_names}
+pub use Rattle.su_schema.specs.Entries.{number_of}
 
 -- the name is one of these
 abbrev pub is_known : List (List ℕ) → List ℕ → Bool
 is_known names name = list_any (λ n. bytes_eq name n) names
-
--- the place of a name among these, or how many they are where it is none of them
-abbrev pub number_of : List (List ℕ) → List ℕ → ℕ
-number_of names name = position_or_len (λ n. bytes_eq name n) names
 
 -- the columns of the relation with this number
 abbrev pub columns_at : SchemaValue → ℕ → List Column

@@ -1,31 +1,32 @@
 //! Whether the texts of a definition are names.
 ghost use Rattle.std.specs.Prelude.{◌↔◌, IsTrue, map};
 ghost use Rattle.su_schema.specs.Entries.{column_names};
-ghost use Rattle.su_schema.specs.WellNamed.{AreGiven, IsWellNamed};
+ghost use Rattle.su_base.specs.Name.{AreNames};
+ghost use Rattle.su_schema.specs.WellNamed.{IsWellNamed};
 
 use crate::definitions::{Definition, Pair};
 use su_base::{Column, Str, is_name};
 
 fn are_names(names: &[Str]) -> bool
-    ensures { IsTrue result ↔ AreGiven names.now }
+    ensures { IsTrue result ↔ AreNames names.now }
 {
     !names.is_empty() && names.iter().all(|n| is_name(n.as_str()))
 }
 
 fn have_names(columns: &[Column]) -> bool
-    ensures { IsTrue result ↔ AreGiven (column_names columns.now) }
+    ensures { IsTrue result ↔ AreNames (column_names columns.now) }
 {
     !columns.is_empty() && columns.iter().all(|c| is_name(c.name.as_str()))
 }
 
 fn name_attributes(pairs: &[Pair]) -> bool
-    ensures { IsTrue result ↔ AreGiven (map (λ p. p.attribute) pairs.now) }
+    ensures { IsTrue result ↔ AreNames (map (λ p. p.attribute) pairs.now) }
 {
     !pairs.is_empty() && pairs.iter().all(|p| is_name(p.attribute.as_str()))
 }
 
 fn name_columns(pairs: &[Pair]) -> bool
-    ensures { IsTrue result ↔ AreGiven (map (λ p. p.column) pairs.now) }
+    ensures { IsTrue result ↔ AreNames (map (λ p. p.column) pairs.now) }
 {
     !pairs.is_empty() && pairs.iter().all(|p| is_name(p.column.as_str()))
 }

@@ -1,5 +1,5 @@
 -- The reply to a change, by how it ends.
-use Rattle.std.proofs.Common.{◌≡◌, ℕ, Bool, true, false, List, [], ◌∷◌, slice_get, Some, None, Ok, Err, inl, inr, ap, ◌∙◌, subst, length}
+use Rattle.std.proofs.Common.{◌≡◌, ℕ, Bool, true, false, List, [], ◌∷◌, slice_get, Some, Ok, Err, inl, inr, ap, ◌∙◌, subst, length}
 use Rattle.su_base.specs.declared.values.Value.{Value}
 use Rattle.su_base.specs.declared.values.Column.{Column}
 use Rattle.su_where.specs.Truth.{Cond}
@@ -10,7 +10,6 @@ use Rattle.su_query.specs.Refs.{NamedCond}
 use Rattle.su_query.specs.Lookup.{IsColumnCondition}
 use Rattle.su_query.specs.NumberedConditions.{with_columns}
 use Rattle.su_state.specs.declared.faults.StateFault.{StateFault}
-use Rattle.su_state.specs.declared.faults.StateFault.TheVariants.{UnknownRelation}
 use Rattle.su_state.specs.declared.faults.LoadFault.{LoadFault}
 use Rattle.su_state.specs.declared.faults.LoadEnd.TheVariants as load
 use Rattle.su_state.specs.DatabaseValue.{DatabaseValue, columns_of}
@@ -24,14 +23,7 @@ use Rattle.su_session.specs.Outcomes.{Accepts, Refuses}
 use Rattle.su_session.specs.RowStatements.{InRelation, InsertsRow, DeletesRow, DeletesRows, LoadsRows}
 use Rattle.su_session.proofs.Relations.{columns_are}
 
--- no relation has the name, and the fault says so
-abbrev pub IsUnknown : DatabaseValue → List ℕ → StateFault → Type 0
-IsUnknown db name fault = (fault ≡ UnknownRelation name) × (place_of (relation_names db.schema) name ≡ None)
-
 module _ (db : DatabaseValue) (name : List ℕ) (reply : Reply) where
-  pub unknown : (new : DatabaseValue) (Known : ℕ → Type 0) (fault : StateFault) → Refuses db (State fault) reply new → IsUnknown db name fault → InRelation db name reply new Known
-  unknown new Known fault refuses (is, none) = inl (none, subst (λ (f : StateFault). Refuses db (State f) reply new) is refuses)
-
   pub refused_insert : (new : DatabaseValue) (r : ℕ) (row : List Value) (fault : StateFault) → Inserts db r row (Err fault) new → Refuses new (State fault) reply new → InsertsRow db row reply new r
   refused_insert new r row fault h refuses = (Err fault, h, subst (λ (old : DatabaseValue). Refuses old (State fault) reply new) h.1 refuses)
 

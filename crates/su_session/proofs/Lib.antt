@@ -1,10 +1,10 @@
 pub mod Asked
-pub mod Certified
 pub mod ChangeReplies
 pub mod Compared
 pub mod DefinitionReplies
 pub mod Loads
 pub mod NameRefusals
+pub mod QueryRefusals
 pub mod Relations
 pub mod Retrieved
 pub mod Texts

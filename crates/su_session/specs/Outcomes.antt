@@ -1,6 +1,7 @@
 -- How an outcome is told.
 -- accepted: the text alone; refused: the line of the refusal, and the database is as before
 use Rattle.std.specs.Prelude.{◌≡◌, ℕ, Bool, true, false, List, Result, Ok, Err}
+use Rattle.std.specs.List.{list_any}
 use Rattle.su_state.specs.DatabaseValue.{DatabaseValue}
 use Rattle.su_state.specs.declared.faults.StateFault.{StateFault}
 use Rattle.su_state.specs.declared.faults.LoadEnd.{LoadEnd}
@@ -8,7 +9,7 @@ use Rattle.su_state.specs.declared.faults.LoadEnd.TheVariants as load
 use Rattle.su_state.specs.declared.faults.DefineFault.{DefineFault}
 use Rattle.su_show.specs.declared.statement_refusal.Refusal.{Refusal}
 use Rattle.su_show.specs.declared.statement_refusal.Refusal.TheVariants.{State, Record, Define}
-use Rattle.su_show.specs.RefusalLines.{refusal_line}
+use Rattle.su_show.specs.RefusalLines.{IsRefusalLine}
 use Rattle.su_show.specs.Changes.{inserted_text, deleted_text, loaded_text, defined_text}
 use Rattle.su_session.specs.declared.replies.Reply.{Reply}
 
@@ -20,8 +21,12 @@ pub record Accepts (text : List ℕ) (reply : Reply) : Type 0 where
 -- a refused statement with the line of its refusal; nothing changes
 pub record Refuses (db : DatabaseValue) (refusal : Refusal) (reply : Reply) (new : DatabaseValue) : Type 0 where
   pub refused : reply.refused ≡ true
-  pub line : reply.bytes ≡ refusal_line db.schema refusal
+  pub line : IsRefusalLine db.schema refusal reply.bytes
   pub same : new ≡ db
+
+-- some reply is a refusal
+abbrev pub some_refused : List Reply → Bool
+some_refused replies = list_any (λ reply. reply.refused) replies
 
 -- the answer to an insert
 abbrev pub TellsInsert : DatabaseValue → Result Bool StateFault → Reply → DatabaseValue → Type 0

@@ -4,7 +4,7 @@ ghost use Rattle.su_where.specs.Truth.{comparisons_of};
 ghost use Rattle.su_query.specs.Mentions.{are_columns};
 ghost use Rattle.su_session.specs.RowStatements.{InRelation, InsertsRow, DeletesRow, DeletesRows, LoadsRows};
 
-use crate::replies::{Reply, accepted, refused};
+use crate::replies::{Reply, accepted, known, refused, unknown};
 use std::alloc::Global;
 use su_base::{NoMemory, Row, Str};
 use su_csv::read;
@@ -22,9 +22,8 @@ pub(crate) fn insert(
     ensures schema { db.new.schema ≡ db.old.schema }
     ensures unchanged { OnErr result (db.new ≡ db.old) }
 {
-    let relation = match db.relation(name.as_str()) {
-        Ok(relation) => relation,
-        Err(fault) => return refused(alloc, db, Refusal::State(fault)),
+    let Some(relation) = known(db, name) else {
+        return unknown(alloc, db, name);
     };
     let room = Room::new(alloc)?;
     match db.insert(relation, row) {
@@ -44,9 +43,8 @@ pub(crate) fn delete(
     ensures schema { db.new.schema ≡ db.old.schema }
     ensures unchanged { OnErr result (db.new ≡ db.old) }
 {
-    let relation = match db.relation(name.as_str()) {
-        Ok(relation) => relation,
-        Err(fault) => return refused(alloc, db, Refusal::State(fault)),
+    let Some(relation) = known(db, name) else {
+        return unknown(alloc, db, name);
     };
     let room = Room::new(alloc)?;
     match db.delete(relation, row) {
@@ -68,9 +66,8 @@ pub(crate) fn delete_where(
     ensures schema { db.new.schema ≡ db.old.schema }
     ensures unchanged { OnErr result (db.new ≡ db.old) }
 {
-    let relation = match db.relation(name.as_str()) {
-        Ok(relation) => relation,
-        Err(fault) => return refused(alloc, db, Refusal::State(fault)),
+    let Some(relation) = known(db, name) else {
+        return unknown(alloc, db, name);
     };
     let cond = match resolve_columns(alloc, db.schema(), relation, cond) {
         Ok(cond) => cond,
@@ -91,9 +88,8 @@ pub(crate) fn load(
     ensures schema { db.new.schema ≡ db.old.schema }
     ensures unchanged { OnErr result (db.new ≡ db.old) }
 {
-    let relation = match db.relation(name.as_str()) {
-        Ok(relation) => relation,
-        Err(fault) => return refused(alloc, db, Refusal::State(fault)),
+    let Some(relation) = known(db, name) else {
+        return unknown(alloc, db, name);
     };
     let rows = match read(alloc, file, db.schema().columns(relation)) {
         Ok(rows) => rows,

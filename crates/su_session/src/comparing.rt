@@ -1,12 +1,12 @@
 //! Two queries compared.
-ghost use Rattle.std.specs.Prelude.{◌≡◌, ◌↔◌, ◌⊎◌, ◌≤◌, length, IsTrue, OnOk, IfOk, IfErr};
+ghost use Rattle.std.specs.Prelude.{◌≡◌, ◌↔◌, ◌⊎◌, ◌≤◌, ℕ, List, length, IsTrue, OnOk, IfOk, IfErr};
 ghost use Rattle.su_maxobj.specs.MaximalObjects.{AreMaximalObjects};
 ghost use Rattle.su_query.specs.NumberedConditions.{resolved_of};
 ghost use Rattle.su_query.specs.Ranges.{IsResolved};
 ghost use Rattle.su_query.specs.Limits.{AreFew};
 ghost use Rattle.su_steps.specs.Refusals.{IsAccepted};
 ghost use Rattle.su_compare.specs.Within.{AreOf};
-ghost use Rattle.su_show.specs.RefusalLines.{IsNoMemory};
+ghost use Rattle.su_show.specs.RefusalLines.{IsRefusalLine};
 ghost use Rattle.su_session.specs.ComparableQueries.{AskEqualities, AreOfOneForm, IsFormRefusal};
 ghost use Rattle.su_session.specs.Comparisons.{IsTermsRefusal, Compares};
 
@@ -72,7 +72,7 @@ fn resolve_both(
     ensures first { IfOk result (λ pair. (pair.first ≡ resolved_of schema.now first.now) × IsResolved schema.now pair.first) }
     ensures second { IfOk result (λ pair. (pair.second ≡ resolved_of schema.now second.now) × IsResolved schema.now pair.second) }
     ensures form { OnOk result (AreOfOneForm schema.now first.now second.now) }
-    ensures refused { IfErr result (λ why. IsNoMemory why ⊎ IsFormRefusal schema.now first.now second.now why) }
+    ensures refused { IfErr result (λ why. (line : List ℕ) → IsRefusalLine schema.now why line → IsFormRefusal schema.now first.now second.now why) }
 {
     let first = match resolve(alloc, schema, first) {
         Ok(first) => first,

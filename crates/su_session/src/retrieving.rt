@@ -1,10 +1,10 @@
 //! Queries over the universal relation.
-ghost use Rattle.std.specs.Prelude.{◌≡◌, ◌⊎◌, ◌≤◌, IfOk, IfErr};
+ghost use Rattle.std.specs.Prelude.{◌≡◌, ◌≤◌, ℕ, List, IfOk, IfErr};
 ghost use Rattle.su_maxobj.specs.MaximalObjects.{AreMaximalObjects};
 ghost use Rattle.su_query.specs.NumberedConditions.{resolved_of};
 ghost use Rattle.su_query.specs.Limits.{AreFew};
 ghost use Rattle.su_answer.specs.Prepared.{IsPrepared};
-ghost use Rattle.su_show.specs.RefusalLines.{IsNoMemory};
+ghost use Rattle.su_show.specs.RefusalLines.{IsRefusalLine};
 ghost use Rattle.su_session.specs.Retrievals.{IsRefusalOf, HasTerms, Retrieves};
 ghost use Rattle.su_session.specs.Explanations.{Explains};
 
@@ -52,7 +52,7 @@ pub(crate) fn make_ready<R: Threads + Sync, G: Gate>(
     ensures resolved { IfOk result (λ ready. ready.resolved ≡ resolved_of db.now.schema query.now) }
     ensures prepared { IfOk result (λ ready. IsPrepared db.now.schema maximal.now ready.resolved ready.prepared) }
     ensures terms { IfOk result (λ ready. HasTerms db.now.schema maximal.now query.now) }
-    ensures refused { IfErr result (λ why. IsNoMemory why ⊎ IsRefusalOf db.now.schema maximal.now query.now why) }
+    ensures refused { IfErr result (λ why. (line : List ℕ) → IsRefusalLine db.now.schema why line → IsRefusalOf db.now.schema maximal.now query.now why) }
 {
     db.keeps_its_rules();
     a_schema_has_few_maximal_objects();

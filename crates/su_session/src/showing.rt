@@ -5,7 +5,7 @@ ghost use Rattle.su_schema.specs.Entries.{column_names};
 ghost use Rattle.su_session.specs.RowStatements.{InRelation};
 ghost use Rattle.su_session.specs.Statements.{PrintsRows, ShowsSchema, ShowsClosure};
 
-use crate::replies::{Reply, accepted, refused};
+use crate::replies::{Reply, accepted, known, refused, unknown};
 use std::alloc::Global;
 use su_base::{Column, List, NoMemory, ObjSet, Str};
 use su_query::resolve_attributes;
@@ -26,9 +26,8 @@ fn names(alloc: Global, columns: &[Column]) -> Result<List<Str>, NoMemory>
 pub(crate) fn print(alloc: Global, db: &Database, name: &Str) -> Result<Reply, NoMemory>
     ensures { IfOk result (λ reply. InRelation db.now name.now reply db.now (PrintsRows db.now reply db.now)) }
 {
-    let relation = match db.relation(name.as_str()) {
-        Ok(relation) => relation,
-        Err(fault) => return refused(alloc, db, Refusal::State(fault)),
+    let Some(relation) = known(db, name) else {
+        return unknown(alloc, db, name);
     };
     let header = names(alloc, db.schema().columns(relation))?;
     let sorted = db.rows(relation)?;

@@ -9,7 +9,7 @@ use Rattle.su_steps.specs.declared.results.Term.{Term}
 use Rattle.su_min.specs.declared.reduced.Reduced.{Reduced}
 use Rattle.su_min.specs.Kept.{Minimised}
 use Rattle.su_show.specs.Lines.{AreLines}
-use Rattle.su_show.specs.inside.Adding.{Adds}
+use Rattle.su_show.specs.inside.AddedTexts.{Adds}
 use Rattle.su_show.specs.Explanations.{query_line, variables_line, last_line, IsTermText, IsExplanation}
 use Rattle.su_show.specs.TableauLines.{tableau_lines}
 use Rattle.su_show.specs.MinimalLines.{minimal_lines, IsEnd}

@@ -2,7 +2,7 @@
 use Rattle.std.proofs.Common.{◌≡◌, ◌+◌, ℕ, List, [], ◌∷◌, ◌++◌, refl, sym, ap, ◌∙◌, subst, append_assoc, append-nil}
 use Rattle.std.specs.List.{range_with_len}
 use Rattle.su_show.specs.Lines.{AreLines}
-use Rattle.su_show.specs.inside.Adding.{Adds}
+use Rattle.su_show.specs.inside.AddedTexts.{Adds}
 use Rattle.std.specs.Int.{bit_at}
 use Rattle.su_map.specs.Lists.{numbers_of}
 use Rattle.su_show.proofs.Numbers.{keep_if-in, keep_if-out, numbers_of-more}

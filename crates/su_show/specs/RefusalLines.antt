@@ -1,11 +1,11 @@
 -- The line of a refused statement, by its refusal. The numbers of relations, columns, dependencies, objects and attributes are those of the schema.
 -- cause: what stands behind `refused: `
-use Rattle.std.specs.Prelude.{◌≡◌, ◌⊎◌, ℕ, List, [], ◌++◌, codes}
+use Rattle.std.specs.Prelude.{◌≡◌, ◌≢◌, ℕ, List, [], ◌++◌, codes}
 use Rattle.su_base.specs.declared.values.Value.{Value}
 use Rattle.su_schema.specs.SchemaValue.{SchemaValue}
 use Rattle.su_csv.specs.declared.faults.CsvFault.TheVariants as csv
 use Rattle.su_query.specs.declared.faults.QueryFault.TheVariants as query
-use Rattle.su_schema.specs.declared.faults.SchemaFault.TheVariants as schema
+use Rattle.su_schema.specs.declared.faults.SchemaFault.TheVariants as definition
 use Rattle.su_state.specs.declared.faults.StateFault.TheVariants as state
 use Rattle.su_state.specs.declared.faults.DefineFault.{DefineFault}
 use Rattle.su_state.specs.declared.faults.DefineFault.TheVariants as define
@@ -27,31 +27,21 @@ define_text schema define.NoMemory = []
 abbrev pub inconsistent_text : Value → Value → List ℕ
 inconsistent_text less greater = codes "inconsistent " ++ value_text less ++ codes " and " ++ value_text greater
 
--- why a statement is refused
-abbrev pub refusal_text : SchemaValue → Refusal → List ℕ
-refusal_text schema (Query fault) = query_fault_text fault
-refusal_text schema (State fault) = state_text schema fault
-refusal_text schema (Record fault) = record_text fault.number (state_text schema fault.fault)
-refusal_text schema (Csv relation fault) = csv_text schema relation fault
-refusal_text schema (Steps fault) = step_text schema fault
-refusal_text schema Answer = codes "limit answer 1000000"
-refusal_text schema Nodes = codes "limit nodes 200000"
-refusal_text schema (Define fault) = define_text schema fault
-refusal_text schema OnlyEqual = codes "only equalities"
-refusal_text schema OutputsDiffer = codes "outputs differ"
-refusal_text schema WindowLimit = codes "limit window 20000"
-refusal_text schema (Inconsistent less greater) = inconsistent_text less greater
+-- why a statement is refused: the refusal isn't want of memory, which has no text, and this holds of its text
+abbrev pub HasText : SchemaValue → Refusal → (List ℕ → Type 0) → Type 0
+HasText schema (Query fault) Holds = (fault ≢ query.NoMemory) × Holds (query_fault_text fault)
+HasText schema (State fault) Holds = (fault ≢ state.NoMemory) × Holds (state_text schema fault)
+HasText schema (Record fault) Holds = (fault.fault ≢ state.NoMemory) × Holds (record_text fault.number (state_text schema fault.fault))
+HasText schema (Csv relation fault) Holds = (fault ≢ csv.NoMemory) × Holds (csv_text schema relation fault)
+HasText schema (Steps fault) Holds = (fault ≢ step.NoMemory) × Holds (step_text schema fault)
+HasText schema Answer Holds = Holds (codes "limit answer 1000000")
+HasText schema Nodes Holds = Holds (codes "limit nodes 200000")
+HasText schema (Define fault) Holds = (fault ≢ define.NoMemory) × (fault ≢ define.Schema definition.NoMemory) × Holds (define_text schema fault)
+HasText schema OnlyEqual Holds = Holds (codes "only equalities")
+HasText schema OutputsDiffer Holds = Holds (codes "outputs differ")
+HasText schema WindowLimit Holds = Holds (codes "limit window 20000")
+HasText schema (Inconsistent less greater) Holds = Holds (inconsistent_text less greater)
 
--- the line of a refused statement
-abbrev pub refusal_line : SchemaValue → Refusal → List ℕ
-refusal_line schema refusal = codes "refused: " ++ refusal_text schema refusal ++ codes "\n"
-
--- the refusal is want of memory, which is never told
-abbrev pub IsNoMemory : Refusal → Type 0
-IsNoMemory (Query fault) = fault ≡ query.NoMemory
-IsNoMemory (State fault) = fault ≡ state.NoMemory
-IsNoMemory (Record fault) = fault.fault ≡ state.NoMemory
-IsNoMemory (Csv relation fault) = fault ≡ csv.NoMemory
-IsNoMemory (Steps fault) = fault ≡ step.NoMemory
-IsNoMemory (Define fault) = (fault ≡ define.NoMemory) ⊎ (fault ≡ define.Schema schema.NoMemory)
-IsNoMemory _ = ⊥
+-- the line of a refused statement; want of memory has none
+abbrev pub IsRefusalLine : SchemaValue → Refusal → List ℕ → Type 0
+IsRefusalLine schema refusal line = HasText schema refusal (λ text. line ≡ codes "refused: " ++ text ++ codes "\n")

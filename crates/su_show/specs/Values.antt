@@ -14,7 +14,7 @@ use Rattle.su_schema.specs.Entries.{attribute_names, object_names}
 use Rattle.su_ddl.specs.ShownDefinitions.{names_in}
 use Rattle.su_query.specs.Operands.{value_sym}
 use Rattle.su_lex.specs.Wordings.{in_parens}
-use Rattle.su_query.specs.ShownParts.{listed, value_symbols}
+use Rattle.su_query.specs.ShownParts.{values_symbols}
 
 -- each name behind a space
 abbrev pub behind_spaces : List (List ℕ) → List ℕ
@@ -38,4 +38,4 @@ value_text v = spelled (value_sym v)
 
 -- the values of a row in parentheses, as they are shown
 abbrev pub row_text : List Value → List ℕ
-row_text row = spaced (in_parens (listed value_symbols row))
+row_text row = spaced (in_parens (values_symbols row))

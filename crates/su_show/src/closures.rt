@@ -3,9 +3,9 @@ ghost use Rattle.std.specs.Prelude.{◌≡◌, ◌++◌, flat_map, IfOk, OnOk};
 ghost use Rattle.su_state.specs.Breaches.{fd_at};
 ghost use Rattle.su_show.specs.Replies.{by_line, closure_reply, IsClosureReply};
 
-use crate::parts::push;
 use crate::values::{push_attributes, push_fd};
 use std::alloc::Global;
+use su_base::parts::push;
 use su_base::{AttrSet, List, NoMemory};
 use su_fd::{Fd, closure as closure_of, derivation};
 use su_schema::Schema;

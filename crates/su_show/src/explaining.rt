@@ -3,10 +3,10 @@ ghost use Rattle.std.specs.Prelude.{◌≡◌, ◌++◌, ◌<◌, length, IfOk, 
 ghost use Rattle.su_show.specs.Explanations.{query_line, variables_line, last_line, IsTermText, IsExplanation};
 
 use crate::minimal_lines::{push_end, push_minimal};
-use crate::parts::{push, push_number};
 use crate::symbols::variable;
 use crate::tableau_lines::push_tableau;
 use std::alloc::Global;
+use su_base::parts::{push, push_number};
 use su_base::{List, NoMemory};
 use su_min::{Minimal, Reduced};
 use su_query::{Query, Resolved, show_query};

@@ -2,8 +2,9 @@
 ghost use Rattle.std.specs.Prelude.{◌≡◌, ◌++◌, IfOk, OnOk, codes, decimal};
 ghost use Rattle.su_show.specs.Refusals.{limit_text, cause_text, schema_line, IsOfText};
 
-use crate::parts::{push, push_all, push_number};
+use crate::parts::push_all;
 use std::alloc::Global;
+use su_base::parts::{push, push_number};
 use su_base::{List, NoMemory};
 use su_ddl::DdlFault;
 use su_schema::{SchemaFault, SchemaLimit};

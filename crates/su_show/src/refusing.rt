@@ -2,17 +2,18 @@
 ghost use Rattle.std.specs.Prelude.{◌≡◌, ◌≢◌, ◌++◌, codes, decimal, flat_map, IfOk, OnOk};
 ghost use Rattle.su_show.specs.QueryCauses.{kind_text, query_limit_text, query_fault_text, step_limit_text, step_text};
 ghost use Rattle.su_show.specs.RowCauses.{column_text, state_text, record_text, csv_text};
-ghost use Rattle.su_show.specs.RefusalLines.{define_text, inconsistent_text, refusal_text, refusal_line, IsNoMemory};
+ghost use Rattle.su_show.specs.RefusalLines.{define_text, inconsistent_text, HasText, IsRefusalLine};
 ghost use Rattle.su_show.specs.Refusals.{cause_text};
 
 use crate::closures::fd_at;
 use crate::columns::{column_name, width};
-use crate::parts::{push, push_all, push_number};
+use crate::parts::push_all;
 use crate::refusals::push_cause;
 use crate::statement_refusal::Refusal;
 use crate::symbols::variable;
 use crate::values::{push_attributes, push_fd, push_row, push_value};
 use std::alloc::Global;
+use su_base::parts::{push, push_number};
 use su_base::{AttrSet, Kind, List, NoMemory, Str, Value};
 use su_csv::CsvFault;
 use su_query::{QueryFault, QueryLimit};
@@ -123,6 +124,19 @@ fn push_record(alloc: Global, out: &mut Vec<u8>, number: u64, said: &[&str]) -> 
     push_all(out, said)
 }
 
+fn push_load(
+    alloc: Global,
+    out: &mut Vec<u8>,
+    schema: &Schema,
+    fault: &LoadFault,
+) -> Result<(), NoMemory>
+    ensures text { OnOk result (out.new.items ≡ out.old.items ++ record_text fault.now.number (state_text schema.now fault.now.fault)) }
+    ensures told { OnOk result (fault.now.fault ≢ StateFault.NoMemory) }
+{
+    push_record(alloc, out, fault.number, &[])?;
+    push_state(alloc, out, schema, &fault.fault)
+}
+
 fn push_csv(
     alloc: Global,
     out: &mut Vec<u8>,
@@ -227,16 +241,12 @@ fn push_refusal(
     schema: &Schema,
     refusal: &Refusal,
 ) -> Result<(), NoMemory>
-    ensures text { OnOk result (out.new.items ≡ out.old.items ++ refusal_text schema.now refusal.now) }
-    ensures told { OnOk result (¬ IsNoMemory refusal.now) }
+    ensures { OnOk result (HasText schema.now refusal.now (λ text. out.new.items ≡ out.old.items ++ text)) }
 {
     match refusal {
         Refusal::Query(fault) => push_query(out, fault),
         Refusal::State(fault) => push_state(alloc, out, schema, fault),
-        Refusal::Record(LoadFault { number, fault }) => {
-            push_record(alloc, out, *number, &[])?;
-            push_state(alloc, out, schema, fault)
-        }
+        Refusal::Record(fault) => push_load(alloc, out, schema, fault),
         Refusal::Csv(relation, fault) => push_csv(alloc, out, schema, *relation, *fault),
         Refusal::Steps(fault) => push_step(alloc, out, schema, fault),
         Refusal::Answer => push(out, "limit answer 1000000"),
@@ -251,8 +261,7 @@ fn push_refusal(
 
 /// The line of a refused statement, with its line feed. Want of memory is no refusal and is handed on.
 pub fn refusal(alloc: Global, schema: &Schema, refusal: &Refusal) -> Result<List<u8>, NoMemory>
-    ensures line { IfOk result (λ text. text ≡ refusal_line schema.now refusal.now) }
-    ensures of_text { OnOk result (¬ IsNoMemory refusal.now) }
+    ensures { IfOk result (λ line. IsRefusalLine schema.now refusal.now line) }
 {
     let mut out = Vec::new(alloc);
     push(&mut out, "refused: ")?;

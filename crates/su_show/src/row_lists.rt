@@ -2,8 +2,8 @@
 ghost use Rattle.std.specs.Prelude.{◌≡◌, ◌<◌, length, All, IfOk};
 ghost use Rattle.su_show.specs.Replies.{rows_text};
 
-use crate::parts::{push, push_number};
 use std::alloc::Global;
+use su_base::parts::{push, push_number};
 use su_base::{List, NoMemory, Row, Str};
 use su_csv::write_behind;
 

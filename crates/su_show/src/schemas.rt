@@ -2,9 +2,9 @@
 ghost use Rattle.std.specs.Prelude.{◌≡◌, ◌++◌, ◌<◌, ◌≤◌, ◌^◌, length, take, IfOk, OnOk};
 ghost use Rattle.su_show.specs.Replies.{schema_reply, maximal_line, maximal_lines};
 
-use crate::parts::{push, push_number};
 use crate::values::push_objects;
 use std::alloc::Global;
+use su_base::parts::{push, push_number};
 use su_base::{List, NoMemory, ObjSet};
 use su_ddl::show;
 use su_schema::Schema;

@@ -2,8 +2,8 @@
 ghost use Rattle.std.specs.Prelude.{◌≡◌, ◌++◌, flat_map, IfOk, OnOk};
 ghost use Rattle.su_show.specs.Supports.{shape_text, left_text, row_number_text, candidates_text, counted_line, support_lines, supports_text};
 
-use crate::parts::{push, push_number};
 use std::alloc::Global;
+use su_base::parts::{push, push_number};
 use su_base::{List, NoMemory};
 use su_reduce::{Counted, Support};
 

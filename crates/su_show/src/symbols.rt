@@ -8,8 +8,8 @@ ghost use Rattle.su_steps.specs.Objects.{attributes_at, width};
 ghost use Rattle.su_show.specs.QueryCauses.{variable_text};
 ghost use Rattle.su_show.specs.Symbols.{variable_at, pair_ref, symbol_text, symbol_at};
 
-use crate::parts::push;
 use std::alloc::Global;
+use su_base::parts::push;
 use su_base::{AttrSet, NoMemory, Str, Value};
 use su_lex::{Symbol, push_symbol};
 use su_query::Resolved;

@@ -2,33 +2,22 @@
 ghost use Rattle.std.specs.Prelude.{◌≡◌, ◌++◌, ◌<◌, [], length, flat_map, get_or, OnOk};
 ghost use Rattle.su_lex.specs.Spelling.{spelled};
 ghost use Rattle.su_query.specs.Operands.{op_sym};
-ghost use Rattle.su_lex.specs.Wordings.{numbers_text};
 ghost use Rattle.su_show.specs.RowLines.{symbols_text, cell_text, row_lines};
 ghost use Rattle.su_show.specs.inside.TermParts.{origin_text, attributes_of};
 ghost use Rattle.su_show.specs.TableauLines.{term_line, head_line, operator_at, compare_line, compare_lines, tableau_lines};
 
-use crate::parts::{push, push_number};
 use crate::symbols::{
     attribute_name, object_attributes, object_name, push_sym, push_sym_at, variable_of,
 };
 use std::alloc::Global;
+use su_base::parts::{push, push_number};
 use su_base::{AttrSet, NoMemory};
+use su_lex::push_numbers;
 use su_query::Resolved;
 use su_schema::Schema;
 use su_steps::{Origin, Term};
 use su_tableau::{Sym, Tableau};
 use su_where::Op;
-
-/// Each number behind a space.
-pub(crate) fn push_numbers(alloc: Global, out: &mut Vec<u8>, numbers: &[u8]) -> Result<(), NoMemory>
-    ensures { OnOk result (out.new.items ≡ out.old.items ++ numbers_text numbers.now) }
-{
-    for number in numbers {
-        push(out, " ")?;
-        push_number(alloc, out, *number as u64)?;
-    }
-    Ok(())
-}
 
 fn push_first(alloc: Global, out: &mut Vec<u8>, number: usize, term: &Term) -> Result<(), NoMemory>
     ensures { OnOk result (out.new.items ≡ out.old.items ++ term_line number term.now) }

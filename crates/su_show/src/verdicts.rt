@@ -2,8 +2,8 @@
 ghost use Rattle.std.specs.Prelude.{◌≡◌, ◌++◌, IfOk, OnOk};
 ghost use Rattle.su_show.specs.Verdicts.{term_text, fault_text, verdict_text, verdict_line};
 
-use crate::parts::{push, push_number};
 use std::alloc::Global;
+use su_base::parts::{push, push_number};
 use su_base::{List, NoMemory};
 use su_check::{Checked, Fault};
 

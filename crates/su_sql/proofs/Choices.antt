@@ -1,8 +1,8 @@
 -- The choices that meet the conditions of a task's select are the task's valuations.
-use Rattle.std.proofs.Common.{◌≡◌, ◌↔◌, ⊎_elim, ℕ, ◌<◌, Bool, true, false, cond, List, [], ◌∷◌, map, length, get_or, Contains, All, Some, refl, sym, ap, ◌∙◌, subst, pos, arith}
-use Rattle.std.specs.Prelude.{◌&&◌, ◌==◌, find, IsTrue, slice_index_or}
+use Rattle.std.proofs.Common.{◌≡◌, ◌↔◌, ⊎_elim, ℕ, ◌<◌, true, false, cond, List, [], ◌∷◌, map, length, get_or, Contains, All, Some, refl, sym, ap, ◌∙◌, subst, pos, arith}
+use Rattle.std.specs.Prelude.{◌==◌, find, IsTrue, slice_index_or}
 use Rattle.std.specs.List.{AllZip, range_with_len}
-use Rattle.std.proofs.lemmas.Bool.{true≢false, false≢true, eqb-true, eq-eqb}
+use Rattle.std.proofs.lemmas.Bool.{true≢false, false≢true, eqb-true, eq-eqb, and_parts}
 use Rattle.std.proofs.lemmas.List.{get_or-map, get_or_default, length-map, ext_get_or}
 use Rattle.std.proofs.lemmas.List.Elements.{All-contains, All-from_recursion, Contains-get_or}
 use Rattle.su_base.specs.declared.values.Value.{Value}
@@ -39,13 +39,9 @@ variable_is k (Const v) f = absurd (false≢true f)
 variable_there : (k : ℕ) → is_variable k (Var k) ≡ true
 variable_there k = eq-eqb k k refl
 
-both_true : (a b : Bool) → (a && b) ≡ true → (a ≡ true) × (b ≡ true)
-both_true true b h = (refl, h)
-both_true false b h = absurd (false≢true h)
-
 same_is : (p q : CellPlace) → is_same p q ≡ true → p ≡ q
 same_is p q h =
-    let b = both_true (p.table == q.table) (p.cell == q.cell) h in
+    let b = and_parts (p.table == q.table) (p.cell == q.cell) h in
     let t = eqb-true p.table q.table b.0 in
     let c = eqb-true p.cell q.cell b.1 in
     ap (λ n. place n p.cell) t ∙ ap (place q.table) c

@@ -1,15 +1,10 @@
 -- Lists that are made number by number.
-use Rattle.std.proofs.Common.{◌≡◌, ℕ, ◌+◌, List, [], ◌∷◌, ◌++◌, map, flat_map, sym, ap, ◌∙◌, arith, append_assoc, append-nil}
+use Rattle.std.proofs.Common.{◌≡◌, ℕ, ◌+◌, List, [], ◌∷◌, ◌++◌, map, flat_map, sym, ap, ◌∙◌, arith, append_assoc}
 use Rattle.std.specs.List.{range_with_len}
-use Rattle.std.proofs.lemmas.Grind.{flat_map-append}
 use Rattle.std.proofs.lemmas.List.FromFn.{map-range_with_len_more}
-use Rattle.su_base.proofs.Items.{range-push_zero}
+use Rattle.su_base.proofs.Items.{flat_map-push, range-push_zero}
 
--- the image of the next number
-pub images_next : {X : Type 0} (f : ℕ → X) (i : ℕ) (x : X) (before after : List X) → before ≡ map f (range_with_len 0 i) → after ≡ before ++ x ∷ [] → x ≡ f i → after ≡ map f (range_with_len 0 (i + 1))
-images_next {X} f i x before after so e is = e ∙ ap (λ (xs : List X). xs ++ x ∷ []) so ∙ ap (λ (y : X). map f (range_with_len 0 i) ++ y ∷ []) is ∙ sym (map-range_with_len_more f 0 i i (omega arith))
-
--- the same behind others
+-- the image of the next number, behind others
 pub images_behind : {X : Type 0} (f : ℕ → X) (i : ℕ) (x : X) (old before after : List X) → before ≡ old ++ map f (range_with_len 0 i) → after ≡ before ++ x ∷ [] → x ≡ f i → after ≡ old ++ map f (range_with_len 0 (i + 1))
 images_behind {X} f i x old before after so e is =
     e ∙ ap (λ (xs : List X). xs ++ x ∷ []) so ∙ append_assoc old (map f (range_with_len 0 i)) (x ∷ []) ∙ ap (λ (xs : List X). old ++ xs) (ap (λ (y : X). map f (range_with_len 0 i) ++ y ∷ []) is ∙ sym (map-range_with_len_more f 0 i i (omega arith)))
@@ -17,7 +12,7 @@ images_behind {X} f i x old before after so e is =
 -- the images of the next number, which are lists
 pub flat_next : {X : Type 0} (f : ℕ → List X) (i : ℕ) (before after : List X) → before ≡ flat_map f (range_with_len 0 i) → after ≡ before ++ f i → after ≡ flat_map f (range_with_len 0 (i + 1))
 flat_next {X} f i before after so e =
-    let more : flat_map f (range_with_len 0 (i + 1)) ≡ flat_map f (range_with_len 0 i) ++ f i = ap (flat_map f) (range-push_zero i) ∙ flat_map-append f (range_with_len 0 i) (i ∷ []) ∙ ap (λ (t : List X). flat_map f (range_with_len 0 i) ++ t) (append-nil (f i)) in
+    let more : flat_map f (range_with_len 0 (i + 1)) ≡ flat_map f (range_with_len 0 i) ++ f i = ap (flat_map f) (range-push_zero i) ∙ flat_map-push f (range_with_len 0 i) i in
     e ∙ ap (λ (t : List X). t ++ f i) so ∙ sym more
 
 -- five parts behind others

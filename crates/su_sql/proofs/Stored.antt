@@ -1,41 +1,35 @@
 -- Over any stored rows the outputs of a kept term's join are the term's answers.
-use Rattle.std.proofs.Common.{◌≡◌, ◌↔◌, ℕ, ◌+◌, ◌*◌, ◌<◌, List, [], map, length, get_or, Contains, Option, Some, All, refl, sym, ap, ◌∙◌, subst, pos, arith}
-use Rattle.std.specs.Prelude.{IsTrue, take}
+use Rattle.std.proofs.Common.{◌≡◌, ◌↔◌, ℕ, ◌<◌, List, [], map, length, get_or, Contains, Option, Some, sym, ap, ◌∙◌, subst, arith}
 use Rattle.std.specs.Int.{bit_at}
 use Rattle.std.specs.List.{range_with_len}
 use Rattle.std.specs.FinSet.{contains}
-use Rattle.std.proofs.lemmas.List.{get_or-map, get_or_default, take-map, length-map}
-use Rattle.std.proofs.lemmas.List.Elements.{All-contains, All-from_recursion}
+use Rattle.std.proofs.lemmas.List.{get_or_default, length-map}
+use Rattle.std.proofs.lemmas.List.Elements.{All-contains}
 use Rattle.std.proofs.lemmas.Option.{same_Some}
 use Rattle.su_base.specs.declared.values.Kind.{Kind}
 use Rattle.su_base.specs.declared.values.Column.{Column}
 use Rattle.su_base.specs.declared.values.Value.{Value}
-use Rattle.su_base.specs.declared.values.Value.TheVariants.{Int}
 use Rattle.su_base.specs.Value.{kind_of}
-use Rattle.su_where.specs.declared.operators.Op.TheVariants.{Equal}
-use Rattle.su_where.specs.Operator.{compares}
 use Rattle.su_tableau.specs.declared.symbols.Sym.{Sym}
 use Rattle.su_tableau.specs.declared.symbols.Sym.TheVariants.{Var}
 use Rattle.su_tableau.specs.Tableaux.{Tab, IsValid}
-use Rattle.su_tableau.specs.Valuations.{value_of, values_of, AreCompared, Cut}
+use Rattle.su_tableau.specs.Valuations.{value_of, values_of, Cut}
 use Rattle.su_tableau.specs.Essential.{HasSymbol, IsEssential}
 use Rattle.su_schema.specs.Entries.{column_of}
 use Rattle.su_schema.specs.Valid as schemas
-use Rattle.su_map.specs.Lists.{row_numbers}
 use Rattle.su_state.specs.DatabaseValue.{DatabaseValue, HasColumnKinds, rows_of, columns_of}
 use Rattle.su_state.specs.Enforced.{read}
 use Rattle.su_state.proofs.Columns.{column_within}
 use Rattle.su_exec.specs.declared.tasks.TaskRow.{TaskRow}
-use Rattle.su_exec.specs.declared.tasks.Compared.{Compared}
 use Rattle.su_exec.specs.declared.tasks.Task.{Task}
-use Rattle.su_exec.specs.Outputs.{Agrees, HoldsUnder as HoldsFor, IsOutput}
-use Rattle.su_steps.proofs.Lists.{all_by, contains_map, of_map, contains_filter, of_filter}
+use Rattle.su_exec.specs.Outputs.{Agrees, IsOutput}
+use Rattle.su_steps.proofs.Lists.{contains_map, of_map, contains_filter, of_filter}
 use Rattle.su_answer.specs.Answers.{IsRead, StoredAnswer}
-use Rattle.su_answer.specs.Joined.{numbers_in, cell, IsTaskRowOf, comparison_at, IsTaskOf}
-use Rattle.su_map.proofs.RowLists.{in_rows, of_rows}
+use Rattle.su_tableau.specs.Parts.{cell_at, row_of}
+use Rattle.su_answer.specs.Joined.{numbers_in, IsTaskRowOf, IsTaskOf}
 use Rattle.su_answer.proofs.ColumnValues.{reads_each, each_read}
+use Rattle.su_answer.proofs.Joined.{answers_by_rows}
 use Rattle.su_base.proofs.Items.{Contains-range, Contains-range_below}
-use Rattle.su_answer.proofs.PairedLists.{zip_first, zip_second}
 use Rattle.su_sql.specs.Stored.{AreStored}
 
 -- a stored row is as wide as its relation
@@ -53,15 +47,15 @@ module _ (db : DatabaseValue) (t : Tab) (m : ℕ) (task : Task) (schema_valid : 
 
     essential_has : (c : ℕ) (x : Sym) → HasSymbol t m i c x → IsEssential t m i c → Contains (numbers_in of'.attributes t.width) c
     essential_has c x h e =
-        let l = h.column_in in
+        let l : c < length (get_or t.rows i []) = h.cell.below in
         let w = row_wide in
         contains_filter (contains of'.attributes) (range_with_len 0 t.width) c (Contains-range t.width c (omega (arith, l, w))) ((of'.essential c).1 e)
 
-    holds_cell : (c : ℕ) → c < t.width → HasSymbol t m i c (cell t i c)
+    holds_cell : (c : ℕ) → c < t.width → HasSymbol t m i c (cell_at (row_of t i) c)
     holds_cell c low =
         let w = row_wide in
         let l : c < length (get_or t.rows i []) = omega (arith, low, w) in
-        record { row_in = row_in; in_set = in_set; column_in = l; is = λ d. get_or_default (get_or t.rows i []) c d (Var 0) l }
+        record { row_in = row_in; in_set = in_set; cell = record { below = l; is = λ d. get_or_default (get_or t.rows i []) c d (Var 0) l } }
 
     row_read : Agrees db.tables v r → IsRead db t m v i
     row_read a =
@@ -69,7 +63,7 @@ module _ (db : DatabaseValue) (t : Tab) (m : ℕ) (task : Task) (schema_valid : 
         let object = s.2.object in
         let in_table : Contains (rows_of db object.relation) a.stored = subst (λ n. Contains (rows_of db n) a.stored) s.2.relation a.in_table in
         let wide = stored_wide db object.relation a.stored stored in_table in
-        let reads = reads_each object a.stored v (cell t i) (numbers_in of'.attributes t.width) a.source.columns s.2.columns
+        let reads = reads_each object a.stored v (cell_at (row_of t i)) (numbers_in of'.attributes t.width) a.source.columns s.2.columns
         (λ k c.
         let w = of_map (column_of object) (numbers_in of'.attributes t.width) (Some k) (subst (λ (xs : List (Option ℕ)). Contains xs (Some k)) (sym s.2.columns) (contains_map (λ (j : ℕ). Some j) a.source.columns k c)) in
         let within = column_within db.schema s.0 object w.0 k schema_valid s.2.is w.2 in
@@ -82,81 +76,23 @@ module _ (db : DatabaseValue) (t : Tab) (m : ℕ) (task : Task) (schema_valid : 
           is = s.2.is;
           row = a.stored;
           stored = in_table;
-          agrees = λ c x h e. reads c (essential_has c x h e) ∙ ap (λ y. Some (value_of v y)) (h.is (Var 0));
+          agrees = λ c x h e. reads c (essential_has c x h e) ∙ ap (λ y. Some (value_of v y)) (h.cell.is (Var 0));
         }
 
     read_row : IsRead db t m v i → Agrees db.tables v r
     read_row k =
         let s = of'.all k.source k.is_source in
         let one : k.object ≡ s.2.object = same_Some k.object s.2.object (sym k.is ∙ s.2.is) in
-        let reads : (c : ℕ) → Contains (numbers_in of'.attributes t.width) c → read s.2.object c k.row ≡ Some (value_of v (cell t i c)) = λ c n.
+        let reads : (c : ℕ) → Contains (numbers_in of'.attributes t.width) c → read s.2.object c k.row ≡ Some (value_of v (cell_at (row_of t i) c)) = λ c n.
         let f = of_filter (contains of'.attributes) (range_with_len 0 t.width) c n in
-        ap (λ o. read o c k.row) (sym one) ∙ k.agrees c (cell t i c) (holds_cell c (Contains-range_below t.width c f.0)) ((of'.essential c).0 f.1) in
+        ap (λ o. read o c k.row) (sym one) ∙ k.agrees c (cell_at (row_of t i) c) (holds_cell c (Contains-range_below t.width c f.0)) ((of'.essential c).0 f.1) in
         record {
           source = s.0;
           of_row = s.1;
           stored = k.row;
           in_table = subst (λ n. Contains (rows_of db n) k.row) (ap (λ o. o.relation) one ∙ sym s.2.relation) k.stored;
-          same = each_read s.2.object k.row v (cell t i) (numbers_in of'.attributes t.width) s.0.columns s.2.columns reads ∙ ap (values_of v) (sym of'.cells);
+          same = each_read s.2.object k.row v (cell_at (row_of t i)) (numbers_in of'.attributes t.width) s.0.columns s.2.columns reads ∙ ap (values_of v) (sym of'.cells);
         }
 
-  -- ---- comparisons
-
-  head_value : (v : ℕ → Value) (k : ℕ) → k < length t.head → get_or (values_of v t.head) k (Int (pos 0)) ≡ value_of v (get_or t.head k (Var 0))
-  head_value v k l = get_or-map (value_of v) t.head k (Var 0) (Int (pos 0)) l
-
-  compared_same : (v : ℕ → Value) (i : ℕ) → i < length t.operators
-      → compares (get_or t.operators i Equal) (get_or (values_of v t.head) (t.outputs + 2 * i) (Int (pos 0))) (get_or (values_of v t.head) (t.outputs + 2 * i + 1) (Int (pos 0)))
-      ≡ compares (comparison_at t i).op (value_of v (comparison_at t i).left) (value_of v (comparison_at t i).right)
-  compared_same v i l =
-      let n = valid.head_length in
-      let left = head_value v (t.outputs + 2 * i) (omega (arith, n, l)) in
-      let right = head_value v (t.outputs + 2 * i + 1) (omega (arith, n, l)) in
-      ap (λ x. compares (get_or t.operators i Equal) x (get_or (values_of v t.head) (t.outputs + 2 * i + 1) (Int (pos 0)))) left ∙ ap (compares (get_or t.operators i Equal) (value_of v (get_or t.head (t.outputs + 2 * i) (Var 0)))) right
-
-  abbrev comparisons : List Compared
-  comparisons = map (comparison_at t) (range_with_len 0 (length t.operators))
-
-  holds_all : (v : ℕ → Value) → AreCompared t (values_of v t.head) → All (HoldsFor v) task.comparisons
-  holds_all v h =
-      subst (λ cs. All (HoldsFor v) cs) (sym is.comparisons)
-      (All-from_recursion (HoldsFor v) comparisons (all_by (HoldsFor v) comparisons (λ c k.
-      let w = of_map (comparison_at t) (range_with_len 0 (length t.operators)) c k in
-      let low = Contains-range_below (length t.operators) w.0 w.1 in
-      subst (HoldsFor v) w.2 (subst IsTrue (compared_same v w.0 low) (h w.0 low)))))
-
-  all_hold : (v : ℕ → Value) → All (HoldsFor v) task.comparisons → AreCompared t (values_of v t.head)
-  all_hold v h = λ i low.
-      let there = contains_map (comparison_at t) (range_with_len 0 (length t.operators)) i (Contains-range (length t.operators) i low) in
-      subst IsTrue (sym (compared_same v i low)) (All-contains (HoldsFor v) comparisons (comparison_at t i) (subst (λ cs. All (HoldsFor v) cs) is.comparisons h) there)
-
-  -- ---- all rows
-
-  agrees_all : (v : ℕ → Value) → ((i : ℕ) → i < length t.rows → bit_at m i ≡ 1 → IsRead db t m v i) → All (Agrees db.tables v) task.rows
-  agrees_all v h = All-from_recursion (Agrees db.tables v) task.rows (all_by (Agrees db.tables v) task.rows (λ r c.
-      let w = zip_second (IsTaskRowOf db.schema t m) (row_numbers t m) task.rows r is.rows c in
-      let n = of_rows t m w.0 w.1 in
-      read_row w.0 r v n.0 n.1 w.2 (h w.0 n.0 n.1)))
-
-  all_read : (v : ℕ → Value) → All (Agrees db.tables v) task.rows → (i : ℕ) → i < length t.rows → bit_at m i ≡ 1 → IsRead db t m v i
-  all_read v h i low set =
-      let w = zip_first (IsTaskRowOf db.schema t m) (row_numbers t m) task.rows i is.rows (in_rows t m i low set) in
-      row_read i w.0 v low set w.2 (All-contains (Agrees db.tables v) task.rows w.0 h w.1)
-
   pub outputs_are_answers : (h : List Value) → IsOutput db.tables task h ↔ Cut t (StoredAnswer db t m) h
-  outputs_are_answers h = (
-    λ o. record {
-      head = values_of o.valuation t.head;
-      member = record { valuation = o.valuation; reads = all_read o.valuation o.agrees; gives = refl };
-      compared = all_hold o.valuation o.holds;
-      outputs = take-map (value_of o.valuation) t.outputs t.head ∙ ap (values_of o.valuation) (sym is.outputs) ∙ o.gives;
-    },
-    λ c.
-        let v = c.member.valuation in
-        record {
-          valuation = v;
-          agrees = agrees_all v c.member.reads;
-          holds = holds_all v (subst (AreCompared t) (sym c.member.gives) c.compared);
-          gives = ap (values_of v) is.outputs ∙ sym (take-map (value_of v) t.outputs t.head) ∙ ap (take t.outputs) c.member.gives ∙ c.outputs;
-        },
-  )
+  outputs_are_answers = answers_by_rows db t m task valid is (λ i r v low set of' h. read_row i r v low set of' h) (λ i r v low set of' there h. row_read i r v low set of' h)

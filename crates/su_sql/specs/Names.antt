@@ -1,6 +1,7 @@
 -- Names as SQL, in the quotes of each engine.
 -- quote: the byte before and behind a name
 use Rattle.std.specs.Prelude.{ℕ, List, [], ◌∷◌, ◌++◌, map, get_or, codes}
+use Rattle.std.specs.List.{join_by}
 use Rattle.su_base.specs.declared.values.Kind.{Kind}
 use Rattle.su_base.specs.declared.values.Kind.TheVariants as kind
 use Rattle.su_schema.specs.SchemaValue.{SchemaValue}
@@ -13,7 +14,7 @@ use Rattle.su_sql.specs.declared.dialects.Dialect.TheVariants.{Postgres, Sqlite,
 -- the parts, the first behind one text and each other one behind the other
 abbrev pub led : List ℕ → List ℕ → List (List ℕ) → List ℕ
 led first next [] = []
-led first next (part ∷ parts) = first ++ part ++ led next next parts
+led first next (part ∷ parts) = first ++ join_by (λ x. x) next (part ∷ parts)
 
 -- the sign around names
 abbrev pub quote_of : Dialect → List ℕ

@@ -1,3 +1,3 @@
 -- Definitions that only contracts of private functions need.
-pub mod Adding
+pub mod AddedStatements
 pub mod DefinedText

@@ -4,9 +4,9 @@ ghost use Rattle.su_sql.specs.Comments.{ends_line, comment_sign, comment_text, l
 
 use crate::columns::push_relation;
 use crate::dialects::Dialect;
-use crate::parts::push;
 use crate::words::push_literal;
 use std::alloc::Global;
+use su_base::parts::push;
 use su_base::{List, NoMemory};
 use su_schema::Schema;
 

@@ -4,9 +4,10 @@ ghost use Rattle.su_sql.specs.Conditions.{kind_at, side_kind, side_text, many_te
 
 use crate::columns::column_kind;
 use crate::dialects::Dialect;
-use crate::parts::{push, push_led};
+use crate::parts::push_led;
 use crate::words::{collation, operator, push_name, push_value};
 use std::alloc::Global;
+use su_base::parts::push;
 use su_base::{Kind, List, NoMemory};
 use su_query::{NamedCond, NamedOperand};
 use su_schema::Schema;

@@ -1,7 +1,7 @@
 //! A script as SQL.
 ghost use Rattle.std.specs.Prelude.{◌≡◌, ◌++◌, IfOk, OnOk};
 ghost use Rattle.su_sql.specs.Changes.{create_text};
-ghost use Rattle.su_sql.specs.inside.Adding.{IsAdded};
+ghost use Rattle.su_sql.specs.inside.AddedStatements.{IsAdded};
 ghost use Rattle.su_sql.specs.Scripts.{tables_text, WritesScript};
 
 use crate::changes::create;

@@ -7,9 +7,10 @@ ghost use Rattle.su_sql.specs.Tables.{source_column, one_at_least, source_column
 
 use crate::columns::{column_kind, push_column, push_relation};
 use crate::dialects::Dialect;
-use crate::parts::{push, push_led, push_number};
+use crate::parts::push_led;
 use crate::tables::Table;
 use std::alloc::Global;
+use su_base::parts::{push, push_number};
 use su_base::{Kind, List, NoMemory};
 use su_exec::Source;
 use su_schema::Schema;
@@ -37,7 +38,7 @@ fn source_column(
     let column = column_of(source, value);
     push_column(&mut out, dialect, schema, source.relation, column as usize)?;
     push(&mut out, " as c")?;
-    push_number(alloc, &mut out, value)?;
+    push_number(alloc, &mut out, value as u64)?;
     Ok(List::from_vec(out))
 }
 
@@ -148,7 +149,7 @@ fn table_part(
     let mut out = Vec::new(alloc);
     push_sources(alloc, &mut out, dialect, schema, sources_at(tables, number))?;
     push(&mut out, " r")?;
-    push_number(alloc, &mut out, number)?;
+    push_number(alloc, &mut out, number as u64)?;
     Ok(List::from_vec(out))
 }
 
@@ -184,7 +185,7 @@ pub(crate) fn push_value_name(
         }
         _ => {
             push(out, "c")?;
-            push_number(alloc, out, value)
+            push_number(alloc, out, value as u64)
         }
     }
 }

@@ -1,13 +1,13 @@
 //! One statement of a script as SQL.
-ghost use Rattle.std.specs.Prelude.{◌≡◌, ◌⊎◌, ◌≤◌, IfOk, IfErr, OnOk};
+ghost use Rattle.std.specs.Prelude.{◌≡◌, ◌≤◌, ℕ, List, IfOk, IfErr, OnOk};
 ghost use Rattle.su_maxobj.specs.MaximalObjects.{AreMaximalObjects};
 ghost use Rattle.su_query.specs.NumberedConditions.{resolved_of};
 ghost use Rattle.su_query.specs.Limits.{AreFew, HasFew};
-ghost use Rattle.su_sql.specs.QueryReplies.{RefusesWith, WritesQuery};
+ghost use Rattle.su_sql.specs.QueryReplies.{RefusesWith, RefusesFor, WritesQuery};
 ghost use Rattle.su_sql.specs.Statements.{WritesReply, WritesStatement, WritesDefinition, Writes};
 ghost use Rattle.su_sql.specs.Accepted.{accepted_text};
 ghost use Rattle.su_sql.specs.inside.DefinedText.{IsDefinedText};
-ghost use Rattle.su_show.specs.RefusalLines.{refusal_line, IsNoMemory};
+ghost use Rattle.su_show.specs.RefusalLines.{IsRefusalLine};
 ghost use Rattle.su_session.specs.Retrievals.{IsRefusalOf, HasTerms};
 ghost use Rattle.su_session.specs.Outcomes.{Accepts};
 ghost use Rattle.su_sql.specs.Meaning.{AreSelectsOf};
@@ -52,8 +52,7 @@ fn refused_line(alloc: Global, line: &[u8]) -> Result<Reply, NoMemory>
 
 /// A refusal as a comment. Want of memory is handed on.
 fn refused(alloc: Global, schema: &Schema, why: Refusal) -> Result<Reply, NoMemory>
-    ensures line { IfOk result (RefusesWith (refusal_line schema.now why)) }
-    ensures told { OnOk result (¬ IsNoMemory why) }
+    ensures { IfOk result (RefusesFor schema.now why) }
 {
     let line = refusal(alloc, schema, &why)?;
     refused_line(alloc, line.as_slice())
@@ -72,7 +71,7 @@ fn selects_of<R: Threads + Sync, G: Gate>(
     requires maximal { AreMaximalObjects db.now.schema maximal.now }
     ensures selects { IfOk result (AreSelectsOf db.now.schema maximal.now (resolved_of db.now.schema query.now)) }
     ensures terms { OnOk result (HasTerms db.now.schema maximal.now query.now) }
-    ensures refused { IfErr result (λ why. IsNoMemory why ⊎ IsRefusalOf db.now.schema maximal.now query.now why) }
+    ensures refused { IfErr result (λ why. (line : List ℕ) → IsRefusalLine db.now.schema why line → IsRefusalOf db.now.schema maximal.now query.now why) }
 {
     db.keeps_its_rules();
     a_schema_has_few_maximal_objects();

@@ -4,8 +4,8 @@ ghost use Rattle.su_sql.specs.Names.{quote_of, name_text};
 ghost use Rattle.su_sql.specs.Texts.{byte_text, literal_text, value_text, kind_text, collation, operator_text};
 
 use crate::dialects::Dialect;
-use crate::parts::push;
 use std::alloc::Global;
+use su_base::parts::push;
 use su_base::{Kind, NoMemory, Value};
 use su_where::Op;
 

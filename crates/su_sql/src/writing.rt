@@ -8,11 +8,12 @@ ghost use Rattle.su_sql.specs.Queries.{outputs_of, select_text, place_number, or
 ghost use Rattle.su_sql.specs.Operands.{place_text, operand_kind, operand_text, ordered_text};
 
 use crate::dialects::Dialect;
-use crate::parts::{push, push_led, push_number};
+use crate::parts::push_led;
 use crate::sources::{kind_from, push_value_name, sources_at, table_parts};
 use crate::tables::{CellPlace, Comparison, Fixed, Join, Operand, Select, Table};
 use crate::words::{collation, operator, push_name, push_value};
 use std::alloc::Global;
+use su_base::parts::{push, push_number};
 use su_base::{Kind, List, NoMemory, Str};
 use su_schema::Schema;
 
@@ -27,7 +28,7 @@ fn push_place(
     ensures { OnOk result (out.new.items ≡ out.old.items ++ place_text dialect schema.now tables.now place) }
 {
     push(out, "r")?;
-    push_number(alloc, out, place.table)?;
+    push_number(alloc, out, place.table as u64)?;
     push(out, ".")?;
     push_value_name(
         alloc,
@@ -300,7 +301,7 @@ fn number_part(alloc: Global, number: usize) -> Result<List<u8>, NoMemory>
     ensures { IfOk result (λ part. part ≡ decimal number) }
 {
     let mut out = Vec::new(alloc);
-    push_number(alloc, &mut out, number)?;
+    push_number(alloc, &mut out, number as u64)?;
     Ok(List::from_vec(out))
 }
 

@@ -2,26 +2,11 @@ use std::alloc::Global;
 use std::test::Fail;
 use std::thread::Threads;
 use su_base::NoMemory;
+use su_cases::BANK;
 use su_ddl::read;
 use su_par::OpenGate;
 use su_session::Session;
 use su_sql::{Dialect, statement};
-
-const BANK: &str = "
-    attribute BANK text; attribute ACCT int; attribute CUST text; attribute BAL int;
-    attribute LOAN int; attribute AMT int; attribute ADDR text;
-    relation BA (BANK text, ACCT int); relation AC (ACCT int, CUST text);
-    relation AB (ACCT int, BAL int); relation BL (BANK text, LOAN int);
-    relation LC (LOAN int, CUST text); relation LA (LOAN int, AMT int);
-    relation CA (CUST text, ADDR text);
-    object BANK_ACCT (BANK, ACCT) from BA (BANK, ACCT);
-    object ACCT_CUST (ACCT, CUST) from AC (ACCT, CUST);
-    object ACCT_BAL (ACCT, BAL) from AB (ACCT, BAL);
-    object BANK_LOAN (BANK, LOAN) from BL (BANK, LOAN);
-    object LOAN_CUST (LOAN, CUST) from LC (LOAN, CUST);
-    object LOAN_AMT (LOAN, AMT) from LA (LOAN, AMT);
-    object CUST_ADDR (CUST, ADDR) from CA (CUST, ADDR);
-    fd ACCT -> BANK; fd ACCT -> BAL; fd LOAN -> BANK; fd LOAN -> AMT; fd CUST -> ADDR;";
 
 fn opened(alloc: Global) -> Result<Option<Session>, NoMemory> {
     match read(alloc, BANK.as_bytes()) {

@@ -18,8 +18,8 @@ use Rattle.su_schema.specs.Checks.{checks}
 use Rattle.su_schema.specs.NameChecks.{first_failing}
 use Rattle.su_schema.specs.Known.{columns_at}
 use Rattle.su_schema.specs.Definitions.{applied, extended, outcome}
-use Rattle.su_index.specs.Tables.{table_at}
-use Rattle.su_state.specs.DatabaseValue.{DatabaseValue, rows_in, HasColumnKinds, IsWellKept}
+use Rattle.su_index.specs.Tables.{table_at, rows_at}
+use Rattle.su_state.specs.DatabaseValue.{DatabaseValue, HasColumnKinds, IsWellKept}
 use Rattle.su_state.specs.Enforced.{HoldsOn}
 use Rattle.su_state.specs.Definitions.{tables_with, Defines}
 use Rattle.su_state.specs.declared.faults.DefineFault.{DefineFault}
@@ -39,7 +39,7 @@ pub extended_is : (schema new : SchemaValue) (definition : Definition) → appli
 extended_is schema new definition is = of_outcome (first_failing (checks schema definition)) (extended schema definition) new is
 
 -- more tables without rows add no rows
-pub rows_more : (tables : List Stored) (more : List (List Column)) (r : ℕ) → rows_in (tables ++ map empty_table more) r ≡ rows_in tables r
+pub rows_more : (tables : List Stored) (more : List (List Column)) (r : ℕ) → rows_at (tables ++ map empty_table more) r ≡ rows_at tables r
 rows_more tables more r =
     elim (cases_lt r (length tables)) [
       | inl within ↦ ap (λ t. t.rows) (get_or_append_left tables (map empty_table more) blank r within)
@@ -57,7 +57,7 @@ columns_after : (old new : SchemaValue) (more : List (List Column)) (r : ℕ) �
 columns_after old new more r is past =
     ap (λ (cs : List (List Column)). get_or cs r []) is ∙ get_or-append_right (relation_columns old) more (length old.relations) r [] (length-map old.relations (λ r. r.columns)) past
 
-old_holds : (db : DatabaseValue) → IsWellKept db → (f o : ℕ) (fd : Dependency) (object : ObjectEntry) → slice_get db.schema.fds f ≡ Some fd → slice_get db.schema.objects o ≡ Some object → HoldsOn fd object (rows_in db.tables object.relation)
+old_holds : (db : DatabaseValue) → IsWellKept db → (f o : ℕ) (fd : Dependency) (object : ObjectEntry) → slice_get db.schema.fds f ≡ Some fd → slice_get db.schema.objects o ≡ Some object → HoldsOn fd object (rows_at db.tables object.relation)
 old_holds db kept f o fd object numbered placed =
     let is_fd = get_or_from_slice_get db.schema.fds f fd fd numbered in
     let is_object = get_or_from_slice_get db.schema.objects o object object placed in
@@ -86,14 +86,14 @@ module _ (db : DatabaseValue) (schema : SchemaValue) (more : List (List Column))
             ∙ sym (ap length (columns_after db.schema schema more r relations (omega (arith, past, kept.tables)) ∙ ap (λ (n : ℕ). get_or more (r - n) []) (sym kept.tables)))
       ]
 
-  typed_rows : (r : ℕ) → All (HasColumnKinds (columns_at schema r)) (rows_in (db.tables ++ map empty_table more) r)
+  typed_rows : (r : ℕ) → All (HasColumnKinds (columns_at schema r)) (rows_at (db.tables ++ map empty_table more) r)
   typed_rows r =
       rw (rows_more db.tables more r) (elim (cases_lt r (length db.tables)) [
-        | inl within ↦ subst (λ (cs : List Column). All (HasColumnKinds cs) (rows_in db.tables r)) (sym (columns_before db.schema schema more r relations (omega (arith, within, kept.tables)))) (kept.typed r within)
+        | inl within ↦ subst (λ (cs : List Column). All (HasColumnKinds cs) (rows_at db.tables r)) (sym (columns_before db.schema schema more r relations (omega (arith, within, kept.tables)))) (kept.typed r within)
         | inr past ↦ subst (λ (rows : List (List Value)). All (HasColumnKinds (columns_at schema r)) rows) (sym (ap (λ t. t.rows) (get_or_past db.tables r blank past))) (All-nil (HasColumnKinds (columns_at schema r)))
       ])
 
-  pub kept_more : ((f o : ℕ) (fd : Dependency) (object : ObjectEntry) → slice_get schema.fds f ≡ Some fd → slice_get schema.objects o ≡ Some object → ((slice_get db.schema.fds f ≡ Some fd) × (slice_get db.schema.objects o ≡ Some object)) ⊎ HoldsOn fd object (rows_in db.tables object.relation))
+  pub kept_more : ((f o : ℕ) (fd : Dependency) (object : ObjectEntry) → slice_get schema.fds f ≡ Some fd → slice_get schema.objects o ≡ Some object → ((slice_get db.schema.fds f ≡ Some fd) × (slice_get db.schema.objects o ≡ Some object)) ⊎ HoldsOn fd object (rows_at db.tables object.relation))
       → IsWellKept (record { schema = schema; tables = db.tables ++ map empty_table more })
   kept_more each =
       let size : length (db.tables ++ map empty_table more) ≡ length schema.relations = length-append db.tables (map empty_table more) ∙ ap (λ n. length db.tables + n) (length-map more empty_table) ∙ sym many in
@@ -127,7 +127,7 @@ last_or_old (z ∷ xs) x zero y there = inl there
 last_or_old (z ∷ xs) x (suc k) y there = elim (last_or_old xs x k y there) [ inl old ↦ inl old | inr is ↦ inr (ap suc is) ]
 
 same_tables : (db : DatabaseValue) (schema : SchemaValue) → IsWellKept db → IsValid schema → relation_columns schema ≡ relation_columns db.schema ++ []
-    → ((f o : ℕ) (fd : Dependency) (object : ObjectEntry) → slice_get schema.fds f ≡ Some fd → slice_get schema.objects o ≡ Some object → ((slice_get db.schema.fds f ≡ Some fd) × (slice_get db.schema.objects o ≡ Some object)) ⊎ HoldsOn fd object (rows_in db.tables object.relation))
+    → ((f o : ℕ) (fd : Dependency) (object : ObjectEntry) → slice_get schema.fds f ≡ Some fd → slice_get schema.objects o ≡ Some object → ((slice_get db.schema.fds f ≡ Some fd) × (slice_get db.schema.objects o ≡ Some object)) ⊎ HoldsOn fd object (rows_at db.tables object.relation))
     → IsWellKept (record { schema = schema; tables = db.tables })
 same_tables db schema kept valid relations each = subst (λ (tables : List Stored). IsWellKept (record { schema = schema; tables = tables })) (append-nil db.tables) (kept_more db schema [] kept valid relations each)
 

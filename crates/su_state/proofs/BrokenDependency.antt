@@ -10,8 +10,7 @@ use Rattle.su_fd.specs.MetDependencies.{LiesIn}
 use Rattle.su_schema.specs.SchemaValue.{SchemaValue, ObjectEntry}
 use Rattle.su_schema.specs.Entries.{attributes_of}
 use Rattle.su_schema.specs.Known.{columns_at}
-use Rattle.su_index.specs.Tables.{table_at}
-use Rattle.su_state.specs.DatabaseValue.{rows_in}
+use Rattle.su_index.specs.Tables.{table_at, rows_at}
 use Rattle.su_state.specs.Enforced.{Break}
 use Rattle.su_state.specs.declared.sides.Sides.{Sides}
 use Rattle.su_state.specs.inside.Sides.{AreSidesOf, Clash, IsLeastClash, row_at}
@@ -93,7 +92,7 @@ module _ (schema : SchemaValue) (tables : List Stored) (f o r : ℕ) (fd : Fd) (
       let two : Some other_entry ≡ Some entry = sym its_place ∙ placed in
       let same_fd : other_fd ≡ fd = cc in
       let same_entry : other_entry ≡ entry = cc in
-      let in_table : (x : List Value) → Contains (rows_in tables other_entry.relation) x → Contains table.rows x =
-      λ x stored. subst (λ (t : Stored). Contains t.rows x) (sym own_table) (subst (λ (e : ObjectEntry). Contains (rows_in tables e.relation) x) same_entry stored) in
+      let in_table : (x : List Value) → Contains (rows_at tables other_entry.relation) x → Contains table.rows x =
+      λ x stored. subst (λ (t : Stored). Contains t.rows x) (sym own_table) (subst (λ (e : ObjectEntry). Contains (rows_at tables e.relation) x) same_entry stored) in
       none row other (in_table row here) (in_table other there)
       (clash_from_break entry fd sides row other are (subst (λ (d : Fd). Break d entry row other) same_fd (subst (λ (e : ObjectEntry). Break other_fd e row other) same_entry broken)))

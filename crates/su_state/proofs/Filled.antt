@@ -8,7 +8,7 @@ use Rattle.std.specs.Prelude.{MatchOption, Option}
 use Rattle.std.proofs.lemmas.Bool.{false≢true}
 use Rattle.su_base.specs.declared.values.Column.{Column}
 use Rattle.su_base.specs.Value.{kind_of}
-use Rattle.su_base.proofs.Items.{Contains-later}
+use Rattle.su_base.proofs.Items.{Contains-head, Contains-later}
 use Rattle.su_fd.specs.declared.dependencies.Fd.{Fd}
 use Rattle.su_rel.specs.Changes.{PutInAll}
 use Rattle.su_rel.specs.Stored.{Stored, HaveWidth}
@@ -28,9 +28,6 @@ use Rattle.su_state.proofs.Columns.{clash_from_break, columns_few}
 use Rattle.su_state.proofs.DifferentRows.{differ_put}
 use Rattle.su_state.proofs.Kept.{with_table, MayHave, flipped, holds_at, table_here, holds_fewer, kept_with, added_with, unchanged_with, table_read}
 use Rattle.su_state.proofs.FirstBreaches.{no_breach}
-
-Contains-first : (row : List Value) (rows : List (List Value)) → Contains (row ∷ rows) row
-Contains-first row rows = (0, omega arith, refl)
 
 -- rows that are put in are of the rows there and of those that are given
 put_among : (rows old new : List (List Value)) → PutInAll old rows new → (x : List Value) → Contains new x → Contains (old ++ rows) x
@@ -53,7 +50,7 @@ put_length (row ∷ rows) old new (between, inr (out, is), rest) = omega (arith,
 none_broken : (db : DatabaseValue) (r : ℕ) (row : List Value) (rows : List (List Value)) → MayTake db r (row ∷ rows) → BreaksNothing db.schema r (rows_of db r) row
 none_broken db r row rows may f o other breach =
     may.enforced f o breach.dependency breach.through breach.numbered breach.placed breach.on row other
-    (Contains-append_right (rows_of db r) (row ∷ rows) row (Contains-first row rows))
+    (Contains-append_right (rows_of db r) (row ∷ rows) row (Contains-head row rows))
     (Contains-append_left (rows_of db r) (row ∷ rows) other breach.stored)
     breach.broken
 

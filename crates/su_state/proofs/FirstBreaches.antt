@@ -15,8 +15,9 @@ use Rattle.su_rel.specs.Stored.{Stored}
 use Rattle.su_schema.specs.declared.definitions.Definition.{Definition}
 use Rattle.su_schema.specs.declared.definitions.Definition.TheVariants.{Attribute, Relation, Object, Fd, Maximal}
 use Rattle.su_schema.specs.SchemaValue.{SchemaValue, ObjectEntry}
+use Rattle.su_index.specs.Tables.{rows_at}
 use Rattle.su_state.specs.declared.faults.DefineFault.TheVariants.{Breaks}
-use Rattle.su_state.specs.DatabaseValue.{DatabaseValue, rows_in, rows_of}
+use Rattle.su_state.specs.DatabaseValue.{DatabaseValue, rows_of}
 use Rattle.su_state.specs.Enforced.{Break}
 use Rattle.su_state.specs.Breaches.{Breach, fd_at, compare_breaches, IsFirstOf, IsBreach, IsBreachBy}
 use Rattle.su_state.specs.NewBreaches.{IsNewBreach, told}
@@ -108,8 +109,8 @@ module _ (schema : SchemaValue) (tables : List Stored) where
   holds_not : (definition : Definition) (c : Breach) → IsNewBreach schema tables definition c → HoldsThrough schema tables c.dependency c.object → ⊥
   holds_not definition c new holds =
       holds new.breach.fd new.breach.object new.breach.numbered new.breach.placed c.first c.second
-      (subst (λ (r : ℕ). Contains (rows_in tables r) c.first) (sym new.breach.on) new.stored.0)
-      (subst (λ (r : ℕ). Contains (rows_in tables r) c.second) (sym new.breach.on) new.stored.1)
+      (subst (λ (r : ℕ). Contains (rows_at tables r) c.first) (sym new.breach.on) new.stored.0)
+      (subst (λ (r : ℕ). Contains (rows_at tables r) c.second) (sym new.breach.on) new.stored.1)
       new.breach.broken
 
   -- the rows of a breach of the same dependency through the same object do not come before
@@ -123,8 +124,8 @@ module _ (schema : SchemaValue) (tables : List Stored) where
       let one : new.breach.fd ≡ fd = cc in
       let two : new.breach.object ≡ b.object = cc in
       let on : new.relation ≡ b.object.relation = sym new.breach.on ∙ ap (λ (e : ObjectEntry). e.relation) two in
-      let here = subst (λ (r : ℕ). Contains (rows_in tables r) c.first) on new.stored.0 in
-      let there = subst (λ (r : ℕ). Contains (rows_in tables r) c.second) on new.stored.1 in
+      let here = subst (λ (r : ℕ). Contains (rows_at tables r) c.first) on new.stored.0 in
+      let there = subst (λ (r : ℕ). Contains (rows_at tables r) c.second) on new.stored.1 in
       let broken : Break fd b.object c.first c.second = subst (λ (d : Dependency). Break d b.object c.first c.second) one (subst (λ (e : ObjectEntry). Break new.breach.fd e c.first c.second) two new.breach.broken) in (
         b.rows.least c.first c.second here there broken,
         λ same. b.rows.partner c.second there (subst (λ (x : List Value). Break fd b.object x c.second) (sym same) broken),

@@ -10,7 +10,7 @@ use Rattle.su_base.specs.declared.values.Value.{Value}
 use Rattle.su_base.specs.contracts.values.ValueOrd.TheImpl.{ghosts}
 use Rattle.su_base.specs.Value.{compare_lists}
 use Rattle.su_base.proofs.Rows.{cmp-rows}
-use Rattle.su_index.proofs.Keys.{some_item}
+use Rattle.su_base.proofs.Items.{some_item}
 use Rattle.su_state.specs.Changes.{AreInOrder}
 use Rattle.su_state.specs.inside.Leads.{IsRowLead}
 use Rattle.su_rel.specs.Stored.{AllDiffer}

@@ -4,7 +4,7 @@ use Rattle.std.specs.Prelude.{◌≡◌, ℕ, ◌<◌, ◌≤◌, List, [], All,
 use Rattle.su_base.specs.declared.values.Value.{Value}
 use Rattle.su_base.specs.declared.values.Column.{Column}
 use Rattle.su_base.specs.Value.{kind_of}
-use Rattle.su_index.specs.Tables.{table_at}
+use Rattle.su_index.specs.Tables.{table_at, rows_at}
 use Rattle.su_rel.specs.Stored.{Stored, AllDiffer}
 use Rattle.su_schema.specs.SchemaValue.{SchemaValue}
 use Rattle.su_schema.specs.Valid.{IsValid}
@@ -21,17 +21,13 @@ pub record DatabaseValue : Type 0 where
 abbrev pub empty_tables : SchemaValue → List Stored
 empty_tables schema = map (λ columns. record { width = length columns; rows = [] }) (relation_columns schema)
 
--- the rows of a relation in these tables
-abbrev pub rows_in : List Stored → ℕ → List (List Value)
-rows_in tables relation = (table_at tables relation).rows
-
 -- the table of a relation
 abbrev pub table_of : DatabaseValue → ℕ → Stored
 table_of db relation = table_at db.tables relation
 
 -- the rows of a relation
 abbrev pub rows_of : DatabaseValue → ℕ → List (List Value)
-rows_of db relation = rows_in db.tables relation
+rows_of db relation = rows_at db.tables relation
 
 -- the columns of a relation
 abbrev pub columns_of : DatabaseValue → ℕ → List Column

@@ -6,9 +6,9 @@ use Rattle.su_schema.specs.declared.definitions.Definition.{Definition}
 use Rattle.su_schema.specs.declared.definitions.Definition.TheVariants.{Object, Fd}
 use Rattle.su_schema.specs.SchemaValue.{SchemaValue}
 use Rattle.su_schema.specs.Entries.{object_names}
+use Rattle.su_index.specs.Tables.{rows_at}
 use Rattle.su_state.specs.declared.faults.DefineFault.{DefineFault}
 use Rattle.su_state.specs.declared.faults.DefineFault.TheVariants.{Breaks}
-use Rattle.su_state.specs.DatabaseValue.{rows_in}
 use Rattle.su_state.specs.Breaches.{Breach, fd_at, IsBreach}
 
 -- it is a breach of the dependency, or through the object, that the definition adds: the last of the schema
@@ -22,7 +22,7 @@ pub record IsNewBreach (schema : SchemaValue) (tables : List Stored) (definition
   pub relation : ℕ
   pub breach : IsBreach schema relation b
   pub added : IsOfAdded schema definition b
-  pub stored : Contains (rows_in tables relation) b.first × Contains (rows_in tables relation) b.second
+  pub stored : Contains (rows_at tables relation) b.first × Contains (rows_at tables relation) b.second
 
 -- how a breach is told: the dependency itself, the object by its name, and the rows
 abbrev pub told : SchemaValue → Breach → DefineFault

@@ -5,7 +5,7 @@ use Rattle.std.specs.List.{filter, range_with_len}
 use Rattle.std.specs.Ordering.{nat_cmp}
 use Rattle.std.specs.FinSet.{FinSet, empty}
 use Rattle.std.proofs.lemmas.List.Elements.{Contains-get_or}
-use Rattle.su_base.proofs.Items.{Contains-filter_source, get_or-map_range}
+use Rattle.su_base.proofs.Items.{Contains-filter_source, length-filter, get_or-map_range}
 use Rattle.std.proofs.lemmas.List.FromFn.{length-range_with_len}
 use Rattle.su_schema.specs.SchemaValue.{SchemaValue}
 use Rattle.su_query.specs.declared.places.Place.{Place}
@@ -19,14 +19,8 @@ use Rattle.su_steps.specs.Cases.{Case, Gives}
 use Rattle.su_steps.specs.Terms.{case_of}
 use Rattle.su_steps.specs.Limits.{row_count, disjunct_count, HasFewTerms}
 use Rattle.su_steps.specs.inside.Ready.{FitOrigins, IsShown, IsChoice}
-use Rattle.su_steps.specs.inside.Outs.{GivesNone, AreTermsOf}
 use Rattle.su_steps.proofs.ResolvedQueries.{of_range, place_in}
 use Rattle.su_steps.proofs.Chosen.{coverings_count, choice_of, origin_in, place_object, has_origin}
-use Rattle.su_steps.proofs.TermsSoFar.{choice_push, choice_pass}
-
-length-filter : {X : Type 0} (p : X → Bool) (xs : List X) → length (filter p xs) ≤ length xs
-length-filter p [] = omega arith
-length-filter p (x ∷ xs) = let i = length-filter p xs in elim (p x) as (λ b. length (cond b (x ∷ filter p xs) (filter p xs)) ≤ suc (length xs)) [ true ↦ omega arith | false ↦ omega arith ]
 
 many : (d n : ℕ) → 0 < d → n ≤ d * n
 many (suc d) n l = grind arith
@@ -68,9 +62,3 @@ module _ (schema : SchemaValue) (maximal : List (FinSet nat_cmp)) (q : Resolved)
 
   pub choice_in : (k : ℕ) → k < length (choices schema maximal q) → IsChoice schema maximal q (get_or (choices schema maximal q) k [])
   choice_in k l = choice_of schema maximal q (get_or (choices schema maximal q) k []) (Contains-get_or (choices schema maximal q) k [] l)
-
-  -- one choice more
-  pub choice_step : (cs : List Case) (i k : ℕ) (choice : List ℕ) (before next : List Term) (t : Option Term) → k < length (choices schema maximal q) → choice ≡ get_or (choices schema maximal q) k [] → AreTermsOf schema maximal q (cs ++ map (case_of i) (take k (choices schema maximal q))) before
-      → MatchOption t (GivesNone schema maximal q (case_of i choice)) (Gives schema maximal q (case_of i choice)) → MatchOption t (next ≡ before) (λ x. next ≡ before ++ x ∷ []) → AreTermsOf schema maximal q (cs ++ map (case_of i) (take (k + 1) (choices schema maximal q))) next
-  choice_step cs i k choice before next None l is are none e = choice_pass schema maximal q cs i k choice before next l is are none e
-  choice_step cs i k choice before next (Some x) l is are gives e = choice_push schema maximal q cs i k choice before next x l is are gives e

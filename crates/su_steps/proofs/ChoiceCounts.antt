@@ -26,9 +26,6 @@ length-combinations_push (ys ∷ yss) xs =
     length-pairs front ys (combinations (yss ++ xs ∷ [])) ∙ ap (λ n. length ys * n) (length-combinations_push yss xs)
     ∙ sym (mul_assoc (length ys) (length (combinations yss)) (length xs)) ∙ ap (λ n. n * length xs) (sym (length-pairs front ys (combinations yss)))
 
-le_or_lt : (m n : ℕ) → (m ≤ n) ⊎ (n < m)
-le_or_lt m n = ⊎_elim (λ (l : n < m). inr l) (λ (g : m ≤ n). inl g) (cases_lt n m)
-
 pub counted_more : (xss : List (List ℕ)) (i : ℕ) (xs : List ℕ) (count len : ℕ) → i < length xss → xs ≡ get_or xss i xs → len ≡ length xs → count ≡ min (length (combinations (take i xss))) 257 → min 257 (count * len) ≡ min (length (combinations (take (i + 1) xss))) 257
 counted_more xss i xs count len l is len_is e =
     ap (λ k. min 257 (count * k)) len_is ∙ min-mul 257 count (length (combinations (take i xss))) (length xs) e
@@ -135,9 +132,9 @@ most_of schema maximal (k ∷ []) l = (k, (0, omega arith, refl), omega arith)
 most_of schema maximal (k ∷ j ∷ js) l =
     let w = most_of schema maximal (j ∷ js) (omega arith) in
     ⊎_elim
-    (λ (g : most_objects schema maximal (j ∷ js) ≤ object_count schema maximal k). (k, (0, omega arith, refl), omega arith))
     (λ (s : object_count schema maximal k < most_objects schema maximal (j ∷ js)). (w.0, Contains-later k (j ∷ js) w.0 w.1, (let e = w.2 in omega arith)))
-    (le_or_lt (most_objects schema maximal (j ∷ js)) (object_count schema maximal k))
+    (λ (g : most_objects schema maximal (j ∷ js) ≤ object_count schema maximal k). (k, (0, omega arith, refl), omega arith))
+    (cases_lt (object_count schema maximal k) (most_objects schema maximal (j ∷ js)))
 
 -- no choice has more rows than the greatest numbers together
 pub total_at : (schema : SchemaValue) (maximal : List (FinSet nat_cmp)) (mss : List (List ℕ)) (choice : List ℕ) → Contains (combinations mss) choice → total schema maximal choice ≤ objects_in schema maximal mss

@@ -5,7 +5,8 @@ use Rattle.su_base.specs.declared.values.Value.{Value}
 use Rattle.su_base.specs.declared.values.Value.TheVariants.{Text}
 use Rattle.su_tableau.specs.declared.symbols.Sym.TheVariants.{Const}
 use Rattle.su_classes.specs.Tables.{rep}
-use Rattle.su_classes.specs.inside.Symbols.{same_value, has_constant, constant_place, AreDistinct, symbol_at, name_in}
+use Rattle.su_classes.specs.Symbols.{symbol_at}
+use Rattle.su_classes.specs.inside.Symbols.{same_value, has_constant, constant_place, AreDistinct, name_in}
 use Rattle.su_classes.proofs.ValueOrder.{same_itself, same_is}
 use Rattle.su_classes.proofs.Places.{place_is, place_at}
 

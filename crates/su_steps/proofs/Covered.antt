@@ -5,7 +5,7 @@ use Rattle.std.specs.FinSet.{FinSet, is_subset, empty}
 use Rattle.std.proofs.lemmas.List.{get_or_default}
 use Rattle.su_schema.specs.SchemaValue.{SchemaValue}
 use Rattle.su_steps.specs.Objects.{objects_of, attributes_of_all, covers}
-use Rattle.su_steps.proofs.PassingNumbers.{passing, passing_push}
+use Rattle.su_base.proofs.PassingNumbers.{passing, passing_push}
 
 pub covering_more : (schema : SchemaValue) (maximal : List (FinSet nat_cmp)) (attributes : FinSet nat_cmp) (m : ℕ) (d all : FinSet nat_cmp) (b : Bool) (before next : List ℕ) → m < length maximal → d ≡ get_or maximal m d → all ≡ attributes_of_all schema (objects_of schema d) → b ≡ is_subset attributes all
     → before ≡ passing (λ m. covers schema (get_or maximal m empty) attributes) m → next ≡ before ++ (if b then m ∷ [] else []) → next ≡ passing (λ m. covers schema (get_or maximal m empty) attributes) (m + 1)

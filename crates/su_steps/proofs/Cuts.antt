@@ -1,7 +1,7 @@
 -- An answer cut to its outputs, by a function from variables to values and by a list of values.
 use Rattle.std.proofs.Common.{◌≡◌, ℕ, zero, suc, ◌+◌, ◌*◌, ◌<◌, ◌≤◌, true, pos, List, [], ◌∷◌, ◌++◌, length, get_or, take, drop, Contains, refl, sym, ap, ◌∙◌, arith}
 use Rattle.std.proofs.Math.Seq.{take-append_seam}
-use Rattle.std.proofs.lemmas.List.{length-map, length-append, get_or-append-add, take-append-drop}
+use Rattle.std.proofs.lemmas.List.{length-map, length-take-le, length-append, get_or-append-add, take-append-drop}
 use Rattle.std.proofs.lemmas.List.Elements.{All-from_recursion, All-contains}
 use Rattle.su_base.specs.declared.values.Value.{Value}
 use Rattle.su_base.specs.declared.values.Value.TheVariants.{Int}
@@ -48,11 +48,6 @@ hold_by (op ∷ ops) (x ∷ y ∷ rest) l h = (
       ∙ ap (λ k. compares (get_or ops i Equal) (get_or (x ∷ y ∷ rest) (2 * suc i) zero_value) (get_or (x ∷ y ∷ rest) k zero_value)) b ∙ r),
 )
 
-length_taken : {X : Type 0} (n : ℕ) (xs : List X) → n ≤ length xs → length (take n xs) ≡ n
-length_taken zero xs l = refl
-length_taken (suc n) [] l = absurd (omega arith)
-length_taken (suc n) (x ∷ xs) l = let i = length_taken n xs (omega arith) in omega arith
-
 taken : {X : Type 0} (xs ys : List X) (n : ℕ) → length xs ≡ n → take n (xs ++ ys) ≡ xs
 taken xs ys n e = ap (λ k. take k (xs ++ ys)) (sym e) ∙ take-append_seam xs ys
 
@@ -71,7 +66,7 @@ module _ (t : Tab) (universe : List (List Value)) (h : List Value) where
   pub to_cut : CutBy t.rows t.head t.outputs t.operators universe h → Cut t (Ext t universe) h
   to_cut c = record {
     head = h ++ c.compared;
-    member = record { valuation = c.valuation; sends = All-from_recursion (λ row. Contains universe (values_of c.valuation row)) t.rows c.sends; gives = c.gives };
+    member = record { valuation = c.valuation; holds = All-from_recursion (λ row. Contains universe (values_of c.valuation row)) t.rows c.sends; gives = c.gives };
     compared = λ i l. cut_compared h c.compared i c.outputs_are ∙ hold_at t.operators c.compared c.holds i l;
     outputs = taken h c.compared t.outputs c.outputs_are;
   }
@@ -83,12 +78,12 @@ module _ (t : Tab) (universe : List (List Value)) (h : List Value) where
       let front = take t.outputs c.head in
       let back = drop t.outputs c.head in
       let parts : front ++ back ≡ c.head = take-append-drop t.outputs c.head in
-      let count : length front ≡ t.outputs = length_taken t.outputs c.head (omega arith) in
+      let count : length front ≡ t.outputs = length-take-le t.outputs c.head (omega arith) in
       let both : length front + length back ≡ length c.head = sym (length-append front back) ∙ ap length parts in
       let rest : length back ≡ 2 * length t.operators = omega arith in
       record {
         valuation = e.valuation;
-        sends = all_by (λ row. Contains universe (values_of e.valuation row)) t.rows (λ row has. All-contains (λ row. Contains universe (values_of e.valuation row)) t.rows row e.sends has);
+        sends = all_by (λ row. Contains universe (values_of e.valuation row)) t.rows (λ row has. All-contains (λ row. Contains universe (values_of e.valuation row)) t.rows row e.holds has);
         compared = back;
         gives = e.gives ∙ sym parts ∙ ap (λ xs. xs ++ back) c.outputs;
         outputs_are = sym (ap length c.outputs) ∙ count;

@@ -18,7 +18,8 @@ use Rattle.su_classes.specs.declared.items.Placed.{Placed}
 use Rattle.su_classes.specs.declared.items.Together.{Together}
 use Rattle.su_classes.specs.Items.{item_of, SameItemLabels, Keeps, IsKept, IsPlacedBelow}
 use Rattle.su_classes.specs.Tables.{rep, IsLeastTable}
-use Rattle.su_classes.specs.inside.Symbols.{AreDistinct, is_known, symbol_number, symbol_at, name_in}
+use Rattle.su_classes.specs.Symbols.{symbol_at}
+use Rattle.su_classes.specs.inside.Symbols.{AreDistinct, is_known, symbol_number, name_in}
 use Rattle.su_classes.proofs.Places.{IsNumbering, numbering}
 use Rattle.su_classes.proofs.Named.{same_rep, same_name, item_class, table_names}
 use Rattle.su_schema.specs.SchemaValue.{SchemaValue}

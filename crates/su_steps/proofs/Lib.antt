@@ -10,7 +10,7 @@ pub mod Valid
 pub mod ResolvedQueries
 pub mod Chosen
 pub mod Union
-pub mod PassingNumbers
+pub mod TogetherAttributes
 pub mod ChoiceCounts
 pub mod ConstantNames
 pub mod ItemLabels

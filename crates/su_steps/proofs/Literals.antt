@@ -4,10 +4,10 @@ use Rattle.std.specs.List.{AllByRecursion, flat_map}
 use Rattle.su_where.specs.declared.literals.Literal.{Literal}
 use Rattle.su_where.specs.declared.conditions.Condition.TheVariants.{Compare, Not, All, Any}
 use Rattle.su_where.specs.Truth.{Cond, comparisons_of}
-use Rattle.su_where.specs.Disjunct.{opposite_of, form_of, disjuncts_of}
-use Rattle.su_where.specs.inside.Joined.{pairs_of, combinations_of, joined}
+use Rattle.su_where.specs.Disjunct.{opposite_of, combined, form_of, disjuncts_of}
+use Rattle.su_where.specs.inside.Joined.{joined}
 use Rattle.su_where.proofs.Layers.{comparisons_of-Compare, comparisons_of-Not, comparisons_of-All, comparisons_of-Any, parts_of, by_layers}
-use Rattle.su_where.proofs.Disjunctive.{forms, form_of-Compare, form_of-Not, form_of-All, form_of-Any}
+use Rattle.su_where.proofs.Disjunctive.{pairs_of, combined-cons, forms, form_of-Compare, form_of-Not, form_of-All, form_of-Any}
 use Rattle.su_steps.proofs.Lists.{all_append, all_front, all_back}
 
 module _ (P : Literal → Type 0) (turned : (l : Literal) → P l → P (opposite_of l)) where
@@ -23,9 +23,9 @@ module _ (P : Literal → Type 0) (turned : (l : Literal) → P l → P (opposit
   all_pairs [] es h k = tt
   all_pairs (d ∷ ds) es h k = all_append (AllByRecursion P) (map (λ e. d ++ e) es) (pairs_of ds es) (all_each d es h.0 k) (all_pairs ds es h.1 k)
 
-  all_combinations : (fs : List (List (List Literal))) → AllByRecursion AllIn fs → AllIn (combinations_of fs)
-  all_combinations [] h = (tt, tt)
-  all_combinations (f ∷ fs) h = all_pairs f (combinations_of fs) h.0 (all_combinations fs h.1)
+  all_combined : (fs : List (List (List Literal))) → AllByRecursion AllIn fs → AllIn (combined fs)
+  all_combined [] h = (tt, tt)
+  all_combined (f ∷ fs) h = subst AllIn (sym (combined-cons f fs)) (all_pairs f (combined fs) h.0 (all_combined fs h.1))
 
   all_joined : (fs : List (List (List Literal))) → AllByRecursion AllIn fs → AllIn (joined fs)
   all_joined [] h = tt
@@ -48,10 +48,10 @@ module _ (P : Literal → Type 0) (turned : (l : Literal) → P l → P (opposit
 
   kept_All : (es : List ((c : Cond) × IsKept c)) → IsKept (All (parts_of es))
   kept_All es true h = subst AllIn (sym (form_of-All (parts_of es) true)) (all_joined (forms true (parts_of es)) (kept_parts true es (subst (AllByRecursion P) (comparisons_of-All (parts_of es)) h)))
-  kept_All es false h = subst AllIn (sym (form_of-All (parts_of es) false)) (all_combinations (forms false (parts_of es)) (kept_parts false es (subst (AllByRecursion P) (comparisons_of-All (parts_of es)) h)))
+  kept_All es false h = subst AllIn (sym (form_of-All (parts_of es) false)) (all_combined (forms false (parts_of es)) (kept_parts false es (subst (AllByRecursion P) (comparisons_of-All (parts_of es)) h)))
 
   kept_Any : (es : List ((c : Cond) × IsKept c)) → IsKept (Any (parts_of es))
-  kept_Any es true h = subst AllIn (sym (form_of-Any (parts_of es) true)) (all_combinations (forms true (parts_of es)) (kept_parts true es (subst (AllByRecursion P) (comparisons_of-Any (parts_of es)) h)))
+  kept_Any es true h = subst AllIn (sym (form_of-Any (parts_of es) true)) (all_combined (forms true (parts_of es)) (kept_parts true es (subst (AllByRecursion P) (comparisons_of-Any (parts_of es)) h)))
   kept_Any es false h = subst AllIn (sym (form_of-Any (parts_of es) false)) (all_joined (forms false (parts_of es)) (kept_parts false es (subst (AllByRecursion P) (comparisons_of-Any (parts_of es)) h)))
 
   pub literals_of : (c : Cond) → AllByRecursion P (comparisons_of c) → AllByRecursion (AllByRecursion P) (disjuncts_of c)

@@ -1,5 +1,5 @@
 -- Each row of a term has a source, among whichever rows: the object that it is for, since its other cells are the row's own.
-use Rattle.std.proofs.Common.{◌≡◌, ⊎_elim, ℕ, zero, suc, ◌+◌, ◌*◌, ◌/◌, ◌%◌, ◌<◌, true, false, cond, List, [], ◌∷◌, map, length, get_or, Contains, refl, sym, ap, ◌∙◌, subst, arith}
+use Rattle.std.proofs.Common.{◌≡◌, ⊎_elim, ℕ, zero, suc, ◌+◌, ◌*◌, ◌/◌, ◌%◌, ◌<◌, true, false, cond, List, [], ◌∷◌, map, length, get_or, Contains, refl, sym, ap, ◌∙◌, subst, arith, None}
 use Rattle.std.specs.Prelude.{IsTrue}
 use Rattle.std.specs.Ordering.{nat_cmp}
 use Rattle.std.specs.FinSet.{FinSet, contains}
@@ -23,10 +23,9 @@ use Rattle.su_classes.specs.ClassNames.{IsNaming}
 use Rattle.su_steps.specs.Classes.{IsClosedForCase}
 use Rattle.su_steps.specs.Evaluated.{left_over, sides}
 use Rattle.su_steps.specs.CaseTableaux.{cell_of, origin_row, rows_of, tableau_of}
-use Rattle.su_steps.specs.Cases.{Case, comparisons_of, Gives}
+use Rattle.su_steps.specs.Cases.{Case, comparisons_of, Gives, IsOutOf}
 use Rattle.su_steps.specs.Terms.{cases, AreTerms}
 use Rattle.su_steps.specs.Sources.{IsSource}
-use Rattle.su_steps.specs.inside.Outs.{GivesNone, AreTermsOf}
 use Rattle.std.specs.List.{AllByRecursion}
 use Rattle.su_base.proofs.Items.{Contains-cases, Contains-nil, Contains-map_source, get_or-map_range}
 use Rattle.su_schema.specs.Valid as schemas
@@ -38,7 +37,7 @@ use Rattle.su_steps.proofs.Chosen.{origin_in, pairs_below}
 use Rattle.su_steps.proofs.Union.{IsCase, of_cases}
 use Rattle.su_steps.proofs.Shape.{AreBelow, IsPairBelow}
 use Rattle.su_steps.proofs.Valid.{length-rows, of_sides}
-use Rattle.su_steps.proofs.Outs.{terms_of}
+use Rattle.su_steps.proofs.Outs.{AreInTurn, terms_of}
 
 -- ---- symbols of classes
 
@@ -107,13 +106,13 @@ module _ (schema : SchemaValue) (os : List Origin) (d : List SymbolComparison) (
     column_in m i c x h =
         let row : get_or t.rows i [] ≡ origin_row schema name (limit + i * width schema) (get_or os i o) = ap (λ (rs : List (List Sym)). get_or rs i []) rows_are ∙ row_at limit os i o (row_in m i c x h) in
         let e : length (get_or t.rows i []) ≡ width schema = ap (λ (r : List Sym). length r) row ∙ length-map-range_with_len (cell_of schema name (limit + i * width schema) (get_or os i o)) 0 (width schema) in
-        let l = h.column_in in
+        let l : c < length (get_or t.rows i []) = h.cell.below in
         omega arith
 
     cell_is : (m i c : ℕ) (x : Sym) → HasSymbol t m i c x → IsCell (limit + i * width schema) (get_or os i o) c x
     cell_is m i c x h =
         is_cell (limit + i * width schema) (get_or os i o) c x
-        (sym (cell_at limit os i c o x (row_in m i c x h) (column_in m i c x h)) ∙ ap (λ (rs : List (List Sym)). get_or (get_or rs i []) c x) (sym rows_are) ∙ h.is x)
+        (sym (cell_at limit os i c o x (row_in m i c x h) (column_in m i c x h)) ∙ ap (λ (rs : List (List Sym)). get_or (get_or rs i []) c x) (sym rows_are) ∙ h.cell.is x)
 
     -- a row's own symbol stands nowhere else
     own_once : (m i c k : ℕ) → HasSymbol t m i c (Var k) → contains (attributes_at schema (get_or os i o).object) c ≡ false → k ≡ limit + i * width schema + c
@@ -183,12 +182,12 @@ module _ (schema : SchemaValue) (maximal : List (FinSet nat_cmp)) (q : Resolved)
       let low = origin_in schema maximal q case.choice is.is_choice (get_or os i none) (Contains-get_or os i none (omega arith)) in
       ((get_or os i none).object, source_at schema os (comparisons_of schema q case.disjunct) g.tableau.name (length q.variables * width schema) g.tableau.naming q t.tableau g.tableau.is refl below output_below none m i l low.1)
 
-  terms_have : (cs : List Case) (ts : List Term) → AllByRecursion (IsCase schema maximal q resolved (within schema valid)) cs → AreTermsOf schema maximal q cs ts → (t : Term) (m i : ℕ) → Contains ts t → i < length t.tableau.rows → (o : ℕ) × IsSource schema t.tableau m i o
+  terms_have : (cs : List Case) (ts : List Term) → AllByRecursion (IsCase schema maximal q resolved (within schema valid)) cs → AreInTurn schema maximal q cs ts → (t : Term) (m i : ℕ) → Contains ts t → i < length t.tableau.rows → (o : ℕ) × IsSource schema t.tableau m i o
   terms_have [] ts are terms t m i c l = absurd (Contains-nil t (subst (λ (xs : List Term). Contains xs t) terms c))
   terms_have (x ∷ xs) ts are terms t m i c l =
       ⊎_elim
-      (λ (none : GivesNone schema maximal q x × AreTermsOf schema maximal q xs ts). terms_have xs ts are.1 none.1 t m i c l)
-      (λ (some : (u : Term) × (rest : List Term) × (ts ≡ u ∷ rest) × Gives schema maximal q x u × AreTermsOf schema maximal q xs rest).
+      (λ (none : IsOutOf schema maximal q x None × AreInTurn schema maximal q xs ts). terms_have xs ts are.1 none.1 t m i c l)
+      (λ (some : (u : Term) × (rest : List Term) × (ts ≡ u ∷ rest) × Gives schema maximal q x u × AreInTurn schema maximal q xs rest).
       ⊎_elim
       (λ (e : some.0 ≡ t). case_has x t m i are.0 (subst (λ (u : Term). Gives schema maximal q x u) e some.3) l)
       (λ (later : Contains some.1 t). terms_have xs some.1 are.1 some.4 t m i later l)

@@ -13,11 +13,11 @@ use Rattle.su_schema.specs.SchemaValue.{SchemaValue}
 use Rattle.su_query.specs.declared.resolving.Resolved.{Resolved}
 use Rattle.su_query.specs.Sets.{mentioned_with}
 use Rattle.su_steps.specs.declared.faults.StepFault.{StepFault}
-use Rattle.su_steps.specs.declared.faults.StepFault.TheVariants.{NotCovered}
+use Rattle.su_steps.specs.declared.faults.StepFault.TheVariants.{NotCovered, Limit, NoMemory}
 use Rattle.su_steps.specs.Choices.{coverings, choices}
 use Rattle.su_steps.specs.inside.RowCounts.{objects_in}
 use Rattle.su_steps.specs.Limits.{disjunct_count, HasFewDisjuncts, HasFewRows, HasFewTerms, HasManyRows}
-use Rattle.su_steps.specs.Refusals.{IsCovered, IsStepRefusal}
+use Rattle.su_steps.specs.Refusals.{IsCovered, IsStepRefusal, NamesVariable}
 use Rattle.su_steps.proofs.ChoiceCounts.{row_count_is, total_at, total_of}
 use Rattle.su_steps.proofs.Chosen.{coverings_count}
 
@@ -29,8 +29,10 @@ module _ (schema : SchemaValue) (maximal : List (FinSet nat_cmp)) (q : Resolved)
   pub covered_is : None ≡ position (λ (ms : List ℕ). length ms == 0) xss → IsCovered schema maximal q
   covered_is e = ap (position (λ (ms : List ℕ). length ms == 0)) (sym all) ∙ sym e
 
-  pub refused_cover : (v : ℕ) (fault : StepFault) → Some v ≡ position (λ (ms : List ℕ). length ms == 0) xss → (variable : Option (List ℕ)) × (slice_get q.variables v ≡ Some variable) × (fault ≡ NotCovered variable (mentioned_with q.places v)) → IsStepRefusal schema maximal q fault
-  refused_cover v fault e w = subst (IsStepRefusal schema maximal q) (sym w.2) (v, ap (position (λ (ms : List ℕ). length ms == 0)) (sym all) ∙ sym e, w.1, refl)
+  pub refused_cover : (v : ℕ) (fault : StepFault) → Some v ≡ position (λ (ms : List ℕ). length ms == 0) xss → NamesVariable q v fault → IsStepRefusal schema maximal q fault
+  refused_cover v (NotCovered variable mentioned) e names = (v, ap (position (λ (ms : List ℕ). length ms == 0)) (sym all) ∙ sym e, names)
+  refused_cover v (Limit limit) e names = absurd names
+  refused_cover v NoMemory e names = absurd names
 
   pub first_below : (v : ℕ) → Some v ≡ position (λ (ms : List ℕ). length ms == 0) xss → v < length q.variables
   first_below v e =

@@ -1,5 +1,5 @@
 -- The term of a disjunct and a choice, from the tableau of its rows.
-use Rattle.std.proofs.Common.{◌≡◌, ℕ, ◌≤◌, List, [], get_or, refl, sym, subst}
+use Rattle.std.proofs.Common.{◌≡◌, ℕ, ◌≤◌, List, [], get_or, refl, sym, subst, None}
 use Rattle.std.specs.Ordering.{nat_cmp}
 use Rattle.std.specs.FinSet.{FinSet}
 use Rattle.su_where.specs.declared.literals.Literal.{Literal}
@@ -13,10 +13,9 @@ use Rattle.su_steps.specs.Objects.{width}
 use Rattle.su_steps.specs.Choices.{origins_of}
 use Rattle.su_steps.specs.PairSymbols.{comparisons}
 use Rattle.su_steps.specs.Terms.{case_of}
-use Rattle.su_steps.specs.Cases.{HaveNone, HaveTableau, Gives}
+use Rattle.su_steps.specs.Cases.{HaveNone, HaveTableau, Gives, IsOutOf}
 use Rattle.su_steps.specs.Limits.{row_count}
 use Rattle.su_steps.specs.inside.Ready.{FitOrigins, IsShown, IsChoice}
-use Rattle.su_steps.specs.inside.Outs.{GivesNone}
 use Rattle.su_steps.proofs.Cases.{fit_origins, shown_rows}
 
 module _ (schema : SchemaValue) (maximal : List (FinSet nat_cmp)) (q : Resolved) (choice : List ℕ) (os : List Origin) (is : os ≡ origins_of schema maximal choice) where
@@ -27,7 +26,7 @@ module _ (schema : SchemaValue) (maximal : List (FinSet nat_cmp)) (q : Resolved)
   rows_shown resolved is_choice = subst (IsShown schema q) (sym is) (shown_rows schema maximal q resolved choice is_choice)
 
   module _ (disjunct : ℕ) (ls : List Literal) (literals : get_or (disjuncts_of q.cond) disjunct [] ≡ ls) where
-    pub gives_none : HaveNone schema os (comparisons (width schema) q.places ls) → GivesNone schema maximal q (case_of disjunct choice)
+    pub gives_none : HaveNone schema os (comparisons (width schema) q.places ls) → IsOutOf schema maximal q (case_of disjunct choice) None
     gives_none h =
         subst (λ xs. HaveNone schema (origins_of schema maximal choice) (comparisons (width schema) q.places xs)) (sym literals)
         (subst (λ xs. HaveNone schema xs (comparisons (width schema) q.places ls)) is h)

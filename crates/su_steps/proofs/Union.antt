@@ -1,5 +1,5 @@
 -- The union over the terms is the expression.
-use Rattle.std.proofs.Common.{◌≡◌, ◌↔◌, ⊎_elim, ℕ, ◌+◌, ◌*◌, ◌<◌, true, pos, List, [], ◌∷◌, ◌++◌, map, length, get_or, Contains, refl, sym, ap, ◌∙◌, subst, arith}
+use Rattle.std.proofs.Common.{◌≡◌, ◌↔◌, ⊎_elim, ℕ, ◌+◌, ◌*◌, ◌<◌, true, pos, List, [], ◌∷◌, ◌++◌, map, length, get_or, Contains, refl, sym, ap, ◌∙◌, subst, arith, None}
 use Rattle.std.specs.Prelude.{IsTrue}
 use Rattle.std.specs.List.{AllByRecursion, range_with_len}
 use Rattle.std.specs.Ordering.{nat_cmp}
@@ -36,10 +36,9 @@ use Rattle.su_steps.specs.Choices.{choices, chosen_objects, origins_of}
 use Rattle.su_steps.specs.PairSymbols.{SymbolComparison, place_symbol, operand_symbol, comparisons}
 use Rattle.su_steps.specs.Evaluated.{left_over, sides}
 use Rattle.su_steps.specs.CaseTableaux.{rows_of, tableau_of}
-use Rattle.su_steps.specs.Cases.{HaveTableau, Case, comparisons_of, Gives}
+use Rattle.su_steps.specs.Cases.{HaveTableau, Case, comparisons_of, Gives, IsOutOf}
 use Rattle.su_steps.specs.Terms.{case_of, cases, AreTerms, InUnion}
 use Rattle.su_steps.specs.inside.Ready.{IsChoice}
-use Rattle.su_steps.specs.inside.Outs.{GivesNone, AreTermsOf}
 use Rattle.su_steps.proofs.Lists.{all_at, all_by}
 use Rattle.su_steps.proofs.Cells.{raw_rows}
 use Rattle.su_steps.proofs.Raw.{AreWithin, AllTrue, pair_value, InLists, RawAnswer}
@@ -50,7 +49,7 @@ use Rattle.su_steps.proofs.Shape.{own_name, rows_named, tableau_typed}
 use Rattle.su_steps.proofs.Valid.{head_length}
 use Rattle.su_steps.proofs.ResolvedQueries.{of_range, in_range, in_objects, of_objects, no_place, place_at, place_in, literals_fit, one_kind}
 use Rattle.su_steps.proofs.Chosen.{pick, choice_of, of_choice, objects_count, objects_at, shown, pairs_below}
-use Rattle.su_steps.proofs.Outs.{terms_of}
+use Rattle.su_steps.proofs.Outs.{AreInTurn, terms_of}
 
 module _ (schema : SchemaValue) (maximal : List (FinSet nat_cmp)) (q : Resolved) (resolved : IsResolved schema q) (fit : AreWithin schema) where
   abbrev n : ℕ
@@ -137,28 +136,28 @@ module _ (schema : SchemaValue) (maximal : List (FinSet nat_cmp)) (q : Resolved)
     in_more : (t : Term) (rest ts : List Term) → ts ≡ t ∷ rest → InUnion rest universe h → InUnion ts universe h
     in_more t rest ts e u = (u.0, subst (λ xs. Contains xs u.0) (sym e) (Contains-later t rest u.0 u.1), u.2)
 
-    union_to : Meets schema.fds universe → (cs : List Case) (ts : List Term) → AllByRecursion IsCase cs → AreTermsOf schema maximal q cs ts → (c : Case) → Contains cs c → RawOf c → InUnion ts universe h
+    union_to : Meets schema.fds universe → (cs : List Case) (ts : List Term) → AllByRecursion IsCase cs → AreInTurn schema maximal q cs ts → (c : Case) → Contains cs c → RawOf c → InUnion ts universe h
     union_to meets [] ts are terms c has r = absurd (Contains-nil c has)
     union_to meets (x ∷ xs) ts are terms c has r =
         ⊎_elim
-        (λ (none : GivesNone schema maximal q x × AreTermsOf schema maximal q xs ts).
+        (λ (none : IsOutOf schema maximal q x None × AreInTurn schema maximal q xs ts).
         ⊎_elim
         (λ (e : x ≡ c). absurd (not_contradictory schema universe (chosen_objects schema maximal x.choice) outputs (comparisons_of schema q x.disjunct) none.0.name none.0.naming h meets fit (subst RawOf (sym e) r) none.0.contradictory))
         (λ (later : Contains xs c). union_to meets xs ts are.1 none.1 c later r)
         (Contains-cases x xs c has))
-        (λ (some : (t : Term) × (rest : List Term) × (ts ≡ t ∷ rest) × Gives schema maximal q x t × AreTermsOf schema maximal q xs rest).
+        (λ (some : (t : Term) × (rest : List Term) × (ts ≡ t ∷ rest) × Gives schema maximal q x t × AreInTurn schema maximal q xs rest).
         ⊎_elim
         (λ (e : x ≡ c). (some.0, subst (λ us. Contains us some.0) (sym some.2) (0, omega arith, refl), case_to x are.0 some.0.tableau some.3.tableau meets (subst RawOf (sym e) r)))
         (λ (later : Contains xs c). in_more some.0 some.1 ts some.2 (union_to meets xs some.1 are.1 some.4 c later r))
         (Contains-cases x xs c has))
         terms
 
-    union_from : (cs : List Case) (ts : List Term) → AllByRecursion IsCase cs → AreTermsOf schema maximal q cs ts → InUnion ts universe h → (c : Case) × Contains cs c × RawOf c
+    union_from : (cs : List Case) (ts : List Term) → AllByRecursion IsCase cs → AreInTurn schema maximal q cs ts → InUnion ts universe h → (c : Case) × Contains cs c × RawOf c
     union_from [] ts are terms u = absurd (Contains-nil u.0 (subst (λ xs. Contains xs u.0) terms u.1))
     union_from (x ∷ xs) ts are terms u =
         ⊎_elim
-        (λ (none : GivesNone schema maximal q x × AreTermsOf schema maximal q xs ts). let w = union_from xs ts are.1 none.1 u in (w.0, Contains-later x xs w.0 w.1, w.2))
-        (λ (some : (t : Term) × (rest : List Term) × (ts ≡ t ∷ rest) × Gives schema maximal q x t × AreTermsOf schema maximal q xs rest).
+        (λ (none : IsOutOf schema maximal q x None × AreInTurn schema maximal q xs ts). let w = union_from xs ts are.1 none.1 u in (w.0, Contains-later x xs w.0 w.1, w.2))
+        (λ (some : (t : Term) × (rest : List Term) × (ts ≡ t ∷ rest) × Gives schema maximal q x t × AreInTurn schema maximal q xs rest).
         ⊎_elim
         (λ (e : some.0 ≡ u.0). (x, (0, omega arith, refl), case_from x are.0 some.0.tableau some.3.tableau (subst (λ (t : Term). CutOf t.tableau) (sym e) u.2)))
         (λ (later : Contains some.1 u.0). let w = union_from xs some.1 are.1 some.4 (u.0, later, u.2) in (w.0, Contains-later x xs w.0 w.1, w.2))
@@ -285,12 +284,12 @@ module _ (schema : SchemaValue) (maximal : List (FinSet nat_cmp)) (q : Resolved)
 
   -- ---- the terms are well typed
 
-  pub typed_of : (cs : List Case) (ts : List Term) → AllByRecursion IsCase cs → AreTermsOf schema maximal q cs ts → AllByRecursion (λ (t : Term). IsTyped (attribute_kinds schema) t.tableau) ts
+  pub typed_of : (cs : List Case) (ts : List Term) → AllByRecursion IsCase cs → AreInTurn schema maximal q cs ts → AllByRecursion (λ (t : Term). IsTyped (attribute_kinds schema) t.tableau) ts
   typed_of [] ts are terms = subst (AllByRecursion (λ (t : Term). IsTyped (attribute_kinds schema) t.tableau)) (sym terms) tt
   typed_of (x ∷ xs) ts are terms =
       ⊎_elim
-      (λ (none : GivesNone schema maximal q x × AreTermsOf schema maximal q xs ts). typed_of xs ts are.1 none.1)
-      (λ (some : (t : Term) × (rest : List Term) × (ts ≡ t ∷ rest) × Gives schema maximal q x t × AreTermsOf schema maximal q xs rest).
+      (λ (none : IsOutOf schema maximal q x None × AreInTurn schema maximal q xs ts). typed_of xs ts are.1 none.1)
+      (λ (some : (t : Term) × (rest : List Term) × (ts ≡ t ∷ rest) × Gives schema maximal q x t × AreInTurn schema maximal q xs rest).
       let k = some.3.tableau in
       let fits = literals_fit schema q resolved x.disjunct are.0.disjunct_in in
       subst (AllByRecursion (λ (t : Term). IsTyped (attribute_kinds schema) t.tableau)) (sym some.2) (

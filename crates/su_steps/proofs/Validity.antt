@@ -1,5 +1,5 @@
 -- The terms of a query are valid tableaux: each variable of a head stands in the row of an object that has its attribute.
-use Rattle.std.proofs.Common.{◌≡◌, ⊎_elim, List, [], ◌∷◌, get_or, sym, subst}
+use Rattle.std.proofs.Common.{◌≡◌, ⊎_elim, List, [], ◌∷◌, get_or, sym, subst, None}
 use Rattle.std.specs.Prelude.{All}
 use Rattle.std.specs.List.{AllByRecursion}
 use Rattle.std.specs.Ordering.{nat_cmp}
@@ -13,16 +13,15 @@ use Rattle.su_query.specs.declared.resolving.Resolved.{Resolved}
 use Rattle.su_query.specs.Ranges.{IsResolved}
 use Rattle.su_steps.specs.declared.results.Term.{Term}
 use Rattle.su_steps.specs.Choices.{origins_of}
-use Rattle.su_steps.specs.Cases.{Case, comparisons_of, Gives}
+use Rattle.su_steps.specs.Cases.{Case, comparisons_of, Gives, IsOutOf}
 use Rattle.su_steps.specs.Terms.{cases, AreTerms}
-use Rattle.su_steps.specs.inside.Outs.{GivesNone, AreTermsOf}
 use Rattle.su_steps.proofs.Lists.{all_by}
 use Rattle.su_steps.proofs.ResolvedQueries.{within, literals_fit}
 use Rattle.su_steps.proofs.Cases.{shown_rows}
 use Rattle.su_steps.proofs.Tabled.{outputs_stand, sides_stand}
 use Rattle.su_steps.proofs.Union.{IsCase, of_cases}
 use Rattle.su_steps.proofs.Valid.{tableau_valid}
-use Rattle.su_steps.proofs.Outs.{terms_of}
+use Rattle.su_steps.proofs.Outs.{AreInTurn, terms_of}
 
 module _ (schema : SchemaValue) (maximal : List (FinSet nat_cmp)) (q : Resolved) (valid : schemas.IsValid schema) (resolved : IsResolved schema q) where
   abbrev HasValid : Term → Type 0
@@ -38,12 +37,12 @@ module _ (schema : SchemaValue) (maximal : List (FinSet nat_cmp)) (q : Resolved)
       subst IsValid (sym k.is)
       (tableau_valid schema q os (comparisons_of schema q x.disjunct) k.name k.naming (within schema valid) (outputs_stand schema q resolved ls fits os shown) (sides_stand schema q resolved ls fits os shown))
 
-  valid_of : (cs : List Case) (ts : List Term) → AllByRecursion (IsCase schema maximal q resolved (within schema valid)) cs → AreTermsOf schema maximal q cs ts → AllByRecursion HasValid ts
+  valid_of : (cs : List Case) (ts : List Term) → AllByRecursion (IsCase schema maximal q resolved (within schema valid)) cs → AreInTurn schema maximal q cs ts → AllByRecursion HasValid ts
   valid_of [] ts are terms = subst (AllByRecursion HasValid) (sym terms) tt
   valid_of (x ∷ xs) ts are terms =
       ⊎_elim
-      (λ (none : GivesNone schema maximal q x × AreTermsOf schema maximal q xs ts). valid_of xs ts are.1 none.1)
-      (λ (some : (t : Term) × (rest : List Term) × (ts ≡ t ∷ rest) × Gives schema maximal q x t × AreTermsOf schema maximal q xs rest).
+      (λ (none : IsOutOf schema maximal q x None × AreInTurn schema maximal q xs ts). valid_of xs ts are.1 none.1)
+      (λ (some : (t : Term) × (rest : List Term) × (ts ≡ t ∷ rest) × Gives schema maximal q x t × AreInTurn schema maximal q xs rest).
       subst (AllByRecursion HasValid) (sym some.2) (case_valid x are.0 some.0 some.3, valid_of xs some.1 are.1 some.4))
       terms
 

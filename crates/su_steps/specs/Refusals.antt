@@ -26,9 +26,14 @@ pub record IsAccepted (schema : SchemaValue) (maximal : List (FinSet nat_cmp)) (
   pub few_rows : HasFewRows schema maximal q
   pub few_terms : HasFewTerms schema maximal q
 
+-- the fault names variable v, and what is mentioned with it
+abbrev pub NamesVariable : Resolved → ℕ → StepFault → Type 0
+NamesVariable q v (NotCovered variable mentioned) = (slice_get q.variables v ≡ Some variable) × (mentioned ≡ mentioned_with q.places v)
+NamesVariable q v (Limit limit) = ⊥
+NamesVariable q v NoMemory = ⊥
+
 -- why the query is refused: the first cause that stands against it; want of memory is no cause
 abbrev pub IsStepRefusal : SchemaValue → List (FinSet nat_cmp) → Resolved → StepFault → Type 0
-IsStepRefusal schema maximal q (NotCovered variable mentioned) =
-    (v : ℕ) × (first_uncovered schema maximal q ≡ Some v) × (slice_get q.variables v ≡ Some variable) × (mentioned ≡ mentioned_with q.places v)
+IsStepRefusal schema maximal q (NotCovered variable mentioned) = (v : ℕ) × (first_uncovered schema maximal q ≡ Some v) × NamesVariable q v (NotCovered variable mentioned)
 IsStepRefusal schema maximal q (Limit limit) = IsCovered schema maximal q × IsLimitPassed schema maximal q limit
 IsStepRefusal schema maximal q NoMemory = ⊥

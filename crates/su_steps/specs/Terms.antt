@@ -21,11 +21,15 @@ case_of i choice = record { disjunct = i; choice = choice }
 abbrev pub cases : SchemaValue → List (FinSet nat_cmp) → Resolved → List Case
 cases schema maximal q = flat_map (λ i. map (case_of i) (choices schema maximal q)) (range_with_len 0 (length (disjuncts_of q.cond)))
 
--- the terms of the query: the outs of the cases, one after another
-pub record AreTerms (schema : SchemaValue) (maximal : List (FinSet nat_cmp)) (q : Resolved) (ts : List Term) : Type 0 where
+-- the terms of these cases: what comes out of each, one after another
+pub record AreTermsOf (schema : SchemaValue) (maximal : List (FinSet nat_cmp)) (q : Resolved) (cs : List Case) (ts : List Term) : Type 0 where
   pub outs : List (Option Term)
-  pub each : AllZip (IsOutOf schema maximal q) (cases schema maximal q) outs
+  pub each : AllZip (IsOutOf schema maximal q) cs outs
   pub are : ts ≡ filter_map (λ out. out) outs
+
+-- the terms of the query: those of its cases
+abbrev pub AreTerms : SchemaValue → List (FinSet nat_cmp) → Resolved → List Term → Type 0
+AreTerms schema maximal q ts = AreTermsOf schema maximal q (cases schema maximal q) ts
 
 -- h has the outputs of an answer of some term over the universe whose compared values meet the term's comparisons
 abbrev pub InUnion : List Term → List (List Value) → List Value → Type 0

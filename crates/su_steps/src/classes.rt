@@ -5,14 +5,14 @@ ghost use Rattle.su_tableau.specs.declared.symbols.Sym.TheVariants.{Var, Const};
 ghost use Rattle.su_query.specs.declared.places.Place.{Place as APlace};
 ghost use Rattle.su_classes.specs.Items.{IsPlacedBelow};
 ghost use Rattle.su_classes.specs.Tables.{rep, IsLeastTable};
-ghost use Rattle.su_classes.specs.inside.Symbols.{symbol_at as symbol_numbered};
+ghost use Rattle.su_classes.specs.Symbols.{symbol_at as symbol_numbered};
 ghost use Rattle.su_steps.specs.PairSymbols.{pair, place_symbol, operand_symbol};
 ghost use Rattle.su_steps.specs.inside.Numbers.{class_name, AreClasses};
 
 use crate::constants::place;
 use std::alloc::Global;
 use su_base::{List, NoMemory, Value};
-use su_classes::{Placed, Together};
+use su_classes::{Placed, Together, symbol_at};
 use su_fd::Fd;
 use su_query::Place;
 use su_tableau::Sym;
@@ -27,18 +27,6 @@ pub struct Classes {
     pub equal: List<Together>,
     pub table: Vec<usize>,
     pub width: u8,
-}
-
-/// The symbol of an item.
-fn symbol_at(alloc: Global, constants: &[Value], item: usize) -> Result<Sym, NoMemory>
-    requires { item < length constants.now + 2 ^ 32 }
-    ensures { IfOk result (λ s. s ≡ symbol_numbered constants.now item) }
-{
-    if item < constants.len() {
-        Ok(Sym::Const(constants[item].copy(alloc)?))
-    } else {
-        Ok(Sym::Var((item - constants.len()) as u32))
-    }
 }
 
 impl Classes {

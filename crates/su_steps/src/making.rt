@@ -9,11 +9,12 @@ ghost use Rattle.su_steps.specs.declared.faults.StepFault.TheVariants.{NotCovere
 ghost use Rattle.su_steps.specs.Laws.{AreTheExpression};
 ghost use Rattle.su_steps.specs.Choices.{coverings as coverings_in};
 ghost use Rattle.su_steps.specs.Objects.{width};
+ghost use Rattle.su_steps.specs.Cases.{IsOutOf};
 ghost use Rattle.su_steps.specs.Terms.{case_of, AreTerms};
 ghost use Rattle.su_steps.specs.Limits.{row_count};
-ghost use Rattle.su_steps.specs.Refusals.{IsAccepted, IsStepRefusal};
+ghost use Rattle.su_steps.specs.Refusals.{IsAccepted, IsStepRefusal, NamesVariable};
 ghost use Rattle.su_steps.specs.inside.Ready.{IsReady, AreClosed, FitLiterals, FitOrigins, IsShown, IsChoice};
-ghost use Rattle.su_steps.specs.inside.Outs.{IsTableauIfAny, IsTermIfAny, AddsTerms, IsNotCovered};
+ghost use Rattle.su_steps.specs.inside.Outs.{IsTableauIfAny, AddsTerms};
 
 use crate::building::{build_head, rows};
 use crate::choosing::{choice_at, choice_count, coverings, first_empty, most_rows};
@@ -137,7 +138,7 @@ fn term(
     requires disjunct { get_or (disjuncts_of question.now.resolved.now.cond) disjunct [] ≡ literals.now }
     requires ready { IsReady (width question.now.schema.now) question.now.resolved.now literals.now classes.old }
     ensures ready { OnOk result (IsReady (width question.now.schema.now) question.now.resolved.now literals.now classes.new) }
-    ensures term { IfOk result (IsTermIfAny question.now (case_of disjunct choice)) }
+    ensures term { IfOk result (IsOutOf question.now.schema.now question.now.maximal.now question.now.resolved.now (case_of disjunct choice)) }
 {
     let schema = question.schema;
     let origins = origins(alloc, schema, question.maximal, choice.as_slice())?;
@@ -243,7 +244,7 @@ fn accepted_terms(
 fn not_covered(alloc: Global, resolved: &Resolved, v: u8) -> Result<StepFault, NoMemory>
     requires variable { v < length resolved.now.variables }
     requires places { All (λ p. p.attribute < 128) resolved.now.places }
-    ensures { IfOk result (IsNotCovered resolved.now v) }
+    ensures { IfOk result (NamesVariable resolved.now v) }
 {
     Ok(StepFault::NotCovered {
         variable: copy_name(alloc, resolved.variables.get(v as usize))?,

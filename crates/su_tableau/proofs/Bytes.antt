@@ -1,17 +1,14 @@
 -- A tableau of bytes is frozen to bytes.
-use Rattle.std.proofs.Common.{◌≡◌, ℕ, zero, suc, ◌+◌, ◌<◌, ◌≤◌, List, [], ◌∷◌, map, length, get_or, refl, All, replicate, arith}
+use Rattle.std.proofs.Common.{ℕ, zero, suc, ◌+◌, ◌<◌, List, get_or, All, replicate, arith}
 use Rattle.std.proofs.lemmas.List.Elements.{All-map}
 use Rattle.su_base.specs.declared.values.Kind.{Kind}
 use Rattle.su_base.specs.declared.values.Kind.TheVariants.{Int as IntKind, Text as TextKind}
-use Rattle.su_base.specs.declared.values.Value.{Value}
 use Rattle.su_tableau.specs.declared.symbols.Sym.{Sym}
 use Rattle.su_tableau.specs.declared.symbols.Sym.TheVariants.{Const, Var}
 use Rattle.su_tableau.specs.Tableaux.{Tab}
 use Rattle.su_tableau.specs.Valuations.{value_of, values_of}
-use Rattle.su_tableau.specs.Kinds.{Kinds, IsTyped}
-use Rattle.su_tableau.specs.Equivalent.{IsWithin}
 use Rattle.su_tableau.specs.FrozenTableaux.{new_value, frozen, frozen_head, frozen_rows, tab_top}
-use Rattle.su_tableau.specs.Bytes.{IsOfBytes, IsByteSymbol, HasByteConstants, IsByteWithin, BytesSuffice, LeastOverBytes}
+use Rattle.su_tableau.specs.Bytes.{IsOfBytes, IsByteSymbol, HasByteConstants, BytesSuffice, LeastOverBytes}
 use Rattle.su_tableau.proofs.FrozenTableaux.{frozen_typed, frozen_answer, frozen_maps}
 use Rattle.su_tableau.proofs.Containment.{maps_within}
 

@@ -10,7 +10,7 @@ use Rattle.su_tableau.specs.declared.symbols.Sym.TheVariants.{Const, Var}
 use Rattle.su_tableau.specs.Tableaux.{Tab, IsValid}
 use Rattle.su_tableau.specs.Valuations.{value_of, values_of, Ext}
 use Rattle.su_tableau.specs.Parts.{part}
-use Rattle.su_tableau.specs.Essential.{HasSymbol, constant, in_head, twice, AgreesOn, ExtByEssential}
+use Rattle.su_tableau.specs.Essential.{AgreeByEssential, HasSymbol, constant, in_head, twice, AgreesOn, ExtByEssential}
 use Rattle.su_tableau.proofs.Sets.{select, select-has, select-from}
 
 -- ---- whether a variable stands somewhere
@@ -94,12 +94,12 @@ module _ (t : Tab) (m : ℕ) (v : ℕ → Value) (us : ℕ → List Value) (agre
   read_at k (inr none) = v k
 
   stands_holds : (k : ℕ) (o : Stands (λ i. get_or t.rows i []) (bit_at m) (length t.rows) k) → HasSymbol t m o.line o.column (Var k)
-  stands_holds k o = record { row_in = o.line_in; in_set = o.is_looked; column_in = o.below; is = o.is }
+  stands_holds k o = record { row_in = o.line_in; in_set = o.is_looked; cell = record { below = o.below; is = o.is } }
 
   -- wherever the variable stands, the same is read
   read_same : (i c k : ℕ) → HasSymbol t m i c (Var k) → (d : Stands (λ i. get_or t.rows i []) (bit_at m) (length t.rows) k ⊎ (Stands (λ i. get_or t.rows i []) (bit_at m) (length t.rows) k → ⊥)) → read_at k d ≡ get_or (us i) c (v k)
   unfolding read_at
-  read_same i c k h (inr none) = absurd (none (record { line = i; line_in = h.row_in; is_looked = h.in_set; column = c; below = h.column_in; is = h.is }))
+  read_same i c k h (inr none) = absurd (none (record { line = i; line_in = h.row_in; is_looked = h.in_set; column = c; below = h.cell.below; is = h.cell.is }))
   read_same i c k h (inl o) =
       let there = stands_holds k o in
       let apart : (o.line ≡ i → o.column ≢ c) → get_or (us o.line) o.column (v k) ≡ get_or (us i) c (v k) = λ ne.
@@ -129,7 +129,7 @@ module _ (t : Tab) (m : ℕ) (v : ℕ → Value) (us : ℕ → List Value) (agre
       same_lists (values_of changed row) (us i) (l ∙ len) (λ c d low.
       let low_row : c < length row = omega arith in
       let x = get_or row c (Var 0) in
-      let holds : HasSymbol t m i c x = record { row_in = h; in_set = set; column_in = low_row; is = λ e. get_or_default row c e (Var 0) low_row } in
+      let holds : HasSymbol t m i c x = record { row_in = h; in_set = set; cell = record { below = low_row; is = λ e. get_or_default row c e (Var 0) low_row } } in
       get_or-map (value_of changed) row c (Var 0) d low_row ∙ changed_cell i c x holds d (omega arith))
 
   changed_head : IsValid (part t m) → (c : ℕ) (d : Value) → c < length t.head → get_or (values_of changed t.head) c d ≡ get_or (values_of v t.head) c d
@@ -149,23 +149,18 @@ module _ (t : Tab) (m : ℕ) (v : ℕ → Value) (us : ℕ → List Value) (agre
             let holds : HasSymbol t m r.place cell.0 (Var k) = record {
               row_in = r.below;
               in_set = r.is_in;
-              column_in = subst (λ row. cell.0 < length row) (sym is) cell.1;
-              is = λ d. ap (λ row. get_or row cell.0 d) is ∙ get_or_default row cell.0 d (Var k) cell.1 ∙ cell.2;
+              cell = record { below = subst (λ row. cell.0 < length row) (sym is) cell.1; is = λ d. ap (λ row. get_or row cell.0 d) is ∙ get_or_default row cell.0 d (Var k) cell.1 ∙ cell.2 };
             } in
             read_same r.place cell.0 k holds (stands (λ i. get_or t.rows i []) (bit_at m) (length t.rows) k) ∙ agrees r.place r.below r.is_in cell.0 (Var k) holds (in_head k holds has) (v k)
       ] in
       get_or-map (value_of changed) t.head c (Var 0) d low ∙ same x (get_or_default t.head c x (Var 0) low) ∙ sym (get_or-map (value_of v) t.head c (Var 0) d low)
 
--- a row of the universe for each row, whatever its number
-abbrev Choice : Tab → ℕ → List (List Value) → (ℕ → Value) → Type 0
-Choice t m universe v = (i : ℕ) → i < length t.rows → bit_at m i ≡ 1 → (u : List Value) × Contains universe u × AgreesOn t m v i u
-
-abbrev chosen : (t : Tab) (m : ℕ) (universe : List (List Value)) (v : ℕ → Value) → Choice t m universe v → (i : ℕ) → (i < length t.rows) ⊎ (length t.rows ≤ i) → (bit_at m i ≡ 1) ⊎ (bit_at m i ≢ 1) → List Value
+abbrev chosen : (t : Tab) (m : ℕ) (universe : List (List Value)) (v : ℕ → Value) → AgreeByEssential t m universe v → (i : ℕ) → (i < length t.rows) ⊎ (length t.rows ≤ i) → (bit_at m i ≡ 1) ⊎ (bit_at m i ≢ 1) → List Value
 chosen t m universe v choice i (inl lt) (inl one) = (choice i lt one).0
 chosen t m universe v choice i (inl lt) (inr other) = []
 chosen t m universe v choice i (inr le) b = []
 
-chosen_good : (t : Tab) (m : ℕ) (universe : List (List Value)) (v : ℕ → Value) (choice : Choice t m universe v) (i : ℕ) (a : (i < length t.rows) ⊎ (length t.rows ≤ i)) (b : (bit_at m i ≡ 1) ⊎ (bit_at m i ≢ 1)) → i < length t.rows → bit_at m i ≡ 1 → Contains universe (chosen t m universe v choice i a b) × AgreesOn t m v i (chosen t m universe v choice i a b)
+chosen_good : (t : Tab) (m : ℕ) (universe : List (List Value)) (v : ℕ → Value) (choice : AgreeByEssential t m universe v) (i : ℕ) (a : (i < length t.rows) ⊎ (length t.rows ≤ i)) (b : (bit_at m i ≡ 1) ⊎ (bit_at m i ≢ 1)) → i < length t.rows → bit_at m i ≡ 1 → Contains universe (chosen t m universe v choice i a b) × AgreesOn t m v i (chosen t m universe v choice i a b)
 chosen_good t m universe v choice i (inl lt) (inl one) h s = ((choice i lt one).1, (choice i lt one).2)
 chosen_good t m universe v choice i (inl lt) (inr other) h s = absurd (other s)
 chosen_good t m universe v choice i (inr le) b h s = absurd (omega arith)
@@ -173,13 +168,13 @@ chosen_good t m universe v choice i (inr le) b h s = absurd (omega arith)
 pub essential_ext : (t : Tab) (m : ℕ) (universe : List (List Value)) (h : List Value) → IsValid (part t m) → All (λ row. length row ≡ t.width) t.rows → All (λ u. length u ≡ t.width) universe → ExtByEssential t m universe h → Ext (part t m) universe h
 essential_ext t m universe h valid widths wide s =
     let v = s.valuation in
-    let us = λ (i : ℕ). chosen t m universe v s.agrees i (cases_lt i (length t.rows)) (cases_eq (bit_at m i) 1) in
-    let good = λ (i : ℕ) (l : i < length t.rows) (b : bit_at m i ≡ 1). chosen_good t m universe v s.agrees i (cases_lt i (length t.rows)) (cases_eq (bit_at m i) 1) l b in
+    let us = λ (i : ℕ). chosen t m universe v s.holds i (cases_lt i (length t.rows)) (cases_eq (bit_at m i) 1) in
+    let good = λ (i : ℕ) (l : i < length t.rows) (b : bit_at m i ≡ 1). chosen_good t m universe v s.holds i (cases_lt i (length t.rows)) (cases_eq (bit_at m i) 1) l b in
     let agrees = λ (i : ℕ) (l : i < length t.rows) (b : bit_at m i ≡ 1). (good i l b).1 in
     let w = changed t m v us agrees in
     record {
       valuation = w;
-      sends = λ q d l.
+      holds = λ q d l.
           let row = get_or (select m t.rows) q d in
           let r = select-from m t.rows row (q, l, get_or_default (select m t.rows) q row d l) in
           let i = r.place in
@@ -196,12 +191,12 @@ essential_ext t m universe h valid widths wide s =
 pub ext_essential : (t : Tab) (m : ℕ) (universe : List (List Value)) (h : List Value) → Ext (part t m) universe h → ExtByEssential t m universe h
 ext_essential t m universe h e = record {
   valuation = e.valuation;
-  agrees = λ i low set.
+  holds = λ i low set.
       let row = get_or t.rows i [] in
-      let has = All-contains (λ row. Contains universe (values_of e.valuation row)) (select m t.rows) row e.sends (select-has m t.rows i [] low set) in (
+      let has = All-contains (λ row. Contains universe (values_of e.valuation row)) (select m t.rows) row e.holds (select-has m t.rows i [] low set) in (
         values_of e.valuation row,
         has,
-        λ c x holds essential d. get_or-map (value_of e.valuation) row c (Var 0) d holds.column_in ∙ ap (value_of e.valuation) (holds.is (Var 0)),
+        λ c x holds essential d. get_or-map (value_of e.valuation) row c (Var 0) d holds.cell.below ∙ ap (value_of e.valuation) (holds.cell.is (Var 0)),
       );
   gives = e.gives;
 }

@@ -20,8 +20,7 @@ elsewhere_found t m row column k i r but is low set out s = record {
   holds = record {
     row_in = low;
     in_set = set;
-    column_in = subst (λ r. s.column < length r) is s.below;
-    is = λ d. ap (λ r. get_or r s.column d) (sym is) ∙ s.is d;
+    cell = record { below = subst (λ r. s.column < length r) is s.below; is = λ d. ap (λ r. get_or r s.column d) (sym is) ∙ s.is d };
   };
   other = λ e f. s.other ((out s.column).1 (e, f));
 }
@@ -31,8 +30,8 @@ pub elsewhere_none : (t : Tab) (m row column k i : ℕ) (r : List Sym) (but : Op
 elsewhere_none t m row column k i r but is out none c h other =
     none (record {
       column = c;
-      below = subst (λ r. c < length r) (sym is) h.column_in;
-      is = λ d. ap (λ r. get_or r c d) is ∙ h.is d;
+      below = subst (λ r. c < length r) (sym is) h.cell.below;
+      is = λ d. ap (λ r. get_or r c d) is ∙ h.cell.is d;
       other = λ e. let p = (out c).0 e in other p.0 p.1;
     })
 
@@ -46,26 +45,25 @@ pub cell_holds : (t : Tab) (m i c : ℕ) (x y : Sym) → All (λ row. length row
 cell_holds t m i c x y widths low set wide is e = record {
   row_in = low;
   in_set = set;
-  column_in = let w = widths i [] low in omega arith;
-  is = λ d. is d ∙ e;
+  cell = record { below = let w = widths i [] low in omega arith; is = λ d. is d ∙ e };
 }
 
 -- a cell of a variable that is in no head is essential only where the variable is elsewhere too
 pub essential_else : (t : Tab) (m i c k : ℕ) → HasSymbol t m i c (Var k) → (Contains t.head (Var k) → ⊥) → IsEssential t m i c → IsElsewhere t m i c k
-essential_else t m i c k h none (constant v h') = absurd (let e : Const v ≡ Var k = sym (h'.is (Const v)) ∙ h.is (Const v) in cc)
+essential_else t m i c k h none (constant v h') = absurd (let e : Const v ≡ Var k = sym (h'.cell.is (Const v)) ∙ h.cell.is (Const v) in cc)
 essential_else t m i c k h none (in_head j h' has) =
-    let e : Var j ≡ Var k = sym (h'.is (Var j)) ∙ h.is (Var j) in
+    let e : Var j ≡ Var k = sym (h'.cell.is (Var j)) ∙ h.cell.is (Var j) in
     let same : j ≡ k = cc in
     absurd (none (subst (λ j. Contains t.head (Var j)) same has))
 essential_else t m i c k h none (twice j h' e) =
-    let e' : Var j ≡ Var k = sym (h'.is (Var j)) ∙ h.is (Var j) in
+    let e' : Var j ≡ Var k = sym (h'.cell.is (Var j)) ∙ h.cell.is (Var j) in
     let same : j ≡ k = cc in
     subst (λ j. IsElsewhere t m i c j) same e
 
 pub essential_in : (t : Tab) (m i c : ℕ) → IsEssential t m i c → c < length (get_or t.rows i [])
-essential_in t m i c (constant v h) = h.column_in
-essential_in t m i c (in_head k h has) = h.column_in
-essential_in t m i c (twice k h e) = h.column_in
+essential_in t m i c (constant v h) = h.cell.below
+essential_in t m i c (in_head k h has) = h.cell.below
+essential_in t m i c (twice k h e) = h.cell.below
 
 -- ---- the set of the columns so far
 

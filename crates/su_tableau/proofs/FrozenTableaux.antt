@@ -82,7 +82,7 @@ pub frozen_answer : (t : Tab) (f : ℕ → Kind) (n : ℕ) → Ext t (frozen_row
 frozen_answer t f n =
     record {
       valuation = frozen f n;
-      sends = λ k d h.
+      holds = λ k d h.
           (k, subst (λ l. k < l) (sym (length-map t.rows (values_of (frozen f n)))) h, get_or-map (values_of (frozen f n)) t.rows k d (values_of (frozen f n) (get_or t.rows k d)) h);
       gives = refl;
     }
@@ -98,7 +98,7 @@ frozen_maps s t f n low_s low_t e =
       rows = λ k d h.
           let row = get_or s.rows k d in
           let image = images_of (λ k. thawed n (v k)) row in
-          let c = e.sends k d h in
+          let c = e.holds k d h in
           let j = c.0 in
           let lt : j < length t.rows = subst (λ l. j < l) (length-map t.rows (values_of z)) c.1 in
           let w = get_or t.rows j image in

@@ -5,6 +5,7 @@ pub mod Rows
 pub mod Same
 pub mod SymbolParts
 pub mod Sets
+pub mod Members
 pub mod EssentialCells
 pub mod ValuationLists
 mod Bytes

@@ -4,6 +4,7 @@ use Rattle.std.proofs.lemmas.Bool.{cases_lt}
 use Rattle.std.proofs.lemmas.List.{length_push, get_or_push, get_or_append_left}
 use Rattle.su_base.specs.declared.values.Value.{Value}
 use Rattle.su_base.specs.declared.values.Value.TheVariants.{Int}
+use Rattle.su_base.proofs.Items.{Contains-later}
 use Rattle.su_tableau.specs.declared.symbols.Sym.{Sym}
 use Rattle.su_tableau.specs.declared.symbols.Sym.TheVariants.{Const, Var}
 use Rattle.su_tableau.specs.Tableaux.{Tab, AreBelow, AreVarsBelow}
@@ -28,14 +29,11 @@ firsts-at v (suc n) k d h =
     (λ (le : n ≤ k). let e : k ≡ n = omega arith in get_or_push (firsts v n) (v n) d k (length-firsts v n ∙ sym e) ∙ ap v (sym e))
     (cases_lt k n)
 
-contains_later : (x y : Sym) (xs : List Sym) → Contains xs y → Contains (x ∷ xs) y
-contains_later x y xs c = (suc c.0, omega (arith, c.1), c.2)
-
 pub values_same : (v w : ℕ → Value) (xs : List Sym) → ((k : ℕ) → Contains xs (Var k) → v k ≡ w k) → values_of v xs ≡ values_of w xs
 values_same v w [] h = refl
-values_same v w (Const c ∷ xs) h = let i = values_same v w xs (λ k l. h k (contains_later (Const c) (Var k) xs l)) in cc
+values_same v w (Const c ∷ xs) h = let i = values_same v w xs (λ k l. h k (Contains-later (Const c) xs (Var k) l)) in cc
 values_same v w (Var k ∷ xs) h =
-    let i = values_same v w xs (λ j l. h j (contains_later (Var k) (Var j) xs l)) in
+    let i = values_same v w xs (λ j l. h j (Contains-later (Var k) xs (Var j) l)) in
     let j = h k (0, omega arith, refl) in
     cc
 
@@ -100,9 +98,9 @@ by_list t universe h e =
     record {
       values = l.0;
       below = l.1.below;
-      sends = λ i d low. subst (Contains universe) (sym (l.1.rows i d low)) (e.sends i d low);
+      sends = λ i d low. subst (Contains universe) (sym (l.1.rows i d low)) (e.holds i d low);
       gives = l.1.head ∙ e.gives;
     }
 
 pub from_list : (t : Tab) (universe : List (List Value)) (h : List Value) → ExtByList t universe h → Ext t universe h
-from_list t universe h e = record { valuation = nth e.values; sends = e.sends; gives = e.gives }
+from_list t universe h e = record { valuation = nth e.values; holds = e.sends; gives = e.gives }

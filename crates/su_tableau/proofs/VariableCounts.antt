@@ -68,7 +68,7 @@ not_before i j (inl l) = absurd (omega arith)
 not_before i j (inr e) = let l = e.1 in absurd (omega arith)
 
 one_symbol : (t : Tab) (m i j : ℕ) (x y : Sym) → HasSymbol t m i j x → HasSymbol t m i j y → x ≡ y
-one_symbol t m i j x y h g = sym (h.is x) ∙ g.is x
+one_symbol t m i j x y h g = sym (h.cell.is x) ∙ g.cell.is x
 
 moved : (t : Tab) (m r c i j : ℕ) (x : Sym) → r ≡ i → c ≡ j → HasSymbol t m r c x → HasSymbol t m i j x
 moved t m r c i j x e f h = subst (λ r. HasSymbol t m r j x) e (subst (λ c. HasSymbol t m r c x) f h)
@@ -114,7 +114,7 @@ row_counted t m i n times wide count = λ k.
     (λ r c b. (elim b.0 [ inl l ↦ inl (omega arith) | inr e ↦ let f = e.0 in inl (omega arith) ], b.1))
     (λ r c b. (
       elim b.0 [
-        | inl l ↦ ⊎_elim (λ (lt : r < i). inl lt) (λ (le : i ≤ r). let e : r ≡ i = omega arith in let w = subst (λ r. c < length (get_or t.rows r [])) e b.1.column_in in inr (e, omega arith)) (cases_lt r i)
+        | inl l ↦ ⊎_elim (λ (lt : r < i). inl lt) (λ (le : i ≤ r). let e : r ≡ i = omega arith in let w = subst (λ r. c < length (get_or t.rows r [])) e b.1.cell.below in inr (e, omega arith)) (cases_lt r i)
         | inr e ↦ let l = e.1 in absurd (omega arith)
       ],
       b.1,
@@ -187,8 +187,7 @@ pub cell_read : (t : Tab) (m i c : ℕ) (row : List Sym) (x : Sym) → i < lengt
 cell_read t m i c row x low set is below read = record {
   row_in = low;
   in_set = set;
-  column_in = subst (λ r. c < length r) is below;
-  is = λ d. ap (λ r. get_or r c d) (sym is) ∙ get_or_default row c d x below ∙ sym read;
+  cell = record { below = subst (λ r. c < length r) is below; is = λ d. ap (λ r. get_or r c d) (sym is) ∙ get_or_default row c d x below ∙ sym read };
 }
 
 -- a fact of each entry below n, and of the one written at n

@@ -1,6 +1,6 @@
 -- Universal relations of bytes.
 -- In definitions a text is a list of any numbers; whatever is stored is made of bytes, numbers below 256. What holds over all relations of bytes holds over all.
-use Rattle.std.specs.Prelude.{ℕ, ◌<◌, ◌≤◌, List, All, length}
+use Rattle.std.specs.Prelude.{◌<◌, ◌≤◌, List, All, length}
 use Rattle.su_base.specs.declared.values.Value.{Value}
 use Rattle.su_base.specs.declared.values.Value.TheVariants.{Int, Text}
 use Rattle.su_tableau.specs.declared.symbols.Sym.{Sym}

@@ -1,6 +1,6 @@
 -- Parts of a tableau. A set of row numbers is a number: its bit i is 1 where i is in the set.
 -- part: the rows of a set, in order, with the same head
-use Rattle.std.specs.Prelude.{ℕ, zero, suc, List, [], ◌∷◌, ◌++◌, map, length, get_or}
+use Rattle.std.specs.Prelude.{◌≡◌, ℕ, zero, suc, ◌<◌, List, [], ◌∷◌, ◌++◌, map, length, get_or}
 use Rattle.std.specs.Int.{bit_at}
 use Rattle.su_tableau.specs.declared.symbols.Sym.{Sym}
 use Rattle.su_tableau.specs.declared.symbols.Sym.TheVariants.{Var}
@@ -23,6 +23,11 @@ row_numbers t m = numbers_of m (length t.rows)
 -- the symbol of a row in a column
 abbrev pub cell_at : List Sym → ℕ → Sym
 cell_at row c = get_or row c (Var 0)
+
+-- the cell of a row holds the symbol
+pub record Cell (row : List Sym) (column : ℕ) (x : Sym) : Type 0 where
+  pub below : column < length row
+  pub is : (d : Sym) → get_or row column d ≡ x
 
 -- row i of a tableau
 abbrev pub row_of : Tab → ℕ → List Sym

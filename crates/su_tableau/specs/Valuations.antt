@@ -31,11 +31,15 @@ values_of v xs = map (value_of v) xs
 abbrev pub Sends : (ℕ → Value) → List (List Sym) → List (List Value) → Type 0
 Sends v rows universe = All (λ row. Contains universe (values_of v row)) rows
 
--- h is an answer of the tableau over the universe
-pub record Ext (t : Tab) (universe : List (List Value)) (h : List Value) : Type 0 where
+-- h is the values of the tableau's head under a valuation of which the fact holds
+pub record IsHeadUnder (fact : (ℕ → Value) → Type 0) (t : Tab) (h : List Value) : Type 0 where
   pub valuation : ℕ → Value
-  pub sends : Sends valuation t.rows universe
+  pub holds : fact valuation
   pub gives : values_of valuation t.head ≡ h
+
+-- h is an answer of the tableau over the universe
+abbrev pub Ext : Tab → List (List Value) → List Value → Type 0
+Ext t universe h = IsHeadUnder (λ v. Sends v t.rows universe) t h
 
 -- the head's values meet its comparisons: operator i compares the two values from place outputs + 2 i on
 abbrev pub AreCompared : Tab → List Value → Type 0

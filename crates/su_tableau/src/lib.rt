@@ -17,9 +17,9 @@ mod symbols;
 mod tableaux;
 mod valuations;
 
-pub use essential_columns::essential;
-pub use masks::{bit, full, has};
+pub use essential_columns::{essential, is_var};
+pub use masks::{bit, both, full, has, with, without};
 pub use occurrences::{Times, all_essential, fill_essential};
 pub use symbols::Sym;
-pub use tableaux::Tableau;
+pub use tableaux::{Tableau, above, copy_symbols};
 pub use valuations::holds;

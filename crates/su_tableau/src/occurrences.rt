@@ -100,8 +100,8 @@ fn mark_head(times: &mut [Times], head: &[Sym])
     requires { (k : ℕ) → Contains head.now (Var k) → k < length times.old }
     ensures { (k : ℕ) → (times_of times.new k ≡ Again) ↔ (Contains head.now (Var k) ⊎ (times_of times.old k ≡ Again)) }
 {
-    for c in 0..head.len() {
-        mark(times, &head[c]);
+    for x in head {
+        mark(times, x);
     }
 }
 

@@ -173,8 +173,9 @@ impl Tableau {
     }
 }
 
-/// The least number that is above the row's variables and no less than the one given.
-fn above(row: &[Sym], least: usize) -> usize
+/// The least number that is above the row's variables and no less than the one given: linear in the
+/// row, without memory.
+pub fn above(row: &[Sym], least: usize) -> usize
     requires { least ≤ 2 ^ 32 }
     ensures no_less { least ≤ result }
     ensures small { result ≤ 2 ^ 32 }

@@ -11,7 +11,7 @@ use Rattle.su_where.specs.declared.conditions.Condition.TheVariants.{Compare, No
 use Rattle.su_where.specs.declared.conditions.Condition.TheFolds.{fold-roll-Condition}
 use Rattle.su_where.specs.Truth.{Cond}
 use Rattle.su_where.specs.Disjunct.{opposite_of, combinations, combined, form_of, form_step}
-use Rattle.su_where.specs.inside.Joined.{pairs_of, combinations_of, joined}
+use Rattle.su_where.specs.inside.Joined.{joined}
 
 -- the disjuncts of each of several conditions
 abbrev pub forms : Bool → List Cond → List (List (List Literal))
@@ -32,6 +32,10 @@ each-joined : (b : Bool) (cs : List Cond) → flat_map (λ p. p b) (map form_of 
 each-joined b [] = refl
 each-joined b (c ∷ cs) = ap (λ ds. form_of c b ++ ds) (each-joined b cs)
 
+-- each of the first disjuncts joined with each of the second, the first slowest
+abbrev pub pairs_of : List (List Literal) → List (List Literal) → List (List Literal)
+pairs_of firsts seconds = flat_map (λ d. map (λ e. d ++ e) seconds) firsts
+
 -- a combination with a member in front
 fronted : (d : List Literal) (cs : List (List (List Literal))) → map (flat_map (λ d. d)) (map (λ ys. d ∷ ys) cs) ≡ map (λ e. d ++ e) (map (flat_map (λ d. d)) cs)
 fronted d [] = refl
@@ -44,22 +48,21 @@ all-fronted (d ∷ ds) cs =
     ∙ ap (λ es. es ++ map (flat_map (λ d. d)) (flat_map (λ x. map (λ ys. x ∷ ys) cs) ds)) (fronted d cs)
     ∙ ap (λ es. map (λ e. d ++ e) (map (flat_map (λ d. d)) cs) ++ es) (all-fronted ds cs)
 
--- combinations whose members are joined are made step by step
-pub combined-is : (fs : List (List (List Literal))) → combined fs ≡ combinations_of fs
-combined-is [] = refl
-combined-is (f ∷ fs) = all-fronted f (combinations fs) ∙ ap (pairs_of f) (combined-is fs)
+-- the combinations of a first part and of the others, the first slowest
+pub combined-cons : (f : List (List Literal)) (fs : List (List (List Literal))) → combined (f ∷ fs) ≡ pairs_of f (combined fs)
+combined-cons f fs = all-fronted f (combinations fs)
 
-pub form_of-All : (parts : List Cond) (b : Bool) → form_of (All parts) b ≡ (if b then joined (forms b parts) else combinations_of (forms b parts))
+pub form_of-All : (parts : List Cond) (b : Bool) → form_of (All parts) b ≡ (if b then joined (forms b parts) else combined (forms b parts))
 form_of-All parts true =
     ap (λ d. form_of d true) (sym (rolls-All parts)) ∙ ap (λ f. f true) (fold-roll-Condition Literal (Bool → List (List Literal)) form_step (open'.All parts)) ∙ each-joined true parts
 form_of-All parts false =
     ap (λ d. form_of d false) (sym (rolls-All parts)) ∙ ap (λ f. f false) (fold-roll-Condition Literal (Bool → List (List Literal)) form_step (open'.All parts))
-    ∙ ap combined (forms-map false parts) ∙ combined-is (forms false parts)
+    ∙ ap combined (forms-map false parts)
 
-pub form_of-Any : (parts : List Cond) (b : Bool) → form_of (Any parts) b ≡ (if b then combinations_of (forms b parts) else joined (forms b parts))
+pub form_of-Any : (parts : List Cond) (b : Bool) → form_of (Any parts) b ≡ (if b then combined (forms b parts) else joined (forms b parts))
 form_of-Any parts true =
     ap (λ d. form_of d true) (sym (rolls-Any parts)) ∙ ap (λ f. f true) (fold-roll-Condition Literal (Bool → List (List Literal)) form_step (open'.Any parts))
-    ∙ ap combined (forms-map true parts) ∙ combined-is (forms true parts)
+    ∙ ap combined (forms-map true parts)
 form_of-Any parts false =
     ap (λ d. form_of d false) (sym (rolls-Any parts)) ∙ ap (λ f. f false) (fold-roll-Condition Literal (Bool → List (List Literal)) form_step (open'.Any parts)) ∙ each-joined false parts
 
@@ -67,11 +70,14 @@ form_of-Any parts false =
 abbrev both : List Literal → List Literal → List Literal
 both d e = d ++ e
 
-pub length-combinations_push : (fs : List (List (List Literal))) (f : List (List Literal)) → length (combinations_of (fs ++ f ∷ [])) ≡ length (combinations_of fs) * length f
-length-combinations_push [] f = length-pairs both f ([] ∷ []) ∙ grind arith
-length-combinations_push (g ∷ gs) f =
-    length-pairs both g (combinations_of (gs ++ f ∷ [])) ∙ ap (λ n. length g * n) (length-combinations_push gs f)
-    ∙ sym (mul_assoc (length g) (length (combinations_of gs)) (length f)) ∙ ap (λ n. n * length f) (sym (length-pairs both g (combinations_of gs)))
+length-combined_cons : (f : List (List Literal)) (fs : List (List (List Literal))) → length (combined (f ∷ fs)) ≡ length f * length (combined fs)
+length-combined_cons f fs = ap length (combined-cons f fs) ∙ length-pairs both f (combined fs)
+
+pub length-combined_push : (fs : List (List (List Literal))) (f : List (List Literal)) → length (combined (fs ++ f ∷ [])) ≡ length (combined fs) * length f
+length-combined_push [] f = length-combined_cons f [] ∙ grind arith
+length-combined_push (g ∷ gs) f =
+    length-combined_cons g (gs ++ f ∷ []) ∙ ap (λ n. length g * n) (length-combined_push gs f)
+    ∙ sym (mul_assoc (length g) (length (combined gs)) (length f)) ∙ ap (λ n. n * length f) (sym (length-combined_cons g gs))
 
 pub length-joined_push : (fs : List (List (List Literal))) (f : List (List Literal)) → length (joined (fs ++ f ∷ [])) ≡ length (joined fs) + length f
 length-joined_push [] f = grind (arith, length-append)
@@ -110,11 +116,13 @@ split n m count total left c t below few =
       whole = s.whole;
     }
 
-pub combined-at : (f : List (List Literal)) (fs : List (List (List Literal))) (count total left : ℕ) → Split (length f) (length (combinations_of fs)) count total left
-    → get_or (combinations_of (f ∷ fs)) left [] ≡ get_or f (left / length (combinations_of fs)) [] ++ get_or (combinations_of fs) (left % length (combinations_of fs)) []
+pub combined-at : (f : List (List Literal)) (fs : List (List (List Literal))) (count total left : ℕ) → Split (length f) (length (combined fs)) count total left
+    → get_or (combined (f ∷ fs)) left [] ≡ get_or f (left / length (combined fs)) [] ++ get_or (combined fs) (left % length (combined fs)) []
 combined-at f fs count total left s =
-    let m = length (combinations_of fs) in
-    ap (λ i. get_or (combinations_of (f ∷ fs)) i []) (sym s.whole) ∙ get_or-pairs both f (combinations_of fs) (left / m) (left % m) [] [] [] s.place s.rest
+    let m = length (combined fs) in
+    ap (λ i. get_or (combined (f ∷ fs)) i []) (sym s.whole)
+    ∙ ap (λ ds. get_or ds (left / m * m + left % m) []) (combined-cons f fs)
+    ∙ get_or-pairs both f (combined fs) (left / m) (left % m) [] [] [] s.place s.rest
 
 forms_push : (b : Bool) (cs : List Cond) (c : Cond) → forms b (cs ++ c ∷ []) ≡ forms b cs ++ form_of c b ∷ []
 forms_push b [] c = refl
@@ -130,45 +138,45 @@ forms_drop b cs i c h e =
     ap (forms b) (drop-cons cs i c h) ∙ ap (λ x. form_of x b ∷ forms b (drop (suc i) cs)) (sym e) ∙ ap (λ n. form_of c b ∷ forms b (drop n cs)) (sym (add-one i))
 
 pub combined_split : (b : Bool) (cs : List Cond) (i : ℕ) (c : Cond) (count total left : ℕ) → i < length cs → c ≡ get_or cs i c → count ≡ min (length (form_of c b)) 65
-    → total ≡ length (combinations_of (forms b (drop i cs))) → left < total → total ≤ 64
-    → Split (length (form_of c b)) (length (combinations_of (forms b (drop (i + 1) cs)))) count total left
+    → total ≡ length (combined (forms b (drop i cs))) → left < total → total ≤ 64
+    → Split (length (form_of c b)) (length (combined (forms b (drop (i + 1) cs)))) count total left
 combined_split b cs i c count total left h e k t below few =
     split _ _ count total left k
-    (t ∙ ap (λ fs. length (combinations_of fs)) (forms_drop b cs i c h e) ∙ length-pairs both (form_of c b) (combinations_of (forms b (drop (i + 1) cs)))) below few
+    (t ∙ ap (λ fs. length (combined fs)) (forms_drop b cs i c h e) ∙ length-combined_cons (form_of c b) (forms b (drop (i + 1) cs))) below few
 
 pub combined_whole : (b : Bool) (cs : List Cond) (i : ℕ) (c : Cond) (count total left : ℕ) (out next whole : List Literal) → i < length cs → c ≡ get_or cs i c
-    → Split (length (form_of c b)) (length (combinations_of (forms b (drop (i + 1) cs)))) count total left
-    → out ++ get_or (combinations_of (forms b (drop i cs))) left [] ≡ whole → next ≡ out ++ get_or (form_of c b) (left / (total / count)) []
-    → next ++ get_or (combinations_of (forms b (drop (i + 1) cs))) (left % (total / count)) [] ≡ whole
+    → Split (length (form_of c b)) (length (combined (forms b (drop (i + 1) cs)))) count total left
+    → out ++ get_or (combined (forms b (drop i cs))) left [] ≡ whole → next ≡ out ++ get_or (form_of c b) (left / (total / count)) []
+    → next ++ get_or (combined (forms b (drop (i + 1) cs))) (left % (total / count)) [] ≡ whole
 combined_whole b cs i c count total left out next whole h e s w n =
     let f = form_of c b in
     let fs = forms b (drop (i + 1) cs) in
-    let m = length (combinations_of fs) in
-    ap (λ x. x ++ get_or (combinations_of fs) (left % (total / count)) []) n
-    ∙ ap (λ q. (out ++ get_or f (left / q) []) ++ get_or (combinations_of fs) (left % q) []) s.behind
-    ∙ append_assoc out (get_or f (left / m) []) (get_or (combinations_of fs) (left % m) [])
+    let m = length (combined fs) in
+    ap (λ x. x ++ get_or (combined fs) (left % (total / count)) []) n
+    ∙ ap (λ q. (out ++ get_or f (left / q) []) ++ get_or (combined fs) (left % q) []) s.behind
+    ∙ append_assoc out (get_or f (left / m) []) (get_or (combined fs) (left % m) [])
     ∙ ap (λ x. out ++ x) (sym (combined-at f fs count total left s))
-    ∙ ap (λ x. out ++ get_or (combinations_of x) left []) (sym (forms_drop b cs i c h e)) ∙ w
+    ∙ ap (λ x. out ++ get_or (combined x) left []) (sym (forms_drop b cs i c h e)) ∙ w
 
 pub counted_more : (b : Bool) (cs : List Cond) (i : ℕ) (c : Cond) (total count : ℕ) → i < length cs → c ≡ get_or cs i c → count ≡ min (length (form_of c b)) 65
-    → total ≡ min (length (combinations_of (forms b (take i cs)))) 65 → min 65 (total * count) ≡ min (length (combinations_of (forms b (take (i + 1) cs)))) 65
+    → total ≡ min (length (combined (forms b (take i cs)))) 65 → min 65 (total * count) ≡ min (length (combined (forms b (take (i + 1) cs)))) 65
 counted_more b cs i c total count h e k t =
-    min-mul_both 65 total count (length (combinations_of (forms b (take i cs)))) (length (form_of c b)) t k
-    ∙ ap (λ n. min n 65) (sym (length-combinations_push (forms b (take i cs)) (form_of c b)))
-    ∙ ap (λ fs. min (length (combinations_of fs)) 65) (forms_take b cs i c h e)
+    min-mul_both 65 total count (length (combined (forms b (take i cs)))) (length (form_of c b)) t k
+    ∙ ap (λ n. min n 65) (sym (length-combined_push (forms b (take i cs)) (form_of c b)))
+    ∙ ap (λ fs. min (length (combined fs)) 65) (forms_take b cs i c h e)
 
 -- which list of disjuncts a condition of parts has
-pub all_plain : (c : Cond) (parts ps : List Cond) (b : Bool) → c ≡ All parts → ps ≡ parts → b ≡ false → form_of c b ≡ combinations_of (forms b ps)
-all_plain c parts ps b e p n = ap (λ d. form_of d b) (e ∙ ap All (sym p)) ∙ form_of-All ps b ∙ ap (λ v. if v then joined (forms b ps) else combinations_of (forms b ps)) n
+pub all_plain : (c : Cond) (parts ps : List Cond) (b : Bool) → c ≡ All parts → ps ≡ parts → b ≡ false → form_of c b ≡ combined (forms b ps)
+all_plain c parts ps b e p n = ap (λ d. form_of d b) (e ∙ ap All (sym p)) ∙ form_of-All ps b ∙ ap (λ v. if v then joined (forms b ps) else combined (forms b ps)) n
 
 pub all_negated : (c : Cond) (parts ps : List Cond) (b : Bool) → c ≡ All parts → ps ≡ parts → b ≡ true → form_of c b ≡ joined (forms b ps)
-all_negated c parts ps b e p n = ap (λ d. form_of d b) (e ∙ ap All (sym p)) ∙ form_of-All ps b ∙ ap (λ v. if v then joined (forms b ps) else combinations_of (forms b ps)) n
+all_negated c parts ps b e p n = ap (λ d. form_of d b) (e ∙ ap All (sym p)) ∙ form_of-All ps b ∙ ap (λ v. if v then joined (forms b ps) else combined (forms b ps)) n
 
 pub any_plain : (c : Cond) (parts ps : List Cond) (b : Bool) → c ≡ Any parts → ps ≡ parts → b ≡ false → form_of c b ≡ joined (forms b ps)
-any_plain c parts ps b e p n = ap (λ d. form_of d b) (e ∙ ap Any (sym p)) ∙ form_of-Any ps b ∙ ap (λ v. if v then combinations_of (forms b ps) else joined (forms b ps)) n
+any_plain c parts ps b e p n = ap (λ d. form_of d b) (e ∙ ap Any (sym p)) ∙ form_of-Any ps b ∙ ap (λ v. if v then combined (forms b ps) else joined (forms b ps)) n
 
-pub any_negated : (c : Cond) (parts ps : List Cond) (b : Bool) → c ≡ Any parts → ps ≡ parts → b ≡ true → form_of c b ≡ combinations_of (forms b ps)
-any_negated c parts ps b e p n = ap (λ d. form_of d b) (e ∙ ap Any (sym p)) ∙ form_of-Any ps b ∙ ap (λ v. if v then combinations_of (forms b ps) else joined (forms b ps)) n
+pub any_negated : (c : Cond) (parts ps : List Cond) (b : Bool) → c ≡ Any parts → ps ≡ parts → b ≡ true → form_of c b ≡ combined (forms b ps)
+any_negated c parts ps b e p n = ap (λ d. form_of d b) (e ∙ ap Any (sym p)) ∙ form_of-Any ps b ∙ ap (λ v. if v then combined (forms b ps) else joined (forms b ps)) n
 
 pub carried : (x y : List (List Literal)) (k : ℕ) → x ≡ y → k < length x → length x ≤ 64 → (k < length y) × (length y ≤ 64)
 carried x y k e place few = (subst (λ (z : List (List Literal)). k < length z) e place, subst (λ (z : List (List Literal)). length z ≤ 64) e few)

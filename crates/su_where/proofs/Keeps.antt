@@ -12,10 +12,10 @@ use Rattle.su_where.specs.declared.literals.Literal.{Literal}
 use Rattle.su_where.specs.declared.conditions.Condition.TheVariants.{Compare, Not, All, Any}
 use Rattle.su_where.specs.Operator.{holds_in, complement_of}
 use Rattle.su_where.specs.Truth.{Cond, value_of_operand, holds, truth_of}
-use Rattle.su_where.specs.Disjunct.{opposite_of, form_of, all_hold, some_holds, KeepsTruth}
-use Rattle.su_where.specs.inside.Joined.{pairs_of, combinations_of, joined}
+use Rattle.su_where.specs.Disjunct.{opposite_of, combined, form_of, all_hold, some_holds, KeepsTruth}
+use Rattle.su_where.specs.inside.Joined.{joined}
 use Rattle.su_where.proofs.Layers.{truth_of-Compare, truth_of-Not, truth_of-All, truth_of-Any, parts_of, by_layers}
-use Rattle.su_where.proofs.Disjunctive.{forms, form_of-Compare, form_of-Not, form_of-All, form_of-Any}
+use Rattle.su_where.proofs.Disjunctive.{pairs_of, combined-cons, forms, form_of-Compare, form_of-Not, form_of-All, form_of-Any}
 
 complement-holds : (op : Op) (o : Ordering) → holds_in (complement_of op) o ≡ not (holds_in op o)
 complement-holds Equal Before = refl
@@ -76,9 +76,9 @@ some-pairs vs (d ∷ ds) es =
     some-append vs (map (λ e. d ++ e) es) (pairs_of ds es) ∙ ap (λ v. v || some_holds (pairs_of ds es) vs) (some-each vs d es)
     ∙ ap (λ v. (all_hold d vs && some_holds es vs) || v) (some-pairs vs ds es) ∙ or-and (all_hold d vs) (some_holds ds vs) (some_holds es vs)
 
-some-combinations : (vs : List Value) (fs : List (List (List Literal))) → some_holds (combinations_of fs) vs ≡ list_all (λ f. some_holds f vs) fs
-some-combinations vs [] = refl
-some-combinations vs (f ∷ fs) = some-pairs vs f (combinations_of fs) ∙ ap (λ v. some_holds f vs && v) (some-combinations vs fs)
+some-combined : (vs : List Value) (fs : List (List (List Literal))) → some_holds (combined fs) vs ≡ list_all (λ f. some_holds f vs) fs
+some-combined vs [] = refl
+some-combined vs (f ∷ fs) = ap (λ ds. some_holds ds vs) (combined-cons f fs) ∙ some-pairs vs f (combined fs) ∙ ap (λ v. some_holds f vs && v) (some-combined vs fs)
 
 not-and : (a b : Bool) → (not a || not b) ≡ not (a && b)
 not-and true b = refl
@@ -142,11 +142,11 @@ kept_All : (es : List ((c : Cond) × IsKept c)) → IsKept (All (parts_of es))
 kept_All es true vs =
     ap (λ ds. some_holds ds vs) (form_of-All (parts_of es) true) ∙ some-joined vs (forms true (parts_of es)) ∙ kept_not_all vs es ∙ ap not (sym (truth_of-All (parts_of es) vs))
 kept_All es false vs =
-    ap (λ ds. some_holds ds vs) (form_of-All (parts_of es) false) ∙ some-combinations vs (forms false (parts_of es)) ∙ kept_all vs es ∙ sym (truth_of-All (parts_of es) vs)
+    ap (λ ds. some_holds ds vs) (form_of-All (parts_of es) false) ∙ some-combined vs (forms false (parts_of es)) ∙ kept_all vs es ∙ sym (truth_of-All (parts_of es) vs)
 
 kept_Any : (es : List ((c : Cond) × IsKept c)) → IsKept (Any (parts_of es))
 kept_Any es true vs =
-    ap (λ ds. some_holds ds vs) (form_of-Any (parts_of es) true) ∙ some-combinations vs (forms true (parts_of es)) ∙ kept_not_any vs es ∙ ap not (sym (truth_of-Any (parts_of es) vs))
+    ap (λ ds. some_holds ds vs) (form_of-Any (parts_of es) true) ∙ some-combined vs (forms true (parts_of es)) ∙ kept_not_any vs es ∙ ap not (sym (truth_of-Any (parts_of es) vs))
 kept_Any es false vs =
     ap (λ ds. some_holds ds vs) (form_of-Any (parts_of es) false) ∙ some-joined vs (forms false (parts_of es)) ∙ kept_any vs es ∙ sym (truth_of-Any (parts_of es) vs)
 

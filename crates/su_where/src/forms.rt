@@ -3,8 +3,8 @@ ghost use Rattle.std.specs.Prelude.{◌≡◌, [], ◌++◌, ◌<◌, ◌≤◌,
 ghost use Rattle.su_base.specs.declared.values.Value.{Value as AValue};
 ghost use Rattle.std.specs.Prelude.{List as Items};
 ghost use Rattle.su_where.specs.Truth.{truth_of};
-ghost use Rattle.su_where.specs.Disjunct.{form_of, disjuncts_of, some_holds};
-ghost use Rattle.su_where.specs.inside.Joined.{joined, combinations_of};
+ghost use Rattle.su_where.specs.Disjunct.{combined, form_of, disjuncts_of, some_holds};
+ghost use Rattle.su_where.specs.inside.Joined.{joined};
 
 use crate::conditions::Cond;
 use crate::literals::Literal;
@@ -64,7 +64,7 @@ fn count_joined(parts: &[Cond], negated: bool) -> u32
 
 #[cycle(count)]
 fn count_combined(parts: &[Cond], negated: bool) -> u32
-    ensures { result ≡ min (length (combinations_of (map (λ c. form_of c negated) parts.now))) 65 }
+    ensures { result ≡ min (length (combined (map (λ c. form_of c negated) parts.now))) 65 }
 {
     let mut total = 1;
     for part in parts {
@@ -157,9 +157,9 @@ fn push_combined(
     negated: bool,
     k: u32,
 ) -> Result<(), NoMemory>
-    requires place { k < length (combinations_of (map (λ c. form_of c negated) parts.now)) }
-    requires few { length (combinations_of (map (λ c. form_of c negated) parts.now)) ≤ 64 }
-    ensures { OnOk result (out.new ≡ out.old ++ get_or (combinations_of (map (λ c. form_of c negated) parts.now)) k []) }
+    requires place { k < length (combined (map (λ c. form_of c negated) parts.now)) }
+    requires few { length (combined (map (λ c. form_of c negated) parts.now)) ≤ 64 }
+    ensures { OnOk result (out.new ≡ out.old ++ get_or (combined (map (λ c. form_of c negated) parts.now)) k []) }
 {
     let mut total = count_combined(parts, negated);
     let mut left = k;

@@ -4,8 +4,8 @@ use Rattle.su_io.specs.Causes.{Rose}
 use Rattle.su_io.specs.declared.status.Status.{Status}
 use Rattle.su_io.specs.declared.status.Status.TheVariants.{Done, SomeRefused, Usage, BadSchema, ReadFault, WriteFault, TooLong, NoMemory}
 use Rattle.su_io.specs.Moments.{Moment, Told}
-use Rattle.su_io.specs.Reading.{FileEnds}
-use Rattle.su_io.specs.Writing.{Wrote, WroteFront}
+use Rattle.su_io.specs.FileEnds.{FileEnds}
+use Rattle.su_io.specs.WrittenTexts.{Wrote, WroteFront}
 use Rattle.su_session.specs.declared.replies.Reply.{Reply}
 use Rattle.su_session.specs.Reply.{Replied}
 use Rattle.su_state.specs.DatabaseValue.{DatabaseValue, IsWellKept}

@@ -3,7 +3,7 @@ use Rattle.std.proofs.Common.{◌≡◌, ℕ, List, refl}
 use Rattle.su_io.specs.declared.status.Status.{Status}
 use Rattle.su_io.specs.declared.status.Status.TheVariants.{Done}
 use Rattle.su_io.specs.Moments.{Moment}
-use Rattle.su_io.specs.Writing.{IsTold}
+use Rattle.su_io.specs.WrittenTexts.{IsTold}
 use Rattle.su_io.proofs.OneText.{tells}
 use Rattle.su_bank.specs.Banks.{IsBankText}
 use Rattle.sysu.specs.Banks.{BankEnds}

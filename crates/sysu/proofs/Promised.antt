@@ -11,7 +11,7 @@ use Rattle.su_io.specs.declared.status.Status.{Status}
 use Rattle.su_io.specs.declared.status.Status.TheVariants.{Done, SomeRefused, NoMemory}
 use Rattle.su_io.specs.HandOver.{HandsOver}
 use Rattle.su_io.specs.Moments.{Moment}
-use Rattle.su_io.specs.Writing.{Wrote}
+use Rattle.su_io.specs.WrittenTexts.{Wrote}
 use Rattle.su_session.specs.EmptyDatabase.{empty_database}
 use Rattle.sysu.specs.Output.{reply_texts}
 use Rattle.sysu.specs.Scripts.{Answers}

@@ -4,13 +4,15 @@ use Rattle.std.proofs.Math.Seq.{take-suc}
 use Rattle.std.proofs.lemmas.List.Recursion.{or_push}
 use Rattle.su_io.specs.declared.files.File.{File}
 use Rattle.su_io.specs.Moments.{Told}
-use Rattle.su_io.specs.Writing.{Wrote}
+use Rattle.su_io.specs.WrittenTexts.{Wrote}
 use Rattle.su_io.proofs.WrittenTexts.{Wrote-none, Wrote-trans}
 use Rattle.su_lex.specs.declared.spans.Span.{Span}
 use Rattle.su_session.specs.declared.replies.Reply.{Reply}
 use Rattle.su_state.specs.DatabaseValue.{DatabaseValue, IsWellKept}
 use Rattle.su_session.specs.Reply.{Replied}
-use Rattle.sysu.specs.Output.{Answered, reply_texts, some_refused, texts_of, text_at}
+use Rattle.su_ddl.specs.Files.{statement_of}
+use Rattle.su_session.specs.Outcomes.{some_refused}
+use Rattle.sysu.specs.Output.{Answered, reply_texts, texts_of}
 use Rattle.sysu.specs.Handed.{IsHanded}
 
 -- the statements at these spans were answered, and their replies written
@@ -35,26 +37,26 @@ pub reply_texts-push : (replies : List Reply) (reply : Reply) → reply_texts (r
 reply_texts-push [] reply = refl
 reply_texts-push (r ∷ rs) reply = let rest = reply_texts-push rs reply in cc
 
-texts_of-push : (script : List ℕ) (spans : List Span) (span : Span) → texts_of script (spans ++ span ∷ []) ≡ texts_of script spans ++ text_at script span ∷ []
+texts_of-push : (script : List ℕ) (spans : List Span) (span : Span) → texts_of script (spans ++ span ∷ []) ≡ texts_of script spans ++ statement_of script span ∷ []
 texts_of-push script [] span = refl
 texts_of-push script (s ∷ ss) span = let rest = texts_of-push script ss span in cc
 
 -- the statements before one, it, and those behind it
-pub texts_around : (script : List ℕ) (spans : List Span) (i : ℕ) (d : Span) → i < length spans → texts_of script spans ≡ texts_of script (take i spans) ++ text_at script (get_or spans i d) ∷ texts_of script (drop (suc i) spans)
+pub texts_around : (script : List ℕ) (spans : List Span) (i : ℕ) (d : Span) → i < length spans → texts_of script spans ≡ texts_of script (take i spans) ++ statement_of script (get_or spans i d) ∷ texts_of script (drop (suc i) spans)
 texts_around script [] i d within = absurd (omega (arith, within))
 texts_around script (s ∷ ss) zero d within = refl
-texts_around script (s ∷ ss) (suc i) d within = ap (λ (ts : List (List ℕ)). text_at script s ∷ ts) (texts_around script ss i d (omega (arith, within)))
+texts_around script (s ∷ ss) (suc i) d within = ap (λ (ts : List (List ℕ)). statement_of script s ∷ ts) (texts_around script ss i d (omega (arith, within)))
 
 -- a turn: the statement at place i is answered
 module _ (files : Option (List File)) (script : List ℕ) (spans : List Span) (i : ℕ) (d : Span) (first mid last : DatabaseValue) (refused : Bool) (file : Option (List ℕ)) (reply : Reply)
     (old between : Told) (within : i < length spans) (so_far : SoFar files script (take i spans) first mid refused old between)
-    (kept : IsWellKept mid) (handed : IsHanded files mid (text_at script (get_or spans i d)) file) (replied : Replied mid (text_at script (get_or spans i d)) file reply last) where
-  texts_more : texts_of script (take (i + 1) spans) ≡ texts_of script (take i spans) ++ text_at script (get_or spans i d) ∷ []
+    (kept : IsWellKept mid) (handed : IsHanded files mid (statement_of script (get_or spans i d)) file) (replied : Replied mid (statement_of script (get_or spans i d)) file reply last) where
+  texts_more : texts_of script (take (i + 1) spans) ≡ texts_of script (take i spans) ++ statement_of script (get_or spans i d) ∷ []
   texts_more =
       let next : i + 1 ≡ suc i = omega arith in
       ap (λ k. texts_of script (take k spans)) next ∙ ap (texts_of script) (take-suc spans i d within) ∙ texts_of-push script (take i spans) (get_or spans i d)
 
-  pub answered_more : Answered files first (texts_of script (take i spans) ++ text_at script (get_or spans i d) ∷ []) (so_far.replies ++ reply ∷ []) last
+  pub answered_more : Answered files first (texts_of script (take i spans) ++ statement_of script (get_or spans i d) ∷ []) (so_far.replies ++ reply ∷ []) last
   answered_more = Answered-push files (texts_of script (take i spans)) so_far.replies first mid last _ file reply so_far.answered kept handed replied
 
   pub one_more : (new : Told) → Wrote between new (reply.bytes ∷ []) → SoFar files script (take (i + 1) spans) first last (refused || reply.refused) old new

@@ -4,8 +4,9 @@ use Rattle.su_io.specs.declared.files.File.{File}
 use Rattle.su_io.specs.declared.status.Status.{Status}
 use Rattle.su_io.specs.declared.status.Status.TheVariants.{Done, SomeRefused, Usage, BadSchema, ReadFault, WriteFault, TooLong, NoMemory}
 use Rattle.su_io.specs.Moments.{Moment}
-use Rattle.su_io.specs.Reading.{IsFile, FileEnds}
-use Rattle.su_io.specs.Writing.{Wrote, IsTold, WritingEnds}
+use Rattle.su_io.specs.FileEnds.{IsFile, FileEnds}
+use Rattle.su_io.specs.WrittenTexts.{Wrote, IsTold, WritingEnds}
+use Rattle.su_io.specs.inside.Lines.{LineEnds}
 use Rattle.su_io.proofs.Programs.{ReadingEnds-from, WritingEnds-from}
 use Rattle.su_io.proofs.WrittenTexts.{Wrote-none}
 use Rattle.su_ddl.specs.Files.{Reads}
@@ -14,7 +15,6 @@ use Rattle.su_ddl.specs.declared.faults.DdlFault.TheVariants.{NoMemory as OutOfM
 use Rattle.su_schema.specs.SchemaValue.{SchemaValue}
 use Rattle.su_show.specs.Refusals.{IsOfText, schema_line}
 use Rattle.sysu.specs.Due.{FallsDue}
-use Rattle.sysu.specs.inside.Lines.{LineEnds}
 use Rattle.sysu.specs.inside.Turns.{IsAtScript, ScriptEnds}
 use Rattle.sysu.specs.RunFiles.{SchemaIs, schema_limit, script_limit}
 use Rattle.sysu.specs.Statuses.{RunHas, RunEnds}

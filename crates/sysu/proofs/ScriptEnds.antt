@@ -5,7 +5,7 @@ use Rattle.su_io.specs.declared.files.File.{File as AFile}
 use Rattle.su_io.specs.declared.status.Status.{Status}
 use Rattle.su_io.specs.declared.status.Status.TheVariants.{Done, SomeRefused, Usage, BadSchema, ReadFault, WriteFault, TooLong, NoMemory}
 use Rattle.su_io.specs.Moments.{Moment}
-use Rattle.su_io.specs.Writing.{Wrote}
+use Rattle.su_io.specs.WrittenTexts.{Wrote}
 use Rattle.su_io.proofs.Programs.{ReadingEnds-from}
 use Rattle.su_io.proofs.WrittenTexts.{Wrote-none, WroteFront-behind}
 use Rattle.su_lex.specs.declared.spans.Span.{Span}
@@ -16,12 +16,13 @@ use Rattle.su_session.specs.EmptyDatabase.{empty_database}
 use Rattle.su_session.specs.declared.replies.Reply.{Reply}
 use Rattle.su_session.specs.declared.wants.Want.TheVariants.{File}
 use Rattle.su_session.specs.WantedFiles.{Wants}
+use Rattle.su_ddl.specs.Files.{statement_of}
 use Rattle.sysu.proofs.RepliesSoFar.{SoFar, answered_more, reply_texts-push, texts_around}
 use Rattle.sysu.specs.Due.{FallsDue, IsDue}
 use Rattle.sysu.specs.Handed.{load_limit}
 use Rattle.sysu.specs.inside.HandedFiles.{HasTaken}
 use Rattle.sysu.specs.inside.Turns.{AnsweredOne, IsAtScript, ScriptEnds, TurnEnds}
-use Rattle.sysu.specs.Output.{Answered, reply_texts, text_at, texts_of}
+use Rattle.sysu.specs.Output.{Answered, reply_texts, texts_of}
 use Rattle.sysu.specs.RunFiles.{script_limit}
 use Rattle.sysu.specs.Scripts.{Answers}
 use Rattle.sysu.specs.Words.{Named}
@@ -44,7 +45,7 @@ TookLoads script spans first old new =
 
 -- after one more statement, the one at place i, which took the file of a load or none
 pub took_more : (script : List ℕ) (spans : List Span) (i : ℕ) (d : Span) (replies : List Reply) (first db : DatabaseValue) (old between new : Moment) → i < length spans → Answered old.files first (texts_of script (take i spans)) replies db
-    → TookLoads script spans first old between → HasTaken db (text_at script (get_or spans i d)) between new → TookLoads script spans first old new
+    → TookLoads script spans first old between → HasTaken db (statement_of script (get_or spans i d)) between new → TookLoads script spans first old new
 took_more script spans i d replies first db old between new within answered took taken = elim taken.took [
   | inl same ↦ elim took [
     | inl before ↦ inl (same.0 ∙ before.0, same.1 ∙ before.1)
@@ -54,7 +55,7 @@ took_more script spans i d replies first db old between new within answered took
     one.0,
     record {
       done = texts_of script (take i spans);
-      load = text_at script (get_or spans i d);
+      load = statement_of script (get_or spans i d);
       left = texts_of script (drop (suc i) spans);
       statements = texts_around script spans i d within;
       replies = replies;
@@ -152,7 +153,7 @@ module _ (names : Named) (schema : SchemaValue) (script : List ℕ) (spans : Lis
   module _ (i : ℕ) (d : Span) (mid next : DatabaseValue) (refused : Bool) (between new : Moment) (within : i < length spans) (files : between.files ≡ old.files) (reads : between.reads ≡ old.reads) (writes : between.writes ≡ old.writes)
       (took : TookLoads script spans first old between) (so_far : SoFar old.files script (take i spans) first mid refused old.told between.told) where
     abbrev text : List ℕ
-    text = text_at script (get_or spans i d)
+    text = statement_of script (get_or spans i d)
 
     abbrev left : List (List ℕ)
     left = texts_of script (drop (suc i) spans)

@@ -10,7 +10,7 @@ use Rattle.su_io.specs.Files.{contents}
 use Rattle.su_io.specs.HandOver.{HandsOver}
 use Rattle.su_io.specs.Moments.{Moment}
 use Rattle.su_io.specs.Programs.{Tells}
-use Rattle.su_io.specs.Writing.{joined, Wrote}
+use Rattle.su_io.specs.WrittenTexts.{joined, Wrote}
 use Rattle.su_check.specs.Verdict.{IsVerdict}
 use Rattle.su_check.proofs.OneVerdict.{one_verdict}
 use Rattle.su_ddl.specs.declared.faults.DdlFault.{DdlFault}
@@ -21,11 +21,12 @@ use Rattle.su_show.specs.Verdicts.{verdict_line}
 use Rattle.su_state.specs.DatabaseValue.{DatabaseValue}
 use Rattle.su_session.specs.declared.replies.Reply.{Reply}
 use Rattle.su_bank.specs.Banks.{IsBankText}
+use Rattle.su_session.specs.Outcomes.{some_refused}
 use Rattle.sysu.specs.TwoRuns.{Ran, AreEqualButForWorkers, TwoRunsAgree}
 use Rattle.sysu.specs.Causes.{Caused}
 use Rattle.sysu.specs.Checks.{status_by, IsVerdictLine, CheckEnds, check_limit}
 use Rattle.sysu.specs.Due.{FallsDue}
-use Rattle.sysu.specs.Output.{reply_texts, some_refused}
+use Rattle.sysu.specs.Output.{reply_texts}
 use Rattle.sysu.specs.RunFiles.{SchemaIs, schema_limit, script_limit}
 use Rattle.sysu.specs.Scripts.{Answers}
 use Rattle.sysu.specs.Statuses.{Comes, RunEnds}

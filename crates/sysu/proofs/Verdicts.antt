@@ -4,14 +4,14 @@ use Rattle.su_io.specs.declared.status.Status.{Status}
 use Rattle.su_io.specs.declared.status.Status.TheVariants.{NoMemory}
 use Rattle.su_io.specs.Moments.{Moment}
 use Rattle.su_io.specs.Programs.{OneText}
-use Rattle.su_io.specs.Reading.{IsFile}
+use Rattle.su_io.specs.FileEnds.{IsFile}
+use Rattle.su_io.specs.inside.Lines.{LineEnds}
 use Rattle.su_io.proofs.OneText.{IsOwn, tells_of_file, no_memory}
 use Rattle.su_check.specs.declared.verdicts.Checked.{Checked}
 use Rattle.su_check.specs.declared.verdicts.Checked.TheVariants.{Yes, No}
 use Rattle.su_check.specs.Verdict.{IsVerdict}
 use Rattle.su_show.specs.Verdicts.{verdict_line}
 use Rattle.sysu.specs.Checks.{check_limit, status_by, IsVerdictLine, CheckEnds}
-use Rattle.sysu.specs.inside.Lines.{LineEnds}
 
 -- the file was read, and its verdict is told
 module _ (file : List ℕ) (old mid new : Moment) (bytes : List ℕ) (verdict : Checked) (is_file : IsFile old.files file check_limit bytes) (is_verdict : IsVerdict bytes verdict)

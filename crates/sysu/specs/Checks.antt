@@ -6,7 +6,7 @@ use Rattle.su_io.specs.declared.status.Status.{Status}
 use Rattle.su_io.specs.declared.status.Status.TheVariants.{Done, SomeRefused}
 use Rattle.su_io.specs.Moments.{Moment}
 use Rattle.su_io.specs.Programs.{TellsOfFile}
-use Rattle.su_io.specs.Reading.{IsFile}
+use Rattle.su_io.specs.FileEnds.{IsFile}
 use Rattle.su_check.specs.declared.verdicts.Checked.{Checked}
 use Rattle.su_check.specs.declared.verdicts.Checked.TheVariants.{Yes, No}
 use Rattle.su_check.specs.Verdict.{IsVerdict}

@@ -2,7 +2,7 @@
 -- files: those of the shelf, where it tells them
 use Rattle.std.specs.Prelude.{◌^◌, ℕ, List, Option, Some, None}
 use Rattle.su_io.specs.declared.files.File.{File as AFile}
-use Rattle.su_io.specs.Reading.{IsFile}
+use Rattle.su_io.specs.FileEnds.{IsFile}
 use Rattle.su_state.specs.DatabaseValue.{DatabaseValue}
 use Rattle.su_session.specs.declared.wants.Want.TheVariants.{Nothing, File}
 use Rattle.su_session.specs.WantedFiles.{Wants}

@@ -5,7 +5,7 @@ use Rattle.su_io.specs.declared.files.File.{File as AFile}
 use Rattle.su_io.specs.declared.status.Status.{Status}
 use Rattle.su_io.specs.declared.status.Status.TheVariants.{Done, SomeRefused}
 use Rattle.su_io.specs.Moments.{Moment}
-use Rattle.su_io.specs.Writing.{Wrote}
+use Rattle.su_io.specs.WrittenTexts.{Wrote}
 use Rattle.su_query.specs.declared.statements.Query.{Query}
 use Rattle.su_query.specs.declared.statements.Statement.TheVariants.{Retrieve}
 use Rattle.su_query.specs.StatementTexts.{IsStatement}

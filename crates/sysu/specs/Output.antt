@@ -1,10 +1,9 @@
 -- What a run of a script writes: the replies to its statements, in order.
 -- answered: on the database that the statements before it left, which is well kept
-use Rattle.std.specs.Prelude.{◌≡◌, ℕ, List, [], ◌∷◌, Option, Bool, map}
-use Rattle.std.specs.List.{list_any}
+use Rattle.std.specs.Prelude.{◌≡◌, ℕ, List, [], ◌∷◌, Option, map}
 use Rattle.su_io.specs.declared.files.File.{File as AFile}
 use Rattle.su_lex.specs.declared.spans.Span.{Span}
-use Rattle.su_lex.specs.Tokens.{slice_of}
+use Rattle.su_ddl.specs.Files.{statement_of}
 use Rattle.su_state.specs.DatabaseValue.{DatabaseValue, IsWellKept}
 use Rattle.su_session.specs.declared.replies.Reply.{Reply}
 use Rattle.su_session.specs.Reply.{Replied}
@@ -22,14 +21,6 @@ Answered files old (text ∷ texts) (reply ∷ replies) new =
 abbrev pub reply_texts : List Reply → List (List ℕ)
 reply_texts replies = map (λ reply. reply.bytes) replies
 
--- some reply is a refusal
-abbrev pub some_refused : List Reply → Bool
-some_refused replies = list_any (λ reply. reply.refused) replies
-
--- the text of a statement
-abbrev pub text_at : List ℕ → Span → List ℕ
-text_at script span = slice_of script span.start span.end
-
 -- the texts of a script's statements
 abbrev pub texts_of : List ℕ → List Span → List (List ℕ)
-texts_of script spans = map (text_at script) spans
+texts_of script spans = map (statement_of script) spans

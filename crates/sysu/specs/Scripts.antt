@@ -10,7 +10,8 @@ use Rattle.su_session.specs.EmptyDatabase.{empty_database}
 use Rattle.su_session.specs.declared.replies.Reply.{Reply}
 use Rattle.su_session.specs.declared.wants.Want.TheVariants.{File}
 use Rattle.su_session.specs.WantedFiles.{Wants}
-use Rattle.sysu.specs.Output.{Answered, some_refused, reply_texts, texts_of}
+use Rattle.su_session.specs.Outcomes.{some_refused}
+use Rattle.sysu.specs.Output.{Answered, reply_texts, texts_of}
 use Rattle.sysu.specs.RunFiles.{AreRead}
 use Rattle.sysu.specs.Words.{Named}
 

@@ -1,8 +1,7 @@
 -- Definitions that only contracts of private functions need.
-pub mod Answering
 pub mod Counts
 pub mod HandedFiles
-pub mod Lines
 pub mod Queries
+pub mod ScriptAnswers
 pub mod Steady
 pub mod Turns

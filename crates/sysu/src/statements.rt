@@ -2,7 +2,7 @@
 ghost use Rattle.std.specs.Prelude.{◌≡◌, ◌≤◌, ℕ, List as Items, Some, option_map};
 ghost use Rattle.su_io.specs.Moments.{Moment};
 ghost use Rattle.su_session.specs.Commands.{IsRead};
-ghost use Rattle.sysu.specs.inside.Answering.{AnswersScript};
+ghost use Rattle.sysu.specs.inside.ScriptAnswers.{AnswersScript};
 ghost use Rattle.sysu.specs.inside.HandedFiles.{HandingEnds, OnlyRead};
 ghost use Rattle.sysu.specs.inside.Turns.{TurnEnds};
 

@@ -27,7 +27,7 @@ pub fn run_steadily<R: Threads + Sync, G: Gate>(
     // For the proof: the shelf tells its files, and no call of it fails.
     let _before = &outside.shelf;
     let status = run(rt, alloc, words, outside, gate);
-    // For the proof: nor did one.
+    // For the proof: no call of the shelf has failed.
     let _after = &outside.shelf;
     status
 }

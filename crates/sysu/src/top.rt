@@ -3,12 +3,12 @@ ghost use Rattle.std.specs.Prelude.{◌≡◌, ◌≢◌, ◌≤◌, ◌&&◌, n
 ghost use Rattle.su_io.specs.HandOver.{HandsOver};
 ghost use Rattle.su_io.specs.Moments.{Moment};
 ghost use Rattle.su_io.specs.Programs.{UsageEnds};
+ghost use Rattle.su_io.specs.inside.Lines.{LineEnds};
 ghost use Rattle.su_show.specs.Refusals.{schema_line, IsOfText};
 ghost use Rattle.sysu.specs.Causes.{Caused};
 ghost use Rattle.sysu.specs.Complete.{IsComplete};
 ghost use Rattle.sysu.specs.Headline.{Headline};
 ghost use Rattle.sysu.specs.inside.Counts.{IsCountWhere};
-ghost use Rattle.sysu.specs.inside.Lines.{LineEnds};
 ghost use Rattle.sysu.specs.Statuses.{Comes, RunEnds};
 ghost use Rattle.sysu.specs.Words.{named, checks, is_count, usage_line};
 

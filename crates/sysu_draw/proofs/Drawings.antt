@@ -3,8 +3,8 @@ use Rattle.std.proofs.Common.{◌≡◌, ◌≤◌, ℕ, List, Some, refl, sym, 
 use Rattle.su_io.specs.declared.status.Status.{Status}
 use Rattle.su_io.specs.declared.status.Status.TheVariants.{Done, SomeRefused, Usage, BadSchema, ReadFault, WriteFault, TooLong, NoMemory}
 use Rattle.su_io.specs.Moments.{Moment}
-use Rattle.su_io.specs.Reading.{IsFile}
-use Rattle.su_io.specs.Writing.{IsTold}
+use Rattle.su_io.specs.FileEnds.{IsFile}
+use Rattle.su_io.specs.WrittenTexts.{IsTold}
 use Rattle.su_io.proofs.OneText.{tells_of_file, no_memory}
 use Rattle.sysu_draw.specs.Ends.{DrawingEnds}
 use Rattle.sysu_draw.specs.inside.Tellings.{ReplyEnds}

@@ -4,7 +4,7 @@ use Rattle.std.specs.Prelude.{◌≡◌, ◌^◌, ℕ, List, Option, ◌++◌, c
 use Rattle.su_io.specs.declared.files.File.{File}
 use Rattle.su_io.specs.declared.status.Status.{Status}
 use Rattle.su_io.specs.declared.status.Status.TheVariants.{Done, SomeRefused}
-use Rattle.su_io.specs.Reading.{IsFile}
+use Rattle.su_io.specs.FileEnds.{IsFile}
 use Rattle.su_draw.specs.LineFaults.{IsAtFault}
 use Rattle.su_draw.specs.Pictures.{IsPictureOf}
 

@@ -4,8 +4,9 @@ use Rattle.su_io.specs.declared.status.Status.{Status}
 use Rattle.su_io.specs.declared.status.Status.TheVariants.{Done, SomeRefused, Usage, BadSchema, ReadFault, WriteFault, TooLong, NoMemory}
 use Rattle.su_io.specs.Moments.{Moment}
 use Rattle.su_io.specs.Programs.{OneText}
-use Rattle.su_io.specs.Reading.{IsFile, FileEnds}
-use Rattle.su_io.specs.Writing.{Wrote, IsTold}
+use Rattle.su_io.specs.FileEnds.{IsFile, FileEnds}
+use Rattle.su_io.specs.WrittenTexts.{Wrote, IsTold}
+use Rattle.su_io.specs.inside.Lines.{LineEnds}
 use Rattle.su_io.proofs.OneText.{IsOwn, one_of, own_of}
 use Rattle.su_io.proofs.Programs.{ReadingEnds-from, WritingEnds-from, read_within}
 use Rattle.su_io.proofs.WrittenTexts.{Wrote-none}
@@ -16,7 +17,7 @@ use Rattle.su_schema.specs.SchemaValue.{SchemaValue}
 use Rattle.su_session.specs.declared.replies.Reply.{Reply}
 use Rattle.su_show.specs.Refusals.{schema_line, IsOfText}
 use Rattle.su_sql.specs.Scripts.{WritesScript}
-use Rattle.sysu_sql.specs.inside.Tellings.{LineEnds, SqlEnds, status_by}
+use Rattle.sysu_sql.specs.inside.Tellings.{SqlEnds, status_by}
 use Rattle.sysu_sql.specs.RunFiles.{schema_limit, SchemaIs, AreRead}
 use Rattle.sysu_sql.specs.Runs.{IsDue, IsSql, Says, RunEnds}
 use Rattle.sysu_sql.specs.Words.{Named}

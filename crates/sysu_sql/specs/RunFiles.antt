@@ -2,7 +2,7 @@
 -- files: those of the shelf, where it tells them; accepted: the schema's file is read as a schema
 use Rattle.std.specs.Prelude.{◌^◌, ℕ, List, Option, Result, Ok}
 use Rattle.su_io.specs.declared.files.File.{File}
-use Rattle.su_io.specs.Reading.{IsFile}
+use Rattle.su_io.specs.FileEnds.{IsFile}
 use Rattle.su_ddl.specs.declared.faults.DdlFault.{DdlFault}
 use Rattle.su_ddl.specs.Files.{Reads}
 use Rattle.su_schema.specs.SchemaValue.{SchemaValue}

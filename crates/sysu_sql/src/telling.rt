@@ -2,8 +2,9 @@
 ghost use Rattle.std.specs.Prelude.{◌≡◌, ◌≢◌};
 ghost use Rattle.su_io.specs.Moments.{Moment};
 ghost use Rattle.su_io.specs.Programs.{UsageEnds};
+ghost use Rattle.su_io.specs.inside.Lines.{LineEnds};
 ghost use Rattle.su_show.specs.Refusals.{schema_line, IsOfText};
-ghost use Rattle.sysu_sql.specs.inside.Tellings.{LineEnds, SqlEnds, status_by};
+ghost use Rattle.sysu_sql.specs.inside.Tellings.{SqlEnds, status_by};
 ghost use Rattle.sysu_sql.specs.Words.{usage_line};
 
 use std::alloc::Global;

@@ -2,7 +2,7 @@
 -- kept term: one that the union of a query's terms keeps; m: a term with its kept rows and its fold; job: such a term over a database
 -- tables: the stored relations, by number; h: the values of a head; found: the rows that one join gives, none where they are too many
 -- No public contract cites this module.
-use Rattle.std.specs.Prelude.{◌≡◌, ◌↔◌, List, Contains, MatchOption, Some}
+use Rattle.std.specs.Prelude.{◌≡◌, ◌↔◌, ◌⊎◌, List, Contains, MatchOption, Some, None}
 use Rattle.std.specs.List.Sorted.{IsStrictlySortedBy}
 use Rattle.su_base.specs.declared.values.Value.{Value}
 use Rattle.su_base.specs.Value.{compare_lists}
@@ -53,3 +53,7 @@ pub record IsInSome (lists : List Found) (h : List Value) : Type 0 where
   pub rows : List (List Value)
   pub is : found.rows ≡ Some rows
   pub has : Contains rows h
+
+-- a list is missing, or these rows and those of the lists are more than an answer may have
+abbrev pub ArePastLimit : List (List Value) → List Found → Type 0
+ArePastLimit rows lists = ((found : Found) × Contains lists found × (found.rows ≡ None)) ⊎ AreMoreThan 1000000 (λ h. Contains rows h ⊎ IsInSome lists h)

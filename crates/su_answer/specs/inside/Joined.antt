@@ -1,14 +1,10 @@
 -- Sources of objects, gathered one after another.
 -- source: the relation of an object, with its columns for some attributes; o: an object, by its number from 0; attributes: by number, ascending
--- m: a set of rows, as a number whose bit i is 1 where row i is in it
 -- No public contract cites this module.
-use Rattle.std.specs.Int.{bit_at}
-use Rattle.std.specs.Prelude.{◌≡◌, ◌<◌, ℕ, IsTrue, List, length, Contains}
+use Rattle.std.specs.Prelude.{◌<◌, ℕ, IsTrue, List, Contains}
 use Rattle.std.specs.Ordering.{nat_cmp}
 use Rattle.std.specs.FinSet.{FinSet, contains}
-use Rattle.su_tableau.specs.Tableaux.{Tab}
 use Rattle.su_schema.specs.SchemaValue.{SchemaValue}
-use Rattle.su_steps.specs.Sources.{IsSource}
 use Rattle.su_exec.specs.declared.tasks.Source.{Source}
 use Rattle.su_answer.specs.Joined.{IsSourceOf}
 
@@ -16,7 +12,3 @@ use Rattle.su_answer.specs.Joined.{IsSourceOf}
 pub record AreSourcesOf (schema : SchemaValue) (attributes : List ℕ) (n : ℕ) (objects : FinSet nat_cmp) (sources : List Source) : Type 0 where
   pub from : (s : Source) → Contains sources s → (o : ℕ) × (o < n) × IsTrue (contains objects o) × IsSourceOf schema attributes o s
   pub all : (o : ℕ) → o < n → IsTrue (contains objects o) → (s : Source) × Contains sources s × IsSourceOf schema attributes o s
-
--- every row of the set has a source
-abbrev pub HaveSources : SchemaValue → Tab → ℕ → Type 0
-HaveSources schema t m = (i : ℕ) → i < length t.rows → bit_at m i ≡ 1 → (o : ℕ) × IsSource schema t m i o

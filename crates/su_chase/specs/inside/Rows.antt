@@ -13,7 +13,8 @@ use Rattle.su_tableau.specs.Tableaux.{Tab}
 use Rattle.su_tableau.specs.Kinds.{sym_kind}
 use Rattle.su_tableau.specs.Valuations.{nth}
 use Rattle.su_classes.specs.declared.items.Placed.{Placed}
-use Rattle.su_classes.specs.inside.Symbols.{symbol_number, symbol_at}
+use Rattle.su_classes.specs.Symbols.{symbol_at}
+use Rattle.su_classes.specs.inside.Symbols.{symbol_number}
 use Rattle.su_classes.specs.Tables.{rep, IsLeastTable}
 use Rattle.su_chase.specs.declared.candidates.Next.{Next}
 use Rattle.su_chase.specs.Frozen.{candidate}
@@ -72,10 +73,6 @@ named_tab name t = record t { rows = map (map name) t.rows; head = map name t.he
 abbrev pub variable_of : Sym → List ℕ
 variable_of (Const c) = []
 variable_of (Var k) = k ∷ []
-
--- the variables of the rows, each as often as it stands there
-abbrev pub variables_in : List (List Sym) → List ℕ
-variables_in rows = flat_map (λ row. flat_map variable_of row) rows
 
 -- the new value of a variable, where the values stand in the order of the variables
 abbrev pub value_in : List ℕ → List Value → ℕ → Value

@@ -1,12 +1,9 @@
 -- Rows with their targets, cell by cell.
 -- target: the row to which a row goes; xs, ys: two rows; us, vs: their targets; c, e: columns, from 0
--- t: the head, the rows and the kept rows of a term; sent: a row and its target, by their numbers
 -- No public contract cites this module.
 use Rattle.std.specs.Prelude.{◌≡◌, ◌<◌, ℕ, List, true, length}
 use Rattle.su_tableau.specs.declared.symbols.Sym.{Sym}
-use Rattle.su_check.specs.declared.sending.Sent.{Sent}
 use Rattle.su_check.specs.inside.Cells.{cell_at, is_const}
-use Rattle.su_check.specs.SentRows.{Lines, numbered_row}
 
 -- where a row has a constant, its target has it too
 abbrev pub KeepsConstants : List Sym → List Sym → Type 0
@@ -25,7 +22,3 @@ pub record Goes (head row target : List Sym) : Type 0 where
   pub constants : KeepsConstants row target
   pub itself : GoAlike row target row target
   pub head_symbols : GoAlike head head row target
-
--- a row that has a target agrees with the row and its target
-abbrev pub AgreesWith : Lines → List Sym → List Sym → Sent → Type 0
-AgreesWith t row target x = GoAlike (numbered_row t x.row) (numbered_row t x.target) row target

@@ -2,9 +2,10 @@
 -- fixed: a constant or a symbol of the head, which goes to itself
 -- place: a pair of the partial list and a column; it gives the image of the symbol that its row has there
 -- No public contract cites this module.
-use Rattle.std.specs.Prelude.{◌≡◌, ◌<◌, ◌⊎◌, ◌↔◌, ℕ, Bool, true, false, Option, None, Some, List, [], length, get_or, All, Contains}
+use Rattle.std.specs.Prelude.{◌≡◌, ◌<◌, ◌⊎◌, ◌↔◌, ℕ, Bool, true, false, Option, None, Some, List, [], length, get_or, All, Contains, MatchOption}
 use Rattle.su_tableau.specs.declared.symbols.Sym.{Sym}
 use Rattle.su_tableau.specs.declared.symbols.Sym.TheVariants.{Var}
+use Rattle.su_tableau.specs.Tableaux.{Occurs}
 use Rattle.su_check.specs.declared.boards.Board.{Board}
 use Rattle.su_check.specs.declared.sending.Sent.{Sent}
 use Rattle.su_check.specs.declared.sending.StepColumn.{StepColumn}
@@ -30,6 +31,14 @@ pub record AreMarks (variables : List ℕ) (head : List Sym) (marks : List Bool)
   pub one_each : length marks ≡ length variables
   pub tells : (k n : ℕ) → IsFirstPlace variables k n → ((get_or marks n false ≡ true) ↔ Contains head (Var k))
 
+-- each variable of the head is one of these
+abbrev pub HasVariables : List ℕ → List Sym → Type 0
+HasVariables variables head = (k : ℕ) → Contains head (Var k) → Contains variables k
+
+-- the marks of the variables, or none where one of the head is missing
+abbrev pub AreMarksIfAll : List ℕ → List Sym → Option (List Bool) → Type 0
+AreMarksIfAll variables head found = MatchOption found (¬ HasVariables variables head) (λ marks. AreMarks variables head marks × HasVariables variables head)
+
 -- a variable outside the head, by its number
 pub record IsFree (head : List Sym) (variables : List ℕ) (x : Sym) (n : ℕ) : Type 0 where
   pub number : ℕ
@@ -47,10 +56,22 @@ pub record AreNumbers (head : List Sym) (variables : List ℕ) (row : List Sym) 
   pub one_each : length numbers ≡ length row
   pub cells : (c : ℕ) → c < length row → IsNumber head variables (cell_at row c) (get_or numbers c None)
 
+-- for each head with these marks, the numbers of the cells of each row
+abbrev pub AreRowNumbers : List ℕ → List Bool → List (List Sym) → List (List (Option ℕ)) → Type 0
+AreRowNumbers variables marks rows all = (head : List Sym) → AreMarks variables head marks → (i : ℕ) → i < length rows → AreNumbers head variables (get_or rows i []) (get_or all i [])
+
 -- the numbers of the symbols of each row
 pub record IsBoard (t : Lines) (b : Board) : Type 0 where
   pub one_each : length b.numbers ≡ length t.rows
   pub rows : (i : ℕ) → i < length t.rows → AreNumbers t.head b.variables (numbered_row t i) (get_or b.numbers i [])
+
+-- each variable of the head stands in a row
+abbrev pub HeadOccurs : Lines → Type 0
+HeadOccurs t = (k : ℕ) → Contains t.head (Var k) → Occurs t.rows k
+
+-- the board, or none where a variable of the head stands in no row
+abbrev pub IsBoardIfOccurs : Lines → Option Board → Type 0
+IsBoardIfOccurs t found = MatchOption found (¬ HeadOccurs t) (λ b. IsBoard t b × HeadOccurs t)
 
 -- the place gives the symbol x the image y
 pub record IsImage (t : Lines) (p : List Sent) (place : StepColumn) (x y : Sym) : Type 0 where

@@ -1,19 +1,21 @@
 -- What the readers of lines give.
 -- stops: no item of a list stands there, so that the list ends
 -- No public contract cites this module.
-use Rattle.std.specs.Prelude.{◌≡◌, ℕ, List, ◌∷◌, ◌++◌, Result, Ok, Err, length, map, flat_map, codes, All}
+use Rattle.std.specs.Prelude.{◌≡◌, ℕ, List, ◌∷◌, ◌++◌, Result, Ok, Err, length, map, flat_map, codes, All, IfOk}
 use Rattle.su_lex.specs.Names.{Begins}
 use Rattle.su_lex.specs.declared.meaning.Symbol.{Symbol}
 use Rattle.su_lex.specs.declared.meaning.Symbol.TheVariants.{Word, Sign}
 use Rattle.su_lex.specs.declared.signs.Sign.TheVariants as sign
 use Rattle.su_lex.specs.declared.ends.LexEnd.{LexEnd}
 use Rattle.su_lex.specs.declared.ends.LexEnd.TheVariants.{Syntax, NoMemory}
+use Rattle.su_lex.specs.Wordings.{kind_symbol}
 use Rattle.su_tableau.specs.declared.symbols.Sym.{Sym}
 use Rattle.su_check.specs.declared.certificates.Term.{Term}
 use Rattle.su_check.specs.declared.certificates.RowTree.{RowTree}
 use Rattle.su_check.specs.NodeSymbols.{number, sym_symbol, node_symbols}
 use Rattle.su_check.specs.Grammar.{row_line, tree_line, term_lines}
 use Rattle.su_check.specs.Ranges.{IsByte, IsNamed, IsByteNode}
+use Rattle.su_base.specs.declared.values.Kind.{Kind}
 
 -- the value that came out; it isn't refused, and want of memory tells nothing
 abbrev pub Gives : {X : Type 0} → Result X LexEnd → (X → Type 0) → Type 0
@@ -28,6 +30,14 @@ GivesBefore result left x r = Gives result (λ y. (y ≡ x) × (left ≡ r))
 -- what is left begins with no member of the kind that was read
 abbrev pub Stops : {X : Type 0} → (X → Symbol) → (X → Type 0) → List Symbol → Type 0
 Stops {X = X} spell In r = (x : X) → In x → ¬ (Begins (spell x) r)
+
+-- where symbols are in front that can be written, and behind them none, these come out
+abbrev pub AreOnlySymbols : {E : Type 0} → List Symbol → Result (List Sym) E → List Symbol → Type 0
+AreOnlySymbols old result new = (xs : List Sym) (r : List Symbol) → All IsNamed xs → Stops sym_symbol IsNamed r → old ≡ map sym_symbol xs ++ r → IfOk result (λ ys. (ys ≡ xs) × (new ≡ r))
+
+-- where kinds are in front, and behind them none, these come out
+abbrev pub AreOnlyKinds : {E : Type 0} → List Symbol → Result (List Kind) E → List Symbol → Type 0
+AreOnlyKinds old result new = (ks : List Kind) (r : List Symbol) → Stops kind_symbol (λ k. Unit {0}) r → old ≡ map kind_symbol ks ++ r → IfOk result (λ ms. (ms ≡ ks) × (new ≡ r))
 
 -- ---- lines without their first symbol, before what follows them
 
@@ -66,3 +76,7 @@ IsByteTree t = IsByte t.row × IsByteNode t.node
 -- where rows of the width are in front, and behind them no row, these come out
 abbrev pub AreOnlyRows : ℕ → List Symbol → Result (List (List Sym)) LexEnd → List Symbol → Type 0
 AreOnlyRows width old result new = (rows : List (List Sym)) (r : List Symbol) → All (IsRow width) rows → ¬ (Begins (Sign sign.Open) r) → old ≡ flat_map row_line rows ++ r → GivesBefore result new rows r
+
+-- where trees are in front, and behind them none, these come out
+abbrev pub AreOnlyTrees : List Symbol → Result (List RowTree) LexEnd → List Symbol → Type 0
+AreOnlyTrees old result new = (ts : List RowTree) (r : List Symbol) → All IsByteTree ts → ¬ (Begins (Word (codes "tree")) r) → old ≡ flat_map tree_line ts ++ r → GivesBefore result new ts r

@@ -1,13 +1,13 @@
 -- How symbols are numbered as items: some constants, each once, and then the variables below a limit.
 -- So the least item of a class is its name.
 -- No public contract cites this module.
-use Rattle.std.specs.Prelude.{◌≡◌, ℕ, suc, ◌+◌, ◌-◌, Bool, true, false, cond, List, [], ◌∷◌, length, get_or, nat_lt}
+use Rattle.std.specs.Prelude.{◌≡◌, ℕ, suc, ◌+◌, Bool, true, false, cond, List, [], ◌∷◌, length, nat_lt}
 use Rattle.std.specs.Ordering.{is_eq}
 use Rattle.su_base.specs.declared.values.Value.{Value}
-use Rattle.su_base.specs.declared.values.Value.TheVariants.{Text}
 use Rattle.su_base.specs.Value.{compare_values}
 use Rattle.su_tableau.specs.declared.symbols.Sym.{Sym}
 use Rattle.su_tableau.specs.declared.symbols.Sym.TheVariants.{Const, Var}
+use Rattle.su_classes.specs.Symbols.{symbol_at}
 use Rattle.su_classes.specs.Tables.{rep}
 
 -- the values are equal
@@ -38,10 +38,6 @@ is_known vs limit (Var k) = nat_lt k limit
 abbrev pub symbol_number : List Value → Sym → ℕ
 symbol_number vs (Const c) = constant_place vs c
 symbol_number vs (Var k) = length vs + k
-
--- the symbol with this number
-abbrev pub symbol_at : List Value → ℕ → Sym
-symbol_at vs i = cond (nat_lt i (length vs)) (Const (get_or vs i (Text []))) (Var (i - length vs))
 
 -- the name of a symbol by a table; a symbol without a number is its own name
 abbrev pub name_in : List Value → ℕ → List ℕ → Sym → Sym

@@ -1,9 +1,9 @@
 -- Candidates as values: what their codes stand for.
 -- code: a value's place in `values`, from 0; edge: variables, and the rows that they may have together; e, g: edges; es: the candidates so far
 -- cells: the symbols of a row; firsts: for each variable the cell where it stands first; columns: of a source, one for each cell
--- v: a valuation; h: a value for each variable of a row; left: rows of the task for which nothing is fetched yet, by number
+-- v: a valuation; h: a value for each variable of a row
 -- No public contract cites this module.
-use Rattle.std.specs.Prelude.{◌≡◌, ◌<◌, ◌⊎◌, ◌↔◌, ℕ, pos, true, Option, Some, MatchOption, List, Vec, [], map, sum, length, slice_get, slice_index_or, All, Contains}
+use Rattle.std.specs.Prelude.{◌≡◌, ◌⊎◌, ◌↔◌, ℕ, pos, true, Option, MatchOption, List, Vec, [], map, length, slice_index_or, All, Contains}
 use Rattle.std.specs.declared.alloc.Global.{Global}
 use Rattle.su_base.specs.declared.values.Value.{Value}
 use Rattle.su_base.specs.declared.values.Value.TheVariants.{Int}
@@ -17,7 +17,6 @@ use Rattle.su_reduce.specs.Codes.{decode, Extends}
 use Rattle.su_exec.specs.inside.Edges.{Edge, Fits, FitsAll, among, has}
 use Rattle.su_reduce.specs.Sheets.{AreBelow}
 use Rattle.su_exec.specs.Outputs.{Agrees, values_at}
-use Rattle.su_exec.specs.Shares.{row_share}
 use Rattle.su_exec.specs.Tasks.{StandsIn}
 
 -- the edge of the values that the codes stand for
@@ -66,17 +65,6 @@ pub record IsRowEdge (tables : List Stored) (values : List Value) (es : List (Ed
   pub coded : IsCoded values g
   pub all : (k : ℕ) → Contains row.cells (Var k) → has g.vars k ≡ true
 
--- row i agrees with a stored row
-abbrev pub AgreesAt : List Stored → (ℕ → Value) → Task → ℕ → Type 0
-AgreesAt tables v task i = (row : TaskRow) → slice_get task.rows i ≡ Some row → Agrees tables v row
-
--- the edges say that each row that isn't left agrees with a stored row
-pub record AreSoFar (tables : List Stored) (values : List Value) (task : Task) (es : List (Edge ℕ)) (left : List ℕ) : Type 0 where
-  pub exact : (v : ℕ → Value) → All (Agrees tables v) task.rows ↔ (FitsAll v (meanings values es) × All (AgreesAt tables v task) left)
-  pub coded : All (IsCoded values) es
-  pub all : (k i : ℕ) → StandsIn task k i → (among es k ≡ true) ⊎ Contains left i
-  pub within : All (λ i. i < length task.rows) left
-
 -- the edges say that each row agrees with a stored row
 pub record AreRowEdges (tables : List Stored) (values : List Value) (task : Task) (es : List (Edge ℕ)) : Type 0 where
   pub exact : (v : ℕ → Value) → All (Agrees tables v) task.rows ↔ FitsAll v (meanings values es)
@@ -90,7 +78,3 @@ NoneAgrees tables task = (v : ℕ → Value) → ¬ All (Agrees tables v) task.r
 -- the candidates of all rows, or that there are none
 abbrev pub AreFetched : List Stored → List Value → Task → Option (Vec (Edge ℕ) Global) → Type 0
 AreFetched tables values task found = MatchOption found (NoneAgrees tables task) (λ edges. AreRowEdges tables values task edges.items)
-
--- the shares of the rows that are left
-abbrev pub left_share : List Stored → Task → List ℕ → ℕ
-left_share tables task left = sum (map (λ i. row_share tables (slice_index_or task.rows i (record { cells = []; sources = [] }))) left)

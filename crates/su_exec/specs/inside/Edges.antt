@@ -49,23 +49,6 @@ Goes ks es s fs t = (v : ℕ → ℕ) → FitsAll v es → s v ≡ true → Reac
 abbrev pub Keeps : List ℕ → List (Edge ℕ) → ((ℕ → ℕ) → Bool) → List (Edge ℕ) → ((ℕ → ℕ) → Bool) → Type 0
 Keeps ks es s fs t = Goes ks es s fs t × Goes ks fs t es s
 
--- the body is these two together
-abbrev pub Splits : List (Edge ℕ) → List (Edge ℕ) → List (Edge ℕ) → Type 0
-Splits es gs rs = (v : ℕ → ℕ) → FitsAll v es ↔ (FitsAll v gs × FitsAll v rs)
-
--- the variables of gs that are still needed are all among ks
-pub record Enough (needed ks : List ℕ) (gs rs : List (Edge ℕ)) : Type 0 where
-  pub in_rest : (k : ℕ) → among gs k ≡ true → among rs k ≡ true → has ks k ≡ true
-  pub in_needed : (k : ℕ) → among gs k ≡ true → has needed k ≡ true → has ks k ≡ true
-
--- each variable of the edges is one of these
-abbrev pub IsWithin : List (Edge ℕ) → List ℕ → Type 0
-IsWithin es ks = (k : ℕ) → among es k ≡ true → has ks k ≡ true
-
--- the test is the same for valuations that agree on the variables of the edges
-abbrev pub IsTestOf : ((ℕ → ℕ) → Bool) → List (Edge ℕ) → Type 0
-IsTestOf t es = (v w : ℕ → ℕ) → ((k : ℕ) → among es k ≡ true → v k ≡ w k) → t v ≡ t w
-
 -- the two bodies have the same valuations
 abbrev pub Same : List (Edge ℕ) → List (Edge ℕ) → Type 0
 Same es fs = (v : ℕ → ℕ) → FitsAll v es ↔ FitsAll v fs

@@ -40,10 +40,6 @@ pub record IsFirstOf (task : Task) (symbol : Sym) (i : ℕ) : Type 0 where
 abbrev pub rows_of : List ℕ → ℕ → List ℕ
 rows_of labels x = filter (λ i. nat_eq (label_of labels i) x) (range_with_len 0 (length labels))
 
--- the rows with a label of their own
-abbrev pub own_rows : List ℕ → List ℕ
-own_rows labels = filter (λ i. nat_eq (label_of labels i) i) (range_with_len 0 (length labels))
-
 -- rows with one label still have one
 abbrev pub KeepsLabels : List ℕ → List ℕ → Type 0
 KeepsLabels old new = (i j : ℕ) → i < length old → j < length old → label_of old i ≡ label_of old j → label_of new i ≡ label_of new j

@@ -1,7 +1,7 @@
 -- Semijoins: an edge without the rows that have no partner in another, and bodies that lose ears.
 -- key: the cells of a row at some places; partner of a row: a row on the other side with the same key
 -- No public contract cites this module.
-use Rattle.std.specs.Prelude.{◌≡◌, ◌↔◌, ◌<◌, ℕ, Bool, true, false, IsTrue, List, [], length, get_or, slice_index_or, Contains}
+use Rattle.std.specs.Prelude.{◌≡◌, ◌↔◌, ◌<◌, ℕ, Bool, true, false, IsTrue, List, [], length, get_or, slice_index_or}
 use Rattle.su_base.specs.declared.values.Value.{Value}
 use Rattle.su_exec.specs.declared.checks.Check.{Check}
 use Rattle.su_exec.specs.inside.Bodies.{AreThere}
@@ -18,17 +18,6 @@ pub record HasKey (rows : List (List ℕ)) (places : List ℕ) (n : ℕ) (key : 
 -- the marks are those of the rows on the left that have a partner
 abbrev pub ArePartnered : List (List ℕ) → List ℕ → List (List ℕ) → List ℕ → List Bool → Type 0
 ArePartnered ls left_key rs right_key marks = (i : ℕ) → i < length ls → IsTrue (get_or marks i false) ↔ HasKey rs right_key (length rs) (pick left_key (get_or ls i []))
-
--- one of the first n rows on the left, which has a partner
-pub record IsKept (ls rs : List (List ℕ)) (left_key right_key : List ℕ) (n : ℕ) (r : List ℕ) : Type 0 where
-  pub place : ℕ
-  pub below : place < n
-  pub is : slice_index_or ls place [] ≡ r
-  pub partner : HasKey rs right_key (length rs) (pick left_key r)
-
--- those of the first n rows on the left that have a partner
-abbrev pub AreKept : List (List ℕ) → List (List ℕ) → List ℕ → List ℕ → ℕ → List (List ℕ) → Type 0
-AreKept ls rs left_key right_key n rows = (r : List ℕ) → Contains rows r ↔ IsKept ls rs left_key right_key n r
 
 -- a valuation of the edge that has the same values of the variables of both
 pub record AgreesWith (a b : Edge ℕ) (v : ℕ → ℕ) : Type 0 where

@@ -1,12 +1,12 @@
 -- Ways to the stored rows of a source that a row may agree with.
 -- way: all rows of the table, or those at some positions; reached: beside the candidates so far no other stored row agrees
 -- No public contract cites this module.
-use Rattle.std.specs.Prelude.{◌≡◌, ◌<◌, ◌≤◌, ℕ, Some, Option, None, IsTrue, List, [], ◌∷◌, All, map, length, slice_get, slice_index_or, Contains}
+use Rattle.std.specs.Prelude.{◌≡◌, ◌<◌, ◌≤◌, ℕ, Some, Option, None, IsTrue, List, [], ◌∷◌, All, length, slice_get, slice_index_or, Contains}
 use Rattle.su_base.specs.declared.values.Value.{Value}
 use Rattle.su_rel.specs.Stored.{Stored}
 use Rattle.su_tableau.specs.declared.symbols.Sym.{Sym}
 use Rattle.su_tableau.specs.declared.symbols.Sym.TheVariants.{Const}
-use Rattle.su_tableau.specs.Valuations.{value_of, values_of}
+use Rattle.su_tableau.specs.Valuations.{values_of}
 use Rattle.su_index.specs.Matches.{has_value, matches}
 use Rattle.su_index.specs.Tables.{table_at}
 use Rattle.su_exec.specs.declared.tasks.Source.{Source}
@@ -22,15 +22,6 @@ use Rattle.su_exec.specs.Outputs.{values_at}
 -- the code of a row of one code
 abbrev pub only_code : List ℕ → ℕ
 only_code r = slice_index_or r 0 0
-
--- one of the codes stands for the value of the column's cell, under each valuation that fits the candidates so far
-pub record IsReached (values : List Value) (es : List (Edge ℕ)) (cells : List Sym) (columns : List ℕ) (column : ℕ) (codes : List (List ℕ)) : Type 0 where
-  pub place : ℕ
-  pub cell : Sym
-  pub below : place < length cells
-  pub is : slice_get cells place ≡ Some cell
-  pub column_is : slice_get columns place ≡ Some column
-  pub reaches : (v : ℕ → Value) → FitsAll v (meanings values es) → Contains (map (λ r. decode values (only_code r)) codes) (value_of v cell)
 
 -- the positions are of rows, and among them is that of each row which has, in the column, the value of one of the first n codes
 pub record AreOfCodes (rows : List (List Value)) (column : ℕ) (values : List Value) (codes : List (List ℕ)) (n : ℕ) (positions : List ℕ) : Type 0 where
@@ -117,19 +108,3 @@ pub record IsAgreed (tables : List Stored) (values : List Value) (es : List (Edg
   pub at : slice_get (table_at tables source.relation).rows position ≡ Some stored
   pub same : values_at source.columns stored ≡ values_of valuation cells
   pub is : picked firsts (values_at source.columns stored) ≡ h
-
--- one of the first n sources gives them
-pub record IsOfSources (tables : List Stored) (row : TaskRow) (firsts : List ℕ) (n : ℕ) (h : List Value) : Type 0 where
-  pub number : ℕ
-  pub below : number < n
-  pub source : Source
-  pub is : slice_get row.sources number ≡ Some source
-  pub given : IsFrom row.cells firsts source.columns (table_at tables source.relation).rows (length (table_at tables source.relation).rows) h
-
--- some source before number n gives the row these values
-pub record AgreesBySources (tables : List Stored) (values : List Value) (es : List (Edge ℕ)) (row : TaskRow) (firsts : List ℕ) (n : ℕ) (h : List Value) : Type 0 where
-  pub number : ℕ
-  pub below : number < n
-  pub source : Source
-  pub is : slice_get row.sources number ≡ Some source
-  pub agreed : IsAgreed tables values es row.cells firsts source h

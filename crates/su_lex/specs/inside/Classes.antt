@@ -6,8 +6,6 @@ use Rattle.std.specs.Prelude.{Option, Some, None, ℕ, ◌&&◌, ◌||◌, if◌
 use Rattle.std.specs.Char.{is_ascii_digit}
 use Rattle.su_base.specs.Name.{is_letter}
 use Rattle.su_lex.specs.Blanks.{begins}
-use Rattle.su_lex.specs.declared.kinds.TokenKind.{TokenKind}
-use Rattle.su_lex.specs.declared.kinds.TokenKind.TheVariants.{Word, Int, Text, Sign as ASign}
 use Rattle.su_lex.specs.declared.signs.Sign.{Sign}
 use Rattle.su_lex.specs.declared.signs.Sign.TheVariants.{Open, Close, Comma, Dot, Arrow, Equal, NotEqual, Less, LessEqual, Greater, GreaterEqual}
 use Rattle.su_lex.specs.declared.quoting.QuotedPart.{QuotedPart}
@@ -19,13 +17,6 @@ use Rattle.su_lex.specs.declared.firsts.Class.TheVariants.{Word as OfWord, Numbe
 abbrev pub class_at : List ℕ → Class
 class_at [] = OfSign
 class_at (b ∷ bs) = if is_letter b then OfWord else (if is_ascii_digit b || (b == 45 && begins is_ascii_digit bs) then OfNumber else (if b == 39 then OfText else OfSign))
-
--- the class of a token's kind
-abbrev pub class_of : TokenKind → Class
-class_of Word = OfWord
-class_of (Int n) = OfNumber
-class_of (Text t) = OfText
-class_of (ASign s) = OfSign
 
 -- the longest sign at the front
 abbrev pub sign_at : List ℕ → Option Sign

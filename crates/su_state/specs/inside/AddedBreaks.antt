@@ -8,7 +8,7 @@ use Rattle.su_rel.specs.Stored.{Stored}
 use Rattle.su_schema.specs.declared.definitions.Definition.{Definition}
 use Rattle.su_schema.specs.declared.definitions.Definition.TheVariants.{Object, Fd}
 use Rattle.su_schema.specs.SchemaValue.{SchemaValue, ObjectEntry}
-use Rattle.su_state.specs.DatabaseValue.{rows_in}
+use Rattle.su_index.specs.Tables.{rows_at}
 use Rattle.su_state.specs.Enforced.{Break, HoldsOn}
 use Rattle.su_state.specs.inside.RowBreaks.{IsAtMost}
 
@@ -25,12 +25,12 @@ pub record BreaksThrough (schema : SchemaValue) (tables : List Stored) (f o : �
   pub numbered : slice_get schema.fds f ≡ Some fd
   pub placed : slice_get schema.objects o ≡ Some object
   pub named : name ≡ object.name
-  pub rows : IsLeastBreak fd object (rows_in tables object.relation) first second
+  pub rows : IsLeastBreak fd object (rows_at tables object.relation) first second
 
 -- the dependency with this number holds through the object with this number
 abbrev pub HoldsThrough : SchemaValue → List Stored → ℕ → ℕ → Type 0
 HoldsThrough schema tables f o =
-    (fd : Dependency) (object : ObjectEntry) → slice_get schema.fds f ≡ Some fd → slice_get schema.objects o ≡ Some object → HoldsOn fd object (rows_in tables object.relation)
+    (fd : Dependency) (object : ObjectEntry) → slice_get schema.fds f ≡ Some fd → slice_get schema.objects o ≡ Some object → HoldsOn fd object (rows_at tables object.relation)
 
 -- the dependency with this number breaks through the first such object
 pub record FdBreaks (schema : SchemaValue) (tables : List Stored) (f : ℕ) (fd : Dependency) (name : List ℕ) (first second : List Value) : Type 0 where

@@ -10,8 +10,8 @@ use Rattle.su_io.specs.declared.status.Status.{Status}
 use Rattle.su_io.specs.declared.status.Status.TheVariants.{ReadFault, WriteFault, TooLong, NoMemory}
 use Rattle.su_io.specs.Moments.{Moment}
 use Rattle.su_io.specs.Programs.{ReadsAndTells}
-use Rattle.su_io.specs.Reading.{ReadingEnds}
-use Rattle.su_io.specs.Writing.{Wrote, WroteFront}
+use Rattle.su_io.specs.FileEnds.{ReadingEnds}
+use Rattle.su_io.specs.WrittenTexts.{Wrote, WroteFront}
 use Rattle.su_schema.specs.SchemaValue.{SchemaValue}
 use Rattle.su_session.specs.declared.replies.Reply.{Reply}
 use Rattle.su_session.specs.Reply.{Replied}

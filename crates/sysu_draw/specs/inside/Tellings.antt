@@ -6,7 +6,7 @@ use Rattle.std.specs.Prelude.{◌≡◌, ◌⊎◌, ℕ, List}
 use Rattle.su_io.specs.declared.status.Status.{Status}
 use Rattle.su_io.specs.declared.status.Status.TheVariants.{NoMemory}
 use Rattle.su_io.specs.Moments.{Moment}
-use Rattle.su_io.specs.Writing.{IsTold}
+use Rattle.su_io.specs.WrittenTexts.{IsTold}
 use Rattle.sysu_draw.specs.Replies.{IsReply}
 
 -- the reply to the text was told

@@ -6,15 +6,11 @@ use Rattle.std.specs.Prelude.{◌≡◌, ◌⊎◌, ℕ, List, Bool, true, false
 use Rattle.su_io.specs.declared.status.Status.{Status}
 use Rattle.su_io.specs.declared.status.Status.TheVariants.{Done, SomeRefused, NoMemory}
 use Rattle.su_io.specs.Moments.{Moment}
-use Rattle.su_io.specs.Writing.{IsTold}
+use Rattle.su_io.specs.WrittenTexts.{IsTold}
 use Rattle.su_schema.specs.SchemaValue.{SchemaValue}
 use Rattle.su_session.specs.declared.replies.Reply.{Reply}
 use Rattle.su_sql.specs.declared.dialects.Dialect.{Dialect}
 use Rattle.su_sql.specs.Scripts.{WritesScript}
-
--- a line was told, or there was no memory for it
-abbrev pub LineEnds : List ℕ → Status → Moment → Moment → Status → Type 0
-LineEnds line came old new status = IsTold line came old new status ⊎ ((status ≡ NoMemory) × (new ≡ old))
 
 -- the status of a script of which a statement was refused, or none
 abbrev pub status_by : Bool → Status

@@ -7,7 +7,8 @@ use Rattle.su_min.specs.Reduction.{IsReduced}
 use Rattle.su_steps.specs.declared.results.Term.{Term}
 use Rattle.su_steps.specs.Terms.{AreTerms}
 use Rattle.su_answer.specs.Prepared.{IsMinimisedOf}
-use Rattle.su_answer.proofs.Minimals.{few_terms, same_count}
+use Rattle.su_base.proofs.Items.{AllZip-length}
+use Rattle.su_answer.proofs.Minimals.{few_terms}
 use Rattle.su_answer.proofs.making.prepare.Goals as goal
 
 pub reduce-requires-after_bounds : goal.reduce-requires-after_bounds
@@ -16,7 +17,7 @@ reduce-requires-after_bounds g c κs within =
     let minimals : List Minimised = c.in_ok-minimals.minimals in
     let zip : AllZip (λ (t : Term) (m : Minimised). IsMinimisedOf t.tableau m) terms minimals = subst (λ (ts : List Term). AllZip (λ (t : Term) (m : Minimised). IsMinimisedOf t.tableau m) ts minimals) c.as_slice.ensures c.in_ok-minimals.ensures in
     let few = few_terms c.schema.result.now c.args.maximal.now c.args.resolved.now terms c.in_ok-terms.ensures.terms c.in_ok-terms.ensures.accepted in
-    let count = same_count terms minimals zip in
+    let count = AllZip-length (λ t m. IsMinimisedOf t.tableau m) terms minimals zip in
     let l = ap (λ (ms : List Minimised). length ms) c.as_slice-2.ensures in
     omega (arith, few, count, l)
 

@@ -1,6 +1,6 @@
 -- The numbers so far are the members of the set below the place.
 use Rattle.std.specs.FinSet.{contains}
-use Rattle.su_steps.proofs.PassingNumbers.{passing_push}
+use Rattle.su_base.proofs.PassingNumbers.{passing_push}
 use Rattle.su_answer.proofs.tasks.members.Goals as goal
 
 pub loop-a-preserved : goal.loop-a-preserved

@@ -3,7 +3,8 @@ use Rattle.std.proofs.Common.{ℕ, ◌<◌, List, map, All, ap, sym, ◌∙◌, 
 use Rattle.std.specs.Prelude.{IsTrue}
 use Rattle.std.specs.FinSet.{contains}
 use Rattle.su_steps.specs.Objects.{attributes_at}
-use Rattle.su_answer.specs.Joined.{numbers_in, cell, IsSourceOf}
+use Rattle.su_tableau.specs.Parts.{cell_at, row_of}
+use Rattle.su_answer.specs.Joined.{numbers_in, IsSourceOf}
 use Rattle.su_answer.proofs.TaskRows.{numbers_low, columns_owned}
 use Rattle.su_answer.proofs.tasks.task_row_of.Goals as goal
 
@@ -26,7 +27,7 @@ returns c = λ m own.
     record {
       attributes = c.args.columns;
       essential = own;
-      cells = c.in_ok-cells_of.ensures ∙ ap (map (cell c.args.t.now c.args.row)) eq;
+      cells = c.in_ok-cells_of.ensures ∙ ap (map (cell_at (row_of c.args.t.now c.args.row))) eq;
       from = λ s has. let w = are.from s has in (w.0, (source w.0).0 w.2, subst (λ (xs : List ℕ). IsSourceOf c.args.schema.now xs w.0 s) eq w.3);
       all = λ o is. let w = are.all o is.object ((source o).1 is) in (w.0, w.1, subst (λ (xs : List ℕ). IsSourceOf c.args.schema.now xs o w.0) eq w.2);
     }

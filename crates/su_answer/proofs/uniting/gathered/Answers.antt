@@ -7,7 +7,7 @@ use Rattle.su_answer.specs.declared.found.Found.{Found}
 use Rattle.su_answer.specs.declared.faults.AnswerFault.{AnswerFault}
 use Rattle.su_answer.specs.declared.faults.AnswerFault.TheVariants.{Limit}
 use Rattle.su_rel.specs.MoreThan.{AreMoreThan}
-use Rattle.su_answer.specs.inside.Executed.{IsInSome}
+use Rattle.su_answer.specs.inside.Executed.{ArePastLimit}
 use Rattle.su_answer.proofs.FoundLists.{begun, one_list, all_rows, all_some, last_in, rows_ascend, too_many}
 use Rattle.su_answer.proofs.uniting.gathered.Goals as goal
 
@@ -24,7 +24,7 @@ united-requires-clause-more c =
 
 pub returns-in_err-all-clause-limit : goal.returns-in_err-all-clause-limit
 returns-in_err-all-clause-limit c =
-    let limit : AnswerFault → Type 0 = λ fault. fault ≡ Limit → ((f : Found) × Contains c.args.lists f × (f.rows ≡ None)) ⊎ AreMoreThan 1000000 (λ h. Contains c.args.so_far h ⊎ IsInSome c.args.lists h) in
+    let limit : AnswerFault → Type 0 = λ fault. fault ≡ Limit → ArePastLimit c.args.so_far c.args.lists in
     let e = err_from_is_err_and c.from_residual.result c.from_residual.ensures.1 in
     subst (λ (r : Result (List (List Value)) AnswerFault). IfErr r limit) (sym e.1)
     (subst limit (sym e.2)

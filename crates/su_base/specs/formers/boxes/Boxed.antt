@@ -27,6 +27,7 @@ use Rattle.su_base.specs.contracts.boxes.Boxed.TheInside as fields
 abbrev pub the_former : Former {0} → Former {0}
 the_former held = held
 
+-- it takes room as what it holds does
 abbrev pub the_weighed : {held : Former {0}} → Weighed held → Weighed (the_former held)
 the_weighed weight = weight
 
@@ -40,6 +41,7 @@ of_fields =
 abbrev with_value : {X Y : Type 0} → Box X Global → Y → Box Y Global
 with_value old value = record { ptr = old.ptr; alloc = old.alloc; value = value }
 
+-- the box inside
 abbrev box_of : RattleType → RattleType
 box_of R = pointer.the_row R heap.the_row ghosts
 

@@ -24,6 +24,7 @@ use Rattle.su_base.specs.contracts.lists.List.TheInside as fields
 abbrev pub the_former : Former {0} → Former {0}
 the_former held = list held
 
+-- it takes room as a list does
 abbrev pub the_weighed : {held : Former {0}} → Weighed held → Weighed (the_former held)
 the_weighed weight = w_list weight
 
@@ -31,9 +32,11 @@ the_weighed weight = w_list weight
 pub the_empty : Items ⊥
 the_empty = []
 
+-- the items of a list of items: that list
 abbrev pub the_items : (X : Type 0) → Items X → Items X
 the_items X items = items
 
+-- they are what the former lists
 pub the_items_listed : (X : Type 0) (items : Items X) → listed _ (children (the_former this) X items) ≡ the_items X items
 the_items_listed X items = list-listed X items
 

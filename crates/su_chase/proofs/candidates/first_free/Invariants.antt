@@ -1,4 +1,4 @@
-use Rattle.std.proofs.Common.{◌≡◌, ℕ, ◌<◌, ◌≤◌, Contains}
+use Rattle.std.proofs.Common.{ℕ, ◌<◌, ◌≤◌, Contains}
 use Rattle.su_chase.specs.Frozen.{candidate}
 use Rattle.su_chase.proofs.candidates.first_free.Given as goal
 

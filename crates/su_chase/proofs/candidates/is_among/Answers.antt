@@ -1,5 +1,5 @@
 -- In an ascending list a search finds a value exactly where it is a member: the place where it would stand has either the value or a greater one.
-use Rattle.std.proofs.Common.{◌↔◌, Contains, sym, ap, ◌∙◌, subst}
+use Rattle.std.proofs.Common.{◌↔◌, Contains, sym, subst}
 use Rattle.std.specs.Prelude.{Bool, IsTrue}
 use Rattle.su_chase.proofs.Searches.{among_searched}
 use Rattle.su_chase.proofs.candidates.is_among.Goals as goal

@@ -1,5 +1,5 @@
 -- The names are the least classes that are closed under the dependencies. Over a universal relation that meets these a class has one value, so the named tableau answers what the tableau does; where a class has two constants nothing is answered.
-use Rattle.std.proofs.Common.{◌≡◌, ◌∙◌, ℕ, List, length, subst, sym, ap}
+use Rattle.std.proofs.Common.{◌∙◌, ℕ, List, length, subst, sym, ap}
 use Rattle.std.specs.Prelude.{All}
 use Rattle.std.proofs.Common.{rules}
 use Rattle.su_tableau.specs.declared.symbols.Sym.{Sym}

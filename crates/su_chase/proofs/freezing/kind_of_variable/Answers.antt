@@ -1,5 +1,5 @@
 -- No row so far has the variable, and some row does; the column at which it stands there has its kind under every typing.
-use Rattle.std.proofs.Common.{◌≡◌, ℕ, List, [], get_or, Contains, subst, ◌∙◌, arith}
+use Rattle.std.proofs.Common.{◌≡◌, List, [], get_or, Contains, subst, ◌∙◌, arith}
 use Rattle.std.proofs.lemmas.List.{get_or_default}
 use Rattle.su_tableau.specs.declared.symbols.Sym.{Sym}
 use Rattle.su_tableau.specs.declared.symbols.Sym.TheVariants.{Var}

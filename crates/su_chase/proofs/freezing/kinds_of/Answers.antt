@@ -1,5 +1,5 @@
 -- The kinds so far are those that every typing of the rows gives the variables so far, as each of these stands in a row.
-use Rattle.std.proofs.Common.{rules, ◌≡◌, ◌+◌, List, [], ◌∷◌, ◌++◌, map, take, length, ap, ◌∙◌, arith}
+use Rattle.std.proofs.Common.{rules, ◌≡◌, List, [], ◌∷◌, ◌++◌, map, take, length, ap, ◌∙◌, arith}
 use Rattle.std.proofs.lemmas.List.{get_or_default, length_push}
 use Rattle.su_base.specs.declared.values.Kind.{Kind}
 use Rattle.su_chase.proofs.FrozenValues.{kinds_more}

@@ -1,7 +1,6 @@
 -- What is gathered are the variables of the rows so far, of all in the end; bringing them into order, each once, keeps the members.
 use Rattle.std.proofs.Common.{◌≡◌, ◌∙◌, ℕ, List, Contains, subst, sym, arith}
-use Rattle.su_chase.specs.inside.Rows.{variables_in}
-use Rattle.su_chase.proofs.FrozenValues.{variables_all, variable_in, variable_occurs}
+use Rattle.su_chase.proofs.FrozenValues.{variables_in, variables_all, variable_in, variable_occurs}
 use Rattle.su_chase.proofs.freezing.variables_of.Goals as goal
 
 pub returns-clause-all : goal.returns-clause-all

@@ -1,5 +1,5 @@
 -- The table holds the least closed classes of the items, so an item's name is read off its class, and a class with two constants is a clash.
-use Rattle.std.proofs.Common.{◌≡◌, ◌<◌, ℕ, List, length, get_or, subst, sym, arith}
+use Rattle.std.proofs.Common.{◌<◌, ℕ, List, get_or, subst, sym, arith}
 use Rattle.std.specs.Prelude.{All}
 use Rattle.su_tableau.specs.declared.symbols.Sym.TheVariants.{Var}
 use Rattle.su_tableau.specs.Tableaux.{AreBelow}

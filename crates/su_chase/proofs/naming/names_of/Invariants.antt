@@ -1,7 +1,7 @@
 use Rattle.std.proofs.Common.{◌≡◌, ℕ, ◌+◌, ◌<◌, length, get_or}
 use Rattle.su_tableau.specs.declared.symbols.Sym.TheVariants.{Var}
 use Rattle.su_classes.specs.Tables.{rep}
-use Rattle.su_classes.specs.inside.Symbols.{symbol_at}
+use Rattle.su_classes.specs.Symbols.{symbol_at}
 use Rattle.su_chase.proofs.naming.names_of.Given as goal
 
 abbrev pub invariant-loop-k : goal.invariant-loop-k

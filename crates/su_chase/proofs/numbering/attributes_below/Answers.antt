@@ -1,5 +1,5 @@
 -- The set has exactly the attributes below the next one, none at the start, and each attribute inserts itself.
-use Rattle.std.proofs.Common.{◌↔◌, ◌<◌, ◌+◌, ℕ, false, sym, ap, subst, ◌∙◌, arith}
+use Rattle.std.proofs.Common.{◌↔◌, ◌<◌, ◌+◌, ℕ, sym, ap, subst, ◌∙◌, arith}
 use Rattle.std.specs.Prelude.{IsTrue}
 use Rattle.std.specs.Ordering.{nat_cmp}
 use Rattle.std.specs.FinSet.{FinSet, contains, contains-empty}

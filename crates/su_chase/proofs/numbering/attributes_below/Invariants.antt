@@ -1,4 +1,4 @@
-use Rattle.std.proofs.Common.{◌≡◌, ◌↔◌, ◌<◌, ℕ}
+use Rattle.std.proofs.Common.{◌↔◌, ◌<◌, ℕ}
 use Rattle.std.specs.Prelude.{IsTrue}
 use Rattle.std.specs.FinSet.{contains}
 use Rattle.su_chase.proofs.numbering.attributes_below.Given as goal

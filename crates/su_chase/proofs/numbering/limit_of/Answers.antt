@@ -1,8 +1,7 @@
 -- The number is above the variables of the rows so far, and what rises above one row's stays above those of the rows before.
-use Rattle.std.proofs.Common.{◌≡◌, ℕ, ◌<◌, ◌≤◌, ◌∙◌, List, [], get_or, ⊎_elim, subst, sym, ap, arith}
+use Rattle.std.proofs.Common.{◌≡◌, ◌<◌, ◌≤◌, ◌∙◌, get_or, ⊎_elim, subst, ap, arith}
 use Rattle.std.proofs.lemmas.Bool.{cases_lt}
 use Rattle.std.proofs.lemmas.List.{get_or_default}
-use Rattle.su_tableau.specs.declared.symbols.Sym.{Sym}
 use Rattle.su_tableau.specs.Tableaux.{AreBelow}
 use Rattle.su_tableau.proofs.Rows.{below_up}
 use Rattle.su_chase.proofs.numbering.limit_of.Goals as goal

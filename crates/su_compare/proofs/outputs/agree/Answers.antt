@@ -1,9 +1,8 @@
 -- The kinds of the outputs so far are the same on both sides, and lists of one length that are the same at each place are equal; one place that differs shows that they aren't.
 use Rattle.std.proofs.Common.{◌≡◌, true, false, true≢false, get_or, below_more, rules, refl, sym, ap, ◌∙◌, arith}
-use Rattle.std.proofs.lemmas.List.{length-map}
+use Rattle.std.proofs.lemmas.List.{length-map, same_lists}
 use Rattle.su_base.specs.declared.values.Kind.{Kind}
 use Rattle.su_compare.specs.Outputs.{output_kinds}
-use Rattle.su_compare.proofs.Lists.{same_lists}
 use Rattle.su_compare.proofs.outputs.agree.Goals as goal
 
 pub returns-then-not-is_same : goal.returns-then-not-is_same

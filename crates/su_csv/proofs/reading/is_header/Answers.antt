@@ -3,7 +3,8 @@ use Rattle.std.proofs.Common.{◌∙◌, sym, length, refl}
 use Rattle.csv.specs.Records.{fields_of}
 use Rattle.std.proofs.lemmas.Bool.{not-false}
 use Rattle.std.proofs.lemmas.Option.{slice_get_read}
-use Rattle.su_csv.proofs.RecordsSoFar.{same-name, other-name, not-true}
+use Rattle.std.proofs.lemmas.Bool.{not-true}
+use Rattle.su_csv.proofs.RecordsSoFar.{same-name, other-name}
 use Rattle.su_csv.proofs.reading.is_header.Goals as goal
 
 pub returns-then-ne : goal.returns-then-ne

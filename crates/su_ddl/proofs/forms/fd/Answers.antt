@@ -7,7 +7,7 @@ use Rattle.su_lex.specs.declared.signs.Sign.TheVariants as sign
 use Rattle.su_lex.specs.declared.meaning.Symbol.TheVariants.{Word, Sign}
 use Rattle.su_lex.specs.Names.{names_symbols}
 use Rattle.su_lex.proofs.Listed.{names_unique}
-use Rattle.su_ddl.proofs.NameLists.{no_comma_arrow, no_comma_end, are_given}
+use Rattle.su_ddl.proofs.NameLists.{no_comma_arrow, no_comma_end}
 use Rattle.su_ddl.proofs.Formed.{fd_form}
 use Rattle.su_ddl.proofs.forms.fd.Goals as goal
 
@@ -64,4 +64,4 @@ returns-clause-found c =
     let m = c.in_ok-right.ensures.found in
     let nil = nil_from_length _ c.in_ok-end.ensures.found in
     let right = m.0 ∙ ap (λ x. names_symbols c.in_ok-right.right ++ x) nil ∙ append-nil (names_symbols c.in_ok-right.right) in
-    (ap (λ x. Word (codes "fd") ∷ x) (n.0 ∙ ap (λ x. names_symbols c.in_ok-left.left ++ x) (a ∙ ap (λ x. Sign sign.Arrow ∷ x) right)), (are_given _ n.1, are_given _ m.1))
+    (ap (λ x. Word (codes "fd") ∷ x) (n.0 ∙ ap (λ x. names_symbols c.in_ok-left.left ++ x) (a ∙ ap (λ x. Sign sign.Arrow ∷ x) right)), (n.1, m.1))

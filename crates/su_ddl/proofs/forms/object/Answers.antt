@@ -5,7 +5,7 @@ use Rattle.std.proofs.lemmas.Result.{err_from_is_err_and}
 use Rattle.su_lex.specs.declared.ends.LexEnd.TheVariants.{Syntax}
 use Rattle.su_lex.specs.declared.meaning.Symbol.TheVariants.{Word}
 use Rattle.su_ddl.specs.Grammar.{in_parens}
-use Rattle.su_ddl.proofs.NameLists.{are_given, parens_unique}
+use Rattle.su_ddl.proofs.NameLists.{parens_unique}
 use Rattle.su_ddl.proofs.Formed.{object_form, behind_name, same_attributes, behind_from, behind_relation, pairs_lengths}
 use Rattle.su_ddl.proofs.forms.object.Goals as goal
 
@@ -81,4 +81,4 @@ returns-clause-found c =
     let columns = c.in_ok-pairs.ensures.columns ∙ c.as_slice-2.ensures in
     let last = m.0 ∙ ap (λ x. Word c.in_ok-relation.relation ∷ x) (o.0 ∙ ap (in_parens c.in_ok-columns.columns) nil) in
     let inner = a.0 ∙ ap (in_parens c.in_ok-attributes.attributes) (k ∙ ap (λ x. Word (codes "from") ∷ x) last) in
-    rw (attributes, columns) (ap (λ x. Word (codes "object") ∷ x) (n.0 ∙ ap (λ x. Word c.in_ok-name.name ∷ x) inner), (n.1, m.1, are_given _ a.1, are_given _ o.1))
+    rw (attributes, columns) (ap (λ x. Word (codes "object") ∷ x) (n.0 ∙ ap (λ x. Word c.in_ok-name.name ∷ x) inner), (n.1, m.1, a.1, o.1))

@@ -6,7 +6,7 @@ use Rattle.su_lex.specs.declared.ends.LexEnd.TheVariants.{Syntax}
 use Rattle.su_lex.specs.declared.signs.Sign.TheVariants as sign
 use Rattle.su_lex.specs.declared.meaning.Symbol.TheVariants.{Word, Sign}
 use Rattle.su_ddl.specs.Grammar.{columns_symbols}
-use Rattle.su_ddl.proofs.NameLists.{no_comma, columns_given, columns_unique}
+use Rattle.su_ddl.proofs.NameLists.{no_comma, columns_unique}
 use Rattle.su_ddl.proofs.Formed.{relation_form}
 use Rattle.su_ddl.proofs.forms.relation.Goals as goal
 
@@ -66,4 +66,4 @@ returns-clause-found c =
     let k = c.in_ok-expect_sign-2.ensures.found in
     let nil = nil_from_length _ c.in_ok-end.ensures.found in
     let columns = m.0 ∙ ap (λ x. columns_symbols c.in_ok-columns.columns ++ x) (k ∙ ap (λ x. Sign sign.Close ∷ x) nil) in
-    (ap (λ x. Word (codes "relation") ∷ x) (n.0 ∙ ap (λ x. Word c.in_ok-name.name ∷ x) (a ∙ ap (λ x. Sign sign.Open ∷ x) columns)), (n.1, columns_given _ m.1))
+    (ap (λ x. Word (codes "relation") ∷ x) (n.0 ∙ ap (λ x. Word c.in_ok-name.name ∷ x) (a ∙ ap (λ x. Sign sign.Open ∷ x) columns)), (n.1, m.1))

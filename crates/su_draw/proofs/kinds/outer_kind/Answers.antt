@@ -1,4 +1,4 @@
--- The names are tried from the last to the first, so the first that the word is decides, as in the definition.
+-- Of the names of lines at the margin, tried from the last to the first, the first that the word is decides, as in the definition.
 use Rattle.std.proofs.Common.{rules}
 use Rattle.su_draw.specs.Kinds.{outer_kind_of}
 use Rattle.su_draw.proofs.kinds.outer_kind.Goals as goal

@@ -5,13 +5,14 @@ use Rattle.su_draw.specs.Svg.{ground_line, help_text}
 use Rattle.su_draw.specs.Shapes.{shape_text}
 use Rattle.su_draw.specs.declared.shapes.Help.{Help}
 use Rattle.su_draw.specs.declared.shapes.Shape.{Shape}
-use Rattle.su_draw.proofs.Assembled.{on_ok, four_parts}
+use Rattle.std.proofs.lemmas.Result.{on_ok_weaker}
+use Rattle.su_draw.proofs.Assembled.{four_parts}
 use Rattle.su_draw.proofs.writing.inside.Goals as goal
 
 pub returns : goal.returns
 returns c =
     let p = c.args.picture.now in
-    on_ok c.shape_elements.result
+    on_ok_weaker c.shape_elements.result
     (λ (h : c.shape_elements.new.out.items ≡ c.help_elements.new.out.items ++ flat_map shape_text c.as_slice-2.result.now).
     four_parts c.args.out.now.items (codes "\n") ground_line (flat_map help_text p.helps) (flat_map shape_text p.shapes)
     c.push.new.out.items c.ground.new.out.items c.help_elements.new.out.items c.shape_elements.new.out.items

@@ -5,8 +5,8 @@ use Rattle.su_base.specs.declared.values.Value.{Value}
 use Rattle.su_rel.specs.Stored.{Stored}
 use Rattle.su_index.specs.Tables.{table_at}
 use Rattle.su_exec.specs.inside.Edges.{Edge}
-use Rattle.su_exec.specs.inside.Ways.{AreOfCodes, IsReached}
-use Rattle.su_exec.proofs.Ways.{variable_reached, variable_way}
+use Rattle.su_exec.specs.inside.Ways.{AreOfCodes}
+use Rattle.su_exec.proofs.Ways.{variable_reached, variable_way, IsReached}
 use Rattle.su_exec.proofs.access.by_variable.Goals as goal
 
 pub returns-in-Some-2-clause-way : goal.returns-in-Some-2-clause-way

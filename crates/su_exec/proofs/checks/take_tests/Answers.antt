@@ -1,11 +1,12 @@
 -- The tests and what is left are together the checks so far; where the rows have all variables of the checks nothing is left.
 use Rattle.std.proofs.Common.{◌≡◌, ◌<◌, ◌&&◌, ◌||◌, ◌+◌, ℕ, List, [], ◌∷◌, length, get_or, take, sym, ap, ◌∙◌, arith}
+use Rattle.std.proofs.lemmas.Bool.{or_left, or_right}
 use Rattle.su_where.specs.declared.operators.Op.TheVariants.{Equal}
 use Rattle.su_exec.specs.declared.checks.Check.{Check}
 use Rattle.su_exec.specs.declared.checks.CodedSymbol.TheVariants.{Code}
 use Rattle.su_exec.specs.inside.Edges.{has}
 use Rattle.su_exec.specs.inside.Checks.{all_hold, check_holds, check_vars}
-use Rattle.su_exec.proofs.CheckTests.{has_more, hold_more, or_first, or_map, or_second}
+use Rattle.su_exec.proofs.CheckTests.{has_more, hold_more, or_map}
 use Rattle.su_exec.proofs.checks.take_tests.Goals as goal
 
 pub loop-check-preserved : goal.loop-check-preserved
@@ -27,6 +28,6 @@ loop-check-preserved c =
       within = c.in_ok-take_one.ensures.within c.loop-check.invariant.within;
       vars = λ k h. more k ∙ or_map (has (check_vars c.loop-check.later.items) k) (has (check_vars (take i cs)) k) (has (check_vars (item ∷ [])) k) (c.loop-check.invariant.vars k) (c.in_ok-take_one.ensures.vars k h);
       all = λ h.
-          c.in_ok-take_one.ensures.all (λ k m. h k (more k ∙ or_second (has (check_vars (take i cs)) k) (has (check_vars (item ∷ [])) k) m))
-          ∙ c.loop-check.invariant.all (λ k m. h k (more k ∙ or_first (has (check_vars (take i cs)) k) (has (check_vars (item ∷ [])) k) m));
+          c.in_ok-take_one.ensures.all (λ k m. h k (more k ∙ or_right (has (check_vars (take i cs)) k) (has (check_vars (item ∷ [])) k) m))
+          ∙ c.loop-check.invariant.all (λ k m. h k (more k ∙ or_left (has (check_vars (take i cs)) k) (has (check_vars (item ∷ [])) k) m));
     }

@@ -5,7 +5,7 @@ use Rattle.std.specs.Prelude.{cond, filter, map, nat_eq}
 use Rattle.su_exec.specs.Components.{AreComponents}
 use Rattle.su_exec.specs.inside.Labels.{label_of, rows_of}
 use Rattle.su_exec.proofs.ComponentLabels.{are_components}
-use Rattle.su_exec.proofs.PassingNumbers.{parts_more}
+use Rattle.su_base.proofs.PassingNumbers.{images_push}
 use Rattle.su_exec.proofs.connecting.components.Goals as goal
 
 pub loop-i-preserved : goal.loop-i-preserved
@@ -15,7 +15,7 @@ loop-i-preserved c =
     let i = c.loop-i.i in
     let added : c.add_part.new.parts ≡ c.loop-i.parts ++ cond (p i) (rows_of ls i ∷ []) [] =
     subst (λ (ks : List ℕ). c.add_part.new.parts ≡ c.loop-i.parts ++ cond (nat_eq (label_of ks i) i) (rows_of ks i ∷ []) []) c.deref.ensures.value c.in_ok-add_part.ensures in
-    added ∙ ap (λ xs. xs ++ cond (p i) (rows_of ls i ∷ []) []) c.loop-i.invariant ∙ sym (parts_more (rows_of ls) p i)
+    added ∙ ap (λ xs. xs ++ cond (p i) (rows_of ls i ∷ []) []) c.loop-i.invariant ∙ sym (images_push (rows_of ls) p i)
 
 pub returns : goal.returns
 returns c =

@@ -11,9 +11,9 @@ invariant-loop-i l = record {
   shared : (i k first : ℕ) → i < l.i → StandsIn l.task k i → IsFirstRow l.task k first → label_of l.labels.items i ≡ label_of l.labels.items first;
 }
 
-abbrev pub invariant-loop-n : goal.invariant-loop-n
-invariant-loop-n l = record {
+abbrev pub invariant-loop-compared : goal.invariant-loop-compared
+invariant-loop-compared l = record {
   labels : AreLabels l.task l.labels.items;
   shared : (i k first : ℕ) → StandsIn l.task k i → IsFirstRow l.task k first → label_of l.labels.items i ≡ label_of l.labels.items first;
-  compared : (n k m i j : ℕ) (d : Compared) → n < l.n → (get_or l.task.comparisons n d).left ≡ Var k → (get_or l.task.comparisons n d).right ≡ Var m → IsFirstRow l.task k i → IsFirstRow l.task m j → label_of l.labels.items i ≡ label_of l.labels.items j;
+  compared : (n k m i j : ℕ) (d : Compared) → n < l.compared-index → (get_or l.task.comparisons n d).left ≡ Var k → (get_or l.task.comparisons n d).right ≡ Var m → IsFirstRow l.task k i → IsFirstRow l.task m j → label_of l.labels.items i ≡ label_of l.labels.items j;
 }

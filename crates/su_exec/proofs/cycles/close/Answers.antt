@@ -3,13 +3,14 @@ use Rattle.std.proofs.Common.{◌≡◌, ◌∷◌, ◌++◌, ◌⊎◌, ◌<◌
 use Rattle.std.proofs.lemmas.List.Edits.{length-remove}
 use Rattle.su_exec.specs.declared.checks.Check.{Check}
 use Rattle.su_exec.specs.inside.Checks.{all_hold, check_vars}
-use Rattle.su_exec.specs.inside.Edges.{Edge, Splits, always, among, has}
+use Rattle.su_exec.specs.inside.Edges.{Edge, always, among, has}
 use Rattle.su_exec.proofs.Triples.{first_of_three, second_of_three, splits_more, third_of_three}
 use Rattle.su_exec.proofs.Parts.{one_out, put_step}
 use Rattle.su_exec.proofs.BodySteps.{hold_test, there_step}
 use Rattle.su_exec.proofs.MergeSteps.{among_removed}
 use Rattle.su_exec.proofs.cycles.close.Goals as goal
 use Rattle.su_exec.proofs.cycles.close.Goals.{In_ok-joined}
+use Rattle.su_exec.proofs.Splits.{Splits}
 
 -- the three edges and the rest
 module _ (c : In_ok-joined) where

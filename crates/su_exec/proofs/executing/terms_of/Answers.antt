@@ -1,26 +1,26 @@
 -- The terms so far are those of the symbols so far, and stay right as the codes grow.
-use Rattle.std.proofs.Common.{take, sym, rules, arith}
-use Rattle.std.proofs.lemmas.Option.{get_or_from_slice_get}
+use Rattle.std.proofs.Common.{◌≡◌, ◌<◌, List, length, get_or, take, ap, subst, ◌∙◌, rules}
+use Rattle.su_tableau.specs.declared.symbols.Sym.{Sym}
 use Rattle.su_exec.specs.inside.Shown.{IsTermOf}
 use Rattle.su_reduce.proofs.CodeExtensions.{extends_self, extends_then}
 use Rattle.su_exec.proofs.Outputs.{zip_more, terms_up}
 use Rattle.su_exec.proofs.executing.terms_of.Goals as goal
 
-pub loop-i-init : goal.loop-i-init
-loop-i-init c = record { codes = extends_self c.args.codes.now; terms = search (rules, c.new-terms.ensures) }
+pub loop-symbol-init : goal.loop-symbol-init
+loop-symbol-init c = record { codes = extends_self c.args.codes.now; terms = search (rules, c.new-terms.ensures) }
 
-pub loop-i-preserved : goal.loop-i-preserved
-loop-i-preserved c =
-    let list = c.args.symbols.now in
-    let i = c.loop-i.i in
-    let item = c.get.result.now in
-    let test = c.loop-i-test.true in
-    let end = c.len-i-end.ensures in
+pub loop-symbol-preserved : goal.loop-symbol-preserved
+loop-symbol-preserved c =
+    let list : List Sym = c.args.symbols.now in
+    let i = c.loop-symbol.symbol-index in
+    let item : Sym = c.symbol-item.result in
+    let low : i < length list = subst (λ (xs : List Sym). i < length xs) c.as_slice-symbol-items.ensures c.loop-symbol-test.true in
+    let is : item ≡ get_or list i item = c.symbol-item.is ∙ ap (λ (xs : List Sym). get_or xs i item) c.as_slice-symbol-items.ensures in
     let more = c.in_ok-term.ensures.codes in
     record {
-      codes = extends_then c.args.codes.now c.loop-i.codes c.term_of.new.codes c.loop-i.invariant.codes more;
-      terms = rw c.in_ok-push.ensures.items (zip_more (IsTermOf c.term_of.new.codes) list c.loop-i.terms.items i item c.in_ok-term.term (omega arith) (sym (get_or_from_slice_get list i item item c.get.ensures)) (terms_up c.loop-i.codes c.term_of.new.codes (take i list) c.loop-i.terms.items more c.loop-i.invariant.terms) c.in_ok-term.ensures.term);
+      codes = extends_then c.args.codes.now c.loop-symbol.codes c.term_of.new.codes c.loop-symbol.invariant.codes more;
+      terms = rw c.in_ok-push.ensures.items (zip_more (IsTermOf c.term_of.new.codes) list c.loop-symbol.terms.items i item c.in_ok-term.term low is (terms_up c.loop-symbol.codes c.term_of.new.codes (take i list) c.loop-symbol.terms.items more c.loop-symbol.invariant.terms) c.in_ok-term.ensures.term);
     }
 
 pub returns-clause-codes : goal.returns-clause-codes
-returns-clause-codes c = c.loop-i.invariant.codes
+returns-clause-codes c = c.loop-symbol.invariant.codes

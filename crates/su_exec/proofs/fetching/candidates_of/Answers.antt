@@ -12,12 +12,12 @@ use Rattle.su_exec.specs.inside.Edges.{Edge}
 use Rattle.su_reduce.specs.Sheets.{AreBelow}
 use Rattle.su_exec.specs.Shares.{share}
 use Rattle.su_exec.specs.Tasks.{FitsTables}
-use Rattle.su_exec.specs.inside.Ways.{AgreesBySources, IsAgreed, IsFrom, IsOfSources}
+use Rattle.su_exec.specs.inside.Ways.{IsAgreed, IsFrom}
 use Rattle.su_exec.proofs.Ways.{sum_more, sum_take}
 use Rattle.su_exec.proofs.GatheredRows.{gathered_none, gathered_then}
 use Rattle.su_reduce.proofs.ShapeSteps.{shape_length}
 use Rattle.su_exec.proofs.CellShapes.{shape_apart}
-use Rattle.su_exec.proofs.Sources.{agreed_up, row_edge, sources_before, sources_cases, sources_here, sources_none}
+use Rattle.su_exec.proofs.Sources.{agreed_up, row_edge, sources_before, sources_cases, sources_here, sources_none, AgreesBySources, IsOfSources}
 use Rattle.su_exec.proofs.fetching.candidates_of.Goals as goal
 
 pub loop-s-init : goal.loop-s-init

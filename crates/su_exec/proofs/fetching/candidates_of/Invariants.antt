@@ -2,7 +2,7 @@ use Rattle.std.proofs.Common.{◌≡◌, ◌≤◌, ◌+◌, [], length, take}
 use Rattle.std.specs.Prelude.{map, sum}
 use Rattle.su_exec.specs.inside.Coded.{IsGathered}
 use Rattle.su_exec.specs.Shares.{share}
-use Rattle.su_exec.specs.inside.Ways.{AgreesBySources, IsOfSources}
+use Rattle.su_exec.proofs.Sources.{AgreesBySources, IsOfSources}
 use Rattle.su_exec.proofs.fetching.candidates_of.Given as goal
 
 abbrev pub invariant-loop-s : goal.invariant-loop-s

@@ -7,11 +7,11 @@ use Rattle.std.proofs.lemmas.Option.{get_or_from_slice_get, slice_get_within}
 use Rattle.su_base.specs.declared.values.Value.{Value}
 use Rattle.su_rel.specs.Stored.{Stored}
 use Rattle.su_exec.specs.declared.tasks.TaskRow.{TaskRow}
-use Rattle.su_exec.specs.inside.Coded.{AreSoFar, IsCoded, IsRowEdge}
+use Rattle.su_exec.specs.inside.Coded.{IsCoded, IsRowEdge}
 use Rattle.su_exec.specs.inside.Edges.{Edge}
 use Rattle.su_exec.specs.Shares.{row_share}
 use Rattle.su_exec.specs.Tasks.{HasSources}
-use Rattle.su_exec.proofs.RemainingRows.{ended, none, share_start, share_step, start, step}
+use Rattle.su_exec.proofs.RemainingRows.{ended, none, share_start, share_step, start, step, AreSoFar}
 use Rattle.su_exec.proofs.fetching.fetch_rows.Goals as goal
 
 pub loop-alloc-init : goal.loop-alloc-init

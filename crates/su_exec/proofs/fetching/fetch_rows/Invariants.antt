@@ -1,6 +1,6 @@
 use Rattle.std.proofs.Common.{◌≡◌, ◌≤◌, ◌+◌, length}
-use Rattle.su_exec.specs.inside.Coded.{AreSoFar, left_share}
 use Rattle.su_exec.specs.Shares.{task_share}
+use Rattle.su_exec.proofs.RemainingRows.{AreSoFar, left_share}
 use Rattle.su_exec.proofs.fetching.fetch_rows.Given as goal
 
 abbrev pub invariant-loop-alloc : goal.invariant-loop-alloc

@@ -6,12 +6,13 @@ use Rattle.su_exec.specs.declared.checks.Check.{Check}
 use Rattle.su_exec.specs.declared.checks.Test.{Test}
 use Rattle.su_exec.specs.inside.Bodies.{AreAlone}
 use Rattle.su_exec.specs.inside.Checks.{all_hold, all_pass}
-use Rattle.su_exec.specs.inside.Edges.{Edge, Splits, among, has}
+use Rattle.su_exec.specs.inside.Edges.{Edge, among, has}
 use Rattle.su_exec.specs.inside.Joins.{IsUpTo}
 use Rattle.su_exec.proofs.Parts.{taken_out}
 use Rattle.su_exec.proofs.MergeSteps.{all_of_two, merged_keeps, merged_there, over, over_there, two_parts}
 use Rattle.su_exec.proofs.merging.merge_next.Goals as goal
 use Rattle.su_exec.proofs.merging.merge_next.Goals.{In_ok-joined}
+use Rattle.su_exec.proofs.Splits.{Splits}
 
 -- what both ways out share: the two that are joined, and the rest
 module _ (c : In_ok-joined) where

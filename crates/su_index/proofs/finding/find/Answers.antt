@@ -1,10 +1,9 @@
 -- The last entry of the chunk found doesn't come before the value, so the place in it isn't past its entries, and its rank parts those before the value from the others.
 use Rattle.std.proofs.Common.{◌<◌, ◌+◌, ◌-◌, ◌∙◌, sym, inl, inr, arith}
-use Rattle.std.proofs.lemmas.Bool.{false≢true}
+use Rattle.std.proofs.lemmas.Bool.{false≢true, cases_lt}
 use Rattle.su_index.specs.Chunks.{len_at}
 use Rattle.su_index.specs.inside.Chunks.{before_chunk}
 use Rattle.su_index.proofs.Chunked.{before-next, before-most}
-use Rattle.su_index.proofs.Spans.{le_or}
 use Rattle.su_index.proofs.finding.find.Goals as goal
 
 pub returns-clause-place : goal.returns-clause-place
@@ -15,12 +14,12 @@ returns-clause-place c =
     let within = c.chunk_for-chunk.ensures.within in
     record {
       gap = record { within = within; most = c.place_in-at.ensures.most };
-      inner = λ d less. elim (le_or (len_at chunks chunk d) at) [
-        | inl all ↦
+      inner = λ d less. elim (cases_lt at (len_at chunks chunk d)) [
+        | inr all ↦
             let some : 0 < len_at chunks chunk d = c.requires.some chunk d less in
             let last = before_chunk chunks chunk + (len_at chunks chunk d - 1) in
             let next = before-next chunks chunk d within in
             absurd (false≢true (sym (c.chunk_for-chunk.ensures.above last less (omega (arith, some, next)) (omega (arith, some, next, before-most chunks (chunk + 1)))) ∙ c.place_in-at.ensures.below last (omega (arith, some, all))))
-        | inr more ↦ more
+        | inl more ↦ more
       ];
     }

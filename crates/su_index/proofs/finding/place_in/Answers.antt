@@ -1,6 +1,6 @@
 -- A binary search: all entries below `low` come before the value, none from `high` on does; an entry with the value on each side gives the value between them.
 use Rattle.std.proofs.Common.{◌≡◌, ◌<◌, ◌∙◌, ap, refl, sym, subst, ◌+◌, ◌-◌, ◌/◌, inl, inr, true, false, arith, length, slice_index}
-use Rattle.std.proofs.lemmas.Bool.{false≢true}
+use Rattle.std.proofs.lemmas.Bool.{false≢true, cases_lt}
 use Rattle.su_index.specs.Chunks.{entries_of}
 use Rattle.su_index.specs.inside.Chunks.{before_chunk}
 use Rattle.su_index.specs.Entries.{positions}
@@ -9,7 +9,6 @@ use Rattle.su_index.specs.inside.Order.{comes_before, has_at}
 use Rattle.su_index.proofs.Chunked.{before-len, rank-within, rank-end}
 use Rattle.su_index.proofs.Entries.{positions_length, at_position, entry_within, entry_lead, entry_before}
 use Rattle.su_index.proofs.Search.{comes_before-below, comes_before-above, has_between}
-use Rattle.su_index.proofs.Spans.{le_or}
 use Rattle.su_index.proofs.finding.place_in.Goals as goal
 use Rattle.su_index.proofs.finding.place_in.Goals.{then-low_has, else-low_has}
 
@@ -21,9 +20,9 @@ loop-low-init c =
       bound = omega arith;
       top = λ d. omega (arith, c.len_of-high.ensures d);
       below = λ k h. c.requires.below k (omega (arith, h));
-      above = λ k h l. elim (le_or (length chunks) (c.args.chunk + 1)) [
-        | inl last ↦ absurd (omega (arith, h, l, rank-end chunks c.args.chunk len c.requires.within c.len_of-high.ensures last))
-        | inr less ↦ c.requires.above k less (omega (arith, h, before-len chunks c.args.chunk len c.requires.within c.len_of-high.ensures)) l
+      above = λ k h l. elim (cases_lt (c.args.chunk + 1) (length chunks)) [
+        | inr last ↦ absurd (omega (arith, h, l, rank-end chunks c.args.chunk len c.requires.within c.len_of-high.ensures last))
+        | inl less ↦ c.requires.above k less (omega (arith, h, before-len chunks c.args.chunk len c.requires.within c.len_of-high.ensures)) l
       ];
       low_has = λ has. absurd (false≢true has);
       high_has = λ has. absurd (false≢true has);

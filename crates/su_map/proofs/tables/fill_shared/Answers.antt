@@ -3,7 +3,7 @@ use Rattle.std.proofs.Common.{◌≡◌, ◌∙◌, ℕ, subst, Option, Some, No
 use Rattle.std.specs.Option.{IfSome}
 use Rattle.su_tableau.specs.declared.symbols.Sym.TheVariants.{Var}
 use Rattle.su_tableau.proofs.Rows.{contains_read}
-use Rattle.su_map.specs.Candidates.{Cell}
+use Rattle.su_tableau.specs.Parts.{Cell}
 use Rattle.su_map.proofs.Cells.{cell_read, same_var}
 use Rattle.su_map.proofs.Members.{set_entries_of}
 use Rattle.su_map.proofs.tables.fill_shared.Goals as goal

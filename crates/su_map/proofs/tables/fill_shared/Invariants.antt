@@ -1,6 +1,6 @@
 use Rattle.std.proofs.Common.{◌≡◌, ℕ, ◌<◌, get_or, Contains, Some, None}
 use Rattle.su_tableau.specs.declared.symbols.Sym.TheVariants.{Var}
-use Rattle.su_map.specs.Candidates.{Cell}
+use Rattle.su_tableau.specs.Parts.{Cell}
 use Rattle.su_map.proofs.tables.fill_shared.Given as goal
 
 abbrev pub invariant-loop-c : goal.invariant-loop-c

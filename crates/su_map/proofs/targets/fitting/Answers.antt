@@ -1,11 +1,12 @@
 -- A cell fits a target whose cell there is the constant, or the image that the head gives the variable, or what the target has at the first cell of the variable; a first cell fits everything.
 use Rattle.std.proofs.Common.{◌≡◌, ◌∙◌, ◌^◌, length, refl, sym, ap, get_or, arith}
 use Rattle.std.specs.Int.{bit_at}
+use Rattle.su_base.proofs.Items.{get_or-is}
 use Rattle.su_tableau.specs.declared.symbols.Sym.{Sym}
 use Rattle.su_tableau.specs.declared.symbols.Sym.TheVariants.{Const, Var}
 use Rattle.su_map.specs.Lists.{row_of}
 use Rattle.su_map.specs.inside.Targets.{CellFits, HoldsAt, AlikeAt}
-use Rattle.su_map.proofs.Cells.{cell_read, line_holds, const_fits, head_fits, alike_fits, among_same, plain_first}
+use Rattle.su_map.proofs.Cells.{cell_read, const_fits, head_fits, alike_fits, among_same, plain_first}
 use Rattle.su_map.proofs.Members.{full_member}
 use Rattle.su_map.proofs.targets.fitting.Goals as goal
 
@@ -25,7 +26,7 @@ returns-in-Some c =
     let first = c.in-Some.ensures.some in
     let below = first.cell.below in
     let same = ap length c.head.ensures in
-    let there : (d : Sym) → get_or to.head c.in-Some.place d ≡ x = λ d. ap (λ r. get_or r c.in-Some.place d) (sym c.head.ensures) ∙ line_holds c.head.result.now c.in-Some.place x (omega arith) c.index-head-place.is d in
+    let there : (d : Sym) → get_or to.head c.in-Some.place d ≡ x = λ d. ap (λ r. get_or r c.in-Some.place d) (sym c.head.ensures) ∙ get_or-is c.head.result.now c.in-Some.place x d (omega arith) c.index-head-place.is in
     among_same (length to.rows) (λ j. bit_at c.args.set j ≡ 1) (HoldsAt to column x) (λ j. CellFits head to.head row (row_of to j) column) (λ j. bit_at c.holding-in-Some.result j ≡ 1) c.holding-in-Some.ensures
     (λ j. head_fits head to.head row (row_of to j) column c.in-Some.place c.in-Var.k x cell first there)
 

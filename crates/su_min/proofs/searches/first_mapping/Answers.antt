@@ -2,7 +2,7 @@
 use Rattle.std.proofs.Common.{◌∙◌, sym, ap, subst}
 use Rattle.su_map.specs.Lists.{IsMapping, IsFirst}
 use Rattle.su_map.specs.Rooms.{IsRoomFor}
-use Rattle.su_min.proofs.Rooming.{room_of_one, room_all_same}
+use Rattle.su_min.proofs.RoomsForAll.{room_of_one, room_all_same}
 use Rattle.su_min.proofs.ReducedTerms.{move, first_found}
 use Rattle.su_min.proofs.searches.first_mapping.Goals as goal
 

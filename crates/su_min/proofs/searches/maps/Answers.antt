@@ -1,7 +1,7 @@
 -- Of terms that are alike one covers the other exactly where its kept rows have a mapping, and the room for all terms has room for this one.
 use Rattle.std.proofs.Common.{sym, subst}
 use Rattle.su_map.specs.Rooms.{IsRoomFor}
-use Rattle.su_min.proofs.Rooming.{room_of_one}
+use Rattle.su_min.proofs.RoomsForAll.{room_of_one}
 use Rattle.su_min.proofs.ReducedTerms.{tells_found}
 use Rattle.su_min.proofs.searches.maps.Goals as goal
 

@@ -3,18 +3,18 @@ use Rattle.std.proofs.Common.{◌∙◌, length, ap, subst, arith}
 use Rattle.su_base.proofs.Numbers.{ord_max-numbers}
 use Rattle.su_tableau.specs.Tableaux.{AreVarsBelow}
 use Rattle.su_map.proofs.NotedRows.{vars_below}
-use Rattle.su_min.proofs.Rooming.{enough_more}
+use Rattle.su_min.proofs.RoomsForAll.{enough_more}
 use Rattle.su_min.proofs.searches.room_for.Goals as goal
 
-pub loop-i-preserved : goal.loop-i-preserved
-loop-i-preserved c =
+pub loop-term-preserved : goal.loop-term-preserved
+loop-term-preserved c =
     let t = c.tableau-t.result.now in
-    let one = c.index-terms-i.result in
+    let one = c.term-item.result in
     let is = c.tableau-t.ensures in
     let count = c.row_count.ensures.is in
-    let rows = c.max-rows.ensures ∙ ord_max-numbers c.loop-i.rows c.row_count.result in
-    let symbols = c.max-symbols.ensures ∙ ord_max-numbers c.loop-i.symbols c.symbols.result in
+    let rows = c.max-rows.ensures ∙ ord_max-numbers c.loop-term.rows c.row_count.result in
+    let symbols = c.max-symbols.ensures ∙ ord_max-numbers c.loop-term.symbols c.symbols.result in
     let long = ap (λ t. length t.rows) is in
-    enough_more c.args.terms.now c.loop-i.i one c.loop-i.rows c.loop-i.symbols c.max-rows.result c.max-symbols.result c.loop-i-test.true c.index-terms-i.is
+    enough_more c.args.terms.now c.loop-term.term-index one c.loop-term.rows c.loop-term.symbols c.max-rows.result c.max-symbols.result c.loop-term-test.true c.term-item.is
     (omega arith) (omega arith) (omega arith) (subst (AreVarsBelow c.max-symbols.result) is (vars_below t c.symbols.result c.max-symbols.result (omega arith) c.symbols.ensures.below))
-    c.loop-i.invariant
+    c.loop-term.invariant

@@ -1,5 +1,5 @@
-use Rattle.su_min.proofs.Rooming.{AreEnough}
+use Rattle.su_min.proofs.RoomsForAll.{AreEnough}
 use Rattle.su_min.proofs.searches.room_for.Given as goal
 
-abbrev pub invariant-loop-i : goal.invariant-loop-i
-invariant-loop-i l = AreEnough l.terms l.i l.rows l.symbols
+abbrev pub invariant-loop-term : goal.invariant-loop-term
+invariant-loop-term l = AreEnough l.terms l.term-index l.rows l.symbols

@@ -7,8 +7,8 @@ use Rattle.su_query.specs.declared.conditions.Comparison.{Comparison}
 use Rattle.su_query.specs.Mentions.{mentions}
 use Rattle.su_query.specs.Refs.{NamedCond, refs_beside, refs_of}
 use Rattle.su_query.specs.Limits.{variable_count}
-use Rattle.su_query.specs.inside.Comparing.{HasComparisons}
-use Rattle.su_query.proofs.Seen.{mentions-append}
+use Rattle.su_query.specs.inside.CondComparisons.{HasComparisons}
+use Rattle.su_query.proofs.FirstMentions.{mentions-append}
 use Rattle.su_query.proofs.limits.has_few_variables.Goals as goal
 
 pub returns-clause-few : goal.returns-clause-few

@@ -9,8 +9,7 @@ use Rattle.su_query.specs.declared.refs.Ref.{Ref}
 use Rattle.su_query.specs.declared.places.Place.{Place}
 use Rattle.su_query.specs.declared.scopes.Scope.TheVariants.{Attributes}
 use Rattle.su_query.specs.Places.{place_in, same_place, places_of, number_in}
-use Rattle.su_query.proofs.Placed.{refs_step, places-few}
-use Rattle.su_query.proofs.Noted.{number_stays}
+use Rattle.su_query.proofs.FirstMentions.{first_mentions-step, first_mentions-few, first_mentions-position}
 use Rattle.su_query.proofs.LookedUp.{number_more, known_here}
 use Rattle.su_query.proofs.places.place_all.Goals as goal
 
@@ -32,13 +31,13 @@ loop-reference-preserved c =
     let variable = c.variable_number-variable.ensures in
     let here : record { variable = c.variable_number-variable.result; attribute = c.in-Ok.attribute } ≡ place_in schema vs r.now = λ j. record { variable = variable j; attribute = sym attribute j } in
     let noted : seen ≡ places_of schema vs l.places (r.now ∷ []) = c.in_ok-number.ensures.seen ∙ ap (λ (p : Place). if list_any (same_place p) l.places then l.places else l.places ++ p ∷ []) here in
-    let whole : places_of schema vs seen rest ≡ all = ap (λ s. places_of schema vs s rest) noted ∙ sym (refs_step schema vs l.places refs i r h c.reference-item.is) ∙ l.invariant.places in
+    let whole : places_of schema vs seen rest ≡ all = ap (λ s. places_of schema vs s rest) noted ∙ sym (first_mentions-step same_place (place_in schema vs) l.places refs i r h c.reference-item.is) ∙ l.invariant.places in
     let found : position (same_place (place_in schema vs r.now)) seen ≡ Some number = ap (λ (p : Place). position (same_place p) seen) (sym here) ∙ c.in_ok-number.ensures.number in
-    let at : position (same_place (place_in schema vs r.now)) all ≡ Some number = ap (position (same_place (place_in schema vs r.now))) (sym whole) ∙ number_stays schema vs (same_place (place_in schema vs r.now)) seen rest number found in
+    let at : position (same_place (place_in schema vs r.now)) all ≡ Some number = ap (position (same_place (place_in schema vs r.now))) (sym whole) ∙ first_mentions-position same_place (same_place (place_in schema vs r.now)) seen (map (place_in schema vs) rest) number found in
     let f = number_in schema Attributes vs all in
     record {
       places = whole;
-      few = omega (arith, l.invariant.few, ap length noted, places-few schema vs l.places (r.now ∷ []));
+      few = omega (arith, l.invariant.few, ap length noted, first_mentions-few same_place l.places (place_in schema vs r.now ∷ []));
       numbers = c.in_ok-push.ensures.ok ∙ ap (λ ns. ns ++ number ∷ []) l.invariant.numbers ∙ ap (λ n. map f (map (λ (x : Bor Ref). x.now) (take i refs)) ++ n ∷ []) (sym (ap (λ o. unwrap_or o 0) at)) ∙ sym (number_more refs i r h c.reference-item.is f);
       known = sym (known_here refs i r h c.reference-item.is schema Attributes c.in-Ok.attribute c.in-Ok.ensures.found) ∙ l.invariant.known;
     }

@@ -1,6 +1,6 @@
 use Rattle.std.proofs.Common.{◌≡◌, ◌++◌, take}
-use Rattle.su_query.specs.ShownParts.{listed, value_symbols}
+use Rattle.su_query.specs.ShownParts.{values_symbols}
 use Rattle.su_query.proofs.pushing.push_values.Given as goal
 
 abbrev pub invariant-loop-i : goal.invariant-loop-i
-invariant-loop-i l = l.out ≡ l.fn.out ++ listed value_symbols (take l.i l.values)
+invariant-loop-i l = l.out ≡ l.fn.out ++ values_symbols (take l.i l.values)

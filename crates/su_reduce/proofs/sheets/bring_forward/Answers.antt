@@ -1,6 +1,6 @@
 -- The front has the marked ones of the rows so far side by side, and the rows from the next on are as they were, since no row is moved behind its place.
 use Rattle.std.proofs.Common.{◌≡◌, ℕ, List, length, arith}
-use Rattle.su_reduce.proofs.Moving.{forward_all, forward_in, forward_out, none_forward}
+use Rattle.su_reduce.proofs.ForwardRows.{forward_all, forward_in, forward_out, none_forward}
 use Rattle.su_reduce.proofs.sheets.bring_forward.Goals as goal
 use Rattle.su_reduce.proofs.sheets.bring_forward.Goals.{then-marks-i, else-marks-i}
 

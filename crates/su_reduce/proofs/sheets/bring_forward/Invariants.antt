@@ -1,4 +1,4 @@
-use Rattle.su_reduce.proofs.Moving.{AreForward}
+use Rattle.su_reduce.proofs.ForwardRows.{AreForward}
 use Rattle.su_reduce.proofs.sheets.bring_forward.Given as goal
 
 abbrev pub invariant-loop-i : goal.invariant-loop-i

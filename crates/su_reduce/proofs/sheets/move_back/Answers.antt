@@ -1,7 +1,7 @@
 -- A copy to an earlier place writes only what lies before the end of what was copied, so the cells behind that stay and those before the place too.
 use Rattle.std.proofs.Common.{◌≡◌, ◌+◌, ◌-◌, List, ℕ, subst, arith}
 use Rattle.std.specs.List.{CopiedTo, SameFrom}
-use Rattle.su_reduce.proofs.Moving.{behind_stays, front_moved}
+use Rattle.su_reduce.proofs.ForwardRows.{behind_stays, front_moved}
 use Rattle.su_reduce.proofs.sheets.move_back.Goals as goal
 
 pub returns-clause-front : goal.returns-clause-front

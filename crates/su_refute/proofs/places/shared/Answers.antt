@@ -1,12 +1,14 @@
 -- The places so far are exactly those at which a symbol of the first list so far equals one of the second; each symbol adds its own.
-use Rattle.std.proofs.Common.{arith}
-use Rattle.su_refute.proofs.SharedPlaces.{at_cell, shared_more}
+use Rattle.std.proofs.Common.{arith, sym}
+use Rattle.su_base.proofs.Items.{get_or-is}
+use Rattle.su_tableau.specs.declared.symbols.Sym.TheVariants.{Var}
+use Rattle.su_refute.proofs.SharedPlaces.{shared_more}
 use Rattle.su_refute.proofs.places.shared.Goals as goal
 
 pub loop-first-preserved : goal.loop-first-preserved
 loop-first-preserved c =
     let xs = c.args.xs.now in
-    shared_more xs c.args.ys.now c.loop-first.places c.add_places.new.places c.loop-first.first c.index-xs-first.result (at_cell xs c.loop-first.first c.index-xs-first.result c.index-xs-first.is c.loop-first-test.true) c.loop-first.invariant c.in_ok-add_places.ensures
+    shared_more xs c.args.ys.now c.loop-first.places c.add_places.new.places c.loop-first.first c.index-xs-first.result (sym (get_or-is xs c.loop-first.first c.index-xs-first.result (Var 0) c.loop-first-test.true c.index-xs-first.is)) c.loop-first.invariant c.in_ok-add_places.ensures
 
 pub returns : goal.returns
 returns c = λ p. (

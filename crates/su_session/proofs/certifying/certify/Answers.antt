@@ -1,5 +1,6 @@
 -- The query is ready with terms; then either trees are made of its minimals and the certificate is their text, or their nodes are too many; any cause before is the one defined, and is told.
 use Rattle.std.proofs.Common.{◌≡◌, ◌∙◌, refl, ap, subst, inl, inr, Err, List}
+use Rattle.std.proofs.lemmas.Result.{IfOk-weaker}
 use Rattle.su_base.specs.declared.values.Kind.{Kind}
 use Rattle.su_schema.specs.Entries.{attribute_kinds}
 use Rattle.su_query.specs.declared.resolving.Resolved.{Resolved}
@@ -8,17 +9,14 @@ use Rattle.su_check.specs.declared.nodes.Node.{Node}
 use Rattle.su_refute.specs.AllTrees.{AreTrees}
 use Rattle.su_refute.specs.Written.{certificate_of, certificate_text}
 use Rattle.su_answer.specs.Prepared.{IsPrepared}
-use Rattle.su_session.proofs.Certified.{if_ok, if_told}
-use Rattle.su_show.specs.RefusalLines.{IsNoMemory}
 use Rattle.su_session.specs.Outcomes.{Refuses}
-use Rattle.su_session.specs.Retrievals.{IsRefusalOf}
 use Rattle.su_session.specs.Certificates.{Certifies}
 use Rattle.su_session.proofs.certifying.certify.Goals as goal
 
 pub returns-in-Err-Nodes : goal.returns-in-Err-Nodes
 returns-in-Err-Nodes g c =
     let prepared = c.in-Ok.ready.prepared in
-    if_ok c.refused-in-Err-Nodes.result _ _ (λ reply refuses. (
+    IfOk-weaker c.refused-in-Err-Nodes.result _ _ (λ reply refuses. (
       c.args.maximal.now,
       c.requires.maximal,
       inr (
@@ -32,7 +30,7 @@ returns-in-Err-Nodes g c =
           refuses,
         ),
       ),
-    )) c.refused-in-Err-Nodes.ensures.refuses
+    )) c.refused-in-Err-Nodes.ensures
 
 pub returns : goal.returns
 returns g c =
@@ -68,5 +66,5 @@ returns-in-Err g c =
     let db = c.args.db.now in
     let q = c.args.query.now in
     let why = c.in-Err.why in
-    if_told c.refused.result (λ reply. Refuses db why reply db) (λ reply. Certifies db q reply db) (IsNoMemory why) (IsRefusalOf db.schema c.args.maximal.now q why) c.in-Err.ensures.refused c.refused.ensures.told c.refused.ensures.refuses
-    (λ reply h is. (c.args.maximal.now, c.requires.maximal, inl (why, is, h)))
+    IfOk-weaker c.refused.result (λ reply. Refuses db why reply db) (λ reply. Certifies db q reply db)
+    (λ reply h. (c.args.maximal.now, c.requires.maximal, inl (why, c.in-Err.ensures.refused reply.bytes h.line, h))) c.refused.ensures

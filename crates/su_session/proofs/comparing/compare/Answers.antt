@@ -1,23 +1,25 @@
 -- The queries are of one form, so their terms are comparable in either order; the verdicts forth and back, or the first cause to refuse them, are what the definition asks the reply to tell.
-use Rattle.std.proofs.Common.{◌≡◌, List, sym, ◌∙◌, subst}
+use Rattle.std.proofs.Common.{List, sym, ◌∙◌, subst, inl, inr}
+use Rattle.std.proofs.lemmas.Result.{IfOk-weaker}
+use Rattle.su_schema.specs.SchemaValue.{SchemaValue}
 use Rattle.su_schema.specs.Valid.{IsValid}
 use Rattle.su_steps.specs.declared.results.Term.{Term}
 use Rattle.su_compare.specs.Comparable.{AreComparable}
-use Rattle.su_steps.specs.declared.faults.StepFault.TheVariants.{NoMemory}
 use Rattle.su_show.specs.declared.statement_refusal.Refusal.TheVariants.{Steps}
-use Rattle.su_show.specs.RefusalLines.{IsNoMemory}
+use Rattle.su_show.specs.RefusalLines.{IsRefusalLine}
 use Rattle.su_session.specs.Outcomes.{Refuses}
-use Rattle.su_session.specs.ComparableQueries.{IsFormRefusal}
-use Rattle.su_session.specs.Comparisons.{IsTermsRefusal, Compares}
-use Rattle.su_session.proofs.Certified.{if_told}
+use Rattle.su_session.specs.Comparisons.{Compares}
 use Rattle.su_session.proofs.Compared.{AreTermsOf, comparable, refused_form, refused_terms, compared}
 use Rattle.su_session.proofs.comparing.compare.Goals as goal
 
 pub returns-in-Err : goal.returns-in-Err
 returns-in-Err c =
     let db = c.args.db.now in
-    if_told c.refused.result (λ reply. Refuses db c.in-Err.why reply db) (λ reply. Compares db c.args.first.now c.args.second.now reply db) (IsNoMemory c.in-Err.why) (IsFormRefusal c.schema-schema.result.now c.args.first.now c.args.second.now c.in-Err.why)
-    c.in-Err.ensures.refused c.refused.ensures.told c.refused.ensures.refuses (λ reply h is. refused_form db c.args.first.now c.args.second.now reply c.schema-schema.result.now c.schema-schema.ensures c.in-Err.why is h)
+    IfOk-weaker c.refused.result (λ reply. Refuses db c.in-Err.why reply db) (λ reply. Compares db c.args.first.now c.args.second.now reply db)
+    (λ reply h.
+    let line : IsRefusalLine c.schema-schema.result.now c.in-Err.why reply.bytes = subst (λ (s : SchemaValue). IsRefusalLine s c.in-Err.why reply.bytes) (sym c.schema-schema.ensures) h.line in
+    refused_form db c.args.first.now c.args.second.now reply c.schema-schema.result.now c.schema-schema.ensures c.in-Err.why (c.in-Err.ensures.refused reply.bytes line) h)
+    c.refused.ensures
 
 pub terms_of_both-requires-clause-few : goal.terms_of_both-requires-clause-few
 terms_of_both-requires-clause-few c = c.a_schema_has_few_maximal_objects.ensures c.args.db.now.schema c.args.maximal.now c.keeps_its_rules.ensures.valid c.requires.maximal
@@ -26,11 +28,11 @@ pub returns-in-Err-terms_of_both : goal.returns-in-Err-terms_of_both
 returns-in-Err-terms_of_both c =
     let db = c.args.db.now in
     let fault = c.in-Err-terms_of_both.fault in
-    if_told c.refused-in-Err-terms_of_both.result (λ reply. Refuses db (Steps fault) reply db) (λ reply. Compares db c.args.first.now c.args.second.now reply db) (fault ≡ NoMemory) (IsTermsRefusal c.schema-schema.result.now c.args.maximal.now c.in-Ok.pair.first c.in-Ok.pair.second fault)
-    c.in-Err-terms_of_both.ensures.refused c.refused-in-Err-terms_of_both.ensures.told c.refused-in-Err-terms_of_both.ensures.refuses
-    (λ reply h is.
+    IfOk-weaker c.refused-in-Err-terms_of_both.result (λ reply. Refuses db (Steps fault) reply db) (λ reply. Compares db c.args.first.now c.args.second.now reply db)
+    (λ reply h.
     refused_terms db c.args.first.now c.args.second.now reply c.schema-schema.result.now c.schema-schema.ensures c.args.maximal.now c.requires.maximal c.in-Ok.pair.first c.in-Ok.pair.second c.in-Ok.ensures.first.0 c.in-Ok.ensures.second.0 c.in-Ok.ensures.form
-    fault is h)
+    fault (elim c.in-Err-terms_of_both.ensures.refused [ inl memory ↦ absurd (h.line.0 memory) | inr is ↦ is ]) h)
+    c.refused-in-Err-terms_of_both.ensures
 
 pub within-requires : goal.within-requires
 within-requires c =

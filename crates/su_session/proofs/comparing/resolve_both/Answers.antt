@@ -3,7 +3,7 @@ use Rattle.std.proofs.Common.{inl, inr}
 use Rattle.su_session.proofs.comparing.resolve_both.Goals as goal
 
 pub returns-in-Err-clause-refused : goal.returns-in-Err-clause-refused
-returns-in-Err-clause-refused c = elim c.in-Err.ensures.refused [ inl memory ↦ inl memory | inr refused ↦ inr (inl refused) ]
+returns-in-Err-clause-refused c = λ line told. elim c.in-Err.ensures.refused [ inl memory ↦ absurd (told.0 memory) | inr refused ↦ inl refused ]
 
 pub returns-in-Err-resolve-clause-refused : goal.returns-in-Err-resolve-clause-refused
-returns-in-Err-resolve-clause-refused c = elim c.in-Err-resolve.ensures.refused [ inl memory ↦ inl memory | inr refused ↦ inr (inr (c.in-Ok.ensures.known, refused)) ]
+returns-in-Err-resolve-clause-refused c = λ line told. elim c.in-Err-resolve.ensures.refused [ inl memory ↦ absurd (told.0 memory) | inr refused ↦ inr (c.in-Ok.ensures.known, refused) ]

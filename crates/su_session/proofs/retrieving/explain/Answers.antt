@@ -1,10 +1,8 @@
 -- There is one minimal for each term, as an explanation needs; where the query isn't made ready, the cause is the one defined, since want of memory never gets a reply.
 use Rattle.std.proofs.Common.{length, ap, sym, ◌∙◌, inl}
-use Rattle.su_show.specs.RefusalLines.{IsNoMemory}
+use Rattle.std.proofs.lemmas.Result.{IfOk-weaker}
 use Rattle.su_session.specs.Outcomes.{Refuses}
-use Rattle.su_session.specs.Retrievals.{IsRefusalOf}
 use Rattle.su_session.specs.Explanations.{Explains}
-use Rattle.su_session.proofs.Certified.{if_told}
 use Rattle.su_session.proofs.retrieving.explain.Goals as goal
 use Rattle.su_base.proofs.Items.{AllZip-length}
 
@@ -16,5 +14,5 @@ returns-in-Err g c =
     let db = c.args.db.now in
     let q = c.args.query.now in
     let why = c.in-Err.why in
-    if_told c.refused.result (λ reply. Refuses db why reply db) (λ reply. Explains db q reply db) (IsNoMemory why) (IsRefusalOf db.schema c.args.maximal.now q why) c.in-Err.ensures.refused c.refused.ensures.told c.refused.ensures.refuses
-    (λ reply h is. (c.args.maximal.now, c.requires.maximal, inl (why, is, h)))
+    IfOk-weaker c.refused.result (λ reply. Refuses db why reply db) (λ reply. Explains db q reply db)
+    (λ reply h. (c.args.maximal.now, c.requires.maximal, inl (why, c.in-Err.ensures.refused reply.bytes h.line, h))) c.refused.ensures

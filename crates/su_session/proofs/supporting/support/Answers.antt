@@ -1,14 +1,12 @@
 -- The query is prepared and in range, as counting needs; the text tells the supports of that preparation, and a query that isn't ready is refused for the cause defined.
 use Rattle.std.proofs.Common.{◌∙◌, refl, sym, ap, subst, inr, inl}
+use Rattle.std.proofs.lemmas.Result.{IfOk-weaker}
 use Rattle.su_query.specs.declared.resolving.Resolved.{Resolved}
 use Rattle.su_query.specs.Ranges.{IsResolved}
 use Rattle.su_answer.specs.Prepared.{IsPrepared}
 use Rattle.su_show.specs.Supports.{supports_text}
-use Rattle.su_show.specs.RefusalLines.{IsNoMemory}
 use Rattle.su_session.specs.Outcomes.{Refuses}
-use Rattle.su_session.specs.Retrievals.{IsRefusalOf}
 use Rattle.su_session.specs.Supports.{Supports}
-use Rattle.su_session.proofs.Certified.{if_told}
 use Rattle.su_session.proofs.supporting.support.Goals as goal
 
 pub support-requires : goal.support-requires
@@ -47,5 +45,5 @@ returns-in-Err g c =
     let db = c.args.db.now in
     let q = c.args.query.now in
     let why = c.in-Err.why in
-    if_told c.refused.result (λ reply. Refuses db why reply db) (λ reply. Supports db q reply db) (IsNoMemory why) (IsRefusalOf db.schema c.args.maximal.now q why) c.in-Err.ensures.refused c.refused.ensures.told c.refused.ensures.refuses
-    (λ reply h is. (c.args.maximal.now, c.requires.maximal, inl (why, is, h)))
+    IfOk-weaker c.refused.result (λ reply. Refuses db why reply db) (λ reply. Supports db q reply db)
+    (λ reply h. (c.args.maximal.now, c.requires.maximal, inl (why, c.in-Err.ensures.refused reply.bytes h.line, h))) c.refused.ensures

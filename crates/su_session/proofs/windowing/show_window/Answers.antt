@@ -1,5 +1,6 @@
 -- The names are all known and the window is over their numbers; its ends, exact rows, too many members or a clash, are those of the definition, as want of memory is handed on.
 use Rattle.std.proofs.Common.{◌≡◌, ◌↔◌, ℕ, List, Contains, None, refl, ap, ◌∙◌, subst, inl, inr}
+use Rattle.std.proofs.lemmas.Result.{IfOk-weaker}
 use Rattle.su_base.specs.declared.values.Value.{Value}
 use Rattle.su_schema.specs.SchemaValue.{SchemaValue}
 use Rattle.su_schema.specs.Entries.{attribute_names}
@@ -7,14 +8,11 @@ use Rattle.su_query.specs.Scopes.{first_unknown_name}
 use Rattle.su_window.specs.Window.{InWindow}
 use Rattle.su_session.specs.Windows.{attribute_numbers}
 use Rattle.su_show.specs.Replies.{rows_text}
-use Rattle.su_query.specs.declared.faults.QueryFault.TheVariants.{NoMemory}
-use Rattle.su_query.specs.Sets.{IsNameRefusal}
 use Rattle.su_window.specs.declared.faults.WindowFault.TheVariants as window
 use Rattle.su_window.specs.Refusals.{IsWindowRefusal}
 use Rattle.su_show.specs.declared.statement_refusal.Refusal.TheVariants.{Query, WindowLimit, Inconsistent}
 use Rattle.su_session.specs.Outcomes.{Refuses}
 use Rattle.su_session.specs.Windows.{ShowsWindow}
-use Rattle.su_session.proofs.Certified.{if_ok, if_told}
 use Rattle.su_session.proofs.NameRefusals.{name_refused}
 use Rattle.su_session.proofs.windowing.show_window.Goals as goal
 
@@ -46,8 +44,8 @@ returns-in-Err c =
     let db = c.args.db.now in
     let names = c.args.names.now in
     let fault = c.in-Err.fault in
-    if_told c.refused.result (λ reply. Refuses db (Query fault) reply db) (λ reply. ShowsWindow db names reply db) (fault ≡ NoMemory) (IsNameRefusal db.schema names fault)
-    (rw c.schema.ensures at c.in-Err.ensures.refused) c.refused.ensures.told c.refused.ensures.refuses (λ reply h is. inl (name_refused db db names reply fault h is))
+    IfOk-weaker c.refused.result (λ reply. Refuses db (Query fault) reply db) (λ reply. ShowsWindow db names reply db)
+    (λ reply h. inl (name_refused db db names reply fault h (elim (rw c.schema.ensures at c.in-Err.ensures.refused) [ inl memory ↦ absurd (h.line.0 memory) | inr is ↦ is ]))) c.refused.ensures
 
 pub returns-in-Err-Limit : goal.returns-in-Err-Limit
 returns-in-Err-Limit c =
@@ -55,7 +53,7 @@ returns-in-Err-Limit c =
     let names = c.args.names.now in
     let known : first_unknown_name (attribute_names db.schema) names ≡ None = subst (λ (s : SchemaValue). first_unknown_name (attribute_names s) names ≡ None) c.schema.ensures c.in-Ok.ensures.known in
     let refused : IsWindowRefusal db window.Limit = elim (rw c.in-Err-Limit.field-0-is at c.in-Err-Limit.ensures.refused) [ inl memory ↦ absurd (cc) | inr h ↦ h ] in
-    if_ok c.refused-in-Err-Limit.result (λ reply. Refuses db WindowLimit reply db) (λ reply. ShowsWindow db names reply db) (λ reply h. inr (known, inl (window.Limit, refused, h))) c.refused-in-Err-Limit.ensures.refuses
+    IfOk-weaker c.refused-in-Err-Limit.result (λ reply. Refuses db WindowLimit reply db) (λ reply. ShowsWindow db names reply db) (λ reply h. inr (known, inl (window.Limit, refused, h))) c.refused-in-Err-Limit.ensures
 
 pub returns-in-Err-Inconsistent : goal.returns-in-Err-Inconsistent
 returns-in-Err-Inconsistent c =
@@ -65,4 +63,4 @@ returns-in-Err-Inconsistent c =
     let greater = c.in-Err-Inconsistent.greater in
     let known : first_unknown_name (attribute_names db.schema) names ≡ None = subst (λ (s : SchemaValue). first_unknown_name (attribute_names s) names ≡ None) c.schema.ensures c.in-Ok.ensures.known in
     let refused : IsWindowRefusal db (window.Inconsistent less greater) = elim (rw c.in-Err-Inconsistent.field-0-is at c.in-Err-Inconsistent.ensures.refused) [ inl memory ↦ absurd (cc) | inr h ↦ h ] in
-    if_ok c.refused-in-Err-Inconsistent.result (λ reply. Refuses db (Inconsistent less greater) reply db) (λ reply. ShowsWindow db names reply db) (λ reply h. inr (known, inl (window.Inconsistent less greater, refused, h))) c.refused-in-Err-Inconsistent.ensures.refuses
+    IfOk-weaker c.refused-in-Err-Inconsistent.result (λ reply. Refuses db (Inconsistent less greater) reply db) (λ reply. ShowsWindow db names reply db) (λ reply h. inr (known, inl (window.Inconsistent less greater, refused, h))) c.refused-in-Err-Inconsistent.ensures

@@ -1,7 +1,7 @@
 use Rattle.std.proofs.Common.{◌++◌}
 use Rattle.std.specs.List.{range_with_len}
 use Rattle.su_show.specs.Lines.{AreLines}
-use Rattle.su_show.specs.inside.Adding.{Adds}
+use Rattle.su_show.specs.inside.AddedTexts.{Adds}
 use Rattle.su_show.specs.Explanations.{query_line, variables_line, IsTermText}
 use Rattle.su_show.proofs.explaining.explanation.Given as goal
 

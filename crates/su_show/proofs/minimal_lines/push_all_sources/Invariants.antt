@@ -1,6 +1,6 @@
 use Rattle.su_map.specs.Lists.{numbers_of}
 use Rattle.su_show.specs.Lines.{AreLines}
-use Rattle.su_show.specs.inside.Adding.{Adds}
+use Rattle.su_show.specs.inside.AddedTexts.{Adds}
 use Rattle.su_show.specs.MinimalLines.{IsSourcesLine}
 use Rattle.su_show.proofs.minimal_lines.push_all_sources.Given as goal
 

@@ -4,7 +4,8 @@ use Rattle.std.proofs.lemmas.List.{take_all}
 use Rattle.su_lex.specs.declared.spans.Span.{Span}
 use Rattle.su_lex.specs.Pieces.{Pieces}
 use Rattle.su_state.specs.DatabaseValue.{DatabaseValue}
-use Rattle.su_sql.specs.Scripts.{AreWritten, output_of, text_at}
+use Rattle.su_ddl.specs.Files.{statement_of}
+use Rattle.su_sql.specs.Scripts.{AreWritten, output_of}
 use Rattle.su_sql.proofs.Written.{SoFar, one_more}
 use Rattle.su_sql.proofs.scripts.script.Goals as goal
 
@@ -25,7 +26,7 @@ returns g c =
       pieces = subst (Pieces c.args.script.now) (sym c.as_slice-span-items.ensures) c.in_ok-spans.ensures.pieces;
       replies = so.replies;
       last = c.loop-span.session;
-      written = subst (λ (db : DatabaseValue). AreWritten c.args.dialect db (map (text_at c.args.script.now) items) so.replies c.loop-span.session) c.in_ok-session.ensures so.written;
+      written = subst (λ (db : DatabaseValue). AreWritten c.args.dialect db (map (statement_of c.args.script.now) items) so.replies c.loop-span.session) c.in_ok-session.ensures so.written;
       refused_is = so.refused_is;
       text = c.from_vec.ensures ∙ so.text_is ∙ ap (λ (t : List ℕ). t ++ output_of so.replies) c.in_ok-out.ensures;
     }

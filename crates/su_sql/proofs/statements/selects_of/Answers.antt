@@ -1,11 +1,12 @@
 -- The numbers made of the names are those that the definition gives the query, so that the selects of what is prepared give the query's answer, and each refusal is one of the query's.
-use Rattle.std.proofs.Common.{◌≡◌, inl, inr, subst}
+use Rattle.std.proofs.Common.{◌≡◌, subst}
 use Rattle.su_query.specs.declared.resolving.Resolved.{Resolved}
 use Rattle.su_query.specs.Lookup.{IsKnownQuery}
 use Rattle.su_query.specs.NumberedConditions.{resolved_of}
 use Rattle.su_query.specs.Ranges.{IsResolved}
-use Rattle.su_steps.specs.Refusals.{IsStepRefusal, IsAccepted}
+use Rattle.su_steps.specs.Refusals.{IsAccepted}
 use Rattle.su_answer.specs.Prepared.{IsPrepared}
+use Rattle.su_session.proofs.QueryRefusals.{refused_names, refused_terms}
 use Rattle.su_sql.proofs.Meaning.{give_answer}
 use Rattle.su_sql.proofs.statements.selects_of.Goals as goal
 
@@ -14,17 +15,10 @@ prepare-requires-clause-few g c κs within = c.a_schema_has_few_maximal_objects.
 
 pub returns-in-Err-prepare-clause-refused : goal.returns-in-Err-prepare-clause-refused
 returns-in-Err-prepare-clause-refused g c =
-    let schema = c.args.db.now.schema in
-    let q = c.args.query.now in
-    let is : c.in-Ok.resolved ≡ resolved_of schema q = rw c.schema.ensures at c.in-Ok.ensures.resolved in
-    let known : IsKnownQuery schema q = rw c.schema.ensures at c.in-Ok.ensures.known in
-    elim c.in-Err-prepare.ensures.refused [
-      | inl memory ↦ inl memory
-      | inr refused ↦ inr (known, subst (λ (r : Resolved). IsStepRefusal schema c.args.maximal.now r c.in-Err-prepare.fault) is refused)
-    ]
+    λ line. refused_terms c.args.db.now.schema c.args.maximal.now c.args.query.now line c.in-Ok.resolved c.in-Err-prepare.fault (rw c.schema.ensures at c.in-Ok.ensures.resolved) (rw c.schema.ensures at c.in-Ok.ensures.known) c.in-Err-prepare.ensures.refused
 
 pub returns-in-Err-clause-refused : goal.returns-in-Err-clause-refused
-returns-in-Err-clause-refused g c = rw c.schema.ensures at c.in-Err.ensures.refused
+returns-in-Err-clause-refused g c = λ line. refused_names c.args.db.now.schema c.args.maximal.now c.args.query.now line c.in-Err.fault (rw c.schema.ensures at c.in-Err.ensures.refused)
 
 pub selects-requires : goal.selects-requires
 selects-requires g c = record {

@@ -4,13 +4,11 @@ use Rattle.std.specs.List.{flat_map, range_with_len}
 use Rattle.std.proofs.lemmas.List.{get_or_default}
 use Rattle.su_where.specs.Disjunct.{disjuncts_of}
 use Rattle.su_steps.specs.Choices.{choices}
-use Rattle.su_steps.specs.Terms.{case_of}
+use Rattle.su_steps.specs.Terms.{case_of, AreTermsOf}
 use Rattle.su_steps.specs.inside.Ready.{FitLiterals}
-use Rattle.su_steps.specs.inside.Outs.{AreTermsOf}
 use Rattle.su_steps.proofs.ResolvedQueries.{literals_fit}
 use Rattle.su_steps.proofs.TermsSoFar.{cases_flat}
 use Rattle.su_steps.proofs.making.accepted_terms.Goals as goal
-use Rattle.su_steps.proofs.Outs.{terms_are}
 
 pub disjuncts-requires : goal.disjuncts-requires
 disjuncts-requires c = c.requires.accepted.few_disjuncts
@@ -49,7 +47,7 @@ pub push_terms-requires-clause-place : goal.push_terms-requires-clause-place
 push_terms-requires-clause-place c = subst (λ xs. c.loop-i.i < length xs) (c.as_slice-literals-items.ensures ∙ c.in_ok-disjuncts.ensures.exact) c.loop-i-test.true
 
 pub loop-i-init : goal.loop-i-init
-loop-i-init c = c.new-terms.ensures
+loop-i-init c = record { outs = []; each = tt; are = c.new-terms.ensures }
 
 pub loop-i-preserved : goal.loop-i-preserved
 loop-i-preserved c =
@@ -63,5 +61,4 @@ returns c =
     let q = c.args.resolved.now in
     let many = ap length (c.as_slice-literals-items.ensures ∙ c.in_ok-disjuncts.ensures.exact) in
     let last : c.loop-i.i ≡ length (disjuncts_of q.cond) = (let low = c.loop-i.auto.i-end in let high = c.loop-i-test.false in omega arith) in
-    terms_are schema c.args.maximal.now q c.loop-i.terms
-    (subst (λ n. AreTermsOf schema c.args.maximal.now q (flat_map (λ i. map (case_of i) (choices schema c.args.maximal.now q)) (range_with_len 0 n)) c.loop-i.terms) last c.loop-i.invariant)
+    subst (λ n. AreTermsOf schema c.args.maximal.now q (flat_map (λ i. map (case_of i) (choices schema c.args.maximal.now q)) (range_with_len 0 n)) c.loop-i.terms) last c.loop-i.invariant

@@ -1,8 +1,7 @@
 use Rattle.std.specs.List.{flat_map, range_with_len}
 use Rattle.std.proofs.Common.{map}
 use Rattle.su_steps.specs.Choices.{choices}
-use Rattle.su_steps.specs.Terms.{case_of}
-use Rattle.su_steps.specs.inside.Outs.{AreTermsOf}
+use Rattle.su_steps.specs.Terms.{case_of, AreTermsOf}
 use Rattle.su_steps.proofs.making.accepted_terms.Given as goal
 
 abbrev pub invariant-loop-i : goal.invariant-loop-i

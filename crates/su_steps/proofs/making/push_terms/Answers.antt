@@ -3,11 +3,11 @@ use Rattle.std.proofs.Common.{◌∙◌, ◌<◌, ◌≤◌, ◌++◌, min, map,
 use Rattle.std.specs.Prelude.{All}
 use Rattle.std.proofs.lemmas.List.{take_all}
 use Rattle.su_steps.specs.Choices.{combinations, choices}
-use Rattle.su_steps.specs.Terms.{case_of}
+use Rattle.su_steps.specs.Terms.{case_of, AreTermsOf}
 use Rattle.su_steps.specs.Limits.{row_count}
 use Rattle.su_steps.specs.inside.Ready.{IsReady, IsChoice}
-use Rattle.su_steps.specs.inside.Outs.{AreTermsOf}
-use Rattle.su_steps.proofs.Cases.{coverings_few, choice_in, choice_step, count_is}
+use Rattle.su_steps.proofs.Cases.{coverings_few, choice_in, count_is}
+use Rattle.su_steps.proofs.TermsSoFar.{choice_step}
 use Rattle.su_steps.proofs.making.push_terms.Goals as goal
 
 pub choice_count-count-requires : goal.choice_count-count-requires

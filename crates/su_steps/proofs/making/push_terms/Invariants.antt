@@ -2,9 +2,8 @@ use Rattle.std.proofs.Common.{◌++◌, List, map, take}
 use Rattle.su_steps.specs.Objects.{width}
 use Rattle.su_steps.specs.Choices.{choices}
 use Rattle.su_steps.specs.Cases.{Case}
-use Rattle.su_steps.specs.Terms.{case_of}
+use Rattle.su_steps.specs.Terms.{case_of, AreTermsOf}
 use Rattle.su_steps.specs.inside.Ready.{IsReady}
-use Rattle.su_steps.specs.inside.Outs.{AreTermsOf}
 use Rattle.su_steps.proofs.making.push_terms.Given as goal
 
 abbrev pub invariant-loop-k : goal.invariant-loop-k

@@ -1,6 +1,6 @@
 -- The union so far is that of the attributes of the set's objects below the number; the next object adds its own exactly if it is in the set.
 use Rattle.std.proofs.Common.{sym, ◌∙◌}
-use Rattle.su_steps.proofs.PassingNumbers.{together_more, together_same}
+use Rattle.su_steps.proofs.TogetherAttributes.{together_more, together_same}
 use Rattle.su_steps.proofs.objects.attributes_together.Goals as goal
 use Rattle.su_steps.proofs.objects.attributes_together.Goals.{then-contains, else-contains}
 

@@ -1,7 +1,7 @@
 -- The count so far is how many objects below the number are in the set, and no more than the number, of which there are at most 64.
 use Rattle.std.proofs.Common.{sym, arith}
 use Rattle.std.specs.FinSet.{contains}
-use Rattle.su_steps.proofs.PassingNumbers.{count_more, count_same}
+use Rattle.su_base.proofs.PassingNumbers.{count_more, count_same}
 use Rattle.su_steps.proofs.objects.object_count.Goals as goal
 use Rattle.su_steps.proofs.objects.object_count.Goals.{then-contains, else-contains}
 

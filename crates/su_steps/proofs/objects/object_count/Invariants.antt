@@ -1,6 +1,6 @@
 use Rattle.std.proofs.Common.{◌≡◌, ◌≤◌, length}
 use Rattle.std.specs.FinSet.{contains}
-use Rattle.su_steps.proofs.PassingNumbers.{passing}
+use Rattle.su_base.proofs.PassingNumbers.{passing}
 use Rattle.su_steps.proofs.objects.object_count.Given as goal
 
 abbrev pub invariant-loop-o : goal.invariant-loop-o

@@ -1,7 +1,7 @@
 -- The origins so far are those of the set's objects so far, each with the variable.
 use Rattle.std.specs.FinSet.{contains}
 use Rattle.su_steps.specs.Choices.{origin}
-use Rattle.su_steps.proofs.PassingNumbers.{images_if}
+use Rattle.su_base.proofs.PassingNumbers.{images_if}
 use Rattle.su_steps.proofs.rows.push_origins.Goals as goal
 
 pub loop-o-preserved : goal.loop-o-preserved

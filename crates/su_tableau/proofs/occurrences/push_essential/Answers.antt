@@ -1,5 +1,5 @@
 -- The sets so far are as many as the rows before, each with the essential columns of its row; pushing one more keeps them at their places.
-use Rattle.std.proofs.Common.{◌≡◌, ◌↔◌, ℕ, ◌<◌, ◌+◌, length, IsTrue, get_or, sym, ap, ◌∙◌, subst, arith}
+use Rattle.std.proofs.Common.{◌≡◌, ◌↔◌, ℕ, ◌+◌, length, IsTrue, get_or, sym, ap, ◌∙◌, subst, arith}
 use Rattle.std.proofs.lemmas.List.{length_push}
 use Rattle.std.specs.Int.{bit_at}
 use Rattle.std.specs.FinSet.{FinSet, contains, empty}

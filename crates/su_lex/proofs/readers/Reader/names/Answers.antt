@@ -5,8 +5,15 @@ use Rattle.su_lex.specs.Names.{names_symbols}
 use Rattle.su_lex.specs.declared.ends.LexEnd.TheVariants.{Syntax}
 use Rattle.su_lex.specs.declared.signs.Sign.TheVariants as sign
 use Rattle.su_lex.specs.declared.meaning.Symbol.TheVariants.{Sign, Word}
-use Rattle.su_lex.proofs.Listed.{names_push, are_push, further, no_name}
+use Rattle.su_lex.proofs.Listed.{names_push, are_push, further, no_first, no_name}
 use Rattle.su_lex.proofs.readers.Reader.names.Goals as goal
+
+pub returns-in_err-name-clause-syntax : goal.returns-in_err-name-clause-syntax
+returns-in_err-name-clause-syntax c =
+    let p = err_from_is_err_and c.from_residual.result c.from_residual.ensures.1 in
+    rw (p.1, p.2) (λ s ns r are none e.
+    let h : c.in_err-name.field-0.0 ≡ Syntax = cc in
+    no_first ns _ r are (c.in_err-name.ensures.syntax (ap Err h)) e)
 
 pub returns-in_err-name-2-clause-syntax : goal.returns-in_err-name-2-clause-syntax
 returns-in_err-name-2-clause-syntax c =

@@ -1,5 +1,6 @@
 use Rattle.std.proofs.Common.{◌≡◌, ◌++◌, length}
-use Rattle.su_lex.specs.Names.{names_symbols, AreNames}
+use Rattle.su_base.specs.Name.{AreNames}
+use Rattle.su_lex.specs.Names.{names_symbols}
 use Rattle.su_lex.proofs.readers.Reader.names.Given as goal
 
 abbrev pub invariant-loop-names : goal.invariant-loop-names

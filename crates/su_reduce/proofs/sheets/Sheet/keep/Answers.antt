@@ -4,7 +4,7 @@ use Rattle.std.proofs.lemmas.List.{length-take-le}
 use Rattle.su_reduce.specs.Left.{marked}
 use Rattle.su_reduce.specs.Sheets.{cut}
 use Rattle.su_reduce.proofs.ListPieces.{length-cut, times_le}
-use Rattle.su_reduce.proofs.Moving.{written_back}
+use Rattle.su_reduce.proofs.ForwardRows.{written_back}
 use Rattle.su_reduce.proofs.sheets.Sheet.keep.Goals as goal
 
 pub bring_forward-kept-requires : goal.bring_forward-kept-requires

@@ -2,8 +2,9 @@
 use Rattle.std.proofs.Common.{◌≡◌, ◌++◌, ◌∷◌, [], arith, length, sym, ◌∙◌, ap, append_assoc}
 use Rattle.std.specs.Vec.Iter.{into_iter_items}
 use Rattle.su_base.proofs.Same.{has_row}
+use Rattle.su_base.proofs.Items.{All-middle}
 use Rattle.su_rel.specs.Stored.{HaveWidth}
-use Rattle.su_rel.proofs.Rows.{take-inserted, length-inserted, All-inserted, All-middle, PutIn-insert}
+use Rattle.su_rel.proofs.Rows.{take-inserted, length-inserted, All-inserted, PutIn-insert}
 use Rattle.su_rel.proofs.relations.Relation.insert_all.Goals as goal
 
 pub loop-row-preserved : goal.loop-row-preserved

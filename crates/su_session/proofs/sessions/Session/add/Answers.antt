@@ -1,15 +1,13 @@
 -- A definition fails by the schema or by the stored rows, or is done; where it isn't done the database is what it was, so its maximal objects still are.
-use Rattle.std.proofs.Common.{◌≡◌, Ok, Err, IfOk, inl, inr, sym, ap, subst}
+use Rattle.std.proofs.Common.{Ok, IfOk, inl, inr, sym, ap, subst}
+use Rattle.std.proofs.lemmas.Result.{IfOk-weaker}
 use Rattle.su_maxobj.specs.MaximalObjects.{AreMaximalObjects}
-use Rattle.su_schema.specs.Definitions.{applied}
 use Rattle.su_state.specs.declared.faults.DefineFault.TheVariants.{Schema}
 use Rattle.su_state.specs.DatabaseValue.{DatabaseValue}
 use Rattle.su_state.specs.Definitions.{Defines}
 use Rattle.su_show.specs.declared.statement_refusal.Refusal.TheVariants.{Define}
-use Rattle.su_show.specs.RefusalLines.{IsNoMemory}
 use Rattle.su_session.specs.Outcomes.{Refuses}
 use Rattle.su_session.specs.Reply.{AddsDefinition}
-use Rattle.su_session.proofs.Certified.{if_told}
 use Rattle.su_session.proofs.DefinitionReplies.{refused_schema, refused_rows}
 use Rattle.su_session.proofs.sessions.Session.add.Goals as goal
 
@@ -19,9 +17,9 @@ returns-in-Err-clause-replied c =
     let d = c.args.definition.now in
     let fault = c.in-Err.fault in
     subst (λ (db : DatabaseValue). IfOk c.refused.result (λ reply. AddsDefinition db d reply db)) c.self.view_is
-    (if_told c.refused.result (λ reply. Refuses old (Define (Schema fault)) reply old) (λ reply. AddsDefinition old d reply old) (IsNoMemory (Define (Schema fault))) (applied old.schema d ≡ Err fault)
-    (elim (rw c.schema.ensures at c.in-Err.ensures.refused) [ inl memory ↦ inl (inr (ap Schema memory)) | inr fails ↦ inr fails ]) c.refused.ensures.told c.refused.ensures.refuses
-    (λ reply h fails. refused_schema old old d reply fault fails h))
+    (IfOk-weaker c.refused.result (λ reply. Refuses old (Define (Schema fault)) reply old) (λ reply. AddsDefinition old d reply old)
+    (λ reply h. refused_schema old old d reply fault (elim (rw c.schema.ensures at c.in-Err.ensures.refused) [ inl memory ↦ absurd (h.line.1 (ap Schema memory)) | inr fails ↦ fails ]) h)
+    c.refused.ensures)
 
 pub invariant_of-self-in-Err-adopt : goal.invariant_of-self-in-Err-adopt
 invariant_of-self-in-Err-adopt c = subst (λ (db : DatabaseValue). AreMaximalObjects db.schema c.self.inside.maximal) (sym c.in-Err-adopt.ensures.unchanged) c.self.invariant
@@ -33,9 +31,9 @@ returns-in-Err-adopt-clause-replied c =
     let d = c.args.definition.now in
     let fault = c.in-Err-adopt.fault in
     subst (λ (db : DatabaseValue). IfOk c.refused-in-Err-adopt.result (λ reply. AddsDefinition db d reply new)) c.self.view_is
-    (if_told c.refused-in-Err-adopt.result (λ reply. Refuses new (Define fault) reply new) (λ reply. AddsDefinition old d reply new) (IsNoMemory (Define fault)) (Defines old d (Err fault) new)
-    (elim c.in-Err-adopt.ensures.refused [ inl memory ↦ inl (inl memory) | inr defines ↦ inr defines ]) c.refused-in-Err-adopt.ensures.told c.refused-in-Err-adopt.ensures.refuses
-    (λ reply h defines. refused_rows old new d reply fault defines h))
+    (IfOk-weaker c.refused-in-Err-adopt.result (λ reply. Refuses new (Define fault) reply new) (λ reply. AddsDefinition old d reply new)
+    (λ reply h. refused_rows old new d reply fault (elim c.in-Err-adopt.ensures.refused [ inl memory ↦ absurd (h.line.0 memory) | inr defines ↦ defines ]) h)
+    c.refused-in-Err-adopt.ensures)
 
 pub returns-in-Ok-adopt-clause-replied : goal.returns-in-Ok-adopt-clause-replied
 returns-in-Ok-adopt-clause-replied c =

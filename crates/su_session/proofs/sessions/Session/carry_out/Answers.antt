@@ -44,4 +44,4 @@ returns-in-Err-clause-replied g c =
     let file = option_map (λ bytes. bytes.now) c.args.file in
     subst (λ (db : DatabaseValue). IfOk c.refused.result (λ reply. (text : List ℕ) → IsRead text c.args.command → Replied db text file reply db)) c.self.view_is
     (IfOk-weaker c.refused.result (λ reply. Refuses old (Query fault) reply old) (λ reply. (text : List ℕ) → IsRead text c.args.command → Replied old text file reply old)
-    (λ reply h text is. replied_refusal old old text file reply fault (subst (IsRead text) c.in-Err.ensures.refused is) h) c.refused.ensures.refuses)
+    (λ reply h text is. replied_refusal old old text file reply fault (subst (IsRead text) c.in-Err.ensures.refused is) h) c.refused.ensures)

@@ -1,6 +1,0 @@
--- A bit of the conjunction is set where the bits of both are.
-use Rattle.su_map.proofs.Members.{and_both}
-use Rattle.su_map.proofs.bits.both.Goals as goal
-
-pub returns : goal.returns
-returns c = and_both c.args.a c.args.b

@@ -1,9 +1,0 @@
--- The number with bit i alone adds that bit to the set and no other.
-use Rattle.su_map.proofs.Members.{with_same, with_member}
-use Rattle.su_refute.proofs.bits.with.Goals as goal
-
-pub returns-clause-same : goal.returns-clause-same
-returns-clause-same c = λ j ne. with_same c.args.set c.args.i j c.requires ne
-
-pub returns-clause-member : goal.returns-clause-member
-returns-clause-member c = with_member c.args.set c.args.i c.requires
