@@ -14,7 +14,8 @@ use Rattle.su_exec.specs.declared.tasks.Source.{Source}
 use Rattle.su_exec.specs.declared.tasks.TaskRow.{TaskRow}
 use Rattle.su_rel.specs.MoreThan.{AreMoreThan}
 use Rattle.su_exec.specs.Outputs.{IsOutput, values_at}
-use Rattle.su_answer.specs.Joined.{numbers_in, IsSourceOf, IsTaskRowOf}
+use Rattle.su_schema.specs.SetMembers.{numbers_in}
+use Rattle.su_answer.specs.Joined.{IsSourceOf, IsTaskRowOf}
 use Rattle.su_answer.specs.Support.{IsCandidate}
 use Rattle.su_answer.specs.inside.Alone.{alone}
 use Rattle.su_answer.proofs.Single.{output_is}

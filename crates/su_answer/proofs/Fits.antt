@@ -23,7 +23,8 @@ use Rattle.su_exec.specs.declared.tasks.TaskRow.{TaskRow}
 use Rattle.su_exec.specs.declared.tasks.Compared.{Compared}
 use Rattle.su_exec.specs.declared.tasks.Task.{Task}
 use Rattle.su_exec.specs.Tasks.{Occurs, FitsTables, HasSources, IsTask}
-use Rattle.su_answer.specs.Joined.{numbers_in, IsSourceOf, IsTaskRowOf, comparison_at, IsTaskOf}
+use Rattle.su_schema.specs.SetMembers.{numbers_in}
+use Rattle.su_answer.specs.Joined.{IsSourceOf, IsTaskRowOf, comparison_at, IsTaskOf}
 use Rattle.su_state.proofs.Columns.{column_within}
 use Rattle.su_answer.proofs.Columns.{object_is}
 use Rattle.su_answer.proofs.PairedLists.{zip_first, zip_second}

@@ -24,7 +24,8 @@ use Rattle.su_exec.specs.Tasks.{FitsTables, HasSources}
 use Rattle.su_exec.specs.Outputs.{Agrees}
 use Rattle.su_answer.specs.Answers.{IsRead}
 use Rattle.su_tableau.specs.Parts.{cell_at, row_of}
-use Rattle.su_answer.specs.Joined.{numbers_in, IsTaskRowOf}
+use Rattle.su_schema.specs.SetMembers.{numbers_in}
+use Rattle.su_answer.specs.Joined.{IsTaskRowOf}
 use Rattle.su_answer.proofs.ColumnValues.{reads_each, each_read}
 
 -- a stored row is as wide as its table

@@ -10,7 +10,8 @@ use Rattle.su_base.specs.declared.values.Value.{Value}
 use Rattle.su_base.specs.Value.{compare_lists}
 use Rattle.su_base.proofs.Items.{Contains-nil}
 use Rattle.su_base.proofs.Rows.{rows_total}
-use Rattle.su_rel.specs.Stored.{Stored, AllDiffer}
+use Rattle.su_base.specs.Lists.{AllDiffer}
+use Rattle.su_rel.specs.Stored.{Stored}
 use Rattle.su_tableau.specs.declared.symbols.Sym.{Sym}
 use Rattle.su_exec.specs.declared.tasks.TaskRow.{TaskRow}
 use Rattle.su_exec.specs.Outputs.{Agrees, HoldsUnder, IsOutput, AreOutputs}

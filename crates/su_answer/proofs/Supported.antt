@@ -9,7 +9,8 @@ use Rattle.std.proofs.lemmas.List.FromFn.{length-range_with_len}
 use Rattle.su_base.specs.declared.values.Value.{Value}
 use Rattle.std.proofs.lemmas.Grind.{same_number_lists}
 use Rattle.su_base.proofs.Items.{AllZip-get_or, AllZip-length, get_or-map_range}
-use Rattle.su_rel.specs.Stored.{Stored, AllDiffer}
+use Rattle.su_base.specs.Lists.{AllDiffer}
+use Rattle.su_rel.specs.Stored.{Stored}
 use Rattle.su_tableau.specs.declared.symbols.Sym.{Sym}
 use Rattle.su_tableau.specs.Valuations.{values_of}
 use Rattle.su_map.specs.Lists.{row_numbers}
@@ -17,35 +18,20 @@ use Rattle.su_reduce.specs.declared.edges.Edge.{Edge}
 use Rattle.su_reduce.specs.declared.support.Counted.{Counted}
 use Rattle.su_reduce.specs.declared.support.Support.{Support}
 use Rattle.su_reduce.specs.Ears.{AreAcyclic, cells_of}
+use Rattle.su_reduce.proofs.MarkedItems.{marked_from, marked_has}
 use Rattle.su_reduce.specs.Left.{edge_at, candidates_at, marked, Chooses, IsLeft, AreLeft}
 use Rattle.su_exec.specs.declared.tasks.TaskRow.{TaskRow}
 use Rattle.su_exec.specs.declared.tasks.Task.{Task}
+use Rattle.su_exec.specs.Tasks.{no_row}
 use Rattle.su_state.specs.DatabaseValue.{DatabaseValue}
+use Rattle.su_state.proofs.DifferentRows.{differ_tail}
 use Rattle.su_min.specs.Kept.{Minimised}
 use Rattle.su_answer.specs.Joined.{IsTaskRowOf}
 use Rattle.su_answer.specs.Support.{IsCandidate, IsLeftOver, IsCountOf, IsLeftCount, IsSupport}
 use Rattle.su_answer.specs.inside.Alone.{IsEdgeOf}
 use Rattle.su_answer.specs.inside.Supported.{AreEdgesOf, count_left, counted_at}
 
--- ---- marked items
-
-pub marked_from : {A : Type 0} (ms : List Bool) (xs : List A) (x : A) → Contains (marked ms xs) x → (p : ℕ) × (p < length xs) × IsTrue (get_or ms p false) × (get_or xs p x ≡ x)
-marked_from [] xs x (k, l, e) = absurd (omega (arith, l))
-marked_from (m ∷ ms) [] x (k, l, e) = absurd (omega (arith, l))
-marked_from (true ∷ ms) (y ∷ xs) x (zero, l, e) = (0, omega arith, refl, e)
-marked_from (true ∷ ms) (y ∷ xs) x (suc k, l, e) = let r = marked_from ms xs x (k, omega (arith, l), e) in let low = r.1 in (suc r.0, omega (arith, low), r.2, r.3)
-marked_from (false ∷ ms) (y ∷ xs) x c = let r = marked_from ms xs x c in let low = r.1 in (suc r.0, omega (arith, low), r.2, r.3)
-
-pub marked_has : {A : Type 0} (ms : List Bool) (xs : List A) (p : ℕ) (d : A) → p < length ms → p < length xs → IsTrue (get_or ms p false) → Contains (marked ms xs) (get_or xs p d)
-marked_has [] xs p d l h m = absurd (omega (arith, l))
-marked_has (b ∷ ms) [] p d l h m = absurd (omega (arith, h))
-marked_has (true ∷ ms) (x ∷ xs) zero d l h m = (0, omega arith, refl)
-marked_has (true ∷ ms) (x ∷ xs) (suc p) d l h m = let r = marked_has ms xs p d (omega (arith, l)) (omega (arith, h)) m in let low = r.1 in (suc r.0, omega (arith, low), r.2)
-marked_has (false ∷ ms) (x ∷ xs) zero d l h m = absurd (true≢false (sym m))
-marked_has (false ∷ ms) (x ∷ xs) (suc p) d l h m = marked_has ms xs p d (omega (arith, l)) (omega (arith, h)) m
-
-differ_tail : (x : List Value) (xs : List (List Value)) → AllDiffer (x ∷ xs) → AllDiffer xs
-differ_tail x xs differ i j d l h = differ (suc i) (suc j) d (omega (arith, l)) (omega (arith, h))
+-- ---- marked rows
 
 pub marked_differ : (ms : List Bool) (xs : List (List Value)) → AllDiffer xs → AllDiffer (marked ms xs)
 marked_differ [] xs differ i j d l h e = absurd (omega (arith, h))
@@ -62,7 +48,7 @@ marked_differ (true ∷ ms) (x ∷ xs) differ (suc i) (suc j) d l h e = marked_d
 -- ---- rows and their edges
 
 abbrev row_at : List TaskRow → ℕ → TaskRow
-row_at rows i = get_or rows i (record { cells = []; sources = [] })
+row_at rows i = get_or rows i no_row
 
 same_cells : (tables : List Stored) (rows : List TaskRow) (edges : List Edge) → AllZip (IsEdgeOf tables) rows edges → cells_of edges ≡ map (λ (r : TaskRow). r.cells) rows
 same_cells tables [] [] h = refl
@@ -75,13 +61,13 @@ module _ (tables : List Stored) (task : Task) (edges : List Edge) (are : AllZip 
   long = AllZip-length (IsEdgeOf tables) task.rows edges are
 
   edge_is : (i : ℕ) → i < length task.rows → IsEdgeOf tables (row_at task.rows i) (edge_at edges i)
-  edge_is i l = AllZip-get_or (IsEdgeOf tables) task.rows edges i (record { cells = []; sources = [] }) (record { cells = []; candidates = [] }) are l
+  edge_is i l = AllZip-get_or (IsEdgeOf tables) task.rows edges i no_row (record { cells = []; candidates = [] }) are l
 
   abbrev HasCandidate : (ℕ → Value) → TaskRow → Type 0
   HasCandidate v r = IsCandidate tables r (values_of v r.cells)
 
   chooses_all : (v : ℕ → Value) → Chooses v edges → All (HasCandidate v) task.rows
-  chooses_all v c = All-from_get_or (HasCandidate v) task.rows (record { cells = []; sources = [] }) (λ i l.
+  chooses_all v c = All-from_get_or (HasCandidate v) task.rows no_row (λ i l.
       let is = edge_is i l in
       let low : i < length edges = omega (arith, l, long) in
       (is.exact (values_of v (row_at task.rows i).cells)).0 (subst (λ (cs : List Sym). Contains (candidates_at edges i) (values_of v cs)) is.cells (c i low)))
@@ -91,7 +77,7 @@ module _ (tables : List Stored) (task : Task) (edges : List Edge) (are : AllZip 
       let low : i < length task.rows = omega (arith, l, long) in
       let is = edge_is i low in
       subst (λ (cs : List Sym). Contains (candidates_at edges i) (values_of v cs)) (sym is.cells)
-      ((is.exact (values_of v (row_at task.rows i).cells)).1 (All-get_or (HasCandidate v) task.rows i (record { cells = []; sources = [] }) low all))
+      ((is.exact (values_of v (row_at task.rows i).cells)).1 (All-get_or (HasCandidate v) task.rows i no_row low all))
 
   pub candidate_count : (i : ℕ) → i < length task.rows → IsCountOf (IsCandidate tables (row_at task.rows i)) (length (candidates_at edges i))
   candidate_count i l = let is = edge_is i l in record { lists = candidates_at edges i; members = is.exact; differ = is.once; count = refl }
@@ -118,14 +104,14 @@ module _ (tables : List Stored) (task : Task) (edges : List Edge) (are : AllZip 
         let is = edge_is i l in
         let row = row_at task.rows i in
         let cands : List (List Value) = candidates_at edges i in
-        let c = (is.exact (values_of v row.cells)).1 (All-get_or (HasCandidate v) task.rows i (record { cells = []; sources = [] }) l o.chooses) in
+        let c = (is.exact (values_of v row.cells)).1 (All-get_or (HasCandidate v) task.rows i no_row l o.chooses) in
         let p = c.0 in
         let low = c.1 in
         let each = left.each in
         let in_marks : p < length left.marks = omega (arith, low, each) in
         let same : get_or cands p [] ≡ h = get_or_default cands p [] (values_of v row.cells) low ∙ c.2 ∙ o.gives in
         let is_left : IsLeft edges i (get_or cands p []) = record { valuation = v; chooses = chooses_each v o.chooses; gives = ap (values_of v) is.cells ∙ o.gives ∙ sym same } in
-        let has = marked_has left.marks cands p [] in_marks low ((left.exact p in_marks).1 is_left) in
+        let has = marked_has left.marks cands p [] low ((left.exact p in_marks).1 is_left) in
         subst (λ (xs : List (List Value)). Contains xs h) (sym left.rows_are) (subst (λ (x : List Value). Contains (marked left.marks cands) x) same has)
 
     pub left_count : IsCountOf (IsLeftOver tables task (row_at task.rows i)) (length rows)
@@ -200,10 +186,10 @@ module _ (db : DatabaseValue) (m : Minimised) (edges : List Edge) (of_kept : Are
     acyclic = subst (λ (b : Bool). IsTrue b ↔ AreAcyclic (map (λ (r : TaskRow). r.cells) task.rows)) (sym known)
         (subst (λ (cells : List (List Sym)). IsTrue (is_some left) ↔ AreAcyclic cells) (same_cells db.tables task.rows edges are) (acyclic_if edges left cyclic));
     candidates = subst (λ (cs : List Counted). AllZip (λ r c. IsCountOf (IsCandidate db.tables r) c.candidates) task.rows cs) (sym same)
-        (zip_by (λ (r : TaskRow) (c : Counted). IsCountOf (IsCandidate db.tables r) c.candidates) task.rows counts (record { cells = []; sources = [] }) no_count counts_long (λ i l.
+        (zip_by (λ (r : TaskRow) (c : Counted). IsCountOf (IsCandidate db.tables r) c.candidates) task.rows counts no_row no_count counts_long (λ i l.
         subst (λ (c : Counted). IsCountOf (IsCandidate db.tables (row_at task.rows i)) c.candidates) (count_is i l) (candidate_count db.tables task edges are i l)));
     left = subst (λ (b : Bool). AllZip (λ r c. IsLeftCount db.tables task b r c.left) task.rows s.rows) (sym known)
         (subst (λ (cs : List Counted). AllZip (λ r c. IsLeftCount db.tables task (is_some left) r c.left) task.rows cs) (sym same)
-        (zip_by (λ (r : TaskRow) (c : Counted). IsLeftCount db.tables task (is_some left) r c.left) task.rows counts (record { cells = []; sources = [] }) no_count counts_long (λ i l.
+        (zip_by (λ (r : TaskRow) (c : Counted). IsLeftCount db.tables task (is_some left) r c.left) task.rows counts no_row no_count counts_long (λ i l.
         subst (λ (c : Counted). IsLeftCount db.tables task (is_some left) (row_at task.rows i) c.left) (count_is i l) (left_counted db.tables task edges are i l left rest))));
   }

@@ -17,7 +17,8 @@ use Rattle.su_map.specs.Lists.{numbers_of}
 use Rattle.su_map.proofs.Ranks.{numbers-more}
 use Rattle.su_exec.specs.declared.tasks.Source.{Source}
 use Rattle.su_exec.specs.declared.tasks.TaskRow.{TaskRow}
-use Rattle.su_answer.specs.Joined.{numbers_in, IsSourceOf, IsTaskRowOf}
+use Rattle.su_schema.specs.SetMembers.{numbers_in}
+use Rattle.su_answer.specs.Joined.{IsSourceOf, IsTaskRowOf}
 use Rattle.su_answer.specs.inside.Joined.{AreSourcesOf}
 
 pub numbers_low : (s : FinSet nat_cmp) (n : ℕ) → All (λ a. a < n) (numbers_in s n)

@@ -26,7 +26,7 @@ use Rattle.su_answer.specs.declared.preparing.Prepared.{Prepared}
 use Rattle.su_answer.specs.Joined.{IsTaskOf}
 use Rattle.su_answer.specs.Answers.{IsTermAnswer, IsAnswer, AreAnswers}
 use Rattle.su_rel.specs.MoreThan.{AreMoreThan}
-use Rattle.su_answer.specs.inside.Executed.{Join, IsFound, IsJoinOf, AreTermAnswers, IsFoundFor, IsInSome, ArePastLimit}
+use Rattle.su_answer.specs.inside.Executed.{Join, IsFound, AreTermAnswers, IsFoundFor, IsInSome, ArePastLimit}
 use Rattle.su_answer.proofs.Joined.{outputs_are_answers}
 use Rattle.su_answer.proofs.PairedLists.{zip_first, zip_second}
 
@@ -46,7 +46,13 @@ found_by db m task kept valid fits is (Some rows) are = record {
   ascending = are.ascending;
 }
 
-pub found_for : (db : DatabaseValue) (m : Minimised) (join : Join) (found : Found) → IsWellKept db → IsValid m.tableau → IsJoinOf db m join → IsFound join found → IsFoundFor db m found
+-- the join is that of the kept rows
+pub record IsTermJoin (db : DatabaseValue) (m : Minimised) (join : Join) : Type 0 where
+  pub tables : join.tables ≡ db.tables
+  pub task : IsTaskOf db.schema m.tableau m.mask join.task
+  pub fits : IsTask db.tables join.task
+
+pub found_for : (db : DatabaseValue) (m : Minimised) (join : Join) (found : Found) → IsWellKept db → IsValid m.tableau → IsTermJoin db m join → IsFound join found → IsFoundFor db m found
 found_for db m join found kept valid is f =
     found_by db m join.task kept valid is.fits is.task found.rows
     (subst (λ (tables : List Stored). MatchOption found.rows (AreMoreThan 1000000 (IsOutput tables join.task)) (AreOutputs tables join.task)) is.tables f)

@@ -1,6 +1,6 @@
 -- What is joined for the kept rows of a tableau: the essential cells of each, with the columns of its sources.
 -- source: the relation of an object, with its columns for the row's essential attributes; task: what su_exec joins
-use Rattle.std.specs.Prelude.{◌≡◌, ◌↔◌, ℕ, ◌+◌, ◌*◌, IsTrue, List, [], map, filter, take, length, get_or, slice_get, Contains, Some}
+use Rattle.std.specs.Prelude.{◌≡◌, ◌↔◌, ℕ, ◌+◌, ◌*◌, IsTrue, List, [], map, take, length, get_or, slice_get, Contains, Some}
 use Rattle.std.specs.List.{AllZip, range_with_len}
 use Rattle.std.specs.Ordering.{nat_cmp}
 use Rattle.std.specs.FinSet.{FinSet, contains}
@@ -10,6 +10,7 @@ use Rattle.su_tableau.specs.Tableaux.{Tab}
 use Rattle.su_tableau.specs.Essential.{IsEssential}
 use Rattle.su_schema.specs.SchemaValue.{SchemaValue, ObjectEntry}
 use Rattle.su_schema.specs.Entries.{column_of}
+use Rattle.su_schema.specs.SetMembers.{numbers_in}
 use Rattle.su_tableau.specs.Parts.{cell_at}
 use Rattle.su_map.specs.Lists.{row_numbers, row_of}
 use Rattle.su_steps.specs.Sources.{IsSource}
@@ -17,10 +18,6 @@ use Rattle.su_exec.specs.declared.tasks.Source.{Source}
 use Rattle.su_exec.specs.declared.tasks.TaskRow.{TaskRow}
 use Rattle.su_exec.specs.declared.tasks.Compared.{Compared}
 use Rattle.su_exec.specs.declared.tasks.Task.{Task}
-
--- the members of the set below n, ascending
-abbrev pub numbers_in : FinSet nat_cmp → ℕ → List ℕ
-numbers_in s n = filter (contains s) (range_with_len 0 n)
 
 -- the source is the object's relation, with its columns for these attributes
 pub record IsSourceOf (schema : SchemaValue) (attributes : List ℕ) (o : ℕ) (s : Source) : Type 0 where

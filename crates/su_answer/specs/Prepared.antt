@@ -25,7 +25,7 @@ pub record IsPrepared (schema : SchemaValue) (maximal : List (FinSet nat_cmp)) (
   pub reduced : IsReduced p.minimals p.reduced
 
 -- prepared from some query of the schema
-pub record IsPreparedFor (schema : SchemaValue) (p : Prepared) : Type 0 where
+pub record IsPreparedOn (schema : SchemaValue) (p : Prepared) : Type 0 where
   pub maximal : List (FinSet nat_cmp)
   pub query : Resolved
   pub resolved : IsResolved schema query

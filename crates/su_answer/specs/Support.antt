@@ -5,7 +5,8 @@
 use Rattle.std.specs.Prelude.{◌≡◌, ◌↔◌, ℕ, Bool, true, false, IsTrue, List, map, length, All, Contains, Option, None, Some}
 use Rattle.std.specs.List.{AllZip}
 use Rattle.su_base.specs.declared.values.Value.{Value}
-use Rattle.su_rel.specs.Stored.{Stored, AllDiffer}
+use Rattle.su_base.specs.Lists.{AllDiffer}
+use Rattle.su_rel.specs.Stored.{Stored}
 use Rattle.su_tableau.specs.Valuations.{values_of}
 use Rattle.su_map.specs.Lists.{row_numbers}
 use Rattle.su_reduce.specs.Ears.{AreAcyclic}

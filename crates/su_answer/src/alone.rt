@@ -7,42 +7,10 @@ ghost use Rattle.su_answer.specs.inside.Alone.{alone, AreCountable, IsEdgeOf};
 
 use std::alloc::Global;
 use su_base::{List, NoMemory};
-use su_exec::{ExecFault, Source, Task, TaskRow, execute};
+use su_exec::{ExecFault, Task, TaskRow, copy_sources, execute};
 use su_index::Rows;
 use su_reduce::Edge;
 use su_tableau::copy_symbols;
-
-/// Equal numbers of their own.
-fn copy_columns(alloc: Global, columns: &[u8]) -> Result<List<u8>, NoMemory>
-    ensures { IfOk result (λ copies. copies ≡ columns.now) }
-{
-    let mut copies = List::new(alloc);
-    for column in columns {
-        copies.push(*column)?;
-    }
-    Ok(copies)
-}
-
-/// An equal source of its own.
-fn copy_source(alloc: Global, source: &Source) -> Result<Source, NoMemory>
-    ensures { IfOk result (λ copied. copied ≡ source.now) }
-{
-    Ok(Source {
-        relation: source.relation,
-        columns: copy_columns(alloc, source.columns.as_slice())?,
-    })
-}
-
-/// Equal sources of their own.
-fn copy_sources(alloc: Global, sources: &[Source]) -> Result<List<Source>, NoMemory>
-    ensures { IfOk result (λ copies. copies ≡ sources.now) }
-{
-    let mut copies = List::new(alloc);
-    for source in sources {
-        copies.push(copy_source(alloc, source)?)?;
-    }
-    Ok(copies)
-}
 
 /// The row's task by itself.
 fn task_alone(alloc: Global, row: &TaskRow) -> Result<Task, NoMemory>

@@ -1,7 +1,7 @@
 //! The answer of a prepared query.
 ghost use Rattle.std.specs.Prelude.{◌≡◌, ◌≤◌, length, IfOk, IfErr};
 ghost use Rattle.su_answer.specs.declared.faults.AnswerFault.TheVariants.{Limit};
-ghost use Rattle.su_answer.specs.Prepared.{IsPreparedFor};
+ghost use Rattle.su_answer.specs.Prepared.{IsPreparedOn};
 ghost use Rattle.su_answer.specs.Answers.{IsAnswer, AreAnswers};
 ghost use Rattle.su_rel.specs.MoreThan.{AreMoreThan};
 
@@ -33,7 +33,7 @@ pub fn answer<R: Threads + Sync, G: Gate>(
     workers: u8,
     gate: &G,
 ) -> Result<List<Row>, AnswerFault>
-    requires prepared { IsPreparedFor db.now.schema prepared.now }
+    requires prepared { IsPreparedOn db.now.schema prepared.now }
     requires least { 1 ≤ workers }
     requires most { workers ≤ 16 }
     ensures answers { IfOk result (AreAnswers db.now prepared.now) }

@@ -5,7 +5,8 @@ ghost use Rattle.su_tableau.specs.Kinds.{IsTyped};
 ghost use Rattle.su_schema.specs.Entries.{attribute_kinds};
 ghost use Rattle.su_exec.specs.Tasks.{IsTask};
 ghost use Rattle.su_min.specs.Reduction.{term_at};
-ghost use Rattle.su_answer.specs.inside.Executed.{IsFound, IsJoinOf, IsFoundFor};
+ghost use Rattle.su_answer.specs.Joined.{IsTaskOf};
+ghost use Rattle.su_answer.specs.inside.Executed.{IsFound, IsFoundFor};
 
 use crate::found::Found;
 use crate::tasks::task_of;
@@ -90,10 +91,11 @@ fn executed<L: Ledger>(
     }
 }
 
-/// The task of the kept rows.
-pub(crate) fn task_for(alloc: Global, db: &Database, minimal: &Minimal) -> Result<Task, NoMemory>
+/// The join that answers the kept rows of a term that is well typed for the schema.
+pub fn task_for(alloc: Global, db: &Database, minimal: &Minimal) -> Result<Task, NoMemory>
     requires { IsTyped (attribute_kinds db.now.schema) minimal.now.tableau }
-    ensures { IfOk result (λ task. IsJoinOf db.now minimal.now (record { tables = db.now.tables; task = task })) }
+    ensures task { IfOk result (IsTaskOf db.now.schema minimal.now.tableau minimal.now.mask) }
+    ensures fits { IfOk result (IsTask db.now.tables) }
 {
     db.keeps_its_rules();
     minimal.keeps_its_rules();

@@ -24,8 +24,8 @@ mod tasks;
 mod uniting;
 
 pub use answering::answer;
+pub use executing::task_for;
 pub use faults::AnswerFault;
 pub use making::prepare;
 pub use preparing::Prepared;
 pub use supporting::support;
-pub use tasks::task_of;

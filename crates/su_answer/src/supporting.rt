@@ -8,7 +8,7 @@ ghost use Rattle.su_reduce.specs.Ears.{AreAcyclic, cells_of};
 ghost use Rattle.su_reduce.specs.Left.{AreLeft};
 ghost use Rattle.su_exec.specs.Tasks.{IsTask};
 ghost use Rattle.su_min.specs.Reduction.{term_at};
-ghost use Rattle.su_answer.specs.Prepared.{IsPreparedFor};
+ghost use Rattle.su_answer.specs.Prepared.{IsPreparedOn};
 ghost use Rattle.su_answer.specs.Support.{AreSupports, IsSupport};
 ghost use Rattle.su_answer.specs.inside.Alone.{AreCountable, IsEdgeOf};
 ghost use Rattle.su_answer.specs.inside.Supported.{AreEdgesOf, IsKeptTask, count_left, counted_at};
@@ -189,7 +189,7 @@ fn supports_of(
 /// an acyclic term, how many of these are left. Nothing is joined: the time is that of fetching and
 /// sorting the candidates, and of the semijoins.
 pub fn support(alloc: Global, db: &Database, prepared: &Prepared) -> Result<List<Support>, NoMemory>
-    requires { IsPreparedFor db.now.schema prepared.now }
+    requires { IsPreparedOn db.now.schema prepared.now }
     ensures { IfOk result (AreSupports db.now prepared.now) }
 {
     db.keeps_its_rules();

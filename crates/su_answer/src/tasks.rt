@@ -8,7 +8,8 @@ ghost use Rattle.su_tableau.specs.Essential.{IsEssential};
 ghost use Rattle.su_schema.specs.SchemaValue.{ObjectEntry};
 ghost use Rattle.su_schema.specs.Entries.{column_of};
 ghost use Rattle.su_steps.specs.Objects.{width, attributes_at};
-ghost use Rattle.su_answer.specs.Joined.{numbers_in, comparison_at, IsSourceOf, IsTaskRowOf, IsTaskOf};
+ghost use Rattle.su_schema.specs.SetMembers.{numbers_in};
+ghost use Rattle.su_answer.specs.Joined.{comparison_at, IsSourceOf, IsTaskRowOf, IsTaskOf};
 ghost use Rattle.su_answer.specs.inside.Joined.{AreSourcesOf};
 
 use std::alloc::Global;
@@ -147,7 +148,7 @@ fn rows_of(
 }
 
 /// The outputs of the head.
-fn outputs_of(alloc: Global, t: &Tableau) -> Result<List<Sym>, NoMemory>
+fn outputs_in_head(alloc: Global, t: &Tableau) -> Result<List<Sym>, NoMemory>
     ensures { IfOk result (λ outputs. outputs ≡ take t.now.outputs t.now.head) }
 {
     t.keeps_its_rules();
@@ -191,7 +192,7 @@ pub fn task_of(alloc: Global, schema: &Schema, t: &Tableau, mask: u64) -> Result
 {
     Ok(Task {
         rows: rows_of(alloc, schema, t, mask)?,
-        outputs: outputs_of(alloc, t)?,
+        outputs: outputs_in_head(alloc, t)?,
         comparisons: comparisons_of(alloc, t)?,
     })
 }

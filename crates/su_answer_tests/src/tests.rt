@@ -1,6 +1,6 @@
 ghost use Rattle.std.specs.Prelude.{◌≤◌, IfSome};
 ghost use Rattle.su_query.specs.Ranges.{IsResolved};
-ghost use Rattle.su_answer.specs.Prepared.{IsPreparedFor};
+ghost use Rattle.su_answer.specs.Prepared.{IsPreparedOn};
 
 use std::alloc::Global;
 use std::test::Fail;
@@ -44,7 +44,7 @@ fn prepared_by<R: Threads + Sync, G: Gate>(
     requires resolved { IsResolved db.now.schema resolved.now }
     requires least { 1 ≤ workers }
     requires most { workers ≤ 16 }
-    ensures { IfSome result (IsPreparedFor db.now.schema) }
+    ensures { IfSome result (IsPreparedOn db.now.schema) }
 {
     match maximal_objects(alloc, db.schema()) {
         Ok(maximal) => match prepare(rt, alloc, db, maximal.as_slice(), resolved, workers, gate) {

@@ -1,4 +1,5 @@
 pub mod BitSet
+pub mod Lists
 pub mod Name
 pub mod Text
 pub mod Value

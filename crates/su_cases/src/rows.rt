@@ -3,7 +3,7 @@ use std::alloc::{AllocError, Global};
 use su_base::{List, NoMemory, Row, Str, Value};
 
 /// A word that is a whole number is one, any other is a text.
-fn value_of(alloc: Global, word: &str) -> Result<Value, NoMemory> {
+fn word_value(alloc: Global, word: &str) -> Result<Value, NoMemory> {
     match word.parse::<i64>() {
         Ok(number) => Ok(Value::Int(number)),
         Err(_) => Ok(Value::Text(Str::new(alloc, word)?)),
@@ -14,7 +14,7 @@ fn value_of(alloc: Global, word: &str) -> Result<Value, NoMemory> {
 pub fn row_of(alloc: Global, words: &str) -> Result<Row, NoMemory> {
     let mut row = List::new(alloc);
     for word in words.split(' ') {
-        row.push(value_of(alloc, word)?)?;
+        row.push(word_value(alloc, word)?)?;
     }
     Ok(row)
 }

@@ -1,8 +1,9 @@
-//! Schemas from their texts.
+//! Schemas from their texts, and sets of objects from their numbers.
 ghost use Rattle.std.specs.Prelude.{IfSome, Ok as OkOf};
 ghost use Rattle.su_ddl.specs.Files.{Reads};
 
 use std::alloc::Global;
+use su_base::ObjSet;
 use su_schema::Schema;
 
 /// Banks with accounts and loans of customers.
@@ -37,4 +38,15 @@ pub fn schema_of(alloc: Global, text: &str) -> Option<Schema>
         Ok(schema) => Some(schema),
         Err(_) => None,
     }
+}
+
+/// The set of the numbers; one that no object can have is left out.
+pub fn objects_of(members: &[u8]) -> ObjSet {
+    let mut all = ObjSet::empty();
+    for member in members {
+        if *member < 64 {
+            all = all.insert(*member);
+        }
+    }
+    all
 }

@@ -14,7 +14,6 @@ use std::alloc::Global;
 use su_base::{List, NoMemory, Value};
 use su_fd::Fd;
 use su_tableau::{Sym, Tableau, copy_symbols};
-use su_where::Op;
 
 /// A tableau whose rows and head have their names, or the two constants that meet in a class.
 #[derive(Debug, Drop)]
@@ -69,16 +68,6 @@ fn named_rows(alloc: Global, names: &[Sym], rows: &[List<Sym>]) -> Result<List<L
     Ok(all)
 }
 
-fn copy_operators(alloc: Global, operators: &[Op]) -> Result<List<Op>, NoMemory>
-    ensures { IfOk result (λ copied. copied ≡ operators.now) }
-{
-    let mut copied = List::new(alloc);
-    for op in operators {
-        copied.push(*op)?;
-    }
-    Ok(copied)
-}
-
 /// The tableau by the names of its variables.
 fn named_tableau(
     alloc: Global,
@@ -93,7 +82,7 @@ fn named_tableau(
     t.keeps_its_rules();
     let rows = named_rows(alloc, names, rows)?;
     let head = named(alloc, names, t.head())?;
-    let operators = copy_operators(alloc, t.operators())?;
+    let operators = List::from_vec(Vec::from_slice(alloc, t.operators())?);
     Ok(Tableau::new(t.width(), rows, head, t.outputs(), operators))
 }
 

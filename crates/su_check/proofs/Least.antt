@@ -4,9 +4,9 @@ use Rattle.std.proofs.lemmas.Bool.{cases_eq}
 use Rattle.std.proofs.lemmas.List.{length-map, get_or-map, get_or_default}
 use Rattle.std.proofs.lemmas.List.Elements.{All-nil, All-push, All-contains, recursion_from_All}
 use Rattle.su_base.proofs.Numbers.{pigeonhole}
-use Rattle.su_base.proofs.Items.{Contains-map, AllZip-length, AllZip-get_or, map-map_equal, Contains-map_source}
+use Rattle.su_base.proofs.Items.{Contains-map, AllZip-length, AllZip-get_or, Contains-map_source}
 use Rattle.su_tableau.specs.declared.symbols.Sym.{Sym}
-use Rattle.su_tableau.specs.declared.symbols.Sym.TheVariants.{Const, Var}
+use Rattle.su_tableau.specs.declared.symbols.Sym.TheVariants.{Var}
 use Rattle.su_tableau.specs.Tableaux.{Tab, IsValid, Occurs}
 use Rattle.su_tableau.specs.Kinds.{Kinds, IsTyped, sym_kind}
 use Rattle.su_tableau.specs.Mapping.{image_of, images_of, Maps}

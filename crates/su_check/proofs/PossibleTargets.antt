@@ -1,5 +1,7 @@
 -- Which rows come into question as targets.
-use Rattle.std.proofs.Common.{◌≡◌, ◌<◌, ℕ, List, [], ◌∷◌, length, get_or, sym, ap, ◌∙◌, arith}
+use Rattle.std.proofs.Common.{◌≡◌, ◌<◌, ◌+◌, ℕ, List, [], ◌∷◌, length, get_or, sym, ap, subst, ◌∙◌, arith}
+use Rattle.std.specs.Int.{bit_at}
+use borrow.Author.Count.{below_more}
 use Rattle.std.proofs.lemmas.List.Elements.{All-push}
 use Rattle.su_base.proofs.Items.{All-append_left}
 use Rattle.su_tableau.specs.declared.symbols.Sym.{Sym}
@@ -28,3 +30,18 @@ sent_alone t p s j a =
     let P : Sent → Type 0 = λ x. images_of a.symbols (numbered_row t x.row) ≡ numbered_row t x.target in
     let w : Sent = record { row = s; target = j } in
     record { symbols = a.symbols; head = a.head; rows = All-push P [] w (λ k d h. absurd (omega arith)) (all_last P p w a.rows) }
+
+-- ---- one target after another
+
+-- the set has those of the first n kept rows to which row s goes alone
+abbrev pub HasTried : Lines → ℕ → ℕ → ℕ → Type 0
+HasTried t s n set = (k : ℕ) → k < n → AreSent t (sent_too [] s (get_or t.kept k 0)) → bit_at set (get_or t.kept k 0) ≡ 1
+
+pub tried_in : (t : Lines) (s n set more j : ℕ) → j ≡ get_or t.kept n 0 → HasTried t s n set → ((i : ℕ) → bit_at set i ≡ 1 → bit_at more i ≡ 1) → bit_at more j ≡ 1 → HasTried t s (n + 1) more
+tried_in t s n set more j is before stays member =
+    below_more (λ k. AreSent t (sent_too [] s (get_or t.kept k 0)) → bit_at more (get_or t.kept k 0) ≡ 1) n (λ k h sent. stays (get_or t.kept k 0) (before k h sent)) (λ sent. subst (λ i. bit_at more i ≡ 1) is member)
+
+pub tried_out : (t : Lines) (s n set j : ℕ) (p : List Sent) → j ≡ get_or t.kept n 0 → p ≡ [] → HasTried t s n set → (AreSent t (sent_too p s j) → ⊥) → HasTried t s (n + 1) set
+tried_out t s n set j p is none before out =
+    below_more (λ k. AreSent t (sent_too [] s (get_or t.kept k 0)) → bit_at set (get_or t.kept k 0) ≡ 1) n before (λ sent.
+    absurd (out (subst (λ i. AreSent t (sent_too p s i)) (sym is) (subst (λ p. AreSent t (sent_too p s (get_or t.kept n 0))) (sym none) sent))))

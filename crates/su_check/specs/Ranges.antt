@@ -8,7 +8,6 @@ use Rattle.su_check.specs.declared.certificates.Term.{Term}
 use Rattle.su_check.specs.declared.nodes.Node.{Node}
 use Rattle.su_check.specs.declared.nodes.Branch.{Branch}
 use Rattle.su_check.specs.Refutations.{row_named, branches_of, target_of, node_of}
-use Rattle.su_check.specs.NodeSymbols.{number}
 
 -- a row's number is at most 255
 abbrev pub IsByte : ℕ → Type 0

@@ -60,7 +60,7 @@ pub fn variables_in(alloc: Global, rows: &[List<Sym>]) -> Result<List<u32>, NoMe
 }
 
 /// Where the variable stands first.
-pub fn number_of(variables: &[u32], k: u32) -> Option<usize>
+pub fn place_of_variable(variables: &[u32], k: u32) -> Option<usize>
     requires { IsNonDecreasing variables.now }
     ensures { MatchOption result (¬ (Contains variables.now k)) (IsFirstPlace variables.now k) }
 {
@@ -85,7 +85,7 @@ fn marks_of(alloc: Global, variables: &[u32], head: &[Sym]) -> Result<Option<Lis
     let mut marks = vec![in alloc; false; variables.len()]?;
     for x in head {
         if let Sym::Var(k) = x {
-            match number_of(variables, *k) {
+            match place_of_variable(variables, *k) {
                 Some(n) => marks[n] = true,
                 None => return Ok(None),
             }
@@ -103,7 +103,7 @@ fn number_at(variables: &[u32], marks: &[bool], x: &Sym) -> Option<usize>
 {
     match x {
         Sym::Const(_) => None,
-        Sym::Var(k) => match number_of(variables, *k) {
+        Sym::Var(k) => match place_of_variable(variables, *k) {
             Some(n) if !marks[n] => Some(n),
             _ => None,
         },

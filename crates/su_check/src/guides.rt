@@ -120,10 +120,9 @@ fn alone(
 {
     let mut sent = List::new(alloc);
     let mut set = 0;
-    for k in 0..term.kept.len() {
-        let target = term.kept.as_slice()[k];
-        if fits(term, board, &mut sent, places, row, target)? {
-            set = with(set, target as usize);
+    for target in term.kept.as_slice() {
+        if fits(term, board, &mut sent, places, row, *target)? {
+            set = with(set, *target as usize);
         }
     }
     Ok(set)

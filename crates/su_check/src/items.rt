@@ -5,7 +5,7 @@ ghost use Rattle.su_lex.specs.declared.meaning.Symbol.{Symbol as ASymbol};
 ghost use Rattle.su_check.specs.NodeSymbols.{number, sym_symbol};
 ghost use Rattle.su_lex.specs.Wordings.{kind_symbol};
 ghost use Rattle.su_check.specs.Ranges.{IsByte, IsNamed};
-ghost use Rattle.su_check.specs.inside.LineReaders.{AreOnlyKinds, AreOnlySymbols, Gives, Stops};
+ghost use Rattle.su_check.specs.inside.LineReaders.{AreOnly, AreOnlyKinds, Gives, Stops};
 
 use crate::variables::variable;
 use su_base::{Kind, List, NoMemory, Value};
@@ -50,8 +50,7 @@ pub fn expect_number(reader: &mut Reader, most: u32) -> Result<u32, LexEnd>
 /// The numbers that come next, as long as they are bytes.
 pub fn bytes(reader: &mut Reader) -> Result<List<u8>, NoMemory>
     ensures found { IfOk result (λ ns. (reader.old ≡ map number ns ++ reader.new) × All IsByte ns) }
-    ensures only { (ns : Items ℕ) (r : Items ASymbol) → All IsByte ns → Stops number IsByte r → reader.old ≡ map number ns ++ r
-        → IfOk result (λ ms. (ms ≡ ns) × (reader.new ≡ r)) }
+    ensures only { AreOnly number IsByte reader.old result reader.new }
 {
     let mut numbers = List::new(reader.alloc());
     while let Some(n) = takes_number(reader, 255) {
@@ -93,7 +92,7 @@ fn takes_symbol(reader: &mut Reader) -> Result<Option<Sym>, NoMemory>
 /// The symbols of a tableau that come next.
 pub fn symbols(reader: &mut Reader) -> Result<List<Sym>, NoMemory>
     ensures found { IfOk result (λ xs. (reader.old ≡ map sym_symbol xs ++ reader.new) × All IsNamed xs) }
-    ensures only { AreOnlySymbols reader.old result reader.new }
+    ensures only { AreOnly sym_symbol IsNamed reader.old result reader.new }
 {
     let mut symbols = List::new(reader.alloc());
     while let Some(symbol) = takes_symbol(reader)? {

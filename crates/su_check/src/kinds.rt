@@ -7,7 +7,7 @@ ghost use Rattle.su_tableau.specs.Kinds.{sym_kind};
 ghost use Rattle.su_tableau.specs.Tableaux.{Occurs};
 ghost use Rattle.su_check.specs.inside.Cells.{HasFound, AreFound, AreTyped, HaveFound, AllHaveFound};
 
-use crate::boards::number_of;
+use crate::boards::place_of_variable;
 use crate::cells::at;
 use std::alloc::Global;
 use su_base::{Kind, List, NoMemory};
@@ -28,7 +28,7 @@ fn has_kind(variables: &[u32], found: &mut [Option<Kind>], x: &Sym, kind: Kind) 
         Sym::Const(value) => return value.kind() == kind,
         Sym::Var(k) => *k,
     };
-    let Some(n) = number_of(variables, k) else {
+    let Some(n) = place_of_variable(variables, k) else {
         return false;
     };
     match found[n] {

@@ -77,14 +77,13 @@ pub fn refutes(
         node.row,
     );
     let mut passed = 0;
-    for i in 0..term.kept.len() {
-        let target = term.kept.as_slice()[i];
-        if is_fitting(claim, set, sent, places, node.row, target)? {
+    for target in term.kept.as_slice() {
+        if is_fitting(claim, set, sent, places, node.row, *target)? {
             if passed == node.next.len() {
                 return Ok(false);
             }
             let branch = &node.next.as_slice()[passed];
-            if !branch_refutes(claim, node.row, target, branch, sent, places)? {
+            if !branch_refutes(claim, node.row, *target, branch, sent, places)? {
                 return Ok(false);
             }
             passed += 1;

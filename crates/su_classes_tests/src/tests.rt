@@ -9,13 +9,9 @@ use su_fd::Fd;
 use su_samples::{Sides, fds_of, is_below, set_of};
 
 fn placed(alloc: Global, has: &[u8], cells: &[usize]) -> Result<Placed, NoMemory> {
-    let mut list = List::new(alloc);
-    for cell in cells {
-        list.push(*cell)?;
-    }
     Ok(Placed {
         has: set_of(has),
-        cells: list,
+        cells: List::from_vec(Vec::from_slice(alloc, cells)?),
     })
 }
 

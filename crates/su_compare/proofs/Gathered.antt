@@ -11,7 +11,8 @@ use Rattle.su_tableau.specs.declared.symbols.Sym.TheVariants.{Const, Var}
 use Rattle.su_tableau.specs.Tableaux.{Tab}
 use Rattle.su_steps.specs.declared.results.Term.{Term}
 use Rattle.su_compare.specs.Counterexamples.{HasConstant, InTerms}
-use Rattle.su_compare.specs.inside.Settlements.{constant_in, constants_in, tab_constants, terms_constants}
+use Rattle.su_chase.specs.inside.Rows.{constant_of}
+use Rattle.su_compare.specs.inside.Settlements.{constants_in, tab_constants, terms_constants}
 use Rattle.su_compare.proofs.Settled.{tab_here}
 
 pub push_taken : {X : Type 0} (xs : List X) (i : ℕ) (x : X) (ys new : List X) → slice_get xs i ≡ Some x → new ≡ ys ++ x ∷ [] → ys ≡ take i xs → new ≡ take (i + 1) xs
@@ -23,15 +24,15 @@ push_taken xs i x ys new at is before =
 -- ---- constants
 
 in_symbols : (symbols : List Sym) (c : Value) → Contains symbols (Const c) → Contains (constants_in symbols) c
-in_symbols symbols c has = Contains-flat_map constant_in symbols (Const c) c has (0, omega arith, refl)
+in_symbols symbols c has = Contains-flat_map constant_of symbols (Const c) c has (0, omega arith, refl)
 
-of_constant : (x : Sym) (c : Value) → Contains (constant_in x) c → x ≡ Const c
+of_constant : (x : Sym) (c : Value) → Contains (constant_of x) c → x ≡ Const c
 of_constant (Const v) c (zero, low, is) = ap Const is
 of_constant (Const v) c (suc k, low, is) = absurd (omega arith)
 of_constant (Var j) c (k, low, is) = absurd (omega arith)
 
 of_symbols : (symbols : List Sym) (c : Value) → Contains (constants_in symbols) c → Contains symbols (Const c)
-of_symbols symbols c has = let r = Contains-flat_map_source constant_in symbols c has in subst (Contains symbols) (of_constant r.0 c r.2) r.1
+of_symbols symbols c has = let r = Contains-flat_map_source constant_of symbols c has in subst (Contains symbols) (of_constant r.0 c r.2) r.1
 
 in_tableau : (t : Tab) (c : Value) → HasConstant t c → Contains (tab_constants t) c
 in_tableau t c has =

@@ -9,20 +9,9 @@ use std::alloc::Global;
 use su_base::parts::{push, push_number};
 use su_base::{List, NoMemory, Row, Str};
 use su_csv::write_behind;
-use su_lex::push_spaced;
+use su_lex::{push_numbers, push_spaced};
 use su_query::push_row as push_row_symbols;
 use su_schema::Schema;
-
-/// Each number behind a space.
-fn push_numbers(alloc: Global, out: &mut Vec<u8>, numbers: &[u8]) -> Result<(), NoMemory>
-    ensures { OnOk result (out.new.items ≡ out.old.items ++ numbers_text numbers.now) }
-{
-    for number in numbers {
-        push(out, " ")?;
-        push_number(alloc, out, *number as u64)?;
-    }
-    Ok(())
-}
 
 /// The term that maps, and the rows to which its rows go.
 fn push_found(alloc: Global, out: &mut Vec<u8>, found: &Found) -> Result<(), NoMemory>

@@ -2,9 +2,9 @@
 --   field    the bytes between two commas or line ends, quotes taken off
 --   number   a '-' or none and one or more digits, for a whole number of 64 bits
 --   text     UTF-8 of at most 4,096 bytes
-use Rattle.std.specs.Prelude.{ℕ, ◌^◌, Bool, false, ◌&&◌, nat_lt, nat_le, if◌then◌else◌, List, [], ◌∷◌, length, drop, Option, Some, None, option_map, ℤ, pos, negsuc, neg_ℤ}
+use Rattle.std.specs.Prelude.{ℕ, ◌^◌, Bool, false, ◌&&◌, nat_lt, nat_le, if◌then◌else◌, List, [], ◌∷◌, length, drop, Option, Some, None, option_map, ℤ, pos, negsuc}
 use Rattle.std.specs.Str.{is_utf8, all_ascii_digits}
-use Rattle.std.specs.Str.Parse.{starts_with_minus, digits_value}
+use Rattle.std.specs.Str.Parse.{starts_with_minus, signed_digits_value}
 use Rattle.su_base.specs.declared.values.Value.{Value}
 use Rattle.su_base.specs.declared.values.Value.TheVariants.{Int, Text}
 use Rattle.su_base.specs.declared.values.Kind.{Kind}
@@ -23,10 +23,6 @@ abbrev pub is_digits : List ℕ → Bool
 is_digits [] = false
 is_digits (d ∷ ds) = all_ascii_digits (d ∷ ds)
 
--- what a '-' or none and then digits come to
-abbrev pub signed_value : List ℕ → ℤ
-signed_value field = if starts_with_minus field then neg_ℤ (pos (digits_value 10 (digits_of field))) else pos (digits_value 10 (digits_of field))
-
 -- from -2^63 to 2^63 - 1; negsuc n is -(n + 1)
 abbrev pub in_range : ℤ → Bool
 in_range (pos n) = nat_lt n (2 ^ 63)
@@ -34,7 +30,7 @@ in_range (negsuc n) = nat_lt n (2 ^ 63)
 
 -- the number that a field writes, if it writes one
 abbrev pub field_number : List ℕ → Option ℤ
-field_number field = if is_digits (digits_of field) && in_range (signed_value field) then Some (signed_value field) else None
+field_number field = if is_digits (digits_of field) && in_range (signed_digits_value 10 field) then Some (signed_digits_value 10 field) else None
 
 -- a field that may be a text: short enough, and UTF-8
 abbrev pub is_text : List ℕ → Bool

@@ -52,7 +52,7 @@ fn short_number(field: &[u8]) -> Option<i64>
 
 /// The number that the field writes. Unlike `parse`, it takes no `+`.
 #[inline(always)]
-pub(crate) fn number_of(field: &[u8]) -> Option<i64>
+pub(crate) fn written_number(field: &[u8]) -> Option<i64>
     ensures { result ≡ field_number field.now }
 {
     match short_number(field) {
@@ -107,7 +107,7 @@ pub(crate) fn push_value(
 {
     match kind {
         Kind::Int => {
-            let Some(number) = number_of(field) else {
+            let Some(number) = written_number(field) else {
                 return Ok(false);
             };
             row.push(Value::Int(number))?;

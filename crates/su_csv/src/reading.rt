@@ -8,7 +8,7 @@ ghost use Rattle.su_csv.specs.inside.Records.{Stands, records_left};
 
 use crate::faults::CsvFault;
 use crate::records::{advance, records_of};
-use crate::rows::{field_at, row_of};
+use crate::rows::{field_at, row_of_record};
 use csv::{ByteRecord, Reader};
 use std::alloc::Global;
 use su_base::{Column, List, Row};
@@ -59,7 +59,7 @@ fn rows_under_header(
         if !advance(records, fields)? {
             return Ok(rows);
         }
-        rows.push(row_of(alloc, columns, fields, before + 1)?)?;
+        rows.push(row_of_record(alloc, columns, fields, before + 1)?)?;
     }
     if advance(records, fields)? {
         return Err(CsvFault::TooMany);

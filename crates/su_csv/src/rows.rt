@@ -8,7 +8,7 @@ ghost use Rattle.su_base.specs.Value.{same_kind};
 ghost use Rattle.su_csv.specs.Field.{field_value};
 
 use crate::faults::CsvFault;
-use crate::fields::{number_of, push_value};
+use crate::fields::{push_value, written_number};
 use csv::ByteRecord;
 use std::alloc::Global;
 use su_base::{Column, Kind, List, Row};
@@ -47,7 +47,7 @@ fn first_without_number(columns: &[Column], fields: &ByteRecord) -> Option<u8>
 fn lacks_number(column: &Column, field: &[u8]) -> bool
     ensures { result ≡ (same_kind Kind.Int column.now.kind && is_none (field_value Kind.Int field.now)) }
 {
-    matches!(column.kind, Kind::Int) && number_of(field).is_none()
+    matches!(column.kind, Kind::Int) && written_number(field).is_none()
 }
 
 /// The fault of a record whose field at this place is the first without a value: numbers come
@@ -68,7 +68,7 @@ fn fault_at(columns: &[Column], fields: &ByteRecord, number: u64, place: usize) 
 }
 
 /// The row of the record of this number.
-pub(crate) fn row_of(
+pub(crate) fn row_of_record(
     alloc: Global,
     columns: &[Column],
     fields: &ByteRecord,

@@ -17,8 +17,8 @@ use Rattle.su_schema.specs.declared.definitions.Pair.{Pair}
 use Rattle.su_schema.specs.declared.definitions.Definition.TheVariants.{Object}
 use Rattle.su_schema.specs.declared.links.Link.{Link}
 use Rattle.su_schema.specs.SchemaValue.{SchemaValue, AttributeEntry, RelationEntry, ObjectEntry}
-use Rattle.su_schema.specs.Valid.{IsValid, IsRelationEntry, IsObject, IsLink, IsDependency}
-use Rattle.su_schema.specs.Entries.{IsSomeBelow, AreDistinctNames, attribute_names, relation_names, object_names, column_names}
+use Rattle.su_schema.specs.Valid.{IsValid, IsRelationEntry, IsObject, IsLink, IsDependency, IsSomeBelow}
+use Rattle.su_schema.specs.Entries.{AreDistinctNames, attribute_names, relation_names, object_names, column_names}
 use Rattle.su_schema.specs.NameChecks.{first_failing, name_checks}
 use Rattle.su_schema.specs.Known.{is_known, number_of, columns_at}
 use Rattle.su_schema.specs.Checks.{pair_checks, checks}

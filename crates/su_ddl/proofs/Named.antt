@@ -17,10 +17,12 @@ use Rattle.std.proofs.lemmas.Slice.Eq.{bytes_eq-Decides}
 use Rattle.su_base.specs.Name.{IsName, AreNames}
 use Rattle.su_base.proofs.Items.{All-middle, AllByRecursion-weaker}
 use Rattle.su_schema.specs.declared.faults.SchemaFault.{SchemaFault}
-use Rattle.su_schema.specs.Entries.{AreDistinctNames, IsSomeBelow}
+use Rattle.su_schema.specs.Entries.{AreDistinctNames}
+use Rattle.su_schema.specs.Valid.{IsSomeBelow}
 use Rattle.su_schema.specs.NameChecks.{first_failing, apart_checks, name_checks}
 use Rattle.su_schema.specs.Known.{is_known, number_of}
 use Rattle.su_schema.specs.Definitions.{numbers_of}
+use Rattle.su_schema.specs.SetMembers.{numbers_in}
 use Rattle.su_schema.proofs.Numbers.{slice_get-number_of}
 use Rattle.su_schema.proofs.Validity.{number_below}
 use Rattle.su_ddl.specs.ShownDefinitions.{name_at, names_in}
@@ -160,23 +162,20 @@ kept_in p q (x ∷ xs) in' there =
           elim (p x) as (λ v. list_any (λ y. nat_eq y q) (cond v (x ∷ filter p xs) (filter p xs)) ≡ true) [ true ↦ rw k later | false ↦ later ]
     ] refl there
 
-abbrev pub numbers_in : ℕ → FinSet nat_cmp → List ℕ
-numbers_in n set = filter (contains set) (range_with_len 0 n)
-
 module _ (n : ℕ) (set : FinSet nat_cmp) where
-  pub numbers_below : All (λ k. k < n) (numbers_in n set)
+  pub numbers_below : All (λ k. k < n) (numbers_in set n)
   numbers_below =
       All-filter (contains set) (λ k. k < n) (range_with_len 0 n)
       (All-from_recursion (λ k. k < n) (range_with_len 0 n) (AllByRecursion-weaker (λ k. (0 ≤ k) × (k < 0 + n)) (λ k. k < n) (range_with_len 0 n) (λ k h. omega (arith, h.1)) (range_above 0 n)))
 
-  pub numbers_rising : AllPairs (λ i j. i < j) (numbers_in n set)
+  pub numbers_rising : AllPairs (λ i j. i < j) (numbers_in set n)
   numbers_rising = AllPairs-filter (λ i j. i < j) (contains set) (range_with_len 0 n) (range_rising 0 n)
 
-  pub set_again : IsSomeBelow n set → from_list {R = nat_cmp} (numbers_in n set) ≡ set
+  pub set_again : IsSomeBelow n set → from_list {R = nat_cmp} (numbers_in set n) ≡ set
   set_again is =
-      same_set nat_cmp_total nat_cmp-IsAntisymmetric _ _ (λ q. contains-from_list_nat (numbers_in n set) q ∙ by q (contains set q) refl)
+      same_set nat_cmp_total nat_cmp-IsAntisymmetric _ _ (λ q. contains-from_list_nat (numbers_in set n) q ∙ by q (contains set q) refl)
     where
-      by : (q : ℕ) (v : Bool) → contains set q ≡ v → list_any (λ y. nat_eq y q) (numbers_in n set) ≡ contains set q
+      by : (q : ℕ) (v : Bool) → contains set q ≡ v → list_any (λ y. nat_eq y q) (numbers_in set n) ≡ contains set q
       by q true e = kept_in (contains set) q (range_with_len 0 n) e (range_has q 0 n (omega arith) (omega (arith, is.below q e))) ∙ sym e
       by q false e = kept_out (contains set) q (range_with_len 0 n) e ∙ sym e
 
@@ -193,7 +192,7 @@ pub record IsSide (names : List (List ℕ)) (set : FinSet nat_cmp) : Type 0 wher
 
 pub side : (names : List (List ℕ)) (set : FinSet nat_cmp) → AreDistinctNames names → IsSomeBelow (length names) set → IsSide names set
 side names set are is =
-    let ks = numbers_in (length names) set in
+    let ks = numbers_in set (length names) in
     let below = numbers_below (length names) set in
     let same = set_again (length names) set is in
     record {

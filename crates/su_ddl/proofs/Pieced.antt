@@ -53,20 +53,20 @@ lines_no_mark (d ∷ ds) =
     ap after_mark e ∙ no_mark d (59 ∷ 10 ∷ lines_of ds) ∙ sym e
 
 -- what may stand before a definition: nothing, or the line feed of the line before
-pub record IsLead (lead : List ℕ) : Type 0 where
+pub record IsLineStart (lead : List ℕ) : Type 0 where
   pub gap : (r : List ℕ) → Gap (lead ++ r) r
   pub parts : (r : List ℕ) → Parts (lead ++ r) r
 
-pub no_lead : IsLead []
+pub no_lead : IsLineStart []
 no_lead = record { gap = λ r. b.none r r refl; parts = λ r. p.none r r refl }
 
-pub line_lead : IsLead (10 ∷ [])
+pub line_lead : IsLineStart (10 ∷ [])
 line_lead = record {
   gap = λ r. b.space 10 (10 ∷ r) r r refl refl (b.none r r refl);
   parts = λ r. p.more (10 ∷ r) r r (p.byte 10 (10 ∷ r) r refl refl refl) (p.none r r refl);
 }
 
-pub is_definition : (lead : List ℕ) (d : Definition) → IsLead lead → IsWellNamed d → IsDefinition (lead ++ shown d) d
+pub is_definition : (lead : List ℕ) (d : Definition) → IsLineStart lead → IsWellNamed d → IsDefinition (lead ++ shown d) d
 is_definition lead d is well =
     let quiet = definition_quiet d well in
     (definition_symbols d, symbols_from (lead ++ shown d) (definition_symbols d) (spaced_at (lead ++ shown d) (definition_symbols d) (is.gap (shown d)) (quiet_symbols (definition_symbols d) quiet)), (refl, well))
@@ -81,12 +81,12 @@ pub record Cut (whole s : List ℕ) (texts : List (List ℕ)) : Type 0 where
   pub are : PiecesAt (length whole) s spans
   pub texts_are : map (statement_of whole) spans ≡ texts
 
-no_blank : (lead : List ℕ) (d : Definition) (r : List ℕ) → IsLead lead → Gap (lead ++ (shown d ++ 59 ∷ r)) (59 ∷ r) → ⊥
+no_blank : (lead : List ℕ) (d : Definition) (r : List ℕ) → IsLineStart lead → Gap (lead ++ (shown d ++ 59 ∷ r)) (59 ∷ r) → ⊥
 no_blank lead d r is g =
     no_blank_piece (lead ++ (shown d ++ 59 ∷ r)) (shown d ++ 59 ∷ r) (59 ∷ r) (is.gap (shown d ++ 59 ∷ r)) (shown_solid d (59 ∷ r)) refl
     (omega (arith, shown_some d, length-append (shown d) (59 ∷ r))) g
 
-one_cut : (whole pre lead s r : List ℕ) (d : Definition) (texts : List (List ℕ)) → whole ≡ pre ++ s → s ≡ lead ++ (shown d ++ 59 ∷ r) → IsLead lead → IsWellNamed d → Cut whole r texts
+one_cut : (whole pre lead s r : List ℕ) (d : Definition) (texts : List (List ℕ)) → whole ≡ pre ++ s → s ≡ lead ++ (shown d ++ 59 ∷ r) → IsLineStart lead → IsWellNamed d → Cut whole r texts
     → Cut whole s ((lead ++ shown d) ∷ texts)
 one_cut whole pre lead s r d texts w e is well c =
     let text = lead ++ shown d in
@@ -103,7 +103,7 @@ one_cut whole pre lead s r d texts w e is well c =
       texts_are = ap (λ x. x ∷ map (statement_of whole) c.spans) here ∙ ap (λ x. text ∷ x) c.texts_are;
     }
 
-cut_from : (whole pre lead s : List ℕ) (ds : List Definition) → whole ≡ pre ++ s → s ≡ lead ++ lines_of ds → IsLead lead → AllByRecursion IsWellNamed ds → Cut whole s (texts_of lead ds)
+cut_from : (whole pre lead s : List ℕ) (ds : List Definition) → whole ≡ pre ++ s → s ≡ lead ++ lines_of ds → IsLineStart lead → AllByRecursion IsWellNamed ds → Cut whole s (texts_of lead ds)
 cut_from whole pre lead s [] w e is well = record {
   spans = [];
   are = p.last (length whole) s None [] (subst (λ (v : List ℕ). Parts v []) (sym e) (is.parts [])) (subst (λ (v : List ℕ). Gap v []) (sym e) (is.gap [])) refl;

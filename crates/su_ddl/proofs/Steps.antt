@@ -7,7 +7,7 @@ use Rattle.su_schema.specs.Definitions.{applied}
 use Rattle.su_schema.specs.WellNamed.{IsWellNamed}
 use Rattle.su_ddl.specs.Files.{ReadsFrom, Reads, no_definitions}
 use Rattle.su_ddl.specs.Shown.{lines_of}
-use Rattle.su_ddl.proofs.Pieced.{IsLead, no_lead, line_lead, is_definition, texts_of, lines_cut}
+use Rattle.su_ddl.proofs.Pieced.{IsLineStart, no_lead, line_lead, is_definition, texts_of, lines_cut}
 
 -- each is well named, and all are added
 abbrev pub Builds : SchemaValue → List Definition → SchemaValue → Type 0
@@ -22,7 +22,7 @@ pub builds_append : (s t u : SchemaValue) (ds es : List Definition) → Builds s
 builds_append s t u [] es h k = subst (λ (v : SchemaValue). Builds v es u) (sym h) k
 builds_append s t u (d ∷ ds) es h k = (h.0, h.1, h.2, builds_append h.0 t u ds es h.3 k)
 
-reads_from : (n : ℕ) (s t : SchemaValue) (lead : List ℕ) (ds : List Definition) → IsLead lead → Builds s ds t → ReadsFrom n s (texts_of lead ds) (Ok t)
+reads_from : (n : ℕ) (s t : SchemaValue) (lead : List ℕ) (ds : List Definition) → IsLineStart lead → Builds s ds t → ReadsFrom n s (texts_of lead ds) (Ok t)
 reads_from n s t lead [] is h = ap Ok (sym h)
 reads_from n s t lead (d ∷ ds) is h = inr (d, h.0, is_definition lead d is h.1, h.2, reads_from (n + 1) h.0 t (10 ∷ []) ds line_lead h.3)
 

@@ -1,9 +1,9 @@
 -- The definitions of a schema, each as its text names it.
 -- definition of an entry: names in place of numbers
-use Rattle.std.specs.Prelude.{ℕ, List, [], ◌++◌, length, map, filter, filter_map, option_map, Option, slice_index_or}
+use Rattle.std.specs.Prelude.{ℕ, List, [], ◌++◌, length, map, filter_map, option_map, Option, slice_index_or}
 use Rattle.std.specs.List.{range_with_len}
 use Rattle.std.specs.Ordering.{nat_cmp}
-use Rattle.std.specs.FinSet.{FinSet, contains}
+use Rattle.std.specs.FinSet.{FinSet}
 use Rattle.su_fd.specs.declared.Fd.{Fd as Dependency}
 use Rattle.su_schema.specs.declared.definitions.Pair.{Pair}
 use Rattle.su_schema.specs.declared.definitions.Definition.{Definition}
@@ -11,6 +11,7 @@ use Rattle.su_schema.specs.declared.definitions.Definition.TheVariants.{Attribut
 use Rattle.su_schema.specs.SchemaValue.{SchemaValue, AttributeEntry, RelationEntry, ObjectEntry}
 use Rattle.su_schema.specs.Entries.{attribute_names, relation_names, column_names, object_names, column_of}
 use Rattle.su_schema.specs.Known.{columns_at}
+use Rattle.su_schema.specs.SetMembers.{numbers_in}
 
 -- the name with this number
 abbrev pub name_at : List (List ℕ) → ℕ → List ℕ
@@ -18,7 +19,7 @@ name_at names k = slice_index_or names k []
 
 -- the names of a set of numbers, in ascending order
 abbrev pub names_in : List (List ℕ) → FinSet nat_cmp → List (List ℕ)
-names_in names set = map (name_at names) (filter (contains set) (range_with_len 0 (length names)))
+names_in names set = map (name_at names) (numbers_in set (length names))
 
 -- the definition of an attribute
 abbrev pub attribute_definition : AttributeEntry → Definition

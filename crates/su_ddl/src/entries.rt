@@ -1,9 +1,8 @@
 //! The definitions that a schema is made of, by their numbers.
 ghost use Rattle.std.specs.Prelude.{◌≡◌, ◌<◌, ◌++◌, ◌∷◌, [], length, map, slice_get, IfOk, OnOk, if◌then◌else◌};
-ghost use Rattle.su_schema.specs.Entries.{attribute_names, object_names, column_names};
-ghost use Rattle.su_ddl.specs.ShownDefinitions.{names_in, attribute_definition, relation_definition, object_definition, fd_definition, maximal_definition, pair_of, name_at};
+ghost use Rattle.su_schema.specs.Entries.{attribute_names, object_names};
+ghost use Rattle.su_ddl.specs.ShownDefinitions.{names_in, attribute_definition, relation_definition, object_definition, fd_definition, maximal_definition, pair_of};
 ghost use Rattle.su_ddl.specs.inside.PairAlone.{listed, pairs_of};
-ghost use Rattle.su_schema.specs.Known.{columns_at};
 
 use std::alloc::Global;
 use su_base::{AttrSet, List, NoMemory, ObjSet, Str};
@@ -66,29 +65,17 @@ pub fn relation_at(alloc: Global, schema: &Schema, r: u8) -> Result<Definition, 
     Ok(Definition::Relation { name, columns })
 }
 
-/// The name of a column of the relation `r`. A valid schema asks for those that are there.
-fn column_name(alloc: Global, schema: &Schema, r: u8, c: u8) -> Result<Str, NoMemory>
-    requires { r < length schema.now.relations }
-    ensures { IfOk result (λ name. name ≡ name_at (column_names (columns_at schema.now r)) c) }
-{
-    match schema.columns(r).get(c as usize) {
-        Some(column) => column.name.copy(alloc),
-        None => Str::new(alloc, ""),
-    }
-}
-
 /// The pair of an attribute of an object on the relation `r`, if it is the object's.
 fn pair_at(alloc: Global, schema: &Schema, o: u8, r: u8, a: u8) -> Result<Option<Pair>, NoMemory>
     requires object { o < length schema.now.objects }
     requires relation { slice_get (map (λ x. x.relation) schema.now.objects) o ≡ Some r }
-    requires stored { r < length schema.now.relations }
     requires attribute { a < length schema.now.attributes }
     ensures { IfOk result (λ p. slice_get (map (λ x. pair_of schema.now x a) schema.now.objects) o ≡ Some p) }
 {
     match schema.object_column(o, a) {
         Some(c) => {
             let attribute = Str::new(alloc, schema.attribute_name(a))?;
-            let column = column_name(alloc, schema, r, c)?;
+            let column = Str::new(alloc, schema.column_name(r, c as usize))?;
             Ok(Some(Pair { attribute, column }))
         }
         None => Ok(None),
@@ -107,7 +94,6 @@ fn push_pair_if(pairs: &mut List<Pair>, pair: Option<Pair>) -> Result<(), NoMemo
 fn pairs_at(alloc: Global, schema: &Schema, o: u8, r: u8) -> Result<List<Pair>, NoMemory>
     requires object { o < length schema.now.objects }
     requires relation { slice_get (map (λ x. x.relation) schema.now.objects) o ≡ Some r }
-    requires stored { r < length schema.now.relations }
     ensures { IfOk result (λ ps. slice_get (map (pairs_of schema.now) schema.now.objects) o ≡ Some ps) }
 {
     schema.keeps_its_rules();

@@ -4,22 +4,12 @@ ghost use Rattle.su_lex.specs.AddedFronts.{AddsFront};
 ghost use Rattle.su_lex.specs.Names.{names_symbols};
 ghost use Rattle.su_ddl.specs.Grammar.{definition_symbols, column_symbols, columns_symbols, in_parens};
 ghost use Rattle.su_ddl.specs.inside.Columns.{behind_commas};
-ghost use Rattle.su_lex.specs.Wordings.{kind_symbol};
 ghost use Rattle.su_ddl.specs.Shown.{line_of};
 
 use std::alloc::Global;
 use su_base::{Column, Kind, List, NoMemory, Str};
-use su_lex::{Sign, Symbol, push_sign, push_spaced, push_word};
+use su_lex::{Sign, Symbol, push_kind, push_sign, push_spaced, push_word};
 use su_schema::{Definition, Pair};
-
-fn push_kind(alloc: Global, out: &mut List<Symbol>, kind: Kind) -> Result<(), NoMemory>
-    ensures { OnOk result (out.new ≡ out.old ++ kind_symbol kind ∷ []) }
-{
-    match kind {
-        Kind::Int => push_word(alloc, out, "int"),
-        Kind::Text => push_word(alloc, out, "text"),
-    }
-}
 
 /// { "," NAME }
 fn push_more_names(alloc: Global, out: &mut List<Symbol>, names: &[Str]) -> Result<(), NoMemory>

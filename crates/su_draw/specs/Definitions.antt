@@ -1,5 +1,6 @@
 -- What the words of a line of a schema must be.
 -- Words are counted from 0; maximal objects are numbered from 0.
+-- to fit: to have the words that such a line has, whatever names they are
 use Rattle.std.specs.Prelude.{ℕ, ◌+◌, ◌-◌, ◌*◌, ◌/◌, ◌==◌, ◌&&◌, ◌||◌, Bool, false, List, [], ◌∷◌, length, take, drop, codes}
 use Rattle.std.specs.Str.{bytes_eq}
 use Rattle.su_draw.specs.declared.states.State.{State}

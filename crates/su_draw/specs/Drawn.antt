@@ -1,5 +1,6 @@
 -- What a word of a line is drawn as, by its place.
 -- In a line of a row words 3, 4, 5 are its number, its variable and its object, and the others its cells.
+-- drawn as: the kind of thing that shows the word in the picture; label: a word that is shown for itself
 use Rattle.std.specs.Prelude.{ℕ, ◌-◌, ◌==◌, ◌&&◌, ◌||◌, nat_lt, nat_le, if◌then◌else◌, List, Option, Some, None}
 use Rattle.su_draw.specs.declared.kinds.Kind.{Kind}
 use Rattle.su_draw.specs.declared.kinds.Kind.TheVariants as kind

@@ -1,5 +1,6 @@
 -- What the words of a line must be, behind the lines before it.
 -- Words are counted from 0; a line of a term has two empty words in front. Rows, terms and maximal objects are numbered from 0.
+-- to fit: to have the words that a line of this kind has there; state: what the lines before it told and counted
 use Rattle.std.specs.Prelude.{ℕ, ◌==◌, ◌&&◌, nat_lt, Bool, false, List, [], ◌∷◌, length, codes}
 use Rattle.std.specs.List.{list_all}
 use Rattle.std.specs.Str.{bytes_eq}

@@ -1,5 +1,6 @@
 -- That each word that is drawn stands in the picture exactly once.
 -- Rows, symbols, sources, folds and covers, and of a schema attributes, objects and what belongs to what, are words of the text; so are the labels.
+-- thing: what is drawn of one word, with the number of its line and of the word in it
 use Rattle.std.specs.Prelude.{◌≡◌, ℕ, ◌==◌, ◌&&◌, Bool, List, [], length, filter, map, slice_get, Option, Some, None}
 use Rattle.su_draw.specs.declared.things.Thing.{Thing}
 use Rattle.su_draw.specs.declared.shapes.Shape.{Shape}

@@ -1,5 +1,5 @@
 -- Each variable of a row has a first row.
-use Rattle.std.proofs.Common.{◌≡◌, ℕ, zero, suc, ◌<◌, ◌≤◌, ◌⊎◌, List, [], length, get_or, Contains, sym, subst, ◌∙◌, inl, inr, ⊎_elim, arith}
+use Rattle.std.proofs.Common.{◌≡◌, ℕ, zero, suc, ◌<◌, ◌≤◌, ◌⊎◌, length, get_or, Contains, sym, subst, ◌∙◌, inl, inr, ⊎_elim, arith}
 use Rattle.std.proofs.lemmas.Bool.{cases_lt}
 use Rattle.std.proofs.lemmas.List.{get_or_default}
 use Rattle.su_tableau.specs.declared.symbols.Sym.{Sym}
@@ -8,14 +8,14 @@ use Rattle.su_tableau.proofs.ChangedValuations.{InRow, in_row}
 use Rattle.su_exec.specs.declared.tasks.Task.{Task}
 use Rattle.su_exec.specs.declared.tasks.TaskRow.{TaskRow}
 use Rattle.su_exec.specs.inside.Labels.{IsFirstRow}
-use Rattle.su_exec.specs.Tasks.{StandsIn}
+use Rattle.su_exec.specs.Tasks.{StandsIn, no_row}
 
 abbrev row_at : Task → ℕ → TaskRow
-row_at task i = get_or task.rows i (record { cells = []; sources = [] })
+row_at task i = get_or task.rows i no_row
 
 stands_in : (task : Task) (k i : ℕ) → StandsIn task k i → InRow (row_at task i).cells k
 stands_in task k i s =
-    let c : Contains (row_at task i).cells (Var k) = subst (λ (r : TaskRow). Contains r.cells (Var k)) (sym (s.is (record { cells = []; sources = [] }))) s.cell in
+    let c : Contains (row_at task i).cells (Var k) = subst (λ (r : TaskRow). Contains r.cells (Var k)) (sym (s.is no_row)) s.cell in
     record { column = c.0; below = c.1; is = λ d. get_or_default (row_at task i).cells c.0 d (Var k) c.1 ∙ c.2 }
 
 stands : (task : Task) (k i : ℕ) → StandsIn task k i ⊎ (StandsIn task k i → ⊥)
@@ -24,7 +24,7 @@ stands task k i =
     (λ (low : i < length task.rows).
     ⊎_elim
     (λ (r : InRow (row_at task i).cells k).
-    inl (record { row = row_at task i; below = low; is = λ d. get_or_default task.rows i d (record { cells = []; sources = [] }) low; cell = (r.column, r.below, r.is (Var k)) }))
+    inl (record { row = row_at task i; below = low; is = λ d. get_or_default task.rows i d no_row low; cell = (r.column, r.below, r.is (Var k)) }))
     (λ (no : InRow (row_at task i).cells k → ⊥). inr (λ s. no (stands_in task k i s)))
     (in_row (row_at task i).cells k))
     (λ (high : length task.rows ≤ i). inr (λ s. absurd (let low = s.below in omega arith)))

@@ -2,13 +2,12 @@
 use Rattle.std.proofs.Common.{◌≡◌, ℕ, ◌⊎◌, List, length, get_or, Contains, sym, ap, subst, ◌∙◌, inl, inr, ⊎_elim}
 use Rattle.std.specs.Prelude.{map}
 use Rattle.std.proofs.lemmas.List.Elements.{All-contains, Contains-get_or}
-use Rattle.su_base.proofs.Items.{Contains-map}
+use Rattle.su_base.proofs.Items.{Contains-map, Contains-map_source}
 use Rattle.su_base.specs.declared.values.Value.{Value}
 use Rattle.su_reduce.specs.Codes.{decode, Extends}
 use Rattle.su_exec.specs.inside.Coded.{AreCoded, IsGathered}
 use Rattle.su_reduce.specs.Sheets.{AreBelow}
 use Rattle.su_reduce.proofs.CodeExtensions.{extends_self, extends_then, below_up, decode_row}
-use Rattle.su_exec.proofs.Meanings.{row_of}
 
 -- nothing is added, where nothing is there to be added
 pub gathered_none : (P Q : List Value → Type 0) (values : List Value) (rows : List (List ℕ)) → AreCoded values rows → ((h : List Value) → Q h → ⊥) → IsGathered P Q values rows values rows
@@ -51,7 +50,7 @@ gathered_then P Q P' Q' R S a b c rows more most x y first second both = record 
   had = λ h s.
       ⊎_elim
       (λ (q : Q h).
-      let w = row_of b more h (x.had h q) in
+      let w = Contains-map_source (map (decode b)) more h (x.had h q) in
       subst (λ (g : List Value). Contains (map (map (decode c)) most) g) (decode_row b c y.codes w.0 (All-contains (λ r. AreBelow r (length b)) more w.0 x.coded w.1) ∙ w.2) (Contains-map (map (decode c)) most w.0 (y.kept w.0 w.1)))
       (λ (q : Q' h). y.had h q)
       (both h s);

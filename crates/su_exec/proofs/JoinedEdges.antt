@@ -2,7 +2,7 @@
 use Rattle.std.proofs.Common.{◌≡◌, ℕ, Bool, Option, List, sym, subst}
 use Rattle.su_exec.specs.inside.Edges.{Edge}
 use Rattle.su_exec.specs.inside.Joins.{Columns, IsReal, IsJoin, IsJoinOf, FitColumns, out_vars}
-use Rattle.su_reduce.specs.Sheets.{AllDiffer}
+use Rattle.su_base.specs.Lists.{AllDiffer}
 use Rattle.su_exec.proofs.ProjectedJoins.{real_join, keeps_join, given, joined_edge}
 
 module _ (a b : Edge ℕ) (c : Columns) (t : List ℕ → List ℕ → Bool) (most : Option ℕ) (ls rs rows : List (List ℕ)) (vars : List ℕ) (la : ls ≡ a.rows) (lb : rs ≡ b.rows) (real_a : IsReal a) (real_b : IsReal b) (fit : FitColumns c a.vars b.vars) (join : IsJoin ls rs c t most rows) (vars_are : vars ≡ out_vars c a.vars b.vars) where

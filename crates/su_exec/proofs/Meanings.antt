@@ -1,8 +1,7 @@
 -- Candidates mean the same as more values get codes.
-use Rattle.std.proofs.Common.{◌≡◌, ℕ, ◌<◌, List, [], ◌∷◌, length, get_or, Contains, refl, sym, ap, ◌∙◌, arith}
+use Rattle.std.proofs.Common.{◌≡◌, ℕ, List, [], ◌∷◌, length, get_or, refl, ap, ◌∙◌}
 use Rattle.std.specs.Prelude.{map, All}
-use Rattle.std.proofs.lemmas.List.{get_or-map, length-map}
-use Rattle.std.proofs.lemmas.List.Elements.{All-head, All-tail, Contains-get_or}
+use Rattle.std.proofs.lemmas.List.Elements.{All-head, All-tail}
 use Rattle.su_base.specs.declared.values.Value.{Value}
 use Rattle.su_reduce.specs.Codes.{decode, Extends}
 use Rattle.su_exec.specs.inside.Coded.{AreCoded, IsCoded, meaning, meanings}
@@ -36,12 +35,3 @@ module _ (a b : List Value) (more : Extends a b) where
       let first : meaning b e ≡ meaning a e = meaning_same e (All-head (IsCoded a) e es h) in
       let rest : meanings b es ≡ meanings a es = meanings_same es (All-tail (IsCoded a) e es h) in
       ap (λ y. y ∷ meanings b es) first ∙ ap (λ ys. meaning a e ∷ ys) rest
-
--- ---- members of a list of rows
-
-pub row_of : (values : List Value) (rows : List (List ℕ)) (h : List Value) → Contains (map (map (decode values)) rows) h → (r : List ℕ) × Contains rows r × (map (decode values) r ≡ h)
-row_of values rows h c =
-    let n = length-map rows (map (decode values)) in
-    let m = c.1 in
-    let l : c.0 < length rows = omega arith in
-    (get_or rows c.0 [], Contains-get_or rows c.0 [] l, sym (get_or-map (map (decode values)) rows c.0 [] h l) ∙ c.2)

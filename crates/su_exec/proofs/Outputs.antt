@@ -1,5 +1,5 @@
 -- From what candidates show to the outputs of a task.
-use Rattle.std.proofs.Common.{◌≡◌, ℕ, zero, suc, ◌+◌, ◌<◌, ◌≤◌, ◌⊎◌, ◌↔◌, Bool, true, false, Option, Some, List, [], ◌∷◌, ◌++◌, length, get_or, Contains, refl, sym, ap, subst, ◌∙◌, inl, inr, ⊎_elim, arith, append_assoc}
+use Rattle.std.proofs.Common.{◌≡◌, ℕ, zero, suc, ◌+◌, ◌<◌, ◌≤◌, ◌⊎◌, ◌↔◌, Bool, true, false, Option, Some, List, [], ◌∷◌, ◌++◌, length, get_or, Contains, refl, sym, ap, subst, ◌∙◌, inl, inr, ⊎_elim, arith, append-nil, append_assoc}
 use Rattle.std.specs.Prelude.{map, All, pos, nat_eq, ◌&&◌, take, Result, Ok, Err, IfOk, IfErr}
 use Rattle.std.specs.List.{AllZip}
 use Rattle.std.specs.List.Sorted.{IsStrictlySortedBy}
@@ -12,7 +12,7 @@ use Rattle.std.proofs.lemmas.List.Elements.{All-cons, All-nil, All-head, All-tai
 use Rattle.std.proofs.lemmas.List.Folds.{Any-from_list_any}
 use Rattle.std.proofs.lemmas.Map.Keys.{Less-from_sorted}
 use Rattle.std.proofs.lemmas.Option.{same_Some}
-use Rattle.su_base.proofs.Items.{AllZip-push, Contains-map}
+use Rattle.su_base.proofs.Items.{AllZip-push, Contains-map, Contains-map_source}
 use Rattle.su_base.specs.declared.values.Value.{Value}
 use Rattle.su_base.specs.declared.values.Value.TheVariants.{Int}
 use Rattle.su_base.specs.Value.{compare_lists}
@@ -41,7 +41,7 @@ use Rattle.su_exec.specs.inside.Edges.{Edge, Fits, FitsAll, HaveSameValues, Keep
 use Rattle.su_reduce.specs.Sheets.{AreBelow}
 use Rattle.su_exec.specs.inside.Joins.{IsReal}
 use Rattle.su_exec.specs.Outputs.{Agrees, AreOutputs, HoldsUnder, IsOutput}
-use Rattle.su_exec.specs.inside.Shown.{AreChecksOf, AreSpotsOf, AreTermsOf, HasSomeEdge, HasVars, IsCheckOf, IsMoreBy, IsShown, IsShownBy, IsTermOf, spot_values, term_values, term_vars}
+use Rattle.su_exec.specs.inside.Shown.{AreChecksOf, AreSpotsOf, AreSymbolTerms, HasSomeEdge, HasVars, IsCheckOf, IsMoreBy, IsShown, IsShownBy, IsTermOf, spot_values, term_values, term_vars}
 use Rattle.su_exec.specs.Tasks.{IsTask, Occurs}
 use Rattle.su_exec.proofs.CodedValuations.{code_back, fits_all_codes, fits_all_values, place_in, placed}
 use Rattle.su_exec.proofs.Meanings.{edges_up, meanings_same}
@@ -66,19 +66,12 @@ spots_within vars [] (s ∷ spots) h = absurd h
 spots_within vars (t ∷ terms) [] h = absurd h
 spots_within vars (t ∷ terms) (s ∷ spots) h = All-cons (IsSpotIn (length vars) 0) s spots h.0.1 (spots_within vars terms spots h.1)
 
-mapped_of : (f : List ℕ → List Value) (rows : List (List ℕ)) (h : List Value) → Contains (map f rows) h → (r : List ℕ) × Contains rows r × (f r ≡ h)
-mapped_of f rows h c =
-    let n = length-map rows f in
-    let m = c.1 in
-    let l : c.0 < length rows = omega arith in
-    (get_or rows c.0 [], Contains-get_or rows c.0 [] l, sym (get_or-map f rows c.0 [] h l) ∙ c.2)
-
 module _ (values : List Value) (e : Edge ℕ) (terms : List CodedSymbol) (spots : List Spot) (real : IsReal e) (are : AreSpotsOf e.vars terms spots) where
   -- the values at the spots of the rows are what is shown
   pub shown : (h : List Value) → Contains (map (spot_values values spots) e.rows) h ↔ IsShown values e terms h
   shown h = (
     λ c.
-        let w = mapped_of (spot_values values spots) e.rows h c in
+        let w = Contains-map_source (spot_values values spots) e.rows h c in
         let v = All-contains (λ r. (v : ℕ → ℕ) × (map v e.vars ≡ r)) e.rows w.0 real w.1 in
         record {
           valuation = v.0;
@@ -112,7 +105,7 @@ pub term_up : (a b : List Value) (s : Sym) (t : CodedSymbol) → Extends a b →
 term_up a b (Const value) t more h = (h.0, h.1, (let l = h.2 in let m = more.longer in omega arith), more.same h.0 h.2 ∙ h.3)
 term_up a b (Var k) t more h = h
 
-pub terms_up : (a b : List Value) (symbols : List Sym) (terms : List CodedSymbol) → Extends a b → AreTermsOf a symbols terms → AreTermsOf b symbols terms
+pub terms_up : (a b : List Value) (symbols : List Sym) (terms : List CodedSymbol) → Extends a b → AreSymbolTerms a symbols terms → AreSymbolTerms b symbols terms
 terms_up a b [] [] more h = h
 terms_up a b [] (t ∷ terms) more h = absurd h
 terms_up a b (s ∷ symbols) [] more h = absurd h
@@ -126,12 +119,8 @@ checks_up a b (d ∷ comparisons) (c ∷ checks) more h =
     let first = h.0 in
     (record { left = term_up a b d.left c.left more first.left; op = first.op; right = term_up a b d.right c.right more first.right }, checks_up a b comparisons checks more h.1)
 
-append_none : (xs : List ℕ) → xs ++ [] ≡ xs
-append_none [] = refl
-append_none (x ∷ xs) = ap (λ r. x ∷ r) (append_none xs)
-
 pub vars_more : (terms : List CodedSymbol) (t : CodedSymbol) → term_vars (terms ++ t ∷ []) ≡ term_vars terms ++ vars_of t
-vars_more [] t = append_none (vars_of t)
+vars_more [] t = append-nil (vars_of t)
 vars_more (u ∷ terms) t = ap (λ r. vars_of u ++ r) (vars_more terms t) ∙ sym (append_assoc (vars_of u) (term_vars terms) (vars_of t))
 
 pub vars_step : (terms : List CodedSymbol) (i : ℕ) (d : CodedSymbol) (old new : List ℕ) → i < length terms → old ≡ term_vars (take i terms) → new ≡ old ++ vars_of (get_or terms i d) → new ≡ term_vars (take (i + 1) terms)
@@ -142,7 +131,7 @@ module _ (values : List Value) where
   sym_value w v (Const value) t h same = sym h.3 ∙ ap (λ (t : CodedSymbol). decode values (code_of w t)) (sym h.1)
   sym_value w v (Var k) t h same = same k refl ∙ ap (λ (t : CodedSymbol). decode values (code_of w t)) (sym h)
 
-  syms_values : (w : ℕ → ℕ) (v : ℕ → Value) (symbols : List Sym) (terms : List CodedSymbol) → AreTermsOf values symbols terms → ((k : ℕ) → Contains symbols (Var k) → v k ≡ decode values (w k)) → values_of v symbols ≡ term_values values terms w
+  syms_values : (w : ℕ → ℕ) (v : ℕ → Value) (symbols : List Sym) (terms : List CodedSymbol) → AreSymbolTerms values symbols terms → ((k : ℕ) → Contains symbols (Var k) → v k ≡ decode values (w k)) → values_of v symbols ≡ term_values values terms w
   syms_values w v [] [] h same = refl
   syms_values w v [] (t ∷ terms) h same = absurd h
   syms_values w v (s ∷ symbols) [] h same = absurd h
@@ -189,7 +178,7 @@ term_var values (Var j) t k h m =
     let f : j ≡ k = ⊎_elim (λ (u : nat_eq j k ≡ true). grind (arith, nat_tests, u)) (λ (u : nat_eq j k ≡ false). grind (arith, nat_tests, u, e)) (cases_Bool (nat_eq j k)) in
     ap Var f
 
-terms_vars : (values : List Value) (symbols : List Sym) (terms : List CodedSymbol) (k : ℕ) → AreTermsOf values symbols terms → has (term_vars terms) k ≡ true → Contains symbols (Var k)
+terms_vars : (values : List Value) (symbols : List Sym) (terms : List CodedSymbol) (k : ℕ) → AreSymbolTerms values symbols terms → has (term_vars terms) k ≡ true → Contains symbols (Var k)
 terms_vars values [] [] k h m = absurd (true≢false (sym m))
 terms_vars values [] (t ∷ terms) k h m = absurd h
 terms_vars values (s ∷ symbols) [] k h m = absurd h
@@ -280,7 +269,7 @@ module _ (values : List Value) (es : List (Edge ℕ)) (coded : All (IsCoded valu
       let fit : Fits v (meaning values s.edge) =
       subst (Fits v) (get_or-map (meaning values) es s.number s.edge (meaning values s.edge) sl ∙ ap (meaning values) s.is) (f s.number (meaning values s.edge) (omega arith)) in
       let c : IsCoded values s.edge = subst (IsCoded values) s.is (coded s.number s.edge sl) in
-      let w = mapped_of (map (decode values)) s.edge.rows (map v s.edge.vars) fit in
+      let w = Contains-map_source (map (decode values)) s.edge.rows (map v s.edge.vars) fit in
       let below : AreBelow w.0 (length values) = All-contains (λ r. AreBelow r (length values)) s.edge.rows w.0 c w.1 in
       let long : length w.0 ≡ length s.edge.vars = sym (length-map w.0 (decode values)) ∙ ap length w.2 ∙ length-map s.edge.vars v in
       let pl = s.place_low in
@@ -296,11 +285,11 @@ pub record IsBodyOf (tables : List Stored) (values : List Value) (task : Task) (
   pub coded : All (IsCoded values) es
   pub all : (k : ℕ) → Occurs task k → among es k ≡ true
   pub checks : AreChecksOf values task.comparisons cs
-  pub terms : AreTermsOf values task.outputs ts
+  pub terms : AreSymbolTerms values task.outputs ts
   pub apart : AreApart values
 
 pub body_of :
-    (tables : List Stored) (a b c : List Value) (task : Task) (es fs : List (Edge ℕ)) (checks : List Check) (terms : List CodedSymbol) → AreRowEdges tables a task es → HasSomeEdge es fs → Extends a b → AreChecksOf b task.comparisons checks → Extends b c → AreTermsOf c task.outputs terms
+    (tables : List Stored) (a b c : List Value) (task : Task) (es fs : List (Edge ℕ)) (checks : List Check) (terms : List CodedSymbol) → AreRowEdges tables a task es → HasSomeEdge es fs → Extends a b → AreChecksOf b task.comparisons checks → Extends b c → AreSymbolTerms c task.outputs terms
     → Extends a c → AreApart c → IsBodyOf tables c task fs checks terms
 body_of tables a b c task es fs checks terms edges some first are_checks second are_terms more apart = record {
   exact = λ v. (

@@ -40,7 +40,7 @@ module _ (needed : List ℕ) (bound : ℕ) (es rest : List (Edge ℕ)) (s u : (�
     many = record {
       member = λ i. codes_by i (cases_lt i (length over.rows));
       each = λ i h. given_by i (cases_lt i (length over.rows)) (low i h);
-      differ = λ i j l h e. over.differ i j l (low j h) (row_by i j (cases_lt i (length over.rows)) (cases_lt j (length over.rows)) (low i (omega arith)) (low j h) e);
+      differ = λ i j l h e. over.differ i j [] l (low j h) (row_by i j (cases_lt i (length over.rows)) (cases_lt j (length over.rows)) (low i (omega arith)) (low j h) e);
     };
   }
 

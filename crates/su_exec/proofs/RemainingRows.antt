@@ -24,7 +24,7 @@ use Rattle.su_exec.specs.Shares.{row_share, task_share}
 use Rattle.su_exec.proofs.Meanings.{edges_up, meanings_same}
 use Rattle.su_exec.proofs.Parts.{All_removed, All_put_back}
 use Rattle.su_exec.proofs.BodySteps.{among_first, among_last}
-use Rattle.su_exec.specs.Tasks.{StandsIn}
+use Rattle.su_exec.specs.Tasks.{StandsIn, no_row}
 
 -- row i agrees with a stored row
 abbrev pub AgreesAt : List Stored → (ℕ → Value) → Task → ℕ → Type 0
@@ -39,10 +39,7 @@ pub record AreSoFar (tables : List Stored) (values : List Value) (task : Task) (
 
 -- the shares of the rows that are left
 abbrev pub left_share : List Stored → Task → List ℕ → ℕ
-left_share tables task left = sum (map (λ i. row_share tables (slice_index_or task.rows i (record { cells = []; sources = [] }))) left)
-
-abbrev no_row : TaskRow
-no_row = record { cells = []; sources = [] }
+left_share tables task left = sum (map (λ i. row_share tables (slice_index_or task.rows i no_row)) left)
 
 -- what all of a list and one more have
 all_but_last : {X : Type 0} (P : X → Type 0) (xs : List X) (x : X) → All P (xs ++ x ∷ []) → All P xs × P x

@@ -3,6 +3,7 @@ use Rattle.std.proofs.Common.{◌≡◌, ℕ, ◌+◌, ◌<◌, ◌≤◌, ◌�
 use Rattle.std.specs.Prelude.{map, All}
 use Rattle.std.proofs.lemmas.Bool.{cases_lt}
 use Rattle.std.proofs.lemmas.Option.{slice_get_within, slice_get_read, get_or_from_slice_get, same_Some}
+use Rattle.su_base.proofs.Items.{Contains-map_source}
 use Rattle.su_base.specs.declared.values.Value.{Value}
 use Rattle.su_rel.specs.Stored.{Stored, IsRelation}
 use Rattle.su_tableau.specs.declared.symbols.Sym.{Sym}
@@ -16,7 +17,7 @@ use Rattle.su_exec.specs.inside.Edges.{Edge, FitsAll}
 use Rattle.su_exec.specs.Outputs.{values_at}
 use Rattle.su_exec.specs.Tasks.{FitsTables}
 use Rattle.su_exec.specs.inside.Ways.{AreReached, IsAgreed, IsFrom, IsFromListed}
-use Rattle.su_exec.proofs.Meanings.{meanings_same, row_of}
+use Rattle.su_exec.proofs.Meanings.{meanings_same}
 use Rattle.su_exec.proofs.GatheredRows.{gathered_as}
 use Rattle.su_exec.proofs.PartSteps.{agree_at}
 use Rattle.su_exec.proofs.CellShapes.{shape_has, taken_is}
@@ -179,7 +180,7 @@ row_edge tables olds news es row vars firsts places rows shape coded g = record 
           };
         })),
     λ fit.
-        let w = row_of news rows (map v vars) fit in
+        let w = Contains-map_source (map (decode news)) rows (map v vars) fit in
         ⊎_elim
         (λ (none : Contains [] w.0). absurd (let l = none.1 in omega arith))
         (λ (p : IsOfSources tables row firsts (length row.sources) (map (decode news) w.0)).

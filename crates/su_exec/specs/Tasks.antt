@@ -1,7 +1,7 @@
 -- Tasks: what is to be joined.
 -- row: cells, which are symbols, and sources, where its rows are stored; source: a table's number, and the column of each cell
 -- comparison: two symbols and an operator; outputs: the symbols whose values are asked for
-use Rattle.std.specs.Prelude.{◌≡◌, ◌≤◌, ◌<◌, ℕ, List, length, All, Contains, slice_index_or}
+use Rattle.std.specs.Prelude.{◌≡◌, ◌≤◌, ◌<◌, ℕ, List, [], length, All, Contains, slice_index_or}
 use Rattle.su_rel.specs.Stored.{Stored}
 use Rattle.su_index.specs.Tables.{table_at}
 use Rattle.su_tableau.specs.declared.symbols.Sym.TheVariants.{Var}
@@ -9,6 +9,10 @@ use Rattle.su_exec.specs.declared.tasks.Source.{Source}
 use Rattle.su_exec.specs.declared.tasks.TaskRow.{TaskRow}
 use Rattle.su_exec.specs.declared.tasks.Compared.{Compared}
 use Rattle.su_exec.specs.declared.tasks.Task.{Task}
+
+-- stands where a task has no such row
+abbrev pub no_row : TaskRow
+no_row = record { cells = []; sources = [] }
 
 -- variable k is a cell of row i
 pub record StandsIn (task : Task) (k i : ℕ) : Type 0 where

@@ -57,7 +57,7 @@ impl Candidates {
         requires apart { IsApart vars.items }
         ensures { result ≡ record { vars = vars.items; rows = rows.rows } }
     {
-        rows.widths();
+        rows.keeps_its_rules();
         Candidates::new(vars, rows)
     }
 
@@ -76,7 +76,8 @@ impl Candidates {
         requires some { (r : List ℕ) → Contains rows.rows r → Contains self.now.rows r }
         ensures { IfOk result (λ e. e ≡ record { vars = self.now.vars; rows = rows.rows }) }
     {
-        self.rows();
+        // For the proof: the rows are real.
+        let _rows = self.rows();
         let vars = Vec::from_slice(alloc, &self.vars)?;
         Ok(Candidates::new(vars, rows))
     }

@@ -10,7 +10,6 @@ ghost use Rattle.su_exec.specs.inside.Threes.{IsBlock, edges_of};
 
 use crate::candidates::{Candidates, join_all};
 use crate::joins::add_cells;
-use crate::narrowing::push_if;
 use crate::places::{is_in, place_of};
 use crate::threes::{BLOCKS, blocks_of};
 use std::alloc::{AllocError, Global};
@@ -127,7 +126,7 @@ fn block(
     let mut some = Sheet::new(alloc, rows.width());
     for i in 0..rows.len() {
         let here = is_in_block(blocks, i, n);
-        push_if(&mut some, rows.row(i), here)?;
+        some.push_if(here, rows.row(i))?;
     }
     let part = a.with_rows(alloc, some)?;
     Ok(part)

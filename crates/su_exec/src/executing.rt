@@ -1,7 +1,7 @@
 //! The outputs of all valuations.
 ghost use Rattle.std.specs.Prelude.{◌≡◌, ◌≤◌, ◌+◌, length, IfOk, IfErr};
 ghost use Rattle.su_reduce.specs.Codes.{Extends};
-ghost use Rattle.su_exec.specs.inside.Shown.{AreChecksOf, AreTermsOf, HasSomeEdge, HasVars, IsCheckOf, IsMoreBy, IsShownBy, IsTermOf, term_vars};
+ghost use Rattle.su_exec.specs.inside.Shown.{AreChecksOf, AreSymbolTerms, HasSomeEdge, HasVars, IsCheckOf, IsMoreBy, IsShownBy, IsTermOf, term_vars};
 ghost use Rattle.su_exec.specs.Tasks.{IsTask};
 ghost use Rattle.su_exec.specs.Outputs.{IsOutput, AreOutputs};
 ghost use Rattle.su_rel.specs.MoreThan.{AreMoreThan};
@@ -40,7 +40,7 @@ fn terms_of(
     codes: &mut Codes,
     symbols: &List<Sym>,
 ) -> Result<Vec<CodedSymbol>, AllocError>
-    ensures terms { IfOk result (λ terms. AreTermsOf codes.new symbols.now terms.items) }
+    ensures terms { IfOk result (λ terms. AreSymbolTerms codes.new symbols.now terms.items) }
     ensures codes { IfOk result (λ _. Extends codes.old codes.new) }
 {
     let mut terms = Vec::new(alloc);
@@ -146,7 +146,7 @@ fn execute_by<R: Rows>(
     let checks = checks_of(alloc, codes, task)?;
     let outputs = terms_of(alloc, codes, &task.outputs)?;
     let needed = variables_of(alloc, &outputs)?;
-    codes.apart();
+    codes.keeps_its_rules();
     let body = Body { edges, checks };
     let merged = run(alloc, codes, body, &needed, Some(cap as usize))?;
     shown(alloc, codes, merged, &outputs, cap)

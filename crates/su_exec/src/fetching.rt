@@ -211,11 +211,11 @@ fn candidates_of<R: Rows>(
 {
     let shape = shape_of(alloc, &row.cells)?;
     let mut out = Gathered::new(alloc, shape.firsts.len())?;
-    for s in 0..row.sources.len() {
+    for source in row.sources.as_slice() {
         let aim = Aim {
             row,
             shape: &shape,
-            source: row.sources.get(s),
+            source,
         };
         fetch_source(alloc, rows, codes, &aim, edges, &mut out)?;
     }

@@ -1,7 +1,8 @@
 //! The join of two lists of rows of codes, of which some columns are kept.
 ghost use Rattle.std.specs.Prelude.{◌≡◌, ◌↔◌, ◌⊎◌, ℕ, ◌+◌, ◌<◌, List, ◌++◌, length, Contains, IsTrue, IfOk, MatchBool};
 ghost use Rattle.su_reduce.specs.Chains.{IsChain};
-ghost use Rattle.su_reduce.specs.Sheets.{pick, AllDiffer, AreBelow};
+ghost use Rattle.su_base.specs.Lists.{AllDiffer};
+ghost use Rattle.su_reduce.specs.Sheets.{pick, AreBelow};
 ghost use Rattle.su_exec.specs.inside.Additions.{AddsOnly, HasEachUpTo};
 ghost use Rattle.su_exec.specs.inside.Joins.{IsJoin, IsUpTo};
 ghost use Rattle.su_exec.specs.inside.Plans.{AreHeads, FitsPlan, GivesBy, IsMade, columns_of, made_of, passes_of};

@@ -36,4 +36,4 @@ mod threes;
 
 pub use connecting::components;
 pub use executing::execute;
-pub use tasks::{Compared, ExecFault, Source, Task, TaskRow};
+pub use tasks::{Compared, ExecFault, Source, Task, TaskRow, copy_sources};

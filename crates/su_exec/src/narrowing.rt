@@ -1,5 +1,5 @@
 //! Comparisons as ranges: rows go that the least or greatest value of the other side already excludes.
-ghost use Rattle.std.specs.Prelude.{◌≡◌, ◌<◌, ◌↔◌, ◌++◌, ℕ, true, [], ◌∷◌, cond, length, Contains, IfSome, IfOk};
+ghost use Rattle.std.specs.Prelude.{◌≡◌, ◌<◌, length, IfSome, IfOk};
 ghost use Rattle.su_base.specs.declared.values.Value.{Value as AValue};
 ghost use Rattle.su_where.specs.Operator.{compares};
 ghost use Rattle.su_exec.specs.inside.Checks.{IsTestIn, all_hold, check_holds, test_passes};
@@ -75,18 +75,6 @@ fn bound_for(codes: &Codes, edges: &[Candidates], y: u32, side: Op) -> Option<u3
     None
 }
 
-/// Puts the row last, if it passes.
-pub fn push_if(rows: &mut Sheet, row: &[u32], passes: bool) -> Result<(), AllocError>
-    requires { length row.now ≡ rows.old.width }
-    ensures width { rows.new.width ≡ rows.old.width }
-    ensures rows { IfOk result (λ _. rows.new.rows ≡ rows.old.rows ++ cond passes (row.now ∷ []) []) }
-{
-    if passes {
-        rows.push(row)?;
-    }
-    Ok(())
-}
-
 /// The rows that pass the test.
 fn passing(alloc: Global, codes: &Codes, edge: &Candidates, test: Test) -> Result<Sheet, AllocError>
     requires { IsTestIn (length edge.now.vars) 0 test }
@@ -97,7 +85,7 @@ fn passing(alloc: Global, codes: &Codes, edge: &Candidates, test: Test) -> Resul
     for i in 0..edge.len() {
         let row = edge.rows().row(i);
         let passes = passes_one(codes, test, row, &[]);
-        push_if(&mut rows, row, passes)?;
+        rows.push_if(passes, row)?;
     }
     Ok(rows)
 }

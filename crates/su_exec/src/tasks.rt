@@ -1,8 +1,8 @@
 //! What is to be joined, and why it is not answered.
-ghost use Rattle.std.specs.Prelude.{◌≡◌};
+ghost use Rattle.std.specs.Prelude.{◌≡◌, IfOk};
 ghost use Rattle.su_exec.specs.declared.tasks.ExecFault.TheVariants.{NoMemory as OutOfMemory};
 
-use std::alloc::AllocError;
+use std::alloc::{AllocError, Global};
 use su_base::{List, NoMemory};
 use su_tableau::Sym;
 use su_where::Op;
@@ -13,6 +13,29 @@ use thiserror::Error;
 pub struct Source {
     pub relation: u8,
     pub columns: List<u8>,
+}
+
+impl Source {
+    /// An equal source of its own.
+    fn copy(&self, alloc: Global) -> Result<Source, NoMemory>
+        ensures { IfOk result (λ source. source ≡ self.now) }
+    {
+        Ok(Source {
+            relation: self.relation,
+            columns: List::from_vec(Vec::from_slice(alloc, self.columns.as_slice())?),
+        })
+    }
+}
+
+/// Equal sources of their own.
+pub fn copy_sources(alloc: Global, sources: &[Source]) -> Result<List<Source>, NoMemory>
+    ensures { IfOk result (λ copied. copied ≡ sources.now) }
+{
+    let mut copied = List::new(alloc);
+    for source in sources {
+        copied.push(source.copy(alloc)?)?;
+    }
+    Ok(copied)
 }
 
 /// Symbols that stand for a stored row, and the sources that it may come from.

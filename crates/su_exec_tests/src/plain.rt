@@ -1,8 +1,8 @@
 //! A store that is no table of su_index: plain rows, searched by a look at each.
-ghost use Rattle.std.specs.Prelude.{◌≡◌, ◌<◌, ◌≤◌, ◌+◌, List as Items, ℕ, IfOk, length, slice_index_or};
+ghost use Rattle.std.specs.Prelude.{◌≡◌, ◌<◌, ◌≤◌, IfOk, length, slice_index_or};
 ghost use Rattle.su_rel.specs.Stored.{Stored, IsRelation};
 ghost use Rattle.su_index.specs.Matches.{AreAdded, has_value, matches};
-ghost use Rattle.su_exec_tests.specs.inside.Scans.{AreAddedBelow};
+ghost use Rattle.su_exec_tests.specs.inside.Scans.{AddsNext};
 
 use std::alloc::{AllocError, Global};
 use std::marker::Model;
@@ -77,8 +77,8 @@ fn count_with(rows: &[Row], column: u8, value: &Value) -> usize
     ensures { result ≡ matches column value.now rows.now }
 {
     let mut count = 0;
-    for i in 0..rows.len() {
-        if has(&rows[i], column, value) {
+    for row in rows {
+        if has(row, column, value) {
             count += 1;
         }
     }
@@ -94,7 +94,7 @@ fn add_if(
     positions: &mut Vec<usize>,
 ) -> Result<(), AllocError>
     requires { i < length rows.now }
-    ensures { IfOk result (λ _. (before : Items ℕ) → AreAddedBelow column value.now rows.now i before positions.old.items → AreAddedBelow column value.now rows.now (i + 1) before positions.new.items) }
+    ensures { IfOk result (λ _. AddsNext column value.now rows.now i positions.old.items positions.new.items) }
 {
     if has(&rows[i], column, value) {
         positions.push(i)?;

@@ -240,8 +240,8 @@ fn has_variable(cells: &[Sym], k: u32) -> bool
 fn stands_in_some(task: &Task, k: u32) -> bool
     ensures { OnTrue result (Occurs task.now k) }
 {
-    for i in 0..task.rows.len() {
-        if has_variable(task.rows.get(i).cells.as_slice(), k) {
+    for row in task.rows.as_slice() {
+        if has_variable(row.cells.as_slice(), k) {
             return true;
         }
     }

@@ -10,9 +10,8 @@ use Rattle.std.specs.VecDeque.{deque_len}
 use Rattle.su_index.specs.declared.entry.Entry.{Entry}
 use Rattle.su_index.specs.declared.chunk.Chunk.{Chunk}
 use Rattle.su_index.specs.declared.place.ChunkPlace.{ChunkPlace}
-use Rattle.su_index.specs.Chunks.{entries_of, len_at, HaveEntries}
-use Rattle.su_index.specs.Entries.{positions, stretch}
-use Rattle.su_index.specs.inside.Chunks.{capacity_at, before_chunk, rank_in, IsGap, IsPlace, HasRoomFrom}
+use Rattle.su_index.specs.Entries.{entries_of, positions, stretch}
+use Rattle.su_index.specs.inside.Chunks.{len_at, HaveEntries, capacity_at, before_chunk, rank_in, IsGap, IsPlace, HasRoomFrom}
 
 -- ---- where an entry stands
 

@@ -13,7 +13,8 @@ use Rattle.su_base.specs.declared.values.Value.TheVariants.{Int}
 use Rattle.su_index.specs.declared.alike.Alike.{Alike}
 use Rattle.su_index.specs.declared.alike.Alike.TheVariants.{Nowhere, MaybeAt, Unknown}
 use Rattle.su_index.specs.declared.notes.Notes.{Notes}
-use Rattle.su_index.specs.Notes.{AgreeAt, digest_with, digest_at, digest_of, IsNoted, AreNoted, AllAreNotes, Tells}
+use Rattle.su_index.specs.Notes.{AgreeAt, Tells}
+use Rattle.su_index.specs.inside.Notes.{digest_with, digest_at, digest_of, IsNoted, AreNoted, AllAreNotes}
 
 same_at : (row other : List Value) (c : ℕ) (d : Value) → slice_get row c ≡ slice_get other c → get_or row c d ≡ get_or other c d
 same_at row other c d same = sym (unwrap_or-slice_get row c d) ∙ ap (λ o. unwrap_or o d) same ∙ unwrap_or-slice_get other c d

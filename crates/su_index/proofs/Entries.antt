@@ -8,11 +8,11 @@ use Rattle.std.proofs.lemmas.List.Elements.{All-nil, All-cons, All-append, All-p
 use Rattle.std.proofs.lemmas.List.Sorted.{All-permutation}
 use Rattle.su_base.specs.declared.values.Value.{Value}
 use Rattle.su_index.specs.declared.entry.Entry.{Entry}
-use Rattle.su_index.specs.Entries.{positions, stretch, HaveLeads, IsIndexWithLeads}
-use Rattle.su_index.specs.inside.Entries.{IsRunWithLeads, kept_entry, kept_entries}
-use Rattle.su_index.specs.Lead.{IsLead}
-use Rattle.su_index.specs.Order.{compare_keys, compare_places, count_below, IsRun}
-use Rattle.su_index.specs.inside.Order.{ArePositions, comes_before, with_value, is_kept, rank_of}
+use Rattle.su_index.specs.Entries.{positions, stretch}
+use Rattle.su_index.specs.inside.Entries.{HaveLeads, IsIndexWithLeads, IsRunWithLeads, kept_entry, kept_entries}
+use Rattle.su_index.specs.inside.Lead.{IsLead}
+use Rattle.su_index.specs.inside.Order.{compare_keys, compare_places, count_below, IsRun}
+use Rattle.su_index.specs.inside.Spans.{ArePositions, comes_before, with_value, is_kept, rank_of}
 use Rattle.su_index.proofs.Changed.{index-same, index_add, index_of_run, index_removed, with_value-itself, with_value-other, with_value-same, empty_run}
 use Rattle.su_index.specs.inside.Keys.{Key}
 use Rattle.su_index.proofs.Keys.{key_cmp, IsRun-sorted}

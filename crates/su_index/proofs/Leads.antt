@@ -8,8 +8,8 @@ use Rattle.std.proofs.lemmas.Bool.Decides.{nat_tests}
 use Rattle.su_base.specs.declared.values.Value.{Value}
 use Rattle.su_base.specs.Value.{compare_values}
 use Rattle.su_base.proofs.Rows.{equal_values}
-use Rattle.su_index.specs.Lead.{lead_of, IsLead}
-use Rattle.su_index.specs.Order.{compare_keys}
+use Rattle.su_index.specs.inside.Lead.{lead_of, IsLead}
+use Rattle.su_index.specs.inside.Order.{compare_keys}
 
 apart_still : (c o : Ordering) → is_eq o ≡ false → is_eq (ordering_then c o) ≡ false
 apart_still Less o e = refl

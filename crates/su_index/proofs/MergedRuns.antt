@@ -12,8 +12,8 @@ use Rattle.std.proofs.lemmas.List.Elements.{recursion_from_All}
 use Rattle.std.proofs.lemmas.Map.Keys.{sorted_head}
 use Rattle.su_base.specs.declared.values.Value.{Value}
 use Rattle.su_base.proofs.Numbers.{is_lt-Less}
-use Rattle.su_index.specs.Order.{compare_keys, compare_places, count_below, IsRun}
-use Rattle.su_index.specs.inside.Order.{comes_before}
+use Rattle.su_index.specs.inside.Order.{compare_keys, compare_places, count_below, IsRun}
+use Rattle.su_index.specs.inside.Spans.{comes_before}
 use Rattle.su_index.proofs.Runs.{places_total, count_by-cons, count_by-append, Before, AllBefore, Before-append_left, Before-append_right, sorted-append, sorted-append_left, sorted-append_before, sorted_one, sorted_nil, sorted-drop}
 use Rattle.su_index.proofs.Spans.{run_positions, run_from}
 use Rattle.su_index.proofs.Changed.{after}

@@ -9,8 +9,8 @@ use Rattle.std.proofs.lemmas.Bool.{false≢true, cases_eq}
 use Rattle.std.proofs.lemmas.Map.Keys.{Less-from_sorted}
 use Rattle.su_base.specs.declared.values.Value.{Value}
 use Rattle.su_base.proofs.Numbers.{is_lt-Less}
-use Rattle.su_index.specs.Order.{compare_keys, compare_places, compare_entries}
-use Rattle.su_index.specs.inside.Order.{comes_before, has_at}
+use Rattle.su_index.specs.inside.Order.{compare_keys, compare_places, compare_entries}
+use Rattle.su_index.specs.inside.Spans.{comes_before, has_at}
 use Rattle.su_index.proofs.Runs.{keys_total}
 use Rattle.su_index.proofs.Spans.{is_equal}
 

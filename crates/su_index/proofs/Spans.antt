@@ -13,8 +13,8 @@ use Rattle.std.proofs.lemmas.Map.Keys.{Less-from_sorted}
 use Rattle.su_base.specs.declared.values.Value.{Value}
 use Rattle.su_base.specs.declared.values.Value.TheVariants.{Int}
 use Rattle.su_index.specs.Matches.{has_value, matches, AreMatches, IsMatch}
-use Rattle.su_index.specs.Order.{compare_keys, compare_places, value_at, count_below, IsRun, IsIndex}
-use Rattle.su_index.specs.inside.Order.{comes_before, has_at, HaveColumn, ArePositions, IsSpan}
+use Rattle.su_index.specs.inside.Order.{compare_keys, compare_places, value_at, count_below, IsRun, IsIndex}
+use Rattle.su_index.specs.inside.Spans.{comes_before, has_at, HaveColumn, ArePositions, IsSpan}
 use Rattle.su_index.proofs.Leads.{same_values}
 use Rattle.su_index.proofs.Runs.{keys_total, count_below-same, count_below-upto, count_by-cons, count_by-block}
 

@@ -9,11 +9,11 @@ use Rattle.su_base.specs.declared.values.Value.TheVariants.{Int}
 use Rattle.su_rel.specs.Changes.{PutInAll}
 use Rattle.su_rel.specs.Stored.{Stored}
 use Rattle.su_index.specs.declared.index.Index.{Index}
-use Rattle.su_index.specs.Indexed.{AreIndexesBelow, IsIndexed, entries_in}
-use Rattle.su_index.specs.inside.Indexed.{AreIndexesWithout, HavePositions, AreKept}
+use Rattle.su_index.specs.inside.Indexed.{AreIndexesBelow, IsIndexed, entries_in}
+use Rattle.su_index.specs.inside.Upkeep.{AreIndexesWithout, HavePositions, AreKept}
 use Rattle.su_index.specs.inside.Entries.{IsRunWithLeads}
-use Rattle.su_index.specs.Order.{value_at}
-use Rattle.su_index.specs.inside.Order.{rank_of, with_value}
+use Rattle.su_index.specs.inside.Order.{value_at}
+use Rattle.su_index.specs.inside.Spans.{rank_of, with_value}
 use Rattle.su_index.proofs.Ranks.{kept_row, kept_rows_length, rank-le}
 use Rattle.su_index.proofs.Changed.{positions_more, with_value-itself, with_value-other}
 use Rattle.su_index.proofs.Entries.{index_length, index_with-same, index_with-run, index_with-kept, empty_run_with}

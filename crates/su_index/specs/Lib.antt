@@ -1,9 +1,5 @@
-pub mod Chunks
 pub mod Entries
-pub mod Indexed
 pub mod inside
-pub mod Lead
 pub mod Matches
 pub mod Notes
-pub mod Order
 pub mod Tables

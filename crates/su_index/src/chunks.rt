@@ -5,9 +5,8 @@ ghost use Rattle.std.specs.Prelude.{◌≡◌, ◌≢◌, ◌<◌, ◌≤◌, �
 ghost use Rattle.std.specs.Bool.{OnTrue, OnFalse};
 ghost use Rattle.std.specs.List.{insert};
 ghost use Rattle.std.specs.VecDeque.{deque_len, deque_capacity};
-ghost use Rattle.su_index.specs.Chunks.{entries_of, len_at, HaveEntries};
-ghost use Rattle.su_index.specs.Entries.{stretch};
-ghost use Rattle.su_index.specs.inside.Chunks.{capacity_at, before_chunk, rank_in, with_entry, without_entry, IsGap, IsPlace, HasRoom, HasRoomFrom};
+ghost use Rattle.su_index.specs.Entries.{entries_of, stretch};
+ghost use Rattle.su_index.specs.inside.Chunks.{len_at, HaveEntries, capacity_at, before_chunk, rank_in, with_entry, without_entry, IsGap, IsPlace, HasRoom, HasRoomFrom};
 ghost use Rattle.su_index.specs.declared.chunk.Chunk.{Chunk as Piece};
 
 use crate::chunk::Chunk;

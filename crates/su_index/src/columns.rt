@@ -1,8 +1,8 @@
 //! The indexes of all columns.
 ghost use Rattle.std.specs.Prelude.{◌≡◌, ◌<◌, ◌≤◌, ◌+◌, ◌^◌, ℕ, length, slice_index_or, IfOk, OnOk};
 ghost use Rattle.su_rel.specs.Stored.{HaveWidth};
-ghost use Rattle.su_index.specs.Indexed.{AreIndexesBelow, entries_in};
-ghost use Rattle.su_index.specs.inside.Indexed.{HaveRoom, AreIndexesWithout, AreRuns};
+ghost use Rattle.su_index.specs.inside.Indexed.{AreIndexesBelow, entries_in};
+ghost use Rattle.su_index.specs.inside.Upkeep.{HaveRoom, AreIndexesWithout, AreRuns};
 ghost use Rattle.su_index.specs.declared.index.Index.{Index as Indexed};
 
 use crate::index::Index;

@@ -1,12 +1,11 @@
 //! One entry into an index, or out of it.
 ghost use Rattle.std.specs.Prelude.{◌≡◌, ◌<◌, ◌+◌, length, Contains};
-ghost use Rattle.su_index.specs.Chunks.{entries_of, HaveEntries};
-ghost use Rattle.su_index.specs.inside.Chunks.{HasRoom};
-ghost use Rattle.su_index.specs.Entries.{positions, HaveLeads};
+ghost use Rattle.su_index.specs.Entries.{entries_of, positions};
+ghost use Rattle.su_index.specs.inside.Chunks.{HaveEntries, HasRoom};
+ghost use Rattle.su_index.specs.inside.Entries.{HaveLeads, AreOrdered};
 ghost use Rattle.su_index.specs.inside.Edits.{LacksOne, HasOneMore, HasOther};
-ghost use Rattle.su_index.specs.inside.Entries.{AreOrdered};
-ghost use Rattle.su_index.specs.Order.{value_at};
-ghost use Rattle.su_index.specs.inside.Order.{with_value, HaveColumn, ArePositions};
+ghost use Rattle.su_index.specs.inside.Order.{value_at};
+ghost use Rattle.su_index.specs.inside.Spans.{with_value, HaveColumn, ArePositions};
 
 use crate::chunk::Chunk;
 use crate::chunks::{put_at, shift, take_at};

@@ -1,12 +1,11 @@
 //! Searches in the chunks of an index.
 ghost use Rattle.std.specs.Prelude.{◌≡◌, ◌<◌, ◌≤◌, ◌+◌, ◌-◌, ◌^◌, length, slice_index_or};
-ghost use Rattle.su_index.specs.Chunks.{entries_of, len_at, HaveEntries};
-ghost use Rattle.su_index.specs.inside.Chunks.{before_chunk, rank_in, IsPlace};
-ghost use Rattle.su_index.specs.Entries.{positions, HaveLeads};
-ghost use Rattle.su_index.specs.Lead.{IsLead};
-ghost use Rattle.su_index.specs.Order.{value_at};
-ghost use Rattle.su_index.specs.inside.Entries.{AreOrdered};
-ghost use Rattle.su_index.specs.inside.Order.{HaveColumn, ArePositions};
+ghost use Rattle.su_index.specs.Entries.{entries_of, positions};
+ghost use Rattle.su_index.specs.inside.Chunks.{len_at, HaveEntries, before_chunk, rank_in, IsPlace};
+ghost use Rattle.su_index.specs.inside.Entries.{HaveLeads, AreOrdered};
+ghost use Rattle.su_index.specs.inside.Lead.{IsLead};
+ghost use Rattle.su_index.specs.inside.Order.{value_at};
+ghost use Rattle.su_index.specs.inside.Spans.{HaveColumn, ArePositions};
 ghost use Rattle.su_index.specs.inside.Searches.{AreBefore, NoneBefore, NoneBeforeAtEnd, IsSpanIn};
 ghost use Rattle.su_index.specs.declared.chunk.Chunk.{Chunk as Piece};
 

@@ -1,7 +1,6 @@
 //! The rows that have a value in a column.
 ghost use Rattle.std.specs.Prelude.{◌≡◌, ◌≤◌, ◌<◌, ◌+◌, ◌↔◌, ◌^◌, ◌++◌, IsTrue, IfOk, Some, length, slice_get};
-ghost use Rattle.su_index.specs.Chunks.{entries_of};
-ghost use Rattle.su_index.specs.Entries.{stretch};
+ghost use Rattle.su_index.specs.Entries.{entries_of, stretch};
 
 use crate::chunk::Chunk;
 use crate::chunks::{add_stretch, entry_at};
@@ -21,8 +20,7 @@ pub struct Found<'a> {
 
 impl<'a> Model for Found<'a> {
     ghost use Rattle.std.specs.Prelude.{◌≤◌, ◌<◌, ◌+◌, ◌^◌, ℕ, List, length};
-    ghost use Rattle.su_index.specs.Chunks.{entries_of};
-    ghost use Rattle.su_index.specs.Entries.{stretch};
+    ghost use Rattle.su_index.specs.Entries.{entries_of, stretch};
 
     ghost Value = { List ℕ };
 

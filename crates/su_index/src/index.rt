@@ -1,12 +1,12 @@
 //! The index of one column.
 ghost use Rattle.std.specs.Prelude.{◌≡◌, ◌<◌, ◌≤◌, ◌+◌, ◌^◌, length, [], IfOk, OnOk};
 ghost use Rattle.su_index.specs.inside.Chunks.{HasRoom};
-ghost use Rattle.su_index.specs.Indexed.{IsIndexBelow, entries_in};
-ghost use Rattle.su_index.specs.inside.Indexed.{IsIndexOf, IsIndexWithout};
+ghost use Rattle.su_index.specs.inside.Indexed.{IsIndexBelow, entries_in};
+ghost use Rattle.su_index.specs.inside.Upkeep.{IsIndexOf, IsIndexWithout};
 ghost use Rattle.su_index.specs.inside.Entries.{IsRunWithLeads};
 ghost use Rattle.su_index.specs.Matches.{matches, AreMatches, IsMatch};
-ghost use Rattle.su_index.specs.Order.{value_at};
-ghost use Rattle.su_index.specs.inside.Order.{HaveColumn};
+ghost use Rattle.su_index.specs.inside.Order.{value_at};
+ghost use Rattle.su_index.specs.inside.Spans.{HaveColumn};
 
 use crate::chunk::Chunk;
 use crate::chunks::{between, chunks_of, flat, is_sparse, make_room};

@@ -2,8 +2,8 @@
 ghost use Rattle.std.specs.Prelude.{◌≡◌, ◌<◌, ◌^◌, ℕ, cond, length, slice_index, IfOk};
 ghost use Rattle.su_index.specs.Entries.{positions};
 ghost use Rattle.su_index.specs.inside.Entries.{kept_entries};
-ghost use Rattle.su_index.specs.inside.Indexed.{HavePositions, AreKept};
-ghost use Rattle.su_index.specs.inside.Order.{rank_of, ArePositions};
+ghost use Rattle.su_index.specs.inside.Upkeep.{HavePositions, AreKept};
+ghost use Rattle.su_index.specs.inside.Spans.{rank_of, ArePositions};
 
 use crate::chunks::{chunks_of, flat};
 use crate::entry::Entry;

@@ -1,7 +1,7 @@
 //! A number for each value, the same for equal values. A sort and a search compare it first, and
 //! values only where it is the same; few values share one.
 ghost use Rattle.std.specs.Prelude.{◌≡◌};
-ghost use Rattle.su_index.specs.Lead.{lead_of_number, lead_of_bytes, IsLead};
+ghost use Rattle.su_index.specs.inside.Lead.{lead_of_number, lead_of_bytes, IsLead};
 
 use su_base::Value;
 

@@ -4,7 +4,8 @@ ghost use Rattle.std.specs.FinSet as set;
 ghost use Rattle.su_base.specs.declared.values.Value.{Value as Stored};
 ghost use Rattle.su_rel.specs.Stored.{HaveWidth};
 ghost use Rattle.su_index.specs.declared.notes.Notes.{Notes as Noted};
-ghost use Rattle.su_index.specs.Notes.{digest_of, IsNoted, AreNoted, AreNotes, AllAreNotes, Tells};
+ghost use Rattle.su_index.specs.inside.Notes.{digest_of, IsNoted, AreNoted, AreNotes, AllAreNotes};
+ghost use Rattle.su_index.specs.Notes.{Tells};
 
 use crate::alike::Alike;
 use crate::lead::lead;

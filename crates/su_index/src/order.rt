@@ -2,11 +2,11 @@
 ghost use Rattle.std.specs.Prelude.{◌≡◌, ◌<◌, ◌≤◌, true, IsTrue, length};
 ghost use Rattle.std.specs.Ordering.{nat_cmp, ordering_then, is_lt};
 ghost use Rattle.su_base.specs.Value.{compare_values};
-ghost use Rattle.su_index.specs.Entries.{positions, HaveLeads};
-ghost use Rattle.su_index.specs.Lead.{IsLead};
-ghost use Rattle.su_index.specs.Order.{value_at, compare_keys};
-ghost use Rattle.su_index.specs.inside.Entries.{AreOrdered};
-ghost use Rattle.su_index.specs.inside.Order.{comes_before, has_at, HaveColumn, ArePositions};
+ghost use Rattle.su_index.specs.Entries.{positions};
+ghost use Rattle.su_index.specs.inside.Entries.{HaveLeads, AreOrdered};
+ghost use Rattle.su_index.specs.inside.Lead.{IsLead};
+ghost use Rattle.su_index.specs.inside.Order.{value_at, compare_keys};
+ghost use Rattle.su_index.specs.inside.Spans.{comes_before, has_at, HaveColumn, ArePositions};
 ghost use Rattle.su_index.specs.inside.Searches.{AreBefore, NoneBefore};
 
 use crate::entry::Entry;

@@ -1,10 +1,10 @@
 //! Runs made at once: by a sort, and of two runs.
 ghost use Rattle.std.specs.Prelude.{◌≡◌, ◌<◌, ◌≤◌, ◌+◌, ◌^◌, length, map, All, IfOk};
 ghost use Rattle.su_index.specs.inside.Entries.{IsRunWithLeads};
-ghost use Rattle.su_index.specs.Lead.{IsLead};
+ghost use Rattle.su_index.specs.inside.Lead.{IsLead};
 ghost use Rattle.su_index.specs.inside.Keys.{AreEachOnce};
-ghost use Rattle.su_index.specs.Order.{value_at};
-ghost use Rattle.su_index.specs.inside.Order.{HaveColumn};
+ghost use Rattle.su_index.specs.inside.Order.{value_at};
+ghost use Rattle.su_index.specs.inside.Spans.{HaveColumn};
 
 use crate::entry::Entry;
 use crate::lead::lead;

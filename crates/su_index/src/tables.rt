@@ -36,8 +36,8 @@ impl Model for Table {
 
     ghost Value = { Stored };
 
-    ghost use Rattle.su_index.specs.Indexed.{IsIndexed};
-    ghost use Rattle.su_index.specs.Notes.{AllAreNotes};
+    ghost use Rattle.su_index.specs.inside.Indexed.{IsIndexed};
+    ghost use Rattle.su_index.specs.inside.Notes.{AllAreNotes};
 
     ghost view = { λ t. t.rows };
 

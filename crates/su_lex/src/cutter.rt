@@ -70,7 +70,8 @@ fn statement(total: usize, bytes: &[u8], behind: &[u8]) -> Option<Span>
     })
 }
 
-fn push_if(spans: &mut List<Span>, span: Option<Span>) -> Result<(), NoMemory>
+/// Adds the statement, if there is one.
+fn push_statement(spans: &mut List<Span>, span: Option<Span>) -> Result<(), NoMemory>
     ensures { OnOk result (spans.new ≡ spans.old ++ added span []) }
 {
     if let Some(span) = span {
@@ -100,7 +101,7 @@ pub fn cut(alloc: Global, bytes: &[u8]) -> Result<List<Span>, NoMemory>
     let mut rest = without_mark(bytes);
     while !rest.is_empty() {
         let behind = after_piece(rest);
-        push_if(&mut spans, statement(bytes.len(), rest, behind))?;
+        push_statement(&mut spans, statement(bytes.len(), rest, behind))?;
         rest = after_cut(behind);
     }
     Ok(spans)

@@ -4,9 +4,9 @@
 //! go over their bytes once, from the left. A token carries where it stands; of the text only the
 //! contents of quoted texts are copied. `symbols` makes the tokens with the bytes of their words, and
 //! without their places, in one pass of its own; a `Reader` hands them out from the left, so that a name
-//! or a literal is moved from there to where it stays. `push_word` and `push_sign` make symbols, and
-//! `push_spaced` writes them, and `push_numbers` numbers; `nests_too_deep` counts their parentheses. None of it knows the
-//! statements.
+//! or a literal is moved from there to where it stays. `push_word`, `push_kind` and `push_sign` make
+//! symbols, `push_spaced` writes them and `push_numbers` writes a list of numbers; `nests_too_deep` counts
+//! their parentheses. None of it knows the statements.
 #![tactic(auto)]
 
 mod bytes;
@@ -39,7 +39,7 @@ pub use laws::{
 pub use lexer::tokens;
 pub use meaning::{Symbol, symbols};
 pub use nesting::nests_too_deep;
-pub use pushing::{push_sign, push_word};
+pub use pushing::{push_kind, push_sign, push_word};
 pub use readers::Reader;
 pub use signs::Sign;
 pub use spans::Span;

@@ -21,7 +21,7 @@ fn all_digits(bytes: &[u8]) -> bool
 }
 
 /// The value of a numeral, where it is in range.
-fn value_of(numeral: &[u8]) -> Option<i64>
+fn numeral_value(numeral: &[u8]) -> Option<i64>
     requires { IsNumeral numeral.now }
     ensures { MatchOption result (¬ (FitsSigned w64 (signed_digits_value 10 numeral.now)))
         (λ v. (v ≡ signed_digits_value 10 numeral.now) × FitsSigned w64 v) }
@@ -47,7 +47,7 @@ pub fn number(text: &[u8]) -> Result<(TokenKind, usize), LexEnd>
             if !all_digits(&behind[..n]) {
                 return Err(LexEnd::Syntax);
             }
-            match value_of(&text[..n + 1]) {
+            match numeral_value(&text[..n + 1]) {
                 Some(v) => Ok((TokenKind::Int(v), n + 1)),
                 None => Err(LexEnd::Syntax),
             }

@@ -5,8 +5,8 @@ use Rattle.std.specs.Int.{bit_at}
 use Rattle.su_tableau.specs.declared.symbols.Sym.{Sym}
 use Rattle.su_tableau.specs.Tableaux.{Tab}
 use Rattle.su_map.specs.Lists.{row_of}
-use Rattle.su_map.specs.Netted.{IsTarget}
-use Rattle.su_map.specs.Nets.{AgreesAt}
+use Rattle.su_map.specs.inside.Netted.{IsTarget}
+use Rattle.su_map.specs.inside.Nets.{AgreesAt}
 use Rattle.su_map.specs.inside.Targets.{AreTold, IsToldAt, IsTold, AreShared}
 use Rattle.su_map.proofs.Cells.{Fits, told_agree}
 

@@ -5,9 +5,9 @@ use Rattle.std.proofs.lemmas.Bool.{cases_Bool}
 use Rattle.su_tableau.specs.Tableaux.{Tab}
 use Rattle.su_map.specs.Lists.{IsMapping, IsFirst}
 use Rattle.su_map.specs.Candidates.{IsWithinProducts}
-use Rattle.su_map.specs.Netted.{Netted, base_of}
-use Rattle.su_map.specs.Nets.{IsNet, IsNetFor}
-use Rattle.su_map.specs.inside.Choices.{IsBefore, IsChoiceInto, IsFound, IsFirstOf, tries, ArePassed}
+use Rattle.su_map.specs.inside.Netted.{Netted, base_of}
+use Rattle.su_map.specs.inside.Nets.{IsNet, IsNetFor}
+use Rattle.su_map.specs.inside.Choices.{IsBefore, IsChoiceInto, IsFound, IsFirstOf, tries, ArePassedInto}
 use Rattle.su_map.proofs.Ranks.{choice_by, list_by}
 use Rattle.su_map.proofs.RowLists.{row_by_row, list_upto}
 use Rattle.su_map.proofs.RowTargets.{mapping_by, by_mapping, maps_choice, choice_maps}
@@ -37,13 +37,13 @@ none_mapping s t m k net for none list f = none (choice_by m list) (maps_choice 
 pub own_net : (s t : Tab) (m k : ℕ) (net : Netted) → IsNet s m t k net → IsNetFor s m t k net
 own_net s t m k net n = record { rows = m; targets = k; is_net = n; has_rows = λ i h. h; has_targets = λ j h. h }
 
--- the targets that a net has for a row are its candidates
-pub within_products : (s t : Tab) (m k : ℕ) (net : Netted) (old new : ℕ) → IsNet s m t k net → ((passes : ℕ → ℕ → Bool) → ArePassed net (length s.rows) m passes → new ≤ old + tries passes net.targets (length s.rows) m) → IsWithinProducts s m t k old new
-within_products s t m k net old new n cost passes tells =
-    let all : ArePassed net (length s.rows) m passes = λ r x hr br h.
-    let b = (n.base r x hr br).0 h in
-    (tells r x hr).1 (record { row_in = b.0; in_set = b.1; constants = b.2.constants; head_symbols = b.2.head_symbols }) in
-    subst (λ targets. new ≤ old + tries passes targets (length s.rows) m) n.targets (cost passes all)
+-- the targets that a net has for a row, in the set, are its candidates there
+pub within_products : (s t : Tab) (m k : ℕ) (net : Netted) (old new : ℕ) → IsNetFor s m t k net → ((passes : ℕ → ℕ → Bool) → ArePassedInto net (length s.rows) m k passes → new ≤ old + tries passes net.targets (length s.rows) m) → IsWithinProducts s m t k old new
+within_products s t m k net old new for cost passes tells =
+    let all : ArePassedInto net (length s.rows) m k passes = λ r x hr br h in_k.
+    let b = (for.is_net.base r x hr (for.has_rows r br)).0 h in
+    (tells r x hr).1 (record { row_in = b.0; in_set = in_k; constants = b.2.constants; head_symbols = b.2.head_symbols }) in
+    subst (λ targets. new ≤ old + tries passes targets (length s.rows) m) for.is_net.targets (cost passes all)
 
 pub net_targets : (s t : Tab) (m k : ℕ) (net : Netted) → IsNetFor s m t k net → (r x : ℕ) → r < length s.rows → bit_at m r ≡ 1 → bit_at (base_of net r) x ≡ 1 → x < net.targets
 net_targets s t m k net for r x hr br h =

@@ -11,5 +11,6 @@ pub mod SearchCosts
 pub mod SearchStates
 pub mod SearchStart
 pub mod FoundMappings
+pub mod Prepared
 pub mod Roomy
 pub mod Containment

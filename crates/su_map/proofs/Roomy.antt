@@ -2,8 +2,8 @@
 use Rattle.std.proofs.Common.{◌≡◌, ◌≤◌, ◌*◌, ℕ, List, Vec, length, sym, subst, ◌∙◌, arith}
 use Rattle.std.specs.Vec.{with_items}
 use Rattle.su_map.specs.declared.notes.Notes.{Notes}
-use Rattle.su_map.specs.Netted.{Netted}
-use Rattle.su_map.specs.Rooms.{AreRoomy, IsSound}
+use Rattle.su_map.specs.inside.Netted.{Netted}
+use Rattle.su_map.specs.inside.RoomParts.{AreRoomy, IsSound}
 
 pub refill_length : {X Z : Type 0} (v : Vec X Z) (ws : List X) → length (with_items v ws).items ≡ length v.items
 refill_length v ws = sym (with_items v ws).ok.0 ∙ v.ok.0

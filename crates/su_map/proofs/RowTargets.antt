@@ -11,8 +11,8 @@ use Rattle.su_tableau.proofs.ChangedValuations.{InRow, in_row, Stands, stands}
 use Rattle.su_map.specs.Lists.{row_numbers, row_of, IsMapping}
 use Rattle.su_tableau.specs.Parts.{Cell}
 use Rattle.su_map.specs.Candidates.{KeepsConstants, MapAlike}
-use Rattle.su_map.specs.Netted.{Netted, IsTarget}
-use Rattle.su_map.specs.Nets.{IsNetFor}
+use Rattle.su_map.specs.inside.Netted.{Netted, IsTarget}
+use Rattle.su_map.specs.inside.Nets.{IsNetFor}
 use Rattle.su_map.specs.inside.Choices.{IsChoiceInto}
 use Rattle.su_map.proofs.Cells.{cell_from, cell_contains}
 use Rattle.su_map.proofs.Ranks.{rank, choice_by, rank_in, rank_at, ranked_at}

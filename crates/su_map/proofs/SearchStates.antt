@@ -4,7 +4,7 @@ use Rattle.std.specs.Int.{bit_at}
 use Rattle.std.proofs.lemmas.Bool.{cases_eq, cases_lt}
 use Rattle.std.proofs.lemmas.Nat.Bits.{bit_at-lt, bit_at-zero}
 use Rattle.su_tableau.proofs.Sets.{IsSub, sub_le}
-use Rattle.su_map.specs.Netted.{Netted, near_of, agree_of}
+use Rattle.su_map.specs.inside.Netted.{Netted, near_of, agree_of}
 use Rattle.su_map.specs.Lists.{numbers_of}
 use Rattle.su_map.specs.inside.Choices.{IsChoice, AreSame, IsLess, choice_of, Stands, IsInOrder, AreKept, IsAssigned}
 use Rattle.su_map.proofs.ShrunkDomains.{positive, positive_has}
@@ -91,7 +91,6 @@ module _ (net : Netted) (n m todo rest row target : ℕ) (domains next list old 
       (cases_eq r row) in
       record {
         todo_in = λ r h. s.todo_in r (in_rest r h);
-        based = λ r x hr br h. s.based r x hr br (shrinks r x hr h);
         chosen = λ r hr br z. positive_has (get_or next r 0) (choice_of (set list row target) r) (a.alive r (filled s has r hr br z)) (λ x h. next_only r x hr br z h);
         only = next_only;
         fits = λ r q x hr hq br bq z h ne near.

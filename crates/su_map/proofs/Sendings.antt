@@ -5,7 +5,7 @@ use Rattle.std.proofs.lemmas.Bool.{cases_eq}
 use Rattle.su_tableau.specs.declared.symbols.Sym.{Sym}
 use Rattle.su_tableau.specs.Tableaux.{Tab}
 use Rattle.su_map.specs.Lists.{row_of, IsMapping}
-use Rattle.su_map.specs.Nets.{HasBase}
+use Rattle.su_map.specs.inside.Nets.{HasBase}
 use Rattle.su_map.specs.inside.Targets.{AreShared}
 use Rattle.su_map.specs.inside.Sendings.{AreRows, IsSending}
 use Rattle.su_map.proofs.Cells.{told_agree}

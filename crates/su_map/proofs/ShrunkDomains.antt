@@ -3,7 +3,7 @@ use Rattle.std.proofs.Common.{◌≡◌, ◌≢◌, ℕ, ◌^◌, ◌<◌, ◌�
 use Rattle.std.specs.Int.{bit_at}
 use Rattle.std.proofs.lemmas.Bool.{cases_eq}
 use Rattle.std.proofs.lemmas.Nat.Bits.{bit_at-pow_same, bit_at-pow_other, bit_at-lt, bit_at-zero, same_from_bits}
-use Rattle.su_map.specs.Netted.{Netted, HasRoom, agree_of}
+use Rattle.su_map.specs.inside.Netted.{Netted, HasRoom, agree_of}
 use Rattle.su_map.specs.inside.Choices.{IsChoice, Shrinks, IsAssigned}
 
 pub pow_member : (m k x : ℕ) → m ≡ 2 ^ k → (bit_at m x ≡ 1) ↔ (x ≡ k)
@@ -61,9 +61,6 @@ positive_has v t pos only =
     (cases_eq (bit_at v x) 1)) in
     absurd (omega arith))
     (cases_eq (bit_at v t) 1)
-
-pub widen : (net : Netted) (n m : ℕ) (old new : List ℕ) (choice : ℕ → ℕ) → Shrinks n old new → IsChoice net n m new choice → IsChoice net n m old choice
-widen net n m old new choice s c = record { within = λ r hr br. s r (choice r) hr (c.within r hr br); fit = c.fit }
 
 pub shrinks_twice : (n : ℕ) (a b c : List ℕ) → Shrinks n a b → Shrinks n b c → Shrinks n a c
 shrinks_twice n a b c f g q x h one = f q x h (g q x h one)

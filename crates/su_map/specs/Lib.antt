@@ -2,6 +2,4 @@ pub mod Candidates
 pub mod inside
 pub mod Laws
 pub mod Lists
-pub mod Nets
 pub mod Rooms
-pub mod Netted

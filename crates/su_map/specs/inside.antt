@@ -1,5 +1,8 @@
 -- Definitions that only contracts of private functions need.
 pub mod Choices
+pub mod Nets
+pub mod Netted
+pub mod RoomParts
 pub mod SearchEnds
 pub mod Sendings
 pub mod Targets

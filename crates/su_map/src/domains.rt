@@ -1,7 +1,7 @@
 //! Domains: the targets that are left for each row.
 ghost use Rattle.std.specs.Prelude.{◌≡◌, ◌<◌, ◌≤◌, ◌+◌, ◌*◌, ◌⊎◌, ℕ, IsTrue, IsFalse, length, get_or, IfSome, None};
 ghost use Rattle.std.specs.Int.{bit_at};
-ghost use Rattle.su_map.specs.Netted.{HasRoom, agree_of};
+ghost use Rattle.su_map.specs.inside.Netted.{HasRoom, agree_of};
 ghost use Rattle.su_map.specs.inside.Choices.{IsChoice, Shrinks, IsAssigned};
 ghost use Rattle.su_map.specs.inside.SearchEnds.{KeepsChoices};
 

@@ -1,9 +1,9 @@
-//! Theorems on mappings: each is the contract of a function that does nothing.
+//! Theorems on mappings and rooms: each is the contract of a function that does nothing.
 ghost use Rattle.std.specs.Prelude.{ℕ, List};
 ghost use Rattle.su_tableau.specs.Tableaux.{Tab};
 ghost use Rattle.su_tableau.specs.Parts.{part};
 ghost use Rattle.su_tableau.specs.Mapping.{Maps};
-ghost use Rattle.su_map.specs.Laws.{MappingsAreContainment};
+ghost use Rattle.su_map.specs.Laws.{MappingsAreContainment, PreparedForFewer};
 ghost use Rattle.su_map.specs.Lists.{IsMapping};
 
 /// A mapping after a mapping is a mapping.
@@ -22,4 +22,9 @@ pub fn row_lists_are_mappings()
 /// relation of these kinds each answer of the other is one of the one. (Chandra and Merlin.)
 pub fn mappings_are_containment()
     ensures { MappingsAreContainment }
+{}
+
+/// A room that is prepared for rows of two tableaux is prepared for fewer of them.
+pub fn prepared_for_fewer()
+    ensures { PreparedForFewer }
 {}

@@ -47,7 +47,7 @@ impl Mapping {
         }
     }
 
-    /// The type keeps that it is a mapping. It does nothing.
+    /// For proofs: it is a mapping. It does nothing.
     pub fn keeps_its_rules(&self)
         ensures { IsCertified self.now }
     {

@@ -4,9 +4,9 @@ ghost use Rattle.std.specs.Int.{bit_at};
 ghost use Rattle.su_tableau.specs.Tableaux.{AreVarsBelow};
 ghost use Rattle.su_map.specs.Lists.{IsMapping};
 ghost use Rattle.su_map.specs.Candidates.{KeepsConstants, MapAlike};
-ghost use Rattle.su_map.specs.Netted.{Netted, HasRoom, base_of, near_of, agree_of};
-ghost use Rattle.su_map.specs.Nets.{HasBase, HasNear, IsNet};
-ghost use Rattle.su_map.specs.Rooms.{AreRoomy};
+ghost use Rattle.su_map.specs.inside.Netted.{Netted, HasRoom, base_of, near_of, agree_of};
+ghost use Rattle.su_map.specs.inside.Nets.{HasBase, HasNear, IsNet};
+ghost use Rattle.su_map.specs.inside.RoomParts.{AreRoomy};
 ghost use Rattle.su_map.specs.inside.Sendings.{AreRows, IsSending};
 ghost use Rattle.su_map.specs.inside.Targets.{AreNoted, AreSides, AreAllTold};
 
@@ -33,7 +33,7 @@ pub struct Net {
 
 impl Model for Net {
     ghost use Rattle.std.specs.Prelude.{◌≤◌};
-    ghost use Rattle.su_map.specs.Netted.{Netted};
+    ghost use Rattle.su_map.specs.inside.Netted.{Netted};
 
     ghost Value = { Netted };
 

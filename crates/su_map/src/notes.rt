@@ -1,6 +1,6 @@
 //! What is noted while a net is filled.
 ghost use Rattle.std.specs.Prelude.{◌≡◌, IfOk, length};
-ghost use Rattle.su_map.specs.Rooms.{AreRoomy};
+ghost use Rattle.su_map.specs.inside.RoomParts.{AreRoomy};
 
 use std::alloc::{AllocError, Global};
 use su_base::NoMemory;

@@ -7,12 +7,11 @@ ghost use Rattle.su_tableau.specs.Equivalent.{IsWithin};
 ghost use Rattle.su_map.specs.declared.search.Order.TheVariants.{Ascending};
 ghost use Rattle.su_map.specs.Lists.{IsMapping, IsFirst, numbers_of};
 ghost use Rattle.su_map.specs.Candidates.{IsWithinProducts};
-ghost use Rattle.su_map.specs.Netted.{HasRoom, base_of};
-ghost use Rattle.su_map.specs.Nets.{IsNet, IsNetFor};
-ghost use Rattle.su_map.specs.inside.Choices.{IsChoiceInto, choice_of, IsFound, IsFirstOf};
-ghost use Rattle.su_map.specs.inside.SearchEnds.{AreAtStart, LacksTarget, IsFirstInto, IsWithinTries, IsCounted};
 ghost use Rattle.su_map.specs.Laws.{TellsContainment};
-ghost use Rattle.su_map.specs.Rooms.{IsRoomFor, HasSizesOf};
+ghost use Rattle.su_map.specs.Rooms.{IsRoomFor, HasSizesOf, IsPreparedFor, StaysPrepared};
+ghost use Rattle.su_map.specs.inside.Netted.{HasRoom, base_of};
+ghost use Rattle.su_map.specs.inside.Choices.{IsChoiceInto, choice_of, IsFound, IsFirstOf};
+ghost use Rattle.su_map.specs.inside.SearchEnds.{AreAtStart, LacksTarget, IsWithinTriesInto};
 
 use crate::aims::Aim;
 use crate::domains::propagate;
@@ -42,8 +41,9 @@ pub struct Room {
 
 impl Model for Room {
     ghost use Rattle.std.specs.Prelude.{◌≡◌, ◌≤◌, ◌*◌, length, take};
-    ghost use Rattle.su_map.specs.Netted.{HasRoom};
-    ghost use Rattle.su_map.specs.Rooms.{Space, IsSound};
+    ghost use Rattle.su_map.specs.Rooms.{Space};
+    ghost use Rattle.su_map.specs.inside.Netted.{HasRoom};
+    ghost use Rattle.su_map.specs.inside.RoomParts.{IsSound};
 
     ghost Value = { Space };
 
@@ -80,55 +80,19 @@ impl Room {
     }
 }
 
-/// Fills the room's net for the masked rows of both tableaux, for `exists_prepared`. False: no list
-/// is a mapping.
+/// Fills the room's tables for the masked rows of both tableaux, for `exists_prepared` and
+/// `first_prepared`. False: no list is a mapping.
 pub fn prepare(room: &mut Room, from: &Tableau, from_mask: u64, to: &Tableau, to_mask: u64) -> bool
     requires room { IsRoomFor from.now room.old }
     requires width { from.now.width ≡ to.now.width }
     requires heads { length from.now.head ≡ length to.now.head }
-    ensures prepared { IsTrue result → IsNet from.now from_mask to.now to_mask room.new.net }
+    ensures prepared { IsTrue result → IsPreparedFor from.now from_mask to.now to_mask room.new }
     ensures none { IsFalse result → (list : Items ℕ) → IsMapping from.now from_mask to.now to_mask list → ⊥ }
     ensures sizes { HasSizesOf room.old room.new }
 {
     from.keeps_its_rules();
     let notes = &mut room.notes;
     room.net.fill(notes, from, from_mask, to, to_mask)
-}
-
-/// Whether some choice sends the masked rows into the masked targets; the choice is then that
-/// choice, and in order the first one.
-fn settle<L: Ledger>(
-    aim: &Aim,
-    to_mask: u64,
-    domains: &mut [u64],
-    levels: &mut [u64],
-    choice: &mut [u8],
-    steps: &mut Steps<L>,
-) -> bool
-    requires room { HasRoom (length domains.old) aim.now.net.now }
-    requires rows { length domains.old ≤ 64 }
-    requires choice { length choice.old ≡ length domains.old }
-    requires levels { length domains.old * length domains.old ≤ length levels.old }
-    requires targets { (r x : ℕ) → r < length domains.old → bit_at aim.now.mask r ≡ 1 → bit_at (base_of aim.now.net.now r) x ≡ 1 → x < aim.now.net.now.targets }
-    ensures found { IsTrue result → IsChoiceInto aim.now.net.now (length domains.old) aim.now.mask to_mask (choice_of choice.new) }
-    ensures first { IsTrue result → aim.now.order ≡ Ascending → IsFirstInto aim.now.net.now (length domains.old) aim.now.mask to_mask (choice_of choice.new) }
-    ensures none { IsFalse result → (other : ℕ → ℕ) → IsChoiceInto aim.now.net.now (length domains.old) aim.now.mask to_mask other → ⊥ }
-    ensures cost { IsWithinTries aim.now.order aim.now.net.now (length domains.old) aim.now.mask aim.now.mask steps.old steps.new }
-{
-    let rows = both(aim.mask, full(domains.len()));
-    if !begin(aim.net, rows, to_mask, domains) {
-        return false;
-    }
-    if !propagate(aim.net, rows, rows, domains) {
-        return false;
-    }
-    let within = Aim {
-        net: aim.net,
-        rows: aim.rows,
-        mask: rows,
-        order: aim.order,
-    };
-    search(&within, rows, domains, levels, choice, steps)
 }
 
 /// The domains at the start, and whether each row has a target.
@@ -167,9 +131,9 @@ fn gather(list: &mut [u8], choice: &[u8], mask: u64) -> usize
     count
 }
 
-/// The search in the parts of the room that the rows need, and the targets that it chose as a list: how
-/// many these are, or none where there is no choice.
-fn settle_list<L: Ledger>(
+/// The search in the parts of the room that the rows need, and the targets that it chose as a list:
+/// how many these are, or none where no choice sends the masked rows into the masked targets.
+fn settle<L: Ledger>(
     aim: &Aim,
     to_mask: u64,
     domains: &mut [u64],
@@ -189,17 +153,30 @@ fn settle_list<L: Ledger>(
     ensures found { IfSome result (λ count. IsFound aim.now.net.now aim.now.rows aim.now.mask to_mask (take count list.new)) }
     ensures first { IfSome result (λ count. aim.now.order ≡ Ascending → IsFirstOf aim.now.net.now aim.now.rows aim.now.mask to_mask (take count list.new)) }
     ensures none { result ≡ None → (other : ℕ → ℕ) → IsChoiceInto aim.now.net.now aim.now.rows aim.now.mask to_mask other → ⊥ }
-    ensures cost { IsWithinTries aim.now.order aim.now.net.now aim.now.rows aim.now.mask aim.now.mask steps.old steps.new }
+    ensures cost { IsWithinTriesInto aim.now.order aim.now.net.now aim.now.rows aim.now.mask to_mask steps.old steps.new }
 {
+    let rows = both(aim.mask, full(aim.rows));
     let domains = &mut domains[..aim.rows];
     let choice = &mut choice[..aim.rows];
-    if !settle(aim, to_mask, domains, levels, choice, steps) {
+    if !begin(aim.net, rows, to_mask, domains) {
+        return None;
+    }
+    if !propagate(aim.net, rows, rows, domains) {
+        return None;
+    }
+    let within = Aim {
+        net: aim.net,
+        rows: aim.rows,
+        mask: rows,
+        order: aim.order,
+    };
+    if !search(&within, rows, domains, levels, choice, steps) {
         return None;
     }
     Some(gather(list, choice, aim.mask))
 }
 
-/// The search over the net that was prepared.
+/// The search over the tables that were prepared.
 fn search_in<L: Ledger>(
     room: &mut Room,
     from: &Tableau,
@@ -212,13 +189,13 @@ fn search_in<L: Ledger>(
     requires room { IsRoomFor from.now room.old }
     requires width { from.now.width ≡ to.now.width }
     requires heads { length from.now.head ≡ length to.now.head }
-    requires prepared { IsNetFor from.now from_mask to.now to_mask room.old.net }
+    requires prepared { IsPreparedFor from.now from_mask to.now to_mask room.old }
     ensures found { IsTrue result → IsMapping from.now from_mask to.now to_mask room.new.list }
     ensures first { IsTrue result → order ≡ Ascending → IsFirst from.now from_mask to.now to_mask room.new.list }
     ensures none { IsFalse result → (list : Items ℕ) → IsMapping from.now from_mask to.now to_mask list → ⊥ }
-    ensures cost { order ≡ Ascending → IsCounted from.now from_mask to.now to_mask room.old.net steps.old steps.new }
+    ensures cost { order ≡ Ascending → IsWithinProducts from.now from_mask to.now to_mask steps.old steps.new }
     ensures sizes { HasSizesOf room.old room.new }
-    ensures prepared { room.new.net ≡ room.old.net }
+    ensures net { room.new.net ≡ room.old.net }
 {
     from.keeps_its_rules();
     to.keeps_its_rules();
@@ -228,7 +205,7 @@ fn search_in<L: Ledger>(
         mask: from_mask,
         order,
     };
-    let Some(count) = settle_list(
+    let Some(count) = settle(
         &aim,
         to_mask,
         &mut room.domains,
@@ -267,8 +244,7 @@ pub fn first<L: Ledger>(
         && search_in(room, from, from_mask, to, to_mask, Order::Ascending, steps)
 }
 
-/// The same by the net that `prepare` filled for these rows or for more. No bound on the steps is
-/// promised.
+/// The same in a room that is prepared for these rows.
 pub fn first_prepared<L: Ledger>(
     room: &mut Room,
     from: &Tableau,
@@ -280,19 +256,19 @@ pub fn first_prepared<L: Ledger>(
     requires room { IsRoomFor from.now room.old }
     requires width { from.now.width ≡ to.now.width }
     requires heads { length from.now.head ≡ length to.now.head }
-    requires prepared { IsNetFor from.now from_mask to.now to_mask room.old.net }
+    requires prepared { IsPreparedFor from.now from_mask to.now to_mask room.old }
     ensures found { IsTrue result → IsFirst from.now from_mask to.now to_mask room.new.list }
     ensures none { IsFalse result ↔ ((list : Items ℕ) → IsMapping from.now from_mask to.now to_mask list → ⊥) }
+    ensures cost { IsWithinProducts from.now from_mask to.now to_mask steps.old steps.new }
     ensures sizes { HasSizesOf room.old room.new }
-    ensures prepared { room.new.net ≡ room.old.net }
+    ensures prepared { StaysPrepared room.old room.new }
 {
     search_in(room, from, from_mask, to, to_mask, Order::Ascending, steps)
 }
 
-/// Whether there is any mapping, by the net that `prepare` filled for these rows or for more. The
-/// rows are taken in any order, those with the fewest targets first, so that hard cases end sooner
-/// than by `first`; still exponential in the rows at worst. The room's list is then the row list of
-/// a mapping.
+/// Whether there is any mapping, in a room that is prepared for these rows. The rows are taken in
+/// any order, those with the fewest targets first, so that hard cases end sooner than by `first`;
+/// still exponential in the rows at worst. The room's list is then the row list of a mapping.
 pub fn exists_prepared<L: Ledger>(
     room: &mut Room,
     from: &Tableau,
@@ -304,11 +280,11 @@ pub fn exists_prepared<L: Ledger>(
     requires room { IsRoomFor from.now room.old }
     requires width { from.now.width ≡ to.now.width }
     requires heads { length from.now.head ≡ length to.now.head }
-    requires prepared { IsNetFor from.now from_mask to.now to_mask room.old.net }
+    requires prepared { IsPreparedFor from.now from_mask to.now to_mask room.old }
     ensures found { IsTrue result → IsMapping from.now from_mask to.now to_mask room.new.list }
     ensures none { IsFalse result ↔ ((list : Items ℕ) → IsMapping from.now from_mask to.now to_mask list → ⊥) }
     ensures sizes { HasSizesOf room.old room.new }
-    ensures prepared { room.new.net ≡ room.old.net }
+    ensures prepared { StaysPrepared room.old room.new }
 {
     let order = Order::FewestFirst;
     search_in(room, from, from_mask, to, to_mask, order, steps)
@@ -348,12 +324,6 @@ pub fn certify(
     ensures is { IfOk result (λ m. m ≡ record { from = from.now; from_mask = from_mask; to = to.now; to_mask = to_mask; list = room.now.list }) }
     ensures contains { IfOk result (λ m. (kinds : Kinds) → IsWithin kinds (part m.to m.to_mask) (part m.from m.from_mask)) }
 {
-    let list = List::from_vec(
-        room.list()
-            .iter()
-            .copied()
-            .collect(alloc)
-            .map_err(AllocError::from)?,
-    );
+    let list = List::from_vec(Vec::from_slice(alloc, room.list())?);
     Ok(Mapping::new(from.copy(alloc)?, from_mask, to.copy(alloc)?, to_mask, list))
 }

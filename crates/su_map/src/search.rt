@@ -3,7 +3,7 @@ ghost use Rattle.std.specs.Prelude.{◌≡◌, ◌≤◌, ◌<◌, ◌+◌, ◌*
 ghost use Rattle.std.specs.Int.{bit_at};
 ghost use Rattle.su_map.specs.declared.search.Order.TheVariants.{Ascending};
 ghost use Rattle.su_map.specs.Lists.{numbers_of};
-ghost use Rattle.su_map.specs.Netted.{HasRoom};
+ghost use Rattle.su_map.specs.inside.Netted.{HasRoom};
 ghost use Rattle.su_map.specs.inside.Choices.{IsChoice, choice_of, Stands, IsInOrder, AreKept};
 ghost use Rattle.su_map.specs.inside.SearchEnds.{IsFirstChoice, IsWithinTries};
 
@@ -80,7 +80,7 @@ pub fn search<L: Ledger>(
     ensures found { IsTrue result → IsChoice aim.now.net.now (length domains.now) aim.now.mask domains.now (choice_of choice.new) }
     ensures first { IsTrue result → aim.now.order ≡ Ascending → IsFirstChoice aim.now.net.now aim.now.mask domains.now (choice_of choice.new) }
     ensures none { IsFalse result → (other : ℕ → ℕ) → IsChoice aim.now.net.now (length domains.now) aim.now.mask domains.now other → ⊥ }
-    ensures cost { IsWithinTries aim.now.order aim.now.net.now (length domains.now) aim.now.mask todo steps.old steps.new }
+    ensures cost { IsWithinTries aim.now.order aim.now.net.now.targets domains.now aim.now.mask todo steps.old steps.new }
 {
     if todo == 0 {
         return true;

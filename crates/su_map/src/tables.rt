@@ -5,7 +5,7 @@ ghost use Rattle.su_tableau.specs.declared.symbols.Sym.{Sym as ASym};
 ghost use Rattle.su_tableau.specs.declared.symbols.Sym.TheVariants.{Var};
 ghost use Rattle.su_tableau.specs.Tableaux.{AreBelow, AreVarsBelow};
 ghost use Rattle.su_map.specs.Lists.{row_of};
-ghost use Rattle.su_map.specs.Nets.{HasNear};
+ghost use Rattle.su_map.specs.inside.Nets.{HasNear};
 ghost use Rattle.su_tableau.specs.Parts.{Cell};
 ghost use Rattle.su_map.specs.inside.Targets.{IsPlain, AreNoted, AreShared, AreAlike, AreSides, AreTold, IsToldAt, AreToldAt, IsTold, IsRowTold, AreAllTold, HasNearby};
 ghost use Rattle.su_map.specs.inside.Sendings.{AreRows};

@@ -3,8 +3,8 @@ ghost use Rattle.std.specs.Prelude.{◌≡◌, ◌≤◌, ◌<◌, ◌↔◌, �
 ghost use Rattle.std.specs.Int.{bit_at};
 ghost use Rattle.su_map.specs.Lists.{row_of};
 ghost use Rattle.su_map.specs.Candidates.{MapAlike};
-ghost use Rattle.su_map.specs.Nets.{HasBase};
-ghost use Rattle.su_map.specs.Netted.{IsTarget};
+ghost use Rattle.su_map.specs.inside.Nets.{HasBase};
+ghost use Rattle.su_map.specs.inside.Netted.{IsTarget};
 ghost use Rattle.su_map.specs.inside.Targets.{CellFits, HasFitting, HasNoTarget, IsPlain};
 
 use crate::columns::{alike, column_of, holding};

@@ -68,10 +68,7 @@ pub fn listed_sets(
 ) -> Result<List<ObjSet>, NoMemory>
     ensures { IfOk result (λ sets. sets ≡ declared.now ++ computed declared.now grown.now) }
 {
-    let mut sets = List::new(alloc);
-    for own in declared {
-        sets.push(*own)?;
-    }
+    let mut sets = List::from_vec(Vec::from_slice(alloc, declared)?);
     for seed in 0..grown.len() {
         if is_listed(declared, grown, seed) {
             sets.push(grown[seed])?;

@@ -1,6 +1,6 @@
 use std::test::Fail;
 use su_base::{List, ObjSet};
-use su_cases::schema_of;
+use su_cases::{objects_of, schema_of};
 use su_maxobj::{adjoinable, attributes_covered, grown, maximal_objects};
 use su_schema::Schema;
 
@@ -11,16 +11,6 @@ relation R (A int, B int);
 object BD (B, D) from R (A, B); object AB (A, B) from R (A, B);
 object BC (B, C) from R (A, B); object CA (C, A) from R (A, B);
 ";
-
-fn objects(members: &[u8]) -> ObjSet {
-    let mut all = ObjSet::empty();
-    for member in members {
-        if *member < 64 {
-            all = all.insert(*member);
-        }
-    }
-    all
-}
 
 /// Whether the sets are these, in this order.
 fn are_these(sets: &List<ObjSet>, wanted: &[ObjSet]) -> bool {
@@ -38,7 +28,7 @@ fn a_branch_of_a_circle_joins_its_two_neighbours(rt: HostRuntime) -> Result<(), 
         return Err(Fail::from("no schema"));
     };
     let sets = maximal_objects(rt.alloc(), &schema)?;
-    let wanted = [objects(&[0, 1]), objects(&[0, 2]), objects(&[3])];
+    let wanted = [objects_of(&[0, 1]), objects_of(&[0, 2]), objects_of(&[3])];
     assert!(rt; are_these(&sets, &wanted));
     Ok(())
 }

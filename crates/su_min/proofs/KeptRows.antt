@@ -8,10 +8,10 @@ use Rattle.su_tableau.specs.Parts.{part}
 use Rattle.su_tableau.specs.Mapping.{Maps}
 use Rattle.su_tableau.proofs.Containment.{maps_compose}
 use Rattle.su_map.specs.Lists.{IsMapping, IsFirst}
-use Rattle.su_map.specs.Netted.{Netted}
-use Rattle.su_map.specs.Nets.{IsNet, IsNetFor}
+use Rattle.su_map.specs.Rooms.{Space, IsPreparedFor}
 use Rattle.su_map.proofs.Members.{full_member}
 use Rattle.su_map.proofs.Containment.{list_maps, maps_list}
+use Rattle.su_map.proofs.Prepared.{prepared_fewer}
 use Rattle.su_min.specs.Kept.{all_rows, IsKept, IsFold}
 use Rattle.su_min.proofs.Parts.{into_maps, maps_into, part_maps, whole_maps, all_is}
 
@@ -25,12 +25,12 @@ full_is t all e = let a = all_is t in omega arith
 pub fits_all : (t : Tab) (all : ℕ) → all + 1 ≡ 2 ^ length t.rows → Fits t all
 fits_all t all e = subst (Fits t) (sym (full_is t all e)) (whole_maps t)
 
--- all rows map into all rows, so they have a net
-pub has_net : (t : Tab) (all : ℕ) (net : Netted) (b : Bool) → all + 1 ≡ 2 ^ length t.rows
-    → (b ≡ true → IsNet t all t all net)
+-- all rows map into all rows, so a room is prepared for them
+pub is_prepared : (t : Tab) (all : ℕ) (room : Space) (b : Bool) → all + 1 ≡ 2 ^ length t.rows
+    → (b ≡ true → IsPreparedFor t all t all room)
     → (b ≡ false → (list : List ℕ) → IsMapping t all t all list → ⊥)
-    → IsNet t all t all net
-has_net t all net b e found none =
+    → IsPreparedFor t all t all room
+is_prepared t all room b e found none =
     let f = maps_list t t all all (maps_compose (part t all) t (part t all) (part_maps t all) (fits_all t all e)) in
     ⊎_elim
     (λ (is : b ≡ true). found is)
@@ -46,14 +46,9 @@ member_of_all n all m j e le one =
     (λ (over : n ≤ j). absurd (let z = bit_at_above m n j (omega arith) over in omega arith))
     (cases_lt j n))
 
-pub net_for : (t : Tab) (all m k : ℕ) (net : Netted) → all + 1 ≡ 2 ^ length t.rows → IsNet t all t all net → m ≤ all → k ≤ all → IsNetFor t m t k net
-net_for t all m k net e is lm lk = record {
-  rows = all;
-  targets = all;
-  is_net = is;
-  has_rows = λ i h. member_of_all (length t.rows) all m i e lm h;
-  has_targets = λ j h. member_of_all (length t.rows) all k j e lk h;
-}
+pub prepared_for : (t : Tab) (all m k : ℕ) (room : Space) → all + 1 ≡ 2 ^ length t.rows → IsPreparedFor t all t all room → m ≤ all → k ≤ all → IsPreparedFor t m t k room
+prepared_for t all m k room e is lm lk =
+    prepared_fewer t all m t all k room is (λ i h. member_of_all (length t.rows) all m i e lm h) (λ j h. member_of_all (length t.rows) all k j e lk h)
 
 -- what stands maps into fewer rows: so does the whole
 pub fits_fewer : (t : Tab) (kept fewer : ℕ) (list : List ℕ) → Fits t kept → IsMapping t kept t fewer list → Fits t fewer

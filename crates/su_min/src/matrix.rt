@@ -119,7 +119,7 @@ fn row_alone<L: Ledger>(
 }
 
 /// For each term whether term j covers it; marked are terms that the first one covers.
-fn row_of(
+fn matrix_row(
     alloc: Global,
     terms: &[Minimal],
     j: usize,
@@ -163,7 +163,7 @@ fn rows_at_once<R: Threads + Sync>(
     requires { 0 < length terms.now }
     ensures { IfOk result (λ matrix. IsMatrix terms.now matrix.items) }
 {
-    let first = row_of(alloc, terms, 0, &[])?;
+    let first = matrix_row(alloc, terms, 0, &[])?;
     let marks = first.as_slice();
     (0..terms.len())
         .into_par_iter()
@@ -172,7 +172,7 @@ fn rows_at_once<R: Threads + Sync>(
             |j: usize| -> Result<List<bool>, NoMemory>
                 requires { j < length terms.now }
                 ensures { AreKnown terms.entry.now marks.entry.now → IfOk result (λ row. IsRowOf (term_at terms.entry.now j) terms.entry.now row) }
-            { row_of(alloc, terms, j, marks) },
+            { matrix_row(alloc, terms, j, marks) },
         )
         .collect::<Result<Vec<List<bool>>, NoMemory>>(rt, alloc)?
 }

@@ -4,7 +4,7 @@ ghost use Rattle.su_tableau.specs.Kinds.{Kinds, IsTyped};
 ghost use Rattle.su_min.specs.Kept.{IsMinimised, IsLeastPart};
 
 use crate::kept::kept_mask;
-use std::alloc::{AllocError, Global};
+use std::alloc::Global;
 use std::marker::{Brand, Model};
 use std::sync::ledger::{Blank, Ledger};
 use su_base::{List, NoMemory, Steps};
@@ -53,7 +53,7 @@ impl Minimal {
         self.fold.as_slice()
     }
 
-    /// The type keeps that mask and fold are the tableau's. It does nothing.
+    /// For proofs: mask and fold are the tableau's. It does nothing.
     pub fn keeps_its_rules(&self)
         ensures { IsMinimised self.now }
     {
@@ -65,13 +65,7 @@ impl Minimal {
 fn found_list(alloc: Global, room: &Room) -> Result<List<u8>, NoMemory>
     ensures { IfOk result (λ list. list ≡ room.now.list) }
 {
-    let list = room
-        .list()
-        .iter()
-        .copied()
-        .collect(alloc)
-        .map_err(AllocError::from)?;
-    Ok(List::from_vec(list))
+    Ok(List::from_vec(Vec::from_slice(alloc, room.list())?))
 }
 
 /// The kept rows and the fold, by searches whose steps are counted in a ledger.

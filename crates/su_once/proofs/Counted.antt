@@ -6,7 +6,7 @@ use Rattle.std.proofs.lemmas.List.{get_or_default}
 use Rattle.std.proofs.lemmas.List.Elements.{Contains-get_or}
 use Rattle.std.proofs.lemmas.List.Sums.{length-filter}
 use Rattle.su_base.specs.declared.values.Value.{Value}
-use Rattle.su_rel.specs.Stored.{AllDiffer}
+use Rattle.su_base.specs.Lists.{AllDiffer}
 use Rattle.su_min.proofs.Holes.{pigeonhole}
 use Rattle.su_base.proofs.Items.{Contains-filter, Contains-filter_source}
 use Rattle.su_once.proofs.Lists.{Ascends, ascends_from}

@@ -26,12 +26,8 @@ HaveRows t u = (r : ℕ) (z : List Value) → Contains (rows_at t r) z ↔ Conta
 
 -- what breaks an addition among some rows breaks it among the same rows
 new_among : (schema : SchemaValue) (t u : List Stored) → HaveRows t u → (definition : Definition) (b : Breach) → IsNewBreach schema t definition b → IsNewBreach schema u definition b
-new_among schema t u same definition b h = record {
-  relation = h.relation;
-  breach = h.breach;
-  added = h.added;
-  stored = ((same h.relation b.first).0 h.stored.0, (same h.relation b.second).0 h.stored.1);
-}
+new_among schema t u same definition b (h, added) =
+    (record { relation = h.relation; breach = h.breach; stored = ((same h.relation b.first).0 h.stored.0, (same h.relation b.second).0 h.stored.1) }, added)
 
 -- ---- one answer
 

@@ -1,10 +1,13 @@
 -- A text is read in one way, or refused for one cause.
-use Rattle.std.proofs.Common.{◌≡◌, ℕ, List, [], ◌∷◌, refl, ap, sym, ◌∙◌, subst, inl, inr, arith}
+use Rattle.std.proofs.Common.{◌≡◌, ℕ, List, [], ◌∷◌, Option, None, refl, ap, sym, ◌∙◌, subst, inl, inr, arith}
 use Rattle.std.proofs.lemmas.Option.{none-some, same_Some}
 use Rattle.std.specs.List.{AllByRecursion}
+use Rattle.std.specs.Prelude.{option_map}
 use Rattle.su_lex.specs.declared.meaning.Symbol.{Symbol}
 use Rattle.su_lex.proofs.Written.{one_list_of_symbols}
 use Rattle.su_ddl.proofs.Files.{one_outcome as same_outcome}
+use Rattle.su_schema.specs.SchemaValue.{SchemaValue}
+use Rattle.su_schema.specs.Entries.{attribute_names}
 use Rattle.su_query.specs.declared.faults.QueryFault.{QueryFault}
 use Rattle.su_query.specs.declared.faults.QueryFault.TheVariants.{Syntax, Limit, NoMemory, Unknown, Kinds, UnknownColumn}
 use Rattle.su_query.specs.declared.faults.QueryLimit.{QueryLimit}
@@ -15,6 +18,8 @@ use Rattle.su_query.specs.Forms.{IsForm}
 use Rattle.su_lex.specs.Nesting.{IsDeep}
 use Rattle.su_query.specs.StatementTexts.{IsStatement, IsFormless, NestsTooDeep, IsTextRefusal}
 use Rattle.su_query.specs.Limits.{Passes, PartsPass, AreFew, HasFew, parts_of}
+use Rattle.su_query.specs.Scopes.{first_unknown_name}
+use Rattle.su_query.specs.Sets.{IsNameRefusal}
 use Rattle.su_query.proofs.Uniqueness.{statement_unique}
 use Rattle.su_once.specs.Readings.{OneOutcome, OneStatement, OneRefusal, RefusedOrRead, OneQueryRefusal, QueryIsRefusedOrKnown, OneColumnRefusal, ConditionIsRefusedOrKnown}
 
@@ -127,6 +132,12 @@ one_query_refusal schema q why other h k = same_Some why other (sym h ∙ k)
 
 pub query_not_refused : QueryIsRefusedOrKnown
 query_not_refused schema q why h known = none-some why (sym known ∙ h)
+
+pub one_name_refusal : (schema : SchemaValue) (names : List (List ℕ)) (why other : QueryFault) → IsNameRefusal schema names why → IsNameRefusal schema names other → why ≡ other
+one_name_refusal schema names why other h k = same_Some why other (sym h ∙ k)
+
+pub names_not_refused : (schema : SchemaValue) (names : List (List ℕ)) (why : QueryFault) → IsNameRefusal schema names why → first_unknown_name (attribute_names schema) names ≡ None → ⊥
+names_not_refused schema names why h known = none-some why (sym (ap (λ (o : Option (List ℕ)). option_map Unknown o) known) ∙ h)
 
 pub one_column_refusal : OneColumnRefusal
 one_column_refusal schema r c why other h k = same_Some why other (sym h ∙ k)

@@ -12,7 +12,6 @@ use Rattle.su_schema.specs.declared.definitions.Definition.{Definition}
 use Rattle.su_ddl.proofs.Formed.{one_definition}
 use Rattle.su_query.specs.Refs.{NamedCond}
 use Rattle.su_query.specs.declared.faults.QueryFault.{QueryFault}
-use Rattle.su_query.specs.declared.faults.QueryFault.TheVariants as query
 use Rattle.su_query.specs.declared.statements.Query.{Query as AQuery}
 use Rattle.su_query.specs.declared.resolving.Resolved.{Resolved}
 use Rattle.su_query.specs.declared.statements.Statement.{Statement}
@@ -63,7 +62,7 @@ use Rattle.su_once.proofs.Loaded.{one_load}
 use Rattle.su_once.proofs.Paired.{one_form_refusal, refused_or_formed, one_terms_refusal, refused_or_accepted, one_verdicts_text}
 use Rattle.su_once.proofs.Supported.{one_supports}
 use Rattle.su_once.proofs.Windowed.{one_window, one_window_refusal, refused_or_fitting}
-use Rattle.su_once.proofs.OneOutcome.{one_statement, one_refusal, not_refused, one_query_refusal, query_not_refused, one_column_refusal, condition_not_refused}
+use Rattle.su_once.proofs.OneOutcome.{one_statement, one_refusal, not_refused, one_query_refusal, query_not_refused, one_name_refusal, names_not_refused, one_column_refusal, condition_not_refused}
 use Rattle.su_once.proofs.Refused.{one_step_refusal, not_refused as has_terms}
 use Rattle.su_once.proofs.Told.{accept, still, refuse, one_insert_told, one_delete_told, one_load_told, one_definition_told}
 
@@ -159,9 +158,9 @@ module _ (a : DatabaseValue) (tables : List Stored) (alike : AreAlike a (record 
   shows_schema ((sets, h, t), one) ((others, k, u), two) = agree _ _ t u (ap (schema_reply a.schema) (sym (one_list_of_maximal a.schema sets others h k))) one two
 
   shows_closure : (names : List (List ℕ)) → ShowsClosure a names r c → ShowsClosure b names s d → Same
-  shows_closure names (inl (name, h, t)) (inl (other, k, u)) = refuse a tables r s c d alike _ _ t u (ap (λ n. refusal.Query (query.Unknown n)) (same_Some name other (sym h ∙ k)))
-  shows_closure names (inl (name, h, t)) (inr (none, k, u)) = absurd (none-some name (sym none ∙ h))
-  shows_closure names (inr (none, h, t)) (inl (name, k, u)) = absurd (none-some name (sym none ∙ k))
+  shows_closure names (inl (f, h, t)) (inl (g, k, u)) = refuse a tables r s c d alike _ _ t u (ap refusal.Query (one_name_refusal a.schema names f g h k))
+  shows_closure names (inl (f, h, t)) (inr (none, k, u)) = absurd (names_not_refused a.schema names f h none)
+  shows_closure names (inr (none, h, t)) (inl (g, k, u)) = absurd (names_not_refused a.schema names g k none)
   shows_closure names (inr (none, (text, h, t), one)) (inr (gone, (other, k, u), two)) = agree _ _ t u (one_closure_reply a.schema _ text other h k) one two
 
   after_terms : (q : AQuery) (K L : List (FinSet nat_cmp) → Type 0) → AfterTerms a q r c K → AfterTerms b q s d L → ((maximal : List (FinSet nat_cmp)) → K maximal → L maximal → Same) → Same
@@ -243,9 +242,9 @@ module _ (a : DatabaseValue) (tables : List Stored) (alike : AreAlike a (record 
   one_window_told window.NoMemory h k = absurd h
 
   shows_window : (names : List (List ℕ)) → ShowsWindow a names r c → ShowsWindow b names s d → Same
-  shows_window names (inl (name, h, t)) (inl (other, k, u)) = refuse a tables r s c d alike _ _ t u (ap (λ n. refusal.Query (query.Unknown n)) (same_Some name other (sym h ∙ k)))
-  shows_window names (inl (name, h, t)) (inr (none, k)) = absurd (none-some name (sym none ∙ h))
-  shows_window names (inr (none, h)) (inl (name, k, u)) = absurd (none-some name (sym none ∙ k))
+  shows_window names (inl (f, h, t)) (inl (g, k, u)) = refuse a tables r s c d alike _ _ t u (ap refusal.Query (one_name_refusal a.schema names f g h k))
+  shows_window names (inl (f, h, t)) (inr (none, k)) = absurd (names_not_refused a.schema names f h none)
+  shows_window names (inr (none, h)) (inl (g, k, u)) = absurd (names_not_refused a.schema names g k none)
   shows_window names (inr (none, inl (f, h, t))) (inr (gone, inl (g, k, u))) =
       let same = one_window_refusal a b f g alike h k in
       one_window_told f t (subst (λ (z : WindowFault). TellsWindowFault b z s d) (sym same) u)

@@ -11,7 +11,7 @@ use Rattle.std.proofs.lemmas.List.Sorted.{sorted_far}
 use Rattle.su_base.specs.declared.values.Value.{Value}
 use Rattle.su_base.specs.Value.{compare_lists}
 use Rattle.su_base.proofs.Rows.{rows_total, equal_rows}
-use Rattle.su_rel.specs.Stored.{AllDiffer}
+use Rattle.su_base.specs.Lists.{AllDiffer}
 use Rattle.su_once.proofs.Lists.{Ascends, one_ascending, ascends_from}
 
 abbrev Row : Type 0

@@ -22,7 +22,8 @@ use Rattle.su_min.specs.Kept.{Minimised}
 use Rattle.su_min.specs.Reduction.{term_at}
 use Rattle.su_map.specs.Lists.{row_numbers}
 use Rattle.su_tableau.specs.Parts.{cell_at, row_of}
-use Rattle.su_answer.specs.Joined.{numbers_in, IsSourceOf, IsTaskRowOf, IsTaskOf}
+use Rattle.su_schema.specs.SetMembers.{numbers_in}
+use Rattle.su_answer.specs.Joined.{IsSourceOf, IsTaskRowOf, IsTaskOf}
 use Rattle.su_answer.specs.Support.{IsCandidate, IsLeftOver, IsCountOf, IsLeftCount, IsSupport}
 use Rattle.su_once.specs.States.{AreAlike}
 use Rattle.su_once.specs.Answers.{OneSupport}

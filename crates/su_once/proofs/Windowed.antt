@@ -1,5 +1,5 @@
 -- Databases that are alike have one window on some attributes, or none for one cause.
-use Rattle.std.proofs.Common.{◌≡◌, ◌↔◌, ◌⊎◌, ◌<◌, ◌≤◌, ◌+◌, ◌*◌, ◌/◌, ◌%◌, ℕ, Bool, true, false, cond, List, [], map, length, get_or, slice_get, Contains, Option, Some, None, inl, inr, refl, ap, sym, ◌∙◌, subst, arith}
+use Rattle.std.proofs.Common.{◌≡◌, ◌↔◌, ◌⊎◌, ◌<◌, ◌≤◌, ◌+◌, ◌*◌, ◌/◌, ◌%◌, ℕ, Bool, true, false, cond, List, map, length, get_or, slice_get, Contains, Option, Some, None, inl, inr, refl, ap, sym, ◌∙◌, subst, arith}
 use Rattle.std.specs.Prelude.{IsTrue}
 use Rattle.std.specs.List.{range_with_len}
 use Rattle.std.specs.FinSet.{contains, empty}
@@ -31,6 +31,7 @@ use Rattle.su_window.specs.Window.{Fits, InWindow}
 use Rattle.su_window.specs.Padded.{object_at, row_read, member_read, AreReadings, padded, padded_row, padded_rows}
 use Rattle.su_window.specs.Refusals.{Clashes, IsWindowRefusal}
 use Rattle.su_schema.proofs.Cuts.{cut_agrees}
+use Rattle.su_schema.proofs.Entries.{blank_object}
 use Rattle.su_once.specs.Windows.{IsWindow, OneWindow, OneWindowRefusal, RefusedOrFitting}
 use Rattle.su_once.proofs.Changed.{same_schema}
 use Rattle.su_once.proofs.OneChase.{one_clash}
@@ -70,9 +71,6 @@ module _ (schema : SchemaValue) (left right : List Stored) (rows : (r : ℕ) (ro
       absurd (omega (arith, enough, few))
 
 -- ---- the padded rows of two databases: constants that meet in the ones meet in the others
-
-abbrev no_object : ObjectEntry
-no_object = record { name = []; relation = 0; links = [] }
 
 abbrev no_reading : Reading
 no_reading = record { object = 0; position = 0 }
@@ -142,7 +140,7 @@ module _ (schema : SchemaValue) (left right : List Stored) (rows : (r : ℕ) (ro
       object = ap (λ (m : Member). m.object) is
 
       own : attributes_at schema x.object ≡ attributes_of (object_at schema x.object)
-      own = get_or-map attributes_of schema.objects x.object no_object empty (are.each i no_reading low).object
+      own = get_or-map attributes_of schema.objects x.object blank_object empty (are.each i no_reading low).object
 
       same_value : (c : ℕ) → c < n → IsTrue (contains (attributes_at schema x.object) c) → value_for (object_at schema x.object) (row_read from x) c ≡ value_for (object_at schema y.object) (row_read to y) c
       same_value c within inside =

@@ -1,5 +1,5 @@
 -- Where a test passes for some element, there is a first place at which it does.
-use Rattle.std.proofs.Common.{◌≡◌, ◌<◌, ℕ, Bool, true, false, cond, ◌||◌, Some, None, List, [], ◌∷◌, ◌++◌, length, get_or, nat_lt, refl, sym, ap, ◌∙◌, arith, All}
+use Rattle.std.proofs.Common.{◌≡◌, ◌<◌, ℕ, Bool, true, false, cond, ◌||◌, Some, None, List, [], ◌∷◌, ◌++◌, map, length, get_or, nat_lt, refl, sym, ap, ◌∙◌, arith, All}
 use Rattle.std.specs.Prelude.{is_none, find, option_map}
 use Rattle.std.specs.List.{position, position_or_len, list_any}
 use Rattle.std.proofs.lemmas.Bool.Decides.{nat_tests}
@@ -49,4 +49,13 @@ none_found f p (x ∷ xs) e =
     elim (p x) as (λ b. p x ≡ b → option_map f (cond b (Some x) (find p xs)) ≡ None → All (λ y. p y ≡ false) (x ∷ xs)) [
       | true ↦ λ q k. absurd (cc)
       | false ↦ λ q k. All-cons (λ y. p y ≡ false) x xs q (none_found f p xs k)
+    ] refl e
+
+-- nor is anything where nothing is found among what a function gives
+pub none_mapped : {X Y : Type 0} (f : X → Y) (p : Y → Bool) (xs : List X) → find p (map f xs) ≡ None → All (λ x. p (f x) ≡ false) xs
+none_mapped f p [] e = All-nil (λ x. p (f x) ≡ false)
+none_mapped f p (x ∷ xs) e =
+    elim (p (f x)) as (λ b. p (f x) ≡ b → cond b (Some (f x)) (find p (map f xs)) ≡ None → All (λ y. p (f y) ≡ false) (x ∷ xs)) [
+      | true ↦ λ q k. absurd (cc)
+      | false ↦ λ q k. All-cons (λ y. p (f y) ≡ false) x xs q (none_mapped f p xs k)
     ] refl e

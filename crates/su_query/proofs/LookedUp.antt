@@ -1,12 +1,12 @@
 -- Names that are looked up, one ref after the other.
 use Rattle.std.proofs.Common.{◌≡◌, ◌<◌, ◌+◌, ℕ, Some, cond, List, [], ◌∷◌, ◌++◌, map, length, get_or, take, drop, Bor, sym, ap, ◌∙◌}
-use Rattle.std.specs.Prelude.{is_none, find, option_map}
+use Rattle.std.specs.Prelude.{is_none}
 use Rattle.std.proofs.lemmas.List.{map_push, take_more}
 use Rattle.su_schema.specs.SchemaValue.{SchemaValue}
 use Rattle.su_schema.specs.Entries.{place_of}
 use Rattle.su_query.specs.declared.refs.Ref.{Ref}
 use Rattle.su_query.specs.declared.scopes.Scope.{Scope}
-use Rattle.su_query.specs.Scopes.{names_in, is_unknown, first_unknown}
+use Rattle.su_query.specs.Scopes.{names_in, first_unknown}
 use Rattle.su_query.proofs.Found.{lent-drop}
 
 abbrev lent : List (Bor Ref) → List Ref
@@ -22,4 +22,4 @@ module _ (refs : List (Bor Ref)) (i : ℕ) (r : Bor Ref) (h : i < length refs) (
     pub known_here : (n : ℕ) → place_of (names_in schema scope) r.now.attribute ≡ Some n → first_unknown (names_in schema scope) (lent (drop i refs)) ≡ first_unknown (names_in schema scope) (lent (drop (i + 1) refs))
     known_here n is =
         ap (first_unknown (names_in schema scope)) (lent-drop refs i r h e)
-        ∙ ap (λ o. option_map (λ (x : Ref). x.attribute) (cond (is_none o) (Some r.now) (find (is_unknown (names_in schema scope)) (lent (drop (i + 1) refs))))) is
+        ∙ ap (λ o. cond (is_none o) (Some r.now.attribute) (first_unknown (names_in schema scope) (lent (drop (i + 1) refs)))) is

@@ -1,6 +1,6 @@
 -- The numbers that names resolve to are in range.
 use Rattle.std.proofs.Common.{◌≡◌, ◌<◌, ◌≤◌, ℕ, Bool, true, false, Option, Some, None, List, [], length, get_or, refl, sym, ap, subst, ◌∙◌, arith, All as Each}
-use Rattle.std.specs.Prelude.{option_map, unwrap_or, slice_index_or, position}
+use Rattle.std.specs.Prelude.{is_none, option_map, unwrap_or, slice_index_or, position}
 use Rattle.std.specs.List.{list_any}
 use Rattle.std.specs.Option.{option_or}
 use Rattle.std.specs.Str.{bytes_eq}
@@ -10,7 +10,7 @@ use Rattle.std.proofs.lemmas.List.Elements.{All-nil, All-map}
 use Rattle.std.proofs.lemmas.Slice.Eq.{bytes_eq-Decides}
 use Rattle.su_base.specs.declared.values.Kind.TheVariants.{Int as IntKind}
 use Rattle.su_schema.specs.SchemaValue.{SchemaValue}
-use Rattle.su_schema.specs.Entries.{attribute_names, attribute_kinds}
+use Rattle.su_schema.specs.Entries.{attribute_names, attribute_kinds, place_of}
 use Rattle.su_schema.specs.Known.{columns_at, number_of}
 use Rattle.su_schema.proofs.Numbers.{known-Some}
 use Rattle.su_query.specs.declared.refs.Ref.{Ref as ARef}
@@ -22,7 +22,7 @@ use Rattle.su_where.specs.Truth.{comparisons_of}
 use Rattle.su_query.specs.Refs.{NamedCond, refs_of}
 use Rattle.su_query.specs.Mentions.{same_variable, variables_of, all_refs}
 use Rattle.su_query.specs.Limits.{AreFew}
-use Rattle.su_query.specs.Scopes.{names_in, kinds_in, is_unknown, first_unknown}
+use Rattle.su_query.specs.Scopes.{names_in, kinds_in, first_unknown}
 use Rattle.su_query.specs.Places.{place_in, same_place, number_in, places_in}
 use Rattle.su_query.specs.NumberedConditions.{resolved_of, with_columns}
 use Rattle.su_query.specs.declared.conditions.Comparison.{Comparison}
@@ -34,7 +34,7 @@ use Rattle.su_query.specs.Ranges.{IsPlaceAmong, place_kinds, IsResolved, IsOnCol
 use Rattle.su_base.proofs.Items.{All-append_left, All-append_right}
 use Rattle.su_query.proofs.Noted.{same_place-refl}
 use Rattle.su_query.proofs.FirstMentions.{first_mentions-has, first_mentions-all}
-use Rattle.su_query.proofs.Hits.{Hit, hit_any, hit_some, none_found}
+use Rattle.su_query.proofs.Hits.{Hit, hit_any, hit_some, none_mapped}
 use Rattle.su_query.proofs.Placed.{few_variables, few_places}
 use Rattle.su_query.proofs.Literals.{IsNumbered, typed}
 
@@ -43,6 +43,10 @@ same_variable-refl None = refl
 same_variable-refl (Some v) = (bytes_eq-Decides v v).1 refl
 
 -- ---- names that are known
+
+-- the attribute of the ref isn't among the names
+abbrev is_unknown : List (List ℕ) → ARef → Bool
+is_unknown names ref = is_none (place_of names ref.attribute)
 
 hit_number : {X : Type 0} (p : X → Bool) (xs : List X) → Hit p xs → unwrap_or (position p xs) 0 < length xs
 hit_number p xs h = subst (λ (n : ℕ). n < length xs) (sym (ap (λ o. unwrap_or o 0) h.is)) h.below
@@ -56,7 +60,7 @@ known_number names r e =
     subst (λ (n : ℕ). n < length names) (sym (known-Some names r.attribute h.at h.is).1) h.below
 
 all_known : (names : List (List ℕ)) (refs : List ARef) → first_unknown names refs ≡ None → Each (λ r. is_unknown names r ≡ false) refs
-all_known names refs e = none_found (λ r. r.attribute) (is_unknown names) refs e
+all_known names refs e = none_mapped (λ (r : ARef). r.attribute) (λ name. is_none (place_of names name)) refs e
 
 neither : {A B C : Type 0} (f : A → C) (g : B → C) (a : Option A) (b : Option B) → option_or (option_map f a) (option_map g b) ≡ None → (a ≡ None) × (b ≡ None)
 neither f g None None e = (refl, refl)

@@ -1,6 +1,6 @@
 -- Sets of attributes, by their numbers: those with given names, and those that a variable is mentioned with.
 -- mentioned with: in an output or a comparison of the same variable
-use Rattle.std.specs.Prelude.{◌≡◌, ℕ, ◌==◌, List, map, filter, Some}
+use Rattle.std.specs.Prelude.{◌≡◌, ℕ, ◌==◌, List, map, filter, Some, option_map}
 use Rattle.std.specs.Ordering.{nat_cmp}
 use Rattle.std.specs.FinSet.{FinSet, from_list}
 use Rattle.su_schema.specs.SchemaValue.{SchemaValue}
@@ -17,8 +17,7 @@ attributes_named schema names = numbers_of (attribute_names schema) names
 
 -- why names are refused: the first of them that is not known
 abbrev pub IsNameRefusal : SchemaValue → List (List ℕ) → QueryFault → Type 0
-IsNameRefusal schema names (Unknown name) = first_unknown_name (attribute_names schema) names ≡ Some name
-IsNameRefusal schema names _ = ⊥
+IsNameRefusal schema names fault = option_map Unknown (first_unknown_name (attribute_names schema) names) ≡ Some fault
 
 -- the attributes of the places of a variable
 abbrev pub mentioned_with : List Place → ℕ → FinSet nat_cmp

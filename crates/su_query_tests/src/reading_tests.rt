@@ -11,11 +11,7 @@ fn refused(alloc: Global, fault: &QueryFault) -> Result<List<u8>, NoMemory> {
         QueryFault::Limit(_) => "limit",
         _ => "else",
     };
-    let mut all = List::new(alloc);
-    for byte in word.as_bytes() {
-        all.push(*byte)?;
-    }
-    Ok(all)
+    Ok(List::from_vec(Vec::from_slice(alloc, word.as_bytes())?))
 }
 
 fn shown(alloc: Global, outcome: &Result<Statement, QueryFault>) -> Result<List<u8>, NoMemory> {

@@ -6,9 +6,9 @@ use Rattle.su_base.specs.declared.values.Value.{Value}
 use Rattle.su_base.specs.declared.values.Value.TheVariants.{Int}
 use Rattle.su_tableau.specs.declared.symbols.Sym.{Sym}
 use Rattle.su_tableau.specs.declared.symbols.Sym.TheVariants.{Const, Var}
-use Rattle.su_tableau.specs.Valuations.{value_of, values_of}
+use Rattle.su_tableau.specs.Valuations.{nth, value_of, values_of}
 use Rattle.su_reduce.specs.Shapes.{Fits, cell_at, variable_place}
-use Rattle.su_reduce.specs.inside.Keys.{FitsAt, assigned, value_at}
+use Rattle.su_reduce.specs.inside.Keys.{FitsAt, assigned}
 use Rattle.su_reduce.proofs.Places.{assigned_is, contains_at}
 
 value_agree : (v w : ℕ → Value) (cell : Sym) → ((k : ℕ) → cell ≡ Var k → v k ≡ w k) → value_of v cell ≡ value_of w cell
@@ -30,16 +30,16 @@ module _ (cells : List Sym) (xs : List Value) where
   -- what a valuation gives fits at each place
   pub fits_to : (v : ℕ → Value) → values_of v cells ≡ xs → (p : ℕ) → p < length cells → FitsAt cells xs p
   fits_to v gives p low =
-      value_agree (assigned cells xs) v (cell_at cells p) (λ k is. assigned_is v cells xs k gives (contains_at cells p k low is)) ∙ sym (get_or-map (value_of v) cells p (Var 0) (Int (pos 0)) low) ∙ ap (λ ys. value_at ys p) gives
+      value_agree (assigned cells xs) v (cell_at cells p) (λ k is. assigned_is v cells xs k gives (contains_at cells p k low is)) ∙ sym (get_or-map (value_of v) cells p (Var 0) (Int (pos 0)) low) ∙ ap (λ ys. nth ys p) gives
 
   -- a constant asks for itself
-  pub fits_constant : (p : ℕ) (r : Bool) (value constant : Value) → IsTrue r ↔ (value ≡ constant) → value ≡ value_at xs p → cell_at cells p ≡ Const constant → IsTrue r ↔ FitsAt cells xs p
+  pub fits_constant : (p : ℕ) (r : Bool) (value constant : Value) → IsTrue r ↔ (value ≡ constant) → value ≡ nth xs p → cell_at cells p ≡ Const constant → IsTrue r ↔ FitsAt cells xs p
   fits_constant p r value constant same at is =
       let asks : value_of (assigned cells xs) (cell_at cells p) ≡ constant = ap (value_of (assigned cells xs)) is in
       (λ t. asks ∙ (sym (same.0 t) ∙ at), λ f. same.1 (at ∙ (sym f ∙ asks)))
 
   -- a variable asks for the value at its place
-  pub fits_variable : (p k q : ℕ) (r : Bool) → IsTrue r ↔ (value_at xs p ≡ value_at xs q) → cell_at cells p ≡ Var k → q ≡ variable_place cells k → IsTrue r ↔ FitsAt cells xs p
+  pub fits_variable : (p k q : ℕ) (r : Bool) → IsTrue r ↔ (nth xs p ≡ nth xs q) → cell_at cells p ≡ Var k → q ≡ variable_place cells k → IsTrue r ↔ FitsAt cells xs p
   fits_variable p k q r same is place =
-      let asks : value_of (assigned cells xs) (cell_at cells p) ≡ value_at xs q = ap (value_of (assigned cells xs)) is ∙ ap (value_at xs) (sym place) in
+      let asks : value_of (assigned cells xs) (cell_at cells p) ≡ nth xs q = ap (value_of (assigned cells xs)) is ∙ ap (nth xs) (sym place) in
       (λ t. asks ∙ sym (same.0 t), λ f. same.1 (sym f ∙ asks))

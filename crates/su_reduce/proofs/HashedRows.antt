@@ -3,9 +3,11 @@ use Rattle.std.proofs.Common.{◌≡◌, ◌≢◌, ℕ, zero, suc, ◌<◌, ◌
 use Rattle.std.specs.Prelude.{cond, nat_eq}
 use Rattle.std.proofs.lemmas.Bool.{cases_lt, cases_eq}
 use Rattle.std.proofs.lemmas.Bool.Decides.{nat_tests}
-use Rattle.std.proofs.lemmas.List.{get_or-set_same, get_or-set_other, length-set, length-take-le, get_or-take, get_or_append_left, get_or_push}
-use Rattle.su_reduce.specs.Sheets.{pick, AllDiffer}
-use Rattle.su_reduce.specs.Chains.{last, hash_of, in_bucket, IsHashed}
+use Rattle.std.proofs.lemmas.List.{get_or-set_same, get_or-set_other, length-set, length-take-le, get_or-take, get_or_append_left, get_or_default, get_or_push}
+use Rattle.su_base.specs.Lists.{AllDiffer}
+use Rattle.su_reduce.specs.Sheets.{pick}
+use Rattle.su_reduce.specs.Chains.{last, hash_of, in_bucket}
+use Rattle.su_reduce.specs.inside.Hashed.{IsHashed}
 
 -- tests that are the same below n have the same last number
 last_same : (p q : ℕ → Bool) (n : ℕ) → ((j : ℕ) → j < n → p j ≡ q j) → last p n ≡ last q n
@@ -72,14 +74,14 @@ module _ (w : ℕ) (rows : List (List ℕ)) (places heads next row : List ℕ) (
       (cases_lt j n)
 
   new_differ : ((j : ℕ) → j < n → get_or rows j [] ≢ row) → AllDiffer more
-  new_differ none i j l m =
+  new_differ none i j d l m =
       let len = length-append rows (row ∷ []) in
       let a : i < n = omega arith in
       ⊎_elim
-      (λ (b : j < n). λ (e : get_or more i [] ≡ get_or more j []). old.differ i j l b (sym (get_or_append_left rows (row ∷ []) [] i a) ∙ e ∙ get_or_append_left rows (row ∷ []) [] j b))
-      (λ (b : n ≤ j). λ (e : get_or more i [] ≡ get_or more j []).
+      (λ (b : j < n). λ (e : get_or more i d ≡ get_or more j d). old.differ i j d l b (sym (get_or_append_left rows (row ∷ []) d i a) ∙ e ∙ get_or_append_left rows (row ∷ []) d j b))
+      (λ (b : n ≤ j). λ (e : get_or more i d ≡ get_or more j d).
       let same : j ≡ n = omega arith in
-      none i a (sym (get_or_append_left rows (row ∷ []) [] i a) ∙ e ∙ ap (λ j. get_or more j []) same ∙ get_or_push rows row [] (length rows) refl))
+      none i a (get_or_default rows i [] d a ∙ sym (get_or_append_left rows (row ∷ []) d i a) ∙ e ∙ ap (λ j. get_or more j d) same ∙ get_or_push rows row d (length rows) refl))
       (cases_lt j n)
 
   pub hashed_more : ((j : ℕ) → j < n → get_or rows j [] ≢ row) → IsHashed (record { width = w; rows = more }) places (set heads h (suc n)) after

@@ -6,20 +6,20 @@ use Rattle.su_base.specs.declared.values.Value.{Value}
 use Rattle.su_base.specs.declared.values.Value.TheVariants.{Int}
 use Rattle.su_tableau.specs.declared.symbols.Sym.{Sym}
 use Rattle.su_tableau.specs.declared.symbols.Sym.TheVariants.{Var}
-use Rattle.su_tableau.specs.Valuations.{value_of, values_of}
+use Rattle.su_tableau.specs.Valuations.{nth, value_of, values_of}
 use Rattle.su_reduce.specs.Codes.{AreApart, decode}
 use Rattle.su_reduce.specs.Sheets.{AreBelow, IsMarkedKey, Rows, pick}
 use Rattle.su_reduce.specs.inside.Coded.{AreRowsOf, IsCodeOf}
 use Rattle.su_reduce.specs.Shapes.{Fits}
 use Rattle.su_reduce.specs.inside.Marks.{Meet, HasPartner, mark, row_at}
-use Rattle.su_reduce.specs.inside.Keys.{AreShared, IsPair, value_at}
+use Rattle.su_reduce.specs.inside.Keys.{AreShared, IsPair}
 use Rattle.su_reduce.proofs.Buckets.{pick_at}
 use Rattle.su_reduce.proofs.Places.{read_value}
 use Rattle.su_reduce.proofs.Exact.{patched, patched_own, patched_others}
 
 -- the values of a row at these places
 abbrev pub key : List ℕ → List Value → List Value
-key places row = map (λ p. value_at row p) places
+key places row = map (λ p. nth row p) places
 
 -- the key of a marked one of the first n rows
 pub record IsKeyOf (rows : List (List Value)) (marks : List Bool) (places : List ℕ) (n : ℕ) (k : List Value) : Type 0 where
@@ -59,15 +59,15 @@ module _ (values : List Value) where
     pub key_is : map (decode values) (pick places codes) ≡ key places row
     key_is =
         let picked = length-map places (λ p. get_or codes p 0) in
-        let keyed = length-map places (value_at row) in
+        let keyed = length-map places (nth row) in
         same_lists (map (decode values) (pick places codes)) (key places row) (length-map (pick places codes) (decode values) ∙ picked ∙ sym keyed) (λ i d l.
         let whole = length-map (pick places codes) (decode values) in
         let in_pick : i < length (pick places codes) = omega (arith, l, whole) in
         let in_places : i < length places = omega (arith, in_pick, picked) in
         let p : ℕ = get_or places i 0 in
         get_or-map (decode values) (pick places codes) i 0 d in_pick ∙ ap (decode values) (pick_at places codes i 0 in_places)
-        ∙ sym (get_or-map (decode values) codes p 0 (Int (pos 0)) (at i in_places)) ∙ ap (λ (xs : List Value). value_at xs p) are.is
-        ∙ sym (get_or-map (value_at row) places i 0 d in_places))
+        ∙ sym (get_or-map (decode values) codes p 0 (Int (pos 0)) (at i in_places)) ∙ ap (λ (xs : List Value). nth xs p) are.is
+        ∙ sym (get_or-map (nth row) places i 0 d in_places))
 
     pub key_low : AreBelow (pick places codes) (length values)
     key_low i d l =
@@ -84,22 +84,22 @@ fits_length cells row fit = ap (λ (xs : List Value). length xs) (sym fit.1) ∙
 
 module _ (left right : List Sym) (ls rs : List ℕ) (shared : AreShared left right (length left) ls rs) where
   -- the values of a key
-  key_at : (places : List ℕ) (row : List Value) (i : ℕ) (d : Value) → i < length places → get_or (key places row) i d ≡ value_at row (get_or places i 0)
-  key_at places row i d l = get_or-map (value_at row) places i 0 d l
+  key_at : (places : List ℕ) (row : List Value) (i : ℕ) (d : Value) → i < length places → get_or (key places row) i d ≡ nth row (get_or places i 0)
+  key_at places row i d l = get_or-map (nth row) places i 0 d l
 
   -- what a valuation gives at the i-th place on either side
-  left_value : (v : ℕ → Value) (row : List Value) (i k : ℕ) → IsPair left right ls rs i k → values_of v left ≡ row → value_at row (get_or ls i 0) ≡ v k
+  left_value : (v : ℕ → Value) (row : List Value) (i k : ℕ) → IsPair left right ls rs i k → values_of v left ≡ row → nth row (get_or ls i 0) ≡ v k
   left_value v row i k pair gives = read_value v left row (get_or ls i 0) k gives (shared.left_below i pair.below) pair.left_is
 
-  right_value : (v : ℕ → Value) (row : List Value) (i k : ℕ) → IsPair left right ls rs i k → values_of v right ≡ row → value_at row (get_or rs i 0) ≡ v k
+  right_value : (v : ℕ → Value) (row : List Value) (i k : ℕ) → IsPair left right ls rs i k → values_of v right ≡ row → nth row (get_or rs i 0) ≡ v k
   right_value v row i k pair gives = read_value v right row (get_or rs i 0) k gives (shared.right_below i pair.below) pair.right_is
 
   keys_long : (row other : List Value) → length (key rs other) ≡ length (key ls row)
-  keys_long row other = length-map rs (value_at other) ∙ sym shared.same_length ∙ sym (length-map ls (value_at row))
+  keys_long row other = length-map rs (nth other) ∙ sym shared.same_length ∙ sym (length-map ls (nth row))
 
   pub one_key : (row other : List Value) → Meet left right row other → key rs other ≡ key ls row
   one_key row other meet = same_lists (key rs other) (key ls row) (keys_long row other) (λ i d l.
-      let right_long = length-map rs (value_at other) in
+      let right_long = length-map rs (nth other) in
       let same = shared.same_length in
       let pair = shared.only i (omega (arith, l, right_long, same)) in
       key_at rs other i d (omega (arith, l, right_long)) ∙ right_value meet.valuation other i pair.0 pair.1 meet.other_is

@@ -12,6 +12,7 @@ pub mod Along
 pub mod Buckets
 pub mod FoundCodes
 pub mod ListPieces
+pub mod MarkedItems
 pub mod CodeExtensions
 pub mod HashedRows
 pub mod Partnered

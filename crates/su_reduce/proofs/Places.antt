@@ -9,9 +9,9 @@ use Rattle.su_base.specs.declared.values.Value.TheVariants.{Int}
 use Rattle.su_tableau.proofs.Rows.{below_more}
 use Rattle.su_tableau.specs.declared.symbols.Sym.{Sym}
 use Rattle.su_tableau.specs.declared.symbols.Sym.TheVariants.{Const, Var}
-use Rattle.su_tableau.specs.Valuations.{value_of, values_of}
+use Rattle.su_tableau.specs.Valuations.{nth, value_of, values_of}
 use Rattle.su_reduce.specs.Shapes.{cell_at, variable_place, AreFirsts}
-use Rattle.su_reduce.specs.inside.Keys.{value_at, assigned, IsPair, AreShared}
+use Rattle.su_reduce.specs.inside.Keys.{assigned, IsPair, AreShared}
 use Rattle.su_reduce.proofs.MeetingSets.{pushed_each, pushed_length}
 use Rattle.su_reduce.proofs.Exact.{no_variable}
 
@@ -58,8 +58,8 @@ pub contains_at : (cells : List Sym) (p k : ℕ) → p < length cells → cell_a
 contains_at cells p k l is = (p, l, get_or_default cells p (Var k) (Var 0) l ∙ is)
 
 -- the value that a row of a valuation has where a cell holds a variable
-pub read_value : (v : ℕ → Value) (cells : List Sym) (row : List Value) (p k : ℕ) → values_of v cells ≡ row → p < length cells → cell_at cells p ≡ Var k → value_at row p ≡ v k
-read_value v cells row p k gives l is = ap (λ (xs : List Value). value_at xs p) (sym gives) ∙ get_or-map (value_of v) cells p (Var 0) (Int (pos 0)) l ∙ ap (value_of v) is
+pub read_value : (v : ℕ → Value) (cells : List Sym) (row : List Value) (p k : ℕ) → values_of v cells ≡ row → p < length cells → cell_at cells p ≡ Var k → nth row p ≡ v k
+read_value v cells row p k gives l is = ap (λ (xs : List Value). nth xs p) (sym gives) ∙ get_or-map (value_of v) cells p (Var 0) (Int (pos 0)) l ∙ ap (value_of v) is
 
 -- a variable's place is the least that holds it
 pub place_least : (cells : List Sym) (k p : ℕ) → p < length cells → cell_at cells p ≡ Var k → variable_place cells k ≤ p
@@ -98,10 +98,10 @@ firsts_more cells n places q so_far low is = record {
 }
 
 -- the first place of a variable has the value that the valuation gives it
-pub first_value : (v : ℕ → Value) (cells : List Sym) (firsts : List ℕ) (row : List Value) (p : ℕ) (x : Sym) (first : Value) (k : ℕ) → AreFirsts cells (length cells) firsts → p < length cells → values_of v cells ≡ row → x ≡ cell_at cells p → first ≡ value_at row (get_or firsts p 0) → x ≡ Var k → v k ≡ first
+pub first_value : (v : ℕ → Value) (cells : List Sym) (firsts : List ℕ) (row : List Value) (p : ℕ) (x : Sym) (first : Value) (k : ℕ) → AreFirsts cells (length cells) firsts → p < length cells → values_of v cells ≡ row → x ≡ cell_at cells p → first ≡ nth row (get_or firsts p 0) → x ≡ Var k → v k ≡ first
 first_value v cells firsts row p x first k are l gives x_is first_is var =
     let here : cell_at cells p ≡ Var k = sym x_is ∙ var in
-    sym (first_is ∙ ap (value_at row) (are.is_place p k l here) ∙ assigned_is v cells row k gives (contains_at cells p k l here))
+    sym (first_is ∙ ap (nth row) (are.is_place p k l here) ∙ assigned_is v cells row k gives (contains_at cells p k l here))
 
 -- ---- shared places
 

@@ -1,9 +1,9 @@
 -- Rows in buckets by their hashes.
 -- place: the number of a cell in a row; bucket: the rows whose hashes at some places leave the same rest
 -- chain: for each row of a bucket the number after the row before it in the bucket, 0 where there is none
-use Rattle.std.specs.Prelude.{ℕ, zero, suc, ◌+◌, ◌*◌, ◌%◌, Bool, cond, nat_eq, true, ◌≡◌, ◌<◌, ◌≤◌, List, [], get_or, length}
+use Rattle.std.specs.Prelude.{ℕ, zero, suc, ◌+◌, ◌*◌, ◌%◌, Bool, cond, nat_eq, true, ◌≡◌, ◌<◌, List, [], get_or, length}
 use Rattle.std.specs.List.{fold}
-use Rattle.su_reduce.specs.Sheets.{Rows, pick, AreBelow, AllDiffer}
+use Rattle.su_reduce.specs.Sheets.{pick}
 
 -- one step of the hash, modulo 2^64
 abbrev pub hash_step : ℕ → ℕ → ℕ
@@ -33,12 +33,3 @@ AreChains rows places n next = (h : ℕ) → IsChain rows places n h next
 -- for each bucket the number after its last row
 abbrev pub AreHeads : List (List ℕ) → List ℕ → List ℕ → Type 0
 AreHeads rows places heads = (h : ℕ) → h < length heads → get_or heads h 0 ≡ last (in_bucket rows places (length heads) h) (length rows)
-
--- rows that differ, in buckets
-pub record IsHashed (rows : Rows) (places heads next : List ℕ) : Type 0 where
-  pub below : AreBelow places rows.width
-  pub some : 0 < length heads
-  pub room : length rows.rows ≤ length next
-  pub each_head : AreHeads rows.rows places heads
-  pub chains : AreChains rows.rows places (length heads) next
-  pub differ : AllDiffer rows.rows

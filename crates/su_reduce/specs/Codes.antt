@@ -1,12 +1,12 @@
 -- Codes of values.
 -- code: a value's position in a list of values
-use Rattle.std.specs.Prelude.{◌≡◌, ◌<◌, ◌≤◌, ℕ, pos, List, length, get_or}
+use Rattle.std.specs.Prelude.{◌≡◌, ◌<◌, ◌≤◌, ℕ, List, length}
 use Rattle.su_base.specs.declared.values.Value.{Value}
-use Rattle.su_base.specs.declared.values.Value.TheVariants.{Int}
+use Rattle.su_tableau.specs.Valuations.{nth}
 
 -- the value of a code; 0 where no value has it
 abbrev pub decode : List Value → ℕ → Value
-decode values code = get_or values code (Int (pos 0))
+decode values code = nth values code
 
 -- no value has two codes
 abbrev pub AreApart : List Value → Type 0

@@ -1,6 +1,6 @@
 -- Rows of codes, of one width, and their keys.
 -- place: the number of a cell in a row; key: the cells of a row at some places; marked: not taken away yet
-use Rattle.std.specs.Prelude.{◌≡◌, ℕ, zero, suc, ◌<◌, Bool, false, IsTrue, List, [], ◌∷◌, map, length, take, drop, get_or, All}
+use Rattle.std.specs.Prelude.{◌≡◌, ℕ, zero, suc, ◌<◌, Bool, false, IsTrue, List, [], ◌∷◌, map, take, drop, get_or, All}
 
 -- a width, and rows of it
 pub record Rows : Type 0 where
@@ -19,10 +19,6 @@ pick ps xs = map (λ p. get_or xs p 0) ps
 -- all places are less than n
 abbrev pub AreBelow : List ℕ → ℕ → Type 0
 AreBelow ps n = All (λ p. p < n) ps
-
--- no row stands at two positions
-abbrev pub AllDiffer : List (List ℕ) → Type 0
-AllDiffer rows = (i j : ℕ) → i < j → j < length rows → ¬ (get_or rows i [] ≡ get_or rows j [])
 
 -- the key of a marked one of the first n rows
 pub record IsMarkedKey (rows : List (List ℕ)) (marks : List Bool) (places : List ℕ) (n : ℕ) (key : List ℕ) : Type 0 where

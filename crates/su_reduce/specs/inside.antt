@@ -1,5 +1,6 @@
--- Definitions that only contracts of private functions need.
+-- Definitions that only contracts of private functions and invariants of types need.
 pub mod Coded
+pub mod Hashed
 pub mod Keys
 pub mod Marks
 pub mod Partnered

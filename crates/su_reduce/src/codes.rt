@@ -38,8 +38,8 @@ impl Codes {
         }
     }
 
-    /// No value has two codes.
-    pub fn apart(&self)
+    /// For proofs: no value has two codes. It does nothing.
+    pub fn keeps_its_rules(&self)
         ensures { AreApart self.now }
     {
         // For the proof: the values differ.

@@ -1,7 +1,9 @@
 //! Rows of codes, each once.
 ghost use Rattle.std.specs.Prelude.{◌≡◌, ◌↔◌, ◌⊎◌, ℕ, ◌%◌, List, [], length, Contains, IsTrue, IfOk, OnOk};
-ghost use Rattle.su_reduce.specs.Chains.{IsHashed, hash_of};
-ghost use Rattle.su_reduce.specs.Sheets.{AllDiffer, pick};
+ghost use Rattle.su_base.specs.Lists.{AllDiffer};
+ghost use Rattle.su_reduce.specs.Chains.{hash_of};
+ghost use Rattle.su_reduce.specs.Sheets.{pick};
+ghost use Rattle.su_reduce.specs.inside.Hashed.{IsHashed};
 
 use crate::hashes::{bucket, fill};
 use crate::sheets::Sheet;
@@ -19,7 +21,7 @@ pub struct Distinct {
 
 impl Model for Distinct {
     ghost use Rattle.su_reduce.specs.Sheets.{Rows};
-    ghost use Rattle.su_reduce.specs.Chains.{IsHashed};
+    ghost use Rattle.su_reduce.specs.inside.Hashed.{IsHashed};
 
     ghost Value = { Rows };
 

@@ -2,8 +2,9 @@
 ghost use Rattle.std.specs.Prelude.{◌≡◌, ◌↔◌, ◌<◌, ◌+◌, ℕ, pos, IsTrue, IfOk, MatchOption, length, get_or};
 ghost use Rattle.su_base.specs.declared.values.Value.TheVariants.{Int};
 ghost use Rattle.su_tableau.specs.declared.symbols.Sym.TheVariants.{Var};
+ghost use Rattle.su_tableau.specs.Valuations.{nth};
 ghost use Rattle.su_reduce.specs.Shapes.{Fits, HasColumns, IsShape, IsShapeOf, variable_place, values_in};
-ghost use Rattle.su_reduce.specs.inside.Keys.{FitsAt, value_at};
+ghost use Rattle.su_reduce.specs.inside.Keys.{FitsAt};
 
 use std::alloc::{AllocError, Global};
 use su_base::{List, Row, Value};
@@ -105,7 +106,7 @@ fn same_value(a: &Value, b: &Value) -> bool
 fn same_at(columns: &Columns, row: &Row, p: usize, q: usize) -> bool
     requires columns { HasColumns columns.now row.now }
     requires places { (p < length (values_in columns.now row.now)) × (q < length (values_in columns.now row.now)) }
-    ensures { IsTrue result ↔ (value_at (values_in columns.now row.now) p ≡ value_at (values_in columns.now row.now) q) }
+    ensures { IsTrue result ↔ (nth (values_in columns.now row.now) p ≡ nth (values_in columns.now row.now) q) }
 {
     if p == q {
         return true;

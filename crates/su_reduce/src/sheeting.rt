@@ -82,6 +82,6 @@ pub fn sheets_of(alloc: Global, edges: &[Edge]) -> Result<Vec<Sheet>, AllocError
         let sheet = sheet_of(alloc, &mut codes, edge)?;
         sheets.push(sheet)?;
     }
-    codes.apart();
+    codes.keeps_its_rules();
     Ok(sheets)
 }

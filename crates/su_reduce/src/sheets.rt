@@ -1,5 +1,5 @@
 //! Rows of codes, of one width, in one vector.
-ghost use Rattle.std.specs.Prelude.{◌≡◌, ◌+◌, ◌*◌, ◌<◌, ◌≤◌, [], ◌∷◌, ◌++◌, length, get_or, take, drop, All, OnOk, OnErr};
+ghost use Rattle.std.specs.Prelude.{◌≡◌, ◌+◌, ◌*◌, ◌<◌, ◌≤◌, [], ◌∷◌, ◌++◌, length, get_or, take, drop, All, OnOk, OnErr, if◌then◌else◌};
 ghost use Rattle.su_reduce.specs.Left.{marked};
 ghost use Rattle.su_reduce.specs.Sheets.{cut};
 
@@ -51,8 +51,8 @@ impl Sheet {
         self.count
     }
 
-    /// Each row has the width.
-    pub fn widths(&self)
+    /// For proofs: each row has the width. It does nothing.
+    pub fn keeps_its_rules(&self)
         ensures { All (λ r. length r ≡ self.now.width) self.now.rows }
     {
         let _ = &self.cells;
@@ -81,6 +81,19 @@ impl Sheet {
         };
         self.cells.extend_from_slice(row)?;
         self.count = count;
+        Ok(())
+    }
+
+    /// One more row where it is wanted.
+    pub fn push_if(&mut self, wanted: bool, row: &[u32]) -> Result<(), AllocError>
+        requires width { length row.now ≡ self.old.width }
+        ensures width { self.new.width ≡ self.old.width }
+        ensures ok { OnOk result (self.new.rows ≡ self.old.rows ++ (if wanted then row.now ∷ [] else [])) }
+        ensures unchanged { OnErr result (self.new.rows ≡ self.old.rows) }
+    {
+        if wanted {
+            self.push(row)?;
+        }
         Ok(())
     }
 

@@ -1,7 +1,8 @@
 -- Each kept row has one tree.
-use Rattle.std.proofs.Common.{◌≡◌, ℕ, ◌≤◌, List, [], ◌∷◌, Contains, refl, ap, arith}
+use Rattle.std.proofs.Common.{◌≡◌, ℕ, zero, suc, ◌≤◌, List, [], ◌∷◌, take, Contains, refl, ap, arith}
 use Rattle.std.specs.Int.{bit_at}
 use Rattle.std.specs.List.{AllZip}
+use Rattle.std.proofs.lemmas.List.Sums.{sum_by-cons}
 use Rattle.su_base.proofs.Items.{Contains-head, Contains-later}
 use Rattle.su_tableau.specs.Tableaux.{IsValid, IsSmall}
 use Rattle.su_map.specs.Lists.{row_numbers}
@@ -9,7 +10,7 @@ use Rattle.su_check.specs.declared.nodes.Node.{Node}
 use Rattle.su_check.specs.SentRows.{Lines}
 use Rattle.su_min.specs.Kept.{Minimised, IsKept}
 use Rattle.su_refute.specs.Trees.{IsTree, node_count}
-use Rattle.su_refute.specs.AllTrees.{lines_of, AreTreesOf, AreTrees, all_nodes, HasLargerTree, HasMoreNodes}
+use Rattle.su_refute.specs.AllTrees.{lines_of, AreTreesOf, AreTrees, nodes_in, all_nodes, HasLargerTree, HasMoreNodes}
 use Rattle.su_refute.specs.Laws.{KeptRowsHaveOneTree}
 use Rattle.su_refute.proofs.Needed.{needed, begin_small, row_small, ready_first}
 use Rattle.su_refute.proofs.There.{a_tree}
@@ -50,8 +51,22 @@ one_lists (m ∷ ms) (n ∷ ns) (o ∷ os) h k = let e = one_list (lines_of m) (
 pub no_larger : (m : Minimised) (r budget : ℕ) (n : Node) → IsTree (lines_of m) r n → node_count n ≤ budget → HasLargerTree m r budget → ⊥
 no_larger m r budget n is within more = let e = ap node_count (one_tree (lines_of m) r n [] is more.tree more.is_tree) in let l = more.more in absurd (omega arith)
 
+-- the trees of the first tableaux have no more nodes than those of all
+pub front_few : (ms : List Minimised) (k : ℕ) (front lists : List (List Node)) → AreTrees (take k ms) front → AreTrees ms lists → all_nodes front ≤ all_nodes lists
+front_few ms zero [] lists h are = omega arith
+front_few ms zero (f ∷ fs) lists h are = absurd h
+front_few [] (suc k) [] lists h are = omega arith
+front_few [] (suc k) (f ∷ fs) lists h are = absurd h
+front_few (m ∷ ms) (suc k) [] lists h are = absurd h
+front_few (m ∷ ms) (suc k) (f ∷ fs) [] h are = absurd are
+front_few (m ∷ ms) (suc k) (f ∷ fs) (l ∷ ls) h are =
+    let e = ap nodes_in (one_list (lines_of m) (row_numbers m.tableau m.mask) f l h.0 are.0) in
+    let few = front_few ms k fs ls h.1 are.1 in
+    let a = sum_by-cons nodes_in f fs in let b = sum_by-cons nodes_in l ls in
+    omega arith
+
 pub no_more : (ms : List Minimised) (budget : ℕ) (lists : List (List Node)) → AreTrees ms lists → all_nodes lists ≤ budget → HasMoreNodes ms budget → ⊥
-no_more ms budget lists are within more = let e = ap all_nodes (one_lists ms lists more.trees are more.are_trees) in let l = more.more in absurd (omega arith)
+no_more ms budget lists are within more = let few = front_few ms more.first more.trees lists more.are_trees are in let l = more.more in absurd (omega arith)
 
 pub has_one_tree : KeptRowsHaveOneTree
 has_one_tree m r sound one = let x = kept_tree m r sound.valid sound.small sound.minimised.kept one in record { tree = x.0; is_tree = x.1; only = λ o h. one_tree (lines_of m) r x.0 [] x.1 o h }

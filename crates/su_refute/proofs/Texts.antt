@@ -1,7 +1,6 @@
 -- Lines of certificates, one after another.
-use Rattle.std.proofs.Common.{◌≡◌, ℕ, zero, suc, ◌+◌, ◌<◌, ◌≤◌, ◌⊎◌, List, [], ◌∷◌, ◌++◌, codes, map, flat_map, take, length, get_or, inl, inr, refl, sym, ap, ◌∙◌, append_assoc, arith}
+use Rattle.std.proofs.Common.{◌≡◌, ℕ, zero, suc, ◌+◌, ◌<◌, ◌≤◌, ◌⊎◌, List, [], ◌∷◌, ◌++◌, map, flat_map, take, length, get_or, inl, inr, refl, sym, ap, ◌∙◌, append_assoc, arith}
 use Rattle.std.proofs.lemmas.List.{append-nil, length-take-le, take_more, map-append}
-use Rattle.su_base.specs.declared.values.Kind.{Kind}
 use Rattle.su_base.proofs.Items.{flat_map-push}
 use Rattle.su_lex.specs.declared.meaning.Symbol.{Symbol}
 use Rattle.su_lex.specs.declared.meaning.Symbol.TheVariants.{Sign}
@@ -12,8 +11,7 @@ use Rattle.su_check.specs.declared.nodes.Branch.{Branch}
 use Rattle.su_check.specs.declared.certificates.RowTree.{RowTree}
 use Rattle.su_check.specs.Refutations.{row_named, branches_of}
 use Rattle.su_check.specs.NodeSymbols.{number, node_symbols}
-use Rattle.su_lex.specs.Wordings.{kind_symbol}
-use Rattle.su_check.specs.Grammar.{line, tree_line, term_lines}
+use Rattle.su_check.specs.Grammar.{tree_line, term_lines}
 use Rattle.su_check.proofs.NodeSymbols.{branch_symbols, node_at}
 use Rattle.su_refute.specs.Written.{row_trees, term_of, terms_from, line_text, lines_text}
 
@@ -71,9 +69,6 @@ pub trees_done : (old out : List ℕ) (ks : List ℕ) (ts : List Node) (i : ℕ)
 trees_done old out ks ts i h is = is ∙ ap (λ xs. old ++ lines_text (map tree_line xs)) (row_trees_take i ks ts h)
 
 -- ---- terms
-
-abbrev pub front_text : List Kind → List ℕ
-front_text kinds = line_text (line (codes "certificate") (number (length kinds) ∷ [])) ++ line_text (line (codes "kinds") (map kind_symbol kinds))
 
 terms_push : (j : ℕ) (ms : List Minimised) (m : Minimised) (lists : List (List Node)) → terms_from j (ms ++ m ∷ []) lists ≡ terms_from j ms lists ++ term_of (j + length ms) m (get_or lists (length ms) []) ∷ []
 terms_push j [] m [] = let e : j ≡ j + 0 = omega arith in ap (λ k. term_of k m [] ∷ []) e

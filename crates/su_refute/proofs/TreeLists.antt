@@ -1,22 +1,22 @@
 -- Lists of trees, one after another.
-use Rattle.std.proofs.Common.{◌≡◌, ◌≢◌, ℕ, suc, ◌+◌, ◌<◌, ◌≤◌, List, [], ◌∷◌, ◌++◌, take, length, get_or, All, sym, ap, subst, ◌∙◌, ⊎_elim, arith}
+use Rattle.std.proofs.Common.{◌≡◌, ◌≢◌, ℕ, suc, ◌+◌, ◌<◌, List, [], ◌∷◌, ◌++◌, take, length, get_or, All, sym, ap, subst, ◌∙◌, arith}
 use Rattle.std.specs.Int.{bit_at}
 use Rattle.std.specs.List.{AllZip, sum_by}
-use Rattle.std.proofs.lemmas.Bool.{cases_lt}
-use Rattle.std.proofs.lemmas.List.{get_or_default, length-take-le, get_or-take, take_more}
+use Rattle.std.proofs.lemmas.List.{take_more}
 use Rattle.std.proofs.lemmas.List.Sums.{sum_by_push}
 use Rattle.su_base.proofs.Items.{some_item, AllZip-push, AllZip-length, AllZip-get_or}
-use Rattle.su_map.specs.Lists.{numbers_of, row_numbers}
+use Rattle.su_map.specs.Lists.{numbers_of}
 use Rattle.su_map.proofs.Ranks.{rank_in, rank_at, ranked_at, numbers-more}
 use Rattle.su_check.specs.declared.nodes.Node.{Node}
 use Rattle.su_check.specs.SentRows.{Lines}
 use Rattle.su_min.specs.Kept.{Minimised}
 use Rattle.su_refute.specs.Trees.{IsTree, node_count}
-use Rattle.su_refute.specs.AllTrees.{IsSound, lines_of, AreTreesOf, AreTrees, nodes_in, all_nodes, HasMoreNodes}
+use Rattle.su_refute.specs.AllTrees.{IsSound, AreTreesOf, AreTrees, nodes_in, all_nodes, HasMoreNodes}
+use Rattle.su_refute.specs.Laws.{MoreNodesAreMoreInAll}
 use Rattle.su_refute.proofs.AscendingNumbers.{sums_front}
 use Rattle.su_refute.proofs.MemberCounts.{numbers-none}
 use Rattle.su_refute.proofs.OneTree.{one_tree}
-use Rattle.su_refute.proofs.Kept.{kept_trees, one_list}
+use Rattle.su_refute.proofs.Kept.{kept_trees, front_few}
 
 -- ---- one tree more
 
@@ -61,14 +61,27 @@ trees_over t m n row unused budget trees others low one zip counted deeper all =
 
 -- ---- one tableau more
 
+lists_longer : (minimals : List Minimised) (i : ℕ) (m : Minimised) (old : List (List Node)) (trees : List Node) → i < length minimals → m ≡ get_or minimals i m → AreTreesOf m trees → AreTrees (take i minimals) old → AreTrees (take (i + 1) minimals) (old ++ trees ∷ [])
+lists_longer minimals i m old trees h is are before =
+    let more : take (i + 1) minimals ≡ take i minimals ++ m ∷ [] = take_more minimals i m h ∙ ap (λ x. take i minimals ++ x ∷ []) (sym is) in
+    subst (λ ms. AreTrees ms (old ++ trees ∷ [])) (sym more) (AllZip-push AreTreesOf (take i minimals) old m trees before are)
+
 pub lists_pushed : (minimals : List Minimised) (i unused left budget : ℕ) (m : Minimised) (old new : List (List Node)) (trees : List Node) → i < length minimals → m ≡ get_or minimals i m → new ≡ old ++ trees ∷ [] → AreTreesOf m trees → left + nodes_in trees ≡ unused
     → AreTrees (take i minimals) old → unused + all_nodes old ≡ budget → AreTrees (take (i + 1) minimals) new × (left + all_nodes new ≡ budget)
 lists_pushed minimals i unused left budget m old new trees h is e are count before counted =
-    let s = ap all_nodes e ∙ sum_by_push nodes_in old trees in
-    let more : take (i + 1) minimals ≡ take i minimals ++ m ∷ [] = take_more minimals i m h ∙ ap (λ x. take i minimals ++ x ∷ []) (sym is) in (
-      subst (AreTrees (take (i + 1) minimals)) (sym e) (subst (λ ms. AreTrees ms (old ++ trees ∷ [])) (sym more) (AllZip-push AreTreesOf (take i minimals) old m trees before are)),
+    let s = ap all_nodes e ∙ sum_by_push nodes_in old trees in (
+      subst (AreTrees (take (i + 1) minimals)) (sym e) (lists_longer minimals i m old trees h is are before),
       omega arith,
     )
+
+pub lists_over : (minimals : List Minimised) (i unused budget : ℕ) (m : Minimised) (lists : List (List Node)) → IsSound m → i < length minimals → m ≡ get_or minimals i m → AreTrees (take i minimals) lists → unused + all_nodes lists ≡ budget → ((trees : List Node) → AreTreesOf m trees → unused < nodes_in trees) → HasMoreNodes minimals budget
+lists_over minimals i unused budget m lists sound h is before counted deeper =
+    let x = kept_trees m sound.valid sound.small sound.minimised.kept in
+    let s = sum_by_push nodes_in lists x.0 in
+    let more = deeper x.0 x.1 in
+    record { first = i + 1; trees = lists ++ x.0 ∷ []; are_trees = lists_longer minimals i m lists x.0 h is x.1 before; more = omega arith }
+
+-- ---- all tableaux
 
 all_lists : (minimals : List Minimised) → All IsSound minimals → (lists : List (List Node)) × AreTrees minimals lists
 all_lists [] sound = ([], tt)
@@ -78,18 +91,9 @@ all_lists (m ∷ ms) sound =
     let more = all_lists ms (λ k d h. sound (suc k) d (omega arith)) in
     (x.0 ∷ more.0, (x.1, more.1))
 
-pub lists_over : (minimals : List Minimised) (i unused budget : ℕ) (m : Minimised) (lists : List (List Node)) → All IsSound minimals → i < length minimals → m ≡ get_or minimals i m → AreTrees (take i minimals) lists → unused + all_nodes lists ≡ budget → ((trees : List Node) → AreTreesOf m trees → unused < nodes_in trees) → HasMoreNodes minimals budget
-lists_over minimals i unused budget m lists sound h is before counted deeper =
+pub more_in_all : MoreNodesAreMoreInAll
+more_in_all minimals n sound more =
     let x = all_lists minimals sound in
-    let l : length (take i minimals) ≡ i = length-take-le i minimals (omega arith) in
-    let over =
-    front_over AreTreesOf nodes_in (take i minimals) minimals lists x.0 m m [] unused (λ m y z ty tz. ap nodes_in (one_list (lines_of m) (row_numbers m.tableau m.mask) y z ty tz)) (omega arith)
-    (λ k hk. get_or-take i minimals k m (omega arith)) (ap (λ k. get_or minimals k m) l ∙ sym is) deeper before x.1 in
+    let few = front_few minimals more.first more.trees x.0 more.are_trees x.1 in
+    let l = more.more in
     record { trees = x.0; are_trees = x.1; more = omega arith }
-
-pub sound_item : (minimals : List Minimised) (n : ℕ) (m : Minimised) → n < length minimals → m ≡ get_or minimals n m → IsSound m → ((i : ℕ) (d : Minimised) → i < n → IsSound (get_or minimals i d)) → (i : ℕ) (d : Minimised) → i < n + 1 → IsSound (get_or minimals i d)
-sound_item minimals n m h is sound before i d hi =
-    ⊎_elim
-    (λ (lt : i < n). before i d lt)
-    (λ (le : n ≤ i). let e : n ≡ i = omega arith in subst (λ i. IsSound (get_or minimals i d)) e (subst IsSound (is ∙ get_or_default minimals n m d h) sound))
-    (cases_lt i n)

@@ -1,6 +1,7 @@
 -- The trees of minimised tableaux.
 -- one list for each tableau, and in it a tree for each kept row, in their order
-use Rattle.std.specs.Prelude.{ℕ, ◌<◌, List}
+-- minimised: with the kept rows marked; a kept row's tree shows that the others don't do without it
+use Rattle.std.specs.Prelude.{ℕ, ◌<◌, List, take}
 use Rattle.std.specs.List.{AllZip, sum_by}
 use Rattle.su_tableau.specs.Tableaux.{IsValid, IsSmall}
 use Rattle.su_map.specs.Lists.{row_numbers}
@@ -41,8 +42,9 @@ pub record HasLargerTree (m : Minimised) (r n : ℕ) : Type 0 where
   pub is_tree : IsTree (lines_of m) r tree
   pub more : n < node_count tree
 
--- all trees of the tableaux together have more than n nodes
+-- the trees of the tableaux together have more than n nodes: those of the first ones have already
 pub record HasMoreNodes (minimals : List Minimised) (n : ℕ) : Type 0 where
+  pub first : ℕ
   pub trees : List (List Node)
-  pub are_trees : AreTrees minimals trees
+  pub are_trees : AreTrees (take first minimals) trees
   pub more : n < all_nodes trees

@@ -13,7 +13,7 @@ use Rattle.su_check.specs.Verdict.{IsVerdict}
 use Rattle.su_check.specs.declared.nodes.Node.{Node}
 use Rattle.su_min.specs.Kept.{Minimised}
 use Rattle.su_refute.specs.Trees.{IsTree}
-use Rattle.su_refute.specs.AllTrees.{IsSound, lines_of, AreTrees}
+use Rattle.su_refute.specs.AllTrees.{IsSound, lines_of, AreTrees, all_nodes, HasMoreNodes}
 use Rattle.su_refute.specs.Written.{certificate_of, certificate_text}
 
 -- there is a tree of each kept row, and no other one
@@ -25,6 +25,16 @@ pub record HasOneTree (m : Minimised) (r : ℕ) : Type 0 where
 -- each kept row has exactly one tree
 abbrev pub KeptRowsHaveOneTree : Type 0
 KeptRowsHaveOneTree = (m : Minimised) (r : ℕ) → IsSound m → bit_at m.mask r ≡ 1 → HasOneTree m r
+
+-- there are trees of all tableaux, and together they have more than n nodes
+pub record HaveMoreNodes (minimals : List Minimised) (n : ℕ) : Type 0 where
+  pub trees : List (List Node)
+  pub are_trees : AreTrees minimals trees
+  pub more : n < all_nodes trees
+
+-- where the first tableaux have more than n nodes, all of them do
+abbrev pub MoreNodesAreMoreInAll : Type 0
+MoreNodesAreMoreInAll = (minimals : List Minimised) (n : ℕ) → All IsSound minimals → HasMoreNodes minimals n → HaveMoreNodes minimals n
 
 -- what its type tells of a symbol
 abbrev pub IsSpelled : Sym → Type 0

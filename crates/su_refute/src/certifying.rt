@@ -1,7 +1,7 @@
 //! The trees of all kept rows.
-ghost use Rattle.std.specs.Prelude.{◌≡◌, ◌≤◌, ◌<◌, ◌+◌, IfOk, IsErrOf, List as Items, All};
+ghost use Rattle.std.specs.Prelude.{◌≡◌, ◌≤◌, ◌<◌, ◌+◌, IfOk, IsErrOf, List as Items};
 ghost use Rattle.su_check.specs.declared.nodes.Node.{Node as ANode};
-ghost use Rattle.su_refute.specs.AllTrees.{IsSound, AreTreesOf, AreTrees, HasMoreNodes, nodes_in, all_nodes};
+ghost use Rattle.su_refute.specs.AllTrees.{AreTreesOf, AreTrees, HasMoreNodes, nodes_in, all_nodes};
 
 use crate::faults::RefuteFault;
 use crate::nets::Net;
@@ -40,16 +40,6 @@ fn trees_of(alloc: Global, minimal: &Minimal, budget: u32) -> Result<Planted, Re
     Ok(Planted { trees, unused })
 }
 
-/// For proofs: what the type of a minimised tableau keeps holds of each. It does nothing.
-fn keep_their_rules(minimals: &[Minimal])
-    ensures { All IsSound minimals.now }
-{
-    for minimal in minimals {
-        minimal.keeps_its_rules();
-        minimal.tableau().keeps_its_rules();
-    }
-}
-
 /// The trees of the kept rows of each tableau, in their order, if all of them together have no more
 /// nodes than the budget. It makes one net for each tableau, and gives up at the first node over the
 /// budget.
@@ -63,10 +53,11 @@ pub fn certify(
     ensures few { IfOk result (λ _. HasMoreNodes minimals.now budget → ⊥) }
     ensures over { IsErrOf result RefuteFault.Nodes → HasMoreNodes minimals.now budget }
 {
-    keep_their_rules(minimals);
     let mut all = List::new(alloc);
     let mut unused = budget;
     for minimal in minimals {
+        minimal.keeps_its_rules();
+        minimal.tableau().keeps_its_rules();
         let planted = trees_of(alloc, minimal, unused)?;
         unused = planted.unused;
         all.push(planted.trees)?;

@@ -118,8 +118,8 @@ fn told(
 {
     t.keeps_its_rules();
     let mut sets = List::new(alloc);
-    for q in 0..t.row_count() {
-        sets.push(agreeing(lists[q].as_slice(), t.row(target), t, mask))?;
+    for list in lists {
+        sets.push(agreeing(list.as_slice(), t.row(target), t, mask))?;
     }
     Ok(sets)
 }

@@ -30,8 +30,8 @@ fn others(alloc: Global, sets: &[u64], row: usize) -> Result<List<u64>, NoMemory
     ensures out { IfOk result (λ list. (q : ℕ) → q < length sets.now → bit_at (get_or list q 0) row ≡ 0) }
 {
     let mut list = List::new(alloc);
-    for q in 0..sets.len() {
-        list.push(without(sets[q], row))?;
+    for set in sets {
+        list.push(without(*set, row))?;
     }
     Ok(list)
 }

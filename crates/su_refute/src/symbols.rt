@@ -8,7 +8,7 @@ ghost use Rattle.su_check.specs.Grammar.{row_line};
 use std::alloc::Global;
 use su_base::{Kind, List, NoMemory, Value};
 use su_check::{Branch, Node};
-use su_lex::{Sign, Symbol, push_sign, push_word};
+use su_lex::{Sign, Symbol, push_kind, push_sign, push_word};
 use su_tableau::Sym;
 
 /// Adds a number.
@@ -63,16 +63,6 @@ pub fn push_row(alloc: Global, out: &mut List<Symbol>, row: &[Sym]) -> Result<()
     push_sign(out, Sign::Open)?;
     push_syms(alloc, out, row)?;
     push_sign(out, Sign::Close)
-}
-
-/// Adds the word of a kind.
-fn push_kind(alloc: Global, out: &mut List<Symbol>, kind: Kind) -> Result<(), NoMemory>
-    ensures { OnOk result (out.new ≡ out.old ++ kind_symbol kind ∷ []) }
-{
-    match kind {
-        Kind::Int => push_word(alloc, out, "int"),
-        Kind::Text => push_word(alloc, out, "text"),
-    }
 }
 
 /// Adds the words of kinds.

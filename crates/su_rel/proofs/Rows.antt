@@ -16,7 +16,8 @@ use Rattle.su_base.proofs.Same.{row_eq-Decides}
 use Rattle.su_base.specs.declared.values.Value.{Value}
 use Rattle.su_base.specs.contracts.values.ValuePartialEq.TheImpl.{ghosts}
 use Rattle.su_base.proofs.Items.{Contains-later, Contains-cases}
-use Rattle.su_rel.specs.Stored.{Stored, AllDiffer}
+use Rattle.su_base.specs.Lists.{AllDiffer}
+use Rattle.su_rel.specs.Stored.{Stored}
 use Rattle.su_rel.specs.Changes.{PutIn, TakenOut}
 
 -- `==` on rows
@@ -31,7 +32,8 @@ pub AllDiffer-from_distinct : (rows : List (List Value)) → IsDistinct same row
 AllDiffer-from_distinct rows distinct i j d less within e =
     false≢true (sym (apart_from_distinct same rows i j d distinct less within) ∙ (row_eq-Decides (get_or rows i d) (get_or rows j d) _ refl).1 e)
 
-flips : (x y : List Value) → same x y ≡ same y x
+-- `==` on rows reads alike both ways
+pub flips : (x y : List Value) → same x y ≡ same y x
 flips x y =
     let d = row_eq-Decides x y (same x y) refl in
     let e = row_eq-Decides y x (same y x) refl in

@@ -14,8 +14,8 @@ use Rattle.su_schema.specs.declared.definitions.Pair.{Pair}
 use Rattle.su_schema.specs.declared.definitions.Definition.{Definition}
 use Rattle.su_schema.specs.declared.definitions.Definition.TheVariants.{Attribute, Relation, Object, Fd, Maximal}
 use Rattle.su_schema.specs.SchemaValue.{SchemaValue, AttributeEntry, RelationEntry, ObjectEntry}
-use Rattle.su_schema.specs.Valid.{IsValid, IsRelationEntry, IsObject, IsDependency}
-use Rattle.su_schema.specs.Entries.{IsSomeBelow, attribute_names, relation_names, object_names, column_names}
+use Rattle.su_schema.specs.Valid.{IsValid, IsRelationEntry, IsObject, IsDependency, IsSomeBelow}
+use Rattle.su_schema.specs.Entries.{attribute_names, relation_names, object_names, column_names}
 use Rattle.su_schema.specs.NameChecks.{first_failing, name_checks}
 use Rattle.su_schema.specs.Known.{is_known, number_of, columns_at}
 use Rattle.su_schema.specs.Checks.{checks}

@@ -13,7 +13,12 @@ use Rattle.std.proofs.lemmas.Bool.{false≢true}
 use Rattle.std.proofs.lemmas.List.{map-append}
 use Rattle.indexmap.specs.IndexMap.{insert_entry}
 use Rattle.su_schema.specs.Known.{is_known}
+use Rattle.su_schema.specs.SchemaValue.{ObjectEntry}
 use Rattle.su_schema.specs.Entries.{place_of}
+
+-- what stands for an object where there is none
+abbrev pub blank_object : ObjectEntry
+blank_object = record { name = []; relation = 0; links = [] }
 
 -- the place of the first that passes, before and after the items are mapped
 pub position_or_len-map : {X Y : Type 0} (f : X → Y) (p : Y → Bool) (xs : List X) → position_or_len p (map f xs) ≡ position_or_len (λ x. p (f x)) xs

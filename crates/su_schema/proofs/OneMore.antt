@@ -23,8 +23,7 @@ use Rattle.su_schema.specs.Checks.{checks}
 use Rattle.su_schema.specs.Definitions.{extended, numbers_of, links_of}
 use Rattle.su_schema.specs.WellNamed.{IsWellNamed}
 use Rattle.su_schema.specs.Maps.{shown}
-use Rattle.su_schema.specs.Shown.{HasItsSet}
-use Rattle.su_schema.specs.inside.Kept.{object_on}
+use Rattle.su_schema.specs.inside.Kept.{HasItsSet, object_on}
 use Rattle.su_schema.proofs.Accepted.{valid_extended}
 use Rattle.su_schema.proofs.Entries.{added, added_last}
 use Rattle.std.proofs.lemmas.List.Elements.{All-push}

@@ -20,8 +20,8 @@ use Rattle.su_fd.specs.declared.Fd.{Fd}
 use Rattle.su_schema.specs.declared.faults.SchemaFault.{SchemaFault}
 use Rattle.su_schema.specs.declared.definitions.Pair.{Pair}
 use Rattle.su_schema.specs.SchemaValue.{SchemaValue, AttributeEntry, RelationEntry, ObjectEntry}
-use Rattle.su_schema.specs.Valid.{IsObject, IsLink, IsDependency}
-use Rattle.su_schema.specs.Entries.{IsSomeBelow, AreDistinctNames, attribute_names, column_names}
+use Rattle.su_schema.specs.Valid.{IsObject, IsLink, IsDependency, IsSomeBelow}
+use Rattle.su_schema.specs.Entries.{AreDistinctNames, attribute_names, column_names}
 use Rattle.su_base.specs.Value.{same_kind}
 use Rattle.su_schema.specs.NameChecks.{Check, first_failing, name_checks, apart_checks}
 use Rattle.su_schema.specs.Known.{is_known, number_of, attribute_kind, column_kind}

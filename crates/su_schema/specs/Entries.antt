@@ -1,9 +1,9 @@
 -- What stands in a schema, by name and number.
 -- number: of an attribute, a relation, an object or a column, from 0; names of the language differ within each list
-use Rattle.std.specs.Prelude.{IsTrue, ◌≢◌, ℕ, ◌<◌, nat_lt, ◌==◌, if◌then◌else◌, List, All, AllPairs, length, map, Option, Some, None, option_map, find}
+use Rattle.std.specs.Prelude.{◌≢◌, ℕ, nat_lt, ◌==◌, if◌then◌else◌, List, All, AllPairs, length, map, Option, Some, None, option_map, find}
 use Rattle.std.specs.List.{position_or_len}
 use Rattle.std.specs.Ordering.{nat_cmp}
-use Rattle.std.specs.FinSet.{FinSet, empty, from_list, contains}
+use Rattle.std.specs.FinSet.{FinSet, from_list}
 use Rattle.std.specs.Str.{bytes_eq}
 use Rattle.su_base.specs.declared.values.Kind.{Kind}
 use Rattle.su_base.specs.declared.values.Column.{Column}
@@ -54,8 +54,3 @@ column_of object attribute = option_map (λ l. l.column) (find (λ l. l.attribut
 pub record AreDistinctNames (names : List (List ℕ)) : Type 0 where
   pub named : All IsName names
   pub apart : AllPairs (λ x y. x ≢ y) names
-
--- a set that is not empty, of numbers below n
-pub record IsSomeBelow (n : ℕ) (numbers : FinSet nat_cmp) : Type 0 where
-  pub some : numbers ≢ empty
-  pub below : (k : ℕ) → IsTrue (contains numbers k) → k < n

@@ -4,6 +4,7 @@ pub mod Definitions
 pub mod Maps
 pub mod inside
 pub mod SchemaValue
+pub mod SetMembers
 pub mod Shown
 pub mod Known
 pub mod NameChecks

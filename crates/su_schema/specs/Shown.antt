@@ -1,7 +1,6 @@
 -- What contracts see of the entries of the maps that a schema is kept in: a name beside what it names.
 -- entry: a name, and what it names
-use Rattle.std.specs.Prelude.{◌≡◌, List, map, string_bytes}
-use Rattle.std.specs.FinSet.{from_list}
+use Rattle.std.specs.Prelude.{List, string_bytes}
 use Rattle.std.specs.declared.alloc.Global.{Global}
 use Rattle.std.specs.declared.string.String.{String}
 use Rattle.su_base.specs.declared.values.Kind.{Kind}
@@ -20,7 +19,3 @@ shown_relation entry = record { name = string_bytes entry.0; columns = entry.1 }
 -- the object that an entry of the map stands for
 abbrev pub shown_object : String Global × Object → ObjectEntry
 shown_object entry = record { name = string_bytes entry.0; relation = entry.1.relation; links = entry.1.links }
-
--- the set beside an object's links is that of their attributes
-abbrev pub HasItsSet : String Global × Object → Type 0
-HasItsSet entry = entry.1.attributes ≡ from_list (map (λ l. l.attribute) entry.1.links)

@@ -1,11 +1,18 @@
 -- When a schema is valid: numbers are in range, names differ and the limits are met.
 -- link: an attribute of an object and the column that it is taken from, by number
-use Rattle.std.specs.Prelude.{◌≡◌, ◌≢◌, ◌<◌, ◌≤◌, List, All, AllPairs, length, slice_get, Some}
+use Rattle.std.specs.Prelude.{IsTrue, ◌≡◌, ◌≢◌, ℕ, ◌<◌, ◌≤◌, List, All, AllPairs, length, slice_get, Some}
+use Rattle.std.specs.FinSet.{FinSet, empty, contains}
+use Rattle.std.specs.Ordering.{nat_cmp}
 use Rattle.su_base.specs.declared.values.Column.{Column}
 use Rattle.su_fd.specs.declared.Fd.{Fd}
 use Rattle.su_schema.specs.declared.links.Link.{Link}
 use Rattle.su_schema.specs.SchemaValue.{AttributeEntry, RelationEntry, ObjectEntry, SchemaValue}
-use Rattle.su_schema.specs.Entries.{attribute_names, relation_names, column_names, object_names, AreDistinctNames, IsSomeBelow}
+use Rattle.su_schema.specs.Entries.{attribute_names, relation_names, column_names, object_names, AreDistinctNames}
+
+-- a set that is not empty, of numbers below n
+pub record IsSomeBelow (n : ℕ) (numbers : FinSet nat_cmp) : Type 0 where
+  pub some : numbers ≢ empty
+  pub below : (k : ℕ) → IsTrue (contains numbers k) → k < n
 
 -- a relation has 1 to 32 columns, whose names differ
 pub record IsRelationEntry (relation : RelationEntry) : Type 0 where

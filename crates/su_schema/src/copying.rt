@@ -1,14 +1,15 @@
 //! A schema of its own that equals another.
 ghost use Rattle.std.specs.Prelude.{◌≡◌, map, All, IfOk};
-ghost use Rattle.su_schema.specs.Shown.{shown_attribute, shown_relation, shown_object, HasItsSet};
+ghost use Rattle.su_schema.specs.Shown.{shown_attribute, shown_relation, shown_object};
+ghost use Rattle.su_schema.specs.inside.Kept.{HasItsSet};
 ghost use Rattle.su_schema.specs.Entries.{AreDistinctNames};
 
 use crate::faults::SchemaFault;
-use crate::links::{Link, Object};
+use crate::links::Object;
 use crate::schemas::Schema;
 use indexmap::IndexMap;
 use std::alloc::Global;
-use su_base::{Column, Kind, List, NoMemory, ObjSet};
+use su_base::{Column, Kind, List, NoMemory};
 use su_fd::Fd;
 
 /// Equal columns of their own.
@@ -26,16 +27,6 @@ pub fn copy_columns(alloc: Global, columns: &[Column]) -> Result<List<Column>, N
     Ok(copied)
 }
 
-fn copy_links(alloc: Global, links: &[Link]) -> Result<List<Link>, NoMemory>
-    ensures { IfOk result (λ copied. copied ≡ links.now) }
-{
-    let mut copied = List::new(alloc);
-    for link in links {
-        copied.push(*link)?;
-    }
-    Ok(copied)
-}
-
 fn copy_fds(alloc: Global, fds: &[Fd]) -> Result<List<Fd>, NoMemory>
     ensures { IfOk result (λ copied. copied ≡ fds.now) }
 {
@@ -45,16 +36,6 @@ fn copy_fds(alloc: Global, fds: &[Fd]) -> Result<List<Fd>, NoMemory>
             left: fd.left,
             right: fd.right,
         })?;
-    }
-    Ok(copied)
-}
-
-fn copy_declared(alloc: Global, declared: &[ObjSet]) -> Result<List<ObjSet>, NoMemory>
-    ensures { IfOk result (λ copied. copied ≡ declared.now) }
-{
-    let mut copied = List::new(alloc);
-    for objects in declared {
-        copied.push(*objects)?;
     }
     Ok(copied)
 }
@@ -101,7 +82,7 @@ fn copy_relations(
 fn copy_object(alloc: Global, object: &Object) -> Result<Object, NoMemory>
     ensures { IfOk result (λ copied. copied ≡ object.now) }
 {
-    let links = copy_links(alloc, object.links.as_slice())?;
+    let links = List::from_vec(Vec::from_slice(alloc, object.links.as_slice())?);
     Ok(Object {
         relation: object.relation,
         attributes: object.attributes,
@@ -136,7 +117,7 @@ impl Schema {
         ensures { IfOk result (λ schema. schema ≡ self.now) }
     {
         let fds = copy_fds(self.alloc, self.fds.as_slice())?;
-        let declared = copy_declared(self.alloc, self.declared.as_slice())?;
+        let declared = List::from_vec(Vec::from_slice(self.alloc, self.declared.as_slice())?);
         let attributes = copy_attributes(self.alloc, &self.attributes)?;
         let relations = copy_relations(self.alloc, &self.relations)?;
         let objects = copy_objects(self.alloc, &self.objects)?;

@@ -1,8 +1,9 @@
 //! What a schema answers. No reader takes memory.
-ghost use Rattle.std.specs.Prelude.{◌≡◌, ◌<◌, ◌≤◌, ◌==◌, position, length, map, slice_get};
+ghost use Rattle.std.specs.Prelude.{◌≡◌, ◌<◌, ◌≤◌, ◌==◌, [], position, length, map, slice_get, slice_index_or};
 ghost use Rattle.std.specs.Cmp.Lexicographic.{pointwise};
 ghost use Rattle.su_schema.specs.Valid.{IsValid};
 ghost use Rattle.su_schema.specs.Entries.{attribute_names, attribute_kinds, relation_names, relation_columns, column_names, object_names, attributes_of, column_of, place_of};
+ghost use Rattle.su_schema.specs.Known.{columns_at};
 
 use crate::schemas::Schema;
 use su_base::{AttrSet, Column, Kind, ObjSet};
@@ -89,6 +90,26 @@ impl Schema {
         match self.relations.get_index(r as usize) {
             Some((_, columns)) => columns.as_slice(),
             None => unreachable!(),
+        }
+    }
+
+    /// The columns of the relation with this number; none where there is no such relation.
+    pub fn columns_at(&self, r: u8) -> &[Column]
+        ensures { result.now ≡ columns_at self.now r }
+    {
+        if r as usize >= self.relations() {
+            return &[];
+        }
+        self.columns(r)
+    }
+
+    /// The name of a column of the relation with this number; nothing where there is no such column.
+    pub fn column_name(&self, r: u8, c: usize) -> &str
+        ensures { result.now ≡ slice_index_or (column_names (columns_at self.now r)) c [] }
+    {
+        match self.columns_at(r).get(c) {
+            Some(column) => column.name.as_str(),
+            None => "",
         }
     }
 

@@ -28,6 +28,8 @@ fn reads_a_relation(schema: &Schema) -> bool {
     schema.relations() > 0
         && schema.relation_name(0) == "A"
         && schema.columns(0).len() == 4
+        && schema.columns_at(1).is_empty()
+        && schema.column_name(0, 3) == "D"
         && schema.find_column(0, "D") == Some(3)
 }
 

@@ -3,7 +3,6 @@ pub mod ChangeReplies
 pub mod Compared
 pub mod DefinitionReplies
 pub mod Loads
-pub mod NameRefusals
 pub mod QueryRefusals
 pub mod Relations
 pub mod Retrieved

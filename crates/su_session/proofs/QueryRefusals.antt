@@ -14,13 +14,14 @@ use Rattle.su_steps.specs.declared.faults.StepFault.TheVariants as step
 use Rattle.su_steps.specs.Refusals.{IsStepRefusal}
 use Rattle.su_show.specs.declared.statement_refusal.Refusal.TheVariants.{Query, Steps}
 use Rattle.su_show.specs.RefusalLines.{IsRefusalLine}
+use Rattle.su_show.proofs.RefusalLines.{query_told, step_told}
 use Rattle.su_session.specs.Retrievals.{IsRefusalOf}
 
 module _ (schema : SchemaValue) (maximal : List (FinSet nat_cmp)) (q : AQuery) (line : List ℕ) where
   pub refused_names : (fault : QueryFault) → (fault ≡ query.NoMemory) ⊎ IsQueryRefusal schema q fault → IsRefusalLine schema (Query fault) line → IsRefusalOf schema maximal q (Query fault)
-  refused_names fault (inl memory) told = absurd (told.0 memory)
+  refused_names fault (inl memory) told = absurd (query_told schema line fault told memory)
   refused_names fault (inr refused) told = refused
 
   pub refused_terms : (r : Resolved) (fault : StepFault) → r ≡ resolved_of schema q → IsKnownQuery schema q → (fault ≡ step.NoMemory) ⊎ IsStepRefusal schema maximal r fault → IsRefusalLine schema (Steps fault) line → IsRefusalOf schema maximal q (Steps fault)
-  refused_terms r fault is known (inl memory) told = absurd (told.0 memory)
+  refused_terms r fault is known (inl memory) told = absurd (step_told schema line fault told memory)
   refused_terms r fault is known (inr refused) told = (known, subst (λ (r : Resolved). IsStepRefusal schema maximal r fault) is refused)

@@ -1,15 +1,15 @@
 -- What each statement does to the database, and its reply.
 -- reply: what is written for the statement, and whether it is a refusal
-use Rattle.std.specs.Prelude.{◌≡◌, ◌⊎◌, ℕ, List, Some, None}
+use Rattle.std.specs.Prelude.{◌≡◌, ◌⊎◌, ℕ, List, None}
 use Rattle.std.specs.Ordering.{nat_cmp}
 use Rattle.std.specs.FinSet.{FinSet}
 use Rattle.su_base.specs.declared.values.Value.{Value}
 use Rattle.su_schema.specs.Entries.{attribute_names, column_names}
-use Rattle.su_query.specs.declared.faults.QueryFault.TheVariants.{Unknown}
+use Rattle.su_query.specs.declared.faults.QueryFault.{QueryFault}
 use Rattle.su_query.specs.declared.statements.Statement.{Statement}
 use Rattle.su_query.specs.declared.statements.Statement.TheVariants.{Insert, Delete, DeleteWhere, Load, Print, Schema, Closure, Retrieve, Explain, Certify, Support, Compare, Window}
 use Rattle.su_query.specs.Scopes.{first_unknown_name}
-use Rattle.su_query.specs.Sets.{attributes_named}
+use Rattle.su_query.specs.Sets.{attributes_named, IsNameRefusal}
 use Rattle.su_maxobj.specs.MaximalObjects.{AreMaximalObjects}
 use Rattle.su_state.specs.DatabaseValue.{DatabaseValue, rows_of, columns_of}
 use Rattle.su_state.specs.Changes.{AreInOrder}
@@ -36,7 +36,7 @@ ShowsSchema db reply new = ((sets : List (FinSet nat_cmp)) × AreMaximalObjects 
 -- refused at the first unknown name, else the closure of the set of the names
 abbrev pub ShowsClosure : DatabaseValue → List (List ℕ) → Reply → DatabaseValue → Type 0
 ShowsClosure db names reply new =
-    ((name : List ℕ) × (first_unknown_name (attribute_names db.schema) names ≡ Some name) × Refuses db (Query (Unknown name)) reply new)
+    ((fault : QueryFault) × IsNameRefusal db.schema names fault × Refuses db (Query fault) reply new)
     ⊎ ((first_unknown_name (attribute_names db.schema) names ≡ None)
     × ((text : List ℕ) × IsClosureReply db.schema (attributes_named db.schema names) text × Accepts text reply) × (new ≡ db))
 

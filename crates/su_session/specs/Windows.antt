@@ -1,14 +1,15 @@
 -- How a window is shown.
 -- window: the rows over the attributes that every fitting universal relation has
-use Rattle.std.specs.Prelude.{◌≡◌, ◌↔◌, ◌⊎◌, ℕ, List, map, Contains, Option, Some, None}
+use Rattle.std.specs.Prelude.{◌≡◌, ◌↔◌, ◌⊎◌, ℕ, List, map, Contains, None}
 use Rattle.std.specs.List.Sorted.{IsStrictlySortedBy}
 use Rattle.su_base.specs.declared.values.Value.{Value}
 use Rattle.su_base.specs.Value.{compare_lists}
 use Rattle.su_schema.specs.SchemaValue.{SchemaValue}
 use Rattle.su_schema.specs.Entries.{attribute_names}
 use Rattle.su_schema.specs.Known.{number_of}
-use Rattle.su_query.specs.declared.faults.QueryFault.TheVariants.{Unknown}
+use Rattle.su_query.specs.declared.faults.QueryFault.{QueryFault}
 use Rattle.su_query.specs.Scopes.{first_unknown_name}
+use Rattle.su_query.specs.Sets.{IsNameRefusal}
 use Rattle.su_state.specs.DatabaseValue.{DatabaseValue}
 use Rattle.su_window.specs.declared.faults.WindowFault.{WindowFault}
 use Rattle.su_window.specs.declared.faults.WindowFault.TheVariants as fault
@@ -43,6 +44,6 @@ pub record ShowsRows (db : DatabaseValue) (names : List (List ℕ)) (reply : Rep
 -- refused at the first unknown name, then where there is no window, else its rows under the names
 abbrev pub ShowsWindow : DatabaseValue → List (List ℕ) → Reply → DatabaseValue → Type 0
 ShowsWindow db names reply new =
-    ((name : List ℕ) × (first_unknown_name (attribute_names db.schema) names ≡ Some name) × Refuses db (Query (Unknown name)) reply new)
+    ((fault : QueryFault) × IsNameRefusal db.schema names fault × Refuses db (Query fault) reply new)
     ⊎ ((first_unknown_name (attribute_names db.schema) names ≡ None)
     × (((fault : WindowFault) × IsWindowRefusal db fault × TellsWindowFault db fault reply new) ⊎ (ShowsRows db names reply × (new ≡ db))))

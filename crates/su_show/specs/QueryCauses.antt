@@ -1,6 +1,6 @@
 -- Why a query is refused, in words.
 -- cause: what stands behind `refused: `
-use Rattle.std.specs.Prelude.{ℕ, List, [], ◌++◌, codes, Option, Some, None}
+use Rattle.std.specs.Prelude.{ℕ, List, ◌++◌, codes, Option, Some, None}
 use Rattle.su_base.specs.declared.values.Kind.{Kind}
 use Rattle.su_base.specs.declared.values.Kind.TheVariants as kind
 use Rattle.su_schema.specs.SchemaValue.{SchemaValue}
@@ -26,14 +26,14 @@ query_limit_text limit.Variables = codes "limit variables 8"
 query_limit_text limit.Outputs = codes "limit outputs 128"
 query_limit_text limit.Comparisons = codes "limit comparisons 256"
 
--- why a text is no statement that can be answered
-abbrev pub query_fault_text : QueryFault → List ℕ
-query_fault_text query.Syntax = codes "syntax"
-query_fault_text (query.Limit which) = query_limit_text which
-query_fault_text query.NoMemory = []
-query_fault_text (query.Unknown name) = codes "unknown attribute " ++ name
-query_fault_text (query.Kinds left right) = codes "kinds " ++ kind_text left ++ codes " and " ++ kind_text right
-query_fault_text (query.UnknownColumn name) = codes "unknown column " ++ name
+-- why a text is no statement that can be answered; want of memory has no text
+abbrev pub query_fault_text : QueryFault → Option (List ℕ)
+query_fault_text query.Syntax = Some (codes "syntax")
+query_fault_text (query.Limit which) = Some (query_limit_text which)
+query_fault_text query.NoMemory = None
+query_fault_text (query.Unknown name) = Some (codes "unknown attribute " ++ name)
+query_fault_text (query.Kinds left right) = Some (codes "kinds " ++ kind_text left ++ codes " and " ++ kind_text right)
+query_fault_text (query.UnknownColumn name) = Some (codes "unknown column " ++ name)
 
 -- a variable as it is shown
 abbrev pub variable_text : Option (List ℕ) → List ℕ
@@ -46,8 +46,8 @@ step_limit_text step_limit.Disjuncts = codes "limit disjuncts 64"
 step_limit_text step_limit.Rows = codes "limit rows 64"
 step_limit_text step_limit.Terms = codes "limit terms 256"
 
--- why a query has no terms
-abbrev pub step_text : SchemaValue → StepFault → List ℕ
-step_text schema (step.NotCovered variable mentioned) = codes "no maximal object covers " ++ variable_text variable ++ codes ":" ++ attributes_text schema mentioned
-step_text schema (step.Limit which) = step_limit_text which
-step_text schema step.NoMemory = []
+-- why a query has no terms; want of memory has no text
+abbrev pub step_text : SchemaValue → StepFault → Option (List ℕ)
+step_text schema (step.NotCovered variable mentioned) = Some (codes "no maximal object covers " ++ variable_text variable ++ codes ":" ++ attributes_text schema mentioned)
+step_text schema (step.Limit which) = Some (step_limit_text which)
+step_text schema step.NoMemory = None

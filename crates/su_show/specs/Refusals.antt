@@ -1,6 +1,6 @@
 -- The line for a schema that is refused.
 -- cause: what stands behind the number of the statement
-use Rattle.std.specs.Prelude.{ℕ, List, [], ◌++◌, codes, decimal}
+use Rattle.std.specs.Prelude.{ℕ, List, [], ◌++◌, codes, decimal, Option, Some, None, unwrap_or}
 use Rattle.su_schema.specs.declared.faults.SchemaFault.{SchemaFault}
 use Rattle.su_schema.specs.declared.faults.SchemaFault.TheVariants.{Twice, Unknown, KindDiffers, Limit, NoMemory}
 use Rattle.su_schema.specs.declared.faults.SchemaLimit.{SchemaLimit}
@@ -17,27 +17,20 @@ limit_text Objects = codes "objects 64"
 limit_text Fds = codes "fds 256"
 limit_text Maximal = codes "maximal 64"
 
--- why a definition is refused; want of memory is never shown
-abbrev pub cause_text : SchemaFault → List ℕ
-cause_text (Twice name) = codes "twice " ++ name
-cause_text (Unknown name) = codes "unknown " ++ name
-cause_text (KindDiffers attribute column) = codes "kinds of " ++ attribute ++ codes " and " ++ column ++ codes " differ"
-cause_text (Limit limit) = codes "limit " ++ limit_text limit
-cause_text NoMemory = []
+-- why a definition is refused; want of memory has no text
+abbrev pub cause_text : SchemaFault → Option (List ℕ)
+cause_text (Twice name) = Some (codes "twice " ++ name)
+cause_text (Unknown name) = Some (codes "unknown " ++ name)
+cause_text (KindDiffers attribute column) = Some (codes "kinds of " ++ attribute ++ codes " and " ++ column ++ codes " differ")
+cause_text (Limit limit) = Some (codes "limit " ++ limit_text limit)
+cause_text NoMemory = None
 
 -- the cause behind the number of the statement
 abbrev pub refused_line : ℕ → List ℕ → List ℕ
 refused_line number cause = codes "schema refused: statement " ++ decimal number ++ codes ": " ++ cause ++ codes "\n"
 
--- the line for a refused schema file
+-- the line for a refused schema file; no file is refused for want of memory
 abbrev pub schema_line : DdlFault → List ℕ
 schema_line (Syntax number) = refused_line number (codes "syntax")
-schema_line (Refused number fault) = refused_line number (cause_text fault)
+schema_line (Refused number fault) = refused_line number (unwrap_or (cause_text fault) [])
 schema_line OutOfMemory = []
-
--- the fault is one of the text, and no want of memory
-abbrev pub IsOfText : DdlFault → Type 0
-IsOfText (Syntax number) = Unit {0}
-IsOfText (Refused number NoMemory) = ⊥
-IsOfText (Refused number fault) = Unit {0}
-IsOfText OutOfMemory = ⊥

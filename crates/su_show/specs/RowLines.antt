@@ -1,12 +1,11 @@
 -- The lines of the rows of a tableau.
 -- cell: an attribute of a row's object and the symbol there
-use Rattle.std.specs.Prelude.{ℕ, ◌+◌, List, [], ◌∷◌, ◌++◌, length, filter, flat_map, get_or, codes, decimal}
-use Rattle.std.specs.List.{range_with_len}
-use Rattle.std.specs.FinSet.{contains}
+use Rattle.std.specs.Prelude.{ℕ, ◌+◌, List, [], ◌∷◌, ◌++◌, length, flat_map, get_or, codes, decimal}
 use Rattle.su_tableau.specs.declared.symbols.Sym.{Sym}
 use Rattle.su_tableau.specs.Tableaux.{Tab}
 use Rattle.su_schema.specs.SchemaValue.{SchemaValue}
 use Rattle.su_schema.specs.Entries.{attribute_names, object_names}
+use Rattle.su_schema.specs.SetMembers.{numbers_in}
 use Rattle.su_ddl.specs.ShownDefinitions.{name_at}
 use Rattle.su_query.specs.declared.resolving.Resolved.{Resolved}
 use Rattle.su_steps.specs.declared.results.Origin.{Origin}
@@ -24,7 +23,7 @@ cell_text schema q cells a = 32 ∷ name_at (attribute_names schema) a ++ codes 
 
 -- the attributes of an object, in the order of declaration
 abbrev pub attributes_shown : SchemaValue → ℕ → List ℕ
-attributes_shown schema o = filter (contains (attributes_at schema o)) (range_with_len 0 (length schema.attributes))
+attributes_shown schema o = numbers_in (attributes_at schema o) (length schema.attributes)
 
 -- a row, by its number and its origin: the variable and the object that it is for, and the object's attributes
 abbrev pub row_line : SchemaValue → Resolved → Tab → ℕ → Origin → List ℕ

@@ -6,7 +6,6 @@
 
 mod changes;
 mod closures;
-mod columns;
 mod crossing;
 mod explaining;
 mod headers;

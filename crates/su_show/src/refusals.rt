@@ -1,6 +1,6 @@
 //! The line for a schema that is refused.
-ghost use Rattle.std.specs.Prelude.{◌≡◌, ◌++◌, IfOk, OnOk, codes, decimal};
-ghost use Rattle.su_show.specs.Refusals.{limit_text, cause_text, schema_line, IsOfText};
+ghost use Rattle.std.specs.Prelude.{◌≡◌, ◌≢◌, ◌++◌, ℕ, IsSomeAnd, IfOk, OnOk, codes, decimal};
+ghost use Rattle.su_show.specs.Refusals.{limit_text, cause_text, schema_line};
 
 use crate::parts::push_all;
 use std::alloc::Global;
@@ -24,7 +24,7 @@ fn limit(limit: SchemaLimit) -> &'static str
 
 /// Why a definition is refused, as a refused schema and a refused definition of a script tell it.
 pub(crate) fn push_cause(out: &mut Vec<u8>, fault: &SchemaFault) -> Result<(), NoMemory>
-    ensures { OnOk result (out.new.items ≡ out.old.items ++ cause_text fault.now) }
+    ensures { OnOk result (IsSomeAnd (cause_text fault.now) (λ text. out.new.items ≡ out.old.items ++ text)) }
 {
     match fault {
         SchemaFault::Twice(name) => push_all(out, &["twice ", name.as_str()]),
@@ -49,7 +49,8 @@ fn push_number_of_statement(alloc: Global, out: &mut Vec<u8>, number: u32) -> Re
 /// The line for a refused schema file, with its line feed. A fault that is want of memory is handed on.
 pub fn ddl_fault(alloc: Global, fault: &DdlFault) -> Result<List<u8>, NoMemory>
     ensures line { IfOk result (λ bytes. bytes ≡ schema_line fault.now) }
-    ensures of_text { OnOk result (IsOfText fault.now) }
+    ensures told { OnOk result (fault.now ≢ DdlFault.NoMemory) }
+    ensures cause { OnOk result ((number : ℕ) → fault.now ≢ DdlFault.Refused number SchemaFault.NoMemory) }
 {
     let mut out = Vec::new(alloc);
     match fault {
@@ -57,7 +58,6 @@ pub fn ddl_fault(alloc: Global, fault: &DdlFault) -> Result<List<u8>, NoMemory>
             push_number_of_statement(alloc, &mut out, *number)?;
             push(&mut out, "syntax\n")?;
         }
-        DdlFault::Refused(_, SchemaFault::NoMemory) => return Err(NoMemory),
         DdlFault::Refused(number, fault) => {
             push_number_of_statement(alloc, &mut out, *number)?;
             push_cause(&mut out, fault)?;

@@ -1,12 +1,11 @@
 //! The line of a refused statement.
-ghost use Rattle.std.specs.Prelude.{◌≡◌, ◌≢◌, ◌++◌, codes, decimal, flat_map, IfOk, OnOk};
+ghost use Rattle.std.specs.Prelude.{◌≡◌, ◌++◌, codes, decimal, flat_map, IsSomeAnd, IfOk, OnOk};
 ghost use Rattle.su_show.specs.QueryCauses.{kind_text, query_limit_text, query_fault_text, step_limit_text, step_text};
-ghost use Rattle.su_show.specs.RowCauses.{column_text, state_text, record_text, csv_text};
-ghost use Rattle.su_show.specs.RefusalLines.{define_text, inconsistent_text, HasText, IsRefusalLine};
+ghost use Rattle.su_show.specs.RowCauses.{state_text, record_text, csv_text};
+ghost use Rattle.su_show.specs.RefusalLines.{define_text, inconsistent_text, refusal_text, IsRefusalLine};
 ghost use Rattle.su_show.specs.Refusals.{cause_text};
 
 use crate::closures::fd_at;
-use crate::columns::{column_name, width};
 use crate::parts::push_all;
 use crate::refusals::push_cause;
 use crate::statement_refusal::Refusal;
@@ -17,7 +16,7 @@ use su_base::parts::{push, push_number};
 use su_base::{AttrSet, Kind, List, NoMemory, Str, Value};
 use su_csv::CsvFault;
 use su_query::{QueryFault, QueryLimit};
-use su_schema::{Schema, SchemaFault};
+use su_schema::Schema;
 use su_state::{DefineFault, LoadFault, StateFault};
 use su_steps::{StepFault, StepLimit};
 
@@ -42,8 +41,7 @@ fn query_limit(limit: QueryLimit) -> &'static str
 }
 
 fn push_query(out: &mut Vec<u8>, fault: &QueryFault) -> Result<(), NoMemory>
-    ensures text { OnOk result (out.new.items ≡ out.old.items ++ query_fault_text fault.now) }
-    ensures told { OnOk result (fault.now ≢ QueryFault.NoMemory) }
+    ensures { OnOk result (IsSomeAnd (query_fault_text fault.now) (λ text. out.new.items ≡ out.old.items ++ text)) }
 {
     match fault {
         QueryFault::Syntax => push(out, "syntax"),
@@ -70,7 +68,7 @@ fn push_not_covered(
     name: &Option<Str>,
     mentioned: AttrSet,
 ) -> Result<(), NoMemory>
-    ensures { OnOk result (out.new.items ≡ out.old.items ++ step_text schema.now (StepFault.NotCovered name.now mentioned)) }
+    ensures { OnOk result (IsSomeAnd (step_text schema.now (StepFault.NotCovered name.now mentioned)) (λ text. out.new.items ≡ out.old.items ++ text)) }
 {
     push(out, "no maximal object covers ")?;
     push(out, variable(name))?;
@@ -93,16 +91,16 @@ fn push_state(
     schema: &Schema,
     fault: &StateFault,
 ) -> Result<(), NoMemory>
-    ensures text { OnOk result (out.new.items ≡ out.old.items ++ state_text schema.now fault.now) }
-    ensures told { OnOk result (fault.now ≢ StateFault.NoMemory) }
+    ensures { OnOk result (IsSomeAnd (state_text schema.now fault.now) (λ text. out.new.items ≡ out.old.items ++ text)) }
 {
     match fault {
         StateFault::UnknownRelation(name) => push_all(out, &["unknown relation ", name.as_str()]),
         StateFault::Width { relation, given } => {
-            push_width(alloc, out, *given, width(schema, *relation) as u64)
+            let wanted = schema.columns_at(*relation).len();
+            push_width(alloc, out, *given, wanted as u64)
         }
         StateFault::Kind { relation, column } => {
-            push_kind_of(out, column_name(schema, *relation, *column))
+            push_kind_of(out, schema.column_name(*relation, *column as usize))
         }
         StateFault::Breaks { fd, row, .. } => {
             push(out, "breaks ")?;
@@ -130,8 +128,7 @@ fn push_load(
     schema: &Schema,
     fault: &LoadFault,
 ) -> Result<(), NoMemory>
-    ensures text { OnOk result (out.new.items ≡ out.old.items ++ record_text fault.now.number (state_text schema.now fault.now.fault)) }
-    ensures told { OnOk result (fault.now.fault ≢ StateFault.NoMemory) }
+    ensures { OnOk result (IsSomeAnd (refusal_text schema.now (Refusal.Record fault.now)) (λ text. out.new.items ≡ out.old.items ++ text)) }
 {
     push_record(alloc, out, fault.number, &[])?;
     push_state(alloc, out, schema, &fault.fault)
@@ -144,19 +141,18 @@ fn push_csv(
     relation: u8,
     fault: CsvFault,
 ) -> Result<(), NoMemory>
-    ensures text { OnOk result (out.new.items ≡ out.old.items ++ csv_text schema.now relation fault) }
-    ensures told { OnOk result (fault ≢ CsvFault.NoMemory) }
+    ensures { OnOk result (IsSomeAnd (csv_text schema.now relation fault) (λ text. out.new.items ≡ out.old.items ++ text)) }
 {
     match fault {
         CsvFault::Header => push(out, "header"),
         CsvFault::TooMany => push(out, "limit records 1000000"),
         CsvFault::Width { number } => push_record(alloc, out, number, &["width"]),
         CsvFault::NotInt { number, column } => {
-            let name = column_name(schema, relation, column);
+            let name = schema.column_name(relation, column as usize);
             push_record(alloc, out, number, &["column ", name, " is no number"])
         }
         CsvFault::NotText { number, column } => {
-            let name = column_name(schema, relation, column);
+            let name = schema.column_name(relation, column as usize);
             push_record(alloc, out, number, &["column ", name, " is no text"])
         }
         CsvFault::NoMemory => Err(NoMemory),
@@ -179,8 +175,7 @@ fn push_step(
     schema: &Schema,
     fault: &StepFault,
 ) -> Result<(), NoMemory>
-    ensures text { OnOk result (out.new.items ≡ out.old.items ++ step_text schema.now fault.now) }
-    ensures told { OnOk result (fault.now ≢ StepFault.NoMemory) }
+    ensures { OnOk result (IsSomeAnd (step_text schema.now fault.now) (λ text. out.new.items ≡ out.old.items ++ text)) }
 {
     match fault {
         StepFault::NotCovered {
@@ -198,11 +193,9 @@ fn push_define(
     schema: &Schema,
     fault: &DefineFault,
 ) -> Result<(), NoMemory>
-    ensures text { OnOk result (out.new.items ≡ out.old.items ++ define_text schema.now fault.now) }
-    ensures told { OnOk result ((fault.now ≢ DefineFault.NoMemory) × (fault.now ≢ DefineFault.Schema SchemaFault.NoMemory)) }
+    ensures { OnOk result (IsSomeAnd (define_text schema.now fault.now) (λ text. out.new.items ≡ out.old.items ++ text)) }
 {
     match fault {
-        DefineFault::Schema(SchemaFault::NoMemory) => Err(NoMemory),
         DefineFault::Schema(fault) => push_cause(out, fault),
         DefineFault::Breaks {
             fd,
@@ -241,7 +234,7 @@ fn push_refusal(
     schema: &Schema,
     refusal: &Refusal,
 ) -> Result<(), NoMemory>
-    ensures { OnOk result (HasText schema.now refusal.now (λ text. out.new.items ≡ out.old.items ++ text)) }
+    ensures { OnOk result (IsSomeAnd (refusal_text schema.now refusal.now) (λ text. out.new.items ≡ out.old.items ++ text)) }
 {
     match refusal {
         Refusal::Query(fault) => push_query(out, fault),

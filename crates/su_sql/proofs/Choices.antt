@@ -15,7 +15,7 @@ use Rattle.su_tableau.specs.Valuations.{value_of, values_of}
 use Rattle.su_exec.specs.declared.tasks.TaskRow.{TaskRow}
 use Rattle.su_exec.specs.declared.tasks.Compared.{Compared}
 use Rattle.su_exec.specs.declared.tasks.Task.{Task}
-use Rattle.su_exec.specs.Tasks.{Occurs, FitsTables, HasSources, IsTask}
+use Rattle.su_exec.specs.Tasks.{no_row, Occurs, FitsTables, HasSources, IsTask}
 use Rattle.su_exec.specs.Outputs.{Agrees, HoldsUnder, IsOutput}
 use Rattle.su_steps.proofs.Lists.{all_by, contains_later, contains_cases, contains_none, contains_map, of_map, contains_flat, of_flat}
 use Rattle.su_base.proofs.Items.{AllZip-get_or, Contains-range, Contains-range_below}
@@ -28,7 +28,7 @@ use Rattle.su_sql.specs.Choices.{IsRowOf, value_at, operand_value, Joins, Fixes,
 use Rattle.su_sql.specs.Selects.{IsSelected}
 use Rattle.su_sql.specs.TaskJoins.{operand_of, comparison_of, joins_for, joins_at, joins_of, fixed_for, fixed_at, fixed_of}
 use Rattle.su_sql.specs.TermSelects.{table_of, select_of, IsJoined}
-use Rattle.su_sql.specs.Cells.{no_row, place, cell_at, cells_in, cells_of, is_variable, is_same, found_place, first_place}
+use Rattle.su_sql.specs.Cells.{place, cell_at, cells_in, cells_of, is_variable, is_same, found_place, first_place}
 
 -- ---- symbols and places
 

@@ -26,7 +26,8 @@ use Rattle.su_exec.specs.Outputs.{Agrees, IsOutput}
 use Rattle.su_steps.proofs.Lists.{contains_map, of_map, contains_filter, of_filter}
 use Rattle.su_answer.specs.Answers.{IsRead, StoredAnswer}
 use Rattle.su_tableau.specs.Parts.{cell_at, row_of}
-use Rattle.su_answer.specs.Joined.{numbers_in, IsTaskRowOf, IsTaskOf}
+use Rattle.su_schema.specs.SetMembers.{numbers_in}
+use Rattle.su_answer.specs.Joined.{IsTaskRowOf, IsTaskOf}
 use Rattle.su_answer.proofs.ColumnValues.{reads_each, each_read}
 use Rattle.su_answer.proofs.Joined.{answers_by_rows}
 use Rattle.su_base.proofs.Items.{Contains-range, Contains-range_below}

@@ -1,5 +1,6 @@
 -- What is written for a statement that is accepted.
 -- Inserts, deletes and prints of known relations are SQL; for all else the reply is a comment.
+-- said: the reply to the statement
 use Rattle.std.specs.Prelude.{ℕ, List, Option, Some, None, length, nat_lt, if◌then◌else◌}
 use Rattle.su_schema.specs.SchemaValue.{SchemaValue}
 use Rattle.su_schema.specs.Entries.{relation_names, place_of}

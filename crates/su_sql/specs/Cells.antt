@@ -1,17 +1,14 @@
 -- The cells of the rows that are joined for a kept term.
 -- cell: a symbol of a row, with its place; the first place of a variable stands for it
-use Rattle.std.specs.Prelude.{◌&&◌, ◌==◌, ℕ, Bool, false, List, [], Option, Some, None, find, flat_map, map, get_or, length}
+use Rattle.std.specs.Prelude.{◌&&◌, ◌==◌, ℕ, Bool, false, List, Option, Some, None, find, flat_map, map, get_or, length}
 use Rattle.std.specs.List.{range_with_len}
 use Rattle.su_tableau.specs.declared.symbols.Sym.{Sym}
 use Rattle.su_tableau.specs.declared.symbols.Sym.TheVariants.{Const, Var}
 use Rattle.su_exec.specs.declared.tasks.TaskRow.{TaskRow}
+use Rattle.su_exec.specs.Tasks.{no_row}
 use Rattle.su_sql.specs.declared.tables.CellPlace.{CellPlace}
 use Rattle.su_sql.specs.declared.tables.Operand.TheVariants as operand
 use Rattle.su_sql.specs.declared.cells.Cell.{Cell}
-
--- stands where a task has no such row
-abbrev pub no_row : TaskRow
-no_row = record { cells = []; sources = [] }
 
 -- cell c of table t
 abbrev pub place : ℕ → ℕ → CellPlace

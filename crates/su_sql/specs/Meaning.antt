@@ -1,5 +1,6 @@
 -- What the selects of a query mean.
 -- They are made for the kept terms of the prepared query, one for each, and give its answer over any stored rows.
+-- over any stored rows: in each database of this schema whose rows an engine can store; h: a row of an answer
 use Rattle.std.specs.Prelude.{◌≡◌, ◌↔◌, List}
 use Rattle.std.specs.List.{AllZip}
 use Rattle.std.specs.Ordering.{nat_cmp}

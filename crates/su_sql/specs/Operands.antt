@@ -1,5 +1,5 @@
 -- The text of an operand of a select.
--- an operand stands as the column of a table, or as its value
+-- operand: a value that a select gives, compares or is ordered by: the column of a table, or a constant
 use Rattle.std.specs.Prelude.{ℕ, ◌+◌, List, [], ◌∷◌, ◌++◌, get_or, decimal}
 use Rattle.su_base.specs.declared.values.Kind.{Kind}
 use Rattle.su_base.specs.declared.values.Kind.TheVariants as kind

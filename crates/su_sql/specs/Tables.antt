@@ -1,5 +1,6 @@
 -- The text of a table of a select.
 -- table number i is r0, r1, ..; where it has several sources, its values are c0, c1, ..
+-- source: a stored relation, with a column of it for each value of the table; table: the rows of its sources together
 use Rattle.std.specs.Prelude.{ℕ, ◌+◌, List, [], ◌∷◌, ◌++◌, map, get_or, length, codes, decimal}
 use Rattle.std.specs.List.{range_with_len}
 use Rattle.su_base.specs.declared.values.Kind.TheVariants as kind

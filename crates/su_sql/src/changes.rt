@@ -6,7 +6,7 @@ ghost use Rattle.su_sql.specs.Texts.{value_text};
 ghost use Rattle.su_sql.specs.Changes.{column_line, create_text, equality_text, is_row_text, insert_text, delete_text, shown_column, print_text};
 ghost use Rattle.su_sql.specs.Conditions.{delete_where_text};
 
-use crate::columns::{column_kind, columns, push_column, push_relation};
+use crate::columns::{column_kind, push_column, push_relation};
 use crate::conditions::push_condition;
 use crate::dialects::Dialect;
 use crate::parts::push_led;
@@ -51,7 +51,7 @@ pub fn create(
 ) -> Result<List<u8>, NoMemory>
     ensures { IfOk result (λ text. text ≡ create_text dialect schema.now relation) }
 {
-    let parts = column_parts(alloc, dialect, columns(schema, relation))?;
+    let parts = column_parts(alloc, dialect, schema.columns_at(relation))?;
     let mut out = Vec::new(alloc);
     push(&mut out, "create table ")?;
     push_relation(&mut out, dialect, schema, relation)?;
@@ -209,7 +209,7 @@ fn shown_parts(
     ensures { IfOk result (λ parts. parts ≡ map (shown_column dialect schema.now relation) (range_with_len 0 (length (columns_at schema.now relation)))) }
 {
     let mut parts = List::new(alloc);
-    for column in 0..columns(schema, relation).len() {
+    for column in 0..schema.columns_at(relation).len() {
         parts.push(shown_part(alloc, dialect, schema, relation, column)?)?;
     }
     Ok(parts)
@@ -229,7 +229,7 @@ pub fn print(
     push_led(&mut out, "select distinct ", ", ", parts.as_slice())?;
     push(&mut out, "\nfrom ")?;
     push_relation(&mut out, dialect, schema, relation)?;
-    push_order(alloc, &mut out, columns(schema, relation).len())?;
+    push_order(alloc, &mut out, schema.columns_at(relation).len())?;
     push(&mut out, ";\n")?;
     Ok(List::from_vec(out))
 }

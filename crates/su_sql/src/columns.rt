@@ -1,11 +1,10 @@
 //! Relations and their columns, by number. What is none of the schema's has an empty name.
 ghost use Rattle.std.specs.Prelude.{◌≡◌, ◌++◌, OnOk};
-ghost use Rattle.su_schema.specs.Known.{columns_at};
-ghost use Rattle.su_sql.specs.Names.{relation_name, column_name, column_kind, relation_text, column_text};
+ghost use Rattle.su_sql.specs.Names.{relation_name, column_kind, relation_text, column_text};
 
 use crate::dialects::Dialect;
 use crate::words::push_name;
-use su_base::{Column, Kind, NoMemory};
+use su_base::{Kind, NoMemory};
 use su_schema::Schema;
 
 fn relation_name(schema: &Schema, relation: u8) -> &str
@@ -17,28 +16,10 @@ fn relation_name(schema: &Schema, relation: u8) -> &str
     schema.relation_name(relation)
 }
 
-pub(crate) fn columns(schema: &Schema, relation: u8) -> &[Column]
-    ensures { result.now ≡ columns_at schema.now relation }
-{
-    if relation as usize >= schema.relations() {
-        return &[];
-    }
-    schema.columns(relation)
-}
-
-fn column_name(schema: &Schema, relation: u8, column: usize) -> &str
-    ensures { result.now ≡ column_name schema.now relation column }
-{
-    match columns(schema, relation).get(column) {
-        Some(column) => column.name.as_str(),
-        None => "",
-    }
-}
-
 pub(crate) fn column_kind(schema: &Schema, relation: u8, column: usize) -> Kind
     ensures { result ≡ column_kind schema.now relation column }
 {
-    match columns(schema, relation).get(column) {
+    match schema.columns_at(relation).get(column) {
         Some(column) => column.kind,
         None => Kind::Int,
     }
@@ -64,5 +45,5 @@ pub(crate) fn push_column(
 ) -> Result<(), NoMemory>
     ensures { OnOk result (out.new.items ≡ out.old.items ++ column_text dialect schema.now relation column) }
 {
-    push_name(out, dialect, column_name(schema, relation, column))
+    push_name(out, dialect, schema.column_name(relation, column))
 }

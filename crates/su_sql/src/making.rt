@@ -4,7 +4,7 @@ ghost use Rattle.std.specs.List.{AllZip};
 ghost use Rattle.su_tableau.specs.Kinds.{IsTyped};
 ghost use Rattle.su_schema.specs.Entries.{attribute_kinds};
 ghost use Rattle.su_min.specs.Reduction.{term_at};
-ghost use Rattle.su_answer.specs.Prepared.{IsPreparedFor};
+ghost use Rattle.su_answer.specs.Prepared.{IsPreparedOn};
 ghost use Rattle.su_sql.specs.TermSelects.{table_of, select_of, IsSelectOf};
 ghost use Rattle.su_sql.specs.Meaning.{MeanAnswers};
 
@@ -12,33 +12,12 @@ use crate::cells::cells_of;
 use crate::linking::{comparisons_of, fixed_of, joins_of, operands_of};
 use crate::tables::{Select, Table};
 use std::alloc::Global;
-use su_answer::{Prepared, task_of};
+use su_answer::{Prepared, task_for};
 use su_base::{List, NoMemory};
-use su_exec::{Source, Task, TaskRow};
+use su_exec::{Task, TaskRow, copy_sources};
 use su_min::Minimal;
-use su_min::laws::kept_rows_are_least;
 use su_state::Database;
 use su_steps::laws::terms_are_valid_and_typed;
-
-fn copy_numbers(alloc: Global, numbers: &[u8]) -> Result<List<u8>, NoMemory>
-    ensures { IfOk result (λ copy. copy ≡ numbers.now) }
-{
-    let mut copy = Vec::new(alloc);
-    copy.extend_from_slice(numbers)?;
-    Ok(List::from_vec(copy))
-}
-
-fn copy_sources(alloc: Global, sources: &[Source]) -> Result<List<Source>, NoMemory>
-    ensures { IfOk result (λ copy. copy ≡ sources.now) }
-{
-    let mut copy = List::new(alloc);
-    for source in sources {
-        let columns = copy_numbers(alloc, source.columns.as_slice())?;
-        let relation = source.relation;
-        copy.push(Source { relation, columns })?;
-    }
-    Ok(copy)
-}
 
 fn tables_of(alloc: Global, rows: &[TaskRow]) -> Result<List<Table>, NoMemory>
     ensures { IfOk result (λ tables. tables ≡ map table_of rows.now) }
@@ -70,12 +49,7 @@ fn select_for(alloc: Global, db: &Database, minimal: &Minimal) -> Result<Select,
     requires { IsTyped (attribute_kinds db.now.schema) minimal.now.tableau }
     ensures { IfOk result (IsSelectOf db.now.schema minimal.now) }
 {
-    db.keeps_its_rules();
-    minimal.keeps_its_rules();
-    let t = minimal.tableau();
-    t.keeps_its_rules();
-    kept_rows_are_least();
-    let task = task_of(alloc, db.schema(), t, minimal.mask())?;
+    let task = task_for(alloc, db, minimal)?;
     let select = select_of(alloc, &task)?;
     Ok(select)
 }
@@ -103,7 +77,7 @@ fn selects_for(
 /// they meet the dependencies, the union of the selects gives exactly the rows of the query's answer.
 /// The database's own rows play no part.
 pub fn selects(alloc: Global, db: &Database, prepared: &Prepared) -> Result<List<Select>, NoMemory>
-    requires prepared { IsPreparedFor db.now.schema prepared.now }
+    requires prepared { IsPreparedOn db.now.schema prepared.now }
     ensures selects { IfOk result (AllZip (λ k select. IsSelectOf db.now.schema (term_at prepared.now.minimals k) select) prepared.now.reduced.kept) }
     ensures means { IfOk result (MeanAnswers db.now.schema prepared.now) }
 {

@@ -24,11 +24,13 @@ use Rattle.su_state.specs.Enforced.{HoldsOn}
 use Rattle.su_state.specs.Definitions.{tables_with, Defines}
 use Rattle.su_state.specs.declared.faults.DefineFault.{DefineFault}
 use Rattle.su_state.specs.declared.faults.DefineFault.TheVariants.{Schema, Breaks, NoMemory}
-use Rattle.su_state.specs.inside.AddedDefinitions.{HaveTables, HasAdded, IsNarrow, AddedHolds, IsAddedFault}
+use Rattle.su_state.specs.Breaches.{Breach}
+use Rattle.su_state.specs.NewBreaches.{IsNewBreach}
+use Rattle.su_state.specs.inside.AddedDefinitions.{HaveTables, HasAdded, IsNarrow, TellsFirst}
 use Rattle.su_state.proofs.Columns.{object_on}
-use Rattle.su_state.proofs.FirstBreaches.{first_new}
 use Rattle.su_state.proofs.Empty.{empty_table, no_rows, at_width}
 use Rattle.su_state.proofs.Kept.{blank}
+use Rattle.su_state.proofs.StoredBreaches.{stored_breach}
 
 of_outcome : (fails : Option SchemaFault) (made schema : SchemaValue) → outcome fails made ≡ Ok schema → schema ≡ made
 of_outcome (Some fault) made schema is = cc
@@ -137,7 +139,7 @@ same_relations db schema kept valid same =
     (λ o object placed. omega (arith, object_on schema o object valid placed, kept.tables, ap length same))
 
 -- a schema with one more definition, which holds on the stored rows
-pub kept_added : (db : DatabaseValue) (schema : SchemaValue) (definition : Definition) → IsWellKept db → IsValid schema → applied db.schema definition ≡ Ok schema → AddedHolds schema db.tables definition → IsWellKept (record { schema = schema; tables = tables_with definition db.tables })
+pub kept_added : (db : DatabaseValue) (schema : SchemaValue) (definition : Definition) → IsWellKept db → IsValid schema → applied db.schema definition ≡ Ok schema → ((b : Breach) → ¬ IsNewBreach schema db.tables definition b) → IsWellKept (record { schema = schema; tables = tables_with definition db.tables })
 kept_added db schema (Attribute name kind) kept valid is holds =
     let e : schema ≡ extended db.schema (Attribute name kind) = extended_is db.schema schema (Attribute name kind) is in
     same_tables db schema kept valid (ap relation_columns e ∙ sym (append-nil (relation_columns db.schema)))
@@ -157,7 +159,7 @@ kept_added db schema (Object name relation pairs) kept valid is holds =
       | inr last ↦
           let size : length schema.objects ≡ length db.schema.objects + 1 = ap (λ s. length s.objects) e ∙ length_push db.schema.objects _ in
           let at : o ≡ length schema.objects - 1 = omega (arith, size, last) in
-          inr (holds f fd object numbered (subst (λ (k : ℕ). slice_get schema.objects k ≡ Some object) at placed))
+          inr (λ first second here there broken. holds (record { dependency = f; object = o; first = first; second = second }) (stored_breach schema db.tables f o fd object numbered placed first second here there broken, at))
     ])
 kept_added db schema (Fd left right) kept valid is holds =
     let e : schema ≡ extended db.schema (Fd left right) = extended_is db.schema schema (Fd left right) is in
@@ -170,7 +172,7 @@ kept_added db schema (Fd left right) kept valid is holds =
       | inr last ↦
           let size : length schema.fds ≡ length db.schema.fds + 1 = ap (λ s. length s.fds) e ∙ length_push db.schema.fds _ in
           let at : f ≡ length schema.fds - 1 = omega (arith, size, last) in
-          inr (holds o fd object (subst (λ (k : ℕ). slice_get schema.fds k ≡ Some fd) at numbered) placed)
+          inr (λ first second here there broken. holds (record { dependency = f; object = o; first = first; second = second }) (stored_breach schema db.tables f o fd object numbered placed first second here there broken, at))
     ])
 kept_added db schema (Maximal objects) kept valid is holds =
     let e : schema ≡ extended db.schema (Maximal objects) = extended_is db.schema schema (Maximal objects) is in
@@ -222,9 +224,7 @@ narrow schema new (Fd left right) is valid = tt
 narrow schema new (Maximal objects) is valid = tt
 
 -- a refusal of what was added
-pub refused_added : (db : DatabaseValue) (schema : SchemaValue) (definition : Definition) (fault : DefineFault) → applied db.schema definition ≡ Ok schema → IsAddedFault schema db.tables definition fault → (fault ≡ NoMemory) ⊎ Defines db definition (Err fault) db
+pub refused_added : (db : DatabaseValue) (schema : SchemaValue) (definition : Definition) (fault : DefineFault) → applied db.schema definition ≡ Ok schema → TellsFirst schema (IsNewBreach schema db.tables definition) fault → (fault ≡ NoMemory) ⊎ Defines db definition (Err fault) db
 refused_added db schema definition (Schema fault) is refused = absurd refused
-refused_added db schema definition (Breaks fd name first second) is refused =
-    let (b, first_of, same) = first_new schema db.tables definition fd name first second refused in
-    inr ((schema, b, is, first_of, same), refl)
+refused_added db schema definition (Breaks fd name first second) is (b, first_of, told) = inr ((schema, b, is, first_of, told), refl)
 refused_added db schema definition NoMemory is refused = inl refl

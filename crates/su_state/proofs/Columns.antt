@@ -17,6 +17,7 @@ use Rattle.su_schema.specs.SchemaValue.{SchemaValue, ObjectEntry, RelationEntry}
 use Rattle.su_schema.specs.Valid.{IsValid, IsObject, IsLink, IsRelationEntry, IsDependency}
 use Rattle.su_schema.specs.Entries.{column_of, attributes_of, relation_columns}
 use Rattle.su_schema.specs.Known.{columns_at}
+use Rattle.su_schema.proofs.Entries.{blank_object}
 use Rattle.su_schema.proofs.LinkOrder.{found}
 use Rattle.su_state.specs.Enforced.{read, AgreeThrough, Break}
 use Rattle.su_state.specs.declared.sides.Sides.{Sides}
@@ -182,10 +183,6 @@ pub column_answered : (schema : SchemaValue) (o a : ℕ) (entry : ObjectEntry) (
 column_answered schema o a entry answer placed answered =
     let same : Some (column_of entry a) ≡ Some answer = sym (slice_get-map (λ object. column_of object a) schema.objects o ∙ ap (option_map (λ object. column_of object a)) placed) ∙ answered in
     cc
-
--- what stands for an object where there is none
-abbrev pub blank_object : ObjectEntry
-blank_object = record { name = []; relation = 0; links = [] }
 
 -- a column that an object of the schema has is a small number
 pub column_small : (schema : SchemaValue) (o a c : ℕ) → IsValid schema → o < length schema.objects → slice_get (map (λ object. column_of object a) schema.objects) o ≡ Some (Some c) → c < 128

@@ -3,24 +3,23 @@ use Rattle.std.proofs.Common.{◌≡◌, ◌+◌, zero, suc, Bool, true, false, 
 use Rattle.std.specs.Bool.{Decides}
 use Rattle.std.specs.List.{items_where_true}
 use Rattle.std.specs.List.Sorted.{IsPermutation}
-use Rattle.std.proofs.lemmas.Bool.{false≢true}
 use Rattle.std.proofs.lemmas.Map.Keys.{IsDistinct-IsPermutation}
 use Rattle.std.proofs.lemmas.Map.Made.{AllPairs-from_IsDistinct, IsDistinct-from_AllPairs}
 use Rattle.su_base.proofs.Same.{row_eq-Decides}
-use Rattle.su_rel.proofs.Rows.{same}
+use Rattle.su_rel.proofs.Rows.{same, flips}
 use Rattle.std.proofs.lemmas.List.{get_or_default}
 use Rattle.std.proofs.lemmas.List.Elements.{Contains-push_cases}
 use Rattle.su_base.specs.declared.values.Value.{Value}
 use Rattle.su_rel.specs.Changes.{PutInAll}
-use Rattle.su_rel.specs.Stored.{AllDiffer}
+use Rattle.su_base.specs.Lists.{AllDiffer}
 
 abbrev Row : Type 0
 Row = List Value
 
-pub differ_none : AllDiffer []
+pub differ_none : AllDiffer {X = Row} []
 differ_none i j d less within = absurd (omega arith)
 
-differ_tail : (row : Row) (rows : List Row) → AllDiffer (row ∷ rows) → AllDiffer rows
+pub differ_tail : (row : Row) (rows : List Row) → AllDiffer (row ∷ rows) → AllDiffer rows
 differ_tail row rows differ i j d less within = differ (suc i) (suc j) d (omega (arith, less)) (omega (arith, within))
 
 differ_head : (row : Row) (rows : List Row) → AllDiffer (row ∷ rows) → ¬ Contains rows row
@@ -69,16 +68,6 @@ differ_marked (false ∷ bs) (r ∷ rs) differ = differ_marked bs rs (differ_tai
 
 decides : (row other : Row) → Decides (same row other) (row ≡ other)
 decides row other = row_eq-Decides row other _ refl
-
-flips : (row other : Row) → same row other ≡ same other row
-flips row other =
-    elim (same row other) as (λ b. same row other ≡ b → same row other ≡ same other row) [
-      | true ↦ λ one. one ∙ sym ((decides other row).1 (sym ((decides row other).0 one)))
-      | false ↦ λ none. elim (same other row) as (λ b. same other row ≡ b → same row other ≡ same other row) [
-        | true ↦ λ one. absurd (false≢true (sym none ∙ (decides row other).1 (sym ((decides other row).0 one))))
-        | false ↦ λ other_none. none ∙ sym other_none
-      ] refl
-    ] refl
 
 -- the same rows in another order
 pub differ_moved : (rows moved : List Row) → IsPermutation rows moved → AllDiffer rows → AllDiffer moved

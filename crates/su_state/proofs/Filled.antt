@@ -19,7 +19,7 @@ use Rattle.su_state.specs.DatabaseValue.{DatabaseValue, table_of, rows_of, colum
 use Rattle.su_state.specs.Enforced.{Break, HoldsOn}
 use Rattle.su_state.specs.declared.sides.Sides.{Sides}
 use Rattle.su_state.specs.inside.Sides.{AreSidesOf, Clash}
-use Rattle.su_state.specs.inside.RowBreaks.{BreaksNothing}
+use Rattle.su_state.specs.inside.SomeBreaches.{BreaksNothing}
 use Rattle.su_state.specs.RowChanges.{InsertAnswers, Inserts}
 use Rattle.su_state.specs.Loads.{InsertsAll}
 use Rattle.su_state.specs.inside.Parts.{HaveOneWidth}
@@ -27,7 +27,6 @@ use Rattle.su_state.specs.inside.AdmissibleRows.{KeepThrough, MayTake}
 use Rattle.su_state.proofs.Columns.{clash_from_break, columns_few}
 use Rattle.su_state.proofs.DifferentRows.{differ_put}
 use Rattle.su_state.proofs.Kept.{with_table, MayHave, flipped, holds_at, table_here, holds_fewer, kept_with, added_with, unchanged_with, table_read}
-use Rattle.su_state.proofs.FirstBreaches.{no_breach}
 
 -- rows that are put in are of the rows there and of those that are given
 put_among : (rows old new : List (List Value)) → PutInAll old rows new → (x : List Value) → Contains new x → Contains (old ++ rows) x
@@ -48,11 +47,11 @@ put_length (row ∷ rows) old new (between, inr (out, is), rest) = omega (arith,
 
 -- the first of the rows breaks nothing
 none_broken : (db : DatabaseValue) (r : ℕ) (row : List Value) (rows : List (List Value)) → MayTake db r (row ∷ rows) → BreaksNothing db.schema r (rows_of db r) row
-none_broken db r row rows may f o other breach =
-    may.enforced f o breach.dependency breach.through breach.numbered breach.placed breach.on row other
-    (Contains-append_right (rows_of db r) (row ∷ rows) row (Contains-head row rows))
-    (Contains-append_left (rows_of db r) (row ∷ rows) other breach.stored)
-    breach.broken
+none_broken db r row rows may b by =
+    may.enforced b.dependency b.object by.breach.fd by.breach.object by.breach.numbered by.breach.placed by.breach.on b.first b.second
+    (subst (Contains (rows_of db r ++ row ∷ rows)) (sym by.first) (Contains-append_right (rows_of db r) (row ∷ rows) row (Contains-head row rows)))
+    (Contains-append_left (rows_of db r) (row ∷ rows) b.second by.stored)
+    by.breach.broken
 
 -- what holds of the dependency and the object with these numbers
 module _ (schema : SchemaValue) (relation : ℕ) (rows : List (List Value)) (f o : ℕ) (fd : Fd) (entry : ObjectEntry) (numbered : slice_get schema.fds f ≡ Some fd) (placed : slice_get schema.objects o ≡ Some entry) where
@@ -80,7 +79,8 @@ pub keeps_few : (db : DatabaseValue) (r : ℕ) (rows : List (List Value)) → Is
     → ((f o : ℕ) → KeepThrough db.schema r rows f o) → (f o : ℕ) → KeepThrough db.schema r (rows_of db r ++ rows) f o
 keeps_few db r rows kept within none among f o fd object numbered placed on row other here there broken =
     let breach : (x y : List Value) → Contains rows x → Contains (rows_of db r) y → Break fd object x y → ⊥ =
-    λ x y given stored bad. All-contains (BreaksNothing db.schema r (rows_of db r)) rows x none given f o y (record { dependency = fd; through = object; numbered = numbered; placed = placed; on = on; stored = stored; broken = bad }) in
+    λ x y given stored bad. All-contains (BreaksNothing db.schema r (rows_of db r)) rows x none given (record { dependency = f; object = o; first = x; second = y })
+    (record { breach = record { fd = fd; object = object; numbered = numbered; placed = placed; on = on; broken = bad }; first = refl; stored = stored }) in
     elim (Contains-append_cases (rows_of db r) rows row here) [
       | inl one ↦ elim (Contains-append_cases (rows_of db r) rows other there) [
         | inl two ↦ holds_at db r kept within f o fd object numbered placed on row other one two broken
@@ -131,7 +131,7 @@ inserted_all (row ∷ rows) db r table within width (between, inr (out, is), res
     (λ x there. subst (λ (rs : List (List Value)). Contains rs x) assoc (subst (λ (b : List (List Value)). Contains (b ++ rows) x) its_rows there))
     (omega (arith, ap length its_rows, length_push (rows_of db r) row))) in
     let last : with_table mid r table ≡ with_table db r table = λ i. record { schema = db.schema; tables = set-set db.tables r mid_table table i } in
-    let answers : InsertAnswers db r row (Ok true) = (All-head (HasColumnKinds (columns_of db r)) row rows may.typed, out, no_breach db r row (none_broken db r row rows may), omega (arith, may.few)) in
+    let answers : InsertAnswers db r row (Ok true) = (All-head (HasColumnKinds (columns_of db r)) row rows may.typed, out, none_broken db r row rows may, omega (arith, may.few)) in
     let one : Inserts db r row (Ok true) mid = (answers, added_with db r row mid_table within refl refl) in
     (1 + more.0, omega (arith, more.1, ap length its_rows, length_push (rows_of db r) row), (mid, true, more.0, one, subst (λ (d : DatabaseValue). InsertsAll mid r rows more.0 d) last more.2, refl))
 

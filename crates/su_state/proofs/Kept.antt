@@ -10,16 +10,16 @@ use Rattle.su_base.specs.declared.values.Value.{Value}
 use Rattle.su_base.specs.declared.values.Column.{Column}
 use Rattle.su_fd.specs.declared.dependencies.Fd.{Fd}
 use Rattle.su_rel.specs.Changes.{TakenOut}
-use Rattle.su_rel.specs.Stored.{Stored, AllDiffer}
+use Rattle.su_base.specs.Lists.{AllDiffer}
+use Rattle.su_rel.specs.Stored.{Stored}
 use Rattle.su_schema.specs.SchemaValue.{SchemaValue, ObjectEntry}
 use Rattle.su_schema.specs.Entries.{relation_columns}
 use Rattle.su_state.specs.DatabaseValue.{DatabaseValue, table_of, rows_of, columns_of, HasColumnKinds, IsWellKept}
 use Rattle.su_state.specs.Enforced.{read, Break, HoldsOn}
 use Rattle.su_state.specs.Changes.{ChangesOnly, Added, Removed}
-use Rattle.su_state.specs.inside.RowBreaks.{BreaksNothing}
+use Rattle.su_state.specs.inside.SomeBreaches.{BreaksNothing}
 use Rattle.su_state.specs.RowChanges.{Deletes, InsertAnswers, Inserts}
 use Rattle.su_state.proofs.DifferentRows.{differ_push}
-use Rattle.su_state.proofs.FirstBreaches.{breaks_nothing}
 
 abbrev pub blank : Stored
 blank = record { width = 0; rows = [] }
@@ -79,7 +79,8 @@ flipped fd object row other broken = record {
 holds_added : (schema : SchemaValue) (r : ℕ) (rows : List (List Value)) (row : List Value) (f o : ℕ) (fd : Fd) (object : ObjectEntry) → slice_get schema.fds f ≡ Some fd → slice_get schema.objects o ≡ Some object → object.relation ≡ r → BreaksNothing schema r rows row → HoldsOn fd object rows → HoldsOn fd object (rows ++ row ∷ [])
 holds_added schema r rows row f o fd object numbered placed on none holds x y in_x in_y broken =
     let breach : (other : List Value) → Contains rows other → Break fd object row other → ⊥ =
-    λ other stored bad. none f o other (record { dependency = fd; through = object; numbered = numbered; placed = placed; on = on; stored = stored; broken = bad }) in
+    λ other stored bad. none (record { dependency = f; object = o; first = row; second = other })
+    (record { breach = record { fd = fd; object = object; numbered = numbered; placed = placed; on = on; broken = bad }; first = refl; stored = stored }) in
     elim (Contains-push_cases rows row x in_x) [
       | inl old_x ↦ elim (Contains-push_cases rows row y in_y) [
         | inl old_y ↦ holds x y old_x old_y broken
@@ -208,7 +209,7 @@ module _ (db : DatabaseValue) (r : ℕ) (row : List Value) (old new : Stored) (k
   pub kept_inserted : {E : Type 0} (result : Result Bool E) → IfOk result (λ b. MatchBool b ((¬ Contains old.rows row) × (new.rows ≡ old.rows ++ row ∷ [])) (Contains old.rows row × (new ≡ old))) → OnErr result (new ≡ old) → IsWellKept (with_table db r new)
   kept_inserted (Ok true) (out, rows) unchanged =
       kept_with db r new kept within
-      (may_add db r kept within row new answers.0 answers.1 (breaks_nothing db r row answers.2) answers.3 (width ∙ ap (λ t. t.width) put_into) (rows ∙ ap (λ t. t.rows ++ row ∷ []) put_into))
+      (may_add db r kept within row new answers.0 answers.1 answers.2 answers.3 (width ∙ ap (λ t. t.width) put_into) (rows ∙ ap (λ t. t.rows ++ row ∷ []) put_into))
   kept_inserted (Ok false) (there, same) unchanged = kept_same same
   kept_inserted (Err e) ok unchanged = kept_same unchanged
 

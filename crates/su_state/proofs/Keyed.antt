@@ -13,7 +13,7 @@ use Rattle.su_base.proofs.Rows.{cmp-rows}
 use Rattle.su_base.proofs.Items.{some_item}
 use Rattle.su_state.specs.Changes.{AreInOrder}
 use Rattle.su_state.specs.inside.Leads.{IsRowLead}
-use Rattle.su_rel.specs.Stored.{AllDiffer}
+use Rattle.su_base.specs.Lists.{AllDiffer}
 use Rattle.su_state.proofs.DifferentRows.{differ_moved}
 use Rattle.su_state.proofs.LeadOrder.{lead_of_row_first}
 

@@ -16,9 +16,8 @@ use Rattle.su_base.specs.Value.{compare_lists}
 use Rattle.su_base.proofs.Rows.{rows_total}
 use Rattle.su_index.specs.Matches.{matches, IsMatch}
 use Rattle.su_index.proofs.Matched.{has_value-decides, match_of, match_unique}
-use Rattle.su_state.specs.inside.RowBreaks.{IsAtMost}
 use Rattle.su_state.specs.declared.sides.Sides.{Sides}
-use Rattle.su_state.specs.inside.Sides.{Clash, IsLeastClash, IsLesser, row_at}
+use Rattle.su_state.specs.inside.Sides.{IsAtMost, Clash, IsLeastClash, IsLesser, row_at}
 
 pub at_most_itself : (row : List Value) → IsAtMost row row
 at_most_itself row greater = let same : compare_lists row row ≡ Equal = tied_itself rows_total row in cc

@@ -1,12 +1,13 @@
 pub mod Added
 pub mod Alike
+pub mod BreachOrder
 pub mod BrokenDependency
 pub mod Columns
 pub mod RowsPutIn
 pub mod DifferentRows
 pub mod Empty
 pub mod Filled
-pub mod FirstBreaches
+pub mod StoredBreaches
 pub mod TwoConditions
 pub mod Kept
 pub mod Least

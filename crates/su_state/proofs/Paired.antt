@@ -8,8 +8,7 @@ use Rattle.std.proofs.lemmas.List.{get_or_default, get_or_push, get_or_append_le
 use Rattle.std.proofs.lemmas.List.Elements.{Contains-get_or}
 use Rattle.su_base.specs.declared.values.Value.{Value}
 use Rattle.su_state.specs.declared.sides.Sides.{Sides}
-use Rattle.su_state.specs.inside.RowBreaks.{IsAtMost}
-use Rattle.su_state.specs.inside.Sides.{AgreeAt, Clash, IsLeastClash, TakesLesser, row_at}
+use Rattle.su_state.specs.inside.Sides.{AgreeAt, IsAtMost, Clash, IsLeastClash, TakesLesser, row_at}
 use Rattle.su_state.specs.inside.Parts.{part_of, Notes, HaveOneWidth}
 use Rattle.su_state.specs.inside.Pairs.{first_at, AreFirsts, mark_at, AreMarks, IsMarked, IsLeastMarked, IsLeastPair}
 use Rattle.su_state.proofs.Least.{at_most_itself, at_most_through, less_is_at_most, at_most_since}

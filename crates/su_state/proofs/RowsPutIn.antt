@@ -3,7 +3,8 @@ use Rattle.std.proofs.Common.{◌≡◌, ◌+◌, ℕ, List, [], ◌∷◌, ◌+
 use Rattle.std.proofs.lemmas.List.{length-append, get_or_append_left, get_or_at}
 use Rattle.su_base.specs.declared.values.Value.{Value}
 use Rattle.su_rel.specs.Changes.{PutInAll}
-use Rattle.su_rel.specs.Stored.{Stored, IsRelation, AllDiffer}
+use Rattle.su_base.specs.Lists.{AllDiffer}
+use Rattle.su_rel.specs.Stored.{Stored, IsRelation}
 
 pub put_all : (rows old new : List (List Value)) → AllDiffer (old ++ rows) → PutInAll old rows new → new ≡ old ++ rows
 put_all [] old new differ same = same ∙ sym (append-nil old)

@@ -41,8 +41,12 @@ pub record IsBreach (schema : SchemaValue) (relation : ℕ) (b : Breach) : Type 
   pub on : object.relation ≡ relation
   pub broken : Break fd object b.first b.second
 
--- a row breaks something with a row of the relation
-pub record IsBreachBy (db : DatabaseValue) (relation : ℕ) (row : List Value) (b : Breach) : Type 0 where
-  pub breach : IsBreach db.schema relation b
+-- a row breaks something with one of these rows of the relation
+pub record IsBreachWith (schema : SchemaValue) (relation : ℕ) (rows : List (List Value)) (row : List Value) (b : Breach) : Type 0 where
+  pub breach : IsBreach schema relation b
   pub first : b.first ≡ row
-  pub stored : Contains (rows_of db relation) b.second
+  pub stored : Contains rows b.second
+
+-- a row breaks something with a stored row of the relation
+abbrev pub IsBreachBy : DatabaseValue → ℕ → List Value → Breach → Type 0
+IsBreachBy db relation row = IsBreachWith db.schema relation (rows_of db relation) row

@@ -17,12 +17,15 @@ IsOfAdded schema (Fd left right) b = b.dependency ≡ length schema.fds - 1
 IsOfAdded schema (Object own relation pairs) b = b.object ≡ length schema.objects - 1
 IsOfAdded schema _ b = ⊥
 
--- two stored rows of a relation break what the definition adds
-pub record IsNewBreach (schema : SchemaValue) (tables : List Stored) (definition : Definition) (b : Breach) : Type 0 where
+-- two stored rows of a relation break something
+pub record IsStoredBreach (schema : SchemaValue) (tables : List Stored) (b : Breach) : Type 0 where
   pub relation : ℕ
   pub breach : IsBreach schema relation b
-  pub added : IsOfAdded schema definition b
   pub stored : Contains (rows_at tables relation) b.first × Contains (rows_at tables relation) b.second
+
+-- two stored rows of a relation break what the definition adds
+abbrev pub IsNewBreach : SchemaValue → List Stored → Definition → Breach → Type 0
+IsNewBreach schema tables definition b = IsStoredBreach schema tables b × IsOfAdded schema definition b
 
 -- how a breach is told: the dependency itself, the object by its name, and the rows
 abbrev pub told : SchemaValue → Breach → DefineFault

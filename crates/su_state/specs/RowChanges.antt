@@ -15,11 +15,14 @@ InsertAnswers db relation row (Err (Width r given)) = IsUnfit relation (columns_
 InsertAnswers db relation row (Err (Kind r column)) = IsUnfit relation (columns_of db relation) row (Kind r column)
 InsertAnswers db relation row (Ok false) = HasColumnKinds (columns_of db relation) row × Contains (rows_of db relation) row
 InsertAnswers db relation row (Err (Breaks r fd object other)) =
-    HasColumnKinds (columns_of db relation) row × (¬ Contains (rows_of db relation) row) × IsFirstOf (IsBreachBy db relation row) (record { dependency = fd; object = object; first = row; second = other }) × (r ≡ relation)
+    HasColumnKinds (columns_of db relation) row × (¬ Contains (rows_of db relation) row)
+    × IsFirstOf (IsBreachBy db relation row) (record { dependency = fd; object = object; first = row; second = other }) × (r ≡ relation)
 InsertAnswers db relation row (Err (Limit r)) =
-    HasColumnKinds (columns_of db relation) row × (¬ Contains (rows_of db relation) row) × ((b : Breach) → ¬ IsBreachBy db relation row b) × (1000000 ≤ length (rows_of db relation)) × (r ≡ relation)
+    HasColumnKinds (columns_of db relation) row × (¬ Contains (rows_of db relation) row)
+    × ((b : Breach) → ¬ IsBreachBy db relation row b) × (1000000 ≤ length (rows_of db relation)) × (r ≡ relation)
 InsertAnswers db relation row (Ok true) =
-    HasColumnKinds (columns_of db relation) row × (¬ Contains (rows_of db relation) row) × ((b : Breach) → ¬ IsBreachBy db relation row b) × (length (rows_of db relation) < 1000000)
+    HasColumnKinds (columns_of db relation) row × (¬ Contains (rows_of db relation) row)
+    × ((b : Breach) → ¬ IsBreachBy db relation row b) × (length (rows_of db relation) < 1000000)
 InsertAnswers db relation row (Err NoMemory) = ⊥
 InsertAnswers db relation row (Err (UnknownRelation name)) = ⊥
 

@@ -1,8 +1,7 @@
 -- Definitions that only contracts of private functions need.
 pub mod AddedDefinitions
-pub mod AddedBreaks
 pub mod AdmissibleRows
-pub mod RowBreaks
+pub mod SomeBreaches
 pub mod Found
 pub mod LoadEnds
 pub mod Leads

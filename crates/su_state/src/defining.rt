@@ -1,10 +1,12 @@
 //! Definitions in a database.
-ghost use Rattle.std.specs.Prelude.{◌≡◌, ◌⊎◌, ◌<◌, ℕ, length, IfOk, OnOk, IfErr, OnErr};
+ghost use Rattle.std.specs.Prelude.{◌≡◌, ◌⊎◌, ◌<◌, length, IfOk, OnOk, IfErr, OnErr};
 ghost use Rattle.su_schema.specs.Definitions.{IsDefinitionRefusal, applied};
 ghost use Rattle.su_schema.specs.WellNamed.{IsWellNamed};
-ghost use Rattle.su_state.specs.inside.AddedBreaks.{HoldsThrough};
+ghost use Rattle.su_state.specs.Breaches.{Breach};
 ghost use Rattle.su_state.specs.Definitions.{Defines, tables_with};
-ghost use Rattle.su_state.specs.inside.AddedDefinitions.{HaveTables, HasAdded, IsNarrow, AddedHolds, IsThroughFault, IsFdFault, IsObjectFault, IsAddedFault};
+ghost use Rattle.su_state.specs.NewBreaches.{IsStoredBreach, IsNewBreach};
+ghost use Rattle.su_state.specs.inside.SomeBreaches.{OfDependency, ThroughObject};
+ghost use Rattle.su_state.specs.inside.AddedDefinitions.{HaveTables, HasAdded, IsNarrow, TellsFirst};
 
 use crate::databases::Database;
 use crate::faults::DefineFault;
@@ -28,8 +30,8 @@ fn check_through(
     requires tables { HaveTables schema.now tables.now }
     requires fd { fd < length schema.now.fds }
     requires object { object < length schema.now.objects }
-    ensures holds { OnOk result (HoldsThrough schema.now tables.now fd object) }
-    ensures refused { IfErr result (IsThroughFault schema.now tables.now fd object) }
+    ensures holds { OnOk result ((b : Breach) → ¬ ThroughObject object (OfDependency fd (IsStoredBreach schema.now tables.now)) b) }
+    ensures refused { IfErr result (TellsFirst schema.now (ThroughObject object (OfDependency fd (IsStoredBreach schema.now tables.now)))) }
 {
     schema.keeps_its_rules();
     let dependency = &schema.fds()[fd as usize];
@@ -59,8 +61,8 @@ fn check_through(
 fn check_fd(alloc: Global, schema: &Schema, tables: &[Table], fd: u16) -> Result<(), DefineFault>
     requires tables { HaveTables schema.now tables.now }
     requires fd { fd < length schema.now.fds }
-    ensures holds { OnOk result ((o : ℕ) → HoldsThrough schema.now tables.now fd o) }
-    ensures refused { IfErr result (IsFdFault schema.now tables.now fd) }
+    ensures holds { OnOk result ((b : Breach) → ¬ OfDependency fd (IsStoredBreach schema.now tables.now) b) }
+    ensures refused { IfErr result (TellsFirst schema.now (OfDependency fd (IsStoredBreach schema.now tables.now))) }
 {
     schema.keeps_its_rules();
     for object in 0..schema.objects() as u8 {
@@ -78,8 +80,8 @@ fn check_object(
 ) -> Result<(), DefineFault>
     requires tables { HaveTables schema.now tables.now }
     requires object { object < length schema.now.objects }
-    ensures holds { OnOk result ((f : ℕ) → HoldsThrough schema.now tables.now f object) }
-    ensures refused { IfErr result (IsObjectFault schema.now tables.now object) }
+    ensures holds { OnOk result ((b : Breach) → ¬ ThroughObject object (IsStoredBreach schema.now tables.now) b) }
+    ensures refused { IfErr result (TellsFirst schema.now (ThroughObject object (IsStoredBreach schema.now tables.now))) }
 {
     schema.keeps_its_rules();
     for fd in 0..schema.fds().len() as u16 {
@@ -97,8 +99,8 @@ fn check_added(
 ) -> Result<(), DefineFault>
     requires tables { HaveTables schema.now tables.now }
     requires added { HasAdded schema.now definition.now }
-    ensures holds { OnOk result (AddedHolds schema.now tables.now definition.now) }
-    ensures refused { IfErr result (IsAddedFault schema.now tables.now definition.now) }
+    ensures holds { OnOk result ((b : Breach) → ¬ IsNewBreach schema.now tables.now definition.now b) }
+    ensures refused { IfErr result (TellsFirst schema.now (IsNewBreach schema.now tables.now definition.now)) }
 {
     schema.keeps_its_rules();
     match definition {

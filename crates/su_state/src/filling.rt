@@ -4,7 +4,7 @@ ghost use Rattle.std.specs.Bool.{OnTrue};
 ghost use Rattle.su_rel.specs.Stored.{HaveWidth};
 ghost use Rattle.su_schema.specs.Known.{columns_at};
 ghost use Rattle.su_state.specs.DatabaseValue.{HasColumnKinds, columns_of, rows_of};
-ghost use Rattle.su_state.specs.inside.RowBreaks.{BreaksNothing};
+ghost use Rattle.su_state.specs.inside.SomeBreaches.{BreaksNothing};
 ghost use Rattle.su_state.specs.inside.Parts.{HaveOneWidth};
 ghost use Rattle.su_state.specs.inside.AdmissibleRows.{KeepThrough, MayTake};
 

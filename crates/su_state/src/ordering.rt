@@ -1,7 +1,7 @@
 //! Rows in ascending order. A sort compares a number that never falls as the rows rise, the lead,
 //! and rows only where it is the same.
 ghost use Rattle.std.specs.Prelude.{◌≡◌, ◌<◌, ◌^◌, slice_index, All, map, IfOk};
-ghost use Rattle.su_rel.specs.Stored.{AllDiffer};
+ghost use Rattle.su_base.specs.Lists.{AllDiffer};
 ghost use Rattle.su_state.specs.Changes.{AreInOrder};
 ghost use Rattle.su_state.specs.inside.Leads.{sort_lead_of_number, sort_lead_of_bytes, IsSortLead, IsRowLead};
 

@@ -46,7 +46,7 @@ pub fn first_with(
 }
 
 /// The row at the position, where the second list goes on behind the first.
-fn row_of<'a>(stored: &'a [Row], more: &'a [Row], position: usize) -> &'a Row
+fn row_in_both<'a>(stored: &'a [Row], more: &'a [Row], position: usize) -> &'a Row
     requires { position < length (stored.now ++ more.now) }
     ensures { result.now ≡ row_at (stored.now ++ more.now) position }
 {
@@ -72,9 +72,9 @@ pub fn none_clash(
 {
     let mut notes = HashMap::new(alloc);
     for position in 0..stored.len() + more.len() {
-        let row = row_of(stored, more, position);
+        let row = row_in_both(stored, more, position);
         let first = first_with(alloc, sides.left, &mut notes, row, position)?;
-        if !agree(sides.right, row, row_of(stored, more, first)) {
+        if !agree(sides.right, row, row_in_both(stored, more, first)) {
             return Ok(false);
         }
     }

@@ -20,7 +20,8 @@ use Rattle.su_where.specs.Places.{IsBelow, HasPlacesBelow}
 use Rattle.su_where.specs.Truth.{comparisons_of}
 use Rattle.su_where.specs.Disjunct.{disjuncts_of}
 use Rattle.su_tableau.specs.Kinds.{sym_kind}
-use Rattle.su_schema.specs.SchemaValue.{SchemaValue, ObjectEntry}
+use Rattle.su_schema.specs.SchemaValue.{SchemaValue}
+use Rattle.su_schema.proofs.Entries.{blank_object}
 use Rattle.su_schema.specs.Valid.{IsValid, IsObject, IsLink}
 use Rattle.su_schema.specs.Entries.{attribute_kinds, attributes_of}
 use Rattle.su_query.specs.declared.places.Place.{Place}
@@ -65,18 +66,15 @@ of_set ks a h =
 pub in_set : (ks : List ℕ) (a : ℕ) → Contains ks a → contains (from_list {R = nat_cmp} ks) a ≡ true
 in_set ks a c = contains-from_list_nat ks a ∙ list_any_at (λ y. nat_eq y a) ks c.0 a c.1 (let e = c.2 in grind (arith, nat_tests, e))
 
-no_object : ObjectEntry
-no_object = record { name = []; relation = 0; links = [] }
-
 pub within : (schema : SchemaValue) → IsValid schema → AreWithin schema
 within schema valid o a h =
     ⊎_elim
     (λ (l : o < length schema.objects).
-    let object = get_or schema.objects o no_object in
-    let is : attributes_at schema o ≡ attributes_of object = get_or-map attributes_of schema.objects o no_object empty l in
+    let object = get_or schema.objects o blank_object in
+    let is : attributes_at schema o ≡ attributes_of object = get_or-map attributes_of schema.objects o blank_object empty l in
     let has : contains (attributes_of object) a ≡ true = ap (λ s. contains s a) (sym is) ∙ h in
     let w = Contains-map_source (λ l. l.attribute) object.links a (of_set (map (λ l. l.attribute) object.links) a has) in
-    let entry : IsObject schema object = valid.objects o no_object l in
+    let entry : IsObject schema object = valid.objects o blank_object l in
     let link : IsLink schema entry.relation.columns w.0 = All-contains (IsLink schema entry.relation.columns) object.links w.0 entry.joined w.1 in
     let low = slice_get_within schema.attributes w.0.attribute link.0 link.2 in
     let e : w.0.attribute ≡ a = w.2 in

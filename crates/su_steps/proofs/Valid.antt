@@ -82,7 +82,7 @@ has_cell schema name first o a l h =
     (a, omega arith, get_or-map_range (cell_of schema name first o) (width schema) a x l ∙ cond-true (contains (attributes_at schema o.object) a) x (Var (first + a)) h)
 
 -- the pair's symbol stands in the row of some origin
-pub record StandsIn (schema : SchemaValue) (os : List Origin) (k : ℕ) : Type 0 where
+pub record HasPairIn (schema : SchemaValue) (os : List Origin) (k : ℕ) : Type 0 where
   pub origin : Origin
   pub member : Contains os origin
   pub attribute : ℕ
@@ -91,7 +91,7 @@ pub record StandsIn (schema : SchemaValue) (os : List Origin) (k : ℕ) : Type 0
 
 abbrev pub Stands : SchemaValue → List Origin → Sym → Type 0
 Stands schema os (Const c) = Unit {0}
-Stands schema os (Var k) = StandsIn schema os k
+Stands schema os (Var k) = HasPairIn schema os k
 
 module _ (schema : SchemaValue) (q : Resolved) (os : List Origin) (d : List SymbolComparison) (name : Sym → Sym) (naming : IsNaming (IsClosedForCase schema os d) name) (fit : AreWithin schema)
     (outputs : (i : ℕ) → Contains q.outputs i → Stands schema os (place_symbol (width schema) q.places i))

@@ -2,21 +2,11 @@ ghost use Rattle.su_query.specs.Ranges.{IsResolved};
 
 use std::alloc::Global;
 use std::test::Fail;
-use su_base::{List, ObjSet};
-use su_cases::{BANK, query_of, schema_of};
+use su_base::List;
+use su_cases::{BANK, objects_of, query_of, schema_of};
 use su_query::Resolved;
 use su_schema::Schema;
 use su_steps::{StepFault, Term, terms};
-
-fn objects(members: &[u8]) -> ObjSet {
-    let mut all = ObjSet::empty();
-    for member in members {
-        if *member < 64 {
-            all = all.insert(*member);
-        }
-    }
-    all
-}
 
 /// How many terms there are, and how many rows they have together.
 fn counted(terms: &[Term]) -> (usize, usize) {
@@ -31,7 +21,7 @@ fn counted(terms: &[Term]) -> (usize, usize) {
 fn bank_terms(alloc: Global, schema: &Schema, resolved: &Resolved) -> Result<List<Term>, StepFault>
     requires { IsResolved schema.now resolved.now }
 {
-    let maximal = [objects(&[0, 1, 2, 6]), objects(&[3, 4, 5, 6])];
+    let maximal = [objects_of(&[0, 1, 2, 6]), objects_of(&[3, 4, 5, 6])];
     terms(alloc, schema, &maximal, resolved)
 }
 

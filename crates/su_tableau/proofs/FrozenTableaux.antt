@@ -28,7 +28,7 @@ kind-new_value IntKind n = refl
 kind-new_value TextKind n = refl
 
 -- the symbol that a value was made from
-abbrev thawed : ℕ → Value → Sym
+abbrev pub thawed : ℕ → Value → Sym
 thawed n c = cond (ltb (size c) n) (Const c) (Var (size c - n))
 
 row_top-le : (rows : List (List Sym)) (k : ℕ) (d : List Sym) → k < length rows → row_top (get_or rows k d) ≤ rows_top rows
@@ -41,7 +41,7 @@ row_top-le (x ∷ xs) (suc k) d h = let i = row_top-le xs k d (omega arith) in o
 thawed_const : (n : ℕ) (c : Value) → suc (size c) ≤ n → thawed n c ≡ Const c
 thawed_const n c h = cond-true (ltb (size c) n) (Const c) (Var (size c - n)) (lt-ltb (size c) n h)
 
-thawed_frozen : (f : ℕ → Kind) (n : ℕ) (x : Sym) → top x ≤ n → thawed n (value_of (frozen f n) x) ≡ x
+pub thawed_frozen : (f : ℕ → Kind) (n : ℕ) (x : Sym) → top x ≤ n → thawed n (value_of (frozen f n) x) ≡ x
 thawed_frozen f n (Const c) h = thawed_const n c h
 thawed_frozen f n (Var k) h =
     let e = size-new_value (f k) (n + k) in

@@ -1,5 +1,6 @@
 -- Universal relations of bytes.
 -- In definitions a text is a list of any numbers; whatever is stored is made of bytes, numbers below 256. What holds over all relations of bytes holds over all.
+-- of bytes: each text in it is a list of numbers below 256; within: each answer of the one is one of the other
 use Rattle.std.specs.Prelude.{◌<◌, ◌≤◌, List, All, length}
 use Rattle.su_base.specs.declared.values.Value.{Value}
 use Rattle.su_base.specs.declared.values.Value.TheVariants.{Int, Text}

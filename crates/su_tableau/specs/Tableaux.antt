@@ -32,10 +32,6 @@ pub record IsSmall (t : Tab) : Type 0 where
   pub rows : length t.rows ≤ 64
   pub width : t.width ≤ 128
 
--- valid, with at most 64 rows and 128 columns
-abbrev pub IsValidAndSmall : Tab → Type 0
-IsValidAndSmall t = IsValid t × IsSmall t
-
 -- the variables of the row are below n
 abbrev pub AreBelow : ℕ → List Sym → Type 0
 AreBelow n row = (k : ℕ) → Contains row (Var k) → k < n

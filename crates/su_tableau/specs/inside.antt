@@ -1,3 +1,4 @@
--- Definitions that only contracts of private functions need.
+-- Definitions that only contracts of private functions and invariants of types need.
 pub mod Elsewhere
+pub mod Kept
 pub mod Occurrences

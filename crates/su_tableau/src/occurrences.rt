@@ -64,9 +64,8 @@ fn note_row(times: &mut [Times], t: &Tableau, mask: u64, row: usize)
     ensures { AreCounted t.now mask (row + 1) 0 times.new }
 {
     t.keeps_its_rules();
-    let cells = t.row(row);
-    for c in 0..cells.len() {
-        note(times, &cells[c]);
+    for cell in t.row(row) {
+        note(times, cell);
     }
 }
 

@@ -1,7 +1,8 @@
 //! Whether the parts of a tableau are valid.
 ghost use Rattle.std.specs.Prelude.{◌≡◌, ◌+◌, ◌*◌, ◌↔◌, IsTrue, ℕ, length, All, Contains};
 ghost use Rattle.su_tableau.specs.declared.symbols.Sym.TheVariants.{Var};
-ghost use Rattle.su_tableau.specs.Tableaux.{Occurs, IsValidAndSmall, tab_of};
+ghost use Rattle.su_tableau.specs.Tableaux.{Occurs, tab_of};
+ghost use Rattle.su_tableau.specs.inside.Kept.{IsValidAndSmall};
 
 use crate::essential_columns::is_var;
 use crate::symbols::Sym;

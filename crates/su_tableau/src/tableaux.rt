@@ -21,7 +21,8 @@ pub struct Tableau {
 }
 
 impl Model for Tableau {
-    ghost use Rattle.su_tableau.specs.Tableaux.{Tab, IsValidAndSmall, tab_of};
+    ghost use Rattle.su_tableau.specs.Tableaux.{Tab, tab_of};
+    ghost use Rattle.su_tableau.specs.inside.Kept.{IsValidAndSmall};
 
     ghost Value = { Tab };
 
@@ -77,7 +78,7 @@ impl Tableau {
         }
     }
 
-    /// The type keeps its rules. It does nothing.
+    /// For proofs: the tableau is valid and small. It does nothing.
     pub fn keeps_its_rules(&self)
         ensures valid { IsValid self.now }
         ensures small { IsSmall self.now }
@@ -158,10 +159,7 @@ impl Tableau {
         for row in self.rows.as_slice() {
             rows.push(copy_symbols(alloc, row.as_slice())?)?;
         }
-        let mut operators = List::new(alloc);
-        for op in self.operators.as_slice() {
-            operators.push(*op)?;
-        }
+        let operators = List::from_vec(Vec::from_slice(alloc, self.operators.as_slice())?);
         let head = copy_symbols(alloc, self.head())?;
         Ok(Tableau {
             width: self.width,

@@ -7,7 +7,7 @@ use Rattle.su_tableau.specs.declared.symbols.Sym.{Sym}
 use Rattle.su_tableau.specs.declared.symbols.Sym.TheVariants.{Const, Var}
 use Rattle.su_tableau.proofs.SymbolParts.{same_const}
 use Rattle.su_chase.specs.inside.Rows.{name_by}
-use Rattle.su_window.specs.inside.Readings.{AreConstants}
+use Rattle.su_window.specs.inside.Readings.{AreConstants, AreConstantsIn}
 use Rattle.su_window.proofs.Counted.{in_pushed, of_pushed}
 
 abbrev name_at : List Sym → List Sym → ℕ → Sym
@@ -61,10 +61,7 @@ none_added names row attributes found none h = (
 
 -- ---- all rows
 
-abbrev InRows : List Sym → List (List Sym) → List ℕ → List Value → Type 0
-InRows names rows attributes h = (row : List Sym) × Contains rows row × AreConstants names row attributes h
-
-pub rows_more : (names : List Sym) (rows : List (List Sym)) (attributes : List ℕ) (i : ℕ) (row item : List Sym) (found next : List (List Value)) → i < length rows → item ≡ get_or rows i item → row ≡ item → ((h : List Value) → Contains next h ↔ (Contains found h ⊎ AreConstants names row attributes h)) → ((h : List Value) → Contains found h ↔ InRows names (take i rows) attributes h) → (h : List Value) → Contains next h ↔ InRows names (take (i + 1) rows) attributes h
+pub rows_more : (names : List Sym) (rows : List (List Sym)) (attributes : List ℕ) (i : ℕ) (row item : List Sym) (found next : List (List Value)) → i < length rows → item ≡ get_or rows i item → row ≡ item → ((h : List Value) → Contains next h ↔ (Contains found h ⊎ AreConstants names row attributes h)) → ((h : List Value) → Contains found h ↔ AreConstantsIn names (take i rows) attributes h) → (h : List Value) → Contains next h ↔ AreConstantsIn names (take (i + 1) rows) attributes h
 rows_more names rows attributes i row item found next low at same adds so_far h =
     let here : get_or rows i item ≡ row = sym at ∙ sym same in
     let taken : take (i + 1) rows ≡ take i rows ++ row ∷ [] = take_more rows i item low ∙ ap (λ (r : List Sym). take i rows ++ r ∷ []) here in (

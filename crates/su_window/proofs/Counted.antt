@@ -12,7 +12,8 @@ use Rattle.su_state.specs.DatabaseValue.{DatabaseValue}
 use Rattle.su_window.specs.declared.readings.Reading.{Reading}
 use Rattle.su_state.specs.Views.{taken, view_of, view_through}
 use Rattle.su_rel.specs.MoreThan.{AreMoreThan}
-use Rattle.su_window.specs.Members.{Member, IsMember, AllDiffer}
+use Rattle.su_base.specs.Lists.{AllDiffer}
+use Rattle.su_window.specs.Members.{Member, IsMember}
 use Rattle.su_window.specs.Padded.{object_at, rows_under, member_read, IsReading, AreReadings}
 use Rattle.su_window.specs.inside.Readings.{lists_before, IsBefore, AreSoFar}
 use Rattle.su_window.proofs.Objects.{placed_at}

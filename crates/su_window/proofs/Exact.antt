@@ -12,10 +12,10 @@ module _ (db : DatabaseValue) (few : HasFew db) (many : AreMoreThan 20000 (IsMem
   members = few.0
 
   -- a place for each number, where the member with the number stands
-  abbrev Place : ℕ → Type 0
-  Place i = (k : ℕ) × (i < 20001 → (k < length members) × (get_or members k (many.member i) ≡ many.member i))
+  abbrev PlaceOfMember : ℕ → Type 0
+  PlaceOfMember i = (k : ℕ) × (i < 20001 → (k < length members) × (get_or members k (many.member i) ≡ many.member i))
 
-  place : (i : ℕ) → Place i
+  place : (i : ℕ) → PlaceOfMember i
   place i =
       ⊎_elim
       (λ (l : i < 20001). let c = (few.1.exact (many.member i)).1 (many.each i (omega (arith, l))) in (c.0, λ _. (c.1, c.2)))

@@ -1,13 +1,12 @@
 -- Where no two constants meet, the chased rows with new values for their variables are a universal relation that fits.
-use Rattle.std.proofs.Common.{◌≡◌, ℕ, zero, suc, ◌+◌, ◌-◌, ◌<◌, ◌≤◌, ⊎_elim, cond, ltb, List, [], ◌∷◌, map, length, get_or, Contains, refl, sym, ap, ◌∙◌, subst, pos, arith}
+use Rattle.std.proofs.Common.{◌≡◌, ℕ, zero, suc, ◌+◌, ◌<◌, ◌≤◌, ⊎_elim, List, [], ◌∷◌, map, length, get_or, Contains, refl, sym, ap, ◌∙◌, subst, pos, arith}
 use Rattle.std.specs.Prelude.{All}
 use Rattle.std.specs.List.{range_with_len}
-use Rattle.std.proofs.lemmas.Bool.{cases_lt, cond-true, cond-false, lt-ltb, le-ltb}
-use Rattle.std.proofs.lemmas.List.{length-map, length-replicate, get_or_default, get_or_past}
+use Rattle.std.proofs.lemmas.Bool.{cases_lt}
+use Rattle.std.proofs.lemmas.List.{length-map, get_or_default, get_or_past}
 use Rattle.std.proofs.lemmas.List.Elements.{All-contains}
 use Rattle.std.proofs.lemmas.List.FromFn.{length-map-range_with_len}
 use Rattle.su_base.specs.declared.values.Kind.{Kind}
-use Rattle.su_base.specs.declared.values.Kind.TheVariants.{Int as IntKind, Text as TextKind}
 use Rattle.su_base.specs.declared.values.Value.{Value}
 use Rattle.su_base.specs.declared.values.Value.TheVariants.{Int}
 use Rattle.su_base.proofs.Items.{Contains-map, Contains-map_source, All-members, get_or-map_range, map-map_equal}
@@ -16,8 +15,8 @@ use Rattle.su_tableau.specs.declared.symbols.Sym.{Sym}
 use Rattle.su_tableau.specs.declared.symbols.Sym.TheVariants.{Const, Var}
 use Rattle.su_tableau.specs.Valuations.{values_at, value_of, values_of}
 use Rattle.su_tableau.specs.Kinds.{IsTyped}
-use Rattle.su_tableau.specs.FrozenTableaux.{size, new_value, frozen, top, row_top, rows_top}
-use Rattle.su_tableau.proofs.FrozenTableaux.{frozen_typed, size-new_value}
+use Rattle.su_tableau.specs.FrozenTableaux.{frozen, top, row_top, rows_top}
+use Rattle.su_tableau.proofs.FrozenTableaux.{frozen_typed, thawed, thawed_frozen}
 use Rattle.su_classes.proofs.Listed.{map_same}
 use Rattle.su_schema.specs.SchemaValue.{ObjectEntry}
 use Rattle.su_schema.specs.Entries.{attribute_kinds}
@@ -41,17 +40,6 @@ use Rattle.su_window.proofs.Rows.{none, reading_at, tableau, typed, rows_long, r
 
 -- ---- new values are read back
 
--- the symbol that a value was made from
-abbrev back : ℕ → Value → Sym
-back n c = cond (ltb (size c) n) (Const c) (Var (size c - n))
-
-back_frozen : (f : ℕ → Kind) (n : ℕ) (x : Sym) → top x ≤ n → back n (value_of (frozen f n) x) ≡ x
-back_frozen f n (Const c) h = cond-true (ltb (size c) n) (Const c) (Var (size c - n)) (lt-ltb (size c) n h)
-back_frozen f n (Var k) h =
-    let e = size-new_value (f k) (n + k) in
-    let same : size (new_value (f k) (n + k)) - n ≡ k = omega arith in
-    cond-false (ltb (size (new_value (f k) (n + k))) n) (Const (new_value (f k) (n + k))) (Var (size (new_value (f k) (n + k)) - n)) (le-ltb _ n (omega arith)) ∙ ap Var same
-
 top_at : (row : List Sym) (a : ℕ) (d : Sym) → a < length row → top (get_or row a d) ≤ row_top row
 top_at [] a d h = absurd (omega arith)
 top_at (x ∷ xs) zero d h = omega arith
@@ -62,11 +50,11 @@ row_top_at [] row c = absurd (let l = c.1 in omega arith)
 row_top_at (x ∷ xs) row (zero, l, e) = let same = ap row_top e in omega arith
 row_top_at (x ∷ xs) row (suc k, l, e) = let i = row_top_at xs row (k, omega arith, e) in omega arith
 
-all_back : (f : ℕ → Kind) (n : ℕ) (h : List Value) → row_top (map Const h) ≤ n → map (back n) h ≡ map Const h
-all_back f n [] l = refl
-all_back f n (c ∷ h) l =
-    let i = all_back f n h (omega arith) in
-    let j = back_frozen f n (Const c) (omega arith) in
+all_thawed : (f : ℕ → Kind) (n : ℕ) (h : List Value) → row_top (map Const h) ≤ n → map (thawed n) h ≡ map Const h
+all_thawed f n [] l = refl
+all_thawed f n (c ∷ h) l =
+    let i = all_thawed f n h (omega arith) in
+    let j = thawed_frozen f n (Const c) (omega arith) in
     cc
 
 -- ---- settled rows with new values meet the dependencies
@@ -85,7 +73,7 @@ module _ (fds : List Fd) (rows : List (List Sym)) (width : ℕ) (widths : All (�
       (λ (lt : a < width).
       let one = top_at r a d (omega (arith, lt, wide_r)) in
       let two = top_at q a d (omega (arith, lt, wide_q)) in
-      sym (back_frozen f n (get_or r a d) (omega (arith, one, high_r, high))) ∙ ap (back n) e ∙ back_frozen f n (get_or q a d) (omega (arith, two, high_q, high)))
+      sym (thawed_frozen f n (get_or r a d) (omega (arith, one, high_r, high))) ∙ ap (thawed n) e ∙ thawed_frozen f n (get_or q a d) (omega (arith, two, high_q, high)))
       (λ (ge : width ≤ a). get_or_past r a d (omega (arith, ge, wide_r)) ∙ sym (get_or_past q a d (omega (arith, ge, wide_q))))
       (cases_lt a width)
 
@@ -180,7 +168,7 @@ module _ (db : DatabaseValue) (kept : IsWellKept db) (readings : List Reading) (
         let long : length row ≡ width db.schema = All-contains (λ (x : List Sym). length x ≡ width db.schema) rows row (rows_long db readings) r.1 in
         let values : values_of valuation (map name row) ≡ w = ap (values_of valuation) r.2 ∙ s.2 in
         let high_row = row_top_at chased (map name row) (Contains-map (map name) rows row r.1) in
-        let read : (a : ℕ) → Contains attributes a → back n (get_or w a (Int (pos 0))) ≡ name (get_or row a (Var 0)) = λ a ca.
+        let read : (a : ℕ) → Contains attributes a → thawed n (get_or w a (Int (pos 0))) ≡ name (get_or row a (Var 0)) = λ a ca.
         let la : a < width db.schema = All-contains (λ (b : ℕ). b < width db.schema) attributes a low ca in
         let long_name = length-map row name in
         let long_values = length-map (map name row) (value_of valuation) in
@@ -189,10 +177,10 @@ module _ (db : DatabaseValue) (kept : IsWellKept db) (readings : List Reading) (
         ∙ get_or_default (values_of valuation (map name row)) a (Int (pos 0)) (value_of valuation (name (Var 0))) (omega (arith, la, long, long_name, long_values))
         ∙ map_read (value_of valuation) (map name row) a (name (Var 0)) ∙ ap (value_of valuation) (map_read name row a (Var 0)) in
         let below : top (name (get_or row a (Var 0))) ≤ row_top (map name row) = subst (λ (x : Sym). top x ≤ row_top (map name row)) (map_read name row a (Var 0)) (top_at (map name row) a (name (Var 0)) (omega (arith, la, long, long_name))) in
-        ap (back n) at ∙ back_frozen kind n (name (get_or row a (Var 0))) (omega (arith, below, high_row, high)) in
-        let left : map (back n) (values_at attributes w) ≡ map (λ a. name (get_or row a (Var 0))) attributes =
-        map-map_equal (λ a. get_or w a (Int (pos 0))) (back n) (λ a. back n (get_or w a (Int (pos 0)))) (λ a. refl) attributes ∙ map_same (λ a. back n (get_or w a (Int (pos 0)))) (λ a. name (get_or row a (Var 0))) attributes read in
-        (row, r.1, sym left ∙ ap (map (back n)) gives ∙ all_back kind n h old)
+        ap (thawed n) at ∙ thawed_frozen kind n (name (get_or row a (Var 0))) (omega (arith, below, high_row, high)) in
+        let left : map (thawed n) (values_at attributes w) ≡ map (λ a. name (get_or row a (Var 0))) attributes =
+        map-map_equal (λ a. get_or w a (Int (pos 0))) (thawed n) (λ a. thawed n (get_or w a (Int (pos 0)))) (λ a. refl) attributes ∙ map_same (λ a. thawed n (get_or w a (Int (pos 0)))) (λ a. name (get_or row a (Var 0))) attributes read in
+        (row, r.1, sym left ∙ ap (map (thawed n)) gives ∙ all_thawed kind n h old)
 
   pub some_fits : (universe : List (List Value)) × Fits db universe
   some_fits = let n : ℕ = rows_top chased in (universe n (omega arith), fits n (omega arith))

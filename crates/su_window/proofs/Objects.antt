@@ -23,14 +23,12 @@ use Rattle.su_state.specs.DatabaseValue.{DatabaseValue, IsWellKept, HasColumnKin
 use Rattle.su_state.proofs.Columns.{column_within, column_of_attribute, object_on, relation_at}
 use Rattle.su_chase.proofs.Images.{map_read}
 use Rattle.su_schema.specs.Cuts.{width, attributes_at}
+use Rattle.su_schema.proofs.Entries.{blank_object}
 use Rattle.su_state.specs.Views.{value_for}
 use Rattle.su_window.specs.Padded.{object_at, rows_under}
 
-abbrev blank : ObjectEntry
-blank = record { name = []; relation = 0; links = [] }
-
 pub placed_at : (schema : SchemaValue) (o : ℕ) → o < length schema.objects → slice_get schema.objects o ≡ Some (object_at schema o)
-placed_at schema o low = slice_get-get_or schema.objects o blank low
+placed_at schema o low = slice_get-get_or schema.objects o blank_object low
 
 -- ---- links
 
@@ -75,10 +73,10 @@ module _ (db : DatabaseValue) (kept : IsWellKept db) (o : ℕ) (low : o < length
   placed = placed_at db.schema o low
 
   pub attributes_are : attributes_at db.schema o ≡ attributes_of object
-  attributes_are = get_or-map attributes_of db.schema.objects o blank empty low
+  attributes_are = get_or-map attributes_of db.schema.objects o blank_object empty low
 
   own : IsObject db.schema object
-  own = kept.valid.objects o blank low
+  own = kept.valid.objects o blank_object low
 
   pub relation_low : object.relation < length db.tables
   relation_low = let l = object_on db.schema o object kept.valid placed in let k = kept.tables in omega (arith, l, k)

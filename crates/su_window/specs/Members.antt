@@ -1,6 +1,7 @@
 -- The members of the views of a database.
 -- member: an object, by its number, and a list of its view; a list in the views of two objects is two members
-use Rattle.std.specs.Prelude.{◌≡◌, ◌↔◌, ℕ, ◌<◌, ◌≤◌, List, length, get_or, Contains}
+use Rattle.std.specs.Prelude.{◌↔◌, ℕ, ◌≤◌, List, length, Contains}
+use Rattle.su_base.specs.Lists.{AllDiffer}
 use Rattle.su_base.specs.declared.values.Value.{Value}
 use Rattle.su_state.specs.DatabaseValue.{DatabaseValue}
 use Rattle.su_state.specs.Views.{view_of}
@@ -13,10 +14,6 @@ pub record Member : Type 0 where
 -- the values are a member of the object's view
 abbrev pub IsMember : DatabaseValue → Member → Type 0
 IsMember db m = Contains (view_of db m.object) m.values
-
--- no two of them are equal
-abbrev pub AllDiffer : List Member → Type 0
-AllDiffer members = (i j : ℕ) (d : Member) → i < j → j < length members → ¬ (get_or members i d ≡ get_or members j d)
 
 -- these are the members, each once
 pub record AreMembers (db : DatabaseValue) (members : List Member) : Type 0 where

@@ -1,67 +1,24 @@
--- Causes of faults, and what a run without any comes to.
-use Rattle.std.proofs.Common.{◌≡◌, ◌≢◌, ◌<◌, ◌⊎◌, ℕ, List, Some, Ok, Err, length, refl, sym, ap, subst, inl, inr, arith}
+-- What a run without any fault comes to.
+use Rattle.std.proofs.Common.{◌≡◌, ◌<◌, ◌⊎◌, ℕ, List, Some, Ok, Err, length, refl, ap, subst, inl, inr, arith}
 use Rattle.std.specs.Prelude.{Result}
 use Rattle.su_io.specs.Causes.{Rose}
 use Rattle.su_io.specs.declared.files.File.{File as AFile}
 use Rattle.su_io.specs.declared.status.Status.{Status}
 use Rattle.su_io.specs.declared.status.Status.TheVariants.{Done, SomeRefused, Usage, BadSchema, ReadFault, WriteFault, TooLong, NoMemory}
 use Rattle.su_io.specs.Files.{contents}
-use Rattle.su_io.specs.HandOver.{Closes, HandsOver}
+use Rattle.su_io.specs.HandOver.{HandsOver}
 use Rattle.su_io.specs.Moments.{Moment}
-use Rattle.su_io.specs.Programs.{ReadsAndTells, Ends, Tells}
+use Rattle.su_io.specs.Programs.{ReadsAndTells}
 use Rattle.su_ddl.specs.declared.faults.DdlFault.{DdlFault}
 use Rattle.su_ddl.specs.Files.{Reads}
 use Rattle.su_ddl.proofs.Files.{one_outcome}
 use Rattle.su_schema.specs.SchemaValue.{SchemaValue}
+use Rattle.su_files.specs.RunFiles.{SchemaIs}
 use Rattle.sysu.specs.Banks.{BankEnds}
-use Rattle.sysu.specs.Causes.{Caused}
 use Rattle.sysu.specs.Complete.{IsUntroubled, IsFinished, IsComplete}
-use Rattle.sysu.specs.RunFiles.{SchemaIs}
 use Rattle.sysu.specs.Statuses.{Comes, RunEnds, RunHas}
 use Rattle.sysu.specs.Words.{Named}
-
-module _ {P : List ℕ → ℕ → List (List ℕ) → Type 0} (old new : Moment) where
-  told_caused : (status : Status) → ReadsAndTells P old new status → Caused old new status
-  told_caused Done ends = ends.writing.0
-  told_caused SomeRefused ends = ends.writing.0
-  told_caused Usage ends = ends.writing.0
-  told_caused BadSchema ends = ends.writing.0
-  told_caused ReadFault ends = (ends.reading.0, ends.writing.0)
-  told_caused WriteFault ends = ends.writing.0
-  told_caused TooLong ends = ends.writing.0
-  told_caused NoMemory ends = ends.writing.0
-
-  -- what ends a run, or a check
-  pub ends_caused : (status : Status) → Ends P old new status → Caused old new status
-  ends_caused status (inl ends) = told_caused status ends
-  ends_caused status (inr none) = subst (Caused old new) (sym none.0) (ap (λ (m : Moment). m.writes) none.1)
-
--- what ends the making of a bank, or the usage line
-pub tells_caused : {Says : Status → List ℕ → Type 0} (old new : Moment) (status : Status) → Tells Says old new status → Caused old new status
-tells_caused old new Done ends = ends.writing.0
-tells_caused old new SomeRefused ends = ends.writing.0
-tells_caused old new Usage ends = ends.writing.0
-tells_caused old new BadSchema ends = ends.writing.0
-tells_caused old new ReadFault ends = absurd (ends.no_file.0 refl)
-tells_caused old new WriteFault ends = ends.writing.0
-tells_caused old new TooLong ends = ends.writing.0
-tells_caused old new NoMemory ends = ends.writing.0
-
--- the sink's count stood until the hand-over
-stood : (old mid : Moment) (came : Status) → came ≢ WriteFault → Caused old mid came → mid.writes ≡ old.writes
-stood old mid Done other caused = caused
-stood old mid SomeRefused other caused = caused
-stood old mid Usage other caused = caused
-stood old mid BadSchema other caused = caused
-stood old mid ReadFault other caused = caused.1
-stood old mid WriteFault other caused = absurd (other refl)
-stood old mid TooLong other caused = caused
-stood old mid NoMemory other caused = caused
-
--- the hand-over leaves the causes as they were, or it failed itself
-pub caused_over : (old mid new : Moment) (came : Status) → Caused old mid came → (status : Status) → Closes came mid new status → Caused old new status
-caused_over old mid new came caused status (inl same) = subst (Caused old new) (sym same.0) (subst (λ (m : Moment). Caused old m came) (sym same.1) caused)
-caused_over old mid new came caused status (inr fails) = subst (Caused old new) (sym fails.0) (rw (← stood old mid came fails.1 caused) fails.2)
+use Rattle.sysu.proofs.Causes.{Caused, hands_caused}
 
 pub ok_schema : (s t : SchemaValue) → ◌≡◌ {A = Result SchemaValue DdlFault} (Ok s) (Ok t) → s ≡ t
 ok_schema s t same = ap (λ (o : Result SchemaValue DdlFault). elim o [ Ok x ↦ x | Err f ↦ s ]) same
@@ -70,7 +27,7 @@ pub not_both : (s : SchemaValue) (f : DdlFault) → ◌≡◌ {A = Result Schema
 not_both s f same = cc
 
 -- what the schema's file is read as, where the files are told
-pub schema_reads : (names : Named) (files : List AFile) (outcome : Result SchemaValue DdlFault) → SchemaIs names (Some files) outcome → Reads (contents files names.schema) outcome
+pub schema_reads : (names : Named) (files : List AFile) (outcome : Result SchemaValue DdlFault) → SchemaIs names.schema (Some files) outcome → Reads (contents files names.schema) outcome
 schema_reads names files outcome is = subst (λ (b : List ℕ). Reads b outcome) is.is_schema.0 is.reads
 
 module _ (names : Named) (files : List AFile) (old new : Moment) (is : IsUntroubled names files old new) where
@@ -79,7 +36,7 @@ module _ (names : Named) (files : List AFile) (old new : Moment) (is : IsUntroub
   told SomeRefused caused ends = inr (inl refl)
   told Usage caused ends = absurd ends.holds
   told BadSchema caused ends =
-      let refused = ends.holds.2 in
+      let refused = ends.holds.2.1 in
       let schema = schema_reads names files (Err refused.0) (rw is.told at refused.1) in
       absurd (not_both is.accepted.schema refused.0 (one_outcome (contents files names.schema) (Ok is.accepted.schema) (Err refused.0) is.accepted.reads schema))
   told ReadFault caused ends = absurd (is.no_read_fault caused.0)
@@ -113,16 +70,19 @@ module _ (words : List (List ℕ)) (old new : Moment) where
     generated = λ n asked no_fault. bank_untroubled n old new no_fault status (comes.generated n asked);
   }
 
-  -- how a run ends, by its causes
-  pub complete : (status : Status) → HandsOver (Comes words old) new status → Caused old new status → IsComplete words old new status
-  complete Done ends caused = came Done ends caused
-  complete SomeRefused ends caused = came SomeRefused ends caused
-  complete Usage ends caused = came Usage ends caused
-  complete BadSchema ends caused = came BadSchema ends caused
-  complete ReadFault ends caused = came ReadFault ends caused
-  complete TooLong ends caused = came TooLong ends caused
-  complete NoMemory ends caused = came NoMemory ends caused
-  complete WriteFault ends caused = record {
+  by_cause : (status : Status) → HandsOver (Comes words old) new status → Caused old new status → IsComplete words old new status
+  by_cause Done ends caused = came Done ends caused
+  by_cause SomeRefused ends caused = came SomeRefused ends caused
+  by_cause Usage ends caused = came Usage ends caused
+  by_cause BadSchema ends caused = came BadSchema ends caused
+  by_cause ReadFault ends caused = came ReadFault ends caused
+  by_cause TooLong ends caused = came TooLong ends caused
+  by_cause NoMemory ends caused = came NoMemory ends caused
+  by_cause WriteFault ends caused = record {
     ran = λ names files known is. absurd (is.no_write_fault caused);
     generated = λ n asked no_fault. absurd (no_fault caused);
   }
+
+  -- how a run ends, by its causes
+  pub complete : (status : Status) → HandsOver (Comes words old) new status → IsComplete words old new status
+  complete status ends = by_cause status ends (hands_caused words old new status ends)

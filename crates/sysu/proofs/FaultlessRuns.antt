@@ -5,9 +5,9 @@ use Rattle.su_io.specs.declared.files.File.{File}
 use Rattle.su_io.specs.declared.status.Status.{Status}
 use Rattle.su_io.specs.declared.status.Status.TheVariants.{ReadFault, WriteFault}
 use Rattle.su_io.specs.Moments.{Moment}
-use Rattle.sysu.specs.Causes.{Caused}
 use Rattle.sysu.specs.Complete.{AreAccepted, IsFinished, IsComplete}
 use Rattle.sysu.specs.Words.{Named, named}
+use Rattle.sysu.proofs.Causes.{Caused}
 
 not_risen : (before now : ℕ) → before ≡ 0 → now ≡ 0 → ¬ Rose before now
 not_risen before now b n rose = omega (arith, b, n, rose)

@@ -5,6 +5,7 @@ pub mod RunEnds
 pub mod Commands
 pub mod Promised
 pub mod Verdicts
+pub mod Causes
 pub mod Completeness
 pub mod BankWords
 pub mod OneBank

@@ -23,14 +23,14 @@ use Rattle.su_session.specs.declared.replies.Reply.{Reply}
 use Rattle.su_bank.specs.Banks.{IsBankText}
 use Rattle.su_session.specs.Outcomes.{some_refused}
 use Rattle.sysu.specs.TwoRuns.{Ran, AreEqualButForWorkers, TwoRunsAgree}
-use Rattle.sysu.specs.Causes.{Caused}
 use Rattle.sysu.specs.Checks.{status_by, IsVerdictLine, CheckEnds, check_limit}
 use Rattle.sysu.specs.Due.{FallsDue}
 use Rattle.sysu.specs.Output.{reply_texts}
-use Rattle.sysu.specs.RunFiles.{SchemaIs, schema_limit, script_limit}
+use Rattle.su_files.specs.RunFiles.{SchemaIs, schema_limit, script_limit}
 use Rattle.sysu.specs.Scripts.{Answers}
 use Rattle.sysu.specs.Statuses.{Comes, RunEnds}
 use Rattle.sysu.specs.Words.{Named, named, checks, Generates, usage_line}
+use Rattle.sysu.proofs.Causes.{hands_caused}
 use Rattle.sysu.proofs.Completeness.{schema_reads, not_both as read_or_refused}
 use Rattle.sysu.proofs.OneBank.{Asks, for_bank, for_none, asked, one_bank}
 use Rattle.sysu.proofs.OneList.{one_list_of_replies, one_list_before, stopped_or_all}
@@ -44,7 +44,7 @@ status_of false = Done
 -- of a run: its replies, the line for its schema, or the texts before a file that is too long
 data Outcome (names : Named) (files : List AFile) (text : List ℕ) (status : Status) : Type 0 where
   finished : (replies : List Reply) → (last : DatabaseValue) → Answers names (Some files) replies last [] → text ≡ joined (reply_texts replies) → status ≡ status_of (some_refused replies) → Outcome names files text status
-  bad_schema : (fault : DdlFault) → SchemaIs names (Some files) (Err fault) → text ≡ joined (schema_line fault ∷ []) → status ≡ BadSchema → Outcome names files text status
+  bad_schema : (fault : DdlFault) → SchemaIs names.schema (Some files) (Err fault) → text ≡ joined (schema_line fault ∷ []) → status ≡ BadSchema → Outcome names files text status
   too_long : (texts : List (List ℕ)) → (path : List ℕ) → (limit : ℕ) → FallsDue names (Some files) texts path limit → limit < length (contents files path) → text ≡ joined texts → status ≡ TooLong → Outcome names files text status
 
 -- of a check
@@ -60,13 +60,13 @@ past file limit bytes is upto over = absurd (let same : length bytes ≡ length 
 
 module _ (names : Named) (files : List AFile) where
   -- the schema's file is within its limit
-  schema_fits : (outcome : Result SchemaValue DdlFault) → SchemaIs names (Some files) outcome → schema_limit < length (contents files names.schema) → ⊥
+  schema_fits : (outcome : Result SchemaValue DdlFault) → SchemaIs names.schema (Some files) outcome → schema_limit < length (contents files names.schema) → ⊥
   schema_fits outcome is over = past (contents files names.schema) schema_limit is.bytes is.is_schema.0 is.is_schema.1 over
 
-  read_once : (x y : Result SchemaValue DdlFault) → SchemaIs names (Some files) x → SchemaIs names (Some files) y → x ≡ y
+  read_once : (x y : Result SchemaValue DdlFault) → SchemaIs names.schema (Some files) x → SchemaIs names.schema (Some files) y → x ≡ y
   read_once x y h k = one_outcome (contents files names.schema) x y (schema_reads names files x h) (schema_reads names files y k)
 
-  not_both : (x : SchemaValue) (y : DdlFault) → SchemaIs names (Some files) (Ok x) → SchemaIs names (Some files) (Err y) → ⊥
+  not_both : (x : SchemaValue) (y : DdlFault) → SchemaIs names.schema (Some files) (Ok x) → SchemaIs names.schema (Some files) (Err y) → ⊥
   not_both x y h k = read_or_refused x y (read_once (Ok x) (Err y) h k)
 
   script_fits : (replies : List Reply) (last : DatabaseValue) (left : List (List ℕ)) → Answers names (Some files) replies last left → script_limit < length (contents files names.script) → ⊥
@@ -80,7 +80,7 @@ module _ (names : Named) (files : List AFile) where
       stopped_or_all names files others replies db last load path left before wants (rw most at over) all
 
   -- and one whose schema would be refused is past the schema's limit, or never comes there
-  not_refused : (fault : DdlFault) (texts : List (List ℕ)) (path : List ℕ) (limit : ℕ) → SchemaIs names (Some files) (Err fault) → FallsDue names (Some files) texts path limit → limit < length (contents files path) → ⊥
+  not_refused : (fault : DdlFault) (texts : List (List ℕ)) (path : List ℕ) (limit : ℕ) → SchemaIs names.schema (Some files) (Err fault) → FallsDue names (Some files) texts path limit → limit < length (contents files path) → ⊥
   not_refused fault texts path limit refused (inl (none, is, most)) over = schema_fits (Err fault) refused (rw (is, most) at over)
   not_refused fault texts path limit refused (inr (inl (none, is, most, (schema, accepted)))) over = not_both schema fault accepted refused
   not_refused fault texts path limit refused (inr (inr ((others, db, load, left, before, wants, are), most))) over = not_both before.schema fault before.read.accepted refused
@@ -151,8 +151,8 @@ module _ (files : List AFile) (words : List (List ℕ)) (old new : Moment) (file
         finished replies last (rw files_are at answers) (appended_is ends.texts ends.writing.1 ∙ ap joined are) (ap status_of (sym some))
     ran names Usage memory (inl ends) = absurd ends.holds
     ran names BadSchema memory (inl ends) =
-        let (path, limit, (fault, is, are)) = ends.holds in
-        bad_schema fault (rw files_are at is) (appended_is ends.texts ends.writing.1 ∙ ap joined are) refl
+        let (path, limit, (line, (fault, is, shown), are)) = ends.holds in
+        bad_schema fault (rw files_are at is) (appended_is ends.texts ends.writing.1 ∙ ap joined (are ∙ ap (λ (l : List ℕ). l ∷ []) shown)) refl
     ran names ReadFault memory (inl ends) = absurd (no_read ends.reading.0)
     ran names WriteFault memory (inl ends) = absurd (no_write ends.writing.0)
     ran names TooLong memory (inl ends) =
@@ -193,21 +193,21 @@ module _ (files : List AFile) (words : List (List ℕ)) (old new : Moment) (file
       tells NoMemory memory ends = absurd (memory refl)
 
 -- the hand-over did not fail
-came_so : (words : List (List ℕ)) (old new : Moment) → ¬ Rose old.writes new.writes → (status : Status) → HandsOver (Comes words old) new status → Caused old new status → Comes words old new status
-came_so words old new no_write Done ends caused = ends
-came_so words old new no_write SomeRefused ends caused = ends
-came_so words old new no_write Usage ends caused = ends
-came_so words old new no_write BadSchema ends caused = ends
-came_so words old new no_write ReadFault ends caused = ends
-came_so words old new no_write WriteFault ends caused = absurd (no_write caused)
-came_so words old new no_write TooLong ends caused = ends
-came_so words old new no_write NoMemory ends caused = ends
+came_so : (words : List (List ℕ)) (old new : Moment) → ¬ Rose old.writes new.writes → (status : Status) → HandsOver (Comes words old) new status → Comes words old new status
+came_so words old new no_write Done ends = ends
+came_so words old new no_write SomeRefused ends = ends
+came_so words old new no_write Usage ends = ends
+came_so words old new no_write BadSchema ends = ends
+came_so words old new no_write ReadFault ends = ends
+came_so words old new no_write WriteFault ends = absurd (no_write (hands_caused words old new WriteFault ends))
+came_so words old new no_write TooLong ends = ends
+came_so words old new no_write NoMemory ends = ends
 
 -- ---- two runs
 
 module _ (files : List AFile) (words : List (List ℕ)) (appended : List ℕ) (status : Status) (h : Ran files words appended status) where
   comes : Comes words h.old h.new status
-  comes = came_so words h.old h.new h.no_write_fault status h.ends h.caused
+  comes = came_so words h.old h.new h.no_write_fault status h.ends
 
   run_of : (names : Named) → named words ≡ Some names → Outcome names files appended status
   run_of names e = ran files words h.old h.new h.files_are h.before appended h.told h.wrote h.no_read_fault h.no_write_fault names status h.has_memory (comes.ran names e)

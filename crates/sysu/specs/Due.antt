@@ -3,8 +3,8 @@
 use Rattle.std.specs.Prelude.{◌≡◌, ◌⊎◌, ℕ, List, [], Option, Ok}
 use Rattle.su_io.specs.declared.files.File.{File}
 use Rattle.su_schema.specs.SchemaValue.{SchemaValue}
+use Rattle.su_files.specs.RunFiles.{schema_limit, script_limit, SchemaIs}
 use Rattle.sysu.specs.Handed.{load_limit}
-use Rattle.sysu.specs.RunFiles.{schema_limit, script_limit, SchemaIs}
 use Rattle.sysu.specs.Scripts.{AreBefore}
 use Rattle.sysu.specs.Words.{Named}
 
@@ -12,7 +12,7 @@ use Rattle.sysu.specs.Words.{Named}
 abbrev pub FallsDue : Named → Option (List File) → List (List ℕ) → List ℕ → ℕ → Type 0
 FallsDue names files texts path limit =
     ((texts ≡ []) × (path ≡ names.schema) × (limit ≡ schema_limit))
-    ⊎ (((texts ≡ []) × (path ≡ names.script) × (limit ≡ script_limit) × ((schema : SchemaValue) × SchemaIs names files (Ok schema)))
+    ⊎ (((texts ≡ []) × (path ≡ names.script) × (limit ≡ script_limit) × ((schema : SchemaValue) × SchemaIs names.schema files (Ok schema)))
     ⊎ (AreBefore names files path texts × (limit ≡ load_limit)))
 
 -- a file that falls due at some time

@@ -1,5 +1,4 @@
 pub mod Banks
-pub mod Causes
 pub mod Checks
 pub mod Complete
 pub mod Due
@@ -7,7 +6,6 @@ pub mod Handed
 pub mod Headline
 pub mod Output
 pub mod RepliesTo
-pub mod RunFiles
 pub mod Scripts
 pub mod Statuses
 pub mod TwoRuns

@@ -11,15 +11,15 @@ use Rattle.su_session.specs.declared.replies.Reply.{Reply}
 use Rattle.su_session.specs.declared.wants.Want.TheVariants.{File}
 use Rattle.su_session.specs.WantedFiles.{Wants}
 use Rattle.su_session.specs.Outcomes.{some_refused}
+use Rattle.su_files.specs.RunFiles.{AreRead}
 use Rattle.sysu.specs.Output.{Answered, reply_texts, texts_of}
-use Rattle.sysu.specs.RunFiles.{AreRead}
 use Rattle.sysu.specs.Words.{Named}
 
 -- the first statements of the script have these replies, which leave the database `last`, and these statements are left
 pub record Answers (names : Named) (files : Option (List AFile)) (replies : List Reply) (last : DatabaseValue) (left : List (List ℕ)) : Type 0 where
   pub schema : SchemaValue
   pub script : List ℕ
-  pub read : AreRead names files schema script
+  pub read : AreRead names.schema names.script files schema script
   pub spans : List Span
   pub pieces : Pieces script spans
   pub done : List (List ℕ)

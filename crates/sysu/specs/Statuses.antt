@@ -1,23 +1,22 @@
 -- How a run ends: by its status, which file was begun last, and what was written.
 -- texts: handed over one after another, each by one whole write where no write fails; old, new: the outside before and after
-use Rattle.std.specs.Prelude.{◌≡◌, ◌⊎◌, ℕ, List, [], ◌∷◌, Option, Some, None, true, false, Err}
+use Rattle.std.specs.Prelude.{◌≡◌, ◌⊎◌, ℕ, List, [], ◌∷◌, Option, Some, None, true, false}
 use Rattle.su_io.specs.declared.files.File.{File}
 use Rattle.su_io.specs.declared.status.Status.{Status}
 use Rattle.su_io.specs.declared.status.Status.TheVariants.{Done, SomeRefused, Usage, BadSchema, ReadFault, WriteFault, TooLong, NoMemory}
 use Rattle.su_io.specs.Moments.{Moment}
 use Rattle.su_io.specs.Programs.{Ends, UsageEnds}
-use Rattle.su_ddl.specs.declared.faults.DdlFault.{DdlFault}
-use Rattle.su_show.specs.Refusals.{schema_line}
+use Rattle.su_files.specs.Openings.{IsSchemaLine}
+use Rattle.su_files.specs.RunFiles.{schema_limit}
 use Rattle.sysu.specs.Banks.{BankEnds}
 use Rattle.sysu.specs.Checks.{CheckEnds}
 use Rattle.sysu.specs.Due.{FallsDue, IsDue}
-use Rattle.sysu.specs.RunFiles.{schema_limit, SchemaIs}
 use Rattle.sysu.specs.Scripts.{AreAll, AreFirst}
 use Rattle.sysu.specs.Words.{Named, named, checks, Generates, usage_line}
 
 -- the schema's file, and the line for a schema that is refused
 abbrev pub IsRefusal : Named → Option (List File) → List ℕ → ℕ → List (List ℕ) → Type 0
-IsRefusal names files path limit texts = (path ≡ names.schema) × (limit ≡ schema_limit) × ((fault : DdlFault) × SchemaIs names files (Err fault) × (texts ≡ schema_line fault ∷ []))
+IsRefusal names files path limit texts = (path ≡ names.schema) × (limit ≡ schema_limit) × ((line : List ℕ) × IsSchemaLine names.schema files line × (texts ≡ line ∷ []))
 
 -- by the status of a run on two files: a file that falls due, its limit, and the texts: all that were written or, where a write
 -- failed, those of which a front was

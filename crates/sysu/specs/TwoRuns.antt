@@ -5,7 +5,6 @@ use Rattle.su_io.specs.declared.files.File.{File as AFile}
 use Rattle.su_io.specs.Causes.{Rose}
 use Rattle.su_io.specs.declared.status.Status.{Status}
 use Rattle.su_io.specs.declared.status.Status.TheVariants.{NoMemory}
-use Rattle.sysu.specs.Causes.{Caused}
 use Rattle.su_io.specs.HandOver.{HandsOver}
 use Rattle.su_io.specs.Moments.{Moment}
 use Rattle.sysu.specs.Statuses.{Comes}
@@ -16,7 +15,6 @@ pub record Ran (files : List AFile) (words : List (List ℕ)) (appended : List �
   pub old : Moment
   pub new : Moment
   pub ends : HandsOver (Comes words old) new status
-  pub caused : Caused old new status
   pub files_are : old.files ≡ Some files
   pub before : List ℕ
   pub told : old.told.written ≡ Some before

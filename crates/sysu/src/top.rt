@@ -3,9 +3,6 @@ ghost use Rattle.std.specs.Prelude.{◌≡◌, ◌≢◌, ◌≤◌, ◌&&◌, n
 ghost use Rattle.su_io.specs.HandOver.{HandsOver};
 ghost use Rattle.su_io.specs.Moments.{Moment};
 ghost use Rattle.su_io.specs.Programs.{UsageEnds};
-ghost use Rattle.su_io.specs.inside.Lines.{LineEnds};
-ghost use Rattle.su_show.specs.Refusals.{schema_line, IsOfText};
-ghost use Rattle.sysu.specs.Causes.{Caused};
 ghost use Rattle.sysu.specs.Complete.{IsComplete};
 ghost use Rattle.sysu.specs.Headline.{Headline};
 ghost use Rattle.sysu.specs.inside.Counts.{IsCountWhere};
@@ -19,19 +16,13 @@ use crate::statements::answer_all;
 use std::alloc::Global;
 use std::thread::Threads;
 use su_base::Str;
-use su_ddl::{DdlFault, read};
+use su_files::{open_schema, read_script};
 use su_io::{Outside, Shelf, Sink, Status};
 use su_par::Gate;
 use su_session::Session;
-use su_show::ddl_fault;
 
 const USAGE: &str =
     "usage: sysu run SCHEMA SCRIPT [--workers N] | sysu generate N | sysu check FILE\n";
-
-/// How many bytes a schema and a script may have.
-const SCHEMA_LIMIT: u64 = 1 << 20;
-
-const SCRIPT_LIMIT: u64 = 1 << 24;
 
 /// The digit, from 1 to 9.
 fn digit(d: u8) -> Option<u8>
@@ -106,21 +97,6 @@ fn check_of(words: &[Str]) -> Option<&Str>
     }
 }
 
-/// Writes the line for a refused schema.
-fn tell_refusal<H: Shelf, K: Sink>(
-    alloc: Global,
-    fault: &DdlFault,
-    outside: &mut Outside<H, K>,
-) -> Status
-    ensures of_text { result ≢ Status.NoMemory → IsOfText fault.now }
-    ensures ends { LineEnds (schema_line fault.now) Status.BadSchema outside.old outside.new result }
-{
-    match ddl_fault(alloc, fault) {
-        Ok(line) => outside.tell(line.as_slice(), Status::BadSchema),
-        Err(_) => Status::NoMemory,
-    }
-}
-
 /// Writes the usage line.
 fn tell_usage<H: Shelf, K: Sink>(outside: &mut Outside<H, K>) -> Status
     ensures files { outside.new.files ≡ outside.old.files }
@@ -144,18 +120,14 @@ fn run_files<R: Threads + Sync, H: Shelf, K: Sink, G: Gate>(
     ensures files { outside.new.files ≡ outside.old.files }
     ensures ends { RunEnds (record { schema = schema; script = script }) outside.old outside.new result }
 {
-    let bytes = match outside.read(alloc, schema, SCHEMA_LIMIT) {
-        Ok(bytes) => bytes,
-        Err(status) => return status,
-    };
-    let schema = match read(alloc, bytes.as_slice()) {
+    let schema = match open_schema(alloc, schema, outside) {
         Ok(schema) => schema,
-        Err(fault) => return tell_refusal(alloc, &fault, outside),
+        Err(status) => return status,
     };
     let Ok(session) = Session::open(alloc, schema) else {
         return Status::NoMemory;
     };
-    match outside.read(alloc, script, SCRIPT_LIMIT) {
+    match read_script(alloc, script, outside) {
         Ok(bytes) => answer_all(rt, alloc, session, bytes.as_slice(), workers, outside, gate),
         Err(status) => status,
     }
@@ -171,7 +143,6 @@ fn run_words<R: Threads + Sync, H: Shelf, K: Sink, G: Gate>(
 ) -> Status
     ensures files { outside.new.files ≡ outside.old.files }
     ensures comes { Comes words.now outside.old outside.new result }
-    ensures caused { Caused outside.old outside.new result }
 {
     if let Some(file) = check_of(words) {
         return check_file(alloc, file, outside);
@@ -208,7 +179,6 @@ pub fn run<R: Threads + Sync, H: Shelf, K: Sink, G: Gate>(
 ) -> Status
     ensures files { outside.new.files ≡ outside.old.files }
     ensures ends { HandsOver (Comes words.now outside.old) outside.new result }
-    ensures caused { Caused outside.old outside.new result }
     ensures complete { IsComplete words.now outside.old outside.new result }
     ensures headline { Headline words.now outside.old outside.new result }
 {

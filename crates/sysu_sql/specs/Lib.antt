@@ -1,4 +1,3 @@
-pub mod RunFiles
 pub mod Runs
 pub mod Words
 pub mod inside

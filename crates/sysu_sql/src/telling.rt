@@ -2,18 +2,14 @@
 ghost use Rattle.std.specs.Prelude.{◌≡◌, ◌≢◌};
 ghost use Rattle.su_io.specs.Moments.{Moment};
 ghost use Rattle.su_io.specs.Programs.{UsageEnds};
-ghost use Rattle.su_io.specs.inside.Lines.{LineEnds};
-ghost use Rattle.su_show.specs.Refusals.{schema_line, IsOfText};
 ghost use Rattle.sysu_sql.specs.inside.Tellings.{SqlEnds, status_by};
 ghost use Rattle.sysu_sql.specs.Words.{usage_line};
 
 use std::alloc::Global;
 use std::thread::Threads;
-use su_ddl::DdlFault;
 use su_io::{Outside, Shelf, Sink, Status};
 use su_par::Gate;
 use su_schema::Schema;
-use su_show::ddl_fault;
 use su_sql::{Dialect, script};
 
 const USAGE: &str = "usage: sysu_sql SCHEMA SCRIPT [--dialect postgres|sqlite|spark]\n";
@@ -24,21 +20,6 @@ pub(crate) fn tell_usage<H: Shelf, K: Sink>(outside: &mut Outside<H, K>) -> Stat
     ensures ends { UsageEnds usage_line outside.old outside.new result }
 {
     outside.tell(USAGE.as_bytes(), Status::Usage)
-}
-
-/// Writes the line for a refused schema.
-pub(crate) fn tell_refusal<H: Shelf, K: Sink>(
-    alloc: Global,
-    fault: &DdlFault,
-    outside: &mut Outside<H, K>,
-) -> Status
-    ensures of_text { result ≢ Status.NoMemory → IsOfText fault.now }
-    ensures ends { LineEnds (schema_line fault.now) Status.BadSchema outside.old outside.new result }
-{
-    match ddl_fault(alloc, fault) {
-        Ok(line) => outside.tell(line.as_slice(), Status::BadSchema),
-        Err(_) => Status::NoMemory,
-    }
 }
 
 /// The status of a script, by whether a statement was refused.

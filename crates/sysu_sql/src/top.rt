@@ -1,23 +1,18 @@
 //! The run of the program over any shelf and sink.
-ghost use Rattle.std.specs.Prelude.{◌≡◌, ◌<◌, ◌^◌};
+ghost use Rattle.std.specs.Prelude.{◌≡◌};
 ghost use Rattle.su_io.specs.HandOver.{HandsOver};
 ghost use Rattle.su_io.specs.Moments.{Moment};
 ghost use Rattle.sysu_sql.specs.Runs.{Comes, RunEnds};
 
-use crate::telling::{tell_refusal, tell_script, tell_usage};
+use crate::telling::{tell_script, tell_usage};
 use crate::words::command_of;
 use std::alloc::Global;
 use std::thread::Threads;
 use su_base::Str;
-use su_ddl::read;
+use su_files::{open_schema, read_script};
 use su_io::{Outside, Shelf, Sink, Status};
 use su_par::Gate;
 use su_sql::Dialect;
-
-/// How many bytes a schema and a script may have.
-const SCHEMA_LIMIT: u64 = 1 << 20;
-
-const SCRIPT_LIMIT: u64 = 1 << 24;
 
 /// Writes the script's file as SQL on the schema of its file.
 fn run_named<R: Threads + Sync, H: Shelf, K: Sink, G: Gate>(
@@ -32,15 +27,11 @@ fn run_named<R: Threads + Sync, H: Shelf, K: Sink, G: Gate>(
     ensures files { outside.new.files ≡ outside.old.files }
     ensures ends { RunEnds (record { schema = schema; script = script; dialect = dialect }) outside.old outside.new result }
 {
-    let bytes = match outside.read(alloc, schema, SCHEMA_LIMIT) {
-        Ok(bytes) => bytes,
+    let schema = match open_schema(alloc, schema, outside) {
+        Ok(schema) => schema,
         Err(status) => return status,
     };
-    let schema = match read(alloc, bytes.as_slice()) {
-        Ok(schema) => schema,
-        Err(fault) => return tell_refusal(alloc, &fault, outside),
-    };
-    match outside.read(alloc, script, SCRIPT_LIMIT) {
+    match read_script(alloc, script, outside) {
         Ok(bytes) => tell_script(rt, alloc, dialect, schema, bytes.as_slice(), outside, gate),
         Err(status) => status,
     }

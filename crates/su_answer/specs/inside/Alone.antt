@@ -4,7 +4,8 @@
 -- No public contract cites this module.
 use Rattle.std.specs.Prelude.{◌≡◌, ◌↔◌, List, [], ◌∷◌, Contains}
 use Rattle.su_base.specs.declared.values.Value.{Value}
-use Rattle.su_rel.specs.Stored.{Stored, AllDiffer}
+use Rattle.su_base.specs.Lists.{AllDiffer}
+use Rattle.su_rel.specs.Stored.{Stored}
 use Rattle.su_rel.specs.MoreThan.{AreMoreThan}
 use Rattle.su_reduce.specs.declared.edges.Edge.{Edge}
 use Rattle.su_exec.specs.declared.tasks.TaskRow.{TaskRow}

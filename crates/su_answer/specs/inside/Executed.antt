@@ -8,12 +8,10 @@ use Rattle.su_base.specs.declared.values.Value.{Value}
 use Rattle.su_base.specs.Value.{compare_lists}
 use Rattle.su_rel.specs.Stored.{Stored}
 use Rattle.su_exec.specs.declared.tasks.Task.{Task}
-use Rattle.su_exec.specs.Tasks.{IsTask}
 use Rattle.su_exec.specs.Outputs.{IsOutput, AreOutputs}
 use Rattle.su_state.specs.DatabaseValue.{DatabaseValue}
 use Rattle.su_min.specs.Kept.{Minimised}
 use Rattle.su_answer.specs.declared.found.Found.{Found}
-use Rattle.su_answer.specs.Joined.{IsTaskOf}
 use Rattle.su_answer.specs.Answers.{IsTermAnswer}
 use Rattle.su_rel.specs.MoreThan.{AreMoreThan}
 
@@ -30,12 +28,6 @@ IsFound join found = MatchOption found.rows (AreMoreThan 1000000 (IsOutput join.
 pub record TermOver : Type 0 where
   pub db : DatabaseValue
   pub minimal : Minimised
-
--- the join is that of the kept rows
-pub record IsJoinOf (db : DatabaseValue) (m : Minimised) (join : Join) : Type 0 where
-  pub tables : join.tables ≡ db.tables
-  pub task : IsTaskOf db.schema m.tableau m.mask join.task
-  pub fits : IsTask db.tables join.task
 
 -- exactly the term's answers, ascending
 pub record AreTermAnswers (db : DatabaseValue) (m : Minimised) (rows : List (List Value)) : Type 0 where

@@ -31,9 +31,9 @@ GivesBefore result left x r = Gives result (λ y. (y ≡ x) × (left ≡ r))
 abbrev pub Stops : {X : Type 0} → (X → Symbol) → (X → Type 0) → List Symbol → Type 0
 Stops {X = X} spell In r = (x : X) → In x → ¬ (Begins (spell x) r)
 
--- where symbols are in front that can be written, and behind them none, these come out
-abbrev pub AreOnlySymbols : {E : Type 0} → List Symbol → Result (List Sym) E → List Symbol → Type 0
-AreOnlySymbols old result new = (xs : List Sym) (r : List Symbol) → All IsNamed xs → Stops sym_symbol IsNamed r → old ≡ map sym_symbol xs ++ r → IfOk result (λ ys. (ys ≡ xs) × (new ≡ r))
+-- where members of the kind are in front, and behind them none, these come out
+abbrev pub AreOnly : {X E : Type 0} → (X → Symbol) → (X → Type 0) → List Symbol → Result (List X) E → List Symbol → Type 0
+AreOnly {X = X} spell In old result new = (xs : List X) (r : List Symbol) → All In xs → Stops spell In r → old ≡ map spell xs ++ r → IfOk result (λ ys. (ys ≡ xs) × (new ≡ r))
 
 -- where kinds are in front, and behind them none, these come out
 abbrev pub AreOnlyKinds : {E : Type 0} → List Symbol → Result (List Kind) E → List Symbol → Type 0

@@ -3,16 +3,16 @@
 -- t, s: tableaux, but in the last definition s is how t is settled; c: a chased tableau, or a constant; h: the values of a head
 -- universe: the rows of a universal relation; room: memory for a search for mappings
 -- No public contract cites this module.
-use Rattle.std.specs.Prelude.{◌≡◌, ◌↔◌, ℕ, ◌<◌, List, [], ◌∷◌, ◌++◌, length, flat_map}
+use Rattle.std.specs.Prelude.{◌≡◌, ◌↔◌, ℕ, ◌<◌, List, ◌++◌, length, flat_map}
 use Rattle.su_base.specs.declared.values.Value.{Value}
 use Rattle.su_fd.specs.declared.dependencies.Fd.{Fd}
 use Rattle.su_tableau.specs.declared.symbols.Sym.{Sym}
-use Rattle.su_tableau.specs.declared.symbols.Sym.TheVariants.{Const, Var}
 use Rattle.su_tableau.specs.Tableaux.{Tab}
 use Rattle.su_tableau.specs.Valuations.{Ext}
 use Rattle.su_tableau.specs.Kinds.{Kinds, IsUniverse, IsTyped}
 use Rattle.su_map.specs.Rooms.{Space, IsRoomFor}
 use Rattle.su_chase.specs.Chase.{IsClosedPartition}
+use Rattle.su_chase.specs.inside.Rows.{constant_of}
 use Rattle.su_fd.specs.MetDependencies.{Meets}
 use Rattle.su_schema.specs.SchemaValue.{SchemaValue}
 use Rattle.su_schema.specs.Entries.{attribute_kinds}
@@ -63,14 +63,9 @@ IsTypedOpen kinds (Open c) = IsTyped kinds c
 
 -- ---- constants
 
--- the constant, if the symbol is one
-abbrev pub constant_in : Sym → List Value
-constant_in (Const c) = c ∷ []
-constant_in (Var k) = []
-
 -- the constants among symbols
 abbrev pub constants_in : List Sym → List Value
-constants_in symbols = flat_map constant_in symbols
+constants_in symbols = flat_map constant_of symbols
 
 -- those of the head and of the rows, each as often as it stands there
 abbrev pub tab_constants : Tab → List Value

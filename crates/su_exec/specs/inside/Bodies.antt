@@ -11,7 +11,7 @@ use Rattle.su_exec.specs.declared.merging.Merged.{Merged}
 use Rattle.su_exec.specs.declared.merging.Merged.TheVariants.{Whole, Over, Nothing}
 use Rattle.su_exec.specs.inside.Checks.{check_vars}
 use Rattle.su_exec.specs.inside.Edges.{Edge, FitsAll, Keeps, among, always, has}
-use Rattle.su_reduce.specs.Sheets.{AllDiffer}
+use Rattle.su_base.specs.Lists.{AllDiffer}
 use Rattle.su_rel.specs.MoreThan.{AreMoreThan}
 use Rattle.su_exec.specs.inside.Joins.{IsUpTo}
 

@@ -4,7 +4,8 @@
 -- edge: variables, and the rows of codes that they may have together; a, b, g: edges; xs, ys: the variables on the left and on the right
 -- No public contract cites this module.
 use Rattle.std.specs.Prelude.{◌≡◌, ℕ, ◌<◌, ◌≤◌, Bool, true, false, Option, None, Some, List, [], ◌∷◌, ◌++◌, map, length, slice_index_or, All, Contains}
-use Rattle.su_reduce.specs.Sheets.{pick, AreBelow, AllDiffer}
+use Rattle.su_base.specs.Lists.{AllDiffer}
+use Rattle.su_reduce.specs.Sheets.{pick, AreBelow}
 use Rattle.su_exec.specs.inside.Edges.{Edge, Fits, Reaches, Keeps, has, always}
 
 -- where the rows of a join come from

@@ -28,8 +28,8 @@ IsTermOf values (Const value) term = (code : ℕ) × (term ≡ Code code) × (co
 IsTermOf values (Var k) term = term ≡ Variable k
 
 -- the terms stand for the symbols
-abbrev pub AreTermsOf : List Value → List Sym → List CodedSymbol → Type 0
-AreTermsOf values symbols terms = AllZip (IsTermOf values) symbols terms
+abbrev pub AreSymbolTerms : List Value → List Sym → List CodedSymbol → Type 0
+AreSymbolTerms values symbols terms = AllZip (IsTermOf values) symbols terms
 
 -- the check stands for the comparison
 pub record IsCheckOf (values : List Value) (compared : Compared) (check : Check) : Type 0 where

@@ -4,11 +4,19 @@
 -- No public contract cites this module.
 use Rattle.std.specs.Prelude.{◌<◌, ◌≤◌, ◌+◌, ◌-◌, ℕ, List, length, take, slice_index_or}
 use Rattle.std.specs.List.{insert, remove}
-use Rattle.std.specs.VecDeque.{deque_capacity}
+use Rattle.std.specs.VecDeque.{deque_len, deque_capacity}
 use Rattle.su_index.specs.declared.chunk.Chunk.{Chunk}
 use Rattle.su_index.specs.declared.entry.Entry.{Entry}
 use Rattle.su_index.specs.declared.place.ChunkPlace.{ChunkPlace}
-use Rattle.su_index.specs.Chunks.{entries_of, len_at}
+use Rattle.su_index.specs.Entries.{entries_of}
+
+-- how many entries the k-th chunk has
+abbrev pub len_at : List Chunk → ℕ → Chunk → ℕ
+len_at chunks k d = deque_len (slice_index_or chunks k d).entries
+
+-- each chunk but the last has an entry
+abbrev pub HaveEntries : List Chunk → Type 0
+HaveEntries chunks = (k : ℕ) (d : Chunk) → k + 1 < length chunks → 0 < len_at chunks k d
 
 -- the room of chunk k
 abbrev pub capacity_at : List Chunk → ℕ → Chunk → ℕ

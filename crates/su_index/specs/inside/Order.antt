@@ -1,45 +1,45 @@
--- Where the rows of a value stand in an index, and the positions to which rows come when others go.
--- position: of a row among the stored ones, from 0; p, q: positions; at: the value at each position; v: a value
--- run: a list of positions; in order: by the lead of the value, then by value, then by position; first, past: places in the run, from 0
--- kept: whether the row at each position stays
+-- How an index orders the positions of the rows: by the lead of the value in its column, then by the value, then by position.
+-- run: a list of positions in this order
 -- No public contract cites this module.
-use Rattle.std.specs.Prelude.{◌≡◌, ◌<◌, ◌≤◌, ℕ, Bool, true, false, slice_index, cond, nat_eq, List, length, slice_index_or, All}
-use Rattle.std.specs.Ordering.{is_lt, is_eq}
+use Rattle.std.specs.Prelude.{◌≡◌, ◌<◌, ◌+◌, ◌^◌, ℕ, Bool, cond, List, [], length, slice_index_or, count_by}
+use Rattle.std.proofs.Common.{zero, suc}
+use Rattle.std.specs.List.Sorted.{IsStrictlySortedBy}
+use Rattle.std.specs.Ordering.{nat_cmp, ordering_then}
+use Rattle.std.specs.declared.cmp.Ordering.{Ordering}
 use Rattle.su_base.specs.declared.values.Value.{Value}
-use Rattle.su_index.specs.Order.{compare_keys, compare_entries, count_below}
+use Rattle.su_base.specs.declared.values.Value.TheVariants.{Int}
+use Rattle.su_base.specs.Value.{compare_values}
+use Rattle.su_index.specs.inside.Lead.{lead_of}
+use Rattle.std.specs.Prelude.{pos}
 
--- the row at position q comes before a row with value v at position p
-abbrev pub comes_before : (ℕ → Value) → Value → ℕ → ℕ → Bool
-comes_before at v p q = is_lt (compare_entries (at q) q v p)
+-- the value in the column of the row at a position
+abbrev pub value_at : List (List Value) → ℕ → ℕ → Value
+value_at rows column p = slice_index_or (slice_index_or rows p []) column (Int (pos 0))
 
--- the row at position p has the value v
-abbrev pub has_at : (ℕ → Value) → Value → ℕ → Bool
-has_at at v p = is_eq (compare_keys (at p) v)
+-- values by their leads, and as values where these are the same
+abbrev pub compare_keys : Value → Value → Ordering
+compare_keys v w = ordering_then (nat_cmp (lead_of v) (lead_of w)) (compare_values v w)
 
--- the positions in the run whose row has the value stand from `first` up to `past`
-pub record IsSpan (at : ℕ → Value) (v : Value) (run : List ℕ) (first past : ℕ) : Type 0 where
-  pub start : first ≤ past
-  pub end : past ≤ length run
-  pub below : (k : ℕ) → k < first → has_at at v (slice_index run k) ≡ false
-  pub among : (k : ℕ) → first ≤ k → k < past → has_at at v (slice_index run k) ≡ true
-  pub above : (k : ℕ) → past ≤ k → k < length run → has_at at v (slice_index run k) ≡ false
+-- how value v at position p stands to value w at position q
+abbrev pub compare_entries : Value → ℕ → Value → ℕ → Ordering
+compare_entries v p w q = ordering_then (compare_keys v w) (nat_cmp p q)
 
--- each row reaches to the column
-abbrev pub HaveColumn : ℕ → List (List Value) → Type 0
-HaveColumn column rows = All (λ row. column < length row) rows
+-- the same of two positions, where `at` gives the value at each
+abbrev pub compare_places : (ℕ → Value) → ℕ → ℕ → Ordering
+compare_places at p q = compare_entries (at p) p (at q) q
 
--- each position is that of a row
-abbrev pub ArePositions : ℕ → List ℕ → Type 0
-ArePositions n run = All (λ p. p < n) run
+-- how many of the positions below n pass the test
+abbrev pub count_below : (ℕ → Bool) → ℕ → ℕ
+count_below test zero = 0
+count_below test (suc n) = count_below test n + cond (test n) 1 0
 
--- the values where the row at position p has come to have the value v
-abbrev pub with_value : (ℕ → Value) → ℕ → Value → ℕ → Value
-with_value at p v q = cond (nat_eq q p) v (at q)
+-- the positions from `from` on, as many as the run is long, each once and in order
+pub record IsRun (at : ℕ → Value) (from : ℕ) (run : List ℕ) : Type 0 where
+  pub each : (test : ℕ → Bool) → count_below test from + count_by test run ≡ count_below test (from + length run)
+  pub ordered : IsStrictlySortedBy (compare_places at) run
 
--- the row at the position is to be kept
-abbrev pub is_kept : List Bool → ℕ → Bool
-is_kept kept p = slice_index_or kept p false
-
--- the position that it comes to: how many kept rows were before it
-abbrev pub rank_of : List Bool → ℕ → ℕ
-rank_of kept p = count_below (is_kept kept) p
+-- the positions below n
+pub record IsIndex (at : ℕ → Value) (n : ℕ) (held : List ℕ) : Type 0 where
+  pub run : IsRun at 0 held
+  pub whole : length held ≡ n
+  pub small : n < 2 ^ 32

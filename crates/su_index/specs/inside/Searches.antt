@@ -6,10 +6,9 @@ use Rattle.su_base.specs.declared.values.Value.{Value}
 use Rattle.su_index.specs.declared.chunk.Chunk.{Chunk}
 use Rattle.su_index.specs.declared.entry.Entry.{Entry}
 use Rattle.su_index.specs.declared.place.ChunkPlace.{ChunkPlace}
-use Rattle.su_index.specs.Chunks.{entries_of}
-use Rattle.su_index.specs.Entries.{positions}
+use Rattle.su_index.specs.Entries.{entries_of, positions}
 use Rattle.su_index.specs.inside.Chunks.{before_chunk, rank_in}
-use Rattle.su_index.specs.inside.Order.{comes_before, IsSpan}
+use Rattle.su_index.specs.inside.Spans.{comes_before, IsSpan}
 
 -- the first n entries come before the value v at position p
 abbrev pub AreBefore : (ℕ → Value) → Value → ℕ → List Entry → ℕ → Type 0

@@ -5,7 +5,7 @@ use Rattle.std.specs.Prelude.{◌≡◌, ◌≢◌, ℕ, ◌<◌, ◌⊎◌, Boo
 use Rattle.su_map.specs.Lists.{numbers_of}
 use Rattle.su_map.specs.Candidates.{count_below, sum_of_products}
 use Rattle.std.specs.Int.{bit_at}
-use Rattle.su_map.specs.Netted.{Netted, base_of, near_of, agree_of}
+use Rattle.su_map.specs.inside.Netted.{Netted, base_of, near_of, agree_of}
 
 -- a is less at the first place where they differ
 pub record IsBefore (a b : List ℕ) : Type 0 where
@@ -46,7 +46,6 @@ Shrinks n old new = (q x : ℕ) → q < n → bit_at (get_or new q 0) x ≡ 1 �
 -- how a search stands: of the rows in m those in todo have no target yet, and the others have what the choice says
 pub record Stands (net : Netted) (n m todo : ℕ) (domains : List ℕ) (choice : ℕ → ℕ) : Type 0 where
   pub todo_in : (r : ℕ) → bit_at todo r ≡ 1 → (r < n) × (bit_at m r ≡ 1)
-  pub based : (r x : ℕ) → r < n → bit_at m r ≡ 1 → bit_at (get_or domains r 0) x ≡ 1 → bit_at (base_of net r) x ≡ 1
   pub chosen : (r : ℕ) → r < n → bit_at m r ≡ 1 → bit_at todo r ≡ 0 → bit_at (get_or domains r 0) (choice r) ≡ 1
   pub only : (r x : ℕ) → r < n → bit_at m r ≡ 1 → bit_at todo r ≡ 0 → bit_at (get_or domains r 0) x ≡ 1 → x ≡ choice r
   pub fits : (r q x : ℕ) → r < n → q < n → bit_at m r ≡ 1 → bit_at m q ≡ 1 → bit_at todo r ≡ 0 → bit_at (get_or domains q 0) x ≡ 1 → AreFit net r q (choice r) x
@@ -63,9 +62,13 @@ AreKept n m todo old new = (r : ℕ) → r < n → bit_at m r ≡ 1 → bit_at t
 abbrev pub tries : (ℕ → ℕ → Bool) → ℕ → ℕ → ℕ → ℕ
 tries passes targets n todo = sum_of_products (map (λ r. count_below (passes r) targets) (numbers_of todo n))
 
--- each target of a row in m passes
-abbrev pub ArePassed : Netted → ℕ → ℕ → (ℕ → ℕ → Bool) → Type 0
-ArePassed net n m passes = (r x : ℕ) → r < n → bit_at m r ≡ 1 → bit_at (base_of net r) x ≡ 1 → passes r x ≡ true
+-- each target in the domain of a row in m passes
+abbrev pub ArePassed : List ℕ → ℕ → ℕ → (ℕ → ℕ → Bool) → Type 0
+ArePassed domains n m passes = (r x : ℕ) → r < n → bit_at m r ≡ 1 → bit_at (get_or domains r 0) x ≡ 1 → passes r x ≡ true
+
+-- each target in k to which a row in m goes by itself passes
+abbrev pub ArePassedInto : Netted → ℕ → ℕ → ℕ → (ℕ → ℕ → Bool) → Type 0
+ArePassedInto net n m k passes = (r x : ℕ) → r < n → bit_at m r ≡ 1 → bit_at (base_of net r) x ≡ 1 → bit_at k x ≡ 1 → passes r x ≡ true
 
 -- of the n rows, each in m has a target in k to which it goes by itself, and each two agree
 pub record IsChoiceInto (net : Netted) (n m k : ℕ) (choice : ℕ → ℕ) : Type 0 where

@@ -4,13 +4,10 @@
 -- No public contract cites this module.
 use Rattle.std.specs.Prelude.{◌≡◌, ℕ, ◌+◌, ◌<◌, ◌≤◌, ◌↔◌, ◌⊎◌, Bool, List, length, get_or}
 use Rattle.std.specs.Int.{bit_at}
-use Rattle.su_tableau.specs.Tableaux.{Tab}
 use Rattle.su_map.specs.declared.search.Order.{Order}
 use Rattle.su_map.specs.declared.search.Order.TheVariants.{Ascending}
-use Rattle.su_map.specs.Netted.{Netted, base_of}
-use Rattle.su_map.specs.Nets.{IsNet}
-use Rattle.su_map.specs.Candidates.{IsWithinProducts}
-use Rattle.su_map.specs.inside.Choices.{IsChoice, IsChoiceInto, AreSame, IsLess, tries, ArePassed}
+use Rattle.su_map.specs.inside.Netted.{Netted, base_of}
+use Rattle.su_map.specs.inside.Choices.{IsChoice, AreSame, IsLess, tries, ArePassed, ArePassedInto}
 
 -- each of the n rows that is in the set has its targets in k as its domain
 abbrev pub AreAtStart : Netted → ℕ → ℕ → ℕ → List ℕ → Type 0
@@ -28,14 +25,12 @@ KeepsChoices net n m old new = (choice : ℕ → ℕ) → IsChoice net n m old c
 abbrev pub IsFirstChoice : Netted → ℕ → List ℕ → (ℕ → ℕ) → Type 0
 IsFirstChoice net m domains a = (other : ℕ → ℕ) → IsChoice net (length domains) m domains other → AreSame (length domains) m other a ⊎ IsLess (length domains) m a other
 
--- on the rows in m each choice into k is this one, or comes after it
-abbrev pub IsFirstInto : Netted → ℕ → ℕ → ℕ → (ℕ → ℕ) → Type 0
-IsFirstInto net n m k a = (other : ℕ → ℕ) → IsChoiceInto net n m k other → AreSame n m other a ⊎ IsLess n m a other
+-- a search in order from the domains, whose targets are below end, counted at most the tries of the rows in todo, whichever test tells the targets
+abbrev pub IsWithinTries : Order → ℕ → List ℕ → ℕ → ℕ → ℕ → ℕ → Type 0
+IsWithinTries order end domains m todo old new = (passes : ℕ → ℕ → Bool) → ArePassed domains (length domains) m passes → order ≡ Ascending
+    → new ≤ old + tries passes end (length domains) todo
 
--- a search in order counted at most the tries of the rows in todo, whichever test tells the targets
-abbrev pub IsWithinTries : Order → Netted → ℕ → ℕ → ℕ → ℕ → ℕ → Type 0
-IsWithinTries order net n m todo old new = (passes : ℕ → ℕ → Bool) → ArePassed net n m passes → order ≡ Ascending → new ≤ old + tries passes net.targets n todo
-
--- where the net was made for just these rows, at most the sum of the products of the numbers of candidates was counted
-abbrev pub IsCounted : Tab → ℕ → Tab → ℕ → Netted → ℕ → ℕ → Type 0
-IsCounted s m t k net old new = IsNet s m t k net → IsWithinProducts s m t k old new
+-- a search in order for a choice into k counted at most the tries of the rows in m
+abbrev pub IsWithinTriesInto : Order → Netted → ℕ → ℕ → ℕ → ℕ → ℕ → Type 0
+IsWithinTriesInto order net n m k old new = (passes : ℕ → ℕ → Bool) → ArePassedInto net n m k passes → order ≡ Ascending
+    → new ≤ old + tries passes net.targets n m

@@ -6,7 +6,7 @@ use Rattle.std.specs.Int.{bit_at}
 use Rattle.su_tableau.specs.Tableaux.{Tab}
 use Rattle.su_map.specs.Lists.{row_of}
 use Rattle.su_map.specs.Candidates.{MapAlike}
-use Rattle.su_map.specs.Netted.{IsTarget}
+use Rattle.su_map.specs.inside.Netted.{IsTarget}
 
 -- the domains of the rows in m have rows of t alone
 abbrev pub AreRows : Tab → ℕ → Tab → List ℕ → Type 0

@@ -11,7 +11,7 @@ use Rattle.su_tableau.specs.declared.symbols.Sym.TheVariants.{Const, Var}
 use Rattle.su_tableau.specs.Tableaux.{Tab, AreVarsBelow}
 use Rattle.su_map.specs.Lists.{row_of}
 use Rattle.su_tableau.specs.Parts.{Cell}
-use Rattle.su_map.specs.Netted.{IsTarget}
+use Rattle.su_map.specs.inside.Netted.{IsTarget}
 
 -- the column is the first one of the row that holds the variable
 pub record IsFirstAt (row : List Sym) (column k : ℕ) : Type 0 where

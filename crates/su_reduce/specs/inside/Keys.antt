@@ -1,25 +1,20 @@
 -- Places of variables.
 -- shared places: a place on either side for each variable of both
 -- No public contract cites this module.
-use Rattle.std.specs.Prelude.{◌≡◌, ℕ, ◌<◌, pos, List, length, get_or, Contains}
+use Rattle.std.specs.Prelude.{◌≡◌, ℕ, ◌<◌, List, length, get_or, Contains}
 use Rattle.su_base.specs.declared.values.Value.{Value}
-use Rattle.su_base.specs.declared.values.Value.TheVariants.{Int}
 use Rattle.su_tableau.specs.declared.symbols.Sym.{Sym}
 use Rattle.su_tableau.specs.declared.symbols.Sym.TheVariants.{Var}
-use Rattle.su_tableau.specs.Valuations.{value_of}
+use Rattle.su_tableau.specs.Valuations.{nth, value_of}
 use Rattle.su_reduce.specs.Shapes.{cell_at, variable_place}
-
--- the value at a place of a row
-abbrev pub value_at : List Value → ℕ → Value
-value_at row p = get_or row p (Int (pos 0))
 
 -- each variable has the value at its place
 abbrev pub assigned : List Sym → List Value → ℕ → Value
-assigned cells row k = value_at row (variable_place cells k)
+assigned cells row k = nth row (variable_place cells k)
 
 -- the value at place p is what the cell asks for, where variables have the values at their places
 abbrev pub FitsAt : List Sym → List Value → ℕ → Type 0
-FitsAt cells row p = value_of (assigned cells row) (cell_at cells p) ≡ value_at row p
+FitsAt cells row p = value_of (assigned cells row) (cell_at cells p) ≡ nth row p
 
 -- the places at i hold one variable
 pub record IsPair (left right : List Sym) (ls rs : List ℕ) (i : ℕ) (k : ℕ) : Type 0 where

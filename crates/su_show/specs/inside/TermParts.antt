@@ -2,14 +2,14 @@
 -- q: a query by numbers; r: a row by number, from 0; o: its origin, a variable and an object, by number; 32: a space
 -- m: a tableau with its kept rows and fold; source: an object that may answer for a kept row
 -- No public contract cites this module.
-use Rattle.std.specs.Prelude.{ℕ, List, ◌∷◌, ◌++◌, length, filter, codes, decimal}
-use Rattle.std.specs.List.{range_with_len}
+use Rattle.std.specs.Prelude.{ℕ, List, ◌∷◌, ◌++◌, length, codes, decimal}
 use Rattle.std.specs.Ordering.{nat_cmp}
-use Rattle.std.specs.FinSet.{FinSet, contains}
+use Rattle.std.specs.FinSet.{FinSet}
 use Rattle.su_map.specs.Lists.{row_numbers}
 use Rattle.su_min.specs.Kept.{Minimised}
 use Rattle.su_schema.specs.SchemaValue.{SchemaValue}
 use Rattle.su_schema.specs.Entries.{object_names}
+use Rattle.su_schema.specs.SetMembers.{numbers_in}
 use Rattle.su_ddl.specs.ShownDefinitions.{name_at}
 use Rattle.su_query.specs.declared.resolving.Resolved.{Resolved}
 use Rattle.su_steps.specs.declared.results.Origin.{Origin}
@@ -24,7 +24,7 @@ origin_text schema q r o = codes "  row " ++ decimal r ++ 32 ∷ variable_text (
 
 -- the attributes of a set, in the order of declaration
 abbrev pub attributes_of : SchemaValue → FinSet nat_cmp → List ℕ
-attributes_of schema set = filter (contains set) (range_with_len 0 (length schema.attributes))
+attributes_of schema set = numbers_in set (length schema.attributes)
 
 -- the lines of the kept rows and their sources
 abbrev pub AreSourcesLines : SchemaValue → Minimised → List ℕ → Type 0

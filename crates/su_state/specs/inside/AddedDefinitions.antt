@@ -1,7 +1,8 @@
 -- What the steps of a definition ask and answer.
 -- added: the last dependency or the last object of a schema, as the definition says
+-- among: which breaches are looked for
 -- No public contract cites this module.
-use Rattle.std.specs.Prelude.{◌≡◌, ℕ, ◌<◌, ◌≤◌, ◌-◌, List, length, slice_get, Some}
+use Rattle.std.specs.Prelude.{◌≡◌, ℕ, ◌<◌, ◌≤◌, List, length, slice_get, Some}
 use Rattle.su_rel.specs.Stored.{Stored}
 use Rattle.su_schema.specs.declared.definitions.Definition.{Definition}
 use Rattle.su_schema.specs.declared.definitions.Definition.TheVariants.{Relation, Object, Fd}
@@ -10,7 +11,8 @@ use Rattle.su_schema.specs.Known.{columns_at}
 use Rattle.su_state.specs.declared.faults.DefineFault.{DefineFault}
 use Rattle.su_state.specs.declared.faults.DefineFault.TheVariants.{Schema, Breaks, NoMemory}
 use Rattle.su_index.specs.Tables.{table_at}
-use Rattle.su_state.specs.inside.AddedBreaks.{BreaksThrough, HoldsThrough, FdBreaks, ObjectBreaks, AddedBreaks}
+use Rattle.su_state.specs.Breaches.{Breach, IsFirstOf}
+use Rattle.su_state.specs.NewBreaches.{told}
 
 -- each object stands on one of the tables, of its relation's width
 abbrev pub HaveTables : SchemaValue → List Stored → Type 0
@@ -28,32 +30,8 @@ abbrev pub IsNarrow : Definition → Type 0
 IsNarrow (Relation name columns) = length columns ≤ 32
 IsNarrow _ = Unit {0}
 
--- what was added holds on the rows
-abbrev pub AddedHolds : SchemaValue → List Stored → Definition → Type 0
-AddedHolds schema tables (Fd left right) = (o : ℕ) → HoldsThrough schema tables (length schema.fds - 1) o
-AddedHolds schema tables (Object name relation pairs) = (f : ℕ) → HoldsThrough schema tables f (length schema.objects - 1)
-AddedHolds schema tables _ = Unit {0}
-
--- why the dependency with this number is refused through the object with this number
-abbrev pub IsThroughFault : SchemaValue → List Stored → ℕ → ℕ → DefineFault → Type 0
-IsThroughFault schema tables f o (Breaks fd name first second) = BreaksThrough schema tables f o fd name first second
-IsThroughFault schema tables f o NoMemory = Unit {0}
-IsThroughFault schema tables f o (Schema fault) = ⊥
-
--- why the dependency with this number is refused
-abbrev pub IsFdFault : SchemaValue → List Stored → ℕ → DefineFault → Type 0
-IsFdFault schema tables f (Breaks fd name first second) = FdBreaks schema tables f fd name first second
-IsFdFault schema tables f NoMemory = Unit {0}
-IsFdFault schema tables f (Schema fault) = ⊥
-
--- why the object with this number is refused
-abbrev pub IsObjectFault : SchemaValue → List Stored → ℕ → DefineFault → Type 0
-IsObjectFault schema tables o (Breaks fd name first second) = ObjectBreaks schema tables o fd name first second
-IsObjectFault schema tables o NoMemory = Unit {0}
-IsObjectFault schema tables o (Schema fault) = ⊥
-
--- why what was added is refused
-abbrev pub IsAddedFault : SchemaValue → List Stored → Definition → DefineFault → Type 0
-IsAddedFault schema tables definition (Breaks fd name first second) = AddedBreaks schema tables definition fd name first second
-IsAddedFault schema tables definition NoMemory = Unit {0}
-IsAddedFault schema tables definition (Schema fault) = ⊥
+-- the fault tells the first of these breaches, or that memory is wanting
+abbrev pub TellsFirst : SchemaValue → (Breach → Type 0) → DefineFault → Type 0
+TellsFirst schema Among (Breaks fd name first second) = (b : Breach) × IsFirstOf Among b × (Breaks fd name first second ≡ told schema b)
+TellsFirst schema Among NoMemory = Unit {0}
+TellsFirst schema Among (Schema fault) = ⊥

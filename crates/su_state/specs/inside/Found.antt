@@ -1,7 +1,7 @@
 -- What a search among stored rows finds: the position of one, or that there is none.
 -- position: a row's number among rows, from 0; least: by the order of rows; first: of the least number; found: what the search gives
--- relation, object, a, c: a relation, an object, an attribute, a column, by number from 0; fd: a dependency, or its number
--- other: a row with which the row breaks it; sides: the columns of both sides of one; clash: two rows agree at the left ones, differ at the right ones
+-- object, a, c: an object, an attribute, a column, by number from 0; fd: a dependency
+-- sides: the columns of both sides of one; clash: two rows agree at the left ones, differ at the right ones
 -- No public contract cites this module.
 use Rattle.std.specs.Prelude.{◌≡◌, ◌<◌, ℕ, List, length, Contains, slice_get, Option, MatchOption, Some}
 use Rattle.std.specs.Ordering.{nat_cmp}
@@ -11,39 +11,14 @@ use Rattle.su_fd.specs.declared.dependencies.Fd.{Fd}
 use Rattle.su_fd.specs.MetDependencies.{LiesIn}
 use Rattle.su_schema.specs.SchemaValue.{SchemaValue, ObjectEntry}
 use Rattle.su_schema.specs.Entries.{attributes_of, column_of}
-use Rattle.su_state.specs.declared.breaches.Through.{Through}
-use Rattle.su_state.specs.declared.breaches.FirstBreach.{FirstBreach}
 use Rattle.su_state.specs.declared.sides.Sides.{Sides}
 use Rattle.su_state.specs.declared.pairs.Pair.{Pair}
-use Rattle.su_state.specs.inside.RowBreaks.{BreaksWith, BreaksWithLeast, BreaksFirst, BreaksNothing}
 use Rattle.su_state.specs.inside.Sides.{AgreeAt, AreSidesOf, Clash, IsLeastClash, row_at}
 use Rattle.su_state.specs.inside.Pairs.{IsLeastPair}
 
 -- the position is that of a row which is such
 abbrev pub StandsAt : List (List Value) → (List Value → Type 0) → ℕ → Type 0
 StandsAt rows IsSuch p = (p < length rows) × IsSuch (row_at rows p)
-
--- ---- breaches of a row
-
--- the least row with which the row breaks the dependency through the object, or none
-abbrev pub IsLeastBreach : SchemaValue → ℕ → List (List Value) → List Value → ℕ → ℕ → Option ℕ → Type 0
-IsLeastBreach schema relation rows row fd object found =
-    MatchOption found ((other : List Value) → ¬ BreaksWith schema relation rows row fd object other) (StandsAt rows (BreaksWithLeast schema relation rows row fd object))
-
--- the row breaks the dependency through no object before this one, and through it with the row at this position, the least
-abbrev pub IsThrough : SchemaValue → ℕ → List (List Value) → List Value → ℕ → Through → Type 0
-IsThrough schema relation rows row fd b =
-    (b.position < length rows) × BreaksWithLeast schema relation rows row fd b.object (row_at rows b.position) × ((o : ℕ) (other : List Value) → o < b.object → ¬ BreaksWith schema relation rows row fd o other)
-
--- the first object through which the row breaks the dependency, or none
-abbrev pub IsFirstThrough : SchemaValue → ℕ → List (List Value) → List Value → ℕ → Option Through → Type 0
-IsFirstThrough schema relation rows row fd found =
-    MatchOption found ((o : ℕ) (other : List Value) → ¬ BreaksWith schema relation rows row fd o other) (IsThrough schema relation rows row fd)
-
--- the first breach of the row, or none
-abbrev pub IsFirstBreach : SchemaValue → ℕ → List (List Value) → List Value → Option FirstBreach → Type 0
-IsFirstBreach schema relation rows row found =
-    MatchOption found (BreaksNothing schema relation rows row) (λ b. (b.position < length rows) × BreaksFirst schema relation rows row b.fd b.object (row_at rows b.position))
 
 -- ---- clashes
 

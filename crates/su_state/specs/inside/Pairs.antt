@@ -7,8 +7,7 @@ use Rattle.std.specs.Ordering.{nat_cmp}
 use Rattle.std.specs.FinSet.{FinSet}
 use Rattle.su_base.specs.declared.values.Value.{Value}
 use Rattle.su_state.specs.declared.sides.Sides.{Sides}
-use Rattle.su_state.specs.inside.RowBreaks.{IsAtMost}
-use Rattle.su_state.specs.inside.Sides.{AgreeAt, Clash, IsLeastClash, row_at}
+use Rattle.su_state.specs.inside.Sides.{AgreeAt, IsAtMost, Clash, IsLeastClash, row_at}
 use Rattle.su_state.specs.inside.Parts.{part_of}
 
 -- the least of the rows with a partner, and its least partner

@@ -5,7 +5,7 @@
 use Rattle.std.specs.Prelude.{◌≡◌, ◌≢◌, ◌⊎◌, ◌↔◌, ℕ, List, [], slice_index_or, Contains, Option, Some, None, IsTrue}
 use Rattle.std.specs.Ordering.{nat_cmp}
 use Rattle.std.specs.FinSet.{FinSet, contains}
-use Rattle.std.specs.declared.cmp.Ordering.TheVariants.{Less}
+use Rattle.std.specs.declared.cmp.Ordering.TheVariants.{Less, Greater}
 use Rattle.su_base.specs.declared.values.Value.{Value}
 use Rattle.su_base.specs.Value.{compare_lists}
 use Rattle.su_fd.specs.declared.dependencies.Fd.{Fd}
@@ -14,7 +14,10 @@ pub use Rattle.su_index.specs.Notes.{AgreeAt}
 use Rattle.su_schema.specs.SchemaValue.{ObjectEntry}
 use Rattle.su_schema.specs.Entries.{attributes_of, column_of}
 use Rattle.su_state.specs.declared.sides.Sides.{Sides}
-use Rattle.su_state.specs.inside.RowBreaks.{IsAtMost}
+
+-- not after the other in the order of rows
+abbrev pub IsAtMost : List Value → List Value → Type 0
+IsAtMost row other = compare_lists row other ≢ Greater
 
 -- exactly the columns from which the object takes one of the attributes
 abbrev pub AreColumnsOf : ObjectEntry → FinSet nat_cmp → FinSet nat_cmp → Type 0

@@ -14,7 +14,8 @@ use Rattle.su_chase.specs.inside.Rows.{name_by}
 use Rattle.su_window.specs.declared.readings.Reading.{Reading}
 use Rattle.su_schema.specs.Cuts.{width}
 use Rattle.su_state.specs.Views.{taken}
-use Rattle.su_window.specs.Members.{Member, AllDiffer}
+use Rattle.su_base.specs.Lists.{AllDiffer}
+use Rattle.su_window.specs.Members.{Member}
 use Rattle.su_window.specs.Padded.{object_at, rows_under, member_read, IsReading}
 
 -- for each attribute its column in an object's view, if it has one

@@ -16,9 +16,9 @@ use Rattle.su_schema.specs.SchemaValue.{SchemaValue}
 use Rattle.su_session.specs.declared.replies.Reply.{Reply}
 use Rattle.su_session.specs.Reply.{Replied}
 use Rattle.su_state.specs.DatabaseValue.{DatabaseValue, IsWellKept}
+use Rattle.su_files.specs.RunFiles.{AreRead, script_limit}
 use Rattle.sysu.specs.inside.HandedFiles.{Began, HasTaken}
 use Rattle.sysu.specs.Handed.{IsHanded, load_limit}
-use Rattle.sysu.specs.RunFiles.{AreRead, script_limit}
 use Rattle.sysu.specs.Statuses.{RunHas}
 use Rattle.sysu.specs.Words.{Named}
 
@@ -50,7 +50,7 @@ TurnEnds db text next old new (Err _) = ⊥
 
 -- the schema was accepted, and the script was read last
 pub record IsAtScript (names : Named) (schema : SchemaValue) (script : List ℕ) (now : Moment) : Type 0 where
-  pub read : AreRead names now.files schema script
+  pub read : AreRead names.schema names.script now.files schema script
   pub begun : now.begun ≡ Some names.script
   pub taken : now.taken ≤ script_limit
 

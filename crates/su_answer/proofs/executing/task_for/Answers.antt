@@ -1,5 +1,5 @@
 -- As the kept rows are least they are a valid tableau by themselves, which has every symbol of the head; so a task of them, each at its essential columns, fits the tables.
-use Rattle.std.proofs.Common.{refl, subst}
+use Rattle.std.proofs.Common.{subst}
 use Rattle.su_schema.specs.SchemaValue.{SchemaValue}
 use Rattle.su_schema.specs.Entries.{attribute_kinds}
 use Rattle.su_tableau.specs.Tableaux.{Tab, IsValid, IsSmall}
@@ -22,5 +22,8 @@ fits_is c =
     let least = c.kept_rows_are_least.ensures (attribute_kinds c.args.db.now.schema) c.args.minimal.now.tableau c.args.minimal.now.mask valid c.requires c.keeps_its_rules-2.ensures.kept in
     task_fits c.args.db.now c.args.minimal.now.tableau c.args.minimal.now.mask c.in_ok-task.task c.keeps_its_rules.ensures small valid least.valid (task_is c)
 
-pub returns : goal.returns
-returns c = record { tables = refl; task = task_is c; fits = fits_is c }
+pub returns-clause-task : goal.returns-clause-task
+returns-clause-task c = task_is c
+
+pub returns-clause-fits : goal.returns-clause-fits
+returns-clause-fits c = fits_is c

@@ -4,7 +4,8 @@ use Rattle.std.specs.Prelude.{IsTrue}
 use Rattle.std.specs.FinSet.{contains}
 use Rattle.su_steps.specs.Objects.{attributes_at}
 use Rattle.su_tableau.specs.Parts.{cell_at, row_of}
-use Rattle.su_answer.specs.Joined.{numbers_in, IsSourceOf}
+use Rattle.su_schema.specs.SetMembers.{numbers_in}
+use Rattle.su_answer.specs.Joined.{IsSourceOf}
 use Rattle.su_answer.proofs.TaskRows.{numbers_low, columns_owned}
 use Rattle.su_answer.proofs.tasks.task_row_of.Goals as goal
 

@@ -2,22 +2,15 @@
 -- the_former, the_weighed: what `Boxed<T>` holds for each T, in the form by which the checker admits a type that holds itself
 use mathlib.Core.Path.{refl}
 use mathlib.Core.Former.{Former, this, const, pair, via}
-use base.Stored.{gnil}
-use base.Fml.{ftrue}
 use denote.RattleType.{RattleType}
-use denote.Memory.{part_of}
 use denote.RawPtr.{Ptr}
-use denote.Sharing.{nothing}
 use denote.HoleLaws.{Alike}
-use denote.HolePlaces.{Recodes, struct_places, laid, one_value}
+use denote.HolePlaces.{Recodes, struct_places, laid}
 use denote.Hole.Fix.{over}
 use denote.Param.Weighed.{Weighed}
 use denote.Model.Placed.{view_places}
 use Rattle.std.specs.declared.alloc.Global.{Global}
-use Rattle.std.specs.declared.boxed.Box.{Box}
-use Rattle.std.specs.contracts.alloc.Global as heap
-use Rattle.std.specs.contracts.boxed.Box as pointer
-use Rattle.std.specs.contracts.impls.GlobalAllocator.TheImpl.{ghosts}
+use Rattle.su_base.specs.formers.Places.{with_value, box_places}
 use Rattle.su_base.specs.declared.boxes.Boxed.TheInside.{Inside}
 use Rattle.su_base.specs.declared.boxes.Boxed.TheView.{view, invariant}
 use Rattle.su_base.specs.contracts.boxes.Boxed as contract
@@ -37,30 +30,14 @@ of_fields =
     via (pair (const (Ptr × Global)) this) Inside (λ X boxed. ((boxed.inner.ptr, boxed.inner.alloc), boxed.inner.value))
     (λ X parts. record { inner = record { ptr = parts.0.0; alloc = parts.0.1; value = parts.1 } }) (λ X boxed. refl) (λ X parts. refl)
 
--- the box with another value in it
-abbrev with_value : {X Y : Type 0} → Box X Global → Y → Box Y Global
-with_value old value = record { ptr = old.ptr; alloc = old.alloc; value = value }
-
--- the box inside
-abbrev box_of : RattleType → RattleType
-box_of R = pointer.the_row R heap.the_row ghosts
-
 module _ (R S : RattleType) (h : R.Denot → S.Denot) where
-  box_places : Alike R S h → Alike (box_of R) (box_of S) (λ old. with_value old (h old.value))
-  unfolding part_of
-  box_places alike = record {
-    mir_same = λ i. (box_of (one_value R (alike.mir_same i) (λ _. ftrue) (λ _ _. nothing) gnil)).mir;
-    own_same = λ old i. (box_of (one_value R (alike.mir_same i) (alike.own_same old.value i) (alike.shr_same old.value i) gnil)).own_val (with_value old tt);
-    shr_same = λ old i. (box_of (one_value R (alike.mir_same i) (alike.own_same old.value i) (alike.shr_same old.value i) gnil)).shr_at (with_value old tt);
-  }
-
   pub the_places : Alike R S h → Alike (contract.the_row R) (contract.the_row S) ((the_former this).map R.Denot S.Denot h)
   the_places alike =
       view_places of_fields this view (λ X Y k u. refl) (λ X u. refl) R.Denot S.Denot h
       (contract.the_row R).coded (contract.the_row S).coded
       (invariant R.Denot) (invariant S.Denot) (λ u p q. refl) (λ u p q. refl) (λ u e. tt) (λ u e. tt)
       (over (fields.the_row R)) (over (fields.the_row S))
-      (struct_places (fields.the_type R) (fields.the_type S) ((λ old. with_value old (h old.value)), tt) _ (λ d. refl) refl (laid _ _ _ (box_places alike), tt))
+      (struct_places (fields.the_type R) (fields.the_type S) ((λ old. with_value old (h old.value)), tt) _ (λ d. refl) refl (laid _ _ _ (box_places R S h alike), tt))
 
   pub the_codes_placed : Recodes R S h → Recodes (contract.the_row R) (contract.the_row S) ((the_former this).map R.Denot S.Denot h)
   the_codes_placed same boxed = same boxed

@@ -14,4 +14,4 @@ named-requires c =
 
 pub new-requires-clause-valid : goal.new-requires-clause-valid
 new-requires-clause-valid c =
-    rw (c.width.ensures, c.in_ok-rows.ensures, c.in_ok-head.ensures, c.outputs.ensures, c.in_ok-operators.ensures, c.requires.rows, c.head.ensures, c.operators.ensures) (valid c.args.t.now c.args.names.now c.keeps_its_rules.ensures.valid)
+    rw (c.width.ensures, c.in_ok-rows.ensures, c.in_ok-head.ensures, c.outputs.ensures, c.from_vec-operators.ensures, c.in_ok-from_slice.ensures.items, c.requires.rows, c.head.ensures, c.operators.ensures) (valid c.args.t.now c.args.names.now c.keeps_its_rules.ensures.valid)

@@ -13,10 +13,10 @@ decreases-branch_refutes l = goal.size-branch_refutes l
 abbrev pub decreases-refutes : goal.decreases-refutes
 decreases-refutes l = goal.size-refutes l
 
-abbrev pub invariant-refutes-loop-i : goal.invariant-refutes-loop-i
-invariant-refutes-loop-i l = record {
+abbrev pub invariant-refutes-loop-target : goal.invariant-refutes-loop-target
+invariant-refutes-loop-target l = record {
   same : l.sent ≡ l.fn.sent;
   keeps : Keeps (lines_of l.claim.term.now) l.claim.board.now l.fn.sent l.fn.places l.places;
-  front : Front (IsFitting (lines_of l.claim.term.now) l.claim.left_out l.fn.sent (row_named l.node)) l.claim.term.now.kept (map target_of (branches_of l.node)) l.i l.passed;
+  front : Front (IsFitting (lines_of l.claim.term.now) l.claim.left_out l.fn.sent (row_named l.node)) l.claim.term.now.kept (map target_of (branches_of l.node)) l.target-index l.passed;
   good : (a : ℕ) (d : Branch) → a < l.passed → Refutes (lines_of l.claim.term.now) l.claim.left_out (node_of (get_or (branches_of l.node) a d)) (sent_too l.fn.sent (row_named l.node) (target_of (get_or (branches_of l.node) a d)));
 }

@@ -9,5 +9,5 @@ loop-before-preserved c = record {
   stands = c.in_ok-advance.ensures.stands c.if-not-branch.false;
   rest = rw c.in_ok-push.ensures.ok
       (more-rows c.args.columns.now c.loop-before.before c.loop-before.rows (fields_of c.advance.new.fields) (records_left c.loop-before.records) (records_left c.advance.new.reader)
-      (rw c.if-not-branch.false at c.in_ok-advance.ensures.took) c.in_ok-row_of.field-0 _ c.in_ok-row_of.ensures c.loop-before.invariant.rest);
+      (rw c.if-not-branch.false at c.in_ok-advance.ensures.took) c.in_ok-row_of_record.field-0 _ c.in_ok-row_of_record.ensures c.loop-before.invariant.rest);
 }

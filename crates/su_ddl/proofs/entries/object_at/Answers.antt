@@ -12,9 +12,6 @@ use Rattle.su_ddl.proofs.entries.object_at.Goals as goal
 pub relation_name-requires : goal.relation_name-requires
 relation_name-requires c = stored c.args.schema.now c.args.o c.object_relation-r.result c.keeps_its_rules.ensures c.object_relation-r.ensures
 
-pub pairs_at-requires-clause-stored : goal.pairs_at-requires-clause-stored
-pairs_at-requires-clause-stored c = stored c.args.schema.now c.args.o c.object_relation-r.result c.keeps_its_rules.ensures c.object_relation-r.ensures
-
 pub returns : goal.returns
 returns c =
     let schema = c.args.schema.now in

@@ -15,5 +15,5 @@ returns-in_ok-column-in-Some c =
     let schema = c.args.schema.now in
     let named : name_at (attribute_names schema) c.args.a ≡ c.attribute_name.result.now =
     get_or_from_slice_get (attribute_names schema) c.args.a c.attribute_name.result.now [] c.attribute_name.ensures in
-    rw (c.in_ok-attribute-in-Some.ensures, c.in_ok-column-in-Some.ensures, ← named)
+    rw (c.in_ok-attribute-in-Some.ensures, c.in_ok-column-in-Some.ensures, c.column_name.ensures, ← named)
     (two_fields (λ x. column_of x c.args.a) (λ x. x.relation) (pair_on schema c.args.a) schema.objects c.args.o (Some c.in-Some.c) c.args.r c.in-Some.ensures c.requires.relation)

@@ -9,4 +9,4 @@ pub returns : goal.returns
 returns c =
     let two = chain c.args.out.now c.push_word.new.out c.push_word-2.new.out (Word (codes "attribute") ∷ []) (Word c.args.name.now ∷ []) c.in_ok-push_word.ensures.ok
     (rw c.as_str.ensures at c.in_ok-push_word-2.ensures.ok) in
-    chain c.args.out.now c.push_word-2.new.out c.push_kind.new.out (Word (codes "attribute") ∷ Word c.args.name.now ∷ []) (kind_symbol c.args.kind ∷ []) two c.in_ok-push_kind.ensures
+    chain c.args.out.now c.push_word-2.new.out c.push_kind.new.out (Word (codes "attribute") ∷ Word c.args.name.now ∷ []) (kind_symbol c.args.kind ∷ []) two c.in_ok-push_kind.ensures.ok

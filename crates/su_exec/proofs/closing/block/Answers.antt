@@ -14,8 +14,8 @@ loop-i-preserved c =
     let low : i < length a.rows = let t = c.loop-i-test.true in let e = c.len-i-end.ensures in let f = ap length c.rows-rows.ensures.rows in omega arith in
     record {
       width = c.in_ok-push_if.ensures.width ∙ old.width;
-      only = rw c.in_ok-push_if.ensures.rows (block_only a i c.loop-i.some.rows row c.is_in_block-here.result low row_is old.only);
-      all = rw c.in_ok-push_if.ensures.rows (block_all a c.args.blocks.now c.args.n i c.loop-i.some.rows row c.is_in_block-here.result row_is c.is_in_block-here.ensures.1 old.all);
+      only = rw c.in_ok-push_if.ensures.ok (block_only a i c.loop-i.some.rows row c.is_in_block-here.result low row_is old.only);
+      all = rw c.in_ok-push_if.ensures.ok (block_all a c.args.blocks.now c.args.n i c.loop-i.some.rows row c.is_in_block-here.result row_is c.is_in_block-here.ensures.1 old.all);
     }
 
 pub returns : goal.returns

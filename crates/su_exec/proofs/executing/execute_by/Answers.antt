@@ -32,7 +32,7 @@ run-requires-clause-there g c =
     let first = c.in_ok-checks.ensures.codes in
     let second = c.in_ok-outputs.ensures.codes in
     let body : IsBodyOf tables values task fs checks terms =
-    body_of tables a b values task es fs checks terms (rw c.in-Some.is at c.in_ok-found.ensures.edges) c.in_ok-edges.ensures first c.in_ok-checks.ensures.checks second c.in_ok-outputs.ensures.terms (extends_then a b values first second) c.apart.ensures in
+    body_of tables a b values task es fs checks terms (rw c.in-Some.is at c.in_ok-found.ensures.edges) c.in_ok-edges.ensures first c.in_ok-checks.ensures.checks second c.in_ok-outputs.ensures.terms (extends_then a b values first second) c.keeps_its_rules.ensures in
     let needed_is : c.deref-2.result.now ≡ term_vars terms = c.deref-2.ensures.value ∙ c.in_ok-needed.ensures ∙ ap term_vars c.deref.ensures.value in
     are_there tables values task fs checks terms c.requires body c.deref-2.result.now needed_is
 
@@ -57,7 +57,7 @@ returns-clause-outputs g c =
     let first = c.in_ok-checks.ensures.codes in
     let second = c.in_ok-outputs.ensures.codes in
     let body : IsBodyOf tables values task fs checks terms =
-    body_of tables a b values task es fs checks terms (rw c.in-Some.is at c.in_ok-found.ensures.edges) c.in_ok-edges.ensures first c.in_ok-checks.ensures.checks second c.in_ok-outputs.ensures.terms (extends_then a b values first second) c.apart.ensures in
+    body_of tables a b values task es fs checks terms (rw c.in-Some.is at c.in_ok-found.ensures.edges) c.in_ok-edges.ensures first c.in_ok-checks.ensures.checks second c.in_ok-outputs.ensures.terms (extends_then a b values first second) c.keeps_its_rules.ensures in
     let needed_is : c.deref-2.result.now ≡ term_vars terms = c.deref-2.ensures.value ∙ c.in_ok-needed.ensures ∙ ap term_vars c.deref.ensures.value in
     outputs_of tables values task fs checks terms c.requires body c.deref-2.result.now needed_is c.args.cap c.in_ok-merged.merged c.shown.result c.in_ok-merged.ensures
     (subst (λ (ts : List CodedSymbol). IfOk c.shown.result (IsShownBy values ts c.in_ok-merged.merged)) c.deref-3.ensures.value c.shown.ensures.shown)
@@ -76,7 +76,7 @@ returns-clause-more g c =
     let first = c.in_ok-checks.ensures.codes in
     let second = c.in_ok-outputs.ensures.codes in
     let body : IsBodyOf tables values task fs checks terms =
-    body_of tables a b values task es fs checks terms (rw c.in-Some.is at c.in_ok-found.ensures.edges) c.in_ok-edges.ensures first c.in_ok-checks.ensures.checks second c.in_ok-outputs.ensures.terms (extends_then a b values first second) c.apart.ensures in
+    body_of tables a b values task es fs checks terms (rw c.in-Some.is at c.in_ok-found.ensures.edges) c.in_ok-edges.ensures first c.in_ok-checks.ensures.checks second c.in_ok-outputs.ensures.terms (extends_then a b values first second) c.keeps_its_rules.ensures in
     let needed_is : c.deref-2.result.now ≡ term_vars terms = c.deref-2.ensures.value ∙ c.in_ok-needed.ensures ∙ ap term_vars c.deref.ensures.value in
     more_of tables values task fs checks terms c.requires body c.deref-2.result.now needed_is c.args.cap c.in_ok-merged.merged c.shown.result c.in_ok-merged.ensures
     (subst (λ (ts : List CodedSymbol). IfErr c.shown.result (λ fault. fault ≡ More → IsMoreBy values ts c.args.cap c.in_ok-merged.merged)) c.deref-3.ensures.value c.shown.ensures.more)

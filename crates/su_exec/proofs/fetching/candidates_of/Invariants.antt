@@ -5,10 +5,10 @@ use Rattle.su_exec.specs.Shares.{share}
 use Rattle.su_exec.proofs.Sources.{AgreesBySources, IsOfSources}
 use Rattle.su_exec.proofs.fetching.candidates_of.Given as goal
 
-abbrev pub invariant-loop-s : goal.invariant-loop-s
-invariant-loop-s g l = record {
+abbrev pub invariant-loop-source : goal.invariant-loop-source
+invariant-loop-source g l = record {
   tables : g.R.Rows.tables l.rows ≡ g.R.Rows.tables l.fn.rows;
-  fetches : g.R.Rows.fetches l.rows ≤ g.R.Rows.fetches l.fn.rows + sum (map (share (g.R.Rows.tables l.fn.rows) l.row.cells) (take l.s l.row.sources));
+  fetches : g.R.Rows.fetches l.rows ≤ g.R.Rows.fetches l.fn.rows + sum (map (share (g.R.Rows.tables l.fn.rows) l.row.cells) (take l.source-index l.row.sources));
   width : l.out.rows.width ≡ length l.shape.firsts.items;
-  gathered : IsGathered (IsOfSources (g.R.Rows.tables l.fn.rows) l.row l.shape.firsts.items l.s) (AgreesBySources (g.R.Rows.tables l.fn.rows) l.fn.codes l.edges l.row l.shape.firsts.items l.s) l.fn.codes [] l.codes l.out.rows.rows;
+  gathered : IsGathered (IsOfSources (g.R.Rows.tables l.fn.rows) l.row l.shape.firsts.items l.source-index) (AgreesBySources (g.R.Rows.tables l.fn.rows) l.fn.codes l.edges l.row l.shape.firsts.items l.source-index) l.fn.codes [] l.codes l.out.rows.rows;
 }

@@ -11,7 +11,7 @@ loop-i-preserved c =
     let is : row ≡ get_or e.rows c.loop-i.i [] = c.row-row.ensures.is ∙ ap (λ (rs : List (List ℕ)). get_or rs c.loop-i.i []) c.rows.ensures.rows in
     record {
       width = c.in_ok-push_if.ensures.width ∙ c.loop-i.invariant.width;
-      passing = rw c.in_ok-push_if.ensures.rows (pass_more c.args.codes.now e c.args.test c.loop-i.i c.loop-i.rows.rows row c.passes_one-passes.result is c.passes_one-passes.ensures c.loop-i.invariant.passing);
+      passing = rw c.in_ok-push_if.ensures.ok (pass_more c.args.codes.now e c.args.test c.loop-i.i c.loop-i.rows.rows row c.passes_one-passes.result is c.passes_one-passes.ensures c.loop-i.invariant.passing);
     }
 
 pub returns-clause-rows : goal.returns-clause-rows

@@ -1,7 +1,7 @@
 -- The place is past as many entries as were taken, and what was added is the front of the stretch; so the entry at the place is the next of the stretch.
 use Rattle.std.proofs.Common.{◌≡◌, ◌+◌, ◌∙◌, ◌++◌, ◌∷◌, List, [], get_or, ap, arith}
 use Rattle.su_index.specs.declared.entry.Entry.{Entry}
-use Rattle.su_index.specs.Chunks.{entries_of}
+use Rattle.su_index.specs.Entries.{entries_of}
 use Rattle.su_index.specs.inside.Chunks.{rank_in}
 use Rattle.su_index.proofs.Entries.{stretch_more}
 use Rattle.su_index.proofs.chunks.add_stretch.Goals as goal

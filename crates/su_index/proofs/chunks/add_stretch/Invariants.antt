@@ -1,6 +1,5 @@
 use Rattle.std.proofs.Common.{◌≡◌, ◌+◌, ◌++◌, take}
-use Rattle.su_index.specs.Chunks.{entries_of}
-use Rattle.su_index.specs.Entries.{stretch}
+use Rattle.su_index.specs.Entries.{entries_of, stretch}
 use Rattle.su_index.specs.inside.Chunks.{rank_in}
 use Rattle.su_index.proofs.chunks.add_stretch.Given as goal
 

@@ -1,6 +1,7 @@
 use Rattle.std.proofs.Common.{◌≡◌, ◌<◌, ◌++◌, ℕ, length}
 use Rattle.su_index.specs.declared.chunk.Chunk.{Chunk}
-use Rattle.su_index.specs.Chunks.{entries_of, len_at}
+use Rattle.su_index.specs.Entries.{entries_of}
+use Rattle.su_index.specs.inside.Chunks.{len_at}
 use Rattle.su_index.proofs.chunks.chunks_of.Given as goal
 
 abbrev pub invariant-loop-rest : goal.invariant-loop-rest

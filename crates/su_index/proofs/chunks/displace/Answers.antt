@@ -2,7 +2,7 @@
 use Rattle.std.proofs.Common.{◌∙◌, add-one, ap, set, arith}
 use Rattle.std.specs.List.{insert}
 use Rattle.su_index.specs.declared.chunk.Chunk.{Chunk}
-use Rattle.su_index.specs.Chunks.{entries_of}
+use Rattle.su_index.specs.Entries.{entries_of}
 use Rattle.su_index.specs.inside.Chunks.{before_chunk}
 use Rattle.su_index.proofs.Chunked.{displaced-entries}
 use Rattle.su_index.proofs.chunks.displace.Goals as goal

@@ -1,7 +1,7 @@
 -- A chunk without entries adds none to the whole, so leaving it out keeps the entries of all chunks.
 use Rattle.std.proofs.Common.{◌∙◌, ap, arith}
 use Rattle.std.proofs.lemmas.Bool.Decides.{nat_tests}
-use Rattle.su_index.specs.Chunks.{entries_of}
+use Rattle.su_index.specs.Entries.{entries_of}
 use Rattle.su_index.proofs.Chunked.{dropped-entries}
 use Rattle.su_index.proofs.chunks.drop_empty.Goals as goal
 

@@ -1,5 +1,5 @@
 use Rattle.std.proofs.Common.{◌≡◌, take}
-use Rattle.su_index.specs.Chunks.{entries_of}
+use Rattle.su_index.specs.Entries.{entries_of}
 use Rattle.su_index.proofs.chunks.flat.Given as goal
 
 abbrev pub invariant-loop-chunk : goal.invariant-loop-chunk

@@ -1,7 +1,7 @@
 -- Putting the entry in hand in at the place always gives the entries that are wanted; a full chunk hands its last entry on to the next, and a chunk with room still lies ahead.
 use Rattle.std.proofs.Common.{◌≡◌, ◌≤◌, ◌+◌, ◌∙◌, ap, arith}
 use Rattle.std.specs.List.{insert}
-use Rattle.su_index.specs.Chunks.{entries_of}
+use Rattle.su_index.specs.Entries.{entries_of}
 use Rattle.su_index.specs.inside.Chunks.{before_chunk}
 use Rattle.su_index.proofs.Chunked.{room-later}
 use Rattle.su_index.proofs.chunks.put_at.Goals as goal

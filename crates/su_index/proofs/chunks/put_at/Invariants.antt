@@ -1,8 +1,8 @@
 use Rattle.std.proofs.Common.{◌≡◌, ◌≤◌, ◌-◌, ℕ, length}
 use Rattle.std.specs.List.{insert}
 use Rattle.su_index.specs.declared.chunk.Chunk.{Chunk}
-use Rattle.su_index.specs.Chunks.{entries_of, len_at}
-use Rattle.su_index.specs.inside.Chunks.{rank_in, IsGap, HasRoomFrom}
+use Rattle.su_index.specs.Entries.{entries_of}
+use Rattle.su_index.specs.inside.Chunks.{len_at, rank_in, IsGap, HasRoomFrom}
 use Rattle.su_index.proofs.chunks.put_at.Given as goal
 
 abbrev pub invariant-loop-chunks : goal.invariant-loop-chunks

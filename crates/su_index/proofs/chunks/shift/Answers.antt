@@ -1,7 +1,7 @@
 -- The place to put in is no later than the one taken from, so its rank stays as entries are taken out, and the chunk that lost one has the room.
 use Rattle.std.proofs.Common.{◌≡◌, ◌≤◌, ◌+◌, ◌∙◌, ap, arith}
 use Rattle.std.specs.List.{insert}
-use Rattle.su_index.specs.Chunks.{entries_of}
+use Rattle.su_index.specs.Entries.{entries_of}
 use Rattle.su_index.specs.inside.Chunks.{before_chunk}
 use Rattle.su_index.proofs.Chunked.{chunk-order}
 use Rattle.su_index.proofs.chunks.shift.Goals as goal

@@ -3,7 +3,8 @@ use Rattle.std.proofs.Common.{◌≡◌, ◌<◌, ◌+◌, ◌∙◌, add-one, a
 use Rattle.std.specs.List.{insert}
 use Rattle.std.specs.VecDeque.{deque_len}
 use Rattle.su_index.specs.declared.chunk.Chunk.{Chunk}
-use Rattle.su_index.specs.Chunks.{entries_of, HaveEntries}
+use Rattle.su_index.specs.Entries.{entries_of}
+use Rattle.su_index.specs.inside.Chunks.{HaveEntries}
 use Rattle.su_index.proofs.Chunked.{split-entries, split-some, split-same, split-parts, split-first, split-second}
 use Rattle.su_index.proofs.chunks.split.Goals as goal
 

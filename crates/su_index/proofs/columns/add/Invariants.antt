@@ -1,5 +1,5 @@
 use Rattle.std.proofs.Common.{◌≡◌, ◌<◌, ◌≤◌, ℕ, length, slice_index_or}
-use Rattle.su_index.specs.Indexed.{IsIndexBelow}
+use Rattle.su_index.specs.inside.Indexed.{IsIndexBelow}
 use Rattle.su_index.specs.declared.index.Index.{Index}
 use Rattle.su_index.proofs.columns.add.Given as goal
 

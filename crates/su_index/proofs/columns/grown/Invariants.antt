@@ -1,5 +1,5 @@
 use Rattle.std.proofs.Common.{◌≡◌, length}
-use Rattle.su_index.specs.Indexed.{AreIndexesBelow}
+use Rattle.su_index.specs.inside.Indexed.{AreIndexesBelow}
 use Rattle.su_index.proofs.columns.grown.Given as goal
 
 abbrev pub invariant-loop-column : goal.invariant-loop-column

@@ -1,6 +1,6 @@
 use Rattle.std.proofs.Common.{◌≡◌, ◌<◌, ℕ, length, slice_index_or}
 use Rattle.su_index.specs.inside.Chunks.{HasRoom}
-use Rattle.su_index.specs.Indexed.{AreIndexesBelow}
+use Rattle.su_index.specs.inside.Indexed.{AreIndexesBelow}
 use Rattle.su_index.specs.declared.index.Index.{Index}
 use Rattle.su_index.proofs.columns.make_room.Given as goal
 

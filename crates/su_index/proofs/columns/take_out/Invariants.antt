@@ -1,6 +1,6 @@
 use Rattle.std.proofs.Common.{◌≡◌, ◌<◌, ◌≤◌, ℕ, length, slice_index_or}
 use Rattle.su_index.specs.declared.index.Index.{Index}
-use Rattle.su_index.specs.inside.Indexed.{IsIndexWithout}
+use Rattle.su_index.specs.inside.Upkeep.{IsIndexWithout}
 use Rattle.su_index.proofs.columns.take_out.Given as goal
 
 abbrev pub invariant-loop-column : goal.invariant-loop-column

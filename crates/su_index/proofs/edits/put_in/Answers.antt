@@ -2,10 +2,9 @@
 use Rattle.std.proofs.Common.{◌≡◌, arith}
 use Rattle.std.specs.List.{insert}
 use Rattle.su_index.specs.declared.entry.Entry.{Entry}
-use Rattle.su_index.specs.Chunks.{entries_of}
+use Rattle.su_index.specs.Entries.{entries_of, positions}
 use Rattle.su_index.specs.inside.Chunks.{rank_in, IsPlace}
-use Rattle.su_index.specs.Entries.{positions}
-use Rattle.su_index.specs.Order.{value_at}
+use Rattle.su_index.specs.inside.Order.{value_at}
 use Rattle.su_index.proofs.Changed.{ordered-insert_with, count_by-insert}
 use Rattle.su_index.proofs.Chunked.{rank-most}
 use Rattle.su_index.proofs.Entries.{positions_length, positions-insert, leads-insert_with}

@@ -2,11 +2,10 @@
 use Rattle.std.proofs.Common.{◌≡◌, ◌<◌, ◌≤◌, ◌+◌, Contains, ℕ, true, false, get_or, length, arith}
 use Rattle.std.specs.List.{insert, remove}
 use Rattle.su_index.specs.declared.entry.Entry.{Entry}
-use Rattle.su_index.specs.Chunks.{entries_of}
+use Rattle.su_index.specs.Entries.{entries_of, positions}
 use Rattle.su_index.specs.inside.Chunks.{rank_in, IsPlace}
-use Rattle.su_index.specs.Entries.{positions}
-use Rattle.su_index.specs.Order.{value_at}
-use Rattle.su_index.specs.inside.Order.{comes_before}
+use Rattle.su_index.specs.inside.Order.{value_at}
+use Rattle.su_index.specs.inside.Spans.{comes_before}
 use Rattle.std.proofs.lemmas.List.Edits.{length-insert, length-remove}
 use Rattle.su_index.proofs.Changed.{place_found, ordered-renamed, renamed_order, absent_removed, count_by-insert, count_by-remove}
 use Rattle.su_index.proofs.Chunked.{rank-most, place-there}

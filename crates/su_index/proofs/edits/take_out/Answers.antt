@@ -1,9 +1,8 @@
 -- The place found for the position's own value is that of its entry, since all entries differ in position; removing it leaves the others in order.
 use Rattle.std.proofs.Common.{arith}
-use Rattle.su_index.specs.Chunks.{entries_of}
+use Rattle.su_index.specs.Entries.{entries_of, positions}
 use Rattle.su_index.specs.inside.Chunks.{rank_in, IsPlace}
-use Rattle.su_index.specs.Entries.{positions}
-use Rattle.su_index.specs.Order.{value_at}
+use Rattle.su_index.specs.inside.Order.{value_at}
 use Rattle.std.proofs.lemmas.List.Edits.{length-remove}
 use Rattle.su_index.proofs.Changed.{place_found, ordered-remove, count_by-remove}
 use Rattle.su_index.proofs.Chunked.{rank-most, place-there}

@@ -1,9 +1,8 @@
 -- A binary search over the last entries of the chunks: those before `low` come before the value, and the last of the chunk `high` does not, unless it is the last chunk.
 use Rattle.std.proofs.Common.{◌<◌, ◌+◌, ◌-◌, ◌/◌, true, false, length, arith}
-use Rattle.su_index.specs.Chunks.{entries_of}
+use Rattle.su_index.specs.Entries.{entries_of, positions}
 use Rattle.su_index.specs.inside.Chunks.{before_chunk}
-use Rattle.su_index.specs.Entries.{positions}
-use Rattle.su_index.specs.Order.{value_at}
+use Rattle.su_index.specs.inside.Order.{value_at}
 use Rattle.su_index.proofs.Entries.{positions_length, entry_within, entry_before}
 use Rattle.su_index.proofs.Search.{comes_before-below, comes_before-above}
 use Rattle.su_index.proofs.finding.chunk_for.Goals as goal

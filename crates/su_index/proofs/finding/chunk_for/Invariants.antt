@@ -1,7 +1,7 @@
 use Rattle.std.proofs.Common.{◌<◌, ◌≤◌, ◌-◌, length}
-use Rattle.su_index.specs.Chunks.{entries_of}
+use Rattle.su_index.specs.Entries.{entries_of}
 use Rattle.su_index.specs.inside.Chunks.{before_chunk}
-use Rattle.su_index.specs.Order.{value_at}
+use Rattle.su_index.specs.inside.Order.{value_at}
 use Rattle.su_index.specs.inside.Searches.{AreBefore, NoneBeforeAtEnd}
 use Rattle.su_index.proofs.finding.chunk_for.Given as goal
 

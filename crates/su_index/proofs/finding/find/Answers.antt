@@ -1,8 +1,7 @@
 -- The last entry of the chunk found doesn't come before the value, so the place in it isn't past its entries, and its rank parts those before the value from the others.
 use Rattle.std.proofs.Common.{◌<◌, ◌+◌, ◌-◌, ◌∙◌, sym, inl, inr, arith}
 use Rattle.std.proofs.lemmas.Bool.{false≢true, cases_lt}
-use Rattle.su_index.specs.Chunks.{len_at}
-use Rattle.su_index.specs.inside.Chunks.{before_chunk}
+use Rattle.su_index.specs.inside.Chunks.{len_at, before_chunk}
 use Rattle.su_index.proofs.Chunked.{before-next, before-most}
 use Rattle.su_index.proofs.finding.find.Goals as goal
 

@@ -1,6 +1,6 @@
 -- A chunk with a chunk behind it has entries, so its last one stands right before the first of the next chunk.
 use Rattle.std.proofs.Common.{◌≡◌, ◌<◌, ◌+◌, ◌-◌, ◌∙◌, ap, get_or, arith}
-use Rattle.su_index.specs.Chunks.{entries_of}
+use Rattle.su_index.specs.Entries.{entries_of}
 use Rattle.su_index.specs.inside.Chunks.{before_chunk}
 use Rattle.su_index.proofs.Chunked.{len-some, before-len, before-most}
 use Rattle.su_index.proofs.finding.last_of.Goals as goal

@@ -1,9 +1,8 @@
 -- The entries from `first` on are in order and each has its lead: an entry that isn't before the value shows that none behind it is.
 use Rattle.std.proofs.Common.{◌<◌, ◌+◌, true, false, arith, length}
-use Rattle.su_index.specs.Chunks.{entries_of}
+use Rattle.su_index.specs.Entries.{entries_of, positions}
 use Rattle.su_index.specs.inside.Chunks.{before_chunk, rank_in}
-use Rattle.su_index.specs.Entries.{positions}
-use Rattle.su_index.specs.Order.{value_at}
+use Rattle.su_index.specs.inside.Order.{value_at}
 use Rattle.su_index.proofs.Chunked.{rank-within, place-end, at-most}
 use Rattle.su_index.proofs.Entries.{positions_length, entry_within, entry_lead, entry_before, below_more}
 use Rattle.su_index.proofs.Search.{comes_before-above}

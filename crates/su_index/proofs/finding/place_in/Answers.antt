@@ -1,11 +1,10 @@
 -- A binary search: all entries below `low` come before the value, none from `high` on does; an entry with the value on each side gives the value between them.
 use Rattle.std.proofs.Common.{◌≡◌, ◌<◌, ◌∙◌, ap, refl, sym, subst, ◌+◌, ◌-◌, ◌/◌, inl, inr, true, false, arith, length, slice_index}
 use Rattle.std.proofs.lemmas.Bool.{false≢true, cases_lt}
-use Rattle.su_index.specs.Chunks.{entries_of}
+use Rattle.su_index.specs.Entries.{entries_of, positions}
 use Rattle.su_index.specs.inside.Chunks.{before_chunk}
-use Rattle.su_index.specs.Entries.{positions}
-use Rattle.su_index.specs.Order.{value_at}
-use Rattle.su_index.specs.inside.Order.{comes_before, has_at}
+use Rattle.su_index.specs.inside.Order.{value_at}
+use Rattle.su_index.specs.inside.Spans.{comes_before, has_at}
 use Rattle.su_index.proofs.Chunked.{before-len, rank-within, rank-end}
 use Rattle.su_index.proofs.Entries.{positions_length, at_position, entry_within, entry_lead, entry_before}
 use Rattle.su_index.proofs.Search.{comes_before-below, comes_before-above, has_between}

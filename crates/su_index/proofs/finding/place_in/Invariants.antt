@@ -1,10 +1,9 @@
 use Rattle.std.proofs.Common.{◌≡◌, ◌<◌, ◌≤◌, ◌+◌, ◌-◌, ℕ, true, length, slice_index}
 use Rattle.su_index.specs.declared.chunk.Chunk.{Chunk}
-use Rattle.su_index.specs.Chunks.{entries_of, len_at}
-use Rattle.su_index.specs.inside.Chunks.{before_chunk}
-use Rattle.su_index.specs.Entries.{positions}
-use Rattle.su_index.specs.Order.{value_at}
-use Rattle.su_index.specs.inside.Order.{has_at}
+use Rattle.su_index.specs.Entries.{entries_of, positions}
+use Rattle.su_index.specs.inside.Chunks.{len_at, before_chunk}
+use Rattle.su_index.specs.inside.Order.{value_at}
+use Rattle.su_index.specs.inside.Spans.{has_at}
 use Rattle.su_index.specs.inside.Searches.{AreBefore, NoneBefore}
 use Rattle.su_index.proofs.finding.place_in.Given as goal
 

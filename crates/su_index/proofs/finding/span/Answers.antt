@@ -1,8 +1,7 @@
 -- The entries before the first place come before the value at position 0 and those from the other on come behind the value, so the ones between are those of the value.
 use Rattle.std.proofs.Common.{arith, length}
-use Rattle.su_index.specs.Chunks.{entries_of}
-use Rattle.su_index.specs.Entries.{positions}
-use Rattle.su_index.specs.Order.{value_at}
+use Rattle.su_index.specs.Entries.{entries_of, positions}
+use Rattle.su_index.specs.inside.Order.{value_at}
 use Rattle.su_index.proofs.Chunked.{rank-most}
 use Rattle.su_index.proofs.Entries.{positions_length}
 use Rattle.su_index.proofs.Spans.{IsSpan-search}

@@ -1,5 +1,5 @@
 use Rattle.std.proofs.Common.{◌≡◌, length}
-use Rattle.su_index.specs.inside.Indexed.{AreKept}
+use Rattle.su_index.specs.inside.Upkeep.{AreKept}
 use Rattle.su_index.proofs.keeping.kept_indexes.Given as goal
 
 abbrev pub invariant-loop-index : goal.invariant-loop-index

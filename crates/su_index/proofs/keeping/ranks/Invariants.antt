@@ -1,5 +1,5 @@
 use Rattle.std.proofs.Common.{◌≡◌, ◌<◌, ◌≤◌, ℕ, length, slice_index}
-use Rattle.su_index.specs.inside.Order.{rank_of}
+use Rattle.su_index.specs.inside.Spans.{rank_of}
 use Rattle.su_index.proofs.keeping.ranks.Given as goal
 
 abbrev pub invariant-loop-mark : goal.invariant-loop-mark

@@ -1,5 +1,5 @@
 use Rattle.std.proofs.Common.{◌≡◌, ◌<◌, ◌^◌, take}
-use Rattle.su_index.specs.Lead.{lead_of_bytes}
+use Rattle.su_index.specs.inside.Lead.{lead_of_bytes}
 use Rattle.su_index.proofs.lead.of_bytes.Given as goal
 
 abbrev pub invariant-loop-byte : goal.invariant-loop-byte

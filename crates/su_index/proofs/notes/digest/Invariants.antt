@@ -1,5 +1,5 @@
 use Rattle.std.proofs.Common.{◌≡◌}
-use Rattle.su_index.specs.Notes.{digest_at}
+use Rattle.su_index.specs.inside.Notes.{digest_at}
 use Rattle.su_index.proofs.notes.digest.Given as goal
 
 abbrev pub invariant-loop-c : goal.invariant-loop-c

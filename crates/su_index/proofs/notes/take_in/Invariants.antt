@@ -1,5 +1,5 @@
 use Rattle.std.proofs.Common.{◌≡◌, ◌<◌, ◌++◌, ◌∷◌, [], ℕ, length, slice_index_or}
-use Rattle.su_index.specs.Notes.{AreNotes, AllAreNotes}
+use Rattle.su_index.specs.inside.Notes.{AreNotes, AllAreNotes}
 use Rattle.su_index.specs.declared.notes.Notes.{Notes}
 use Rattle.su_index.proofs.notes.take_in.Given as goal
 

@@ -2,7 +2,7 @@
 use Rattle.std.proofs.Common.{◌≡◌, arith, sym, ◌∙◌}
 use Rattle.std.specs.Ordering.{nat_cmp}
 use Rattle.std.proofs.lemmas.Bool.Decides.{nat_tests}
-use Rattle.su_index.specs.Order.{value_at}
+use Rattle.su_index.specs.inside.Order.{value_at}
 use Rattle.su_index.proofs.Leads.{lead_tells, lead_tied}
 use Rattle.su_index.proofs.order.is_before.Goals as goal
 

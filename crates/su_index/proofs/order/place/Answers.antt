@@ -1,7 +1,7 @@
 -- A binary search: the entries below `low` come before the value and none from `high` on does, as the order of the run carries the answer at the middle to one side.
 use Rattle.std.proofs.Common.{◌+◌, ◌-◌, ◌/◌, true, false, arith, length}
 use Rattle.su_index.specs.Entries.{positions}
-use Rattle.su_index.specs.Order.{value_at}
+use Rattle.su_index.specs.inside.Order.{value_at}
 use Rattle.su_index.proofs.Entries.{positions_length, position_within, before_at}
 use Rattle.su_index.proofs.Search.{comes_before-below, comes_before-above}
 use Rattle.su_index.proofs.order.place.Goals as goal

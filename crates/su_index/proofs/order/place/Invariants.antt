@@ -1,5 +1,5 @@
 use Rattle.std.proofs.Common.{◌≤◌, ◌-◌, length}
-use Rattle.su_index.specs.Order.{value_at}
+use Rattle.su_index.specs.inside.Order.{value_at}
 use Rattle.su_index.specs.inside.Searches.{AreBefore, NoneBefore}
 use Rattle.su_index.proofs.order.place.Given as goal
 

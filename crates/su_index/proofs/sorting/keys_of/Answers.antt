@@ -2,8 +2,8 @@
 use Rattle.std.proofs.Common.{◌≡◌, ◌++◌, ◌∷◌, [], arith, ap, length, refl}
 use Rattle.std.proofs.lemmas.List.{length_push}
 use Rattle.std.proofs.lemmas.List.Elements.{All-push}
-use Rattle.su_index.specs.Lead.{IsLead}
-use Rattle.su_index.specs.Order.{value_at}
+use Rattle.su_index.specs.inside.Lead.{IsLead}
+use Rattle.su_index.specs.inside.Order.{value_at}
 use Rattle.su_index.specs.inside.Keys.{Key}
 use Rattle.su_index.proofs.Keys.{each_pushed}
 use Rattle.su_index.proofs.sorting.keys_of.Goals as goal

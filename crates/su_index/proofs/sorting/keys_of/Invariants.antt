@@ -1,7 +1,7 @@
 use Rattle.std.proofs.Common.{◌≡◌, ◌+◌, All, length}
-use Rattle.su_index.specs.Lead.{IsLead}
+use Rattle.su_index.specs.inside.Lead.{IsLead}
 use Rattle.su_index.specs.inside.Keys.{AreEachOnce}
-use Rattle.su_index.specs.Order.{value_at}
+use Rattle.su_index.specs.inside.Order.{value_at}
 use Rattle.su_index.proofs.sorting.keys_of.Given as goal
 
 abbrev pub invariant-loop-position : goal.invariant-loop-position

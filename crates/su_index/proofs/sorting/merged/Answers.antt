@@ -3,9 +3,9 @@ use Rattle.std.proofs.Common.{◌≡◌, ◌<◌, ◌++◌, ◌∷◌, [], arith
 use Rattle.std.proofs.lemmas.List.{take_rest, get_or_default}
 use Rattle.std.proofs.lemmas.List.Elements.{All-drop}
 use Rattle.su_index.specs.declared.entry.Entry.{Entry}
-use Rattle.su_index.specs.Lead.{IsLead}
+use Rattle.su_index.specs.inside.Lead.{IsLead}
 use Rattle.su_index.specs.Entries.{positions}
-use Rattle.su_index.specs.Order.{value_at, compare_places}
+use Rattle.su_index.specs.inside.Order.{value_at, compare_places}
 use Rattle.su_index.proofs.Runs.{sorted-drop}
 use Rattle.su_index.proofs.Spans.{run_positions}
 use Rattle.su_index.proofs.Entries.{positions_length, at_position, positions-drop, merge_entries_none, merge_entries_step, merge_entries_end}

@@ -1,4 +1,4 @@
-use Rattle.su_index.specs.Order.{value_at}
+use Rattle.su_index.specs.inside.Order.{value_at}
 use Rattle.su_index.proofs.Entries.{MergingEntries}
 use Rattle.su_index.proofs.sorting.merged.Given as goal
 

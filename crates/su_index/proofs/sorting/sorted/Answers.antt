@@ -1,6 +1,6 @@
 -- Leads are in the order of the values, so sorted keys are in the order of values and positions.
 use Rattle.std.proofs.Common.{length}
-use Rattle.su_index.specs.Order.{value_at}
+use Rattle.su_index.specs.inside.Order.{value_at}
 use Rattle.su_index.proofs.Entries.{run_with-sorted}
 use Rattle.su_index.proofs.sorting.sorted.Goals as goal
 

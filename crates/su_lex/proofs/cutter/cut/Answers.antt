@@ -17,13 +17,13 @@ loop-rest-preserved c =
       within = omega (arith, piece.within, c.loop-rest.invariant.within, ap length c.after_cut-rest.ensures, length-drop 1 r);
       before = λ more ps.
           let behind = subst (λ (v : List ℕ). PiecesAt total v more) c.after_cut-rest.ensures ps in
-          rw (c.in_ok-push_if.ensures, added_append)
+          rw (c.in_ok-push_statement.ensures, added_append)
           (c.loop-rest.invariant.before (added here more) (piece_before total s r here more piece.behind piece.ends c.statement.ensures behind));
       only = λ all a.
           let m = c.loop-rest.invariant.only all a in
           let p = piece_behind total s r here m.0 piece.behind piece.ends c.statement.ensures m.2 in (
             p.more,
-            m.1 ∙ ap (λ v. c.loop-rest.spans ++ v) p.all_is ∙ sym (added_append c.loop-rest.spans p.more here) ∙ ap (λ v. v ++ p.more) (sym c.in_ok-push_if.ensures),
+            m.1 ∙ ap (λ v. c.loop-rest.spans ++ v) p.all_is ∙ sym (added_append c.loop-rest.spans p.more here) ∙ ap (λ v. v ++ p.more) (sym c.in_ok-push_statement.ensures),
             subst (λ (v : List ℕ). PiecesAt total v p.more) (sym c.after_cut-rest.ensures) p.behind,
           );
     }

@@ -12,8 +12,8 @@ returns-then-not-all_digits-clause-none c =
     let h = rw (take_rest, n) at c.if-not-all_digits.ensures in
     λ _. number_no_digits _ c.requires (sym h)
 
-pub value_of-requires : goal.value_of-requires
-value_of-requires c =
+pub numeral_value-requires : goal.numeral_value-requires
+numeral_value-requires c =
     let n = rw take_rest at c.word_bytes-n.ensures.count in
     let h = rw (take_rest, n) at c.if-not-all_digits.ensures in
     rw n (number_numeral c.args.text.now c.requires (sym h))

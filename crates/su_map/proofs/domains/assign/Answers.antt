@@ -1,7 +1,7 @@
 -- A choice that sends the row to the target keeps the targets that agree with it, so no choice is lost where a domain is cut to them; an empty domain shows that there is none.
 use Rattle.std.proofs.Common.{◌≡◌, ◌≢◌, ◌<◌, ◌∙◌, ℕ, length, length-set, get_or, set, inl, inr, refl, sym, ap, subst, ⊎_elim, arith, get_or-set_other, get_or-set_same}
 use Rattle.std.specs.Int.{bit_at}
-use Rattle.su_map.specs.Netted.{agree_of}
+use Rattle.su_map.specs.inside.Netted.{agree_of}
 use Rattle.std.proofs.lemmas.Bool.{cases_eq}
 use Rattle.su_map.specs.inside.Choices.{IsChoice}
 use Rattle.su_map.proofs.Members.{no_member, without_in}

@@ -1,6 +1,6 @@
 use Rattle.std.proofs.Common.{◌≡◌, ◌≢◌, ℕ, ◌<◌, length, get_or}
 use Rattle.std.specs.Int.{bit_at}
-use Rattle.su_map.specs.Netted.{near_of}
+use Rattle.su_map.specs.inside.Netted.{near_of}
 use Rattle.su_map.specs.inside.Choices.{IsChoice, Shrinks}
 use Rattle.su_map.proofs.domains.revise.Given as goal
 

@@ -1,6 +1,6 @@
 use Rattle.std.proofs.Common.{◌≡◌, ℕ, ◌⊎◌}
 use Rattle.std.specs.Int.{bit_at}
-use Rattle.su_map.specs.Netted.{agree_of}
+use Rattle.su_map.specs.inside.Netted.{agree_of}
 use Rattle.su_map.proofs.domains.supported.Given as goal
 
 abbrev pub invariant-loop : goal.invariant-loop

@@ -2,7 +2,7 @@
 use Rattle.std.proofs.Common.{◌≡◌, ◌↔◌, ◌∙◌, ℕ, get_or, sym, ap, subst, true≢false, arith}
 use borrow.Author.Count.{below_more}
 use Rattle.std.specs.Int.{bit_at}
-use Rattle.su_map.specs.Netted.{base_of}
+use Rattle.su_map.specs.inside.Netted.{base_of}
 use Rattle.su_map.proofs.Members.{set_entries, no_member}
 use Rattle.su_map.proofs.rooms.begin.Goals as goal
 use Rattle.su_map.proofs.rooms.begin.Goals.{then-has+else-left-eq0, else-has}

@@ -1,6 +1,6 @@
 use Rattle.std.proofs.Common.{◌≡◌, ℕ, ◌<◌, ◌↔◌, get_or}
 use Rattle.std.specs.Int.{bit_at}
-use Rattle.su_map.specs.Netted.{base_of}
+use Rattle.su_map.specs.inside.Netted.{base_of}
 use Rattle.su_map.proofs.rooms.begin.Given as goal
 
 abbrev pub invariant-loop-r : goal.invariant-loop-r

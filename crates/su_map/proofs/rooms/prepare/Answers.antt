@@ -1,6 +1,7 @@
 -- A room for so many rows has room for fewer, in its net as in its notes, so the tableau's own number of rows fits.
 use Rattle.std.proofs.Common.{◌≤◌, length, ap, arith}
-use Rattle.su_map.specs.Rooms.{Space}
+use Rattle.su_map.specs.Rooms.{Space, IsPreparedFor}
+use Rattle.su_map.proofs.FoundMappings.{own_net}
 use Rattle.su_map.proofs.ShrunkDomains.{less_room}
 use Rattle.su_map.proofs.Roomy.{less_roomy}
 use Rattle.su_map.proofs.rooms.prepare.Goals as goal
@@ -34,3 +35,7 @@ invariant_of-room c =
       choice_room = inv.choice_room;
       count_in = inv.count_in;
     }
+
+pub returns-clause-prepared : goal.returns-clause-prepared
+unfolding IsPreparedFor
+returns-clause-prepared c = λ yes. own_net c.args.from.now c.args.to.now c.args.from_mask c.args.to_mask _ (c.fill.ensures.net yes)

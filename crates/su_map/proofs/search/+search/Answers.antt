@@ -3,7 +3,7 @@ use Rattle.std.proofs.Common.{◌≡◌, ◌≢◌, ◌⊎◌, ◌+◌, ◌*◌,
 use Rattle.std.specs.Int.{bit_at}
 use Rattle.su_map.specs.declared.search.Order.TheVariants.{Ascending}
 use Rattle.su_map.specs.Lists.{numbers_of}
-use Rattle.su_map.specs.Netted.{HasRoom}
+use Rattle.su_map.specs.inside.Netted.{HasRoom}
 use Rattle.su_map.specs.inside.Choices.{IsChoice, AreSame, IsLess, choice_of, Stands, IsInOrder, AreKept, tries, ArePassed}
 use Rattle.su_map.proofs.SearchCosts.{le_at, cost_later, cost_tried, cost_all}
 use Rattle.su_map.proofs.Members.{without_in}
@@ -101,10 +101,12 @@ returns-then-search-clause-cost g t c = λ passes all asc.
     let len : length next ≡ n = omega (arith, c.descend.auto.next, c.split_at_mut-next.ensures.front_len) in
     let targets = net.targets in
     let new = c.search.new.steps in
-    let rec = subst (λ k. new ≤ c.tick.new.self + tries passes targets k rest) len (c.search.ensures.cost passes (subst (λ k. ArePassed net k m passes) (sym len) all) asc) in
+    let shrinks = (c.descend.ensures.left c.if-descend.true).shrinks in
+    let fewer : ArePassed next n m passes = λ r x hr br h. all r x hr br (shrinks r x hr h) in
+    let rec = subst (λ k. new ≤ c.tick.new.self + tries passes targets k rest) len (c.search.ensures.cost passes (subst (λ k. ArePassed next k m passes) (sym len) fewer) asc) in
     let call : new ≤ c.loop-left.steps + 1 + tries passes targets n rest = let one = c.tick.ensures in omega arith in
     let in_domain = c.loop-left.invariant.within target c.lowest-target.ensures.member in
-    let pass = all row target at.0 at.1 (c.requires.stands.based row target at.0 at.1 in_domain) in
+    let pass = all row target at.0 at.1 in_domain in
     let below = c.requires.targets row target at.0 at.1 in_domain in
     let before = cost_later (passes row) c.loop-left.invariant.past target c.args.steps.now c.loop-left.steps (tries passes targets n rest) (c.loop-left.invariant.later target c.lowest-target.ensures.member) (c.loop-left.invariant.cost passes all asc) in
     cost_all passes targets n todo rest row (target + 1) c.args.steps.now new (omega (arith, below)) at.0 one out same (c.next_row-row.ensures.least asc)
@@ -147,10 +149,10 @@ loop-left-preserved g t c =
     let ne : x ≢ target = λ e. absurd (let z = ap (bit_at fewer) e ∙ c.without-later.ensures.out in omega arith) in
     omega (arith, l, ne) in
     let still = λ (other : ℕ → ℕ) (ch : IsChoice net n m domains other) (ne : other row ≢ target). c.without-later.ensures.same (other row) ne ∙ i.passed other ch in
-    let before = λ (passes : ℕ → ℕ → Bool) (all : ArePassed net n m passes) (asc : c.args.aim.now.order ≡ Ascending). cost_later (passes row) i.past target start now (tries passes targets n rest) (i.later target c.lowest-target.ensures.member) (i.cost passes all asc) in
+    let before = λ (passes : ℕ → ℕ → Bool) (all : ArePassed domains n m passes) (asc : c.args.aim.now.order ≡ Ascending). cost_later (passes row) i.past target start now (tries passes targets n rest) (i.later target c.lowest-target.ensures.member) (i.cost passes all asc) in
     let next = c.descend.new.next in
     let len : length next ≡ n = omega (arith, c.descend.auto.next, c.split_at_mut-next.ensures.front_len) in
-    let pass = λ (passes : ℕ → ℕ → Bool) (all : ArePassed net n m passes). all row target at.0 at.1 (c.requires.stands.based row target at.0 at.1 in_domain) in
+    let pass = λ (passes : ℕ → ℕ → Bool) (all : ArePassed domains n m passes). all row target at.0 at.1 in_domain in
     elim c.else-descend.branch [
       | else-descend-via-then-descend+else-search w ↦ record {
         kept = λ r hr br z. ap (λ l. choice_of l r) w.choice-is ∙ kept_deeper net n m todo rest row target domains next list old out same one low kept w.search.new.choice (subst (λ k. AreKept k m rest (choice_of (set list row target)) (choice_of w.search.new.choice)) len w.search.ensures.kept) r hr br z;
@@ -161,7 +163,9 @@ loop-left-preserved g t c =
         later = later;
         cost = λ passes all asc.
             let new = w.search.new.steps in
-            let rec = subst (λ k. new ≤ c.tick.new.self + tries passes targets k rest) len (w.search.ensures.cost passes (subst (λ k. ArePassed net k m passes) (sym len) all) asc) in
+            let shrinks = (c.descend.ensures.left w.if-descend.true).shrinks in
+            let fewer : ArePassed next n m passes = λ r x hr br h. all r x hr br (shrinks r x hr h) in
+            let rec = subst (λ k. new ≤ c.tick.new.self + tries passes targets k rest) len (w.search.ensures.cost passes (subst (λ k. ArePassed next k m passes) (sym len) fewer) asc) in
             let call : new ≤ now + 1 + tries passes targets n rest = let one = c.tick.ensures in omega arith in
             le_at _ _ _ w.steps-is (cost_tried (passes row) target start now new (tries passes targets n rest) (pass passes all) (before passes all asc) call);
       }

@@ -20,5 +20,5 @@ invariant-loop-left g l = record {
   past : ℕ;
   few : past ≤ l.aim.net.now.targets;
   later : (x : ℕ) → bit_at l.left x ≡ 1 → past ≤ x;
-  cost : (passes : ℕ → ℕ → Bool) → ArePassed l.aim.net.now (length l.domains) l.aim.mask passes → l.aim.order ≡ Ascending → l.steps ≤ l.initial.steps + count_below (passes l.row) past * suc (tries passes l.aim.net.now.targets (length l.domains) l.rest);
+  cost : (passes : ℕ → ℕ → Bool) → ArePassed l.domains (length l.domains) l.aim.mask passes → l.aim.order ≡ Ascending → l.steps ≤ l.initial.steps + count_below (passes l.row) past * suc (tries passes l.aim.net.now.targets (length l.domains) l.rest);
 }

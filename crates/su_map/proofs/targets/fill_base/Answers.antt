@@ -2,7 +2,7 @@
 use Rattle.std.proofs.Common.{◌≡◌, ◌<◌, ◌↔◌, ℕ, length, get_or, sym, ◌∙◌, subst, true≢false, arith}
 use borrow.Author.Count.{below_more}
 use Rattle.std.specs.Int.{bit_at}
-use Rattle.su_map.specs.Netted.{IsTarget}
+use Rattle.su_map.specs.inside.Netted.{IsTarget}
 use Rattle.su_map.proofs.Members.{set_entries}
 use Rattle.su_map.proofs.targets.fill_base.Goals as goal
 use Rattle.su_map.proofs.targets.fill_base.Goals.{then-has+else-targets-eq0, else-has}

@@ -1,6 +1,6 @@
 use Rattle.std.proofs.Common.{◌≡◌, ℕ, ◌<◌, ◌↔◌, length, get_or}
 use Rattle.std.specs.Int.{bit_at}
-use Rattle.su_map.specs.Netted.{IsTarget}
+use Rattle.su_map.specs.inside.Netted.{IsTarget}
 use Rattle.su_map.proofs.targets.fill_base.Given as goal
 
 abbrev pub invariant-loop-row : goal.invariant-loop-row

@@ -1,9 +1,9 @@
--- Rows are left out from the last to the first wherever the tableau still maps into the rest, which gives the least set; the net of all rows serves each of these searches.
+-- Rows are left out from the last to the first wherever the tableau still maps into the rest, which gives the least set; a room that is prepared for all rows serves each of these searches.
 use Rattle.std.proofs.Common.{◌≡◌, ◌-◌, ◌^◌, ◌∙◌, suc, refl, sym, ap, subst, arith}
-use Rattle.su_map.specs.Nets.{IsNet}
+use Rattle.su_map.specs.Rooms.{IsPreparedFor}
 use Rattle.su_min.proofs.Parts.{maps_sub}
 use Rattle.su_min.proofs.Greedy.{IsGreedy, greedy_start, greedy_drop, greedy_keep, greedy_end}
-use Rattle.su_min.proofs.KeptRows.{Fits, fits_all, has_net, net_for, full_is, fits_fewer, none_fewer, kept_from}
+use Rattle.su_min.proofs.KeptRows.{Fits, fits_all, is_prepared, prepared_for, full_is, fits_fewer, none_fewer, kept_from}
 use Rattle.su_min.proofs.kept.kept_mask.Goals as goal
 
 pub loop-i-init : goal.loop-i-init
@@ -13,7 +13,7 @@ loop-i-init g c =
     let e = c.full-all.ensures ∙ ap (λ n. 2 ^ n) c.row_count.ensures.is in
     record {
       sizes = record { rows = refl; symbols = refl };
-      prepared = has_net t all c.prepare.new.room.net c.prepare.result e c.prepare.ensures.prepared c.prepare.ensures.none;
+      prepared = is_prepared t all c.prepare.new.room c.prepare.result e c.prepare.ensures.prepared c.prepare.ensures.none;
       small = omega arith;
       greedy = greedy_start (Fits t) (maps_sub t) c.row_count-i.result all (e ∙ ap (λ n. 2 ^ n) (sym rows)) (fits_all t all e);
     }
@@ -23,7 +23,7 @@ exists_prepared-requires-clause-prepared g c =
     let all = c.full-all.result in
     let e = c.full-all.ensures ∙ ap (λ n. 2 ^ n) c.row_count.ensures.is in
     let small = c.loop-i.invariant.small in
-    net_for c.args.t.now all c.loop-i.kept (c.loop-i.kept - c.bit.result) c.loop-i.room.net e c.loop-i.invariant.prepared small (omega arith)
+    prepared_for c.args.t.now all c.loop-i.kept (c.loop-i.kept - c.bit.result) c.loop-i.room e c.loop-i.invariant.prepared small (omega arith)
 
 pub loop-i-preserved-then-exists_prepared : goal.loop-i-preserved-then-exists_prepared
 loop-i-preserved-then-exists_prepared g c =
@@ -37,7 +37,7 @@ loop-i-preserved-then-exists_prepared g c =
     let f = fits_fewer t kept (kept - c.bit.result) c.exists_prepared.new.room.list c.loop-i.invariant.greedy.holds (c.exists_prepared.ensures.found c.if-exists_prepared.true) in
     record {
       sizes = record { rows = s.rows ∙ r.rows; symbols = s.symbols ∙ r.symbols };
-      prepared = subst (IsNet t all t all) (sym c.exists_prepared.ensures.prepared) c.loop-i.invariant.prepared;
+      prepared = c.exists_prepared.ensures.prepared t all t all c.loop-i.invariant.prepared;
       small = omega arith;
       greedy = subst (IsGreedy (Fits t) (c.loop-i.i - 1)) (sym w)
           (greedy_drop (Fits t) (maps_sub t) (c.loop-i.i - 1) kept (subst (λ i. IsGreedy (Fits t) i kept) e c.loop-i.invariant.greedy) (subst (Fits t) w f));
@@ -54,7 +54,7 @@ loop-i-preserved g c =
     let w : kept - 2 ^ (c.loop-i.i - 1) ≡ kept - c.bit.result = ap (λ b. kept - b) (sym c.bit.ensures) in
     record {
       sizes = record { rows = s.rows ∙ r.rows; symbols = s.symbols ∙ r.symbols };
-      prepared = subst (IsNet t all t all) (sym c.exists_prepared.ensures.prepared) c.loop-i.invariant.prepared;
+      prepared = c.exists_prepared.ensures.prepared t all t all c.loop-i.invariant.prepared;
       small = omega arith;
       greedy = greedy_keep (Fits t) (maps_sub t) (c.loop-i.i - 1) kept (subst (λ i. IsGreedy (Fits t) i kept) e c.loop-i.invariant.greedy)
           (λ f. none_fewer t kept (kept - c.bit.result) (c.exists_prepared.ensures.none.0 c.if-exists_prepared.false) (subst (Fits t) w f));
@@ -69,4 +69,4 @@ pub returns-clause-prepared : goal.returns-clause-prepared
 returns-clause-prepared g c =
     let t = c.args.t.now in
     let e = c.full-all.ensures ∙ ap (λ n. 2 ^ n) c.row_count.ensures.is in
-    subst (λ a. IsNet t a t a c.loop-i.room.net) (full_is t c.full-all.result e) c.loop-i.invariant.prepared
+    subst (λ a. IsPreparedFor t a t a c.loop-i.room) (full_is t c.full-all.result e) c.loop-i.invariant.prepared

@@ -1,8 +1,8 @@
--- The net filled for all rows serves for fewer targets, and a fold of all rows into the kept ones is among its mappings; so the first one found is the fold.
+-- A room that is prepared for all rows serves for fewer targets, and a fold of all rows into the kept ones is among its mappings; so the first one found is the fold.
 use Rattle.std.proofs.Common.{◌^◌, ◌∙◌, sym, ap, subst, arith}
-use Rattle.su_map.specs.Nets.{IsNet}
+use Rattle.su_map.specs.Rooms.{IsPreparedFor}
 use Rattle.su_min.specs.Kept.{IsFold}
-use Rattle.su_min.proofs.KeptRows.{fold_from, full_is, kept_within, net_for}
+use Rattle.su_min.proofs.KeptRows.{fold_from, full_is, kept_within, prepared_for}
 use Rattle.su_min.proofs.minimal.kept_and_fold.Goals as goal
 
 pub first_prepared-requires-clause-prepared : goal.first_prepared-requires-clause-prepared
@@ -11,10 +11,10 @@ first_prepared-requires-clause-prepared g c =
     let all = c.full.result in
     let e = c.full.ensures ∙ ap (λ n. 2 ^ n) c.row_count-2.ensures.is in
     let mask = c.kept_mask-mask.result in
-    let net = c.kept_mask-mask.new.room.net in
-    let is = subst (λ a. IsNet t a t a net) (sym (full_is t all e)) c.kept_mask-mask.ensures.prepared in
+    let room = c.kept_mask-mask.new.room in
+    let is = subst (λ a. IsPreparedFor t a t a room) (sym (full_is t all e)) c.kept_mask-mask.ensures.prepared in
     let w = kept_within t mask c.kept_mask-mask.ensures.kept in
-    net_for t all all mask net e is (omega arith) (omega arith)
+    prepared_for t all all mask room e is (omega arith) (omega arith)
 
 pub returns : goal.returns
 returns g c =

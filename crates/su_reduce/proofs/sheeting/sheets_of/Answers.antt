@@ -34,7 +34,7 @@ returns c =
     let same : c.loop-edge.edge-index ≡ length c.args.edges.now = omega (arith, done, end) in
     record {
       values = c.loop-edge.codes;
-      apart = c.apart.ensures;
+      apart = c.keeps_its_rules.ensures;
       same_length = c.loop-edge.invariant.long ∙ same;
       each = λ i l. c.loop-edge.invariant.each i (omega (arith, l, same));
     }

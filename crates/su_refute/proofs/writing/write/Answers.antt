@@ -1,5 +1,6 @@
 -- What is written is the front and the lines of the terms so far, numbered from 0.
-use Rattle.su_refute.proofs.Texts.{front_text, terms_next}
+use Rattle.su_refute.specs.inside.Fronts.{front_text}
+use Rattle.su_refute.proofs.Texts.{terms_next}
 use Rattle.su_refute.proofs.writing.write.Goals as goal
 
 pub loop-i-preserved : goal.loop-i-preserved

@@ -1,7 +1,8 @@
 -- The copied entries show the first objects so far, each with the set of its links; as the names are distinct, the next one is no key yet and comes at the end.
 use Rattle.std.proofs.Common.{◌≡◌, ◌+◌, Some, map, take, slice_get, refl, sym, ◌∙◌}
 use Rattle.std.proofs.lemmas.Option.{slice_get-map}
-use Rattle.su_schema.specs.Shown.{shown_object, HasItsSet}
+use Rattle.su_schema.specs.Shown.{shown_object}
+use Rattle.su_schema.specs.inside.Kept.{HasItsSet}
 use Rattle.std.proofs.lemmas.List.Elements.{All-push}
 use Rattle.su_schema.proofs.Entries.{All-at}
 use Rattle.su_schema.proofs.Copied.{copied_more, copied_last}

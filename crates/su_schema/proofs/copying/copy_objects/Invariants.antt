@@ -1,5 +1,6 @@
 use Rattle.std.proofs.Common.{◌≡◌, All, map, take}
-use Rattle.su_schema.specs.Shown.{shown_object, HasItsSet}
+use Rattle.su_schema.specs.Shown.{shown_object}
+use Rattle.su_schema.specs.inside.Kept.{HasItsSet}
 use Rattle.su_schema.proofs.copying.copy_objects.Given as goal
 
 abbrev pub invariant-loop-o : goal.invariant-loop-o

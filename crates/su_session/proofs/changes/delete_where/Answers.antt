@@ -2,6 +2,7 @@
 use Rattle.std.proofs.Common.{inl, inr, sym, ◌∙◌}
 use Rattle.std.proofs.lemmas.Result.{IfOk-weaker}
 use Rattle.su_show.specs.declared.statement_refusal.Refusal.TheVariants.{Query}
+use Rattle.su_show.proofs.RefusalLines.{query_told}
 use Rattle.su_session.specs.Outcomes.{Refuses}
 use Rattle.su_session.specs.RowStatements.{InRelation, DeletesRows}
 use Rattle.su_session.proofs.ChangeReplies.{deleted_rows}
@@ -13,7 +14,7 @@ returns-in-Err-clause-replied c =
     let r = c.in-Some.relation in
     let fault = c.in-Err.fault in
     IfOk-weaker c.refused.result (λ reply. Refuses old (Query fault) reply old) (λ reply. InRelation old c.args.name.now reply old (DeletesRows old c.args.cond.now reply old))
-    (λ reply h. inr (r, sym c.known.ensures ∙ c.in-Some.is, inl (fault, elim (rw c.schema.ensures at c.in-Err.ensures.refused) [ inl memory ↦ absurd (h.line.0 memory) | inr is ↦ is ], h)))
+    (λ reply h. inr (r, sym c.known.ensures ∙ c.in-Some.is, inl (fault, elim (rw c.schema.ensures at c.in-Err.ensures.refused) [ inl memory ↦ absurd (query_told old.schema reply.bytes fault h.line memory) | inr is ↦ is ], h)))
     c.refused.ensures
 
 pub returns-clause-replied : goal.returns-clause-replied

@@ -4,6 +4,7 @@ use Rattle.std.proofs.lemmas.Result.{IfOk-weaker}
 use Rattle.su_state.specs.declared.faults.LoadEnd.TheVariants.{Refused}
 use Rattle.su_state.specs.Loads.{Loads}
 use Rattle.su_show.specs.declared.statement_refusal.Refusal.TheVariants.{Csv, Record}
+use Rattle.su_show.proofs.RefusalLines.{csv_told}
 use Rattle.su_session.specs.Outcomes.{Refuses}
 use Rattle.su_session.specs.RowStatements.{InRelation, LoadsRows}
 use Rattle.su_session.proofs.ChangeReplies.{refused_file, refused_load, loaded_rows, same_schema}
@@ -15,7 +16,7 @@ returns-in-Err-clause-replied c =
     let r = c.in-Some.relation in
     let fault = c.in-Err.fault in
     IfOk-weaker c.refused.result (λ reply. Refuses old (Csv r fault) reply old) (λ reply. InRelation old c.args.name.now reply old (LoadsRows old c.args.file.now reply old))
-    (λ reply h. refused_file old c.args.name.now reply r (sym c.known.ensures ∙ c.in-Some.is) c.args.file.now c.columns.result.now (rw c.schema.ensures at c.columns.ensures.at) fault (elim c.in-Err.ensures.fault [ inl memory ↦ absurd (h.line.0 memory) | inr is ↦ is ]) h)
+    (λ reply h. refused_file old c.args.name.now reply r (sym c.known.ensures ∙ c.in-Some.is) c.args.file.now c.columns.result.now (rw c.schema.ensures at c.columns.ensures.at) fault (elim c.in-Err.ensures.fault [ inl memory ↦ absurd (csv_told old.schema reply.bytes r fault h.line memory) | inr is ↦ is ]) h)
     c.refused.ensures
 
 pub returns-in-Ok-load-clause-replied : goal.returns-in-Ok-load-clause-replied

@@ -7,6 +7,7 @@ use Rattle.su_steps.specs.declared.results.Term.{Term}
 use Rattle.su_compare.specs.Comparable.{AreComparable}
 use Rattle.su_show.specs.declared.statement_refusal.Refusal.TheVariants.{Steps}
 use Rattle.su_show.specs.RefusalLines.{IsRefusalLine}
+use Rattle.su_show.proofs.RefusalLines.{step_told}
 use Rattle.su_session.specs.Outcomes.{Refuses}
 use Rattle.su_session.specs.Comparisons.{Compares}
 use Rattle.su_session.proofs.Compared.{AreTermsOf, comparable, refused_form, refused_terms, compared}
@@ -31,7 +32,7 @@ returns-in-Err-terms_of_both c =
     IfOk-weaker c.refused-in-Err-terms_of_both.result (λ reply. Refuses db (Steps fault) reply db) (λ reply. Compares db c.args.first.now c.args.second.now reply db)
     (λ reply h.
     refused_terms db c.args.first.now c.args.second.now reply c.schema-schema.result.now c.schema-schema.ensures c.args.maximal.now c.requires.maximal c.in-Ok.pair.first c.in-Ok.pair.second c.in-Ok.ensures.first.0 c.in-Ok.ensures.second.0 c.in-Ok.ensures.form
-    fault (elim c.in-Err-terms_of_both.ensures.refused [ inl memory ↦ absurd (h.line.0 memory) | inr is ↦ is ]) h)
+    fault (elim c.in-Err-terms_of_both.ensures.refused [ inl memory ↦ absurd (step_told db.schema reply.bytes fault h.line memory) | inr is ↦ is ]) h)
     c.refused-in-Err-terms_of_both.ensures
 
 pub within-requires : goal.within-requires

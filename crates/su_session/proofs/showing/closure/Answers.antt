@@ -2,9 +2,9 @@
 use Rattle.std.proofs.Common.{inl, inr}
 use Rattle.std.proofs.lemmas.Result.{IfOk-weaker}
 use Rattle.su_show.specs.declared.statement_refusal.Refusal.TheVariants.{Query}
+use Rattle.su_show.proofs.RefusalLines.{query_told}
 use Rattle.su_session.specs.Outcomes.{Refuses}
 use Rattle.su_session.specs.Statements.{ShowsClosure}
-use Rattle.su_session.proofs.NameRefusals.{name_refused}
 use Rattle.su_session.proofs.showing.closure.Goals as goal
 
 pub returns-in-Err : goal.returns-in-Err
@@ -13,4 +13,4 @@ returns-in-Err c =
     let names = c.args.names.now in
     let fault = c.in-Err.fault in
     IfOk-weaker c.refused.result (λ reply. Refuses db (Query fault) reply db) (λ reply. ShowsClosure db names reply db)
-    (λ reply h. inl (name_refused db db names reply fault h (elim (rw c.schema.ensures at c.in-Err.ensures.refused) [ inl memory ↦ absurd (h.line.0 memory) | inr is ↦ is ]))) c.refused.ensures
+    (λ reply h. inl (fault, elim (rw c.schema.ensures at c.in-Err.ensures.refused) [ inl memory ↦ absurd (query_told db.schema reply.bytes fault h.line memory) | inr is ↦ is ], h)) c.refused.ensures

@@ -11,9 +11,9 @@ use Rattle.su_show.specs.Replies.{rows_text}
 use Rattle.su_window.specs.declared.faults.WindowFault.TheVariants as window
 use Rattle.su_window.specs.Refusals.{IsWindowRefusal}
 use Rattle.su_show.specs.declared.statement_refusal.Refusal.TheVariants.{Query, WindowLimit, Inconsistent}
+use Rattle.su_show.proofs.RefusalLines.{query_told}
 use Rattle.su_session.specs.Outcomes.{Refuses}
 use Rattle.su_session.specs.Windows.{ShowsWindow}
-use Rattle.su_session.proofs.NameRefusals.{name_refused}
 use Rattle.su_session.proofs.windowing.show_window.Goals as goal
 
 pub returns-in-Ok-window : goal.returns-in-Ok-window
@@ -45,7 +45,7 @@ returns-in-Err c =
     let names = c.args.names.now in
     let fault = c.in-Err.fault in
     IfOk-weaker c.refused.result (λ reply. Refuses db (Query fault) reply db) (λ reply. ShowsWindow db names reply db)
-    (λ reply h. inl (name_refused db db names reply fault h (elim (rw c.schema.ensures at c.in-Err.ensures.refused) [ inl memory ↦ absurd (h.line.0 memory) | inr is ↦ is ]))) c.refused.ensures
+    (λ reply h. inl (fault, elim (rw c.schema.ensures at c.in-Err.ensures.refused) [ inl memory ↦ absurd (query_told db.schema reply.bytes fault h.line memory) | inr is ↦ is ], h)) c.refused.ensures
 
 pub returns-in-Err-Limit : goal.returns-in-Err-Limit
 returns-in-Err-Limit c =

@@ -3,7 +3,8 @@ use Rattle.std.proofs.Common.{◌≡◌, ◌++◌, List, get_or, ap, ◌∙◌}
 use Rattle.std.proofs.lemmas.List.{get_or_default}
 use Rattle.su_exec.specs.declared.tasks.TaskRow.{TaskRow}
 use Rattle.su_sql.specs.declared.cells.Cell.{Cell}
-use Rattle.su_sql.specs.Cells.{no_row, cells_in}
+use Rattle.su_exec.specs.Tasks.{no_row}
+use Rattle.su_sql.specs.Cells.{cells_in}
 use Rattle.su_sql.proofs.ImageLists.{flat_next}
 use Rattle.su_sql.proofs.cells.cells_of.Goals as goal
 

@@ -1,7 +1,7 @@
-use Rattle.std.proofs.Common.{◌<◌, ℕ, List}
-use Rattle.su_base.specs.declared.values.Value.{Value}
-use Rattle.su_state.specs.inside.RowBreaks.{BreaksWith}
+use Rattle.std.proofs.Common.{◌<◌, ℕ}
+use Rattle.su_state.specs.Breaches.{Breach, IsBreachWith}
+use Rattle.su_state.specs.inside.SomeBreaches.{OfDependency, ThroughObject}
 use Rattle.su_state.proofs.breaches.breach_of.Given as goal
 
 abbrev pub invariant-loop-object : goal.invariant-loop-object
-invariant-loop-object l = (o : ℕ) → o < l.object → (other : List Value) → ¬ BreaksWith l.schema l.relation l.table.rows l.row l.fd o other
+invariant-loop-object l = (o : ℕ) → o < l.object → (b : Breach) → ¬ ThroughObject o (OfDependency l.fd (IsBreachWith l.schema l.relation l.table.rows l.row)) b

@@ -1,16 +1,19 @@
--- The table of the object's relation has that relation's columns, so a least pair of clashing rows there is the least pair that breaks the dependency.
+-- The table of the object's relation has that relation's columns, so the least pair of clashing rows there is the first breach of the dependency through the object.
 use Rattle.std.proofs.Common.{◌≡◌, ◌<◌, ℕ, List, length, slice_get, get_or, Some, refl, sym, ap, subst, ◌∙◌, ◌++◌, [], append-nil, Contains, arith}
 use Rattle.std.proofs.lemmas.Bool.{OnTrue_at}
 use Rattle.std.proofs.lemmas.Option.{slice_get-get_or, slice_get_read}
 use Rattle.su_base.specs.declared.values.Value.{Value}
 use Rattle.su_schema.specs.SchemaValue.{ObjectEntry}
 use Rattle.su_schema.specs.Known.{columns_at}
+use Rattle.su_state.specs.Breaches.{Breach}
 use Rattle.su_state.specs.inside.Pairs.{IsLeastPair}
 use Rattle.su_state.specs.inside.Sides.{Clash, row_at}
-use Rattle.su_state.proofs.Columns.{columns_few, some_left, blank_object, object_on}
+use Rattle.su_schema.proofs.Entries.{blank_object}
+use Rattle.su_state.proofs.Columns.{columns_few, some_left, object_on}
 use Rattle.su_state.proofs.Filled.{short}
 use Rattle.su_state.proofs.Least.{row_there}
-use Rattle.su_state.proofs.BrokenDependency.{of_object, own_width, breaks_through, holds_through}
+use Rattle.su_state.proofs.BrokenDependency.{of_object}
+use Rattle.su_state.proofs.StoredBreaches.{own_width, told_is, none_stored, least_stored}
 use Rattle.su_state.proofs.defining.check_through.Goals as goal
 
 pub bounds-tables-object_relation : goal.bounds-tables-object_relation
@@ -54,7 +57,10 @@ returns-in_ok-copy_row-in-Some-least-2-clause-refused c =
     let pair : IsLeastPair c.in-Some.sides rows c.in_ok-copy_row-in-Some-least.field-0 c.in_ok-copy_row-in-Some-least-2.field-0 =
     subst (λ (row : List Value). IsLeastPair c.in-Some.sides rows row c.in_ok-copy_row-in-Some-least-2.field-0) first
     (subst (λ (row : List Value). IsLeastPair c.in-Some.sides rows (row_at rows c.in-Some-least.pair.first) row) second found.2) in
-    breaks_through c.args.schema.now c.args.tables.now c.args.fd c.args.object c.object_relation.result c.index-fds-fd.result entry c.index-tables-object_relation.result numbered placed c.requires.tables on c.index-tables-object_relation.is c.in-Some.sides c.in_ok-new-in-Some-least.field-0 c.in_ok-copy_row-in-Some-least.field-0 c.in_ok-copy_row-in-Some-least-2.field-0 (c.in-Some.ensures entry placed) named pair
+    let breach : Breach = record { dependency = c.args.fd; object = c.args.object; first = c.in_ok-copy_row-in-Some-least.field-0; second = c.in_ok-copy_row-in-Some-least-2.field-0 } in
+    let least = least_stored c.args.schema.now c.args.tables.now c.args.fd c.args.object c.object_relation.result c.index-fds-fd.result entry c.index-tables-object_relation.result numbered placed c.requires.tables on c.index-tables-object_relation.is c.in-Some.sides c.in_ok-copy_row-in-Some-least.field-0 c.in_ok-copy_row-in-Some-least-2.field-0 (c.in-Some.ensures entry placed) pair in
+    let told = told_is c.args.schema.now c.args.tables.now c.args.fd c.args.object c.index-fds-fd.result entry numbered placed c.in_ok-new-in-Some-least.field-0 c.in_ok-copy_row-in-Some-least.field-0 c.in_ok-copy_row-in-Some-least-2.field-0 named in
+    (breach, least, told)
 
 pub returns-in-None-clause-holds : goal.returns-in-None-clause-holds
 returns-in-None-clause-holds c =
@@ -63,7 +69,7 @@ returns-in-None-clause-holds c =
     let on : entry.relation ≡ c.object_relation.result = of_object (λ e. e.relation) c.args.schema.now.objects c.args.object entry c.object_relation.result placed c.object_relation.ensures in
     let numbered : slice_get c.args.schema.now.fds c.args.fd ≡ Some c.index-fds-fd.result = slice_get_read c.args.schema.now.fds (length c.args.schema.now.fds) c.args.fd c.index-fds-fd.result refl c.requires.fd (c.index-fds-fd.is ∙ ap (λ fds. get_or fds c.args.fd c.index-fds-fd.result) c.fds.ensures) in
     let none = rw c.in-None.is at c.in_ok-least.ensures in
-    holds_through c.args.schema.now c.args.tables.now c.args.fd c.args.object c.object_relation.result c.index-fds-fd.result entry c.index-tables-object_relation.result numbered placed c.requires.tables on c.index-tables-object_relation.is c.in-Some.sides (c.in-Some.ensures entry placed) none
+    none_stored c.args.schema.now c.args.tables.now c.args.fd c.args.object c.object_relation.result c.index-fds-fd.result entry c.index-tables-object_relation.result numbered placed c.requires.tables on c.index-tables-object_relation.is c.in-Some.sides (c.in-Some.ensures entry placed) none
 
 pub none_clash-requires-clause-stored : goal.none_clash-requires-clause-stored
 none_clash-requires-clause-stored c =
@@ -84,4 +90,4 @@ returns-then-branch-clause-holds c =
     let all : (row other : List Value) → Contains (c.as_slice.result.now ++ []) row → Contains (c.as_slice.result.now ++ []) other → ¬ Clash c.in-Some.sides row other = OnTrue_at c.if-branch.true c.in_ok-none_clash.ensures in
     let none : (row other : List Value) → Contains c.index-tables-object_relation.result.rows row → Contains c.index-tables-object_relation.result.rows other → ¬ Clash c.in-Some.sides row other =
     subst (λ (rs : List (List Value)). (row other : List Value) → Contains rs row → Contains rs other → ¬ Clash c.in-Some.sides row other) rows all in
-    holds_through c.args.schema.now c.args.tables.now c.args.fd c.args.object c.object_relation.result c.index-fds-fd.result entry c.index-tables-object_relation.result numbered placed c.requires.tables on c.index-tables-object_relation.is c.in-Some.sides (c.in-Some.ensures entry placed) none
+    none_stored c.args.schema.now c.args.tables.now c.args.fd c.args.object c.object_relation.result c.index-fds-fd.result entry c.index-tables-object_relation.result numbered placed c.requires.tables on c.index-tables-object_relation.is c.in-Some.sides (c.in-Some.ensures entry placed) none

@@ -4,7 +4,7 @@ use Rattle.std.proofs.lemmas.Bool.{OnTrue_at, OnTrue_from}
 use Rattle.std.proofs.lemmas.Option.{slice_get-get_or, slice_get_read}
 use Rattle.std.proofs.lemmas.Result.{IfOk-weaker}
 use Rattle.su_schema.specs.SchemaValue.{ObjectEntry}
-use Rattle.su_state.proofs.Columns.{blank_object}
+use Rattle.su_schema.proofs.Entries.{blank_object}
 use Rattle.su_state.proofs.Filled.{keeps_unclashing, keeps_not_enforced}
 use Rattle.su_state.proofs.filling.keep_through.Goals as goal
 

@@ -2,7 +2,7 @@
 use Rattle.std.proofs.Common.{◌∙◌, subst, sym, arith}
 use Rattle.std.proofs.lemmas.List.Elements.{All-more, All-same}
 use Rattle.std.proofs.lemmas.List.{take_all}
-use Rattle.su_state.specs.inside.RowBreaks.{BreaksNothing}
+use Rattle.su_state.specs.inside.SomeBreaches.{BreaksNothing}
 use Rattle.su_state.proofs.Filled.{none_found}
 use Rattle.su_state.proofs.filling.none_breaks.Goals as goal
 

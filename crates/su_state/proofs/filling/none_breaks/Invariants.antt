@@ -1,5 +1,5 @@
 use Rattle.std.proofs.Common.{All, take}
-use Rattle.su_state.specs.inside.RowBreaks.{BreaksNothing}
+use Rattle.su_state.specs.inside.SomeBreaches.{BreaksNothing}
 use Rattle.su_state.proofs.filling.none_breaks.Given as goal
 
 abbrev pub invariant-loop-row : goal.invariant-loop-row

@@ -3,7 +3,7 @@ use Rattle.std.proofs.Common.{◌≡◌, arith, slice_get, Some, get_or, subst, 
 use Rattle.std.proofs.lemmas.Option.{slice_get-get_or}
 use Rattle.su_schema.specs.SchemaValue.{ObjectEntry}
 use Rattle.su_state.proofs.BrokenDependency.{of_object}
-use Rattle.su_state.proofs.Columns.{blank_object}
+use Rattle.su_schema.proofs.Entries.{blank_object}
 use Rattle.su_state.proofs.noting.note_through.Goals as goal
 
 pub index_mut-requires : goal.index_mut-requires

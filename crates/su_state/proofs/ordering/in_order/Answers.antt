@@ -1,7 +1,7 @@
 -- Keys are in the order of their rows, since leads are in that of the first values; so rows that differ, read off sorted keys, are in strict order.
 use Rattle.std.proofs.Common.{◌≡◌}
 use Rattle.std.proofs.lemmas.Result.{IfOk-weaker}
-use Rattle.su_rel.specs.Stored.{AllDiffer}
+use Rattle.su_base.specs.Lists.{AllDiffer}
 use Rattle.su_state.specs.Changes.{AreInOrder}
 use Rattle.su_state.proofs.Keyed.{rows_of_keys, in_order_by_keys}
 use Rattle.su_state.proofs.ordering.in_order.Goals as goal

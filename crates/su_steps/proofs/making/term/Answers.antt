@@ -1,21 +1,10 @@
 -- The rows of a choice are few and typed, so that the tableau and its origins make a term; where the comparisons clash the choice has none.
-use Rattle.std.proofs.Common.{◌∙◌, ◌<◌, List, Option, MatchOption, length, sym, ap, subst, arith}
+use Rattle.std.proofs.Common.{◌∙◌, ◌<◌, length, sym, ap, subst, arith}
 use Rattle.std.specs.Prelude.{All}
-use Rattle.su_where.specs.declared.literals.Literal.{Literal}
-use Rattle.su_tableau.specs.Tableaux.{Tab}
-use Rattle.su_schema.specs.SchemaValue.{SchemaValue}
-use Rattle.su_query.specs.declared.resolving.Resolved.{Resolved}
-use Rattle.su_steps.specs.declared.results.Origin.{Origin}
-use Rattle.su_steps.specs.Objects.{width}
 use Rattle.su_steps.specs.Choices.{origins_of}
-use Rattle.su_steps.specs.PairSymbols.{comparisons}
-use Rattle.su_steps.specs.Cases.{HaveNone, HaveTableau}
+use Rattle.su_steps.specs.inside.Outs.{IsTableauIfAny}
 use Rattle.su_steps.proofs.Termed.{fit_rows, rows_shown, gives_none, gives_some}
 use Rattle.su_steps.proofs.making.term.Goals as goal
-
--- what the tableau's making gives
-abbrev Outcome : SchemaValue → Resolved → List Origin → List Literal → Option Tab → Type 0
-Outcome schema q os ls o = MatchOption o (HaveNone schema os (comparisons (width schema) q.places ls)) (HaveTableau schema q os (comparisons (width schema) q.places ls))
 
 pub origins-requires-clause-few : goal.origins-requires-clause-few
 origins-requires-clause-few c =
@@ -45,7 +34,7 @@ returns-in-Some-clause-term c =
     let own_is = c.in_ok-origins.ensures ∙ ap (origins_of c.args.question.now.schema.now c.args.question.now.maximal.now) c.as_slice.ensures in
     let os = c.as_slice-2.result.now in
     gives_some c.args.question.now.schema.now c.args.question.now.maximal.now c.args.question.now.resolved.now c.args.choice os (c.as_slice-2.ensures ∙ own_is) c.args.disjunct c.args.literals.now c.requires.disjunct c.in_ok-origins.origins own_is c.in-Some.tableau
-    (subst (Outcome c.args.question.now.schema.now c.args.question.now.resolved.now os c.args.literals.now) c.in-Some.is c.in_ok-tableau.ensures.tableau)
+    (subst (IsTableauIfAny c.args.question.now.schema.now c.args.question.now.resolved.now os c.args.literals.now) c.in-Some.is c.in_ok-tableau.ensures.tableau)
 
 pub returns-in-None-clause-ready : goal.returns-in-None-clause-ready
 returns-in-None-clause-ready c = c.in_ok-tableau.ensures.ready
@@ -55,4 +44,4 @@ returns-in-None-clause-term c =
     let own_is = c.in_ok-origins.ensures ∙ ap (origins_of c.args.question.now.schema.now c.args.question.now.maximal.now) c.as_slice.ensures in
     let os = c.as_slice-2.result.now in
     gives_none c.args.question.now.schema.now c.args.question.now.maximal.now c.args.question.now.resolved.now c.args.choice os (c.as_slice-2.ensures ∙ own_is) c.args.disjunct c.args.literals.now c.requires.disjunct
-    (subst (Outcome c.args.question.now.schema.now c.args.question.now.resolved.now os c.args.literals.now) c.in-None.is c.in_ok-tableau.ensures.tableau)
+    (subst (IsTableauIfAny c.args.question.now.schema.now c.args.question.now.resolved.now os c.args.literals.now) c.in-None.is c.in_ok-tableau.ensures.tableau)

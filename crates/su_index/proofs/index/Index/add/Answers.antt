@@ -1,7 +1,7 @@
 -- The last row's position is none of the index's, so with its entry put in the index has each position below the count once and in order.
 use Rattle.std.proofs.Common.{arith, length, sym}
-use Rattle.su_index.specs.Indexed.{entries_in}
-use Rattle.su_index.specs.Order.{value_at}
+use Rattle.su_index.specs.inside.Indexed.{entries_in}
+use Rattle.su_index.specs.inside.Order.{value_at}
 use Rattle.su_index.proofs.Changed.{positions_more, index_apart}
 use Rattle.su_index.proofs.Entries.{index_with-add}
 use Rattle.su_index.proofs.index.Index.add.Goals as goal

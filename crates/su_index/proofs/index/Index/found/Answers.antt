@@ -2,11 +2,10 @@
 use Rattle.std.proofs.Common.{◌≡◌, ◌+◌, ◌≤◌, ◌<◌, ◌∙◌, List, ℕ, length, take, drop, sym, ap, subst, arith}
 use Rattle.std.proofs.lemmas.List.{take_rest}
 use Rattle.su_index.specs.declared.chunk.Chunk.{Chunk}
-use Rattle.su_index.specs.Chunks.{entries_of}
+use Rattle.su_index.specs.Entries.{entries_of, positions, stretch}
 use Rattle.su_index.specs.inside.Chunks.{before_chunk, rank_in}
-use Rattle.su_index.specs.Entries.{positions, stretch}
 use Rattle.su_index.specs.Matches.{AreMatches}
-use Rattle.su_index.specs.Order.{value_at, IsIndex}
+use Rattle.su_index.specs.inside.Order.{value_at, IsIndex}
 use Rattle.su_index.proofs.Chunked.{later-length, stretch-later}
 use Rattle.su_index.proofs.Entries.{positions_length}
 use Rattle.su_index.proofs.Spans.{index_positions, AreMatches-span}

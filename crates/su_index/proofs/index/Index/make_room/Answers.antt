@@ -1,7 +1,7 @@
 -- Neither putting the chunks together anew nor splitting one changes the entries, so the index of the rows it was is the index that it is.
 use Rattle.std.proofs.Common.{◌≡◌, ◌∙◌, ap}
-use Rattle.su_index.specs.Chunks.{entries_of}
-use Rattle.su_index.specs.Indexed.{entries_in}
+use Rattle.su_index.specs.Entries.{entries_of}
+use Rattle.su_index.specs.inside.Indexed.{entries_in}
 use Rattle.su_index.proofs.index.Index.make_room.Goals as goal
 use Rattle.su_index.proofs.index.Index.make_room.Goals.{then-is_sparse+in_ok-run+in_ok-self, else-is_sparse}
 

@@ -1,9 +1,8 @@
 -- Each position has one entry: that of the row goes, and that of the last row takes its position; this leaves an index of the rows as they are with the last one moved.
 use Rattle.std.proofs.Common.{◌≡◌, ◌-◌, arith, length, sym}
-use Rattle.su_index.specs.Chunks.{entries_of}
-use Rattle.su_index.specs.Entries.{positions}
-use Rattle.su_index.specs.Indexed.{entries_in}
-use Rattle.su_index.specs.Order.{value_at}
+use Rattle.su_index.specs.Entries.{entries_of, positions}
+use Rattle.su_index.specs.inside.Indexed.{entries_in}
+use Rattle.su_index.specs.inside.Order.{value_at}
 use Rattle.su_index.proofs.Changed.{positions_more, positions_left, absent_left, there_left, there_once, index_once, with_value-other}
 use Rattle.su_index.proofs.Entries.{index_with-removed, index_with-same}
 use Rattle.su_index.proofs.index.Index.take_out.Goals as goal

@@ -4,7 +4,7 @@ use Rattle.std.specs.HashMap.{get}
 use Rattle.std.specs.Option.{is_some}
 use Rattle.std.proofs.lemmas.Bool.{false≢true}
 use Rattle.std.proofs.lemmas.List.Elements.{All-contains}
-use Rattle.su_index.specs.Notes.{digest_of, IsNoted}
+use Rattle.su_index.specs.inside.Notes.{digest_of, IsNoted}
 use Rattle.su_index.proofs.Digests.{digest-same}
 use Rattle.su_index.proofs.notes.Notes.tells.Goals as goal
 

@@ -1,6 +1,6 @@
 -- The indexes have room and the notes the row before it is put in; a new row stands at the end, so what they held is of the rows before it and they need only its entry.
 use Rattle.std.proofs.Common.{◌≡◌, ◌++◌, ◌∷◌, [], length, length-append, arith, ap, sym, ◌∙◌}
-use Rattle.su_index.specs.Notes.{AllAreNotes}
+use Rattle.su_index.specs.inside.Notes.{AllAreNotes}
 use Rattle.su_index.proofs.Chunked.{ok_holds}
 use Rattle.su_index.proofs.Whole.{indexes_first}
 use Rattle.su_index.proofs.tables.Table.insert.Goals as goal

@@ -4,8 +4,8 @@ use Rattle.std.specs.Int.{bit_at}
 use Rattle.std.specs.Vec.{with_items}
 use Rattle.std.proofs.lemmas.List.{with_items_is}
 use Rattle.su_tableau.specs.Tableaux.{AreVarsBelow}
-use Rattle.su_map.specs.Netted.{Netted, HasRoom}
-use Rattle.su_map.specs.Nets.{IsNet}
+use Rattle.su_map.specs.inside.Netted.{Netted, HasRoom}
+use Rattle.su_map.specs.inside.Nets.{IsNet}
 use Rattle.su_map.specs.inside.Sendings.{IsSending}
 use Rattle.su_map.specs.inside.Targets.{AreNoted, AreAlike, IsTold}
 use Rattle.su_map.proofs.Members.{no_member}

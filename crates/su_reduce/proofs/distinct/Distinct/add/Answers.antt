@@ -4,7 +4,8 @@ use Rattle.std.proofs.lemmas.Bool.{true≢false}
 use Rattle.std.proofs.lemmas.List.{get_or_default}
 use Rattle.std.proofs.lemmas.Nat.{mod_below}
 use Rattle.std.proofs.lemmas.List.Elements.{Contains-push, Contains-push_cases}
-use Rattle.su_reduce.specs.Chains.{IsHashed, hash_of}
+use Rattle.su_reduce.specs.inside.Hashed.{IsHashed}
+use Rattle.su_reduce.specs.Chains.{hash_of}
 use Rattle.su_reduce.specs.Sheets.{pick, Rows}
 use Rattle.su_reduce.proofs.HashedRows.{hashed_more}
 use Rattle.su_reduce.proofs.distinct.Distinct.add.Goals as goal

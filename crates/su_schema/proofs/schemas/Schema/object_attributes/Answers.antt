@@ -1,7 +1,7 @@
 -- By the invariant the set kept with an object is that of its links' attributes, which is what the schema shows of it.
 use Rattle.std.proofs.Common.{Some, ap, sym}
 use Rattle.std.proofs.lemmas.Option.{slice_get-map}
-use Rattle.su_schema.specs.Shown.{HasItsSet}
+use Rattle.su_schema.specs.inside.Kept.{HasItsSet}
 use Rattle.su_schema.proofs.Entries.{All-at}
 use Rattle.su_schema.proofs.schemas.Schema.object_attributes.Goals as goal
 

@@ -1,7 +1,8 @@
 -- Dependencies that hold on the stored rows hold on fewer of them, so the database stays well kept, and only the one table changes.
 use Rattle.std.proofs.Common.{◌≡◌, ◌<◌, ◌≤◌, length, Ok, subst, ◌∙◌, arith}
 use Rattle.std.proofs.lemmas.List.{get_or-set_same}
-use Rattle.su_rel.specs.Stored.{Stored, AllDiffer}
+use Rattle.su_base.specs.Lists.{AllDiffer}
+use Rattle.su_rel.specs.Stored.{Stored}
 use Rattle.su_state.specs.DatabaseValue.{DatabaseValue}
 use Rattle.su_state.specs.RowChanges.{Deletes}
 use Rattle.su_state.proofs.Kept.{with_table, has_table, columns_read, kept_without, deleted}

@@ -5,11 +5,11 @@ use Rattle.su_base.specs.declared.values.Value.{Value}
 use Rattle.su_rel.specs.Stored.{Stored}
 use Rattle.su_state.specs.DatabaseValue.{DatabaseValue, table_of, rows_of}
 use Rattle.su_state.specs.Enforced.{HoldsOn}
-use Rattle.su_state.specs.inside.RowBreaks.{BreaksFirst, BreaksNothing}
+use Rattle.su_state.specs.Breaches.{IsFirstOf, IsBreachWith}
+use Rattle.su_state.specs.inside.SomeBreaches.{breach_found, BreaksNothing}
 use Rattle.su_state.specs.inside.Sides.{row_at}
 use Rattle.su_state.proofs.Least.{row_there}
 use Rattle.su_state.proofs.Kept.{has_table, table_read, columns_read, holds_at}
-use Rattle.su_state.proofs.FirstBreaches.{no_breach, first_by_row}
 use Rattle.su_state.proofs.databases.Database.insert_answer.Goals as goal
 
 pub returns-in-Some-clause-refused : goal.returns-in-Some-clause-refused
@@ -22,13 +22,12 @@ returns-in-Some-clause-refused c =
     let within : r < length db.tables = has_table db c.args.self.now r c.self.view_is c.self.invariant c.requires in
     let table : c.index-table.result.now ≡ table_of db r = table_read db r c.index-table.result.now within c.index-table.ensures in
     let other : row_at rows breach.position ≡ c.in_ok-row.row = row_there rows breach.position c.row.result.now c.row.ensures ∙ sym c.in_ok-row.ensures in
-    let first : BreaksFirst db.schema r (rows_of db r) row breach.fd breach.object c.in_ok-row.row =
-    subst (λ (x : List Value). BreaksFirst db.schema r (rows_of db r) row breach.fd breach.object x) other
-    (subst (λ (t : Stored). BreaksFirst db.schema r t.rows row breach.fd breach.object (row_at rows breach.position)) table c.in-Some.ensures.1) in
+    let found : IsFirstOf (IsBreachWith db.schema r (rows_of db r) row) (breach_found rows row breach) =
+    subst (λ (t : Stored). IsFirstOf (IsBreachWith db.schema r t.rows row) (breach_found rows row breach)) table c.in-Some.ensures.1 in
     inr (rw (← c.self.view_is) (
       rw (columns_read db r c.columns.result.now c.columns.ensures.at) c.in_ok-check_row.ensures.ok,
       subst (λ (t : Stored). ¬ Contains t.rows row) table (λ there. false≢true (c.if-has.ensures.1 there)),
-      first_by_row db r row breach.fd breach.object c.in_ok-row.row first,
+      subst (λ (x : List Value). IsFirstOf (IsBreachWith db.schema r (rows_of db r) row) (record { dependency = breach.fd; object = breach.object; first = row; second = x })) other found,
       refl,
     ))
 
@@ -40,7 +39,7 @@ returns-then-len-ge-MOST-clause-refused c =
     inr (rw (← c.self.view_is) (
       rw (columns_read db c.args.relation c.columns.result.now c.columns.ensures.at) c.in_ok-check_row.ensures.ok,
       subst (λ (t : Stored). ¬ Contains t.rows c.args.row.now) table (λ there. false≢true (c.if-has.ensures.1 there)),
-      no_breach db c.args.relation c.args.row.now (subst (λ (t : Stored). BreaksNothing db.schema c.args.relation t.rows c.args.row.now) table c.in_default.ensures),
+      subst (λ (t : Stored). BreaksNothing db.schema c.args.relation t.rows c.args.row.now) table c.in_default.ensures,
       omega (arith, ap (λ t. length t.rows) table, c.len.ensures, c.if-len-ge-MOST.true),
       refl,
     ))
@@ -53,7 +52,7 @@ returns-clause-answer c =
     rw (← c.self.view_is) (
       rw (columns_read db c.args.relation c.columns.result.now c.columns.ensures.at) c.in_ok-check_row.ensures.ok,
       subst (λ (t : Stored). ¬ Contains t.rows c.args.row.now) table (λ there. false≢true (c.if-has.ensures.1 there)),
-      no_breach db c.args.relation c.args.row.now (subst (λ (t : Stored). BreaksNothing db.schema c.args.relation t.rows c.args.row.now) table c.in_default.ensures),
+      subst (λ (t : Stored). BreaksNothing db.schema c.args.relation t.rows c.args.row.now) table c.in_default.ensures,
       omega (arith, ap (λ t. length t.rows) table, c.len.ensures, c.if-len-ge-MOST.false),
     )
 

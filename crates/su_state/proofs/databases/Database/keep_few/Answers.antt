@@ -5,7 +5,7 @@ use Rattle.std.proofs.lemmas.Result.{IfOk-weaker}
 use Rattle.su_rel.specs.Stored.{Stored}
 use Rattle.su_state.specs.DatabaseValue.{DatabaseValue, table_of, rows_of, columns_of, HasColumnKinds}
 use Rattle.su_state.specs.Enforced.{HoldsOn}
-use Rattle.su_state.specs.inside.RowBreaks.{BreaksNothing}
+use Rattle.su_state.specs.inside.SomeBreaches.{BreaksNothing}
 use Rattle.su_state.specs.inside.AdmissibleRows.{KeepThrough}
 use Rattle.su_state.proofs.Kept.{has_table, table_read, holds_at}
 use Rattle.su_state.proofs.Filled.{keeps_few, wide, short, narrow}

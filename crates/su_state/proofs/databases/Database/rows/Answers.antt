@@ -1,7 +1,7 @@
 -- The rows of a table differ, as it is a relation, so their copies in order are the relation's rows in order.
 use Rattle.std.proofs.Common.{◌≡◌, ◌<◌, length, ap, subst, sym, ◌∙◌}
 use Rattle.std.proofs.lemmas.Result.{IfOk-weaker}
-use Rattle.su_rel.specs.Stored.{AllDiffer}
+use Rattle.su_base.specs.Lists.{AllDiffer}
 use Rattle.su_state.specs.DatabaseValue.{DatabaseValue, rows_of}
 use Rattle.su_state.specs.Changes.{AreInOrder}
 use Rattle.su_state.proofs.Kept.{has_table, table_read}

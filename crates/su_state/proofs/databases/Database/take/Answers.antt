@@ -9,9 +9,10 @@ use Rattle.su_state.specs.DatabaseValue.{DatabaseValue, IsWellKept}
 use Rattle.su_state.specs.declared.faults.DefineFault.{DefineFault}
 use Rattle.su_state.specs.declared.faults.DefineFault.TheVariants.{NoMemory}
 use Rattle.su_state.specs.Definitions.{Defines, tables_with}
-use Rattle.su_state.specs.inside.AddedDefinitions.{AddedHolds, IsAddedFault}
+use Rattle.su_state.specs.Breaches.{Breach}
+use Rattle.su_state.specs.NewBreaches.{IsNewBreach}
+use Rattle.su_state.specs.inside.AddedDefinitions.{TellsFirst}
 use Rattle.su_state.proofs.Added.{tables_there, added_there, narrow, refused_added, kept_added}
-use Rattle.su_state.proofs.FirstBreaches.{none_new}
 use Rattle.su_state.proofs.databases.Database.take.Goals as goal
 
 pub check_added-requires-clause-tables : goal.check_added-requires-clause-tables
@@ -33,8 +34,8 @@ returns-in_err-check_added-clause-refused c =
     let p = err_from_is_err_and c.from_residual.result c.from_residual.ensures.1 in
     let fault : DefineFault = c.in_err-check_added.field-0.0 in
     let is = c.requires.extended in
-    let here : IsAddedFault c.args.schema c.self.inside.tables.items c.args.definition.now fault = subst (λ (tables : List Stored). IsAddedFault c.args.schema tables c.args.definition.now fault) c.as_slice.ensures.value c.in_err-check_added.ensures.refused in
-    let refused : IsAddedFault c.args.schema c.args.self.now.tables c.args.definition.now fault = subst (λ (d : DatabaseValue). IsAddedFault c.args.schema d.tables c.args.definition.now fault) c.self.view_is here in
+    let here = subst (λ (tables : List Stored). TellsFirst c.args.schema (IsNewBreach c.args.schema tables c.args.definition.now) fault) c.as_slice.ensures.value c.in_err-check_added.ensures.refused in
+    let refused = subst (λ (d : DatabaseValue). TellsFirst c.args.schema (IsNewBreach c.args.schema d.tables c.args.definition.now) fault) c.self.view_is here in
     subst (λ (r : Result (Unit {0}) DefineFault). IfErr r (λ f. (f ≡ NoMemory) ⊎ Defines c.args.self.now c.args.definition.now (Err f) c.args.self.now)) (sym p.1)
     (subst (λ (f : DefineFault). (f ≡ NoMemory) ⊎ Defines c.args.self.now c.args.definition.now (Err f) c.args.self.now) (sym p.2)
     (refused_added c.args.self.now c.args.schema c.args.definition.now fault is refused))
@@ -52,13 +53,13 @@ pub invariant_of-self-2 : goal.invariant_of-self-2
 invariant_of-self-2 c =
     let db : DatabaseValue = record { schema = c.self.inside.schema; tables = c.self.inside.tables.items } in
     let valid : IsValid c.args.schema = c.keeps_its_rules.ensures in
-    let holds : AddedHolds c.args.schema c.self.inside.tables.items c.args.definition.now = subst (λ (tables : List Stored). AddedHolds c.args.schema tables c.args.definition.now) c.as_slice.ensures.value c.in_ok-check_added.ensures.holds in
+    let holds = subst (λ (tables : List Stored). (b : Breach) → ¬ IsNewBreach c.args.schema tables c.args.definition.now b) c.as_slice.ensures.value c.in_ok-check_added.ensures.holds in
     subst (λ (tables : List Stored). IsWellKept (record { schema = c.args.schema; tables = tables })) (sym c.in_ok-add_table.ensures.ok)
     (kept_added db c.args.schema c.args.definition.now c.self.invariant valid (subst (λ (d : DatabaseValue). applied d.schema c.args.definition.now ≡ Ok c.args.schema) (sym c.self.view_is) c.requires.extended) holds)
 
 pub returns-clause-done : goal.returns-clause-done
 returns-clause-done c =
     let is = c.requires.extended in
-    let here : AddedHolds c.args.schema c.self.inside.tables.items c.args.definition.now = subst (λ (tables : List Stored). AddedHolds c.args.schema tables c.args.definition.now) c.as_slice.ensures.value c.in_ok-check_added.ensures.holds in
-    let holds : AddedHolds c.args.schema c.args.self.now.tables c.args.definition.now = subst (λ (d : DatabaseValue). AddedHolds c.args.schema d.tables c.args.definition.now) c.self.view_is here in
-    (is, c.in_ok-add_table.ensures.ok ∙ ap (λ d. tables_with c.args.definition.now d.tables) c.self.view_is, none_new c.args.schema c.args.self.now.tables c.args.definition.now holds)
+    let here = subst (λ (tables : List Stored). (b : Breach) → ¬ IsNewBreach c.args.schema tables c.args.definition.now b) c.as_slice.ensures.value c.in_ok-check_added.ensures.holds in
+    let holds = subst (λ (d : DatabaseValue). (b : Breach) → ¬ IsNewBreach c.args.schema d.tables c.args.definition.now b) c.self.view_is here in
+    (is, c.in_ok-add_table.ensures.ok ∙ ap (λ d. tables_with c.args.definition.now d.tables) c.self.view_is, holds)

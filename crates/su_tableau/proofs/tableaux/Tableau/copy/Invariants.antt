@@ -3,6 +3,3 @@ use Rattle.su_tableau.proofs.tableaux.Tableau.copy.Given as goal
 
 abbrev pub invariant-loop-row : goal.invariant-loop-row
 invariant-loop-row l = l.rows ≡ take l.row-index l.self.rows
-
-abbrev pub invariant-loop-op : goal.invariant-loop-op
-invariant-loop-op l = l.operators ≡ take l.op-index l.self.operators
