@@ -1,9 +1,9 @@
 -- The outputs of a join are the stored answers whose comparisons hold.
-use Rattle.std.proofs.Common.{◌≡◌, ℕ, ◌+◌, ◌*◌, ◌<◌, ◌↔◌, List, [], map, length, get_or, Contains, All, refl, sym, ap, ◌∙◌, subst, pos, arith}
+use Rattle.std.proofs.Common.{◌≡◌, ℕ, ◌+◌, ◌*◌, ◌<◌, ◌↔◌, List, map, length, get_or, Contains, All, refl, sym, ap, ◌∙◌, subst, pos, arith}
 use Rattle.std.specs.Prelude.{IsTrue, take}
 use Rattle.std.specs.Int.{bit_at}
 use Rattle.std.specs.List.{range_with_len}
-use Rattle.std.proofs.lemmas.List.{get_or-map, get_or_default, take-map}
+use Rattle.std.proofs.lemmas.List.{get_or-map, take-map}
 use Rattle.std.proofs.lemmas.List.Elements.{All-contains}
 use Rattle.su_base.specs.declared.values.Value.{Value}
 use Rattle.su_base.specs.declared.values.Value.TheVariants.{Int}
@@ -86,5 +86,5 @@ module _ (db : DatabaseValue) (t : Tab) (m : ℕ) (task : Task) (valid : IsValid
 
 pub outputs_are_answers : (db : DatabaseValue) (t : Tab) (m : ℕ) (task : Task) → IsWellKept db → IsValid t → IsTask db.tables task → IsTaskOf db.schema t m task → (h : List Value) → IsOutput db.tables task h ↔ Cut t (StoredAnswer db t m) h
 outputs_are_answers db t m task kept valid fits is =
-    answers_by_rows db t m task valid is (λ i r v low set of' h. read_row db t m i r v kept valid low set of' h)
-    (λ i r v low set of' there h. row_read db t m i r v kept valid low set of' (All-contains (HasSources db.tables) task.rows r fits.sources there) h)
+    answers_by_rows db t m task valid is (λ i r v low set of' h. read_row db t m i r v valid low set of' h)
+    (λ i r v low set of' there h. row_read db t m i r v valid low set of' kept (All-contains (HasSources db.tables) task.rows r fits.sources there) h)

@@ -1,10 +1,10 @@
-pub mod Among
+pub mod RowsAmong
 pub mod ColumnValues
 pub mod Columns
 pub mod Covered
 pub mod Expression
 pub mod Few
-pub mod Fits
+pub mod PartTasks
 pub mod FoundLists
 pub mod Greatest
 pub mod Joined

@@ -8,21 +8,13 @@ use Rattle.std.proofs.lemmas.List.Elements.{Contains-append_left, Contains-appen
 use Rattle.std.proofs.lemmas.Map.Keys.{sorted_head, sorted_tail}
 use Rattle.su_base.specs.declared.values.Value.{Value}
 use Rattle.su_base.specs.Value.{compare_lists}
-use Rattle.su_base.proofs.Items.{Contains-cases, Contains-later, Contains-nil, AllByRecursion-append_left}
+use Rattle.su_base.proofs.Items.{Contains-cases, Contains-later, Contains-nil, AllByRecursion-members}
 use Rattle.su_rel.specs.MoreThan.{AreMoreThan}
+use Rattle.su_rel.proofs.MoreThan.{AreMoreThan-ascending}
+use Rattle.su_index.proofs.Runs.{sorted_cons, sorted-append_left, sorted-append_right}
 use Rattle.su_answer.specs.inside.Merged.{IsTakenFrom, IsGreatestOf}
-use Rattle.su_steps.proofs.Lists.{all_by}
-use Rattle.su_answer.proofs.Union.{rows_more}
 
 -- ---- rows in order
-
-sorted_cons : (x : List Value) (xs : List (List Value)) → AllByRecursion (λ y. compare_lists x y ≡ Less) xs → IsStrictlySortedBy compare_lists xs → IsStrictlySortedBy compare_lists (x ∷ xs)
-unfolding IsStrictlySortedBy
-sorted_cons x xs h t = (h, t)
-
-sorted_back : (xs ys : List (List Value)) → IsStrictlySortedBy compare_lists (xs ++ ys) → IsStrictlySortedBy compare_lists ys
-sorted_back [] ys s = s
-sorted_back (x ∷ xs) ys s = sorted_back xs ys (sorted_tail compare_lists x (xs ++ ys) s)
 
 all_with : (P : List Value → Type 0) (xs ys : List (List Value)) (y : List Value) → AllByRecursion P (xs ++ ys) → P y → AllByRecursion P (xs ++ y ∷ ys)
 all_with P [] ys y a p = (p, a)
@@ -32,7 +24,7 @@ all_with P (x ∷ xs) ys y a p = (a.0, all_with P xs ys y a.1 p)
 sorted_between : (xs ys : List (List Value)) (y : List Value) → IsStrictlySortedBy compare_lists (xs ++ ys) → AllByRecursion (λ x. compare_lists x y ≡ Less) xs → IsStrictlySortedBy compare_lists (y ∷ ys) → IsStrictlySortedBy compare_lists (xs ++ y ∷ ys)
 sorted_between [] ys y s a t = t
 sorted_between (x ∷ xs) ys y s a t =
-    sorted_cons x (xs ++ y ∷ ys) (all_with (λ z. compare_lists x z ≡ Less) xs ys y (sorted_head compare_lists x (xs ++ ys) s) a.0) (sorted_between xs ys y (sorted_tail compare_lists x (xs ++ ys) s) a.1 t)
+    sorted_cons compare_lists x (xs ++ y ∷ ys) (all_with (λ z. compare_lists x z ≡ Less) xs ys y (sorted_head compare_lists x (xs ++ ys) s) a.0) (sorted_between xs ys y (sorted_tail compare_lists x (xs ++ ys) s) a.1 t)
 
 -- ---- one row is taken
 
@@ -64,11 +56,11 @@ module _ (before after : List (List Value)) (row : List Value) (taken : IsTakenF
       ⊎_elim
       (λ (e : before ≡ after ++ row ∷ []). subst (λ (xs : List (List Value)). IsStrictlySortedBy compare_lists xs) (ap (λ (xs : List (List Value)). xs ++ all) e ∙ append_assoc after (row ∷ []) all) s)
       (λ (k : (after ≡ before) × ((r : List Value) → Contains before r → compare_lists r row ≡ Less)).
-      subst (λ (xs : List (List Value)). IsStrictlySortedBy compare_lists (xs ++ row ∷ all)) (sym k.0) (sorted_between before all row s (all_by (λ x. compare_lists x row ≡ Less) before k.1) t))
+      subst (λ (xs : List (List Value)). IsStrictlySortedBy compare_lists (xs ++ row ∷ all)) (sym k.0) (sorted_between before all row s (AllByRecursion-members (λ x. compare_lists x row ≡ Less) before k.1) t))
       taken
 
 last_first : (before after all : List (List Value)) (row : List Value) → before ≡ after ++ row ∷ [] → IsStrictlySortedBy compare_lists (before ++ all) → IsStrictlySortedBy compare_lists (row ∷ all)
-last_first before after all row e s = sorted_back after (row ∷ all) (subst (λ (xs : List (List Value)). IsStrictlySortedBy compare_lists xs) (ap (λ (xs : List (List Value)). xs ++ all) e ∙ append_assoc after (row ∷ []) all) s)
+last_first before after all row e s = sorted-append_right compare_lists after (row ∷ all) (subst (λ (xs : List (List Value)). IsStrictlySortedBy compare_lists xs) (ap (λ (xs : List (List Value)). xs ++ all) e ∙ append_assoc after (row ∷ []) all) s)
 
 -- ---- all rows
 
@@ -85,17 +77,12 @@ none_taken rows more s t = record {
   right_ascends = subst (λ (xs : List (List Value)). IsStrictlySortedBy compare_lists xs) (sym (append-nil more)) t;
 }
 
-sorted_front : (xs ys : List (List Value)) → IsStrictlySortedBy compare_lists (xs ++ ys) → IsStrictlySortedBy compare_lists xs
-unfolding IsStrictlySortedBy
-sorted_front [] ys s = tt
-sorted_front (x ∷ xs) ys s = (AllByRecursion-append_left (λ y. compare_lists x y ≡ Less) xs ys s.0, sorted_front xs ys s.1)
-
 module _ (rows more left right all : List (List Value)) (m : AreMerged rows more left right all) where
   pub left_sorted : IsStrictlySortedBy compare_lists left
-  left_sorted = sorted_front left all m.left_ascends
+  left_sorted = sorted-append_left compare_lists left all m.left_ascends
 
   pub right_sorted : IsStrictlySortedBy compare_lists right
-  right_sorted = sorted_front right all m.right_ascends
+  right_sorted = sorted-append_left compare_lists right all m.right_ascends
 
   pub all_taken : left ≡ [] → right ≡ [] → ((h : List Value) → Contains all h ↔ (Contains rows h ⊎ Contains more h)) × IsStrictlySortedBy compare_lists all
   all_taken e f = (
@@ -169,4 +156,4 @@ module _ (rows more left right all : List (List Value)) (m : AreMerged rows more
 
     -- one row more than there may be
     pub one_too_many : length all ≡ 1000000 → AreMoreThan 1000000 (λ h. Contains rows h ⊎ Contains more h)
-    one_too_many full = rows_more 1000000 (λ h. Contains rows h ⊎ Contains more h) (row ∷ all) row_ascends of_rows (omega (arith, full))
+    one_too_many full = AreMoreThan-ascending 1000000 (λ h. Contains rows h ⊎ Contains more h) (row ∷ all) row_ascends of_rows (omega (arith, full))

@@ -1,9 +1,7 @@
 -- Members of two lists that belong together, place by place.
-use Rattle.std.proofs.Common.{◌≡◌, ℕ, ◌<◌, List, [], ◌∷◌, ◌++◌, Contains, refl, sym, ap, ◌∙◌, ◌+◌, subst, arith, ⊎_elim}
-use Rattle.std.specs.Prelude.{take, length, get_or}
+use Rattle.std.proofs.Common.{◌≡◌, List, [], ◌∷◌, Contains, refl, subst, arith, ⊎_elim}
 use Rattle.std.specs.List.{AllZip}
-use Rattle.std.proofs.lemmas.List.{take_more}
-use Rattle.su_base.proofs.Items.{Contains-cases, Contains-later, Contains-nil, AllZip-push}
+use Rattle.su_base.proofs.Items.{Contains-cases, Contains-later, Contains-nil}
 
 pub zip_first : {A B : Type 0} (R : A → B → Type 0) (xs : List A) (ys : List B) (x : A) → AllZip R xs ys → Contains xs x → (y : B) × Contains ys y × R x y
 zip_first R [] ys x h c = absurd (Contains-nil x c)
@@ -22,8 +20,3 @@ zip_second {A} {B} R (z ∷ xs) (w ∷ ys) y h c =
     (λ (e : w ≡ y). (z, (0, omega arith, refl), subst (λ (q : B). R z q) e h.0))
     (λ (r : Contains ys y). let k = zip_second R xs ys y h.1 r in (k.0, Contains-later z xs k.0 k.1, k.2))
     (Contains-cases w ys y c)
-
-pub zip_more : {A B : Type 0} (R : A → B → Type 0) (xs : List A) (ys next : List B) (i : ℕ) (x : A) (y : B) → i < length xs → x ≡ get_or xs i x → AllZip R (take i xs) ys → R x y → next ≡ ys ++ y ∷ [] → AllZip R (take (i + 1) xs) next
-zip_more {A} {B} R xs ys next i x y l e h r n =
-    subst (λ (zs : List B). AllZip R (take (i + 1) xs) zs) (sym n)
-    (subst (λ (zs : List A). AllZip R zs (ys ++ y ∷ [])) (sym (take_more xs i x l ∙ ap (λ (z : A). take i xs ++ z ∷ []) (sym e))) (AllZip-push R (take i xs) ys x y h r))

@@ -34,7 +34,7 @@ stored_wide db relation stored kept low c =
     let typed : map kind_of stored ≡ map (λ (o : Column). o.kind) (columns_of db relation) = All-contains (HasColumnKinds (columns_of db relation)) (rows_of db relation) stored (kept.typed relation low) c in
     sym (length-map stored kind_of) ∙ ap (λ (ks : List Kind). length ks) typed ∙ length-map (columns_of db relation) (λ (o : Column). o.kind) ∙ sym (kept.widths relation low)
 
-module _ (db : DatabaseValue) (t : Tab) (m i : ℕ) (r : TaskRow) (v : ℕ → Value) (kept : IsWellKept db) (valid : IsValid t) (row_in : i < length t.rows) (in_set : bit_at m i ≡ 1) (is : IsTaskRowOf db.schema t m i r) where
+module _ (db : DatabaseValue) (t : Tab) (m i : ℕ) (r : TaskRow) (v : ℕ → Value) (valid : IsValid t) (row_in : i < length t.rows) (in_set : bit_at m i ≡ 1) (is : IsTaskRowOf db.schema t m i r) where
   row_wide : length (get_or t.rows i []) ≡ t.width
   row_wide = valid.widths i [] row_in
 
@@ -50,8 +50,8 @@ module _ (db : DatabaseValue) (t : Tab) (m i : ℕ) (r : TaskRow) (v : ℕ → V
       let l : c < length (get_or t.rows i []) = omega arith in
       record { row_in = row_in; in_set = in_set; cell = record { below = l; is = λ d. get_or_default (get_or t.rows i []) c d (Var 0) l } }
 
-  pub row_read : HasSources db.tables r → Agrees db.tables v r → IsRead db t m v i
-  row_read has a =
+  pub row_read : IsWellKept db → HasSources db.tables r → Agrees db.tables v r → IsRead db t m v i
+  row_read kept has a =
       let s = is.from a.source a.of_row in
       let fits = All-contains (FitsTables db.tables (length r.cells)) r.sources a.source has a.of_row in
       let wide = stored_wide db a.source.relation a.stored kept fits.relation a.in_table in

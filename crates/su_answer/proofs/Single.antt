@@ -25,9 +25,11 @@ pub alone_fits : (tables : List Stored) (row : TaskRow) → HasSources tables ro
 alone_fits tables row has = record {
   few = omega arith;
   sources = All-cons (HasSources tables) row [] has (All-nil (HasSources tables));
-  outputs = λ k c. (0, record { row = row; below = omega arith; is = λ d. refl; cell = c });
-  left = λ c k there is. absurd (Contains-nil c there);
-  right = λ c k there is. absurd (Contains-nil c there);
+  occur = record {
+    outputs = λ k c. (0, record { row = row; below = omega arith; is = λ d. refl; cell = c });
+    left = λ c k there is. absurd (Contains-nil c there);
+    right = λ c k there is. absurd (Contains-nil c there);
+  };
 }
 
 pub output_is : (tables : List Stored) (row : TaskRow) (h : List Value) → IsOutput tables (alone row) h ↔ IsCandidate tables row h

@@ -1,14 +1,11 @@
 -- The answers of the kept terms, one after another, are the answers of the query.
-use Rattle.std.proofs.Common.{◌≡◌, ◌↔◌, ◌⊎◌, inl, inr, ⊎_elim, ℕ, ◌+◌, ◌<◌, ◌≤◌, List, [], ◌∷◌, ◌++◌, take, drop, length, get_or, Contains, All, Option, Some, None, refl, sym, ap, subst, ◌∙◌, arith}
+use Rattle.std.proofs.Common.{◌≡◌, ◌↔◌, ◌⊎◌, inl, inr, ⊎_elim, ℕ, ◌+◌, ◌<◌, ◌≤◌, List, [], ◌∷◌, ◌++◌, take, drop, length, Contains, All, Option, Some, None, refl, sym, ap, subst, ◌∙◌, arith}
 use Rattle.std.specs.Prelude.{MatchOption, IfSome, IsSome}
 use Rattle.std.specs.List.{AllZip}
 use Rattle.std.specs.List.Sorted.{IsStrictlySortedBy}
-use Rattle.std.specs.declared.cmp.Ordering.TheVariants.{Less, Equal}
 use Rattle.std.proofs.lemmas.Bool.{false≢true}
-use Rattle.std.proofs.lemmas.Cmp.{tied_itself}
-use Rattle.std.proofs.lemmas.List.Elements.{All-contains, Contains-get_or, Contains-append_left, Contains-append_right, Contains-append_cases}
+use Rattle.std.proofs.lemmas.List.Elements.{All-contains, Contains-append_left, Contains-append_right, Contains-append_cases}
 use Rattle.std.proofs.lemmas.List.{length-append, take-append-drop}
-use Rattle.std.proofs.lemmas.Map.Keys.{Less-from_sorted}
 use Rattle.su_base.specs.declared.values.Value.{Value}
 use Rattle.su_base.specs.Value.{compare_lists}
 use Rattle.su_base.proofs.Items.{Contains-later, Contains-nil, All-members}
@@ -17,7 +14,6 @@ use Rattle.su_tableau.specs.Tableaux.{IsValid}
 use Rattle.su_exec.specs.declared.tasks.Task.{Task}
 use Rattle.su_exec.specs.Tasks.{IsTask}
 use Rattle.su_exec.specs.Outputs.{IsOutput, AreOutputs}
-use Rattle.su_base.proofs.Rows.{rows_total}
 use Rattle.su_state.specs.DatabaseValue.{DatabaseValue, IsWellKept}
 use Rattle.su_min.specs.Kept.{Minimised}
 use Rattle.su_min.specs.Reduction.{term_at, IsReduced}
@@ -99,19 +95,6 @@ lists_ascend db minimals kept lists found =
     All-members (λ (f : Found). IfSome f.rows (IsStrictlySortedBy compare_lists)) lists (λ f has.
     let w = zip_second (λ k g. IsFoundFor db (term_at minimals k) g) kept lists f found has in
     ascends db (term_at minimals w.0) f.rows w.2)
-
--- ---- more rows than there may be
-
-pub rows_more : (n : ℕ) (P : List Value → Type 0) (rows : List (List Value)) → IsStrictlySortedBy compare_lists rows → ((h : List Value) → Contains rows h → P h) → n < length rows → AreMoreThan n P
-rows_more n P rows sorted each many = record {
-  member = λ i. get_or rows i [];
-  each = λ i l. each (get_or rows i []) (Contains-get_or rows i [] (omega arith));
-  differ = λ i j l m same.
-      let less = Less-from_sorted compare_lists rows i j [] sorted l (omega arith) in
-      let tied : compare_lists (get_or rows i []) (get_or rows i []) ≡ Equal = tied_itself rows_total (get_or rows i []) in
-      let f : Less ≡ Equal = sym less ∙ ap (compare_lists (get_or rows i [])) (sym same) ∙ tied in
-      cc;
-}
 
 -- ---- jobs and what they give, place by place
 

@@ -1,11 +1,10 @@
 -- What the kept terms of a query answer over stored rows.
 -- read: the row has, at its essential columns, the values that one of its sources takes from some stored row
 -- stored answer: the head's values under a valuation for which each row of a set is read
-use Rattle.std.specs.Prelude.{◌≡◌, ◌↔◌, ◌<◌, ℕ, List, length, slice_get, Contains, Some}
+use Rattle.std.specs.Prelude.{◌≡◌, ◌<◌, ℕ, List, length, slice_get, Contains, Some}
 use Rattle.std.specs.Int.{bit_at}
-use Rattle.std.specs.List.Sorted.{IsStrictlySortedBy}
 use Rattle.su_base.specs.declared.values.Value.{Value}
-use Rattle.su_base.specs.Value.{compare_lists}
+use Rattle.su_rel.specs.ExactRows.{AreExactlyRows}
 use Rattle.su_tableau.specs.declared.symbols.Sym.{Sym}
 use Rattle.su_tableau.specs.Tableaux.{Tab}
 use Rattle.su_tableau.specs.Valuations.{value_of, IsHeadUnder, Cut}
@@ -47,6 +46,5 @@ pub record IsAnswer (db : DatabaseValue) (p : Prepared) (h : List Value) : Type 
   pub answer : IsTermAnswer db (term_at p.minimals term) h
 
 -- exactly these, ascending, each once
-pub record AreAnswers (db : DatabaseValue) (p : Prepared) (rows : List (List Value)) : Type 0 where
-  pub exact : (h : List Value) → Contains rows h ↔ IsAnswer db p h
-  pub ascending : IsStrictlySortedBy compare_lists rows
+abbrev pub AreAnswers : DatabaseValue → Prepared → List (List Value) → Type 0
+AreAnswers db p rows = AreExactlyRows (IsAnswer db p) rows

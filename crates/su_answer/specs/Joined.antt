@@ -1,6 +1,6 @@
 -- What is joined for the kept rows of a tableau: the essential cells of each, with the columns of its sources.
 -- source: the relation of an object, with its columns for the row's essential attributes; task: what su_exec joins
-use Rattle.std.specs.Prelude.{◌≡◌, ◌↔◌, ℕ, ◌+◌, ◌*◌, IsTrue, List, [], map, take, length, get_or, slice_get, Contains, Some}
+use Rattle.std.specs.Prelude.{◌≡◌, ◌↔◌, ℕ, ◌+◌, ◌*◌, IsTrue, List, map, take, length, get_or, slice_get, Contains, Some}
 use Rattle.std.specs.List.{AllZip, range_with_len}
 use Rattle.std.specs.Ordering.{nat_cmp}
 use Rattle.std.specs.FinSet.{FinSet, contains}

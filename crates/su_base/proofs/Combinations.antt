@@ -1,10 +1,10 @@
 -- Combinations of items, the first slowest: how many there are, and which one stands where.
-use Rattle.std.proofs.Common.{◌≡◌, ℕ, zero, suc, ◌+◌, ◌*◌, ◌/◌, ◌%◌, ◌<◌, ◌≤◌, ◌⊎◌, inl, inr, ⊎_elim, min, List, [], ◌∷◌, ◌++◌, map, length, get_or, refl, sym, ap, subst, ◌∙◌, arith}
+use Rattle.std.proofs.Common.{◌≡◌, ℕ, zero, suc, ◌+◌, ◌*◌, ◌/◌, ◌%◌, ◌<◌, ◌≤◌, ◌⊎◌, inl, inr, ⊎_elim, min, List, [], ◌∷◌, ◌++◌, map, length, get_or, sym, ap, subst, ◌∙◌, arith}
 use Rattle.std.specs.List.{flat_map}
 use Rattle.std.proofs.lemmas.Bool.{cases_lt}
 use Rattle.std.proofs.lemmas.Nat.{div-add-mod'}
 use Rattle.std.proofs.lemmas.List.{get_or_append_left, get_or-append-add, length-append, length-map, get_or-map}
-use Rattle.std.proofs.Math.Nat.{mul-zero, zero-mul, mul_comm, mul-div_cancel_left, div-lt_iff_lt-mul, mod-lt, le-mul_of_pos_right}
+use Rattle.std.proofs.Math.Nat.{eq-zero-or-pos, mul-zero, zero-mul, mul_comm, mul-div_cancel_left, div-lt_iff_lt-mul, mod-lt, le-mul_of_pos_right}
 
 -- ---- pairs
 
@@ -64,10 +64,6 @@ module _ (limit : ℕ) where
     | inr more ↦ inr (omega arith, more)
   ]
 
-  zero_or_more : (n : ℕ) → (n ≡ 0) ⊎ (0 < n)
-  zero_or_more zero = inl refl
-  zero_or_more (suc n) = inr (omega arith)
-
   many_times : (m n : ℕ) → limit ≤ m → 0 < n → limit ≤ m * n
   many_times m n h k = omega (arith, le-mul_of_pos_right {m = n} m k)
 
@@ -80,7 +76,7 @@ module _ (limit : ℕ) where
       ⊎_elim
       (λ (z : n ≡ 0). let x : a * n ≡ 0 = ap (λ k. a * k) z ∙ mul-zero a in let y : m * n ≡ 0 = ap (λ k. m * k) z ∙ mul-zero m in omega arith)
       (λ (p : 0 < n). let x : limit ≤ m * n = many_times m n b.1 p in let y : limit ≤ a * n = many_times a n (omega (arith, b.0)) p in omega arith)
-      (zero_or_more n))
+      (eq-zero-or-pos n))
       (same_or_many a m e)
 
   -- also where both counts stop

@@ -1,11 +1,11 @@
 -- Lists: their members, what holds of each item, two lists side by side, and lists made from numbers.
-use Rattle.std.proofs.Common.{◌≡◌, ℕ, zero, suc, ◌+◌, ◌<◌, ◌≤◌, List, [], ◌∷◌, ◌++◌, map, take, length, get_or, Contains, refl, sym, ap, ◌∙◌, subst, arith, ◌⊎◌, inl, inr, ⊎_elim, add-one, append-nil}
+use Rattle.std.proofs.Common.{◌≡◌, ◌≢◌, ℕ, zero, suc, ◌+◌, ◌<◌, ◌≤◌, List, [], ◌∷◌, ◌++◌, map, take, length, get_or, Contains, refl, sym, ap, ◌∙◌, subst, arith, ◌⊎◌, inl, inr, ⊎_elim, add-one, append-nil, below_more, set, get_or-set_other, get_or-set_same}
 use Rattle.std.specs.Prelude.{Bool, true, false, cond, All}
 use Rattle.std.specs.List.{range_with_len, filter, flat_map, AllZip, AllByRecursion}
 use Rattle.std.proofs.lemmas.Bool.{true≢false}
 use Rattle.std.proofs.lemmas.Grind.{flat_map-append}
-use Rattle.std.proofs.lemmas.List.{length-append, get_or_append_left, get_or-append-add, get_or_default}
-use Rattle.std.proofs.lemmas.List.Elements.{All-contains, Contains-append_left, Contains-append_right, Contains-append_cases, Contains-get_or}
+use Rattle.std.proofs.lemmas.List.{length-append, get_or_append_left, get_or-append-add, get_or_default, get_or_push, take_more}
+use Rattle.std.proofs.lemmas.List.Elements.{All-contains, All-from_recursion, Contains-append_left, Contains-append_right, Contains-append_cases, Contains-get_or}
 use Rattle.std.proofs.lemmas.List.FromFn.{get_or-range_with_len, length-range_with_len, get_or-map-range_with_len, map-range_with_len_more}
 
 -- ---- members
@@ -93,6 +93,19 @@ Contains-take (suc n) (y ∷ ys) x c =
 pub Contains-one : {X : Type 0} (x y : X) → Contains (x ∷ []) y → x ≡ y
 Contains-one x y c = ⊎_elim (λ (is : x ≡ y). is) (λ (later : Contains [] y). absurd (Contains-nil y later)) (Contains-cases x [] y c)
 
+-- an item is a member or not, where two items are equal or not
+pub Contains-or_not : {X : Type 0} (tell : (x y : X) → (x ≡ y) ⊎ (x ≢ y)) (xs : List X) (x : X) → Contains xs x ⊎ (Contains xs x → ⊥)
+Contains-or_not tell [] x = inr (λ c. Contains-nil x c)
+Contains-or_not tell (y ∷ ys) x =
+    ⊎_elim
+    (λ (e : y ≡ x). inl (0, omega arith, e))
+    (λ (ne : y ≢ x).
+    ⊎_elim
+    (λ (c : Contains ys x). inl (Contains-later y ys x c))
+    (λ (out : Contains ys x → ⊥). inr (λ c. ⊎_elim (λ (e : y ≡ x). ne e) (λ (r : Contains ys x). out r) (Contains-cases y ys x c)))
+    (Contains-or_not tell ys x))
+    (tell y x)
+
 -- ---- what holds of each item
 
 -- of all members
@@ -124,6 +137,21 @@ pub AllByRecursion-weaker : {X : Type 0} (P Q : X → Type 0) (xs : List X) → 
 AllByRecursion-weaker P Q [] f h = tt
 AllByRecursion-weaker P Q (x ∷ xs) f h = (f x h.0, AllByRecursion-weaker P Q xs f h.1)
 
+pub AllByRecursion-append_right : {X : Type 0} (P : X → Type 0) (xs ys : List X) → AllByRecursion P (xs ++ ys) → AllByRecursion P ys
+AllByRecursion-append_right P [] ys h = h
+AllByRecursion-append_right P (x ∷ xs) ys h = AllByRecursion-append_right P xs ys h.1
+
+pub AllByRecursion-map_source : {X Y : Type 0} (P : Y → Type 0) (f : X → Y) (xs : List X) → AllByRecursion P (map f xs) → AllByRecursion (λ x. P (f x)) xs
+AllByRecursion-map_source P f [] h = tt
+AllByRecursion-map_source P f (x ∷ xs) h = (h.0, AllByRecursion-map_source P f xs h.1)
+
+pub AllByRecursion-contains : {X : Type 0} (P : X → Type 0) (xs : List X) (x : X) → AllByRecursion P xs → Contains xs x → P x
+AllByRecursion-contains P xs x h c = All-contains P xs x (All-from_recursion P xs h) c
+
+pub AllByRecursion-members : {X : Type 0} (P : X → Type 0) (xs : List X) → ((x : X) → Contains xs x → P x) → AllByRecursion P xs
+AllByRecursion-members P [] h = tt
+AllByRecursion-members P (x ∷ xs) h = (h x (0, omega arith, refl), AllByRecursion-members P xs (λ y c. h y (suc c.0, (let l = c.1 in omega arith), c.2)))
+
 -- ---- two lists side by side
 
 pub AllZip-push : {A B : Type 0} (R : A → B → Type 0) (xs : List A) (ys : List B) (x : A) (y : B) → AllZip R xs ys → R x y → AllZip R (xs ++ x ∷ []) (ys ++ y ∷ [])
@@ -131,6 +159,12 @@ AllZip-push R [] [] x y all one = (one, tt)
 AllZip-push R [] (w ∷ ws) x y all one = absurd all
 AllZip-push R (v ∷ vs) [] x y all one = absurd all
 AllZip-push R (v ∷ vs) (w ∷ ws) x y all one = (all.0, AllZip-push R vs ws x y all.1 one)
+
+-- one more item of the first list, and one pushed on the second
+pub AllZip-more : {A B : Type 0} (R : A → B → Type 0) (xs : List A) (ys next : List B) (i : ℕ) (x : A) (y : B) → i < length xs → x ≡ get_or xs i x → AllZip R (take i xs) ys → R x y → next ≡ ys ++ y ∷ [] → AllZip R (take (i + 1) xs) next
+AllZip-more {A} {B} R xs ys next i x y l e h r n =
+    subst (λ (zs : List B). AllZip R (take (i + 1) xs) zs) (sym n)
+    (subst (λ (zs : List A). AllZip R zs (ys ++ y ∷ [])) (sym (take_more xs i x l ∙ ap (λ (z : A). take i xs ++ z ∷ []) (sym e))) (AllZip-push R (take i xs) ys x y h r))
 
 pub AllZip-length : {A B : Type 0} (R : A → B → Type 0) (xs : List A) (ys : List B) → AllZip R xs ys → length xs ≡ length ys
 AllZip-length R [] [] all = refl
@@ -157,6 +191,24 @@ map-map_equal f g h e (x ∷ xs) = let i = map-map_equal f g h e xs in let j = e
 pub flat_map-push : {A B : Type 0} (f : A → List B) (xs : List A) (x : A) → flat_map f (xs ++ x ∷ []) ≡ flat_map f xs ++ f x
 flat_map-push f xs x = flat_map-append f xs (x ∷ []) ∙ ap (λ ys. flat_map f xs ++ ys) (append-nil (f x))
 
+-- two functions give one list where they give the same at each member, and only there
+pub map-equal_at : {X Y : Type 0} (f g : X → Y) (xs : List X) → ((x : X) → Contains xs x → f x ≡ g x) → map f xs ≡ map g xs
+map-equal_at f g [] h = refl
+map-equal_at f g (x ∷ xs) h =
+    let here : f x ≡ g x = h x (0, omega arith, refl) in
+    let rest = map-equal_at f g xs (λ y c. h y (Contains-later x xs y c)) in
+    cc
+
+pub map-equal_only : {X Y : Type 0} (f g : X → Y) (xs : List X) (x : X) → map f xs ≡ map g xs → Contains xs x → f x ≡ g x
+map-equal_only f g [] x e c = absurd (Contains-nil x c)
+map-equal_only f g (y ∷ ys) x e c =
+    let here : f y ≡ g y = cc in
+    let rest : map f ys ≡ map g ys = cc in
+    ⊎_elim
+    (λ (is : y ≡ x). ap f (sym is) ∙ here ∙ ap g is)
+    (λ (later : Contains ys x). map-equal_only f g ys x rest later)
+    (Contains-cases y ys x c)
+
 -- ---- those that pass, and the one at a place
 
 pub length-filter : {X : Type 0} (p : X → Bool) (xs : List X) → length (filter p xs) ≤ length xs
@@ -168,6 +220,32 @@ length-filter p (x ∷ xs) =
 -- what is read at a place, at every default
 pub get_or-is : {X : Type 0} (xs : List X) (i : ℕ) (x d : X) → i < length xs → x ≡ get_or xs i x → get_or xs i d ≡ x
 get_or-is xs i x d h is = get_or_default xs i d x h ∙ sym is
+
+-- ---- one item more, and one written
+
+pub length-push : {X : Type 0} (xs : List X) (x : X) (n : ℕ) → length xs ≡ n → length (xs ++ x ∷ []) ≡ n + 1
+length-push xs x n long = length-append xs (x ∷ []) ∙ ap (λ m. m + 1) long
+
+pub length-pushed : {X : Type 0} (xs next : List X) (x : X) (n : ℕ) → next ≡ xs ++ x ∷ [] → length xs ≡ n → length next ≡ n + 1
+length-pushed xs next x n is long = ap length is ∙ length-push xs x n long
+
+-- a fact of each item, and of one pushed
+pub get_or-push_each : {X : Type 0} (P : ℕ → X → Type 0) (d : X) (xs : List X) (x : X) (n : ℕ) → length xs ≡ n → ((i : ℕ) → i < n → P i (get_or xs i d)) → P n x → (i : ℕ) → i < n + 1 → P i (get_or (xs ++ x ∷ []) i d)
+get_or-push_each {X} P d xs x n long before here =
+    below_more (λ (i : ℕ). P i (get_or (xs ++ x ∷ []) i d)) n
+    (λ i l. subst (λ (y : X). P i y) (sym (get_or_append_left xs (x ∷ []) d i (omega (arith, long, l)))) (before i l))
+    (subst (λ (y : X). P n y) (sym (get_or_push xs x d n long)) here)
+
+-- the same, where the longer list has a name
+pub get_or-pushed_each : {X : Type 0} (P : ℕ → X → Type 0) (d : X) (xs next : List X) (x : X) (n : ℕ) → next ≡ xs ++ x ∷ [] → length xs ≡ n → ((i : ℕ) → i < n → P i (get_or xs i d)) → P n x → (i : ℕ) → i < n + 1 → P i (get_or next i d)
+get_or-pushed_each {X} P d xs next x n is long before here i l = subst (λ (ys : List X). P i (get_or ys i d)) (sym is) (get_or-push_each P d xs x n long before here i l)
+
+-- a fact of each item below n, and of the one written at n
+pub get_or-set_each : {X : Type 0} (P : ℕ → X → Type 0) (d : X) (xs : List X) (n : ℕ) (x : X) → n < length xs → ((i : ℕ) → i < n → P i (get_or xs i d)) → P n x → (i : ℕ) → i < n + 1 → P i (get_or (set xs n x) i d)
+get_or-set_each P d xs n x low before here =
+    below_more (λ i. P i (get_or (set xs n x) i d)) n
+    (λ i l. subst (P i) (sym (get_or-set_other xs n i x d (omega arith))) (before i l))
+    (subst (P n) (sym (get_or-set_same xs n x d low)) here)
 
 -- ---- numbers in order
 

@@ -1,6 +1,6 @@
 -- Numbers: so many of them need so many holes, and what an answer of `cmp` says.
 use Rattle.std.proofs.Common.{◌≡◌, ◌≢◌, ◌<◌, ◌≤◌, ◌⊎◌, ℕ, zero, suc, true, false, cond, inl, inr, ⊎_elim, eqb, max, arith}
-use Rattle.std.specs.Ordering.{nat_cmp, is_lt, ord_max}
+use Rattle.std.specs.Ordering.{nat_cmp, is_lt, is_eq, ord_max}
 use Rattle.std.specs.declared.cmp.Ordering.{Ordering}
 use Rattle.std.specs.declared.cmp.Ordering.TheVariants.{Less, Equal, Greater}
 use Rattle.std.proofs.lemmas.Bool.{cond-true, cond-false, false≢true}
@@ -10,6 +10,11 @@ pub is_lt-Less : (o : Ordering) → is_lt o ≡ true → o ≡ Less
 is_lt-Less Less e = search
 is_lt-Less Equal e = absurd (false≢true e)
 is_lt-Less Greater e = absurd (false≢true e)
+
+pub is_eq-Equal : (o : Ordering) → is_eq o ≡ true → o ≡ Equal
+is_eq-Equal Less e = absurd (false≢true e)
+is_eq-Equal Equal e = search
+is_eq-Equal Greater e = absurd (false≢true e)
 
 pub ord_max-numbers : (a b : ℕ) → ord_max nat_cmp a b ≡ max a b
 ord_max-numbers a b = grind (arith, nat_tests)

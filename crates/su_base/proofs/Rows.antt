@@ -1,13 +1,13 @@
 -- The order of values and of rows: a total order, one with `cmp` and `==`, and what a sort without repeats leaves.
-use Rattle.std.proofs.Common.{◌≡◌, ◌↔◌, Bool, true, List, [], ◌∷◌, refl, sym, ap, ◌∙◌, subst}
+use Rattle.std.proofs.Common.{◌≡◌, ◌≢◌, ◌⊎◌, inl, inr, ◌↔◌, Bool, true, List, [], ◌∷◌, refl, sym, ap, ◌∙◌, subst}
 use Rattle.std.specs.Cmp.{IsEquivalence, IsTotalOrder}
 use Rattle.std.specs.Cmp.Lexicographic.{slice_cmp, pointwise, lists_ties}
 use Rattle.std.specs.List.{Contains, dedup}
 use Rattle.std.specs.List.Sorted.{IsPermutation, IsSorted, IsStrictlySortedBy}
-use Rattle.std.specs.Ordering.{eq_by_cmp, is_eq, ordering_then}
+use Rattle.std.specs.Ordering.{eq_by_cmp, is_eq, ordering_then, ordering_reverse}
 use Rattle.std.specs.declared.cmp.Ordering.{Ordering}
-use Rattle.std.specs.declared.cmp.Ordering.TheVariants.{Equal}
-use Rattle.std.proofs.lemmas.Cmp.{eq_by_cmp_equiv, lists_total}
+use Rattle.std.specs.declared.cmp.Ordering.TheVariants.{Less, Equal, Greater}
+use Rattle.std.proofs.lemmas.Cmp.{eq_by_cmp_equiv, lists_total, tied_itself}
 use Rattle.std.proofs.lemmas.List.Kept.{Contains-dedup, Contains-from_dedup, IsStrictlySortedBy-dedup}
 use Rattle.std.proofs.lemmas.List.Sorted.{Contains-permutation, IsPermutation-sym}
 use Rattle.su_base.specs.declared.values.Value.{Value}
@@ -43,6 +43,30 @@ values_equiv = subst (λ (E : Value → Value → Bool). IsEquivalence E) (λ i 
 -- values that compare as equal are equal
 pub equal_values : (v w : Value) → compare_values v w ≡ Equal → v ≡ w
 equal_values v w e = (value_eq-Decides v w).0 (eq-values v w ∙ ap is_eq e)
+
+-- two values are equal or not
+pub equal_or_not : (v w : Value) → (v ≡ w) ⊎ (v ≢ w)
+equal_or_not v w =
+    elim (compare_values v w) as (λ o. compare_values v w ≡ o → (v ≡ w) ⊎ (v ≢ w)) [
+      | Less ↦ λ e. inr (λ s.
+          let tied : compare_values v v ≡ Equal = tied_itself values_total v in
+          let less : compare_values v v ≡ Less = ap (compare_values v) s ∙ e in
+          cc)
+      | Equal ↦ λ e. inl (equal_values v w e)
+      | Greater ↦ λ e. inr (λ s.
+          let tied : compare_values v v ≡ Equal = tied_itself values_total v in
+          let greater : compare_values v v ≡ Greater = ap (compare_values v) s ∙ e in
+          cc)
+    ] refl
+
+-- two values neither of which is after the other are one
+pub at_most_both : (v w : Value) → compare_values v w ≢ Greater → compare_values w v ≢ Greater → v ≡ w
+at_most_both v w a b =
+    elim (compare_values v w) as (λ o. compare_values v w ≡ o → v ≡ w) [
+      | Less ↦ λ e. absurd (b (values_total.antisymm w v ∙ ap ordering_reverse e))
+      | Equal ↦ λ e. equal_values v w e
+      | Greater ↦ λ e. absurd (a e)
+    ] refl
 
 pub IsSorted-values : (values : List Value) → IsSorted cmp_ghosts.cmp values → IsSorted compare_values values
 IsSorted-values values sorted = subst (λ (cmp : Value → Value → Ordering). IsSorted cmp values) (λ i x y. cmp-values x y i) sorted

@@ -11,17 +11,18 @@ use Rattle.std.proofs.lemmas.Bool.{cases_Bool, cases_lt}
 use Rattle.std.proofs.lemmas.List.{get_or_default, get_or_push, get_or_append_left, take_all}
 use Rattle.std.proofs.lemmas.List.Sorted.{searchable_from_sorted}
 use Rattle.std.proofs.lemmas.Map.Keys.{Less-from_sorted}
+use Rattle.std.proofs.lemmas.Cmp.{tied_itself}
 use Rattle.su_base.specs.declared.values.Value.{Value}
 use Rattle.su_base.specs.declared.values.Value.TheVariants.{Text}
 use Rattle.su_base.specs.Value.{compare_values}
 use Rattle.su_base.specs.contracts.values.ValueOrd.TheImpl.{ghosts as cmp_ghosts}
 use Rattle.su_base.proofs.Items.{Contains-flat_map}
-use Rattle.su_base.proofs.Rows.{cmp-values, values_total}
+use Rattle.su_base.proofs.Rows.{cmp-values, values_total, equal_values}
 use Rattle.su_tableau.specs.declared.symbols.Sym.{Sym}
 use Rattle.su_tableau.specs.declared.symbols.Sym.TheVariants.{Const, Var}
 use Rattle.su_classes.specs.Tables.{rep}
 use Rattle.su_classes.specs.inside.Symbols.{has_constant, constant_place}
-use Rattle.su_classes.proofs.ValueOrder.{compare_itself, compare_same, sorted_distinct}
+use Rattle.su_classes.proofs.ValueOrder.{sorted_distinct}
 use Rattle.su_classes.proofs.Places.{place_is, place_at, place_none, has_at}
 use Rattle.su_chase.specs.inside.Rows.{constant_of, constants_in, IsFirstClash, TakesLesser}
 
@@ -65,7 +66,7 @@ sorted_plainly vs h k d z l =
 
 pub place_searched : (vs : List Value) (c : Value) (r : Result ℕ ℕ) → IsStrictlySortedBy compare_values vs → IsSearchInRange r (length vs) → IsBinarySearchResult (λ y. cmp_ghosts.cmp y c) vs r → MatchResult r (λ i. i ≡ constant_place vs c) (λ _. length vs ≡ constant_place vs c)
 place_searched vs c (Ok i) sorted range found =
-    let e : get_or vs i (Text []) ≡ c = compare_same (get_or vs i (Text [])) c (sym (cmp-values (get_or vs i (Text [])) c) ∙ found (Text [])) in
+    let e : get_or vs i (Text []) ≡ c = equal_values (get_or vs i (Text [])) c (sym (cmp-values (get_or vs i (Text [])) c) ∙ found (Text [])) in
     sym (place_at vs (sorted_distinct vs sorted) i range) ∙ ap (constant_place vs) e
 place_searched vs c (Err i) sorted range found =
     let plain : IsBinarySearchResult (λ y. compare_values y c) vs (Err i) = subst (λ (o : Value → Ordering). IsBinarySearchResult o vs (Err i)) (λ j y. cmp-values y c j) found in
@@ -74,7 +75,7 @@ place_searched vs c (Err i) sorted range found =
     (λ (t : has_constant vs c ≡ true).
     let w = place_is vs c t in
     let p : ℕ = constant_place vs c in
-    let same : compare_values (get_or vs p (Text [])) c ≡ Same = ap (λ v. compare_values v c) w.1 ∙ compare_itself c in
+    let same : compare_values (get_or vs p (Text [])) c ≡ Same = ap (λ v. compare_values v c) w.1 ∙ tied_itself values_total c in
     ⊎_elim
     (λ (lt : p < i). let less : compare_values (get_or vs p (Text [])) c ≡ Less = parted.0 p (Text []) (omega arith) lt in let o : Same ≡ Less = sym same ∙ less in absurd (cc))
     (λ (ge : i ≤ p). let more : compare_values (get_or vs p (Text [])) c ≡ Greater = parted.1 p (Text []) ge w.0 in let o : Same ≡ Greater = sym same ∙ more in absurd (cc))

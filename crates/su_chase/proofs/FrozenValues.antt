@@ -12,7 +12,7 @@ use Rattle.su_base.specs.declared.values.Kind.{Kind}
 use Rattle.su_base.specs.declared.values.Kind.TheVariants.{Int as IntKind}
 use Rattle.su_base.specs.declared.values.Value.{Value}
 use Rattle.su_base.specs.Value.{kind_of}
-use Rattle.su_base.proofs.Items.{Contains-later, Contains-cases, Contains-nil, Contains-map_source, Contains-flat_map, Contains-flat_map_source, map-map_equal}
+use Rattle.su_base.proofs.Items.{Contains-later, Contains-cases, Contains-nil, Contains-map_source, Contains-flat_map, Contains-flat_map_source, map-map_equal, map-equal_at}
 use Rattle.su_fd.specs.declared.dependencies.Fd.{Fd}
 use Rattle.su_tableau.specs.declared.symbols.Sym.{Sym}
 use Rattle.su_tableau.specs.declared.symbols.Sym.TheVariants.{Const, Var}
@@ -22,7 +22,6 @@ use Rattle.su_tableau.specs.Kinds.{Kinds, sym_kind, IsUniverse, IsTyped}
 use Rattle.su_tableau.specs.Mapping.{images_of, Maps}
 use Rattle.su_classes.specs.inside.Symbols.{same_value}
 use Rattle.su_classes.proofs.ValueOrder.{same_itself, same_is}
-use Rattle.su_classes.proofs.Listed.{map_same}
 use Rattle.su_chase.specs.Chase.{IsClosedPartition}
 use Rattle.su_fd.specs.MetDependencies.{Meets}
 use Rattle.su_chase.specs.declared.freezing.Frozen.{Frozen}
@@ -120,7 +119,7 @@ module _ (kinds : Kinds) (t : Tab) (avoid : List Value) (valid : IsValid t) (var
 
   row_kinds : (r : List Sym) → Contains t.rows r → map kind_of (values_of v r) ≡ kinds
   row_kinds r cr =
-      map-map_equal (value_of v) kind_of (λ x. kind_of (value_of v x)) (λ x. refl) r ∙ map_same (λ x. kind_of (value_of v x)) (sym_kind var_kind) r (frozen_kind r cr)
+      map-map_equal (value_of v) kind_of (λ x. kind_of (value_of v x)) (λ x. refl) r ∙ map-equal_at (λ x. kind_of (value_of v x)) (sym_kind var_kind) r (frozen_kind r cr)
       ∙ All-contains (λ row. map (sym_kind var_kind) row ≡ kinds) t.rows r fits cr
 
   pub frozen_universe : IsUniverse kinds universe

@@ -4,9 +4,11 @@ use Rattle.std.specs.List.Sorted.{IsStrictlySortedBy}
 use Rattle.std.specs.declared.cmp.Ordering.TheVariants.{Less, Equal as Same, Greater}
 use Rattle.std.proofs.lemmas.Bool.{cases_Bool, cases_lt, lt-ltb}
 use Rattle.std.proofs.lemmas.Map.Keys.{Less-from_sorted}
+use Rattle.std.proofs.lemmas.Cmp.{tied_itself}
 use Rattle.su_base.specs.declared.values.Value.{Value}
 use Rattle.su_base.specs.declared.values.Value.TheVariants.{Text}
 use Rattle.su_base.specs.Value.{compare_values}
+use Rattle.su_base.proofs.Rows.{values_total}
 use Rattle.su_fd.specs.declared.dependencies.Fd.{Fd}
 use Rattle.su_tableau.specs.declared.symbols.Sym.{Sym}
 use Rattle.su_tableau.specs.declared.symbols.Sym.TheVariants.{Const, Var}
@@ -15,7 +17,6 @@ use Rattle.su_classes.specs.declared.items.Placed.{Placed}
 use Rattle.su_classes.specs.Tables.{rep, IsTable, IsLeastTable}
 use Rattle.su_classes.specs.Symbols.{symbol_at}
 use Rattle.su_classes.specs.inside.Symbols.{has_constant, constant_place, is_known, symbol_number, name_in}
-use Rattle.su_classes.proofs.ValueOrder.{compare_itself}
 use Rattle.su_classes.proofs.Places.{place_is, place_at, symbol_low, symbol_high, own_constant}
 use Rattle.su_classes.proofs.Named.{name_known, name_unknown, same_rep, known_too, item_class, name_member}
 use Rattle.su_chase.specs.Chase.{IsClosedPartition, InOneClass, IsNoLater, IsName, IsConsistent, IsClash}
@@ -30,7 +31,7 @@ constants_at_most vs sorted i j le l g =
     (λ (lt : i < j). let e = Less-from_sorted compare_values vs i j (Text []) sorted lt l in let f : Less ≡ Greater = sym e ∙ g in absurd (cc))
     (λ (ge : j ≤ i).
     let is : i ≡ j = omega arith in
-    let e : compare_values (get_or vs i (Text [])) (get_or vs j (Text [])) ≡ Same = ap (λ k. compare_values (get_or vs i (Text [])) (get_or vs k (Text []))) (sym is) ∙ compare_itself (get_or vs i (Text [])) in
+    let e : compare_values (get_or vs i (Text [])) (get_or vs j (Text [])) ≡ Same = ap (λ k. compare_values (get_or vs i (Text [])) (get_or vs k (Text []))) (sym is) ∙ tied_itself values_total (get_or vs i (Text [])) in
     let f : Same ≡ Greater = sym e ∙ g in
     absurd (cc))
     (cases_lt i j)

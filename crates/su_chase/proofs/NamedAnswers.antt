@@ -4,6 +4,7 @@ use Rattle.std.specs.Prelude.{All, nat_lt}
 use Rattle.std.proofs.lemmas.Bool.{cond-true, cond-false, lt-ltb, le-ltb, cases_lt}
 use Rattle.std.proofs.lemmas.List.{length-map, get_or_default, get_or_past, get_or-map}
 use Rattle.std.proofs.lemmas.List.Elements.{All-contains, All-map}
+use Rattle.std.proofs.lemmas.Cmp.{tied_itself}
 use Rattle.su_base.specs.declared.values.Kind.{Kind}
 use Rattle.su_base.specs.declared.values.Kind.TheVariants.{Int as IntKind, Text as TextKind}
 use Rattle.su_base.specs.declared.values.Value.{Value}
@@ -11,6 +12,7 @@ use Rattle.su_base.specs.declared.values.Value.TheVariants.{Int, Text}
 use Rattle.su_base.specs.Value.{compare_values}
 use Rattle.std.specs.declared.cmp.Ordering.TheVariants.{Equal as Same, Greater}
 use Rattle.su_base.proofs.Items.{Contains-map, Contains-map_source, map-map_equal}
+use Rattle.su_base.proofs.Rows.{values_total, at_most_both}
 use Rattle.su_fd.specs.declared.dependencies.Fd.{Fd}
 use Rattle.su_tableau.specs.declared.symbols.Sym.{Sym}
 use Rattle.su_tableau.specs.declared.symbols.Sym.TheVariants.{Const, Var}
@@ -18,7 +20,6 @@ use Rattle.su_tableau.specs.Tableaux.{Tab, IsValid, IsSmall, Occurs, AreBelow}
 use Rattle.su_tableau.specs.Valuations.{value_of, values_of, Sends, Ext}
 use Rattle.su_tableau.specs.Kinds.{Kinds, sym_kind, IsTyped}
 use Rattle.su_tableau.proofs.SymbolParts.{same_const, same_var}
-use Rattle.su_classes.proofs.ValueOrder.{at_most_both, compare_itself}
 use Rattle.su_fd.specs.MetDependencies.{Agree, Meets}
 use Rattle.su_chase.specs.Chase.{SameLabels, IsClosedPartition, InOneClass, IsNoLater, IsName, IsConsistent, IsClash}
 use Rattle.su_chase.specs.Chased.{IsFdBelow, AreRows, IsChased}
@@ -207,7 +208,7 @@ module _ (fds : List Fd) (rows : List (List Sym)) (names : List Sym) (all : All 
         (cases_lt j (length names))
 
     itself : (x : Sym) → IsNoLater x x
-    itself (Const c) = λ (g : compare_values c c ≡ Greater). let e : Same ≡ Greater = sym (compare_itself c) ∙ g in absurd (cc)
+    itself (Const c) = λ (g : compare_values c c ≡ Greater). let e : Same ≡ Greater = sym (tied_itself values_total c) ∙ g in absurd (cc)
     itself (Var k) = omega arith
 
     pub are_names : (x : Sym) → IsName fds rows x (name_by names x)

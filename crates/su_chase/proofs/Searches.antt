@@ -11,16 +11,15 @@ use Rattle.su_base.specs.declared.values.Value.{Value}
 use Rattle.su_base.specs.declared.values.Value.TheVariants.{Int}
 use Rattle.su_base.specs.Value.{compare_values}
 use Rattle.su_base.specs.contracts.values.ValueOrd.TheImpl.{ghosts as cmp_ghosts}
-use Rattle.su_base.proofs.Rows.{cmp-values}
+use Rattle.su_base.proofs.Rows.{cmp-values, equal_values}
 use Rattle.su_tableau.specs.Valuations.{nth}
-use Rattle.su_classes.proofs.ValueOrder.{compare_same}
 use Rattle.su_classes.proofs.Places.{place_is}
 use Rattle.su_chase.specs.inside.Rows.{value_in}
 use Rattle.su_chase.proofs.FirstClash.{place_searched, has_member}
 
 pub among_searched : (vs : List Value) (c : Value) (r : Result ℕ ℕ) → IsStrictlySortedBy compare_values vs → IsSearchInRange r (length vs) → IsBinarySearchResult (λ y. cmp_ghosts.cmp y c) vs r → IsTrue (is_ok r) ↔ Contains vs c
 among_searched vs c (Ok i) sorted range found = (
-  λ _. (i, range, compare_same (get_or vs i c) c (sym (cmp-values (get_or vs i c) c) ∙ found c)),
+  λ _. (i, range, equal_values (get_or vs i c) c (sym (cmp-values (get_or vs i c) c) ∙ found c)),
   λ _. refl,
 )
 among_searched vs c (Err i) sorted range found = (

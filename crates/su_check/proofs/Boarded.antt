@@ -8,7 +8,7 @@ use Rattle.su_base.proofs.Items.{Contains-one, get_or-is}
 use Rattle.su_tableau.specs.declared.symbols.Sym.{Sym}
 use Rattle.su_tableau.specs.declared.symbols.Sym.TheVariants.{Var}
 use Rattle.su_tableau.specs.Tableaux.{Occurs}
-use Rattle.su_check.specs.declared.certificates.Term.{Term}
+use Rattle.su_check.specs.declared.certificates.StatedTerm.{StatedTerm}
 use Rattle.su_check.specs.Certificate.{lines_of}
 use Rattle.su_check.specs.inside.Cells.{cell_at, IsFirstPlace}
 use Rattle.su_check.specs.inside.Boards.{AreMarks, IsNumber, AreNumbers, IsBoard}
@@ -124,7 +124,7 @@ numbers_push head variables rows all all' i numbers len e before here =
 abbrev HeadOccurs : List Sym → List (List Sym) → Type 0
 HeadOccurs head rows = (k : ℕ) → Contains head (Var k) → Occurs rows k
 
-pub board_good : (x : Term) (vs vs' vs'' : List ℕ) (head : List Sym) (rows : List (List Sym)) (marks marks' : List Bool) (numbers : List (List (Option ℕ)))
+pub board_good : (x : StatedTerm) (vs vs' vs'' : List ℕ) (head : List Sym) (rows : List (List Sym)) (marks marks' : List Bool) (numbers : List (List (Option ℕ)))
     → vs' ≡ vs → vs'' ≡ vs → head ≡ x.head → rows ≡ x.rows → marks' ≡ marks
     → ((k : ℕ) → Contains vs k ↔ Occurs x.rows k) → AreMarks vs' head marks × ((k : ℕ) → Contains head (Var k) → Contains vs' k)
     → length numbers ≡ length rows → ((h : List Sym) → AreMarks vs'' h marks' → (i : ℕ) → i < length rows → AreNumbers h vs'' (get_or rows i []) (get_or numbers i []))
@@ -137,5 +137,5 @@ board_good x vs vs' vs'' head rows marks marks' numbers e1 e2 eh er em all made 
       λ k has. (all k).0 (subst (λ v. Contains v k) e1 (made.1 k (subst (λ h. Contains h (Var k)) (sym eh) has))),
     )
 
-pub board_none : (x : Term) (vs vs' : List ℕ) (head : List Sym) → vs' ≡ vs → head ≡ x.head → ((k : ℕ) → Contains vs k ↔ Occurs x.rows k) → (((k : ℕ) → Contains head (Var k) → Contains vs' k) → ⊥) → HeadOccurs x.head x.rows → ⊥
+pub board_none : (x : StatedTerm) (vs vs' : List ℕ) (head : List Sym) → vs' ≡ vs → head ≡ x.head → ((k : ℕ) → Contains vs k ↔ Occurs x.rows k) → (((k : ℕ) → Contains head (Var k) → Contains vs' k) → ⊥) → HeadOccurs x.head x.rows → ⊥
 board_none x vs vs' head e eh all none occurs = none (λ k has. subst (λ v. Contains v k) (sym e) ((all k).1 (occurs k (subst (λ h. Contains h (Var k)) eh has))))

@@ -7,7 +7,7 @@ use Rattle.su_lex.specs.Symbols.{symbol_of}
 use Rattle.su_lex.proofs.Gaps.{gap_within}
 use Rattle.su_lex.proofs.Lists.{first_len}
 use Rattle.su_check.specs.declared.certificates.Certificate.{Certificate}
-use Rattle.su_check.specs.declared.certificates.Term.{Term}
+use Rattle.su_check.specs.declared.certificates.StatedTerm.{StatedTerm}
 use Rattle.su_lex.specs.Wordings.{kind_symbol}
 use Rattle.su_check.specs.Grammar.{Reads}
 use Rattle.su_check.specs.inside.LineReaders.{term_symbols}
@@ -21,7 +21,7 @@ tokens_within total text (t ∷ ts) a =
     let more = tokens_within total a.2 ts a.8 in
     omega (arith, gap, some, more, ap length a.4, length-append a.1 a.2)
 
-terms_within : (xs : List Term) → length xs ≤ length (flat_map term_symbols xs ++ [])
+terms_within : (xs : List StatedTerm) → length xs ≤ length (flat_map term_symbols xs ++ [])
 terms_within [] = omega arith
 terms_within (x ∷ xs) =
     let more = terms_within xs in

@@ -3,7 +3,7 @@ use Rattle.std.proofs.Common.{◌≡◌, ℕ, zero, suc, ◌<◌, ◌≤◌, ◌
 use Rattle.std.proofs.lemmas.Bool.{cases_lt}
 use Rattle.std.proofs.lemmas.List.{get_or_default}
 use Rattle.std.proofs.lemmas.List.Elements.{All-nil, All-push}
-use Rattle.su_base.proofs.Items.{All-append_left}
+use Rattle.su_base.proofs.Items.{All-append_left, All-middle}
 use Rattle.su_tableau.specs.declared.symbols.Sym.TheVariants.{Var}
 use Rattle.su_tableau.specs.Mapping.{images_of}
 use Rattle.su_tableau.proofs.Containment.{images_of-Var}
@@ -11,7 +11,6 @@ use Rattle.su_check.specs.declared.sending.Sent.{Sent}
 use Rattle.su_check.specs.SentRows.{Lines, numbered_row, AreSent, sent_too}
 use Rattle.su_check.specs.inside.Widths.{IsWithin}
 use Rattle.su_check.specs.Certificate.{IsFoldInto}
-use Rattle.su_check.proofs.TargetsTogether.{all_last}
 
 -- the first n rows with their targets
 abbrev pub fold_sent : List ℕ → ℕ → List Sent
@@ -41,7 +40,7 @@ all_rows P fold (suc n) all i h =
     (λ (lt : i < n). all_rows P fold n (All-append_left P (fold_sent fold n) (record { row = n; target = get_or fold n 0 } ∷ []) all) i lt)
     (λ (le : n ≤ i).
     let e : n ≡ i = omega arith in
-    subst (λ i. P (record { row = i; target = get_or fold i 0 })) e (all_last P (fold_sent fold n) (record { row = n; target = get_or fold n 0 }) all))
+    subst (λ i. P (record { row = i; target = get_or fold i 0 })) e (All-middle P (fold_sent fold n) (record { row = n; target = get_or fold n 0 }) [] all))
     (cases_lt i n)
 
 -- what gives a mapping

@@ -1,13 +1,14 @@
 -- Where each kept row has a tree, the part of the kept rows is least.
-use Rattle.std.proofs.Common.{◌≡◌, ◌≢◌, ℕ, zero, suc, ◌<◌, ◌≤◌, ◌⊎◌, List, [], ◌∷◌, map, length, get_or, All, Contains, inl, inr, refl, sym, ap, subst, ◌∙◌, ⊎_elim, arith}
+use Rattle.std.proofs.Common.{◌≡◌, ◌≢◌, ℕ, ◌<◌, ◌≤◌, ◌⊎◌, List, [], map, length, get_or, All, Contains, inl, inr, refl, sym, ap, subst, ◌∙◌, arith}
 use Rattle.std.proofs.lemmas.Bool.{cases_eq}
 use Rattle.std.proofs.lemmas.List.{length-map, get_or-map, get_or_default}
 use Rattle.std.proofs.lemmas.List.Elements.{All-nil, All-push, All-contains, recursion_from_All}
 use Rattle.su_base.proofs.Numbers.{pigeonhole}
-use Rattle.su_base.proofs.Items.{Contains-map, AllZip-length, AllZip-get_or, Contains-map_source}
+use Rattle.su_base.proofs.Items.{Contains-map, AllZip-length, AllZip-get_or, Contains-map_source, Contains-or_not}
 use Rattle.su_tableau.specs.declared.symbols.Sym.{Sym}
 use Rattle.su_tableau.specs.declared.symbols.Sym.TheVariants.{Var}
 use Rattle.su_tableau.specs.Tableaux.{Tab, IsValid, Occurs}
+use Rattle.su_tableau.specs.Parts.{row_of}
 use Rattle.su_tableau.specs.Kinds.{Kinds, IsTyped, sym_kind}
 use Rattle.su_tableau.specs.Mapping.{image_of, images_of, Maps}
 use Rattle.su_tableau.specs.Equivalent.{IsLeast}
@@ -50,12 +51,12 @@ module _ (t : Tab) (kept : List ℕ) where
   part_at : (k : ℕ) (d : List Sym) → k < length (part_of t kept).rows → (i : ℕ) × Contains kept i × (get_or (part_of t kept).rows k d ≡ row i)
   unfolding row
   part_at k d h =
-      let low : k < length kept = let e = length-map kept (λ k. get_or t.rows k []) in omega arith in
-      (get_or kept k 0, (k, low, get_or_default kept k (get_or kept k 0) 0 low), get_or-map (λ k. get_or t.rows k []) kept k 0 d low)
+      let low : k < length kept = let e = length-map kept (row_of t) in omega arith in
+      (get_or kept k 0, (k, low, get_or_default kept k (get_or kept k 0) 0 low), get_or-map (row_of t) kept k 0 d low)
 
   part_has : (i : ℕ) → Contains kept i → Contains (part_of t kept).rows (row i)
   unfolding row
-  part_has i h = Contains-map (λ k. get_or t.rows k []) kept i h
+  part_has i h = Contains-map (row_of t) kept i h
 
   pub fold_maps : (fold : List ℕ) → IsFoldInto (record { head = t.head; rows = t.rows; kept = kept }) fold → Maps t (part_of t kept)
   unfolding row
@@ -122,22 +123,6 @@ module _ (t : Tab) (kept : List ℕ) where
   abbrev Goes : (ℕ → Sym) → List Sym → ℕ → Type 0
   Goes f from n = Contains kept n × (images_of f from ≡ get_or t.rows n [])
 
-  in_list : (c : List ℕ) (x : ℕ) → Contains c x ⊎ (Contains c x → ⊥)
-  in_list [] x = inr (λ h. absurd (let l = h.1 in omega arith))
-  in_list (y ∷ c) x =
-      ⊎_elim
-      (λ (e : y ≡ x). inl (0, omega arith, e))
-      (λ (ne : y ≢ x).
-      ⊎_elim
-      (λ (h : Contains c x). inl (suc h.0, (let l = h.1 in omega arith), h.2))
-      (λ (none : Contains c x → ⊥). inr (λ h. go ne none h.0 h.1 h.2))
-      (in_list c x))
-      (cases_eq y x)
-    where
-      go : y ≢ x → (Contains c x → ⊥) → (k : ℕ) → k < suc (length c) → get_or (y ∷ c) k x ≡ x → ⊥
-      go ne none zero h e = ne e
-      go ne none (suc k) h e = none (k, omega arith, e)
-
   abbrev place : (c : List ℕ) (x : ℕ) → Contains c x ⊎ (Contains c x → ⊥) → ℕ
   place c x (inl h) = h.0
   place c x (inr none) = 0
@@ -149,8 +134,8 @@ module _ (t : Tab) (kept : List ℕ) where
   -- a list with all of ascending numbers is as long
   as_long : (c : List ℕ) → IsAscending kept → ((r : ℕ) → Contains kept r → Contains c r) → length kept ≤ length c
   as_long c up has =
-      let f : ℕ → ℕ = λ a. place c (get_or kept a 0) (in_list c (get_or kept a 0)) in
-      let at = λ (a : ℕ) (h : a < length kept). place_is c (get_or kept a 0) (in_list c (get_or kept a 0)) (has (get_or kept a 0) (a, h, get_or_default kept a (get_or kept a 0) 0 h)) in
+      let f : ℕ → ℕ = λ a. place c (get_or kept a 0) (Contains-or_not cases_eq c (get_or kept a 0)) in
+      let at = λ (a : ℕ) (h : a < length kept). place_is c (get_or kept a 0) (Contains-or_not cases_eq c (get_or kept a 0)) (has (get_or kept a 0) (a, h, get_or_default kept a (get_or kept a 0) 0 h)) in
       pigeonhole (length c) (length kept) f (λ a h. (at a h).0)
       (λ a b lt h e.
       let u = up a b lt h in
@@ -190,7 +175,7 @@ module _ (t : Tab) (kept : List ℕ) where
       let c = choose R s.rows (recursion_from_All (λ from. (n : ℕ) × R from n) s.rows each) in
       let len = AllZip-length R s.rows c.0 c.1 in
       let goes : (q : ℕ) → q < length s.rows → Goes g.symbols (get_or s.rows q []) (get_or c.0 q 0) = λ q h. AllZip-get_or R s.rows c.0 q [] 0 c.1 h in
-      let l = as_long c.0 up (λ r member. let n = trees r member in reached s c.0 f g goes len within r n.0 n.1 (in_list c.0 r)) in
+      let l = as_long c.0 up (λ r member. let n = trees r member in reached s c.0 f g goes len within r n.0 n.1 (Contains-or_not cases_eq c.0 r)) in
       omega arith
 
   part_least : (kinds : Kinds) → IsTyped kinds t → IsAscending kept → All (λ k. k < length t.rows) kept → HaveTrees → Maps t (part_of t kept) → IsLeast kinds (part_of t kept)
@@ -199,7 +184,7 @@ module _ (t : Tab) (kept : List ℕ) where
       let to : Maps (part_of t kept) s = within_maps kinds (part_of t kept) s typed_k typed_s (λ u h w. (same u h w).0) in
       let back : Maps s (part_of t kept) = within_maps kinds s (part_of t kept) typed_s typed_k (λ u h w. (same u h w).1) in
       let l = no_fewer s up within trees (maps_compose t (part_of t kept) s f to) back in
-      let e = length-map kept (λ k. get_or t.rows k []) in
+      let e = length-map kept (row_of t) in
       omega arith
 
   pub least_part : (kinds : Kinds) (fold : List ℕ) → IsValid t → IsTyped kinds t → IsAscending kept → All (λ k. k < length t.rows) kept → IsFoldInto (record { head = t.head; rows = t.rows; kept = kept }) fold → HaveTrees → IsLeastPart kinds t kept

@@ -1,5 +1,6 @@
 -- Bytes spell one certificate at most.
 use Rattle.std.proofs.Common.{◌≡◌, ℕ, suc, List, [], ◌∷◌, ◌++◌, map, flat_map, codes, length, All, Contains, refl, sym, ap, subst, ◌∙◌, append_assoc, arith}
+use Rattle.std.proofs.lemmas.List.Elements.{All-head, All-tail}
 use Rattle.su_lex.proofs.Written.{one_list_of_symbols}
 use Rattle.su_lex.specs.Names.{Begins}
 use Rattle.su_lex.specs.declared.meaning.Symbol.{Symbol}
@@ -9,7 +10,7 @@ use Rattle.su_base.specs.declared.values.Value.TheVariants as value
 use Rattle.su_tableau.specs.declared.symbols.Sym.{Sym}
 use Rattle.su_tableau.specs.declared.symbols.Sym.TheVariants.{Const, Var}
 use Rattle.su_check.specs.declared.certificates.Certificate.{Certificate}
-use Rattle.su_check.specs.declared.certificates.Term.{Term}
+use Rattle.su_check.specs.declared.certificates.StatedTerm.{StatedTerm}
 use Rattle.su_check.specs.declared.certificates.RowTree.{RowTree}
 use Rattle.su_check.specs.declared.nodes.Node.{Node, out-Node, roll-out-Node}
 use Rattle.su_check.specs.declared.nodes.Branch.{Branch, out-Branch, roll-out-Branch}
@@ -19,7 +20,7 @@ use Rattle.su_lex.specs.Wordings.{kind_symbol}
 use Rattle.su_check.specs.Grammar.{row_line, tree_line, Reads}
 use Rattle.su_check.specs.Ranges.{IsByte, IsByteNode, of_bytes, IsNamed, IsTermInRange}
 use Rattle.su_check.specs.inside.LineReaders.{EndsTerm, IsRow, IsByteTree, Stops, row_before, tree_before, term_before, term_symbols}
-use Rattle.su_check.proofs.Runs.{all_head, all_tail, map_only}
+use Rattle.su_check.proofs.Runs.{map_only}
 use Rattle.su_check.proofs.Spelled.{one_number, one_kind, one_symbol}
 use Rattle.su_check.proofs.NodeSymbols.{branch_symbols, IsByteBranch, node_at, byte_branches, same_node, same_branch}
 use Rattle.su_check.proofs.TermSymbols.{term_at, ends_term, certificate_at, stops_rows, stops_word, stops_trees, no_tree, both_trees, both_rows, same_term, stops_terms, same_certificate}
@@ -37,8 +38,8 @@ flat_only spell In lead before at one [] (y ∷ ys) s r hx hy ends ends' e = abs
 flat_only spell In lead before at one (x ∷ xs) [] s r hx hy ends ends' e = absurd (ends' (before x (flat_map spell xs ++ s), sym e ∙ append_assoc (spell x) (flat_map spell xs) s ∙ at x (flat_map spell xs ++ s)))
 flat_only spell In lead before at one (x ∷ xs) (y ∷ ys) s r hx hy ends ends' e =
     let here = behind_one _ _ _ _ (sym (append_assoc (spell x) (flat_map spell xs) s ∙ at x (flat_map spell xs ++ s)) ∙ e ∙ append_assoc (spell y) (flat_map spell ys) r ∙ at y (flat_map spell ys ++ r)) in
-    let o = one x y (flat_map spell xs ++ s) (flat_map spell ys ++ r) (all_head In x xs hx) (all_head In y ys hy) here in
-    let m = flat_only spell In lead before at one xs ys s r (all_tail In x xs hx) (all_tail In y ys hy) ends ends' o.1 in
+    let o = one x y (flat_map spell xs ++ s) (flat_map spell ys ++ r) (All-head In x xs hx) (All-head In y ys hy) here in
+    let m = flat_only spell In lead before at one xs ys s r (All-tail In x xs hx) (All-tail In y ys hy) ends ends' o.1 in
     (ap (λ x. x ∷ xs) o.0 ∙ ap (λ xs. y ∷ xs) m.0, m.1)
 
 -- ---- rows
@@ -69,8 +70,8 @@ branches_one (b ∷ bs) (c ∷ cs) s t each hc e =
     let both : number (target_of b) ∷ (node_symbols (node_of b) ++ B) ≡ number (target_of c) ∷ (node_symbols (node_of c) ++ C) =
     sym (append_assoc (branch_symbols b) (flat_map branch_symbols bs) (Sign sign.Close ∷ s)) ∙ e ∙ append_assoc (branch_symbols c) (flat_map branch_symbols cs) (Sign sign.Close ∷ t) in
     let target : target_of b ≡ target_of c = cc in
-    let o = each b (0, omega arith, refl) (node_of c) B C (all_head IsByteBranch c cs hc).1 (behind_one _ _ _ _ both) in
-    let m = branches_one bs cs s t (λ d has. each d (suc has.0, (let l = has.1 in omega arith), has.2)) (all_tail IsByteBranch c cs hc) o.1 in
+    let o = each b (0, omega arith, refl) (node_of c) B C (All-head IsByteBranch c cs hc).1 (behind_one _ _ _ _ both) in
+    let m = branches_one bs cs s t (λ d has. each d (suc has.0, (let l = has.1 in omega arith), has.2)) (All-tail IsByteBranch c cs hc) o.1 in
     let same : b ≡ c = sym (roll-out-Branch b) ∙ same_branch (out-Branch b) c (sym target) o.0 in
     (ap (λ b. b ∷ bs) same ∙ ap (λ bs. c ∷ bs) m.0, m.1)
 
@@ -91,7 +92,7 @@ tree_one x y s t hx hy e =
 
 -- ---- terms
 
-term_one : (w : ℕ) (x y : Term) (s t : List Symbol) → IsTermInRange w x → IsTermInRange w y → EndsTerm s → EndsTerm t → term_before x s ≡ term_before y t → (x ≡ y) × (s ≡ t)
+term_one : (w : ℕ) (x y : StatedTerm) (s t : List Symbol) → IsTermInRange w x → IsTermInRange w y → EndsTerm s → EndsTerm t → term_before x s ≡ term_before y t → (x ≡ y) × (s ≡ t)
 term_one w x y s t hx hy ends ends' e =
     let n : x.number ≡ y.number = cc in
     let head = map_only sym_symbol IsNamed one_symbol x.head y.head _ _ hx.head hy.head (stops_rows _) (stops_rows _) (behind_one _ _ _ _ (behind_one _ _ _ _ e)) in
@@ -101,15 +102,15 @@ term_one w x y s t hx hy ends ends' e =
     let trees = flat_only tree_line IsByteTree (Word (codes "tree")) tree_before (λ x t. refl) tree_one x.trees y.trees s t (both_trees x.trees hx.tree_rows hx.trees) (both_trees y.trees hy.tree_rows hy.trees) (no_tree s ends) (no_tree t ends') fold.1 in
     (same_term y _ _ _ _ _ _ n head.0 rows.0 kept.0 fold.0 trees.0, trees.1)
 
-terms_one : (w : ℕ) (xs ys : List Term) → All (IsTermInRange w) xs → All (IsTermInRange w) ys → flat_map term_symbols xs ++ [] ≡ flat_map term_symbols ys ++ [] → xs ≡ ys
+terms_one : (w : ℕ) (xs ys : List StatedTerm) → All (IsTermInRange w) xs → All (IsTermInRange w) ys → flat_map term_symbols xs ++ [] ≡ flat_map term_symbols ys ++ [] → xs ≡ ys
 terms_one w [] [] hx hy e = refl
 terms_one w [] (y ∷ ys) hx hy e = absurd (cc)
 terms_one w (x ∷ xs) [] hx hy e = absurd (cc)
 terms_one w (x ∷ xs) (y ∷ ys) hx hy e =
     let here = behind_one _ _ _ _ (sym (append_assoc (term_symbols x) (flat_map term_symbols xs) [] ∙ term_at x (flat_map term_symbols xs ++ [])) ∙ e ∙ append_assoc (term_symbols y) (flat_map term_symbols ys) [] ∙ term_at y (flat_map term_symbols ys ++ [])) in
-    let tx = all_tail (IsTermInRange w) x xs hx in
-    let ty = all_tail (IsTermInRange w) y ys hy in
-    let o = term_one w x y _ _ (all_head (IsTermInRange w) x xs hx) (all_head (IsTermInRange w) y ys hy) (ends_term w xs [] _ (record { more = xs; all_is = refl; rest_is = refl; are = tx })) (ends_term w ys [] _ (record { more = ys; all_is = refl; rest_is = refl; are = ty })) here in
+    let tx = All-tail (IsTermInRange w) x xs hx in
+    let ty = All-tail (IsTermInRange w) y ys hy in
+    let o = term_one w x y _ _ (All-head (IsTermInRange w) x xs hx) (All-head (IsTermInRange w) y ys hy) (ends_term w xs [] _ (record { more = xs; all_is = refl; rest_is = refl; are = tx })) (ends_term w ys [] _ (record { more = ys; all_is = refl; rest_is = refl; are = ty })) here in
     ap (λ x. x ∷ xs) o.0 ∙ ap (λ xs. y ∷ xs) (terms_one w xs ys tx ty o.1)
 
 -- ---- certificates

@@ -4,7 +4,7 @@ use Rattle.std.proofs.lemmas.Bool.{cases_lt}
 use Rattle.std.proofs.lemmas.Option.{slice_get_within}
 use Rattle.su_tableau.specs.Kinds.{Kinds}
 use Rattle.su_check.specs.declared.certificates.Certificate.{Certificate}
-use Rattle.su_check.specs.declared.certificates.Term.{Term}
+use Rattle.su_check.specs.declared.certificates.StatedTerm.{StatedTerm}
 use Rattle.su_check.specs.declared.certificates.RowTree.{RowTree}
 use Rattle.su_check.specs.declared.verdicts.Checked.{Checked}
 use Rattle.su_check.specs.declared.verdicts.Checked.TheVariants.{Yes, No}
@@ -16,7 +16,7 @@ use Rattle.su_check.proofs.OneCertificate.{one_certificate}
 
 -- ---- one tree is at fault
 
-tree_one : (x : Term) (a b : ℕ) → IsTreeFault x a → IsTreeFault x b → a ≡ b
+tree_one : (x : StatedTerm) (a b : ℕ) → IsTreeFault x a → IsTreeFault x b → a ≡ b
 tree_one x a b (not_good j hj ea before none) (not_good k hk eb before' none') =
     ⊎_elim
     (λ (lt : j < k). absurd (none (before' j lt)))
@@ -29,13 +29,13 @@ tree_one x a b (surplus all tree there e) (surplus all' tree' there' e') =
     let same : tree ≡ tree' = cc in
     e ∙ ap (λ (t : RowTree). t.row) same ∙ sym e'
 
-no_tree : (x : Term) (row : ℕ) (kinds : Kinds) (i : ℕ) → IsGood kinds i x → IsTreeFault x row → ⊥
+no_tree : (x : StatedTerm) (row : ℕ) (kinds : Kinds) (i : ℕ) → IsGood kinds i x → IsTreeFault x row → ⊥
 no_tree x row kinds i g (not_good k hk e before none) = none (g.trees k hk)
 no_tree x row kinds i g (surplus all tree there e) = let lt = slice_get_within x.trees (length x.kept) tree there in let le = g.no_surplus in omega arith
 
 -- ---- one thing is at fault in a term
 
-fault_one : (kinds : Kinds) (i : ℕ) (x : Term) (f g : Fault) → IsTermFault kinds i x f → IsTermFault kinds i x g → f ≡ g
+fault_one : (kinds : Kinds) (i : ℕ) (x : StatedTerm) (f g : Fault) → IsTermFault kinds i x f → IsTermFault kinds i x g → f ≡ g
 fault_one kinds i x Syntax g a b = absurd a
 fault_one kinds i x (Form j) Syntax a b = absurd b
 fault_one kinds i x (Form j) (Form k) a b = ap Form (a.0 ∙ sym b.0)
@@ -53,7 +53,7 @@ fault_one kinds i x (Tree j r) (Tree k s) a b =
     let d : r ≡ s = tree_one x r s a.3 b.3 in
     ap (λ j. Tree j r) e ∙ ap (Tree k) d
 
-not_both : (kinds : Kinds) (i : ℕ) (x : Term) (f : Fault) → IsGood kinds i x → IsTermFault kinds i x f → ⊥
+not_both : (kinds : Kinds) (i : ℕ) (x : StatedTerm) (f : Fault) → IsGood kinds i x → IsTermFault kinds i x f → ⊥
 not_both kinds i x Syntax g a = a
 not_both kinds i x (Form j) g a = a.1 g.form
 not_both kinds i x (Fold j) g a = a.2 g.fold
@@ -61,7 +61,7 @@ not_both kinds i x (Tree j row) g a = no_tree x row kinds i g a.3
 
 -- ---- one verdict
 
-one_on : (kinds : Kinds) (terms : List Term) (v w : Checked) → IsVerdictOn kinds terms v → IsVerdictOn kinds terms w → v ≡ w
+one_on : (kinds : Kinds) (terms : List StatedTerm) (v w : Checked) → IsVerdictOn kinds terms v → IsVerdictOn kinds terms w → v ≡ w
 one_on kinds terms (Yes n) (Yes m) a b = ap Yes (a.0 ∙ sym b.0)
 one_on kinds terms (Yes n) (No g) a b =
     let lt = slice_get_within terms b.place b.term b.there in let e = a.0 in

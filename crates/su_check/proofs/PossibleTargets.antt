@@ -3,7 +3,7 @@ use Rattle.std.proofs.Common.{◌≡◌, ◌<◌, ◌+◌, ℕ, List, [], ◌∷
 use Rattle.std.specs.Int.{bit_at}
 use borrow.Author.Count.{below_more}
 use Rattle.std.proofs.lemmas.List.Elements.{All-push}
-use Rattle.su_base.proofs.Items.{All-append_left}
+use Rattle.su_base.proofs.Items.{All-append_left, All-middle}
 use Rattle.su_tableau.specs.declared.symbols.Sym.{Sym}
 use Rattle.su_tableau.specs.Mapping.{image_of, images_of}
 use Rattle.su_check.specs.declared.sending.Sent.{Sent}
@@ -11,7 +11,7 @@ use Rattle.su_check.specs.declared.sending.StepColumn.{StepColumn}
 use Rattle.su_check.specs.inside.Cells.{cell_at}
 use Rattle.su_check.specs.SentRows.{Lines, numbered_row, AreSent, sent_too}
 use Rattle.su_check.specs.inside.Boards.{no_pair, IsImage}
-use Rattle.su_check.proofs.TargetsTogether.{all_last, image_cell}
+use Rattle.su_check.proofs.TargetsTogether.{image_cell}
 
 -- a target of the row has the image of the row's symbol
 pub image_told : (t : Lines) (p : List Sent) (s j c : ℕ) (place : StepColumn) (x y : Sym) → c < length (numbered_row t s) → x ≡ cell_at (numbered_row t s) c → IsImage t p place x y → AreSent t (sent_too p s j) → cell_at (numbered_row t j) c ≡ y
@@ -20,7 +20,7 @@ image_told t p s j c place x y h ex m a =
     let o = get_or p place.step no_pair in
     let P : Sent → Type 0 = λ x. images_of f (numbered_row t x.row) ≡ numbered_row t x.target in
     let w : Sent = record { row = s; target = j } in
-    let last : images_of f (numbered_row t s) ≡ numbered_row t j = all_last P p w a.rows in
+    let last : images_of f (numbered_row t s) ≡ numbered_row t j = All-middle P p w [] a.rows in
     let front : images_of f (numbered_row t o.row) ≡ numbered_row t o.target = All-append_left P p (w ∷ []) a.rows place.step no_pair m.step in
     image_cell f (numbered_row t s) (numbered_row t j) c last h ∙ ap (image_of f) (sym ex ∙ sym m.symbol) ∙ sym (image_cell f (numbered_row t o.row) (numbered_row t o.target) place.column front m.column) ∙ m.image
 
@@ -29,7 +29,7 @@ pub sent_alone : (t : Lines) (p : List Sent) (s j : ℕ) → AreSent t (sent_too
 sent_alone t p s j a =
     let P : Sent → Type 0 = λ x. images_of a.symbols (numbered_row t x.row) ≡ numbered_row t x.target in
     let w : Sent = record { row = s; target = j } in
-    record { symbols = a.symbols; head = a.head; rows = All-push P [] w (λ k d h. absurd (omega arith)) (all_last P p w a.rows) }
+    record { symbols = a.symbols; head = a.head; rows = All-push P [] w (λ k d h. absurd (omega arith)) (All-middle P p w [] a.rows) }
 
 -- ---- one target after another
 

@@ -1,16 +1,11 @@
 -- Lists of items that are read one after another.
-use Rattle.std.proofs.Common.{◌≡◌, suc, List, [], ◌∷◌, ◌++◌, map, flat_map, All, refl, sym, ap, subst, ◌∙◌, append_assoc, append-nil, arith, Result, Err}
+use Rattle.std.proofs.Common.{◌≡◌, List, [], ◌∷◌, ◌++◌, map, flat_map, All, refl, sym, ap, subst, ◌∙◌, append_assoc, append-nil, Result, Err}
+use Rattle.std.proofs.lemmas.List.Elements.{All-head, All-tail}
 use Rattle.su_lex.specs.declared.meaning.Symbol.{Symbol}
 use Rattle.su_lex.specs.Names.{Begins}
 use Rattle.su_lex.specs.declared.ends.LexEnd.{LexEnd}
 use Rattle.su_lex.specs.declared.ends.LexEnd.TheVariants.{Syntax, NoMemory}
 use Rattle.su_check.specs.inside.LineReaders.{Gives, Stops}
-
-pub all_head : {X : Type 0} (P : X → Type 0) (x : X) (xs : List X) → All P (x ∷ xs) → P x
-all_head P x xs all = all 0 x (omega arith)
-
-pub all_tail : {X : Type 0} (P : X → Type 0) (x : X) (xs : List X) → All P (x ∷ xs) → All P xs
-all_tail P x xs all k d h = all (suc k) d (omega arith)
 
 -- ---- items of one symbol
 
@@ -26,13 +21,13 @@ map_push spell done x e s t whole next = whole ∙ go done next
 pub map_only : {X : Type 0} (spell : X → Symbol) (In : X → Type 0) → ((x y : X) → In x → In y → spell x ≡ spell y → x ≡ y)
     → (xs ys : List X) (s r : List Symbol) → All In xs → All In ys → Stops spell In s → Stops spell In r → map spell xs ++ s ≡ map spell ys ++ r → (xs ≡ ys) × (s ≡ r)
 map_only spell In one [] [] s r in_xs in_ys end end' e = (refl, e)
-map_only spell In one [] (y ∷ ys) s r in_xs in_ys end end' e = absurd (end y (all_head In y ys in_ys) (map spell ys ++ r, e))
-map_only spell In one (x ∷ xs) [] s r in_xs in_ys end end' e = absurd (end' x (all_head In x xs in_xs) (map spell xs ++ s, sym e))
+map_only spell In one [] (y ∷ ys) s r in_xs in_ys end end' e = absurd (end y (All-head In y ys in_ys) (map spell ys ++ r, e))
+map_only spell In one (x ∷ xs) [] s r in_xs in_ys end end' e = absurd (end' x (All-head In x xs in_xs) (map spell xs ++ s, sym e))
 map_only spell In one (x ∷ xs) (y ∷ ys) s r in_xs in_ys end end' e =
     let first : spell x ≡ spell y = cc in
     let rest : map spell xs ++ s ≡ map spell ys ++ r = cc in
-    let same = one x y (all_head In x xs in_xs) (all_head In y ys in_ys) first in
-    let more = map_only spell In one xs ys s r (all_tail In x xs in_xs) (all_tail In y ys in_ys) end end' rest in
+    let same = one x y (All-head In x xs in_xs) (All-head In y ys in_ys) first in
+    let more = map_only spell In one xs ys s r (All-tail In x xs in_xs) (All-tail In y ys in_ys) end end' rest in
     let m = more.0 in
     (cc, more.1)
 
@@ -77,10 +72,10 @@ next_item spell In all done s r left more = go left.more left.all_is left.rest_i
     go [] e f are = absurd (more f)
     go (x ∷ rest) e f are = record {
       item = x;
-      is_in = all_head In x rest are;
+      is_in = All-head In x rest are;
       behind = flat_map spell rest ++ r;
       here = f ∙ append_assoc (spell x) (flat_map spell rest) r;
-      left = record { more = rest; all_is = e ∙ sym (append_assoc done (x ∷ []) rest); rest_is = refl; are = all_tail In x rest are };
+      left = record { more = rest; all_is = e ∙ sym (append_assoc done (x ∷ []) rest); rest_is = refl; are = All-tail In x rest are };
     }
 
 -- no item is left, as none begins here
@@ -89,7 +84,7 @@ no_item spell In all done s r none left = go left.more left.all_is left.rest_is 
   where
     go : (rest : List _) → all ≡ done ++ rest → s ≡ flat_map spell rest ++ r → All In rest → (done ≡ all) × (s ≡ r)
     go [] e f are = (sym (e ∙ append-nil done), f)
-    go (x ∷ rest) e f are = absurd (none x (flat_map spell rest ++ r) (all_head In x rest are) (f ∙ append_assoc (spell x) (flat_map spell rest) r))
+    go (x ∷ rest) e f are = absurd (none x (flat_map spell rest ++ r) (All-head In x rest are) (f ∙ append_assoc (spell x) (flat_map spell rest) r))
 
 -- ---- items that begin with one symbol, the lead
 

@@ -1,10 +1,10 @@
 -- A row can go to a target exactly where it goes there by itself and agrees with each row that has a target.
 -- t: the head, the rows and the kept rows of a term; sent: a row and its target, by their numbers
-use Rattle.std.proofs.Common.{◌≡◌, ℕ, ◌<◌, ◌⊎◌, true, List, [], ◌∷◌, ◌++◌, length, get_or, All, inl, inr, refl, sym, ap, ◌∙◌, arith}
+use Rattle.std.proofs.Common.{◌≡◌, ℕ, ◌<◌, ◌⊎◌, true, List, [], ◌∷◌, length, get_or, All, inl, inr, refl, sym, ap, ◌∙◌, arith}
 use Rattle.std.proofs.lemmas.Bool.{false≢true}
 use Rattle.std.proofs.lemmas.List.{length-map, get_or-map, get_or_default, same_lists}
-use Rattle.std.proofs.lemmas.List.Elements.{All-push, All-contains, Contains-push}
-use Rattle.su_base.proofs.Items.{All-append_left}
+use Rattle.std.proofs.lemmas.List.Elements.{All-push}
+use Rattle.su_base.proofs.Items.{All-append_left, All-middle}
 use Rattle.su_tableau.specs.declared.symbols.Sym.{Sym}
 use Rattle.su_tableau.specs.declared.symbols.Sym.TheVariants.{Const, Var}
 use Rattle.su_tableau.specs.Mapping.{image_of, images_of}
@@ -17,11 +17,6 @@ use Rattle.su_check.specs.inside.Agreement.{KeepsConstants, GoAlike, Goes}
 -- a row that has a target agrees with the row and its target
 abbrev pub AgreesWith : Lines → List Sym → List Sym → Sent → Type 0
 AgreesWith t row target x = GoAlike (numbered_row t x.row) (numbered_row t x.target) row target
-
--- ---- a list with one more at its end
-
-pub all_last : {X : Type 0} (P : X → Type 0) (xs : List X) (x : X) → All P (xs ++ x ∷ []) → P x
-all_last P xs x all = All-contains P (xs ++ x ∷ []) x all (Contains-push xs x)
 
 -- ---- what images tell
 
@@ -98,7 +93,7 @@ sent_less t p s j sent =
     let f = sent.symbols in
     let P : Sent → Type 0 = λ x. images_of f (numbered_row t x.row) ≡ numbered_row t x.target in
     let xs = numbered_row t s in let us = numbered_row t j in
-    let here : images_of f xs ≡ us = all_last P p (record { row = s; target = j }) sent.rows in
+    let here : images_of f xs ≡ us = All-middle P p (record { row = s; target = j }) [] sent.rows in
     let before : All P p = All-append_left P p (record { row = s; target = j } ∷ []) sent.rows in (
       record {
         constants = images_keep f xs us here;

@@ -12,7 +12,7 @@ use Rattle.su_base.specs.declared.values.Value.TheVariants as value
 use Rattle.su_tableau.specs.declared.symbols.Sym.{Sym}
 use Rattle.su_tableau.specs.declared.symbols.Sym.TheVariants.{Const, Var}
 use Rattle.su_check.specs.declared.certificates.Certificate.{Certificate}
-use Rattle.su_check.specs.declared.certificates.Term.{Term}
+use Rattle.su_check.specs.declared.certificates.StatedTerm.{StatedTerm}
 use Rattle.su_check.specs.declared.certificates.RowTree.{RowTree}
 use Rattle.su_check.specs.NodeSymbols.{number, sym_symbol}
 use Rattle.su_lex.specs.Wordings.{kind_symbol}
@@ -28,14 +28,14 @@ rows_at : (rows : List (List _)) (s : List (List Symbol)) → flat_map id (map r
 rows_at rows s = flat_map-append id (map row_line rows) s ∙ ap (λ f. f ++ flat_map id s) (flat_map-map id row_line rows)
 
 -- the lines behind the rows
-behind : Term → List (List Symbol)
+behind : StatedTerm → List (List Symbol)
 behind x = (Word (codes "kept") ∷ map number x.kept) ∷ (Word (codes "fold") ∷ map number x.fold) ∷ map tree_line x.trees
 
-behind_at : (x : Term) (t : List Symbol) → flat_map id (behind x) ++ t ≡ Word (codes "kept") ∷ (map number x.kept ++ Word (codes "fold") ∷ (map number x.fold ++ (flat_map tree_line x.trees ++ t)))
+behind_at : (x : StatedTerm) (t : List Symbol) → flat_map id (behind x) ++ t ≡ Word (codes "kept") ∷ (map number x.kept ++ Word (codes "fold") ∷ (map number x.fold ++ (flat_map tree_line x.trees ++ t)))
 unfolding behind
 behind_at x t = simp (flat_map-map, append_assoc)
 
-pub term_at : (x : Term) (t : List Symbol) → term_symbols x ++ t ≡ Word (codes "term") ∷ term_before x t
+pub term_at : (x : StatedTerm) (t : List Symbol) → term_symbols x ++ t ≡ Word (codes "term") ∷ term_before x t
 unfolding behind
 term_at x t =
     let e = rows_at x.rows (behind x) in
@@ -45,10 +45,10 @@ term_at x t =
     (append_assoc (map sym_symbol x.head) (Word (codes "rows") ∷ (flat_map row_line x.rows ++ flat_map id (behind x))) t
     ∙ ap (λ s. map sym_symbol x.head ++ Word (codes "rows") ∷ s) (append_assoc (flat_map row_line x.rows) (flat_map id (behind x)) t ∙ ap (λ s. flat_map row_line x.rows ++ s) f))
 
-pub ends_term : (width : ℕ) (all done : List Term) (s : List Symbol) → Left term_symbols (IsTermInRange width) all done s [] → EndsTerm s
+pub ends_term : (width : ℕ) (all done : List StatedTerm) (s : List Symbol) → Left term_symbols (IsTermInRange width) all done s [] → EndsTerm s
 ends_term width all done s left = subst EndsTerm (sym left.rest_is) (go left.more)
   where
-    go : (xs : List Term) → EndsTerm (flat_map term_symbols xs ++ [])
+    go : (xs : List StatedTerm) → EndsTerm (flat_map term_symbols xs ++ [])
     go [] first begins = absurd (cc begins.1)
     go (x ∷ xs) first begins =
         let e : first ∷ begins.0 ≡ Word (codes "term") ∷ term_before x (flat_map term_symbols xs ++ []) = sym begins.1 ∙ append_assoc (term_symbols x) (flat_map term_symbols xs) [] ∙ term_at x (flat_map term_symbols xs ++ []) in
@@ -57,7 +57,7 @@ ends_term width all done s left = subst EndsTerm (sym left.rest_is) (go left.mor
 pub certificate_at : (c : Certificate) → certificate_symbols c ≡ Word (codes "certificate") ∷ number (length c.kinds) ∷ Word (codes "kinds") ∷ (map kind_symbol c.kinds ++ (flat_map term_symbols c.terms ++ []))
 certificate_at c = ap (λ s. Word (codes "certificate") ∷ number (length c.kinds) ∷ Word (codes "kinds") ∷ (map kind_symbol c.kinds ++ s)) (go c.terms ∙ sym (append-nil (flat_map term_symbols c.terms)))
   where
-    go : (xs : List Term) → flat_map id (flat_map term_lines xs) ≡ flat_map term_symbols xs
+    go : (xs : List StatedTerm) → flat_map id (flat_map term_lines xs) ≡ flat_map term_symbols xs
     go [] = refl
     go (x ∷ xs) = flat_map-append id (term_lines x) (flat_map term_lines xs) ∙ ap (λ s. term_symbols x ++ s) (go xs)
 
@@ -95,14 +95,14 @@ both_trees ts rows nodes k d h = (rows k d h, nodes k d h)
 pub both_rows : (width : ℕ) (rows : List (List Sym)) → All (λ row. length row ≡ width) rows → All (All IsNamed) rows → All (IsRow width) rows
 both_rows width rows widths named k d h = (widths k d h, named k d h)
 
-pub same_term : (x : Term) (number : ℕ) (head : List Sym) (rows : List (List Sym)) (kept fold : List ℕ) (trees : List RowTree)
+pub same_term : (x : StatedTerm) (number : ℕ) (head : List Sym) (rows : List (List Sym)) (kept fold : List ℕ) (trees : List RowTree)
     → number ≡ x.number → head ≡ x.head → rows ≡ x.rows → kept ≡ x.kept → fold ≡ x.fold → trees ≡ x.trees
     → record { number = number; head = head; rows = rows; kept = kept; fold = fold; trees = trees } ≡ x
 same_term x number head rows kept fold trees a b d f g h = rw (a, b, d, f, g, h) refl
 
 -- ---- a certificate
 
-pub stops_terms : (xs : List Term) → Stops kind_symbol (λ (k : Kind). Unit {0}) (flat_map term_symbols xs ++ [])
+pub stops_terms : (xs : List StatedTerm) → Stops kind_symbol (λ (k : Kind). Unit {0}) (flat_map term_symbols xs ++ [])
 unfolding byte_at
 stops_terms [] k h begins = absurd (cc begins.1)
 stops_terms (x ∷ xs) k h begins =
@@ -121,5 +121,5 @@ certificate_found c width e r s t u v a b d f g h w =
     let all : e ≡ Word (codes "certificate") ∷ number (length c.kinds) ∷ Word (codes "kinds") ∷ (map kind_symbol c.kinds ++ (flat_map term_symbols c.terms ++ [])) = rw (a, b, d, f, g, end, w) refl in
     all ∙ sym (certificate_at c)
 
-pub same_certificate : (c : Certificate) (kinds : List Kind) (terms : List Term) → kinds ≡ c.kinds → terms ≡ c.terms → record { kinds = kinds; terms = terms } ≡ c
+pub same_certificate : (c : Certificate) (kinds : List Kind) (terms : List StatedTerm) → kinds ≡ c.kinds → terms ≡ c.terms → record { kinds = kinds; terms = terms } ≡ c
 same_certificate c kinds terms e f = rw (e, f) refl

@@ -10,7 +10,7 @@ use Rattle.su_tableau.specs.declared.symbols.Sym.TheVariants.{Const, Var}
 use Rattle.su_tableau.specs.Tableaux.{Occurs}
 use Rattle.su_tableau.specs.Kinds.{Kinds, sym_kind}
 use Rattle.su_tableau.proofs.ChangedValuations.{Stands, stands}
-use Rattle.su_check.specs.declared.certificates.Term.{Term}
+use Rattle.su_check.specs.declared.certificates.StatedTerm.{StatedTerm}
 use Rattle.su_check.specs.inside.Cells.{cell_at, kind_at, HasFound, AreFound, AreTyped}
 use Rattle.su_check.specs.Refutations.{IsAscending}
 use Rattle.su_check.specs.declared.boards.Board.{Board}
@@ -111,7 +111,7 @@ found_kept variables old new (Var k) kind keeps h = (h.0, h.1, keeps h.0 kind h.
 
 -- ---- a term that is good in form
 
-pub form_from : (kinds : Kinds) (i : ℕ) (x : Term) → All (λ r. length r ≡ length kinds) x.rows → x.number ≡ i → length x.rows ≤ 64 → ((k : ℕ) → Contains x.head (Var k) → Occurs x.rows k) → AreTyped kinds x.rows → IsAscending x.kept → All (λ k. k < length x.rows) x.kept → IsGoodForm kinds i x
+pub form_from : (kinds : Kinds) (i : ℕ) (x : StatedTerm) → All (λ r. length r ≡ length kinds) x.rows → x.number ≡ i → length x.rows ≤ 64 → ((k : ℕ) → Contains x.head (Var k) → Occurs x.rows k) → AreTyped kinds x.rows → IsAscending x.kept → All (λ k. k < length x.rows) x.kept → IsGoodForm kinds i x
 form_from kinds i x wide place few occur typed ascending within = record {
   place = place;
   few = few;
@@ -126,15 +126,15 @@ form_from kinds i x wide place few occur typed ascending within = record {
 pub wide_as : (rows rows' : List (List Sym)) (m n : ℕ) → rows ≡ rows' → m ≡ n → All (λ r. length r ≡ m) rows → All (λ r. length r ≡ n) rows'
 wide_as rows rows' m n e f all = rw (sym e, sym f) all
 
-abbrev HeadOccurs : Term → Type 0
+abbrev HeadOccurs : StatedTerm → Type 0
 HeadOccurs x = (k : ℕ) → Contains x.head (Var k) → Occurs x.rows k
 
-pub form_option : (kinds : Kinds) (i : ℕ) (x : Term) (o : Option Board) → (HeadOccurs x → IsGoodForm kinds i x) → MatchOption o (¬ (HeadOccurs x)) (λ b. IsBoard (lines_of x) b × HeadOccurs x) → MatchOption o (¬ (IsGoodForm kinds i x)) (λ b. IsGoodForm kinds i x × IsBoard (lines_of x) b)
+pub form_option : (kinds : Kinds) (i : ℕ) (x : StatedTerm) (o : Option Board) → (HeadOccurs x → IsGoodForm kinds i x) → MatchOption o (¬ (HeadOccurs x)) (λ b. IsBoard (lines_of x) b × HeadOccurs x) → MatchOption o (¬ (IsGoodForm kinds i x)) (λ b. IsGoodForm kinds i x × IsBoard (lines_of x) b)
 form_option kinds i x None good m = λ form. m form.valid.head_occurs
 form_option kinds i x (Some b) good m = (good m.1, m.0)
 
 -- where the tests of a good term begin
-pub ready_start : (kinds : Kinds) (i : ℕ) (x : Term) (b : Board) (places : List StepColumn) → IsGoodForm kinds i x → IsBoard (lines_of x) b → length places ≡ length b.variables → IsReady (lines_of x) b [] places
+pub ready_start : (kinds : Kinds) (i : ℕ) (x : StatedTerm) (b : Board) (places : List StepColumn) → IsGoodForm kinds i x → IsBoard (lines_of x) b → length places ≡ length b.variables → IsReady (lines_of x) b [] places
 ready_start kinds i x b places form board len = record {
   wide = λ i j hi hj. form.valid.widths i [] hi ∙ sym (form.valid.widths j [] hj);
   ascending = form.ascending;

@@ -6,7 +6,7 @@ use Rattle.su_lex.specs.declared.meaning.Symbol.TheVariants.{Word}
 use Rattle.su_lex.specs.Symbols.{Symbols}
 use Rattle.su_tableau.specs.declared.symbols.Sym.{Sym}
 use Rattle.su_check.specs.declared.certificates.Certificate.{Certificate}
-use Rattle.su_check.specs.declared.certificates.Term.{Term}
+use Rattle.su_check.specs.declared.certificates.StatedTerm.{StatedTerm}
 use Rattle.su_check.specs.declared.certificates.RowTree.{RowTree}
 use Rattle.su_lex.specs.Nesting.{IsDeep}
 use Rattle.su_check.specs.NodeSymbols.{number, sym_symbol, node_symbols}
@@ -26,7 +26,7 @@ abbrev pub tree_line : RowTree → List Symbol
 tree_line t = line (codes "tree") (number t.row ∷ node_symbols t.node)
 
 -- the lines of a term, in order
-abbrev pub term_lines : Term → List (List Symbol)
+abbrev pub term_lines : StatedTerm → List (List Symbol)
 term_lines x =
     line (codes "term") (number x.number ∷ []) ∷ line (codes "head") (map sym_symbol x.head) ∷ line (codes "rows") []
     ∷ (map row_line x.rows ++ line (codes "kept") (map number x.kept) ∷ line (codes "fold") (map number x.fold) ∷ map tree_line x.trees)

@@ -4,7 +4,7 @@ use Rattle.std.specs.Prelude.{◌≡◌, ◌<◌, ◌≤◌, ◌^◌, ℕ, lengt
 use Rattle.su_tableau.specs.declared.symbols.Sym.{Sym}
 use Rattle.su_tableau.specs.declared.symbols.Sym.TheVariants.{Const, Var}
 use Rattle.su_check.specs.declared.certificates.Certificate.{Certificate}
-use Rattle.su_check.specs.declared.certificates.Term.{Term}
+use Rattle.su_check.specs.declared.certificates.StatedTerm.{StatedTerm}
 use Rattle.su_check.specs.declared.nodes.Node.{Node}
 use Rattle.su_check.specs.declared.nodes.Branch.{Branch}
 use Rattle.su_check.specs.Refutations.{row_named, branches_of, target_of, node_of}
@@ -26,7 +26,7 @@ IsNamed (Var k) = k < 2 ^ 32
 IsNamed (Const v) = Unit {0}
 
 -- the numbers of a term can be written, and its rows have one width
-pub record IsTermInRange (width : ℕ) (x : Term) : Type 0 where
+pub record IsTermInRange (width : ℕ) (x : StatedTerm) : Type 0 where
   pub number : x.number < 2 ^ 32
   pub head : All IsNamed x.head
   pub widths : All (λ row. length row ≡ width) x.rows

@@ -3,7 +3,7 @@
 use Rattle.std.specs.Prelude.{◌≡◌, ◌<◌, ℕ, List, length, get_or, slice_get, Some, All}
 use Rattle.su_tableau.specs.Kinds.{Kinds}
 use Rattle.su_check.specs.declared.certificates.Certificate.{Certificate}
-use Rattle.su_check.specs.declared.certificates.Term.{Term}
+use Rattle.su_check.specs.declared.certificates.StatedTerm.{StatedTerm}
 use Rattle.su_check.specs.declared.certificates.RowTree.{RowTree}
 use Rattle.su_check.specs.declared.verdicts.Checked.{Checked}
 use Rattle.su_check.specs.declared.verdicts.Checked.TheVariants.{Yes, No}
@@ -14,31 +14,31 @@ use Rattle.su_check.specs.Certificate.{tableau_of, IsGoodForm, IsGoodFold, IsGoo
 use Rattle.su_check.specs.LeastParts.{IsLeastPart}
 
 -- the tree of the first kept row that has no good one is at fault, or else the first one that is too many
-pub data IsTreeFault (x : Term) (row : ℕ) : Type 0 where
+pub data IsTreeFault (x : StatedTerm) (row : ℕ) : Type 0 where
   not_good : (k : ℕ) → k < length x.kept → row ≡ get_or x.kept k 0 → ((j : ℕ) → j < k → IsGoodTree x j) → (IsGoodTree x k → ⊥) → IsTreeFault x row
   surplus : ((j : ℕ) → j < length x.kept → IsGoodTree x j) → (tree : RowTree) → slice_get x.trees (length x.kept) ≡ Some tree → row ≡ tree.row → IsTreeFault x row
 
 -- this is at fault in the term at place i
-abbrev pub IsTermFault : Kinds → ℕ → Term → Fault → Type 0
+abbrev pub IsTermFault : Kinds → ℕ → StatedTerm → Fault → Type 0
 IsTermFault kinds i x Syntax = ⊥
 IsTermFault kinds i x (Form j) = (j ≡ i) × (IsGoodForm kinds i x → ⊥)
 IsTermFault kinds i x (Fold j) = (j ≡ i) × IsGoodForm kinds i x × (IsGoodFold x → ⊥)
 IsTermFault kinds i x (Tree j row) = (j ≡ i) × IsGoodForm kinds i x × IsGoodFold x × IsTreeFault x row
 
 -- the first n terms are good
-abbrev pub AreGood : Kinds → List Term → ℕ → Type 0
-AreGood kinds terms n = (i : ℕ) (x : Term) → i < n → slice_get terms i ≡ Some x → IsGood kinds i x
+abbrev pub AreGood : Kinds → List StatedTerm → ℕ → Type 0
+AreGood kinds terms n = (i : ℕ) (x : StatedTerm) → i < n → slice_get terms i ≡ Some x → IsGood kinds i x
 
 -- the first term that is not good, and what is at fault in it
-pub record IsFirstFault (kinds : Kinds) (terms : List Term) (fault : Fault) : Type 0 where
+pub record IsFirstFault (kinds : Kinds) (terms : List StatedTerm) (fault : Fault) : Type 0 where
   pub place : ℕ
-  pub term : Term
+  pub term : StatedTerm
   pub there : slice_get terms place ≡ Some term
   pub before : AreGood kinds terms place
   pub at_fault : IsTermFault kinds place term fault
 
 -- the verdict on terms over these kinds
-abbrev pub IsVerdictOn : Kinds → List Term → Checked → Type 0
+abbrev pub IsVerdictOn : Kinds → List StatedTerm → Checked → Type 0
 IsVerdictOn kinds terms (Yes n) = (n ≡ length terms) × AreGood kinds terms n
 IsVerdictOn kinds terms (No fault) = IsFirstFault kinds terms fault
 

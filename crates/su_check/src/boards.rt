@@ -8,7 +8,7 @@ ghost use Rattle.su_check.specs.Certificate.{lines_of};
 ghost use Rattle.su_check.specs.inside.Boards.{AreMarks, AreMarksIfAll, IsNumber, AreNumbers, AreRowNumbers, IsBoardIfOccurs};
 ghost use Rattle.su_check.specs.inside.Cells.{IsFirstPlace};
 
-use crate::certificates::Term;
+use crate::certificates::StatedTerm;
 use std::alloc::Global;
 use su_base::{List, NoMemory};
 use su_tableau::Sym;
@@ -150,7 +150,11 @@ fn all_numbers(
 }
 
 /// The board of the term, whose variables these are, if each variable of its head stands in a row.
-pub fn board_of(alloc: Global, term: &Term, variables: List<u32>) -> Result<Option<Board>, NoMemory>
+pub fn board_of(
+    alloc: Global,
+    term: &StatedTerm,
+    variables: List<u32>,
+) -> Result<Option<Board>, NoMemory>
     requires ascending { IsNonDecreasing variables }
     requires all { (k : ℕ) → Contains variables k ↔ Occurs term.now.rows k }
     ensures { IfOk result (IsBoardIfOccurs (lines_of term.now)) }

@@ -12,7 +12,7 @@ pub struct RowTree {
 
 /// A tableau with its kept rows, its fold, and a tree for each kept row.
 #[derive(Debug)]
-pub struct Term {
+pub struct StatedTerm {
     pub number: u32,
     pub head: List<Sym>,
     pub rows: List<List<Sym>>,
@@ -22,9 +22,9 @@ pub struct Term {
 }
 
 /// Not derived, so that it is a single call wherever a term goes out of scope.
-impl Drop for Term {
+impl Drop for StatedTerm {
     fn drop(self) {
-        let Term {
+        let StatedTerm {
             number: _,
             head: _,
             rows: _,
@@ -39,5 +39,5 @@ impl Drop for Term {
 #[derive(Debug, Drop)]
 pub struct Certificate {
     pub kinds: List<Kind>,
-    pub terms: List<Term>,
+    pub terms: List<StatedTerm>,
 }

@@ -3,7 +3,7 @@ ghost use Rattle.std.specs.Prelude.{◌≡◌, ◌<◌, ◌^◌, ℕ, IfOk, Matc
 ghost use Rattle.su_check.specs.Certificate.{IsGood};
 ghost use Rattle.su_check.specs.Verdict.{IsTermFault, IsVerdictOn, IsVerdict, AreLeast};
 
-use crate::certificates::Term;
+use crate::certificates::StatedTerm;
 use crate::folds::is_good_fold;
 use crate::forms::board_of_form;
 use crate::reading::read;
@@ -19,7 +19,7 @@ fn term_fault(
     alloc: Global,
     kinds: &[Kind],
     place: u32,
-    term: &Term,
+    term: &StatedTerm,
 ) -> Result<Option<Fault>, NoMemory>
     ensures { IfOk result (λ f. MatchOption f (IsGood kinds.now place term.now) (IsTermFault kinds.now place term.now)) }
 {
@@ -38,7 +38,7 @@ fn term_fault(
 }
 
 /// The verdict on terms over columns of these kinds.
-fn verdict_of(alloc: Global, kinds: &[Kind], terms: &[Term]) -> Result<Checked, NoMemory>
+fn verdict_of(alloc: Global, kinds: &[Kind], terms: &[StatedTerm]) -> Result<Checked, NoMemory>
     requires { length terms.now < 2 ^ 32 }
     ensures { IfOk result (λ v. IsVerdictOn kinds.now terms.now v) }
 {

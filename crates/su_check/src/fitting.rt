@@ -8,13 +8,13 @@ ghost use Rattle.su_check.specs.declared.sending.Sent.{Sent as ASent};
 
 use crate::boards::Board;
 use crate::cells::{at, row_at};
-use crate::certificates::Term;
+use crate::certificates::StatedTerm;
 use crate::sending::{Sent, StepColumn};
 use su_base::{List, NoMemory};
 use su_tableau::Sym;
 
 /// The image that the place gives the symbol, if it gives one.
-pub fn image<'a>(term: &'a Term, sent: &[Sent], place: StepColumn, x: &Sym) -> Option<&'a Sym>
+pub fn image<'a>(term: &'a StatedTerm, sent: &[Sent], place: StepColumn, x: &Sym) -> Option<&'a Sym>
     requires wide { AreWide term.now.rows }
     requires within { All (IsWithin (lines_of term.now)) sent.now }
     ensures { MatchOption result (HasNoImage (lines_of term.now) sent.now place x.now) (λ y. IsImage (lines_of term.now) sent.now place x.now y.now) }
@@ -33,7 +33,7 @@ pub fn image<'a>(term: &'a Term, sent: &[Sent], place: StepColumn, x: &Sym) -> O
 
 /// Whether a symbol of the last row can go to the one of its target. A symbol that has no image yet gets it here.
 fn cell_goes(
-    term: &Term,
+    term: &StatedTerm,
     sent: &[Sent],
     places: &mut [StepColumn],
     number: Option<usize>,
@@ -65,7 +65,7 @@ fn cell_goes(
 
 /// Whether the last row goes to its target, beside the rows before it.
 fn last_goes(
-    term: &Term,
+    term: &StatedTerm,
     board: &Board,
     sent: &[Sent],
     places: &mut [StepColumn],
@@ -96,7 +96,7 @@ fn last_goes(
 /// Whether the row can go to the target, beside the rows that have theirs. It takes a step for each column, up to the first
 /// that speaks against it.
 pub fn fits(
-    term: &Term,
+    term: &StatedTerm,
     board: &Board,
     sent: &mut List<Sent>,
     places: &mut [StepColumn],

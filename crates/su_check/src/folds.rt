@@ -4,7 +4,7 @@ ghost use Rattle.su_check.specs.inside.Boards.{IsReady};
 ghost use Rattle.su_check.specs.Certificate.{lines_of, IsGoodFold};
 
 use crate::boards::Board;
-use crate::certificates::Term;
+use crate::certificates::StatedTerm;
 use crate::fitting::fits;
 use crate::numbers::contains;
 use crate::sending::{Sent, StepColumn};
@@ -14,7 +14,7 @@ use su_base::{List, NoMemory};
 /// Whether the fold of the term is a containment mapping into its kept rows.
 pub fn is_good_fold(
     alloc: Global,
-    term: &Term,
+    term: &StatedTerm,
     board: &Board,
     places: &mut [StepColumn],
 ) -> Result<bool, NoMemory>

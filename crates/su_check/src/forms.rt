@@ -3,7 +3,7 @@ ghost use Rattle.std.specs.Prelude.{◌≡◌, ◌↔◌, IsTrue, IfOk, length, 
 ghost use Rattle.su_check.specs.inside.Forms.{IsBoardIfGood};
 
 use crate::boards::{Board, board_of, variables_in};
-use crate::certificates::Term;
+use crate::certificates::StatedTerm;
 use crate::kinds::are_typed;
 use crate::numbers::{are_below, is_ascending};
 use std::alloc::Global;
@@ -22,7 +22,7 @@ pub fn board_of_form(
     alloc: Global,
     kinds: &[Kind],
     place: u32,
-    term: &Term,
+    term: &StatedTerm,
 ) -> Result<Option<Board>, NoMemory>
     ensures { IfOk result (IsBoardIfGood kinds.now place term.now) }
 {

@@ -7,7 +7,7 @@ ghost use Rattle.su_check.specs.inside.Guides.{HasCarriers, AreAlike, HasTargets
 
 use crate::boards::Board;
 use crate::cells::{at, row_at};
-use crate::certificates::Term;
+use crate::certificates::StatedTerm;
 use crate::fitting::{fits, image};
 use crate::sending::{Sent, StepColumn};
 use crate::sets::{both, with};
@@ -107,7 +107,7 @@ fn telling_of(alloc: Global, alike: &[List<u64>]) -> Result<List<usize>, NoMemor
 /// The kept rows to which the row can go alone.
 fn alone(
     alloc: Global,
-    term: &Term,
+    term: &StatedTerm,
     board: &Board,
     places: &mut [StepColumn],
     row: u8,
@@ -131,7 +131,7 @@ fn alone(
 /// The guide of the term.
 pub fn guide_of(
     alloc: Global,
-    term: &Term,
+    term: &StatedTerm,
     board: &Board,
     places: &mut [StepColumn],
 ) -> Result<Guide, NoMemory>
@@ -155,7 +155,7 @@ pub fn guide_of(
 
 /// The rows that have in the column the image that the place gives the symbol; all rows if it gives none.
 fn with_image(
-    term: &Term,
+    term: &StatedTerm,
     guide: &Guide,
     sent: &[Sent],
     place: StepColumn,
@@ -180,7 +180,7 @@ fn with_image(
 
 /// Rows among which all kept rows are to which this row can go, beside the rows that have their targets.
 pub fn candidates(
-    term: &Term,
+    term: &StatedTerm,
     board: &Board,
     guide: &Guide,
     sent: &[Sent],

@@ -32,7 +32,7 @@ mod trees;
 mod variables;
 mod verdicts;
 
-pub use certificates::{Certificate, RowTree, Term};
+pub use certificates::{Certificate, RowTree, StatedTerm};
 pub use checking::check;
 pub use nodes::{Branch, Node};
 pub use verdicts::{Checked, Fault};

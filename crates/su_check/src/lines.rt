@@ -5,14 +5,14 @@ ghost use Rattle.su_lex.specs.declared.signs.Sign.TheVariants.{Open};
 ghost use Rattle.su_tableau.specs.declared.symbols.Sym.{Sym as ASym};
 ghost use Rattle.su_check.specs.declared.nodes.Node.{Node as ANode};
 ghost use Rattle.su_check.specs.declared.certificates.RowTree.{RowTree as ARowTree};
-ghost use Rattle.su_check.specs.declared.certificates.Term.{Term as ATerm};
+ghost use Rattle.su_check.specs.declared.certificates.StatedTerm.{StatedTerm as AStatedTerm};
 ghost use Rattle.su_check.specs.declared.certificates.Certificate.{Certificate as ACertificate};
 ghost use Rattle.su_check.specs.Ranges.{IsByteNode, IsTermInRange, IsInRange};
 ghost use Rattle.su_check.specs.NodeSymbols.{node_symbols};
 ghost use Rattle.su_check.specs.Grammar.{row_line, tree_line, certificate_symbols};
 ghost use Rattle.su_check.specs.inside.LineReaders.{EndsTerm, Gives, IsRow, IsByteTree, row_before, tree_before, term_before, term_symbols, GivesBefore, AreOnlyRows, AreOnlyTrees};
 
-use crate::certificates::{Certificate, RowTree, Term};
+use crate::certificates::{Certificate, RowTree, StatedTerm};
 use crate::items::{bytes, expect_number, kinds, symbols, takes_number};
 use crate::nodes::{Branch, Node};
 use su_base::List;
@@ -86,9 +86,9 @@ fn trees(reader: &mut Reader) -> Result<List<RowTree>, LexEnd>
 }
 
 /// The term whose word is read.
-fn term(reader: &mut Reader, width: usize) -> Result<Term, LexEnd>
+fn term(reader: &mut Reader, width: usize) -> Result<StatedTerm, LexEnd>
     ensures found { IfOk result (λ x. (reader.old ≡ term_before x reader.new) × IsTermInRange width x) }
-    ensures only { (x : ATerm) (r : Items ASymbol) → IsTermInRange width x → EndsTerm r → reader.old ≡ term_before x r → GivesBefore result reader.new x r }
+    ensures only { (x : AStatedTerm) (r : Items ASymbol) → IsTermInRange width x → EndsTerm r → reader.old ≡ term_before x r → GivesBefore result reader.new x r }
 {
     let number = expect_number(reader, u32::MAX)?;
     reader.expect_word("head")?;
@@ -100,7 +100,7 @@ fn term(reader: &mut Reader, width: usize) -> Result<Term, LexEnd>
     reader.expect_word("fold")?;
     let fold = bytes(reader)?;
     let trees = trees(reader)?;
-    Ok(Term {
+    Ok(StatedTerm {
         number,
         head,
         rows,
@@ -111,9 +111,9 @@ fn term(reader: &mut Reader, width: usize) -> Result<Term, LexEnd>
 }
 
 /// The terms up to the end.
-fn terms(reader: &mut Reader, width: usize) -> Result<List<Term>, LexEnd>
+fn terms(reader: &mut Reader, width: usize) -> Result<List<StatedTerm>, LexEnd>
     ensures found { IfOk result (λ xs. (reader.old ≡ flat_map term_symbols xs ++ reader.new) × All (IsTermInRange width) xs) }
-    ensures only { (xs : Items ATerm) → All (IsTermInRange width) xs → reader.old ≡ flat_map term_symbols xs ++ [] → GivesBefore result reader.new xs [] }
+    ensures only { (xs : Items AStatedTerm) → All (IsTermInRange width) xs → reader.old ≡ flat_map term_symbols xs ++ [] → GivesBefore result reader.new xs [] }
 {
     let mut terms = List::new(reader.alloc());
     while reader.takes_word("term") {

@@ -7,7 +7,7 @@ ghost use Rattle.su_check.specs.inside.Guides.{HasTargets, IsGuide};
 ghost use Rattle.su_check.specs.Refutations.{IsOpen, IsFitting, Refutes};
 ghost use Rattle.su_check.specs.inside.Branches.{BranchRefutes};
 
-use crate::certificates::Term;
+use crate::certificates::StatedTerm;
 use crate::claims::Claim;
 use crate::fitting::fits;
 use crate::guides::candidates;
@@ -18,7 +18,7 @@ use su_base::{List, NoMemory};
 use su_tableau::has;
 
 /// Whether the row is kept and has no target.
-fn is_open(term: &Term, sent: &[Sent], row: u8) -> bool
+fn is_open(term: &StatedTerm, sent: &[Sent], row: u8) -> bool
     ensures { IsTrue result ↔ IsOpen (lines_of term.now) sent.now row }
 {
     contains(term.kept.as_slice(), row) && sent.iter().all(|one| one.row != row)

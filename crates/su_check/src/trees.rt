@@ -7,7 +7,7 @@ ghost use Rattle.su_check.specs.Verdict.{IsTreeFault};
 ghost use Rattle.su_check.specs.inside.Trees.{HasGoodTrees};
 
 use crate::boards::Board;
-use crate::certificates::Term;
+use crate::certificates::StatedTerm;
 use crate::claims::Claim;
 use crate::guides::{Guide, guide_of};
 use crate::refuting::refutes;
@@ -18,7 +18,7 @@ use su_base::{List, NoMemory};
 /// Whether the tree at this place is that of the kept row at this place, and refutes.
 fn is_good_tree(
     alloc: Global,
-    term: &Term,
+    term: &StatedTerm,
     board: &Board,
     guide: &Guide,
     places: &mut [StepColumn],
@@ -50,7 +50,7 @@ fn is_good_tree(
 /// The row whose tree is at fault, if there is one.
 pub fn tree_fault(
     alloc: Global,
-    term: &Term,
+    term: &StatedTerm,
     board: &Board,
     places: &mut [StepColumn],
 ) -> Result<Option<u8>, NoMemory>

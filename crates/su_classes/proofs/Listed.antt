@@ -1,35 +1,17 @@
 -- Members of lists, and lists of a set's members.
-use Rattle.std.proofs.Common.{◌≡◌, ◌≢◌, ℕ, ◌+◌, ◌<◌, ⊎_elim, Bool, true, false, cond, List, [], ◌∷◌, ◌++◌, append-nil, map, length, get_or, Contains, refl, sym, ap, ◌∙◌, subst, arith}
+use Rattle.std.proofs.Common.{◌≡◌, ◌≢◌, ℕ, ◌+◌, ◌<◌, ⊎_elim, Bool, true, false, cond, List, [], ◌∷◌, ◌++◌, append-nil, length, get_or, Contains, sym, ap, ◌∙◌, subst, arith}
 use Rattle.std.specs.Prelude.{All}
 use Rattle.std.specs.Ordering.{nat_cmp}
 use Rattle.std.specs.FinSet.{FinSet, contains}
 use Rattle.std.proofs.lemmas.Bool.{cases_eq, true≢false}
 use Rattle.std.proofs.lemmas.List.Elements.{Contains-append_left, Contains-append_right, Contains-append_cases, Contains-get_or}
 use Rattle.su_base.proofs.Subsets.{subset_at}
-use Rattle.su_base.proofs.Items.{Contains-later, Contains-cases, Contains-nil}
+use Rattle.su_base.proofs.Items.{Contains-cases, Contains-nil}
 use Rattle.su_fd.specs.declared.dependencies.Fd.{Fd}
 use Rattle.su_classes.specs.declared.items.Placed.{Placed}
 use Rattle.su_fd.specs.MetDependencies.{LiesIn}
 use Rattle.su_classes.specs.Items.{item_of, IsPlacedBelow}
 use Rattle.su_classes.specs.inside.Firsts.{AreMembersBelow}
-
--- two functions give one list where they give the same at each member, and only there
-pub map_same : {X Y : Type 0} (f g : X → Y) (xs : List X) → ((x : X) → Contains xs x → f x ≡ g x) → map f xs ≡ map g xs
-map_same f g [] h = refl
-map_same f g (x ∷ xs) h =
-    let here : f x ≡ g x = h x (0, omega arith, refl) in
-    let rest = map_same f g xs (λ y c. h y (Contains-later x xs y c)) in
-    cc
-
-pub same_at : {X Y : Type 0} (f g : X → Y) (xs : List X) (x : X) → map f xs ≡ map g xs → Contains xs x → f x ≡ g x
-same_at f g [] x e c = absurd (Contains-nil x c)
-same_at f g (y ∷ ys) x e c =
-    let here : f y ≡ g y = cc in
-    let rest : map f ys ≡ map g ys = cc in
-    ⊎_elim
-    (λ (is : y ≡ x). ap f (sym is) ∙ here ∙ ap g is)
-    (λ (later : Contains ys x). same_at f g ys x rest later)
-    (Contains-cases y ys x c)
 
 -- ---- the members of a set below a bound
 

@@ -10,12 +10,13 @@ use Rattle.std.specs.Bool.{Decides}
 use Rattle.std.proofs.lemmas.Option.{none-some}
 use Rattle.std.proofs.lemmas.Slice.Eq.{slice_eq-Decides}
 use Rattle.std.proofs.lemmas.List.{get_or_push, get_or_append_left, length_push}
+use Rattle.su_base.proofs.Items.{map-equal_at, map-equal_only}
 use Rattle.su_fd.specs.declared.dependencies.Fd.{Fd}
 use Rattle.su_classes.specs.declared.items.Placed.{Placed}
 use Rattle.su_fd.specs.MetDependencies.{LiesIn}
 use Rattle.su_classes.specs.Items.{item_of, SameItemLabels, IsPlacedBelow}
 use Rattle.su_classes.specs.inside.Firsts.{row_at, first_at, AreMembersBelow, key, AreFirsts, noted_in, Notes, IsFirstNoted}
-use Rattle.su_classes.proofs.Listed.{map_same, same_at, left_low}
+use Rattle.su_classes.proofs.Listed.{left_low}
 
 key_eq : (a b : List ℕ) (r : Bool) → r ≡ pointwise nat_eq a b → Decides r (a ≡ b)
 key_eq = slice_eq-Decides unsigned_Decides
@@ -49,10 +50,10 @@ noted_new old new k position updated none = record {
 
 module _ (n : ℕ) (label : ℕ → ℕ) (f : Fd) (left : List ℕ) (members : AreMembersBelow 128 f.left left) where
   pub same_key : (r q : Placed) → SameItemLabels label f.left r q → key label left r ≡ key label left q
-  same_key r q same = map_same (λ a. label (item_of r a)) (λ a. label (item_of q a)) left (λ a c. same a ((members a).0 c).1)
+  same_key r q same = map-equal_at (λ a. label (item_of r a)) (λ a. label (item_of q a)) left (λ a c. same a ((members a).0 c).1)
 
   pub same_left : (r q : Placed) → IsPlacedBelow n r → LiesIn f r.has → key label left r ≡ key label left q → SameItemLabels label f.left r q
-  same_left r q placed lies e a h = same_at (λ a. label (item_of r a)) (λ a. label (item_of q a)) left a e ((members a).1 (left_low n f r placed lies a h, h))
+  same_left r q placed lies e a h = map-equal_only (λ a. label (item_of r a)) (λ a. label (item_of q a)) left a e ((members a).1 (left_low n f r placed lies a h, h))
 
 -- ---- the first rows
 

@@ -1,10 +1,12 @@
 -- The constants of a chased tableau are those of the tableau.
-use Rattle.std.proofs.Common.{◌≡◌, ◌⊎◌, inl, inr, ⊎_elim, ℕ, zero, suc, ◌<◌, ◌≤◌, true, false, cond, List, [], ◌∷◌, map, length, get_or, Contains, All, refl, sym, ap, ◌∙◌, subst, arith}
+use Rattle.std.proofs.Common.{◌≡◌, ◌⊎◌, ⊎_elim, ℕ, suc, ◌<◌, ◌≤◌, true, false, cond, List, [], ◌∷◌, map, length, get_or, Contains, All, refl, sym, ap, ◌∙◌, subst, arith}
 use Rattle.std.proofs.lemmas.Bool.{cases_Bool, cases_lt}
+use Rattle.std.proofs.lemmas.List.{get_or_past}
 use Rattle.std.proofs.lemmas.List.Elements.{All-contains, All-map, Contains-get_or}
 use Rattle.su_base.specs.declared.values.Value.{Value}
 use Rattle.su_base.specs.contracts.values.ValuePartialEq.TheImpl.{ghosts}
-use Rattle.su_base.proofs.Items.{Contains-cases}
+use Rattle.su_base.proofs.Items.{Contains-cases, Contains-or_not}
+use Rattle.su_base.proofs.Rows.{equal_or_not}
 use Rattle.su_fd.specs.declared.dependencies.Fd.{Fd}
 use Rattle.su_tableau.specs.declared.symbols.Sym.{Sym}
 use Rattle.su_tableau.specs.declared.symbols.Sym.TheVariants.{Const, Var}
@@ -30,29 +32,6 @@ apart_other c (Var k) other = refl
 apart_own : (c : Value) → apart c (Const c) ≡ Const c
 apart_own c = let e : ghosts.eq c c ≡ true = (value_same c c).1 refl in ap (λ b. cond b (Const c) (Var 0)) e
 
--- a value is among those listed or not
-is_among : (vs : List Value) (c : Value) → Contains vs c ⊎ (Contains vs c → ⊥)
-is_among [] c = inr (λ (has : Contains [] c). let low = has.1 in absurd (omega arith))
-is_among (v ∷ vs) c =
-    ⊎_elim
-    (λ (same : ghosts.eq v c ≡ true). inl (0, omega arith, (value_same v c).0 same))
-    (λ (no : ghosts.eq v c ≡ false).
-    ⊎_elim
-    (λ (has : Contains vs c). inl (suc has.0, let low = has.1 in omega arith, has.2))
-    (λ (none : Contains vs c → ⊥).
-    inr (λ (has : Contains (v ∷ vs) c).
-    ⊎_elim
-    (λ (e : v ≡ c). let yes' : ghosts.eq v c ≡ true = (value_same v c).1 e in absurd (cc))
-    (λ (later : Contains vs c). none later)
-    (Contains-cases v vs c has)))
-    (is_among vs c))
-    (cases_Bool (ghosts.eq v c))
-
-past : {X : Type 0} (xs : List X) (i : ℕ) (d : X) → length xs ≤ i → get_or xs i d ≡ d
-past [] i d h = refl
-past (x ∷ xs) zero d h = absurd (omega arith)
-past (x ∷ xs) (suc i) d h = past xs i d (omega arith)
-
 -- all constants of the rows are among these
 abbrev Has : List Value → List Sym → Type 0
 Has avoid row = (v : Value) → Contains row (Const v) → Contains avoid v
@@ -69,7 +48,7 @@ apart_closed fds rows n avoid c widths all none f r q cf cr cq same a d in' =
     let lq : length q ≡ n = All-contains (λ row. length row ≡ n) rows q widths cq in
     ⊎_elim
     (λ (low : a < n). cell_apart avoid c rows all none r a d cr (omega arith) ∙ sym (cell_apart avoid c rows all none q a d cq (omega arith)))
-    (λ (high : n ≤ a). ap (apart c) (past r a d (omega arith)) ∙ sym (ap (apart c) (past q a d (omega arith))))
+    (λ (high : n ≤ a). ap (apart c) (get_or_past r a d (omega arith)) ∙ sym (ap (apart c) (get_or_past q a d (omega arith))))
     (cases_lt a n)
 
 -- a constant in the class of a symbol is the symbol or stands in the rows
@@ -83,7 +62,7 @@ class_constant fds rows n avoid x c widths all own class =
     let other : apart c x ≡ Var 0 = apart_other c x (λ (e : x ≡ Const c). none (own e)) in
     let clash : Const c ≡ Var 0 = sym (apart_own c) ∙ sym one ∙ other in
     absurd (cc))
-    (is_among avoid c)
+    (Contains-or_not equal_or_not avoid c)
 
 -- the constants of named symbols
 names_avoided : (fds : List Fd) (rows : List (List Sym)) (n : ℕ) (avoid : List Value) (name : Sym → Sym) → All (λ row. length row ≡ n) rows → All (Has avoid) rows

@@ -3,6 +3,6 @@ pub mod Members
 pub mod Constants
 pub mod Settled
 pub mod Gathered
-pub mod Apart
+pub mod UnmappedRows
 pub mod PlainTerms
 pub mod Comparable

@@ -5,4 +5,4 @@ pub mod RowSoFar
 pub mod RecordsSoFar
 pub mod Flexible
 pub mod ItemsSoFar
-pub mod Back
+pub mod WrittenRows

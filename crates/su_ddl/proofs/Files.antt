@@ -6,7 +6,7 @@ use Rattle.su_lex.specs.Pieces as p
 use Rattle.su_lex.specs.Pieces.{mark}
 use Rattle.std.specs.List.{starts_with}
 use Rattle.std.proofs.Common.{nat_eq, cond, true, false}
-use Rattle.std.proofs.lemmas.List.{length-drop}
+use Rattle.std.proofs.lemmas.List.{length-drop, drop_all}
 use Rattle.su_lex.specs.Blanks as b
 use Rattle.su_lex.specs.declared.spans.Span.{Span}
 use Rattle.su_lex.proofs.Cuts.{one_list_of_pieces, parts_within}
@@ -106,14 +106,8 @@ at_fault file spans i number s x none f pieces l e so told = elim told [
       )
 ]
 
-drop_all : {A : Type 0} (xs : List A) (i : ℕ) → length xs ≤ i → drop i xs ≡ []
-drop_all [] zero l = refl
-drop_all [] (suc i) l = refl
-drop_all (x ∷ xs) zero l = absurd (omega arith)
-drop_all (x ∷ xs) (suc i) l = drop_all xs i (omega arith)
-
 pub all_added : (file : List ℕ) (spans : List Span) (i number : ℕ) (s : SchemaValue) → Pieces file spans → length spans ≤ i → SoFar file spans i number s → Reads file (Ok s)
-all_added file spans i number s pieces l so = (spans, pieces, so.before (Ok s) (subst (λ (ts : List (List ℕ)). ReadsFrom (i + 1) s ts (Ok s)) (sym (ap (map (statement_of file)) (drop_all spans i l))) refl))
+all_added file spans i number s pieces l so = (spans, pieces, so.before (Ok s) (subst (λ (ts : List (List ℕ)). ReadsFrom (i + 1) s ts (Ok s)) (sym (ap (map (statement_of file)) (drop_all i spans l))) refl))
 
 -- ---- a file has no more statements than bytes
 

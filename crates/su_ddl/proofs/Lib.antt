@@ -1,4 +1,4 @@
-pub mod Again
+pub mod SameSchema
 pub mod Causes
 pub mod Files
 pub mod Formed

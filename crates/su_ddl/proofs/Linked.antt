@@ -10,7 +10,7 @@ use Rattle.su_base.specs.Name.{IsName}
 use Rattle.su_base.specs.declared.values.Kind.{Kind}
 use Rattle.su_base.specs.declared.values.Kind.TheVariants.{Int, Text}
 use Rattle.su_base.specs.declared.values.Column.{Column}
-use Rattle.su_base.proofs.Items.{All-middle, AllByRecursion-weaker}
+use Rattle.su_base.proofs.Items.{All-middle, AllByRecursion-weaker, map-map_equal}
 use Rattle.su_schema.specs.declared.definitions.Pair.{Pair}
 use Rattle.su_schema.specs.declared.links.Link.{Link}
 use Rattle.su_schema.specs.SchemaValue.{SchemaValue}
@@ -91,10 +91,6 @@ ascending_again n links rising below =
 
 -- ---- pairs by numbers
 
-pub map_twice : {A B C : Type 0} (f : B → C) (g : A → B) (xs : List A) → map f (map g xs) ≡ map (λ x. f (g x)) xs
-map_twice f g [] = refl
-map_twice f g (x ∷ xs) = ap (λ v. f (g x) ∷ v) (map_twice f g xs)
-
 same_link : (k l : Link) → k.attribute ≡ l.attribute → k.column ≡ l.column → k ≡ l
 same_link k l a c i = record { attribute = a i; column = c i }
 
@@ -149,9 +145,9 @@ module _ (schema : SchemaValue) (columns : List Column) where
           let columns_before = before (λ k m. k.column ≢ m.column) done rest l (subst (AllPairs (λ k m. k.column ≢ m.column)) e apart) in
           let columns_in : AllByRecursion (IsLink schema columns) done = links_before done (l ∷ rest) split in
           let fresh_a : is_known (map (λ p. p.attribute) (map pair_at done)) (pair_at l).attribute ≡ false =
-          ap (λ v. is_known v (pair_at l).attribute) (map_twice (λ p. p.attribute) pair_at done) ∙ other_names attributes attributes_are.apart (λ k. k.attribute) done l.attribute a_in others in
+          ap (λ v. is_known v (pair_at l).attribute) (map-map_equal pair_at (λ (p : Pair). p.attribute) (λ l. (pair_at l).attribute) (λ l. refl) done) ∙ other_names attributes attributes_are.apart (λ k. k.attribute) done l.attribute a_in others in
           let fresh_c : is_known (map (λ p. p.column) (map pair_at done)) (pair_at l).column ≡ false =
-          ap (λ v. is_known v (pair_at l).column) (map_twice (λ p. p.column) pair_at done) ∙ other_names names columns_are.apart (λ k. k.column) done l.column c_in (both_in done l columns_in columns_before) in
+          ap (λ v. is_known v (pair_at l).column) (map-map_equal pair_at (λ (p : Pair). p.column) (λ l. (pair_at l).column) (λ l. refl) done) ∙ other_names names columns_are.apart (λ k. k.column) done l.column c_in (both_in done l columns_in columns_before) in
           let more = pairs_pass (done ++ l ∷ []) rest (e ∙ sym (append_assoc done (l ∷ []) rest)) in
           step (not (is_known attributes (pair_at l).attribute)) _ _ (not_unknown attributes l.attribute a_in)
           (step (not (is_known names (pair_at l).column)) _ _ (not_unknown names l.column c_in)

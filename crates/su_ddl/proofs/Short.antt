@@ -30,7 +30,7 @@ use Rattle.su_ddl.specs.Grammar.{columns_symbols, in_parens, definition_symbols}
 use Rattle.su_ddl.specs.Files.{no_definitions}
 use Rattle.su_ddl.specs.ShownDefinitions.{name_at, names_in, pair_of, attribute_definition, relation_definition, object_definition, fd_definition, maximal_definition, definitions_of}
 use Rattle.su_ddl.specs.Shown.{line_of, lines_of, schema_text}
-use Rattle.su_ddl.proofs.Again.{definitions_build}
+use Rattle.su_ddl.proofs.SameSchema.{definitions_build}
 use Rattle.su_ddl.proofs.Quiet.{IsQuiet, definition_quiet}
 use Rattle.su_ddl.proofs.Steps.{builds_well}
 

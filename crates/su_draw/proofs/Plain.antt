@@ -4,7 +4,7 @@ use Rattle.std.specs.Prelude.{◌==◌, ◌&&◌, ◌||◌, ◌/◌, ◌%◌, �
 use Rattle.std.specs.List.{list_all}
 use Rattle.std.specs.Fmt.{digits, digits_onto, digit_glyph}
 use Rattle.std.proofs.lemmas.Bool.Decides.{nat_tests}
-use Rattle.std.proofs.lemmas.Bool.{ltb-true, ltb-false, leb-true, and_parts, or_cases}
+use Rattle.std.proofs.lemmas.Bool.{ltb-true, ltb-false, leb-true, and_parts, or_cases, cond_both}
 use Rattle.su_draw.specs.declared.escaping.Begun.{Begun}
 use Rattle.su_draw.specs.Xml.{is_plain, IsChar, is_name, Attribute, AreAttributes, element_text, IsContent, nothing, plain, reference, element}
 use Rattle.su_draw.specs.Characters.{shown_for, char_text}
@@ -44,10 +44,6 @@ unfolding digits
 decimal-plain n = digits_onto-plain 64 n [] refl
 
 -- the character that is shown is one of XML
-char-if : (b : Bool) (x y : ℕ) → (b ≡ true → IsChar x) → (b ≡ false → IsChar y) → IsChar (cond b x y)
-char-if true x y f g = f refl
-char-if false x y f g = g refl
-
 in_ranges : (c : ℕ) → 32 ≤ c → (nat_lt c 55296 || (nat_le 57344 c && nat_lt c 65534) || (nat_le 65536 c && nat_lt c 1114112)) ≡ true → IsChar c
 in_ranges c low h =
     ⊎_elim
@@ -77,9 +73,9 @@ replacement-char = inr (inl (lit≤ tt, lit< tt))
 shown-char : (c : ℕ) → IsChar (shown_for c)
 shown-char c =
     let ranges : Bool = nat_lt c 55296 || (nat_le 57344 c && nat_lt c 65534) || (nat_le 65536 c && nat_lt c 1114112) in
-    char-if (nat_lt c 32) (9216 + c) (cond (c == 127) 9249 (cond ranges c 65533)) (λ h. control-char c (ltb-true c 32 h))
-    (λ low. char-if (c == 127) 9249 (cond ranges c 65533) (λ h. deleted-char)
-    (λ other. char-if ranges c 65533 (λ h. in_ranges c (ltb-false c 32 low) h) (λ h. replacement-char)))
+    cond_both (nat_lt c 32) (9216 + c) (cond (c == 127) 9249 (cond ranges c 65533)) IsChar (λ h. control-char c (ltb-true c 32 h))
+    (λ low. cond_both (c == 127) 9249 (cond ranges c 65533) IsChar (λ h. deleted-char)
+    (λ other. cond_both ranges c 65533 IsChar (λ h. in_ranges c (ltb-false c 32 low) h) (λ h. replacement-char)))
 
 -- a character as content
 content-if : (b : Bool) (x y rest : List ℕ) → (b ≡ true → IsContent (x ++ rest)) → (b ≡ false → IsContent (y ++ rest)) → IsContent (cond b x y ++ rest)

@@ -1,5 +1,5 @@
 -- Pieces read one after another: one more at the end, and that there is one reading.
-use Rattle.std.proofs.Common.{◌≡◌, ◌&&◌, ℕ, true, false, List, [], ◌∷◌, ◌++◌, Some, None, Result, Ok, Err, IfErr, refl, sym, ap, ◌∙◌, subst, inl, inr}
+use Rattle.std.proofs.Common.{◌≡◌, ◌⊎◌, ◌&&◌, ℕ, true, false, List, [], ◌∷◌, ◌++◌, Some, None, Result, Ok, Err, IfErr, refl, sym, ap, ◌∙◌, subst, inl, inr}
 use Rattle.su_draw.specs.declared.pieces.Piece.{Piece}
 use Rattle.su_draw.specs.declared.pieces.Cut.{Cut}
 use Rattle.su_draw.specs.declared.states.State.{State}
@@ -61,17 +61,17 @@ module _ (text : List ℕ) (cut : Cut) (e : cut ≡ cut_of text) where
             let Q : List Piece → Type 0 = λ ps. AreRead at_start ps lines r.end in
             clash at_start w.front w.lines w.state w.piece w.rest lines r.end w.read (subst Q (ap (λ z. z.pieces) (sym e) ∙ w.are) r.read) w.fault,
       )
-  line_fault NoMemory w = tt
+  line_fault NoMemory w = absurd w
 
   -- the text ends too soon
   pub end_fault : {T : Type 0} (r : Result T Fault) (lines : List Line) (state : State) → AreRead at_start cut.pieces lines state
-      → IfErr r (λ f. (f ≡ AtLine cut.number) × ((is_whole_cut cut && may_end state.last) ≡ false)) → IfErr r (IsFaultOf text)
+      → IfErr r (λ f. (f ≡ AtLine cut.number) × ((is_whole_cut cut && may_end state.last) ≡ false)) → IfErr r (λ f. (f ≡ NoMemory) ⊎ IsFaultOf text f)
   end_fault (Ok x) lines state read w = tt
   end_fault (Err f) lines state read w =
       let P : Cut → Type 0 = λ z. IsEndAtFault z cut.number in
       let Q : List Piece → State → Type 0 = λ ps s. AreRead at_start ps lines s in
       let at_end : IsEndAtFault cut cut.number = record { lines = lines; state = state; read = read; fault = w.1; is = refl } in
-      subst (IsFaultOf text) (sym w.0) (
+      inr (subst (IsFaultOf text) (sym w.0) (
         inr (subst P e at_end),
         λ ls r.
             let R : List Piece → Type 0 = λ ps. AreRead at_start ps ls r.end in
@@ -79,4 +79,4 @@ module _ (text : List ℕ) (cut : Cut) (e : cut ≡ cut_of text) where
             let good : (is_whole_cut cut && may_end state.last) ≡ true = ap (λ z. is_whole_cut cut && may_end z.last) (sym same) ∙ ap (λ z. is_whole_cut z && may_end r.end.last) e ∙ r.ends in
             let bad : true ≡ false = sym good ∙ w.1 in
             cc,
-      )
+      ))

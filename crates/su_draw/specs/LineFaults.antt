@@ -36,7 +36,7 @@ pub record IsEndAtFault (cut : Cut) (number : ℕ) : Type 0 where
 abbrev pub IsAtFault : List ℕ → ℕ → Type 0
 IsAtFault text number = IsLineAtFault (cut_of text).pieces number ⊎ IsEndAtFault (cut_of text) number
 
--- the fault is one of the text, where it isn't want of memory
+-- the fault is one of the text; want of memory is none
 abbrev pub IsFaultOf : List ℕ → Fault → Type 0
 IsFaultOf text (AtLine number) = IsAtFault text number × ((lines : List Line) → AreLinesOf text lines → ⊥)
-IsFaultOf text NoMemory = Unit {0}
+IsFaultOf text NoMemory = ⊥

@@ -1,5 +1,5 @@
 //! A text read as the lines of an explanation or of a schema.
-ghost use Rattle.std.specs.Prelude.{◌≡◌, ◌&&◌, true, false, Some, None, IfOk, IfErr};
+ghost use Rattle.std.specs.Prelude.{◌≡◌, ◌⊎◌, ◌&&◌, true, false, Some, None, IfOk, IfErr};
 ghost use Rattle.su_draw.specs.declared.reading.Fault.TheVariants.{NoMemory as OutOfMemory};
 ghost use Rattle.su_draw.specs.Order.{may_end};
 ghost use Rattle.su_draw.specs.States.{at_start};
@@ -70,7 +70,7 @@ fn line_of(state: &State, piece: Piece) -> Result<(Line, State), usize>
 /// The lines that the pieces are read as, and what is known behind them.
 fn read_pieces(alloc: Global, pieces: List<Piece>) -> Result<(List<Line>, State), Fault>
     ensures read { IfOk result (λ r. AreRead at_start pieces r.0 r.1) }
-    ensures fault { IfErr result (IsFaultAmong pieces) }
+    ensures fault { IfErr result (λ fault. (fault ≡ Fault.NoMemory) ⊎ IsFaultAmong pieces fault) }
 {
     let mut lines = List::new(alloc);
     let mut state = START;
@@ -101,7 +101,7 @@ fn ended(lines: List<Line>, state: &State, whole: bool, number: usize) -> Result
 /// line behind the last one, where the text ends too soon. It takes memory for each word of the text.
 pub fn read(alloc: Global, text: &[u8]) -> Result<List<Line>, Fault>
     ensures read { IfOk result (AreLinesOf text.now) }
-    ensures fault { IfErr result (IsFaultOf text.now) }
+    ensures fault { IfErr result (λ fault. (fault ≡ Fault.NoMemory) ⊎ IsFaultOf text.now fault) }
 {
     let cut = cut_text(alloc, text)?;
     let whole = cut.is_whole();

@@ -13,7 +13,7 @@ pub mod Labels
 pub mod ComponentLabels
 pub mod CutEdges
 pub mod BodySteps
-pub mod Over
+pub mod MoreAnswers
 pub mod CodedValuations
 pub mod Meanings
 pub mod GatheredRows

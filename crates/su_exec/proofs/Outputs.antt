@@ -3,16 +3,13 @@ use Rattle.std.proofs.Common.{◌≡◌, ℕ, zero, suc, ◌+◌, ◌<◌, ◌�
 use Rattle.std.specs.Prelude.{map, All, pos, nat_eq, ◌&&◌, take, Result, Ok, Err, IfOk, IfErr}
 use Rattle.std.specs.List.{AllZip}
 use Rattle.std.specs.List.Sorted.{IsStrictlySortedBy}
-use Rattle.std.specs.declared.cmp.Ordering.TheVariants.{Less, Equal}
 use Rattle.std.proofs.lemmas.Bool.{cases_Bool, cases_lt, true≢false}
 use Rattle.std.proofs.lemmas.Bool.Decides.{nat_tests}
-use Rattle.std.proofs.lemmas.Cmp.{tied_itself}
 use Rattle.std.proofs.lemmas.List.{get_or-map, get_or_default, length-map, take_more}
-use Rattle.std.proofs.lemmas.List.Elements.{All-cons, All-nil, All-head, All-tail, All-contains, Contains-get_or}
+use Rattle.std.proofs.lemmas.List.Elements.{All-cons, All-nil, All-head, All-tail, All-contains}
 use Rattle.std.proofs.lemmas.List.Folds.{Any-from_list_any}
-use Rattle.std.proofs.lemmas.Map.Keys.{Less-from_sorted}
 use Rattle.std.proofs.lemmas.Option.{same_Some}
-use Rattle.su_base.proofs.Items.{AllZip-push, Contains-map, Contains-map_source}
+use Rattle.su_base.proofs.Items.{Contains-map, Contains-map_source, AllZip-more}
 use Rattle.su_base.specs.declared.values.Value.{Value}
 use Rattle.su_base.specs.declared.values.Value.TheVariants.{Int}
 use Rattle.su_base.specs.Value.{compare_lists}
@@ -46,7 +43,6 @@ use Rattle.su_exec.specs.Tasks.{IsTask, Occurs}
 use Rattle.su_exec.proofs.CodedValuations.{code_back, fits_all_codes, fits_all_values, place_in, placed}
 use Rattle.su_exec.proofs.Meanings.{edges_up, meanings_same}
 use Rattle.su_exec.proofs.PartSteps.{agree_at, agree_from}
-use Rattle.su_base.proofs.Rows.{rows_total}
 use Rattle.su_exec.proofs.BodySteps.{code_same, has_first, has_second, has_either}
 
 -- ---- what spots show
@@ -80,24 +76,6 @@ module _ (values : List Value) (e : Edge ℕ) (terms : List CodedSymbol) (spots 
         },
     λ s. subst (λ (g : List Value). Contains (map (spot_values values spots) e.rows) g) (shown_values values e.vars terms spots s.valuation are ∙ s.gives) (Contains-map (spot_values values spots) e.rows (map s.valuation e.vars) s.fits),
   )
-
--- ascending rows past the bound that are shown are more than it
-pub shows_more : (values : List Value) (e : Edge ℕ) (terms : List CodedSymbol) (n : ℕ) (rows : List (List Value)) → IsStrictlySortedBy compare_lists rows → ((h : List Value) → Contains rows h → IsShown values e terms h) → n < length rows → AreMoreThan n (IsShown values e terms)
-shows_more values e terms n rows sorted each many = record {
-  member = λ i. get_or rows i [];
-  each = λ i l. each (get_or rows i []) (Contains-get_or rows i [] (omega arith));
-  differ = λ i j l m same.
-      let less = Less-from_sorted compare_lists rows i j [] sorted l (omega arith) in
-      let tied : compare_lists (get_or rows i []) (get_or rows i []) ≡ Equal = tied_itself rows_total (get_or rows i []) in
-      let f : Less ≡ Equal = sym less ∙ ap (compare_lists (get_or rows i [])) (sym same) ∙ tied in
-      cc;
-}
-
--- ---- pairs of elements
-
-pub zip_more : {A B : Type 0} (R : A → B → Type 0) (xs : List A) (ys : List B) (i : ℕ) (x : A) (y : B) → i < length xs → x ≡ get_or xs i x → AllZip R (take i xs) ys → R x y → AllZip R (take (i + 1) xs) (ys ++ y ∷ [])
-zip_more {A} R xs ys i x y l e h r =
-    subst (λ (zs : List A). AllZip R zs (ys ++ y ∷ [])) (sym (take_more xs i x l ∙ ap (λ (z : A). take i xs ++ z ∷ []) (sym e))) (AllZip-push R (take i xs) ys x y h r)
 
 -- ---- terms
 
@@ -333,10 +311,10 @@ body_of tables a b c task es fs checks terms edges some first are_checks second 
 
 module _ (tables : List Stored) (values : List Value) (task : Task) (es : List (Edge ℕ)) (checks : List Check) (terms : List CodedSymbol) (is : IsTask tables task) (body : IsBodyOf tables values task es checks terms) where
   term_there : (k : ℕ) → has (term_vars terms) k ≡ true → among es k ≡ true
-  term_there k h = body.all k (is.outputs k (terms_vars values task.outputs terms k body.terms h))
+  term_there k h = body.all k (is.occur.outputs k (terms_vars values task.outputs terms k body.terms h))
 
   compared_occurs : (d : Compared) (k : ℕ) → Contains task.comparisons d → (d.left ≡ Var k) ⊎ (d.right ≡ Var k) → Occurs task k
-  compared_occurs d k m e = ⊎_elim (λ (l : d.left ≡ Var k). is.left d k m l) (λ (r : d.right ≡ Var k). is.right d k m r) e
+  compared_occurs d k m e = ⊎_elim (λ (l : d.left ≡ Var k). is.occur.left d k m l) (λ (r : d.right ≡ Var k). is.occur.right d k m r) e
 
   pub are_there : (needed : List ℕ) → needed ≡ term_vars terms → AreThere needed checks es
   are_there needed e k h =
@@ -373,7 +351,7 @@ module _ (tables : List Stored) (values : List Value) (task : Task) (es : List (
         valuation = w;
         fits = fits_all_codes values body.apart v es body.coded f;
         passes = from_holds values w v task.comparisons checks body.checks (λ d k m e. back k (compared_occurs d k m e)) o.holds;
-        gives = sym (syms_values values w v task.outputs terms body.terms (λ k m. back k (is.outputs k m))) ∙ o.gives;
+        gives = sym (syms_values values w v task.outputs terms body.terms (λ k m. back k (is.occur.outputs k m))) ∙ o.gives;
       }
 
   -- where nothing is given, there is no output
@@ -461,7 +439,7 @@ vars_at (t ∷ terms) (suc i) d k l h = has_second (vars_of t) (term_vars terms)
 
 pub spots_more : (vars : List ℕ) (terms : List CodedSymbol) (spots : List Spot) (i : ℕ) (d : CodedSymbol) (spot : Spot) → i < length terms → AreSpotsOf vars (take i terms) spots → HasTerm vars [] (get_or terms i d) spot → IsSpotIn (length vars) 0 spot → AreSpotsOf vars (take (i + 1) terms) (spots ++ spot ∷ [])
 spots_more vars terms spots i d spot l h a b =
-    zip_more (λ term spot. HasTerm vars [] term spot × IsSpotIn (length vars) 0 spot) terms spots i (get_or terms i d) spot l (get_or_default terms i d (get_or terms i d) l) h (a, b)
+    AllZip-more (λ term spot. HasTerm vars [] term spot × IsSpotIn (length vars) 0 spot) terms spots (spots ++ spot ∷ []) i (get_or terms i d) spot l (get_or_default terms i d (get_or terms i d) l) h (a, b) refl
 
 -- ---- the answers of what a body comes to
 

@@ -7,7 +7,7 @@ use Rattle.std.proofs.lemmas.List.Elements.{All-cons, All-head, All-nil, All-tai
 use Rattle.su_exec.specs.inside.Edges.{Edge, Fits, has}
 use Rattle.su_reduce.specs.Left.{marked}
 use Rattle.su_reduce.specs.Sheets.{pick, AreBelow, IsMarkedKey}
-use Rattle.su_reduce.proofs.Along.{marked_more}
+use Rattle.su_reduce.proofs.EarSteps.{marked_more}
 use Rattle.su_exec.specs.inside.Joins.{IsReal}
 use Rattle.su_exec.specs.inside.Semijoins.{AgreesWith, HasKey, IsSemijoin}
 use Rattle.su_exec.proofs.ProjectedJoins.{pick_map}

@@ -6,10 +6,10 @@ use Rattle.std.specs.declared.cmp.Ordering.{Ordering}
 use Rattle.std.specs.declared.cmp.Ordering.TheVariants.{Less as Before, Equal as Same, Greater as After}
 use Rattle.su_base.specs.declared.values.Value.{Value}
 use Rattle.su_base.specs.Value.{compare_values}
+use Rattle.su_base.proofs.Rows.{values_total}
 use Rattle.su_where.specs.Operator.{compares, holds_in}
 use Rattle.su_where.specs.declared.operators.Op.{Op}
 use Rattle.su_where.specs.declared.operators.Op.TheVariants.{Equal, NotEqual, Less, LessEqual, Greater, GreaterEqual}
-use Rattle.su_index.proofs.Runs.{values_total}
 use Rattle.su_exec.specs.inside.Ranges.{IsSide}
 
 is_before : (o : Ordering) → holds_in Less o ≡ true → o ≡ Before

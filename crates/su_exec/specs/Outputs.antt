@@ -1,10 +1,9 @@
 -- What a task gives: the outputs of its valuations.
 -- valuation: a value for each variable, under which each row agrees with a stored row of one of its sources and all comparisons hold
-use Rattle.std.specs.Prelude.{◌≡◌, ◌↔◌, ℕ, IsTrue, List, All, Contains}
-use Rattle.std.specs.List.Sorted.{IsStrictlySortedBy}
+use Rattle.std.specs.Prelude.{◌≡◌, ℕ, IsTrue, List, All, Contains}
 use Rattle.su_base.specs.declared.values.Value.{Value}
-use Rattle.su_base.specs.Value.{compare_lists}
 use Rattle.su_rel.specs.Stored.{Stored}
+use Rattle.su_rel.specs.ExactRows.{AreExactlyRows}
 use Rattle.su_where.specs.Operator.{compares}
 use Rattle.su_tableau.specs.Valuations.{value_of, values_of}
 pub use Rattle.su_tableau.specs.Valuations.{values_at}
@@ -14,13 +13,17 @@ use Rattle.su_exec.specs.declared.tasks.TaskRow.{TaskRow}
 use Rattle.su_exec.specs.declared.tasks.Compared.{Compared}
 use Rattle.su_exec.specs.declared.tasks.Task.{Task}
 
--- under the valuation the row has the values of some stored row of one of its sources
-pub record Agrees (tables : List Stored) (v : ℕ → Value) (row : TaskRow) : Type 0 where
+-- the values are those of some stored row of one of the sources, in the source's columns
+pub record AreFromSource (tables : List Stored) (sources : List Source) (values : List Value) : Type 0 where
   pub source : Source
-  pub of_row : Contains row.sources source
+  pub of_row : Contains sources source
   pub stored : List Value
   pub in_table : Contains (table_at tables source.relation).rows stored
-  pub same : values_at source.columns stored ≡ values_of v row.cells
+  pub same : values_at source.columns stored ≡ values
+
+-- under the valuation the row has the values of some stored row of one of its sources
+abbrev pub Agrees : List Stored → (ℕ → Value) → TaskRow → Type 0
+Agrees tables v row = AreFromSource tables row.sources (values_of v row.cells)
 
 -- under the valuation the comparison holds
 abbrev pub HoldsUnder : (ℕ → Value) → Compared → Type 0
@@ -34,6 +37,5 @@ pub record IsOutput (tables : List Stored) (task : Task) (h : List Value) : Type
   pub gives : values_of valuation task.outputs ≡ h
 
 -- exactly the outputs of all valuations, ascending, each once
-pub record AreOutputs (tables : List Stored) (task : Task) (rows : List (List Value)) : Type 0 where
-  pub exact : (h : List Value) → Contains rows h ↔ IsOutput tables task h
-  pub ascending : IsStrictlySortedBy compare_lists rows
+abbrev pub AreOutputs : List Stored → Task → List (List Value) → Type 0
+AreOutputs tables task rows = AreExactlyRows (IsOutput tables task) rows

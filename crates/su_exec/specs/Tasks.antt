@@ -35,10 +35,14 @@ pub record FitsTables (tables : List Stored) (cells : ℕ) (source : Source) : T
 abbrev pub HasSources : List Stored → TaskRow → Type 0
 HasSources tables row = All (FitsTables tables (length row.cells)) row.sources
 
+-- the variables that are given and compared stand in rows
+pub record AllOccur (task : Task) : Type 0 where
+  pub outputs : (k : ℕ) → Contains task.outputs (Var k) → Occurs task k
+  pub left : (c : Compared) (k : ℕ) → Contains task.comparisons c → c.left ≡ Var k → Occurs task k
+  pub right : (c : Compared) (k : ℕ) → Contains task.comparisons c → c.right ≡ Var k → Occurs task k
+
 -- a task over these tables
 pub record IsTask (tables : List Stored) (task : Task) : Type 0 where
   pub few : length task.rows ≤ 64
   pub sources : All (HasSources tables) task.rows
-  pub outputs : (k : ℕ) → Contains task.outputs (Var k) → Occurs task k
-  pub left : (c : Compared) (k : ℕ) → Contains task.comparisons c → c.left ≡ Var k → Occurs task k
-  pub right : (c : Compared) (k : ℕ) → Contains task.comparisons c → c.right ≡ Var k → Occurs task k
+  pub occur : AllOccur task

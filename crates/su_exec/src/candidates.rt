@@ -3,13 +3,12 @@ ghost use Rattle.std.specs.Prelude.{◌≡◌, ℕ, true, List, [], ◌∷◌, �
 ghost use Rattle.su_exec.specs.inside.Checks.{IsTestIn, all_pass};
 ghost use Rattle.su_exec.specs.inside.Edges.{has, among};
 ghost use Rattle.su_reduce.specs.Left.{marked};
-ghost use Rattle.su_reduce.specs.Sheets.{pick, AreBelow};
 ghost use Rattle.su_exec.specs.inside.Joins.{FitColumns, IsApart, IsJoinOf, IsReal, out_vars};
 ghost use Rattle.su_exec.specs.inside.Semijoins.{IsSemijoin};
 ghost use Rattle.su_exec.specs.inside.Plans.{FitsPlan, columns_of, passes_of};
 
 use crate::checks::Test;
-use crate::joins::{Plan, join};
+use crate::joins::{Plan, add_cells, join};
 use crate::places::{shared_places, wanted_places};
 use crate::semijoins::with_partners;
 use std::alloc::{AllocError, Global};
@@ -126,25 +125,14 @@ pub fn partners(alloc: Global, a: &Candidates, b: &Candidates) -> Result<Vec<boo
     Ok(marks)
 }
 
-/// Puts the variables at these places after what is there.
-fn add_vars(out: &mut Vec<u32>, vars: &[u32], places: &[usize]) -> Result<(), AllocError>
-    requires { AreBelow places.now (length vars.now) }
-    ensures { IfOk result (λ _. out.new.items ≡ out.old.items ++ pick places.now vars.now) }
-{
-    for p in places {
-        out.push(vars[*p])?;
-    }
-    Ok(())
-}
-
 /// The variables of the join by the plan.
 fn vars_by(alloc: Global, plan: &Plan, a: &[u32], b: &[u32]) -> Result<Vec<u32>, AllocError>
     requires { FitColumns (columns_of plan.now) a.now b.now }
     ensures { IfOk result (λ vars. vars.items ≡ out_vars (columns_of plan.now) a.now b.now) }
 {
     let mut vars = Vec::new(alloc);
-    add_vars(&mut vars, a, &plan.left_out)?;
-    add_vars(&mut vars, b, &plan.right_out)?;
+    add_cells(&mut vars, a, &plan.left_out)?;
+    add_cells(&mut vars, b, &plan.right_out)?;
     Ok(vars)
 }
 

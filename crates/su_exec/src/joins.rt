@@ -41,7 +41,7 @@ struct Bucketed<'a> {
     next: &'a [usize],
 }
 
-/// Puts the cells at these places after what is there.
+/// Puts the cells, or the variables, at these places after what is there.
 pub fn add_cells(cells: &mut Vec<u32>, row: &[u32], places: &[usize]) -> Result<(), AllocError>
     requires { AreBelow places.now (length row.now) }
     ensures { IfOk result (λ _. cells.new.items ≡ cells.old.items ++ pick places.now row.now) }

@@ -8,7 +8,7 @@ use Rattle.su_io.specs.Moments.{Moment}
 use Rattle.su_io.specs.Programs.{TellsOfFile}
 use Rattle.su_ddl.specs.declared.faults.DdlFault.{DdlFault}
 use Rattle.su_schema.specs.SchemaValue.{SchemaValue}
-use Rattle.su_show.specs.Refusals.{schema_line}
+use Rattle.su_show.specs.Refusals.{IsLineFor}
 use Rattle.su_files.specs.RunFiles.{schema_limit, SchemaIs}
 
 -- the file is read as this schema; no call of the shelf failed, and no more changed than what the shelf tells of its reading
@@ -20,7 +20,7 @@ pub record IsOpened (path : List ℕ) (schema : SchemaValue) (old new : Moment) 
 
 -- the line for the schema of this file, which is refused
 abbrev pub IsSchemaLine : List ℕ → Option (List File) → List ℕ → Type 0
-IsSchemaLine path files line = (fault : DdlFault) × SchemaIs path files (Err fault) × (line ≡ schema_line fault)
+IsSchemaLine path files line = (fault : DdlFault) × SchemaIs path files (Err fault) × IsLineFor fault line
 
 -- the schema, or the end of the program: its file is not read, the line of its refusal is told, or memory is wanting
 abbrev pub OpeningEnds : List ℕ → Moment → Moment → Result SchemaValue Status → Type 0

@@ -1,11 +1,10 @@
 //! A schema that is opened, and a script that is read.
-ghost use Rattle.std.specs.Prelude.{◌≡◌, ◌≢◌, ◌<◌, ◌^◌, Some};
+ghost use Rattle.std.specs.Prelude.{◌≡◌, ◌<◌, ◌^◌, Some};
 ghost use Rattle.su_files.specs.Openings.{OpeningEnds};
 ghost use Rattle.su_files.specs.RunFiles.{script_limit};
+ghost use Rattle.su_files.specs.inside.Tellings.{RefusalEnds};
 ghost use Rattle.su_io.specs.FileEnds.{FileEnds};
 ghost use Rattle.su_io.specs.Moments.{Moment};
-ghost use Rattle.su_io.specs.inside.Lines.{LineEnds};
-ghost use Rattle.su_show.specs.Refusals.{schema_line};
 
 use std::alloc::Global;
 use su_base::{List, Str};
@@ -26,8 +25,7 @@ fn tell_refusal<H: Shelf, K: Sink>(
     fault: &DdlFault,
     outside: &mut Outside<H, K>,
 ) -> Status
-    ensures told { result ≢ Status.NoMemory → fault.now ≢ DdlFault.NoMemory }
-    ensures ends { LineEnds (schema_line fault.now) Status.BadSchema outside.old outside.new result }
+    ensures { RefusalEnds fault.now outside.old outside.new result }
 {
     match ddl_fault(alloc, fault) {
         Ok(line) => outside.tell(line.as_slice(), Status::BadSchema),

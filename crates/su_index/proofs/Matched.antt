@@ -9,16 +9,17 @@ use Rattle.std.proofs.lemmas.List.{take_all}
 use Rattle.su_base.specs.declared.values.Value.{Value}
 use Rattle.su_base.specs.Value.{compare_values}
 use Rattle.su_base.proofs.Rows.{values_total, equal_values}
+use Rattle.su_base.proofs.Numbers.{is_eq-Equal}
 use Rattle.su_index.specs.Matches.{has_value, matches, IsMatch}
 use Rattle.su_index.specs.inside.Order.{count_below}
 use Rattle.su_index.proofs.Ranks.{count_below-le}
 use Rattle.su_index.proofs.Runs.{count_below-suc}
-use Rattle.su_index.proofs.Spans.{count_rows, is_equal}
+use Rattle.su_index.proofs.Spans.{count_rows}
 
 is_value : (found : Option Value) (value : Value) → Decides (option_map_or (λ v. is_eq (compare_values v value)) found false) (found ≡ Some value)
 is_value None value = (λ e. absurd (false≢true e), λ e. cc)
 is_value (Some v) value = (
-  λ e. ap Some (equal_values v value (is_equal (compare_values v value) e)),
+  λ e. ap Some (equal_values v value (is_eq-Equal (compare_values v value) e)),
   λ e. let same : v ≡ value = cc in rw same (ap is_eq (tied_itself values_total value)),
 )
 

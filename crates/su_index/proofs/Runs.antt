@@ -9,7 +9,7 @@ use Rattle.std.proofs.lemmas.Bool.Decides.{nat_tests}
 use Rattle.std.proofs.lemmas.List.Sums.{sum_by-cons, sum_by-append}
 use Rattle.std.proofs.lemmas.List.{take-append-drop}
 use Rattle.su_base.specs.declared.values.Value.{Value}
-pub use Rattle.su_base.proofs.Rows.{cmp-values as same_order, values_total}
+use Rattle.su_base.proofs.Rows.{values_total}
 use Rattle.su_index.specs.inside.Lead.{lead_of}
 use Rattle.su_index.specs.inside.Order.{compare_keys, compare_places, count_below}
 

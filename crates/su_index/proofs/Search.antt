@@ -8,11 +8,10 @@ use Rattle.std.specs.declared.cmp.Ordering.TheVariants.{Less, Equal, Greater}
 use Rattle.std.proofs.lemmas.Bool.{false≢true, cases_eq}
 use Rattle.std.proofs.lemmas.Map.Keys.{Less-from_sorted}
 use Rattle.su_base.specs.declared.values.Value.{Value}
-use Rattle.su_base.proofs.Numbers.{is_lt-Less}
+use Rattle.su_base.proofs.Numbers.{is_lt-Less, is_eq-Equal}
 use Rattle.su_index.specs.inside.Order.{compare_keys, compare_places, compare_entries}
 use Rattle.su_index.specs.inside.Spans.{comes_before, has_at}
 use Rattle.su_index.proofs.Runs.{keys_total}
-use Rattle.su_index.proofs.Spans.{is_equal}
 
 pub entries_total : IsTotalOrder (λ (a b : Value × ℕ). compare_entries a.0 a.1 b.0 b.1)
 entries_total = then_total (on_total (λ (a : Value × ℕ). a.0) keys_total) (on_total (λ (a : Value × ℕ). a.1) nat_cmp_total)
@@ -47,8 +46,8 @@ has_between at v run i j k sorted low high within a b =
     let x : Value = at (get_or run i 0) in
     let y : Value = at (get_or run j 0) in
     let z : Value = at (get_or run k 0) in
-    let before : compare_keys x y ≡ ordering_reverse (compare_keys y v) = keys_total.congr x v y (is_equal (compare_keys x v) a) ∙ keys_total.antisymm v y in
-    let after : compare_keys y z ≡ compare_keys y v = keys_total.antisymm y z ∙ ap ordering_reverse (keys_total.congr z v y (is_equal (compare_keys z v) b)) ∙ sym (keys_total.antisymm y v) in
+    let before : compare_keys x y ≡ ordering_reverse (compare_keys y v) = keys_total.congr x v y (is_eq-Equal (compare_keys x v) a) ∙ keys_total.antisymm v y in
+    let after : compare_keys y z ≡ compare_keys y v = keys_total.antisymm y z ∙ ap ordering_reverse (keys_total.congr z v y (is_eq-Equal (compare_keys z v) b)) ∙ sym (keys_total.antisymm y v) in
     between_has (compare_keys y v) (nat_cmp (get_or run i 0) (get_or run j 0)) (nat_cmp (get_or run j 0) (get_or run k 0))
     (rw (← before) (Less-from_sorted (compare_places at) run i j 0 sorted low (omega arith)))
     (rw (← after) (Less-from_sorted (compare_places at) run j k 0 sorted high within))

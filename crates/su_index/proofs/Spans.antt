@@ -12,6 +12,7 @@ use Rattle.std.proofs.lemmas.Option.{slice_get-get_or, slice_get_within, get_or_
 use Rattle.std.proofs.lemmas.Map.Keys.{Less-from_sorted}
 use Rattle.su_base.specs.declared.values.Value.{Value}
 use Rattle.su_base.specs.declared.values.Value.TheVariants.{Int}
+use Rattle.su_base.proofs.Numbers.{is_eq-Equal}
 use Rattle.su_index.specs.Matches.{has_value, matches, AreMatches, IsMatch}
 use Rattle.su_index.specs.inside.Order.{compare_keys, compare_places, value_at, count_below, IsRun, IsIndex}
 use Rattle.su_index.specs.inside.Spans.{comes_before, has_at, HaveColumn, ArePositions, IsSpan}
@@ -43,11 +44,6 @@ later_too Less q top e = refl
 later_too Equal q top e = grind (arith, nat_tests, e)
 later_too Greater q top e = absurd (false≢true e)
 
-pub is_equal : (o : Ordering) → is_eq o ≡ true → o ≡ Equal
-is_equal Less e = absurd (false≢true e)
-is_equal Equal e = refl
-is_equal Greater e = absurd (false≢true e)
-
 then_less : (o : Ordering) (q r : ℕ) → ordering_then o (nat_cmp q r) ≡ Less → o ≡ Equal → q < r
 then_less Less q r e f = absurd (cc)
 then_less Equal q r e f = grind (arith, nat_tests, e)
@@ -56,8 +52,8 @@ then_less Greater q r e f = absurd (cc)
 -- two positions with one value are in order as numbers
 less_with_value : (at : ℕ → Value) (v : Value) (q r : ℕ) → has_at at v q ≡ true → has_at at v r ≡ true → compare_places at q r ≡ Less → q < r
 less_with_value at v q r a b less =
-    let e : compare_keys (at q) v ≡ Equal = is_equal _ a in
-    let f : compare_keys (at r) v ≡ Equal = is_equal _ b in
+    let e : compare_keys (at q) v ≡ Equal = is_eq-Equal _ a in
+    let f : compare_keys (at r) v ≡ Equal = is_eq-Equal _ b in
     let g : compare_keys v (at r) ≡ Equal = keys_total.antisymm v (at r) ∙ ap ordering_reverse f in
     then_less (compare_keys (at q) (at r)) q r less (keys_total.congr (at q) v (at r) e ∙ g)
 

@@ -5,6 +5,7 @@ use Rattle.su_io.specs.declared.status.Status.TheVariants.{Done, SomeRefused, Us
 use Rattle.su_io.specs.HandOver.{Closes, HandsOver}
 use Rattle.su_io.specs.Moments.{Told, Moment}
 use Rattle.su_io.specs.FileEnds.{ReadingEnds}
+use Rattle.su_io.specs.Programs.{Ends}
 use Rattle.su_io.specs.WrittenTexts.{Wrote, WritingEnds}
 
 -- ---- writing
@@ -54,6 +55,14 @@ read_within path limit old new ReadFault fault long reads taken = absurd (fault 
 read_within path limit old new WriteFault fault long reads taken = (reads, taken)
 read_within path limit old new TooLong fault long reads taken = absurd (long refl)
 read_within path limit old new NoMemory fault long reads taken = (reads, taken)
+
+-- ---- its file and its texts
+
+-- what holds of them, told in other words
+pub Ends-map : {P Q : List ℕ → ℕ → List (List ℕ) → Type 0} → ((path : List ℕ) (limit : ℕ) (texts : List (List ℕ)) → P path limit texts → Q path limit texts) → (old new : Moment) (status : Status) → Ends P old new status → Ends Q old new status
+Ends-map told old new status (inl ends) =
+    inl record { path = ends.path; limit = ends.limit; texts = ends.texts; holds = told ends.path ends.limit ends.texts ends.holds; begun = ends.begun; reading = ends.reading; writing = ends.writing }
+Ends-map told old new status (inr none) = inr none
 
 -- ---- the hand-over
 

@@ -3,7 +3,6 @@ pub mod Ends
 pub mod FileEnds
 pub mod Files
 pub mod HandOver
-pub mod inside
 pub mod Moments
 pub mod Programs
 pub mod Wholes

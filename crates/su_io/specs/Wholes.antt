@@ -1,7 +1,7 @@
 -- Whole writes: bytes are handed over whole, and behind each piece that was taken what is left of them.
 -- handed: the pieces that the calls of a sink were given, in order
 use Rattle.std.specs.Prelude.{◌≡◌, ◌<◌, ◌≤◌, ◌++◌, ℕ, List, [], ◌∷◌, Option, length, drop}
-use Rattle.su_io.specs.Ends.{WasHanded}
+use Rattle.su_io.specs.Ends.{Grew}
 
 -- each piece is all that was left of the bytes, and some of it was taken; `rest` is left in the end
 abbrev pub Leaves : List ℕ → List (List ℕ) → List ℕ → Type 0
@@ -14,4 +14,4 @@ IsWhole bytes pieces = Leaves bytes pieces []
 
 -- the sink was handed the pieces that were taken, and then all that was left, some bytes at least
 abbrev pub WasCut : List ℕ → Option (List (List ℕ)) → Option (List (List ℕ)) → Type 0
-WasCut bytes old new = (pieces : List (List ℕ)) × (rest : List ℕ) × Leaves bytes pieces rest × (0 < length rest) × WasHanded old new (pieces ++ rest ∷ [])
+WasCut bytes old new = (pieces : List (List ℕ)) × (rest : List ℕ) × Leaves bytes pieces rest × (0 < length rest) × Grew old new (pieces ++ rest ∷ [])

@@ -5,7 +5,7 @@ use Rattle.std.specs.List.{AllZip, flat_map}
 use Rattle.su_io.specs.declared.status.Status.{Status}
 use Rattle.su_io.specs.declared.status.Status.TheVariants.{WriteFault}
 use Rattle.su_io.specs.Causes.{Rose}
-use Rattle.su_io.specs.Ends.{Grew, WasHanded}
+use Rattle.su_io.specs.Ends.{Grew}
 use Rattle.su_io.specs.Moments.{Told, Moment}
 use Rattle.su_io.specs.Wholes.{IsWhole}
 
@@ -18,7 +18,7 @@ pub record Wrote (old new : Told) (texts : List (List ℕ)) : Type 0 where
   pub grew : Grew old.written new.written (joined texts)
   pub writes : List (List (List ℕ))
   pub whole : AllZip IsWhole texts writes
-  pub handed : WasHanded old.handed new.handed (joined writes)
+  pub handed : Grew old.handed new.handed (joined writes)
   pub none : texts ≡ [] → new ≡ old
 
 -- a front of these texts was written

@@ -1,7 +1,7 @@
 //! Where bytes are written to.
 ghost use Rattle.std.specs.Prelude.{◌≡◌, ◌<◌, ◌≤◌, ℕ, List, [], ◌∷◌, Option, take, length, OnErr, IfOk};
 ghost use Rattle.su_io.specs.Causes.{HasCause};
-ghost use Rattle.su_io.specs.Ends.{Grew, WasHanded};
+ghost use Rattle.su_io.specs.Ends.{Grew};
 
 use crate::Failed;
 
@@ -23,7 +23,7 @@ pub trait Sink {
         ensures progress { IfOk result (λ count. 0 < length bytes.now → 0 < count) }
         ensures grew { IfOk result (λ count. Grew (written self.old) (written self.new) (take count bytes.now)) }
         ensures kept { OnErr result (written self.new ≡ written self.old) }
-        ensures handed { WasHanded (handed self.old) (handed self.new) (bytes.now ∷ []) }
+        ensures handed { Grew (handed self.old) (handed self.new) (bytes.now ∷ []) }
         ensures cause { HasCause (faults self.old) (faults self.new) result };
 
     /// Hands over what the sink holds back, if it does: the last call, behind which nothing is held.

@@ -1,3 +1,3 @@
--- Definitions that only contracts of private functions need.
+-- Definitions that only contracts of private functions and invariants of types need.
 pub mod Classes
 pub mod Firsts

@@ -1,8 +1,7 @@
 -- Members of a set of numbers, which are the bits of a number.
 use Rattle.std.proofs.Common.{◌≡◌, ◌≢◌, ℕ, ◌+◌, ◌-◌, ◌<◌, ◌≤◌, ◌^◌, ◌⊎◌, ◌↔◌, inl, inr, ⊎_elim, sym, ap, subst, ◌∙◌, bit_or, arith, List, length, get_or, set, get_or-set_other, get_or-set_same}
-use borrow.Author.Count.{below_more}
 use Rattle.std.specs.Int.{bit_at, trailing_zeros, w64}
-use Rattle.std.proofs.lemmas.Nat.Bits.{bit_at-trailing_zeros, bit_at-lt, bit_at_or, bit_at_above, bit_at-zero, bit_at_ones, bit_at_ones_above}
+use Rattle.std.proofs.lemmas.Nat.Bits.{bit_at-trailing_zeros, bit_at-lt, bit_at_or, bit_at-zero, bit_at_ones, bit_at_ones_above}
 use Rattle.std.proofs.lemmas.Bool.{cases_lt, cases_eq}
 
 pub lowest_is : (n : ℕ) → 0 < n → n < 2 ^ 64 → (trailing_zeros w64 n < 64) × (bit_at n (trailing_zeros w64 n) ≡ 1) × ((i : ℕ) → i < trailing_zeros w64 n → bit_at n i ≡ 0)
@@ -31,13 +30,6 @@ or_either a b j =
 -- a number that is not 0 has a member, and one of 0 has none
 pub no_member : (n j : ℕ) → n ≡ 0 → bit_at n j ≡ 1 → ⊥
 no_member n j e one = let z = ap (λ m. bit_at m j) e ∙ bit_at-zero j in absurd (omega arith)
-
-pub small_member : (n j : ℕ) → n < 2 ^ 64 → bit_at n j ≡ 1 → j < 64
-small_member n j small one =
-    ⊎_elim
-    (λ (lt : j < 64). lt)
-    (λ (le : 64 ≤ j). absurd (let z = bit_at_above n 64 j small le in omega arith))
-    (cases_lt j 64)
 
 -- the members of the set of all numbers below n
 pub full_member : (all n j : ℕ) → all + 1 ≡ 2 ^ n → (bit_at all j ≡ 1) ↔ (j < n)
@@ -77,20 +69,6 @@ collect_same A B left new i e none before j = (
 -- nothing is collected at the start
 pub collect_none : (A B : ℕ → Type 0) (j : ℕ) → (bit_at 0 j ≡ 1) ↔ ((j < 0) × A j × B j)
 collect_none A B j = (λ h. absurd (let z = bit_at-zero j in omega arith), λ h. absurd (let l = h.0 in omega arith))
-
--- ---- a table that is filled entry by entry
-
-pub set_entries : (P : ℕ → ℕ → Type 0) (list : List ℕ) (n v : ℕ) → n < length list → ((i : ℕ) → i < n → P i (get_or list i 0)) → P n v → (i : ℕ) → i < n + 1 → P i (get_or (set list n v) i 0)
-set_entries P list n v low before here =
-    below_more (λ i. P i (get_or (set list n v) i 0)) n
-    (λ i l. subst (P i) (sym (get_or-set_other list n i v 0 (omega arith))) (before i l))
-    (subst (P n) (sym (get_or-set_same list n v 0 low)) here)
-
-pub set_entries_of : {A : Type 0} (P : ℕ → A → Type 0) (list : List A) (n : ℕ) (v d : A) → n < length list → ((i : ℕ) → i < n → P i (get_or list i d)) → P n v → (i : ℕ) → i < n + 1 → P i (get_or (set list n v) i d)
-set_entries_of P list n v d low before here =
-    below_more (λ i. P i (get_or (set list n v) i d)) n
-    (λ i l. subst (P i) (sym (get_or-set_other list n i v d (omega arith))) (before i l))
-    (subst (P n) (sym (get_or-set_same list n v d low)) here)
 
 -- ---- rows noted at variables
 

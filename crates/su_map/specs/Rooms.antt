@@ -3,7 +3,7 @@
 -- s, t: a tableau, and the one that it is mapped into; m, k: sets of their rows
 use Rattle.std.specs.Prelude.{◌≡◌, ℕ, ◌≤◌, List, length}
 use Rattle.su_tableau.specs.Tableaux.{Tab, AreVarsBelow}
-use Rattle.su_map.specs.inside.Netted.{Netted}
+use Rattle.su_map.specs.Netted.{Netted}
 use Rattle.su_map.specs.inside.Nets.{IsNetFor}
 
 -- for how many rows and symbols there is room, the row list that was found, and the tables

@@ -1,4 +1,4 @@
--- Definitions that only contracts of private functions need.
+-- Definitions that only contracts of private functions and invariants of types need.
 pub mod Choices
 pub mod Nets
 pub mod Netted

@@ -11,7 +11,7 @@ use Rattle.su_maxobj.specs.Growth.{IsFirstAdjoinable, IsGrowth, IsGrown}
 use Rattle.su_maxobj.specs.inside.Ruled.{AreNotAdjoinable}
 use Rattle.su_maxobj.specs.Laws.{GrowthIsUnique}
 use Rattle.su_maxobj.proofs.Members.{attributes_of_more}
-use Rattle.su_maxobj.proofs.Together.{still_not}
+use Rattle.su_maxobj.proofs.HangingSets.{still_not}
 
 -- how many numbers below n a set does not hold
 abbrev pub missing : ℕ → FinSet nat_cmp → ℕ

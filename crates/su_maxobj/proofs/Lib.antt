@@ -1,5 +1,5 @@
 pub mod Few
-pub mod Together
+pub mod HangingSets
 pub mod Listed
 pub mod Lists
 pub mod Members

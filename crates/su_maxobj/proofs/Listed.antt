@@ -1,16 +1,16 @@
 -- The list of maximal objects, seed by seed, and that there is one.
-use Rattle.std.proofs.Common.{ℕ, ◌+◌, ◌<◌, ◌≡◌, inl, inr, true, false, List, [], ◌∷◌, ◌++◌, map, length, get_or, ap, subst, sym, ◌∙◌, append_assoc, arith}
+use Rattle.std.proofs.Common.{ℕ, ◌+◌, ◌<◌, ◌≡◌, inl, inr, true, false, List, [], ◌∷◌, ◌++◌, map, length, get_or, ap, subst, sym, ◌∙◌, append-nil, cond, arith}
 use Rattle.std.specs.List.{filter, range_with_len}
 use Rattle.std.proofs.lemmas.Bool.{cases_lt}
 use Rattle.std.proofs.lemmas.List.{get_or_append_left, get_or_push, get_or_default, same_lists}
 use Rattle.std.specs.Ordering.{nat_cmp}
 use Rattle.std.specs.FinSet.{FinSet, empty}
+use Rattle.su_base.proofs.PassingNumbers.{images_more}
 use Rattle.su_fd.specs.declared.Fd.{Fd}
 use Rattle.su_maxobj.specs.Laws.{MaximalObjectsAreUnique}
 use Rattle.su_maxobj.specs.Growth.{IsGrown}
 use Rattle.su_maxobj.specs.AdjoinableObjects.{set_at}
 use Rattle.su_maxobj.specs.MaximalObjects.{object_sets, is_listed, computed}
-use Rattle.su_maxobj.proofs.Lists.{passing_push, passing_skip}
 use Rattle.su_maxobj.proofs.Members.{object_at_read}
 use Rattle.su_maxobj.proofs.GrowthSteps.{one_grown}
 
@@ -21,11 +21,10 @@ module _ (declared grown sets t : List (FinSet nat_cmp)) (n : ℕ) (before : set
   pub listed_push : is_listed declared grown n ≡ true → n < length grown → (v : FinSet nat_cmp) → v ≡ get_or grown n v → t ≡ sets ++ v ∷ [] → t ≡ ListedBelow declared grown (n + 1)
   listed_push passes h v v_is t_is =
       let own : v ≡ set_at grown n = sym (object_at_read grown n v h v_is) in
-      let so_far : List (FinSet nat_cmp) = map (set_at grown) (filter (is_listed declared grown) (range_with_len 0 n)) in
-      t_is ∙ ap (λ z. z ++ v ∷ []) before ∙ append_assoc declared so_far (v ∷ []) ∙ ap (λ z. declared ++ (so_far ++ z ∷ [])) own ∙ ap (λ z. declared ++ z) (sym (passing_push (set_at grown) (is_listed declared grown) n passes))
+      images_more (set_at grown) (is_listed declared grown) n declared sets t before (t_is ∙ ap (λ z. sets ++ z ∷ []) own ∙ sym (ap (λ b. sets ++ cond b (set_at grown n ∷ []) []) passes))
 
   pub listed_skip : is_listed declared grown n ≡ false → t ≡ sets → t ≡ ListedBelow declared grown (n + 1)
-  listed_skip fails t_is = t_is ∙ before ∙ ap (λ z. declared ++ z) (sym (passing_skip (set_at grown) (is_listed declared grown) n fails))
+  listed_skip fails t_is = images_more (set_at grown) (is_listed declared grown) n declared sets t before (t_is ∙ sym (append-nil sets) ∙ sym (ap (λ b. sets ++ cond b (set_at grown n ∷ []) []) fails))
 
 -- the grown sets of the first seeds, with one seed more
 pub grown_push : (fds : List Fd) (objects grown : List (FinSet nat_cmp)) (n : ℕ) (v : FinSet nat_cmp) → length grown ≡ n → ((k : ℕ) → k < n → IsGrown fds objects k (set_at grown k)) → IsGrown fds objects n v

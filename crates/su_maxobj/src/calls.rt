@@ -3,7 +3,7 @@ ghost use Rattle.std.specs.Prelude.{ℕ, ◌≡◌, ◌<◌, ◌≤◌, ◌↔�
 ghost use Rattle.std.specs.Prelude.{List as Items};
 ghost use Rattle.std.specs.Ordering.{nat_cmp};
 ghost use Rattle.std.specs.FinSet as set;
-ghost use Rattle.su_maxobj.specs.AdjoinableObjects.{Adjoinable, IsAttributesOf};
+ghost use Rattle.su_maxobj.specs.AdjoinableObjects.{Adjoinable};
 ghost use Rattle.su_maxobj.specs.Growth.{IsGrown};
 ghost use Rattle.su_maxobj.specs.MaximalObjects.{object_sets, AreMaximalObjects};
 
@@ -41,16 +41,6 @@ pub fn adjoinable(schema: &Schema, have: ObjSet, object: u8) -> bool
     let objects = &sets[..schema.objects()];
     let members = attributes_of(objects, have);
     joins(schema.fds(), objects, have, members, object)
-}
-
-/// The attributes of the objects of `have` together: what they cover. Takes no memory.
-pub fn attributes_covered(schema: &Schema, have: ObjSet) -> AttrSet
-    ensures { IsAttributesOf (object_sets schema.now) have result }
-{
-    schema.keeps_its_rules();
-    let mut sets = [AttrSet::empty(); 64];
-    read_objects(schema, &mut sets);
-    attributes_of(&sets[..schema.objects()], have)
 }
 
 /// What the object `seed` grows to: the first object in order of declaration that is adjoinable

@@ -15,4 +15,4 @@ mod listing;
 mod ordering;
 mod spreading;
 
-pub use calls::{adjoinable, attributes_covered, grown, maximal_objects};
+pub use calls::{adjoinable, grown, maximal_objects};

@@ -1,7 +1,7 @@
 use std::test::Fail;
 use su_base::{List, ObjSet};
 use su_cases::{objects_of, schema_of};
-use su_maxobj::{adjoinable, attributes_covered, grown, maximal_objects};
+use su_maxobj::{adjoinable, grown, maximal_objects};
 use su_schema::Schema;
 
 /// A circle of three objects, and a branch.
@@ -35,11 +35,7 @@ fn a_branch_of_a_circle_joins_its_two_neighbours(rt: HostRuntime) -> Result<(), 
 
 fn stays_alone(schema: &Schema) -> bool {
     let last = ObjSet::empty().insert(3);
-    schema.objects() == 4
-        && attributes_covered(schema, last).contains(2)
-        && !attributes_covered(schema, last).contains(1)
-        && !adjoinable(schema, last, 1)
-        && grown(schema, 3).within(last)
+    schema.objects() == 4 && !adjoinable(schema, last, 1) && grown(schema, 3).within(last)
 }
 
 #[test]

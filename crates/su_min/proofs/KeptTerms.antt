@@ -1,8 +1,8 @@
 -- Each term is kept or covered by a kept one, and what covers a kept term is covered by it.
-use Rattle.std.proofs.Common.{◌≡◌, ◌≢◌, ◌⊎◌, ℕ, ◌<◌, ◌≤◌, List, [], ◌∷◌, map, length, Contains, sym, subst, inl, inr, ⊎_elim, arith}
+use Rattle.std.proofs.Common.{◌≡◌, ◌≢◌, ◌⊎◌, ℕ, ◌<◌, ◌≤◌, List, map, length, Contains, sym, subst, inl, inr, ⊎_elim, arith}
 use Rattle.std.proofs.lemmas.Bool.{cases_eq, cases_lt}
 use Rattle.std.proofs.lemmas.List.Elements.{All-contains}
-use Rattle.su_base.proofs.Items.{Contains-nil, Contains-later, Contains-cases, Contains-map_source}
+use Rattle.su_base.proofs.Items.{Contains-map_source, Contains-or_not}
 use Rattle.su_min.specs.Kept.{Minimised}
 use Rattle.su_min.specs.Cover.{Covers}
 use Rattle.su_min.specs.declared.reduced.Cover.{Cover}
@@ -10,19 +10,6 @@ use Rattle.su_min.specs.declared.reduced.Reduced.{Reduced}
 use Rattle.su_min.specs.Reduction.{term_at, IsKeptTerm, IsCover, IsReduced}
 use Rattle.su_min.specs.Laws.{HasCover}
 use Rattle.su_min.proofs.Covers.{covers_itself, covers_through}
-
--- whether a number is in a list
-number_in : (xs : List ℕ) (i : ℕ) → Contains xs i ⊎ (Contains xs i → ⊥)
-number_in [] i = inr (λ c. Contains-nil i c)
-number_in (x ∷ xs) i =
-    ⊎_elim
-    (λ (e : x ≡ i). inl (0, omega arith, e))
-    (λ (ne : x ≢ i).
-    ⊎_elim
-    (λ (c : Contains xs i). inl (Contains-later x xs i c))
-    (λ (out : Contains xs i → ⊥). inr (λ c. ⊎_elim (λ (e : x ≡ i). ne e) (λ (r : Contains xs i). out r) (Contains-cases x xs i c)))
-    (number_in xs i))
-    (cases_eq x i)
 
 -- ---- kept terms
 
@@ -66,7 +53,7 @@ module _ (terms : List Minimised) where
         }))
         (λ (out : Contains (map (λ (d : Cover). d.dropped) r.covers) i → ⊥).
         inl ((is.kept.members i).1 (low, record { below = low; stays = λ d. out ((is.dropped.members i).1 (low, d)) })))
-        (number_in (map (λ (d : Cover). d.dropped) r.covers) i)
+        (Contains-or_not cases_eq (map (λ (d : Cover). d.dropped) r.covers) i)
 
     -- what covers a kept term is covered by it, and is no earlier
     pub kept_back : (i : ℕ) → IsKeptTerm terms i → (j : ℕ) → j < length terms → Covers (term_at terms j) (term_at terms i) → Covers (term_at terms i) (term_at terms j) × (i ≤ j)

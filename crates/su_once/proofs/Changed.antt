@@ -1,7 +1,7 @@
 -- Equal changes of databases that are alike have equal answers, and leave them alike.
 use Rattle.std.proofs.Common.{◌≡◌, ◌≢◌, ◌<◌, ◌≤◌, ◌+◌, ◌⊎◌, ℕ, Bool, true, false, List, [], length, slice_get, Result, Ok, Err, unwrap_or, refl, ap, sym, ◌∙◌, subst, Contains, inl, inr, arith}
 use Rattle.std.specs.Prelude.{◌↔◌}
-use Rattle.std.proofs.lemmas.Bool.{cases_lt}
+use Rattle.std.proofs.lemmas.Bool.{cases_eq}
 use Rattle.std.proofs.lemmas.List.Sorted.{Contains-permutation, IsPermutation-sym}
 use Rattle.std.proofs.lemmas.Option.{unwrap_or-slice_get}
 use Rattle.su_base.specs.declared.values.Value.{Value}
@@ -173,12 +173,6 @@ rows_there t u r same =
     let table = sym (unwrap_or-slice_get t r none) ∙ ap (λ o. unwrap_or o none) same ∙ unwrap_or-slice_get u r none in
     ap (λ (x : Stored). x.rows) table
 
-same_number : (s r : ℕ) → (s ≡ r) ⊎ (s ≢ r)
-same_number s r = elim (cases_lt s r) [
-  | inl less ↦ inr (λ same. absurd (omega (arith, less, same)))
-  | inr from ↦ elim (cases_lt r s) [ inl more ↦ inr (λ same. absurd (omega (arith, more, same))) | inr upto ↦ inl (omega (arith, from, upto)) ]
-]
-
 module _ (a b c d : DatabaseValue) (r : ℕ) (alike : AreAlike a b) where
   module _ (one : ChangesOnly r a c) (other : ChangesOnly r b d) (here : (z : List Value) → Contains (rows_of c r) z ↔ Contains (rows_of d r) z) (count : length (rows_of c r) ≡ length (rows_of d r)) where
     old : (s : ℕ) → s ≢ r → (rows_of c s ≡ rows_of a s) × (rows_of d s ≡ rows_of b s)
@@ -200,8 +194,8 @@ module _ (a b c d : DatabaseValue) (r : ℕ) (alike : AreAlike a b) where
     alike_changed = record {
       schema = one.schema ∙ alike.schema ∙ sym other.schema;
       tables = one.tables ∙ alike.tables ∙ sym other.tables;
-      rows = λ s z. rows_by s z (same_number s r);
-      counts = λ s. count_at s (same_number s r);
+      rows = λ s z. rows_by s z (cases_eq s r);
+      counts = λ s. count_at s (cases_eq s r);
     }
 
   alike_same : c ≡ a → d ≡ b → AreAlike c d

@@ -4,12 +4,12 @@ use Rattle.std.proofs.lemmas.Bool.{cases_lt}
 use Rattle.std.proofs.lemmas.List.{get_or_default, get_or-map}
 use Rattle.su_base.specs.declared.values.Kind.{Kind}
 use Rattle.su_base.specs.declared.values.Value.{Value}
+use Rattle.su_base.proofs.Items.{map-equal_at}
 use Rattle.su_tableau.specs.declared.symbols.Sym.{Sym}
 use Rattle.su_tableau.specs.declared.symbols.Sym.TheVariants.{Const, Var}
 use Rattle.su_tableau.specs.Tableaux.{Tab, Occurs}
 use Rattle.su_tableau.specs.Valuations.{value_of, values_of}
 use Rattle.su_tableau.specs.Kinds.{sym_kind}
-use Rattle.su_classes.proofs.Listed.{map_same}
 use Rattle.su_chase.specs.Frozen.{candidate, IsTaken, IsFirstFree, IsFrozen}
 use Rattle.su_chase.specs.declared.freezing.Frozen.{Frozen}
 use Rattle.su_chase.proofs.FrozenValues.{row_occurs}
@@ -64,11 +64,11 @@ module _ (kinds : List Kind) (t : Tab) (avoid others : List Value) (f g : Frozen
 
   -- symbols whose variables stand in the rows have the same values
   one_list : (xs : List Sym) → ((k : ℕ) → Contains xs (Var k) → Occurs t.rows k) → values_of x.valuation xs ≡ values_of y.valuation xs
-  one_list xs stand = map_same (value_of x.valuation) (value_of y.valuation) xs (λ s there. symbol_value s (λ k is. stand k (subst (Contains xs) is there)))
+  one_list xs stand = map-equal_at (value_of x.valuation) (value_of y.valuation) xs (λ s there. symbol_value s (λ k is. stand k (subst (Contains xs) is there)))
 
   pub one_frozen : ((k : ℕ) → Contains t.head (Var k) → Occurs t.rows k) → f ≡ g
   one_frozen stand =
-      let rows = map_same (values_of x.valuation) (values_of y.valuation) t.rows (λ row there. one_list row (λ k inside. row_occurs t.rows row k there inside)) in
+      let rows = map-equal_at (values_of x.valuation) (values_of y.valuation) t.rows (λ row there. one_list row (λ k inside. row_occurs t.rows row k there inside)) in
       let universe : f.universe ≡ g.universe = x.universe ∙ rows ∙ sym y.universe in
       let head : f.head ≡ g.head = x.head ∙ one_list t.head stand ∙ sym y.head in
       λ i. record { universe = universe i; head = head i }

@@ -12,8 +12,7 @@ use Rattle.su_chase.specs.Chased.{IsChased}
 use Rattle.su_chase.specs.inside.Rows.{named_tab}
 use Rattle.su_chase.proofs.NamedAnswers.{one_symbol}
 use Rattle.su_chase.proofs.Images.{map_read}
-use Rattle.su_base.proofs.Items.{Contains-map as contains_map}
-use Rattle.su_base.proofs.Items.{Contains-map_source as of_map}
+use Rattle.su_base.proofs.Items.{Contains-map, Contains-map_source}
 use Rattle.su_once.specs.Verdicts.{OneClassName, OneClash, OneChase}
 
 pub one_class_name : OneClassName
@@ -49,11 +48,11 @@ module _ (fds : List Fd) (t : Tab) (valid : IsValid t) (name : Sym → Sym) (nam
   occurs k (Var j) there is =
       let stands = valid.head_occurs j there in
       let row = get_or t.rows stands.0 [] in
-      let named : Contains (map name row) (Var k) = subst (Contains (map name row)) is (contains_map name row (Var j) stands.2) in
+      let named : Contains (map name row) (Var k) = subst (Contains (map name row)) is (Contains-map name row (Var j) stands.2) in
       (stands.0, subst (λ n. stands.0 < n) (sym (length-map t.rows (map name))) stands.1, subst (λ r. Contains r (Var k)) (sym (map_read (map name) t.rows stands.0 [])) named)
 
 pub head_stands : (fds : List Fd) (t c : Tab) → IsValid t → IsChased fds t c → (k : ℕ) → Contains c.head (Var k) → Occurs c.rows k
 head_stands fds t c valid chased k there =
     let name = chased.name in
-    let of' = of_map name t.head (Var k) (subst (λ (d : Tab). Contains d.head (Var k)) chased.is there) in
+    let of' = Contains-map_source name t.head (Var k) (subst (λ (d : Tab). Contains d.head (Var k)) chased.is there) in
     subst (λ (d : Tab). Occurs d.rows k) (sym chased.is) (occurs fds t valid name chased.names k of'.0 of'.1 of'.2)

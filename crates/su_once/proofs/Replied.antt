@@ -251,7 +251,7 @@ module _ (a : DatabaseValue) (tables : List Stored) (alike : AreAlike a (record 
   shows_window names (inr (none, inl (f, h, t))) (inr (gone, inr (y, two))) = absurd (refused_or_fitting a b f y.universe alike h y.few y.fits)
   shows_window names (inr (none, inr (x, one))) (inr (gone, inl (g, k, u))) = absurd (refused_or_fitting b a g x.universe (back alike) k x.few x.fits)
   shows_window names (inr (none, inr (x, one))) (inr (gone, inr (y, two))) =
-      let same = one_window a b (attribute_numbers a.schema names) x.rows y.rows alike (record { exact = x.exact; ascending = x.ascending }) (record { exact = y.exact; ascending = y.ascending }) in
+      let same = one_window a b (attribute_numbers a.schema names) x.rows y.rows alike x.rows_are y.rows_are in
       agree _ _ x.text y.text (ap (rows_text names) same) one two
 
   answers : (file : List ℕ) (st : Statement) → Answers a file st r c → Answers b file st s d → Same

@@ -13,9 +13,8 @@ use Rattle.su_fd.specs.declared.dependencies.Fd.{Fd}
 use Rattle.su_rel.specs.Stored.{Stored}
 use Rattle.su_tableau.specs.declared.symbols.Sym.{Sym}
 use Rattle.su_tableau.specs.declared.symbols.Sym.TheVariants.{Const, Var}
-use Rattle.su_classes.proofs.Listed.{map_same}
 use Rattle.su_chase.specs.Chase.{SameLabels, IsClosedPartition, InOneClass, IsClash}
-use Rattle.su_base.proofs.Items.{Contains-map as contains_map, Contains-range, Contains-range_below, map-map_equal, Contains-map_source as of_map}
+use Rattle.su_base.proofs.Items.{Contains-map, Contains-map_source, Contains-range, Contains-range_below, map-map_equal, map-equal_at}
 use Rattle.su_schema.specs.SchemaValue.{SchemaValue, ObjectEntry}
 use Rattle.su_schema.specs.Entries.{attributes_of}
 use Rattle.su_index.specs.Tables.{rows_at}
@@ -50,8 +49,8 @@ module _ (schema : SchemaValue) (left right : List Stored) (rows : (r : ℕ) (ro
   through_moves : (o : Option ObjectEntry) (x : List Value) → Contains (view_through a o) x → Contains (view_through b o) x
   through_moves None x there = there
   through_moves (Some object) x there =
-      let (row, stored, is) = of_map (taken schema object) (rows_of a object.relation) x there in
-      subst (Contains (map (taken schema object) (rows_of b object.relation))) is (contains_map (taken schema object) (rows_of b object.relation) row (rows object.relation row stored))
+      let (row, stored, is) = Contains-map_source (taken schema object) (rows_of a object.relation) x there in
+      subst (Contains (map (taken schema object) (rows_of b object.relation))) is (Contains-map (taken schema object) (rows_of b object.relation) row (rows object.relation row stored))
 
   view_moves : (o : ℕ) (x : List Value) → Contains (view_of a o) x → Contains (view_of b o) x
   view_moves o x there = through_moves (slice_get schema.objects o) x there
@@ -102,8 +101,8 @@ module _ (schema : SchemaValue) (left right : List Stored) (rows : (r : ℕ) (ro
     twin i low =
         let x = get_or mine i no_reading in
         let m = member_read from x in
-        let there : IsMember from m = (are.members.exact m).0 (contains_map (member_read from) mine x (Contains-get_or mine i no_reading low)) in
-        let (y, (j, within, at), is) = of_map (member_read to) others m ((these.members.exact m).1 (member_moves schema left right rows m there)) in
+        let there : IsMember from m = (are.members.exact m).0 (Contains-map (member_read from) mine x (Contains-get_or mine i no_reading low)) in
+        let (y, (j, within, at), is) = Contains-map_source (member_read to) others m ((these.members.exact m).1 (member_moves schema left right rows m there)) in
         record { place = j; low = within; is = sym is ∙ ap (member_read to) (sym (get_or_default others j no_reading y within ∙ at)) }
 
     abbrev place_by : (i : ℕ) → (i < length mine) ⊎ (length mine ≤ i) → ℕ
@@ -162,14 +161,14 @@ module _ (schema : SchemaValue) (left right : List Stored) (rows : (r : ℕ) (ro
       row_moves : map move (padded_row from i x) ≡ padded_row to (other i) y
       row_moves =
           map-map_equal (padded from i x) move (λ c. move (padded from i x c)) (λ c. refl) (range_with_len 0 n)
-          ∙ map_same (λ c. move (padded from i x c)) (padded to (other i) y) (range_with_len 0 n) (λ c there. same_cell c (Contains-range_below n c there))
+          ∙ map-equal_at (λ c. move (padded from i x c)) (padded to (other i) y) (range_with_len 0 n) (λ c there. same_cell c (Contains-range_below n c there))
 
     row_of : (r : List Sym) → Contains (padded_rows from mine) r → Contains (padded_rows to others) (map move r) × (length r ≡ n)
     row_of r there =
-        let (i, among, is) = of_map (λ k. padded_row from k (get_or mine k no_reading)) (range_with_len 0 (length mine)) r there in
+        let (i, among, is) = Contains-map_source (λ k. padded_row from k (get_or mine k no_reading)) (range_with_len 0 (length mine)) r there in
         let low : i < length mine = Contains-range_below (length mine) i among in
         let within = (twin_by i low (cases_lt i (length mine))).0 in
-        let stands = contains_map (λ k. padded_row to k (get_or others k no_reading)) (range_with_len 0 (length others)) (other i) (Contains-range (length others) (other i) within) in (
+        let stands = Contains-map (λ k. padded_row to k (get_or others k no_reading)) (range_with_len 0 (length others)) (other i) (Contains-range (length others) (other i) within) in (
           subst (Contains (padded_rows to others)) (sym (row_moves i low) ∙ ap (map move) is) stands,
           ap length (sym is) ∙ length-map-range_with_len (padded from i (get_or mine i no_reading)) 0 n,
         )

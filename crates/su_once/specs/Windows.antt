@@ -1,9 +1,8 @@
 -- Databases that are alike have one window on some attributes, or none for one cause.
 -- alike: databases of one schema with the same sets of rows; window: as in su_window
-use Rattle.std.specs.Prelude.{◌≡◌, ◌↔◌, ℕ, List, Contains}
-use Rattle.std.specs.List.Sorted.{IsStrictlySortedBy}
+use Rattle.std.specs.Prelude.{◌≡◌, ℕ, List}
 use Rattle.su_base.specs.declared.values.Value.{Value}
-use Rattle.su_base.specs.Value.{compare_lists}
+use Rattle.su_rel.specs.ExactRows.{AreExactlyRows}
 use Rattle.su_state.specs.DatabaseValue.{DatabaseValue}
 use Rattle.su_window.specs.declared.faults.WindowFault.{WindowFault}
 use Rattle.su_window.specs.Window.{Fits, InWindow}
@@ -12,9 +11,8 @@ use Rattle.su_window.specs.Refusals.{IsWindowRefusal}
 use Rattle.su_once.specs.States.{AreAlike}
 
 -- the rows of the window, ascending, each once
-pub record IsWindow (db : DatabaseValue) (attributes : List ℕ) (rows : List (List Value)) : Type 0 where
-  pub exact : (h : List Value) → Contains rows h ↔ InWindow db attributes h
-  pub ascending : IsStrictlySortedBy compare_lists rows
+abbrev pub IsWindow : DatabaseValue → List ℕ → List (List Value) → Type 0
+IsWindow db attributes rows = AreExactlyRows (InWindow db attributes) rows
 
 -- over databases that are alike a window has at most one list of rows
 abbrev pub OneWindow : Type 0

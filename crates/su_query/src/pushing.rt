@@ -49,10 +49,7 @@ pub(crate) fn push_word_if(
 pub(crate) fn push_sign_if(out: &mut List<Symbol>, wanted: bool, sign: Sign) -> Result<(), NoMemory>
     ensures { OnOk result (out.new ≡ out.old ++ (if wanted then Symbol.Sign sign ∷ [] else [])) }
 {
-    if wanted {
-        return push_sign(out, sign);
-    }
-    Ok(())
+    out.push_if(wanted, Symbol::Sign(sign))
 }
 
 pub(crate) fn push_op(out: &mut List<Symbol>, op: Op) -> Result<(), NoMemory>

@@ -2,6 +2,7 @@
 use Rattle.std.proofs.Common.{◌≡◌, ◌<◌, ◌+◌, ℕ, List, length, get_or, [], sym, ap, subst, ◌∙◌}
 use Rattle.std.proofs.lemmas.List.{get_or_default}
 use Rattle.su_base.specs.declared.values.Value.{Value}
+use Rattle.su_base.proofs.Items.{get_or-push_each, length-push}
 use Rattle.su_reduce.specs.declared.edges.Edge.{Edge}
 use Rattle.su_reduce.specs.Left.{edge_at}
 use Rattle.su_reduce.specs.Sheets.{Rows}
@@ -9,7 +10,6 @@ use Rattle.su_reduce.specs.Codes.{Extends}
 use Rattle.su_reduce.specs.inside.Coded.{AreRowsOf, IsCodeOf, IsPushed, IsSheetOf, sheet_at}
 use Rattle.su_reduce.specs.inside.Marks.{row_at}
 use Rattle.su_reduce.proofs.CodeExtensions.{below_up, decode_row}
-use Rattle.su_reduce.proofs.MeetingSets.{pushed_each, pushed_length}
 use Rattle.su_reduce.proofs.Candidates.{edge_is}
 
 module _ (olds news : List Value) (more : Extends olds news) where
@@ -30,9 +30,9 @@ module _ (olds news : List Value) (more : Extends olds news) where
   pub rows_more : (rows : List (List Value)) (width n : ℕ) (old new : Rows) (row : List Value) → row ≡ row_at rows n → AreRowsOf olds rows width n old → IsPushed news row old new → AreRowsOf news rows width (n + 1) new
   rows_more rows width n old new row is so_far pushed = record {
     same_width = pushed.width ∙ so_far.same_width;
-    same_length = ap (λ (rs : List (List ℕ)). length rs) pushed.rows ∙ pushed_length old.rows pushed.codes n so_far.same_length;
+    same_length = ap (λ (rs : List (List ℕ)). length rs) pushed.rows ∙ length-push old.rows pushed.codes n so_far.same_length;
     each = subst (λ (rs : List (List ℕ)). (p : ℕ) → p < n + 1 → length (row_at rows p) ≡ width → IsCodeOf news (row_at rows p) (get_or rs p [])) (sym pushed.rows)
-        (pushed_each (λ (p : ℕ) (codes : List ℕ). length (row_at rows p) ≡ width → IsCodeOf news (row_at rows p) codes) [] old.rows pushed.codes n so_far.same_length
+        (get_or-push_each (λ (p : ℕ) (codes : List ℕ). length (row_at rows p) ≡ width → IsCodeOf news (row_at rows p) codes) [] old.rows pushed.codes n so_far.same_length
         (λ p l w. code_up (row_at rows p) (get_or old.rows p []) (so_far.each p l w))
         (λ w. subst (λ (r : List Value). IsCodeOf news r pushed.codes) is (pushed.coded (ap (λ (r : List Value). length r) is ∙ w ∙ sym so_far.same_width))));
   }

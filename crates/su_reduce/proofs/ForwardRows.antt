@@ -1,12 +1,12 @@
 -- Rows that are brought to the front, one after another.
-use Rattle.std.proofs.Common.{◌≡◌, ℕ, ◌+◌, ◌-◌, ◌*◌, ◌<◌, ◌≤◌, Bool, true, false, List, [], ◌++◌, length, get_or, take, drop, refl, sym, ap, ◌∙◌, ⊎_elim, arith, length-drop}
+use Rattle.std.proofs.Common.{◌≡◌, ℕ, ◌+◌, ◌-◌, ◌*◌, ◌<◌, ◌≤◌, Bool, true, false, List, [], ◌++◌, length, get_or, take, drop, refl, sym, ap, ◌∙◌, ⊎_elim, arith, length-drop, mul-le-mul_right}
 use Rattle.std.specs.List.{CopiedTo, SameBelow, SameFrom}
 use Rattle.std.proofs.lemmas.Bool.{cases_lt}
 use Rattle.std.proofs.lemmas.List.{drop-drop, get_or-append-add, get_or-drop, get_or-take, get_or_append_left, get_or_default, length-append, length-take-le, same_lists, take-append-le, take_all}
 use Rattle.su_reduce.specs.Left.{marked}
 use Rattle.su_reduce.specs.Sheets.{cut}
-use Rattle.su_reduce.proofs.Along.{marked_in, marked_out}
-use Rattle.su_reduce.proofs.ListPieces.{cut_at, cut_more, length-cut, times_le}
+use Rattle.su_reduce.proofs.EarSteps.{marked_in, marked_out}
+use Rattle.su_reduce.proofs.ListPieces.{cut_at, cut_more, length-cut}
 
 -- ---- one move
 
@@ -65,13 +65,13 @@ module _ (old : List ℕ) (w : ℕ) (marks : List Bool) (i kept : ℕ) (cells : 
 
   pub row_fits : i * w + w ≤ length cells
   row_fits =
-      let e : (i + 1) * w ≤ length marks * w = times_le (i + 1) (length marks) w (omega (arith, low)) in
+      let e : (i + 1) * w ≤ length marks * w = mul-le-mul_right w (omega (arith, low)) in
       let f : (i + 1) * w ≡ i * w + w = grind arith in
       let l = so_far.long in
       omega (arith, e, f, l, whole)
 
   pub before_it : kept * w ≤ i * w
-  before_it = times_le kept i w so_far.few
+  before_it = mul-le-mul_right w so_far.few
 
   wide : length row ≡ w
   wide = let f = row_fits in let d = length-drop (i * w) cells in length-take-le w (drop (i * w) cells) (omega (arith, f, d))

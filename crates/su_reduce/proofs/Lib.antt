@@ -8,7 +8,7 @@ pub mod Same
 pub mod Places
 pub mod Candidates
 pub mod Keyed
-pub mod Along
+pub mod EarSteps
 pub mod Buckets
 pub mod FoundCodes
 pub mod ListPieces

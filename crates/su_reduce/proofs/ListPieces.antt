@@ -1,11 +1,8 @@
 -- Pieces of a list.
-use Rattle.std.proofs.Common.{◌≡◌, ℕ, zero, suc, ◌+◌, ◌*◌, ◌<◌, ◌≤◌, List, [], ◌∷◌, ◌++◌, length, get_or, take, drop, refl, sym, ap, ◌∙◌, arith, length-drop}
+use Rattle.std.proofs.Common.{◌≡◌, ℕ, zero, suc, ◌+◌, ◌*◌, ◌<◌, ◌≤◌, List, [], ◌∷◌, ◌++◌, length, get_or, take, drop, refl, sym, ap, ◌∙◌, arith, length-drop, mul-le-mul_right}
 use Rattle.std.proofs.lemmas.Grind.{common_steps}
 use Rattle.std.proofs.lemmas.List.{take-append-le, drop-append-le, drop-drop, take_all, length-take-le, get_or_default, nil_from_length}
 use Rattle.su_reduce.specs.Sheets.{cut}
-
-pub times_le : (a b k : ℕ) → a ≤ b → a * k ≤ b * k
-times_le a b k h = grind arith
 
 pub length-cut : (w n : ℕ) (cells : List ℕ) → length (cut w n cells) ≡ n
 length-cut w zero cells = refl
@@ -37,7 +34,7 @@ cut_more w (suc n) cells row h l =
 pub row_fits : (w n i : ℕ) (cells xs : List ℕ) → xs ≡ cells → length cells ≡ n * w → i < length (cut w n cells) → i * w + w ≤ length xs
 row_fits w n i cells xs same h l =
     let k = length-cut w n cells in
-    let e : (i + 1) * w ≤ n * w = times_le (i + 1) n w (omega arith) in
+    let e : (i + 1) * w ≤ n * w = mul-le-mul_right w (omega arith) in
     let f : (i + 1) * w ≡ i * w + w = grind arith in
     let g : length xs ≡ length cells = ap length same in
     omega arith

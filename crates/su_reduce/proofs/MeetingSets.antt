@@ -1,12 +1,11 @@
 -- Sets that meet, and steps of passes over sets.
-use Rattle.std.proofs.Common.{◌≡◌, ◌↔◌, ◌<◌, ◌+◌, ℕ, List, [], ◌∷◌, ◌++◌, length, get_or, Option, None, Some, sym, ap, subst, ◌∙◌, true≢false, Contains, ⊎_elim, arith}
+use Rattle.std.proofs.Common.{◌≡◌, ◌↔◌, ◌<◌, ◌+◌, ℕ, List, [], length, get_or, Option, None, Some, sym, ap, subst, ◌∙◌, true≢false, Contains, ⊎_elim, arith}
 use Rattle.std.specs.Ordering.{nat_cmp}
 use Rattle.std.specs.Cmp.{nat_cmp_total}
 use Rattle.std.specs.FinSet.{FinSet, contains, empty, intersection, insert, members, contains-empty, same_set, nat_cmp-IsAntisymmetric}
 use Rattle.std.proofs.lemmas.Bool.Decides.{nat_tests}
-use Rattle.std.proofs.lemmas.List.{get_or_default, get_or-map, get_or_append_left, get_or_push, length-append}
+use Rattle.std.proofs.lemmas.List.{get_or_default, get_or-map}
 use Rattle.std.proofs.lemmas.Bool.{cases_eq}
-use Rattle.su_tableau.proofs.Rows.{below_more}
 use Rattle.su_tableau.specs.declared.symbols.Sym.{Sym}
 use Rattle.su_tableau.specs.declared.symbols.Sym.TheVariants.{Var}
 use Rattle.su_reduce.specs.declared.edges.Edge.{Edge}
@@ -53,16 +52,6 @@ touches edges j x cells at a = (a.0, a.1, subst (λ (l : List Sym). Contains l (
 
 pub among : (edges : List (List Sym)) (j : ℕ) (x : Sym) (cells : List Sym) → get_or edges j [] ≡ cells → Touches edges x j → Among cells x
 among edges j x cells at t = (t.0, t.1, subst (λ (l : List Sym). Contains l (Var t.0)) at t.2)
-
--- a fact of each item of a list, and of one more
-pub pushed_each : {A : Type 0} (P : ℕ → A → Type 0) (d : A) (xs : List A) (x : A) (n : ℕ) → length xs ≡ n → ((i : ℕ) → i < n → P i (get_or xs i d)) → P n x → (i : ℕ) → i < n + 1 → P i (get_or (xs ++ x ∷ []) i d)
-pushed_each {A} P d xs x n long before here i l =
-    below_more (λ (i : ℕ). P i (get_or (xs ++ x ∷ []) i d)) n
-    (λ i l. subst (λ (y : A). P i y) (sym (get_or_append_left xs (x ∷ []) d i (omega (arith, long, l)))) (before i l))
-    (subst (λ (y : A). P n y) (sym (get_or_push xs x d n long)) here) i l
-
-pub pushed_length : {A : Type 0} (xs : List A) (x : A) (n : ℕ) → length xs ≡ n → length (xs ++ x ∷ []) ≡ n + 1
-pushed_length xs x n long = length-append xs (x ∷ []) ∙ ap (λ m. m + 1) long
 
 pub no_parent : (sets : List (FinSet nat_cmp)) (others : FinSet nat_cmp) → (IsParentBy sets others None → ⊥) → ((i : ℕ) → IsParentBy sets others (Some i) → ⊥) → (parent : Option ℕ) → ¬ IsParentBy sets others parent
 no_parent sets others none some None = none

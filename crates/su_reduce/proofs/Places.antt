@@ -3,7 +3,7 @@ use Rattle.std.proofs.Common.{◌≡◌, ◌<◌, ◌≤◌, ◌+◌, ℕ, zero,
 use Rattle.std.proofs.lemmas.Bool.{cases_eq}
 use Rattle.std.proofs.lemmas.Bool.Decides.{nat_tests}
 use Rattle.std.proofs.lemmas.List.{get_or-map, get_or_default, get_or_append_left, get_or_push}
-use Rattle.su_base.proofs.Items.{Contains-cases, Contains-nil}
+use Rattle.su_base.proofs.Items.{Contains-cases, Contains-nil, get_or-push_each, length-push}
 use Rattle.su_base.specs.declared.values.Value.{Value}
 use Rattle.su_base.specs.declared.values.Value.TheVariants.{Int}
 use Rattle.su_tableau.proofs.Rows.{below_more}
@@ -12,7 +12,6 @@ use Rattle.su_tableau.specs.declared.symbols.Sym.TheVariants.{Const, Var}
 use Rattle.su_tableau.specs.Valuations.{nth, value_of, values_of}
 use Rattle.su_reduce.specs.Shapes.{cell_at, variable_place, AreFirsts}
 use Rattle.su_reduce.specs.inside.Keys.{assigned, IsPair, AreShared}
-use Rattle.su_reduce.proofs.MeetingSets.{pushed_each, pushed_length}
 use Rattle.su_reduce.proofs.Exact.{no_variable}
 
 -- the first cell that holds the variable is at its place
@@ -92,9 +91,9 @@ place_found (Var j ∷ cells) k l =
 
 pub firsts_more : (cells : List Sym) (n : ℕ) (places : List ℕ) (q : ℕ) → AreFirsts cells n places → q < length cells → ((k : ℕ) → cell_at cells n ≡ Var k → q ≡ variable_place cells k) → AreFirsts cells (n + 1) (places ++ q ∷ [])
 firsts_more cells n places q so_far low is = record {
-  same_length = pushed_length places q n so_far.same_length;
-  below = pushed_each (λ i p. p < length cells) 0 places q n so_far.same_length so_far.below low;
-  is_place = λ p k l. pushed_each (λ i r. cell_at cells i ≡ Var k → r ≡ variable_place cells k) 0 places q n so_far.same_length (λ i h. so_far.is_place i k h) (is k) p l;
+  same_length = length-push places q n so_far.same_length;
+  below = get_or-push_each (λ i p. p < length cells) 0 places q n so_far.same_length so_far.below low;
+  is_place = λ p k l. get_or-push_each (λ i r. cell_at cells i ≡ Var k → r ≡ variable_place cells k) 0 places q n so_far.same_length (λ i h. so_far.is_place i k h) (is k) p l;
 }
 
 -- the first place of a variable has the value that the valuation gives it
@@ -121,7 +120,7 @@ shared_none left right p k ls rs so_far is high = record {
 
 module _ (left right : List Sym) (p k q : ℕ) (ls rs : List ℕ) (so_far : AreShared left right p ls rs) (low : p < length left) (is : cell_at left p ≡ Var k) (q_is : q ≡ variable_place right k) (q_low : q < length right) where
   longer : length (ls ++ p ∷ []) ≡ length ls + 1
-  longer = pushed_length ls p (length ls) refl
+  longer = length-push ls p (length ls) refl
 
   kept : (i j : ℕ) → IsPair left right ls rs i j → IsPair left right (ls ++ p ∷ []) (rs ++ q ∷ []) i j
   kept i j pair =
@@ -142,9 +141,9 @@ module _ (left right : List Sym) (p k q : ℕ) (ls rs : List ℕ) (so_far : AreS
 
   pub shared_more : AreShared left right (p + 1) (ls ++ p ∷ []) (rs ++ q ∷ [])
   shared_more = record {
-    same_length = longer ∙ sym (pushed_length rs q (length ls) (sym so_far.same_length));
-    left_below = λ i l. pushed_each (λ i x. x < length left) 0 ls p (length ls) refl so_far.left_below low i (omega (arith, l, longer));
-    right_below = λ i l. pushed_each (λ i x. x < length right) 0 rs q (length ls) (sym so_far.same_length) so_far.right_below q_low i (omega (arith, l, longer));
+    same_length = longer ∙ sym (length-push rs q (length ls) (sym so_far.same_length));
+    left_below = λ i l. get_or-push_each (λ i x. x < length left) 0 ls p (length ls) refl so_far.left_below low i (omega (arith, l, longer));
+    right_below = λ i l. get_or-push_each (λ i x. x < length right) 0 rs q (length ls) (sym so_far.same_length) so_far.right_below q_low i (omega (arith, l, longer));
     only = λ i l. below_more (λ i. (j : ℕ) × IsPair left right (ls ++ p ∷ []) (rs ++ q ∷ []) i j) (length ls) (λ i h. let one = so_far.only i h in (one.0, kept i one.0 one.1)) (k, added) i (omega (arith, l, longer));
     all = λ r j l. below_more (λ r. cell_at left r ≡ Var j → Contains right (Var j) → (i : ℕ) × IsPair left right (ls ++ p ∷ []) (rs ++ q ∷ []) i j) p
         (λ r h at there. let one = so_far.all r j h at there in (one.0, kept one.0 j one.1))

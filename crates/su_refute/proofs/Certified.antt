@@ -19,7 +19,7 @@ use Rattle.su_min.specs.Kept.{Minimised, all_rows}
 use Rattle.su_min.proofs.Parts.{all_is}
 use Rattle.su_check.specs.declared.nodes.Node.{Node}
 use Rattle.su_check.specs.declared.certificates.RowTree.{RowTree}
-use Rattle.su_check.specs.declared.certificates.Term.{Term}
+use Rattle.su_check.specs.declared.certificates.StatedTerm.{StatedTerm}
 use Rattle.su_check.specs.declared.certificates.Certificate.{Certificate}
 use Rattle.su_check.specs.declared.sending.Sent.{Sent}
 use Rattle.su_check.specs.SentRows.{Lines}
@@ -170,7 +170,7 @@ term_is_lines kinds j m trees w are low =
 
 -- ---- all terms
 
-all_terms : (P : Term → Type 0) (kinds : Kinds) (i : ℕ) (minimals : List Minimised) (lists : List (List Node)) → All (IsWritable kinds) minimals → AreTrees minimals lists
+all_terms : (P : StatedTerm → Type 0) (kinds : Kinds) (i : ℕ) (minimals : List Minimised) (lists : List (List Node)) → All (IsWritable kinds) minimals → AreTrees minimals lists
     → ((j : ℕ) (m : Minimised) (trees : List Node) → j < i + length minimals → IsWritable kinds m → AreTreesOf m trees → P (term_of j m trees)) → All P (terms_from i minimals lists)
 all_terms P kinds i [] lists w h f = All-nil P
 all_terms P kinds i (m ∷ ms) [] w h f = absurd h
@@ -183,7 +183,7 @@ terms_length i [] lists = refl
 terms_length i (m ∷ ms) [] = ap suc (terms_length (suc i) ms [])
 terms_length i (m ∷ ms) (t ∷ lists) = ap suc (terms_length (suc i) ms lists)
 
-terms_good : (kinds : Kinds) (i : ℕ) (minimals : List Minimised) (lists : List (List Node)) → All (IsWritable kinds) minimals → AreTrees minimals lists → (k : ℕ) (x : Term) → slice_get (terms_from i minimals lists) k ≡ Some x → IsGood kinds (i + k) x
+terms_good : (kinds : Kinds) (i : ℕ) (minimals : List Minimised) (lists : List (List Node)) → All (IsWritable kinds) minimals → AreTrees minimals lists → (k : ℕ) (x : StatedTerm) → slice_get (terms_from i minimals lists) k ≡ Some x → IsGood kinds (i + k) x
 terms_good kinds i [] lists w h zero x e = absurd cc
 terms_good kinds i [] lists w h (suc k) x e = absurd cc
 terms_good kinds i (m ∷ ms) [] w h k x e = absurd h
@@ -205,7 +205,7 @@ lines_long (l ∷ ls) =
     let b = length-append (spaced l) (10 ∷ []) in
     omega arith
 
-terms_long : (terms : List Term) → length terms ≤ length (flat_map term_lines terms)
+terms_long : (terms : List StatedTerm) → length terms ≤ length (flat_map term_lines terms)
 terms_long [] = omega arith
 terms_long (x ∷ xs) = let i = terms_long xs in let a = length-append (term_lines x) (flat_map term_lines xs) in omega arith
 

@@ -13,7 +13,7 @@ use Rattle.su_refute.specs.Trees.{IsTree, node_count}
 use Rattle.su_refute.specs.AllTrees.{lines_of, AreTreesOf, AreTrees, nodes_in, all_nodes, HasLargerTree, HasMoreNodes}
 use Rattle.su_refute.specs.Laws.{KeptRowsHaveOneTree}
 use Rattle.su_refute.proofs.Needed.{needed, begin_small, row_small, ready_first}
-use Rattle.su_refute.proofs.There.{a_tree}
+use Rattle.su_refute.proofs.SomeTree.{a_tree}
 use Rattle.su_refute.proofs.OneTree.{one_tree}
 use Rattle.su_map.proofs.RowLists.{of_rows}
 

@@ -2,13 +2,13 @@ pub mod Ready
 pub mod SharedPlaces
 pub mod AscendingNumbers
 pub mod MemberCounts
-pub mod Fits
+pub mod FittingTargets
 pub mod TreeSoFar
 pub mod OneTree
 pub mod Grown
 pub mod Needed
 pub mod Decidable
-pub mod There
+pub mod SomeTree
 pub mod Kept
 pub mod TreeLists
 pub mod Texts

@@ -12,7 +12,7 @@ use Rattle.su_tableau.specs.Mapping.{images_of, Maps}
 use Rattle.su_tableau.proofs.Sets.{sub_le, select, select-has, select-from}
 use Rattle.su_tableau.proofs.Containment.{maps_compose}
 use Rattle.su_map.specs.Lists.{row_numbers}
-use Rattle.su_tableau.proofs.Members.{without_same, without_out}
+use Rattle.su_tableau.proofs.Members.{without_same, without_out, member_below}
 use Rattle.su_check.specs.declared.nodes.Node.{Node}
 use Rattle.su_check.specs.declared.sending.Sent.{Sent}
 use Rattle.su_check.specs.SentRows.{numbered_row}
@@ -25,9 +25,8 @@ use Rattle.su_refute.specs.declared.nets.Net.{Net}
 use Rattle.su_refute.specs.inside.Nets.{IsNet}
 use Rattle.su_refute.specs.Trees.{lines_in, IsTree, node_count}
 use Rattle.su_refute.proofs.MemberCounts.{numbers_exactly}
-use Rattle.su_refute.proofs.SharedPlaces.{member_below}
 use Rattle.su_check.proofs.FoldTargets.{none_sent}
-use Rattle.su_refute.proofs.Fits.{fits_first}
+use Rattle.su_refute.proofs.FittingTargets.{fits_first}
 use Rattle.su_map.proofs.RowLists.{in_rows, of_rows}
 
 -- whether a row has a target

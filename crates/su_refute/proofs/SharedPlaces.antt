@@ -1,11 +1,8 @@
 -- Two rows agree exactly where their targets hold one symbol at each of the places that they share.
-use Rattle.std.proofs.Common.{◌≡◌, ℕ, ◌<◌, ◌≤◌, ◌+◌, ◌^◌, ◌==◌, ◌↔◌, ◌⊎◌, true, List, [], ◌∷◌, ◌++◌, length, get_or, Contains, inl, inr, refl, sym, ap, subst, ◌∙◌, ⊎_elim, arith}
-use Rattle.std.proofs.Math.Seq.{get_or-append_seam}
+use Rattle.std.proofs.Common.{◌≡◌, ℕ, ◌<◌, ◌≤◌, ◌+◌, ◌==◌, ◌↔◌, ◌⊎◌, true, List, [], ◌∷◌, ◌++◌, length, get_or, Contains, inl, inr, sym, ap, subst, ◌∙◌, ⊎_elim, arith}
 use Rattle.std.proofs.lemmas.Bool.{cases_lt}
 use Rattle.std.proofs.lemmas.Bool.Decides.{nat_tests}
-use Rattle.std.proofs.lemmas.List.{get_or_default, length-append, get_or_append_left}
-use Rattle.std.specs.Int.{bit_at}
-use Rattle.std.proofs.lemmas.Nat.Bits.{bit_at_above}
+use Rattle.std.proofs.lemmas.List.{get_or_default}
 use Rattle.std.proofs.lemmas.List.Elements.{All-contains, Contains-push, Contains-push_cases, Contains-append_left}
 use Rattle.su_base.proofs.Items.{All-members}
 use Rattle.su_tableau.specs.declared.symbols.Sym.{Sym}
@@ -111,31 +108,7 @@ shared_more xs ys old now n x is before h p = (
       (cases_lt p.first n),
 )
 
--- ---- a list that is made entry by entry
-
-pub push_entries : {A : Type 0} (P : ℕ → A → Type 0) (old new : List A) (n : ℕ) (v d : A) → new ≡ old ++ v ∷ [] → length old ≡ n → ((i : ℕ) → i < n → P i (get_or old i d)) → P n v → (i : ℕ) → i < n + 1 → P i (get_or new i d)
-push_entries P old new n v d is len before here i h =
-    subst (λ xs. P i (get_or xs i d)) (sym is)
-    (⊎_elim
-    (λ (lt : i < n). subst (P i) (sym (get_or_append_left old (v ∷ []) d i (omega arith))) (before i lt))
-    (λ (le : n ≤ i).
-    let e : length old ≡ i = omega arith in
-    let at : get_or (old ++ v ∷ []) i d ≡ v = subst (λ k. get_or (old ++ v ∷ []) k d ≡ v) e (get_or-append_seam old v [] d) in
-    let en : n ≡ i = omega arith in
-    subst (P i) (sym at) (subst (λ k. P k v) en here))
-    (cases_lt i n))
-
-pub push_length : {A : Type 0} (old new : List A) (n : ℕ) (v : A) → new ≡ old ++ v ∷ [] → length old ≡ n → length new ≡ n + 1
-push_length old new n v is len = let e = ap length is in let l = length-append old (v ∷ []) in omega arith
-
 -- ---- sets of rows
-
-pub member_below : (m n i : ℕ) → m < 2 ^ n → bit_at m i ≡ 1 → i < n
-member_below m n i small one =
-    ⊎_elim
-    (λ (lt : i < n). lt)
-    (λ (le : n ≤ i). absurd (let z = bit_at_above m n i small le in omega arith))
-    (cases_lt i n)
 
 pub none_agree : (places : List Places) (us vs : List Sym) → (length places == 0) ≡ true → AgreeAt places us vs
 none_agree places us vs e k d h = absurd (let z : length places ≡ 0 = grind (arith, nat_tests, e) in omega arith)

@@ -1,24 +1,21 @@
 -- How the making of a tree stands after one row more.
-use Rattle.std.proofs.Common.{◌∷◌, ◌≡◌, ◌≢◌, ℕ, ◌<◌, ◌≤◌, ◌⊎◌, ◌↔◌, List, [], length, get_or, Contains, count_ones, sym, ap, subst, ◌∙◌, ⊎_elim, arith}
+use Rattle.std.proofs.Common.{◌∷◌, ◌≡◌, ◌≢◌, ℕ, ◌<◌, ◌≤◌, ◌⊎◌, ◌↔◌, List, [], length, get_or, count_ones, sym, ap, subst, ◌∙◌, ⊎_elim, arith}
 use Rattle.std.specs.Int.{bit_at}
 use Rattle.std.proofs.lemmas.Bool.{cases_eq}
-use Rattle.std.proofs.lemmas.List.{get_or_default}
 use Rattle.std.proofs.lemmas.List.Elements.{All-push}
 use Rattle.std.proofs.lemmas.Nat.Bits.{bit_at-zero}
-use Rattle.su_base.proofs.Items.{All-append_left}
+use Rattle.su_base.proofs.Items.{All-append_left, All-middle}
 use Rattle.su_tableau.specs.Tableaux.{Tab}
-use Rattle.su_map.specs.Lists.{row_numbers}
 use Rattle.su_map.proofs.RowLists.{of_rows}
 use Rattle.su_check.specs.declared.sending.Sent.{Sent}
 use Rattle.su_check.specs.SentRows.{sent_too}
 use Rattle.su_check.specs.Refutations.{IsOpen, IsFitting}
-use Rattle.su_check.proofs.TargetsTogether.{all_last}
 use Rattle.su_refute.proofs.Ready.{ready_more}
 use Rattle.su_refute.specs.declared.nets.Net.{Net}
 use Rattle.su_refute.specs.inside.Nets.{IsNet}
 use Rattle.su_refute.specs.Trees.{IsFewest, lines_in}
 use Rattle.su_refute.specs.inside.Positions.{IsFree, IsAt, Stands, IsFewestOf}
-use Rattle.su_refute.proofs.Fits.{fits_next}
+use Rattle.su_refute.proofs.FittingTargets.{fits_next}
 use Rattle.su_refute.proofs.AscendingNumbers.{exactly_as}
 use Rattle.su_refute.proofs.MemberCounts.{count_set}
 
@@ -49,7 +46,7 @@ at_next net t m r p todo rest left next s j is_net at len one bit same out both 
             let o = (at.open_rows q).0 (sym (same q ne) ∙ b) in
             record { member = o.member; free = All-push (λ x. x.row ≢ q) p new o.free (λ e. ne (sym e)) },
         λ o.
-            let ne = all_last (λ x. x.row ≢ q) p new o.free in
+            let ne = All-middle (λ x. x.row ≢ q) p new [] o.free in
             same q (λ e. ne (sym e)) ∙ (at.open_rows q).1 (record { member = o.member; free = All-append_left (λ x. x.row ≢ q) p (new ∷ []) o.free }),
       );
       targets = λ q i b.

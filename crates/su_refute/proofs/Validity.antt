@@ -1,5 +1,5 @@
 -- The lines of a certificate are made of symbols, and nest no deeper than there are rows.
-use Rattle.std.proofs.Common.{◌≡◌, ℕ, ◌+◌, ◌%◌, ◌<◌, ◌≤◌, ◌^◌, Bool, true, List, [], ◌∷◌, ◌++◌, map, flat_map, length, get_or, codes, All, Contains, IsTrue, refl, sym, ap, subst, ◌∙◌, arith}
+use Rattle.std.proofs.Common.{◌≡◌, ℕ, ◌+◌, ◌%◌, ◌<◌, ◌≤◌, ◌^◌, Bool, true, List, [], ◌∷◌, ◌++◌, map, flat_map, length, get_or, codes, All, Contains, IsTrue, refl, sym, subst, ◌∙◌, arith}
 use Rattle.std.specs.Fmt.{decimal}
 use Rattle.std.specs.List.{list_all}
 use Rattle.std.proofs.lemmas.Bool.Decides.{nat_tests}
@@ -31,7 +31,7 @@ use Rattle.su_check.proofs.NodeSymbols.{branch_symbols, node_at}
 use Rattle.su_refute.proofs.Ready.{ready_more}
 use Rattle.su_refute.specs.Trees.{IsTreeAt}
 use Rattle.su_refute.specs.Laws.{IsSpelled}
-use Rattle.su_refute.proofs.There.{AreApart, apart_more, few_sent}
+use Rattle.su_refute.proofs.SomeTree.{AreApart, apart_more, few_sent}
 use Rattle.su_refute.proofs.Nested.{Nests, IsStep, IsPlain, nests_plain, nests_parens, nests_flat}
 
 -- ---- symbols

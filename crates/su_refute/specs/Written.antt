@@ -8,7 +8,7 @@ use Rattle.su_map.specs.Lists.{row_numbers}
 use Rattle.su_min.specs.Kept.{Minimised}
 use Rattle.su_check.specs.declared.nodes.Node.{Node}
 use Rattle.su_check.specs.declared.certificates.RowTree.{RowTree}
-use Rattle.su_check.specs.declared.certificates.Term.{Term}
+use Rattle.su_check.specs.declared.certificates.StatedTerm.{StatedTerm}
 use Rattle.su_check.specs.declared.certificates.Certificate.{Certificate}
 use Rattle.su_check.specs.Grammar.{certificate_lines}
 
@@ -19,7 +19,7 @@ row_trees (r ∷ rows) [] = []
 row_trees (r ∷ rows) (n ∷ trees) = record { row = r; node = n } ∷ row_trees rows trees
 
 -- what is written of a term: its rows, what is kept, the fold, and a tree for each kept row
-abbrev pub term_of : ℕ → Minimised → List Node → Term
+abbrev pub term_of : ℕ → Minimised → List Node → StatedTerm
 term_of i m trees = record {
   number = i;
   head = m.tableau.head;
@@ -30,7 +30,7 @@ term_of i m trees = record {
 }
 
 -- the terms from number i on; a tableau without a list has no trees
-abbrev pub terms_from : ℕ → List Minimised → List (List Node) → List Term
+abbrev pub terms_from : ℕ → List Minimised → List (List Node) → List StatedTerm
 terms_from i [] lists = []
 terms_from i (m ∷ minimals) [] = term_of i m [] ∷ terms_from (suc i) minimals []
 terms_from i (m ∷ minimals) (trees ∷ lists) = term_of i m trees ∷ terms_from (suc i) minimals lists

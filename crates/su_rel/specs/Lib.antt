@@ -1,3 +1,4 @@
 pub mod Changes
+pub mod ExactRows
 pub mod MoreThan
 pub mod Stored

@@ -1,5 +1,5 @@
 -- A set while it is made from a list: it has the first numbers of the list that are below 128, and no others.
-use Rattle.std.proofs.Common.{◌≡◌, ◌≢◌, ℕ, ◌+◌, ◌<◌, IsTrue, List, length, get_or, Contains, inl, inr, sym, subst, ◌∙◌, arith}
+use Rattle.std.proofs.Common.{◌≡◌, ℕ, ◌+◌, ◌<◌, IsTrue, List, length, get_or, Contains, inl, inr, sym, subst, ◌∙◌, arith}
 use Rattle.std.specs.Ordering.{nat_cmp}
 use Rattle.std.specs.FinSet.{FinSet, contains, insert, members}
 use Rattle.std.proofs.lemmas.Bool.{cases_eq}

@@ -1,9 +1,8 @@
 -- How a window is shown.
 -- window: the rows over the attributes that every fitting universal relation has
-use Rattle.std.specs.Prelude.{◌≡◌, ◌↔◌, ◌⊎◌, ℕ, List, map, Contains, None}
-use Rattle.std.specs.List.Sorted.{IsStrictlySortedBy}
+use Rattle.std.specs.Prelude.{◌≡◌, ◌⊎◌, ℕ, List, map, None}
 use Rattle.su_base.specs.declared.values.Value.{Value}
-use Rattle.su_base.specs.Value.{compare_lists}
+use Rattle.su_rel.specs.ExactRows.{AreExactlyRows}
 use Rattle.su_schema.specs.SchemaValue.{SchemaValue}
 use Rattle.su_schema.specs.Entries.{attribute_names}
 use Rattle.su_schema.specs.Known.{number_of}
@@ -37,8 +36,7 @@ pub record ShowsRows (db : DatabaseValue) (names : List (List ℕ)) (reply : Rep
   pub universe : List (List Value)
   pub fits : Fits db universe
   pub rows : List (List Value)
-  pub exact : (h : List Value) → Contains rows h ↔ InWindow db (attribute_numbers db.schema names) h
-  pub ascending : IsStrictlySortedBy compare_lists rows
+  pub rows_are : AreExactlyRows (InWindow db (attribute_numbers db.schema names)) rows
   pub text : Accepts (rows_text names rows) reply
 
 -- refused at the first unknown name, then where there is no window, else its rows under the names

@@ -1,4 +1,4 @@
--- The line of a refusal: there is at most one, and none for want of memory.
+-- The line of a refusal, of a statement or of a schema: there is at most one, and none for want of memory.
 use Rattle.std.proofs.Common.{◌≡◌, ◌≢◌, ◌++◌, List, ℕ, Option, Some, None, sym, ◌∙◌, subst}
 use Rattle.std.specs.Prelude.{codes, IsSomeAnd}
 use Rattle.su_schema.specs.SchemaValue.{SchemaValue}
@@ -6,6 +6,7 @@ use Rattle.su_schema.specs.declared.faults.SchemaFault.{SchemaFault}
 use Rattle.su_schema.specs.declared.faults.SchemaFault.TheVariants as definition
 use Rattle.su_csv.specs.declared.faults.CsvFault.{CsvFault}
 use Rattle.su_csv.specs.declared.faults.CsvFault.TheVariants as csv
+use Rattle.su_ddl.specs.declared.faults.DdlFault.{DdlFault}
 use Rattle.su_query.specs.declared.faults.QueryFault.{QueryFault}
 use Rattle.su_query.specs.declared.faults.QueryFault.TheVariants as query
 use Rattle.su_state.specs.declared.faults.StateFault.{StateFault}
@@ -17,6 +18,7 @@ use Rattle.su_steps.specs.declared.faults.StepFault.TheVariants as step
 use Rattle.su_show.specs.declared.statement_refusal.Refusal.{Refusal}
 use Rattle.su_show.specs.declared.statement_refusal.Refusal.TheVariants.{Query, State, Csv, Steps, Define}
 use Rattle.su_show.specs.RefusalLines.{refusal_text, IsRefusalLine}
+use Rattle.su_show.specs.Refusals.{schema_line, IsLineFor}
 
 one_shown : (shown : List ℕ → List ℕ) (text : Option (List ℕ)) (line other : List ℕ) → IsSomeAnd text (λ t. line ≡ shown t) → IsSomeAnd text (λ t. other ≡ shown t) → line ≡ other
 one_shown shown (Some text) line other h k = h ∙ sym k
@@ -25,6 +27,10 @@ one_shown shown None line other h k = absurd h
 -- a refusal has at most one line
 pub one_line : (schema : SchemaValue) (refusal : Refusal) (line other : List ℕ) → IsRefusalLine schema refusal line → IsRefusalLine schema refusal other → line ≡ other
 one_line schema refusal line other h k = one_shown (λ text. codes "refused: " ++ text ++ codes "\n") (refusal_text schema refusal) line other h k
+
+-- and so has a refused schema
+pub one_schema_line : (fault : DdlFault) (line other : List ℕ) → IsLineFor fault line → IsLineFor fault other → line ≡ other
+one_schema_line fault line other h k = one_shown (λ text. text) (schema_line fault) line other h k
 
 -- ---- a fault that has a line is no want of memory
 

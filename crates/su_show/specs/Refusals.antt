@@ -1,6 +1,6 @@
 -- The line for a schema that is refused.
 -- cause: what stands behind the number of the statement
-use Rattle.std.specs.Prelude.{ℕ, List, [], ◌++◌, codes, decimal, Option, Some, None, unwrap_or}
+use Rattle.std.specs.Prelude.{◌≡◌, ℕ, List, ◌++◌, codes, decimal, Option, Some, None, option_map, IsSomeAnd}
 use Rattle.su_schema.specs.declared.faults.SchemaFault.{SchemaFault}
 use Rattle.su_schema.specs.declared.faults.SchemaFault.TheVariants.{Twice, Unknown, KindDiffers, Limit, NoMemory}
 use Rattle.su_schema.specs.declared.faults.SchemaLimit.{SchemaLimit}
@@ -29,8 +29,12 @@ cause_text NoMemory = None
 abbrev pub refused_line : ℕ → List ℕ → List ℕ
 refused_line number cause = codes "schema refused: statement " ++ decimal number ++ codes ": " ++ cause ++ codes "\n"
 
--- the line for a refused schema file; no file is refused for want of memory
-abbrev pub schema_line : DdlFault → List ℕ
-schema_line (Syntax number) = refused_line number (codes "syntax")
-schema_line (Refused number fault) = refused_line number (unwrap_or (cause_text fault) [])
-schema_line OutOfMemory = []
+-- the line for a refused schema file; want of memory has none
+abbrev pub schema_line : DdlFault → Option (List ℕ)
+schema_line (Syntax number) = Some (refused_line number (codes "syntax"))
+schema_line (Refused number fault) = option_map (refused_line number) (cause_text fault)
+schema_line OutOfMemory = None
+
+-- the fault has this line
+abbrev pub IsLineFor : DdlFault → List ℕ → Type 0
+IsLineFor fault line = IsSomeAnd (schema_line fault) (λ text. line ≡ text)

@@ -1,8 +1,9 @@
 -- The lines of the rows of a tableau.
 -- cell: an attribute of a row's object and the symbol there
-use Rattle.std.specs.Prelude.{ℕ, ◌+◌, List, [], ◌∷◌, ◌++◌, length, flat_map, get_or, codes, decimal}
+use Rattle.std.specs.Prelude.{ℕ, ◌+◌, List, [], ◌∷◌, ◌++◌, length, flat_map, codes, decimal}
 use Rattle.su_tableau.specs.declared.symbols.Sym.{Sym}
 use Rattle.su_tableau.specs.Tableaux.{Tab}
+use Rattle.su_tableau.specs.Parts.{row_of}
 use Rattle.su_schema.specs.SchemaValue.{SchemaValue}
 use Rattle.su_schema.specs.Entries.{attribute_names, object_names}
 use Rattle.su_schema.specs.SetMembers.{numbers_in}
@@ -29,7 +30,7 @@ attributes_shown schema o = numbers_in (attributes_at schema o) (length schema.a
 abbrev pub row_line : SchemaValue → Resolved → Tab → ℕ → Origin → List ℕ
 row_line schema q t r o =
     codes "  row " ++ decimal r ++ 32 ∷ variable_text (variable_at q o.variable) ++ 32 ∷ name_at (object_names schema) o.object
-    ++ flat_map (cell_text schema q (get_or t.rows r [])) (attributes_shown schema o.object) ++ codes "\n"
+    ++ flat_map (cell_text schema q (row_of t r)) (attributes_shown schema o.object) ++ codes "\n"
 
 -- the rows from this number on
 abbrev pub row_lines : SchemaValue → Resolved → Tab → ℕ → List Origin → List ℕ

@@ -1,6 +1,6 @@
 //! The line for a schema that is refused.
-ghost use Rattle.std.specs.Prelude.{◌≡◌, ◌≢◌, ◌++◌, ℕ, IsSomeAnd, IfOk, OnOk, codes, decimal};
-ghost use Rattle.su_show.specs.Refusals.{limit_text, cause_text, schema_line};
+ghost use Rattle.std.specs.Prelude.{◌≡◌, ◌++◌, IsSomeAnd, IfOk, OnOk, codes, decimal};
+ghost use Rattle.su_show.specs.Refusals.{limit_text, cause_text, IsLineFor};
 
 use crate::parts::push_all;
 use std::alloc::Global;
@@ -48,9 +48,7 @@ fn push_number_of_statement(alloc: Global, out: &mut Vec<u8>, number: u32) -> Re
 
 /// The line for a refused schema file, with its line feed. A fault that is want of memory is handed on.
 pub fn ddl_fault(alloc: Global, fault: &DdlFault) -> Result<List<u8>, NoMemory>
-    ensures line { IfOk result (λ bytes. bytes ≡ schema_line fault.now) }
-    ensures told { OnOk result (fault.now ≢ DdlFault.NoMemory) }
-    ensures cause { OnOk result ((number : ℕ) → fault.now ≢ DdlFault.Refused number SchemaFault.NoMemory) }
+    ensures { IfOk result (λ line. IsLineFor fault.now line) }
 {
     let mut out = Vec::new(alloc);
     match fault {

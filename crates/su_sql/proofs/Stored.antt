@@ -1,36 +1,30 @@
 -- Over any stored rows the outputs of a kept term's join are the term's answers.
-use Rattle.std.proofs.Common.{◌≡◌, ◌↔◌, ℕ, ◌<◌, List, [], map, length, get_or, Contains, Option, Some, sym, ap, ◌∙◌, subst, arith}
+use Rattle.std.proofs.Common.{◌≡◌, ◌↔◌, ℕ, ◌<◌, List, map, length, Contains, Option, Some, sym, ap, ◌∙◌, subst, arith}
 use Rattle.std.specs.Int.{bit_at}
-use Rattle.std.specs.List.{range_with_len}
-use Rattle.std.specs.FinSet.{contains}
-use Rattle.std.proofs.lemmas.List.{get_or_default, length-map}
+use Rattle.std.proofs.lemmas.List.{length-map}
 use Rattle.std.proofs.lemmas.List.Elements.{All-contains}
-use Rattle.std.proofs.lemmas.Option.{same_Some}
 use Rattle.su_base.specs.declared.values.Kind.{Kind}
 use Rattle.su_base.specs.declared.values.Column.{Column}
 use Rattle.su_base.specs.declared.values.Value.{Value}
 use Rattle.su_base.specs.Value.{kind_of}
-use Rattle.su_tableau.specs.declared.symbols.Sym.{Sym}
+use Rattle.su_base.proofs.Items.{Contains-map, Contains-map_source}
 use Rattle.su_tableau.specs.declared.symbols.Sym.TheVariants.{Var}
 use Rattle.su_tableau.specs.Tableaux.{Tab, IsValid}
 use Rattle.su_tableau.specs.Valuations.{value_of, values_of, Cut}
-use Rattle.su_tableau.specs.Essential.{HasSymbol, IsEssential}
 use Rattle.su_schema.specs.Entries.{column_of}
 use Rattle.su_schema.specs.Valid as schemas
 use Rattle.su_state.specs.DatabaseValue.{DatabaseValue, HasColumnKinds, rows_of, columns_of}
-use Rattle.su_state.specs.Enforced.{read}
 use Rattle.su_state.proofs.Columns.{column_within}
 use Rattle.su_exec.specs.declared.tasks.TaskRow.{TaskRow}
 use Rattle.su_exec.specs.declared.tasks.Task.{Task}
 use Rattle.su_exec.specs.Outputs.{Agrees, IsOutput}
-use Rattle.su_steps.proofs.Lists.{contains_map, of_map, contains_filter, of_filter}
 use Rattle.su_answer.specs.Answers.{IsRead, StoredAnswer}
 use Rattle.su_tableau.specs.Parts.{cell_at, row_of}
 use Rattle.su_schema.specs.SetMembers.{numbers_in}
 use Rattle.su_answer.specs.Joined.{IsTaskRowOf, IsTaskOf}
-use Rattle.su_answer.proofs.ColumnValues.{reads_each, each_read}
+use Rattle.su_answer.proofs.ColumnValues.{reads_each}
 use Rattle.su_answer.proofs.Joined.{answers_by_rows}
-use Rattle.su_base.proofs.Items.{Contains-range, Contains-range_below}
+use Rattle.su_answer.proofs.RowAgreement.{essential_has, read_row}
 use Rattle.su_sql.specs.Stored.{AreStored}
 
 -- a stored row is as wide as its relation
@@ -40,24 +34,7 @@ stored_wide db relation row stored c =
     sym (length-map row kind_of) ∙ ap (λ (ks : List Kind). length ks) typed ∙ length-map (columns_of db relation) (λ (o : Column). o.kind)
 
 module _ (db : DatabaseValue) (t : Tab) (m : ℕ) (task : Task) (schema_valid : schemas.IsValid db.schema) (stored : AreStored db) (valid : IsValid t) (is : IsTaskOf db.schema t m task) where
-  -- ---- a row of the task
-
   module _ (i : ℕ) (r : TaskRow) (v : ℕ → Value) (row_in : i < length t.rows) (in_set : bit_at m i ≡ 1) (of' : IsTaskRowOf db.schema t m i r) where
-    row_wide : length (get_or t.rows i []) ≡ t.width
-    row_wide = valid.widths i [] row_in
-
-    essential_has : (c : ℕ) (x : Sym) → HasSymbol t m i c x → IsEssential t m i c → Contains (numbers_in of'.attributes t.width) c
-    essential_has c x h e =
-        let l : c < length (get_or t.rows i []) = h.cell.below in
-        let w = row_wide in
-        contains_filter (contains of'.attributes) (range_with_len 0 t.width) c (Contains-range t.width c (omega (arith, l, w))) ((of'.essential c).1 e)
-
-    holds_cell : (c : ℕ) → c < t.width → HasSymbol t m i c (cell_at (row_of t i) c)
-    holds_cell c low =
-        let w = row_wide in
-        let l : c < length (get_or t.rows i []) = omega (arith, low, w) in
-        record { row_in = row_in; in_set = in_set; cell = record { below = l; is = λ d. get_or_default (get_or t.rows i []) c d (Var 0) l } }
-
     row_read : Agrees db.tables v r → IsRead db t m v i
     row_read a =
         let s = of'.from a.source a.of_row in
@@ -66,7 +43,7 @@ module _ (db : DatabaseValue) (t : Tab) (m : ℕ) (task : Task) (schema_valid : 
         let wide = stored_wide db object.relation a.stored stored in_table in
         let reads = reads_each object a.stored v (cell_at (row_of t i)) (numbers_in of'.attributes t.width) a.source.columns s.2.columns
         (λ k c.
-        let w = of_map (column_of object) (numbers_in of'.attributes t.width) (Some k) (subst (λ (xs : List (Option ℕ)). Contains xs (Some k)) (sym s.2.columns) (contains_map (λ (j : ℕ). Some j) a.source.columns k c)) in
+        let w = Contains-map_source (column_of object) (numbers_in of'.attributes t.width) (Some k) (subst (λ (xs : List (Option ℕ)). Contains xs (Some k)) (sym s.2.columns) (Contains-map (λ (j : ℕ). Some j) a.source.columns k c)) in
         let within = column_within db.schema s.0 object w.0 k schema_valid s.2.is w.2 in
         omega (arith, wide, within))
         (a.same ∙ ap (values_of v) of'.cells) in
@@ -77,23 +54,8 @@ module _ (db : DatabaseValue) (t : Tab) (m : ℕ) (task : Task) (schema_valid : 
           is = s.2.is;
           row = a.stored;
           stored = in_table;
-          agrees = λ c x h e. reads c (essential_has c x h e) ∙ ap (λ y. Some (value_of v y)) (h.cell.is (Var 0));
-        }
-
-    read_row : IsRead db t m v i → Agrees db.tables v r
-    read_row k =
-        let s = of'.all k.source k.is_source in
-        let one : k.object ≡ s.2.object = same_Some k.object s.2.object (sym k.is ∙ s.2.is) in
-        let reads : (c : ℕ) → Contains (numbers_in of'.attributes t.width) c → read s.2.object c k.row ≡ Some (value_of v (cell_at (row_of t i) c)) = λ c n.
-        let f = of_filter (contains of'.attributes) (range_with_len 0 t.width) c n in
-        ap (λ o. read o c k.row) (sym one) ∙ k.agrees c (cell_at (row_of t i) c) (holds_cell c (Contains-range_below t.width c f.0)) ((of'.essential c).0 f.1) in
-        record {
-          source = s.0;
-          of_row = s.1;
-          stored = k.row;
-          in_table = subst (λ n. Contains (rows_of db n) k.row) (ap (λ o. o.relation) one ∙ sym s.2.relation) k.stored;
-          same = each_read s.2.object k.row v (cell_at (row_of t i)) (numbers_in of'.attributes t.width) s.0.columns s.2.columns reads ∙ ap (values_of v) (sym of'.cells);
+          agrees = λ c x h e. reads c (essential_has db t m i r v valid row_in in_set of' c x h e) ∙ ap (λ y. Some (value_of v y)) (h.cell.is (Var 0));
         }
 
   pub outputs_are_answers : (h : List Value) → IsOutput db.tables task h ↔ Cut t (StoredAnswer db t m) h
-  outputs_are_answers = answers_by_rows db t m task valid is (λ i r v low set of' h. read_row i r v low set of' h) (λ i r v low set of' there h. row_read i r v low set of' h)
+  outputs_are_answers = answers_by_rows db t m task valid is (λ i r v low set of' h. read_row db t m i r v valid low set of' h) (λ i r v low set of' there h. row_read i r v low set of' h)

@@ -16,16 +16,12 @@ abbrev pub known_or : Option ℕ → List ℕ → (ℕ → List ℕ) → List �
 known_or None other f = other
 known_or (Some r) other f = f r
 
--- the number of a relation by its name
-abbrev pub number_of_relation : SchemaValue → List ℕ → Option ℕ
-number_of_relation schema name = place_of (relation_names schema) name
-
 -- what is written for an accepted statement, to which this is replied
 abbrev pub accepted_text : Dialect → SchemaValue → Statement → List ℕ → List ℕ
-accepted_text d schema (Insert name row) said = known_or (number_of_relation schema name) (comment_text said) (λ r. insert_text d schema r row)
-accepted_text d schema (Delete name row) said = known_or (number_of_relation schema name) (comment_text said) (λ r. delete_text d schema r row)
-accepted_text d schema (DeleteWhere name cond) said = known_or (number_of_relation schema name) (comment_text said) (λ r. delete_where_text d schema r cond)
-accepted_text d schema (Print name) said = known_or (number_of_relation schema name) (comment_text said) (λ r. print_text d schema r)
+accepted_text d schema (Insert name row) said = known_or (place_of (relation_names schema) name) (comment_text said) (λ r. insert_text d schema r row)
+accepted_text d schema (Delete name row) said = known_or (place_of (relation_names schema) name) (comment_text said) (λ r. delete_text d schema r row)
+accepted_text d schema (DeleteWhere name cond) said = known_or (place_of (relation_names schema) name) (comment_text said) (λ r. delete_where_text d schema r cond)
+accepted_text d schema (Print name) said = known_or (place_of (relation_names schema) name) (comment_text said) (λ r. print_text d schema r)
 accepted_text d schema st said = comment_text said
 
 -- a definition adds a relation, or nothing that an engine knows of

@@ -7,7 +7,6 @@ use Rattle.su_tableau.specs.declared.symbols.Sym.TheVariants.{Const, Var}
 use Rattle.su_exec.specs.declared.tasks.TaskRow.{TaskRow}
 use Rattle.su_exec.specs.Tasks.{no_row}
 use Rattle.su_sql.specs.declared.tables.CellPlace.{CellPlace}
-use Rattle.su_sql.specs.declared.tables.Operand.TheVariants as operand
 use Rattle.su_sql.specs.declared.cells.Cell.{Cell}
 
 -- cell c of table t

@@ -1,13 +1,11 @@
 -- A choice of a row of each table, and what holds of it.
 -- value at a place: that of the chosen row of the table at the cell
-use Rattle.std.specs.Prelude.{◌≡◌, pos, IsTrue, List, [], Contains, get_or}
+use Rattle.std.specs.Prelude.{◌≡◌, pos, IsTrue, List, [], get_or}
 use Rattle.su_base.specs.declared.values.Value.{Value}
 use Rattle.su_base.specs.declared.values.Value.TheVariants.{Int}
 use Rattle.su_where.specs.Operator.{compares}
 use Rattle.su_rel.specs.Stored.{Stored}
-use Rattle.su_index.specs.Tables.{table_at}
-use Rattle.su_exec.specs.declared.tasks.Source.{Source}
-use Rattle.su_exec.specs.Outputs.{values_at}
+use Rattle.su_exec.specs.Outputs.{AreFromSource}
 use Rattle.su_sql.specs.declared.tables.Table.{Table}
 use Rattle.su_sql.specs.declared.tables.CellPlace.{CellPlace}
 use Rattle.su_sql.specs.declared.tables.Operand.{Operand}
@@ -17,12 +15,8 @@ use Rattle.su_sql.specs.declared.tables.Fixed.{Fixed}
 use Rattle.su_sql.specs.declared.tables.Comparison.{Comparison}
 
 -- a row of the table: the values of some stored row of some source, in the source's columns
-pub record IsRowOf (stored : List Stored) (table : Table) (row : List Value) : Type 0 where
-  pub source : Source
-  pub of_table : Contains table.sources source
-  pub from : List Value
-  pub is_stored : Contains (table_at stored source.relation).rows from
-  pub values : values_at source.columns from ≡ row
+abbrev pub IsRowOf : List Stored → Table → List Value → Type 0
+IsRowOf stored table row = AreFromSource stored table.sources row
 
 -- the value at a place of a choice
 abbrev pub value_at : List (List Value) → CellPlace → Value

@@ -2,7 +2,6 @@
 -- A line feed and a carriage return both end a line of a comment.
 -- comment: lines that begin with `-- `, which an engine passes over
 use Rattle.std.specs.Prelude.{ℕ, ◌==◌, ◌||◌, Bool, true, false, List, [], ◌∷◌, ◌++◌, codes}
-use Rattle.su_base.specs.declared.values.Kind.TheVariants as kind
 use Rattle.su_schema.specs.SchemaValue.{SchemaValue}
 use Rattle.su_sql.specs.declared.dialects.Dialect.{Dialect}
 use Rattle.su_sql.specs.declared.dialects.Dialect.TheVariants.{Postgres, Sqlite, Spark}

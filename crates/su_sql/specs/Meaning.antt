@@ -14,7 +14,6 @@ use Rattle.su_answer.specs.declared.preparing.Prepared.{Prepared}
 use Rattle.su_answer.specs.Prepared.{IsPrepared}
 use Rattle.su_answer.specs.Answers.{IsAnswer}
 use Rattle.su_answer.specs.QueryAnswers.{IsAnswerOf}
-use Rattle.su_sql.specs.declared.tables.Operand.TheVariants as operand
 use Rattle.su_sql.specs.declared.tables.Select.{Select}
 use Rattle.su_sql.specs.Selects.{IsInUnion, AreRowsOf}
 use Rattle.su_sql.specs.Stored.{AreStored}

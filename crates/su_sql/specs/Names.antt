@@ -5,9 +5,10 @@ use Rattle.std.specs.List.{join_by}
 use Rattle.su_base.specs.declared.values.Kind.{Kind}
 use Rattle.su_base.specs.declared.values.Kind.TheVariants as kind
 use Rattle.su_schema.specs.SchemaValue.{SchemaValue}
-use Rattle.su_schema.specs.Entries.{relation_names, column_names}
+use Rattle.su_schema.specs.Entries.{relation_names}
 use Rattle.su_schema.specs.Known.{columns_at}
 use Rattle.su_ddl.specs.ShownDefinitions.{name_at}
+use Rattle.su_show.specs.RowCauses.{column_name}
 use Rattle.su_sql.specs.declared.dialects.Dialect.{Dialect}
 use Rattle.su_sql.specs.declared.dialects.Dialect.TheVariants.{Postgres, Sqlite, Spark}
 
@@ -29,10 +30,6 @@ name_text d name = quote_of d ++ name ++ quote_of d
 -- the name of relation r
 abbrev pub relation_name : SchemaValue → ℕ → List ℕ
 relation_name schema r = name_at (relation_names schema) r
-
--- the name of column c of relation r
-abbrev pub column_name : SchemaValue → ℕ → ℕ → List ℕ
-column_name schema r c = name_at (column_names (columns_at schema r)) c
 
 -- the kind of column c of relation r
 abbrev pub column_kind : SchemaValue → ℕ → ℕ → Kind

@@ -2,12 +2,11 @@
 -- table: where the rows of one row of a tableau are stored; a row of it has the values that a stored row of one of its sources has in that source's columns
 -- choice: one row of each table; place: a value of a choice, by the number of the table and the number of the value in its row
 -- select: tables, conditions on a choice (joins, fixed values, comparisons), and outputs; it gives the outputs of all choices that meet the conditions
-use Rattle.std.specs.Prelude.{◌≡◌, ◌↔◌, List, All, Contains, map}
+use Rattle.std.specs.Prelude.{◌≡◌, List, All, Contains, map}
 use Rattle.std.specs.List.{AllZip}
-use Rattle.std.specs.List.Sorted.{IsStrictlySortedBy}
 use Rattle.su_base.specs.declared.values.Value.{Value}
-use Rattle.su_base.specs.Value.{compare_lists}
 use Rattle.su_rel.specs.Stored.{Stored}
+use Rattle.su_rel.specs.ExactRows.{AreExactlyRows}
 use Rattle.su_sql.specs.declared.tables.Select.{Select}
 use Rattle.su_sql.specs.Choices.{IsRowOf, operand_value, Joins, Fixes, Compares}
 
@@ -27,6 +26,5 @@ pub record IsInUnion (stored : List Stored) (selects : List Select) (h : List Va
   pub selected : IsSelected stored select h
 
 -- exactly what the selects give, ascending, each once
-pub record AreRowsOf (stored : List Stored) (selects : List Select) (rows : List (List Value)) : Type 0 where
-  pub exact : (h : List Value) → Contains rows h ↔ IsInUnion stored selects h
-  pub ascending : IsStrictlySortedBy compare_lists rows
+abbrev pub AreRowsOf : List Stored → List Select → List (List Value) → Type 0
+AreRowsOf stored selects rows = AreExactlyRows (IsInUnion stored selects) rows

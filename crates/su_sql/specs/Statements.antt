@@ -1,4 +1,5 @@
 -- What is written for a statement.
+-- text: the statement's bytes; said: what sysu replies to it; reply: what is written for it
 -- Each statement is taken as `sysu` takes it, on the rows that the script itself inserted: where that refuses it, the line of the refusal is a comment.
 -- A retrieve is written as the selects of its kept terms, and a load as a comment; neither is executed.
 use Rattle.std.specs.Prelude.{◌≡◌, ◌⊎◌, ℕ, Bool, true, false, List, Some, None}
@@ -10,9 +11,10 @@ use Rattle.su_state.specs.DatabaseValue.{DatabaseValue}
 use Rattle.su_session.specs.declared.replies.Reply.{Reply}
 use Rattle.su_session.specs.Reply.{Replied}
 use Rattle.su_session.specs.Outcomes.{Accepts}
+use Rattle.su_session.specs.RowStatements.{relation_number}
 use Rattle.su_sql.specs.declared.dialects.Dialect.{Dialect}
 use Rattle.su_sql.specs.Comments.{load_text}
-use Rattle.su_sql.specs.Accepted.{number_of_relation, accepted_text, defined_text}
+use Rattle.su_sql.specs.Accepted.{accepted_text, defined_text}
 use Rattle.su_sql.specs.QueryReplies.{RefusesWith, WritesQuery}
 
 -- what is written where this is replied: the refusal as a comment, or else the text
@@ -27,8 +29,8 @@ WritesReply d db text st reply new = (said : Reply) × Replied db text None said
 -- how a known relation's file is loaded; an unknown one is refused
 abbrev pub WritesLoad : Dialect → DatabaseValue → List ℕ → List ℕ → List ℕ → Reply → DatabaseValue → Type 0
 WritesLoad d db text name path reply new =
-    ((r : ℕ) × (number_of_relation db.schema name ≡ Some r) × Accepts (load_text d db.schema r path) reply × (new ≡ db))
-    ⊎ ((number_of_relation db.schema name ≡ None) × WritesReply d db text (Load name path) reply new)
+    ((r : ℕ) × (relation_number db name ≡ Some r) × Accepts (load_text d db.schema r path) reply × (new ≡ db))
+    ⊎ ((relation_number db name ≡ None) × WritesReply d db text (Load name path) reply new)
 
 -- what is written for a statement
 abbrev pub WritesStatement : Dialect → DatabaseValue → List ℕ → Statement → Reply → DatabaseValue → Type 0

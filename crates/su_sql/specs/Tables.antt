@@ -3,7 +3,6 @@
 -- source: a stored relation, with a column of it for each value of the table; table: the rows of its sources together
 use Rattle.std.specs.Prelude.{ℕ, ◌+◌, List, [], ◌∷◌, ◌++◌, map, get_or, length, codes, decimal}
 use Rattle.std.specs.List.{range_with_len}
-use Rattle.su_base.specs.declared.values.Kind.TheVariants as kind
 use Rattle.su_exec.specs.declared.tasks.Source.{Source}
 use Rattle.su_schema.specs.SchemaValue.{SchemaValue}
 use Rattle.su_sql.specs.declared.dialects.Dialect.{Dialect}

@@ -1,13 +1,11 @@
 -- The select of what is joined for a kept term.
 -- join: each further place of a variable has the value of the first one; fixed: the place of a constant has that value
-use Rattle.std.specs.Prelude.{◌≡◌, ℕ, List, map, length, Contains}
-use Rattle.su_tableau.specs.declared.symbols.Sym.TheVariants.{Var}
+use Rattle.std.specs.Prelude.{◌≡◌, List, map, length, Contains}
 use Rattle.su_schema.specs.SchemaValue.{SchemaValue}
 use Rattle.su_exec.specs.declared.tasks.Source.{Source}
 use Rattle.su_exec.specs.declared.tasks.TaskRow.{TaskRow}
-use Rattle.su_exec.specs.declared.tasks.Compared.{Compared}
 use Rattle.su_exec.specs.declared.tasks.Task.{Task}
-use Rattle.su_exec.specs.Tasks.{Occurs}
+use Rattle.su_exec.specs.Tasks.{AllOccur}
 use Rattle.su_min.specs.Kept.{Minimised}
 use Rattle.su_answer.specs.Joined.{IsTaskOf}
 use Rattle.su_sql.specs.declared.tables.Table.{Table}
@@ -37,9 +35,7 @@ select_of task = select_with task (cells_of task.rows)
 -- sources are as wide as their rows, and the symbols that are compared and given stand in rows
 pub record IsJoined (task : Task) : Type 0 where
   pub widths : (row : TaskRow) (source : Source) → Contains task.rows row → Contains row.sources source → length source.columns ≡ length row.cells
-  pub outputs : (k : ℕ) → Contains task.outputs (Var k) → Occurs task k
-  pub left : (c : Compared) (k : ℕ) → Contains task.comparisons c → c.left ≡ Var k → Occurs task k
-  pub right : (c : Compared) (k : ℕ) → Contains task.comparisons c → c.right ≡ Var k → Occurs task k
+  pub occur : AllOccur task
 
 -- the select of a term's kept rows: a table for each
 pub record IsSelectOf (schema : SchemaValue) (m : Minimised) (s : Select) : Type 0 where

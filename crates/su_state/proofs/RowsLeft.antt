@@ -1,8 +1,9 @@
 -- The rows that a delete by a condition leaves.
-use Rattle.std.proofs.Common.{◌≡◌, ◌<◌, ◌≤◌, ◌+◌, ◌-◌, ℕ, Bool, true, false, not, List, [], ◌∷◌, ◌++◌, length, map, refl, sym, ap, subst, ◌∙◌, All, Contains, inl, inr, ◌⊎◌, zero, suc, arith}
+use Rattle.std.proofs.Common.{◌≡◌, ◌<◌, ◌≤◌, ◌+◌, ◌-◌, ℕ, Bool, true, false, not, List, [], ◌∷◌, ◌++◌, length, map, refl, sym, ap, subst, ◌∙◌, All, Contains, inl, inr, arith}
 use Rattle.std.specs.Prelude.{◌↔◌, flat_map, cond}
 use Rattle.std.specs.List.{items_where_true, count_by}
 use Rattle.su_base.specs.declared.values.Value.{Value}
+use Rattle.su_base.proofs.Items.{Contains-later, Contains-cases}
 use Rattle.std.proofs.lemmas.List.Elements.{All-append, All-nil}
 use Rattle.su_where.specs.declared.conditions.Condition.TheVariants.{All as AllOf}
 use Rattle.su_where.specs.Truth.{Cond, truth_of, comparisons_of}
@@ -17,13 +18,6 @@ use Rattle.su_state.proofs.Kept.{with_table, kept_with, may_lose, table_here, ch
 use Rattle.std.proofs.lemmas.Bool.{false≢true}
 
 module _ {X : Type 0} (p : X → Bool) where
-  later : (x other : X) (xs : List X) → Contains xs other → Contains (x ∷ xs) other
-  later x other xs (k, within, is) = (suc k, omega (arith, within), is)
-
-  earlier : (x other : X) (xs : List X) → Contains (x ∷ xs) other → (x ≡ other) ⊎ Contains xs other
-  earlier x other xs (zero, within, is) = inl is
-  earlier x other xs (suc k, within, is) = inr (k, omega (arith, within), is)
-
   -- the items that pass
   pub passing : (xs : List X) (other : X) → Contains (items_where_true (map p xs) xs) other ↔ (Contains xs other × (p other ≡ true))
   passing [] other = (λ (k, within, is). absurd (omega (arith, within)), λ ((k, within, is), one). absurd (omega (arith, within)))
@@ -31,18 +25,18 @@ module _ {X : Type 0} (p : X → Bool) where
       let rest = passing xs other in
       elim (p x) as (λ b. p x ≡ b → Contains (items_where_true (b ∷ map p xs) (x ∷ xs)) other ↔ (Contains (x ∷ xs) other × (p other ≡ true))) [
         | true ↦ λ one. (
-          λ there. elim (earlier x other (items_where_true (map p xs) xs) there) [
+          λ there. elim (Contains-cases x (items_where_true (map p xs) xs) other there) [
             | inl is ↦ ((0, omega arith, is), ap p (sym is) ∙ one)
-            | inr old ↦ (later x other xs (rest.0 old).0, (rest.0 old).1)
+            | inr old ↦ (Contains-later x xs other (rest.0 old).0, (rest.0 old).1)
           ],
-          λ (there, passes). elim (earlier x other xs there) [
+          λ (there, passes). elim (Contains-cases x xs other there) [
             | inl is ↦ (0, omega arith, is)
-            | inr old ↦ later x other (items_where_true (map p xs) xs) (rest.1 (old, passes))
+            | inr old ↦ Contains-later x (items_where_true (map p xs) xs) other (rest.1 (old, passes))
           ],
         )
         | false ↦ λ out. (
-          λ there. (later x other xs (rest.0 there).0, (rest.0 there).1),
-          λ (there, passes). elim (earlier x other xs there) [
+          λ there. (Contains-later x xs other (rest.0 there).0, (rest.0 there).1),
+          λ (there, passes). elim (Contains-cases x xs other there) [
             | inl is ↦ absurd (false≢true (sym out ∙ ap p is ∙ passes))
             | inr old ↦ rest.1 (old, passes)
           ],

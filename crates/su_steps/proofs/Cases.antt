@@ -1,25 +1,22 @@
 -- What a choice of a query gives to its rows, and the cases one after another.
-use Rattle.std.proofs.Common.{◌≡◌, ℕ, zero, suc, ◌+◌, ◌*◌, ◌<◌, ◌≤◌, min, Bool, true, false, cond, Option, Some, None, List, [], ◌∷◌, ◌++◌, map, length, get_or, take, refl, sym, ap, subst, arith}
-use Rattle.std.specs.Prelude.{All, MatchOption}
-use Rattle.std.specs.List.{filter, range_with_len}
+use Rattle.std.proofs.Common.{◌≡◌, ℕ, zero, suc, ◌*◌, ◌<◌, ◌≤◌, min, List, [], length, get_or, refl, sym, ap, subst, arith}
+use Rattle.std.specs.Prelude.{All}
+use Rattle.std.specs.List.{range_with_len}
 use Rattle.std.specs.Ordering.{nat_cmp}
 use Rattle.std.specs.FinSet.{FinSet, empty}
 use Rattle.std.proofs.lemmas.List.Elements.{Contains-get_or}
-use Rattle.su_base.proofs.Items.{Contains-filter_source, length-filter, get_or-map_range}
+use Rattle.su_base.proofs.Items.{Contains-filter_source, length-filter, Contains-range_below, get_or-map_range}
 use Rattle.std.proofs.lemmas.List.FromFn.{length-range_with_len}
 use Rattle.su_schema.specs.SchemaValue.{SchemaValue}
 use Rattle.su_query.specs.declared.places.Place.{Place}
 use Rattle.su_query.specs.declared.resolving.Resolved.{Resolved}
 use Rattle.su_query.specs.Ranges.{IsResolved}
 use Rattle.su_query.specs.Sets.{mentioned_with}
-use Rattle.su_steps.specs.declared.results.Term.{Term}
 use Rattle.su_steps.specs.Objects.{covers}
 use Rattle.su_steps.specs.Choices.{coverings_of, coverings, choices, origin, origins_of}
-use Rattle.su_steps.specs.Cases.{Case, Gives}
-use Rattle.su_steps.specs.Terms.{case_of}
 use Rattle.su_steps.specs.Limits.{row_count, disjunct_count, HasFewTerms}
 use Rattle.su_steps.specs.inside.Ready.{FitOrigins, IsShown, IsChoice}
-use Rattle.su_steps.proofs.ResolvedQueries.{of_range, place_in}
+use Rattle.su_steps.proofs.ResolvedQueries.{place_in}
 use Rattle.su_steps.proofs.Chosen.{coverings_count, choice_of, origin_in, place_object, has_origin}
 
 many : (d n : ℕ) → 0 < d → n ≤ d * n
@@ -46,8 +43,7 @@ module _ (schema : SchemaValue) (maximal : List (FinSet nat_cmp)) (q : Resolved)
   coverings_low k d l = subst (All (λ m. m < length maximal)) (sym (covering_is k d l))
       (λ j e h.
       let w = Contains-filter_source (λ m. covers schema (get_or maximal m empty) (mentioned_with q.places k)) (range_with_len 0 (length maximal)) (get_or (coverings_of schema maximal q k) j e) (Contains-get_or (coverings_of schema maximal q k) j e h) in
-      let low = (of_range 0 (length maximal) (get_or (coverings_of schema maximal q k) j e) w.0).1 in
-      omega arith)
+      Contains-range_below (length maximal) (get_or (coverings_of schema maximal q k) j e) w.0)
 
   pub coverings_few : length maximal ≤ 128 → All (λ ms. length ms ≤ 128) (coverings schema maximal q)
   coverings_few few k d l =

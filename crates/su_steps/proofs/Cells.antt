@@ -1,11 +1,10 @@
 -- The rows of origins, before any classes: each pair is its own symbol.
-use Rattle.std.proofs.Common.{◌≡◌, ℕ, zero, suc, ◌+◌, ◌*◌, ◌/◌, ◌%◌, ◌<◌, true, List, [], ◌∷◌, map, length, get_or, Contains, refl, ap, ◌∙◌, subst, arith}
+use Rattle.std.proofs.Common.{◌≡◌, ℕ, zero, suc, ◌+◌, ◌*◌, ◌<◌, true, List, [], ◌∷◌, map, length, get_or, Contains, refl, ap, ◌∙◌, subst, arith}
 use Rattle.std.specs.List.{AllByRecursion, range_with_len}
 use Rattle.std.specs.FinSet.{contains}
 use Rattle.std.proofs.lemmas.Bool.{cond-true}
-use Rattle.std.proofs.lemmas.Nat.{div-add-mod'}
 use Rattle.su_base.specs.declared.values.Value.{Value}
-use Rattle.su_base.proofs.Items.{map-map_equal, get_or-map_range}
+use Rattle.su_base.proofs.Items.{AllByRecursion-append, AllByRecursion-append_left, AllByRecursion-append_right, AllByRecursion-map, AllByRecursion-map_source, map-map_equal, get_or-map_range}
 use Rattle.su_tableau.specs.declared.symbols.Sym.{Sym}
 use Rattle.su_tableau.specs.declared.symbols.Sym.TheVariants.{Var}
 use Rattle.su_tableau.specs.Valuations.{value_of, values_of}
@@ -14,7 +13,6 @@ use Rattle.su_steps.specs.declared.results.Origin.{Origin}
 use Rattle.su_steps.specs.Objects.{width, attributes_at}
 use Rattle.su_steps.specs.Choices.{origin, origins_from}
 use Rattle.su_steps.specs.CaseTableaux.{cell_of, origin_row, rows_of}
-use Rattle.su_steps.proofs.Lists.{all_front, all_back, all_append, all_map, all_of_map}
 
 -- each symbol is its own name
 abbrev pub itself : Sym → Sym
@@ -52,20 +50,17 @@ rows_at schema w universe own (o ∷ os) s =
 pub origins_at : (P : Origin → Type 0) (v : ℕ) (ms : List (List ℕ)) → AllByRecursion P (origins_from v ms) → (i j : ℕ) → v + i ≡ j → i < length ms → AllByRecursion (λ o. P (origin j o)) (get_or ms i [])
 origins_at P v [] h i j e l = absurd (omega arith)
 origins_at P v (m ∷ ms) h zero j e l =
-    subst (λ k. AllByRecursion (λ o. P (origin k o)) m) (omega arith) (all_of_map P (origin v) m (all_front P (map (origin v) m) (origins_from (suc v) ms) h))
-origins_at P v (m ∷ ms) h (suc i) j e l = origins_at P (suc v) ms (all_back P (map (origin v) m) (origins_from (suc v) ms) h) i j (omega arith) (omega arith)
+    subst (λ k. AllByRecursion (λ o. P (origin k o)) m) (omega arith) (AllByRecursion-map_source P (origin v) m (AllByRecursion-append_left P (map (origin v) m) (origins_from (suc v) ms) h))
+origins_at P v (m ∷ ms) h (suc i) j e l = origins_at P (suc v) ms (AllByRecursion-append_right P (map (origin v) m) (origins_from (suc v) ms) h) i j (omega arith) (omega arith)
 
 pub origins_by : (P : Origin → Type 0) (v : ℕ) (ms : List (List ℕ)) → ((i j : ℕ) → v + i ≡ j → i < length ms → AllByRecursion (λ o. P (origin j o)) (get_or ms i [])) → AllByRecursion P (origins_from v ms)
 origins_by P v [] h = tt
 origins_by P v (m ∷ ms) h =
-    all_append P (map (origin v) m) (origins_from (suc v) ms)
-    (all_map P (origin v) m (h 0 v (omega arith) (omega arith)))
+    AllByRecursion-append P (map (origin v) m) (origins_from (suc v) ms)
+    (AllByRecursion-map P (origin v) m (h 0 v (omega arith) (omega arith)))
     (origins_by P (suc v) ms (λ i j e l. h (suc i) j (omega arith) (omega arith)))
 
 -- ---- pairs by number
-
-pub pair_number : (p n : ℕ) → p / n * n + p % n ≡ p
-pair_number = div-add-mod'
 
 pub pair_below : (v k n a : ℕ) → v < k → a < n → v * n + a < k * n
 pair_below v k n a h l = grind arith

@@ -9,7 +9,7 @@ use Rattle.std.proofs.lemmas.Bool.{cases_lt}
 use Rattle.std.proofs.lemmas.List.Elements.{All-contains}
 use Rattle.std.proofs.lemmas.List.FromFn.{length-map-range_with_len}
 use Rattle.su_base.proofs.Subsets.{subset_at}
-use Rattle.su_base.proofs.Items.{Contains-cases, Contains-nil, Contains-map, Contains-map_source, Contains-flat_map, Contains-flat_map_source, Contains-filter, Contains-filter_source, get_or-map_range}
+use Rattle.su_base.proofs.Items.{Contains-cases, Contains-nil, Contains-map, Contains-map_source, Contains-flat_map, Contains-flat_map_source, Contains-filter, Contains-filter_source, AllByRecursion-contains, AllByRecursion-members, Contains-range, Contains-range_below, get_or-map_range}
 use Rattle.su_where.specs.declared.literals.Operand.{Operand}
 use Rattle.su_where.specs.declared.literals.Operand.TheVariants as operand
 use Rattle.su_where.specs.declared.literals.Literal.{Literal}
@@ -24,10 +24,9 @@ use Rattle.su_steps.specs.Objects.{width, attributes_at, objects_of, attributes_
 use Rattle.su_steps.specs.Choices.{coverings_of, coverings, combinations, choices, chosen_objects, origin, origins_of}
 use Rattle.su_steps.specs.PairSymbols.{SymbolComparison, pair, place_symbol, operand_symbol, compared, comparisons}
 use Rattle.su_steps.specs.inside.Ready.{FitLiterals, IsChoice}
-use Rattle.su_steps.proofs.Lists.{all_by, all_at}
 use Rattle.su_steps.proofs.Cells.{origins_at, origins_by, pair_below}
 use Rattle.su_steps.proofs.Raw.{AreWithin, HasObject, IsShown, AreShown}
-use Rattle.su_steps.proofs.ResolvedQueries.{of_range, in_range, of_all, of_objects, mentioned_at, no_place, place_at, place_in}
+use Rattle.su_steps.proofs.ResolvedQueries.{of_all, of_objects, mentioned_at, no_place, place_at, place_in}
 use Rattle.su_steps.proofs.Shape.{AreBelow, IsPairBelow}
 
 -- ---- combinations
@@ -101,7 +100,7 @@ module _ (schema : SchemaValue) (maximal : List (FinSet nat_cmp)) (q : Resolved)
       λ v l. Contains-filter_source (wanted v) (range_with_len 0 (length maximal)) (get_or choice v 0) (subst (λ xs. Contains xs (get_or choice v 0)) (coverings_at v l) (r.at v (omega arith))) in
       record {
         one_per_variable = s ∙ k;
-        in_range = λ v d l. let i : v < length q.variables = omega arith in let low = (of_range 0 (length maximal) (get_or choice v 0) (at v i).0).1 in let e = get_or_default choice v 0 d l in omega arith;
+        in_range = λ v d l. let i : v < length q.variables = omega arith in let low = Contains-range_below (length maximal) (get_or choice v 0) (at v i).0 in let e = get_or_default choice v 0 d l in omega arith;
         covering = λ v l. (at v l).1;
       }
 
@@ -114,7 +113,7 @@ module _ (schema : SchemaValue) (maximal : List (FinSet nat_cmp)) (q : Resolved)
       let i : v < length q.variables = omega arith in
       let low : get_or choice v 0 < length maximal = r.in_range v 0 (omega arith) in
       subst (λ xs. Contains xs (get_or choice v 0)) (sym (coverings_at v i))
-      (Contains-filter (wanted v) (range_with_len 0 (length maximal)) (get_or choice v 0) (in_range 0 (length maximal) (get_or choice v 0) (get_or choice v 0) (omega arith) low) (r.covering v i)))
+      (Contains-filter (wanted v) (range_with_len 0 (length maximal)) (get_or choice v 0) (Contains-range (length maximal) (get_or choice v 0) low) (r.covering v i)))
 
   -- ---- what a choice shows
 
@@ -139,18 +138,18 @@ module _ (schema : SchemaValue) (maximal : List (FinSet nat_cmp)) (q : Resolved)
     -- a row of the variable and the object
     pub has_origin : (v o : ℕ) → v < length q.variables → Contains (get_or objects v []) o → Contains (origins_of schema maximal choice) (origin v o)
     has_origin v o l c =
-        all_at (λ o. Contains (origins_of schema maximal choice) (origin v o)) (get_or objects v []) o
-        (origins_at (Contains (origins_of schema maximal choice)) 0 objects (all_by (Contains (origins_of schema maximal choice)) (origins_of schema maximal choice) (λ x c. c)) v v (omega arith) (let e = objects_count in omega arith))
+        AllByRecursion-contains (λ o. Contains (origins_of schema maximal choice) (origin v o)) (get_or objects v []) o
+        (origins_at (Contains (origins_of schema maximal choice)) 0 objects (AllByRecursion-members (Contains (origins_of schema maximal choice)) (origins_of schema maximal choice) (λ x c. c)) v v (omega arith) (let e = objects_count in omega arith))
         c
 
     -- the rows are of the query's variables and of the schema's objects
     pub origin_in : (o : Origin) → Contains (origins_of schema maximal choice) o → (o.variable < length q.variables) × (o.object < length schema.objects)
     origin_in o c =
-        all_at (λ o. (o.variable < length q.variables) × (o.object < length schema.objects)) (origins_of schema maximal choice) o
+        AllByRecursion-contains (λ o. (o.variable < length q.variables) × (o.object < length schema.objects)) (origins_of schema maximal choice) o
         (origins_by (λ o. (o.variable < length q.variables) × (o.object < length schema.objects)) 0 objects
         (λ i j e l.
         let n = objects_count in
-        all_by (λ o. (j < length q.variables) × (o < length schema.objects)) (get_or objects i [])
+        AllByRecursion-members (λ o. (j < length q.variables) × (o < length schema.objects)) (get_or objects i [])
         (λ o c. (omega arith, (of_objects schema (get_or maximal (get_or choice i 0) empty) o (subst (λ xs. Contains xs o) (objects_at i (omega arith)) c)).0))))
         c
 
@@ -184,12 +183,12 @@ module _ (schema : SchemaValue) (maximal : List (FinSet nat_cmp)) (q : Resolved)
           let p = All-contains (HasPlacesBelow (length q.places)) literals w.0 fits.places w.1 in
           subst (λ (c : SymbolComparison). IsShown schema objects c.left × IsShown schema objects c.right) w.2 (operand_shown w.0.left p.0, operand_shown w.0.right p.1) in
           record {
-            in_outputs = all_by (IsShown schema objects) (map (place_symbol n q.places) q.outputs)
+            in_outputs = AllByRecursion-members (IsShown schema objects) (map (place_symbol n q.places) q.outputs)
                 (λ x has.
                 let w = Contains-map_source (place_symbol n q.places) q.outputs x has in
                 subst (IsShown schema objects) w.2 (operand_shown (operand.Place w.0) (All-contains (λ o. o < length q.places) q.outputs w.0 resolved.outputs w.1)));
-            in_lefts = all_by (λ c. IsShown schema objects c.left) (comparisons n q.places literals) (λ c has. (side c has).0);
-            in_rights = all_by (λ c. IsShown schema objects c.right) (comparisons n q.places literals) (λ c has. (side c has).1);
+            in_lefts = AllByRecursion-members (λ c. IsShown schema objects c.left) (comparisons n q.places literals) (λ c has. (side c has).0);
+            in_rights = AllByRecursion-members (λ c. IsShown schema objects c.right) (comparisons n q.places literals) (λ c has. (side c has).1);
           }
 
       operand_below : (x : Operand) → IsBelow (length q.places) x → IsPairBelow (length q.variables * width schema) (operand_symbol (width schema) q.places x)

@@ -6,11 +6,13 @@ use Rattle.std.specs.declared.cmp.Ordering.TheVariants.{Less as Before, Equal as
 use Rattle.std.specs.declared.cmp.Ordering.{Ordering}
 use Rattle.std.proofs.lemmas.Bool.{cases_Bool, true≢false, false≢true, eqb-true}
 use Rattle.std.proofs.lemmas.List.{length-map, map-append}
+use Rattle.std.proofs.lemmas.Cmp.{tied_itself}
 use Rattle.su_base.specs.declared.values.Value.{Value}
 use Rattle.su_base.specs.declared.values.Value.TheVariants.{Int}
 use Rattle.su_base.specs.Value.{compare_values}
 use Rattle.su_base.proofs.Subsets.{subset_at}
-use Rattle.su_base.proofs.Items.{map-map_equal}
+use Rattle.su_base.proofs.Items.{AllByRecursion-contains, AllByRecursion-members, AllByRecursion-map, AllByRecursion-map_source, AllByRecursion-weaker, map-map_equal}
+use Rattle.su_base.proofs.Rows.{values_total, equal_values, equal_or_not}
 use Rattle.su_where.specs.declared.operators.Op.{Op}
 use Rattle.su_where.specs.declared.operators.Op.TheVariants.{Equal}
 use Rattle.su_where.specs.Operator.{compares, holds_in}
@@ -18,7 +20,6 @@ use Rattle.su_tableau.specs.declared.symbols.Sym.{Sym}
 use Rattle.su_tableau.specs.declared.symbols.Sym.TheVariants.{Const, Var}
 use Rattle.su_tableau.specs.Valuations.{value_of, values_of}
 use Rattle.su_tableau.proofs.SymbolParts.{same_const}
-use Rattle.su_classes.proofs.ValueOrder.{compare_itself, compare_same, same_or}
 use Rattle.su_schema.specs.SchemaValue.{SchemaValue}
 use Rattle.su_steps.specs.declared.results.Origin.{Origin}
 use Rattle.su_steps.specs.Objects.{width, attributes_at}
@@ -29,7 +30,6 @@ use Rattle.su_classes.specs.ClassNames.{InClass, IsNaming}
 use Rattle.su_steps.specs.Classes.{IsClosedForCase}
 use Rattle.su_steps.specs.Evaluated.{is_evaluated, outcome, left_over, sides, EvaluatesFalse}
 use Rattle.su_steps.specs.Cases.{IsContradictory}
-use Rattle.su_steps.proofs.Lists.{all_at, all_by, all_map, all_of_map, all_weaker}
 use Rattle.su_steps.proofs.Cells.{raw_rows, Sent, IsAt, rows_at}
 use Rattle.su_steps.proofs.Raw.{AreWithin, AllTrue, RawAnswer}
 
@@ -68,12 +68,12 @@ outcome_is : (w : ℕ → Value) (op : Op) (x y : Sym) → is_evaluated x y ≡ 
 outcome_is w op (Const a) (Const b) h = refl
 outcome_is w op (Const a) (Var q) h = absurd (false≢true h)
 outcome_is w op (Var p) (Const b) h = absurd (false≢true h)
-outcome_is w op (Var p) (Var q) h = ap (holds_in op) (sym (ap (λ k. compare_values (w p) (w k)) (eqb-true p q h)) ∙ compare_itself (w p))
+outcome_is w op (Var p) (Var q) h = ap (holds_in op) (sym (ap (λ k. compare_values (w p) (w k)) (eqb-true p q h)) ∙ tied_itself values_total (w p))
 
 -- ---- the values of a valuation are a closed partition
 
-equal_values : (op : Op) (x y : Value) → compares op x y ≡ true → op ≡ Equal → x ≡ y
-equal_values op x y h e = compare_same x y (holds_same op (compare_values x y) e h)
+equal_sides : (op : Op) (x y : Value) → compares op x y ≡ true → op ≡ Equal → x ≡ y
+equal_sides op x y h e = equal_values x y (holds_same op (compare_values x y) e h)
 
 abbrev by_value : (ℕ → Value) → Sym → Sym
 by_value w x = Const (value_of w x)
@@ -84,11 +84,11 @@ module _ (schema : SchemaValue) (universe : List (List Value)) (choice : List (L
 
   module _ (w : ℕ → Value) (sends : Sent w (raw_rows schema (length choice * width schema) (origins_from 0 choice)) universe) (holds : AllTrue w d) where
     row_at : (o : Origin) → Contains os o → IsAt schema w universe o
-    row_at o c = all_at (IsAt schema w universe) os o (rows_at schema w universe (length choice * width schema) os sends) c
+    row_at o c = AllByRecursion-contains (IsAt schema w universe) os o (rows_at schema w universe (length choice * width schema) os sends) c
 
     values_closed : IsClosedForCase schema os d (by_value w)
     values_closed = record {
-      equalities = λ c has e. ap Const (equal_values c.op (value_of w c.left) (value_of w c.right) (all_at (λ c. compares c.op (value_of w c.left) (value_of w c.right) ≡ true) d c holds has) e);
+      equalities = λ c has e. ap Const (equal_sides c.op (value_of w c.left) (value_of w c.right) (AllByRecursion-contains (λ c. compares c.op (value_of w c.left) (value_of w c.right) ≡ true) d c holds has) e);
       dependencies = λ f o q cf co cq io iq same a h.
           let r = row_at o co in
           let s = row_at q cq in
@@ -168,8 +168,8 @@ module _ (schema : SchemaValue) (universe : List (List Value)) (choice : List (L
       let same : values_of w (map name outputs) ≡ values_of w outputs = map-map_equal name (value_of w) (value_of w) e outputs in
       record {
         valuation = w;
-        sends = all_map (λ row. Contains universe (values_of w row)) (map name) raws
-            (all_weaker (λ row. Contains universe (values_of w row)) (λ row. Contains universe (values_of w (map name row))) raws
+        sends = AllByRecursion-map (λ row. Contains universe (values_of w row)) (map name) raws
+            (AllByRecursion-weaker (λ row. Contains universe (values_of w row)) (λ row. Contains universe (values_of w (map name row))) raws
             (λ row c. subst (Contains universe) (sym (map-map_equal name (value_of w) (value_of w) e row)) c) r.sends);
         compared = values_of w (sides lo);
         gives = map-append (value_of w) (map name outputs) (sides lo) ∙ ap (λ xs. xs ++ values_of w (sides lo)) (same ∙ r.gives);
@@ -186,7 +186,7 @@ module _ (schema : SchemaValue) (universe : List (List Value)) (choice : List (L
       (λ (b : (a : Value) × (c : Value) × (a ≢ c) × InClass (IsClosedForCase schema (origins_from 0 choice) d) (Const a) (Const c)). b.2 (same (Const b.0) (Const b.1) b.3))
       (λ (b : (c : SymbolComparison) × Contains d c × EvaluatesFalse name c).
       let c = b.0 in
-      let t = all_at (λ c. compares c.op (value_of w c.left) (value_of w c.right) ≡ true) d c r.holds b.1 in
+      let t = AllByRecursion-contains (λ c. compares c.op (value_of w c.left) (value_of w c.right) ≡ true) d c r.holds b.1 in
       let o = outcome_is w c.op (name c.left) (name c.right) b.2.0 in
       let m = named_true w c.op (name c.left) (name c.right) c.left c.right (sym (same c.left (name c.left) (naming.member c.left))) (sym (same c.right (name c.right) (naming.member c.right))) t in
       true≢false (sym m ∙ o ∙ b.2.1))
@@ -198,12 +198,12 @@ module _ (schema : SchemaValue) (universe : List (List Value)) (choice : List (L
         ⊎_elim
         (λ (s : a ≡ b). ap Const (sym s))
         (λ (o : a ≢ b). absurd (fine (inl (a, b, o, subst (InClass (IsClosedForCase schema (origins_from 0 choice) d) (Const a)) e (naming.member (Const a))))))
-        (same_or a b)
+        (equal_or_not a b)
     named_const a (Var p) e = absurd (naming.least (Const a) p e (Const a) (λ label closed. refl))
 
     outcomes : AllByRecursion (λ c. is_evaluated (name c.left) (name c.right) ≡ true → outcome c.op (name c.left) (name c.right) ≡ true) d
     outcomes =
-        all_by (λ c. is_evaluated (name c.left) (name c.right) ≡ true → outcome c.op (name c.left) (name c.right) ≡ true) d
+        AllByRecursion-members (λ c. is_evaluated (name c.left) (name c.right) ≡ true → outcome c.op (name c.left) (name c.right) ≡ true) d
         (λ c has q.
         ⊎_elim
         (λ (t : outcome c.op (name c.left) (name c.right) ≡ true). t)
@@ -224,9 +224,9 @@ module _ (schema : SchemaValue) (universe : List (List Value)) (choice : List (L
         let parts = same_cut h c.compared (values_of w (map name outputs)) (values_of w (sides lo)) head (length-map (map name outputs) (value_of w) ∙ length-map outputs name ∙ sym c.outputs_are) in
         record {
           valuation = v;
-          sends = all_weaker (λ row. Contains universe (values_of w (map name row))) (λ row. Contains universe (values_of v row)) raws
+          sends = AllByRecursion-weaker (λ row. Contains universe (values_of w (map name row))) (λ row. Contains universe (values_of v row)) raws
               (λ row k. subst (Contains universe) (map-map_equal name (value_of w) (value_of v) e row) k)
-              (all_of_map (λ row. Contains universe (values_of w row)) (map name) raws c.sends);
+              (AllByRecursion-map_source (λ row. Contains universe (values_of w row)) (map name) raws c.sends);
           holds = all_true w v name (named_value w) d outcomes (hold_true w lo (subst (AllHold (map (λ c. c.op) lo)) parts.1 c.holds));
           gives = sym (map-map_equal name (value_of w) (value_of v) e outputs) ∙ sym parts.0;
         }

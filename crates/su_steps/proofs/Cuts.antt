@@ -1,16 +1,16 @@
 -- An answer cut to its outputs, by a function from variables to values and by a list of values.
-use Rattle.std.proofs.Common.{◌≡◌, ℕ, zero, suc, ◌+◌, ◌*◌, ◌<◌, ◌≤◌, true, pos, List, [], ◌∷◌, ◌++◌, length, get_or, take, drop, Contains, refl, sym, ap, ◌∙◌, arith}
+use Rattle.std.proofs.Common.{◌≡◌, ℕ, zero, suc, ◌+◌, ◌*◌, ◌<◌, true, pos, List, [], ◌∷◌, ◌++◌, length, get_or, take, drop, Contains, sym, ap, ◌∙◌, arith}
 use Rattle.std.proofs.Math.Seq.{take-append_seam}
 use Rattle.std.proofs.lemmas.List.{length-map, length-take-le, length-append, get_or-append-add, take-append-drop}
 use Rattle.std.proofs.lemmas.List.Elements.{All-from_recursion, All-contains}
 use Rattle.su_base.specs.declared.values.Value.{Value}
 use Rattle.su_base.specs.declared.values.Value.TheVariants.{Int}
+use Rattle.su_base.proofs.Items.{AllByRecursion-members}
 use Rattle.su_where.specs.declared.operators.Op.{Op}
 use Rattle.su_where.specs.declared.operators.Op.TheVariants.{Equal}
 use Rattle.su_where.specs.Operator.{compares}
 use Rattle.su_tableau.specs.Tableaux.{Tab}
 use Rattle.su_tableau.specs.Valuations.{value_of, values_of, Ext, Cut}
-use Rattle.su_steps.proofs.Lists.{all_by}
 use Rattle.su_steps.proofs.ClassNames.{AllHold, CutBy}
 
 abbrev zero_value : Value
@@ -83,7 +83,7 @@ module _ (t : Tab) (universe : List (List Value)) (h : List Value) where
       let rest : length back ≡ 2 * length t.operators = omega arith in
       record {
         valuation = e.valuation;
-        sends = all_by (λ row. Contains universe (values_of e.valuation row)) t.rows (λ row has. All-contains (λ row. Contains universe (values_of e.valuation row)) t.rows row e.holds has);
+        sends = AllByRecursion-members (λ row. Contains universe (values_of e.valuation row)) t.rows (λ row has. All-contains (λ row. Contains universe (values_of e.valuation row)) t.rows row e.holds has);
         compared = back;
         gives = e.gives ∙ sym parts ∙ ap (λ xs. xs ++ back) c.outputs;
         outputs_are = sym (ap length c.outputs) ∙ count;

@@ -27,10 +27,9 @@ use Rattle.su_steps.specs.Cases.{Case, comparisons_of, Gives, IsOutOf}
 use Rattle.su_steps.specs.Terms.{cases, AreTerms}
 use Rattle.su_steps.specs.Sources.{IsSource}
 use Rattle.std.specs.List.{AllByRecursion}
-use Rattle.su_base.proofs.Items.{Contains-cases, Contains-nil, Contains-map_source, get_or-map_range}
+use Rattle.su_base.proofs.Items.{Contains-cases, Contains-nil, Contains-map_source, AllByRecursion-members, get_or-map_range}
 use Rattle.su_schema.specs.Valid as schemas
 use Rattle.su_where.specs.Disjunct.{disjuncts_of}
-use Rattle.su_steps.proofs.Lists.{all_by}
 use Rattle.su_steps.proofs.Cells.{pair_below}
 use Rattle.su_steps.proofs.ResolvedQueries.{no_place, place_at, place_in, literals_fit, within}
 use Rattle.su_steps.proofs.Chosen.{origin_in, pairs_below}
@@ -195,4 +194,4 @@ module _ (schema : SchemaValue) (maximal : List (FinSet nat_cmp)) (q : Resolved)
       terms
 
   pub rows_have_sources : (ts : List Term) → AreTerms schema maximal q ts → (t : Term) (m i : ℕ) → Contains ts t → i < length t.tableau.rows → (o : ℕ) × IsSource schema t.tableau m i o
-  rows_have_sources ts terms t m i c l = terms_have (cases schema maximal q) ts (all_by (IsCase schema maximal q resolved (within schema valid)) (cases schema maximal q) (of_cases schema maximal q resolved (within schema valid))) (terms_of schema maximal q ts terms) t m i c l
+  rows_have_sources ts terms t m i c l = terms_have (cases schema maximal q) ts (AllByRecursion-members (IsCase schema maximal q resolved (within schema valid)) (cases schema maximal q) (of_cases schema maximal q resolved (within schema valid))) (terms_of schema maximal q ts terms) t m i c l

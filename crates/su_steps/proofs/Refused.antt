@@ -1,17 +1,16 @@
 -- Why a query is refused, from what was counted.
-use Rattle.std.proofs.Common.{◌≡◌, ◌⊎◌, inl, inr, ⊎_elim, ℕ, zero, suc, ◌*◌, ◌<◌, ◌≤◌, min, Bool, true, false, Option, Some, None, List, [], ◌∷◌, length, get_or, refl, sym, ap, ◌∙◌, subst, arith}
-use Rattle.std.specs.Prelude.{position, slice_get, ◌==◌}
+use Rattle.std.proofs.Common.{◌≡◌, ◌⊎◌, ⊎_elim, ℕ, zero, suc, ◌*◌, ◌<◌, ◌≤◌, min, Bool, true, false, Some, None, List, [], ◌∷◌, length, get_or, sym, ap, ◌∙◌, subst, arith}
+use Rattle.std.specs.Prelude.{position, ◌==◌}
 use Rattle.std.specs.Ordering.{nat_cmp}
 use Rattle.std.specs.FinSet.{FinSet}
 use Rattle.std.proofs.lemmas.Bool.Decides.{nat_tests}
-use Rattle.std.proofs.Math.Nat.{zero-mul}
+use Rattle.std.proofs.Math.Nat.{eq-zero-or-pos, zero-mul}
 use Rattle.std.proofs.lemmas.List.Elements.{Contains-get_or}
 use Rattle.su_base.proofs.RemainingSets.{position-None}
 use Rattle.su_where.specs.Disjunct.{disjuncts_of}
 use Rattle.su_base.proofs.Combinations.{same_or_many}
 use Rattle.su_schema.specs.SchemaValue.{SchemaValue}
 use Rattle.su_query.specs.declared.resolving.Resolved.{Resolved}
-use Rattle.su_query.specs.Sets.{mentioned_with}
 use Rattle.su_steps.specs.declared.faults.StepFault.{StepFault}
 use Rattle.su_steps.specs.declared.faults.StepFault.TheVariants.{NotCovered, Limit, NoMemory}
 use Rattle.su_steps.specs.Choices.{coverings, choices}
@@ -71,10 +70,6 @@ times_many : (d n : ℕ) → 0 < d → 257 ≤ n → 256 < d * n
 times_many zero n l h = absurd (omega arith)
 times_many (suc d) n l h = grind (arith, h)
 
-zero_or_more : (n : ℕ) → (n ≡ 0) ⊎ (0 < n)
-zero_or_more zero = inl refl
-zero_or_more (suc n) = inr (omega arith)
-
 pub many_terms : (schema : SchemaValue) (maximal : List (FinSet nat_cmp)) (q : Resolved) (d m : ℕ) → d ≡ disjunct_count q → m ≡ min (length (choices schema maximal q)) 257 → 256 < d * m → 256 < disjunct_count q * length (choices schema maximal q)
 many_terms schema maximal q d m e f l =
     ⊎_elim
@@ -83,7 +78,7 @@ many_terms schema maximal q d m e f l =
     ⊎_elim
     (λ (z : d ≡ 0). absurd (let x : d * m ≡ 0 = ap (λ k. k * m) z ∙ zero-mul m in omega arith))
     (λ (p : 0 < d). times_many (disjunct_count q) (length (choices schema maximal q)) (omega arith) b.1)
-    (zero_or_more d))
+    (eq-zero-or-pos d))
     (same_or_many 257 m (length (choices schema maximal q)) f)
 
 pub few_terms : (schema : SchemaValue) (maximal : List (FinSet nat_cmp)) (q : Resolved) (d m : ℕ) → d ≡ disjunct_count q → m ≡ min (length (choices schema maximal q)) 257 → d * m ≤ 256 → HasFewTerms schema maximal q
@@ -94,5 +89,5 @@ few_terms schema maximal q d m e f l =
     ⊎_elim
     (λ (z : d ≡ 0). let x : disjunct_count q * length (choices schema maximal q) ≡ 0 = ap (λ k. k * length (choices schema maximal q)) (sym e ∙ z) ∙ zero-mul (length (choices schema maximal q)) in omega arith)
     (λ (p : 0 < d). absurd (let x : 256 < d * m = times_many d m p (omega (arith, b.0)) in omega arith))
-    (zero_or_more d))
+    (eq-zero-or-pos d))
     (same_or_many 257 m (length (choices schema maximal q)) f)

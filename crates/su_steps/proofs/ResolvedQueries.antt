@@ -1,5 +1,5 @@
 -- What a valid schema and a resolved query give: numbers in range, and sides of one kind.
-use Rattle.std.proofs.Common.{◌≡◌, ⊎_elim, ℕ, zero, suc, ◌+◌, ◌<◌, ◌≤◌, true, false, List, [], ◌∷◌, map, length, get_or, Contains, refl, sym, ap, ◌∙◌, subst, arith}
+use Rattle.std.proofs.Common.{◌≡◌, ⊎_elim, ℕ, ◌<◌, ◌≤◌, true, false, List, [], ◌∷◌, map, length, get_or, Contains, refl, sym, ap, ◌∙◌, subst, arith}
 use Rattle.std.specs.Prelude.{nat_eq, All, filter, ◌==◌}
 use Rattle.std.specs.List.{AllByRecursion, range_with_len}
 use Rattle.std.specs.Ordering.{nat_cmp}
@@ -12,7 +12,7 @@ use Rattle.std.proofs.lemmas.List.Elements.{All-contains, All-from_recursion, Co
 use Rattle.std.proofs.lemmas.List.Folds.{Any-from_list_any, list_any_at}
 use Rattle.std.proofs.lemmas.Option.{slice_get_within}
 use Rattle.su_base.specs.declared.values.Kind.TheVariants.{Int as IntKind}
-use Rattle.su_base.proofs.Items.{Contains-later, Contains-cases, Contains-nil, Contains-map, Contains-map_source, Contains-filter, Contains-filter_source}
+use Rattle.su_base.proofs.Items.{Contains-later, Contains-map, Contains-map_source, Contains-filter, Contains-filter_source, AllByRecursion-contains, AllByRecursion-members, Contains-range, Contains-range_below}
 use Rattle.su_where.specs.declared.literals.Operand.{Operand}
 use Rattle.su_where.specs.declared.literals.Operand.TheVariants as operand
 use Rattle.su_where.specs.declared.literals.Literal.{Literal}
@@ -31,25 +31,9 @@ use Rattle.su_query.specs.Sets.{mentioned_with}
 use Rattle.su_steps.specs.Objects.{width, attributes_at, objects_of, attributes_of_all}
 use Rattle.su_steps.specs.PairSymbols.{SymbolComparison, operand_symbol, compared, comparisons}
 use Rattle.su_steps.specs.inside.Ready.{FitLiterals}
-use Rattle.su_steps.proofs.Lists.{all_at, all_by}
 use Rattle.su_steps.proofs.Literals.{literals_of}
 use Rattle.su_steps.proofs.Raw.{AreWithin}
 use Rattle.su_steps.proofs.Shape.{column_kind, HaveOneKind}
-
--- ---- numbers in a range
-
-pub of_range : (a n o : ℕ) → Contains (range_with_len a n) o → (a ≤ o) × (o < a + n)
-of_range a zero o c = absurd (Contains-nil o c)
-of_range a (suc n) o c =
-    ⊎_elim
-    (λ (e : a ≡ o). (omega arith, omega arith))
-    (λ (r : Contains (range_with_len (a + 1) n) o). let w = of_range (a + 1) n o r in ((let l = w.0 in omega arith), (let l = w.1 in omega arith)))
-    (Contains-cases a (range_with_len (a + 1) n) o c)
-
-pub in_range : (a n o k : ℕ) → a + k ≡ o → k < n → Contains (range_with_len a n) o
-in_range a zero o k e l = absurd (omega arith)
-in_range a (suc n) o zero e l = (0, omega arith, omega arith)
-in_range a (suc n) o (suc k) e l = Contains-later a (range_with_len (a + 1) n) o (in_range (a + 1) n o k (omega arith) (omega arith))
 
 -- ---- objects
 
@@ -87,10 +71,10 @@ within schema valid o a h =
     (cases_lt o (length schema.objects))
 
 pub of_objects : (schema : SchemaValue) (m : FinSet nat_cmp) (o : ℕ) → Contains (objects_of schema m) o → (o < length schema.objects) × (contains m o ≡ true)
-of_objects schema m o c = let w = Contains-filter_source (contains m) (range_with_len 0 (length schema.objects)) o c in let l = (of_range 0 (length schema.objects) o w.0).1 in (omega arith, w.1)
+of_objects schema m o c = let w = Contains-filter_source (contains m) (range_with_len 0 (length schema.objects)) o c in (Contains-range_below (length schema.objects) o w.0, w.1)
 
 pub in_objects : (schema : SchemaValue) (m : FinSet nat_cmp) (o : ℕ) → o < length schema.objects → contains m o ≡ true → Contains (objects_of schema m) o
-in_objects schema m o l h = Contains-filter (contains m) (range_with_len 0 (length schema.objects)) o (in_range 0 (length schema.objects) o o (omega arith) l) h
+in_objects schema m o l h = Contains-filter (contains m) (range_with_len 0 (length schema.objects)) o (Contains-range (length schema.objects) o l) h
 
 -- an attribute of objects is one of some object of them
 pub of_all : (schema : SchemaValue) (os : List ℕ) (a : ℕ) → contains (attributes_of_all schema os) a ≡ true → (o : ℕ) × Contains os o × (contains (attributes_at schema o) a ≡ true)
@@ -128,8 +112,8 @@ module _ (schema : SchemaValue) (q : Resolved) (resolved : IsResolved schema q) 
       let d = get_or (disjuncts_of q.cond) i [] in
       let ks = place_kinds schema q.places in
       let count : length ks ≡ length q.places = length-map q.places _ in
-      let by : (P : Literal → Type 0) → All P (comparisons_of q.cond) → AllByRecursion P (comparisons_of q.cond) = λ P h. all_by P (comparisons_of q.cond) (λ x c. All-contains P (comparisons_of q.cond) x h c) in
-      let at : (P : Literal → Type 0) → AllByRecursion (AllByRecursion P) (disjuncts_of q.cond) → All P d = λ P h. All-from_recursion P d (all_at (AllByRecursion P) (disjuncts_of q.cond) d h (Contains-get_or (disjuncts_of q.cond) i [] l)) in
+      let by : (P : Literal → Type 0) → All P (comparisons_of q.cond) → AllByRecursion P (comparisons_of q.cond) = λ P h. AllByRecursion-members P (comparisons_of q.cond) (λ x c. All-contains P (comparisons_of q.cond) x h c) in
+      let at : (P : Literal → Type 0) → AllByRecursion (AllByRecursion P) (disjuncts_of q.cond) → All P d = λ P h. All-from_recursion P d (AllByRecursion-contains (AllByRecursion P) (disjuncts_of q.cond) d h (Contains-get_or (disjuncts_of q.cond) i [] l)) in
       record {
         places = subst (λ n. All (HasPlacesBelow n) d) count (at (HasPlacesBelow (length ks)) (literals_of (HasPlacesBelow (length ks)) (λ l h. h) q.cond (by (HasPlacesBelow (length ks)) resolved.cond.fits)));
         kinds = at (IsOfOneKind ks) (literals_of (IsOfOneKind ks) (λ l h. h) q.cond (by (IsOfOneKind ks) resolved.cond.typed));

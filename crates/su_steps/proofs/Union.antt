@@ -10,7 +10,7 @@ use Rattle.std.proofs.lemmas.List.Elements.{All-contains, Contains-get_or}
 use Rattle.std.proofs.lemmas.List.Folds.{Any-from_list_any, list_any_at}
 use Rattle.su_base.specs.declared.values.Value.{Value}
 use Rattle.su_base.specs.declared.values.Value.TheVariants.{Int}
-use Rattle.su_base.proofs.Items.{Contains-later, Contains-cases, Contains-nil, Contains-map, Contains-map_source, Contains-flat_map, Contains-flat_map_source, map-map_equal}
+use Rattle.su_base.proofs.Items.{Contains-later, Contains-cases, Contains-nil, Contains-map, Contains-map_source, Contains-flat_map, Contains-flat_map_source, AllByRecursion-contains, AllByRecursion-members, Contains-range, Contains-range_below, map-map_equal}
 use Rattle.su_where.specs.declared.literals.Operand.{Operand}
 use Rattle.su_where.specs.declared.literals.Operand.TheVariants as operand
 use Rattle.su_where.specs.declared.literals.Literal.{Literal}
@@ -18,7 +18,7 @@ use Rattle.su_where.specs.Operator.{compares}
 use Rattle.su_where.specs.Truth as truth
 use Rattle.su_where.specs.Places.{IsBelow, HasPlacesBelow}
 use Rattle.su_where.specs.Disjunct.{disjuncts_of, all_hold}
-use Rattle.su_where.proofs.Keeps.{keeps_truth}
+use Rattle.su_where.proofs.DisjunctTruth.{keeps_truth}
 use Rattle.su_tableau.specs.declared.symbols.Sym.{Sym}
 use Rattle.su_tableau.specs.Tableaux.{Tab}
 use Rattle.su_tableau.specs.Valuations.{value_of, values_of, Ext, Cut}
@@ -39,7 +39,6 @@ use Rattle.su_steps.specs.CaseTableaux.{rows_of, tableau_of}
 use Rattle.su_steps.specs.Cases.{HaveTableau, Case, comparisons_of, Gives, IsOutOf}
 use Rattle.su_steps.specs.Terms.{case_of, cases, AreTerms, InUnion}
 use Rattle.su_steps.specs.inside.Ready.{IsChoice}
-use Rattle.su_steps.proofs.Lists.{all_at, all_by}
 use Rattle.su_steps.proofs.Cells.{raw_rows}
 use Rattle.su_steps.proofs.Raw.{AreWithin, AllTrue, pair_value, InLists, RawAnswer}
 use Rattle.su_steps.proofs.Valuations.{choice_law, pair_at}
@@ -47,7 +46,7 @@ use Rattle.su_steps.proofs.ClassNames.{CutBy, NamedAnswer, to_named, not_contrad
 use Rattle.su_steps.proofs.Cuts.{to_cut, from_cut}
 use Rattle.su_steps.proofs.Shape.{own_name, rows_named, tableau_typed}
 use Rattle.su_steps.proofs.Valid.{head_length}
-use Rattle.su_steps.proofs.ResolvedQueries.{of_range, in_range, in_objects, of_objects, no_place, place_at, place_in, literals_fit, one_kind}
+use Rattle.su_steps.proofs.ResolvedQueries.{in_objects, of_objects, no_place, place_at, place_in, literals_fit, one_kind}
 use Rattle.su_steps.proofs.Chosen.{pick, choice_of, of_choice, objects_count, objects_at, shown, pairs_below}
 use Rattle.su_steps.proofs.Outs.{AreInTurn, terms_of}
 
@@ -68,13 +67,12 @@ module _ (schema : SchemaValue) (maximal : List (FinSet nat_cmp)) (q : Resolved)
       let w = Contains-flat_map_source (λ i. map (case_of i) (choices schema maximal q)) (range_with_len 0 (length (disjuncts_of q.cond))) case has in
       let u = Contains-map_source (case_of w.0) (choices schema maximal q) case w.2 in
       let count : ℕ = length (disjuncts_of q.cond) in
-      let low : w.0 < 0 + count = (of_range 0 count w.0 w.1).1 in
-      let in' : w.0 < count = omega arith in
+      let in' : w.0 < count = Contains-range_below count w.0 w.1 in
       subst IsCase u.2 (record { disjunct_in = in'; is_choice = choice_of schema maximal q u.0 u.1 })
 
   in_cases : (i : ℕ) (choice : List ℕ) → i < length (disjuncts_of q.cond) → IsChoice schema maximal q choice → Contains (cases schema maximal q) (case_of i choice)
   in_cases i choice l r =
-      Contains-flat_map (λ i. map (case_of i) (choices schema maximal q)) (range_with_len 0 (length (disjuncts_of q.cond))) i (case_of i choice) (in_range 0 (length (disjuncts_of q.cond)) i i (omega arith) l)
+      Contains-flat_map (λ i. map (case_of i) (choices schema maximal q)) (range_with_len 0 (length (disjuncts_of q.cond))) i (case_of i choice) (Contains-range (length (disjuncts_of q.cond)) i l)
       (Contains-map (case_of i) (choices schema maximal q) choice (of_choice schema maximal q choice r))
 
   -- ---- one case
@@ -165,7 +163,7 @@ module _ (schema : SchemaValue) (maximal : List (FinSet nat_cmp)) (q : Resolved)
         terms
 
     all_cases : AllByRecursion IsCase (cases schema maximal q)
-    all_cases = all_by IsCase (cases schema maximal q) of_cases
+    all_cases = AllByRecursion-members IsCase (cases schema maximal q) of_cases
 
     -- ---- lists of values and the condition
 
@@ -199,10 +197,10 @@ module _ (schema : SchemaValue) (maximal : List (FinSet nat_cmp)) (q : Resolved)
     places_below i l =
         let d = get_or (disjuncts_of q.cond) i [] in
         let fits = literals_fit schema q resolved i l in
-        all_by (HasPlacesBelow (length q.places)) d (λ x c. All-contains (HasPlacesBelow (length q.places)) d x fits.places c)
+        AllByRecursion-members (HasPlacesBelow (length q.places)) d (λ x c. All-contains (HasPlacesBelow (length q.places)) d x fits.places c)
 
     outputs_below : AllByRecursion (λ o. o < length q.places) q.outputs
-    outputs_below = all_by (λ o. o < length q.places) q.outputs (λ x c. All-contains (λ o. o < length q.places) q.outputs x resolved.outputs c)
+    outputs_below = AllByRecursion-members (λ o. o < length q.places) q.outputs (λ x c. All-contains (λ o. o < length q.places) q.outputs x resolved.outputs c)
 
     module _ (typed : IsUniverse (attribute_kinds schema) universe) where
       from_lists : (case : Case) → IsCase case → InLists schema universe (chosen_objects schema maximal case.choice) outputs (comparisons_of schema q case.disjunct) h → InExpression schema maximal q (cuts schema universe) h
@@ -221,7 +219,7 @@ module _ (schema : SchemaValue) (maximal : List (FinSet nat_cmp)) (q : Resolved)
             typed = λ v l. e.typed v (omega arith);
             within = λ v o l k m.
                 let at = subst (AllByRecursion (λ o. Contains (cuts schema universe o) (cut (attributes_at schema o) (e.lists v)))) (objects_at schema maximal q case.choice is.is_choice v l) (e.within v (omega arith)) in
-                all_at (λ o. Contains (cuts schema universe o) (cut (attributes_at schema o) (e.lists v))) (objects_of schema (get_or maximal (get_or case.choice v 0) empty)) o at (in_objects schema (get_or maximal (get_or case.choice v 0) empty) o k m);
+                AllByRecursion-contains (λ o. Contains (cuts schema universe o) (cut (attributes_at schema o) (e.lists v))) (objects_of schema (get_or maximal (get_or case.choice v 0) empty)) o at (in_objects schema (get_or maximal (get_or case.choice v 0) empty) o k m);
             holds = keeps_truth q.cond values ∙ list_any_at (λ d. all_hold d values) ds case.disjunct d is.disjunct_in (ap (λ e. all_hold e values) (get_or_default ds case.disjunct d [] is.disjunct_in) ∙ true');
             gives = sym (outputs_value e.lists q.outputs outputs_below) ∙ e.gives;
           }
@@ -261,7 +259,7 @@ module _ (schema : SchemaValue) (maximal : List (FinSet nat_cmp)) (q : Resolved)
                   let k : v < length q.variables = omega arith in
                   let set = get_or maximal (get_or choice v 0) empty in
                   subst (AllByRecursion (λ o. Contains (cuts schema universe o) (cut (attributes_at schema o) (e.lists v)))) (sym (objects_at schema maximal q choice is_choice v k))
-                  (all_by (λ o. Contains (cuts schema universe o) (cut (attributes_at schema o) (e.lists v))) (objects_of schema set)
+                  (AllByRecursion-members (λ o. Contains (cuts schema universe o) (cut (attributes_at schema o) (e.lists v))) (objects_of schema set)
                   (λ o c. let r = of_objects schema set o c in e.within v o k r.0 (ap (λ s. contains s o) (sym (picked.2 v k).1) ∙ r.1)));
               holds = all_to e.lists d (places_below i w.2) true';
               gives = outputs_value e.lists q.outputs outputs_below ∙ e.gives;

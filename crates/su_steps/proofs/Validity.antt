@@ -5,6 +5,7 @@ use Rattle.std.specs.List.{AllByRecursion}
 use Rattle.std.specs.Ordering.{nat_cmp}
 use Rattle.std.specs.FinSet.{FinSet}
 use Rattle.std.proofs.lemmas.List.Elements.{All-from_recursion}
+use Rattle.su_base.proofs.Items.{AllByRecursion-members}
 use Rattle.su_where.specs.Disjunct.{disjuncts_of}
 use Rattle.su_tableau.specs.Tableaux.{IsValid}
 use Rattle.su_schema.specs.SchemaValue.{SchemaValue}
@@ -15,7 +16,6 @@ use Rattle.su_steps.specs.declared.results.Term.{Term}
 use Rattle.su_steps.specs.Choices.{origins_of}
 use Rattle.su_steps.specs.Cases.{Case, comparisons_of, Gives, IsOutOf}
 use Rattle.su_steps.specs.Terms.{cases, AreTerms}
-use Rattle.su_steps.proofs.Lists.{all_by}
 use Rattle.su_steps.proofs.ResolvedQueries.{within, literals_fit}
 use Rattle.su_steps.proofs.Cases.{shown_rows}
 use Rattle.su_steps.proofs.Tabled.{outputs_stand, sides_stand}
@@ -49,4 +49,4 @@ module _ (schema : SchemaValue) (maximal : List (FinSet nat_cmp)) (q : Resolved)
   pub all_valid : (ts : List Term) → AreTerms schema maximal q ts → All HasValid ts
   all_valid ts terms =
       All-from_recursion HasValid ts
-      (valid_of (cases schema maximal q) ts (all_by (IsCase schema maximal q resolved (within schema valid)) (cases schema maximal q) (of_cases schema maximal q resolved (within schema valid))) (terms_of schema maximal q ts terms))
+      (valid_of (cases schema maximal q) ts (AllByRecursion-members (IsCase schema maximal q resolved (within schema valid)) (cases schema maximal q) (of_cases schema maximal q resolved (within schema valid))) (terms_of schema maximal q ts terms))

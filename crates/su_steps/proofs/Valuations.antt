@@ -3,7 +3,7 @@ use Rattle.std.proofs.Common.{◌≡◌, ◌↔◌, ℕ, suc, ◌+◌, ◌*◌, 
 use Rattle.std.specs.List.{AllByRecursion, range_with_len, list_any}
 use Rattle.std.specs.FinSet.{contains}
 use Rattle.std.proofs.lemmas.Bool.{cond-true, cond-false, cond_both, lt-ltb, le-ltb}
-use Rattle.std.proofs.lemmas.Nat.{div-mul-add, mod-mul-add}
+use Rattle.std.proofs.lemmas.Nat.{div-add-mod', div-mul-add, mod-mul-add}
 use Rattle.std.proofs.lemmas.List.{length-map, get_or-map}
 use Rattle.std.proofs.lemmas.List.Elements.{All-contains}
 use Rattle.std.proofs.lemmas.List.FromFn.{length-map-range_with_len, fill_by_all}
@@ -13,7 +13,7 @@ use Rattle.su_base.specs.declared.values.Kind.TheVariants.{Int as IntKind, Text 
 use Rattle.su_base.specs.declared.values.Value.{Value}
 use Rattle.su_base.specs.declared.values.Value.TheVariants.{Int, Text}
 use Rattle.su_base.specs.Value.{kind_of}
-use Rattle.su_base.proofs.Items.{Contains-map, Contains-map_source, map-map_equal, get_or-map_range}
+use Rattle.su_base.proofs.Items.{Contains-map, Contains-map_source, AllByRecursion-contains, AllByRecursion-members, map-map_equal, get_or-map_range}
 use Rattle.su_where.specs.Operator.{compares}
 use Rattle.su_tableau.specs.declared.symbols.Sym.{Sym}
 use Rattle.su_tableau.specs.declared.symbols.Sym.TheVariants.{Const, Var}
@@ -27,9 +27,8 @@ use Rattle.su_steps.specs.Expression.{cut, cuts, Agree}
 use Rattle.su_steps.specs.Choices.{origin, origins_from}
 use Rattle.su_steps.specs.PairSymbols.{SymbolComparison}
 use Rattle.su_steps.specs.CaseTableaux.{cell_of, origin_row}
-use Rattle.su_steps.proofs.Lists.{all_at, all_by}
 use Rattle.su_schema.proofs.Cuts.{cut_agrees}
-use Rattle.su_steps.proofs.Cells.{itself, raw_rows, Sent, IsAt, rows_at, origins_at, origins_by, pair_number, pair_below}
+use Rattle.su_steps.proofs.Cells.{itself, raw_rows, Sent, IsAt, rows_at, origins_at, origins_by, pair_below}
 use Rattle.su_steps.proofs.Raw.{AreWithin, AllTrue, pair_value, InLists, RawAnswer, IsShown, AreShown}
 
 -- ---- valuations that agree on what is mentioned
@@ -97,7 +96,7 @@ module _ (schema : SchemaValue) (universe : List (List Value)) (choice : List (L
     -- a row of the universe for each variable and object
     row_for : (v : ℕ) → v < length choice → (o : ℕ) → Contains (get_or choice v []) o → IsAt schema w universe (origin v o)
     row_for v l o c =
-        all_at (λ o. IsAt schema w universe (origin v o)) (get_or choice v []) o
+        AllByRecursion-contains (λ o. IsAt schema w universe (origin v o)) (get_or choice v []) o
         (origins_at (IsAt schema w universe) 0 choice (rows_at schema w universe (length choice * width schema) (origins_from 0 choice) sends) v v (omega arith) l)
         c
 
@@ -106,7 +105,7 @@ module _ (schema : SchemaValue) (universe : List (List Value)) (choice : List (L
 
     lists_within : (v : ℕ) → v < length choice → AllByRecursion (λ o. Contains (cuts schema universe o) (cut (attributes_at schema o) (list_of v))) (get_or choice v [])
     lists_within v l =
-        all_by (λ o. Contains (cuts schema universe o) (cut (attributes_at schema o) (list_of v))) (get_or choice v [])
+        AllByRecursion-members (λ o. Contains (cuts schema universe o) (cut (attributes_at schema o) (list_of v))) (get_or choice v [])
         (λ o c.
         let r = row_for v l o c in
         in_cuts schema universe typed o (list_of v) r.0 (length-map-range_with_len (value_in v) 0 (width schema)) r.1 (λ a d h. let i = fit o a h in read_in v a o d c h i ∙ sym (r.2 a d i h)))
@@ -131,7 +130,7 @@ module _ (schema : SchemaValue) (universe : List (List Value)) (choice : List (L
     same_values (Const c) h = refl
     same_values (Var p) h =
         let i = fit h.object (p % width schema) h.has in
-        sym (read_in (p / width schema) (p % width schema) h.object (Int (pos 0)) h.takes h.has i ∙ ap w (pair_number p (width schema)))
+        sym (read_in (p / width schema) (p % width schema) h.object (Int (pos 0)) h.takes h.has i ∙ ap w (div-add-mod' p (width schema)))
 
   pub to_lists : (outputs : List Sym) (d : List SymbolComparison) (h : List Value) → AreShown schema choice outputs d → RawAnswer schema universe choice outputs d h → InLists schema universe choice outputs d h
   to_lists outputs d h shown r =
@@ -205,9 +204,9 @@ module _ (schema : SchemaValue) (universe : List (List Value)) (choice : List (L
 
   picks_for : (v : ℕ) → v < length choice → AllByRecursion (λ o. Picks schema universe typed own0 g (origin v o)) (get_or choice v [])
   picks_for v l =
-      all_by (λ o. Picks schema universe typed own0 g (origin v o)) (get_or choice v [])
+      AllByRecursion-members (λ o. Picks schema universe typed own0 g (origin v o)) (get_or choice v [])
       (λ o c.
-      let r = of_cuts schema universe typed o (e.lists v) (row_length (attribute_kinds schema) (e.lists v) (e.typed v l)) (all_at (λ o. Contains (cuts schema universe o) (cut (attributes_at schema o) (e.lists v))) (get_or choice v []) o (e.within v l) c) in (
+      let r = of_cuts schema universe typed o (e.lists v) (row_length (attribute_kinds schema) (e.lists v) (e.typed v l)) (AllByRecursion-contains (λ o. Contains (cuts schema universe o) (cut (attributes_at schema o) (e.lists v))) (get_or choice v []) o (e.within v l) c) in (
         r.0,
         r.1,
         λ a i.
@@ -230,7 +229,7 @@ module _ (schema : SchemaValue) (universe : List (List Value)) (choice : List (L
   w_same (Const c) i = refl
   w_same (Var p) i =
       let b = fit i.object (p % width schema) i.has in
-      sym (joined_low own0 g (pair_value (width schema) rows_picked) p (below_at p (p / width schema) (length choice) (width schema) (p % width schema) (pair_number p (width schema)) i.variable_in b))
+      sym (joined_low own0 g (pair_value (width schema) rows_picked) p (below_at p (p / width schema) (length choice) (width schema) (p % width schema) (div-add-mod' p (width schema)) i.variable_in b))
 
   pub to_raw : AreShown schema choice outputs d → RawAnswer schema universe choice outputs d h
   to_raw shown =

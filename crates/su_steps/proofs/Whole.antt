@@ -5,6 +5,7 @@ use Rattle.std.specs.Ordering.{nat_cmp}
 use Rattle.std.specs.FinSet.{FinSet}
 use Rattle.std.proofs.lemmas.List.Elements.{All-from_recursion}
 use Rattle.su_base.specs.declared.values.Value.{Value}
+use Rattle.su_base.proofs.Items.{AllByRecursion-members}
 use Rattle.su_tableau.specs.Kinds.{IsUniverse, IsTyped}
 use Rattle.su_schema.specs.SchemaValue.{SchemaValue}
 use Rattle.su_schema.specs.Valid.{IsValid}
@@ -14,7 +15,6 @@ use Rattle.su_query.specs.Ranges.{IsResolved}
 use Rattle.su_steps.specs.declared.results.Term.{Term}
 use Rattle.su_steps.specs.Expression.{cuts, Meets, InExpression}
 use Rattle.su_steps.specs.Terms.{cases, AreTerms, InUnion}
-use Rattle.su_steps.proofs.Lists.{all_by}
 use Rattle.su_steps.proofs.ResolvedQueries.{within}
 use Rattle.su_steps.proofs.Union.{IsCase, of_cases, union_law, typed_of}
 use Rattle.su_steps.proofs.Outs.{terms_of}
@@ -26,4 +26,4 @@ module _ (schema : SchemaValue) (maximal : List (FinSet nat_cmp)) (q : Resolved)
   pub all_typed : All (λ (t : Term). IsTyped (attribute_kinds schema) t.tableau) ts
   all_typed =
       All-from_recursion (λ (t : Term). IsTyped (attribute_kinds schema) t.tableau) ts
-      (typed_of schema maximal q resolved (within schema valid) (cases schema maximal q) ts (all_by (IsCase schema maximal q resolved (within schema valid)) (cases schema maximal q) (of_cases schema maximal q resolved (within schema valid))) (terms_of schema maximal q ts terms))
+      (typed_of schema maximal q resolved (within schema valid) (cases schema maximal q) ts (AllByRecursion-members (IsCase schema maximal q resolved (within schema valid)) (cases schema maximal q) (of_cases schema maximal q resolved (within schema valid))) (terms_of schema maximal q ts terms))

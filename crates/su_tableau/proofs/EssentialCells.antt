@@ -1,5 +1,5 @@
 -- Where a variable stands, and which columns are essential.
-use Rattle.std.proofs.Common.{◌≡◌, ◌≢◌, ℕ, ◌+◌, ◌<◌, ◌≤◌, ◌↔◌, IsTrue, List, [], length, get_or, Option, Some, None, All, Contains, sym, ap, ◌∙◌, subst, ⊎_elim, arith}
+use Rattle.std.proofs.Common.{◌≡◌, ◌≢◌, ℕ, ◌+◌, ◌<◌, ◌≤◌, ◌↔◌, IsTrue, List, [], length, get_or, Option, Some, None, All, Contains, sym, ◌∙◌, subst, ⊎_elim, arith}
 use Rattle.std.specs.Int.{bit_at}
 use Rattle.std.specs.Ordering.{nat_cmp}
 use Rattle.std.specs.FinSet.{FinSet, contains, insert, members}
@@ -9,6 +9,7 @@ use Rattle.std.proofs.lemmas.List.{get_or_default}
 use Rattle.su_tableau.specs.declared.symbols.Sym.{Sym}
 use Rattle.su_tableau.specs.declared.symbols.Sym.TheVariants.{Const, Var}
 use Rattle.su_tableau.specs.Tableaux.{Tab}
+use Rattle.su_tableau.specs.Parts.{Cell}
 use Rattle.su_tableau.specs.Essential.{HasSymbol, IsElsewhere, IsEssential, constant, in_head, twice}
 use Rattle.su_tableau.specs.inside.Elsewhere.{StandsElsewhere}
 
@@ -20,7 +21,7 @@ elsewhere_found t m row column k i r but is low set out s = record {
   holds = record {
     row_in = low;
     in_set = set;
-    cell = record { below = subst (λ r. s.column < length r) is s.below; is = λ d. ap (λ r. get_or r s.column d) (sym is) ∙ s.is d };
+    cell = subst (λ r. Cell r s.column (Var k)) is s.cell;
   };
   other = λ e f. s.other ((out s.column).1 (e, f));
 }
@@ -30,16 +31,15 @@ pub elsewhere_none : (t : Tab) (m row column k i : ℕ) (r : List Sym) (but : Op
 elsewhere_none t m row column k i r but is out none c h other =
     none (record {
       column = c;
-      below = subst (λ r. c < length r) (sym is) h.cell.below;
-      is = λ d. ap (λ r. get_or r c d) is ∙ h.cell.is d;
+      cell = subst (λ r. Cell r c (Var k)) (sym is) h.cell;
       other = λ e. let p = (out c).0 e in other p.0 p.1;
     })
 
 pub contains_stands : (row : List Sym) (k : ℕ) → Contains row (Var k) → StandsElsewhere row k None
-contains_stands row k c = record { column = c.0; below = c.1; is = λ d. get_or_default row c.0 d (Var k) c.1 ∙ c.2; other = λ e. cc }
+contains_stands row k c = record { column = c.0; cell = record { below = c.1; is = λ d. get_or_default row c.0 d (Var k) c.1 ∙ c.2 }; other = λ e. cc }
 
 pub stands_contains : (row : List Sym) (k : ℕ) (but : Option ℕ) → StandsElsewhere row k but → Contains row (Var k)
-stands_contains row k but s = (s.column, s.below, s.is (Var k))
+stands_contains row k but s = (s.column, s.cell.below, s.cell.is (Var k))
 
 pub cell_holds : (t : Tab) (m i c : ℕ) (x y : Sym) → All (λ row. length row ≡ t.width) t.rows → i < length t.rows → bit_at m i ≡ 1 → c < t.width → ((d : Sym) → get_or (get_or t.rows i []) c d ≡ x) → x ≡ y → HasSymbol t m i c y
 cell_holds t m i c x y widths low set wide is e = record {

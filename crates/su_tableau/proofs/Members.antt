@@ -27,3 +27,11 @@ without_same n k j small h ne =
     let e = bit_at_and n (bit_not w64 (1 * 2 ^ k % 2 ^ 64)) j in
     let r : bit_at (bit_and n (bit_not w64 (1 * 2 ^ k % 2 ^ 64))) j ≡ bit_at n j = omega arith in r)
     (cases_lt j 64)
+
+-- the members of a number below a power of two
+pub member_below : (m n i : ℕ) → m < 2 ^ n → bit_at m i ≡ 1 → i < n
+member_below m n i small one =
+    ⊎_elim
+    (λ (lt : i < n). lt)
+    (λ (le : n ≤ i). absurd (let z = bit_at_above m n i small le in omega arith))
+    (cases_lt i n)

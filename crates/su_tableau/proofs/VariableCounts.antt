@@ -1,11 +1,8 @@
 -- How often each variable was met, cell by cell and row by row, and what that says of essential columns.
-use Rattle.std.proofs.Common.{◌≡◌, ◌≢◌, ℕ, ◌+◌, ◌<◌, ◌≤◌, ◌↔◌, ◌⊎◌, inl, inr, List, [], ◌∷◌, ◌++◌, length, get_or, Contains, refl, sym, ap, ◌∙◌, subst, ⊎_elim, arith, set, get_or-set_other, get_or-set_same}
+use Rattle.std.proofs.Common.{◌≡◌, ◌≢◌, ℕ, ◌+◌, ◌<◌, ◌≤◌, ◌↔◌, ◌⊎◌, inl, inr, List, [], length, get_or, Contains, refl, sym, ap, ◌∙◌, subst, ⊎_elim, arith}
 use Rattle.std.specs.Int.{bit_at}
-use Rattle.std.specs.Ordering.{nat_cmp}
-use Rattle.std.specs.FinSet.{FinSet, empty}
 use Rattle.std.proofs.lemmas.Bool.{cases_eq, cases_lt}
-use Rattle.std.proofs.lemmas.List.{get_or_default, get_or_append_left}
-use Rattle.std.proofs.Math.Seq.{get_or-append_seam}
+use Rattle.std.proofs.lemmas.List.{get_or_default}
 use Rattle.su_base.specs.declared.values.Value.{Value}
 use Rattle.su_tableau.specs.declared.symbols.Sym.{Sym}
 use Rattle.su_tableau.specs.declared.symbols.Sym.TheVariants.{Const, Var}
@@ -13,7 +10,6 @@ use Rattle.su_tableau.specs.declared.occurrences.Times.{Times}
 use Rattle.su_tableau.specs.declared.occurrences.Times.TheVariants.{Never, Once, Again}
 use Rattle.su_tableau.specs.Tableaux.{Tab}
 use Rattle.su_tableau.specs.Essential.{HasSymbol, IsElsewhere, IsEssential, constant, in_head, twice}
-use Rattle.su_tableau.proofs.Rows.{below_more}
 use Rattle.su_tableau.specs.inside.Occurrences.{more, times_of, IsTwice, IsCount, CellHolds, IsBefore, AreCounted, AreTold, IsNotedAt, a_constant, a_variable}
 
 pub count_same : (H G : ℕ → ℕ → Type 0) → ((r c : ℕ) → H r c → G r c) → ((r c : ℕ) → G r c → H r c) → (x : Times) → IsCount H x → IsCount G x
@@ -189,17 +185,3 @@ cell_read t m i c row x low set is below read = record {
   in_set = set;
   cell = record { below = subst (λ r. c < length r) is below; is = λ d. ap (λ r. get_or r c d) (sym is) ∙ get_or_default row c d x below ∙ sym read };
 }
-
--- a fact of each entry below n, and of the one written at n
-pub set_written : (Q : ℕ → FinSet nat_cmp → Type 0) (xs : List (FinSet nat_cmp)) (n : ℕ) (v : FinSet nat_cmp) → n < length xs → ((i : ℕ) → i < n → Q i (get_or xs i empty)) → Q n v → (i : ℕ) → i < n + 1 → Q i (get_or (set xs n v) i empty)
-set_written Q xs n v low before here =
-    below_more (λ i. Q i (get_or (set xs n v) i empty)) n
-    (λ i l. subst (Q i) (sym (get_or-set_other xs n i v empty (omega arith))) (before i l))
-    (subst (Q n) (sym (get_or-set_same xs n v empty low)) here)
-
--- a fact of each entry, and of the one pushed
-pub set_pushed : (Q : ℕ → FinSet nat_cmp → Type 0) (xs : List (FinSet nat_cmp)) (n : ℕ) (v : FinSet nat_cmp) → length xs ≡ n → ((i : ℕ) → i < n → Q i (get_or xs i empty)) → Q n v → (i : ℕ) → i < n + 1 → Q i (get_or (xs ++ v ∷ []) i empty)
-set_pushed Q xs n v len before here =
-    below_more (λ i. Q i (get_or (xs ++ v ∷ []) i empty)) n
-    (λ i l. subst (Q i) (sym (get_or_append_left xs (v ∷ []) empty i (omega arith))) (before i l))
-    (subst (Q n) (sym (get_or-append_seam xs v [] empty) ∙ ap (λ k. get_or (xs ++ v ∷ []) k empty) len) here)

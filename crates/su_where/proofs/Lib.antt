@@ -1,3 +1,3 @@
 pub mod Disjunctive
-pub mod Keeps
+pub mod DisjunctTruth
 pub mod Layers

@@ -9,7 +9,7 @@ use Rattle.std.proofs.lemmas.List.FromFn.{length-map-range_with_len}
 use Rattle.su_base.specs.declared.values.Kind.{Kind}
 use Rattle.su_base.specs.declared.values.Value.{Value}
 use Rattle.su_base.specs.declared.values.Value.TheVariants.{Int}
-use Rattle.su_base.proofs.Items.{Contains-map, Contains-map_source, All-members, get_or-map_range, map-map_equal}
+use Rattle.su_base.proofs.Items.{Contains-map, Contains-map_source, All-members, get_or-map_range, map-map_equal, map-equal_at}
 use Rattle.su_fd.specs.declared.dependencies.Fd.{Fd}
 use Rattle.su_tableau.specs.declared.symbols.Sym.{Sym}
 use Rattle.su_tableau.specs.declared.symbols.Sym.TheVariants.{Const, Var}
@@ -17,7 +17,6 @@ use Rattle.su_tableau.specs.Valuations.{values_at, value_of, values_of}
 use Rattle.su_tableau.specs.Kinds.{IsTyped}
 use Rattle.su_tableau.specs.FrozenTableaux.{frozen, top, row_top, rows_top}
 use Rattle.su_tableau.proofs.FrozenTableaux.{frozen_typed, thawed, thawed_frozen}
-use Rattle.su_classes.proofs.Listed.{map_same}
 use Rattle.su_schema.specs.SchemaValue.{ObjectEntry}
 use Rattle.su_schema.specs.Entries.{attribute_kinds}
 use Rattle.su_state.specs.DatabaseValue.{DatabaseValue, IsWellKept}
@@ -179,7 +178,7 @@ module _ (db : DatabaseValue) (kept : IsWellKept db) (readings : List Reading) (
         let below : top (name (get_or row a (Var 0))) ≤ row_top (map name row) = subst (λ (x : Sym). top x ≤ row_top (map name row)) (map_read name row a (Var 0)) (top_at (map name row) a (name (Var 0)) (omega (arith, la, long, long_name))) in
         ap (thawed n) at ∙ thawed_frozen kind n (name (get_or row a (Var 0))) (omega (arith, below, high_row, high)) in
         let left : map (thawed n) (values_at attributes w) ≡ map (λ a. name (get_or row a (Var 0))) attributes =
-        map-map_equal (λ a. get_or w a (Int (pos 0))) (thawed n) (λ a. thawed n (get_or w a (Int (pos 0)))) (λ a. refl) attributes ∙ map_same (λ a. thawed n (get_or w a (Int (pos 0)))) (λ a. name (get_or row a (Var 0))) attributes read in
+        map-map_equal (λ a. get_or w a (Int (pos 0))) (thawed n) (λ a. thawed n (get_or w a (Int (pos 0)))) (λ a. refl) attributes ∙ map-equal_at (λ a. thawed n (get_or w a (Int (pos 0)))) (λ a. name (get_or row a (Var 0))) attributes read in
         (row, r.1, sym left ∙ ap (map (thawed n)) gives ∙ all_thawed kind n h old)
 
   pub some_fits : (universe : List (List Value)) × Fits db universe

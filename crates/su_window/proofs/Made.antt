@@ -1,18 +1,11 @@
 -- Lists that are made by a function of numbers.
-use Rattle.std.proofs.Common.{◌≡◌, ℕ, ◌<◌, List, map, length, get_or, Contains, sym, ◌∙◌, subst, arith}
+use Rattle.std.proofs.Common.{◌≡◌, ℕ, ◌<◌, map, length, get_or, Contains, sym, ◌∙◌, subst}
 use Rattle.std.specs.List.{range_with_len}
-use Rattle.std.proofs.lemmas.List.{ext_get_or}
-use Rattle.std.proofs.lemmas.List.FromFn.{length-map-range_with_len}
+use Rattle.std.proofs.lemmas.List.FromFn.{length-map-range_with_len, fill_by_all}
 use Rattle.su_base.proofs.Items.{get_or-map_range}
 
--- a list is made by a function that gives what stands at each place
-pub made_by : {X : Type 0} (f : ℕ → X) (n : ℕ) (d : X) (xs : List X) → length xs ≡ n → ((a : ℕ) → a < n → get_or xs a d ≡ f a) → xs ≡ map f (range_with_len 0 n)
-made_by f n d xs long at =
-    let made_long = length-map-range_with_len f 0 n in
-    ext_get_or d xs (map f (range_with_len 0 n)) (long ∙ sym made_long) (λ a l. let low : a < n = omega (arith, l, long) in at a low ∙ sym (get_or-map_range f n a d low))
-
 pub same_made : {X : Type 0} (f g : ℕ → X) (n : ℕ) (d : X) → ((a : ℕ) → a < n → f a ≡ g a) → map f (range_with_len 0 n) ≡ map g (range_with_len 0 n)
-same_made f g n d same = made_by g n d (map f (range_with_len 0 n)) (length-map-range_with_len f 0 n) (λ a l. get_or-map_range f n a d l ∙ same a l)
+same_made f g n d same = fill_by_all g (map f (range_with_len 0 n)) n d (length-map-range_with_len f 0 n) (λ a l. get_or-map_range f n a d l ∙ same a l)
 
 -- each member stands at some place
 pub of_made : {X : Type 0} (f : ℕ → X) (n : ℕ) (x : X) → Contains (map f (range_with_len 0 n)) x → (a : ℕ) × (a < n) × (f a ≡ x)

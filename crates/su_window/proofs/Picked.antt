@@ -6,17 +6,16 @@ use Rattle.std.specs.FinSet.{contains}
 use Rattle.std.proofs.lemmas.Bool.{cases_Bool, cases_lt}
 use Rattle.std.proofs.lemmas.List.{length-map, get_or_default, map-id}
 use Rattle.std.proofs.lemmas.List.Elements.{All-contains, Contains-get_or}
-use Rattle.std.proofs.lemmas.List.FromFn.{length-map-range_with_len}
+use Rattle.std.proofs.lemmas.List.FromFn.{length-map-range_with_len, fill_by_all}
 use Rattle.std.proofs.lemmas.Nat.{mod-mul-add, div-mul-add}
 use Rattle.su_base.specs.declared.values.Kind.{Kind}
 use Rattle.su_base.specs.declared.values.Value.{Value}
 use Rattle.su_base.specs.declared.values.Value.TheVariants.{Int}
 use Rattle.su_base.specs.Value.{kind_of}
-use Rattle.su_base.proofs.Items.{Contains-map, Contains-map_source, All-members, get_or-map_range, map-map_equal}
+use Rattle.su_base.proofs.Items.{Contains-map, Contains-map_source, All-members, get_or-map_range, map-map_equal, map-equal_at}
 use Rattle.su_tableau.specs.declared.symbols.Sym.{Sym}
 use Rattle.su_tableau.specs.declared.symbols.Sym.TheVariants.{Const, Var}
 use Rattle.su_tableau.specs.Valuations.{values_at, value_of, values_of, Sends}
-use Rattle.su_classes.proofs.Listed.{map_same}
 use Rattle.su_schema.specs.SchemaValue.{ObjectEntry}
 use Rattle.su_schema.specs.Entries.{attribute_kinds}
 use Rattle.su_state.specs.DatabaseValue.{DatabaseValue, IsWellKept}
@@ -33,7 +32,6 @@ use Rattle.su_window.specs.Members.{IsMember}
 use Rattle.su_window.specs.Padded.{object_at, row_read, member_read, IsReading, AreReadings, padded, padded_row, padded_rows}
 use Rattle.su_window.specs.inside.Readings.{AreConstants}
 use Rattle.su_schema.proofs.Cuts.{cut_agrees}
-use Rattle.su_window.proofs.Made.{made_by}
 use Rattle.su_window.proofs.Objects.{attributes_are}
 use Rattle.su_window.proofs.Rows.{none, reading_at, of_rows, row_length, constant_cell, variable_cell}
 
@@ -105,7 +103,7 @@ module _ (db : DatabaseValue) (kept : IsWellKept db) (readings : List Reading) (
   pub row_values : (i : ℕ) → i < length readings → values_of valuation (padded_row db i (reading_at readings i)) ≡ chosen i
   row_values i l =
       map-map_equal (padded db i (reading_at readings i)) (value_of valuation) (λ a. value_of valuation (padded db i (reading_at readings i) a)) (λ a. refl) (range_with_len 0 n)
-      ∙ sym (made_by (λ a. value_of valuation (padded db i (reading_at readings i) a)) n zero_value (chosen i) (universe_long (chosen i) (chosen_in i l)) (λ a low. sym (cell_value i a l low)))
+      ∙ sym (fill_by_all (λ a. value_of valuation (padded db i (reading_at readings i) a)) (chosen i) n zero_value (universe_long (chosen i) (chosen_in i l)) (λ a low. sym (cell_value i a l low)))
 
   pub sends : Sends valuation (padded_rows db readings) universe
   sends =
@@ -132,6 +130,6 @@ module _ (db : DatabaseValue) (kept : IsWellKept db) (readings : List Reading) (
       ∙ ap (λ (x : List Value). get_or x a zero_value) values in
       let left : map (value_of valuation) (map (λ a. name_by names (get_or row a (Var 0))) attributes) ≡ values_at attributes w =
       map-map_equal (λ a. name_by names (get_or row a (Var 0))) (value_of valuation) (λ a. value_of valuation (name_by names (get_or row a (Var 0)))) (λ a. refl) attributes
-      ∙ map_same (λ a. value_of valuation (name_by names (get_or row a (Var 0)))) (λ a. get_or w a zero_value) attributes value in
+      ∙ map-equal_at (λ a. value_of valuation (name_by names (get_or row a (Var 0)))) (λ a. get_or w a zero_value) attributes value in
       let right : map (value_of valuation) (map Const h) ≡ h = map-map_equal Const (value_of valuation) (λ x. x) (λ x. refl) h ∙ map-id h in
       (w, chosen_in i.0 i.1, sym left ∙ ap (map (value_of valuation)) constant ∙ right)

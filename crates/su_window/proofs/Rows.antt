@@ -6,7 +6,7 @@ use Rattle.std.specs.FinSet.{contains}
 use Rattle.std.proofs.lemmas.Bool.{cases_Bool, cond-true, cond-false}
 use Rattle.std.proofs.lemmas.List.{length-map}
 use Rattle.std.proofs.lemmas.List.Elements.{All-contains, Contains-get_or}
-use Rattle.std.proofs.lemmas.List.FromFn.{length-map-range_with_len}
+use Rattle.std.proofs.lemmas.List.FromFn.{length-map-range_with_len, fill_by_all}
 use Rattle.std.proofs.lemmas.Nat.{mod-mul-add}
 use Rattle.su_base.specs.declared.values.Kind.{Kind}
 use Rattle.su_base.specs.declared.values.Kind.TheVariants.{Int as IntKind}
@@ -26,7 +26,7 @@ use Rattle.su_window.specs.declared.readings.Reading.{Reading}
 use Rattle.su_schema.specs.Cuts.{width, attributes_at}
 use Rattle.su_state.specs.Views.{value_for}
 use Rattle.su_window.specs.Padded.{object_at, rows_under, row_read, IsReading, padded, padded_row, padded_rows}
-use Rattle.su_window.proofs.Made.{made_by, of_made, in_made}
+use Rattle.su_window.proofs.Made.{of_made, in_made}
 use Rattle.su_window.proofs.Objects.{attributes_are, value_is, kind_is}
 
 abbrev pub none : Reading
@@ -107,7 +107,7 @@ module _ (db : DatabaseValue) (kept : IsWellKept db) where
   row_kinds : (i : ℕ) (r : Reading) → IsReading db r → map (sym_kind kind_at) (padded_row db i r) ≡ kinds
   row_kinds i r is =
       map-map_equal (padded db i r) (sym_kind kind_at) (λ a. sym_kind kind_at (padded db i r a)) (λ a. refl) (range_with_len 0 (width db.schema))
-      ∙ sym (made_by (λ a. sym_kind kind_at (padded db i r a)) (width db.schema) IntKind kinds refl (λ a l. sym (cell_kind i r is a l)))
+      ∙ sym (fill_by_all (λ a. sym_kind kind_at (padded db i r a)) kinds (width db.schema) IntKind refl (λ a l. sym (cell_kind i r is a l)))
 
   pub typed : (readings : List Reading) → All (IsReading db) readings → IsTyped kinds (tableau db readings)
   typed readings each = record {

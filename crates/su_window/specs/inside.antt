@@ -1,2 +1,2 @@
--- Definitions that only contracts of private functions need.
+-- Definitions that only contracts of private functions and invariants of types need.
 pub mod Readings

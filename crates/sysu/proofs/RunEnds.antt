@@ -7,7 +7,7 @@ use Rattle.su_io.specs.Moments.{Moment}
 use Rattle.su_io.specs.FileEnds.{FileEnds}
 use Rattle.su_io.specs.Programs.{OneText}
 use Rattle.su_io.specs.WrittenTexts.{Wrote}
-use Rattle.su_io.proofs.Programs.{ReadingEnds-from, WritingEnds-from}
+use Rattle.su_io.proofs.Programs.{ReadingEnds-from, WritingEnds-from, Ends-map}
 use Rattle.su_io.proofs.WrittenTexts.{Wrote-none}
 use Rattle.su_schema.specs.SchemaValue.{SchemaValue}
 use Rattle.su_files.specs.Openings.{IsOpened, OpeningEnds}
@@ -31,19 +31,11 @@ has_refused names files WriteFault texts (came, text, (same, line), are) = inl (
 has_refused names files TooLong texts none = inl (none, refl, refl)
 has_refused names files NoMemory texts none = (([], inl (refl, refl, refl)), inl none)
 
+refused_has : (names : Named) (files : Option (List File)) (status : Status) (path : List ℕ) (limit : ℕ) (texts : List (List ℕ)) → (path ≡ names.schema) × (limit ≡ schema_limit) × OneText (Refuses names.schema files) status texts → RunHas names files status path limit texts
+refused_has names files status path limit texts (is, most, told) = rw (is, most) (has_refused names files status texts told)
+
 pub not_opened : (names : Named) (old new : Moment) (status : Status) → OpeningEnds names.schema old new (Err status) → RunEnds names old new status
-not_opened names old new status (inl ends) =
-    let (path, limit, told) = ends.holds in
-    inl record {
-      path = ends.path;
-      limit = ends.limit;
-      texts = ends.texts;
-      holds = rw (path, limit) (has_refused names old.files status ends.texts told);
-      begun = ends.begun;
-      reading = ends.reading;
-      writing = ends.writing;
-    }
-not_opened names old new status (inr none) = inr none
+not_opened names old new status = Ends-map (λ path limit texts holds. refused_has names old.files status path limit texts holds) old new status
 
 -- ---- a file that is due before anything is written
 

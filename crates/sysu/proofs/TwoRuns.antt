@@ -16,7 +16,8 @@ use Rattle.su_check.proofs.OneVerdict.{one_verdict}
 use Rattle.su_ddl.specs.declared.faults.DdlFault.{DdlFault}
 use Rattle.su_ddl.proofs.Files.{one_outcome}
 use Rattle.su_schema.specs.SchemaValue.{SchemaValue}
-use Rattle.su_show.specs.Refusals.{schema_line}
+use Rattle.su_show.specs.Refusals.{IsLineFor}
+use Rattle.su_show.proofs.RefusalLines.{one_schema_line}
 use Rattle.su_show.specs.Verdicts.{verdict_line}
 use Rattle.su_state.specs.DatabaseValue.{DatabaseValue}
 use Rattle.su_session.specs.declared.replies.Reply.{Reply}
@@ -44,7 +45,7 @@ status_of false = Done
 -- of a run: its replies, the line for its schema, or the texts before a file that is too long
 data Outcome (names : Named) (files : List AFile) (text : List ℕ) (status : Status) : Type 0 where
   finished : (replies : List Reply) → (last : DatabaseValue) → Answers names (Some files) replies last [] → text ≡ joined (reply_texts replies) → status ≡ status_of (some_refused replies) → Outcome names files text status
-  bad_schema : (fault : DdlFault) → SchemaIs names.schema (Some files) (Err fault) → text ≡ joined (schema_line fault ∷ []) → status ≡ BadSchema → Outcome names files text status
+  bad_schema : (fault : DdlFault) → (line : List ℕ) → IsLineFor fault line → SchemaIs names.schema (Some files) (Err fault) → text ≡ joined (line ∷ []) → status ≡ BadSchema → Outcome names files text status
   too_long : (texts : List (List ℕ)) → (path : List ℕ) → (limit : ℕ) → FallsDue names (Some files) texts path limit → limit < length (contents files path) → text ≡ joined texts → status ≡ TooLong → Outcome names files text status
 
 -- of a check
@@ -107,17 +108,18 @@ module _ (names : Named) (files : List AFile) where
   one_outcome_of_run text other s t (finished replies last answers is ends) (finished others db all same end) =
       let list = one_list_of_replies names files replies others last db answers all in
       (is ∙ ap (λ rs. joined (reply_texts rs)) list ∙ sym same, ends ∙ ap (λ rs. status_of (some_refused rs)) list ∙ sym end)
-  one_outcome_of_run text other s t (bad_schema fault refused is ends) (bad_schema also too same end) =
+  one_outcome_of_run text other s t (bad_schema fault line shown refused is ends) (bad_schema also next told too same end) =
       let one = same_fault fault also (read_once (Err fault) (Err also) refused too) in
-      (is ∙ ap (λ f. joined (schema_line f ∷ [])) one ∙ sym same, ends ∙ sym end)
+      let lines : line ≡ next = one_schema_line also line next (subst (λ (f : DdlFault). IsLineFor f line) one shown) told in
+      (is ∙ ap (λ (l : List ℕ). joined (l ∷ [])) lines ∙ sym same, ends ∙ sym end)
   one_outcome_of_run text other s t (too_long texts path limit due over is ends) (too_long also to most falls long same end) =
       (is ∙ ap joined (one_list_of_texts texts path limit also to most due over falls long) ∙ sym same, ends ∙ sym end)
-  one_outcome_of_run text other s t (finished replies last answers is ends) (bad_schema fault refused same end) = absurd (not_both answers.schema fault answers.read.accepted refused)
+  one_outcome_of_run text other s t (finished replies last answers is ends) (bad_schema fault line shown refused same end) = absurd (not_both answers.schema fault answers.read.accepted refused)
   one_outcome_of_run text other s t (finished replies last answers is ends) (too_long texts path limit due over same end) = absurd (not_finished replies last texts path limit answers due over)
-  one_outcome_of_run text other s t (bad_schema fault refused is ends) (finished replies last answers same end) = absurd (not_both answers.schema fault answers.read.accepted refused)
-  one_outcome_of_run text other s t (bad_schema fault refused is ends) (too_long texts path limit due over same end) = absurd (not_refused fault texts path limit refused due over)
+  one_outcome_of_run text other s t (bad_schema fault line shown refused is ends) (finished replies last answers same end) = absurd (not_both answers.schema fault answers.read.accepted refused)
+  one_outcome_of_run text other s t (bad_schema fault line shown refused is ends) (too_long texts path limit due over same end) = absurd (not_refused fault texts path limit refused due over)
   one_outcome_of_run text other s t (too_long texts path limit due over is ends) (finished replies last answers same end) = absurd (not_finished replies last texts path limit answers due over)
-  one_outcome_of_run text other s t (too_long texts path limit due over is ends) (bad_schema fault refused same end) = absurd (not_refused fault texts path limit refused due over)
+  one_outcome_of_run text other s t (too_long texts path limit due over is ends) (bad_schema fault line shown refused same end) = absurd (not_refused fault texts path limit refused due over)
 
 one_outcome_of_check : (files : List AFile) (file text other : List ℕ) (s t : Status) → Verdict files file text s → Verdict files file other t → (text ≡ other) × (s ≡ t)
 one_outcome_of_check files file text other s t (has_verdict came line h is ends) (has_verdict comes also k same end) =
@@ -152,7 +154,7 @@ module _ (files : List AFile) (words : List (List ℕ)) (old new : Moment) (file
     ran names Usage memory (inl ends) = absurd ends.holds
     ran names BadSchema memory (inl ends) =
         let (path, limit, (line, (fault, is, shown), are)) = ends.holds in
-        bad_schema fault (rw files_are at is) (appended_is ends.texts ends.writing.1 ∙ ap joined (are ∙ ap (λ (l : List ℕ). l ∷ []) shown)) refl
+        bad_schema fault line shown (rw files_are at is) (appended_is ends.texts ends.writing.1 ∙ ap joined are) refl
     ran names ReadFault memory (inl ends) = absurd (no_read ends.reading.0)
     ran names WriteFault memory (inl ends) = absurd (no_write ends.writing.0)
     ran names TooLong memory (inl ends) =

@@ -5,7 +5,7 @@ use Rattle.su_io.specs.declared.status.Status.TheVariants.{NoMemory}
 use Rattle.su_io.specs.Moments.{Moment}
 use Rattle.su_io.specs.Programs.{OneText}
 use Rattle.su_io.specs.FileEnds.{IsFile}
-use Rattle.su_io.specs.inside.Lines.{LineEnds}
+use Rattle.sysu.specs.inside.Lines.{LineEnds}
 use Rattle.su_io.proofs.OneText.{IsOwn, tells_of_file, no_memory}
 use Rattle.su_check.specs.declared.verdicts.Checked.{Checked}
 use Rattle.su_check.specs.declared.verdicts.Checked.TheVariants.{Yes, No}

@@ -1,6 +1,7 @@
--- Definitions that only contracts of private functions need.
+-- Definitions that only contracts of private functions and invariants of types need.
 pub mod Counts
 pub mod HandedFiles
+pub mod Lines
 pub mod Queries
 pub mod ScriptAnswers
 pub mod Steady

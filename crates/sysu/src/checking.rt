@@ -1,7 +1,7 @@
 //! The check of a certificate.
 ghost use Rattle.std.specs.Prelude.{◌≡◌, ◌≢◌};
 ghost use Rattle.su_io.specs.Moments.{Moment};
-ghost use Rattle.su_io.specs.inside.Lines.{LineEnds};
+ghost use Rattle.sysu.specs.inside.Lines.{LineEnds};
 ghost use Rattle.su_show.specs.Verdicts.{verdict_line};
 ghost use Rattle.sysu.specs.Checks.{CheckEnds, status_by};
 

@@ -1,5 +1,5 @@
 -- How a run ends, from how its schema is opened, its script is read and its SQL is told.
-use Rattle.std.proofs.Common.{◌≡◌, ◌≤◌, ◌⊎◌, ◌∙◌, ℕ, List, [], ◌∷◌, Option, Some, Ok, Err, Bool, true, false, refl, sym, ap, subst, inl, inr}
+use Rattle.std.proofs.Common.{◌≡◌, ◌≤◌, ◌∙◌, ℕ, List, [], ◌∷◌, Option, Some, Ok, Err, Bool, true, false, refl, sym, ap, subst, inl, inr}
 use Rattle.su_io.specs.declared.files.File.{File}
 use Rattle.su_io.specs.declared.status.Status.{Status}
 use Rattle.su_io.specs.declared.status.Status.TheVariants.{Done, SomeRefused, Usage, BadSchema, ReadFault, WriteFault, TooLong, NoMemory}
@@ -8,7 +8,7 @@ use Rattle.su_io.specs.Programs.{OneText}
 use Rattle.su_io.specs.FileEnds.{FileEnds}
 use Rattle.su_io.specs.WrittenTexts.{Wrote, IsTold}
 use Rattle.su_io.proofs.OneText.{IsOwn, one_of, own_of}
-use Rattle.su_io.proofs.Programs.{ReadingEnds-from, WritingEnds-from, read_within}
+use Rattle.su_io.proofs.Programs.{ReadingEnds-from, WritingEnds-from, Ends-map, read_within}
 use Rattle.su_io.proofs.WrittenTexts.{Wrote-none}
 use Rattle.su_schema.specs.SchemaValue.{SchemaValue}
 use Rattle.su_session.specs.declared.replies.Reply.{Reply}
@@ -34,18 +34,7 @@ says_refused names files TooLong texts none = none
 says_refused names files NoMemory texts none = none
 
 pub not_opened : (names : Named) (old new : Moment) (status : Status) → OpeningEnds names.schema old new (Err status) → RunEnds names old new status
-not_opened names old new status (inl ends) =
-    let (path, limit, told) = ends.holds in
-    inl record {
-      path = ends.path;
-      limit = ends.limit;
-      texts = ends.texts;
-      holds = (inl (path, limit), says_refused names old.files status ends.texts told);
-      begun = ends.begun;
-      reading = ends.reading;
-      writing = ends.writing;
-    }
-not_opened names old new status (inr none) = inr none
+not_opened names old new status = Ends-map (λ path limit texts holds. (inl (holds.0, holds.1), says_refused names old.files status texts holds.2)) old new status
 
 -- ---- the schema was opened, and the script's file begun
 

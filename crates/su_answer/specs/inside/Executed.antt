@@ -2,10 +2,8 @@
 -- kept term: one that the union of a query's terms keeps; m: a term with its kept rows and its fold; job: such a term over a database
 -- tables: the stored relations, by number; h: the values of a head; found: the rows that one join gives, none where they are too many
 -- No public contract cites this module.
-use Rattle.std.specs.Prelude.{◌≡◌, ◌↔◌, ◌⊎◌, List, Contains, MatchOption, Some, None}
-use Rattle.std.specs.List.Sorted.{IsStrictlySortedBy}
+use Rattle.std.specs.Prelude.{◌≡◌, ◌⊎◌, List, Contains, MatchOption, Some, None}
 use Rattle.su_base.specs.declared.values.Value.{Value}
-use Rattle.su_base.specs.Value.{compare_lists}
 use Rattle.su_rel.specs.Stored.{Stored}
 use Rattle.su_exec.specs.declared.tasks.Task.{Task}
 use Rattle.su_exec.specs.Outputs.{IsOutput, AreOutputs}
@@ -13,6 +11,7 @@ use Rattle.su_state.specs.DatabaseValue.{DatabaseValue}
 use Rattle.su_min.specs.Kept.{Minimised}
 use Rattle.su_answer.specs.declared.found.Found.{Found}
 use Rattle.su_answer.specs.Answers.{IsTermAnswer}
+use Rattle.su_rel.specs.ExactRows.{AreExactlyRows}
 use Rattle.su_rel.specs.MoreThan.{AreMoreThan}
 
 -- a task and the tables over which it is joined
@@ -30,9 +29,8 @@ pub record TermOver : Type 0 where
   pub minimal : Minimised
 
 -- exactly the term's answers, ascending
-pub record AreTermAnswers (db : DatabaseValue) (m : Minimised) (rows : List (List Value)) : Type 0 where
-  pub exact : (h : List Value) → Contains rows h ↔ IsTermAnswer db m h
-  pub ascending : IsStrictlySortedBy compare_lists rows
+abbrev pub AreTermAnswers : DatabaseValue → Minimised → List (List Value) → Type 0
+AreTermAnswers db m rows = AreExactlyRows (IsTermAnswer db m) rows
 
 -- the answers of a term, or there are more than there may be
 abbrev pub IsFoundFor : DatabaseValue → Minimised → Found → Type 0

@@ -10,7 +10,7 @@ use Rattle.su_lex.specs.declared.ends.LexEnd.{LexEnd}
 use Rattle.su_lex.specs.declared.ends.LexEnd.TheVariants.{Syntax, NoMemory}
 use Rattle.su_lex.specs.Wordings.{kind_symbol}
 use Rattle.su_tableau.specs.declared.symbols.Sym.{Sym}
-use Rattle.su_check.specs.declared.certificates.Term.{Term}
+use Rattle.su_check.specs.declared.certificates.StatedTerm.{StatedTerm}
 use Rattle.su_check.specs.declared.certificates.RowTree.{RowTree}
 use Rattle.su_check.specs.NodeSymbols.{number, sym_symbol, node_symbols}
 use Rattle.su_check.specs.Grammar.{row_line, tree_line, term_lines}
@@ -50,13 +50,13 @@ abbrev pub tree_before : RowTree → List Symbol → List Symbol
 tree_before t r = number t.row ∷ (node_symbols t.node ++ r)
 
 -- a term without its word, before what follows
-abbrev pub term_before : Term → List Symbol → List Symbol
+abbrev pub term_before : StatedTerm → List Symbol → List Symbol
 term_before x r =
     number x.number ∷ Word (codes "head") ∷ (map sym_symbol x.head ++ Word (codes "rows") ∷ (flat_map row_line x.rows
     ++ Word (codes "kept") ∷ (map number x.kept ++ Word (codes "fold") ∷ (map number x.fold ++ (flat_map tree_line x.trees ++ r)))))
 
 -- the symbols of a term
-abbrev pub term_symbols : Term → List Symbol
+abbrev pub term_symbols : StatedTerm → List Symbol
 term_symbols x = flat_map (λ line. line) (term_lines x)
 
 -- another term follows, or nothing

@@ -7,7 +7,7 @@ use Rattle.su_draw.specs.declared.reading.Fault.{Fault}
 use Rattle.su_draw.specs.declared.reading.Fault.TheVariants.{Line as AtLine, NoMemory}
 use Rattle.su_draw.specs.LineFaults.{IsLineAtFault}
 
--- the fault is a line's, where it isn't want of memory
+-- the fault is a line's; want of memory is none
 abbrev pub IsFaultAmong : List Piece → Fault → Type 0
 IsFaultAmong pieces (AtLine number) = IsLineAtFault pieces number
-IsFaultAmong pieces NoMemory = Unit {0}
+IsFaultAmong pieces NoMemory = ⊥

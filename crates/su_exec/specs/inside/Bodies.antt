@@ -1,7 +1,7 @@
 -- What merging a body comes to.
 -- body: edges that are to agree, and checks that are to hold of the values that codes stand for
 -- No public contract cites this module.
-use Rattle.std.specs.Prelude.{◌≡◌, ◌<◌, ◌≤◌, ◌⊎◌, ℕ, Bool, true, false, Option, Some, List, [], ◌∷◌, ◌++◌, map, length, slice_index_or}
+use Rattle.std.specs.Prelude.{◌≡◌, ◌<◌, ◌⊎◌, ℕ, Bool, true, false, Option, Some, List, [], ◌∷◌, ◌++◌, map, length, slice_index_or}
 use Rattle.su_exec.specs.declared.checks.Check.{Check}
 use Rattle.su_exec.specs.declared.merging.End.{End}
 use Rattle.su_exec.specs.declared.merging.End.TheVariants.{Empty, One, Past as Gone}

@@ -3,7 +3,7 @@
 -- cells: the symbols of a row; firsts: for each variable the cell where it stands first; columns: of a source, one for each cell
 -- v: a valuation; h: a value for each variable of a row
 -- No public contract cites this module.
-use Rattle.std.specs.Prelude.{◌≡◌, ◌⊎◌, ◌↔◌, ℕ, pos, true, Option, MatchOption, List, Vec, [], map, length, slice_index_or, All, Contains}
+use Rattle.std.specs.Prelude.{◌≡◌, ◌⊎◌, ◌↔◌, ℕ, pos, true, Option, MatchOption, List, Vec, map, length, slice_index_or, All, Contains}
 use Rattle.std.specs.declared.alloc.Global.{Global}
 use Rattle.su_base.specs.declared.values.Value.{Value}
 use Rattle.su_base.specs.declared.values.Value.TheVariants.{Int}

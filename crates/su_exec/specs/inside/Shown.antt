@@ -3,7 +3,7 @@
 -- edge: variables, and the rows that they may have together; es, fs, e, g: edges; v: a code for each variable; h: a value for each term
 -- merged body: edges made one; over: there is more than was asked for; nothing: no valuation fits it
 -- No public contract cites this module.
-use Rattle.std.specs.Prelude.{◌≡◌, ◌<◌, ◌≤◌, ◌++◌, ◌⊎◌, ◌↔◌, ℕ, true, List, [], ◌∷◌, map, length, Contains}
+use Rattle.std.specs.Prelude.{◌≡◌, ◌<◌, ◌++◌, ◌⊎◌, ◌↔◌, ℕ, true, List, [], ◌∷◌, map, length, Contains}
 use Rattle.std.specs.List.{AllZip}
 use Rattle.std.specs.List.Sorted.{IsStrictlySortedBy}
 use Rattle.su_base.specs.Value.{compare_lists}

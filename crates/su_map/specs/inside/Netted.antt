@@ -1,17 +1,12 @@
 -- The tables of a search, as its contracts see them.
--- base: which targets have a row's constants; near: which targets go with one of another row
--- No public contract cites this module. A room holds such tables, and whoever searches in it need not open them.
-use Rattle.std.specs.Prelude.{ℕ, ◌+◌, ◌*◌, ◌≤◌, List, get_or, length}
+-- base: the targets of a row by itself; near: the rows that may share a variable with it
+-- agree: the targets of another row that go with one of its own
+-- No public contract cites this module.
+use Rattle.std.specs.Prelude.{ℕ, ◌+◌, ◌*◌, ◌≤◌, get_or, length}
 use Rattle.su_tableau.specs.Tableaux.{Tab}
 use Rattle.su_map.specs.Lists.{row_of}
+pub use Rattle.su_map.specs.Netted.{Netted}
 use Rattle.su_map.specs.Candidates.{KeepsConstants, MapAlike}
-
--- for each row a set of targets, a set of rows with which it shares a variable, and for each of these and each target the targets of that row which agree
-pub record Netted : Type 0 where
-  pub base : List ℕ
-  pub near : List ℕ
-  pub agree : List ℕ
-  pub targets : ℕ
 
 -- the targets that row r may have by itself
 abbrev pub base_of : Netted → ℕ → ℕ

@@ -1,5 +1,6 @@
 -- The edges so far are those of the rows so far, one for each, and what was fetched is at most their shares.
 use Rattle.std.proofs.Common.{◌≡◌, ◌<◌, ◌≤◌, ◌+◌, List, length, get_or, sym, ap, subst, ◌∙◌}
+use Rattle.su_base.proofs.Items.{AllZip-more}
 use Rattle.su_rel.specs.Stored.{Stored}
 use Rattle.su_reduce.specs.declared.edges.Edge.{Edge}
 use Rattle.su_exec.specs.declared.tasks.TaskRow.{TaskRow}
@@ -7,7 +8,6 @@ use Rattle.su_exec.specs.Tasks.{HasSources}
 use Rattle.su_exec.specs.Shares.{row_share}
 use Rattle.su_answer.specs.inside.Alone.{AreCountable, IsEdgeOf}
 use Rattle.su_answer.proofs.Single.{one_more_share, all_shares}
-use Rattle.su_answer.proofs.PairedLists.{zip_more}
 use Rattle.su_answer.proofs.alone.candidates.Goals as goal
 
 pub edge_of-requires-clause-sources : goal.edge_of-requires-clause-sources
@@ -43,7 +43,7 @@ loop-row-preserved g c =
       tables = c.in_ok-edge.ensures.tables ∙ c.loop-row.invariant.tables;
       fetches = one_more_share T rows i row (g.R.Rows.fetches c.args.rows.now) (g.R.Rows.fetches c.loop-row.rows) (g.R.Rows.fetches c.edge_of.new.rows) at low c.loop-row.invariant.fetches
           (subst (λ (ts : List Stored). g.R.Rows.fetches c.edge_of.new.rows ≤ g.R.Rows.fetches c.loop-row.rows + row_share ts row) c.loop-row.invariant.tables c.in_ok-edge.ensures.fetches);
-      edges = zip_more (IsEdgeOf T) rows c.loop-row.edges c.push.new.self i row edge low at c.loop-row.invariant.edges (subst (λ (ts : List Stored). IsEdgeOf ts row edge) c.loop-row.invariant.tables c.in_ok-edge.ensures.edge) c.in_ok-push.ensures.ok;
+      edges = AllZip-more (IsEdgeOf T) rows c.loop-row.edges c.push.new.self i row edge low at c.loop-row.invariant.edges (subst (λ (ts : List Stored). IsEdgeOf ts row edge) c.loop-row.invariant.tables c.in_ok-edge.ensures.edge) c.in_ok-push.ensures.ok;
     }
 
 pub returns-in_err-edge-clause-fetches : goal.returns-in_err-edge-clause-fetches

@@ -5,7 +5,7 @@ use Rattle.su_schema.specs.Entries.{attribute_kinds}
 use Rattle.su_tableau.specs.Tableaux.{Tab, IsValid, IsSmall}
 use Rattle.su_exec.specs.Tasks.{IsTask}
 use Rattle.su_answer.specs.Joined.{IsTaskOf}
-use Rattle.su_answer.proofs.Fits.{task_fits}
+use Rattle.su_answer.proofs.PartTasks.{task_fits}
 use Rattle.su_answer.proofs.executing.task_for.Goals as goal
 use Rattle.su_answer.proofs.executing.task_for.Goals.{In_ok-task}
 

@@ -1,15 +1,10 @@
 -- A row's candidates come from relations whose sizes are limited, so that there are never more than 64 bits can count.
-use Rattle.std.proofs.Common.{All, subst, arith}
+use Rattle.std.proofs.Common.{All, arith}
 use Rattle.su_base.proofs.Items.{All-members}
-use Rattle.su_schema.specs.SchemaValue.{SchemaValue}
-use Rattle.su_schema.specs.Entries.{attribute_kinds}
-use Rattle.su_tableau.specs.Tableaux.{Tab, IsValid, IsSmall}
 use Rattle.su_map.specs.Lists.{row_numbers}
-use Rattle.su_exec.specs.Tasks.{IsTask}
-use Rattle.su_answer.specs.Joined.{IsTaskRowOf, IsTaskOf}
+use Rattle.su_answer.specs.Joined.{IsTaskRowOf}
 use Rattle.su_answer.specs.inside.Alone.{AreCountable}
 use Rattle.su_answer.proofs.Few.{never_more}
-use Rattle.su_answer.proofs.Fits.{task_fits}
 use Rattle.su_answer.proofs.PairedLists.{zip_second}
 use Rattle.su_answer.proofs.supporting.kept_task.Goals as goal
 use Rattle.su_answer.proofs.supporting.kept_task.Goals.{In_ok-task}

@@ -1,6 +1,6 @@
 -- Each row so far was found among the others, so after the last all of them are.
 use Rattle.std.proofs.Common.{arith}
-use Rattle.su_answer.proofs.Among.{among_more, all_among}
+use Rattle.su_answer.proofs.RowsAmong.{among_more, all_among}
 use Rattle.su_answer.proofs.uniting.are_among.Goals as goal
 
 pub loop-row-preserved : goal.loop-row-preserved

@@ -1,4 +1,4 @@
-use Rattle.su_answer.proofs.Among.{AreAmong}
+use Rattle.su_answer.proofs.RowsAmong.{AreAmong}
 use Rattle.su_answer.proofs.uniting.are_among.Given as goal
 
 abbrev pub invariant-loop-row : goal.invariant-loop-row

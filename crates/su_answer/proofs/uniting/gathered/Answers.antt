@@ -1,12 +1,10 @@
 -- The rows so far and those of the lists that are left are together what was asked for; a missing list is one of them.
-use Rattle.std.proofs.Common.{◌≡◌, ◌⊎◌, inl, inr, List, Contains, Result, None, sym, subst}
+use Rattle.std.proofs.Common.{◌≡◌, inl, inr, List, Result, sym, subst}
 use Rattle.std.specs.Prelude.{IfErr}
 use Rattle.std.proofs.lemmas.Result.{err_from_is_err_and}
 use Rattle.su_base.specs.declared.values.Value.{Value}
-use Rattle.su_answer.specs.declared.found.Found.{Found}
 use Rattle.su_answer.specs.declared.faults.AnswerFault.{AnswerFault}
 use Rattle.su_answer.specs.declared.faults.AnswerFault.TheVariants.{Limit}
-use Rattle.su_rel.specs.MoreThan.{AreMoreThan}
 use Rattle.su_answer.specs.inside.Executed.{ArePastLimit}
 use Rattle.su_answer.proofs.FoundLists.{begun, one_list, all_rows, all_some, last_in, rows_ascend, too_many}
 use Rattle.su_answer.proofs.uniting.gathered.Goals as goal

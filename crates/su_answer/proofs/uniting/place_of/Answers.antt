@@ -1,6 +1,6 @@
 -- The row at the place compares as equal, and rows that compare so are the same row.
 use Rattle.std.proofs.Common.{◌<◌, ◌∙◌, length, sym, arith}
-use Rattle.su_answer.proofs.Among.{at_place}
+use Rattle.su_answer.proofs.RowsAmong.{at_place}
 use Rattle.su_answer.proofs.uniting.place_of.Goals as goal
 
 pub returns-in-Equal : goal.returns-in-Equal

@@ -1,5 +1,5 @@
 -- What closing asks of rows and dependencies was tested before it.
-use Rattle.std.proofs.Common.{◌≤◌, refl, length, arith}
+use Rattle.std.proofs.Common.{refl, arith}
 use Rattle.su_chase_tests.proofs.tests.closed.Goals as goal
 
 pub close-requires : goal.close-requires

@@ -1,5 +1,5 @@
 -- The table has as many items as the bound that the pairs and the rows were tested against, so the tests give what closing asks.
-use Rattle.std.proofs.Common.{◌≡◌, ◌<◌, ℕ, length, refl, sym, subst, arith}
+use Rattle.std.proofs.Common.{◌≡◌, ◌<◌, ℕ, length, refl, subst, arith}
 use Rattle.std.specs.Prelude.{All}
 use Rattle.su_classes.specs.Items.{IsPlacedBelow}
 use Rattle.su_classes_tests.proofs.tests.closed.Goals as goal

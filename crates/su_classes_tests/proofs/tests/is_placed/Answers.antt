@@ -1,5 +1,5 @@
 -- The attributes that the row has were tested to be below its width, and at each of these its item to be below the bound.
-use Rattle.std.proofs.Common.{◌≡◌, ◌<◌, length, refl, arith}
+use Rattle.std.proofs.Common.{refl, arith}
 use Rattle.su_classes_tests.proofs.tests.is_placed.Goals as goal
 
 pub returns : goal.returns

@@ -4,7 +4,7 @@ use Rattle.su_base.specs.declared.values.Kind.{Kind}
 use Rattle.su_schema.specs.Entries.{attribute_kinds}
 use Rattle.su_tableau.specs.Kinds.{IsUniverse}
 use Rattle.su_compare.proofs.Members.{ext_included, universe_included, meets_included}
-use Rattle.su_compare.proofs.Apart.{AreAll, chased_avoided, none_left, shown_is}
+use Rattle.su_compare.proofs.UnmappedRows.{AreAll, chased_avoided, none_left, shown_is}
 use Rattle.su_compare.proofs.shown.show_apart.Goals as goal
 
 pub returns-clause-shown : goal.returns-clause-shown

@@ -2,7 +2,7 @@
 use Rattle.std.proofs.Common.{◌∙◌, ap, sym}
 use Rattle.su_csv.specs.File.{reading}
 use Rattle.su_csv.specs.Written.{text_of}
-use Rattle.su_csv.proofs.Back.{reads-back}
+use Rattle.su_csv.proofs.WrittenRows.{reads-back}
 use Rattle.su_csv.proofs.writing.write_behind.Goals as goal
 
 pub returns-in-Ok-clause-reads_back : goal.returns-in-Ok-clause-reads_back

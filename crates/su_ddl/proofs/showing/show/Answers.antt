@@ -3,7 +3,7 @@ use Rattle.std.proofs.Common.{◌<◌, ◌^◌, length, ◌∙◌, map, sym, sub
 use Rattle.std.specs.Prelude.{Ok}
 use Rattle.su_ddl.specs.Files.{Reads}
 use Rattle.su_ddl.specs.ShownDefinitions.{attribute_definition, relation_definition, object_definition, fd_definition, maximal_definition}
-use Rattle.su_ddl.proofs.Again.{read_again}
+use Rattle.su_ddl.proofs.SameSchema.{read_again}
 use Rattle.su_ddl.proofs.Lines.{five_kinds}
 use Rattle.su_ddl.proofs.Short.{text_short}
 use Rattle.su_ddl.proofs.showing.show.Goals as goal

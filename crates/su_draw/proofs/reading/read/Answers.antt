@@ -1,5 +1,5 @@
 -- A line that can't stand there is the first one, since those before it were read; a text that ends too soon is at fault in the line behind its last.
-use Rattle.std.proofs.Common.{◌≡◌, ◌&&◌, Bool, subst, false, IfErr}
+use Rattle.std.proofs.Common.{◌≡◌, ◌&&◌, Bool, subst, false, IfErr, inl, inr}
 use Rattle.su_draw.specs.Order.{may_end}
 use Rattle.su_draw.specs.declared.reading.Fault.TheVariants.{Line as AtLine}
 use Rattle.su_draw.proofs.Readings.{line_fault, end_fault}
@@ -12,4 +12,7 @@ returns-in-Ok-clause-fault c =
     end_fault c.args.text.now cut c.in_ok-cut.ensures.cut c.ended.result c.in-Ok.lines c.in-Ok.state c.in-Ok.ensures.read (subst P c.is_whole-whole.ensures c.ended.ensures.fault)
 
 pub returns-clause-fault : goal.returns-clause-fault
-returns-clause-fault c = line_fault c.args.text.now c.in_ok-cut.cut c.in_ok-cut.ensures.cut c.in-Err.fault c.in-Err.ensures.fault
+returns-clause-fault c = elim c.in-Err.ensures.fault [
+  | inl memory ↦ inl memory
+  | inr fault ↦ inr (line_fault c.args.text.now c.in_ok-cut.cut c.in_ok-cut.ensures.cut c.in-Err.fault fault)
+]

@@ -1,10 +1,11 @@
 -- The rows found are the values of the terms in each row of the edge, so that sorted, each once, they are what it shows; more than the cap of them are that many different ones.
 use Rattle.std.proofs.Common.{◌≡◌, List, ℕ, length, map, Contains, sym, ap, subst, ◌∙◌, arith}
 use Rattle.su_base.specs.declared.values.Value.{Value}
+use Rattle.su_rel.proofs.MoreThan.{AreMoreThan-ascending}
 use Rattle.su_exec.specs.inside.Edges.{Edge}
-use Rattle.su_exec.specs.inside.Shown.{AreSpotsOf, spot_values}
+use Rattle.su_exec.specs.inside.Shown.{AreSpotsOf, IsShown, spot_values}
 use Rattle.su_exec.specs.declared.checks.Spot.{Spot}
-use Rattle.su_exec.proofs.Outputs.{shown, shows_more, spots_within}
+use Rattle.su_exec.proofs.Outputs.{shown, spots_within}
 use Rattle.su_exec.proofs.answering.answers.Goals as goal
 
 pub rows_at-requires : goal.rows_at-requires
@@ -38,6 +39,6 @@ returns-then-len-cap-clause-more c = λ fault.
     let rows : List (List Value) = c.sorted_rows-rows.result in
     let many = c.if-len-cap.true in
     let len : c.len.result ≡ length rows = search (c.len.ensures) in
-    shows_more values e c.args.outputs.now c.args.cap rows c.sorted_rows-rows.ensures.ascending
+    AreMoreThan-ascending c.args.cap (IsShown values e c.args.outputs.now) rows c.sorted_rows-rows.ensures.ascending
     (λ h x. (shown values e c.args.outputs.now spots c.rows.ensures.real are h).0 (subst (λ (rows : List (List Value)). Contains rows h) found ((c.sorted_rows-rows.ensures.members h).0 x)))
     (omega arith)

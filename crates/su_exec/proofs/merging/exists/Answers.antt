@@ -6,7 +6,7 @@ use Rattle.su_exec.specs.declared.checks.Check.{Check}
 use Rattle.su_exec.specs.inside.Checks.{all_hold}
 use Rattle.su_exec.specs.inside.Edges.{Edge, Fits, FitsAll, Keeps, always}
 use Rattle.su_exec.proofs.PartSteps.{keeps_trans}
-use Rattle.su_exec.proofs.Over.{some_told}
+use Rattle.su_exec.proofs.MoreAnswers.{some_told}
 use Rattle.su_exec.proofs.merging.exists.Goals as goal
 
 pub returns-then-is_empty : goal.returns-then-is_empty

@@ -5,7 +5,7 @@ use Rattle.su_exec.specs.inside.Bodies.{AreThere}
 use Rattle.su_exec.specs.inside.Checks.{all_hold}
 use Rattle.su_exec.specs.inside.Edges.{Edge, FitsAll, Keeps}
 use Rattle.su_exec.proofs.PartSteps.{keeps_trans}
-use Rattle.su_exec.proofs.Over.{empty_back, past_is}
+use Rattle.su_exec.proofs.MoreAnswers.{empty_back, past_is}
 use Rattle.su_exec.proofs.merging.merge_down.Goals as goal
 
 pub loop-alloc-init : goal.loop-alloc-init

@@ -7,7 +7,7 @@ use Rattle.su_exec.specs.inside.Edges.{Edge, Keeps, always}
 use Rattle.su_exec.specs.declared.merging.Merged.{Merged}
 use Rattle.su_exec.specs.declared.merging.Merged.TheVariants.{Whole, Nothing}
 use Rattle.su_exec.proofs.PartSteps.{keeps_trans}
-use Rattle.su_exec.proofs.Over.{merged_back, told_is}
+use Rattle.su_exec.proofs.MoreAnswers.{merged_back, told_is}
 use Rattle.su_exec.proofs.merging.run.Goals as goal
 use Rattle.su_exec.proofs.merging.run.Goals.{In_ok-end}
 

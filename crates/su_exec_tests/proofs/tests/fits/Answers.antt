@@ -23,7 +23,9 @@ returns c =
     record {
       few = few;
       sources = sources;
-      outputs = λ k there. All-contains given task.outputs (Var k) outputs there k refl;
-      left = λ d k there is. (All-contains both task.comparisons d compared there).0 k is;
-      right = λ d k there is. (All-contains both task.comparisons d compared there).1 k is;
+      occur = record {
+        outputs = λ k there. All-contains given task.outputs (Var k) outputs there k refl;
+        left = λ d k there is. (All-contains both task.comparisons d compared there).0 k is;
+        right = λ d k there is. (All-contains both task.comparisons d compared there).1 k is;
+      };
     })

@@ -34,4 +34,4 @@ returns-clause-ends g c =
     let shelf = c.in_ok-bytes.ensures.rest in
     refusal_told c.args.path c.args.outside.now c.read.new.self _ c.as_slice.result.now (rw c.as_slice.ensures first.2)
     first.0 (ap (λ (m : Moment). m.begun) shelf) first.1 (ap (λ (m : Moment). m.told) shelf) (ap (λ (m : Moment). m.writes) shelf)
-    c.in-Err.fault c.in-Err.ensures.fault c.tell_refusal.result c.tell_refusal.ensures.told c.tell_refusal.ensures.ends
+    c.in-Err.fault c.in-Err.ensures.fault c.tell_refusal.result c.tell_refusal.ensures

@@ -1,5 +1,5 @@
 -- The choices into the masked targets are those from the domains that are begun and narrowed, over as many rows as there are: what the search finds there, first or none, is what there is at all.
-use Rattle.std.proofs.Common.{◌≡◌, ◌+◌, ◌*◌, ◌<◌, ◌≤◌, ◌∙◌, ℕ, length, map, take, sym, ap, subst, arith}
+use Rattle.std.proofs.Common.{◌≡◌, ◌*◌, ◌<◌, ◌≤◌, ◌∙◌, length, map, take, sym, ap, subst, arith}
 use Rattle.std.proofs.lemmas.List.{length-take-le}
 use Rattle.su_map.specs.Lists.{numbers_of}
 use Rattle.su_map.specs.inside.Netted.{HasRoom}

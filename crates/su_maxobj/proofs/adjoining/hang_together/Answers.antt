@@ -1,7 +1,7 @@
 -- Sets that share nothing don't hang together, and others do exactly where no objects lead from one to the other outside the closure of what they share.
 use Rattle.std.proofs.Common.{sym, refl, ◌∙◌}
 use Rattle.std.proofs.lemmas.Bool.{false≢true}
-use Rattle.su_maxobj.proofs.Together.{not_sharing, hang_by}
+use Rattle.su_maxobj.proofs.HangingSets.{not_sharing, hang_by}
 use Rattle.su_maxobj.proofs.adjoining.hang_together.Goals as goal
 
 pub returns-then-is_empty : goal.returns-then-is_empty

@@ -1,7 +1,7 @@
 -- An object may join where it isn't a member and hangs together with the attributes of the members, which are given.
 use Rattle.std.proofs.Common.{sym}
 use Rattle.su_maxobj.proofs.Members.{object_at_read}
-use Rattle.su_maxobj.proofs.Together.{joins_by}
+use Rattle.su_maxobj.proofs.HangingSets.{joins_by}
 use Rattle.su_maxobj.proofs.adjoining.joins.Goals as goal
 
 pub returns : goal.returns

@@ -3,7 +3,7 @@ use Rattle.std.proofs.Common.{◌≡◌, ◌∷◌, ◌++◌, [], sym, refl, ap,
 use Rattle.std.proofs.lemmas.Result.{err_from_is_err_and, IfOk-weaker}
 use Rattle.su_query.specs.inside.ReadConditions as g
 use Rattle.su_lex.specs.declared.ends.LexEnd.TheVariants.{Syntax}
-use Rattle.su_query.specs.inside.ReadConditions.{ReadsOrs, ReadsAnds, ReadsFactor, ReadsPrimary, ReadsComparison}
+use Rattle.su_query.specs.inside.ReadConditions.{ReadsFactor, ReadsPrimary, ReadsComparison}
 use Rattle.su_query.proofs.Steps.{or_first, or_first_only, or_next, or_next_only, or_next_none, or_last, or_all, or_parts, and_first, and_first_only, and_next, and_next_only, and_next_none, and_last, and_all, and_parts, not_none, open_none, close_none, compared_none, shorter_step}
 use Rattle.su_query.proofs.conds.+reader.Goals as goal
 

@@ -1,8 +1,8 @@
 -- Each mark so far tells whether its row was marked and has one of the keys; a mark more leaves those before it at their places.
 use Rattle.std.proofs.Common.{◌↔◌, ℕ, Bool, [], false, IsTrue, get_or, arith}
+use Rattle.su_base.proofs.Items.{get_or-push_each, length-push}
 use Rattle.su_reduce.specs.Sheets.{pick}
 use Rattle.su_reduce.specs.inside.Partnered.{HasKey}
-use Rattle.su_reduce.proofs.MeetingSets.{pushed_each, pushed_length}
 use Rattle.su_reduce.proofs.partners.marks_by.Goals as goal
 
 pub loop-i-preserved : goal.loop-i-preserved
@@ -13,8 +13,8 @@ loop-i-preserved c =
     let inv = c.loop-i.invariant in
     let has : Bool = c.in_ok-has.has in
     rw c.in_ok-push.ensures.items (record {
-      long = pushed_length c.loop-i.marks.items has i inv.long;
-      each = pushed_each (λ (p : ℕ) (m : Bool). IsTrue m ↔ (IsTrue (get_or side.marks.now p false) × HasKey keys (pick side.key.now (get_or side.rows.now.rows p [])))) false c.loop-i.marks.items has i inv.long inv.each c.in_ok-has.ensures;
+      long = length-push c.loop-i.marks.items has i inv.long;
+      each = get_or-push_each (λ (p : ℕ) (m : Bool). IsTrue m ↔ (IsTrue (get_or side.marks.now p false) × HasKey keys (pick side.key.now (get_or side.rows.now.rows p [])))) false c.loop-i.marks.items has i inv.long inv.each c.in_ok-has.ensures;
     })
 
 pub returns-clause-exact : goal.returns-clause-exact

@@ -2,7 +2,7 @@
 use Rattle.std.proofs.Common.{◌≡◌, ◌-◌, List, take, drop, length, take_all, ap, ◌∙◌, arith}
 use Rattle.std.proofs.lemmas.List.{length-drop}
 use Rattle.su_reduce.specs.declared.edges.Ear.{Ear}
-use Rattle.su_reduce.proofs.Along.{first_low, next_low, later_ears, later_within, reduced}
+use Rattle.su_reduce.proofs.EarSteps.{first_low, next_low, later_ears, later_within, reduced}
 use Rattle.su_reduce.proofs.reducing.+reduce_along.Goals as goal
 
 pub semijoin-requires-clause-below : goal.semijoin-requires-clause-below

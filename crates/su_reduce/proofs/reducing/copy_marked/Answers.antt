@@ -1,7 +1,7 @@
 -- The copies are the marked ones among the rows so far, and a row more is copied or left out as its mark says.
 use Rattle.std.proofs.Common.{[], get_or, sym, ◌∙◌}
 use Rattle.std.proofs.lemmas.List.{get_or_default}
-use Rattle.su_reduce.proofs.Along.{marked_in, marked_out}
+use Rattle.su_reduce.proofs.EarSteps.{marked_in, marked_out}
 use Rattle.su_reduce.proofs.reducing.copy_marked.Goals as goal
 use Rattle.su_reduce.proofs.reducing.copy_marked.Goals.{then-marks-p+in_ok-copy_row+in_ok-push, else-marks-p}
 

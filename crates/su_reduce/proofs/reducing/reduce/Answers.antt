@@ -5,7 +5,7 @@ use Rattle.su_reduce.specs.Ears.{numbers}
 use Rattle.su_reduce.specs.Left.{candidates_at, marked}
 use Rattle.su_reduce.specs.inside.Marks.{marks_at}
 use Rattle.su_reduce.specs.inside.Reduced.{AreReduced}
-use Rattle.su_reduce.proofs.Along.{within_edges, are_left}
+use Rattle.su_reduce.proofs.EarSteps.{within_edges, are_left}
 use Rattle.su_reduce.proofs.reducing.reduce.Goals as goal
 
 pub reduce_along-requires-clause-within : goal.reduce_along-requires-clause-within

@@ -1,11 +1,11 @@
 -- Each sheet so far codes its edge by the codes of now, for codes that come later change none before; at the end all sheets share one list of values that differ.
 use Rattle.std.proofs.Common.{◌≡◌, ◌∙◌, List, ℕ, [], length, subst, arith}
 use Rattle.su_base.specs.declared.values.Value.{Value}
+use Rattle.su_base.proofs.Items.{get_or-push_each, length-push}
 use Rattle.su_reduce.specs.declared.edges.Edge.{Edge}
 use Rattle.su_reduce.specs.Left.{edge_at, candidates_at, cells_at}
 use Rattle.su_reduce.specs.Sheets.{Rows}
 use Rattle.su_reduce.specs.inside.Coded.{IsSheetOf, sheet_at}
-use Rattle.su_reduce.proofs.MeetingSets.{pushed_each, pushed_length}
 use Rattle.su_reduce.proofs.Candidates.{edge_is}
 use Rattle.su_reduce.proofs.CodeRows.{rows_up}
 use Rattle.su_reduce.proofs.sheeting.sheets_of.Goals as goal
@@ -21,8 +21,8 @@ loop-edge-preserved c =
     let olds_are : List Rows = c.loop-edge.sheets.items in
     let is = edge_is edges n c.edge-item.result c.loop-edge-test.true c.edge-item.is in
     rw c.in_ok-push.ensures.items (record {
-      long = pushed_length olds_are new n inv.long;
-      each = pushed_each (λ (i : ℕ) (s : Rows). IsSheetOf news (edge_at edges i) s) (record { width = 0; rows = [] }) olds_are new n inv.long
+      long = length-push olds_are new n inv.long;
+      each = get_or-push_each (λ (i : ℕ) (s : Rows). IsSheetOf news (edge_at edges i) s) (record { width = 0; rows = [] }) olds_are new n inv.long
           (λ i l. rows_up olds news c.in_ok-sheet.ensures.codes (candidates_at edges i) (length (cells_at edges i)) (length (candidates_at edges i)) (sheet_at olds_are i) (inv.each i l))
           (subst (λ (e : Edge). IsSheetOf news e new) is c.in_ok-sheet.ensures.sheet);
     })

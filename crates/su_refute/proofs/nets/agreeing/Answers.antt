@@ -1,10 +1,11 @@
 -- The set has exactly the masked rows so far that hold what the target holds at the places; where there are no places every masked row agrees.
 use Rattle.std.proofs.Common.{◌≡◌, ℕ, sym, ap, ◌∙◌, subst, true≢false, arith}
 use Rattle.std.specs.Int.{bit_at}
+use Rattle.su_tableau.proofs.Members.{member_below}
 use Rattle.su_map.specs.Lists.{row_of}
 use Rattle.su_map.proofs.Members.{collect_none, collect_more, collect_same}
 use Rattle.su_refute.specs.inside.Nets.{AgreeAt}
-use Rattle.su_refute.proofs.SharedPlaces.{member_below, none_agree}
+use Rattle.su_refute.proofs.SharedPlaces.{none_agree}
 use Rattle.su_refute.proofs.nets.agreeing.Goals as goal
 use Rattle.su_refute.proofs.nets.agreeing.Goals.{then-has+then-agree_at, else-has, else-has-via-then-has+else-agree_at, else-has-via-else-has}
 

@@ -1,5 +1,5 @@
 -- What is left has the set's members from the number on: at the end nothing is left, so all members are below it.
-use Rattle.std.proofs.Common.{◌≡◌, ◌<◌, ◌≤◌, ℕ, IsTrue, inl, inr, sym, ap, subst, ◌∙◌, arith}
+use Rattle.std.proofs.Common.{◌≡◌, IsTrue, inl, inr, sym, ap, subst, ◌∙◌, arith}
 use Rattle.std.specs.Ordering.{nat_cmp}
 use Rattle.std.specs.FinSet.{FinSet, contains, empty, insert, difference, contains-empty, members}
 use Rattle.std.proofs.lemmas.Bool.{true≢false, cases_lt}

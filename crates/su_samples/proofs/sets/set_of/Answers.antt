@@ -1,5 +1,5 @@
 -- The set has those of the numbers so far that are below 128: the next one is inserted, or it is no such number.
-use Rattle.std.proofs.Common.{◌<◌, ◌+◌, ℕ, IsTrue, get_or, false, sym, ap, subst, ◌∙◌, arith}
+use Rattle.std.proofs.Common.{◌<◌, ◌+◌, get_or, false, sym, ap, subst, ◌∙◌, arith}
 use Rattle.std.specs.Ordering.{nat_cmp}
 use Rattle.std.specs.FinSet.{FinSet, contains, contains-empty}
 use Rattle.std.proofs.lemmas.Bool.{true≢false}

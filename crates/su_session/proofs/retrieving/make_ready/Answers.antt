@@ -1,6 +1,5 @@
 -- The numbers made of the names are those that the definition gives the query, so that what is said of them, terms or a refusal, is said of the query.
 use Rattle.std.proofs.Common.{◌≡◌, subst}
-use Rattle.su_query.specs.declared.resolving.Resolved.{Resolved}
 use Rattle.su_query.specs.Lookup.{IsKnownQuery}
 use Rattle.su_query.specs.NumberedConditions.{resolved_of}
 use Rattle.su_query.specs.Ranges.{IsResolved}

@@ -31,8 +31,10 @@ returns-in-Ok-window c =
           universe = c.in-Ok-window.ensures.fits.1.0;
           fits = c.in-Ok-window.ensures.fits.1.1;
           rows = found;
-          exact = subst (λ (ns : List ℕ). (h : List Value) → Contains found h ↔ InWindow db ns h) numbers c.in-Ok-window.ensures.exact;
-          ascending = c.in-Ok-window.ensures.ascending;
+          rows_are = record {
+            exact = subst (λ (ns : List ℕ). (h : List Value) → Contains found h ↔ InWindow db ns h) numbers c.in-Ok-window.ensures.exact;
+            ascending = c.in-Ok-window.ensures.ascending;
+          };
           text = record { accepted = c.accepted.ensures.accepted; text_is = c.accepted.ensures.text_is ∙ c.in_ok-rows-in-Ok-window.ensures ∙ ap (rows_text names) c.as_slice-in-Ok-window.ensures };
         },
         refl,

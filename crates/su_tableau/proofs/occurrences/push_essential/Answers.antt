@@ -4,8 +4,8 @@ use Rattle.std.proofs.lemmas.List.{length_push}
 use Rattle.std.specs.Int.{bit_at}
 use Rattle.std.specs.FinSet.{FinSet, contains, empty}
 use Rattle.std.specs.Ordering.{nat_cmp}
+use Rattle.su_base.proofs.Items.{get_or-push_each}
 use Rattle.su_tableau.specs.Essential.{IsEssential}
-use Rattle.su_tableau.proofs.VariableCounts.{set_pushed}
 use Rattle.su_tableau.proofs.occurrences.push_essential.Goals as goal
 
 pub loop-row-preserved : goal.loop-row-preserved
@@ -14,7 +14,7 @@ loop-row-preserved c =
     let is = c.in_ok-push.ensures.ok in
     record {
       rows = ap length is ∙ length_push c.loop-row.all c.columns_at.result ∙ ap (λ n. n + 1) c.loop-row.invariant.rows;
-      columns = λ i low. subst (λ l. Q i (get_or l i empty)) (sym is) (set_pushed Q c.loop-row.all c.loop-row.row c.columns_at.result c.loop-row.invariant.rows c.loop-row.invariant.columns c.columns_at.ensures i low);
+      columns = λ i low. subst (λ l. Q i (get_or l i empty)) (sym is) (get_or-push_each Q empty c.loop-row.all c.columns_at.result c.loop-row.row c.loop-row.invariant.rows c.loop-row.invariant.columns c.columns_at.ensures i low);
     }
 
 pub returns-clause-columns : goal.returns-clause-columns

@@ -2,7 +2,7 @@
 use Rattle.std.proofs.Common.{◌≡◌, ◌∙◌, sym, ap, arith}
 use Rattle.std.proofs.lemmas.Grind.{common_steps}
 use Rattle.su_where.specs.Disjunct.{disjuncts_of, some_holds}
-use Rattle.su_where.proofs.Keeps.{keeps_truth}
+use Rattle.su_where.proofs.DisjunctTruth.{keeps_truth}
 use Rattle.su_where.proofs.forms.disjuncts.Goals as goal
 
 pub returns-clause-truth : goal.returns-clause-truth

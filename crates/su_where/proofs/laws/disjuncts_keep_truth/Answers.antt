@@ -1,5 +1,5 @@
 -- By induction a condition, negated or not, is true where one of its disjuncts holds.
-use Rattle.su_where.proofs.Keeps.{keeps_truth}
+use Rattle.su_where.proofs.DisjunctTruth.{keeps_truth}
 use Rattle.su_where.proofs.laws.disjuncts_keep_truth.Goals as goal
 
 pub returns : goal.returns

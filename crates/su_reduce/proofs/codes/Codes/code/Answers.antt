@@ -1,5 +1,5 @@
 -- A value found among the distinct keys stands at its code, so the code reads as the value that was asked for.
-use Rattle.std.proofs.Common.{◌≡◌, Some, slice_get, sym, ap, ◌∙◌}
+use Rattle.std.proofs.Common.{slice_get, ap, ◌∙◌}
 use Rattle.su_reduce.proofs.FoundCodes.{found}
 use Rattle.su_reduce.proofs.codes.Codes.code.Goals as goal
 

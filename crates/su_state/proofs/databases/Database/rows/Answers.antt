@@ -1,5 +1,5 @@
 -- The rows of a table differ, as it is a relation, so their copies in order are the relation's rows in order.
-use Rattle.std.proofs.Common.{◌≡◌, ◌<◌, length, ap, subst, sym, ◌∙◌}
+use Rattle.std.proofs.Common.{◌≡◌, ◌<◌, length, ap, ◌∙◌}
 use Rattle.std.proofs.lemmas.Result.{IfOk-weaker}
 use Rattle.su_base.specs.Lists.{AllDiffer}
 use Rattle.su_state.specs.DatabaseValue.{DatabaseValue, rows_of}

@@ -1,15 +1,15 @@
 -- Which targets fit, where one row more has its target.
-use Rattle.std.proofs.Common.{◌≡◌, ◌≢◌, ℕ, ◌<◌, ◌↔◌, List, [], ◌∷◌, length, Contains, refl, arith}
+use Rattle.std.proofs.Common.{◌≢◌, ℕ, ◌<◌, ◌↔◌, List, [], ◌∷◌, length, Contains, arith}
 use Rattle.std.proofs.lemmas.List.Elements.{All-push}
-use Rattle.su_base.proofs.Items.{All-append_left}
+use Rattle.su_base.proofs.Items.{All-append_left, All-middle}
 use Rattle.su_check.specs.declared.sending.Sent.{Sent}
 use Rattle.su_check.specs.inside.Agreement.{GoAlike, Goes}
-use Rattle.su_check.specs.SentRows.{Lines, numbered_row, AreSent, sent_too}
+use Rattle.su_check.specs.SentRows.{Lines, numbered_row, sent_too}
 use Rattle.su_check.specs.inside.Widths.{AreWide}
 use Rattle.su_check.specs.Refutations.{IsFitting}
 use Rattle.su_refute.specs.inside.Positions.{IsReady}
 use Rattle.su_check.proofs.FoldTargets.{none_sent}
-use Rattle.su_check.proofs.TargetsTogether.{all_last, sent_more, sent_less, AgreesWith}
+use Rattle.su_check.proofs.TargetsTogether.{sent_more, sent_less, AgreesWith}
 
 -- where no row has a target yet
 pub fits_first : (t : Lines) (r q i : ℕ) → AreWide t.rows → q < length t.rows → i < length t.rows → IsFitting t r [] q i ↔ (Contains t.kept i × (i ≢ r) × Goes t.head (numbered_row t q) (numbered_row t i))
@@ -31,6 +31,6 @@ fits_next t r p s j q i ready fit hq hi =
       λ h.
           let less = sent_less t (sent_too p s j) q i h.sent in (
             record { member = h.member; other = h.other; sent = sent_more t p q i wide ready.sent less.0 (All-append_left R p (new ∷ []) less.1) },
-            all_last R p new less.1,
+            All-middle R p new [] less.1,
           ),
     )

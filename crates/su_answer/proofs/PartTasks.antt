@@ -1,10 +1,8 @@
 -- The task of a kept part is a task over the tables of the database.
 use Rattle.std.proofs.Common.{◌≡◌, ℕ, zero, suc, ◌+◌, ◌*◌, ◌<◌, ◌≤◌, List, [], map, length, get_or, Contains, Option, Some, sym, ap, ◌∙◌, subst, pos, arith}
-use Rattle.std.specs.Int.{bit_at}
 use Rattle.std.specs.List.{range_with_len}
-use Rattle.std.proofs.lemmas.List.{length-append, length-map, get_or_default}
+use Rattle.std.proofs.lemmas.List.{length-map, get_or_default}
 use Rattle.std.proofs.lemmas.List.Elements.{Contains-get_or}
-use Rattle.std.proofs.lemmas.Nat.Bits.{bit_at-lt}
 use Rattle.std.proofs.lemmas.Option.{slice_get_within}
 use Rattle.su_base.specs.declared.values.Value.TheVariants.{Int}
 use Rattle.su_base.proofs.Items.{Contains-map, Contains-map_source, AllZip-length, Contains-take, Contains-range_below, All-members}
@@ -17,7 +15,7 @@ use Rattle.su_tableau.proofs.Sets.{select, select-from}
 use Rattle.su_index.specs.Tables.{table_at}
 use Rattle.su_schema.specs.Entries.{column_of}
 use Rattle.su_state.specs.DatabaseValue.{DatabaseValue, IsWellKept}
-use Rattle.su_map.specs.Lists.{numbers_of, row_numbers}
+use Rattle.su_map.specs.Lists.{row_numbers}
 use Rattle.su_exec.specs.declared.tasks.Source.{Source}
 use Rattle.su_exec.specs.declared.tasks.TaskRow.{TaskRow}
 use Rattle.su_exec.specs.declared.tasks.Compared.{Compared}
@@ -77,7 +75,7 @@ module _ (db : DatabaseValue) (t : Tab) (m : ℕ) (task : Task) (kept : IsWellKe
       let holds : HasSymbol t m j in_row.0 (Var k) = record { row_in = s.below; in_set = s.is_in; cell = record { below = in_row.1; is = λ d. get_or_default (get_or t.rows j []) in_row.0 d (Var k) in_row.1 ∙ in_row.2 } } in
       let w = zip_first (IsTaskRowOf db.schema t m) (row_numbers t m) task.rows j is.rows (in_rows t m j s.below s.is_in) in
       let r = w.0 in
-      let e = essential_has db t m j r (λ n. Int (pos 0)) kept valid s.below s.is_in w.2 in_row.0 (Var k) holds (in_head k holds c) in
+      let e = essential_has db t m j r (λ n. Int (pos 0)) valid s.below s.is_in w.2 in_row.0 (Var k) holds (in_head k holds c) in
       let has : Contains r.cells (Var k) = subst (λ (xs : List Sym). Contains xs (Var k)) (sym w.2.cells) (subst (λ (x : Sym). Contains (map (cell_at (row_of t j)) (numbers_in w.2.attributes t.width)) x) (holds.cell.is (Var 0)) (Contains-map (cell_at (row_of t j)) (numbers_in w.2.attributes t.width) in_row.0 e)) in
       (w.1.0, record { row = r; below = w.1.1; is = λ d. get_or_default task.rows w.1.0 d r w.1.1 ∙ w.1.2; cell = has })
 
@@ -92,15 +90,17 @@ module _ (db : DatabaseValue) (t : Tab) (m : ℕ) (task : Task) (kept : IsWellKe
         let s = small.rows in
         omega (arith, a, b, s);
     sources = All-members (HasSources db.tables) task.rows row_fits;
-    outputs = λ k c. head_has k (Contains-take t.outputs t.head (Var k) (subst (λ (xs : List Sym). Contains xs (Var k)) is.outputs c));
-    left = λ c k has e.
-        let w = Contains-map_source (comparison_at t) (range_with_len 0 (length t.operators)) c (subst (λ (xs : List Compared). Contains xs c) is.comparisons has) in
-        let low = Contains-range_below (length t.operators) w.0 w.1 in
-        let n = valid.head_length in
-        side_has w.0 (t.outputs + 2 * w.0) k (omega (arith, low, n)) (ap (λ (d : Compared). d.left) w.2 ∙ e);
-    right = λ c k has e.
-        let w = Contains-map_source (comparison_at t) (range_with_len 0 (length t.operators)) c (subst (λ (xs : List Compared). Contains xs c) is.comparisons has) in
-        let low = Contains-range_below (length t.operators) w.0 w.1 in
-        let n = valid.head_length in
-        side_has w.0 (t.outputs + 2 * w.0 + 1) k (omega (arith, low, n)) (ap (λ (d : Compared). d.right) w.2 ∙ e);
+    occur = record {
+      outputs = λ k c. head_has k (Contains-take t.outputs t.head (Var k) (subst (λ (xs : List Sym). Contains xs (Var k)) is.outputs c));
+      left = λ c k has e.
+          let w = Contains-map_source (comparison_at t) (range_with_len 0 (length t.operators)) c (subst (λ (xs : List Compared). Contains xs c) is.comparisons has) in
+          let low = Contains-range_below (length t.operators) w.0 w.1 in
+          let n = valid.head_length in
+          side_has w.0 (t.outputs + 2 * w.0) k (omega (arith, low, n)) (ap (λ (d : Compared). d.left) w.2 ∙ e);
+      right = λ c k has e.
+          let w = Contains-map_source (comparison_at t) (range_with_len 0 (length t.operators)) c (subst (λ (xs : List Compared). Contains xs c) is.comparisons has) in
+          let low = Contains-range_below (length t.operators) w.0 w.1 in
+          let n = valid.head_length in
+          side_has w.0 (t.outputs + 2 * w.0 + 1) k (omega (arith, low, n)) (ap (λ (d : Compared). d.right) w.2 ∙ e);
+    };
   }
