@@ -1,12 +1,12 @@
 -- How many terms there are, and what holds of their tableaux once they are minimised.
-use Rattle.std.proofs.Common.{◌≡◌, ⊎_elim, ℕ, ◌*◌, ◌≤◌, List, [], ◌∷◌, map, length, All, refl, sym, ap, ◌∙◌, subst, arith, None}
-use Rattle.std.specs.List.{AllZip, flat_map, range_with_len}
+use Rattle.std.proofs.Common.{◌≡◌, ⊎_elim, ◌*◌, ◌≤◌, List, [], ◌∷◌, map, length, All, refl, sym, ap, ◌∙◌, subst, arith, None}
+use Rattle.std.specs.List.{AllZip, range_with_len}
 use Rattle.std.specs.Ordering.{nat_cmp}
 use Rattle.std.specs.FinSet.{FinSet}
-use Rattle.std.proofs.lemmas.List.{length-map, length-append}
 use Rattle.std.proofs.lemmas.List.Elements.{All-contains}
 use Rattle.std.proofs.lemmas.List.FromFn.{length-range_with_len}
 use Rattle.su_base.proofs.Items.{All-members}
+use Rattle.su_base.proofs.Combinations.{length-pairs}
 use Rattle.su_where.specs.Disjunct.{disjuncts_of}
 use Rattle.su_tableau.specs.Tableaux.{Tab, IsValid}
 use Rattle.su_tableau.specs.Kinds.{IsTyped}
@@ -38,18 +38,10 @@ terms_count schema maximal q (c ∷ cs) ts h =
     omega arith)
     h
 
-length-pairs : {X Y : Type 0} (f : ℕ → X → Y) (ys : List X) (xs : List ℕ) → length (flat_map (λ i. map (f i) ys) xs) ≡ length xs * length ys
-length-pairs f ys [] = omega arith
-length-pairs f ys (x ∷ xs) =
-    let i = length-pairs f ys xs in
-    let a = length-append (map (f x) ys) (flat_map (λ i. map (f i) ys) xs) in
-    let b = length-map ys (f x) in
-    grind (arith, i, a, b)
-
 pub few_terms : (schema : SchemaValue) (maximal : List (FinSet nat_cmp)) (q : Resolved) (ts : List Term) → AreTerms schema maximal q ts → IsAccepted schema maximal q → length ts ≤ 256
 few_terms schema maximal q ts terms accepted =
     let count = terms_count schema maximal q (cases schema maximal q) ts (terms_of schema maximal q ts terms) in
-    let pairs = length-pairs case_of (choices schema maximal q) (range_with_len 0 (length (disjuncts_of q.cond))) in
+    let pairs = length-pairs case_of (range_with_len 0 (length (disjuncts_of q.cond))) (choices schema maximal q) in
     let range = length-range_with_len 0 (length (disjuncts_of q.cond)) in
     let product : length (cases schema maximal q) ≡ length (disjuncts_of q.cond) * length (choices schema maximal q) = pairs ∙ ap (λ n. n * length (choices schema maximal q)) range in
     let few = accepted.few_terms in

@@ -1,20 +1,19 @@
 -- The rows of a task: attributes in ascending order, and a source for each object.
-use Rattle.std.proofs.Common.{◌≡◌, ◌≢◌, ⊎_elim, ℕ, suc, ◌+◌, append-nil, ◌<◌, ◌≤◌, false, List, [], ◌∷◌, ◌++◌, get_or, Contains, All, refl, sym, ap, ◌∙◌, subst, arith}
+use Rattle.std.proofs.Common.{◌≡◌, ◌≢◌, ⊎_elim, ℕ, suc, ◌+◌, ◌<◌, ◌≤◌, false, List, [], ◌∷◌, ◌++◌, get_or, Contains, All, refl, sym, ap, ◌∙◌, subst, arith}
 use Rattle.std.specs.Prelude.{IsTrue}
 use Rattle.std.specs.Int.{bit_at}
 use Rattle.std.specs.List.{AllZip, range_with_len}
 use Rattle.std.specs.Ordering.{nat_cmp}
 use Rattle.std.specs.FinSet.{FinSet, contains, is_subset, is_subset-contains}
 use Rattle.std.proofs.lemmas.Cmp.{nat_cmp_total}
-use Rattle.std.proofs.lemmas.Bool.{cases_lt, cases_eq, true≢false}
-use Rattle.std.proofs.lemmas.Nat.Bits.{bit_at-lt}
+use Rattle.std.proofs.lemmas.Bool.{cases_lt, true≢false}
 use Rattle.std.proofs.lemmas.List.Elements.{Contains-append_left, Contains-append_right, Contains-append_cases, Contains-get_or}
-use Rattle.su_base.proofs.Items.{Contains-cases, Contains-nil, Contains-filter_source, AllZip-push, Contains-range_below}
+use Rattle.std.proofs.lemmas.Slice.Zip.{all_zipped_more}
+use Rattle.su_base.proofs.Items.{Contains-cases, Contains-nil, Contains-filter_source, Contains-range_below}
 use Rattle.su_tableau.specs.Tableaux.{Tab}
-use Rattle.su_tableau.specs.Parts.{keep_if}
 use Rattle.su_schema.specs.SchemaValue.{SchemaValue}
 use Rattle.su_map.specs.Lists.{numbers_of}
-use Rattle.su_map.proofs.Ranks.{numbers-more}
+use Rattle.su_map.proofs.Ranks.{numbers-more, numbers-none}
 use Rattle.su_exec.specs.declared.tasks.Source.{Source}
 use Rattle.su_exec.specs.declared.tasks.TaskRow.{TaskRow}
 use Rattle.su_schema.specs.SetMembers.{numbers_in}
@@ -67,17 +66,13 @@ pub numbers_next : (m i : ℕ) → bit_at m i ≡ 1 → numbers_of m (i + 1) ≡
 numbers_next m i set = ap (numbers_of m) (let q : i + 1 ≡ suc i = omega arith in q) ∙ numbers-more m i set
 
 pub numbers_stay : (m i : ℕ) → (bit_at m i ≡ 1 → ⊥) → numbers_of m (i + 1) ≡ numbers_of m i
-numbers_stay m i out =
-    let low = bit_at-lt m i in
-    let none : bit_at m i ≡ 0 = ⊎_elim (λ (z : bit_at m i ≡ 0). z) (λ (o : bit_at m i ≢ 0). absurd (out (omega (arith, low)))) (cases_eq (bit_at m i) 0) in
-    let empty : keep_if (bit_at m i) i [] ≡ [] = subst (λ b. keep_if b i [] ≡ []) (sym none) refl in
-    ap (numbers_of m) (let q : i + 1 ≡ suc i = omega arith in q) ∙ ap (λ (xs : List ℕ). numbers_of m i ++ xs) empty ∙ append-nil (numbers_of m i)
+numbers_stay m i out = ap (numbers_of m) (let q : i + 1 ≡ suc i = omega arith in q) ∙ numbers-none m i out
 
 module _ (schema : SchemaValue) (t : Tab) (m i : ℕ) where
   pub rows_more : (rows next : List TaskRow) (r : TaskRow) → AllZip (IsTaskRowOf schema t m) (numbers_of m i) rows → bit_at m i ≡ 1 → IsTaskRowOf schema t m i r → next ≡ rows ++ r ∷ [] → AllZip (IsTaskRowOf schema t m) (numbers_of m (i + 1)) next
   rows_more rows next r all set is e =
       subst (λ (ns : List ℕ). AllZip (IsTaskRowOf schema t m) ns next) (sym (numbers_next m i set))
-      (subst (λ (xs : List TaskRow). AllZip (IsTaskRowOf schema t m) (numbers_of m i ++ i ∷ []) xs) (sym e) (AllZip-push (IsTaskRowOf schema t m) (numbers_of m i) rows i r all is))
+      (subst (λ (xs : List TaskRow). AllZip (IsTaskRowOf schema t m) (numbers_of m i ++ i ∷ []) xs) (sym e) (all_zipped_more (IsTaskRowOf schema t m) (numbers_of m i) rows i r all is))
 
   pub rows_same : (rows next : List TaskRow) → AllZip (IsTaskRowOf schema t m) (numbers_of m i) rows → (bit_at m i ≡ 1 → ⊥) → next ≡ rows → AllZip (IsTaskRowOf schema t m) (numbers_of m (i + 1)) next
   rows_same rows next all out e =

@@ -4,9 +4,12 @@ use Rattle.std.specs.Prelude.{Bool, true, false, cond, All}
 use Rattle.std.specs.List.{range_with_len, filter, flat_map, AllZip, AllByRecursion}
 use Rattle.std.proofs.lemmas.Bool.{true≢false}
 use Rattle.std.proofs.lemmas.Grind.{flat_map-append}
-use Rattle.std.proofs.lemmas.List.{length-append, get_or_append_left, get_or-append-add, get_or_default, get_or_push, take_more}
+use Rattle.std.proofs.lemmas.List.{length-append, get_or_append_left, get_or-append-add, get_or_default, get_or_push, get_or_read, take_more}
 use Rattle.std.proofs.lemmas.List.Elements.{All-contains, All-from_recursion, Contains-append_left, Contains-append_right, Contains-append_cases, Contains-get_or}
+use Rattle.std.proofs.lemmas.List.Quantifiers.{all_pairs_push}
 use Rattle.std.proofs.lemmas.List.FromFn.{get_or-range_with_len, length-range_with_len, get_or-map-range_with_len, map-range_with_len_more}
+use Rattle.std.proofs.lemmas.Slice.Zip.{AllZip-long, all_zipped_more}
+use Rattle.su_base.specs.Lists.{AllDiffer}
 
 -- ---- members
 
@@ -152,25 +155,20 @@ pub AllByRecursion-members : {X : Type 0} (P : X → Type 0) (xs : List X) → (
 AllByRecursion-members P [] h = tt
 AllByRecursion-members P (x ∷ xs) h = (h x (0, omega arith, refl), AllByRecursion-members P xs (λ y c. h y (suc c.0, (let l = c.1 in omega arith), c.2)))
 
--- ---- two lists side by side
+-- where no item is repeated, with one more that is not there
+pub AllDiffer-push : {X : Type 0} (xs : List X) (x : X) → AllDiffer xs → ¬ Contains xs x → AllDiffer (xs ++ x ∷ [])
+AllDiffer-push xs x differ out = all_pairs_push (λ x y. x ≢ y) xs x differ (λ k d within is. out (k, within, get_or_default xs k x d within ∙ is))
 
-pub AllZip-push : {A B : Type 0} (R : A → B → Type 0) (xs : List A) (ys : List B) (x : A) (y : B) → AllZip R xs ys → R x y → AllZip R (xs ++ x ∷ []) (ys ++ y ∷ [])
-AllZip-push R [] [] x y all one = (one, tt)
-AllZip-push R [] (w ∷ ws) x y all one = absurd all
-AllZip-push R (v ∷ vs) [] x y all one = absurd all
-AllZip-push R (v ∷ vs) (w ∷ ws) x y all one = (all.0, AllZip-push R vs ws x y all.1 one)
+-- ---- two lists side by side
 
 -- one more item of the first list, and one pushed on the second
 pub AllZip-more : {A B : Type 0} (R : A → B → Type 0) (xs : List A) (ys next : List B) (i : ℕ) (x : A) (y : B) → i < length xs → x ≡ get_or xs i x → AllZip R (take i xs) ys → R x y → next ≡ ys ++ y ∷ [] → AllZip R (take (i + 1) xs) next
 AllZip-more {A} {B} R xs ys next i x y l e h r n =
     subst (λ (zs : List B). AllZip R (take (i + 1) xs) zs) (sym n)
-    (subst (λ (zs : List A). AllZip R zs (ys ++ y ∷ [])) (sym (take_more xs i x l ∙ ap (λ (z : A). take i xs ++ z ∷ []) (sym e))) (AllZip-push R (take i xs) ys x y h r))
+    (subst (λ (zs : List A). AllZip R zs (ys ++ y ∷ [])) (sym (take_more xs i x l ∙ ap (λ (z : A). take i xs ++ z ∷ []) (sym e))) (all_zipped_more R (take i xs) ys x y h r))
 
 pub AllZip-length : {A B : Type 0} (R : A → B → Type 0) (xs : List A) (ys : List B) → AllZip R xs ys → length xs ≡ length ys
-AllZip-length R [] [] all = refl
-AllZip-length R [] (y ∷ ys) all = absurd all
-AllZip-length R (x ∷ xs) [] all = absurd all
-AllZip-length R (x ∷ xs) (y ∷ ys) all = ap suc (AllZip-length R xs ys all.1)
+AllZip-length R xs ys all = sym (AllZip-long R xs ys all)
 
 pub AllZip-get_or : {A B : Type 0} (R : A → B → Type 0) (xs : List A) (ys : List B) (i : ℕ) (d : A) (e : B) → AllZip R xs ys → i < length xs → R (get_or xs i d) (get_or ys i e)
 AllZip-get_or R [] ys i d e all within = absurd (omega arith)
@@ -219,9 +217,12 @@ length-filter p (x ∷ xs) =
 
 -- what is read at a place, at every default
 pub get_or-is : {X : Type 0} (xs : List X) (i : ℕ) (x d : X) → i < length xs → x ≡ get_or xs i x → get_or xs i d ≡ x
-get_or-is xs i x d h is = get_or_default xs i d x h ∙ sym is
+get_or-is xs i x d h is = sym (get_or_read xs i x h is d)
 
 -- ---- one item more, and one written
+
+pub same_tail : {X : Type 0} (x y : X) (xs ys : List X) → x ∷ xs ≡ y ∷ ys → xs ≡ ys
+same_tail x y xs ys e = cc
 
 pub length-push : {X : Type 0} (xs : List X) (x : X) (n : ℕ) → length xs ≡ n → length (xs ++ x ∷ []) ≡ n + 1
 length-push xs x n long = length-append xs (x ∷ []) ∙ ap (λ m. m + 1) long
@@ -275,6 +276,10 @@ get_or-map_range f n a d h = get_or-map-range_with_len f 0 n a a d h (omega arit
 -- one more item of it
 pub map-range_push : {X : Type 0} (f : ℕ → X) (a : ℕ) (xs ys : List X) (x : X) → ys ≡ xs ++ x ∷ [] → xs ≡ map f (range_with_len 0 a) → x ≡ f a → ys ≡ map f (range_with_len 0 (a + 1))
 map-range_push f a xs ys x pushed before is = pushed ∙ ap (λ zs. zs ++ x ∷ []) before ∙ ap (λ z. map f (range_with_len 0 a) ++ z ∷ []) is ∙ sym (map-range_with_len_more f 0 a a (omega arith))
+
+-- the lists of the first numbers, and of one more
+pub flat_map-range_push : {X : Type 0} (f : ℕ → List X) (n : ℕ) → flat_map f (range_with_len 0 (n + 1)) ≡ flat_map f (range_with_len 0 n) ++ f n
+flat_map-range_push f n = ap (flat_map f) (range-push_zero n) ∙ flat_map-push f (range_with_len 0 n) n
 
 -- ---- an item of a list that has some
 

@@ -1,3 +1,4 @@
+pub mod AscendingNumbers
 pub mod BitSets
 pub mod Combinations
 pub mod Items

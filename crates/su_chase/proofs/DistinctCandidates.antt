@@ -1,5 +1,5 @@
 -- Candidates are distinct by kind and number, and values that were given in turn.
-use Rattle.std.proofs.Common.{◌≡◌, ◌≢◌, ◌⊎◌, ℕ, ◌+◌, ◌<◌, ◌≤◌, ◌^◌, inl, inr, ⊎_elim, List, [], ◌∷◌, ◌++◌, length, get_or, pos, Contains, refl, sym, ap, ◌∙◌, subst, arith}
+use Rattle.std.proofs.Common.{◌≡◌, ◌≢◌, ◌⊎◌, ℕ, ◌+◌, ◌<◌, ◌≤◌, ◌^◌, inl, inr, ⊎_elim, List, [], ◌∷◌, ◌++◌, length, get_or, pos, Contains, refl, sym, ap, ◌∙◌, subst, arith, below_more}
 use Rattle.std.proofs.lemmas.Bool.{cases_lt}
 use Rattle.std.proofs.lemmas.Fmt.{decimal_injective}
 use Rattle.std.proofs.lemmas.List.{get_or_append_left, get_or_push, length_push}
@@ -9,7 +9,6 @@ use Rattle.su_base.specs.declared.values.Value.{Value}
 use Rattle.su_base.specs.declared.values.Value.TheVariants.{Int}
 use Rattle.su_base.specs.Value.{kind_of}
 use Rattle.su_tableau.specs.Valuations.{nth}
-use Rattle.su_tableau.proofs.Rows.{below_more}
 use Rattle.su_chase.specs.declared.candidates.Next.{Next}
 use Rattle.su_chase.specs.Frozen.{candidate}
 use Rattle.su_chase.specs.inside.Rows.{IsFreeAt, IsPast, count_of}

@@ -1,6 +1,5 @@
 -- Loops over items: the first clash so far, and lists with one element more.
-use Rattle.std.proofs.Common.{◌≡◌, ℕ, ◌+◌, ◌<◌, ◌≤◌, inl, inr, ⊎_elim, true, false, Option, None, Some, MatchOption, List, [], ◌∷◌, ◌++◌, flat_map, length, take, get_or, Contains, refl, sym, ap, ◌∙◌, subst, arith}
-use borrow.Author.Count.{below_more}
+use Rattle.std.proofs.Common.{◌≡◌, ℕ, ◌+◌, ◌<◌, ◌≤◌, inl, inr, ⊎_elim, true, false, Option, None, Some, MatchOption, List, [], ◌∷◌, ◌++◌, flat_map, length, take, get_or, Contains, refl, sym, ap, ◌∙◌, subst, arith, below_more}
 use Rattle.std.specs.List.Sorted.{IsStrictlySortedBy, IsBinarySearchResult, IsSearchInRange, IsSorted}
 use Rattle.std.specs.Result.{MatchResult}
 use Rattle.std.specs.Prelude.{Result, Ok, Err}

@@ -1,5 +1,6 @@
 -- Frozen tableaux: values that are read back as the symbols that they were made from.
-use Rattle.std.proofs.Common.{◌≡◌, ◌≢◌, ◌↔◌, ℕ, zero, suc, ◌+◌, ◌<◌, ◌≤◌, inl, inr, ⊎_elim, true, false, cond, List, [], ◌∷◌, ◌++◌, Option, None, Some, MatchOption, map, flat_map, take, length, get_or, Contains, refl, sym, ap, ◌∙◌, subst, arith}
+use Rattle.std.proofs.Common.{◌≡◌, ◌≢◌, ◌↔◌, ℕ, ◌<◌, ◌≤◌, inl, inr, ⊎_elim, true, false, cond, List, [], ◌∷◌, Option, None, Some, MatchOption, map, flat_map, take, length, get_or, Contains, refl, sym, ap, ◌∙◌, subst, arith}
+use Rattle.std.proofs.Math.ListN.{get_or-map as map_read}
 use Rattle.std.specs.Prelude.{All}
 use Rattle.std.specs.Ordering.{nat_cmp}
 use Rattle.std.specs.List.Sorted.{IsStrictlySortedBy}
@@ -28,7 +29,6 @@ use Rattle.su_chase.specs.declared.freezing.Frozen.{Frozen}
 use Rattle.su_chase.specs.Frozen.{candidate, IsFirstFree, IsFrozen, AreAvoided}
 use Rattle.su_chase.specs.inside.Rows.{variable_of, value_in, IsFreeAt}
 use Rattle.su_chase.proofs.DistinctCandidates.{kind_candidate}
-use Rattle.su_chase.proofs.Images.{map_read}
 use Rattle.su_chase.proofs.Searches.{at_place, no_less}
 
 -- ---- the variables of rows
@@ -295,14 +295,6 @@ freeze_told kinds t avoid valid typed rows rows_is ks variables ks_is all ascend
     f (universe_is ∙ ap (map (values_of (value_in ks vs))) rows_is) (frozen_head ∙ ap (values_of (value_in ks vs)) head_is)
 
 -- ---- kinds of the variables
-
-kinds_next : (var_kind : ℕ → Kind) (ks : List ℕ) (n : ℕ) → n < length ks → map var_kind (take n ks) ++ var_kind (get_or ks n 0) ∷ [] ≡ map var_kind (take (suc n) ks)
-kinds_next var_kind [] n l = absurd (omega arith)
-kinds_next var_kind (k ∷ ks) zero l = refl
-kinds_next var_kind (k ∷ ks) (suc n) l = ap (λ xs. var_kind k ∷ xs) (kinds_next var_kind ks n (omega arith))
-
-pub kinds_more : (var_kind : ℕ → Kind) (ks : List ℕ) (n : ℕ) → n < length ks → map var_kind (take n ks) ++ var_kind (get_or ks n 0) ∷ [] ≡ map var_kind (take (n + 1) ks)
-kinds_more var_kind ks n l = let e : suc n ≡ n + 1 = omega arith in kinds_next var_kind ks n l ∙ ap (λ m. map var_kind (take m ks)) e
 
 pub not_placed : {P : Type 0} (Q : ℕ → Type 0) (r : Option ℕ) → MatchOption r P Q → ((i : ℕ) → r ≡ Some i → ⊥) → P
 not_placed Q None h other = h

@@ -11,7 +11,7 @@ use Rattle.su_tableau.specs.declared.symbols.Sym.{Sym}
 use Rattle.su_tableau.specs.declared.symbols.Sym.TheVariants.{Var}
 use Rattle.su_classes.specs.declared.items.Placed.{Placed}
 use Rattle.su_fd.specs.MetDependencies.{LiesIn}
-use Rattle.su_classes.specs.Items.{item_of, SameItemLabels, Keeps, IsKept, IsPlacedBelow}
+use Rattle.su_classes.specs.Items.{item_of, SameItemLabels, Keeps, KeepsAll, IsPlacedBelow}
 use Rattle.su_classes.specs.Tables.{rep, IsLeastTable}
 use Rattle.su_classes.specs.Symbols.{symbol_at}
 use Rattle.su_classes.specs.inside.Symbols.{AreDistinct, is_known, symbol_number, name_in}
@@ -57,7 +57,7 @@ module _ (vs : List Value) (limit width : ℕ) (fds : List Fd) (rows : List (Lis
   symbol_is : (r : List Sym) (p : Placed) (a : ℕ) (d : Sym) → Contains rows r → IsPlacedRow vs r p → a < length r → symbol_at vs (item_of p a) ≡ get_or r a d
   symbol_is r p a d c is l = ap (symbol_at vs) (cell_is r p a d is l) ∙ (numbering vs limit n.distinct).back (get_or r a d) (n.known r c (get_or r a d) (Contains-get_or r a d l))
 
-  pub labels_kept : (label : Sym → Sym) → IsClosedPartition fds rows label → IsKept fds placed [] (λ i. label (symbol_at vs i))
+  pub labels_kept : (label : Sym → Sym) → IsClosedPartition fds rows label → KeepsAll fds placed [] (λ i. label (symbol_at vs i))
   labels_kept label closed = record {
     equalities = λ k e l. absurd (omega arith);
     dependencies = λ k f l p q cp cq p_lies q_lies same a h.

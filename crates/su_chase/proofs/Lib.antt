@@ -1,4 +1,3 @@
-pub mod Images
 pub mod ItemLabels
 pub mod Named
 pub mod FirstClash

@@ -19,7 +19,7 @@ use Rattle.su_classes.specs.Symbols.{symbol_at}
 use Rattle.su_classes.specs.inside.Symbols.{has_constant, constant_place, is_known, symbol_number, name_in}
 use Rattle.su_classes.proofs.Places.{place_is, place_at, symbol_low, symbol_high, own_constant}
 use Rattle.su_classes.proofs.Named.{name_known, name_unknown, same_rep, known_too, item_class, name_member}
-use Rattle.su_chase.specs.Chase.{IsClosedPartition, InOneClass, IsNoLater, IsName, IsConsistent, IsClash}
+use Rattle.su_chase.specs.Chase.{IsClosedPartition, InOneClass, IsNoLater, IsClassName, IsConsistent, IsClash}
 use Rattle.su_chase.specs.inside.Rows.{IsFirstClash}
 use Rattle.su_chase.proofs.ItemLabels.{AreNumbered, labels_kept, numbers, names_closed}
 
@@ -95,7 +95,7 @@ module _ (vs : List Value) (limit width : ℕ) (fds : List Fd) (rows : List (Lis
   back : (x : Sym) → is_known vs limit x ≡ true → symbol_at vs (symbol_number vs x) ≡ x
   back = (numbers vs limit width fds rows placed n table size least).back
 
-  pub is_name : (k : ℕ) → k < limit → IsName fds rows (Var k) (symbol_at vs (rep table (length vs + k)))
+  pub is_name : (k : ℕ) → k < limit → IsClassName fds rows (Var k) (symbol_at vs (rep table (length vs + k)))
   is_name k l =
       let here : is_known vs limit (Var k) ≡ true = lt-ltb k limit l in
       let is = known_name (Var k) here in

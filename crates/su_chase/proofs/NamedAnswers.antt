@@ -1,5 +1,6 @@
 -- Over a universal relation that meets the dependencies a class has one value, so the named tableau answers what the tableau does.
 use Rattle.std.proofs.Common.{◌≡◌, ◌≢◌, ◌↔◌, ℕ, Option, None, MatchOption, ◌<◌, ◌≤◌, ⊎_elim, cond, List, [], map, length, get_or, pos, Contains, refl, sym, ap, ◌∙◌, subst, arith}
+use Rattle.std.proofs.Math.ListN.{get_or-map as map_read}
 use Rattle.std.specs.Prelude.{All, nat_lt}
 use Rattle.std.proofs.lemmas.Bool.{cond-true, cond-false, lt-ltb, le-ltb, cases_lt}
 use Rattle.std.proofs.lemmas.List.{length-map, get_or_default, get_or_past, get_or-map}
@@ -21,10 +22,9 @@ use Rattle.su_tableau.specs.Valuations.{value_of, values_of, Sends, Ext}
 use Rattle.su_tableau.specs.Kinds.{Kinds, sym_kind, IsTyped}
 use Rattle.su_tableau.proofs.SymbolParts.{same_const, same_var}
 use Rattle.su_fd.specs.MetDependencies.{Agree, Meets}
-use Rattle.su_chase.specs.Chase.{SameLabels, IsClosedPartition, InOneClass, IsNoLater, IsName, IsConsistent, IsClash}
+use Rattle.su_chase.specs.Chase.{SameLabels, IsClosedPartition, InOneClass, IsNoLater, IsClassName, IsConsistent, IsClash}
 use Rattle.su_chase.specs.Chased.{IsFdBelow, AreRows, IsChased}
 use Rattle.su_chase.specs.inside.Rows.{name_by, named_tab}
-use Rattle.su_chase.proofs.Images.{map_read}
 
 -- ---- names are unique
 
@@ -34,7 +34,7 @@ one_symbol (Const a) (Var k) h l = absurd l
 one_symbol (Var j) (Const b) h l = absurd h
 one_symbol (Var j) (Var k) h l = ap Var (omega arith)
 
-module _ (fds : List Fd) (rows : List (List Sym)) (name : Sym → Sym) (names : (x : Sym) → IsName fds rows x (name x)) where
+module _ (fds : List Fd) (rows : List (List Sym)) (name : Sym → Sym) (names : (x : Sym) → IsClassName fds rows x (name x)) where
   pub one_name : (x y : Sym) → InOneClass fds rows x y → name x ≡ name y
   one_name x y c =
       one_symbol (name x) (name y)
@@ -78,7 +78,7 @@ module _ (fds : List Fd) (rows : List (List Sym)) (universe : List (List Value))
 
 -- ---- the answers of the named tableau
 
-module _ (fds : List Fd) (t : Tab) (names : List Sym) (are : (x : Sym) → IsName fds t.rows x (name_by names x)) where
+module _ (fds : List Fd) (t : Tab) (names : List Sym) (are : (x : Sym) → IsClassName fds t.rows x (name_by names x)) where
   abbrev name : Sym → Sym
   name = name_by names
 
@@ -168,7 +168,7 @@ rows_are fds t is few below = record { width = t.width; few = let r = few.rows i
 
 -- ---- the names of all symbols, from those of the variables
 
-module _ (fds : List Fd) (rows : List (List Sym)) (names : List Sym) (all : All (AreBelow (length names)) rows) (are : (k : ℕ) → k < length names → IsName fds rows (Var k) (get_or names k (Var k))) (consistent : IsConsistent fds rows) where
+module _ (fds : List Fd) (rows : List (List Sym)) (names : List Sym) (all : All (AreBelow (length names)) rows) (are : (k : ℕ) → k < length names → IsClassName fds rows (Var k) (get_or names k (Var k))) (consistent : IsConsistent fds rows) where
   -- all symbols but the variables past the names together
   abbrev crowd : Sym → Sym
   crowd (Const c) = Const (Int (pos 0))
@@ -211,7 +211,7 @@ module _ (fds : List Fd) (rows : List (List Sym)) (names : List Sym) (all : All 
     itself (Const c) = λ (g : compare_values c c ≡ Greater). let e : Same ≡ Greater = sym (tied_itself values_total c) ∙ g in absurd (cc)
     itself (Var k) = omega arith
 
-    pub are_names : (x : Sym) → IsName fds rows x (name_by names x)
+    pub are_names : (x : Sym) → IsClassName fds rows x (name_by names x)
     are_names (Const c) = record {
       member = λ label p. refl;
       least = elim [
@@ -224,7 +224,7 @@ module _ (fds : List Fd) (rows : List (List Sym)) (names : List Sym) (all : All 
         (λ (l : k < length names). are k l)
         (λ (g : length names ≤ k).
         let e : Var k ≡ get_or names k (Var k) = sym (get_or_past names k (Var k) g) in
-        subst (IsName fds rows (Var k)) e (record {
+        subst (IsClassName fds rows (Var k)) e (record {
           member = λ label p. refl;
           least = λ y m. subst (IsNoLater (Var k)) (sym (alone k g y m)) (itself (Var k));
         }))
@@ -237,8 +237,8 @@ no_answer fds t a b ne c universe h meets e = ne (one_value fds t.rows universe 
 
 -- ---- the whole
 
-module _ (fds : List Fd) (t : Tab) (is : IsValid t) (below : All (IsFdBelow t.width) fds) (names : List Sym) (all : All (AreBelow (length names)) t.rows) (are : (k : ℕ) → k < length names → IsName fds t.rows (Var k) (get_or names k (Var k))) (consistent : IsConsistent fds t.rows) (c : Tab) (c_is : c ≡ named_tab (name_by names) t) where
-  all_names : (x : Sym) → IsName fds t.rows x (name_by names x)
+module _ (fds : List Fd) (t : Tab) (is : IsValid t) (below : All (IsFdBelow t.width) fds) (names : List Sym) (all : All (AreBelow (length names)) t.rows) (are : (k : ℕ) → k < length names → IsClassName fds t.rows (Var k) (get_or names k (Var k))) (consistent : IsConsistent fds t.rows) (c : Tab) (c_is : c ≡ named_tab (name_by names) t) where
+  all_names : (x : Sym) → IsClassName fds t.rows x (name_by names x)
   all_names = are_names fds t.rows names all are consistent t.width is.widths
 
   pub chased : IsChased fds t c
@@ -257,12 +257,12 @@ module _ (fds : List Fd) (t : Tab) (is : IsValid t) (below : All (IsFdBelow t.wi
   chased_settled = subst (λ (s : Tab). IsClosedPartition fds s.rows (λ x. x)) (sym c_is) (settled fds t.rows (name_by names) all_names t.width is.widths below)
 
 -- the same from what `close` tells of rows that are the tableau's
-pub chase_told : (fds : List Fd) (t : Tab) → IsValid t → All (IsFdBelow t.width) fds → (names : List Sym) (rows : List (List Sym)) → rows ≡ t.rows → All (AreBelow (length names)) rows → ((k : ℕ) → k < length names → IsName fds rows (Var k) (get_or names k (Var k))) → (clash : Option (Value × Value))
+pub chase_told : (fds : List Fd) (t : Tab) → IsValid t → All (IsFdBelow t.width) fds → (names : List Sym) (rows : List (List Sym)) → rows ≡ t.rows → All (AreBelow (length names)) rows → ((k : ℕ) → k < length names → IsClassName fds rows (Var k) (get_or names k (Var k))) → (clash : Option (Value × Value))
     → MatchOption clash (IsConsistent fds rows) (λ p. IsClash fds rows p.0 p.1) → clash ≡ None → (c : Tab) → c ≡ named_tab (name_by names) t
     → IsChased fds t c × ((universe : List (List Value)) (h : List Value) → Meets fds universe → Ext t universe h ↔ Ext c universe h) × ((kinds : Kinds) → IsTyped kinds t → IsTyped kinds c) × IsClosedPartition fds c.rows (λ x. x)
 chase_told fds t is below names rows rows_is all are clash told none c c_is =
     let all' : All (AreBelow (length names)) t.rows = subst (λ (rs : List (List Sym)). All (AreBelow (length names)) rs) rows_is all in
-    let are' : (k : ℕ) → k < length names → IsName fds t.rows (Var k) (get_or names k (Var k)) = subst (λ (rs : List (List Sym)). (k : ℕ) → k < length names → IsName fds rs (Var k) (get_or names k (Var k))) rows_is are in
+    let are' : (k : ℕ) → k < length names → IsClassName fds t.rows (Var k) (get_or names k (Var k)) = subst (λ (rs : List (List Sym)). (k : ℕ) → k < length names → IsClassName fds rs (Var k) (get_or names k (Var k))) rows_is are in
     let here : IsConsistent fds rows = subst (λ (o : Option (Value × Value)). MatchOption o (IsConsistent fds rows) (λ p. IsClash fds rows p.0 p.1)) none told in
     let consistent : IsConsistent fds t.rows = subst (λ (rs : List (List Sym)). IsConsistent fds rs) rows_is here in (
       chased fds t is below names all' are' consistent c c_is,

@@ -16,7 +16,7 @@ use Rattle.su_classes.specs.Tables.{rep}
 use Rattle.su_classes.specs.Symbols.{symbol_at}
 use Rattle.su_classes.specs.inside.Symbols.{is_known}
 use Rattle.su_classes.proofs.ValueOrder.{sorted_distinct}
-use Rattle.su_chase.specs.Chase.{IsName, IsConsistent, IsClash}
+use Rattle.su_chase.specs.Chase.{IsClassName, IsConsistent, IsClash}
 use Rattle.su_chase.specs.Chased.{AreRows}
 use Rattle.su_chase.specs.inside.Rows.{constants_in, IsPlacedRow, IsTableOf, ClashesAt}
 use Rattle.su_chase.proofs.ItemLabels.{AreNumbered}
@@ -35,8 +35,8 @@ module _ (vs : List Value) (limit : ℕ) (fds : List Fd) (rows : List (List Sym)
     abbrev n : AreNumbered vs limit are.width fds rows t.placed
     n = numbered t.placed t.each t.are
 
-    pub name_is : (k : ℕ) (x : Sym) → k < limit → x ≡ symbol_at vs (rep table (length vs + k)) → IsName fds rows (Var k) x
-    name_is k x l e = subst (IsName fds rows (Var k)) (sym e) (is_name vs limit are.width fds rows t.placed n sorted table t.size t.least k l)
+    pub name_is : (k : ℕ) (x : Sym) → k < limit → x ≡ symbol_at vs (rep table (length vs + k)) → IsClassName fds rows (Var k) x
+    name_is k x l e = subst (IsClassName fds rows (Var k)) (sym e) (is_name vs limit are.width fds rows t.placed n sorted table t.size t.least k l)
 
     pub clash_told : (clash : Option (Value × Value)) → ClashesAt vs table clash → MatchOption clash (IsConsistent fds rows) (λ p. IsClash fds rows p.0 p.1)
     clash_told None h = consistent vs limit are.width fds rows t.placed n sorted table t.size t.least h

@@ -34,7 +34,7 @@ IsNoLater (Var j) (Const b) = ⊥
 IsNoLater (Var j) (Var k) = j ≤ k
 
 -- the name of x: the first symbol of its class
-pub record IsName (fds : List Fd) (rows : List (List Sym)) (x name : Sym) : Type 0 where
+pub record IsClassName (fds : List Fd) (rows : List (List Sym)) (x name : Sym) : Type 0 where
   pub member : InOneClass fds rows x name
   pub least : (y : Sym) → InOneClass fds rows x y → IsNoLater name y
 

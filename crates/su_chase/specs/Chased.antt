@@ -10,7 +10,7 @@ use Rattle.su_tableau.specs.Valuations.{Ext}
 use Rattle.su_tableau.specs.Kinds.{Kinds, IsTyped}
 use Rattle.su_chase.specs.declared.chasing.Chased.{Chased}
 use Rattle.su_chase.specs.declared.chasing.Chased.TheVariants as chased
-use Rattle.su_chase.specs.Chase.{IsClosedPartition, IsName, IsConsistent, IsClash}
+use Rattle.su_chase.specs.Chase.{IsClosedPartition, IsClassName, IsConsistent, IsClash}
 
 -- all attributes of the dependency are below n
 pub record IsFdBelow (n : ℕ) (f : Fd) : Type 0 where
@@ -28,7 +28,7 @@ pub record AreRows (fds : List Fd) (rows : List (List Sym)) : Type 0 where
 -- no two constants meet, and c is t by its names
 pub record IsChased (fds : List Fd) (t c : Tab) : Type 0 where
   pub name : Sym → Sym
-  pub names : (x : Sym) → IsName fds t.rows x (name x)
+  pub names : (x : Sym) → IsClassName fds t.rows x (name x)
   pub consistent : IsConsistent fds t.rows
   pub is : c ≡ record t { rows = map (map name) t.rows; head = map name t.head }
 

@@ -6,7 +6,7 @@ ghost use Rattle.su_base.specs.Value.{compare_values};
 ghost use Rattle.su_tableau.specs.declared.symbols.Sym.TheVariants.{Var};
 ghost use Rattle.su_tableau.specs.Tableaux.{AreBelow};
 ghost use Rattle.su_classes.specs.Tables.{rep};
-ghost use Rattle.su_chase.specs.Chase.{IsName, IsConsistent, IsClash};
+ghost use Rattle.su_chase.specs.Chase.{IsClassName, IsConsistent, IsClash};
 ghost use Rattle.su_chase.specs.Chased.{AreRows};
 ghost use Rattle.su_chase.specs.inside.Rows.{constants_in, IsTableOf, IsFirstClash, TakesLesser, ClashesAt, AreNamesBelow};
 
@@ -130,7 +130,7 @@ fn close_by(
     requires all { (c : AValue) → Contains constants.now c ↔ Contains (constants_in rows.now) c }
     requires ascending { IsStrictlySortedBy compare_values constants.now }
     ensures all { IfOk result (λ c. All (AreBelow (length c.names)) rows.now) }
-    ensures names { IfOk result (λ c. (k : ℕ) → k < length c.names → IsName fds.now rows.now (Var k) (get_or c.names k (Var k))) }
+    ensures names { IfOk result (λ c. (k : ℕ) → k < length c.names → IsClassName fds.now rows.now (Var k) (get_or c.names k (Var k))) }
     ensures clash { IfOk result (λ c. MatchOption c.clash (IsConsistent fds.now rows.now) (λ p. IsClash fds.now rows.now p.0 p.1)) }
 {
     let limit = limit_of(rows);
@@ -147,7 +147,7 @@ fn close_by(
 pub fn close(alloc: Global, fds: &[Fd], rows: &[List<Sym>]) -> Result<Closed, NoMemory>
     requires rows { AreRows fds.now rows.now }
     ensures all { IfOk result (λ c. All (AreBelow (length c.names)) rows.now) }
-    ensures names { IfOk result (λ c. (k : ℕ) → k < length c.names → IsName fds.now rows.now (Var k) (get_or c.names k (Var k))) }
+    ensures names { IfOk result (λ c. (k : ℕ) → k < length c.names → IsClassName fds.now rows.now (Var k) (get_or c.names k (Var k))) }
     ensures clash { IfOk result (λ c. MatchOption c.clash (IsConsistent fds.now rows.now) (λ p. IsClash fds.now rows.now p.0 p.1)) }
 {
     let constants = constants_of(alloc, rows)?;

@@ -2,11 +2,12 @@
 use Rattle.std.proofs.Common.{◌≡◌, ◌↔◌, ℕ, Bool, true, ◌<◌, ◌≤◌, ◌+◌, List, map, length, get_or, Contains, sym, ap, subst, ◌∙◌, ⊎_elim, arith}
 use Rattle.std.proofs.lemmas.Bool.{cases_lt}
 use Rattle.std.proofs.lemmas.List.{length-map, get_or-map, get_or_default}
+use Rattle.su_base.specs.Lists.{AreExactly, IsAscending}
 use Rattle.su_check.specs.declared.nodes.Node.{Node}
 use Rattle.su_check.specs.declared.nodes.Branch.{Branch}
 use Rattle.su_check.specs.declared.sending.Sent.{Sent}
 use Rattle.su_check.specs.SentRows.{Lines, sent_too}
-use Rattle.su_check.specs.Refutations.{AreExactly, IsOpen, IsFitting, Refutes, refuting, IsAscending, row_named, branches_of, target_of, node_of}
+use Rattle.su_check.specs.Refutations.{IsOpen, IsFitting, Refutes, refuting, row_named, branches_of, target_of, node_of}
 use Rattle.su_check.proofs.Exactly.{Front, front_more, front_all, front_next, front_end}
 
 pub is_open : (t : Lines) (r : ℕ) (n : Node) (p : List Sent) → Refutes t r n p → IsOpen t p (row_named n)

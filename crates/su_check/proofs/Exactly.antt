@@ -1,9 +1,8 @@
 -- Targets are passed one after another, in ascending order.
-use Rattle.std.proofs.Common.{◌≡◌, ◌≢◌, ℕ, ◌<◌, ◌≤◌, ◌+◌, List, length, get_or, Contains, sym, ap, subst, ◌∙◌, ⊎_elim, arith}
+use Rattle.std.proofs.Common.{◌≡◌, ◌≢◌, ℕ, ◌<◌, ◌≤◌, ◌+◌, List, length, get_or, Contains, sym, ap, subst, ◌∙◌, ⊎_elim, arith, below_more}
 use Rattle.std.proofs.lemmas.Bool.{cases_lt, cases_eq}
 use Rattle.std.proofs.lemmas.List.{get_or_default}
-use borrow.Author.Count.{below_more}
-use Rattle.su_check.specs.Refutations.{IsAscending, AreExactly}
+use Rattle.su_base.specs.Lists.{IsAscending, AreExactly}
 
 -- of ts the first q are those of the first i kept numbers that have the property, ascending
 pub record Front (P : ℕ → Type 0) (kept ts : List ℕ) (i q : ℕ) : Type 0 where

@@ -8,7 +8,7 @@ use Rattle.su_check.specs.declared.certificates.Certificate.{Certificate}
 use Rattle.su_check.specs.declared.certificates.StatedTerm.{StatedTerm}
 use Rattle.su_check.specs.Refutations.{Refutes}
 use Rattle.su_check.specs.Certificate.{tableau_of, lines_of, IsGood}
-use Rattle.su_check.specs.LeastParts.{IsLeastPart}
+use Rattle.su_check.specs.LeastParts.{IsLeastListed}
 use Rattle.su_check.specs.Verdict.{IsVerdictOn}
 use Rattle.su_check.specs.declared.verdicts.Checked.{Checked}
 use Rattle.su_check.specs.declared.verdicts.Checked.TheVariants.{Yes}
@@ -21,10 +21,10 @@ tree_of kinds i x good r has =
     let at : g.tree.row ≡ r = g.row ∙ get_or_default x.kept has.0 0 r has.1 ∙ has.2 in
     (g.tree.node, subst (λ r. Refutes (lines_of x) r g.tree.node []) at g.refutes)
 
-pub good_least : (kinds : Kinds) (i : ℕ) (x : StatedTerm) → IsGood kinds i x → IsLeastPart kinds (tableau_of kinds x) x.kept
+pub good_least : (kinds : Kinds) (i : ℕ) (x : StatedTerm) → IsGood kinds i x → IsLeastListed kinds (tableau_of kinds x) x.kept
 good_least kinds i x good = least_part (tableau_of kinds x) x.kept kinds x.fold good.form.valid good.form.typed good.form.ascending good.form.within good.fold (tree_of kinds i x good)
 
-pub yes_least : (kinds : Kinds) (terms : List StatedTerm) (v : Checked) → IsVerdictOn kinds terms v → (n : ℕ) → v ≡ Yes n → All (λ x. IsLeastPart kinds (tableau_of kinds x) x.kept) terms
+pub yes_least : (kinds : Kinds) (terms : List StatedTerm) (v : Checked) → IsVerdictOn kinds terms v → (n : ℕ) → v ≡ Yes n → All (λ x. IsLeastListed kinds (tableau_of kinds x) x.kept) terms
 yes_least kinds terms v is n e k d h =
     let yes = subst (IsVerdictOn kinds terms) e is in
     let l = yes.0 in
@@ -33,5 +33,5 @@ yes_least kinds terms v is n e k d h =
 pub verdict_as : (kinds kinds' : Kinds) (terms terms' : List StatedTerm) (v : Checked) → kinds ≡ kinds' → terms ≡ terms' → IsVerdictOn kinds terms v → IsVerdictOn kinds' terms' v
 verdict_as kinds kinds' terms terms' v e f is = subst (λ ts. IsVerdictOn kinds' ts v) f (subst (λ ks. IsVerdictOn ks terms v) e is)
 
-pub certificate_least : (c other : Certificate) (v : Checked) (n : ℕ) → c ≡ other → IsVerdictOn c.kinds c.terms v → v ≡ Yes n → All (λ x. IsLeastPart other.kinds (tableau_of other.kinds x) x.kept) other.terms
-certificate_least c other v n same is e = subst (λ (d : Certificate). All (λ x. IsLeastPart d.kinds (tableau_of d.kinds x) x.kept) d.terms) same (yes_least c.kinds c.terms v is n e)
+pub certificate_least : (c other : Certificate) (v : Checked) (n : ℕ) → c ≡ other → IsVerdictOn c.kinds c.terms v → v ≡ Yes n → All (λ x. IsLeastListed other.kinds (tableau_of other.kinds x) x.kept) other.terms
+certificate_least c other v n same is e = subst (λ (d : Certificate). All (λ x. IsLeastListed d.kinds (tableau_of d.kinds x) x.kept) d.terms) same (yes_least c.kinds c.terms v is n e)

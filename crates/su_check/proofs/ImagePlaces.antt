@@ -1,9 +1,8 @@
 -- The places of images, as rows go to their targets one after another.
-use Rattle.std.proofs.Common.{◌≡◌, ◌<◌, ◌+◌, ℕ, true, List, [], ◌∷◌, ◌++◌, get_or, length, Contains, Option, Some, None, inl, inr, refl, sym, ap, subst, ◌∙◌, arith}
+use Rattle.std.proofs.Common.{◌≡◌, ◌<◌, ◌+◌, ℕ, true, List, [], ◌∷◌, ◌++◌, get_or, length, Contains, Option, Some, None, inl, inr, refl, sym, ap, subst, ◌∙◌, arith, below_more}
 use Rattle.std.proofs.lemmas.Bool.{true≢false}
 use Rattle.std.proofs.lemmas.List.{get_or_default, get_or_append_left, length-append}
 use Rattle.std.proofs.lemmas.List.Elements.{All-push}
-use borrow.Author.Count.{below_more}
 use Rattle.su_tableau.specs.declared.symbols.Sym.{Sym}
 use Rattle.su_tableau.specs.declared.symbols.Sym.TheVariants.{Var}
 use Rattle.su_check.specs.declared.boards.Board.{Board}
@@ -43,12 +42,9 @@ sends_one : (t : Lines) (p : List Sent) (places : List StepColumn) (x y z : Sym)
 sends_one t p places x y z None a b = sym a ∙ b
 sends_one t p places x y z (Some n) a b = sym a.image ∙ b.image
 
-pair_before : (q : List Sent) (w : Sent) (i : ℕ) → i < length q → get_or (q ++ w ∷ []) i no_pair ≡ get_or q i no_pair
-pair_before q w i h = get_or_append_left q (w ∷ []) no_pair i h
-
 pub image_grows : (t : Lines) (q : List Sent) (w : Sent) (place : StepColumn) (x y : Sym) → IsImage t q place x y → IsImage t (q ++ w ∷ []) place x y
 image_grows t q w place x y m =
-    let e = sym (pair_before q w place.step m.step) in
+    let e = sym (get_or_append_left q (w ∷ []) no_pair place.step m.step) in
     record {
       step = let l = length-append q (w ∷ []) in let s = m.step in omega arith;
       column = subst (λ (o : Sent). place.column < length (numbered_row t o.row)) e m.column;

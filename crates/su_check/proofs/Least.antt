@@ -3,6 +3,7 @@ use Rattle.std.proofs.Common.{◌≡◌, ◌≢◌, ℕ, ◌<◌, ◌≤◌, ◌
 use Rattle.std.proofs.lemmas.Bool.{cases_eq}
 use Rattle.std.proofs.lemmas.List.{length-map, get_or-map, get_or_default}
 use Rattle.std.proofs.lemmas.List.Elements.{All-nil, All-push, All-contains, recursion_from_All}
+use Rattle.su_base.specs.Lists.{IsAscending}
 use Rattle.su_base.proofs.Numbers.{pigeonhole}
 use Rattle.su_base.proofs.Items.{Contains-map, AllZip-length, AllZip-get_or, Contains-map_source, Contains-or_not}
 use Rattle.su_tableau.specs.declared.symbols.Sym.{Sym}
@@ -18,8 +19,8 @@ use Rattle.su_tableau.proofs.Sets.{choose}
 use Rattle.su_check.specs.declared.nodes.Node.{Node}
 use Rattle.su_check.specs.declared.sending.Sent.{Sent}
 use Rattle.su_check.specs.SentRows.{Lines, numbered_row, sent_too}
-use Rattle.su_check.specs.Refutations.{IsAscending, IsFitting, Refutes, refuting, row_named, branches_of, target_of, node_of}
-use Rattle.su_check.specs.LeastParts.{part_of, IsLeastPart}
+use Rattle.su_check.specs.Refutations.{IsFitting, Refutes, refuting, row_named, branches_of, target_of, node_of}
+use Rattle.su_check.specs.LeastParts.{part_of, IsLeastListed}
 use Rattle.su_check.specs.Certificate.{IsFoldInto}
 
 -- ---- a tree refutes each map that leaves the row out
@@ -187,7 +188,7 @@ module _ (t : Tab) (kept : List ℕ) where
       let e = length-map kept (row_of t) in
       omega arith
 
-  pub least_part : (kinds : Kinds) (fold : List ℕ) → IsValid t → IsTyped kinds t → IsAscending kept → All (λ k. k < length t.rows) kept → IsFoldInto (record { head = t.head; rows = t.rows; kept = kept }) fold → HaveTrees → IsLeastPart kinds t kept
+  pub least_part : (kinds : Kinds) (fold : List ℕ) → IsValid t → IsTyped kinds t → IsAscending kept → All (λ k. k < length t.rows) kept → IsFoldInto (record { head = t.head; rows = t.rows; kept = kept }) fold → HaveTrees → IsLeastListed kinds t kept
   least_part kinds fold valid typed up within f trees =
       let to = fold_maps fold f in
       record {

@@ -1,7 +1,6 @@
 -- Which rows come into question as targets.
-use Rattle.std.proofs.Common.{◌≡◌, ◌<◌, ◌+◌, ℕ, List, [], ◌∷◌, length, get_or, sym, ap, subst, ◌∙◌, arith}
+use Rattle.std.proofs.Common.{◌≡◌, ◌<◌, ◌+◌, ℕ, List, [], ◌∷◌, length, get_or, sym, ap, subst, ◌∙◌, arith, below_more}
 use Rattle.std.specs.Int.{bit_at}
-use borrow.Author.Count.{below_more}
 use Rattle.std.proofs.lemmas.List.Elements.{All-push}
 use Rattle.su_base.proofs.Items.{All-append_left, All-middle}
 use Rattle.su_tableau.specs.declared.symbols.Sym.{Sym}

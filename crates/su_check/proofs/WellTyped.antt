@@ -2,6 +2,7 @@
 use Rattle.std.proofs.Common.{◌≡◌, ℕ, zero, suc, replicate, ◌<◌, ◌≤◌, ◌⊎◌, List, [], Option, Some, None, map, length, get_or, All, Contains, inl, inr, refl, sym, ap, subst, ◌∙◌, arith}
 use Rattle.std.specs.Option.{MatchOption}
 use Rattle.std.proofs.lemmas.List.{length-map, get_or-map, get_or_default, same_lists}
+use Rattle.su_base.specs.Lists.{IsAscending}
 use Rattle.su_base.specs.declared.values.Kind.{Kind}
 use Rattle.su_base.specs.declared.values.Kind.TheVariants.{Int as IntKind}
 use Rattle.su_base.specs.Value.{kind_of}
@@ -12,7 +13,6 @@ use Rattle.su_tableau.specs.Kinds.{Kinds, sym_kind}
 use Rattle.su_tableau.proofs.ChangedValuations.{Stands, stands}
 use Rattle.su_check.specs.declared.certificates.StatedTerm.{StatedTerm}
 use Rattle.su_check.specs.inside.Cells.{cell_at, kind_at, HasFound, AreFound, AreTyped}
-use Rattle.su_check.specs.Refutations.{IsAscending}
 use Rattle.su_check.specs.declared.boards.Board.{Board}
 use Rattle.su_check.specs.declared.sending.StepColumn.{StepColumn}
 use Rattle.su_check.specs.inside.Boards.{IsBoard, IsReady}

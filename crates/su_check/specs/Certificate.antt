@@ -1,6 +1,7 @@
 -- What a certificate claims, and when a term of it is good.
 -- part: the tableau with the kept rows alone
 use Rattle.std.specs.Prelude.{◌≡◌, ◌<◌, ◌≤◌, ℕ, List, [], length, get_or, All, Contains, slice_get, Some}
+use Rattle.su_base.specs.Lists.{IsAscending}
 use Rattle.su_tableau.specs.declared.symbols.Sym.{Sym}
 use Rattle.su_tableau.specs.Tableaux.{Tab, IsValid}
 use Rattle.su_tableau.specs.Kinds.{Kinds, IsTyped}
@@ -8,7 +9,7 @@ use Rattle.su_tableau.specs.Mapping.{images_of}
 use Rattle.su_check.specs.declared.certificates.StatedTerm.{StatedTerm}
 use Rattle.su_check.specs.declared.certificates.RowTree.{RowTree}
 use Rattle.su_check.specs.SentRows.{Lines, numbered_row}
-use Rattle.su_check.specs.Refutations.{IsAscending, Refutes}
+use Rattle.su_check.specs.Refutations.{Refutes}
 
 -- the tableau of a term: its head is outputs, and it has no operators
 abbrev pub tableau_of : Kinds → StatedTerm → Tab

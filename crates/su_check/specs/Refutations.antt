@@ -1,19 +1,11 @@
 -- Why a row can't be left out: a tree whose nodes try all targets.
 -- r: the kept row that is left out
-use Rattle.std.specs.Prelude.{◌≢◌, ◌<◌, ◌↔◌, ℕ, List, map, length, get_or, All, Contains}
+use Rattle.std.specs.Prelude.{◌≢◌, ℕ, List, map, All, Contains}
+use Rattle.su_base.specs.Lists.{AreExactly}
 use Rattle.su_check.specs.declared.sending.Sent.{Sent}
 use Rattle.su_check.specs.declared.nodes.Node.{Node, out-Node}
 use Rattle.su_check.specs.declared.nodes.Branch.{Branch, out-Branch}
 use Rattle.su_check.specs.SentRows.{Lines, AreSent, sent_too}
-
--- each number is greater than those before it
-abbrev pub IsAscending : List ℕ → Type 0
-IsAscending xs = (a b : ℕ) → a < b → b < length xs → get_or xs a 0 < get_or xs b 0
-
--- the numbers with the property, ascending
-pub record AreExactly (P : ℕ → Type 0) (numbers : List ℕ) : Type 0 where
-  pub ascends : IsAscending numbers
-  pub members : (i : ℕ) → Contains numbers i ↔ P i
 
 -- a kept row without a target
 pub record IsOpen (t : Lines) (p : List Sent) (s : ℕ) : Type 0 where

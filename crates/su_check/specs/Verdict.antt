@@ -11,7 +11,7 @@ use Rattle.su_check.specs.declared.verdicts.Fault.{Fault}
 use Rattle.su_check.specs.declared.verdicts.Fault.TheVariants.{Syntax, Form, Fold, Tree}
 use Rattle.su_check.specs.Grammar.{Reads}
 use Rattle.su_check.specs.Certificate.{tableau_of, IsGoodForm, IsGoodFold, IsGoodTree, IsGood}
-use Rattle.su_check.specs.LeastParts.{IsLeastPart}
+use Rattle.su_check.specs.LeastParts.{IsLeastListed}
 
 -- the tree of the first kept row that has no good one is at fault, or else the first one that is too many
 pub data IsTreeFault (x : StatedTerm) (row : ℕ) : Type 0 where
@@ -49,4 +49,4 @@ pub data IsVerdict (bytes : List ℕ) (v : Checked) : Type 0 where
 
 -- in each certificate that the bytes spell, of each term the part of the kept rows is least
 abbrev pub AreLeast : List ℕ → Type 0
-AreLeast bytes = (c : Certificate) → Reads bytes c → All (λ x. IsLeastPart c.kinds (tableau_of c.kinds x) x.kept) c.terms
+AreLeast bytes = (c : Certificate) → Reads bytes c → All (λ x. IsLeastListed c.kinds (tableau_of c.kinds x) x.kept) c.terms

@@ -1,6 +1,6 @@
 //! Lists of row numbers.
 ghost use Rattle.std.specs.Prelude.{◌≡◌, ◌<◌, ◌↔◌, IsTrue, length, get_or, All, Contains};
-ghost use Rattle.su_check.specs.Refutations.{IsAscending};
+ghost use Rattle.su_base.specs.Lists.{IsAscending};
 
 /// Whether the number is in the list.
 pub fn contains(numbers: &[u8], n: u8) -> bool

@@ -1,9 +1,8 @@
 -- Merging for a dependency: each row with its first at the right side; and for all dependencies, one after the other.
-use Rattle.std.proofs.Common.{◌≡◌, ℕ, ◌+◌, ◌<◌, ◌≤◌, ⊎_elim, Bool, true, false, ◌||◌, List, [], length, get_or, Contains, refl, sym, ap, ◌∙◌, subst, arith}
+use Rattle.std.proofs.Common.{◌≡◌, ℕ, ◌+◌, ◌<◌, ◌≤◌, ⊎_elim, Bool, true, false, ◌||◌, List, [], length, get_or, Contains, refl, sym, ap, ◌∙◌, subst, arith, below_more}
 use Rattle.std.specs.Prelude.{All}
-use borrow.Author.Count.{below_more}
 use Rattle.std.specs.FinSet.{contains, empty}
-use Rattle.std.proofs.lemmas.Bool.{cases_lt, true≢false}
+use Rattle.std.proofs.lemmas.Bool.{cases_lt, or_parts}
 use Rattle.std.proofs.lemmas.List.{get_or_default}
 use Rattle.std.proofs.lemmas.List.Elements.{All-contains, Contains-get_or}
 use Rattle.su_fd.specs.declared.dependencies.Fd.{Fd}
@@ -20,14 +19,6 @@ use Rattle.su_classes.specs.inside.Firsts.{row_at, first_at, AreMembersBelow, Ar
 use Rattle.su_classes.proofs.Listed.{right_low}
 use Rattle.su_base.proofs.Subsets.{subset_at}
 use Rattle.su_classes.proofs.Merges.{own_labels, progress_none, progress_then, progress_same}
-
-or_left : (x y : Bool) → (x || y) ≡ false → x ≡ false
-or_left true y e = absurd (true≢false e)
-or_left false y e = refl
-
-or_right : (x y : Bool) → (x || y) ≡ false → y ≡ false
-or_right true y e = absurd (true≢false e)
-or_right false y e = e
 
 -- ---- one merge after another
 
@@ -111,11 +102,11 @@ module _ (f : Fd) (rows : List Placed) (firsts : List ℕ) (old : List ℕ) (fla
             (merging_joining (λ label. All (λ a. label (item_of (row_at rows n) a) ≡ label (item_of (row_at rows first) a)) right) t new j));
         progress = progress;
         settled = λ e.
-            let t_is : t ≡ old = progress_same old t x flat so_far.progress (or_left x y e) in
+            let t_is : t ≡ old = progress_same old t x flat so_far.progress (or_parts x y e).0 in
             let new_is : new ≡ old = progress_same old new (x || y) flat progress e in
             let own : IsSound new (λ i. Var (rep new i)) = own_labels new (subst IsTable (sym new_is) flat) in
             below_more (λ p. LiesIn f (row_at rows p).has → SameItemLabels (rep new) f.right (row_at rows p) (row_at rows (first_at firsts p))) n
-            (λ p below is. subst (λ (u : List ℕ). SameItemLabels (rep u) f.right (row_at rows p) (row_at rows (first_at firsts p))) (t_is ∙ sym new_is) (so_far.settled (or_left x y e) p below is))
+            (λ p below is. subst (λ (u : List ℕ). SameItemLabels (rep u) f.right (row_at rows p) (row_at rows (first_at firsts p))) (t_is ∙ sym new_is) (so_far.settled (or_parts x y e).0 p below is))
             (λ is a h.
             same_var _ _
             (All-contains (λ a. Var (rep new (item_of (row_at rows n) a)) ≡ Var (rep new (item_of (row_at rows first) a))) right a ((j.exact (λ i. Var (rep new i))).0 own).1 (low a h)));
@@ -157,10 +148,10 @@ pub sweep_more : (rows : List Placed) (fds : List Fd) (i : ℕ) (f : Fd) (t new 
     → (x || z) ≡ false → (k : ℕ) (d : Fd) → k < i + 1 → Keeps (rep new) rows (get_or fds k d)
 sweep_more rows fds i f t new x z l is flat p before here e k d below =
     ⊎_elim
-    (λ (lt : k < i). subst (λ (u : List ℕ). Keeps (rep u) rows (get_or fds k d)) (sym (progress_same t new z flat p (or_right x z e))) (before (or_left x z e) k d lt))
+    (λ (lt : k < i). subst (λ (u : List ℕ). Keeps (rep u) rows (get_or fds k d)) (sym (progress_same t new z flat p (or_parts x z e).1)) (before (or_parts x z e).0 k d lt))
     (λ (ge : i ≤ k).
     let at : i ≡ k = omega arith in
-    subst (Keeps (rep new) rows) (is ∙ get_or_default fds i f d l ∙ ap (λ j. get_or fds j d) at) (here (or_right x z e)))
+    subst (Keeps (rep new) rows) (is ∙ get_or_default fds i f d l ∙ ap (λ j. get_or fds j d) at) (here (or_parts x z e).1))
     (cases_lt k i)
 
 -- ---- the whole

@@ -6,7 +6,7 @@ use Rattle.su_tableau.specs.declared.symbols.Sym.{Sym}
 use Rattle.su_tableau.specs.declared.symbols.Sym.TheVariants.{Const, Var}
 use Rattle.su_classes.specs.declared.items.Placed.{Placed}
 use Rattle.su_classes.specs.declared.items.Together.{Together}
-use Rattle.su_classes.specs.Items.{IsKept}
+use Rattle.su_classes.specs.Items.{KeepsAll}
 use Rattle.su_classes.specs.Tables.{rep, IsTable, IsLeastTable}
 use Rattle.su_classes.specs.ClassNames.{InClass, IsFrom, IsNaming}
 use Rattle.su_classes.proofs.Places.{IsNumbering}
@@ -45,7 +45,7 @@ module _ (base : ℕ) (table : List ℕ) (known : Sym → Bool) (number : Sym �
       (cases_Bool (known z))
 
 module _ (IsClosed : (Sym → Sym) → Type 0) (fds : List Fd) (rows : List Placed) (equal : List Together) (base : ℕ) (table : List ℕ) (known : Sym → Bool) (number : Sym → ℕ) (symbol : ℕ → Sym)
-    (m : IsNumbering base (length table) known number symbol) (least : IsLeastTable fds rows equal table) (kept : (label : Sym → Sym) → IsClosed label → IsKept fds rows equal (λ i. label (symbol i))) where
+    (m : IsNumbering base (length table) known number symbol) (least : IsLeastTable fds rows equal table) (kept : (label : Sym → Sym) → IsClosed label → KeepsAll fds rows equal (λ i. label (symbol i))) where
   abbrev t : IsTable table
   t = least.ordered
 

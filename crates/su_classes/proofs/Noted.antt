@@ -1,7 +1,6 @@
 -- What is noted under keys: rows have one key exactly where they agree at its attributes.
-use Rattle.std.proofs.Common.{◌≡◌, ◌⊎◌, ◌<◌, ◌+◌, ◌++◌, ℕ, Bool, true, false, List, [], ◌∷◌, length, Option, None, Some, refl, sym, ap, subst, ◌∙◌, inl, inr, arith}
+use Rattle.std.proofs.Common.{◌≡◌, ◌⊎◌, ◌<◌, ◌+◌, ◌++◌, ℕ, Bool, true, false, List, [], ◌∷◌, length, Option, None, Some, refl, sym, ap, subst, ◌∙◌, inl, inr, arith, below_more}
 use Rattle.std.specs.Prelude.{All, nat_eq}
-use borrow.Author.Count.{below_more}
 use Rattle.std.specs.FinSet.{empty}
 use Rattle.std.specs.HashMap.{HashMap, Updates}
 use Rattle.std.specs.Cmp.Lexicographic.{pointwise}

@@ -22,7 +22,7 @@ abbrev pub Keeps : {L : Type 0} → (ℕ → L) → List Placed → Fd → Type 
 Keeps label rows f = (r q : Placed) → Contains rows r → Contains rows q → LiesIn f r.has → LiesIn f q.has → SameItemLabels label f.left r q → SameItemLabels label f.right r q
 
 -- equal items have one label, and the dependencies are kept
-pub record IsKept {L : Type 0} (fds : List Fd) (rows : List Placed) (equal : List Together) (label : ℕ → L) : Type 0 where
+pub record KeepsAll {L : Type 0} (fds : List Fd) (rows : List Placed) (equal : List Together) (label : ℕ → L) : Type 0 where
   pub equalities : All (λ e. label e.left ≡ label e.right) equal
   pub dependencies : All (Keeps label rows) fds
 

@@ -6,7 +6,7 @@ use Rattle.su_fd.specs.declared.dependencies.Fd.{Fd}
 use Rattle.su_tableau.specs.declared.symbols.Sym.{Sym}
 use Rattle.su_classes.specs.declared.items.Placed.{Placed}
 use Rattle.su_classes.specs.declared.items.Together.{Together}
-use Rattle.su_classes.specs.Items.{IsKept}
+use Rattle.su_classes.specs.Items.{KeepsAll}
 
 -- the parent of an item; in a flat table its representative
 abbrev pub rep : List ℕ → ℕ → ℕ
@@ -24,5 +24,5 @@ IsSound table label = (i : ℕ) → i < length table → label i ≡ label (rep 
 -- the table is that of the least classes
 pub record IsLeastTable (fds : List Fd) (rows : List Placed) (equal : List Together) (table : List ℕ) : Type 0 where
   pub ordered : IsTable table
-  pub kept : IsKept fds rows equal (rep table)
-  pub within : (label : ℕ → Sym) → IsKept fds rows equal label → IsSound table label
+  pub kept : KeepsAll fds rows equal (rep table)
+  pub within : (label : ℕ → Sym) → KeepsAll fds rows equal label → IsSound table label

@@ -13,7 +13,7 @@ use Rattle.su_map.specs.Rooms.{Space, HasSizesOf}
 use Rattle.su_map.proofs.Containment.{list_maps, maps_list, whole_maps, maps_whole}
 use Rattle.su_chase.specs.Chased.{IsChased}
 use Rattle.su_steps.specs.declared.results.Term.{Term}
-use Rattle.su_compare.specs.Settled.{tab_at, IsFirstMapping, IsFound}
+use Rattle.su_compare.specs.Settled.{tab_at, IsFirstOfAllRows, IsFound}
 use Rattle.su_compare.specs.inside.Settlements.{HasRoomFor, IsAlike, AreAlike, IsAnswer}
 
 pub tab_here : (terms : List Term) (i : ℕ) (d : Term) → i < length terms → tab_at terms i ≡ (get_or terms i d).tableau
@@ -45,7 +45,7 @@ pub found_is : (terms : List Term) (c s : Tab) (j m k : ℕ) (list : List ℕ) (
     → ((i : ℕ) → i < j → ¬ Maps (tab_at terms i) c) → IsFound terms c (record { term = j; mapping = mapping })
 found_is terms c s j m k list mapping low at all_s all_c first is none = record {
   below = low;
-  mapping = subst (λ s. IsFirstMapping s c mapping) (sym at) (record {
+  mapping = subst (λ s. IsFirstOfAllRows s c mapping) (sym at) (record {
     from = ap (λ x. x.from) is;
     from_all = ap (λ x. x.from_mask + 1) is ∙ all_s;
     to = ap (λ x. x.to) is;

@@ -51,7 +51,6 @@ shown_is schema first second c kinds avoid frozen sorted kinds_are all is same a
   avoided = all;
   frozen = frozen;
   frozen_is = subst (λ k. IsFrozen k c avoid frozen) kinds_are is;
-  rows = same;
-  ascending = ascending;
+  rows = record { exact = same; ascending = ascending };
   head = refl;
 }

@@ -1,12 +1,11 @@
 -- What shows that a query is not within another: a term that is left, and its chased rows frozen.
 -- frozen: with new values for the variables, apart from the constants of all terms
 use Rattle.std.specs.Prelude.{◌≡◌, ◌↔◌, ◌⊎◌, ℕ, ◌<◌, List, length, Contains}
-use Rattle.std.specs.List.Sorted.{IsStrictlySortedBy}
 use Rattle.su_base.specs.declared.values.Value.{Value}
-use Rattle.su_base.specs.Value.{compare_lists}
 use Rattle.su_tableau.specs.declared.symbols.Sym.{Sym}
 use Rattle.su_tableau.specs.declared.symbols.Sym.TheVariants.{Const}
 use Rattle.su_tableau.specs.Tableaux.{Tab}
+use Rattle.su_rel.specs.ExactRows.{AreExactlyRows}
 use Rattle.su_chase.specs.Frozen.{IsFrozen}
 use Rattle.su_chase.specs.declared.freezing.Frozen.{Frozen}
 use Rattle.su_schema.specs.SchemaValue.{SchemaValue}
@@ -28,8 +27,7 @@ pub record IsShown (schema : SchemaValue) (first second : List Term) (c : Tab) (
   pub avoided : (v : Value) → Contains avoid v ↔ (InTerms first v ⊎ InTerms second v)
   pub frozen : Frozen
   pub frozen_is : IsFrozen (attribute_kinds schema) c avoid frozen
-  pub rows : (row : List Value) → Contains shown.universe row ↔ Contains frozen.universe row
-  pub ascending : IsStrictlySortedBy compare_lists shown.universe
+  pub rows : AreExactlyRows (Contains frozen.universe) shown.universe
   pub head : shown.head ≡ frozen.head
 
 -- the least term that is not settled, and its frozen rows

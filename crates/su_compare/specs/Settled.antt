@@ -16,7 +16,7 @@ abbrev pub tab_at : List Term → ℕ → Tab
 tab_at terms i = get_or (map (λ t. t.tableau) terms) i (record { width = 0; rows = []; head = []; outputs = 0; operators = [] })
 
 -- the first mapping of all rows of s into all rows of c
-pub record IsFirstMapping (s c : Tab) (m : Certified) : Type 0 where
+pub record IsFirstOfAllRows (s c : Tab) (m : Certified) : Type 0 where
   pub from : m.from ≡ s
   pub from_all : m.from_mask + 1 ≡ 2 ^ length s.rows
   pub to : m.to ≡ c
@@ -26,7 +26,7 @@ pub record IsFirstMapping (s c : Tab) (m : Certified) : Type 0 where
 -- the least of the terms that maps into c, by the first mapping
 pub record IsFound (terms : List Term) (c : Tab) (f : Found) : Type 0 where
   pub below : f.term < length terms
-  pub mapping : IsFirstMapping (tab_at terms f.term) c f.mapping
+  pub mapping : IsFirstOfAllRows (tab_at terms f.term) c f.mapping
   pub least : (j : ℕ) → j < f.term → ¬ Maps (tab_at terms j) c
 
 -- two constants meet in a class

@@ -1,11 +1,12 @@
 -- The number of a field: what `parse` answers, and what a number is written as.
-use Rattle.std.proofs.Common.{◌≡◌, ◌<◌, ◌^◌, ◌&&◌, ◌==◌, ℕ, zero, suc, true, false, List, [], ◌∷◌, get_or, Some, None, Result, Ok, Err, refl, ap, inl, inr, rules, arith, ℤ, pos, negsuc, lit<, eqb-true, ne_eqb}
+use Rattle.std.proofs.Common.{◌≡◌, ◌^◌, ◌&&◌, ◌==◌, ℕ, true, false, List, [], ◌∷◌, get_or, Some, None, Result, Ok, Err, refl, ap, inl, inr, rules, arith, ℤ, pos, negsuc, lit<, eqb-true, ne_eqb}
 use Rattle.std.proofs.lemmas.Bool.{cases_Bool, both_ways, lt-ltb, ltb-true, and_parts}
 use Rattle.std.specs.Result.{result_ok}
 use Rattle.std.specs.Str.{IsUtf8, IsAscii, all_ascii_digits}
 use Rattle.std.specs.Str.Parse.{AllDigits, IsNumeral, ParsesSigned, digits_value, digits_value_after, signed_digits_value, without_leading_sign}
 use Rattle.std.specs.Fmt.{signed_decimal, decimal}
 use Rattle.std.proofs.lemmas.Str.{IsUtf8-from_ascii}
+use Rattle.std.proofs.lemmas.Str.Ascii.{IsAscii-cons}
 use Rattle.std.proofs.lemmas.Str.Parse.{IsNumeralModel, numerals_by_fold, tells_all_ascii_digits, digit_from_value}
 use Rattle.std.proofs.lemmas.Fmt.{IsAscii-from_digits, decimal_is_IsNumeral, parse-signed_decimal}
 use mir.Syntax.{w64}
@@ -57,16 +58,12 @@ not-text bs other = elim (cases_Bool (is_digits (digits_of bs) && in_range (sign
   | inr test ↦ rw test refl
 ]
   where
-    after-sign : (c : ℕ) (cs : List ℕ) → c < 128 → IsAscii cs → IsAscii (c ∷ cs)
-    after-sign c cs lt more zero = lt
-    after-sign c cs lt more (suc i) = more i
-
     ascii : (bs : List ℕ) → AllDigits 10 (digits_of bs) → IsAscii bs
     ascii [] h = λ i. lit< tt
     ascii (c ∷ cs) h = elim (cases_Bool (c == 45)) [
       | inl minus ↦
           let is : c ≡ 45 = eqb-true c 45 minus in
-          after-sign c cs (omega arith) (IsAscii-from_digits cs (rw minus at h))
+          IsAscii-cons c cs (omega arith) (IsAscii-from_digits cs (rw minus at h))
       | inr plain ↦ IsAscii-from_digits (c ∷ cs) (rw plain at h)
     ]
 

@@ -1,7 +1,9 @@
 -- The row of a record, one column after another.
-use Rattle.std.proofs.Common.{◌≡◌, ◌+◌, ◌-◌, ◌<◌, ◌≤◌, ◌&&◌, ◌==◌, ℕ, zero, suc, Bool, true, false, List, [], ◌∷◌, ◌++◌, length, drop, Option, Some, None, Ok, Err, refl, sym, ap, arith, append_assoc, add-one, eq-eqb}
+use Rattle.std.proofs.Common.{◌≡◌, ◌+◌, ◌-◌, ◌≤◌, ◌&&◌, ◌==◌, ℕ, zero, suc, Bool, true, false, List, [], ◌∷◌, ◌++◌, length, drop, Option, Some, None, Ok, Err, refl, sym, ap, ◌∙◌, append_assoc, add-one, eq-eqb}
 use Rattle.std.proofs.lemmas.List.{append-nil, drop_all}
 use Rattle.std.proofs.lemmas.Bool.{le-ltb}
+use Rattle.std.proofs.Math.Seq.{drop-cons}
+use Rattle.std.proofs.lemmas.Option.{get_or_from_slice_get, slice_get_within}
 use Rattle.std.specs.Prelude.{slice_get, is_none, MatchOption}
 use Rattle.csv.specs.Records.{AllText, cut_from, field_at}
 use Rattle.std.specs.Str.{IsAscii}
@@ -26,15 +28,7 @@ field-at (f ∷ fs) (suc i) = field-at fs i
 
 -- what stands from a place on
 pub drop-at : {A : Type 0} (xs : List A) (i : ℕ) (x : A) → slice_get xs i ≡ Some x → drop i xs ≡ x ∷ drop (suc i) xs
-drop-at [] zero x h = absurd (cc h)
-drop-at [] (suc i) x h = absurd (cc h)
-drop-at (y ∷ xs) zero x h = cc
-drop-at (y ∷ xs) (suc i) x h = drop-at xs i x h
-
-pub present : {A : Type 0} (xs : List A) (i : ℕ) → i < length xs → slice_get xs i ≡ None → ⊥
-present [] i lt none = omega arith
-present (y ∷ xs) zero lt none = cc none
-present (y ∷ xs) (suc i) lt none = present xs i (omega arith) none
+drop-at xs i x h = drop-cons xs i x (slice_get_within xs i x h) ∙ ap (λ y. y ∷ drop (suc i) xs) (get_or_from_slice_get xs i x x h)
 
 -- the value that a row got at its end, where one was found
 pub got : (sought : Option Value) (found : Bool) (old new : List Value) → MatchOption sought (found ≡ false) (λ value. (found ≡ true) × (new ≡ old ++ value ∷ []))

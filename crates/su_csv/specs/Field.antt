@@ -1,7 +1,5 @@
 -- What a field of a CSV file stands for.
---   field    the bytes between two commas or line ends, quotes taken off
---   number   a '-' or none and one or more digits, for a whole number of 64 bits
---   text     UTF-8 of at most 4,096 bytes
+-- field: the bytes between two commas or line ends, quotes taken off; number: a '-' or none and one or more digits, for a whole number of 64 bits; text: UTF-8 of at most 4,096 bytes
 use Rattle.std.specs.Prelude.{ℕ, ◌^◌, Bool, false, ◌&&◌, nat_lt, nat_le, if◌then◌else◌, List, [], ◌∷◌, length, drop, Option, Some, None, option_map, ℤ, pos, negsuc}
 use Rattle.std.specs.Str.{is_utf8, all_ascii_digits}
 use Rattle.std.specs.Str.Parse.{starts_with_minus, signed_digits_value}

@@ -1,6 +1,5 @@
 -- What reading a CSV file answers.
---   file     any bytes
---   records  as `csv` reads them at its default settings, the header being the first
+-- file: any bytes; records: as `csv` reads them at its default settings, the header being the first
 use Rattle.std.specs.Prelude.{ℕ, suc, Bool, if◌then◌else◌, ◌==◌, List, [], ◌∷◌, map, Result, Ok, Err}
 use Rattle.std.specs.Cmp.Lexicographic.{pointwise}
 use Rattle.csv.specs.Reading.{default_config, records, strip_bom}

@@ -1,5 +1,5 @@
 -- Text that reads back.
---   text     as `csv` writes it under a header
+-- text: as `csv` writes it under a header
 use Rattle.std.specs.Prelude.{◌≡◌, ℕ, List, map, Ok}
 use Rattle.su_base.specs.declared.values.Value.{Value}
 use Rattle.su_base.specs.declared.values.Column.{Column}

@@ -1,7 +1,5 @@
 -- The row of a record, or its fault.
---   record   the fields of one line
---   number   which record it is, from 1 after the header
---   place    which column it is, from 0
+-- record: the fields of one line; number: which record it is, from 1 after the header; place: which column it is, from 0
 use Rattle.std.specs.Prelude.{ℕ, suc, ◌&&◌, ◌==◌, nat_lt, if◌then◌else◌, List, [], ◌∷◌, ◌++◌, length, Option, Some, None, is_none, option_to_list, Result, Ok, Err}
 use Rattle.su_base.specs.declared.values.Value.{Value}
 use Rattle.su_base.specs.declared.values.Column.{Column}

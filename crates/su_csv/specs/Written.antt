@@ -1,5 +1,5 @@
 -- The CSV text of rows.
---   text     as `csv` writes it at its default settings
+-- text: as `csv` writes it at its default settings
 use Rattle.std.specs.Prelude.{◌≡◌, ◌<◌, ◌≤◌, ℕ, List, ◌∷◌, length, map, flat_map, All, get_or, []}
 use Rattle.std.specs.Fmt.{signed_decimal}
 use Rattle.csv.specs.Reading.{strip_bom}

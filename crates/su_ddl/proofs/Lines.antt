@@ -3,7 +3,7 @@ use Rattle.std.proofs.Common.{Option, Some, None, ◌≡◌, ◌<◌, ◌≤◌,
 use Rattle.std.specs.List.{range_with_len, filter_map, AllByRecursion, cons_option}
 use Rattle.std.proofs.lemmas.List.{map-append, take_all, take_more, take-append-drop}
 use Rattle.std.proofs.lemmas.Grind.{flat_map-append}
-use Rattle.std.proofs.lemmas.List.Elements.{filter_map-append, recursion_from_All}
+use Rattle.std.proofs.lemmas.List.Elements.{filter-append, filter_map-append, recursion_from_All}
 use Rattle.std.proofs.lemmas.Option.{get_or_from_slice_get, slice_get_within, slice_get-map, slice_get-get_or, slice_get_past}
 use Rattle.su_base.specs.declared.values.Column.{Column}
 use Rattle.su_lex.specs.declared.meaning.Symbol.{Symbol}
@@ -108,19 +108,12 @@ two_fields f g h (x ∷ xs) (suc i) u v e k = two_fields f g h xs i u v e k
 
 -- ---- ranges
 
-filter_push : {A : Type 0} (p : A → Bool) (xs : List A) (x : A) → filter p (xs ++ x ∷ []) ≡ filter p xs ++ cond (p x) (x ∷ []) []
-filter_push p [] x = elim (p x) as (λ v. cond v (x ∷ []) [] ≡ cond v (x ∷ []) []) [ true ↦ refl | false ↦ refl ]
-filter_push p (y ∷ xs) x = elim (p y) as (λ v. p y ≡ v → filter p (y ∷ xs ++ x ∷ []) ≡ filter p (y ∷ xs) ++ cond (p x) (x ∷ []) []) [
-  | true ↦ λ e. rw e (ap (λ v. y ∷ v) (filter_push p xs x))
-  | false ↦ λ e. rw e (filter_push p xs x)
-] refl
-
 pub one_wanted : {B : Type 0} (p : ℕ → Bool) (f : ℕ → B) (n : ℕ) (x : B) (names next : List B) → f n ≡ x → names ≡ map f (filter p (range_with_len 0 n)) → next ≡ names ++ cond (p n) (x ∷ []) []
     → next ≡ map f (filter p (range_with_len 0 (n + 1)))
 one_wanted p f n x names next at so e =
     let one : cond (p n) (x ∷ []) [] ≡ map f (cond (p n) (n ∷ []) []) = elim (p n) as (λ v. cond v (x ∷ []) [] ≡ map f (cond v (n ∷ []) [])) [ true ↦ ap (λ y. y ∷ []) (sym at) | false ↦ refl ] in
     e ∙ ap (λ v. v ++ cond (p n) (x ∷ []) []) so ∙ ap (λ v. map f (filter p (range_with_len 0 n)) ++ v) one ∙ sym (map-append f (filter p (range_with_len 0 n)) (cond (p n) (n ∷ []) []))
-    ∙ ap (map f) (sym (filter_push p (range_with_len 0 n) n) ∙ ap (filter p) (sym (range-push_zero n)))
+    ∙ ap (map f) (sym (filter-append p (range_with_len 0 n) (n ∷ [])) ∙ ap (filter p) (sym (range-push_zero n)))
 
 -- ---- entries of a schema
 

@@ -1,9 +1,8 @@
 -- The things of a text stand for each drawn word exactly once.
-use Rattle.std.proofs.Common.{◌≡◌, ◌≢◌, ◌<◌, ◌+◌, ℕ, zero, suc, Bool, true, false, cond, List, [], ◌∷◌, ◌++◌, Option, Some, None, filter, length, slice_get, refl, sym, ap, ◌∙◌, subst, arith, append-nil, ⊎_elim}
+use Rattle.std.proofs.Common.{◌≡◌, ◌≢◌, ◌<◌, ◌+◌, ℕ, zero, suc, Bool, true, false, cond, List, [], ◌∷◌, ◌++◌, Option, Some, None, filter, length, slice_get, refl, sym, ap, ◌∙◌, subst, arith, append-nil}
 use Rattle.std.specs.Prelude.{◌==◌, ◌&&◌}
 use Rattle.std.proofs.lemmas.List.Elements.{filter-append}
-use Rattle.std.proofs.lemmas.Bool.{eq-eqb}
-use Rattle.std.proofs.lemmas.Bool.Decides.{eqb_tells}
+use Rattle.std.proofs.lemmas.Bool.{eq-eqb, ne_eqb}
 use Rattle.su_draw.specs.declared.things.What.{What}
 use Rattle.su_draw.specs.declared.things.Thing.{Thing}
 use Rattle.su_draw.specs.declared.reading.Line.{Line}
@@ -11,16 +10,12 @@ use Rattle.su_draw.specs.Things.{text_shown, thing_of, things_behind, things_in,
 use Rattle.su_draw.specs.Drawn.{drawn_as}
 use Rattle.su_draw.specs.Once.{stands_for, thing_of_word, thing_at, StandOnce}
 
--- a test of two numbers that differ
-differs : (a b : ℕ) → a ≢ b → (a == b) ≡ false
-differs a b h = ⊎_elim (λ (w : ((a == b) ≡ true) × (a ≡ b)). absurd (h w.1)) (λ (w : ((a == b) ≡ false) × (a ≢ b)). w.0) (eqb_tells a b)
-
 -- where the place is another one, or this one
 of_other_line : (w : Option What) (i j m k : ℕ) (word : List ℕ) → j ≢ i → filter (stands_for i k) (thing_of w j m word) ≡ []
 of_other_line None i j m k word h = refl
 of_other_line (Some what) i j m k word h =
     let t : Thing = record { line = j; word = m; what = what; text = text_shown what word } in
-    ap (λ b. cond (b && (m == k)) (t ∷ []) []) (differs j i h)
+    ap (λ b. cond (b && (m == k)) (t ∷ []) []) (ne_eqb j i h)
 
 neither : (b : Bool) (t : Thing) → cond (b && false) (t ∷ []) [] ≡ []
 neither true t = refl
@@ -30,7 +25,7 @@ of_other_word : (w : Option What) (i j m k : ℕ) (word : List ℕ) → m ≢ k 
 of_other_word None i j m k word h = refl
 of_other_word (Some what) i j m k word h =
     let t : Thing = record { line = j; word = m; what = what; text = text_shown what word } in
-    ap (λ b. cond ((j == i) && b) (t ∷ []) []) (differs m k h) ∙ neither (j == i) t
+    ap (λ b. cond ((j == i) && b) (t ∷ []) []) (ne_eqb m k h) ∙ neither (j == i) t
 
 of_this_word : (w : Option What) (i k : ℕ) (word : List ℕ) → filter (stands_for i k) (thing_of w i k word) ≡ thing_of w i k word
 of_this_word None i k word = refl

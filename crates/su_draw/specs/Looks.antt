@@ -1,5 +1,5 @@
 -- How a text looks: its attributes of colour and weight.
--- What is light is paler; the number and the symbols of a row are bold where they aren't light.
+-- look: the attributes of colour and weight; light: paler, as what isn't kept; bold: the number and the symbols of a row that isn't light
 use Rattle.std.specs.Prelude.{ℕ, ◌==◌, if◌then◌else◌, Bool, true, false, List, codes, decimal}
 use Rattle.su_draw.specs.declared.things.What.{What}
 use Rattle.su_draw.specs.declared.things.What.TheVariants.{Row, Symbol}

@@ -2,33 +2,23 @@
 use Rattle.std.proofs.Common.{◌≡◌, ℕ, ◌+◌, ◌<◌, Bool, true, false, List, [], ◌∷◌, ◌++◌, length, take, get_or, refl, sym, ap, ◌∙◌, append_assoc}
 use Rattle.std.specs.Prelude.{◌&&◌, ◌||◌, nat_eq}
 use Rattle.std.specs.List.{list_all}
+use Rattle.std.proofs.Math.Bool.{and-true, and_assoc, and_comm}
 use Rattle.std.proofs.lemmas.Bool.{or_left, or_right}
 use Rattle.std.proofs.lemmas.List.{take_more}
-use Rattle.std.proofs.lemmas.List.Folds.{list_any-append}
+use Rattle.std.proofs.lemmas.List.Folds.{list_all-append, list_any-append}
 use Rattle.su_base.specs.declared.values.Value.{Value}
 use Rattle.su_exec.specs.declared.checks.Check.{Check}
 use Rattle.su_exec.specs.declared.checks.Test.{Test}
 use Rattle.su_exec.specs.inside.Edges.{has}
 use Rattle.su_exec.specs.inside.Checks.{all_hold, all_pass, check_holds, check_vars, test_passes, vars_of}
 
-and_assoc : (a b c : Bool) → ((a && b) && c) ≡ (a && (b && c))
-and_assoc true b c = refl
-and_assoc false b c = refl
-
-and_swap : (a b : Bool) → (a && b) ≡ (b && a)
-and_swap true true = refl
-and_swap true false = refl
-and_swap false true = refl
-and_swap false false = refl
-
 all_push : {X : Type 0} (p : X → Bool) (xs : List X) (x : X) → list_all p (xs ++ x ∷ []) ≡ (list_all p xs && p x)
-all_push p [] x = and_swap (p x) true
-all_push p (y ∷ xs) x = ap (λ b. p y && b) (all_push p xs x) ∙ sym (and_assoc (p y) (list_all p xs) (p x))
+all_push p xs x = list_all-append p xs (x ∷ []) ∙ ap (λ b. list_all p xs && b) (and-true (p x))
 
 -- a check becomes a test
 pub taken_now : (a h p l c t : Bool) → a ≡ (p && l) → t ≡ c → h ≡ (a && c) → h ≡ ((p && t) && l)
 taken_now a h p l c t e f g =
-    g ∙ ap (λ a. a && c) e ∙ and_assoc p l c ∙ ap (λ b. p && b) (and_swap l c) ∙ sym (and_assoc p c l) ∙ ap (λ t. (p && t) && l) (sym f)
+    g ∙ ap (λ a. a && c) e ∙ and_assoc p l c ∙ ap (λ b. p && b) (and_comm l c) ∙ sym (and_assoc p c l) ∙ ap (λ t. (p && t) && l) (sym f)
 
 -- a check is left for later
 pub taken_later : (a h p l c : Bool) → a ≡ (p && l) → h ≡ (a && c) → h ≡ (p && (l && c))
@@ -50,12 +40,9 @@ vars_push (d ∷ cs) c =
 pub has_push : (cs : List Check) (c : Check) (k : ℕ) → has (check_vars (cs ++ c ∷ [])) k ≡ (has (check_vars cs) k || has (check_vars (c ∷ [])) k)
 has_push cs c k = ap (λ ks. has ks k) (vars_push cs c) ∙ list_any-append (λ x. nat_eq x k) (check_vars cs) (check_vars (c ∷ []))
 
--- one check is taken as a test, or left for later
+-- one check is taken as a test
 pub take_now : (p t l c : Bool) → t ≡ c → ((p && t) && l) ≡ ((p && l) && c)
-take_now p t l c e = ap (λ t. (p && t) && l) e ∙ and_assoc p c l ∙ ap (λ x. p && x) (and_swap c l) ∙ sym (and_assoc p l c)
-
-pub take_later : (p l c : Bool) → (p && (l && c)) ≡ ((p && l) && c)
-take_later p l c = sym (and_assoc p l c)
+take_now p t l c e = ap (λ t. (p && t) && l) e ∙ and_assoc p c l ∙ ap (λ x. p && x) (and_comm c l) ∙ sym (and_assoc p l c)
 
 -- one check more of a list
 module _ (cs : List Check) (i : ℕ) (d : Check) (l : i < length cs) where

@@ -4,6 +4,7 @@ use Rattle.std.specs.Prelude.{map, cond, All}
 use Rattle.std.proofs.lemmas.Bool.{cases_Bool, cases_lt}
 use Rattle.std.proofs.lemmas.List.{get_or-map, length-map, get_or_default}
 use Rattle.std.proofs.lemmas.List.Elements.{All-head, All-tail}
+use Rattle.std.proofs.lemmas.Simd.{map-map}
 use Rattle.su_base.proofs.Same.{value_eq-Decides}
 use Rattle.su_base.specs.declared.values.Value.{Value}
 use Rattle.su_base.specs.contracts.values.ValuePartialEq.TheImpl.{ghosts}
@@ -70,15 +71,11 @@ fits_codes values apart v e coded h =
     let back = row_back values apart v row e.vars (coded h.0 [] l) (sym at ∙ h.2) in
     (h.0, l, get_or_default e.rows h.0 (map (λ k. place_in values (v k)) e.vars) [] l ∙ back)
 
-map_map : (values : List Value) (w : ℕ → ℕ) (vars : List ℕ) → map (decode values) (map w vars) ≡ map (λ k. decode values (w k)) vars
-map_map values w [] = refl
-map_map values w (k ∷ vars) = ap (λ r. decode values (w k) ∷ r) (map_map values w vars)
-
 pub fits_values : (values : List Value) (w : ℕ → ℕ) (e : Edge ℕ) → Fits w e → Fits (λ k. decode values (w k)) (meaning values e)
 fits_values values w e h =
     let n = length-map e.rows (map (decode values)) in
     let l = h.1 in
-    (h.0, omega arith, get_or-map (map (decode values)) e.rows h.0 (map w e.vars) (map (λ k. decode values (w k)) e.vars) l ∙ ap (map (decode values)) h.2 ∙ map_map values w e.vars)
+    (h.0, omega arith, get_or-map (map (decode values)) e.rows h.0 (map w e.vars) (map (λ k. decode values (w k)) e.vars) l ∙ ap (map (decode values)) h.2 ∙ map-map (decode values) w e.vars)
 
 pub fits_all_codes : (values : List Value) → AreApart values → (v : ℕ → Value) (es : List (Edge ℕ)) → All (IsCoded values) es → FitsAll v (meanings values es) → FitsAll (λ k. place_in values (v k)) es
 fits_all_codes values apart v es coded h k d l =

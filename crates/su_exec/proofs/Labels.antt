@@ -14,7 +14,7 @@ use Rattle.su_exec.specs.declared.tasks.TaskRow.{TaskRow}
 use Rattle.su_tableau.specs.declared.symbols.Sym.{Sym}
 use Rattle.su_tableau.specs.declared.symbols.Sym.TheVariants.{Var}
 use Rattle.std.proofs.lemmas.Option.{slice_get_within, get_or_from_slice_get}
-use Rattle.su_reduce.proofs.Places.{same_var}
+use Rattle.su_reduce.proofs.Places.{one_var}
 
 pub connected_same : (task : Task) (i j : ℕ) → i ≡ j → AreConnected task i j
 connected_same task i j e label h = ap label e
@@ -167,12 +167,12 @@ labelling_is task ls first same between i j (compared k l a b e) =
     same i k f.0 a f.1 ∙ between k l f.0 g.0 e f.1 g.1 ∙ sym (same j l g.0 b g.1)
 
 pub first_told : (task : Task) (k : ℕ) (symbol : Sym) (r : Option ℕ) → symbol ≡ Var k → MatchOption r ((i : ℕ) → StandsIn task k i → ⊥) (IsFirstRow task k) → MatchOption r ((l i : ℕ) → symbol ≡ Var l → StandsIn task l i → ⊥) (IsFirstOf task symbol)
-first_told task k symbol None e h = λ l i f s. h i (subst (λ k. StandsIn task k i) (same_var symbol l k f e) s)
+first_told task k symbol None e h = λ l i f s. h i (subst (λ k. StandsIn task k i) (one_var symbol l k f e) s)
 first_told task k symbol (Some i) e h = record { variable = k; is = e; first = h }
 
 -- the first row with a symbol
 pub first_is_one : (task : Task) (symbol : Sym) (i k j : ℕ) → IsFirstOf task symbol i → symbol ≡ Var k → IsFirstRow task k j → i ≡ j
-first_is_one task symbol i k j a e b = first_same task a.variable i j a.first (subst (λ k. IsFirstRow task k j) (same_var symbol k a.variable e a.is) b)
+first_is_one task symbol i k j a e b = first_same task a.variable i j a.first (subst (λ k. IsFirstRow task k j) (one_var symbol k a.variable e a.is) b)
 
 pub first_linked : (task : Task) (k i j : ℕ) → IsFirstRow task k i → StandsIn task k j → AreConnected task i j
 first_linked task k i j first stands label h = h i j (shared k first.stands stands)

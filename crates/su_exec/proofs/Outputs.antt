@@ -444,7 +444,7 @@ spots_more vars terms spots i d spot l h a b =
 -- ---- the answers of what a body comes to
 
 both_shown : (values : List Value) (terms : List CodedSymbol) (g : Edge ℕ) (r : Result (List (List Value)) ExecFault) → IfOk r (λ rows. (h : List Value) → Contains rows h ↔ IsShown values g terms h) → IfOk r (IsStrictlySortedBy compare_lists) → IfOk r (IsShownBy values terms (Whole g))
-both_shown values terms g (Ok rows) a b = (a, b)
+both_shown values terms g (Ok rows) a b = record { exact = a; ascending = b }
 both_shown values terms g (Err e) a b = tt
 
 pub whole_shown :
@@ -465,10 +465,10 @@ module _ (tables : List Stored) (values : List Value) (task : Task) (es : List (
   outputs_by (Whole g) rows m s =
       record {
         exact = λ h.
-            let a = s.0 h in
+            let a = s.exact h in
             let b = shown_outputs tables values task es checks terms is body needed needed_is g m.0 h in
             (λ x. b.0 (a.0 x), λ x. a.1 (b.1 x));
-        ascending = s.1;
+        ascending = s.ascending;
       }
   outputs_by Over rows m s = absurd s
   outputs_by Nothing rows m s = none_are_outputs tables task rows s (no_outputs tables values task es checks terms is body m)

@@ -1,5 +1,5 @@
 -- Two edges are taken out of a body, and their join is put in.
-use Rattle.std.proofs.Common.{◌≡◌, ℕ, ◌+◌, ◌-◌, ◌<◌, ◌≤◌, ◌⊎◌, ◌++◌, Bool, true, false, List, [], ◌∷◌, length, get_or, refl, sym, ap, subst, ◌∙◌, inl, inr, ⊎_elim, arith}
+use Rattle.std.proofs.Common.{◌≡◌, ℕ, ◌+◌, ◌-◌, ◌<◌, ◌≤◌, ◌⊎◌, ◌++◌, Bool, true, false, List, [], ◌∷◌, length, get_or, refl, sym, subst, ◌∙◌, inl, inr, ⊎_elim, arith}
 use Rattle.std.specs.List.{remove, All}
 use Rattle.std.proofs.lemmas.Bool.{cases_Bool, cases_eq, cases_lt, true≢false}
 use Rattle.std.proofs.lemmas.List.{get_or_default, take_at, drop_at}
@@ -90,11 +90,6 @@ one_of a b k h =
     (λ (t : has a.vars k ≡ true). inl t)
     (λ (t : has a.vars k ≡ false). inr (alone b k (grind (arith, h, t))))
     (cases_Bool (has a.vars k))
-
-pub single : {X : Type 0} (xs : List X) (x : X) → length xs ≡ 1 → x ≡ get_or xs 0 x → xs ≡ x ∷ []
-single [] x n e = absurd (omega arith)
-single (y ∷ []) x n e = ap (λ z. z ∷ []) (sym e)
-single (y ∷ z ∷ zs) x n e = absurd (omega arith)
 
 -- ---- one edge loses the columns that nothing needs
 

@@ -1,5 +1,5 @@
 -- Three edges that are joined at once: by way of one of two, block by block.
-use Rattle.std.proofs.Common.{◌≡◌, ℕ, ◌+◌, ◌<◌, ◌≤◌, ◌↔◌, ◌⊎◌, ◌++◌, Bool, true, false, List, [], ◌∷◌, length, get_or, Contains, refl, sym, ap, subst, ◌∙◌, inl, inr, ⊎_elim, arith}
+use Rattle.std.proofs.Common.{◌≡◌, ℕ, ◌+◌, ◌<◌, ◌≤◌, ◌↔◌, ◌⊎◌, ◌++◌, Bool, true, false, List, [], ◌∷◌, length, get_or, Contains, refl, sym, ap, subst, ◌∙◌, inl, inr, ⊎_elim, append-nil, arith}
 use Rattle.std.specs.Prelude.{map, cond}
 use Rattle.std.proofs.lemmas.Bool.{cases_Bool, cases_lt}
 use Rattle.std.proofs.lemmas.List.{get_or_default}
@@ -158,10 +158,6 @@ given_row g places vars r below is x =
 
 -- ---- blocks
 
-append_nothing : {X : Type 0} (xs : List X) → xs ++ [] ≡ xs
-append_nothing [] = refl
-append_nothing (x ∷ xs) = ap (λ ys. x ∷ ys) (append_nothing xs)
-
 pub block_all :
     (e : Edge ℕ) (blocks : List ℕ) (n i : ℕ) (rows : List (List ℕ)) (row : List ℕ) (here : Bool) → row ≡ get_or e.rows i [] → (get_or blocks i 0 ≡ n → here ≡ true)
     → ((j : ℕ) → j < i → get_or blocks j 0 ≡ n → Contains rows (get_or e.rows j [])) → (j : ℕ) → j < i + 1 → get_or blocks j 0 ≡ n → Contains (rows ++ cond here (row ∷ []) []) (get_or e.rows j [])
@@ -179,7 +175,7 @@ pub block_only :
     (e : Edge ℕ) (i : ℕ) (rows : List (List ℕ)) (row : List ℕ) (here : Bool) → i < length e.rows → row ≡ get_or e.rows i [] → ((r : List ℕ) → Contains rows r → Contains e.rows r) → (r : List ℕ) → Contains (rows ++ cond here (row ∷ []) []) r → Contains e.rows r
 block_only e i rows row true l is old r h =
     ⊎_elim (λ (x : Contains rows r). old r x) (λ (x : row ≡ r). (i, l, get_or_default e.rows i r [] l ∙ sym is ∙ x)) (Contains-push_cases rows row r h)
-block_only e i rows row false l is old r h = old r (subst (λ xs. Contains xs r) (append_nothing rows) h)
+block_only e i rows row false l is old r h = old r (subst (λ xs. Contains xs r) (append-nil rows) h)
 
 module _ (a b c part : Edge ℕ) (blocks : List ℕ) (n : ℕ) (vars : List ℕ) (block : IsBlock a blocks n part) where
   pub block_given : (r : List ℕ) → IsGiven vars (part ∷ b ∷ c ∷ []) always r → IsGiven vars (a ∷ b ∷ c ∷ []) always r

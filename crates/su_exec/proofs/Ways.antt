@@ -1,10 +1,10 @@
 -- What a way costs, and what it reaches.
-use Rattle.std.proofs.Common.{◌≡◌, ℕ, suc, ◌+◌, ◌<◌, ◌≤◌, List, [], ◌∷◌, ◌++◌, Some, length, get_or, take, drop, slice_get, Contains, refl, sym, ap, subst, ◌∙◌, ⊎_elim, arith}
+use Rattle.std.proofs.Common.{◌≡◌, ℕ, suc, ◌+◌, ◌<◌, ◌≤◌, List, [], ◌∷◌, ◌++◌, Some, length, get_or, take, slice_get, Contains, refl, sym, ap, subst, ◌∙◌, ⊎_elim, arith}
 use Rattle.std.specs.Prelude.{map, min, sum, All, IsTrue, pos}
 use Rattle.std.proofs.lemmas.Bool.{cases_lt}
-use Rattle.std.proofs.lemmas.List.{get_or-map, length-map, map_more, map-append, take-append-drop}
+use Rattle.std.proofs.lemmas.List.{get_or-map, length-map}
 use Rattle.std.proofs.lemmas.List.Elements.{All-append, All-nil, Contains-append_left, Contains-append_right}
-use Rattle.std.proofs.lemmas.List.Sums.{sum_by_push, sum_by-append}
+use Rattle.std.proofs.lemmas.List.Sums.{sum-map, sum_by_more, sum_by-take-le}
 use Rattle.std.proofs.lemmas.Option.{slice_get-get_or, slice_get_within, get_or_from_slice_get}
 use Rattle.su_base.proofs.Items.{Contains-map}
 use Rattle.su_base.specs.declared.values.Value.{Value}
@@ -38,13 +38,10 @@ pub record IsReached (values : List Value) (es : List (Edge ℕ)) (cells : List 
 -- ---- sums
 
 pub sum_more : {X : Type 0} (f : X → ℕ) (xs : List X) (i : ℕ) (d : X) → i < length xs → sum (map f (take (i + 1) xs)) ≡ sum (map f (take i xs)) + f (get_or xs i d)
-sum_more f xs i d l = ap sum (map_more f xs i d l) ∙ sum_by_push (λ x. x) (map f (take i xs)) (f (get_or xs i d))
+sum_more f xs i d l = sum-map f (take (i + 1) xs) ∙ sum_by_more f xs i d l ∙ ap (λ s. s + f (get_or xs i d)) (sym (sum-map f (take i xs)))
 
 pub sum_take : {X : Type 0} (f : X → ℕ) (xs : List X) (i : ℕ) → sum (map f (take i xs)) ≤ sum (map f xs)
-sum_take f xs i =
-    let e : sum (map f xs) ≡ sum (map f (take i xs)) + sum (map f (drop i xs)) =
-    ap (λ ys. sum (map f ys)) (sym (take-append-drop i xs)) ∙ ap sum (map-append f (take i xs) (drop i xs)) ∙ sum_by-append (λ x. x) (map f (take i xs)) (map f (drop i xs)) in
-    omega arith
+sum_take f xs i = omega (arith, sum-map f (take i xs), sum_by-take-le f xs i, sum-map f xs)
 
 -- ---- shares
 

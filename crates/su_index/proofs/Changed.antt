@@ -14,7 +14,8 @@ use Rattle.std.proofs.lemmas.List.Edits.{length-remove, get_or-remove_below, get
 use Rattle.std.proofs.lemmas.Map.Keys.{Less-from_sorted, sorted_from_all_adjacent, sorted_tail}
 use Rattle.su_base.specs.declared.values.Value.{Value}
 use Rattle.su_base.proofs.Numbers.{is_lt-Less}
-use Rattle.su_index.specs.inside.Order.{compare_keys, compare_places, count_below, IsRun, IsIndex}
+use Rattle.su_base.specs.Numbers.{count_below}
+use Rattle.su_index.specs.inside.Order.{compare_keys, compare_places, IsRun, IsIndex}
 use Rattle.su_index.specs.inside.Spans.{ArePositions, comes_before, with_value}
 use Rattle.su_index.proofs.Runs.{keys_total, places_total, count_below-suc, count_by-cons, count_by-append, count_by-none, sorted_nil, Before, AllBefore, sorted-append, sorted-append_left, sorted-append_right, sorted-append_before, sorted_cons}
 use Rattle.su_index.proofs.Spans.{index_positions, run_positions, count_by_zero}

@@ -11,7 +11,8 @@ use Rattle.su_index.specs.declared.entry.Entry.{Entry}
 use Rattle.su_index.specs.Entries.{positions, stretch}
 use Rattle.su_index.specs.inside.Entries.{HaveLeads, IsIndexWithLeads, IsRunWithLeads, kept_entry, kept_entries}
 use Rattle.su_index.specs.inside.Lead.{IsLead}
-use Rattle.su_index.specs.inside.Order.{compare_keys, compare_places, count_below, IsRun}
+use Rattle.su_base.specs.Numbers.{count_below}
+use Rattle.su_index.specs.inside.Order.{compare_keys, compare_places, IsRun}
 use Rattle.su_index.specs.inside.Spans.{ArePositions, comes_before, with_value, is_kept, rank_of}
 use Rattle.su_index.proofs.Changed.{index-same, index_add, index_of_run, index_removed, with_value-itself, with_value-other, with_value-same, empty_run}
 use Rattle.su_index.specs.inside.Keys.{Key}
@@ -58,10 +59,10 @@ pub entry_before : (at : ℕ → Value) (v : Value) (p : ℕ) (run : List Entry)
 entry_before at v p run k e b t h is one two = before_at at v p run k e b t h (one ∙ ap (λ (x : Entry). comes_before at v p x.position) is) two
 
 -- the first ones and one more
-pub below_more : (at : ℕ → Value) (v : Value) (top : ℕ) (run : List ℕ) (first : ℕ)
+pub comes_before-more : (at : ℕ → Value) (v : Value) (top : ℕ) (run : List ℕ) (first : ℕ)
     → ((k : ℕ) → k < first → comes_before at v 0 (get_or run k 0) ≡ true) → comes_before at v top (get_or run first 0) ≡ true
     → (k : ℕ) → k < first + 1 → comes_before at v top (get_or run k 0) ≡ true
-below_more at v top run first below more k h =
+comes_before-more at v top run first below more k h =
     elim (cases_eq k first) [
       | inl e ↦ rw e more
       | inr apart ↦ later_too (compare_keys (at (get_or run k 0)) v) (get_or run k 0) top (below k (omega (arith, apart)))

@@ -17,7 +17,8 @@ use Rattle.su_base.specs.Value.{compare_values}
 use Rattle.su_base.proofs.Rows.{cmp-values}
 use Rattle.su_index.specs.inside.Keys.{Key}
 use Rattle.su_index.specs.inside.Lead.{lead_of, IsLead}
-use Rattle.su_index.specs.inside.Order.{compare_keys, compare_places, count_below, IsRun}
+use Rattle.su_base.specs.Numbers.{count_below}
+use Rattle.su_index.specs.inside.Order.{compare_keys, compare_places, IsRun}
 use Rattle.su_index.proofs.Runs.{places_total, count_by-cons, count_below-suc}
 use Rattle.su_index.proofs.Changed.{after, count_below_one}
 

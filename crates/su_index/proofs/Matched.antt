@@ -11,7 +11,7 @@ use Rattle.su_base.specs.Value.{compare_values}
 use Rattle.su_base.proofs.Rows.{values_total, equal_values}
 use Rattle.su_base.proofs.Numbers.{is_eq-Equal}
 use Rattle.su_index.specs.Matches.{has_value, matches, IsMatch}
-use Rattle.su_index.specs.inside.Order.{count_below}
+use Rattle.su_base.specs.Numbers.{count_below}
 use Rattle.su_index.proofs.Ranks.{count_below-le}
 use Rattle.su_index.proofs.Runs.{count_below-suc}
 use Rattle.su_index.proofs.Spans.{count_rows}

@@ -12,7 +12,8 @@ use Rattle.std.proofs.lemmas.List.Elements.{recursion_from_All}
 use Rattle.std.proofs.lemmas.Map.Keys.{sorted_head}
 use Rattle.su_base.specs.declared.values.Value.{Value}
 use Rattle.su_base.proofs.Numbers.{is_lt-Less}
-use Rattle.su_index.specs.inside.Order.{compare_keys, compare_places, count_below, IsRun}
+use Rattle.su_base.specs.Numbers.{count_below}
+use Rattle.su_index.specs.inside.Order.{compare_keys, compare_places, IsRun}
 use Rattle.su_index.specs.inside.Spans.{comes_before}
 use Rattle.su_index.proofs.Runs.{places_total, count_by-cons, count_by-append, Before, AllBefore, Before-append_left, Before-append_right, sorted-append, sorted-append_left, sorted-append_before, sorted_one, sorted_nil, sorted-drop}
 use Rattle.su_index.proofs.Spans.{run_positions, run_from}
@@ -43,10 +44,6 @@ module _ {K : Type 0} (c : K → K → Ordering) where
   AllBefore-trans : IsTotalOrder c → (ws : List K) (x : K) (ys : List K) → AllBefore c ws (x ∷ []) → Before c x ys → AllBefore c ws ys
   AllBefore-trans o [] x ys a b = tt
   AllBefore-trans o (w ∷ ws) x ys a b = (Before-trans o w x ys a.0.0 b, AllBefore-trans o ws x ys a.1 b)
-
--- the first m + n of a list
-take_add : (m n : ℕ) (xs : List ℕ) → take (m + n) xs ≡ take m xs ++ take n (drop m xs)
-take_add m n xs = take-add m n xs
 
 pub record Merging (at : ℕ → Value) (early late run : List ℕ) (from j : ℕ) : Type 0 where
   pub within : from ≤ length early
@@ -124,7 +121,7 @@ module _ (at : ℕ → Value) (early late run : List ℕ) (from j p count : ℕ)
         (sorted_one c p)
         (AllBefore-append c run (take count rest) (p ∷ []) (AllBefore-left c run (p ∷ []) (drop (j + 1) late) run_before_late) taken_before);
     counted = λ test.
-        let a : count_by test (take (from + count) early) ≡ count_by test (take from early) + count_by test (take count rest) = ap (count_by test) (take_add from count early) ∙ count_by-append test (take from early) (take count rest) in
+        let a : count_by test (take (from + count) early) ≡ count_by test (take from early) + count_by test (take count rest) = ap (count_by test) (take-add from count early) ∙ count_by-append test (take from early) (take count rest) in
         let b : count_by test (take (j + 1) late) ≡ count_by test (take j late) + cond (test p) 1 0 = sum_by_more (λ x. cond (test x) 1 0) late j 0 more ∙ ap (λ x. count_by test (take j late) + cond (test x) 1 0) (sym is) in
         omega (arith, m.counted test, a, b, count_by-append test (run ++ take count rest) (p ∷ []), count_by-append test run (take count rest), count_by-cons test p []);
     early_after = rw (sym (drop-drop count from early))

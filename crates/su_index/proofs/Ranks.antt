@@ -8,7 +8,8 @@ use Rattle.std.specs.declared.cmp.Ordering.TheVariants.{Less, Equal, Greater}
 use Rattle.std.proofs.lemmas.Bool.Decides.{nat_tests}
 use Rattle.std.proofs.lemmas.Map.Keys.{sorted_head, sorted_tail}
 use Rattle.su_base.specs.declared.values.Value.{Value}
-use Rattle.su_index.specs.inside.Order.{compare_keys, compare_places, count_below, IsRun, IsIndex}
+use Rattle.su_base.specs.Numbers.{count_below}
+use Rattle.su_index.specs.inside.Order.{compare_keys, compare_places, IsRun, IsIndex}
 use Rattle.su_index.specs.inside.Spans.{is_kept, rank_of}
 use Rattle.su_index.proofs.Runs.{count_below-suc, count_by-cons, Before, sorted_cons, sorted_nil}
 

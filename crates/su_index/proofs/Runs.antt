@@ -11,7 +11,8 @@ use Rattle.std.proofs.lemmas.List.{take-append-drop}
 use Rattle.su_base.specs.declared.values.Value.{Value}
 use Rattle.su_base.proofs.Rows.{values_total}
 use Rattle.su_index.specs.inside.Lead.{lead_of}
-use Rattle.su_index.specs.inside.Order.{compare_keys, compare_places, count_below}
+use Rattle.su_base.specs.Numbers.{count_below}
+use Rattle.su_index.specs.inside.Order.{compare_keys, compare_places}
 
 pub keys_total : IsTotalOrder compare_keys
 keys_total = then_total (on_total lead_of nat_cmp_total) values_total

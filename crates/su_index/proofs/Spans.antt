@@ -14,13 +14,11 @@ use Rattle.su_base.specs.declared.values.Value.{Value}
 use Rattle.su_base.specs.declared.values.Value.TheVariants.{Int}
 use Rattle.su_base.proofs.Numbers.{is_eq-Equal}
 use Rattle.su_index.specs.Matches.{has_value, matches, AreMatches, IsMatch}
-use Rattle.su_index.specs.inside.Order.{compare_keys, compare_places, value_at, count_below, IsRun, IsIndex}
+use Rattle.su_base.specs.Numbers.{count_below}
+use Rattle.su_index.specs.inside.Order.{compare_keys, compare_places, value_at, IsRun, IsIndex}
 use Rattle.su_index.specs.inside.Spans.{comes_before, has_at, HaveColumn, ArePositions, IsSpan}
 use Rattle.su_index.proofs.Leads.{same_values}
 use Rattle.su_index.proofs.Runs.{keys_total, count_below-same, count_below-upto, count_by-cons, count_by-block}
-
-at_default : (xs : List ℕ) (k d e : ℕ) → k < length xs → get_or xs k d ≡ get_or xs k e
-at_default xs k d e h = get_or_default xs k d e h
 
 -- ---- one comparison
 
@@ -81,9 +79,9 @@ IsSpan-search at v run top first past positions a b below above below' above' = 
 pub span_count : (at : ℕ → Value) (v : Value) (run : List ℕ) (first past : ℕ) → IsSpan at v run first past → count_by (has_at at v) run + first ≡ past
 span_count at v run first past s =
     count_by-block (has_at at v) run first past s.start s.end
-    (λ k d h. rw (at_default run k d 0 (omega (arith, s.start, s.end))) (s.below k h))
-    (λ k d h l. rw (at_default run k d 0 (omega (arith, s.end))) (s.among k h l))
-    (λ k d h l. rw (at_default run k d 0 l) (s.above k h l))
+    (λ k d h. rw (get_or_default run k d 0 (omega (arith, s.start, s.end))) (s.below k h))
+    (λ k d h l. rw (get_or_default run k d 0 (omega (arith, s.end))) (s.among k h l))
+    (λ k d h l. rw (get_or_default run k d 0 l) (s.above k h l))
 
 -- how many of them are less than the k-th
 pub span_rank : (at : ℕ → Value) (v : Value) (run : List ℕ) (first past k r : ℕ) → IsStrictlySortedBy (compare_places at) run → IsSpan at v run first past → first + k < past → r ≡ slice_index run (first + k)
@@ -92,12 +90,12 @@ span_rank at v run first past k r sorted s h e =
     let has : has_at at v r ≡ true = rw e (s.among (first + k) (omega arith) h) in
     let counted : count_by (λ p. nat_lt p r && has_at at v p) run + first ≡ first + k =
     count_by-block (λ p. nat_lt p r && has_at at v p) run first (first + k) (omega arith) (omega (arith, s.end))
-    (λ j d l. rw (at_default run j d 0 (omega (arith, s.end))) (and_right _ _ (s.below j l)))
+    (λ j d l. rw (get_or_default run j d 0 (omega (arith, s.end))) (and_right _ _ (s.below j l)))
     (λ j d l m.
     let one : has_at at v (get_or run j 0) ≡ true = s.among j l (omega arith) in
     let less : get_or run j 0 < r = less_with_value at v (get_or run j 0) r one has (rw e (Less-from_sorted (compare_places at) run j (first + k) 0 sorted m (omega (arith, s.end)))) in
-    rw (at_default run j d 0 (omega (arith, s.end))) (grind (arith, nat_tests, one, less)))
-    (λ j d l m. rw (at_default run j d 0 m) (
+    rw (get_or_default run j d 0 (omega (arith, s.end))) (grind (arith, nat_tests, one, less)))
+    (λ j d l m. rw (get_or_default run j d 0 m) (
     elim (cases_lt j past) [
       | inr out ↦ and_right _ _ (s.above j out m)
       | inl in' ↦

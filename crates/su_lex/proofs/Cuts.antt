@@ -5,7 +5,7 @@ use Rattle.std.proofs.lemmas.Bool.{false≢true}
 use Rattle.std.proofs.lemmas.Bool.Decides.{nat_tests}
 use Rattle.su_lex.specs.Blanks.{begins, is_space, IsRun, Comment, begins_comment, Gap}
 use Rattle.su_lex.specs.Blanks as b
-use Rattle.su_lex.specs.Pieces.{has_no_quote, is_plain, Part, Parts, Statement, added, PiecesAt, Pieces, IsWithin, after_mark}
+use Rattle.su_lex.specs.Pieces.{has_no_quote, is_plain, Part, Parts, Statement, added, PiecesAt, Pieces, LiesWithin, after_mark}
 use Rattle.std.proofs.Common.{All, get_or, ◌-◌}
 use Rattle.std.proofs.lemmas.List.{take_rest}
 use Rattle.std.proofs.lemmas.List.Elements.{All-cons, All-nil, All-same}
@@ -222,18 +222,18 @@ byte_step (x ∷ s) r some h k xs = p.more (x ∷ s) s r (p.byte x (x ∷ s) s r
 -- ---- every span lies within the file
 
 added_within : (total : ℕ) (file s r : List ℕ) (here : Option Span) (more : List Span) → total ≡ length file → length r ≤ length s → Statement total s r here
-    → All (IsWithin file) more → All (IsWithin file) (added here more)
+    → All (LiesWithin file) more → All (LiesWithin file) (added here more)
 added_within total file s r None more e short st all = all
 added_within total file s r (Some x) more e short st all =
-    All-cons (IsWithin file) x more (record { ordered = omega (arith, st.1, st.2); within = omega (arith, st.2) }) all
+    All-cons (LiesWithin file) x more (record { ordered = omega (arith, st.1, st.2); within = omega (arith, st.2) }) all
 
-within_at : (total : ℕ) (file s : List ℕ) (spans : List Span) → total ≡ length file → PiecesAt total s spans → All (IsWithin file) spans
+within_at : (total : ℕ) (file s : List ℕ) (spans : List Span) → total ≡ length file → PiecesAt total s spans → All (LiesWithin file) spans
 within_at total file s spans e (p.last _ _ here _ x st h) =
-    All-same (IsWithin file) spans (added here []) h (added_within total file s [] here [] e (parts_within s [] x) st (All-nil (IsWithin file)))
+    All-same (LiesWithin file) spans (added here []) h (added_within total file s [] here [] e (parts_within s [] x) st (All-nil (LiesWithin file)))
 within_at total file s spans e (p.cut _ _ r here more _ x st m h) =
-    All-same (IsWithin file) spans (added here more) h (added_within total file s (59 ∷ r) here more e (parts_within s (59 ∷ r) x) st (within_at total file r more e m))
+    All-same (LiesWithin file) spans (added here more) h (added_within total file s (59 ∷ r) here more e (parts_within s (59 ∷ r) x) st (within_at total file r more e m))
 
-pub pieces_within : (file : List ℕ) (spans : List Span) → Pieces file spans → All (IsWithin file) spans
+pub pieces_within : (file : List ℕ) (spans : List Span) → Pieces file spans → All (LiesWithin file) spans
 pieces_within file spans h = within_at (length file) file (after_mark file) spans refl h
 
 pub byte_plain : (x : ℕ) → (x ≡ 59 → ⊥) → (x ≡ 39 → ⊥) → is_plain x ≡ true

@@ -55,6 +55,6 @@ abbrev pub Pieces : List ℕ → List Span → Type 0
 Pieces file spans = PiecesAt (length file) (after_mark file) spans
 
 -- the span lies within the file
-pub record IsWithin (file : List ℕ) (span : Span) : Type 0 where
+pub record LiesWithin (file : List ℕ) (span : Span) : Type 0 where
   pub ordered : span.start ≤ span.end
   pub within : span.end ≤ length file

@@ -1,7 +1,7 @@
 //! A file is cut into statements at each `;` that stands outside texts and comments.
 ghost use Rattle.std.specs.Prelude.{◌≡◌, ◌≤◌, length, false, not, ◌==◌, IfOk, All, ◌∷◌, ◌++◌, [], drop, OnOk, List as Items};
 ghost use Rattle.su_lex.specs.Blanks.{begins};
-ghost use Rattle.su_lex.specs.Pieces.{after_mark, Part, Parts, Statement, added, Pieces, IsWithin};
+ghost use Rattle.su_lex.specs.Pieces.{after_mark, Part, Parts, Statement, added, Pieces, LiesWithin};
 ghost use Rattle.su_lex.specs.declared.spans.Span.{Span as ASpan};
 
 use crate::bytes::unquoted_bytes;
@@ -95,7 +95,7 @@ fn after_cut(bytes: &[u8]) -> &[u8]
 pub fn cut(alloc: Global, bytes: &[u8]) -> Result<List<Span>, NoMemory>
     ensures pieces { IfOk result (λ spans. Pieces bytes.now spans) }
     ensures only { IfOk result (λ spans. (others : Items ASpan) → Pieces bytes.now others → others ≡ spans) }
-    ensures within { IfOk result (λ spans. All (IsWithin bytes.now) spans) }
+    ensures within { IfOk result (λ spans. All (LiesWithin bytes.now) spans) }
 {
     let mut spans = List::new(alloc);
     let mut rest = without_mark(bytes);

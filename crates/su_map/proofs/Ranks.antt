@@ -1,5 +1,5 @@
 -- The place of a row number among the members of a set.
-use Rattle.std.proofs.Common.{◌≡◌, ◌≢◌, ℕ, zero, suc, ◌+◌, ◌<◌, ◌≤◌, List, [], ◌∷◌, ◌++◌, map, length, get_or, refl, sym, ap, subst, ◌∙◌, ⊎_elim, arith}
+use Rattle.std.proofs.Common.{◌≡◌, ◌≢◌, ℕ, zero, suc, ◌+◌, ◌<◌, ◌≤◌, List, [], ◌∷◌, ◌++◌, map, length, get_or, refl, sym, ap, subst, ◌∙◌, ⊎_elim, arith, append-nil}
 use Rattle.std.proofs.Math.Seq.{get_or-append_seam}
 use Rattle.std.specs.Int.{bit_at}
 use Rattle.std.proofs.lemmas.Bool.{cases_lt, cases_eq}
@@ -23,6 +23,9 @@ not_one m n h = let l = bit_at-lt m n in omega arith
 
 pub numbers-more : (m n : ℕ) → bit_at m n ≡ 1 → numbers_of m (suc n) ≡ numbers_of m n ++ n ∷ []
 numbers-more m n e = ap (λ xs. numbers_of m n ++ xs) (keep_if-is (bit_at m n) n e)
+
+pub numbers-none : (m n : ℕ) → bit_at m n ≢ 1 → numbers_of m (suc n) ≡ numbers_of m n
+numbers-none m n none = ap (λ xs. numbers_of m n ++ xs) (keep_if-none (bit_at m n) n (not_one m n none)) ∙ append-nil (numbers_of m n)
 
 numbers-length : (m n : ℕ) → bit_at m n ≡ 1 → length (numbers_of m (suc n)) ≡ length (numbers_of m n) + 1
 numbers-length m n e = ap length (numbers-more m n e) ∙ length-append (numbers_of m n) (n ∷ [])

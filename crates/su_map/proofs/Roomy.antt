@@ -1,5 +1,6 @@
 -- The parts of a room.
 use Rattle.std.proofs.Common.{◌≡◌, ◌≤◌, ◌*◌, ℕ, List, Vec, length, sym, subst, ◌∙◌, arith}
+use Rattle.std.proofs.lemmas.Nat.{mul-le}
 use Rattle.std.specs.Vec.{with_items}
 use Rattle.su_map.specs.declared.notes.Notes.{Notes}
 use Rattle.su_map.specs.inside.Netted.{Netted}
@@ -8,11 +9,8 @@ use Rattle.su_map.specs.inside.RoomParts.{AreRoomy, IsSound}
 pub refill_length : {X Z : Type 0} (v : Vec X Z) (ws : List X) → length (with_items v ws).items ≡ length v.items
 refill_length v ws = sym (with_items v ws).ok.0 ∙ v.ok.0
 
-pub square_le : (a b : ℕ) → a ≤ b → a * a ≤ b * b
-square_le a b h = grind arith
-
 pub levels_in : (n rows room : ℕ) → n ≤ rows → rows * rows ≤ room → n * n ≤ room
-levels_in n rows room h l = let s = square_le n rows h in omega arith
+levels_in n rows room h l = let s = mul-le n n rows rows h h in omega arith
 
 -- the parts have a place for each of n rows
 pub rows_enough : (net : Netted) (notes : Notes) (room rows domains levels choice count n : ℕ) → IsSound net notes room rows domains levels choice count → n ≤ room → n ≤ 64 → (n ≤ rows) × (n ≤ domains) × (n ≤ choice) × (n * n ≤ levels)

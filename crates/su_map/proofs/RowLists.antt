@@ -1,10 +1,11 @@
 -- A mapping row by row, and the order of row lists.
-use Rattle.std.proofs.Common.{◌≡◌, ◌⊎◌, ℕ, zero, suc, ◌<◌, List, [], ◌∷◌, map, length, get_or, Contains, inl, inr, refl, sym, ap, subst, ◌∙◌, true, arith}
+use Rattle.std.proofs.Common.{◌≡◌, ◌⊎◌, ℕ, zero, suc, ◌<◌, List, [], ◌∷◌, map, length, get_or, Contains, inl, inr, sym, ap, subst, ◌∙◌, true, arith}
 use Rattle.std.specs.Int.{bit_at}
 use Rattle.std.specs.Ordering.{nat_cmp, is_le, ordering_then}
 use Rattle.std.specs.Cmp.{nat_cmp_is}
 use Rattle.std.specs.Cmp.Lexicographic.{slice_cmp}
 use Rattle.std.specs.declared.cmp.Ordering.TheVariants.{Less, Equal}
+use Rattle.std.proofs.lemmas.Cmp.{tied_itself, nat_list_cmp_total}
 use Rattle.std.proofs.lemmas.List.{length-map, get_or-map, get_or_default, same_lists}
 use Rattle.su_tableau.specs.declared.symbols.Sym.{Sym}
 use Rattle.su_tableau.specs.Tableaux.{Tab}
@@ -69,24 +70,14 @@ module _ (s : Tab) (m : ℕ) (t : Tab) (k : ℕ) (list : List ℕ) where
 
 -- ---- the order of lists
 
-cmp_less : (x y : ℕ) → x < y → nat_cmp x y ≡ Less
-cmp_less x y h = sym (nat_cmp_is x y Less h)
-
-cmp_same : (x y : ℕ) → x ≡ y → nat_cmp x y ≡ Equal
-cmp_same x y e = sym (nat_cmp_is x y Equal e)
-
-list_same : (xs : List ℕ) → slice_cmp nat_cmp xs xs ≡ Equal
-list_same [] = refl
-list_same (x ∷ xs) = ap (λ o. ordering_then o (slice_cmp nat_cmp xs xs)) (cmp_same x x refl) ∙ list_same xs
-
 list_less : (p : ℕ) (a b : List ℕ) → p < length a → p < length b → ((i : ℕ) → i < p → get_or a i 0 ≡ get_or b i 0) → get_or a p 0 < get_or b p 0 → slice_cmp nat_cmp a b ≡ Less
 list_less p [] b l r same less = absurd (omega arith)
 list_less p (x ∷ xs) [] l r same less = absurd (omega arith)
-list_less zero (x ∷ xs) (y ∷ ys) l r same less = ap (λ o. ordering_then o (slice_cmp nat_cmp xs ys)) (cmp_less x y less)
+list_less zero (x ∷ xs) (y ∷ ys) l r same less = ap (λ o. ordering_then o (slice_cmp nat_cmp xs ys)) (sym (nat_cmp_is x y Less less))
 list_less (suc p) (x ∷ xs) (y ∷ ys) l r same less =
-    ap (λ o. ordering_then o (slice_cmp nat_cmp xs ys)) (cmp_same x y (same 0 (omega arith))) ∙ list_less p xs ys (omega arith) (omega arith) (λ i h. same (suc i) (omega arith)) less
+    ap (λ o. ordering_then o (slice_cmp nat_cmp xs ys)) (sym (nat_cmp_is x y Equal (same 0 (omega arith)))) ∙ list_less p xs ys (omega arith) (omega arith) (λ i h. same (suc i) (omega arith)) less
 
 -- a list that is the same or before is not behind
 pub list_upto : (a b : List ℕ) → (b ≡ a) ⊎ IsBefore a b → is_le (slice_cmp nat_cmp a b) ≡ true
-list_upto a b (inl same) = ap is_le (ap (slice_cmp nat_cmp a) same ∙ list_same a)
+list_upto a b (inl same) = ap is_le (ap (slice_cmp nat_cmp a) same ∙ tied_itself nat_list_cmp_total a)
 list_upto a b (inr before) = ap is_le (list_less before.place a b before.in_both.0 before.in_both.1 before.same before.less)

@@ -2,7 +2,8 @@
 use Rattle.std.proofs.Common.{◌≡◌, ◌≢◌, ℕ, zero, suc, ◌+◌, ◌*◌, ◌-◌, ◌<◌, ◌≤◌, Bool, true, cond, map, sym, ap, ◌∙◌, subst, arith, add-one}
 use Rattle.std.proofs.Math.Nat.{mul-le-mul_right}
 use Rattle.std.specs.Int.{bit_at}
-use Rattle.su_map.specs.Candidates.{count_below, sum_of_products}
+use Rattle.su_base.specs.Numbers.{count_below}
+use Rattle.su_map.specs.Candidates.{sum_of_products}
 use Rattle.su_map.specs.inside.Choices.{tries}
 use Rattle.su_map.proofs.Ranks.{numbers_first}
 

@@ -6,7 +6,8 @@ use Rattle.std.proofs.lemmas.Bool.{cases_lt, cases_eq}
 use Rattle.std.proofs.lemmas.List.{length-map, get_or-map}
 use Rattle.std.proofs.lemmas.Nat.Bits.{bit_at-lt}
 use Rattle.su_map.specs.Lists.{numbers_of}
-use Rattle.su_map.specs.Candidates.{count_below, sum_of_products}
+use Rattle.su_base.specs.Numbers.{count_below}
+use Rattle.su_map.specs.Candidates.{sum_of_products}
 use Rattle.su_map.specs.inside.Netted.{Netted, base_of}
 use Rattle.su_map.specs.inside.Choices.{IsBefore, IsChoice, IsChoiceInto, Shrinks, AreSame, IsLess, IsFirstOf, Stands, tries, ArePassed, ArePassedInto}
 use Rattle.su_map.specs.inside.SearchEnds.{AreAtStart, LacksTarget, KeepsChoices, IsFirstChoice}

@@ -1,7 +1,8 @@
 -- Candidates of a row, and how many are tried at most.
 -- candidate: a row of the target that has the row's constants, and the target head's symbols for the row's head variables
-use Rattle.std.specs.Prelude.{◌≡◌, ℕ, zero, suc, ◌+◌, ◌*◌, ◌<◌, ◌≤◌, ◌↔◌, Bool, IsTrue, cond, List, [], ◌∷◌, map, length, get_or}
+use Rattle.std.specs.Prelude.{◌≡◌, ℕ, suc, ◌+◌, ◌*◌, ◌<◌, ◌≤◌, ◌↔◌, Bool, IsTrue, List, [], ◌∷◌, map, length, get_or}
 use Rattle.std.specs.Int.{bit_at}
+use Rattle.su_base.specs.Numbers.{count_below}
 use Rattle.su_base.specs.declared.values.Value.{Value}
 use Rattle.su_tableau.specs.declared.symbols.Sym.{Sym}
 use Rattle.su_tableau.specs.declared.symbols.Sym.TheVariants.{Const, Var}
@@ -23,11 +24,6 @@ pub record IsCandidate (s t : Tab) (k i j : ℕ) : Type 0 where
   pub in_set : bit_at k j ≡ 1
   pub constants : KeepsConstants (row_of s i) (row_of t j)
   pub head_symbols : MapAlike s.head t.head (row_of s i) (row_of t j)
-
--- how many numbers below n pass
-abbrev pub count_below : (ℕ → Bool) → ℕ → ℕ
-count_below passes zero = 0
-count_below passes (suc n) = count_below passes n + cond (passes n) 1 0
 
 -- the sum of c1, c1 c2, c1 c2 c3, and so on
 abbrev pub sum_of_products : List ℕ → ℕ

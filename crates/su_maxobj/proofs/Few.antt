@@ -8,7 +8,7 @@ use Rattle.std.proofs.lemmas.List.FromFn.{length-range_with_len}
 use Rattle.std.proofs.lemmas.List.Sums.{length-filter, count_by-le-length}
 use Rattle.su_schema.specs.SchemaValue.{SchemaValue}
 use Rattle.su_schema.specs.Valid.{IsValid}
-use Rattle.su_maxobj.specs.AdjoinableObjects.{set_at}
+use Rattle.su_base.specs.Sets.{set_at}
 use Rattle.su_maxobj.specs.MaximalObjects.{is_listed, computed, AreMaximalObjects}
 
 few_computed : (declared grown : List (FinSet nat_cmp)) → length (computed declared grown) ≤ length grown

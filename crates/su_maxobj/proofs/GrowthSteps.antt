@@ -6,7 +6,8 @@ use Rattle.std.specs.FinSet.{FinSet, contains, insert, union, intersection, is_s
 use Rattle.std.proofs.lemmas.Bool.{cases_eq, cases_order, false≢true}
 use Rattle.su_base.proofs.Subsets.{subset_at}
 use Rattle.su_fd.specs.declared.Fd.{Fd}
-use Rattle.su_maxobj.specs.AdjoinableObjects.{set_at, IsAttributesOf, Adjoinable}
+use Rattle.su_base.specs.Sets.{set_at}
+use Rattle.su_maxobj.specs.AdjoinableObjects.{IsAttributesOf, Adjoinable}
 use Rattle.su_maxobj.specs.Growth.{IsFirstAdjoinable, IsGrowth, IsGrown}
 use Rattle.su_maxobj.specs.inside.Ruled.{AreNotAdjoinable}
 use Rattle.su_maxobj.specs.Laws.{GrowthIsUnique}

@@ -8,7 +8,8 @@ use Rattle.su_base.proofs.Subsets.{subset_at, subset_by, subset_refl, subset_ant
 use Rattle.su_fd.specs.declared.Fd.{Fd}
 use Rattle.su_fd.specs.Closure.{IsClosureOf}
 use Rattle.su_maxobj.specs.Apart.{shares, IsChain, Apart}
-use Rattle.su_maxobj.specs.AdjoinableObjects.{set_at, IsAttributesOf, HangTogether, Adjoinable}
+use Rattle.su_base.specs.Sets.{set_at}
+use Rattle.su_maxobj.specs.AdjoinableObjects.{IsAttributesOf, HangTogether, Adjoinable}
 use Rattle.su_maxobj.proofs.Members.{same_by}
 use Rattle.su_maxobj.proofs.Spread.{shares_more}
 

@@ -9,9 +9,9 @@ use Rattle.su_base.proofs.PassingNumbers.{images_more}
 use Rattle.su_fd.specs.declared.Fd.{Fd}
 use Rattle.su_maxobj.specs.Laws.{MaximalObjectsAreUnique}
 use Rattle.su_maxobj.specs.Growth.{IsGrown}
-use Rattle.su_maxobj.specs.AdjoinableObjects.{set_at}
+use Rattle.su_base.specs.Sets.{set_at}
 use Rattle.su_maxobj.specs.MaximalObjects.{object_sets, is_listed, computed}
-use Rattle.su_maxobj.proofs.Members.{object_at_read}
+use Rattle.su_base.proofs.Subsets.{set_at_read}
 use Rattle.su_maxobj.proofs.GrowthSteps.{one_grown}
 
 abbrev pub ListedBelow : List (FinSet nat_cmp) → List (FinSet nat_cmp) → ℕ → List (FinSet nat_cmp)
@@ -20,7 +20,7 @@ ListedBelow declared grown n = declared ++ map (set_at grown) (filter (is_listed
 module _ (declared grown sets t : List (FinSet nat_cmp)) (n : ℕ) (before : sets ≡ ListedBelow declared grown n) where
   pub listed_push : is_listed declared grown n ≡ true → n < length grown → (v : FinSet nat_cmp) → v ≡ get_or grown n v → t ≡ sets ++ v ∷ [] → t ≡ ListedBelow declared grown (n + 1)
   listed_push passes h v v_is t_is =
-      let own : v ≡ set_at grown n = sym (object_at_read grown n v h v_is) in
+      let own : v ≡ set_at grown n = sym (set_at_read grown n v h v_is) in
       images_more (set_at grown) (is_listed declared grown) n declared sets t before (t_is ∙ ap (λ z. sets ++ z ∷ []) own ∙ sym (ap (λ b. sets ++ cond b (set_at grown n ∷ []) []) passes))
 
   pub listed_skip : is_listed declared grown n ≡ false → t ≡ sets → t ≡ ListedBelow declared grown (n + 1)

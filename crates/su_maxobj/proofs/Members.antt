@@ -1,12 +1,12 @@
 -- The attributes of a set of objects, one object after another.
-use Rattle.std.proofs.Common.{ℕ, ◌+◌, ◌<◌, ◌≡◌, inl, inr, true, false, List, length, get_or, ◌↔◌, IsTrue, ap, subst, sym, refl, ◌∙◌, arith}
+use Rattle.std.proofs.Common.{ℕ, ◌+◌, ◌<◌, ◌≡◌, inl, inr, true, false, List, length, ◌↔◌, IsTrue, ap, subst, sym, refl, ◌∙◌, arith}
 use Rattle.std.specs.Ordering.{nat_cmp}
 use Rattle.std.specs.FinSet.{FinSet, contains, insert, union, intersection, is_subset, empty, members, contains-empty}
-use Rattle.std.proofs.lemmas.Grind.{common_steps}
 use Rattle.std.proofs.lemmas.Bool.{cases_lt, cases_eq, false≢true}
 use Rattle.std.proofs.lemmas.Bool.Decides.{nat_tests}
 use Rattle.su_base.proofs.Subsets.{subset_at, subset_by, subset_antisymm}
-use Rattle.su_maxobj.specs.AdjoinableObjects.{set_at, IsAttributesOf}
+use Rattle.su_base.specs.Sets.{set_at}
+use Rattle.su_maxobj.specs.AdjoinableObjects.{IsAttributesOf}
 
 -- a is an attribute of a member below n
 abbrev pub HasBelow : List (FinSet nat_cmp) → FinSet nat_cmp → ℕ → ℕ → Type 0
@@ -24,10 +24,6 @@ below_none objects have s e a = (
   λ one. absurd (false≢true (sym (contains-empty nat_cmp a) ∙ ap (λ z. contains z a) (sym e) ∙ one)),
   λ w. absurd (omega (arith, w.1)),
 )
-
--- an object as the code reads it
-pub object_at_read : (objects : List (FinSet nat_cmp)) (o : ℕ) (d : FinSet nat_cmp) → o < length objects → d ≡ get_or objects o d → set_at objects o ≡ d
-object_at_read objects o d h is = grind (arith, common_steps, is)
 
 module _ (objects : List (FinSet nat_cmp)) (have : FinSet nat_cmp) (n : ℕ) (s : FinSet nat_cmp) (so_far : IsAttributesBelow objects have n s) where
   pub below_added : contains have n ≡ true → (t : FinSet nat_cmp) → t ≡ union s (set_at objects n) → IsAttributesBelow objects have (n + 1) t

@@ -10,7 +10,8 @@ use Rattle.std.proofs.lemmas.List.{get_or-set_other, get_or_default}
 use Rattle.std.proofs.lemmas.List.Elements.{All-contains, All-push, Contains-append_left, Contains-append_right}
 use Rattle.su_fd.specs.declared.Fd.{Fd}
 use Rattle.su_fd.specs.Closure.{IsClosed, IsClosureOf}
-use Rattle.su_maxobj.specs.AdjoinableObjects.{set_at, HangTogether, Adjoinable}
+use Rattle.su_base.specs.Sets.{set_at}
+use Rattle.su_maxobj.specs.AdjoinableObjects.{HangTogether, Adjoinable}
 use Rattle.su_maxobj.specs.Growth.{IsFirstAdjoinable, IsGrowth, IsGrown}
 use Rattle.su_maxobj.specs.inside.Ordered.{HaveSameMembers}
 

@@ -2,16 +2,13 @@
 -- attributes of a set of objects: those of its members
 -- hang together by what they share: two sets share an attribute, and are apart by the closure of the shared attributes
 -- adjoinable: an object outside the set that hangs together with it
-use Rattle.std.specs.Prelude.{◌↔◌, ℕ, ◌<◌, IsTrue, List, length, slice_index_or}
+use Rattle.std.specs.Prelude.{◌↔◌, ℕ, ◌<◌, IsTrue, List, length}
 use Rattle.std.specs.Ordering.{nat_cmp}
 use Rattle.std.specs.FinSet.{FinSet, contains, intersection, empty}
+use Rattle.su_base.specs.Sets.{set_at}
 use Rattle.su_fd.specs.declared.Fd.{Fd}
 use Rattle.su_fd.specs.Closure.{IsClosureOf}
 use Rattle.su_maxobj.specs.Apart.{shares, Apart}
-
--- the set with this number: the attributes of an object, or the objects that a seed grows to
-abbrev pub set_at : List (FinSet nat_cmp) → ℕ → FinSet nat_cmp
-set_at sets i = slice_index_or sets i empty
 
 -- s has the attributes of the members of have
 abbrev pub IsAttributesOf : List (FinSet nat_cmp) → FinSet nat_cmp → FinSet nat_cmp → Type 0

@@ -7,7 +7,7 @@ use Rattle.std.specs.Ordering.{nat_cmp}
 use Rattle.std.specs.FinSet.{FinSet, is_subset}
 use Rattle.su_schema.specs.SchemaValue.{SchemaValue}
 use Rattle.su_schema.specs.Entries.{attributes_of}
-use Rattle.su_maxobj.specs.AdjoinableObjects.{set_at}
+use Rattle.su_base.specs.Sets.{set_at}
 use Rattle.su_maxobj.specs.Growth.{IsGrown}
 
 -- the attributes of each object

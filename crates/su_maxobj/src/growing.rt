@@ -2,7 +2,8 @@
 ghost use Rattle.std.specs.Prelude.{ℕ, ◌≡◌, ◌<◌, ◌≤◌, IsTrue, MatchOption, length};
 ghost use Rattle.std.specs.Ordering.{nat_cmp};
 ghost use Rattle.std.specs.FinSet as set;
-ghost use Rattle.su_maxobj.specs.AdjoinableObjects.{set_at, IsAttributesOf};
+ghost use Rattle.su_base.specs.Sets.{set_at};
+ghost use Rattle.su_maxobj.specs.AdjoinableObjects.{IsAttributesOf};
 ghost use Rattle.su_maxobj.specs.Growth.{IsFull, IsFirstAdjoinable, IsGrown};
 ghost use Rattle.su_maxobj.specs.inside.Ruled.{AreNotAdjoinable};
 

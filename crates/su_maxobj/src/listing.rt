@@ -2,7 +2,7 @@
 ghost use Rattle.std.specs.Prelude.{ℕ, ◌≡◌, ◌<◌, ◌≤◌, ◌++◌, IfOk, length};
 ghost use Rattle.std.specs.List.{list_any};
 ghost use Rattle.std.specs.FinSet as set;
-ghost use Rattle.su_maxobj.specs.AdjoinableObjects.{set_at};
+ghost use Rattle.su_base.specs.Sets.{set_at};
 ghost use Rattle.su_maxobj.specs.Growth.{IsGrown};
 ghost use Rattle.su_maxobj.specs.MaximalObjects.{is_proper_subset, is_listed as listed, computed};
 

@@ -5,7 +5,6 @@ pub mod KeptRows
 pub mod Covers
 pub mod KeptCovers
 pub mod CoverMatrix
-pub mod NumberLists
 pub mod Holes
 pub mod KeptTerms
 pub mod Spared

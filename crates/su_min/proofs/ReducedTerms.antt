@@ -1,16 +1,17 @@
 -- The terms that are gone through, one more at a time.
-use Rattle.std.proofs.Common.{◌≡◌, ◌↔◌, ◌+◌, ◌∙◌, ℕ, Bool, true, false, List, [], ◌∷◌, ◌++◌, map, length, All, sym, ap, subst, ⊎_elim}
+use Rattle.std.proofs.Common.{◌≡◌, ◌<◌, ◌↔◌, ◌+◌, ◌∙◌, ℕ, Bool, true, false, List, [], ◌∷◌, ◌++◌, map, length, All, sym, ap, subst, ⊎_elim}
 use Rattle.std.proofs.lemmas.Bool.{cases_Bool}
 use Rattle.std.proofs.lemmas.List.{map-append}
 use Rattle.std.proofs.lemmas.List.Elements.{All-push}
+use Rattle.su_base.specs.Lists.{AreExactly}
+use Rattle.su_base.proofs.AscendingNumbers.{exactly_more, exactly_skip}
 use Rattle.su_tableau.specs.Tableaux.{Tab}
 use Rattle.su_map.specs.Lists.{IsMapping, IsFirst}
 use Rattle.su_min.specs.declared.reduced.Cover.{Cover}
 use Rattle.su_min.specs.Kept.{Minimised}
 use Rattle.su_min.specs.Cover.{AreAlike, Covers}
-use Rattle.su_min.specs.Reduction.{term_at, IsDropped, IsKeptTerm, IsLeastCover, IsFirstMapping, IsCover, IsListOf, IsReduced}
+use Rattle.su_min.specs.Reduction.{term_at, IsDropped, IsKeptTerm, IsLeastCover, IsFirstMapping, IsCover, IsReduced}
 use Rattle.su_min.proofs.Covers.{tells_covers}
-use Rattle.su_min.proofs.NumberLists.{list_same, list_more}
 
 pub move : (P : Tab → ℕ → Tab → ℕ → Type 0) (s s' : Tab) (m m' : ℕ) (t t' : Tab) (k k' : ℕ) → s ≡ s' → m ≡ m' → t ≡ t' → k ≡ k' → P s m t k → P s' m' t' k'
 move P s s' m m' t t' k k' es em et ek p = subst (λ s. P s m' t' k') es (subst (λ m. P s m t' k') em (subst (λ t. P s m t k') et (subst (λ k. P s m t k) ek p)))
@@ -48,14 +49,14 @@ cover_is terms c i by ei eb least mapping = record {
 
 -- the terms below i are gone through
 pub record AreReduced (terms : List Minimised) (i : ℕ) (kept : List ℕ) (covers : List Cover) : Type 0 where
-  pub kept_are : IsListOf (IsKeptTerm terms) i kept
-  pub dropped_are : IsListOf (IsDropped terms) i (map (λ c. c.dropped) covers)
+  pub kept_are : AreExactly (λ j. (j < i) × IsKeptTerm terms j) kept
+  pub dropped_are : AreExactly (λ j. (j < i) × IsDropped terms j) (map (λ c. c.dropped) covers)
   pub covers_are : All (IsCover terms) covers
 
 pub one_kept : (terms : List Minimised) (i : ℕ) (kept new : List ℕ) (covers : List Cover) → new ≡ kept ++ i ∷ [] → IsKeptTerm terms i → AreReduced terms i kept covers → AreReduced terms (i + 1) new covers
 one_kept terms i kept new covers is k r = record {
-  kept_are = subst (IsListOf (IsKeptTerm terms) (i + 1)) (sym is) (list_more (IsKeptTerm terms) i kept k r.kept_are);
-  dropped_are = list_same (IsDropped terms) i (map (λ c. c.dropped) covers) k.stays r.dropped_are;
+  kept_are = subst (AreExactly (λ j. (j < i + 1) × IsKeptTerm terms j)) (sym is) (exactly_more (IsKeptTerm terms) i kept k r.kept_are);
+  dropped_are = exactly_skip (IsDropped terms) i (map (λ c. c.dropped) covers) k.stays r.dropped_are;
   covers_are = r.covers_are;
 }
 
@@ -64,14 +65,14 @@ one_dropped terms i by kept covers new c is ei eb d least mapping r =
     let f = λ (c : Cover). c.dropped in
     let e : map f new ≡ map f covers ++ i ∷ [] = ap (map f) is ∙ map-append f covers (c ∷ []) ∙ ap (λ n. map f covers ++ n ∷ []) ei in
     record {
-      kept_are = list_same (IsKeptTerm terms) i kept (λ k. k.stays d) r.kept_are;
-      dropped_are = subst (IsListOf (IsDropped terms) (i + 1)) (sym e) (list_more (IsDropped terms) i (map f covers) d r.dropped_are);
+      kept_are = exactly_skip (IsKeptTerm terms) i kept (λ k. k.stays d) r.kept_are;
+      dropped_are = subst (AreExactly (λ j. (j < i + 1) × IsDropped terms j)) (sym e) (exactly_more (IsDropped terms) i (map f covers) d r.dropped_are);
       covers_are = subst (All (IsCover terms)) (sym is) (All-push (IsCover terms) covers c r.covers_are (cover_is terms c i by ei eb least mapping));
     }
 
 pub all_reduced : (terms : List Minimised) (i : ℕ) (kept : List ℕ) (covers : List Cover) → i ≡ length terms → AreReduced terms i kept covers → IsReduced terms (record { kept = kept; covers = covers })
 all_reduced terms i kept covers e r = record {
-  kept = subst (λ n. IsListOf (IsKeptTerm terms) n kept) e r.kept_are;
-  dropped = subst (λ n. IsListOf (IsDropped terms) n (map (λ c. c.dropped) covers)) e r.dropped_are;
+  kept = subst (λ n. AreExactly (λ j. (j < n) × IsKeptTerm terms j) kept) e r.kept_are;
+  dropped = subst (λ n. AreExactly (λ j. (j < n) × IsDropped terms j) (map (λ c. c.dropped) covers)) e r.dropped_are;
   covers = r.covers_are;
 }

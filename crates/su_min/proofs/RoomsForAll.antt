@@ -1,9 +1,8 @@
 -- A room for all of some terms is one for each of them.
-use Rattle.std.proofs.Common.{◌≡◌, ◌<◌, ◌≤◌, ◌+◌, ◌∙◌, ℕ, List, [], length, get_or, Contains, sym, subst, arith}
+use Rattle.std.proofs.Common.{◌≡◌, ◌<◌, ◌≤◌, ◌+◌, ◌∙◌, ℕ, List, [], length, get_or, Contains, sym, subst, arith, below_more}
 use Rattle.std.proofs.lemmas.List.{get_or_default}
 use Rattle.su_tableau.specs.Tableaux.{AreVarsBelow}
 use Rattle.su_map.specs.Rooms.{Space, IsRoomFor, HasSizesOf}
-use borrow.Author.Count.{below_more}
 use Rattle.su_map.proofs.NotedRows.{vars_below}
 use Rattle.su_min.specs.Kept.{Minimised}
 use Rattle.su_min.specs.Reduction.{term_at}

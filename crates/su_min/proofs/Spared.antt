@@ -14,12 +14,13 @@ use Rattle.su_tableau.proofs.Sets.{choose}
 use Rattle.su_map.proofs.Containment.{list_maps, maps_list}
 use Rattle.su_min.specs.Kept.{Minimised, IsMinimised}
 use Rattle.su_min.specs.Cover.{AreAlike, Covers}
-use Rattle.su_min.specs.Reduction.{term_at, IsKeptTerm, IsListOf, IsReduced}
+use Rattle.su_min.specs.Reduction.{term_at, IsKeptTerm, IsReduced}
 use Rattle.su_min.specs.declared.reduced.Reduced.{Reduced}
 use Rattle.su_min.specs.Needed.{tableau_at, IsInClass, HasAnswersOf, HasMember, AreNeeded}
 use Rattle.su_min.proofs.Parts.{part_maps, into_maps}
 use Rattle.su_min.proofs.Covers.{alike_back, alike_through}
 use Rattle.su_min.proofs.KeptTerms.{kept_back}
+use Rattle.su_base.specs.Lists.{AreExactly}
 use Rattle.su_base.proofs.Numbers.{pigeonhole}
 use Rattle.su_base.proofs.Items.{AllZip-get_or}
 
@@ -124,7 +125,7 @@ module _ (terms : List Minimised) (all_minimised : All IsMinimised terms) (r : R
       stands_apart i j l r q =
           kept_apart i j r.kept q.kept r.in_class q.in_class (λ u h w. let x = r.same (tableau_at [] 0) u h w in let y = q.same (tableau_at [] 0) u h w in (λ e. y.1 (x.0 e), λ e. x.1 (y.0 e)))
 
-      kept_count : (numbers : List ℕ) → IsListOf (λ i. IsKeptTerm terms i × IsInClass terms c i) (length terms) numbers → length numbers ≤ length tableaux
+      kept_count : (numbers : List ℕ) → AreExactly (λ i. (i < length terms) × (IsKeptTerm terms i × IsInClass terms c i)) numbers → length numbers ≤ length tableaux
       kept_count numbers list =
           let each : All (λ i. (l : ℕ) × Stands i l) numbers = λ k d h.
           let i = get_or numbers k d in

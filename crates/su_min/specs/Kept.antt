@@ -3,10 +3,10 @@
 -- kept: of all sets that the tableau maps into, the one with the least sum of 2 to the row number; that sum is the set's number
 -- fold: the lexicographically first list of a mapping from all rows into the kept ones
 use Rattle.std.specs.Prelude.{ℕ, ◌-◌, ◌^◌, ◌≤◌, List, length}
-use Rattle.su_tableau.specs.Tableaux.{Tab, IsValid}
+use Rattle.su_tableau.specs.Tableaux.{Tab}
 use Rattle.su_tableau.specs.Kinds.{Kinds}
 use Rattle.su_tableau.specs.Parts.{part}
-use Rattle.su_tableau.specs.Equivalent.{IsEquivalent, IsLeast}
+use Rattle.su_tableau.specs.Equivalent.{IsLeastForm}
 use Rattle.su_map.specs.Lists.{IsMapping, IsFirst}
 
 -- all row numbers of the tableau
@@ -37,8 +37,6 @@ pub record IsMinimised (m : Minimised) : Type 0 where
   pub kept : IsKept m.tableau m.mask
   pub fold : IsFold m.tableau m.mask m.fold
 
--- over every universal relation of these kinds the part has the answers of the whole, and no valid, well typed tableau that does has fewer rows
-pub record IsLeastPart (kinds : Kinds) (t : Tab) (m : ℕ) : Type 0 where
-  pub valid : IsValid (part t m)
-  pub equivalent : IsEquivalent kinds (part t m) t
-  pub least : IsLeast kinds (part t m)
+-- the rows of the set are a least form of the whole
+abbrev pub IsLeastPart : Kinds → Tab → ℕ → Type 0
+IsLeastPart kinds t m = IsLeastForm kinds t (part t m)

@@ -3,13 +3,14 @@
 -- a list has the answers of a class: over every universal relation each answer of some term of the class is one of some tableau of the list, and each of these is one of those
 use Rattle.std.specs.Prelude.{◌≡◌, ◌<◌, ◌≤◌, ◌↔◌, ℕ, List, length, All, Contains}
 use Rattle.su_base.specs.declared.values.Value.{Value}
+use Rattle.su_base.specs.Lists.{AreExactly}
 use Rattle.su_tableau.specs.Tableaux.{Tab, IsValid}
 use Rattle.su_tableau.specs.Valuations.{Ext}
 use Rattle.su_tableau.specs.Kinds.{Kinds, IsUniverse, IsTyped}
 use Rattle.su_tableau.specs.Equivalent.{IsEquivalent}
 use Rattle.su_min.specs.Kept.{Minimised}
 use Rattle.su_min.specs.Cover.{AreAlike}
-use Rattle.su_min.specs.Reduction.{term_at, IsListOf}
+use Rattle.su_min.specs.Reduction.{term_at}
 
 -- the tableau of term i
 abbrev pub tableau_at : List Minimised → ℕ → Tab
@@ -46,7 +47,7 @@ pub record HasMember (kinds : Kinds) (terms : List Minimised) (tableaux : List T
 pub record AreNeeded (kinds : Kinds) (terms : List Minimised) (kept : List ℕ) (c : ℕ) (tableaux : List Tab) : Type 0 where
   pub members : (i : ℕ) → Contains kept i → IsInClass terms c i → HasMember kinds terms tableaux i
   pub apart : (i j : ℕ) → Contains kept i → Contains kept j → IsInClass terms c i → IsInClass terms c j → IsEquivalent kinds (tableau_at terms i) (tableau_at terms j) → i ≡ j
-  pub count : (numbers : List ℕ) → IsListOf (λ i. Contains kept i × IsInClass terms c i) (length terms) numbers → length numbers ≤ length tableaux
+  pub count : (numbers : List ℕ) → AreExactly (λ i. (i < length terms) × (Contains kept i × IsInClass terms c i)) numbers → length numbers ≤ length tableaux
 
 -- no kept term can be spared, whatever kinds fit the terms and whatever valid tableaux of these kinds one takes for those of a class
 abbrev pub NoneIsSpare : List Minimised → List ℕ → Type 0

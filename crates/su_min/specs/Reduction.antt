@@ -1,7 +1,8 @@
 -- Which terms of a union are kept, and by which of these a dropped one is covered.
 -- dropped: some term covers it that it does not cover, or some earlier term covers it; the others are kept
 -- cover: of a dropped term, the kept term of least number that covers it, with the first mapping
-use Rattle.std.specs.Prelude.{◌≡◌, ◌<◌, ◌≤◌, ◌↔◌, ◌⊎◌, ℕ, List, [], map, length, get_or, All, Contains}
+use Rattle.std.specs.Prelude.{◌≡◌, ◌<◌, ◌≤◌, ◌⊎◌, ℕ, List, [], map, length, get_or, All}
+use Rattle.su_base.specs.Lists.{AreExactly}
 use Rattle.su_map.specs.Lists.{Certified, IsFirst}
 use Rattle.su_min.specs.declared.reduced.Cover.{Cover}
 use Rattle.su_min.specs.declared.reduced.Reduced.{Reduced}
@@ -39,13 +40,8 @@ pub record IsCover (terms : List Minimised) (c : Cover) : Type 0 where
   pub least : IsLeastCover terms c.dropped c.by
   pub mapping : IsFirstMapping (term_at terms c.by) (term_at terms c.dropped) c.mapping
 
--- the numbers below n with the property, ascending
-pub record IsListOf (P : ℕ → Type 0) (n : ℕ) (numbers : List ℕ) : Type 0 where
-  pub ascends : (a b : ℕ) → a < b → b < length numbers → get_or numbers a 0 < get_or numbers b 0
-  pub members : (i : ℕ) → Contains numbers i ↔ ((i < n) × P i)
-
 -- the kept terms, the dropped ones, and the cover of each dropped one
 pub record IsReduced (terms : List Minimised) (r : Reduced) : Type 0 where
-  pub kept : IsListOf (IsKeptTerm terms) (length terms) r.kept
-  pub dropped : IsListOf (IsDropped terms) (length terms) (map (λ c. c.dropped) r.covers)
+  pub kept : AreExactly (λ i. (i < length terms) × IsKeptTerm terms i) r.kept
+  pub dropped : AreExactly (λ i. (i < length terms) × IsDropped terms i) (map (λ c. c.dropped) r.covers)
   pub covers : All (IsCover terms) r.covers

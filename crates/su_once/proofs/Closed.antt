@@ -1,21 +1,16 @@
 -- Of a set there is one closure and one derivation.
-use Rattle.std.proofs.Common.{◌≡◌, ℕ, Bool, true, false, [], ◌∷◌, Some, None, refl, sym, ◌∙◌, subst}
+use Rattle.std.proofs.Common.{◌≡◌, ℕ, [], ◌∷◌, Some, None, refl, sym, ◌∙◌, subst}
 use Rattle.std.specs.Prelude.{IsTrue}
 use Rattle.std.specs.Ordering.{nat_cmp}
 use Rattle.std.specs.Cmp.{nat_cmp_total}
 use Rattle.std.specs.FinSet.{FinSet, contains, same_set, nat_cmp-IsAntisymmetric, union}
+use Rattle.std.specs.Cmp.Derive.{one_truth}
 use Rattle.su_fd.specs.Derivation.{IsDerivation, right_side}
 use Rattle.su_once.specs.Closures.{OneClosure, OneDerivation}
 
--- two tests that hold together are equal
-pub same_test : (a b : Bool) → (IsTrue a → IsTrue b) → (IsTrue b → IsTrue a) → a ≡ b
-same_test true b f g = sym (f refl)
-same_test false true f g = g refl
-same_test false false f g = refl
-
 -- sets with the same members are equal
 pub one_set : (s t : FinSet nat_cmp) → ((a : ℕ) → IsTrue (contains s a) → IsTrue (contains t a)) → ((a : ℕ) → IsTrue (contains t a) → IsTrue (contains s a)) → s ≡ t
-one_set s t f g = same_set nat_cmp_total nat_cmp-IsAntisymmetric s t (λ a. same_test (contains s a) (contains t a) (f a) (g a))
+one_set s t f g = same_set nat_cmp_total nat_cmp-IsAntisymmetric s t (λ a. one_truth (contains s a) (contains t a) (f a) (g a))
 
 pub one_closure : OneClosure
 one_closure fds x s t h k = one_set s t (λ a in_s. (k a).1 ((h a).0 in_s)) (λ a in_t. (h a).1 ((k a).0 in_t))

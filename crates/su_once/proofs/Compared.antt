@@ -17,7 +17,7 @@ use Rattle.su_steps.specs.declared.results.Term.{Term}
 use Rattle.su_compare.specs.declared.verdicts.Found.{Found}
 use Rattle.su_compare.specs.declared.verdicts.Reason.{Reason}
 use Rattle.su_compare.specs.declared.verdicts.Verdict.TheVariants.{Within, Apart}
-use Rattle.su_compare.specs.Settled.{tab_at, IsFirstMapping, IsFound, Clashes, IsBy, IsUnsettled}
+use Rattle.su_compare.specs.Settled.{tab_at, IsFirstOfAllRows, IsFound, Clashes, IsBy, IsUnsettled}
 use Rattle.su_compare.specs.Verdict.{IsReason, AreReasons}
 use Rattle.su_compare.specs.Counterexamples.{IsShown, IsApart}
 use Rattle.su_compare.proofs.Settled.{tab_here}
@@ -44,7 +44,7 @@ module _ (second : List Term) (c : Tab) where
   one_found : (f g : Found) → IsFound second c f → IsFound second c g → f ≡ g
   one_found f g x y =
       let term = one_least f g x y in
-      let one : IsFirstMapping (tab_at second g.term) c f.mapping = subst (λ (n : ℕ). IsFirstMapping (tab_at second n) c f.mapping) term x.mapping in
+      let one : IsFirstOfAllRows (tab_at second g.term) c f.mapping = subst (λ (n : ℕ). IsFirstOfAllRows (tab_at second n) c f.mapping) term x.mapping in
       let other = y.mapping in
       let from = one.from ∙ sym other.from in
       let to = one.to ∙ sym other.to in
@@ -94,9 +94,9 @@ module _ (schema : SchemaValue) (first second : List Term) where
       let same : (v : Value) → Contains x.avoid v ↔ Contains y.avoid v = λ v. (λ there. (y.avoided v).1 ((x.avoided v).0 there), λ there. (x.avoided v).1 ((y.avoided v).0 there)) in
       let frozen : x.frozen ≡ y.frozen = one_frozen (attribute_kinds schema) c x.avoid y.avoid x.frozen y.frozen same x.frozen_is y.frozen_is stand in
       let there : (row : List Value) → Contains x.frozen.universe row ↔ Contains y.frozen.universe row = λ row. (subst (λ (z : Frozen). Contains z.universe row) frozen, subst (λ (z : Frozen). Contains z.universe row) (sym frozen)) in
-      let universe = one_strict_list f.universe g.universe x.ascending y.ascending
-      (λ row inside. (y.rows row).1 ((there row).0 ((x.rows row).0 inside)))
-      (λ row inside. (x.rows row).1 ((there row).1 ((y.rows row).0 inside))) in
+      let universe = one_strict_list f.universe g.universe x.rows.ascending y.rows.ascending
+      (λ row inside. (y.rows.exact row).1 ((there row).0 ((x.rows.exact row).0 inside)))
+      (λ row inside. (x.rows.exact row).1 ((there row).1 ((y.rows.exact row).0 inside))) in
       let head = x.head ∙ ap (λ (z : Frozen). z.head) frozen ∙ sym y.head in
       λ i. record { universe = universe i; head = head i }
 

@@ -45,9 +45,6 @@ same_number (Object own relation pairs) t u e = e
 same_number (Fd left right) t u e = e
 same_number (Maximal objects) t u e = e
 
-same_outcome : (s : SchemaValue) (definition : Definition) (x y : Result SchemaValue SchemaFault) → applied s definition ≡ x → applied s definition ≡ y → x ≡ y
-same_outcome s definition x y e f = sym e ∙ f
-
 one_schema : (s x y : SchemaValue) (definition : Definition) → applied s definition ≡ Ok x → applied s definition ≡ Ok y → x ≡ y
 one_schema s x y definition e f = let both : ◌≡◌ {A = Result SchemaValue SchemaFault} (Ok x) (Ok y) = sym e ∙ f in cc
 

@@ -44,11 +44,3 @@ ascends_from {X} Before (x ∷ xs) d f = (
   λ y there. subst (λ (v : X). Before x v) (get_or_default xs there.0 d y there.1 ∙ there.2) (f zero (suc there.0) (omega arith) (omega (arith, there.1))),
   ascends_from Before xs d (λ i j less within. f (suc i) (suc j) (omega (arith, less)) (omega (arith, within))),
 )
-
--- numbers
-never_less : (x y : ℕ) → x < y → y < x → ⊥
-never_less x y a b = absurd (omega (arith, a, b))
-
-pub one_list_of_numbers : (xs ys : List ℕ) → ((i j : ℕ) → i < j → j < length xs → get_or xs i 0 < get_or xs j 0) → ((i j : ℕ) → i < j → j < length ys → get_or ys i 0 < get_or ys j 0)
-    → ((z : ℕ) → Contains xs z → Contains ys z) → ((z : ℕ) → Contains ys z → Contains xs z) → xs ≡ ys
-one_list_of_numbers xs ys a b f g = one_ascending (λ x y. x < y) never_less xs ys (ascends_from (λ x y. x < y) xs 0 a) (ascends_from (λ x y. x < y) ys 0 b) f g

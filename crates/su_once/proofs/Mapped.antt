@@ -5,12 +5,12 @@ use Rattle.std.specs.Ordering.{nat_cmp, is_le, is_eq, ordering_reverse}
 use Rattle.std.specs.declared.cmp.Ordering.TheVariants.{Less, Equal, Greater}
 use Rattle.std.specs.Cmp.Lexicographic.{slice_cmp, nat_list_cmp_total, texts_ties, same_text}
 use Rattle.std.proofs.lemmas.List.Elements.{All-head, All-tail}
+use Rattle.su_base.proofs.AscendingNumbers.{exactly_one}
 use Rattle.su_tableau.specs.Tableaux.{Tab}
 use Rattle.su_min.specs.declared.reduced.Cover.{Cover}
 use Rattle.su_min.specs.Kept.{all_rows, IsKept, IsFold, Minimised, IsMinimised}
-use Rattle.su_min.specs.Reduction.{term_at, IsListOf, IsLeastCover, IsFirstMapping, IsCover}
+use Rattle.su_min.specs.Reduction.{term_at, IsLeastCover, IsFirstMapping, IsCover}
 use Rattle.su_once.specs.Tableaux.{OneFirstMapping, OneKeptSet, OneFold, OneReduction}
-use Rattle.su_once.proofs.Lists.{one_list_of_numbers}
 
 -- lists of which neither is behind the other are one
 neither_behind : (a b : List ℕ) (o : Ordering) → slice_cmp nat_cmp b a ≡ o → is_le (slice_cmp nat_cmp a b) ≡ true → is_le o ≡ true → a ≡ b
@@ -34,9 +34,6 @@ one_minimised t m n of_m of_n x y =
     let fold : m.fold ≡ n.fold = one_fold t n.mask m.fold n.fold first (subst (λ (v : Tab). IsFold v n.mask n.fold) of_n y.fold) in
     let tableau : m.tableau ≡ n.tableau = of_m ∙ sym of_n in
     λ i. record { tableau = tableau i; mask = mask i; fold = fold i }
-
-one_list_of : (P : ℕ → Type 0) (n : ℕ) (xs ys : List ℕ) → IsListOf P n xs → IsListOf P n ys → xs ≡ ys
-one_list_of P n xs ys a b = one_list_of_numbers xs ys a.ascends b.ascends (λ z in_xs. (b.members z).1 ((a.members z).0 in_xs)) (λ z in_ys. (a.members z).1 ((b.members z).0 in_ys))
 
 one_least_cover : (terms : List Minimised) (i k j : ℕ) → IsLeastCover terms i k → IsLeastCover terms i j → k ≡ j
 one_least_cover terms i k j x y = let a = x.least j y.kept y.covers in let b = y.least k x.kept x.covers in omega (arith, a, b)
@@ -65,7 +62,7 @@ one_list_of_covers terms (c ∷ cs) (d ∷ ds) same a b =
 
 pub one_reduced : OneReduction
 one_reduced terms r s x y =
-    let kept : r.kept ≡ s.kept = one_list_of _ _ r.kept s.kept x.kept y.kept in
-    let dropped = one_list_of _ _ (map (λ (c : Cover). c.dropped) r.covers) (map (λ (c : Cover). c.dropped) s.covers) x.dropped y.dropped in
+    let kept : r.kept ≡ s.kept = exactly_one _ r.kept s.kept x.kept y.kept in
+    let dropped = exactly_one _ (map (λ (c : Cover). c.dropped) r.covers) (map (λ (c : Cover). c.dropped) s.covers) x.dropped y.dropped in
     let covers : r.covers ≡ s.covers = one_list_of_covers terms r.covers s.covers dropped x.covers y.covers in
     λ i. record { kept = kept i; covers = covers i }

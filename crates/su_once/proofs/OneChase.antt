@@ -1,5 +1,6 @@
 -- Of chased rows there is one name for each symbol and one clash, and of a tableau one chase.
 use Rattle.std.proofs.Common.{◌≡◌, ◌≢◌, ◌<◌, ℕ, List, [], map, get_or, Contains, refl, sym, ap, ◌∙◌, subst}
+use Rattle.std.proofs.Math.ListN.{get_or-map as map_read}
 use Rattle.std.proofs.lemmas.List.{length-map}
 use Rattle.su_base.specs.declared.values.Value.{Value}
 use Rattle.su_fd.specs.declared.dependencies.Fd.{Fd}
@@ -7,11 +8,10 @@ use Rattle.su_tableau.specs.declared.symbols.Sym.{Sym}
 use Rattle.su_tableau.specs.declared.symbols.Sym.TheVariants.{Const, Var}
 use Rattle.su_tableau.specs.Tableaux.{Tab, IsValid, Occurs}
 use Rattle.su_tableau.proofs.SymbolParts.{same_const}
-use Rattle.su_chase.specs.Chase.{InOneClass, IsNoLater, IsName, IsConsistent, IsClash}
+use Rattle.su_chase.specs.Chase.{InOneClass, IsNoLater, IsClassName, IsConsistent, IsClash}
 use Rattle.su_chase.specs.Chased.{IsChased}
 use Rattle.su_chase.specs.inside.Rows.{named_tab}
 use Rattle.su_chase.proofs.NamedAnswers.{one_symbol}
-use Rattle.su_chase.proofs.Images.{map_read}
 use Rattle.su_base.proofs.Items.{Contains-map, Contains-map_source}
 use Rattle.su_once.specs.Verdicts.{OneClassName, OneClash, OneChase}
 
@@ -38,7 +38,7 @@ one_chase fds t c d h k =
 
 -- ---- each variable of the head stands in a row of the chased tableau
 
-module _ (fds : List Fd) (t : Tab) (valid : IsValid t) (name : Sym → Sym) (names : (x : Sym) → IsName fds t.rows x (name x)) where
+module _ (fds : List Fd) (t : Tab) (valid : IsValid t) (name : Sym → Sym) (names : (x : Sym) → IsClassName fds t.rows x (name x)) where
   -- a constant's name is no variable
   no_variable : (c : Value) (k : ℕ) → name (Const c) ≡ Var k → ⊥
   no_variable c k is = subst (λ x. IsNoLater x (Const c)) is ((names (Const c)).least (Const c) (λ label closed. refl))

@@ -5,6 +5,7 @@ use Rattle.std.specs.List.{AllZip, AllByRecursion}
 use Rattle.std.proofs.lemmas.List.Elements.{recursion_from_All, All-from_recursion}
 use Rattle.std.specs.Ordering.{nat_cmp}
 use Rattle.std.specs.FinSet.{FinSet}
+use Rattle.std.specs.Cmp.Derive.{one_truth}
 use Rattle.su_base.specs.declared.values.Value.{Value}
 use Rattle.su_tableau.specs.declared.symbols.Sym.{Sym}
 use Rattle.su_tableau.specs.Tableaux.{Tab}
@@ -28,7 +29,7 @@ use Rattle.su_answer.specs.Support.{IsCandidate, IsLeftOver, IsCountOf, IsLeftCo
 use Rattle.su_once.specs.States.{AreAlike}
 use Rattle.su_once.specs.Answers.{OneSupport}
 use Rattle.su_once.proofs.Answered.{back}
-use Rattle.su_once.proofs.Closed.{same_test, one_set}
+use Rattle.su_once.proofs.Closed.{one_set}
 use Rattle.su_once.proofs.Counted.{no_longer}
 use Rattle.su_once.proofs.Lists.{ascends_from}
 use Rattle.su_answer.proofs.Few.{same_columns}
@@ -175,7 +176,7 @@ module _ (a b : DatabaseValue) (alike : AreAlike a b) where
       let is_task : IsTaskOf a.schema m.tableau m.mask k.task = subst (λ (schema : SchemaValue). IsTaskOf schema m.tableau m.mask k.task) (sym alike.schema) k.is_task in
       let twins = twin_rows a.schema m.tableau m.mask (row_numbers m.tableau m.mask) h.task.rows k.task.rows h.is_task.rows is_task.rows in
       let edges = same_cells h.task.rows k.task.rows twins in
-      let acyclic = same_test s.acyclic t.acyclic (λ yes. k.acyclic.1 (subst AreAcyclic edges (h.acyclic.0 yes))) (λ yes. h.acyclic.1 (subst AreAcyclic (sym edges) (k.acyclic.0 yes))) in
+      let acyclic = one_truth s.acyclic t.acyclic (λ yes. k.acyclic.1 (subst AreAcyclic edges (h.acyclic.0 yes))) (λ yes. h.acyclic.1 (subst AreAcyclic (sym edges) (k.acyclic.0 yes))) in
       let left = subst (λ (v : Bool). AllZip (λ r c. IsLeftCount b.tables k.task v r c.left) k.task.rows t.rows) (sym acyclic) k.left in
       let rows = one_counted a b alike h.task k.task twins s.acyclic h.task.rows k.task.rows twins s.rows t.rows (h.numbers ∙ sym k.numbers) h.candidates k.candidates h.left left in
       λ i. record { term = term i; acyclic = acyclic i; rows = rows i }

@@ -6,7 +6,7 @@ use Rattle.su_base.specs.declared.values.Value.{Value}
 use Rattle.su_fd.specs.declared.dependencies.Fd.{Fd}
 use Rattle.su_tableau.specs.declared.symbols.Sym.{Sym}
 use Rattle.su_tableau.specs.Tableaux.{Tab, IsValid}
-use Rattle.su_chase.specs.Chase.{IsName, IsClash}
+use Rattle.su_chase.specs.Chase.{IsClassName, IsClash}
 use Rattle.su_chase.specs.Chased.{IsChased}
 use Rattle.su_chase.specs.Frozen.{IsFrozen}
 use Rattle.su_chase.specs.declared.freezing.Frozen.{Frozen}
@@ -17,7 +17,7 @@ use Rattle.su_compare.specs.Verdict.{IsVerdict}
 
 -- a class of symbols has at most one name
 abbrev pub OneClassName : Type 0
-OneClassName = (fds : List Fd) (rows : List (List Sym)) (x name other : Sym) → IsName fds rows x name → IsName fds rows x other → name ≡ other
+OneClassName = (fds : List Fd) (rows : List (List Sym)) (x name other : Sym) → IsClassName fds rows x name → IsClassName fds rows x other → name ≡ other
 
 -- there is at most one first clash
 abbrev pub OneClash : Type 0

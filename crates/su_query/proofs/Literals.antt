@@ -2,14 +2,16 @@
 use Rattle.std.proofs.Common.{◌≡◌, ◌≤◌, ◌<◌, ℕ, Bool, true, false, not, cond, Option, Some, None, List, [], ◌∷◌, ◌++◌, map, length, refl, sym, ap, subst, ◌∙◌, All as Each, arith}
 use Rattle.std.specs.Prelude.{slice_index_or, find, option_map}
 use Rattle.std.specs.List.{flat_map}
+use Rattle.std.proofs.lemmas.Bool.{not-false}
 use Rattle.std.proofs.lemmas.List.{map-append, length-map}
 use Rattle.std.proofs.lemmas.List.Elements.{All-nil, All-cons, All-head, All-tail, All-map}
 use Rattle.su_base.specs.declared.values.Kind.{Kind}
-use Rattle.su_base.specs.declared.values.Kind.TheVariants.{Int as IntKind, Text as TextKind}
+use Rattle.su_base.specs.declared.values.Kind.TheVariants.{Int as IntKind}
 use Rattle.su_where.specs.declared.literals.Literal.{Literal}
 use Rattle.su_where.specs.Places.{IsBelow, HasPlacesBelow, Fits}
 use Rattle.su_where.proofs.Layers.{comparisons_of-Compare, comparisons_of-Not, comparisons_of-All, comparisons_of-Any, parts_of, by_layers}
 use Rattle.su_schema.specs.SchemaValue.{SchemaValue}
+use Rattle.su_schema.proofs.Validity.{same_kinds}
 use Rattle.su_base.specs.Value.{same_kind}
 use Rattle.su_query.specs.declared.refs.Ref.{Ref as ARef}
 use Rattle.su_query.specs.declared.refs.NamedOperand.{NamedOperand}
@@ -83,24 +85,14 @@ module _ (schema : SchemaValue) (scope : Scope) (kinds : List Kind) (f : ARef �
       All-cons (λ k. HasPlacesBelow (length kinds) (literal_of f k)) k ks (operand_below k.left left, operand_below k.right right)
       (all_below ks (All-append_right (IsNumbered schema scope kinds f) (refs_beside k) (flat_map refs_beside ks) h))
 
-  not_false : (b : Bool) → not b ≡ false → b ≡ true
-  not_false true e = refl
-  not_false false e = sym e
-
-  kinds_same : (a b : Kind) → same_kind a b ≡ true → a ≡ b
-  kinds_same IntKind IntKind e = refl
-  kinds_same IntKind TextKind e = absurd (cc)
-  kinds_same TextKind IntKind e = absurd (cc)
-  kinds_same TextKind TextKind e = refl
-
   all_typed : (ks : List Comparison) → Each (IsNumbered schema scope kinds f) (flat_map refs_beside ks) → Each (λ k. differs schema scope k ≡ false) ks → Each (λ k. IsOfOneKind kinds (literal_of f k)) ks
   all_typed [] h e = All-nil (λ k. IsOfOneKind kinds (literal_of f k))
   all_typed (k ∷ ks) h e =
       let here = All-append_left (IsNumbered schema scope kinds f) (refs_beside k) (flat_map refs_beside ks) h in
       let left = All-append_left (IsNumbered schema scope kinds f) (refs_in k.left) (refs_in k.right) here in
       let right = All-append_right (IsNumbered schema scope kinds f) (refs_in k.left) (refs_in k.right) here in
-      let same = kinds_same (kind_in schema scope k.left) (kind_in schema scope k.right)
-      (not_false (same_kind (kind_in schema scope k.left) (kind_in schema scope k.right)) (All-head (λ k. differs schema scope k ≡ false) k ks e)) in
+      let same = same_kinds (kind_in schema scope k.left) (kind_in schema scope k.right)
+      (not-false (same_kind (kind_in schema scope k.left) (kind_in schema scope k.right)) (All-head (λ k. differs schema scope k ≡ false) k ks e)) in
       All-cons (λ k. IsOfOneKind kinds (literal_of f k)) k ks (operand_typed k.left left ∙ same ∙ sym (operand_typed k.right right))
       (all_typed ks (All-append_right (IsNumbered schema scope kinds f) (refs_beside k) (flat_map refs_beside ks) h) (All-tail (λ k. differs schema scope k ≡ false) k ks e))
 
@@ -120,8 +112,8 @@ module _ (schema : SchemaValue) (scope : Scope) (kinds : List Kind) (f : ARef �
     pub fits : Fits (length kinds) (numbered f c)
     fits = subst (Each (HasPlacesBelow (length kinds))) (sym (comparisons_of-numbered f c)) (All-map (HasPlacesBelow (length kinds)) (literal_of f) (comparisons_of c) (all_below (comparisons_of c) h))
 
-    pub same_kinds : two_kinds kinds (comparisons_of (numbered f c)) ≡ differing_kinds schema scope (comparisons_of c)
-    same_kinds = ap (two_kinds kinds) (comparisons_of-numbered f c) ∙ kinds_alike (comparisons_of c) h
+    pub same_differences : two_kinds kinds (comparisons_of (numbered f c)) ≡ differing_kinds schema scope (comparisons_of c)
+    same_differences = ap (two_kinds kinds) (comparisons_of-numbered f c) ∙ kinds_alike (comparisons_of c) h
 
     -- the same, where the kinds and the condition are these
     module _ (listed : List Kind) (same : listed ≡ kinds) (made : Cond) (is : made ≡ numbered f c) where
@@ -129,7 +121,7 @@ module _ (schema : SchemaValue) (scope : Scope) (kinds : List Kind) (f : ARef �
       fits_here = subst (λ (ks : List Kind). Fits (length ks) made) (sym same) (subst (Fits (length kinds)) (sym is) fits)
 
       pub kinds_here : two_kinds listed (comparisons_of made) ≡ differing_kinds schema scope (comparisons_of c)
-      kinds_here = ap (λ ks. two_kinds ks (comparisons_of made)) same ∙ ap (λ x. two_kinds kinds (comparisons_of x)) is ∙ same_kinds
+      kinds_here = ap (λ ks. two_kinds ks (comparisons_of made)) same ∙ ap (λ x. two_kinds kinds (comparisons_of x)) is ∙ same_differences
 
   -- a condition whose refs are so numbered, without a comparison of two kinds
   pub typed : (c : NamedCond) → length (comparisons_of c) ≤ 256 → Each (IsNumbered schema scope kinds f) (refs_of c) → differing_kinds schema scope (comparisons_of c) ≡ None → IsTypedCondition kinds (numbered f c)

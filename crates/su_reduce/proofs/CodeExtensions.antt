@@ -25,9 +25,6 @@ extends_kept old new value (inr e) =
     subst (λ (xs : List Value). Extends old xs) (sym e) (record { longer = omega arith; same = λ code h. get_or_append_left old (value ∷ []) (Int (pos 0)) code h })
 
 -- the code of a value
-pub code_low : (values : List Value) (code : ℕ) (value : Value) → slice_get values code ≡ Some value → code < length values
-code_low values code value e = slice_get_within values code value e
-
 pub code_is : (values : List Value) (code : ℕ) (value : Value) → slice_get values code ≡ Some value → decode values code ≡ value
 code_is values code value e = get_or_from_slice_get values code value (Int (pos 0)) e
 
@@ -44,7 +41,7 @@ module _ (a b : List Value) (more : Extends a b) where
 
 -- one more code
 pub row_more : (a b : List Value) (cells : List ℕ) (code : ℕ) (value : Value) → Extends a b → AreBelow cells (length a) → slice_get b code ≡ Some value → AreBelow (cells ++ code ∷ []) (length b)
-row_more a b cells code value more below is = All-push (λ c. c < length b) cells code (below_up cells (length a) (length b) more.longer below) (code_low b code value is)
+row_more a b cells code value more below is = All-push (λ c. c < length b) cells code (below_up cells (length a) (length b) more.longer below) (slice_get_within b code value is)
 
 pub values_more : (a b : List Value) (cells : List ℕ) (code : ℕ) (value : Value) → Extends a b → AreBelow cells (length a) → slice_get b code ≡ Some value → map (decode b) (cells ++ code ∷ []) ≡ map (decode a) cells ++ value ∷ []
 values_more a b cells code value more below is =

@@ -14,6 +14,7 @@ use Rattle.su_reduce.specs.Left.{cells_at, candidates_at}
 use Rattle.su_reduce.specs.inside.Marks.{IsMarked, marks_at, mark, candidate_at, HasPartner, IsSemijoin}
 use Rattle.su_reduce.specs.inside.Reduced.{GivesMarked, HasChosen, TakesPart, AreExact}
 use Rattle.su_tableau.proofs.ValuationLists.{values_same}
+use Rattle.su_tableau.proofs.SymbolParts.{const_var}
 
 -- ---- valuations
 
@@ -27,14 +28,11 @@ has (Var j ∷ cells) k = cond (nat_eq j k) true (has cells k)
 abbrev pub patched : List Sym → (ℕ → Value) → (ℕ → Value) → ℕ → Value
 patched cells u v k = cond (has cells k) (u k) (v k)
 
-pub no_variable : (d : Value) (k : ℕ) → Const d ≡ Var k → ⊥
-no_variable d k e = cc
-
 has_yes : (cells : List Sym) (k : ℕ) → Contains cells (Var k) → has cells k ≡ true
 has_yes [] k c = absurd (Contains-nil (Var k) c)
 has_yes (Const d ∷ cells) k c =
     ⊎_elim
-    (λ (e : Const d ≡ Var k). absurd (no_variable d k e))
+    (λ (e : Const d ≡ Var k). absurd (const_var d k e))
     (λ (there : Contains cells (Var k)). has_yes cells k there)
     (Contains-cases (Const d) cells (Var k) c)
 has_yes (Var j ∷ cells) k c =

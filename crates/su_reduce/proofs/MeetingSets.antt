@@ -4,13 +4,13 @@ use Rattle.std.specs.Ordering.{nat_cmp}
 use Rattle.std.specs.Cmp.{nat_cmp_total}
 use Rattle.std.specs.FinSet.{FinSet, contains, empty, intersection, insert, members, contains-empty, same_set, nat_cmp-IsAntisymmetric}
 use Rattle.std.proofs.lemmas.Bool.Decides.{nat_tests}
-use Rattle.std.proofs.lemmas.List.{get_or_default, get_or-map}
+use Rattle.std.proofs.lemmas.List.{get_or-map}
 use Rattle.std.proofs.lemmas.Bool.{cases_eq}
 use Rattle.su_tableau.specs.declared.symbols.Sym.{Sym}
 use Rattle.su_tableau.specs.declared.symbols.Sym.TheVariants.{Var}
 use Rattle.su_reduce.specs.declared.edges.Edge.{Edge}
 use Rattle.su_reduce.specs.Ears.{cells_of}
-use Rattle.su_reduce.specs.inside.Partners.{In, Touches, IsParentBy, set_at}
+use Rattle.su_reduce.specs.inside.Partners.{In, Touches, IsParentBy}
 
 pub apart : (s t : FinSet nat_cmp) → ((j : ℕ) → In t j → In s j → ⊥) → intersection s t ≡ empty
 apart s t none = same_set nat_cmp_total nat_cmp-IsAntisymmetric _ _ (λ q. grind (arith, nat_tests, members, none q))
@@ -19,10 +19,6 @@ pub none_common : (s t : FinSet nat_cmp) (j : ℕ) → intersection s t ≡ empt
 none_common s t j gone in_t in_s =
     let same : contains (intersection s t) j ≡ contains empty j = ap (λ r. contains r j) gone in
     grind (arith, nat_tests, members, in_t, in_s, same)
-
--- the set at place n
-pub set_is : (sets : List (FinSet nat_cmp)) (n : ℕ) (s : FinSet nat_cmp) → n < length sets → s ≡ get_or sets n s → s ≡ set_at sets n
-set_is sets n s l is = is ∙ get_or_default sets n s empty l
 
 pub empty_in : (s : FinSet nat_cmp) → s ≡ empty → (i : ℕ) → In s i → ⊥
 empty_in s is i m = true≢false (sym (subst (λ (t : FinSet nat_cmp). In t i) is m) ∙ contains-empty nat_cmp i)

@@ -1,23 +1,22 @@
 -- Places of variables, and when some valuation gives cells a row.
-use Rattle.std.proofs.Common.{◌≡◌, ◌<◌, ◌≤◌, ◌+◌, ℕ, zero, suc, List, [], ◌∷◌, ◌++◌, length, get_or, Contains, pos, refl, sym, ap, subst, ◌∙◌, ⊎_elim, arith}
+use Rattle.std.proofs.Common.{◌≡◌, ◌<◌, ◌≤◌, ◌+◌, ℕ, zero, suc, List, [], ◌∷◌, ◌++◌, length, get_or, Contains, pos, refl, sym, ap, subst, ◌∙◌, ⊎_elim, arith, below_more}
 use Rattle.std.proofs.lemmas.Bool.{cases_eq}
 use Rattle.std.proofs.lemmas.Bool.Decides.{nat_tests}
 use Rattle.std.proofs.lemmas.List.{get_or-map, get_or_default, get_or_append_left, get_or_push}
 use Rattle.su_base.proofs.Items.{Contains-cases, Contains-nil, get_or-push_each, length-push}
 use Rattle.su_base.specs.declared.values.Value.{Value}
 use Rattle.su_base.specs.declared.values.Value.TheVariants.{Int}
-use Rattle.su_tableau.proofs.Rows.{below_more}
 use Rattle.su_tableau.specs.declared.symbols.Sym.{Sym}
 use Rattle.su_tableau.specs.declared.symbols.Sym.TheVariants.{Const, Var}
 use Rattle.su_tableau.specs.Valuations.{nth, value_of, values_of}
+use Rattle.su_tableau.proofs.SymbolParts.{const_var}
 use Rattle.su_reduce.specs.Shapes.{cell_at, variable_place, AreFirsts}
 use Rattle.su_reduce.specs.inside.Keys.{assigned, IsPair, AreShared}
-use Rattle.su_reduce.proofs.Exact.{no_variable}
 
 -- the first cell that holds the variable is at its place
 pub place_is : (cells : List Sym) (k n : ℕ) → ((i : ℕ) → i < n → cell_at cells i ≡ Var k → ⊥) → n < length cells → cell_at cells n ≡ Var k → variable_place cells k ≡ n
 place_is [] k n none l is = absurd (omega (arith, l))
-place_is (Const d ∷ cells) k zero none l is = absurd (no_variable d k is)
+place_is (Const d ∷ cells) k zero none l is = absurd (const_var d k is)
 place_is (Var j ∷ cells) k zero none l is = let same : j ≡ k = cc in grind (arith, nat_tests, same)
 place_is (Const d ∷ cells) k (suc n) none l is = ap suc (place_is cells k n (λ i h. none (suc i) (omega (arith, h))) (omega (arith, l)) is)
 place_is (Var j ∷ cells) k (suc n) none l is =
@@ -39,7 +38,7 @@ pub place_holds : (cells : List Sym) (k : ℕ) → Contains cells (Var k) → (v
 place_holds [] k c = absurd (Contains-nil (Var k) c)
 place_holds (Const d ∷ cells) k c =
     ⊎_elim
-    (λ (e : Const d ≡ Var k). absurd (no_variable d k e))
+    (λ (e : Const d ≡ Var k). absurd (const_var d k e))
     (λ (there : Contains cells (Var k)). let rest = place_holds cells k there in let l = rest.0 in (omega (arith, l), rest.1))
     (Contains-cases (Const d) cells (Var k) c)
 place_holds (Var j ∷ cells) k c =
@@ -63,7 +62,7 @@ read_value v cells row p k gives l is = ap (λ (xs : List Value). nth xs p) (sym
 -- a variable's place is the least that holds it
 pub place_least : (cells : List Sym) (k p : ℕ) → p < length cells → cell_at cells p ≡ Var k → variable_place cells k ≤ p
 place_least [] k p l is = absurd (omega (arith, l))
-place_least (Const d ∷ cells) k zero l is = absurd (no_variable d k is)
+place_least (Const d ∷ cells) k zero l is = absurd (const_var d k is)
 place_least (Const d ∷ cells) k (suc p) l is = let rest = place_least cells k p (omega (arith, l)) is in omega (arith, rest)
 place_least (Var j ∷ cells) k zero l is = let same : j ≡ k = cc in let here : variable_place (Var j ∷ cells) k ≡ 0 = grind (arith, nat_tests, same) in omega (arith, here)
 place_least (Var j ∷ cells) k (suc p) l is =
@@ -104,8 +103,8 @@ first_value v cells firsts row p x first k are l gives x_is first_is var =
 
 -- ---- shared places
 
-pub same_var : (x : Sym) (j k : ℕ) → x ≡ Var j → x ≡ Var k → j ≡ k
-same_var x j k a b = cc
+pub one_var : (x : Sym) (j k : ℕ) → x ≡ Var j → x ≡ Var k → j ≡ k
+one_var x j k a b = cc
 
 pub shared_none : (left right : List Sym) (p k : ℕ) (ls rs : List ℕ) → AreShared left right p ls rs → cell_at left p ≡ Var k → length right ≤ variable_place right k → AreShared left right (p + 1) ls rs
 shared_none left right p k ls rs so_far is high = record {
@@ -114,7 +113,7 @@ shared_none left right p k ls rs so_far is high = record {
   right_below = so_far.right_below;
   only = so_far.only;
   all = λ q j l. below_more (λ q. cell_at left q ≡ Var j → Contains right (Var j) → (i : ℕ) × IsPair left right ls rs i j) p (λ q h. so_far.all q j h)
-      (λ at there. let low = (place_holds right k (subst (λ (n : ℕ). Contains right (Var n)) (same_var (cell_at left p) j k at is) there)).0 in absurd (omega (arith, low, high)))
+      (λ at there. let low = (place_holds right k (subst (λ (n : ℕ). Contains right (Var n)) (one_var (cell_at left p) j k at is) there)).0 in absurd (omega (arith, low, high)))
       q l;
 }
 
@@ -147,6 +146,6 @@ module _ (left right : List Sym) (p k q : ℕ) (ls rs : List ℕ) (so_far : AreS
     only = λ i l. below_more (λ i. (j : ℕ) × IsPair left right (ls ++ p ∷ []) (rs ++ q ∷ []) i j) (length ls) (λ i h. let one = so_far.only i h in (one.0, kept i one.0 one.1)) (k, added) i (omega (arith, l, longer));
     all = λ r j l. below_more (λ r. cell_at left r ≡ Var j → Contains right (Var j) → (i : ℕ) × IsPair left right (ls ++ p ∷ []) (rs ++ q ∷ []) i j) p
         (λ r h at there. let one = so_far.all r j h at there in (one.0, kept one.0 j one.1))
-        (λ at there. (length ls, subst (λ (n : ℕ). IsPair left right (ls ++ p ∷ []) (rs ++ q ∷ []) (length ls) n) (same_var (cell_at left p) k j is at) added))
+        (λ at there. (length ls, subst (λ (n : ℕ). IsPair left right (ls ++ p ∷ []) (rs ++ q ∷ []) (length ls) n) (one_var (cell_at left p) k j is at) added))
         r l;
   }

@@ -7,7 +7,7 @@ use Rattle.std.proofs.lemmas.List.Elements.{Contains-get_or}
 use Rattle.su_tableau.specs.declared.symbols.Sym.{Sym}
 use Rattle.su_tableau.specs.declared.symbols.Sym.TheVariants.{Var}
 use Rattle.su_reduce.specs.Shapes.{IsShapeOf, cell_at, variable_place}
-use Rattle.su_reduce.proofs.Places.{contains_at, firsts_more, place_holds, place_least, same_var}
+use Rattle.su_reduce.proofs.Places.{contains_at, firsts_more, place_holds, place_least, one_var}
 
 -- ---- one cell more
 
@@ -75,12 +75,12 @@ shape_new cells n k vars firsts places shape low is first =
             (c.0, omega (arith, m, long), get_or_append_left vars (k ∷ []) y c.0 m ∙ c.2))
             (λ (b : n ≤ x.0).
             let same : x.0 ≡ n = omega (arith, l, b) in
-            let it : k ≡ y = same_var (cell_at cells n) k y is (subst (λ p. cell_at cells p ≡ Var y) same x.2) in
+            let it : k ≡ y = one_var (cell_at cells n) k y is (subst (λ p. cell_at cells p ≡ Var y) same x.2) in
             (length vars, omega (arith, long), get_or_push vars k y (length vars) refl ∙ it))
             (cases_lt x.0 n),
       );
       firsts_are = ap (λ ps. ps ++ n ∷ []) shape.firsts_are ∙ (ap (λ p. map (variable_place cells) vars ++ p ∷ []) (sym first) ∙ sym (map_push (variable_place cells) vars k));
-      places_are = firsts_more cells n places n shape.places_are low (λ j other. sym first ∙ ap (variable_place cells) (same_var (cell_at cells n) k j is other));
+      places_are = firsts_more cells n places n shape.places_are low (λ j other. sym first ∙ ap (variable_place cells) (one_var (cell_at cells n) k j is other));
     }
 
 -- ---- what a shape says

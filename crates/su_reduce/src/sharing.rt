@@ -2,7 +2,8 @@
 ghost use Rattle.std.specs.Prelude.{◌≡◌, ◌↔◌, ◌<◌, ◌≤◌, ℕ, IsTrue, IfOk, Contains, length, Option, MatchOption};
 ghost use Rattle.su_tableau.specs.declared.symbols.Sym.TheVariants.{Var};
 ghost use Rattle.su_reduce.specs.Ears.{cells_of};
-ghost use Rattle.su_reduce.specs.inside.Partners.{In, set_at, AreSets, AreTable, IsParentBy, IsTouched};
+ghost use Rattle.su_base.specs.Sets.{set_at};
+ghost use Rattle.su_reduce.specs.inside.Partners.{In, AreSets, AreTable, IsParentBy, IsTouched};
 
 use crate::edges::Edge;
 use std::alloc::Global;

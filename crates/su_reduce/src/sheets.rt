@@ -77,6 +77,7 @@ impl Sheet {
         ensures unchanged { OnErr result (self.new.rows ≡ self.old.rows) }
     {
         let Some(count) = self.count.checked_add(1) else {
+            // 2^64 rows: more than memory has, and of rows without cells more than are ever pushed.
             return Err(AllocError);
         };
         self.cells.extend_from_slice(row)?;

@@ -9,7 +9,7 @@ use Rattle.su_tableau.specs.declared.symbols.Sym.TheVariants.{Const, Var}
 use Rattle.su_tableau.proofs.Same.{value_same}
 use Rattle.su_check.specs.declared.sending.Sent.{Sent}
 use Rattle.su_check.specs.inside.Cells.{cell_at, is_const}
-use Rattle.su_check.specs.inside.Agreement.{KeepsConstants, Gives, GoAlike, Goes}
+use Rattle.su_check.specs.inside.Agreement.{KeepsConstants, IsSentTo, GoAlike, Goes}
 use Rattle.su_check.specs.SentRows.{Lines, numbered_row, AreSent, sent_too}
 use Rattle.su_check.specs.Refutations.{IsOpen, IsFitting}
 use Rattle.su_refute.specs.inside.Positions.{IsReady}
@@ -83,7 +83,7 @@ decided_contains (x ∷ xs) j =
 
 decided_agree : (xs us ys vs : List Sym) → Decided (GoAlike xs us ys vs)
 decided_agree xs us ys vs =
-    decided_below (λ c. Gives (cell_at xs c) (cell_at us c) ys vs) (length xs) (λ c hc.
+    decided_below (λ c. IsSentTo (cell_at xs c) (cell_at us c) ys vs) (length xs) (λ c hc.
     decided_below (λ e. cell_at xs c ≡ cell_at ys e → cell_at us c ≡ cell_at vs e) (length ys) (λ e he.
     decided_implies (cell_at xs c ≡ cell_at ys e) (cell_at us c ≡ cell_at vs e) (decided_symbols (cell_at xs c) (cell_at ys e)) (decided_symbols (cell_at us c) (cell_at vs e))))
 

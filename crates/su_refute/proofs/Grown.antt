@@ -5,17 +5,18 @@ use Rattle.std.specs.List.{sum_by}
 use Rattle.std.proofs.lemmas.List.{length-map, get_or-map, map_push}
 use Rattle.std.proofs.lemmas.List.Sums.{sum_by_push}
 use Rattle.std.proofs.lemmas.List.Elements.{Contains-get_or, Contains-push_cases}
+use Rattle.su_base.specs.Lists.{AreExactly}
+use Rattle.su_base.proofs.AscendingNumbers.{exactly_as, exactly_all, exactly_more, exactly_skip, front_below, sums_front}
 use Rattle.su_map.specs.Lists.{numbers_of}
 use Rattle.su_check.specs.declared.sending.Sent.{Sent}
 use Rattle.su_check.specs.declared.nodes.Node.{Node}
 use Rattle.su_check.specs.declared.nodes.Branch.{Branch, out-roll-Branch}
 use Rattle.su_check.specs.SentRows.{Lines, sent_too}
-use Rattle.su_check.specs.Refutations.{AreExactly, IsOpen, IsFitting, row_named, branches_of, target_of, node_of}
+use Rattle.su_check.specs.Refutations.{IsOpen, IsFitting, row_named, branches_of, target_of, node_of}
 use Rattle.su_refute.specs.declared.nets.Net.{Net}
 use Rattle.su_refute.specs.Trees.{IsFewest, IsTreeAt, node_count}
 use Rattle.su_refute.specs.Trees.{lines_in}
 use Rattle.su_refute.specs.inside.Positions.{IsAt, Stands, IsFewestOf, IsTreeFor}
-use Rattle.su_refute.proofs.AscendingNumbers.{exactly_as, exactly_all, exactly_more, exactly_skip, front_below, sums_front}
 use Rattle.su_refute.proofs.MemberCounts.{all_members}
 use Rattle.su_refute.proofs.TreeSoFar.{at_next, left_small, fewest_is, fitting_in, open_in}
 use Rattle.su_refute.proofs.OneTree.{made, branch_count, made_branch, one_row, one_tree, tree_open, tree_fewest, tree_targets, tree_each, tree_made, count_node}

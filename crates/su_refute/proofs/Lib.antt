@@ -1,6 +1,5 @@
 pub mod Ready
 pub mod SharedPlaces
-pub mod AscendingNumbers
 pub mod MemberCounts
 pub mod FittingTargets
 pub mod TreeSoFar

@@ -1,22 +1,15 @@
 -- How many members a set has.
-use Rattle.std.proofs.Common.{◌≡◌, ◌≢◌, ℕ, zero, suc, ◌+◌, ◌*◌, ◌/◌, ◌%◌, ◌^◌, ◌<◌, ◌≤◌, List, ◌++◌, length, refl, sym, ap, subst, ◌∙◌, ⊎_elim, arith, count_ones}
+use Rattle.std.proofs.Common.{◌≡◌, ◌≢◌, ℕ, zero, suc, ◌+◌, ◌*◌, ◌/◌, ◌%◌, ◌^◌, ◌<◌, ◌≤◌, List, length, refl, sym, ap, subst, ◌∙◌, ⊎_elim, arith, count_ones}
 use lib.Count.{ones}
 use Rattle.std.specs.Int.{bit_at}
 use Rattle.std.proofs.lemmas.Bool.{cases_eq, cases_lt}
-use Rattle.std.proofs.lemmas.List.{append-nil}
 use Rattle.std.proofs.lemmas.Nat.{ones_cat, mod-pow-add, pow_pos}
 use Rattle.std.proofs.Math.Nat.{mod-one, mod-lt}
 use Rattle.std.proofs.lemmas.Nat.Bits.{bit_at-lt, bit_at_above, bit_at_cat_low, same_from_bits}
+use Rattle.su_base.specs.Lists.{AreExactly}
+use Rattle.su_base.proofs.AscendingNumbers.{exactly_none, exactly_more, exactly_skip, exactly_all, exactly_one}
 use Rattle.su_map.specs.Lists.{numbers_of}
-use Rattle.su_map.proofs.Ranks.{keep_if-none, numbers-more, numbers_step}
-use Rattle.su_check.specs.Refutations.{AreExactly}
-use Rattle.su_refute.proofs.AscendingNumbers.{exactly_none, exactly_more, exactly_skip, exactly_all, exactly_one}
-
-pub numbers-none : (m n : ℕ) → bit_at m n ≢ 1 → numbers_of m (suc n) ≡ numbers_of m n
-numbers-none m n none =
-    let l = bit_at-lt m n in
-    let z : bit_at m n ≡ 0 = omega arith in
-    ap (λ xs. numbers_of m n ++ xs) (keep_if-none (bit_at m n) n z) ∙ append-nil (numbers_of m n)
+use Rattle.su_map.proofs.Ranks.{numbers-more, numbers-none, numbers_step}
 
 -- the members below n, ascending
 pub numbers_exactly : (m n : ℕ) → AreExactly (λ j. (j < n) × (bit_at m j ≡ 1)) (numbers_of m n)

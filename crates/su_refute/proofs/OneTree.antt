@@ -4,13 +4,14 @@ use Rattle.std.proofs.lemmas.List.{length-map, get_or-map, same_lists}
 use Rattle.std.specs.List.{sum_by}
 use Rattle.std.proofs.lemmas.List.Sums.{sum-map, sum_by-cons}
 use Rattle.std.proofs.lemmas.List.Elements.{Contains-get_or}
+use Rattle.su_base.specs.Lists.{AreExactly}
+use Rattle.su_base.proofs.AscendingNumbers.{exactly_one}
 use Rattle.su_check.specs.declared.sending.Sent.{Sent}
 use Rattle.su_check.specs.declared.nodes.Node.{Node, roll-Node, out-roll-Node, roll-out-Node, fold_out-Node}
 use Rattle.su_check.specs.declared.nodes.Branch.{Branch, roll-Branch, roll-out-Branch, fold-Branch, fold_out-Branch}
 use Rattle.su_check.specs.SentRows.{Lines, sent_too}
-use Rattle.su_check.specs.Refutations.{AreExactly, IsOpen, IsFitting, refuting, row_named, branches_of, target_of, node_of}
+use Rattle.su_check.specs.Refutations.{IsOpen, IsFitting, refuting, row_named, branches_of, target_of, node_of}
 use Rattle.su_refute.specs.Trees.{IsFewest, IsTreeAt, count_step, node_count}
-use Rattle.su_refute.proofs.AscendingNumbers.{exactly_one}
 
 -- ---- a node and what it holds
 

@@ -11,7 +11,7 @@ use Rattle.su_map.specs.Lists.{row_of}
 use Rattle.su_check.specs.inside.Cells.{cell_at}
 use Rattle.su_check.specs.inside.Agreement.{GoAlike, Goes}
 use Rattle.su_refute.specs.declared.places.Places.{Places}
-use Rattle.su_refute.specs.inside.Nets.{AreWithin, AreShared, AgreeAt, IsSetOf, IsTold}
+use Rattle.su_refute.specs.inside.Nets.{AreWithin, AreShared, AgreeInPlaces, IsSetOf, IsTold}
 
 pub shared_within : (xs ys : List Sym) (n m : ℕ) (places : List Places) → AreShared xs ys places → length xs ≡ n → length ys ≡ m → AreWithin n m places
 shared_within xs ys n m places h en em =
@@ -19,11 +19,11 @@ shared_within xs ys n m places h en em =
     let s = (h x).0 has in let a = s.0 in let b = s.1 in
     (omega arith, omega arith))
 
-pub at_agree : (xs us ys vs : List Sym) (places : List Places) → AreShared xs ys places → AgreeAt places us vs → GoAlike xs us ys vs
+pub at_agree : (xs us ys vs : List Sym) (places : List Places) → AreShared xs ys places → AgreeInPlaces places us vs → GoAlike xs us ys vs
 at_agree xs us ys vs places h all c hc e he same =
     All-contains (λ x. cell_at us x.first ≡ cell_at vs x.second) places (record { first = c; second = e }) all ((h (record { first = c; second = e })).1 (hc, he, same))
 
-pub agree_at : (xs us ys vs : List Sym) (places : List Places) → AreShared xs ys places → GoAlike xs us ys vs → AgreeAt places us vs
+pub agree_at : (xs us ys vs : List Sym) (places : List Places) → AreShared xs ys places → GoAlike xs us ys vs → AgreeInPlaces places us vs
 agree_at xs us ys vs places h agree =
     All-members (λ x. cell_at us x.first ≡ cell_at vs x.second) places (λ x has. let s = (h x).0 has in agree x.first s.0 x.second s.1 s.2)
 
@@ -110,7 +110,7 @@ shared_more xs ys old now n x is before h p = (
 
 -- ---- sets of rows
 
-pub none_agree : (places : List Places) (us vs : List Sym) → (length places == 0) ≡ true → AgreeAt places us vs
+pub none_agree : (places : List Places) (us vs : List Sym) → (length places == 0) ≡ true → AgreeInPlaces places us vs
 none_agree places us vs e k d h = absurd (let z : length places ≡ 0 = grind (arith, nat_tests, e) in omega arith)
 
 -- ---- rows as they are read
@@ -124,10 +124,10 @@ goes_from t q i head row target eh er et g = rw (eh, er, et) g
 pub shared_by : (xs ys xs' ys' : List Sym) (places : List Places) → xs' ≡ xs → ys' ≡ ys → AreShared xs' ys' places → AreShared xs ys places
 shared_by xs ys xs' ys' places ex ey h = subst (λ xs. AreShared xs ys places) ex (subst (λ ys. AreShared xs' ys places) ey h)
 
-pub told_by : (t : Tab) (m s j q set : ℕ) (target : List Sym) (places : List Places) → AreShared (row_of t s) (row_of t q) places → target ≡ row_of t j → IsSetOf t m (λ i. AgreeAt places target (row_of t i)) set → IsTold t m s j q set
+pub told_by : (t : Tab) (m s j q set : ℕ) (target : List Sym) (places : List Places) → AreShared (row_of t s) (row_of t q) places → target ≡ row_of t j → IsSetOf t m (λ i. AgreeInPlaces places target (row_of t i)) set → IsTold t m s j q set
 told_by t m s j q set target places shared et h i = (
-  λ one. let r = (h i).0 one in (r.0, r.1, at_agree (row_of t s) (row_of t j) (row_of t q) (row_of t i) places shared (subst (λ us. AgreeAt places us (row_of t i)) et r.2)),
-  λ a. (h i).1 (a.0, a.1, subst (λ us. AgreeAt places us (row_of t i)) (sym et) (agree_at (row_of t s) (row_of t j) (row_of t q) (row_of t i) places shared a.2)),
+  λ one. let r = (h i).0 one in (r.0, r.1, at_agree (row_of t s) (row_of t j) (row_of t q) (row_of t i) places shared (subst (λ us. AgreeInPlaces places us (row_of t i)) et r.2)),
+  λ a. (h i).1 (a.0, a.1, subst (λ us. AgreeInPlaces places us (row_of t i)) (sym et) (agree_at (row_of t s) (row_of t j) (row_of t q) (row_of t i) places shared a.2)),
 )
 
 pub shared_as : (t : Tab) (s q : ℕ) (lists : List (List Places)) (places got : List Places) → got ≡ get_or lists q got → places ≡ got → length lists ≡ length t.rows → q < length t.rows → AreShared (row_of t s) (row_of t q) (get_or lists q []) → AreShared (row_of t s) (row_of t q) places

@@ -4,19 +4,20 @@ use Rattle.std.proofs.Math.Seq.{get_or-append_seam}
 use Rattle.std.proofs.lemmas.Bool.{cases_lt}
 use Rattle.std.proofs.lemmas.List.{length-append, get_or_append_left}
 use Rattle.std.proofs.lemmas.List.Elements.{All-push, All-contains}
+use Rattle.su_base.specs.Lists.{AreExactly}
+use Rattle.su_base.proofs.AscendingNumbers.{exactly_none, exactly_more, exactly_skip, exactly_all, exactly_one}
 use Rattle.su_base.proofs.Items.{Contains-cases, Contains-head, Contains-later, Contains-nil}
 use Rattle.su_check.specs.declared.sending.Sent.{Sent}
 use Rattle.su_check.specs.declared.nodes.Node.{Node}
 use Rattle.su_check.specs.declared.nodes.Branch.{Branch}
 use Rattle.su_check.specs.SentRows.{Lines, sent_too}
 use Rattle.su_check.specs.inside.Widths.{IsWithin}
-use Rattle.su_check.specs.Refutations.{AreExactly, IsOpen, IsFitting, target_of, node_of}
+use Rattle.su_check.specs.Refutations.{IsOpen, IsFitting, target_of, node_of}
 use Rattle.su_refute.specs.inside.Positions.{IsReady}
 use Rattle.su_min.proofs.Holes.{pigeonhole}
 use Rattle.su_refute.proofs.Ready.{ready_more}
 use Rattle.su_refute.specs.Trees.{IsFewest, IsTreeAt}
 use Rattle.su_refute.specs.inside.Positions.{IsFree, IsNeeded}
-use Rattle.su_refute.proofs.AscendingNumbers.{exactly_none, exactly_more, exactly_skip, exactly_all, exactly_one}
 use Rattle.su_refute.proofs.Decidable.{Decided, decided_fitting, decided_open}
 use Rattle.su_refute.proofs.OneTree.{made, made_branch, tree_made}
 use Rattle.su_refute.proofs.Grown.{branch_target, branch_node}

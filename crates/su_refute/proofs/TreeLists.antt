@@ -4,17 +4,17 @@ use Rattle.std.specs.Int.{bit_at}
 use Rattle.std.specs.List.{AllZip, sum_by}
 use Rattle.std.proofs.lemmas.List.{take_more}
 use Rattle.std.proofs.lemmas.List.Sums.{sum_by_push}
-use Rattle.su_base.proofs.Items.{some_item, AllZip-push, AllZip-length, AllZip-get_or}
+use Rattle.std.proofs.lemmas.Slice.Zip.{all_zipped_more}
+use Rattle.su_base.proofs.AscendingNumbers.{sums_front}
+use Rattle.su_base.proofs.Items.{some_item, AllZip-length, AllZip-get_or}
 use Rattle.su_map.specs.Lists.{numbers_of}
-use Rattle.su_map.proofs.Ranks.{rank_in, rank_at, ranked_at, numbers-more}
+use Rattle.su_map.proofs.Ranks.{rank_in, rank_at, ranked_at, numbers-more, numbers-none}
 use Rattle.su_check.specs.declared.nodes.Node.{Node}
 use Rattle.su_check.specs.SentRows.{Lines}
 use Rattle.su_min.specs.Kept.{Minimised}
 use Rattle.su_refute.specs.Trees.{IsTree, node_count}
 use Rattle.su_refute.specs.AllTrees.{IsSound, AreTreesOf, AreTrees, nodes_in, all_nodes, HasMoreNodes}
 use Rattle.su_refute.specs.Laws.{MoreNodesAreMoreInAll}
-use Rattle.su_refute.proofs.AscendingNumbers.{sums_front}
-use Rattle.su_refute.proofs.MemberCounts.{numbers-none}
 use Rattle.su_refute.proofs.OneTree.{one_tree}
 use Rattle.su_refute.proofs.Kept.{kept_trees, front_few}
 
@@ -25,7 +25,7 @@ pub trees_pushed : (t : Lines) (m row unused left budget : ℕ) (old new : List 
 trees_pushed t m row unused left budget old new n one is tree count zip counted =
     let e : row + 1 ≡ suc row = omega arith in
     let s = ap nodes_in is ∙ sum_by_push node_count old n in (
-      subst (λ ns. AllZip (IsTree t) (numbers_of m (row + 1)) ns) (sym is) (subst (λ rs. AllZip (IsTree t) rs (old ++ n ∷ [])) (sym (ap (numbers_of m) e ∙ numbers-more m row one)) (AllZip-push (IsTree t) (numbers_of m row) old row n zip tree)),
+      subst (λ ns. AllZip (IsTree t) (numbers_of m (row + 1)) ns) (sym is) (subst (λ rs. AllZip (IsTree t) rs (old ++ n ∷ [])) (sym (ap (numbers_of m) e ∙ numbers-more m row one)) (all_zipped_more (IsTree t) (numbers_of m row) old row n zip tree)),
       omega arith,
     )
 
@@ -64,7 +64,7 @@ trees_over t m n row unused budget trees others low one zip counted deeper all =
 lists_longer : (minimals : List Minimised) (i : ℕ) (m : Minimised) (old : List (List Node)) (trees : List Node) → i < length minimals → m ≡ get_or minimals i m → AreTreesOf m trees → AreTrees (take i minimals) old → AreTrees (take (i + 1) minimals) (old ++ trees ∷ [])
 lists_longer minimals i m old trees h is are before =
     let more : take (i + 1) minimals ≡ take i minimals ++ m ∷ [] = take_more minimals i m h ∙ ap (λ x. take i minimals ++ x ∷ []) (sym is) in
-    subst (λ ms. AreTrees ms (old ++ trees ∷ [])) (sym more) (AllZip-push AreTreesOf (take i minimals) old m trees before are)
+    subst (λ ms. AreTrees ms (old ++ trees ∷ [])) (sym more) (all_zipped_more AreTreesOf (take i minimals) old m trees before are)
 
 pub lists_pushed : (minimals : List Minimised) (i unused left budget : ℕ) (m : Minimised) (old new : List (List Node)) (trees : List Node) → i < length minimals → m ≡ get_or minimals i m → new ≡ old ++ trees ∷ [] → AreTreesOf m trees → left + nodes_in trees ≡ unused
     → AreTrees (take i minimals) old → unused + all_nodes old ≡ budget → AreTrees (take (i + 1) minimals) new × (left + all_nodes new ≡ budget)

@@ -4,6 +4,7 @@ use Rattle.std.specs.Int.{bit_at}
 use Rattle.std.proofs.lemmas.Bool.{cases_eq}
 use Rattle.std.proofs.lemmas.List.Elements.{All-push}
 use Rattle.std.proofs.lemmas.Nat.Bits.{bit_at-zero}
+use Rattle.su_base.proofs.AscendingNumbers.{exactly_as}
 use Rattle.su_base.proofs.Items.{All-append_left, All-middle}
 use Rattle.su_tableau.specs.Tableaux.{Tab}
 use Rattle.su_map.proofs.RowLists.{of_rows}
@@ -16,7 +17,6 @@ use Rattle.su_refute.specs.inside.Nets.{IsNet}
 use Rattle.su_refute.specs.Trees.{IsFewest, lines_in}
 use Rattle.su_refute.specs.inside.Positions.{IsFree, IsAt, Stands, IsFewestOf}
 use Rattle.su_refute.proofs.FittingTargets.{fits_next}
-use Rattle.su_refute.proofs.AscendingNumbers.{exactly_as}
 use Rattle.su_refute.proofs.MemberCounts.{count_set}
 
 pub open_in : (t : Tab) (m : ℕ) (p : List Sent) (q : ℕ) → IsOpen (lines_in t m) p q → (q < length t.rows) × (bit_at m q ≡ 1)

@@ -1,11 +1,12 @@
 -- The lines of a certificate are made of symbols, and nest no deeper than there are rows.
-use Rattle.std.proofs.Common.{◌≡◌, ℕ, ◌+◌, ◌%◌, ◌<◌, ◌≤◌, ◌^◌, Bool, true, List, [], ◌∷◌, ◌++◌, map, flat_map, length, get_or, codes, All, Contains, IsTrue, refl, sym, subst, ◌∙◌, arith}
+use Rattle.std.proofs.Common.{◌≡◌, ℕ, ◌+◌, ◌%◌, ◌<◌, ◌≤◌, ◌^◌, true, List, [], ◌∷◌, ◌++◌, map, flat_map, length, get_or, codes, All, Contains, IsTrue, refl, sym, subst, ◌∙◌, arith}
 use Rattle.std.specs.Fmt.{decimal}
 use Rattle.std.specs.List.{list_all}
 use Rattle.std.proofs.lemmas.Bool.Decides.{nat_tests}
 use Rattle.std.proofs.lemmas.Fmt.{decimal_by_steps, length-decimal-le}
 use Rattle.std.proofs.lemmas.List.{append-nil, length-append}
 use Rattle.std.proofs.lemmas.List.Elements.{All-nil, All-cons, All-push, All-append, All-map, All-contains}
+use Rattle.std.proofs.lemmas.List.Sums.{AllPass-from_list_all}
 use Rattle.su_base.specs.Name.{is_letter, is_letter_or_digit, IsWord}
 use Rattle.su_base.specs.declared.values.Kind.{Kind}
 use Rattle.su_base.specs.declared.values.Kind.TheVariants as kind
@@ -46,15 +47,8 @@ digits_pass n h =
     (λ n ds low before. All-push (λ c. IsTrue (is_letter_or_digit c)) ds (48 + n % 10) before (digit_passes (n % 10) (omega arith)))
     n h
 
-all_true : (p : ℕ → Bool) (bs : List ℕ) → list_all p bs ≡ true → All (λ c. IsTrue (p c)) bs
-all_true p [] e = All-nil (λ c. IsTrue (p c))
-all_true p (x ∷ bs) e =
-    let here : p x ≡ true = grind (arith, e) in
-    let rest : list_all p bs ≡ true = grind (arith, e, here) in
-    All-cons (λ c. IsTrue (p c)) x bs here (all_true p bs rest)
-
 word_valid : (x : ℕ) (bs : List ℕ) → is_letter x ≡ true → list_all is_letter_or_digit bs ≡ true → length bs < 64 → IsWord (x ∷ bs)
-word_valid x bs first rest short = (first, all_true is_letter_or_digit bs rest, short)
+word_valid x bs first rest short = (first, AllPass-from_list_all is_letter_or_digit bs rest, short)
 
 number_valid : (n : ℕ) → n < 2 ^ 63 → IsSymbol (number n)
 number_valid n h = omega (arith, h)

@@ -1,13 +1,14 @@
 -- The tree of a row that is left out.
 -- fewest: of the open rows the one with the fewest fitting targets, the least such row
 use Rattle.std.specs.Prelude.{◌≡◌, ℕ, ◌+◌, ◌<◌, ◌≤◌, ◌⊎◌, List, [], length, sum}
+use Rattle.su_base.specs.Lists.{AreExactly}
 use Rattle.su_tableau.specs.Tableaux.{Tab}
 use Rattle.su_map.specs.Lists.{row_numbers}
 use Rattle.su_check.specs.declared.sending.Sent.{Sent}
 use Rattle.su_check.specs.declared.nodes.Node.{Node, fold-Node}
 use Rattle.su_check.specs.declared.nodes.Branch.TheOpen.{Node-F}
 use Rattle.su_check.specs.SentRows.{Lines}
-use Rattle.su_check.specs.Refutations.{IsOpen, AreExactly, IsFitting, RefutesBy}
+use Rattle.su_check.specs.Refutations.{IsOpen, IsFitting, RefutesBy}
 
 -- the lines of the tableau, and the rows in m as the kept ones
 abbrev pub lines_in : Tab → ℕ → Lines

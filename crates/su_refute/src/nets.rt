@@ -3,7 +3,7 @@ ghost use Rattle.std.specs.Prelude.{◌≡◌, ◌≤◌, ◌<◌, ◌^◌, ◌�
 ghost use Rattle.std.specs.Int.{bit_at};
 ghost use Rattle.su_map.specs.Lists.{row_of};
 ghost use Rattle.su_check.specs.inside.Agreement.{KeepsConstants, GoAlike, Goes};
-ghost use Rattle.su_refute.specs.inside.Nets.{AreWithin, AreShared, AgreeAt, IsSetOf, IsBase, AreTold, AreToldOf, IsNet};
+ghost use Rattle.su_refute.specs.inside.Nets.{AreWithin, AreShared, AgreeInPlaces, IsSetOf, IsBase, AreTold, AreToldOf, IsNet};
 
 use crate::places::{Places, agree_at, shared};
 use std::alloc::Global;
@@ -72,7 +72,7 @@ fn agreeing(places: &[Places], target: &[Sym], t: &Tableau, mask: u64) -> u64
     requires target { length target.now ≡ t.now.width }
     requires places { AreWithin t.now.width t.now.width places.now }
     requires mask { mask < 2 ^ length t.now.rows }
-    ensures { IsSetOf t.now mask (λ i. AgreeAt places.now target.now (row_of t.now i)) result }
+    ensures { IsSetOf t.now mask (λ i. AgreeInPlaces places.now target.now (row_of t.now i)) result }
 {
     if places.is_empty() {
         return mask;

@@ -1,6 +1,6 @@
 //! Where two lists of symbols hold one symbol.
 ghost use Rattle.std.specs.Prelude.{◌≡◌, ◌<◌, ◌↔◌, ◌⊎◌, IfOk, OnOk, IsTrue, length};
-ghost use Rattle.su_refute.specs.inside.Nets.{AreWithin, AreShared, AgreeAt, AddsPlaces};
+ghost use Rattle.su_refute.specs.inside.Nets.{AreWithin, AreShared, AgreeInPlaces, AddsPlaces};
 
 use std::alloc::Global;
 use su_base::{List, NoMemory};
@@ -39,7 +39,7 @@ pub fn shared(alloc: Global, xs: &[Sym], ys: &[Sym]) -> Result<List<Places>, NoM
 /// Whether the lists hold one symbol at each of the places.
 pub fn agree_at(places: &[Places], us: &[Sym], vs: &[Sym]) -> bool
     requires { AreWithin (length us.now) (length vs.now) places.now }
-    ensures { IsTrue result ↔ AgreeAt places.now us.now vs.now }
+    ensures { IsTrue result ↔ AgreeInPlaces places.now us.now vs.now }
 {
     for at in places {
         if !us[at.first].same(&vs[at.second]) {

@@ -21,7 +21,7 @@ use Rattle.su_schema.specs.Known.{is_known, number_of, columns_at}
 use Rattle.su_schema.specs.Checks.{checks}
 use Rattle.su_schema.specs.Definitions.{applied, extended, numbers_of, links_of}
 use Rattle.su_schema.specs.WellNamed.{IsWellNamed}
-use Rattle.su_schema.proofs.Validity.{pass, passed_both, slice_get-grows, names_more, apart_names, object_more, below_more, dependency_more, numbers_some}
+use Rattle.su_schema.proofs.Validity.{pass, passed_both, slice_get-grows, names_more, apart_names, object_more, IsSomeBelow-more, dependency_more, numbers_some}
 use Rattle.su_schema.proofs.ObjectValid.{relation_there, joined, ordered, some_links}
 
 pub accepted : (schema next : SchemaValue) (definition : Definition) → first_failing (checks schema definition) ≡ None → next ≡ extended schema definition → applied schema definition ≡ Ok next
@@ -112,7 +112,7 @@ valid_object schema name relation pairs well valid h =
       few_fds = valid.few_fds;
       fds = λ k d within. dependency_more schema next _ (omega arith) (valid.fds k d within);
       few_declared = valid.few_declared;
-      declared = λ k d within. below_more (length schema.objects) (length next.objects) _ (rw length-append (omega arith)) (valid.declared k d within);
+      declared = λ k d within. IsSomeBelow-more (length schema.objects) (length next.objects) _ (rw length-append (omega arith)) (valid.declared k d within);
     }
 
 valid_fd : (schema : SchemaValue) (left right : List (List ℕ)) → IsWellNamed (Fd left right) → IsValid schema → first_failing (checks schema (Fd left right)) ≡ None → IsValid (extended schema (Fd left right))

@@ -5,7 +5,7 @@ use Rattle.std.specs.String.{string_bytes, string_eq}
 use Rattle.std.specs.declared.alloc.Global.{Global}
 use Rattle.std.specs.declared.string.String.{String}
 use Rattle.indexmap.specs.IndexMap.{insert_entry}
-use Rattle.std.proofs.lemmas.List.{take_more, length-take, get_or-take, get_or_default}
+use Rattle.std.proofs.lemmas.List.{take-map, take_more, length-take, get_or-take, get_or_default}
 use Rattle.std.proofs.lemmas.Option.{get_or_from_slice_get, slice_get_within, slice_get-map}
 use Rattle.std.proofs.lemmas.Slice.Eq.{bytes_eq-Decides}
 use Rattle.su_schema.specs.Known.{is_known}
@@ -18,11 +18,6 @@ unknown_from (n ∷ names) name apart =
       | true ↦ λ same. absurd (apart zero n (omega arith) (sym ((bytes_eq-Decides name n).0 same)))
       | false ↦ λ _. unknown_from names name (λ k d within. apart (suc k) d (omega arith))
     ] refl
-
-map_take : {X Y : Type 0} (f : X → Y) (a : ℕ) (xs : List X) → map f (take a xs) ≡ take a (map f xs)
-map_take f zero xs = refl
-map_take f (suc a) [] = refl
-map_take f (suc a) (x ∷ xs) = ap (λ ys. f x ∷ ys) (map_take f a xs)
 
 -- a name does not stand among those before its place
 not_before : (names : List (List ℕ)) (a : ℕ) (n : List ℕ) → AllPairs (λ x y. x ≢ y) names → slice_get names a ≡ Some n → is_known (take a names) n ≡ false
@@ -42,7 +37,7 @@ module _ {V X : Type 0} (show : String Global × V → X) (name : X → List ℕ
   new =
       let text : name x ≡ string_bytes key = ap name (sym same) ∙ named (key, v) in
       let at_name : slice_get (map name xs) a ≡ Some (string_bytes key) = slice_get-map name xs a ∙ rw (at, ← text) refl in
-      rw (so_far, map_take) (not_before (map name xs) a (string_bytes key) apart at_name)
+      rw (so_far, ← take-map) (not_before (map name xs) a (string_bytes key) apart at_name)
 
   -- the next entry goes last
   pub copied_last : news ≡ es ++ (key, v) ∷ []

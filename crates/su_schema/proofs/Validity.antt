@@ -79,11 +79,11 @@ module _ (s t : SchemaValue) (attributes : (k : ℕ) (x : AttributeEntry) → sl
   }
 
 -- what is below n is below more
-pub below_more : (n m : ℕ) (numbers : FinSet nat_cmp) → n ≤ m → IsSomeBelow n numbers → IsSomeBelow m numbers
-below_more n m numbers le is = record { some = is.some; below = λ k in'. let b : k < n = is.below k in' in omega arith }
+pub IsSomeBelow-more : (n m : ℕ) (numbers : FinSet nat_cmp) → n ≤ m → IsSomeBelow n numbers → IsSomeBelow m numbers
+IsSomeBelow-more n m numbers le is = record { some = is.some; below = λ k in'. let b : k < n = is.below k in' in omega arith }
 
 pub dependency_more : (s t : SchemaValue) (fd : Fd) → length s.attributes ≤ length t.attributes → IsDependency s fd → IsDependency t fd
-dependency_more s t fd le is = record { left = below_more (length s.attributes) (length t.attributes) fd.left le is.left; right = below_more (length s.attributes) (length t.attributes) fd.right le is.right }
+dependency_more s t fd le is = record { left = IsSomeBelow-more (length s.attributes) (length t.attributes) fd.left le is.left; right = IsSomeBelow-more (length s.attributes) (length t.attributes) fd.right le is.right }
 
 -- names whose checks pass are known
 pub known_all : (known before names : List (List ℕ)) → first_failing (name_checks known before names) ≡ None → All (λ n. is_known known n ≡ true) names

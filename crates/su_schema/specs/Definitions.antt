@@ -1,12 +1,11 @@
 -- What a definition makes of a schema: a refusal, or the schema with the definition at the end of its list.
 -- applied: extended by the definition, or refused by the first check that fails
-use Rattle.std.specs.Prelude.{◌≡◌, ◌⊎◌, ℕ, List, [], ◌∷◌, ◌++◌, length, map, filter_map, find, ◌==◌, Option, Some, None, Result, Ok, Err}
+use Rattle.std.specs.Prelude.{◌≡◌, ℕ, List, [], ◌∷◌, ◌++◌, length, map, filter_map, find, ◌==◌, Option, Some, None, Result, Ok, Err}
 use Rattle.std.specs.List.{range_with_len}
 use Rattle.std.specs.Ordering.{nat_cmp}
 use Rattle.std.specs.FinSet.{FinSet, from_list}
 use Rattle.su_base.specs.declared.values.Column.{Column}
 use Rattle.su_schema.specs.declared.faults.SchemaFault.{SchemaFault}
-use Rattle.su_schema.specs.declared.faults.SchemaFault.TheVariants.{NoMemory}
 use Rattle.su_schema.specs.declared.definitions.Pair.{Pair}
 use Rattle.su_schema.specs.declared.definitions.Definition.{Definition}
 use Rattle.su_schema.specs.declared.definitions.Definition.TheVariants.{Attribute, Relation, Object, Fd, Maximal}
@@ -54,6 +53,6 @@ outcome None schema = Ok schema
 abbrev pub applied : SchemaValue → Definition → Result SchemaValue SchemaFault
 applied schema definition = outcome (first_failing (checks schema definition)) (extended schema definition)
 
--- a refusal: memory is wanting, or the first check that fails answers this
+-- a refusal: the first check that fails answers this
 abbrev pub IsDefinitionRefusal : SchemaValue → Definition → SchemaFault → Type 0
-IsDefinitionRefusal schema definition fault = (fault ≡ NoMemory) ⊎ (applied schema definition ≡ Err fault)
+IsDefinitionRefusal schema definition fault = applied schema definition ≡ Err fault

@@ -1,5 +1,5 @@
 //! The calls that add to a schema. Each adds its definition whole, or changes nothing.
-ghost use Rattle.std.specs.Prelude.{◌≡◌, ◌<◌, [], length, IfOk, IfErr, OnOk, OnErr};
+ghost use Rattle.std.specs.Prelude.{◌≡◌, ◌⊎◌, ◌<◌, [], length, IfOk, IfErr, OnOk, OnErr};
 ghost use Rattle.su_base.specs.Name.{IsName};
 ghost use Rattle.su_schema.specs.Entries.{column_names};
 ghost use Rattle.su_schema.specs.NameChecks.{first_failing, apart_checks};
@@ -36,7 +36,7 @@ impl Schema {
     pub fn attribute(&mut self, name: &str, kind: Kind) -> Result<(), SchemaFault>
         requires { IsWellNamed (Definition.Attribute name.now kind) }
         ensures ok { OnOk result (applied self.old (Definition.Attribute name.now kind) ≡ Ok self.new) }
-        ensures refused { IfErr result (IsDefinitionRefusal self.old (Definition.Attribute name.now kind)) }
+        ensures refused { IfErr result (λ fault. (fault ≡ SchemaFault.NoMemory) ⊎ IsDefinitionRefusal self.old (Definition.Attribute name.now kind) fault) }
         ensures unchanged { OnErr result (self.new ≡ self.old) }
     {
         if self.find_attribute(name).is_some() {
@@ -56,7 +56,7 @@ impl Schema {
     pub fn relation(&mut self, name: &str, columns: &[Column]) -> Result<(), SchemaFault>
         requires { IsWellNamed (Definition.Relation name.now columns.now) }
         ensures ok { OnOk result (applied self.old (Definition.Relation name.now columns.now) ≡ Ok self.new) }
-        ensures refused { IfErr result (IsDefinitionRefusal self.old (Definition.Relation name.now columns.now)) }
+        ensures refused { IfErr result (λ fault. (fault ≡ SchemaFault.NoMemory) ⊎ IsDefinitionRefusal self.old (Definition.Relation name.now columns.now) fault) }
         ensures unchanged { OnErr result (self.new ≡ self.old) }
     {
         if self.find_relation(name).is_some() {
@@ -82,7 +82,7 @@ impl Schema {
     pub fn object(&mut self, name: &str, relation: &str, pairs: &[Pair]) -> Result<(), SchemaFault>
         requires { IsWellNamed (Definition.Object name.now relation.now pairs.now) }
         ensures ok { OnOk result (applied self.old (Definition.Object name.now relation.now pairs.now) ≡ Ok self.new) }
-        ensures refused { IfErr result (IsDefinitionRefusal self.old (Definition.Object name.now relation.now pairs.now)) }
+        ensures refused { IfErr result (λ fault. (fault ≡ SchemaFault.NoMemory) ⊎ IsDefinitionRefusal self.old (Definition.Object name.now relation.now pairs.now) fault) }
         ensures unchanged { OnErr result (self.new ≡ self.old) }
     {
         if self.find_object(name).is_some() {
@@ -106,7 +106,7 @@ impl Schema {
     pub fn fd(&mut self, left: &[Str], right: &[Str]) -> Result<(), SchemaFault>
         requires { IsWellNamed (Definition.Fd left.now right.now) }
         ensures ok { OnOk result (applied self.old (Definition.Fd left.now right.now) ≡ Ok self.new) }
-        ensures refused { IfErr result (IsDefinitionRefusal self.old (Definition.Fd left.now right.now)) }
+        ensures refused { IfErr result (λ fault. (fault ≡ SchemaFault.NoMemory) ⊎ IsDefinitionRefusal self.old (Definition.Fd left.now right.now) fault) }
         ensures unchanged { OnErr result (self.new ≡ self.old) }
     {
         if self.fds().len() >= 256 {
@@ -123,7 +123,7 @@ impl Schema {
     pub fn maximal(&mut self, objects: &[Str]) -> Result<(), SchemaFault>
         requires { IsWellNamed (Definition.Maximal objects.now) }
         ensures ok { OnOk result (applied self.old (Definition.Maximal objects.now) ≡ Ok self.new) }
-        ensures refused { IfErr result (IsDefinitionRefusal self.old (Definition.Maximal objects.now)) }
+        ensures refused { IfErr result (λ fault. (fault ≡ SchemaFault.NoMemory) ⊎ IsDefinitionRefusal self.old (Definition.Maximal objects.now) fault) }
         ensures unchanged { OnErr result (self.new ≡ self.old) }
     {
         if self.declared().len() >= 64 {
@@ -138,7 +138,7 @@ impl Schema {
     pub fn define(&mut self, definition: &Definition) -> Result<(), SchemaFault>
         requires { IsWellNamed definition.now }
         ensures ok { OnOk result (applied self.old definition.now ≡ Ok self.new) }
-        ensures refused { IfErr result (IsDefinitionRefusal self.old definition.now) }
+        ensures refused { IfErr result (λ fault. (fault ≡ SchemaFault.NoMemory) ⊎ IsDefinitionRefusal self.old definition.now fault) }
         ensures unchanged { OnErr result (self.new ≡ self.old) }
     {
         match definition {

@@ -46,11 +46,11 @@ impl Model for Schema {
     ghost coded = { Prim.hlevel (codes, attr_set.the_row.coded, set.code {R = nat_cmp} coded_ℕ) };
 
     ghost use Rattle.su_schema.specs.Maps.{shown};
-    ghost use Rattle.su_schema.specs.inside.Kept.{IsKept};
+    ghost use Rattle.su_schema.specs.inside.Kept.{KeepsItsRules};
 
     ghost view = { shown };
 
-    ghost invariant = { IsKept };
+    ghost invariant = { KeepsItsRules };
 }
 
 impl Schema {

@@ -1,5 +1,5 @@
 -- The reply to a change, by how it ends.
-use Rattle.std.proofs.Common.{◌≡◌, ℕ, Bool, true, false, List, [], ◌∷◌, slice_get, Some, Ok, Err, inl, inr, ap, ◌∙◌, subst, length}
+use Rattle.std.proofs.Common.{◌≡◌, ℕ, Bool, true, false, List, [], ◌∷◌, slice_get, Some, Ok, Err, inl, inr, sym, ap, ◌∙◌, subst, length}
 use Rattle.su_base.specs.declared.values.Value.{Value}
 use Rattle.su_base.specs.declared.values.Column.{Column}
 use Rattle.su_where.specs.Truth.{Cond}
@@ -21,7 +21,7 @@ use Rattle.su_show.specs.Changes.{deleted_text, loaded_text}
 use Rattle.su_session.specs.declared.replies.Reply.{Reply}
 use Rattle.su_session.specs.Outcomes.{Accepts, Refuses}
 use Rattle.su_session.specs.RowStatements.{InRelation, InsertsRow, DeletesRow, DeletesRows, LoadsRows}
-use Rattle.su_session.proofs.Relations.{columns_are}
+use Rattle.su_schema.proofs.PairsSoFar.{columns_there}
 
 module _ (db : DatabaseValue) (name : List ℕ) (reply : Reply) where
   pub refused_insert : (new : DatabaseValue) (r : ℕ) (row : List Value) (fault : StateFault) → Inserts db r row (Err fault) new → Refuses new (State fault) reply new → InsertsRow db row reply new r
@@ -37,7 +37,7 @@ module _ (db : DatabaseValue) (name : List ℕ) (reply : Reply) where
   -- a load from a file that the columns of the relation read
   module _ (r : ℕ) (placed : place_of (relation_names db.schema) name ≡ Some r) (bytes : List ℕ) (columns : List Column) (at : slice_get (relation_columns db.schema) r ≡ Some columns) where
     own : columns ≡ columns_of db r
-    own = columns_are db.schema r columns at
+    own = sym (columns_there db.schema r columns at)
 
     pub refused_file : (fault : CsvFault) → reading columns bytes ≡ Err fault → Refuses db (Csv r fault) reply db → InRelation db name reply db (LoadsRows db bytes reply db)
     refused_file fault fails refuses = inr (r, placed, inl (fault, subst (λ (cs : List Column). reading cs bytes ≡ Err fault) own fails, refuses))

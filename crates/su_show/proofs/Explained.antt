@@ -1,7 +1,6 @@
 -- The text of an explanation, term by term.
-use Rattle.std.proofs.Common.{◌≡◌, ◌<◌, ℕ, List, ◌++◌, Some, length, get_or, slice_get, refl, sym, ap, ◌∙◌, append_assoc}
+use Rattle.std.proofs.Common.{◌≡◌, ℕ, List, ◌++◌, Some, length, slice_get, refl, ap, ◌∙◌, append_assoc}
 use Rattle.std.specs.List.{range_with_len}
-use Rattle.std.proofs.lemmas.Option.{slice_get-get_or}
 use Rattle.su_schema.specs.SchemaValue.{SchemaValue}
 use Rattle.su_query.specs.declared.statements.Query.{Query}
 use Rattle.su_query.specs.declared.resolving.Resolved.{Resolved}
@@ -13,10 +12,6 @@ use Rattle.su_show.specs.inside.AddedTexts.{Adds}
 use Rattle.su_show.specs.Explanations.{query_line, variables_line, last_line, IsTermText, IsExplanation}
 use Rattle.su_show.specs.TableauLines.{tableau_lines}
 use Rattle.su_show.specs.MinimalLines.{minimal_lines, IsEnd}
-
--- the element at a place
-pub slice_get-at : {A : Type 0} (xs : List A) (i : ℕ) (x : A) → i < length xs → x ≡ get_or xs i x → slice_get xs i ≡ Some x
-slice_get-at xs i x below is = slice_get-get_or xs i x below ∙ ap Some (sym is)
 
 module _ (schema : SchemaValue) (q : Resolved) (terms : List Term) (minimals : List Minimised) (reduced : Reduced) where
   -- a term with its three parts

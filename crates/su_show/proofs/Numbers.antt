@@ -8,7 +8,7 @@ use Rattle.std.proofs.lemmas.List.Elements.{filter-append}
 use Rattle.std.proofs.lemmas.Nat.Bits.{bit_at-lt}
 use Rattle.su_tableau.specs.Parts.{keep_if}
 use Rattle.su_map.specs.Lists.{numbers_of}
-use Rattle.su_base.proofs.Items.{range-push_zero}
+use Rattle.su_base.proofs.Items.{range-push_zero, flat_map-range_push}
 
 -- a row that is in the mask, and one that isn't
 pub keep_if-in : (m r : ℕ) → bit_at m r ≡ 1 → keep_if (bit_at m r) r [] ≡ r ∷ []
@@ -43,6 +43,4 @@ module _ (f : ℕ → List ℕ) (p : ℕ → Bool) (n : ℕ) (old mid new : List
 -- the text of the next number
 pub text-next : (f : ℕ → List ℕ) (n : ℕ) (old mid new : List ℕ) → mid ≡ old ++ flat_map f (range_with_len 0 n) → new ≡ mid ++ f n → new ≡ old ++ flat_map f (range_with_len 0 (n + 1))
 text-next f n old mid new before e =
-    let more : flat_map f (range_with_len 0 (n + 1)) ≡ flat_map f (range_with_len 0 n) ++ f n =
-    ap (flat_map f) (range-push_zero n) ∙ flat_map-append f (range_with_len 0 n) (n ∷ []) ∙ ap (λ t. flat_map f (range_with_len 0 n) ++ t) (append-nil (f n)) in
-    e ∙ ap (λ t. t ++ f n) before ∙ append_assoc old (flat_map f (range_with_len 0 n)) (f n) ∙ ap (λ t. old ++ t) (sym more)
+    e ∙ ap (λ t. t ++ f n) before ∙ append_assoc old (flat_map f (range_with_len 0 n)) (f n) ∙ ap (λ t. old ++ t) (sym (flat_map-range_push f n))

@@ -1,5 +1,5 @@
 -- The lines of what takes part in an answer: a line for each kept term and, below it, one for each of its kept rows.
--- Terms and rows are numbered from 0. Each line ends with a line feed; where no term is kept there is none.
+-- support: how many candidates each kept row has, and how many are left; terms and rows are numbered from 0. Each line ends with a line feed; where no term is kept there is none.
 use Rattle.std.specs.Prelude.{ℕ, Bool, true, false, List, [], ◌++◌, flat_map, Option, Some, None, codes, decimal}
 use Rattle.su_reduce.specs.declared.support.Counted.{Counted}
 use Rattle.su_reduce.specs.declared.support.Support.{Support}

@@ -2,7 +2,7 @@
 use Rattle.std.proofs.Common.{◌≡◌, ℕ, ◌+◌, List, [], ◌∷◌, ◌++◌, map, flat_map, sym, ap, ◌∙◌, arith, append_assoc}
 use Rattle.std.specs.List.{range_with_len}
 use Rattle.std.proofs.lemmas.List.FromFn.{map-range_with_len_more}
-use Rattle.su_base.proofs.Items.{flat_map-push, range-push_zero}
+use Rattle.su_base.proofs.Items.{flat_map-range_push}
 
 -- the image of the next number, behind others
 pub images_behind : {X : Type 0} (f : ℕ → X) (i : ℕ) (x : X) (old before after : List X) → before ≡ old ++ map f (range_with_len 0 i) → after ≡ before ++ x ∷ [] → x ≡ f i → after ≡ old ++ map f (range_with_len 0 (i + 1))
@@ -12,8 +12,7 @@ images_behind {X} f i x old before after so e is =
 -- the images of the next number, which are lists
 pub flat_next : {X : Type 0} (f : ℕ → List X) (i : ℕ) (before after : List X) → before ≡ flat_map f (range_with_len 0 i) → after ≡ before ++ f i → after ≡ flat_map f (range_with_len 0 (i + 1))
 flat_next {X} f i before after so e =
-    let more : flat_map f (range_with_len 0 (i + 1)) ≡ flat_map f (range_with_len 0 i) ++ f i = ap (flat_map f) (range-push_zero i) ∙ flat_map-push f (range_with_len 0 i) i in
-    e ∙ ap (λ (t : List X). t ++ f i) so ∙ sym more
+    e ∙ ap (λ (t : List X). t ++ f i) so ∙ sym (flat_map-range_push f i)
 
 -- five parts behind others
 pub five_behind : (old a b c d e o1 o2 o3 o4 new : List ℕ) → o1 ≡ old ++ a → o2 ≡ o1 ++ b → o3 ≡ o2 ++ c → o4 ≡ o3 ++ d → new ≡ o4 ++ e → new ≡ old ++ (((a ++ b) ++ (c ++ d)) ++ e)

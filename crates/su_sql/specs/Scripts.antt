@@ -1,5 +1,5 @@
 -- What is written for a script: the tables of the schema, and then each statement in order.
--- A statement is written on the database that those before it left.
+-- script: the tables' text, and then what is written for each statement, on the database that those before it left
 use Rattle.std.specs.Prelude.{◌≡◌, ℕ, List, [], ◌∷◌, ◌++◌, length, map}
 use Rattle.std.specs.List.{flat_map, range_with_len}
 use Rattle.su_lex.specs.declared.spans.Span.{Span}

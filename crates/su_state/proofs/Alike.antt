@@ -1,7 +1,6 @@
 -- A row that agrees with another on some columns: none of the first matches does, or one tells for all of its kind.
-use Rattle.std.proofs.Common.{◌≡◌, ◌<◌, ◌+◌, ℕ, List, [], slice_get, Some, sym, subst, ◌∙◌, Contains, arith}
+use Rattle.std.proofs.Common.{◌≡◌, ◌<◌, ◌+◌, ℕ, List, [], slice_get, Some, sym, subst, ◌∙◌, Contains, arith, below_more}
 use Rattle.std.specs.Prelude.{IsTrue}
-use borrow.Author.Count.{below_more}
 use Rattle.std.specs.Ordering.{nat_cmp}
 use Rattle.std.specs.FinSet.{FinSet, contains}
 use Rattle.std.proofs.lemmas.List.{get_or_default}

@@ -1,7 +1,6 @@
 -- Rows agree on an object's attributes exactly where they agree at the columns of these.
-use Rattle.std.proofs.Common.{◌≡◌, ◌≢◌, ◌<◌, ◌≤◌, ◌+◌, ℕ, true, false, nat_eq, cond, ◌==◌, ◌||◌, List, [], ◌∷◌, length, map, slice_get, get_or, Option, Some, None, MatchOption, refl, sym, ap, subst, ◌∙◌, Contains, inl, inr, arith}
+use Rattle.std.proofs.Common.{◌≡◌, ◌≢◌, ◌<◌, ◌≤◌, ◌+◌, ℕ, true, false, nat_eq, cond, ◌==◌, ◌||◌, List, [], ◌∷◌, length, map, slice_get, get_or, Option, Some, None, MatchOption, refl, sym, ap, subst, ◌∙◌, Contains, inl, inr, arith, below_more}
 use Rattle.std.specs.Prelude.{IsTrue, find, option_map, option_and_then}
-use borrow.Author.Count.{below_more}
 use Rattle.std.specs.List.{list_any}
 use Rattle.std.specs.Ordering.{nat_cmp}
 use Rattle.std.specs.FinSet.{FinSet, empty, insert, contains, is_subset, contains-from_list_nat, contains-empty, members}

@@ -1,14 +1,14 @@
 -- Rows that all differ stay so: with one more that is not there, with some left out, and in another order.
-use Rattle.std.proofs.Common.{◌≡◌, ◌+◌, zero, suc, Bool, true, false, List, [], ◌∷◌, ◌++◌, refl, sym, subst, ◌∙◌, Contains, inl, inr, arith}
+use Rattle.std.proofs.Common.{◌≡◌, zero, suc, Bool, true, false, List, [], ◌∷◌, refl, sym, subst, ◌∙◌, Contains, inl, inr, arith}
 use Rattle.std.specs.Bool.{Decides}
 use Rattle.std.specs.List.{items_where_true}
 use Rattle.std.specs.List.Sorted.{IsPermutation}
 use Rattle.std.proofs.lemmas.Map.Keys.{IsDistinct-IsPermutation}
 use Rattle.std.proofs.lemmas.Map.Made.{AllPairs-from_IsDistinct, IsDistinct-from_AllPairs}
+use Rattle.su_base.proofs.Items.{AllDiffer-push}
 use Rattle.su_base.proofs.Same.{row_eq-Decides}
 use Rattle.su_rel.proofs.Rows.{same, flips}
 use Rattle.std.proofs.lemmas.List.{get_or_default}
-use Rattle.std.proofs.lemmas.List.Elements.{Contains-push_cases}
 use Rattle.su_base.specs.declared.values.Value.{Value}
 use Rattle.su_rel.specs.Changes.{PutInAll}
 use Rattle.su_base.specs.Lists.{AllDiffer}
@@ -32,21 +32,11 @@ differ_cons row rows out differ zero (suc j) d less within =
 differ_cons row rows out differ (suc i) zero d less within = absurd (omega (arith, less))
 differ_cons row rows out differ (suc i) (suc j) d less within = differ i j d (omega (arith, less)) (omega (arith, within))
 
--- one more row
-pub differ_push : (rows : List Row) (row : Row) → AllDiffer rows → (¬ Contains rows row) → AllDiffer (rows ++ row ∷ [])
-differ_push [] row differ out = differ_cons row [] out differ_none
-differ_push (r ∷ rs) row differ out =
-    let rest = differ_push rs row (differ_tail r rs differ) (λ (k, within, is). out (suc k, omega (arith, within), is)) in
-    differ_cons r (rs ++ row ∷ []) (λ there. elim (Contains-push_cases rs row r there) [
-      | inl early ↦ differ_head r rs differ early
-      | inr last ↦ out (zero, omega arith, sym last)
-    ]) rest
-
 -- rows put in one after another
 pub differ_put : (rows old new : List Row) → AllDiffer old → PutInAll old rows new → AllDiffer new
 differ_put [] old new differ same = subst AllDiffer (sym same) differ
 differ_put (row ∷ rows) old new differ (between, inl (there, same), rest) = differ_put rows between new (subst AllDiffer (sym same) differ) rest
-differ_put (row ∷ rows) old new differ (between, inr (out, is), rest) = differ_put rows between new (subst AllDiffer (sym is) (differ_push old row differ out)) rest
+differ_put (row ∷ rows) old new differ (between, inr (out, is), rest) = differ_put rows between new (subst AllDiffer (sym is) (AllDiffer-push old row differ out)) rest
 
 among : (marks : List Bool) (rows : List Row) (row : Row) → Contains (items_where_true marks rows) row → Contains rows row
 among [] rows row (k, within, is) = absurd (omega (arith, within))

@@ -11,6 +11,7 @@ use Rattle.su_base.specs.declared.values.Column.{Column}
 use Rattle.su_fd.specs.declared.dependencies.Fd.{Fd}
 use Rattle.su_rel.specs.Changes.{TakenOut}
 use Rattle.su_base.specs.Lists.{AllDiffer}
+use Rattle.su_base.proofs.Items.{AllDiffer-push}
 use Rattle.su_rel.specs.Stored.{Stored}
 use Rattle.su_schema.specs.SchemaValue.{SchemaValue, ObjectEntry}
 use Rattle.su_schema.specs.Entries.{relation_columns}
@@ -19,7 +20,6 @@ use Rattle.su_state.specs.Enforced.{read, Break, HoldsOn}
 use Rattle.su_state.specs.Changes.{ChangesOnly, Added, Removed}
 use Rattle.su_state.specs.inside.SomeBreaches.{BreaksNothing}
 use Rattle.su_state.specs.RowChanges.{Deletes, InsertAnswers, Inserts}
-use Rattle.su_state.proofs.DifferentRows.{differ_push}
 
 abbrev pub blank : Stored
 blank = record { width = 0; rows = [] }
@@ -110,7 +110,7 @@ module _ (db : DatabaseValue) (r : ℕ) (kept : IsWellKept db) (within : r < len
     typed = rw rows (All-push (HasColumnKinds (columns_of db r)) (rows_of db r) row (kept.typed r within) typed);
     enforced = λ f o fd object numbered placed on. rw rows (holds_added db.schema r (rows_of db r) row f o fd object numbered placed on none (holds_at f o fd object numbered placed on));
     few = rw rows (omega (arith, length_push (rows_of db r) row));
-    differ = rw rows (differ_push (rows_of db r) row (kept.differ r) out);
+    differ = rw rows (AllDiffer-push (rows_of db r) row (kept.differ r) out);
   }
 
   pub may_lose : (table : Stored) → table.width ≡ (table_of db r).width → ((x : List Value) → Contains table.rows x → Contains (rows_of db r) x) → length table.rows ≤ length (rows_of db r) → AllDiffer table.rows → MayHave db r table

@@ -6,7 +6,7 @@ use Rattle.std.specs.declared.cmp.Ordering.{Ordering}
 use Rattle.std.specs.declared.cmp.Ordering.TheVariants.{Less, Equal, Greater}
 use Rattle.std.proofs.lemmas.Bool.Decides.{nat_tests}
 use Rattle.std.proofs.lemmas.Cmp.{ranked}
-use Rattle.std.proofs.Math.Nat.{pow-suc, mul-le-mul_right}
+use Rattle.std.proofs.Math.Nat.{pow-suc, suc-mul, mul-le-mul_right, one-le-pow}
 use Rattle.std.proofs.lemmas.List.Elements.{All-head, All-tail}
 use Rattle.su_base.specs.declared.values.Value.{Value}
 use Rattle.su_base.specs.declared.values.Value.TheVariants.{Int, Text}
@@ -25,16 +25,9 @@ sort_lead_of_bytes-seven (a ∷ b ∷ c ∷ d ∷ e ∷ []) = omega arith
 sort_lead_of_bytes-seven (a ∷ b ∷ c ∷ d ∷ e ∷ f ∷ []) = omega arith
 sort_lead_of_bytes-seven (a ∷ b ∷ c ∷ d ∷ e ∷ f ∷ g ∷ s) = omega arith
 
-suc_times : (x w : ℕ) → (x + 1) * w ≡ x * w + w
-suc_times x w = grind arith
-
-pow_some : (k : ℕ) → 0 < 256 ^ k
-pow_some zero = omega arith
-pow_some (suc k) = omega (arith, pow-suc 256 k, pow_some k)
-
 bytes_less : (k : ℕ) (s : List ℕ) → All (λ b. b < 256) s → sort_lead_of_bytes k s < 256 ^ k
 bytes_less zero s all = omega arith
-bytes_less (suc k) [] all = pow_some (suc k)
+bytes_less (suc k) [] all = one-le-pow (suc k) 256 (omega arith)
 bytes_less (suc k) (b ∷ s) all =
     let h : b < 256 = All-head (λ x. x < 256) b s all in
     let t : sort_lead_of_bytes k s < 256 ^ k = bytes_less k s (All-tail (λ x. x < 256) b s all) in
@@ -50,9 +43,8 @@ bytes_rise (suc k) (x ∷ s) (y ∷ t) a b e =
     elim (nat_cmp x y) as (λ o. nat_cmp x y ≡ o → ordering_then o (slice_cmp nat_cmp s t) ≡ Less → x * 256 ^ k + sort_lead_of_bytes k s ≤ y * 256 ^ k + sort_lead_of_bytes k t) [
       | Less ↦ λ o f.
           let less : x < y = ranked x y Less (sym o) in
-          let q : (x + 1) * 256 ^ k ≤ y * 256 ^ k = mul-le-mul_right (256 ^ k) (omega arith) in
-          let w : (x + 1) * 256 ^ k ≡ x * 256 ^ k + 256 ^ k = suc_times x (256 ^ k) in
-          omega (arith, q, w, bytes_less k s (All-tail (λ b. b < 256) x s a))
+          let q : suc x * 256 ^ k ≤ y * 256 ^ k = mul-le-mul_right (256 ^ k) less in
+          omega (arith, q, suc-mul x (256 ^ k), bytes_less k s (All-tail (λ b. b < 256) x s a))
       | Equal ↦ λ o f.
           let same : x * 256 ^ k ≡ y * 256 ^ k = ap (λ z. z * 256 ^ k) (ranked x y Equal (sym o)) in
           omega (arith, same, bytes_rise k s t (All-tail (λ b. b < 256) x s a) (All-tail (λ b. b < 256) y t b) f)

@@ -1,7 +1,6 @@
 -- The least row that clashes, among the first of the rows that have a value in a column.
-use Rattle.std.proofs.Common.{◌≡◌, ◌≢◌, ◌<◌, ◌+◌, ℕ, true, false, List, [], length, slice_get, Option, Some, None, MatchOption, refl, sym, ap, subst, ◌∙◌, Contains, inl, inr, arith}
+use Rattle.std.proofs.Common.{◌≡◌, ◌≢◌, ◌<◌, ◌+◌, ℕ, true, false, List, [], length, slice_get, Option, Some, None, MatchOption, refl, sym, ap, subst, ◌∙◌, Contains, inl, inr, arith, below_more}
 use Rattle.std.specs.Prelude.{IsTrue}
-use borrow.Author.Count.{below_more}
 use Rattle.std.specs.Ordering.{ordering_reverse, is_gt, is_lt}
 use Rattle.std.specs.FinSet.{contains}
 use Rattle.std.specs.declared.cmp.Ordering.{Ordering}

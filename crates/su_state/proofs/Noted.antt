@@ -1,7 +1,6 @@
 -- Rows have one part exactly where they agree at its columns; rows that all agree with the first ones of their left parts do not clash.
-use Rattle.std.proofs.Common.{◌≡◌, ◌⊎◌, ◌<◌, ◌+◌, ◌++◌, ℕ, true, false, cond, zero, suc, List, [], ◌∷◌, length, take, slice_get, get_or, Option, None, Some, refl, sym, ap, subst, ◌∙◌, append-nil, Contains, inl, inr, arith}
+use Rattle.std.proofs.Common.{◌≡◌, ◌⊎◌, ◌<◌, ◌+◌, ◌++◌, ℕ, true, false, cond, zero, suc, List, [], ◌∷◌, length, take, slice_get, get_or, Option, None, Some, refl, sym, ap, subst, ◌∙◌, append-nil, Contains, inl, inr, arith, below_more}
 use Rattle.std.specs.Prelude.{IsTrue, pos}
-use borrow.Author.Count.{below_more}
 use Rattle.std.specs.Ordering.{nat_cmp}
 use Rattle.std.specs.FinSet.{FinSet, contains}
 use Rattle.std.specs.HashMap.{HashMap, Updates}

@@ -1,6 +1,5 @@
 -- The least pair of rows that clash: the least row whose first one is marked has a partner, and no lesser row has.
-use Rattle.std.proofs.Common.{◌≡◌, ◌<◌, ◌≤◌, ◌+◌, ◌++◌, ℕ, Bool, true, false, List, [], ◌∷◌, length, set, Option, Some, None, MatchOption, sym, ap, subst, ◌∙◌, Contains, inl, inr, arith}
-use borrow.Author.Count.{below_more}
+use Rattle.std.proofs.Common.{◌≡◌, ◌<◌, ◌≤◌, ◌+◌, ◌++◌, ℕ, Bool, true, false, List, [], ◌∷◌, length, set, Option, Some, None, MatchOption, sym, ap, subst, ◌∙◌, Contains, inl, inr, arith, below_more}
 use Rattle.std.specs.Ordering.{nat_cmp}
 use Rattle.std.specs.FinSet.{FinSet}
 use Rattle.std.proofs.lemmas.Bool.{cases_Bool, cases_eq, false≢true}

@@ -15,7 +15,7 @@ use Rattle.su_state.specs.Changes.{DeletesWhere}
 use Rattle.su_index.proofs.Runs.{count_by-cons}
 use Rattle.su_state.proofs.DifferentRows.{differ_marked}
 use Rattle.su_state.proofs.Kept.{with_table, kept_with, may_lose, table_here, changes_with}
-use Rattle.std.proofs.lemmas.Bool.{false≢true}
+use Rattle.std.proofs.lemmas.Bool.{false≢true, not-true}
 
 module _ {X : Type 0} (p : X → Bool) where
   -- the items that pass
@@ -62,10 +62,6 @@ passing_counted p (x ∷ xs) =
       | false ↦ λ out. omega (arith, rest, count_by-cons p x xs, ap one_or_none out)
     ] refl
 
-pub not_true : (b : Bool) → (not b ≡ true → b ≡ false) × (b ≡ false → not b ≡ true)
-not_true true = (λ e. cc, λ e. cc)
-not_true false = (λ _. refl, λ _. refl)
-
 -- rows of the relation's width fit a condition that fits its columns
 pub fits_rows : (condition : Cond) (width n : ℕ) (rows : List (List Value)) → HaveWidth width rows → width ≡ n → Fits n condition → All (λ row. Fits (length row) condition) rows
 fits_rows condition width n rows have same fits = λ k d less. subst (λ (m : ℕ). Fits m condition) (sym (have k d less ∙ same)) fits
@@ -79,8 +75,8 @@ module _ (db : DatabaseValue) (r : ℕ) (condition : Cond) (old new : Stored) (m
   stay_or_go other =
       let all = passing (λ row. not (truth_of condition row)) (rows_of db r) other in
       rw rest (
-        λ there. ((all.0 there).0, (not_true (truth_of condition other)).0 (all.0 there).1),
-        λ (there, out). all.1 (there, (not_true (truth_of condition other)).1 out),
+        λ there. ((all.0 there).0, not-true (truth_of condition other) (all.0 there).1),
+        λ (there, out). all.1 (there, ap not out),
       )
 
   pub fewer_stay : length new.rows ≤ length (rows_of db r)

@@ -118,7 +118,7 @@ fn check_added(
 pub fn extended(schema: &Schema, definition: &Definition) -> Result<Schema, SchemaFault>
     requires { IsWellNamed definition.now }
     ensures ok { IfOk result (λ extended. applied schema.now definition.now ≡ Ok extended) }
-    ensures refused { IfErr result (IsDefinitionRefusal schema.now definition.now) }
+    ensures refused { IfErr result (λ fault. (fault ≡ SchemaFault.NoMemory) ⊎ IsDefinitionRefusal schema.now definition.now fault) }
 {
     let mut copy = schema.copy()?;
     copy.define(definition)?;

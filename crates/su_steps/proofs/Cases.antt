@@ -1,9 +1,10 @@
 -- What a choice of a query gives to its rows, and the cases one after another.
-use Rattle.std.proofs.Common.{◌≡◌, ℕ, zero, suc, ◌*◌, ◌<◌, ◌≤◌, min, List, [], length, get_or, refl, sym, ap, subst, arith}
+use Rattle.std.proofs.Common.{◌≡◌, ℕ, ◌<◌, ◌≤◌, min, List, [], length, get_or, refl, sym, ap, subst, arith}
 use Rattle.std.specs.Prelude.{All}
 use Rattle.std.specs.List.{range_with_len}
 use Rattle.std.specs.Ordering.{nat_cmp}
 use Rattle.std.specs.FinSet.{FinSet, empty}
+use Rattle.std.proofs.Math.Nat.{le-mul_of_pos_right, mul_comm}
 use Rattle.std.proofs.lemmas.List.Elements.{Contains-get_or}
 use Rattle.su_base.proofs.Items.{Contains-filter_source, length-filter, Contains-range_below, get_or-map_range}
 use Rattle.std.proofs.lemmas.List.FromFn.{length-range_with_len}
@@ -18,10 +19,6 @@ use Rattle.su_steps.specs.Limits.{row_count, disjunct_count, HasFewTerms}
 use Rattle.su_steps.specs.inside.Ready.{FitOrigins, IsShown, IsChoice}
 use Rattle.su_steps.proofs.ResolvedQueries.{place_in}
 use Rattle.su_steps.proofs.Chosen.{coverings_count, choice_of, origin_in, place_object, has_origin}
-
-many : (d n : ℕ) → 0 < d → n ≤ d * n
-many (suc d) n l = grind arith
-many zero n l = absurd (omega arith)
 
 module _ (schema : SchemaValue) (maximal : List (FinSet nat_cmp)) (q : Resolved) where
   pub fit_origins : (choice : List ℕ) → IsChoice schema maximal q choice → row_count schema maximal choice ≤ 64 → FitOrigins schema q (origins_of schema maximal choice)
@@ -54,7 +51,11 @@ module _ (schema : SchemaValue) (maximal : List (FinSet nat_cmp)) (q : Resolved)
 
   -- there are no more choices than the limit of terms where there is a disjunct
   pub count_is : (count i : ℕ) → count ≡ min (length (choices schema maximal q)) 257 → HasFewTerms schema maximal q → i < disjunct_count q → count ≡ length (choices schema maximal q)
-  count_is count i e few l = let m = many (disjunct_count q) (length (choices schema maximal q)) (omega arith) in omega arith
+  count_is count i e few l =
+      let some : 0 < disjunct_count q = omega arith in
+      let m = le-mul_of_pos_right (length (choices schema maximal q)) some in
+      let c = mul_comm (disjunct_count q) (length (choices schema maximal q)) in
+      omega arith
 
   pub choice_in : (k : ℕ) → k < length (choices schema maximal q) → IsChoice schema maximal q (get_or (choices schema maximal q) k [])
   choice_in k l = choice_of schema maximal q (get_or (choices schema maximal q) k []) (Contains-get_or (choices schema maximal q) k [] l)

@@ -59,8 +59,3 @@ origins_by P v (m ∷ ms) h =
     AllByRecursion-append P (map (origin v) m) (origins_from (suc v) ms)
     (AllByRecursion-map P (origin v) m (h 0 v (omega arith) (omega arith)))
     (origins_by P (suc v) ms (λ i j e l. h (suc i) j (omega arith) (omega arith)))
-
--- ---- pairs by number
-
-pub pair_below : (v k n a : ℕ) → v < k → a < n → v * n + a < k * n
-pair_below v k n a h l = grind arith

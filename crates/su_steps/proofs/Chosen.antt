@@ -1,12 +1,13 @@
 -- Choices: their combinations, how many there are, and what a choice of the query shows.
 use Rattle.std.proofs.Common.{◌≡◌, ⊎_elim, ℕ, zero, suc, ◌*◌, ◌/◌, ◌%◌, ◌<◌, ◌≤◌, Bool, true, List, [], ◌∷◌, ◌++◌, map, length, get_or, Contains, refl, sym, ap, ◌∙◌, subst, arith}
+use Rattle.std.proofs.Math.Arith.{digits_lt}
 use Rattle.std.specs.List.{range_with_len}
 use Rattle.std.specs.Ordering.{nat_cmp}
 use Rattle.std.specs.FinSet.{FinSet, contains, empty}
 use Rattle.std.proofs.lemmas.Nat.{div-mul-add, mod-mul-add}
 use Rattle.std.proofs.lemmas.List.{length-map, get_or-map, get_or_push, get_or_append_left, get_or_default, length_push}
 use Rattle.std.proofs.lemmas.Bool.{cases_lt}
-use Rattle.std.proofs.lemmas.List.Elements.{All-contains}
+use Rattle.std.proofs.lemmas.List.Elements.{All-contains, Contains-get_or}
 use Rattle.std.proofs.lemmas.List.FromFn.{length-map-range_with_len}
 use Rattle.su_base.proofs.Subsets.{subset_at}
 use Rattle.su_base.proofs.Items.{Contains-cases, Contains-nil, Contains-map, Contains-map_source, Contains-flat_map, Contains-flat_map_source, Contains-filter, Contains-filter_source, AllByRecursion-contains, AllByRecursion-members, Contains-range, Contains-range_below, get_or-map_range}
@@ -24,9 +25,9 @@ use Rattle.su_steps.specs.Objects.{width, attributes_at, objects_of, attributes_
 use Rattle.su_steps.specs.Choices.{coverings_of, coverings, combinations, choices, chosen_objects, origin, origins_of}
 use Rattle.su_steps.specs.PairSymbols.{SymbolComparison, pair, place_symbol, operand_symbol, compared, comparisons}
 use Rattle.su_steps.specs.inside.Ready.{FitLiterals, IsChoice}
-use Rattle.su_steps.proofs.Cells.{origins_at, origins_by, pair_below}
+use Rattle.su_steps.proofs.Cells.{origins_at, origins_by}
 use Rattle.su_steps.proofs.Raw.{AreWithin, HasObject, IsShown, AreShown}
-use Rattle.su_steps.proofs.ResolvedQueries.{of_all, of_objects, mentioned_at, no_place, place_at, place_in}
+use Rattle.su_steps.proofs.ResolvedQueries.{of_all, of_objects, mentioned_at, no_place, place_in}
 use Rattle.su_steps.proofs.Shape.{AreBelow, IsPairBelow}
 
 -- ---- combinations
@@ -171,7 +172,7 @@ module _ (schema : SchemaValue) (maximal : List (FinSet nat_cmp)) (q : Resolved)
 
       operand_shown : (x : Operand) → IsBelow (length q.places) x → IsShown schema objects (operand_symbol (width schema) q.places x)
       operand_shown (operand.Const c) h = tt
-      operand_shown (operand.Place i) h = pair_shown (get_or q.places i no_place) (place_at q.places i h)
+      operand_shown (operand.Place i) h = pair_shown (get_or q.places i no_place) (Contains-get_or q.places i no_place h)
 
       -- what is compared and what is put out stands in rows
       pub shown : (literals : List Literal) → FitLiterals schema q literals → AreShown schema objects (map (place_symbol (width schema) q.places) q.outputs) (comparisons (width schema) q.places literals)
@@ -194,8 +195,8 @@ module _ (schema : SchemaValue) (maximal : List (FinSet nat_cmp)) (q : Resolved)
       operand_below : (x : Operand) → IsBelow (length q.places) x → IsPairBelow (length q.variables * width schema) (operand_symbol (width schema) q.places x)
       operand_below (operand.Const c) h = tt
       operand_below (operand.Place i) h =
-          let low = place_in schema q resolved (get_or q.places i no_place) (place_at q.places i h) in
-          pair_below (get_or q.places i no_place).variable (length q.variables) (width schema) (get_or q.places i no_place).attribute low.0 low.1
+          let low = place_in schema q resolved (get_or q.places i no_place) (Contains-get_or q.places i no_place h) in
+          digits_lt low.0 low.1
 
       -- the pairs of sides and rows are below the own symbols
       pub pairs_below : (literals : List Literal) → FitLiterals schema q literals → AreBelow schema (length q.variables * width schema) (origins_of schema maximal choice) (comparisons (width schema) q.places literals)
@@ -204,5 +205,5 @@ module _ (schema : SchemaValue) (maximal : List (FinSet nat_cmp)) (q : Resolved)
             let w = Contains-map_source (compared (width schema) q.places) literals c has in
             let p = All-contains (HasPlacesBelow (length q.places)) literals w.0 fits.places w.1 in
             subst (λ (c : SymbolComparison). IsPairBelow (length q.variables * width schema) c.left × IsPairBelow (length q.variables * width schema) c.right) w.2 (operand_below w.0.left p.0, operand_below w.0.right p.1);
-        pairs = λ o a c h. pair_below o.variable (length q.variables) (width schema) a (origin_in o c).0 (fit o.object a h);
+        pairs = λ o a c h. digits_lt (origin_in o c).0 (fit o.object a h);
       }

@@ -1,7 +1,6 @@
 -- An answer cut to its outputs, by a function from variables to values and by a list of values.
 use Rattle.std.proofs.Common.{◌≡◌, ℕ, zero, suc, ◌+◌, ◌*◌, ◌<◌, true, pos, List, [], ◌∷◌, ◌++◌, length, get_or, take, drop, Contains, sym, ap, ◌∙◌, arith}
-use Rattle.std.proofs.Math.Seq.{take-append_seam}
-use Rattle.std.proofs.lemmas.List.{length-map, length-take-le, length-append, get_or-append-add, take-append-drop}
+use Rattle.std.proofs.lemmas.List.{take_at, length-map, length-take-le, length-append, get_or-append-add, take-append-drop}
 use Rattle.std.proofs.lemmas.List.Elements.{All-from_recursion, All-contains}
 use Rattle.su_base.specs.declared.values.Value.{Value}
 use Rattle.su_base.specs.declared.values.Value.TheVariants.{Int}
@@ -48,9 +47,6 @@ hold_by (op ∷ ops) (x ∷ y ∷ rest) l h = (
       ∙ ap (λ k. compares (get_or ops i Equal) (get_or (x ∷ y ∷ rest) (2 * suc i) zero_value) (get_or (x ∷ y ∷ rest) k zero_value)) b ∙ r),
 )
 
-taken : {X : Type 0} (xs ys : List X) (n : ℕ) → length xs ≡ n → take n (xs ++ ys) ≡ xs
-taken xs ys n e = ap (λ k. take k (xs ++ ys)) (sym e) ∙ take-append_seam xs ys
-
 module _ (t : Tab) (universe : List (List Value)) (h : List Value) where
   -- the comparisons of a head that is cut in two
   cut_value : (xs ys : List Value) (k : ℕ) → length xs ≡ t.outputs → get_or (xs ++ ys) (t.outputs + k) zero_value ≡ get_or ys k zero_value
@@ -68,7 +64,7 @@ module _ (t : Tab) (universe : List (List Value)) (h : List Value) where
     head = h ++ c.compared;
     member = record { valuation = c.valuation; holds = All-from_recursion (λ row. Contains universe (values_of c.valuation row)) t.rows c.sends; gives = c.gives };
     compared = λ i l. cut_compared h c.compared i c.outputs_are ∙ hold_at t.operators c.compared c.holds i l;
-    outputs = taken h c.compared t.outputs c.outputs_are;
+    outputs = take_at h c.compared t.outputs c.outputs_are;
   }
 
   pub from_cut : length t.head ≡ t.outputs + 2 * length t.operators → Cut t (Ext t universe) h → CutBy t.rows t.head t.outputs t.operators universe h

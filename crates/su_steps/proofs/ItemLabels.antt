@@ -16,7 +16,7 @@ use Rattle.su_tableau.specs.declared.symbols.Sym.TheVariants.{Const, Var}
 use Rattle.su_tableau.proofs.SymbolParts.{same_const}
 use Rattle.su_classes.specs.declared.items.Placed.{Placed}
 use Rattle.su_classes.specs.declared.items.Together.{Together}
-use Rattle.su_classes.specs.Items.{item_of, SameItemLabels, Keeps, IsKept, IsPlacedBelow}
+use Rattle.su_classes.specs.Items.{item_of, SameItemLabels, Keeps, KeepsAll, IsPlacedBelow}
 use Rattle.su_classes.specs.Tables.{rep, IsLeastTable}
 use Rattle.su_classes.specs.Symbols.{symbol_at}
 use Rattle.su_classes.specs.inside.Symbols.{AreDistinct, is_known, symbol_number, name_in}
@@ -151,7 +151,7 @@ module _ (schema : SchemaValue) (vs : List Value) (limit : ℕ) (os : List Origi
         let l = right_below f o io a h in
         ap label (symbol_is o co a l) ∙ closed.dependencies f o q cf co cq io iq left a h ∙ ap label (sym (symbol_is q cq a l))
 
-    pub labels_kept : IsKept schema.fds rows (equals vs d) by_item
+    pub labels_kept : KeepsAll schema.fds rows (equals vs d) by_item
     labels_kept = record {
       equalities = λ k e l. equal_kept (get_or (equals vs d) k e) (Contains-get_or (equals vs d) k e l);
       dependencies = λ k f l r s cr cs.

@@ -1,5 +1,6 @@
 -- Each row of a term has a source, among whichever rows: the object that it is for, since its other cells are the row's own.
 use Rattle.std.proofs.Common.{◌≡◌, ⊎_elim, ℕ, zero, suc, ◌+◌, ◌*◌, ◌/◌, ◌%◌, ◌<◌, true, false, cond, List, [], ◌∷◌, map, length, get_or, Contains, refl, sym, ap, ◌∙◌, subst, arith, None}
+use Rattle.std.proofs.Math.Arith.{digits_lt}
 use Rattle.std.specs.Prelude.{IsTrue}
 use Rattle.std.specs.Ordering.{nat_cmp}
 use Rattle.std.specs.FinSet.{FinSet, contains}
@@ -11,6 +12,7 @@ use Rattle.su_tableau.specs.declared.symbols.Sym.{Sym}
 use Rattle.su_tableau.specs.declared.symbols.Sym.TheVariants.{Const, Var}
 use Rattle.su_tableau.specs.Tableaux.{Tab}
 use Rattle.su_tableau.specs.Essential.{HasSymbol, IsEssential, constant, in_head, twice}
+use Rattle.su_tableau.proofs.SymbolParts.{same_var}
 use Rattle.su_schema.specs.SchemaValue.{SchemaValue}
 use Rattle.su_query.specs.declared.resolving.Resolved.{Resolved}
 use Rattle.su_query.specs.Ranges.{IsResolved}
@@ -30,8 +32,7 @@ use Rattle.std.specs.List.{AllByRecursion}
 use Rattle.su_base.proofs.Items.{Contains-cases, Contains-nil, Contains-map_source, AllByRecursion-members, get_or-map_range}
 use Rattle.su_schema.specs.Valid as schemas
 use Rattle.su_where.specs.Disjunct.{disjuncts_of}
-use Rattle.su_steps.proofs.Cells.{pair_below}
-use Rattle.su_steps.proofs.ResolvedQueries.{no_place, place_at, place_in, literals_fit, within}
+use Rattle.su_steps.proofs.ResolvedQueries.{no_place, place_in, literals_fit, within}
 use Rattle.su_steps.proofs.Chosen.{origin_in, pairs_below}
 use Rattle.su_steps.proofs.Union.{IsCase, of_cases}
 use Rattle.su_steps.proofs.Shape.{AreBelow, IsPairBelow}
@@ -67,9 +68,6 @@ module _ (schema : SchemaValue) (os : List Origin) (d : List SymbolComparison) (
         | true ↦ λ h k. of_pair h k
         | false ↦ λ h k. of_row h k
       ] refl e
-
-  same_var : (m n : ℕ) → Var m ≡ Var n → m ≡ n
-  same_var m n e = cc
 
   -- ---- a row's essential cells are names of pairs
 
@@ -169,8 +167,8 @@ module _ (schema : SchemaValue) (maximal : List (FinSet nat_cmp)) (q : Resolved)
   output_below j c =
       let low = All-contains (λ k. k < length q.places) q.outputs j resolved.outputs c in
       let p = get_or q.places j no_place in
-      let at = place_in schema q resolved p (place_at q.places j low) in
-      pair_below p.variable (length q.variables) (width schema) p.attribute at.0 at.1
+      let at = place_in schema q resolved p (Contains-get_or q.places j no_place low) in
+      digits_lt at.0 at.1
 
   case_has : (case : Case) (t : Term) (m i : ℕ) → IsCase schema maximal q resolved (within schema valid) case → Gives schema maximal q case t → i < length t.tableau.rows → (o : ℕ) × IsSource schema t.tableau m i o
   case_has case t m i is g l =

@@ -1,11 +1,11 @@
 -- Why a query is refused, from what was counted.
-use Rattle.std.proofs.Common.{◌≡◌, ◌⊎◌, ⊎_elim, ℕ, zero, suc, ◌*◌, ◌<◌, ◌≤◌, min, Bool, true, false, Some, None, List, [], ◌∷◌, length, get_or, sym, ap, ◌∙◌, subst, arith}
+use Rattle.std.proofs.Common.{◌≡◌, ◌⊎◌, ⊎_elim, ℕ, zero, suc, ◌*◌, ◌<◌, ◌≤◌, min, true, false, Some, None, List, [], ◌∷◌, length, get_or, sym, ap, ◌∙◌, subst, arith}
 use Rattle.std.specs.Prelude.{position, ◌==◌}
 use Rattle.std.specs.Ordering.{nat_cmp}
 use Rattle.std.specs.FinSet.{FinSet}
-use Rattle.std.proofs.lemmas.Bool.Decides.{nat_tests}
 use Rattle.std.proofs.Math.Nat.{eq-zero-or-pos, zero-mul}
 use Rattle.std.proofs.lemmas.List.Elements.{Contains-get_or}
+use Rattle.std.proofs.lemmas.List.Quantifiers.{position-Some}
 use Rattle.su_base.proofs.RemainingSets.{position-None}
 use Rattle.su_where.specs.Disjunct.{disjuncts_of}
 use Rattle.su_base.proofs.Combinations.{same_or_many}
@@ -20,10 +20,6 @@ use Rattle.su_steps.specs.Refusals.{IsCovered, IsStepRefusal, NamesVariable}
 use Rattle.su_steps.proofs.ChoiceCounts.{row_count_is, total_at, total_of}
 use Rattle.su_steps.proofs.Chosen.{coverings_count}
 
--- the place where the test passes is one of the list's
-position-below : {X : Type 0} (p : X → Bool) (xs : List X) (v : ℕ) → position p xs ≡ Some v → v < length xs
-position-below p xs v e = grind (arith, nat_tests, e)
-
 module _ (schema : SchemaValue) (maximal : List (FinSet nat_cmp)) (q : Resolved) (xss : List (List ℕ)) (all : xss ≡ coverings schema maximal q) where
   pub covered_is : None ≡ position (λ (ms : List ℕ). length ms == 0) xss → IsCovered schema maximal q
   covered_is e = ap (position (λ (ms : List ℕ). length ms == 0)) (sym all) ∙ sym e
@@ -35,7 +31,7 @@ module _ (schema : SchemaValue) (maximal : List (FinSet nat_cmp)) (q : Resolved)
 
   pub first_below : (v : ℕ) → Some v ≡ position (λ (ms : List ℕ). length ms == 0) xss → v < length q.variables
   first_below v e =
-      let l = position-below (λ (ms : List ℕ). length ms == 0) xss v (sym e) in
+      let l = (position-Some (λ (ms : List ℕ). length ms == 0) xss v [] (sym e)).0 in
       let n = coverings_count schema maximal q in
       let a = ap length all in
       omega arith

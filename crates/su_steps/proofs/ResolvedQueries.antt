@@ -99,9 +99,6 @@ mentioned_at places p c =
 abbrev pub no_place : Place
 no_place = record { variable = 0; attribute = 0 }
 
-pub place_at : (places : List Place) (i : ℕ) → i < length places → Contains places (get_or places i no_place)
-place_at places i l = Contains-get_or places i no_place l
-
 module _ (schema : SchemaValue) (q : Resolved) (resolved : IsResolved schema q) where
   pub place_in : (p : Place) → Contains q.places p → (p.variable < length q.variables) × (p.attribute < width schema)
   place_in p c = let w = All-contains (IsPlaceAmong schema q.variables) q.places p resolved.places c in (w.variable, (let l = w.attribute in let n = width_is schema in omega arith))
@@ -123,7 +120,7 @@ module _ (schema : SchemaValue) (q : Resolved) (resolved : IsResolved schema q) 
   operand_kind_is (operand.Const c) h = refl
   operand_kind_is (operand.Place i) h =
       let p = get_or q.places i no_place in
-      let low = (place_in p (place_at q.places i h)).1 in
+      let low = (place_in p (Contains-get_or q.places i no_place h)).1 in
       ap (λ k. get_or (attribute_kinds schema) k IntKind) (mod-mul-add p.variable (width schema) p.attribute low) ∙ sym (get_or-map (λ (p : Place). get_or (attribute_kinds schema) p.attribute IntKind) q.places i no_place IntKind h)
 
   pub one_kind : (literals : List Literal) → FitLiterals schema q literals → HaveOneKind schema (comparisons (width schema) q.places literals)

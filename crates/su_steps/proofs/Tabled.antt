@@ -1,5 +1,6 @@
 -- What the closed table of a disjunct and a choice gives: no tableau, or the tableau of its names.
 use Rattle.std.proofs.Common.{◌≡◌, inl, inr, ⊎_elim, ℕ, ◌+◌, ◌*◌, ◌<◌, ◌≤◌, true, List, [], map, length, get_or, Contains, sym, ap, ◌∙◌, subst, arith}
+use Rattle.std.proofs.Math.Arith.{digits_lt}
 use Rattle.std.specs.Prelude.{All}
 use Rattle.std.proofs.lemmas.Bool.{lt-ltb, cases_lt}
 use Rattle.std.proofs.lemmas.List.Elements.{All-contains, Contains-get_or}
@@ -33,8 +34,7 @@ use Rattle.su_steps.specs.Cases.{HaveNone, HaveTableau}
 use Rattle.su_steps.specs.inside.Numbers.{IsNoted, AreNoted, equals, placed_of, class_name, AreClasses}
 use Rattle.su_steps.specs.inside.Heads.{IsSomeFalse, IsNoneFalse}
 use Rattle.su_steps.specs.inside.Ready.{IsReady, AreClosed, FitLiterals, FitOrigins, IsShown}
-use Rattle.su_steps.proofs.Cells.{pair_below}
-use Rattle.su_steps.proofs.ResolvedQueries.{width_is, within, no_place, place_at, place_in}
+use Rattle.su_steps.proofs.ResolvedQueries.{width_is, within, no_place, place_in}
 use Rattle.su_steps.proofs.ConstantNames.{clash_of}
 use Rattle.su_steps.proofs.ItemLabels.{equals_from, AreNumbered, placed_below, names, clash_class, no_clash}
 use Rattle.su_steps.proofs.Valid.{Stands, tableau_valid}
@@ -59,7 +59,7 @@ module _ (schema : SchemaValue) (q : Resolved) (resolved : IsResolved schema q) 
   limit = length q.variables * n
 
   place_below : (i : ℕ) → i < length q.places → pair n (get_or q.places i no_place).variable (get_or q.places i no_place).attribute < limit
-  place_below i h = let low = place_in schema q resolved (get_or q.places i no_place) (place_at q.places i h) in pair_below (get_or q.places i no_place).variable (length q.variables) n (get_or q.places i no_place).attribute low.0 low.1
+  place_below i h = let low = place_in schema q resolved (get_or q.places i no_place) (Contains-get_or q.places i no_place h) in digits_lt low.0 low.1
 
   operand_known : (vs : List Value) (x : Operand) → IsBelow (length q.places) x → IsNoted vs x → is_known vs limit (operand_symbol n q.places x) ≡ true
   operand_known vs (operand.Const c) h k = k
@@ -118,7 +118,7 @@ module _ (schema : SchemaValue) (q : Resolved) (ls : List Literal) (os : List Or
     distinct = ready.distinct;
     sides = sides_known schema q resolved ls fits c.constants ready.noted;
     within = within schema valid;
-    pairs = λ o has a l. pair_below o.variable (length q.variables) (width schema) a (All-contains (λ o. (o.variable < length q.variables) × (o.object < length schema.objects)) os o fit.in_range has).0 l;
+    pairs = λ o has a l. digits_lt (All-contains (λ o. (o.variable < length q.variables) × (o.object < length schema.objects)) os o fit.in_range has).0 l;
   }
 
   pub rows_below : IsReady (width schema) q ls c → All (IsPlacedBelow (length c.table.items)) (map (placed_of schema c.constants) os)

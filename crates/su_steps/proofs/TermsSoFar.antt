@@ -1,13 +1,12 @@
 -- The terms of the cases so far, one case more.
 use Rattle.std.proofs.Common.{◌≡◌, ℕ, ◌+◌, ◌<◌, Option, Some, None, List, [], ◌∷◌, ◌++◌, map, length, get_or, take, sym, ap, ◌∙◌, subst, append_assoc, append-nil}
 use Rattle.std.specs.Prelude.{MatchOption}
-use Rattle.std.specs.List.{flat_map, filter_map, range_with_len}
+use Rattle.std.specs.List.{filter_map}
 use Rattle.std.specs.Ordering.{nat_cmp}
 use Rattle.std.specs.FinSet.{FinSet}
 use Rattle.std.proofs.lemmas.List.{take_more, map-append}
-use Rattle.std.proofs.lemmas.Grind.{flat_map-append}
 use Rattle.std.proofs.lemmas.List.Elements.{filter_map-append}
-use Rattle.su_base.proofs.Items.{range-push_zero, AllZip-push}
+use Rattle.std.proofs.lemmas.Slice.Zip.{all_zipped_more}
 use Rattle.su_schema.specs.SchemaValue.{SchemaValue}
 use Rattle.su_query.specs.declared.resolving.Resolved.{Resolved}
 use Rattle.su_steps.specs.declared.results.Term.{Term}
@@ -22,12 +21,12 @@ module _ (schema : SchemaValue) (maximal : List (FinSet nat_cmp)) (q : Resolved)
   terms_more : (cs : List Case) (ts next : List Term) (c : Case) (out : Option Term) → Are cs ts → IsOutOf schema maximal q c out → MatchOption out (next ≡ ts) (λ x. next ≡ ts ++ x ∷ []) → Are (cs ++ c ∷ []) next
   terms_more cs ts next c None h is e = record {
     outs = h.outs ++ None ∷ [];
-    each = AllZip-push (IsOutOf schema maximal q) cs h.outs c None h.each is;
+    each = all_zipped_more (IsOutOf schema maximal q) cs h.outs c None h.each is;
     are = e ∙ h.are ∙ sym (filter_map-append (λ out. out) h.outs (None ∷ []) ∙ append-nil (filter_map (λ out. out) h.outs));
   }
   terms_more cs ts next c (Some x) h is e = record {
     outs = h.outs ++ Some x ∷ [];
-    each = AllZip-push (IsOutOf schema maximal q) cs h.outs c (Some x) h.each is;
+    each = all_zipped_more (IsOutOf schema maximal q) cs h.outs c (Some x) h.each is;
     are = e ∙ ap (λ xs. xs ++ x ∷ []) h.are ∙ sym (filter_map-append (λ out. out) h.outs (Some x ∷ []));
   }
 
@@ -45,7 +44,3 @@ module _ (schema : SchemaValue) (maximal : List (FinSet nat_cmp)) (q : Resolved)
       let all = choices schema maximal q in
       let more = terms_more (cs ++ map (case_of i) (take k all)) before next (case_of i choice) out are gives e in
       subst (λ xs. Are xs next) (ap (λ c. (cs ++ map (case_of i) (take k all)) ++ case_of i c ∷ []) is ∙ cases_more cs i k l) more
-
--- one disjunct more
-pub cases_flat : {X : Type 0} (f : ℕ → List X) (n : ℕ) → flat_map f (range_with_len 0 n) ++ f n ≡ flat_map f (range_with_len 0 (n + 1))
-cases_flat f n = sym (ap (flat_map f) (range-push_zero n) ∙ flat_map-append f (range_with_len 0 n) (n ∷ []) ∙ ap (λ xs. flat_map f (range_with_len 0 n) ++ xs) (append-nil (f n)))

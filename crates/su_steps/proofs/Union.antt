@@ -46,7 +46,7 @@ use Rattle.su_steps.proofs.ClassNames.{CutBy, NamedAnswer, to_named, not_contrad
 use Rattle.su_steps.proofs.Cuts.{to_cut, from_cut}
 use Rattle.su_steps.proofs.Shape.{own_name, rows_named, tableau_typed}
 use Rattle.su_steps.proofs.Valid.{head_length}
-use Rattle.su_steps.proofs.ResolvedQueries.{in_objects, of_objects, no_place, place_at, place_in, literals_fit, one_kind}
+use Rattle.su_steps.proofs.ResolvedQueries.{in_objects, of_objects, no_place, place_in, literals_fit, one_kind}
 use Rattle.su_steps.proofs.Chosen.{pick, choice_of, of_choice, objects_count, objects_at, shown, pairs_below}
 use Rattle.su_steps.proofs.Outs.{AreInTurn, terms_of}
 
@@ -172,7 +172,7 @@ module _ (schema : SchemaValue) (maximal : List (FinSet nat_cmp)) (q : Resolved)
       operand_value (operand.Const c) l = refl
       operand_value (operand.Place i) l =
           let p = get_or q.places i no_place in
-          let low = (place_in schema q resolved p (place_at q.places i l)).1 in
+          let low = (place_in schema q resolved p (Contains-get_or q.places i no_place l)).1 in
           get_or-map (λ (p : Place). get_or (lists p.variable) p.attribute (Int (pos 0))) q.places i no_place (Int (pos 0)) l ∙ sym (pair_at n lists p.variable p.attribute low)
 
       literal_holds : (l : Literal) → HasPlacesBelow (length q.places) l → truth.holds l (place_values lists q.places) ≡ compares l.op (value_of (pair_value n lists) (operand_symbol n q.places l.left)) (value_of (pair_value n lists) (operand_symbol n q.places l.right))

@@ -1,5 +1,6 @@
 -- A valuation of a choice's rows is the same as one list of values per variable.
 use Rattle.std.proofs.Common.{◌≡◌, ◌↔◌, ℕ, suc, ◌+◌, ◌*◌, ◌/◌, ◌%◌, ◌-◌, ◌<◌, Bool, true, cond, ltb, pos, List, [], ◌∷◌, map, length, get_or, Contains, refl, sym, ap, ◌∙◌, subst, arith}
+use Rattle.std.proofs.Math.Arith.{digits_lt}
 use Rattle.std.specs.List.{AllByRecursion, range_with_len, list_any}
 use Rattle.std.specs.FinSet.{contains}
 use Rattle.std.proofs.lemmas.Bool.{cond-true, cond-false, cond_both, lt-ltb, le-ltb}
@@ -28,7 +29,7 @@ use Rattle.su_steps.specs.Choices.{origin, origins_from}
 use Rattle.su_steps.specs.PairSymbols.{SymbolComparison}
 use Rattle.su_steps.specs.CaseTableaux.{cell_of, origin_row}
 use Rattle.su_schema.proofs.Cuts.{cut_agrees}
-use Rattle.su_steps.proofs.Cells.{itself, raw_rows, Sent, IsAt, rows_at, origins_at, origins_by, pair_below}
+use Rattle.su_steps.proofs.Cells.{itself, raw_rows, Sent, IsAt, rows_at, origins_at, origins_by}
 use Rattle.su_steps.proofs.Raw.{AreWithin, AllTrue, pair_value, InLists, RawAnswer, IsShown, AreShown}
 
 -- ---- valuations that agree on what is mentioned
@@ -193,7 +194,7 @@ pair_at n lists v a h =
     ap (λ q. get_or (lists q) ((v * n + a) % n) (Int (pos 0))) (div-mul-add v n a h) ∙ ap (λ q. get_or (lists v) q (Int (pos 0))) (mod-mul-add v n a h)
 
 below_at : (p v k n a : ℕ) → v * n + a ≡ p → v < k → a < n → p < k * n
-below_at p v k n a e h l = let b = pair_below v k n a h l in omega arith
+below_at p v k n a e h l = let b : v * n + a < k * n = digits_lt h l in omega arith
 
 module _ (schema : SchemaValue) (universe : List (List Value)) (choice : List (List ℕ)) (outputs : List Sym) (d : List SymbolComparison) (h : List Value) (typed : IsUniverse (attribute_kinds schema) universe) (fit : AreWithin schema) (e : InLists schema universe choice outputs d h) where
   abbrev own0 : ℕ
@@ -211,7 +212,7 @@ module _ (schema : SchemaValue) (universe : List (List Value)) (choice : List (L
         r.1,
         λ a i.
             let b = fit o a i in
-            (pair_below v (length choice) (width schema) a l b, sym (r.2 a (Int (pos 0)) i) ∙ sym (pair_at (width schema) e.lists v a b)),
+            (digits_lt l b, sym (r.2 a (Int (pos 0)) i) ∙ sym (pair_at (width schema) e.lists v a b)),
       ))
 
   picks : AllByRecursion (Picks schema universe typed own0 g) (origins_from 0 choice)

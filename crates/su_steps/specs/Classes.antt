@@ -19,8 +19,12 @@ use Rattle.su_steps.specs.PairSymbols.{SymbolComparison, pair}
 abbrev pub SamePairLabels : ℕ → (Sym → Sym) → FinSet nat_cmp → ℕ → ℕ → Type 0
 SamePairLabels n label s v w = (a : ℕ) → IsTrue (contains s a) → label (Var (pair n v a)) ≡ label (Var (pair n w a))
 
+-- where the dependency lies in the objects of both, the labels keep it on the two rows
+abbrev pub KeepsBetween : SchemaValue → (Sym → Sym) → Fd → Origin → Origin → Type 0
+KeepsBetween schema label f o p =
+    LiesIn f (attributes_at schema o.object) → LiesIn f (attributes_at schema p.object) → SamePairLabels (width schema) label f.left o.variable p.variable → SamePairLabels (width schema) label f.right o.variable p.variable
+
 -- labels that give both sides of each equality one label, and keep each dependency on the rows of objects in which it lies
 pub record IsClosedForCase (schema : SchemaValue) (os : List Origin) (d : List SymbolComparison) (label : Sym → Sym) : Type 0 where
   pub equalities : (c : SymbolComparison) → Contains d c → c.op ≡ Equal → label c.left ≡ label c.right
-  pub dependencies : (f : Fd) (o p : Origin) → Contains schema.fds f → Contains os o → Contains os p → LiesIn f (attributes_at schema o.object) → LiesIn f (attributes_at schema p.object)
-      → SamePairLabels (width schema) label f.left o.variable p.variable → SamePairLabels (width schema) label f.right o.variable p.variable
+  pub dependencies : (f : Fd) (o p : Origin) → Contains schema.fds f → Contains os o → Contains os p → KeepsBetween schema label f o p

@@ -1,6 +1,6 @@
 -- A tableau of bytes is frozen to bytes.
-use Rattle.std.proofs.Common.{ℕ, zero, suc, ◌+◌, ◌<◌, List, get_or, All, replicate, arith}
-use Rattle.std.proofs.lemmas.List.Elements.{All-map}
+use Rattle.std.proofs.Common.{ℕ, ◌+◌, ◌<◌, List, get_or, All, arith}
+use Rattle.std.proofs.lemmas.List.Elements.{All-map, All-replicate}
 use Rattle.su_base.specs.declared.values.Kind.{Kind}
 use Rattle.su_base.specs.declared.values.Kind.TheVariants.{Int as IntKind, Text as TextKind}
 use Rattle.su_tableau.specs.declared.symbols.Sym.{Sym}
@@ -12,14 +12,9 @@ use Rattle.su_tableau.specs.Bytes.{IsOfBytes, IsByteSymbol, HasByteConstants, By
 use Rattle.su_tableau.proofs.FrozenTableaux.{frozen_typed, frozen_answer, frozen_maps}
 use Rattle.su_tableau.proofs.Containment.{maps_within}
 
-zeros : (n : ℕ) → All (λ b. b < 256) (replicate n 0)
-zeros zero k d h = absurd (omega arith)
-zeros (suc n) zero d h = omega arith
-zeros (suc n) (suc k) d h = zeros n k d (omega arith)
-
 new_bytes : (kind : Kind) (n : ℕ) → IsOfBytes (new_value kind n)
 new_bytes IntKind n = tt
-new_bytes TextKind n = zeros n
+new_bytes TextKind n = All-replicate (λ b. b < 256) n 0 (omega arith)
 
 value_bytes : (f : ℕ → Kind) (n : ℕ) (x : Sym) → IsByteSymbol x → IsOfBytes (value_of (frozen f n) x)
 value_bytes f n (Const c) b = b

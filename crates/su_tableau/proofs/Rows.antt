@@ -1,6 +1,5 @@
 -- Reading rows cell by cell.
-use Rattle.std.proofs.Common.{◌≡◌, ℕ, pos, ◌+◌, ◌<◌, ◌≤◌, ◌↔◌, Bool, IsTrue, List, length, get_or, slice_get, Some, Contains, sym, ap, ◌∙◌, subst, ⊎_elim, arith}
-use Rattle.std.proofs.lemmas.Bool.{cases_lt}
+use Rattle.std.proofs.Common.{◌≡◌, ℕ, pos, ◌+◌, ◌<◌, ◌≤◌, ◌↔◌, Bool, IsTrue, List, length, get_or, slice_get, Some, Contains, sym, ap, ◌∙◌, arith, below_more}
 use Rattle.std.proofs.lemmas.List.{length-map, get_or-map, get_or_default, same_lists}
 use Rattle.std.proofs.lemmas.Option.{get_or_from_slice_get}
 use Rattle.su_base.specs.declared.values.Value.{Value}
@@ -20,14 +19,6 @@ pub var_read : (row : List Sym) (c j k : ℕ) (x : Sym) → c < length row → x
 var_read row c j k x h is e f =
     let both : Var j ≡ Var k = sym e ∙ is ∙ get_or_default row c x (Var k) h ∙ f in
     cc
-
--- a fact of each number below n, and of n
-pub below_more : (P : ℕ → Type 0) (n : ℕ) → ((i : ℕ) → i < n → P i) → P n → (i : ℕ) → i < n + 1 → P i
-below_more P n before here i h =
-    ⊎_elim
-    (λ (lt : i < n). before i lt)
-    (λ (le : n ≤ i). let e : n ≡ i = omega arith in subst P e here)
-    (cases_lt i n)
 
 pub above_more : (row : List Sym) (n top new : ℕ) → top ≤ new → ((k i : ℕ) → i < n → get_or row i (Var k) ≡ Var k → k < top) → ((k : ℕ) → get_or row n (Var k) ≡ Var k → k < new) → (k i : ℕ) → i < n + 1 → get_or row i (Var k) ≡ Var k → k < new
 above_more row n top new up before here k =

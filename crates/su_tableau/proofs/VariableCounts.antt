@@ -3,7 +3,6 @@ use Rattle.std.proofs.Common.{◌≡◌, ◌≢◌, ℕ, ◌+◌, ◌<◌, ◌�
 use Rattle.std.specs.Int.{bit_at}
 use Rattle.std.proofs.lemmas.Bool.{cases_eq, cases_lt}
 use Rattle.std.proofs.lemmas.List.{get_or_default}
-use Rattle.su_base.specs.declared.values.Value.{Value}
 use Rattle.su_tableau.specs.declared.symbols.Sym.{Sym}
 use Rattle.su_tableau.specs.declared.symbols.Sym.TheVariants.{Const, Var}
 use Rattle.su_tableau.specs.declared.occurrences.Times.{Times}
@@ -11,6 +10,7 @@ use Rattle.su_tableau.specs.declared.occurrences.Times.TheVariants.{Never, Once,
 use Rattle.su_tableau.specs.Tableaux.{Tab}
 use Rattle.su_tableau.specs.Essential.{HasSymbol, IsElsewhere, IsEssential, constant, in_head, twice}
 use Rattle.su_tableau.specs.inside.Occurrences.{more, times_of, IsTwice, IsCount, CellHolds, IsBefore, AreCounted, AreTold, IsNotedAt, a_constant, a_variable}
+use Rattle.su_tableau.proofs.SymbolParts.{const_var}
 
 pub count_same : (H G : ℕ → ℕ → Type 0) → ((r c : ℕ) → H r c → G r c) → ((r c : ℕ) → G r c → H r c) → (x : Times) → IsCount H x → IsCount G x
 count_same H G to from Never n = λ r c g. n r c (from r c g)
@@ -80,9 +80,6 @@ pub cell_passed : (t : Tab) (m i j k : ℕ) (y : Sym) (x : Times) → HasSymbol 
 cell_passed t m i j k y x h ne =
     count_same (λ r c. IsBefore i j r c × CellHolds t m k r c) (λ r c. IsBefore i (j + 1) r c × CellHolds t m k r c) (λ r c b. (before_more i j r c b.0, b.1))
     (λ r c b. ⊎_elim (λ (l : IsBefore i j r c). (l, b.1)) (λ (e : (r ≡ i) × (c ≡ j)). absurd (ne (one_symbol t m i j y (Var k) h (moved t m r c i j (Var k) e.0 e.1 b.1)))) (before_less i j r c b.0)) x
-
-const_var : (v : Value) (k : ℕ) → Const v ≢ Var k
-const_var v k e = cc
 
 cell_at : (t : Tab) (m i j k : ℕ) (old new : List Times) (x : Sym) → HasSymbol t m i j x → (x ≡ Var k → times_of new k ≡ more (times_of old k)) → (x ≢ Var k → times_of new k ≡ times_of old k)
     → IsCount (λ r c. IsBefore i j r c × CellHolds t m k r c) (times_of old k) → IsCount (λ r c. IsBefore i (j + 1) r c × CellHolds t m k r c) (times_of new k)

@@ -1,6 +1,7 @@
 -- A condition is true exactly where all comparisons of some of its disjuncts hold.
 use Rattle.std.proofs.Common.{◌≡◌, Bool, true, false, not, ◌&&◌, ◌||◌, List, [], ◌∷◌, ◌++◌, map, refl, sym, ap, ◌∙◌}
 use Rattle.std.specs.List.{list_all, list_any}
+use Rattle.std.proofs.Math.Bool.{and-false, and-or_distrib_left, and-or_distrib_right, and-true, not-not, or-false}
 use Rattle.std.proofs.lemmas.List.Folds.{list_all-append, list_any-append}
 use Rattle.std.specs.declared.cmp.Ordering.{Ordering}
 use Rattle.std.specs.declared.cmp.Ordering.TheVariants.{Less as Before, Equal as Same, Greater as After}
@@ -49,32 +50,17 @@ some-joined : (vs : List Value) (fs : List (List (List Literal))) → some_holds
 some-joined vs [] = refl
 some-joined vs (f ∷ fs) = some-append vs f (joined fs) ∙ ap (λ v. some_holds f vs || v) (some-joined vs fs)
 
-and-or : (a b c : Bool) → ((a && b) || (a && c)) ≡ (a && (b || c))
-and-or true b c = refl
-and-or false b c = refl
-
-or-and : (a b c : Bool) → ((a && c) || (b && c)) ≡ ((a || b) && c)
-or-and true true true = refl
-or-and true true false = refl
-or-and true false true = refl
-or-and true false false = refl
-or-and false b c = refl
-
-and-false : (a : Bool) → false ≡ (a && false)
-and-false true = refl
-and-false false = refl
-
 some-each : (vs : List Value) (d : List Literal) (es : List (List Literal)) → some_holds (map (λ e. d ++ e) es) vs ≡ (all_hold d vs && some_holds es vs)
-some-each vs d [] = and-false (all_hold d vs)
+some-each vs d [] = sym (and-false (all_hold d vs))
 some-each vs d (e ∷ es) =
     ap (λ v. all_hold (d ++ e) vs || v) (some-each vs d es) ∙ ap (λ v. v || (all_hold d vs && some_holds es vs)) (list_all-append (λ l. holds l vs) d e)
-    ∙ and-or (all_hold d vs) (all_hold e vs) (some_holds es vs)
+    ∙ sym (and-or_distrib_left (all_hold d vs) (all_hold e vs) (some_holds es vs))
 
 some-pairs : (vs : List Value) (ds es : List (List Literal)) → some_holds (pairs_of ds es) vs ≡ (some_holds ds vs && some_holds es vs)
 some-pairs vs [] es = refl
 some-pairs vs (d ∷ ds) es =
     some-append vs (map (λ e. d ++ e) es) (pairs_of ds es) ∙ ap (λ v. v || some_holds (pairs_of ds es) vs) (some-each vs d es)
-    ∙ ap (λ v. (all_hold d vs && some_holds es vs) || v) (some-pairs vs ds es) ∙ or-and (all_hold d vs) (some_holds ds vs) (some_holds es vs)
+    ∙ ap (λ v. (all_hold d vs && some_holds es vs) || v) (some-pairs vs ds es) ∙ sym (and-or_distrib_right (all_hold d vs) (some_holds ds vs) (some_holds es vs))
 
 some-combined : (vs : List Value) (fs : List (List (List Literal))) → some_holds (combined fs) vs ≡ list_all (λ f. some_holds f vs) fs
 some-combined vs [] = refl
@@ -111,18 +97,6 @@ kept_not_any vs [] = refl
 kept_not_any vs (e ∷ es) =
     ap (λ v. v && list_all (λ f. some_holds f vs) (forms true (parts_of es))) (e.1 true vs) ∙ ap (λ v. not (truth_of e.0 vs) && v) (kept_not_any vs es)
     ∙ not-or (truth_of e.0 vs) (list_any (λ c. truth_of c vs) (parts_of es))
-
-not-not : (v : Bool) → not (not v) ≡ v
-not-not true = refl
-not-not false = refl
-
-or-false : (v : Bool) → (v || false) ≡ v
-or-false true = refl
-or-false false = refl
-
-and-true : (v : Bool) → (v && true) ≡ v
-and-true true = refl
-and-true false = refl
 
 one : (l : Literal) (vs : List Value) → some_holds ((l ∷ []) ∷ []) vs ≡ holds l vs
 one l vs = or-false (holds l vs && true) ∙ and-true (holds l vs)

@@ -2,11 +2,11 @@
 use Rattle.std.proofs.Common.{◌≡◌, ◌↔◌, ◌⊎◌, ℕ, ◌+◌, ◌<◌, ◌≤◌, inl, inr, ⊎_elim, List, [], ◌∷◌, ◌++◌, map, take, length, get_or, Contains, Some, None, refl, sym, ap, ◌∙◌, subst, arith}
 use Rattle.std.specs.Prelude.{All, slice_get}
 use Rattle.std.proofs.lemmas.Bool.{cases_lt, cases_eq}
-use Rattle.std.proofs.lemmas.List.{length-map, map_push, map_more, length_push, get_or_append_left, get_or_push, get_or_default}
-use Rattle.std.proofs.lemmas.List.Elements.{Contains-append_left, Contains-append_right, Contains-append_cases, Contains-get_or}
+use Rattle.std.proofs.lemmas.List.{length-map, map_push, map_more, length_push, get_or_append_left, get_or_push}
+use Rattle.std.proofs.lemmas.List.Elements.{Contains-append_left, Contains-append_right, Contains-push_cases, Contains-get_or}
 use Rattle.std.proofs.lemmas.Option.{slice_get_within}
 use Rattle.su_base.specs.declared.values.Value.{Value}
-use Rattle.su_base.proofs.Items.{Contains-cases, Contains-nil, Contains-map, Contains-map_source, Contains-take}
+use Rattle.su_base.proofs.Items.{AllDiffer-push, Contains-nil, Contains-map, Contains-map_source, Contains-take}
 use Rattle.std.proofs.Math.Seq.{take-length}
 use Rattle.su_state.specs.DatabaseValue.{DatabaseValue}
 use Rattle.su_window.specs.declared.readings.Reading.{Reading}
@@ -28,27 +28,7 @@ in_pushed xs y x s =
     s
 
 pub of_pushed : {X : Type 0} (xs : List X) (y x : X) → Contains (xs ++ y ∷ []) x → Contains xs x ⊎ (x ≡ y)
-of_pushed xs y x c =
-    ⊎_elim
-    (λ (l : Contains xs x). inl l)
-    (λ (r : Contains (y ∷ []) x).
-    ⊎_elim
-    (λ (e : y ≡ x). inr (sym e))
-    (λ (no : Contains [] x). absurd (Contains-nil x no))
-    (Contains-cases y [] x r))
-    (Contains-append_cases xs (y ∷ []) x c)
-
-differ_more : (ms : List Member) (m : Member) → AllDiffer ms → ¬ Contains ms m → AllDiffer (ms ++ m ∷ [])
-differ_more ms m apart new i j d less low same =
-    let long = length_push ms m in
-    let left : get_or (ms ++ m ∷ []) i d ≡ get_or ms i d = get_or_append_left ms (m ∷ []) d i (omega (arith, less, low, long)) in
-    ⊎_elim
-    (λ (l : j < length ms). apart i j d less l (sym left ∙ same ∙ get_or_append_left ms (m ∷ []) d j l))
-    (λ (g : length ms ≤ j).
-    let is : j ≡ length ms = omega (arith, g, low, long) in
-    let last : get_or (ms ++ m ∷ []) j d ≡ m = ap (λ (k : ℕ). get_or (ms ++ m ∷ []) k d) is ∙ get_or_push ms m d (length ms) refl in
-    new (i, omega (arith, less, is), get_or_default ms i m d (omega (arith, less, is)) ∙ sym left ∙ same ∙ last))
-    (cases_lt j (length ms))
+of_pushed xs y x c = ⊎_elim (λ (l : Contains xs x). inl l) (λ (e : y ≡ x). inr (sym e)) (Contains-push_cases xs y x c)
 
 -- ---- views
 
@@ -157,7 +137,7 @@ module _ (db : DatabaseValue) (o p : ℕ) (low : o < length db.schema.objects) (
                   (λ (e : m ≡ member). inr e)
                   (of_before m b))),
             );
-            once = subst AllDiffer (sym pushed) (differ_more members member so_far.once not_read);
+            once = subst AllDiffer (sym pushed) (AllDiffer-push members member so_far.once not_read);
           }
 
       pub many : 20000 ≤ length readings → AreMoreThan 20000 (IsMember db)
@@ -171,7 +151,7 @@ module _ (db : DatabaseValue) (o p : ℕ) (low : o < length db.schema.objects) (
                 (λ (before : Contains members (get_or all i member)). before_member db o p (omega (arith, low)) (inl low) (get_or all i member) ((so_far.exact (get_or all i member)).0 before))
                 (λ (e : get_or all i member ≡ member). subst (IsMember db) (sym e) (before_member db o (p + 1) (omega (arith, low)) (inl low) member (before_more member (inr refl))))
                 (of_pushed members member (get_or all i member) (Contains-get_or all i member (omega (arith, l, long, full))));
-            differ = λ i j less l. differ_more members member so_far.once not_read i j member less (omega (arith, l, long, full));
+            differ = λ i j less l. AllDiffer-push members member so_far.once not_read i j member less (omega (arith, l, long, full));
           }
 
 -- ---- one object more

@@ -1,5 +1,6 @@
 -- Where no two constants meet, the chased rows with new values for their variables are a universal relation that fits.
 use Rattle.std.proofs.Common.{◌≡◌, ℕ, zero, suc, ◌+◌, ◌<◌, ◌≤◌, ⊎_elim, List, [], ◌∷◌, map, length, get_or, Contains, refl, sym, ap, ◌∙◌, subst, pos, arith}
+use Rattle.std.proofs.Math.ListN.{get_or-map as map_read}
 use Rattle.std.specs.Prelude.{All}
 use Rattle.std.specs.List.{range_with_len}
 use Rattle.std.proofs.lemmas.Bool.{cases_lt}
@@ -20,12 +21,11 @@ use Rattle.su_tableau.proofs.FrozenTableaux.{frozen_typed, thawed, thawed_frozen
 use Rattle.su_schema.specs.SchemaValue.{ObjectEntry}
 use Rattle.su_schema.specs.Entries.{attribute_kinds}
 use Rattle.su_state.specs.DatabaseValue.{DatabaseValue, IsWellKept}
-use Rattle.su_chase.specs.Chase.{IsClosedPartition, IsName}
+use Rattle.su_chase.specs.Chase.{IsClosedPartition, IsClassName}
 use Rattle.su_fd.specs.MetDependencies.{Agree, Meets}
 use Rattle.su_chase.specs.inside.Rows.{name_by, named_tab}
 use Rattle.su_chase.proofs.NamedAnswers as answering
 use Rattle.su_chase.proofs.NamedAnswers.{settled}
-use Rattle.su_chase.proofs.Images.{map_read}
 use Rattle.su_window.specs.declared.readings.Reading.{Reading}
 use Rattle.su_schema.specs.Cuts.{width, attributes_at, cut, cuts}
 use Rattle.su_state.specs.Views.{value_for, taken}
@@ -88,7 +88,7 @@ module _ (fds : List Fd) (rows : List (List Sym)) (width : ℕ) (widths : All (�
 
 -- ---- the universal relation of the chased rows
 
-module _ (db : DatabaseValue) (kept : IsWellKept db) (readings : List Reading) (are : AreReadings db readings) (names : List Sym) (named : (x : Sym) → IsName db.schema.fds (padded_rows db readings) x (name_by names x)) where
+module _ (db : DatabaseValue) (kept : IsWellKept db) (readings : List Reading) (are : AreReadings db readings) (names : List Sym) (named : (x : Sym) → IsClassName db.schema.fds (padded_rows db readings) x (name_by names x)) where
   abbrev name : Sym → Sym
   name = name_by names
 

@@ -1,5 +1,6 @@
 -- The objects of a database: their attributes, their columns, and the rows under them.
 use Rattle.std.proofs.Common.{◌≡◌, ℕ, ◌<◌, true, false, cond, nat_eq, ◌==◌, ◌||◌, List, [], ◌∷◌, map, length, get_or, Contains, Option, Some, None, refl, sym, ap, ◌∙◌, subst, pos, arith, inl, inr}
+use Rattle.std.proofs.Math.ListN.{get_or-map as map_read}
 use Rattle.std.specs.Prelude.{find, option_map, option_and_then, unwrap_or, slice_get}
 use Rattle.std.specs.List.{list_any}
 use Rattle.std.specs.FinSet.{contains, empty, contains-from_list_nat}
@@ -21,7 +22,6 @@ use Rattle.su_schema.specs.Entries.{attribute_kinds, attributes_of, column_of}
 use Rattle.su_schema.specs.Known.{columns_at}
 use Rattle.su_state.specs.DatabaseValue.{DatabaseValue, IsWellKept, HasColumnKinds, columns_of}
 use Rattle.su_state.proofs.Columns.{column_within, column_of_attribute, object_on, relation_at}
-use Rattle.su_chase.proofs.Images.{map_read}
 use Rattle.su_schema.specs.Cuts.{width, attributes_at}
 use Rattle.su_schema.proofs.Entries.{blank_object}
 use Rattle.su_state.specs.Views.{value_for}

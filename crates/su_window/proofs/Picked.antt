@@ -1,5 +1,6 @@
 -- Each padded row stands for a row of any universal relation that fits, so its classes have one value there.
 use Rattle.std.proofs.Common.{◌≡◌, ℕ, ◌+◌, ◌*◌, ◌%◌, ◌/◌, ◌<◌, ◌≤◌, ⊎_elim, true, List, [], map, length, get_or, Contains, refl, sym, ap, ◌∙◌, subst, pos, arith, inl, inr}
+use Rattle.std.proofs.Math.ListN.{get_or-map as map_read}
 use Rattle.std.specs.Prelude.{All}
 use Rattle.std.specs.List.{range_with_len}
 use Rattle.std.specs.FinSet.{contains}
@@ -19,11 +20,10 @@ use Rattle.su_tableau.specs.Valuations.{values_at, value_of, values_of, Sends}
 use Rattle.su_schema.specs.SchemaValue.{ObjectEntry}
 use Rattle.su_schema.specs.Entries.{attribute_kinds}
 use Rattle.su_state.specs.DatabaseValue.{DatabaseValue, IsWellKept}
-use Rattle.su_chase.specs.Chase.{IsName, IsClash}
+use Rattle.su_chase.specs.Chase.{IsClassName, IsClash}
 use Rattle.su_fd.specs.MetDependencies.{Agree}
 use Rattle.su_chase.specs.inside.Rows.{name_by}
 use Rattle.su_chase.proofs.NamedAnswers.{one_value}
-use Rattle.su_chase.proofs.Images.{map_read}
 use Rattle.su_window.specs.declared.readings.Reading.{Reading}
 use Rattle.su_schema.specs.Cuts.{width, attributes_at, cut}
 use Rattle.su_state.specs.Views.{value_for, taken}
@@ -117,7 +117,7 @@ module _ (db : DatabaseValue) (kept : IsWellKept db) (readings : List Reading) (
   no_clash less greater clash = clash.differ (one_value db.schema.fds (padded_rows db readings) universe fits.meets valuation sends (Const less) (Const greater) clash.together)
 
   -- constants that name a row's symbols are the values of the chosen row
-  pub has_constants : (names : List Sym) → ((x : Sym) → IsName db.schema.fds (padded_rows db readings) x (name_by names x)) → (attributes : List ℕ) → All (λ a. a < n) attributes → (row : List Sym) → Contains (padded_rows db readings) row → (h : List Value) → AreConstants names row attributes h → (w : List Value) × Contains universe w × (values_at attributes w ≡ h)
+  pub has_constants : (names : List Sym) → ((x : Sym) → IsClassName db.schema.fds (padded_rows db readings) x (name_by names x)) → (attributes : List ℕ) → All (λ a. a < n) attributes → (row : List Sym) → Contains (padded_rows db readings) row → (h : List Value) → AreConstants names row attributes h → (w : List Value) × Contains universe w × (values_at attributes w ≡ h)
   has_constants names named attributes low row c h constant =
       let i = of_rows db readings row c in
       let w : List Value = chosen i.0 in

@@ -7,7 +7,7 @@ use Rattle.su_tableau.specs.declared.symbols.Sym.{Sym}
 use Rattle.su_tableau.specs.declared.symbols.Sym.TheVariants.{Var}
 use Rattle.su_tableau.specs.Tableaux.{AreBelow}
 use Rattle.su_state.specs.DatabaseValue.{DatabaseValue, IsWellKept}
-use Rattle.su_chase.specs.Chase.{IsName, IsConsistent, IsClash}
+use Rattle.su_chase.specs.Chase.{IsClassName, IsConsistent, IsClash}
 use Rattle.su_chase.specs.Chased.{AreRows}
 use Rattle.su_chase.specs.inside.Rows.{name_by}
 use Rattle.su_fd.specs.declared.dependencies.Fd.{Fd}
@@ -30,8 +30,8 @@ module _ (db : DatabaseValue) (kept : IsWellKept db) (readings : List Reading) (
   pub refused : (less greater : Value) → IsClash db.schema.fds (padded_rows db readings) less greater → Clashes db less greater × ((universe : List (List Value)) → ¬ Fits db universe)
   refused less greater clash = (record { readings = readings; are = are; few = few; clash = clash }, λ universe fits. no_clash db kept readings are universe fits less greater clash)
 
-  module _ (names : List Sym) (all : All (AreBelow (length names)) (padded_rows db readings)) (each : (k : ℕ) → k < length names → IsName db.schema.fds (padded_rows db readings) (Var k) (get_or names k (Var k))) (consistent : IsConsistent db.schema.fds (padded_rows db readings)) where
-    named : (x : Sym) → IsName db.schema.fds (padded_rows db readings) x (name_by names x)
+  module _ (names : List Sym) (all : All (AreBelow (length names)) (padded_rows db readings)) (each : (k : ℕ) → k < length names → IsClassName db.schema.fds (padded_rows db readings) (Var k) (get_or names k (Var k))) (consistent : IsConsistent db.schema.fds (padded_rows db readings)) where
+    named : (x : Sym) → IsClassName db.schema.fds (padded_rows db readings) x (name_by names x)
     named = are_names db.schema.fds (padded_rows db readings) names all each consistent (width db.schema) (rows_long db readings)
 
     pub fits : HasFew db × ((universe : List (List Value)) × Fits db universe)
@@ -60,12 +60,12 @@ module _ (db : DatabaseValue) (kept : IsWellKept db) (readings : List Reading) (
       subst (λ (r : List (List Sym)). All (λ row. All (λ a. a < length row) attributes) r) (sym rows_are)
       (λ i d l j e m. subst (λ (n : ℕ). get_or attributes j e < n) (sym (rows_long db readings i d l)) (low j e m))
 
-  module _ (names : List Sym) (all : All (AreBelow (length names)) rows) (each : (k : ℕ) → k < length names → IsName fds rows (Var k) (get_or names k (Var k))) (clash : Option (Value × Value)) (told : MatchOption clash (IsConsistent fds rows) (λ p. IsClash fds rows p.0 p.1)) (none : clash ≡ None) where
+  module _ (names : List Sym) (all : All (AreBelow (length names)) rows) (each : (k : ℕ) → k < length names → IsClassName fds rows (Var k) (get_or names k (Var k))) (clash : Option (Value × Value)) (told : MatchOption clash (IsConsistent fds rows) (λ p. IsClash fds rows p.0 p.1)) (none : clash ≡ None) where
     all_here : All (AreBelow (length names)) (padded_rows db readings)
     all_here = at_db (λ f r. All (AreBelow (length names)) r) all
 
-    each_here : (k : ℕ) → k < length names → IsName db.schema.fds (padded_rows db readings) (Var k) (get_or names k (Var k))
-    each_here = at_db (λ f r. (k : ℕ) → k < length names → IsName f r (Var k) (get_or names k (Var k))) each
+    each_here : (k : ℕ) → k < length names → IsClassName db.schema.fds (padded_rows db readings) (Var k) (get_or names k (Var k))
+    each_here = at_db (λ f r. (k : ℕ) → k < length names → IsClassName f r (Var k) (get_or names k (Var k))) each
 
     consistent_here : IsConsistent db.schema.fds (padded_rows db readings)
     consistent_here = at_db IsConsistent (subst (λ (o : Option (Value × Value)). MatchOption o (IsConsistent fds rows) (λ p. IsClash fds rows p.0 p.1)) none told)

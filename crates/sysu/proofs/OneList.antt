@@ -1,5 +1,6 @@
 -- Replies to the same statements are one list, also where they stop at a load from a file that is too long.
 use Rattle.std.proofs.Common.{◌≡◌, ◌<◌, ◌++◌, ℕ, List, [], ◌∷◌, length, Option, Some, None, Ok, refl, ap, sym, ◌∙◌, subst, append-nil, arith}
+use Rattle.su_base.proofs.Items.{same_tail}
 use Rattle.su_io.specs.declared.files.File.{File as AFile}
 use Rattle.su_io.specs.Files.{contents}
 use Rattle.su_lex.specs.Pieces.{Pieces}
@@ -29,9 +30,6 @@ same_path path other same = cc
 
 first_same : (x y : List ℕ) (xs ys : List (List ℕ)) → x ∷ xs ≡ y ∷ ys → x ≡ y
 first_same x y xs ys same = cc
-
-rest_same : (x y : List ℕ) (xs ys : List (List ℕ)) → x ∷ xs ≡ y ∷ ys → xs ≡ ys
-rest_same x y xs ys same = cc
 
 module _ (files : List AFile) where
   one_file : (a b : DatabaseValue) (text : List ℕ) (x y : Option (List ℕ)) → a.schema ≡ b.schema → IsHanded (Some files) a text x → IsHanded (Some files) b text y → x ≡ y
@@ -98,7 +96,7 @@ module _ (files : List AFile) where
   one_stop (s ∷ ss) (t ∷ ts) left behind x y path other a b c d (r ∷ rs) [] alike same h wants over k asks long = absurd k
   one_stop (s ∷ ss) (t ∷ ts) left behind x y path other a b c d (r ∷ rs) (o ∷ os) alike same h wants over k asks long =
       let first = first_same s t (ss ++ x ∷ left) (ts ++ y ∷ behind) same in
-      let rest = rest_same s t (ss ++ x ∷ left) (ts ++ y ∷ behind) same in
+      let rest = same_tail s t (ss ++ x ∷ left) (ts ++ y ∷ behind) same in
       let k' : Answered (Some files) b (s ∷ ts) (o ∷ os) d = subst (λ (z : List ℕ). Answered (Some files) b (z ∷ ts) (o ∷ os) d) (sym first) k in
       let (kept, (file, handed, (mid, replied, more))) = h in
       let (also, (again, hands, (then, answers, later))) = k' in

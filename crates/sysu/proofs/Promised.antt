@@ -1,6 +1,6 @@
 -- From the replies of a run to what is promised of its queries.
-use Rattle.std.proofs.Common.{◌≡◌, ℕ, zero, suc, List, [], ◌∷◌, Option, Some, refl, subst, inl, inr}
-use Rattle.std.proofs.lemmas.Option.{none-some}
+use Rattle.std.proofs.Common.{◌≡◌, ℕ, zero, suc, List, [], ◌∷◌, refl, subst, inl, inr}
+use Rattle.std.proofs.lemmas.Option.{none-some, same_Some}
 use Rattle.su_query.specs.declared.statements.Query.{Query}
 use Rattle.su_state.specs.DatabaseValue.{DatabaseValue, IsWellKept}
 use Rattle.su_answer.specs.Laws.{PreparedRowsAreLeast, AnswersAreTheExpression}
@@ -33,15 +33,12 @@ module _ (answered : RetrievesAreAnswered) (least : PreparedRowsAreLeast) (expre
     text = is.shows.text.text_is;
   }
 
-  some_same : {X : Type 0} (x y : X) → ◌≡◌ {A = Option X} (Some x) (Some y) → x ≡ y
-  some_same x y e = cc
-
   pub queries : QueriesAreAnswered
   queries files first last [] replies chain k text q reply at there is accepted = absurd (none-some text at)
   queries files first last (t ∷ ts) [] chain k text q reply at there is accepted = absurd chain
   queries files first last (t ∷ ts) (r ∷ rs) chain zero text q reply at there is accepted =
-      let same_text : t ≡ text = some_same t text at in
-      let same_reply : r ≡ reply = some_same r reply there in
+      let same_text : t ≡ text = same_Some t text at in
+      let same_reply : r ≡ reply = same_Some r reply there in
       let kept = chain.0 in
       let rest = chain.1 in
       let replied : Replied first text rest.0 reply rest.2.0 = subst (λ (x : List ℕ). Replied first x rest.0 reply rest.2.0) same_text (subst (λ (y : Reply). Replied first t rest.0 y rest.2.0) same_reply rest.2.1) in

@@ -10,12 +10,12 @@ abbrev pub KeepsConstants : List Sym → List Sym → Type 0
 KeepsConstants xs us = (c : ℕ) → c < length xs → is_const (cell_at xs c) ≡ true → cell_at xs c ≡ cell_at us c
 
 -- where the row ys has the symbol x, its target vs has u
-abbrev pub Gives : Sym → Sym → List Sym → List Sym → Type 0
-Gives x u ys vs = (e : ℕ) → e < length ys → x ≡ cell_at ys e → u ≡ cell_at vs e
+abbrev pub IsSentTo : Sym → Sym → List Sym → List Sym → Type 0
+IsSentTo x u ys vs = (e : ℕ) → e < length ys → x ≡ cell_at ys e → u ≡ cell_at vs e
 
 -- where the rows xs and ys have one symbol, their targets us and vs have one
 abbrev pub GoAlike : List Sym → List Sym → List Sym → List Sym → Type 0
-GoAlike xs us ys vs = (c : ℕ) → c < length xs → Gives (cell_at xs c) (cell_at us c) ys vs
+GoAlike xs us ys vs = (c : ℕ) → c < length xs → IsSentTo (cell_at xs c) (cell_at us c) ys vs
 
 -- the row goes to the target by itself, beside the head
 pub record Goes (head row target : List Sym) : Type 0 where

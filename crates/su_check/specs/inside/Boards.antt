@@ -3,6 +3,7 @@
 -- place: a pair of the partial list and a column; it gives the image of the symbol that its row has there
 -- No public contract cites this module.
 use Rattle.std.specs.Prelude.{◌≡◌, ◌<◌, ◌⊎◌, ◌↔◌, ℕ, Bool, true, false, Option, None, Some, List, [], length, get_or, All, Contains, MatchOption}
+use Rattle.su_base.specs.Lists.{IsAscending}
 use Rattle.su_tableau.specs.declared.symbols.Sym.{Sym}
 use Rattle.su_tableau.specs.declared.symbols.Sym.TheVariants.{Var}
 use Rattle.su_tableau.specs.Tableaux.{Occurs}
@@ -12,7 +13,6 @@ use Rattle.su_check.specs.declared.sending.StepColumn.{StepColumn}
 use Rattle.su_check.specs.inside.Cells.{cell_at, is_const, IsFirstPlace}
 use Rattle.su_check.specs.SentRows.{Lines, AreSent, numbered_row}
 use Rattle.su_check.specs.inside.Widths.{AreWide, IsWithin}
-use Rattle.su_check.specs.Refutations.{IsAscending}
 
 -- stands where no row was sent
 abbrev pub no_pair : Sent

@@ -1,5 +1,5 @@
 -- How symbols are numbered as items: some constants, each once, and then the variables below a limit.
--- So the least item of a class is its name.
+-- item: the number of a symbol: its constant's place among the constants, or behind these the variable's number; name of a class: its least item
 -- No public contract cites this module.
 use Rattle.std.specs.Prelude.{◌≡◌, ℕ, suc, ◌+◌, Bool, true, false, cond, List, [], ◌∷◌, length, nat_lt}
 use Rattle.std.specs.Ordering.{is_eq}

@@ -3,10 +3,8 @@
 -- edge: variables, and the rows that they may have together; es, fs, e, g: edges; v: a code for each variable; h: a value for each term
 -- merged body: edges made one; over: there is more than was asked for; nothing: no valuation fits it
 -- No public contract cites this module.
-use Rattle.std.specs.Prelude.{◌≡◌, ◌<◌, ◌++◌, ◌⊎◌, ◌↔◌, ℕ, true, List, [], ◌∷◌, map, length, Contains}
+use Rattle.std.specs.Prelude.{◌≡◌, ◌<◌, ◌++◌, ◌⊎◌, ℕ, true, List, [], ◌∷◌, map, length}
 use Rattle.std.specs.List.{AllZip}
-use Rattle.std.specs.List.Sorted.{IsStrictlySortedBy}
-use Rattle.su_base.specs.Value.{compare_lists}
 use Rattle.su_exec.specs.declared.merging.Merged.{Merged}
 use Rattle.su_exec.specs.declared.merging.Merged.TheVariants.{Whole, Over, Nothing}
 use Rattle.su_base.specs.declared.values.Value.{Value}
@@ -19,6 +17,7 @@ use Rattle.su_exec.specs.declared.checks.Spot.{Spot}
 use Rattle.su_exec.specs.declared.tasks.Compared.{Compared}
 use Rattle.su_exec.specs.inside.Checks.{HasTerm, IsSpotIn, code_of, spot_code, vars_of}
 use Rattle.su_reduce.specs.Codes.{decode}
+use Rattle.su_rel.specs.ExactRows.{AreExactlyRows}
 use Rattle.su_rel.specs.MoreThan.{AreMoreThan}
 use Rattle.su_exec.specs.inside.Edges.{Edge, Fits, has}
 
@@ -76,7 +75,7 @@ HasVars terms Nothing = Unit {0}
 
 -- the rows are what a merged body shows, ascending, each once
 abbrev pub IsShownBy : List Value → List CodedSymbol → Merged → List (List Value) → Type 0
-IsShownBy values terms (Whole g) rows = ((h : List Value) → Contains rows h ↔ IsShown values g terms h) × IsStrictlySortedBy compare_lists rows
+IsShownBy values terms (Whole g) rows = AreExactlyRows (IsShown values g terms) rows
 IsShownBy values terms Over rows = ⊥
 IsShownBy values terms Nothing rows = rows ≡ []
 

@@ -4,7 +4,7 @@
 use denote.Ref.{Bor}
 use Rattle.std.specs.Prelude.{◌≡◌, ◌+◌, ℕ, Bool, List, count_by}
 use Rattle.su_base.specs.declared.values.Value.{Value}
-use Rattle.su_index.specs.inside.Order.{count_below}
+use Rattle.su_base.specs.Numbers.{count_below}
 
 -- what rows are sorted by
 abbrev pub Key : Type 0

@@ -1,11 +1,11 @@
 -- How an index orders the positions of the rows: by the lead of the value in its column, then by the value, then by position.
 -- run: a list of positions in this order
 -- No public contract cites this module.
-use Rattle.std.specs.Prelude.{◌≡◌, ◌<◌, ◌+◌, ◌^◌, ℕ, Bool, cond, List, [], length, slice_index_or, count_by}
-use Rattle.std.proofs.Common.{zero, suc}
+use Rattle.std.specs.Prelude.{◌≡◌, ◌<◌, ◌+◌, ◌^◌, ℕ, Bool, List, [], length, slice_index_or, count_by}
 use Rattle.std.specs.List.Sorted.{IsStrictlySortedBy}
 use Rattle.std.specs.Ordering.{nat_cmp, ordering_then}
 use Rattle.std.specs.declared.cmp.Ordering.{Ordering}
+use Rattle.su_base.specs.Numbers.{count_below}
 use Rattle.su_base.specs.declared.values.Value.{Value}
 use Rattle.su_base.specs.declared.values.Value.TheVariants.{Int}
 use Rattle.su_base.specs.Value.{compare_values}
@@ -27,11 +27,6 @@ compare_entries v p w q = ordering_then (compare_keys v w) (nat_cmp p q)
 -- the same of two positions, where `at` gives the value at each
 abbrev pub compare_places : (ℕ → Value) → ℕ → ℕ → Ordering
 compare_places at p q = compare_entries (at p) p (at q) q
-
--- how many of the positions below n pass the test
-abbrev pub count_below : (ℕ → Bool) → ℕ → ℕ
-count_below test zero = 0
-count_below test (suc n) = count_below test n + cond (test n) 1 0
 
 -- the positions from `from` on, as many as the run is long, each once and in order
 pub record IsRun (at : ℕ → Value) (from : ℕ) (run : List ℕ) : Type 0 where

@@ -6,7 +6,8 @@
 use Rattle.std.specs.Prelude.{◌≡◌, ◌<◌, ◌≤◌, ℕ, Bool, true, false, slice_index, cond, nat_eq, List, length, slice_index_or, All}
 use Rattle.std.specs.Ordering.{is_lt, is_eq}
 use Rattle.su_base.specs.declared.values.Value.{Value}
-use Rattle.su_index.specs.inside.Order.{compare_keys, compare_entries, count_below}
+use Rattle.su_base.specs.Numbers.{count_below}
+use Rattle.su_index.specs.inside.Order.{compare_keys, compare_entries}
 
 -- the row at position q comes before a row with value v at position p
 abbrev pub comes_before : (ℕ → Value) → Value → ℕ → ℕ → Bool

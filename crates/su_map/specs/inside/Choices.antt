@@ -3,7 +3,8 @@
 -- No public contract cites this module.
 use Rattle.std.specs.Prelude.{◌≡◌, ◌≢◌, ℕ, ◌<◌, ◌⊎◌, Bool, true, List, get_or, length, map}
 use Rattle.su_map.specs.Lists.{numbers_of}
-use Rattle.su_map.specs.Candidates.{count_below, sum_of_products}
+use Rattle.su_base.specs.Numbers.{count_below}
+use Rattle.su_map.specs.Candidates.{sum_of_products}
 use Rattle.std.specs.Int.{bit_at}
 use Rattle.su_map.specs.inside.Netted.{Netted, base_of, near_of, agree_of}
 

@@ -4,6 +4,7 @@
 use Rattle.std.specs.Prelude.{◌≡◌, ℕ, ◌<◌, ◌↔◌, IsTrue, List, [], length, get_or, Option, MatchOption, None, Some}
 use Rattle.std.specs.Ordering.{nat_cmp}
 use Rattle.std.specs.FinSet.{FinSet, contains, empty, insert, difference}
+use Rattle.su_base.specs.Sets.{set_at}
 use Rattle.su_tableau.specs.declared.symbols.Sym.{Sym}
 use Rattle.su_tableau.specs.declared.symbols.Sym.TheVariants.{Var}
 use Rattle.su_reduce.specs.declared.edges.Ear.{Ear}
@@ -17,10 +18,6 @@ In s j = IsTrue (contains s j)
 -- the symbol is a variable of edge j
 abbrev pub Touches : List (List Sym) → Sym → ℕ → Type 0
 Touches edges x j = (k : ℕ) × (x ≡ Var k) × HasVar edges j k
-
--- the edges that have the variable of cell c
-abbrev pub set_at : List (FinSet nat_cmp) → ℕ → FinSet nat_cmp
-set_at sets c = get_or sets c empty
 
 -- the set is that of the edges that the symbol touches
 abbrev pub IsTouched : List (List Sym) → Sym → FinSet nat_cmp → Type 0

@@ -29,8 +29,8 @@ abbrev pub AddsPlaces : List Places → ℕ → Sym → List Sym → List Places
 AddsPlaces old first x ys new = (p : Places) → Contains new p ↔ (Contains old p ⊎ ((p.first ≡ first) × (p.second < length ys) × (x ≡ cell_at ys p.second)))
 
 -- the lists hold one symbol at each of the places
-abbrev pub AgreeAt : List Places → List Sym → List Sym → Type 0
-AgreeAt places us vs = All (λ x. cell_at us x.first ≡ cell_at vs x.second) places
+abbrev pub AgreeInPlaces : List Places → List Sym → List Sym → Type 0
+AgreeInPlaces places us vs = All (λ x. cell_at us x.first ≡ cell_at vs x.second) places
 
 -- the members of the set are the rows of m with the property
 abbrev pub IsSetOf : Tab → ℕ → (ℕ → Type 0) → ℕ → Type 0

@@ -3,11 +3,12 @@
 -- No public contract cites this module.
 use Rattle.std.specs.Prelude.{◌≡◌, ◌≢◌, ◌<◌, ◌≤◌, ◌↔◌, ◌⊎◌, ℕ, List, length, get_or, All, Contains, count_ones}
 use Rattle.std.specs.Int.{bit_at}
+use Rattle.su_base.specs.Lists.{IsAscending}
 use Rattle.su_tableau.specs.Tableaux.{Tab}
 use Rattle.su_check.specs.declared.sending.Sent.{Sent}
 use Rattle.su_check.specs.SentRows.{Lines, AreSent}
 use Rattle.su_check.specs.inside.Widths.{AreWide, IsWithin}
-use Rattle.su_check.specs.Refutations.{IsOpen, IsFitting, IsAscending}
+use Rattle.su_check.specs.Refutations.{IsOpen, IsFitting}
 use Rattle.su_refute.specs.declared.nets.Net.{Net}
 use Rattle.su_refute.specs.inside.Nets.{IsNet}
 use Rattle.su_check.specs.declared.nodes.Node.{Node}

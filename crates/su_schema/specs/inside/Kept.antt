@@ -20,6 +20,6 @@ abbrev pub HasItsSet : String Global × Object → Type 0
 HasItsSet entry = entry.1.attributes ≡ from_list (map (λ l. l.attribute) entry.1.links)
 
 -- the schema is valid, and each object has its set
-pub record IsKept (schema : Inside) : Type 0 where
+pub record KeepsItsRules (schema : Inside) : Type 0 where
   pub valid : IsValid (shown schema)
   pub attribute_sets : All HasItsSet schema.objects.entries

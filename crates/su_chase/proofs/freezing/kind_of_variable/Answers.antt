@@ -1,9 +1,8 @@
 -- No row so far has the variable, and some row does; the column at which it stands there has its kind under every typing.
-use Rattle.std.proofs.Common.{◌≡◌, List, [], get_or, Contains, subst, ◌∙◌, arith}
+use Rattle.std.proofs.Common.{◌≡◌, List, [], get_or, Contains, subst, ◌∙◌, arith, below_more}
 use Rattle.std.proofs.lemmas.List.{get_or_default}
 use Rattle.su_tableau.specs.declared.symbols.Sym.{Sym}
 use Rattle.su_tableau.specs.declared.symbols.Sym.TheVariants.{Var}
-use Rattle.su_tableau.proofs.Rows.{below_more}
 use Rattle.su_chase.proofs.FrozenValues.{not_placed}
 use Rattle.su_chase.proofs.freezing.kind_of_variable.Goals as goal
 

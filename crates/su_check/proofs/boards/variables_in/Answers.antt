@@ -1,9 +1,8 @@
 -- What is gathered are the variables of the rows so far and no others, and sorting them keeps the members.
-use Rattle.std.proofs.Common.{◌≡◌, [], get_or, Contains, sym, subst, ◌∙◌, ⊎_elim, arith}
+use Rattle.std.proofs.Common.{◌≡◌, [], get_or, Contains, sym, subst, ◌∙◌, ⊎_elim, arith, below_more}
 use Rattle.std.specs.List.Sorted.{IsNonDecreasingBy}
 use Rattle.std.proofs.lemmas.List.{get_or_default}
 use Rattle.std.proofs.lemmas.List.Sorted.{Contains-permutation, IsPermutation-sym, IsNonDecreasingBy-from_sort}
-use borrow.Author.Count.{below_more}
 use Rattle.su_tableau.specs.declared.symbols.Sym.TheVariants.{Var}
 use Rattle.su_check.proofs.boards.variables_in.Goals as goal
 

@@ -1,8 +1,7 @@
 -- The terms so far are good, so the first fault that is met is that of the first bad term.
-use Rattle.std.proofs.Common.{◌≡◌, slice_get, Some, refl, subst, ◌∙◌, arith}
+use Rattle.std.proofs.Common.{◌≡◌, slice_get, Some, refl, subst, ◌∙◌, arith, below_more}
 use Rattle.std.specs.Option.{MatchOption}
 use Rattle.std.proofs.lemmas.Option.{get_or_from_slice_get}
-use borrow.Author.Count.{below_more}
 use Rattle.su_check.specs.declared.certificates.StatedTerm.{StatedTerm}
 use Rattle.su_check.specs.Certificate.{IsGood}
 use Rattle.su_check.specs.Verdict.{IsTermFault}

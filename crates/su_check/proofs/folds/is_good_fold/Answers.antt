@@ -1,6 +1,5 @@
 -- The rows so far are sent to their targets cell by cell, and each symbol has the image that its first cell gave it.
-use Rattle.std.proofs.Common.{◌≡◌, ◌<◌, ◌≤◌, length, get_or, Contains, refl, sym, ap, subst, ◌∙◌, true≢false, arith}
-use borrow.Author.Count.{below_more}
+use Rattle.std.proofs.Common.{◌≡◌, ◌<◌, ◌≤◌, length, get_or, Contains, refl, sym, ap, subst, ◌∙◌, true≢false, arith, below_more}
 use Rattle.su_check.specs.SentRows.{sent_too}
 use Rattle.su_check.specs.Certificate.{lines_of}
 use Rattle.su_check.proofs.ImagePlaces.{ready_none, ready_kept, ready_as}

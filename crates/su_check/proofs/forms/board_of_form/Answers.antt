@@ -2,10 +2,10 @@
 use Rattle.std.proofs.Common.{◌<◌, ◌≤◌, ℕ, length, All, Contains, ◌↔◌, refl, sym, subst}
 use Rattle.std.specs.Option.{MatchOption}
 use Rattle.std.proofs.lemmas.Result.{IfOk-weaker}
+use Rattle.su_base.specs.Lists.{IsAscending}
 use Rattle.su_tableau.specs.declared.symbols.Sym.TheVariants.{Var}
 use Rattle.su_tableau.specs.Tableaux.{Occurs}
 use Rattle.su_check.specs.inside.Boards.{IsBoard}
-use Rattle.su_check.specs.Refutations.{IsAscending}
 use Rattle.su_check.specs.inside.Cells.{AreTyped}
 use Rattle.su_check.specs.Certificate.{lines_of, IsGoodForm}
 use Rattle.su_check.proofs.WellTyped.{form_from, form_option, wide_as}

@@ -1,7 +1,6 @@
 -- The cells of the rows so far have the kinds found, and a typing of all rows agrees with what was found; so a cell that can't have its kind refutes every typing.
-use Rattle.std.proofs.Common.{◌<◌, [], length, map, get_or, sym, ap, subst, ◌∙◌}
+use Rattle.std.proofs.Common.{◌<◌, [], length, map, get_or, sym, ap, subst, ◌∙◌, below_more}
 use Rattle.std.proofs.lemmas.List.{get_or_default}
-use borrow.Author.Count.{below_more}
 use Rattle.su_tableau.specs.Kinds.{sym_kind}
 use Rattle.su_check.specs.inside.Cells.{cell_at, kind_at, HasFound}
 use Rattle.su_check.proofs.WellTyped.{found_kept}

@@ -1,6 +1,5 @@
 -- The cells so far have the kinds found, which only come to be more; a typing of the row agrees with each of them, so a cell of another kind refutes it.
-use Rattle.std.proofs.Common.{ap, subst, ◌∙◌}
-use borrow.Author.Count.{below_more}
+use Rattle.std.proofs.Common.{ap, subst, ◌∙◌, below_more}
 use Rattle.su_tableau.specs.Kinds.{sym_kind}
 use Rattle.su_check.specs.inside.Cells.{cell_at, kind_at, HasFound}
 use Rattle.su_check.proofs.WellTyped.{kind_of_cell, found_kept}

@@ -1,6 +1,5 @@
 -- The trees so far are good, so the first that isn't tells its row; one tree more than there are kept rows is a fault too.
-use Rattle.std.proofs.Common.{◌≡◌, ◌<◌, ◌≤◌, length, get_or, slice_get, Some, refl, sym, ap, subst, ◌∙◌, true≢false, arith}
-use borrow.Author.Count.{below_more}
+use Rattle.std.proofs.Common.{◌≡◌, ◌<◌, ◌≤◌, length, get_or, slice_get, Some, refl, sym, ap, subst, ◌∙◌, true≢false, arith, below_more}
 use Rattle.su_check.specs.Certificate.{IsGoodTree}
 use Rattle.su_check.specs.Verdict.{not_good, surplus}
 use Rattle.su_check.proofs.trees.tree_fault.Goals as goal

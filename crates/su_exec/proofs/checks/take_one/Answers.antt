@@ -1,8 +1,9 @@
 -- A check with both its terms in the rows is the test of them, and moves from the one list to the other; else it is left, and says of the valuation what it said.
 use Rattle.std.proofs.Common.{◌&&◌, map, sym, ap, ◌∙◌}
+use Rattle.std.proofs.Math.Bool.{and_assoc}
 use Rattle.su_exec.specs.inside.Checks.{all_hold, all_pass, check_holds, check_vars, test_passes}
 use Rattle.su_exec.specs.inside.Edges.{has}
-use Rattle.su_exec.proofs.CheckTests.{has_push, hold_push, pass_push, take_later, take_now}
+use Rattle.su_exec.proofs.CheckTests.{has_push, hold_push, pass_push, take_now}
 use Rattle.su_exec.proofs.checks.take_one.Goals as goal
 
 pub returns-in_ok-push-in-Some-clause-same : goal.returns-in_ok-push-in-Some-clause-same
@@ -22,7 +23,7 @@ returns-in_ok-push-in-None-clause-same c = λ values v.
     let ts = c.args.tests.now.items in
     let ls = c.args.later.now.items in
     ap (λ xs. all_pass values ts row other && all_hold values xs v) c.in_ok-push-in-None.ensures.items ∙ ap (λ b. all_pass values ts row other && b) (hold_push values ls c.args.check v)
-    ∙ take_later (all_pass values ts row other) (all_hold values ls v) (check_holds values v c.args.check)
+    ∙ sym (and_assoc (all_pass values ts row other) (all_hold values ls v) (check_holds values v c.args.check))
 
 pub returns-in_ok-push-in-None-clause-vars : goal.returns-in_ok-push-in-None-clause-vars
 returns-in_ok-push-in-None-clause-vars c = λ k h.

@@ -4,7 +4,7 @@ use Rattle.su_index.specs.Entries.{entries_of, positions}
 use Rattle.su_index.specs.inside.Chunks.{before_chunk, rank_in}
 use Rattle.su_index.specs.inside.Order.{value_at}
 use Rattle.su_index.proofs.Chunked.{rank-within, place-end, at-most}
-use Rattle.su_index.proofs.Entries.{positions_length, entry_within, entry_lead, entry_before, below_more}
+use Rattle.su_index.proofs.Entries.{positions_length, entry_within, entry_lead, entry_before, comes_before-more}
 use Rattle.su_index.proofs.Search.{comes_before-above}
 use Rattle.su_index.proofs.finding.past.Goals as goal
 
@@ -58,7 +58,7 @@ returns-then-not-is_before-2-clause-below c =
     let run = entries_of chunks in
     let rank = rank_in chunks c.args.first in
     let within : rank < length run = rank-within chunks c.args.first.chunk c.args.first.at c.requires.first.gap.within (λ d. omega (arith, c.requires.first.gap.most d, c.len_of-len.ensures d, c.if-first-len.false)) in
-    λ k h. below_more at c.args.wanted.now (length c.args.rows.now) (positions run) rank c.requires.below
+    λ k h. comes_before-more at c.args.wanted.now (length c.args.rows.now) (positions run) rank c.requires.below
     (entry_before at c.args.wanted.now (length c.args.rows.now) run rank c.entry.result c.is_before.result true within c.entry.ensures c.is_before.ensures c.if-not-is_before.false) k (omega (arith, h))
 
 pub returns-then-not-is_before-2-clause-above : goal.returns-then-not-is_before-2-clause-above

@@ -1,6 +1,5 @@
 -- All cells so far fit; where each does, constants are kept and equal variables go to equal symbols, since every cell of a variable goes where its first one does.
-use Rattle.std.proofs.Common.{[], refl, sym, ◌∙◌, true≢false, arith}
-use borrow.Author.Count.{below_more}
+use Rattle.std.proofs.Common.{[], refl, sym, ◌∙◌, true≢false, arith, below_more}
 use Rattle.su_map.specs.inside.Targets.{CellFits}
 use Rattle.su_map.proofs.Cells.{cells_fit, fits_cells, no_head, no_head_itself}
 use Rattle.su_map.proofs.columns.line_fits.Goals as goal

@@ -1,6 +1,5 @@
 -- Each masked row so far has its own targets that are in the mask as its domain; a row whose domain is empty has no target at all.
-use Rattle.std.proofs.Common.{◌≡◌, ◌↔◌, ◌∙◌, ℕ, get_or, sym, ap, subst, true≢false, arith}
-use borrow.Author.Count.{below_more}
+use Rattle.std.proofs.Common.{◌≡◌, ◌↔◌, ◌∙◌, ℕ, get_or, sym, ap, subst, true≢false, arith, below_more}
 use Rattle.std.specs.Int.{bit_at}
 use Rattle.su_base.proofs.Items.{get_or-set_each}
 use Rattle.su_map.specs.inside.Netted.{base_of}

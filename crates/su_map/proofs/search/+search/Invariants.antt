@@ -1,7 +1,7 @@
 use Rattle.std.proofs.Common.{◌≡◌, ℕ, suc, ◌+◌, ◌*◌, ◌≤◌, Bool, length, get_or}
 use Rattle.std.specs.Int.{bit_at}
 use Rattle.su_map.specs.declared.search.Order.TheVariants.{Ascending}
-use Rattle.su_map.specs.Candidates.{count_below}
+use Rattle.su_base.specs.Numbers.{count_below}
 use Rattle.su_map.specs.inside.Choices.{IsChoice, choice_of, AreKept, tries, ArePassed}
 use Rattle.su_map.proofs.search.+search.Given as goal
 

@@ -1,6 +1,5 @@
 -- The entries of the columns so far tell which rows are alike there, and filling a column leaves those of the columns before it as they are.
-use Rattle.std.proofs.Common.{◌≡◌, ◌+◌, ◌*◌, ◌<◌, ◌↔◌, length, get_or, sym, subst, arith}
-use borrow.Author.Count.{below_more}
+use Rattle.std.proofs.Common.{◌≡◌, ◌+◌, ◌*◌, ◌<◌, ◌↔◌, length, get_or, sym, subst, arith, below_more}
 use Rattle.std.specs.Int.{bit_at}
 use Rattle.su_tableau.specs.declared.symbols.Sym.{Sym}
 use Rattle.su_map.specs.Lists.{row_of}

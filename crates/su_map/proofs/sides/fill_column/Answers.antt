@@ -1,6 +1,5 @@
 -- The entries of the rows so far tell which rows are alike with them at the column; the next row's entry has a place of its own and leaves the others.
-use Rattle.std.proofs.Common.{◌≡◌, ◌+◌, ◌*◌, ◌<◌, ◌↔◌, ◌∙◌, ℕ, length, get_or, set, sym, subst, arith, get_or-set_other, get_or-set_same}
-use borrow.Author.Count.{below_more}
+use Rattle.std.proofs.Common.{◌≡◌, ◌+◌, ◌*◌, ◌<◌, ◌↔◌, ◌∙◌, ℕ, length, get_or, set, sym, subst, arith, get_or-set_other, get_or-set_same, below_more}
 use Rattle.std.specs.Int.{bit_at}
 use Rattle.su_map.specs.inside.Targets.{HoldOne}
 use Rattle.su_map.proofs.sides.fill_column.Goals as goal

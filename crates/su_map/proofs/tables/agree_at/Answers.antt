@@ -1,6 +1,5 @@
 -- The entries of the targets so far are cut down to what agrees at the column and the later ones are as they were; where no column is shared nothing is to be cut.
-use Rattle.std.proofs.Common.{◌≡◌, ◌+◌, ◌∙◌, ℕ, get_or, sym, ap, subst, true≢false, arith, get_or-set_other, get_or-set_same}
-use borrow.Author.Count.{below_more}
+use Rattle.std.proofs.Common.{◌≡◌, ◌+◌, ◌∙◌, ℕ, get_or, sym, ap, subst, true≢false, arith, get_or-set_other, get_or-set_same, below_more}
 use Rattle.std.specs.Int.{bit_at}
 use Rattle.su_map.specs.inside.Targets.{IsToldAt}
 use Rattle.su_map.proofs.AgreementTable.{none_told}

@@ -1,6 +1,5 @@
 -- The entries of the rows so far are the others, and the next entry has a place of its own, past all that stood before the table.
-use Rattle.std.proofs.Common.{◌≡◌, ◌+◌, ◌∙◌, get_or, arith, get_or-set_other, get_or-set_same, set}
-use borrow.Author.Count.{below_more}
+use Rattle.std.proofs.Common.{◌≡◌, ◌+◌, ◌∙◌, get_or, arith, get_or-set_other, get_or-set_same, set, below_more}
 use Rattle.su_map.proofs.tables.begin_pair.Goals as goal
 
 pub loop-p-preserved : goal.loop-p-preserved

@@ -1,6 +1,5 @@
 -- The tables of the pairs of the rows so far are told; each row's tables lie apart, so that filling those of one leaves those of the rows before.
-use Rattle.std.proofs.Common.{◌≡◌, ◌≢◌, ◌<◌, ◌*◌, ◌∙◌, ℕ, length, get_or, sym, subst, true≢false, arith}
-use borrow.Author.Count.{below_more}
+use Rattle.std.proofs.Common.{◌≡◌, ◌≢◌, ◌<◌, ◌*◌, ◌∙◌, ℕ, length, get_or, sym, subst, true≢false, arith, below_more}
 use Rattle.std.specs.Int.{bit_at}
 use Rattle.su_map.specs.inside.Targets.{IsTold}
 use Rattle.su_map.proofs.AgreementTable.{told_kept}

@@ -1,6 +1,5 @@
 -- The tables of the rows before stay, and those of row i with each row so far tell which targets of the two agree in what the rows share.
-use Rattle.std.proofs.Common.{◌≡◌, ◌≢◌, ◌+◌, ◌*◌, ◌∙◌, ℕ, [], get_or, Contains, sym, ap, subst, true≢false, arith}
-use borrow.Author.Count.{below_more}
+use Rattle.std.proofs.Common.{◌≡◌, ◌≢◌, ◌+◌, ◌*◌, ◌∙◌, ℕ, [], get_or, Contains, sym, ap, subst, true≢false, arith, below_more}
 use Rattle.std.specs.Int.{bit_at}
 use Rattle.su_tableau.specs.declared.symbols.Sym.TheVariants.{Var}
 use Rattle.su_map.specs.Lists.{row_of}

@@ -1,6 +1,5 @@
 -- The masked rows so far are noted at their variables, and those of them that aren't repeating have no variable at two columns; noting one more takes nothing back.
-use Rattle.std.proofs.Common.{◌≡◌, ◌∙◌, ℕ, get_or, ap, Contains, arith}
-use borrow.Author.Count.{below_more}
+use Rattle.std.proofs.Common.{◌≡◌, ◌∙◌, ℕ, get_or, ap, Contains, arith, below_more}
 use Rattle.std.specs.Int.{bit_at}
 use Rattle.su_tableau.specs.declared.symbols.Sym.TheVariants.{Var}
 use Rattle.su_map.specs.Lists.{row_of}

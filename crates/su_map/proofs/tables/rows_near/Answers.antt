@@ -1,6 +1,5 @@
 -- The set has the rows noted at the variables of the cells so far, for a union loses no member of either set.
-use Rattle.std.proofs.Common.{◌≡◌, ◌≢◌, ◌∙◌, ℕ, get_or, inl, inr, Contains}
-use borrow.Author.Count.{below_more}
+use Rattle.std.proofs.Common.{◌≡◌, ◌≢◌, ◌∙◌, ℕ, get_or, inl, inr, Contains, below_more}
 use Rattle.std.specs.Int.{bit_at}
 use Rattle.std.proofs.lemmas.List.{get_or_default}
 use Rattle.su_tableau.specs.declared.symbols.Sym.TheVariants.{Var}

@@ -1,6 +1,5 @@
 -- The entries so far are the targets of their rows in the mask; a masked row of which the set is empty has no target.
-use Rattle.std.proofs.Common.{◌≡◌, ◌<◌, ◌↔◌, ℕ, length, get_or, sym, ◌∙◌, subst, true≢false, arith}
-use borrow.Author.Count.{below_more}
+use Rattle.std.proofs.Common.{◌≡◌, ◌<◌, ◌↔◌, ℕ, length, get_or, sym, ◌∙◌, subst, true≢false, arith, below_more}
 use Rattle.std.specs.Int.{bit_at}
 use Rattle.su_base.proofs.Items.{get_or-set_each}
 use Rattle.su_map.specs.inside.Netted.{IsTarget}

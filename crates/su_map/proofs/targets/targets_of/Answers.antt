@@ -1,6 +1,5 @@
 -- What is left so far are the masked targets that fit at the columns so far; a row goes to a target by itself exactly where every cell fits.
-use Rattle.std.proofs.Common.{ℕ, List, length, sym, ap, ◌∙◌, ◌^◌, subst, arith}
-use borrow.Author.Count.{below_more}
+use Rattle.std.proofs.Common.{ℕ, List, length, sym, ap, ◌∙◌, ◌^◌, subst, arith, below_more}
 use Rattle.su_tableau.specs.declared.symbols.Sym.{Sym}
 use Rattle.su_map.specs.Lists.{row_of}
 use Rattle.su_map.specs.inside.Targets.{CellFits, IsPlain}

@@ -2,7 +2,8 @@
 use Rattle.std.proofs.Common.{◌++◌, [], ◌∷◌, length, ap, sym, ◌∙◌}
 use Rattle.std.proofs.lemmas.Bool.{false_from_ne_true}
 use Rattle.std.specs.FinSet.{insert}
-use Rattle.su_maxobj.proofs.Members.{object_at_read, attributes_of_one, attributes_of_more}
+use Rattle.su_base.proofs.Subsets.{set_at_read}
+use Rattle.su_maxobj.proofs.Members.{attributes_of_one, attributes_of_more}
 use Rattle.su_maxobj.proofs.GrowthSteps.{missing_lt, growth_push, one_grown, not_adjoinable_none, not_adjoinable_still}
 use Rattle.su_maxobj.proofs.growing.grown_from.Goals as goal
 
@@ -12,7 +13,7 @@ loop-o-init c =
     record {
       joined = [];
       growth = sym alone;
-      members = attributes_of_one _ _ _ _ c.requires.in_range alone (object_at_read _ _ _ c.requires.in_range c.index-objects-seed.is);
+      members = attributes_of_one _ _ _ _ c.requires.in_range alone (set_at_read _ _ _ c.requires.in_range c.index-objects-seed.is);
       ruled_out = not_adjoinable_none _ _ _ _ c.empty-ruled_out.ensures;
     }
 
@@ -24,7 +25,7 @@ loop-o-smaller c =
 pub loop-o-preserved : goal.loop-o-preserved
 loop-o-preserved c =
     let inside = c.in-Some.ensures.first.in_range in
-    let own = object_at_read _ _ _ inside c.index-objects-o.is in
+    let own = set_at_read _ _ _ inside c.index-objects-o.is in
     record {
       joined = c.loop-o.invariant.joined ++ c.in-Some.o ∷ [];
       growth = growth_push _ _ _ _ _ _ c.loop-o.invariant.growth c.in-Some.ensures.first _ c.insert-have-in-Some.ensures;

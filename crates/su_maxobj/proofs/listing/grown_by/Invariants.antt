@@ -1,6 +1,6 @@
 use Rattle.std.proofs.Common.{ℕ, ◌≡◌, ◌<◌, length}
 use Rattle.su_maxobj.specs.Growth.{IsGrown}
-use Rattle.su_maxobj.specs.AdjoinableObjects.{set_at}
+use Rattle.su_base.specs.Sets.{set_at}
 use Rattle.su_maxobj.proofs.listing.grown_by.Given as goal
 
 abbrev pub invariant-loop-seed : goal.invariant-loop-seed

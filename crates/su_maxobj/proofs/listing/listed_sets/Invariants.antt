@@ -1,6 +1,6 @@
 use Rattle.std.proofs.Common.{◌≡◌, ◌++◌, map}
 use Rattle.std.specs.List.{filter, range_with_len}
-use Rattle.su_maxobj.specs.AdjoinableObjects.{set_at}
+use Rattle.su_base.specs.Sets.{set_at}
 use Rattle.su_maxobj.specs.MaximalObjects.{is_listed}
 use Rattle.su_maxobj.proofs.listing.listed_sets.Given as goal
 

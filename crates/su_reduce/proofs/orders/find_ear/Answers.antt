@@ -1,9 +1,8 @@
 -- No edge so far is an ear among those left, as none of them could be its parent; so where the edges end without one there is no ear.
-use Rattle.std.proofs.Common.{ℕ, ◌<◌, List, [], length, get_or, true≢false, sym, subst, ◌∙◌, arith}
+use Rattle.std.proofs.Common.{ℕ, ◌<◌, List, [], length, get_or, true≢false, sym, subst, ◌∙◌, arith, below_more}
 use Rattle.std.specs.Ordering.{nat_cmp}
 use Rattle.std.specs.FinSet.{FinSet}
 use Rattle.std.proofs.lemmas.List.{get_or_default}
-use Rattle.su_tableau.proofs.Rows.{below_more}
 use Rattle.su_reduce.specs.inside.Partners.{In, IsParentBy, without}
 use Rattle.su_reduce.proofs.Rounds.{in_without}
 use Rattle.su_reduce.proofs.orders.find_ear.Goals as goal

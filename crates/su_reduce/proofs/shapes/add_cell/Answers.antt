@@ -3,7 +3,7 @@ use Rattle.std.proofs.Common.{◌≡◌, ◌<◌, ◌+◌, ℕ, [], ◌∷◌, �
 use Rattle.std.proofs.lemmas.Option.{get_or_from_slice_get}
 use Rattle.su_tableau.specs.declared.symbols.Sym.TheVariants.{Var}
 use Rattle.su_reduce.specs.Shapes.{IsShapeOf, cell_at, variable_place}
-use Rattle.su_reduce.proofs.Places.{contains_at, place_holds, same_var}
+use Rattle.su_reduce.proofs.Places.{contains_at, place_holds, one_var}
 use Rattle.su_reduce.proofs.ShapeSteps.{shape_again, shape_new, shape_on}
 use Rattle.su_reduce.proofs.shapes.add_cell.Goals as goal
 
@@ -43,4 +43,4 @@ returns-else-first-p c =
     let there = shape_again cells p k vars firsts places c.requires.so_far low is (λ e. c.if-first-p.false (first ∙ e)) in
     rw c.in_ok-push-2.ensures.items
     (shape_on cells p c.place-first.result vars firsts places c.requires.so_far (subst (λ q. q < length cells) (sym first) (place_holds cells k (contains_at cells p k low is)).0)
-    (λ j other. first ∙ ap (variable_place cells) (same_var (cell_at cells p) k j is other)) (λ j other. subst (λ y. Contains vars y) (same_var (cell_at cells p) k j is other) there))
+    (λ j other. first ∙ ap (variable_place cells) (one_var (cell_at cells p) k j is other)) (λ j other. subst (λ y. Contains vars y) (one_var (cell_at cells p) k j is other) there))

@@ -1,5 +1,6 @@
 use Rattle.std.proofs.Common.{ℕ, ◌<◌}
-use Rattle.su_reduce.specs.inside.Partners.{In, set_at}
+use Rattle.su_base.specs.Sets.{set_at}
+use Rattle.su_reduce.specs.inside.Partners.{In}
 use Rattle.su_reduce.proofs.sharing.has_shared.Given as goal
 
 abbrev pub invariant-loop-set : goal.invariant-loop-set

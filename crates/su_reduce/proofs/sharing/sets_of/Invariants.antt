@@ -1,7 +1,8 @@
 use Rattle.std.proofs.Common.{◌≡◌, ℕ, ◌<◌, length}
 use Rattle.su_reduce.specs.Ears.{cells_of}
 use Rattle.su_reduce.specs.Shapes.{cell_at}
-use Rattle.su_reduce.specs.inside.Partners.{IsTouched, set_at}
+use Rattle.su_base.specs.Sets.{set_at}
+use Rattle.su_reduce.specs.inside.Partners.{IsTouched}
 use Rattle.su_reduce.proofs.sharing.sets_of.Given as goal
 
 abbrev pub invariant-loop-x : goal.invariant-loop-x

@@ -1,9 +1,10 @@
 use Rattle.std.proofs.Common.{◌≡◌, ◌<◌, ◌+◌, Contains, map, get_or}
 use Rattle.std.specs.Int.{bit_at}
 use Rattle.std.specs.List.{sum_by}
+use Rattle.su_base.specs.Lists.{AreExactly}
 use Rattle.su_check.specs.declared.nodes.Branch.{Branch}
 use Rattle.su_check.specs.SentRows.{sent_too}
-use Rattle.su_check.specs.Refutations.{AreExactly, target_of, node_of}
+use Rattle.su_check.specs.Refutations.{target_of, node_of}
 use Rattle.su_refute.specs.Trees.{IsTreeAt}
 use Rattle.su_refute.specs.Trees.{lines_in}
 use Rattle.su_refute.specs.inside.Positions.{Stands}

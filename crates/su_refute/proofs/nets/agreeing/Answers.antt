@@ -4,7 +4,7 @@ use Rattle.std.specs.Int.{bit_at}
 use Rattle.su_tableau.proofs.Members.{member_below}
 use Rattle.su_map.specs.Lists.{row_of}
 use Rattle.su_map.proofs.Members.{collect_none, collect_more, collect_same}
-use Rattle.su_refute.specs.inside.Nets.{AgreeAt}
+use Rattle.su_refute.specs.inside.Nets.{AgreeInPlaces}
 use Rattle.su_refute.proofs.SharedPlaces.{none_agree}
 use Rattle.su_refute.proofs.nets.agreeing.Goals as goal
 use Rattle.su_refute.proofs.nets.agreeing.Goals.{then-has+then-agree_at, else-has, else-has-via-then-has+else-agree_at, else-has-via-else-has}
@@ -16,20 +16,20 @@ returns-then-is_empty c = λ i. (
 )
 
 pub loop-i-init : goal.loop-i-init
-loop-i-init c = λ j. collect_none (λ j. bit_at c.args.mask j ≡ 1) (λ j. AgreeAt c.args.places.now c.args.target.now (row_of c.args.t.now j)) j
+loop-i-init c = λ j. collect_none (λ j. bit_at c.args.mask j ≡ 1) (λ j. AgreeInPlaces c.args.places.now c.args.target.now (row_of c.args.t.now j)) j
 
 pub loop-i-preserved : goal.loop-i-preserved
 loop-i-preserved c =
     let t = c.args.t.now in let i = c.loop-i.i in
     let A = λ (j : ℕ). bit_at c.args.mask j ≡ 1 in
-    let B = λ (j : ℕ). AgreeAt c.args.places.now c.args.target.now (row_of t j) in
+    let B = λ (j : ℕ). AgreeInPlaces c.args.places.now c.args.target.now (row_of t j) in
     elim c.if-has.branch [
       | then-has+then-agree_at w ↦
-          collect_more A B c.loop-i.set c.if-has.set i (c.has.ensures.0 w.if-has.true) (subst (AgreeAt c.args.places.now c.args.target.now) w.row.ensures.is (w.agree_at.ensures.0 w.if-agree_at.true))
+          collect_more A B c.loop-i.set c.if-has.set i (c.has.ensures.0 w.if-has.true) (subst (AgreeInPlaces c.args.places.now c.args.target.now) w.row.ensures.is (w.agree_at.ensures.0 w.if-agree_at.true))
           (λ j ne. ap (λ m. bit_at m j) w.set-is ∙ w.with-set.ensures.same j ne) (ap (λ m. bit_at m i) w.set-is ∙ w.with-set.ensures.member) c.loop-i.invariant
       | else-has w ↦ collect_same A B c.loop-i.set c.if-has.set i w.set-is (λ a b.
           elim w.else-has.branch [
-            | else-has-via-then-has+else-agree_at w' ↦ true≢false (sym (w'.agree_at.ensures.1 (subst (AgreeAt c.args.places.now c.args.target.now) (sym w'.row.ensures.is) b)) ∙ w'.if-agree_at.false)
+            | else-has-via-then-has+else-agree_at w' ↦ true≢false (sym (w'.agree_at.ensures.1 (subst (AgreeInPlaces c.args.places.now c.args.target.now) (sym w'.row.ensures.is) b)) ∙ w'.if-agree_at.false)
             | else-has-via-else-has w' ↦ true≢false (sym (c.has.ensures.1 a) ∙ w'.if-has.false)
           ]) c.loop-i.invariant
     ]

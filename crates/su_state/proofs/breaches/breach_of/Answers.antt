@@ -1,6 +1,5 @@
 -- The row breaks the dependency through no object so far, so what is found through the next one is the first; a breach is through an object of the schema, so at the end there is none.
-use Rattle.std.proofs.Common.{◌<◌, length, refl, arith}
-use borrow.Author.Count.{below_more}
+use Rattle.std.proofs.Common.{◌<◌, length, refl, arith, below_more}
 use Rattle.std.proofs.lemmas.Option.{slice_get_within}
 use Rattle.su_state.specs.Breaches.{Breach, IsBreachWith}
 use Rattle.su_state.specs.inside.SomeBreaches.{OfDependency, ThroughObject, breach_found}

@@ -1,6 +1,5 @@
 -- The row breaks none of the dependencies so far, so what is found of the next one is the first; a breach is of a dependency of the schema, so at the end there is none.
-use Rattle.std.proofs.Common.{◌<◌, length, refl, ap, arith}
-use borrow.Author.Count.{below_more}
+use Rattle.std.proofs.Common.{◌<◌, length, refl, ap, arith, below_more}
 use Rattle.std.proofs.lemmas.Option.{slice_get_within}
 use Rattle.su_state.specs.Breaches.{Breach, IsBreachWith}
 use Rattle.su_state.specs.inside.SomeBreaches.{OfDependency, breach_found}

@@ -1,6 +1,5 @@
 -- The values so far have their columns' kinds, so the first that hasn't is the fault; a row of the right width with no such value fits.
-use Rattle.std.proofs.Common.{◌≡◌, ◌<◌, ◌+◌, ℕ, slice_get, length, Some, refl, sym, ap, ◌∙◌, arith}
-use borrow.Author.Count.{below_more}
+use Rattle.std.proofs.Common.{◌≡◌, ◌<◌, ◌+◌, ℕ, slice_get, length, Some, refl, sym, ap, ◌∙◌, arith, below_more}
 use Rattle.std.proofs.lemmas.Bool.{false≢true}
 use Rattle.std.proofs.lemmas.Option.{slice_get-get_or}
 use Rattle.su_base.specs.declared.values.Value.{Value}

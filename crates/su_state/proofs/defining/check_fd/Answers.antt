@@ -1,6 +1,5 @@
 -- The dependency is broken through no object so far, so the first breach through the next one is its first; a breach is through an object of the schema, so at the end there is none.
-use Rattle.std.proofs.Common.{◌<◌, Result, length, refl, sym, subst, arith}
-use borrow.Author.Count.{below_more}
+use Rattle.std.proofs.Common.{◌<◌, Result, length, refl, sym, subst, arith, below_more}
 use Rattle.std.specs.Prelude.{IfErr}
 use Rattle.std.proofs.lemmas.Option.{slice_get_within}
 use Rattle.std.proofs.lemmas.Result.{err_from_is_err_and}

@@ -1,6 +1,5 @@
 -- None of the dependencies so far is broken through the object, so the first breach of the next one is the object's first; a breach is of a dependency of the schema, so at the end there is none.
-use Rattle.std.proofs.Common.{◌<◌, Result, length, refl, sym, ap, subst, arith}
-use borrow.Author.Count.{below_more}
+use Rattle.std.proofs.Common.{◌<◌, Result, length, refl, sym, ap, subst, arith, below_more}
 use Rattle.std.specs.Prelude.{IfErr}
 use Rattle.std.proofs.lemmas.Option.{slice_get_within}
 use Rattle.std.proofs.lemmas.Result.{err_from_is_err_and}

@@ -1,6 +1,5 @@
 -- The dependencies so far are kept through every object, and what could be broken is one of the schema's; so at the end all are kept.
-use Rattle.std.proofs.Common.{◌<◌, ◌++◌, ℕ, length, ap, arith}
-use borrow.Author.Count.{below_more}
+use Rattle.std.proofs.Common.{◌<◌, ◌++◌, ℕ, length, ap, arith, below_more}
 use Rattle.std.proofs.lemmas.Bool.{OnTrue_at}
 use Rattle.std.proofs.lemmas.Option.{slice_get_within}
 use Rattle.su_state.specs.inside.AdmissibleRows.{KeepThrough}

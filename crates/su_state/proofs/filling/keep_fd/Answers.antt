@@ -1,6 +1,5 @@
 -- The dependency is kept through the objects so far, and it could be broken only through one of the schema's; so at the end it is kept.
-use Rattle.std.proofs.Common.{◌<◌, ◌++◌, length, arith}
-use borrow.Author.Count.{below_more}
+use Rattle.std.proofs.Common.{◌<◌, ◌++◌, length, arith, below_more}
 use Rattle.std.proofs.lemmas.Bool.{OnTrue_at}
 use Rattle.std.proofs.lemmas.Option.{slice_get_within}
 use Rattle.su_state.specs.inside.AdmissibleRows.{KeepThrough}

@@ -2,12 +2,12 @@
 use Rattle.std.proofs.Common.{◌≡◌, ◌∙◌, ◌<◌, ◌≤◌, sym, ap, subst, map, length, get_or, [], arith}
 use Rattle.std.specs.List.{flat_map, range_with_len}
 use Rattle.std.proofs.lemmas.List.{get_or_default}
+use Rattle.su_base.proofs.Items.{flat_map-range_push}
 use Rattle.su_where.specs.Disjunct.{disjuncts_of}
 use Rattle.su_steps.specs.Choices.{choices}
 use Rattle.su_steps.specs.Terms.{case_of, AreTermsOf}
 use Rattle.su_steps.specs.inside.Ready.{FitLiterals}
 use Rattle.su_steps.proofs.ResolvedQueries.{literals_fit}
-use Rattle.su_steps.proofs.TermsSoFar.{cases_flat}
 use Rattle.su_steps.proofs.making.accepted_terms.Goals as goal
 
 pub disjuncts-requires : goal.disjuncts-requires
@@ -53,7 +53,7 @@ pub loop-i-preserved : goal.loop-i-preserved
 loop-i-preserved c =
     let schema = c.args.schema.now in
     let q = c.args.resolved.now in
-    subst (λ cs. AreTermsOf schema c.args.maximal.now q cs c.push_terms.new.terms) (cases_flat (λ i. map (case_of i) (choices schema c.args.maximal.now q)) c.loop-i.i) (c.in_ok-push_terms.ensures _ c.loop-i.invariant)
+    subst (λ cs. AreTermsOf schema c.args.maximal.now q cs c.push_terms.new.terms) (sym (flat_map-range_push (λ i. map (case_of i) (choices schema c.args.maximal.now q)) c.loop-i.i)) (c.in_ok-push_terms.ensures _ c.loop-i.invariant)
 
 pub returns : goal.returns
 returns c =

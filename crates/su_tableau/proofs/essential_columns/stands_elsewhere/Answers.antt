@@ -1,8 +1,7 @@
 -- No masked row so far has the variable at another cell than the one left out, and only the row itself has a cell to leave out.
-use Rattle.std.proofs.Common.{◌≡◌, ◌≢◌, ℕ, arith, refl, sym, ◌∙◌, true≢false}
+use Rattle.std.proofs.Common.{◌≡◌, ◌≢◌, ℕ, arith, refl, sym, ◌∙◌, true≢false, below_more}
 use Rattle.su_tableau.specs.Essential.{HasSymbol}
 use Rattle.su_tableau.specs.declared.symbols.Sym.TheVariants.{Var}
-use Rattle.su_tableau.proofs.Rows.{below_more}
 use Rattle.su_tableau.proofs.EssentialCells.{elsewhere_found, elsewhere_none}
 use Rattle.su_tableau.proofs.essential_columns.stands_elsewhere.Goals as goal
 use Rattle.su_tableau.proofs.essential_columns.stands_elsewhere.Goals.{else-has-via-then-has+else-stands_in, else-has-via-else-has}

@@ -1,8 +1,7 @@
 -- No row so far has the variable; so where the rows end without it, a row that had it would be one of those looked at.
-use Rattle.std.proofs.Common.{[], get_or, Contains, sym, ◌∙◌, subst, arith, true≢false}
+use Rattle.std.proofs.Common.{[], get_or, Contains, sym, ◌∙◌, subst, arith, true≢false, below_more}
 use Rattle.std.proofs.lemmas.List.{get_or_default}
 use Rattle.su_tableau.specs.declared.symbols.Sym.TheVariants.{Var}
-use Rattle.su_tableau.proofs.Rows.{below_more}
 use Rattle.su_tableau.proofs.rules.occurs.Goals as goal
 
 pub loop-row-preserved : goal.loop-row-preserved

@@ -1,9 +1,8 @@
 -- The rows so far are sent to rows of the universe; a row that is not sent there shows that the valuation doesn't send them all.
-use Rattle.std.proofs.Common.{◌≡◌, [], get_or, Contains, refl, sym, ◌∙◌, subst, arith, true≢false}
+use Rattle.std.proofs.Common.{◌≡◌, [], get_or, Contains, refl, sym, ◌∙◌, subst, arith, true≢false, below_more}
 use Rattle.std.proofs.lemmas.List.{get_or_default}
 use Rattle.su_tableau.specs.Valuations.{nth, values_of}
 use Rattle.su_tableau.specs.Tableaux.{AreBelow}
-use Rattle.su_tableau.proofs.Rows.{below_more}
 use Rattle.su_tableau.proofs.valuations.holds.Goals as goal
 
 pub is_sent-requires : goal.is_sent-requires

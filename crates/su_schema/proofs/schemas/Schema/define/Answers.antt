@@ -7,3 +7,8 @@ pub returns-in-Object-clause-ok : goal.returns-in-Object-clause-ok
 returns-in-Object-clause-ok c =
     let same : c.args.definition.now ≡ Object c.as_str-in-Object.result.now c.as_str-in-Object-2.result.now c.as_slice-in-Object.result.now = cc in
     rw same c.object.ensures.ok
+
+pub returns-in-Object-clause-refused : goal.returns-in-Object-clause-refused
+returns-in-Object-clause-refused c =
+    let same : c.args.definition.now ≡ Object c.as_str-in-Object.result.now c.as_str-in-Object-2.result.now c.as_slice-in-Object.result.now = cc in
+    rw same c.object.ensures.refused

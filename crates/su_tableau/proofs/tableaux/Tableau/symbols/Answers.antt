@@ -1,8 +1,8 @@
 -- The number is above all variables of the head and the rows so far, and each bound of the tableau's variables is no less than it.
-use Rattle.std.proofs.Common.{[], get_or, subst, sym, arith}
+use Rattle.std.proofs.Common.{[], get_or, subst, sym, arith, below_more}
 use Rattle.std.proofs.lemmas.List.Elements.{All-from_get_or}
 use Rattle.su_tableau.specs.Tableaux.{AreBelow}
-use Rattle.su_tableau.proofs.Rows.{below_up, below_more}
+use Rattle.su_tableau.proofs.Rows.{below_up}
 use Rattle.su_tableau.proofs.tableaux.Tableau.symbols.Goals as goal
 
 pub loop-i-init : goal.loop-i-init

@@ -6,8 +6,8 @@ use Rattle.std.proofs.lemmas.List.{get_or_default, length-append, get_or_append_
 use Rattle.std.specs.List.{sum_by}
 use Rattle.std.proofs.lemmas.List.Sums.{sum_by-cons}
 use Rattle.std.proofs.lemmas.List.Elements.{Contains-push, Contains-push_cases, Contains-append_left, Contains-get_or}
+use Rattle.su_base.specs.Lists.{IsAscending, AreExactly}
 use Rattle.su_base.proofs.Items.{Contains-cases, Contains-head, Contains-later, Contains-nil}
-use Rattle.su_check.specs.Refutations.{IsAscending, AreExactly}
 
 -- ---- heads and tails
 
