@@ -99,12 +99,6 @@ const RICHER: Question = (
     "Smith /",
 );
 
-/// The accounts whose balance is at least their own: one term.
-const ACCOUNTS: Question = (
-    "retrieve (t.ACCT) where t.ACCT = ACCT and t.BAL >= BAL",
-    "1 /2 /",
-);
-
 /// Whether the answer is found through these gates.
 fn finds<R: Threads + Sync, F: Gate, G: Gate>(
     rt: &R,
@@ -180,26 +174,41 @@ fn one_worker_takes_the_terms_in_turn(rt: HostRuntime) -> Result<(), Fail> {
     Ok(())
 }
 
-/// Whether both answers are found, where the one term is executed while the other is minimised.
-fn find_side_by_side<R: Threads + Sync>(
+/// Whether the answers of both are found by two threads, each with two workers, where the one executes
+/// through the gate while the other minimises.
+fn find_side_by_side<R: Threads + Sync, G: Gate>(
     rt: &R,
     alloc: Global,
-    meeting: &Meeting,
+    questions: (Question, Question),
+    gates: (&G, &G),
 ) -> Result<(bool, bool), Fail> {
     let db = bank(alloc)?;
-    let answers = Caller { meeting, number: 0 };
-    let prepares = Caller { meeting, number: 1 };
     Ok(join(
         rt,
-        || finds(rt, alloc, &db, RICHER, 1, (&OpenGate, &answers)),
-        || finds(rt, alloc, &db, ACCOUNTS, 1, (&prepares, &OpenGate)),
+        || finds(rt, alloc, &db, questions.0, 2, (&OpenGate, gates.0)),
+        || finds(rt, alloc, &db, questions.1, 2, (gates.1, &OpenGate)),
     ))
 }
 
 #[test]
 fn one_thread_answers_while_another_prepares(rt: HostRuntime) -> Result<(), Fail> {
     let meeting = Meeting::default();
-    let found = find_side_by_side(&rt, rt.alloc(), &meeting)?;
-    assert_eq!(rt; (found, meeting.passes()), ((true, true), (1, 1, 0)));
+    let answers = Caller {
+        meeting: &meeting,
+        number: 0,
+    };
+    let prepares = Caller {
+        meeting: &meeting,
+        number: 1,
+    };
+    let found = find_side_by_side(&rt, rt.alloc(), (BANKS, BANKS), (&answers, &prepares))?;
+    assert_eq!(rt; (found, meeting.passes()), ((true, true), (2, 2, 0)));
+    Ok(())
+}
+
+#[test]
+fn two_threads_find_the_answers_of_two_queries(rt: HostRuntime) -> Result<(), Fail> {
+    let found = find_side_by_side(&rt, rt.alloc(), (BANKS, RICHER), (&OpenGate, &OpenGate))?;
+    assert_eq!(rt; found, (true, true));
     Ok(())
 }

@@ -78,13 +78,10 @@ module _ (fds : List Fd) (rows : List (List Sym)) (universe : List (List Value))
 
 -- ---- the answers of the named tableau
 
-module _ (fds : List Fd) (t : Tab) (names : List Sym) (are : (x : Sym) → IsClassName fds t.rows x (name_by names x)) where
-  abbrev name : Sym → Sym
-  name = name_by names
-
+module _ (fds : List Fd) (t : Tab) (name : Sym → Sym) (own : (c : Value) → name (Const c) ≡ Const c) (are : (x : Sym) → IsClassName fds t.rows x (name x)) where
   -- a valuation of the names is one of the symbols
   named_value : (w : ℕ → Value) (x : Sym) → value_of (λ k. value_of w (name (Var k))) x ≡ value_of w (name x)
-  named_value w (Const c) = refl
+  named_value w (Const c) = ap (value_of w) (sym (own c))
   named_value w (Var k) = refl
 
   pub to_chased : (universe : List (List Value)) (h : List Value) → Meets fds universe → Ext t universe h → Ext (named_tab name t) universe h
@@ -137,12 +134,9 @@ module _ (fds : List Fd) (t : Tab) (names : List Sym) (are : (x : Sym) → IsCla
 
 -- ---- the named tableau is valid
 
-module _ (t : Tab) (names : List Sym) where
-  abbrev by : Sym → Sym
-  by = name_by names
-
+module _ (t : Tab) (by : Sym → Sym) (own : (c : Value) → by (Const c) ≡ Const c) where
   occurs : IsValid t → (k : ℕ) (x : Sym) → Contains t.head x → by x ≡ Var k → Occurs (map (map by) t.rows) k
-  occurs is k (Const c) has e = absurd (cc)
+  occurs is k (Const c) has e = let f : Const c ≡ Var k = sym (own c) ∙ e in absurd (cc)
   occurs is k (Var j) has e =
       let o = is.head_occurs j has in
       let i = o.0 in
@@ -159,9 +153,9 @@ module _ (t : Tab) (names : List Sym) where
   pub small : IsSmall t → IsSmall (named_tab by t)
   small is = record { rows = let e = length-map t.rows (map by) in let r = is.rows in omega arith; width = is.width }
 
-  -- the head's variables have names, as the rows' have
-  pub head_below : IsValid t → (n : ℕ) → All (AreBelow n) t.rows → AreBelow n t.head
-  head_below is n all k c = let o = is.head_occurs k c in all o.0 [] o.1 k o.2
+-- the head's variables have names, as the rows' have
+pub head_below : (t : Tab) → IsValid t → (n : ℕ) → All (AreBelow n) t.rows → AreBelow n t.head
+head_below t is n all k c = let o = is.head_occurs k c in all o.0 [] o.1 k o.2
 
 pub rows_are : (fds : List Fd) (t : Tab) → IsValid t → IsSmall t → All (IsFdBelow t.width) fds → AreRows fds t.rows
 rows_are fds t is few below = record { width = t.width; few = let r = few.rows in omega arith; narrow = few.width; widths = is.widths; below = below }
@@ -235,41 +229,46 @@ module _ (fds : List Fd) (rows : List (List Sym)) (names : List Sym) (all : All 
 pub no_answer : (fds : List Fd) (t : Tab) (a b : Value) → a ≢ b → InOneClass fds t.rows (Const a) (Const b) → (universe : List (List Value)) (h : List Value) → Meets fds universe → Ext t universe h → ⊥
 no_answer fds t a b ne c universe h meets e = ne (one_value fds t.rows universe meets e.valuation e.holds (Const a) (Const b) c)
 
--- ---- the whole
+-- ---- the chased tableau
 
-module _ (fds : List Fd) (t : Tab) (is : IsValid t) (below : All (IsFdBelow t.width) fds) (names : List Sym) (all : All (AreBelow (length names)) t.rows) (are : (k : ℕ) → k < length names → IsClassName fds t.rows (Var k) (get_or names k (Var k))) (consistent : IsConsistent fds t.rows) (c : Tab) (c_is : c ≡ named_tab (name_by names) t) where
-  all_names : (x : Sym) → IsClassName fds t.rows x (name_by names x)
-  all_names = are_names fds t.rows names all are consistent t.width is.widths
+-- where no two constants meet, a constant is its own name
+pub own_name : (fds : List Fd) (rows : List (List Sym)) (name : Sym → Sym) → ((x : Sym) → IsClassName fds rows x (name x)) → IsConsistent fds rows → (c : Value) → name (Const c) ≡ Const c
+own_name fds rows name names consistent c =
+    elim (name (Const c)) as (λ x. name (Const c) ≡ x → x ≡ Const c) [
+      | Const b ↦ λ e. ap Const (sym (consistent c b (subst (InOneClass fds rows (Const c)) e (names (Const c)).member)))
+      | Var k ↦ λ e. absurd (subst (λ x. IsNoLater x (Const c)) e ((names (Const c)).least (Const c) (λ label p. refl)))
+    ] refl
 
-  pub chased : IsChased fds t c
-  chased = record { name = name_by names; names = all_names; consistent = consistent; is = c_is }
+module _ (fds : List Fd) (t c : Tab) (is : IsChased fds t c) where
+  own_here : (v : Value) → is.name (Const v) ≡ Const v
+  own_here = own_name fds t.rows is.name is.names is.consistent
 
   pub chased_answers : (universe : List (List Value)) (h : List Value) → Meets fds universe → Ext t universe h ↔ Ext c universe h
   chased_answers universe h meets = (
-    λ e. subst (λ (s : Tab). Ext s universe h) (sym c_is) (to_chased fds t names all_names universe h meets e),
-    λ e. from_chased fds t names all_names universe h (subst (λ (s : Tab). Ext s universe h) c_is e),
+    λ e. subst (λ (s : Tab). Ext s universe h) (sym is.is) (to_chased fds t is.name own_here is.names universe h meets e),
+    λ e. from_chased fds t is.name own_here is.names universe h (subst (λ (s : Tab). Ext s universe h) is.is e),
   )
 
   pub chased_typed : (kinds : Kinds) → IsTyped kinds t → IsTyped kinds c
-  chased_typed kinds k = subst (IsTyped kinds) (sym c_is) (typed fds t names all_names kinds k)
+  chased_typed kinds k = subst (IsTyped kinds) (sym is.is) (typed fds t is.name own_here is.names kinds k)
 
-  pub chased_settled : IsClosedPartition fds c.rows (λ x. x)
-  chased_settled = subst (λ (s : Tab). IsClosedPartition fds s.rows (λ x. x)) (sym c_is) (settled fds t.rows (name_by names) all_names t.width is.widths below)
+  pub chased_valid : IsValid t → IsValid c
+  chased_valid v = subst IsValid (sym is.is) (valid t is.name own_here v)
+
+  pub chased_settled : IsValid t → All (IsFdBelow t.width) fds → IsClosedPartition fds c.rows (λ x. x)
+  chased_settled v below = subst (λ (s : Tab). IsClosedPartition fds s.rows (λ x. x)) (sym is.is) (settled fds t.rows is.name is.names t.width v.widths below)
 
 -- the same from what `close` tells of rows that are the tableau's
 pub chase_told : (fds : List Fd) (t : Tab) → IsValid t → All (IsFdBelow t.width) fds → (names : List Sym) (rows : List (List Sym)) → rows ≡ t.rows → All (AreBelow (length names)) rows → ((k : ℕ) → k < length names → IsClassName fds rows (Var k) (get_or names k (Var k))) → (clash : Option (Value × Value))
     → MatchOption clash (IsConsistent fds rows) (λ p. IsClash fds rows p.0 p.1) → clash ≡ None → (c : Tab) → c ≡ named_tab (name_by names) t
     → IsChased fds t c × ((universe : List (List Value)) (h : List Value) → Meets fds universe → Ext t universe h ↔ Ext c universe h) × ((kinds : Kinds) → IsTyped kinds t → IsTyped kinds c) × IsClosedPartition fds c.rows (λ x. x)
-chase_told fds t is below names rows rows_is all are clash told none c c_is =
+chase_told fds t valid below names rows rows_is all are clash told none c c_is =
     let all' : All (AreBelow (length names)) t.rows = subst (λ (rs : List (List Sym)). All (AreBelow (length names)) rs) rows_is all in
     let are' : (k : ℕ) → k < length names → IsClassName fds t.rows (Var k) (get_or names k (Var k)) = subst (λ (rs : List (List Sym)). (k : ℕ) → k < length names → IsClassName fds rs (Var k) (get_or names k (Var k))) rows_is are in
     let here : IsConsistent fds rows = subst (λ (o : Option (Value × Value)). MatchOption o (IsConsistent fds rows) (λ p. IsClash fds rows p.0 p.1)) none told in
-    let consistent : IsConsistent fds t.rows = subst (λ (rs : List (List Sym)). IsConsistent fds rs) rows_is here in (
-      chased fds t is below names all' are' consistent c c_is,
-      chased_answers fds t is below names all' are' consistent c c_is,
-      chased_typed fds t is below names all' are' consistent c c_is,
-      chased_settled fds t is below names all' are' consistent c c_is,
-    )
+    let consistent : IsConsistent fds t.rows = subst (λ (rs : List (List Sym)). IsConsistent fds rs) rows_is here in
+    let is : IsChased fds t c = record { name = name_by names; names = are_names fds t.rows names all' are' consistent t.width valid.widths; consistent = consistent; is = c_is } in
+    (is, chased_answers fds t c is, chased_typed fds t c is, chased_settled fds t c is valid below)
 
 -- a clash leaves no answer
 pub clash_answers : (fds : List Fd) (t : Tab) (a b : Value) → a ≢ b → InOneClass fds t.rows (Const a) (Const b) → (universe : List (List Value)) (h : List Value) → Meets fds universe → Ext t universe h ↔ ⊥

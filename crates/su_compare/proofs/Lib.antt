@@ -6,3 +6,4 @@ pub mod Gathered
 pub mod UnmappedRows
 pub mod PlainTerms
 pub mod Comparable
+pub mod Decided

@@ -22,14 +22,12 @@ use Rattle.su_steps.specs.Terms.{InUnion}
 use Rattle.su_steps.specs.Laws.{TermsAreTheExpression, TermsAreValidAndTyped}
 use Rattle.su_compare.specs.declared.verdicts.Found.{Found}
 use Rattle.su_compare.specs.declared.verdicts.Reason.{Reason}
-use Rattle.su_compare.specs.declared.verdicts.Verdict.{Verdict}
-use Rattle.su_compare.specs.declared.verdicts.Verdict.TheVariants as verdict
-use Rattle.su_compare.specs.Within.{IsQueryWithin, IsCounterexample, AreOf}
+use Rattle.su_compare.specs.Within.{AreOf}
 use Rattle.su_compare.specs.Settled.{tab_at, IsBy, IsSettled}
-use Rattle.su_compare.specs.Verdict.{IsReason, IsYes, IfApart}
+use Rattle.su_compare.specs.Verdict.{IsReason}
 use Rattle.su_compare.specs.Comparable.{IsPlain, AreComparable}
-use Rattle.su_compare.specs.inside.Settlements.{IsAlike, AreAlike, IsAnswer, IsApartOver}
-use Rattle.su_compare.proofs.Settled.{tab_here}
+use Rattle.su_compare.specs.inside.Settlements.{IsAlike, AreAlike}
+use Rattle.su_compare.proofs.Settled.{tab_here, IsAnswer}
 
 pub max_left : (a b m : ℕ) → m ≡ ord_max nat_cmp a b → a ≤ m
 max_left a b m e = let g : m ≡ max a b = e ∙ ord_max-numbers a b in omega arith
@@ -73,13 +71,10 @@ fds_below schema t valid width k d low =
 pub record AreSettled (schema : SchemaValue) (first second : List Term) (i : ℕ) (reasons : List Reason) : Type 0 where
   pub one_each : length reasons ≡ i
   pub each : (k : ℕ) (d : Reason) → k < i → IsReason schema.fds first second k (get_or reasons k d)
-  pub answers : (k : ℕ) → k < i → (u : List (List Value)) (h : List Value) → IsUniverse (attribute_kinds schema) u → Meets schema.fds u → Ext (tab_at first k) u h → IsAnswer second u h
 
 pub one_settled : (schema : SchemaValue) (first second : List Term) (i : ℕ) (reasons new : List Reason) (by : Option Found) → new ≡ reasons ++ record { term = i; by = by } ∷ []
-    → IsBy schema.fds second (tab_at first i) by
-    → ((u : List (List Value)) (h : List Value) → IsUniverse (attribute_kinds schema) u → Meets schema.fds u → Ext (tab_at first i) u h → IsAnswer second u h)
-    → AreSettled schema first second i reasons → AreSettled schema first second (i + 1) new
-one_settled schema first second i reasons new by is settled answers before =
+    → IsBy schema.fds second (tab_at first i) by → AreSettled schema first second i reasons → AreSettled schema first second (i + 1) new
+one_settled schema first second i reasons new by is settled before =
     let r : Reason = record { term = i; by = by } in
     let n = before.one_each in
     let len = ap length is ∙ length-append reasons (r ∷ []) in
@@ -92,15 +87,10 @@ one_settled schema first second i reasons new by is settled answers before =
           (λ d.
           let e : get_or new i d ≡ r = ap (λ l. get_or l i d) is ∙ ap (λ k. get_or (reasons ++ r ∷ []) k d) (sym n) ∙ get_or-append_seam reasons r [] d in
           subst (IsReason schema.fds first second i) (sym e) (record { term = refl; by = settled }))) k low d;
-      answers = below_more (λ k. (u : List (List Value)) (h : List Value) → IsUniverse (attribute_kinds schema) u → Meets schema.fds u → Ext (tab_at first k) u h → IsAnswer second u h) i before.answers answers;
     }
 
 pub earlier_settled : (schema : SchemaValue) (first second : List Term) (i : ℕ) (reasons : List Reason) → AreSettled schema first second i reasons → (k : ℕ) → k < i → IsSettled schema.fds second (tab_at first k)
 earlier_settled schema first second i reasons are k low = let none : Reason = record { term = 0; by = None } in ((get_or reasons k none).by, (are.each k none low).by)
-
-pub all_answers : (schema : SchemaValue) (first second : List Term) (i : ℕ) (reasons : List Reason) → length first ≤ i → AreSettled schema first second i reasons
-    → (u : List (List Value)) (h : List Value) → IsUniverse (attribute_kinds schema) u → Meets schema.fds u → IsAnswer first u h → IsAnswer second u h
-all_answers schema first second i reasons all are u h typed meets answer = are.answers answer.0 (let low = answer.1 in omega arith) u h typed meets answer.2
 
 -- ---- queries
 
@@ -137,38 +127,9 @@ in_union schema n terms u h plain valid = (
 )
 
 -- the answers of the terms are the rows of the query
-answers_are : TermsAreTheExpression → TermsAreValidAndTyped → (schema : SchemaValue) (maximal : List (FinSet nat_cmp)) (q : Resolved) (n : ℕ) (terms : List Term) → schemas.IsValid schema → AreOf schema maximal q terms → All (IsPlain schema n) terms
+pub answers_are : TermsAreTheExpression → TermsAreValidAndTyped → (schema : SchemaValue) (maximal : List (FinSet nat_cmp)) (q : Resolved) (n : ℕ) (terms : List Term) → schemas.IsValid schema → AreOf schema maximal q terms → All (IsPlain schema n) terms
     → (u : List (List Value)) (h : List Value) → IsUniverse (attribute_kinds schema) u → Meets schema.fds u → IsAnswer terms u h ↔ InExpression schema maximal q (cuts schema u) h
 answers_are law typing schema maximal q n terms valid of' plain u h typed meets =
     let union = in_union schema n terms u h plain (typing schema maximal q terms valid of'.resolved of'.terms_are) in
     let same = law schema maximal q terms valid of'.resolved of'.terms_are u h typed meets in
     (λ a. same.0 (union.1 a), λ e. union.0 (same.1 e))
-
-pub within_queries : TermsAreTheExpression → TermsAreValidAndTyped → (schema : SchemaValue) (maximal : List (FinSet nat_cmp)) (p q : Resolved) (first second : List Term) → schemas.IsValid schema → AreComparable schema first second → AreOf schema maximal p first → AreOf schema maximal q second
-    → ((u : List (List Value)) (h : List Value) → IsUniverse (attribute_kinds schema) u → Meets schema.fds u → IsAnswer first u h → IsAnswer second u h) → IsQueryWithin schema maximal p q
-within_queries law typing schema maximal p q first second valid comparable of_p of_q all u h typed meets in_p =
-    let a = (answers_are law typing schema maximal p comparable.outputs first valid of_p comparable.first_plain u h typed meets).1 in_p in
-    (answers_are law typing schema maximal q comparable.outputs second valid of_q comparable.second_plain u h typed meets).0 (all u h typed meets a)
-
-counterexample : TermsAreTheExpression → TermsAreValidAndTyped → (schema : SchemaValue) (maximal : List (FinSet nat_cmp)) (p q : Resolved) (first second : List Term) → schemas.IsValid schema → AreComparable schema first second → AreOf schema maximal p first → AreOf schema maximal q second
-    → (u : List (List Value)) (h : List Value) → IsApartOver schema first second u h → IsCounterexample schema maximal p q u h
-counterexample law typing schema maximal p q first second valid comparable of_p of_q u h apart = record {
-  typed = apart.typed;
-  meets = apart.meets;
-  in_first = (answers_are law typing schema maximal p comparable.outputs first valid of_p comparable.first_plain u h apart.typed apart.meets).0 apart.in_first;
-  not_in_second = λ e. apart.not_in_second ((answers_are law typing schema maximal q comparable.outputs second valid of_q comparable.second_plain u h apart.typed apart.meets).1 e);
-}
-
-pub if_apart : (P Q : List (List Value) → List Value → Type 0) → ((u : List (List Value)) (h : List Value) → P u h → Q u h) → (v : Verdict) → IfApart v P → IfApart v Q
-if_apart P Q f (verdict.Within reasons) is = tt
-if_apart P Q f (verdict.Apart term universe head) is = f universe head is
-
-pub counterexamples : TermsAreTheExpression → TermsAreValidAndTyped → (schema : SchemaValue) (maximal : List (FinSet nat_cmp)) (p q : Resolved) (first second : List Term) → schemas.IsValid schema → AreComparable schema first second → AreOf schema maximal p first → AreOf schema maximal q second
-    → (v : Verdict) → IfApart v (IsApartOver schema first second) → IfApart v (IsCounterexample schema maximal p q)
-counterexamples law typing schema maximal p q first second valid comparable of_p of_q v apart =
-    if_apart (IsApartOver schema first second) (IsCounterexample schema maximal p q) (counterexample law typing schema maximal p q first second valid comparable of_p of_q) v apart
-
--- where there is a counterexample, the query is not within
-pub yes_if_within : (schema : SchemaValue) (maximal : List (FinSet nat_cmp)) (p q : Resolved) (v : Verdict) → IfApart v (IsCounterexample schema maximal p q) → IsQueryWithin schema maximal p q → IsYes v
-yes_if_within schema maximal p q (verdict.Within reasons) c within = tt
-yes_if_within schema maximal p q (verdict.Apart term universe head) c within = c.not_in_second (within universe head c.typed c.meets c.in_first)

@@ -14,7 +14,7 @@ use Rattle.su_map.proofs.Containment.{list_maps, maps_list, whole_maps, maps_who
 use Rattle.su_chase.specs.Chased.{IsChased}
 use Rattle.su_steps.specs.declared.results.Term.{Term}
 use Rattle.su_compare.specs.Settled.{tab_at, IsFirstOfAllRows, IsFound}
-use Rattle.su_compare.specs.inside.Settlements.{HasRoomFor, IsAlike, AreAlike, IsAnswer}
+use Rattle.su_compare.specs.inside.Settlements.{HasRoomFor, IsAlike, AreAlike}
 
 pub tab_here : (terms : List Term) (i : ℕ) (d : Term) → i < length terms → tab_at terms i ≡ (get_or terms i d).tableau
 tab_here terms i d low = get_or-map (λ t. t.tableau) terms i d (tab_at [] 0) low
@@ -63,6 +63,10 @@ alike_chased fds t c terms chased alike i low =
       outputs = a.outputs ∙ sym (ap (λ x. x.outputs) chased.is);
       operators = a.operators ∙ sym (ap (λ x. x.operators) chased.is);
     }
+
+-- h is an answer of one of the terms
+abbrev pub IsAnswer : List Term → List (List Value) → List Value → Type 0
+IsAnswer terms universe h = (i : ℕ) × (i < length terms) × Ext (tab_at terms i) universe h
 
 -- what maps into the chased tableau has the answers of the tableau
 pub found_answers : (terms : List Term) (c : Tab) (kinds : Kinds) (universe : List (List Value)) (h : List Value) (term : ℕ) (mapping : Certified) → IsUniverse kinds universe

@@ -16,8 +16,8 @@ use Rattle.su_schema.specs.Entries.{attribute_kinds}
 use Rattle.su_steps.specs.declared.results.Term.{Term}
 use Rattle.su_compare.specs.Settled.{tab_at, IsUnsettled}
 use Rattle.su_compare.specs.Counterexamples.{InTerms, IsShown}
-use Rattle.su_compare.specs.inside.Settlements.{IsAnswer}
 use Rattle.su_compare.proofs.Members.{ext_included}
+use Rattle.su_compare.proofs.Settled.{IsAnswer}
 use Rattle.su_compare.proofs.Constants.{chased_constants}
 
 pub avoided_by : (terms : List Term) (avoid : List Value) → ((v : Value) → InTerms terms v → Contains avoid v) → (i : ℕ) → i < length terms → AreAvoided avoid (tab_at terms i)

@@ -42,6 +42,11 @@ abbrev pub IfApart : Verdict → (List (List Value) → List Value → Type 0) �
 IfApart (Within reasons) P = Unit {0}
 IfApart (Apart term universe head) P = P universe head
 
+-- a yes just where the first query is within the second, and what a no shows is a counterexample
+pub record IsTrueOf (schema : SchemaValue) (maximal : List (FinSet nat_cmp)) (p q : Resolved) (v : Verdict) : Type 0 where
+  pub decides : IsYes v ↔ IsQueryWithin schema maximal p q
+  pub apart : IfApart v (IsCounterexample schema maximal p q)
+
 -- a yes just where a query with the first terms is within one with the second
 abbrev pub Decides : SchemaValue → List Term → List Term → Verdict → Type 0
 Decides schema first second v =

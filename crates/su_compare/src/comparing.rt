@@ -1,9 +1,10 @@
 //! Two queries compared by their terms.
 ghost use Rattle.std.specs.Prelude.{IfOk};
 ghost use Rattle.su_compare.specs.Comparable.{AreComparable};
-ghost use Rattle.su_compare.specs.Verdict.{IsVerdict, IsYes, IfApart, Decides, ShowsApart};
-ghost use Rattle.su_compare.specs.inside.Settlements.{HasRoomFor, IsApartOver, AreWithin};
+ghost use Rattle.su_compare.specs.Verdict.{IsVerdict, Decides, ShowsApart};
+ghost use Rattle.su_compare.specs.inside.Settlements.{HasRoomFor};
 
+use crate::laws::verdicts_decide;
 use crate::settling::{Settled, settle};
 use crate::shown::show_apart;
 use crate::verdicts::{Reason, Verdict};
@@ -13,7 +14,6 @@ use su_chase::Frozen;
 use su_map::Room;
 use su_schema::Schema;
 use su_steps::Term;
-use su_steps::laws::{terms_are_the_expression, terms_are_valid_and_typed};
 
 /// A room for searches from each of the terms.
 fn room_for(alloc: Global, terms: &[Term]) -> Result<Room, NoMemory>
@@ -37,9 +37,7 @@ fn compared(
     second: &[Term],
 ) -> Result<Verdict, NoMemory>
     requires comparable { AreComparable schema.now first.now second.now }
-    ensures verdict { IfOk result (IsVerdict schema.now first.now second.now) }
-    ensures within { IfOk result (λ v. IsYes v → AreWithin schema.now first.now second.now) }
-    ensures apart { IfOk result (λ v. IfApart v (IsApartOver schema.now first.now second.now)) }
+    ensures { IfOk result (IsVerdict schema.now first.now second.now) }
 {
     schema.keeps_its_rules();
     let mut room = room_for(alloc, second)?;
@@ -49,7 +47,7 @@ fn compared(
         match settle(alloc, &mut room, schema.fds(), t, second)? {
             Settled::By(by) => reasons.push(Reason { term: i as u16, by })?,
             Settled::Open(c) => {
-                let Frozen { universe, head } = show_apart(alloc, schema, first, second, t, &c)?;
+                let Frozen { universe, head } = show_apart(alloc, schema, first, second, &c)?;
                 return Ok(Verdict::Apart {
                     term: i as u16,
                     universe,
@@ -77,8 +75,7 @@ pub fn within(
     ensures apart { IfOk result (ShowsApart schema.now first.now second.now) }
 {
     schema.keeps_its_rules();
-    terms_are_the_expression();
-    terms_are_valid_and_typed();
+    verdicts_decide();
     let verdict = compared(alloc, schema, first, second)?;
     Ok(verdict)
 }

@@ -1,10 +1,9 @@
 //! Whether a term of the one query is settled by the terms of the other.
 ghost use Rattle.std.specs.Prelude.{◌≡◌, ◌<◌, ◌≤◌, ℕ, length, All, IfOk, OnOk, MatchOption};
-ghost use Rattle.su_tableau.specs.Kinds.{Kinds, IsTyped};
 ghost use Rattle.su_tableau.specs.Mapping.{Maps};
 ghost use Rattle.su_chase.specs.Chased.{IsFdBelow};
 ghost use Rattle.su_compare.specs.Settled.{tab_at, IsFound};
-ghost use Rattle.su_compare.specs.inside.Settlements.{HasRoomFor, AreAlike, IsSettlement, IsTypedOpen, AlwaysAnswers};
+ghost use Rattle.su_compare.specs.inside.Settlements.{HasRoomFor, AreAlike, IsSettlement};
 
 use crate::verdicts::Found;
 use std::alloc::Global;
@@ -88,8 +87,6 @@ pub fn settle(
     requires alike { AreAlike t.now terms.now }
     requires below { All (IsFdBelow t.now.width) fds.now }
     ensures settled { IfOk result (IsSettlement fds.now terms.now t.now) }
-    ensures answers { IfOk result (AlwaysAnswers fds.now terms.now t.now) }
-    ensures typed { IfOk result (λ s. (kinds : Kinds) → IsTyped kinds t.now → IsTypedOpen kinds s) }
     ensures room { OnOk result (HasRoomFor terms.now room.new) }
 {
     match chase(alloc, fds, t)? {

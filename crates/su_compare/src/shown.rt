@@ -1,14 +1,10 @@
 //! The rows that show that a term isn't settled.
-ghost use Rattle.std.specs.Prelude.{◌≡◌, ◌↔◌, ◌⊎◌, ◌<◌, ◌++◌, ℕ, length, Contains, IfOk, OnOk};
+ghost use Rattle.std.specs.Prelude.{◌≡◌, ◌↔◌, ◌⊎◌, ◌++◌, Contains, IfOk, OnOk};
 ghost use Rattle.su_base.specs.declared.values.Value.{Value as AValue};
-ghost use Rattle.su_tableau.specs.Valuations.{Ext};
-ghost use Rattle.su_tableau.specs.Kinds.{IsUniverse, IsTyped};
+ghost use Rattle.su_tableau.specs.Kinds.{IsTyped};
 ghost use Rattle.su_schema.specs.Entries.{attribute_kinds};
-ghost use Rattle.su_chase.specs.Chase.{IsClosedPartition};
-ghost use Rattle.su_fd.specs.MetDependencies.{Meets};
-ghost use Rattle.su_compare.specs.Settled.{tab_at, IsUnsettled};
 ghost use Rattle.su_compare.specs.Counterexamples.{InTerms, IsShown};
-ghost use Rattle.su_compare.specs.inside.Settlements.{IsAnswer, constants_in, tab_constants, terms_constants};
+ghost use Rattle.su_compare.specs.inside.Settlements.{constants_in, tab_constants, terms_constants};
 
 use std::alloc::Global;
 use su_base::{Kind, List, NoMemory, Value, sorted_rows, sorted_values};
@@ -72,27 +68,18 @@ fn constants_of(alloc: Global, first: &[Term], second: &[Term]) -> Result<List<V
     Ok(sorted_values(constants))
 }
 
-/// The frozen rows of a chased term that isn't settled, ascending, each once, and its frozen head: a
-/// universal relation over which that is an answer of the term and of none of the second's.
+/// The frozen rows of a chased term, ascending, each once, and its frozen head. The constants of all
+/// terms are avoided, so that no term answers the frozen head but one that maps into the chased one.
 pub fn show_apart(
     alloc: Global,
     schema: &Schema,
     first: &[Term],
     second: &[Term],
-    t: &Tableau,
     c: &Tableau,
 ) -> Result<Frozen, NoMemory>
-    requires term { (i : ℕ) × (i < length first.now) × (tab_at first.now i ≡ t.now) }
-    requires typed { IsTyped (attribute_kinds schema.now) c.now }
-    requires unsettled { IsUnsettled schema.now.fds second.now t.now c.now }
-    requires closed { IsClosedPartition schema.now.fds c.now.rows (λ x. x) }
-    ensures shown { IfOk result (IsShown schema.now first.now second.now c.now) }
-    ensures universe { IfOk result (λ f. IsUniverse (attribute_kinds schema.now) f.universe) }
-    ensures meets { IfOk result (λ f. Meets schema.now.fds f.universe) }
-    ensures answer { IfOk result (λ f. Ext c.now f.universe f.head) }
-    ensures none { IfOk result (λ f. IsAnswer second.now f.universe f.head → ⊥) }
+    requires { IsTyped (attribute_kinds schema.now) c.now }
+    ensures { IfOk result (IsShown schema.now first.now second.now c.now) }
 {
-    t.keeps_its_rules();
     let kinds = kinds_of(alloc, schema)?;
     let avoid = constants_of(alloc, first, second)?;
     let frozen = freeze(alloc, kinds.as_slice(), c, avoid.as_slice())?;

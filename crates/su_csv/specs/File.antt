@@ -9,7 +9,7 @@ use Rattle.su_csv.specs.declared.faults.CsvFault.{CsvFault}
 use Rattle.su_csv.specs.declared.faults.CsvFault.TheVariants.{Header}
 use Rattle.su_csv.specs.Record.{row_or_fault}
 
--- the records of a file: one byte order mark is taken off, and `csv` reads the rest
+-- the records of a file: a byte order mark is taken off, a second one as the reader of `csv` does, and what is left is read
 abbrev pub records_of : List ℕ → List (List (List ℕ))
 records_of file = records default_config (strip_bom (strip_bom file))
 

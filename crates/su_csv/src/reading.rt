@@ -70,7 +70,7 @@ fn rows_under_header(
 /// The rows of a CSV file under a header of the column names, one row a record.
 ///
 /// A byte order mark at the start is dropped, and the rest is read as the `csv` crate does at its
-/// default settings. Records are counted from 1 after the header and columns from 0. The first
+/// default settings, which drops a second one. Records are counted from 1 after the header and columns from 0. The first
 /// record with a fault decides; within it the faults come in their order, and then from the left.
 /// One pass over the bytes, of which no more than one record is held beside the rows.
 pub fn read(alloc: Global, bytes: &[u8], columns: &[Column]) -> Result<List<Row>, CsvFault>

@@ -1,5 +1,5 @@
 -- The text of a schema.
--- line: a definition's symbols, spaced, and a full stop
+-- line: a definition's symbols, spaced, and a semicolon
 use Rattle.std.specs.Prelude.{ℕ, List, [], ◌∷◌, ◌++◌}
 use Rattle.su_lex.specs.Spelling.{spaced}
 use Rattle.su_schema.specs.declared.definitions.Definition.{Definition}

@@ -122,6 +122,7 @@ fn add_all(
 pub struct PlainRows<'a, L: Ledger> {
     tables: &'a [PlainTable],
     steps: Steps<L>,
+    fetched: u64,
 }
 
 impl<'a, L: Ledger> PlainRows<'a, L> {
@@ -135,7 +136,13 @@ impl<'a, L: Ledger> PlainRows<'a, L> {
         PlainRows {
             tables,
             steps: Steps::new(blank),
+            fetched: 0,
         }
+    }
+
+    /// How many rows were fetched, as a number to be read; at its type's end it stays there.
+    pub fn fetched(&self) -> u64 {
+        self.fetched
     }
 }
 
@@ -170,6 +177,7 @@ impl<'a, L: Ledger> Rows for PlainRows<'a, L> {
 
     fn fetch(&mut self, table: u8, i: usize) -> &Row {
         self.steps.tick();
+        self.fetched = self.fetched.saturating_add(1);
         self.tables[table as usize].rows().get(i)
     }
 }

@@ -504,6 +504,53 @@ fn rows_are_joined_over_their_sources(rt: HostRuntime) -> Result<(), Fail> {
     Ok(())
 }
 
+/// How many rows are fetched for the task from copies of the tables' rows.
+fn fetches_of<L: Ledger>(
+    alloc: Global,
+    tables: &[Table],
+    task: &Task,
+    blank: Blank,
+) -> Result<u64, ExecFault>
+    requires task { IsTask tables.now task.now }
+    requires name { blank.name ≡ L.name }
+    requires parts { blank.parts ≡ L.parts }
+    requires some { 0 < blank.parts }
+{
+    let plain = plain_tables(alloc, tables)?;
+    let mut rows = PlainRows::<L>::new(plain.as_slice(), blank);
+    execute(alloc, task, &mut rows, 9)?;
+    Ok(rows.fetched())
+}
+
+/// How many rows are fetched for the task, which is to be one over the tables.
+fn fetches(
+    rt: &impl Abort,
+    alloc: Global,
+    tables: &[Table],
+    task: &Task,
+) -> Result<u64, ExecFault> {
+    assert!(rt; fits(tables, task));
+    fetches_of::<Brand>(alloc, tables, task, Blank::new(1))
+}
+
+/// Whether the bank of Jones is found with so many fetches or fewer.
+fn finds_with(rt: &impl Abort, alloc: Global, most: u64) -> Result<bool, Fail> {
+    let tables = bank(rt, alloc)?;
+    let asked = task(alloc, "B A : 001; A Jones : 201", "B", "")?;
+    match fetches(rt, alloc, tables.as_slice(), &asked) {
+        Ok(count) => Ok(count <= most),
+        Err(fault) => Err(Fail::from(fault)),
+    }
+}
+
+#[test]
+fn the_bank_of_jones_takes_three_fetches_at_most(rt: HostRuntime) -> Result<(), Fail> {
+    // two rows of banks, among which no constant chooses, and the one account of Jones
+    let found = finds_with(&rt, rt.alloc(), 3)?;
+    assert!(rt; found);
+    Ok(())
+}
+
 /// The rows of each component, as words.
 fn shown(alloc: Global, parts: &List<List<u8>>) -> Result<String, Fail> {
     let mut text = String::new(alloc);

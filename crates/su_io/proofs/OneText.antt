@@ -3,8 +3,9 @@ use Rattle.std.proofs.Common.{◌≡◌, ◌≢◌, ◌≤◌, ◌⊎◌, ◌∙
 use Rattle.su_io.specs.declared.status.Status.{Status}
 use Rattle.su_io.specs.declared.status.Status.TheVariants.{Done, SomeRefused, Usage, BadSchema, ReadFault, WriteFault, TooLong, NoMemory}
 use Rattle.su_io.specs.Moments.{Moment}
-use Rattle.su_io.specs.Programs.{OneText, Tells, TellsOfFile, UsageEnds}
+use Rattle.su_io.specs.Programs.{StopsOver, OneText, Tells, TellsOfFile, UsageEnds}
 use Rattle.su_io.specs.FileEnds.{FileEnds}
+use Rattle.su_io.specs.HandOver.{AllIsOver}
 use Rattle.su_io.specs.WrittenTexts.{Wrote, IsTold}
 use Rattle.su_io.proofs.Programs.{WritingEnds-from, read_within}
 use Rattle.su_io.proofs.WrittenTexts.{Wrote-none}
@@ -12,6 +13,17 @@ use Rattle.su_io.proofs.WrittenTexts.{Wrote-none}
 -- a text with one of these statuses
 abbrev pub IsOwn : Status → Type 0
 IsOwn status = (status ≢ ReadFault) × (status ≢ TooLong)
+
+-- no program that ends so stops at a file
+pub no_stop : (status : Status) → IsOwn status → (old new : Moment) → StopsOver old new status
+no_stop Done own old new = tt
+no_stop SomeRefused own old new = tt
+no_stop Usage own old new = tt
+no_stop BadSchema own old new = tt
+no_stop ReadFault own old new = absurd (own.0 refl)
+no_stop WriteFault own old new = tt
+no_stop TooLong own old new = absurd (own.1 refl)
+no_stop NoMemory own old new = tt
 
 module _ (Says : Status → List ℕ → Type 0) (came : Status) (text : List ℕ) (says : Says came text) (one : OneText Says came (text ∷ [])) (own : IsOwn came) where
   pub one_of : (status : Status) → (status ≡ came) ⊎ (status ≡ WriteFault) → OneText Says status (text ∷ [])
@@ -37,6 +49,7 @@ module _ (Says : Status → List ℕ → Type 0) (came : Status) (text : List �
     begun = ap (λ (m : Moment). m.begun) told.rest ∙ begun;
     reading = read_within file most old new status (own_of status told.status_is).0 (own_of status told.status_is).1 (ap (λ (m : Moment). m.reads) told.rest ∙ reads) (rw (ap (λ (m : Moment). m.taken) told.rest) taken);
     writing = WritingEnds-from (text ∷ []) old mid new same writes status told.writing;
+    over = no_stop status (own_of status told.status_is) old new;
   }
 
 pub usage_told : (line : List ℕ) (old new : Moment) (status : Status) → IsTold line Usage old new status → UsageEnds line old new status
@@ -57,14 +70,17 @@ module _ (Says : Status → List ℕ → Type 0) (file : List ℕ) (most : ℕ) 
   nothing : Wrote old.told new.told []
   nothing = rw told (Wrote-none old.told)
 
+  all_over : AllIsOver old.told → AllIsOver new.told
+  all_over before = rw told before
+
   -- there was no memory behind it
   pub no_memory : new.reads ≡ old.reads → new.taken ≤ most → TellsOfFile file most Says old new NoMemory
-  no_memory reads taken = inl record { path = file; limit = most; texts = []; holds = (refl, refl, refl); begun = begun; reading = (reads, taken); writing = (writes, nothing) }
+  no_memory reads taken = inl record { path = file; limit = most; texts = []; holds = (refl, refl, refl); begun = begun; reading = (reads, taken); writing = (writes, nothing); over = tt }
 
   -- it was not read
   pub file_fails : (status : Status) → FileEnds file most old new (Err status) → TellsOfFile file most Says old new status
-  file_fails ReadFault ends = inl record { path = file; limit = most; texts = []; holds = (refl, refl, refl); begun = begun; reading = ends; writing = (writes, nothing) }
-  file_fails TooLong ends = inl record { path = file; limit = most; texts = []; holds = (refl, refl, refl); begun = begun; reading = ends; writing = (writes, nothing) }
+  file_fails ReadFault ends = inl record { path = file; limit = most; texts = []; holds = (refl, refl, refl); begun = begun; reading = ends; writing = (writes, nothing); over = all_over }
+  file_fails TooLong ends = inl record { path = file; limit = most; texts = []; holds = (refl, refl, refl); begun = begun; reading = ends; writing = (writes, nothing); over = all_over }
   file_fails NoMemory ends = no_memory ends.0 ends.1
   file_fails Done ends = absurd ends
   file_fails SomeRefused ends = absurd ends

@@ -2,6 +2,7 @@ pub mod Causes
 pub mod Ends
 pub mod FileEnds
 pub mod Files
+pub mod Fronts
 pub mod HandOver
 pub mod Moments
 pub mod Programs

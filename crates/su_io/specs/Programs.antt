@@ -1,11 +1,18 @@
--- How a program ends, up to the hand-over.
+-- How a program ends, up to the hand-over at its end.
 -- text: what is handed over by one whole write; old, new: the outside before and after; Says: which text is told with which status
-use Rattle.std.specs.Prelude.{◌≡◌, ◌≢◌, ◌⊎◌, ◌∷◌, [], ℕ, List, Some}
+use Rattle.std.specs.Prelude.{◌≡◌, ◌≢◌, ◌⊎◌, ◌∷◌, [], ⊤, ℕ, List, Some}
 use Rattle.su_io.specs.declared.status.Status.{Status}
 use Rattle.su_io.specs.declared.status.Status.TheVariants.{Usage, ReadFault, WriteFault, TooLong, NoMemory}
 use Rattle.su_io.specs.Moments.{Moment}
 use Rattle.su_io.specs.FileEnds.{ReadingEnds}
+use Rattle.su_io.specs.HandOver.{AllIsOver, HandsAllOver}
 use Rattle.su_io.specs.WrittenTexts.{WritingEnds}
+
+-- a program that ends since its file is not read leaves nothing to hand over
+abbrev pub StopsOver : Moment → Moment → Status → Type 0
+StopsOver old new ReadFault = AllIsOver old.told → AllIsOver new.told
+StopsOver old new TooLong = AllIsOver old.told → AllIsOver new.told
+StopsOver old new status = ⊤
 
 -- with its file begun last, that file's limit, and its texts, of which a fact is given; how the reading of the one and the
 -- writing of the others ended
@@ -17,10 +24,11 @@ pub record ReadsAndTells (P : List ℕ → ℕ → List (List ℕ) → Type 0) (
   pub begun : new.begun ≡ Some path
   pub reading : ReadingEnds path limit old new status
   pub writing : WritingEnds texts old new status
+  pub over : StopsOver old new status
 
 -- so, or for want of memory before any file was begun
 abbrev pub Ends : (List ℕ → ℕ → List (List ℕ) → Type 0) → Moment → Moment → Status → Type 0
-Ends P old new status = ReadsAndTells P old new status ⊎ ((status ≡ NoMemory) × (new ≡ old))
+Ends P old new status = ReadsAndTells P old new status ⊎ ((status ≡ NoMemory) × ((new ≡ old) ⊎ HandsAllOver old new))
 
 -- the texts of a program that tells one text: that text, with its status or with that of a failed write, or none
 abbrev pub OneText : (Status → List ℕ → Type 0) → Status → List (List ℕ) → Type 0

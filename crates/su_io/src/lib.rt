@@ -9,9 +9,11 @@
 //! for the file alone; a whole write takes none.
 #![tactic(auto)]
 
+mod buffered_sink;
 mod ends;
 mod file_shelf;
 mod files;
+mod holding_sink;
 mod memory_shelf;
 mod memory_sink;
 mod outside;
@@ -26,9 +28,11 @@ mod stream_sink;
 mod whole;
 mod words;
 
+pub use buffered_sink::BufferedSink;
 pub use ends::{Failed, ReadEnd};
 pub use file_shelf::FileShelf;
 pub use files::File;
+pub use holding_sink::HoldingSink;
 pub use memory_shelf::MemoryShelf;
 pub use memory_sink::MemorySink;
 pub use outside::Outside;

@@ -1,15 +1,17 @@
 //! A sink in memory, some of whose calls fail.
 ghost use Rattle.std.specs.Prelude.{◌++◌, ◌&&◌, nat_le, ◌^◌, min, ◌-◌, ◌≡◌, ◌≤◌, ◌<◌, ◌+◌, ◌↔◌, IsErr, OnErr, Contains, take, length, [], None, true, IfOk, vec_len, vec_capacity};
 ghost use Rattle.su_io.specs.Causes.{HasCause};
-ghost use Rattle.su_io.specs.Ends.{Grew, says};
+ghost use Rattle.su_io.specs.Ends.{Grew, Stays, Extends, says};
+ghost use Rattle.su_io.specs.Fronts.{says_front};
 
 use crate::rooms::keep;
 use crate::{Failed, Sink};
 use std::alloc::Global;
 use su_base::{List, NoMemory};
 
-/// Bytes in memory, up to a room that is taken when it is made. Calls, the hand-over at the end among
-/// them, are numbered from 0, and those whose numbers were given fail. Past its room it tells nothing of what was written.
+/// Bytes in memory, up to a room that is taken when it is made. It holds nothing back: what was written
+/// is over. Its calls, flushes among them, are numbered from 0, and those whose numbers were given fail. Past its
+/// room it tells nothing of what was written.
 #[derive(Drop)]
 pub struct MemorySink {
     bytes: Vec<u8>,
@@ -76,6 +78,8 @@ impl Sink for MemorySink {
 
     ghost handed = { λ s. None };
 
+    ghost over = { λ s. says s.told s.bytes.items };
+
     ghost faults = { λ s. s.faults };
 
     /// The trait's clauses, when the call fails, how much it takes, and what it stores and tells of that.
@@ -84,6 +88,8 @@ impl Sink for MemorySink {
         ensures progress { IfOk result (λ count. 0 < length bytes.now → 0 < count) }
         ensures grew { IfOk result (λ count. Grew (says self.old.told self.old.bytes.items) (says self.new.told self.new.bytes.items) (take count bytes.now)) }
         ensures kept { OnErr result ((self.new.bytes ≡ self.old.bytes) × (self.new.told ≡ self.old.told)) }
+        ensures stays { OnErr result (Stays (says self.old.told self.old.bytes.items) (says self.new.told self.new.bytes.items)) }
+        ensures over { Extends (says self.old.told self.old.bytes.items) (says self.new.told self.new.bytes.items) }
         ensures cause { HasCause self.old.faults self.new.faults result }
         ensures when { IsErr result ↔ Contains self.old.fails self.old.calls }
         ensures counted { self.new.calls ≡ min (self.old.calls + 1) (2 ^ 64 - 1) }
@@ -96,13 +102,15 @@ impl Sink for MemorySink {
         self.next_call()?;
         let count = bytes.len().min(self.piece);
         let all = keep(&mut self.bytes, self.room, &bytes[..count]);
-        self.told = self.told && all;
+        self.told &= all;
         Ok(count)
     }
 
     /// The trait's clauses, and when the call fails.
     fn flush(&mut self) -> Result<(), Failed>
         ensures written { (self.new.bytes ≡ self.old.bytes) × (self.new.told ≡ self.old.told) }
+        ensures kept { Stays (says self.old.told self.old.bytes.items) (says self.new.told self.new.bytes.items) }
+        ensures over { Extends (says self.old.told self.old.bytes.items) (says self.new.told self.new.bytes.items) }
         ensures cause { HasCause self.old.faults self.new.faults result }
         ensures when { IsErr result ↔ Contains self.old.fails self.old.calls }
         ensures counted { self.new.calls ≡ min (self.old.calls + 1) (2 ^ 64 - 1) }
@@ -111,4 +119,6 @@ impl Sink for MemorySink {
     {
         self.next_call()
     }
+
+    ghost front = { λ s. says_front s.told s.bytes.items };
 }

@@ -2,7 +2,8 @@
 ghost use Rattle.std.specs.Prelude.{◌≡◌, ◌≢◌, ◌<◌, ◌^◌, [], ◌∷◌, Some, OnOk, OnErr};
 ghost use Rattle.su_io.specs.Moments.{Moment};
 ghost use Rattle.su_io.specs.Causes.{Rose};
-ghost use Rattle.su_io.specs.HandOver.{Closes};
+ghost use Rattle.su_io.specs.Ends.{IsFrontOf};
+ghost use Rattle.su_io.specs.HandOver.{HandOverEnds, HandsAllOver, FailsToHandOver};
 ghost use Rattle.su_io.specs.FileEnds.{FileEnds};
 ghost use Rattle.su_io.specs.WrittenTexts.{Wrote, WroteFront, IsTold};
 
@@ -29,7 +30,7 @@ impl<H: Shelf, K: Sink> Model for Outside<H, K> {
       taken = H.taken o.shelf;
       failed = H.failed o.shelf;
       reads = H.faults o.shelf;
-      told = record { written = K.written o.sink; handed = K.handed o.sink };
+      told = record { written = K.written o.sink; handed = K.handed o.sink; over = K.over o.sink };
       writes = K.faults o.sink;
     } };
 }
@@ -69,17 +70,37 @@ impl<H: Shelf, K: Sink> Outside<H, K> {
         }
     }
 
-    /// Hands over what the sink holds back, and gives the status of the whole program, which came to its
-    /// end with `came`. After a failed write nothing more is handed over.
-    pub fn hand_over(&mut self, came: Status) -> Status
-        ensures { Closes came self.old self.new result }
+    /// Hands over what the sink holds back.
+    pub fn flush(&mut self) -> Result<(), Failed>
+        ensures ok { OnOk result (HandsAllOver self.old self.new) }
+        ensures err { OnErr result (FailsToHandOver self.old self.new) }
     {
-        if came == Status::WriteFault {
-            return came;
+        self.sink.flush()
+    }
+
+    /// Hands over what the sink holds back, where a program that came to this status does.
+    fn flush_after(&mut self, came: Status) -> Status
+        ensures { HandOverEnds came self.old self.new result }
+    {
+        match came {
+            Status::ReadFault | Status::WriteFault | Status::TooLong => came,
+            _ => match self.flush() {
+                Ok(()) => came,
+                Err(_) => Status::WriteFault,
+            },
         }
-        match self.sink.flush() {
-            Ok(()) => came,
-            Err(_) => Status::WriteFault,
-        }
+    }
+
+    /// Hands over what the sink holds back at the end of a program, and gives its status: that which it came
+    /// to, or that of a failed write. After a failed write nothing more is handed over; where a file was not read, all is
+    /// over that was written before it was begun.
+    pub fn hand_over(&mut self, came: Status) -> Status
+        ensures ends { HandOverEnds came self.old self.new result }
+        ensures front { IsFrontOf self.new.told.over self.new.told.written }
+    {
+        let status = self.flush_after(came);
+        // For the proof: what is over is a front of what was written.
+        let _sink = &self.sink;
+        status
     }
 }

@@ -1,15 +1,16 @@
 //! A sink in memory whose calls never fail.
 ghost use Rattle.std.specs.Prelude.{◌≡◌, ◌≤◌, ◌<◌, ◌+◌, ◌++◌, ◌&&◌, nat_le, take, length, OnErr, [], None, true, IfOk, vec_len, vec_capacity};
 ghost use Rattle.su_io.specs.Causes.{HasCause};
-ghost use Rattle.su_io.specs.Ends.{Grew, says};
+ghost use Rattle.su_io.specs.Ends.{Grew, Stays, Extends, says};
+ghost use Rattle.su_io.specs.Fronts.{says_front};
 
 use crate::rooms::keep;
 use crate::{Failed, Sink};
 use std::alloc::Global;
 use su_base::NoMemory;
 
-/// Bytes in memory, up to a room that is taken when it is made. Past it, it tells nothing of what was
-/// written.
+/// Bytes in memory, up to a room that is taken when it is made. It holds nothing back: what was written
+/// is over. Past its room it tells nothing of what was written.
 #[derive(Drop)]
 pub struct SteadySink {
     bytes: Vec<u8>,
@@ -44,6 +45,8 @@ impl Sink for SteadySink {
 
     ghost handed = { λ s. None };
 
+    ghost over = { λ s. says s.told s.bytes.items };
+
     ghost faults = { λ s. 0 };
 
     /// The trait's clauses, and what it stores and tells of the bytes, all of which it takes.
@@ -52,6 +55,8 @@ impl Sink for SteadySink {
         ensures progress { IfOk result (λ count. 0 < length bytes.now → 0 < count) }
         ensures grew { IfOk result (λ count. Grew (says self.old.told self.old.bytes.items) (says self.new.told self.new.bytes.items) (take count bytes.now)) }
         ensures kept { OnErr result ((self.new.bytes ≡ self.old.bytes) × (self.new.told ≡ self.old.told)) }
+        ensures stays { OnErr result (Stays (says self.old.told self.old.bytes.items) (says self.new.told self.new.bytes.items)) }
+        ensures over { Extends (says self.old.told self.old.bytes.items) (says self.new.told self.new.bytes.items) }
         ensures cause { HasCause 0 0 result }
         ensures whole { IfOk result (λ count. count ≡ length bytes.now) }
         ensures stored { IfOk result (λ count. self.new.bytes.items ≡ take self.old.room (self.old.bytes.items ++ take count bytes.now)) }
@@ -59,11 +64,13 @@ impl Sink for SteadySink {
         ensures room { self.new.room ≡ self.old.room }
     {
         let all = keep(&mut self.bytes, self.room, bytes);
-        self.told = self.told && all;
+        self.told &= all;
         Ok(bytes.len())
     }
 
     fn flush(&mut self) -> Result<(), Failed> {
         Ok(())
     }
+
+    ghost front = { λ s. says_front s.told s.bytes.items };
 }

@@ -1,62 +1,64 @@
 //! Standard output: the trusted edge, which tells nothing of content.
 ghost use Rattle.std.specs.Prelude.{◌≡◌, None};
-ghost use Rattle.su_io.specs.Causes.{HasCause};
 
-use crate::{Failed, Sink};
+use crate::{BufferedSink, Failed, Sink};
 use std::io::{Print, Stdout};
 
 /// How many bytes are held before they are handed over.
 const LARGE: usize = 1 << 16;
 
-/// Standard output, written in large pieces: short ones are held until there are 64 KiB of them, or
-/// until `flush`. What is held when the sink is let go is lost.
+/// Standard output, one write of the system a call.
 #[derive(Drop)]
-pub struct StreamSink {
+struct Output {
     out: Stdout,
-    held: Vec<u8>,
     faults: u64,
 }
 
-impl StreamSink {
-    /// A sink that holds nothing and has counted no fault.
-    pub fn new(rt: HostRuntime) -> StreamSink
-        ensures { result.faults ≡ 0 }
-    {
-        StreamSink {
-            out: rt.stdout(),
-            held: Vec::new(rt.alloc()),
-            faults: 0,
-        }
-    }
+impl Sink for Output {
+    ghost written = { λ s. None };
 
-    /// Counts a fault where a call of the outside failed.
-    fn counted(&mut self, ended: std::io::Result<()>) -> Result<(), Failed>
-        ensures cause { HasCause self.old.faults self.new.faults result }
-    {
-        match ended {
-            Ok(()) => Ok(()),
-            Err(_) => {
+    ghost handed = { λ s. None };
+
+    ghost over = { λ s. None };
+
+    ghost faults = { λ s. s.faults };
+
+    fn write(&mut self, bytes: &[u8]) -> Result<usize, Failed> {
+        match self.out.write_some(bytes) {
+            Ok(count) if count > 0 || bytes.is_empty() => Ok(count),
+            _ => {
                 self.faults = self.faults.saturating_add(1);
                 Err(Failed)
             }
         }
     }
 
-    /// Hands the bytes over whole.
-    fn hand_over(&mut self, bytes: &[u8]) -> Result<(), Failed>
-        ensures cause { HasCause self.old.faults self.new.faults result }
-    {
-        let ended = self.out.write_all(bytes);
-        self.counted(ended)
+    fn flush(&mut self) -> Result<(), Failed> {
+        Ok(())
     }
 
-    /// Hands over what is held. After a failure nothing is held.
-    fn hand_held_over(&mut self) -> Result<(), Failed>
-        ensures cause { HasCause self.old.faults self.new.faults result }
+    ghost front = { λ s. tt };
+}
+
+/// Standard output, written in large pieces: short ones are held until there are 64 KiB of them, or
+/// until `flush`. What is held when the sink is let go is lost.
+#[derive(Drop)]
+pub struct StreamSink {
+    buffer: BufferedSink<Output>,
+}
+
+impl StreamSink {
+    /// A sink that holds nothing and has counted no fault.
+    pub fn new(rt: HostRuntime) -> StreamSink
+        ensures { ⟦<StreamSink as Sink>⟧.faults result ≡ 0 }
     {
-        let ended = self.out.write_all(self.held.as_slice());
-        self.held.clear();
-        self.counted(ended)
+        let output = Output {
+            out: rt.stdout(),
+            faults: 0,
+        };
+        StreamSink {
+            buffer: BufferedSink::new(rt.alloc(), output, LARGE),
+        }
     }
 }
 
@@ -65,21 +67,17 @@ impl Sink for StreamSink {
 
     ghost handed = { λ s. None };
 
-    ghost faults = { λ s. s.faults };
+    ghost over = { λ s. None };
+
+    ghost faults = { λ s. ⟦<BufferedSink<Output> as Sink>⟧.faults s.buffer };
 
     fn write(&mut self, bytes: &[u8]) -> Result<usize, Failed> {
-        if bytes.len() >= LARGE || self.held.extend_from_slice(bytes).is_err() {
-            self.hand_held_over()?;
-            self.hand_over(bytes)?;
-            return Ok(bytes.len());
-        }
-        if self.held.len() >= LARGE {
-            self.hand_held_over()?;
-        }
-        Ok(bytes.len())
+        self.buffer.write(bytes)
     }
 
     fn flush(&mut self) -> Result<(), Failed> {
-        self.hand_held_over()
+        self.buffer.flush()
     }
+
+    ghost front = { λ s. tt };
 }

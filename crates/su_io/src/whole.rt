@@ -1,7 +1,7 @@
 //! A whole file read, and a whole piece written.
 ghost use Rattle.std.specs.Prelude.{◌≡◌, ◌<◌, ◌≤◌, ◌^◌, Some, ℕ, List, take, length, OnOk, OnErr, IfOk};
 ghost use Rattle.su_io.specs.Causes.{HasCause};
-ghost use Rattle.su_io.specs.Ends.{Grew, OfFile, Ended};
+ghost use Rattle.su_io.specs.Ends.{Grew, Extends, OfFile, Ended};
 ghost use Rattle.su_io.specs.Wholes.{IsWhole, WasCut};
 
 use crate::{Failed, ReadEnd, Shelf, Sink};
@@ -59,6 +59,7 @@ pub fn write_all<K: Sink>(sink: &mut K, bytes: &[u8]) -> Result<(), Failed>
     ensures err { OnErr result ((count : ℕ) × (count ≤ length bytes.now) × Grew (K.written sink.old) (K.written sink.new) (take count bytes.now)) }
     ensures whole { OnOk result ((pieces : List (List ℕ)) × IsWhole bytes.now pieces × Grew (K.handed sink.old) (K.handed sink.new) pieces) }
     ensures cut { OnErr result (WasCut bytes.now (K.handed sink.old) (K.handed sink.new)) }
+    ensures over { Extends (K.over sink.old) (K.over sink.new) }
     ensures cause { HasCause (K.faults sink.old) (K.faults sink.new) result }
 {
     let mut done = 0;

@@ -2,7 +2,8 @@ use std::alloc::Global;
 use std::test::Fail;
 use su_base::{List, NoMemory, Str};
 use su_io::{
-    File, FileShelf, MemoryShelf, MemorySink, ReadEnd, SteadyShelf, SteadySink, read_all, write_all,
+    BufferedSink, File, FileShelf, HoldingSink, MemoryShelf, MemorySink, ReadEnd, Sink,
+    SteadyShelf, SteadySink, read_all, write_all,
 };
 
 fn numbers(alloc: Global, all: &[u64]) -> Result<List<u64>, NoMemory> {
@@ -51,6 +52,56 @@ fn writes_in_pieces(rt: HostRuntime) -> Result<(), Fail> {
     assert!(rt; write_all(&mut sink, b"rows 0\nB").is_ok());
     assert!(rt; write_all(&mut sink, b"ANK").is_err());
     assert_eq!(rt; sink.written(), b"rows 0\nB".as_slice());
+    Ok(())
+}
+
+/// A text each, `/` where the sink is flushed, and the pieces that the sink below is handed of them: three bytes are held.
+const HELD: &[(&[&str], &[&str])] = &[
+    (&["a", "b"], &[]),
+    (&["a", "b", "/"], &["ab"]),
+    (&["ab", "cd", "e", "/"], &["ab", "cd", "e"]),
+    (&["abcd", "e", "/", "/"], &["abcd", "e"]),
+    (&["abc", "d"], &["abc", "d"]),
+];
+
+/// Whether these are the pieces that a sink is handed by one that holds three bytes above it.
+fn hands_on(alloc: Global, texts: &[&str], want: &[&str]) -> bool {
+    let mut sink = BufferedSink::new(alloc, HoldingSink::new(alloc), 3);
+    let mut all = true;
+    for text in texts {
+        all &= if *text == "/" {
+            sink.flush().is_ok()
+        } else {
+            write_all(&mut sink, text.as_bytes()).is_ok()
+        };
+    }
+    let got = sink.below().pieces();
+    all &= got.len() == want.len();
+    for (piece, want) in got.iter().zip(want.iter()) {
+        all &= piece.as_slice() == want.as_bytes();
+    }
+    all
+}
+
+#[test]
+fn short_pieces_are_held(rt: HostRuntime) -> Result<(), Fail> {
+    for (i, (texts, want)) in HELD.iter().enumerate() {
+        assert!(rt; hands_on(rt.alloc(), texts, want), "case {i}");
+    }
+    Ok(())
+}
+
+#[test]
+fn what_was_not_taken_is_held(rt: HostRuntime) -> Result<(), Fail> {
+    let alloc = rt.alloc();
+    let below = MemorySink::new(alloc, numbers(alloc, &[1])?, 2, 100)?;
+    let mut sink = BufferedSink::new(alloc, below, 10);
+    let held = write_all(&mut sink, b"abcde").is_ok();
+    // call 0 takes two bytes, call 1 fails, and call 2 goes on behind them
+    let failed = sink.flush().is_err();
+    let over = sink.flush().is_ok();
+    assert!(rt; held && failed && over);
+    assert_eq!(rt; sink.below().written(), b"abcde".as_slice());
     Ok(())
 }
 

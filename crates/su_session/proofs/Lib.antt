@@ -5,5 +5,6 @@ pub mod DefinitionReplies
 pub mod Loads
 pub mod QueryRefusals
 pub mod Relations
-pub mod Retrieved
+pub mod ShownQueries
 pub mod Texts
+pub mod TrueVerdicts

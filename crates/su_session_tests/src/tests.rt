@@ -2,8 +2,9 @@ use std::alloc::Global;
 use std::test::Fail;
 use std::thread::Threads;
 use su_base::NoMemory;
-use su_ddl::read;
-use su_par::OpenGate;
+use su_cases::{BANK, schema_of};
+use su_gates::Meeting;
+use su_par::{Gate, OpenGate};
 use su_session::Session;
 
 const SCHEMA: &str = "\
@@ -51,10 +52,10 @@ const STEPS: &[(&str, &str)] = &[
     ("", "refused: syntax\n"),
 ];
 
-fn opened(alloc: Global) -> Result<Option<Session>, NoMemory> {
-    match read(alloc, SCHEMA.as_bytes()) {
-        Ok(schema) => Ok(Some(Session::open(alloc, schema)?)),
-        Err(_) => Ok(None),
+fn opened(alloc: Global, schema: &str) -> Result<Option<Session>, NoMemory> {
+    match schema_of(alloc, schema) {
+        Some(schema) => Ok(Some(Session::open(alloc, schema)?)),
+        None => Ok(None),
     }
 }
 
@@ -83,7 +84,7 @@ fn first_otherwise<R: Threads + Sync>(rt: &R, session: &mut Session) -> Result<u
 
 /// The same in a session of its own; 0 also where the schema is refused.
 fn first_of_its_own<R: Threads + Sync>(rt: &R, alloc: Global) -> Result<usize, NoMemory> {
-    match opened(alloc)? {
+    match opened(alloc, SCHEMA)? {
         Some(mut session) => first_otherwise(rt, &mut session),
         None => Ok(0),
     }
@@ -93,5 +94,70 @@ fn first_of_its_own<R: Threads + Sync>(rt: &R, alloc: Global) -> Result<usize, N
 fn statements_are_answered_one_after_another(rt: HostRuntime) -> Result<(), Fail> {
     let reached = first_of_its_own(&rt, rt.alloc())?;
     assert_eq!(rt; reached, STEPS.len());
+    Ok(())
+}
+
+/// What fills the bank, a row each.
+const BANK_ROWS: &[&str] = &[
+    "insert BA ('B1', 1)",
+    "insert BA ('B2', 2)",
+    "insert AC (1, 'Jones')",
+    "insert AC (2, 'Smith')",
+    "insert AB (1, 100)",
+    "insert AB (2, 250)",
+    "insert BL ('B3', 7)",
+    "insert BL ('B1', 8)",
+    "insert LC (7, 'Jones')",
+    "insert LC (8, 'Smith')",
+    "insert LA (7, 500)",
+    "insert LA (8, 900)",
+    "insert CA ('Jones', 'Main')",
+    "insert CA ('Smith', 'Oak')",
+];
+
+/// Whether each row of the bank is put in.
+fn is_filled<R: Threads + Sync>(rt: &R, session: &mut Session) -> Result<bool, NoMemory> {
+    for text in BANK_ROWS {
+        if !is_replied(rt, session, text, "inserted 1\n")? {
+            return Ok(false);
+        }
+    }
+    Ok(true)
+}
+
+/// Whether two workers find Jones' banks, which takes two terms, both kept.
+fn finds_banks<R: Threads + Sync, G: Gate>(
+    rt: &R,
+    session: &mut Session,
+    gate: &G,
+) -> Result<bool, NoMemory> {
+    if !is_filled(rt, session)? {
+        return Ok(false);
+    }
+    let query = "retrieve (BANK) where CUST = 'Jones'".as_bytes();
+    let reply = session.step(rt, query, None, 2, gate)?;
+    Ok(reply.bytes.as_slice() == "rows 2\nBANK\nB1\nB3\n".as_bytes())
+}
+
+/// The same in a session of its own; false also where the schema is refused.
+fn finds_of_its_own<R: Threads + Sync, G: Gate>(
+    rt: &R,
+    alloc: Global,
+    gate: &G,
+) -> Result<bool, NoMemory> {
+    match opened(alloc, BANK)? {
+        Some(mut session) => finds_banks(rt, &mut session, gate),
+        None => Ok(false),
+    }
+}
+
+#[test]
+fn two_terms_meet_as_they_are_minimised_and_as_they_are_executed(
+    rt: HostRuntime,
+) -> Result<(), Fail> {
+    let gate = Meeting::default();
+    let found = finds_of_its_own(&rt, rt.alloc(), &gate)?;
+    assert!(rt; found);
+    assert_eq!(rt; gate.passes(), (2, 2, 0));
     Ok(())
 }

@@ -23,7 +23,7 @@ use Rattle.su_schema.specs.Entries.{attribute_kinds}
 use Rattle.su_state.specs.DatabaseValue.{DatabaseValue, IsWellKept}
 use Rattle.su_chase.specs.Chase.{IsClosedPartition, IsClassName}
 use Rattle.su_fd.specs.MetDependencies.{Agree, Meets}
-use Rattle.su_chase.specs.inside.Rows.{name_by, named_tab}
+use Rattle.su_chase.specs.inside.Rows.{named_tab}
 use Rattle.su_chase.proofs.NamedAnswers as answering
 use Rattle.su_chase.proofs.NamedAnswers.{settled}
 use Rattle.su_window.specs.declared.readings.Reading.{Reading}
@@ -32,9 +32,9 @@ use Rattle.su_state.specs.Views.{value_for, taken}
 use Rattle.su_window.specs.Window.{Fits, Includes, InWindow}
 use Rattle.su_window.specs.Members.{Member}
 use Rattle.su_window.specs.Padded.{object_at, row_read, member_read, IsReading, AreReadings, padded_row, padded_rows}
-use Rattle.su_window.specs.inside.Readings.{AreConstants}
 use Rattle.su_schema.proofs.Cuts.{cut_agrees}
 use Rattle.su_window.proofs.Objects.{attributes_are}
+use Rattle.su_window.proofs.Picked.{AreNamed}
 use Rattle.su_window.proofs.Rows.{none, reading_at, tableau, typed, rows_long, row_length, fds_below, in_rows, cell_is, constant_cell}
 
 -- ---- new values are read back
@@ -88,10 +88,7 @@ module _ (fds : List Fd) (rows : List (List Sym)) (width : ℕ) (widths : All (�
 
 -- ---- the universal relation of the chased rows
 
-module _ (db : DatabaseValue) (kept : IsWellKept db) (readings : List Reading) (are : AreReadings db readings) (names : List Sym) (named : (x : Sym) → IsClassName db.schema.fds (padded_rows db readings) x (name_by names x)) where
-  abbrev name : Sym → Sym
-  name = name_by names
-
+module _ (db : DatabaseValue) (kept : IsWellKept db) (readings : List Reading) (are : AreReadings db readings) (name : Sym → Sym) (own : (c : Value) → name (Const c) ≡ Const c) (named : (x : Sym) → IsClassName db.schema.fds (padded_rows db readings) x (name x)) where
   abbrev rows : List (List Sym)
   rows = padded_rows db readings
 
@@ -99,7 +96,7 @@ module _ (db : DatabaseValue) (kept : IsWellKept db) (readings : List Reading) (
   chased = map (map name) rows
 
   all_typed : IsTyped (attribute_kinds db.schema) (named_tab name (tableau db readings))
-  all_typed = answering.typed db.schema.fds (tableau db readings) names named (attribute_kinds db.schema) (typed db kept readings are.each)
+  all_typed = answering.typed db.schema.fds (tableau db readings) name own named (attribute_kinds db.schema) (typed db kept readings are.each)
 
   abbrev kind : ℕ → Kind
   kind = all_typed.var_kind
@@ -137,11 +134,12 @@ module _ (db : DatabaseValue) (kept : IsWellKept db) (readings : List Reading) (
         let long_row : length row ≡ width db.schema = row_length db i r in
         let long_y : length y ≡ width db.schema = length-map (map name row) (value_of valuation) ∙ length-map row name ∙ long_row in
         let long_spread : length spread ≡ width db.schema = length-map-range_with_len (value_for object (row_read db r)) 0 (width db.schema) in
-        let agree : Agree (attributes_at db.schema r.object) y spread = λ a d own.
+        let agree : Agree (attributes_at db.schema r.object) y spread = λ a d has.
         ⊎_elim
         (λ (l : a < width db.schema).
-        let cell : get_or row a (Const d) ≡ Const (value_for object (row_read db r) a) = cell_is db i r a (Const d) l ∙ constant_cell db i r a own in
-        map_read (value_of valuation) (map name row) a (Const d) ∙ ap (value_of valuation) (map_read name row a (Const d) ∙ ap name cell) ∙ sym (get_or-map_range (value_for object (row_read db r)) (width db.schema) a d l))
+        let cell : get_or row a (Const d) ≡ Const (value_for object (row_read db r) a) = cell_is db i r a (Const d) l ∙ constant_cell db i r a has in
+        let named_cell : get_or (map name row) a (Const d) ≡ Const (value_for object (row_read db r) a) = ap (λ (x : Sym). get_or (map name row) a x) (sym (own d)) ∙ map_read name row a (Const d) ∙ ap name cell ∙ own (value_for object (row_read db r) a) in
+        map_read (value_of valuation) (map name row) a (Const d) ∙ ap (value_of valuation) named_cell ∙ sym (get_or-map_range (value_for object (row_read db r)) (width db.schema) a d l))
         (λ (g : width db.schema ≤ a). get_or_past y a d (omega (arith, g, long_y)) ∙ sym (get_or_past spread a d (omega (arith, g, long_spread))))
         (cases_lt a (width db.schema)) in
         let same : cut (attributes_at db.schema r.object) y ≡ taken db.schema object (row_read db r) =
@@ -158,7 +156,7 @@ module _ (db : DatabaseValue) (kept : IsWellKept db) (readings : List Reading) (
     }
 
     -- a row at the attributes, of values that are not new, is one of constants
-    pub constants : (attributes : List ℕ) → All (λ a. a < width db.schema) attributes → (h : List Value) → row_top (map Const h) ≤ n → (w : List Value) → Contains universe w → values_at attributes w ≡ h → (row : List Sym) × Contains rows row × AreConstants names row attributes h
+    pub constants : (attributes : List ℕ) → All (λ a. a < width db.schema) attributes → (h : List Value) → row_top (map Const h) ≤ n → (w : List Value) → Contains universe w → values_at attributes w ≡ h → (row : List Sym) × Contains rows row × AreNamed name row attributes h
     unfolding universe
     constants attributes low h old w c gives =
         let s = Contains-map_source (values_of valuation) chased w c in
@@ -185,7 +183,7 @@ module _ (db : DatabaseValue) (kept : IsWellKept db) (readings : List Reading) (
   some_fits = let n : ℕ = rows_top chased in (universe n (omega arith), fits n (omega arith))
 
   -- a list in the window is one of constants
-  pub in_window : (attributes : List ℕ) → All (λ a. a < width db.schema) attributes → (h : List Value) → InWindow db attributes h → (row : List Sym) × Contains rows row × AreConstants names row attributes h
+  pub in_window : (attributes : List ℕ) → All (λ a. a < width db.schema) attributes → (h : List Value) → InWindow db attributes h → (row : List Sym) × Contains rows row × AreNamed name row attributes h
   in_window attributes low h window =
       let n : ℕ = rows_top chased + row_top (map Const h) in
       let high : rows_top chased ≤ n = omega arith in

@@ -5,6 +5,7 @@ pub mod FittingRelation
 pub mod Made
 pub mod Objects
 pub mod Picked
+pub mod Represented
 pub mod RowRead
 pub mod Rows
 pub mod Seen

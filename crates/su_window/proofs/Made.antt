@@ -1,5 +1,5 @@
 -- Lists that are made by a function of numbers.
-use Rattle.std.proofs.Common.{◌≡◌, ℕ, ◌<◌, map, length, get_or, Contains, sym, ◌∙◌, subst}
+use Rattle.std.proofs.Common.{◌≡◌, ℕ, ◌<◌, map, Contains, sym, ◌∙◌, subst}
 use Rattle.std.specs.List.{range_with_len}
 use Rattle.std.proofs.lemmas.List.FromFn.{length-map-range_with_len, fill_by_all}
 use Rattle.su_base.proofs.Items.{get_or-map_range}

@@ -22,7 +22,6 @@ use Rattle.su_schema.specs.Entries.{attribute_kinds}
 use Rattle.su_state.specs.DatabaseValue.{DatabaseValue, IsWellKept}
 use Rattle.su_chase.specs.Chase.{IsClassName, IsClash}
 use Rattle.su_fd.specs.MetDependencies.{Agree}
-use Rattle.su_chase.specs.inside.Rows.{name_by}
 use Rattle.su_chase.proofs.NamedAnswers.{one_value}
 use Rattle.su_window.specs.declared.readings.Reading.{Reading}
 use Rattle.su_schema.specs.Cuts.{width, attributes_at, cut}
@@ -30,13 +29,16 @@ use Rattle.su_state.specs.Views.{value_for, taken}
 use Rattle.su_window.specs.Window.{Fits}
 use Rattle.su_window.specs.Members.{IsMember}
 use Rattle.su_window.specs.Padded.{object_at, row_read, member_read, IsReading, AreReadings, padded, padded_row, padded_rows}
-use Rattle.su_window.specs.inside.Readings.{AreConstants}
 use Rattle.su_schema.proofs.Cuts.{cut_agrees}
 use Rattle.su_window.proofs.Objects.{attributes_are}
 use Rattle.su_window.proofs.Rows.{none, reading_at, of_rows, row_length, constant_cell, variable_cell}
 
 abbrev zero_value : Value
 zero_value = Int (pos 0)
+
+-- the names of a row's symbols at the attributes are these constants
+abbrev pub AreNamed : (Sym → Sym) → List Sym → List ℕ → List Value → Type 0
+AreNamed name row attributes h = map (λ a. name (get_or row a (Var 0))) attributes ≡ map Const h
 
 module _ (db : DatabaseValue) (kept : IsWellKept db) (readings : List Reading) (are : AreReadings db readings) (universe : List (List Value)) (fits : Fits db universe) where
   abbrev n : ℕ
@@ -117,19 +119,19 @@ module _ (db : DatabaseValue) (kept : IsWellKept db) (readings : List Reading) (
   no_clash less greater clash = clash.differ (one_value db.schema.fds (padded_rows db readings) universe fits.meets valuation sends (Const less) (Const greater) clash.together)
 
   -- constants that name a row's symbols are the values of the chosen row
-  pub has_constants : (names : List Sym) → ((x : Sym) → IsClassName db.schema.fds (padded_rows db readings) x (name_by names x)) → (attributes : List ℕ) → All (λ a. a < n) attributes → (row : List Sym) → Contains (padded_rows db readings) row → (h : List Value) → AreConstants names row attributes h → (w : List Value) × Contains universe w × (values_at attributes w ≡ h)
-  has_constants names named attributes low row c h constant =
+  pub has_constants : (name : Sym → Sym) → ((x : Sym) → IsClassName db.schema.fds (padded_rows db readings) x (name x)) → (attributes : List ℕ) → All (λ a. a < n) attributes → (row : List Sym) → Contains (padded_rows db readings) row → (h : List Value) → AreNamed name row attributes h → (w : List Value) × Contains universe w × (values_at attributes w ≡ h)
+  has_constants name named attributes low row c h constant =
       let i = of_rows db readings row c in
       let w : List Value = chosen i.0 in
       let values : values_of valuation row ≡ w = ap (values_of valuation) (sym i.2) ∙ row_values i.0 i.1 in
       let long : length row ≡ n = ap (λ (x : List Sym). length x) (sym i.2) ∙ row_length db i.0 (reading_at readings i.0) in
-      let value : (a : ℕ) → Contains attributes a → value_of valuation (name_by names (get_or row a (Var 0))) ≡ get_or w a zero_value = λ a ca.
+      let value : (a : ℕ) → Contains attributes a → value_of valuation (name (get_or row a (Var 0))) ≡ get_or w a zero_value = λ a ca.
       let la : a < n = All-contains (λ (b : ℕ). b < n) attributes a low ca in
-      sym (one_value db.schema.fds (padded_rows db readings) universe fits.meets valuation sends (get_or row a (Var 0)) (name_by names (get_or row a (Var 0))) (named (get_or row a (Var 0))).member)
+      sym (one_value db.schema.fds (padded_rows db readings) universe fits.meets valuation sends (get_or row a (Var 0)) (name (get_or row a (Var 0))) (named (get_or row a (Var 0))).member)
       ∙ sym (map_read (value_of valuation) row a (Var 0)) ∙ get_or_default (values_of valuation row) a (value_of valuation (Var 0)) zero_value (let e = length-map row (value_of valuation) in omega (arith, la, long, e))
       ∙ ap (λ (x : List Value). get_or x a zero_value) values in
-      let left : map (value_of valuation) (map (λ a. name_by names (get_or row a (Var 0))) attributes) ≡ values_at attributes w =
-      map-map_equal (λ a. name_by names (get_or row a (Var 0))) (value_of valuation) (λ a. value_of valuation (name_by names (get_or row a (Var 0)))) (λ a. refl) attributes
-      ∙ map-equal_at (λ a. value_of valuation (name_by names (get_or row a (Var 0)))) (λ a. get_or w a zero_value) attributes value in
+      let left : map (value_of valuation) (map (λ a. name (get_or row a (Var 0))) attributes) ≡ values_at attributes w =
+      map-map_equal (λ a. name (get_or row a (Var 0))) (value_of valuation) (λ a. value_of valuation (name (get_or row a (Var 0)))) (λ a. refl) attributes
+      ∙ map-equal_at (λ a. value_of valuation (name (get_or row a (Var 0)))) (λ a. get_or w a zero_value) attributes value in
       let right : map (value_of valuation) (map Const h) ≡ h = map-map_equal Const (value_of valuation) (λ x. x) (λ x. refl) h ∙ map-id h in
       (w, chosen_in i.0 i.1, sym left ∙ ap (map (value_of valuation)) constant ∙ right)

@@ -1,5 +1,5 @@
 -- What a window answers, from the names of the padded rows.
-use Rattle.std.proofs.Common.{◌≡◌, ◌↔◌, ℕ, ◌<◌, ◌≤◌, Option, None, MatchOption, List, map, length, get_or, Contains, sym, ◌∙◌, subst}
+use Rattle.std.proofs.Common.{◌≡◌, ◌↔◌, ℕ, ◌<◌, ◌≤◌, Option, None, MatchOption, List, map, length, get_or, Contains, refl, sym, ◌∙◌, subst}
 use Rattle.std.specs.Prelude.{All}
 use Rattle.std.proofs.lemmas.List.{length-map}
 use Rattle.su_base.specs.declared.values.Value.{Value}
@@ -18,6 +18,7 @@ use Rattle.su_window.specs.Window.{Fits, InWindow}
 use Rattle.su_window.specs.Members.{HasFew}
 use Rattle.su_window.specs.Padded.{member_read, AreReadings, padded_rows}
 use Rattle.su_window.specs.Refusals.{Clashes}
+use Rattle.su_window.specs.Representative.{IsRepresentative}
 use Rattle.su_window.specs.inside.Readings.{AreConstants}
 use Rattle.su_window.proofs.Rows.{rows_long, are_rows}
 use Rattle.su_window.proofs.Picked.{no_clash, has_constants}
@@ -35,12 +36,15 @@ module _ (db : DatabaseValue) (kept : IsWellKept db) (readings : List Reading) (
     named = are_names db.schema.fds (padded_rows db readings) names all each consistent (width db.schema) (rows_long db readings)
 
     pub fits : HasFew db × ((universe : List (List Value)) × Fits db universe)
-    fits = (has_few, some_fits db kept readings are names named)
+    fits = (has_few, some_fits db kept readings are (name_by names) (λ c. refl) named)
+
+    pub represented : (rows : List (List Sym)) × IsRepresentative db rows
+    represented = (map (map (name_by names)) (padded_rows db readings), record { readings = readings; are = are; consistent = consistent; name = name_by names; names = named; is = refl })
 
     pub exact : (attributes : List ℕ) → All (λ a. a < width db.schema) attributes → (h : List Value) → ((row : List Sym) × Contains (padded_rows db readings) row × AreConstants names row attributes h) ↔ InWindow db attributes h
     exact attributes low h = (
-      λ w universe fits. has_constants db kept readings are universe fits names named attributes low w.0 w.1 h w.2,
-      in_window db kept readings are names named attributes low h,
+      λ w universe fits. has_constants db kept readings are universe fits (name_by names) named attributes low w.0 w.1 h w.2,
+      in_window db kept readings are (name_by names) (λ c. refl) named attributes low h,
     )
 
 -- ---- by what was answered
@@ -72,6 +76,9 @@ module _ (db : DatabaseValue) (kept : IsWellKept db) (readings : List Reading) (
 
     pub fits_told : HasFew db × ((universe : List (List Value)) × Fits db universe)
     fits_told = fits db kept readings are few names all_here each_here consistent_here
+
+    pub represented_told : (rows : List (List Sym)) × IsRepresentative db rows
+    represented_told = represented db kept readings are few names all_here each_here consistent_here
 
     pub exact_told : (attributes : List ℕ) → All (λ a. a < width db.schema) attributes → (rows_given : List (List Sym)) → rows_given ≡ rows → (names_given : List Sym) → names_given ≡ names → (found sorted : List (List Value)) → ((h : List Value) → Contains found h ↔ ((row : List Sym) × Contains rows_given row × AreConstants names_given row attributes h)) → ((h : List Value) → Contains sorted h ↔ Contains found h) → (h : List Value) → Contains sorted h ↔ InWindow db attributes h
     exact_told attributes low rows_given rows_same names_given names_same found sorted finds members h =

@@ -3,6 +3,7 @@ ghost use Rattle.std.specs.Prelude.{◌≡◌, ◌↔◌, ◌⊎◌, ◌<◌, �
 ghost use Rattle.std.specs.List.Sorted.{IsStrictlySortedBy};
 ghost use Rattle.su_base.specs.declared.values.Value.{Value as AValue};
 ghost use Rattle.su_base.specs.Value.{compare_lists};
+ghost use Rattle.su_tableau.specs.declared.symbols.Sym.{Sym as ASym};
 ghost use Rattle.su_tableau.specs.declared.symbols.Sym.TheVariants.{Const, Var};
 ghost use Rattle.su_tableau.specs.Tableaux.{AreBelow};
 ghost use Rattle.su_chase.specs.inside.Rows.{name_by};
@@ -11,6 +12,7 @@ ghost use Rattle.su_window.specs.declared.faults.WindowFault.TheVariants.{NoMemo
 ghost use Rattle.su_window.specs.Window.{Fits, InWindow};
 ghost use Rattle.su_window.specs.Members.{HasFew};
 ghost use Rattle.su_window.specs.Refusals.{IsWindowRefusal};
+ghost use Rattle.su_window.specs.Representative.{IsRepresentative};
 ghost use Rattle.su_window.specs.inside.Readings.{AreConstants, AreConstantsIfAny, AreConstantsIn};
 
 use crate::columns::all_columns;
@@ -104,6 +106,7 @@ pub fn window(alloc: Global, db: &Database, attributes: &[u8]) -> Result<List<Ro
     ensures exact { IfOk result (λ rows. (h : Items AValue) → Contains rows h ↔ InWindow db.now attributes.now h) }
     ensures ascending { IfOk result (λ rows. IsStrictlySortedBy compare_lists rows) }
     ensures fits { IfOk result (λ _. HasFew db.now × ((universe : Items (Items AValue)) × Fits db.now universe)) }
+    ensures represented { IfOk result (λ _. (rows : Items (Items ASym)) × IsRepresentative db.now rows) }
     ensures refused { IfErr result (λ fault. (fault ≡ OutOfMemory) ⊎ IsWindowRefusal db.now fault) }
 {
     db.keeps_its_rules();

@@ -1,9 +1,9 @@
 -- A fault of the outside is answered only where a count of faults rose: how a run ends says so, whatever its words ask for.
-use Rattle.std.proofs.Common.{◌≡◌, ◌≢◌, ℕ, List, Option, Some, None, refl, sym, ap, subst, inl, inr}
+use Rattle.std.proofs.Common.{◌≡◌, ℕ, List, Option, Some, None, refl, sym, ap, subst, inl, inr}
 use Rattle.su_io.specs.Causes.{Rose}
 use Rattle.su_io.specs.declared.status.Status.{Status}
 use Rattle.su_io.specs.declared.status.Status.TheVariants.{Done, SomeRefused, Usage, BadSchema, ReadFault, WriteFault, TooLong, NoMemory}
-use Rattle.su_io.specs.HandOver.{HandsOver}
+use Rattle.su_io.specs.HandOver.{HandsOverAt, ComesOrFails}
 use Rattle.su_io.specs.Moments.{Moment}
 use Rattle.su_io.specs.Programs.{ReadsAndTells, Ends, Tells}
 use Rattle.sysu.specs.Statuses.{Comes}
@@ -30,7 +30,8 @@ module _ {P : List ℕ → ℕ → List (List ℕ) → Type 0} (old new : Moment
   -- what ends a run, or a check
   ends_caused : (status : Status) → Ends P old new status → Caused old new status
   ends_caused status (inl ends) = told_caused status ends
-  ends_caused status (inr none) = subst (Caused old new) (sym none.0) (ap (λ (m : Moment). m.writes) none.1)
+  ends_caused status (inr (none, inl same)) = subst (Caused old new) (sym none) (ap (λ (m : Moment). m.writes) same)
+  ends_caused status (inr (none, inr hands)) = subst (Caused old new) (sym none) hands.writes
 
 -- what ends the making of a bank, or the usage line
 tells_caused : {Says : Status → List ℕ → Type 0} (old new : Moment) (status : Status) → Tells Says old new status → Caused old new status
@@ -44,15 +45,15 @@ tells_caused old new TooLong ends = ends.writing.0
 tells_caused old new NoMemory ends = ends.writing.0
 
 -- the sink's count stood until the hand-over
-stood : (old mid : Moment) (came : Status) → came ≢ WriteFault → Caused old mid came → mid.writes ≡ old.writes
-stood old mid Done other caused = caused
-stood old mid SomeRefused other caused = caused
-stood old mid Usage other caused = caused
-stood old mid BadSchema other caused = caused
-stood old mid ReadFault other caused = caused.1
-stood old mid WriteFault other caused = absurd (other refl)
-stood old mid TooLong other caused = caused
-stood old mid NoMemory other caused = caused
+stood : (old mid : Moment) (came : Status) → HandsOverAt came → Caused old mid came → mid.writes ≡ old.writes
+stood old mid Done due caused = caused
+stood old mid SomeRefused due caused = caused
+stood old mid Usage due caused = caused
+stood old mid BadSchema due caused = caused
+stood old mid ReadFault due caused = absurd due
+stood old mid WriteFault due caused = absurd due
+stood old mid TooLong due caused = absurd due
+stood old mid NoMemory due caused = caused
 
 module _ (words : List (List ℕ)) (old new : Moment) (status : Status) (comes : Comes words old new status) where
   of_no_file : named words ≡ None → checks words ≡ None → Asks words → Caused old new status
@@ -72,7 +73,7 @@ module _ (words : List (List ℕ)) (old new : Moment) (status : Status) (comes :
   comes_caused = of_words (named words) refl
 
 -- the hand-over leaves the causes as they were, or it failed itself
-pub hands_caused : (words : List (List ℕ)) (old new : Moment) (status : Status) → HandsOver (Comes words old) new status → Caused old new status
+pub hands_caused : (words : List (List ℕ)) (old new : Moment) (status : Status) → ComesOrFails (Comes words old) new status → Caused old new status
 hands_caused words old new Done ends = comes_caused words old new Done ends
 hands_caused words old new SomeRefused ends = comes_caused words old new SomeRefused ends
 hands_caused words old new Usage ends = comes_caused words old new Usage ends
@@ -82,5 +83,5 @@ hands_caused words old new TooLong ends = comes_caused words old new TooLong end
 hands_caused words old new NoMemory ends = comes_caused words old new NoMemory ends
 hands_caused words old new WriteFault (inl came) = comes_caused words old new WriteFault came
 hands_caused words old new WriteFault (inr failed) =
-    let stands = stood old failed.before failed.came failed.other (comes_caused words old failed.before failed.came failed.comes) in
-    subst (λ (count : ℕ). Rose count new.writes) stands failed.rose
+    let stands = stood old failed.before failed.came failed.due (comes_caused words old failed.before failed.came failed.comes) in
+    subst (λ (count : ℕ). Rose count new.writes) stands failed.failed.rose

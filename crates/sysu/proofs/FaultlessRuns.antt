@@ -22,4 +22,4 @@ module _ (old new : Moment) (r : old.reads ≡ 0) (s : new.reads ≡ 0) (w : old
 
   pub finishes : (words : List (List ℕ)) (status : Status) → IsComplete words old new status → (names : Named) (files : List File) → named words ≡ Some names → old.files ≡ Some files → AreAccepted names files → IsFinished status
   finishes words status complete names files known told accepted =
-      complete.ran names files known record { told = told; no_read_fault = not_risen old.reads new.reads r s; no_write_fault = not_risen old.writes new.writes w v; accepted = accepted }
+      complete.ran names files known record { faultless = record { told = told; no_read_fault = not_risen old.reads new.reads r s; no_write_fault = not_risen old.writes new.writes w v }; accepted = accepted }

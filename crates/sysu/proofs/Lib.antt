@@ -1,5 +1,6 @@
 pub mod RepliesSoFar
 pub mod HandedFiles
+pub mod HandOvers
 pub mod ScriptEnds
 pub mod RunEnds
 pub mod Commands

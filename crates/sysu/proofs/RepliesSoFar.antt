@@ -51,7 +51,7 @@ texts_around script (s ∷ ss) (suc i) d within = ap (λ (ts : List (List ℕ)).
 module _ (files : Option (List File)) (script : List ℕ) (spans : List Span) (i : ℕ) (d : Span) (first mid last : DatabaseValue) (refused : Bool) (file : Option (List ℕ)) (reply : Reply)
     (old between : Told) (within : i < length spans) (so_far : SoFar files script (take i spans) first mid refused old between)
     (kept : IsWellKept mid) (handed : IsHanded files mid (statement_of script (get_or spans i d)) file) (replied : Replied mid (statement_of script (get_or spans i d)) file reply last) where
-  texts_more : texts_of script (take (i + 1) spans) ≡ texts_of script (take i spans) ++ statement_of script (get_or spans i d) ∷ []
+  pub texts_more : texts_of script (take (i + 1) spans) ≡ texts_of script (take i spans) ++ statement_of script (get_or spans i d) ∷ []
   texts_more =
       let next : i + 1 ≡ suc i = omega arith in
       ap (λ k. texts_of script (take k spans)) next ∙ ap (texts_of script) (take-suc spans i d within) ∙ texts_of-push script (take i spans) (get_or spans i d)
@@ -59,11 +59,11 @@ module _ (files : Option (List File)) (script : List ℕ) (spans : List Span) (i
   pub answered_more : Answered files first (texts_of script (take i spans) ++ statement_of script (get_or spans i d) ∷ []) (so_far.replies ++ reply ∷ []) last
   answered_more = Answered-push files (texts_of script (take i spans)) so_far.replies first mid last _ file reply so_far.answered kept handed replied
 
-  pub one_more : (new : Told) → Wrote between new (reply.bytes ∷ []) → SoFar files script (take (i + 1) spans) first last (refused || reply.refused) old new
-  one_more new wrote = record {
+  abbrev pub one_more : (new : Told) (told : Bool) → reply.refused ≡ told → Wrote between new (reply.bytes ∷ []) → SoFar files script (take (i + 1) spans) first last (refused || told) old new
+  one_more new told same wrote = record {
     replies = so_far.replies ++ reply ∷ [];
     answered = rw texts_more answered_more;
-    refused_is = or_push some_refused (λ (r : Reply). r.refused) refl (λ r rs. refl) so_far.replies reply ∙ ap (λ b. b || reply.refused) so_far.refused_is;
+    refused_is = or_push some_refused (λ (r : Reply). r.refused) refl (λ r rs. refl) so_far.replies reply ∙ ap (λ b. b || reply.refused) so_far.refused_is ∙ ap (λ b. refused || b) same;
     wrote = rw (reply_texts-push so_far.replies reply) (Wrote-trans old between new (reply_texts so_far.replies) (reply.bytes ∷ []) so_far.wrote wrote);
   }
 

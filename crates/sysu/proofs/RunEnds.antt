@@ -5,9 +5,10 @@ use Rattle.su_io.specs.declared.status.Status.{Status}
 use Rattle.su_io.specs.declared.status.Status.TheVariants.{Done, SomeRefused, Usage, BadSchema, ReadFault, WriteFault, TooLong, NoMemory}
 use Rattle.su_io.specs.Moments.{Moment}
 use Rattle.su_io.specs.FileEnds.{FileEnds}
+use Rattle.su_io.specs.HandOver.{AllIsOver}
 use Rattle.su_io.specs.Programs.{OneText}
 use Rattle.su_io.specs.WrittenTexts.{Wrote}
-use Rattle.su_io.proofs.Programs.{ReadingEnds-from, WritingEnds-from, Ends-map}
+use Rattle.su_io.proofs.Programs.{ReadingEnds-from, WritingEnds-from, StopsOver-from, Ends-map}
 use Rattle.su_io.proofs.WrittenTexts.{Wrote-none}
 use Rattle.su_schema.specs.SchemaValue.{SchemaValue}
 use Rattle.su_files.specs.Openings.{IsOpened, OpeningEnds}
@@ -44,17 +45,20 @@ module _ (names : Named) (old mid new : Moment) (path : List ℕ) (limit : ℕ) 
   nothing : Wrote old.told new.told []
   nothing = rw told (Wrote-none old.told)
 
+  all_over : AllIsOver old.told → AllIsOver new.told
+  all_over before = rw told before
+
   -- there was no memory behind it
   no_memory : new.reads ≡ old.reads → new.taken ≤ limit → RunEnds names old new NoMemory
   no_memory same taken =
-      inl record { path = path; limit = limit; texts = []; holds = (([], due), inl refl); begun = begun; reading = (same, taken); writing = (writes, nothing) }
+      inl record { path = path; limit = limit; texts = []; holds = (([], due), inl refl); begun = begun; reading = (same, taken); writing = (writes, nothing); over = tt }
 
   -- it was not read
   file_fails : (status : Status) → FileEnds path limit mid new (Err status) → RunEnds names old new status
   file_fails ReadFault ends =
-      inl record { path = path; limit = limit; texts = []; holds = due; begun = begun; reading = ReadingEnds-from path limit old mid new files reads ReadFault ends; writing = (writes, nothing) }
+      inl record { path = path; limit = limit; texts = []; holds = due; begun = begun; reading = ReadingEnds-from path limit old mid new files reads ReadFault ends; writing = (writes, nothing); over = all_over }
   file_fails TooLong ends =
-      inl record { path = path; limit = limit; texts = []; holds = due; begun = begun; reading = ReadingEnds-from path limit old mid new files reads TooLong ends; writing = (writes, nothing) }
+      inl record { path = path; limit = limit; texts = []; holds = due; begun = begun; reading = ReadingEnds-from path limit old mid new files reads TooLong ends; writing = (writes, nothing); over = all_over }
   file_fails NoMemory ends = no_memory (ends.0 ∙ reads) ends.1
   file_fails Done ends = absurd ends
   file_fails SomeRefused ends = absurd ends
@@ -72,6 +76,7 @@ script_answered names old mid new files reads told writes status ends = inl reco
   begun = ends.begun;
   reading = ReadingEnds-from ends.path ends.limit old mid new files reads status ends.reading;
   writing = WritingEnds-from ends.texts old mid new told writes status ends.writing;
+  over = StopsOver-from old mid new told status ends.over;
 }
 
 -- ---- the schema was opened

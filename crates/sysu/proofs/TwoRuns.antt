@@ -7,7 +7,7 @@ use Rattle.su_io.specs.declared.status.Status.TheVariants.{Done, SomeRefused, Us
 use Rattle.su_io.specs.Causes.{Rose}
 use Rattle.su_io.specs.Ends.{Grew}
 use Rattle.su_io.specs.Files.{contents}
-use Rattle.su_io.specs.HandOver.{HandsOver}
+use Rattle.su_io.specs.HandOver.{ComesOrFails}
 use Rattle.su_io.specs.Moments.{Moment}
 use Rattle.su_io.specs.Programs.{Tells}
 use Rattle.su_io.specs.WrittenTexts.{joined, Wrote}
@@ -195,7 +195,7 @@ module _ (files : List AFile) (words : List (List ℕ)) (old new : Moment) (file
       tells NoMemory memory ends = absurd (memory refl)
 
 -- the hand-over did not fail
-came_so : (words : List (List ℕ)) (old new : Moment) → ¬ Rose old.writes new.writes → (status : Status) → HandsOver (Comes words old) new status → Comes words old new status
+came_so : (words : List (List ℕ)) (old new : Moment) → ¬ Rose old.writes new.writes → (status : Status) → ComesOrFails (Comes words old) new status → Comes words old new status
 came_so words old new no_write Done ends = ends
 came_so words old new no_write SomeRefused ends = ends
 came_so words old new no_write Usage ends = ends
@@ -209,7 +209,7 @@ came_so words old new no_write NoMemory ends = ends
 
 module _ (files : List AFile) (words : List (List ℕ)) (appended : List ℕ) (status : Status) (h : Ran files words appended status) where
   comes : Comes words h.old h.new status
-  comes = came_so words h.old h.new h.no_write_fault status h.ends
+  comes = came_so words h.old h.new h.no_write_fault status h.ends.ends
 
   run_of : (names : Named) → named words ≡ Some names → Outcome names files appended status
   run_of names e = ran files words h.old h.new h.files_are h.before appended h.told h.wrote h.no_read_fault h.no_write_fault names status h.has_memory (comes.ran names e)

@@ -1,13 +1,13 @@
 -- What is promised of the queries of a run.
--- answered: by the kept rows of its kept terms, on the database before the statement
+-- query, answered: as in RepliesTo, on the database before the statement
+-- It speaks of the bytes of files where the shelf tells its files, and of what was written where the sink tells its bytes: of either it says nothing where they aren't told
 use Rattle.std.specs.Prelude.{◌≡◌, ◌⊎◌, ℕ, false, List, [], slice_get, Option, Some}
 use Rattle.su_io.specs.declared.files.File.{File as AFile}
 use Rattle.su_io.specs.declared.status.Status.{Status}
 use Rattle.su_io.specs.declared.status.Status.TheVariants.{Done, SomeRefused}
 use Rattle.su_io.specs.Moments.{Moment}
 use Rattle.su_io.specs.WrittenTexts.{Wrote}
-use Rattle.su_query.specs.declared.statements.Query.{Query}
-use Rattle.su_query.specs.declared.statements.Statement.TheVariants.{Retrieve}
+use Rattle.su_query.specs.declared.statements.Statement.{Statement}
 use Rattle.su_query.specs.StatementTexts.{IsStatement}
 use Rattle.su_state.specs.DatabaseValue.{DatabaseValue}
 use Rattle.su_session.specs.EmptyDatabase.{empty_database}
@@ -17,11 +17,11 @@ use Rattle.sysu.specs.Scripts.{Answers}
 use Rattle.sysu.specs.Words.{Named, named}
 use Rattle.sysu.specs.RepliesTo.{IsBefore, IsReplyTo}
 
--- each retrieve that is not refused is answered on the database before it
+-- each query that is not refused is answered on the database before it
 abbrev pub AreQueriesAnswered : Option (List AFile) → DatabaseValue → List (List ℕ) → List Reply → Type 0
-AreQueriesAnswered files first texts replies = (k : ℕ) (text : List ℕ) (q : Query) (reply : Reply)
-    → slice_get texts k ≡ Some text → slice_get replies k ≡ Some reply → IsStatement text (Retrieve q) → reply.refused ≡ false
-    → (db : DatabaseValue) × IsBefore files first texts replies k db × IsReplyTo db q reply.bytes
+AreQueriesAnswered files first texts replies = (k : ℕ) (text : List ℕ) (st : Statement) (reply : Reply)
+    → slice_get texts k ≡ Some text → slice_get replies k ≡ Some reply → IsStatement text st → reply.refused ≡ false
+    → (db : DatabaseValue) × IsBefore files first texts replies k db × IsReplyTo db st reply
 
 -- the replies to the statements of a script are written in order, each by one whole write, and its queries are answered
 pub record IsAnsweredRun (names : Named) (old new : Moment) : Type 0 where

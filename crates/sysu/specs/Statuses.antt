@@ -10,7 +10,7 @@ use Rattle.su_files.specs.Openings.{IsSchemaLine}
 use Rattle.su_files.specs.RunFiles.{schema_limit}
 use Rattle.sysu.specs.Banks.{BankEnds}
 use Rattle.sysu.specs.Checks.{CheckEnds}
-use Rattle.sysu.specs.Due.{FallsDue, IsDue}
+use Rattle.sysu.specs.Due.{FallsDue, FellDue, IsDue}
 use Rattle.sysu.specs.Scripts.{AreAll, AreFirst}
 use Rattle.sysu.specs.Words.{Named, named, checks, Generates, usage_line}
 
@@ -18,15 +18,15 @@ use Rattle.sysu.specs.Words.{Named, named, checks, Generates, usage_line}
 abbrev pub IsRefusal : Named → Option (List File) → List ℕ → ℕ → List (List ℕ) → Type 0
 IsRefusal names files path limit texts = (path ≡ names.schema) × (limit ≡ schema_limit) × ((line : List ℕ) × IsSchemaLine names.schema files line × (texts ≡ line ∷ []))
 
--- by the status of a run on two files: a file that falls due, its limit, and the texts: all that were written or, where a write
--- failed, those of which a front was
+-- by the status of a run on two files: the file begun last, its limit, and the texts: all that were written or, where a call of the
+-- sink failed, those of which a front was. So where the hand-over before a load fails, its file is not begun
 abbrev pub RunHas : Named → Option (List File) → Status → List ℕ → ℕ → List (List ℕ) → Type 0
-RunHas names files Done path limit texts = IsDue names files path limit × AreAll names files false texts
-RunHas names files SomeRefused path limit texts = IsDue names files path limit × AreAll names files true texts
+RunHas names files Done path limit texts = FellDue names files texts path limit × AreAll names files false texts
+RunHas names files SomeRefused path limit texts = FellDue names files texts path limit × AreAll names files true texts
 RunHas names files Usage path limit texts = ⊥
 RunHas names files BadSchema path limit texts = IsRefusal names files path limit texts
 RunHas names files ReadFault path limit texts = FallsDue names files texts path limit
-RunHas names files WriteFault path limit texts = IsRefusal names files path limit texts ⊎ (IsDue names files path limit × AreFirst names files texts)
+RunHas names files WriteFault path limit texts = IsRefusal names files path limit texts ⊎ (FellDue names files texts path limit × AreFirst names files texts)
 RunHas names files TooLong path limit texts = FallsDue names files texts path limit
 RunHas names files NoMemory path limit texts = IsDue names files path limit × ((texts ≡ []) ⊎ AreFirst names files texts)
 

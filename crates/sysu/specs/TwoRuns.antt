@@ -5,7 +5,7 @@ use Rattle.su_io.specs.declared.files.File.{File as AFile}
 use Rattle.su_io.specs.Causes.{Rose}
 use Rattle.su_io.specs.declared.status.Status.{Status}
 use Rattle.su_io.specs.declared.status.Status.TheVariants.{NoMemory}
-use Rattle.su_io.specs.HandOver.{HandsOver}
+use Rattle.su_io.specs.HandOver.{EndsHandedOver}
 use Rattle.su_io.specs.Moments.{Moment}
 use Rattle.sysu.specs.Statuses.{Comes}
 use Rattle.sysu.specs.Words.{named, checks, Generates}
@@ -14,7 +14,7 @@ use Rattle.sysu.specs.Words.{named, checks, Generates}
 pub record Ran (files : List AFile) (words : List (List ℕ)) (appended : List ℕ) (status : Status) : Type 0 where
   pub old : Moment
   pub new : Moment
-  pub ends : HandsOver (Comes words old) new status
+  pub ends : EndsHandedOver (Comes words) old new status
   pub files_are : old.files ≡ Some files
   pub before : List ℕ
   pub told : old.told.written ≡ Some before

@@ -4,10 +4,10 @@ use std::alloc::Global;
 use std::test::Fail;
 use std::thread::Threads;
 use su_base::{List, NoMemory, Str};
-use su_io::{File, MemoryShelf, MemorySink, Outside, Shelf, Sink, Status};
+use su_io::{File, HoldingSink, MemoryShelf, MemorySink, Outside, Shelf, Sink, Status};
 use su_par::OpenGate;
 
-const BANK: &str =
+pub(crate) const BANK: &str =
     "attribute BANK text; attribute ACCT int; attribute CUST text; attribute BAL int; attribute LOAN int; attribute AMT int; attribute ADDR text; relation BA (BANK text, ACCT int); relation AC (ACCT int, CUST text); relation AB (ACCT int, BAL int); relation BL (BANK text, LOAN int); relation LC (LOAN int, CUST text); relation LA (LOAN int, AMT int); relation CA (CUST text, ADDR text); object BANK_ACCT (BANK, ACCT) from BA (BANK, ACCT); object ACCT_CUST (ACCT, CUST) from AC (ACCT, CUST); object ACCT_BAL (ACCT, BAL) from AB (ACCT, BAL); object BANK_LOAN (BANK, LOAN) from BL (BANK, LOAN); object LOAN_CUST (LOAN, CUST) from LC (LOAN, CUST); object LOAN_AMT (LOAN, AMT) from LA (LOAN, AMT); object CUST_ADDR (CUST, ADDR) from CA (CUST, ADDR); fd ACCT -> BANK; fd ACCT -> BAL; fd LOAN -> BANK; fd LOAN -> AMT; fd CUST -> ADDR;";
 
 const SCRIPT: &str = "print BA; load AB from 'g.csv'; print AB;";
@@ -67,7 +67,7 @@ const RUNS: &[Asked] = &[
     },
 ];
 
-fn words(alloc: Global, all: &[&str]) -> Result<List<Str>, NoMemory> {
+pub(crate) fn words(alloc: Global, all: &[&str]) -> Result<List<Str>, NoMemory> {
     let mut words = List::new(alloc);
     for word in all {
         words.push(Str::new(alloc, word)?)?;
@@ -212,24 +212,62 @@ fn end_at_shelf(asked: &Asked, k: u64) -> End {
 }
 
 /// How it ends where call number k of the sink fails, or where there are fewer: one call hands over
-/// behind the last piece.
+/// before the file of a load, which has replies before it, and one behind the last piece.
 fn end_at_sink(asked: &Asked, k: u64) -> End {
     let mut begun = None;
+    let mut loads = 0u64;
     for (name, _, before) in asked.reads {
-        if pieces(asked.replies, *before) <= k {
+        let through = loads.wrapping_add(u64::from(*before > 0));
+        if pieces(asked.replies, *before).wrapping_add(through) <= k {
             begun = Some(*name);
+            loads = through;
         }
     }
-    let status = if k <= pieces(asked.replies, asked.replies.len()) {
+    let last = pieces(asked.replies, asked.replies.len()).wrapping_add(loads);
+    let status = if k <= last {
         Status::WriteFault
     } else {
         asked.status
     };
     End {
         status,
-        pieces: k,
+        pieces: k.wrapping_sub(loads),
         begun,
     }
+}
+
+/// What a run leaves at a sink that holds back until it is flushed: its status, and how many replies
+/// are written, each as one piece, and handed over.
+#[derive(Clone, Copy)]
+struct Left {
+    status: Status,
+    replies: usize,
+    over: usize,
+}
+
+/// Whether the sink was handed the first so many replies, each as one piece, and so many are over.
+fn holds_so(sink: &HoldingSink, asked: &Asked, left: Left) -> bool {
+    let mut all = sink.pieces().len() == left.replies && sink.over() == left.over;
+    for (piece, reply) in sink.pieces().iter().zip(asked.replies.iter()) {
+        all &= piece.as_slice() == reply.as_bytes();
+    }
+    all
+}
+
+/// Whether that is left where call number k of the shelf fails.
+fn leaves_so<R: Threads + Sync>(
+    rt: &R,
+    alloc: Global,
+    asked: &Asked,
+    k: u64,
+    left: Left,
+) -> Result<bool, NoMemory> {
+    let words = words(alloc, asked.words)?;
+    let shelf = shelf_failing_at(alloc, k)?;
+    let sink = HoldingSink::new(alloc);
+    let mut outside = Outside { shelf, sink };
+    let status = ran(rt, alloc, words.as_slice(), &mut outside);
+    Ok(status == left.status && holds_so(&outside.sink, asked, left))
 }
 
 /// More calls than the shelf or the sink gets.
@@ -279,6 +317,26 @@ fn each_failing_call_of_the_sink_leaves_a_front(rt: HostRuntime) -> Result<(), F
     for (i, asked) in RUNS.iter().enumerate() {
         let call = otherwise_at_sink(&rt, rt.alloc(), asked)?;
         assert_eq!(rt; call, None, "run {i}");
+    }
+    Ok(())
+}
+
+#[test]
+fn each_reply_is_one_piece_and_handed_over(rt: HostRuntime) -> Result<(), Fail> {
+    let all = Left {
+        status: Status::Done,
+        replies: 3,
+        over: 3,
+    };
+    let first = Left {
+        status: Status::ReadFault,
+        replies: 1,
+        over: 1,
+    };
+    let load = calls(BANK).wrapping_add(calls(SCRIPT));
+    for (k, left) in [(MANY, all), (load, first)] {
+        let so = leaves_so(&rt, rt.alloc(), &RUNS[0], k, left)?;
+        assert!(rt; so, "call {k}");
     }
     Ok(())
 }

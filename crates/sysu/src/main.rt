@@ -35,3 +35,7 @@ fn main(rt: HostRuntime) -> ExitCode {
 
 #[cfg(test)]
 mod fault_tests;
+#[cfg(test)]
+mod hostile_tests;
+#[cfg(test)]
+mod worker_tests;

@@ -3,18 +3,33 @@ ghost use Rattle.std.specs.Prelude.{◌≡◌, ◌≤◌, ℕ, List as Items, So
 ghost use Rattle.su_io.specs.Moments.{Moment};
 ghost use Rattle.su_session.specs.Commands.{IsRead};
 ghost use Rattle.sysu.specs.inside.ScriptAnswers.{AnswersScript};
-ghost use Rattle.sysu.specs.inside.HandedFiles.{HandingEnds, OnlyRead};
+ghost use Rattle.sysu.specs.inside.HandedFiles.{HandingEnds, LoadingEnds};
 ghost use Rattle.sysu.specs.inside.Turns.{TurnEnds};
 
 use std::alloc::Global;
 use std::thread::Threads;
-use su_base::List;
+use su_base::{List, Str};
 use su_io::{Outside, Shelf, Sink, Status};
 use su_lex::cut;
 use su_par::Gate;
 use su_session::{Command, Session, Want, read};
 
 const LOAD_LIMIT: u64 = 1 << 26;
+
+/// Reads the file of a load, once all that is written is handed over.
+fn read_load<H: Shelf, K: Sink>(
+    alloc: Global,
+    path: Str,
+    outside: &mut Outside<H, K>,
+) -> Result<List<u8>, Status>
+    ensures files { outside.new.files ≡ outside.old.files }
+    ensures ends { LoadingEnds path outside.old outside.new result }
+{
+    match outside.flush() {
+        Ok(()) => outside.read(alloc, path, LOAD_LIMIT),
+        Err(_) => Err(Status::WriteFault),
+    }
+}
 
 /// The bytes of the file that the command wants.
 fn handed<H: Shelf, K: Sink>(
@@ -23,13 +38,13 @@ fn handed<H: Shelf, K: Sink>(
     command: &Command,
     outside: &mut Outside<H, K>,
 ) -> Result<Option<List<u8>>, Status>
-    ensures rest { OnlyRead outside.old outside.new }
+    ensures files { outside.new.files ≡ outside.old.files }
     ensures ends { (text : Items ℕ) → IsRead text command.now → HandingEnds session.now text outside.old outside.new result }
 {
     match session.wants(command) {
         Ok(Want::Nothing) => Ok(None),
         Ok(Want::File(path)) => {
-            let bytes = outside.read(alloc, path, LOAD_LIMIT)?;
+            let bytes = read_load(alloc, path, outside)?;
             Ok(Some(bytes))
         }
         Err(_) => Err(Status::NoMemory),
@@ -74,7 +89,7 @@ fn answer_one<R: Threads + Sync, H: Shelf, K: Sink, G: Gate>(
 }
 
 /// Writes the replies to a script's statements in order, each by one whole write. The file of a load
-/// is read when its statement is reached.
+/// is read when its statement is reached, and begun once the replies before it are handed over.
 pub(crate) fn answer_all<R: Threads + Sync, H: Shelf, K: Sink, G: Gate>(
     rt: &R,
     alloc: Global,

@@ -1,6 +1,6 @@
 //! The run of the program over any shelf and sink.
 ghost use Rattle.std.specs.Prelude.{◌≡◌, ◌≢◌, ◌≤◌, ◌&&◌, nat_eq, nat_lt, true, false, Some, ◌<◌, ◌^◌, ◌++◌, ◌∷◌, [], IfOk, IfSome, MatchOption, option_map, string_bytes};
-ghost use Rattle.su_io.specs.HandOver.{HandsOver};
+ghost use Rattle.su_io.specs.HandOver.{EndsHandedOver};
 ghost use Rattle.su_io.specs.Moments.{Moment};
 ghost use Rattle.su_io.specs.Programs.{UsageEnds};
 ghost use Rattle.sysu.specs.Complete.{IsComplete};
@@ -162,14 +162,21 @@ fn run_words<R: Threads + Sync, H: Shelf, K: Sink, G: Gate>(
 /// The whole program over any shelf and sink. The words, without the program's name, are
 /// `run SCHEMA SCRIPT`, and may end with `--workers N` for a number from 1 to 16, `generate N` for a
 /// number from 1 to 1,000, or `check FILE`; for any others the usage line is written. The schema file is
-/// read first, then the script, whose statements are answered one by one; each reply is written whole. In
-/// the end the sink hands over what it holds back; where that fails the status is 5, whatever the run came
-/// to.
+/// read first, then the script, whose statements are answered one by one; each reply is written whole. What
+/// the sink holds back is handed over before the file of a load is begun, and at the end of a run that no file or write
+/// has ended; where that fails the status is 5. So with 4 or 6 nothing is left to hand over, and with any status but 5
+/// all that was written is over.
 ///
 /// At most N terms of a query are minimised or executed at a time (1 without the option), and the
-/// gate is passed before each; neither is in any clause. For `check FILE` the verdict on the
-/// certificate in the file is written: status 0 for a yes, 1 for a no. For `generate N` a bank with N
-/// rows in each relation is made, by one worker, and what four queries find in it is written.
+/// gate is passed before each; neither is in any clause.
+///
+/// Where the files and the output tell their bytes, the headline says what the replies to the queries of
+/// a run are that came to its end: a moment has both as options, and each clause speaks of the bytes of
+/// files where the shelf tells its files, and of what was written where the sink tells its bytes.
+///
+/// For `check FILE` the verdict on the certificate in the file is written: status 0 for a yes, 1 for a
+/// no. For `generate N` a bank with N rows in each relation is made, by one worker, and what four queries
+/// find in it is written.
 pub fn run<R: Threads + Sync, H: Shelf, K: Sink, G: Gate>(
     rt: &R,
     alloc: Global,
@@ -178,7 +185,7 @@ pub fn run<R: Threads + Sync, H: Shelf, K: Sink, G: Gate>(
     gate: &G,
 ) -> Status
     ensures files { outside.new.files ≡ outside.old.files }
-    ensures ends { HandsOver (Comes words.now outside.old) outside.new result }
+    ensures ends { EndsHandedOver (Comes words.now) outside.old outside.new result }
     ensures complete { IsComplete words.now outside.old outside.new result }
     ensures headline { Headline words.now outside.old outside.new result }
 {

@@ -1,14 +1,17 @@
--- How a run ends, from how its reply is told.
-use Rattle.std.proofs.Common.{◌≡◌, ◌≤◌, ℕ, List, Some, refl, sym, subst, inl, inr}
+-- How a run ends, from how its reply is told and all is handed over.
+use Rattle.std.proofs.Common.{◌≡◌, ◌≤◌, ℕ, List, [], ◌∷◌, Some, refl, sym, subst, inl, inr}
 use Rattle.su_io.specs.declared.status.Status.{Status}
 use Rattle.su_io.specs.declared.status.Status.TheVariants.{Done, SomeRefused, Usage, BadSchema, ReadFault, WriteFault, TooLong, NoMemory}
 use Rattle.su_io.specs.Moments.{Moment}
 use Rattle.su_io.specs.FileEnds.{IsFile}
+use Rattle.su_io.specs.HandOver.{HandsAllOver}
+use Rattle.su_io.specs.Programs.{StopsOver}
 use Rattle.su_io.specs.WrittenTexts.{IsTold}
 use Rattle.su_io.proofs.OneText.{tells_of_file, no_memory}
-use Rattle.sysu_draw.specs.Ends.{DrawingEnds}
+use Rattle.su_io.proofs.Programs.{Ends-on, Ends-over, Tells-over, UsageEnds-on}
+use Rattle.sysu_draw.specs.Ends.{Comes, DrawingEnds}
 use Rattle.sysu_draw.specs.inside.Tellings.{ReplyEnds}
-use Rattle.sysu_draw.specs.Replies.{text_limit, IsReply, IsReplyTo}
+use Rattle.sysu_draw.specs.Replies.{text_limit, usage_line, IsReply, IsReplyTo}
 
 -- the file was read
 module _ (path : List ℕ) (old mid new : Moment) (text : List ℕ) (is_file : IsFile old.files path text_limit text)
@@ -31,3 +34,17 @@ module _ (path : List ℕ) (old mid new : Moment) (text : List ℕ) (is_file : I
   drawn status (inl reply) = reply_told reply.came reply.bytes reply.reply status reply.told
   drawn status (inr none) = subst (DrawingEnds path old new) (sym none.0)
       (subst (λ (m : Moment). DrawingEnds path old m NoMemory) (sym none.1) (no_memory (IsReplyTo path old.files) path text_limit old mid begun same writes reads taken))
+
+-- ---- a hand-over behind what the words come to
+
+-- it leaves it so
+pub comes_on : (words : List (List ℕ)) (old mid new : Moment) → HandsAllOver mid new → (status : Status) → Comes words old mid status → Comes words old new status
+comes_on [] old mid new hands status comes = UsageEnds-on old mid new hands usage_line status comes
+comes_on (path ∷ []) old mid new hands status comes = Ends-on old mid new hands status comes
+comes_on (word ∷ other ∷ words) old mid new hands status comes = UsageEnds-on old mid new hands usage_line status comes
+
+-- where it stops at a file, nothing is left to hand over
+pub comes_over : (words : List (List ℕ)) (old new : Moment) (status : Status) → Comes words old new status → StopsOver old new status
+comes_over [] old new status comes = Tells-over old new status comes.1
+comes_over (path ∷ []) old new status comes = Ends-over old new status comes
+comes_over (word ∷ other ∷ words) old new status comes = Tells-over old new status comes.1

@@ -1,6 +1,6 @@
 //! The run of the program over any shelf and sink.
 ghost use Rattle.std.specs.Prelude.{◌≡◌};
-ghost use Rattle.su_io.specs.HandOver.{HandsOver};
+ghost use Rattle.su_io.specs.HandOver.{EndsHandedOver};
 ghost use Rattle.su_io.specs.Moments.{Moment};
 ghost use Rattle.sysu_draw.specs.Ends.{Comes, DrawingEnds};
 
@@ -40,10 +40,11 @@ fn run_words<H: Shelf, K: Sink>(alloc: Global, words: &[Str], outside: &mut Outs
 /// The whole program over any shelf and sink. The one word, without the program's name, is the path of
 /// a file, which holds what `sysu` writes for `schema` or for `explain`; for any other words the usage
 /// line is written. The file is read whole before anything is written. In the end the sink hands over
-/// what it holds back; where that fails the status is 5, whatever the run came to.
+/// what it holds back, where the file was read and no write failed; where that fails the status is 5. So with any other
+/// status all that was written is over.
 pub fn run<H: Shelf, K: Sink>(alloc: Global, words: &[Str], outside: &mut Outside<H, K>) -> Status
     ensures files { outside.new.files ≡ outside.old.files }
-    ensures ends { HandsOver (Comes words.now outside.old) outside.new result }
+    ensures ends { EndsHandedOver (Comes words.now) outside.old outside.new result }
 {
     let came = run_words(alloc, words, outside);
     outside.hand_over(came)

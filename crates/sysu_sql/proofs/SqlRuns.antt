@@ -1,14 +1,15 @@
--- How a run ends, from how its schema is opened, its script is read and its SQL is told.
-use Rattle.std.proofs.Common.{◌≡◌, ◌≤◌, ◌∙◌, ℕ, List, [], ◌∷◌, Option, Some, Ok, Err, Bool, true, false, refl, sym, ap, subst, inl, inr}
+-- How a run ends, from how its schema is opened, its script is read, its SQL is told and all is handed over.
+use Rattle.std.proofs.Common.{◌≡◌, ◌≤◌, ◌∙◌, ℕ, List, [], ◌∷◌, Option, Some, None, Ok, Err, Bool, true, false, refl, sym, ap, subst, inl, inr}
 use Rattle.su_io.specs.declared.files.File.{File}
 use Rattle.su_io.specs.declared.status.Status.{Status}
 use Rattle.su_io.specs.declared.status.Status.TheVariants.{Done, SomeRefused, Usage, BadSchema, ReadFault, WriteFault, TooLong, NoMemory}
 use Rattle.su_io.specs.Moments.{Moment}
-use Rattle.su_io.specs.Programs.{OneText}
+use Rattle.su_io.specs.HandOver.{AllIsOver, HandsAllOver}
+use Rattle.su_io.specs.Programs.{StopsOver, OneText}
 use Rattle.su_io.specs.FileEnds.{FileEnds}
 use Rattle.su_io.specs.WrittenTexts.{Wrote, IsTold}
-use Rattle.su_io.proofs.OneText.{IsOwn, one_of, own_of}
-use Rattle.su_io.proofs.Programs.{ReadingEnds-from, WritingEnds-from, Ends-map, read_within}
+use Rattle.su_io.proofs.OneText.{IsOwn, no_stop, one_of, own_of}
+use Rattle.su_io.proofs.Programs.{ReadingEnds-from, WritingEnds-from, Ends-map, Ends-on, Ends-over, Tells-over, UsageEnds-on, read_within}
 use Rattle.su_io.proofs.WrittenTexts.{Wrote-none}
 use Rattle.su_schema.specs.SchemaValue.{SchemaValue}
 use Rattle.su_session.specs.declared.replies.Reply.{Reply}
@@ -17,8 +18,8 @@ use Rattle.su_files.specs.RunFiles.{script_limit}
 use Rattle.su_files.proofs.Refusals.{Refuses}
 use Rattle.su_sql.specs.Scripts.{WritesScript}
 use Rattle.sysu_sql.specs.inside.Tellings.{SqlEnds, status_by}
-use Rattle.sysu_sql.specs.Runs.{IsDue, IsSql, Says, RunEnds}
-use Rattle.sysu_sql.specs.Words.{Named}
+use Rattle.sysu_sql.specs.Runs.{IsDue, IsSql, Says, RunEnds, ComesOf}
+use Rattle.sysu_sql.specs.Words.{Named, usage_line}
 
 -- ---- the schema was not opened
 
@@ -58,9 +59,12 @@ module _ (names : Named) (old mid late : Moment) (schema : SchemaValue) (opened 
   nothing : Wrote old.told late.told []
   nothing = rw told_is (Wrote-none old.told)
 
+  all_over : AllIsOver old.told → AllIsOver late.told
+  all_over before = rw told_is before
+
   -- there was no memory behind it
   no_memory : late.reads ≡ old.reads → late.taken ≤ script_limit → RunEnds names old late NoMemory
-  no_memory same taken = inl record { path = names.script; limit = script_limit; texts = []; holds = (due, refl); begun = begun_is; reading = (same, taken); writing = (writes_are, nothing) }
+  no_memory same taken = inl record { path = names.script; limit = script_limit; texts = []; holds = (due, refl); begun = begun_is; reading = (same, taken); writing = (writes_are, nothing); over = tt }
 
   -- it was not read
   pub script_fails : (status : Status) → FileEnds names.script script_limit mid late (Err status) → RunEnds names old late status
@@ -72,6 +76,7 @@ module _ (names : Named) (old mid late : Moment) (schema : SchemaValue) (opened 
     begun = begun_is;
     reading = ReadingEnds-from names.script script_limit old mid late files_are opened.reads ReadFault ends;
     writing = (writes_are, nothing);
+    over = all_over;
   }
   script_fails TooLong ends = inl record {
     path = names.script;
@@ -81,6 +86,7 @@ module _ (names : Named) (old mid late : Moment) (schema : SchemaValue) (opened 
     begun = begun_is;
     reading = ReadingEnds-from names.script script_limit old mid late files_are opened.reads TooLong ends;
     writing = (writes_are, nothing);
+    over = all_over;
   }
   script_fails NoMemory ends = no_memory (ends.0 ∙ opened.reads) ends.1
   script_fails Done ends = absurd ends
@@ -102,6 +108,7 @@ module _ (names : Named) (old mid late : Moment) (schema : SchemaValue) (opened 
           begun = ap (λ (m : Moment). m.begun) told.rest ∙ begun_is;
           reading = read_within names.script script_limit old new status here.0 here.1 (ap (λ (m : Moment). m.reads) told.rest ∙ ends.0 ∙ opened.reads) (rw (ap (λ (m : Moment). m.taken) told.rest) ends.1);
           writing = WritingEnds-from (text ∷ []) old late new told_is writes_are status told.writing;
+          over = no_stop status here old new;
         }
 
     of_sql : (reply : Reply) → WritesScript names.dialect schema script reply → IsSql names old.files reply
@@ -118,3 +125,15 @@ module _ (names : Named) (old mid late : Moment) (schema : SchemaValue) (opened 
     pub script_told : (status : Status) → SqlEnds names.dialect schema script late new status → RunEnds names old new status
     script_told status (inl sql) = sql_told sql.reply (of_sql sql.reply sql.writes) sql.reply.refused refl status sql.told
     script_told status (inr none) = subst (RunEnds names old new) (sym none.0) (subst (λ (m : Moment). RunEnds names old m NoMemory) (sym none.1) (no_memory (ends.0 ∙ opened.reads) ends.1))
+
+-- ---- a hand-over behind what the words come to
+
+-- it leaves it so
+pub comes_on : (names : Option Named) (old mid new : Moment) → HandsAllOver mid new → (status : Status) → ComesOf names old mid status → ComesOf names old new status
+comes_on (Some names) old mid new hands status comes = Ends-on old mid new hands status comes
+comes_on None old mid new hands status comes = UsageEnds-on old mid new hands usage_line status comes
+
+-- where it stops at a file, nothing is left to hand over
+pub comes_over : (names : Option Named) (old new : Moment) (status : Status) → ComesOf names old new status → StopsOver old new status
+comes_over (Some names) old new status comes = Ends-over old new status comes
+comes_over None old new status comes = Tells-over old new status comes.1

@@ -1,6 +1,6 @@
 //! The run of the program over any shelf and sink.
 ghost use Rattle.std.specs.Prelude.{◌≡◌};
-ghost use Rattle.su_io.specs.HandOver.{HandsOver};
+ghost use Rattle.su_io.specs.HandOver.{EndsHandedOver};
 ghost use Rattle.su_io.specs.Moments.{Moment};
 ghost use Rattle.sysu_sql.specs.Runs.{Comes, RunEnds};
 
@@ -60,7 +60,8 @@ fn run_words<R: Threads + Sync, H: Shelf, K: Sink, G: Gate>(
 /// The whole program over any shelf and sink. The words, without the program's name, are
 /// `SCHEMA SCRIPT`, and may end with `--dialect` and the name of one; for any others the usage line is
 /// written. Both files are read, and the whole text is made, before any of it is written. In the end
-/// the sink hands over what it holds back; where that fails the status is 5, whatever the run came to.
+/// the sink hands over what it holds back, where the files were read and no write failed; where that fails the status
+/// is 5. So with any other status all that was written is over.
 pub fn run<R: Threads + Sync, H: Shelf, K: Sink, G: Gate>(
     rt: &R,
     alloc: Global,
@@ -69,7 +70,7 @@ pub fn run<R: Threads + Sync, H: Shelf, K: Sink, G: Gate>(
     gate: &G,
 ) -> Status
     ensures files { outside.new.files ≡ outside.old.files }
-    ensures ends { HandsOver (Comes words.now outside.old) outside.new result }
+    ensures ends { EndsHandedOver (Comes words.now) outside.old outside.new result }
 {
     let came = run_words(rt, alloc, words, outside, gate);
     outside.hand_over(came)

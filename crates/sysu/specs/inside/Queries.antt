@@ -1,5 +1,5 @@
 -- Replies that follow one another answer their queries.
--- texts, replies: one for each statement, in order; first, last: the database before them and after them; query: a retrieve that isn't refused
+-- texts, replies: one for each statement, in order; first, last: the database before them and after them; query: one that isn't refused
 -- files: those of the shelf, where it tells them
 -- No public contract cites this module.
 use Rattle.std.specs.Prelude.{ℕ, List, Option}

@@ -3,12 +3,13 @@
 -- of a moment: begun, the file last begun; taken, how many bytes of it; told, what the sink says of itself; writes, its count of faults
 -- names: the run's two files; refused: whether the reply is a refusal; status: how the run ends
 -- No public contract cites this module.
-use Rattle.std.specs.Prelude.{◌≡◌, ◌≤◌, ◌∷◌, [], ℕ, List, Option, Some, Bool, Result, Ok, Err}
+use Rattle.std.specs.Prelude.{◌≡◌, ◌≤◌, ◌⊎◌, ◌∷◌, [], ℕ, List, Option, Some, Bool, Result, Ok, Err}
 use Rattle.su_io.specs.Causes.{Rose}
 use Rattle.su_io.specs.declared.files.File.{File}
 use Rattle.su_io.specs.declared.status.Status.{Status}
 use Rattle.su_io.specs.declared.status.Status.TheVariants.{ReadFault, WriteFault, TooLong, NoMemory}
 use Rattle.su_io.specs.Moments.{Moment}
+use Rattle.su_io.specs.HandOver.{AllIsOver, FailsToHandOver}
 use Rattle.su_io.specs.Programs.{ReadsAndTells}
 use Rattle.su_io.specs.FileEnds.{ReadingEnds}
 use Rattle.su_io.specs.WrittenTexts.{Wrote, WroteFront}
@@ -29,13 +30,22 @@ pub record AnsweredOne (files : Option (List File)) (old : DatabaseValue) (text 
   pub replied : Replied old text file reply new
   pub kept : IsWellKept old
 
--- the run ends at the file that the statement wants
+-- the run ends at the file that the statement wants; all that was written is over
 pub record StopsAtFile (db : DatabaseValue) (text : List ℕ) (old new : Moment) (status : Status) : Type 0 where
   pub path : List ℕ
   pub began : Began db text path new
   pub reading : ReadingEnds path load_limit old new status
-  pub told : new.told ≡ old.told
+  pub told : Wrote old.told new.told []
+  pub all : AllIsOver new.told
   pub writes : new.writes ≡ old.writes
+
+-- a front of the reply to the statement was written, behind which the sink failed
+pub record RepliesInPart (db : DatabaseValue) (text : List ℕ) (next : DatabaseValue) (old new : Moment) : Type 0 where
+  pub took : HasTaken db text old new
+  pub rose : Rose old.writes new.writes
+  pub reply : Reply
+  pub answered : AnsweredOne old.files db text next reply
+  pub front : WroteFront old.told new.told (reply.bytes ∷ [])
 
 -- how one statement ends: with its reply, or with the run
 abbrev pub TurnEnds : DatabaseValue → List ℕ → DatabaseValue → Moment → Moment → Result Bool Status → Type 0
@@ -43,9 +53,8 @@ TurnEnds db text next old new (Ok refused) =
     HasTaken db text old new × (new.writes ≡ old.writes) × ((reply : Reply) × AnsweredOne old.files db text next reply × (reply.refused ≡ refused) × Wrote old.told new.told (reply.bytes ∷ []))
 TurnEnds db text next old new (Err ReadFault) = StopsAtFile db text old new ReadFault
 TurnEnds db text next old new (Err TooLong) = StopsAtFile db text old new TooLong
-TurnEnds db text next old new (Err WriteFault) =
-    HasTaken db text old new × Rose old.writes new.writes × ((reply : Reply) × AnsweredOne old.files db text next reply × WroteFront old.told new.told (reply.bytes ∷ []))
-TurnEnds db text next old new (Err NoMemory) = HasTaken db text old new × (new.writes ≡ old.writes) × (new.told ≡ old.told)
+TurnEnds db text next old new (Err WriteFault) = RepliesInPart db text next old new ⊎ FailsToHandOver old new
+TurnEnds db text next old new (Err NoMemory) = HasTaken db text old new × (new.writes ≡ old.writes) × Wrote old.told new.told []
 TurnEnds db text next old new (Err _) = ⊥
 
 -- the schema was accepted, and the script was read last

@@ -6,7 +6,7 @@ use Rattle.su_tableau.specs.declared.symbols.Sym.{Sym}
 use Rattle.su_tableau.specs.Tableaux.{AreBelow}
 use Rattle.su_chase.specs.Chase.{IsClash}
 use Rattle.su_window.specs.Padded.{padded_rows}
-use Rattle.su_window.proofs.Whole.{can_close, refused_told, attributes_within, fits_told, exact_told}
+use Rattle.su_window.proofs.Whole.{can_close, refused_told, attributes_within, fits_told, represented_told, exact_told}
 use Rattle.su_window.proofs.windows.window.Goals as goal
 
 pub close-requires : goal.close-requires
@@ -57,3 +57,12 @@ returns-clause-fits c =
     let fds : c.fds.result.now ≡ db.schema.fds = c.fds.ensures ∙ ap (λ (s : SchemaValue). s.fds) c.schema-2.ensures in
     let rows : c.as_slice-4.result.now ≡ padded_rows db readings = c.as_slice-4.ensures ∙ c.in_ok-rows.ensures ∙ ap (padded_rows db) c.as_slice-3.ensures in
     fits_told db c.keeps_its_rules.ensures readings c.in_ok-readings.ensures.readings c.in_ok-readings.ensures.few c.fds.result.now fds c.as_slice-4.result.now rows closed.names c.in_ok-names.ensures.all c.in_ok-names.ensures.names closed.clash c.in_ok-names.ensures.clash c.in-None.is
+
+pub returns-clause-represented : goal.returns-clause-represented
+returns-clause-represented c =
+    let db = c.args.db.now in
+    let readings = c.in_ok-readings.readings in
+    let closed = c.in_ok-names.field-0 in
+    let fds : c.fds.result.now ≡ db.schema.fds = c.fds.ensures ∙ ap (λ (s : SchemaValue). s.fds) c.schema-2.ensures in
+    let rows : c.as_slice-4.result.now ≡ padded_rows db readings = c.as_slice-4.ensures ∙ c.in_ok-rows.ensures ∙ ap (padded_rows db) c.as_slice-3.ensures in
+    represented_told db c.keeps_its_rules.ensures readings c.in_ok-readings.ensures.readings c.in_ok-readings.ensures.few c.fds.result.now fds c.as_slice-4.result.now rows closed.names c.in_ok-names.ensures.all c.in_ok-names.ensures.names closed.clash c.in_ok-names.ensures.clash c.in-None.is

@@ -8,6 +8,6 @@ invariant-loop-span g l = record {
   files : l.outside.files ≡ l.fn.outside.files;
   reads : l.outside.reads ≡ l.fn.outside.reads;
   writes : l.outside.writes ≡ l.fn.outside.writes;
-  took : TookLoads l.script l.span-items l.fn.session l.fn.outside l.outside;
   so_far : SoFar l.fn.outside.files l.script (take l.span-index l.span-items) l.fn.session l.session l.refused l.fn.outside.told l.outside.told;
+  took : TookLoads l.script l.span-items l.fn.session so_far.replies l.fn.outside l.outside;
 }

@@ -1,7 +1,6 @@
 -- The command was read of the text, so that the file it wants is the one the text wants, and how its reading ends is how the handing ends.
 use Rattle.std.proofs.Common.{refl, subst, sym, ap, ◌∙◌, Err, inr}
 use Rattle.std.proofs.lemmas.Result.{err_from_is_err_and}
-use Rattle.su_io.specs.Moments.{Moment}
 use Rattle.su_session.specs.WantedFiles.{Wants}
 use Rattle.sysu.specs.inside.HandedFiles.{HandingEnds}
 use Rattle.sysu.proofs.statements.handed.Goals as goal
@@ -11,12 +10,10 @@ returns-in-Ok-Nothing-clause-ends g c = λ text is. (subst (Wants c.args.session
 
 pub returns-in_ok-bytes-in-Ok-File-clause-ends : goal.returns-in_ok-bytes-in-Ok-File-clause-ends
 returns-in_ok-bytes-in-Ok-File-clause-ends g c = λ text is.
-    let done = c.in_ok-bytes-in-Ok-File.ensures in
-    (_, record { wanted = subst (Wants c.args.session.now text) c.in-Ok-File.field-0-is (c.in-Ok-File.ensures text is); begun = ap (λ (m : Moment). m.begun) done.rest }, done.ends)
+    (_, subst (Wants c.args.session.now text) c.in-Ok-File.field-0-is (c.in-Ok-File.ensures text is), c.in_ok-bytes-in-Ok-File.ensures.ends)
 
 pub returns-in_err-bytes-in-Ok-File-clause-ends : goal.returns-in_err-bytes-in-Ok-File-clause-ends
 returns-in_err-bytes-in-Ok-File-clause-ends g c = λ text is.
-    let done = c.in_err-bytes-in-Ok-File.ensures in
     let p = err_from_is_err_and c.from_residual.result c.from_residual.ensures.1 in
     subst (HandingEnds c.args.session.now text _ _) (sym (p.1 ∙ ap Err p.2))
-    (inr (_, record { wanted = subst (Wants c.args.session.now text) c.in-Ok-File.field-0-is (c.in-Ok-File.ensures text is); begun = ap (λ (m : Moment). m.begun) done.rest }, done.ends))
+    (inr (_, subst (Wants c.args.session.now text) c.in-Ok-File.field-0-is (c.in-Ok-File.ensures text is), c.in_err-bytes-in-Ok-File.ensures.ends))
