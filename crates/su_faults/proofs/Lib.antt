@@ -1,0 +1,11 @@
+pub mod ConditionsLead
+pub mod ConditionsTaken
+pub mod DefinitionsLead
+pub mod EitherLead
+pub mod Endings
+pub mod Loop
+pub mod Reading
+pub mod Sorted
+pub mod Spelled
+pub mod StatementsLead
+pub mod Stepping

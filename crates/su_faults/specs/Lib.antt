@@ -1,0 +1,4 @@
+pub mod Faults
+pub mod Languages
+pub mod Sorts
+pub mod inside

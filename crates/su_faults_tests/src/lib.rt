@@ -1,0 +1,7 @@
+//! Tests of su_faults, of its public calls alone: a crate with tests is proved twice, so they stand beside it.
+#![tactic(auto)]
+
+#[cfg(test)]
+mod tables;
+#[cfg(test)]
+mod tests;

@@ -1,0 +1,4 @@
+pub mod Ends
+pub mod Replies
+pub mod Words
+pub mod inside
