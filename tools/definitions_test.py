@@ -1,14 +1,16 @@
 #!/usr/bin/env python3
-"""Tests that each definition that docs/DEFINITIONS.md names stands in the file that it names, and that each call, clause
-and definition that it says carries a promise stands somewhere in the crates.
+"""Tests that each definition that docs/DEFINITIONS.md names stands in the file that it names, that each call, clause and
+definition that it says carries a promise stands somewhere in the crates, and that docs/READING.md names each file of
+definitions of sysu, su_files and su_io that the contract of `run` reaches.
 
 With a folder as argument it looks there for the crates, else beside this file."""
 import os
 import re
+import subprocess
 import sys
 
 TOP = sys.argv[1] if len(sys.argv) > 1 else os.path.dirname(os.path.dirname(os.path.abspath(__file__)))
-PLACE = re.compile(r"(?:(su_\w+|sysu(?:_draw|_sql)?) )?([A-Z]\w*)$")
+PLACE = re.compile(r"(?:(su_\w+|sysu(?:_draw|_sql|_place)?) )?([A-Z]\w*)$")
 
 
 def rows():
@@ -58,8 +60,18 @@ def sources(folder):
     return found
 
 
+def unread():
+    """The files of definitions of a run's own crates that the contract of `run` reaches and docs/READING.md doesn't name."""
+    tools = os.path.dirname(os.path.abspath(__file__))
+    reached = subprocess.run([os.path.join(tools, "reach"), "--of", "sysu::run"], stdout=subprocess.PIPE, text=True, check=True)
+    page = text_of(os.path.join(tools, "..", "docs", "READING.md"))
+    for crate, name in re.findall(r"(su_io|su_files|sysu)/specs/(\w+):", reached.stdout):
+        if f"{name}.antt" not in page:
+            yield f"docs/READING.md: {crate} {name}"
+
+
 def main():
-    lost = []
+    lost = list(unread())
     code = sources(os.path.join(TOP, "crates"))
     for promise, definition, carried in rows():
         if "std" not in definition and definition != "—":

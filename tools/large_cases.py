@@ -1,5 +1,5 @@
 """Rare cases, drawn by their numbers: those that reach the limits of a million rows or records, of 200,000 nodes, and of
-the bytes of a script and of a CSV file, and of a window, each within its limit and past it."""
+the bytes of a script, of a CSV file and of a certificate, and of a window, each within its limit and past it."""
 MILLION = 1000000
 MEBIBYTE = 1 << 20
 # Eight rows of two columns, none of which can be left out: what their trees have together is under 200,000 nodes in 256
@@ -79,16 +79,23 @@ def full_window(draw, past):
             {"f.csv": [b"A\n"] + many(range(there)), "g.csv": [b"B\n"] + many(range(20000 + past - there))})
 
 
+def long_certificate(draw, past):
+    """A certificate of 16 MiB, nearly all of it a comment or blank."""
+    front, blank = b"certificate 1 kinds int--", draw.choice([b" ", b"-", b"\t"])
+    return [], [], {"certificate": [front, blank * (16 * MEBIBYTE + past - len(front))]}, ["check", "certificate"]
+
+
 # The cases by their numbers.
-PLACES = {113: (long_script, 1), 213: (long_script, 0), 313: (long_file, 1), 417: (full_window, 1), 517: (full_window, 0), 617: (large_trees, 1),
-          717: (records, 1), 817: (full_relation, 1), 917: (large_answer, 1), 1113: (long_file, 0),
-          1217: (large_trees, 0), 1317: (records, 0), 1417: (full_relation, 0), 1517: (large_answer, 0)}
+PLACES = {113: (long_script, 1), 213: (long_script, 0), 463: (long_certificate, 1), 563: (long_certificate, 0),
+          313: (long_file, 1), 417: (full_window, 1), 517: (full_window, 0), 617: (large_trees, 1), 717: (records, 1),
+          817: (full_relation, 1), 917: (large_answer, 1), 1113: (long_file, 0), 1217: (large_trees, 0),
+          1317: (records, 0), 1417: (full_relation, 0), 1517: (large_answer, 0)}
 
 
 def large_case(draw, number):
-    """The schema, the script and the files of the large case of this number, or None."""
+    """The schema, the script, the files and perhaps the words of the large case of this number, or None."""
     if number not in PLACES:
         return None
     drawn, past = PLACES[number]
-    schema, script, files = drawn(draw, past)
-    return [text.encode() for text in schema], script, files
+    schema, *others = drawn(draw, past)
+    return [text.encode() for text in schema], *others

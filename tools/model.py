@@ -6,7 +6,7 @@
 writes what the program writes and ends with its status. It is made from the documents in docs/ alone and shares nothing
 with the program. It tries all sets of rows, all lists of targets and all valuations, so it is for small cases. It goes
 the way of a query: the text (model_texts.py), the schema and what may be joined (model_schema.py), the six steps
-(model_queries.py), the answer and its explanation.
+(model_queries.py), the answer and its explanation. The verdict on a certificate is in model_check.py.
 
 A whole number is an `int`, a text a `str`.
 """
@@ -17,10 +17,10 @@ import re
 import sys
 
 import certificates
-import check
 import comparing
 import csv_records
 import model_bank
+import model_check
 from model_queries import (Query, Reduced, agreeing, compares, first_mapping, head, read_statement, refs_of, resolved,
                            shown_query, shown_ref, terms)
 from model_schema import (Schema, define, derivation, find, maximal_objects, names_of, read_definition, shown_fd,
@@ -197,8 +197,9 @@ def insert(database, relation, row):
 
 def read_rows(data, columns):
     """The rows of a CSV file whose first record is the column names; the first record at fault refuses it, in the
-    order: past 1,000,000 records, width, a field that is no number, a field that is no text."""
-    found = csv_records.records(data[3:] if data.startswith(MARK) else data)
+    order: past 1,000,000 records, width, a field that is no number, a field that is no text. Of byte order marks in
+    front at most two are dropped."""
+    found = csv_records.records(data.removeprefix(MARK).removeprefix(MARK))
     if found[:1] != [[name.encode("ascii") for name, _ in columns]]:
         raise Refused("header")
     rows = []
@@ -364,7 +365,7 @@ def output(words, files):
     reply is a refusal, else 0; other words give the usage line and 2."""
     if words[:1] == ["check"] and len(words) == 2:
         try:
-            line = check.verdict(read_file(files, words[1], 16 * MEBIBYTE))
+            line = model_check.verdict(read_file(files, words[1], 16 * MEBIBYTE))
             return int(line.startswith("no")), line + "\n"
         except Ended as end:
             return end.args[0], ""

@@ -1,5 +1,6 @@
 """Random cases for the program and the reference model: a schema file, a script and CSV files, small enough for the
 model, and drawn so that rare things come up. Statements are drawn for the database as the model has it by then."""
+import itertools
 import re
 
 import certificates
@@ -9,9 +10,11 @@ import model_queries
 import model_schema
 import model_texts
 
-KINDS = 14
+KINDS = 16
 MOST_CALLS = 20000
-VARIABLES = [None, None, "t", "u"]
+MOST_ROWS = 14
+VARIABLES = [None, None, "t", "u", "v", "w"]
+COUNTS = [1, 1, 1, 2, 2, 2, 3, 3, 4, 5]
 NAMES = ["A", "B", "C", "D", "E", "F", "G"]
 INTS = [0, 1, 2, 3]
 RARE_INTS = [-1, 10, 9223372036854775807, -9223372036854775808]
@@ -99,7 +102,7 @@ def faulty_definition(draw, database):
     c = draw.choice(columns)
     differing = [f"object Q ({x}) from {name} ({y})" for x, kind in database.schema.attributes
                  for name, of in database.schema.relations for y, other in of if kind != other]
-    if differing and draw.random() < 0.3:
+    if differing and draw.random() < 0.5:
         return draw.choice(differing)
     return draw.choice([
         f"attribute {a} int", f"relation {r} (A int)", f"relation Q (A int, B int, A text)",
@@ -172,11 +175,14 @@ def query(draw, database, signs=tuple(SIGNS)):
         return "retrieve (A)"
     for _ in range(20):
         refs = []
-        asked = over_a_dependency(draw, schema) if draw.random() < 0.2 else None
+        special = draw.random()
+        asked = over_a_dependency(draw, schema) if special < 0.2 else over_one_object(draw, schema) if special < 0.25 else None
         if asked and is_small(schema, maximal, asked):
             return asked
-        for variable in draw.sample(VARIABLES, draw.choice([1, 1, 2, 2, 3])):
-            inside = sorted(model_schema.attributes_of(schema, draw.choice(maximal)))
+        variables = draw.sample(VARIABLES, draw.choice(COUNTS))
+        for variable in variables:
+            chosen = draw.choice(maximal) if len(variables) < 4 else min(maximal, key=len)
+            inside = sorted(model_schema.attributes_of(schema, chosen))
             if draw.random() < 0.05:
                 inside = list(range(len(schema.attributes)))
             for a in draw.sample(inside, min(len(inside), draw.choice([1, 2, 2, 3]))):
@@ -213,8 +219,20 @@ def over_a_dependency(draw, schema, signs=tuple(model_texts.OPERATORS), anywhere
     return f"retrieve ({', '.join(outputs)}) where {' and '.join(parts)}"
 
 
+def over_one_object(draw, schema):
+    """A query of three or four variables, equal here and there at two attributes of one object, if there is such an object."""
+    pairs = [pair for _, _, taken in schema.objects for pair in itertools.combinations(sorted(taken), 2)
+             if schema.attributes[pair[0]][1] == schema.attributes[pair[1]][1]]
+    if not pairs:
+        return None
+    names = [schema.attributes[a][0] for a in draw.choice(pairs)]
+    refs = [f"{variable}.{name}" for variable in draw.choice(["abc", "abcd"]) for name in names]
+    same = " and ".join(" = ".join(draw.sample(refs, 2)) for _ in range(draw.choice([2, 3, 4])))
+    return f"retrieve ({', '.join(draw.sample(refs, draw.choice([1, 2])))}) where {same}"
+
+
 def is_small(schema, maximal, text):
-    """Whether the model can do a query, or refuses it before it is much work."""
+    """Whether the model may do a query in little time, or refuses it before it is much work."""
     try:
         found = model.Query(schema, *model.read_statement(model.tokens(text.encode()))[1])
     except model.Refused:
@@ -223,7 +241,7 @@ def is_small(schema, maximal, text):
     for mentioned in found.mentioned:
         sizes = [len(members) for members in maximal if mentioned <= model_schema.attributes_of(schema, members)]
         rows, choices = rows + max(sizes, default=0), choices * len(sizes)
-    return choices <= 16 and choices << rows <= 2048
+    return choices <= 16 and rows <= MOST_ROWS
 
 
 class TooMuch(Exception):
@@ -329,7 +347,7 @@ def csv_file(draw, columns):
         lines.insert(draw.randint(0, len(lines)), end)
     elif fault < 0.45:
         lines[-1] = lines[-1].rstrip(b"\r\n")
-    return ([model.MARK] if draw.random() < 0.1 else []) + lines
+    return [model.MARK] * draw.choice([0] * 20 + [1, 1, 2, 3]) + lines
 
 
 def hostile(draw, statement):
@@ -432,10 +450,12 @@ def limited(draw, number):
         return Case(schema[:-1] if in_script else schema, [schema[-1]] if in_script else ["print P", "print R0"])
     if kind == 6:
         return Case(pair, [f"retrieve (A) where {'(' * (64 + past)}A = 1{')' * (64 + past)}",
-                           f"fd {'(' * 66}", "(" * 66, f"delete P where not {'(' * 65}", ")(" * 70])
+                           f"fd {'(' * 66}", "(" * 66, f"delete P where not {'(' * 65}", ")(" * 70,
+                           f"print {'L' * (64 + past)}", f"insert P ('{'t' * (4096 + past)}', 1)"])
     if kind == 7:
         refs = [f"v{i}.A" for i in range(8 + past)]
-        return Case(pair, [f"retrieve ({', '.join(refs)})" if past else "print P",
+        return Case(pair, ["insert P (1, 2)", "insert P (2, 2)", f"retrieve ({', '.join(refs)})" if past else "print P",
+                           "retrieve (v0.A, v1.B) where v2.A = v3.B and v4.A = v0.A", "retrieve (v0.A) where v1.B = v2.A and A > 1",
                            f"retrieve ({', '.join(['A'] * 129)}) where {' and '.join(ref + ' = 1' for ref in refs)}"])
     if kind == 8:
         return Case(pair, ["insert P (1, 2)", f"retrieve ({', '.join(['A'] * (128 + past))})",
@@ -457,6 +477,8 @@ def limited(draw, number):
         refs = [f"v{i}.A{draw.randint(0, count)}" for i in range(variables)]
         cases = " or ".join([f"{refs[0]} = 1"] * draw.choice([1, 2, 65]))
         return Case(schema, [f"{draw.choice(['', 'explain '])}retrieve ({', '.join(refs)}) where {cases}"])
+    if kind in (13, 14):
+        return limits_inside(draw, many)
     if kind == 12:
         schema = pair + ["object BA (B, A) from P (A, B)", "maximal (AB)", "maximal (BA)", "maximal (AB)"]
         refs = [f"v{i}.A" for i in range(draw.choice([6, 7, 8]))]
@@ -466,6 +488,23 @@ def limited(draw, number):
             Case(pair, ["print P", "load P from ''", "print P"]), Case([], ["schema", "retrieve (A)"]),
             Case([" " * ((1 << 20) - 17), "attribute A int"], ["schema"])]
     return ends[variant % len(ends)]
+
+
+def limits_inside(draw, many):
+    """Comparisons and certificates of queries past a limit, and of some within all: over nine objects in a chain, of which the
+    first is a declared maximal object three times."""
+    schema = many(10, "attribute A{} int") + ["relation P (A int, B int)"]
+    schema += [f"object O{i} (A{i}, A{i + 1}) from P (A, B)" for i in range(9)] + ["maximal (O0)"] * 3
+    ones = lambda count, place: " and ".join(f"v{i}.A{place} = 1" for i in range(count))
+    queries = {"variables": f"retrieve (A0) where {ones(8, 0)}", "outputs": f"retrieve ({', '.join(['A0'] * 129)})",
+               "comparisons": f"retrieve (A0) where {' and '.join(['A0 = 1'] * 257)}",
+               "disjuncts": f"retrieve (A0) where {' or '.join(f'A0 = {i}' for i in range(65))}",
+               "rows": f"retrieve (A5) where {ones(7, 5)}", "terms": f"retrieve (A0) where {ones(4, 0)}",
+               "nesting": f"retrieve (A0) where {'(' * 65}A0 = 1{')' * 65}",
+               "one more": "retrieve (A1)", "another": "retrieve (A9) where A9 = 1"}
+    names = list(queries)
+    script = [f"compare ({queries[one]}) with ({queries[other]})" for one, other in zip(names, draw.sample(names, len(names)))]
+    return Case(schema, script + [f"explain with {queries[name]}" for name in names])
 
 
 def words_of(draw):
@@ -488,6 +527,10 @@ def changed(draw, certificate):
     """A certificate, mostly with one token left out, doubled, or put in another's place, or a number in a tree changed."""
     parts = re.findall(rb"'(?:[^']|'')*'|\w+|-\d+|[()]|\s+", certificate)
     places = [i for i, part in enumerate(parts) if part.strip()]
+    if draw.random() < 0.15:
+        at = draw.choice([i for i in places if parts[i] in (b"int", b"text")] + [parts.index(b"certificate")])
+        parts[at] = {b"int": b"text", b"text": b"int"}.get(parts[at], parts[at])
+        return b"".join(parts)
     if b"tree" in parts and draw.random() < 0.3:
         numbers = [i for i in places if i > parts.index(b"tree") and parts[i].isdigit()]
         parts[draw.choice(numbers)] = str(draw.randrange(4)).encode()
@@ -510,7 +553,9 @@ def changed(draw, certificate):
 
 def certificate_case(draw, database):
     """The check of a certificate of a query."""
-    asked = query(draw, database)
+    asked, maximal = over_one_object(draw, database.schema), model.maximal_objects(database.schema)
+    if not asked or not is_small(database.schema, maximal, asked) or draw.random() < 0.5:
+        asked = query(draw, database)
     while not is_quick(database, "explain with " + asked):
         asked = query(draw, database)
     text = b"explain with " + asked.encode()
@@ -540,17 +585,63 @@ def ring_case(draw):
     return Case([s.encode() for s in schema], [s.encode() for s in script])
 
 
+def crossing_case(draw):
+    """Queries, comparisons and windows over objects in a chain, and dependencies of which some lie in no object."""
+    names, between = ["A", "B", "C", "D"][:draw.choice([3, 4])], []
+    schema = [f"attribute {name} int" for name in names]
+    for left, right in zip(names, names[1:]):
+        schema += [f"relation {left}{right} ({left} int, {right} int)",
+                   f"object {left}{right} ({left}, {right}) from {left}{right} ({left}, {right})"]
+        between.append(left + right)
+    pairs = [f"fd {left} -> {right}" for left, right in itertools.permutations(names, 2)]
+    schema += ["fd B -> C", *draw.choice([["fd A -> C"], draw.sample(pairs, draw.choice([1, 2]))])]
+    schema.append(f"maximal ({', '.join(between)})")
+    database, script = model.Database(model.read_schema(";".join(schema).encode())), ["insert AB (0, 1)", "insert BC (1, 2)"]
+    for _ in range(draw.choice([0, 2, 4, 6])):
+        script.append(f"insert {draw.choice(between)} ({draw.choice(INTS)}, {draw.choice(INTS)})")
+    for text in script:
+        perform(database, text.encode(), {})
+    script += ["window (A, C)", "compare (retrieve (C) where A = t.A and C = 1 and t.C = 2) with (retrieve (C))"]
+    for _ in range(draw.choice([4, 5, 6])):
+        asked = over_a_dependency(draw, database.schema, ("=",), True)
+        other = asked.split(" where ")[0]
+        new = [*(f"window ({', '.join(draw.sample(names, 2))})" for _ in range(2)), f"compare ({asked}) with ({other})",
+               f"compare ({asked}) with ({other} where {names[0]} = 1)", f"compare ({other}) with ({asked})", asked,
+               draw.choice(pairs)]
+        script.append(draw.choice([text for text in new if is_quick(database, text)] or ["schema"]))
+        perform(database, script[-1].encode(), {})
+    return Case([s.encode() for s in schema], [s.encode() for s in script])
+
+
+def full_case(draw):
+    """Queries over relations of some dozens of rows, many of them with answers of some hundreds."""
+    schema = [s.encode() for s in schema_statements(draw)]
+    database, script = model.Database(model.read_schema(b";".join(schema))), []
+    for name, columns in database.schema.relations:
+        for _ in range(draw.choice([10, 25, 40])):
+            values = [draw.randrange(20) if kind == "int" else draw.choice("abcdefghijklmnopqrst") for _, kind in columns]
+            script.append(f"insert {name} ({', '.join(spelled(draw, value) for value in values)})".encode())
+            perform(database, script[-1], {})
+    inside = sorted(set().union(*(item[2] for item in database.schema.objects)))
+    for _ in range(4):
+        (one, kind), (other, same) = (database.schema.attributes[a] for a in draw.choices(inside, k=2))
+        compared = f" where {one} {draw.choice(model_texts.OPERATORS)} t.{other}" if kind == same and draw.random() < 0.5 else ""
+        asked = draw.choice([f"retrieve ({one}, t.{other}){compared}", f"explain from retrieve ({one}, {other})"])
+        script.append((asked if is_quick(database, asked) else quick_query(draw, database)).encode())
+    return Case(schema, script)
+
+
 def random_case(draw, number):
-    """A random case; every tenth is one at a limit, every tenth the check of a certificate, every twenty-fifth a ring; some
-    few are large."""
+    """A random case; every tenth is one at a limit, every tenth the check of a certificate, every twenty-fifth a ring, one of
+    crossing dependencies, and one of many rows; some few are large."""
     large = large_cases.large_case(draw, number)
     if large:
         return Case(*large)
     if number % 10 == 9:
         found = limited(draw, number // 10)
         return Case([s.encode() for s in found.schema], [s.encode() for s in found.script])
-    if number % 25 == 7:
-        return ring_case(draw)
+    if number % 25 in OTHERS:
+        return OTHERS[number % 25](draw)
     schema = [s.encode() for s in schema_statements(draw)]
     database = model.Database(model.read_schema(b";".join(schema)))
     if number % 10 == 4:
@@ -565,13 +656,16 @@ def random_case(draw, number):
         script.append(hostile(draw, new) if draw.random() < 0.08 else dressed(draw, new))
         perform(database, script[-1], files)
     fault = draw.random()
-    if fault < 0.06:
+    if fault < 0.1:
         schema.insert(draw.randint(0, len(schema)), faulty_definition(draw, database).encode())
-    elif fault < 0.09:
+    elif fault < 0.13:
         at = draw.randrange(len(schema))
         schema[at] = hostile(draw, schema[at])
     words = words_of(draw) if draw.random() < 0.15 else None
     return Case(schema, script, files, words, model.MARK if draw.random() < 0.03 else b"")
+
+
+OTHERS = {7: ring_case, 12: crossing_case, 17: full_case}
 
 
 def perform(database, text, files):
