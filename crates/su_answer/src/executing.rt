@@ -1,8 +1,9 @@
 //! Joins that are executed side by side.
-ghost use Rattle.std.specs.Prelude.{◌≡◌, ◌≤◌, ◌<◌, length, All, IfOk};
+ghost use Rattle.std.specs.Prelude.{◌≡◌, ◌≤◌, ◌<◌, ◌+◌, length, All, IfOk};
 ghost use Rattle.std.specs.List.{AllZip};
 ghost use Rattle.su_tableau.specs.Kinds.{IsTyped};
 ghost use Rattle.su_schema.specs.Entries.{attribute_kinds};
+ghost use Rattle.su_exec.specs.Shares.{task_share};
 ghost use Rattle.su_exec.specs.Tasks.{IsTask};
 ghost use Rattle.su_min.specs.Reduction.{term_at};
 ghost use Rattle.su_answer.specs.Joined.{IsTaskOf};
@@ -16,7 +17,7 @@ use std::sync::ledger::{Blank, Ledger};
 use std::thread::Threads;
 use su_base::{List, NoMemory};
 use su_exec::{ExecFault, Task, execute};
-use su_index::{Table, TableRows};
+use su_index::{Rows, Table, TableRows};
 use su_min::Minimal;
 use su_min::laws::kept_rows_are_least;
 use su_par::{Gate, Job, each};
@@ -70,6 +71,20 @@ impl<'a> Job for Joining<'a> {
     }
 }
 
+/// The outputs of the task over these rows.
+pub fn found_over<S: Rows>(alloc: Global, task: &Task, rows: &mut S) -> Result<Found, NoMemory>
+    requires { IsTask (S.tables rows.old) task.now }
+    ensures found { IfOk result (IsFound (record { tables = S.tables rows.old; task = task.now })) }
+    ensures tables { S.tables rows.new ≡ S.tables rows.old }
+    ensures fetches { S.fetches rows.new ≤ S.fetches rows.old + task_share (S.tables rows.old) task.now }
+{
+    match execute(alloc, task, rows, MOST) {
+        Ok(found) => Ok(Found { rows: Some(found) }),
+        Err(ExecFault::More) => Ok(Found { rows: None }),
+        Err(ExecFault::NoMemory) => Err(NoMemory),
+    }
+}
+
 /// The outputs of the task, whose fetches are counted in a ledger.
 fn executed<L: Ledger>(
     alloc: Global,
@@ -84,11 +99,7 @@ fn executed<L: Ledger>(
     ensures { IfOk result (IsFound (record { tables = tables.now; task = task.now })) }
 {
     let mut rows = TableRows::<L>::new(tables, blank);
-    match execute(alloc, task, &mut rows, MOST) {
-        Ok(found) => Ok(Found { rows: Some(found) }),
-        Err(ExecFault::More) => Ok(Found { rows: None }),
-        Err(ExecFault::NoMemory) => Err(NoMemory),
-    }
+    found_over(alloc, task, &mut rows)
 }
 
 /// The join that answers the kept rows of a term that is well typed for the schema.

@@ -7,6 +7,9 @@
 //! pair of rows and a column, and a row joins them exactly where no cell of it speaks against it. Which
 //! targets come into question is looked up in sets of rows, made once for each term. So a node costs a
 //! step for each column, and as many for each branch. How a certificate is made plays no part.
+//!
+//! For callers: `check` is the one call. Want of memory is its only error: what isn't a certificate gets its
+//! verdict too. It takes fewer than 2^32 bytes; a term costs the square of its rows times its columns.
 #![tactic(auto)]
 
 mod boards;

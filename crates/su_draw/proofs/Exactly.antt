@@ -5,7 +5,7 @@ use Rattle.std.proofs.lemmas.List.Elements.{filter-append}
 use Rattle.std.proofs.lemmas.Bool.{eq-eqb, ne_eqb}
 use Rattle.su_draw.specs.declared.things.What.{What}
 use Rattle.su_draw.specs.declared.things.Thing.{Thing}
-use Rattle.su_draw.specs.declared.reading.Line.{Line}
+use Rattle.su_explained.specs.declared.reading.Line.{Line}
 use Rattle.su_draw.specs.Things.{text_shown, thing_of, things_behind, things_in, things_from, things_of}
 use Rattle.su_draw.specs.Drawn.{drawn_as}
 use Rattle.su_draw.specs.Once.{stands_for, thing_of_word, thing_at, StandOnce}

@@ -1,6 +1,11 @@
 pub mod Assembled
+pub mod DrawnWords
 pub mod Exactly
-pub mod Lossless
+pub mod Kept
+pub mod Marks
+pub mod Origins
 pub mod Plain
-pub mod Readings
+pub mod RowLines
+pub mod Shared
+pub mod Sums
 pub mod WellFormed

@@ -102,7 +102,7 @@ byte_text-content s b rest content =
     (λ g. subst P (sym (append_assoc (char_text 65533) (first_text b) rest)) (char_text-content 65533 (first_text b ++ rest) (first_text-content b rest content)))
     (λ g. content-if (s.left == 1) (char_text (bits_with s.bits b)) [] rest (λ e. char_text-content (bits_with s.bits b) rest content) (λ e. content)))
 
-escaped_on-content : (s : Begun) (bs rest : List ℕ) → IsContent rest → IsContent (escaped_on s bs ++ rest)
+pub escaped_on-content : (s : Begun) (bs rest : List ℕ) → IsContent rest → IsContent (escaped_on s bs ++ rest)
 escaped_on-content s [] rest content = content-if (s.left == 0) [] (char_text 65533) rest (λ h. content) (λ h. char_text-content 65533 rest content)
 escaped_on-content s (b ∷ bs) rest content =
     let P : List ℕ → Type 0 = λ t. IsContent t in

@@ -1,23 +1,27 @@
 -- The text of a picture is a document.
-use Rattle.std.proofs.Common.{◌≡◌, ℕ, Bool, true, false, List, [], ◌∷◌, ◌++◌, flat_map, refl, sym, ap, subst, append_assoc}
-use Rattle.std.specs.Prelude.{◌==◌, ◌-◌, codes, decimal}
+use Rattle.std.proofs.Common.{◌≡◌, ℕ, Bool, true, false, cond, List, [], ◌∷◌, ◌++◌, flat_map, refl, sym, ◌∙◌, subst, append_assoc, append-nil}
+use Rattle.std.specs.List.{list_all}
+use Rattle.std.proofs.lemmas.Bool.{and_parts}
+use Rattle.std.specs.Prelude.{◌==◌, ◌%◌, ◌-◌, codes, decimal}
 use Rattle.su_draw.specs.declared.things.What.{What}
 use Rattle.su_draw.specs.declared.things.What.TheVariants.{Label, Row, Symbol, Fold, Source, Cover, Attribute as Column, Object, Member, Part}
 use Rattle.su_draw.specs.declared.shapes.Position.{Position}
 use Rattle.su_draw.specs.declared.shapes.Shape.{Shape}
 use Rattle.su_draw.specs.declared.shapes.Help.{Help}
-use Rattle.su_draw.specs.declared.shapes.Help.TheVariants.{Heading, Band, Rule}
+use Rattle.su_draw.specs.declared.shapes.Help.TheVariants.{Heading, Note, Band, Rule}
 use Rattle.su_draw.specs.declared.shapes.Picture.{Picture}
-use Rattle.su_draw.specs.EscapedBytes.{escaped}
-use Rattle.su_draw.specs.Xml.{IsContent, nothing, plain, IsDocument}
-use Rattle.su_draw.specs.Svg.{help_text, svg_attributes, ground_line, svg_inside, svg_text}
-use Rattle.su_draw.specs.Shapes.{text_attributes, text_line, way_of, arrow_line, dot_line, square_line, lines_as, shape_text}
-use Rattle.su_draw.specs.Looks.{word_of, number_attribute, colour_of, opacity_of, weight_of}
-use Rattle.su_draw.proofs.Plain.{ArePlain, plain-append, plain-if, decimal-plain, escaped-content, element_line-content}
+use Rattle.su_draw.specs.EscapedBytes.{none_begun, escaped}
+use Rattle.su_draw.specs.Xml.{is_plain, element_text, IsContent, nothing, plain, element, IsDocument}
+use Rattle.su_draw.specs.Characters.{char_text}
+use Rattle.su_draw.specs.Cutting.{front_from, cut_text, is_long, shown_text}
+use Rattle.su_draw.specs.Svg.{help_text, svg_attributes, ground_line, front_lines, svg_inside, svg_text}
+use Rattle.su_draw.specs.Shapes.{element_line, mark_text, text_attributes, text_line, way_of, arrow_line, end_line, fold_lines, dot_line, square_line, lines_as, shape_text}
+use Rattle.su_draw.specs.Looks.{word_of, number_attribute, class_of, opacity_of, weight_of, style_text}
+use Rattle.su_draw.proofs.Plain.{ArePlain, plain-append, plain-if, decimal-plain, char_text-content, escaped_on-content, escaped-content, element_line-content}
 
-colour-plain : (n : ℕ) → ArePlain (colour_of n)
-colour-plain n =
-    plain-if (n == 0) _ _ refl (plain-if (n == 1) _ _ refl (plain-if (n == 2) _ _ refl (plain-if (n == 3) _ _ refl (plain-if (n == 4) _ _ refl (plain-if (n == 5) _ _ refl (plain-if (n == 6) _ _ refl refl))))))
+class-plain : (n : ℕ) → ArePlain (class_of n)
+class-plain n =
+    plain-if (n == 0) _ _ refl (plain-if (n % 7 == 1) _ _ refl (plain-if (n % 7 == 2) _ _ refl (plain-if (n % 7 == 3) _ _ refl (plain-if (n % 7 == 4) _ _ refl (plain-if (n % 7 == 5) _ _ refl (plain-if (n % 7 == 6) _ _ refl refl))))))
 
 opacity-plain : (light : Bool) → ArePlain (opacity_of light)
 opacity-plain true = refl
@@ -55,29 +59,80 @@ way-plain p head h =
     let in_j : ArePlain j = plain-append i (decimal p.edge) (plain-append g (codes "H") in_g refl) (decimal-plain p.edge) in
     plain-append j head in_j h
 
+plain-content : (t rest : List ℕ) → ArePlain t → IsContent rest → IsContent (t ++ rest)
+plain-content [] rest h r = r
+plain-content (c ∷ t) rest h r = let parts = and_parts (is_plain c) (list_all is_plain t) h in plain c (t ++ rest) parts.0 (plain-content t rest parts.1 r)
+
+-- content that goes on
+escaped-on : (bs rest : List ℕ) → IsContent rest → IsContent (escaped bs ++ rest)
+escaped-on bs rest r = escaped_on-content none_begun bs rest r
+
+cut_text-content : (text rest : List ℕ) → IsContent rest → IsContent (cut_text text ++ rest)
+cut_text-content text rest r =
+    let P : List ℕ → Type 0 = λ t. IsContent t in
+    let title : List ℕ = element_text (codes "title") [] (escaped text) in
+    let front : List ℕ = escaped (front_from 11 text) in
+    subst P (sym (append_assoc title (front ++ char_text 8230) rest))
+    (element (codes "title") [] (escaped text) ((front ++ char_text 8230) ++ rest) refl tt (escaped-content text)
+    (subst P (sym (append_assoc front (char_text 8230) rest)) (escaped-on (front_from 11 text) (char_text 8230 ++ rest) (char_text-content 8230 rest r))))
+
+shown-if : (b : Bool) (text rest : List ℕ) → IsContent rest → IsContent (cond b (cut_text text) (escaped text) ++ rest)
+shown-if true text rest r = cut_text-content text rest r
+shown-if false text rest r = escaped-on text rest r
+
+shown_text-content : (text rest : List ℕ) → IsContent rest → IsContent (shown_text text ++ rest)
+shown_text-content text rest r = shown-if (is_long text) text rest r
+
+mark-if : (b : Bool) (mark : ℕ) → IsContent (cond b [] (element_text (codes "tspan") (word_of (codes "dy") (codes "-4") ∷ word_of (codes "font-size") (codes "9") ∷ []) (decimal mark)))
+mark-if true mark = nothing
+mark-if false mark =
+    let P : List ℕ → Type 0 = λ t. IsContent t in
+    let inside : IsContent (decimal mark) = subst P (append-nil (decimal mark)) (plain-content (decimal mark) [] (decimal-plain mark) nothing) in
+    subst P (append-nil (element_text (codes "tspan") (word_of (codes "dy") (codes "-4") ∷ word_of (codes "font-size") (codes "9") ∷ []) (decimal mark)))
+    (element (codes "tspan") (word_of (codes "dy") (codes "-4") ∷ word_of (codes "font-size") (codes "9") ∷ []) (decimal mark) [] refl (refl, refl, (refl, refl, tt)) inside nothing)
+
+mark_text-content : (mark : ℕ) → IsContent (mark_text mark)
+mark_text-content mark = mark-if (mark == 0) mark
+
 text_line-content : (s : Shape) (rest : List ℕ) → IsContent rest → IsContent (text_line s ++ rest)
 text_line-content s rest r =
-    element_line-content (codes "text") (text_attributes s.thing.what s.place) (escaped s.thing.text) rest refl
-    (refl, decimal-plain s.place.x, (refl, decimal-plain s.place.y, (refl, colour-plain s.place.colour, (refl, opacity-plain s.place.light, (refl, weight-plain s.thing.what s.place.light, tt)))))
-    (escaped-content s.thing.text) r
+    element_line-content (codes "text") (text_attributes s.thing.what s.place) (shown_text s.thing.text ++ mark_text s.place.mark) rest refl
+    (refl, decimal-plain s.place.x, (refl, decimal-plain s.place.y, (refl, class-plain s.place.mark, (refl, opacity-plain s.place.light, (refl, weight-plain s.thing.what s.place.light, tt)))))
+    (shown_text-content s.thing.text (mark_text s.place.mark) (mark_text-content s.place.mark)) r
 
 arrow_line-content : (p : Position) (head rest : List ℕ) → ArePlain head → IsContent rest → IsContent (arrow_line p head ++ rest)
 arrow_line-content p head rest h r =
-    element_line-content (codes "path") (word_of (codes "d") (way_of p head) ∷ word_of (codes "fill") (codes "none") ∷ word_of (codes "stroke") (codes "#555555") ∷ []) [] rest refl
-    (refl, way-plain p head h, (refl, refl, (refl, refl, tt))) nothing r
+    element_line-content (codes "path") (word_of (codes "d") (way_of p head) ∷ word_of (codes "class") (codes "arrow") ∷ []) [] rest refl
+    (refl, way-plain p head h, (refl, refl, tt)) nothing r
+
+end_line-content : (x y row : ℕ) (rest : List ℕ) → IsContent rest → IsContent (end_line x y row ++ rest)
+end_line-content x y row rest r =
+    let P : List ℕ → Type 0 = λ t. IsContent t in
+    let inside : IsContent (decimal row) = subst P (append-nil (decimal row)) (plain-content (decimal row) [] (decimal-plain row) nothing) in
+    element_line-content (codes "text") (number_attribute (codes "x") (x - 2) ∷ number_attribute (codes "y") (y - 6) ∷ word_of (codes "class") (codes "c0") ∷ word_of (codes "text-anchor") (codes "end") ∷ word_of (codes "font-size") (codes "9") ∷ []) (decimal row) rest refl
+    (refl, decimal-plain (x - 2), (refl, decimal-plain (y - 6), (refl, refl, (refl, refl, (refl, refl, tt))))) inside r
+
+fold_lines-content : (p : Position) (row : ℕ) (rest : List ℕ) → IsContent rest → IsContent (fold_lines p row ++ rest)
+fold_lines-content p row rest r =
+    let P : List ℕ → Type 0 = λ t. IsContent t in
+    let arrow : List ℕ = arrow_line p (codes "m7 -4l-7 4l7 4") in
+    let first : List ℕ = end_line p.lane p.y row in
+    let second : List ℕ = end_line p.lane p.to row in
+    subst P (sym (append_assoc (arrow ++ first) second rest ∙ append_assoc arrow first (second ++ rest)))
+    (arrow_line-content p (codes "m7 -4l-7 4l7 4") (first ++ (second ++ rest)) refl (end_line-content p.lane p.y row (second ++ rest) (end_line-content p.lane p.to row rest r)))
 
 dot_line-content : (p : Position) (rest : List ℕ) → IsContent rest → IsContent (dot_line p ++ rest)
 dot_line-content p rest r =
-    element_line-content (codes "circle") (number_attribute (codes "cx") p.x ∷ number_attribute (codes "cy") p.y ∷ word_of (codes "r") (codes "6") ∷ []) [] rest refl
-    (refl, decimal-plain p.x, (refl, decimal-plain p.y, (refl, refl, tt))) nothing r
+    element_line-content (codes "circle") (number_attribute (codes "cx") p.x ∷ number_attribute (codes "cy") p.y ∷ word_of (codes "r") (codes "6") ∷ word_of (codes "class") (codes "c0") ∷ []) [] rest refl
+    (refl, decimal-plain p.x, (refl, decimal-plain p.y, (refl, refl, (refl, refl, tt)))) nothing r
 
 square_line-content : (p : Position) (rest : List ℕ) → IsContent rest → IsContent (square_line p ++ rest)
 square_line-content p rest r =
-    element_line-content (codes "rect") (number_attribute (codes "x") p.x ∷ number_attribute (codes "y") p.y ∷ word_of (codes "width") (codes "12") ∷ word_of (codes "height") (codes "12") ∷ []) [] rest refl
-    (refl, decimal-plain p.x, (refl, decimal-plain p.y, (refl, refl, (refl, refl, tt)))) nothing r
+    element_line-content (codes "rect") (number_attribute (codes "x") p.x ∷ number_attribute (codes "y") p.y ∷ word_of (codes "width") (codes "12") ∷ word_of (codes "height") (codes "12") ∷ word_of (codes "class") (codes "c0") ∷ []) [] rest refl
+    (refl, decimal-plain p.x, (refl, decimal-plain p.y, (refl, refl, (refl, refl, (refl, refl, tt))))) nothing r
 
 lines_as-content : (what : What) (s : Shape) (rest : List ℕ) → IsContent rest → IsContent (lines_as what s ++ rest)
-lines_as-content Fold s rest r = arrow_line-content s.place (codes "m7 -4l-7 4l7 4") rest refl r
+lines_as-content Fold s rest r = fold_lines-content s.place (s.thing.word - 3) rest r
 lines_as-content Cover s rest r =
     let P : List ℕ → Type 0 = λ t. IsContent t in
     subst P (sym (append_assoc (arrow_line s.place (codes "m-7 -4l7 4l-7 4")) (text_line s) rest))
@@ -97,13 +152,17 @@ shapes-content (s ∷ ss) = lines_as-content s.thing.what s (flat_map shape_text
 
 help-content : (h : Help) (rest : List ℕ) → IsContent rest → IsContent (help_text h ++ rest)
 help-content (Heading x y text) rest r =
-    element_line-content (codes "text") (number_attribute (codes "x") x ∷ number_attribute (codes "y") y ∷ word_of (codes "text-decoration") (codes "underline") ∷ []) (escaped text) rest refl
-    (refl, decimal-plain x, (refl, decimal-plain y, (refl, refl, tt))) (escaped-content text) r
+    let P : List ℕ → Type 0 = λ t. IsContent t in
+    element_line-content (codes "text") (number_attribute (codes "x") x ∷ number_attribute (codes "y") y ∷ word_of (codes "class") (codes "c0") ∷ word_of (codes "text-decoration") (codes "underline") ∷ []) (shown_text text) rest refl
+    (refl, decimal-plain x, (refl, decimal-plain y, (refl, refl, (refl, refl, tt)))) (subst P (append-nil (shown_text text)) (shown_text-content text [] nothing)) r
+help-content (Note x y text) rest r =
+    element_line-content (codes "text") (number_attribute (codes "x") x ∷ number_attribute (codes "y") y ∷ word_of (codes "class") (codes "c0") ∷ word_of (codes "font-size") (codes "11") ∷ []) (escaped text) rest refl
+    (refl, decimal-plain x, (refl, decimal-plain y, (refl, refl, (refl, refl, tt)))) (escaped-content text) r
 help-content (Band x y width) rest r =
-    element_line-content (codes "rect") (number_attribute (codes "x") x ∷ number_attribute (codes "y") y ∷ number_attribute (codes "width") width ∷ word_of (codes "height") (codes "20") ∷ word_of (codes "fill") (codes "#e8e8e8") ∷ []) [] rest refl
+    element_line-content (codes "rect") (number_attribute (codes "x") x ∷ number_attribute (codes "y") y ∷ number_attribute (codes "width") width ∷ word_of (codes "height") (codes "20") ∷ word_of (codes "class") (codes "band") ∷ []) [] rest refl
     (refl, decimal-plain x, (refl, decimal-plain y, (refl, decimal-plain width, (refl, refl, (refl, refl, tt))))) nothing r
 help-content (Rule x y to_x to_y) rest r =
-    element_line-content (codes "line") (number_attribute (codes "x1") x ∷ number_attribute (codes "y1") y ∷ number_attribute (codes "x2") to_x ∷ number_attribute (codes "y2") to_y ∷ word_of (codes "stroke") (codes "#999999") ∷ []) [] rest refl
+    element_line-content (codes "line") (number_attribute (codes "x1") x ∷ number_attribute (codes "y1") y ∷ number_attribute (codes "x2") to_x ∷ number_attribute (codes "y2") to_y ∷ word_of (codes "class") (codes "rule") ∷ []) [] rest refl
     (refl, decimal-plain x, (refl, decimal-plain y, (refl, decimal-plain to_x, (refl, decimal-plain to_y, (refl, refl, tt))))) nothing r
 
 helps-content : (hs : List Help) (rest : List ℕ) → IsContent rest → IsContent (flat_map help_text hs ++ rest)
@@ -114,22 +173,38 @@ helps-content (h ∷ hs) rest r =
 
 ground-content : (rest : List ℕ) → IsContent rest → IsContent (ground_line ++ rest)
 ground-content rest r =
-    element_line-content (codes "rect") (word_of (codes "width") (codes "100%") ∷ word_of (codes "height") (codes "100%") ∷ word_of (codes "fill") (codes "#ffffff") ∷ []) [] rest refl
+    element_line-content (codes "rect") (word_of (codes "width") (codes "100%") ∷ word_of (codes "height") (codes "100%") ∷ word_of (codes "class") (codes "ground") ∷ []) [] rest refl
     (refl, refl, (refl, refl, (refl, refl, tt))) nothing r
+
+front-content : (p : Picture) (rest : List ℕ) → IsContent rest → IsContent (front_lines p ++ rest)
+front-content p rest r =
+    let P : List ℕ → Type 0 = λ t. IsContent t in
+    let title : List ℕ = element_line (codes "title") [] (escaped p.title) in
+    let about : List ℕ = element_line (codes "desc") [] (escaped p.about) in
+    let style : List ℕ = element_line (codes "style") [] style_text in
+    let is_style : IsContent style_text = subst P (append-nil style_text) (plain-content style_text [] refl nothing) in
+    subst P (sym (append_assoc title (about ++ style) rest)) (element_line-content (codes "title") [] (escaped p.title) ((about ++ style) ++ rest) refl tt (escaped-content p.title)
+    (subst P (sym (append_assoc about style rest)) (element_line-content (codes "desc") [] (escaped p.about) (style ++ rest) refl tt (escaped-content p.about)
+    (element_line-content (codes "style") [] style_text rest refl tt is_style r))))
 
 inside-content : (p : Picture) → IsContent (svg_inside p)
 inside-content p =
-    let P : List ℕ → Type 0 = λ t. IsContent t in
     let shapes = flat_map shape_text p.shapes in
     let helps = flat_map help_text p.helps in
-    subst P (ap (λ t. 10 ∷ t) (sym (append_assoc ground_line helps shapes))) (plain 10 (ground_line ++ (helps ++ shapes)) refl (ground-content (helps ++ shapes) (helps-content p.helps shapes (shapes-content p.shapes))))
+    plain 10 (front_lines p ++ (ground_line ++ (helps ++ shapes))) refl (front-content p (ground_line ++ (helps ++ shapes)) (ground-content (helps ++ shapes) (helps-content p.helps shapes (shapes-content p.shapes))))
+
+view-plain : (p : Picture) → ArePlain (codes "0 0 " ++ decimal p.width ++ codes " " ++ decimal p.height)
+view-plain p =
+    let a : List ℕ = codes "0 0 " ++ decimal p.width in
+    let in_a : ArePlain a = plain-append (codes "0 0 ") (decimal p.width) refl (decimal-plain p.width) in
+    plain-append (a ++ codes " ") (decimal p.height) (plain-append a (codes " ") in_a refl) (decimal-plain p.height)
 
 pub svg_document : (p : Picture) (text : List ℕ) → text ≡ svg_text p → IsDocument text
 svg_document p text e = record {
   name = codes "svg";
   is_name = refl;
   attributes = svg_attributes p;
-  are_attributes = (refl, refl, (refl, decimal-plain p.width, (refl, decimal-plain p.height, (refl, refl, (refl, refl, (refl, refl, tt))))));
+  are_attributes = (refl, refl, (refl, decimal-plain p.width, (refl, decimal-plain p.height, (refl, view-plain p, (refl, refl, (refl, refl, (refl, refl, (refl, refl, tt))))))));
   inside = svg_inside p;
   is_content = inside-content p;
   is = e;

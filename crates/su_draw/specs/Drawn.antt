@@ -2,12 +2,12 @@
 -- In a line of a row words 3, 4, 5 are its number, its variable and its object, and the others its cells.
 -- drawn as: the kind of thing that shows the word in the picture; label: a word that is shown for itself
 use Rattle.std.specs.Prelude.{ℕ, ◌-◌, ◌==◌, ◌&&◌, ◌||◌, nat_lt, nat_le, if◌then◌else◌, List, Option, Some, None}
-use Rattle.su_draw.specs.declared.kinds.Kind.{Kind}
-use Rattle.su_draw.specs.declared.kinds.Kind.TheVariants as kind
+use Rattle.su_explained.specs.declared.kinds.Kind.{Kind}
+use Rattle.su_explained.specs.declared.kinds.Kind.TheVariants as kind
 use Rattle.su_draw.specs.declared.things.What.{What}
 use Rattle.su_draw.specs.declared.things.What.TheVariants.{Label, Row, Symbol, Fold, Source, Cover, Attribute, Object, Member, Part}
-use Rattle.su_draw.specs.Checks.{is_decimal}
-use Rattle.su_draw.specs.Definitions.{attribute_count_of}
+use Rattle.su_explained.specs.Checks.{is_decimal}
+use Rattle.su_explained.specs.Definitions.{attribute_count_of}
 
 -- what the words from this one on are drawn as
 abbrev pub drawn_from : ℕ → What → ℕ → Option What

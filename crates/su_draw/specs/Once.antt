@@ -4,7 +4,7 @@
 use Rattle.std.specs.Prelude.{◌≡◌, ℕ, ◌==◌, ◌&&◌, Bool, List, [], length, filter, map, slice_get, Option, Some, None}
 use Rattle.su_draw.specs.declared.things.Thing.{Thing}
 use Rattle.su_draw.specs.declared.shapes.Shape.{Shape}
-use Rattle.su_draw.specs.declared.reading.Line.{Line}
+use Rattle.su_explained.specs.declared.reading.Line.{Line}
 use Rattle.su_draw.specs.Things.{thing_of}
 use Rattle.su_draw.specs.Drawn.{drawn_as}
 

@@ -4,7 +4,7 @@ use Rattle.std.specs.Prelude.{ℕ, ◌+◌, ◌==◌, if◌then◌else◌, List,
 use Rattle.su_draw.specs.declared.things.What.{What}
 use Rattle.su_draw.specs.declared.things.What.TheVariants.{Symbol}
 use Rattle.su_draw.specs.declared.things.Thing.{Thing}
-use Rattle.su_draw.specs.declared.reading.Line.{Line}
+use Rattle.su_explained.specs.declared.reading.Line.{Line}
 use Rattle.su_draw.specs.Drawn.{drawn_as}
 
 -- what stands behind the first sign of equality (61); the whole word, if there is none

@@ -1,3 +1,3 @@
 -- Definitions that only contracts of private functions and invariants of types need.
+pub mod Lay
 pub mod Pairs
-pub mod PieceFaults

@@ -1,6 +1,6 @@
 //! Elements of XML, at the end of what stands there.
-ghost use Rattle.std.specs.Prelude.{◌≡◌, ◌++◌, flat_map, codes, OnOk};
-ghost use Rattle.su_draw.specs.Xml.{attribute_text};
+ghost use Rattle.std.specs.Prelude.{◌≡◌, ◌++◌, flat_map, codes, decimal, [], OnOk};
+ghost use Rattle.su_draw.specs.Xml.{attribute_text, element_text};
 ghost use Rattle.su_draw.specs.EscapedBytes.{escaped};
 ghost use Rattle.su_draw.specs.Shapes.{element_line};
 ghost use Rattle.su_draw.specs.Looks.{word_of, number_attribute};
@@ -64,6 +64,15 @@ pub(crate) fn open(
     push(out, ">")
 }
 
+/// The end of an element within a line.
+pub(crate) fn close_inside(out: &mut Vec<u8>, name: &str) -> Result<(), NoMemory>
+    ensures { OnOk result (out.new.items ≡ out.old.items ++ (codes "</" ++ name.now ++ codes ">")) }
+{
+    push(out, "</")?;
+    push(out, name)?;
+    push(out, ">")
+}
+
 /// The end of an element, and of its line.
 pub(crate) fn close(out: &mut Vec<u8>, name: &str) -> Result<(), NoMemory>
     ensures { OnOk result (out.new.items ≡ out.old.items ++ (codes "</" ++ name.now ++ codes ">\n")) }
@@ -85,5 +94,49 @@ pub(crate) fn element(
 {
     open(alloc, out, name, pairs)?;
     escape(alloc, out, text)?;
+    close(out, name)
+}
+
+/// An element without attributes, with a text inside that is written as it is.
+pub(crate) fn plain_element(
+    alloc: Global,
+    out: &mut Vec<u8>,
+    name: &str,
+    text: &str,
+) -> Result<(), NoMemory>
+    ensures { OnOk result (out.new.items ≡ out.old.items ++ element_line name.now [] text.now) }
+{
+    open(alloc, out, name, &[])?;
+    push(out, text)?;
+    close(out, name)
+}
+
+/// An element with a number inside, within a line.
+pub(crate) fn number_inside(
+    alloc: Global,
+    out: &mut Vec<u8>,
+    name: &str,
+    pairs: &[Pair],
+    number: usize,
+) -> Result<(), NoMemory>
+    ensures { OnOk result (out.new.items ≡ out.old.items ++ element_text name.now (attributes_of pairs.now) (decimal number)) }
+{
+    open(alloc, out, name, pairs)?;
+    push_number(alloc, out, number as u64)?;
+    close_inside(out, name)
+}
+
+/// An element with a number inside.
+pub(crate) fn number_element(
+    alloc: Global,
+    out: &mut Vec<u8>,
+    name: &str,
+    pairs: &[Pair],
+    number: usize,
+) -> Result<(), NoMemory>
+    ensures { OnOk result (out.new.items ≡ out.old.items ++ element_line name.now (attributes_of pairs.now) (decimal number)) }
+{
+    open(alloc, out, name, pairs)?;
+    push_number(alloc, out, number as u64)?;
     close(out, name)
 }

@@ -37,7 +37,7 @@ fn shown(code: u32) -> u32
 }
 
 /// A character: itself, or a reference to the one that is shown.
-fn push_code(alloc: Global, out: &mut Vec<u8>, code: u32) -> Result<(), NoMemory>
+pub(crate) fn push_code(alloc: Global, out: &mut Vec<u8>, code: u32) -> Result<(), NoMemory>
     ensures { OnOk result (out.new.items ≡ out.old.items ++ char_text code) }
 {
     if is_plain_sign(code) {

@@ -1,22 +1,30 @@
 //! Where the things of an explanation are drawn.
+ghost use Rattle.std.specs.Prelude.{◌≡◌, false, slice_get, IfOk};
+ghost use Rattle.su_draw.specs.Terms.{or_else, terms_from};
+ghost use Rattle.su_explained.specs.Numbers.{number_in as number_told};
+ghost use Rattle.su_draw.specs.inside.Lay.{words_at, height_in, row_height as height_of_row, heights_from, lights_from, or_false, in_row as stands_in_row, fold_place, source_place, text_at as standing, StandsAs};
 
-use crate::checks::are_same;
-use crate::kinds::Kind;
-use crate::measures::{HIGH, lanes, offset_of, word_at, words_of};
-use crate::numbers::number_of;
-use crate::reading::Line;
+use crate::cells::copied;
+use crate::measures::{HIGH, front_of, lanes, offset_of, word_at, words_of};
 use crate::shapes::{Help, Position};
-use crate::tables::Table;
-use crate::things::{Thing, What, before, behind};
-use std::alloc::{AllocError, Global};
+use crate::tables::{Table, column_at, lane_behind};
+use crate::terms::{
+    heights_of, is_row, is_term, kept_behind, lights_of, lines_behind, row_among, terms_of,
+};
+use crate::things::{Thing, What};
+use std::alloc::Global;
+use su_base::{List, NoMemory};
+use su_explained::{Kind, Line, number_of};
 
-/// What is laid out: of each line its height and the table that it belongs to, the tables in order, the
-/// terms that cover others, each of which has a lane at the left end, and how wide the lanes are.
+/// What is laid out: of each line the line that its term begins with, its height, and whether it is a row
+/// that isn't kept; the terms that cover others, each of which has a lane at the left end, and how wide the
+/// lanes are.
 pub(crate) struct Layout<'a> {
     pub(crate) lines: &'a [Line],
-    pub(crate) heights: Vec<u32>,
-    pub(crate) tables: Vec<Table<'a>>,
-    pub(crate) covers: Vec<usize>,
+    pub(crate) terms: List<usize>,
+    pub(crate) heights: List<u32>,
+    pub(crate) lights: List<bool>,
+    pub(crate) covers: List<usize>,
     pub(crate) left: u32,
 }
 
@@ -25,176 +33,210 @@ impl Drop for Layout<'_> {
     fn drop(self) {
         let Layout {
             lines: _,
+            terms: _,
             heights: _,
-            tables: _,
+            lights: _,
             covers: _,
             left: _,
         } = self;
     }
 }
 
-/// How far a line is below the one before it.
-fn step_to(kind: Kind) -> u32 {
-    match kind {
-        Kind::Kept | Kind::Fold | Kind::Sources => 0,
-        Kind::Term | Kind::Count => 2 * HIGH,
-        _ => HIGH,
+/// The number that a word is the decimal of; 0 where it is none.
+fn number_in(word: &[u8]) -> usize
+    ensures { result ≡ or_else 0 (number_told word.now) }
+{
+    number_of(word).unwrap_or(0)
+}
+
+/// The terms that cover others, each once.
+fn covers_of(alloc: Global, lines: &[Line]) -> Result<List<usize>, NoMemory> {
+    let mut covers = List::new(alloc);
+    for line in lines {
+        if line.kind == Kind::Covered {
+            let by = number_in(word_at(line.words.as_slice(), 5));
+            if !covers.as_slice().contains(&by) {
+                covers.push(by)?;
+            }
+        }
+    }
+    Ok(covers)
+}
+
+/// How high a line is.
+fn height_at(heights: &[u32], line: usize) -> u32
+    ensures { result ≡ height_in heights.now line }
+{
+    match heights.get(line) {
+        Some(height) => *height,
+        None => 0,
     }
 }
 
-/// How far the next line is below a line, beside its own step: the names of columns stand below a term's.
-fn step_from(kind: Kind) -> u32 {
-    match kind {
-        Kind::Term => HIGH,
-        _ => 0,
+/// How high a row of a term is, whose rows stand directly behind its own line.
+fn row_height(heights: &[u32], term: usize, row: usize) -> u32
+    ensures { result ≡ height_of_row heights.now term row }
+{
+    if term < heights.len() {
+        return height_at(&heights[term + 1..], row);
+    }
+    0
+}
+
+/// The lines of the legend.
+const LEGEND: &[&str] = &[
+    "bold on a ground: a kept row; pale: a row that isn't kept",
+    "arrow: from a row to the one that answers for it",
+    "small number: one symbol in several cells of the term",
+    "read from: the objects that hold a kept row's values",
+];
+
+/// Whether the term that is told next has sources.
+fn tells_sources(lines: &[Line]) -> bool {
+    for line in lines {
+        match line.kind {
+            Kind::Sources => return true,
+            Kind::Term => return false,
+            _ => {}
+        }
+    }
+    false
+}
+
+/// A text that is no symbol.
+fn text_at(x: u32, y: u32) -> Position
+    ensures { result ≡ standing x y false }
+{
+    Position {
+        x,
+        y,
+        edge: 0,
+        lane: 0,
+        to: 0,
+        mark: 0,
+        light: false,
     }
 }
 
 impl<'a> Layout<'a> {
-    pub(crate) fn new(alloc: Global, lines: &'a [Line]) -> Result<Layout<'a>, AllocError> {
-        let mut layout = Layout {
+    pub(crate) fn new(alloc: Global, lines: &'a [Line]) -> Result<Layout<'a>, NoMemory>
+        ensures lines { IfOk result (λ layout. layout.lines.now ≡ lines.now) }
+        ensures terms { IfOk result (λ layout. layout.terms ≡ terms_from 0 0 lines.now) }
+        ensures heights { IfOk result (λ layout. layout.heights ≡ heights_from 10 lines.now) }
+        ensures lights { IfOk result (λ layout. layout.lights ≡ lights_from lines.now) }
+    {
+        let terms = terms_of(alloc, lines)?;
+        let heights = heights_of(alloc, lines)?;
+        let lights = lights_of(alloc, lines)?;
+        let covers = covers_of(alloc, lines)?;
+        let left = 30 + 10 * lanes(covers.len());
+        Ok(Layout {
             lines,
-            heights: Vec::new(alloc),
-            tables: Vec::new(alloc),
-            covers: Vec::new(alloc),
-            left: 0,
-        };
-        let mut height: u32 = HIGH / 2;
-        for (number, line) in lines.iter().enumerate() {
-            height = height.saturating_add(step_to(line.kind));
-            layout.heights.push(height)?;
-            height = height.saturating_add(step_from(line.kind));
-            layout.add(alloc, number, line)?;
-        }
-        layout.left = 30 + 10 * lanes(layout.covers.len());
-        Ok(layout)
+            terms,
+            heights,
+            lights,
+            covers,
+            left,
+        })
     }
 
-    /// The term that covers the one of this line.
-    fn add_cover(&mut self, line: &Line) -> Result<(), AllocError> {
-        if let Some(by) = number_of(word_at(line.words.as_slice(), 5))
-            && !self.covers.contains(&by)
-        {
-            self.covers.push(by)?;
-        }
-        Ok(())
+    fn height(&self, line: usize) -> u32
+        ensures { result ≡ height_in self.now.heights line }
+    {
+        height_at(self.heights.as_slice(), line)
     }
 
-    /// Takes the next line.
-    fn add(&mut self, alloc: Global, number: usize, line: &'a Line) -> Result<(), AllocError> {
-        match line.kind {
-            Kind::Term => self.tables.push(Table::new(alloc, number))?,
-            Kind::Covered => self.add_cover(line)?,
-            _ => {}
-        }
-        match self.tables.last_mut() {
-            Some(table) => table.add(number, line),
-            None => Ok(()),
+    /// Whether the line is a row that isn't kept.
+    fn is_light(&self, line: usize) -> bool
+        ensures { result ≡ or_false (slice_get self.now.lights line) }
+    {
+        match self.lights.as_slice().get(line) {
+            Some(light) => *light,
+            None => false,
         }
     }
 
-    fn height(&self, line: usize) -> u32 {
-        self.heights.get(line).copied().unwrap_or(0)
-    }
-
-    /// The table of the term that the line belongs to.
-    fn table_of(&self, line: usize) -> Option<&Table<'a>> {
-        self.tables.iter().rev().find(|table| table.term <= line)
-    }
-
-    /// Whether the row is none of the kept ones.
-    fn is_light(&self, table: &Table, row: &[u8]) -> bool {
-        !words_of(self.lines, table.kept)
-            .iter()
-            .skip(3)
-            .any(|kept| are_same(kept.as_slice(), row))
-    }
-
-    /// The height of a row of a term, whose rows stand directly behind its own line.
-    fn row_height(&self, table: &Table, row: usize) -> u32 {
-        self.height(table.term.saturating_add(1).saturating_add(row))
-    }
-
-    /// The number that stands in a line.
-    fn number(&self, line: usize, word: usize) -> usize {
-        number_of(word_at(words_of(self.lines, line), word)).unwrap_or(0)
+    /// The line that the term of a line begins with.
+    pub(crate) fn term_at(&self, line: usize) -> usize
+        ensures { result ≡ or_else 0 (slice_get self.now.terms line) }
+    {
+        match self.terms.as_slice().get(line) {
+            Some(term) => *term,
+            None => 0,
+        }
     }
 
     fn label(&self, thing: &Thing) -> Position {
-        let x = self
-            .left
-            .saturating_add(offset_of(words_of(self.lines, thing.line), thing.word));
-        Position {
-            x,
-            y: self.height(thing.line),
-            edge: 0,
-            lane: 0,
-            to: 0,
-            colour: 0,
-            light: false,
-        }
+        let offset = offset_of(words_of(self.lines, thing.line), thing.word);
+        text_at(self.left.saturating_add(offset), self.height(thing.line))
     }
 
     /// A row's number, its variable, its object or a symbol of it.
-    fn in_row(&self, table: &Table, thing: &Thing) -> Position {
-        let words = words_of(self.lines, thing.line);
-        let (left, colour) = match thing.word {
-            0..=5 => (table.front(thing.word.saturating_sub(3)), 0),
-            _ => {
-                let word = word_at(words, thing.word);
-                (table.column(before(word)), table.colour(behind(word)))
-            }
-        };
+    fn in_row(&self, table: &Table, thing: &Thing) -> Position
+        ensures { result ≡ stands_in_row self.now.left table.now thing.now.word (words_at self.now.lines.now thing.now.line) (height_in self.now.heights thing.now.line) (or_false (slice_get self.now.lights thing.now.line)) }
+    {
+        let word = word_at(words_of(self.lines, thing.line), thing.word);
         Position {
-            x: self.left.saturating_add(left),
+            x: table.row_x(self.left, thing.word, word),
             y: self.height(thing.line),
             edge: 0,
             lane: 0,
             to: 0,
-            colour,
-            light: self.is_light(table, word_at(words, 3)),
+            mark: table.row_mark(thing.word, word),
+            light: self.is_light(thing.line),
         }
     }
 
-    fn source(&self, table: &Table, thing: &Thing) -> Position {
+    /// An object that a kept row is read from, beside it.
+    fn source(&self, table: &Table, thing: &Thing) -> Position
+        ensures { result ≡ source_place table.now self.now.lines.now self.now.heights thing.now.word (words_at self.now.lines.now thing.now.line) }
+    {
         let words = words_of(self.lines, thing.line);
         let offset = offset_of(words, thing.word).saturating_sub(offset_of(words, 4));
-        let right = self
-            .left
-            .saturating_add(table.width())
-            .saturating_add(table.behind_lanes());
-        Position {
-            x: right.saturating_add(offset),
-            y: self.row_height(table, self.number(thing.line, 3)),
-            edge: 0,
-            lane: 0,
-            to: 0,
-            colour: 0,
-            light: false,
-        }
+        let row = row_among(lines_behind(self.lines, table.term), word_at(words, 3));
+        text_at(
+            table.sources.saturating_add(offset),
+            row_height(self.heights.as_slice(), table.term, row),
+        )
     }
 
-    fn fold(&self, table: &Table, thing: &Thing) -> Position {
-        let target = self.number(thing.line, thing.word);
-        let right = self.left.saturating_add(table.width());
+    /// The arrow of a row to the row that it folds to.
+    fn fold(&self, table: &Table, thing: &Thing) -> Position
+        ensures { result ≡ fold_place table.now self.now.heights thing.now.word (words_at self.now.lines.now thing.now.line) }
+    {
+        let words = words_of(self.lines, thing.line);
+        let heights = self.heights.as_slice();
+        let target = number_in(word_at(words, thing.word));
+        let before = front_of(words, thing.word);
         Position {
             x: 0,
-            y: self.row_height(table, thing.word.saturating_sub(3)),
-            edge: right.saturating_add(8),
-            lane: right.saturating_add(table.lane(target)),
-            to: self.row_height(table, target),
-            colour: 0,
+            y: row_height(heights, table.term, thing.word.saturating_sub(3)),
+            edge: table.right.saturating_add(8),
+            lane: lane_behind(table.right.saturating_add(24), before),
+            to: row_height(heights, table.term, target),
+            mark: 0,
             light: true,
         }
     }
 
+    /// The line of the term with this number; 0 where there is none.
+    fn term_line(&self, term: usize) -> usize {
+        let mut count: usize = 0;
+        for (number, line) in self.lines.iter().enumerate() {
+            if is_term(line.kind) {
+                if count == term {
+                    return number;
+                }
+                count = count.saturating_add(1);
+            }
+        }
+        0
+    }
+
     fn cover(&self, thing: &Thing) -> Position {
-        let by = self.number(thing.line, 5);
-        let lane = self.covers.iter().position(|term| *term == by);
-        let to = match self.tables.get(by) {
-            Some(table) => self.height(table.term),
-            None => 0,
-        };
+        let by = number_in(word_at(words_of(self.lines, thing.line), 5));
+        let lane = self.covers.as_slice().iter().position(|term| *term == by);
+        let to = self.height(self.term_line(by));
         Position {
             edge: self.left.saturating_sub(4),
             lane: 10 + 10 * lanes(lane.unwrap_or(0)),
@@ -203,18 +245,24 @@ impl<'a> Layout<'a> {
         }
     }
 
-    /// Where a thing is drawn.
-    pub(crate) fn place(&self, thing: &Thing) -> Position {
-        let kind = match self.lines.get(thing.line) {
-            Some(line) => line.kind,
-            None => Kind::Query,
-        };
-        match (self.table_of(thing.line), thing.what, kind) {
-            (_, What::Cover, _) => self.cover(thing),
-            (Some(table), What::Fold, _) => self.fold(table, thing),
-            (Some(table), What::Source, _) => self.source(table, thing),
-            (Some(table), _, Kind::Row) => self.in_row(table, thing),
+    /// A word that is shown for itself.
+    fn other(&self, table: &Table, thing: &Thing) -> Position {
+        match self.lines.get(thing.line) {
+            Some(line) if is_row(line.kind) => self.in_row(table, thing),
             _ => self.label(thing),
+        }
+    }
+
+    /// Where a thing is drawn, by the table of its term.
+    pub(crate) fn place(&self, table: &Table, thing: &Thing) -> Position
+        ensures { StandsAs thing.now.what self.now.lines.now self.now.heights self.now.lights self.now.left table.now thing.now result }
+    {
+        match thing.what {
+            What::Row | What::Symbol => self.in_row(table, thing),
+            What::Fold => self.fold(table, thing),
+            What::Source => self.source(table, thing),
+            What::Cover => self.cover(thing),
+            _ => self.other(table, thing),
         }
     }
 
@@ -222,45 +270,91 @@ impl<'a> Layout<'a> {
     fn add_headings(
         &self,
         alloc: Global,
-        helps: &mut Vec<Help>,
+        helps: &mut List<Help>,
         table: &Table,
-    ) -> Result<(), AllocError> {
+    ) -> Result<(), NoMemory> {
         let y = self.height(table.term).saturating_add(HIGH);
-        for column in table.columns.iter() {
+        for column in table.columns.as_slice() {
+            let name = column.name.as_slice();
             helps.push(Help::Heading {
-                x: self.left.saturating_add(table.column(column.name)),
+                x: column_at(table.first, table.columns.as_slice(), name),
                 y,
-                text: su_base::List::from_vec(column.name.to_vec(alloc)?),
+                text: copied(alloc, name)?,
             })?;
         }
         Ok(())
     }
 
     /// The grounds of a table's kept rows.
-    fn add_bands(&self, helps: &mut Vec<Help>, table: &Table) -> Result<(), AllocError> {
-        for row in words_of(self.lines, table.kept).iter().skip(3) {
-            let row = number_of(row.as_slice()).unwrap_or(0);
+    fn add_bands(&self, helps: &mut List<Help>, table: &Table) -> Result<(), NoMemory> {
+        let rows = lines_behind(self.lines, table.term);
+        for row in kept_behind(rows) {
+            let row = row_among(rows, row.as_slice());
             helps.push(Help::Band {
                 x: self.left.saturating_sub(4),
-                y: self.row_height(table, row).saturating_sub(15),
-                width: table.width(),
+                y: row_height(self.heights.as_slice(), table.term, row).saturating_sub(15),
+                width: table.right.saturating_sub(self.left),
             })?;
         }
         Ok(())
     }
 
-    /// What stands for no word.
-    pub(crate) fn helps(&self, alloc: Global) -> Result<Vec<Help>, AllocError> {
-        let mut helps = Vec::new(alloc);
-        for table in self.tables.iter() {
-            self.add_bands(&mut helps, table)?;
-            self.add_headings(alloc, &mut helps, table)?;
+    /// The heading over the sources of a term that has some.
+    fn add_sources(
+        &self,
+        alloc: Global,
+        helps: &mut List<Help>,
+        table: &Table,
+    ) -> Result<(), NoMemory> {
+        if tells_sources(lines_behind(self.lines, table.term)) {
+            helps.push(Help::Heading {
+                x: table.sources,
+                y: self.height(table.term).saturating_add(HIGH),
+                text: copied(alloc, b"read from")?,
+            })?;
         }
+        Ok(())
+    }
+
+    /// The legend, below all lines.
+    fn add_legend(&self, alloc: Global, helps: &mut List<Help>) -> Result<(), NoMemory> {
+        let mut y = self.bottom().saturating_add(2 * HIGH);
+        for text in LEGEND {
+            helps.push(Help::Note {
+                x: 30,
+                y,
+                text: copied(alloc, text.as_bytes())?,
+            })?;
+            y = y.saturating_add(16);
+        }
+        Ok(())
+    }
+
+    /// What stands for no word.
+    pub(crate) fn helps(&self, alloc: Global) -> Result<List<Help>, NoMemory> {
+        let mut helps = List::new(alloc);
+        for (number, line) in self.lines.iter().enumerate() {
+            if is_term(line.kind) {
+                let table = Table::of(alloc, self.left, self.lines, number)?;
+                self.add_bands(&mut helps, &table)?;
+                self.add_headings(alloc, &mut helps, &table)?;
+                self.add_sources(alloc, &mut helps, &table)?;
+            }
+        }
+        self.add_legend(alloc, &mut helps)?;
         Ok(helps)
     }
 
-    /// How high the picture is.
-    pub(crate) fn bottom(&self) -> u32 {
-        self.heights.last().copied().unwrap_or(0)
+    /// How high the picture is, with the legend.
+    pub(crate) fn end(&self) -> u32 {
+        self.bottom().saturating_add(6 * HIGH)
+    }
+
+    /// How high the last line is.
+    fn bottom(&self) -> u32 {
+        match self.heights.as_slice().last() {
+            Some(height) => *height,
+            None => 0,
+        }
     }
 }

@@ -1,13 +1,13 @@
 //! Where the things of a schema are drawn: the attributes are columns, the objects lines with a dot at
 //! each of their attributes, and the maximal objects columns with a square at each of their objects.
 
-use crate::checks::are_same;
-use crate::kinds::Kind;
-use crate::measures::{HIGH, WIDE, width_of, word_at, words_of};
-use crate::reading::Line;
+use crate::cutting::shown_width;
+use crate::measures::{HIGH, WIDE, word_at, words_of};
 use crate::shapes::{Help, Position};
 use crate::things::{Thing, What, name_in};
-use std::alloc::{AllocError, Global};
+use std::alloc::Global;
+use su_base::{List, NoMemory};
+use su_explained::{Kind, Line, are_same};
 
 /// Where the first line of objects is, and how far apart they are.
 const TOP: u32 = 80;
@@ -16,9 +16,9 @@ const TOP: u32 = 80;
 pub(crate) struct Grid<'a> {
     lines: &'a [Line],
     left: u32,
-    attributes: Vec<Spot<'a>>,
-    objects: Vec<Spot<'a>>,
-    maximal: Vec<Spot<'a>>,
+    attributes: List<Spot<'a>>,
+    objects: List<Spot<'a>>,
+    maximal: List<Spot<'a>>,
 }
 
 /// Not derived, so that it is a single call wherever a grid goes out of scope.
@@ -57,12 +57,12 @@ fn middle_of(spots: &[Spot], name: &[u8]) -> u32 {
 
 impl<'a> Grid<'a> {
     /// The names of the objects, from the top down.
-    fn add_objects(&mut self) -> Result<(), AllocError> {
+    fn add_objects(&mut self) -> Result<(), NoMemory> {
         let mut at = TOP;
         for line in self.lines.iter() {
             if line.kind == Kind::Object {
                 let name = word_at(line.words.as_slice(), 1);
-                let width = width_of(name);
+                let width = shown_width(name);
                 self.objects.push(Spot { name, at, width })?;
                 self.left = self.left.max(width.saturating_add(40));
                 at = at.saturating_add(HIGH + 4);
@@ -72,14 +72,14 @@ impl<'a> Grid<'a> {
     }
 
     /// The name of an attribute at this place; where the next one stands.
-    fn add_attribute(&mut self, name: &'a [u8], at: u32) -> Result<u32, AllocError> {
-        let width = width_of(name);
+    fn add_attribute(&mut self, name: &'a [u8], at: u32) -> Result<u32, NoMemory> {
+        let width = shown_width(name);
         self.attributes.push(Spot { name, at, width })?;
         Ok(at.saturating_add(width).saturating_add(2 * WIDE))
     }
 
     /// The number of a maximal object behind this place; where the next one stands.
-    fn add_maximal(&mut self, name: &'a [u8], behind: u32) -> Result<u32, AllocError> {
+    fn add_maximal(&mut self, name: &'a [u8], behind: u32) -> Result<u32, NoMemory> {
         let width = 8 * WIDE;
         let at = behind.saturating_add(2 * WIDE);
         self.maximal.push(Spot { name, at, width })?;
@@ -87,7 +87,7 @@ impl<'a> Grid<'a> {
     }
 
     /// The names of the attributes, and behind them the numbers of the maximal objects.
-    fn add_columns(&mut self) -> Result<(), AllocError> {
+    fn add_columns(&mut self) -> Result<(), NoMemory> {
         let mut at = self.left;
         for line in self.lines.iter() {
             let words = line.words.as_slice();
@@ -100,13 +100,13 @@ impl<'a> Grid<'a> {
         Ok(())
     }
 
-    pub(crate) fn new(alloc: Global, lines: &'a [Line]) -> Result<Grid<'a>, AllocError> {
+    pub(crate) fn new(alloc: Global, lines: &'a [Line]) -> Result<Grid<'a>, NoMemory> {
         let mut grid = Grid {
             lines,
             left: 40,
-            attributes: Vec::new(alloc),
-            objects: Vec::new(alloc),
-            maximal: Vec::new(alloc),
+            attributes: List::new(alloc),
+            objects: List::new(alloc),
+            maximal: List::new(alloc),
         };
         grid.add_objects()?;
         grid.add_columns()?;
@@ -153,7 +153,7 @@ impl<'a> Grid<'a> {
             edge: 0,
             lane: 0,
             to: 0,
-            colour: 0,
+            mark: 0,
             light: false,
         }
     }
@@ -166,7 +166,7 @@ impl<'a> Grid<'a> {
         for word in words
             .iter()
             .skip(2)
-            .take(crate::schemas::attribute_count(words.len()))
+            .take(su_explained::attribute_count(words.len()))
         {
             let x = middle_of(self.attributes.as_slice(), name_in(word.as_slice()));
             first = first.min(x);
@@ -199,8 +199,8 @@ impl<'a> Grid<'a> {
     }
 
     /// What stands for no word.
-    pub(crate) fn helps(&self, alloc: Global) -> Result<Vec<Help>, AllocError> {
-        let mut helps = Vec::new(alloc);
+    pub(crate) fn helps(&self, alloc: Global) -> Result<List<Help>, NoMemory> {
+        let mut helps = List::new(alloc);
         for line in self.lines.iter() {
             match line.kind {
                 Kind::Object => helps.push(self.object_rule(line))?,
@@ -208,11 +208,11 @@ impl<'a> Grid<'a> {
                 _ => {}
             }
         }
-        if let Some(spot) = self.maximal.first() {
-            helps.push(Help::Heading {
+        if let Some(spot) = self.maximal.as_slice().first() {
+            helps.push(Help::Note {
                 x: spot.at,
                 y: TOP - 3 * HIGH - 4,
-                text: su_base::List::from_vec(b"maximal objects".to_vec(alloc)?),
+                text: List::from_vec(b"maximal objects".to_vec(alloc)?),
             })?;
         }
         Ok(helps)
@@ -220,7 +220,7 @@ impl<'a> Grid<'a> {
 
     /// How high the picture is.
     pub(crate) fn bottom(&self) -> u32 {
-        match self.objects.last() {
+        match self.objects.as_slice().last() {
             Some(spot) => spot.at,
             None => TOP,
         }

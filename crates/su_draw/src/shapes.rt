@@ -5,7 +5,8 @@ use su_base::List;
 
 /// Where a thing is drawn, in pixels from the upper left corner. A text begins at `x` and stands on the
 /// base line `y`. An arrow begins at its edge a little above that line, goes sideways to its lane, up or
-/// down to another base line, and back to the edge. Symbols have colours; what is light is not kept.
+/// down to another base line, and back to the edge. The symbols of one class have a mark, others 0; what is
+/// light is not kept.
 #[derive(Clone, Copy)]
 pub struct Position {
     pub x: u32,
@@ -13,7 +14,7 @@ pub struct Position {
     pub edge: u32,
     pub lane: u32,
     pub to: u32,
-    pub colour: u8,
+    pub mark: usize,
     pub light: bool,
 }
 
@@ -24,11 +25,16 @@ pub struct Shape {
     pub place: Position,
 }
 
-/// What helps the eye and stands for no word: the names above the columns of a table, the ground of a
-/// kept row, and lines.
+/// What helps the eye and stands for no word: the names above the columns of a table, the lines of the
+/// legend, the ground of a kept row, and lines.
 #[derive(Drop)]
 pub enum Help {
     Heading {
+        x: u32,
+        y: u32,
+        text: List<u8>,
+    },
+    Note {
         x: u32,
         y: u32,
         text: List<u8>,
@@ -46,8 +52,10 @@ pub enum Help {
     },
 }
 
-/// A picture.
+/// A picture, with a title and a description for who doesn't see it.
 pub struct Picture {
+    pub title: List<u8>,
+    pub about: List<u8>,
     pub width: u32,
     pub height: u32,
     pub helps: List<Help>,
@@ -58,6 +66,8 @@ pub struct Picture {
 impl Drop for Picture {
     fn drop(self) {
         let Picture {
+            title: _,
+            about: _,
             width: _,
             height: _,
             helps: _,

@@ -1,187 +1,240 @@
 //! The tables of an explanation: a term's rows, and where its columns are.
+ghost use Rattle.std.specs.Prelude.{◌≡◌, ◌-◌, ◌||◌, not, nat_lt, drop, map, [], IfOk, OnOk};
+ghost use Rattle.std.specs.List.{list_any};
+ghost use Rattle.std.specs.Str.{bytes_eq};
+ghost use Rattle.su_draw.specs.inside.Lay.{front_from, name_added, names_with, room_of as room, room_from, column_of as column_for, columns_of as columns_for, column_from, end_from, is_arrow as arrow_at, lane_from, table_on, table_of, row_x, row_mark};
 
-use crate::kinds::Kind;
-use crate::measures::{WIDE, lanes, width_of, word_at};
-use crate::numbers::number_of;
-use crate::reading::Line;
-use crate::things::{before, behind};
-use std::alloc::{AllocError, Global};
-use su_base::List;
+use crate::cells::{Cell, before, cells_of, classes_of, copied, mark_of};
+use crate::cutting::shown_width;
+use crate::measures::{WIDE, word_at};
+use crate::terms::{fold_behind, is_row, lines_behind};
+use crate::things::{behind, what_in_fold};
+use std::alloc::Global;
+use su_base::{List, NoMemory};
+use su_explained::{Line, are_same};
 
 /// A column: its attribute, and how wide it is.
 #[derive(Drop)]
-pub(crate) struct Column<'a> {
-    pub(crate) name: &'a [u8],
+pub(crate) struct Column {
+    pub(crate) name: List<u8>,
     pub(crate) width: u32,
 }
 
-/// The table of a term: the line of the term and that of its kept rows; how wide the numbers, variables
-/// and objects of its rows are; its columns; the symbols that stand in it, and those of them that stand
-/// in several cells; the rows that others fold to, each of which has a lane for its arrows.
-pub(crate) struct Table<'a> {
+/// The table of the term that begins with a line: where the variables and the objects of its rows begin,
+/// where the first column does, its columns and where they end, where sources begin, and the symbols that
+/// stand in several cells.
+pub(crate) struct Table {
     pub(crate) term: usize,
-    pub(crate) kept: usize,
-    pub(crate) fronts: [u32; 3],
-    pub(crate) columns: Vec<Column<'a>>,
-    pub(crate) once: Vec<&'a [u8]>,
-    pub(crate) often: Vec<&'a [u8]>,
-    pub(crate) targets: Vec<usize>,
+    pub(crate) variable: u32,
+    pub(crate) object: u32,
+    pub(crate) first: u32,
+    pub(crate) columns: List<Column>,
+    pub(crate) right: u32,
+    pub(crate) sources: u32,
+    pub(crate) classes: List<List<u8>>,
 }
 
 /// Not derived, so that it is a single call wherever a table goes out of scope.
-impl Drop for Table<'_> {
+impl Drop for Table {
     fn drop(self) {
         let Table {
             term: _,
-            kept: _,
-            fronts: _,
+            variable: _,
+            object: _,
+            first: _,
             columns: _,
-            once: _,
-            often: _,
-            targets: _,
+            right: _,
+            sources: _,
+            classes: _,
         } = self;
     }
 }
 
-/// Where a text stands among others.
-pub(crate) fn place_among(texts: &[&[u8]], text: &[u8]) -> Option<usize> {
-    texts.iter().position(|other| *other == text)
+/// How wide a word of the rows is, at most, with a gap.
+fn front_width(lines: &[Line], word: usize) -> u32
+    ensures { result ≡ front_from 0 lines.now word }
+{
+    let mut width: u32 = 0;
+    for line in lines {
+        if !is_row(line.kind) {
+            return width;
+        }
+        let own = shown_width(word_at(line.words.as_slice(), word)).saturating_add(2 * WIDE);
+        width = width.max(own);
+    }
+    width
 }
 
-impl<'a> Table<'a> {
-    pub(crate) fn new(alloc: Global, term: usize) -> Table<'a> {
-        Table {
+/// Whether the name is one of these.
+fn is_named(names: &[List<u8>], name: &[u8]) -> bool
+    ensures { result ≡ list_any (λ n. bytes_eq n name.now) names.now }
+{
+    names.iter().any(|known| are_same(known.as_slice(), name))
+}
+
+/// Adds the name, if it isn't there.
+fn add_name(alloc: Global, names: &mut List<List<u8>>, name: &[u8]) -> Result<(), NoMemory>
+    ensures { OnOk result (names.new ≡ name_added names.old name.now) }
+{
+    if is_named(names.as_slice(), name) {
+        return Ok(());
+    }
+    names.push(copied(alloc, name)?)?;
+    Ok(())
+}
+
+/// The attributes of the cells, each once.
+fn names_of(alloc: Global, cells: &[Cell]) -> Result<List<List<u8>>, NoMemory>
+    ensures { IfOk result (λ names. names ≡ names_with [] cells.now) }
+{
+    let mut names = List::new(alloc);
+    for cell in cells {
+        add_name(alloc, &mut names, cell.name.as_slice())?;
+    }
+    Ok(names)
+}
+
+/// The room of a cell: for its symbol and a mark, and for the attribute above it.
+fn room_of(cell: &Cell) -> u32
+    ensures { result ≡ room cell.now }
+{
+    let symbol = shown_width(cell.symbol.as_slice()).saturating_add(2 * WIDE);
+    shown_width(cell.name.as_slice())
+        .max(symbol)
+        .saturating_add(2 * WIDE)
+}
+
+/// The room of the widest cell of an attribute.
+fn room_for(cells: &[Cell], name: &[u8]) -> u32
+    ensures { result ≡ room_from 0 cells.now name.now }
+{
+    let mut width: u32 = 0;
+    for cell in cells {
+        if are_same(cell.name.as_slice(), name) {
+            width = width.max(room_of(cell));
+        }
+    }
+    width
+}
+
+/// A column for each attribute of the cells.
+fn columns_of(alloc: Global, cells: &[Cell]) -> Result<List<Column>, NoMemory>
+    ensures { IfOk result (λ columns. columns ≡ columns_for cells.now) }
+{
+    let names = names_of(alloc, cells)?;
+    let mut columns = List::new(alloc);
+    for name in names.into_vec() {
+        let width = room_for(cells, name.as_slice());
+        columns.push(Column { name, width })?;
+    }
+    Ok(columns)
+}
+
+/// Where the column of an attribute begins; behind all columns, where it has none.
+pub(crate) fn column_at(first: u32, columns: &[Column], name: &[u8]) -> u32
+    ensures { result ≡ column_from first columns.now name.now }
+{
+    let mut left = first;
+    for column in columns {
+        if are_same(column.name.as_slice(), name) {
+            return left;
+        }
+        left = left.saturating_add(column.width);
+    }
+    left
+}
+
+/// Where the columns end.
+fn end_of(first: u32, columns: &[Column]) -> u32
+    ensures { result ≡ end_from first columns.now }
+{
+    let mut left = first;
+    for column in columns {
+        left = left.saturating_add(column.width);
+    }
+    left
+}
+
+/// Whether the word of a fold is an arrow.
+fn is_arrow(k: usize, word: &[u8]) -> bool
+    ensures { result ≡ arrow_at k word.now }
+{
+    what_in_fold(k, word).is_some()
+}
+
+/// Where the lane behind those of these words of a fold is.
+pub(crate) fn lane_behind(first: u32, words: &[List<u8>]) -> u32
+    ensures { result ≡ lane_from first 0 words.now }
+{
+    let mut lane = first;
+    for (k, word) in words.iter().enumerate() {
+        if is_arrow(k, word.as_slice()) {
+            lane = lane.saturating_add(18);
+        }
+    }
+    lane
+}
+
+impl Table {
+    /// The table of a term whose rows the lines begin with.
+    fn on(alloc: Global, left: u32, term: usize, rows: &[Line]) -> Result<Table, NoMemory>
+        ensures { IfOk result (λ table. table ≡ table_on left term rows.now) }
+    {
+        let cells = cells_of(alloc, rows)?;
+        let variable = left.saturating_add(front_width(rows, 3));
+        let object = variable.saturating_add(front_width(rows, 4));
+        let first = object.saturating_add(front_width(rows, 5));
+        let columns = columns_of(alloc, cells.as_slice())?;
+        let classes = classes_of(alloc, cells.as_slice())?;
+        let right = end_of(first, columns.as_slice());
+        let sources = lane_behind(right.saturating_add(24), fold_behind(rows)).saturating_add(12);
+        Ok(Table {
             term,
-            kept: term,
-            fronts: [0; 3],
-            columns: Vec::new(alloc),
-            once: Vec::new(alloc),
-            often: Vec::new(alloc),
-            targets: Vec::new(alloc),
+            variable,
+            object,
+            first,
+            columns,
+            right,
+            sources,
+            classes,
+        })
+    }
+
+    /// The table of the term that begins with this line.
+    pub(crate) fn of(
+        alloc: Global,
+        left: u32,
+        lines: &[Line],
+        term: usize,
+    ) -> Result<Table, NoMemory>
+        ensures { IfOk result (λ table. table ≡ table_of left lines.now term) }
+    {
+        Table::on(alloc, left, term, lines_behind(lines, term))
+    }
+
+    /// Where a word of a row begins.
+    pub(crate) fn row_x(&self, left: u32, k: usize, word: &[u8]) -> u32
+        ensures { result ≡ row_x left self.now k word.now }
+    {
+        if k < 4 {
+            return left;
         }
-    }
-
-    /// The attribute has a column that is so wide at least.
-    fn widen(&mut self, name: &'a [u8], width: u32) -> Result<(), AllocError> {
-        for column in self.columns.iter_mut() {
-            if column.name == name {
-                column.width = column.width.max(width);
-                return Ok(());
-            }
+        if k == 4 {
+            return self.variable;
         }
-        self.columns.push(Column { name, width })?;
-        Ok(())
-    }
-
-    /// A symbol stands in one more cell.
-    fn meet(&mut self, symbol: &'a [u8]) -> Result<(), AllocError> {
-        if place_among(self.once.as_slice(), symbol).is_none() {
-            self.once.push(symbol)?;
-        } else if place_among(self.often.as_slice(), symbol).is_none() {
-            self.often.push(symbol)?;
+        if k == 5 {
+            return self.object;
         }
-        Ok(())
+        column_at(self.first, self.columns.as_slice(), before(word))
     }
 
-    /// The row's number, variable and object have their room.
-    fn widen_fronts(&mut self, words: &[List<u8>]) {
-        for (front, k) in self.fronts.iter_mut().zip(3..6) {
-            *front = (*front).max(width_of(word_at(words, k)).saturating_add(2 * WIDE));
+    /// The mark of a word of a row.
+    pub(crate) fn row_mark(&self, k: usize, word: &[u8]) -> usize
+        ensures { result ≡ row_mark self.now k word.now }
+    {
+        if k < 6 {
+            return 0;
         }
-    }
-
-    /// One more cell of a row.
-    fn add_cell(&mut self, word: &'a [u8]) -> Result<(), AllocError> {
-        let (name, symbol) = (before(word), behind(word));
-        let width = width_of(name).max(width_of(symbol));
-        self.widen(name, width.saturating_add(2 * WIDE))?;
-        self.meet(symbol)
-    }
-
-    /// One more row.
-    fn add_row(&mut self, line: &'a Line) -> Result<(), AllocError> {
-        let words = line.words.as_slice();
-        self.widen_fronts(words);
-        for word in words.iter().skip(6) {
-            self.add_cell(word.as_slice())?;
-        }
-        Ok(())
-    }
-
-    /// The row that this row folds to, if it is another one.
-    fn add_target(&mut self, row: usize, word: &[u8]) -> Result<(), AllocError> {
-        if let Some(target) = number_of(word)
-            && target != row
-            && !self.targets.contains(&target)
-        {
-            self.targets.push(target)?;
-        }
-        Ok(())
-    }
-
-    /// The rows that others fold to.
-    fn add_targets(&mut self, line: &Line) -> Result<(), AllocError> {
-        for (row, word) in line.words.as_slice().iter().skip(3).enumerate() {
-            self.add_target(row, word.as_slice())?;
-        }
-        Ok(())
-    }
-
-    /// Takes the line of the text with this number, which is one of the term.
-    pub(crate) fn add(&mut self, number: usize, line: &'a Line) -> Result<(), AllocError> {
-        match line.kind {
-            Kind::Row => self.add_row(line),
-            Kind::Kept => {
-                self.kept = number;
-                Ok(())
-            }
-            Kind::Fold => self.add_targets(line),
-            _ => Ok(()),
-        }
-    }
-
-    /// Where the row's number, its variable, its object and its cells begin, behind the table's left end.
-    pub(crate) fn front(&self, part: usize) -> u32 {
-        let mut left: u32 = 0;
-        for front in self.fronts.iter().take(part) {
-            left = left.saturating_add(*front);
-        }
-        left
-    }
-
-    /// Where the column of an attribute begins; the table's right end, where it has none.
-    pub(crate) fn column(&self, name: &[u8]) -> u32 {
-        let mut left = self.front(3);
-        for column in self.columns.iter() {
-            if column.name == name {
-                return left;
-            }
-            left = left.saturating_add(column.width);
-        }
-        left
-    }
-
-    /// How wide the table is.
-    pub(crate) fn width(&self) -> u32 {
-        self.column(&[])
-    }
-
-    /// The colour of a symbol: 0 where it stands in one cell alone.
-    pub(crate) fn colour(&self, symbol: &[u8]) -> u8 {
-        match place_among(self.often.as_slice(), symbol) {
-            Some(i) => (i % 7) as u8 + 1,
-            None => 0,
-        }
-    }
-
-    /// Where the lane of the arrows to a row is, behind the table's right end.
-    pub(crate) fn lane(&self, target: usize) -> u32 {
-        let lane = self.targets.iter().position(|row| *row == target);
-        24 + 10 * lanes(lane.unwrap_or(0))
-    }
-
-    /// Where sources begin, behind the table's right end.
-    pub(crate) fn behind_lanes(&self) -> u32 {
-        30 + 10 * lanes(self.targets.len())
+        mark_of(self.classes.as_slice(), behind(word))
     }
 }

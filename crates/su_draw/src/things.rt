@@ -1,16 +1,13 @@
 //! What is drawn for the words of a text.
 ghost use Rattle.std.specs.Prelude.{◌≡◌, ◌-◌, ◌≤◌, ◌++◌, length, IfOk, OnOk};
-ghost use Rattle.su_draw.specs.Checks.{is_decimal};
+ghost use Rattle.su_explained.specs.Checks.{is_decimal};
 ghost use Rattle.su_draw.specs.Things.{symbol_of, text_shown, thing_of, things_in, things_of};
 ghost use Rattle.su_draw.specs.Drawn.{drawn_from, drawn_at, drawn_in_row, drawn_in_fold, drawn_in_cover, drawn_in_object, drawn_in_maximal, drawn_as};
 ghost use Rattle.su_draw.specs.Once.{StandOnce};
 
-use crate::kinds::Kind;
-use crate::numbers::number_of;
-use crate::reading::Line;
-use crate::schemas::attribute_count;
 use std::alloc::Global;
 use su_base::{List, NoMemory};
+use su_explained::{Kind, Line, attribute_count, number_of};
 
 /// What a word is drawn as.
 #[derive(Clone, Copy, PartialEq, Eq)]
@@ -86,7 +83,7 @@ fn stays(k: usize, word: &[u8]) -> bool
 }
 
 /// In the line of a fold: the rows that go to another one.
-fn what_in_fold(k: usize, word: &[u8]) -> Option<What>
+pub(crate) fn what_in_fold(k: usize, word: &[u8]) -> Option<What>
     ensures { result ≡ drawn_in_fold k word.now }
 {
     if k < 3 || stays(k, word) {
@@ -143,14 +140,6 @@ pub fn what_of(kind: Kind, words: usize, k: usize, word: &[u8]) -> Option<What>
         Kind::Object => what_in_object(words, k),
         Kind::Maximal => what_in_maximal(k),
         Kind::Kept | Kind::Relation | Kind::Dependency | Kind::Declared => None,
-    }
-}
-
-/// What stands before the first sign of equality; the whole word, if it has none.
-pub(crate) fn before(word: &[u8]) -> &[u8] {
-    match word.iter().position(|byte| *byte == b'=') {
-        Some(i) => &word[..i],
-        None => word,
     }
 }
 

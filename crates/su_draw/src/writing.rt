@@ -1,31 +1,36 @@
 //! A picture as SVG.
-ghost use Rattle.std.specs.Prelude.{◌≡◌, ◌++◌, flat_map, codes, decimal, OnOk, IfOk, string_bytes};
-ghost use Rattle.su_draw.specs.Svg.{heading_line, band_line, rule_line, help_text, ground_line, svg_attributes, svg_inside, svg_text};
-ghost use Rattle.su_draw.specs.Shapes.{text_line, way_of, arrow_line, dot_line, square_line, shape_text};
-ghost use Rattle.su_draw.specs.Looks.{colour_of, opacity_of, weight_of};
+ghost use Rattle.std.specs.Prelude.{◌≡◌, ◌-◌, ◌++◌, flat_map, codes, decimal, [], OnOk, IfOk, string_bytes};
+ghost use Rattle.su_draw.specs.Cutting.{shown_text};
+ghost use Rattle.su_draw.specs.Svg.{heading_line, note_line, band_line, rule_line, help_text, ground_line, front_lines, svg_attributes, svg_inside, svg_text};
+ghost use Rattle.su_draw.specs.Shapes.{element_line, mark_text, text_line, way_of, arrow_line, end_line, fold_lines, dot_line, square_line, shape_text};
+ghost use Rattle.su_draw.specs.Looks.{class_of, opacity_of, weight_of, style_text};
 ghost use Rattle.su_draw.specs.Xml.{attribute_text, IsDocument};
+ghost use Rattle.su_draw.specs.inside.Pairs.{attributes_of};
 
-use crate::elements::Pair::{Number, Word};
-use crate::elements::{close, element, open};
+use crate::cutting::push_shown;
+use crate::elements::Pair::{self, Number, Word};
+use crate::elements::{close, element, number_element, number_inside, open, plain_element};
 use crate::shapes::{Help, Picture, Position, Shape};
 use crate::things::What;
 use std::alloc::Global;
 use su_base::parts::push;
 use su_base::{List, NoMemory};
 
-/// The colour with this number; each is dark enough on white.
-fn colour(number: u8) -> &'static str
-    ensures { result.now ≡ colour_of number }
+/// The class of a mark, of seven in turn: the eighth mark has the colour of the first, and its own number.
+fn class(mark: usize) -> &'static str
+    ensures { result.now ≡ class_of mark }
 {
-    match number {
-        0 => "#000000",
-        1 => "#0b4f9e",
-        2 => "#a01818",
-        3 => "#1b6b1b",
-        4 => "#7a3d9e",
-        5 => "#8a5a00",
-        6 => "#00666b",
-        _ => "#a0266b",
+    if mark == 0 {
+        return "c0";
+    }
+    match mark % 7 {
+        1 => "c1",
+        2 => "c2",
+        3 => "c3",
+        4 => "c4",
+        5 => "c5",
+        6 => "c6",
+        _ => "c7",
     }
 }
 
@@ -47,6 +52,33 @@ fn weight(what: What, light: bool) -> &'static str
     }
 }
 
+/// A mark behind its symbol.
+fn push_mark(alloc: Global, out: &mut Vec<u8>, mark: usize) -> Result<(), NoMemory>
+    ensures { OnOk result (out.new.items ≡ out.old.items ++ mark_text mark) }
+{
+    if mark == 0 {
+        return Ok(());
+    }
+    let pairs = [Word("dy", "-4"), Word("font-size", "9")];
+    number_inside(alloc, out, "tspan", &pairs, mark)
+}
+
+/// A text as it is shown, with its mark.
+fn marked_element(
+    alloc: Global,
+    out: &mut Vec<u8>,
+    pairs: &[Pair],
+    text: &[u8],
+    mark: usize,
+) -> Result<(), NoMemory>
+    ensures { OnOk result (out.new.items ≡ out.old.items ++ element_line (codes "text") (attributes_of pairs.now) (shown_text text.now ++ mark_text mark)) }
+{
+    open(alloc, out, "text", pairs)?;
+    push_shown(alloc, out, text)?;
+    push_mark(alloc, out, mark)?;
+    close(out, "text")
+}
+
 fn text_element(alloc: Global, out: &mut Vec<u8>, shape: &Shape) -> Result<(), NoMemory>
     ensures { OnOk result (out.new.items ≡ out.old.items ++ text_line shape.now) }
 {
@@ -54,11 +86,11 @@ fn text_element(alloc: Global, out: &mut Vec<u8>, shape: &Shape) -> Result<(), N
     let pairs = [
         Number("x", place.x),
         Number("y", place.y),
-        Word("fill", colour(place.colour)),
+        Word("class", class(place.mark)),
         Word("fill-opacity", opacity(place.light)),
         Word("font-weight", weight(shape.thing.what, place.light)),
     ];
-    element(alloc, out, "text", &pairs, shape.thing.text.as_slice())
+    marked_element(alloc, out, &pairs, shape.thing.text.as_slice(), place.mark)
 }
 
 fn add(text: &mut String, part: &str) -> Result<(), NoMemory>
@@ -103,18 +135,47 @@ fn arrow_element(
     ensures { OnOk result (out.new.items ≡ out.old.items ++ arrow_line place head.now) }
 {
     let way = way(alloc, place, head)?;
-    let pairs = [
-        Word("d", way.as_str()),
-        Word("fill", "none"),
-        Word("stroke", "#555555"),
-    ];
+    let pairs = [Word("d", way.as_str()), Word("class", "arrow")];
     element(alloc, out, "path", &pairs, &[])
+}
+
+/// The number of an arrow's row, at its lane above this height.
+fn end_element(alloc: Global, out: &mut Vec<u8>, x: u32, y: u32, row: usize) -> Result<(), NoMemory>
+    ensures { OnOk result (out.new.items ≡ out.old.items ++ end_line x y row) }
+{
+    let pairs = [
+        Number("x", x.saturating_sub(2)),
+        Number("y", y.saturating_sub(6)),
+        Word("class", "c0"),
+        Word("text-anchor", "end"),
+        Word("font-size", "9"),
+    ];
+    number_element(alloc, out, "text", &pairs, row)
+}
+
+/// The arrow of a row, with its number at both ends.
+fn fold_element(
+    alloc: Global,
+    out: &mut Vec<u8>,
+    place: Position,
+    row: usize,
+) -> Result<(), NoMemory>
+    ensures { OnOk result (out.new.items ≡ out.old.items ++ fold_lines place row) }
+{
+    arrow_element(alloc, out, place, "m7 -4l-7 4l7 4")?;
+    end_element(alloc, out, place.lane, place.y, row)?;
+    end_element(alloc, out, place.lane, place.to, row)
 }
 
 fn dot_element(alloc: Global, out: &mut Vec<u8>, place: Position) -> Result<(), NoMemory>
     ensures { OnOk result (out.new.items ≡ out.old.items ++ dot_line place) }
 {
-    let pairs = [Number("cx", place.x), Number("cy", place.y), Word("r", "6")];
+    let pairs = [
+        Number("cx", place.x),
+        Number("cy", place.y),
+        Word("r", "6"),
+        Word("class", "c0"),
+    ];
     element(alloc, out, "circle", &pairs, &[])
 }
 
@@ -126,6 +187,7 @@ fn square_element(alloc: Global, out: &mut Vec<u8>, place: Position) -> Result<(
         Number("y", place.y),
         Word("width", "12"),
         Word("height", "12"),
+        Word("class", "c0"),
     ];
     element(alloc, out, "rect", &pairs, &[])
 }
@@ -134,7 +196,7 @@ fn shape_element(alloc: Global, out: &mut Vec<u8>, shape: &Shape) -> Result<(), 
     ensures { OnOk result (out.new.items ≡ out.old.items ++ shape_text shape.now) }
 {
     match shape.thing.what {
-        What::Fold => arrow_element(alloc, out, shape.place, "m7 -4l-7 4l7 4"),
+        What::Fold => fold_element(alloc, out, shape.place, shape.thing.word.saturating_sub(3)),
         What::Cover => {
             arrow_element(alloc, out, shape.place, "m-7 -4l7 4l-7 4")?;
             text_element(alloc, out, shape)
@@ -157,7 +219,28 @@ fn heading_element(
     let pairs = [
         Number("x", x),
         Number("y", y),
+        Word("class", "c0"),
         Word("text-decoration", "underline"),
+    ];
+    open(alloc, out, "text", &pairs)?;
+    push_shown(alloc, out, text)?;
+    close(out, "text")
+}
+
+fn note_element(
+    alloc: Global,
+    out: &mut Vec<u8>,
+    x: u32,
+    y: u32,
+    text: &[u8],
+) -> Result<(), NoMemory>
+    ensures { OnOk result (out.new.items ≡ out.old.items ++ note_line x y text.now) }
+{
+    let pairs = [
+        Number("x", x),
+        Number("y", y),
+        Word("class", "c0"),
+        Word("font-size", "11"),
     ];
     element(alloc, out, "text", &pairs, text)
 }
@@ -176,7 +259,7 @@ fn band_element(
         Number("y", y),
         Number("width", width),
         Word("height", "20"),
-        Word("fill", "#e8e8e8"),
+        Word("class", "band"),
     ];
     element(alloc, out, "rect", &pairs, &[])
 }
@@ -194,7 +277,7 @@ fn rule_element(
         Number("y1", from.1),
         Number("x2", to.0),
         Number("y2", to.1),
-        Word("stroke", "#999999"),
+        Word("class", "rule"),
     ];
     element(alloc, out, "line", &pairs, &[])
 }
@@ -204,6 +287,7 @@ fn help_element(alloc: Global, out: &mut Vec<u8>, help: &Help) -> Result<(), NoM
 {
     match help {
         Help::Heading { x, y, text } => heading_element(alloc, out, *x, *y, text.as_slice()),
+        Help::Note { x, y, text } => note_element(alloc, out, *x, *y, text.as_slice()),
         Help::Band { x, y, width } => band_element(alloc, out, *x, *y, *width),
         Help::Rule { x, y, to_x, to_y } => rule_element(alloc, out, (*x, *y), (*to_x, *to_y)),
     }
@@ -215,24 +299,58 @@ fn ground(alloc: Global, out: &mut Vec<u8>) -> Result<(), NoMemory>
     let pairs = [
         Word("width", "100%"),
         Word("height", "100%"),
-        Word("fill", "#ffffff"),
+        Word("class", "ground"),
     ];
     element(alloc, out, "rect", &pairs, &[])
+}
+
+/// The part of the plane that the picture shows: all of it, so that it may be shown at any size.
+fn view_box(alloc: Global, width: u32, height: u32) -> Result<String, NoMemory>
+    ensures { IfOk result (λ text. string_bytes text ≡ codes "0 0 " ++ decimal width ++ codes " " ++ decimal height) }
+{
+    let mut text = String::new(alloc);
+    add(&mut text, "0 0 ")?;
+    add_number(alloc, &mut text, width)?;
+    add(&mut text, " ")?;
+    add_number(alloc, &mut text, height)?;
+    Ok(text)
 }
 
 /// The beginning of the picture's element.
 fn start(alloc: Global, out: &mut Vec<u8>, picture: &Picture) -> Result<(), NoMemory>
     ensures { OnOk result (out.new.items ≡ out.old.items ++ (codes "<svg" ++ flat_map attribute_text (svg_attributes picture.now) ++ codes ">")) }
 {
+    let seen = view_box(alloc, picture.width, picture.height)?;
     let pairs = [
         Word("xmlns", "http://www.w3.org/2000/svg"),
         Number("width", picture.width),
         Number("height", picture.height),
+        Word("viewBox", seen.as_str()),
+        Word("role", "img"),
         Word("font-family", "monospace"),
         Word("font-size", "13"),
         Word("style", "white-space:pre"),
     ];
     open(alloc, out, "svg", &pairs)
+}
+
+/// The colours of the classes, by the scheme of the page.
+const STYLE: &str =
+    ".ground{fill:#fff}.band{fill:#e4e4e4}.arrow{fill:none;stroke:#555}.rule{stroke:#999}.c0{fill:#000}.c1{fill:#0b4f9e}.c2{fill:#a01818}.c3{fill:#1b6b1b}.c4{fill:#7a3d9e}.c5{fill:#7a4f00}.c6{fill:#00666b}.c7{fill:#a0266b}@media(prefers-color-scheme:dark){.ground{fill:#161616}.band{fill:#383838}.arrow{stroke:#b8b8b8}.rule{stroke:#888}.c0{fill:#f2f2f2}.c1{fill:#8fc1ff}.c2{fill:#ff9d9d}.c3{fill:#8fe08f}.c4{fill:#dcb0ff}.c5{fill:#f0c060}.c6{fill:#6fdfe4}.c7{fill:#ff9ccb}}";
+
+fn style_element(alloc: Global, out: &mut Vec<u8>) -> Result<(), NoMemory>
+    ensures { OnOk result (out.new.items ≡ out.old.items ++ element_line (codes "style") [] style_text) }
+{
+    plain_element(alloc, out, "style", STYLE)
+}
+
+/// The title, the description and the style.
+fn front(alloc: Global, out: &mut Vec<u8>, picture: &Picture) -> Result<(), NoMemory>
+    ensures { OnOk result (out.new.items ≡ out.old.items ++ front_lines picture.now) }
+{
+    element(alloc, out, "title", &[], picture.title.as_slice())?;
+    element(alloc, out, "desc", &[], picture.about.as_slice())?;
+    style_element(alloc, out)
 }
 
 fn help_elements(alloc: Global, out: &mut Vec<u8>, helps: &[Help]) -> Result<(), NoMemory>
@@ -257,6 +375,7 @@ fn inside(alloc: Global, out: &mut Vec<u8>, picture: &Picture) -> Result<(), NoM
     ensures { OnOk result (out.new.items ≡ out.old.items ++ svg_inside picture.now) }
 {
     push(out, "\n")?;
+    front(alloc, out, picture)?;
     ground(alloc, out)?;
     help_elements(alloc, out, picture.helps.as_slice())?;
     shape_elements(alloc, out, picture.shapes.as_slice())

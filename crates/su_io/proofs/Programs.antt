@@ -201,11 +201,11 @@ module _ (Comes : Moment → Moment → Status → Type 0) (on : (old mid new : 
 
   -- all was handed over
   handed : (came : Status) → HandsOverAt came → Comes old new came → AllIsOver new.told → EndsHandedOver Comes old new came
-  handed Done due comes all = record { ends = comes; over = λ before. all }
-  handed SomeRefused due comes all = record { ends = comes; over = λ before. all }
-  handed Usage due comes all = record { ends = comes; over = λ before. all }
-  handed BadSchema due comes all = record { ends = comes; over = λ before. all }
-  handed NoMemory due comes all = record { ends = comes; over = λ before. all }
+  handed Done due comes all = record { ends = comes; over = all }
+  handed SomeRefused due comes all = record { ends = comes; over = all }
+  handed Usage due comes all = record { ends = comes; over = all }
+  handed BadSchema due comes all = record { ends = comes; over = all }
+  handed NoMemory due comes all = record { ends = comes; over = all }
   handed ReadFault due comes all = absurd due
   handed TooLong due comes all = absurd due
   handed WriteFault due comes all = absurd due

@@ -54,10 +54,13 @@ abbrev pub ComesOrFails : (Moment → Status → Type 0) → Moment → Status �
 ComesOrFails Comes new WriteFault = Comes new WriteFault ⊎ HandOverFailed Comes new
 ComesOrFails Comes new status = Comes new status
 
--- by the status of the program: a front of what was written is over; or all of it is, where all that was written before the program was
+-- by the status of the program: a front of what was written is over, or all of it; where the program stops at a file, all of it if
+-- all that was written before the program was
 abbrev pub LeavesOver : Told → Told → Status → Type 0
 LeavesOver old new WriteFault = IsFrontOf new.over new.written
-LeavesOver old new status = AllIsOver old → AllIsOver new
+LeavesOver old new ReadFault = AllIsOver old → AllIsOver new
+LeavesOver old new TooLong = AllIsOver old → AllIsOver new
+LeavesOver old new status = AllIsOver new
 
 -- how a program ends: by its rules, and with all that was written handed over, or a front of it with 5
 pub record EndsHandedOver (Comes : Moment → Moment → Status → Type 0) (old new : Moment) (status : Status) : Type 0 where

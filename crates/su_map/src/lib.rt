@@ -6,6 +6,11 @@
 //! search takes from the sets what no longer fits; a row without a target ends the branch. It takes
 //! no memory: all is in a room of 33 KiB per row and 66 KiB beside them. `first` is in order, `exists`
 //! takes the row with the fewest targets next. Minimising is in the crate above.
+//!
+//! For callers: first a `Tableau` of su_tableau, then a `Room` for the rows and variables of the one that is
+//! mapped, once for many searches. `first` and `exists` fill their tables by themselves; `first_prepared`
+//! and `exists_prepared` want `prepare` before them, for these rows or more. A search is exponential in the
+//! rows at worst and has no error; `Room::new` and `certify` may find no memory.
 #![tactic(auto)]
 
 mod aims;

@@ -8,6 +8,10 @@
 //! Each pair is a search at most, exponential at worst; a row that goes nowhere else and a pair whose
 //! constants or heads don't fit need none. A thread takes the room of one search, 33 KiB per row and
 //! 66 KiB beside them. Dependencies and the order of values play no part.
+//!
+//! For callers: `minimise` takes a tableau, and gives it back where it finds no memory, its only error;
+//! `reduce` takes up to 256 minimised terms, with the same one. Both make their rooms; `kept_mask` is for who
+//! has one. The theorems are of all kinds for which the tableaux are well typed, which the caller knows.
 #![tactic(auto)]
 
 mod alike;

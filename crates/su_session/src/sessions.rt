@@ -93,6 +93,14 @@ impl Session {
         Ok(Session { alloc, db, maximal })
     }
 
+    /// A session on a database as it is, with the rows that it has.
+    pub fn resume(alloc: Global, db: Database) -> Result<Session, NoMemory>
+        ensures { IfOk result (λ session. session ≡ db) }
+    {
+        let maximal = maximal_objects(alloc, db.schema())?;
+        Ok(Session { alloc, db, maximal })
+    }
+
     /// The database as the accepted statements left it.
     pub fn database(&self) -> &Database
         ensures { result.now ≡ self.now }

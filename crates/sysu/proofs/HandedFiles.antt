@@ -16,7 +16,7 @@ use Rattle.su_session.specs.WantedFiles.{Wants}
 use Rattle.su_state.specs.DatabaseValue.{DatabaseValue, IsWellKept}
 use Rattle.sysu.specs.inside.HandedFiles.{Began, BeginsOver, LoadingEnds, HandingEnds, HasTaken}
 use Rattle.sysu.specs.inside.Turns.{AnsweredOne, TurnEnds}
-use Rattle.sysu.specs.Handed.{IsHanded, load_limit}
+use Rattle.su_replies.specs.Handed.{IsHanded, load_limit}
 
 -- a file is begun behind a hand-over
 pub begins_over : (path : List ℕ) (old mid new : Moment) → HandsAllOver old mid → new ≡ record mid { begun = Some path; taken = new.taken; failed = new.failed; reads = new.reads } → BeginsOver path old new

@@ -15,8 +15,8 @@ use Rattle.su_session.specs.Reply.{Replied}
 use Rattle.su_session.specs.WantedFiles.{Wants}
 use Rattle.su_once.specs.States.{AreAlike}
 use Rattle.su_once.proofs.Replied.{one_reply, one_want}
-use Rattle.sysu.specs.Handed.{IsHanded, load_limit}
-use Rattle.sysu.specs.Output.{Answered, texts_of}
+use Rattle.su_replies.specs.Handed.{IsHanded, load_limit}
+use Rattle.su_replies.specs.Output.{Answered, texts_of}
 use Rattle.sysu.specs.Scripts.{Answers}
 use Rattle.sysu.specs.Words.{Named}
 use Rattle.sysu.proofs.Completeness.{ok_schema, schema_reads}

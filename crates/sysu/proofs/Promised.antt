@@ -25,7 +25,7 @@ use Rattle.su_io.specs.HandOver.{ComesOrFails}
 use Rattle.su_io.specs.Moments.{Moment}
 use Rattle.su_io.specs.WrittenTexts.{Wrote}
 use Rattle.su_session.specs.EmptyDatabase.{empty_database}
-use Rattle.sysu.specs.Output.{reply_texts}
+use Rattle.su_replies.specs.Output.{reply_texts}
 use Rattle.sysu.specs.Scripts.{Answers}
 use Rattle.sysu.specs.Statuses.{RunEnds, Comes}
 use Rattle.sysu.specs.RepliesTo.{IsShownOf, ListsRows, ListsTrees, ListsCounts, IsReplyTo}

@@ -12,8 +12,8 @@ use Rattle.su_state.specs.DatabaseValue.{DatabaseValue, IsWellKept}
 use Rattle.su_session.specs.Reply.{Replied}
 use Rattle.su_ddl.specs.Files.{statement_of}
 use Rattle.su_session.specs.Outcomes.{some_refused}
-use Rattle.sysu.specs.Output.{Answered, reply_texts, texts_of}
-use Rattle.sysu.specs.Handed.{IsHanded}
+use Rattle.su_replies.specs.Output.{Answered, reply_texts, texts_of}
+use Rattle.su_replies.specs.Handed.{IsHanded}
 
 -- the statements at these spans were answered, and their replies written
 pub record SoFar (files : Option (List File)) (script : List ℕ) (spans : List Span) (first last : DatabaseValue) (refused : Bool) (old new : Told) : Type 0 where

@@ -20,10 +20,10 @@ use Rattle.su_ddl.specs.Files.{statement_of}
 use Rattle.su_files.specs.RunFiles.{script_limit}
 use Rattle.sysu.proofs.RepliesSoFar.{SoFar, answered_more, reply_texts-push, texts_around}
 use Rattle.sysu.specs.Due.{FallsDue, FellDue, IsDue}
-use Rattle.sysu.specs.Handed.{load_limit}
+use Rattle.su_replies.specs.Handed.{load_limit}
 use Rattle.sysu.specs.inside.HandedFiles.{HasTaken}
 use Rattle.sysu.specs.inside.Turns.{AnsweredOne, IsAtScript, ScriptEnds, TurnEnds}
-use Rattle.sysu.specs.Output.{Answered, reply_texts, texts_of}
+use Rattle.su_replies.specs.Output.{Answered, reply_texts, texts_of}
 use Rattle.sysu.specs.Scripts.{Answers}
 use Rattle.sysu.specs.Words.{Named}
 

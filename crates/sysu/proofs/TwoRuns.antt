@@ -26,7 +26,7 @@ use Rattle.su_session.specs.Outcomes.{some_refused}
 use Rattle.sysu.specs.TwoRuns.{Ran, AreEqualButForWorkers, TwoRunsAgree}
 use Rattle.sysu.specs.Checks.{status_by, IsVerdictLine, CheckEnds, check_limit}
 use Rattle.sysu.specs.Due.{FallsDue}
-use Rattle.sysu.specs.Output.{reply_texts}
+use Rattle.su_replies.specs.Output.{reply_texts}
 use Rattle.su_files.specs.RunFiles.{SchemaIs, schema_limit, script_limit}
 use Rattle.sysu.specs.Scripts.{Answers}
 use Rattle.sysu.specs.Statuses.{Comes, RunEnds}

@@ -4,7 +4,7 @@ use Rattle.std.specs.Prelude.{◌≡◌, ◌⊎◌, ◌++◌, ◌∷◌, ℕ, Li
 use Rattle.su_io.specs.declared.files.File.{File}
 use Rattle.su_schema.specs.SchemaValue.{SchemaValue}
 use Rattle.su_files.specs.RunFiles.{schema_limit, script_limit, SchemaIs}
-use Rattle.sysu.specs.Handed.{load_limit}
+use Rattle.su_replies.specs.Handed.{load_limit}
 use Rattle.sysu.specs.Scripts.{AreBefore}
 use Rattle.sysu.specs.Words.{Named}
 

@@ -12,7 +12,7 @@ use Rattle.su_query.specs.StatementTexts.{IsStatement}
 use Rattle.su_state.specs.DatabaseValue.{DatabaseValue}
 use Rattle.su_session.specs.EmptyDatabase.{empty_database}
 use Rattle.su_session.specs.declared.replies.Reply.{Reply}
-use Rattle.sysu.specs.Output.{reply_texts}
+use Rattle.su_replies.specs.Output.{reply_texts}
 use Rattle.sysu.specs.Scripts.{Answers}
 use Rattle.sysu.specs.Words.{Named, named}
 use Rattle.sysu.specs.RepliesTo.{IsBefore, IsReplyTo}

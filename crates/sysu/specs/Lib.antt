@@ -2,9 +2,7 @@ pub mod Banks
 pub mod Checks
 pub mod Complete
 pub mod Due
-pub mod Handed
 pub mod Headline
-pub mod Output
 pub mod RepliesTo
 pub mod Scripts
 pub mod Statuses

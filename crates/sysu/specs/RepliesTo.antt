@@ -38,7 +38,7 @@ use Rattle.su_show.specs.Explanations.{IsExplanation}
 use Rattle.su_show.specs.Supports.{supports_text}
 use Rattle.su_session.specs.Windows.{ShowsRows}
 use Rattle.su_session.specs.declared.replies.Reply.{Reply}
-use Rattle.sysu.specs.Output.{Answered}
+use Rattle.su_replies.specs.Output.{Answered}
 
 -- the database before the k-th of these statements, which have these replies
 pub record IsBefore (files : Option (List AFile)) (first : DatabaseValue) (texts : List (List ℕ)) (replies : List Reply) (k : ℕ) (db : DatabaseValue) : Type 0 where

@@ -12,7 +12,7 @@ use Rattle.su_session.specs.declared.wants.Want.TheVariants.{File}
 use Rattle.su_session.specs.WantedFiles.{Wants}
 use Rattle.su_session.specs.Outcomes.{some_refused}
 use Rattle.su_files.specs.RunFiles.{AreRead}
-use Rattle.sysu.specs.Output.{Answered, reply_texts, texts_of}
+use Rattle.su_replies.specs.Output.{Answered, reply_texts, texts_of}
 use Rattle.sysu.specs.Words.{Named}
 
 -- the first statements of the script have these replies, which leave the database `last`, and these statements are left

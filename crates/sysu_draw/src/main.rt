@@ -1,4 +1,4 @@
-//! `sysu_draw FILE`: draws what `sysu` writes for `explain` or for `schema`, as SVG on standard output.
+//! `sysu_draw [--kept] FILE`: draws what `sysu` writes for `explain` or for `schema`, as SVG on standard output.
 //!
 //! `top::run` is the whole program over any shelf and sink; `main` hands it the files of the system
 //! and standard output, and ends with the status as its exit code. Nothing goes to standard error.

@@ -13,7 +13,7 @@ use Rattle.su_io.specs.WrittenTexts.{Wrote}
 use Rattle.su_state.specs.DatabaseValue.{DatabaseValue}
 use Rattle.su_session.specs.declared.wants.Want.TheVariants.{Nothing, File}
 use Rattle.su_session.specs.WantedFiles.{Wants}
-use Rattle.sysu.specs.Handed.{load_limit}
+use Rattle.su_replies.specs.Handed.{load_limit}
 
 -- the statement wants this file, and it was the last one begun
 pub record Began (db : DatabaseValue) (text path : List ℕ) (new : Moment) : Type 0 where

@@ -7,7 +7,7 @@ use Rattle.su_io.specs.declared.files.File.{File}
 use Rattle.su_state.specs.DatabaseValue.{DatabaseValue}
 use Rattle.su_session.specs.declared.replies.Reply.{Reply}
 use Rattle.sysu.specs.Headline.{AreQueriesAnswered}
-use Rattle.sysu.specs.Output.{Answered}
+use Rattle.su_replies.specs.Output.{Answered}
 
 -- statements that are answered one after another have their queries answered
 abbrev pub QueriesAreAnswered : Type 0

@@ -19,7 +19,7 @@ use Rattle.su_session.specs.Reply.{Replied}
 use Rattle.su_state.specs.DatabaseValue.{DatabaseValue, IsWellKept}
 use Rattle.su_files.specs.RunFiles.{AreRead, script_limit}
 use Rattle.sysu.specs.inside.HandedFiles.{Began, HasTaken}
-use Rattle.sysu.specs.Handed.{IsHanded, load_limit}
+use Rattle.su_replies.specs.Handed.{IsHanded, load_limit}
 use Rattle.sysu.specs.Statuses.{RunHas}
 use Rattle.sysu.specs.Words.{Named}
 

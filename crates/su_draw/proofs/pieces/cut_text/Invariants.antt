@@ -1,9 +1,0 @@
-use Rattle.std.proofs.Common.{◌≡◌, ◌+◌, ◌≤◌, drop}
-use Rattle.su_draw.specs.Pieces.{cut_on, cut_of}
-use Rattle.su_draw.proofs.pieces.cut_text.Given as goal
-
-abbrev pub invariant-loop-byte : goal.invariant-loop-byte
-invariant-loop-byte l = record {
-  taken : cut_on l.cut (drop l.byte-index l.text) ≡ cut_of l.text;
-  counted : l.cut.next ≤ l.byte-index + 1;
-}

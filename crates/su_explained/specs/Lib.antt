@@ -1,0 +1,13 @@
+pub mod Checks
+pub mod Definitions
+pub mod inside
+pub mod Kinds
+pub mod LineFaults
+pub mod Lines
+pub mod Numbers
+pub mod Order
+pub mod Pieces
+pub mod Ranks
+pub mod States
+pub mod TermLines
+pub mod TextLines
