@@ -1,0 +1,6 @@
+mod Fitting
+mod Unchanged
+mod PutRows
+mod TakenRows
+mod Replies
+mod Definitions

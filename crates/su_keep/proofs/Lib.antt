@@ -1,0 +1,5 @@
+mod Quiet
+mod Written
+mod Followed
+mod Found
+mod Stood

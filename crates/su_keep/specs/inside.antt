@@ -1,0 +1,4 @@
+-- Definitions that only contracts of private functions and invariants of types need.
+pub mod Writes
+pub mod Finds
+pub mod FileNames

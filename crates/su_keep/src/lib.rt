@@ -1,0 +1,20 @@
+//! The file of a database: an SQLite database with a table for each relation.
+//!
+//! A relation's table has its name, its columns and its rows, the rows as the primary key over all
+//! columns; one more table holds the schema's text. A file is opened as a database, and what is in it
+//! is checked as if it were loaded. Changes are kept by groups, each in one commit.
+#![tactic(auto)]
+
+mod faults;
+mod files;
+mod keeping;
+mod listing;
+mod names;
+mod opening;
+mod reading;
+mod writing;
+
+pub use faults::{KeepFault, OpenFault, line_of};
+pub use files::open;
+pub use keeping::Keeper;
+pub use opening::open_over;

@@ -1,0 +1,9 @@
+mod Closing
+pub mod Cutting
+mod Fields
+pub mod Given
+mod Leading
+mod Marks
+pub mod Statements
+pub mod Staying
+mod Steps

@@ -1,0 +1,9 @@
+//! Every public type may be moved to another thread and shared between threads.
+use crate::pieces::Piece;
+use crate::streams::Stream;
+use su_base::crosses_threads;
+
+fn types_cross_threads() {
+    crosses_threads::<Piece>();
+    crosses_threads::<Stream>();
+}

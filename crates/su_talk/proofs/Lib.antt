@@ -1,0 +1,13 @@
+pub mod Closing
+pub mod Effects
+pub mod Entries
+pub mod Events
+pub mod Finishing
+pub mod GoingOn
+pub mod Hearing
+pub mod Moments
+pub mod OneTalk
+pub mod Pieces
+pub mod Results
+pub mod Starting
+pub mod Turns
