@@ -1,7 +1,7 @@
 #!/usr/bin/env python3
-"""Tests that each definition that docs/DEFINITIONS.md names stands in the file that it names, that each call, clause and
-definition that it says carries a promise stands somewhere in the crates, and that docs/READING.md names each file of
-definitions of sysu, su_files and su_io that the contract of `run` reaches.
+"""Tests that each definition that docs/DEFINITIONS.md and docs/PROMISES.md name stands in the file that they name, that each
+call, clause and definition that they say carries a promise stands somewhere in the crates, and that docs/READING.md names each
+file of definitions of sysu, su_files and su_io that the contract of `run` reaches.
 
 With a folder as argument it looks there for the crates, else beside this file."""
 import os
@@ -10,17 +10,17 @@ import subprocess
 import sys
 
 TOP = sys.argv[1] if len(sys.argv) > 1 else os.path.dirname(os.path.dirname(os.path.abspath(__file__)))
-PLACE = re.compile(r"(?:(su_\w+|sysu(?:_draw|_sql|_place)?) )?([A-Z]\w*)$")
+PLACE = re.compile(r"(?:(su_\w+|sysu(?:_draw|_sql|_place|_shell)?) )?([A-Z]\w*)$")
 
 
 def rows():
-    with open(os.path.join(os.path.dirname(os.path.abspath(__file__)), "..", "docs", "DEFINITIONS.md"), encoding="utf-8") as file:
-        for line in file:
-            cells = [cell.strip() for cell in line.strip().strip("|").split(" | ")]
-            if len(cells) == 3 and cells[0] != "promise":
-                yield cells
-            elif len(cells) == 4 and cells[0].isdigit():
-                yield [cells[2], cells[1], ""]
+    docs = os.path.join(os.path.dirname(os.path.abspath(__file__)), "..", "docs")
+    for line in (text_of(os.path.join(docs, "DEFINITIONS.md")) + text_of(os.path.join(docs, "PROMISES.md"))).splitlines():
+        cells = [cell.strip() for cell in line.strip().strip("|").split(" | ")]
+        if len(cells) == 3 and cells[0] != "promise":
+            yield cells
+        elif len(cells) == 4 and cells[0].isdigit():
+            yield [cells[2], cells[1], ""]
 
 
 def text_of(path):

@@ -1,0 +1,4 @@
+"""A page in the browser for sysu, on the module `sysu` (docs/PAGE.md)."""
+from .server import main
+
+__all__ = ["main"]
