@@ -1,9 +1,6 @@
-//! A caller of su_answer: a query answered over a store of its own, relations that are searched row by row.
+//! A caller of su_answer: a query answered over whatever store holds the rows.
 #![tactic(auto)]
 
 mod asking;
-mod scanning;
-mod scans;
 
 pub use asking::{Refused, ask};
-pub use scans::{Scans, ask_relations};

@@ -1,10 +1,9 @@
--- A tableau of variables alone.
--- drawn: rows and a head by the numbers of their variables; nothing is compared
-use Rattle.std.specs.Prelude.{ℕ, List, [], length, map}
-use denote.Ref.{Bor}
-use Rattle.su_tableau.specs.declared.symbols.Sym.TheVariants.{Var}
+-- A tableau that compares nothing.
+-- drawn: rows of symbols, and a head of which each symbol is an output
+use Rattle.std.specs.Prelude.{ℕ, List, [], length}
+use Rattle.su_tableau.specs.declared.symbols.Sym.{Sym}
 use Rattle.su_tableau.specs.Tableaux.{Tab, tab_of}
 
--- the tableau with these variables in its rows and its head
-abbrev pub drawn : ℕ → List (Bor (List ℕ)) → List ℕ → Tab
-drawn width rows head = tab_of width (map (λ row. map Var row.now) rows) (map Var head) (length head) []
+-- the tableau with these rows and this head
+abbrev pub drawn : ℕ → List (List Sym) → List Sym → Tab
+drawn width rows head = tab_of width rows head (length head) []

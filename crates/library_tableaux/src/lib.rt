@@ -5,4 +5,4 @@ mod equivalent;
 mod least;
 
 pub use equivalent::are_equivalent;
-pub use least::{least_part, of_variables};
+pub use least::{draw, least_part};

@@ -1,24 +1,25 @@
-ghost use Rattle.std.specs.Prelude.{◌≡◌, ◌<◌, IfOk};
+ghost use Rattle.std.specs.Prelude.{◌≡◌, ◌<◌, IfOk, IfSome, length};
 ghost use Rattle.su_maxobj.specs.MaximalObjects.{AreMaximalObjects};
 ghost use Rattle.su_query.specs.Limits.{AreFew, HasFew};
 
 use library_certificate::least_terms;
 use library_keys::{dependent_on, key_of};
 use library_query::ask;
-use library_tableaux::{are_equivalent, least_part, of_variables};
+use library_tableaux::{are_equivalent, draw, least_part};
 use std::alloc::Global;
 use std::marker::Brand;
 use std::process::Abort;
 use std::sync::ledger::{Blank, Ledger};
 use std::test::Fail;
 use std::thread::Threads;
-use su_base::{AttrSet, NoMemory, ObjSet};
+use su_base::{AttrSet, List, NoMemory, ObjSet};
 use su_cases::{BANK, stored, told};
-use su_index::TableRows;
 use su_maxobj::maximal_objects;
+use su_plain::{PlainRows, PlainTable, plain_tables};
 use su_query::{Query, Statement, read};
 use su_samples::{fd, is_below, set_of};
 use su_state::Database;
+use su_tableau::{Sym, Tableau};
 
 fn assert_same(rt: &impl Abort, found: AttrSet, expected: &[u8]) {
     assert!(rt; found.within(set_of(expected)));
@@ -47,12 +48,34 @@ const PAIRS: &[(Rows, Rows, bool, u64)] = &[
     (&[&[0, 0], &[0, 1]], &[&[0, 1]], false, 1),
 ];
 
+/// The variables of these numbers.
+fn variables(alloc: Global, numbers: &[u32]) -> Result<List<Sym>, NoMemory> {
+    let mut row = List::new(alloc);
+    for number in numbers {
+        row.push(Sym::Var(*number))?;
+    }
+    Ok(row)
+}
+
+/// The tableau of these rows, whose head is variable 0.
+fn drawn(alloc: Global, rows: Rows) -> Result<Option<Tableau>, NoMemory>
+    ensures { IfOk result (λ made. IfSome made (λ t. (t.width ≡ 2) × (length t.head ≡ 1))) }
+{
+    let mut list = List::new(alloc);
+    for row in rows {
+        list.push(variables(alloc, row)?)?;
+    }
+    let mut head = List::new(alloc);
+    head.push(Sym::Var(0))?;
+    Ok(draw(alloc, 2, list, head))
+}
+
 /// Whether the two are equivalent, and the least part of the one.
 fn compared(alloc: Global, one: Rows, other: Rows) -> Result<Option<(bool, u64)>, NoMemory> {
-    let Some(t) = of_variables(alloc, 2, one, &[0])? else {
+    let Some(t) = drawn(alloc, one)? else {
         return Ok(None);
     };
-    let Some(s) = of_variables(alloc, 2, other, &[0])? else {
+    let Some(s) = drawn(alloc, other)? else {
         return Ok(None);
     };
     let same = are_equivalent(alloc, &t, &s)?;
@@ -108,23 +131,25 @@ const ROWS: [(&str, &str); 4] = [
     ("LC", "7 Jones"),
 ];
 
-/// The rows of the query over the tables of the database, as they are told; none where it is refused.
+/// The rows of the query over a store that holds the database's rows, as they are told; none where it is refused.
 fn asked<R: Threads + Sync, L: Ledger>(
     rt: &R,
     alloc: Global,
     db: &Database,
     maximal: &[ObjSet],
     query: &Query,
+    tables: &[PlainTable],
     blank: Blank,
 ) -> Option<String>
     requires few { AreFew query.now.outputs query.now.cond }
     requires maximal { AreMaximalObjects db.now.schema maximal.now }
+    requires rows { tables.now ≡ db.now.tables }
     requires name { blank.name ≡ L.name }
     requires parts { blank.parts ≡ L.parts }
     requires some { 0 < blank.parts }
 {
     db.keeps_its_rules();
-    let mut store = TableRows::<L>::new(db.tables(), blank);
+    let mut store = PlainRows::<L>::new(tables, blank);
     match ask(rt, alloc, db, maximal, query, &mut store) {
         Ok(rows) => told(alloc, rows.as_slice()).ok(),
         Err(_) => None,
@@ -141,10 +166,17 @@ fn asked_of<R: Threads + Sync>(
     requires { HasFew statement.now }
 {
     let maximal = maximal_objects(alloc, db.schema()).ok()?;
+    let tables = plain_tables(alloc, db.tables()).ok()?;
     match statement {
-        Statement::Retrieve(query) => {
-            asked::<R, Brand>(rt, alloc, db, maximal.as_slice(), query, Blank::new(1))
-        }
+        Statement::Retrieve(query) => asked::<R, Brand>(
+            rt,
+            alloc,
+            db,
+            maximal.as_slice(),
+            query,
+            tables.as_slice(),
+            Blank::new(1),
+        ),
         _ => None,
     }
 }

@@ -1,5 +1,5 @@
 -- Where the bytes of a text lie.
--- form: up to 14 bytes in the value itself, up to 55 or 119 behind a box, or a string
+-- form: up to 14 bytes in the value itself, up to 55 or 119 behind a box, or a string that copies share
 use Rattle.std.specs.Prelude.{ℕ, List, string_bytes}
 use Rattle.su_base.specs.declared.texts.Form.{Form}
 use Rattle.su_base.specs.declared.texts.Form.TheVariants.{Short, Middle, Wide, Long}

@@ -14,6 +14,7 @@ use std::cmp::Ordering;
 use std::fmt;
 use std::hash::{Hash, Hasher};
 use std::marker::Model;
+use std::sync::Arc;
 
 /// A text of at most `N` bytes: the first `count` of `bytes`.
 #[derive(Drop)]
@@ -60,17 +61,17 @@ impl<const N: usize> Held<N> {
     }
 }
 
-/// Where the bytes lie: in the value itself, in one place on the heap, or in a string.
+/// Where the bytes lie: in the value itself, in one place on the heap, or in a string that its copies share.
 #[derive(Drop)]
 enum Form {
     Short(Held<14>),
     Middle(Box<Held<55>>),
     Wide(Box<Held<119>>),
-    Long(Box<String>),
+    Long(Arc<String>),
 }
 
 /// A text of UTF-8 that it owns, ordered by its bytes. It is two machine words: at most 14 bytes lie
-/// in them, at most 119 in one place on the heap, and more in a string on the heap.
+/// in them, at most 119 in one place on the heap, and more in a string on the heap that its copies share.
 pub struct Str {
     form: Form,
 }
@@ -107,7 +108,7 @@ fn long(alloc: Global, text: &str) -> Result<Form, NoMemory>
     ensures { IfOk result (λ form. text_of form ≡ text.now) }
 {
     let text = String::from_str(alloc, text)?;
-    Ok(Form::Long(Box::new(alloc, text).map_err(AllocError::from)?))
+    Ok(Form::Long(Arc::new(alloc, text).map_err(AllocError::from)?))
 }
 
 impl Str {
@@ -171,11 +172,16 @@ impl Str {
         }
     }
 
-    /// An equal text of its own.
+    /// An equal text of its own. Where it is longer than 119 bytes the bytes are shared, not copied.
     pub fn copy(&self, alloc: Global) -> Result<Str, NoMemory>
         ensures { IfOk result (λ s. s ≡ self.now) }
     {
-        Str::new(alloc, self.as_str())
+        match &self.form {
+            Form::Long(text) => Ok(Str {
+                form: Form::Long(text.clone()?),
+            }),
+            _ => Str::new(alloc, self.as_str()),
+        }
     }
 }
 

@@ -1,9 +1,9 @@
 -- What the layout has keeps what a picture promises.
 -- The idea: a row's height is that of its line, which stands behind its term's by its number and one; an arrow takes the heights of these lines.
-use Rattle.std.proofs.Common.{◌≡◌, ◌≢◌, ◌≤◌, ◌<◌, ◌⊎◌, ⊎_elim, ℕ, ◌+◌, Bool, true, false, cond, List, Option, Some, None, take, drop, slice_get, refl, sym, inl, inr, ap, ◌∙◌, subst, arith}
+use Rattle.std.proofs.Common.{◌≡◌, ◌≢◌, ◌≤◌, ◌<◌, ◌⊎◌, ⊎_elim, ℕ, ◌+◌, Bool, true, false, cond, List, [], ◌++◌, Option, Some, None, take, drop, slice_get, refl, sym, inl, inr, ap, ◌∙◌, subst, arith}
 use Rattle.std.specs.Prelude.{◌^◌, ◌-◌, ◌==◌, nat_lt, All, Contains}
-use Rattle.std.proofs.lemmas.List.Elements.{All-contains}
-use Rattle.std.proofs.lemmas.Bool.{eqb-true, le-ltb, ltb-true, ltb-false}
+use Rattle.std.proofs.lemmas.List.Elements.{All-contains, Contains-append_left}
+use Rattle.std.proofs.lemmas.Bool.{eqb-true, ne_eqb, le-ltb, ltb-true, ltb-false}
 use Rattle.su_base.proofs.Items.{Contains-map}
 use Rattle.su_explained.specs.declared.reading.Line.{Line}
 use Rattle.su_explained.specs.Numbers.{number_in}
@@ -12,13 +12,18 @@ use Rattle.su_draw.specs.declared.explaining.Layout.{Layout}
 use Rattle.su_draw.specs.declared.tables.Table.{Table}
 use Rattle.su_draw.specs.declared.things.What.TheVariants as what
 use Rattle.su_draw.specs.declared.shapes.Shape.{Shape}
-use Rattle.su_draw.specs.Things.{symbol_of, text_shown}
+use Rattle.su_draw.specs.declared.shapes.Help.{Help}
+use Rattle.su_draw.specs.declared.shapes.Help.TheVariants.{Heading}
+use Rattle.su_draw.specs.Things.{name_of, symbol_of, text_shown}
 use Rattle.su_draw.specs.Once.{things_in_shapes, StandOnce}
-use Rattle.su_draw.specs.Terms.{is_row, is_light, or_else, word_or_none, word_in, term_at, RowsStandBehind}
-use Rattle.su_draw.specs.Promises.{IsRowOf, ArrowsJoin, AreOfOneTerm, MarksTell, SharedAreMarked, KeptAreDark, LanesDiffer, RowsDiffer, KeepsPromises}
-use Rattle.su_draw.specs.inside.Lay.{words_or_none, words_at, plus, heights_from, height_in, row_height, lights_from, or_false, mark_from, is_arrow, lane_from, table_of, in_row, fold_place, StandsAs, IsLayoutOf, IsLaid, IsLaidOver, step_to, cells_from, count_from}
+use Rattle.su_draw.specs.Terms.{is_row, is_light, or_else, word_or_none, word_in, term_at, RowsStandBehind, words_or_none, words_at}
+use Rattle.su_draw.specs.Promises.{IsRowOf, ArrowsJoin, AreOfOneTerm, MarksTell, SharedAreMarked, KeptAreDark, LanesDiffer, RowsDiffer, KeepsPromises, attribute_at, HeadingsStand, EndsBefore, ColumnsDiffer, SourcesStand}
+use Rattle.su_draw.specs.Widths.{plus, shown_width}
+use Rattle.su_draw.specs.inside.Lay.{heights_from, height_in, row_height, lights_from, or_false, mark_from, is_arrow, lane_from, table_of, in_row, fold_place, StandsAs, IsLayoutOf, IsLaid, IsLaidOver, step_to, cells_from, count_from, row_x, column_from, headings_from, cell_of, names_with, room_from, source_place, row_from, front_from}
 use Rattle.su_draw.proofs.Origins.{IsOfWord, is_of_word}
 use Rattle.su_draw.proofs.DrawnWords.{row_drawn, symbol_drawn, fold_drawn}
+use Rattle.su_draw.proofs.Headed.{cell_named, cell_of_term, cell_of_row, term_above, heading_of_cell, row_found}
+use Rattle.su_draw.proofs.Columns.{plus_less, symbol_fits, column_up, apart_in}
 use Rattle.su_draw.proofs.Marks.{mark_tells}
 use Rattle.su_draw.proofs.RowLines.{is_row-Row}
 use Rattle.su_draw.proofs.Shared.{counted_is_marked, one_of_row, two_of_row, one_line, two_lines}
@@ -204,11 +209,129 @@ module _ (lines : List Line) (left : ℕ) (shapes : List Shape) (laid : (s : Sha
       apart a.place.y b.place.y 20 (subst (λ x. plus x 20 ≤ b.place.y) (sym of_a) (subst (λ y. plus (height_in (heights_from 10 lines) a.thing.line) 20 ≤ y) (sym of_b) far))
       (subst (λ y. y ≤ 2 ^ 32 - 1) (sym of_b) (height_below 10 lines b.thing.line))
 
+  -- where a symbol begins
+  far_x : (table : Table) (k : ℕ) (word : List ℕ) → 6 ≤ k → row_x left table k word ≡ column_from table.first table.columns (name_of word)
+  far_x table k word far =
+      let column = column_from table.first table.columns (name_of word) in
+      let past : 4 ≤ k = omega (arith, far) in
+      let four : k ≢ 4 = omega (arith, far) in
+      let five : k ≢ 5 = omega (arith, far) in
+      ap (λ b. cond b left (cond (k == 4) table.variable (cond (k == 5) table.object column))) (le-ltb k 4 past)
+      ∙ ap (λ b. cond b table.variable (cond (k == 5) table.object column)) (ne_eqb k 4 four)
+      ∙ ap (λ b. cond b table.object column) (ne_eqb k 5 five)
+
+  symbol_x : (s : Shape) → Contains shapes s → s.thing.what ≡ what.Symbol → s.place.x ≡ column_from (table_at s).first (table_at s).columns (attribute_at lines s)
+  symbol_x s c is =
+      let o = origin s c in
+      let d : (is_row o.line.kind ≡ true) × (6 ≤ s.thing.word) = symbol_drawn o.line.kind _ s.thing.word o.word (o.drawn ∙ ap (λ z. Some z) is) in
+      ap (λ p. p.x) (symbol_at s c is) ∙ far_x (table_at s) s.thing.word (word_in (words_at lines s.thing.line) s.thing.word) d.1
+
+  headings : (helps more : List Help) → helps ≡ headings_from left (heights_from 10 lines) lines 0 lines ++ more → HeadingsStand lines helps shapes
+  headings helps more e s c is pos =
+      let hs = heights_from 10 lines in
+      let t = term_at lines s.thing.line in
+      let o = origin s c in
+      let d : (is_row o.line.kind ≡ true) × (6 ≤ s.thing.word) = symbol_drawn o.line.kind _ s.thing.word o.word (o.drawn ∙ ap (λ z. Some z) is) in
+      let y = plus (height_in hs t) 20 in
+      let all = headings_from left hs lines 0 lines in
+      let name = attribute_at lines s in
+      let told : name_of o.word ≡ name = ap name_of (sym (word_of s o)) in
+      let heading = heading_of_cell left hs lines t s.thing.line s.thing.word o.line o.word pos o.at d.0 d.1 o.stands refl in
+      let start : 10 ≤ 2 ^ 32 - 1 = omega arith in
+      let below : y ≤ s.place.y =
+      subst (λ z. y ≤ z) (sym (ap (λ p. p.y) (symbol_at s c is))) (height_apart 10 20 lines t s.thing.line o.line start o.at (row_step o.line d.0) (term_above lines s.thing.line o.line pos o.at d.0)) in
+      let named : Contains all (Heading (column_from (table_at s).first (table_at s).columns name) y name) =
+      subst (λ n. Contains all (Heading (column_from (table_at s).first (table_at s).columns n) y n)) told heading in
+      let over : Contains all (Heading s.place.x y name) = subst (λ z. Contains all (Heading z y name)) (sym (symbol_x s c is)) named in
+      (y, below, subst (λ (z : List Help). Contains z (Heading s.place.x y name)) (sym e) (Contains-append_left all more (Heading s.place.x y name) over))
+
+  -- the cells of a symbol's term have its cell
+  cell_there : (s : Shape) → Contains shapes s → s.thing.what ≡ what.Symbol → 0 < s.thing.line
+      → Contains (cells_from (drop (term_at lines s.thing.line + 1) lines)) (record { name = attribute_at lines s; symbol = s.thing.text })
+  cell_there s c is pos =
+      let t = term_at lines s.thing.line in
+      let cs = cells_from (drop (t + 1) lines) in
+      let o = origin s c in
+      let d : (is_row o.line.kind ≡ true) × (6 ≤ s.thing.word) = symbol_drawn o.line.kind _ s.thing.word o.word (o.drawn ∙ ap (λ z. Some z) is) in
+      let cell : Contains cs (cell_of o.word) = cell_of_term lines t s.thing.line o.line (cell_of o.word) pos o.at d.0 refl (cell_of_row o.line s.thing.word o.word d.0 d.1 o.stands) in
+      let shows : symbol_of o.word ≡ s.thing.text = sym (o.shows ∙ ap (λ z. text_shown z o.word) is) in
+      let told : name_of o.word ≡ attribute_at lines s = ap name_of (sym (word_of s o)) in
+      subst (λ n. Contains cs (record { name = n; symbol = s.thing.text })) told (subst (λ z. Contains cs (record { name = name_of o.word; symbol = z })) shows cell)
+
+  -- columns begin before the limit
+  first_low : (t : ℕ) → (table_of left lines t).first ≤ 2 ^ 32 - 1
+  first_low t =
+      let rows = drop (t + 1) lines in
+      let low : plus (plus (plus left (front_from 0 rows 3)) (front_from 0 rows 4)) (front_from 0 rows 5) ≤ 2 ^ 32 - 1 = omega arith in
+      low
+
+  -- the symbol of one attribute ends before that of the other begins
+  ends_before : (a b : Shape) → Contains shapes a → Contains shapes b → a.thing.what ≡ what.Symbol → b.thing.what ≡ what.Symbol → 0 < a.thing.line → term_at lines a.thing.line ≡ term_at lines b.thing.line
+      → plus (column_from (table_at a).first (table_at a).columns (attribute_at lines a)) (room_from 0 (cells_from (drop (term_at lines a.thing.line + 1) lines)) (attribute_at lines a))
+      ≤ column_from (table_at a).first (table_at a).columns (attribute_at lines b) → EndsBefore a b
+  ends_before a b c d is_a is_b pos same h =
+      let cs = cells_from (drop (term_at lines a.thing.line + 1) lines) in
+      let table : table_at b ≡ table_at a = ap (table_of left lines) (sym same) in
+      let of_a = symbol_x a c is_a in
+      let of_b : b.place.x ≡ column_from (table_at a).first (table_at a).columns (attribute_at lines b) = symbol_x b d is_b ∙ ap (λ (t : Table). column_from t.first t.columns (attribute_at lines b)) table in
+      let width : shown_width a.thing.text ≤ room_from 0 cs (attribute_at lines a) = symbol_fits 0 cs (record { name = attribute_at lines a; symbol = a.thing.text }) (cell_there a c is_a pos) in
+      let first = first_low (term_at lines a.thing.line) in
+      let end : column_from (table_at a).first (table_at a).columns (attribute_at lines b) ≤ 2 ^ 32 - 1 = (column_up cs (table_at a).first (names_with [] cs) (attribute_at lines b) first).1 in
+      let far : plus (column_from (table_at a).first (table_at a).columns (attribute_at lines a)) (shown_width a.thing.text) ≤ column_from (table_at a).first (table_at a).columns (attribute_at lines b) =
+      plus_less (column_from (table_at a).first (table_at a).columns (attribute_at lines a)) (shown_width a.thing.text) (room_from 0 cs (attribute_at lines a)) (column_from (table_at a).first (table_at a).columns (attribute_at lines b)) width h in
+      apart a.place.x b.place.x (shown_width a.thing.text) (subst (λ x. plus x (shown_width a.thing.text) ≤ b.place.x) (sym of_a) (subst (λ y. plus (column_from (table_at a).first (table_at a).columns (attribute_at lines a)) (shown_width a.thing.text) ≤ y) (sym of_b) far))
+      (subst (λ y. y ≤ 2 ^ 32 - 1) (sym of_b) end)
+
+  columns : ColumnsDiffer lines shapes
+  columns a b two pos_a pos_b other =
+      let t = term_at lines a.thing.line in
+      let cs = cells_from (drop (t + 1) lines) in
+      let names = names_with [] cs in
+      let in_a : Contains names (attribute_at lines a) = cell_named [] cs (record { name = attribute_at lines a; symbol = a.thing.text }) (cell_there a two.first two.first_is pos_a) in
+      let there : Contains cs (record { name = attribute_at lines b; symbol = b.thing.text }) =
+      subst (λ n. Contains (cells_from (drop (n + 1) lines)) (record { name = attribute_at lines b; symbol = b.thing.text })) (sym two.of_term) (cell_there b two.second two.second_is pos_b) in
+      let in_b : Contains names (attribute_at lines b) = cell_named [] cs (record { name = attribute_at lines b; symbol = b.thing.text }) there in
+      let first = first_low (term_at lines a.thing.line) in
+      let table : table_at a ≡ table_at b = ap (table_of left lines) two.of_term in
+      let cells_b : cs ≡ cells_from (drop (term_at lines b.thing.line + 1) lines) = ap (λ n. cells_from (drop (n + 1) lines)) two.of_term in
+      ⊎_elim (λ h. inl (ends_before a b two.first two.second two.first_is two.second_is pos_a two.of_term h))
+      (λ h. inr (ends_before b a two.second two.first two.second_is two.first_is pos_b (sym two.of_term)
+      (subst (λ zs. plus (column_from (table_at b).first (table_at b).columns (attribute_at lines b)) (room_from 0 zs (attribute_at lines b)) ≤ column_from (table_at b).first (table_at b).columns (attribute_at lines a)) cells_b
+      (subst (λ (z : Table). plus (column_from z.first z.columns (attribute_at lines b)) (room_from 0 cs (attribute_at lines b)) ≤ column_from z.first z.columns (attribute_at lines a)) table h))))
+      (apart_in cs (table_at a).first names (attribute_at lines a) (attribute_at lines b) first other in_a in_b)
+
+  -- a source
+  source_at : (s : Shape) → Contains shapes s → s.thing.what ≡ what.Source → s.place ≡ source_place (table_at s) lines (heights_from 10 lines) s.thing.word (words_at lines s.thing.line)
+  source_at s c is = subst (λ w. StandsAs w lines (heights_from 10 lines) (lights_from lines) left (table_at s) s.thing s.place) is (laid s c)
+
+  sources : RowsStandBehind lines → SourcesStand lines shapes
+  sources behind s row r c d is is_row_of same =
+      let t = term_at lines s.thing.line in
+      let hs = heights_from 10 lines in
+      let o = origin row d in
+      let e : (is_row o.line.kind ≡ true) × (row.thing.word ≡ 3) = row_drawn o.line.kind _ row.thing.word o.word (o.drawn ∙ ap (λ z. Some z) is_row_of.is) in
+      let shows : row.thing.text ≡ o.word = o.shows ∙ ap (λ z. text_shown z o.word) is_row_of.is in
+      let third : word_in o.line.words 3 ≡ row.thing.text = ap (word_in o.line.words) (sym e.1) ∙ ap word_or_none o.stands ∙ sym shows in
+      let told = word_in (words_at lines s.thing.line) 3 in
+      let place : t + 1 + row_from 0 (drop (t + 1) lines) told ≡ row.thing.line =
+      row_found lines t row.thing.line r o.line told behind o.at e.0 is_row_of.of_term (third ∙ same) (ap (is_decimal r) (sym same) ∙ is_row_of.tells) in
+      ap (λ p. p.y) (source_at s c is) ∙ ap (or_else 0) (slice_get-drop (t + 1) hs (row_from 0 (drop (t + 1) lines) told)) ∙ ap (height_in hs) place ∙ sym (ap (λ p. p.y) (row_at row d is_row_of.is))
+
   all_kept : KeepsPromises lines shapes
-  all_kept = record { marks = marks; shared = shared; kept = kept; lanes = lanes; rows = rows }
+  all_kept = record { marks = marks; shared = shared; kept = kept; lanes = lanes; rows = rows; columns = columns }
 
 pub keeps_promises : (lines : List Line) (l : Layout) (shapes : List Shape) → IsLayoutOf lines l → All (IsLaid l) shapes → StandOnce lines (things_in_shapes shapes) → KeepsPromises lines shapes
 keeps_promises lines l shapes is laid once = all_kept lines l.left shapes (λ s c. laid_over lines l s is (All-contains (IsLaid l) shapes s laid c)) once
 
+pub sources_stand : (lines : List Line) (l : Layout) (shapes : List Shape) → IsLayoutOf lines l → All (IsLaid l) shapes → StandOnce lines (things_in_shapes shapes) → RowsStandBehind lines → SourcesStand lines shapes
+sources_stand lines l shapes is laid once = sources lines l.left shapes (λ s c. laid_over lines l s is (All-contains (IsLaid l) shapes s laid c)) once
+
 pub arrows_join : (lines : List Line) (l : Layout) (shapes : List Shape) → IsLayoutOf lines l → All (IsLaid l) shapes → StandOnce lines (things_in_shapes shapes) → RowsStandBehind lines → ArrowsJoin lines shapes
 arrows_join lines l shapes is laid once = arrows lines l.left shapes (λ s c. laid_over lines l s is (All-contains (IsLaid l) shapes s laid c)) once
+
+pub headings_stand : (lines : List Line) (l : Layout) (shapes : List Shape) (helps : List Help) → IsLayoutOf lines l → All (IsLaid l) shapes → StandOnce lines (things_in_shapes shapes)
+    → (more : List Help) → helps ≡ headings_from l.left l.heights l.lines.now 0 l.lines.now ++ more → HeadingsStand lines helps shapes
+headings_stand lines l shapes helps is laid once more e =
+    let over : helps ≡ headings_from l.left (heights_from 10 lines) lines 0 lines ++ more =
+    e ∙ ap (λ hs. headings_from l.left hs l.lines.now 0 l.lines.now ++ more) is.heights ∙ ap (λ ls. headings_from l.left (heights_from 10 lines) ls 0 ls ++ more) is.of_lines in
+    headings lines l.left shapes (λ s c. laid_over lines l s is (All-contains (IsLaid l) shapes s laid c)) once helps more over

@@ -1,6 +1,9 @@
 pub mod Assembled
+pub mod Columns
+pub mod Cores
 pub mod DrawnWords
 pub mod Exactly
+pub mod Headed
 pub mod Kept
 pub mod Marks
 pub mod Origins

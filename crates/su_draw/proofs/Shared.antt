@@ -118,10 +118,10 @@ two_in (x ∷ xs) (suc p) (suc q) v w s lt at_v at_w e f =
     let b = count_more (cell_of x) (map cell_of xs) s in
     omega (arith, a, b)
 
-behind_six : (words : List (List ℕ)) (k : ℕ) (w : List ℕ) → 6 ≤ k → slice_get words k ≡ Some w → slice_get (drop 6 words) (k - 6) ≡ Some w
+pub behind_six : (words : List (List ℕ)) (k : ℕ) (w : List ℕ) → 6 ≤ k → slice_get words k ≡ Some w → slice_get (drop 6 words) (k - 6) ≡ Some w
 behind_six words k w h at = let e : 6 + (k - 6) ≡ k = omega arith in slice_get-drop 6 words (k - 6) ∙ ap (slice_get words) e ∙ at
 
-cells_of_row : (line : Line) → is_row line.kind ≡ true → row_cells line ≡ map cell_of (drop 6 line.words)
+pub cells_of_row : (line : Line) → is_row line.kind ≡ true → row_cells line ≡ map cell_of (drop 6 line.words)
 cells_of_row line is = ap (λ b. cond b (map cell_of (drop 6 line.words)) []) is
 
 pub one_of_row : (line : Line) (k : ℕ) (w s : List ℕ) → is_row line.kind ≡ true → 6 ≤ k → slice_get line.words k ≡ Some w → symbol_of w ≡ s → 1 ≤ count_from 0 (row_cells line) s
@@ -138,7 +138,7 @@ two_of_row line k m v w s is h lt at_v at_w e f =
 
 -- ---- the lines of a term
 
-row_no_term : (line : Line) → is_row line.kind ≡ true → is_term line.kind ≡ false
+pub row_no_term : (line : Line) → is_row line.kind ≡ true → is_term line.kind ≡ false
 row_no_term line is = ap is_term (is_row-Row line.kind is)
 
 -- so often at least the symbol stands in the cells of the term, whose line is the one before these, or one of these

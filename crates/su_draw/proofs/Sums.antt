@@ -4,7 +4,8 @@ use Rattle.std.specs.Prelude.{◌^◌, ◌-◌, nat_le}
 use Rattle.std.proofs.lemmas.Bool.{leb-true, leb-false}
 use Rattle.su_explained.specs.declared.reading.Line.{Line}
 use Rattle.su_draw.specs.Terms.{is_light}
-use Rattle.su_draw.specs.inside.Lay.{plus, is_arrow, lane_from, step_to, room_below, heights_from, height_in, lights_from}
+use Rattle.su_draw.specs.Widths.{plus}
+use Rattle.su_draw.specs.inside.Lay.{is_arrow, lane_from, step_to, room_below, heights_from, height_in, lights_from}
 
 -- the element behind others
 pub slice_get-drop : {X : Type 0} (n : ℕ) (xs : List X) (k : ℕ) → slice_get (drop n xs) k ≡ slice_get xs (n + k)

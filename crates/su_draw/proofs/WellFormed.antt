@@ -8,14 +8,16 @@ use Rattle.su_draw.specs.declared.things.What.TheVariants.{Label, Row, Symbol, F
 use Rattle.su_draw.specs.declared.shapes.Position.{Position}
 use Rattle.su_draw.specs.declared.shapes.Shape.{Shape}
 use Rattle.su_draw.specs.declared.shapes.Help.{Help}
-use Rattle.su_draw.specs.declared.shapes.Help.TheVariants.{Heading, Note, Band, Rule}
+use Rattle.su_draw.specs.declared.shapes.Help.TheVariants.{Heading, Band, Rule}
+use Rattle.su_draw.specs.declared.shapes.Note.{Note}
 use Rattle.su_draw.specs.declared.shapes.Picture.{Picture}
 use Rattle.su_draw.specs.EscapedBytes.{none_begun, escaped}
 use Rattle.su_draw.specs.Xml.{is_plain, element_text, IsContent, nothing, plain, element, IsDocument}
 use Rattle.su_draw.specs.Characters.{char_text}
 use Rattle.su_draw.specs.Cutting.{front_from, cut_text, is_long, shown_text}
-use Rattle.su_draw.specs.Svg.{help_text, svg_attributes, ground_line, front_lines, svg_inside, svg_text}
-use Rattle.su_draw.specs.Shapes.{element_line, mark_text, text_attributes, text_line, way_of, arrow_line, end_line, fold_lines, dot_line, square_line, lines_as, shape_text}
+use Rattle.su_draw.specs.Svg.{help_text, note_text, svg_attributes, ground_line, front_lines, svg_inside, svg_text}
+use Rattle.su_draw.specs.Shapes.{element_line, mark_text, text_attributes, text_line, way_of, arrow_line, end_line, fold_lines, dot_class, dot_line, square_line, lines_as, shape_text}
+use Rattle.su_draw.specs.Signs.{text_of}
 use Rattle.su_draw.specs.Looks.{word_of, number_attribute, class_of, opacity_of, weight_of, style_text}
 use Rattle.su_draw.proofs.Plain.{ArePlain, plain-append, plain-if, decimal-plain, char_text-content, escaped_on-content, escaped-content, element_line-content}
 
@@ -121,10 +123,13 @@ fold_lines-content p row rest r =
     subst P (sym (append_assoc (arrow ++ first) second rest ∙ append_assoc arrow first (second ++ rest)))
     (arrow_line-content p (codes "m7 -4l-7 4l7 4") (first ++ (second ++ rest)) refl (end_line-content p.lane p.y row (second ++ rest) (end_line-content p.lane p.to row rest r)))
 
+dot-plain : (mark : ℕ) → ArePlain (dot_class mark)
+dot-plain mark = plain-if (mark == 0) _ _ refl refl
+
 dot_line-content : (p : Position) (rest : List ℕ) → IsContent rest → IsContent (dot_line p ++ rest)
 dot_line-content p rest r =
-    element_line-content (codes "circle") (number_attribute (codes "cx") p.x ∷ number_attribute (codes "cy") p.y ∷ word_of (codes "r") (codes "6") ∷ word_of (codes "class") (codes "c0") ∷ []) [] rest refl
-    (refl, decimal-plain p.x, (refl, decimal-plain p.y, (refl, refl, (refl, refl, tt)))) nothing r
+    element_line-content (codes "circle") (number_attribute (codes "cx") p.x ∷ number_attribute (codes "cy") p.y ∷ word_of (codes "r") (codes "6") ∷ word_of (codes "class") (dot_class p.mark) ∷ []) [] rest refl
+    (refl, decimal-plain p.x, (refl, decimal-plain p.y, (refl, refl, (refl, dot-plain p.mark, tt)))) nothing r
 
 square_line-content : (p : Position) (rest : List ℕ) → IsContent rest → IsContent (square_line p ++ rest)
 square_line-content p rest r =
@@ -155,9 +160,6 @@ help-content (Heading x y text) rest r =
     let P : List ℕ → Type 0 = λ t. IsContent t in
     element_line-content (codes "text") (number_attribute (codes "x") x ∷ number_attribute (codes "y") y ∷ word_of (codes "class") (codes "c0") ∷ word_of (codes "text-decoration") (codes "underline") ∷ []) (shown_text text) rest refl
     (refl, decimal-plain x, (refl, decimal-plain y, (refl, refl, (refl, refl, tt)))) (subst P (append-nil (shown_text text)) (shown_text-content text [] nothing)) r
-help-content (Note x y text) rest r =
-    element_line-content (codes "text") (number_attribute (codes "x") x ∷ number_attribute (codes "y") y ∷ word_of (codes "class") (codes "c0") ∷ word_of (codes "font-size") (codes "11") ∷ []) (escaped text) rest refl
-    (refl, decimal-plain x, (refl, decimal-plain y, (refl, refl, (refl, refl, tt)))) (escaped-content text) r
 help-content (Band x y width) rest r =
     element_line-content (codes "rect") (number_attribute (codes "x") x ∷ number_attribute (codes "y") y ∷ number_attribute (codes "width") width ∷ word_of (codes "height") (codes "20") ∷ word_of (codes "class") (codes "band") ∷ []) [] rest refl
     (refl, decimal-plain x, (refl, decimal-plain y, (refl, decimal-plain width, (refl, refl, (refl, refl, tt))))) nothing r
@@ -170,6 +172,17 @@ helps-content [] rest r = r
 helps-content (h ∷ hs) rest r =
     let P : List ℕ → Type 0 = λ t. IsContent t in
     subst P (sym (append_assoc (help_text h) (flat_map help_text hs) rest)) (help-content h (flat_map help_text hs ++ rest) (helps-content hs rest r))
+
+note-content : (n : Note) (rest : List ℕ) → IsContent rest → IsContent (note_text n ++ rest)
+note-content n rest r =
+    element_line-content (codes "text") (number_attribute (codes "x") n.x ∷ number_attribute (codes "y") n.y ∷ word_of (codes "class") (codes "c0") ∷ word_of (codes "font-size") (codes "11") ∷ []) (escaped (text_of n.sign)) rest refl
+    (refl, decimal-plain n.x, (refl, decimal-plain n.y, (refl, refl, (refl, refl, tt)))) (escaped-content (text_of n.sign)) r
+
+notes-content : (ns : List Note) (rest : List ℕ) → IsContent rest → IsContent (flat_map note_text ns ++ rest)
+notes-content [] rest r = r
+notes-content (n ∷ ns) rest r =
+    let P : List ℕ → Type 0 = λ t. IsContent t in
+    subst P (sym (append_assoc (note_text n) (flat_map note_text ns) rest)) (note-content n (flat_map note_text ns ++ rest) (notes-content ns rest r))
 
 ground-content : (rest : List ℕ) → IsContent rest → IsContent (ground_line ++ rest)
 ground-content rest r =
@@ -190,8 +203,10 @@ front-content p rest r =
 inside-content : (p : Picture) → IsContent (svg_inside p)
 inside-content p =
     let shapes = flat_map shape_text p.shapes in
+    let notes = flat_map note_text p.legend in
     let helps = flat_map help_text p.helps in
-    plain 10 (front_lines p ++ (ground_line ++ (helps ++ shapes))) refl (front-content p (ground_line ++ (helps ++ shapes)) (ground-content (helps ++ shapes) (helps-content p.helps shapes (shapes-content p.shapes))))
+    plain 10 (front_lines p ++ (ground_line ++ (helps ++ (notes ++ shapes)))) refl
+    (front-content p (ground_line ++ (helps ++ (notes ++ shapes))) (ground-content (helps ++ (notes ++ shapes)) (helps-content p.helps (notes ++ shapes) (notes-content p.legend shapes (shapes-content p.shapes)))))
 
 view-plain : (p : Picture) → ArePlain (codes "0 0 " ++ decimal p.width ++ codes " " ++ decimal p.height)
 view-plain p =

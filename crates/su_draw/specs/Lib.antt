@@ -1,6 +1,7 @@
 pub mod Characters
 pub mod Cutting
 pub mod Drawn
+pub mod Ears
 pub mod EscapedBytes
 pub mod inside
 pub mod Looks
@@ -8,7 +9,9 @@ pub mod Once
 pub mod Pictures
 pub mod Promises
 pub mod Shapes
+pub mod Signs
 pub mod Svg
 pub mod Terms
 pub mod Things
+pub mod Widths
 pub mod Xml

@@ -38,4 +38,4 @@ weight_of _ _ = codes "normal"
 
 -- the style: the colours of a light scheme, and those of a dark one where the page has that
 abbrev pub style_text : List ℕ
-style_text = codes ".ground{fill:#fff}.band{fill:#e4e4e4}.arrow{fill:none;stroke:#555}.rule{stroke:#999}.c0{fill:#000}.c1{fill:#0b4f9e}.c2{fill:#a01818}.c3{fill:#1b6b1b}.c4{fill:#7a3d9e}.c5{fill:#7a4f00}.c6{fill:#00666b}.c7{fill:#a0266b}@media(prefers-color-scheme:dark){.ground{fill:#161616}.band{fill:#383838}.arrow{stroke:#b8b8b8}.rule{stroke:#888}.c0{fill:#f2f2f2}.c1{fill:#8fc1ff}.c2{fill:#ff9d9d}.c3{fill:#8fe08f}.c4{fill:#dcb0ff}.c5{fill:#f0c060}.c6{fill:#6fdfe4}.c7{fill:#ff9ccb}}"
+style_text = codes ".ground{fill:#fff}.band{fill:#e4e4e4}.arrow{fill:none;stroke:#555}.rule{stroke:#999}.ring{fill:#fff;stroke:#a01818;stroke-width:3}.c0{fill:#000}.c1{fill:#0b4f9e}.c2{fill:#a01818}.c3{fill:#1b6b1b}.c4{fill:#7a3d9e}.c5{fill:#7a4f00}.c6{fill:#00666b}.c7{fill:#a0266b}@media(prefers-color-scheme:dark){.ground{fill:#161616}.band{fill:#383838}.arrow{stroke:#b8b8b8}.rule{stroke:#888}.ring{fill:#161616;stroke:#ff9d9d}.c0{fill:#f2f2f2}.c1{fill:#8fc1ff}.c2{fill:#ff9d9d}.c3{fill:#8fe08f}.c4{fill:#dcb0ff}.c5{fill:#f0c060}.c6{fill:#6fdfe4}.c7{fill:#ff9ccb}}"

@@ -3,9 +3,15 @@
 use Rattle.std.specs.Prelude.{◌≡◌, ◌≢◌, ◌<◌, ◌≤◌, ◌^◌, ◌⊎◌, ℕ, ◌+◌, ◌-◌, true, List, Some, Contains, slice_get, drop}
 use Rattle.su_explained.specs.declared.reading.Line.{Line}
 use Rattle.su_explained.specs.Checks.{is_decimal}
-use Rattle.su_draw.specs.declared.things.What.TheVariants.{Row, Symbol, Fold}
+use Rattle.su_draw.specs.declared.things.What.TheVariants.{Row, Symbol, Fold, Source, Member}
 use Rattle.su_draw.specs.declared.shapes.Shape.{Shape}
-use Rattle.su_draw.specs.Terms.{term_at, is_light}
+use Rattle.su_draw.specs.declared.shapes.Help.{Help}
+use Rattle.su_draw.specs.declared.shapes.Help.TheVariants.{Heading}
+use Rattle.su_draw.specs.declared.ears.Edge.{Edge}
+use Rattle.su_draw.specs.Ears.{edges_from, IsCoreOf, ring_of}
+use Rattle.su_draw.specs.Things.{name_of}
+use Rattle.su_draw.specs.Widths.{shown_width}
+use Rattle.su_draw.specs.Terms.{word_in, words_at, term_at, is_light}
 
 -- the greatest number of a place: what lies farther is drawn there
 abbrev pub limit : ℕ
@@ -61,6 +67,35 @@ RowsDiffer shapes =
     (a b : Shape) → Contains shapes a → Contains shapes b → a.thing.what ≡ Row → b.thing.what ≡ Row → a.thing.line < b.thing.line
     → (a.place.y + 20 ≤ b.place.y) ⊎ (b.place.y ≡ limit)
 
+-- the attribute of a symbol: what its word has before the sign of equality
+abbrev pub attribute_at : List Line → Shape → List ℕ
+attribute_at lines s = name_of (word_in (words_at lines s.thing.line) s.thing.word)
+
+-- over each symbol stands the name of its attribute, at the beginning of its column; no row stands in the first line of a text
+abbrev pub HeadingsStand : List Line → List Help → List Shape → Type 0
+HeadingsStand lines helps shapes =
+    (s : Shape) → Contains shapes s → s.thing.what ≡ Symbol → 0 < s.thing.line → (y : ℕ) × (y ≤ s.place.y) × Contains helps (Heading s.place.x y (attribute_at lines s))
+
+-- the one ends before the other begins, but at the limit
+abbrev pub EndsBefore : Shape → Shape → Type 0
+EndsBefore a b = (a.place.x + shown_width a.thing.text ≤ b.place.x) ⊎ (b.place.x ≡ limit)
+
+-- symbols of two attributes of a term don't overlap: of their columns one ends before the other begins
+abbrev pub ColumnsDiffer : List Line → List Shape → Type 0
+ColumnsDiffer lines shapes =
+    (a b : Shape) → AreOfOneTerm lines shapes a b → 0 < a.thing.line → 0 < b.thing.line → attribute_at lines a ≢ attribute_at lines b → EndsBefore a b ⊎ EndsBefore b a
+
+-- a source stands at the height of the row whose number its line tells
+abbrev pub SourcesStand : List Line → List Shape → Type 0
+SourcesStand lines shapes =
+    (s row : Shape) (r : ℕ) → Contains shapes s → Contains shapes row → s.thing.what ≡ Source → IsRowOf lines s.thing.line r row → row.thing.text ≡ word_in (words_at lines s.thing.line) 3 → s.place.y ≡ row.place.y
+
+-- the dots of the objects that stay when ears are taken away are rings, and no others
+pub record CoreIsRinged (lines : List Line) (shapes : List Shape) : Type 0 where
+  pub core : List Edge
+  pub is_core : IsCoreOf (edges_from 0 lines) core
+  pub rings : (s : Shape) → Contains shapes s → s.thing.what ≡ Member → s.place.mark ≡ ring_of core s.thing.line
+
 -- what the shapes of a text promise
 pub record KeepsPromises (lines : List Line) (shapes : List Shape) : Type 0 where
   pub marks : MarksTell lines shapes
@@ -68,3 +103,4 @@ pub record KeepsPromises (lines : List Line) (shapes : List Shape) : Type 0 wher
   pub kept : KeptAreDark lines shapes
   pub lanes : LanesDiffer shapes
   pub rows : RowsDiffer shapes
+  pub columns : ColumnsDiffer lines shapes

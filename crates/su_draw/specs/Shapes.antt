@@ -47,9 +47,13 @@ end_line x y row =
 abbrev pub fold_lines : Position → ℕ → List ℕ
 fold_lines p row = arrow_line p (codes "m7 -4l-7 4l7 4") ++ end_line p.lane p.y row ++ end_line p.lane p.to row
 
+-- the class of a dot: full without a mark, else a ring
+abbrev pub dot_class : ℕ → List ℕ
+dot_class mark = if mark == 0 then codes "c0" else codes "ring"
+
 -- a dot: a member of a set
 abbrev pub dot_line : Position → List ℕ
-dot_line p = element_line (codes "circle") (number_attribute (codes "cx") p.x ∷ number_attribute (codes "cy") p.y ∷ word_of (codes "r") (codes "6") ∷ word_of (codes "class") (codes "c0") ∷ []) []
+dot_line p = element_line (codes "circle") (number_attribute (codes "cx") p.x ∷ number_attribute (codes "cy") p.y ∷ word_of (codes "r") (codes "6") ∷ word_of (codes "class") (dot_class p.mark) ∷ []) []
 
 -- a square: a part of a set
 abbrev pub square_line : Position → List ℕ

@@ -41,6 +41,14 @@ word_or_none (Some word) = word
 abbrev pub word_in : List (List ℕ) → ℕ → List ℕ
 word_in words k = word_or_none (slice_get words k)
 
+-- the words of line i; none where there is no such line
+abbrev pub words_or_none : Option Line → List (List ℕ)
+words_or_none None = []
+words_or_none (Some line) = line.words
+
+abbrev pub words_at : List Line → ℕ → List (List ℕ)
+words_at lines i = words_or_none (slice_get lines i)
+
 -- for each line the number of the line that its term begins with; first: the number of the first of these lines, term: that of the term before it
 abbrev pub terms_from : ℕ → ℕ → List Line → List ℕ
 terms_from term first [] = []

@@ -16,6 +16,11 @@ behind_sign whole (b ∷ bs) = if b == 61 then bs else behind_sign whole bs
 abbrev pub symbol_of : List ℕ → List ℕ
 symbol_of word = behind_sign word word
 
+-- what stands before the first `=` of a word: of a cell its attribute
+abbrev pub name_of : List ℕ → List ℕ
+name_of [] = []
+name_of (b ∷ bs) = if b == 61 then [] else b ∷ name_of bs
+
 -- what is written for a word: of a cell its symbol
 abbrev pub text_shown : What → List ℕ → List ℕ
 text_shown Symbol word = symbol_of word

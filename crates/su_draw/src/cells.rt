@@ -1,6 +1,7 @@
 //! The cells of a term, and their classes: the cells that have one symbol.
 ghost use Rattle.std.specs.Prelude.{◌≡◌, ◌≤◌, ◌+◌, ◌++◌, length, drop, map, IfOk, OnOk};
-ghost use Rattle.su_draw.specs.inside.Lay.{name_of, cell_of, row_cells, cells_from, count_from, classes_from, mark_from};
+ghost use Rattle.su_draw.specs.Things.{name_of};
+ghost use Rattle.su_draw.specs.inside.Lay.{cell_of, row_cells, cells_from, count_from, classes_from, mark_from};
 
 use crate::terms::{is_row, is_term};
 use crate::things::behind;

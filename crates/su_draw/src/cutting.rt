@@ -1,7 +1,7 @@
 //! Long words: cut where they are shown, whole in a title.
 ghost use Rattle.std.specs.Prelude.{◌≡◌, ◌≤◌, ◌++◌, length, OnOk};
 ghost use Rattle.su_draw.specs.Cutting.{is_inside as inside, chars_from, is_long as long, front_from, cut_text, shown_text};
-ghost use Rattle.su_draw.specs.inside.Lay.{shown_width as width_shown};
+ghost use Rattle.su_draw.specs.Widths.{shown_width as width_shown};
 
 use crate::elements::{close_inside, open};
 use crate::escaping::{escape, push_code};

@@ -1,17 +1,23 @@
 //! A text drawn.
-ghost use Rattle.std.specs.Prelude.{◌≡◌, All, slice_get, IfOk};
+ghost use Rattle.std.specs.Prelude.{◌≡◌, ◌++◌, List as Items, All, slice_get, IfOk};
+ghost use Rattle.su_draw.specs.declared.shapes.Help.{Help as AHelp};
+ghost use Rattle.su_draw.specs.declared.things.What.TheVariants.{Member as MemberKind};
 ghost use Rattle.su_draw.specs.Things.{things_of};
 ghost use Rattle.su_draw.specs.Once.{StandOnce, things_in_shapes};
 ghost use Rattle.su_draw.specs.Terms.{or_else, RowsStandBehind};
-ghost use Rattle.su_draw.specs.Promises.{ArrowsJoin, KeepsPromises};
-ghost use Rattle.su_draw.specs.inside.Lay.{StandsAs, IsLayoutOf, IsLaid, table_of};
+ghost use Rattle.su_draw.specs.Promises.{ArrowsJoin, KeepsPromises, HeadingsStand, SourcesStand, CoreIsRinged};
+ghost use Rattle.su_draw.specs.Ears.{edges_from, IsCoreOf, ring_of};
+ghost use Rattle.su_draw.specs.Signs.{signs_of, signs_in as signs_shown};
+ghost use Rattle.su_draw.specs.inside.Lay.{StandsAs, IsLayoutOf, IsLaid, IsRinged, table_of, headings_from};
 
 use crate::cells::copied;
 use crate::cutting::shown_width;
+use crate::ears::{Edge, core_of, edges_of, ring_in};
 use crate::explaining::Layout;
 use crate::gridding::Grid;
-use crate::measures::{width_of, words_of};
-use crate::shapes::{Help, Picture, Position, Shape};
+use crate::measures::{HIGH, width_of, words_of};
+use crate::shapes::{Help, Note, Picture, Position, Shape};
+use crate::signs::{signs_in, text_of};
 use crate::tables::Table;
 use crate::things::{Thing, What, all_things};
 use std::alloc::Global;
@@ -19,16 +25,22 @@ use su_base::parts::push;
 use su_base::{List, NoMemory};
 use su_explained::{Kind, Line};
 
-/// How a text is laid out: what explanations have in a layout, what schemas have in a grid.
+/// How a text is laid out: what explanations have in a layout, what schemas have in a grid, and the core of a
+/// schema's objects.
 struct Plan<'a> {
     layout: Layout<'a>,
     grid: Grid<'a>,
+    core: List<Edge>,
 }
 
 /// Not derived, so that it is a single call wherever a plan goes out of scope.
 impl Drop for Plan<'_> {
     fn drop(self) {
-        let Plan { layout: _, grid: _ } = self;
+        let Plan {
+            layout: _,
+            grid: _,
+            core: _,
+        } = self;
     }
 }
 
@@ -42,11 +54,13 @@ fn is_explanation(lines: &[Line]) -> bool {
 
 impl<'a> Plan<'a> {
     fn new(alloc: Global, lines: &'a [Line]) -> Result<Plan<'a>, NoMemory>
-        ensures { IfOk result (λ plan. IsLayoutOf lines.now plan.layout) }
+        ensures layout { IfOk result (λ plan. IsLayoutOf lines.now plan.layout) }
+        ensures core { IfOk result (λ plan. IsCoreOf (edges_from 0 lines.now) plan.core) }
     {
+        let core = core_of(edges_of(alloc, lines)?);
         let layout = Layout::new(alloc, lines)?;
         let grid = Grid::new(alloc, lines)?;
-        Ok(Plan { layout, grid })
+        Ok(Plan { layout, grid, core })
     }
 
     /// Whether the thing stands in the grid.
@@ -59,25 +73,40 @@ impl<'a> Plan<'a> {
 
     /// Where a thing is drawn, by the table of its term.
     fn place(&self, table: &Table, thing: &Thing) -> Position
-        ensures { StandsAs thing.now.what self.now.layout.lines.now self.now.layout.heights self.now.layout.lights self.now.layout.left table.now thing.now result }
+        ensures stands { StandsAs thing.now.what self.now.layout.lines.now self.now.layout.heights self.now.layout.lights self.now.layout.left table.now thing.now result }
+        ensures ring { thing.now.what ≡ MemberKind → result.mark ≡ ring_of self.now.core thing.now.line }
     {
         match thing.what {
-            What::Attribute | What::Object | What::Member | What::Part => self.grid.place(thing),
+            What::Member => self
+                .grid
+                .dot(thing, ring_in(self.core.as_slice(), thing.line)),
+            What::Attribute | What::Object | What::Part => self.grid.place(thing),
             What::Label if self.is_in_grid(thing) => self.grid.place(thing),
             _ => self.layout.place(table, thing),
         }
     }
 
-    fn helps(&self, alloc: Global) -> Result<List<Help>, NoMemory> {
+    /// What stands for no word, but for the names of columns.
+    fn others(&self, alloc: Global) -> Result<List<Help>, NoMemory> {
         if is_explanation(self.layout.lines) {
-            return self.layout.helps(alloc);
+            return self.layout.others(alloc);
         }
         self.grid.helps(alloc)
     }
 
+    /// What stands for no word: the names of columns, and the others.
+    fn helps(&self, alloc: Global) -> Result<List<Help>, NoMemory>
+        ensures { IfOk result (λ helps. (more : Items AHelp) × (helps ≡ headings_from self.now.layout.left self.now.layout.heights self.now.layout.lines.now 0 self.now.layout.lines.now ++ more)) }
+    {
+        let mut helps = self.layout.headings(alloc)?;
+        let others = self.others(alloc)?;
+        helps.append(others)?;
+        Ok(helps)
+    }
+
     fn bottom(&self) -> u32 {
         if is_explanation(self.layout.lines) {
-            return self.layout.end();
+            return self.layout.bottom();
         }
         self.grid.bottom()
     }
@@ -99,7 +128,6 @@ fn right_of(thing: &Thing, place: Position) -> u32 {
 fn end_of(help: &Help) -> u32 {
     match help {
         Help::Heading { x, text, .. } => x.saturating_add(shown_width(text.as_slice())),
-        Help::Note { x, text, .. } => x.saturating_add(width_of(text.as_slice())),
         Help::Band { x, width, .. } => x.saturating_add(*width),
         Help::Rule { to_x, .. } => *to_x,
     }
@@ -121,6 +149,7 @@ fn shape_of(plan: &Plan, table: &Table, thing: Thing) -> Shape
     requires { table.now ≡ table_of plan.now.layout.left plan.now.layout.lines.now (or_else 0 (slice_get plan.now.layout.terms thing.line)) }
     ensures thing { result.thing ≡ thing }
     ensures laid { IsLaid plan.now.layout result }
+    ensures ringed { IsRinged plan.now.core result }
 {
     let place = plan.place(table, &thing);
     Shape { thing, place }
@@ -130,6 +159,7 @@ fn shape_of(plan: &Plan, table: &Table, thing: Thing) -> Shape
 fn shapes_of(alloc: Global, plan: &Plan, things: List<Thing>) -> Result<List<Shape>, NoMemory>
     ensures things { IfOk result (λ shapes. things_in_shapes shapes ≡ things) }
     ensures laid { IfOk result (λ shapes. All (IsLaid plan.now.layout) shapes) }
+    ensures ringed { IfOk result (λ shapes. All (IsRinged plan.now.core) shapes) }
 {
     let layout = &plan.layout;
     let mut shapes = List::new(alloc);
@@ -165,6 +195,40 @@ fn about(lines: &[Line]) -> &'static str {
     "Attributes are columns and objects are lines, with a dot where an object has an attribute. Maximal objects are columns behind them, with a square at each of their objects."
 }
 
+/// How far apart the lines of the legend are.
+const NEXT: u32 = 16;
+
+/// A line of the legend for each sign that is drawn, from this height down.
+fn legend_of(alloc: Global, shapes: &[Shape], top: u32) -> Result<List<Note>, NoMemory>
+    ensures { IfOk result (λ legend. signs_of legend ≡ signs_shown shapes.now) }
+{
+    let mut y = top;
+    let mut legend = List::new(alloc);
+    for sign in signs_in(alloc, shapes)?.into_vec() {
+        legend.push(Note { x: 30, y, sign })?;
+        y = y.saturating_add(NEXT);
+    }
+    Ok(legend)
+}
+
+/// How far to the right the legend goes.
+fn legend_end(legend: &[Note]) -> u32 {
+    let mut right: u32 = 0;
+    for note in legend {
+        let width = width_of(text_of(note.sign).as_bytes());
+        right = right.max(note.x.saturating_add(width));
+    }
+    right
+}
+
+/// How high the picture is, with its legend.
+fn height_of(top: u32, legend: &[Note]) -> u32 {
+    match legend.last() {
+        Some(note) => note.y.saturating_add(HIGH),
+        None => top,
+    }
+}
+
 /// How far to the right the picture goes.
 fn right_end(helps: &[Help], shapes: &[Shape]) -> u32 {
     let mut right: u32 = 100;
@@ -183,21 +247,28 @@ pub fn draw(alloc: Global, lines: &[Line]) -> Result<Picture, NoMemory>
     ensures things { IfOk result (λ picture. things_in_shapes picture.shapes ≡ things_of lines.now) }
     ensures once { IfOk result (λ picture. StandOnce lines.now (things_in_shapes picture.shapes)) }
     ensures arrows { IfOk result (λ picture. RowsStandBehind lines.now → ArrowsJoin lines.now picture.shapes) }
+    ensures sources { IfOk result (λ picture. RowsStandBehind lines.now → SourcesStand lines.now picture.shapes) }
     ensures promises { IfOk result (λ picture. KeepsPromises lines.now picture.shapes) }
+    ensures headings { IfOk result (λ picture. HeadingsStand lines.now picture.helps picture.shapes) }
+    ensures core { IfOk result (λ picture. CoreIsRinged lines.now picture.shapes) }
+    ensures legend { IfOk result (λ picture. signs_of picture.legend ≡ signs_shown picture.shapes) }
 {
     let plan = Plan::new(alloc, lines)?;
     let things = all_things(alloc, lines)?;
     let shapes = shapes_of(alloc, &plan, things)?;
     let helps = plan.helps(alloc)?;
-    let right = right_end(helps.as_slice(), shapes.as_slice());
+    let top = plan.bottom().saturating_add(2 * HIGH);
+    let legend = legend_of(alloc, shapes.as_slice(), top)?;
+    let right = right_end(helps.as_slice(), shapes.as_slice()).max(legend_end(legend.as_slice()));
     let title = title_of(alloc, lines)?;
     let about = copied(alloc, about(lines).as_bytes())?;
     Ok(Picture {
         title,
         about,
         width: right.saturating_add(20),
-        height: plan.bottom().saturating_add(20),
+        height: height_of(top, legend.as_slice()),
         helps,
+        legend,
         shapes,
     })
 }

@@ -1,8 +1,8 @@
 //! Where the things of an explanation are drawn.
-ghost use Rattle.std.specs.Prelude.{◌≡◌, false, slice_get, IfOk};
-ghost use Rattle.su_draw.specs.Terms.{or_else, terms_from};
+ghost use Rattle.std.specs.Prelude.{◌≡◌, false, ◌++◌, slice_get, IfOk, OnOk};
+ghost use Rattle.su_draw.specs.Terms.{or_else, terms_from, words_at};
 ghost use Rattle.su_explained.specs.Numbers.{number_in as number_told};
-ghost use Rattle.su_draw.specs.inside.Lay.{words_at, height_in, row_height as height_of_row, heights_from, lights_from, or_false, in_row as stands_in_row, fold_place, source_place, text_at as standing, StandsAs};
+ghost use Rattle.su_draw.specs.inside.Lay.{height_in, row_height as height_of_row, heights_from, lights_from, or_false, in_row as stands_in_row, fold_place, source_place, text_at as standing, StandsAs, heading_over, headings_over, headings_from};
 
 use crate::cells::copied;
 use crate::measures::{HIGH, front_of, lanes, offset_of, word_at, words_of};
@@ -83,14 +83,6 @@ fn row_height(heights: &[u32], term: usize, row: usize) -> u32
     0
 }
 
-/// The lines of the legend.
-const LEGEND: &[&str] = &[
-    "bold on a ground: a kept row; pale: a row that isn't kept",
-    "arrow: from a row to the one that answers for it",
-    "small number: one symbol in several cells of the term",
-    "read from: the objects that hold a kept row's values",
-];
-
 /// Whether the term that is told next has sources.
 fn tells_sources(lines: &[Line]) -> bool {
     for line in lines {
@@ -116,6 +108,32 @@ fn text_at(x: u32, y: u32) -> Position
         mark: 0,
         light: false,
     }
+}
+
+/// The name of a column, over it.
+fn heading_of(alloc: Global, table: &Table, name: &[u8], y: u32) -> Result<Help, NoMemory>
+    ensures { IfOk result (λ help. help ≡ heading_over y table.now name.now) }
+{
+    Ok(Help::Heading {
+        x: column_at(table.first, table.columns.as_slice(), name),
+        y,
+        text: copied(alloc, name)?,
+    })
+}
+
+/// The names of a table's columns, each over its column.
+fn add_headings(
+    alloc: Global,
+    helps: &mut List<Help>,
+    table: &Table,
+    y: u32,
+) -> Result<(), NoMemory>
+    ensures { OnOk result (helps.new ≡ helps.old ++ headings_over y table.now) }
+{
+    for column in table.columns.as_slice() {
+        helps.push(heading_of(alloc, table, column.name.as_slice(), y)?)?;
+    }
+    Ok(())
 }
 
 impl<'a> Layout<'a> {
@@ -266,23 +284,24 @@ impl<'a> Layout<'a> {
         }
     }
 
-    /// The names of a table's columns.
-    fn add_headings(
-        &self,
-        alloc: Global,
-        helps: &mut List<Help>,
-        table: &Table,
-    ) -> Result<(), NoMemory> {
-        let y = self.height(table.term).saturating_add(HIGH);
-        for column in table.columns.as_slice() {
-            let name = column.name.as_slice();
-            helps.push(Help::Heading {
-                x: column_at(table.first, table.columns.as_slice(), name),
-                y,
-                text: copied(alloc, name)?,
-            })?;
+    /// The names of all columns. Rows before any term, of which a text that is read has none, belong to
+    /// the first line.
+    pub(crate) fn headings(&self, alloc: Global) -> Result<List<Help>, NoMemory>
+        ensures { IfOk result (λ helps. helps ≡ headings_from self.now.left self.now.heights self.now.lines.now 0 self.now.lines.now) }
+    {
+        let mut helps = List::new(alloc);
+        for (number, line) in self.lines.iter().enumerate() {
+            if number == 0 || is_term(line.kind) {
+                let table = Table::of(alloc, self.left, self.lines, number)?;
+                add_headings(
+                    alloc,
+                    &mut helps,
+                    &table,
+                    self.height(number).saturating_add(HIGH),
+                )?;
+            }
         }
-        Ok(())
+        Ok(helps)
     }
 
     /// The grounds of a table's kept rows.
@@ -316,42 +335,21 @@ impl<'a> Layout<'a> {
         Ok(())
     }
 
-    /// The legend, below all lines.
-    fn add_legend(&self, alloc: Global, helps: &mut List<Help>) -> Result<(), NoMemory> {
-        let mut y = self.bottom().saturating_add(2 * HIGH);
-        for text in LEGEND {
-            helps.push(Help::Note {
-                x: 30,
-                y,
-                text: copied(alloc, text.as_bytes())?,
-            })?;
-            y = y.saturating_add(16);
-        }
-        Ok(())
-    }
-
-    /// What stands for no word.
-    pub(crate) fn helps(&self, alloc: Global) -> Result<List<Help>, NoMemory> {
+    /// The grounds of kept rows, and the headings over sources.
+    pub(crate) fn others(&self, alloc: Global) -> Result<List<Help>, NoMemory> {
         let mut helps = List::new(alloc);
         for (number, line) in self.lines.iter().enumerate() {
             if is_term(line.kind) {
                 let table = Table::of(alloc, self.left, self.lines, number)?;
                 self.add_bands(&mut helps, &table)?;
-                self.add_headings(alloc, &mut helps, &table)?;
                 self.add_sources(alloc, &mut helps, &table)?;
             }
         }
-        self.add_legend(alloc, &mut helps)?;
         Ok(helps)
     }
 
-    /// How high the picture is, with the legend.
-    pub(crate) fn end(&self) -> u32 {
-        self.bottom().saturating_add(6 * HIGH)
-    }
-
     /// How high the last line is.
-    fn bottom(&self) -> u32 {
+    pub(crate) fn bottom(&self) -> u32 {
         match self.heights.as_slice().last() {
             Some(height) => *height,
             None => 0,

@@ -1,10 +1,13 @@
 //! Where the things of a schema are drawn: the attributes are columns, the objects lines with a dot at
-//! each of their attributes, and the maximal objects columns with a square at each of their objects.
+//! each of their attributes, or a ring in the core of a cycle, and the maximal objects columns with a square
+//! at each of their objects.
+ghost use Rattle.std.specs.Prelude.{◌≡◌};
 
 use crate::cutting::shown_width;
+use crate::ears::{attribute_words, name_in};
 use crate::measures::{HIGH, WIDE, word_at, words_of};
 use crate::shapes::{Help, Position};
-use crate::things::{Thing, What, name_in};
+use crate::things::{Thing, What};
 use std::alloc::Global;
 use su_base::{List, NoMemory};
 use su_explained::{Kind, Line, are_same};
@@ -52,6 +55,21 @@ fn middle_of(spots: &[Spot], name: &[u8]) -> u32 {
     match spot_of(spots, name) {
         Some(spot) => spot.at.saturating_add(spot.width / 2),
         None => 0,
+    }
+}
+
+/// A place with a mark.
+fn at(x: u32, y: u32, mark: usize) -> Position
+    ensures { result.mark ≡ mark }
+{
+    Position {
+        x,
+        y,
+        edge: 0,
+        lane: 0,
+        to: 0,
+        mark,
+        light: false,
     }
 }
 
@@ -121,25 +139,26 @@ impl<'a> Grid<'a> {
         }
     }
 
-    /// Where a thing is drawn.
-    pub(crate) fn place(&self, thing: &Thing) -> Position {
+    /// Where the column of a thing begins.
+    fn left_of(&self, thing: &Thing) -> u32 {
         let words = words_of(self.lines, thing.line);
-        let word = word_at(words, thing.word);
         let column = match thing.what {
-            What::Attribute => spot_of(self.attributes.as_slice(), word),
+            What::Attribute => spot_of(self.attributes.as_slice(), word_at(words, thing.word)),
             _ => spot_of(self.maximal.as_slice(), word_at(words, 3)),
         };
-        let left = match column {
+        match column {
             Some(spot) => spot.at,
             None => 0,
-        };
+        }
+    }
+
+    /// Where a thing that is no dot is drawn.
+    pub(crate) fn place(&self, thing: &Thing) -> Position {
+        let word = word_at(words_of(self.lines, thing.line), thing.word);
+        let left = self.left_of(thing);
         let (x, y) = match (thing.what, thing.word) {
             (What::Attribute, _) => (left, TOP - HIGH - 4),
             (What::Object, _) => (20, self.height_of(word)),
-            (What::Member, _) => (
-                middle_of(self.attributes.as_slice(), name_in(word)),
-                self.height_of(word_at(words, 1)).saturating_sub(4),
-            ),
             (What::Part, _) => (
                 left.saturating_add(4 * WIDE - 6),
                 self.height_of(word).saturating_sub(10),
@@ -147,15 +166,18 @@ impl<'a> Grid<'a> {
             (_, 3) => (left.saturating_add(4 * WIDE - 4), TOP - 2 * HIGH - 8),
             _ => (left, TOP - HIGH - 8),
         };
-        Position {
-            x,
-            y,
-            edge: 0,
-            lane: 0,
-            to: 0,
-            mark: 0,
-            light: false,
-        }
+        at(x, y, 0)
+    }
+
+    /// Where a dot is drawn, with its mark.
+    pub(crate) fn dot(&self, thing: &Thing, mark: usize) -> Position
+        ensures { result.mark ≡ mark }
+    {
+        let words = words_of(self.lines, thing.line);
+        let name = name_in(word_at(words, thing.word));
+        let x = middle_of(self.attributes.as_slice(), name);
+        let y = self.height_of(word_at(words, 1)).saturating_sub(4);
+        at(x, y, mark)
     }
 
     /// The line of an object, from its first dot to its last one.
@@ -163,11 +185,7 @@ impl<'a> Grid<'a> {
         let words = line.words.as_slice();
         let y = self.height_of(word_at(words, 1)).saturating_sub(4);
         let (mut first, mut last) = (u32::MAX, 0);
-        for word in words
-            .iter()
-            .skip(2)
-            .take(su_explained::attribute_count(words.len()))
-        {
+        for word in attribute_words(words) {
             let x = middle_of(self.attributes.as_slice(), name_in(word.as_slice()));
             first = first.min(x);
             last = last.max(x);
@@ -209,10 +227,10 @@ impl<'a> Grid<'a> {
             }
         }
         if let Some(spot) = self.maximal.as_slice().first() {
-            helps.push(Help::Note {
+            helps.push(Help::Heading {
                 x: spot.at,
                 y: TOP - 3 * HIGH - 4,
-                text: List::from_vec(b"maximal objects".to_vec(alloc)?),
+                text: List::from_vec(b"maximal".to_vec(alloc)?),
             })?;
         }
         Ok(helps)

@@ -9,6 +9,7 @@
 mod cells;
 mod cutting;
 mod drawing;
+mod ears;
 mod elements;
 mod escaping;
 mod explaining;
@@ -16,15 +17,18 @@ mod gridding;
 mod measures;
 mod pictures;
 mod shapes;
+mod signs;
 mod tables;
 mod terms;
 mod things;
 mod writing;
 
 pub use drawing::draw;
+pub use ears::Edge;
 pub use elements::Pair;
 pub use escaping::Begun;
 pub use pictures::{kept_picture_of, picture_of};
-pub use shapes::{Help, Picture, Position, Shape};
+pub use shapes::{Help, Note, Picture, Position, Shape};
+pub use signs::Sign;
 pub use things::{Thing, What, all_things, what_of};
 pub use writing::write;

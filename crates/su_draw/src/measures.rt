@@ -1,7 +1,8 @@
 //! How wide texts are, in pixels.
 ghost use Rattle.std.specs.Prelude.{◌≡◌, ◌≤◌, take};
-ghost use Rattle.su_draw.specs.Terms.{word_in};
-ghost use Rattle.su_draw.specs.inside.Lay.{words_at, byte_width, width_of as wide, offset_from, offset_of as offset};
+ghost use Rattle.su_draw.specs.Terms.{word_in, words_at};
+ghost use Rattle.su_draw.specs.Widths.{byte_width, width_of as wide};
+ghost use Rattle.su_draw.specs.inside.Lay.{offset_from, offset_of as offset};
 
 use crate::cutting::shown_width;
 use su_base::List;

@@ -1,12 +1,13 @@
 //! A picture as a list of what is drawn.
 
+use crate::signs::Sign;
 use crate::things::Thing;
 use su_base::List;
 
 /// Where a thing is drawn, in pixels from the upper left corner. A text begins at `x` and stands on the
 /// base line `y`. An arrow begins at its edge a little above that line, goes sideways to its lane, up or
-/// down to another base line, and back to the edge. The symbols of one class have a mark, others 0; what is
-/// light is not kept.
+/// down to another base line, and back to the edge. The symbols of one class have a mark, and so have the dots
+/// of a cycle's core, others 0; what is light is not kept.
 #[derive(Clone, Copy)]
 pub struct Position {
     pub x: u32,
@@ -25,16 +26,11 @@ pub struct Shape {
     pub place: Position,
 }
 
-/// What helps the eye and stands for no word: the names above the columns of a table, the lines of the
-/// legend, the ground of a kept row, and lines.
+/// What helps the eye and stands for no word: the names above the columns of a table, the ground of a
+/// kept row, and lines.
 #[derive(Drop)]
 pub enum Help {
     Heading {
-        x: u32,
-        y: u32,
-        text: List<u8>,
-    },
-    Note {
         x: u32,
         y: u32,
         text: List<u8>,
@@ -52,6 +48,14 @@ pub enum Help {
     },
 }
 
+/// A line of the legend at its place.
+#[derive(Drop)]
+pub struct Note {
+    pub x: u32,
+    pub y: u32,
+    pub sign: Sign,
+}
+
 /// A picture, with a title and a description for who doesn't see it.
 pub struct Picture {
     pub title: List<u8>,
@@ -59,6 +63,7 @@ pub struct Picture {
     pub width: u32,
     pub height: u32,
     pub helps: List<Help>,
+    pub legend: List<Note>,
     pub shapes: List<Shape>,
 }
 
@@ -71,6 +76,7 @@ impl Drop for Picture {
             width: _,
             height: _,
             helps: _,
+            legend: _,
             shapes: _,
         } = self;
     }

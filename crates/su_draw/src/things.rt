@@ -143,15 +143,6 @@ pub fn what_of(kind: Kind, words: usize, k: usize, word: &[u8]) -> Option<What>
     }
 }
 
-/// The name in a word of a list, without the parenthesis before it and the sign behind it.
-pub(crate) fn name_in(word: &[u8]) -> &[u8] {
-    match word {
-        [b'(', name @ .., _] => name,
-        [name @ .., b',' | b')'] => name,
-        _ => word,
-    }
-}
-
 /// What stands behind the first sign of equality; the whole word, if it has none.
 pub(crate) fn behind(word: &[u8]) -> &[u8]
     ensures { result.now ≡ symbol_of word.now }

@@ -1,8 +1,8 @@
 //! A picture as SVG.
 ghost use Rattle.std.specs.Prelude.{◌≡◌, ◌-◌, ◌++◌, flat_map, codes, decimal, [], OnOk, IfOk, string_bytes};
 ghost use Rattle.su_draw.specs.Cutting.{shown_text};
-ghost use Rattle.su_draw.specs.Svg.{heading_line, note_line, band_line, rule_line, help_text, ground_line, front_lines, svg_attributes, svg_inside, svg_text};
-ghost use Rattle.su_draw.specs.Shapes.{element_line, mark_text, text_line, way_of, arrow_line, end_line, fold_lines, dot_line, square_line, shape_text};
+ghost use Rattle.su_draw.specs.Svg.{heading_line, note_text, band_line, rule_line, help_text, ground_line, front_lines, svg_attributes, svg_inside, svg_text};
+ghost use Rattle.su_draw.specs.Shapes.{element_line, mark_text, text_line, way_of, arrow_line, end_line, fold_lines, dot_class, dot_line, square_line, shape_text};
 ghost use Rattle.su_draw.specs.Looks.{class_of, opacity_of, weight_of, style_text};
 ghost use Rattle.su_draw.specs.Xml.{attribute_text, IsDocument};
 ghost use Rattle.su_draw.specs.inside.Pairs.{attributes_of};
@@ -10,7 +10,8 @@ ghost use Rattle.su_draw.specs.inside.Pairs.{attributes_of};
 use crate::cutting::push_shown;
 use crate::elements::Pair::{self, Number, Word};
 use crate::elements::{close, element, number_element, number_inside, open, plain_element};
-use crate::shapes::{Help, Picture, Position, Shape};
+use crate::shapes::{Help, Note, Picture, Position, Shape};
+use crate::signs::text_of;
 use crate::things::What;
 use std::alloc::Global;
 use su_base::parts::push;
@@ -167,6 +168,13 @@ fn fold_element(
     end_element(alloc, out, place.lane, place.to, row)
 }
 
+/// The class of a dot: without a mark full, else a ring.
+fn dot(mark: usize) -> &'static str
+    ensures { result.now ≡ dot_class mark }
+{
+    if mark == 0 { "c0" } else { "ring" }
+}
+
 fn dot_element(alloc: Global, out: &mut Vec<u8>, place: Position) -> Result<(), NoMemory>
     ensures { OnOk result (out.new.items ≡ out.old.items ++ dot_line place) }
 {
@@ -174,7 +182,7 @@ fn dot_element(alloc: Global, out: &mut Vec<u8>, place: Position) -> Result<(), 
         Number("cx", place.x),
         Number("cy", place.y),
         Word("r", "6"),
-        Word("class", "c0"),
+        Word("class", dot(place.mark)),
     ];
     element(alloc, out, "circle", &pairs, &[])
 }
@@ -227,22 +235,16 @@ fn heading_element(
     close(out, "text")
 }
 
-fn note_element(
-    alloc: Global,
-    out: &mut Vec<u8>,
-    x: u32,
-    y: u32,
-    text: &[u8],
-) -> Result<(), NoMemory>
-    ensures { OnOk result (out.new.items ≡ out.old.items ++ note_line x y text.now) }
+fn note_element(alloc: Global, out: &mut Vec<u8>, note: &Note) -> Result<(), NoMemory>
+    ensures { OnOk result (out.new.items ≡ out.old.items ++ note_text note.now) }
 {
     let pairs = [
-        Number("x", x),
-        Number("y", y),
+        Number("x", note.x),
+        Number("y", note.y),
         Word("class", "c0"),
         Word("font-size", "11"),
     ];
-    element(alloc, out, "text", &pairs, text)
+    element(alloc, out, "text", &pairs, text_of(note.sign).as_bytes())
 }
 
 fn band_element(
@@ -287,7 +289,6 @@ fn help_element(alloc: Global, out: &mut Vec<u8>, help: &Help) -> Result<(), NoM
 {
     match help {
         Help::Heading { x, y, text } => heading_element(alloc, out, *x, *y, text.as_slice()),
-        Help::Note { x, y, text } => note_element(alloc, out, *x, *y, text.as_slice()),
         Help::Band { x, y, width } => band_element(alloc, out, *x, *y, *width),
         Help::Rule { x, y, to_x, to_y } => rule_element(alloc, out, (*x, *y), (*to_x, *to_y)),
     }
@@ -336,7 +337,7 @@ fn start(alloc: Global, out: &mut Vec<u8>, picture: &Picture) -> Result<(), NoMe
 
 /// The colours of the classes, by the scheme of the page.
 const STYLE: &str =
-    ".ground{fill:#fff}.band{fill:#e4e4e4}.arrow{fill:none;stroke:#555}.rule{stroke:#999}.c0{fill:#000}.c1{fill:#0b4f9e}.c2{fill:#a01818}.c3{fill:#1b6b1b}.c4{fill:#7a3d9e}.c5{fill:#7a4f00}.c6{fill:#00666b}.c7{fill:#a0266b}@media(prefers-color-scheme:dark){.ground{fill:#161616}.band{fill:#383838}.arrow{stroke:#b8b8b8}.rule{stroke:#888}.c0{fill:#f2f2f2}.c1{fill:#8fc1ff}.c2{fill:#ff9d9d}.c3{fill:#8fe08f}.c4{fill:#dcb0ff}.c5{fill:#f0c060}.c6{fill:#6fdfe4}.c7{fill:#ff9ccb}}";
+    ".ground{fill:#fff}.band{fill:#e4e4e4}.arrow{fill:none;stroke:#555}.rule{stroke:#999}.ring{fill:#fff;stroke:#a01818;stroke-width:3}.c0{fill:#000}.c1{fill:#0b4f9e}.c2{fill:#a01818}.c3{fill:#1b6b1b}.c4{fill:#7a3d9e}.c5{fill:#7a4f00}.c6{fill:#00666b}.c7{fill:#a0266b}@media(prefers-color-scheme:dark){.ground{fill:#161616}.band{fill:#383838}.arrow{stroke:#b8b8b8}.rule{stroke:#888}.ring{fill:#161616;stroke:#ff9d9d}.c0{fill:#f2f2f2}.c1{fill:#8fc1ff}.c2{fill:#ff9d9d}.c3{fill:#8fe08f}.c4{fill:#dcb0ff}.c5{fill:#f0c060}.c6{fill:#6fdfe4}.c7{fill:#ff9ccb}}";
 
 fn style_element(alloc: Global, out: &mut Vec<u8>) -> Result<(), NoMemory>
     ensures { OnOk result (out.new.items ≡ out.old.items ++ element_line (codes "style") [] style_text) }
@@ -362,6 +363,15 @@ fn help_elements(alloc: Global, out: &mut Vec<u8>, helps: &[Help]) -> Result<(),
     Ok(())
 }
 
+fn note_elements(alloc: Global, out: &mut Vec<u8>, legend: &[Note]) -> Result<(), NoMemory>
+    ensures { OnOk result (out.new.items ≡ out.old.items ++ flat_map note_text legend.now) }
+{
+    for note in legend {
+        note_element(alloc, out, note)?;
+    }
+    Ok(())
+}
+
 fn shape_elements(alloc: Global, out: &mut Vec<u8>, shapes: &[Shape]) -> Result<(), NoMemory>
     ensures { OnOk result (out.new.items ≡ out.old.items ++ flat_map shape_text shapes.now) }
 {
@@ -378,6 +388,7 @@ fn inside(alloc: Global, out: &mut Vec<u8>, picture: &Picture) -> Result<(), NoM
     front(alloc, out, picture)?;
     ground(alloc, out)?;
     help_elements(alloc, out, picture.helps.as_slice())?;
+    note_elements(alloc, out, picture.legend.as_slice())?;
     shape_elements(alloc, out, picture.shapes.as_slice())
 }
 

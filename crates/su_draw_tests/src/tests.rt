@@ -1,3 +1,4 @@
+use std::alloc::Global;
 use std::str;
 use std::test::Fail;
 use su_base::NoMemory;
@@ -24,14 +25,90 @@ fn an_explanation_is_drawn_with_its_words_escaped_and_cut(rt: HostRuntime) -> Re
     Ok(())
 }
 
-#[test]
-fn of_kept_rows_there_is_no_arrow(rt: HostRuntime) -> Result<(), Fail> {
-    let Ok(picture) = kept_picture_of(rt.alloc(), FOLDED.as_bytes()) else {
-        return Err(Fail::from(NoMemory));
+/// Three objects in a cycle, and one that hangs on it.
+const CYCLE: &str =
+    "attribute A int;\nattribute B int;\nattribute C int;\nattribute D int;\nrelation R (A int, B int);\nobject AB (A, B) from R (A, B);\nobject BC (B, C) from R (A, B);\nobject CA (C, A) from R (A, B);\nobject CD (C, D) from R (A, B);\n";
+
+/// The same without the third object.
+const CHAIN: &str =
+    "attribute A int;\nattribute B int;\nattribute C int;\nattribute D int;\nrelation R (A int, B int);\nobject AB (A, B) from R (A, B);\nobject BC (B, C) from R (A, B);\nobject CD (C, D) from R (A, B);\n";
+
+/// Texts, whether their kept rows alone are drawn, what the pictures hold, and what they don't.
+const PICTURES: &[(&str, bool, &[&str], &[&str])] = &[
+    (
+        FOLDED,
+        false,
+        &[
+            "<path",
+            ">bold on a ground: ",
+            ">pale: ",
+            ">arrow: ",
+            ">small number: ",
+            ">read from: ",
+        ],
+        &[">dot: ", ">ring: ", ">arrow at the left: "],
+    ),
+    (
+        FOLDED,
+        true,
+        &[">AB</text>", ">bold on a ground: ", ">read from: "],
+        &[
+            "<path",
+            ">AC</text>",
+            ">pale: ",
+            ">arrow: ",
+            ">small number: ",
+        ],
+    ),
+    (
+        CYCLE,
+        false,
+        &[
+            "class=\"ring\"",
+            "r=\"6\" class=\"c0\"",
+            ">dot: ",
+            ">ring: ",
+        ],
+        &[">square: ", ">pale: "],
+    ),
+    (
+        CHAIN,
+        false,
+        &["r=\"6\" class=\"c0\"", ">dot: "],
+        &["class=\"ring\"", ">ring: "],
+    ),
+];
+
+/// Whether the picture holds all of these texts, and none of those.
+fn holds(svg: &[u8], all: &[&str], none: &[&str]) -> bool {
+    let Ok(svg) = str::from_utf8(svg) else {
+        return false;
     };
-    let svg = str::from_utf8(picture.as_slice())?;
-    assert!(rt; svg.find("<path").is_none());
-    assert!(rt; svg.find(">AB</text>").is_some());
-    assert!(rt; svg.find(">AC</text>").is_none());
+    all.iter().all(|text| svg.find(*text).is_some())
+        && none.iter().all(|text| svg.find(*text).is_none())
+}
+
+/// Whether the picture of a text is as it should be.
+fn is_drawn(alloc: Global, text: &str, kept: bool, all: &[&str], none: &[&str]) -> bool {
+    let drawn = if kept {
+        kept_picture_of(alloc, text.as_bytes())
+    } else {
+        picture_of(alloc, text.as_bytes())
+    };
+    match drawn {
+        Ok(svg) => holds(svg.as_slice(), all, none),
+        Err(_) => false,
+    }
+}
+
+#[test]
+fn the_legend_explains_what_is_drawn(rt: HostRuntime) -> Result<(), Fail> {
+    let mut wrong: usize = PICTURES.len();
+    for (i, (text, kept, all, none)) in PICTURES.iter().enumerate() {
+        if !is_drawn(rt.alloc(), text, *kept, all, none) && wrong == PICTURES.len() {
+            wrong = i;
+        }
+    }
+    assert_eq!(rt; wrong, PICTURES.len());
     Ok(())
 }

@@ -30,7 +30,7 @@ use Rattle.su_effects.specs.inside.Statements.{MakesWhere, IsChange, AreNewOf, A
 use Rattle.su_effects.proofs.Unchanged.{refused_same, Asks, asks_same}
 use Rattle.su_effects.proofs.PutRows.{row_put, all_put, put_leads}
 use Rattle.su_effects.proofs.TakenRows.{removed_leads, met_leads}
-use Rattle.su_effects.proofs.Definitions.{defined_leads}
+use Rattle.su_effects.proofs.Definitions.{defined_leads, defined_extends}
 
 abbrev Row : Type 0
 Row = List Value
@@ -42,9 +42,9 @@ nothing_made db new same = (subst (λ (d : DatabaseValue). LeadTo db [] d) (sym 
 
 module _ (db new : DatabaseValue) (text : List ℕ) (file : Option (List ℕ)) (reply : Reply) where
   module _ (accepted : reply.refused ≡ false) where
-    definition_made : (d : ADefinition) → IsRead text (Definition d) → Replied db text file reply new → LeadTo db [] new
+    definition_made : (d : ADefinition) → IsRead text (Definition d) → Replied db text file reply new → Makes Defines db new
     definition_made d read (definition defining (inl (none, refuses))) = absurd (told db new _ reply refuses accepted)
-    definition_made d read (definition defining (inr (other, is, (Ok unit, defines, tells)))) = defined_leads db new other unit defines
+    definition_made d read (definition defining (inr (other, is, (Ok unit, defines, tells)))) = (defined_leads db new other unit defines, defined_extends db new other unit defines)
     definition_made d read (definition defining (inr (other, is, (Err why, defines, refuses)))) = absurd (told db new _ reply refuses accepted)
     definition_made d read (statement other replied) = absurd (other read.0)
 

@@ -3,16 +3,17 @@
 use Rattle.std.specs.Prelude.{◌≡◌, ℕ, true, false, List, [], ◌∷◌, Option}
 use Rattle.su_state.specs.DatabaseValue.{DatabaseValue}
 use Rattle.su_changes.specs.Changes.{LeadTo}
+use Rattle.su_changes.specs.Extensions.{IsExtension}
 use Rattle.su_session.specs.declared.commands.Command.{Command}
 use Rattle.su_session.specs.declared.replies.Reply.{Reply}
 use Rattle.su_session.specs.Commands.{RepliedTo}
 use Rattle.su_effects.specs.declared.effects.Effect.{Effect}
 use Rattle.su_effects.specs.declared.effects.Effect.TheVariants.{Nothing, Defines, Changes}
 
--- what it makes of a database; the schema stays, but for a definition
+-- what it makes of a database; the schema stays, but that a definition is added behind it
 abbrev pub Makes : Effect → DatabaseValue → DatabaseValue → Type 0
 Makes Nothing old new = LeadTo old [] new × (new.schema ≡ old.schema)
-Makes Defines old new = LeadTo old [] new
+Makes Defines old new = LeadTo old [] new × IsExtension old.schema new.schema
 Makes (Changes change) old new = LeadTo old (change ∷ []) new × (new.schema ≡ old.schema)
 
 -- a refused command changes nothing, an accepted one makes this

@@ -1,7 +1,7 @@
 mod EntryOrder
 mod FaultStands
 mod Passing
-mod QuietCalls
+pub mod QuietCalls
 mod RowSoFar
 mod TreeChanged
 mod TreeOfRows

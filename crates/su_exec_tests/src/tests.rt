@@ -3,7 +3,6 @@ ghost use Rattle.std.specs.Bool.{OnTrue};
 ghost use Rattle.su_tableau.specs.declared.symbols.Sym.TheVariants.{Var};
 ghost use Rattle.su_exec.specs.Tasks.{FitsTables, HasSources, IsTask, Occurs};
 
-use crate::plain::{PlainRows, plain_tables};
 use std::alloc::Global;
 use std::marker::Brand;
 use std::process::Abort;
@@ -12,6 +11,7 @@ use std::test::Fail;
 use su_base::{List, Row, Str, Value};
 use su_exec::{Compared, ExecFault, Source, Task, TaskRow, components, execute};
 use su_index::{Table, TableRows};
+use su_plain::{PlainRows, plain_tables};
 use su_tableau::Sym;
 use su_where::Op;
 

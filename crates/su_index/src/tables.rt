@@ -1,5 +1,5 @@
 //! A relation with an index for each column.
-ghost use Rattle.std.specs.Prelude.{◌≡◌, ◌<◌, ◌+◌, ◌↔◌, [], length, Contains, IsTrue, IfOk, IfErr, OnOk, OnErr, slice_get, if◌then◌else◌};
+ghost use Rattle.std.specs.Prelude.{◌≡◌, ◌<◌, ◌+◌, ◌-◌, ◌↔◌, [], length, take, Contains, IsTrue, IfOk, IfErr, OnOk, OnErr, slice_get, if◌then◌else◌};
 ghost use Rattle.std.specs.Bool.{OnFalse};
 ghost use Rattle.std.specs.List.{items_where_true};
 ghost use Rattle.su_rel.specs.Changes.{PutInAll, TakenOut, TellsNew};
@@ -181,6 +181,27 @@ impl Table {
         take_out(self.rows.as_slice(), position as u32, &mut self.indexes);
         let _row = self.rows.remove_at(position);
         true
+    }
+
+    /// Takes the last row out. It takes no memory.
+    fn remove_last(&mut self)
+        requires { 0 < length self.old.rows }
+        ensures width { self.new.width ≡ self.old.width }
+        ensures rows { self.new.rows ≡ take (length self.old.rows - 1) self.old.rows }
+    {
+        let last = self.rows.len() - 1;
+        take_out(self.rows.as_slice(), last as u32, &mut self.indexes);
+        let _row = self.rows.remove_at(last);
+    }
+
+    /// Keeps the first `len` rows, and takes the later ones out one after another. It takes no memory.
+    pub fn truncate(&mut self, len: usize)
+        ensures width { self.new.width ≡ self.old.width }
+        ensures rows { self.new.rows ≡ take len self.old.rows }
+    {
+        while self.rows.len() > len {
+            self.remove_last();
+        }
     }
 
     /// Keeps the rows whose mark is set, in their order; the marks stand by position. One pass over

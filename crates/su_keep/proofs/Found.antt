@@ -1,10 +1,17 @@
 -- What an open finds: rows that are loaded, and what a keeper then stands at.
-use Rattle.std.proofs.Common.{◌≡◌, ◌⊎◌, inl, inr, ⊎_elim, ◌↔◌, ℕ, zero, suc, ◌+◌, ◌<◌, ◌≤◌, Bool, true, false, List, [], ◌∷◌, length, map, get_or, slice_get, unwrap_or, Contains, Option, Some, None, Ok, IsTrue, refl, sym, ap, subst, ◌∙◌, arith}
+use Rattle.std.proofs.Common.{◌≡◌, ◌⊎◌, inl, inr, ⊎_elim, ◌↔◌, ℕ, zero, suc, ◌+◌, ◌<◌, ◌≤◌, Bool, true, false, List, [], ◌∷◌, length, map, get_or, slice_get, unwrap_or, Contains, take, Option, Some, None, Ok, IsTrue, pos, find, if◌then◌else◌, refl, sym, ap, subst, ◌∙◌, arith}
 use Rattle.std.proofs.lemmas.Bool.{cases_eq}
 use Rattle.std.proofs.lemmas.Option.{get_or_from_slice_get, slice_get_within, unwrap_or-slice_get}
-use Rattle.sqlite_trees.specs.Tree.{Trees}
-use Rattle.sqlite_trees.specs.View.{View}
-use Rattle.sqlite_trees.specs.Objects.{version_tree, version_rows}
+use Rattle.std.specs.List.{AllByRecursion}
+use Rattle.std.specs.Ordering.{is_eq}
+use Rattle.std.specs.declared.cmp.Ordering.TheVariants.{Less}
+use Rattle.sqlite_value.specs.Order.{Row as Entry, column, value_cmp}
+use Rattle.sqlite_value.specs.declared.value.Value.TheVariants.{Int}
+use Rattle.sqlite_trees.specs.declared.store.Shape.{Shape}
+use Rattle.sqlite_trees.specs.declared.store.Shape.TheVariants.{Absent, Table, Index, Pageless, FrozenTable, FrozenIndex}
+use Rattle.sqlite_trees.specs.Tree.{Trees, rowid, has_rowid}
+use Rattle.sqlite_trees.specs.View.{View, IsOrdered, IsShaped}
+use Rattle.sqlite_trees.specs.Objects.{catalog_tree, version_tree, version_rows, shape_code, number_in, row_for, IsListed}
 use Rattle.su_base.specs.declared.values.Value.{Value as AValue}
 use Rattle.su_base.specs.declared.values.Column.{Column}
 use Rattle.su_base.proofs.Items.{Contains-nil, Contains-head, Contains-later, Contains-cases}
@@ -20,10 +27,13 @@ use Rattle.su_state.proofs.Inserts.{changes_by_inserts}
 use Rattle.su_entries.specs.Entries.{entry_of}
 use Rattle.su_entries.specs.Reading.{MovesCursors}
 use Rattle.su_entries.specs.TreeRows.{AreEntries}
-use Rattle.su_keep.specs.Shown.{text_entries, Shows, ShowsKept}
+use Rattle.su_keep.specs.Listed.{text_row, rows_to, catalog_of}
+use Rattle.su_keep.specs.Shown.{text_entries, listed_in, AreEmptyPast, Shows, ShowsKept}
 use Rattle.su_keep.specs.Kept.{StandsAt}
 use Rattle.su_keep.specs.inside.Writes.{held_entries}
+use Rattle.su_keep.specs.inside.Stores.{database_in}
 use Rattle.su_keep.specs.inside.Finds.{FillsTable, Fills, FindsKept}
+use Rattle.su_keep.proofs.Written.{numbers_to, numbers_of_front}
 
 one_inserted : (db new : DatabaseValue) (r : ℕ) (row : List AValue) (is_new : Bool) → Inserts db r row (Ok is_new) new → (other : List AValue) → Contains (rows_of new r) other ↔ (Contains (rows_of db r) other ⊎ (other ≡ row))
 one_inserted db new r row true done other = done.1.rows other
@@ -55,6 +65,9 @@ inserted (first ∷ rows) db new r count (between, is_new, more, head, tail, cou
           (Contains-cases first rows row c))
           has),
     )
+
+no_schema : SchemaValue
+no_schema = record { attributes = []; relations = []; objects = []; fds = []; declared = [] }
 
 abbrev blank : Stored
 blank = record { width = 0; rows = [] }
@@ -124,14 +137,45 @@ none_in (cs ∷ columns) (suc r) = none_in columns r
 pub no_rows : (schema : SchemaValue) (db : DatabaseValue) (r : ℕ) → db.tables ≡ empty_tables schema → rows_of db r ≡ []
 no_rows schema db r empty = ap (λ (tables : List Stored). (get_or tables r (record { width = 0; rows = [] })).rows) empty ∙ none_in (relation_columns schema) r
 
-pub finds : (trees : Trees) (db : DatabaseValue) (schema : SchemaValue) (text : List ℕ) → trees 0 ≡ held_entries (Some text) → trees version_tree ≡ version_rows 1 → schema_text schema ≡ text → Reads text (Ok schema) → db.schema ≡ schema → length db.tables ≡ length schema.relations
+pub absent_of_code : (shape : Shape) → shape_code shape ≡ 0 → shape ≡ Absent
+absent_of_code Absent is = refl
+absent_of_code Table is = absurd (omega (arith, is))
+absent_of_code (Index o) is = absurd (omega (arith, is))
+absent_of_code Pageless is = absurd (omega (arith, is))
+absent_of_code FrozenTable is = absurd (omega (arith, is))
+absent_of_code (FrozenIndex o) is = absurd (omega (arith, is))
+
+not_listed : (n : ℕ) (rows : List Entry) → AllByRecursion (λ row. value_cmp (rowid row) (Int (pos n)) ≡ Less) rows → find (has_rowid (pos n)) rows ≡ None
+not_listed n [] all = refl
+not_listed n (row ∷ rows) (here, more) = ap (λ o. if is_eq o then Some row else find (has_rowid (pos n)) rows) here ∙ not_listed n rows more
+
+-- a tree that is not listed has no row
+pub none_past : (schema : SchemaValue) (n : ℕ) (v : View) → IsListed (v.trees catalog_tree) v.shape v.reals → IsOrdered v.shape v.trees → listed_in v.trees ≡ rows_to schema n → AreEmptyPast n v.trees
+none_past schema n v listed ordered is = λ t past low.
+    let numbers = subst (λ (rows : List Entry). AllByRecursion (λ row. value_cmp (rowid row) (Int (pos (t + 1))) ≡ Less) rows) (sym is) (numbers_to schema n (t + 1) (omega (arith, past))) in
+    let none : row_for (v.trees catalog_tree) t ≡ [] = ap (λ (o : Option Entry). unwrap_or o []) (not_listed (t + 1) (v.trees catalog_tree) (numbers_of_front (t + 1) (v.trees catalog_tree) numbers)) in
+    let code : shape_code (v.shape t) ≡ 0 = listed.shapes t (λ e. omega (arith, e, low)) (λ e. omega (arith, e, low)) ∙ ap (λ (row : Entry). number_in (column row 5)) none in
+    subst (λ (s : Shape). IsShaped s (v.trees t)) (absent_of_code (v.shape t) code) (ordered t)
+
+pub finds_none : (v : View) → v.trees 0 ≡ [] → v.trees version_tree ≡ version_rows 0 → listed_in v.trees ≡ text_row ∷ [] → IsListed (v.trees catalog_tree) v.shape v.reals → IsOrdered v.shape v.trees → FindsKept v.trees None
+unfolding rows_to
+finds_none v empty version catalog listed ordered = record {
+  text = empty;
+  version = version;
+  catalog = catalog;
+  others = none_past no_schema 0 v listed ordered catalog;
+}
+
+pub finds : (trees : Trees) (db : DatabaseValue) (schema : SchemaValue) (text : List ℕ) → listed_in trees ≡ catalog_of schema → AreEmptyPast (length schema.relations) trees → trees 0 ≡ held_entries (Some text) → trees version_tree ≡ version_rows 1 → schema_text schema ≡ text → Reads text (Ok schema) → db.schema ≡ schema → length db.tables ≡ length schema.relations
     → ((r : ℕ) → r < length db.tables → AreEntries (trees (r + 1)) (rows_of db r)) → FindsKept trees (Some (db, text))
-finds trees db schema text found version is reads same tables rows =
+finds trees db schema text catalog others found version is reads same tables rows =
     let its : schema_text db.schema ≡ text = ap schema_text same ∙ is in (
       record {
         text = found ∙ ap text_entries (sym its);
         rows = λ r table at. subst (λ (t : Stored). AreEntries (trees (r + 1)) t.rows) (get_or_from_slice_get db.tables r table _ at) (rows r (slice_get_within db.tables r table at));
         version = version;
+        catalog = catalog ∙ ap catalog_of (sym same);
+        others = subst (λ (n : ℕ). AreEmptyPast n trees) (sym tables) others;
       },
       record {
         tables = tables ∙ ap (λ (s : SchemaValue). length s.relations) (sym same);
@@ -140,24 +184,35 @@ finds trees db schema text found version is reads same tables rows =
       sym its,
     )
 
-pub stands_found : (v w : View) (db : DatabaseValue) (text : List ℕ) (relations : ℕ) → MovesCursors v w → FindsKept v.trees (Some (db, text)) → v.trees ≡ v.committed → IsTrue v.is_open → relations ≡ length db.tables → StandsAt w (Some text) relations false (Some db)
-stands_found v w db text relations moves found settled is_open many = record {
+pub stands_found : (v w : View) (db : DatabaseValue) (text : List ℕ) (relations : ℕ) → MovesCursors v w → FindsKept v.trees (Some (db, text)) → v.trees ≡ v.committed → IsTrue v.is_open → v.is_broken ≡ false → relations ≡ length db.tables → StandsAt w (Some text) relations false (Some db)
+stands_found v w db text relations moves found settled is_open sound many = record {
   text = ap Some found.2;
   relations = many;
   fit = refl;
   read = found.1;
   is_open = subst IsTrue (sym (ap (λ (u : View). u.is_open) moves)) is_open;
+  sound = ap (λ (u : View). u.is_broken) moves ∙ sound;
   settled = ap (λ (u : View). u.trees) moves ∙ settled ∙ sym (ap (λ (u : View). u.committed) moves);
   shows = subst (λ (t : Trees). Shows t db) (settled ∙ sym (ap (λ (u : View). u.committed) moves)) found.0;
 }
 
-pub stands_new : (v w : View) → MovesCursors v w → FindsKept v.trees None → v.trees ≡ v.committed → IsTrue v.is_open → StandsAt w None 0 false None
-stands_new v w moves found settled is_open = record {
+pub stands_new : (v w : View) → MovesCursors v w → FindsKept v.trees None → v.trees ≡ v.committed → IsTrue v.is_open → v.is_broken ≡ false → StandsAt w None 0 false None
+stands_new v w moves found settled is_open sound = record {
   text = refl;
   relations = refl;
   fit = refl;
   read = tt;
   is_open = subst IsTrue (sym (ap (λ (u : View). u.is_open) moves)) is_open;
+  sound = ap (λ (u : View). u.is_broken) moves ∙ sound;
   settled = ap (λ (u : View). u.trees) moves ∙ settled ∙ sym (ap (λ (u : View). u.committed) moves);
   shows = subst (λ (t : Trees). ShowsKept t None) (settled ∙ sym (ap (λ (u : View). u.committed) moves)) found;
 }
+
+pub shows_found : (trees : Trees) (found : Option (DatabaseValue × List ℕ)) → FindsKept trees found → ShowsKept trees (database_in found)
+shows_found trees None shows = shows
+shows_found trees (Some found) shows = shows.0
+
+pub one_object : (objects : List Entry) → take 1 objects ≡ text_row ∷ [] → length objects ≡ 1 → objects ≡ text_row ∷ []
+one_object [] first one = absurd (omega (arith, one))
+one_object (row ∷ []) first one = first
+one_object (row ∷ next ∷ rows) first one = absurd (omega (arith, one))

@@ -1,5 +1,8 @@
-mod Quiet
+mod Caused
 mod Written
 mod Followed
+mod NamesBefore
+mod Begun
 mod Found
+mod OpenedFiles
 mod Stood

@@ -1,12 +1,15 @@
 //! Why a file is not opened, and why a change is not kept.
+ghost use Rattle.std.specs.Prelude.{◌≡◌};
+ghost use Rattle.su_keep.specs.declared.faults.KeepFault.TheVariants.{NoMemory as KeepOutOfMemory};
+ghost use Rattle.su_keep.specs.inside.Faults.{keep_fault};
+
 use sqlite_std_file::OpenError as FilesError;
 use sqlite_store::OpenError;
 use sqlite_trees::error::StoreError;
 use std::alloc::{AllocError, Global};
-use su_base::{NoMemory, Str};
+use su_base::{Kind, List, NoMemory, Str};
 use su_ddl::DdlFault;
 use su_entries::ReadFault;
-use su_state::LoadFault;
 
 /// Why a change is not kept. The file holds what it held before the group, or what it would hold after it.
 #[derive(Clone, Copy, Debug)]
@@ -16,8 +19,29 @@ pub enum KeepFault {
     Io,
     /// The disk has no room, or the file has met a limit.
     Full,
-    /// The file is not what was written.
+    /// A row, or the text of the schema, is longer than SQLite's format holds.
+    TooLong,
+    /// The file is not what was written, or an earlier group was not kept.
     Damaged,
+}
+
+/// Why a row of the file is refused.
+#[derive(Drop)]
+pub enum RowFault {
+    /// It has so many values, and not as many as the relation has columns.
+    Width(u64),
+    /// The value of the column is not of this kind.
+    Kind {
+        column: Str,
+        wanted: Kind,
+    },
+    /// With an earlier row, which has this number, it breaks the dependency through the object.
+    Breaks {
+        left: List<Str>,
+        right: List<Str>,
+        object: Str,
+        other: u64,
+    },
 }
 
 /// Why a file is not opened as a database.
@@ -45,11 +69,20 @@ pub enum OpenFault {
     /// The schema's text is refused.
     Schema(DdlFault),
     /// The row with this number, from 1 in the file's order, has a value that is no number and no text of UTF-8.
-    NoRow { relation: Str, number: u64 },
+    NoRow {
+        relation: Str,
+        number: u64,
+    },
     /// The relation has more than 1,000,000 rows.
-    TooMany { relation: Str },
-    /// The row with the fault's number, from 1 in the file's order, is refused.
-    Refused { relation: Str, fault: LoadFault },
+    TooMany {
+        relation: Str,
+    },
+    /// The row with this number, from 1 in the file's order, is refused.
+    Refused {
+        relation: Str,
+        number: u64,
+        why: RowFault,
+    },
 }
 
 impl From<NoMemory> for OpenFault {
@@ -69,31 +102,38 @@ impl From<KeepFault> for OpenFault {
         match fault {
             KeepFault::NoMemory => OpenFault::NoMemory,
             KeepFault::Io => OpenFault::Io,
-            KeepFault::Full => OpenFault::Full,
+            KeepFault::Full | KeepFault::TooLong => OpenFault::Full,
             KeepFault::Damaged => OpenFault::NotADatabase,
         }
     }
 }
 
 impl From<NoMemory> for KeepFault {
+    ghost from_gives = { λ _ fault. fault ≡ KeepOutOfMemory };
+
     fn from(_: NoMemory) -> KeepFault {
         KeepFault::NoMemory
     }
 }
 
 impl From<AllocError> for KeepFault {
+    ghost from_gives = { λ _ fault. fault ≡ KeepOutOfMemory };
+
     fn from(_: AllocError) -> KeepFault {
         KeepFault::NoMemory
     }
 }
 
 impl From<StoreError> for KeepFault {
+    ghost from_gives = { λ error fault. fault ≡ keep_fault error };
+
     fn from(error: StoreError) -> KeepFault {
         match error {
             StoreError::OutOfMemory => KeepFault::NoMemory,
             StoreError::Io => KeepFault::Io,
             StoreError::Full => KeepFault::Full,
-            StoreError::Corrupt | StoreError::Broken | StoreError::Unstorable => KeepFault::Damaged,
+            StoreError::Unstorable => KeepFault::TooLong,
+            StoreError::Corrupt | StoreError::Broken => KeepFault::Damaged,
         }
     }
 }
@@ -118,6 +158,16 @@ pub(crate) fn files_fault(error: FilesError) -> OpenFault {
     }
 }
 
+/// The fault that one of looking at the two files stands for.
+pub(crate) fn wal_fault(error: sqlite_wal::Error) -> OpenFault {
+    match error {
+        sqlite_wal::Error::OutOfMemory => OpenFault::NoMemory,
+        sqlite_wal::Error::Io(_) => OpenFault::Io,
+        sqlite_wal::Error::Full => OpenFault::Full,
+        _ => OpenFault::NotADatabase,
+    }
+}
+
 /// The fault that one of reading the relation's rows stands for.
 pub(crate) fn read_fault(alloc: Global, relation: &str, fault: ReadFault) -> OpenFault {
     let Ok(relation) = Str::new(alloc, relation) else {
@@ -128,43 +178,5 @@ pub(crate) fn read_fault(alloc: Global, relation: &str, fault: ReadFault) -> Ope
         ReadFault::NoMemory => OpenFault::NoMemory,
         ReadFault::NoRow(number) => OpenFault::NoRow { relation, number },
         ReadFault::TooMany => OpenFault::TooMany { relation },
-    }
-}
-
-/// The words that say why, without the file's name.
-pub fn line_of(alloc: Global, fault: &OpenFault) -> Result<String, AllocError> {
-    match fault {
-        OpenFault::NoMemory => String::from_str(alloc, "out of memory"),
-        OpenFault::InUse => String::from_str(alloc, "in use by another process"),
-        OpenFault::Journal => String::from_str(alloc, "has a journal: open it with sqlite3 first"),
-        OpenFault::Io => String::from_str(alloc, "can't be read or made"),
-        OpenFault::Full => String::from_str(alloc, "has no room"),
-        OpenFault::NotADatabase => String::from_str(alloc, "not such a database, or damaged"),
-        OpenFault::Version(version) => format!(in alloc; "user version {version}, not 1"),
-        OpenFault::Foreign(name) => {
-            let name = name.as_str();
-            format!(in alloc; "{name} is not of the schema")
-        }
-        OpenFault::Missing(name) => {
-            let name = name.as_str();
-            format!(in alloc; "no table for the relation {name}")
-        }
-        OpenFault::NoSchema => String::from_str(alloc, "no text of a schema"),
-        OpenFault::Schema(_) => String::from_str(alloc, "the text of the schema is refused"),
-        OpenFault::NoRow { relation, number } => {
-            let relation = relation.as_str();
-            format!(in alloc;
-                "relation {relation}, row {number}: neither numbers nor texts of UTF-8"
-            )
-        }
-        OpenFault::TooMany { relation } => {
-            let relation = relation.as_str();
-            format!(in alloc; "relation {relation}: more than 1000000 rows")
-        }
-        OpenFault::Refused { relation, fault } => {
-            let relation = relation.as_str();
-            let number = fault.number;
-            format!(in alloc; "relation {relation}, row {number}: refused")
-        }
     }
 }

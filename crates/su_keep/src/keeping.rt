@@ -1,6 +1,7 @@
 //! Changes are kept.
-ghost use Rattle.std.specs.Prelude.{◌≡◌, ◌≤◌, [], false, Option as Maybe, Some as SomeOf, OnOk, OnErr, IsTrue};
+ghost use Rattle.std.specs.Prelude.{◌≡◌, ◌⊎◌, ◌≤◌, [], false, Option as Maybe, Some as SomeOf, Err as ErrOf, IfErr, OnOk, OnErr, IsTrue};
 ghost use Rattle.sqlite_trees.specs.View.{doubt, IsClean, Commits, IsRolledBack};
+ghost use Rattle.su_keep.specs.inside.Faults.{HasWriteCause};
 ghost use Rattle.su_keep.specs.inside.Writes.{MayCommit};
 
 use crate::faults::KeepFault;
@@ -45,9 +46,11 @@ fn is_idle(held: &Option<List<u8>>, text: &[u8], changes: &[Change]) -> bool
 }
 
 /// Commits what is written.
-fn commit<S: Alter>(store: &mut S) -> Result<(), KeepFault>
+#[tactic(auto, using(crate::proofs::Caused::cause_of_error))]
+pub(crate) fn commit<S: Alter>(store: &mut S) -> Result<(), KeepFault>
     ensures ok { OnOk result (IsClean (S.Store.view store.new) → Commits (S.Store.view store.old) (S.Store.view store.new)) }
     ensures err { OnErr result (IsRolledBack (S.Store.view store.old) (S.Store.view store.new)) }
+    ensures cause { IfErr result (HasWriteCause S.Store.view S.Store.faults store.old store.new) }
     ensures clean { doubt (S.Store.view store.old).is_clean ≤ doubt (S.Store.view store.new).is_clean }
     ensures crash { MayCommit S.Store.view S.Store.recovers store.old store.new }
 {
@@ -58,7 +61,8 @@ fn commit<S: Alter>(store: &mut S) -> Result<(), KeepFault>
 impl<S: Alter> Keeper<S> {
     ghost use Rattle.su_ddl.specs.Shown.{schema_text};
     ghost use Rattle.su_state.specs.DatabaseValue.{DatabaseValue};
-    ghost use Rattle.su_keep.specs.Kept.{HasCleanDisk, IsAt, Leads, LeavesAtMost, StaysCommitted};
+    ghost use Rattle.su_keep.specs.Causes.{HasKeepCause};
+    ghost use Rattle.su_keep.specs.Kept.{HasCleanDisk, HasMoreFaults, IsAt, LeavesAtMost, MayKeep, StaysCommitted};
 
     /// Whether nothing has been kept in the file yet.
     pub fn is_new(&self) -> bool
@@ -67,16 +71,27 @@ impl<S: Alter> Keeper<S> {
         self.text.is_none()
     }
 
+    /// Whether a group was not kept: the file has to be opened anew.
+    pub fn has_failed(&self) -> bool
+        ensures { result ≡ self.now.has_failed }
+    {
+        self.has_failed
+    }
+
     /// Keeps a group of changes in one commit: after it the file holds the schema of the database, and
     /// the rows that it held with the changes made in their order. A group that changes nothing writes
     /// nothing. After a fault nothing is kept any more: the file holds what it held before, or what it
     /// would hold.
-    #[tactic(auto, using(crate::proofs::Stood::written_shows, crate::proofs::Stood::stands_after, crate::proofs::Stood::stands_still, crate::proofs::Followed::group_numbered))]
+    #[tactic(auto, using(crate::proofs::Caused::cause_within, crate::proofs::Stood::written_shows, crate::proofs::Stood::stands_after, crate::proofs::Stood::stands_still, crate::proofs::Followed::group_numbered))]
     pub fn keep(&mut self, database: &Database, changes: List<Change>) -> Result<(), KeepFault>
-        ensures done { (kept : Maybe DatabaseValue) → IsAt self.old kept → Leads kept changes database.now → OnOk result (HasCleanDisk self.new → IsAt self.new (SomeOf database.now)) }
-        ensures crash { (kept : Maybe DatabaseValue) → IsAt self.old kept → Leads kept changes database.now → HasCleanDisk self.new → LeavesAtMost self.old self.new database.now }
+        ensures done { (kept : Maybe DatabaseValue) → MayKeep self.old kept changes database.now → OnOk result (HasCleanDisk self.new → IsAt self.new (SomeOf database.now)) }
+        ensures crash { (kept : Maybe DatabaseValue) → MayKeep self.old kept changes database.now → HasCleanDisk self.new → LeavesAtMost self.old self.new database.now }
         ensures stays { (kept : Maybe DatabaseValue) → IsAt self.old kept → OnErr result (HasCleanDisk self.new → StaysCommitted self.old self.new) }
         ensures clean { HasCleanDisk self.new → HasCleanDisk self.old }
+        ensures kept { OnOk result (self.new.has_failed ≡ false) }
+        ensures fails { OnErr result (IsTrue self.new.has_failed ⊎ (self.new ≡ self.old)) }
+        ensures shut { IsTrue self.old.has_failed → (result ≡ ErrOf KeepFault.Damaged) × (self.new ≡ self.old) }
+        ensures cause { IfErr result (λ fault. HasCleanDisk self.new → HasKeepCause (HasMoreFaults self.old self.new) fault) }
         ensures idle { self.old.has_failed ≡ false → self.old.text ≡ SomeOf (schema_text database.now.schema) → changes ≡ [] → self.new ≡ self.old }
     {
         if self.has_failed {

@@ -5,16 +5,23 @@
 //! is checked as if it were loaded. Changes are kept by groups, each in one commit.
 #![tactic(auto)]
 
+mod beginning;
+mod closing;
 mod faults;
 mod files;
 mod keeping;
+mod leaving;
+mod lines;
 mod listing;
 mod names;
 mod opening;
 mod reading;
+mod refusing;
 mod writing;
 
-pub use faults::{KeepFault, OpenFault, line_of};
+pub use faults::{KeepFault, OpenFault, RowFault};
 pub use files::open;
 pub use keeping::Keeper;
+pub use leaving::{Leftover, Refusal};
+pub use lines::line_of;
 pub use opening::open_over;

@@ -1,5 +1,5 @@
 //! What a file holds is read and checked.
-ghost use Rattle.std.specs.Prelude.{◌≡◌, ◌<◌, ℕ, ◌+◌, [], length, map, Ok as OkOf, OnOk, IfOk, IsTrue};
+ghost use Rattle.std.specs.Prelude.{◌≡◌, ◌<◌, ℕ, ◌+◌, true, false, [], ◌∷◌, length, map, take, Ok as OkOf, OnOk, IfOk, IsTrue};
 ghost use Rattle.sqlite_trees.specs.View.{IsClean, IsQuiet};
 ghost use Rattle.su_ddl.specs.Files.{Reads};
 ghost use Rattle.su_ddl.specs.Shown.{schema_text};
@@ -7,12 +7,13 @@ ghost use Rattle.su_state.specs.DatabaseValue.{rows_of};
 ghost use Rattle.su_entries.specs.Entries.{entry_of};
 ghost use Rattle.su_entries.specs.TreeRows.{AreEntries};
 ghost use Rattle.su_entries.specs.Reading.{MovesCursors};
+ghost use Rattle.su_keep.specs.Listed.{catalog_of, text_row};
 ghost use Rattle.su_keep.specs.inside.Writes.{held_entries};
 ghost use Rattle.su_keep.specs.inside.Finds.{FillsTable, FindsKept, HoldsRows};
 
 use crate::faults::{KeepFault, OpenFault, read_fault};
-use crate::listing::table_of;
-use crate::names::TEXT_TABLE;
+use crate::listing::{is_row_of, is_text_row};
+use crate::refusing::{MOST_ROWS, row_fault};
 use crate::writing::{VERSION, is_set};
 use sqlite_trees::store::{Alter, Store};
 use sqlite_value::row::Row as Entry;
@@ -22,9 +23,6 @@ use su_base::{List, Row, Str, Value};
 use su_entries::{ReadFault, read_rows};
 use su_schema::Schema;
 use su_state::{Database, LoadEnd};
-
-/// The most rows that a relation has.
-const MOST_ROWS: u64 = 1_000_000;
 
 /// The text that is the one value of the one row, where there is a row.
 fn text_in(alloc: Global, rows: &[Row]) -> Result<Option<List<u8>>, OpenFault>
@@ -93,12 +91,6 @@ fn read_schema(alloc: Global, text: &[u8]) -> Result<Schema, OpenFault>
     Err(OpenFault::NoSchema)
 }
 
-/// Whether the row of the list has this name and this statement.
-fn is_listed_as(row: &Entry, name: &str, statement: &str) -> bool {
-    matches!(row.get(2), ValueRef::Text(found) if found == name.as_bytes())
-        && matches!(row.get(4), ValueRef::Text(found) if found == statement.as_bytes())
-}
-
 /// That the table of the relation is missing.
 fn missing(alloc: Global, schema: &Schema, r: u8) -> OpenFault
     requires { r < length schema.now.relations }
@@ -109,15 +101,18 @@ fn missing(alloc: Global, schema: &Schema, r: u8) -> OpenFault
     }
 }
 
-/// The tables are those of the schema, in its order.
-fn check_tables(alloc: Global, objects: &[Entry], schema: &Schema) -> Result<(), OpenFault> {
+/// Behind the table of the text the tables are those of the schema, in its order.
+#[tactic(auto, using(crate::proofs::Written::first_row))]
+fn check_tables(alloc: Global, objects: &[Entry], schema: &Schema) -> Result<(), OpenFault>
+    requires { take 1 objects.now ≡ text_row ∷ [] }
+    ensures { OnOk result (objects.now ≡ catalog_of schema.now) }
+{
     schema.keeps_its_rules();
     for r in 0..schema.relations() as u8 {
-        let wanted = table_of(alloc, schema, r)?;
         let Some(row) = objects.get(r as usize + 1) else {
             return Err(missing(alloc, schema, r));
         };
-        if !is_listed_as(row, wanted.name.as_str(), wanted.statement.as_str()) {
+        if !is_row_of(alloc, row, schema, r)? {
             return Err(missing(alloc, schema, r));
         }
     }
@@ -139,14 +134,6 @@ pub(crate) fn foreign(alloc: Global, row: &Entry) -> OpenFault {
     match Str::new(alloc, name) {
         Ok(name) => OpenFault::Foreign(name),
         Err(_) => OpenFault::NoMemory,
-    }
-}
-
-/// The fault that the end of the relation's load stands for.
-fn load_fault(relation: Str, end: LoadEnd) -> OpenFault {
-    match end {
-        LoadEnd::NoMemory => OpenFault::NoMemory,
-        LoadEnd::Refused(fault) => OpenFault::Refused { relation, fault },
     }
 }
 
@@ -172,14 +159,17 @@ fn fill_table<S: Store>(
     match read_rows(alloc, store, tree, MOST_ROWS) {
         Ok(rows) => match database.load(r, rows) {
             Ok(_) => Ok(()),
-            Err(end) => Err(load_fault(name, end)),
+            Err(LoadEnd::NoMemory) => Err(OpenFault::NoMemory),
+            Err(LoadEnd::Refused(fault)) => {
+                Err(row_fault(alloc, store, database.schema(), r, fault))
+            }
         },
         Err(fault) => Err(read_fault(alloc, name.as_str(), fault)),
     }
 }
 
 /// The rows of the relations are put into the database, which has none.
-#[tactic(auto, using(crate::proofs::Found::fills_none, crate::proofs::Found::fills_more, crate::proofs::Found::fills_rows, crate::proofs::Found::moves_none, crate::proofs::Found::moves_then, crate::proofs::Quiet::quiet_then))]
+#[tactic(auto, using(crate::proofs::Found::fills_none, crate::proofs::Found::fills_more, crate::proofs::Found::fills_rows, crate::proofs::Found::moves_none, crate::proofs::Found::moves_then, su_entries::proofs::QuietCalls::quiet_then))]
 fn fill<S: Store>(alloc: Global, store: &mut S, database: &mut Database) -> Result<(), OpenFault>
     requires empty { (r : ℕ) → rows_of database.old r ≡ [] }
     ensures done { OnOk result (IsClean (S.Store.view store.new) → HoldsRows (length database.old.schema.relations) (S.Store.view store.old).trees database.new) }
@@ -210,28 +200,30 @@ fn filled<S: Alter>(alloc: Global, store: &mut S, schema: Schema) -> Result<Data
 }
 
 /// Whether the first object is the table of the text.
-fn is_ours(objects: &[Entry]) -> bool {
+fn is_ours(alloc: Global, objects: &[Entry]) -> Result<bool, OpenFault>
+    ensures { IfOk result (λ ours. ours ≡ true → take 1 objects.now ≡ text_row ∷ []) }
+{
     match objects {
-        [first, ..] =>
-            matches!(first.get(2), ValueRef::Text(name) if name == TEXT_TABLE.as_bytes()),
-        [] => false,
+        [first, ..] => Ok(is_text_row(alloc, first)?),
+        [] => Ok(false),
     }
 }
 
 /// The database that the store holds, with the text of its schema; none where nothing has been kept
 /// in it yet.
-#[tactic(auto, using(crate::proofs::Found::finds, crate::proofs::Found::moves_then, crate::proofs::Quiet::quiet_then))]
+#[tactic(auto, using(crate::proofs::Found::finds, crate::proofs::Found::moves_then, su_entries::proofs::QuietCalls::quiet_then))]
 pub(crate) fn read_database<S: Alter>(
     alloc: Global,
     store: &mut S,
 ) -> Result<Option<(Database, List<u8>)>, OpenFault>
     requires is_open { IsClean (S.Store.view store.old) → IsTrue (S.Store.view store.old).is_open }
+    requires sound { IsClean (S.Store.view store.old) → (S.Store.view store.old).is_broken ≡ false }
     ensures found { IfOk result (λ found. IsClean (S.Store.view store.new) → FindsKept (S.Store.view store.old).trees found) }
     ensures same { OnOk result (IsClean (S.Store.view store.new) → MovesCursors (S.Store.view store.old) (S.Store.view store.new)) }
     ensures quiet { IsQuiet S.Store.view S.Store.faults S.Store.recovers S.Store.is_shielded store.old store.new }
 {
     let objects = store.objects(alloc)?;
-    if !is_ours(objects.as_slice()) {
+    if !is_ours(alloc, objects.as_slice())? {
         return Err(match objects.as_slice() {
             [first, ..] => foreign(alloc, first),
             [] => OpenFault::NotADatabase,

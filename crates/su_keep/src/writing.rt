@@ -1,11 +1,12 @@
 //! What a group writes into the store, before it is committed.
-ghost use Rattle.std.specs.Prelude.{◌≡◌, ◌≢◌, ◌<◌, false, [], ◌∷◌, length, OnOk, IfOk, IsTrue};
+ghost use Rattle.std.specs.Prelude.{◌≡◌, ◌≢◌, ◌<◌, false, [], ◌∷◌, length, OnOk, IfErr, IfOk, IsTrue};
 ghost use Rattle.sqlite_value.specs.declared.value.Value.TheVariants as entry_value;
 ghost use Rattle.sqlite_value.specs.Keys.{plain};
 ghost use Rattle.sqlite_value.specs.Order.{column};
 ghost use Rattle.sqlite_trees.specs.Tree.{IsIndexShape, order_of, insert_entry, remove_entry};
 ghost use Rattle.sqlite_trees.specs.Objects.{catalog_tree};
 ghost use Rattle.sqlite_trees.specs.View.{IsClean, IsQuiet};
+ghost use Rattle.su_keep.specs.inside.Faults.{HasWriteCause};
 ghost use Rattle.su_keep.specs.inside.Writes.{MakesTable, MakesTables, Edits, WritesText, WritesTable, WritesTables, WritesAll, AreUnnamed};
 
 use crate::faults::KeepFault;
@@ -35,7 +36,7 @@ pub(crate) fn is_set<S: Store>(store: &S, tree: u32) -> bool
 }
 
 /// Whether no tree has the number.
-fn is_absent<S: Store>(store: &S, tree: u32) -> bool
+pub(crate) fn is_absent<S: Store>(store: &S, tree: u32) -> bool
     ensures { IsTrue result → (S.Store.view store.now).shape tree ≡ Shape.Absent }
 {
     matches!(store.shape(tree), Shape::Absent)
@@ -73,7 +74,7 @@ fn is_taken<S: Alter>(alloc: Global, store: &S, name: &str) -> Result<bool, Allo
 }
 
 /// Makes the table of the relation, where its number and its name are free.
-#[tactic(auto, using(crate::proofs::Written::creates))]
+#[tactic(auto, using(crate::proofs::Caused::cause_of_error))]
 fn make_table<S: Alter>(
     alloc: Global,
     store: &mut S,
@@ -82,7 +83,8 @@ fn make_table<S: Alter>(
 ) -> Result<(), KeepFault>
     requires relation { r < length schema.now.relations }
     requires numbered { IsClean (S.Store.view store.old) → IsTrue (S.Store.view store.old).is_numbered }
-    ensures done { OnOk result (IsClean (S.Store.view store.new) → MakesTable r (S.Store.view store.old) (S.Store.view store.new)) }
+    ensures done { OnOk result (IsClean (S.Store.view store.new) → MakesTable schema.now r (S.Store.view store.old) (S.Store.view store.new)) }
+    ensures cause { IfErr result (HasWriteCause S.Store.view S.Store.faults store.old store.new) }
     ensures quiet { IsQuiet S.Store.view S.Store.faults S.Store.recovers S.Store.is_shielded store.old store.new }
 {
     let made = table_of(alloc, schema, r)?;
@@ -99,7 +101,7 @@ fn make_table<S: Alter>(
 }
 
 /// Makes the table of each relation from this number on.
-#[tactic(auto, using(crate::proofs::Written::tables_none, crate::proofs::Written::tables_more, crate::proofs::Written::tables_until))]
+#[tactic(auto, using(crate::proofs::Caused::cause_within, crate::proofs::Written::tables_none, crate::proofs::Written::tables_more, crate::proofs::Written::tables_until))]
 fn make_tables<S: Alter>(
     alloc: Global,
     store: &mut S,
@@ -107,7 +109,8 @@ fn make_tables<S: Alter>(
     first: u8,
 ) -> Result<(), KeepFault>
     requires numbered { IsClean (S.Store.view store.old) → IsTrue (S.Store.view store.old).is_numbered }
-    ensures done { OnOk result (IsClean (S.Store.view store.new) → MakesTables first (length schema.now.relations) (S.Store.view store.old) (S.Store.view store.new)) }
+    ensures done { OnOk result (IsClean (S.Store.view store.new) → MakesTables schema.now first (length schema.now.relations) (S.Store.view store.old) (S.Store.view store.new)) }
+    ensures cause { IfErr result (HasWriteCause S.Store.view S.Store.faults store.old store.new) }
     ensures quiet { IsQuiet S.Store.view S.Store.faults S.Store.recovers S.Store.is_shielded store.old store.new }
 {
     schema.keeps_its_rules();
@@ -118,9 +121,10 @@ fn make_tables<S: Alter>(
 }
 
 /// Puts the text into its table.
-#[tactic(auto, using(crate::proofs::Written::edits))]
+#[tactic(auto, using(crate::proofs::Caused::cause_of_error, crate::proofs::Written::edits))]
 fn put_text<S: Alter>(store: &mut S, text: &[u8], entry: &mut Entry) -> Result<(), KeepFault>
     ensures done { OnOk result (IsClean (S.Store.view store.new) → Edits 0 (S.Store.view store.old) (S.Store.view store.new) (insert_entry plain (entry_value.Text text.now ∷ []))) }
+    ensures cause { IfErr result (HasWriteCause S.Store.view S.Store.faults store.old store.new) }
     ensures quiet { IsQuiet S.Store.view S.Store.faults S.Store.recovers S.Store.is_shielded store.old store.new }
 {
     if !is_set(store, 0) {
@@ -133,9 +137,10 @@ fn put_text<S: Alter>(store: &mut S, text: &[u8], entry: &mut Entry) -> Result<(
 }
 
 /// Takes the text out of its table.
-#[tactic(auto, using(crate::proofs::Written::edits))]
+#[tactic(auto, using(crate::proofs::Caused::cause_of_error, crate::proofs::Written::edits))]
 fn take_text<S: Alter>(store: &mut S, text: &[u8], entry: &mut Entry) -> Result<(), KeepFault>
     ensures done { OnOk result (IsClean (S.Store.view store.new) → Edits 0 (S.Store.view store.old) (S.Store.view store.new) (remove_entry plain (entry_value.Text text.now ∷ []))) }
+    ensures cause { IfErr result (HasWriteCause S.Store.view S.Store.faults store.old store.new) }
     ensures quiet { IsQuiet S.Store.view S.Store.faults S.Store.recovers S.Store.is_shielded store.old store.new }
 {
     if !is_set(store, 0) {
@@ -148,7 +153,7 @@ fn take_text<S: Alter>(store: &mut S, text: &[u8], entry: &mut Entry) -> Result<
 }
 
 /// Writes the text in the place of the one that is held; a first one brings the version.
-#[tactic(auto, using(crate::proofs::Written::edits, crate::proofs::Written::first_text, crate::proofs::Written::other_text, crate::proofs::Written::same_text))]
+#[tactic(auto, using(crate::proofs::Caused::cause_of_error, crate::proofs::Caused::cause_within, crate::proofs::Written::edits, crate::proofs::Written::first_text, crate::proofs::Written::other_text, crate::proofs::Written::same_text))]
 fn write_text<S: Alter>(
     store: &mut S,
     held: &Option<List<u8>>,
@@ -156,6 +161,7 @@ fn write_text<S: Alter>(
     entry: &mut Entry,
 ) -> Result<(), KeepFault>
     ensures done { OnOk result (IsClean (S.Store.view store.new) → WritesText held.now text.now (S.Store.view store.old) (S.Store.view store.new)) }
+    ensures cause { IfErr result (HasWriteCause S.Store.view S.Store.faults store.old store.new) }
     ensures quiet { IsQuiet S.Store.view S.Store.faults S.Store.recovers S.Store.is_shielded store.old store.new }
 {
     match held {
@@ -172,9 +178,10 @@ fn write_text<S: Alter>(
 
 /// Puts the rows of the change into their table, or takes them out. They go ascending, so that pages
 /// are filled one after another.
-#[tactic(auto, using(crate::proofs::Written::puts, crate::proofs::Written::takes))]
+#[tactic(auto, using(crate::proofs::Caused::cause_of_error, crate::proofs::Written::puts, crate::proofs::Written::takes))]
 fn write_change<S: Alter>(store: &mut S, change: Change, entry: &mut Entry) -> Result<(), KeepFault>
     ensures done { OnOk result (IsClean (S.Store.view store.new) → WritesTable change (S.Store.view store.old) (S.Store.view store.new)) }
+    ensures cause { IfErr result (HasWriteCause S.Store.view S.Store.faults store.old store.new) }
     ensures quiet { IsQuiet S.Store.view S.Store.faults S.Store.recovers S.Store.is_shielded store.old store.new }
 {
     let tree = u32::from(change.relation) + 1;
@@ -193,13 +200,14 @@ fn write_change<S: Alter>(store: &mut S, change: Change, entry: &mut Entry) -> R
 }
 
 /// Makes the changes one after another.
-#[tactic(auto, using(crate::proofs::Written::changes_none, crate::proofs::Written::changes_more))]
+#[tactic(auto, using(crate::proofs::Caused::cause_within, crate::proofs::Written::changes_none, crate::proofs::Written::changes_more))]
 fn write_changes<S: Alter>(
     store: &mut S,
     changes: List<Change>,
     entry: &mut Entry,
 ) -> Result<(), KeepFault>
     ensures done { OnOk result (IsClean (S.Store.view store.new) → WritesTables changes (S.Store.view store.old) (S.Store.view store.new)) }
+    ensures cause { IfErr result (HasWriteCause S.Store.view S.Store.faults store.old store.new) }
     ensures quiet { IsQuiet S.Store.view S.Store.faults S.Store.recovers S.Store.is_shielded store.old store.new }
 {
     for change in changes.into_vec() {
@@ -209,6 +217,7 @@ fn write_changes<S: Alter>(
 }
 
 /// Makes the tables of the relations from this number on, replaces the text and makes the changes.
+#[tactic(auto, using(crate::proofs::Caused::cause_within))]
 pub(crate) fn write_group<S: Alter>(
     alloc: Global,
     store: &mut S,
@@ -221,6 +230,7 @@ pub(crate) fn write_group<S: Alter>(
 ) -> Result<(), KeepFault>
     requires numbered { IsClean (S.Store.view store.old) → IsTrue (S.Store.view store.old).is_numbered }
     ensures done { OnOk result (IsClean (S.Store.view store.new) → WritesAll first schema.now held.now text.now changes (S.Store.view store.old) (S.Store.view store.new)) }
+    ensures cause { IfErr result (HasWriteCause S.Store.view S.Store.faults store.old store.new) }
     ensures quiet { IsQuiet S.Store.view S.Store.faults S.Store.recovers S.Store.is_shielded store.old store.new }
 {
     make_tables(alloc, store, schema, first)?;

@@ -166,18 +166,21 @@ fn after_crash(alloc: Global, mut files: Files<Fuse<Memory>>) -> Option<String> 
 }
 
 /// With the disk failing after so many calls of each file: how many groups were kept, and what a
-/// crash then leaves. None where the file could not be made at all.
+/// crash then leaves. The file is copied whole behind the last group; an open that fails hands back
+/// what is left.
 fn crashed(alloc: Global, calls: u64) -> Option<(usize, String)> {
     let files = fused(alloc, calls);
     if !files.may_be_used() {
         return None;
     }
-    let Ok((mut keeper, _found)) = open_over(alloc, files, 7) else {
-        return None;
-    };
-    let kept = carry_out(alloc, &mut keeper)?;
-    let left = after_crash(alloc, keeper.into_files())?;
-    Some((kept, left))
+    match open_over(alloc, files, 7) {
+        Ok((mut keeper, _found)) => {
+            let kept = carry_out(alloc, &mut keeper)?;
+            let _ = keeper.checkpoint();
+            Some((kept, after_crash(alloc, keeper.into_files())?))
+        }
+        Err(refusal) => Some((0, after_crash(alloc, refusal.left.into_files())?)),
+    }
 }
 
 /// Whether the text is the state after these groups, or after one more.
@@ -204,14 +207,42 @@ fn a_crash_leaves_the_state_before_or_after(rt: HostRuntime) -> Result<(), Fail>
     let states = states(alloc).ok_or("the states")?;
     let mut reached = 0;
     for calls in &CALLS {
-        if let Some((kept, left)) = crashed(alloc, *calls) {
-            assert!(&rt;
-                is_before_or_after(states.as_slice(), kept, left.as_str()),
-                "{calls} {kept} {left}"
-            );
-            reached = kept;
-        }
+        let (kept, left) = crashed(alloc, *calls).ok_or("a crash")?;
+        assert!(&rt;
+            is_before_or_after(states.as_slice(), kept, left.as_str()),
+            "{calls} {kept} {left}"
+        );
+        reached = kept;
     }
     assert_eq!(&rt; reached, 11);
+    Ok(())
+}
+
+/// What the file alone holds once it was copied whole: that an empty log stands beside it.
+fn copied(alloc: Global) -> Option<String> {
+    let files = fused(alloc, u64::MAX);
+    if !files.may_be_used() {
+        return None;
+    }
+    let Ok((mut keeper, _found)) = open_over(alloc, files, 7) else {
+        return None;
+    };
+    carry_out(alloc, &mut keeper)?;
+    keeper.checkpoint().ok()?;
+    let Files { log: _, db } = keeper.into_files();
+    let log = Fuse::new(Memory::new(alloc), u64::MAX);
+    after_crash(alloc, Files { log, db })
+}
+
+/// A file that was copied whole stands alone.
+#[test]
+fn a_file_that_is_copied_whole_stands_alone(rt: HostRuntime) -> Result<(), Fail> {
+    let alloc = rt.alloc();
+    let states = states(alloc).ok_or("the states")?;
+    let left = copied(alloc).ok_or("a copy")?;
+    assert!(&rt;
+        is_before_or_after(states.as_slice(), SCRIPT.len() + 1, left.as_str()),
+        "{left}"
+    );
     Ok(())
 }

@@ -28,6 +28,7 @@ impl Session {
         };
         let maximal = maximal_objects(self.alloc, &schema)?;
         let room = Room::new(self.alloc)?;
+        self.representative = None;
         match self.db.adopt(definition, schema) {
             Ok(()) => {
                 self.maximal = maximal;

@@ -22,12 +22,16 @@ use su_query::{Query, Statement};
 use su_schema::Schema;
 use su_show::Refusal;
 use su_state::Database;
+use su_window::Representative;
 
-/// A database with the maximal objects of its schema.
+/// A database with the maximal objects of its schema, and its representative instance from the first
+/// window that is shown until the next change.
 pub struct Session {
     pub(crate) alloc: Global,
     pub(crate) db: Database,
     pub(crate) maximal: List<ObjSet>,
+    /// Of the database as it is, if a window was asked for since it changed.
+    pub(crate) representative: Option<Representative>,
 }
 
 /// Not derived, so that it is a single call wherever a session goes out of scope above.
@@ -37,6 +41,7 @@ impl Drop for Session {
             alloc: _,
             db: _,
             maximal: _,
+            representative: _,
         } = self;
     }
 }
@@ -50,6 +55,8 @@ impl Model for Session {
     ghost use Rattle.su_state.specs.contracts.databases.Database as databases;
     ghost use Rattle.su_state.specs.DatabaseValue.{DatabaseValue};
     ghost use Rattle.su_maxobj.specs.MaximalObjects.{AreMaximalObjects};
+    ghost use Rattle.su_window.specs.Representative.{Represents};
+    ghost use Rattle.std.specs.Prelude.{IfSome};
 
     ghost Value = { DatabaseValue };
 
@@ -57,7 +64,7 @@ impl Model for Session {
 
     ghost view = { λ s. s.db };
 
-    ghost invariant = { λ s. AreMaximalObjects s.db.schema s.maximal };
+    ghost invariant = { λ s. AreMaximalObjects s.db.schema s.maximal × IfSome s.representative (Represents s.db) };
 }
 
 /// The content of a file; nothing without one.
@@ -90,7 +97,12 @@ impl Session {
     {
         let maximal = maximal_objects(alloc, &schema)?;
         let db = Database::new(alloc, schema)?;
-        Ok(Session { alloc, db, maximal })
+        Ok(Session {
+            alloc,
+            db,
+            maximal,
+            representative: None,
+        })
     }
 
     /// A session on a database as it is, with the rows that it has.
@@ -98,7 +110,12 @@ impl Session {
         ensures { IfOk result (λ session. session ≡ db) }
     {
         let maximal = maximal_objects(alloc, db.schema())?;
-        Ok(Session { alloc, db, maximal })
+        Ok(Session {
+            alloc,
+            db,
+            maximal,
+            representative: None,
+        })
     }
 
     /// The database as the accepted statements left it.
@@ -190,13 +207,21 @@ impl Session {
         match &mut statement {
             Statement::Insert { relation, row } => {
                 let row = replace(row, List::new(self.alloc));
+                self.representative = None;
                 insert(self.alloc, &mut self.db, relation, row)
             }
-            Statement::Delete { relation, row } => delete(self.alloc, &mut self.db, relation, row),
+            Statement::Delete { relation, row } => {
+                self.representative = None;
+                delete(self.alloc, &mut self.db, relation, row)
+            }
             Statement::DeleteWhere { relation, cond } => {
+                self.representative = None;
                 delete_where(self.alloc, &mut self.db, relation, cond)
             }
-            Statement::Load { relation, .. } => load(self.alloc, &mut self.db, relation, file),
+            Statement::Load { relation, .. } => {
+                self.representative = None;
+                load(self.alloc, &mut self.db, relation, file)
+            }
             Statement::Print { relation } => print(self.alloc, &self.db, relation),
             Statement::Schema => show_schema(self.alloc, &self.db, self.maximal.as_slice()),
             Statement::Closure { attributes } => {
@@ -210,7 +235,8 @@ impl Session {
                 compare(self.alloc, &self.db, self.maximal.as_slice(), first, second)
             }
             Statement::Window { attributes } => {
-                show_window(self.alloc, &self.db, attributes.as_slice())
+                let kept = &mut self.representative;
+                show_window(self.alloc, &self.db, kept, attributes.as_slice())
             }
         }
     }

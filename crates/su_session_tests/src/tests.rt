@@ -39,6 +39,11 @@ const STEPS: &[(&str, &str)] = &[
     ),
     ("closure (A)", "closure A B\n  by A -> B\n"),
     ("window (B, A)", "rows 2\nB,A\n1,1\n3,2\n"),
+    ("window (A)", "rows 2\nA\n1\n2\n"),
+    ("insert P (3, 3)", "inserted 1\n"),
+    ("window (A)", "rows 3\nA\n1\n2\n3\n"),
+    ("delete P (3, 3)", "deleted 1\n"),
+    ("window (B)", "rows 2\nB\n1\n3\n"),
     (
         "compare (retrieve (A)) with (retrieve (T))",
         "refused: outputs differ\n",

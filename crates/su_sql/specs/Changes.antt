@@ -8,8 +8,8 @@ use Rattle.su_base.specs.declared.values.Value.TheVariants.{Int}
 use Rattle.su_schema.specs.SchemaValue.{SchemaValue}
 use Rattle.su_schema.specs.Known.{columns_at}
 use Rattle.su_sql.specs.declared.dialects.Dialect.{Dialect}
-use Rattle.su_sql.specs.Names.{led, name_text, column_kind, relation_text, column_text}
-use Rattle.su_sql.specs.Texts.{value_text, collation, kind_text}
+use Rattle.su_sql.specs.Names.{led, name_text, relation_text, column_text}
+use Rattle.su_sql.specs.Texts.{value_text, kind_text}
 use Rattle.su_sql.specs.Queries.{order_text}
 
 -- ---- definitions
@@ -40,11 +40,7 @@ abbrev pub delete_text : Dialect → SchemaValue → ℕ → List Value → List
 delete_text d schema r row = codes "delete from " ++ relation_text d schema r ++ is_row_text d schema r row ++ codes ";\n"
 
 -- ---- rows that are shown
--- a column, ordered by its bytes, under its own name
-abbrev pub shown_column : Dialect → SchemaValue → ℕ → ℕ → List ℕ
-shown_column d schema r c = column_text d schema r c ++ collation d (column_kind schema r c) ++ codes " as " ++ column_text d schema r c
-
 -- all rows of the relation, ascending, each once
 abbrev pub print_text : Dialect → SchemaValue → ℕ → List ℕ
 print_text d schema r =
-    led (codes "select distinct ") (codes ", ") (map (shown_column d schema r) (range_with_len 0 (length (columns_at schema r)))) ++ codes "\nfrom " ++ relation_text d schema r ++ order_text (length (columns_at schema r)) ++ codes ";\n"
+    led (codes "select distinct ") (codes ", ") (map (column_text d schema r) (range_with_len 0 (length (columns_at schema r)))) ++ codes "\nfrom " ++ relation_text d schema r ++ order_text (length (columns_at schema r)) ++ codes ";\n"

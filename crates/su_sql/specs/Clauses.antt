@@ -12,7 +12,7 @@ use Rattle.su_sql.specs.declared.tables.Comparison.{Comparison}
 use Rattle.su_sql.specs.declared.tables.Select.{Select}
 use Rattle.su_sql.specs.Names.{name_text}
 use Rattle.su_sql.specs.Texts.{value_text, operator_text}
-use Rattle.su_sql.specs.Operands.{place_text, operand_text, ordered_text}
+use Rattle.su_sql.specs.Operands.{place_text, operand_text, ordered_text, right_text}
 
 -- ---- conditions
 -- two places have one value
@@ -25,7 +25,7 @@ fixed_text d schema tables fixed = place_text d schema tables fixed.place ++ cod
 
 -- a comparison of operands, by their bytes
 abbrev pub comparison_text : Dialect → SchemaValue → List Table → Comparison → List ℕ
-comparison_text d schema tables c = operand_text d schema tables c.left ++ operator_text c.op ++ ordered_text d schema tables c.right
+comparison_text d schema tables c = operand_text d schema tables c.left ++ operator_text c.op ++ right_text d schema tables c.left c.right
 
 -- the joins, the fixed values and the comparisons
 abbrev pub conditions_of : Dialect → SchemaValue → Select → List (List ℕ)

@@ -1,12 +1,9 @@
 -- Names as SQL, in the quotes of each engine.
 -- quote: the byte before and behind a name
-use Rattle.std.specs.Prelude.{ℕ, List, [], ◌∷◌, ◌++◌, map, get_or, codes}
+use Rattle.std.specs.Prelude.{ℕ, List, [], ◌∷◌, ◌++◌, codes}
 use Rattle.std.specs.List.{join_by}
-use Rattle.su_base.specs.declared.values.Kind.{Kind}
-use Rattle.su_base.specs.declared.values.Kind.TheVariants as kind
 use Rattle.su_schema.specs.SchemaValue.{SchemaValue}
 use Rattle.su_schema.specs.Entries.{relation_names}
-use Rattle.su_schema.specs.Known.{columns_at}
 use Rattle.su_ddl.specs.ShownDefinitions.{name_at}
 use Rattle.su_show.specs.RowCauses.{column_name}
 use Rattle.su_sql.specs.declared.dialects.Dialect.{Dialect}
@@ -30,10 +27,6 @@ name_text d name = quote_of d ++ name ++ quote_of d
 -- the name of relation r
 abbrev pub relation_name : SchemaValue → ℕ → List ℕ
 relation_name schema r = name_at (relation_names schema) r
-
--- the kind of column c of relation r
-abbrev pub column_kind : SchemaValue → ℕ → ℕ → Kind
-column_kind schema r c = get_or (map (λ column. column.kind) (columns_at schema r)) c kind.Int
 
 -- relation r in quotes
 abbrev pub relation_text : Dialect → SchemaValue → ℕ → List ℕ

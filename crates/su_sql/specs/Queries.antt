@@ -1,6 +1,6 @@
 -- The text of selects, and of their union in order.
 -- condition: a join, a fixed value or a comparison, as SQL has it
-use Rattle.std.specs.Prelude.{ℕ, ◌+◌, List, [], ◌++◌, map, length, codes, decimal}
+use Rattle.std.specs.Prelude.{ℕ, ◌+◌, List, [], ◌∷◌, ◌++◌, map, length, codes, decimal}
 use Rattle.std.specs.List.{range_with_len}
 use Rattle.su_schema.specs.SchemaValue.{SchemaValue}
 use Rattle.su_sql.specs.declared.dialects.Dialect.{Dialect}
@@ -18,10 +18,10 @@ outputs_of d schema header s = map (output_text d schema header s) (range_with_l
 abbrev pub tables_of : Dialect → SchemaValue → List Table → List (List ℕ)
 tables_of d schema tables = map (table_text d schema tables) (range_with_len 0 (length tables))
 
--- the select: outputs, tables and conditions
-abbrev pub select_text : Dialect → SchemaValue → List (List ℕ) → Select → List ℕ
-select_text d schema header s =
-    led (codes "select distinct ") (codes ", ") (outputs_of d schema header s) ++ led (codes "\nfrom ") (codes ", ") (tables_of d schema s.tables) ++ led (codes "\nwhere ") (codes " and ") (conditions_of d schema s)
+-- the select: outputs behind the word, tables and conditions
+abbrev pub select_text : Dialect → SchemaValue → List (List ℕ) → List ℕ → Select → List ℕ
+select_text d schema header word s =
+    led word (codes ", ") (outputs_of d schema header s) ++ led (codes "\nfrom ") (codes ", ") (tables_of d schema s.tables) ++ led (codes "\nwhere ") (codes " and ") (conditions_of d schema s)
 
 -- ---- queries
 -- by the outputs one after another, numbered from 1
@@ -36,10 +36,15 @@ order_text n = led (codes "\norder by ") (codes ", ") (map place_number (range_w
 abbrev pub null_text : Dialect → List ℕ → List ℕ
 null_text d name = codes "null as " ++ name_text d name
 
--- the union of the selects; the names alone where there is none
+-- a select without rows
+abbrev pub no_select_text : Dialect → List (List ℕ) → List ℕ
+no_select_text d header = led (codes "select ") (codes ", ") (map (null_text d) header) ++ codes "\nwhere 1 = 0"
+
+-- the union of the selects, which gives each row once, as a single select is told to; the names alone where there is none
 abbrev pub union_text : Dialect → SchemaValue → List (List ℕ) → List Select → List ℕ
-union_text d schema header [] = led (codes "select ") (codes ", ") (map (null_text d) header) ++ codes "\nwhere 1 = 0"
-union_text d schema header selects = led [] (codes "\nunion\n") (map (select_text d schema header) selects)
+union_text d schema header [] = no_select_text d header
+union_text d schema header (s ∷ []) = select_text d schema header (codes "select distinct ") s
+union_text d schema header selects = led [] (codes "\nunion\n") (map (select_text d schema header (codes "select ")) selects)
 
 -- the union of the selects, ordered by all outputs
 abbrev pub selects_text : Dialect → SchemaValue → List (List ℕ) → List Select → List ℕ

@@ -3,14 +3,15 @@ ghost use Rattle.std.specs.Prelude.{◌≡◌, ◌++◌, ◌<◌, length, map, O
 ghost use Rattle.std.specs.List.{range_with_len};
 ghost use Rattle.su_schema.specs.Known.{columns_at};
 ghost use Rattle.su_sql.specs.Texts.{value_text};
-ghost use Rattle.su_sql.specs.Changes.{column_line, create_text, equality_text, is_row_text, insert_text, delete_text, shown_column, print_text};
+ghost use Rattle.su_sql.specs.Changes.{column_line, create_text, equality_text, is_row_text, insert_text, delete_text, print_text};
+ghost use Rattle.su_sql.specs.Names.{column_text};
 ghost use Rattle.su_sql.specs.Conditions.{delete_where_text};
 
-use crate::columns::{column_kind, push_column, push_relation};
+use crate::columns::{push_column, push_relation};
 use crate::conditions::push_condition;
 use crate::dialects::Dialect;
 use crate::parts::push_led;
-use crate::words::{collation, kind_name, push_name, push_value};
+use crate::words::{kind_name, push_name, push_value};
 use crate::writing::push_order;
 use std::alloc::Global;
 use su_base::parts::push;
@@ -168,14 +169,13 @@ pub fn delete_where(
     relation: u8,
     cond: &NamedCond,
 ) -> Result<List<u8>, NoMemory>
-    requires { relation < length schema.now.relations }
     ensures { IfOk result (λ text. text ≡ delete_where_text dialect schema.now relation cond.now) }
 {
     let mut out = Vec::new(alloc);
     push(&mut out, "delete from ")?;
     push_relation(&mut out, dialect, schema, relation)?;
     push(&mut out, " where ")?;
-    push_condition(alloc, &mut out, dialect, schema, relation, cond)?;
+    push_condition(alloc, &mut out, dialect, cond)?;
     push(&mut out, ";\n")?;
     Ok(List::from_vec(out))
 }
@@ -187,15 +187,9 @@ fn shown_part(
     relation: u8,
     column: usize,
 ) -> Result<List<u8>, NoMemory>
-    ensures { IfOk result (λ part. part ≡ shown_column dialect schema.now relation column) }
+    ensures { IfOk result (λ part. part ≡ column_text dialect schema.now relation column) }
 {
     let mut out = Vec::new(alloc);
-    push_column(&mut out, dialect, schema, relation, column)?;
-    push(
-        &mut out,
-        collation(dialect, column_kind(schema, relation, column)),
-    )?;
-    push(&mut out, " as ")?;
     push_column(&mut out, dialect, schema, relation, column)?;
     Ok(List::from_vec(out))
 }
@@ -206,7 +200,7 @@ fn shown_parts(
     schema: &Schema,
     relation: u8,
 ) -> Result<List<List<u8>>, NoMemory>
-    ensures { IfOk result (λ parts. parts ≡ map (shown_column dialect schema.now relation) (range_with_len 0 (length (columns_at schema.now relation)))) }
+    ensures { IfOk result (λ parts. parts ≡ map (column_text dialect schema.now relation) (range_with_len 0 (length (columns_at schema.now relation)))) }
 {
     let mut parts = List::new(alloc);
     for column in 0..schema.columns_at(relation).len() {

@@ -1,10 +1,10 @@
 //! Relations and their columns, by number. What is none of the schema's has an empty name.
 ghost use Rattle.std.specs.Prelude.{◌≡◌, ◌++◌, OnOk};
-ghost use Rattle.su_sql.specs.Names.{relation_name, column_kind, relation_text, column_text};
+ghost use Rattle.su_sql.specs.Names.{relation_name, relation_text, column_text};
 
 use crate::dialects::Dialect;
 use crate::words::push_name;
-use su_base::{Kind, NoMemory};
+use su_base::NoMemory;
 use su_schema::Schema;
 
 fn relation_name(schema: &Schema, relation: u8) -> &str
@@ -14,15 +14,6 @@ fn relation_name(schema: &Schema, relation: u8) -> &str
         return "";
     }
     schema.relation_name(relation)
-}
-
-pub(crate) fn column_kind(schema: &Schema, relation: u8, column: usize) -> Kind
-    ensures { result ≡ column_kind schema.now relation column }
-{
-    match schema.columns_at(relation).get(column) {
-        Some(column) => column.kind,
-        None => Kind::Int,
-    }
 }
 
 pub(crate) fn push_relation(

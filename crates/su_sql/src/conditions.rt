@@ -1,29 +1,22 @@
 //! Conditions of deletions as SQL.
-ghost use Rattle.std.specs.Prelude.{◌≡◌, ◌++◌, ◌<◌, length, map, codes, OnOk, IfOk};
-ghost use Rattle.su_sql.specs.Conditions.{kind_at, side_kind, side_text, many_text, condition_text};
+ghost use Rattle.std.specs.Prelude.{◌≡◌, ◌++◌, map, codes, OnOk, IfOk};
+ghost use Rattle.su_sql.specs.Conditions.{sides_collation, side_text, many_text, condition_text};
 
-use crate::columns::column_kind;
 use crate::dialects::Dialect;
 use crate::parts::push_led;
 use crate::words::{collation, operator, push_name, push_value};
 use std::alloc::Global;
 use su_base::parts::push;
-use su_base::{Kind, List, NoMemory};
+use su_base::{List, NoMemory};
 use su_query::{NamedCond, NamedOperand};
-use su_schema::Schema;
 
-fn kind_of(schema: &Schema, relation: u8, side: &NamedOperand) -> Kind
-    requires { relation < length schema.now.relations }
-    ensures { result ≡ side_kind schema.now relation side.now }
+/// How two sides are told to be compared by their bytes.
+fn sides_collation(dialect: Dialect, left: &NamedOperand, right: &NamedOperand) -> &'static str
+    ensures { result.now ≡ sides_collation dialect left.now right.now }
 {
-    match side {
-        NamedOperand::Const(value) => value.kind(),
-        NamedOperand::Ref(reference) => {
-            match schema.find_column(relation, reference.attribute.as_str()) {
-                Some(column) => column_kind(schema, relation, column as usize),
-                None => Kind::Int,
-            }
-        }
+    match (left, right) {
+        (NamedOperand::Const(_), NamedOperand::Const(value)) => collation(dialect, value.kind()),
+        _ => "",
     }
 }
 
@@ -57,32 +50,31 @@ pub(crate) fn push_condition(
     alloc: Global,
     out: &mut Vec<u8>,
     dialect: Dialect,
-    schema: &Schema,
-    relation: u8,
     cond: &NamedCond,
 ) -> Result<(), NoMemory>
-    requires { relation < length schema.now.relations }
-    ensures { OnOk result (out.new.items ≡ out.old.items ++ condition_text dialect schema.now relation cond.now) }
+    ensures { OnOk result (out.new.items ≡ out.old.items ++ condition_text dialect cond.now) }
 {
     match cond {
         NamedCond::Compare(comparison) => {
             push_side(alloc, out, dialect, &comparison.left)?;
             push(out, operator(comparison.op))?;
             push_side(alloc, out, dialect, &comparison.right)?;
-            let kind = kind_of(schema, relation, &comparison.right);
-            push(out, collation(dialect, kind))
+            push(
+                out,
+                sides_collation(dialect, &comparison.left, &comparison.right),
+            )
         }
         NamedCond::Not(part) => {
             push(out, "not (")?;
-            push_condition(alloc, out, dialect, schema, relation, part.get())?;
+            push_condition(alloc, out, dialect, part.get())?;
             push(out, ")")
         }
         NamedCond::All(parts) => {
-            let parts = condition_parts(alloc, dialect, schema, relation, parts.as_slice())?;
+            let parts = condition_parts(alloc, dialect, parts.as_slice())?;
             push_many(out, "1 = 1", " and ", parts.as_slice())
         }
         NamedCond::Any(parts) => {
-            let parts = condition_parts(alloc, dialect, schema, relation, parts.as_slice())?;
+            let parts = condition_parts(alloc, dialect, parts.as_slice())?;
             push_many(out, "1 = 0", " or ", parts.as_slice())
         }
     }
@@ -92,17 +84,14 @@ pub(crate) fn push_condition(
 fn condition_parts(
     alloc: Global,
     dialect: Dialect,
-    schema: &Schema,
-    relation: u8,
     conds: &[NamedCond],
 ) -> Result<List<List<u8>>, NoMemory>
-    requires { relation < length schema.now.relations }
-    ensures { IfOk result (λ parts. parts ≡ map (condition_text dialect schema.now relation) conds.now) }
+    ensures { IfOk result (λ parts. parts ≡ map (condition_text dialect) conds.now) }
 {
     let mut parts = List::new(alloc);
     for cond in conds {
         let mut part = Vec::new(alloc);
-        push_condition(alloc, &mut part, dialect, schema, relation, cond)?;
+        push_condition(alloc, &mut part, dialect, cond)?;
         parts.push(List::from_vec(part))?;
     }
     Ok(parts)

@@ -2,16 +2,16 @@
 ghost use Rattle.std.specs.Prelude.{◌≡◌, ◌++◌, length, map, get_or, codes, OnOk, IfOk};
 ghost use Rattle.su_sql.specs.Names.{led};
 ghost use Rattle.su_sql.specs.Queries.{tables_of};
-ghost use Rattle.su_sql.specs.Operands.{value_name, kind_from};
+ghost use Rattle.su_sql.specs.Operands.{value_name};
 ghost use Rattle.su_sql.specs.Tables.{source_column, one_at_least, source_columns, source_text, united_text, sources_text, table_text, no_table};
 
-use crate::columns::{column_kind, push_column, push_relation};
+use crate::columns::{push_column, push_relation};
 use crate::dialects::Dialect;
 use crate::parts::push_led;
 use crate::tables::Table;
 use std::alloc::Global;
 use su_base::parts::{push, push_number};
-use su_base::{Kind, List, NoMemory};
+use su_base::{List, NoMemory};
 use su_exec::Source;
 use su_schema::Schema;
 
@@ -187,14 +187,5 @@ pub(crate) fn push_value_name(
             push(out, "c")?;
             push_number(alloc, out, value as u64)
         }
-    }
-}
-
-pub(crate) fn kind_from(schema: &Schema, sources: &[Source], value: usize) -> Kind
-    ensures { result ≡ kind_from schema.now sources.now value }
-{
-    match sources {
-        [] => Kind::Int,
-        [source, ..] => column_kind(schema, source.relation, column_of(source, value) as usize),
     }
 }

@@ -1,20 +1,20 @@
 //! Selects as SQL.
-ghost use Rattle.std.specs.Prelude.{◌≡◌, ◌<◌, ◌++◌, length, map, decimal, OnOk, IfOk};
+ghost use Rattle.std.specs.Prelude.{◌≡◌, ◌<◌, ◌++◌, length, map, codes, decimal, OnOk, IfOk};
 ghost use Rattle.std.specs.List.{range_with_len};
 ghost use Rattle.su_ddl.specs.ShownDefinitions.{name_at};
 ghost use Rattle.su_sql.specs.Names.{led, name_text};
 ghost use Rattle.su_sql.specs.Clauses.{join_text, fixed_text, comparison_text, conditions_of, output_text};
-ghost use Rattle.su_sql.specs.Queries.{outputs_of, select_text, place_number, order_text, null_text, union_text, selects_text};
-ghost use Rattle.su_sql.specs.Operands.{place_text, operand_kind, operand_text, ordered_text};
+ghost use Rattle.su_sql.specs.Queries.{outputs_of, select_text, place_number, order_text, null_text, no_select_text, union_text, selects_text};
+ghost use Rattle.su_sql.specs.Operands.{place_text, operand_text, ordered_text, right_text};
 
 use crate::dialects::Dialect;
 use crate::parts::push_led;
-use crate::sources::{kind_from, push_value_name, sources_at, table_parts};
+use crate::sources::{push_value_name, sources_at, table_parts};
 use crate::tables::{CellPlace, Comparison, Fixed, Join, Operand, Select, Table};
 use crate::words::{collation, operator, push_name, push_value};
 use std::alloc::Global;
 use su_base::parts::{push, push_number};
-use su_base::{Kind, List, NoMemory, Str};
+use su_base::{List, NoMemory, Str};
 use su_schema::Schema;
 
 fn push_place(
@@ -40,15 +40,6 @@ fn push_place(
     )
 }
 
-fn operand_kind(schema: &Schema, tables: &[Table], operand: &Operand) -> Kind
-    ensures { result ≡ operand_kind schema.now tables.now operand.now }
-{
-    match operand {
-        Operand::At(place) => kind_from(schema, sources_at(tables, place.table), place.cell),
-        Operand::Const(value) => value.kind(),
-    }
-}
-
 fn push_operand(
     alloc: Global,
     out: &mut Vec<u8>,
@@ -65,7 +56,7 @@ fn push_operand(
     }
 }
 
-/// An operand that is compared or ordered by its bytes.
+/// An operand that is ordered by its bytes.
 fn push_ordered(
     alloc: Global,
     out: &mut Vec<u8>,
@@ -76,11 +67,31 @@ fn push_ordered(
 ) -> Result<(), NoMemory>
     ensures { OnOk result (out.new.items ≡ out.old.items ++ ordered_text dialect schema.now tables.now operand.now) }
 {
-    push_operand(alloc, out, dialect, schema, tables, operand)?;
-    push(
-        out,
-        collation(dialect, operand_kind(schema, tables, operand)),
-    )
+    match operand {
+        Operand::At(place) => push_place(alloc, out, dialect, schema, tables, *place),
+        Operand::Const(value) => {
+            push_value(alloc, out, dialect, value)?;
+            push(out, collation(dialect, value.kind()))
+        }
+    }
+}
+
+/// The right side of a comparison. Two constants are told to be compared by their bytes.
+fn push_right(
+    alloc: Global,
+    out: &mut Vec<u8>,
+    dialect: Dialect,
+    schema: &Schema,
+    tables: &[Table],
+    comparison: &Comparison,
+) -> Result<(), NoMemory>
+    ensures { OnOk result (out.new.items ≡ out.old.items ++ right_text dialect schema.now tables.now comparison.now.left comparison.now.right) }
+{
+    let right = &comparison.right;
+    match &comparison.left {
+        Operand::At(_) => push_operand(alloc, out, dialect, schema, tables, right),
+        Operand::Const(_) => push_ordered(alloc, out, dialect, schema, tables, right),
+    }
 }
 
 fn join_part(
@@ -127,7 +138,7 @@ fn comparison_part(
     let mut out = Vec::new(alloc);
     push_operand(alloc, &mut out, dialect, schema, tables, &comparison.left)?;
     push(&mut out, operator(comparison.op))?;
-    push_ordered(alloc, &mut out, dialect, schema, tables, &comparison.right)?;
+    push_right(alloc, &mut out, dialect, schema, tables, comparison)?;
     Ok(List::from_vec(out))
 }
 
@@ -248,15 +259,16 @@ fn select_part(
     dialect: Dialect,
     schema: &Schema,
     header: &[Str],
+    word: &str,
     select: &Select,
 ) -> Result<List<u8>, NoMemory>
-    ensures { IfOk result (λ part. part ≡ select_text dialect schema.now header.now select.now) }
+    ensures { IfOk result (λ part. part ≡ select_text dialect schema.now header.now word.now select.now) }
 {
     let outputs = output_parts(alloc, dialect, schema, header, select)?;
     let tables = table_parts(alloc, dialect, schema, select.tables.as_slice())?;
     let conditions = condition_parts(alloc, dialect, schema, select)?;
     let mut out = Vec::new(alloc);
-    push_led(&mut out, "select distinct ", ", ", outputs.as_slice())?;
+    push_led(&mut out, word, ", ", outputs.as_slice())?;
     push_led(&mut out, "\nfrom ", ", ", tables.as_slice())?;
     push_led(&mut out, "\nwhere ", " and ", conditions.as_slice())?;
     Ok(List::from_vec(out))
@@ -269,11 +281,12 @@ fn select_parts(
     header: &[Str],
     selects: &[Select],
 ) -> Result<List<List<u8>>, NoMemory>
-    ensures { IfOk result (λ parts. parts ≡ map (select_text dialect schema.now header.now) selects.now) }
+    ensures { IfOk result (λ parts. parts ≡ map (select_text dialect schema.now header.now (codes "select ")) selects.now) }
 {
     let mut parts = List::new(alloc);
     for select in selects {
-        parts.push(select_part(alloc, dialect, schema, header, select)?)?;
+        let part = select_part(alloc, dialect, schema, header, "select ", select)?;
+        parts.push(part)?;
     }
     Ok(parts)
 }
@@ -323,6 +336,20 @@ pub(crate) fn push_order(alloc: Global, out: &mut Vec<u8>, n: usize) -> Result<(
     push_led(out, "\norder by ", ", ", parts.as_slice())
 }
 
+/// A query without rows.
+fn push_no_select(
+    alloc: Global,
+    out: &mut Vec<u8>,
+    dialect: Dialect,
+    header: &[Str],
+) -> Result<(), NoMemory>
+    ensures { OnOk result (out.new.items ≡ out.old.items ++ no_select_text dialect header.now) }
+{
+    let parts = null_parts(alloc, dialect, header)?;
+    push_led(out, "select ", ", ", parts.as_slice())?;
+    push(out, "\nwhere 1 = 0")
+}
+
 /// The union of the selects, or a query without rows where there is none.
 fn push_all_selects(
     alloc: Global,
@@ -334,13 +361,18 @@ fn push_all_selects(
 ) -> Result<(), NoMemory>
     ensures { OnOk result (out.new.items ≡ out.old.items ++ union_text dialect schema.now header.now selects.now) }
 {
-    if selects.is_empty() {
-        let parts = null_parts(alloc, dialect, header)?;
-        push_led(out, "select ", ", ", parts.as_slice())?;
-        return push(out, "\nwhere 1 = 0");
+    match selects {
+        [] => push_no_select(alloc, out, dialect, header),
+        [select] => {
+            let part = select_part(alloc, dialect, schema, header, "select distinct ", select)?;
+            out.extend_from_slice(part.as_slice())?;
+            Ok(())
+        }
+        _ => {
+            let parts = select_parts(alloc, dialect, schema, header, selects)?;
+            push_led(out, "", "\nunion\n", parts.as_slice())
+        }
     }
-    let parts = select_parts(alloc, dialect, schema, header, selects)?;
-    push_led(out, "", "\nunion\n", parts.as_slice())
 }
 
 /// The union of the selects as one statement, ordered by all outputs, which have the header's names.

@@ -44,22 +44,22 @@ const QUERIES: &[(Dialect, &str, &str)] = &[
     (
         Dialect::Postgres,
         BANKS,
-        "select distinct r0.\"BANK\" collate \"C\" as \"BANK\"\nfrom \"BA\" r0, \"AC\" r1\nwhere r0.\"ACCT\" = r1.\"ACCT\" and r1.\"CUST\" = 'Jones'\nunion\nselect distinct r0.\"BANK\" collate \"C\" as \"BANK\"\nfrom \"BL\" r0, \"LC\" r1\nwhere r0.\"LOAN\" = r1.\"LOAN\" and r1.\"CUST\" = 'Jones'\norder by 1;\n",
+        "select r0.\"BANK\" as \"BANK\"\nfrom \"BA\" r0, \"AC\" r1\nwhere r0.\"ACCT\" = r1.\"ACCT\" and r1.\"CUST\" = 'Jones'\nunion\nselect r0.\"BANK\" as \"BANK\"\nfrom \"BL\" r0, \"LC\" r1\nwhere r0.\"LOAN\" = r1.\"LOAN\" and r1.\"CUST\" = 'Jones'\norder by 1;\n",
     ),
     (
         Dialect::Sqlite,
         BANKS,
-        "select distinct r0.\"BANK\" collate binary as \"BANK\"\nfrom \"BA\" r0, \"AC\" r1\nwhere r0.\"ACCT\" = r1.\"ACCT\" and r1.\"CUST\" = 'Jones'\nunion\nselect distinct r0.\"BANK\" collate binary as \"BANK\"\nfrom \"BL\" r0, \"LC\" r1\nwhere r0.\"LOAN\" = r1.\"LOAN\" and r1.\"CUST\" = 'Jones'\norder by 1;\n",
+        "select r0.\"BANK\" as \"BANK\"\nfrom \"BA\" r0, \"AC\" r1\nwhere r0.\"ACCT\" = r1.\"ACCT\" and r1.\"CUST\" = 'Jones'\nunion\nselect r0.\"BANK\" as \"BANK\"\nfrom \"BL\" r0, \"LC\" r1\nwhere r0.\"LOAN\" = r1.\"LOAN\" and r1.\"CUST\" = 'Jones'\norder by 1;\n",
     ),
     (
         Dialect::Spark,
         BANKS,
-        "select distinct r0.`BANK` as `BANK`\nfrom `BA` r0, `AC` r1\nwhere r0.`ACCT` = r1.`ACCT` and r1.`CUST` = 'Jones'\nunion\nselect distinct r0.`BANK` as `BANK`\nfrom `BL` r0, `LC` r1\nwhere r0.`LOAN` = r1.`LOAN` and r1.`CUST` = 'Jones'\norder by 1;\n",
+        "select r0.`BANK` as `BANK`\nfrom `BA` r0, `AC` r1\nwhere r0.`ACCT` = r1.`ACCT` and r1.`CUST` = 'Jones'\nunion\nselect r0.`BANK` as `BANK`\nfrom `BL` r0, `LC` r1\nwhere r0.`LOAN` = r1.`LOAN` and r1.`CUST` = 'Jones'\norder by 1;\n",
     ),
     (
         Dialect::Sqlite,
         "retrieve (ADDR) where CUST = 'O''Hara'",
-        "select distinct r0.\"ADDR\" collate binary as \"ADDR\"\nfrom \"CA\" r0\nwhere r0.\"CUST\" = 'O''Hara'\norder by 1;\n",
+        "select distinct r0.\"ADDR\" as \"ADDR\"\nfrom \"CA\" r0\nwhere r0.\"CUST\" = 'O''Hara'\norder by 1;\n",
     ),
     (
         Dialect::Spark,
@@ -69,7 +69,7 @@ const QUERIES: &[(Dialect, &str, &str)] = &[
     (
         Dialect::Postgres,
         "retrieve (t.CUST) where t.BAL > BAL and ACCT = 1",
-        "select distinct r0.\"CUST\" collate \"C\" as \"t.CUST\"\nfrom \"AC\" r0, \"AB\" r1, \"AB\" r2\nwhere r0.\"ACCT\" = r1.\"ACCT\" and r2.\"ACCT\" = 1 and r1.\"BAL\" > r2.\"BAL\"\norder by 1;\n",
+        "select distinct r0.\"CUST\" as \"t.CUST\"\nfrom \"AC\" r0, \"AB\" r1, \"AB\" r2\nwhere r0.\"ACCT\" = r1.\"ACCT\" and r2.\"ACCT\" = 1 and r1.\"BAL\" > r2.\"BAL\"\norder by 1;\n",
     ),
     (
         Dialect::Postgres,
@@ -109,7 +109,7 @@ const STATEMENTS: &[(Dialect, &str, &str)] = &[
     (
         Dialect::Sqlite,
         "delete CA where not CUST <= 'Jones' or ADDR = 'x'",
-        "delete from \"CA\" where (not (\"CUST\" <= 'Jones' collate binary) or \"ADDR\" = 'x' collate binary);\n",
+        "delete from \"CA\" where (not (\"CUST\" <= 'Jones') or \"ADDR\" = 'x');\n",
     ),
     (
         Dialect::Spark,
@@ -119,7 +119,7 @@ const STATEMENTS: &[(Dialect, &str, &str)] = &[
     (
         Dialect::Sqlite,
         "print BL",
-        "select distinct \"BANK\" collate binary as \"BANK\", \"LOAN\" as \"LOAN\"\nfrom \"BL\"\norder by 1, 2;\n",
+        "select distinct \"BANK\", \"LOAN\"\nfrom \"BL\"\norder by 1, 2;\n",
     ),
     (
         Dialect::Sqlite,

@@ -1,11 +1,11 @@
 -- Inserts one after another.
-use Rattle.std.proofs.Common.{◌≡◌, ◌⊎◌, ◌<◌, ◌+◌, ℕ, Bool, true, false, List, [], ◌∷◌, ◌++◌, length, get_or, set, Ok, Err, refl, sym, subst, ◌∙◌, inl, inr, arith}
+use Rattle.std.proofs.Common.{◌≡◌, ◌⊎◌, ◌<◌, ◌≤◌, ◌+◌, ℕ, Bool, true, false, List, [], ◌∷◌, ◌++◌, length, get_or, set, take, Ok, Err, refl, sym, ap, subst, ◌∙◌, inl, inr, arith}
 use Rattle.std.proofs.lemmas.Bool.{cases_eq}
-use Rattle.std.proofs.lemmas.List.{length-set, get_or-set_same, get_or-set_other, same_lists, get_or_default}
+use Rattle.std.proofs.lemmas.List.{length-take, take-take, length-set, get_or-set_same, get_or-set_other, same_lists, get_or_default}
 use Rattle.std.proofs.lemmas.Option.{slice_get-get_or, get_or_from_slice_get}
 use Rattle.su_base.specs.declared.values.Value.{Value}
 use Rattle.su_rel.specs.Stored.{Stored}
-use Rattle.su_state.specs.DatabaseValue.{DatabaseValue, table_of}
+use Rattle.su_state.specs.DatabaseValue.{DatabaseValue, table_of, rows_of}
 use Rattle.su_state.specs.Changes.{ChangesOnly}
 use Rattle.su_state.specs.RowChanges.{Inserts}
 use Rattle.su_state.specs.Loads.{InsertsAll, Loads, added_by}
@@ -41,6 +41,12 @@ inserts_push [] db mid new r row count is_new (none, same) done =
     (new, is_new, 0, subst (λ (d : DatabaseValue). Inserts d r row (Ok is_new) new) same done, (refl, refl), omega (arith, none))
 inserts_push (first ∷ rows) db mid new r row count is_new (between, was_new, more, head, tail, counted) done =
     (between, was_new, more + added_by is_new, head, inserts_push rows between mid new r row more is_new tail done, omega (arith, counted))
+
+-- a front of a front
+pub front_then : (old mid new : List (List Value)) → take (length old) mid ≡ old → take (length mid) new ≡ mid → take (length old) new ≡ old
+front_then old mid new first second =
+    let short : length old ≤ length mid = omega (arith, ap length first, length-take (length old) mid) in
+    sym (take-take (length old) (length mid) new short) ∙ ap (take (length old)) second ∙ first
 
 -- a database of which one table alone has changed, with this table put back
 pub put_back : (db new : DatabaseValue) (r : ℕ) (table : Stored) → ChangesOnly r db new → r < length db.tables → table ≡ table_of db r → with_table new r table ≡ db
@@ -91,3 +97,8 @@ changes_some db new r rows (Refused refusal) (only, first) = only
 pub load_refused : (db between new : DatabaseValue) (r : ℕ) (rows : List (List Value)) (end : LoadEnd) → InsertsSome db r rows (Err end) between → new ≡ db → (end ≡ OutOfMemory) ⊎ Loads db r rows (Err end) new
 load_refused db between new r rows OutOfMemory only same = inl refl
 load_refused db between new r rows (Refused refusal) (only, first) same = inr (first, same)
+
+-- a database of which one table alone has changed, with the rows of it that were there and stand first
+pub cut_off : (db new : DatabaseValue) (r : ℕ) (cut : Stored) (before : ℕ) → ChangesOnly r db new → r < length db.tables → before ≡ length (rows_of db r) → cut.width ≡ (table_of new r).width → cut.rows ≡ take before (rows_of new r) → take (length (rows_of db r)) (rows_of new r) ≡ rows_of db r → with_table new r cut ≡ db
+cut_off db new r cut before only within many width rows front =
+    put_back db new r cut only within (λ i. record { width = (width ∙ only.width) i; rows = (rows ∙ ap (λ (n : ℕ). take n (rows_of new r)) many ∙ front) i })

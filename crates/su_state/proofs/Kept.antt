@@ -1,9 +1,10 @@
 -- A database stays well kept where one table becomes another that its relation may have.
-use Rattle.std.proofs.Common.{◌≡◌, ◌≢◌, ◌<◌, ◌≤◌, ◌+◌, ℕ, Bool, true, false, Ok, List, [], ◌∷◌, ◌++◌, length, slice_get, get_or, set, Some, zero, suc, refl, sym, ap, subst, ◌∙◌, All, Contains, inl, inr, arith}
+use Rattle.std.proofs.Common.{◌≡◌, ◌≢◌, ◌<◌, ◌≤◌, ◌+◌, ℕ, Bool, true, false, Ok, List, [], ◌∷◌, ◌++◌, length, slice_get, get_or, set, take, Some, zero, suc, refl, sym, ap, subst, ◌∙◌, All, Contains, inl, inr, arith}
 use Rattle.std.specs.Prelude.{◌↔◌, if◌then◌else◌, IsTrue, Result, Err, IfOk, OnErr, MatchBool}
 use Rattle.std.specs.Bool.{OnFalse}
 use Rattle.std.proofs.lemmas.Bool.{cases_eq, false≢true}
 use Rattle.std.proofs.lemmas.List.{get_or-set_same, get_or-set_other, length-set, length_push, set-get_or, get_or_read}
+use Rattle.std.proofs.Math.Seq.{take-append_seam, take-length}
 use Rattle.std.proofs.lemmas.List.Elements.{All-push, All-contains, Contains-get_or, Contains-push, Contains-push_cases, Contains-append_left}
 use Rattle.std.proofs.lemmas.Option.{slice_get-get_or, slice_get_within, get_or_from_slice_get}
 use Rattle.su_base.specs.declared.values.Value.{Value}
@@ -212,6 +213,18 @@ module _ (db : DatabaseValue) (r : ℕ) (row : List Value) (old new : Stored) (k
       (may_add db r kept within row new answers.0 answers.1 answers.2 answers.3 (width ∙ ap (λ t. t.width) put_into) (rows ∙ ap (λ t. t.rows ++ row ∷ []) put_into))
   kept_inserted (Ok false) (there, same) unchanged = kept_same same
   kept_inserted (Err e) ok unchanged = kept_same unchanged
+
+  -- the rows that were there still stand first
+  front_of : (rows : List (List Value)) → new.rows ≡ rows → take (length (rows_of db r)) rows ≡ rows_of db r → take (length (rows_of db r)) (rows_of (with_table db r new) r) ≡ rows_of db r
+  front_of rows are front = ap (λ (t : Stored). take (length (rows_of db r)) t.rows) (table_here db r new within) ∙ ap (take (length (rows_of db r))) are ∙ front
+
+  front_same : new ≡ old → take (length (rows_of db r)) (rows_of (with_table db r new) r) ≡ rows_of db r
+  front_same same = front_of (rows_of db r) (ap (λ (t : Stored). t.rows) (same ∙ put_into)) (take-length (rows_of db r))
+
+  pub front_kept : {E : Type 0} (result : Result Bool E) → IfOk result (λ b. MatchBool b ((¬ Contains old.rows row) × (new.rows ≡ old.rows ++ row ∷ [])) (Contains old.rows row × (new ≡ old))) → OnErr result (new ≡ old) → take (length (rows_of db r)) (rows_of (with_table db r new) r) ≡ rows_of db r
+  front_kept (Ok true) (out, rows) unchanged = front_of (rows_of db r ++ row ∷ []) (rows ∙ ap (λ (t : Stored). t.rows ++ row ∷ []) put_into) (take-append_seam (rows_of db r) (row ∷ []))
+  front_kept (Ok false) (there, same) unchanged = front_same same
+  front_kept (Err e) ok unchanged = front_same unchanged
 
   pub inserted : (b : Bool) → MatchBool b ((¬ Contains old.rows row) × (new.rows ≡ old.rows ++ row ∷ [])) (Contains old.rows row × (new ≡ old)) → Inserts db r row (Ok true) (with_table db r new)
   inserted true (out, rows) = (answers, added_with db r row new within (width ∙ ap (λ t. t.width) put_into) (rows ∙ ap (λ t. t.rows ++ row ∷ []) put_into))

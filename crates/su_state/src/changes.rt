@@ -1,5 +1,6 @@
 //! Inserts and deletes of single rows.
-ghost use Rattle.std.specs.Prelude.{◌≡◌, ◌⊎◌, ◌<◌, length, IfOk, IfErr, OnErr};
+ghost use Rattle.std.specs.Prelude.{◌≡◌, ◌⊎◌, ◌<◌, length, take, IfOk, IfErr, OnErr};
+ghost use Rattle.su_state.specs.DatabaseValue.{rows_of};
 ghost use Rattle.su_state.specs.RowChanges.{InsertAnswers, Inserts, Deletes};
 
 use crate::breaches::first_breach;
@@ -48,6 +49,7 @@ impl Database {
         ensures done { IfOk result (λ is_new. Inserts self.old relation row (Ok is_new) self.new) }
         ensures refused { IfErr result (λ fault. (fault ≡ StateFault.NoMemory) ⊎ Inserts self.old relation row (Err fault) self.new) }
         ensures unchanged { OnErr result (self.new ≡ self.old) }
+        ensures front { take (length (rows_of self.old relation)) (rows_of self.new relation) ≡ rows_of self.old relation }
     {
         if !self.insert_answer(relation, &row)? {
             return Ok(false);

@@ -1,13 +1,12 @@
 //! Loads of many rows.
-ghost use Rattle.std.specs.Prelude.{◌≡◌, ◌⊎◌, ◌<◌, length, IfOk, IfErr, OnErr};
+ghost use Rattle.std.specs.Prelude.{◌≡◌, ◌⊎◌, ◌<◌, length, take, IfOk, IfErr, OnErr};
+ghost use Rattle.su_state.specs.DatabaseValue.{rows_of};
 ghost use Rattle.su_state.specs.Loads.{Loads};
 ghost use Rattle.su_state.specs.inside.LoadEnds.{IsEnd, InsertsSome};
 ghost use Rattle.su_state.specs.inside.AdmissibleRows.{MayTake};
 
-use crate::copies::copy_table;
 use crate::databases::Database;
 use crate::faults::{LoadEnd, LoadFault, StateFault};
-use std::mem::replace;
 use su_base::{List, Row};
 
 /// How a load ends where the insert of the row with this number is refused.
@@ -24,7 +23,8 @@ impl Database {
     /// Inserts the rows one after another until one is refused, and answers how many were new.
     fn insert_each(&mut self, relation: u8, rows: List<Row>) -> Result<u64, LoadEnd>
         requires { relation < length self.old.schema.relations }
-        ensures { InsertsSome self.old relation rows result self.new }
+        ensures some { InsertsSome self.old relation rows result self.new }
+        ensures front { take (length (rows_of self.old relation)) (rows_of self.new relation) ≡ rows_of self.old relation }
     {
         let mut number = 0;
         let mut new = 0;
@@ -51,7 +51,8 @@ impl Database {
         Ok(new as u64)
     }
 
-    /// Inserts the rows one after another into a copy of the table, which a refused row drops.
+    /// Inserts the rows one after another. Where one is refused, those before it are taken out again, which
+    /// takes no memory: they stand last.
     pub(crate) fn load_each(&mut self, relation: u8, rows: List<Row>) -> Result<u64, LoadEnd>
         requires { relation < length self.old.schema.relations }
         ensures done { IfOk result (λ count. Loads self.old relation rows (Ok count) self.new) }
@@ -59,12 +60,11 @@ impl Database {
         ensures unchanged { OnErr result (self.new ≡ self.old) }
     {
         let place = relation as usize;
-        let copy = copy_table(self.alloc, &self.tables[place])?;
-        let before = replace(&mut self.tables[place], copy);
+        let before = self.tables[place].len();
         match self.insert_each(relation, rows) {
             Ok(new) => Ok(new),
             Err(end) => {
-                self.tables[place] = before;
+                self.tables[place].truncate(before);
                 Err(end)
             }
         }
@@ -75,9 +75,9 @@ impl Database {
     ///
     /// Where no row is refused they go in at once: for each enforced dependency one pass over the
     /// rows there and the rows given, in memory for their values on its left side, and one sort per
-    /// column; few rows are held against those there by the indexes. Else they go one by one into a
-    /// copy of the table, until the row is met that is refused, or that would be one too many if all
-    /// were new.
+    /// column; few rows are held against those there by the indexes. Else they go in one by one, until
+    /// the row is met that is refused, or that would be one too many if all were new, and are taken out
+    /// again: the time goes with the rows given.
     pub fn load(&mut self, relation: u8, rows: List<Row>) -> Result<u64, LoadEnd>
         requires { relation < length self.old.schema.relations }
         ensures done { IfOk result (λ count. Loads self.old relation rows (Ok count) self.new) }

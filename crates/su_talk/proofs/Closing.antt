@@ -6,6 +6,7 @@ use Rattle.su_io.proofs.WrittenPieces.{Grew-trans}
 use Rattle.su_stream.specs.declared.pieces.Piece.{Piece}
 use Rattle.su_state.specs.DatabaseValue.{DatabaseValue}
 use Rattle.su_changes.specs.declared.changes.Change.{Change}
+use Rattle.su_changes.proofs.Extending.{IsExtension-then}
 use Rattle.su_talk.specs.declared.closes.Close.{Close}
 use Rattle.su_talk.specs.declared.closes.Close.TheVariants.{Done, SomeRefused, InputFault, WriteFault, TooLong, NoMemory, KeepFault}
 use Rattle.su_talk.specs.declared.groups.Group.{Group}
@@ -41,7 +42,7 @@ over_closing group db = over_keeping group.changed db group.replies.items
 
 -- what leads on from what is kept
 pub leads_on : (Keeps Others : DatabaseValue → Type 0) (old new : Talk) → ((db : DatabaseValue) → Keeps db → Others db) → LeadsOn old new → LeadFromKept Keeps old.group.changes old.session → LeadFromKept Others new.group.changes new.session
-leads_on Keeps Others old new same on (before, keeps, leads) = (before, same before keeps, on.leads before leads)
+leads_on Keeps Others old new same on (before, keeps, leads, extends) = (before, same before keeps, on.leads before leads, IsExtension-then before.schema old.session.schema new.session.schema extends on.extends)
 
 pub leads_closed : (Keeps : DatabaseValue → Type 0) (old new : Talk) → new ≡ record old { group = new.group } → IsEmpty new.group → LeadFromKept Keeps [] old.session → LeadFromKept Keeps new.group.changes new.session
 leads_closed Keeps old new rest empty leads =
@@ -76,10 +77,10 @@ module _ (files : Option (List File)) (first : DatabaseValue) (events : List Eve
   fails_by Done more none = absurd none
   fails_by SomeRefused more none = absurd none
   fails_by InputFault more none = absurd none
-  fails_by WriteFault more is = rw is (fails_to_tell files first events pieces old old.group.replies.items at)
+  fails_by WriteFault more is = rw is (fails_to_tell files first events pieces old at)
   fails_by TooLong more none = absurd none
   fails_by NoMemory more none = absurd none
-  fails_by KeepFault more is = rw is (fails_to_keep files first events pieces old old.session at)
+  fails_by KeepFault more is = rw is (fails_to_keep files first events pieces old at)
 
   pub stops_closing : (close : Close) (before now : Option (List Event)) → FailsToClose close old.group old.session before now → Stops old.manner.frames files first events before now close
   stops_closing close before now (more, by, grew) = (more, grew, fails_by close more by)

@@ -5,6 +5,8 @@ use Rattle.su_session.specs.declared.replies.Reply.{Reply}
 use Rattle.su_changes.specs.Changes.{LeadTo}
 use Rattle.su_changes.specs.declared.changes.Change.{Change}
 use Rattle.su_changes.proofs.Leading.{LeadTo-self, LeadTo-then}
+use Rattle.su_changes.specs.Extensions.{IsExtension}
+use Rattle.su_changes.proofs.Extending.{IsExtension-self}
 use Rattle.su_effects.specs.declared.effects.Effect.{Effect}
 use Rattle.su_effects.specs.declared.effects.Effect.TheVariants.{Nothing, Defines, Changes}
 use Rattle.su_effects.specs.Effects.{Makes, IsEffect}
@@ -28,9 +30,18 @@ leads_more Nothing old new before db after takes makes leads =
     subst (λ (cs : List Change). LeadTo before cs after) (sym same) (LeadTo-then before db after old.changes [] leads makes.0)
 leads_more Defines old new before db after takes makes leads =
     let same : new.changes ≡ old.changes ++ [] = takes.2 ∙ sym (append-nil old.changes) in
-    subst (λ (cs : List Change). LeadTo before cs after) (sym same) (LeadTo-then before db after old.changes [] leads makes)
+    subst (λ (cs : List Change). LeadTo before cs after) (sym same) (LeadTo-then before db after old.changes [] leads makes.0)
 leads_more (Changes change) old new before db after takes makes leads =
     subst (λ (cs : List Change). LeadTo before cs after) (sym takes.2) (LeadTo-then before db after old.changes (change ∷ []) leads makes.0)
+
+-- the schema goes on behind the one of before
+extends_same : (old new : DatabaseValue) → new.schema ≡ old.schema → IsExtension old.schema new.schema
+extends_same old new same = subst (IsExtension old.schema) (sym same) (IsExtension-self old.schema)
+
+pub extends_more : (effect : Effect) (old new : DatabaseValue) → Makes effect old new → IsExtension old.schema new.schema
+extends_more Nothing old new makes = extends_same old new makes.1
+extends_more Defines old new makes = makes.1
+extends_more (Changes change) old new makes = extends_same old new makes.1
 
 -- a group that has changed nothing
 pub same_more : (effect : Effect) (old new : Group) (db after : DatabaseValue) → TakesEffect effect old new → Makes effect db after → new.changed ≡ false → (old.changed ≡ false) × IsSame db after

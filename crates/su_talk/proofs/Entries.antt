@@ -1,12 +1,12 @@
 -- One entry more.
-use Rattle.std.proofs.Common.{◌≡◌, ◌≤◌, ◌-◌, ◌++◌, ◌||◌, ◌∙◌, ℕ, Bool, List, [], ◌∷◌, Option, length, length-drop, take, drop, refl, ap, sym, subst, append_assoc, append-nil, arith}
+use Rattle.std.proofs.Common.{◌≡◌, ◌≤◌, ◌-◌, ◌++◌, ◌||◌, ◌&&◌, ◌∙◌, ℕ, Bool, List, [], ◌∷◌, Option, length, length-drop, take, drop, refl, ap, sym, subst, append_assoc, append-nil, arith}
 use Rattle.std.specs.List.{AllByRecursion}
 use Rattle.std.proofs.Math.Seq.{take-append-le, drop-append-le}
 use Rattle.su_io.specs.declared.files.File.{File}
 use Rattle.su_stream.specs.declared.pieces.Piece.{Piece}
 use Rattle.su_stream.specs.Ended.{text_at}
 use Rattle.su_state.specs.DatabaseValue.{DatabaseValue}
-use Rattle.su_talk.specs.Answers.{AnswersOne, AnswersEntry, Answered}
+use Rattle.su_talk.specs.Answers.{AnswersOne, AnswersEntry, Answered, IsPlaced}
 use Rattle.su_talk.specs.inside.Turns.{answered_after}
 use Rattle.su_talk.specs.Entries.{Entry, piece_of, pieces_of, after, refuses, some_refuses, text_of, texts_from}
 use Rattle.su_talk.specs.Entries.Entry.{Answer, Blank}
@@ -31,10 +31,10 @@ texts_from-push frames k (x ∷ es) e =
     ap (λ (l : List ℕ). text_of frames k x ++ l) (texts_from-push frames (after k x) es e)
     ∙ sym (append_assoc (text_of frames k x) (texts_from frames (after k x) es) (text_of frames (answered_after (after k x) es) e))
 
-pub Answered-push : (files : Option (List File)) (come : List ℕ) (es : List Entry) (e : Entry) (old mid new : DatabaseValue)
-    → Answered files come old es mid → AnswersEntry files come mid e new → Answered files come old (es ++ e ∷ []) new
-Answered-push files come [] e old mid new same one = (new, subst (λ (db : DatabaseValue). AnswersEntry files come db e new) same one, refl)
-Answered-push files come (x ∷ es) e old mid new (next, first, later) one = (next, first, Answered-push files come es e next mid new later one)
+pub Answered-push : (frames : Bool) (files : Option (List File)) (come : List ℕ) (es : List Entry) (e : Entry) (old mid new : DatabaseValue)
+    → Answered frames files come old es mid → AnswersEntry frames files come mid e new → Answered frames files come old (es ++ e ∷ []) new
+Answered-push frames files come [] e old mid new same one = (new, subst (λ (db : DatabaseValue). AnswersEntry frames files come db e new) same one, refl)
+Answered-push frames files come (x ∷ es) e old mid new (next, first, later) one = (next, first, Answered-push frames files come es e next mid new later one)
 
 -- what has come stands where it stood
 pub text_at-more : (come more : List ℕ) (piece : Piece) → Fits come piece → text_at (come ++ more) piece.span ≡ text_at come piece.span
@@ -43,11 +43,15 @@ text_at-more come more piece fits =
     let behind : n ≤ length (drop piece.span.start come) = omega (arith, fits.ordered, fits.within, length-drop piece.span.start come) in
     ap (take n) (drop-append-le piece.span.start come more (omega (arith, fits.ordered, fits.within))) ∙ take-append-le n (drop piece.span.start come) more behind
 
-AnswersEntry-more : (files : Option (List File)) (come more : List ℕ) (e : Entry) (old new : DatabaseValue) → Fits come (piece_of e) → AnswersEntry files come old e new → AnswersEntry files (come ++ more) old e new
-AnswersEntry-more files come more (Answer span reply) old new fits (kept, one) =
-    (kept, subst (λ (text : List ℕ). AnswersOne files old text reply new) (sym (text_at-more come more (piece_of (Answer span reply)) fits)) one)
-AnswersEntry-more files come more (Blank span) old new fits same = same
+AnswersEntry-more : (frames : Bool) (files : Option (List File)) (come more : List ℕ) (e : Entry) (old new : DatabaseValue) → Fits come (piece_of e)
+    → AnswersEntry frames files come old e new → AnswersEntry frames files (come ++ more) old e new
+AnswersEntry-more frames files come more (Answer span reply found) old new fits (kept, one, placed) =
+    let same = sym (text_at-more come more (piece_of (Answer span reply found)) fits) in
+    (kept, subst (λ (text : List ℕ). AnswersOne files old text reply new) same one, subst (λ (text : List ℕ). IsPlaced (frames && reply.refused) text found) same placed)
+AnswersEntry-more frames files come more (Blank span) old new fits same = same
 
-pub Answered-more : (files : Option (List File)) (come more : List ℕ) (es : List Entry) (old new : DatabaseValue) → AllByRecursion (Fits come) (pieces_of es) → Answered files come old es new → Answered files (come ++ more) old es new
-Answered-more files come more [] old new fit same = same
-Answered-more files come more (e ∷ es) old new fit (next, first, later) = (next, AnswersEntry-more files come more e old next fit.0 first, Answered-more files come more es next new fit.1 later)
+pub Answered-more : (frames : Bool) (files : Option (List File)) (come more : List ℕ) (es : List Entry) (old new : DatabaseValue) → AllByRecursion (Fits come) (pieces_of es)
+    → Answered frames files come old es new → Answered frames files (come ++ more) old es new
+Answered-more frames files come more [] old new fit same = same
+Answered-more frames files come more (e ∷ es) old new fit (next, first, later) =
+    (next, AnswersEntry-more frames files come more e old next fit.0 first, Answered-more frames files come more es next new fit.1 later)

@@ -1,5 +1,5 @@
 -- Of the same input and the same files the same is told.
-use Rattle.std.proofs.Common.{◌≡◌, inl, inr, ◌++◌, ◌∷◌, ◌∙◌, ℕ, Bool, true, false, List, [], length, Option, Some, None, codes, refl, ap, sym, subst, arith}
+use Rattle.std.proofs.Common.{◌≡◌, inl, inr, ◌++◌, ◌∷◌, ◌∙◌, ◌+◌, ◌||◌, ◌&&◌, ℕ, Bool, true, false, List, [], length, Option, Some, None, codes, refl, ap, sym, subst, arith}
 use Rattle.su_io.specs.declared.files.File.{File}
 use Rattle.su_io.specs.Files.{contents, has_file}
 use Rattle.su_lex.specs.declared.spans.Span.{Span}
@@ -15,9 +15,13 @@ use Rattle.su_once.specs.States.{AreAlike}
 use Rattle.su_once.proofs.Replied.{one_reply, one_want}
 use Rattle.su_talk.specs.declared.closes.Close.{Close}
 use Rattle.su_talk.specs.declared.closes.Close.TheVariants.{Done, SomeRefused, InputFault, WriteFault, TooLong, NoMemory, KeepFault}
-use Rattle.su_talk.specs.Answers.{AnswersOne, Answered, IsLine}
+use Rattle.su_faults.specs.declared.faults.Fault.{Fault}
+use Rattle.su_faults.specs.Languages.{AreEither}
+use Rattle.su_places.specs.Laws.{told}
+use Rattle.su_places.proofs.OnePlace.{one_told}
+use Rattle.su_talk.specs.Answers.{AnswersOne, Answered, IsLine, IsPlaced}
 use Rattle.su_talk.specs.Answers.AnswersOne.{without_file, with_file, missing, too_long}
-use Rattle.su_talk.specs.Entries.{Entry, piece_of, pieces_of, some_refuses, texts_from}
+use Rattle.su_talk.specs.Entries.{Entry, piece_of, pieces_of, some_refuses, texts_from, text_of, reply_head, verdict_of}
 use Rattle.su_talk.specs.Entries.Entry.{Answer, Blank}
 use Rattle.su_talk.specs.Events.{Event, come_of, told_of}
 use Rattle.su_talk.specs.Laws.{HasFinished, TwoTalksAgree}
@@ -93,30 +97,45 @@ module _ (files : List File) (text : List ℕ) (a b c d : DatabaseValue) (r s : 
       let at = same_path path other (one_want a b text (AFile path) (AFile other) alike.schema wants asks) in
       (same_line (codes "file too long ") path other r s at line shown, alike_behind a b c d alike same is)
 
-module _ (files : List File) (come : List ℕ) where
-  one_list : (es fs : List Entry) (a b c d : DatabaseValue) → AreAlike a b → pieces_of es ≡ pieces_of fs → Answered (Some files) come a es c → Answered (Some files) come b fs d → es ≡ fs
-  one_list [] [] a b c d alike same h k = refl
-  one_list [] (f ∷ fs) a b c d alike same h k = absurd cc
-  one_list (e ∷ es) [] a b c d alike same h k = absurd cc
-  one_list (Answer x r ∷ es) (Blank y ∷ fs) a b c d alike same h k =
-      let heads : piece_of (Answer x r) ≡ piece_of (Blank y) = cc in
+-- two places that are told the same
+told_same : (frames : Bool) (k : ℕ) (x : Span) (r : Reply) (m n : Option Fault) → told x.start m ≡ told x.start n → text_of frames k (Answer x r m) ≡ text_of frames k (Answer x r n)
+told_same true k x r m n same = ap (λ (line : List ℕ). (((reply_head k x r ++ verdict_of r) ++ line) ++ 10 ∷ []) ++ r.bytes) same
+told_same false k x r m n same = refl
+
+module _ (frames : Bool) (files : List File) (come : List ℕ) where
+  one_text : (k : ℕ) (x : Span) (r : Reply) (m n : Option Fault) (due : Bool) → IsPlaced due (text_at come x) m → IsPlaced due (text_at come x) n
+      → text_of frames k (Answer x r m) ≡ text_of frames k (Answer x r n)
+  one_text k x r m n true h j = told_same frames k x r m n (one_told AreEither (text_at come x) m n x.start h j)
+  one_text k x r m n false h j = ap (λ (found : Option Fault). text_of frames k (Answer x r found)) (h ∙ sym j)
+
+  -- the same texts, and the same refusals
+  one_list : (k : ℕ) (es fs : List Entry) (a b c d : DatabaseValue) → AreAlike a b → pieces_of es ≡ pieces_of fs → Answered frames (Some files) come a es c → Answered frames (Some files) come b fs d
+      → (texts_from frames k es ≡ texts_from frames k fs) × (some_refuses es ≡ some_refuses fs)
+  one_list k [] [] a b c d alike same h j = (refl, refl)
+  one_list k [] (f ∷ fs) a b c d alike same h j = absurd cc
+  one_list k (e ∷ es) [] a b c d alike same h j = absurd cc
+  one_list k (Answer x r m ∷ es) (Blank y ∷ fs) a b c d alike same h j =
+      let heads : piece_of (Answer x r m) ≡ piece_of (Blank y) = cc in
       absurd (not_both true refl (ap (λ (p : Piece). p.blank) (sym heads) ∙ refl))
-  one_list (Blank x ∷ es) (Answer y s ∷ fs) a b c d alike same h k =
-      let heads : piece_of (Blank x) ≡ piece_of (Answer y s) = cc in
+  one_list k (Blank x ∷ es) (Answer y s n ∷ fs) a b c d alike same h j =
+      let heads : piece_of (Blank x) ≡ piece_of (Answer y s n) = cc in
       absurd (not_both true refl (ap (λ (p : Piece). p.blank) heads))
-  one_list (Blank x ∷ es) (Blank y ∷ fs) a b c d alike same (next, one, more) (then, other, rest) =
+  one_list k (Blank x ∷ es) (Blank y ∷ fs) a b c d alike same (next, one, more) (then, other, rest) =
       let heads : piece_of (Blank x) ≡ piece_of (Blank y) = cc in
       let tails : pieces_of es ≡ pieces_of fs = cc in
       let spans : x ≡ y = ap (λ (p : Piece). p.span) heads in
-      let later = one_list es fs next then c d (alike_behind a b next then alike one other) tails more rest in
-      λ i. Blank (spans i) ∷ later i
-  one_list (Answer x r ∷ es) (Answer y s ∷ fs) a b c d alike same (next, (kept, one), more) (then, (also, other), rest) =
-      let heads : piece_of (Answer x r) ≡ piece_of (Answer y s) = cc in
+      let later = one_list k es fs next then c d (alike_behind a b next then alike one other) tails more rest in
+      ((λ i. text_of frames k (Blank (spans i)) ++ later.0 i), later.1)
+  one_list k (Answer x r m ∷ es) (Answer y s n ∷ fs) a b c d alike same (next, (kept, one, placed), more) (then, (also, other, found), rest) =
+      let heads : piece_of (Answer x r m) ≡ piece_of (Answer y s n) = cc in
       let tails : pieces_of es ≡ pieces_of fs = cc in
       let spans : x ≡ y = ap (λ (p : Piece). p.span) heads in
       let answer = one_answer files (text_at come x) a b next then r s alike kept also one (subst (λ (span : Span). AnswersOne (Some files) b (text_at come span) s then) (sym spans) other) in
-      let later = one_list es fs next then c d answer.1 tails more rest in
-      λ i. Answer (spans i) (answer.0 i) ∷ later i
+      let later = one_list (k + 1) es fs next then c d answer.1 tails more rest in
+      let at : IsPlaced (frames && r.refused) (text_at come x) n = rw (sym answer.0, sym spans) at found in
+      let text = one_text k x r m n (frames && r.refused) placed at in
+      let there : text_of frames k (Answer x r n) ≡ text_of frames k (Answer y s n) = λ i. text_of frames k (Answer (spans i) (answer.0 i) n) in
+      ((λ i. (text ∙ there) i ++ later.0 i), λ i. (answer.0 i).refused || later.1 i)
 
 abbrev status_by : Bool → Close
 status_by true = SomeRefused
@@ -140,8 +159,8 @@ one_end : (frames : Bool) (files : List File) (a b : DatabaseValue) (one other :
     → (told_of one ≡ told_of other) × (m ≡ n)
 one_end frames files a b one other m n alike h k same =
     let pieces = same_pieces frames (come_of one) (pieces_of h.told) (pieces_of k.told) h.all (rw same k.all) in
-    let entries = one_list files (come_of one) h.told k.told a b h.settled.last k.settled.last alike pieces h.settled.answered.answered (rw same k.settled.answered.answered) in
-    (h.settled.told_is ∙ ap (texts_from frames 0) entries ∙ sym k.settled.told_is, sym h.refused_is ∙ ap some_refuses entries ∙ k.refused_is)
+    let entries = one_list frames files (come_of one) 0 h.told k.told a b h.settled.last k.settled.last alike pieces h.settled.answered.answered (rw same k.settled.answered.answered) in
+    (h.settled.told_is ∙ entries.0 ∙ sym k.settled.told_is, sym h.refused_is ∙ entries.1 ∙ k.refused_is)
 
 pub two_talks_agree : TwoTalksAgree
 two_talks_agree frames files a b one other s t alike h k has also same =

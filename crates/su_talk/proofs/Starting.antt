@@ -1,13 +1,18 @@
--- Before anything has come.
+-- Before anything has come, and before anything is changed.
 use Rattle.std.proofs.Common.{◌≡◌, ◌++◌, Bool, true, false, List, [], ◌∷◌, Option, Ok, refl, sym, subst}
 use Rattle.su_io.specs.declared.files.File.{File}
 use Rattle.su_io.specs.Ends.{Grew}
 use Rattle.su_stream.specs.Coming.{HasCome}
 use Rattle.su_state.specs.DatabaseValue.{DatabaseValue}
+use Rattle.su_changes.specs.declared.changes.Change.{Change}
+use Rattle.su_changes.specs.Changes.{LeadTo}
+use Rattle.su_changes.proofs.Leading.{LeadTo-self}
+use Rattle.su_changes.proofs.Extending.{IsExtension-self}
 use Rattle.su_talk.specs.declared.talking.Talk.{Talk}
 use Rattle.su_talk.specs.declared.closes.Close.TheVariants.{Done, SomeRefused}
 use Rattle.su_talk.specs.Events.{Event}
 use Rattle.su_talk.specs.Events.Event.{Asked}
+use Rattle.su_talk.specs.Keeping.{LeadFromKept}
 use Rattle.su_talk.specs.Talked.{AreAnswered, IsSound, IsTalked}
 use Rattle.su_talk.specs.inside.Groups.{IsEmpty}
 use Rattle.su_talk.specs.inside.Turns.{IsReady, EndsLast}
@@ -15,12 +20,16 @@ use Rattle.su_talk.proofs.Moments.{none_behind}
 use Rattle.su_talk.proofs.Pieces.{begins_given}
 use Rattle.su_talk.proofs.Turns.{IsSame-self, settled}
 
+-- no change leads from what is kept to itself
+pub leads_first : (Keeps : DatabaseValue → Type 0) (db : DatabaseValue) (changes : List Change) → changes ≡ [] → Keeps db → LeadFromKept Keeps changes db
+leads_first Keeps db changes none keeps = (db, keeps, subst (λ (cs : List Change). LeadTo db cs db) (sym none) (LeadTo-self db), IsExtension-self db.schema)
+
 no_asked : (before : List Event) → [] ≡ before ++ Asked ∷ [] → ⊥
 no_asked [] same = absurd cc
 no_asked (e ∷ before) same = absurd cc
 
 module _ (files : Option (List File)) (talk : Talk) (come : HasCome [] [] talk.stream) (empty : IsEmpty talk.group) where
-  nothing : AreAnswered files talk.session [] [] talk.session
+  nothing : AreAnswered talk.manner.frames files talk.session [] [] talk.session
   nothing = record { pieces = record { fit = tt; front = begins_given [] false [] talk.stream come }; answered = refl }
 
   sound : IsSound talk.manner.frames files talk.session []

@@ -31,7 +31,7 @@ IsSame-then a b c first second = record { schema = first.schema ∙ second.schem
 module _ (frames : Bool) (files : Option (List File)) (first : DatabaseValue) where
   -- these entries were told, the next ones are kept besides, and the last of them left the database
   pub record Stands (events : List Event) (told next : List Entry) (db : DatabaseValue) : Type 0 where
-    pub answered : AreAnswered files first events (told ++ next) db
+    pub answered : AreAnswered frames files first events (told ++ next) db
     pub told_is : told_of events ≡ texts_from frames 0 told
     pub kept : IsSame (kept_of first events) db
     pub no_fault : is_at_fault events ≡ false
@@ -45,7 +45,7 @@ module _ (frames : Bool) (files : Option (List File)) (first : DatabaseValue) wh
     pub same_over : is_over (events ++ e ∷ []) ≡ is_over events
     same_over = is_over-push events e ∙ ap (λ (b : Bool). is_over events || b) going ∙ or-false (is_over events)
 
-    pub same_answered : (entries : List Entry) (db : DatabaseValue) → AreAnswered files first events entries db → AreAnswered files first (events ++ e ∷ []) entries db
+    pub same_answered : (entries : List Entry) (db : DatabaseValue) → AreAnswered frames files first events entries db → AreAnswered frames files first (events ++ e ∷ []) entries db
     same_answered entries db is = record {
       pieces = rw (same_come, same_over) is.pieces;
       answered = rw same_come is.answered;
@@ -72,7 +72,7 @@ module _ (frames : Bool) (files : Option (List File)) (first : DatabaseValue) wh
 
   -- nothing is kept, told or asked by it: how it is where input came, or more was asked for
   module _ (events : List Event) (told : List Entry) (db : DatabaseValue) (is : Stands events told [] db) where
-    told_all : AreAnswered files first events told db
+    told_all : AreAnswered frames files first events told db
     told_all = rw (append-nil told) at is.answered
 
     -- more was asked for, and each piece that has ended was told
@@ -80,7 +80,7 @@ module _ (frames : Bool) (files : Option (List File)) (first : DatabaseValue) wh
     asked_step ended going =
         let told_is : told_of (events ++ Asked ∷ []) ≡ texts_from frames 0 told = told_of-push events Asked ∙ append-nil (told_of events) ∙ is.told_is in
         let kept : IsSame (kept_of first (events ++ Asked ∷ [])) db = subst (λ (d : DatabaseValue). IsSame d db) (sym (kept_of-push first events Asked)) is.kept in
-        let answered : AreAnswered files first (events ++ Asked ∷ []) (told ++ []) db = same_answered events Asked refl refl (told ++ []) db is.answered in
+        let answered : AreAnswered frames files first (events ++ Asked ∷ []) (told ++ []) db = same_answered events Asked refl refl (told ++ []) db is.answered in
         record {
           answered = answered;
           told_is = told_is;
@@ -104,11 +104,11 @@ module _ (frames : Bool) (files : Option (List File)) (first : DatabaseValue) wh
         let told_is : told_of (events ++ e ∷ []) ≡ texts_from frames 0 told = told_of-push events e ∙ append-nil (told_of events) ∙ is.told_is in
         let kept : IsSame (kept_of first (events ++ e ∷ [])) db = subst (λ (d : DatabaseValue). IsSame d db) (sym (kept_of-push first events e)) is.kept in
         let pieces : AreFirst (come_of events) false (pieces_of told) = rw (← going) told_all.pieces in
-        let all : AreAnswered files first (events ++ e ∷ []) told db = record {
+        let all : AreAnswered frames files first (events ++ e ∷ []) told db = record {
           pieces = rw (come_of-push events e) (first_more (come_of events) bytes (is_over (events ++ e ∷ [])) (pieces_of told) pieces);
-          answered = rw (come_of-push events e) (Answered-more files (come_of events) bytes told first db pieces.fit told_all.answered);
+          answered = rw (come_of-push events e) (Answered-more frames files (come_of events) bytes told first db pieces.fit told_all.answered);
         } in
-        let answered : AreAnswered files first (events ++ e ∷ []) (told ++ []) db = rw (append-nil told) all in
+        let answered : AreAnswered frames files first (events ++ e ∷ []) (told ++ []) db = rw (append-nil told) all in
         record {
           answered = answered;
           told_is = told_is;
@@ -139,7 +139,7 @@ module _ (frames : Bool) (files : Option (List File)) (first : DatabaseValue) wh
       let e = Told (b ∷ bs) in
       let told_is : told_of (events ++ e ∷ []) ≡ texts_from frames 0 (told ++ next) = told_of-push events e ∙ text in
       let kept : IsSame (kept_of first (events ++ e ∷ [])) db = subst (λ (d : DatabaseValue). IsSame d db) (sym (kept_of-push first events e)) is.kept in
-      let answered : AreAnswered files first (events ++ e ∷ []) ((told ++ next) ++ []) db = rw (append-nil (told ++ next)) (same_answered events e refl refl (told ++ next) db is.answered) in
+      let answered : AreAnswered frames files first (events ++ e ∷ []) ((told ++ next) ++ []) db = rw (append-nil (told ++ next)) (same_answered events e refl refl (told ++ next) db is.answered) in
       record {
         answered = answered;
         told_is = told_is;
@@ -157,13 +157,13 @@ module _ (frames : Bool) (files : Option (List File)) (first : DatabaseValue) wh
       }
 
   -- the database behind the next entries is kept
-  pub keep_step : (events : List Event) (told next : List Entry) (db : DatabaseValue) → told_of events ≡ texts_from frames 0 told → AreAnswered files first events (told ++ next) db
+  pub keep_step : (events : List Event) (told next : List Entry) (db : DatabaseValue) → told_of events ≡ texts_from frames 0 told → AreAnswered frames files first events (told ++ next) db
       → is_at_fault events ≡ false → AtEachMoment (IsSound frames files first) events → Stands (events ++ Kept db ∷ []) told next db
   keep_step events told next db is answers no_fault sound =
       let e = Kept db in
       let told_is : told_of (events ++ e ∷ []) ≡ texts_from frames 0 told = told_of-push events e ∙ append-nil (told_of events) ∙ is in
       let kept : IsSame (kept_of first (events ++ e ∷ [])) db = subst (λ (d : DatabaseValue). IsSame d db) (sym (kept_of-push first events e)) (IsSame-self db) in
-      let answered : AreAnswered files first (events ++ e ∷ []) (told ++ next) db = same_answered events e refl refl (told ++ next) db answers in
+      let answered : AreAnswered frames files first (events ++ e ∷ []) (told ++ next) db = same_answered events e refl refl (told ++ next) db answers in
       record {
         answered = answered;
         told_is = told_is;
@@ -230,19 +230,37 @@ module _ (files : Option (List File)) (first : DatabaseValue) (events : List Eve
       (ap (λ (l : List ℕ). l ++ talk.group.replies.items) (told_behind talk.group.changed) ∙ at.text))
 
   -- the commit fails, or the hand-over
-  pub fails_to_keep : (db : DatabaseValue) → IsAt files first events pieces talk → IsTalked talk.manner.frames files first (events ++ NotKept db ∷ []) KeepFault
-  fails_to_keep db at = record {
-    sound = moments_same talk.manner.frames files first events (NotKept db) refl refl refl (λ d. refl) (λ x. absurd cc) at.sound;
-    ends = (db, (events, refl, at.no_fault));
+  pub fails_to_keep : IsAt files first events pieces talk → IsTalked talk.manner.frames files first (events ++ NotKept talk.session ∷ []) KeepFault
+  fails_to_keep at = record {
+    sound = moments_same talk.manner.frames files first events (NotKept talk.session) refl refl refl (λ d. refl) (λ x. absurd cc) at.sound;
+    ends = record {
+      db = talk.session;
+      ends = (events, refl, at.no_fault);
+      told = at.told;
+      told_is = told_of-push events (NotKept talk.session) ∙ append-nil (told_of events) ∙ at.told_is;
+      next = at.held;
+      answered = same_answered talk.manner.frames files first events (NotKept talk.session) refl refl (at.told ++ at.held) talk.session at.answered;
+    };
   }
 
-  pub fails_to_tell : (text : List ℕ) → IsAt files first events pieces talk → IsTalked talk.manner.frames files first (events ++ (keeping talk.group.changed talk.session ++ NotTold text ∷ [])) WriteFault
-  fails_to_tell text at =
+  pub fails_to_tell : IsAt files first events pieces talk
+      → IsTalked talk.manner.frames files first (events ++ (keeping talk.group.changed talk.session ++ NotTold talk.group.replies.items ∷ [])) WriteFault
+  fails_to_tell at =
       let is = kept_now at in
       let mid = events ++ keeping talk.group.changed talk.session in
-      rw (← append_assoc events (keeping talk.group.changed talk.session) (NotTold text ∷ [])) (record {
-        sound = moments_same talk.manner.frames files first mid (NotTold text) refl refl refl (λ d. refl) (λ x. absurd cc) is.sound;
-        ends = (text, (mid, refl, is.no_fault));
+      let text = talk.group.replies.items in
+      let e = NotTold text in
+      rw (← append_assoc events (keeping talk.group.changed talk.session) (e ∷ [])) (record {
+        sound = moments_same talk.manner.frames files first mid e refl refl refl (λ d. refl) (λ x. absurd cc) is.sound;
+        ends = record {
+          text = text;
+          ends = (mid, refl, is.no_fault);
+          entries = at.told ++ at.held;
+          text_is = ap (λ (l : List ℕ). l ++ text) (told_of-push mid e ∙ append-nil (told_of mid) ∙ told_behind talk.group.changed) ∙ at.text;
+          last = talk.session;
+          answered = same_answered talk.manner.frames files first mid e refl refl (at.told ++ at.held) talk.session is.answered;
+          kept = subst (λ (d : DatabaseValue). IsSame d talk.session) (sym (kept_of-push first mid e)) is.kept;
+        };
       })
 
 -- a piece is taken up
@@ -273,9 +291,9 @@ module _ (files : Option (List File)) (first : DatabaseValue) (events : List Eve
     told = at.told;
     held = at.held ++ up.entry ∷ [];
     pieces_are = rw (← entries_more) pieces_more;
-    answered = rw (← entries_more) (record {
+    answered = rw (manner_same, ← entries_more) (record {
       pieces = rw pieces_more (record { fit = fits_push (come_of events) pieces piece (rw (← at.pieces_are) at.answered.pieces.fit) fits; front = front });
-      answered = Answered-push files (come_of events) (at.told ++ at.held) up.entry first old.session new.session at.answered.answered up.answered;
+      answered = Answered-push old.manner.frames files (come_of events) (at.told ++ at.held) up.entry first old.session new.session at.answered.answered up.answered;
     });
     count = rw (← entries_more) (up.count ∙ ap (λ (k : ℕ). after k up.entry) at.count ∙ sym (answered_after-push 0 (at.told ++ at.held) up.entry));
     refused = rw (← entries_more) (up.refused ∙ ap (λ (b : Bool). b || refuses up.entry) at.refused ∙ sym (some_refuses-push (at.told ++ at.held) up.entry));

@@ -1,18 +1,20 @@
 -- What is told of the pieces of an input, in order.
--- answer: the reply to the statement that stands there; blank: a piece of white space and comments alone
+-- answer: the reply to the statement that stands there, and where a refused one goes wrong; blank: a piece of white space and comments alone
 -- frames: whether lines for programs stand before the replies; k: how many statements were answered before
-use Rattle.std.specs.Prelude.{ℕ, ◌+◌, ◌||◌, Bool, true, false, List, [], ◌∷◌, ◌++◌, length, map, codes, decimal, if◌then◌else◌}
+use Rattle.std.specs.Prelude.{ℕ, ◌+◌, ◌||◌, Bool, true, false, List, [], ◌∷◌, ◌++◌, length, map, codes, decimal, Option, if◌then◌else◌}
 use Rattle.su_lex.specs.declared.spans.Span.{Span}
 use Rattle.su_stream.specs.declared.pieces.Piece.{Piece}
 use Rattle.su_session.specs.declared.replies.Reply.{Reply}
+use Rattle.su_faults.specs.declared.faults.Fault.{Fault}
+use Rattle.su_places.specs.Laws.{told}
 
 pub data Entry : Type 0 where
-  Answer : Span → Reply → Entry
+  Answer : Span → Reply → Option Fault → Entry
   Blank : Span → Entry
 
 -- the piece that it is of
 abbrev pub piece_of : Entry → Piece
-piece_of (Answer span reply) = record { span = span; blank = false }
+piece_of (Answer span reply found) = record { span = span; blank = false }
 piece_of (Blank span) = record { span = span; blank = true }
 
 abbrev pub pieces_of : List Entry → List Piece
@@ -20,12 +22,12 @@ pieces_of entries = map piece_of entries
 
 -- how many statements were answered behind one more
 abbrev pub after : ℕ → Entry → ℕ
-after k (Answer span reply) = k + 1
+after k (Answer span reply found) = k + 1
 after k (Blank span) = k
 
 -- whether it is a refusal
 abbrev pub refuses : Entry → Bool
-refuses (Answer span reply) = reply.refused
+refuses (Answer span reply found) = reply.refused
 refuses (Blank span) = false
 
 -- whether some reply is a refusal
@@ -45,9 +47,9 @@ verdict_of reply = if reply.refused then codes "refused" else codes "accepted"
 abbrev pub reply_head : ℕ → Span → Reply → List ℕ
 reply_head k span reply = codes "reply " ++ decimal k ++ codes " " ++ places_of span ++ codes " " ++ decimal (length reply.bytes) ++ codes " "
 
--- reply K FROM TO LENGTH accepted|refused
-abbrev pub reply_line : ℕ → Span → Reply → List ℕ
-reply_line k span reply = (reply_head k span reply ++ verdict_of reply) ++ 10 ∷ []
+-- reply K FROM TO LENGTH accepted|refused, and ` at PLACE expected KIND ..` of one that goes wrong, with the place in the input
+abbrev pub reply_line : ℕ → Span → Reply → Option Fault → List ℕ
+reply_line k span reply found = ((reply_head k span reply ++ verdict_of reply) ++ told span.start found) ++ 10 ∷ []
 
 -- blank FROM TO
 abbrev pub blank_line : Span → List ℕ
@@ -55,9 +57,9 @@ blank_line span = codes "blank " ++ places_of span ++ 10 ∷ []
 
 -- what is told of one
 abbrev pub text_of : Bool → ℕ → Entry → List ℕ
-text_of true k (Answer span reply) = reply_line k span reply ++ reply.bytes
+text_of true k (Answer span reply found) = reply_line k span reply found ++ reply.bytes
 text_of true k (Blank span) = blank_line span
-text_of false k (Answer span reply) = reply.bytes
+text_of false k (Answer span reply found) = reply.bytes
 text_of false k (Blank span) = []
 
 -- what is told of all, where so many statements were answered before

@@ -1,13 +1,12 @@
 //! One statement answered.
-ghost use Rattle.std.specs.Prelude.{◌≡◌, ◌≤◌, ◌++◌, ◌∷◌, [], ℕ, List as Items, IfOk, OnOk, true, codes, option_map};
+ghost use Rattle.std.specs.Prelude.{◌&&◌, ◌≡◌, IfOk, option_map};
 ghost use Rattle.su_effects.specs.Effects.{Makes};
 ghost use Rattle.su_io.specs.Ends.{Stays};
-ghost use Rattle.su_session.specs.Commands.{IsRead, WasRead, RepliedTo};
-ghost use Rattle.su_session.specs.WantedFiles.{Wants};
+ghost use Rattle.su_session.specs.Commands.{WasRead, RepliedTo};
 ghost use Rattle.su_state.specs.DatabaseValue.{IsWellKept};
-ghost use Rattle.su_talk.specs.Answers.{IsLine, AnswersOne};
+ghost use Rattle.su_talk.specs.Answers.{IsLine, IsPlaced};
 ghost use Rattle.su_talk.specs.Keeping.{KeepsAsBefore};
-ghost use Rattle.su_talk.specs.inside.Effects.{ComesOf};
+ghost use Rattle.su_talk.specs.inside.Effects.{ComesOf, ComesOfLoad};
 
 use crate::company::Company;
 use crate::manners::Manner;
@@ -15,6 +14,7 @@ use std::alloc::Global;
 use std::thread::Threads;
 use su_base::{List, NoMemory, Str};
 use su_effects::{Effect, effect_of};
+use su_faults::{Fault, script_fault};
 use su_io::ReadEnd;
 use su_par::Gate;
 use su_session::{Command, Reply, Session, Want, read};
@@ -53,6 +53,21 @@ fn refused(alloc: Global, what: &str, path: &Str) -> Result<Outcome, NoMemory>
         reply,
         effect: Effect::Nothing,
     })
+}
+
+/// Where a refused text goes wrong first, in frames; none where it has a form.
+pub(crate) fn place_of(
+    alloc: Global,
+    frames: bool,
+    refused: bool,
+    text: &[u8],
+) -> Result<Option<Fault>, NoMemory>
+    ensures { IfOk result (λ found. IsPlaced (frames && refused) text.now found) }
+{
+    if frames && refused {
+        return script_fault(alloc, text);
+    }
+    Ok(None)
 }
 
 /// Does what was read, on the bytes of its file. What is refused has changed nothing.
@@ -95,7 +110,7 @@ fn load<R: Threads + Sync, C: Company, G: Gate>(
     ensures files { C.files company.new ≡ C.files company.old }
     ensures keeps { KeepsAsBefore (C.keeps company.old) (C.keeps company.new) }
     ensures events { Stays (C.events company.old) (C.events company.new) }
-    ensures comes { IfOk result (λ outcome. (text : Items ℕ) → IsRead text command → Wants session.old text (Want.File path) → ComesOf (C.files company.old) text session.old outcome session.new) }
+    ensures comes { IfOk result (λ outcome. ComesOfLoad (C.files company.old) path command session.old outcome session.new) }
 {
     match company.file(alloc, path.copy(alloc)?, LOAD_LIMIT) {
         Ok(bytes) => {

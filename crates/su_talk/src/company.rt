@@ -1,5 +1,5 @@
 //! Whom a program talks with.
-ghost use Rattle.std.specs.Prelude.{◌≡◌, ◌⊎◌, ◌<◌, ◌^◌, ℕ, List as Items, [], ◌∷◌, Option, take, IfOk, OnOk, OnErr};
+ghost use Rattle.std.specs.Prelude.{◌≡◌, ◌⊎◌, ◌<◌, ◌^◌, List as Items, [], ◌∷◌, Option, take, IfOk, OnOk, OnErr, IsErr, length};
 ghost use Rattle.std.specs.Io.{ReadsAtMost};
 ghost use Rattle.su_io.specs.declared.files.File.{File};
 ghost use Rattle.su_io.specs.Ends.{Grew, Stays};
@@ -29,8 +29,12 @@ pub trait Company {
     /// Whether this database is kept.
     ghost keeps: { Self → DatabaseValue → Type 0 };
 
+    /// Whether nothing is kept any more, as a change couldn't be: what it keeps then has to be opened anew.
+    ghost is_shut: { Self → Type 0 };
+
     /// Asks for input: some bytes, at the front of the buffer, or none at the end of the input.
     fn ask(&mut self, buf: &mut [u8]) -> Result<usize, Failed>
+        requires { 0 < length buf.old }
         ensures files { files self.new ≡ files self.old }
         ensures keeps { KeepsAsBefore (keeps self.old) (keeps self.new) }
         ensures bound { ReadsAtMost result buf.new }
@@ -47,13 +51,14 @@ pub trait Company {
         ensures over { result ≡ Err ReadEnd.TooLong → IsThere (files self.old) path × IsOver (files self.old) path limit }
         ensures missing { result ≡ Err ReadEnd.Failed → IsMissing (files self.old) path };
 
-    /// Keeps what a group changed, in one commit. `db` is the database after it. Where that fails, the
-    /// database before the group is kept, or `db`.
+    /// Keeps what a group changed, in one commit. `db` is the database after it. Where that fails, nothing
+    /// is kept any more, or what was kept, or `db`.
     fn keep(&mut self, db: &Database, changes: List<Change>) -> Result<(), Failed>
         requires { LeadFromKept (keeps self.old) changes db.now }
         ensures files { files self.new ≡ files self.old }
         ensures kept { OnOk result (keeps self.new db.now) }
-        ensures either { OnErr result ((before : DatabaseValue) → keeps self.old before → keeps self.new before ⊎ keeps self.new db.now) }
+        ensures either { OnErr result (is_shut self.new ⊎ ((before : DatabaseValue) → keeps self.old before → keeps self.new before ⊎ keeps self.new db.now)) }
+        ensures shut { is_shut self.old → IsErr result × is_shut self.new }
         ensures event { OnOk result (Grew (events self.old) (events self.new) (Kept db.now ∷ [])) }
         ensures failed { OnErr result (Grew (events self.old) (events self.new) (NotKept db.now ∷ [])) };
 

@@ -1,11 +1,14 @@
 //! The lines that tell programs where a reply begins and ends.
-ghost use Rattle.std.specs.Prelude.{◌≡◌, ◌++◌, true, false, if◌then◌else◌, OnOk, codes};
+ghost use Rattle.std.specs.Prelude.{◌≡◌, ◌++◌, true, OnOk};
+ghost use Rattle.su_places.specs.Laws.{told};
 ghost use Rattle.su_talk.specs.Entries.{text_of, reply_head, reply_line, verdict_of};
 ghost use Rattle.su_talk.specs.Entries.Entry.{Answer, Blank};
 
 use std::alloc::Global;
 use su_base::NoMemory;
+use su_faults::Fault;
 use su_lex::Span;
+use su_places::push_place;
 use su_session::Reply;
 
 /// Adds `blank FROM TO`, for a piece of white space and comments alone.
@@ -58,6 +61,21 @@ fn push_verdict(
     Ok(())
 }
 
+/// Adds where a refused statement goes wrong, with the place in the input.
+fn push_found(
+    alloc: Global,
+    out: &mut Vec<u8>,
+    span: Span,
+    found: &Option<Fault>,
+) -> Result<(), NoMemory>
+    ensures { OnOk result (out.new.items ≡ out.old.items ++ told span.start found.now) }
+{
+    match found {
+        Some(fault) => push_place(alloc, out, span.start, fault),
+        None => Ok(()),
+    }
+}
+
 /// Adds that, and the end of the line.
 fn push_line(
     alloc: Global,
@@ -65,10 +83,12 @@ fn push_line(
     number: u64,
     span: Span,
     reply: &Reply,
+    found: &Option<Fault>,
 ) -> Result<(), NoMemory>
-    ensures { OnOk result (out.new.items ≡ out.old.items ++ reply_line number span reply.now) }
+    ensures { OnOk result (out.new.items ≡ out.old.items ++ reply_line number span reply.now found.now) }
 {
     push_verdict(alloc, out, number, span, reply)?;
+    push_found(alloc, out, span, found)?;
     out.extend_from_slice(b"\n")?;
     Ok(())
 }
@@ -80,10 +100,11 @@ fn push_framed(
     number: u64,
     span: Span,
     reply: &Reply,
+    found: &Option<Fault>,
 ) -> Result<(), NoMemory>
-    ensures { OnOk result (out.new.items ≡ out.old.items ++ text_of true number (Answer span reply.now)) }
+    ensures { OnOk result (out.new.items ≡ out.old.items ++ text_of true number (Answer span reply.now found.now)) }
 {
-    push_line(alloc, out, number, span, reply)?;
+    push_line(alloc, out, number, span, reply, found)?;
     out.extend_from_slice(reply.bytes.as_slice())?;
     Ok(())
 }
@@ -96,11 +117,12 @@ pub(crate) fn push_reply(
     number: u64,
     span: Span,
     reply: &Reply,
+    found: &Option<Fault>,
 ) -> Result<(), NoMemory>
-    ensures { OnOk result (out.new.items ≡ out.old.items ++ text_of frames number (Answer span reply.now)) }
+    ensures { OnOk result (out.new.items ≡ out.old.items ++ text_of frames number (Answer span reply.now found.now)) }
 {
     if frames {
-        return push_framed(alloc, out, number, span, reply);
+        return push_framed(alloc, out, number, span, reply, found);
     }
     out.extend_from_slice(reply.bytes.as_slice())?;
     Ok(())

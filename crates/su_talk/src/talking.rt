@@ -1,17 +1,14 @@
 //! A talk: groups of statements, each answered before more is asked for.
-ghost use Rattle.std.specs.Prelude.{◌≡◌, ◌≤◌, ◌<◌, ◌-◌, ◌++◌, ◌∷◌, [], ℕ, List as Items, length, OnOk, IfErr, true, false, Option, Ok};
+ghost use Rattle.std.specs.Prelude.{◌≡◌, ◌≤◌, ◌<◌, ◌-◌, ◌∷◌, [], ℕ, List as Items, length, IfOk, OnOk, IfErr, true, false, Option, Ok};
 ghost use Rattle.su_io.specs.declared.files.File.{File as AFile};
 ghost use Rattle.su_io.specs.Ends.{Grew, Stays};
-ghost use Rattle.su_state.specs.DatabaseValue.{DatabaseValue};
-ghost use Rattle.su_stream.specs.declared.pieces.Piece.{Piece as APiece};
-ghost use Rattle.su_stream.specs.Coming.{HasCome, HasLookedAtAll, IsUpToDate, Holds, open_text};
-ghost use Rattle.su_talk.specs.Events.{Event};
+ghost use Rattle.su_stream.specs.Coming.{HasLookedAtAll, IsUpToDate, Holds};
 ghost use Rattle.su_talk.specs.Events.Event.{NotKept, NotTold};
 ghost use Rattle.su_talk.specs.Keeping.{LeadFromKept, KeepsAsBefore};
 ghost use Rattle.su_talk.specs.Statements.{statement_limit};
 ghost use Rattle.su_talk.specs.inside.Groups.{keeping, telling};
 
-use crate::answering::answer;
+use crate::answering::{answer, place_of};
 use crate::closes::Close;
 use crate::company::Company;
 use crate::framing::{push_blank, push_reply};
@@ -59,6 +56,15 @@ fn is_long(piece: Piece) -> bool
     piece.span.end - piece.span.start > STATEMENT_LIMIT
 }
 
+/// Room for what one read gives.
+fn room(alloc: Global) -> Result<Vec<u8>, NoMemory>
+    ensures { IfOk result (λ buffer. 0 < length buffer.items) }
+{
+    let mut buffer = Vec::new(alloc);
+    buffer.resize(READ, 0u8)?;
+    Ok(buffer)
+}
+
 /// Keeps what a group changed, if it changed anything.
 fn keep<C: Company>(
     db: &Database,
@@ -99,9 +105,8 @@ fn tell<C: Company>(replies: &[u8], company: &mut C) -> Result<(), Close>
 }
 
 impl Talk {
-    ghost use Rattle.su_stream.specs.Ended.{AreEnded};
     ghost use Rattle.su_talk.specs.inside.Groups.{IsEmpty, closing, FailsToClose};
-    ghost use Rattle.su_talk.specs.inside.Turns.{TakesUp, LeadsOn, AnswersPiece, AnswersEnded, Hears, Finishes, Talks};
+    ghost use Rattle.su_talk.specs.inside.Turns.{TakesUp, TakesUpNext, LeadsOn, AnswersPiece, AnswersEnded, Hears, Finishes, Talks};
 
     /// Keeps what the group changed, and then hands its replies over.
     fn close_group<C: Company>(&mut self, company: &mut C) -> Result<(), Close>
@@ -135,7 +140,7 @@ impl Talk {
         ensures keeps { KeepsAsBefore (C.keeps company.old) (C.keeps company.new) }
         ensures events { Stays (C.events company.old) (C.events company.new) }
         ensures leads { OnOk result (LeadsOn self.old self.new) }
-        ensures up { OnOk result ((come : Items ℕ) (given : Items APiece) → HasCome come given self.old.stream → TakesUp (C.files company.old) come piece self.old self.new) }
+        ensures up { OnOk result (TakesUpNext (C.files company.old) piece self.old self.new) }
     {
         if self.count == u64::MAX {
             return Err(NoMemory);
@@ -151,10 +156,11 @@ impl Talk {
             company,
             gate,
         )?;
-        self.group.take(outcome.effect)?;
         let reply = outcome.reply;
-        self.refused |= reply.refused;
         let frames = self.manner.frames;
+        let found = place_of(self.alloc, frames, reply.refused, text)?;
+        self.group.take(outcome.effect)?;
+        self.refused |= reply.refused;
         push_reply(
             self.alloc,
             frames,
@@ -162,6 +168,7 @@ impl Talk {
             self.count,
             span,
             &reply,
+            &found,
         )?;
         self.count += 1;
         Ok(())
@@ -193,7 +200,7 @@ impl Talk {
         ensures keeps { KeepsAsBefore (C.keeps company.old) (C.keeps company.new) }
         ensures events { Stays (C.events company.old) (C.events company.new) }
         ensures leads { OnOk result (LeadsOn self.old self.new) }
-        ensures up { OnOk result ((come : Items ℕ) (given : Items APiece) → HasCome come given self.old.stream → TakesUp (C.files company.old) come piece self.old self.new) }
+        ensures up { OnOk result (TakesUpNext (C.files company.old) piece self.old self.new) }
     {
         if piece.blank {
             self.pass_over(piece)
@@ -269,6 +276,7 @@ impl Talk {
         requires empty { IsEmpty self.old.group }
         requires looked { HasLookedAtAll self.old.stream }
         requires ended { IsUpToDate self.old.stream }
+        requires room { 0 < length buffer.old }
         ensures files { C.files company.new ≡ C.files company.old }
         ensures leads { OnOk result (LeadFromKept (C.keeps company.new) self.new.group.changes self.new.session) }
         ensures same { self.new ≡ record self.old { stream = self.new.stream } }
@@ -295,7 +303,8 @@ impl Talk {
         company: &mut C,
         gate: &G,
     ) -> Result<bool, Close>
-        requires { LeadFromKept (C.keeps company.old) self.old.group.changes self.old.session }
+        requires leads { LeadFromKept (C.keeps company.old) self.old.group.changes self.old.session }
+        requires room { 0 < length buffer.old }
         ensures files { C.files company.new ≡ C.files company.old }
         ensures leads { OnOk result (LeadFromKept (C.keeps company.new) self.new.group.changes self.new.session) }
         ensures manner { OnOk result (self.new.manner ≡ self.old.manner) }
@@ -339,13 +348,13 @@ impl Talk {
         company: &mut C,
         gate: &G,
     ) -> Result<(), Close>
-        requires { LeadFromKept (C.keeps company.old) self.old.group.changes self.old.session }
+        requires kept { C.keeps company.old self.old.session }
+        requires unchanged { self.old.group.changes ≡ [] }
         ensures { Talks (C.files company.old) self.old self.new (C.events company.old) (C.events company.new) result }
     {
-        let mut buffer = Vec::new(self.alloc);
-        if buffer.resize(READ, 0u8).is_err() {
+        let Ok(mut buffer) = room(self.alloc) else {
             return Err(Close::NoMemory);
-        }
+        };
         for _turn in 0..u64::MAX {
             match self.turn(rt, buffer.as_mut_slice(), company, gate) {
                 Ok(true) => {}

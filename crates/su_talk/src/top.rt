@@ -1,8 +1,5 @@
 //! The talk as a whole.
-ghost use Rattle.std.specs.Prelude.{List as Items};
-ghost use Rattle.su_io.specs.Ends.{Grew};
-ghost use Rattle.su_talk.specs.Events.{Event};
-ghost use Rattle.su_talk.specs.Talked.{IsTalked};
+ghost use Rattle.su_talk.specs.Talked.{HasTalked};
 
 use crate::closes::Close;
 use crate::company::Company;
@@ -31,7 +28,7 @@ pub fn talk<R: Threads + Sync, C: Company, G: Gate>(
     gate: &G,
 ) -> Close
     requires { C.keeps company.old session }
-    ensures { (events : Items Event) × Grew (C.events company.old) (C.events company.new) events × IsTalked manner.frames (C.files company.old) session events result }
+    ensures { HasTalked manner.frames (C.files company.old) session (C.events company.old) (C.events company.new) result }
 {
     let mut talk = Talk {
         alloc,

@@ -2,6 +2,7 @@ pub mod Constants
 pub mod Counted
 pub mod Exact
 pub mod FittingRelation
+pub mod Instances
 pub mod Made
 pub mod Objects
 pub mod Picked

@@ -1,5 +1,5 @@
 -- What a window answers, from the names of the padded rows.
-use Rattle.std.proofs.Common.{◌≡◌, ◌↔◌, ℕ, ◌<◌, ◌≤◌, Option, None, MatchOption, List, map, length, get_or, Contains, refl, sym, ◌∙◌, subst}
+use Rattle.std.proofs.Common.{◌≡◌, ◌↔◌, ℕ, ◌<◌, ◌≤◌, Option, None, MatchOption, List, map, length, get_or, Contains, refl, sym, subst}
 use Rattle.std.specs.Prelude.{All}
 use Rattle.std.proofs.lemmas.List.{length-map}
 use Rattle.su_base.specs.declared.values.Value.{Value}
@@ -18,7 +18,7 @@ use Rattle.su_window.specs.Window.{Fits, InWindow}
 use Rattle.su_window.specs.Members.{HasFew}
 use Rattle.su_window.specs.Padded.{member_read, AreReadings, padded_rows}
 use Rattle.su_window.specs.Refusals.{Clashes}
-use Rattle.su_window.specs.Representative.{IsRepresentative}
+use Rattle.su_window.specs.Representative.{IsRepresentative, Represents}
 use Rattle.su_window.specs.inside.Readings.{AreConstants}
 use Rattle.su_window.proofs.Rows.{rows_long, are_rows}
 use Rattle.su_window.proofs.Picked.{no_clash, has_constants}
@@ -59,11 +59,6 @@ module _ (db : DatabaseValue) (kept : IsWellKept db) (readings : List Reading) (
   pub refused_told : (less greater : Value) → IsClash fds rows less greater → Clashes db less greater × ((universe : List (List Value)) → ¬ Fits db universe)
   refused_told less greater clash = refused db kept readings are few less greater (at_db (λ f r. IsClash f r less greater) clash)
 
-  pub attributes_within : (attributes : List ℕ) → All (λ a. a < width db.schema) attributes → All (λ row. All (λ a. a < length row) attributes) rows
-  attributes_within attributes low =
-      subst (λ (r : List (List Sym)). All (λ row. All (λ a. a < length row) attributes) r) (sym rows_are)
-      (λ i d l j e m. subst (λ (n : ℕ). get_or attributes j e < n) (sym (rows_long db readings i d l)) (low j e m))
-
   module _ (names : List Sym) (all : All (AreBelow (length names)) rows) (each : (k : ℕ) → k < length names → IsClassName fds rows (Var k) (get_or names k (Var k))) (clash : Option (Value × Value)) (told : MatchOption clash (IsConsistent fds rows) (λ p. IsClash fds rows p.0 p.1)) (none : clash ≡ None) where
     all_here : All (AreBelow (length names)) (padded_rows db readings)
     all_here = at_db (λ f r. All (AreBelow (length names)) r) all
@@ -74,16 +69,5 @@ module _ (db : DatabaseValue) (kept : IsWellKept db) (readings : List Reading) (
     consistent_here : IsConsistent db.schema.fds (padded_rows db readings)
     consistent_here = at_db IsConsistent (subst (λ (o : Option (Value × Value)). MatchOption o (IsConsistent fds rows) (λ p. IsClash fds rows p.0 p.1)) none told)
 
-    pub fits_told : HasFew db × ((universe : List (List Value)) × Fits db universe)
-    fits_told = fits db kept readings are few names all_here each_here consistent_here
-
-    pub represented_told : (rows : List (List Sym)) × IsRepresentative db rows
-    represented_told = represented db kept readings are few names all_here each_here consistent_here
-
-    pub exact_told : (attributes : List ℕ) → All (λ a. a < width db.schema) attributes → (rows_given : List (List Sym)) → rows_given ≡ rows → (names_given : List Sym) → names_given ≡ names → (found sorted : List (List Value)) → ((h : List Value) → Contains found h ↔ ((row : List Sym) × Contains rows_given row × AreConstants names_given row attributes h)) → ((h : List Value) → Contains sorted h ↔ Contains found h) → (h : List Value) → Contains sorted h ↔ InWindow db attributes h
-    exact_told attributes low rows_given rows_same names_given names_same found sorted finds members h =
-        let window = exact db kept readings are few names all_here each_here consistent_here attributes low h in
-        let finds_here : Contains found h ↔ ((row : List Sym) × Contains (padded_rows db readings) row × AreConstants names row attributes h) =
-        subst (λ (ns : List Sym). Contains found h ↔ ((row : List Sym) × Contains (padded_rows db readings) row × AreConstants ns row attributes h)) names_same
-        (subst (λ (rs : List (List Sym)). Contains found h ↔ ((row : List Sym) × Contains rs row × AreConstants names_given row attributes h)) (rows_same ∙ rows_are) (finds h)) in
-        (λ c. window.0 (finds_here.0 ((members h).0 c)), λ w. (members h).1 (finds_here.1 (window.1 w)))
+    pub represents_told : (rows_kept : List (List Sym)) → rows_kept ≡ padded_rows db readings → Represents db (record { rows = rows_kept; names = names })
+    represents_told rows_kept kept_are = record { readings = readings; are = are; few = few; rows = kept_are; below = all_here; named = each_here; consistent = consistent_here }

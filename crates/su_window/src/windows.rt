@@ -12,7 +12,7 @@ ghost use Rattle.su_window.specs.declared.faults.WindowFault.TheVariants.{NoMemo
 ghost use Rattle.su_window.specs.Window.{Fits, InWindow};
 ghost use Rattle.su_window.specs.Members.{HasFew};
 ghost use Rattle.su_window.specs.Refusals.{IsWindowRefusal};
-ghost use Rattle.su_window.specs.Representative.{IsRepresentative};
+ghost use Rattle.su_window.specs.Representative.{IsRepresentative, Represents};
 ghost use Rattle.su_window.specs.inside.Readings.{AreConstants, AreConstantsIfAny, AreConstantsIn};
 
 use crate::columns::all_columns;
@@ -97,16 +97,24 @@ fn constant_rows(
     Ok(found)
 }
 
-/// The rows over the attributes that every universal relation has which meets the dependencies and
-/// includes the stored rows; an attribute may be given twice. (The windows of Maier, Ullman and Vardi,
-/// read off Sagiv's representative instance; what fits is a weak instance as Honeyman has it.) The time
-/// goes with the stored rows, and with the chase of at most 20,000 rows of the schema's width.
-pub fn window(alloc: Global, db: &Database, attributes: &[u8]) -> Result<List<Row>, WindowFault>
-    requires attributes { All (λ a. a < width db.now.schema) attributes.now }
-    ensures exact { IfOk result (λ rows. (h : Items AValue) → Contains rows h ↔ InWindow db.now attributes.now h) }
-    ensures ascending { IfOk result (λ rows. IsStrictlySortedBy compare_lists rows) }
-    ensures fits { IfOk result (λ _. HasFew db.now × ((universe : Items (Items AValue)) × Fits db.now universe)) }
-    ensures represented { IfOk result (λ _. (rows : Items (Items ASym)) × IsRepresentative db.now rows) }
+/// The representative instance of a database: the members of its views, padded, with the names that the
+/// chase gives their symbols. It serves every window of the database until its rows or its schema change.
+pub struct Representative {
+    pub(crate) rows: List<List<Sym>>,
+    pub(crate) names: List<Sym>,
+}
+
+/// Not derived, so that it is a single call wherever an instance goes out of scope above.
+impl Drop for Representative {
+    fn drop(self) {
+        let Representative { rows: _, names: _ } = self;
+    }
+}
+
+/// The representative instance, or why there is none. (Sagiv's; a weak instance as Honeyman has it is what
+/// fits.) The time goes with the stored rows, and with the chase of at most 20,000 rows of the schema's width.
+pub fn represent(alloc: Global, db: &Database) -> Result<Representative, WindowFault>
+    ensures is { IfOk result (Represents db.now) }
     ensures refused { IfErr result (λ fault. (fault ≡ OutOfMemory) ⊎ IsWindowRefusal db.now fault) }
 {
     db.keeps_its_rules();
@@ -116,9 +124,44 @@ pub fn window(alloc: Global, db: &Database, attributes: &[u8]) -> Result<List<Ro
     let Closed { names, clash } = close(alloc, db.schema().fds(), rows.as_slice())?;
     match clash {
         Some((less, greater)) => Err(WindowFault::Inconsistent { less, greater }),
-        None => {
-            let found = constant_rows(alloc, names.as_slice(), rows.as_slice(), attributes)?;
-            Ok(sorted_rows(found))
-        }
+        None => Ok(Representative { rows, names }),
     }
+}
+
+/// The window of the database that it represents on the attributes; an attribute may be given twice. (The
+/// total projection of Maier, Ullman and Vardi.) The time goes with the members and the attributes.
+pub fn window_of(
+    alloc: Global,
+    db: &Database,
+    representative: &Representative,
+    attributes: &[u8],
+) -> Result<List<Row>, NoMemory>
+    requires represents { Represents db.now representative.now }
+    requires attributes { All (λ a. a < width db.now.schema) attributes.now }
+    ensures exact { IfOk result (λ rows. (h : Items AValue) → Contains rows h ↔ InWindow db.now attributes.now h) }
+    ensures ascending { IfOk result (λ rows. IsStrictlySortedBy compare_lists rows) }
+    ensures fits { IfOk result (λ _. HasFew db.now × ((universe : Items (Items AValue)) × Fits db.now universe)) }
+    ensures represented { IfOk result (λ _. (rows : Items (Items ASym)) × IsRepresentative db.now rows) }
+{
+    db.keeps_its_rules();
+    let (rows, names) = (
+        representative.rows.as_slice(),
+        representative.names.as_slice(),
+    );
+    let found = constant_rows(alloc, names, rows, attributes)?;
+    Ok(sorted_rows(found))
+}
+
+/// The rows over the attributes that every universal relation has which meets the dependencies and
+/// includes the stored rows; an attribute may be given twice: `represent`, and then `window_of`.
+pub fn window(alloc: Global, db: &Database, attributes: &[u8]) -> Result<List<Row>, WindowFault>
+    requires attributes { All (λ a. a < width db.now.schema) attributes.now }
+    ensures exact { IfOk result (λ rows. (h : Items AValue) → Contains rows h ↔ InWindow db.now attributes.now h) }
+    ensures ascending { IfOk result (λ rows. IsStrictlySortedBy compare_lists rows) }
+    ensures fits { IfOk result (λ _. HasFew db.now × ((universe : Items (Items AValue)) × Fits db.now universe)) }
+    ensures represented { IfOk result (λ _. (rows : Items (Items ASym)) × IsRepresentative db.now rows) }
+    ensures refused { IfErr result (λ fault. (fault ≡ OutOfMemory) ⊎ IsWindowRefusal db.now fault) }
+{
+    let representative = represent(alloc, db)?;
+    Ok(window_of(alloc, db, &representative, attributes)?)
 }

@@ -1,72 +1,42 @@
-//! The session that a talk begins with.
-ghost use Rattle.std.specs.Prelude.{◌≡◌, ℕ, [], false, IfOk, Some};
-ghost use Rattle.su_state.specs.DatabaseValue.{rows_of};
+//! The database that a talk begins with.
+ghost use Rattle.std.specs.Prelude.{◌≡◌, ◌↔◌, true, is_some, IfOk, OnOk, None};
+ghost use Rattle.sqlite_wal.specs.Files.{image_at};
+ghost use Rattle.su_ddl.specs.Shown.{schema_text};
 ghost use Rattle.su_keep.specs.Kept.{HasCleanDisk, IsAt};
-ghost use Rattle.sysu_shell.specs.Keeping.{Keeps};
+ghost use Rattle.sysu_shell.specs.Keeping.{IsKept};
+ghost use Rattle.sysu_shell.specs.NewDatabases.{IsAskedFor, IsFirstOf, IsNew, IsNewSchema};
+ghost use Rattle.sysu_shell.specs.Openings.{IsOpened};
 
-use crate::asked::Asked;
-use crate::system::{OpenFile, System};
 use crate::telling::End;
+use crate::words::Asked;
+use sqlite_std_file::{FileFrom, Start};
+use sqlite_store::FileStore;
 use std::alloc::Global;
 use su_base::{List, NoMemory, Str};
-use su_ddl::{DdlFault, read, show};
-use su_io::{FileShelf, ReadEnd, read_all};
-use su_keep::{OpenFault, line_of};
+use su_ddl::{read, show};
+use su_keep::{Keeper, OpenFault, line_of};
 use su_schema::Schema;
-use su_session::Session;
-use su_show::ddl_fault;
 use su_state::Database;
 
-/// How many bytes a schema may have.
-const SCHEMA_LIMIT: u64 = 1 << 20;
-
-/// The end for a schema that is refused.
-fn refused(alloc: Global, fault: &DdlFault) -> End {
-    match ddl_fault(alloc, fault) {
-        Ok(line) => End::BadSchema(line),
-        Err(NoMemory) => End::NoMemory,
-    }
-}
-
-/// The schema in the file.
-fn schema_in(rt: HostRuntime, path: &Str) -> Result<Schema, End> {
-    let alloc = rt.alloc();
-    let Ok(path) = path.copy(alloc) else {
-        return Err(End::NoMemory);
-    };
-    let mut shelf = FileShelf::new(rt);
-    let bytes = match read_all(alloc, &mut shelf, path, SCHEMA_LIMIT) {
-        Ok(bytes) => bytes,
-        Err(ReadEnd::Failed) => return Err(End::SchemaFault),
-        Err(ReadEnd::TooLong) => return Err(End::TooLong),
-        Err(ReadEnd::NoMemory) => return Err(End::NoMemory),
-    };
-    match read(alloc, bytes.as_slice()) {
-        Ok(schema) => Ok(schema),
-        Err(fault) => Err(refused(alloc, &fault)),
-    }
-}
-
-/// The schema that is asked for.
-fn wanted_schema(rt: HostRuntime, wanted: &Asked) -> Result<Option<Schema>, End> {
-    match &wanted.schema {
-        Some(path) => Ok(Some(schema_in(rt, path)?)),
-        None => Ok(None),
-    }
-}
-
-/// A database without rows, of the schema or of the empty one.
-fn new_database(alloc: Global, schema: Option<Schema>) -> Result<Database, End>
-    ensures { IfOk result (λ db. (r : ℕ) → rows_of db r ≡ []) }
+/// The schema that is asked for, or that of an empty text.
+fn first_schema(alloc: Global, schema: Option<Schema>) -> Result<Schema, End>
+    ensures { IfOk result (IsNewSchema schema) }
 {
-    let schema = match schema {
-        Some(schema) => schema,
+    match schema {
+        Some(schema) => Ok(schema),
         None => match read(alloc, b"") {
-            Ok(schema) => schema,
-            Err(_) => return Err(End::NoMemory),
+            Ok(schema) => Ok(schema),
+            Err(_) => Err(End::NoMemory),
         },
-    };
-    match Database::new(alloc, schema) {
+    }
+}
+
+/// A database without rows.
+fn new_database(alloc: Global, schema: Option<Schema>) -> Result<Database, End>
+    ensures { IfOk result (IsNew schema) }
+{
+    let own = first_schema(alloc, schema)?;
+    match Database::new(alloc, own) {
         Ok(db) => Ok(db),
         Err(NoMemory) => Err(End::NoMemory),
     }
@@ -101,46 +71,35 @@ fn unopened(alloc: Global, path: &Str, fault: &OpenFault) -> End {
 }
 
 /// Whether the two schemas are the same.
-fn are_same(alloc: Global, one: &Schema, other: &Schema) -> Result<bool, NoMemory> {
+fn are_same(alloc: Global, one: &Schema, other: &Schema) -> Result<bool, NoMemory>
+    ensures { IfOk result (λ same. same ≡ true ↔ schema_text one.now ≡ schema_text other.now) }
+{
     let one = show(alloc, one)?;
     let other = show(alloc, other)?;
     Ok(one.as_slice() == other.as_slice())
 }
 
-/// The database has the schema, where one is asked for.
-fn check_schema(
-    alloc: Global,
-    path: &Str,
-    db: &Database,
-    schema: &Option<Schema>,
-) -> Result<(), End> {
-    let Some(schema) = schema else {
-        return Ok(());
-    };
-    match are_same(alloc, schema, db.schema()) {
-        Ok(true) => Ok(()),
-        Ok(false) => Err(bad_file(alloc, path, "has another schema")),
-        Err(NoMemory) => Err(End::NoMemory),
+/// Whether the database has the schema, where one is asked for.
+fn has_schema(alloc: Global, db: &Database, schema: &Option<Schema>) -> Result<bool, NoMemory>
+    ensures { IfOk result (λ same. same ≡ true ↔ IsAskedFor schema.now db.now.schema) }
+{
+    match schema {
+        Some(schema) => are_same(alloc, db.schema(), schema),
+        None => Ok(true),
     }
 }
 
-/// The file at the path, and the database that is in it; a new one is kept in a new file.
-fn open_file(
-    rt: HostRuntime,
-    path: &Str,
+/// Keeps a new database in a new file.
+fn begin<S: Start>(
+    alloc: Global,
+    mut keeper: Keeper<FileStore<FileFrom<S>>>,
     schema: Option<Schema>,
-) -> Result<(OpenFile, Database), End>
-    ensures { IfOk result (λ it. HasCleanDisk it.0 → IsAt it.0 (Some it.1)) }
+) -> Result<(Keeper<FileStore<FileFrom<S>>>, Database), End>
+    requires { HasCleanDisk keeper → IsAt keeper None }
+    ensures kept { IfOk result (λ it. IsKept it.0 it.1) }
+    ensures new { IfOk result (λ it. IsNew schema it.1) }
+    ensures clean { IfOk result (λ it. HasCleanDisk it.0 → HasCleanDisk keeper) }
 {
-    let alloc = rt.alloc();
-    let (mut keeper, found) = match su_keep::open(&rt, path.as_str()) {
-        Ok(opened) => opened,
-        Err(fault) => return Err(unopened(alloc, path, &fault)),
-    };
-    if let Some(db) = found {
-        check_schema(alloc, path, &db, &schema)?;
-        return Ok((keeper, db));
-    }
     let db = new_database(alloc, schema)?;
     match keeper.keep(&db, List::new(alloc)) {
         Ok(()) => Ok((keeper, db)),
@@ -151,46 +110,63 @@ fn open_file(
     }
 }
 
-fn copied(alloc: Global, word: &Option<Str>) -> Result<Option<Str>, NoMemory> {
-    match word {
-        Some(word) => Ok(Some(word.copy(alloc)?)),
-        None => Ok(None),
+/// The database that was found in the file, which has the schema that is asked for.
+fn go_on(alloc: Global, path: &Str, db: Database, schema: Option<Schema>) -> Result<Database, End>
+    ensures same { IfOk result (λ it. it ≡ db) }
+    ensures schema { OnOk result (IsAskedFor schema db.schema) }
+{
+    match has_schema(alloc, &db, &schema) {
+        Ok(true) => Ok(db),
+        Ok(false) => Err(bad_file(alloc, path, "has another schema")),
+        Err(NoMemory) => Err(End::NoMemory),
     }
 }
 
-/// The file that the words name, if any, and the database that is in it; without one a new database.
-fn first_database(
+/// The file at the path, and the database that is in it; a new one is kept in a new file. `start` stands
+/// for what the files hold.
+fn open_file<S: Start>(
+    rt: HostRuntime,
+    path: &Str,
+    start: S,
+    schema: Option<Schema>,
+) -> Result<(Keeper<FileStore<FileFrom<S>>>, Database), End>
+    ensures kept { IfOk result (λ it. IsKept it.0 it.1) }
+    ensures first { IfOk result (λ it. HasCleanDisk it.0 → IsFirstOf (image_at S.Start) schema it.1) }
+    ensures schema { IfOk result (λ it. IsAskedFor schema it.1.schema) }
+{
+    let alloc = rt.alloc();
+    let (keeper, found) = match su_keep::open(&rt, path.as_str(), start) {
+        Ok(opened) => opened,
+        Err(fault) => return Err(unopened(alloc, path, &fault)),
+    };
+    match found {
+        Some(db) => {
+            let db = go_on(alloc, path, db, schema)?;
+            Ok((keeper, db))
+        }
+        None => {
+            let (keeper, db) = begin(alloc, keeper, schema)?;
+            Ok((keeper, db))
+        }
+    }
+}
+
+/// The file that the words name, if any, and the database that it keeps; without one a new database.
+/// `start` stands for what the files hold.
+pub fn open<S: Start>(
     rt: HostRuntime,
     wanted: &Asked,
+    start: S,
     schema: Option<Schema>,
-) -> Result<(Option<OpenFile>, Database), End>
-    ensures { IfOk result (λ it. Keeps false it.0 it.1) }
+) -> Result<(Option<Keeper<FileStore<FileFrom<S>>>>, Database), End>
+    ensures opened { IfOk result (λ it. IsOpened (image_at S.Start) schema it.0 it.1) }
+    ensures file { IfOk result (λ it. is_some it.0 ≡ is_some wanted.now.file) }
 {
     match &wanted.file {
         Some(path) => {
-            let (file, db) = open_file(rt, path, schema)?;
+            let (file, db) = open_file(rt, path, start, schema)?;
             Ok((Some(file), db))
         }
         None => Ok((None, new_database(rt.alloc(), schema)?)),
-    }
-}
-
-/// The session and the system that the words ask for.
-pub fn open(rt: HostRuntime, wanted: &Asked) -> Result<(Session, System), End>
-    ensures { IfOk result (λ it. Keeps it.1.has_failed it.1.file it.0) }
-{
-    let alloc = rt.alloc();
-    let schema = wanted_schema(rt, wanted)?;
-    let Ok(folder) = copied(alloc, &wanted.folder) else {
-        return Err(End::NoMemory);
-    };
-    let (file, db) = first_database(rt, wanted, schema)?;
-    let system = System::new(rt, folder, file);
-    match Session::resume(alloc, db) {
-        Ok(session) => Ok((session, system)),
-        Err(NoMemory) => {
-            drop(system);
-            Err(End::NoMemory)
-        }
     }
 }

@@ -1,77 +1,63 @@
-//! The system as company: standard input and output, its files, and the file of the database.
-ghost use Rattle.std.specs.Prelude.{◌≡◌, false, None, IfOk};
-ghost use Rattle.sysu_shell.specs.Keeping.{Keeps};
+//! The system as company: standard input and output, its files, and where the database is kept.
+ghost use Rattle.std.specs.Prelude.{◌≡◌, true, false, None};
+ghost use Rattle.su_talk.specs.Keeping.{KeepsAsBefore};
 
 use crate::folders::below;
-use sqlite_std_file::File;
-use sqlite_store::FileStore;
+use crate::homes::Home;
 use std::alloc::Global;
 use std::io::{ErrorKind, Print, Read, Write};
 use su_base::{List, NoMemory, Str};
 use su_changes::Change;
 use su_io::{Failed, FileShelf, ReadEnd, read_all};
-use su_keep::Keeper;
 use su_state::Database;
 use su_talk::Company;
-
-/// The file that keeps the database.
-pub type OpenFile = Keeper<FileStore<File>>;
 
 /// How often a read that was interrupted is tried again.
 const TRIES: u32 = 1000;
 
 /// The system.
 #[derive(Drop)]
-pub struct System {
+pub struct System<H: Home + Drop> {
     rt: HostRuntime,
     shelf: FileShelf,
     /// The folder below which the files of loads are.
     folder: Option<Str>,
-    /// What keeps the database; without it, nothing does.
-    file: Option<OpenFile>,
-    /// Whether a change couldn't be kept.
-    has_failed: bool,
+    /// What keeps the database.
+    home: H,
 }
 
-impl System {
-    pub fn new(rt: HostRuntime, folder: Option<Str>, file: Option<OpenFile>) -> System
-        ensures file { result.file ≡ file }
-        ensures fresh { result.has_failed ≡ false }
+impl<H: Home + Drop> System<H> {
+    pub fn new(rt: HostRuntime, folder: Option<Str>, home: H) -> System<H>
+        ensures { result.home ≡ home }
     {
         System {
             rt,
             shelf: FileShelf::new(rt),
             folder,
-            file,
-            has_failed: false,
+            home,
         }
     }
 
-    /// Lets go of the file that keeps the database, so that it stands alone; whether it does.
-    pub fn end(self) -> bool {
-        let System {
-            rt: _,
-            shelf: _,
-            folder: _,
-            file,
-            has_failed: _,
-        } = self;
-        match file {
-            Some(keeper) => keeper.close().is_ok(),
-            None => true,
-        }
+    /// Brings what is kept to where it stands alone; whether it could.
+    pub fn settle(&mut self) -> bool
+        ensures keeps { result ≡ true → KeepsAsBefore (H.keeps self.old.home) (H.keeps self.new.home) }
+        ensures settled { result ≡ true → H.settles self.old.home self.new.home }
+        ensures shut { result ≡ false → H.is_shut self.new.home }
+    {
+        self.home.settle()
     }
 }
 
-impl Company for System {
+impl<H: Home + Drop> Company for System<H> {
     /// Nothing is told of the system's files.
     ghost files = { λ s. None };
 
     /// Nor of what happens.
     ghost events = { λ s. None };
 
-    /// Where the disk answers what was written, and no change has failed: the database that the file holds.
-    ghost keeps = { λ s db. Keeps s.has_failed s.file db };
+    ghost keeps = { λ s db. H.keeps s.home db };
+
+    ghost is_shut = { λ s. H.is_shut s.home };
 
     fn ask(&mut self, buf: &mut [u8]) -> Result<usize, Failed> {
         let mut input = self.rt.stdin();
@@ -98,16 +84,7 @@ impl Company for System {
     }
 
     fn keep(&mut self, db: &Database, changes: List<Change>) -> Result<(), Failed> {
-        match &mut self.file {
-            None => Ok(()),
-            Some(keeper) => match keeper.keep(db, changes) {
-                Ok(()) => Ok(()),
-                Err(_) => {
-                    self.has_failed = true;
-                    Err(Failed)
-                }
-            },
-        }
+        self.home.keep(db, changes)
     }
 
     fn tell(&mut self, text: &[u8]) -> Result<(), Failed> {

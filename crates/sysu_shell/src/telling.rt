@@ -1,9 +1,10 @@
 //! How the program ends, and the line that says why.
 ghost use Rattle.std.specs.Prelude.{◌≡◌, ◌⊎◌};
-ghost use Rattle.sysu_shell.specs.Statuses.{status_of};
+ghost use Rattle.sysu_shell.specs.Statuses.{end_of, is_unsettled, status_of};
 
 use std::io::{Print, Write};
-use su_base::List;
+use su_base::{List, Str};
+use su_talk::Close;
 
 pub const USAGE: &str =
     "usage: sysu_shell [FILE] [--schema FILE] [--files FOLDER] [--frames] [--workers N]\n";
@@ -27,6 +28,32 @@ pub enum End {
     KeepFault,
     /// The file can't be opened, for what the line says.
     BadFile(List<u8>),
+}
+
+/// The end of a talk that closed so.
+pub fn end_of(close: Close) -> End
+    ensures { result ≡ end_of close }
+{
+    match close {
+        Close::Done => End::Done,
+        Close::SomeRefused => End::SomeRefused,
+        Close::InputFault => End::InputFault,
+        Close::WriteFault => End::WriteFault,
+        Close::TooLong => End::TooLong,
+        Close::NoMemory => End::NoMemory,
+        Close::KeepFault => End::KeepFault,
+    }
+}
+
+/// Whether a line says that the file doesn't stand alone: where it doesn't, and the line for a change
+/// that wasn't kept doesn't say so.
+pub fn is_unsettled(close: Close, is_settled: bool) -> bool
+    ensures { result ≡ is_unsettled close is_settled }
+{
+    match close {
+        Close::KeepFault => false,
+        _ => !is_settled,
+    }
 }
 
 fn complain(rt: HostRuntime, line: &[u8]) {
@@ -75,4 +102,12 @@ pub fn say(rt: HostRuntime, end: &End) -> u8
             9
         }
     }
+}
+
+/// Says that the file doesn't stand alone.
+pub fn say_unsettled(rt: HostRuntime, path: &Str) {
+    complain(rt, path.as_str().as_bytes());
+    complain(rt, b": no room for the last copy: keep ");
+    complain(rt, path.as_str().as_bytes());
+    complain(rt, b"-wal beside it, which has what was kept last\n");
 }

@@ -1,7 +1,7 @@
 -- Where the things of an explanation stand, as numbers.
 -- x, y: from the left and from the top; each sum stops at the limit; rows: the lines behind a term's own
 -- No public contract cites this module.
-use Rattle.std.specs.Prelude.{◌≡◌, ℕ, ◌+◌, ◌-◌, ◌^◌, ◌==◌, ◌&&◌, ◌||◌, Bool, true, false, not, nat_le, nat_lt, min, max, if◌then◌else◌, List, [], ◌∷◌, ◌++◌, Option, Some, None, drop, take, map, slice_get, ⊤}
+use Rattle.std.specs.Prelude.{◌≡◌, ℕ, ◌+◌, ◌-◌, ◌==◌, ◌&&◌, ◌||◌, Bool, true, false, not, nat_lt, max, if◌then◌else◌, List, [], ◌∷◌, ◌++◌, Option, Some, None, drop, take, map, slice_get, ⊤}
 use Rattle.std.specs.List.{list_any}
 use Rattle.std.specs.Str.{bytes_eq}
 use Rattle.su_explained.specs.declared.kinds.Kind.{Kind}
@@ -14,25 +14,17 @@ use Rattle.su_draw.specs.declared.tables.Column.{Column}
 use Rattle.su_draw.specs.declared.tables.Table.{Table}
 use Rattle.su_draw.specs.declared.things.Thing.{Thing}
 use Rattle.su_draw.specs.declared.things.What.{What}
-use Rattle.su_draw.specs.declared.things.What.TheVariants.{Row, Symbol, Fold, Source}
+use Rattle.su_draw.specs.declared.things.What.TheVariants.{Row, Symbol, Fold, Source, Member}
 use Rattle.su_draw.specs.declared.shapes.Position.{Position}
 use Rattle.su_draw.specs.declared.shapes.Shape.{Shape}
+use Rattle.su_draw.specs.declared.shapes.Help.{Help}
+use Rattle.su_draw.specs.declared.shapes.Help.TheVariants.{Heading}
 use Rattle.su_draw.specs.declared.explaining.Layout.{Layout}
-use Rattle.su_draw.specs.Cutting.{is_long, front_from as front_of_text}
-use Rattle.su_draw.specs.Things.{symbol_of}
-use Rattle.su_draw.specs.Terms.{is_term, is_row, is_light, tells_fold, or_else, word_in, term_at, terms_from}
-
--- the words of line i; none where there is no such line
-abbrev pub words_or_none : Option Line → List (List ℕ)
-words_or_none None = []
-words_or_none (Some line) = line.words
-
-abbrev pub words_at : List Line → ℕ → List (List ℕ)
-words_at lines i = words_or_none (slice_get lines i)
-
--- the sum, or the limit
-abbrev pub plus : ℕ → ℕ → ℕ
-plus a b = min (a + b) (2 ^ 32 - 1)
+use Rattle.su_draw.specs.declared.ears.Edge.{Edge}
+use Rattle.su_draw.specs.Widths.{plus, shown_width}
+use Rattle.su_draw.specs.Ears.{ring_of}
+use Rattle.su_draw.specs.Things.{name_of, symbol_of}
+use Rattle.su_draw.specs.Terms.{words_at, is_term, is_row, is_light, tells_fold, or_else, word_in, term_at, terms_from}
 
 -- how far a line stands below the one before it
 abbrev pub step_to : Kind → ℕ
@@ -70,11 +62,6 @@ abbrev pub or_false : Option Bool → Bool
 or_false None = false
 or_false (Some b) = b
 
--- what stands before the first sign of equality (61)
-abbrev pub name_of : List ℕ → List ℕ
-name_of [] = []
-name_of (b ∷ bs) = if b == 61 then [] else b ∷ name_of bs
-
 -- a cell as its attribute and its symbol
 abbrev pub cell_of : List ℕ → Cell
 cell_of word = record { name = name_of word; symbol = symbol_of word }
@@ -102,22 +89,6 @@ classes_from (c ∷ cs) = if count_from 0 cs c.symbol == 1 then c.symbol ∷ cla
 abbrev pub mark_from : ℕ → List (List ℕ) → List ℕ → ℕ
 mark_from n [] symbol = 0
 mark_from n (s ∷ ss) symbol = if bytes_eq s symbol then n + 1 else mark_from (n + 1) ss symbol
-
--- how wide a byte is: a character beyond ASCII is taken to be twice as wide
-abbrev pub byte_width : ℕ → ℕ
-byte_width b = if nat_le 128 b && nat_le b 191 then 0 else (if nat_le 192 b then 16 else 8)
-
-abbrev pub width_from : ℕ → List ℕ → ℕ
-width_from w [] = w
-width_from w (b ∷ bs) = width_from (plus w (byte_width b)) bs
-
--- how wide a text is
-abbrev pub width_of : List ℕ → ℕ
-width_of text = width_from 0 text
-
--- how wide a text is as it is shown
-abbrev pub shown_width : List ℕ → ℕ
-shown_width text = if is_long text then plus (width_of (front_of_text 11 text)) 8 else width_of text
 
 -- how far behind the first of these words the next one begins
 abbrev pub offset_from : ℕ → List (List ℕ) → ℕ
@@ -234,6 +205,20 @@ StandsAs Fold lines heights lights left table t p = p ≡ fold_place table heigh
 StandsAs Source lines heights lights left table t p = p ≡ source_place table lines heights t.word (words_at lines t.line)
 StandsAs _ lines heights lights left table t p = ⊤
 
+-- the name of a column over it, at this height
+abbrev pub heading_over : ℕ → Table → List ℕ → Help
+heading_over y table name = Heading (column_from table.first table.columns name) y name
+
+-- the names of a table's columns, each over its column
+abbrev pub headings_over : ℕ → Table → List Help
+headings_over y table = map (λ c. heading_over y table c.name) table.columns
+
+-- the names of the columns of the terms that begin with these lines, or with the first line of all; i: the number of the first of these
+abbrev pub headings_from : ℕ → List ℕ → List Line → ℕ → List Line → List Help
+headings_from left heights lines i [] = []
+headings_from left heights lines i (line ∷ rest) =
+    (if (i == 0) || is_term line.kind then headings_over (plus (height_in heights i) 20) (table_of left lines i) else []) ++ headings_from left heights lines (i + 1) rest
+
 -- the layout is that of these lines
 pub record IsLayoutOf (lines : List Line) (layout : Layout) : Type 0 where
   pub of_lines : layout.lines.now ≡ lines
@@ -244,6 +229,10 @@ pub record IsLayoutOf (lines : List Line) (layout : Layout) : Type 0 where
 -- the shape stands where the layout has it
 abbrev pub IsLaid : Layout → Shape → Type 0
 IsLaid l s = StandsAs s.thing.what l.lines.now l.heights l.lights l.left (table_of l.left l.lines.now (or_else 0 (slice_get l.terms s.thing.line))) s.thing s.place
+
+-- a dot has the mark of its line
+abbrev pub IsRinged : List Edge → Shape → Type 0
+IsRinged core s = s.thing.what ≡ Member → s.place.mark ≡ ring_of core s.thing.line
 
 -- the shape stands where the lines have it, with so much room at the left
 abbrev pub IsLaidOver : List Line → ℕ → Shape → Type 0

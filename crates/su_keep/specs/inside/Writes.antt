@@ -12,19 +12,22 @@ use Rattle.su_schema.specs.SchemaValue.{SchemaValue}
 use Rattle.su_changes.specs.declared.changes.Change.{Change}
 use Rattle.su_changes.specs.Changes.{ChangesRows}
 use Rattle.su_entries.specs.TreeRows.{AreEntries}
-use Rattle.su_keep.specs.Shown.{text_entries}
+use Rattle.su_keep.specs.Listed.{rows_to}
+use Rattle.su_keep.specs.Shown.{text_entries, listed_in}
 
--- the table of the relation is there, without rows
-pub record MakesTable (r : ℕ) (old new : View) : Type 0 where
+-- the table of the relation is there, without rows, and is listed behind those of the relations before it
+pub record MakesTable (schema : SchemaValue) (r : ℕ) (old new : View) : Type 0 where
   pub numbered : new.is_numbered ≡ old.is_numbered
   pub made : new.trees (r + 1) ≡ []
+  pub catalog : listed_in old.trees ≡ rows_to schema r → listed_in new.trees ≡ rows_to schema (r + 1)
   pub others : (t : ℕ) → t ≢ r + 1 → t ≢ catalog_tree → new.trees t ≡ old.trees t
 
 -- those of the relations from one up to another are
-pub record MakesTables (first last : ℕ) (old new : View) : Type 0 where
+pub record MakesTables (schema : SchemaValue) (first last : ℕ) (old new : View) : Type 0 where
   pub numbered : new.is_numbered ≡ old.is_numbered
   pub made : (r : ℕ) → first ≤ r → r < last → new.trees (r + 1) ≡ []
-  pub others : (t : ℕ) → (t ≤ first) ⊎ (t ≡ version_tree) → new.trees t ≡ old.trees t
+  pub catalog : first ≤ last → listed_in old.trees ≡ rows_to schema first → listed_in new.trees ≡ rows_to schema last
+  pub others : (t : ℕ) → (t ≤ first) ⊎ ((first ≤ last) × (last < t) × (t ≢ catalog_tree)) → new.trees t ≡ old.trees t
 
 -- one tree is edited
 pub record Edits (tree : ℕ) (old new : View) (edit : List Entry → List Entry) : Type 0 where
@@ -62,16 +65,16 @@ WritesTables [] old new = new ≡ old
 WritesTables (change ∷ changes) old new = (between : View) × WritesTable change old between × WritesTables changes between new
 
 -- tables, the text, rows
-pub record WritesGroup (first last : ℕ) (held : Option (List ℕ)) (shown : List ℕ) (changes : List Change) (old new : View) : Type 0 where
+pub record WritesGroup (schema : SchemaValue) (first last : ℕ) (held : Option (List ℕ)) (shown : List ℕ) (changes : List Change) (old new : View) : Type 0 where
   pub with_tables : View
   pub with_text : View
-  pub tables : MakesTables first last old with_tables
+  pub tables : MakesTables schema first last old with_tables
   pub text : WritesText held shown with_tables with_text
   pub rows : WritesTables changes with_text new
 
 -- the same, with a table for each relation of the schema
 abbrev pub WritesAll : ℕ → SchemaValue → Option (List ℕ) → List ℕ → List Change → View → View → Type 0
-WritesAll first schema held shown changes old new = WritesGroup first (length schema.relations) held shown changes old new
+WritesAll first schema held shown changes old new = WritesGroup schema first (length schema.relations) held shown changes old new
 
 -- no object of the list has the name
 abbrev pub AreUnnamed : List ℕ → List Entry → Type 0

@@ -8,6 +8,7 @@ use Rattle.su_stream.specs.declared.pieces.Piece.{Piece}
 use Rattle.su_stream.specs.Coming.{HasCome}
 use Rattle.su_stream.specs.Ended.{AreEnded}
 use Rattle.su_changes.specs.Changes.{LeadTo}
+use Rattle.su_changes.specs.Extensions.{IsExtension}
 use Rattle.su_talk.specs.declared.closes.Close.{Close}
 use Rattle.su_talk.specs.declared.talking.Talk.{Talk}
 use Rattle.su_talk.specs.Answers.{AnswersEntry}
@@ -27,23 +28,28 @@ pub record TakesUp (files : Option (List AFile)) (come : List ℕ) (piece : Piec
   pub entry : Entry
   pub is_of : piece_of entry ≡ piece
   pub rest : new ≡ record old { session = new.session; group = new.group; count = new.count; refused = new.refused }
-  pub answered : AnswersEntry files come old.session entry new.session
+  pub answered : AnswersEntry old.manner.frames files come old.session entry new.session
   pub count : new.count ≡ after old.count entry
   pub refused : new.refused ≡ (old.refused || refuses entry)
   pub text : new.group.replies.items ≡ old.group.replies.items ++ text_of old.manner.frames old.count entry
   pub same : new.group.changed ≡ false → (old.group.changed ≡ false) × IsSame old.session new.session
 
+-- so in whatever has come
+abbrev pub TakesUpNext : Option (List AFile) → Piece → Talk → Talk → Type 0
+TakesUpNext files piece old new = (come : List ℕ) (given : List Piece) → HasCome come given old.stream → TakesUp files come piece old new
+
 -- what was changed since leads on
 pub record LeadsOn (old new : Talk) : Type 0 where
   pub rest : new ≡ record old { session = new.session; group = new.group; count = new.count; refused = new.refused }
   pub leads : (before : DatabaseValue) → LeadTo before old.group.changes old.session → LeadTo before new.group.changes new.session
+  pub extends : IsExtension old.session.schema new.session.schema
 
 -- these entries were taken up, and those whose texts aren't held back were told; what happened is sound at each moment
 pub record IsAt (files : Option (List AFile)) (first : DatabaseValue) (events : List Event) (pieces : List Piece) (talk : Talk) : Type 0 where
   pub told : List Entry
   pub held : List Entry
   pub pieces_are : pieces_of (told ++ held) ≡ pieces
-  pub answered : AreAnswered files first events (told ++ held) talk.session
+  pub answered : AreAnswered talk.manner.frames files first events (told ++ held) talk.session
   pub count : talk.count ≡ answered_after 0 (told ++ held)
   pub refused : talk.refused ≡ some_refuses (told ++ held)
   pub told_is : told_of events ≡ texts_from talk.manner.frames 0 told

@@ -6,4 +6,4 @@ use Rattle.library_tests.proofs.tests.asked.Goals as goal
 
 pub ask-requires-clause-kept : goal.ask-requires-clause-kept
 ask-requires-clause-kept g c κs within =
-    subst (λ (tables : List Stored). IsWellKept (record { schema = c.args.db.now.schema; tables = tables })) (sym (c.new-store.ensures.tables ∙ c.tables.ensures)) c.keeps_its_rules.ensures
+    subst (λ (tables : List Stored). IsWellKept (record { schema = c.args.db.now.schema; tables = tables })) (sym (c.new-store.ensures ∙ c.requires.rows)) c.keeps_its_rules.ensures

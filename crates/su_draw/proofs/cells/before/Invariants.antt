@@ -1,5 +1,5 @@
 use Rattle.std.proofs.Common.{◌≡◌, ◌++◌, drop, take}
-use Rattle.su_draw.specs.inside.Lay.{name_of}
+use Rattle.su_draw.specs.Things.{name_of}
 use Rattle.su_draw.proofs.cells.before.Given as goal
 
 abbrev pub invariant-loop-i : goal.invariant-loop-i

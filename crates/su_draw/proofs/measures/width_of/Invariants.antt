@@ -1,5 +1,5 @@
 use Rattle.std.proofs.Common.{◌≡◌, drop}
-use Rattle.su_draw.specs.inside.Lay.{width_from}
+use Rattle.su_draw.specs.Widths.{width_from}
 use Rattle.su_draw.proofs.measures.width_of.Given as goal
 
 abbrev pub invariant-loop-byte : goal.invariant-loop-byte

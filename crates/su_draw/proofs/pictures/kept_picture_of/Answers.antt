@@ -2,7 +2,7 @@
 use Rattle.std.proofs.Common.{rules, ◌≡◌, List, subst}
 use Rattle.su_explained.specs.declared.reading.Line.{Line}
 use Rattle.su_draw.specs.Once.{StandOnce, things_in_shapes}
-use Rattle.su_draw.specs.Promises.{KeepsPromises}
+use Rattle.su_draw.specs.Promises.{KeepsPromises, HeadingsStand, CoreIsRinged}
 use Rattle.su_draw.specs.Terms.{kept_lines}
 use Rattle.su_draw.proofs.pictures.kept_picture_of.Goals as goal
 
@@ -16,6 +16,9 @@ returns-in-Ok-write-clause-picture c =
       picture = picture;
       once = subst (λ z. StandOnce z (things_in_shapes picture.shapes)) same c.in-Ok-draw.ensures.once;
       promises = subst (λ z. KeepsPromises z picture.shapes) same c.in-Ok-draw.ensures.promises;
+      headings = subst (λ z. HeadingsStand z picture.helps picture.shapes) same c.in-Ok-draw.ensures.headings;
+      core = subst (λ z. CoreIsRinged z picture.shapes) same c.in-Ok-draw.ensures.core;
+      legend = c.in-Ok-draw.ensures.legend;
       is = c.in-Ok-write.ensures.text;
       is_document = c.in-Ok-write.ensures.well_formed;
     }

@@ -15,7 +15,11 @@ returns-in-Ok-write-clause-picture c =
       picture = c.in-Ok-draw.picture;
       once = c.in-Ok-draw.ensures.once;
       arrows = c.in-Ok-draw.ensures.arrows (rows_stand_behind c.args.text.now ls are);
+      sources = c.in-Ok-draw.ensures.sources (rows_stand_behind c.args.text.now ls are);
       promises = c.in-Ok-draw.ensures.promises;
+      headings = c.in-Ok-draw.ensures.headings;
+      core = c.in-Ok-draw.ensures.core;
+      legend = c.in-Ok-draw.ensures.legend;
       is = c.in-Ok-write.ensures.text;
       is_document = c.in-Ok-write.ensures.well_formed;
     }

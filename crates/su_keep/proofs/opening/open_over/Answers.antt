@@ -1,19 +1,37 @@
--- What is read stands in the store that was opened, whose cursors alone have moved.
-use Rattle.std.proofs.Common.{◌≡◌, ℕ, List, Option, Some, length, sym, ap, subst, ◌∙◌}
+-- What is read is what the opened store holds, and that is what the files recover to.
+use Rattle.std.proofs.Common.{Option, sym, subst, ◌∙◌}
 use Rattle.sqlite_trees.specs.View.{IsClean}
 use Rattle.sqlite_store.specs.FileStore.{view}
-use Rattle.su_schema.specs.SchemaValue.{SchemaValue}
+use Rattle.sqlite_store.specs.Laws.{settled_at}
+use Rattle.su_entries.proofs.QuietCalls.{clean_before}
 use Rattle.su_state.specs.DatabaseValue.{DatabaseValue}
-use Rattle.su_keep.specs.inside.Finds.{FindsKept}
-use Rattle.su_keep.proofs.Found.{stands_found}
-use Rattle.su_keep.proofs.Quiet.{clean_before}
+use Rattle.su_keep.specs.Shown.{ShowsKept}
+use Rattle.su_keep.specs.Opened.{StoodIn, image_of}
+use Rattle.su_keep.proofs.Found.{shows_found}
 use Rattle.su_keep.proofs.opening.open_over.Goals as goal
 
-pub returns-in-Some : goal.returns-in-Some
-returns-in-Some g c = λ clean.
-    let before : IsClean (view c.in_ok-store.store) = clean_before c.read_database.ensures.quiet clean in
-    let is : c.in_ok-database.field-0 ≡ Some (c.in-Some.database, c.in-Some.text) = search (c.in-Some.is) in
-    stands_found (view c.in_ok-store.store) (view c.read_database.new.store) c.in-Some.database c.in-Some.text c.relations-relations.result (c.in_ok-database.ensures.same clean)
-    (subst (λ (found : Option (DatabaseValue × List ℕ)). FindsKept (view c.in_ok-store.store).trees found) is (c.in_ok-database.ensures.found clean))
-    c.in_ok-store.ensures.ready.clean (c.in_ok-store.ensures.ready.is_open before)
-    (c.relations-relations.ensures ∙ ap (λ (s : SchemaValue). length s.relations) c.schema-in-Some.ensures ∙ sym c.keeps_its_rules-in-Some.ensures.tables)
+pub returns-in-Ok-read_database-clause-at : goal.returns-in-Ok-read_database-clause-at
+returns-in-Ok-read_database-clause-at g c = λ clean.
+    let store = c.in-Ok.store in
+    let now : IsClean (view c.read_database.new.store) = subst (λ s. IsClean (view s)) c.keeper_of.ensures.store clean in
+    let before = clean_before c.read_database.ensures.quiet now in
+    c.keeper_of.ensures.at (view store) (c.in-Ok.ensures.stands before) (c.in-Ok-read_database.ensures.same now) (c.in-Ok-read_database.ensures.found now)
+
+pub returns-in-Ok-read_database-clause-found : goal.returns-in-Ok-read_database-clause-found
+returns-in-Ok-read_database-clause-found g c = λ clean.
+    let store = c.in-Ok.store in
+    let now : IsClean (view c.read_database.new.store) = subst (λ s. IsClean (view s)) c.keeper_of.ensures.store clean in
+    let before = clean_before c.read_database.ensures.quiet now in
+    let trees = (view store).trees in (
+      trees,
+      c.in-Ok.ensures.found before,
+      subst (λ (kept : Option DatabaseValue). ShowsKept trees kept) (sym c.keeper_of.ensures.database) (shows_found trees c.in-Ok-read_database.found (c.in-Ok-read_database.ensures.found now)),
+    )
+
+pub returns-in-Err-read_database-clause-unharmed : goal.returns-in-Err-read_database-clause-unharmed
+returns-in-Err-read_database-clause-unharmed g c = λ now trees may.
+    let store = c.in-Ok.store in
+    let before = clean_before c.read_database.ensures.quiet now in
+    let stands = c.in-Ok.ensures.stands before in
+    subst (StoodIn (image_of g.D.Disk c.args.files)) (stands.settled ∙ sym (settled_at store g.met.D.Disk.seen_may_stay trees stands.is_open (c.read_database.ensures.quiet.outcomes trees may)))
+    (c.in-Ok.ensures.found before)

@@ -2,7 +2,7 @@
 use Rattle.std.proofs.Common.{◌≡◌, ◌++◌, ◌∷◌, [], sym, ap, ◌∙◌, append_assoc}
 use Rattle.std.specs.Vec.Iter.{into_iter_items}
 use Rattle.su_keep.proofs.Written.{changes_more}
-use Rattle.su_keep.proofs.Quiet.{quiet_then, clean_before}
+use Rattle.su_entries.proofs.QuietCalls.{quiet_then, clean_before}
 use Rattle.su_keep.proofs.writing.write_changes.Goals as goal
 
 pub loop-change-preserved : goal.loop-change-preserved

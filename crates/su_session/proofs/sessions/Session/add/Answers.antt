@@ -23,7 +23,7 @@ returns-in-Err-clause-replied c =
     c.refused.ensures)
 
 pub invariant_of-self-in-Err-adopt : goal.invariant_of-self-in-Err-adopt
-invariant_of-self-in-Err-adopt c = subst (λ (db : DatabaseValue). AreMaximalObjects db.schema c.self.inside.maximal) (sym c.in-Err-adopt.ensures.unchanged) c.self.invariant
+invariant_of-self-in-Err-adopt c = (subst (λ (db : DatabaseValue). AreMaximalObjects db.schema c.self.inside.maximal) (sym c.in-Err-adopt.ensures.unchanged) c.self.invariant.0, tt)
 
 pub returns-in-Err-adopt-clause-replied : goal.returns-in-Err-adopt-clause-replied
 returns-in-Err-adopt-clause-replied c =

@@ -1,5 +1,6 @@
-use Rattle.std.proofs.Common.{◌≡◌, ◌≤◌, ◌++◌, length}
+use Rattle.std.proofs.Common.{◌≡◌, ◌≤◌, ◌++◌, length, take}
 use Rattle.std.specs.Vec.Iter.{into_iter_items}
+use Rattle.su_state.specs.DatabaseValue.{rows_of}
 use Rattle.su_state.specs.Loads.{InsertsAll}
 use Rattle.su_state.proofs.databases.Database.insert_each.Given as goal
 
@@ -11,5 +12,6 @@ invariant-loop-row l = record {
   number : l.number ≡ length l.yielded;
   few : l.new ≤ l.number;
   schema : length l.self.schema.relations ≡ length l.initial.self.schema.relations;
+  front : take (length (rows_of l.initial.self l.relation)) (rows_of l.self l.relation) ≡ rows_of l.initial.self l.relation;
   inserts : InsertsAll l.initial.self l.relation l.yielded l.new l.self;
 }

@@ -5,7 +5,7 @@ use Rattle.su_talk.proofs.talking.Talk.close_group.Goals as goal
 pub returns-in-Ok-clause-kept : goal.returns-in-Ok-clause-kept
 returns-in-Ok-clause-kept g c =
     let kept = rw c.database-db.ensures at c.in-Ok.ensures.kept in
-    on_ok c.tell.result _ (kept.0, c.tell.ensures.keeps kept.0 kept.1, kept.2)
+    on_ok c.tell.result _ (kept.0, c.tell.ensures.keeps kept.0 kept.1, kept.2, kept.3)
 
 pub returns-in-Ok-clause-failed : goal.returns-in-Ok-clause-failed
 returns-in-Ok-clause-failed g c =

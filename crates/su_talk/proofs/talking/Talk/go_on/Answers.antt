@@ -1,16 +1,19 @@
 -- Each turn answers what has ended and then asks for more.
-use Rattle.std.proofs.Common.{refl, ◌∙◌, ap, Ok, Err}
+use Rattle.std.proofs.Common.{◌≡◌, ◌++◌, ◌∙◌, ℕ, List, length, drop, length-append, length-drop, Ok, Err, refl, ap, arith}
+use Rattle.std.proofs.lemmas.List.{length-take}
 use Rattle.su_talk.specs.declared.manners.Manner.{Manner}
+use Rattle.su_talk.proofs.Starting.{leads_first}
 use Rattle.su_talk.proofs.GoingOn.{finish_ends, turn_ends, heard_more, heard_end, no_memory, no_memory_behind, goes_on}
 use Rattle.su_talk.proofs.talking.Talk.go_on.Goals as goal
 
-pub returns-then-is_err : goal.returns-then-is_err
-returns-then-is_err g c first events pieces ready = no_memory (g.C.Company.files c.args.company.now) first events pieces c.args.self.now _ ready
+pub returns-in_default : goal.returns-in_default
+returns-in_default g c first events pieces ready = no_memory (g.C.Company.files c.args.company.now) first events pieces c.args.self.now _ ready
 
 pub loop-turn-init : goal.loop-turn-init
 loop-turn-init g c = record {
+  room = c.in-Ok.ensures;
   files = refl;
-  leads = c.requires;
+  leads = leads_first (g.C.Company.keeps c.args.company.now) c.args.self.now.session c.args.self.now.group.changes c.requires.unchanged c.requires.kept;
   manner = refl;
   goes = λ first events pieces ready. goes_on (g.C.Company.files c.args.company.now) first events pieces c.args.self.now _ ready;
 }
@@ -30,7 +33,12 @@ returns-in-Ok-false g c first events pieces ready =
 pub loop-turn-preserved : goal.loop-turn-preserved
 loop-turn-preserved g c =
     let inv = c.loop-turn.invariant in
+    let given = c.turn.new.buffer in
+    let held = c.loop-turn.buffer.items in
+    let same : length c.as_mut_slice.result.now ≡ length held = ap (λ (l : List ℕ). length l) c.as_mut_slice.ensures.value in
+    let behind = drop (length given) held in
     record {
+      room = omega (arith, inv.room, same, c.as_mut_slice.ensures.len, length-take c.loop-turn.buffer.len (given ++ behind), length-append given behind, length-drop (length given) held);
       files = c.turn.ensures.files ∙ inv.files;
       leads = c.in-Ok-true.ensures.leads;
       manner = c.in-Ok-true.ensures.manner ∙ inv.manner;

@@ -1,6 +1,7 @@
 -- A blank piece changes nothing but what is told of it.
 use Rattle.std.proofs.Common.{refl, sym, ap, append-nil, Bool}
 use Rattle.su_stream.specs.declared.pieces.Piece.{Piece}
+use Rattle.su_changes.proofs.Extending.{IsExtension-self}
 use Rattle.su_talk.specs.Entries.Entry.{Blank}
 use Rattle.su_talk.proofs.Events.{or-false}
 use Rattle.su_talk.proofs.Turns.{IsSame-self}
@@ -31,7 +32,7 @@ returns-else-frames-clause-up c files come = record {
 }
 
 pub returns-in_ok-push_blank-clause-leads : goal.returns-in_ok-push_blank-clause-leads
-returns-in_ok-push_blank-clause-leads c = record { rest = refl; leads = λ before leads. leads }
+returns-in_ok-push_blank-clause-leads c = record { rest = refl; leads = λ before leads. leads; extends = IsExtension-self c.args.self.now.session.schema }
 
 pub returns-else-frames-clause-leads : goal.returns-else-frames-clause-leads
-returns-else-frames-clause-leads c = record { rest = refl; leads = λ before leads. leads }
+returns-else-frames-clause-leads c = record { rest = refl; leads = λ before leads. leads; extends = IsExtension-self c.args.self.now.session.schema }

@@ -1,5 +1,0 @@
-use Rattle.library_query.specs.inside.Scanned.{AreAddedBelow}
-use Rattle.library_query.proofs.scanning.add_all.Given as goal
-
-abbrev pub invariant-loop-i : goal.invariant-loop-i
-invariant-loop-i l = AreAddedBelow l.column l.value l.rows l.i l.fn.positions.items l.positions.items

@@ -1,2 +1,0 @@
--- Definitions that only contracts of private functions and invariants of types need.
-pub mod Scanned

@@ -1,0 +1,6 @@
+use Rattle.std.proofs.Common.{ℕ, ◌<◌}
+use Rattle.su_advise.specs.Unused.{IsOver}
+use Rattle.su_advise.proofs.unused.is_read.Given as goal
+
+abbrev pub invariant-loop-o : goal.invariant-loop-o
+invariant-loop-o l = (k : ℕ) → k < l.o → ¬ IsOver l.schema k l.r

@@ -1,0 +1,11 @@
+pub mod Acyclic
+pub mod Alone
+pub mod Breakers
+pub mod Covering
+pub mod Cycles
+pub mod Keys
+pub mod Lying
+pub mod NormalForm
+pub mod Redundant
+pub mod Unused
+pub mod inside

@@ -1,0 +1,5 @@
+//! Tests of su_blame, of its public calls alone: a crate with tests is proved twice, so they stand beside it.
+#![tactic(auto)]
+
+#[cfg(test)]
+mod tests;

@@ -1,0 +1,10 @@
+pub mod Closed
+pub mod Equalities
+pub mod Kept
+pub mod Made
+pub mod Names
+pub mod Open
+pub mod Pushed
+pub mod Replayed
+pub mod StepRows
+pub mod Verdict

@@ -1,0 +1,2 @@
+-- Definitions that only contracts of private functions and invariants of types need.
+pub mod Renames

@@ -1,0 +1,5 @@
+pub mod Fitting
+pub mod Joining
+pub mod Left
+pub mod Objects
+pub mod Taken

@@ -1,0 +1,7 @@
+//! Every public type may be moved to another thread and shared between threads.
+use crate::counting::Dangling;
+use su_base::crosses_threads;
+
+fn types_cross_threads() {
+    crosses_threads::<Dangling>();
+}

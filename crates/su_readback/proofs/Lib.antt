@@ -1,0 +1,14 @@
+pub mod Closed
+pub mod Cut
+pub mod Decimals
+pub mod ExplanationFits
+pub mod ExplanationTexts
+pub mod ExplanationWords
+pub mod ExplanationsRead
+pub mod Fits
+pub mod OneReading
+pub mod PreparedRead
+pub mod SchemasRead
+pub mod SchemaTexts
+pub mod Spelled
+pub mod TermRead

@@ -1,0 +1,11 @@
+pub mod Advice
+pub mod CycleLines
+pub mod DependencyLines
+pub mod MaximalParts
+pub mod ObjectLines
+pub mod ObjectParts
+pub mod PairLines
+pub mod Parts
+pub mod Report
+pub mod UnusedLines
+pub mod inside

@@ -1,0 +1,2 @@
+pub mod DoctorRuns
+pub mod ScriptRuns

@@ -1,0 +1,3 @@
+-- Definitions that only contracts of private functions and invariants of types need.
+pub mod Tellings
+pub mod Turns
