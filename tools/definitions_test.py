@@ -10,7 +10,7 @@ import subprocess
 import sys
 
 TOP = sys.argv[1] if len(sys.argv) > 1 else os.path.dirname(os.path.dirname(os.path.abspath(__file__)))
-PLACE = re.compile(r"(?:(su_\w+|sysu(?:_draw|_sql|_place|_shell)?) )?([A-Z]\w*)$")
+PLACE = re.compile(r"(?:(su_\w+|sysu(?:_draw|_sql|_place|_shell|_doctor)?) )?([A-Z]\w*)$")
 
 
 def rows():

@@ -1,7 +1,7 @@
 #!/usr/bin/env python3
 """Tests that pages say nothing stale of the sources.
 
-docs/PROVED.md: each file that a line links to is there, each call, law or type stands in it, and each clause in the contract of
+docs/PROVED.md: a promise is one sentence of at most 50 words; each file that a line links to is there, each call, law or type stands in it, and each clause in the contract of
 that call; each must-fail edit is one of the section's crates, each edit of the repository is named, and each crate but those of
 tests has a section; the scripts that a line has for a command are there. docs/PROMISES.md: each clause is one of a call of that
 line. docs/HEADLINE.md and docs/LIBRARY.md: a block behind `<!-- FILE: NAME .. -->` is the text of these items in that file, and
@@ -25,6 +25,8 @@ CODE = re.compile(r"`([^`]+)`")
 QUOTE = re.compile(r"^<!-- (crates/[^ :]+)(?:: ([^>]+))? -->\n```(\w*)\n(.*?)^```$", re.M | re.S)
 SCRIPT = re.compile(r"\b((?:tools|tests|examples)/\w+(?:\.py)?)")
 BYTES, WORDS = 6 * 1024, 1500
+# the words of a promise
+PROMISE = 50
 ANY_FN = re.compile(r"^ *(?:pub )?(?:const )?fn (\w+)\b")
 # what names an item: of definitions, of a source, of an impl
 NAMED = re.compile(r"^(?:unfoldable )?(?:pub )?(?:abbrev|def|record|data)(?: pub)? (\S+)|^unfoldable (?:pub )?(\S+) :"
@@ -88,9 +90,18 @@ def carriers(cell):
                 yield link[2], call, [it.strip() for it in clauses.split(",") if it.strip()]
 
 
+def of_sentences(page):
+    """The promises that are no single, short sentence."""
+    for heading, cells in table_rows(page.partition("## Neither proved nor tested")[0]):
+        words = re.sub(r"`[^`]*`", "x", cells[0])
+        if ";" in words or ". " in words or len(words.split()) > PROMISE:
+            yield f"{heading}: no sentence of at most {PROMISE} words: {cells[0][:60]}"
+
+
 def of_proved():
     """What is wrong with docs/PROVED.md."""
     page, told = text_of(DOCS / "PROVED.md"), set()
+    yield from of_sentences(page)
     for heading, cells in table_rows(page):
         crates = re.split(r", ", heading.partition(":")[0])
         if len(cells) == 4:

@@ -13,6 +13,7 @@ import struct
 import subprocess
 import tempfile
 import time
+import urllib.parse
 from pathlib import Path
 
 # How long a statement may take, and the start or the end of a server.
@@ -78,9 +79,10 @@ class Postgres:
 
     name = "postgres"
 
-    def __init__(self, seconds=SECONDS):
+    def __init__(self, seconds=SECONDS, port=None, password=""):
+        """With a port it listens on 127.0.0.1 as well, to those who have the password."""
         self.server = self.socket = None
-        self.seconds = seconds
+        self.seconds, self.port, self.password = seconds, port, password
         self.folder = tempfile.mkdtemp(prefix="against-sql-")
         try:
             self.start(newest_binaries())
@@ -98,10 +100,14 @@ class Postgres:
 
     def start(self, binaries):
         """Makes the folder's files and starts the server."""
+        secret = Path(self.folder, "password")
+        secret.write_text(self.password or "none")
         if os.getuid() == 0:
-            shutil.chown(self.folder, pwd.getpwnam("nobody").pw_uid)
+            for path in (self.folder, secret):
+                shutil.chown(path, pwd.getpwnam("nobody").pw_uid)
         given = {"cwd": self.folder, "preexec_fn": self.become, "stdin": subprocess.DEVNULL}
-        make = [binaries / "initdb", "-D", "data", "-U", "tester", "-A", "trust", "-N", "-E", "UTF8", "--locale=C"]
+        make = [binaries / "initdb", "-D", "data", "-U", "tester", "--auth-local=trust", "--auth-host=scram-sha-256",
+                "--pwfile=password", "-N", "-E", "UTF8", "--locale=C"]
         english = ["--locale-provider=icu", "--icu-locale=en-US"]
         for more in (english, []):
             made = subprocess.run(make + more, stdout=subprocess.PIPE, stderr=subprocess.STDOUT, check=False, **given)
@@ -112,8 +118,9 @@ class Postgres:
             raise EngineError(f"initdb: {made.stdout.decode('utf-8', 'replace').strip().splitlines()[-1:]}")
         with open(os.path.join(self.folder, "log"), "wb") as log:
             self.server = subprocess.Popen(
-                [binaries / "postgres", "-D", "data", "-k", self.folder, "-c", "listen_addresses=", "-c", "fsync=off",
-                 "-c", f"statement_timeout={self.seconds}s"], stdout=log, stderr=log, **given)
+                [binaries / "postgres", "-D", "data", "-k", self.folder, "-c", "fsync=off", "-p", str(self.port or 5432),
+                 "-c", f"listen_addresses={'127.0.0.1' if self.port else ''}", "-c", f"statement_timeout={self.seconds}s"],
+                stdout=log, stderr=log, **given)
         self.connect()
 
     def connect(self):
@@ -126,7 +133,7 @@ class Postgres:
                 raise EngineError("the server ended: " + Path(self.folder, "log").read_text("utf-8", "replace")[-300:])
             self.socket = socket.socket(socket.AF_UNIX)
             try:
-                self.socket.connect(os.path.join(self.folder, ".s.PGSQL.5432"))
+                self.socket.connect(os.path.join(self.folder, f".s.PGSQL.{self.port or 5432}"))
                 self.socket.sendall(hello)
                 self.replies()
                 return
@@ -170,6 +177,11 @@ class Postgres:
         return self.replies()
 
     define = run
+
+    def address(self, **more):
+        """The address of the database for psql and tools/on_engine, with more words for libpq."""
+        given = {"host": self.folder, "port": self.port or 5432, "user": "tester", **more}
+        return "postgresql:///postgres?" + urllib.parse.urlencode(given, quote_via=urllib.parse.quote)
 
     def begin(self):
         """Begins with no table."""

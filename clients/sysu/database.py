@@ -33,6 +33,7 @@ class Reply(NamedTuple):
     accepted   whether it was carried out
     start      the byte of the text that was handed over where the statement begins
     source     the bytes of the statement, up to its `;`
+    fault      where they go wrong, of a refused one whose syntax does, and what could have stood there
     """
 
     statement: str
@@ -40,6 +41,7 @@ class Reply(NamedTuple):
     accepted: bool
     start: int
     source: bytes
+    fault: Optional[hints.Fault] = None
 
     @property
     def cause(self) -> Optional[str]:
@@ -175,7 +177,9 @@ class Database:
 
         def keep(piece: Piece, frame: Frame) -> None:
             begin = begin_of(piece.text)
-            reply = Reply(bare(piece.text), frame.text.decode("utf-8", "replace"), frame.accepted, piece.start + begin, piece.text[begin:])
+            # a text that ends too early goes wrong at its own end, and not behind the line feed that was sent with it
+            fault = frame.fault and frame.fault._replace(place=min(frame.fault.place, len(piece.text)) - begin)
+            reply = Reply(bare(piece.text), frame.text.decode("utf-8", "replace"), frame.accepted, piece.start + begin, piece.text[begin:], fault)
             found.append(reply)
             if frame.accepted and first_word(piece.text) in DEFINITIONS:
                 self._schema = None
@@ -254,7 +258,7 @@ class Database:
         cause = reply.cause or ""
         whole, start = (reply.source, 0) if text is None else (encoded(text), reply.start)
         if cause == "syntax":
-            fault = hints.first_fault(reply.source)
+            fault = reply.fault or hints.first_fault(reply.source)
             if fault:
                 hint = hints.of_place(reply.source, fault)
                 return Refused(cause, reply.statement, whole, start, fault.place, fault.wanted, hint, replies)

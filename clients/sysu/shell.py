@@ -1,6 +1,7 @@
 """The program sysu_shell behind a pipe, and the frames of its replies (docs/SHELL.md)."""
 import os
 import selectors
+import signal
 import subprocess
 import tempfile
 import time
@@ -8,7 +9,10 @@ from typing import Callable, List, NamedTuple, Optional, Sequence, Tuple
 
 from . import programs
 from .errors import Ended, Error
+from .hints import Fault
 
+#: stands in front of a statement's text: it keeps a byte order mark in its place; a line feed behind the text ends a comment
+FRONT = b"\n"
 #: what is sent of a statement's text at once
 CHUNK = 1 << 16
 #: seconds in which it ends once its input has ended
@@ -28,10 +32,18 @@ WHY = {
 
 
 class Frame(NamedTuple):
-    """A reply: its bytes, and whether the statement was accepted."""
+    """A reply: its bytes, whether the statement was accepted, and where the text of a refused one goes wrong."""
 
     text: bytes
     accepted: bool
+    fault: Optional[Fault] = None
+
+
+def fault_of(words: Sequence[bytes], begin: int) -> Optional[Fault]:
+    """The fault that stands behind a frame's `refused`, as `at PLACE expected KIND ..`, in a text that begins there."""
+    if len(words) < 3 or words[0] != b"at":
+        return None
+    return Fault(int(words[1]) - begin, tuple(it.decode() for it in words[3:]))
 
 
 class TimeOut(Exception):
@@ -61,9 +73,13 @@ class Shell:
         words += ["--files", files] if files else []
         words += ["--workers", str(workers)] if workers else []
         self._errors = tempfile.TemporaryFile()
-        # a session of its own, so that Ctrl-C on a terminal reaches the client alone
-        self._run = subprocess.Popen(words, stdin=subprocess.PIPE, stdout=subprocess.PIPE, stderr=self._errors, bufsize=0,
-                                     start_new_session=True)
+        # a session of its own, so that Ctrl-C on a terminal reaches the client alone; until it has one Ctrl-C waits, which would end it
+        before = signal.pthread_sigmask(signal.SIG_BLOCK, [signal.SIGINT])
+        try:
+            self._run = subprocess.Popen(words, stdin=subprocess.PIPE, stdout=subprocess.PIPE, stderr=self._errors, bufsize=0,
+                                         start_new_session=True)
+        finally:
+            signal.pthread_sigmask(signal.SIG_SETMASK, before)
         self._memory = memory
         assert self._run.stdin and self._run.stdout
         self._in, self._out = self._run.stdin.fileno(), self._run.stdout.fileno()
@@ -88,8 +104,7 @@ class Shell:
         data = bytearray()
         for text in texts:
             begin = self._sent + len(data)
-            # the line feed in front keeps a byte order mark in its place, that behind ends a comment
-            data += b"\n" + text + b"\n;"
+            data += FRONT + text + b"\n;"
             spans.append((begin, self._sent + len(data) - 1))
         self._sent += len(data)
         found: List[Frame] = []
@@ -157,7 +172,8 @@ class Shell:
             k = at + len(found)
             if number != self._number or k >= len(spans) or (start, stop) != spans[k]:
                 raise self.confused()
-            found.append(Frame(bytes(self._told[end + 1:end + 1 + length]), words[5] == b"accepted"))
+            fault = fault_of(words[6:], start + len(FRONT))
+            found.append(Frame(bytes(self._told[end + 1:end + 1 + length]), words[5] == b"accepted", fault))
             self._number += 1
             begin = end + 1 + length
         del self._told[:begin]

@@ -121,6 +121,12 @@ class Asking(unittest.TestCase):
             if place is not None:
                 self.assertIn("\n    " + " " * (column - 1) + "^\n", str(it))
 
+    def test_places(self):
+        with sysu.open() as db:
+            for reply in db.replies("print;\n-- here\n retrieve (A;x;closure (A) A;print R;attribute A"):
+                told = hints.first_fault(reply.source)
+                self.assertEqual(reply.fault and (reply.fault.place, set(reply.fault.wanted)), told and (told.place, set(told.wanted)), reply.source)
+
     def test_replies_as_they_come(self):
         text = SMALL + "print X; retrieve (B);" + "insert R (1, 'x');" * 300 + "print R; attribute A int; attribute B int; retrieve (B); print R; retrieve (AA); relation S (B int); print S"
         with sysu.open() as db:
@@ -163,7 +169,8 @@ class Asking(unittest.TestCase):
 
     def test_sql(self):
         it = self.db.sql("retrieve (BANK) where CUST = 'Jones'", "sqlite")
-        self.assertTrue(it.startswith("select distinct "))
+        self.assertTrue(it.startswith("select "))
+        self.assertIn("\nunion\n", it)
         self.assertNotIn("create table", it)
         with self.assertRaises(ValueError):
             self.db.sql("retrieve (BANK)", "oracle")
